@@ -1,0 +1,4 @@
+pub mod Ancestors
+pub mod Kept
+pub mod Ascending
+pub mod Places

@@ -1,0 +1,23 @@
+use Rattle.std.proofs.Common.{sym, subst, List, ℕ, length}
+use Rattle.disk_model.specs.Images.{Torn}
+use Rattle.disk_model.proofs.Images.{torn_overwritten, torn_left, write_goes}
+use Rattle.disk_model.proofs.script_disk.ScriptDiskDisk.write_at.Goals as goal
+
+pub returns-in-Passes-clause-crash : goal.returns-in-Passes-clause-crash
+returns-in-Passes-clause-crash c =
+    let old = c.args.self.now in
+    let bytes = c.args.bytes.now in
+    let n = length bytes in
+    let torn : Torn c.args.at n old.store.seen.items c.write.new.self.seen.items = subst (λ (l : List ℕ). Torn c.args.at n old.store.seen.items l) (sym c.write.ensures.seen) (torn_overwritten old.store.seen.items c.args.at bytes c.requires) in
+    write_goes old _ c.args.at n c.requires torn c.write.ensures.unsynced
+
+pub returns-in-Stops-clause-failed : goal.returns-in-Stops-clause-failed
+returns-in-Stops-clause-failed c =
+    let old = c.args.self.now in
+    let bytes = c.args.bytes.now in
+    subst (λ (l : List ℕ). Torn c.args.at (length bytes) old.store.seen.items l) (sym c.stop_write.ensures.seen) (torn_left c.in-Stops.leave old.store.seen.items c.args.at bytes c.requires)
+
+pub returns-in-Stops-clause-crash : goal.returns-in-Stops-clause-crash
+returns-in-Stops-clause-crash c =
+    let old = c.args.self.now in
+    write_goes old _ c.args.at (length c.args.bytes.now) c.requires (returns-in-Stops-clause-failed c) c.stop_write.ensures.unsynced

@@ -1,0 +1,29 @@
+use Rattle.std.proofs.Common.{◌≡◌, ◌≤◌, ◌+◌, ap, sym, ◌∙◌, subst, List, ℕ, arith, length}
+use Rattle.std.specs.Vec.{with_items}
+use Rattle.std.proofs.lemmas.List.{with_items_is}
+use Rattle.disk_model.specs.declared.store.Span.{Span}
+use Rattle.disk_model.specs.Images.{overwritten}
+use Rattle.disk_model.specs.Store.{AreInRange, SameOutside, with_room}
+use Rattle.disk_model.proofs.Spans.{synced_write, length-overwritten}
+use Rattle.disk_model.proofs.store.Store.write.Goals as goal
+
+pub invariant_of-self : goal.invariant_of-self
+invariant_of-self c =
+    let s = c.mark.new.self in
+    let bytes = c.args.bytes.now in
+    let span : Span = record { at = c.args.at; len = length bytes } in
+    let fits : c.args.at + length bytes ≤ length s.seen.items = omega (arith, ap length c.mark.ensures.seen, c.requires) in
+    let long = length-overwritten s.seen.items c.args.at bytes fits in
+    let put_is : c.put.new.to ≡ overwritten s.seen.items c.args.at bytes = c.put.ensures ∙ ap (λ (l : List ℕ). overwritten l c.args.at bytes) c.deref_mut.ensures.value in
+    let is : (with_items s.seen c.put.new.to).items ≡ overwritten s.seen.items c.args.at bytes = with_items_is s.seen c.put.new.to (omega (arith, ap length put_is, long)) ∙ put_is in
+    let synced : SameOutside s.unsynced.items s.durable.items (overwritten s.seen.items c.args.at bytes) =
+    subst (λ (l : List Span). SameOutside l s.durable.items (overwritten s.seen.items c.args.at bytes)) (sym c.mark.ensures.unsynced)
+    (synced_write (with_room c.args.self.now.unsynced.items) span s.durable.items s.seen.items bytes (omega arith) fits
+    (subst (λ (l : List Span). SameOutside l s.durable.items s.seen.items) c.mark.ensures.unsynced s.synced)) in
+    record {
+      same_length = s.same_length ∙ sym (ap length is ∙ long);
+      short = omega (arith, s.short, ap length is, long);
+      room = s.room;
+      in_range = subst (λ (n : ℕ). AreInRange s.unsynced.items n) (sym (ap length is ∙ long)) s.in_range;
+      synced = subst (λ (l : List ℕ). SameOutside s.unsynced.items s.durable.items l) (sym is) synced;
+    }

@@ -1,0 +1,30 @@
+-- The moments of a disk that keeps each call.
+use Rattle.std.specs.Prelude.{ℕ, ◌+◌, ◌<◌, ◌≤◌, List, length}
+use Rattle.disk_model.specs.declared.record_disk.RecordDisk.{RecordDisk}
+use Rattle.disk_model.specs.RecordDisk.{Moment, moment_after, image_of}
+
+abbrev pub seen : RecordDisk → List ℕ
+seen disk = disk.seen.items
+
+-- the moment is the number of calls so far
+abbrev pub moment : RecordDisk → ℕ
+moment disk = length disk.calls.items
+
+-- what the disk was after the first k calls
+abbrev pub moment_at : RecordDisk → ℕ → Moment
+moment_at disk k = moment_after (length disk.seen.items) disk.pool.items disk.calls.items k
+
+abbrev pub images : RecordDisk → List ℕ → Type 0
+images disk image = image_of (moment_at disk (moment disk)) image
+
+-- the images of all moments from t to now
+abbrev pub images_since : RecordDisk → ℕ → List ℕ → Type 0
+images_since disk t image = (k : ℕ) × (t ≤ k) × (k ≤ moment disk) × image_of (moment_at disk k) image
+
+-- each image since an earlier moment is one since then still
+abbrev pub Remembers : RecordDisk → RecordDisk → Type 0
+Remembers old new = (t : ℕ) (image : List ℕ) → images_since old t image → images_since new t image
+
+-- a call more is kept, with so many bytes
+abbrev pub HasRoom : RecordDisk → ℕ → Type 0
+HasRoom disk n = (length disk.calls.items < disk.calls_room) × (length disk.pool.items + n ≤ disk.bytes_room)

@@ -1,0 +1,29 @@
+-- Ranges that wait for a sync.
+use Rattle.std.specs.Prelude.{ℕ, ◌+◌, ◌≤◌, ◌≡◌, false, cond, nat_lt, List, [], length, replicate, slice_index}
+use Rattle.std.specs.List.{All}
+use Rattle.disk_model.specs.declared.store.Span.{Span}
+use Rattle.disk_model.specs.declared.script.Leave.{Leave}
+use Rattle.disk_model.specs.declared.script.Leave.TheVariants.{Old, New, Byte}
+use Rattle.disk_model.specs.Images.{covers, overwritten}
+
+-- each of these ranges ends within so many bytes
+abbrev pub AreInRange : List Span → ℕ → Type 0
+AreInRange spans n = All (λ span. span.at + span.len ≤ n) spans
+
+-- outside these ranges the bytes are the same
+abbrev pub SameOutside : List Span → List ℕ → List ℕ → Type 0
+SameOutside spans a b = (k : ℕ) → covers spans k ≡ false → slice_index a k ≡ slice_index b k
+
+-- the ranges that wait once there is room for a further one
+abbrev pub with_room : List Span → List Span
+with_room unsynced = cond (nat_lt (length unsynced) 1024) unsynced []
+
+-- what is durable once there is room for a further range
+abbrev pub durable_with_room : List Span → List ℕ → List ℕ → List ℕ
+durable_with_room unsynced durable seen = cond (nat_lt (length unsynced) 1024) durable seen
+
+-- what a read gives where a stopped write was to write these bytes
+abbrev pub left_in : Leave → List ℕ → ℕ → List ℕ → List ℕ
+left_in Old seen at bytes = seen
+left_in New seen at bytes = overwritten seen at bytes
+left_in (Byte byte) seen at bytes = overwritten seen at (replicate (length bytes) byte)

@@ -1,0 +1,190 @@
+// Two arrays of bytes: what a read gives, and what is durable. Between two syncs the ranges that were written are kept,
+// so that a sync copies these alone.
+ghost use Rattle.std.specs.Prelude.{◌≡◌, ◌≤◌, ◌<◌, ◌+◌, ◌^◌, ℕ, [], ◌∷◌, ◌++◌, length, replicate, slice_index, IfOk, false, cond, nat_lt, vec_capacity};
+ghost use Rattle.disk_model.specs.Images.{overwritten, covers};
+ghost use Rattle.disk_model.specs.Store.{AreInRange, SameOutside, left_in, with_room, durable_with_room};
+
+use crate::Leave;
+use locus_ids::NoMemory;
+use std::alloc::Global;
+
+/// The ranges that may wait for a sync.
+pub(crate) const ROOM: usize = 1_024;
+
+/// A range of bytes of a disk.
+#[derive(Clone, Copy, Debug, PartialEq, Eq)]
+pub struct Span {
+    pub at: u32,
+    pub len: u32,
+}
+
+#[derive(Drop)]
+pub(crate) struct Store {
+    pub(crate) seen: Vec<u8>,
+    pub(crate) durable: Vec<u8>,
+    pub(crate) unsynced: Vec<Span>,
+    ghost same_length: { length durable.items ≡ length seen.items },
+    ghost short: { length seen.items < 2 ^ 32 },
+    ghost room: { 1024 ≤ vec_capacity unsynced },
+    ghost in_range: { AreInRange unsynced.items (length seen.items) },
+    ghost synced: { SameOutside unsynced.items durable.items seen.items },
+}
+
+impl Store {
+    ghost use Rattle.std.specs.Prelude.{◌≡◌};
+
+    /// Zeros, all of them durable.
+    pub(crate) fn new(alloc: Global, len: u32) -> Result<Store, NoMemory>
+        ensures { IfOk result (λ store. (store.seen.items ≡ replicate len 0) × (store.durable.items ≡ replicate len 0) × (store.unsynced.items ≡ [])) }
+    {
+        let mut seen = Vec::new(alloc);
+        seen.resize(len as usize, 0)?;
+        let mut durable = Vec::new(alloc);
+        durable.resize(len as usize, 0)?;
+        let unsynced = Vec::with_capacity(alloc, ROOM)?;
+        Ok(Store {
+            seen,
+            durable,
+            unsynced,
+        })
+    }
+
+    /// Makes durable what a read gives.
+    pub(crate) fn sync(&mut self)
+        ensures seen { self.new.seen.items ≡ self.old.seen.items }
+        ensures durable { self.new.durable.items ≡ self.old.seen.items }
+        ensures unsynced { self.new.unsynced.items ≡ [] }
+    {
+        copy_spans(&self.seen, &mut self.durable, &self.unsynced);
+        self.unsynced.clear();
+    }
+
+    /// Reads again what is durable.
+    pub(crate) fn revert(&mut self)
+        ensures seen { self.new.seen.items ≡ self.old.durable.items }
+        ensures durable { self.new.durable.items ≡ self.old.durable.items }
+        ensures unsynced { self.new.unsynced.items ≡ [] }
+    {
+        copy_spans(&self.durable, &mut self.seen, &self.unsynced);
+        self.unsynced.clear();
+    }
+
+    /// Writes this byte to the ranges that aren't synced, and makes all durable.
+    pub(crate) fn spoil(&mut self, byte: u8)
+        ensures length { length self.new.seen.items ≡ length self.old.seen.items }
+        ensures seen { (k : ℕ) → slice_index self.new.seen.items k ≡ cond (covers self.old.unsynced.items k) byte (slice_index self.old.seen.items k) }
+        ensures durable { self.new.durable.items ≡ self.new.seen.items }
+        ensures unsynced { self.new.unsynced.items ≡ [] }
+    {
+        fill_spans(&mut self.seen, &self.unsynced, byte);
+        self.sync();
+    }
+
+    /// Notes that a range is no longer durable. Where there is no room for a further one, all is made durable first.
+    pub(crate) fn mark(&mut self, span: Span)
+        requires { span.at + span.len ≤ length self.old.seen.items }
+        ensures seen { self.new.seen.items ≡ self.old.seen.items }
+        ensures durable { self.new.durable.items ≡ durable_with_room self.old.unsynced.items self.old.durable.items self.old.seen.items }
+        ensures unsynced { self.new.unsynced.items ≡ with_room self.old.unsynced.items ++ span ∷ [] }
+    {
+        self.make_room();
+        let _ = self.unsynced.push(span);
+    }
+
+    fn make_room(&mut self)
+        ensures seen { self.new.seen.items ≡ self.old.seen.items }
+        ensures durable { self.new.durable.items ≡ durable_with_room self.old.unsynced.items self.old.durable.items self.old.seen.items }
+        ensures unsynced { self.new.unsynced.items ≡ with_room self.old.unsynced.items }
+        ensures room { length self.new.unsynced.items < 1024 }
+    {
+        if self.unsynced.len() >= ROOM {
+            self.sync();
+        }
+    }
+
+    /// Writes bytes at a place, which stay unsynced.
+    pub(crate) fn write(&mut self, at: u32, bytes: &[u8])
+        requires { at + length bytes.now ≤ length self.old.seen.items }
+        ensures seen { self.new.seen.items ≡ overwritten self.old.seen.items at bytes.now }
+        ensures durable { self.new.durable.items ≡ durable_with_room self.old.unsynced.items self.old.durable.items self.old.seen.items }
+        ensures unsynced { self.new.unsynced.items ≡ with_room self.old.unsynced.items ++ record { at = at; len = length bytes.now } ∷ [] }
+    {
+        let _seen = self.seen.len();
+        self.mark(Span {
+            at,
+            len: bytes.len() as u32,
+        });
+        put(&mut self.seen, at as usize, bytes);
+    }
+
+    /// Writes a byte over a range, which stays unsynced.
+    pub(crate) fn fill(&mut self, span: Span, byte: u8)
+        requires { span.at + span.len ≤ length self.old.seen.items }
+        ensures seen { self.new.seen.items ≡ overwritten self.old.seen.items span.at (replicate span.len byte) }
+        ensures durable { self.new.durable.items ≡ durable_with_room self.old.unsynced.items self.old.durable.items self.old.seen.items }
+        ensures unsynced { self.new.unsynced.items ≡ with_room self.old.unsynced.items ++ span ∷ [] }
+    {
+        self.mark(span);
+        fill_span(&mut self.seen, span, byte);
+    }
+
+    /// Does what a stopped write leaves.
+    pub(crate) fn stop_write(&mut self, at: u32, bytes: &[u8], leave: Leave)
+        requires { at + length bytes.now ≤ length self.old.seen.items }
+        ensures seen { self.new.seen.items ≡ left_in leave self.old.seen.items at bytes.now }
+        ensures durable { self.new.durable.items ≡ durable_with_room self.old.unsynced.items self.old.durable.items self.old.seen.items }
+        ensures unsynced { self.new.unsynced.items ≡ with_room self.old.unsynced.items ++ record { at = at; len = length bytes.now } ∷ [] }
+    {
+        let _seen = self.seen.len();
+        let span = Span {
+            at,
+            len: bytes.len() as u32,
+        };
+        match leave {
+            Leave::Old => self.mark(span),
+            Leave::New => self.write(at, bytes),
+            Leave::Byte(byte) => self.fill(span, byte),
+        }
+    }
+}
+
+pub(crate) fn put(to: &mut [u8], at: usize, bytes: &[u8])
+    requires { at + length bytes.now ≤ length to.old }
+    ensures { to.new ≡ overwritten to.old at bytes.now }
+{
+    let end = at + bytes.len();
+    to[at..end].copy_from_slice(bytes);
+}
+
+fn fill_span(to: &mut [u8], span: Span, byte: u8)
+    requires { span.at + span.len ≤ length to.old }
+    ensures { to.new ≡ overwritten to.old span.at (replicate span.len byte) }
+{
+    let at = span.at as usize;
+    let end = at + span.len as usize;
+    to[at..end].fill(byte);
+}
+
+/// Copies these ranges, outside which the bytes are the same already.
+fn copy_spans(from: &[u8], to: &mut [u8], spans: &[Span])
+    requires long { length to.old ≡ length from.now }
+    requires in_range { AreInRange spans.now (length from.now) }
+    requires outside { SameOutside spans.now to.old from.now }
+    ensures { to.new ≡ from.now }
+{
+    for span in spans {
+        let at = span.at as usize;
+        let end = at + span.len as usize;
+        put(to, at, &from[at..end]);
+    }
+}
+
+/// Writes this byte to these ranges.
+fn fill_spans(to: &mut [u8], spans: &[Span], byte: u8)
+    requires in_range { AreInRange spans.now (length to.old) }
+    ensures { (k : ℕ) → slice_index to.new k ≡ cond (covers spans.now k) byte (slice_index to.old k) }
+{
+    for span in spans {
+        fill_span(to, *span, byte);
+    }
+}

@@ -1,0 +1,6 @@
+pub mod Moments
+pub mod Tells
+pub mod Pieces
+pub mod Stages
+pub mod Views
+pub mod OldOrNew

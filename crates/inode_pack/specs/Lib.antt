@@ -1,0 +1,4 @@
+pub mod Moments
+pub mod Replace
+pub mod Switch
+pub mod View

@@ -1,0 +1,9 @@
+//! Inodes on a disk: each commit of an inode is wholly old or wholly new, whenever a crash comes. Storage sites call it.
+//! It knows bytes and slots, and nothing of sites that speak, instances or epochs.
+#![tactic(auto)]
+
+mod replacing;
+mod switching;
+
+pub use replacing::replace_inode;
+pub use switching::{Piece, Pieces, switch};

@@ -1,0 +1,5 @@
+pub mod Feeds
+pub mod Lines
+pub mod Readers
+pub mod Told
+pub mod Windows

@@ -1,0 +1,42 @@
+-- What holds between the bytes to be read before and after a call, where they are told.
+use Rattle.std.proofs.Common.{ℕ, ◌≡◌, List, [], ◌++◌, Option, Some, None, refl, ap, sym, ◌∙◌, subst, append_assoc}
+use Rattle.std.specs.Io.KnownBytes.{Keeps, IsAtEnd, Consumes}
+use Rattle.line_reader.specs.Reading.{to_read, Between}
+
+pub Keeps-same : (a : Option (List ℕ)) → Keeps a a
+Keeps-same None = tt
+Keeps-same (Some xs) = refl
+
+pub Keeps-then : (a b c : Option (List ℕ)) → Keeps a b → Keeps b c → Keeps a c
+Keeps-then None b c p q = tt
+Keeps-then (Some xs) None c p q = absurd p
+Keeps-then (Some xs) (Some ys) None p q = absurd q
+Keeps-then (Some xs) (Some ys) (Some zs) p q = q ∙ p
+
+-- the end of a source that tells its bytes
+pub at_end : (known : Option (List ℕ)) (left : List ℕ) → IsAtEnd known → known ≡ Some left → left ≡ []
+at_end None left p e = cc
+at_end (Some xs) left p e = let same : xs ≡ left = cc in sym same ∙ p
+
+-- after steps that kept what is to be read, one more step from `held` to `ahead`
+pub Between-after : (old held ahead : List ℕ) (before after : Option (List ℕ)) (R : List ℕ → List ℕ → Type 0) →
+    Keeps (to_read old before) (to_read held after) → ((left : List ℕ) → after ≡ Some left → R (held ++ left) (ahead ++ left)) → Between (to_read old before) (to_read ahead after) R
+Between-after old held ahead None after R k f = tt
+Between-after old held ahead (Some xs) None R k f = absurd k
+Between-after old held ahead (Some xs) (Some ys) R k f = subst (λ (s : List ℕ). R s (ahead ++ ys)) k (f ys refl)
+
+-- bytes taken ahead are still to be read
+pub Keeps-taken : (ahead taken : List ℕ) (before after : Option (List ℕ)) → Consumes before after taken → Keeps (to_read ahead before) (to_read (ahead ++ taken) after)
+Keeps-taken ahead taken None after p = tt
+Keeps-taken ahead taken (Some xs) None p = absurd p
+Keeps-taken ahead taken (Some xs) (Some ys) p = append_assoc ahead taken ys ∙ ap (λ s. ahead ++ s) (sym p)
+
+-- a call that moved no byte keeps what is to be read
+pub Keeps-kept : (ahead : List ℕ) (before after : Option (List ℕ)) → Keeps before after → Keeps (to_read ahead before) (to_read ahead after)
+Keeps-kept ahead None after p = tt
+Keeps-kept ahead (Some xs) None p = absurd p
+Keeps-kept ahead (Some xs) (Some ys) p = ap (λ s. ahead ++ s) p
+
+-- the same, where the bytes ahead are known by an equation
+pub Keeps-grown : (ahead held taken : List ℕ) (before after : Option (List ℕ)) → held ≡ ahead ++ taken → Consumes before after taken → Keeps (to_read ahead before) (to_read held after)
+Keeps-grown ahead held taken before after e p = rw e (Keeps-taken ahead taken before after p)

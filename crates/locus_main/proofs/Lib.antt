@@ -1,0 +1,6 @@
+pub mod Complete
+pub mod Lists
+pub mod Reading
+pub mod Runs
+pub mod Schedules
+pub mod Told

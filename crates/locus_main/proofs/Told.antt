@@ -1,0 +1,116 @@
+-- Bytes that are told or not, and the text of a trace that goes on.
+use Rattle.std.proofs.Common.{◌≡◌, ℕ, ◌+◌, take, List, [], ◌∷◌, ◌++◌, Option, Some, None, length, reverse, cond, eqb, refl, ap, sym, ◌∙◌, arith, append_assoc}
+use Rattle.std.proofs.lemmas.List.{append-nil, take_all}
+use Rattle.std.proofs.lemmas.Grind.{reverse_onto}
+use Rattle.std.proofs.Math.Seq.{take-append-add}
+use Rattle.std.specs.Prelude.{IfSome}
+use Rattle.std.specs.Io.KnownBytes.{Appends, Keeps, IsAtEnd}
+use Rattle.locus_io.specs.Causes.{AppendsFront}
+use Rattle.trace_book.specs.declared.book.Entry.{Entry}
+use Rattle.trace_book.specs.Text.{text, entry_text}
+use Rattle.tree_model.specs.Trace.{Trace, told}
+use Rattle.tree_model.specs.Reading.{lines_of}
+use Rattle.std.specs.List.{onto_first}
+use Rattle.line_reader.specs.Reading.{to_read, Between, ReadsLine, lines_of as read_lines}
+
+told-append : (xs : List Entry) (ys : List Entry) → told (xs ++ ys) ≡ told ys ++ told xs
+told-append [] ys = sym (append-nil (told ys))
+told-append (x ∷ xs) ys = ap (λ s. s ++ entry_text x.line x.what) (told-append xs ys) ∙ append_assoc (told ys) (told xs) (entry_text x.line x.what)
+
+told-is : (xs : List Entry) → told (reverse xs) ≡ text xs
+told-is [] = refl
+told-is (x ∷ xs) = ap told (reverse_onto xs x []) ∙ told-append (reverse xs) (x ∷ []) ∙ ap (λ s. entry_text x.line x.what ++ s) (told-is xs)
+
+-- the text of a trace that goes on by some records
+pub told-reverse : (xs : List Entry) (trace : Trace) → told (reverse xs ++ trace) ≡ told trace ++ text xs
+told-reverse xs trace = told-append (reverse xs) trace ∙ ap (λ s. told trace ++ s) (told-is xs)
+
+pub Appends-nothing : (a : Option (List ℕ)) → Appends a a []
+Appends-nothing None = tt
+Appends-nothing (Some xs) = sym (append-nil xs)
+
+pub Appends-then : (a : Option (List ℕ)) (b : Option (List ℕ)) (c : Option (List ℕ)) (xs : List ℕ) (ys : List ℕ) → Appends a b xs → Appends b c ys → Appends a c (xs ++ ys)
+Appends-then None b c xs ys p q = tt
+Appends-then (Some x) None c xs ys p q = absurd p
+Appends-then (Some x) (Some y) None xs ys p q = absurd q
+Appends-then (Some x) (Some y) (Some z) xs ys p q = q ∙ ap (λ s. s ++ ys) p ∙ append_assoc x xs ys
+
+pub AppendsFront-whole : (t : Option (List ℕ)) (u : Option (List ℕ)) (xs : List ℕ) → Appends t u xs → AppendsFront t u xs
+AppendsFront-whole None u xs h = tt
+AppendsFront-whole (Some t) None xs h = absurd h
+AppendsFront-whole (Some t) (Some u) xs h = (length xs, h ∙ ap (λ s. t ++ s) (sym (take_all (length xs) xs (omega arith))))
+
+pub AppendsFront-kept : (a : Option (List ℕ)) (b : Option (List ℕ)) (c : Option (List ℕ)) (xs : List ℕ) → Appends a b xs → Keeps b c → AppendsFront a c xs
+AppendsFront-kept None b c xs p q = tt
+AppendsFront-kept (Some x) None c xs p q = absurd p
+AppendsFront-kept (Some x) (Some y) None xs p q = absurd q
+AppendsFront-kept (Some x) (Some y) (Some z) xs p q = AppendsFront-whole (Some x) (Some z) xs (q ∙ p)
+
+-- some bytes are given, and then a front of others
+pub AppendsFront-then : (a : Option (List ℕ)) (b : Option (List ℕ)) (c : Option (List ℕ)) (xs : List ℕ) (ys : List ℕ) → Appends a b xs → AppendsFront b c ys → AppendsFront a c (xs ++ ys)
+AppendsFront-then None b c xs ys p q = tt
+AppendsFront-then (Some x) None c xs ys p q = absurd p
+AppendsFront-then (Some x) (Some y) None xs ys p q = absurd q
+AppendsFront-then (Some x) (Some y) (Some z) xs ys p q = (length xs + q.0, q.1 ∙ ap (λ s. s ++ take q.0 ys) p ∙ append_assoc x xs (take q.0 ys) ∙ ap (λ s. x ++ s) (sym (take-append-add xs ys q.0)))
+
+-- the lines that were read, of all lines
+abbrev pub ReadsLines : List (List ℕ) → List ℕ → List ℕ → Type 0
+ReadsLines lines xs ys = lines_of xs ≡ lines ++ lines_of ys
+
+-- a source of which nothing was taken ahead
+pub Between-none : (a : Option (List ℕ)) → Between a (to_read [] a) (ReadsLines [])
+Between-none None = tt
+Between-none (Some xs) = refl
+
+-- the reader's lines are the schedule's
+pub lines-same : (xs : List ℕ) → read_lines xs ≡ lines_of xs
+lines-same [] = refl
+lines-same (b ∷ bs) = ap (λ ls. cond (eqb b 10) ([] ∷ ls) (onto_first b ls)) (lines-same bs)
+
+-- what is left after the first line is read
+pub lines-first : (line xs ys : List ℕ) → ReadsLine line xs ys → lines_of xs ≡ line ∷ lines_of ys
+lines-first line xs ys h = sym (lines-same xs) ∙ h.lines ∙ ap (λ ls. line ∷ ls) (lines-same ys)
+
+pub Between-line : (a : Option (List ℕ)) (b : Option (List ℕ)) (c : Option (List ℕ)) (lines : List (List ℕ)) (line : List ℕ) →
+    Between a b (ReadsLines lines) → Between b c (ReadsLine line) → Between a c (ReadsLines (lines ++ line ∷ []))
+Between-line None b c lines line p q = tt
+Between-line (Some x) None c lines line p q = absurd p
+Between-line (Some x) (Some y) None lines line p q = absurd q
+Between-line (Some x) (Some y) (Some z) lines line p q = p ∙ ap (λ s. lines ++ s) (lines-first line y z q) ∙ sym (append_assoc lines (line ∷ []) (lines_of z))
+
+-- nothing was to be read
+abbrev pub IsAllRead : List ℕ → List ℕ → Type 0
+IsAllRead xs ys = (xs ≡ []) × (ys ≡ [])
+
+pub Between-end : (a : Option (List ℕ)) (b : Option (List ℕ)) → Between a b (λ xs ys. xs ≡ []) → Keeps a b → Between a b IsAllRead
+Between-end None b p q = tt
+Between-end (Some x) None p q = absurd p
+Between-end (Some x) (Some y) p q = (p, q ∙ p)
+
+none_after : (xs ys : List ℕ) → xs ++ ys ≡ [] → ys ≡ []
+none_after [] ys e = e
+none_after (x ∷ xs) ys e = cc
+
+-- where nothing is to be read, the source is at its end
+pub at_end : (ahead : List ℕ) (left : Option (List ℕ)) (ys : List ℕ) → to_read ahead left ≡ Some ys → ys ≡ [] → IsAtEnd left
+at_end ahead None ys e none = tt
+at_end ahead (Some zs) ys e none = let same : ahead ++ zs ≡ ys = cc in none_after ahead zs (same ∙ none)
+
+pub if_some : {X : Type 0} (o : Option X) (P : X → Type 0) (Q : X → Type 0) → IfSome o P → ((x : X) → P x → Q x) → IfSome o Q
+if_some None P Q h f = tt
+if_some (Some x) P Q h f = f x h
+
+-- where lines were read and R holds of what is left
+pub Between-rest : (a : Option (List ℕ)) (b : Option (List ℕ)) (c : Option (List ℕ)) (lines : List (List ℕ)) (R : List ℕ → List ℕ → Type 0) →
+    Between a b (ReadsLines lines) → Between b c R → IfSome a (λ input. (xs : List ℕ) × (ys : List ℕ) × (lines_of input ≡ lines ++ lines_of xs) × R xs ys × (c ≡ Some ys))
+Between-rest None b c lines R p q = tt
+Between-rest (Some x) None c lines R p q = absurd p
+Between-rest (Some x) (Some y) None lines R p q = absurd q
+Between-rest (Some x) (Some y) (Some z) lines R p q = (y, z, p, q, refl)
+
+-- where lines were read
+pub Between-read : (a : Option (List ℕ)) (b : Option (List ℕ)) (lines : List (List ℕ)) →
+    Between a b (ReadsLines lines) → IfSome a (λ input. (rest : List (List ℕ)) × (lines_of input ≡ lines ++ rest))
+Between-read None b lines p = tt
+Between-read (Some x) None lines p = absurd p
+Between-read (Some x) (Some y) lines p = (lines_of y, p)

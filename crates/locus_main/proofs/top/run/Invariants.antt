@@ -1,0 +1,20 @@
+use Rattle.std.proofs.Common.{◌≤◌, ◌-◌, ◌≡◌, ◌⊎◌}
+use Rattle.line_reader.specs.Reading.{to_read}
+use Rattle.one_site.specs.Standing.{IsSmall}
+use Rattle.locus_main.proofs.Runs.{SoFar}
+use Rattle.locus_main.proofs.top.run.Given as goal
+
+abbrev pub invariant-loop-reader : goal.invariant-loop-reader
+invariant-loop-reader g l = record {
+  small : IsSmall l.runner;
+  place : l.runner.place ≤ l.reader.number;
+  limit : l.reader.limit ≡ 16384;
+  few : l.reader.number ≤ 1000000;
+  source : g.S.Source.faults l.initial.source ≤ g.S.Source.faults l.source;
+  sink : g.K.Sink.faults l.initial.sink ≤ g.K.Sink.faults l.sink;
+  flushed : ((l.reader.number ≡ 0) × (l.sink ≡ l.initial.sink)) ⊎ (g.K.Sink.flushed l.sink ≡ g.K.Sink.taken l.sink);
+  so_far : SoFar l.runner l.reader.number (g.S.Source.left l.initial.source) (to_read l.reader.ahead (g.S.Source.left l.source)) (g.K.Sink.taken l.initial.sink) (g.K.Sink.taken l.sink);
+}
+
+abbrev pub decreases-loop-reader : goal.decreases-loop-reader
+decreases-loop-reader g l = 1000000 - l.reader.number

@@ -1,0 +1,31 @@
+-- What a status is to the program's caller.
+use Rattle.std.specs.Prelude.{ℕ, List, codes}
+use Rattle.locus_io.specs.declared.traits.WriteFault.{WriteFault}
+use Rattle.locus_io.specs.declared.traits.WriteFault.TheVariants as write
+use Rattle.locus_main.specs.declared.status.Status.{Status}
+use Rattle.locus_main.specs.declared.status.Status.TheVariants as status
+use Rattle.locus_main.specs.declared.status.Limited.{Limited}
+use Rattle.locus_main.specs.declared.status.Limited.TheVariants.{Packets, Bytes, Trace, Line, Lines}
+
+-- the exit code
+abbrev pub code_of : Status → ℕ
+code_of status.Ok = 0
+code_of status.BadWords = 2
+code_of (status.BadLine line) = 3
+code_of status.ReadFault = 4
+code_of status.WriteFault = 5
+code_of status.NoMemory = 6
+code_of (status.Limit what) = 7
+
+-- a limit's name in a message
+abbrev pub limit_word : Limited → List ℕ
+limit_word Packets = codes "packets"
+limit_word Bytes = codes "bytes"
+limit_word Trace = codes "trace"
+limit_word Line = codes "line"
+limit_word Lines = codes "lines"
+
+-- what a run comes to where a write goes wrong
+abbrev pub status_of : WriteFault → Status
+status_of write.Failed = status.WriteFault
+status_of write.NoMemory = status.NoMemory

@@ -1,0 +1,47 @@
+//! The program: it reads a schedule from standard input and writes its trace to standard output.
+//! This room is for the words, the status and the loop over the lines; the shell calls it. It must never know what a
+//! line does, or what a record says.
+#![tactic(auto)]
+
+mod lines;
+mod status;
+#[cfg(test)]
+mod tests;
+mod top;
+mod turn;
+mod words;
+
+use locus_ids::{Bytes, Names, NoMemory};
+use locus_io::{StdSink, StdSource};
+use status::Status;
+use std::alloc::Global;
+use std::process::ExitCode;
+use std::rt::Env;
+use std::{env, io};
+
+/// The words after the program's name.
+fn words_of<R: Env + AllocGlobal>(rt: &R) -> Result<Names, NoMemory> {
+    let alloc = rt.alloc();
+    let mut words = Names::new(alloc);
+    let Ok(mut arguments) = env::args(rt) else {
+        return Err(NoMemory);
+    };
+    let _ = arguments.next();
+    for word in arguments {
+        words.push(Bytes::from_slice(alloc, word.as_bytes())?)?;
+    }
+    Ok(words)
+}
+
+fn main(rt: HostRuntime) -> ExitCode {
+    let status = match words_of(&rt) {
+        Ok(words) => {
+            let mut source = StdSource::new(rt.reader());
+            let mut sink = StdSink::new(io::writer(&rt));
+            top::locus(rt.alloc(), &words, &mut source, &mut sink)
+        }
+        Err(_) => Status::NoMemory,
+    };
+    let _ = status.tell(&rt);
+    ExitCode::from(status.code())
+}

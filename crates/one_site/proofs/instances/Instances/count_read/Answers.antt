@@ -1,0 +1,11 @@
+use Rattle.std.proofs.Common.{◌≡◌, length, ap, ◌∙◌, arith, rules}
+use Rattle.one_site.specs.Settle.{has_read}
+use Rattle.one_site.specs.Room.{with_instance, instance_at}
+use Rattle.one_site.proofs.Searching.{replaced}
+use Rattle.one_site.proofs.instances.Instances.count_read.Goals as goal
+
+pub returns : goal.returns
+returns c =
+    let view : c.self.inside.items.items ≡ c.args.self.now = search rules in
+    replaced c.self.inside.items.items c.args.place has_read c.index_mut-instance.result.now (omega (arith, ap length view, c.requires.place)) c.index_mut-instance.ensures.value
+    ∙ ap (λ xs. with_instance c.args.place (has_read (instance_at xs c.args.place)) xs) view

@@ -1,0 +1,11 @@
+pub mod Ids
+pub mod Files
+pub mod Opens
+pub mod Known
+pub mod Records
+pub mod Steps
+pub mod Settle
+pub mod Room
+pub mod Went
+pub mod Short
+pub mod Standing

@@ -1,0 +1,9 @@
+//! The layout of a disk: where the areas of packs, their slots and their data pages stand, and the bytes of a slot, which
+//! says all of one inode. Only the code that mounts packs and commits to them calls it. It reads and writes no disk.
+#![tactic(auto)]
+
+mod places;
+mod slot;
+
+pub use places::{area_at, disk_len, page_at, slot_at};
+pub use slot::{BadSlot, Slot, newer};

@@ -1,0 +1,50 @@
+ghost use Rattle.std.specs.Prelude.{◌≡◌, ◌+◌, ◌≤◌, ◌<◌, ◌^◌};
+ghost use Rattle.pack_layout.specs.Layout.{area_at, area_length, page_at, slot_at};
+
+const LABEL_LENGTH: u32 = 1_024;
+
+const AREA_LENGTH: u32 = 4_195_328;
+
+const SLOTS_AT: u32 = 1_024;
+
+const SLOT_LENGTH: u32 = 512;
+
+const PAGES_AT: u32 = 1_049_600;
+
+const PAGE_LENGTH: u32 = 1_024;
+
+/// The length of a disk with so many packs, in bytes.
+pub fn disk_len(packs: u8) -> u32
+    requires { packs ≤ 4 }
+    ensures { result ≡ area_at packs }
+{
+    LABEL_LENGTH + AREA_LENGTH * packs as u32
+}
+
+/// The place of the pack area of a number, from 0.
+pub fn area_at(nth: u8) -> u32
+    requires { nth ≤ 3 }
+    ensures { result ≡ area_at nth }
+{
+    LABEL_LENGTH + AREA_LENGTH * nth as u32
+}
+
+/// The place of one of the two slots of an inode, in the area from `base`.
+pub fn slot_at(base: u32, ino: u16, which: u8) -> u32
+    requires area { base + area_length < 2 ^ 32 }
+    requires low { 1 ≤ ino }
+    requires high { ino ≤ 1024 }
+    requires which { which ≤ 1 }
+    ensures { result ≡ slot_at base ino which }
+{
+    base + SLOTS_AT + 2 * SLOT_LENGTH * (ino as u32 - 1) + SLOT_LENGTH * which as u32
+}
+
+/// The place of a data page, in the area from `base`.
+pub fn page_at(base: u32, page: u16) -> u32
+    requires area { base + area_length < 2 ^ 32 }
+    requires page { page < 3072 }
+    ensures { result ≡ page_at base page }
+{
+    base + PAGES_AT + PAGE_LENGTH * page as u32
+}

@@ -1,0 +1,5 @@
+pub mod Bytes
+pub mod Counts
+pub mod Steps
+pub mod Write
+pub mod Cut

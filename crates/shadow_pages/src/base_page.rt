@@ -1,0 +1,11 @@
+use locus_ids::{Bytes, ItemList};
+
+/// A page of the base: its number, and its bytes.
+#[derive(Debug, Drop)]
+pub struct BasePage {
+    pub page: u16,
+    pub bytes: Bytes,
+}
+
+/// Pages of the base.
+pub type PageList = ItemList<BasePage>;

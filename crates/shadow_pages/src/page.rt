@@ -1,0 +1,48 @@
+ghost use Rattle.std.specs.Prelude.{◌≡◌, ◌≤◌, ◌<◌, ◌-◌, ◌++◌, length, take, replicate, IfOk};
+
+use locus_ids::NoMemory;
+use std::alloc::Global;
+use std::marker::Model;
+
+/// The bytes of a page.
+pub const PAGE: usize = 1024;
+
+/// A whole page in memory.
+#[derive(Drop)]
+pub struct Page {
+    bytes: Vec<u8>,
+}
+
+impl Model for Page {
+    ghost use Rattle.std.specs.Prelude.{◌≡◌, List, ℕ, length};
+
+    ghost Value = { List ℕ };
+
+    ghost view = { λ p. p.bytes.items };
+
+    ghost invariant = { λ p. length p.bytes.items ≡ 1024 };
+}
+
+impl Page {
+    pub fn new(alloc: Global, bytes: &[u8; 1024]) -> Result<Page, NoMemory>
+        ensures { IfOk result (λ page. page ≡ bytes.now) }
+    {
+        let bytes = Vec::from_slice(alloc, bytes)?;
+        Ok(Page { bytes })
+    }
+
+    pub fn bytes(&self) -> &[u8]
+        ensures value { result.now ≡ self.now }
+        ensures full { length result.now ≡ 1024 }
+    {
+        self.bytes.as_slice()
+    }
+
+    /// Makes the bytes from a place on zeros.
+    pub fn clear_from(&mut self, from: usize)
+        requires { from ≤ 1024 }
+        ensures { self.new ≡ take from self.old ++ replicate (1024 - from) 0 }
+    {
+        self.bytes[from..].fill(0);
+    }
+}

@@ -1,0 +1,35 @@
+ghost use Rattle.std.specs.Prelude.{◌≡◌, ℕ, ◌+◌, ◌*◌, ◌≤◌, ◌<◌, ◌↔◌, min, IsTrue, length, nat_lt, ◌-◌, ◌^◌};
+ghost use Rattle.shadow_pages.specs.Working.{meets, pages_of};
+
+/// The number of pages that some bytes fill.
+pub fn pages_of(size: u32) -> u32
+    requires { size < 2 ^ 32 - 1023 }
+    ensures { result ≡ pages_of size }
+{
+    (size + 1023) / 1024
+}
+
+/// Pages in a row: those from `first` up to `stop`.
+#[derive(Clone, Copy)]
+pub struct Span {
+    pub first: u32,
+    pub stop: u32,
+}
+
+/// The pages that meet the bytes from one place up to another.
+pub fn span_between(from: u32, to: u32) -> Span
+    requires { to ≤ 1110016 }
+    ensures meets { (i : ℕ) → IsTrue (meets from to i) ↔ ((result.first ≤ i) × (i < result.stop)) }
+    ensures ordered { result.first ≤ result.stop }
+    ensures most { result.stop ≤ pages_of to }
+    ensures within { result.stop ≤ 1084 }
+{
+    if from < to {
+        Span {
+            first: from / 1024,
+            stop: pages_of(to),
+        }
+    } else {
+        Span { first: 0, stop: 0 }
+    }
+}

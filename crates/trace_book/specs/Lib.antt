@@ -1,0 +1,5 @@
+pub mod Text
+pub mod Same
+pub mod Names
+pub mod Descriptors
+pub mod Scripts

@@ -1,0 +1,28 @@
+//! The records of a trace, their exact text, and the scripts of calls: what a call asks next, and what it is answered.
+//! Whoever writes or reads a trace stands on this room. It knows nothing of who may print which record when.
+#![tactic(auto)]
+
+mod answers;
+mod book;
+mod call;
+mod call_records;
+mod descriptor;
+mod lists;
+mod operation;
+mod packet_kind;
+mod pieces;
+mod record;
+mod rendering;
+mod reply;
+mod requests;
+mod site_records;
+mod version_records;
+
+pub use book::{Book, Entry};
+pub use call::{Call, OpenMode};
+pub use descriptor::{Beginning, Descriptor};
+pub use operation::{Op, Outcome, Served, What};
+pub use packet_kind::PacketKind;
+pub use record::{Brought, BroughtList, Record, StopCause};
+pub use rendering::render;
+pub use reply::Reply;

@@ -1,0 +1,28 @@
+/// The kinds of packets, in the order of their numbers from 1.
+#[derive(Clone, Copy, Debug, PartialEq, Eq)]
+pub enum PacketKind {
+    Poll,
+    Promise,
+    Refuse,
+    Install,
+    Joined,
+    Report,
+    ReportOk,
+    Open,
+    OpenSs,
+    Opened,
+    OpenDone,
+    Op,
+    OpDone,
+    Close,
+    Closed,
+    ClosedOk,
+    CloseDone,
+    Look,
+    LookSs,
+    LookDone,
+    Notify,
+    Pull,
+    Page,
+    Have,
+}

@@ -1,0 +1,40 @@
+use locus_ids::{Bytes, FileId, Kind, Names, Refusal, Stamp};
+
+/// What a call is answered.
+#[derive(Debug, Drop)]
+pub enum Reply {
+    /// A file or directory was made.
+    Made {
+        ino: u16,
+    },
+    /// An unlink, rmdir, rename, write, cut or abort is done.
+    Done,
+    /// The shown names of a directory.
+    Names {
+        names: Names,
+    },
+    /// Size in bytes.
+    Stat {
+        kind: Kind,
+        file: FileId,
+        size: u32,
+        stamp: Stamp,
+    },
+    Opened {
+        fd: u16,
+    },
+    Data {
+        bytes: Bytes,
+    },
+    /// A commit: the version's stamp, also where nothing had changed.
+    Committed {
+        stamp: Stamp,
+    },
+    /// A close, with the version that it made.
+    Closed {
+        stamp: Option<Stamp>,
+    },
+    No {
+        why: Refusal,
+    },
+}

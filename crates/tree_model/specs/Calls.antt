@@ -1,0 +1,74 @@
+-- How far a call has come: what its requests were answered, and what it asks next.
+use Rattle.std.specs.Prelude.{ℕ, ◌≡◌, ◌+◌, ◌-◌, ◌==◌, Bool, true, false, ◌&&◌, cond, List, [], ◌∷◌, ◌++◌, length, take, Option, None, Some}
+use Rattle.locus_ids.specs.declared.config.Config.{Config}
+use Rattle.locus_ids.specs.declared.ids.FileId.{FileId}
+use Rattle.locus_ids.specs.declared.ids.Stamp.{Stamp}
+use Rattle.locus_ids.specs.declared.ids.CallId.{CallId}
+use Rattle.locus_ids.specs.declared.refusal.Refusal.{Refusal}
+use Rattle.locus_ids.specs.declared.refusal.Refusal.TheVariants.{Absent, Ambiguous}
+use Rattle.commit_graph.specs.Versions.{content_of}
+use Rattle.trace_book.specs.Same.{same_call}
+use Rattle.trace_book.specs.Descriptors.{lowest_free}
+use Rattle.trace_book.specs.Scripts.{Answer, Want, wants, Entered, Opened, Did, Ended, Refused, Never}
+use Rattle.trace_book.specs.declared.record.Record.{Record}
+use Rattle.trace_book.specs.declared.record.Record.TheVariants.{Look, Grant, Refuse, Act, Release}
+use Rattle.trace_book.specs.declared.operation.What.{What}
+use Rattle.trace_book.specs.declared.operation.What.TheVariants as what
+use Rattle.trace_book.specs.declared.operation.Served.{Served}
+use Rattle.trace_book.specs.declared.operation.Served.TheVariants as served
+use Rattle.trace_book.specs.declared.operation.Outcome.{Outcome}
+use Rattle.trace_book.specs.declared.operation.Outcome.TheVariants as outcome
+use Rattle.tree_model.specs.declared.dir_entry.DirEntry.{DirEntry}
+use Rattle.tree_model.specs.declared.instance.Waiting.{Waiting}
+use Rattle.tree_model.specs.Directory.{Looked, One, Nothing, Several, lookup, entries_of}
+use Rattle.tree_model.specs.Tree.{tree, made_by_close}
+use Rattle.tree_model.specs.Trace.{Trace, history, descriptor, call_named, call_of_act, call_of_release, is_call}
+
+abbrev pub entered : List ℕ → Looked → Answer
+entered component (One d) = Entered d.ino d.kind
+entered component Nothing = Refused (Absent component)
+entered component (Several a b) = Refused (Ambiguous a b)
+
+-- what a look finds in the content that is served, for those that are built
+abbrev pub found_in : What → List ℕ → List Answer
+found_in (what.Name component) content = entered component (lookup (entries_of content) component) ∷ []
+found_in what.List content = []
+found_in what.Stat content = []
+found_in (what.Whole stamp) content = []
+
+abbrev pub look_answer : Config → Trace → FileId → What → Served → List Answer
+look_answer c before f w (served.At stamp) = found_in w (content_of (history c before) f stamp)
+look_answer c before f w (served.No why) = Refused why ∷ []
+
+abbrev pub outcome_answer : Outcome → Answer
+outcome_answer (outcome.No why) = Refused why
+outcome_answer outcome.Done = Did outcome.Done
+outcome_answer (outcome.Found ino kind) = Did (outcome.Found ino kind)
+outcome_answer (outcome.Data bytes) = Did (outcome.Data bytes)
+outcome_answer (outcome.Committed stamp) = Did (outcome.Committed stamp)
+
+-- A look that is taken again has the number of its request; its last record counts.
+abbrev pub answers_after : Record → Config → Trace → CallId → List Answer → List Answer
+answers_after (Look e call request f w result) c before d old = cond (same_call call d) (take (request - 1) old ++ look_answer c before f w result) old
+answers_after (Grant e call request i mode f stamp ss) c before d old = cond (same_call call d) (old ++ Opened i f.ino ∷ []) old
+answers_after (Refuse e call request i mode f why) c before d old = cond (same_call call d) (old ++ Refused why ∷ []) old
+answers_after (Act e i n o result) c before d old = cond (is_call (call_of_act before e i n) d) (old ++ outcome_answer result ∷ []) old
+answers_after (Release e i f stamp) c before d old = cond (is_call (call_of_release before e i) d) (old ++ Ended (made_by_close e i stamp (tree c before)) ∷ []) old
+answers_after _ c before d old = old
+
+-- what the requests of the call were answered so far, the earliest first
+abbrev pub answers : Config → Trace → CallId → List Answer
+answers c [] d = []
+answers c (r ∷ before) d = answers_after r.what c before d (answers c before d)
+
+abbrev pub wants_as : Config → Trace → Option Waiting → List Answer → Want
+wants_as c before None so_far = Never
+wants_as c before (Some w) so_far = wants c.mounts (lowest_free (descriptor before w.site w.process)) w.words w.beginning so_far
+
+-- what the call asks after these answers
+abbrev pub wants_after : Config → Trace → CallId → List Answer → Want
+wants_after c before d so_far = wants_as c before (call_named before d) so_far
+
+-- what the call asks next
+abbrev pub wants_next : Config → Trace → CallId → Want
+wants_next c before d = wants_after c before d (answers c before d)
