@@ -1,10 +1,9 @@
 -- What each event keeps.
-use Rattle.std.proofs.Common.{◌≡◌, ◌≢◌, ℕ, zero, suc, ◌+◌, ◌-◌, ◌≤◌, ◌<◌, max, Bool, true, false, cond, ◌&&◌, not, List, [], ◌∷◌, Option, Some, None, Result, Ok, Err, map, replicate, refl, sym, ◌∙◌, ap, subst, arith, ⊎_elim, nat_lt, nat_le}
-use Rattle.std.proofs.lemmas.Bool.{cases_eq}
+use Rattle.std.proofs.Common.{◌≡◌, ◌≢◌, ℕ, zero, suc, ◌+◌, ◌-◌, ◌≤◌, ◌<◌, max, Bool, true, false, cond, ◌&&◌, not, List, [], ◌∷◌, Option, Some, None, Result, Ok, Err, replicate, refl, sym, ◌∙◌, ap, subst, arith, ⊎_elim, nat_lt}
+use Rattle.std.proofs.lemmas.Bool.{cases_eq, cases_lt}
 use Rattle.std.proofs.lemmas.Bool.Decides.{nat_tests}
 use Rattle.std.specs.List.{filter}
 use Rattle.std.specs.Result.{IfOk, result_unwrap_or}
-use Rattle.locus_ids.specs.declared.ids.FileId.{FileId}
 use Rattle.locus_ids.specs.declared.ids.Stamp.{Stamp}
 use Rattle.version_vector.specs.Counters.{part, raised, all_le}
 use Rattle.version_vector.proofs.Counting.{part-joined, part-raised_same, part-raised_other, raised_up, AllLe-from_test}
@@ -15,10 +14,11 @@ use Rattle.conflict_flags.specs.declared.held.Held.{Held}
 use Rattle.conflict_flags.specs.declared.events.Event.{Event}
 use Rattle.conflict_flags.specs.declared.events.Event.TheVariants.{Commit, Adopt, Resolve}
 use Rattle.conflict_flags.specs.declared.table.TableFault.{TableFault}
-use Rattle.conflict_flags.specs.Written.{zeros, joined_all, written, NoneTwice}
+use Rattle.conflict_flags.specs.Written.{zeros, joined_all, written, NoneTwice, Numbered, made_at}
 use Rattle.conflict_flags.specs.Copies.{is_maximal, tops, with_held, by_stamp, maxima, stamps_of}
 use Rattle.conflict_flags.specs.Table.{Table, the_file, copy_at, copy_of, put, present, takes, taken, is_site, grown, counted, first, committed, adopted, resolved, stepped, happens, start, run}
-use Rattle.conflict_flags.proofs.Ancestors.{Each, Counted, Counts, Named, place, named, chained, own_count, ancestor-within, fresh, written_here, written_there, in_here, in_there, in_older, not_newest, part-zeros, true_or_false}
+use Rattle.conflict_flags.proofs.Numbers.{joined_bound, written_low, last_in}
+use Rattle.conflict_flags.proofs.Ancestors.{Each, Counted, Counts, Named, place, named, ancestor-within, written_here, written_there, in_here, in_there, in_older, not_newest, part-zeros, true_or_false}
 
 -- a copy is of a version of the history, and has its written vector
 pub record IsTrueCopy (h : List Version) (c : Held) : Type 0 where
@@ -35,6 +35,7 @@ pub record Covers (copies : List (Option Held)) (a : Stamp) : Type 0 where
 pub record Good (w : Table) : Type 0 where
   pub count : Counted the_file w.history
   pub once : NoneTwice w.history
+  pub numbers : Numbered w.history
   pub copies : (at : ℕ) (c : Held) → copy_at w.copies at ≡ Some c → IsTrueCopy w.history c
   pub last : (a : Stamp) → is_in w.history the_file a ≡ true → Covers w.copies a
 
@@ -106,6 +107,12 @@ grown_good w site parents v low good stand joins covers =
     (λ (e : is_in w.history the_file stamp ≡ true). absurd (let le : part v at + 1 ≤ part v at = covers stamp e refl in omega arith))
     (λ (e : is_in w.history the_file stamp ≡ false). e)
     (true_or_false (is_in w.history the_file stamp)) in
+    let made : ℕ = made_at w.history the_file site in
+    let below : part (joined_all (written w.history the_file) parents) at ≤ made = joined_bound (written w.history the_file) made at (λ p. written_low the_file w.history good.count p site low) parents in
+    let counts_all : part v at ≡ made = ⊎_elim
+    (λ (e : 0 < made). let above : made ≤ part v at = covers (record { site = site; n = made }) (last_in the_file w.history good.count good.numbers site e) refl in omega (arith, joins at))
+    (λ (e : made ≤ 0). omega (arith, joins at))
+    (cases_lt 0 made) in
     let counts : Counts the_file node w.history = record { mine = refl; low = low; stand = stand; count = ap (λ (n : ℕ). n + 1) (joins at) } in
     let new_true : IsTrueCopy (node ∷ w.history) new = record {
       there = in_here the_file node w.history stamp refl (same_stamp_refl stamp);
@@ -114,6 +121,7 @@ grown_good w site parents v low good stand joins covers =
     record {
       count = (counts, good.count);
       once = (is_fresh, good.once);
+      numbers = (ap (λ (n : ℕ). n + 1) counts_all, good.numbers);
       copies = λ t c e. ⊎_elim
           (λ (ts : t ≡ at). subst (IsTrueCopy (node ∷ w.history)) (some_eq (sym (copy_at-put_same w.copies at new) ∙ subst (λ (x : ℕ). copy_at (put w.copies at new) x ≡ Some c) ts e)) new_true)
           (λ (ts : t ≢ at). older_copy node w.history c refl is_fresh (good.copies t c (sym (copy_at-put_other w.copies at new t ts) ∙ e)))
@@ -178,6 +186,7 @@ taken_good w site from c good e above =
     record {
       count = good.count;
       once = good.once;
+      numbers = good.numbers;
       copies = λ t d f. ⊎_elim
           (λ (ts : t ≡ at). subst (IsTrueCopy w.history) (some_eq (sym (copy_at-put_same w.copies at own) ∙ subst (λ (x : ℕ). copy_at (put w.copies at own) x ≡ Some d) ts f)) is_true)
           (λ (ts : t ≢ at). good.copies t d (sym (copy_at-put_other w.copies at own t ts) ∙ f))
@@ -303,6 +312,7 @@ pub start_good : Good start
 start_good = record {
   count = tt;
   once = tt;
+  numbers = tt;
   copies = λ s c e. absurd (no_copies 16 s c e);
   last = λ a e. absurd (cc);
 }

@@ -1,4 +1,5 @@
 pub mod Ancestors
+pub mod Numbers
 pub mod Kept
 pub mod Ascending
 pub mod Places

@@ -3,7 +3,7 @@ use Rattle.std.specs.Prelude.{ℕ, Bool, not, ◌&&◌, cond, List, [], ◌∷�
 use Rattle.std.specs.List.{list_any}
 use Rattle.locus_ids.specs.declared.ids.Stamp.{Stamp}
 use Rattle.version_vector.specs.Counters.{all_le}
-use Rattle.commit_graph.specs.Versions.{same_stamp, is_stamp_below, with_stamp}
+use Rattle.commit_graph.specs.Versions.{same_stamp, is_stamp_below}
 use Rattle.conflict_flags.specs.declared.held.Held.{Held}
 use Rattle.conflict_flags.specs.declared.held.Least.{Least}
 use Rattle.conflict_flags.specs.declared.held.Least.TheVariants.{Nothing, One, Two}

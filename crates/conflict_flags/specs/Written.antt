@@ -1,11 +1,11 @@
 -- The vector that each version is written with, by the history alone. A history is a list of versions, the newest
 -- first. The counter of site s stands at place s - 1.
-use Rattle.std.specs.Prelude.{◌≡◌, ℕ, ◌-◌, ◌==◌, Bool, false, cond, ◌&&◌, List, [], ◌∷◌, replicate}
+use Rattle.std.specs.Prelude.{◌+◌, length, filter, ◌≡◌, ℕ, ◌-◌, ◌==◌, Bool, false, cond, ◌&&◌, List, [], ◌∷◌, replicate}
 use Rattle.locus_ids.specs.declared.ids.FileId.{FileId}
 use Rattle.locus_ids.specs.declared.ids.Stamp.{Stamp}
 use Rattle.version_vector.specs.Counters.{joined, raised}
 use Rattle.commit_graph.specs.declared.history.Version.{Version}
-use Rattle.commit_graph.specs.Versions.{is_version, is_in}
+use Rattle.commit_graph.specs.Versions.{same_file, is_version, is_in, is_ancestor}
 
 -- no commits
 abbrev pub zeros : List ℕ
@@ -32,3 +32,21 @@ written (v ∷ older) file b = cond (is_version file b v)
 abbrev pub NoneTwice : List Version → Type 0
 NoneTwice [] = Unit {0}
 NoneTwice (v ∷ older) = (is_in older v.file v.stamp ≡ false) × NoneTwice older
+
+-- the version is of this file, and this site committed it
+abbrev pub is_made_at : FileId → ℕ → Version → Bool
+is_made_at file site v = same_file v.file file && (v.stamp.site == site)
+
+-- how many versions of the file the site committed
+abbrev pub made_at : List Version → FileId → ℕ → ℕ
+made_at [] file site = 0
+made_at (v ∷ older) file site = cond (is_made_at file site v) (made_at older file site + 1) (made_at older file site)
+
+-- each number is that of the site's commits of the file up to this one
+abbrev pub Numbered : List Version → Type 0
+Numbered [] = Unit {0}
+Numbered (v ∷ older) = (v.stamp.n ≡ made_at older v.file v.stamp.site + 1) × Numbered older
+
+-- the counted vector: how many ancestors of a version, itself included, each site committed
+abbrev pub ancestors_made_at : List Version → FileId → Stamp → ℕ → ℕ
+ancestors_made_at history file b site = length (filter (λ v. is_made_at file site v && is_ancestor history file v.stamp b) history)

@@ -71,9 +71,9 @@ fn least_maxima(all: &[Held]) -> Least
     let mut left = all.len();
     while left > 0 {
         left -= 1;
-        let held = &all[left];
-        if is_maximal(all, held) {
-            least = least.with(held.stamp);
+        let copy = &all[left];
+        if is_maximal(all, copy) {
+            least = least.with(copy.stamp);
         }
     }
     least

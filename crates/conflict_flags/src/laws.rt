@@ -1,21 +1,25 @@
-ghost use Rattle.std.specs.Prelude.{◌≡◌, true, ◌↔◌, List, ◌≤◌, Some, Option};
+ghost use Rattle.std.specs.Prelude.{◌≡◌, true, ◌↔◌, List, ◌≤◌, ◌-◌, ℕ, Some, Option};
 ghost use Rattle.locus_ids.specs.declared.ids.Stamp.{Stamp};
-ghost use Rattle.version_vector.specs.Counters.{AllLe};
+ghost use Rattle.version_vector.specs.Counters.{AllLe, part};
 ghost use Rattle.commit_graph.specs.Versions.{is_in, is_ancestor};
 ghost use Rattle.conflict_flags.specs.declared.events.Event.{Event};
 ghost use Rattle.conflict_flags.specs.declared.held.Held.{Held};
-ghost use Rattle.conflict_flags.specs.Written.{written, NoneTwice};
+ghost use Rattle.conflict_flags.specs.Written.{written, NoneTwice, Numbered, ancestors_made_at};
 ghost use Rattle.conflict_flags.specs.Table.{run, start, the_file, copy_of};
 
 /// After every list of events no stamp stands twice, and of two versions one is an ancestor of the other exactly
 /// where its written vector is at most the other's. The commits of one site are a chain, and the site's copy has them
-/// all among its ancestors. Each copy is of a version of the history.
+/// all among its ancestors. A site's commits are numbered from 1, and a written vector counts ancestors by site.
 pub fn vectors_tell_ancestors()
     ensures once { (events : List Event) → NoneTwice (run events start).history }
     ensures tell { (events : List Event) (a b : Stamp) →
         is_in (run events start).history the_file a ≡ true → is_in (run events start).history the_file b ≡ true →
         (is_ancestor (run events start).history the_file a b ≡ true)
         ↔ AllLe (written (run events start).history the_file a) (written (run events start).history the_file b) }
+    ensures numbered { (events : List Event) → Numbered (run events start).history }
+    ensures counted { (events : List Event) (a : Stamp) (site : ℕ) →
+        is_in (run events start).history the_file a ≡ true → 1 ≤ site →
+        part (written (run events start).history the_file a) (site - 1) ≡ ancestors_made_at (run events start).history the_file a site }
     ensures chain { (events : List Event) (a b : Stamp) →
         is_in (run events start).history the_file a ≡ true → is_in (run events start).history the_file b ≡ true →
         a.site ≡ b.site → a.n ≤ b.n → is_ancestor (run events start).history the_file a b ≡ true }

@@ -1,3 +1,5 @@
+ghost use Rattle.std.specs.Prelude.{◌≤◌, length, IfOk};
+
 use crate::{LookResult, encode, lookup, probe, put};
 use locus_ids::{Bytes, ItemList, Kind, NoMemory, Refusal};
 use std::alloc::Global;
@@ -23,16 +25,50 @@ fn add(
 }
 
 #[test]
-fn entries_stand_in_order_as_bytes(rt: HostRuntime) -> Result<(), Fail> {
+fn entries_stand_in_order(rt: HostRuntime) -> Result<(), Fail> {
     let alloc = rt.alloc();
     let mut dir = ItemList::new(alloc);
     add(alloc, &mut dir, b"b", 258, Kind::File, 3)?;
     add(alloc, &mut dir, b"a", 9, Kind::File, 1)?;
     add(alloc, &mut dir, b"ab", 2, Kind::Dir, 65_537)?;
     add(alloc, &mut dir, b"a", 3, Kind::Dir, 1)?;
-    let bytes = encode(alloc, dir.as_slice())?;
-    let wanted =
-        b"\x01a\x00\x03\x02\x00\x00\x00\x01\x01a\x00\x09\x01\x00\x00\x00\x01\x02ab\x00\x02\x02\x00\x01\x00\x01\x01b\x01\x02\x01\x00\x00\x00\x03";
+    for (i, ino) in [3, 9, 2, 258].iter().enumerate() {
+        assert!(rt;
+            matches!(dir.get(i), Some(entry) if entry.ino == *ino),
+            "at {i}"
+        );
+    }
+    Ok(())
+}
+
+fn short_entry(
+    alloc: Global,
+    name: &[u8],
+    ino: u16,
+    kind: Kind,
+    count: u32,
+) -> Result<DirEntry, NoMemory>
+    requires { length name.now ≤ 255 }
+    ensures { IfOk result (λ entry. length entry.name ≤ 255) }
+{
+    let name = Bytes::from_slice(alloc, name)?;
+    Ok(DirEntry {
+        name,
+        ino,
+        kind,
+        count,
+    })
+}
+
+#[test]
+fn entries_are_bytes(rt: HostRuntime) -> Result<(), Fail> {
+    let alloc = rt.alloc();
+    let dir = [
+        short_entry(alloc, b"a", 3, Kind::Dir, 1)?,
+        short_entry(alloc, b"xyz", 258, Kind::File, 65_537)?,
+    ];
+    let bytes = encode(alloc, &dir)?;
+    let wanted = b"\x01a\x00\x03\x02\x00\x00\x00\x01\x03xyz\x01\x02\x01\x00\x01\x00\x01";
     assert_eq!(rt; bytes.as_slice(), wanted.as_slice());
     Ok(())
 }

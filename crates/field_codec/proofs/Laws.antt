@@ -8,7 +8,7 @@ use Rattle.std.proofs.lemmas.List.{take_at, drop_at, take-append-drop, length-ap
 use Rattle.std.proofs.lemmas.Nat.{be_bytes_2, be_bytes_4, from_be_bytes-to_be_bytes_2, from_be_bytes-to_be_bytes_4}
 use Rattle.field_codec.specs.declared.faults.FieldFault.{FieldFault}
 use Rattle.field_codec.specs.declared.faults.FieldFault.TheVariants.{Short, Range}
-use Rattle.field_codec.specs.Codec.{Unread, past, ◌>>=◌, Codec, AreBytes, read_fixed, fixed, u8, u16, u32, slice, within, followed_by, pair, made, exactly, empty, zeros, whole}
+use Rattle.field_codec.specs.Codec.{Unread, past, ◌>>=◌, Codec, AreBytes, read_fixed, fixed, u8, u16, u32, slice, within, followed_by, pair, made, exactly, read_exactly, empty, zeros, whole}
 
 -- the rest of the whole, past a text
 abbrev pub rest_at : ℕ → List ℕ → Unread
@@ -160,6 +160,7 @@ module _ {A B : Type 0} {c : Codec A} (to : A → B) (from : B → A) where
     again x at rest h = rw (laws.again (from x) at rest h, forth x) refl
 
 pub exactly_laws : (text : List ℕ) → AreBytes text → Lawful (exactly text)
+unfolding read_exactly
 exactly_laws text bytes = record { takes = takes; again = again } where
   takes : (u : Unread) (x : Unit {0}) (after : Unread) → AreBytes u.bytes → (exactly text).read u ≡ Ok (x, after) → Takes u text after × Unit {0}
   takes u x after h e =

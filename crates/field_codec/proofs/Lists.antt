@@ -8,6 +8,7 @@ use Rattle.field_codec.proofs.Laws.{Lawful, Takes, Takes-then, rest_at, bind_ok,
 module _ {A P : Type 0} (item : P → Codec A) (next : P → A → P) (laws : (p : P) → Lawful (item p)) where
   times_takes : (p : P) (n : ℕ) (u : Unread) (xs : List A) (after : Unread) → AreBytes u.bytes → read_times item next p n u ≡ Ok (xs, after)
       → Takes u (spell_all item next p xs) after × (length xs ≡ n) × AllFit item next p xs
+  unfolding read_times
   times_takes p zero u xs after h e =
       subst (λ (y : List A × Unread). Takes u (spell_all item next p y.0) y.1 × (length y.0 ≡ 0) × AllFit item next p y.0) (ok_is ([], u) (xs, after) e) (record { parts = refl; place = omega arith; rest_fits = h }, refl, tt)
   times_takes p (suc n) u xs after h e =
@@ -21,6 +22,7 @@ module _ {A P : Type 0} (item : P → Codec A) (next : P → A → P) (laws : (p
 
   times_again : (p : P) (xs : List A) (at : ℕ) (rest : List ℕ) → AllFit item next p xs
       → read_times item next p (length xs) (rest_at at (spell_all item next p xs ++ rest)) ≡ Ok (xs, rest_at (at + length (spell_all item next p xs)) rest)
+  unfolding read_times
   times_again p [] at rest h = ap (λ (n : ℕ). Ok ([], rest_at n rest)) (omega arith)
   times_again p (x ∷ xs) at rest h =
       let text : List ℕ = (item p).spell x in

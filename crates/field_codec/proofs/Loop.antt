@@ -18,6 +18,7 @@ module _ {A P : Type 0} (item : P → Codec A) (next : P → A → P) where
 
   pub goes_on : (front : List A) (p : P) (count i : ℕ) (u : Unread) (x : A) (after : Unread) (total : Read (List A)) → i < count → (item p).read u ≡ Ok (x, after)
       → with_front front (read_times item next p (count - i) u) ≡ total → with_front (front ++ x ∷ []) (read_times item next (next p x) (count - (i + 1)) after) ≡ total
+  unfolding read_times
   goes_on front p count i u x after total lt h so_far =
       let k : count - i ≡ suc (count - (i + 1)) = omega arith in
       let one : with_front front (read_times item next p (count - i) u) ≡ with_front (front ++ x ∷ []) (read_times item next (next p x) (count - (i + 1)) after) = rw (k, h) (regroup front x (read_times item next (next p x) (count - (i + 1)) after)) in
@@ -25,12 +26,14 @@ module _ {A P : Type 0} (item : P → Codec A) (next : P → A → P) where
 
   pub ends : (front : List A) (p : P) (count i : ℕ) (u : Unread) (d : FieldFault) (total : Read (List A)) → i < count → (item p).read u ≡ Err d
       → with_front front (read_times item next p (count - i) u) ≡ total → total ≡ Err d
+  unfolding read_times
   ends front p count i u d total lt h so_far =
       let k : count - i ≡ suc (count - (i + 1)) = omega arith in
       let one : with_front front (read_times item next p (count - i) u) ≡ Err d = rw (k, h) refl in
       sym so_far ∙ one
 
   pub is_done : (front : List A) (p : P) (count i : ℕ) (u : Unread) (total : Read (List A)) → count ≤ i → with_front front (read_times item next p (count - i) u) ≡ total → total ≡ Ok (front, u)
+  unfolding read_times
   is_done front p count i u total le so_far =
       let k : count - i ≡ 0 = omega arith in
       let one : with_front front (read_times item next p (count - i) u) ≡ Ok (front, u) = rw k (ap (λ (xs : List A). Ok (xs, u)) (append-nil front)) in

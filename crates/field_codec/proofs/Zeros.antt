@@ -5,8 +5,9 @@ use Rattle.std.proofs.lemmas.List.{length-take, length-replicate}
 use Rattle.std.proofs.lemmas.Slice.Eq.{bytes_eq-Decides}
 use Rattle.std.specs.Bool.{Decides}
 use Rattle.std.specs.Str.{bytes_eq}
+use Rattle.field_codec.specs.declared.faults.FieldFault.{FieldFault}
 use Rattle.field_codec.specs.declared.faults.FieldFault.TheVariants.{Short, Range}
-use Rattle.field_codec.specs.Codec.{Unread, past, read_fixed, zeros}
+use Rattle.field_codec.specs.Codec.{Unread, past, read_fixed, read_exactly, zeros}
 use Rattle.field_codec.proofs.Laws.{guard_ok}
 
 -- a list whose items are 0 is a list of zeros
@@ -30,7 +31,13 @@ length_read n u bs v e =
 
 -- n bytes that were read are n zeros, or out of range
 pub zeros_read : (n : ℕ) (u : Unread) (bs : List ℕ) (v : Unread) (r : Bool) → read_fixed n (λ t. t) u ≡ Ok (bs, v) → (IsTrue r ↔ (bs ≡ replicate (length bs) 0)) → (zeros n).read u ≡ cond r (Ok (tt, v)) (Err (Range u.at))
+unfolding read_exactly
 zeros_read n u bs v r e h =
     let len : length bs ≡ n = length_read n u bs v e in
     let is : bytes_eq bs (replicate n 0) ≡ r = sym (rw (← len) (decided r bs (replicate (length bs) 0) (h.0, h.1))) in
     rw (length-replicate {A = ℕ} n 0, e, is) refl
+
+-- fewer than n bytes are short of n zeros
+pub zeros_short : (n : ℕ) (u : Unread) (d : FieldFault) → read_fixed n (λ t. t) u ≡ Err d → (zeros n).read u ≡ Err d
+unfolding read_exactly
+zeros_short n u d e = rw (length-replicate {A = ℕ} n 0, e) refl

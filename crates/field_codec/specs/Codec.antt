@@ -93,13 +93,12 @@ made to from c = record {
   read = λ u. c.read u >>= λ r. Ok (to r.0, r.1);
 }
 
--- just these bytes: out of range at their start where others stand
+-- reading just these bytes: out of range at their start where others stand
+unfoldable pub read_exactly : List ℕ → Unread → Read (Unit {0})
+read_exactly text u = read_fixed (length text) (λ bs. bs) u >>= λ r. if bytes_eq r.0 text then Ok (tt, r.1) else Err (Range u.at)
+
 abbrev pub exactly : List ℕ → Codec (Unit {0})
-exactly text = record {
-  Fits = λ _. Unit {0};
-  spell = λ _. text;
-  read = λ u. (slice (length text)).read u >>= λ r. if bytes_eq r.0 text then Ok (tt, r.1) else Err (Range u.at);
-}
+exactly text = record { Fits = λ _. Unit {0}; spell = λ _. text; read = read_exactly text }
 
 -- no bytes
 abbrev pub empty : Codec (Unit {0})

@@ -12,7 +12,7 @@ module _ {A P : Type 0} (item : P → Codec A) (next : P → A → P) where
   spell_all p (x ∷ xs) = (item p).spell x ++ spell_all (next p x) xs
 
   -- so many items
-  abbrev pub read_times : P → ℕ → Unread → Read (List A)
+  unfoldable pub read_times : P → ℕ → Unread → Read (List A)
   read_times p zero u = Ok ([], u)
   read_times p (suc n) u = (item p).read u >>= λ r. read_times (next p r.0) n r.1 >>= λ s. Ok (r.0 ∷ s.0, s.1)
 

@@ -139,6 +139,7 @@ impl<'a> Fields<'a> {
     }
 
     /// Passes over the bytes of `text`, which stand next.
+    #[tactic(auto, unfolding(crate::specs::Codec::read_exactly))]
     pub fn exactly(&mut self, text: &[u8]) -> Result<(), FieldFault>
         requires { length text.now < 2 ^ 32 }
         ensures read { Reads (exactly text.now) (λ _. tt) self.old result self.new }

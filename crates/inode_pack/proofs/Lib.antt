@@ -4,3 +4,4 @@ pub mod Pieces
 pub mod Stages
 pub mod Views
 pub mod OldOrNew
+pub mod Losing

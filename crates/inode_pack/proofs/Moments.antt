@@ -1,5 +1,5 @@
 -- How runs of disk calls go on.
-use Rattle.std.proofs.Common.{◌≡◌, ◌⊎◌, inl, inr, ⊎_elim, ℕ, ◌≤◌, List, refl, sym, ◌∙◌, arith, subst}
+use Rattle.std.proofs.Common.{inl, inr, ⊎_elim, ℕ, List, arith, subst}
 use Rattle.std.specs.Prelude.{Result, Ok, Err, OnOk}
 use Rattle.disk_model.specs.Disk.{Goes, IsAfter, Only}
 use Rattle.inode_pack.specs.Moments.{LeavesOnly}

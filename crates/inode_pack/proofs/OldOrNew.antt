@@ -1,21 +1,21 @@
 -- Each stage of a switch that may replace an inode has the old view or the new one.
-use Rattle.std.proofs.Common.{◌≡◌, ◌≢◌, ◌⊎◌, inl, inr, ⊎_elim, ℕ, zero, suc, ◌+◌, ◌-◌, ◌*◌, ◌≤◌, ◌<◌, Bool, true, false, ◌||◌, List, [], ◌∷◌, ◌++◌, length, take, drop, get_or, refl, sym, ◌∙◌, ap, subst, arith, ◌%◌}
+use Rattle.std.proofs.Common.{◌≡◌, ◌≢◌, inl, inr, ⊎_elim, ℕ, zero, suc, ◌+◌, ◌-◌, ◌*◌, ◌≤◌, ◌<◌, Bool, true, false, List, [], ◌∷◌, length, get_or, refl, sym, ◌∙◌, ap, subst, arith, ◌%◌}
 use Rattle.std.specs.Prelude.{Option, None, Some, ◌==◌, if◌then◌else◌}
-use Rattle.std.proofs.lemmas.Bool.{cases_eq, cases_Bool, eqb-true, eq-eqb, true≢false}
+use Rattle.std.proofs.lemmas.Bool.{cases_eq, cases_Bool, eqb-true, eq-eqb}
 use Rattle.std.proofs.lemmas.Bool.Decides.{nat_tests}
-use Rattle.disk_model.specs.Images.{overwritten, is_within, Torn}
+use Rattle.disk_model.specs.Images.{is_within, Torn}
 use Rattle.inode_pack.specs.declared.switching.Piece.{Piece}
-use Rattle.inode_pack.specs.Switch.{AreWithin, touches, TornIn, TornGate, IsStage, written, opened, closed, switched}
+use Rattle.inode_pack.specs.Switch.{touches, TornIn, TornGate, IsStage, written, closed, switched}
 use Rattle.inode_pack.specs.View.{slot_at, page_at, is_open, turn, size, page, pages_of, Version, version, follows, counting, version_in, view, SameView, Replaced, IsOldOrNew}
-use Rattle.inode_pack.specs.Replace.{Spares, MayReplace, made_bytes, made_version, closing, IsNext}
-use Rattle.inode_pack.proofs.Pieces.{torn_written, torn_overwritten, put_outside, put_gate, length-overwritten}
-use Rattle.inode_pack.proofs.Views.{Keeps, Agrees, same_view, same_version, same_open}
+use Rattle.inode_pack.specs.Replace.{MayReplace, made_bytes, made_version, closing, IsNext}
+use Rattle.inode_pack.proofs.Pieces.{torn_written, torn_overwritten, put_gate}
+use Rattle.inode_pack.proofs.Views.{Keeps, Agrees, same_view, same_version}
 
 -- slots begin at every 512 bytes
 pub one_slot : (base i w ino which k : ℕ) → k < 512 → slot_at base i w + k ≡ slot_at base ino which → slot_at base i w ≡ slot_at base ino which
 one_slot base i w ino which k lt e = omega arith
 
-below_pages : (base ino which k : ℕ) → ino ≤ 1024 → which ≤ 1 → base + 1049600 ≤ k → k ≢ slot_at base ino which
+pub below_pages : (base ino which k : ℕ) → ino ≤ 1024 → which ≤ 1 → base + 1049600 ≤ k → k ≢ slot_at base ino which
 below_pages base ino which k high place le e = omega arith
 
 module _ (base ino which : ℕ) (pieces : List Piece) (old : List ℕ) (may : MayReplace base ino which pieces old) where
@@ -75,7 +75,7 @@ not_before (suc (suc zero)) n next = ap (λ (m : ℕ). (m + 1) % 3 == 2) next.1
 not_before (suc (suc (suc o))) n next = absurd (omega (arith, next.0))
 
 -- an open slot whose turn follows that of the other, where that is open, counts
-own_by : (base ino which : ℕ) → which ≤ 1 → (c : List ℕ) (made : Version) → is_open c (slot_at base ino which) ≡ true → version c base (slot_at base ino which) ≡ made
+pub own_by : (base ino which : ℕ) → which ≤ 1 → (c : List ℕ) (made : Version) → is_open c (slot_at base ino which) ≡ true → version c base (slot_at base ino which) ≡ made
     → (is_open c (slot_at base ino (1 - which)) ≡ true → IsNext (turn c (slot_at base ino (1 - which))) (turn c (slot_at base ino which))) → view c base ino ≡ Some made
 own_by base ino zero place c made open_is is next =
     (λ i. version_in c base (counting (open_is i) (is_open c (slot_at base ino 1)) (follows c (slot_at base ino 0) (slot_at base ino 1)) (slot_at base ino 0) (slot_at base ino 1)))

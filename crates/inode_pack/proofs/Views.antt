@@ -1,9 +1,9 @@
 -- Images that agree where the view looks have one view.
-use Rattle.std.proofs.Common.{◌≡◌, ◌⊎◌, inl, inr, ⊎_elim, ℕ, zero, suc, ◌+◌, ◌-◌, ◌*◌, ◌≤◌, ◌<◌, Bool, true, false, List, [], ◌∷◌, ◌++◌, length, take, drop, get_or, refl, sym, ◌∙◌, ap, subst, arith, length-take, length-drop, ◌%◌}
-use Rattle.std.specs.Prelude.{Option, None, Some, ◌==◌}
+use Rattle.std.proofs.Common.{◌≡◌, ◌⊎◌, inl, inr, ℕ, zero, suc, ◌+◌, ◌*◌, ◌≤◌, ◌<◌, Bool, true, false, List, ◌++◌, length, take, drop, get_or, refl, sym, ◌∙◌, ap, subst, arith, length-take, length-drop, ◌%◌}
+use Rattle.std.specs.Prelude.{Some, ◌==◌}
 use Rattle.std.proofs.lemmas.List.{same_lists, get_or_default, get_or-take, get_or-drop}
 use Rattle.disk_model.specs.Images.{bytes_at}
-use Rattle.inode_pack.specs.View.{is_open, turn, size, page, page_at, slot_at, pages_of, bytes_of, Version, version, follows, counting, version_in, view}
+use Rattle.inode_pack.specs.View.{is_open, size, page, page_at, pages_of, bytes_of, Version, version, follows, counting, version_in}
 
 pub same_bytes : (a b : List ℕ) (at n : ℕ) → length b ≡ length a → ((k : ℕ) → k < n → get_or b (at + k) 0 ≡ get_or a (at + k) 0) → bytes_at b at n ≡ bytes_at a at n
 same_bytes a b at n long same = same_lists (bytes_at b at n) (bytes_at a at n) lengths (λ k d lt. here k d lt)

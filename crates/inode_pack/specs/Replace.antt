@@ -1,5 +1,5 @@
 -- What a commit may write: its closed slot behind the gate, and pages of no slot that is open.
-use Rattle.std.specs.Prelude.{ℕ, ◌+◌, ◌-◌, ◌%◌, ◌≤◌, ◌<◌, ◌≡◌, Bool, true, false, List, length, Option, None, Some, if◌then◌else◌}
+use Rattle.std.specs.Prelude.{ℕ, ◌+◌, ◌-◌, ◌%◌, ◌≤◌, ◌<◌, ◌≡◌, true, false, List, length, Option, None, Some, if◌then◌else◌}
 use Rattle.inode_pack.specs.declared.switching.Piece.{Piece}
 use Rattle.inode_pack.specs.Switch.{AreWithin, touches, written, opened}
 use Rattle.inode_pack.specs.View.{slot_at, page_at, is_open, turn, size, page, pages_of, Version, version}
@@ -38,3 +38,14 @@ made_version base ino which pieces old = version (made_bytes base ino which piec
 -- the gate that is closed at the end: that of the other slot, where it is open
 abbrev pub closing : ℕ → ℕ → ℕ → List ℕ → Option ℕ
 closing base ino which old = if is_open old (slot_at base ino (1 - which)) then Some (slot_at base ino (1 - which)) else None
+
+-- Both slots of the inode are open, and this one loses: the other's turn follows its own. Open slots name at most 64 pages.
+pub record Loses (base ino which : ℕ) (old : List ℕ) : Type 0 where
+  pub area : base + 4195328 ≤ length old
+  pub low : 1 ≤ ino
+  pub high : ino ≤ 1024
+  pub place : which ≤ 1
+  pub mine : is_open old (slot_at base ino which) ≡ true
+  pub other : is_open old (slot_at base ino (1 - which)) ≡ true
+  pub next : IsNext (turn old (slot_at base ino which)) (turn old (slot_at base ino (1 - which)))
+  pub few : (i w : ℕ) → 1 ≤ i → i ≤ 1024 → w ≤ 1 → is_open old (slot_at base i w) ≡ true → pages_of (size old (slot_at base i w)) ≤ 64

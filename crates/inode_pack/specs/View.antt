@@ -1,8 +1,6 @@
 -- What an image of a pack stands for: for each inode nothing, or the version of the slot that counts.
-use Rattle.std.specs.Prelude.{ℕ, zero, suc, ◌+◌, ◌-◌, ◌*◌, ◌/◌, ◌%◌, ◌≤◌, ◌<◌, ◌≡◌, ◌≢◌, ◌⊎◌, ◌==◌, Bool, true, false, List, [], ◌∷◌, ◌++◌, length, take, drop, slice_index, Option, None, Some, if◌then◌else◌}
-use Rattle.disk_model.specs.Images.{bytes_at, overwritten}
-use Rattle.inode_pack.specs.declared.switching.Piece.{Piece}
-use Rattle.inode_pack.specs.Switch.{touches, written, opened}
+use Rattle.std.specs.Prelude.{ℕ, zero, suc, ◌+◌, ◌-◌, ◌*◌, ◌/◌, ◌%◌, ◌≤◌, ◌≡◌, ◌≢◌, ◌⊎◌, ◌==◌, Bool, true, false, List, [], ◌++◌, take, slice_index, Option, None, Some}
+use Rattle.disk_model.specs.Images.{bytes_at}
 
 -- the places of an inode's two slots and of a data page, in the area of a pack
 abbrev pub slot_at : ℕ → ℕ → ℕ → ℕ

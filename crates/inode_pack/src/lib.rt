@@ -2,8 +2,10 @@
 //! It knows bytes and slots, and nothing of sites that speak, instances or epochs.
 #![tactic(auto)]
 
+mod closing;
 mod replacing;
 mod switching;
 
+pub use closing::close_losing_gate;
 pub use replacing::replace_inode;
 pub use switching::{Piece, Pieces, switch};

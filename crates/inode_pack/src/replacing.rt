@@ -41,7 +41,7 @@ pub fn replace_inode<D: Disk>(
     switch(disk, pieces, gate, old_gate)
 }
 
-fn slot_place(base: u32, ino: u16, which: u8) -> u32
+pub(crate) fn slot_place(base: u32, ino: u16, which: u8) -> u32
     requires area { base + 4195328 < 2 ^ 32 }
     requires low { 1 ≤ ino }
     requires high { ino ≤ 1024 }

@@ -50,7 +50,7 @@ fn write_down<D: Disk>(disk: &mut D, pieces: &[Piece]) -> Result<(), DiskFault>
 }
 
 // Writes a gate and makes it durable.
-fn set_gate<D: Disk>(disk: &mut D, gate: u32, byte: u8) -> Result<(), DiskFault>
+pub(crate) fn set_gate<D: Disk>(disk: &mut D, gate: u32, byte: u8) -> Result<(), DiskFault>
     requires { gate < length (D.seen disk.old) }
     ensures written { OnOk result (D.seen disk.new ≡ overwritten (D.seen disk.old) gate (byte ∷ [])) }
     ensures durable { OnOk result (Only (D.seen disk.new) (D.may_leave disk.new)) }

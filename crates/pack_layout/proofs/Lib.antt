@@ -1,0 +1,3 @@
+pub mod Body
+pub mod Laws
+pub mod Slots

@@ -2,8 +2,15 @@
 //! says all of one inode. Only the code that mounts packs and commits to them calls it. It reads and writes no disk.
 #![tactic(auto)]
 
+mod check;
 mod places;
+mod read;
 mod slot;
+#[cfg(test)]
+mod tests;
+mod write;
 
 pub use places::{area_at, disk_len, page_at, slot_at};
+pub use read::read_slot;
 pub use slot::{BadSlot, Slot, newer};
+pub use write::write_body;

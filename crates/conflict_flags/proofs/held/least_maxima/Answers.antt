@@ -1,6 +1,5 @@
-use Rattle.std.proofs.Common.{◌≡◌, ◌-◌, true, sym, ◌∙◌, ap, arith, drop, List}
+use Rattle.std.proofs.Common.{◌≡◌, ◌-◌, true, sym, ◌∙◌, ap, arith, drop}
 use Rattle.std.specs.List.{filter}
-use Rattle.locus_ids.specs.declared.ids.Stamp.{Stamp}
 use Rattle.conflict_flags.specs.Copies.{is_maximal, by_stamp, stamps_of, least_of}
 use Rattle.conflict_flags.proofs.Ascending.{stamps_more}
 use Rattle.conflict_flags.proofs.held.least_maxima.Goals as goal

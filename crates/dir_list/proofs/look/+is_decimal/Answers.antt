@@ -1,4 +1,4 @@
-use Rattle.std.proofs.Common.{◌≡◌, ℕ, ◌+◌, ◌%◌, ◌≤◌, ◌<◌, sym, ◌∙◌, ap, arith, rules}
+use Rattle.std.proofs.Common.{◌∙◌, rules}
 use Rattle.dir_list.proofs.Digits.{no_digits, other_last, one_digit, more_digits}
 use Rattle.dir_list.proofs.look.+is_decimal.Goals as goal
 

@@ -1,8 +1,8 @@
-use Rattle.std.proofs.Common.{◌≡◌, ◌≤◌, ◌+◌, ap, sym, subst, ◌∙◌, List, ℕ, arith, length, take}
+use Rattle.std.proofs.Common.{◌≤◌, ◌+◌, ap, sym, subst, ◌∙◌, List, ℕ, arith, length}
 use Rattle.std.specs.Prelude.{Ok}
 use Rattle.disk_model.specs.Images.{overwritten, Torn}
 use Rattle.inode_pack.specs.declared.switching.Piece.{Piece}
-use Rattle.inode_pack.specs.Switch.{TornIn, written}
+use Rattle.inode_pack.specs.Switch.{TornIn}
 use Rattle.inode_pack.proofs.Moments.{goes_more}
 use Rattle.inode_pack.proofs.Pieces.{torn_widens, torn_joins, written_more, length-overwritten}
 use Rattle.inode_pack.proofs.Tells.{tells_one, tells_join}

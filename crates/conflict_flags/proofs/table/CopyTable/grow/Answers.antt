@@ -1,7 +1,6 @@
-use Rattle.std.proofs.Common.{rules, ◌≡◌, ◌-◌, ◌<◌, ◌≤◌, length, arith, ap, ◌∙◌, ℕ, List}
-use Rattle.locus_ids.specs.declared.ids.Stamp.{Stamp}
+use Rattle.std.proofs.Common.{rules, ◌≡◌, ◌-◌, ◌<◌, arith, ap, ◌∙◌, List}
 use Rattle.commit_graph.specs.declared.history.Version.{Version}
-use Rattle.version_vector.specs.Counters.{part, raised}
+use Rattle.version_vector.specs.Counters.{part}
 use Rattle.conflict_flags.specs.Copies.{stamps_of}
 use Rattle.conflict_flags.specs.Table.{Table}
 use Rattle.conflict_flags.proofs.Places.{room, lacks_memory, does_grow}

@@ -1,6 +1,5 @@
-use Rattle.std.proofs.Common.{rules, ◌≡◌, ◌+◌, ◌<◌, ◌≤◌, length, take, set, arith, ap, sym, ◌∙◌, List, ℕ}
+use Rattle.std.proofs.Common.{rules, ◌+◌, take, arith, ap, ◌∙◌, List, ℕ}
 use Rattle.conflict_flags.specs.declared.held.Held.{Held}
-use Rattle.conflict_flags.specs.Table.{present}
 use Rattle.conflict_flags.proofs.Places.{present_more, present_same}
 use Rattle.conflict_flags.proofs.table.Present.of.Goals as goal
 use Rattle.conflict_flags.proofs.table.Present.of.Goals.{in-Some, in_default}

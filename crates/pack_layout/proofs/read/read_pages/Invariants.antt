@@ -1,0 +1,9 @@
+use Rattle.std.proofs.Common.{◌≡◌, ◌-◌, take, length}
+use Rattle.field_codec.specs.Codec.{u16}
+use Rattle.field_codec.proofs.Loop.{with_front}
+use Rattle.pack_layout.proofs.Laws.{times}
+use Rattle.pack_layout.proofs.read.read_pages.Given as goal
+
+-- those so far and those still to be read are all
+abbrev pub invariant-loop-i : goal.invariant-loop-i
+invariant-loop-i l = (length l.pages ≡ 64) × (with_front (take l.i l.pages) (times u16 (64 - l.i) l.fields) ≡ times u16 64 l.initial.fields)

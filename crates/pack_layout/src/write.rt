@@ -1,0 +1,61 @@
+ghost use Rattle.std.specs.Prelude.{◌≡◌, ◌+◌, ◌*◌, ◌≤◌, ◌++◌, ◌∷◌, length, take, drop};
+ghost use Rattle.std.specs.List.{flat_map};
+ghost use Rattle.std.specs.Int.{w16, w32, to_be_bytes};
+ghost use Rattle.pack_layout.specs.Layout.{kind_number, slot_bytes};
+
+use crate::Slot;
+use locus_ids::Kind;
+
+/// The number of a kind.
+fn number_of(kind: Kind) -> u8
+    ensures { result ≡ kind_number kind }
+{
+    match kind {
+        Kind::File => 1,
+        Kind::Dir => 2,
+    }
+}
+
+/// Writes a field behind those that stand before it.
+fn put(out: &mut [u8], at: usize, field: &[u8])
+    requires { at + length field.now ≤ length out.old }
+    ensures { take (at + length field.now) out.new ≡ take at out.old ++ field.now }
+{
+    let end = at + field.len();
+    out[at..end].copy_from_slice(field);
+}
+
+/// Writes the counters of all sites.
+fn put_counters(out: &mut [u8], at: usize, counters: &[u32])
+    requires { at + 4 * length counters.now ≤ length out.old }
+    ensures { take (at + 4 * length counters.now) out.new ≡ take at out.old ++ flat_map (to_be_bytes w32) counters.now }
+{
+    for i in 0..counters.len() {
+        put(out, at + 4 * i, &counters[i].to_be_bytes());
+    }
+}
+
+/// Writes the numbers of all pages.
+fn put_pages(out: &mut [u8], at: usize, pages: &[u16])
+    requires { at + 2 * length pages.now ≤ length out.old }
+    ensures { take (at + 2 * length pages.now) out.new ≡ take at out.old ++ flat_map (to_be_bytes w16) pages.now }
+{
+    for i in 0..pages.len() {
+        put(out, at + 2 * i, &pages[i].to_be_bytes());
+    }
+}
+
+/// Writes a slot but for its gate, which stands before the rest and is written by itself.
+pub fn write_body(slot: &Slot, out: &mut [u8; 511])
+    ensures { out.new ≡ drop 1 (slot_bytes slot.now) }
+{
+    put(out, 0, &[slot.turn, number_of(slot.kind)]);
+    put(out, 2, &slot.ino.to_be_bytes());
+    put(out, 4, &slot.set.0.to_be_bytes());
+    put(out, 6, &slot.size.to_be_bytes());
+    put(out, 10, &[slot.stamp.site]);
+    put(out, 11, &slot.stamp.n.to_be_bytes());
+    put_counters(out, 15, &slot.vector.parts());
+    put_pages(out, 79, &slot.pages);
+    put(out, 207, &[0; 304]);
+}
