@@ -4,3 +4,4 @@ pub mod Digits
 pub mod Numbered
 pub mod Laws
 pub mod Paths
+pub mod OneByOne

@@ -2,6 +2,7 @@
 //! and put entries in place by this room. It knows nothing of versions, of calls or of who asks.
 #![tactic(auto)]
 
+mod decoding;
 mod encoding;
 mod look;
 mod place;
@@ -10,6 +11,7 @@ mod refusing;
 #[cfg(test)]
 mod tests;
 
+pub use decoding::decode;
 pub use encoding::encode;
 pub use look::{LookResult, lookup};
 pub use place::put;

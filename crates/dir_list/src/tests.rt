@@ -1,6 +1,6 @@
 ghost use Rattle.std.specs.Prelude.{◌≤◌, length, IfOk};
 
-use crate::{LookResult, encode, lookup, probe, put};
+use crate::{LookResult, decode, encode, lookup, probe, put};
 use locus_ids::{Bytes, ItemList, Kind, NoMemory, Refusal};
 use std::alloc::Global;
 use std::test::Fail;
@@ -70,6 +70,13 @@ fn entries_are_bytes(rt: HostRuntime) -> Result<(), Fail> {
     let bytes = encode(alloc, &dir)?;
     let wanted = b"\x01a\x00\x03\x02\x00\x00\x00\x01\x03xyz\x01\x02\x01\x00\x01\x00\x01";
     assert_eq!(rt; bytes.as_slice(), wanted.as_slice());
+    let again = decode(alloc, wanted)?;
+    assert_eq!(rt; again.len(), 2);
+    assert!(rt;
+        matches!(again.get(1), Some(entry) if entry.name.as_slice() == b"xyz" && entry.ino == 258)
+    );
+    let cut = decode(alloc, b"\x02ab\x01")?;
+    assert!(rt; matches!(cut.get(0), Some(entry) if entry.ino == 256 && entry.count == 0));
     Ok(())
 }
 

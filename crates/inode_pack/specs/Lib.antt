@@ -1,4 +1,7 @@
-pub mod Moments
-pub mod Replace
-pub mod Switch
-pub mod View
+pub mod Committing
+pub mod Format
+pub mod Losing
+pub mod Mounting
+pub mod Pack
+pub mod PagePieces
+pub mod Slots

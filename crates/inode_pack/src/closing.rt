@@ -1,33 +1,76 @@
-// Of two open slots of an inode the one that lost is closed.
-ghost use Rattle.std.specs.Prelude.{◌≡◌, ◌≤◌, ◌<◌, ◌+◌, ◌-◌, ◌^◌, ℕ, List, [], ◌∷◌, length, OnOk, false};
-ghost use Rattle.disk_model.specs.Images.{overwritten};
+// Of two open slots of an inode the one that doesn't count is closed.
+ghost use Rattle.std.specs.Prelude.{◌≡◌, ◌+◌, ◌-◌, ◌*◌, ◌≤◌, true, length, OnOk, IfSome, if◌then◌else◌};
 ghost use Rattle.disk_model.specs.Disk.{Only, HasCause};
-ghost use Rattle.inode_pack.specs.Moments.{LeavesOnly, TellsMany};
-ghost use Rattle.inode_pack.specs.View.{slot_at, SameView};
-ghost use Rattle.inode_pack.specs.Replace.{Loses};
+ghost use Rattle.pack_layout.specs.Layout.{area_length, slot_at};
+ghost use Rattle.inode_switch.specs.Replace.{Loses};
+ghost use Rattle.inode_switch.specs.View.{SameView};
+ghost use Rattle.inode_switch.specs.Moments.{LeavesOnly, TellsMany};
+ghost use Rattle.inode_pack.specs.Pack.{copy_of, ShowsCopies};
+ghost use Rattle.inode_pack.specs.Mounting.{losing_gates};
+ghost use Rattle.inode_pack.specs.Losing.{AreFound, IsClosing, KeepsCopies, closed_if, losing_slot};
 
-use crate::replacing::slot_place;
-use crate::switching::{CLOSED, set_gate};
+use crate::InodeCopy;
 use disk_model::{Disk, DiskFault};
+use inode_switch::close_losing_gate;
 
-/// Closes the gate of the slot that doesn't count, of an inode's two open slots, in the pack whose area begins at
-/// `base`. Whenever a crash comes, the pack stands for what it stood for before.
-pub fn close_losing_gate<D: Disk>(
+/// Closes all losing gates, inodes ascending.
+pub(crate) fn close_losing<D: Disk>(
+    disk: &mut D,
+    base: u32,
+    copies: &[Option<InodeCopy>],
+    losing: &[bool],
+) -> Result<(), DiskFault>
+    requires settled { Only (D.seen disk.old) (D.may_leave disk.old) }
+    requires area { base + area_length ≤ length (D.seen disk.old) }
+    requires copies { length copies.now ≡ 1024 }
+    requires losing { length losing.now ≡ 1024 }
+    requires found { AreFound base 1024 (D.seen disk.old) copies.now losing.now }
+    ensures any_moment { LeavesOnly D.now D.may_have_left disk.old disk.new (KeepsCopies base copies.now (D.seen disk.old)) }
+    ensures kept { OnOk result (KeepsCopies base copies.now (D.seen disk.old) (D.seen disk.new)) }
+    ensures shows { OnOk result (ShowsCopies base (D.seen disk.new) (copy_of copies.now)) }
+    ensures durable { OnOk result (Only (D.seen disk.new) (D.may_leave disk.new)) }
+    ensures cause { HasCause (D.faults disk.old) (D.faults disk.new) result }
+    ensures tells { TellsMany (2 * losing_gates base 1024 (D.seen disk.old)) (D.passing disk.old) (D.passing disk.new) result }
+{
+    for i in 0..1024 {
+        let which = losing_slot(&copies[usize::from(i)]);
+        close_one(disk, base, i + 1, which, losing[usize::from(i)])?;
+    }
+    Ok(())
+}
+
+/// The slot of an inode that isn't its copy's.
+fn losing_slot(copy: &Option<InodeCopy>) -> u8
+    requires { IfSome copy.now (λ one. one.which ≤ 1) }
+    ensures { result ≡ losing_slot copy.now }
+{
+    match copy {
+        Some(copy) => 1 - copy.which,
+        None => 0,
+    }
+}
+
+/// Closes the gate of a slot where it loses.
+fn close_one<D: Disk>(
     disk: &mut D,
     base: u32,
     ino: u16,
     which: u8,
+    loses: bool,
 ) -> Result<(), DiskFault>
     requires settled { Only (D.seen disk.old) (D.may_leave disk.old) }
-    requires short { base + 4195328 < 2 ^ 32 }
-    requires loses { Loses base ino which (D.seen disk.old) }
-    ensures any_moment { LeavesOnly D.now D.may_have_left disk.old disk.new (SameView base (D.seen disk.old)) }
-    ensures done { OnOk result (D.seen disk.new ≡ overwritten (D.seen disk.old) (slot_at base ino which) (0 ∷ [])) }
-    ensures same { OnOk result (SameView base (D.seen disk.old) (D.seen disk.new)) }
+    requires area { base + area_length ≤ length (D.seen disk.old) }
+    requires loses { loses ≡ true → Loses base ino which (D.seen disk.old) }
+    ensures any_moment { LeavesOnly D.now D.may_have_left disk.old disk.new (IsClosing base ino which loses (D.seen disk.old)) }
+    ensures done { OnOk result (D.seen disk.new ≡ closed_if loses (slot_at base ino which) (D.seen disk.old)) }
+    ensures view { OnOk result (SameView base (D.seen disk.old) (D.seen disk.new)) }
     ensures durable { OnOk result (Only (D.seen disk.new) (D.may_leave disk.new)) }
     ensures cause { HasCause (D.faults disk.old) (D.faults disk.new) result }
-    ensures tells { TellsMany 2 (D.passing disk.old) (D.passing disk.new) result }
+    ensures tells { TellsMany (if loses then 2 else 0) (D.passing disk.old) (D.passing disk.new) result }
 {
-    let gate = slot_place(base, ino, which);
-    set_gate(disk, gate, CLOSED)
+    if !loses {
+        return Ok(());
+    }
+    let _len = disk.len();
+    close_losing_gate(disk, base, ino, which)
 }

@@ -2,4 +2,5 @@ pub mod Feeds
 pub mod Lines
 pub mod Readers
 pub mod Told
+pub mod Whole
 pub mod Windows

@@ -9,6 +9,16 @@ abbrev pub lines_of : List ℕ → List (List ℕ)
 lines_of [] = []
 lines_of (b ∷ bs) = cond (b == 10) ([] ∷ lines_of bs) (onto_first b (lines_of bs))
 
+-- the byte at the front of the first line, if there is one
+abbrev pub onto_whole : ℕ → List (List ℕ) → List (List ℕ)
+onto_whole b [] = []
+onto_whole b (line ∷ lines) = (b ∷ line) ∷ lines
+
+-- the lines of some bytes that end with a line feed
+abbrev pub whole_lines : List ℕ → List (List ℕ)
+whole_lines [] = []
+whole_lines (b ∷ bs) = cond (b == 10) ([] ∷ whole_lines bs) (onto_whole b (whole_lines bs))
+
 -- the bytes before the first line feed, or all of them
 abbrev pub first_line : List ℕ → List ℕ
 first_line [] = []

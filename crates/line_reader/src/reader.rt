@@ -1,4 +1,4 @@
-ghost use Rattle.std.specs.Prelude.{◌≡◌, ℕ, ◌+◌, ◌≤◌, ◌<◌, List, [], length, take, drop, true, false, IfOk};
+ghost use Rattle.std.specs.Prelude.{◌≡◌, ℕ, ◌+◌, ◌≤◌, ◌<◌, List, [], length, take, drop, true, false, IfOk, OnErr};
 ghost use Rattle.std.specs.Io.KnownBytes.{Keeps, IsAtEnd};
 ghost use Rattle.locus_io.specs.Causes.{HasCause};
 ghost use Rattle.line_reader.specs.Reading.{has_feed, ReadsLine, IsLong};
@@ -92,7 +92,8 @@ impl LineReader {
     }
 
     /// Reads the next line. A last line may lack its line feed. It asks the source for bytes only where no line feed
-    /// stands among those that it has taken ahead. Where it reads no line, all that was to be read still is.
+    /// stands among those that it has taken ahead, so a fault finds no whole line there. Where it reads no line, all that
+    /// was to be read still is.
     pub fn next<S: Source>(&mut self, source: &mut S) -> Result<Next, ReadFault>
         ensures line { result ≡ Ok Next.Line → IfTold self.old self.new (S.left source.old) (S.left source.new) (ReadsLine self.new.line) }
         ensures short { result ≡ Ok Next.Line → length self.new.line ≤ self.old.limit }
@@ -106,6 +107,7 @@ impl LineReader {
         ensures stays { ¬ (result ≡ Ok Next.Line) → Stays self.old self.new (S.left source.old) (S.left source.new) }
         ensures limit { self.new.limit ≡ self.old.limit }
         ensures asks { has_feed self.old.ahead ≡ true → source.new ≡ source.old }
+        ensures part { OnErr result (has_feed self.new.ahead ≡ false) }
         ensures cause { HasCause (S.faults source.old) (S.faults source.new) result }
     {
         self.forget_line();
@@ -143,6 +145,7 @@ impl LineReader {
         ensures stays { Stays self.old self.new (S.left source.old) (S.left source.new) }
         ensures limit { self.new.limit ≡ self.old.limit }
         ensures asks { 0 < length self.old.ahead → source.new ≡ source.old }
+        ensures part { OnErr result (has_feed self.new.ahead ≡ false) }
         ensures cause { HasCause (S.faults source.old) (S.faults source.new) result }
     {
         if self.ahead().is_empty() && self.fill(source)? == 0 {
@@ -192,6 +195,7 @@ impl LineReader {
         requires line { self.old.line ≡ [] }
         ensures grown { IfOk result (λ n. length self.new.ahead ≡ length self.old.ahead + n) }
         ensures front { take (length self.old.ahead) self.new.ahead ≡ self.old.ahead }
+        ensures same { OnErr result (self.new.ahead ≡ self.old.ahead) }
         ensures end { IfOk result (λ n. n ≡ 0 → IsAtEnd (S.left source.new)) }
         ensures stays { Stays self.old self.new (S.left source.old) (S.left source.new) }
         ensures limit { self.new.limit ≡ self.old.limit }

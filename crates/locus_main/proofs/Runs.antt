@@ -6,15 +6,17 @@ use Rattle.std.specs.List.{onto_first}
 use Rattle.std.specs.Io.KnownBytes.{Appends, Keeps, IsAtEnd}
 use Rattle.trace_book.specs.Text.{text}
 use Rattle.tree_model.specs.declared.line.ScheduleLine.{ScheduleLine}
-use Rattle.tree_model.specs.Reading.{lines_of, IsSchedule}
+use Rattle.tree_model.specs.Reading.{IsSchedule}
 use Rattle.tree_model.specs.Trace.{Trace, told}
 use Rattle.one_site.specs.declared.runner.Runner.{Runner}
-use Rattle.one_site.specs.Standing.{Stands, Refuses}
-use Rattle.line_reader.specs.Reading.{to_read, Between, ReadsLine, IsLong, first_line, after_line}
-use Rattle.locus_main.specs.Runs.{IsWithinLimits, Writes, AreRun, IsWholeRun, StopsAtBad, StopsAtLong, StopsAtLimit, StopsBetween, WritesFront}
+use Rattle.one_site.specs.Standing.{StandsWell, Refuses}
+use Rattle.line_reader.specs.Reading.{lines_of, has_feed, to_read, Between, ReadsLine, IsLong, first_line, after_line}
+use Rattle.locus_main.specs.Runs.{IsWithinLimits, Writes, AreRun, IsWholeRun, StopsAtBad, StopsAtLong, StopsAtLimit, StopsAtFault, WritesFront}
 use Rattle.locus_main.specs.Turns.{Goes, IsCutShort}
 use Rattle.locus_main.proofs.Schedules.{IsSchedule-push, IsSchedule-length, IsWithinLimits-push}
-use Rattle.locus_main.proofs.Told.{ReadsLines, told-reverse, Appends-nothing, Appends-then, AppendsFront-whole, AppendsFront-kept, AppendsFront-then, Between-none, Between-line, Between-rest, Between-read, Between-end, IsAllRead, lines-same, lines-first, at_end, if_some}
+use Rattle.locus_main.proofs.Told.{ReadsLines, told-reverse, Appends-nothing, Appends-then, AppendsFront-whole, AppendsFront-kept, AppendsFront-then, Between-none, Between-line, Between-rest, Between-read, Between-end, IsAllRead, at_end, if_some}
+use Rattle.locus_main.proofs.Whole.{EndsLines, Between-ends-none, Between-ends-line, wholly_read}
+use Rattle.locus_main.proofs.Empty.{calm-none, answered-none, orderly-none, formed-none}
 
 -- the lines and the trace so far, of which the text is written
 pub record SoFar (r : Runner) (number : ℕ) (left0 left1 taken0 taken1 : Option (List ℕ)) : Type 0 where
@@ -23,12 +25,13 @@ pub record SoFar (r : Runner) (number : ℕ) (left0 left1 taken0 taken1 : Option
   pub schedule : IsSchedule bytes lines
   pub within : IsWithinLimits bytes
   pub trace : Trace
-  pub stands : Stands r lines trace
+  pub stands : StandsWell r lines trace
   pub written : Appends taken0 taken1 (told trace)
   pub counted : length bytes ≡ number
   pub read : Between left0 left1 (ReadsLines bytes)
+  pub whole : Between left0 left1 (EndsLines bytes)
 
-pub SoFar-start : (r : Runner) (a : Option (List ℕ)) (t : Option (List ℕ)) (n : ℕ) → n ≡ 0 → Stands r [] [] → SoFar r n a (to_read [] a) t t
+pub SoFar-start : (r : Runner) (a : Option (List ℕ)) (t : Option (List ℕ)) (n : ℕ) → n ≡ 0 → StandsWell r [] [] → SoFar r n a (to_read [] a) t t
 SoFar-start r a t n none stands = record {
   bytes = [];
   lines = [];
@@ -39,6 +42,7 @@ SoFar-start r a t n none stands = record {
   written = Appends-nothing t;
   counted = sym none;
   read = Between-none a;
+  whole = Between-ends-none a;
 }
 
 -- the number that the next line has
@@ -59,10 +63,11 @@ SoFar-next r r' n m line a b c t u v s e few short reads goes =
       written = rw (told-reverse goes.records s.trace) (Appends-then t u v (told s.trace) (text goes.records) s.written goes.written);
       counted = omega (arith, length-append s.bytes (line ∷ []), s.counted, e);
       read = Between-line a b c s.bytes line s.read reads;
+      whole = Between-ends-line a b c s.bytes line s.whole reads;
     }
 
 writes : (r : Runner) (n : ℕ) (a b t u : Option (List ℕ)) → (s : SoFar r n a b t u) → Writes s.lines t u
-writes r n a b t u s = record { trace = s.trace; lawful = s.stands.lawful; written = s.written }
+writes r n a b t u s = record { trace = s.trace; lawful = s.stands.stands.lawful; calm = s.stands.calm; answered = s.stands.answered; orderly = s.stands.orderly; formed = s.stands.formed; written = s.written }
 
 are_run : (r : Runner) (n : ℕ) (a b t u : Option (List ℕ)) → (s : SoFar r n a b t u) → AreRun s.bytes t u
 are_run r n a b t u s = record { lines = s.lines; schedule = s.schedule; within = s.within; writes = writes r n a b t u s }
@@ -79,7 +84,7 @@ Ends-whole r n a b ahead left t u s ends keeps enough = if_some a _ _ (Between-r
       at_end ahead left h.1 h.4 h.3.1,
       subst P (sym (all_of s.bytes input h.0 h.1 h.2 h.3)) (record {
         lines = s.lines;
-        accepted = record { schedule = s.schedule; ends = omega (arith, s.stands.place, enough); within = s.within };
+        accepted = record { schedule = s.schedule; ends = omega (arith, s.stands.stands.place, enough); within = s.within };
         writes = writes r n a b t u s;
       }),
     ))
@@ -98,7 +103,7 @@ Ends-short r n a b c t u line s ends keeps few e = if_some a _ _ (Between-rest a
         split = sym (append-nil s.bytes);
         number = omega (arith, s.counted, e);
         schedule = s.schedule;
-        bad = λ m. omega (arith, m, s.stands.place, few);
+        bad = λ m. omega (arith, m, s.stands.stands.place, few);
       };
       within = subst IsWithinLimits (sym all) s.within;
       writes = writes r n a b t u s;
@@ -109,7 +114,7 @@ pub Ends-bad : (r : Runner) (n : ℕ) (a b c t u : Option (List ℕ)) (line : Li
     SoFar r n a b t u → Between b c (ReadsLine line) → Refuses r line → number ≡ n + 1 → number ≤ 1000000 → length line ≤ 16384 → IfSome a (λ input. StopsAtBad (lines_of input) number t u)
 Ends-bad r n a b c t u line number s reads refuses e few short = if_some a _ _ (Between-rest a b c s.bytes (ReadsLine line) s.read reads) (λ input h.
     let P : List (List ℕ) → Type 0 = λ ls. StopsAtBad ls number t u in
-    let all : lines_of input ≡ s.bytes ++ line ∷ lines_of h.1 = h.2 ∙ ap (λ ls. s.bytes ++ ls) (lines-first line h.0 h.1 h.3) in
+    let all : lines_of input ≡ s.bytes ++ line ∷ lines_of h.1 = h.2 ∙ ap (λ ls. s.bytes ++ ls) h.3.lines in
     let front : take number (s.bytes ++ line ∷ lines_of h.1) ≡ s.bytes ++ line ∷ [] =
     ap (take number) (sym (append_assoc s.bytes (line ∷ []) (lines_of h.1))) ∙ take_at (s.bytes ++ line ∷ []) (lines_of h.1) number (omega (arith, s.counted, e, length-append s.bytes (line ∷ []))) in
     subst P (sym all) (record {
@@ -120,7 +125,7 @@ Ends-bad r n a b c t u line number s reads refuses e few short = if_some a _ _ (
         split = refl;
         number = omega (arith, s.counted, e);
         schedule = s.schedule;
-        bad = λ l q. refuses s.lines s.trace l s.stands q;
+        bad = λ l q. refuses s.lines s.trace l s.stands.stands q;
       };
       within = subst IsWithinLimits (sym front) (IsWithinLimits-push s.bytes line number s.within (omega (arith, s.counted, e)) few short);
       writes = writes r n a b t u s;
@@ -134,7 +139,7 @@ Ends-long r n a b c t u limit s long most early = if_some a _ _ (Between-rest a 
       earlier = s.bytes;
       line = first_line h.0;
       later = lines_of (after_line h.0);
-      split = h.2 ∙ ap (λ ls. s.bytes ++ ls) (sym (lines-same h.0) ∙ h.3.lines ∙ ap (λ ls. first_line h.0 ∷ ls) (lines-same (after_line h.0)));
+      split = h.2 ∙ ap (λ ls. s.bytes ++ ls) h.3.lines;
       few = omega (arith, s.counted, early);
       long = omega (arith, h.3.long, most);
       runs = are_run r n a b t u s;
@@ -165,10 +170,11 @@ Ends-many r n a b c t u s many full = if_some a _ _ (Between-rest a b c s.bytes 
       runs = are_run r n a b t u s;
     })
 
--- A read that failed.
-pub Ends-between : (r : Runner) (n : ℕ) (a b t u : Option (List ℕ)) → SoFar r n a b t u → IfSome a (λ input. StopsBetween (lines_of input) t u)
-Ends-between r n a b t u s = if_some a _ _ (Between-read a b s.bytes s.read) (λ input h.
-    record { earlier = s.bytes; later = h.0; split = h.1; runs = are_run r n a b t u s })
+-- A read that failed, where no line stands whole among the bytes that were taken ahead.
+pub Ends-fault : (r : Runner) (n : ℕ) (a b : Option (List ℕ)) (ahead : List ℕ) (left t u : Option (List ℕ)) →
+    SoFar r n a b t u → Keeps b (to_read ahead left) → has_feed ahead ≡ false → Between a left (λ input rest. StopsAtFault input rest t u)
+Ends-fault r n a b ahead left t u s keeps part = wholly_read a b ahead left s.bytes (λ input rest. StopsAtFault input rest t u) s.read s.whole keeps part
+    (λ input taken rest split whole. record { taken = taken; split = split; read = s.bytes; whole = whole; runs = are_run r n a b t u s })
 
 -- Whatever comes between two lines, a front is written.
 pub Ends-front : (r : Runner) (n : ℕ) (a b t u : Option (List ℕ)) → SoFar r n a b t u → IfSome a (λ input. WritesFront (lines_of input) t u)
@@ -180,7 +186,11 @@ Ends-front r n a b t u s = if_some a _ _ (Between-read a b s.bytes s.read) (λ i
       lines = s.lines;
       schedule = s.schedule;
       trace = s.trace;
-      lawful = s.stands.lawful;
+      lawful = s.stands.stands.lawful;
+      calm = s.stands.calm;
+      answered = s.stands.answered;
+      orderly = s.stands.orderly;
+      formed = s.stands.formed;
       written = AppendsFront-whole t u (told s.trace) s.written;
     })
 
@@ -188,7 +198,7 @@ Ends-front r n a b t u s = if_some a _ _ (Between-read a b s.bytes s.read) (λ i
 pub Ends-cut : (r : Runner) (n : ℕ) (m : ℕ) (line : List ℕ) (a b c t u v : Option (List ℕ)) →
     SoFar r n a b t u → m ≡ n + 1 → Between b c (ReadsLine line) → IsCutShort r m line u v → IfSome a (λ input. WritesFront (lines_of input) t v)
 Ends-cut r n m line a b c t u v s e reads cut = if_some a _ _ (Between-rest a b c s.bytes (ReadsLine line) s.read reads) (λ input h.
-    let all : lines_of input ≡ s.bytes ++ line ∷ lines_of h.1 = h.2 ∙ ap (λ ls. s.bytes ++ ls) (lines-first line h.0 h.1 h.3) in
+    let all : lines_of input ≡ s.bytes ++ line ∷ lines_of h.1 = h.2 ∙ ap (λ ls. s.bytes ++ ls) h.3.lines in
     ⊎_elim
     (λ keeps. record {
       earlier = s.bytes;
@@ -197,7 +207,11 @@ Ends-cut r n m line a b c t u v s e reads cut = if_some a _ _ (Between-rest a b 
       lines = s.lines;
       schedule = s.schedule;
       trace = s.trace;
-      lawful = s.stands.lawful;
+      lawful = s.stands.stands.lawful;
+      calm = s.stands.calm;
+      answered = s.stands.answered;
+      orderly = s.stands.orderly;
+      formed = s.stands.formed;
       written = AppendsFront-kept t u v (told s.trace) s.written keeps;
     })
     (λ part.
@@ -209,7 +223,11 @@ Ends-cut r n m line a b c t u v s e reads cut = if_some a _ _ (Between-rest a b 
       lines = s.lines ++ went.0 ∷ [];
       schedule = IsSchedule-push s.bytes s.lines line went.0 s.schedule went.1;
       trace = reverse part.records ++ s.trace;
-      lawful = went.2.lawful;
+      lawful = went.2.stands.lawful;
+      calm = went.2.calm;
+      answered = went.2.answered;
+      orderly = went.2.orderly;
+      formed = went.2.formed;
       written = rw (told-reverse part.records s.trace) (AppendsFront-then t u v (told s.trace) (text part.records) s.written part.written);
     })
     cut)
@@ -228,6 +246,10 @@ Nothing-front (Some x) t = record {
   lines = [];
   schedule = tt;
   trace = [];
-  lawful = record { each = tt; calls = λ earlier l later e begins. absurd (no_split earlier l later e) };
+  lawful = record { each = tt; once = λ earlier l later e begins. absurd (no_split earlier l later e) };
+  calm = calm-none;
+  answered = answered-none;
+  orderly = orderly-none;
+  formed = formed-none;
   written = AppendsFront-whole t t [] (Appends-nothing t);
 }

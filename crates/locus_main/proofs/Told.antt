@@ -1,5 +1,5 @@
 -- Bytes that are told or not, and the text of a trace that goes on.
-use Rattle.std.proofs.Common.{◌≡◌, ℕ, ◌+◌, take, List, [], ◌∷◌, ◌++◌, Option, Some, None, length, reverse, cond, eqb, refl, ap, sym, ◌∙◌, arith, append_assoc}
+use Rattle.std.proofs.Common.{◌≡◌, ℕ, ◌+◌, take, List, [], ◌∷◌, ◌++◌, Option, Some, None, length, reverse, refl, ap, sym, ◌∙◌, arith, append_assoc}
 use Rattle.std.proofs.lemmas.List.{append-nil, take_all}
 use Rattle.std.proofs.lemmas.Grind.{reverse_onto}
 use Rattle.std.proofs.Math.Seq.{take-append-add}
@@ -9,9 +9,7 @@ use Rattle.locus_io.specs.Causes.{AppendsFront}
 use Rattle.trace_book.specs.declared.book.Entry.{Entry}
 use Rattle.trace_book.specs.Text.{text, entry_text}
 use Rattle.tree_model.specs.Trace.{Trace, told}
-use Rattle.tree_model.specs.Reading.{lines_of}
-use Rattle.std.specs.List.{onto_first}
-use Rattle.line_reader.specs.Reading.{to_read, Between, ReadsLine, lines_of as read_lines}
+use Rattle.line_reader.specs.Reading.{to_read, Between, ReadsLine, lines_of}
 
 told-append : (xs : List Entry) (ys : List Entry) → told (xs ++ ys) ≡ told ys ++ told xs
 told-append [] ys = sym (append-nil (told ys))
@@ -62,21 +60,12 @@ pub Between-none : (a : Option (List ℕ)) → Between a (to_read [] a) (ReadsLi
 Between-none None = tt
 Between-none (Some xs) = refl
 
--- the reader's lines are the schedule's
-pub lines-same : (xs : List ℕ) → read_lines xs ≡ lines_of xs
-lines-same [] = refl
-lines-same (b ∷ bs) = ap (λ ls. cond (eqb b 10) ([] ∷ ls) (onto_first b ls)) (lines-same bs)
-
--- what is left after the first line is read
-pub lines-first : (line xs ys : List ℕ) → ReadsLine line xs ys → lines_of xs ≡ line ∷ lines_of ys
-lines-first line xs ys h = sym (lines-same xs) ∙ h.lines ∙ ap (λ ls. line ∷ ls) (lines-same ys)
-
 pub Between-line : (a : Option (List ℕ)) (b : Option (List ℕ)) (c : Option (List ℕ)) (lines : List (List ℕ)) (line : List ℕ) →
     Between a b (ReadsLines lines) → Between b c (ReadsLine line) → Between a c (ReadsLines (lines ++ line ∷ []))
 Between-line None b c lines line p q = tt
 Between-line (Some x) None c lines line p q = absurd p
 Between-line (Some x) (Some y) None lines line p q = absurd q
-Between-line (Some x) (Some y) (Some z) lines line p q = p ∙ ap (λ s. lines ++ s) (lines-first line y z q) ∙ sym (append_assoc lines (line ∷ []) (lines_of z))
+Between-line (Some x) (Some y) (Some z) lines line p q = p ∙ ap (λ s. lines ++ s) q.lines ∙ sym (append_assoc lines (line ∷ []) (lines_of z))
 
 -- nothing was to be read
 abbrev pub IsAllRead : List ℕ → List ℕ → Type 0

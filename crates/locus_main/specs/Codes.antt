@@ -1,5 +1,5 @@
 -- What a status is to the program's caller.
-use Rattle.std.specs.Prelude.{ℕ, List, codes}
+use Rattle.std.specs.Prelude.{ℕ, Bool, true, false, List, codes}
 use Rattle.locus_io.specs.declared.traits.WriteFault.{WriteFault}
 use Rattle.locus_io.specs.declared.traits.WriteFault.TheVariants as write
 use Rattle.locus_main.specs.declared.status.Status.{Status}
@@ -16,6 +16,16 @@ code_of status.ReadFault = 4
 code_of status.WriteFault = 5
 code_of status.NoMemory = 6
 code_of (status.Limit what) = 7
+
+-- a run that ends so was not cut short while it wrote
+abbrev pub ends_written : Status → Bool
+ends_written status.Ok = true
+ends_written status.BadWords = true
+ends_written (status.BadLine line) = true
+ends_written status.ReadFault = true
+ends_written status.WriteFault = false
+ends_written status.NoMemory = false
+ends_written (status.Limit what) = true
 
 -- a limit's name in a message
 abbrev pub limit_word : Limited → List ℕ

@@ -1,5 +1,5 @@
 -- What a run of a schedule has written when it ends, and where it ends.
-use Rattle.std.specs.Prelude.{ℕ, ◌≡◌, ◌<◌, ◌≤◌, List, ◌∷◌, ◌++◌, length, take}
+use Rattle.std.specs.Prelude.{ℕ, ◌≡◌, ◌<◌, ◌≤◌, ◌⊎◌, List, [], ◌∷◌, ◌++◌, length, take}
 use Rattle.std.specs.declared.option.Option.{Option}
 use Rattle.std.specs.List.{AllByRecursion}
 use Rattle.std.specs.Io.KnownBytes.{Appends}
@@ -8,16 +8,25 @@ use Rattle.tree_model.specs.declared.line.ScheduleLine.{ScheduleLine}
 use Rattle.tree_model.specs.Reading.{IsSchedule, MayEnd, IsFirstBad}
 use Rattle.tree_model.specs.Trace.{Trace, told}
 use Rattle.tree_model.specs.Lawful.{IsLawful}
+use Rattle.tree_model.specs.Calm.{CalmRoundsAnswer}
+use Rattle.tree_model.specs.Orderly.{OrderlyBlocksForm}
+use Rattle.one_site.specs.Rounds.{RoundsAreCalm, RoundsAreOrderly}
+use Rattle.line_reader.specs.Reading.{lines_of, whole_lines}
 
 -- there are at most 1,000,000 lines, of at most 16,384 bytes each
 pub record IsWithinLimits (lines : List (List ℕ)) : Type 0 where
   pub few : length lines ≤ 1000000
   pub short : AllByRecursion (λ line. length line ≤ 16384) lines
 
--- the text of a lawful trace of these lines is written
+-- The text of a lawful trace of these lines is written, in which each round is calm and the lines up to it are orderly,
+-- calm rounds leave no call of a member waiting, and orderly blocks form their epochs.
 pub record Writes (lines : List ScheduleLine) (before after : Option (List ℕ)) : Type 0 where
   pub trace : Trace
   pub lawful : IsLawful lines trace
+  pub calm : RoundsAreCalm lines trace
+  pub answered : CalmRoundsAnswer lines trace
+  pub orderly : RoundsAreOrderly lines trace
+  pub formed : OrderlyBlocksForm lines trace
   pub written : Appends before after (told trace)
 
 -- the lines of bytes are a schedule, and the text of a lawful trace of it is written
@@ -65,14 +74,16 @@ pub record StopsAtLimit (all : List (List ℕ)) (before after : Option (List ℕ
   pub more : 0 < length later
   pub runs : AreRun earlier before after
 
--- the run stops between two lines
-pub record StopsBetween (all : List (List ℕ)) (before after : Option (List ℕ)) : Type 0 where
-  pub earlier : List (List ℕ)
-  pub later : List (List ℕ)
-  pub split : all ≡ earlier ++ later
-  pub runs : AreRun earlier before after
+-- The run stops where the source fails. Of the bytes that were taken from it, the lines that end with a line feed were
+-- run; where the source has nothing left, perhaps a last line without one too.
+pub record StopsAtFault (input left : List ℕ) (before after : Option (List ℕ)) : Type 0 where
+  pub taken : List ℕ
+  pub split : input ≡ taken ++ left
+  pub read : List (List ℕ)
+  pub whole : (read ≡ whole_lines taken) ⊎ ((left ≡ []) × (read ≡ lines_of taken))
+  pub runs : AreRun read before after
 
--- a front of the text of a lawful trace of some first lines is written
+-- a front of the text of such a trace of some first lines is written
 pub record WritesFront (all : List (List ℕ)) (before after : Option (List ℕ)) : Type 0 where
   pub earlier : List (List ℕ)
   pub later : List (List ℕ)
@@ -81,4 +92,8 @@ pub record WritesFront (all : List (List ℕ)) (before after : Option (List ℕ)
   pub schedule : IsSchedule earlier lines
   pub trace : Trace
   pub lawful : IsLawful lines trace
+  pub calm : RoundsAreCalm lines trace
+  pub answered : CalmRoundsAnswer lines trace
+  pub orderly : RoundsAreOrderly lines trace
+  pub formed : OrderlyBlocksForm lines trace
   pub written : AppendsFront before after (told trace)

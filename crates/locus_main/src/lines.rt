@@ -1,6 +1,6 @@
 ghost use Rattle.std.specs.Prelude.{◌≡◌, [], ◌≤◌, ◌<◌, ◌+◌, ◌⊎◌, length, OnErr, true, false};
 ghost use Rattle.locus_io.specs.Causes.{Rose};
-ghost use Rattle.line_reader.specs.Reading.{ReadsLine, IsLong};
+ghost use Rattle.line_reader.specs.Reading.{ReadsLine, IsLong, has_feed};
 ghost use Rattle.line_reader.specs.Readers.{IfTold, Stays};
 
 use crate::status::{Limited, Status};
@@ -22,6 +22,8 @@ pub fn next_line<S: Source>(reader: &mut LineReader, source: &mut S) -> Result<b
     ensures many { result ≡ Err (Status.Limit Limited.Lines) → IfTold reader.old reader.new (S.left source.old) (S.left source.new) (λ xs ys. 0 < length xs) }
     ensures full { result ≡ Err (Status.Limit Limited.Lines) → reader.old.number ≡ 1000000 }
     ensures fault { result ≡ Err Status.ReadFault → Rose (S.faults source.old) (S.faults source.new) }
+    ensures kept { result ≡ Err Status.ReadFault → Stays reader.old reader.new (S.left source.old) (S.left source.new) }
+    ensures part { result ≡ Err Status.ReadFault → has_feed reader.new.ahead ≡ false }
     ensures only { OnErr result ((result ≡ Err Status.ReadFault) ⊎ (result ≡ Err (Status.Limit Limited.Line)) ⊎ (result ≡ Err (Status.Limit Limited.Lines))) }
     ensures later { S.faults source.old ≤ S.faults source.new }
 {

@@ -89,6 +89,21 @@ fn a_first_read_that_fails_writes_nothing(rt: HostRuntime) -> Result<(), Fail> {
 }
 
 #[test]
+fn a_later_read_that_fails_keeps_the_whole_lines(rt: HostRuntime) -> Result<(), Fail> {
+    let alloc = rt.alloc();
+    let mut bytes = Bytes::from_slice(alloc, HEADER)?;
+    bytes.append(b"call 1 1 create /f")?;
+    let mut source = MemSource::new(alloc, bytes, Bytes::from_slice(alloc, &[2])?);
+    let mut sink = SureSink::new(alloc);
+    let words = words_of(alloc, &[b"run".as_slice()])?;
+    let status = locus(alloc, &words, &mut source, &mut sink);
+    let whole = run_on(alloc, &[b"run".as_slice()], HEADER)?.1;
+    assert_eq!(rt; status, Status::ReadFault);
+    assert_eq!(rt; sink.bytes(), whole.bytes());
+    Ok(())
+}
+
+#[test]
 fn a_first_write_that_fails_writes_nothing(rt: HostRuntime) -> Result<(), Fail> {
     let alloc = rt.alloc();
     let mut source = SureSource::new(alloc, Bytes::from_slice(alloc, HEADER)?);

@@ -1,10 +1,11 @@
-ghost use Rattle.std.specs.Prelude.{◌≡◌, ◌≢◌, ℕ, ◌≤◌, ◌<◌, ◌+◌, ◌⊎◌, ◌∷◌, ◌↔◌, [], List, codes, IfSome, Some};
+ghost use Rattle.std.specs.Prelude.{◌≡◌, ◌≢◌, ℕ, ◌≤◌, ◌<◌, ◌+◌, ◌⊎◌, ◌∷◌, ◌↔◌, [], List, codes, IfSome, Some, true};
 ghost use Rattle.std.specs.Io.KnownBytes.{IsAtEnd};
 ghost use Rattle.locus_io.specs.Causes.{Rose};
-ghost use Rattle.tree_model.specs.Reading.{lines_of};
+ghost use Rattle.line_reader.specs.Reading.{lines_of, Between};
 ghost use Rattle.tree_model.specs.declared.line.ScheduleLine.{ScheduleLine};
-ghost use Rattle.one_site.specs.Standing.{Stands, IsSmall};
-ghost use Rattle.locus_main.specs.Runs.{IsAccepted, IsWholeRun, StopsAtBad, StopsAtLong, StopsAtLimit, StopsBetween, WritesFront};
+ghost use Rattle.one_site.specs.Standing.{StandsWell, IsSmall};
+ghost use Rattle.locus_main.specs.Codes.{ends_written};
+ghost use Rattle.locus_main.specs.Runs.{IsAccepted, IsWholeRun, StopsAtBad, StopsAtLong, StopsAtLimit, StopsAtFault, WritesFront};
 
 use crate::lines::next_line;
 use crate::status::{Limited, Status};
@@ -25,16 +26,18 @@ pub fn locus<S: Source, K: Sink>(
     source: &mut S,
     sink: &mut K,
 ) -> Status
-    // The whole input is a schedule, and the text of a lawful trace of its lines is written.
+    // The whole input is a schedule, and the text of a lawful trace of its lines is written and flushed. Where a run ends
+    // otherwise, but not within a write, either nothing was given or all is flushed.
     ensures whole { result ≡ Status.Ok → IfSome (S.left source.old) (λ input. IsAtEnd (S.left source.new) × IsWholeRun (lines_of input) (K.taken sink.old) (K.taken sink.new)) }
     ensures flushed { result ≡ Status.Ok → K.flushed sink.new ≡ K.taken sink.new }
+    ensures nothing_held { ends_written result ≡ true → (sink.new ≡ sink.old) ⊎ (K.flushed sink.new ≡ K.taken sink.new) }
 
     // Why a run ends otherwise, and what is written then.
     ensures words { (result ≡ Status.BadWords) ↔ (words.now ≢ codes "run" ∷ []) }
     ensures untouched { result ≡ Status.BadWords → (source.new ≡ source.old) × (sink.new ≡ sink.old) }
     ensures bad_line { (line : ℕ) → result ≡ Status.BadLine line → IfSome (S.left source.old) (λ input. StopsAtBad (lines_of input) line (K.taken sink.old) (K.taken sink.new)) }
     ensures read_fault { result ≡ Status.ReadFault → Rose (S.faults source.old) (S.faults source.new) }
-    ensures cut_off { result ≡ Status.ReadFault → IfSome (S.left source.old) (λ input. StopsBetween (lines_of input) (K.taken sink.old) (K.taken sink.new)) }
+    ensures cut_off { result ≡ Status.ReadFault → Between (S.left source.old) (S.left source.new) (λ input left. StopsAtFault input left (K.taken sink.old) (K.taken sink.new)) }
     ensures write_fault { result ≡ Status.WriteFault → Rose (K.faults sink.old) (K.faults sink.new) }
     ensures long_line { result ≡ Status.Limit Limited.Line → IfSome (S.left source.old) (λ input. StopsAtLong (lines_of input) (K.taken sink.old) (K.taken sink.new)) }
     ensures many_lines { result ≡ Status.Limit Limited.Lines → IfSome (S.left source.old) (λ input. StopsAtLimit (lines_of input) (K.taken sink.old) (K.taken sink.new)) }
@@ -67,16 +70,17 @@ fn run<S: Source, K: Sink>(
     source: &mut S,
     sink: &mut K,
 ) -> Status
-    requires stands { Stands runner.old [] [] }
+    requires stands { StandsWell runner.old [] [] }
     requires small { IsSmall runner.old }
     requires start { runner.old.place ≡ 0 }
     requires unread { reader.old ≡ record { ahead = []; line = []; number = 0; limit = 16384 } }
     ensures whole { result ≡ Status.Ok → IfSome (S.left source.old) (λ input. IsAtEnd (S.left source.new) × IsWholeRun (lines_of input) (K.taken sink.old) (K.taken sink.new)) }
     ensures flushed { result ≡ Status.Ok → K.flushed sink.new ≡ K.taken sink.new }
+    ensures nothing_held { ends_written result ≡ true → (sink.new ≡ sink.old) ⊎ (K.flushed sink.new ≡ K.taken sink.new) }
     ensures words { result ≢ Status.BadWords }
     ensures bad_line { (line : ℕ) → result ≡ Status.BadLine line → IfSome (S.left source.old) (λ input. StopsAtBad (lines_of input) line (K.taken sink.old) (K.taken sink.new)) }
     ensures read_fault { result ≡ Status.ReadFault → Rose (S.faults source.old) (S.faults source.new) }
-    ensures cut_off { result ≡ Status.ReadFault → IfSome (S.left source.old) (λ input. StopsBetween (lines_of input) (K.taken sink.old) (K.taken sink.new)) }
+    ensures cut_off { result ≡ Status.ReadFault → Between (S.left source.old) (S.left source.new) (λ input left. StopsAtFault input left (K.taken sink.old) (K.taken sink.new)) }
     ensures write_fault { result ≡ Status.WriteFault → Rose (K.faults sink.old) (K.faults sink.new) }
     ensures long_line { result ≡ Status.Limit Limited.Line → IfSome (S.left source.old) (λ input. StopsAtLong (lines_of input) (K.taken sink.old) (K.taken sink.new)) }
     ensures many_lines { result ≡ Status.Limit Limited.Lines → IfSome (S.left source.old) (λ input. StopsAtLimit (lines_of input) (K.taken sink.old) (K.taken sink.new)) }

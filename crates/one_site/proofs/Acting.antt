@@ -1,6 +1,5 @@
 -- Operations, releases and published versions.
 use Rattle.std.proofs.Common.{◌≡◌, ◌<◌, ◌+◌, ◌++◌, ◌∷◌, ℕ, true, false, cond, ◌&&◌, List, [], filter, Option, None, Some, refl, sym, ap, ◌∙◌, subst, arith, ⊎_elim}
-use Rattle.std.specs.List.{Contains}
 use Rattle.std.proofs.lemmas.Bool.Decides.{eqb_tells}
 use Rattle.locus_ids.specs.declared.ids.FileId.{FileId}
 use Rattle.locus_ids.specs.declared.ids.Stamp.{Stamp}
@@ -20,7 +19,8 @@ use Rattle.tree_model.specs.declared.instance.Waiting.{Waiting}
 use Rattle.tree_model.specs.Trace.{Trace, descriptor, is_taken, held, history, candidates, call_of_act, call_of_release, is_call}
 use Rattle.tree_model.specs.Tree.{is_named, is_writer, where_it, without_it, acted, committed, made_by_close, result_on}
 use Rattle.tree_model.specs.Calls.{outcome_answer}
-use Rattle.tree_model.specs.Lawful.{MayCommit, MayRelease, IsStepOf, IsStep, parents_of, list_of}
+use Rattle.tree_model.specs.Lawful.{MayCommit, MayRelease, IsStepOf, IsStep, parents_of}
+use Rattle.tree_model.specs.OneTree.{first_of, list_of}
 use Rattle.one_site.specs.declared.files.FileState.{FileState}
 use Rattle.one_site.specs.Ids.{one_site, the_epoch, call_id, file_of, stamp_of, stamp_no}
 use Rattle.one_site.specs.Files.{KnowsInode, KnowsFile, file_at}
@@ -55,24 +55,20 @@ did s result named passing = record s { so_far = s.so_far ++ outcome_answer resu
 -- an open instance executes an operation
 pub Good-act : (p : Place) (s : Site) (t : Trace) (w : Waiting) (i : Serial) (n : ℕ) (o : Op) (result : Outcome) (x : Instance) (named passing : List Instance)
     → Good p s t → s.current ≡ Some w
-    → Contains (s.named ++ s.passing) x → is_named the_epoch i x ≡ true → n ≡ x.ops + 1 → x.file.group ≡ 0
+    → first_of (is_named the_epoch i) (s.named ++ s.passing) ≡ Some x → n ≡ x.ops + 1 → x.file.group ≡ 0
     → call_of_act t the_epoch i n ≡ Some (call_id s.accepted)
     → wants [] (lowest_free (descriptor t 1 1)) w.words w.beginning s.so_far ≡ Do i o
     → result_on o x ≡ Some result
     → where_it (is_named the_epoch i) (acted one_site t n o result) (s.named ++ s.passing) ≡ named ++ passing
     → Good p (did s result named passing) (with_record p (told.Act the_epoch i n o result) t)
-Good-act p s t w i n o result x named passing g now among is_it next group owned asked gives tree_now =
+Good-act p s t w i n o result x named passing g now is_it next group owned asked gives tree_now =
     let k = g.known in
     let c = k.current w now in
     let r : Record = told.Act the_epoch i n o result in
     Good-record p s (did s result named passing) t r g
     (record {
-      instance = x;
-      among = rw k.tree among;
-      named = is_it;
-      next = next;
+      gives = record { instance = x; named = rw k.tree is_it; next = next; gives = gives };
       step = IsStepOf-now s t w x (call_of_act t the_epoch i n) (Do i o) k now group owned asked;
-      gives = gives;
     })
     (record {
       world = k.world;
@@ -107,24 +103,19 @@ candidates-nothing p t i f ino = cond-same (same_file f (file_of ino)) (candidat
 -- an instance that committed nothing is released
 pub Good-release : (p : Place) (s : Site) (t : Trace) (w : Waiting) (i : Serial) (x : Instance) (named passing : List Instance)
     → Good p s t → s.current ≡ Some w
-    → Contains (s.named ++ s.passing) x → is_named the_epoch i x ≡ true → x.owes ≡ false → x.committed ≡ None → x.file.group ≡ 0
+    → first_of (is_named the_epoch i) (s.named ++ s.passing) ≡ Some x → x.owes ≡ false → x.committed ≡ None → x.file.group ≡ 0
     → call_of_release t the_epoch i ≡ Some (call_id s.accepted)
     → wants [] (lowest_free (descriptor t 1 1)) w.words w.beginning s.so_far ≡ Close i
     → made_by_close the_epoch i None (s.named ++ s.passing) ≡ None
     → without_it (is_named the_epoch i) (s.named ++ s.passing) ≡ named ++ passing
     → Good p (ended s None named passing) (with_record p (told.Release the_epoch i x.file None) t)
-Good-release p s t w i x named passing g now among is_it paid nothing group owned asked made tree_now =
+Good-release p s t w i x named passing g now is_it paid nothing group owned asked made tree_now =
     let k = g.known in
     let c = k.current w now in
     let r : Record = told.Release the_epoch i x.file None in
     Good-record p s (ended s None named passing) t r g
     (record {
-      instance = x;
-      among = rw k.tree among;
-      named = is_it;
-      file = refl;
-      paid = paid;
-      published = sym nothing;
+      gives = record { instance = x; named = rw k.tree is_it; file = refl; paid = paid; published = sym nothing };
       step = IsStepOf-now s t w x (call_of_release t the_epoch i) (Close i) k now group owned asked;
     })
     (record {
@@ -172,8 +163,7 @@ pub Good-publish : (p : Place) (s : Site) (t : Trace) (w : Waiting) (i : Serial)
     → ((other : ℕ) → (ino ≡ other → ⊥) → file_at files other ≡ file_at s.files other)
     → filter (is_writer (Some the_epoch) (file_of ino)) (s.named ++ s.passing) ≡ x ∷ []
     → x.file ≡ file_of ino → x.ss ≡ 1 → x.owes ≡ true → x.last ≡ Some (stamp_of st.n) → parents_of one_site t x ≡ list_of x.last
-    → Contains (where_it (is_writer (Some the_epoch) (file_of ino)) (committed (stamp_no (st.n + 1))) (s.named ++ s.passing)) (committed (stamp_no (st.n + 1)) x)
-    → is_named the_epoch i x ≡ true
+    → first_of (is_named the_epoch i) (where_it (is_writer (Some the_epoch) (file_of ino)) (committed (stamp_no (st.n + 1))) (s.named ++ s.passing)) ≡ Some (committed (stamp_no (st.n + 1)) x)
     → call_of_release t the_epoch i ≡ Some (call_id s.accepted)
     → wants [] (lowest_free (descriptor t 1 1)) w.words w.beginning s.so_far ≡ Close i
     → made_by_close the_epoch i (Some (stamp_no (st.n + 1))) (where_it (is_writer (Some the_epoch) (file_of ino)) (committed (stamp_no (st.n + 1))) (s.named ++ s.passing)) ≡ Some (stamp_no (st.n + 1))
@@ -181,7 +171,7 @@ pub Good-publish : (p : Place) (s : Site) (t : Trace) (w : Waiting) (i : Serial)
     → Good p (published s (st.n + 1) files named passing)
     (with_record p (told.Release the_epoch i (file_of ino) (Some (stamp_no (st.n + 1))))
     (with_record p (told.Commit (file_of ino) 1 (stamp_no (st.n + 1)) (stamp_of st.n ∷ []) x.content) t))
-Good-publish p s t w i ino st x files named passing g now there new others one file ss owes last parents among is_it owned asked made tree_now =
+Good-publish p s t w i ino st x files named passing g now there new others one file ss owes last parents is_it owned asked made tree_now =
     let k = g.known in
     let c = k.current w now in
     let stamp : Stamp = stamp_no (st.n + 1) in
@@ -204,12 +194,7 @@ Good-publish p s t w i ino st x files named passing g now there new others one f
       numbered = ap stamp_no (sym number);
     } in
     let releases : MayRelease one_site then the_epoch i (file_of ino) (Some (stamp_no (st.n + 1))) = record {
-      instance = committed (stamp_no (st.n + 1)) x;
-      among = rw (k.world.2, k.tree) among;
-      named = is_it;
-      file = file;
-      paid = refl;
-      published = refl;
+      gives = record { instance = committed (stamp_no (st.n + 1)) x; named = rw (k.world.2, k.tree) is_it; file = file; paid = refl; published = refl };
       step = record {
         call = call_id s.accepted;
         owned = owned;

@@ -7,6 +7,7 @@ use Rattle.locus_ids.specs.declared.ids.Mode.{Mode}
 use Rattle.locus_ids.specs.declared.refusal.Refusal.{Refusal}
 use Rattle.std.proofs.lemmas.Bool.{false≢true}
 use Rattle.locus_ids.specs.declared.ids.CallId.{CallId}
+use Rattle.locus_ids.specs.declared.ids.Serial.{Serial}
 use Rattle.commit_graph.specs.declared.history.Version.{Version}
 use Rattle.commit_graph.specs.Grants.{grant_refusal}
 use Rattle.trace_book.specs.Scripts.{wants, Look, Open, Answer, Opened, Refused, mode_of}
@@ -19,10 +20,11 @@ use Rattle.trace_book.specs.declared.operation.What.{What}
 use Rattle.trace_book.specs.declared.operation.Served.{Served}
 use Rattle.tree_model.specs.declared.instance.Instance.{Instance}
 use Rattle.tree_model.specs.declared.instance.Waiting.{Waiting}
-use Rattle.tree_model.specs.Trace.{Trace, descriptor, kept_in, is_taken, held, history, candidates}
-use Rattle.tree_model.specs.Tree.{opened, openers}
-use Rattle.tree_model.specs.Calls.{wants_next, wants_after, look_answer, answers}
-use Rattle.tree_model.specs.Lawful.{served_by, GrantRow, MayGrant, RefuseRow, MayRefuse}
+use Rattle.tree_model.specs.Trace.{Trace, descriptor, kept_in, is_taken, held, held_in, history, candidates}
+use Rattle.tree_model.specs.Tree.{tree, opened, openers}
+use Rattle.tree_model.specs.Calls.{wants_next, wants_after, look_answer, granted_answer, answers}
+use Rattle.tree_model.specs.Lawful.{AsksOpen}
+use Rattle.tree_model.specs.OneTree.{served_by, open_refusal, IsUnnumbered, Placed, list_of}
 use Rattle.one_site.specs.declared.files.FileState.{FileState}
 use Rattle.one_site.specs.Ids.{one_site, the_epoch, call_id, serial_of, file_of, stamp_of}
 use Rattle.one_site.specs.Files.{KnowsInode, KnowsFile, file_at}
@@ -54,7 +56,7 @@ Good-look p s t w f what result so_far g now unanswered group asked served found
     let asks : wants_after one_site t (call_id s.accepted) (take 0 (answers one_site t (call_id s.accepted))) ≡ Look f what =
     ap (λ a. wants_after one_site t (call_id s.accepted) (take 0 a)) none ∙ ap (λ a. wants_after one_site t (call_id s.accepted) a) (sym none) ∙ asks_now in
     Good-record p s (answered s so_far) t r g
-    (record { step = rw group step; asked = asks; numbered = inl (rw none refl); served = served })
+    (record { gives = record { started = rw group k.world.5; served = served }; step = rw group step; asked = asks; numbered = inl (rw none refl) })
     (record {
       world = k.world;
       accepted = k.accepted;
@@ -76,23 +78,47 @@ Good-look p s t w f what result so_far g now unanswered group asked served found
       files = k.files;
     })
 
--- an open is refused by its own row, and granted by one where it isn't a resolution
-pub RefuseRow-of : (t : Trace) (call : CallId) (how : OpenMode) (f : FileId) (why : Refusal)
-    → MayRefuse one_site t the_epoch call (mode_of how) f why → RefuseRow one_site t the_epoch call (mode_of how) f why
-RefuseRow-of t call how.Read f why row = row
-RefuseRow-of t call how.Write f why row = row
-RefuseRow-of t call (how.Resolve site) f why row = row
+-- what a user's open asks, and what may refuse it besides the open instances and the kept versions
+asks-user : (t : Trace) (call : CallId) (how : OpenMode) (f : FileId) → wants_next one_site t call ≡ Open f how → AsksOpen one_site t call (mode_of how) f
+asks-user t call how.Read f asks = asks
+asks-user t call how.Write f asks = asks
+asks-user t call (how.Resolve site) f asks = (site, asks)
+
+refused-user : (t : Trace) (call : CallId) (how : OpenMode) (f : FileId) (why : Refusal)
+    → grant_refusal (mode_of how) (openers (tree one_site t) the_epoch f) (kept_in one_site t the_epoch f) ≡ Some why
+    → open_refusal one_site t the_epoch (mode_of how) call f ≡ Some why
+refused-user t call how.Read f why e = rw e refl
+refused-user t call how.Write f why e = rw e refl
+refused-user t call (how.Resolve site) f why e = rw e refl
+
+unnumbered-user : (how : OpenMode) (f : FileId) → IsUnnumbered (mode_of how) f
+unnumbered-user how.Read f = tt
+unnumbered-user how.Write f = tt
+unnumbered-user (how.Resolve site) f = tt
 
 abbrev pub is_ordinary : OpenMode → Bool
 is_ordinary how.Read = true
 is_ordinary how.Write = true
 is_ordinary (how.Resolve site) = false
 
-pub GrantRow-of : (t : Trace) (call : CallId) (how : OpenMode) (f : FileId) (stamp : Option Stamp) (ss : ℕ) → is_ordinary how ≡ true
-    → MayGrant one_site t the_epoch call how f stamp ss → GrantRow one_site t the_epoch call (mode_of how) f stamp ss
-GrantRow-of t call how.Read f stamp ss o row = row
-GrantRow-of t call how.Write f stamp ss o row = row
-GrantRow-of t call (how.Resolve site) f stamp ss o row = absurd (false≢true o)
+free-user : (t : Trace) (call : CallId) (how : OpenMode) (f : FileId) → is_ordinary how ≡ true
+    → grant_refusal (mode_of how) (openers (tree one_site t) the_epoch f) (kept_in one_site t the_epoch f) ≡ None
+    → open_refusal one_site t the_epoch (mode_of how) call f ≡ None
+free-user t call how.Read f o e = rw e refl
+free-user t call how.Write f o e = rw e refl
+free-user t call (how.Resolve site) f o e = absurd (false≢true o)
+
+placed-user : (t : Trace) (call : CallId) (how : OpenMode) (f : FileId) (stamp : Option Stamp) (ss : ℕ) → is_ordinary how ≡ true
+    → kept_in one_site t the_epoch f ≡ list_of stamp → held_in one_site t the_epoch ss f ≡ stamp
+    → Placed one_site t the_epoch call (mode_of how) f stamp ss
+placed-user t call how.Read f stamp ss o only holds = (only, holds)
+placed-user t call how.Write f stamp ss o only holds = (only, holds)
+placed-user t call (how.Resolve site) f stamp ss o only holds = absurd (false≢true o)
+
+granted-user : (how : OpenMode) (i : Serial) (f : FileId) (kept : List Stamp) → granted_answer (mode_of how) i f kept ≡ Opened i f.ino
+granted-user how.Read i f kept = refl
+granted-user how.Write i f kept = refl
+granted-user (how.Resolve site) i f kept = refl
 
 -- after an open that is refused
 abbrev pub refused : Site → Refusal → Site
@@ -109,10 +135,15 @@ Good-refuse p s t w ino how why g now asked refuses =
     let c = k.current w now in
     let r : Record = told.Refuse the_epoch (call_id s.accepted) (length s.so_far + 1) (serial_of (s.serials + 1)) (mode_of how) (file_of ino) why in
     let asks : wants_next one_site t (call_id s.accepted) ≡ Open (file_of ino) how = wants_next-now s t w k now ∙ asked in
-    Good-record p s (refused s why) t r g (
-      record { step = IsStep-now s t w k now; numbered = ap (λ a. length a + 1) (sym c.answered) },
-      RefuseRow-of t (call_id s.accepted) how (file_of ino) why (record { how = how; asked = asks; same = refl; refused = rw k.tree refuses }),
-    )
+    Good-record p s (refused s why) t r g
+    (record {
+      opens = record { step = IsStep-now s t w k now; numbered = ap (λ a. length a + 1) (sym c.answered); asked = asks-user t (call_id s.accepted) how (file_of ino) asks };
+      gives = record {
+        started = k.world.5;
+        refused = refused-user t (call_id s.accepted) how (file_of ino) why (rw k.tree refuses);
+        unnumbered = unnumbered-user how (file_of ino);
+      };
+    })
     (record {
       world = k.world;
       accepted = k.accepted;
@@ -165,19 +196,19 @@ Good-grant p s t w ino how st x g now ordinary there asked free is =
     let file : KnowsFile (history one_site t) (candidates one_site t the_epoch (file_of ino)) (held one_site t 1 (file_of ino)) ino st =
     subst (KnowsInode (history one_site t) (candidates one_site t the_epoch (file_of ino)) (held one_site t 1 (file_of ino)) (is_taken t the_epoch (file_of ino)) ino) there file0 in
     let only : kept_in one_site t the_epoch (file_of ino) ≡ stamp_of st.n ∷ [] = file.kept in
-    Good-record p s (granted s (mode_of how) ino x) t r g (
-      record { step = IsStep-now s t w k now; numbered = ap (λ a. length a + 1) (sym c.answered) },
-      record { own = refl; fresh = (k.unused (s.serials + 1) (omega arith)).0 },
-      GrantRow-of t (call_id s.accepted) how (file_of ino) (Some (stamp_of st.n)) 1 ordinary (record {
-        asked = asks;
-        free = rw (k.tree, only) free;
-        version = stamp_of st.n;
-        only = only;
-        stands = refl;
-        there = k.world.3;
-        holds = held_in-now one_site t the_epoch 1 (file_of ino) k.world.2 ∙ file.held;
-      }),
-    )
+    Good-record p s (granted s (mode_of how) ino x) t r g
+    (record {
+      opens = record { step = IsStep-now s t w k now; numbered = ap (λ a. length a + 1) (sym c.answered); asked = asks-user t (call_id s.accepted) how (file_of ino) asks };
+      gives = record {
+        started = k.world.5;
+        free = free-user t (call_id s.accepted) how (file_of ino) ordinary (rw (k.tree, only) free);
+        own = refl;
+        fresh = (k.unused (s.serials + 1) (omega arith)).0;
+        placed = placed-user t (call_id s.accepted) how (file_of ino) (Some (stamp_of st.n)) 1 ordinary only
+            (held_in-now one_site t the_epoch 1 (file_of ino) k.world.2 ∙ file.held);
+      };
+      there = k.world.3;
+    })
     (record {
       world = k.world;
       accepted = k.accepted;
@@ -189,7 +220,7 @@ Good-grant p s t w ino how st x g now ordinary there asked free is =
             call = d.call;
             epoch = d.epoch;
             named = d.named;
-            answered = rw (same_call-refl (call_id s.accepted), c.answered) refl;
+            answered = rw (same_call-refl (call_id s.accepted), c.answered, granted-user how (serial_of (s.serials + 1)) (file_of ino) (kept_in one_site t the_epoch (file_of ino))) refl;
             opened = rw (same_call-refl (call_id s.accepted)) refl;
           };
       unstepped = λ n lt. let u = k.unstepped n lt in

@@ -25,7 +25,7 @@ use Rattle.tree_model.specs.declared.line.Line.TheVariants as line
 use Rattle.tree_model.specs.Reading.{is_call_line, how_many, IsBuiltCall}
 use Rattle.tree_model.specs.Directory.{Looked, One, Nothing, Several, lookup}
 use Rattle.tree_model.specs.Trace.{Trace}
-use Rattle.tree_model.specs.Lawful.{EachComes, tells_call_of}
+use Rattle.tree_model.specs.Lawful.{EachComes, tells_own_of}
 use Rattle.one_site.specs.declared.runner.Runner.{Runner}
 use Rattle.one_site.specs.Ids.{one_site, call_id}
 use Rattle.one_site.specs.Known.{Place, with_record}
@@ -91,7 +91,7 @@ Stands-running old new lines e t more s late place calls g once =
 
 -- these records tell of no call
 abbrev pub Quiet : List Entry → Type 0
-Quiet es = (m : ℕ) (t : Trace) → how_many (tells_call_of m) (reverse es ++ t) ≡ how_many (tells_call_of m) t
+Quiet es = (m : ℕ) (t : Trace) → how_many (tells_own_of m) (reverse es ++ t) ≡ how_many (tells_own_of m) t
 
 quiet-created : (r : Runner) (n : ℕ) (name : List ℕ) (o : Outcome) → Quiet (created r n name o).told
 quiet-created r n name (No why) m t = refl
@@ -202,17 +202,17 @@ Carries-settle old lines t most late s goes =
     let same : after.runner.calls ≡ old.calls = calls-settled_of old (length lines + 1) old.waiting in
     Stands-running old (record after.runner { place = old.place + 1 }) lines (line.Settle most) t (reverse after.told ++ t) s late refl (omega (arith, same))
     (Goes-place (record { earlier = lines; line_now = Event (line.Settle most) }) after.runner (reverse after.told ++ t) (old.place + 1) after.runner.calls goes)
-    (ToldOnce-quiet lines (Event (line.Settle most)) t (reverse after.told ++ t) s.lawful.calls refl (λ m. quiet-settled_of old (length lines + 1) old.waiting m t))
+    (ToldOnce-quiet lines (Event (line.Settle most)) t (reverse after.told ++ t) s.lawful.once refl (λ m. quiet-settled_of old (length lines + 1) old.waiting m t))
 
 -- A call line.
 
 -- what each call line tells first is its call
 once-accepted : (old : Runner) (lines : List ScheduleLine) (t more : Trace) (words : Call) → 4 ≤ old.place → Stands old lines t
-    → ((m : ℕ) → how_many (tells_call_of m) more ≡ how_many (tells_call_of m) (with_record (record { earlier = lines; line_now = Event (line.Call 1 1 words) }) (told.Accept 1 1 (call_id (old.accepted + 1)) words) t))
+    → ((m : ℕ) → how_many (tells_own_of m) more ≡ how_many (tells_own_of m) (with_record (record { earlier = lines; line_now = Event (line.Call 1 1 words) }) (told.Accept 1 1 (call_id (old.accepted + 1)) words) t))
     → ToldOnce (lines ++ Event (line.Call 1 1 words) ∷ []) more
 once-accepted old lines t more words late s same =
     ToldOnce-call one_site lines (Event (line.Call 1 1 words)) t more (length lines + 1) (told.Accept 1 1 (call_id (old.accepted + 1)) words)
-    (subst (λ c. EachComes c lines t) (s.cluster ∙ cluster-late old.place (omega (arith, late))) s.lawful.each) s.lawful.calls refl refl same
+    (subst (λ c. EachComes c lines t) (s.cluster ∙ cluster-late old.place (omega (arith, late))) s.lawful.each) s.lawful.once refl refl same
 
 carries-waits : (old : Runner) (lines : List ScheduleLine) (t : Trace) (words : Call) → 4 ≤ old.place → Stands old lines t → old.waiting ≡ None → IsBuiltCall words
     → ((why : Refusal) → begins old words ≡ Denied why → ⊥)
@@ -259,4 +259,4 @@ Carries-void old lines t w words late s busy =
     let more = Goes-void p old t w words (old.place + 1) (old.calls + 1) g (omega (arith, s.below)) refl busy in
     Stands-running old (record old { place = old.place + 1; calls = old.calls + 1 }) lines (line.Call 1 1 words) t (with_record p told.Void t) s late refl refl more
     (ToldOnce-call one_site lines l t (with_record p told.Void t) (length lines + 1) told.Void
-    (subst (λ c. EachComes c lines t) (s.cluster ∙ cluster-late old.place (omega (arith, late))) s.lawful.each) s.lawful.calls refl refl (λ m. refl))
+    (subst (λ c. EachComes c lines t) (s.cluster ∙ cluster-late old.place (omega (arith, late))) s.lawful.each) s.lawful.once refl refl (λ m. refl))

@@ -1,5 +1,5 @@
 -- A round that runs a create.
-use Rattle.std.proofs.Common.{◌≡◌, ◌≤◌, ◌<◌, ◌+◌, ◌++◌, ◌∷◌, ℕ, Bool, true, false, ◌&&◌, List, [], length, reverse, Option, None, Some, refl, sym, ap, ◌∙◌, subst, arith}
+use Rattle.std.proofs.Common.{◌≡◌, ◌≤◌, ◌<◌, ◌+◌, ◌++◌, ◌∷◌, ℕ, Bool, true, false, ◌&&◌, cond, leb, List, [], length, reverse, Option, None, Some, refl, sym, ap, ◌∙◌, subst, arith}
 use Rattle.std.specs.List.{AllByRecursion, list_any}
 use Rattle.std.proofs.lemmas.List.{append-nil}
 use Rattle.locus_ids.specs.declared.ids.Mode.TheVariants as mode
@@ -20,6 +20,7 @@ use Rattle.tree_model.specs.declared.instance.Instance.{Instance}
 use Rattle.tree_model.specs.declared.instance.Waiting.{Waiting}
 use Rattle.tree_model.specs.Directory.{entries_of, dir_bytes, with_entry, new_entry, is_pair, probe_result}
 use Rattle.tree_model.specs.Trace.{Trace, descriptor, history, candidates, held, is_taken, call_of_act, call_of_release}
+use Rattle.tree_model.specs.OneTree.{sites_named}
 use Rattle.tree_model.specs.Tree.{acted, is_named, is_writer, process_of, committed}
 use Rattle.one_site.specs.declared.files.FileState.{FileState}
 use Rattle.one_site.specs.Ids.{one_site, the_epoch, call_id, serial_of, file_of, stamp_no, stamp_of}
@@ -31,7 +32,7 @@ use Rattle.one_site.proofs.Telling.{Good-answer}
 use Rattle.one_site.proofs.Asking.{Good-grant, granted}
 use Rattle.one_site.proofs.Acting.{Good-act, Good-release, Good-publish, did, ended, published}
 use Rattle.one_site.proofs.Making.{Good-make, made}
-use Rattle.one_site.proofs.InstanceLists.{NonePass-append, filter-last, where_it-last, without_it-last, made_by_close-last, Contains-last}
+use Rattle.one_site.proofs.InstanceLists.{NonePass-append, filter-last, where_it-last, without_it-last, made_by_close-last, first_of-last}
 use Rattle.one_site.proofs.Named.{not-the-root, not-a-new-file, no-writer, no-openers, no-name}
 
 -- the name is the path's only component
@@ -128,7 +129,7 @@ Good-probe p s t w path name root result g c there gives =
     (rw (append-nil s.named, no-openers 1 s.named (not-the-root s.serials s.files s.named c.named)) refl)
     (rw (process, file.content) refl) in
     Good-act p (opened_root s w root) (root_grant p s root t) w i 1 (Probe name) result x s.named (parent s w root root.content false 1 ∷ []) g1 refl
-    (Contains-last s.named x) is_it refl refl
+    (first_of-last (is_named the_epoch i) s.named x unnamed is_it) refl refl
     (own-act p (at_rest s w) (root_grant p s root t) t w root 1 k refl)
     (wants-create s w path name (lowest_free (descriptor (root_grant p s root t) 1 1)) (Opened i 1 ∷ []) c)
     (ap Some gives)
@@ -153,7 +154,7 @@ Good-refused_create p s t w path name root why g c there gives =
     let t3 : Trace = with_record p (told.Release the_epoch i (file_of 1) None) t2 in
     let g3 : Good p (ended (probed s w root (No why)) None s.named []) t3 =
     Good-release p (probed s w root (No why)) t2 w i x s.named [] g2 refl
-    (Contains-last s.named x) is_it refl refl refl
+    (first_of-last (is_named the_epoch i) s.named x unnamed is_it) refl refl refl
     (rw ((k.unused (s.serials + 1) (omega arith)).2, same_serial-refl i) refl)
     (wants-create s w path name (lowest_free (descriptor t2 1 1)) (Opened i 1 ∷ Refused why ∷ []) c)
     (made_by_close-last the_epoch i None s.named x unnamed is_it)
@@ -180,10 +181,10 @@ pub record GrowsFiles (s : Site) (root : FileState) (ino : ℕ) (content : List 
 pub Good-done_create : (p : Place) (s : Site) (t : Trace) (w : Waiting) (path name : List ℕ) (root : FileState) (ino : ℕ) (content : List ℕ) (more files : List FileState)
     → Good p (at_rest s w) t → RunsCreate s w path name → file_at s.files 1 ≡ Some root → probe_result name root.content ≡ Done
     → GrowsFiles s root ino content more files
-    → list_any (is_pair name ino) (entries_of root.content) ≡ false
+    → list_any (is_pair name ino) (entries_of root.content) ≡ false → leb (length name) 60 ≡ true
     → dir_bytes (with_entry (new_entry name ino File) (entries_of root.content)) ≡ content
     → Good p (after_made s files) (reverse (done_create (number_at p) s.accepted s.serials root.n name ino content) ++ t)
-Good-done_create p s t w path name root ino content more files g c there gives grows new_pair content_now =
+Good-done_create p s t w path name root ino content more files g c there gives grows new_pair short content_now =
     let k = g.known in
     let i = serial_of (s.serials + 1) in
     let j = serial_of (s.serials + 1 + 1) in
@@ -207,6 +208,7 @@ Good-done_create p s t w path name root ino content more files g c there gives g
     (ap (λ b. b && true) (file_of-other 1 ino apart), tt))
     (NonePass-append (is_named the_epoch j) s.named (x1 ∷ []) unnamed2
     (same_serial-other (s.serials + 1) (s.serials + 1 + 1) (λ same. omega (arith, same)), tt))
+    (ap sites_named c.words)
     (wants-create s w path name (lowest_free (descriptor t2 1 1)) (Opened i 1 ∷ Did Done ∷ []) c)
     (wants-create s w path name (lowest_free (descriptor t2 1 1)) (Opened i 1 ∷ Did Done ∷ Opened j ino ∷ []) c) in
     let t4 : Trace = with_record p (told.Act the_epoch i 2 (Insert name ino File) Done) t3 in
@@ -215,10 +217,11 @@ Good-done_create p s t w path name root ino content more files g c there gives g
     rw ((k.unused (s.serials + 1) (omega arith)).1, same_serial-other (s.serials + 1 + 1) (s.serials + 1) (λ same. omega (arith, same)), same_serial-refl i) refl in
     let g4 : Good p s4 t4 =
     Good-act p s3 t3 w i 2 (Insert name ino File) Done x1 s.named (x2 ∷ []) g3 refl
-    (Contains-last s.named x1) is_it refl refl owned
+    (first_of-last (is_named the_epoch i) s.named x1 unnamed is_it) refl refl owned
     (wants-create s w path name (lowest_free (descriptor t3 1 1)) (Opened i 1 ∷ Did Done ∷ Opened j ino ∷ Ended (Some (stamp_no 1)) ∷ []) c)
-    (rw new_pair refl)
+    (rw (new_pair, short) refl)
     (where_it-last (is_named the_epoch i) (acted one_site t3 2 (Insert name ino File) Done) s.named x1 unnamed is_it
+    ∙ ap (λ (b : Bool). s.named ++ parent s w root (cond b (dir_bytes (with_entry (new_entry name ino File) (entries_of root.content))) root.content) true 2 ∷ []) short
     ∙ ap (λ bytes. s.named ++ parent s w root bytes true 2 ∷ []) content_now) in
     let writes : is_writer (Some the_epoch) (file_of 1) x2 ≡ true = refl in
     let no_root_writer = no-writer 1 s.named (not-the-root s.serials s.files s.named c.named) in
@@ -234,7 +237,7 @@ Good-done_create p s t w path name root ino content more files g c there gives g
     (grows.others 1 (λ same. apart (sym same)) ∙ there) grows.grown grows.rest
     (filter-last (is_writer (Some the_epoch) (file_of 1)) s.named x2 no_root_writer writes)
     refl refl refl refl refl
-    (rw tree_then (Contains-last s.named x3)) is_it owned5
+    (rw tree_then (first_of-last (is_named the_epoch i) s.named x3 unnamed is_it)) owned5
     (wants-create s w path name (lowest_free (descriptor t4 1 1)) (Opened i 1 ∷ Did Done ∷ Opened j ino ∷ Ended (Some (stamp_no 1)) ∷ Did Done ∷ []) c)
     (rw tree_then (made_by_close-last the_epoch i (Some (stamp_no (root.n + 1))) s.named x3 unnamed is_it))
     (rw tree_then (without_it-last (is_named the_epoch i) s.named x3 unnamed is_it ∙ sym (append-nil s.named))) in

@@ -10,7 +10,7 @@ use Rattle.tree_model.specs.declared.line.ScheduleLine.TheVariants.{Event}
 use Rattle.tree_model.specs.declared.line.Line.TheVariants as line
 use Rattle.tree_model.specs.Reading.{how_many}
 use Rattle.tree_model.specs.Trace.{Trace, last_line, is_member, has_joined, candidates, with_held, format_stamp, held, history, is_taken}
-use Rattle.tree_model.specs.Lawful.{EachComes, MayStart, tells_call_of}
+use Rattle.tree_model.specs.Lawful.{EachComes, MayStart, tells_own_of}
 use Rattle.one_site.specs.declared.runner.Runner.{Runner}
 use Rattle.one_site.specs.Ids.{one_site, the_epoch, the_members, file_of, entry}
 use Rattle.one_site.specs.Files.{KnowsInode, file_at}
@@ -64,14 +64,11 @@ joined-there ln site is = subst (λ (k : ℕ). has_joined (joined ln) k the_epoc
 
 pub may-start : (ln : ℕ) → MayStart one_site (joined ln) the_epoch 0 (format_copy ∷ [])
 may-start ln = record {
-  once = refl;
+  gives = record { once = refl; each = each-brought; only = only-brought; ascending = (tt, tt) };
   served = record { site = 1; synchronizes = refl; joined = refl };
   members = the_members;
   known = refl;
   whole = λ site is has. joined-there ln site is;
-  each = each-brought;
-  only = only-brought;
-  ascending = (tt, tt);
 }
 
 -- the site that has started
@@ -130,5 +127,5 @@ Carries-start old lines t number most e place s =
     subst (λ u. Stands (started_runner old) (lines ++ l ∷ []) (start_records number ++ u)) (sym j.2)
     (Stands-next old (started_runner old) lines l t t1 s refl (omega arith) (now ∙ sym after)
     (subst (λ c. EachComes c (lines ++ l ∷ []) t1) (sym after) each) (omega (arith, e))
-    (ToldOnce-quiet lines l t t1 s.lawful.calls refl (λ m. ap (how_many (tells_call_of m)) (sym j.2)))
+    (ToldOnce-quiet lines l t t1 s.lawful.once refl (λ m. ap (how_many (tells_own_of m)) (sym j.2)))
     (record { first = λ lt. absurd (omega (arith, lt, place)); joined = λ same. absurd (omega (arith, same, place)); running = λ le. running }))

@@ -9,7 +9,7 @@ use Rattle.tree_model.specs.declared.line.Line.TheVariants as line
 use Rattle.tree_model.specs.Lines.{config_of, with_line, no_cluster}
 use Rattle.tree_model.specs.Reading.{is_counted, is_call_line, how_many}
 use Rattle.tree_model.specs.Trace.{Trace, last_line, is_member}
-use Rattle.tree_model.specs.Lawful.{EachComes, MayJoin, tells_call_of}
+use Rattle.tree_model.specs.Lawful.{EachComes, MayJoin, tells_own_of}
 use Rattle.one_site.specs.declared.runner.Runner.{Runner}
 use Rattle.one_site.specs.Ids.{one_site, the_epoch, the_members}
 use Rattle.one_site.specs.Records.{join_records}
@@ -24,7 +24,7 @@ pub Stands-next : (old new : Runner) (lines : List ScheduleLine) (l : ScheduleLi
 Stands-next old new lines l t more s place calls cluster each below once phase =
     let now : config_of (lines ++ l ∷ []) ≡ cluster_at new.place = fold-snoc lines l ∙ ap (λ c. with_line c l) s.cluster ∙ cluster in
     record {
-      lawful = record { each = subst (λ c. EachComes c (lines ++ l ∷ []) more) (sym now) each; calls = once };
+      lawful = record { each = subst (λ c. EachComes c (lines ++ l ∷ []) more) (sym now) each; once = once };
       below = simp length-append (omega (arith, below));
       place = place ∙ ap (λ n. n + cond (is_counted l) 1 0) s.place ∙ sym (place_of-push lines l);
       calls = calls ∙ ap (λ n. n + cond (is_call_line l) 1 0) s.calls ∙ sym (calls_of-push lines l);
@@ -39,7 +39,7 @@ still-lawful old lines l t s = subst (λ c. EachComes c (lines ++ l ∷ []) t) s
 pub Carries-passed : (old : Runner) (lines : List ScheduleLine) (t : Trace) → Stands old lines t → Stands old (lines ++ Passed ∷ []) t
 Carries-passed old lines t s =
     Stands-next old old lines Passed t t s (omega arith) (omega arith) refl (still-lawful old lines Passed t s) (omega (arith, s.below))
-    (ToldOnce-quiet lines Passed t t s.lawful.calls refl (λ m. refl)) s.phase
+    (ToldOnce-quiet lines Passed t t s.lawful.once refl (λ m. refl)) s.phase
 
 fresh-at : (r : Runner) (place : ℕ) → IsFresh r → IsFresh (record r { place = place })
 fresh-at r place f = record { calls = f.calls; accepted = f.accepted; waiting = f.waiting; serials = f.serials; files = f.files; dir = f.dir; opens = f.opens; descriptors = f.descriptors }
@@ -63,7 +63,7 @@ Carries-sites old lines t count place one s =
     Stands-next old (record old { place = old.place + 1 }) lines l t t s refl (omega arith)
     (ap (λ n. with_line (cluster_at n) l) place ∙ ap (λ n. record no_cluster { sites = n }) one ∙ ap (λ n. cluster_at (n + 1)) (sym place))
     (subst (EachComes (cluster_at (old.place + 1)) (lines ++ l ∷ [])) (sym none) tt) (omega (arith, s.below))
-    (ToldOnce-quiet lines l t t s.lawful.calls refl (λ m. refl)) (header-phase old t (omega (arith, place)) s.phase)
+    (ToldOnce-quiet lines l t t s.lawful.once refl (λ m. refl)) (header-phase old t (omega (arith, place)) s.phase)
 
 pub Carries-group : (old : Runner) (lines : List ScheduleLine) (t : Trace) (group : ℕ) (sites : Sites) → old.place ≡ 1 → group ≡ 0 → sites ≡ record { 0 = 1 } → Stands old lines t
     → Stands (record old { place = old.place + 1 }) (lines ++ Header (header.Group group sites) ∷ []) t
@@ -76,7 +76,7 @@ Carries-group old lines t group sites place zeroth one s =
     ∙ ap (λ (set : Sites). with_line (cluster_at 1) (Header (header.Group 0 set))) one
     ∙ ap (λ n. cluster_at (n + 1)) (sym place))
     (subst (EachComes (cluster_at (old.place + 1)) (lines ++ l ∷ [])) (sym none) tt) (omega (arith, s.below))
-    (ToldOnce-quiet lines l t t s.lawful.calls refl (λ m. refl)) (header-phase old t (omega (arith, place)) s.phase)
+    (ToldOnce-quiet lines l t t s.lawful.once refl (λ m. refl)) (header-phase old t (omega (arith, place)) s.phase)
 
 zeros : (n k : ℕ) → get_or {A = ℕ} (replicate n 0) k 0 ≡ 0
 zeros zero k = refl
@@ -111,7 +111,7 @@ Carries-merge old lines t number site e place one s =
     subst (λ u. Stands (record old { place = old.place + 1 }) (lines ++ l ∷ []) (join_records number ++ u)) (sym first.1)
     (Stands-next old (record old { place = old.place + 1 }) lines l t (join_records number) s refl (omega arith) (now ∙ sym after)
     (subst (λ c. EachComes c (lines ++ l ∷ []) (join_records number)) (sym after) each) (omega (arith, e))
-    (ToldOnce-quiet lines l t (join_records number) s.lawful.calls refl (λ m. ap (how_many (tells_call_of m)) (sym first.1)))
+    (ToldOnce-quiet lines l t (join_records number) s.lawful.once refl (λ m. ap (how_many (tells_own_of m)) (sym first.1)))
     (record {
       first = λ lt. absurd (omega (arith, lt, place));
       joined = λ p. (fresh-at old (old.place + 1) first.0, number, refl);

@@ -1,11 +1,12 @@
 -- Lists of open instances: the last one is changed, found and taken out where no earlier one passes.
-use Rattle.std.proofs.Common.{◌≡◌, ◌++◌, ◌∷◌, suc, Bool, true, false, cond, List, [], filter, Option, None, refl, ap, arith}
+use Rattle.std.proofs.Common.{◌≡◌, ◌++◌, ◌∷◌, suc, Bool, true, false, cond, List, [], filter, Option, None, Some, refl, ap, arith}
 use Rattle.std.specs.List.{Contains, AllByRecursion}
 use Rattle.locus_ids.specs.declared.ids.Stamp.{Stamp}
 use Rattle.locus_ids.specs.declared.ids.EpochId.{EpochId}
 use Rattle.locus_ids.specs.declared.ids.Serial.{Serial}
 use Rattle.tree_model.specs.declared.instance.Instance.{Instance}
 use Rattle.tree_model.specs.Tree.{where_it, without_it, is_named, made_by_close}
+use Rattle.tree_model.specs.OneTree.{first_of}
 
 -- none of these passes
 abbrev pub NonePass : (Instance → Bool) → List Instance → Type 0
@@ -32,6 +33,10 @@ pub made_by_close-last : (e : EpochId) (i : Serial) (stamp : Option Stamp) (xs :
     → NonePass (is_named e i) xs → is_named e i x ≡ true → made_by_close e i stamp (xs ++ x ∷ []) ≡ cond x.fresh stamp None
 made_by_close-last e i stamp [] x n is = rw is refl
 made_by_close-last e i stamp (y ∷ ys) x n is = rw n.0 (made_by_close-last e i stamp ys x n.1 is)
+
+pub first_of-last : (p : Instance → Bool) (xs : List Instance) (x : Instance) → NonePass p xs → p x ≡ true → first_of p (xs ++ x ∷ []) ≡ Some x
+first_of-last p [] x n e = rw e refl
+first_of-last p (y ∷ ys) x n e = rw n.0 (first_of-last p ys x n.1 e)
 
 pub Contains-more : {X : Type 0} (x y : X) (ys : List X) → Contains ys x → Contains (y ∷ ys) x
 Contains-more x y ys c = (suc c.0, omega (arith, c.1), c.2)

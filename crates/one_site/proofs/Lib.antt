@@ -35,7 +35,12 @@ pub mod SettlingClose
 pub mod SettlingOpen
 pub mod SettlingSmall
 pub mod Settling
+pub mod RoundRecords
+pub mod Rounds
+pub mod Courses
+pub mod RoundByRound
+pub mod Moments
+pub mod Promises
 pub mod LineByLine
 pub mod Lasting
-pub mod Overwriting
 pub mod Searching

@@ -15,15 +15,20 @@ use Rattle.one_site.specs.declared.runner.Runner.{Runner}
 use Rattle.one_site.specs.Settle.{Settled, settled}
 use Rattle.one_site.specs.Records.{start_records}
 use Rattle.one_site.specs.Went.{went, called}
-use Rattle.one_site.specs.Standing.{Stands, HasSmallNumbers}
+use Rattle.one_site.specs.Standing.{Stands, StandsWell, HasSmallNumbers}
 use Rattle.one_site.proofs.Heading.{Carries-passed, Carries-sites, Carries-group, Carries-merge}
 use Rattle.one_site.proofs.First.{Carries-start, started_runner}
 use Rattle.one_site.proofs.Carrying.{Carries-settle, Carries-call, Carries-void, Goes-enter}
 use Rattle.one_site.proofs.Settling.{Settles}
+use Rattle.one_site.proofs.RoundByRound.{RoundsAnswer-line}
+use Rattle.one_site.proofs.Promises.{StandsWell-all}
 
 -- the runner after the line stands where the lines and what it told lead
 abbrev pub StandsAfter : Runner → List ScheduleLine → ScheduleLine → Trace → Settled → Type 0
 StandsAfter old lines l t s = Stands s.runner (lines ++ l ∷ []) (reverse s.told ++ t)
+
+abbrev pub WellAfter : Runner → List ScheduleLine → ScheduleLine → Trace → Settled → Type 0
+WellAfter old lines l t s = StandsWell s.runner (lines ++ l ∷ []) (reverse s.told ++ t)
 
 calls-line : (old : Runner) (lines : List ScheduleLine) (t : Trace) (words : Call) (o : Option Waiting) → old.waiting ≡ o → 4 ≤ old.place → IsBuiltCall words → Stands old lines t
     → StandsAfter old lines (Event (line.Call 1 1 words)) t (called old (length lines + 1) words o)
@@ -62,16 +67,20 @@ Carries-line old lines t bytes _ small table s spelled built = absurd built
 
 -- the same, of a line with its bytes, its number, and what was told
 pub Carried : (old new : Runner) (number : ℕ) (bytes : List ℕ) (l : ScheduleLine) (told : List Entry) (lines : List ScheduleLine) (t : Trace) → HasSmallNumbers old → length old.descriptors ≡ 16
-    → Spells 1 bytes l × IsBuilt old.place old.calls l → number ≡ length lines + 1 → Stands old lines t
+    → Spells 1 bytes l × IsBuilt old.place old.calls l → number ≡ length lines + 1 → StandsWell old lines t
     → told ≡ (went old number l).told → new ≡ (went old number l).runner
-    → (x : ScheduleLine) × Reads lines bytes x × Stands new (lines ++ x ∷ []) (reverse told ++ t)
-Carried old new number bytes l told lines t small table found e s told_is new_is =
+    → (x : ScheduleLine) × Reads lines bytes x × StandsWell new (lines ++ x ∷ []) (reverse told ++ t)
+Carried old new number bytes l told lines t small table found e well told_is new_is =
+    let s : Stands old lines t = well.stands in
     let built : IsBuilt (place_of lines) (calls_of lines) l =
     subst (λ (n : ℕ). IsBuilt n (calls_of lines) l) s.place (subst (λ (n : ℕ). IsBuilt old.place n l) s.calls found.1) in
-    let after : StandsAfter old lines l t (went old number l) =
-    subst (λ (n : ℕ). StandsAfter old lines l t (went old n l)) (sym e) (Carries-line old lines t bytes l small table s found.0 found.1) in (
+    let line_after : StandsAfter old lines l t (went old (length lines + 1) l) = Carries-line old lines t bytes l small table s found.0 found.1 in
+    let rounds = RoundsAnswer-line old lines t bytes l s well.rounds found.0 found.1 line_after in
+    let at_line : WellAfter old lines l t (went old (length lines + 1) l) = StandsWell-all (went old (length lines + 1) l).runner (lines ++ l ∷ []) (reverse (went old (length lines + 1) l).told ++ t) line_after rounds in
+    let after : WellAfter old lines l t (went old number l) =
+    subst (λ (n : ℕ). WellAfter old lines l t (went old n l)) (sym e) at_line in (
       l,
       (found.0, built),
-      subst (λ (r : Runner). Stands r (lines ++ l ∷ []) (reverse told ++ t)) (sym new_is)
-          (subst (λ (es : List Entry). Stands (went old number l).runner (lines ++ l ∷ []) (reverse es ++ t)) (sym told_is) after),
+      subst (λ (r : Runner). StandsWell r (lines ++ l ∷ []) (reverse told ++ t)) (sym new_is)
+          (subst (λ (es : List Entry). StandsWell (went old number l).runner (lines ++ l ∷ []) (reverse es ++ t)) (sym told_is) after),
     )

@@ -15,7 +15,8 @@ use Rattle.tree_model.specs.declared.instance.Waiting.{Waiting}
 use Rattle.tree_model.specs.Trace.{Trace, descriptor, is_taken, held, history, candidates, call_of_release, call_named}
 use Rattle.tree_model.specs.Tree.{tree, is_named, is_writer, committed, made_by_close, process_of}
 use Rattle.tree_model.specs.Calls.{wants_next, wants_as, answers}
-use Rattle.tree_model.specs.Lawful.{MayCommit, MayRelease, MayOpen, IsNew, MayMake, IsStep}
+use Rattle.tree_model.specs.Lawful.{MayCommit, MayRelease, MayGrant, IsStep}
+use Rattle.tree_model.specs.OneTree.{making_set, wanted_packs, of_call, sites_named}
 use Rattle.one_site.specs.declared.files.FileState.{FileState}
 use Rattle.one_site.specs.Ids.{one_site, the_epoch, call_id, serial_of, file_of, stamp_no}
 use Rattle.one_site.specs.Files.{KnowsInode, KnowsNone, file_at}
@@ -26,7 +27,7 @@ use Rattle.one_site.proofs.FirstVersion.{KnowsFile-first}
 use Rattle.one_site.proofs.Common.{wants_next-now, IsStep-now}
 use Rattle.one_site.proofs.Asking.{KnowsInode-retaken}
 use Rattle.one_site.proofs.Acting.{KnowsInode-published}
-use Rattle.one_site.proofs.InstanceLists.{NonePass, filter-last, where_it-last, without_it-last, made_by_close-last, Contains-last}
+use Rattle.one_site.proofs.InstanceLists.{NonePass, filter-last, where_it-last, without_it-last, made_by_close-last, first_of-last}
 
 -- after a file was made
 abbrev pub made : Site → ℕ → List FileState → Site
@@ -62,13 +63,14 @@ pub Good-make : (p : Place) (s : Site) (t : Trace) (w : Waiting) (ino : ℕ) (ki
     → ((other : ℕ) → (ino ≡ other → ⊥) → file_at files other ≡ file_at s.files other)
     → NonePass (is_writer (Some the_epoch) (file_of ino)) (s.named ++ s.passing)
     → NonePass (is_named the_epoch (serial_of (s.serials + 1))) (s.named ++ s.passing)
+    → sites_named w.words ≡ None
     → wants [] (lowest_free (descriptor t 1 1)) w.words w.beginning s.so_far ≡ Make 0 kind None
     → wants [] (lowest_free (descriptor t 1 1)) w.words w.beginning (s.so_far ++ Opened (serial_of (s.serials + 1)) ino ∷ []) ≡ Close (serial_of (s.serials + 1))
     → Good p (made s ino files)
     (with_record p (told.Release the_epoch (serial_of (s.serials + 1)) (file_of ino) (Some (stamp_no 1)))
     (with_record p (told.Commit (file_of ino) 1 (stamp_no 1) [] [])
     (with_record p (told.Grant the_epoch (call_id s.accepted) (length s.so_far + 1) (serial_of (s.serials + 1)) mode.Make (file_of ino) None 1) t)))
-Good-make p s t w ino kind files g now absent low high new others no_writer no_name asked asked_close =
+Good-make p s t w ino kind files g now absent low high new others no_writer no_name whole asked asked_close =
     let k = g.known in
     let c = k.current w now in
     let i : Serial = serial_of (s.serials + 1) in
@@ -95,19 +97,27 @@ Good-make p s t w ino kind files g now absent low high new others no_writer no_n
     let answered1 : answers one_site t1 (call_id s.accepted) ≡ s.so_far ++ Opened (serial_of (s.serials + 1)) ino ∷ [] =
     rw (same_call-refl (call_id s.accepted), c.answered) refl in
     let step : IsStep one_site t the_epoch 0 (call_id s.accepted) = IsStep-now s t w k now in
-    let makes : MayMake one_site t the_epoch (call_id s.accepted) (file_of ino) 1 = record {
-      kind = kind;
-      sites = None;
-      asked = wants_next-now s t w k now ∙ asked;
-      good = rw k.world.4 refl;
-      place = rw k.world.4 refl;
+    let set_now : making_set one_site t (call_id s.accepted) 0 ≡ wanted_packs one_site 0 None =
+    ap (λ (o : Option Waiting). wanted_packs one_site 0 (of_call sites_named o)) c.named ∙ ap (wanted_packs one_site 0) whole in
+    let makes : MayGrant one_site t the_epoch (call_id s.accepted) (length s.so_far + 1) i mode.Make (file_of ino) None 1 = record {
+      opens = record { step = step; numbered = ap (λ a. length a + 1) (sym c.answered); asked = (kind, None, wants_next-now s t w k now ∙ asked) };
+      gives = record {
+        started = k.world.5;
+        free = rw (set_now, k.world.4) refl;
+        own = refl;
+        fresh = (k.unused (s.serials + 1) (omega arith)).0;
+        placed = (
+          record {
+            place = rw (set_now, k.world.4) refl;
+            range = record { above = omega arith; below = omega arith; no_root = low };
+            unheld = held_in-now one_site t the_epoch 1 (file_of ino) k.world.2 ∙ at.unheld;
+            untaken = at.untaken;
+          },
+          refl,
+        );
+      };
       there = k.world.3;
-      range = record { above = omega arith; below = omega arith; no_root = low };
-      unheld = held_in-now one_site t the_epoch 1 (file_of ino) k.world.2 ∙ at.unheld;
-      untaken = at.untaken;
     } in
-    let opens : MayOpen one_site t the_epoch (call_id s.accepted) (length s.so_far + 1) 0 = record { step = step; numbered = ap (λ a. length a + 1) (sym c.answered) } in
-    let is_new : IsNew t the_epoch (call_id s.accepted) i = record { own = refl; fresh = (k.unused (s.serials + 1) (omega arith)).0 } in
     let commits : MayCommit one_site t1 (file_of ino) 1 (stamp_no 1) [] [] = record {
       instance = x;
       one = rw (k.world.2, tree1) one;
@@ -123,12 +133,13 @@ Good-make p s t w ino kind files g now absent low high new others no_writer no_n
     ∙ ap (λ n. wants [] (lowest_free (descriptor t 1 n)) w.words w.beginning (s.so_far ++ Opened (serial_of (s.serials + 1)) ino ∷ [])) c.process
     ∙ asked_close) in
     let releases : MayRelease one_site t2 the_epoch i (file_of ino) (Some (stamp_no 1)) = record {
-      instance = committed (stamp_no 1) x;
-      among = rw tree2 (Contains-last (s.named ++ s.passing) (committed (stamp_no 1) x));
-      named = is_it;
-      file = refl;
-      paid = refl;
-      published = refl;
+      gives = record {
+        instance = committed (stamp_no 1) x;
+        named = rw tree2 (first_of-last (is_named the_epoch i) (s.named ++ s.passing) (committed (stamp_no 1) x) no_name is_it);
+        file = refl;
+        paid = refl;
+        published = refl;
+      };
       step = record {
         call = call_id s.accepted;
         owned = owned;
@@ -149,7 +160,7 @@ Good-make p s t w ino kind files g now absent low high new others no_writer no_n
         record { earlier = p.earlier; line_now = p.line_now; later = []; split = refl; number = refl; ascending = omega arith; row = releases },
         (
           record { earlier = p.earlier; line_now = p.line_now; later = []; split = refl; number = refl; ascending = omega arith; row = commits },
-          (record { earlier = p.earlier; line_now = p.line_now; later = []; split = refl; number = refl; ascending = g.below; row = (opens, is_new, (makes, refl)) }, g.each),
+          (record { earlier = p.earlier; line_now = p.line_now; later = []; split = refl; number = refl; ascending = g.below; row = makes }, g.each),
         ),
       );
       below = omega arith;

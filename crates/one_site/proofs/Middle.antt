@@ -11,6 +11,7 @@ use Rattle.commit_graph.specs.Grants.{is_read}
 use Rattle.trace_book.specs.Descriptors.{is_in}
 use Rattle.tree_model.specs.declared.instance.Instance.{Instance}
 use Rattle.tree_model.specs.Tree.{where_it, without_it, is_named, is_writer, made_by_close}
+use Rattle.tree_model.specs.OneTree.{first_of}
 use Rattle.one_site.specs.Ids.{the_epoch}
 use Rattle.one_site.specs.Opens.{AreExclusive, are_compatible}
 use Rattle.one_site.proofs.Names.{same_file-refl, same_file-true}
@@ -37,6 +38,11 @@ pub filter-middle : (p : Instance → Bool) (front : List Instance) (x : Instanc
     → filter p (front ++ x ∷ back) ≡ x ∷ []
 filter-middle p [] x back n e m = rw e (ap (λ zs. x ∷ zs) (filter-none p back m))
 filter-middle p (y ∷ ys) x back n e m = rw n.0 (filter-middle p ys x back n.1 e m)
+
+pub first_of-middle : (p : Instance → Bool) (front : List Instance) (x : Instance) (back : List Instance) → NonePass p front → p x ≡ true
+    → first_of p (front ++ x ∷ back) ≡ Some x
+first_of-middle p [] x back n e = rw e refl
+first_of-middle p (y ∷ ys) x back n e = rw n.0 (first_of-middle p ys x back n.1 e)
 
 pub Contains-middle : {X : Type 0} (front : List X) (x : X) (back : List X) → Contains (front ++ x ∷ back) x
 Contains-middle [] x back = Contains-first x back

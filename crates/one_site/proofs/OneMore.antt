@@ -8,7 +8,7 @@ use Rattle.tree_model.specs.declared.line.ScheduleLine.{ScheduleLine}
 use Rattle.tree_model.specs.Lines.{config_of, with_line, no_cluster}
 use Rattle.tree_model.specs.Reading.{how_many, is_counted, is_call_line, place_of, calls_of}
 use Rattle.tree_model.specs.Trace.{Trace}
-use Rattle.tree_model.specs.Lawful.{EachComes, tells_call, tells_call_of}
+use Rattle.tree_model.specs.Lawful.{EachComes, must_tell, tells_own, tells_own_of}
 use Rattle.one_site.specs.Ids.{entry}
 use Rattle.one_site.proofs.Names.{not_same, same_yes}
 use Rattle.one_site.proofs.Starting.{nil-split}
@@ -62,33 +62,33 @@ pub calls_of-push : (lines : List ScheduleLine) (x : ScheduleLine) → calls_of 
 calls_of-push lines x = how_many-push is_call_line lines x
 
 -- no record is told of a later line
-none-later : (c : Config) (lines : List ScheduleLine) (t : Trace) (m : ℕ) → EachComes c lines t → length lines < m → how_many (tells_call_of m) t ≡ 0
+none-later : (c : Config) (lines : List ScheduleLine) (t : Trace) (m : ℕ) → EachComes c lines t → length lines < m → how_many (tells_own_of m) t ≡ 0
 none-later c lines [] m h lt = refl
 none-later c lines (r ∷ before) m h lt =
     let w = h.0 in
     let other : eqb r.line m ≡ false = not_same r.line m (λ s. absurd (omega (arith, s, w.number, ap length w.split, length-append w.earlier (w.line_now ∷ w.later)))) in
-    by_kind (tells_call r.what) (eqb r.line m) other (none-later c lines before m h.1 lt)
+    by_kind (tells_own r.what) (eqb r.line m) other (none-later c lines before m h.1 lt)
   where
-    by_kind : (k : Bool) (s : Bool) → s ≡ false → how_many (tells_call_of m) before ≡ 0 → cond (k && s) (suc (how_many (tells_call_of m) before)) (how_many (tells_call_of m) before) ≡ 0
+    by_kind : (k : Bool) (s : Bool) → s ≡ false → how_many (tells_own_of m) before ≡ 0 → cond (k && s) (suc (how_many (tells_own_of m) before)) (how_many (tells_own_of m) before) ≡ 0
     by_kind true s o n = rw o n
     by_kind false s o n = n
 
--- each call line so far has one record
+-- each line so far that must tell what came of it has done so once
 abbrev pub ToldOnce : List ScheduleLine → Trace → Type 0
-ToldOnce lines t = (earlier : List ScheduleLine) (l : ScheduleLine) (later : List ScheduleLine) → lines ≡ earlier ++ l ∷ later → is_call_line l ≡ true → how_many (tells_call_of (length earlier + 1)) t ≡ 1
+ToldOnce lines t = (earlier : List ScheduleLine) (l : ScheduleLine) (later : List ScheduleLine) → lines ≡ earlier ++ l ∷ later → must_tell l ≡ true → how_many (tells_own_of (length earlier + 1)) t ≡ 1
 
--- a line that is no call, with records of no call
-pub ToldOnce-quiet : (lines : List ScheduleLine) (x : ScheduleLine) (t more : Trace) → ToldOnce lines t → is_call_line x ≡ false →
-    ((m : ℕ) → how_many (tells_call_of m) more ≡ how_many (tells_call_of m) t) → ToldOnce (lines ++ x ∷ []) more
+-- a line that need not, with records that tell of none
+pub ToldOnce-quiet : (lines : List ScheduleLine) (x : ScheduleLine) (t more : Trace) → ToldOnce lines t → must_tell x ≡ false →
+    ((m : ℕ) → how_many (tells_own_of m) more ≡ how_many (tells_own_of m) t) → ToldOnce (lines ++ x ∷ []) more
 ToldOnce-quiet lines x t more once quiet same = λ earlier l later e is.
     ⊎_elim
-    (λ w. absurd (false≢true (sym quiet ∙ ap is_call_line (sym w.1) ∙ is)))
+    (λ w. absurd (false≢true (sym quiet ∙ ap must_tell (sym w.1) ∙ is)))
     (λ w. same (length earlier + 1) ∙ once earlier l w.0 w.1 is)
     (snoc_split lines x earlier l later e)
 
--- a call line with its one record, and others of no call
-pub ToldOnce-call : (c : Config) (lines : List ScheduleLine) (x : ScheduleLine) (t more : Trace) (number : ℕ) (r : Record) → EachComes c lines t → ToldOnce lines t → tells_call r ≡ true →
-    number ≡ length lines + 1 → ((m : ℕ) → how_many (tells_call_of m) more ≡ how_many (tells_call_of m) (entry number r ∷ t)) → ToldOnce (lines ++ x ∷ []) more
+-- a line with its one record, and others that tell of none
+pub ToldOnce-call : (c : Config) (lines : List ScheduleLine) (x : ScheduleLine) (t more : Trace) (number : ℕ) (r : Record) → EachComes c lines t → ToldOnce lines t → tells_own r ≡ true →
+    number ≡ length lines + 1 → ((m : ℕ) → how_many (tells_own_of m) more ≡ how_many (tells_own_of m) (entry number r ∷ t)) → ToldOnce (lines ++ x ∷ []) more
 ToldOnce-call c lines x t more number r each once call e0 same = λ earlier l later e is.
     same (length earlier + 1) ∙
     ⊎_elim

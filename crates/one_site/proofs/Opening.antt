@@ -25,8 +25,8 @@ use Rattle.tree_model.specs.declared.instance.Waiting.{Waiting}
 use Rattle.tree_model.specs.Directory.{entries_of, lookup}
 use Rattle.tree_model.specs.Trace.{Trace, descriptor, kept_in, history, candidates, held, is_taken, call_named}
 use Rattle.tree_model.specs.Tree.{opened, openers, process_of, begins_owing}
-use Rattle.tree_model.specs.Calls.{entered, found_in}
-use Rattle.tree_model.specs.Lawful.{served_by}
+use Rattle.tree_model.specs.Calls.{entered}
+use Rattle.tree_model.specs.OneTree.{served_by}
 use Rattle.one_site.specs.declared.files.FileState.{FileState}
 use Rattle.one_site.specs.Ids.{one_site, the_epoch, call_id, serial_of, file_of, stamp_of}
 use Rattle.one_site.specs.Files.{file_at, KnowsFile, KnowsInode}
@@ -68,7 +68,7 @@ Good-looked p s t w path name how root a g c finds =
     Good-look p (at_rest s w) t w (file_of 1) (what.Name name) (served.At (stamp_of root.n)) (a ∷ []) g refl refl refl
     (wants-open s w path name how root (lowest_free (descriptor t 1 1)) [] c)
     (sym (ap (served_by (what.Name name)) only))
-    (ap (found_in (what.Name name)) file.content ∙ ap (λ (b : Answer). b ∷ []) finds)
+    (ap (λ (bytes : List ℕ). entered name (lookup (entries_of bytes) name) ∷ []) file.content ∙ ap (λ (b : Answer). b ∷ []) finds)
 
 pub file-known : (s : Site) (t : Trace) (ino : ℕ) (st : FileState) → Known s t → file_at s.files ino ≡ Some st
     → KnowsFile (history one_site t) (candidates one_site t the_epoch (file_of ino)) (held one_site t 1 (file_of ino)) ino st

@@ -2,7 +2,7 @@
 use Rattle.std.proofs.Common.{◌≡◌, ◌≤◌, ◌<◌, ◌+◌, ◌++◌, ◌∷◌, ◌⊎◌, ℕ, Bool, true, false, List, [], length, drop, filter, reverse, Option, None, Some, refl, sym, ap, ◌∙◌, subst, arith, inl, inr, ⊎_elim, length-append}
 use Rattle.std.specs.Prelude.{nat_lt, cond}
 use Rattle.std.proofs.Math.ListN.{length-set}
-use Rattle.std.proofs.lemmas.Bool.{false≢true}
+use Rattle.std.proofs.lemmas.Bool.{false≢true, le-leb}
 use Rattle.std.specs.List.{AllByRecursion, list_any}
 use Rattle.locus_ids.specs.declared.ids.Kind.TheVariants.{File}
 use Rattle.locus_ids.specs.declared.sites.Sites.{Sites}
@@ -153,7 +153,7 @@ made-goes p r t w name g s c gives =
     (found-waiting p r t w g.good c.waiting) (runs-create r t w name run c)
     (root-there r run.root) (probe-now r name is ∙ gives)
     (grows r w name run.root s c.waiting)
-    (ap (list_any (is_pair name (next_ino r))) is ∙ list_any-is_pair name (next_ino r) r.dir below)
+    (ap (list_any (is_pair name (next_ino r))) is ∙ list_any-is_pair name (next_ino r) r.dir below) (le-leb (length name) 60 (name-short name c.plain))
     (ap (λ (ds : List DirEntry). dir_bytes (with_entry (new_entry name (next_ino r) File) ds)) is) in
     record {
       good = good;

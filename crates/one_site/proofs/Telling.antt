@@ -1,7 +1,7 @@
 -- Records that leave files and instances as they are: a call is accepted, refused for its line, and answered.
 use Rattle.std.proofs.Common.{◌≡◌, ◌<◌, ◌+◌, ◌∷◌, ℕ, Bool, true, false, not, ◌&&◌, List, [], Option, None, Some, refl, sym, ap, ◌∙◌, subst, arith, get_or, inr}
 use Rattle.trace_book.specs.Scripts.{wants, Give}
-use Rattle.trace_book.specs.Descriptors.{lowest_free}
+use Rattle.trace_book.specs.Descriptors.{lowest_free, is_in}
 use Rattle.trace_book.specs.declared.record.Record.{Record}
 use Rattle.trace_book.specs.declared.record.Record.TheVariants.{Accept, Answer, Void}
 use Rattle.trace_book.specs.declared.call.Call.{Call}
@@ -12,9 +12,10 @@ use Rattle.tree_model.specs.declared.line.ScheduleLine.TheVariants.{Event}
 use Rattle.tree_model.specs.declared.line.Line.TheVariants as line
 use Rattle.tree_model.specs.Trace.{Trace, descriptor, waiting, waiting_of, without_call, accepted_as, closed_by, opened_by, uses_by, is_of, last_line, is_close}
 use Rattle.tree_model.specs.Calls.{wants_next}
-use Rattle.tree_model.specs.Lawful.{list_of}
+use Rattle.tree_model.specs.OneTree.{list_of}
+use Rattle.tree_model.specs.Calls.{left_epoch, left_since, unless_in}
 use Rattle.one_site.specs.Ids.{one_site, the_epoch, call_id, serial_of}
-use Rattle.one_site.specs.Known.{Site, Good, Place, number_at, with_record, IsCurrent}
+use Rattle.one_site.specs.Known.{Site, Known, Good, Place, number_at, with_record, IsCurrent}
 use Rattle.one_site.proofs.Names.{same_call-refl}
 use Rattle.one_site.proofs.Common.{Good-record, wants_next-now, Contains-first}
 
@@ -96,6 +97,12 @@ Good-accept p s t w words table g first is idle as_w unused closes =
 abbrev pub replied : Site → List (Option Descriptor) → Site
 replied s table = record s { current = None; so_far = []; opening = None; table = table }
 
+-- the site is in the epoch in which the running call was made
+pub stays-now : (s : Site) (t : Trace) (w : Waiting) → Known s t → s.current ≡ Some w → left_epoch t w ≡ None
+stays-now s t w k now =
+    let c = k.current w now in
+    ap (λ e. left_since t w.site e) c.epoch ∙ ap (λ n. left_since t n (Some the_epoch)) c.site ∙ ap (λ o. unless_in the_epoch (is_in o the_epoch)) k.world.2
+
 -- the running call is answered
 pub Good-answer : (p : Place) (s : Site) (t : Trace) (w : Waiting) (r : Reply) (table : List (Option Descriptor)) → Good p s t → s.current ≡ Some w
     → wants [] (lowest_free (descriptor t 1 1)) w.words w.beginning s.so_far ≡ Give r
@@ -108,7 +115,14 @@ Good-answer p s t w r table g now asked opens =
     let asked_now : wants_next one_site t (call_id s.accepted) ≡ Give r = wants_next-now s t w k now ∙ asked in
     let gone : without_call (call_id s.accepted) (waiting t) ≡ [] = rw here (rw c.call (rw (same_call-refl (call_id s.accepted)) refl)) in
     Good-record p s (replied s table) t (Answer 1 1 (call_id s.accepted) r) g
-    (record { waits = w; among = rw here (Contains-first w []); is_it = rw (c.site, c.process) refl; same = c.call; asked = asked_now })
+    (record {
+      waits = w;
+      among = rw here (Contains-first w []);
+      is_it = rw (c.site, c.process) refl;
+      same = c.call;
+      asked = λ stays. asked_now;
+      changed = λ e left. absurd (none-some e (sym (stays-now s t w k now) ∙ left));
+    })
     (record {
       world = k.world;
       accepted = k.accepted;

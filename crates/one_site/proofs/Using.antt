@@ -33,7 +33,7 @@ use Rattle.one_site.proofs.Common.{cond-same}
 use Rattle.one_site.proofs.Telling.{Good-answer}
 use Rattle.one_site.proofs.Acting.{Good-act, Good-release, Good-publish, did, ended, published}
 use Rattle.one_site.proofs.InstanceLists.{NonePass}
-use Rattle.one_site.proofs.Middle.{where_it-middle, without_it-middle, made_by_close-middle, filter-middle, Contains-middle, writer-alone, writes-itself}
+use Rattle.one_site.proofs.Middle.{where_it-middle, without_it-middle, made_by_close-middle, filter-middle, first_of-middle, writer-alone, writes-itself}
 use Rattle.one_site.proofs.Creating.{at_rest}
 
 -- the call begins at an open instance of a file, which is the first of its name
@@ -101,7 +101,7 @@ Good-use p s t w words i ino x new front back o result g c u is asked gives chan
     let all : s.named ++ [] ≡ front ++ x ∷ back = append-nil s.named ∙ c.named in
     let owned = last-use t w i x s.accepted u (g.known.current w refl).call in
     Good-act p (at_rest s w) t w i (x.ops + 1) o result x (front ++ new ∷ back) [] g refl
-    (rw all (Contains-middle front x back)) c.is_it refl (ap (λ f. f.group) c.file) owned asked gives
+    (rw all (first_of-middle (is_named the_epoch i) front x back c.first c.is_it)) refl (ap (λ f. f.group) c.file) owned asked gives
     (rw all (where_it-middle (is_named the_epoch i) (acted one_site t (x.ops + 1) o result) front x back c.first c.is_it)
     ∙ ap (λ y. front ++ y ∷ back) changed ∙ sym (append-nil (front ++ new ∷ back)))
 
@@ -154,7 +154,7 @@ Good-close p s t w fd i ino x front back g c is closes paid nothing =
     let t1 : Trace = with_record p (told.Release the_epoch i (file_of ino) None) t in
     let g0 : Good p s1 t0 =
     Good-release p (at_rest s w) t w i x (front ++ back) [] g refl
-    (rw all (Contains-middle front x back)) c.is_it paid nothing (ap (λ f. f.group) c.file) owned
+    (rw all (first_of-middle (is_named the_epoch i) front x back c.first c.is_it)) paid nothing (ap (λ f. f.group) c.file) owned
     (wants-use s w (call.Close fd) i (lowest_free (descriptor t 1 1)) [] c.begins is)
     (rw all (made_by_close-middle the_epoch i None front x back c.first c.is_it) ∙ cond-same x.fresh None)
     (rw all (without_it-middle (is_named the_epoch i) front x back c.first c.is_it) ∙ sym (append-nil (front ++ back))) in
@@ -189,7 +189,7 @@ Good-publishing_close p s t w fd i ino st x front back files g c is closes exclu
     Good-publish p (at_rest s w) t w i ino st x files (front ++ back) [] g refl there new others
     (rw all (filter-middle (is_writer (Some the_epoch) (file_of ino)) front x back passes_front passes passes_back))
     c.file ss owes last (rw ordinary refl)
-    (rw then (Contains-middle front (committed (stamp_no (st.n + 1)) x) back)) c.is_it owned
+    (rw then (first_of-middle (is_named the_epoch i) front (committed (stamp_no (st.n + 1)) x) back c.first c.is_it)) owned
     (wants-use s w (call.Close fd) i (lowest_free (descriptor t 1 1)) [] c.begins is)
     (rw then (made_by_close-middle the_epoch i (Some (stamp_no (st.n + 1))) front (committed (stamp_no (st.n + 1)) x) back c.first c.is_it))
     (rw then (without_it-middle (is_named the_epoch i) front (committed (stamp_no (st.n + 1)) x) back c.first c.is_it) ∙ sym (append-nil (front ++ back))) in

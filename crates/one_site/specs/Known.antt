@@ -10,7 +10,8 @@ use Rattle.tree_model.specs.declared.line.ScheduleLine.{ScheduleLine}
 use Rattle.tree_model.specs.Trace.{Trace, is_up, boot_of, epoch_of, has_joined, members_of, is_started, history, held, candidates, granted_to, opening_of, is_taken, calls_accepted, call_named, waiting, descriptor, uses_of, close_of, last_line}
 use Rattle.tree_model.specs.Tree.{tree}
 use Rattle.tree_model.specs.Calls.{answers}
-use Rattle.tree_model.specs.Lawful.{EachComes, list_of, merges}
+use Rattle.tree_model.specs.Lawful.{EachComes, merges}
+use Rattle.tree_model.specs.OneTree.{list_of}
 use Rattle.one_site.specs.declared.files.FileState.{FileState}
 use Rattle.one_site.specs.Ids.{one_site, the_epoch, the_members, file_of, call_id, serial_of, stamp_of, entry}
 use Rattle.one_site.specs.Files.{KnowsInode, file_at}

@@ -8,4 +8,5 @@ pub mod Settle
 pub mod Room
 pub mod Went
 pub mod Short
+pub mod Rounds
 pub mod Standing

@@ -20,6 +20,8 @@ use Rattle.tree_model.specs.Reading.{Reads, place_of, calls_of, IsBuiltCall}
 use Rattle.tree_model.specs.Directory.{dir_bytes}
 use Rattle.tree_model.specs.Trace.{Trace, uses_of, close_of, is_close, uses_by, last_line}
 use Rattle.tree_model.specs.Lawful.{IsLawful}
+use Rattle.tree_model.specs.Calm.{CalmRoundsAnswer}
+use Rattle.tree_model.specs.Orderly.{OrderlyBlocksForm}
 use Rattle.locus_ids.specs.declared.config.Config.{Config}
 use Rattle.locus_ids.specs.declared.ids.CallId.{CallId}
 use Rattle.locus_ids.specs.declared.ids.Kind.TheVariants.{File}
@@ -30,6 +32,7 @@ use Rattle.one_site.specs.Ids.{one_site, the_epoch, the_members, entry}
 use Rattle.one_site.specs.Files.{file_at}
 use Rattle.one_site.specs.Opens.{AreExclusive, AreDistinct}
 use Rattle.one_site.specs.Known.{Site, Known, IsNamed}
+use Rattle.one_site.specs.Rounds.{RoundsAnswer, RoundsAreCalm, RoundsAreOrderly}
 
 -- the runner between two lines, as a site
 abbrev pub site_of : Runner → Site
@@ -154,10 +157,20 @@ pub record Stands (r : Runner) (lines : List ScheduleLine) (t : Trace) : Type 0 
   pub cluster : config_of lines ≡ cluster_at r.place
   pub phase : Phase r t
 
+-- The runner stands there, and its rounds so far have done what they must: each was calm and its lines orderly, calm
+-- rounds left no call waiting, and orderly blocks formed their epochs.
+pub record StandsWell (r : Runner) (lines : List ScheduleLine) (t : Trace) : Type 0 where
+  pub stands : Stands r lines t
+  pub rounds : RoundsAnswer r.place lines t
+  pub calm : RoundsAreCalm lines t
+  pub answered : CalmRoundsAnswer lines t
+  pub orderly : RoundsAreOrderly lines t
+  pub formed : OrderlyBlocksForm lines t
+
 -- The runner goes on by a line, with these records, the earliest first.
 abbrev pub Carries : Runner → Runner → ℕ → List ℕ → List Entry → Type 0
-Carries old new number bytes told = (lines : List ScheduleLine) (t : Trace) → number ≡ length lines + 1 → Stands old lines t
-    → (l : ScheduleLine) × Reads lines bytes l × Stands new (lines ++ l ∷ []) (reverse told ++ t)
+Carries old new number bytes told = (lines : List ScheduleLine) (t : Trace) → number ≡ length lines + 1 → StandsWell old lines t
+    → (l : ScheduleLine) × Reads lines bytes l × StandsWell new (lines ++ l ∷ []) (reverse told ++ t)
 
 -- The line may not stand where the runner is.
 abbrev pub Refuses : Runner → List ℕ → Type 0

@@ -20,7 +20,6 @@ mod tell_create;
 mod tell_open;
 mod tell_use;
 mod telling_parts;
-mod writing;
 
 pub use fault::LineFault;
 pub use files::{FileState, Files};

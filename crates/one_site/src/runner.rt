@@ -1,5 +1,5 @@
 ghost use Rattle.std.specs.Prelude.{◌≡◌, []};
-ghost use Rattle.one_site.specs.Standing.{IsSmall, Stands};
+ghost use Rattle.one_site.specs.Standing.{IsSmall, StandsWell};
 
 use crate::{Files, Instances};
 use locus_ids::ItemList;
@@ -32,7 +32,7 @@ pub struct Runner {
 impl Runner {
     /// A runner before the first line.
     pub fn new(alloc: Global) -> Runner
-        ensures stands { Stands result [] [] }
+        ensures stands { StandsWell result [] [] }
         ensures small { IsSmall result }
         ensures place { result.place ≡ 0 }
     {

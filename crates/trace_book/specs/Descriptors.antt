@@ -1,8 +1,6 @@
 -- The descriptors of a process as a function from numbers, and where an accepted call begins by them.
-use Rattle.std.specs.Prelude.{ℕ, zero, suc, ◌+◌, Bool, true, false, cond, List, Option, None, Some}
+use Rattle.std.specs.Prelude.{ℕ, zero, suc, ◌+◌, Bool, true, false, cond, Option, None, Some}
 use Rattle.locus_ids.specs.declared.ids.EpochId.{EpochId}
-use Rattle.locus_ids.specs.declared.ids.Mode.{Mode}
-use Rattle.locus_ids.specs.declared.refusal.Refusal.{Refusal}
 use Rattle.locus_ids.specs.declared.refusal.Refusal.TheVariants.{BadDescriptor, Stale, ReadOnly, NoDescriptor, NoPartition}
 use Rattle.commit_graph.specs.Grants.{is_read}
 use Rattle.trace_book.specs.Same.{same_epoch}

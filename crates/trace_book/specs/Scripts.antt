@@ -1,10 +1,13 @@
 -- The scripts of calls: what a call asks next, by what its requests were answered so far, the earliest answer first.
-use Rattle.std.specs.Prelude.{ℕ, ◌==◌, Bool, true, false, cond, List, [], ◌∷◌, Option, None, Some}
+use Rattle.std.specs.Prelude.{ℕ, ◌==◌, ◌&&◌, Bool, true, false, cond, List, [], ◌∷◌, Option, None, Some}
 use Rattle.std.specs.Str.{bytes_eq}
+use Rattle.std.specs.Ordering.{nat_cmp}
+use Rattle.std.specs.Cmp.Lexicographic.{slice_cmp}
+use Rattle.std.specs.declared.cmp.Ordering.{Ordering}
+use Rattle.std.specs.declared.cmp.Ordering.TheVariants.{Less, Equal, Greater}
 use Rattle.locus_ids.specs.declared.ids.FileId.{FileId}
 use Rattle.locus_ids.specs.declared.ids.Stamp.{Stamp}
 use Rattle.locus_ids.specs.declared.ids.Serial.{Serial}
-use Rattle.locus_ids.specs.declared.ids.EpochId.{EpochId}
 use Rattle.locus_ids.specs.declared.ids.Mode.{Mode}
 use Rattle.locus_ids.specs.declared.ids.Mode.TheVariants as mode
 use Rattle.locus_ids.specs.declared.ids.Kind.{Kind}
@@ -35,8 +38,12 @@ pub data Answer : Type 0 where
   Entered : ℕ → Kind → Answer
   Showed : List (List ℕ) → Answer
   Described : Kind → ℕ → Stamp → Answer
+  -- the whole content of a version, which stays at the site that asked
+  Brought : Answer
   -- an open or a make: the instance, and its file's inode
   Opened : Serial → ℕ → Answer
+  -- an open to mend: the instance, and the stamps of the versions that are kept, ascending
+  Merging : Serial → List Stamp → Answer
   -- an operation
   Did : Outcome → Answer
   -- a close, with the version that it made
@@ -47,6 +54,8 @@ pub data Answer : Type 0 where
 pub data Want : Type 0 where
   Look : FileId → What → Want
   Open : FileId → OpenMode → Want
+  -- a directory is opened to be mended
+  OpenToMend : FileId → Want
   -- a new file of the group
   Make : ℕ → Kind → Option Sites → Want
   Do : Serial → Op → Want
@@ -194,11 +203,121 @@ uses_wants (call.Abort fd) i answers = op_wants i op.Abort answers
 uses_wants (call.Close fd) i answers = close_wants i answers
 uses_wants _ i answers = Never
 
+-- mend: open the directory, look at the whole of each kept version, mend, close
+abbrev pub after_mend : Serial → List Answer → Want
+after_mend i [] = Do i op.Mend
+after_mend i (Did o ∷ rest) = close_wants i rest
+after_mend i (Refused why ∷ rest) = give_up (i ∷ []) why rest
+after_mend i (_ ∷ rest) = Never
+
+abbrev pub brings : Serial → FileId → List Stamp → List Answer → Want
+brings i file [] answers = after_mend i answers
+brings i file (stamp ∷ stamps) [] = Look file (what.Whole stamp)
+brings i file (stamp ∷ stamps) (Brought ∷ rest) = brings i file stamps rest
+brings i file (stamp ∷ stamps) (Refused why ∷ rest) = give_up (i ∷ []) why rest
+brings i file (stamp ∷ stamps) (_ ∷ rest) = Never
+
+abbrev pub mend_wants : FileId → List Answer → Want
+mend_wants file [] = OpenToMend file
+mend_wants file (Merging i kept ∷ rest) = brings i file kept rest
+mend_wants file (Refused why ∷ []) = Give (reply.No why)
+mend_wants file (_ ∷ rest) = Never
+
+-- unlink and rmdir: open the directory, find the name, open what it means, see that a directory shows no name, remove the
+-- entry, close the directory and then the other
+abbrev pub after_remove : Serial → Serial → List Answer → Want
+after_remove p t (Did o ∷ rest) = close_all (p ∷ t ∷ []) reply.Done rest
+after_remove p t (Refused why ∷ rest) = give_up (p ∷ t ∷ []) why rest
+after_remove p t _ = Never
+
+abbrev pub removes : Serial → Serial → List ℕ → ℕ → List Answer → Want
+removes p t name ino [] = Do p (op.Remove name ino)
+removes p t name ino (a ∷ rest) = after_remove p t (a ∷ rest)
+
+abbrev pub empties : Kind → Serial → Serial → List ℕ → ℕ → List Answer → Want
+empties File p t name ino answers = removes p t name ino answers
+empties Dir p t name ino [] = Do t op.Empty
+empties Dir p t name ino (Did o ∷ rest) = removes p t name ino rest
+empties Dir p t name ino (Refused why ∷ rest) = give_up (p ∷ t ∷ []) why rest
+empties Dir p t name ino (_ ∷ rest) = Never
+
+abbrev pub opens_target : Kind → Serial → ℕ → List ℕ → ℕ → List Answer → Want
+opens_target kind p group name ino [] = Open (record { group = group; ino = ino }) how.Write
+opens_target kind p group name ino (Opened t found ∷ rest) = empties kind p t name ino rest
+opens_target kind p group name ino (Refused why ∷ rest) = give_up (p ∷ []) why rest
+opens_target kind p group name ino (_ ∷ rest) = Never
+
+-- a file is unlinked, and a directory is removed
+abbrev pub by_kind : Kind → Kind → Serial → ℕ → List ℕ → ℕ → List Answer → Want
+by_kind File File p group component ino rest = opens_target File p group (plain_name component) ino rest
+by_kind Dir Dir p group component ino rest = opens_target Dir p group (plain_name component) ino rest
+by_kind File Dir p group component ino rest = give_up (p ∷ []) IsDir rest
+by_kind Dir File p group component ino rest = give_up (p ∷ []) (NotDir component) rest
+
+abbrev pub finds : Kind → Serial → ℕ → List ℕ → List Answer → Want
+finds kind p group component [] = Do p (op.Find component)
+finds kind p group component (Did (outcome.Found ino found) ∷ rest) = by_kind kind found p group component ino rest
+finds kind p group component (Refused why ∷ rest) = give_up (p ∷ []) why rest
+finds kind p group component (_ ∷ rest) = Never
+
+abbrev pub remove_wants : List Mount → List ℕ → Kind → List Answer → Want
+remove_wants mounts path kind answers = walked mounts (but_last (components path)) answers (λ dir k rest.
+    opens_dir (last_of (but_last (components path))) (λ p. finds kind p dir.group (last_of (components path))) dir k rest)
+
+-- rename: open the directory, rename the entry, close it
+abbrev pub renames : Serial → List ℕ → List ℕ → List Answer → Want
+renames p component name [] = Do p (op.Rename component name)
+renames p component name (Did o ∷ rest) = close_all (p ∷ []) reply.Done rest
+renames p component name (Refused why ∷ rest) = give_up (p ∷ []) why rest
+renames p component name (_ ∷ rest) = Never
+
+abbrev pub rename_wants : List Mount → List ℕ → List ℕ → List Answer → Want
+rename_wants mounts path name answers = walked mounts (but_last (components path)) answers (λ dir k rest.
+    opens_dir (last_of (but_last (components path))) (λ p. renames p (last_of (components path)) name) dir k rest)
+
+-- the root of group 0 shows the mount names too, each at its place among the plain names by its bytes
+abbrev pub before_name : Ordering → Bool
+before_name Less = true
+before_name Equal = false
+before_name Greater = false
+
+abbrev pub with_name : List ℕ → List (List ℕ) → List (List ℕ)
+with_name name [] = name ∷ []
+with_name name (n ∷ ns) = cond (before_name (slice_cmp nat_cmp name (plain_name n))) (name ∷ n ∷ ns) (n ∷ with_name name ns)
+
+abbrev pub with_mounts : List Mount → List (List ℕ) → List (List ℕ)
+with_mounts [] names = names
+with_mounts (m ∷ ms) names = with_name m.name (with_mounts ms names)
+
+abbrev pub shown_in : List Mount → FileId → List (List ℕ) → List (List ℕ)
+shown_in mounts dir names = cond ((dir.group == 0) && (dir.ino == 1)) (with_mounts mounts names) names
+
+-- list: walk to the directory and look at its names
+abbrev pub lists : List Mount → List ℕ → FileId → Kind → List Answer → Want
+lists mounts reached at File answers = Give (reply.No (NotDir reached))
+lists mounts reached at Dir [] = Look at what.List
+lists mounts reached at Dir (Showed names ∷ []) = Give (reply.Names (shown_in mounts at names))
+lists mounts reached at Dir (Refused why ∷ []) = Give (reply.No why)
+lists mounts reached at Dir (_ ∷ rest) = Never
+
+-- stat: walk to the file or directory and look at what it is
+abbrev pub describes : FileId → Kind → List Answer → Want
+describes at kind [] = Look at what.Stat
+describes at kind (Described k size stamp ∷ []) = Give (reply.Stat k at size stamp)
+describes at kind (Refused why ∷ []) = Give (reply.No why)
+describes at kind (_ ∷ rest) = Never
+
 -- what a call asks that walks a path
 abbrev pub path_wants : List Mount → Option ℕ → Call → List Answer → Want
 path_wants mounts free (call.Create path sites) answers = create_wants mounts path File sites answers
 path_wants mounts free (call.MakeDir path) answers = create_wants mounts path Dir None answers
+path_wants mounts free (call.Unlink path) answers = remove_wants mounts path File answers
+path_wants mounts free (call.RemoveDir path) answers = remove_wants mounts path Dir answers
+path_wants mounts free (call.Rename path name) answers = rename_wants mounts path name answers
+path_wants mounts free (call.List path) answers = walked mounts (components path) answers (lists mounts (last_of (components path)))
+path_wants mounts free (call.Stat path) answers = walked mounts (components path) answers describes
 path_wants mounts free (call.Open path how) answers = walked mounts (components path) answers (opens_file how free)
+path_wants mounts free (call.Mend file) answers = mend_wants file answers
 path_wants mounts free _ answers = Never
 
 -- what a call asks next: by where it began, and what it was answered so far

@@ -1,15 +1,19 @@
 -- How far a call has come: what its requests were answered, and what it asks next.
-use Rattle.std.specs.Prelude.{ℕ, ◌≡◌, ◌+◌, ◌-◌, ◌==◌, Bool, true, false, ◌&&◌, cond, List, [], ◌∷◌, ◌++◌, length, take, Option, None, Some}
+use Rattle.std.specs.Prelude.{ℕ, ◌-◌, Bool, true, false, cond, List, [], ◌∷◌, ◌++◌, length, take, Option, None, Some}
 use Rattle.locus_ids.specs.declared.config.Config.{Config}
 use Rattle.locus_ids.specs.declared.ids.FileId.{FileId}
 use Rattle.locus_ids.specs.declared.ids.Stamp.{Stamp}
 use Rattle.locus_ids.specs.declared.ids.CallId.{CallId}
-use Rattle.locus_ids.specs.declared.refusal.Refusal.{Refusal}
 use Rattle.locus_ids.specs.declared.refusal.Refusal.TheVariants.{Absent, Ambiguous}
 use Rattle.commit_graph.specs.Versions.{content_of}
 use Rattle.trace_book.specs.Same.{same_call}
 use Rattle.trace_book.specs.Descriptors.{lowest_free}
-use Rattle.trace_book.specs.Scripts.{Answer, Want, wants, Entered, Opened, Did, Ended, Refused, Never}
+use Rattle.locus_ids.specs.declared.ids.Kind.{Kind}
+use Rattle.locus_ids.specs.declared.ids.Serial.{Serial}
+use Rattle.locus_ids.specs.declared.ids.Mode.{Mode}
+use Rattle.locus_ids.specs.declared.ids.Mode.TheVariants as mode
+use Rattle.trace_book.specs.Descriptors.{is_in}
+use Rattle.trace_book.specs.Scripts.{Answer, Want, wants, Entered, Showed, Described, Brought, Opened, Merging, Did, Ended, Refused, Never}
 use Rattle.trace_book.specs.declared.record.Record.{Record}
 use Rattle.trace_book.specs.declared.record.Record.TheVariants.{Look, Grant, Refuse, Act, Release}
 use Rattle.trace_book.specs.declared.operation.What.{What}
@@ -18,27 +22,36 @@ use Rattle.trace_book.specs.declared.operation.Served.{Served}
 use Rattle.trace_book.specs.declared.operation.Served.TheVariants as served
 use Rattle.trace_book.specs.declared.operation.Outcome.{Outcome}
 use Rattle.trace_book.specs.declared.operation.Outcome.TheVariants as outcome
-use Rattle.tree_model.specs.declared.dir_entry.DirEntry.{DirEntry}
 use Rattle.tree_model.specs.declared.instance.Waiting.{Waiting}
-use Rattle.tree_model.specs.Directory.{Looked, One, Nothing, Several, lookup, entries_of}
+use Rattle.tree_model.specs.Directory.{Looked, One, Nothing, Several, lookup, entries_of, shown_names}
+use Rattle.tree_model.specs.Files.{kind_of_file}
+use Rattle.locus_ids.specs.declared.ids.EpochId.{EpochId}
 use Rattle.tree_model.specs.Tree.{tree, made_by_close}
-use Rattle.tree_model.specs.Trace.{Trace, history, descriptor, call_named, call_of_act, call_of_release, is_call}
+use Rattle.tree_model.specs.Trace.{Trace, history, kept_in, epoch_of, descriptor, call_named, call_of_act, call_of_release, is_call}
 
 abbrev pub entered : List ℕ → Looked → Answer
 entered component (One d) = Entered d.ino d.kind
 entered component Nothing = Refused (Absent component)
 entered component (Several a b) = Refused (Ambiguous a b)
 
--- what a look finds in the content that is served, for those that are built
-abbrev pub found_in : What → List ℕ → List Answer
-found_in (what.Name component) content = entered component (lookup (entries_of content) component) ∷ []
-found_in what.List content = []
-found_in what.Stat content = []
-found_in (what.Whole stamp) content = []
+-- what a look finds in the content of the version that is served
+abbrev pub found_in : Kind → Stamp → What → List ℕ → Answer
+found_in kind stamp (what.Name component) content = entered component (lookup (entries_of content) component)
+found_in kind stamp what.List content = Showed (shown_names (entries_of content))
+found_in kind stamp what.Stat content = Described kind (length content) stamp
+found_in kind stamp (what.Whole asked) content = Brought
 
 abbrev pub look_answer : Config → Trace → FileId → What → Served → List Answer
-look_answer c before f w (served.At stamp) = found_in w (content_of (history c before) f stamp)
+look_answer c before f w (served.At stamp) = found_in (kind_of_file c before f) stamp w (content_of (history c before) f stamp) ∷ []
 look_answer c before f w (served.No why) = Refused why ∷ []
+
+-- a granted open tells the instance, and one to mend the kept versions too
+abbrev pub granted_answer : Mode → Serial → FileId → List Stamp → Answer
+granted_answer mode.Mend i f kept = Merging i kept
+granted_answer mode.Read i f kept = Opened i f.ino
+granted_answer mode.Write i f kept = Opened i f.ino
+granted_answer mode.Resolve i f kept = Opened i f.ino
+granted_answer mode.Make i f kept = Opened i f.ino
 
 abbrev pub outcome_answer : Outcome → Answer
 outcome_answer (outcome.No why) = Refused why
@@ -50,7 +63,7 @@ outcome_answer (outcome.Committed stamp) = Did (outcome.Committed stamp)
 -- A look that is taken again has the number of its request; its last record counts.
 abbrev pub answers_after : Record → Config → Trace → CallId → List Answer → List Answer
 answers_after (Look e call request f w result) c before d old = cond (same_call call d) (take (request - 1) old ++ look_answer c before f w result) old
-answers_after (Grant e call request i mode f stamp ss) c before d old = cond (same_call call d) (old ++ Opened i f.ino ∷ []) old
+answers_after (Grant e call request i mode f stamp ss) c before d old = cond (same_call call d) (old ++ granted_answer mode i f (kept_in c before e f) ∷ []) old
 answers_after (Refuse e call request i mode f why) c before d old = cond (same_call call d) (old ++ Refused why ∷ []) old
 answers_after (Act e i n o result) c before d old = cond (is_call (call_of_act before e i n) d) (old ++ outcome_answer result ∷ []) old
 answers_after (Release e i f stamp) c before d old = cond (is_call (call_of_release before e i) d) (old ++ Ended (made_by_close e i stamp (tree c before)) ∷ []) old
@@ -72,3 +85,15 @@ wants_after c before d so_far = wants_as c before (call_named before d) so_far
 -- what the call asks next
 abbrev pub wants_next : Config → Trace → CallId → Want
 wants_next c before d = wants_after c before d (answers c before d)
+
+abbrev pub unless_in : EpochId → Bool → Option EpochId
+unless_in e true = None
+unless_in e false = Some e
+
+abbrev pub left_since : Trace → ℕ → Option EpochId → Option EpochId
+left_since before site None = None
+left_since before site (Some e) = unless_in e (is_in (epoch_of before site) e)
+
+-- the epoch in which a waiting call was made, if its site has left it since
+abbrev pub left_epoch : Trace → Waiting → Option EpochId
+left_epoch before w = left_since before w.site w.epoch

@@ -1,5 +1,5 @@
 -- Directories as bytes, and what an operation on a content gives.
-use Rattle.std.specs.Prelude.{ℕ, zero, suc, ◌≡◌, ◌<◌, ◌≤◌, ◌+◌, ◌-◌, ◌%◌, ◌^◌, ◌==◌, ◌⊎◌, Bool, true, false, not, ◌&&◌, ◌||◌, cond, List, [], ◌∷◌, ◌++◌, length, take, drop, replicate, filter, codes, nat_lt, Option, None, Some, slice_index}
+use Rattle.std.specs.Prelude.{ℕ, zero, suc, ◌+◌, ◌-◌, ◌%◌, ◌==◌, Bool, true, false, not, ◌&&◌, ◌||◌, cond, List, [], ◌∷◌, ◌++◌, length, take, drop, replicate, filter, map, codes, nat_le, nat_lt, Option, None, Some, slice_index}
 use Rattle.std.specs.List.{flat_map, list_any}
 use Rattle.std.specs.Int.{to_be_bytes, from_be_bytes, w16, w32}
 use Rattle.std.specs.Fmt.{decimal}
@@ -10,7 +10,6 @@ use Rattle.std.specs.declared.cmp.Ordering.{Ordering}
 use Rattle.std.specs.declared.cmp.Ordering.TheVariants.{Less, Equal, Greater}
 use Rattle.locus_ids.specs.declared.ids.Kind.{Kind}
 use Rattle.locus_ids.specs.declared.ids.Kind.TheVariants.{File, Dir}
-use Rattle.locus_ids.specs.declared.refusal.Refusal.{Refusal}
 use Rattle.locus_ids.specs.declared.refusal.Refusal.TheVariants.{Absent, Ambiguous, Exists, TooLong}
 use Rattle.trace_book.specs.declared.operation.Op.{Op}
 use Rattle.trace_book.specs.declared.operation.Op.TheVariants as op
@@ -77,6 +76,15 @@ lookup ds component = looked_among (filter (is_meant component) ds)
 abbrev pub has_name : List ℕ → DirEntry → Bool
 has_name name d = is_live d && bytes_eq d.name name
 
+-- a live entry is shown by its name, or where several live entries have it, by its name with `@` and its inode
+abbrev pub shown_among : DirEntry → List DirEntry → List ℕ
+shown_among d [] = d.name
+shown_among d (one ∷ []) = d.name
+shown_among d (one ∷ other ∷ others) = d.name ++ codes "@" ++ decimal d.ino
+
+abbrev pub shown_names : List DirEntry → List (List ℕ)
+shown_names ds = map (λ d. shown_among d (filter (has_name d.name) ds)) (filter is_live ds)
+
 -- entries are ordered by the bytes of the name, a proper prefix first, then by inode
 abbrev pub by_name : Ordering → Bool → Bool
 by_name Less by_ino = true
@@ -119,11 +127,12 @@ written content at bytes = take at (content ++ replicate (at - length content) 0
 abbrev pub is_pair : List ℕ → ℕ → DirEntry → Bool
 is_pair name ino d = bytes_eq d.name name && (d.ino == ino)
 
--- what an operation on a content gives, for those that are built; a pair that stands is never inserted
+-- what an operation on a content gives, for those that are built; a pair that stands is never inserted, nor one whose
+-- name is longer than a name may be
 abbrev pub result_of : Op → List ℕ → Option Outcome
 result_of (op.Probe name) content = Some (probe_result name content)
 result_of (op.Find component) content = Some (find_result component (lookup (entries_of content) component))
-result_of (op.Insert name ino kind) content = cond (list_any (is_pair name ino) (entries_of content)) None (Some outcome.Done)
+result_of (op.Insert name ino kind) content = cond (nat_le (length name) 60 && not (list_any (is_pair name ino) (entries_of content))) (Some outcome.Done) None
 result_of (op.Read at len) content = Some (outcome.Data (take len (drop at content)))
 result_of (op.Write at bytes) content = Some outcome.Done
 result_of (op.Cut len) content = Some outcome.Done
@@ -131,7 +140,7 @@ result_of _ content = None
 
 -- the content that an operation leaves where it isn't refused
 abbrev pub content_after : Op → List ℕ → List ℕ
-content_after (op.Insert name ino kind) content = dir_bytes (with_entry (new_entry name ino kind) (entries_of content))
+content_after (op.Insert name ino kind) content = cond (nat_le (length name) 60) (dir_bytes (with_entry (new_entry name ino kind) (entries_of content))) content
 content_after (op.Write at bytes) content = written content at bytes
 content_after (op.Cut len) content = take len content
 content_after _ content = content

@@ -3,5 +3,9 @@ pub mod Reading
 pub mod Trace
 pub mod Directory
 pub mod Tree
+pub mod Files
 pub mod Calls
+pub mod Calm
 pub mod Lawful
+pub mod Orderly
+pub mod OneTree

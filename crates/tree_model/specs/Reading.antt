@@ -1,23 +1,14 @@
--- The lines that some bytes are, and which line may stand where.
-use Rattle.std.specs.Prelude.{ℕ, ◌≡◌, ◌<◌, ◌≤◌, ◌+◌, ◌*◌, ◌==◌, ◌⊎◌, Bool, true, false, List, [], ◌∷◌, ◌++◌, length, cond, suc, Option, None, Some}
-use Rattle.std.specs.List.{onto_first, AllByRecursion}
+-- Which line of a schedule may stand where.
+use Rattle.std.specs.Prelude.{ℕ, ◌≡◌, ◌<◌, ◌≤◌, ◌+◌, Bool, true, false, List, [], ◌∷◌, ◌++◌, length, cond, suc, None}
 use Rattle.trace_book.specs.Names.{is_name}
 use Rattle.trace_book.specs.declared.call.Call.{Call}
 use Rattle.trace_book.specs.declared.call.Call.TheVariants as call
-use Rattle.trace_book.specs.declared.call.OpenMode.{OpenMode}
 use Rattle.trace_book.specs.declared.call.OpenMode.TheVariants as how
-use Rattle.tree_model.specs.declared.line.HeaderLine.{HeaderLine}
 use Rattle.tree_model.specs.declared.line.HeaderLine.TheVariants as header
-use Rattle.tree_model.specs.declared.line.Line.{Line}
 use Rattle.tree_model.specs.declared.line.Line.TheVariants as line
 use Rattle.tree_model.specs.declared.line.ScheduleLine.{ScheduleLine}
 use Rattle.tree_model.specs.declared.line.ScheduleLine.TheVariants.{Passed, Header, Event}
 use Rattle.tree_model.specs.Lines.{Spells}
-
--- the lines of some bytes: each ends with a line feed, and the last may lack it
-abbrev pub lines_of : List ℕ → List (List ℕ)
-lines_of [] = []
-lines_of (b ∷ bs) = cond (b == 10) ([] ∷ lines_of bs) (onto_first b (lines_of bs))
 
 -- the line is neither empty nor a comment
 abbrev pub is_counted : ScheduleLine → Bool

@@ -1,5 +1,5 @@
 -- What the records so far tell. A trace is a list of entries, the latest first; each of these is a fold over it.
-use Rattle.std.specs.Prelude.{ℕ, zero, suc, ◌≡◌, ◌+◌, ◌==◌, Bool, true, false, not, ◌&&◌, ◌||◌, List, [], ◌∷◌, ◌++◌, length, Option, None, Some, cond, slice_index_or, nat_lt}
+use Rattle.std.specs.Prelude.{ℕ, zero, suc, ◌+◌, ◌==◌, Bool, true, false, not, ◌&&◌, ◌||◌, List, [], ◌∷◌, ◌++◌, length, Option, None, Some, cond, slice_index_or, nat_lt}
 use Rattle.locus_ids.specs.Sites.{has}
 use Rattle.locus_ids.specs.declared.sites.Sites.{Sites}
 use Rattle.locus_ids.specs.declared.sites.Members.{Members}
@@ -13,7 +13,7 @@ use Rattle.commit_graph.specs.Versions.{same_file, kept, with_stamp}
 use Rattle.commit_graph.specs.declared.history.Version.{Version}
 use Rattle.trace_book.specs.Text.{entry_text}
 use Rattle.trace_book.specs.Same.{same_epoch, same_call, same_serial}
-use Rattle.trace_book.specs.Descriptors.{is_in, lowest_free, beginning}
+use Rattle.trace_book.specs.Descriptors.{is_in, beginning}
 use Rattle.trace_book.specs.Scripts.{root_of}
 use Rattle.trace_book.specs.declared.record.Record.{Record}
 use Rattle.trace_book.specs.declared.record.Record.TheVariants.{Up, Stopped, Leave, Join, Start, Accept, Grant, Commit, Release, Adopt, Answer}
@@ -352,7 +352,8 @@ abbrev pub close_of : Trace → EpochId → Serial → Option CallId
 close_of [] e i = None
 close_of (r ∷ before) e i = close_after r.what before e i (close_of before e i)
 
-abbrev pub or_else : Option CallId → Option CallId → Option CallId
+-- the first where it is there, else the other
+abbrev pub or_else : {X : Type 0} → Option X → Option X → Option X
 or_else None other = other
 or_else (Some c) other = Some c
 

@@ -1,8 +1,10 @@
-use Rattle.std.proofs.Common.{◌≡◌, ◌+◌, ◌≤◌, List, ℕ, Ok, Err, ap, sym, ◌∙◌, subst, arith, refl, inl, inr, length, ⊎_elim}
+use Rattle.std.proofs.Common.{◌≡◌, ◌+◌, ◌≤◌, ◌⊎◌, List, ℕ, Ok, Err, ap, sym, ◌∙◌, subst, arith, refl, inl, inr, length, ⊎_elim}
+use Rattle.std.proofs.lemmas.Bool.{false≢true}
+use Rattle.locus_main.specs.Codes.{ends_written}
 use Rattle.line_reader.specs.Reading.{to_read, ReadsLine}
 use Rattle.line_reader.specs.Readers.{Reader, IfTold}
 use Rattle.locus_main.specs.Turns.{Goes, IsCutShort}
-use Rattle.locus_main.proofs.Runs.{SoFar, SoFar-start, SoFar-next, Ends-whole, Ends-short, Ends-bad, Ends-long, Ends-many, Ends-between, Ends-front, Ends-cut}
+use Rattle.locus_main.proofs.Runs.{SoFar, SoFar-start, SoFar-next, Ends-whole, Ends-short, Ends-bad, Ends-long, Ends-many, Ends-fault, Ends-front, Ends-cut}
 use Rattle.locus_main.proofs.top.run.Goals as goal
 
 pub loop-reader-init : goal.loop-reader-init
@@ -27,6 +29,19 @@ returns-then-runner-ge2-clause-whole g c =
 pub returns-then-runner-ge2-clause-flushed : goal.returns-then-runner-ge2-clause-flushed
 returns-then-runner-ge2-clause-flushed g c = λ _. ⊎_elim (λ w. absurd (omega (arith, w.0, c.loop-reader.invariant.place, c.if-runner-ge2.true))) (λ f. f) c.loop-reader.invariant.flushed
 
+-- before the first line nothing is given, and each turn flushes
+by_turns : {X : Type 0} (one now : X) (number : ℕ) (P : Type 0) → ((number ≡ 0) × (now ≡ one)) ⊎ P → (now ≡ one) ⊎ P
+by_turns one now number P h = ⊎_elim (λ w. inl w.1) (λ f. inr f) h
+
+pub returns-then-runner-ge2-clause-nothing_held : goal.returns-then-runner-ge2-clause-nothing_held
+returns-then-runner-ge2-clause-nothing_held g c = λ _. by_turns _ _ _ _ c.loop-reader.invariant.flushed
+
+pub returns-in-Ok-false-clause-nothing_held : goal.returns-in-Ok-false-clause-nothing_held
+returns-in-Ok-false-clause-nothing_held g c = λ _. by_turns _ _ _ _ c.loop-reader.invariant.flushed
+
+pub returns-in-Err-clause-nothing_held : goal.returns-in-Err-clause-nothing_held
+returns-in-Err-clause-nothing_held g c = λ _. by_turns _ _ _ _ c.loop-reader.invariant.flushed
+
 pub returns-then-runner-ge2-clause-front : goal.returns-then-runner-ge2-clause-front
 returns-then-runner-ge2-clause-front g c = Ends-front _ _ _ _ _ _ c.loop-reader.invariant.so_far
 
@@ -34,14 +49,16 @@ pub returns-in-Ok-false-clause-bad_line : goal.returns-in-Ok-false-clause-bad_li
 returns-in-Ok-false-clause-bad_line g c = λ line e.
     let stays = c.in-Ok-false.ensures.stays (ap Ok c.in-Ok-false.field-0-test) in
     let number : c.number.result + 1 ≡ line = cc in
-    Ends-short _ _ _ _ _ _ _ line c.loop-reader.invariant.so_far (c.in-Ok-false.ensures.end (ap Ok c.in-Ok-false.field-0-test)) stays.bytes c.if-runner-ge2.false
+    Ends-short _ _ _ _ (to_read c.next_line.new.reader.ahead (g.S.Source.left c.next_line.new.source)) _ _ line c.loop-reader.invariant.so_far (c.in-Ok-false.ensures.end (ap Ok c.in-Ok-false.field-0-test)) stays.bytes c.if-runner-ge2.false
     (omega (arith, number, c.number.ensures, stays.number))
 
 pub returns-in-Ok-false-clause-front : goal.returns-in-Ok-false-clause-front
 returns-in-Ok-false-clause-front g c = Ends-front _ _ _ _ _ _ c.loop-reader.invariant.so_far
 
 pub returns-in-Err-clause-cut_off : goal.returns-in-Err-clause-cut_off
-returns-in-Err-clause-cut_off g c = λ _. Ends-between _ _ _ _ _ _ c.loop-reader.invariant.so_far
+returns-in-Err-clause-cut_off g c = λ e.
+    let stays = c.in-Err.ensures.kept (ap Err e) in
+    Ends-fault _ _ _ _ _ _ _ _ c.loop-reader.invariant.so_far stays.bytes (c.in-Err.ensures.part (ap Err e))
 
 pub returns-in-Err-clause-long_line : goal.returns-in-Err-clause-long_line
 returns-in-Err-clause-long_line g c = λ e. Ends-long _ _ _ _ _ _ _ _ c.loop-reader.invariant.so_far (c.in-Err.ensures.long (ap Err e)) c.loop-reader.invariant.limit (c.in-Err.ensures.early (ap Err e))
@@ -90,3 +107,13 @@ returns-in-Err-take_turn-clause-front g c =
     let P : List ℕ → Type 0 = λ p. IfTold c.loop-reader.reader c.next_line.new.reader (g.S.Source.left c.loop-reader.source) (g.S.Source.left c.next_line.new.source) (ReadsLine p) in
     let At : ℕ → Type 0 = λ n. IsCutShort c.loop-reader.runner n c.bytes.result.now (g.K.Sink.taken c.loop-reader.sink) (g.K.Sink.taken c.take_turn.new.sink) in
     Ends-cut _ _ _ _ _ _ _ _ _ _ c.loop-reader.invariant.so_far counted (subst P (sym c.bytes.ensures) (c.in-Ok-true.ensures.line (ap Ok c.in-Ok-true.field-0-test))) (subst At c.number-in-loop-reader.ensures c.in-Err-take_turn.ensures.err)
+
+-- a turn that didn't end a run within a write gave nothing
+pub returns-in-Err-take_turn-clause-nothing_held : goal.returns-in-Err-take_turn-clause-nothing_held
+returns-in-Err-take_turn-clause-nothing_held g c = λ ends. ⊎_elim
+    (λ w. let same = (c.in-Err-take_turn.ensures.bad w.0 (ap Err w.1)).2 in
+    rw same (by_turns _ _ _ _ c.loop-reader.invariant.flushed))
+    (λ w. ⊎_elim
+    (λ e. absurd (false≢true (sym (ap ends_written e) ∙ ends)))
+    (λ e. absurd (false≢true (sym (ap ends_written e) ∙ ends))) w)
+    c.in-Err-take_turn.ensures.only

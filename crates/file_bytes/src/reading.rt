@@ -1,0 +1,22 @@
+ghost use Rattle.std.specs.Prelude.{◌≡◌, IfOk, take, drop};
+
+use locus_ids::{Bytes, NoMemory};
+use std::alloc::Global;
+
+/// At most so many bytes of a content from a place on, and none where it has none there.
+pub fn part_of(content: &[u8], at: u32, len: u16) -> &[u8]
+    ensures { result.now ≡ take len (drop at content.now) }
+{
+    let Some(rest) = content.get(at as usize..) else {
+        return &[];
+    };
+    let len = usize::from(len).min(rest.len());
+    &rest[..len]
+}
+
+/// The same bytes, in memory of their own.
+pub fn part(alloc: Global, content: &[u8], at: u32, len: u16) -> Result<Bytes, NoMemory>
+    ensures { IfOk result (λ made. made ≡ take len (drop at content.now)) }
+{
+    Bytes::from_slice(alloc, part_of(content, at, len))
+}

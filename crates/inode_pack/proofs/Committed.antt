@@ -1,0 +1,142 @@
+-- What a commit leaves, from what the switch of its inode leaves.
+use Rattle.std.proofs.Common.{◌≡◌, ℕ, zero, suc, ◌+◌, ◌-◌, Bool, true, false, inl, List, [], ◌∷◌, ◌++◌, length, drop, get_or, Option, None, Some, refl, sym, ap, subst, ◌∙◌, arith, length-append}
+use Rattle.std.specs.Prelude.{◌↔◌, Result, Ok, Err, IsErr, IsErrAnd, is_some, if◌then◌else◌}
+use Rattle.std.proofs.lemmas.Bool.{false≢true}
+use Rattle.locus_ids.specs.declared.ids.Kind.{Kind}
+use Rattle.locus_ids.specs.declared.ids.Stamp.{Stamp}
+use Rattle.locus_ids.specs.declared.sites.Sites.{Sites}
+use Rattle.pack_layout.specs.Layout.{slot_at, page_at, pages_of, slot_bytes}
+use Rattle.shadow_pages.specs.Working.{Working, page_at as shadow_page, count_below}
+use Rattle.inode_switch.specs.declared.switching.Piece.{Piece}
+use Rattle.inode_switch.specs.Switch.{IsStage, switched, calls_of}
+use Rattle.inode_switch.specs.View.{is_open, Version, IsOldOrNew, Replaced}
+use Rattle.inode_switch.specs.Replace.{MayReplace, made_version, closing}
+use Rattle.inode_switch.specs.Moments.{TellsMany}
+use Rattle.disk_model.specs.Disk.{Passing}
+use Rattle.disk_model.specs.declared.disk.DiskFault.{DiskFault}
+use Rattle.disk_model.specs.declared.disk.DiskFault.TheVariants.{Failed}
+use Rattle.inode_switch.proofs.OldOrNew.{stage_view}
+use Rattle.inode_switch.proofs.Outside.{stage_in_area}
+use Rattle.inode_switch.proofs.Pieces.{torn_same}
+use Rattle.inode_pack.specs.declared.inode_copy.InodeCopy.{InodeCopy}
+use Rattle.inode_pack.specs.declared.pack_fault.PackFault.{PackFault}
+use Rattle.inode_pack.specs.declared.pack_fault.PackFault.TheVariants.{Disk, NoSpace}
+use Rattle.inode_pack.specs.Pack.{PackState, copy_of, Shows, ShowsCopy, AreCopies}
+use Rattle.inode_pack.specs.Committing.{Makes, MayBeLeft, with_copy, is_changed, is_free, needed, new_version, next_which}
+use Rattle.inode_pack.specs.PagePieces.{piece_at, page_pieces, pieces_of}
+use Rattle.inode_pack.proofs.Setup.{Setup}
+use Rattle.inode_pack.proofs.Making.{pieces, place, may_replace, copy_says}
+use Rattle.inode_pack.proofs.NewContent.{version_made}
+use Rattle.inode_pack.proofs.Leaving.{stage_sound, shows_sound, switched_shows}
+
+-- a piece for each changed page
+one_piece : (at : ℕ) (o : Option (List ℕ)) → length (piece_at at o) ≡ (if is_some o then 1 else 0)
+one_piece at None = refl
+one_piece at (Some page) = refl
+
+length-pages : (base : ℕ) (numbers : List ℕ) (w : Working) (n : ℕ) → length (page_pieces base numbers w n) ≡ count_below (is_changed w) n
+length-pages base numbers w zero = refl
+length-pages base numbers w (suc n) =
+    let rest = length-pages base numbers w n in
+    let one = one_piece (page_at base (get_or numbers n 0)) (shadow_page w.pages n) in
+    omega (arith, length-append (page_pieces base numbers w n) (piece_at (page_at base (get_or numbers n 0)) (shadow_page w.pages n)))
+
+-- before the first call
+pub left_at_start : (pack : PackState) (ino : ℕ) (made : Version) (old : List ℕ) → AreCopies pack.copies → Shows pack old → MayBeLeft pack ino made old old
+left_at_start pack ino made old are shows = record { view = inl (λ i low high. refl); sound = shows_sound pack old are shows; outside = torn_same pack.base 4195328 old }
+
+module _ (pack : PackState) (ino : ℕ) (w : Working) (made : InodeCopy) (s : Setup pack ino w made) (old : List ℕ) (shows : Shows pack old) where
+  abbrev gate : ℕ
+  gate = slot_at pack.base ino made.which
+
+  abbrev other : ℕ
+  other = slot_at pack.base ino (1 - made.which)
+
+  pub same_pieces : pieces_of pack.base made w ≡ pieces pack ino w made s
+  same_pieces = ap (λ (i : ℕ). page_pieces pack.base made.slot.pages w (pages_of w.size) ++ record { at = slot_at pack.base i made.which + 1; bytes = drop 1 (slot_bytes made.slot) } ∷ []) s.own
+
+  other_open : (o : Option InodeCopy) → o ≡ copy_of pack.copies ino → made.which ≡ next_which o → ShowsCopy pack.base ino old o → is_some o ≡ is_open old other
+  other_open None e which shown = let p = place pack ino w made s old shows in sym (shown (1 - made.which) (omega arith))
+  other_open (Some copy) e which shown =
+      let p = shown.place in
+      let f : copy.which ≡ 1 - made.which = omega arith in
+      sym (ap (λ (n : ℕ). is_open old (slot_at pack.base ino n)) (sym f) ∙ (copy_says pack ino w made s old shows ino copy.which copy (sym e) shown.bytes).open_gate)
+
+  -- the other slot is open where the inode has a copy
+  pub closes_is : is_some (copy_of pack.copies ino) ≡ is_open old other
+  closes_is = other_open (copy_of pack.copies ino) refl s.place (shows.copies ino s.low s.high)
+
+  pub stage_left : (kind : Kind) (set : Sites) (stamp : Stamp) (vector : List ℕ) → Makes (is_free pack.copies) (copy_of pack.copies ino) ino kind set w stamp vector made
+      → (c : List ℕ) → IsStage (pieces pack ino w made s) gate (closing pack.base ino made.which old) old c → MayBeLeft pack ino (new_version pack.base ino kind set w stamp vector old) old c
+  stage_left kind set stamp vector makes c stage =
+      let may = may_replace pack ino w made s old shows in
+      record {
+        view = subst (λ (v : Version). IsOldOrNew pack.base ino v old c) (version_made pack ino w made s old shows kind set stamp vector makes) (stage_view pack.base ino made.which (pieces pack ino w made s) old may c stage);
+        sound = stage_sound pack ino w made s old shows c stage;
+        outside = stage_in_area pack.base ino made.which (pieces pack ino w made s) old may c stage;
+      }
+
+  calls : (b : Bool) (n : ℕ) → n ≡ needed w → (let o : Option ℕ = if b then Some other else None in calls_of (pieces pack ino w made s) o) ≡ n + (if b then 6 else 4)
+  calls true n e = let l = length-pages pack.base made.slot.pages w (pages_of w.size) in omega (arith, length-append (page_pieces pack.base made.slot.pages w (pages_of w.size)) (record { at = gate + 1; bytes = drop 1 (slot_bytes made.slot) } ∷ []))
+  calls false n e = let l = length-pages pack.base made.slot.pages w (pages_of w.size) in omega (arith, length-append (page_pieces pack.base made.slot.pages w (pages_of w.size)) (record { at = gate + 1; bytes = drop 1 (slot_bytes made.slot) } ∷ []))
+
+  -- how many calls that makes
+  pub calls_are : calls_of (pieces pack ino w made s) (closing pack.base ino made.which old) ≡ needed w + (if is_some (copy_of pack.copies ino) then 6 else 4)
+  calls_are = calls (is_open old other) (needed w) refl ∙ ap (λ (b : Bool). needed w + (if b then 6 else 4)) (sym closes_is)
+
+-- with the base and the pieces as the switch was given them
+module _ (pack : PackState) (ino : ℕ) (w : Working) (made : InodeCopy) (s : Setup pack ino w made) (old : List ℕ) (shows : Shows pack old) (base : ℕ) (given : List Piece) (at : base ≡ pack.base) (are : given ≡ pieces_of pack.base made w) where
+  same : given ≡ pieces pack ino w made s
+  same = are ∙ same_pieces pack ino w made s old shows
+
+  -- a fact of the one is a fact of the other
+  moved : (P : ℕ → List Piece → Type 0) → P pack.base (pieces pack ino w made s) → P base given
+  moved P h = subst (λ (b : ℕ). P b given) (sym at) (subst (P pack.base) (sym same) h)
+
+  back : (P : ℕ → List Piece → Type 0) → P base given → P pack.base (pieces pack ino w made s)
+  back P h = subst (P pack.base) same (subst (λ (b : ℕ). P b given) at h)
+
+  pub given_may : MayReplace base ino made.which given old
+  given_may = moved (λ b l. MayReplace b ino made.which l old) (may_replace pack ino w made s old shows)
+
+  pub given_closes : (closes : Bool) → closes ≡ is_some (copy_of pack.copies ino) → closes ≡ is_open old (slot_at base ino (1 - made.which))
+  given_closes closes is = is ∙ moved (λ b l. is_some (copy_of pack.copies ino) ≡ is_open old (slot_at b ino (1 - made.which))) (closes_is pack ino w made s old shows)
+
+  pub given_left : (kind : Kind) (set : Sites) (stamp : Stamp) (vector : List ℕ) → Makes (is_free pack.copies) (copy_of pack.copies ino) ino kind set w stamp vector made
+      → (c : List ℕ) → IsStage given (slot_at base ino made.which) (closing base ino made.which old) old c → MayBeLeft pack ino (new_version pack.base ino kind set w stamp vector old) old c
+  given_left kind set stamp vector makes c stage =
+      stage_left pack ino w made s old shows kind set stamp vector makes c (back (λ b l. IsStage l (slot_at b ino made.which) (closing b ino made.which old) old c) stage)
+
+  pub given_calls : calls_of given (closing base ino made.which old) ≡ needed w + (if is_some (copy_of pack.copies ino) then 6 else 4)
+  given_calls = moved (λ b l. calls_of l (closing b ino made.which old) ≡ needed w + (if is_some (copy_of pack.copies ino) then 6 else 4)) (calls_are pack ino w made s old shows)
+
+  pub given_shows : (read : List ℕ) → read ≡ switched given (slot_at base ino made.which) (closing base ino made.which old) old → Shows (with_copy pack ino made) read
+  given_shows read is =
+      subst (λ (l : List ℕ). Shows (with_copy pack ino made) l) (sym is)
+      (moved (λ b l. Shows (with_copy pack ino made) (switched l (slot_at b ino made.which) (closing b ino made.which old) old)) (switched_shows pack ino w made s old shows))
+
+  pub given_replaced : (kind : Kind) (set : Sites) (stamp : Stamp) (vector : List ℕ) → Makes (is_free pack.copies) (copy_of pack.copies ino) ino kind set w stamp vector made
+      → (read : List ℕ) → Replaced base ino (made_version base ino made.which given old) old read → Replaced pack.base ino (new_version pack.base ino kind set w stamp vector old) old read
+  given_replaced kind set stamp vector makes read done =
+      subst (λ (v : Version). Replaced pack.base ino v old read) (version_made pack ino w made s old shows kind set stamp vector makes) (back (λ b l. Replaced b ino (made_version b ino made.which l old) old read) done)
+
+-- the fault that is given on
+pub given_on : (r : Result (Unit {0}) PackFault) (P : PackFault → Type 0) → IsErr r × IsErrAnd r P → (fault : PackFault) × (r ≡ Err fault) × P fault
+given_on (Ok x) P h = absurd (false≢true h.0)
+given_on (Err fault) P h = (fault, refl, h.1)
+
+pub same_fault : {T : Type 0} → (r : Result (Unit {0}) PackFault) (fault : PackFault) (pages free : ℕ) (Q : Type 0) → r ≡ Err fault → (let e : Result T PackFault = Err fault in (e ≡ Err (NoSpace pages free)) ↔ Q) → (r ≡ Err (NoSpace pages free)) ↔ Q
+same_fault {T} r fault pages free Q is iff = (
+  λ e. (let one : fault ≡ NoSpace pages free = (let h : r ≡ Err (NoSpace pages free) = e in cc) in iff.0 (ap (λ (f : PackFault). Err f) one)),
+  λ q. (let h = iff.1 q in let one : fault ≡ NoSpace pages free = cc in is ∙ ap (λ (f : PackFault). Err f) one),
+)
+
+pub other_answer : {T : Type 0} → (r : Result (Unit {0}) PackFault) (x : T) (pages free : ℕ) (Q : Type 0) → (r ≡ Err (NoSpace pages free) → ⊥) → (let e : Result T PackFault = Ok x in (e ≡ Err (NoSpace pages free)) ↔ Q) → (r ≡ Err (NoSpace pages free)) ↔ Q
+other_answer {T} r x pages free Q apart iff = (λ e. absurd (apart e), λ q. absurd (let h = iff.1 q in cc))
+
+pub disk_no_space : (r : Result (Unit {0}) PackFault) (pages free : ℕ) → r ≡ Err Disk → r ≡ Err (NoSpace pages free) → ⊥
+disk_no_space r pages free is e = absurd cc
+
+-- the disk's one fault
+pub disk_tells : (n m : ℕ) (before after : Passing) (fault : DiskFault) → n ≡ m → TellsMany {T = Unit {0}} {E = DiskFault} n before after (Err fault) → TellsMany {T = Unit {0}} {E = DiskFault} m before after (Err Failed)
+disk_tells n m before after Failed e tells = subst (λ (k : ℕ). TellsMany {T = Unit {0}} {E = DiskFault} k before after (Err Failed)) e tells

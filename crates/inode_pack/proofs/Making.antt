@@ -1,0 +1,266 @@
+-- What a commit writes may replace the inode's version.
+use Rattle.std.proofs.Common.{◌≡◌, ◌≢◌, ◌⊎◌, ℕ, zero, suc, ◌+◌, ◌-◌, ◌*◌, ◌%◌, ◌<◌, ◌≤◌, Bool, true, false, ◌||◌, inl, inr, ⊎_elim, List, [], ◌∷◌, ◌++◌, length, drop, replicate, get_or, Option, None, Some, refl, sym, ap, subst, ◌∙◌, arith, length-append, length-take, length-drop}
+use Rattle.std.specs.Prelude.{is_some}
+use Rattle.std.specs.Int.{w16, w32, to_be_bytes}
+use Rattle.std.specs.List.{flat_map}
+use Rattle.std.proofs.lemmas.Bool.{cases_lt, cases_eq, eqb-true, true≢false}
+use Rattle.std.proofs.lemmas.Bool.Decides.{nat_tests}
+use Rattle.std.proofs.lemmas.List.{same_lists, get_or-take, get_or-drop, get_or_default}
+use Rattle.std.proofs.lemmas.List.Elements.{All-append, All-nil, All-cons}
+use Rattle.disk_model.specs.Images.{overwritten, bytes_at, is_within, Torn}
+use Rattle.pack_layout.specs.declared.slot.Slot.{Slot}
+use Rattle.pack_layout.specs.Layout.{area_length, slot_at, page_at, pages_of, slot_bytes, IsSlot}
+use Rattle.shadow_pages.specs.Working.{Working, page_at as shadow_page}
+use Rattle.inode_switch.specs.declared.switching.Piece.{Piece}
+use Rattle.inode_switch.specs.Switch.{touches, written}
+use Rattle.inode_switch.specs.Slots.{Holds, Says}
+use Rattle.inode_switch.specs.View.{is_open, turn, size, page}
+use Rattle.inode_switch.specs.Replace.{MayReplace, made_bytes}
+use Rattle.inode_switch.proofs.Pieces.{put_outside, put_gate, length-overwritten, written-append, torn_overwritten, torn_written}
+use Rattle.inode_switch.proofs.SlotBytes.{says}
+use Rattle.inode_pack.specs.declared.inode_copy.InodeCopy.{InodeCopy}
+use Rattle.inode_pack.specs.Pack.{PackState, copy_of, named_pages, times, ShowsCopy, Shows}
+use Rattle.inode_pack.specs.Committing.{is_changed, next_which, next_turn}
+use Rattle.inode_pack.specs.PagePieces.{page_pieces}
+use Rattle.inode_pack.proofs.Tearing.{put_inside}
+use Rattle.inode_pack.proofs.Placing.{is_outside, touches_none, spared_pages, long_written, within_pages, written_page}
+use Rattle.inode_pack.proofs.Setup.{Setup, copy_is, page_named, number_inside, numbers_distinct}
+
+length-flat : (f : ℕ → List ℕ) (n : ℕ) → ((x : ℕ) → length (f x) ≡ n) → (xs : List ℕ) → length (flat_map f xs) ≡ n * length xs
+length-flat f n each [] = omega arith
+length-flat f n each (x ∷ xs) = omega (arith, length-append (f x) (flat_map f xs), each x, length-flat f n each xs)
+
+pub length-slot : (s : Slot) → IsSlot s → length (slot_bytes s) ≡ 512
+length-slot s is =
+    let counters = length-flat (to_be_bytes w32) 4 (λ x. refl) s.vector in
+    let numbers = length-flat (to_be_bytes w16) 2 (λ x. refl) s.pages in
+    let v = is.vector.count in
+    let p = is.pages.count in
+    omega (arith, length-append (flat_map (to_be_bytes w32) s.vector) (flat_map (to_be_bytes w16) s.pages ++ replicate 304 0), length-append (flat_map (to_be_bytes w16) s.pages) (replicate 304 0))
+
+-- an open slot is that of a copy
+open_of : (base i which : ℕ) (old : List ℕ) (o : Option InodeCopy) → which ≤ 1 → ShowsCopy base i old o → is_open old (slot_at base i which) ≡ true
+    → (copy : InodeCopy) × (o ≡ Some copy) × (copy.which ≡ which) × Holds old (slot_at base i which) copy.slot
+open_of base i which old None le shows is = absurd (true≢false (sym is ∙ shows which le))
+open_of base i which old (Some copy) le shows is = ⊎_elim
+    (λ (e : copy.which ≡ which). (copy, refl, e, subst (λ (n : ℕ). Holds old (slot_at base i n) copy.slot) e shows.bytes))
+    (λ (ne : copy.which ≢ which).
+    let other : 1 - copy.which ≡ which = (let p = shows.place in omega arith) in
+    absurd (true≢false (sym is ∙ ap (λ (n : ℕ). is_open old (slot_at base i n)) (sym other) ∙ shows.other)))
+    (cases_eq copy.which which)
+
+-- the slot that is written is closed
+shut_of : (base i : ℕ) (old : List ℕ) (o : Option InodeCopy) → ShowsCopy base i old o → is_open old (slot_at base i (next_which o)) ≡ false
+shut_of base i old None shows = shows 0 (omega arith)
+shut_of base i old (Some copy) shows = shows.other
+
+which_small : (base i : ℕ) (old : List ℕ) (o : Option InodeCopy) → ShowsCopy base i old o → next_which o ≤ 1
+which_small base i old None shows = omega arith
+which_small base i old (Some copy) shows = let p = shows.place in omega arith
+
+within_area : (base at n k : ℕ) → base ≤ at → at + n ≤ base + 4195328 → is_within base 4195328 k ≡ false → is_within at n k ≡ false
+within_area base at n k low high out = grind (arith, nat_tests)
+
+-- a slot's first byte, and a byte of another slot, is none of those behind the gate of this one
+pub apart_slots : (base i w ino which k : ℕ) → k < 512 → 1 ≤ i → 1 ≤ ino → w ≤ 1 → which ≤ 1 → (k ≡ 0) ⊎ (slot_at base i w ≢ slot_at base ino which) → is_within (slot_at base ino which + 1) 511 (slot_at base i w + k) ≡ false
+apart_slots base i w ino which k lt low low' place place' h = is_outside (slot_at base ino which + 1) 511 (slot_at base i w + k) (⊎_elim
+    (λ (less : slot_at base i w + k < slot_at base ino which + 1). inl less)
+    (λ (ge : slot_at base ino which + 1 ≤ slot_at base i w + k). inr (⊎_elim
+    (λ (e : k ≡ 0). omega arith)
+    (λ (ne : slot_at base i w ≢ slot_at base ino which). omega arith)
+    h))
+    (cases_lt (slot_at base i w + k) (slot_at base ino which + 1)))
+
+module _ (pack : PackState) (ino : ℕ) (w : Working) (made : InodeCopy) (s : Setup pack ino w made) where
+  abbrev gate : ℕ
+  gate = slot_at pack.base ino made.which
+
+  abbrev count : ℕ
+  count = pages_of w.size
+
+  abbrev pages : List Piece
+  pages = page_pieces pack.base made.slot.pages w (pages_of w.size)
+
+  abbrev body : Piece
+  body = record { at = slot_at pack.base ino made.which + 1; bytes = drop 1 (slot_bytes made.slot) }
+
+  -- what is written before the gate opens
+  abbrev pub pieces : List Piece
+  pieces = pages ++ body ∷ []
+
+  inside : (i : ℕ) → i < count → get_or made.slot.pages i 0 < 3072
+  inside = number_inside pack.copies ino w made.slot.pages s.are s.rests s.takes
+
+  long_body : length body.bytes ≡ 511
+  long_body = let long = length-slot made.slot s.slot in omega (arith, length-drop 1 (slot_bytes made.slot))
+
+  spared_body : (k : ℕ) → is_within (gate + 1) 511 k ≡ false → touches (body ∷ []) k ≡ false
+  spared_body k out = ap (λ (b : Bool). b || false) (subst (λ (n : ℕ). is_within (gate + 1) n k ≡ false) (sym long_body) out)
+
+  -- a place among the slots, or in a page that is named
+  pub spared_slot : (k : ℕ) → k < pack.base + 1049600 → is_within (gate + 1) 511 k ≡ false → touches pieces k ≡ false
+  spared_slot k lt out = touches_none pages (body ∷ []) k
+      (spared_pages pack.base made.slot.pages w count s.whole inside count k (omega arith) (λ i page less is. is_outside (page_at pack.base (get_or made.slot.pages i 0)) 1024 k (inl (omega arith))))
+      (spared_body k out)
+
+  changed_of : (i : ℕ) (page : List ℕ) → shadow_page w.pages i ≡ Some page → is_changed w i ≡ true
+  changed_of i page is = ap (λ (o : Option (List ℕ)). is_some o) is
+
+  pub spared_named : (p k : ℕ) → k < 1024 → 1 ≤ times p (named_pages pack.copies) → made.which ≤ 1 → touches pieces (page_at pack.base p + k) ≡ false
+  spared_named p k lt named place = touches_none pages (body ∷ []) (page_at pack.base p + k)
+      (spared_pages pack.base made.slot.pages w count s.whole inside count (page_at pack.base p + k) (omega arith) (λ i page less is.
+      let free = eqb-true (times (get_or made.slot.pages i 0) (named_pages pack.copies)) 0 (s.takes.free i less (changed_of i page is)) in
+      is_outside (page_at pack.base (get_or made.slot.pages i 0)) 1024 (page_at pack.base p + k)
+      (beside p (get_or made.slot.pages i 0) k lt (λ e. let f = ap (λ (q : ℕ). times q (named_pages pack.copies)) e in absurd (omega arith)))))
+      (spared_body (page_at pack.base p + k) (let high = s.high in let low = s.low in is_outside (gate + 1) 511 (page_at pack.base p + k) (inr (omega arith))))
+    where
+      beside : (p q k : ℕ) → k < 1024 → p ≢ q → (page_at pack.base p + k < page_at pack.base q) ⊎ (page_at pack.base q + 1024 ≤ page_at pack.base p + k)
+      beside p q k lt ne = ⊎_elim (λ (less : p < q). inl (omega arith)) (λ (ge : q ≤ p). inr (omega arith)) (cases_lt p q)
+
+  module _ (old : List ℕ) (shows : Shows pack old) where
+    own_shows : ShowsCopy pack.base ino old (copy_of pack.copies ino)
+    own_shows = shows.copies ino s.low s.high
+
+    pub place : made.which ≤ 1
+    place = let e = s.place in let small = which_small pack.base ino old (copy_of pack.copies ino) own_shows in omega arith
+
+    pub shut : is_open old gate ≡ false
+    shut = ap (λ (n : ℕ). is_open old (slot_at pack.base ino n)) s.place ∙ shut_of pack.base ino old (copy_of pack.copies ino) own_shows
+
+    pub open_copy : (i which : ℕ) → 1 ≤ i → i ≤ 1024 → which ≤ 1 → is_open old (slot_at pack.base i which) ≡ true
+        → (copy : InodeCopy) × (copy_of pack.copies i ≡ Some copy) × (copy.which ≡ which) × Holds old (slot_at pack.base i which) copy.slot
+    open_copy i which low high le is = open_of pack.base i which old (copy_of pack.copies i) le (shows.copies i low high) is
+
+    pub copy_says : (i which : ℕ) (copy : InodeCopy) → copy_of pack.copies i ≡ Some copy → Holds old (slot_at pack.base i which) copy.slot → Says old (slot_at pack.base i which) copy.slot
+    copy_says i which copy held holds = says old (slot_at pack.base i which) copy.slot holds (copy_is pack.copies i copy s.are held).slot
+
+    -- the bytes once the pieces are written
+    abbrev before : List ℕ
+    before = written old pages
+
+    long_before : length before ≡ length old
+    long_before = long_written pack.base made.slot.pages w count s.whole inside old shows.area count (omega arith)
+
+    body_fits : gate + 1 + length body.bytes ≤ length before
+    body_fits = let long = long_body in let all = long_before in let area = shows.area in let high = s.high in let low = s.low in let p = place in omega arith
+
+    whole_is : written old pieces ≡ overwritten before body.at body.bytes
+    whole_is = written-append old pages (body ∷ [])
+
+    pub long_pieces : length (written old pieces) ≡ length old
+    long_pieces = ap length whole_is ∙ length-overwritten before body.at body.bytes body_fits ∙ long_before
+
+    -- behind the gate stands the slot
+    body_byte : (k : ℕ) → k < 511 → get_or (written old pieces) (gate + 1 + k) 0 ≡ get_or (slot_bytes made.slot) (1 + k) 0
+    body_byte k lt =
+        let long = long_body in
+        ap (λ (l : List ℕ). get_or l (gate + 1 + k) 0) whole_is
+        ∙ put_inside before body.at body.bytes k body_fits (omega arith)
+        ∙ get_or-drop 1 (slot_bytes made.slot) k 0
+
+    abbrev new : List ℕ
+    new = made_bytes pack.base ino made.which pieces old
+
+    gate_fits : gate + 1 ≤ length (written old pieces)
+    gate_fits = let long = long_body in let fits = body_fits in let a = long_before in let b = long_pieces in omega arith
+
+    pub gate_torn : Torn gate 1 (written old pieces) new
+    gate_torn = torn_overwritten (written old pieces) gate (165 ∷ []) gate_fits
+
+    slot_byte : (k : ℕ) → k < 512 → get_or new (gate + k) 0 ≡ get_or (slot_bytes made.slot) k 0
+    slot_byte zero lt = let e : gate + 0 ≡ gate = omega arith in ap (λ (n : ℕ). get_or new n 0) e ∙ put_gate (written old pieces) gate 165 gate_fits
+    slot_byte (suc k) lt =
+        let e : gate + suc k ≡ gate + 1 + k = omega arith in
+        let f : 1 + k ≡ suc k = omega arith in
+        ap (λ (n : ℕ). get_or new n 0) e
+        ∙ gate_torn.outside (gate + 1 + k) (is_outside gate 1 (gate + 1 + k) (inr (omega arith)))
+        ∙ body_byte k (omega arith) ∙ ap (λ (n : ℕ). get_or (slot_bytes made.slot) n 0) f
+
+    long_new : length new ≡ length old
+    long_new = gate_torn.long ∙ long_pieces
+
+    -- once the gate is open, the new slot stands there
+    pub new_holds : Holds new gate made.slot
+    new_holds =
+        let long = length-slot made.slot s.slot in
+        let all = long_new in
+        let fits = body_fits in
+        let l = long_body in
+        let b = long_before in
+        let count : length (bytes_at new gate 512) ≡ length (slot_bytes made.slot) = omega (arith, length-take 512 (drop gate new), length-drop gate new) in
+        same_lists (bytes_at new gate 512) (slot_bytes made.slot) count (λ k d lt.
+        let below : k < 512 = omega (arith, count) in
+        get_or_default (bytes_at new gate 512) k d 0 lt ∙ get_or-take 512 (drop gate new) k 0 below ∙ get_or-drop gate new k 0 ∙ slot_byte k below ∙ get_or_default (slot_bytes made.slot) k 0 d (omega arith))
+
+    pub new_says : Says new gate made.slot
+    new_says = says new gate made.slot new_holds s.slot
+
+    byte_before : (k : ℕ) → 1 ≤ k → get_or (written old pieces) (gate + k) 0 ≡ get_or new (gate + k) 0
+    byte_before k le = sym (gate_torn.outside (gate + k) (is_outside gate 1 (gate + k) (inr (omega arith))))
+
+    size_before : size (written old pieces) gate ≡ made.slot.size
+    size_before = (λ j. ((byte_before 7 (omega arith) j * 256 + byte_before 8 (omega arith) j) * 256 + byte_before 9 (omega arith) j) * 256 + byte_before 10 (omega arith) j) ∙ new_says.size
+
+    turn_before : turn (written old pieces) gate ≡ made.slot.turn
+    turn_before = byte_before 1 (omega arith) ∙ new_says.turn
+
+    pub may_replace : MayReplace pack.base ino made.which pieces old
+    may_replace = record {
+      area = shows.area;
+      within = All-append (λ (piece : Piece). piece.at + length piece.bytes ≤ length old) pages (body ∷ []) (within_pages pack.base made.slot.pages w count s.whole inside old shows.area count (omega arith))
+          (All-cons (λ (piece : Piece). piece.at + length piece.bytes ≤ length old) body [] (let fits = body_fits in let b = long_before in omega arith) (All-nil (λ (piece : Piece). piece.at + length piece.bytes ≤ length old)));
+      inside = λ k out. touches_none pages (body ∷ []) k
+          (spared_pages pack.base made.slot.pages w count s.whole inside count k (omega arith) (λ i page less is. let number = inside i less in within_area pack.base (page_at pack.base (get_or made.slot.pages i 0)) 1024 k (omega arith) (omega arith) out))
+          (spared_body k (let high = s.high in let low = s.low in let p = place in within_area pack.base (gate + 1) 511 k (omega arith) (omega arith) out));
+      low = s.low;
+      high = s.high;
+      place = place;
+      shut = shut;
+      gates = λ i which low high le.
+          let e : slot_at pack.base i which + 0 ≡ slot_at pack.base i which = omega arith in
+          subst (λ (k : ℕ). touches pieces k ≡ false) e (spared_slot (slot_at pack.base i which + 0) (omega arith) (apart_slots pack.base i which ino made.which 0 (omega arith) low s.low le place (inl refl)));
+      spares = λ i which low high le is.
+          let o = open_copy i which low high le is in
+          let t = copy_says i which o.0 o.1 o.3 in
+          let c = copy_is pack.copies i o.0 s.are o.1 in
+          let small = c.slot.size in
+          let e = t.size in
+          let apart : slot_at pack.base i which ≢ gate = (λ same. true≢false (sym is ∙ ap (λ (k : ℕ). is_open old k) same ∙ shut)) in
+          record {
+            few = omega arith;
+            bytes = λ k lt. spared_slot (slot_at pack.base i which + k) (omega arith) (apart_slots pack.base i which ino made.which k lt low s.low le place (inr apart));
+            pages = λ n k lt in_page.
+                let below : n < pages_of o.0.slot.size = subst (λ (m : ℕ). n < pages_of m) e lt in
+                subst (λ (p : ℕ). touches pieces (page_at pack.base p + k) ≡ false) (sym (t.pages n (omega arith))) (spared_named (get_or o.0.slot.pages n 0) k in_page (page_named pack.copies i n o.0 s.are o.1 below) place);
+          };
+      few = (let e = size_before in let small = s.slot.size in omega arith);
+      next = λ is.
+          let p = place in
+          let o = open_copy ino (1 - made.which) s.low s.high (omega arith) is in
+          let t = copy_says ino (1 - made.which) o.0 o.1 o.3 in
+          let c = copy_is pack.copies ino o.0 s.are o.1 in
+          let small = c.slot.turn in
+          let e = t.turn in
+          (omega arith, turn_before ∙ s.turn ∙ ap next_turn o.1 ∙ ap (λ (n : ℕ). (n + 1) % 3) (sym e));
+    }
+
+    -- the data pages are those that the pieces leave
+    gate_spares : (p k : ℕ) → get_or new (page_at pack.base p + k) 0 ≡ get_or (written old pieces) (page_at pack.base p + k) 0
+    gate_spares p k = let high = s.high in let low = s.low in let q = place in gate_torn.outside (page_at pack.base p + k) (is_outside gate 1 (page_at pack.base p + k) (inr (omega arith)))
+
+    -- a page that is named stays
+    pub kept_byte : (p k : ℕ) → k < 1024 → 1 ≤ times p (named_pages pack.copies) → get_or new (page_at pack.base p + k) 0 ≡ get_or old (page_at pack.base p + k) 0
+    kept_byte p k lt named = gate_spares p k ∙ (torn_written pieces old may_replace.within).outside (page_at pack.base p + k) (spared_named p k lt named place)
+
+    -- a changed one has its new bytes
+    pub changed_byte : (i k : ℕ) (page : List ℕ) → i < pages_of w.size → shadow_page w.pages i ≡ Some page → k < 1024 → get_or new (page_at pack.base (get_or made.slot.pages i 0) + k) 0 ≡ get_or page k 0
+    changed_byte i k page lt is small =
+        let at = page_at pack.base (get_or made.slot.pages i 0) + k in
+        let high = s.high in let low = s.low in let q = place in let long = long_body in
+        gate_spares (get_or made.slot.pages i 0) k
+        ∙ ap (λ (l : List ℕ). get_or l at 0) whole_is
+        ∙ put_outside body.at before body.bytes at body_fits (is_outside body.at (length body.bytes) at (inr (omega arith)))
+        ∙ written_page pack.base made.slot.pages w count s.whole inside old shows.area (numbers_distinct pack.copies ino w made.slot.pages s.are s.rests s.takes) count i k page (omega arith) lt is small
+
+    pub new_area : pack.base + area_length ≤ length new
+    new_area = let long = long_new in let area = shows.area in omega arith

@@ -1,0 +1,114 @@
+-- The data pages that a new content takes, page by page.
+use Rattle.std.proofs.Common.{◌≡◌, ◌≢◌, ℕ, ◌+◌, ◌<◌, ◌≤◌, Bool, true, false, ⊎_elim, List, length, replicate, set, get_or, refl, sym, ap, subst, ◌∙◌, arith, length-set}
+use Rattle.std.specs.Prelude.{Option}
+use Rattle.std.proofs.lemmas.Bool.{cases_lt, true≢false}
+use Rattle.std.proofs.lemmas.List.{get_or-set_same, get_or-set_other, get_or-replicate}
+use Rattle.pack_layout.specs.Layout.{pages_of}
+use Rattle.shadow_pages.specs.Working.{Working, count_below}
+use Rattle.inode_pack.specs.declared.inode_copy.InodeCopy.{InodeCopy}
+use Rattle.inode_pack.specs.Pack.{number_in}
+use Rattle.inode_pack.specs.Committing.{is_changed, needed, TakesPages}
+use Rattle.inode_pack.proofs.FreeCounts.{count_true, count_false, count_gap, count_passes}
+
+-- the first n pages have their numbers, and every unused data page below `from` is taken
+pub record TakesSoFar (unused : ℕ → Bool) (old : Option InodeCopy) (w : Working) (n from : ℕ) (numbers : List ℕ) : Type 0 where
+  pub long : length numbers ≡ 64
+  pub small : from ≤ 3072
+  pub count : count_below unused from ≡ count_below (is_changed w) n
+  pub stays : (i : ℕ) → i < n → is_changed w i ≡ false → get_or numbers i 0 ≡ number_in old i
+  pub below : (i : ℕ) → i < n → is_changed w i ≡ true → get_or numbers i 0 < from
+  pub free : (i : ℕ) → i < n → is_changed w i ≡ true → unused (get_or numbers i 0) ≡ true
+  pub ascend : (i j : ℕ) → i < j → j < n → is_changed w i ≡ true → is_changed w j ≡ true → get_or numbers i 0 < get_or numbers j 0
+  pub taken : (page : ℕ) → page < from → unused page ≡ true → (j : ℕ) × (j < n) × (is_changed w j ≡ true) × (get_or numbers j 0 ≡ page)
+  pub rest : (i : ℕ) → n ≤ i → i < 64 → get_or numbers i 0 ≡ 65535
+
+module _ (unused : ℕ → Bool) (old : Option InodeCopy) (w : Working) where
+  pub takes_start : TakesSoFar unused old w 0 0 (replicate 64 65535)
+  takes_start = record {
+    long = refl;
+    small = omega arith;
+    count = refl;
+    stays = λ i lt. absurd (omega arith);
+    below = λ i lt. absurd (omega arith);
+    free = λ i lt. absurd (omega arith);
+    ascend = λ i j lt more. absurd (omega arith);
+    taken = λ page lt. absurd (omega arith);
+    rest = λ i le lt. get_or-replicate 64 i 65535 0 lt;
+  }
+
+  module _ (n from : ℕ) (numbers : List ℕ) (so_far : TakesSoFar unused old w n from numbers) (fits : n < 64) where
+    same : (x i : ℕ) → i ≢ n → get_or (set numbers n x) i 0 ≡ get_or numbers i 0
+    same x i ne = get_or-set_other numbers n i x 0 ne
+
+    own : (x : ℕ) → get_or (set numbers n x) n 0 ≡ x
+    own x = get_or-set_same numbers n x 0 (omega (arith, so_far.long))
+
+    last : (P : ℕ → Type 0) (i : ℕ) → i < n + 1 → (i < n → P i) → P n → P i
+    last P i lt before here = ⊎_elim (λ (less : i < n). before less) (λ (ge : n ≤ i). let e : n ≡ i = omega arith in subst P e here) (cases_lt i n)
+
+    pub takes_stays : (x : ℕ) → is_changed w n ≡ false → x ≡ number_in old n → TakesSoFar unused old w (n + 1) from (set numbers n x)
+    takes_stays x not_changed is = record {
+      long = length-set numbers n x ∙ so_far.long;
+      small = so_far.small;
+      count = so_far.count ∙ sym (count_false (is_changed w) n not_changed);
+      stays = λ i lt. last (λ k. is_changed w k ≡ false → get_or (set numbers n x) k 0 ≡ number_in old k) i lt (λ less no. same x i (λ e. omega arith) ∙ so_far.stays i less no) (λ no. own x ∙ is);
+      below = λ i lt. last (λ k. is_changed w k ≡ true → get_or (set numbers n x) k 0 < from) i lt (λ less yes. let e = same x i (λ e. omega arith) in let h = so_far.below i less yes in omega arith) (λ yes. absurd (true≢false (sym yes ∙ not_changed)));
+      free = λ i lt. last (λ k. is_changed w k ≡ true → unused (get_or (set numbers n x) k 0) ≡ true) i lt (λ less yes. ap unused (same x i (λ e. omega arith)) ∙ so_far.free i less yes) (λ yes. absurd (true≢false (sym yes ∙ not_changed)));
+      ascend = λ i j lt less. last (λ k. i < k → is_changed w i ≡ true → is_changed w k ≡ true → get_or (set numbers n x) i 0 < get_or (set numbers n x) k 0) j less
+          (λ before apart a b. let e = same x i (λ e. omega arith) in let f = same x j (λ e. omega arith) in let h = so_far.ascend i j apart before a b in omega arith)
+          (λ apart a b. absurd (true≢false (sym b ∙ not_changed))) lt;
+      taken = λ page lt is_free. let t = so_far.taken page lt is_free in (t.0, omega (arith, t.1), t.2, same x t.0 (λ e. omega (arith, t.1)) ∙ t.3);
+      rest = λ i le lt. same x i (λ e. omega arith) ∙ so_far.rest i (omega arith) lt;
+    }
+
+    pub takes_one : (found : ℕ) → is_changed w n ≡ true → from ≤ found → found < 3072 → unused found ≡ true → ((p : ℕ) → from ≤ p → p < found → unused p ≡ false) → TakesSoFar unused old w (n + 1) (found + 1) (set numbers n found)
+    takes_one found changed low high is_free gap = record {
+      long = length-set numbers n found ∙ so_far.long;
+      small = omega arith;
+      count = count_true unused found is_free ∙ ap (λ (k : ℕ). k + 1) (count_gap unused from found low gap ∙ so_far.count) ∙ sym (count_true (is_changed w) n changed);
+      stays = λ i lt. last (λ k. is_changed w k ≡ false → get_or (set numbers n found) k 0 ≡ number_in old k) i lt (λ less no. same found i (λ e. omega arith) ∙ so_far.stays i less no) (λ no. absurd (true≢false (sym changed ∙ no)));
+      below = λ i lt. last (λ k. is_changed w k ≡ true → get_or (set numbers n found) k 0 < found + 1) i lt (λ less yes. let e = same found i (λ e. omega arith) in let h = so_far.below i less yes in omega arith) (λ yes. let e = own found in omega arith);
+      free = λ i lt. last (λ k. is_changed w k ≡ true → unused (get_or (set numbers n found) k 0) ≡ true) i lt (λ less yes. ap unused (same found i (λ e. omega arith)) ∙ so_far.free i less yes) (λ yes. ap unused (own found) ∙ is_free);
+      ascend = λ i j lt less. last (λ k. i < k → is_changed w i ≡ true → is_changed w k ≡ true → get_or (set numbers n found) i 0 < get_or (set numbers n found) k 0) j less
+          (λ before apart a b. let e = same found i (λ e. omega arith) in let f = same found j (λ e. omega arith) in let h = so_far.ascend i j apart before a b in omega arith)
+          (λ apart a b. let e = same found i (λ e. omega arith) in let f = own found in let h = so_far.below i apart a in omega arith) lt;
+      taken = λ page lt yes. ⊎_elim
+          (λ (before : page < from). let t = so_far.taken page before yes in (t.0, omega (arith, t.1), t.2, same found t.0 (λ e. omega (arith, t.1)) ∙ t.3))
+          (λ (behind : from ≤ page). ⊎_elim
+          (λ (less : page < found). absurd (true≢false (sym yes ∙ gap page behind less)))
+          (λ (ge : found ≤ page). (n, omega arith, changed, own found ∙ (let e : found ≡ page = omega arith in e)))
+          (cases_lt page found))
+          (cases_lt page from);
+      rest = λ i le lt. same found i (λ e. omega arith) ∙ so_far.rest i (omega arith) lt;
+    }
+
+  pub same_taking : (n k from from' x : ℕ) (numbers numbers' : List ℕ) → from' ≡ from → numbers' ≡ set numbers k x → k ≡ n → TakesSoFar unused old w (n + 1) from (set numbers n x) → TakesSoFar unused old w (n + 1) from' numbers'
+  same_taking n k from from' x numbers numbers' e f at h =
+      subst (λ (xs : List ℕ). TakesSoFar unused old w (n + 1) from' xs) (sym (f ∙ ap (λ (j : ℕ). set numbers j x) at))
+      (subst (λ (m : ℕ). TakesSoFar unused old w (n + 1) m (set numbers n x)) (sym e) h)
+
+  -- there is an unused page for each changed one
+  pub room : (n from m : ℕ) (numbers : List ℕ) → TakesSoFar unused old w n from numbers → n < pages_of w.size → is_changed w n ≡ true → needed w ≤ count_below unused m → count_below unused from < count_below unused m
+  room n from m numbers so_far lt changed fits = let more = count_passes (is_changed w) n (pages_of w.size) lt changed in let e = so_far.count in omega arith
+
+  pub takes_done : (n from : ℕ) (numbers : List ℕ) → n ≡ pages_of w.size → TakesSoFar unused old w n from numbers → TakesPages unused old w numbers
+  takes_done n from numbers e so_far = record {
+    stays = λ i lt. so_far.stays i (omega arith);
+    inside = λ i lt yes. let h = so_far.below i (omega arith) yes in let s = so_far.small in omega arith;
+    free = λ i lt. so_far.free i (omega arith);
+    ascend = λ i j lt less. so_far.ascend i j lt (omega arith);
+    least = λ i page lt yes less is_free.
+        let h = so_far.below i (omega arith) yes in
+        let t = so_far.taken page (omega arith) is_free in
+        (t.0, earlier i t.0 (omega arith) t.1 yes t.2 (omega (arith, t.3)), t.2, t.3);
+    rest = λ i le lt. so_far.rest i (omega arith) lt;
+  }
+    where
+      earlier : (i j : ℕ) → i < n → j < n → is_changed w i ≡ true → is_changed w j ≡ true → get_or numbers j 0 < get_or numbers i 0 → j < i
+      earlier i j low high a b less = ⊎_elim
+          (λ (before : j < i). before)
+          (λ (ge : i ≤ j). ⊎_elim
+          (λ (apart : i < j). let h = so_far.ascend i j apart high a b in absurd (omega arith))
+          (λ (le : j ≤ i). let same : i ≡ j = omega arith in let f = ap (λ (k : ℕ). get_or numbers k 0) same in absurd (omega arith))
+          (cases_lt i j))
+          (cases_lt j i)

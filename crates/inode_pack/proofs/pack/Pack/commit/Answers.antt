@@ -1,0 +1,169 @@
+use Rattle.std.proofs.Common.{◌≡◌, ℕ, List, sym, ap, subst, ◌∙◌, arith}
+use Rattle.std.specs.Prelude.{Some, Result, Ok, Err}
+use Rattle.disk_model.specs.declared.disk.DiskFault.{DiskFault}
+use Rattle.inode_switch.specs.Moments.{TellsMany}
+use Rattle.inode_switch.specs.Switch.{IsStage}
+use Rattle.pack_layout.specs.Layout.{slot_at}
+use Rattle.inode_switch.specs.Replace.{closing}
+use Rattle.inode_switch.proofs.Moments.{leaves_start, leaves_weaker}
+use Rattle.inode_pack.specs.declared.pack_fault.PackFault.{PackFault}
+use Rattle.inode_pack.specs.declared.pack_fault.PackFault.TheVariants.{Disk}
+use Rattle.inode_pack.specs.Pack.{PackState, copy_of, Stands}
+use Rattle.inode_pack.specs.Committing.{MayBeLeft, new_version, commit_calls, commit_answer}
+use Rattle.inode_pack.proofs.Setup.{set_up}
+use Rattle.inode_pack.proofs.Making.{place}
+use Rattle.inode_pack.proofs.NewCopies.{own_copy, copies_after}
+use Rattle.inode_pack.proofs.Committed.{left_at_start, given_may, given_closes, given_left, given_calls, given_shows, given_replaced, given_on, same_fault, other_answer, disk_no_space, disk_tells}
+use Rattle.inode_pack.proofs.pack.Pack.commit.Goals as goal
+
+pub returns-in_err-prepared-clause-any_moment : goal.returns-in_err-prepared-clause-any_moment
+returns-in_err-prepared-clause-any_moment g c =
+    let pack = c.args.self.now in
+    let disk = c.args.disk.now in
+    let old = g.D.Disk.seen disk in
+    let made = new_version pack.base c.args.ino c.args.kind c.args.set c.args.shadow.now c.args.stamp c.args.vector.now old in
+    leaves_start g.D.Disk.now g.D.Disk.may_leave g.D.Disk.may_have_left disk (MayBeLeft pack c.args.ino made old)
+    (λ x left. subst (λ (y : List ℕ). MayBeLeft pack c.args.ino made old y) (sym (c.requires.stands.settled x (g.met.D.Disk.only_now disk x left)))
+    (left_at_start pack c.args.ino made old c.in_err-prepared.ensures.copies c.requires.stands.shows))
+
+pub returns-in_err-prepared-clause-no_space : goal.returns-in_err-prepared-clause-no_space
+returns-in_err-prepared-clause-no_space g c pages free =
+    let h = given_on c.from_residual.result _ c.from_residual.ensures in
+    same_fault c.from_residual.result c.in_err-prepared.field-0.0 pages free _ (h.1 ∙ ap (λ (f : PackFault). Err f) h.2) (c.in_err-prepared.ensures.no_space pages free)
+
+pub replace_inode-requires-clause-may : goal.replace_inode-requires-clause-may
+replace_inode-requires-clause-may g c =
+    let pack = c.args.self.now in
+    let ino = c.args.ino in
+    let w = c.args.shadow.now in
+    let old = g.D.Disk.seen c.args.disk.now in
+    let p = c.in_ok-prepared.prepared in
+    let e = c.in_ok-prepared.ensures in
+    let s = set_up pack ino c.args.kind c.args.set w c.args.stamp c.args.vector.now p.made e.copies c.requires.version (omega arith) c.requires.rests e.whole e.numbers e.makes in
+    given_may pack ino w p.made s old c.requires.stands.shows c.base-base.result p.pieces c.base-base.ensures e.pieces
+
+pub replace_inode-requires-clause-closes : goal.replace_inode-requires-clause-closes
+replace_inode-requires-clause-closes g c =
+    let pack = c.args.self.now in
+    let ino = c.args.ino in
+    let w = c.args.shadow.now in
+    let old = g.D.Disk.seen c.args.disk.now in
+    let p = c.in_ok-prepared.prepared in
+    let e = c.in_ok-prepared.ensures in
+    let s = set_up pack ino c.args.kind c.args.set w c.args.stamp c.args.vector.now p.made e.copies c.requires.version (omega arith) c.requires.rests e.whole e.numbers e.makes in
+    given_closes pack ino w p.made s old c.requires.stands.shows c.base-base.result p.pieces c.base-base.ensures e.pieces p.closes e.closes
+
+pub returns-in_err-replace_inode-clause-any_moment : goal.returns-in_err-replace_inode-clause-any_moment
+returns-in_err-replace_inode-clause-any_moment g c =
+    let pack = c.args.self.now in
+    let ino = c.args.ino in
+    let w = c.args.shadow.now in
+    let old = g.D.Disk.seen c.args.disk.now in
+    let p = c.in_ok-prepared.prepared in
+    let e = c.in_ok-prepared.ensures in
+    let s = set_up pack ino c.args.kind c.args.set w c.args.stamp c.args.vector.now p.made e.copies c.requires.version (omega arith) c.requires.rests e.whole e.numbers e.makes in
+    leaves_weaker g.D.Disk.now g.D.Disk.may_leave g.D.Disk.may_have_left c.args.disk.now c.replace_inode.new.disk
+    (IsStage p.pieces (slot_at c.base-base.result ino p.made.which) (closing c.base-base.result ino p.made.which old) old)
+    (MayBeLeft pack ino (new_version pack.base ino c.args.kind c.args.set w c.args.stamp c.args.vector.now old) old)
+    (given_left pack ino w p.made s old c.requires.stands.shows c.base-base.result p.pieces c.base-base.ensures e.pieces c.args.kind c.args.set c.args.stamp c.args.vector.now e.makes) c.replace_inode.ensures.stages
+
+pub returns-in_err-replace_inode-clause-no_space : goal.returns-in_err-replace_inode-clause-no_space
+returns-in_err-replace_inode-clause-no_space g c pages free =
+    let h = given_on c.from_residual-in_err-replace_inode.result _ c.from_residual-in_err-replace_inode.ensures in
+    let r = c.from_residual-in_err-replace_inode.result in
+    let is : r ≡ Err Disk = h.1 ∙ ap (λ (f : PackFault). Err f) h.2 in
+    other_answer r c.in_ok-prepared.prepared pages free _ (disk_no_space r pages free is) (c.in_ok-prepared.ensures.no_space pages free)
+
+pub returns-in_err-replace_inode-clause-tells : goal.returns-in_err-replace_inode-clause-tells
+returns-in_err-replace_inode-clause-tells g c =
+    let pack = c.args.self.now in
+    let ino = c.args.ino in
+    let w = c.args.shadow.now in
+    let old = g.D.Disk.seen c.args.disk.now in
+    let p = c.in_ok-prepared.prepared in
+    let e = c.in_ok-prepared.ensures in
+    let s = set_up pack ino c.args.kind c.args.set w c.args.stamp c.args.vector.now p.made e.copies c.requires.version (omega arith) c.requires.rests e.whole e.numbers e.makes in
+    let h = given_on c.from_residual-in_err-replace_inode.result _ c.from_residual-in_err-replace_inode.ensures in
+    let is = h.1 ∙ ap (λ (f : PackFault). Err f) h.2 in
+    let before = g.D.Disk.passing c.args.disk.now in
+    let after = g.D.Disk.passing c.replace_inode.new.disk in
+    let tells = disk_tells _ _ before after c.in_err-replace_inode.field-0.0 (given_calls pack ino w p.made s old c.requires.stands.shows c.base-base.result p.pieces c.base-base.ensures e.pieces) c.in_err-replace_inode.ensures.tells in
+    subst (λ (r : Result (Unit {0}) PackFault). TellsMany (commit_calls w (copy_of pack.copies ino) r) before after (commit_answer r)) (sym is) tells
+
+pub put-requires-clause-copies : goal.put-requires-clause-copies
+put-requires-clause-copies g c =
+    let pack = c.args.self.now in
+    let ino = c.args.ino in
+    let w = c.args.shadow.now in
+    let old = g.D.Disk.seen c.args.disk.now in
+    let p = c.in_ok-prepared.prepared in
+    let e = c.in_ok-prepared.ensures in
+    let s = set_up pack ino c.args.kind c.args.set w c.args.stamp c.args.vector.now p.made e.copies c.requires.version (omega arith) c.requires.rests e.whole e.numbers e.makes in
+    copies_after pack ino w p.made s (place pack ino w p.made s old c.requires.stands.shows)
+
+pub returns-clause-any_moment : goal.returns-clause-any_moment
+returns-clause-any_moment g c =
+    let pack = c.args.self.now in
+    let ino = c.args.ino in
+    let w = c.args.shadow.now in
+    let old = g.D.Disk.seen c.args.disk.now in
+    let p = c.in_ok-prepared.prepared in
+    let e = c.in_ok-prepared.ensures in
+    let s = set_up pack ino c.args.kind c.args.set w c.args.stamp c.args.vector.now p.made e.copies c.requires.version (omega arith) c.requires.rests e.whole e.numbers e.makes in
+    leaves_weaker g.D.Disk.now g.D.Disk.may_leave g.D.Disk.may_have_left c.args.disk.now c.replace_inode.new.disk
+    (IsStage p.pieces (slot_at c.base-base.result ino p.made.which) (closing c.base-base.result ino p.made.which old) old)
+    (MayBeLeft pack ino (new_version pack.base ino c.args.kind c.args.set w c.args.stamp c.args.vector.now old) old)
+    (given_left pack ino w p.made s old c.requires.stands.shows c.base-base.result p.pieces c.base-base.ensures e.pieces c.args.kind c.args.set c.args.stamp c.args.vector.now e.makes) c.replace_inode.ensures.stages
+
+pub returns-clause-copies : goal.returns-clause-copies
+returns-clause-copies g c =
+    let pack = c.args.self.now in
+    let ino = c.args.ino in
+    let w = c.args.shadow.now in
+    let old = g.D.Disk.seen c.args.disk.now in
+    let p = c.in_ok-prepared.prepared in
+    let e = c.in_ok-prepared.ensures in
+    let s = set_up pack ino c.args.kind c.args.set w c.args.stamp c.args.vector.now p.made e.copies c.requires.version (omega arith) c.requires.rests e.whole e.numbers e.makes in
+    record {
+      made = p.made;
+      makes = e.makes;
+      becomes = c.put.ensures;
+      copy = ap (λ (k : PackState). copy_of k.copies ino) c.put.ensures ∙ own_copy pack.copies ino (Some p.made) s.low (let count = s.are.count in let high = s.high in omega arith);
+    }
+
+pub returns-clause-stands : goal.returns-clause-stands
+returns-clause-stands g c =
+    let pack = c.args.self.now in
+    let ino = c.args.ino in
+    let w = c.args.shadow.now in
+    let old = g.D.Disk.seen c.args.disk.now in
+    let p = c.in_ok-prepared.prepared in
+    let e = c.in_ok-prepared.ensures in
+    let s = set_up pack ino c.args.kind c.args.set w c.args.stamp c.args.vector.now p.made e.copies c.requires.version (omega arith) c.requires.rests e.whole e.numbers e.makes in
+    subst (λ (new : PackState). Stands g.D.Disk.seen g.D.Disk.may_leave new c.replace_inode.new.disk) (sym c.put.ensures)
+    (record { settled = c.in_ok-replace_inode.ensures.durable; shows = given_shows pack ino w p.made s old c.requires.stands.shows c.base-base.result p.pieces c.base-base.ensures e.pieces (g.D.Disk.seen c.replace_inode.new.disk) c.in_ok-replace_inode.ensures.done })
+
+pub returns-clause-replaced : goal.returns-clause-replaced
+returns-clause-replaced g c =
+    let pack = c.args.self.now in
+    let ino = c.args.ino in
+    let w = c.args.shadow.now in
+    let old = g.D.Disk.seen c.args.disk.now in
+    let p = c.in_ok-prepared.prepared in
+    let e = c.in_ok-prepared.ensures in
+    let s = set_up pack ino c.args.kind c.args.set w c.args.stamp c.args.vector.now p.made e.copies c.requires.version (omega arith) c.requires.rests e.whole e.numbers e.makes in
+    given_replaced pack ino w p.made s old c.requires.stands.shows c.base-base.result p.pieces c.base-base.ensures e.pieces c.args.kind c.args.set c.args.stamp c.args.vector.now e.makes (g.D.Disk.seen c.replace_inode.new.disk) c.in_ok-replace_inode.ensures.replaced
+
+pub returns-clause-no_space : goal.returns-clause-no_space
+returns-clause-no_space g c pages free = other_answer _ c.in_ok-prepared.prepared pages free _ (λ e. absurd cc) (c.in_ok-prepared.ensures.no_space pages free)
+
+pub returns-clause-tells : goal.returns-clause-tells
+returns-clause-tells g c =
+    let pack = c.args.self.now in
+    let ino = c.args.ino in
+    let w = c.args.shadow.now in
+    let old = g.D.Disk.seen c.args.disk.now in
+    let p = c.in_ok-prepared.prepared in
+    let e = c.in_ok-prepared.ensures in
+    let s = set_up pack ino c.args.kind c.args.set w c.args.stamp c.args.vector.now p.made e.copies c.requires.version (omega arith) c.requires.rests e.whole e.numbers e.makes in
+    subst (λ (k : ℕ). TellsMany {T = Unit {0}} {E = DiskFault} k (g.D.Disk.passing c.args.disk.now) (g.D.Disk.passing c.replace_inode.new.disk) (Ok tt)) (given_calls pack ino w p.made s old c.requires.stands.shows c.base-base.result p.pieces c.base-base.ensures e.pieces) c.in_ok-replace_inode.ensures.tells

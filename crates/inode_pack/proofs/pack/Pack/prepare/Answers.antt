@@ -1,0 +1,40 @@
+use Rattle.std.proofs.Common.{◌≤◌, ℕ, List, length, get_or, sym, subst, ◌∙◌, arith}
+use Rattle.std.specs.Prelude.{◌==◌}
+use Rattle.shadow_pages.specs.Working.{count_below}
+use Rattle.inode_pack.specs.Committing.{needed, RestsOn, size_of}
+use Rattle.inode_pack.specs.Pack.{PackState, AreUses, copy_of}
+use Rattle.inode_pack.proofs.Setup.{copy_is, number_inside}
+use Rattle.inode_pack.proofs.NewCopies.{copy_at, room_for, makes_alike}
+use Rattle.inode_pack.proofs.pack.Pack.prepare.Goals as goal
+
+pub next_copy-made-requires-clause-room : goal.next_copy-made-requires-clause-room
+next_copy-made-requires-clause-room c =
+    let inv = c.self.invariant in
+    let le : needed c.args.shadow.now ≤ c.self.inside.free = omega (arith, c.count_changed-needed.ensures.number) in
+    subst (λ (l : List ℕ). needed c.args.shadow.now ≤ count_below (λ p. get_or l p 0 == 0) (length l)) (sym c.deref.ensures.value)
+    (room_for c.self.inside.copies.items c.self.inside.uses.items c.self.inside.free inv.0 inv.1 (needed c.args.shadow.now) le)
+
+pub next_copy-made-requires-clause-which : goal.next_copy-made-requires-clause-which
+next_copy-made-requires-clause-which c copy held =
+    let inv = c.self.invariant in
+    let at = copy_at c.self.inside.copies.items c.self.inside.uses.items c.self.inside.free inv.0 inv.1 c.args.heading.now.ino c.from.result c.index.result.now c.requires.version.low c.requires.version.high c.from.ensures c.index.ensures in
+    (copy_is c.self.inside.copies.items c.args.heading.now.ino copy inv.0 (sym at ∙ held)).place
+
+pub next_copy-made-requires-clause-turn : goal.next_copy-made-requires-clause-turn
+next_copy-made-requires-clause-turn c copy held =
+    let inv = c.self.invariant in
+    let at = copy_at c.self.inside.copies.items c.self.inside.uses.items c.self.inside.free inv.0 inv.1 c.args.heading.now.ino c.from.result c.index.result.now c.requires.version.low c.requires.version.high c.from.ensures c.index.ensures in
+    (copy_is c.self.inside.copies.items c.args.heading.now.ino copy inv.0 (sym at ∙ held)).slot.turn
+
+pub pieces_of-requires-clause-inside : goal.pieces_of-requires-clause-inside
+pieces_of-requires-clause-inside c =
+    let inv = c.self.invariant in
+    let copies = c.self.inside.copies.items in
+    let h = c.args.heading.now in
+    let uses = c.deref.result.now in
+    let made = c.next_copy-made.result in
+    let used = subst (λ (l : List ℕ). AreUses copies l c.self.inside.free) (sym c.deref.ensures.value) inv.1 in
+    let at = copy_at copies c.self.inside.uses.items c.self.inside.free inv.0 inv.1 h.ino c.from.result c.index.result.now c.requires.version.low c.requires.version.high c.from.ensures c.index.ensures in
+    let m = makes_alike copies uses c.self.inside.free h.ino c.index.result.now h.kind h.set c.args.shadow.now h.stamp h.vector made inv.0 used at c.next_copy-made.ensures.makes in
+    let rests = subst (λ (p : PackState). RestsOn (size_of (copy_of p.copies h.ino)) c.args.shadow.now) (sym c.self.view_is) c.requires.rests in
+    number_inside copies h.ino c.args.shadow.now made.slot.pages inv.0 rests m.takes

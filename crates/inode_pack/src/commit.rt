@@ -1,0 +1,133 @@
+// A version is committed, wholly or not at all.
+ghost use Rattle.std.specs.Prelude.{◌≡◌, ◌↔◌, ◌≤◌, ◌<◌, ◌+◌, ◌-◌, ◌^◌, ℕ, List, length, slice_index, slice_set, Option, Some, Err, is_some, OnOk, OnErr, IfOk, IfErr};
+ghost use Rattle.disk_model.specs.Disk.{HasCause};
+ghost use Rattle.pack_layout.specs.Layout.{area_length, pages_of};
+ghost use Rattle.inode_switch.specs.Moments.{LeavesOnly, TellsMany};
+ghost use Rattle.inode_switch.specs.View.{Replaced};
+ghost use Rattle.inode_pack.specs.Pack.{copy_of, named_pages, AreCopies, Stands};
+ghost use Rattle.inode_pack.specs.declared.pack_fault.PackFault.TheVariants.{NoSpace};
+ghost use Rattle.inode_pack.specs.PagePieces.{pieces_of, AreWhole};
+ghost use Rattle.inode_pack.specs.Committing.{IsVersion, RestsOn, size_of, needed, is_free, Makes, Commits, with_copy, new_version, MayBeLeft, commit_calls, commit_answer, IsEarly};
+
+use crate::pieces::pieces_of;
+use crate::plan::{Heading, count_changed, next_copy};
+use crate::usage::{pages_named, pass_pages};
+use crate::{InodeCopy, Pack, PackFault};
+use disk_model::Disk;
+use inode_switch::{Pieces, replace_inode};
+use locus_ids::{Kind, Sites, Stamp};
+use shadow_pages::Shadow;
+use version_vector::Vector;
+
+/// What a commit makes and writes.
+#[derive(Drop)]
+struct Prepared {
+    made: InodeCopy,
+    pieces: Pieces,
+    /// The inode has a version, whose slot is to be closed.
+    closes: bool,
+}
+
+impl Pack {
+    /// Commits a version of an inode: its content is the shadow's over the content that the inode has. Only changed pages are
+    /// written, each to the least free data page. `NoSpace` comes exactly where they are more than are free. After `Disk` the
+    /// pack must be mounted again, and is wholly old or wholly new.
+    pub fn commit<D: Disk>(
+        &mut self,
+        disk: &mut D,
+        ino: u16,
+        kind: Kind,
+        set: Sites,
+        shadow: &Shadow,
+        vector: &Vector<16>,
+        stamp: Stamp,
+    ) -> Result<(), PackFault>
+        requires stands { Stands D.seen D.may_leave self.old disk.old }
+        requires version { IsVersion ino set shadow.now.size stamp vector.now }
+        requires rests { RestsOn (size_of (copy_of self.old.copies ino)) shadow.now }
+
+        // At each moment a crash leaves the old view or the new one, in a sound pack, and nothing else changed.
+        ensures any_moment { LeavesOnly D.now D.may_have_left disk.old disk.new
+            (MayBeLeft self.old ino (new_version self.old.base ino kind set shadow.now stamp vector.now (D.seen disk.old)) (D.seen disk.old)) }
+
+        // After it the pack has the new copy, and so has the disk, whatever comes.
+        ensures copies { OnOk result (Commits self.old ino kind set shadow.now stamp vector.now self.new) }
+        ensures stands { OnOk result (Stands D.seen D.may_leave self.new disk.new) }
+        ensures replaced { OnOk result (Replaced self.old.base ino (new_version self.old.base ino kind set shadow.now stamp vector.now (D.seen disk.old)) (D.seen disk.old) (D.seen disk.new)) }
+
+        ensures kept { OnErr result (self.new ≡ self.old) }
+        ensures no_space { (pages free : ℕ) → (result ≡ Err (NoSpace pages free)) ↔ ((free < pages) × (pages ≡ needed shadow.now) × (free + length (named_pages self.old.copies) ≡ 3072)) }
+        ensures early { IfErr result (λ fault. IsEarly fault → disk.new ≡ disk.old) }
+
+        // The disk fails only where its count rose, and where it tells how many calls pass, exactly where they are too few.
+        ensures cause { HasCause (D.faults disk.old) (D.faults disk.new) (commit_answer result) }
+        ensures tells { TellsMany (commit_calls shadow.now (copy_of self.old.copies ino) result) (D.passing disk.old) (D.passing disk.new) (commit_answer result) }
+    {
+        let _len = disk.len();
+        let heading = Heading {
+            ino,
+            kind,
+            set,
+            stamp,
+            vector: *vector,
+        };
+        let base = self.base();
+        let prepared = self.prepare(&heading, shadow)?;
+        let which = prepared.made.which;
+        replace_inode(disk, base, ino, which, prepared.closes, &prepared.pieces)?;
+        self.put(ino, &prepared.made);
+        Ok(())
+    }
+
+    /// Where the area begins.
+    fn base(&self) -> u32
+        ensures { result ≡ self.now.base }
+    {
+        self.base
+    }
+
+    /// Takes all the memory that a commit needs.
+    fn prepare(&self, heading: &Heading, shadow: &Shadow) -> Result<Prepared, PackFault>
+        requires area { self.now.base + area_length < 2 ^ 32 }
+        requires version { IsVersion heading.now.ino heading.now.set shadow.now.size heading.now.stamp heading.now.vector }
+        requires rests { RestsOn (size_of (copy_of self.now.copies heading.now.ino)) shadow.now }
+        ensures makes { IfOk result (λ p. Makes (is_free self.now.copies) (copy_of self.now.copies heading.now.ino) heading.now.ino heading.now.kind heading.now.set shadow.now heading.now.stamp heading.now.vector p.made) }
+        ensures numbers { IfOk result (λ p. length p.made.slot.pages ≡ 64) }
+        ensures pieces { IfOk result (λ p. p.pieces ≡ pieces_of self.now.base p.made shadow.now) }
+        ensures whole { IfOk result (λ _. AreWhole shadow.now (pages_of shadow.now.size)) }
+        ensures closes { IfOk result (λ p. p.closes ≡ is_some (copy_of self.now.copies heading.now.ino)) }
+        ensures copies { AreCopies self.now.copies }
+        ensures no_space { (pages free : ℕ) → (result ≡ Err (NoSpace pages free)) ↔ ((free < pages) × (pages ≡ needed shadow.now) × (free + length (named_pages self.now.copies) ≡ 3072)) }
+        ensures early { IfErr result (λ fault. IsEarly fault) }
+    {
+        let needed = count_changed(shadow);
+        if needed > self.free {
+            return Err(PackFault::NoSpace {
+                needed,
+                free: self.free,
+            });
+        }
+        let old = self.copies[usize::from(heading.ino) - 1];
+        let made = next_copy(&self.uses, &old, heading, shadow);
+        let pieces = pieces_of(*self.copies.allocator(), self.base, &made, shadow)?;
+        Ok(Prepared {
+            made,
+            pieces,
+            closes: old.is_some(),
+        })
+    }
+
+    /// The pack has this copy of the inode.
+    fn put(&mut self, ino: u16, made: &InodeCopy)
+        requires low { 1 ≤ ino }
+        requires high { ino ≤ 1024 }
+        requires copies { AreCopies (with_copy self.old ino made.now).copies }
+        ensures { self.new ≡ with_copy self.old ino made.now }
+    {
+        let at = usize::from(ino) - 1;
+        let old = self.copies[at];
+        pass_pages(&mut self.uses, &old, made);
+        self.free = self.free + pages_named(&old) - pages_named(&Some(*made));
+        self.copies[at] = Some(*made);
+    }
+}

@@ -1,0 +1,56 @@
+ghost use Rattle.std.specs.Prelude.{◌≡◌, ◌+◌, length, IfSome};
+ghost use Rattle.std.specs.Option.{option_copied, option_map};
+ghost use Rattle.inode_pack.specs.Pack.{copy_of, named_pages, IsCopy};
+
+use crate::InodeCopy;
+use locus_ids::SiteId;
+use pack_layout::Slot;
+use std::marker::Model;
+
+/// The part of a filegroup that a site stores, in an area of its disk. It knows the newest version of each inode there, and
+/// which data pages these have. Contracts see where the area begins, the group, the site and the copies.
+#[derive(Drop)]
+pub struct Pack {
+    pub(crate) base: u32,
+    pub(crate) group: u8,
+    pub(crate) site: SiteId,
+    /// The copy of each inode, that of inode 1 first.
+    pub(crate) copies: Vec<Option<InodeCopy>>,
+    /// How many copies name each data page: none or one.
+    pub(crate) uses: Vec<u32>,
+    /// The number of data pages that no copy names.
+    pub(crate) free: u16,
+}
+
+impl Model for Pack {
+    ghost use Rattle.inode_pack.specs.Pack.{PackState, AreCopies, AreUses};
+
+    ghost Value = { PackState };
+
+    ghost view = { λ p. record { base = p.base; group = p.group; site = p.site; copies = p.copies.items } };
+
+    ghost invariant = { λ p. AreCopies p.copies.items × AreUses p.copies.items p.uses.items p.free };
+}
+
+impl Pack {
+    /// The version of an inode, or `None` exactly where this pack has none, as for each number outside 1 to 1,024.
+    pub fn copy(&self, ino: u16) -> Option<&Slot>
+        ensures value { option_copied result ≡ option_map (λ copy. copy.slot) (copy_of self.now.copies ino) }
+        ensures own { IfSome (copy_of self.now.copies ino) (λ copy. IsCopy ino copy) }
+    {
+        if ino == 0 {
+            return None;
+        }
+        match self.copies.get(usize::from(ino) - 1) {
+            Some(Some(copy)) => Some(&copy.slot),
+            _ => None,
+        }
+    }
+
+    /// The number of data pages that no version here names.
+    pub fn free_pages(&self) -> u16
+        ensures { result + length (named_pages self.now.copies) ≡ 3072 }
+    {
+        self.free
+    }
+}

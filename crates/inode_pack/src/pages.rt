@@ -1,0 +1,48 @@
+// The data pages of a pack.
+ghost use Rattle.std.specs.Prelude.{◌≡◌, ◌<◌, ℕ, List, Some, OnOk};
+ghost use Rattle.disk_model.specs.Disk.{Goes, HasCause, TellsRead};
+ghost use Rattle.disk_model.specs.Images.{bytes_at, Same};
+ghost use Rattle.pack_layout.specs.Layout.{page_at};
+ghost use Rattle.inode_switch.specs.View.{Version, view};
+ghost use Rattle.inode_pack.specs.Pack.{copy_of, Stands, HasPage, number_in, IsPageOf};
+
+use crate::Pack;
+use disk_model::{Disk, DiskFault};
+use pack_layout::page_at;
+
+impl Pack {
+    /// Reads a page of the content of an inode's version here, from 0. Bytes of the last page past the size have no meaning.
+    pub fn read_page<D: Disk>(
+        &self,
+        disk: &mut D,
+        ino: u16,
+        page: u16,
+        buf: &mut [u8; 1024],
+    ) -> Result<(), DiskFault>
+        requires stands { Stands D.seen D.may_leave self.now disk.old }
+        requires page { HasPage self.now ino page }
+        ensures bytes { OnOk result (buf.new ≡ bytes_at (D.seen disk.old) (page_at self.now.base (number_in (copy_of self.now.copies ino) page)) 1024) }
+        ensures content { OnOk result ((version : Version) → view (D.seen disk.old) self.now.base ino ≡ Some version → IsPageOf version.content page buf.new) }
+        ensures seen { D.seen disk.new ≡ D.seen disk.old }
+        ensures stands { Stands D.seen D.may_leave self.now disk.new }
+        ensures crash { Goes D.now D.may_leave D.may_have_left Same disk.old disk.new }
+        ensures cause { HasCause (D.faults disk.old) (D.faults disk.new) result }
+        ensures tells { TellsRead (D.passing disk.old) (D.passing disk.new) result }
+    {
+        let _len = disk.len();
+        let number = self.number_of(ino, page);
+        disk.read(page_at(self.base, number), buf)
+    }
+
+    /// The number of the data page where a page of an inode's content stands.
+    fn number_of(&self, ino: u16, page: u16) -> u16
+        requires { HasPage self.now ino page }
+        ensures number { result ≡ number_in (copy_of self.now.copies ino) page }
+        ensures inside { result < 3072 }
+    {
+        match self.copy(ino) {
+            Some(slot) => slot.pages[usize::from(page)],
+            None => 0,
+        }
+    }
+}

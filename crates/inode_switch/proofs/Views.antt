@@ -1,0 +1,100 @@
+-- Images that agree where the view looks have one view.
+use Rattle.std.proofs.Common.{◌≡◌, ◌⊎◌, inl, inr, ℕ, zero, suc, ◌+◌, ◌*◌, ◌≤◌, ◌<◌, Bool, true, false, List, ◌++◌, length, take, drop, get_or, refl, sym, ◌∙◌, ap, subst, arith, length-take, length-drop, ◌%◌}
+use Rattle.std.specs.Prelude.{Some, ◌==◌}
+use Rattle.std.proofs.lemmas.List.{same_lists, get_or_default, get_or-take, get_or-drop}
+use Rattle.disk_model.specs.Images.{bytes_at}
+use Rattle.pack_layout.specs.Layout.{page_at, pages_of}
+use Rattle.inode_switch.specs.View.{is_open, size, page, bytes_of, Version, version, follows, counting, version_in}
+
+pub same_bytes : (a b : List ℕ) (at n : ℕ) → length b ≡ length a → ((k : ℕ) → k < n → get_or b (at + k) 0 ≡ get_or a (at + k) 0) → bytes_at b at n ≡ bytes_at a at n
+same_bytes a b at n long same = same_lists (bytes_at b at n) (bytes_at a at n) lengths (λ k d lt. here k d lt)
+  where
+    lengths : length (bytes_at b at n) ≡ length (bytes_at a at n)
+    lengths = omega (arith, length-take n (drop at a), length-take n (drop at b), length-drop at a, length-drop at b, long)
+
+    here : (k : ℕ) (d : ℕ) → k < length (bytes_at b at n) → get_or (bytes_at b at n) k d ≡ get_or (bytes_at a at n) k d
+    here k d lt =
+        let below : k < n = omega (arith, length-take n (drop at b)) in
+        get_or_default (bytes_at b at n) k d 0 lt
+        ∙ get_or-take n (drop at b) k 0 below ∙ get_or-drop at b k 0 ∙ same k below ∙ sym (get_or-drop at a k 0) ∙ sym (get_or-take n (drop at a) k 0 below)
+        ∙ get_or_default (bytes_at a at n) k 0 d (omega (arith, lengths))
+
+-- a slot and its pages are the same in both
+pub record Keeps (base slot : ℕ) (a b : List ℕ) : Type 0 where
+  pub long : length b ≡ length a
+  pub few : pages_of (size a slot) ≤ 64
+  pub bytes : (k : ℕ) → k < 512 → get_or b (slot + k) 0 ≡ get_or a (slot + k) 0
+  pub pages : (i k : ℕ) → i < pages_of (size a slot) → k < 1024 → get_or b (page_at base (page a slot i) + k) 0 ≡ get_or a (page_at base (page a slot i) + k) 0
+
+module _ (base slot : ℕ) (a b : List ℕ) (keeps : Keeps base slot a b) where
+  at_byte : (k : ℕ) → k < 512 → get_or b (slot + k) 0 ≡ get_or a (slot + k) 0
+  at_byte = keeps.bytes
+
+  pub same_open : is_open b slot ≡ is_open a slot
+  same_open = ap (λ (n : ℕ). n == 165) (let e : slot + 0 ≡ slot = omega arith in subst (λ (n : ℕ). get_or b n 0 ≡ get_or a n 0) e (at_byte 0 (omega arith)))
+
+  same_size : size b slot ≡ size a slot
+  same_size = (λ i. ((at_byte 7 (omega arith) i * 256 + at_byte 8 (omega arith) i) * 256 + at_byte 9 (omega arith) i) * 256 + at_byte 10 (omega arith) i)
+
+  same_page : (n : ℕ) → n < 64 → page b slot n ≡ page a slot n
+  same_page n lt =
+      let e : slot + (80 + 2 * n) ≡ slot + 80 + 2 * n = omega arith in
+      let f : slot + (81 + 2 * n) ≡ slot + 81 + 2 * n = omega arith in
+      let high = subst (λ (m : ℕ). get_or b m 0 ≡ get_or a m 0) e (at_byte (80 + 2 * n) (omega arith)) in
+      let low = subst (λ (m : ℕ). get_or b m 0 ≡ get_or a m 0) f (at_byte (81 + 2 * n) (omega arith)) in
+      (λ i. high i * 256 + low i)
+
+  same_pages : (n : ℕ) → n ≤ pages_of (size a slot) → bytes_of b base slot n ≡ bytes_of a base slot n
+  same_pages zero le = refl
+  same_pages (suc n) le =
+      let lt : n < pages_of (size a slot) = omega arith in
+      let below : n < 64 = omega (arith, keeps.few) in
+      let one = ap (λ (p : ℕ). bytes_at b (page_at base p) 1024) (same_page n below) ∙ same_bytes a b (page_at base (page a slot n)) 1024 keeps.long (λ k in_page. keeps.pages n k lt in_page) in
+      let rest = same_pages n (omega arith) in
+      (λ i. rest i ++ one i)
+
+  pub same_version : version b base slot ≡ version a base slot
+  same_version =
+      let fields = same_bytes a b (slot + 2) 78 keeps.long (λ k lt. let e : slot + (2 + k) ≡ slot + 2 + k = omega arith in subst (λ (m : ℕ). get_or b m 0 ≡ get_or a m 0) e (at_byte (2 + k) (omega arith))) in
+      let all = ap (λ (n : ℕ). bytes_of b base slot (pages_of n)) same_size ∙ same_pages (pages_of (size a slot)) (omega arith) in
+      (λ i. record { fields = fields i; content = take (same_size i) (all i) })
+
+-- a slot that is closed in both, or kept
+abbrev pub Agrees : ℕ → ℕ → List ℕ → List ℕ → Type 0
+Agrees base slot a b = ((is_open a slot ≡ false) × (is_open b slot ≡ false)) ⊎ Keeps base slot a b
+
+module _ (base x y : ℕ) (a b : List ℕ) where
+  both : (o p f : Bool) → version b base x ≡ version a base x → version b base y ≡ version a base y → version_in b base (counting o p f x y) ≡ version_in a base (counting o p f x y)
+  both true true true first second = ap (λ (v : Version). Some v) second
+  both true true false first second = ap (λ (v : Version). Some v) first
+  both true false f first second = ap (λ (v : Version). Some v) first
+  both false true f first second = ap (λ (v : Version). Some v) second
+  both false false f first second = refl
+
+  only_first : (o f g : Bool) → version b base x ≡ version a base x → version_in b base (counting o false f x y) ≡ version_in a base (counting o false g x y)
+  only_first true f g first = ap (λ (v : Version). Some v) first
+  only_first false f g first = refl
+
+  only_second : (p f g : Bool) → version b base y ≡ version a base y → version_in b base (counting false p f x y) ≡ version_in a base (counting false p g x y)
+  only_second true f g second = ap (λ (v : Version). Some v) second
+  only_second false f g second = refl
+
+  same_follows : Keeps base x a b → Keeps base y a b → follows b x y ≡ follows a x y
+  same_follows first second = (λ i. (first.bytes 1 (omega arith) i + 1) % 3 == second.bytes 1 (omega arith) i)
+
+  pub same_view : Agrees base x a b → Agrees base y a b
+      → version_in b base (counting (is_open b x) (is_open b y) (follows b x y) x y) ≡ version_in a base (counting (is_open a x) (is_open a y) (follows a x y) x y)
+  same_view (inl shut) (inl also) =
+      (λ i. version_in b base (counting (shut.1 i) (also.1 i) (follows b x y) x y))
+      ∙ sym (λ i. version_in a base (counting (shut.0 i) (also.0 i) (follows a x y) x y))
+  same_view (inl shut) (inr second) =
+      (λ i. version_in b base (counting (shut.1 i) (same_open base y a b second i) (follows b x y) x y))
+      ∙ only_second (is_open a y) (follows b x y) (follows a x y) (same_version base y a b second)
+      ∙ sym (λ i. version_in a base (counting (shut.0 i) (is_open a y) (follows a x y) x y))
+  same_view (inr first) (inl shut) =
+      (λ i. version_in b base (counting (same_open base x a b first i) (shut.1 i) (follows b x y) x y))
+      ∙ only_first (is_open a x) (follows b x y) (follows a x y) (same_version base x a b first)
+      ∙ sym (λ i. version_in a base (counting (is_open a x) (shut.0 i) (follows a x y) x y))
+  same_view (inr first) (inr second) =
+      (λ i. version_in b base (counting (same_open base x a b first i) (same_open base y a b second i) (same_follows first second i) x y))
+      ∙ both (is_open a x) (is_open a y) (follows a x y) (same_version base x a b first) (same_version base y a b second)

@@ -1,0 +1,70 @@
+-- What an image of a pack stands for: for each inode nothing, or the version of the slot that counts.
+use Rattle.std.specs.Prelude.{ℕ, zero, suc, ◌+◌, ◌*◌, ◌%◌, ◌≤◌, ◌≡◌, ◌≢◌, ◌⊎◌, ◌==◌, Bool, true, false, List, [], ◌++◌, take, slice_index, Option, None, Some}
+use Rattle.disk_model.specs.Images.{bytes_at}
+use Rattle.pack_layout.specs.Layout.{open_gate, page_at, pages_of, slot_at}
+
+-- a slot begins with its gate and its turn
+abbrev pub is_open : List ℕ → ℕ → Bool
+is_open image slot = slice_index image slot == open_gate
+
+abbrev pub turn : List ℕ → ℕ → ℕ
+turn image slot = slice_index image (slot + 1)
+
+-- the size of the content stands seven bytes behind, the page numbers eighty; the greater bytes come first
+abbrev pub size : List ℕ → ℕ → ℕ
+size image slot = ((slice_index image (slot + 7) * 256 + slice_index image (slot + 8)) * 256 + slice_index image (slot + 9)) * 256 + slice_index image (slot + 10)
+
+abbrev pub page : List ℕ → ℕ → ℕ → ℕ
+page image slot i = slice_index image (slot + 80 + 2 * i) * 256 + slice_index image (slot + 81 + 2 * i)
+
+-- the bytes of the first n pages in order
+abbrev pub bytes_of : List ℕ → ℕ → ℕ → ℕ → List ℕ
+bytes_of image base slot zero = []
+bytes_of image base slot (suc n) = bytes_of image base slot n ++ bytes_at image (page_at base (page image slot n)) 1024
+
+-- a version: its kind, inode, set, size, stamp and vector as a slot spells them, and the content
+pub record Version : Type 0 where
+  pub fields : List ℕ
+  pub content : List ℕ
+
+abbrev pub version : List ℕ → ℕ → ℕ → Version
+version image base slot = record {
+  fields = bytes_at image (slot + 2) 78;
+  content = take (size image slot) (bytes_of image base slot (pages_of (size image slot)));
+}
+
+-- the turn of the second slot is the one after that of the first: 0, 1 and 2 go round
+abbrev pub follows : List ℕ → ℕ → ℕ → Bool
+follows image first second = (turn image first + 1) % 3 == turn image second
+
+-- of two open slots that counts whose turn follows the other's; a single open one counts
+abbrev pub counting : Bool → Bool → Bool → ℕ → ℕ → Option ℕ
+counting true true true first second = Some second
+counting true true false first second = Some first
+counting true false newer first second = Some first
+counting false true newer first second = Some second
+counting false false newer first second = None
+
+abbrev pub version_in : List ℕ → ℕ → Option ℕ → Option Version
+version_in image base None = None
+version_in image base (Some slot) = Some (version image base slot)
+
+-- what an inode has in this image
+abbrev pub view : List ℕ → ℕ → ℕ → Option Version
+view image base ino =
+    let first = slot_at base ino 0 in
+    let second = slot_at base ino 1 in
+    version_in image base (counting (is_open image first) (is_open image second) (follows image first second) first second)
+
+-- the view is as it was
+abbrev pub SameView : ℕ → List ℕ → List ℕ → Type 0
+SameView base old new = (ino : ℕ) → 1 ≤ ino → ino ≤ 1024 → view new base ino ≡ view old base ino
+
+-- the view is as it was, but this inode has this version
+pub record Replaced (base ino : ℕ) (made : Version) (old new : List ℕ) : Type 0 where
+  pub others : (other : ℕ) → 1 ≤ other → other ≤ 1024 → other ≢ ino → view new base other ≡ view old base other
+  pub own : view new base ino ≡ Some made
+
+-- wholly old or wholly new
+abbrev pub IsOldOrNew : ℕ → ℕ → Version → List ℕ → List ℕ → Type 0
+IsOldOrNew base ino made old new = SameView base old new ⊎ Replaced base ino made old new

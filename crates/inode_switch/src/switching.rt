@@ -1,0 +1,93 @@
+// The switch of an inode: what a commit writes is on the disk before its gate opens, and the old gate closes last.
+ghost use Rattle.std.specs.Prelude.{◌≡◌, ◌≤◌, ◌<◌, ◌+◌, ℕ, List, [], ◌∷◌, length, OnOk, IsOk};
+ghost use Rattle.disk_model.specs.Images.{overwritten, Torn};
+ghost use Rattle.disk_model.specs.Disk.{Goes, Only, HasCause};
+ghost use Rattle.inode_switch.specs.Moments.{LeavesOnly, TellsMany};
+ghost use Rattle.inode_switch.specs.Switch.{AreWithin, TornIn, written, IsStage, switched, calls_of, GateWithin};
+
+use disk_model::{Disk, DiskFault};
+use locus_ids::{Bytes, ItemList};
+
+/// Bytes to be written at a place of a disk.
+#[derive(Debug, Drop)]
+pub struct Piece {
+    pub at: u32,
+    pub bytes: Bytes,
+}
+
+/// Pieces in the order of their writing.
+pub type Pieces = ItemList<Piece>;
+
+pub(crate) const OPEN: u8 = 0xA5;
+
+pub(crate) const CLOSED: u8 = 0x00;
+
+// Writes the pieces in order.
+fn write_pieces<D: Disk>(disk: &mut D, pieces: &[Piece]) -> Result<(), DiskFault>
+    requires { AreWithin pieces.now (length (D.seen disk.old)) }
+    ensures written { OnOk result (D.seen disk.new ≡ written (D.seen disk.old) pieces.now) }
+    ensures crash { Goes D.now D.may_leave D.may_have_left (TornIn pieces.now) disk.old disk.new }
+    ensures cause { HasCause (D.faults disk.old) (D.faults disk.new) result }
+    ensures tells { TellsMany (length pieces.now) (D.passing disk.old) (D.passing disk.new) result }
+{
+    for piece in pieces {
+        disk.write_at(piece.at, piece.bytes.as_slice())?;
+    }
+    Ok(())
+}
+
+// Writes the pieces in order and makes them durable.
+fn write_down<D: Disk>(disk: &mut D, pieces: &[Piece]) -> Result<(), DiskFault>
+    requires { AreWithin pieces.now (length (D.seen disk.old)) }
+    ensures written { OnOk result (D.seen disk.new ≡ written (D.seen disk.old) pieces.now) }
+    ensures durable { OnOk result (Only (D.seen disk.new) (D.may_leave disk.new)) }
+    ensures crash { Goes D.now D.may_leave D.may_have_left (TornIn pieces.now) disk.old disk.new }
+    ensures cause { HasCause (D.faults disk.old) (D.faults disk.new) result }
+    ensures tells { TellsMany (length pieces.now + 1) (D.passing disk.old) (D.passing disk.new) result }
+{
+    write_pieces(disk, pieces)?;
+    disk.sync()
+}
+
+// Writes a gate and makes it durable.
+pub(crate) fn set_gate<D: Disk>(disk: &mut D, gate: u32, byte: u8) -> Result<(), DiskFault>
+    requires { gate < length (D.seen disk.old) }
+    ensures written { OnOk result (D.seen disk.new ≡ overwritten (D.seen disk.old) gate (byte ∷ [])) }
+    ensures durable { OnOk result (Only (D.seen disk.new) (D.may_leave disk.new)) }
+    ensures crash { Goes D.now D.may_leave D.may_have_left (Torn gate 1) disk.old disk.new }
+    ensures cause { HasCause (D.faults disk.old) (D.faults disk.new) result }
+    ensures tells { TellsMany 2 (D.passing disk.old) (D.passing disk.new) result }
+{
+    disk.write_at(gate, &[byte])?;
+    disk.sync()
+}
+
+/// Writes the pieces and syncs, opens a gate and syncs, and then closes the old gate, where there is one, and syncs.
+pub fn switch<D: Disk>(
+    disk: &mut D,
+    pieces: &Pieces,
+    gate: u32,
+    old_gate: Option<u32>,
+) -> Result<(), DiskFault>
+    requires settled { Only (D.seen disk.old) (D.may_leave disk.old) }
+    requires pieces { AreWithin pieces.now (length (D.seen disk.old)) }
+    requires gate { gate < length (D.seen disk.old) }
+    requires old_gate { GateWithin old_gate (length (D.seen disk.old)) }
+
+    // A crash leaves the pieces torn, or all of them and the gate torn, or the gate open and the old gate torn.
+    ensures any_moment { LeavesOnly D.now D.may_have_left disk.old disk.new (IsStage pieces.now gate old_gate (D.seen disk.old)) }
+
+    ensures done { OnOk result (D.seen disk.new ≡ switched pieces.now gate old_gate (D.seen disk.old)) }
+    ensures durable { OnOk result (Only (D.seen disk.new) (D.may_leave disk.new)) }
+
+    // It fails only where the disk did, and where the disk tells how many calls pass, exactly where they are too few.
+    ensures cause { HasCause (D.faults disk.old) (D.faults disk.new) result }
+    ensures tells { TellsMany (calls_of pieces.now old_gate) (D.passing disk.old) (D.passing disk.new) result }
+{
+    write_down(disk, pieces.as_slice())?;
+    set_gate(disk, gate, OPEN)?;
+    if let Some(old_gate) = old_gate {
+        set_gate(disk, old_gate, CLOSED)?;
+    }
+    Ok(())
+}

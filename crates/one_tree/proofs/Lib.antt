@@ -1,0 +1,17 @@
+pub mod RowLists
+pub mod InstanceRows
+pub mod Counting
+pub mod Names
+pub mod Finding
+pub mod SiteSteps
+pub mod CopySteps
+pub mod KnownSteps
+pub mod InstanceSteps
+pub mod After
+pub mod TreeAfter
+pub mod Stepping
+pub mod Tells
+pub mod OpenTells
+pub mod ActTells
+pub mod StartTells
+pub mod Answering

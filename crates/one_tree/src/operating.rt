@@ -1,0 +1,156 @@
+ghost use Rattle.std.specs.Prelude.{◌≡◌, ◌+◌, ◌&&◌, not, cond, length, filter, nat_lt, nat_le, IfOk};
+ghost use Rattle.std.specs.List.{list_any};
+ghost use Rattle.tree_model.specs.Directory.{entries_of, has_name, is_pair, lookup, max_bytes};
+ghost use Rattle.one_tree.specs.Checks.{first_ino, is_committed_by, is_given, is_looked, is_probed};
+ghost use Rattle.one_tree.specs.Told.{is_done, is_no_too_long};
+ghost use Rattle.dir_list.specs.Looking.{look_result};
+
+use crate::told::{
+    is_committed, is_data, is_done, is_found, is_no_absent, is_no_ambiguous, is_no_exists,
+    is_no_too_long,
+};
+use dir_list::{LookResult, decode, lookup};
+use file_bytes::part_of;
+use locus_ids::{Bytes, NoMemory, Stamp};
+use std::alloc::Global;
+use trace_book::{Op, Outcome};
+use tree_model::{DirEntry, Instance};
+
+/// The operation on the instance gives this outcome.
+pub fn is_given(
+    alloc: Global,
+    op: &Op,
+    instance: &Instance,
+    outcome: &Outcome,
+) -> Result<bool, NoMemory>
+    ensures { IfOk result (λ yes. yes ≡ is_given op.now instance.now outcome.now) }
+{
+    match op {
+        Op::Probe { name } => is_probe_given(alloc, name, &instance.content, outcome),
+        Op::Find { component } => is_find_given(alloc, component, &instance.content, outcome),
+        Op::Insert { name, ino, kind: _ } => {
+            is_insert_given(alloc, name, *ino, &instance.content, outcome)
+        }
+        Op::Read { at, len } => Ok(is_data(
+            part_of(instance.content.as_slice(), *at, *len),
+            outcome,
+        )),
+        Op::Write { at: _, bytes: _ } => Ok(is_done(outcome)),
+        Op::Cut { len: _ } => Ok(is_done(outcome)),
+        Op::Commit => Ok(!instance.owes && is_committed_by(instance.last, outcome)),
+        Op::Abort => Ok(is_done(outcome)),
+        Op::Remove { name: _, ino: _ } => Ok(false),
+        Op::Rename {
+            component: _,
+            name: _,
+        } => Ok(false),
+        Op::Empty => Ok(false),
+        Op::Mend => Ok(false),
+    }
+}
+
+fn is_probe_given(
+    alloc: Global,
+    name: &Bytes,
+    content: &Bytes,
+    outcome: &Outcome,
+) -> Result<bool, NoMemory>
+    ensures { IfOk result (λ yes. yes ≡ is_probed (first_ino (filter (has_name name.now) (entries_of content.now))) (length content.now + length name.now + 8) outcome.now) }
+{
+    let dir = decode(alloc, content.as_slice())?;
+    match first_named(dir.as_slice(), name.as_slice()) {
+        Some(ino) => Ok(is_no_exists(ino, outcome)),
+        None => Ok(is_room_given(content.len(), name.len(), outcome)),
+    }
+}
+
+/// A name of this length is refused or let in where no live entry has it.
+fn is_room_given(size: usize, length: usize, outcome: &Outcome) -> bool
+    ensures { result ≡ cond (nat_lt max_bytes (size + length + 8)) (is_no_too_long outcome.now) (is_done outcome.now) }
+{
+    if size > 65_536 || length > 65_536 || size + length + 8 > 65_536 {
+        is_no_too_long(outcome)
+    } else {
+        is_done(outcome)
+    }
+}
+
+/// The inode of the first live entry of this name.
+fn first_named(dir: &[DirEntry], name: &[u8]) -> Option<u16>
+    ensures { result ≡ first_ino (filter (has_name name.now) dir.now) }
+{
+    for entry in dir {
+        if has_name(entry, name) {
+            return Some(entry.ino);
+        }
+    }
+    None
+}
+
+fn has_name(entry: &DirEntry, name: &[u8]) -> bool
+    ensures { result ≡ has_name name.now entry.now }
+{
+    entry.count % 2 == 1 && entry.name.as_slice() == name
+}
+
+fn is_find_given(
+    alloc: Global,
+    component: &Bytes,
+    content: &Bytes,
+    outcome: &Outcome,
+) -> Result<bool, NoMemory>
+    ensures { IfOk result (λ yes. yes ≡ is_looked component.now (look_result (lookup (entries_of content.now) component.now)) outcome.now) }
+{
+    let dir = decode(alloc, content.as_slice())?;
+    match lookup(dir.as_slice(), component.as_slice()) {
+        LookResult::Found { ino, kind } => Ok(is_found(ino, kind, outcome)),
+        LookResult::Absent => Ok(is_no_absent(component.as_slice(), outcome)),
+        LookResult::Ambiguous { a, b } => Ok(is_no_ambiguous(a, b, outcome)),
+    }
+}
+
+fn is_insert_given(
+    alloc: Global,
+    name: &Bytes,
+    ino: u16,
+    content: &Bytes,
+    outcome: &Outcome,
+) -> Result<bool, NoMemory>
+    ensures { IfOk result (λ yes. yes ≡ (nat_le (length name.now) 60 && not (list_any (is_pair name.now ino) (entries_of content.now)) && is_done outcome.now)) }
+{
+    if name.len() > 60 {
+        return Ok(false);
+    }
+    let dir = decode(alloc, content.as_slice())?;
+    if has_pair(dir.as_slice(), name.as_slice(), ino) {
+        return Ok(false);
+    }
+    Ok(is_done(outcome))
+}
+
+/// An entry of this name and inode, live or not.
+fn has_pair(dir: &[DirEntry], name: &[u8], ino: u16) -> bool
+    ensures { result ≡ list_any (is_pair name.now ino) dir.now }
+{
+    for entry in dir {
+        if is_pair(entry, name, ino) {
+            return true;
+        }
+    }
+    false
+}
+
+fn is_pair(entry: &DirEntry, name: &[u8], ino: u16) -> bool
+    ensures { result ≡ is_pair name.now ino entry.now }
+{
+    entry.name.as_slice() == name && entry.ino == ino
+}
+
+fn is_committed_by(last: Option<Stamp>, outcome: &Outcome) -> bool
+    ensures { result ≡ is_committed_by last outcome.now }
+{
+    match last {
+        Some(stamp) => is_committed(stamp, outcome),
+        None => false,
+    }
+}

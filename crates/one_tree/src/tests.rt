@@ -1,0 +1,396 @@
+use crate::{Applied, OneTree, TreeFault};
+use commit_graph::{History, Version};
+use locus_ids::{
+    Brought, Bytes, CallId, Config, EpochId, FileId, ItemList, Kind, Members, Mode, NoMemory,
+    Refusal, Serial, Sites, Stamp, Stamps,
+};
+use std::alloc::Global;
+use std::test::Fail;
+use trace_book::{Call, Op, OpenMode, Outcome, Record, Reply, Served, What};
+
+const EPOCH: EpochId = EpochId {
+    number: 1,
+    site: 1,
+    boot: 1,
+};
+
+/// The version of the root directory as it is formatted.
+const ROOT: Stamp = Stamp { site: 0, n: 0 };
+
+const BUSY: Refusal = Refusal::Busy {
+    site: 1,
+    process: 1,
+};
+
+const CONFLICT: Refusal = Refusal::Conflict {
+    a: Stamp { site: 1, n: 1 },
+    b: Stamp { site: 1, n: 2 },
+};
+
+/// Why a walk ends early.
+#[derive(Debug, Drop)]
+enum Wrong {
+    Memory,
+    /// Another answer was wanted.
+    Answer { told: Applied },
+}
+
+impl From<NoMemory> for Wrong {
+    fn from(_: NoMemory) -> Self {
+        Wrong::Memory
+    }
+}
+
+impl From<TreeFault> for Wrong {
+    fn from(_: TreeFault) -> Self {
+        Wrong::Memory
+    }
+}
+
+fn is_wanted(told: Applied, wanted: Applied) -> Result<(), Wrong> {
+    if told == wanted {
+        Ok(())
+    } else {
+        Err(Wrong::Answer { told })
+    }
+}
+
+/// A tree with the history of the records that it took.
+#[derive(Drop)]
+struct Walk {
+    alloc: Global,
+    tree: OneTree,
+    history: History,
+}
+
+impl Walk {
+    /// One site with a pack of group 0, before the first record.
+    fn new(alloc: Global) -> Result<Walk, NoMemory> {
+        let config = Config {
+            sites: 1,
+            packs: [Sites(1), Sites(0), Sites(0), Sites(0)],
+            mounts: ItemList::new(alloc),
+        };
+        let mut history = History::new(alloc);
+        history.push(Version {
+            file: file(1),
+            site: 0,
+            stamp: ROOT,
+            parents: Stamps::new(alloc),
+            content: Bytes::new(alloc),
+        })?;
+        Ok(Walk {
+            alloc,
+            tree: OneTree::new(alloc, config, EPOCH, 0),
+            history,
+        })
+    }
+
+    fn take(&mut self, r: &Record) -> Result<Applied, TreeFault> {
+        let told = self.tree.apply(&self.history, r)?;
+        self.note(r)?;
+        Ok(told)
+    }
+
+    /// A commit is a version of the history.
+    fn note(&mut self, r: &Record) -> Result<(), NoMemory> {
+        let Record::Commit {
+            file,
+            site,
+            stamp,
+            parents,
+            content,
+        } = r
+        else {
+            return Ok(());
+        };
+        let parents = parents.copy()?;
+        let content = content.copy()?;
+        self.history.push(Version {
+            file: *file,
+            site: *site,
+            stamp: *stamp,
+            parents,
+            content,
+        })
+    }
+
+    fn follows(&mut self, r: Result<Record, NoMemory>) -> Result<(), Wrong> {
+        self.answers(r, Applied::Follows)
+    }
+
+    fn differs(&mut self, r: Result<Record, NoMemory>) -> Result<(), Wrong> {
+        self.answers(r, Applied::Differs)
+    }
+
+    fn other(&mut self, r: Result<Record, NoMemory>) -> Result<(), Wrong> {
+        self.answers(r, Applied::Other)
+    }
+
+    fn answers(&mut self, r: Result<Record, NoMemory>, wanted: Applied) -> Result<(), Wrong> {
+        let r = r?;
+        let told = self.take(&r)?;
+        is_wanted(told, wanted)
+    }
+
+    fn bytes(&self, bytes: &[u8]) -> Result<Bytes, NoMemory> {
+        Bytes::from_slice(self.alloc, bytes)
+    }
+
+    fn start(&self) -> Result<Record, NoMemory> {
+        let mut copies = ItemList::new(self.alloc);
+        copies.push(Brought {
+            ino: 1,
+            stamp: ROOT,
+        })?;
+        Ok(Record::Start {
+            epoch: EPOCH,
+            group: 0,
+            copies,
+        })
+    }
+
+    fn create(&self) -> Result<Record, NoMemory> {
+        let path = self.bytes(b"/a")?;
+        Ok(call(1, Call::Create { path, sites: None }))
+    }
+
+    fn open(&self, n: u32, mode: OpenMode) -> Result<Record, NoMemory> {
+        let path = self.bytes(b"/a")?;
+        Ok(call(n, Call::Open { path, mode }))
+    }
+
+    fn look(&self, n: u32, stamp: Stamp) -> Result<Record, NoMemory> {
+        let component = self.bytes(b"a")?;
+        Ok(Record::Look {
+            epoch: EPOCH,
+            call: call_id(n),
+            request: 1,
+            file: file(1),
+            what: What::Name { component },
+            result: Served::At { stamp },
+        })
+    }
+
+    fn probe(&self, n: u32) -> Result<Record, NoMemory> {
+        let name = self.bytes(b"a")?;
+        Ok(act(1, n, Op::Probe { name }, Outcome::Done))
+    }
+
+    fn insert(&self) -> Result<Record, NoMemory> {
+        let name = self.bytes(b"a")?;
+        let op = Op::Insert {
+            name,
+            ino: 2,
+            kind: Kind::File,
+        };
+        Ok(act(1, 2, op, Outcome::Done))
+    }
+
+    fn write(&self) -> Result<Record, NoMemory> {
+        let bytes = self.bytes(b"hi")?;
+        Ok(act(3, 1, Op::Write { at: 0, bytes }, Outcome::Done))
+    }
+
+    fn read(&self, bytes: &[u8]) -> Result<Record, NoMemory> {
+        let bytes = self.bytes(bytes)?;
+        Ok(act(4, 1, Op::Read { at: 0, len: 10 }, Outcome::Data { bytes }))
+    }
+
+    fn commit(
+        &self,
+        ino: u16,
+        n: u32,
+        parent: Option<Stamp>,
+        content: &[u8],
+    ) -> Result<Record, NoMemory> {
+        let mut parents = Stamps::new(self.alloc);
+        if let Some(parent) = parent {
+            parents.push(parent)?;
+        }
+        Ok(Record::Commit {
+            file: file(ino),
+            site: 1,
+            stamp: made(n),
+            parents,
+            content: self.bytes(content)?,
+        })
+    }
+
+    /// The start, and the records that make the file.
+    fn make_file(&mut self) -> Result<(), Wrong> {
+        self.other(join())?;
+        self.follows(self.start())?;
+        self.other(self.create())?;
+        self.follows(grant(1, 1, Mode::Write, 1, Some(ROOT), 1))?;
+        self.follows(self.probe(1))?;
+        self.follows(grant(1, 2, Mode::Make, 2, None, 1))?;
+        self.other(self.commit(2, 1, None, b""))?;
+        self.follows(release(2, 2, Some(made(1))))
+    }
+
+    /// The records that put its entry into the root directory.
+    fn make_entry(&mut self) -> Result<(), Wrong> {
+        self.follows(self.insert())?;
+        let content = b"\x01a\x00\x02\x01\x00\x00\x00\x01";
+        self.other(self.commit(1, 1, Some(ROOT), content))?;
+        self.follows(release(1, 1, Some(made(1))))?;
+        self.other(reply(1))
+    }
+
+    fn write_file(&mut self) -> Result<(), Wrong> {
+        self.other(self.open(2, OpenMode::Write))?;
+        self.follows(self.look(2, made(1)))?;
+        self.follows(grant(2, 3, Mode::Write, 2, Some(made(1)), 1))?;
+        self.follows(self.write())?;
+        self.follows(refuse(3, Mode::Read, 2, BUSY))?;
+        self.other(self.commit(2, 2, Some(made(1)), b"hi"))?;
+        self.follows(release(3, 2, Some(made(2))))
+    }
+
+    fn read_file(&mut self) -> Result<(), Wrong> {
+        self.other(self.open(5, OpenMode::Read))?;
+        self.follows(self.look(5, made(1)))?;
+        self.follows(grant(5, 4, Mode::Read, 2, Some(made(2)), 1))?;
+        self.differs(self.read(b"ho"))?;
+        self.follows(self.read(b"hi"))
+    }
+
+    /// Changed records of a start, a look and opens.
+    fn open_otherwise(&mut self) -> Result<(), Wrong> {
+        self.differs(self.start())?;
+        self.differs(self.look(2, made(2)))?;
+        self.differs(grant(2, 3, Mode::Write, 2, Some(made(1)), 2))?;
+        self.differs(grant(2, 1, Mode::Write, 2, Some(made(1)), 1))?;
+        self.differs(refuse(2, Mode::Read, 2, BUSY))?;
+        self.differs(refuse(2, Mode::Read, 2, CONFLICT))
+    }
+
+    /// A repeated operation, and releases while a commit is owed.
+    fn work_otherwise(&mut self) -> Result<(), Wrong> {
+        self.follows(grant(2, 3, Mode::Write, 2, Some(made(1)), 1))?;
+        self.follows(self.write())?;
+        self.differs(self.write())?;
+        self.differs(release(3, 2, None))?;
+        self.differs(release(3, 2, Some(made(1))))
+    }
+}
+
+fn file(ino: u16) -> FileId {
+    FileId { group: 0, ino }
+}
+
+fn made(n: u32) -> Stamp {
+    Stamp { site: 1, n }
+}
+
+fn call_id(n: u32) -> CallId {
+    CallId {
+        site: 1,
+        boot: 1,
+        n,
+    }
+}
+
+fn serial(n: u32) -> Serial {
+    Serial { us: 1, serial: n }
+}
+
+fn join() -> Result<Record, NoMemory> {
+    let mut boot = [0; 16];
+    boot[0] = 1;
+    Ok(Record::Join {
+        site: 1,
+        epoch: EPOCH,
+        members: Members { boot },
+    })
+}
+
+fn call(n: u32, words: Call) -> Record {
+    Record::Accept {
+        site: 1,
+        process: 1,
+        call: call_id(n),
+        words,
+    }
+}
+
+fn reply(n: u32) -> Result<Record, NoMemory> {
+    Ok(Record::Answer {
+        site: 1,
+        process: 1,
+        call: call_id(n),
+        reply: Reply::Done,
+    })
+}
+
+fn grant(
+    n: u32,
+    inst: u32,
+    mode: Mode,
+    ino: u16,
+    stamp: Option<Stamp>,
+    ss: u8,
+) -> Result<Record, NoMemory> {
+    Ok(Record::Grant {
+        epoch: EPOCH,
+        call: call_id(n),
+        request: 1,
+        inst: serial(inst),
+        mode,
+        file: file(ino),
+        stamp,
+        ss,
+    })
+}
+
+fn refuse(n: u32, mode: Mode, ino: u16, why: Refusal) -> Result<Record, NoMemory> {
+    Ok(Record::Refuse {
+        epoch: EPOCH,
+        call: call_id(n),
+        request: 1,
+        inst: serial(9),
+        mode,
+        file: file(ino),
+        why,
+    })
+}
+
+fn act(inst: u32, n: u32, op: Op, outcome: Outcome) -> Record {
+    Record::Act {
+        epoch: EPOCH,
+        inst: serial(inst),
+        n,
+        op,
+        result: outcome,
+    }
+}
+
+fn release(inst: u32, ino: u16, stamp: Option<Stamp>) -> Result<Record, NoMemory> {
+    Ok(Record::Release {
+        epoch: EPOCH,
+        inst: serial(inst),
+        file: file(ino),
+        stamp,
+    })
+}
+
+#[test]
+fn a_first_run_follows(rt: HostRuntime) -> Result<(), Fail> {
+    let mut walk = Walk::new(rt.alloc())?;
+    walk.make_file()?;
+    walk.make_entry()?;
+    walk.write_file()?;
+    walk.read_file()?;
+    Ok(())
+}
+
+#[test]
+fn changed_records_differ(rt: HostRuntime) -> Result<(), Fail> {
+    let mut walk = Walk::new(rt.alloc())?;
+    walk.make_file()?;
+    walk.make_entry()?;
+    walk.open_otherwise()?;
+    walk.work_otherwise()?;
+    Ok(())
+}
