@@ -73,7 +73,7 @@ fn entries_are_bytes(rt: HostRuntime) -> Result<(), Fail> {
     let again = decode(alloc, wanted)?;
     assert_eq!(rt; again.len(), 2);
     assert!(rt;
-        matches!(again.get(1), Some(entry) if entry.name.as_slice() == b"xyz" && entry.ino == 258)
+        matches!(again.get(1), Some(entry) if entry.name.as_slice() == b"xyz".as_slice() && entry.ino == 258)
     );
     let cut = decode(alloc, b"\x02ab\x01")?;
     assert!(rt; matches!(cut.get(0), Some(entry) if entry.ino == 256 && entry.count == 0));

@@ -187,6 +187,12 @@ impl Walk {
         Ok(act(1, 2, op, Outcome::Done))
     }
 
+    fn write_call(&self) -> Result<Record, NoMemory> {
+        let bytes = self.bytes(b"hi")?;
+        let fd = 0;
+        Ok(call(3, Call::Write { fd, at: 0, bytes }))
+    }
+
     fn write(&self) -> Result<Record, NoMemory> {
         let bytes = self.bytes(b"hi")?;
         Ok(act(3, 1, Op::Write { at: 0, bytes }, Outcome::Done))
@@ -235,25 +241,42 @@ impl Walk {
         let content = b"\x01a\x00\x02\x01\x00\x00\x00\x01";
         self.other(self.commit(1, 1, Some(ROOT), content))?;
         self.follows(release(1, 1, Some(made(1))))?;
-        self.other(reply(1))
+        self.other(reply(1, Reply::Made { ino: 2 }))
     }
 
     fn write_file(&mut self) -> Result<(), Wrong> {
         self.other(self.open(2, OpenMode::Write))?;
         self.follows(self.look(2, made(1)))?;
         self.follows(grant(2, 3, Mode::Write, 2, Some(made(1)), 1))?;
+        self.other(reply(2, Reply::Opened { fd: 0 }))?;
+        self.other(self.write_call())?;
         self.follows(self.write())?;
+        self.other(reply(3, Reply::Done))?;
         self.follows(refuse(3, Mode::Read, 2, BUSY))?;
+        self.other(Ok(call(4, Call::Close { fd: 0 })))?;
         self.other(self.commit(2, 2, Some(made(1)), b"hi"))?;
-        self.follows(release(3, 2, Some(made(2))))
+        self.follows(release(3, 2, Some(made(2))))?;
+        let stamp = Some(made(2));
+        self.other(reply(4, Reply::Closed { stamp }))
     }
 
     fn read_file(&mut self) -> Result<(), Wrong> {
         self.other(self.open(5, OpenMode::Read))?;
         self.follows(self.look(5, made(1)))?;
         self.follows(grant(5, 4, Mode::Read, 2, Some(made(2)), 1))?;
+        self.other(reply(5, Reply::Opened { fd: 0 }))?;
+        self.other(Ok(call(
+            6,
+            Call::Read {
+                fd: 0,
+                at: 0,
+                len: 10,
+            },
+        )))?;
         self.differs(self.read(b"ho"))?;
-        self.follows(self.read(b"hi"))
+        self.follows(self.read(b"hi"))?;
+        let bytes = self.bytes(b"hi")?;
+        self.other(reply(6, Reply::Data { bytes }))
     }
 
     /// Changed records of a start, a look and opens.
@@ -315,12 +338,12 @@ fn call(n: u32, words: Call) -> Record {
     }
 }
 
-fn reply(n: u32) -> Result<Record, NoMemory> {
+fn reply(n: u32, reply: Reply) -> Result<Record, NoMemory> {
     Ok(Record::Answer {
         site: 1,
         process: 1,
         call: call_id(n),
-        reply: Reply::Done,
+        reply,
     })
 }
 

@@ -1,6 +1,5 @@
-use Rattle.std.proofs.Common.{◌≡◌, ◌-◌, length, refl, subst, sym, arith}
+use Rattle.std.proofs.Common.{◌-◌, length, subst, sym}
 use Rattle.std.specs.List.{AllByRecursion}
-use Rattle.tree_model.specs.Directory.{entries_from}
 use Rattle.dir_list.specs.Entries.{HasShortName}
 use Rattle.dir_list.proofs.OneByOne.{entries_from-step, entries_from-end, AllByRecursion-push}
 use Rattle.dir_list.proofs.decoding.decode.Goals as goal
