@@ -1,8 +1,8 @@
 -- How often a page is among others.
-use Rattle.std.proofs.Common.{◌≡◌, ◌≢◌, ℕ, zero, suc, ◌+◌, ◌<◌, ◌≤◌, Bool, ⊎_elim, List, [], ◌∷◌, ◌++◌, length, take, set, get_or, refl, sym, ap, ◌∙◌, arith}
+use Rattle.std.proofs.Common.{◌≡◌, ◌≢◌, ℕ, zero, suc, ◌+◌, ◌<◌, ◌≤◌, Bool, List, [], ◌∷◌, ◌++◌, length, take, get_or, refl, ap, ◌∙◌, arith}
 use Rattle.std.specs.Prelude.{◌==◌, if◌then◌else◌}
-use Rattle.std.proofs.lemmas.Bool.{cases_eq, eq-eqb, ne_eqb}
-use Rattle.std.proofs.lemmas.List.{take_more, get_or-set_same, get_or-set_other}
+use Rattle.std.proofs.lemmas.Bool.{eq-eqb, ne_eqb}
+use Rattle.std.proofs.lemmas.List.{take_more}
 use Rattle.inode_pack.specs.Pack.{times}
 
 pub times-append : (p : ℕ) (xs ys : List ℕ) → times p (xs ++ ys) ≡ times p xs + times p ys
@@ -27,29 +27,24 @@ times_fewer p [] (suc m) (suc n) le = omega arith
 times_fewer p (x ∷ xs) (suc m) zero le = absurd (omega arith)
 times_fewer p (x ∷ xs) (suc m) (suc n) le = let more = times_fewer p xs m n (omega arith) in omega arith
 
--- one page is named once less, or once more
-module _ (uses : List ℕ) (xs : List ℕ) (i : ℕ) (inside : get_or xs i 0 < length uses) (lt : i < length xs) where
-  pub one_less : (p v : ℕ) → v + 1 ≡ get_or uses (get_or xs i 0) 0 → get_or (set uses (get_or xs i 0) v) p 0 + times p (take (i + 1) xs) ≡ get_or uses p 0 + times p (take i xs)
-  one_less p v less = ⊎_elim
-      (λ (e : get_or xs i 0 ≡ p).
-      let more = times_take p xs i lt in let own = times_own p (get_or xs i 0) e in
-      let new = ap (λ (q : ℕ). get_or (set uses (get_or xs i 0) v) q 0) (sym e) ∙ get_or-set_same uses (get_or xs i 0) v 0 inside in
-      let old = ap (λ (q : ℕ). get_or uses q 0) e in omega arith)
-      (λ (ne : get_or xs i 0 ≢ p).
-      let more = times_take p xs i lt in let other = times_other p (get_or xs i 0) ne in
-      let new = get_or-set_other uses (get_or xs i 0) p v 0 (λ e. ne (sym e)) in omega arith)
-      (cases_eq (get_or xs i 0) p)
+-- among all of some pages, or the first n of them where the others are none
+pub times_all : (p : ℕ) (xs : List ℕ) (n : ℕ) → length xs ≤ n → times p (take n xs) ≡ times p xs
+times_all p [] zero le = refl
+times_all p [] (suc n) le = refl
+times_all p (x ∷ xs) zero le = absurd (omega arith)
+times_all p (x ∷ xs) (suc n) le = let rest = times_all p xs n (omega arith) in omega arith
 
-  pub once_more : (p v : ℕ) → v ≡ get_or uses (get_or xs i 0) 0 + 1 → get_or (set uses (get_or xs i 0) v) p 0 + times p (take i xs) ≡ get_or uses p 0 + times p (take (i + 1) xs)
-  once_more p v more = ⊎_elim
-      (λ (e : get_or xs i 0 ≡ p).
-      let next = times_take p xs i lt in let own = times_own p (get_or xs i 0) e in
-      let new = ap (λ (q : ℕ). get_or (set uses (get_or xs i 0) v) q 0) (sym e) ∙ get_or-set_same uses (get_or xs i 0) v 0 inside in
-      let old = ap (λ (q : ℕ). get_or uses q 0) e in omega arith)
-      (λ (ne : get_or xs i 0 ≢ p).
-      let next = times_take p xs i lt in let other = times_other p (get_or xs i 0) ne in
-      let new = get_or-set_other uses (get_or xs i 0) p v 0 (λ e. ne (sym e)) in omega arith)
-      (cases_eq (get_or xs i 0) p)
+pub times_first : (p : ℕ) (xs : List ℕ) (n : ℕ) → p < 3072 → ((i : ℕ) → n ≤ i → i < length xs → get_or xs i 0 ≡ 65535) → times p xs ≡ times p (take n xs)
+times_first p [] zero small none = refl
+times_first p [] (suc n) small none = refl
+times_first p (x ∷ xs) zero small none =
+    let here : x ≡ 65535 = none 0 (omega arith) (omega arith) in
+    let other = times_other p x (λ e. omega arith) in
+    let rest = times_first p xs zero small (λ i le lt. none (suc i) (omega arith) (omega arith)) in
+    omega arith
+times_first p (x ∷ xs) (suc n) small none =
+    let rest = times_first p xs n small (λ i le lt. none (suc i) (omega arith) (omega arith)) in
+    omega arith
 
 -- what a page has of names among the first n is one more than among those before it
 pub named_here : (xs : List ℕ) (i n : ℕ) → i < n → n ≤ length xs → times (get_or xs i 0) (take i xs) + 1 ≤ times (get_or xs i 0) (take n xs)
@@ -58,3 +53,6 @@ named_here xs i n lt le =
     let own = times_own (get_or xs i 0) (get_or xs i 0) refl in
     let fewer = times_fewer (get_or xs i 0) xs (i + 1) n (omega arith) in
     omega arith
+
+pub named_all : (xs : List ℕ) (i : ℕ) → i < length xs → times (get_or xs i 0) (take i xs) + 1 ≤ times (get_or xs i 0) xs
+named_all xs i lt = let here = named_here xs i (length xs) lt (omega arith) in let all = times_all (get_or xs i 0) xs (length xs) (omega arith) in omega arith

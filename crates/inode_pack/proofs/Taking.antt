@@ -1,8 +1,8 @@
 -- The data pages that a new content takes, page by page.
-use Rattle.std.proofs.Common.{◌≡◌, ◌≢◌, ℕ, ◌+◌, ◌<◌, ◌≤◌, Bool, true, false, ⊎_elim, List, length, replicate, set, get_or, refl, sym, ap, subst, ◌∙◌, arith, length-set}
+use Rattle.std.proofs.Common.{◌≡◌, ◌≢◌, ℕ, ◌+◌, ◌<◌, ◌≤◌, Bool, true, false, ⊎_elim, List, length, set, get_or, refl, sym, ap, subst, ◌∙◌, arith, length-set}
 use Rattle.std.specs.Prelude.{Option}
 use Rattle.std.proofs.lemmas.Bool.{cases_lt, true≢false}
-use Rattle.std.proofs.lemmas.List.{get_or-set_same, get_or-set_other, get_or-replicate}
+use Rattle.std.proofs.lemmas.List.{get_or-set_same, get_or-set_other}
 use Rattle.pack_layout.specs.Layout.{pages_of}
 use Rattle.shadow_pages.specs.Working.{Working, count_below}
 use Rattle.inode_pack.specs.declared.inode_copy.InodeCopy.{InodeCopy}
@@ -10,7 +10,7 @@ use Rattle.inode_pack.specs.Pack.{number_in}
 use Rattle.inode_pack.specs.Committing.{is_changed, needed, TakesPages}
 use Rattle.inode_pack.proofs.FreeCounts.{count_true, count_false, count_gap, count_passes}
 
--- the first n pages have their numbers, and every unused data page below `from` is taken
+-- the first n pages have their numbers, the others those from before, and every unused data page below `from` is taken
 pub record TakesSoFar (unused : ℕ → Bool) (old : Option InodeCopy) (w : Working) (n from : ℕ) (numbers : List ℕ) : Type 0 where
   pub long : length numbers ≡ 64
   pub small : from ≤ 3072
@@ -20,12 +20,12 @@ pub record TakesSoFar (unused : ℕ → Bool) (old : Option InodeCopy) (w : Work
   pub free : (i : ℕ) → i < n → is_changed w i ≡ true → unused (get_or numbers i 0) ≡ true
   pub ascend : (i j : ℕ) → i < j → j < n → is_changed w i ≡ true → is_changed w j ≡ true → get_or numbers i 0 < get_or numbers j 0
   pub taken : (page : ℕ) → page < from → unused page ≡ true → (j : ℕ) × (j < n) × (is_changed w j ≡ true) × (get_or numbers j 0 ≡ page)
-  pub rest : (i : ℕ) → n ≤ i → i < 64 → get_or numbers i 0 ≡ 65535
+  pub later : (i : ℕ) → n ≤ i → i < 64 → get_or numbers i 0 ≡ number_in old i
 
 module _ (unused : ℕ → Bool) (old : Option InodeCopy) (w : Working) where
-  pub takes_start : TakesSoFar unused old w 0 0 (replicate 64 65535)
-  takes_start = record {
-    long = refl;
+  pub takes_start : (numbers : List ℕ) → length numbers ≡ 64 → ((i : ℕ) → i < 64 → get_or numbers i 0 ≡ number_in old i) → TakesSoFar unused old w 0 0 numbers
+  takes_start numbers long before = record {
+    long = long;
     small = omega arith;
     count = refl;
     stays = λ i lt. absurd (omega arith);
@@ -33,7 +33,7 @@ module _ (unused : ℕ → Bool) (old : Option InodeCopy) (w : Working) where
     free = λ i lt. absurd (omega arith);
     ascend = λ i j lt more. absurd (omega arith);
     taken = λ page lt. absurd (omega arith);
-    rest = λ i le lt. get_or-replicate 64 i 65535 0 lt;
+    later = λ i le lt. before i lt;
   }
 
   module _ (n from : ℕ) (numbers : List ℕ) (so_far : TakesSoFar unused old w n from numbers) (fits : n < 64) where
@@ -46,19 +46,19 @@ module _ (unused : ℕ → Bool) (old : Option InodeCopy) (w : Working) where
     last : (P : ℕ → Type 0) (i : ℕ) → i < n + 1 → (i < n → P i) → P n → P i
     last P i lt before here = ⊎_elim (λ (less : i < n). before less) (λ (ge : n ≤ i). let e : n ≡ i = omega arith in subst P e here) (cases_lt i n)
 
-    pub takes_stays : (x : ℕ) → is_changed w n ≡ false → x ≡ number_in old n → TakesSoFar unused old w (n + 1) from (set numbers n x)
-    takes_stays x not_changed is = record {
-      long = length-set numbers n x ∙ so_far.long;
+    pub takes_stays : is_changed w n ≡ false → TakesSoFar unused old w (n + 1) from numbers
+    takes_stays not_changed = record {
+      long = so_far.long;
       small = so_far.small;
       count = so_far.count ∙ sym (count_false (is_changed w) n not_changed);
-      stays = λ i lt. last (λ k. is_changed w k ≡ false → get_or (set numbers n x) k 0 ≡ number_in old k) i lt (λ less no. same x i (λ e. omega arith) ∙ so_far.stays i less no) (λ no. own x ∙ is);
-      below = λ i lt. last (λ k. is_changed w k ≡ true → get_or (set numbers n x) k 0 < from) i lt (λ less yes. let e = same x i (λ e. omega arith) in let h = so_far.below i less yes in omega arith) (λ yes. absurd (true≢false (sym yes ∙ not_changed)));
-      free = λ i lt. last (λ k. is_changed w k ≡ true → unused (get_or (set numbers n x) k 0) ≡ true) i lt (λ less yes. ap unused (same x i (λ e. omega arith)) ∙ so_far.free i less yes) (λ yes. absurd (true≢false (sym yes ∙ not_changed)));
-      ascend = λ i j lt less. last (λ k. i < k → is_changed w i ≡ true → is_changed w k ≡ true → get_or (set numbers n x) i 0 < get_or (set numbers n x) k 0) j less
-          (λ before apart a b. let e = same x i (λ e. omega arith) in let f = same x j (λ e. omega arith) in let h = so_far.ascend i j apart before a b in omega arith)
+      stays = λ i lt. last (λ k. is_changed w k ≡ false → get_or numbers k 0 ≡ number_in old k) i lt (λ less no. so_far.stays i less no) (λ no. so_far.later n (omega arith) fits);
+      below = λ i lt. last (λ k. is_changed w k ≡ true → get_or numbers k 0 < from) i lt (λ less yes. so_far.below i less yes) (λ yes. absurd (true≢false (sym yes ∙ not_changed)));
+      free = λ i lt. last (λ k. is_changed w k ≡ true → unused (get_or numbers k 0) ≡ true) i lt (λ less yes. so_far.free i less yes) (λ yes. absurd (true≢false (sym yes ∙ not_changed)));
+      ascend = λ i j lt less. last (λ k. i < k → is_changed w i ≡ true → is_changed w k ≡ true → get_or numbers i 0 < get_or numbers k 0) j less
+          (λ before apart a b. so_far.ascend i j apart before a b)
           (λ apart a b. absurd (true≢false (sym b ∙ not_changed))) lt;
-      taken = λ page lt is_free. let t = so_far.taken page lt is_free in (t.0, omega (arith, t.1), t.2, same x t.0 (λ e. omega (arith, t.1)) ∙ t.3);
-      rest = λ i le lt. same x i (λ e. omega arith) ∙ so_far.rest i (omega arith) lt;
+      taken = λ page lt is_free. let t = so_far.taken page lt is_free in (t.0, omega (arith, t.1), t.2, t.3);
+      later = λ i le lt. so_far.later i (omega arith) lt;
     }
 
     pub takes_one : (found : ℕ) → is_changed w n ≡ true → from ≤ found → found < 3072 → unused found ≡ true → ((p : ℕ) → from ≤ p → p < found → unused p ≡ false) → TakesSoFar unused old w (n + 1) (found + 1) (set numbers n found)
@@ -79,7 +79,7 @@ module _ (unused : ℕ → Bool) (old : Option InodeCopy) (w : Working) where
           (λ (ge : found ≤ page). (n, omega arith, changed, own found ∙ (let e : found ≡ page = omega arith in e)))
           (cases_lt page found))
           (cases_lt page from);
-      rest = λ i le lt. same found i (λ e. omega arith) ∙ so_far.rest i (omega arith) lt;
+      later = λ i le lt. same found i (λ e. omega arith) ∙ so_far.later i (omega arith) lt;
     }
 
   pub same_taking : (n k from from' x : ℕ) (numbers numbers' : List ℕ) → from' ≡ from → numbers' ≡ set numbers k x → k ≡ n → TakesSoFar unused old w (n + 1) from (set numbers n x) → TakesSoFar unused old w (n + 1) from' numbers'
@@ -87,21 +87,29 @@ module _ (unused : ℕ → Bool) (old : Option InodeCopy) (w : Working) where
       subst (λ (xs : List ℕ). TakesSoFar unused old w (n + 1) from' xs) (sym (f ∙ ap (λ (j : ℕ). set numbers j x) at))
       (subst (λ (m : ℕ). TakesSoFar unused old w (n + 1) m (set numbers n x)) (sym e) h)
 
+  pub same_so_far : (n from from' : ℕ) (numbers numbers' : List ℕ) → from' ≡ from → numbers' ≡ numbers → TakesSoFar unused old w n from numbers → TakesSoFar unused old w n from' numbers'
+  same_so_far n from from' numbers numbers' e f h =
+      subst (λ (xs : List ℕ). TakesSoFar unused old w n from' xs) (sym f)
+      (subst (λ (m : ℕ). TakesSoFar unused old w n m numbers) (sym e) h)
+
   -- there is an unused page for each changed one
   pub room : (n from m : ℕ) (numbers : List ℕ) → TakesSoFar unused old w n from numbers → n < pages_of w.size → is_changed w n ≡ true → needed w ≤ count_below unused m → count_below unused from < count_below unused m
   room n from m numbers so_far lt changed fits = let more = count_passes (is_changed w) n (pages_of w.size) lt changed in let e = so_far.count in omega arith
 
-  pub takes_done : (n from : ℕ) (numbers : List ℕ) → n ≡ pages_of w.size → TakesSoFar unused old w n from numbers → TakesPages unused old w numbers
-  takes_done n from numbers e so_far = record {
-    stays = λ i lt. so_far.stays i (omega arith);
-    inside = λ i lt yes. let h = so_far.below i (omega arith) yes in let s = so_far.small in omega arith;
-    free = λ i lt. so_far.free i (omega arith);
-    ascend = λ i j lt less. so_far.ascend i j lt (omega arith);
+  -- from the end of the content on no data page is named
+  pub takes_done : (n from : ℕ) (numbers ended : List ℕ) → n ≡ pages_of w.size → TakesSoFar unused old w n from numbers
+      → ((i : ℕ) → i < n → get_or ended i 0 ≡ get_or numbers i 0) → ((i : ℕ) → n ≤ i → i < 64 → get_or ended i 0 ≡ 65535) → TakesPages unused old w ended
+  takes_done n from numbers ended e so_far before rest = record {
+    stays = λ i lt no. before i (omega arith) ∙ so_far.stays i (omega arith) no;
+    inside = λ i lt yes. let h = so_far.below i (omega arith) yes in let s = so_far.small in let b = before i (omega arith) in omega arith;
+    free = λ i lt yes. ap unused (before i (omega arith)) ∙ so_far.free i (omega arith) yes;
+    ascend = λ i j lt less a b. let h = so_far.ascend i j lt (omega arith) a b in let f = before i (omega arith) in let g = before j (omega arith) in omega arith;
     least = λ i page lt yes less is_free.
         let h = so_far.below i (omega arith) yes in
+        let b = before i (omega arith) in
         let t = so_far.taken page (omega arith) is_free in
-        (t.0, earlier i t.0 (omega arith) t.1 yes t.2 (omega (arith, t.3)), t.2, t.3);
-    rest = λ i le lt. so_far.rest i (omega arith) lt;
+        (t.0, earlier i t.0 (omega arith) t.1 yes t.2 (omega (arith, t.3, b, less)), t.2, before t.0 t.1 ∙ t.3);
+    rest = λ i le lt. rest i (omega arith) lt;
   }
     where
       earlier : (i j : ℕ) → i < n → j < n → is_changed w i ≡ true → is_changed w j ≡ true → get_or numbers j 0 < get_or numbers i 0 → j < i

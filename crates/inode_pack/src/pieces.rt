@@ -1,6 +1,6 @@
 // The bytes that a commit writes before it opens the gate.
 ghost use Rattle.std.specs.Prelude.{◌≡◌, ◌≤◌, ◌<◌, ◌+◌, ◌^◌, ℕ, List, Some, ◌++◌, length, slice_index, IfOk, OnOk};
-ghost use Rattle.pack_layout.specs.Layout.{area_length, pages_of};
+ghost use Rattle.pack_layout.specs.Layout.{area_length, page_at, pages_of};
 ghost use Rattle.shadow_pages.specs.Working.{page_at as shadow_page};
 ghost use Rattle.inode_pack.specs.PagePieces.{piece_at, page_pieces, body_piece, pieces_of, AreWhole};
 
@@ -12,20 +12,25 @@ use pack_layout::{page_at, slot_at, write_body};
 use shadow_pages::Shadow;
 use std::alloc::Global;
 
-/// A page behind the others, if it is changed.
+/// Page i behind the others, at its data page, if it is changed.
 fn push_page(
     alloc: Global,
     pieces: &mut Pieces,
-    at: u32,
+    base: u32,
+    numbers: &[u16; 64],
     shadow: &Shadow,
     i: u16,
 ) -> Result<(), NoMemory>
-    ensures pushed { OnOk result (pieces.new ≡ pieces.old ++ piece_at at (shadow_page shadow.now.pages i)) }
+    requires area { base + area_length < 2 ^ 32 }
+    requires few { i < 64 }
+    requires inside { slice_index numbers.now i < 3072 }
+    ensures pushed { OnOk result (pieces.new ≡ pieces.old ++ piece_at (page_at base (slice_index numbers.now i)) (shadow_page shadow.now.pages i)) }
     ensures whole { OnOk result ((page : List ℕ) → shadow_page shadow.now.pages i ≡ Some page → length page ≡ 1024) }
 {
     let Some(page) = shadow.page(i) else {
         return Ok(());
     };
+    let at = page_at(base, numbers[usize::from(i)]);
     let bytes = Bytes::from_slice(alloc, page)?;
     pieces.push(Piece { at, bytes })?;
     Ok(())
@@ -46,8 +51,7 @@ fn page_pieces(
 {
     let mut pieces = Pieces::new(alloc);
     for i in 0..page_count(shadow.size()) {
-        let at = page_at(base, numbers[usize::from(i)]);
-        push_page(alloc, &mut pieces, at, shadow, i)?;
+        push_page(alloc, &mut pieces, base, numbers, shadow, i)?;
     }
     Ok(pieces)
 }

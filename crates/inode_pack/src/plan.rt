@@ -44,13 +44,7 @@ pub fn count_changed(shadow: &Shadow) -> u16
     ensures number { result ≡ needed shadow.now }
     ensures most { result ≤ 64 }
 {
-    let mut changed = 0;
-    for i in 0..page_count(shadow.size()) {
-        if is_changed(shadow, i) {
-            changed += 1;
-        }
-    }
-    changed
+    shadow.changed()
 }
 
 /// The first free data page from a number on. There is one.
@@ -70,14 +64,24 @@ fn next_free(uses: &[u32], from: u16) -> u16
     3_072
 }
 
-/// The number of page i of a content so far, 0 where there is none.
-fn number_before(old: &Option<InodeCopy>, i: u16) -> u16
-    requires { i < 64 }
-    ensures { result ≡ number_in old.now i }
+/// The data pages of a content so far; 0 where there is none.
+fn numbers_before(old: &Option<InodeCopy>) -> [u16; 64]
+    ensures { (i : ℕ) → i < 64 → slice_index result i ≡ number_in old.now i }
 {
     match old {
-        Some(copy) => copy.slot.pages[usize::from(i)],
-        None => 0,
+        Some(copy) => copy.slot.pages,
+        None => [0; 64],
+    }
+}
+
+/// From the end of a content on no data page is named.
+fn end_at(numbers: &mut [u16; 64], end: u16)
+    requires { end ≤ 64 }
+    ensures before { (i : ℕ) → i < end → slice_index numbers.new i ≡ slice_index numbers.old i }
+    ensures rest { (i : ℕ) → end ≤ i → i < 64 → slice_index numbers.new i ≡ 65535 }
+{
+    for i in end..64 {
+        numbers[usize::from(i)] = 0xFFFF;
     }
 }
 
@@ -88,17 +92,17 @@ pub fn take_pages(uses: &[u32], old: &Option<InodeCopy>, shadow: &Shadow) -> [u1
     requires room { needed shadow.now ≤ count_below (λ p. slice_index uses.now p == 0) (length uses.now) }
     ensures { TakesPages (λ p. slice_index uses.now p == 0) old.now shadow.now result }
 {
-    let mut numbers = [0xFFFF; 64];
+    let mut numbers = numbers_before(old);
     let mut from = 0;
-    for i in 0..page_count(shadow.size()) {
+    let end = page_count(shadow.size());
+    for i in 0..end {
         if is_changed(shadow, i) {
             let found = next_free(uses, from);
             numbers[usize::from(i)] = found;
             from = found + 1;
-        } else {
-            numbers[usize::from(i)] = number_before(old, i);
         }
     }
+    end_at(&mut numbers, end);
     numbers
 }
 

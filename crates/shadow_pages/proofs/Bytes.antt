@@ -1,8 +1,8 @@
 -- Contents byte by byte.
-use Rattle.std.proofs.Common.{◌≡◌, ℕ, zero, suc, ◌+◌, ◌-◌, ◌*◌, ◌/◌, ◌%◌, ◌<◌, ◌≤◌, min, max, Bool, true, false, cond, ◌&&◌, ltb, leb, List, [], ◌∷◌, ◌++◌, length, get_or, take, drop, replicate, refl, sym, ap, ◌∙◌, arith, inl, inr}
+use Rattle.std.proofs.Common.{◌≡◌, ℕ, zero, suc, ◌+◌, ◌-◌, ◌*◌, ◌<◌, ◌≤◌, min, max, cond, ltb, List, [], ◌∷◌, ◌++◌, length, get_or, take, drop, replicate, refl, sym, ap, ◌∙◌, arith, inl, inr}
 use Rattle.std.proofs.lemmas.Bool.{cases_lt, lt-ltb, le-ltb, le-leb, lt-leb}
 use Rattle.std.proofs.lemmas.List.{length-append, length-take, length-drop, length-replicate, get_or-take, get_or-drop, get_or_past, get_or-replicate, get_or_append_left, get_or-append_right}
-use Rattle.shadow_pages.specs.Working.{Working, below, spliced, padded, written, over, byte_after, byte_at, content, page_at, byte_in}
+use Rattle.shadow_pages.specs.Working.{Working, below, spliced, padded, written, over, byte_after, byte_at, content}
 
 pub over_in : (at : ℕ) (bytes : List ℕ) (k old : ℕ) → at ≤ k → k < at + length bytes → over at bytes k old ≡ get_or bytes (k - at) 0
 over_in at bytes k old low high = rw (le-leb at k low, lt-ltb k (at + length bytes) high) refl

@@ -1,5 +1,5 @@
 -- How many pages are changed, and how many numbers pass a test.
-use Rattle.std.proofs.Common.{◌≡◌, ℕ, zero, suc, ◌+◌, ◌<◌, ◌≤◌, Bool, true, false, cond, List, [], ◌∷◌, ◌++◌, length, get_or, set, take, min, ◌&&◌, ◌-◌, IsTrue, ◌↔◌, ◌∙◌, sym, inl, inr, Option, Some, None, refl, ap, arith}
+use Rattle.std.proofs.Common.{◌≡◌, ℕ, zero, suc, ◌+◌, ◌<◌, ◌≤◌, Bool, true, false, cond, List, [], ◌∷◌, ◌++◌, length, get_or, set, take, min, ◌&&◌, IsTrue, ◌↔◌, sym, inl, inr, Option, Some, None, refl, arith}
 use Rattle.std.proofs.lemmas.Bool.{cases_lt, cases_Bool}
 use Rattle.std.proofs.lemmas.List.{take_more}
 use Rattle.std.specs.Option.{is_none, is_some}
@@ -42,6 +42,26 @@ count_below_none f (suc n) h =
     let here : f n ≡ false = h n (omega arith) in
     let others : count_below f n ≡ 0 = count_below_none f n (λ i lt. h i (omega arith)) in
     rw (here, others) refl
+
+count_first : (f : ℕ → Bool) (n : ℕ) → count_below f (suc n) ≡ cond (f 0) 1 0 + count_below (λ i. f (suc i)) n
+count_first f zero = omega arith
+count_first f (suc n) = let rest = count_first f n in omega (arith, rest)
+
+abbrev no_pages : List (Option (List ℕ))
+no_pages = []
+
+none_in : (i : ℕ) → is_some (get_or no_pages i None) ≡ false
+none_in zero = refl
+none_in (suc i) = refl
+
+-- past the last page none is changed
+pub number_first : (xs : List (Option (List ℕ))) (n : ℕ) → length xs ≤ n → number_changed xs ≡ count_below (λ i. is_some (get_or xs i None)) n
+number_first [] n le = sym (count_below_none (λ i. is_some (get_or no_pages i None)) n (λ i lt. none_in i))
+number_first (x ∷ xs) zero le = absurd (omega arith)
+number_first (x ∷ xs) (suc n) le =
+    let first : count_below (λ i. is_some (get_or (x ∷ xs) i None)) (suc n) ≡ cond (is_some x) 1 0 + count_below (λ i. is_some (get_or xs i None)) n = count_first (λ i. is_some (get_or (x ∷ xs) i None)) n in
+    let rest = number_first xs n (omega arith) in
+    omega (arith, first, rest)
 
 -- a page of no bytes at the end makes no difference
 pub none_at : (xs : List (Option (List ℕ))) (i : ℕ) → get_or (xs ++ None ∷ []) i None ≡ get_or xs i None

@@ -1,13 +1,13 @@
 -- The steps of the loops over pages.
-use Rattle.std.proofs.Common.{◌≡◌, ℕ, suc, ◌+◌, ◌-◌, ◌*◌, ◌/◌, ◌%◌, ◌<◌, ◌≤◌, max, Bool, true, false, cond, ◌&&◌, leb, ltb, IsTrue, List, [], ◌∷◌, ◌++◌, length, get_or, set, take, Option, Some, None, refl, sym, ap, subst, ◌∙◌, arith, inl, inr}
+use Rattle.std.proofs.Common.{◌≡◌, ℕ, suc, ◌+◌, ◌-◌, ◌*◌, ◌/◌, ◌%◌, ◌<◌, ◌≤◌, max, cond, ◌&&◌, leb, ltb, IsTrue, List, [], ◌∷◌, ◌++◌, length, get_or, set, take, Option, Some, None, refl, sym, ap, ◌∙◌, arith, inl, inr}
 use Rattle.std.specs.Option.{is_none, unwrap_or, option_map}
 use Rattle.std.proofs.lemmas.Bool.{cases_lt, cases_eq, lt-ltb, le-ltb, le-leb, lt-leb}
 use Rattle.std.proofs.lemmas.List.{length-append, length-set, get_or_append_left, get_or-append_right, get_or-set_same, get_or-set_other, take-append-le}
 use Rattle.std.proofs.Math.Seq.{take-length}
 use denote.Ref.{Bor}
-use Rattle.shadow_pages.specs.Working.{Working, page_at, byte_in, byte_at, number_changed, count_below, byte_after, over, touches, IsPageAfter, IsPageOf, IsZeroFrom}
+use Rattle.shadow_pages.specs.Working.{Working, byte_in, byte_at, number_changed, count_below, byte_after, touches, IsPageAfter}
 use Rattle.shadow_pages.specs.declared.base_page.BasePage.{BasePage}
-use Rattle.shadow_pages.specs.Pages.{IsOf, AreOf, Hands, AreWritten, Finds}
+use Rattle.shadow_pages.specs.Pages.{AreOf, Hands, AreWritten, Finds}
 use Rattle.shadow_pages.proofs.Bytes.{over_past}
 use Rattle.shadow_pages.proofs.Counts.{number_changed-set, number_changed-append, none_at}
 

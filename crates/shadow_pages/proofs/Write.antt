@@ -1,9 +1,9 @@
 -- What a write leaves.
-use Rattle.std.proofs.Common.{◌≡◌, ℕ, suc, ◌+◌, ◌-◌, ◌*◌, ◌/◌, ◌%◌, ◌<◌, ◌≤◌, min, max, Bool, true, false, cond, ◌&&◌, leb, ltb, IsTrue, ◌↔◌, List, [], ◌∷◌, ◌++◌, length, get_or, Option, Some, None, refl, sym, ap, subst, ◌∙◌, arith, inl, inr}
+use Rattle.std.proofs.Common.{◌≡◌, ℕ, ◌+◌, ◌-◌, ◌*◌, ◌/◌, ◌%◌, ◌<◌, ◌≤◌, min, max, cond, ◌&&◌, leb, ltb, IsTrue, ◌↔◌, List, [], length, get_or, Option, Some, None, refl, sym, ap, ◌∙◌, arith, inl, inr}
 use Rattle.std.specs.Option.{is_none}
 use Rattle.std.proofs.lemmas.Bool.{cases_lt, lt-ltb, le-ltb, le-leb, lt-leb}
 use Rattle.std.proofs.lemmas.Grind.{same_number_lists}
-use Rattle.shadow_pages.specs.Working.{Working, page_at, byte_in, byte_at, content, written, number_changed, count_below, byte_after, over, touches, needed, pages_of, IsClean}
+use Rattle.shadow_pages.specs.Working.{Working, byte_at, content, written, number_changed, count_below, byte_after, over, touches, needed, pages_of, IsClean}
 use Rattle.shadow_pages.specs.declared.base_page.BasePage.{BasePage}
 use Rattle.shadow_pages.specs.Pages.{AreOf, AreWritten}
 use Rattle.shadow_pages.proofs.Bytes.{over_before, over_past, written_at, length_written, content_at, length_content}

@@ -1,8 +1,8 @@
 -- Pages of the base, as they are handed to a write.
-use Rattle.std.specs.Prelude.{◌≡◌, ℕ, ◌+◌, ◌*◌, ◌<◌, ◌≤◌, max, IsTrue, List, [], length, slice_index, slice_index_or, Option, Some, None}
+use Rattle.std.specs.Prelude.{◌≡◌, ℕ, ◌+◌, ◌*◌, ◌<◌, max, IsTrue, List, [], length, slice_index, slice_index_or, Option, Some, None}
 use denote.Ref.{Bor}
 use Rattle.shadow_pages.specs.declared.base_page.BasePage.{BasePage}
-use Rattle.shadow_pages.specs.Working.{Working, page_at, byte_at, touches, IsPageOf, IsZeroFrom}
+use Rattle.shadow_pages.specs.Working.{Working, page_at, touches, IsPageOf, IsZeroFrom}
 
 -- a handed page has the base's bytes, as far as the content goes
 abbrev pub IsOf : List ℕ → ℕ → BasePage → Type 0

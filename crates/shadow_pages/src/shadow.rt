@@ -74,9 +74,10 @@ impl Shadow {
         self.size
     }
 
-    /// The number of changed pages.
+    /// The number of changed pages. All of them are among the first pages, those that hold the content.
     pub fn changed(&self) -> u16
-        ensures { result ≡ number_changed self.now.pages }
+        ensures number { result ≡ number_changed self.now.pages }
+        ensures first { (n : ℕ) → self.now.size ≤ 1024 * n → result ≡ count_below (λ i. is_some (page_at self.now.pages i)) n }
     {
         self.count
     }

@@ -1,4 +1,4 @@
-use Rattle.std.proofs.Common.{arith, sym, ◌∙◌, refl, None, get_or}
+use Rattle.std.proofs.Common.{arith}
 use Rattle.shadow_pages.proofs.Counts.{count_step}
 use Rattle.shadow_pages.proofs.place.count_changed.Goals as goal
 use Rattle.shadow_pages.proofs.place.count_changed.Goals.{then-not-is_unchanged, else-not-is_unchanged}

@@ -1,5 +1,4 @@
-use Rattle.std.proofs.Common.{rules, arith, ◌≡◌, ◌<◌, ◌∙◌, sym, get_or, length, None, Some, ap, List, ℕ, Option}
-use Rattle.shadow_pages.specs.Working.{byte_in}
+use Rattle.std.proofs.Common.{rules, ◌≡◌, ◌<◌, ◌∙◌, sym, get_or, length, None, Some}
 use Rattle.shadow_pages.proofs.Counts.{at_any}
 use Rattle.shadow_pages.proofs.shadow.Shadow.page.Goals as goal
 
