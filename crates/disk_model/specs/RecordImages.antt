@@ -1,5 +1,7 @@
 -- The moments of a disk that keeps each call.
-use Rattle.std.specs.Prelude.{ℕ, ◌+◌, ◌<◌, ◌≤◌, List, length}
+use Rattle.std.specs.Prelude.{ℕ, ◌≡◌, ◌+◌, ◌<◌, ◌≤◌, List, [], ◌∷◌, ◌++◌, length}
+use Rattle.disk_model.specs.declared.record_disk.Call.{Call}
+use Rattle.disk_model.specs.declared.record_disk.Call.TheVariants.{Wrote}
 use Rattle.disk_model.specs.declared.record_disk.RecordDisk.{RecordDisk}
 use Rattle.disk_model.specs.RecordDisk.{Moment, moment_after, image_of}
 
@@ -28,3 +30,22 @@ Remembers old new = (t : ℕ) (image : List ℕ) → images_since old t image �
 -- a call more is kept, with so many bytes
 abbrev pub HasRoom : RecordDisk → ℕ → Type 0
 HasRoom disk n = (length disk.calls.items < disk.calls_room) × (length disk.pool.items + n ≤ disk.bytes_room)
+
+-- the room is as it was
+pub record SameRoom (old new : RecordDisk) : Type 0 where
+  pub calls : new.calls_room ≡ old.calls_room
+  pub bytes : new.bytes_room ≡ old.bytes_room
+
+-- one call more is kept, its bytes behind those of the others
+pub record Keeps (call : Call) (bytes : List ℕ) (old new : RecordDisk) : Type 0 where
+  pub pool : new.pool.items ≡ old.pool.items ++ bytes
+  pub calls : new.calls.items ≡ old.calls.items ++ call ∷ []
+
+-- no call more is kept
+pub record KeepsNone (old new : RecordDisk) : Type 0 where
+  pub pool : new.pool.items ≡ old.pool.items
+  pub calls : new.calls.items ≡ old.calls.items
+
+-- the call of a write of so many bytes at a place
+abbrev pub wrote : RecordDisk → ℕ → ℕ → Call
+wrote disk at n = Wrote (record { at = at; len = n }) (length disk.pool.items)

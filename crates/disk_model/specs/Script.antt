@@ -1,5 +1,5 @@
 -- What a script has the calls of a disk meet.
-use Rattle.std.specs.Prelude.{ℕ, zero, suc, Option, None, Some, Result, Ok, Err}
+use Rattle.std.specs.Prelude.{ℕ, zero, suc, ◌+◌, ◌-◌, ◌^◌, min, Option, None, Some, Result, Ok, Err}
 use Rattle.disk_model.specs.declared.disk.DiskFault.{DiskFault}
 use Rattle.disk_model.specs.declared.disk.DiskFault.TheVariants.{Failed}
 use Rattle.disk_model.specs.declared.script.Fired.{Fired}
@@ -60,3 +60,42 @@ fired_after (Stops leave) fired = Stop
 fired_after Fails No = Fault
 fired_after Fails Stop = Stop
 fired_after Fails Fault = Fault
+
+-- how often a call has failed after that turn, as far as the count goes
+abbrev pub faults_after : Turn → ℕ → ℕ
+faults_after Passes faults = faults
+faults_after (Stops leave) faults = min (faults + 1) (2 ^ 64 - 1)
+faults_after Fails faults = min (faults + 1) (2 ^ 64 - 1)
+
+-- what is armed after a write or a sync: one fewer passes, until the script has fired
+abbrev pub writes_after : Fired → Armed → Armed
+writes_after No Nothing = Nothing
+writes_after No (StopAfter calls leave) = StopAfter (calls - 1) leave
+writes_after No (FaultAfter calls) = FaultAfter (calls - 1)
+writes_after Stop armed = armed
+writes_after Fault armed = armed
+
+-- which read is to fail after one
+abbrev pub reads_after : Fired → Option ℕ → Option ℕ
+reads_after No None = None
+reads_after No (Some calls) = Some (calls - 1)
+reads_after Stop reads = reads
+reads_after Fault reads = reads
+
+-- the script after the turn of a write or a sync
+abbrev pub after_write : Script → Script
+after_write script = record {
+  writes = writes_after script.fired script.writes;
+  reads = script.reads;
+  fired = fired_after (turn_of script) script.fired;
+  faults = faults_after (turn_of script) script.faults;
+}
+
+-- the script after the turn of a read
+abbrev pub after_read : Script → Script
+after_read script = record {
+  writes = script.writes;
+  reads = reads_after script.fired script.reads;
+  fired = fired_after (read_turn_of script) script.fired;
+  faults = faults_after (read_turn_of script) script.faults;
+}

@@ -40,13 +40,14 @@ impl RecordDisk {
     ghost use Rattle.std.specs.Prelude.{◌++◌, ◌∷◌, take};
     ghost use Rattle.disk_model.specs.RecordDisk.{Moment, played};
     ghost use Rattle.disk_model.specs.declared.record_disk.Call.TheVariants.{Wrote, Synced};
-    ghost use Rattle.disk_model.specs.RecordImages.{seen};
+    ghost use Rattle.disk_model.specs.RecordImages.{seen, SameRoom};
 
     /// A disk of zeros, with room for a record of so many writes and syncs and of so many written bytes. No later call
     /// takes memory. A call past the room fails.
     pub fn new(alloc: Global, len: u32, calls: u32, bytes: u32) -> Result<RecordDisk, NoMemory>
         ensures zeros { IfOk result (λ disk. seen disk ≡ replicate len 0) }
-        ensures calls { IfOk result (λ disk. disk.calls.items ≡ []) }
+        ensures calls { IfOk result (λ disk. (disk.calls.items ≡ []) × (disk.pool.items ≡ [])) }
+        ensures faults { IfOk result (λ disk. disk.faults ≡ 0) }
         ensures room { IfOk result (λ disk. (disk.calls_room ≡ calls) × (disk.bytes_room ≡ bytes)) }
     {
         let calls_room = calls as usize;
@@ -92,6 +93,7 @@ impl RecordDisk {
         ensures seen { self.new.seen.items ≡ self.old.seen.items }
         ensures pool { self.new.pool.items ≡ self.old.pool.items }
         ensures calls { self.new.calls.items ≡ self.old.calls.items ++ Synced ∷ [] }
+        ensures room { SameRoom self.old self.new }
         ensures faults { self.new.faults ≡ self.old.faults }
     {
         let _ = self.calls.push(Call::Synced);
@@ -105,6 +107,7 @@ impl RecordDisk {
         ensures seen { self.new.seen.items ≡ overwritten self.old.seen.items at bytes.now }
         ensures pool { self.new.pool.items ≡ self.old.pool.items ++ bytes.now }
         ensures calls { self.new.calls.items ≡ self.old.calls.items ++ Wrote (record { at = at; len = length bytes.now }) (length self.old.pool.items) ∷ [] }
+        ensures room { SameRoom self.old self.new }
         ensures faults { self.new.faults ≡ self.old.faults }
     {
         let _seen = self.seen.len();
@@ -137,7 +140,8 @@ fn repeat<D: Disk>(pool: &[u8], call: Call, disk: &mut D) -> Result<(), DiskFaul
 }
 
 impl Disk for RecordDisk {
-    ghost use Rattle.disk_model.specs.RecordImages.{seen as seen_of, moment, images, images_since, Remembers, HasRoom};
+    ghost use Rattle.disk_model.specs.RecordImages.{seen as seen_of, moment, images, images_since, wrote, Remembers, HasRoom, SameRoom, Keeps, KeepsNone};
+    ghost use Rattle.disk_model.specs.declared.record_disk.Call.TheVariants.{Synced};
     ghost use Rattle.disk_model.specs.RecordLaws.{reads_one, same_length, one_now, none_else};
 
     ghost seen = { seen_of };
@@ -164,7 +168,15 @@ impl Disk for RecordDisk {
         self.seen.len() as u32
     }
 
-    fn read(&mut self, at: u32, buf: &mut [u8]) -> Result<(), DiskFault> {
+    fn read(&mut self, at: u32, buf: &mut [u8]) -> Result<(), DiskFault>
+        requires { at + length buf.old ≤ length (seen_of self.old) }
+        ensures bytes { OnOk result (buf.new ≡ bytes_at (seen_of self.old) at (length buf.old)) }
+        ensures seen { seen_of self.new ≡ seen_of self.old }
+        ensures crash { Goes moment images images_since Same self.old self.new }
+        ensures cause { HasCause self.old.faults self.new.faults result }
+        ensures same { self.new ≡ self.old }
+        ensures answer { IsOk result }
+    {
         let from = at as usize;
         buf.copy_from_slice(&self.seen[from..from + buf.len()]);
         Ok(())
@@ -179,6 +191,9 @@ impl Disk for RecordDisk {
         ensures remembers { Remembers self.old self.new }
         ensures answer { IsOk result ↔ HasRoom self.old (length bytes.now) }
         ensures full { OnErr result (seen_of self.new ≡ seen_of self.old) }
+        ensures kept { OnOk result (Keeps (wrote self.old at (length bytes.now)) bytes.now self.old self.new) }
+        ensures not_kept { OnErr result (KeepsNone self.old self.new) }
+        ensures room { SameRoom self.old self.new }
     {
         let room = self.bytes_room - self.pool.len();
         if self.calls.len() >= self.calls_room || bytes.len() > room {
@@ -196,6 +211,9 @@ impl Disk for RecordDisk {
         ensures cause { HasCause self.old.faults self.new.faults result }
         ensures remembers { Remembers self.old self.new }
         ensures answer { IsOk result ↔ HasRoom self.old 0 }
+        ensures kept { OnOk result (Keeps Synced [] self.old self.new) }
+        ensures not_kept { OnErr result (KeepsNone self.old self.new) }
+        ensures room { SameRoom self.old self.new }
     {
         if self.calls.len() >= self.calls_room {
             self.faults = self.faults.saturating_add(1);

@@ -48,7 +48,7 @@ pub(crate) struct Script {
 }
 
 impl Script {
-    ghost use Rattle.disk_model.specs.Script.{turn_of, read_turn_of, passing_of, outcome, fired_after};
+    ghost use Rattle.disk_model.specs.Script.{turn_of, read_turn_of, passing_of, outcome, fired_after, faults_after, after_write, after_read};
 
     /// Nothing is armed, and nothing has fired.
     pub(crate) fn new() -> Script
@@ -65,7 +65,7 @@ impl Script {
     /// Takes the turn of a write or a sync.
     pub(crate) fn next_write(&mut self) -> Turn
         ensures met { result ≡ turn_of self.old }
-        ensures fired { self.new.fired ≡ fired_after result self.old.fired }
+        ensures script { self.new ≡ after_write self.old }
         ensures tells { Tells (passing_of self.old) (passing_of self.new) (outcome result) }
         ensures cause { HasCause self.old.faults self.new.faults (outcome result) }
     {
@@ -94,7 +94,7 @@ impl Script {
     /// Takes the turn of a read.
     pub(crate) fn next_read(&mut self) -> Turn
         ensures met { result ≡ read_turn_of self.old }
-        ensures fired { self.new.fired ≡ fired_after result self.old.fired }
+        ensures script { self.new ≡ after_read self.old }
         ensures tells { TellsRead (passing_of self.old) (passing_of self.new) (outcome result) }
         ensures cause { HasCause self.old.faults self.new.faults (outcome result) }
     {
@@ -114,7 +114,7 @@ impl Script {
     // A stop stays one.
     fn fail(&mut self) -> Turn
         ensures met { result ≡ Turn.Fails }
-        ensures fired { self.new.fired ≡ fired_after Turn.Fails self.old.fired }
+        ensures script { self.new ≡ record self.old { fired = fired_after Turn.Fails self.old.fired; faults = faults_after Turn.Fails self.old.faults } }
         ensures cause { HasCause self.old.faults self.new.faults (outcome Turn.Fails) }
     {
         if self.fired == Fired::No {

@@ -2,7 +2,7 @@
 ghost use Rattle.std.specs.Prelude.{◌≡◌, ◌≤◌, ◌+◌, ℕ, length, refl, OnOk, OnErr, IfOk};
 ghost use Rattle.disk_model.specs.Images.{overwritten, bytes_at, Torn, Same, IsImage};
 ghost use Rattle.disk_model.specs.Disk.{Goes, Only, HasCause, Tells, TellsRead};
-ghost use Rattle.disk_model.specs.Script.{turn_of, read_turn_of, passing_of, outcome, fired_after};
+ghost use Rattle.disk_model.specs.Script.{turn_of, read_turn_of, passing_of, outcome, after_write, after_read};
 
 use crate::script::{Armed, Script, Turn};
 use crate::store::Store;
@@ -119,7 +119,7 @@ impl Disk for ScriptDisk {
         ensures tells { TellsRead (passing_of self.old.script) (passing_of self.new.script) result }
         ensures same { SameBytes self.old self.new }
         ensures answer { result ≡ outcome (read_turn_of self.old.script) }
-        ensures fired { self.new.script.fired ≡ fired_after (read_turn_of self.old.script) self.old.script.fired }
+        ensures script { self.new.script ≡ after_read self.old.script }
     {
         match self.script.next_read() {
             Turn::Passes => {
@@ -140,7 +140,7 @@ impl Disk for ScriptDisk {
         ensures tells { Tells (passing_of self.old.script) (passing_of self.new.script) result }
         ensures writes { Writes (turn_of self.old.script) at bytes.now self.old self.new }
         ensures answer { result ≡ outcome (turn_of self.old.script) }
-        ensures fired { self.new.script.fired ≡ fired_after (turn_of self.old.script) self.old.script.fired }
+        ensures script { self.new.script ≡ after_write self.old.script }
     {
         match self.script.next_write() {
             Turn::Passes => {
@@ -163,7 +163,7 @@ impl Disk for ScriptDisk {
         ensures tells { Tells (passing_of self.old.script) (passing_of self.new.script) result }
         ensures syncs { Syncs (turn_of self.old.script) self.old self.new }
         ensures answer { result ≡ outcome (turn_of self.old.script) }
-        ensures fired { self.new.script.fired ≡ fired_after (turn_of self.old.script) self.old.script.fired }
+        ensures script { self.new.script ≡ after_write self.old.script }
     {
         match self.script.next_write() {
             Turn::Passes => {

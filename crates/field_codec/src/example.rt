@@ -95,7 +95,7 @@ fn read_whole(alloc: Global, bytes: &[u8]) -> Result<Visit, ReadError>
     Ok(visit)
 }
 
-fn put_visitor(out: &mut Bytes, v: Visitor) -> Result<(), NoMemory>
+pub(crate) fn put_visitor(out: &mut Bytes, v: Visitor) -> Result<(), NoMemory>
     ensures { OnOk result (out.new ≡ out.old ++ visitor.spell v) }
 {
     match v {

@@ -1,4 +1,5 @@
-use crate::{FieldFault, Fields, Table, put_slice, put_u8, put_u16, put_u32};
+use crate::example::{Visitor, put_visitor, visit_in};
+use crate::{FieldFault, Fields, ReadError, Table, put_slice, put_u8, put_u16, put_u32};
 use locus_ids::Bytes;
 use std::test::Fail;
 
@@ -48,5 +49,20 @@ fn faults_name_their_places(rt: HostRuntime) -> Result<(), Fail> {
     assert_eq!(rt; fields.get_u16()?, 256);
     assert_eq!(rt; fields.get_u32(), Err(FieldFault::Short { at: 6 }));
     assert_eq!(rt; fields.end(), Err(FieldFault::Range { at: 6 }));
+    Ok(())
+}
+
+#[test]
+fn a_visit_is_read(rt: HostRuntime) -> Result<(), Fail> {
+    let alloc = rt.alloc();
+    let visit = visit_in(alloc, &[1, 2, 4, 7, 3, 2, 1, 4])?;
+    assert_eq!(rt; visit.door, 258);
+    assert_eq!(rt; visit.visitor, Visitor::Party { first: 7, size: 3 });
+    assert_eq!(rt; visit.floors.as_slice(), [1, 4].as_slice());
+    let mut out = Bytes::new(alloc);
+    put_visitor(&mut out, visit.visitor)?;
+    assert_eq!(rt; out.as_slice(), [4, 7, 3].as_slice());
+    let refused = visit_in(alloc, &[0, 0]);
+    assert!(rt; matches!(refused, Err(ReadError::Field(FieldFault::Range { at: 0 }))));
     Ok(())
 }

@@ -2,10 +2,12 @@
 //! operations of an open file stands on this room. It knows nothing of directories, versions or of who asks.
 #![tactic(auto)]
 
+mod pages;
 mod reading;
 #[cfg(test)]
 mod tests;
 mod writing;
 
+pub use pages::{needed_to_put, needed_to_write, pages_left, pages_of, pages_put, pages_written};
 pub use reading::{part, part_of};
 pub use writing::written;

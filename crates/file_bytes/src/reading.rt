@@ -7,10 +7,17 @@ use std::alloc::Global;
 pub fn part_of(content: &[u8], at: u32, len: u16) -> &[u8]
     ensures { result.now ≡ take len (drop at content.now) }
 {
-    let Some(rest) = content.get(at as usize..) else {
+    part_from(content, at as usize, usize::from(len))
+}
+
+/// At most so many bytes of a content from a place on, and none where it has none there.
+pub(crate) fn part_from(content: &[u8], at: usize, len: usize) -> &[u8]
+    ensures { result.now ≡ take len (drop at content.now) }
+{
+    let Some(rest) = content.get(at..) else {
         return &[];
     };
-    let len = usize::from(len).min(rest.len());
+    let len = len.min(rest.len());
     &rest[..len]
 }
 

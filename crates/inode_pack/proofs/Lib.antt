@@ -21,3 +21,5 @@ pub mod SoundPack
 pub mod Taking
 pub mod Tearing
 pub mod Times
+pub mod Passing
+pub mod Streaming

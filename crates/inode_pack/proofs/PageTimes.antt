@@ -56,3 +56,18 @@ named_here xs i n lt le =
 
 pub named_all : (xs : List ℕ) (i : ℕ) → i < length xs → times (get_or xs i 0) (take i xs) + 1 ≤ times (get_or xs i 0) xs
 named_all xs i lt = let here = named_here xs i (length xs) lt (omega arith) in let all = times_all (get_or xs i 0) xs (length xs) (omega arith) in omega arith
+
+-- over pages that are the same in both, as many are added in both
+pub times_same : (p : ℕ) (xs ys : List ℕ) (n d : ℕ) → n + d ≤ length xs → n + d ≤ length ys → ((i : ℕ) → n ≤ i → i < n + d → get_or xs i 0 ≡ get_or ys i 0) → times p (take (n + d) xs) + times p (take n ys) ≡ times p (take (n + d) ys) + times p (take n xs)
+times_same p xs ys n zero few less same =
+    let e : n + 0 ≡ n = omega arith in
+    let f = ap (λ (k : ℕ). times p (take k xs)) e in
+    let g = ap (λ (k : ℕ). times p (take k ys)) e in
+    omega arith
+times_same p xs ys n (suc d) few less same =
+    let before = times_same p xs ys n d (omega arith) (omega arith) (λ i low high. same i low (omega arith)) in
+    let e : n + suc d ≡ n + d + 1 = omega arith in
+    let f = ap (λ (k : ℕ). times p (take k xs)) e ∙ times_take p xs (n + d) (omega arith) in
+    let g = ap (λ (k : ℕ). times p (take k ys)) e ∙ times_take p ys (n + d) (omega arith) in
+    let here = ap (λ (x : ℕ). (let k : ℕ = if x == p then 1 else 0 in k)) (same (n + d) (omega arith) (omega arith)) in
+    omega arith

@@ -1,13 +1,15 @@
 -- The data pages that a new content takes, page by page.
-use Rattle.std.proofs.Common.{◌≡◌, ◌≢◌, ℕ, ◌+◌, ◌<◌, ◌≤◌, Bool, true, false, ⊎_elim, List, length, set, get_or, refl, sym, ap, subst, ◌∙◌, arith, length-set}
-use Rattle.std.specs.Prelude.{Option}
+use Rattle.std.proofs.Common.{◌≡◌, ◌≢◌, ℕ, zero, suc, ◌+◌, ◌<◌, ◌≤◌, Bool, true, false, ⊎_elim, List, length, set, get_or, refl, sym, ap, subst, ◌∙◌, arith, length-set}
+use Rattle.std.specs.Prelude.{Option, Some, is_some}
 use Rattle.std.proofs.lemmas.Bool.{cases_lt, true≢false}
 use Rattle.std.proofs.lemmas.List.{get_or-set_same, get_or-set_other}
 use Rattle.pack_layout.specs.Layout.{pages_of}
-use Rattle.shadow_pages.specs.Working.{Working, count_below}
+use Rattle.shadow_pages.specs.Working.{Working, count_below, page_at as shadow_page}
+use Rattle.inode_pack.specs.PagePieces.{AreWhole}
 use Rattle.inode_pack.specs.declared.inode_copy.InodeCopy.{InodeCopy}
 use Rattle.inode_pack.specs.Pack.{number_in}
 use Rattle.inode_pack.specs.Committing.{is_changed, needed, TakesPages}
+use Rattle.inode_pack.specs.Rows.{HasChanged}
 use Rattle.inode_pack.proofs.FreeCounts.{count_true, count_false, count_gap, count_passes}
 
 -- the first n pages have their numbers, the others those from before, and every unused data page below `from` is taken
@@ -22,17 +24,39 @@ pub record TakesSoFar (unused : ℕ → Bool) (old : Option InodeCopy) (w : Work
   pub taken : (page : ℕ) → page < from → unused page ≡ true → (j : ℕ) × (j < n) × (is_changed w j ≡ true) × (get_or numbers j 0 ≡ page)
   pub later : (i : ℕ) → n ≤ i → i < 64 → get_or numbers i 0 ≡ number_in old i
 
+not_true : (b : Bool) → (b ≡ true → ⊥) → b ≡ false
+not_true true never = absurd (never refl)
+not_true false never = refl
+
+-- a page of the content outside the row of the changed ones isn't changed
+pub unchanged : (w : Working) (first stop i : ℕ) → HasChanged first stop w → i < pages_of w.size → ((first ≤ i) × (i < stop) → ⊥) → is_changed w i ≡ false
+unchanged w first stop i has inside out = not_true (is_changed w i) (λ yes. out (has i inside yes))
+
+-- pages that aren't changed are whole, as there is nothing of them
+pub whole_skip : (w : Working) (n m : ℕ) → AreWhole w n → ((i : ℕ) → n ≤ i → i < m → is_changed w i ≡ false) → AreWhole w m
+whole_skip w n m before none = λ i page lt is. ⊎_elim
+    (λ (less : i < n). before i page less is)
+    (λ (ge : n ≤ i). absurd (true≢false (sym (ap (λ (o : Option (List ℕ)). is_some o) is) ∙ none i ge lt)))
+    (cases_lt i n)
+
+pub whole_more : (w : Working) (n : ℕ) → AreWhole w n → ((page : List ℕ) → shadow_page w.pages n ≡ Some page → length page ≡ 1024) → AreWhole w (n + 1)
+whole_more w n before here = λ i page lt is. ⊎_elim
+    (λ (less : i < n). before i page less is)
+    (λ (ge : n ≤ i). let e : i ≡ n = omega arith in here page (ap (λ (j : ℕ). shadow_page w.pages j) (sym e) ∙ is))
+    (cases_lt i n)
+
 module _ (unused : ℕ → Bool) (old : Option InodeCopy) (w : Working) where
-  pub takes_start : (numbers : List ℕ) → length numbers ≡ 64 → ((i : ℕ) → i < 64 → get_or numbers i 0 ≡ number_in old i) → TakesSoFar unused old w 0 0 numbers
-  takes_start numbers long before = record {
+  -- where no data page below one is free, the search begins there
+  pub takes_start : (numbers : List ℕ) (least : ℕ) → length numbers ≡ 64 → least ≤ 3072 → ((page : ℕ) → page < least → unused page ≡ false) → ((i : ℕ) → i < 64 → get_or numbers i 0 ≡ number_in old i) → TakesSoFar unused old w 0 least numbers
+  takes_start numbers least long small none before = record {
     long = long;
-    small = omega arith;
-    count = refl;
+    small = small;
+    count = count_gap unused 0 least (omega arith) (λ page low high. none page high);
     stays = λ i lt. absurd (omega arith);
     below = λ i lt. absurd (omega arith);
     free = λ i lt. absurd (omega arith);
     ascend = λ i j lt more. absurd (omega arith);
-    taken = λ page lt. absurd (omega arith);
+    taken = λ page lt is_free. absurd (true≢false (sym is_free ∙ none page lt));
     later = λ i le lt. before i lt;
   }
 
@@ -86,6 +110,14 @@ module _ (unused : ℕ → Bool) (old : Option InodeCopy) (w : Working) where
   same_taking n k from from' x numbers numbers' e f at h =
       subst (λ (xs : List ℕ). TakesSoFar unused old w (n + 1) from' xs) (sym (f ∙ ap (λ (j : ℕ). set numbers j x) at))
       (subst (λ (m : ℕ). TakesSoFar unused old w (n + 1) m (set numbers n x)) (sym e) h)
+
+  -- pages that aren't changed are passed over
+  pub takes_skip : (n d m from : ℕ) (numbers : List ℕ) → n + d ≡ m → TakesSoFar unused old w n from numbers → m ≤ 64 → ((i : ℕ) → n ≤ i → i < m → is_changed w i ≡ false) → TakesSoFar unused old w m from numbers
+  takes_skip n zero m from numbers e so_far fits none = (let f : n ≡ m = omega arith in subst (λ (k : ℕ). TakesSoFar unused old w k from numbers) f so_far)
+  takes_skip n (suc d) m from numbers e so_far fits none =
+      let before = takes_skip n d (n + d) from numbers refl so_far (omega arith) (λ i low high. none i low (omega arith)) in
+      let f : n + d + 1 ≡ m = omega arith in
+      subst (λ (k : ℕ). TakesSoFar unused old w k from numbers) f (takes_stays (n + d) from numbers before (omega arith) (none (n + d) (omega arith) (omega arith)))
 
   pub same_so_far : (n from from' : ℕ) (numbers numbers' : List ℕ) → from' ≡ from → numbers' ≡ numbers → TakesSoFar unused old w n from numbers → TakesSoFar unused old w n from' numbers'
   same_so_far n from from' numbers numbers' e f h =

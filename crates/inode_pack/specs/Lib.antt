@@ -5,3 +5,4 @@ pub mod Mounting
 pub mod Pack
 pub mod PagePieces
 pub mod Slots
+pub mod Rows

@@ -6,15 +6,17 @@ ghost use Rattle.inode_switch.specs.Moments.{LeavesOnly, TellsMany};
 ghost use Rattle.inode_switch.specs.View.{Replaced};
 ghost use Rattle.inode_pack.specs.Pack.{copy_of, named_pages, AreCopies, Stands};
 ghost use Rattle.inode_pack.specs.declared.pack_fault.PackFault.TheVariants.{NoSpace};
-ghost use Rattle.inode_pack.specs.PagePieces.{pieces_of, AreWhole};
+ghost use Rattle.inode_pack.specs.declared.inode_copy.InodeCopy.{InodeCopy};
+ghost use Rattle.inode_pack.specs.Rows.{HasChanged, SameButFor};
+ghost use Rattle.inode_pack.specs.PagePieces.{AreWhole};
 ghost use Rattle.inode_pack.specs.Committing.{IsVersion, RestsOn, size_of, needed, is_free, Makes, Commits, with_copy, new_version, MayBeLeft, commit_calls, commit_answer, IsEarly};
 
-use crate::pieces::pieces_of;
-use crate::plan::{Heading, count_changed, next_copy};
-use crate::usage::{pages_named, pass_pages};
+use crate::pieces::CommitPieces;
+use crate::plan::{Heading, Row, changed_row, count_changed, next_copy, page_count};
+use crate::usage::{first_free, pages_named, pass_pages, row_to_pass};
 use crate::{InodeCopy, Pack, PackFault};
 use disk_model::Disk;
-use inode_switch::{Pieces, replace_inode};
+use inode_switch::replace_inode_from;
 use locus_ids::{Kind, Sites, Stamp};
 use shadow_pages::Shadow;
 use version_vector::Vector;
@@ -23,7 +25,10 @@ use version_vector::Vector;
 #[derive(Drop)]
 struct Prepared {
     made: InodeCopy,
-    pieces: Pieces,
+    /// Pages in a row, among which all changed ones are.
+    changed: Row,
+    /// Pages in a row, among which all are whose data pages differ from those of the inode's copy so far.
+    passed: Row,
     /// The inode has a version, whose slot is to be closed.
     closes: bool,
 }
@@ -74,8 +79,14 @@ impl Pack {
         let base = self.base();
         let prepared = self.prepare(&heading, shadow)?;
         let which = prepared.made.which;
-        replace_inode(disk, base, ino, which, prepared.closes, &prepared.pieces)?;
-        self.put(ino, &prepared.made);
+        let pieces = CommitPieces {
+            base,
+            made: &prepared.made,
+            row: prepared.changed,
+            shadow,
+        };
+        replace_inode_from(disk, base, ino, which, prepared.closes, &pieces)?;
+        self.put(ino, &prepared.made, prepared.passed);
         Ok(())
     }
 
@@ -86,15 +97,22 @@ impl Pack {
         self.base
     }
 
-    /// Takes all the memory that a commit needs.
+    /// Finds what a commit makes. It takes no memory, nor does the rest of a commit.
     fn prepare(&self, heading: &Heading, shadow: &Shadow) -> Result<Prepared, PackFault>
         requires area { self.now.base + area_length < 2 ^ 32 }
         requires version { IsVersion heading.now.ino heading.now.set shadow.now.size heading.now.stamp heading.now.vector }
         requires rests { RestsOn (size_of (copy_of self.now.copies heading.now.ino)) shadow.now }
         ensures makes { IfOk result (λ p. Makes (is_free self.now.copies) (copy_of self.now.copies heading.now.ino) heading.now.ino heading.now.kind heading.now.set shadow.now heading.now.stamp heading.now.vector p.made) }
         ensures numbers { IfOk result (λ p. length p.made.slot.pages ≡ 64) }
-        ensures pieces { IfOk result (λ p. p.pieces ≡ pieces_of self.now.base p.made shadow.now) }
+        ensures place { IfOk result (λ p. p.made.which ≤ 1) }
+        ensures inside { IfOk result (λ p. (i : ℕ) → i < pages_of shadow.now.size → slice_index p.made.slot.pages i < 3072) }
+        ensures changed { IfOk result (λ p. HasChanged p.changed.first p.changed.stop shadow.now) }
+        ensures changed_ordered { IfOk result (λ p. p.changed.first ≤ p.changed.stop) }
+        ensures changed_inside { IfOk result (λ p. p.changed.stop ≤ pages_of shadow.now.size) }
         ensures whole { IfOk result (λ _. AreWhole shadow.now (pages_of shadow.now.size)) }
+        ensures passed_ordered { IfOk result (λ p. p.passed.first ≤ p.passed.stop) }
+        ensures passed_inside { IfOk result (λ p. p.passed.stop ≤ 64) }
+        ensures same { IfOk result (λ p. (one : InodeCopy) → copy_of self.now.copies heading.now.ino ≡ Some one → SameButFor p.passed.first p.passed.stop one.slot.pages p.made.slot.pages) }
         ensures closes { IfOk result (λ p. p.closes ≡ is_some (copy_of self.now.copies heading.now.ino)) }
         ensures copies { AreCopies self.now.copies }
         ensures no_space { (pages free : ℕ) → (result ≡ Err (NoSpace pages free)) ↔ ((free < pages) × (pages ≡ needed shadow.now) × (free + length (named_pages self.now.copies) ≡ 3072)) }
@@ -107,27 +125,32 @@ impl Pack {
                 free: self.free,
             });
         }
-        let old = self.copies[usize::from(heading.ino) - 1];
-        let made = next_copy(&self.uses, &old, heading, shadow);
-        let pieces = pieces_of(*self.copies.allocator(), self.base, &made, shadow)?;
+        let row = changed_row(shadow);
+        let old = &self.copies[usize::from(heading.ino) - 1];
+        let made = next_copy(&self.uses, self.least, row, old, heading, shadow);
         Ok(Prepared {
             made,
-            pieces,
+            changed: row,
+            passed: row_to_pass(old, row, page_count(shadow.size())),
             closes: old.is_some(),
         })
     }
 
     /// The pack has this copy of the inode.
-    fn put(&mut self, ino: u16, made: &InodeCopy)
+    fn put(&mut self, ino: u16, made: &InodeCopy, row: Row)
         requires low { 1 ≤ ino }
         requires high { ino ≤ 1024 }
         requires copies { AreCopies (with_copy self.old ino made.now).copies }
+        requires ordered { row.first ≤ row.stop }
+        requires inside { row.stop ≤ 64 }
+        requires same { (one : InodeCopy) → copy_of self.old.copies ino ≡ Some one → SameButFor row.first row.stop one.slot.pages made.now.slot.pages }
         ensures { self.new ≡ with_copy self.old ino made.now }
     {
         let at = usize::from(ino) - 1;
-        let old = self.copies[at];
-        pass_pages(&mut self.uses, &old, made);
-        self.free = self.free + pages_named(&old) - pages_named(&Some(*made));
+        let old = &self.copies[at];
+        let least = pass_pages(&mut self.uses, old, made, row, self.least);
+        self.least = first_free(&self.uses, least);
+        self.free = self.free + pages_named(old) - pages_named(&Some(*made));
         self.copies[at] = Some(*made);
     }
 }

@@ -59,6 +59,7 @@ impl Pack {
             copies: survey.copies,
             uses: survey.uses,
             free: survey.free,
+            least: 0,
         })
     }
 }

@@ -20,16 +20,19 @@ pub struct Pack {
     pub(crate) uses: Vec<u32>,
     /// The number of data pages that no copy names.
     pub(crate) free: u16,
+    /// A number below which no data page is free.
+    pub(crate) least: u16,
 }
 
 impl Model for Pack {
     ghost use Rattle.inode_pack.specs.Pack.{PackState, AreCopies, AreUses};
+    ghost use Rattle.inode_pack.specs.Rows.{NoneBelow};
 
     ghost Value = { PackState };
 
     ghost view = { λ p. record { base = p.base; group = p.group; site = p.site; copies = p.copies.items } };
 
-    ghost invariant = { λ p. AreCopies p.copies.items × AreUses p.copies.items p.uses.items p.free };
+    ghost invariant = { λ p. AreCopies p.copies.items × AreUses p.copies.items p.uses.items p.free × NoneBelow p.least p.uses.items };
 }
 
 impl Pack {

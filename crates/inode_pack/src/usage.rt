@@ -1,11 +1,12 @@
 // How often each data page is named.
-ghost use Rattle.std.specs.Prelude.{◌≡◌, ◌≤◌, ◌<◌, ◌+◌, ◌==◌, ◌^◌, ℕ, length, slice_index, Option, Some, if◌then◌else◌};
-ghost use Rattle.pack_layout.specs.Layout.{IsSlot};
+ghost use Rattle.std.specs.Prelude.{◌≡◌, ◌⊎◌, ◌≤◌, ◌<◌, ◌+◌, ◌==◌, ◌^◌, ℕ, length, slice_index, Option, Some, if◌then◌else◌};
+ghost use Rattle.pack_layout.specs.Layout.{IsSlot, pages_of};
 ghost use Rattle.inode_pack.specs.declared.inode_copy.InodeCopy.{InodeCopy};
 ghost use Rattle.inode_pack.specs.Pack.{pages_in, times};
+ghost use Rattle.inode_pack.specs.Rows.{SameButFor, NoneBelow};
 
 use crate::InodeCopy;
-use crate::plan::page_count;
+use crate::plan::{Row, page_count};
 
 /// A number is named once less, where it is a data page.
 fn release(uses: &mut Vec<u32>, page: u16)
@@ -33,31 +34,73 @@ fn claim(uses: &mut Vec<u32>, page: u16)
     uses[usize::from(page)] += 1;
 }
 
-/// One number is named in the place of another one. Where both are the same, nothing is done.
-fn pass_page(uses: &mut Vec<u32>, old: u16, made: u16)
+/// One number is named in the place of another one. Where both are the same, nothing is done. It gives a number below which
+/// no data page is free then, as none is below `least` before.
+fn pass_page(uses: &mut Vec<u32>, old: u16, made: u16, least: u16) -> u16
     requires count { length uses.old.items ≡ 3072 }
     requires once { old < 3072 → 1 ≤ slice_index uses.old.items old }
     requires few { made < 3072 → slice_index uses.old.items made + 1 < 2 ^ 32 }
+    requires least { NoneBelow least uses.old.items }
     ensures long { length uses.new.items ≡ 3072 }
     ensures named { (p : ℕ) → p < 3072 → slice_index uses.new.items p + (if old == p then 1 else 0) ≡ slice_index uses.old.items p + (if made == p then 1 else 0) }
+    ensures least { NoneBelow result uses.new.items }
 {
     if old == made {
-        return;
+        return least;
     }
     release(uses, old);
     claim(uses, made);
+    least.min(old)
 }
 
-/// The numbers of one content are named in the place of those of another one.
-fn pass_all(uses: &mut Vec<u32>, old: &[u16; 64], made: &[u16; 64])
+/// The numbers of one content are named in the place of those of another one, which are the same but for a row.
+fn pass_all(uses: &mut Vec<u32>, old: &[u16; 64], made: &[u16; 64], row: Row, least: u16) -> u16
     requires count { length uses.old.items ≡ 3072 }
     requires once { (p : ℕ) → p < 3072 → times p old.now ≤ slice_index uses.old.items p }
     requires few { (p : ℕ) → p < 3072 → slice_index uses.old.items p + times p made.now < 2 ^ 32 }
+    requires least { NoneBelow least uses.old.items }
+    requires ordered { row.first ≤ row.stop }
+    requires inside { row.stop ≤ 64 }
+    requires same { SameButFor row.first row.stop old.now made.now }
     ensures long { length uses.new.items ≡ 3072 }
     ensures named { (p : ℕ) → p < 3072 → slice_index uses.new.items p + times p old.now ≡ slice_index uses.old.items p + times p made.now }
+    ensures least { NoneBelow result uses.new.items }
 {
-    for i in 0..64 {
-        pass_page(uses, old[i], made[i]);
+    let mut least = least;
+    for i in usize::from(row.first)..usize::from(row.stop) {
+        least = pass_page(uses, old[i], made[i], least);
+    }
+    least
+}
+
+/// The first number from one on whose data page is free. None below that one is.
+pub fn first_free(uses: &[u32], from: u16) -> u16
+    requires count { length uses.now ≡ 3072 }
+    requires least { NoneBelow from uses.now }
+    ensures { NoneBelow result uses.now }
+{
+    for page in from..3_072 {
+        if uses[usize::from(page)] == 0 {
+            return page;
+        }
+    }
+    3_072
+}
+
+/// A row in which the data pages of an inode's copy so far differ from those of its next one, whose content has `end` pages
+/// and changed only those of a row.
+pub fn row_to_pass(old: &Option<InodeCopy>, row: Row, end: u16) -> Row
+    requires slot { (one : InodeCopy) → old.now ≡ Some one → IsSlot one.slot }
+    requires ordered { row.first ≤ row.stop }
+    requires inside { row.stop ≤ 64 }
+    ensures ordered { result.first ≤ result.stop }
+    ensures inside { result.stop ≤ 64 }
+    ensures covers { (one : InodeCopy) → old.now ≡ Some one → ((result.first ≡ 0) × (result.stop ≡ 64)) ⊎ ((result.first ≡ row.first) × (result.stop ≡ row.stop) × (pages_of one.slot.size ≤ end)) }
+{
+    if pages_named(old) <= end {
+        row
+    } else {
+        Row { first: 0, stop: 64 }
     }
 }
 
@@ -73,18 +116,36 @@ pub fn pages_named(copy: &Option<InodeCopy>) -> u16
     }
 }
 
-/// The pages of one copy are named no more, and those of another one are.
-pub fn pass_pages(uses: &mut Vec<u32>, old: &Option<InodeCopy>, made: &InodeCopy)
+/// The pages of one copy are named no more, and those of another one are. Both have the same but for a row. It gives a
+/// number below which no data page is free then, as none is below `least` before.
+pub fn pass_pages(
+    uses: &mut Vec<u32>,
+    old: &Option<InodeCopy>,
+    made: &InodeCopy,
+    row: Row,
+    least: u16,
+) -> u16
     requires count { length uses.old.items ≡ 3072 }
     requires slot { (one : InodeCopy) → old.now ≡ Some one → IsSlot one.slot }
     requires once { (p : ℕ) → p < 3072 → times p (pages_in old.now) ≤ slice_index uses.old.items p }
     requires made { IsSlot made.now.slot }
     requires few { (p : ℕ) → p < 3072 → slice_index uses.old.items p + times p (pages_in (Some made.now)) < 2 ^ 32 }
+    requires least { NoneBelow least uses.old.items }
+    requires ordered { row.first ≤ row.stop }
+    requires inside { row.stop ≤ 64 }
+    requires same { (one : InodeCopy) → old.now ≡ Some one → SameButFor row.first row.stop one.slot.pages made.now.slot.pages }
     ensures long { length uses.new.items ≡ 3072 }
     ensures named { (p : ℕ) → p < 3072 → slice_index uses.new.items p + times p (pages_in old.now) ≡ slice_index uses.old.items p + times p (pages_in (Some made.now)) }
+    ensures least { NoneBelow result uses.new.items }
 {
     match old {
-        Some(one) => pass_all(uses, &one.slot.pages, &made.slot.pages),
-        None => pass_all(uses, &[0xFFFF; 64], &made.slot.pages),
+        Some(one) => pass_all(uses, &one.slot.pages, &made.slot.pages, row, least),
+        None => pass_all(
+            uses,
+            &[0xFFFF; 64],
+            &made.slot.pages,
+            Row { first: 0, stop: 64 },
+            least,
+        ),
     }
 }

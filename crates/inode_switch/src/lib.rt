@@ -4,8 +4,10 @@
 
 mod closing;
 mod replacing;
+mod source;
 mod switching;
 
 pub use closing::close_losing_gate;
-pub use replacing::replace_inode;
+pub use replacing::{replace_inode, replace_inode_from};
+pub use source::PieceSource;
 pub use switching::{Piece, Pieces, switch};

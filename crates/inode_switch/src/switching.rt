@@ -5,6 +5,7 @@ ghost use Rattle.disk_model.specs.Disk.{Goes, Only, HasCause};
 ghost use Rattle.inode_switch.specs.Moments.{LeavesOnly, TellsMany};
 ghost use Rattle.inode_switch.specs.Switch.{AreWithin, TornIn, written, IsStage, switched, calls_of, GateWithin};
 
+use crate::PieceSource;
 use disk_model::{Disk, DiskFault};
 use locus_ids::{Bytes, ItemList};
 
@@ -22,30 +23,16 @@ pub(crate) const OPEN: u8 = 0xA5;
 
 pub(crate) const CLOSED: u8 = 0x00;
 
-// Writes the pieces in order.
-fn write_pieces<D: Disk>(disk: &mut D, pieces: &[Piece]) -> Result<(), DiskFault>
-    requires { AreWithin pieces.now (length (D.seen disk.old)) }
-    ensures written { OnOk result (D.seen disk.new ≡ written (D.seen disk.old) pieces.now) }
-    ensures crash { Goes D.now D.may_leave D.may_have_left (TornIn pieces.now) disk.old disk.new }
-    ensures cause { HasCause (D.faults disk.old) (D.faults disk.new) result }
-    ensures tells { TellsMany (length pieces.now) (D.passing disk.old) (D.passing disk.new) result }
-{
-    for piece in pieces {
-        disk.write_at(piece.at, piece.bytes.as_slice())?;
-    }
-    Ok(())
-}
-
 // Writes the pieces in order and makes them durable.
-fn write_down<D: Disk>(disk: &mut D, pieces: &[Piece]) -> Result<(), DiskFault>
-    requires { AreWithin pieces.now (length (D.seen disk.old)) }
-    ensures written { OnOk result (D.seen disk.new ≡ written (D.seen disk.old) pieces.now) }
+fn write_down<D: Disk, P: PieceSource>(disk: &mut D, source: &P) -> Result<(), DiskFault>
+    requires { AreWithin (P.pieces source.now) (length (D.seen disk.old)) }
+    ensures written { OnOk result (D.seen disk.new ≡ written (D.seen disk.old) (P.pieces source.now)) }
     ensures durable { OnOk result (Only (D.seen disk.new) (D.may_leave disk.new)) }
-    ensures crash { Goes D.now D.may_leave D.may_have_left (TornIn pieces.now) disk.old disk.new }
+    ensures crash { Goes D.now D.may_leave D.may_have_left (TornIn (P.pieces source.now)) disk.old disk.new }
     ensures cause { HasCause (D.faults disk.old) (D.faults disk.new) result }
-    ensures tells { TellsMany (length pieces.now + 1) (D.passing disk.old) (D.passing disk.new) result }
+    ensures tells { TellsMany (length (P.pieces source.now) + 1) (D.passing disk.old) (D.passing disk.new) result }
 {
-    write_pieces(disk, pieces)?;
+    source.write_to(disk)?;
     disk.sync()
 }
 
@@ -84,7 +71,32 @@ pub fn switch<D: Disk>(
     ensures cause { HasCause (D.faults disk.old) (D.faults disk.new) result }
     ensures tells { TellsMany (calls_of pieces.now old_gate) (D.passing disk.old) (D.passing disk.new) result }
 {
-    write_down(disk, pieces.as_slice())?;
+    switch_from(disk, pieces, gate, old_gate)
+}
+
+/// Writes the pieces of a source and syncs, opens a gate and syncs, and then closes the old gate, where there is one, and syncs.
+pub(crate) fn switch_from<D: Disk, P: PieceSource>(
+    disk: &mut D,
+    source: &P,
+    gate: u32,
+    old_gate: Option<u32>,
+) -> Result<(), DiskFault>
+    requires settled { Only (D.seen disk.old) (D.may_leave disk.old) }
+    requires pieces { AreWithin (P.pieces source.now) (length (D.seen disk.old)) }
+    requires gate { gate < length (D.seen disk.old) }
+    requires old_gate { GateWithin old_gate (length (D.seen disk.old)) }
+
+    // A crash leaves the pieces torn, or all of them and the gate torn, or the gate open and the old gate torn.
+    ensures any_moment { LeavesOnly D.now D.may_have_left disk.old disk.new (IsStage (P.pieces source.now) gate old_gate (D.seen disk.old)) }
+
+    ensures done { OnOk result (D.seen disk.new ≡ switched (P.pieces source.now) gate old_gate (D.seen disk.old)) }
+    ensures durable { OnOk result (Only (D.seen disk.new) (D.may_leave disk.new)) }
+
+    // It fails only where the disk did, and where the disk tells how many calls pass, exactly where they are too few.
+    ensures cause { HasCause (D.faults disk.old) (D.faults disk.new) result }
+    ensures tells { TellsMany (calls_of (P.pieces source.now) old_gate) (D.passing disk.old) (D.passing disk.new) result }
+{
+    write_down(disk, source)?;
     set_gate(disk, gate, OPEN)?;
     if let Some(old_gate) = old_gate {
         set_gate(disk, old_gate, CLOSED)?;

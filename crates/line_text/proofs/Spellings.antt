@@ -218,18 +218,18 @@ pub write_found : (words rest bytes : List ℕ) (fd at : ℕ) → IsWritePlace w
 write_found words rest bytes fd at p h =
     let place : at ≤ 61440 = p.2 in
     let within : at ≤ 65536 = omega arith in
-    (p.0 ∙ ap (λ s. codes "write " ++ (decimal fd ++ (32 ∷ (decimal at ++ (32 ∷ s))))) h.0 ∙ sym (write_text fd at bytes), (p.1, within, h.1, h.2, h.3), place)
+    (p.0 ∙ ap (λ s. codes "write " ++ (decimal fd ++ (32 ∷ (decimal at ++ (32 ∷ s))))) h.0 ∙ sym (write_text fd at bytes), (p.1, within, h.1, h.2, h.3), (place, h.2))
 
 -- a write begins as one
 pub write_begins : (words bytes : List ℕ) (fd at : ℕ) → IsCall words (call.Write fd at bytes) → IsWritePlace words fd at (hex_text bytes)
-write_begins words bytes fd at h = (h.0 ∙ write_text fd at bytes, h.1.0, h.2)
+write_begins words bytes fd at h = (h.0 ∙ write_text fd at bytes, h.1.0, h.2.0)
 
 pub write_hex : (words rest bytes : List ℕ) (fd at fd2 at2 : ℕ) → IsWritePlace words fd at rest → IsCall words (call.Write fd2 at2 bytes) → IsHex 4096 rest bytes
 write_hex words rest bytes fd at fd2 at2 p h =
     let a : fd < 65536 = p.1 in
     let b : at ≤ 61440 = p.2 in
     let a2 : fd2 < 65536 = h.1.0 in
-    let b2 : at2 ≤ 61440 = h.2 in
+    let b2 : at2 ≤ 61440 = h.2.0 in
     let e = append_cancel_left (codes "write ") (decimal fd ++ (32 ∷ (decimal at ++ (32 ∷ rest)))) (decimal fd2 ++ (32 ∷ (decimal at2 ++ (32 ∷ hex_text bytes)))) (sym p.0 ∙ h.0 ∙ write_text fd2 at2 bytes) in
     let r = number_same fd fd2 (decimal at ++ (32 ∷ rest)) (decimal at2 ++ (32 ∷ hex_text bytes)) (omega arith) (omega arith) e in
     let q = number_same at at2 rest (hex_text bytes) (omega arith) (omega arith) r.1 in

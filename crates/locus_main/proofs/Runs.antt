@@ -67,7 +67,7 @@ SoFar-next r r' n m line a b c t u v s e few short reads goes =
     }
 
 writes : (r : Runner) (n : ℕ) (a b t u : Option (List ℕ)) → (s : SoFar r n a b t u) → Writes s.lines t u
-writes r n a b t u s = record { trace = s.trace; lawful = s.stands.stands.lawful; calm = s.stands.calm; answered = s.stands.answered; orderly = s.stands.orderly; formed = s.stands.formed; written = s.written }
+writes r n a b t u s = record { trace = s.trace; lawful = s.stands.stands.lawful; steps = s.stands.rounds.steps; calm = s.stands.calm; answered = s.stands.answered; orderly = s.stands.orderly; formed = s.stands.formed; written = s.written }
 
 are_run : (r : Runner) (n : ℕ) (a b t u : Option (List ℕ)) → (s : SoFar r n a b t u) → AreRun s.bytes t u
 are_run r n a b t u s = record { lines = s.lines; schedule = s.schedule; within = s.within; writes = writes r n a b t u s }
@@ -187,6 +187,7 @@ Ends-front r n a b t u s = if_some a _ _ (Between-read a b s.bytes s.read) (λ i
       schedule = s.schedule;
       trace = s.trace;
       lawful = s.stands.stands.lawful;
+      steps = s.stands.rounds.steps;
       calm = s.stands.calm;
       answered = s.stands.answered;
       orderly = s.stands.orderly;
@@ -208,6 +209,7 @@ Ends-cut r n m line a b c t u v s e reads cut = if_some a _ _ (Between-rest a b 
       schedule = s.schedule;
       trace = s.trace;
       lawful = s.stands.stands.lawful;
+      steps = s.stands.rounds.steps;
       calm = s.stands.calm;
       answered = s.stands.answered;
       orderly = s.stands.orderly;
@@ -224,6 +226,7 @@ Ends-cut r n m line a b c t u v s e reads cut = if_some a _ _ (Between-rest a b 
       schedule = IsSchedule-push s.bytes s.lines line went.0 s.schedule went.1;
       trace = reverse part.records ++ s.trace;
       lawful = went.2.stands.lawful;
+      steps = went.2.rounds.steps;
       calm = went.2.calm;
       answered = went.2.answered;
       orderly = went.2.orderly;
@@ -246,7 +249,8 @@ Nothing-front (Some x) t = record {
   lines = [];
   schedule = tt;
   trace = [];
-  lawful = record { each = tt; once = λ earlier l later e begins. absurd (no_split earlier l later e) };
+  lawful = record { each = tt; prompt = refl; once = λ earlier l later e begins. absurd (no_split earlier l later e); void = λ earlier l later e idle. absurd (no_split earlier l later e) };
+  steps = tt;
   calm = calm-none;
   answered = answered-none;
   orderly = orderly-none;

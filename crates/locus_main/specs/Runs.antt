@@ -10,7 +10,7 @@ use Rattle.tree_model.specs.Trace.{Trace, told}
 use Rattle.tree_model.specs.Lawful.{IsLawful}
 use Rattle.tree_model.specs.Calm.{CalmRoundsAnswer}
 use Rattle.tree_model.specs.Orderly.{OrderlyBlocksForm}
-use Rattle.one_site.specs.Rounds.{RoundsAreCalm, RoundsAreOrderly}
+use Rattle.one_site.specs.Rounds.{RoundsAreCalm, RoundsAreOrderly, StepsAtRounds}
 use Rattle.line_reader.specs.Reading.{lines_of, whole_lines}
 
 -- there are at most 1,000,000 lines, of at most 16,384 bytes each
@@ -18,11 +18,13 @@ pub record IsWithinLimits (lines : List (List ℕ)) : Type 0 where
   pub few : length lines ≤ 1000000
   pub short : AllByRecursion (λ line. length line ≤ 16384) lines
 
--- The text of a lawful trace of these lines is written, in which each round is calm and the lines up to it are orderly,
--- calm rounds leave no call of a member waiting, and orderly blocks form their epochs.
+-- The text of a lawful trace of these lines is written, in which steps and commits stand at the lines of rounds, each round
+-- is calm and the lines up to it are orderly, calm rounds leave no call of a member waiting, and orderly blocks form their
+-- epochs.
 pub record Writes (lines : List ScheduleLine) (before after : Option (List ℕ)) : Type 0 where
   pub trace : Trace
   pub lawful : IsLawful lines trace
+  pub steps : StepsAtRounds lines trace
   pub calm : RoundsAreCalm lines trace
   pub answered : CalmRoundsAnswer lines trace
   pub orderly : RoundsAreOrderly lines trace
@@ -92,6 +94,7 @@ pub record WritesFront (all : List (List ℕ)) (before after : Option (List ℕ)
   pub schedule : IsSchedule earlier lines
   pub trace : Trace
   pub lawful : IsLawful lines trace
+  pub steps : StepsAtRounds lines trace
   pub calm : RoundsAreCalm lines trace
   pub answered : CalmRoundsAnswer lines trace
   pub orderly : RoundsAreOrderly lines trace

@@ -37,7 +37,7 @@ use Rattle.one_site.proofs.Names.{same_epoch-refl, same_serial-refl, same_serial
 use Rattle.one_site.proofs.Telling.{Good-void, Good-accept, Good-answer, with_call, and-false, Some-same, none-some}
 use Rattle.one_site.proofs.Beginning.{beginning-same, used-by, never-walks, never-denied, freed-slot, freed-table, set-none-here, set-none-other}
 use Rattle.one_site.proofs.InstanceLists.{Contains-more}
-use Rattle.one_site.proofs.Going.{Goes}
+use Rattle.one_site.proofs.Going.{Goes, undue-running}
 use Rattle.one_site.proofs.Resting.{All-each, All-append}
 use Rattle.one_site.proofs.Uses.{IsUsed, used-accepted, stands-in, alone-before, alone-after, uses_by-named, same_serial-flip}
 use Rattle.one_site.proofs.Tables.{All-contains, GivesUp, freed-less}
@@ -53,12 +53,13 @@ pub Goes-void : (p : Place) (r : Runner) (t : Trace) (w : Waiting) (words : Call
     → p.line_now ≡ Event (line.Call 1 1 words) → r.waiting ≡ Some w → Goes p (record r { place = place; calls = calls }) (with_record p told.Void t)
 Goes-void p r t w words place calls g first is now =
     let u = g.running in
-    let good = Good-void p (site_of r) t w words g.good first is now in
+    let good = Good-void p (site_of r) t w words g.good first is now (undue-running r t u) in
     record {
       good = good;
       running = record {
         known = good.known;
         root = u.root;
+        small = u.small;
         named = u.named;
         exclusive = u.exclusive;
         distinct = u.distinct;
@@ -125,7 +126,7 @@ Goes-denied p r t words why place calls g first is idle denied =
     Good-accept p (site_of r) t w words r.descriptors g.good first is idle as_w
     (λ n lt. ap (λ b. uses_by b the_epoch (serial_of n)) denied)
     (denied-table r t words why u denied) in
-    let done = Good-answer p (with_call (site_of r) w r.descriptors) t1 w (reply.No why) r.descriptors g1 refl
+    let done = Good-answer p (with_call (site_of r) w r.descriptors) t1 w (reply.No why) r.descriptors g1 refl refl
     (ap (λ b. wants [] (lowest_free (descriptor t1 1 1)) words b []) denied) (λ fd. refl) in
     let good = subst (λ (o : Option Waiting). Good p (record { accepted = r.accepted + 1; current = o; so_far = []; opening = None; serials = r.serials; files = r.files; named = r.instances; passing = []; table = r.descriptors })
     (with_record p (told.Answer 1 1 (call_id (r.accepted + 1)) (reply.No why)) t1)) (sym idle) done in
@@ -136,6 +137,7 @@ Goes-denied p r t words why place calls g first is idle denied =
       running = record {
         known = good.known;
         root = u.root;
+        small = u.small;
         named = u.named;
         exclusive = u.exclusive;
         distinct = u.distinct;
@@ -312,6 +314,7 @@ Goes-accept p r t words place calls g first is idle built accepted =
       running = record {
         known = good.known;
         root = u.root;
+        small = u.small;
         named = u.named;
         exclusive = u.exclusive;
         distinct = u.distinct;

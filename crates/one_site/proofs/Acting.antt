@@ -16,19 +16,21 @@ use Rattle.trace_book.specs.declared.operation.Op.{Op}
 use Rattle.trace_book.specs.declared.operation.Outcome.{Outcome}
 use Rattle.tree_model.specs.declared.instance.Instance.{Instance}
 use Rattle.tree_model.specs.declared.instance.Waiting.{Waiting}
-use Rattle.tree_model.specs.Trace.{Trace, descriptor, is_taken, held, history, candidates, call_of_act, call_of_release, is_call}
-use Rattle.tree_model.specs.Tree.{is_named, is_writer, where_it, without_it, acted, committed, made_by_close, result_on}
-use Rattle.tree_model.specs.Calls.{outcome_answer}
-use Rattle.tree_model.specs.Lawful.{MayCommit, MayRelease, IsStepOf, IsStep, parents_of}
-use Rattle.tree_model.specs.OneTree.{first_of, list_of}
+use Rattle.tree_model.specs.Trace.{Trace, descriptor, is_taken, held, history, candidates, call_of_act, call_of_release, is_call, last_line}
+use Rattle.tree_model.specs.Tree.{is_named, is_writer, where_it, without_it, acted, committed}
+use Rattle.tree_model.specs.Calls.{close_answer, outcome_answer, wants_next, gives_reply, due}
+use Rattle.tree_model.specs.Lawful.{MayCommit, MayRelease, IsStepOf, IsStep, IsReplyTo}
+use Rattle.tree_model.specs.Room.{result_on, parents_of, list_of}
+use Rattle.tree_model.specs.OneTree.{first_of}
 use Rattle.one_site.specs.declared.files.FileState.{FileState}
-use Rattle.one_site.specs.Ids.{one_site, the_epoch, call_id, file_of, stamp_of, stamp_no}
+use Rattle.one_site.specs.Ids.{one_site, the_epoch, call_id, file_of, stamp_of, stamp_no, entry}
 use Rattle.one_site.specs.Files.{KnowsInode, KnowsFile, file_at}
-use Rattle.one_site.specs.Known.{Site, Known, Good, Place, with_record}
+use Rattle.one_site.specs.Known.{Site, Known, Good, Place, number_at, with_record}
 use Rattle.one_site.proofs.Names.{same_call-refl, same_call-other, file_of-other, same_file-refl}
 use Rattle.one_site.proofs.Versions.{KnowsInode-other}
+use Rattle.one_site.proofs.Loads.{load-acted, load-released, load-published}
 use Rattle.one_site.proofs.NextVersion.{KnowsFile-next, next_number-next, next_version}
-use Rattle.one_site.proofs.Common.{Good-record, wants_next-now, IsStep-now, cond-same}
+use Rattle.one_site.proofs.Common.{Good-record, wants_next-now, IsStep-now, IsReplyTo-none, undue-after, asked-first, cond-same}
 
 -- a step of an instance that the running call takes
 pub IsStepOf-now : (s : Site) (t : Trace) (w : Waiting) (x : Instance) (owner : Option CallId) (want : Want) → Known s t → s.current ≡ Some w
@@ -58,14 +60,14 @@ pub Good-act : (p : Place) (s : Site) (t : Trace) (w : Waiting) (i : Serial) (n 
     → first_of (is_named the_epoch i) (s.named ++ s.passing) ≡ Some x → n ≡ x.ops + 1 → x.file.group ≡ 0
     → call_of_act t the_epoch i n ≡ Some (call_id s.accepted)
     → wants [] (lowest_free (descriptor t 1 1)) w.words w.beginning s.so_far ≡ Do i o
-    → result_on o x ≡ Some result
+    → result_on one_site t o x ≡ Some result
     → where_it (is_named the_epoch i) (acted one_site t n o result) (s.named ++ s.passing) ≡ named ++ passing
     → Good p (did s result named passing) (with_record p (told.Act the_epoch i n o result) t)
 Good-act p s t w i n o result x named passing g now is_it next group owned asked gives tree_now =
     let k = g.known in
     let c = k.current w now in
     let r : Record = told.Act the_epoch i n o result in
-    Good-record p s (did s result named passing) t r g
+    Good-record p s (did s result named passing) t r g (asked-first s t w (entry (number_at p) r) k now (ap gives_reply (wants_next-now s t w k now ∙ asked)))
     (record {
       gives = record { instance = x; named = rw k.tree is_it; next = next; gives = gives };
       step = IsStepOf-now s t w x (call_of_act t the_epoch i n) (Do i o) k now group owned asked;
@@ -87,6 +89,7 @@ Good-act p s t w i n o result x named passing g now is_it next group owned asked
       unstepped = λ m lt. let u = k.unstepped m lt in (rw (is_call-other (call_of_act t the_epoch i n) s.accepted m owned lt) u.0, u.1);
       unused = k.unused;
       tree = rw k.tree tree_now;
+      load = load-acted (is_named the_epoch i) (acted one_site t n o result) s t named passing tree_now k.load;
       table = k.table;
       files = k.files;
     })
@@ -106,16 +109,16 @@ pub Good-release : (p : Place) (s : Site) (t : Trace) (w : Waiting) (i : Serial)
     → first_of (is_named the_epoch i) (s.named ++ s.passing) ≡ Some x → x.owes ≡ false → x.committed ≡ None → x.file.group ≡ 0
     → call_of_release t the_epoch i ≡ Some (call_id s.accepted)
     → wants [] (lowest_free (descriptor t 1 1)) w.words w.beginning s.so_far ≡ Close i
-    → made_by_close the_epoch i None (s.named ++ s.passing) ≡ None
+    → close_answer the_epoch i None (s.named ++ s.passing) ≡ Ended None
     → without_it (is_named the_epoch i) (s.named ++ s.passing) ≡ named ++ passing
     → Good p (ended s None named passing) (with_record p (told.Release the_epoch i x.file None) t)
 Good-release p s t w i x named passing g now is_it paid nothing group owned asked made tree_now =
     let k = g.known in
     let c = k.current w now in
     let r : Record = told.Release the_epoch i x.file None in
-    Good-record p s (ended s None named passing) t r g
+    Good-record p s (ended s None named passing) t r g (asked-first s t w (entry (number_at p) r) k now (ap gives_reply (wants_next-now s t w k now ∙ asked)))
     (record {
-      gives = record { instance = x; named = rw k.tree is_it; file = refl; paid = paid; published = sym nothing };
+      gives = record { instance = x; named = rw k.tree is_it; file = refl; paid = rw paid refl; published = sym nothing };
       step = IsStepOf-now s t w x (call_of_release t the_epoch i) (Close i) k now group owned asked;
     })
     (record {
@@ -135,6 +138,7 @@ Good-release p s t w i x named passing g now is_it paid nothing group owned aske
       unstepped = λ m lt. let u = k.unstepped m lt in (rw (is_call-other (call_of_release t the_epoch i) s.accepted m owned lt) u.0, u.1);
       unused = k.unused;
       tree = rw k.tree tree_now;
+      load = load-released (is_named the_epoch i) s t named passing tree_now k.load;
       table = k.table;
       files = λ ino. subst (λ cands. KnowsInode (history one_site t) cands (held one_site t 1 (file_of ino)) (is_taken t the_epoch (file_of ino)) ino (file_at s.files ino))
           (sym (candidates-nothing p t i x.file ino)) (k.files ino);
@@ -166,7 +170,7 @@ pub Good-publish : (p : Place) (s : Site) (t : Trace) (w : Waiting) (i : Serial)
     → first_of (is_named the_epoch i) (where_it (is_writer (Some the_epoch) (file_of ino)) (committed (stamp_no (st.n + 1))) (s.named ++ s.passing)) ≡ Some (committed (stamp_no (st.n + 1)) x)
     → call_of_release t the_epoch i ≡ Some (call_id s.accepted)
     → wants [] (lowest_free (descriptor t 1 1)) w.words w.beginning s.so_far ≡ Close i
-    → made_by_close the_epoch i (Some (stamp_no (st.n + 1))) (where_it (is_writer (Some the_epoch) (file_of ino)) (committed (stamp_no (st.n + 1))) (s.named ++ s.passing)) ≡ Some (stamp_no (st.n + 1))
+    → close_answer the_epoch i (Some (stamp_no (st.n + 1))) (where_it (is_writer (Some the_epoch) (file_of ino)) (committed (stamp_no (st.n + 1))) (s.named ++ s.passing)) ≡ Ended (Some (stamp_no (st.n + 1)))
     → without_it (is_named the_epoch i) (where_it (is_writer (Some the_epoch) (file_of ino)) (committed (stamp_no (st.n + 1))) (s.named ++ s.passing)) ≡ named ++ passing
     → Good p (published s (st.n + 1) files named passing)
     (with_record p (told.Release the_epoch i (file_of ino) (Some (stamp_no (st.n + 1))))
@@ -209,10 +213,13 @@ Good-publish p s t w i ino st x files named passing g now there new others one f
         asked = wants_next-now s t w k now ∙ asked;
       };
     } in
+    let asks : gives_reply (wants_next one_site t (call_id s.accepted)) ≡ false = ap gives_reply (wants_next-now s t w k now ∙ asked) in
+    let closing : IsReplyTo (due one_site then) (last_line then) (entry (number_at p) release) =
+    IsReplyTo-none (due one_site then) (last_line then) (entry (number_at p) release) (undue-after s t then w k now refl refl asks) in
     record {
       each = (
-        record { earlier = p.earlier; line_now = p.line_now; later = []; split = refl; number = refl; ascending = omega arith; row = releases },
-        (record { earlier = p.earlier; line_now = p.line_now; later = []; split = refl; number = refl; ascending = g.below; row = commits }, g.each),
+        record { earlier = p.earlier; line_now = p.line_now; later = []; split = refl; number = refl; ascending = omega arith; prompt = closing; row = releases },
+        (record { earlier = p.earlier; line_now = p.line_now; later = []; split = refl; number = refl; ascending = g.below; prompt = asked-first s t w (entry (number_at p) commit) k now asks; row = commits }, g.each),
       );
       below = omega arith;
       known = record {
@@ -232,6 +239,7 @@ Good-publish p s t w i ino st x files named passing g now there new others one f
         unstepped = λ m lt. let u = k.unstepped m lt in (rw (is_call-other (call_of_release t the_epoch i) s.accepted m owned lt) u.0, u.1);
         unused = k.unused;
         tree = rw (k.world.2, k.tree) tree_now;
+        load = load-published (is_writer (Some the_epoch) (file_of ino)) (committed (stamp_no (st.n + 1))) (is_named the_epoch i) s t ino (committed (stamp_no (st.n + 1)) x) named passing is_it tree_now k.load;
         table = k.table;
         files = λ other. ⊎_elim
             (λ same. subst (λ (inode : ℕ). KnowsInode (v ∷ history one_site t)

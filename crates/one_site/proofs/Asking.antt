@@ -22,16 +22,18 @@ use Rattle.tree_model.specs.declared.instance.Instance.{Instance}
 use Rattle.tree_model.specs.declared.instance.Waiting.{Waiting}
 use Rattle.tree_model.specs.Trace.{Trace, descriptor, kept_in, is_taken, held, held_in, history, candidates}
 use Rattle.tree_model.specs.Tree.{tree, opened, openers}
-use Rattle.tree_model.specs.Calls.{wants_next, wants_after, look_answer, granted_answer, answers}
+use Rattle.tree_model.specs.Calls.{wants_next, wants_after, look_answer, granted_answer, answers, gives_reply}
 use Rattle.tree_model.specs.Lawful.{AsksOpen}
-use Rattle.tree_model.specs.OneTree.{served_by, open_refusal, IsUnnumbered, Placed, list_of}
+use Rattle.tree_model.specs.OneTree.{served_by, open_refusal, IsUnnumbered, Placed}
+use Rattle.tree_model.specs.Room.{list_of}
 use Rattle.one_site.specs.declared.files.FileState.{FileState}
-use Rattle.one_site.specs.Ids.{one_site, the_epoch, call_id, serial_of, file_of, stamp_of}
+use Rattle.one_site.specs.Ids.{one_site, the_epoch, call_id, serial_of, file_of, stamp_of, entry}
 use Rattle.one_site.specs.Files.{KnowsInode, KnowsFile, file_at}
-use Rattle.one_site.specs.Known.{Site, Known, Good, Place, with_record}
+use Rattle.one_site.specs.Known.{Site, Known, Good, Place, number_at, with_record}
 use Rattle.one_site.proofs.Names.{same_call-refl, same_call-other, same_serial-other, file_of-other}
+use Rattle.one_site.proofs.Loads.{load-granted}
 use Rattle.one_site.proofs.Holding.{held_in-now}
-use Rattle.one_site.proofs.Common.{Good-record, wants_next-now, IsStep-now}
+use Rattle.one_site.proofs.Common.{Good-record, wants_next-now, IsStep-now, asked-first}
 use Rattle.one_site.proofs.Telling.{none-some}
 
 -- after its first answer
@@ -55,7 +57,7 @@ Good-look p s t w f what result so_far g now unanswered group asked served found
     wants_next-now s t w k now ∙ ap (λ a. wants [] (lowest_free (descriptor t 1 1)) w.words w.beginning a) unanswered ∙ asked in
     let asks : wants_after one_site t (call_id s.accepted) (take 0 (answers one_site t (call_id s.accepted))) ≡ Look f what =
     ap (λ a. wants_after one_site t (call_id s.accepted) (take 0 a)) none ∙ ap (λ a. wants_after one_site t (call_id s.accepted) a) (sym none) ∙ asks_now in
-    Good-record p s (answered s so_far) t r g
+    Good-record p s (answered s so_far) t r g (asked-first s t w (entry (number_at p) r) k now (ap gives_reply asks_now))
     (record { gives = record { started = rw group k.world.5; served = served }; step = rw group step; asked = asks; numbered = inl (rw none refl) })
     (record {
       world = k.world;
@@ -74,6 +76,7 @@ Good-look p s t w f what result so_far g now unanswered group asked served found
       unstepped = λ n lt. let u = k.unstepped n lt in (rw (same_call-other s.accepted n (omega arith)) u.0, u.1);
       unused = k.unused;
       tree = k.tree;
+      load = k.load;
       table = k.table;
       files = k.files;
     })
@@ -135,12 +138,12 @@ Good-refuse p s t w ino how why g now asked refuses =
     let c = k.current w now in
     let r : Record = told.Refuse the_epoch (call_id s.accepted) (length s.so_far + 1) (serial_of (s.serials + 1)) (mode_of how) (file_of ino) why in
     let asks : wants_next one_site t (call_id s.accepted) ≡ Open (file_of ino) how = wants_next-now s t w k now ∙ asked in
-    Good-record p s (refused s why) t r g
+    Good-record p s (refused s why) t r g (asked-first s t w (entry (number_at p) r) k now (ap gives_reply asks))
     (record {
       opens = record { step = IsStep-now s t w k now; numbered = ap (λ a. length a + 1) (sym c.answered); asked = asks-user t (call_id s.accepted) how (file_of ino) asks };
       gives = record {
         started = k.world.5;
-        refused = refused-user t (call_id s.accepted) how (file_of ino) why (rw k.tree refuses);
+        refused = inl (refused-user t (call_id s.accepted) how (file_of ino) why (rw k.tree refuses));
         unnumbered = unnumbered-user how (file_of ino);
       };
     })
@@ -161,6 +164,7 @@ Good-refuse p s t w ino how why g now asked refuses =
       unstepped = λ n lt. let u = k.unstepped n lt in (rw (same_call-other s.accepted n (omega arith)) u.0, u.1);
       unused = λ n lt. k.unused n (omega arith);
       tree = k.tree;
+      load = omega (arith, k.load);
       table = k.table;
       files = k.files;
     })
@@ -196,7 +200,7 @@ Good-grant p s t w ino how st x g now ordinary there asked free is =
     let file : KnowsFile (history one_site t) (candidates one_site t the_epoch (file_of ino)) (held one_site t 1 (file_of ino)) ino st =
     subst (KnowsInode (history one_site t) (candidates one_site t the_epoch (file_of ino)) (held one_site t 1 (file_of ino)) (is_taken t the_epoch (file_of ino)) ino) there file0 in
     let only : kept_in one_site t the_epoch (file_of ino) ≡ stamp_of st.n ∷ [] = file.kept in
-    Good-record p s (granted s (mode_of how) ino x) t r g
+    Good-record p s (granted s (mode_of how) ino x) t r g (asked-first s t w (entry (number_at p) r) k now (ap gives_reply asks))
     (record {
       opens = record { step = IsStep-now s t w k now; numbered = ap (λ a. length a + 1) (sym c.answered); asked = asks-user t (call_id s.accepted) how (file_of ino) asks };
       gives = record {
@@ -227,6 +231,7 @@ Good-grant p s t w ino how st x g now ordinary there asked free is =
           (rw (same_call-other s.accepted n (omega arith)) u.0, rw (same_call-other s.accepted n (omega arith)) u.1);
       unused = λ n lt. let u = k.unused n (omega arith) in (rw (same_serial-other (s.serials + 1) n (omega arith)) u.0, u.1, u.2);
       tree = rw (k.tree, is) (append_assoc s.named s.passing (x ∷ []));
+      load = load-granted s t x k.load;
       table = k.table;
       files = λ other. KnowsInode-retaken (history one_site t) (candidates one_site t the_epoch (file_of other)) (held one_site t 1 (file_of other))
           (is_taken t the_epoch (file_of other)) (is_taken (with_record p r t) the_epoch (file_of other)) other (file_at s.files other)

@@ -1,7 +1,9 @@
 -- The list of files, by inode.
-use Rattle.std.proofs.Common.{◌≡◌, ℕ, zero, suc, ◌+◌, ◌-◌, ◌≤◌, ◌<◌, List, [], ◌∷◌, ◌++◌, length, get_or, set, Option, Some, None, refl, ap, ◌∙◌, arith}
+use Rattle.std.proofs.Common.{◌≡◌, ℕ, zero, suc, ◌+◌, ◌-◌, ◌≤◌, ◌<◌, List, [], ◌∷◌, ◌++◌, length, get_or, set, Option, Some, None, refl, sym, ap, ◌∙◌, subst, arith, ⊎_elim}
+use Rattle.std.proofs.lemmas.Bool.Decides.{eqb_tells}
 use Rattle.one_site.specs.declared.files.FileState.{FileState}
 use Rattle.one_site.specs.Files.{file_at}
+use Rattle.one_site.specs.Known.{AreSmall}
 
 none_some : (st : FileState) → ◌≡◌ {A = Option FileState} None (Some st) → ⊥
 none_some st h = cc
@@ -68,3 +70,13 @@ pub file_at-number : (files : List FileState) (ino : ℕ) (d : FileState) → 1 
 file_at-number files ino d low high =
     let number : ino ≡ suc (ino - 1) = omega arith in
     ap (file_at files) number ∙ file_at-index files (ino - 1) d (omega arith)
+
+-- one file has another content, which is small
+pub AreSmall-changed : (files new : List FileState) (ino : ℕ) (st : FileState) → AreSmall files → length st.content ≤ 65536 → file_at new ino ≡ Some st
+    → ((other : ℕ) → (ino ≡ other → ⊥) → file_at new other ≡ file_at files other) → AreSmall new
+AreSmall-changed files new ino st small le now others other found there = ⊎_elim
+    (λ same. let both : ◌≡◌ {A = Option FileState} (Some st) (Some found) = sym now ∙ ap (file_at new) same.1 ∙ there in
+    let is : st ≡ found = cc in
+    subst (λ (f : FileState). length f.content ≤ 65536) is le)
+    (λ apart. small other found (sym (others other apart.1) ∙ there))
+    (eqb_tells ino other)

@@ -8,19 +8,19 @@ use Rattle.trace_book.specs.declared.record.Record.TheVariants as told
 use Rattle.tree_model.specs.declared.line.ScheduleLine.{ScheduleLine}
 use Rattle.tree_model.specs.declared.line.ScheduleLine.TheVariants.{Event}
 use Rattle.tree_model.specs.declared.line.Line.TheVariants as line
-use Rattle.tree_model.specs.Reading.{how_many}
 use Rattle.tree_model.specs.Trace.{Trace, last_line, is_member, has_joined, candidates, with_held, format_stamp, held, history, is_taken}
-use Rattle.tree_model.specs.Lawful.{EachComes, MayStart, tells_own_of}
+use Rattle.tree_model.specs.Lawful.{EachComes, MayStart}
 use Rattle.one_site.specs.declared.runner.Runner.{Runner}
+use Rattle.one_site.specs.declared.files.FileState.{FileState}
 use Rattle.one_site.specs.Ids.{one_site, the_epoch, the_members, file_of, entry}
 use Rattle.one_site.specs.Files.{KnowsInode, file_at}
 use Rattle.one_site.specs.Records.{start_records}
-use Rattle.one_site.specs.Known.{Known}
+use Rattle.one_site.specs.Known.{Known, AreSmall}
 use Rattle.one_site.specs.Standing.{Stands, IsFresh, IsRunning, cluster_at, site_of}
 use Rattle.one_site.proofs.Names.{not_same}
-use Rattle.one_site.proofs.Telling.{none-some}
+use Rattle.one_site.proofs.Telling.{none-some, Some-same}
 use Rattle.one_site.proofs.FirstVersion.{KnowsFile-format, KnowsNone-format}
-use Rattle.one_site.proofs.OneMore.{ToldOnce-quiet}
+use Rattle.one_site.proofs.Told.{IsTold-quiet}
 use Rattle.one_site.proofs.Heading.{Stands-next, still-lawful, only-member}
 
 -- the trace at the first round, and after it
@@ -83,6 +83,13 @@ knows-inode ln n (suc (suc k)) =
     let apart : eqb (suc (suc k)) 1 ≡ false = not_same (suc (suc k)) 1 (λ e. omega (arith, e)) in
     rw apart (KnowsNone-format (suc (suc k)) (λ e. omega (arith, e)))
 
+one-empty : AreSmall (record { n = 0; content = [] } ∷ [])
+one-empty zero st e = absurd (none-some st e)
+one-empty (suc zero) st e =
+    let same : ◌≡◌ {A = FileState} (record { n = 0; content = [] }) st = Some-same (record { n = 0; content = [] }) st e in
+    subst (λ (s : FileState). length s.content ≤ 65536) same (omega arith)
+one-empty (suc (suc ino)) st e = absurd (none-some st e)
+
 pub Carries-start : (old : Runner) (lines : List ScheduleLine) (t : Trace) (number most : ℕ) → number ≡ length lines + 1 → old.place ≡ 3 → Stands old lines t
     → Stands (started_runner old) (lines ++ Event (line.Settle most) ∷ []) (reverse (start_records number) ++ t)
 Carries-start old lines t number most e place s =
@@ -97,7 +104,7 @@ Carries-start old lines t number most e place s =
     subst (EachComes one_site (lines ++ l ∷ [])) j.2 (subst (λ c. EachComes c (lines ++ l ∷ []) t) now (still-lawful old lines l t s)) in
     let below : ln ≤ length lines = subst (λ (u : Trace). last_line u ≤ length lines) j.2 s.below in
     let each : EachComes one_site (lines ++ l ∷ []) t1 =
-    (record { earlier = lines; line_now = l; later = []; split = refl; number = e; ascending = omega (arith, e, below); row = may-start ln }, old_each) in
+    (record { earlier = lines; line_now = l; later = []; split = refl; number = e; ascending = omega (arith, e, below); prompt = tt; row = may-start ln }, old_each) in
     let known : Known (site_of (started_runner old)) t1 = record {
       world = (refl, refl, refl, refl, refl, refl);
       accepted = sym f.accepted;
@@ -106,6 +113,7 @@ Carries-start old lines t number most e place s =
       unstepped = λ n lt. (refl, refl);
       unused = λ n lt. (refl, refl, refl);
       tree = rw f.opens refl;
+      load = rw f.opens (omega arith);
       table = λ fd. sym (f.descriptors fd);
       files = knows-inode ln number;
     } in
@@ -113,6 +121,7 @@ Carries-start old lines t number most e place s =
       known = known;
       root = record { root = record { n = 0; content = [] }; there = refl; content = rw f.dir refl; entries = rw f.dir tt };
       named = rw f.opens tt;
+      small = one-empty;
       exclusive = rw f.opens tt;
       distinct = rw f.opens tt;
       used = rw f.opens tt;
@@ -125,7 +134,7 @@ Carries-start old lines t number most e place s =
       room = λ w h. absurd (none-some w (sym f.waiting ∙ h));
     } in
     subst (λ u. Stands (started_runner old) (lines ++ l ∷ []) (start_records number ++ u)) (sym j.2)
-    (Stands-next old (started_runner old) lines l t t1 s refl (omega arith) (now ∙ sym after)
+    (Stands-next old (started_runner old) lines l (joined ln) (start_records number) (subst (Stands old lines) j.2 s) ((e, tt), tt) refl (omega arith) (now ∙ sym after)
     (subst (λ c. EachComes c (lines ++ l ∷ []) t1) (sym after) each) (omega (arith, e))
-    (ToldOnce-quiet lines l t t1 s.lawful.once refl (λ m. ap (how_many (tells_own_of m)) (sym j.2)))
+    refl (IsTold-quiet lines l (joined ln) t1 refl (λ void. void))
     (record { first = λ lt. absurd (omega (arith, lt, place)); joined = λ same. absurd (omega (arith, same, place)); running = λ le. running }))

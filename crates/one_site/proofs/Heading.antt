@@ -1,30 +1,42 @@
 -- The runner goes on by a line that is passed over, by the header, the merge and the first round.
-use Rattle.std.proofs.Common.{◌≡◌, ◌≤◌, ◌<◌, ◌+◌, ◌++◌, ◌∷◌, ℕ, zero, suc, true, cond, nat_lt, List, [], length, reverse, replicate, refl, sym, ap, ◌∙◌, subst, arith, get_or, inl, inr, length-append}
+use Rattle.std.proofs.Common.{◌≡◌, ◌≤◌, ◌<◌, ◌+◌, ◌++◌, ◌∷◌, ℕ, zero, suc, true, cond, nat_lt, List, [], length, reverse, replicate, None, refl, sym, ap, ◌∙◌, subst, arith, get_or, inl, inr, length-append}
 use Rattle.std.proofs.lemmas.Bool.{false≢true}
 use Rattle.locus_ids.specs.declared.sites.Sites.{Sites}
+use Rattle.trace_book.specs.declared.book.Entry.{Entry}
 use Rattle.tree_model.specs.declared.line.ScheduleLine.{ScheduleLine}
 use Rattle.tree_model.specs.declared.line.ScheduleLine.TheVariants.{Passed, Header, Event}
 use Rattle.tree_model.specs.declared.line.HeaderLine.TheVariants as header
 use Rattle.tree_model.specs.declared.line.Line.TheVariants as line
 use Rattle.tree_model.specs.Lines.{config_of, with_line, no_cluster}
-use Rattle.tree_model.specs.Reading.{is_counted, is_call_line, how_many}
+use Rattle.tree_model.specs.Reading.{is_counted, is_call_line}
 use Rattle.tree_model.specs.Trace.{Trace, last_line, is_member}
-use Rattle.tree_model.specs.Lawful.{EachComes, MayJoin, tells_own_of}
+use Rattle.tree_model.specs.Calls.{due}
+use Rattle.tree_model.specs.Lawful.{EachComes, MayJoin}
 use Rattle.one_site.specs.declared.runner.Runner.{Runner}
 use Rattle.one_site.specs.Ids.{one_site, the_epoch, the_members}
 use Rattle.one_site.specs.Records.{join_records}
 use Rattle.one_site.specs.Standing.{Stands, Phase, IsFresh, cluster_at}
-use Rattle.one_site.proofs.OneMore.{EachComes-more, place_of-push, calls_of-push, ToldOnce, ToldOnce-quiet, fold-snoc}
+use Rattle.one_site.proofs.OneMore.{EachComes-more, place_of-push, calls_of-push, fold-snoc}
+use Rattle.one_site.proofs.RoundRecords.{AreOf}
+use Rattle.one_site.proofs.Told.{IsTold, AreTold, AreTold-lawful, AreTold-more, IsTold-quiet}
 
-pub Stands-next : (old new : Runner) (lines : List ScheduleLine) (l : ScheduleLine) (t more : Trace) → Stands old lines t
+-- one more line, with its records
+pub Stands-next : (old new : Runner) (lines : List ScheduleLine) (l : ScheduleLine) (t : Trace) (es : List Entry) → Stands old lines t → AreOf (length lines + 1) es
     → new.place ≡ old.place + cond (is_counted l) 1 0 → new.calls ≡ old.calls + cond (is_call_line l) 1 0
     → with_line (cluster_at old.place) l ≡ cluster_at new.place
-    → EachComes (cluster_at new.place) (lines ++ l ∷ []) more → last_line more ≤ length lines + 1
-    → ToldOnce (lines ++ l ∷ []) more → Phase new more → Stands new (lines ++ l ∷ []) more
-Stands-next old new lines l t more s place calls cluster each below once phase =
+    → EachComes (cluster_at new.place) (lines ++ l ∷ []) (reverse es ++ t) → last_line (reverse es ++ t) ≤ length lines + 1 → due (cluster_at new.place) (reverse es ++ t) ≡ None
+    → IsTold lines l t (reverse es ++ t) → Phase new (reverse es ++ t) → Stands new (lines ++ l ∷ []) (reverse es ++ t)
+Stands-next old new lines l t es s of place calls cluster each below undue told phase =
+    let more : Trace = reverse es ++ t in
+    let all : AreTold (lines ++ l ∷ []) (reverse es ++ t) = AreTold-more lines l t es (AreTold-lawful lines t s.lawful) s.below of told in
     let now : config_of (lines ++ l ∷ []) ≡ cluster_at new.place = fold-snoc lines l ∙ ap (λ c. with_line c l) s.cluster ∙ cluster in
     record {
-      lawful = record { each = subst (λ c. EachComes c (lines ++ l ∷ []) more) (sym now) each; once = once };
+      lawful = record {
+        each = subst (λ c. EachComes c (lines ++ l ∷ []) more) (sym now) each;
+        prompt = subst (λ c. due c more ≡ None) (sym now) undue;
+        once = λ earlier x later e. (all earlier x later e).once;
+        void = λ earlier x later e. (all earlier x later e).void;
+      };
       below = simp length-append (omega (arith, below));
       place = place ∙ ap (λ n. n + cond (is_counted l) 1 0) s.place ∙ sym (place_of-push lines l);
       calls = calls ∙ ap (λ n. n + cond (is_call_line l) 1 0) s.calls ∙ sym (calls_of-push lines l);
@@ -38,8 +50,8 @@ still-lawful old lines l t s = subst (λ c. EachComes c (lines ++ l ∷ []) t) s
 
 pub Carries-passed : (old : Runner) (lines : List ScheduleLine) (t : Trace) → Stands old lines t → Stands old (lines ++ Passed ∷ []) t
 Carries-passed old lines t s =
-    Stands-next old old lines Passed t t s (omega arith) (omega arith) refl (still-lawful old lines Passed t s) (omega (arith, s.below))
-    (ToldOnce-quiet lines Passed t t s.lawful.once refl (λ m. refl)) s.phase
+    Stands-next old old lines Passed t [] s tt (omega arith) (omega arith) refl (still-lawful old lines Passed t s) (omega (arith, s.below))
+    (subst (λ c. due c t ≡ None) s.cluster s.lawful.prompt) (IsTold-quiet lines Passed t t refl (λ none. none)) s.phase
 
 fresh-at : (r : Runner) (place : ℕ) → IsFresh r → IsFresh (record r { place = place })
 fresh-at r place f = record { calls = f.calls; accepted = f.accepted; waiting = f.waiting; serials = f.serials; files = f.files; dir = f.dir; opens = f.opens; descriptors = f.descriptors }
@@ -60,23 +72,23 @@ pub Carries-sites : (old : Runner) (lines : List ScheduleLine) (t : Trace) (coun
 Carries-sites old lines t count place one s =
     let l : ScheduleLine = Header (header.Sites count) in
     let none : t ≡ [] = (s.phase.first (omega (arith, place))).1 in
-    Stands-next old (record old { place = old.place + 1 }) lines l t t s refl (omega arith)
+    Stands-next old (record old { place = old.place + 1 }) lines l t [] s tt refl (omega arith)
     (ap (λ n. with_line (cluster_at n) l) place ∙ ap (λ n. record no_cluster { sites = n }) one ∙ ap (λ n. cluster_at (n + 1)) (sym place))
     (subst (EachComes (cluster_at (old.place + 1)) (lines ++ l ∷ [])) (sym none) tt) (omega (arith, s.below))
-    (ToldOnce-quiet lines l t t s.lawful.once refl (λ m. refl)) (header-phase old t (omega (arith, place)) s.phase)
+    (subst (λ (u : Trace). due (cluster_at (old.place + 1)) u ≡ None) (sym none) refl) (IsTold-quiet lines l t t refl (λ void. void)) (header-phase old t (omega (arith, place)) s.phase)
 
 pub Carries-group : (old : Runner) (lines : List ScheduleLine) (t : Trace) (group : ℕ) (sites : Sites) → old.place ≡ 1 → group ≡ 0 → sites ≡ record { 0 = 1 } → Stands old lines t
     → Stands (record old { place = old.place + 1 }) (lines ++ Header (header.Group group sites) ∷ []) t
 Carries-group old lines t group sites place zeroth one s =
     let l : ScheduleLine = Header (header.Group group sites) in
     let none : t ≡ [] = (s.phase.first (omega (arith, place))).1 in
-    Stands-next old (record old { place = old.place + 1 }) lines l t t s refl (omega arith)
+    Stands-next old (record old { place = old.place + 1 }) lines l t [] s tt refl (omega arith)
     (ap (λ n. with_line (cluster_at n) l) place
     ∙ ap (λ (g : ℕ). with_line (cluster_at 1) (Header (header.Group g sites))) zeroth
     ∙ ap (λ (set : Sites). with_line (cluster_at 1) (Header (header.Group 0 set))) one
     ∙ ap (λ n. cluster_at (n + 1)) (sym place))
     (subst (EachComes (cluster_at (old.place + 1)) (lines ++ l ∷ [])) (sym none) tt) (omega (arith, s.below))
-    (ToldOnce-quiet lines l t t s.lawful.once refl (λ m. refl)) (header-phase old t (omega (arith, place)) s.phase)
+    (subst (λ (u : Trace). due (cluster_at (old.place + 1)) u ≡ None) (sym none) refl) (IsTold-quiet lines l t t refl (λ void. void)) (header-phase old t (omega (arith, place)) s.phase)
 
 zeros : (n k : ℕ) → get_or {A = ℕ} (replicate n 0) k 0 ≡ 0
 zeros zero k = refl
@@ -107,11 +119,11 @@ Carries-merge old lines t number site e place one s =
       asked = record { earlier = lines; later = []; line = inr (ap (λ (n : ℕ). lines ++ Event (line.Merge n) ∷ []) one); boot = refl; up = refl };
     } in
     let each : EachComes one_site (lines ++ l ∷ []) (join_records number) =
-    (record { earlier = lines; line_now = l; later = []; split = refl; number = e; ascending = omega arith; row = may }, tt) in
+    (record { earlier = lines; line_now = l; later = []; split = refl; number = e; ascending = omega arith; prompt = tt; row = may }, tt) in
     subst (λ u. Stands (record old { place = old.place + 1 }) (lines ++ l ∷ []) (join_records number ++ u)) (sym first.1)
-    (Stands-next old (record old { place = old.place + 1 }) lines l t (join_records number) s refl (omega arith) (now ∙ sym after)
+    (Stands-next old (record old { place = old.place + 1 }) lines l [] (join_records number) (subst (Stands old lines) first.1 s) ((e, (refl, refl, refl)), tt) refl (omega arith) (now ∙ sym after)
     (subst (λ c. EachComes c (lines ++ l ∷ []) (join_records number)) (sym after) each) (omega (arith, e))
-    (ToldOnce-quiet lines l t (join_records number) s.lawful.once refl (λ m. ap (how_many (tells_own_of m)) (sym first.1)))
+    refl (IsTold-quiet lines l [] (join_records number) refl (λ stopped. false≢true (sym stopped)))
     (record {
       first = λ lt. absurd (omega (arith, lt, place));
       joined = λ p. (fresh-at old (old.place + 1) first.0, number, refl);

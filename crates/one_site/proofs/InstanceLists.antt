@@ -5,7 +5,9 @@ use Rattle.locus_ids.specs.declared.ids.Stamp.{Stamp}
 use Rattle.locus_ids.specs.declared.ids.EpochId.{EpochId}
 use Rattle.locus_ids.specs.declared.ids.Serial.{Serial}
 use Rattle.tree_model.specs.declared.instance.Instance.{Instance}
-use Rattle.tree_model.specs.Tree.{where_it, without_it, is_named, made_by_close}
+use Rattle.trace_book.specs.Scripts.{Ended}
+use Rattle.tree_model.specs.Calls.{close_answer}
+use Rattle.tree_model.specs.Tree.{where_it, without_it, is_named}
 use Rattle.tree_model.specs.OneTree.{first_of}
 
 -- none of these passes
@@ -29,10 +31,10 @@ pub without_it-last : (p : Instance → Bool) (xs : List Instance) (x : Instance
 without_it-last p [] x n e = rw e refl
 without_it-last p (y ∷ ys) x n e = rw n.0 (ap (λ zs. y ∷ zs) (without_it-last p ys x n.1 e))
 
-pub made_by_close-last : (e : EpochId) (i : Serial) (stamp : Option Stamp) (xs : List Instance) (x : Instance)
-    → NonePass (is_named e i) xs → is_named e i x ≡ true → made_by_close e i stamp (xs ++ x ∷ []) ≡ cond x.fresh stamp None
-made_by_close-last e i stamp [] x n is = rw is refl
-made_by_close-last e i stamp (y ∷ ys) x n is = rw n.0 (made_by_close-last e i stamp ys x n.1 is)
+pub close_answer-last : (e : EpochId) (i : Serial) (stamp : Option Stamp) (xs : List Instance) (x : Instance)
+    → NonePass (is_named e i) xs → is_named e i x ≡ true → x.owes ≡ false → close_answer e i stamp (xs ++ x ∷ []) ≡ Ended (cond x.fresh stamp None)
+close_answer-last e i stamp [] x n is paid = rw (is, paid) refl
+close_answer-last e i stamp (y ∷ ys) x n is paid = rw n.0 (close_answer-last e i stamp ys x n.1 is paid)
 
 pub first_of-last : (p : Instance → Bool) (xs : List Instance) (x : Instance) → NonePass p xs → p x ≡ true → first_of p (xs ++ x ∷ []) ≡ Some x
 first_of-last p [] x n e = rw e refl

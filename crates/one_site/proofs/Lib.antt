@@ -1,5 +1,7 @@
 pub mod Names
 pub mod Holding
+pub mod Loads
+pub mod PageLists
 pub mod FileLists
 pub mod Lists
 pub mod Versions
@@ -7,6 +9,7 @@ pub mod NextVersion
 pub mod FirstVersion
 pub mod Starting
 pub mod Common
+pub mod FreePages
 pub mod Telling
 pub mod Asking
 pub mod Acting
@@ -15,6 +18,7 @@ pub mod Making
 pub mod Named
 pub mod Creating
 pub mod OneMore
+pub mod Told
 pub mod Lowest
 pub mod Middle
 pub mod Using
@@ -36,6 +40,7 @@ pub mod SettlingOpen
 pub mod SettlingSmall
 pub mod Settling
 pub mod RoundRecords
+pub mod RoundSteps
 pub mod Rounds
 pub mod Courses
 pub mod RoundByRound

@@ -12,22 +12,23 @@ use Rattle.trace_book.specs.declared.record.Record.{Record}
 use Rattle.trace_book.specs.declared.record.Record.TheVariants as told
 use Rattle.tree_model.specs.declared.instance.Instance.{Instance}
 use Rattle.tree_model.specs.declared.instance.Waiting.{Waiting}
-use Rattle.tree_model.specs.Trace.{Trace, descriptor, is_taken, held, history, candidates, call_of_release, call_named}
-use Rattle.tree_model.specs.Tree.{tree, is_named, is_writer, committed, made_by_close, process_of}
-use Rattle.tree_model.specs.Calls.{wants_next, wants_as, answers}
-use Rattle.tree_model.specs.Lawful.{MayCommit, MayRelease, MayGrant, IsStep}
+use Rattle.tree_model.specs.Trace.{Trace, descriptor, is_taken, held, history, candidates, call_of_release, call_named, last_line}
+use Rattle.tree_model.specs.Tree.{tree, is_named, is_writer, committed, process_of}
+use Rattle.tree_model.specs.Calls.{close_answer, wants_next, wants_as, answers, gives_reply, due}
+use Rattle.tree_model.specs.Lawful.{MayCommit, MayRelease, MayGrant, IsStep, IsReplyTo}
 use Rattle.tree_model.specs.OneTree.{making_set, wanted_packs, of_call, sites_named}
 use Rattle.one_site.specs.declared.files.FileState.{FileState}
-use Rattle.one_site.specs.Ids.{one_site, the_epoch, call_id, serial_of, file_of, stamp_no}
+use Rattle.one_site.specs.Ids.{one_site, the_epoch, call_id, serial_of, file_of, stamp_no, entry}
 use Rattle.one_site.specs.Files.{KnowsInode, KnowsNone, file_at}
-use Rattle.one_site.specs.Known.{Site, Good, Place, with_record}
+use Rattle.one_site.specs.Known.{Site, Good, Place, number_at, with_record}
 use Rattle.one_site.proofs.Names.{same_call-refl, same_call-other, same_serial-refl, same_serial-other, file_of-other, same_file-refl}
 use Rattle.one_site.proofs.Holding.{held_in-now}
+use Rattle.one_site.proofs.Loads.{load-made}
 use Rattle.one_site.proofs.FirstVersion.{KnowsFile-first}
-use Rattle.one_site.proofs.Common.{wants_next-now, IsStep-now}
+use Rattle.one_site.proofs.Common.{wants_next-now, IsStep-now, IsReplyTo-none, undue-after, asked-first}
 use Rattle.one_site.proofs.Asking.{KnowsInode-retaken}
 use Rattle.one_site.proofs.Acting.{KnowsInode-published}
-use Rattle.one_site.proofs.InstanceLists.{NonePass, filter-last, where_it-last, without_it-last, made_by_close-last, first_of-last}
+use Rattle.one_site.proofs.InstanceLists.{NonePass, filter-last, where_it-last, without_it-last, close_answer-last, first_of-last}
 
 -- after a file was made
 abbrev pub made : Site → ℕ → List FileState → Site
@@ -53,6 +54,7 @@ making s w ino = record {
   content = [];
   owes = true;
   fresh = false;
+  changed = [];
   ops = 0;
 }
 
@@ -153,14 +155,19 @@ Good-make p s t w ino kind files g now absent low high new others no_writer no_n
         asked = asks_close;
       };
     } in
-    let closed : made_by_close the_epoch i (Some (stamp_no 1)) (tree one_site t2) ≡ Some (stamp_no 1) =
-    rw tree2 (made_by_close-last the_epoch i (Some (stamp_no 1)) (s.named ++ s.passing) (committed (stamp_no 1) x) no_name is_it) in
+    let closed : close_answer the_epoch i (Some (stamp_no 1)) (tree one_site t2) ≡ Ended (Some (stamp_no 1)) =
+    rw tree2 (close_answer-last the_epoch i (Some (stamp_no 1)) (s.named ++ s.passing) (committed (stamp_no 1) x) no_name is_it refl) in
+    let asks_make : gives_reply (wants_next one_site t (call_id s.accepted)) ≡ false = ap gives_reply (wants_next-now s t w k now ∙ asked) in
+    let committing : IsReplyTo (due one_site t1) (last_line t1) (entry (number_at p) commit) =
+    IsReplyTo-none (due one_site t1) (last_line t1) (entry (number_at p) commit) (undue-after s t t1 w k now refl refl (ap gives_reply asks_close)) in
+    let closing : IsReplyTo (due one_site t2) (last_line t2) (entry (number_at p) release) =
+    IsReplyTo-none (due one_site t2) (last_line t2) (entry (number_at p) release) (undue-after s t t2 w k now refl refl (ap gives_reply asks_close)) in
     record {
       each = (
-        record { earlier = p.earlier; line_now = p.line_now; later = []; split = refl; number = refl; ascending = omega arith; row = releases },
+        record { earlier = p.earlier; line_now = p.line_now; later = []; split = refl; number = refl; ascending = omega arith; prompt = closing; row = releases },
         (
-          record { earlier = p.earlier; line_now = p.line_now; later = []; split = refl; number = refl; ascending = omega arith; row = commits },
-          (record { earlier = p.earlier; line_now = p.line_now; later = []; split = refl; number = refl; ascending = g.below; row = makes }, g.each),
+          record { earlier = p.earlier; line_now = p.line_now; later = []; split = refl; number = refl; ascending = omega arith; prompt = committing; row = commits },
+          (record { earlier = p.earlier; line_now = p.line_now; later = []; split = refl; number = refl; ascending = g.below; prompt = asked-first s t w (entry (number_at p) grant) k now asks_make; row = makes }, g.each),
         ),
       );
       below = omega arith;
@@ -182,6 +189,7 @@ Good-make p s t w ino kind files g now absent low high new others no_writer no_n
             (rw (owned, same_call-other s.accepted m (omega arith)) u.0, rw (same_call-other s.accepted m (omega arith)) u.1);
         unused = λ n lt. let u = k.unused n (omega arith) in (rw (same_serial-other (s.serials + 1) n (omega arith)) u.0, u.1, u.2);
         tree = rw tree2 (without_it-last (is_named the_epoch i) (s.named ++ s.passing) (committed (stamp_no 1) x) no_name is_it);
+        load = load-made s t ino k.load;
         table = k.table;
         files = λ other. ⊎_elim
             (λ same. subst (λ (inode : ℕ). KnowsInode (v ∷ history one_site t)

@@ -10,7 +10,9 @@ use Rattle.commit_graph.specs.Versions.{same_file}
 use Rattle.commit_graph.specs.Grants.{is_read}
 use Rattle.trace_book.specs.Descriptors.{is_in}
 use Rattle.tree_model.specs.declared.instance.Instance.{Instance}
-use Rattle.tree_model.specs.Tree.{where_it, without_it, is_named, is_writer, made_by_close}
+use Rattle.trace_book.specs.Scripts.{Ended}
+use Rattle.tree_model.specs.Calls.{close_answer}
+use Rattle.tree_model.specs.Tree.{where_it, without_it, is_named, is_writer}
 use Rattle.tree_model.specs.OneTree.{first_of}
 use Rattle.one_site.specs.Ids.{the_epoch}
 use Rattle.one_site.specs.Opens.{AreExclusive, are_compatible}
@@ -29,10 +31,10 @@ pub without_it-middle : (p : Instance → Bool) (front : List Instance) (x : Ins
 without_it-middle p [] x back n e = rw e refl
 without_it-middle p (y ∷ ys) x back n e = rw n.0 (ap (λ zs. y ∷ zs) (without_it-middle p ys x back n.1 e))
 
-pub made_by_close-middle : (e : EpochId) (i : Serial) (stamp : Option Stamp) (front : List Instance) (x : Instance) (back : List Instance)
-    → NonePass (is_named e i) front → is_named e i x ≡ true → made_by_close e i stamp (front ++ x ∷ back) ≡ cond x.fresh stamp None
-made_by_close-middle e i stamp [] x back n is = rw is refl
-made_by_close-middle e i stamp (y ∷ ys) x back n is = rw n.0 (made_by_close-middle e i stamp ys x back n.1 is)
+pub close_answer-middle : (e : EpochId) (i : Serial) (stamp : Option Stamp) (front : List Instance) (x : Instance) (back : List Instance)
+    → NonePass (is_named e i) front → is_named e i x ≡ true → x.owes ≡ false → close_answer e i stamp (front ++ x ∷ back) ≡ Ended (cond x.fresh stamp None)
+close_answer-middle e i stamp [] x back n is paid = rw (is, paid) refl
+close_answer-middle e i stamp (y ∷ ys) x back n is paid = rw n.0 (close_answer-middle e i stamp ys x back n.1 is paid)
 
 pub filter-middle : (p : Instance → Bool) (front : List Instance) (x : Instance) (back : List Instance) → NonePass p front → p x ≡ true → NonePass p back
     → filter p (front ++ x ∷ back) ≡ x ∷ []

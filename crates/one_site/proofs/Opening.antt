@@ -85,7 +85,7 @@ pub Good-open-lost : (p : Place) (s : Site) (t : Trace) (w : Waiting) (path name
 Good-open-lost p s t w path name how root why g c finds =
     let t1 : Trace = look_at p s name root t in
     let g1 = Good-looked p s t w path name how root (Refused why) g c finds in
-    Good-answer p (answered (at_rest s w) (Refused why ∷ [])) t1 w (reply.No why) s.table g1 refl
+    Good-answer p (answered (at_rest s w) (Refused why ∷ [])) t1 w (reply.No why) s.table g1 refl refl
     (wants-open s w path name how root (lowest_free (descriptor t1 1 1)) (Refused why ∷ []) c)
     (λ fd. refl)
 
@@ -96,7 +96,7 @@ pub Good-open-directory : (p : Place) (s : Site) (t : Trace) (w : Waiting) (path
 Good-open-directory p s t w path name how root ino g c finds =
     let t1 : Trace = look_at p s name root t in
     let g1 = Good-looked p s t w path name how root (Entered ino Dir) g c finds in
-    Good-answer p (answered (at_rest s w) (Entered ino Dir ∷ [])) t1 w (reply.No IsDir) s.table g1 refl
+    Good-answer p (answered (at_rest s w) (Entered ino Dir ∷ [])) t1 w (reply.No IsDir) s.table g1 refl refl
     (wants-open s w path name how root (lowest_free (descriptor t1 1 1)) (Entered ino Dir ∷ []) c)
     (λ fd. refl)
 
@@ -122,7 +122,7 @@ Good-open-busy p s t w path name how root ino st why g c finds there busy =
     Good-refuse p s1 t1 w ino how why g1 refl
     (wants-open s w path name how root (lowest_free (descriptor t1 1 1)) (Entered ino File ∷ []) c)
     (rw (append-nil s.named, only) busy) in
-    Good-answer p s2 t2 w (reply.No why) s.table g2 refl
+    Good-answer p s2 t2 w (reply.No why) s.table g2 refl refl
     (wants-open s w path name how root (lowest_free (descriptor t2 1 1)) (Entered ino File ∷ Refused why ∷ []) c
     ∙ opens_file-refused how (lowest_free (descriptor t2 1 1)) (file_of ino) why)
     (λ fd. refl)
@@ -142,6 +142,7 @@ user s how ino st = record {
   content = st.content;
   owes = false;
   fresh = false;
+  changed = [];
   ops = 0;
 }
 
@@ -167,6 +168,7 @@ Good-settle p s t g =
         unstepped = k.unstepped;
         unused = k.unused;
         tree = k.tree ∙ sym (append-nil (s.named ++ s.passing));
+        load = rw (append-nil (s.named ++ s.passing)) k.load;
         table = k.table;
         files = k.files;
       };
@@ -219,7 +221,7 @@ Good-open p s t w path name how root ino st fd table g c finds ordinary there gr
     (rw (append-nil s.named) granting) is in
     let t3 : Trace = with_record p (told.Answer 1 1 (call_id s.accepted) (reply.Opened fd)) t2 in
     let g3 : Good p (replied s2 table) t3 =
-    Good-answer p s2 t2 w (reply.Opened fd) table g2 refl
+    Good-answer p s2 t2 w (reply.Opened fd) table g2 refl refl
     (wants-open s w path name how root (lowest_free (descriptor t2 1 1)) (Entered ino File ∷ Opened i ino ∷ []) c
     ∙ ap (λ (o : Option ℕ). walked [] (name ∷ []) (Entered ino File ∷ Opened i ino ∷ []) (opens_file how o)) free)
     (λ other. takes s.table table fd (user_descriptor s how) other descriptors) in

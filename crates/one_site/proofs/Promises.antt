@@ -174,5 +174,6 @@ StandsWell-new r s = StandsWell-all r [] [] s (record {
   late = λ n most counted h. absurd (no-round n most h);
   course = record { unmerged = λ few k site low h. no-merge k site h; merged = λ third. absurd (omega (arith, s.place, third)); begun = λ late. absurd (omega (arith, s.place, late)) };
   steady = tt;
+  steps = tt;
   rounds = λ n most counted h. absurd (no-round n most h);
 })

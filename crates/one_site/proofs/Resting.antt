@@ -1,5 +1,5 @@
 -- What stays known of the open instances at rest: one is replaced in its place, taken out, or added at the end.
-use Rattle.std.proofs.Common.{◌≡◌, ◌≤◌, ◌<◌, ◌+◌, ◌++◌, ◌∷◌, ℕ, Bool, true, false, not, ◌&&◌, ◌||◌, List, [], None, Some, refl, sym, ap, ◌∙◌, subst, arith}
+use Rattle.std.proofs.Common.{◌≡◌, ◌≤◌, ◌<◌, ◌+◌, ◌++◌, ◌∷◌, ℕ, Bool, true, false, not, ◌&&◌, ◌||◌, List, [], length, None, Some, refl, sym, ap, ◌∙◌, subst, arith}
 use Rattle.std.specs.List.{AllByRecursion}
 use Rattle.std.proofs.lemmas.Bool.{false≢true}
 use Rattle.locus_ids.specs.declared.ids.Stamp.{Stamp}
@@ -18,11 +18,12 @@ use Rattle.one_site.specs.Known.{Site, IsNamed}
 use Rattle.trace_book.specs.Scripts.{mode_of}
 use Rattle.trace_book.specs.declared.call.OpenMode.{OpenMode}
 use Rattle.trace_book.specs.declared.call.OpenMode.TheVariants as how
-use Rattle.tree_model.specs.Lawful.{merges}
+use Rattle.tree_model.specs.Room.{merges}
 use Rattle.one_site.proofs.FileLists.{file_at-within, file_at-push_other}
 use Rattle.one_site.proofs.Asking.{is_ordinary}
 use Rattle.one_site.proofs.Creating.{GrowsFiles}
 use Rattle.one_site.proofs.Opening.{user}
+use Rattle.one_site.proofs.PageLists.{small-written, pages-written, no-pages}
 use Rattle.one_site.proofs.Names.{same_file-refl, same_serial-other}
 use Rattle.one_site.proofs.Telling.{and-false, none-some}
 use Rattle.one_site.proofs.Middle.{AreElsewhere, elsewhere-before, elsewhere-after, exclusive-at}
@@ -80,11 +81,13 @@ IsNamed-read serials files x m = record {
   last = m.last;
   ordinary = m.ordinary;
   reads = m.reads;
+  small = m.small;
+  pages = m.pages;
 }
 
-pub IsNamed-written : (serials : ℕ) (files : List FileState) (x : Instance) (at : ℕ) (bytes : List ℕ) → is_read x.mode ≡ false
+pub IsNamed-written : (serials : ℕ) (files : List FileState) (x : Instance) (at : ℕ) (bytes : List ℕ) → is_read x.mode ≡ false → at + length bytes ≤ 65536
     → IsNamed serials files x → IsNamed serials files (after_write x at bytes)
-IsNamed-written serials files x at bytes writes m = record {
+IsNamed-written serials files x at bytes writes fits m = record {
   epoch = m.epoch;
   number = m.number;
   inst = m.inst;
@@ -101,6 +104,8 @@ IsNamed-written serials files x at bytes writes m = record {
   last = m.last;
   ordinary = m.ordinary;
   reads = λ reads. absurd (false≢true (sym writes ∙ reads));
+  small = small-written at bytes x.content fits m.small;
+  pages = pages-written at bytes x.content x.changed fits m.pages;
 }
 
 -- more serials are granted, and every user's file stays as it is
@@ -124,6 +129,8 @@ IsNamed-later serials more files new x le stay m = record {
   last = m.last;
   ordinary = m.ordinary;
   reads = m.reads;
+  small = m.small;
+  pages = m.pages;
 }
 
 -- another file changes
@@ -146,6 +153,8 @@ IsNamed-elsewhere serials ino files new x others m apart = record {
   last = m.last;
   ordinary = m.ordinary;
   reads = m.reads;
+  small = m.small;
+  pages = m.pages;
 }
   where
     differs : ino ≡ m.ino → ⊥
@@ -279,9 +288,9 @@ pushed-stays files new other st there =
     file_at-push_other files new other (λ same. absurd (omega (arith, same, within.1))) ∙ there
 
 -- the instance of an open that was granted
-pub IsNamed-opened : (s : Site) (how : OpenMode) (ino : ℕ) (st : FileState) → is_ordinary how ≡ true → 1 < ino → file_at s.files ino ≡ Some st
+pub IsNamed-opened : (s : Site) (how : OpenMode) (ino : ℕ) (st : FileState) → is_ordinary how ≡ true → 1 < ino → file_at s.files ino ≡ Some st → length st.content ≤ 65536
     → IsNamed (s.serials + 1) s.files (user s how ino st)
-IsNamed-opened s asked ino st ordinary low there = record {
+IsNamed-opened s asked ino st ordinary low there small = record {
   epoch = refl;
   number = s.serials + 1;
   inst = refl;
@@ -298,6 +307,8 @@ IsNamed-opened s asked ino st ordinary low there = record {
   last = refl;
   ordinary = no-merge asked ordinary;
   reads = λ e. refl;
+  small = small;
+  pages = no-pages;
 }
   where
     no-merge : (h : OpenMode) → is_ordinary h ≡ true → merges (mode_of h) ≡ false

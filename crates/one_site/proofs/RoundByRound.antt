@@ -14,7 +14,9 @@ use Rattle.one_site.specs.Went.{went}
 use Rattle.one_site.specs.Standing.{Stands}
 use Rattle.one_site.proofs.OneMore.{place_of-push}
 use Rattle.one_site.proofs.RoundRecords.{AreOf, of-line}
-use Rattle.one_site.proofs.Rounds.{before-more, before-all, slot-push, slot-within, own-line, steady-more, round-now}
+use Rattle.one_site.proofs.Told.{before-more, before-all}
+use Rattle.one_site.proofs.Rounds.{slot-push, slot-within, own-line, steady-more, round-now}
+use Rattle.one_site.proofs.RoundSteps.{StepsAtRounds-line}
 use Rattle.one_site.proofs.Courses.{Course-line}
 
 pub RoundsAnswer-line : (old : Runner) (lines : List ScheduleLine) (t : Trace) (bytes : List ℕ) (l : ScheduleLine) → Stands old lines t → RoundsAnswer old.place lines t
@@ -24,6 +26,7 @@ RoundsAnswer-line old lines t bytes l s so_far spelled built new = record {
   own = λ n. ⊎_elim (λ w. subst IsOwn (sym w.1) (own-line old.place old.calls bytes l spelled built)) (λ same. subst IsOwn (sym same) (so_far.own n)) (slot-push lines l (n - 1));
   course = subst (λ (n : ℕ). Course n (lines ++ l ∷ [])) (sym place) (Course-line old.place old.calls lines l so_far.course built);
   steady = steady-more after.told (length lines + 1) t told so_far.steady;
+  steps = StepsAtRounds-line old lines l t so_far.steps;
   late = λ n most counted h. ⊎_elim (λ w. settled_place most (sym w.1 ∙ h)) (λ same. omega (arith, grown, so_far.late n most counted (sym same ∙ h))) (slot-push lines l (n - 1));
   rounds = λ n most counted h. ⊎_elim (λ w. here n most counted w.0 (sym w.1 ∙ h)) (λ same. there n most counted (sym same ∙ h)) (slot-push lines l (n - 1));
 }

@@ -1,6 +1,5 @@
--- The records before a line, one more line in its place, and the round that it may be.
-use Rattle.std.proofs.Common.{◌≡◌, ◌≤◌, ◌<◌, ◌+◌, ◌++◌, ◌∷◌, ℕ, zero, suc, Bool, true, false, cond, eqb, nat_lt, List, [], length, reverse, None, refl, sym, ap, ◌∙◌, subst, arith, get_or, append_assoc, inl, inr, ◌⊎◌, ⊎_elim}
-use Rattle.std.proofs.lemmas.Bool.{false_from_ne_true, ltb-true, lt-ltb}
+-- One more line in its place, and the round that it may be.
+use Rattle.std.proofs.Common.{◌≡◌, ◌≤◌, ◌<◌, ◌+◌, ◌++◌, ◌∷◌, ℕ, zero, suc, Bool, true, false, cond, eqb, List, [], length, reverse, None, refl, sym, ap, ◌∙◌, subst, arith, get_or, append_assoc, inl, inr, ◌⊎◌, ⊎_elim}
 use Rattle.std.proofs.lemmas.List.{reverse-append}
 use Rattle.std.proofs.lemmas.Bool.Decides.{eqb_tells}
 use Rattle.std.specs.List.{AllByRecursion}
@@ -12,8 +11,8 @@ use Rattle.tree_model.specs.declared.line.Line.{Line}
 use Rattle.tree_model.specs.declared.line.Line.TheVariants as line
 use Rattle.tree_model.specs.Lines.{Spells}
 use Rattle.tree_model.specs.Reading.{IsBuilt}
-use Rattle.tree_model.specs.Trace.{Trace, before_line, last_line}
-use Rattle.tree_model.specs.OneTree.{list_of}
+use Rattle.tree_model.specs.Trace.{Trace}
+use Rattle.tree_model.specs.Room.{list_of}
 use Rattle.one_site.specs.declared.runner.Runner.{Runner}
 use Rattle.one_site.specs.Ids.{the_epoch, the_members, entry}
 use Rattle.one_site.specs.Rounds.{IsOwn, IsSteady, IsAlone, IsRound}
@@ -24,22 +23,6 @@ use Rattle.one_site.specs.Standing.{Stands, IsRunning}
 use Rattle.one_site.proofs.Names.{same-true}
 use Rattle.one_site.proofs.OneMore.{place_of-push}
 use Rattle.one_site.proofs.RoundRecords.{AreOf, rounds-settled}
-
--- The records before a line.
-
--- records of a later line are not among them
-pub before-more : (es : List Entry) (n m : ℕ) (t : Trace) → AreOf n es → m ≤ n → before_line (reverse es ++ t) m ≡ before_line t m
-before-more [] n m t of le = refl
-before-more (e ∷ es) n m t of le =
-    let later : nat_lt e.line m ≡ false = false_from_ne_true (nat_lt e.line m) (λ h. omega (arith, ltb-true e.line m h, of.0.0, le)) in
-    let turned : reverse (e ∷ es) ++ t ≡ reverse es ++ (e ∷ t) = ap (λ s. s ++ t) (reverse-append (e ∷ []) es) ∙ append_assoc (reverse es) (e ∷ []) t in
-    let first : before_line (e ∷ t) m ≡ before_line t m = rw later refl in
-    ap (λ s. before_line s m) turned ∙ before-more es n m (e ∷ t) of.1 le ∙ first
-
--- all are, before a line past the last
-pub before-all : (t : Trace) (m : ℕ) → last_line t < m → before_line t m ≡ t
-before-all [] m lt = refl
-before-all (r ∷ before) m lt = let yes : nat_lt r.line m ≡ true = lt-ltb r.line m lt in rw yes refl
 
 -- One more line.
 

@@ -22,11 +22,11 @@ use Rattle.one_site.specs.declared.runner.Runner.{Runner}
 use Rattle.one_site.specs.Ids.{the_epoch, stamp_of}
 use Rattle.one_site.specs.Files.{file_at}
 use Rattle.one_site.specs.Opens.{AreExclusive, AreDistinct}
-use Rattle.one_site.specs.Known.{Good, Known, Place, number_at, IsNamed}
+use Rattle.one_site.specs.Known.{Good, Known, Place, number_at, IsNamed, AreSmall}
 use Rattle.one_site.specs.Settle.{Settled, Stand, stand_of, state_at, closed, closed_by}
 use Rattle.one_site.specs.Standing.{IsRunning, IsRoot, IsFileEntry, IsDescriptorOf, site_of}
 use Rattle.one_site.proofs.Telling.{none-some}
-use Rattle.one_site.proofs.FileLists.{file_at-within, file_at-set_number, file_at-set_other}
+use Rattle.one_site.proofs.FileLists.{file_at-within, file_at-set_number, file_at-set_other, AreSmall-changed}
 use Rattle.one_site.proofs.Resting.{All-each, All-without, exclusive-without, distinct-without, named-published}
 use Rattle.one_site.proofs.Tables.{descriptor-without}
 use Rattle.one_site.proofs.Uses.{IsUsed, used-without, same_serial-flip}
@@ -51,12 +51,13 @@ no-descriptor r t w i b run waiting is fd d at =
 closed-runs : (r : Runner) (t after : Trace) (w : Waiting) (i : Serial) (b : Begun r t w i) (files : List FileState) → IsRunning r t → r.waiting ≡ Some w → is_close w.words ≡ true
     → Known (site_of (record r { waiting = None; instances = b.front ++ b.back; files = files })) after
     → ((e : EpochId) (j : Serial) → uses_of after e j ≡ uses_of t e j)
-    → IsRoot files r.dir
+    → IsRoot files r.dir → AreSmall files
     → AllByRecursion (IsNamed r.serials files) (b.front ++ b.back)
     → IsRunning (record r { waiting = None; instances = b.front ++ b.back; files = files }) after
-closed-runs r t after w i b files run waiting is known same root named = record {
+closed-runs r t after w i b files run waiting is known same root small named = record {
   known = known;
   root = root;
+  small = small;
   named = named;
   exclusive = exclusive-without b.front b.x b.back (subst AreExclusive b.split run.exclusive);
   distinct = distinct-without b.front b.x b.back (subst AreDistinct b.split run.distinct);
@@ -83,7 +84,7 @@ idle-goes p r t w fd i b g waiting words paid =
     (closes-it r t w i b is) paid b.named.uncommitted in
     record {
       good = good;
-      running = closed-runs r t (reverse here.told ++ t) w i b r.files g.running waiting is good.known (λ e j. refl) g.running.root
+      running = closed-runs r t (reverse here.told ++ t) w i b r.files g.running waiting is good.known (λ e j. refl) g.running.root g.running.small
           (All-without (IsNamed r.serials r.files) b.front b.x b.back (subst (AllByRecursion (IsNamed r.serials r.files)) b.split g.running.named));
     }
 
@@ -146,6 +147,7 @@ owing-goes p r t w fd i b g waiting words owes =
       good = good;
       running = closed-runs r t (reverse here.told ++ t) w i b here.runner.files run waiting is good.known (λ e j. refl)
           (root-stays r.files here.runner.files r.dir ino run.root (λ one. omega (arith, one, same, m.no_root)) new.long new.others)
+          (AreSmall-changed r.files here.runner.files ino (record { n = (state_at r.files ino).n + 1; content = b.x.content }) run.small m.small new.here new.others)
           (named-published r.serials ino r.files here.runner.files b.front b.x b.back exclusive writes (own-file r t w i b) new.others
           (subst (AllByRecursion (IsNamed r.serials r.files)) b.split run.named));
     }

@@ -2,7 +2,7 @@
 use Rattle.std.proofs.Common.{◌≡◌, ◌≤◌, ◌<◌, ◌+◌, ◌++◌, ◌∷◌, ◌⊎◌, ℕ, Bool, true, false, List, [], length, drop, filter, reverse, Option, None, Some, refl, sym, ap, ◌∙◌, subst, arith, inl, inr, ⊎_elim, length-append}
 use Rattle.std.specs.Prelude.{nat_lt, cond}
 use Rattle.std.proofs.Math.ListN.{length-set}
-use Rattle.std.proofs.lemmas.Bool.{false≢true, le-leb}
+use Rattle.std.proofs.lemmas.Bool.{false≢true, le-leb, ltb-false}
 use Rattle.std.specs.List.{AllByRecursion, list_any}
 use Rattle.locus_ids.specs.declared.ids.Kind.TheVariants.{File}
 use Rattle.locus_ids.specs.declared.sites.Sites.{Sites}
@@ -24,15 +24,16 @@ use Rattle.dir_list.proofs.Paths.{but_last-one, last_of-one, name-short}
 use Rattle.one_site.specs.declared.files.FileState.{FileState}
 use Rattle.one_site.specs.declared.runner.Runner.{Runner}
 use Rattle.one_site.specs.Files.{file_at}
-use Rattle.one_site.specs.Known.{Good, Place, number_at}
+use Rattle.one_site.specs.Known.{Good, Place, number_at, AreSmall}
 use Rattle.one_site.specs.Settle.{created, probe_of, root_state, next_ino, grown_dir, grown_files}
 use Rattle.one_site.specs.Standing.{IsRunning, HasSmallNumbers, IsRoot, IsFileEntry, is_fit, site_of, uses_now}
 use Rattle.one_site.proofs.Telling.{none-some}
-use Rattle.one_site.proofs.FileLists.{file_at-within, file_at-past, file_at-push_number, file_at-push_other, file_at-set_number, file_at-set_other}
+use Rattle.one_site.proofs.FileLists.{file_at-within, file_at-past, file_at-push_number, file_at-push_other, file_at-set_number, file_at-set_other, AreSmall-changed}
+use Rattle.one_site.proofs.PageLists.{small-grown}
 use Rattle.one_site.proofs.Resting.{All-each, named-later}
 use Rattle.one_site.proofs.Uses.{used-walks}
-use Rattle.one_site.proofs.Creating.{RunsCreate, GrowsFiles, Good-refused_create, Good-done_create}
-use Rattle.one_site.proofs.Going.{Goes, found-waiting, few-files, root-there, root-entries}
+use Rattle.one_site.proofs.Creating.{RunsCreate, GrowsFiles, Good-refused_create, Good-done_create, grown-small}
+use Rattle.one_site.proofs.Going.{Goes, found-waiting, few-files, few-grants, root-there, root-content, root-entries}
 
 -- a probe finds nothing, or refuses
 probe-either : (ds : List DirEntry) (size : ℕ) → (probe_among ds size ≡ Done) ⊎ ((why : Refusal) × (probe_among ds size ≡ No why))
@@ -75,6 +76,7 @@ refused-goes p r t w name why g s c gives =
       running = record {
         known = good.known;
         root = run.root;
+        small = run.small;
         named = named-later r.serials (r.serials + 1) r.files r.files r.instances (omega arith) (λ other st low there. there) run.named;
         exclusive = run.exclusive;
         distinct = run.distinct;
@@ -139,6 +141,23 @@ files-stay r w name root s is other st low there =
     let within = (file_at-within r.files other st there).1 in
     g.rest other (λ same. omega (arith, same, low)) ∙ g.others other (λ same. omega (arith, same, within)) ∙ there
 
+-- a probe that finds nothing has room for the entry
+probe-size : (ds : List DirEntry) (size : ℕ) → probe_among ds size ≡ Done → size ≤ 65536
+probe-size (d ∷ ds) size e = cc
+probe-size [] size e = by (nat_lt max_bytes size) refl e
+  where
+    by : (b : Bool) → nat_lt 65536 size ≡ b → cond b (No TooLong) Done ≡ Done → size ≤ 65536
+    by true is done = cc
+    by false is done = ltb-false 65536 size is
+
+-- every file has a small content
+files-small : (r : Runner) (w : Waiting) (name : List ℕ) → IsRoot r.files r.dir → HasSmallNumbers r → r.waiting ≡ Some w → AreSmall r.files
+    → length (dir_bytes (grown_dir r name)) ≤ 65536 → AreSmall (grown_files r name)
+files-small r w name root s is small large =
+    let g = grows r w name root s is in
+    AreSmall-changed (r.files ++ record { n = 1; content = [] } ∷ []) (grown_files r name) 1 (record { n = (root_state r).n + 1; content = dir_bytes (grown_dir r name) })
+    (grown-small (site_of r) (root_state r) (next_ino r) (dir_bytes (grown_dir r name)) (r.files ++ record { n = 1; content = [] } ∷ []) (grown_files r name) g small) large g.grown g.rest
+
 made-goes : (p : Place) (r : Runner) (t : Trace) (w : Waiting) (name : List ℕ) → Goes p r t → HasSmallNumbers r → Creates r w name
     → probe_of r name ≡ Done
     → Goes p (created r (number_at p) name Done).runner (reverse (created r (number_at p) name Done).told ++ t)
@@ -146,6 +165,10 @@ made-goes p r t w name g s c gives =
     let run = g.running in
     let few : length r.files ≤ 64 = omega (arith, few-files r w s c.waiting) in
     let is : entries_of (root_state r).content ≡ r.dir = root-entries r run.root few in
+    let size : length (root_state r).content + length name + 8 ≤ 65536 =
+    probe-size (filter (has_name name) r.dir) (length (root_state r).content + length name + 8) gives in
+    let large : length (dir_bytes (grown_dir r name)) ≤ 65536 =
+    small-grown name (next_ino r) File r.dir (omega (arith, size, ap length (root-content r run.root))) in
     let below : AllByRecursion (λ (d : DirEntry). d.ino < next_ino r) r.dir =
     All-each (IsFileEntry (length r.files)) (λ (d : DirEntry). d.ino < next_ino r) (λ d f. omega (arith, f.high)) r.dir run.root.entries in
     let good : Good p (site_of (created r (number_at p) name Done).runner) (reverse (created r (number_at p) name Done).told ++ t) =
@@ -154,12 +177,13 @@ made-goes p r t w name g s c gives =
     (root-there r run.root) (probe-now r name is ∙ gives)
     (grows r w name run.root s c.waiting)
     (ap (list_any (is_pair name (next_ino r))) is ∙ list_any-is_pair name (next_ino r) r.dir below) (le-leb (length name) 60 (name-short name c.plain))
-    (ap (λ (ds : List DirEntry). dir_bytes (with_entry (new_entry name (next_ino r) File) ds)) is) in
+    (ap (λ (ds : List DirEntry). dir_bytes (with_entry (new_entry name (next_ino r) File) ds)) is) size large run.small (few-grants r w s c.waiting) in
     record {
       good = good;
       running = record {
         known = good.known;
         root = grown-root r w name run.root s c.waiting c.plain;
+        small = files-small r w name run.root s c.waiting run.small large;
         named = named-later r.serials (r.serials + 1 + 1) r.files (grown_files r name) r.instances (omega arith) (files-stay r w name run.root s c.waiting) run.named;
         exclusive = run.exclusive;
         distinct = run.distinct;

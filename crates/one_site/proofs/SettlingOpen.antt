@@ -24,17 +24,18 @@ use Rattle.tree_model.specs.Directory.{entries_of, lookup, looked_among, is_mean
 use Rattle.tree_model.specs.Trace.{Trace, descriptor}
 use Rattle.tree_model.specs.Calls.{entered}
 use Rattle.tree_model.specs.Reading.{IsBuiltCall, IsFlatPath}
-use Rattle.tree_model.specs.Lawful.{merges}
+use Rattle.tree_model.specs.Room.{merges}
 use Rattle.dir_list.proofs.Paths.{components-one}
 use Rattle.one_site.specs.declared.runner.Runner.{Runner}
 use Rattle.one_site.specs.Ids.{the_epoch, serial_of, stamp_of}
 use Rattle.one_site.specs.Files.{file_at}
 use Rattle.one_site.specs.Steps.{table_of}
-use Rattle.one_site.specs.Known.{Good, Place, number_at, IsNamed}
+use Rattle.one_site.specs.Known.{Good, Place, number_at, IsNamed, AreSmall}
 use Rattle.one_site.specs.Settle.{Settled, opened, opened_kind, opened_file, opened_instance, granted, excluded, lost, refused, root_state, state_at}
 use Rattle.one_site.specs.Standing.{IsRunning, HasSmallNumbers, IsFileEntry, is_fit, is_open, site_of}
 use Rattle.one_site.proofs.Telling.{none-some}
 use Rattle.one_site.proofs.FileLists.{file_at-number}
+use Rattle.one_site.proofs.PageLists.{no-pages}
 use Rattle.one_site.proofs.Lowest.{lowest-same}
 use Rattle.one_site.proofs.Resting.{All-end, named-later, exclusive-granted, distinct-end}
 use Rattle.one_site.proofs.Tables.{descriptor-end, apart-end}
@@ -100,6 +101,7 @@ lost-goes p r t w name how why g c gives =
       running = record {
         known = good.known;
         root = run.root;
+        small = run.small;
         named = run.named;
         exclusive = run.exclusive;
         distinct = run.distinct;
@@ -134,6 +136,7 @@ busy-goes p r t w name how d why g c l busy =
       running = record {
         known = good.known;
         root = run.root;
+        small = run.small;
         named = named-later r.serials (r.serials + 1) r.files r.files r.instances (omega arith) (λ other st low there. there) run.named;
         exclusive = run.exclusive;
         distinct = run.distinct;
@@ -154,9 +157,9 @@ no-merge how.Write o = refl
 no-merge (how.Resolve site) o = absurd (false≢true o)
 
 -- the instance of an open is a user's
-new-named : (r : Runner) (name : List ℕ) (how : OpenMode) (d : DirEntry) → Leads r name d → is_ordinary how ≡ true
+new-named : (r : Runner) (name : List ℕ) (how : OpenMode) (d : DirEntry) → Leads r name d → is_ordinary how ≡ true → AreSmall r.files
     → IsNamed (r.serials + 1) r.files (opened_instance r how d.ino)
-new-named r name how d l ordinary = record {
+new-named r name how d l ordinary small = record {
   epoch = refl;
   number = r.serials + 1;
   inst = refl;
@@ -173,6 +176,8 @@ new-named r name how d l ordinary = record {
   last = refl;
   ordinary = no-merge how ordinary;
   reads = λ h. refl;
+  small = small d.ino (state_at r.files d.ino) l.there;
+  pages = no-pages;
 }
 
 takes-number : (table : List (Option Descriptor)) (fd : ℕ) (d : Descriptor) → fd < length table → TakesDescriptor table (slice_set table fd (Some d)) fd d
@@ -202,9 +207,10 @@ granted-goes p r t w name how d fd g c l long free lowest =
       running = record {
         known = good.known;
         root = run.root;
+        small = run.small;
         named = All-end (IsNamed (r.serials + 1) r.files) r.instances x
             (named-later r.serials (r.serials + 1) r.files r.files r.instances (omega arith) (λ other st low there. there) run.named)
-            (new-named r name how d l c.ordinary);
+            (new-named r name how d l c.ordinary run.small);
         exclusive = exclusive-granted r.serials r.files r.instances x (stamp_of (state_at r.files d.ino).n) run.named free run.exclusive;
         distinct = distinct-end r.serials (r.serials + 1) r.files r.instances x (omega arith) refl run.named run.distinct;
         used = used-end t w r.instances x c.walks (run.known.unused (r.serials + 1) (omega arith)).1 refl (uses-at-rest r t w run c.waiting);

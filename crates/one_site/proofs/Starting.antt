@@ -16,7 +16,7 @@ nil-split (x ∷ xs) later l e = cc
 
 pub Stands-new : (r : Runner) → r.place ≡ 0 → IsFresh r → Stands r [] []
 Stands-new r place fresh = record {
-  lawful = record { each = tt; once = λ earlier l later e i. absurd (nil-split earlier later l e) };
+  lawful = record { each = tt; prompt = refl; once = λ earlier l later e i. absurd (nil-split earlier later l e); void = λ earlier l later e none. absurd (nil-split earlier later l e) };
   below = omega arith;
   place = place;
   calls = fresh.calls;

@@ -1,7 +1,8 @@
 -- Records that leave files and instances as they are: a call is accepted, refused for its line, and answered.
-use Rattle.std.proofs.Common.{◌≡◌, ◌<◌, ◌+◌, ◌∷◌, ℕ, Bool, true, false, not, ◌&&◌, List, [], Option, None, Some, refl, sym, ap, ◌∙◌, subst, arith, get_or, inr}
+use Rattle.std.proofs.Common.{◌≡◌, ◌<◌, ◌+◌, ◌∷◌, ℕ, Bool, true, false, not, ◌&&◌, List, [], Option, None, Some, refl, sym, ap, ◌∙◌, subst, arith, get_or, inl, inr, ◌⊎◌, ⊎_elim, cond}
 use Rattle.trace_book.specs.Scripts.{wants, Give}
-use Rattle.trace_book.specs.Descriptors.{lowest_free, is_in}
+use Rattle.trace_book.specs.Descriptors.{lowest_free}
+use Rattle.trace_book.specs.declared.book.Entry.{Entry}
 use Rattle.trace_book.specs.declared.record.Record.{Record}
 use Rattle.trace_book.specs.declared.record.Record.TheVariants.{Accept, Answer, Void}
 use Rattle.trace_book.specs.declared.call.Call.{Call}
@@ -11,24 +12,24 @@ use Rattle.tree_model.specs.declared.instance.Waiting.{Waiting}
 use Rattle.tree_model.specs.declared.line.ScheduleLine.TheVariants.{Event}
 use Rattle.tree_model.specs.declared.line.Line.TheVariants as line
 use Rattle.tree_model.specs.Trace.{Trace, descriptor, waiting, waiting_of, without_call, accepted_as, closed_by, opened_by, uses_by, is_of, last_line, is_close}
-use Rattle.tree_model.specs.Calls.{wants_next}
-use Rattle.tree_model.specs.OneTree.{list_of}
-use Rattle.tree_model.specs.Calls.{left_epoch, left_since, unless_in}
-use Rattle.one_site.specs.Ids.{one_site, the_epoch, call_id, serial_of}
+use Rattle.tree_model.specs.Calls.{wants_next, is_due, due, due_among}
+use Rattle.tree_model.specs.Lawful.{IsReplyTo, answers_call}
+use Rattle.tree_model.specs.Room.{list_of}
+use Rattle.one_site.specs.Ids.{one_site, the_epoch, call_id, serial_of, entry}
 use Rattle.one_site.specs.Known.{Site, Known, Good, Place, number_at, with_record, IsCurrent}
 use Rattle.one_site.proofs.Names.{same_call-refl}
-use Rattle.one_site.proofs.Common.{Good-record, wants_next-now, Contains-first}
+use Rattle.one_site.proofs.Common.{Good-record, wants_next-now, Contains-first, IsReplyTo-none, stays-now, undue-idle}
 
 -- a line that prints void
 pub Good-void : (p : Place) (s : Site) (t : Trace) (w : Waiting) (words : Call) → Good p s t → last_line t < number_at p
-    → p.line_now ≡ Event (line.Call 1 1 words) → s.current ≡ Some w → Good p s (with_record p Void t)
-Good-void p s t w words g first is now =
+    → p.line_now ≡ Event (line.Call 1 1 words) → s.current ≡ Some w → due one_site t ≡ None → Good p s (with_record p Void t)
+Good-void p s t w words g first is now undue =
     let k = g.known in
     let c = k.current w now in
     let here : waiting t ≡ w ∷ [] = k.waiting ∙ ap list_of now in
     let is_it : is_of 1 1 w ≡ true = rw (c.site, c.process) refl in
     let busy : waiting_of 1 1 (waiting t) ≡ Some w = rw here (rw is_it refl) in
-    Good-record p s s t Void g (rw is (first, inr (rw busy refl)))
+    Good-record p s s t Void g (IsReplyTo-none (due one_site t) (last_line t) (entry (number_at p) Void) undue) (rw is (first, inr (rw busy refl)))
     (record {
       world = k.world;
       accepted = k.accepted;
@@ -37,6 +38,7 @@ Good-void p s t w words g first is now =
       unstepped = k.unstepped;
       unused = k.unused;
       tree = k.tree;
+      load = k.load;
       table = k.table;
       files = k.files;
     })
@@ -68,7 +70,7 @@ Good-accept p s t w words table g first is idle as_w unused closes =
     let call = call_id (s.accepted + 1) in
     let r : Record = Accept 1 1 (call_id (s.accepted + 1)) words in
     let free : waiting_of 1 1 (waiting t) ≡ None = rw none refl in
-    Good-record p s (with_call s w table) t r g
+    Good-record p s (with_call s w table) t r g (IsReplyTo-none (due one_site t) (last_line t) (entry (number_at p) r) (undue-idle s t k idle))
     (record { asked = is; first = first; up = k.world.0; idle = free; numbered = rw (k.world.1, k.accepted) refl })
     (record {
       world = k.world;
@@ -89,6 +91,7 @@ Good-accept p s t w words table g first is idle as_w unused closes =
           let not_used : uses_by (accepted_as t 1 1 (call_id (s.accepted + 1)) words).beginning the_epoch (serial_of n) ≡ false = ap (λ (x : Waiting). uses_by x.beginning the_epoch (serial_of n)) as_w ∙ unused n lt in
           (u.0, rw (and-false (not (is_close words)) _ not_used) u.1, rw (and-false (is_close words) _ not_used) u.2);
       tree = k.tree;
+      load = k.load;
       table = λ fd. ap (closed_by words fd) (k.table fd) ∙ closes fd;
       files = k.files;
     })
@@ -97,31 +100,41 @@ Good-accept p s t w words table g first is idle as_w unused closes =
 abbrev pub replied : Site → List (Option Descriptor) → Site
 replied s table = record s { current = None; so_far = []; opening = None; table = table }
 
--- the site is in the epoch in which the running call was made
-pub stays-now : (s : Site) (t : Trace) (w : Waiting) → Known s t → s.current ≡ Some w → left_epoch t w ≡ None
-stays-now s t w k now =
-    let c = k.current w now in
-    ap (λ e. left_since t w.site e) c.epoch ∙ ap (λ n. left_since t n (Some the_epoch)) c.site ∙ ap (λ o. unless_in the_epoch (is_in o the_epoch)) k.world.2
+-- a reply may come whether it is due or not, at the line of the records before it
+answered-first : (o : Option Waiting) (w : Waiting) (line : ℕ) (r : Entry) → (o ≡ None) ⊎ (o ≡ Some w) → r.line ≡ line → answers_call w.call r.what ≡ true → IsReplyTo o line r
+answered-first o w line r either at it = ⊎_elim (λ e. rw e tt) (λ e. rw e (at, it)) either
 
--- the running call is answered
-pub Good-answer : (p : Place) (s : Site) (t : Trace) (w : Waiting) (r : Reply) (table : List (Option Descriptor)) → Good p s t → s.current ≡ Some w
+-- the reply that is due is that of the running call
+due-current : (s : Site) (t : Trace) (w : Waiting) → Known s t → s.current ≡ Some w → (due one_site t ≡ None) ⊎ (due one_site t ≡ Some w)
+due-current s t w k now =
+    let here : due one_site t ≡ cond (is_due one_site t w) (Some w) None = ap (due_among one_site t) (k.waiting ∙ ap list_of now) in
+    by_test (is_due one_site t w) here
+  where
+    by_test : (b : Bool) → due one_site t ≡ cond b (Some w) None → (due one_site t ≡ None) ⊎ (due one_site t ≡ Some w)
+    by_test true e = inr e
+    by_test false e = inl e
+
+-- the running call is answered, at the line of the records before
+pub Good-answer : (p : Place) (s : Site) (t : Trace) (w : Waiting) (r : Reply) (table : List (Option Descriptor)) → Good p s t → s.current ≡ Some w → last_line t ≡ number_at p
     → wants [] (lowest_free (descriptor t 1 1)) w.words w.beginning s.so_far ≡ Give r
     → ((fd : ℕ) → opened_by r fd s.opening (get_or s.table fd None) ≡ get_or table fd None)
     → Good p (replied s table) (with_record p (Answer 1 1 (call_id s.accepted) r) t)
-Good-answer p s t w r table g now asked opens =
+Good-answer p s t w r table g now at asked opens =
     let k = g.known in
     let c = k.current w now in
     let here : waiting t ≡ w ∷ [] = k.waiting ∙ ap list_of now in
     let asked_now : wants_next one_site t (call_id s.accepted) ≡ Give r = wants_next-now s t w k now ∙ asked in
     let gone : without_call (call_id s.accepted) (waiting t) ≡ [] = rw here (rw c.call (rw (same_call-refl (call_id s.accepted)) refl)) in
+    let it : answers_call w.call (Answer 1 1 (call_id s.accepted) r) ≡ true = rw c.call (same_call-refl (call_id s.accepted)) in
     Good-record p s (replied s table) t (Answer 1 1 (call_id s.accepted) r) g
+    (answered-first (due one_site t) w (last_line t) (entry (number_at p) (Answer 1 1 (call_id s.accepted) r)) (due-current s t w k now) (sym at) it)
     (record {
       waits = w;
       among = rw here (Contains-first w []);
       is_it = rw (c.site, c.process) refl;
       same = c.call;
       asked = λ stays. asked_now;
-      changed = λ e left. absurd (none-some e (sym (stays-now s t w k now) ∙ left));
+      changed = λ e left. absurd (none-some e (sym (stays-now s t t w k now refl) ∙ left));
     })
     (record {
       world = k.world;
@@ -131,6 +144,7 @@ Good-answer p s t w r table g now asked opens =
       unstepped = k.unstepped;
       unused = k.unused;
       tree = k.tree;
+      load = k.load;
       table = λ fd. ap (λ o. opened_by r fd o (descriptor t 1 1 fd)) c.opened ∙ ap (opened_by r fd s.opening) (k.table fd) ∙ opens fd;
       files = k.files;
     })

@@ -1,6 +1,7 @@
 -- A round that runs a read, a write or a close.
-use Rattle.std.proofs.Common.{◌≡◌, ◌+◌, ◌++◌, ◌∷◌, ℕ, suc, Bool, true, false, ◌||◌, List, [], length, reverse, take, drop, Option, None, Some, refl, sym, ap, ◌∙◌, subst, arith}
+use Rattle.std.proofs.Common.{◌≡◌, ◌≤◌, ◌+◌, ◌++◌, ◌∷◌, ℕ, suc, Bool, true, false, ◌||◌, List, [], length, reverse, take, drop, Option, None, Some, refl, sym, ap, ◌∙◌, subst, arith}
 use Rattle.std.proofs.lemmas.List.{append-nil}
+use Rattle.std.proofs.lemmas.Bool.{le-leb}
 use Rattle.locus_ids.specs.declared.ids.CallId.{CallId}
 use Rattle.locus_ids.specs.declared.ids.Stamp.{Stamp}
 use Rattle.locus_ids.specs.declared.ids.Serial.{Serial}
@@ -18,10 +19,11 @@ use Rattle.trace_book.specs.declared.reply.Reply.TheVariants as reply
 use Rattle.trace_book.specs.declared.descriptor.Beginning.TheVariants.{Uses}
 use Rattle.tree_model.specs.declared.instance.Instance.{Instance}
 use Rattle.tree_model.specs.declared.instance.Waiting.{Waiting}
-use Rattle.tree_model.specs.Directory.{written}
+use Rattle.tree_model.specs.Directory.{written, result_of}
+use Rattle.tree_model.specs.Pages.{changed_after, needed}
 use Rattle.tree_model.specs.Trace.{Trace, descriptor, call_of_act, call_of_release, uses_of, close_of}
-use Rattle.tree_model.specs.Tree.{acted, is_named, is_writer, committed, where_it, result_on}
-use Rattle.tree_model.specs.Lawful.{merges}
+use Rattle.tree_model.specs.Tree.{acted, is_named, is_writer, committed, where_it}
+use Rattle.tree_model.specs.Room.{merges, result_on, free_pages}
 use Rattle.one_site.specs.declared.files.FileState.{FileState}
 use Rattle.one_site.specs.Ids.{one_site, the_epoch, call_id, file_of, stamp_no, stamp_of}
 use Rattle.one_site.specs.Files.{file_at}
@@ -30,10 +32,11 @@ use Rattle.one_site.specs.Known.{Site, Good, Place, number_at, with_record}
 use Rattle.one_site.specs.Records.{read_records, write_records, idle_close, owing_close}
 use Rattle.one_site.proofs.Names.{same_yes}
 use Rattle.one_site.proofs.Common.{cond-same}
+use Rattle.one_site.proofs.FreePages.{in-room}
 use Rattle.one_site.proofs.Telling.{Good-answer}
 use Rattle.one_site.proofs.Acting.{Good-act, Good-release, Good-publish, did, ended, published}
 use Rattle.one_site.proofs.InstanceLists.{NonePass}
-use Rattle.one_site.proofs.Middle.{where_it-middle, without_it-middle, made_by_close-middle, filter-middle, first_of-middle, writer-alone, writes-itself}
+use Rattle.one_site.proofs.Middle.{where_it-middle, without_it-middle, close_answer-middle, filter-middle, first_of-middle, writer-alone, writes-itself}
 use Rattle.one_site.proofs.Creating.{at_rest}
 
 -- the call begins at an open instance of a file, which is the first of its name
@@ -62,7 +65,7 @@ abbrev pub after_read : Instance → Instance
 after_read x = record x { ops = x.ops + 1; fresh = false }
 
 abbrev pub after_write : Instance → ℕ → List ℕ → Instance
-after_write x at bytes = record x { ops = x.ops + 1; fresh = false; content = written x.content at bytes; owes = true }
+after_write x at bytes = record x { ops = x.ops + 1; fresh = false; content = written x.content at bytes; owes = true; changed = changed_after (op.Write at bytes) x.content x.changed }
 
 pub wants-use : (s : Site) (w : Waiting) (words : Call) (i : Serial) (free : Option ℕ) (answers : List Answer) → w.beginning ≡ Uses the_epoch i → w.words ≡ words
     → wants [] free w.words w.beginning answers ≡ uses_wants words i answers
@@ -81,7 +84,7 @@ pub acted-read : (t : Trace) (at len : ℕ) (bytes : List ℕ) (x : Instance) �
 acted-read t at len bytes x = ap (λ (owes : Bool). record x { ops = x.ops + 1; fresh = false; owes = owes }) (or-nothing x.owes)
 
 pub acted-write : (t : Trace) (at : ℕ) (bytes : List ℕ) (x : Instance) → acted one_site t (x.ops + 1) (op.Write at bytes) outcome.Done x ≡ after_write x at bytes
-acted-write t at bytes x = ap (λ (owes : Bool). record x { ops = x.ops + 1; fresh = false; content = written x.content at bytes; owes = owes }) (or-anything x.owes)
+acted-write t at bytes x = ap (λ (owes : Bool). record x { ops = x.ops + 1; fresh = false; content = written x.content at bytes; owes = owes; changed = changed_after (op.Write at bytes) x.content x.changed }) (or-anything x.owes)
 
 -- the next operation of the instance is the running call's
 pub last-use : (t : Trace) (w : Waiting) (i : Serial) (x : Instance) (a : ℕ) → IsLastUse t w i x → w.call ≡ call_id a
@@ -94,7 +97,7 @@ last-use t w i x a u call =
 pub Good-use : (p : Place) (s : Site) (t : Trace) (w : Waiting) (words : Call) (i : Serial) (ino : ℕ) (x new : Instance) (front back : List Instance) (o : Op) (result : Outcome)
     → Good p (at_rest s w) t → RunsUse s w i ino x front back → IsLastUse t w i x → w.words ≡ words
     → wants [] (lowest_free (descriptor t 1 1)) w.words w.beginning [] ≡ Do i o
-    → result_on o x ≡ Some result
+    → result_on one_site t o x ≡ Some result
     → acted one_site t (x.ops + 1) o result x ≡ new
     → Good p (did (at_rest s w) result (front ++ new ∷ back) []) (with_record p (told.Act the_epoch i (x.ops + 1) o result) t)
 Good-use p s t w words i ino x new front back o result g c u is asked gives changed =
@@ -115,24 +118,27 @@ Good-read p s t w fd at len i ino x front back g c u is =
     let s1 : Site = did (at_rest s w) (outcome.Data bytes) (front ++ after_read x ∷ back) [] in
     let g1 : Good p s1 t1 =
     Good-use p s t w (call.Read fd at len) i ino x (after_read x) front back (op.Read at len) (outcome.Data bytes) g c u is
-    (wants-use s w (call.Read fd at len) i (lowest_free (descriptor t 1 1)) [] c.begins is) refl
+    (wants-use s w (call.Read fd at len) i (lowest_free (descriptor t 1 1)) [] c.begins is)
+    (in-room 0 (free_pages one_site t x.epoch x.ss x.file.group) (Some (outcome.Data bytes)) (outcome.Data bytes) refl (omega arith))
     (acted-read t at len bytes x) in
-    Good-answer p s1 t1 w (reply.Data bytes) s.table g1 refl
+    Good-answer p s1 t1 w (reply.Data bytes) s.table g1 refl refl
     (wants-use s w (call.Read fd at len) i (lowest_free (descriptor t1 1 1)) (Did (outcome.Data bytes) ∷ []) c.begins is)
     (λ fd. refl)
 
 pub Good-write : (p : Place) (s : Site) (t : Trace) (w : Waiting) (fd at : ℕ) (bytes : List ℕ) (i : Serial) (ino : ℕ) (x : Instance) (front back : List Instance)
     → Good p (at_rest s w) t → RunsUse s w i ino x front back → IsLastUse t w i x → w.words ≡ call.Write fd at bytes
+    → at + length bytes ≤ 65536 → needed (op.Write at bytes) x.content x.changed ≤ free_pages one_site t x.epoch x.ss x.file.group
     → Good p (after_use s (front ++ after_write x at bytes ∷ back))
     (reverse (write_records (number_at p) s.accepted i (x.ops + 1) at bytes) ++ t)
-Good-write p s t w fd at bytes i ino x front back g c u is =
+Good-write p s t w fd at bytes i ino x front back g c u is fits room =
     let t1 : Trace = with_record p (told.Act the_epoch i (x.ops + 1) (op.Write at bytes) outcome.Done) t in
     let s1 : Site = did (at_rest s w) outcome.Done (front ++ after_write x at bytes ∷ back) [] in
     let g1 : Good p s1 t1 =
     Good-use p s t w (call.Write fd at bytes) i ino x (after_write x at bytes) front back (op.Write at bytes) outcome.Done g c u is
-    (wants-use s w (call.Write fd at bytes) i (lowest_free (descriptor t 1 1)) [] c.begins is) refl
+    (wants-use s w (call.Write fd at bytes) i (lowest_free (descriptor t 1 1)) [] c.begins is)
+    (in-room (needed (op.Write at bytes) x.content x.changed) (free_pages one_site t x.epoch x.ss x.file.group) (result_of (op.Write at bytes) x.content) outcome.Done (rw (le-leb (at + length bytes) 65536 fits) refl) room)
     (acted-write t at bytes x) in
-    Good-answer p s1 t1 w reply.Done s.table g1 refl
+    Good-answer p s1 t1 w reply.Done s.table g1 refl refl
     (wants-use s w (call.Write fd at bytes) i (lowest_free (descriptor t1 1 1)) (Did outcome.Done ∷ []) c.begins is)
     (λ fd. refl)
 
@@ -156,10 +162,10 @@ Good-close p s t w fd i ino x front back g c is closes paid nothing =
     Good-release p (at_rest s w) t w i x (front ++ back) [] g refl
     (rw all (first_of-middle (is_named the_epoch i) front x back c.first c.is_it)) paid nothing (ap (λ f. f.group) c.file) owned
     (wants-use s w (call.Close fd) i (lowest_free (descriptor t 1 1)) [] c.begins is)
-    (rw all (made_by_close-middle the_epoch i None front x back c.first c.is_it) ∙ cond-same x.fresh None)
+    (rw all (close_answer-middle the_epoch i None front x back c.first c.is_it paid) ∙ ap Ended (cond-same x.fresh None))
     (rw all (without_it-middle (is_named the_epoch i) front x back c.first c.is_it) ∙ sym (append-nil (front ++ back))) in
     let g1 : Good p s1 t1 = subst (λ f. Good p s1 (with_record p (told.Release the_epoch i f None) t)) c.file g0 in
-    Good-answer p s1 t1 w (reply.Closed None) s.table g1 refl
+    Good-answer p s1 t1 w (reply.Closed None) s.table g1 refl refl
     (wants-use s w (call.Close fd) i (lowest_free (descriptor t1 1 1)) (Ended None ∷ []) c.begins is)
     (λ fd. refl)
 
@@ -191,8 +197,8 @@ Good-publishing_close p s t w fd i ino st x front back files g c is closes exclu
     c.file ss owes last (rw ordinary refl)
     (rw then (first_of-middle (is_named the_epoch i) front (committed (stamp_no (st.n + 1)) x) back c.first c.is_it)) owned
     (wants-use s w (call.Close fd) i (lowest_free (descriptor t 1 1)) [] c.begins is)
-    (rw then (made_by_close-middle the_epoch i (Some (stamp_no (st.n + 1))) front (committed (stamp_no (st.n + 1)) x) back c.first c.is_it))
+    (rw then (close_answer-middle the_epoch i (Some (stamp_no (st.n + 1))) front (committed (stamp_no (st.n + 1)) x) back c.first c.is_it refl))
     (rw then (without_it-middle (is_named the_epoch i) front (committed (stamp_no (st.n + 1)) x) back c.first c.is_it) ∙ sym (append-nil (front ++ back))) in
-    Good-answer p s1 t1 w (reply.Closed (Some (stamp_no (st.n + 1)))) s.table g1 refl
+    Good-answer p s1 t1 w (reply.Closed (Some (stamp_no (st.n + 1)))) s.table g1 refl refl
     (wants-use s w (call.Close fd) i (lowest_free (descriptor t1 1 1)) (Ended (Some (stamp_no (st.n + 1))) ∷ []) c.begins is)
     (λ fd. refl)

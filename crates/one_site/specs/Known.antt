@@ -1,5 +1,6 @@
 -- What the site knows of a trace, also in the midst of a call.
-use Rattle.std.specs.Prelude.{ℕ, ◌≡◌, ◌<◌, ◌≤◌, ◌+◌, true, false, List, [], ◌∷◌, ◌++◌, length, Option, None, Some, slice_index_or}
+use Rattle.std.specs.Prelude.{ℕ, ◌≡◌, eqb, ◌<◌, ◌≤◌, ◌+◌, true, false, List, [], ◌∷◌, ◌++◌, length, Option, None, Some, slice_index_or}
+use Rattle.std.specs.List.{AllByRecursion, IsDistinct}
 use Rattle.commit_graph.specs.Grants.{is_read}
 use Rattle.trace_book.specs.Scripts.{Answer}
 use Rattle.trace_book.specs.declared.record.Record.{Record}
@@ -7,11 +8,11 @@ use Rattle.trace_book.specs.declared.descriptor.Descriptor.{Descriptor}
 use Rattle.tree_model.specs.declared.instance.Instance.{Instance}
 use Rattle.tree_model.specs.declared.instance.Waiting.{Waiting}
 use Rattle.tree_model.specs.declared.line.ScheduleLine.{ScheduleLine}
-use Rattle.tree_model.specs.Trace.{Trace, is_up, boot_of, epoch_of, has_joined, members_of, is_started, history, held, candidates, granted_to, opening_of, is_taken, calls_accepted, call_named, waiting, descriptor, uses_of, close_of, last_line}
+use Rattle.tree_model.specs.Trace.{Trace, is_up, boot_of, epoch_of, has_joined, members_of, is_started, history, held, candidates, granted_to, opening_of, is_taken, stored, calls_accepted, call_named, waiting, descriptor, uses_of, close_of, last_line}
 use Rattle.tree_model.specs.Tree.{tree}
 use Rattle.tree_model.specs.Calls.{answers}
-use Rattle.tree_model.specs.Lawful.{EachComes, merges}
-use Rattle.tree_model.specs.OneTree.{list_of}
+use Rattle.tree_model.specs.Lawful.{EachComes}
+use Rattle.tree_model.specs.Room.{list_of, merges}
 use Rattle.one_site.specs.declared.files.FileState.{FileState}
 use Rattle.one_site.specs.Ids.{one_site, the_epoch, the_members, file_of, call_id, serial_of, stamp_of, entry}
 use Rattle.one_site.specs.Files.{KnowsInode, file_at}
@@ -52,6 +53,14 @@ pub record IsCurrent (t : Trace) (accepted : ℕ) (so_far : List Answer) (openin
   pub answered : answers one_site t (call_id accepted) ≡ so_far
   pub opened : opening_of t (call_id accepted) ≡ opening
 
+-- pages of a content of at most 65,536 bytes, each once
+abbrev pub ArePages : List ℕ → Type 0
+ArePages pages = IsDistinct eqb pages × AllByRecursion (λ page. page < 64) pages
+
+-- no file has more than 65,536 bytes
+abbrev pub AreSmall : List FileState → Type 0
+AreSmall files = (ino : ℕ) (st : FileState) → file_at files ino ≡ Some st → length st.content ≤ 65536
+
 -- an instance that a descriptor has named: a user's file, opened to read or write
 pub record IsNamed (serials : ℕ) (files : List FileState) (x : Instance) : Type 0 where
   pub epoch : x.epoch ≡ the_epoch
@@ -70,12 +79,14 @@ pub record IsNamed (serials : ℕ) (files : List FileState) (x : Instance) : Typ
   pub last : x.last ≡ Some (stamp_of state.n)
   pub ordinary : merges x.mode ≡ false
   pub reads : is_read x.mode ≡ true → x.owes ≡ false
+  pub small : length x.content ≤ 65536
+  pub pages : ArePages x.changed
 
 abbrev pub IsDescriptor : ℕ → Option Descriptor → Type 0
 IsDescriptor serials None = Unit {0}
 IsDescriptor serials (Some d) = (d.epoch ≡ the_epoch) × (number : ℕ) × (d.inst ≡ serial_of number) × (number ≤ serials)
 
--- what the site knows of the trace
+-- what the site knows of the trace; the files that it committed and the open instances are at most as many as those granted
 pub record Known (s : Site) (t : Trace) : Type 0 where
   pub world : InEpoch t
   pub accepted : calls_accepted t 1 ≡ s.accepted
@@ -84,6 +95,7 @@ pub record Known (s : Site) (t : Trace) : Type 0 where
   pub unstepped : (n : ℕ) → s.accepted < n → IsUnstepped t n
   pub unused : (n : ℕ) → s.serials < n → IsUnused t n
   pub tree : tree one_site t ≡ s.named ++ s.passing
+  pub load : length (stored t 1 0) + length (s.named ++ s.passing) ≤ s.serials
   pub table : (fd : ℕ) → descriptor t 1 1 fd ≡ slice_index_or s.table fd None
   pub files : (ino : ℕ) → KnowsInode (history one_site t) (candidates one_site t the_epoch (file_of ino)) (held one_site t 1 (file_of ino)) (is_taken t the_epoch (file_of ino)) ino (file_at s.files ino)
 

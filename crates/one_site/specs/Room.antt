@@ -55,6 +55,7 @@ no_instance = record {
   content = [];
   owes = false;
   fresh = false;
+  changed = [];
   ops = 0;
 }
 
@@ -70,9 +71,9 @@ stand_at place xs = Between (take place xs) (instance_at xs place) (drop (place 
 abbrev pub with_instance : ℕ → Instance → List Instance → List Instance
 with_instance place x xs = take place xs ++ x ∷ drop (place + 1) xs
 
--- an instance after a write that leaves this content
-abbrev pub has_content : List ℕ → Instance → Instance
-has_content bytes x = record x { ops = x.ops + 1; fresh = false; content = bytes; owes = true }
+-- an instance after a write that leaves this content and these changed pages
+abbrev pub has_content : List ℕ → List ℕ → Instance → Instance
+has_content bytes pages x = record x { ops = x.ops + 1; fresh = false; content = bytes; owes = true; changed = pages }
 
 -- the length of the name that a create makes is one byte
 abbrev pub MakesShortName : Call → Type 0

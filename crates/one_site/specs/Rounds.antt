@@ -1,8 +1,8 @@
 -- What each round of one site so far was, and what it has left behind.
-use Rattle.std.specs.Prelude.{ℕ, ◌≡◌, ◌≤◌, ◌<◌, ◌+◌, true, List, [], length, Some}
+use Rattle.std.specs.Prelude.{ℕ, ◌≡◌, ◌≤◌, ◌<◌, ◌+◌, Bool, true, false, List, [], length, Some}
 use Rattle.std.specs.List.{AllByRecursion}
 use Rattle.trace_book.specs.declared.record.Record.{Record}
-use Rattle.trace_book.specs.declared.record.Record.TheVariants.{Up, Stopped, Leave, Join, Budget}
+use Rattle.trace_book.specs.declared.record.Record.TheVariants.{Up, Stopped, Leave, Join, Budget, Start, Look, Grant, Refuse, Act, Commit, Release}
 use Rattle.tree_model.specs.declared.line.ScheduleLine.{ScheduleLine}
 use Rattle.tree_model.specs.declared.line.ScheduleLine.TheVariants.{Passed, Event}
 use Rattle.tree_model.specs.declared.line.Line.TheVariants as line
@@ -39,6 +39,25 @@ pub record IsRound (before after : Trace) : Type 0 where
   pub ended : IsAlone after
   pub answered : waiting after ≡ []
 
+-- the start of a group, a step of a call, or a commit
+abbrev pub is_step : Record → Bool
+is_step (Start e group copies) = true
+is_step (Look e call request f w result) = true
+is_step (Grant e call request i mode f stamp ss) = true
+is_step (Refuse e call request i mode f why) = true
+is_step (Act e i n o result) = true
+is_step (Commit f site stamp parents content) = true
+is_step (Release e i f stamp) = true
+is_step _ = false
+
+abbrev pub is_round : ScheduleLine → Bool
+is_round (Event (line.Settle most)) = true
+is_round _ = false
+
+-- each of them stands at the line of a round
+abbrev pub StepsAtRounds : List ScheduleLine → Trace → Type 0
+StepsAtRounds lines t = AllByRecursion (λ r. is_step r.what ≡ true → is_round (line_at lines r.line) ≡ true) t
+
 -- one line merges, and after it stand, up to this number, only lines that are passed over
 pub record IsMerged (lines : List ScheduleLine) (last : ℕ) : Type 0 where
   pub merge : ℕ
@@ -65,6 +84,7 @@ pub record RoundsAnswer (place : ℕ) (lines : List ScheduleLine) (t : Trace) : 
   pub own : (n : ℕ) → IsOwn (line_at lines n)
   pub course : Course place lines
   pub steady : AllByRecursion (λ r. IsSteady r.what) t
+  pub steps : StepsAtRounds lines t
   pub late : (n most : ℕ) → 1 ≤ n → line_at lines n ≡ Event (line.Settle most) → 4 ≤ place
   pub rounds : (n most : ℕ) → 1 ≤ n → line_at lines n ≡ Event (line.Settle most) → IsRound (before_line t n) (through_line t n)
 

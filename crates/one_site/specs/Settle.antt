@@ -12,6 +12,7 @@ use Rattle.trace_book.specs.declared.book.Entry.{Entry}
 use Rattle.trace_book.specs.declared.call.Call.{Call}
 use Rattle.trace_book.specs.declared.call.Call.TheVariants as call
 use Rattle.trace_book.specs.declared.call.OpenMode.{OpenMode}
+use Rattle.trace_book.specs.declared.operation.Op.TheVariants.{Write}
 use Rattle.trace_book.specs.declared.operation.Outcome.{Outcome}
 use Rattle.trace_book.specs.declared.operation.Outcome.TheVariants.{No}
 use Rattle.trace_book.specs.declared.descriptor.Beginning.{Beginning}
@@ -20,6 +21,7 @@ use Rattle.tree_model.specs.declared.dir_entry.DirEntry.{DirEntry}
 use Rattle.tree_model.specs.declared.instance.Instance.{Instance}
 use Rattle.tree_model.specs.declared.instance.Waiting.{Waiting}
 use Rattle.tree_model.specs.Directory.{Looked, One, Nothing, Several, lookup, has_name, probe_among, with_entry, new_entry, dir_bytes, written}
+use Rattle.tree_model.specs.Pages.{changed_after}
 use Rattle.tree_model.specs.Tree.{is_named, openers}
 use Rattle.one_site.specs.declared.files.FileState.{FileState}
 use Rattle.one_site.specs.declared.runner.Runner.{Runner}
@@ -92,6 +94,7 @@ opened_instance r how ino = record {
   content = (state_at r.files ino).content;
   owes = false;
   fresh = false;
+  changed = [];
   ops = 0;
 }
 
@@ -141,7 +144,7 @@ abbrev pub has_read : Instance → Instance
 has_read x = record x { ops = x.ops + 1; fresh = false }
 
 abbrev pub has_written : ℕ → List ℕ → Instance → Instance
-has_written at bytes x = record x { ops = x.ops + 1; fresh = false; content = written x.content at bytes; owes = true }
+has_written at bytes x = record x { ops = x.ops + 1; fresh = false; content = written x.content at bytes; owes = true; changed = changed_after (Write at bytes) x.content x.changed }
 
 abbrev pub read : Runner → ℕ → Serial → ℕ → ℕ → Stand → Settled
 read r line i at len Nowhere = nothing r

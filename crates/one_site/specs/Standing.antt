@@ -31,7 +31,7 @@ use Rattle.one_site.specs.Short.{IsShort}
 use Rattle.one_site.specs.Ids.{one_site, the_epoch, the_members, entry}
 use Rattle.one_site.specs.Files.{file_at}
 use Rattle.one_site.specs.Opens.{AreExclusive, AreDistinct}
-use Rattle.one_site.specs.Known.{Site, Known, IsNamed}
+use Rattle.one_site.specs.Known.{Site, Known, IsNamed, AreSmall}
 use Rattle.one_site.specs.Rounds.{RoundsAnswer, RoundsAreCalm, RoundsAreOrderly}
 
 -- the runner between two lines, as a site
@@ -114,6 +114,7 @@ pub record IsRunning (r : Runner) (t : Trace) : Type 0 where
   pub known : Known (site_of r) t
   pub root : IsRoot r.files r.dir
   pub named : AllByRecursion (IsNamed r.serials r.files) r.instances
+  pub small : AreSmall r.files
   pub exclusive : AreExclusive r.instances
   pub distinct : AreDistinct r.instances
   pub used : AllByRecursion (λ x. length (uses_of t x.epoch x.inst) ≡ x.ops + uses_now r.waiting x) r.instances

@@ -7,7 +7,7 @@ ghost use Rattle.one_site.specs.Settle.{stand_of, Nowhere, has_read};
 ghost use Rattle.one_site.specs.Room.{stand_at, instance_at, with_instance, has_content};
 
 use crate::epoch::EPOCH;
-use locus_ids::{Bytes, NoMemory, Serial};
+use locus_ids::{Bytes, ItemList, NoMemory, Serial};
 use std::alloc::Global;
 use std::marker::Model;
 use tree_model::Instance;
@@ -105,17 +105,18 @@ impl Instances {
         instance.fresh = false;
     }
 
-    /// Counts a write at the instance at this place, which has this content after it.
-    pub fn count_write(&mut self, place: usize, content: Bytes)
+    /// Counts a write at the instance at this place, which has this content and these changed pages after it.
+    pub fn count_write(&mut self, place: usize, content: Bytes, changed: ItemList<usize>)
         requires place { place < length self.old }
         requires ops { (instance_at self.old place).ops < 1000 }
-        ensures { self.new ≡ with_instance place (has_content content (instance_at self.old place)) self.old }
+        ensures { self.new ≡ with_instance place (has_content content changed (instance_at self.old place)) self.old }
     {
         let instance = &mut self.items[place];
         instance.ops += 1;
         instance.fresh = false;
         instance.content = content;
         instance.owes = true;
+        instance.changed = changed;
     }
 }
 

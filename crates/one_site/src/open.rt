@@ -12,7 +12,7 @@ use crate::Runner;
 use crate::epoch::{EPOCH, call_id, file_of, serial_of, stamp_of};
 use crate::tell_open::{mode_of, tell_busy_open, tell_done_open, tell_lost_open};
 use dir_list::{LookResult, lookup};
-use locus_ids::{Bytes, Kind, Mode, NoMemory, Refusal};
+use locus_ids::{Bytes, ItemList, Kind, Mode, NoMemory, Refusal};
 use std::alloc::Global;
 use trace_book::{Book, Descriptor, OpenMode};
 use tree_model::Instance;
@@ -194,6 +194,7 @@ impl Runner {
             content: Bytes::from_slice(alloc, self.files.content_of(ino))?,
             owes: false,
             fresh: false,
+            changed: ItemList::new(alloc),
             ops: 0,
         })
     }

@@ -5,7 +5,7 @@ ghost use Rattle.one_site.specs.Room.{HasRoom, stand_at};
 
 use crate::Runner;
 use crate::tell_use::{tell_read, tell_write};
-use file_bytes::{part, written};
+use file_bytes::{pages_written, part, written};
 use locus_ids::{Bytes, NoMemory, Serial};
 use std::alloc::Global;
 use trace_book::Book;
@@ -96,10 +96,18 @@ impl Runner {
         ensures state { OnOk result (self.new ≡ (wrote self.old line inst at bytes (stand_at place self.old.instances)).runner) }
     {
         let instance = self.instances.get(place);
-        let content = written(alloc, instance.content.as_slice(), at, bytes.as_slice())?;
+        let old = instance.content.as_slice();
+        let content = written(alloc, old, at, bytes.as_slice())?;
+        let changed = pages_written(
+            alloc,
+            instance.changed.as_slice(),
+            old,
+            at,
+            bytes.as_slice(),
+        )?;
         let n = instance.ops + 1;
         tell_write(line, self.accepted, inst, n, at, bytes, out)?;
-        self.instances.count_write(place, content);
+        self.instances.count_write(place, content, changed);
         Ok(())
     }
 }

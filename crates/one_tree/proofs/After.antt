@@ -1,6 +1,6 @@
 -- A record that the tree takes leads it where the record leads.
 use Rattle.std.proofs.Common.{◌≡◌, ◌==◌, ℕ, Bool, true, false, ◌&&◌, ◌||◌, cond, ◌∷◌, Option, None, Some, refl, sym, ap, ◌∙◌}
-use Rattle.std.specs.Prelude.{map}
+use Rattle.std.specs.Prelude.{map, filter}
 use Rattle.std.specs.List.{find}
 use Rattle.locus_ids.specs.declared.ids.FileId.{FileId}
 use Rattle.locus_ids.specs.declared.ids.EpochId.{EpochId}
@@ -10,16 +10,18 @@ use Rattle.trace_book.specs.Same.{same_epoch}
 use Rattle.trace_book.specs.Descriptors.{is_in}
 use Rattle.trace_book.specs.declared.record.Record.{Record}
 use Rattle.trace_book.specs.declared.record.Record.TheVariants.{Up, Stopped, Leave, Join, Start, Commit, Release, Adopt}
-use Rattle.tree_model.specs.Trace.{Trace, members_of, is_started, epoch_of, held_in, candidates, granted_to, call_named, history, has_pack, format_stamp, with_held, accepted_as}
+use Rattle.tree_model.specs.Trace.{Trace, members_of, is_started, epoch_of, held_in, candidates, granted_to, call_named, history, has_pack, format_stamp, stored, stored_in, with_held, with_number, accepted_as}
 use Rattle.tree_model.specs.Trace as trace
 use Rattle.one_tree.specs.Rows.{put_first}
-use Rattle.one_tree.specs.Tables.{is_copy_of, is_inside, is_stay_of, has_stayed, left, formatted, now_of, seen_of, seen_from_now, stamps_of, with_brought}
-use Rattle.one_tree.specs.Steps.{copies_left, copies_with, here, known_left, members_left, started_left, stays_left, with_published}
+use Rattle.one_tree.specs.Tables.{is_copy_of, is_inside, is_row_of, is_stay_of, is_stored, has_stayed, left, formatted, now_of, numbers_of, seen_of, seen_from_now, stamps_of, stored_by, with_brought}
+use Rattle.one_tree.specs.Steps.{copies_left, copies_with, here, known_left, members_left, new_copy, started_left, stays_left, with_published}
 use Rattle.one_tree.specs.Standing.{IsSingle, Stands, own_file}
+use Rattle.one_tree.specs.declared.copies.HeldCopy.{HeldCopy}
 use Rattle.one_tree.specs.declared.tree.OneTree.{OneTree}
 use Rattle.one_tree.proofs.Names.{both, same-true}
 use Rattle.one_tree.proofs.SiteSteps.{is_inside-enter, has_stayed-enter, is_inside-left, has_stayed-left, is_in-joined, is_in-left}
 use Rattle.one_tree.proofs.CopySteps.{now-copies_with, seen-copies_with, now-joined, seen-joined, seen-joined_other, single-with, single-joined, held_in-inside}
+use Rattle.one_tree.proofs.StoredSteps.{numbers-put, rows-joined, rows-with, stored-all, stored-joined, stored-joined_other, stored_in-inside, with_number-there}
 use Rattle.one_tree.proofs.KnownSteps.{stamps-with_brought, stamps-published}
 
 abbrev pub then : ℕ → Record → Trace → Trace
@@ -154,6 +156,100 @@ single-after s (Join s0 e members) one = by_epoch (same_epoch e s.epoch)
 single-after s (Commit f s0 stamp parents content) one = single-with s s0 f stamp one
 single-after s (Adopt f s0 stamp) one = single-with s s0 f stamp one
 single-after s _ one = one
+
+-- Stored files.
+
+pub numbers_now-after : (s : OneTree) (t : Trace) (line : ℕ) (r : Record) → Stands s t → (site : ℕ) → stored (then line r t) site s.group ≡ numbers_of (filter (is_row_of site) (copies_left s r))
+numbers_now-after s t line (Join s0 e members) st site = st.numbers_now site ∙ by_epoch (same_epoch e s.epoch)
+  where
+    by_epoch : (b : Bool) → numbers_of (filter (is_row_of site) s.copies) ≡ numbers_of (filter (is_row_of site) (cond b (map (seen_from_now s0) s.copies) s.copies))
+    by_epoch true = sym (rows-joined s0 site s.copies)
+    by_epoch false = refl
+numbers_now-after s t line (Commit f s0 stamp parents content) st site =
+    ap (λ ns. cond ((f.group == s.group) && (s0 == site)) (with_number f.ino ns) ns) (st.numbers_now site) ∙ sym (rows-with s s0 site f stamp)
+numbers_now-after s t line (Adopt f s0 stamp) st site =
+    ap (λ ns. cond ((f.group == s.group) && (s0 == site)) (with_number f.ino ns) ns) (st.numbers_now site) ∙ sym (rows-with s s0 site f stamp)
+numbers_now-after s t line _ st site = st.numbers_now site
+
+numbers-here : (s : OneTree) (t : Trace) → Stands s t → (site : ℕ) → cond (is_in (epoch_of t site) s.epoch) (stored t site s.group) (stored_in t s.epoch site s.group) ≡ stored_by site s.copies
+numbers-here s t st site = stored_in-inside t s.epoch site s.group ∙ st.numbers site
+
+numbers-left : (s : OneTree) (t : Trace) (s0 : ℕ) → Stands s t → (site : ℕ)
+    → cond (is_in (cond (s0 == site) None (epoch_of t site)) s.epoch) (stored t site s.group) (stored_in t s.epoch site s.group) ≡ stored_by site s.copies
+numbers-left s t s0 st site = by_test (s0 == site)
+  where
+    by_test : (b : Bool) → cond (is_in (cond b None (epoch_of t site)) s.epoch) (stored t site s.group) (stored_in t s.epoch site s.group) ≡ stored_by site s.copies
+    by_test true = st.numbers site
+    by_test false = numbers-here s t st site
+
+-- a site that is inside has stored what it has
+all-stored : (s : OneTree) (t : Trace) → Stands s t → (site : ℕ) → is_inside s.stays site ≡ true → stored_by site s.copies ≡ numbers_of (filter (is_row_of site) s.copies)
+all-stored s t st site here =
+    sym (numbers-here s t st site)
+    ∙ ap (λ b. cond b (stored t site s.group) (stored_in t s.epoch site s.group)) (st.inside site ∙ here)
+    ∙ st.numbers_now site
+
+numbers-with : (s : OneTree) (t : Trace) (f : FileId) (s0 : ℕ) (stamp : Stamp) → Stands s t → (site : ℕ)
+    → cond (is_in (epoch_of t site) s.epoch) (cond ((f.group == s.group) && (s0 == site)) (with_number f.ino (stored t site s.group)) (stored t site s.group)) (stored_in t s.epoch site s.group)
+    ≡ stored_by site (copies_with s s0 f stamp)
+numbers-with s t f s0 stamp st site = by_group (f.group == s.group)
+  where
+    as_new : (b : Bool) → is_inside s.stays s0 ≡ b → (row : HeldCopy) → find (is_copy_of s0 f.ino) s.copies ≡ Some row → row.stored ≡ (b || is_stored (find (is_copy_of s0 f.ino) s.copies))
+    as_new true here row e = stored-all s0 f.ino s.copies (all-stored s t st s0 here) row e
+    as_new false out row e = sym (ap is_stored e)
+
+    put : stored_by site (put_first (is_copy_of s0 f.ino) (new_copy s s0 f stamp) s.copies)
+        ≡ cond ((s0 == site) && (is_inside s.stays s0 || is_stored (find (is_copy_of s0 f.ino) s.copies))) (with_number f.ino (stored_by site s.copies)) (stored_by site s.copies)
+    put = numbers-put site s0 f.ino (λ row. row.stored) (new_copy s s0 f stamp) s.copies refl refl (as_new (is_inside s.stays s0) refl)
+
+    outside : (o : Bool) → is_stored (find (is_copy_of site f.ino) s.copies) ≡ o → stored_by site s.copies ≡ cond o (with_number f.ino (stored_by site s.copies)) (stored_by site s.copies)
+    outside true e = sym (with_number-there site f.ino s.copies e)
+    outside false e = refl
+
+    by_inside : (b : Bool) → is_inside s.stays site ≡ b
+        → cond b (with_number f.ino (stored t site s.group)) (stored_in t s.epoch site s.group)
+        ≡ cond (b || is_stored (find (is_copy_of site f.ino) s.copies)) (with_number f.ino (stored_by site s.copies)) (stored_by site s.copies)
+    by_inside true here = ap (with_number f.ino) (st.numbers_now site ∙ sym (all-stored s t st site here))
+    by_inside false out = st.numbers site ∙ outside (is_stored (find (is_copy_of site f.ino) s.copies)) refl
+
+    by_site : (b : Bool) → (s0 == site) ≡ b
+        → cond (is_in (epoch_of t site) s.epoch) (cond b (with_number f.ino (stored t site s.group)) (stored t site s.group)) (stored_in t s.epoch site s.group)
+        ≡ cond (b && (is_inside s.stays s0 || is_stored (find (is_copy_of s0 f.ino) s.copies))) (with_number f.ino (stored_by site s.copies)) (stored_by site s.copies)
+    by_site true e =
+        ap (λ b. cond b (with_number f.ino (stored t site s.group)) (stored_in t s.epoch site s.group)) (st.inside site)
+        ∙ by_inside (is_inside s.stays site) refl
+        ∙ ap (λ n. cond (is_inside s.stays n || is_stored (find (is_copy_of n f.ino) s.copies)) (with_number f.ino (stored_by site s.copies)) (stored_by site s.copies)) (sym (same-true s0 site e))
+    by_site false e = numbers-here s t st site
+
+    by_group : (b : Bool)
+        → cond (is_in (epoch_of t site) s.epoch) (cond (b && (s0 == site)) (with_number f.ino (stored t site s.group)) (stored t site s.group)) (stored_in t s.epoch site s.group)
+        ≡ stored_by site (cond b (put_first (is_copy_of s0 f.ino) (new_copy s s0 f stamp) s.copies) s.copies)
+    by_group true = by_site (s0 == site) refl ∙ sym put
+    by_group false = numbers-here s t st site
+
+numbers-join : (s : OneTree) (t : Trace) (s0 : ℕ) (e : EpochId) → Stands s t → (site : ℕ)
+    → cond (is_in (cond (s0 == site) (Some e) (epoch_of t site)) s.epoch) (stored t site s.group) (stored_in t s.epoch site s.group)
+    ≡ stored_by site (cond (same_epoch e s.epoch) (map (seen_from_now s0) s.copies) s.copies)
+numbers-join s t s0 e st site =
+    ap (λ b. cond b (stored t site s.group) (stored_in t s.epoch site s.group)) (is_in-joined (s0 == site) e s.epoch (epoch_of t site))
+    ∙ by_tests (same_epoch e s.epoch) (s0 == site) refl
+  where
+    by_tests : (a b : Bool) → (s0 == site) ≡ b
+        → cond (cond b a (is_in (epoch_of t site) s.epoch)) (stored t site s.group) (stored_in t s.epoch site s.group) ≡ stored_by site (cond a (map (seen_from_now s0) s.copies) s.copies)
+    by_tests true true q =
+        st.numbers_now site ∙ sym (stored-joined site s.copies) ∙ sym (ap (λ n. stored_by site (map (seen_from_now n) s.copies)) (same-true s0 site q))
+    by_tests true false q = numbers-here s t st site ∙ sym (stored-joined_other s0 site s.copies q)
+    by_tests false true q = st.numbers site
+    by_tests false false q = numbers-here s t st site
+
+pub numbers-after : (s : OneTree) (t : Trace) (line : ℕ) (r : Record) → Stands s t → (site : ℕ) → stored_in (then line r t) s.epoch site s.group ≡ stored_by site (copies_left s r)
+numbers-after s t line (Join s0 e members) st site = numbers-join s t s0 e st site
+numbers-after s t line (Leave s0 e) st site = numbers-left s t s0 st site
+numbers-after s t line (Stopped s0 cause) st site = numbers-left s t s0 st site
+numbers-after s t line (Up s0 boot) st site = numbers-left s t s0 st site
+numbers-after s t line (Commit f s0 stamp parents content) st site = numbers-with s t f s0 stamp st site
+numbers-after s t line (Adopt f s0 stamp) st site = numbers-with s t f s0 stamp st site
+numbers-after s t line _ st site = numbers-here s t st site
 
 -- Known versions.
 

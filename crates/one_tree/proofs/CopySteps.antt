@@ -98,14 +98,14 @@ seen-copies_with s s0 site ino f stamp d =
 copy-seen_from_now : (s0 site ino : ℕ) (row : HeldCopy) → is_copy_of site ino (seen_from_now s0 row) ≡ is_copy_of site ino row
 copy-seen_from_now s0 site ino row = by_test (row.site == s0)
   where
-    by_test : (b : Bool) → is_copy_of site ino (cond b (record row { seen = Some row.now }) row) ≡ is_copy_of site ino row
+    by_test : (b : Bool) → is_copy_of site ino (cond b (record row { seen = Some row.now; stored = true }) row) ≡ is_copy_of site ino row
     by_test true = refl
     by_test false = refl
 
 now-seen_from_now : (s0 : ℕ) (row : HeldCopy) → (seen_from_now s0 row).now ≡ row.now
 now-seen_from_now s0 row = by_test (row.site == s0)
   where
-    by_test : (b : Bool) → (cond b (record row { seen = Some row.now }) row).now ≡ row.now
+    by_test : (b : Bool) → (cond b (record row { seen = Some row.now; stored = true }) row).now ≡ row.now
     by_test true = refl
     by_test false = refl
 
@@ -127,7 +127,7 @@ seen-joined site ino (row ∷ rows) d =
   where
     by_test : (a b : Bool)
         → seen_of (find (is_copy_of site ino) (map (seen_from_now site) rows)) d ≡ now_of (find (is_copy_of site ino) rows) d
-        → seen_of (cond (a && b) (Some (cond a (record row { seen = Some row.now }) row)) (find (is_copy_of site ino) (map (seen_from_now site) rows))) d
+        → seen_of (cond (a && b) (Some (cond a (record row { seen = Some row.now; stored = true }) row)) (find (is_copy_of site ino) (map (seen_from_now site) rows))) d
         ≡ now_of (cond (a && b) (Some row) (find (is_copy_of site ino) rows)) d
     by_test true true rest = refl
     by_test true false rest = rest
@@ -146,7 +146,7 @@ seen-joined_other s0 site ino (row ∷ rows) d n =
 
     by_test : (a b : Bool) → (row.site == s0) ≡ a → is_copy_of site ino row ≡ b
         → seen_of (find (is_copy_of site ino) (map (seen_from_now s0) rows)) d ≡ seen_of (find (is_copy_of site ino) rows) d
-        → seen_of (cond b (Some (cond a (record row { seen = Some row.now }) row)) (find (is_copy_of site ino) (map (seen_from_now s0) rows))) d
+        → seen_of (cond b (Some (cond a (record row { seen = Some row.now; stored = true }) row)) (find (is_copy_of site ino) (map (seen_from_now s0) rows))) d
         ≡ seen_of (cond b (Some row) (find (is_copy_of site ino) rows)) d
     by_test true true t own rest = absurd (not_both t own)
     by_test false true t own rest = refl
@@ -199,7 +199,7 @@ pub single-joined : (s0 : ℕ) (rows : List HeldCopy) → IsSingle rows → IsSi
 single-joined s0 [] one = tt
 single-joined s0 (row ∷ rows) one = (by_test (row.site == s0), single-joined s0 rows one.1)
   where
-    by_test : (b : Bool) → find (is_copy_of (cond b (record row { seen = Some row.now }) row).site (cond b (record row { seen = Some row.now }) row).ino) (map (seen_from_now s0) rows) ≡ None
+    by_test : (b : Bool) → find (is_copy_of (cond b (record row { seen = Some row.now; stored = true }) row).site (cond b (record row { seen = Some row.now; stored = true }) row).ino) (map (seen_from_now s0) rows) ≡ None
     by_test true = find-joined_none s0 row.site row.ino rows one.0
     by_test false = find-joined_none s0 row.site row.ino rows one.0
 

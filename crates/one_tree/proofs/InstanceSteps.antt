@@ -16,12 +16,13 @@ use Rattle.trace_book.specs.declared.operation.Outcome.{Outcome}
 use Rattle.tree_model.specs.declared.instance.Instance.{Instance}
 use Rattle.tree_model.specs.Directory.{is_refusal}
 use Rattle.tree_model.specs.Trace.{Trace, history}
-use Rattle.tree_model.specs.Tree.{acted, carried_out, committed, is_named, openers, opener_of, stamped_content, where_it, without_it}
-use Rattle.tree_model.specs.OneTree.{first_of}
-use Rattle.one_tree.specs.Seen.{content_at, content_left, counted, owes_left, worked}
+use Rattle.tree_model.specs.Tree.{acted, carried_out, committed, is_named, openers, opener_of, stamped_content, tree, where_it, without_it}
+use Rattle.tree_model.specs.OneTree.{first_of, instance_named}
+use Rattle.one_tree.specs.Seen.{changed_left, content_at, content_left, counted, owes_left, worked}
 use Rattle.one_tree.specs.Steps.{acted_by}
-use Rattle.one_tree.specs.Standing.{is_of_epoch}
-use Rattle.one_tree.proofs.Names.{same_epoch-true, both}
+use Rattle.one_tree.specs.Standing.{Stands, is_of_epoch}
+use Rattle.one_tree.specs.declared.tree.OneTree.{OneTree}
+use Rattle.one_tree.proofs.Names.{same_epoch-refl, same_epoch-true, both}
 
 -- the instances of one kind, where the first that passes is changed and stays of its kind
 pub filter-where_it : (q p : Instance → Bool) (change : Instance → Instance) (xs : List Instance) → ((x : Instance) → p x ≡ true → q x ≡ true)
@@ -77,7 +78,7 @@ first_of-filter q p (x ∷ xs) inner = ⊎_elim
     later true n rest = rw n rest
     later false n rest = rest
 
-filter-filter : (q r : Instance → Bool) (xs : List Instance) → ((x : Instance) → r x ≡ true → q x ≡ true) → filter r xs ≡ filter r (filter q xs)
+pub filter-filter : (q r : Instance → Bool) (xs : List Instance) → ((x : Instance) → r x ≡ true → q x ≡ true) → filter r xs ≡ filter r (filter q xs)
 filter-filter q r [] inner = refl
 filter-filter q r (x ∷ xs) inner = ⊎_elim
     (λ (t : r x ≡ true). rw (t, inner x t, t) (ap (λ ys. x ∷ ys) (filter-filter q r xs inner)))
@@ -103,8 +104,8 @@ pub committed-epoch : (e : EpochId) (stamp : Stamp) (x : Instance) → is_of_epo
 committed-epoch e stamp x = refl
 
 -- what an operation does to an instance, by the history
-carried_out-worked : (c : Config) (t : Trace) (n : ℕ) (o : Op) (x : Instance) → carried_out c t n o x ≡ worked n (content_left (history c t) o x) (owes_left o x) x
-carried_out-worked c t n op.Abort x = ap (λ bytes. worked n bytes (owes_left op.Abort x) x) (by_stamp x.last)
+carried_out-worked : (c : Config) (t : Trace) (n : ℕ) (o : Op) (x : Instance) → carried_out c t n o x ≡ worked n (content_left (history c t) o x) (owes_left o x) (changed_left o x) x
+carried_out-worked c t n op.Abort x = ap (λ bytes. worked n bytes (owes_left op.Abort x) (changed_left op.Abort x) x) (by_stamp x.last)
   where
     by_stamp : (o : Option Stamp) → stamped_content c t x.file o ≡ content_at (history c t) x.file o
     by_stamp None = refl
@@ -121,6 +122,11 @@ where_it-same p f g (x ∷ xs) same = ap (λ y. cond (p x) (y ∷ xs) (x ∷ whe
 pub acted_by-epoch : (e : EpochId) (c : Config) (t : Trace) (n : ℕ) (o : Op) (result : Outcome) (x : Instance) → is_of_epoch e (acted_by (history c t) n o result x) ≡ is_of_epoch e x
 acted_by-epoch e c t n o result x = by_test (is_refusal result)
   where
-    by_test : (b : Bool) → is_of_epoch e (cond b (counted n x) (worked n (content_left (history c t) o x) (owes_left o x) x)) ≡ is_of_epoch e x
+    by_test : (b : Bool) → is_of_epoch e (cond b (counted n x) (worked n (content_left (history c t) o x) (owes_left o x) (changed_left o x) x)) ≡ is_of_epoch e x
     by_test true = refl
     by_test false = refl
+
+-- the open instance of a name
+pub named-now : (s : OneTree) (t : Trace) → Stands s t → (i : Serial) → instance_named s.config t s.epoch i ≡ find (is_named s.epoch i) s.instances
+named-now s t st i =
+    first_of-filter (is_of_epoch s.epoch) (is_named s.epoch i) (tree s.config t) (named-inner s.epoch s.epoch i (same_epoch-refl s.epoch)) ∙ ap (find (is_named s.epoch i)) st.instances

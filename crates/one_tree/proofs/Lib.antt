@@ -7,6 +7,10 @@ pub mod SiteSteps
 pub mod CopySteps
 pub mod KnownSteps
 pub mod InstanceSteps
+pub mod StoredSteps
+pub mod Owners
+pub mod Rooms
+pub mod Spent
 pub mod After
 pub mod TreeAfter
 pub mod Stepping

@@ -1,6 +1,6 @@
 -- What the tables tell of looks, grants and refusals, where they stand as the records lead them.
-use Rattle.std.proofs.Common.{◌≡◌, ◌==◌, ◌≤◌, ◌<◌, ◌+◌, ◌*◌, ℕ, Bool, true, false, not, ◌&&◌, cond, List, [], ◌∷◌, Option, None, Some, refl, sym, ap, ◌∙◌, ⊎_elim, arith, ◌⊎◌}
-use Rattle.std.specs.Prelude.{nat_lt, nat_le}
+use Rattle.std.proofs.Common.{◌≡◌, ◌==◌, ◌≤◌, ◌<◌, ◌+◌, ◌*◌, ℕ, Bool, true, false, not, ◌&&◌, cond, List, [], ◌∷◌, length, Option, None, Some, refl, sym, ap, ◌∙◌, ⊎_elim, arith, ◌⊎◌, inl, inr}
+use Rattle.std.specs.Prelude.{filter, nat_lt, nat_le}
 use Rattle.std.proofs.lemmas.Bool.{false≢true, ltb-true, lt-ltb}
 use Rattle.std.proofs.lemmas.Bool.Decides.{leb_tells}
 use Rattle.locus_ids.specs.declared.sites.Sites.{Sites}
@@ -21,17 +21,20 @@ use Rattle.trace_book.specs.declared.operation.Served.TheVariants as served
 use Rattle.tree_model.specs.declared.instance.Waiting.{Waiting}
 use Rattle.tree_model.specs.Trace.{Trace, is_started, held_in, kept_in, call_named, history, members_of, sync_site, sync_site_among, or_else}
 use Rattle.tree_model.specs.Tree.{tree, openers, is_none}
-use Rattle.tree_model.specs.OneTree.{GivesGrant, GivesLook, GivesRefusal, IsNewFile, IsOfSite, IsUnnumbered, Placed, is_good_list, is_kept, is_kept_stamp, list_of, making_set, making_site, of_call, open_refusal, place_refusal, resolving_site, served_by, site_named, sites_named, wanted_packs}
+use Rattle.tree_model.specs.OneTree.{GivesGrant, GivesLook, GivesRefusal, IsNewFile, IsOfSite, IsUnnumbered, MayLackNumber, Placed, Refuses, is_given_by, is_good_list, is_kept, is_kept_stamp, is_make, is_site, making_set, making_site, makes, makes_at, numbers_used, of_call, open_refusal, place_refusal, resolving_site, root_numbers, served_by, site_named, sites_named, wanted_packs}
 use Rattle.tree_model.specs.OneTree as one
+use Rattle.tree_model.specs.Room.{list_of}
 use Rattle.one_tree.specs.Rows.{told_by}
 use Rattle.one_tree.specs.Seen.{seen_call}
 use Rattle.one_tree.specs.Told.{refusal_of, is_at, is_unserved_storage}
-use Rattle.one_tree.specs.Checks.{busy_by, call_row, gives_grant, gives_look, gives_refusal, grant_row, holds_kept, is_list_of, is_new, is_of_site, is_placed, is_served, is_taken, is_this, is_unnumbered, kept_denial, kept_now, making_site_by, open_denial, place_denial, resolving_by, same_option, seen_now, sites_by, unless}
+use Rattle.one_tree.specs.Checks.{busy_by, call_row, gives_grant, gives_look, gives_refusal, grant_row, holds_kept, is_list_of, is_new, is_of_site, is_placed, is_served, is_taken, is_this, is_unnumbered, kept_denial, kept_now, lacks_numbers, making_place, making_site_by, numbers_taken, open_denial, place_denial, resolving_by, same_option, seen_now, sites_by, unless}
+use Rattle.one_tree.specs.Tables.{stored_by}
 use Rattle.one_tree.specs.Standing.{Stands, own_file}
 use Rattle.one_tree.specs.declared.told.Denial.{Denial}
 use Rattle.one_tree.specs.declared.told.Denial.TheVariants as denial
 use Rattle.one_tree.specs.declared.calls.Granted.{Granted}
 use Rattle.one_tree.specs.declared.tree.OneTree.{OneTree}
+use Rattle.one_tree.proofs.Names.{both}
 use Rattle.one_tree.proofs.InstanceSteps.{openers-filter}
 use Rattle.one_tree.proofs.Tells.{Tells, tells_and, tells_as, tells_at, tells_false, tells_itself, tells_list, tells_none, tells_nothing, tells_number, tells_option, tells_refused, tells_this, tells_unserved_conflict, tells_unserved_storage}
 
@@ -161,6 +164,42 @@ open-now s t st mode.Write call ino = ordinary s t st mode.Write call ino
 open-now s t st mode.Resolve call ino = ordinary s t st mode.Resolve call ino
 open-now s t st mode.Mend call ino = ordinary s t st mode.Mend call ino
 
+site-by : (s : OneTree) (t : Trace) → Stands s t → (own : ℕ) (set : Sites) → making_site_by s.config s.members s.group own set ≡ making_site s.config t s.epoch s.group own set
+unfolding making_site_by
+site-by s t st own set = ap (λ m. making_site_by s.config m s.group own set) (sym st.members)
+
+site-now : (s : OneTree) (t : Trace) → Stands s t → (call : CallId)
+    → making_site_by s.config s.members s.group call.site (wanted_packs s.config s.group (sites_by (call_row s call))) ≡ making_site s.config t s.epoch s.group call.site (making_set s.config t call s.group)
+site-now s t st call =
+    ap (making_site_by s.config s.members s.group call.site) (set-now s t st call) ∙ site-by s t st call.site (making_set s.config t call s.group)
+
+-- Numbers.
+
+filter-same : {X : Type 0} (p q : X → Bool) (xs : List X) → ((x : X) → p x ≡ q x) → filter p xs ≡ filter q xs
+filter-same p q [] same = refl
+filter-same p q (x ∷ xs) same = ap (λ b. cond b (x ∷ filter p xs) (filter p xs)) (same x) ∙ ap (λ ys. cond (q x) (x ∷ ys) ys) (filter-same p q xs same)
+
+makes-now : (s : OneTree) (t : Trace) → Stands s t → (site : ℕ) → makes_at s.config t s.epoch s.group site ≡ filter (λ call. is_site (making_place s call) site) s.makes
+makes-now s t st site =
+    filter-same (λ call. is_site (making_site s.config t s.epoch s.group call.site (making_set s.config t call s.group)) site) (λ call. is_site (making_place s call) site)
+    (makes s.config t s.epoch s.group) (λ call. ap (λ o. is_site o site) (sym (site-now s t st call)))
+    ∙ ap (filter (λ call. is_site (making_place s call) site)) st.underway
+
+used-now : (s : OneTree) (t : Trace) → Stands s t → (site : ℕ) → numbers_used s.config t s.epoch s.group site ≡ numbers_taken s site
+used-now s t st site =
+    ap (λ ns. length (filter (is_given_by site) ns) + root_numbers site (held_in s.config t s.epoch site (own_file s 1))) (st.numbers site)
+    ∙ ap (λ o. length (filter (is_given_by site) (stored_by site s.copies)) + root_numbers site o) (st.seen site 1)
+
+lacks-at : (s : OneTree) (t : Trace) → Stands s t → (o : Option ℕ) → one.lacks_numbers s.config t s.epoch s.group o ≡ lacks_numbers s o
+lacks-at s t st None = refl
+lacks-at s t st (Some site) =
+    ap (λ n. nat_le 64 (n + length (makes_at s.config t s.epoch s.group site))) (used-now s t st site)
+    ∙ ap (λ (calls : List CallId). nat_le 64 (numbers_taken s site + length calls)) (makes-now s t st site)
+
+lacks-now : (s : OneTree) (t : Trace) → Stands s t → (call : CallId)
+    → one.lacks_numbers s.config t s.epoch s.group (making_site s.config t s.epoch s.group call.site (making_set s.config t call s.group)) ≡ lacks_numbers s (making_place s call)
+lacks-now s t st call = ap (one.lacks_numbers s.config t s.epoch s.group) (sym (site-now s t st call)) ∙ lacks-at s t st (making_place s call)
+
 tells_unnumbered : (m : Mode) (f : FileId) → Tells (is_unnumbered m f) (IsUnnumbered m f)
 tells_unnumbered mode.Make f = tells_number f.ino 0
 tells_unnumbered mode.Read f = record { yes = λ e. tt; told = λ e. refl }
@@ -172,12 +211,32 @@ pub tells_gives_refusal : (s : OneTree) (t : Trace) → Stands s t → (call : C
     → Tells (gives_refusal s (history s.config t) call m (own_file s ino) r) (GivesRefusal s.config t s.epoch call m (own_file s ino) r)
 tells_gives_refusal s t st call m ino r =
     tells_as (gives_refusal s (history s.config t) call m (own_file s ino) r)
-    (((is_started t s.epoch s.group ≡ true) × IsUnnumbered m (own_file s ino)) × (told_by refusal_of (open_denial s (history s.config t) m call (own_file s ino)) ≡ Some r)) _
-    (λ e. record { started = e.0.0; refused = sym (open-now s t st m call ino) ∙ e.1; unnumbered = e.0.1 })
-    (λ g. ((g.started, g.unnumbered), open-now s t st m call ino ∙ g.refused))
+    (((is_started t s.epoch s.group ≡ true) × IsUnnumbered m (own_file s ino))
+    × ((told_by refusal_of (open_denial s (history s.config t) m call (own_file s ino)) ≡ Some r)
+    ⊎ ((told_by refusal_of (open_denial s (history s.config t) m call (own_file s ino)) ≡ None) × (((is_make m && lacks_numbers s (making_place s call)) ≡ true) × (r ≡ why.NoInode))))) _
+    (λ e. record { started = e.0.0; refused = to e.1; unnumbered = e.0.1 })
+    (λ g. ((g.started, g.unnumbered), from g.refused))
     (tells_and (s.started && is_unnumbered m (own_file s ino)) _ _ _
     (tells_and s.started (is_unnumbered m (own_file s ino)) _ _ (tells_started s t st) (tells_unnumbered m (own_file s ino)))
-    (tells_refused (open_denial s (history s.config t) m call (own_file s ino)) r))
+    (tells_refused (open_denial s (history s.config t) m call (own_file s ino)) (is_make m && lacks_numbers s (making_place s call)) r))
+  where
+    to : (told_by refusal_of (open_denial s (history s.config t) m call (own_file s ino)) ≡ Some r)
+        ⊎ ((told_by refusal_of (open_denial s (history s.config t) m call (own_file s ino)) ≡ None) × (((is_make m && lacks_numbers s (making_place s call)) ≡ true) × (r ≡ why.NoInode)))
+        → Refuses s.config t s.epoch m call (own_file s ino) r
+    to w = ⊎_elim
+        (λ e. inl (sym (open-now s t st m call ino) ∙ e))
+        (λ p. let two = both (is_make m) (lacks_numbers s (making_place s call)) p.1.0 in
+        inr (record { make = two.0; free = sym (open-now s t st m call ino) ∙ p.0; lacks = lacks-now s t st call ∙ two.1; why = p.1.1 }))
+        w
+
+    from : Refuses s.config t s.epoch m call (own_file s ino) r
+        → (told_by refusal_of (open_denial s (history s.config t) m call (own_file s ino)) ≡ Some r)
+        ⊎ ((told_by refusal_of (open_denial s (history s.config t) m call (own_file s ino)) ≡ None) × (((is_make m && lacks_numbers s (making_place s call)) ≡ true) × (r ≡ why.NoInode)))
+    from w = ⊎_elim
+        (λ e. inl (open-now s t st m call ino ∙ e))
+        (λ (g : MayLackNumber s.config t s.epoch m call (own_file s ino) r).
+        inr (open-now s t st m call ino ∙ g.free, (ap (λ b. b && lacks_numbers s (making_place s call)) g.make ∙ sym (lacks-now s t st call) ∙ g.lacks, g.why)))
+        w
 
 -- Grants.
 
@@ -201,15 +260,6 @@ tells_of_site site ino =
     (tells_and (nat_lt (64 * site) (ino + 64) && nat_le ino (64 * site)) (nat_lt 1 ino) _ _
     (tells_and (nat_lt (64 * site) (ino + 64)) (nat_le ino (64 * site)) _ _ (tells_below (64 * site) (ino + 64)) (tells_most ino (64 * site)))
     (tells_below 1 ino))
-
-site-by : (s : OneTree) (t : Trace) → Stands s t → (own : ℕ) (set : Sites) → making_site_by s.config s.members s.group own set ≡ making_site s.config t s.epoch s.group own set
-unfolding making_site_by
-site-by s t st own set = ap (λ m. making_site_by s.config m s.group own set) (sym st.members)
-
-site-now : (s : OneTree) (t : Trace) → Stands s t → (call : CallId)
-    → making_site_by s.config s.members s.group call.site (wanted_packs s.config s.group (sites_by (call_row s call))) ≡ making_site s.config t s.epoch s.group call.site (making_set s.config t call s.group)
-site-now s t st call =
-    ap (making_site_by s.config s.members s.group call.site) (set-now s t st call) ∙ site-by s t st call.site (making_set s.config t call s.group)
 
 tells_new : (s : OneTree) (t : Trace) → Stands s t → (call : CallId) (ino ss : ℕ) → Tells (is_new s call (own_file s ino) ss) (IsNewFile s.config t s.epoch call (own_file s ino) ss)
 tells_new s t st call ino ss =

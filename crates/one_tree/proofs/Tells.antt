@@ -1,5 +1,5 @@
 -- Tests that tell facts.
-use Rattle.std.proofs.Common.{◌≡◌, ◌==◌, ℕ, Bool, true, false, not, ◌&&◌, List, [], ◌∷◌, Option, None, Some, refl, sym, ap, ◌∙◌}
+use Rattle.std.proofs.Common.{◌≡◌, ◌==◌, ℕ, Bool, true, false, not, ◌&&◌, List, [], ◌∷◌, Option, None, Some, refl, sym, ap, ◌∙◌, ◌⊎◌, ⊎_elim, inl, inr}
 use Rattle.std.specs.Str.{bytes_eq}
 use Rattle.std.proofs.lemmas.Bool.{false≢true}
 use Rattle.std.proofs.lemmas.Slice.Eq.{bytes_eq-Decides}
@@ -15,9 +15,9 @@ use Rattle.trace_book.specs.declared.operation.Served.TheVariants as served
 use Rattle.trace_book.specs.declared.operation.Outcome.{Outcome}
 use Rattle.trace_book.specs.declared.operation.Outcome.TheVariants as outcome
 use Rattle.tree_model.specs.Tree.{is_none}
-use Rattle.tree_model.specs.OneTree.{list_of}
+use Rattle.tree_model.specs.Room.{list_of}
 use Rattle.one_tree.specs.Rows.{told_by}
-use Rattle.one_tree.specs.Told.{is_at, is_committed, is_data, is_done, is_found, is_no_absent, is_no_ambiguous, is_no_exists, is_no_too_long, is_told, is_unserved_conflict, is_unserved_storage, refusal_of, same_kind}
+use Rattle.one_tree.specs.Told.{is_at, is_committed, is_data, is_done, is_found, is_no_absent, is_no_ambiguous, is_no_exists, is_no_inode, is_no_space, is_no_too_long, is_told, is_unserved_conflict, is_unserved_storage, refusal_of, same_kind}
 use Rattle.one_tree.specs.Checks.{is_list_of, is_refused, is_this, same_option}
 use Rattle.one_tree.specs.declared.told.Denial.{Denial}
 use Rattle.one_tree.specs.declared.told.Denial.TheVariants as denial
@@ -93,6 +93,15 @@ tells_list (Some s) [] = never _ (λ (e : ◌≡◌ {A = List Stamp} [] (s ∷ [
 tells_list (Some s) (a ∷ []) = tells_as (same_stamp a s) (a ≡ s) _ (λ e. ap (λ x. x ∷ []) e) (λ (e : ◌≡◌ {A = List Stamp} (a ∷ []) (s ∷ [])). cc) (tells_stamp a s)
 tells_list (Some s) (a ∷ b ∷ rest) = never _ (λ (e : ◌≡◌ {A = List Stamp} (a ∷ b ∷ rest) (s ∷ [])). cc)
 
+none_some : {X : Type 0} (x : X) → ◌≡◌ {A = Option X} None (Some x) → ⊥
+none_some x e = cc
+
+some_none : {X : Type 0} (x : X) → ◌≡◌ {A = Option X} (Some x) None → ⊥
+some_none x e = cc
+
+some_eq : {X : Type 0} (x y : X) → ◌≡◌ {A = Option X} (Some x) (Some y) → x ≡ y
+some_eq x y e = cc
+
 -- What records tell.
 
 pub tells_refusal : (d : Denial) (r : Refusal) → Tells (is_told d r) (r ≡ refusal_of d)
@@ -113,10 +122,21 @@ tells_refusal denial.NoStorage r = record { yes = λ h. absurd (false≢true h);
 tells_refusal denial.NoConflict why.NoConflict = record { yes = λ e. refl; told = λ e. refl }
 tells_refusal denial.NoConflict r = record { yes = λ h. absurd (false≢true h); told = λ e. cc }
 
-pub tells_refused : (o : Option Denial) (r : Refusal) → Tells (is_refused o r) (told_by refusal_of o ≡ Some r)
-tells_refused None r = never _ (λ (e : ◌≡◌ {A = Option Refusal} None (Some r)). cc)
-tells_refused (Some d) r =
-    tells_as (is_told d r) (r ≡ refusal_of d) _ (λ e. ap (λ x. Some x) (sym e)) (λ (e : ◌≡◌ {A = Option Refusal} (Some (refusal_of d)) (Some r)). cc) (tells_refusal d r)
+tells_no_inode : (r : Refusal) → Tells (is_no_inode r) (r ≡ why.NoInode)
+tells_no_inode why.NoInode = record { yes = λ e. refl; told = λ e. refl }
+tells_no_inode r = record { yes = λ h. absurd (false≢true h); told = λ e. cc }
+
+-- what refuses an open is told, or that a make which nothing refuses lacks a number
+pub tells_refused : (o : Option Denial) (lacks : Bool) (r : Refusal)
+    → Tells (is_refused o lacks r) ((told_by refusal_of o ≡ Some r) ⊎ ((told_by refusal_of o ≡ None) × ((lacks ≡ true) × (r ≡ why.NoInode))))
+tells_refused None lacks r =
+    tells_as (lacks && is_no_inode r) ((lacks ≡ true) × (r ≡ why.NoInode)) _ (λ p. inr (refl, p))
+    (λ w. ⊎_elim (λ (e : ◌≡◌ {A = Option Refusal} None (Some r)). absurd (none_some r e)) (λ p. p.1) w)
+    (tells_and lacks (is_no_inode r) _ _ (tells_itself lacks) (tells_no_inode r))
+tells_refused (Some d) lacks r =
+    tells_as (is_told d r) (r ≡ refusal_of d) _ (λ e. inl (ap (λ x. Some x) (sym e)))
+    (λ w. ⊎_elim (λ (e : ◌≡◌ {A = Option Refusal} (Some (refusal_of d)) (Some r)). sym (some_eq (refusal_of d) r e)) (λ p. absurd (some_none (refusal_of d) p.0)) w)
+    (tells_refusal d r)
 
 pub tells_at : (s : Stamp) (r : Served) → Tells (is_at s r) (r ≡ served.At s)
 tells_at s (served.At told) = tells_as (same_stamp told s) (told ≡ s) _ (λ e. ap (λ x. served.At x) e) (λ (e : served.At told ≡ served.At s). cc) (tells_stamp told s)
@@ -157,6 +177,14 @@ tells_committed s r = record { yes = λ h. absurd (false≢true h); told = λ e.
 pub tells_too_long : (r : Outcome) → Tells (is_no_too_long r) (r ≡ outcome.No why.TooLong)
 tells_too_long (outcome.No why.TooLong) = record { yes = λ e. refl; told = λ e. refl }
 tells_too_long r = record { yes = λ h. absurd (false≢true h); told = λ e. cc }
+
+pub tells_no_space : (needed free : ℕ) (r : Outcome) → Tells (is_no_space needed free r) (r ≡ outcome.No (why.NoSpace needed free))
+tells_no_space needed free (outcome.No (why.NoSpace n f)) =
+    tells_as ((n == needed) && (f == free)) ((n ≡ needed) × (f ≡ free)) _
+    (λ e. ap (λ k. outcome.No (why.NoSpace k f)) e.0 ∙ ap (λ k. outcome.No (why.NoSpace needed k)) e.1)
+    (λ (e : outcome.No (why.NoSpace n f) ≡ outcome.No (why.NoSpace needed free)). let first : n ≡ needed = cc in let second : f ≡ free = cc in (first, second))
+    (tells_and (n == needed) (f == free) (n ≡ needed) (f ≡ free) (tells_number n needed) (tells_number f free))
+tells_no_space needed free r = record { yes = λ h. absurd (false≢true h); told = λ e. cc }
 
 pub tells_exists : (ino : ℕ) (r : Outcome) → Tells (is_no_exists ino r) (r ≡ outcome.No (why.Exists ino))
 tells_exists ino (outcome.No (why.Exists told)) = tells_as (told == ino) (told ≡ ino) _ (λ e. ap (λ x. outcome.No (why.Exists x)) e) (λ (e : outcome.No (why.Exists told) ≡ outcome.No (why.Exists ino)). cc) (tells_number told ino)

@@ -1,6 +1,7 @@
 -- Instances, grants and calls after a record that the tree takes.
-use Rattle.std.proofs.Common.{◌≡◌, ℕ, Bool, true, false, ◌&&◌, ◌||◌, cond, List, [], ◌∷◌, ◌++◌, Option, None, Some, refl, sym, ap, ◌∙◌}
+use Rattle.std.proofs.Common.{◌≡◌, ◌==◌, ℕ, Bool, true, false, ◌&&◌, ◌||◌, cond, List, [], ◌∷◌, ◌++◌, Option, None, Some, refl, sym, ap, ◌∙◌}
 use Rattle.std.specs.Prelude.{filter}
+use Rattle.std.specs.List.{find, list_all}
 use Rattle.std.proofs.lemmas.Bool.{false≢true}
 use Rattle.locus_ids.specs.declared.ids.FileId.{FileId}
 use Rattle.locus_ids.specs.declared.ids.EpochId.{EpochId}
@@ -13,24 +14,26 @@ use Rattle.commit_graph.specs.Versions.{same_file}
 use Rattle.trace_book.specs.Same.{same_epoch, same_serial, same_call}
 use Rattle.trace_book.specs.Descriptors.{is_in}
 use Rattle.trace_book.specs.declared.record.Record.{Record}
-use Rattle.trace_book.specs.declared.record.Record.TheVariants.{Accept, Grant, Act, Commit, Release}
+use Rattle.trace_book.specs.declared.record.Record.TheVariants.{Accept, Grant, Refuse, Act, Commit, Release}
 use Rattle.tree_model.specs.declared.instance.Instance.{Instance}
 use Rattle.tree_model.specs.declared.instance.Waiting.{Waiting}
 use Rattle.tree_model.specs.Trace.{Trace, epoch_of, granted_to, call_named, history}
 use Rattle.tree_model.specs.Trace as trace
-use Rattle.tree_model.specs.Tree.{tree, opened, acted, committed, is_named, is_writer, process_of, stamped_content, where_it, without_it}
-use Rattle.tree_model.specs.OneTree.{granted_group}
+use Rattle.tree_model.specs.Tree.{tree, opened, acted, committed, is_named, is_none, is_writer, process_of, stamped_content, where_it, without_it}
+use Rattle.tree_model.specs.Directory.{is_refusal}
+use Rattle.tree_model.specs.OneTree.{granted_group, instance_named, is_group, is_make, is_passed_probe, maker_of, makes, with_make, without_make}
 use Rattle.one_tree.specs.Rows.{latest, told_by}
 use Rattle.one_tree.specs.Tables.{is_inside}
-use Rattle.one_tree.specs.Seen.{content_at, is_call_row, is_grant_row, seen_call}
-use Rattle.one_tree.specs.Checks.{call_row, grant_row, is_taken, process_by}
-use Rattle.one_tree.specs.Steps.{accepted_row, acted_by, calls_left, grants_left, group_by, instances_left, opened_by}
-use Rattle.one_tree.specs.Standing.{Stands, is_of_epoch}
+use Rattle.one_tree.specs.Seen.{changed_left, content_at, content_left, counted, is_call_row, is_grant_row, owes_left, seen_call, worked}
+use Rattle.one_tree.specs.Checks.{call_row, grant_row, is_placed, is_taken, process_by}
+use Rattle.one_tree.specs.Steps.{accepted_row, acted_by, calls_left, gives, grants_left, group_by, instances_left, is_own, makes_left, opened_by}
+use Rattle.one_tree.specs.Standing.{Stands, is_granted_in, is_of_epoch}
 use Rattle.one_tree.specs.declared.calls.Granted.{Granted}
 use Rattle.one_tree.specs.declared.tree.OneTree.{OneTree}
-use Rattle.one_tree.proofs.Names.{both, same_epoch-refl, same_epoch-true}
+use Rattle.one_tree.proofs.Names.{both, same_epoch-refl, same_epoch-true, same_serial-refl}
 use Rattle.one_tree.proofs.Finding.{latest-push, list_any-push, filter-push}
-use Rattle.one_tree.proofs.InstanceSteps.{filter-where_it, filter-where_it_other, filter-without_it, filter-without_it_other, named-inner, named-outer, acted-acted_by, where_it-same, acted_by-epoch}
+use Rattle.one_tree.proofs.InstanceSteps.{filter-where_it, filter-where_it_other, filter-without_it, filter-without_it_other, named-inner, named-now, named-outer, acted-acted_by, where_it-same, acted_by-epoch}
+use Rattle.one_tree.proofs.Owners.{all-push, all-where_it, all-without_it, owner-opened, owner-push}
 use Rattle.one_tree.proofs.After.{then}
 
 -- Instances.
@@ -39,7 +42,7 @@ process_of-seen : (o : Option Waiting) → process_of o ≡ process_by (told_by 
 process_of-seen None = refl
 process_of-seen (Some w) = refl
 
-stamped-at : (s : OneTree) (t : Trace) (f : FileId) (o : Option Stamp) → stamped_content s.config t f o ≡ content_at (history s.config t) f o
+pub stamped-at : (s : OneTree) (t : Trace) (f : FileId) (o : Option Stamp) → stamped_content s.config t f o ≡ content_at (history s.config t) f o
 stamped-at s t f None = refl
 stamped-at s t f (Some stamp) = refl
 
@@ -58,6 +61,7 @@ made e call i mode f stamp ss owes process content = record {
   content = content;
   owes = owes;
   fresh = false;
+  changed = [];
   ops = 0;
 }
 
@@ -180,3 +184,80 @@ calls-after s t line (Accept site process c words) st call =
     ∙ ap (λ o. cond (same_call c call) (Some (accepted_row c process words)) o) (st.calls call)
     ∙ sym (latest-push (is_call_row call) s.calls (accepted_row c process words))
 calls-after s t line _ st call = st.calls call
+
+-- Owners.
+
+none-none : {X : Type 0} (o : Option X) → is_none o ≡ true → o ≡ None
+none-none None e = refl
+none-none (Some x) e = absurd (false≢true e)
+
+pub owners-after : (s : OneTree) (t : Trace) (h : List Version) (r : Record) → Stands s t → (is_own s r ≡ true → gives s h r ≡ true)
+    → list_all (is_granted_in s.group (grants_left s r)) (instances_left s h r) ≡ true
+owners-after s t h (Grant e call request i mode f stamp ss) st given = by_epoch (same_epoch e s.epoch) refl
+  where
+    row : Granted
+    row = record { inst = i; call = call; file = f }
+
+    fresh : same_epoch e s.epoch ≡ true → (f.group == s.group) ≡ true → latest (is_grant_row i) s.grants ≡ None
+    fresh a b =
+        let yes = given (ap (λ x. x && (f.group == s.group)) a ∙ b) in
+        none-none (grant_row s i) (both _ (is_none (grant_row s i)) (both _ (is_placed s h call mode f stamp ss) yes).0).1
+
+    by_epoch : (b : Bool) → same_epoch e s.epoch ≡ b
+        → list_all (is_granted_in s.group (cond b (s.grants ++ record { inst = i; call = call; file = f } ∷ []) s.grants)) (cond b (s.instances ++ opened_by s h e call i mode f stamp ss ∷ []) s.instances) ≡ true
+    by_epoch true q =
+        all-push (is_granted_in s.group s.grants) (is_granted_in s.group (s.grants ++ record { inst = i; call = call; file = f } ∷ [])) s.instances (opened_by s h e call i mode f stamp ss)
+        (λ x was. owner-push s.group s.grants (record { inst = i; call = call; file = f }) x (fresh q) was) st.owners
+        (owner-opened s.group s.grants (record { inst = i; call = call; file = f }) (opened_by s h e call i mode f stamp ss) refl refl (same_serial-refl i))
+    by_epoch false q = st.owners
+owners-after s t h (Act e i n o result) st given = by_epoch (same_epoch e s.epoch)
+  where
+    stays : (x : Instance) → is_granted_in s.group s.grants (acted_by h n o result x) ≡ is_granted_in s.group s.grants x
+    stays x = by_test (is_refusal result)
+      where
+        by_test : (b : Bool) → is_granted_in s.group s.grants (cond b (counted n x) (worked n (content_left h o x) (owes_left o x) (changed_left o x) x)) ≡ is_granted_in s.group s.grants x
+        by_test true = refl
+        by_test false = refl
+
+    by_epoch : (b : Bool) → list_all (is_granted_in s.group s.grants) (cond b (where_it (is_named e i) (acted_by h n o result) s.instances) s.instances) ≡ true
+    by_epoch true = all-where_it (is_granted_in s.group s.grants) (is_named e i) (acted_by h n o result) s.instances stays ∙ st.owners
+    by_epoch false = st.owners
+owners-after s t h (Commit f site stamp parents content) st given = by_test (is_inside s.stays site)
+  where
+    by_test : (b : Bool) → list_all (is_granted_in s.group s.grants) (cond b (where_it (is_writer (Some s.epoch) f) (committed stamp) s.instances) s.instances) ≡ true
+    by_test true = all-where_it (is_granted_in s.group s.grants) (is_writer (Some s.epoch) f) (committed stamp) s.instances (λ x. refl) ∙ st.owners
+    by_test false = st.owners
+owners-after s t h (Release e i f stamp) st given = by_epoch (same_epoch e s.epoch)
+  where
+    by_epoch : (b : Bool) → list_all (is_granted_in s.group s.grants) (cond b (without_it (is_named e i) s.instances) s.instances) ≡ true
+    by_epoch true = all-without_it (is_granted_in s.group s.grants) (is_named e i) s.instances st.owners
+    by_epoch false = st.owners
+owners-after s t h _ st given = st.owners
+
+-- Makes underway.
+
+cond-and : (a b : Bool) (x y : List CallId) → cond (a && b) x y ≡ cond a (cond b x y) y
+cond-and true b x y = refl
+cond-and false b x y = refl
+
+pub underway-after : (s : OneTree) (t : Trace) (line : ℕ) (r : Record) → Stands s t → makes s.config (then line r t) s.epoch s.group ≡ makes_left s r
+underway-after s t line (Act e i n o result) st =
+    ap (λ old. cond (same_epoch e s.epoch && (is_group (granted_group t s.epoch i) s.group && is_passed_probe o result)) (with_make (granted_to t s.epoch i) old) old) st.underway
+    ∙ ap (λ g. cond (same_epoch e s.epoch && (is_group g s.group && is_passed_probe o result)) (with_make (granted_to t s.epoch i) s.makes) s.makes) (st.groups i)
+    ∙ ap (λ c. cond (same_epoch e s.epoch && (is_group (group_by (grant_row s i)) s.group && is_passed_probe o result)) (with_make c s.makes) s.makes) (st.granted i)
+    ∙ cond-and (same_epoch e s.epoch) (is_group (group_by (grant_row s i)) s.group && is_passed_probe o result) _ s.makes
+underway-after s t line (Refuse e call request i mode f why) st =
+    ap (λ old. cond (same_epoch e s.epoch && ((f.group == s.group) && is_make mode)) (without_make (Some call) old) old) st.underway
+    ∙ cond-and (same_epoch e s.epoch) ((f.group == s.group) && is_make mode) _ s.makes
+underway-after s t line (Release e i f stamp) st =
+    ap (λ old. cond (same_epoch e s.epoch && (f.group == s.group)) (without_make (maker_of (instance_named s.config t s.epoch i)) old) old) st.underway
+    ∙ ap (λ o. cond (same_epoch e s.epoch && (f.group == s.group)) (without_make (maker_of o) s.makes) s.makes) (named-now s t st i)
+    ∙ by_epoch (same_epoch e s.epoch) refl
+  where
+    by_epoch : (b : Bool) → same_epoch e s.epoch ≡ b
+        → cond (b && (f.group == s.group)) (without_make (maker_of (find (is_named s.epoch i) s.instances)) s.makes) s.makes
+        ≡ cond b (cond (f.group == s.group) (without_make (maker_of (find (is_named e i) s.instances)) s.makes) s.makes) s.makes
+    by_epoch true q =
+        ap (λ (n : EpochId). cond (f.group == s.group) (without_make (maker_of (find (is_named n i) s.instances)) s.makes) s.makes) (sym (same_epoch-true e s.epoch q))
+    by_epoch false q = refl
+underway-after s t line _ st = st.underway

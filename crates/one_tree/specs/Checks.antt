@@ -1,5 +1,5 @@
 -- What the tree gives, as its tables tell it.
-use Rattle.std.specs.Prelude.{ℕ, ◌+◌, ◌*◌, ◌==◌, Bool, true, false, not, ◌&&◌, cond, List, [], ◌∷◌, length, take, drop, filter, Option, None, Some, find, nat_lt, nat_le}
+use Rattle.std.specs.Prelude.{ℕ, ◌+◌, ◌-◌, ◌*◌, sum_by, ◌==◌, Bool, true, false, not, ◌&&◌, cond, List, [], ◌∷◌, length, take, drop, filter, Option, None, Some, find, nat_lt, nat_le}
 use Rattle.std.specs.List.{list_any, list_all}
 use Rattle.locus_ids.specs.declared.config.Config.{Config}
 use Rattle.locus_ids.specs.declared.sites.Sites.{Sites}
@@ -26,14 +26,16 @@ use Rattle.tree_model.specs.declared.dir_entry.DirEntry.{DirEntry}
 use Rattle.tree_model.specs.Directory.{has_name, entries_of, lookup, is_pair, max_bytes}
 use Rattle.tree_model.specs.Trace.{sync_site_among, least_from, or_else}
 use Rattle.tree_model.specs.Tree.{openers, is_named, is_none}
-use Rattle.tree_model.specs.OneTree.{is_copy_below, is_kept, is_kept_stamp, is_good_list, wanted_packs, first_that, is_place}
+use Rattle.tree_model.specs.Pages.{needed, pages_of}
+use Rattle.tree_model.specs.Room.{changed_pages, pack_pages}
+use Rattle.tree_model.specs.OneTree.{is_copy_below, is_kept, is_kept_stamp, is_good_list, wanted_packs, first_that, is_place, is_make, is_site, is_given_by, root_numbers}
 use Rattle.dir_list.specs.Looking.{look_result}
 use Rattle.dir_list.specs.declared.look.LookResult.{LookResult}
 use Rattle.dir_list.specs.declared.look.LookResult.TheVariants.{Found, Absent, Ambiguous}
 use Rattle.one_tree.specs.Rows.{latest}
-use Rattle.one_tree.specs.Tables.{is_copy_of, has_stayed, formatted, seen_of, stamps_of}
-use Rattle.one_tree.specs.Seen.{is_call_row, is_grant_row}
-use Rattle.one_tree.specs.Told.{is_told, is_at, is_unserved_storage, is_unserved_conflict, is_done, is_found, is_data, is_committed, is_no_too_long, is_no_exists, is_no_absent, is_no_ambiguous}
+use Rattle.one_tree.specs.Tables.{is_copy_of, has_stayed, formatted, seen_of, stamps_of, stored_by}
+use Rattle.one_tree.specs.Seen.{content_at, is_call_row, is_grant_row}
+use Rattle.one_tree.specs.Told.{is_told, is_at, is_unserved_storage, is_unserved_conflict, is_done, is_found, is_data, is_committed, is_no_too_long, is_no_space, is_no_inode, is_no_exists, is_no_absent, is_no_ambiguous}
 use Rattle.one_tree.specs.declared.told.Denial.{Denial}
 use Rattle.one_tree.specs.declared.told.Denial.TheVariants.{Busy, Conflict, NoStorage, NoConflict}
 use Rattle.one_tree.specs.declared.calls.Accepted.{Accepted}
@@ -129,10 +131,6 @@ place_denial s h mode.Resolve call f = unless (holds_kept s h f (resolving_by (c
 place_denial s h mode.Make call f = unless (is_good_list s.config s.members f.group (wanted_packs s.config f.group (sites_by (call_row s call)))) NoStorage
 place_denial s h _ call f = None
 
-abbrev pub is_make : Mode → Bool
-is_make mode.Make = true
-is_make _ = false
-
 abbrev pub open_denial : OneTree → List Version → Mode → CallId → FileId → Option Denial
 open_denial s h mode.Make call f = place_denial s h mode.Make call f
 open_denial s h mode call f =
@@ -140,6 +138,22 @@ open_denial s h mode call f =
 
 unfoldable pub making_site_by : Config → Option Members → ℕ → ℕ → Sites → Option ℕ
 making_site_by c m group own set = first_that (is_place m set) (Some own) (first_that (is_place m set) (sync_site_among c group m) (least_from (is_place m set) 1 16))
+
+-- the storage site of the file that a call makes
+abbrev pub making_place : OneTree → CallId → Option ℕ
+making_place s call = making_site_by s.config s.members s.group call.site (wanted_packs s.config s.group (sites_by (call_row s call)))
+
+-- how many makes underway are placed at the site
+abbrev pub makes_wanting : OneTree → ℕ → ℕ
+makes_wanting s site = length (filter (λ call. is_site (making_place s call) site) s.makes)
+
+-- how many numbers of the site's range it has files of
+abbrev pub numbers_taken : OneTree → ℕ → ℕ
+numbers_taken s site = length (filter (is_given_by site) (stored_by site s.copies)) + root_numbers site (seen_now s site (record { group = s.group; ino = 1 }))
+
+abbrev pub lacks_numbers : OneTree → Option ℕ → Bool
+lacks_numbers s None = false
+lacks_numbers s (Some site) = nat_le 64 (numbers_taken s site + makes_wanting s site)
 
 abbrev pub is_of_site : ℕ → ℕ → Bool
 is_of_site site ino = nat_lt (64 * site) (ino + 64) && nat_le ino (64 * site) && nat_lt 1 ino
@@ -163,16 +177,35 @@ abbrev pub gives_grant : OneTree → List Version → CallId → Serial → Mode
 gives_grant s h call i mode f stamp ss =
     s.started && is_none (open_denial s h mode call f) && (i.us == call.site) && is_none (grant_row s i) && is_placed s h call mode f stamp ss
 
-abbrev pub is_refused : Option Denial → Refusal → Bool
-is_refused None why = false
-is_refused (Some d) why = is_told d why
+-- the refusal is this one, or a make without one lacks a number
+abbrev pub is_refused : Option Denial → Bool → Refusal → Bool
+is_refused None lacks why = lacks && is_no_inode why
+is_refused (Some d) lacks why = is_told d why
 
 abbrev pub is_unnumbered : Mode → FileId → Bool
 is_unnumbered mode.Make f = f.ino == 0
 is_unnumbered _ f = true
 
 abbrev pub gives_refusal : OneTree → List Version → CallId → Mode → FileId → Refusal → Bool
-gives_refusal s h call mode f why = s.started && is_unnumbered mode f && is_refused (open_denial s h mode call f) why
+gives_refusal s h call mode f why = s.started && is_unnumbered mode f && is_refused (open_denial s h mode call f) (is_make mode && lacks_numbers s (making_place s call)) why
+
+-- Room.
+
+-- the pages of the version that the site has of a file in the epoch
+abbrev pub pages_seen : OneTree → List Version → ℕ → ℕ → ℕ
+pages_seen s h site ino = pages_of (length (content_at h (record { group = s.group; ino = ino }) (seen_now s site (record { group = s.group; ino = ino }))))
+
+-- the pages that are free for the group at the site
+abbrev pub free_now : OneTree → List Version → ℕ → ℕ
+free_now s h site = pack_pages - (sum_by (pages_seen s h site) (stored_by site s.copies) + changed_pages s.instances s.epoch site s.group)
+
+-- what is done where so many pages are needed and so many are free
+abbrev pub is_roomed : ℕ → ℕ → Outcome → Bool
+is_roomed needed free result = cond (nat_lt free needed) (is_no_space needed free result) (is_done result)
+
+-- what is done where a content of so many bytes would be made, and so many pages are needed and free
+abbrev pub is_inserted : ℕ → ℕ → ℕ → Outcome → Bool
+is_inserted size needed free result = cond (nat_lt max_bytes size) (is_no_too_long result) (is_roomed needed free result)
 
 -- Operations and releases.
 
@@ -194,23 +227,25 @@ is_committed_by None result = false
 is_committed_by (Some s) result = is_committed s result
 
 -- the operation on the instance gives this
-abbrev pub is_given : Op → Instance → Outcome → Bool
-is_given (op.Probe name) x result = is_probed (first_ino (filter (has_name name) (entries_of x.content))) (length x.content + length name + 8) result
-is_given (op.Find component) x result = is_looked component (look_result (lookup (entries_of x.content) component)) result
-is_given (op.Insert name ino kind) x result = nat_le (length name) 60 && not (list_any (is_pair name ino) (entries_of x.content)) && is_done result
-is_given (op.Read at len) x result = is_data (take len (drop at x.content)) result
-is_given (op.Write at bytes) x result = is_done result
-is_given (op.Cut len) x result = is_done result
-is_given op.Commit x result = not x.owes && is_committed_by x.last result
-is_given op.Abort x result = is_done result
-is_given _ x result = false
+abbrev pub is_given : OneTree → List Version → Op → Instance → Outcome → Bool
+is_given s h (op.Probe name) x result = is_probed (first_ino (filter (has_name name) (entries_of x.content))) (length x.content + length name + 8) result
+is_given s h (op.Find component) x result = is_looked component (look_result (lookup (entries_of x.content) component)) result
+is_given s h (op.Insert name ino kind) x result =
+    nat_le (length name) 60 && not (list_any (is_pair name ino) (entries_of x.content))
+    && is_inserted (length x.content + length name + 8) (needed (op.Insert name ino kind) x.content x.changed) (free_now s h x.ss) result
+is_given s h (op.Read at len) x result = is_data (take len (drop at x.content)) result
+is_given s h (op.Write at bytes) x result = nat_le (at + length bytes) max_bytes && is_roomed (needed (op.Write at bytes) x.content x.changed) (free_now s h x.ss) result
+is_given s h (op.Cut len) x result = is_done result
+is_given s h op.Commit x result = not x.owes && is_committed_by x.last result
+is_given s h op.Abort x result = is_done result
+is_given s h _ x result = false
 
-abbrev pub is_act_on : Option Instance → ℕ → Op → Outcome → Bool
-is_act_on None n o result = false
-is_act_on (Some x) n o result = (n == x.ops + 1) && is_given o x result
+abbrev pub is_act_on : OneTree → List Version → Option Instance → ℕ → Op → Outcome → Bool
+is_act_on s h None n o result = false
+is_act_on s h (Some x) n o result = (n == x.ops + 1) && is_given s h o x result
 
-abbrev pub gives_act : OneTree → Serial → ℕ → Op → Outcome → Bool
-gives_act s i n o result = is_act_on (find (is_named s.epoch i) s.instances) n o result
+abbrev pub gives_act : OneTree → List Version → Serial → ℕ → Op → Outcome → Bool
+gives_act s h i n o result = is_act_on s h (find (is_named s.epoch i) s.instances) n o result
 
 abbrev pub is_release_of : Option Instance → FileId → Option Stamp → Bool
 is_release_of None f stamp = false

@@ -1,5 +1,5 @@
 -- What the tree answers of a record, and how it stands after it.
-use Rattle.std.specs.Prelude.{ℕ, ◌==◌, Bool, true, false, ◌&&◌, ◌||◌, cond, List, [], ◌∷◌, ◌++◌, map, Option, None, Some}
+use Rattle.std.specs.Prelude.{ℕ, ◌==◌, Bool, true, false, ◌&&◌, ◌||◌, cond, List, [], ◌∷◌, ◌++◌, map, Option, None, Some, find}
 use Rattle.locus_ids.specs.declared.ids.FileId.{FileId}
 use Rattle.locus_ids.specs.declared.ids.Stamp.{Stamp}
 use Rattle.locus_ids.specs.declared.ids.EpochId.{EpochId}
@@ -19,10 +19,10 @@ use Rattle.tree_model.specs.declared.instance.Instance.{Instance}
 use Rattle.tree_model.specs.Directory.{is_refusal}
 use Rattle.tree_model.specs.Trace.{has_pack}
 use Rattle.tree_model.specs.Tree.{begins_owing, committed, is_named, is_writer, where_it, without_it}
-use Rattle.tree_model.specs.OneTree.{is_group, site_named, sites_named}
-use Rattle.one_tree.specs.Rows.{put_first}
-use Rattle.one_tree.specs.Tables.{is_copy_of, is_inside, is_stay_of, left, seen_from_now, with_brought, with_known}
-use Rattle.one_tree.specs.Seen.{content_at, content_left, counted, owes_left, worked}
+use Rattle.tree_model.specs.OneTree.{is_group, is_make, is_passed_probe, maker_of, site_named, sites_named, with_make, without_make}
+use Rattle.one_tree.specs.Rows.{put_first, told_by}
+use Rattle.one_tree.specs.Tables.{is_copy_of, is_inside, is_stay_of, is_stored, left, seen_from_now, with_brought, with_known}
+use Rattle.one_tree.specs.Seen.{changed_left, content_at, content_left, counted, owes_left, worked}
 use Rattle.one_tree.specs.Checks.{call_row, gives_act, gives_grant, gives_look, gives_refusal, gives_release, gives_start, grant_row, process_by, seen_now}
 use Rattle.one_tree.specs.declared.members.Stay.{Stay}
 use Rattle.one_tree.specs.declared.copies.HeldCopy.{HeldCopy}
@@ -54,7 +54,7 @@ gives s h (Start e g copies) = gives_start s copies
 gives s h (Look e call request f w result) = gives_look s h f w result
 gives s h (Grant e call request i mode f stamp ss) = gives_grant s h call i mode f stamp ss
 gives s h (Refuse e call request i mode f why) = gives_refusal s h call mode f why
-gives s h (Act e i n o result) = gives_act s i n o result
+gives s h (Act e i n o result) = gives_act s h i n o result
 gives s h (Release e i f stamp) = gives_release s i f stamp
 gives s h _ = false
 
@@ -86,7 +86,13 @@ stays_left s _ = s.stays
 
 -- the copy that a site has after it committed or adopted a version
 abbrev pub new_copy : OneTree → ℕ → FileId → Stamp → HeldCopy
-new_copy s site f stamp = record { site = site; ino = f.ino; now = stamp; seen = cond (is_inside s.stays site) (Some stamp) (seen_now s site f) }
+new_copy s site f stamp = record {
+  site = site;
+  ino = f.ino;
+  now = stamp;
+  seen = cond (is_inside s.stays site) (Some stamp) (seen_now s site f);
+  stored = is_inside s.stays site || is_stored (find (is_copy_of site f.ino) s.copies);
+}
 
 abbrev pub copies_with : OneTree → ℕ → FileId → Stamp → List HeldCopy
 copies_with s site f stamp = cond (f.group == s.group) (put_first (is_copy_of site f.ino) (new_copy s site f stamp) s.copies) s.copies
@@ -121,12 +127,13 @@ opened_by s h e call i mode f stamp ss = record {
   content = content_at h f stamp;
   owes = begins_owing mode;
   fresh = false;
+  changed = [];
   ops = 0;
 }
 
 -- an instance after an operation
 abbrev pub acted_by : List Version → ℕ → Op → Outcome → Instance → Instance
-acted_by h n o result x = cond (is_refusal result) (counted n x) (worked n (content_left h o x) (owes_left o x) x)
+acted_by h n o result x = cond (is_refusal result) (counted n x) (worked n (content_left h o x) (owes_left o x) (changed_left o x) x)
 
 abbrev pub instances_left : OneTree → List Version → Record → List Instance
 instances_left s h (Grant e call request i mode f stamp ss) = cond (same_epoch e s.epoch) (s.instances ++ opened_by s h e call i mode f stamp ss ∷ []) s.instances
@@ -145,6 +152,26 @@ accepted_row call process words = record { call = call; process = process; sites
 abbrev pub calls_left : OneTree → Record → List Accepted
 calls_left s (Accept site process call words) = s.calls ++ accepted_row call process words ∷ []
 calls_left s _ = s.calls
+
+-- Makes.
+
+-- the makes underway after an operation of the epoch
+abbrev pub makes_acted : OneTree → Serial → Op → Outcome → List CallId
+makes_acted s i o result = cond (is_group (group_by (grant_row s i)) s.group && is_passed_probe o result) (with_make (told_by (λ (row : Granted). row.call) (grant_row s i)) s.makes) s.makes
+
+-- and after a refusal
+abbrev pub makes_refused : OneTree → CallId → Mode → FileId → List CallId
+makes_refused s call mode f = cond ((f.group == s.group) && is_make mode) (without_make (Some call) s.makes) s.makes
+
+-- and after a release
+abbrev pub makes_released : OneTree → EpochId → Serial → FileId → List CallId
+makes_released s e i f = cond (f.group == s.group) (without_make (maker_of (find (is_named e i) s.instances)) s.makes) s.makes
+
+abbrev pub makes_left : OneTree → Record → List CallId
+makes_left s (Act e i n o result) = cond (same_epoch e s.epoch) (makes_acted s i o result) s.makes
+makes_left s (Refuse e call request i mode f why) = cond (same_epoch e s.epoch) (makes_refused s call mode f) s.makes
+makes_left s (Release e i f stamp) = cond (same_epoch e s.epoch) (makes_released s e i f) s.makes
+makes_left s _ = s.makes
 
 -- the tree after a site joined an epoch
 abbrev pub join_left : OneTree → ℕ → EpochId → Members → OneTree
@@ -174,6 +201,14 @@ abbrev pub release_left : OneTree → EpochId → Serial → FileId → Option S
 release_left s e i f stamp = record s {
   known = cond (f.group == s.group) (with_published f.ino stamp s.known) s.known;
   instances = without_it (is_named e i) s.instances;
+  makes = makes_released s e i f;
+}
+
+-- the tree after an operation in its epoch
+abbrev pub act_left : OneTree → List Version → EpochId → Serial → ℕ → Op → Outcome → OneTree
+act_left s h e i n o result = record s {
+  instances = where_it (is_named e i) (acted_by h n o result) s.instances;
+  makes = makes_acted s i o result;
 }
 
 -- the tree after a record that it takes
@@ -187,6 +222,7 @@ after s h r = record s {
   instances = instances_left s h r;
   grants = grants_left s r;
   calls = calls_left s r;
+  makes = makes_left s r;
 }
 
 -- a record that the tree doesn't give changes nothing

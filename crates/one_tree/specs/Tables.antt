@@ -53,7 +53,26 @@ seen_of (Some row) otherwise = row.seen
 
 -- a site's copy, as it is seen in the epoch from the site's joining on
 abbrev pub seen_from_now : ℕ → HeldCopy → HeldCopy
-seen_from_now site row = cond (row.site == site) (record row { seen = Some row.now }) row
+seen_from_now site row = cond (row.site == site) (record row { seen = Some row.now; stored = true }) row
+
+-- the site committed or adopted the file before it left the epoch
+abbrev pub is_stored : Option HeldCopy → Bool
+is_stored None = false
+is_stored (Some row) = row.stored
+
+abbrev pub is_row_of : ℕ → HeldCopy → Bool
+is_row_of site row = row.site == site
+
+abbrev pub is_stored_row : ℕ → HeldCopy → Bool
+is_stored_row site row = (row.site == site) && row.stored
+
+-- the inode numbers of some copies
+abbrev pub numbers_of : List HeldCopy → List ℕ
+numbers_of rows = map (λ (row : HeldCopy). row.ino) rows
+
+-- the inode numbers of the files that the site has in the epoch
+abbrev pub stored_by : ℕ → List HeldCopy → List ℕ
+stored_by site rows = numbers_of (filter (is_stored_row site) rows)
 
 -- Known versions.
 

@@ -69,6 +69,14 @@ abbrev pub is_no_too_long : Outcome → Bool
 is_no_too_long (outcome.No why.TooLong) = true
 is_no_too_long _ = false
 
+abbrev pub is_no_space : ℕ → ℕ → Outcome → Bool
+is_no_space needed free (outcome.No (why.NoSpace n f)) = (n == needed) && (f == free)
+is_no_space needed free _ = false
+
+abbrev pub is_no_inode : Refusal → Bool
+is_no_inode why.NoInode = true
+is_no_inode _ = false
+
 abbrev pub is_no_exists : ℕ → Outcome → Bool
 is_no_exists ino (outcome.No (why.Exists told)) = told == ino
 is_no_exists ino _ = false

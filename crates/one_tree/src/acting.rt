@@ -3,17 +3,16 @@ ghost use Rattle.commit_graph.specs.Versions.{content_of, is_version};
 ghost use Rattle.tree_model.specs.Directory.{dir_bytes, entries_of, new_entry, with_entry};
 ghost use Rattle.tree_model.specs.Tree.{begins_owing, is_named, where_it};
 ghost use Rattle.one_tree.specs.Checks.{gives_act, is_act_on};
-ghost use Rattle.one_tree.specs.Seen.{content_at, content_left, owes_left};
+ghost use Rattle.one_tree.specs.Seen.{changed_by, content_at, content_left, owes_left};
 ghost use Rattle.one_tree.specs.Steps.{acted_by};
 
 use crate::OneTree;
 use crate::instances::Instances;
-use crate::operating::is_given;
 use crate::told::is_refusal;
 use commit_graph::{History, Version};
 use dir_list::{decode, encode, put};
-use file_bytes::written;
-use locus_ids::{Bytes, EpochId, FileId, Kind, Mode, NoMemory, Serial, Stamp};
+use file_bytes::{pages_left, pages_put, pages_written, written};
+use locus_ids::{Bytes, EpochId, FileId, ItemList, Kind, Mode, NoMemory, Serial, Stamp};
 use std::alloc::Global;
 use trace_book::{Op, Outcome};
 use tree_model::{DirEntry, Instance};
@@ -23,33 +22,36 @@ impl OneTree {
     pub(crate) fn gives_act(
         &self,
         alloc: Global,
+        h: &History,
         inst: Serial,
         n: u32,
         op: &Op,
         outcome: &Outcome,
     ) -> Result<bool, NoMemory>
-        ensures { IfOk result (λ yes. yes ≡ gives_act self.now inst n op.now outcome.now) }
+        ensures { IfOk result (λ yes. yes ≡ gives_act self.now h.now inst n op.now outcome.now) }
     {
         match self.instances.named(self.epoch, inst) {
-            Some(instance) => is_act_on(alloc, instance, n, op, outcome),
+            Some(instance) => self.is_act_on(alloc, h, instance, n, op, outcome),
             None => Ok(false),
         }
     }
-}
 
-fn is_act_on(
-    alloc: Global,
-    instance: &Instance,
-    n: u32,
-    op: &Op,
-    outcome: &Outcome,
-) -> Result<bool, NoMemory>
-    ensures { IfOk result (λ yes. yes ≡ is_act_on (Some instance.now) n op.now outcome.now) }
-{
-    if !is_next(n, instance.ops) {
-        return Ok(false);
+    fn is_act_on(
+        &self,
+        alloc: Global,
+        h: &History,
+        instance: &Instance,
+        n: u32,
+        op: &Op,
+        outcome: &Outcome,
+    ) -> Result<bool, NoMemory>
+        ensures { IfOk result (λ yes. yes ≡ is_act_on self.now h.now (Some instance.now) n op.now outcome.now) }
+    {
+        if !is_next(n, instance.ops) {
+            return Ok(false);
+        }
+        self.is_given(alloc, h, op, instance, outcome)
     }
-    is_given(alloc, op, instance, outcome)
 }
 
 /// The number is one above that of the operations done.
@@ -82,7 +84,8 @@ pub fn act(
     };
     let content = content_left(alloc, h, op, instance)?;
     let owes = owes_left(op, instance);
-    instances.work(epoch, inst, n, content, owes);
+    let changed = changed_by(alloc, op, &content, instance)?;
+    instances.work(epoch, inst, n, content, owes, changed);
     Ok(())
 }
 
@@ -112,7 +115,7 @@ fn cut(content: &Bytes, len: u32) -> Result<Bytes, NoMemory>
 }
 
 /// The content of a directory with an entry put in its place.
-fn with_inserted(
+pub fn with_inserted(
     alloc: Global,
     content: &Bytes,
     name: &Bytes,
@@ -153,6 +156,30 @@ fn owes_left(op: &Op, instance: &Instance) -> bool
     }
 }
 
+/// The changed pages after an operation that leaves this content.
+fn changed_by(
+    alloc: Global,
+    op: &Op,
+    content: &Bytes,
+    instance: &Instance,
+) -> Result<ItemList<usize>, NoMemory>
+    ensures { IfOk result (λ made. made ≡ changed_by op.now content.now instance.now) }
+{
+    let changed = instance.changed.as_slice();
+    let old = instance.content.as_slice();
+    match op {
+        Op::Abort => Ok(ItemList::new(alloc)),
+        Op::Insert {
+            name: _,
+            ino: _,
+            kind: _,
+        } => pages_put(alloc, changed, old, content.as_slice()),
+        Op::Write { at, bytes } => pages_written(alloc, changed, old, *at, bytes.as_slice()),
+        Op::Cut { len } => pages_left(alloc, changed, *len),
+        _ => instance.changed.copy(),
+    }
+}
+
 /// A make and a resolution owe a commit from the beginning.
 pub fn begins_owing(mode: Mode) -> bool
     ensures { result ≡ begins_owing mode }
@@ -170,29 +197,34 @@ pub fn content_at(
     ensures { IfOk result (λ made. made ≡ content_at h.now file stamp) }
 {
     match stamp {
-        Some(stamp) => content_of(alloc, h.oldest_first(), file, stamp),
+        Some(stamp) => Bytes::from_slice(alloc, content_of(h.oldest_first(), file, stamp)),
         None => Ok(Bytes::new(alloc)),
     }
 }
 
+/// The bytes of a version, or 0 without one.
+pub fn size_at(h: &History, file: FileId, stamp: Option<Stamp>) -> usize
+    ensures { result ≡ length (content_at h.now file stamp) }
+{
+    match stamp {
+        Some(stamp) => content_of(h.oldest_first(), file, stamp).len(),
+        None => 0,
+    }
+}
+
 /// The content of the newest version of the file with this stamp, or no bytes without one.
-fn content_of(
-    alloc: Global,
-    versions: &[Version],
-    file: FileId,
-    stamp: Stamp,
-) -> Result<Bytes, NoMemory>
-    ensures { IfOk result (λ made. made ≡ content_of (reverse versions.now) file stamp) }
+fn content_of(versions: &[Version], file: FileId, stamp: Stamp) -> &[u8]
+    ensures { result.now ≡ content_of (reverse versions.now) file stamp }
 {
     let mut left = versions.len();
     while left > 0 {
         left -= 1;
         let version = &versions[left];
         if is_version(version, file, stamp) {
-            return version.content.copy();
+            return version.content.as_slice();
         }
     }
-    Ok(Bytes::new(alloc))
+    &[]
 }
 
 fn is_version(version: &Version, file: FileId, stamp: Stamp) -> bool

@@ -15,6 +15,7 @@ pub enum Applied {
 /// Why a record was not taken.
 #[derive(Debug, Drop, Error)]
 pub enum TreeFault {
+    /// No memory is left, or the history is longer than the tree takes.
     #[error("no memory")]
     NoMemory,
 }

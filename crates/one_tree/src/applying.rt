@@ -1,6 +1,6 @@
 ghost use Rattle.std.specs.Prelude.{◌≡◌, ◌==◌, ◌&&◌, [], cond, Ok, is_ok, IfOk, OnOk, OnErr};
 ghost use Rattle.trace_book.specs.Same.{same_epoch};
-ghost use Rattle.trace_book.specs.declared.record.Record.TheVariants.{Act, Grant, Release, Start};
+ghost use Rattle.trace_book.specs.declared.record.Record.TheVariants.{Act, Grant, Refuse, Release, Start};
 ghost use Rattle.one_tree.specs.Checks.{gives_act, gives_grant, gives_look, gives_refusal, gives_release, gives_start, grant_row};
 ghost use Rattle.one_tree.specs.Steps.{answer, answer_by, group_by, next};
 ghost use Rattle.one_tree.specs.Tables.{left};
@@ -54,11 +54,11 @@ impl OneTree {
                 epoch,
                 call,
                 request: _,
-                inst: _,
+                inst,
                 mode,
                 file,
                 why,
-            } => self.apply_refusal(alloc, h, *epoch, *call, *mode, *file, why),
+            } => self.apply_refusal(alloc, h, *epoch, *call, *inst, *mode, *file, why),
             Record::Act {
                 epoch,
                 inst,
@@ -71,7 +71,7 @@ impl OneTree {
                 inst,
                 file,
                 stamp,
-            } => self.apply_release(*epoch, *inst, *file, *stamp),
+            } => self.apply_release(alloc, *epoch, *inst, *file, *stamp),
             Record::Up { site, boot: _ } => Ok(self.apply_leave(*site)),
             Record::Stopped { site, cause: _ } => Ok(self.apply_leave(*site)),
             Record::Leave { site, epoch: _ } => Ok(self.apply_leave(*site)),
@@ -171,22 +171,29 @@ impl OneTree {
     }
 
     fn apply_refusal(
-        &self,
+        &mut self,
         alloc: Global,
         h: &History,
         epoch: EpochId,
         call: CallId,
+        inst: Serial,
         mode: Mode,
         file: FileId,
         why: &Refusal,
     ) -> Result<Applied, NoMemory>
-        ensures { IfOk result (λ told. told ≡ answer_by (same_epoch epoch self.now.epoch && (file.group == self.now.group)) (gives_refusal self.now h.now call mode file why.now)) }
+        ensures answer { IfOk result (λ told. told ≡ answer self.old h.now (Refuse epoch call 0 inst mode file why.now)) }
+        ensures next { IfOk result (λ told. self.new ≡ next self.old h.now (Refuse epoch call 0 inst mode file why.now) told) }
+        ensures err { OnErr result (self.new ≡ self.old) }
     {
         if !self.is_here(epoch, file.group) {
             return Ok(Applied::Other);
         }
         let given = self.gives_refusal(alloc, h, call, mode, file, why)?;
-        Ok(follows(given))
+        if !given {
+            return Ok(Applied::Differs);
+        }
+        self.take_refusal(alloc, call, mode, file)?;
+        Ok(Applied::Follows)
     }
 
     fn apply_act(
@@ -210,7 +217,7 @@ impl OneTree {
             self.take_act(alloc, h, epoch, inst, n, op, outcome)?;
             return Ok(Applied::Other);
         }
-        if !self.gives_act(alloc, inst, n, op, outcome)? {
+        if !self.gives_act(alloc, h, inst, n, op, outcome)? {
             return Ok(Applied::Differs);
         }
         self.take_act(alloc, h, epoch, inst, n, op, outcome)?;
@@ -219,6 +226,7 @@ impl OneTree {
 
     fn apply_release(
         &mut self,
+        alloc: Global,
         epoch: EpochId,
         inst: Serial,
         file: FileId,
@@ -232,13 +240,13 @@ impl OneTree {
             return Ok(Applied::Other);
         }
         if file.group != self.group {
-            self.take_release(epoch, inst, file, stamp)?;
+            self.take_release(alloc, epoch, inst, file, stamp)?;
             return Ok(Applied::Other);
         }
         if !self.gives_release(inst, file, stamp) {
             return Ok(Applied::Differs);
         }
-        self.take_release(epoch, inst, file, stamp)?;
+        self.take_release(alloc, epoch, inst, file, stamp)?;
         Ok(Applied::Follows)
     }
 

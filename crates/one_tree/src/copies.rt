@@ -15,6 +15,8 @@ pub struct HeldCopy {
     pub ino: u16,
     pub now: Stamp,
     pub seen: Option<Stamp>,
+    /// The site has committed or adopted the file, and did so before it left the epoch.
+    pub stored: bool,
 }
 
 /// The copies that differ from what a pack is formatted with, one row for a site and a file.
@@ -87,6 +89,7 @@ fn seen_from_now(row: HeldCopy, site: u8) -> HeldCopy
     if row.site == site {
         HeldCopy {
             seen: Some(row.now),
+            stored: true,
             ..row
         }
     } else {

@@ -5,7 +5,7 @@ ghost use Rattle.tree_model.specs.Tree.{committed, is_named, is_writer, where_it
 ghost use Rattle.commit_graph.specs.Grants.{is_read};
 ghost use Rattle.one_tree.specs.Seen.{worked, counted};
 
-use locus_ids::{Bytes, EpochId, FileId, Mode, NoMemory, Serial, Stamp};
+use locus_ids::{Bytes, EpochId, FileId, ItemList, Mode, NoMemory, Serial, Stamp};
 use std::alloc::Global;
 use std::marker::Model;
 use tree_model::Instance;
@@ -76,9 +76,17 @@ impl Instances {
         }
     }
 
-    /// An operation of the first instance of this name, with the content and the debt that it leaves.
-    pub fn work(&mut self, epoch: EpochId, inst: Serial, n: u32, content: Bytes, owes: bool)
-        ensures { self.new ≡ where_it (is_named epoch inst) (worked n content owes) self.old }
+    /// An operation of the first instance of this name, with the content, the debt and the changed pages that it leaves.
+    pub fn work(
+        &mut self,
+        epoch: EpochId,
+        inst: Serial,
+        n: u32,
+        content: Bytes,
+        owes: bool,
+        changed: ItemList<usize>,
+    )
+        ensures { self.new ≡ where_it (is_named epoch inst) (worked n content owes changed) self.old }
     {
         if let Some(place) = place_of(self.items.as_slice(), epoch, inst) {
             let instance = &mut self.items[place];
@@ -86,6 +94,7 @@ impl Instances {
             instance.fresh = false;
             instance.content = content;
             instance.owes = owes;
+            instance.changed = changed;
         }
     }
 
@@ -99,6 +108,7 @@ impl Instances {
             instance.committed = Some(stamp);
             instance.owes = false;
             instance.fresh = true;
+            instance.changed.clear();
         }
     }
 

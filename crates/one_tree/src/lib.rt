@@ -12,13 +12,18 @@ mod copies;
 mod instances;
 mod known;
 mod looking;
+mod making;
 mod members;
+mod numbers;
 mod opening;
 mod operating;
 mod placing;
 mod releasing;
+mod room;
 mod starting;
 mod taking;
+#[cfg(test)]
+mod test_records;
 #[cfg(test)]
 mod tests;
 mod told;

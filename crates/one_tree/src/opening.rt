@@ -3,15 +3,16 @@ ghost use Rattle.commit_graph.specs.Grants.{excluder, is_read};
 ghost use Rattle.commit_graph.specs.Versions.{same_file};
 ghost use Rattle.trace_book.specs.Same.{same_epoch};
 ghost use Rattle.tree_model.specs.Tree.{openers};
-ghost use Rattle.tree_model.specs.OneTree.{wanted_packs};
-ghost use Rattle.one_tree.specs.Checks.{busy_by, call_row, gives_grant, gives_refusal, holds_kept, is_list_of, is_make, is_new, is_placed, is_refused, is_this, is_unnumbered, kept_denial, kept_now, open_denial, place_denial, resolving_by, same_option, seen_now, sites_by, unless};
+ghost use Rattle.tree_model.specs.OneTree.{is_make, wanted_packs};
+ghost use Rattle.one_tree.specs.Checks.{busy_by, call_row, gives_grant, gives_refusal, holds_kept, is_list_of, is_new, is_placed, is_refused, is_this, is_unnumbered, kept_denial, kept_now, lacks_numbers, making_place, open_denial, place_denial, resolving_by, same_option, seen_now, sites_by, unless};
 ghost use Rattle.one_tree.specs.Tables.{formatted, has_stayed};
 
 use crate::OneTree;
 use crate::calls::{is_taken, latest_call, latest_grant};
 use crate::looking::is_kept;
+use crate::making::is_make;
 use crate::placing::{has_pack, is_good_list, is_of_site, making_site, sync_site, wanted_packs};
-use crate::told::{Denial, is_told};
+use crate::told::{Denial, is_no_inode, is_told};
 use commit_graph::History;
 use locus_ids::{CallId, EpochId, FileId, Mode, NoMemory, Refusal, Serial, Sites, Stamp};
 use std::alloc::Global;
@@ -59,8 +60,26 @@ impl OneTree {
         if !self.started || !is_unnumbered(mode, file) {
             return Ok(false);
         }
-        let denial = self.open_denial(alloc, h, mode, call, file)?;
-        Ok(is_refused(denial, why))
+        match self.open_denial(alloc, h, mode, call, file)? {
+            Some(denial) => Ok(is_told(denial, why)),
+            None => self.lacks_for(alloc, mode, call, why),
+        }
+    }
+
+    /// A make that nothing else refuses is refused for want of numbers.
+    fn lacks_for(
+        &self,
+        alloc: Global,
+        mode: Mode,
+        call: CallId,
+        why: &Refusal,
+    ) -> Result<bool, NoMemory>
+        ensures { IfOk result (λ yes. yes ≡ is_refused None (is_make mode && lacks_numbers self.now (making_place self.now call)) why.now) }
+    {
+        if !is_make(mode) || !is_no_inode(why) {
+            return Ok(false);
+        }
+        self.lacks_numbers(alloc, call)
     }
 
     /// Why an open is refused, or `None` where it isn't.
@@ -151,7 +170,7 @@ impl OneTree {
     }
 
     /// The sites that a new file is for.
-    fn making_set(&self, call: CallId, file: FileId) -> Sites
+    pub(crate) fn making_set(&self, call: CallId, file: FileId) -> Sites
         ensures { result ≡ wanted_packs self.now.config file.group (sites_by (call_row self.now call)) }
     {
         let sites = match latest_call(self.calls.as_slice(), call) {
@@ -239,12 +258,6 @@ impl OneTree {
     }
 }
 
-fn is_make(mode: Mode) -> bool
-    ensures { result ≡ is_make mode }
-{
-    matches!(mode, Mode::Make)
-}
-
 /// A refused make has no number.
 fn is_unnumbered(mode: Mode, file: FileId) -> bool
     ensures { result ≡ is_unnumbered mode file }
@@ -255,15 +268,6 @@ fn is_unnumbered(mode: Mode, file: FileId) -> bool
         Mode::Write => true,
         Mode::Resolve => true,
         Mode::Mend => true,
-    }
-}
-
-fn is_refused(denial: Option<Denial>, why: &Refusal) -> bool
-    ensures { result ≡ is_refused denial why.now }
-{
-    match denial {
-        Some(denial) => is_told(denial, why),
-        None => false,
     }
 }
 

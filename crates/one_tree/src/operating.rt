@@ -1,52 +1,143 @@
 ghost use Rattle.std.specs.Prelude.{◌≡◌, ◌+◌, ◌&&◌, not, cond, length, filter, nat_lt, nat_le, IfOk};
 ghost use Rattle.std.specs.List.{list_any};
 ghost use Rattle.tree_model.specs.Directory.{entries_of, has_name, is_pair, lookup, max_bytes};
-ghost use Rattle.one_tree.specs.Checks.{first_ino, is_committed_by, is_given, is_looked, is_probed};
+ghost use Rattle.tree_model.specs.Pages.{needed};
+ghost use Rattle.one_tree.specs.Checks.{first_ino, free_now, is_committed_by, is_given, is_inserted, is_looked, is_probed};
 ghost use Rattle.one_tree.specs.Told.{is_done, is_no_too_long};
 ghost use Rattle.dir_list.specs.Looking.{look_result};
+ghost use Rattle.trace_book.specs.declared.operation.Op.TheVariants.{Insert, Write};
 
+use crate::OneTree;
+use crate::acting::with_inserted;
 use crate::told::{
     is_committed, is_data, is_done, is_found, is_no_absent, is_no_ambiguous, is_no_exists,
     is_no_too_long,
 };
+use commit_graph::History;
 use dir_list::{LookResult, decode, lookup};
-use file_bytes::part_of;
-use locus_ids::{Bytes, NoMemory, Stamp};
+use file_bytes::{needed_to_put, needed_to_write, part_of};
+use locus_ids::{Bytes, Kind, NoMemory, Stamp};
 use std::alloc::Global;
 use trace_book::{Op, Outcome};
 use tree_model::{DirEntry, Instance};
 
-/// The operation on the instance gives this outcome.
-pub fn is_given(
-    alloc: Global,
-    op: &Op,
-    instance: &Instance,
-    outcome: &Outcome,
-) -> Result<bool, NoMemory>
-    ensures { IfOk result (λ yes. yes ≡ is_given op.now instance.now outcome.now) }
-{
-    match op {
-        Op::Probe { name } => is_probe_given(alloc, name, &instance.content, outcome),
-        Op::Find { component } => is_find_given(alloc, component, &instance.content, outcome),
-        Op::Insert { name, ino, kind: _ } => {
-            is_insert_given(alloc, name, *ino, &instance.content, outcome)
+impl OneTree {
+    /// The operation on the instance gives this outcome.
+    pub(crate) fn is_given(
+        &self,
+        alloc: Global,
+        h: &History,
+        op: &Op,
+        instance: &Instance,
+        outcome: &Outcome,
+    ) -> Result<bool, NoMemory>
+        ensures { IfOk result (λ yes. yes ≡ is_given self.now h.now op.now instance.now outcome.now) }
+    {
+        match op {
+            Op::Probe { name } => is_probe_given(alloc, name, &instance.content, outcome),
+            Op::Find { component } => is_find_given(alloc, component, &instance.content, outcome),
+            Op::Insert { name, ino, kind } => {
+                self.is_insert_given(alloc, h, name, *ino, *kind, instance, outcome)
+            }
+            Op::Read { at, len } => Ok(is_data(
+                part_of(instance.content.as_slice(), *at, *len),
+                outcome,
+            )),
+            Op::Write { at, bytes } => Ok(self.is_write_given(h, *at, bytes, instance, outcome)),
+            Op::Cut { len: _ } => Ok(is_done(outcome)),
+            Op::Commit => Ok(!instance.owes && is_committed_by(instance.last, outcome)),
+            Op::Abort => Ok(is_done(outcome)),
+            Op::Remove { name: _, ino: _ } => Ok(false),
+            Op::Rename {
+                component: _,
+                name: _,
+            } => Ok(false),
+            Op::Empty => Ok(false),
+            Op::Mend => Ok(false),
         }
-        Op::Read { at, len } => Ok(is_data(
-            part_of(instance.content.as_slice(), *at, *len),
-            outcome,
-        )),
-        Op::Write { at: _, bytes: _ } => Ok(is_done(outcome)),
-        Op::Cut { len: _ } => Ok(is_done(outcome)),
-        Op::Commit => Ok(!instance.owes && is_committed_by(instance.last, outcome)),
-        Op::Abort => Ok(is_done(outcome)),
-        Op::Remove { name: _, ino: _ } => Ok(false),
-        Op::Rename {
-            component: _,
-            name: _,
-        } => Ok(false),
-        Op::Empty => Ok(false),
-        Op::Mend => Ok(false),
     }
+
+    fn is_insert_given(
+        &self,
+        alloc: Global,
+        h: &History,
+        name: &Bytes,
+        ino: u16,
+        kind: Kind,
+        instance: &Instance,
+        outcome: &Outcome,
+    ) -> Result<bool, NoMemory>
+        ensures { IfOk result (λ yes. yes ≡ is_given self.now h.now (Insert name.now ino kind) instance.now outcome.now) }
+    {
+        if !is_new_pair(alloc, name, ino, &instance.content)? {
+            return Ok(false);
+        }
+        let needed = needed_to_insert(alloc, name, ino, kind, instance)?;
+        Ok(self.is_inserted(h, name, instance, needed, outcome))
+    }
+
+    /// A new pair that changes so many pages is refused or put in.
+    fn is_inserted(
+        &self,
+        h: &History,
+        name: &Bytes,
+        instance: &Instance,
+        needed: usize,
+        outcome: &Outcome,
+    ) -> bool
+        ensures { result ≡ is_inserted (length instance.now.content + length name.now + 8) needed (free_now self.now h.now instance.now.ss) outcome.now }
+    {
+        if is_too_long(instance.content.len(), name.len()) {
+            return is_no_too_long(outcome);
+        }
+        self.is_roomed(h, instance.ss, needed, outcome)
+    }
+
+    fn is_write_given(
+        &self,
+        h: &History,
+        at: u32,
+        bytes: &Bytes,
+        instance: &Instance,
+        outcome: &Outcome,
+    ) -> bool
+        ensures { result ≡ is_given self.now h.now (Write at bytes.now) instance.now outcome.now }
+    {
+        if !is_within_size(at, bytes.len()) {
+            return false;
+        }
+        self.is_roomed(h, instance.ss, needed_pages(at, bytes, instance), outcome)
+    }
+}
+
+/// A write of so many bytes at this place ends within the greatest size.
+fn is_within_size(at: u32, length: usize) -> bool
+    ensures { result ≡ nat_le (at + length) max_bytes }
+{
+    length <= 65_536 && at as usize + length <= 65_536
+}
+
+/// How many pages a write changes that were not changed before.
+fn needed_pages(at: u32, bytes: &Bytes, instance: &Instance) -> usize
+    ensures { result ≡ needed (Write at bytes.now) instance.now.content instance.now.changed }
+{
+    let old = instance.content.as_slice();
+    needed_to_write(instance.changed.as_slice(), old, at, bytes.as_slice())
+}
+
+/// How many pages an insert changes that were not changed before.
+fn needed_to_insert(
+    alloc: Global,
+    name: &Bytes,
+    ino: u16,
+    kind: Kind,
+    instance: &Instance,
+) -> Result<usize, NoMemory>
+    ensures { IfOk result (λ pages. pages ≡ needed (Insert name.now ino kind) instance.now.content instance.now.changed) }
+{
+    let made = with_inserted(alloc, &instance.content, name, ino, kind)?;
+    let old = instance.content.as_slice();
+    Ok(needed_to_put(instance.changed.as_slice(), old, made.as_slice()))
 }
 
 fn is_probe_given(
@@ -68,11 +159,18 @@ fn is_probe_given(
 fn is_room_given(size: usize, length: usize, outcome: &Outcome) -> bool
     ensures { result ≡ cond (nat_lt max_bytes (size + length + 8)) (is_no_too_long outcome.now) (is_done outcome.now) }
 {
-    if size > 65_536 || length > 65_536 || size + length + 8 > 65_536 {
+    if is_too_long(size, length) {
         is_no_too_long(outcome)
     } else {
         is_done(outcome)
     }
+}
+
+/// A directory of this size has no room for one more name of this length.
+fn is_too_long(size: usize, length: usize) -> bool
+    ensures { result ≡ nat_lt max_bytes (size + length + 8) }
+{
+    size > 65_536 || length > 65_536 || size + length + 8 > 65_536
 }
 
 /// The inode of the first live entry of this name.
@@ -109,23 +207,15 @@ fn is_find_given(
     }
 }
 
-fn is_insert_given(
-    alloc: Global,
-    name: &Bytes,
-    ino: u16,
-    content: &Bytes,
-    outcome: &Outcome,
-) -> Result<bool, NoMemory>
-    ensures { IfOk result (λ yes. yes ≡ (nat_le (length name.now) 60 && not (list_any (is_pair name.now ino) (entries_of content.now)) && is_done outcome.now)) }
+/// The name may be inserted with this inode.
+fn is_new_pair(alloc: Global, name: &Bytes, ino: u16, content: &Bytes) -> Result<bool, NoMemory>
+    ensures { IfOk result (λ yes. yes ≡ (nat_le (length name.now) 60 && not (list_any (is_pair name.now ino) (entries_of content.now)))) }
 {
     if name.len() > 60 {
         return Ok(false);
     }
     let dir = decode(alloc, content.as_slice())?;
-    if has_pair(dir.as_slice(), name.as_slice(), ino) {
-        return Ok(false);
-    }
-    Ok(is_done(outcome))
+    Ok(!has_pair(dir.as_slice(), name.as_slice(), ino))
 }
 
 /// An entry of this name and inode, live or not.

@@ -1,13 +1,14 @@
 ghost use Rattle.std.specs.Prelude.{◌≡◌, ◌++◌, ◌∷◌, [], OnOk, OnErr};
-ghost use Rattle.tree_model.specs.Tree.{is_named, where_it};
 ghost use Rattle.one_tree.specs.Checks.{call_row, process_by};
-ghost use Rattle.one_tree.specs.Steps.{accepted_row, acted_by, commit_left, copies_with, grant_left, join_left, release_left, with_published};
+ghost use Rattle.one_tree.specs.Steps.{accepted_row, act_left, commit_left, copies_with, grant_left, join_left, makes_refused, release_left, with_published};
+ghost use Rattle.one_tree.specs.Tables.{is_stored};
 
 use crate::OneTree;
 use crate::acting::{act, begins_owing, content_at};
 use crate::calls::{Accepted, Granted, latest_call, site_named, sites_named};
 use crate::copies::HeldCopy;
 use crate::known::{note, with_brought};
+use crate::making::{is_make, without_make};
 use crate::placing::has_pack;
 use commit_graph::History;
 use locus_ids::{
@@ -93,6 +94,7 @@ impl OneTree {
             content,
             owes: begins_owing(mode),
             fresh: false,
+            changed: ItemList::new(alloc),
             ops: 0,
         })?;
         let noted = self.grants.push(Granted { inst, call, file });
@@ -119,16 +121,19 @@ impl OneTree {
         if file.group != self.group {
             return Ok(());
         }
-        let seen = if self.stays.is_inside(site) {
+        let inside = self.stays.is_inside(site);
+        let seen = if inside {
             Some(stamp)
         } else {
             self.seen(site, file)
         };
+        let stored = inside || is_stored(self.copies.find(site, file.ino));
         self.copies.put(HeldCopy {
             site,
             ino: file.ino,
             now: stamp,
             seen,
+            stored,
         })
     }
 
@@ -173,15 +178,38 @@ impl OneTree {
         op: &Op,
         outcome: &Outcome,
     ) -> Result<(), NoMemory>
-        ensures ok { OnOk result (self.new ≡ record self.old { instances = where_it (is_named epoch inst) (acted_by h.now n op.now outcome.now) self.old.instances }) }
+        ensures ok { OnOk result (self.new ≡ act_left self.old h.now epoch inst n op.now outcome.now) }
         ensures err { OnErr result (self.new ≡ self.old) }
     {
-        act(alloc, h, &mut self.instances, epoch, inst, n, op, outcome)
+        let Some(makes) = self.makes_acted(alloc, inst, op, outcome)? else {
+            return act(alloc, h, &mut self.instances, epoch, inst, n, op, outcome);
+        };
+        act(alloc, h, &mut self.instances, epoch, inst, n, op, outcome)?;
+        self.makes = makes;
+        Ok(())
+    }
+
+    /// An open of the epoch is refused.
+    pub(crate) fn take_refusal(
+        &mut self,
+        alloc: Global,
+        call: CallId,
+        mode: Mode,
+        file: FileId,
+    ) -> Result<(), NoMemory>
+        ensures ok { OnOk result (self.new ≡ record self.old { makes = makes_refused self.old call mode file }) }
+        ensures err { OnErr result (self.new ≡ self.old) }
+    {
+        if file.group == self.group && is_make(mode) {
+            self.makes = without_make(alloc, self.makes.as_slice(), call)?;
+        }
+        Ok(())
     }
 
     /// An instance of the epoch ends.
     pub(crate) fn take_release(
         &mut self,
+        alloc: Global,
         epoch: EpochId,
         inst: Serial,
         file: FileId,
@@ -191,10 +219,22 @@ impl OneTree {
         ensures err { OnErr result (self.new ≡ self.old) }
     {
         if file.group == self.group {
+            let makes = self.makes_released(alloc, epoch, inst)?;
             note_published(&mut self.known, file.ino, stamp)?;
+            self.makes = makes;
         }
         self.instances.remove(epoch, inst);
         Ok(())
+    }
+}
+
+/// The file is one that the site committed or adopted before it left the epoch.
+fn is_stored(row: Option<HeldCopy>) -> bool
+    ensures { result ≡ is_stored row }
+{
+    match row {
+        Some(row) => row.stored,
+        None => false,
     }
 }
 

@@ -1,18 +1,14 @@
+use crate::test_records::{
+    EPOCH, act, call, call_id, file, grant, join, made, no_space, refuse, release, reply, serial,
+};
 use crate::{Applied, OneTree, TreeFault};
 use commit_graph::{History, Version};
 use locus_ids::{
-    Brought, Bytes, CallId, Config, EpochId, FileId, ItemList, Kind, Members, Mode, NoMemory,
-    Refusal, Serial, Sites, Stamp, Stamps,
+    Brought, Bytes, Config, ItemList, Kind, Mode, NoMemory, Refusal, Sites, Stamp, Stamps,
 };
 use std::alloc::Global;
 use std::test::Fail;
 use trace_book::{Call, Op, OpenMode, Outcome, Record, Reply, Served, What};
-
-const EPOCH: EpochId = EpochId {
-    number: 1,
-    site: 1,
-    boot: 1,
-};
 
 /// The version of the root directory as it is formatted.
 const ROOT: Stamp = Stamp { site: 0, n: 0 };
@@ -289,6 +285,49 @@ impl Walk {
         self.differs(refuse(2, Mode::Read, 2, CONFLICT))
     }
 
+    fn write_at(&self, n: u32, at: u32, outcome: Outcome) -> Result<Record, NoMemory> {
+        let bytes = self.bytes(b"hi")?;
+        Ok(act(3, n, Op::Write { at, bytes }, outcome))
+    }
+
+    /// Files of 64 pages, and one of 62. With the root's page they leave one page free.
+    fn fill_pack(&mut self) -> Result<(), Wrong> {
+        let content = [7; 65_536];
+        for ino in 3..50 {
+            self.other(self.commit(ino, 1, None, &content))?;
+        }
+        self.other(self.commit(50, 1, None, &content[..63_488]))
+    }
+
+    /// Writes where one page is free.
+    fn write_without_room(&mut self) -> Result<(), Wrong> {
+        self.follows(grant(2, 3, Mode::Write, 2, Some(made(1)), 1))?;
+        self.follows(self.write_at(1, 0, Outcome::Done))?;
+        self.differs(self.write_at(2, 1024, Outcome::Done))?;
+        self.differs(self.write_at(2, 1024, no_space(1, 1)))?;
+        self.follows(self.write_at(2, 1024, no_space(1, 0)))?;
+        self.follows(self.write_at(3, 0, Outcome::Done))
+    }
+
+    /// Files of numbers in this range.
+    fn make_files(&mut self, first: u16, end: u16) -> Result<(), Wrong> {
+        for ino in first..end {
+            self.other(self.commit(ino, 1, None, b""))?;
+        }
+        Ok(())
+    }
+
+    /// Makes where one number is free, is wanted, is free again and is used.
+    fn make_without_numbers(&mut self) -> Result<(), Wrong> {
+        self.make_files(2, 64)?;
+        self.differs(refuse(1, Mode::Make, 0, Refusal::NoInode))?;
+        self.follows(self.probe(1))?;
+        self.follows(refuse(1, Mode::Make, 0, Refusal::NoInode))?;
+        self.differs(refuse(1, Mode::Make, 0, Refusal::NoInode))?;
+        self.make_files(64, 65)?;
+        self.follows(refuse(1, Mode::Make, 0, Refusal::NoInode))
+    }
+
     /// A repeated operation, and releases while a commit is owed.
     fn work_otherwise(&mut self) -> Result<(), Wrong> {
         self.follows(grant(2, 3, Mode::Write, 2, Some(made(1)), 1))?;
@@ -297,105 +336,6 @@ impl Walk {
         self.differs(release(3, 2, None))?;
         self.differs(release(3, 2, Some(made(1))))
     }
-}
-
-fn file(ino: u16) -> FileId {
-    FileId { group: 0, ino }
-}
-
-fn made(n: u32) -> Stamp {
-    Stamp { site: 1, n }
-}
-
-fn call_id(n: u32) -> CallId {
-    CallId {
-        site: 1,
-        boot: 1,
-        n,
-    }
-}
-
-fn serial(n: u32) -> Serial {
-    Serial { us: 1, serial: n }
-}
-
-fn join() -> Result<Record, NoMemory> {
-    let mut boot = [0; 16];
-    boot[0] = 1;
-    Ok(Record::Join {
-        site: 1,
-        epoch: EPOCH,
-        members: Members { boot },
-    })
-}
-
-fn call(n: u32, words: Call) -> Record {
-    Record::Accept {
-        site: 1,
-        process: 1,
-        call: call_id(n),
-        words,
-    }
-}
-
-fn reply(n: u32, reply: Reply) -> Result<Record, NoMemory> {
-    Ok(Record::Answer {
-        site: 1,
-        process: 1,
-        call: call_id(n),
-        reply,
-    })
-}
-
-fn grant(
-    n: u32,
-    inst: u32,
-    mode: Mode,
-    ino: u16,
-    stamp: Option<Stamp>,
-    ss: u8,
-) -> Result<Record, NoMemory> {
-    Ok(Record::Grant {
-        epoch: EPOCH,
-        call: call_id(n),
-        request: 1,
-        inst: serial(inst),
-        mode,
-        file: file(ino),
-        stamp,
-        ss,
-    })
-}
-
-fn refuse(n: u32, mode: Mode, ino: u16, why: Refusal) -> Result<Record, NoMemory> {
-    Ok(Record::Refuse {
-        epoch: EPOCH,
-        call: call_id(n),
-        request: 1,
-        inst: serial(9),
-        mode,
-        file: file(ino),
-        why,
-    })
-}
-
-fn act(inst: u32, n: u32, op: Op, outcome: Outcome) -> Record {
-    Record::Act {
-        epoch: EPOCH,
-        inst: serial(inst),
-        n,
-        op,
-        result: outcome,
-    }
-}
-
-fn release(inst: u32, ino: u16, stamp: Option<Stamp>) -> Result<Record, NoMemory> {
-    Ok(Record::Release {
-        epoch: EPOCH,
-        inst: serial(inst),
-        file: file(ino),
-        stamp,
-    })
 }
 
 #[test]
@@ -415,5 +355,36 @@ fn changed_records_differ(rt: HostRuntime) -> Result<(), Fail> {
     walk.make_entry()?;
     walk.open_otherwise()?;
     walk.work_otherwise()?;
+    Ok(())
+}
+
+#[test]
+fn a_write_without_room_is_refused(rt: HostRuntime) -> Result<(), Fail> {
+    let mut walk = Walk::new(rt.alloc())?;
+    walk.make_file()?;
+    walk.make_entry()?;
+    walk.fill_pack()?;
+    walk.write_without_room()?;
+    Ok(())
+}
+
+#[test]
+fn a_make_without_numbers_is_refused(rt: HostRuntime) -> Result<(), Fail> {
+    let mut walk = Walk::new(rt.alloc())?;
+    walk.other(join())?;
+    walk.follows(walk.start())?;
+    walk.other(walk.create())?;
+    walk.follows(grant(1, 1, Mode::Write, 1, Some(ROOT), 1))?;
+    walk.make_without_numbers()?;
+    Ok(())
+}
+
+#[test]
+fn a_write_past_the_greatest_size_differs(rt: HostRuntime) -> Result<(), Fail> {
+    let mut walk = Walk::new(rt.alloc())?;
+    walk.make_file()?;
+    walk.follows(grant(2, 3, Mode::Write, 2, Some(made(1)), 1))?;
+    walk.differs(walk.write_at(1, 65_535, Outcome::Done))?;
+    walk.follows(walk.write_at(1, 65_534, Outcome::Done))?;
     Ok(())
 }

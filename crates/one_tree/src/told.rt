@@ -1,5 +1,5 @@
 ghost use Rattle.std.specs.Prelude.{◌≡◌};
-ghost use Rattle.one_tree.specs.Told.{is_at, is_committed, is_data, is_done, is_found, is_no_absent, is_no_ambiguous, is_no_exists, is_no_too_long, is_told, is_unserved_conflict, is_unserved_storage, same_kind};
+ghost use Rattle.one_tree.specs.Told.{is_at, is_committed, is_data, is_done, is_found, is_no_absent, is_no_ambiguous, is_no_exists, is_no_inode, is_no_space, is_no_too_long, is_told, is_unserved_conflict, is_unserved_storage, same_kind};
 ghost use Rattle.tree_model.specs.Directory.{is_refusal};
 
 use locus_ids::{Kind, Refusal, Stamp};
@@ -113,6 +113,25 @@ pub fn is_no_too_long(outcome: &Outcome) -> bool
             why: Refusal::TooLong
         }
     )
+}
+
+/// So many pages are needed, and only so many are free.
+pub fn is_no_space(needed: usize, free: usize, outcome: &Outcome) -> bool
+    ensures { result ≡ is_no_space needed free outcome.now }
+{
+    match outcome {
+        Outcome::No {
+            why: Refusal::NoSpace { needed: n, free: f },
+        } => usize::from(*n) == needed && usize::from(*f) == free,
+        _ => false,
+    }
+}
+
+/// The storage site lacks numbers.
+pub fn is_no_inode(why: &Refusal) -> bool
+    ensures { result ≡ is_no_inode why.now }
+{
+    matches!(why, Refusal::NoInode)
 }
 
 pub fn is_no_exists(ino: u16, outcome: &Outcome) -> bool

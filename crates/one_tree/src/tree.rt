@@ -9,7 +9,7 @@ use crate::instances::Instances;
 use crate::members::Stays;
 use crate::{Applied, TreeFault};
 use commit_graph::History;
-use locus_ids::{Brought, Config, EpochId, ItemList, Members};
+use locus_ids::{Brought, CallId, Config, EpochId, ItemList, Members};
 use std::alloc::Global;
 use trace_book::Record;
 
@@ -35,6 +35,8 @@ pub struct OneTree {
     pub(crate) grants: ItemList<Granted>,
     /// The accepted calls, the earliest first.
     pub(crate) calls: ItemList<Accepted>,
+    /// The calls whose makes in the group are underway, the latest first.
+    pub(crate) makes: ItemList<CallId>,
 }
 
 impl OneTree {
@@ -57,11 +59,18 @@ impl OneTree {
             instances: Instances::new(alloc),
             grants: ItemList::new(alloc),
             calls: ItemList::new(alloc),
+            makes: ItemList::new(alloc),
         }
     }
 
     /// Takes the next record of a trace, with the history of the records before it, and says whether the one tree of
     /// this epoch and group gives it. The records may be any: a lawful trace isn't asked for.
+    ///
+    /// A write or an insert that needs pages looks up, in the history, each file that the storage site has: the steps
+    /// grow as the files times the versions. One that needs none doesn't count the room.
+    ///
+    /// A history of 4,294,967,295 versions or more is past what the tree takes: it answers `NoMemory`, and stays as it
+    /// was. So no counter that the tree sees has its greatest value, and no commit is refused for that.
     pub fn apply(&mut self, h: &History, r: &Record) -> Result<Applied, TreeFault>
         ensures says { IfOk result (λ told. (t : Trace) → Stands self.old t → h.now ≡ history self.old.config t → Says told self.old t r.now) }
         ensures leads { IfOk result (λ told. (t : Trace) → Stands self.old t → h.now ≡ history self.old.config t → (line : ℕ) → Leads told self.old self.new line r.now t) }
@@ -69,6 +78,9 @@ impl OneTree {
         ensures same { IsSameTree self.old self.new }
         ensures err { OnErr result (self.new ≡ self.old) }
     {
+        if h.len() >= 4_294_967_295 {
+            return Err(TreeFault::NoMemory);
+        }
         let alloc = self.known.allocator();
         let told = self.step(alloc, h, r)?;
         Ok(told)

@@ -13,4 +13,4 @@ mod write;
 pub use places::{area_at, disk_len, page_at, slot_at};
 pub use read::read_slot;
 pub use slot::{BadSlot, Slot, newer};
-pub use write::write_body;
+pub use write::{write_body, write_fields};

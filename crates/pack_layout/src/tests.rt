@@ -1,4 +1,6 @@
-use crate::{BadSlot, Slot, area_at, disk_len, newer, page_at, read_slot, slot_at, write_body};
+use crate::{
+    BadSlot, Slot, area_at, disk_len, newer, page_at, read_slot, slot_at, write_body, write_fields,
+};
 use locus_ids::{Kind, Sites, Stamp};
 use std::test::Fail;
 use version_vector::Vector;
@@ -34,6 +36,9 @@ fn a_formatted_root_is_its_bytes(rt: HostRuntime) -> Result<(), Fail> {
     let mut body = [9; 511];
     write_body(&root(), &mut body);
     assert_eq!(rt; body.as_slice(), &bytes[1..]);
+    let mut fields = [9; 207];
+    write_fields(&root(), &mut fields);
+    assert_eq!(rt; fields.as_slice(), &bytes[1..208]);
     Ok(())
 }
 

@@ -1,4 +1,4 @@
-ghost use Rattle.std.specs.Prelude.{◌≡◌, ◌+◌, ◌*◌, ◌≤◌, ◌++◌, ◌∷◌, length, take, drop};
+ghost use Rattle.std.specs.Prelude.{◌≡◌, ◌+◌, ◌*◌, ◌≤◌, ◌++◌, ◌∷◌, length, take, drop, replicate};
 ghost use Rattle.std.specs.List.{flat_map};
 ghost use Rattle.std.specs.Int.{w16, w32, to_be_bytes};
 ghost use Rattle.pack_layout.specs.Layout.{kind_number, slot_bytes};
@@ -45,9 +45,10 @@ fn put_pages(out: &mut [u8], at: usize, pages: &[u16])
     }
 }
 
-/// Writes a slot but for its gate, which stands before the rest and is written by itself.
-pub fn write_body(slot: &Slot, out: &mut [u8; 511])
-    ensures { out.new ≡ drop 1 (slot_bytes slot.now) }
+/// Writes a slot but for its gate and for the 304 zeros at its end.
+pub fn write_fields(slot: &Slot, out: &mut [u8])
+    requires { length out.old ≡ 207 }
+    ensures { out.new ++ replicate 304 0 ≡ drop 1 (slot_bytes slot.now) }
 {
     put(out, 0, &[slot.turn, number_of(slot.kind)]);
     put(out, 2, &slot.ino.to_be_bytes());
@@ -57,5 +58,13 @@ pub fn write_body(slot: &Slot, out: &mut [u8; 511])
     put(out, 11, &slot.stamp.n.to_be_bytes());
     put_counters(out, 15, &slot.vector.parts());
     put_pages(out, 79, &slot.pages);
-    put(out, 207, &[0; 304]);
+}
+
+/// Writes a slot but for its gate, which stands before the rest and is written by itself.
+pub fn write_body(slot: &Slot, out: &mut [u8; 511])
+    ensures { out.new ≡ drop 1 (slot_bytes slot.now) }
+{
+    let mut body = [0; 511];
+    write_fields(slot, &mut body[..207]);
+    *out = body;
 }

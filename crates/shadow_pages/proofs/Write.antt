@@ -1,9 +1,9 @@
 -- What a write leaves.
 use Rattle.std.proofs.Common.{◌≡◌, ℕ, ◌+◌, ◌-◌, ◌*◌, ◌/◌, ◌%◌, ◌<◌, ◌≤◌, min, max, cond, ◌&&◌, leb, ltb, IsTrue, ◌↔◌, List, [], length, get_or, Option, Some, None, refl, sym, ap, ◌∙◌, arith, inl, inr}
-use Rattle.std.specs.Option.{is_none}
+use Rattle.std.specs.Option.{is_none, is_some}
 use Rattle.std.proofs.lemmas.Bool.{cases_lt, lt-ltb, le-ltb, le-leb, lt-leb}
 use Rattle.std.proofs.lemmas.Grind.{same_number_lists}
-use Rattle.shadow_pages.specs.Working.{Working, byte_at, content, written, number_changed, count_below, byte_after, over, touches, needed, pages_of, IsClean}
+use Rattle.shadow_pages.specs.Working.{Working, byte_at, content, written, number_changed, count_below, byte_after, over, touches, needed, pages_of, AreAmong, IsClean}
 use Rattle.shadow_pages.specs.declared.base_page.BasePage.{BasePage}
 use Rattle.shadow_pages.specs.Pages.{AreOf, AreWritten}
 use Rattle.shadow_pages.proofs.Bytes.{over_before, over_past, written_at, length_written, content_at, length_content}
@@ -27,6 +27,18 @@ module _ (w : Working) (at : ℕ) (bytes : List ℕ) (handed : List BasePage) (f
 
   past_span : (i : ℕ) → stop ≤ i → get_or new i None ≡ get_or w.pages i None
   past_span i le = placed i ∙ rw (le-leb first i (omega arith), le-ltb i (first + length made) (omega arith)) (same i)
+
+  -- what was changed before or is written lies in a row that has both
+  pub among_after : (a b n m : ℕ) → AreAmong a b w.pages → ((i : ℕ) → a ≤ i → i < b → (n ≤ i) × (i < m)) → ((i : ℕ) → first ≤ i → i < stop → (n ≤ i) × (i < m)) → AreAmong n m new
+  among_after a b n m among one other i changed = elim (cases_lt i first) [
+    | inl lt ↦ kept (under_span i lt)
+    | inr low ↦ elim (cases_lt i stop) [
+      | inl high ↦ other i low high
+      | inr le ↦ kept (past_span i le)
+    ]
+  ] where
+    kept : get_or new i None ≡ get_or w.pages i None → (n ≤ i) × (i < m)
+    kept is = let p = among i (sym (ap (λ (o : Option (List ℕ)). is_some o) is) ∙ changed) in one i p.0 p.1
 
   -- a byte of a page that isn't touched stays
   stays : (i k : ℕ) (old : ℕ) → ((first ≤ i) × (i < stop) → ⊥) → 1024 * i ≤ k → k < 1024 * i + 1024 → k < max w.size (at + length bytes) → byte_after w.size at bytes k old ≡ old

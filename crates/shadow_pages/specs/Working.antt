@@ -1,5 +1,5 @@
 -- A content that is worked on over a base: the pages that were changed, and for the rest the base.
-use Rattle.std.specs.Prelude.{◌≡◌, ℕ, zero, suc, ◌+◌, ◌-◌, ◌*◌, ◌/◌, ◌%◌, ◌<◌, ◌≤◌, min, max, Bool, ◌&&◌, nat_lt, nat_le, List, [], ◌∷◌, ◌++◌, length, take, drop, replicate, slice_index, slice_index_or, Some, None, Option, is_none, is_some, if◌then◌else◌}
+use Rattle.std.specs.Prelude.{◌≡◌, ℕ, zero, suc, ◌+◌, ◌-◌, ◌*◌, ◌/◌, ◌%◌, ◌<◌, ◌≤◌, min, max, Bool, true, ◌&&◌, nat_lt, nat_le, List, [], ◌∷◌, ◌++◌, length, take, drop, replicate, slice_index, slice_index_or, Some, None, Option, is_none, is_some, if◌then◌else◌}
 
 -- the size of the content in bytes, and for each page its bytes if it was changed
 pub record Working : Type 0 where
@@ -65,6 +65,10 @@ needed w at len = count_below (λ i. touches w at len i && is_none (page_at w.pa
 abbrev pub number_changed : List (Option (List ℕ)) → ℕ
 number_changed [] = 0
 number_changed (p ∷ ps) = (if is_some p then 1 else 0) + number_changed ps
+
+-- each page that was changed is one of those from `first` up to `stop`
+abbrev pub AreAmong : ℕ → ℕ → List (Option (List ℕ)) → Type 0
+AreAmong first stop pages = (i : ℕ) → is_some (page_at pages i) ≡ true → (first ≤ i) × (i < stop)
 
 -- a page holds nothing but zeros past the size
 abbrev pub IsClean : Working → Type 0

@@ -14,3 +14,4 @@ mod tests;
 
 pub use base_page::{BasePage, PageList};
 pub use shadow::{Shadow, ShadowFault};
+pub use span::Span;

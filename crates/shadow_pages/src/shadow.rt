@@ -1,5 +1,5 @@
 ghost use Rattle.std.specs.Prelude.{◌≡◌, ℕ, ◌+◌, ◌*◌, ◌≤◌, ◌<◌, ◌↔◌, ◌&&◌, ◌||◌, min, max, length, take, List, [], IfOk, OnOk, OnErr, IfSome, MatchOption, None, Some, Err, is_some, is_none, nat_lt, slice_index};
-ghost use Rattle.shadow_pages.specs.Working.{Working, page_at, content, written, touches, needed, number_changed, IsZeroFrom, count_below};
+ghost use Rattle.shadow_pages.specs.Working.{Working, page_at, content, written, touches, needed, number_changed, AreAmong, IsZeroFrom, count_below};
 ghost use Rattle.shadow_pages.specs.Pages.{AreOf, Hands};
 ghost use Rattle.shadow_pages.specs.declared.shadow.ShadowFault.TheVariants.{NoSpace};
 
@@ -7,7 +7,7 @@ use crate::base_page::PageList;
 use crate::build::{Writing, build};
 use crate::page::Page;
 use crate::place::{count_changed, cut_pages, grow, is_unchanged, place};
-use crate::span::{Span, pages_of, span_between};
+use crate::span::{Span, joined, pages_of, span_between};
 use locus_ids::NoMemory;
 use std::alloc::Global;
 use std::marker::Model;
@@ -38,18 +38,20 @@ impl From<NoMemory> for ShadowFault {
 pub struct Shadow {
     size: u32,
     count: u16,
+    /// Pages in a row, among which all changed ones are.
+    hull: Span,
     pages: Vec<Option<Page>>,
 }
 
 impl Model for Shadow {
     ghost use Rattle.std.specs.Prelude.{◌≡◌, ◌≤◌, length};
-    ghost use Rattle.shadow_pages.specs.Working.{Working, IsClean, number_changed, pages_of};
+    ghost use Rattle.shadow_pages.specs.Working.{Working, AreAmong, IsClean, number_changed, pages_of};
 
     ghost Value = { Working };
 
     ghost view = { λ s. record { size = s.size; pages = s.pages.items } };
 
-    ghost invariant = { λ s. (s.size ≤ 1110016) × (length s.pages.items ≤ pages_of s.size) × (s.count ≡ number_changed s.pages.items) × IsClean (record { size = s.size; pages = s.pages.items }) };
+    ghost invariant = { λ s. (s.size ≤ 1110016) × (length s.pages.items ≤ pages_of s.size) × (s.count ≡ number_changed s.pages.items) × IsClean (record { size = s.size; pages = s.pages.items }) × AreAmong s.hull.first s.hull.stop s.pages.items };
 }
 
 impl Shadow {
@@ -62,6 +64,7 @@ impl Shadow {
         Ok(Shadow {
             size,
             count: 0,
+            hull: Span { first: 0, stop: 0 },
             pages,
         })
     }
@@ -80,6 +83,13 @@ impl Shadow {
         ensures first { (n : ℕ) → self.now.size ≤ 1024 * n → result ≡ count_below (λ i. is_some (page_at self.now.pages i)) n }
     {
         self.count
+    }
+
+    /// Pages in a row, among which all changed ones are: few where a few pages beside each other were changed.
+    pub fn hull(&self) -> Span
+        ensures { AreAmong result.first result.stop self.now.pages }
+    {
+        self.hull
     }
 
     /// The bytes of a page, or `None` exactly where it is unchanged.
@@ -147,6 +157,7 @@ impl Shadow {
         grow(&mut self.pages, span.stop as usize)?;
         place(&mut self.pages, span.first as usize, made);
         self.count += needed;
+        self.hull = joined(self.hull, span);
         self.size = self.size.max(end);
         Ok(())
     }
@@ -172,6 +183,7 @@ impl Shadow {
     {
         self.pages.clear();
         self.count = 0;
+        self.hull = Span { first: 0, stop: 0 };
         self.size = size;
     }
 }

@@ -33,3 +33,20 @@ pub fn span_between(from: u32, to: u32) -> Span
         Span { first: 0, stop: 0 }
     }
 }
+
+/// The shortest row that has the pages of two rows.
+pub fn joined(a: Span, b: Span) -> Span
+    ensures first { (i : ℕ) → a.first ≤ i → i < a.stop → (result.first ≤ i) × (i < result.stop) }
+    ensures second { (i : ℕ) → b.first ≤ i → i < b.stop → (result.first ≤ i) × (i < result.stop) }
+{
+    if a.first >= a.stop {
+        return b;
+    }
+    if b.first >= b.stop {
+        return a;
+    }
+    Span {
+        first: a.first.min(b.first),
+        stop: a.stop.max(b.stop),
+    }
+}

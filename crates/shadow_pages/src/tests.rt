@@ -25,6 +25,8 @@ fn a_gap_after_a_cut_reads_as_zeros(rt: HostRuntime) -> Result<(), Fail> {
     second[976..979].copy_from_slice(b"abc");
     assert_eq!(rt; shadow.page(1), Some(second.as_slice()));
     assert_eq!(rt; shadow.page(2), None);
+    let hull = shadow.hull();
+    assert_eq!(rt; (hull.first, hull.stop), (0, 2));
     shadow.drop_all(600);
     assert_eq!(rt; (shadow.size(), shadow.changed()), (600, 0));
     Ok(())

@@ -127,14 +127,17 @@ written content at bytes = take at (content ++ replicate (at - length content) 0
 abbrev pub is_pair : List ℕ → ℕ → DirEntry → Bool
 is_pair name ino d = bytes_eq d.name name && (d.ino == ino)
 
--- what an operation on a content gives, for those that are built; a pair that stands is never inserted, nor one whose
--- name is longer than a name may be
+abbrev pub insert_result : List ℕ → List ℕ → Outcome
+insert_result name content = cond (nat_lt max_bytes (length content + length name + 8)) (outcome.No TooLong) outcome.Done
+
+-- what an operation on a content gives, for those that are built and where there is room; a pair that stands is never
+-- inserted, nor one whose name is longer than a name may be, and nothing is written past the greatest size
 abbrev pub result_of : Op → List ℕ → Option Outcome
 result_of (op.Probe name) content = Some (probe_result name content)
 result_of (op.Find component) content = Some (find_result component (lookup (entries_of content) component))
-result_of (op.Insert name ino kind) content = cond (nat_le (length name) 60 && not (list_any (is_pair name ino) (entries_of content))) (Some outcome.Done) None
+result_of (op.Insert name ino kind) content = cond (nat_le (length name) 60 && not (list_any (is_pair name ino) (entries_of content))) (Some (insert_result name content)) None
 result_of (op.Read at len) content = Some (outcome.Data (take len (drop at content)))
-result_of (op.Write at bytes) content = Some outcome.Done
+result_of (op.Write at bytes) content = cond (nat_le (at + length bytes) max_bytes) (Some outcome.Done) None
 result_of (op.Cut len) content = Some outcome.Done
 result_of _ content = None
 

@@ -1,5 +1,5 @@
 -- The lawful trace: each record may come after the records before it, a row for each kind.
-use Rattle.std.specs.Prelude.{ℕ, ◌≡◌, ◌≢◌, ◌<◌, ◌≤◌, ◌+◌, ◌-◌, ◌==◌, ◌⊎◌, Bool, true, false, not, ◌&&◌, List, [], ◌∷◌, ◌++◌, length, take, filter, Option, None, Some, cond, Contains}
+use Rattle.std.specs.Prelude.{ℕ, ◌≡◌, ◌≢◌, ◌<◌, ◌≤◌, ◌+◌, ◌-◌, ◌==◌, ◌⊎◌, Bool, true, false, ◌&&◌, ◌||◌, List, [], ◌∷◌, ◌++◌, length, take, filter, Option, None, Some, Contains}
 use Rattle.locus_ids.specs.declared.config.Config.{Config}
 use Rattle.locus_ids.specs.declared.sites.Sites.{Sites}
 use Rattle.locus_ids.specs.declared.sites.Members.{Members}
@@ -16,7 +16,7 @@ use Rattle.locus_ids.specs.declared.refusal.Refusal.{Refusal}
 use Rattle.locus_ids.specs.declared.refusal.Refusal.TheVariants.{Changed}
 use Rattle.commit_graph.specs.Versions.{same_file, is_proper_ancestor}
 use Rattle.commit_graph.specs.declared.history.Version.{Version}
-use Rattle.trace_book.specs.Same.{same_epoch}
+use Rattle.trace_book.specs.Same.{same_epoch, same_call}
 use Rattle.commit_graph.specs.Counters.{next_number}
 use Rattle.locus_ids.specs.Sites.{has}
 use Rattle.trace_book.specs.Scripts.{Want, Do, Close, Give, mode_of}
@@ -42,12 +42,13 @@ use Rattle.tree_model.specs.declared.line.Line.{Line}
 use Rattle.tree_model.specs.declared.line.Line.TheVariants as line
 use Rattle.tree_model.specs.Lines.{config_of}
 use Rattle.tree_model.specs.Reading.{how_many}
-use Rattle.tree_model.specs.Trace.{Trace, is_up, boot_of, before_line, last_joined, is_above_joined, epoch_of, has_joined, members_of, is_started, sync_site, has_pack, is_member, boot_in, history, held, candidates, kept_in, calls_accepted, call_named, waiting, waiting_of, is_of, call_of_act, call_of_release, last_line}
+use Rattle.tree_model.specs.Trace.{Trace, is_up, boot_of, before_line, last_joined, is_above_joined, epoch_of, has_joined, members_of, is_started, sync_site, has_pack, is_member, boot_in, history, held, candidates, calls_accepted, call_named, waiting, waiting_of, is_of, call_of_act, call_of_release, last_line}
 use Rattle.tree_model.specs.Tree.{tree, is_writer, is_none}
-use Rattle.tree_model.specs.Calls.{answers, wants_after, wants_next, left_epoch}
+use Rattle.tree_model.specs.Calls.{answers, wants_after, wants_next, left_epoch, due}
 use Rattle.tree_model.specs.Calm.{is_cut, lines_before}
 use Rattle.tree_model.specs.Files.{set_of_file}
-use Rattle.tree_model.specs.OneTree.{GivesStart, GivesLook, GivesGrant, GivesRefusal, GivesAct, GivesRelease, list_of}
+use Rattle.tree_model.specs.Room.{parents_of}
+use Rattle.tree_model.specs.OneTree.{GivesStart, GivesLook, GivesGrant, GivesRefusal, GivesAct, GivesRelease}
 
 -- The site of an epoch ran a `part` or `merge` line in the boot that the epoch names; a `part` wants an epoch to part from.
 pub record RanProtocol (lines : List ScheduleLine) (before : Trace) (epoch : EpochId) : Type 0 where
@@ -143,17 +144,6 @@ pub record MayAct (c : Config) (before : Trace) (e : EpochId) (i : Serial) (n : 
   pub gives : GivesAct c before e i n o result
   pub step : IsStepOf c before e gives.instance (call_of_act before e i n) (Do i o)
 
-abbrev pub merges : Mode → Bool
-merges mode.Resolve = true
-merges mode.Mend = true
-merges mode.Read = false
-merges mode.Write = false
-merges mode.Make = false
-
--- the parents of a commit: the last version, or for the first commit of a merge all kept versions
-abbrev pub parents_of : Config → Trace → Instance → List Stamp
-parents_of c before x = cond (merges x.mode && is_none x.committed) (kept_in c before x.epoch x.file) (list_of x.last)
-
 -- A version is committed by the one open instance of its file that may, which owes it.
 pub record MayCommit (c : Config) (before : Trace) (f : FileId) (site : ℕ) (stamp : Stamp) (parents : List Stamp) (content : List ℕ) : Type 0 where
   pub instance : Instance
@@ -248,7 +238,7 @@ HasNoEffect earlier before (line.Stop site) = IsStopped before site
 HasNoEffect earlier before (line.Boot site) = is_up before site ≡ true
 HasNoEffect earlier before _ = ⊥
 
--- A line is void where it has no effect; this is the line's only record.
+-- A line is void where it has no effect; this is the line's first record.
 abbrev pub MayBeVoid : ℕ → List ScheduleLine → ScheduleLine → Trace → Type 0
 MayBeVoid number earlier (Event l) before = (last_line before < number) × HasNoEffect earlier before l
 MayBeVoid number earlier _ before = ⊥
@@ -272,7 +262,16 @@ MayFollow c lines number line_now before (Answer site process call r) = MayAnswe
 MayFollow c lines number line_now before Void = MayBeVoid number (lines_before lines number) line_now before
 MayFollow c lines number line_now before _ = ⊥
 
--- A record has the number of a line, not below the numbers before it.
+abbrev pub answers_call : CallId → Record → Bool
+answers_call call (Answer site process d r) = same_call d call
+answers_call call _ = false
+
+-- the record is a reply to this call, at this line
+abbrev pub IsReplyTo : Option Waiting → ℕ → Entry → Type 0
+IsReplyTo None line r = Unit {0}
+IsReplyTo (Some w) line r = (r.line ≡ line) × (answers_call w.call r.what ≡ true)
+
+-- A record has the number of a line, not below the numbers before it. A reply that is due comes next, at the same line.
 pub record Comes (c : Config) (lines : List ScheduleLine) (before : Trace) (r : Entry) : Type 0 where
   pub earlier : List ScheduleLine
   pub line_now : ScheduleLine
@@ -280,6 +279,7 @@ pub record Comes (c : Config) (lines : List ScheduleLine) (before : Trace) (r : 
   pub split : lines ≡ earlier ++ line_now ∷ later
   pub number : r.line ≡ length earlier + 1
   pub ascending : last_line before ≤ r.line
+  pub prompt : IsReplyTo (due c before) (last_line before) r
   pub row : MayFollow c (earlier ++ line_now ∷ []) r.line line_now before r.what
 
 abbrev pub EachComes : Config → List ScheduleLine → Trace → Type 0
@@ -294,21 +294,46 @@ must_tell (Event (line.Boot site)) = true
 must_tell (Event (line.GiveUp site)) = true
 must_tell _ = false
 
--- a record by which such a line tells it: a call that is none of the system, a boot, a stop, a leave, or that it is void
-abbrev pub tells_own : Record → Bool
-tells_own (Accept site process call words) = not (process == 0)
-tells_own (Up site boot) = true
-tells_own (Stopped site cause) = true
-tells_own (Leave site epoch) = true
-tells_own Void = true
-tells_own _ = false
+-- a record by which a line tells what came of it: its call, its site's stop, boot or leave, a stop within its boot, or
+-- that it is void
+abbrev pub tells : Line → Record → Bool
+tells (line.Call site process words) (Accept s p call w) = (s == site) && (p == process)
+tells (line.Stop site) (Stopped s cause) = s == site
+tells (line.Boot site) (Up s boot) = s == site
+tells (line.Boot site) (Stopped s cause) = s == site
+tells (line.GiveUp site) (Leave s epoch) = s == site
+tells l _ = false
+
+abbrev pub is_void : Record → Bool
+is_void Void = true
+is_void _ = false
+
+abbrev pub tells_own : ScheduleLine → Record → Bool
+tells_own (Event l) r = tells l r || is_void r
+tells_own _ r = false
 
 -- the line with this number tells it by this record
-abbrev pub tells_own_of : ℕ → Entry → Bool
-tells_own_of n r = tells_own r.what && (r.line == n)
+abbrev pub tells_own_of : ScheduleLine → ℕ → Entry → Bool
+tells_own_of l n r = tells_own l r.what && (r.line == n)
 
--- A trace is lawful for the lines of a schedule: each record comes as it may, and each line that must tell what came of it
--- does so once.
+abbrev pub is_void_of : ℕ → Entry → Bool
+is_void_of n r = is_void r.what && (r.line == n)
+
+abbrev pub is_of_line : ℕ → Entry → Bool
+is_of_line n r = r.line == n
+
+-- the line with this number is void, and tells nothing else
+abbrev pub IsVoidLine : ℕ → Trace → Type 0
+IsVoidLine n trace = (how_many (is_void_of n) trace ≡ 1) × (how_many (is_of_line n) trace ≡ 1)
+
+abbrev pub IsWithoutEffect : List ScheduleLine → Trace → ScheduleLine → Type 0
+IsWithoutEffect earlier before (Event l) = HasNoEffect earlier before l
+IsWithoutEffect earlier before _ = ⊥
+
+-- A trace is lawful for the lines of a schedule: each record comes as it may, no reply is due at its end, each line that
+-- must tell what came of it does so once, and each that has no effect is void and tells nothing else.
 pub record IsLawful (lines : List ScheduleLine) (trace : Trace) : Type 0 where
   pub each : EachComes (config_of lines) lines trace
-  pub once : (earlier : List ScheduleLine) (l : ScheduleLine) (later : List ScheduleLine) → lines ≡ earlier ++ l ∷ later → must_tell l ≡ true → how_many (tells_own_of (length earlier + 1)) trace ≡ 1
+  pub prompt : due (config_of lines) trace ≡ None
+  pub once : (earlier : List ScheduleLine) (l : ScheduleLine) (later : List ScheduleLine) → lines ≡ earlier ++ l ∷ later → must_tell l ≡ true → how_many (tells_own_of l (length earlier + 1)) trace ≡ 1
+  pub void : (earlier : List ScheduleLine) (l : ScheduleLine) (later : List ScheduleLine) → lines ≡ earlier ++ l ∷ later → IsWithoutEffect earlier (before_line trace (length earlier + 1)) l → IsVoidLine (length earlier + 1) trace

@@ -2,7 +2,9 @@ pub mod Lines
 pub mod Reading
 pub mod Trace
 pub mod Directory
+pub mod Pages
 pub mod Tree
+pub mod Room
 pub mod Files
 pub mod Calls
 pub mod Calm

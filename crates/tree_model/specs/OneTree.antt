@@ -1,6 +1,6 @@
 -- What the one tree of an epoch and a group gives: which start, look, grant, refusal, operation and release may come after
 -- the records before it, of whatever call it is a step. Instances of all groups of an epoch are told apart by name.
-use Rattle.std.specs.Prelude.{ℕ, zero, suc, ◌≡◌, ◌<◌, ◌≤◌, ◌+◌, ◌*◌, ◌==◌, Bool, true, false, not, ◌&&◌, ◌||◌, List, [], ◌∷◌, Option, None, Some, cond, nat_lt, Contains}
+use Rattle.std.specs.Prelude.{ℕ, zero, suc, ◌≡◌, ◌<◌, ◌≤◌, ◌+◌, ◌*◌, ◌==◌, ◌⊎◌, Bool, true, false, not, ◌&&◌, ◌||◌, List, [], ◌∷◌, length, filter, Option, None, Some, cond, nat_lt, nat_le, Contains}
 use Rattle.std.specs.List.{AllByRecursion}
 use Rattle.locus_ids.specs.Sites.{has}
 use Rattle.locus_ids.specs.declared.config.Config.{Config}
@@ -15,25 +15,29 @@ use Rattle.locus_ids.specs.declared.ids.Mode.{Mode}
 use Rattle.locus_ids.specs.declared.ids.Mode.TheVariants as mode
 use Rattle.locus_ids.specs.declared.ids.Brought.{Brought}
 use Rattle.locus_ids.specs.declared.refusal.Refusal.{Refusal}
-use Rattle.locus_ids.specs.declared.refusal.Refusal.TheVariants.{Conflict, NoStorage}
+use Rattle.locus_ids.specs.declared.refusal.Refusal.TheVariants.{Conflict, NoStorage, NoInode}
 use Rattle.commit_graph.specs.Versions.{same_stamp, is_stamp_below}
 use Rattle.commit_graph.specs.Grants.{grant_refusal, by_kept}
-use Rattle.trace_book.specs.Same.{same_epoch, same_serial}
+use Rattle.trace_book.specs.Same.{same_epoch, same_serial, same_call}
+use Rattle.trace_book.specs.Scripts.{root_of}
 use Rattle.trace_book.specs.declared.record.Record.{Record}
 use Rattle.trace_book.specs.declared.record.Record.TheVariants.{Start, Look, Grant, Refuse, Act, Release}
 use Rattle.trace_book.specs.declared.call.Call.{Call}
 use Rattle.trace_book.specs.declared.call.Call.TheVariants as call
 use Rattle.trace_book.specs.declared.call.OpenMode.TheVariants as how
 use Rattle.trace_book.specs.declared.operation.Op.{Op}
+use Rattle.trace_book.specs.declared.operation.Op.TheVariants as op
 use Rattle.trace_book.specs.declared.operation.What.{What}
 use Rattle.trace_book.specs.declared.operation.What.TheVariants as what
 use Rattle.trace_book.specs.declared.operation.Served.{Served}
 use Rattle.trace_book.specs.declared.operation.Served.TheVariants as served
 use Rattle.trace_book.specs.declared.operation.Outcome.{Outcome}
+use Rattle.trace_book.specs.declared.operation.Outcome.TheVariants as outcome
 use Rattle.tree_model.specs.declared.instance.Instance.{Instance}
 use Rattle.tree_model.specs.declared.instance.Waiting.{Waiting}
-use Rattle.tree_model.specs.Trace.{Trace, packs_of, least_from, members_of, is_started, sync_site, is_member, held_in, candidates, kept_in, granted_to, is_taken, call_named, or_else}
-use Rattle.tree_model.specs.Tree.{tree, openers, is_named, is_none, result_on}
+use Rattle.tree_model.specs.Trace.{Trace, packs_of, least_from, members_of, is_started, sync_site, is_member, held_in, stored_in, candidates, kept_in, granted_to, is_taken, call_named, or_else}
+use Rattle.tree_model.specs.Tree.{tree, openers, is_named, is_none}
+use Rattle.tree_model.specs.Room.{result_on, is_spent, list_of}
 
 -- The start.
 
@@ -158,10 +162,6 @@ pub record IsNewFile (c : Config) (before : Trace) (e : EpochId) (call : CallId)
   pub unheld : held_in c before e ss f ≡ None
   pub untaken : is_taken before e f ≡ false
 
-abbrev pub list_of : {X : Type 0} → Option X → List X
-list_of None = []
-list_of (Some x) = x ∷ []
-
 -- where an open is granted, and on which version: a read or write at a site that has the only kept one, a resolution at
 -- the site that it names, a mend at the synchronization site, with what that site has
 abbrev pub Placed : Config → Trace → EpochId → CallId → Mode → FileId → Option Stamp → ℕ → Type 0
@@ -179,17 +179,7 @@ pub record GivesGrant (c : Config) (before : Trace) (e : EpochId) (call : CallId
   pub fresh : granted_to before e i ≡ None
   pub placed : Placed c before e call mode f stamp ss
 
--- a refused make has no inode
-abbrev pub IsUnnumbered : Mode → FileId → Type 0
-IsUnnumbered mode.Make f = f.ino ≡ 0
-IsUnnumbered _ f = Unit {0}
-
-pub record GivesRefusal (c : Config) (before : Trace) (e : EpochId) (call : CallId) (mode : Mode) (f : FileId) (why : Refusal) : Type 0 where
-  pub started : is_started before e f.group ≡ true
-  pub refused : open_refusal c before e mode call f ≡ Some why
-  pub unnumbered : IsUnnumbered mode f
-
--- Operations and releases.
+-- Numbers.
 
 -- the first that passes
 abbrev pub first_of : (Instance → Bool) → List Instance → Option Instance
@@ -199,23 +189,6 @@ first_of p (x ∷ xs) = cond (p x) (Some x) (first_of p xs)
 -- the open instance of this name
 abbrev pub instance_named : Config → Trace → EpochId → Serial → Option Instance
 instance_named c before e i = first_of (is_named e i) (tree c before)
-
--- an open instance executes its next operation, and gives what the operation makes of its working content
-pub record GivesAct (c : Config) (before : Trace) (e : EpochId) (i : Serial) (n : ℕ) (o : Op) (result : Outcome) : Type 0 where
-  pub instance : Instance
-  pub named : instance_named c before e i ≡ Some instance
-  pub next : n ≡ instance.ops + 1
-  pub gives : result_on o instance ≡ Some result
-
--- an instance that owes no commit is released, and its last version is published
-pub record GivesRelease (c : Config) (before : Trace) (e : EpochId) (i : Serial) (f : FileId) (stamp : Option Stamp) : Type 0 where
-  pub instance : Instance
-  pub named : instance_named c before e i ≡ Some instance
-  pub file : instance.file ≡ f
-  pub paid : instance.owes ≡ false
-  pub published : stamp ≡ instance.committed
-
--- The whole tree.
 
 abbrev pub granted_group_after : Record → EpochId → Serial → Option ℕ → Option ℕ
 granted_group_after (Grant epoch call request inst mode file stamp ss) e i old = cond (same_epoch epoch e && same_serial inst i) (Some file.group) old
@@ -229,6 +202,110 @@ granted_group (r ∷ before) e i = granted_group_after r.what e i (granted_group
 abbrev pub is_group : Option ℕ → ℕ → Bool
 is_group None group = false
 is_group (Some g) group = g == group
+
+abbrev pub is_make : Mode → Bool
+is_make mode.Make = true
+is_make mode.Read = false
+is_make mode.Write = false
+is_make mode.Resolve = false
+is_make mode.Mend = false
+
+-- the operation is a probe that finds the name free
+abbrev pub is_passed_probe : Op → Outcome → Bool
+is_passed_probe (op.Probe name) outcome.Done = true
+is_passed_probe _ _ = false
+
+abbrev pub with_make : Option CallId → List CallId → List CallId
+with_make None calls = calls
+with_make (Some call) calls = call ∷ calls
+
+abbrev pub without_make : Option CallId → List CallId → List CallId
+without_make None calls = calls
+without_make (Some call) calls = filter (λ d. not (same_call d call)) calls
+
+-- the call that makes the file of an instance
+abbrev pub maker_of : Option Instance → Option CallId
+maker_of None = None
+maker_of (Some x) = cond (is_make x.mode) (Some x.call) None
+
+abbrev pub makes_after : Record → Config → Trace → EpochId → ℕ → List CallId → List CallId
+makes_after (Act epoch i n o result) c before e group old = cond (same_epoch epoch e && (is_group (granted_group before e i) group && is_passed_probe o result)) (with_make (granted_to before e i) old) old
+makes_after (Refuse epoch call request i mode f why) c before e group old = cond (same_epoch epoch e && ((f.group == group) && is_make mode)) (without_make (Some call) old) old
+makes_after (Release epoch i f stamp) c before e group old = cond (same_epoch epoch e && (f.group == group)) (without_make (maker_of (instance_named c before e i)) old) old
+makes_after _ c before e group old = old
+
+-- the calls whose makes are underway: their probes have passed, their makes were not refused, nor the files they made
+-- released
+abbrev pub makes : Config → Trace → EpochId → ℕ → List CallId
+makes c [] e group = []
+makes c (r ∷ before) e group = makes_after r.what c before e group (makes c before e group)
+
+abbrev pub is_site : Option ℕ → ℕ → Bool
+is_site None site = false
+is_site (Some s) site = s == site
+
+-- the makes underway whose files this site is to store
+abbrev pub makes_at : Config → Trace → EpochId → ℕ → ℕ → List CallId
+makes_at c before e group site = filter (λ call. is_site (making_site c before e group call.site (making_set c before call group)) site) (makes c before e group)
+
+-- a number that the site gives to new files; number 1 is the root's
+abbrev pub is_given_by : ℕ → ℕ → Bool
+is_given_by site ino = nat_lt (64 * site) (ino + 64) && (nat_le ino (64 * site) && nat_lt 1 ino)
+
+-- the root's number is in the range of site 1
+abbrev pub root_numbers : ℕ → Option Stamp → ℕ
+root_numbers site None = 0
+root_numbers site (Some stamp) = cond (site == 1) 1 0
+
+-- how many numbers of the site's range it has files of
+abbrev pub numbers_used : Config → Trace → EpochId → ℕ → ℕ → ℕ
+numbers_used c before e group site = length (filter (is_given_by site) (stored_in before e site group)) + root_numbers site (held_in c before e site (root_of group))
+
+-- the numbers of a storage site, in use or wanted by makes that are underway, are as many as it has at least
+abbrev pub lacks_numbers : Config → Trace → EpochId → ℕ → Option ℕ → Bool
+lacks_numbers c before e group None = false
+lacks_numbers c before e group (Some site) = nat_le 64 (numbers_used c before e group site + length (makes_at c before e group site))
+
+-- an open is refused for the first that excludes it; and a make that nothing excludes may be refused where its storage
+-- site lacks numbers
+pub record MayLackNumber (c : Config) (before : Trace) (e : EpochId) (mode : Mode) (call : CallId) (f : FileId) (r : Refusal) : Type 0 where
+  pub make : is_make mode ≡ true
+  pub free : open_refusal c before e mode call f ≡ None
+  pub lacks : lacks_numbers c before e f.group (making_site c before e f.group call.site (making_set c before call f.group)) ≡ true
+  pub why : r ≡ NoInode
+
+abbrev pub Refuses : Config → Trace → EpochId → Mode → CallId → FileId → Refusal → Type 0
+Refuses c before e mode call f why = (open_refusal c before e mode call f ≡ Some why) ⊎ MayLackNumber c before e mode call f why
+
+-- a refused make has no inode
+abbrev pub IsUnnumbered : Mode → FileId → Type 0
+IsUnnumbered mode.Make f = f.ino ≡ 0
+IsUnnumbered _ f = Unit {0}
+
+pub record GivesRefusal (c : Config) (before : Trace) (e : EpochId) (call : CallId) (mode : Mode) (f : FileId) (why : Refusal) : Type 0 where
+  pub started : is_started before e f.group ≡ true
+  pub refused : Refuses c before e mode call f why
+  pub unnumbered : IsUnnumbered mode f
+
+-- Operations and releases.
+
+-- an open instance executes its next operation, and gives what the operation makes of its working content in the room
+-- that there is
+pub record GivesAct (c : Config) (before : Trace) (e : EpochId) (i : Serial) (n : ℕ) (o : Op) (result : Outcome) : Type 0 where
+  pub instance : Instance
+  pub named : instance_named c before e i ≡ Some instance
+  pub next : n ≡ instance.ops + 1
+  pub gives : result_on c before o instance ≡ Some result
+
+-- an instance is released that owes no commit, or none that can be; and its last version is published
+pub record GivesRelease (c : Config) (before : Trace) (e : EpochId) (i : Serial) (f : FileId) (stamp : Option Stamp) : Type 0 where
+  pub instance : Instance
+  pub named : instance_named c before e i ≡ Some instance
+  pub file : instance.file ≡ f
+  pub paid : (instance.owes && not (is_spent c before instance)) ≡ false
+  pub published : stamp ≡ instance.committed
+
+-- The whole tree.
 
 -- the record is a step of this tree; an operation is one of the group in which its instance was granted
 abbrev pub concerns : Trace → EpochId → ℕ → Record → Bool

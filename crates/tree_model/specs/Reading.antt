@@ -58,7 +58,7 @@ IsBuiltCall (call.Create path None) = IsFlatPath path
 IsBuiltCall (call.Open path how.Read) = IsFlatPath path
 IsBuiltCall (call.Open path how.Write) = IsFlatPath path
 IsBuiltCall (call.Read fd at len) = Unit {0}
-IsBuiltCall (call.Write fd at bytes) = at ≤ 61440
+IsBuiltCall (call.Write fd at bytes) = (at ≤ 61440) × (length bytes ≤ 4096)
 IsBuiltCall (call.Close fd) = Unit {0}
 IsBuiltCall _ = ⊥
 

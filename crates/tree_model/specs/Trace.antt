@@ -189,6 +189,26 @@ abbrev pub held_in : Config → Trace → EpochId → ℕ → FileId → Option 
 held_in c [] e site file = None
 held_in c (r ∷ before) e site file = cond (is_in (epoch_of (r ∷ before) site) e) (held c (r ∷ before) site file) (held_in c before e site file)
 
+-- a number once, after those that are there
+abbrev pub with_number : ℕ → List ℕ → List ℕ
+with_number n [] = n ∷ []
+with_number n (m ∷ ms) = cond (m == n) (m ∷ ms) (m ∷ with_number n ms)
+
+abbrev pub stored_after : Record → ℕ → ℕ → List ℕ → List ℕ
+stored_after (Commit f s stamp parents content) site group old = cond ((f.group == group) && (s == site)) (with_number f.ino old) old
+stored_after (Adopt f s stamp) site group old = cond ((f.group == group) && (s == site)) (with_number f.ino old) old
+stored_after _ site group old = old
+
+-- the inode numbers of the files of the group that the site committed or adopted, each once
+abbrev pub stored : Trace → ℕ → ℕ → List ℕ
+stored [] site group = []
+stored (r ∷ before) site group = stored_after r.what site group (stored before site group)
+
+-- those of them in the epoch: they stay what they were when the site left
+abbrev pub stored_in : Trace → EpochId → ℕ → ℕ → List ℕ
+stored_in [] e site group = []
+stored_in (r ∷ before) e site group = cond (is_in (epoch_of (r ∷ before) site) e) (stored (r ∷ before) site group) (stored_in before e site group)
+
 abbrev pub with_held : Option Stamp → List Stamp → List Stamp
 with_held None old = old
 with_held (Some s) old = with_stamp s old

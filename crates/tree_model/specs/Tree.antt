@@ -17,10 +17,10 @@ use Rattle.trace_book.specs.declared.record.Record.TheVariants.{Grant, Act, Comm
 use Rattle.trace_book.specs.declared.operation.Op.{Op}
 use Rattle.trace_book.specs.declared.operation.Op.TheVariants as op
 use Rattle.trace_book.specs.declared.operation.Outcome.{Outcome}
-use Rattle.trace_book.specs.declared.operation.Outcome.TheVariants as outcome
 use Rattle.tree_model.specs.declared.instance.Instance.{Instance}
 use Rattle.tree_model.specs.declared.instance.Waiting.{Waiting}
-use Rattle.tree_model.specs.Directory.{content_after, changes, is_refusal, result_of}
+use Rattle.tree_model.specs.Directory.{content_after, changes, is_refusal}
+use Rattle.tree_model.specs.Pages.{changed_after}
 use Rattle.tree_model.specs.Trace.{Trace, history, epoch_of, call_named}
 
 -- the instance with this name
@@ -61,6 +61,7 @@ opened c before e call i mode f stamp ss = record {
   content = stamped_content c before f stamp;
   owes = begins_owing mode;
   fresh = false;
+  changed = [];
   ops = 0;
 }
 
@@ -68,28 +69,19 @@ abbrev pub is_none : {X : Type 0} → Option X → Bool
 is_none None = true
 is_none (Some x) = false
 
--- an instance after an operation that isn't refused; an abort goes back to the last committed content, and what must be
--- committed at all stays owed
+-- an instance after an operation that isn't refused; an abort goes back to the last committed content, with no page
+-- changed, and what must be committed at all stays owed
 abbrev pub carried_out : Config → Trace → ℕ → Op → Instance → Instance
-carried_out c before n op.Abort x = record x { ops = n; fresh = false; content = stamped_content c before x.file x.last; owes = begins_owing x.mode && is_none x.committed }
-carried_out c before n o x = record x { ops = n; fresh = false; content = content_after o x.content; owes = x.owes || changes o x.content }
+carried_out c before n op.Abort x = record x { ops = n; fresh = false; content = stamped_content c before x.file x.last; owes = begins_owing x.mode && is_none x.committed; changed = [] }
+carried_out c before n o x = record x { ops = n; fresh = false; content = content_after o x.content; owes = x.owes || changes o x.content; changed = changed_after o x.content x.changed }
 
 -- an instance after an operation; a refused one changes nothing but the number
 abbrev pub acted : Config → Trace → ℕ → Op → Outcome → Instance → Instance
 acted c before n o result x = cond (is_refusal result) (record x { ops = n; fresh = false }) (carried_out c before n o x)
 
+-- an instance once its content is committed: no page is changed any more
 abbrev pub committed : Stamp → Instance → Instance
-committed stamp x = record x { last = Some stamp; committed = Some stamp; owes = false; fresh = true }
-
--- what an operation gives on an open instance, for those that are built: a commit gives the last version once none is owed
-abbrev pub committed_outcome : Option Stamp → Option Outcome
-committed_outcome None = None
-committed_outcome (Some s) = Some (outcome.Committed s)
-
-abbrev pub result_on : Op → Instance → Option Outcome
-result_on op.Commit x = cond x.owes None (committed_outcome x.last)
-result_on op.Abort x = Some outcome.Done
-result_on o x = result_of o x.content
+committed stamp x = record x { last = Some stamp; committed = Some stamp; owes = false; fresh = true; changed = [] }
 
 -- the first that passes is changed
 abbrev pub where_it : (Instance → Bool) → (Instance → Instance) → List Instance → List Instance
@@ -112,11 +104,6 @@ tree_after _ c before old = old
 abbrev pub tree : Config → Trace → List Instance
 tree c [] = []
 tree c (r ∷ before) = tree_after r.what c before (tree c before)
-
--- the version that the close of an instance made: the one committed since its last operation
-abbrev pub made_by_close : EpochId → Serial → Option Stamp → List Instance → Option Stamp
-made_by_close e i stamp [] = None
-made_by_close e i stamp (x ∷ xs) = cond (is_named e i x) (cond x.fresh stamp None) (made_by_close e i stamp xs)
 
 abbrev pub opener_of : Instance → Opener
 opener_of x = record { site = x.call.site; process = x.process; mode = x.mode }

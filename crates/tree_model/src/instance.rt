@@ -1,4 +1,4 @@
-use locus_ids::{Bytes, CallId, EpochId, FileId, Mode, Serial, Stamp};
+use locus_ids::{Bytes, CallId, EpochId, FileId, ItemList, Mode, Serial, Stamp};
 use trace_book::{Beginning, Call};
 
 /// An open instance of the one tree.
@@ -23,6 +23,8 @@ pub struct Instance {
     pub owes: bool,
     /// The last version was committed since the last operation.
     pub fresh: bool,
+    /// The pages of the working content, from 0, that were changed since the last commit or abort, each once.
+    pub changed: ItemList<usize>,
     /// Operations done.
     pub ops: u32,
 }

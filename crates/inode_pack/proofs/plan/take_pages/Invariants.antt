@@ -1,7 +1,8 @@
 use Rattle.std.proofs.Common.{slice_index}
 use Rattle.std.specs.Prelude.{◌==◌}
+use Rattle.inode_pack.specs.PagePieces.{AreWhole}
 use Rattle.inode_pack.proofs.Taking.{TakesSoFar}
 use Rattle.inode_pack.proofs.plan.take_pages.Given as goal
 
 abbrev pub invariant-loop-i : goal.invariant-loop-i
-invariant-loop-i l = TakesSoFar (λ p. slice_index l.uses p == 0) l.old l.shadow l.i l.from l.numbers
+invariant-loop-i l = record { so_far : TakesSoFar (λ p. slice_index l.uses p == 0) l.old l.shadow l.i l.from l.numbers; whole : AreWhole l.shadow l.i }

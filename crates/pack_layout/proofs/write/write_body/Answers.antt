@@ -1,19 +1,4 @@
-use Rattle.std.proofs.Common.{◌≡◌, ◌∙◌, ap, take, ℕ, length, rules, ◌++◌, ◌∷◌, [], replicate, List}
-use Rattle.std.specs.Int.{w16, w32, to_be_bytes}
-use Rattle.std.specs.List.{flat_map}
-use Rattle.pack_layout.specs.Layout.{kind_number}
-use Rattle.pack_layout.proofs.Body.{body_is}
 use Rattle.pack_layout.proofs.write.write_body.Goals as goal
 
 pub returns : goal.returns
-returns c =
-    let s = c.args.slot.now in
-    let sites : length c.parts.result ≡ 16 = search rules in
-    let pages : length c.args.slot.now.pages ≡ 64 = search rules in
-    let all : length c.put-7.new.out ≡ 511 = search rules in
-    body_is c.put.new.out c.put-2.new.out c.put-3.new.out c.put-4.new.out c.put-5.new.out c.put-6.new.out c.put_counters.new.out c.put_pages.new.out c.put-7.new.out
-    (c.args.slot.now.turn ∷ kind_number c.args.slot.now.kind ∷ []) (to_be_bytes w16 c.args.slot.now.ino) (to_be_bytes w16 c.args.slot.now.set.0) (to_be_bytes w32 c.args.slot.now.size)
-    (c.args.slot.now.stamp.site ∷ []) (to_be_bytes w32 c.args.slot.now.stamp.n) (flat_map (to_be_bytes w32) c.args.slot.now.vector) (flat_map (to_be_bytes w16) c.args.slot.now.pages) (replicate 304 0)
-    (length c.parts.result) (length c.args.slot.now.pages)
-    (rw c.number_of.ensures at c.put.ensures) (rw c.to_be_bytes.ensures at c.put-2.ensures) (rw c.to_be_bytes-2.ensures at c.put-3.ensures) (rw c.to_be_bytes-3.ensures at c.put-4.ensures)
-    c.put-5.ensures (rw c.to_be_bytes-4.ensures at c.put-6.ensures) (c.put_counters.ensures ∙ ap (λ (v : List ℕ). take 15 c.put-6.new.out ++ flat_map (to_be_bytes w32) v) c.parts.ensures) sites c.put_pages.ensures pages c.put-7.ensures all
+returns c = c.write_fields.ensures

@@ -1,9 +1,12 @@
-use Rattle.std.proofs.Common.{◌≤◌, ℕ, List, length, get_or, sym, subst, ◌∙◌, arith}
-use Rattle.std.specs.Prelude.{◌==◌}
+use Rattle.std.proofs.Common.{◌≡◌, ◌⊎◌, ◌≤◌, ℕ, Bool, List, length, get_or, sym, ap, subst, ◌∙◌, arith}
+use Rattle.pack_layout.specs.Layout.{pages_of}
+use Rattle.inode_pack.specs.declared.inode_copy.InodeCopy.{InodeCopy}
+use Rattle.std.specs.Prelude.{◌==◌, Option, Some}
 use Rattle.shadow_pages.specs.Working.{count_below}
-use Rattle.inode_pack.specs.Committing.{needed, RestsOn, size_of}
+use Rattle.inode_pack.specs.Committing.{needed, RestsOn, size_of, TakesPages}
 use Rattle.inode_pack.specs.Pack.{PackState, AreUses, copy_of}
 use Rattle.inode_pack.proofs.Setup.{copy_is, number_inside}
+use Rattle.inode_pack.proofs.Passing.{same_but_for}
 use Rattle.inode_pack.proofs.NewCopies.{copy_at, room_for, makes_alike}
 use Rattle.inode_pack.proofs.pack.Pack.prepare.Goals as goal
 
@@ -17,24 +20,46 @@ next_copy-made-requires-clause-room c =
 pub next_copy-made-requires-clause-which : goal.next_copy-made-requires-clause-which
 next_copy-made-requires-clause-which c copy held =
     let inv = c.self.invariant in
-    let at = copy_at c.self.inside.copies.items c.self.inside.uses.items c.self.inside.free inv.0 inv.1 c.args.heading.now.ino c.from.result c.index.result.now c.requires.version.low c.requires.version.high c.from.ensures c.index.ensures in
+    let at = copy_at c.self.inside.copies.items c.self.inside.uses.items c.self.inside.free inv.0 inv.1 c.args.heading.now.ino c.from.result c.index-old.result.now c.requires.version.low c.requires.version.high c.from.ensures c.index-old.ensures in
     (copy_is c.self.inside.copies.items c.args.heading.now.ino copy inv.0 (sym at ∙ held)).place
 
 pub next_copy-made-requires-clause-turn : goal.next_copy-made-requires-clause-turn
 next_copy-made-requires-clause-turn c copy held =
     let inv = c.self.invariant in
-    let at = copy_at c.self.inside.copies.items c.self.inside.uses.items c.self.inside.free inv.0 inv.1 c.args.heading.now.ino c.from.result c.index.result.now c.requires.version.low c.requires.version.high c.from.ensures c.index.ensures in
+    let at = copy_at c.self.inside.copies.items c.self.inside.uses.items c.self.inside.free inv.0 inv.1 c.args.heading.now.ino c.from.result c.index-old.result.now c.requires.version.low c.requires.version.high c.from.ensures c.index-old.ensures in
     (copy_is c.self.inside.copies.items c.args.heading.now.ino copy inv.0 (sym at ∙ held)).slot.turn
 
-pub pieces_of-requires-clause-inside : goal.pieces_of-requires-clause-inside
-pieces_of-requires-clause-inside c =
+pub returns-clause-inside : goal.returns-clause-inside
+returns-clause-inside c =
     let inv = c.self.invariant in
     let copies = c.self.inside.copies.items in
     let h = c.args.heading.now in
     let uses = c.deref.result.now in
     let made = c.next_copy-made.result in
     let used = subst (λ (l : List ℕ). AreUses copies l c.self.inside.free) (sym c.deref.ensures.value) inv.1 in
-    let at = copy_at copies c.self.inside.uses.items c.self.inside.free inv.0 inv.1 h.ino c.from.result c.index.result.now c.requires.version.low c.requires.version.high c.from.ensures c.index.ensures in
-    let m = makes_alike copies uses c.self.inside.free h.ino c.index.result.now h.kind h.set c.args.shadow.now h.stamp h.vector made inv.0 used at c.next_copy-made.ensures.makes in
+    let at = copy_at copies c.self.inside.uses.items c.self.inside.free inv.0 inv.1 h.ino c.from.result c.index-old.result.now c.requires.version.low c.requires.version.high c.from.ensures c.index-old.ensures in
+    let m = makes_alike copies uses c.self.inside.free h.ino c.index-old.result.now h.kind h.set c.args.shadow.now h.stamp h.vector made inv.0 used at c.next_copy-made.ensures.makes in
     let rests = subst (λ (p : PackState). RestsOn (size_of (copy_of p.copies h.ino)) c.args.shadow.now) (sym c.self.view_is) c.requires.rests in
     number_inside copies h.ino c.args.shadow.now made.slot.pages inv.0 rests m.takes
+
+pub row_to_pass-requires-clause-slot : goal.row_to_pass-requires-clause-slot
+row_to_pass-requires-clause-slot c one held =
+    let inv = c.self.invariant in
+    let at = copy_at c.self.inside.copies.items c.self.inside.uses.items c.self.inside.free inv.0 inv.1 c.args.heading.now.ino c.from.result c.index-old.result.now c.requires.version.low c.requires.version.high c.from.ensures c.index-old.ensures in
+    (copy_is c.self.inside.copies.items c.args.heading.now.ino one inv.0 (sym at ∙ held)).slot
+
+pub returns-clause-same : goal.returns-clause-same
+returns-clause-same c one known =
+    let inv = c.self.invariant in
+    let h = c.args.heading.now in
+    let w = c.args.shadow.now in
+    let row = c.changed_row-row.result in
+    let pass = c.row_to_pass.result in
+    let at = copy_at c.self.inside.copies.items c.self.inside.uses.items c.self.inside.free inv.0 inv.1 h.ino c.from.result c.index-old.result.now c.requires.version.low c.requires.version.high c.from.ensures c.index-old.ensures in
+    let held = at ∙ subst (λ (p : PackState). copy_of p.copies h.ino ≡ Some one) (sym c.self.view_is) known in
+    let unused : ℕ → Bool = λ p. get_or c.deref.result.now p 0 == 0 in
+    let takes = subst (λ (o : Option InodeCopy). TakesPages unused o w c.next_copy-made.result.slot.pages) held c.next_copy-made.ensures.makes.takes in
+    let slot = (copy_is c.self.inside.copies.items h.ino one inv.0 (sym at ∙ held)).slot in
+    let end = c.page_count.ensures.pages ∙ ap pages_of c.size.ensures.value in
+    let covers = subst (λ (n : ℕ). ((pass.first ≡ 0) × (pass.stop ≡ 64)) ⊎ ((pass.first ≡ row.first) × (pass.stop ≡ row.stop) × (pages_of one.slot.size ≤ n))) end (c.row_to_pass.ensures.covers one held) in
+    same_but_for unused one w c.next_copy-made.result.slot.pages row.first row.stop pass.first pass.stop slot takes c.changed_row-row.ensures.changed covers

@@ -1,7 +1,7 @@
 use Rattle.std.proofs.Common.{arith, ◌+◌, ◌≤◌, length}
 use Rattle.shadow_pages.specs.Working.{needed, pages_of}
 use Rattle.shadow_pages.proofs.Counts.{count_below_le, number_changed_le}
-use Rattle.shadow_pages.proofs.Write.{content_after, clean_after, count_after}
+use Rattle.shadow_pages.proofs.Write.{content_after, clean_after, count_after, among_after}
 use Rattle.shadow_pages.proofs.shadow.Shadow.write.Goals as goal
 
 pub overflow_add-self : goal.overflow_add-self
@@ -20,6 +20,9 @@ invariant_of-self-2 c =
       omega (arith, count, wanted, c.self.invariant.2),
       rw c.max-self-inside.ensures (clean_after (record { size = c.self.inside.size; pages = c.self.inside.pages.items }) c.args.at c.args.bytes.now c.args.base.now c.span_between-span.result.first c.span_between-span.result.stop c.in_ok-made.made.items c.grow.new.pages.items c.place.new.pages.items
           (rw c.min.ensures at c.span_between-span.ensures.meets) c.span_between-span.ensures.ordered c.in_ok-made.ensures.len (rw (c.deref.ensures.value, c.as_slice.ensures) at c.in_ok-made.ensures.made) c.in_ok-grow.ensures.pages c.place.ensures.placed c.self.invariant.3),
+      among_after (record { size = c.self.inside.size; pages = c.self.inside.pages.items }) c.args.at c.args.bytes.now c.args.base.now c.span_between-span.result.first c.span_between-span.result.stop c.in_ok-made.made.items c.grow.new.pages.items c.place.new.pages.items
+          (rw c.min.ensures at c.span_between-span.ensures.meets) c.span_between-span.ensures.ordered c.in_ok-made.ensures.len (rw (c.deref.ensures.value, c.as_slice.ensures) at c.in_ok-made.ensures.made) c.in_ok-grow.ensures.pages c.place.ensures.placed
+          c.self.inside.hull.first c.self.inside.hull.stop c.joined-self-inside.result.first c.joined-self-inside.result.stop c.self.invariant.4 c.joined-self-inside.ensures.first c.joined-self-inside.ensures.second,
     )
 
 pub returns-clause-content : goal.returns-clause-content

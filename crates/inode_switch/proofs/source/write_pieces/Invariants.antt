@@ -4,7 +4,7 @@ use Rattle.disk_model.specs.Disk.{Goes}
 use Rattle.disk_model.specs.declared.disk.DiskFault.{DiskFault}
 use Rattle.inode_switch.specs.Moments.{TellsMany}
 use Rattle.inode_switch.specs.Switch.{TornIn, written}
-use Rattle.inode_switch.proofs.switching.write_pieces.Given as goal
+use Rattle.inode_switch.proofs.source.write_pieces.Given as goal
 
 abbrev pub invariant-loop-piece : goal.invariant-loop-piece
 invariant-loop-piece g l = record {

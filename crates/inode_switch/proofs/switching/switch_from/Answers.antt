@@ -1,8 +1,7 @@
-use Rattle.std.proofs.Common.{◌≡◌, ◌∙◌, ap, List, ℕ}
-use Rattle.inode_switch.specs.declared.switching.Piece.{Piece}
+use Rattle.std.proofs.Common.{◌≡◌, ◌∙◌, ap, refl, List, ℕ}
 use Rattle.inode_switch.specs.Switch.{written, opened}
 use Rattle.inode_switch.proofs.Stages.{stage_one, stage_two, stage_three}
-use Rattle.inode_switch.proofs.switching.switch.Goals as goal
+use Rattle.inode_switch.proofs.switching.switch_from.Goals as goal
 
 pub returns-in_err-write_down-clause-any_moment : goal.returns-in_err-write_down-clause-any_moment
 returns-in_err-write_down-clause-any_moment g c =
@@ -11,8 +10,8 @@ returns-in_err-write_down-clause-any_moment g c =
     let H = g.D.Disk.may_have_left in
     let old = c.args.disk.now in
     let seen = g.D.Disk.seen old in
-    let pieces = c.args.pieces.now in
-    let one = stage_one N L H pieces c.args.gate c.args.old_gate seen old c.write_down.new.disk c.as_slice.result.now c.as_slice.ensures c.requires.settled (g.met.D.Disk.only_now old) c.write_down.ensures.crash in
+    let pieces = g.P.PieceSource.pieces c.args.source.now in
+    let one = stage_one N L H pieces c.args.gate c.args.old_gate seen old c.write_down.new.disk pieces refl c.requires.settled (g.met.D.Disk.only_now old) c.write_down.ensures.crash in
     one
 
 pub returns-in_err-set_gate-clause-any_moment : goal.returns-in_err-set_gate-clause-any_moment
@@ -22,9 +21,9 @@ returns-in_err-set_gate-clause-any_moment g c =
     let H = g.D.Disk.may_have_left in
     let old = c.args.disk.now in
     let seen = g.D.Disk.seen old in
-    let pieces = c.args.pieces.now in
-    let one = stage_one N L H pieces c.args.gate c.args.old_gate seen old c.write_down.new.disk c.as_slice.result.now c.as_slice.ensures c.requires.settled (g.met.D.Disk.only_now old) c.write_down.ensures.crash in
-    let read : g.D.Disk.seen c.write_down.new.disk ≡ written seen pieces = c.in_ok-write_down.ensures.written ∙ ap (λ (l : List Piece). written seen l) c.as_slice.ensures in
+    let pieces = g.P.PieceSource.pieces c.args.source.now in
+    let one = stage_one N L H pieces c.args.gate c.args.old_gate seen old c.write_down.new.disk pieces refl c.requires.settled (g.met.D.Disk.only_now old) c.write_down.ensures.crash in
+    let read : g.D.Disk.seen c.write_down.new.disk ≡ written seen pieces = c.in_ok-write_down.ensures.written in
     let two = stage_two N L H pieces c.args.gate c.args.old_gate seen old c.write_down.new.disk c.set_gate.new.disk _ read c.in_ok-write_down.ensures.durable one c.set_gate.ensures.crash in
     two
 
@@ -35,9 +34,9 @@ returns-in_err-set_gate-2-clause-any_moment g c =
     let H = g.D.Disk.may_have_left in
     let old = c.args.disk.now in
     let seen = g.D.Disk.seen old in
-    let pieces = c.args.pieces.now in
-    let one = stage_one N L H pieces c.args.gate c.args.old_gate seen old c.write_down.new.disk c.as_slice.result.now c.as_slice.ensures c.requires.settled (g.met.D.Disk.only_now old) c.write_down.ensures.crash in
-    let read : g.D.Disk.seen c.write_down.new.disk ≡ written seen pieces = c.in_ok-write_down.ensures.written ∙ ap (λ (l : List Piece). written seen l) c.as_slice.ensures in
+    let pieces = g.P.PieceSource.pieces c.args.source.now in
+    let one = stage_one N L H pieces c.args.gate c.args.old_gate seen old c.write_down.new.disk pieces refl c.requires.settled (g.met.D.Disk.only_now old) c.write_down.ensures.crash in
+    let read : g.D.Disk.seen c.write_down.new.disk ≡ written seen pieces = c.in_ok-write_down.ensures.written in
     let two = stage_two N L H pieces c.args.gate c.args.old_gate seen old c.write_down.new.disk c.set_gate.new.disk _ read c.in_ok-write_down.ensures.durable one c.set_gate.ensures.crash in
     let shut : g.D.Disk.seen c.set_gate.new.disk ≡ opened c.args.gate (written seen pieces) = c.in_ok-set_gate.ensures.written ∙ ap (λ (l : List ℕ). opened c.args.gate l) read in
     stage_three N L H pieces c.args.gate c.args.old_gate seen old c.set_gate.new.disk c.set_gate-in-Some.new.disk _ c.in-Some.old_gate c.in-Some.is shut c.in_ok-set_gate.ensures.durable two c.set_gate-in-Some.ensures.crash
@@ -49,9 +48,9 @@ returns-in_ok-set_gate-2-clause-any_moment g c =
     let H = g.D.Disk.may_have_left in
     let old = c.args.disk.now in
     let seen = g.D.Disk.seen old in
-    let pieces = c.args.pieces.now in
-    let one = stage_one N L H pieces c.args.gate c.args.old_gate seen old c.write_down.new.disk c.as_slice.result.now c.as_slice.ensures c.requires.settled (g.met.D.Disk.only_now old) c.write_down.ensures.crash in
-    let read : g.D.Disk.seen c.write_down.new.disk ≡ written seen pieces = c.in_ok-write_down.ensures.written ∙ ap (λ (l : List Piece). written seen l) c.as_slice.ensures in
+    let pieces = g.P.PieceSource.pieces c.args.source.now in
+    let one = stage_one N L H pieces c.args.gate c.args.old_gate seen old c.write_down.new.disk pieces refl c.requires.settled (g.met.D.Disk.only_now old) c.write_down.ensures.crash in
+    let read : g.D.Disk.seen c.write_down.new.disk ≡ written seen pieces = c.in_ok-write_down.ensures.written in
     let two = stage_two N L H pieces c.args.gate c.args.old_gate seen old c.write_down.new.disk c.set_gate.new.disk _ read c.in_ok-write_down.ensures.durable one c.set_gate.ensures.crash in
     let shut : g.D.Disk.seen c.set_gate.new.disk ≡ opened c.args.gate (written seen pieces) = c.in_ok-set_gate.ensures.written ∙ ap (λ (l : List ℕ). opened c.args.gate l) read in
     stage_three N L H pieces c.args.gate c.args.old_gate seen old c.set_gate.new.disk c.set_gate-in-Some.new.disk _ c.in-Some.old_gate c.in-Some.is shut c.in_ok-set_gate.ensures.durable two c.set_gate-in-Some.ensures.crash
@@ -63,8 +62,8 @@ returns-in_default-clause-any_moment g c =
     let H = g.D.Disk.may_have_left in
     let old = c.args.disk.now in
     let seen = g.D.Disk.seen old in
-    let pieces = c.args.pieces.now in
-    let one = stage_one N L H pieces c.args.gate c.args.old_gate seen old c.write_down.new.disk c.as_slice.result.now c.as_slice.ensures c.requires.settled (g.met.D.Disk.only_now old) c.write_down.ensures.crash in
-    let read : g.D.Disk.seen c.write_down.new.disk ≡ written seen pieces = c.in_ok-write_down.ensures.written ∙ ap (λ (l : List Piece). written seen l) c.as_slice.ensures in
+    let pieces = g.P.PieceSource.pieces c.args.source.now in
+    let one = stage_one N L H pieces c.args.gate c.args.old_gate seen old c.write_down.new.disk pieces refl c.requires.settled (g.met.D.Disk.only_now old) c.write_down.ensures.crash in
+    let read : g.D.Disk.seen c.write_down.new.disk ≡ written seen pieces = c.in_ok-write_down.ensures.written in
     let two = stage_two N L H pieces c.args.gate c.args.old_gate seen old c.write_down.new.disk c.set_gate.new.disk _ read c.in_ok-write_down.ensures.durable one c.set_gate.ensures.crash in
     two

@@ -6,7 +6,7 @@ use Rattle.inode_switch.specs.Switch.{TornIn}
 use Rattle.inode_switch.proofs.Moments.{goes_more}
 use Rattle.inode_switch.proofs.Pieces.{torn_widens, torn_joins, written_more, length-overwritten}
 use Rattle.inode_switch.proofs.Tells.{tells_one, tells_join}
-use Rattle.inode_switch.proofs.switching.write_pieces.Goals as goal
+use Rattle.inode_switch.proofs.source.write_pieces.Goals as goal
 
 pub returns-in_err-write_at-clause-crash : goal.returns-in_err-write_at-clause-crash
 returns-in_err-write_at-clause-crash g c =

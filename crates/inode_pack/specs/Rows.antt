@@ -1,0 +1,18 @@
+-- Pages in a row, and the least data page that may be free: what keeps a commit from passing over all pages.
+use Rattle.std.specs.Prelude.{◌≡◌, ℕ, ◌<◌, ◌≤◌, true, List, slice_index}
+use Rattle.pack_layout.specs.Layout.{pages_of}
+use Rattle.shadow_pages.specs.Working.{Working}
+use Rattle.inode_pack.specs.Committing.{is_changed}
+
+-- each changed page of a content is one of those from `first` up to `stop`
+abbrev pub HasChanged : ℕ → ℕ → Working → Type 0
+HasChanged first stop w = (i : ℕ) → i < pages_of w.size → is_changed w i ≡ true → (first ≤ i) × (i < stop)
+
+-- two contents have the same data pages but for those from `first` up to `stop`
+abbrev pub SameButFor : ℕ → ℕ → List ℕ → List ℕ → Type 0
+SameButFor first stop old made = (i : ℕ) → i < 64 → ((first ≤ i) × (i < stop) → ⊥) → slice_index old i ≡ slice_index made i
+
+-- no data page below this one is free
+pub record NoneBelow (least : ℕ) (uses : List ℕ) : Type 0 where
+  pub most : least ≤ 3072
+  pub named : (page : ℕ) → page < least → 1 ≤ slice_index uses page

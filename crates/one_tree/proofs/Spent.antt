@@ -1,0 +1,25 @@
+-- No counter has its greatest value while the history is short.
+use Rattle.std.proofs.Common.{◌≤◌, ℕ, ◌+◌, ◌==◌, Bool, true, false, cond, List, [], ◌∷◌, length, arith}
+use Rattle.locus_ids.specs.declared.ids.FileId.{FileId}
+use Rattle.locus_ids.specs.declared.ids.Stamp.{Stamp}
+use Rattle.commit_graph.specs.declared.history.Version.{Version}
+use Rattle.commit_graph.specs.Versions.{is_version}
+use Rattle.commit_graph.specs.Counters.{counter, greatest, next_number}
+
+greatest-most : (f : Stamp → ℕ) (most : ℕ) (ss : List Stamp) → ((s : Stamp) → f s ≤ most) → greatest f ss ≤ most
+greatest-most f most [] below = omega arith
+greatest-most f most (s ∷ ss) below = let here = below s in let rest = greatest-most f most ss below in omega (arith, here, rest)
+
+-- each version raises a counter by one at most
+counter-most : (h : List Version) (file : FileId) (b : Stamp) (site : ℕ) → counter h file b site ≤ length h
+counter-most [] file b site = omega arith
+counter-most (v ∷ older) file b site = by_tests (is_version file b v) (v.site == site) (λ p. counter-most older file p site)
+  where
+    by_tests : (own here : Bool) → ((p : Stamp) → counter older file p site ≤ length older)
+        → cond own (greatest (λ p. counter older file p site) v.parents + cond here 1 0) (counter older file b site) ≤ length (v ∷ older)
+    by_tests true true below = let h = greatest-most (λ p. counter older file p site) (length older) v.parents below in omega (arith, h)
+    by_tests true false below = let h = greatest-most (λ p. counter older file p site) (length older) v.parents below in omega (arith, h)
+    by_tests false here below = let h = below b in omega (arith, h)
+
+pub next-most : (h : List Version) (file : FileId) (parents : List Stamp) (site : ℕ) → next_number h file parents site ≤ length h + 1
+next-most h file parents site = let g = greatest-most (λ p. counter h file p site) (length h) parents (λ p. counter-most h file p site) in omega (arith, g)
