@@ -112,6 +112,8 @@ impl Script {
     }
 
     // A stop stays one.
+    #[cold]
+    #[inline(never)]
     fn fail(&mut self) -> Turn
         ensures met { result ≡ Turn.Fails }
         ensures script { self.new ≡ record self.old { fired = fired_after Turn.Fails self.old.fired; faults = faults_after Turn.Fails self.old.faults } }

@@ -131,6 +131,7 @@ impl Disk for ScriptDisk {
         }
     }
 
+    #[inline(always)]
     fn write_at(&mut self, at: u32, bytes: &[u8]) -> Result<(), DiskFault>
         requires { at + length bytes.now ≤ length (seen_of self.old) }
         ensures written { OnOk result (seen_of self.new ≡ overwritten (seen_of self.old) at bytes.now) }
@@ -155,6 +156,7 @@ impl Disk for ScriptDisk {
         }
     }
 
+    #[inline(always)]
     fn sync(&mut self) -> Result<(), DiskFault>
         ensures durable { OnOk result (Only (seen_of self.new) (images self.new)) }
         ensures seen { seen_of self.new ≡ seen_of self.old }

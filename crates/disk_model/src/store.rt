@@ -88,7 +88,7 @@ impl Store {
         ensures unsynced { self.new.unsynced.items ≡ with_room self.old.unsynced.items ++ span ∷ [] }
     {
         self.make_room();
-        let _ = self.unsynced.push(span);
+        self.unsynced.push_reserved(span);
     }
 
     fn make_room(&mut self)
@@ -103,18 +103,48 @@ impl Store {
     }
 
     /// Writes bytes at a place, which stay unsynced.
+    #[inline]
     pub(crate) fn write(&mut self, at: u32, bytes: &[u8])
         requires { at + length bytes.now ≤ length self.old.seen.items }
         ensures seen { self.new.seen.items ≡ overwritten self.old.seen.items at bytes.now }
         ensures durable { self.new.durable.items ≡ durable_with_room self.old.unsynced.items self.old.durable.items self.old.seen.items }
         ensures unsynced { self.new.unsynced.items ≡ with_room self.old.unsynced.items ++ record { at = at; len = length bytes.now } ∷ [] }
     {
+        if self.unsynced.len() < ROOM {
+            self.write_in_room(at, bytes);
+        } else {
+            self.write_synced(at, bytes);
+        }
+    }
+
+    /// Writes bytes at a place where there is room for a further range.
+    #[inline]
+    fn write_in_room(&mut self, at: u32, bytes: &[u8])
+        requires room { length self.old.unsynced.items < 1024 }
+        requires inside { at + length bytes.now ≤ length self.old.seen.items }
+        ensures seen { self.new.seen.items ≡ overwritten self.old.seen.items at bytes.now }
+        ensures durable { self.new.durable.items ≡ self.old.durable.items }
+        ensures unsynced { self.new.unsynced.items ≡ self.old.unsynced.items ++ record { at = at; len = length bytes.now } ∷ [] }
+    {
         let _seen = self.seen.len();
-        self.mark(Span {
+        self.unsynced.push_reserved(Span {
             at,
             len: bytes.len() as u32,
         });
         put(&mut self.seen, at as usize, bytes);
+    }
+
+    /// Makes all durable, and then writes bytes at a place.
+    #[cold]
+    #[inline(never)]
+    fn write_synced(&mut self, at: u32, bytes: &[u8])
+        requires { at + length bytes.now ≤ length self.old.seen.items }
+        ensures seen { self.new.seen.items ≡ overwritten self.old.seen.items at bytes.now }
+        ensures durable { self.new.durable.items ≡ self.old.seen.items }
+        ensures unsynced { self.new.unsynced.items ≡ record { at = at; len = length bytes.now } ∷ [] }
+    {
+        self.sync();
+        self.write_in_room(at, bytes);
     }
 
     /// Writes a byte over a range, which stays unsynced.
@@ -129,6 +159,8 @@ impl Store {
     }
 
     /// Does what a stopped write leaves.
+    #[cold]
+    #[inline(never)]
     pub(crate) fn stop_write(&mut self, at: u32, bytes: &[u8], leave: Leave)
         requires { at + length bytes.now ≤ length self.old.seen.items }
         ensures seen { self.new.seen.items ≡ left_in leave self.old.seen.items at bytes.now }
@@ -148,7 +180,21 @@ impl Store {
     }
 }
 
+/// Writes bytes at a place. For one byte, as a gate is, nothing is called.
+#[inline]
 pub(crate) fn put(to: &mut [u8], at: usize, bytes: &[u8])
+    requires { at + length bytes.now ≤ length to.old }
+    ensures { to.new ≡ overwritten to.old at bytes.now }
+{
+    if bytes.len() == 1 {
+        to[at] = bytes[0];
+    } else {
+        put_many(to, at, bytes);
+    }
+}
+
+#[inline(never)]
+fn put_many(to: &mut [u8], at: usize, bytes: &[u8])
     requires { at + length bytes.now ≤ length to.old }
     ensures { to.new ≡ overwritten to.old at bytes.now }
 {

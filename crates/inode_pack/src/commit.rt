@@ -77,7 +77,8 @@ impl Pack {
             vector: *vector,
         };
         let base = self.base();
-        let prepared = self.prepare(&heading, shadow)?;
+        self.room_for(shadow)?;
+        let prepared = self.prepare(&heading, shadow);
         let which = prepared.made.which;
         let pieces = CommitPieces {
             base,
@@ -97,24 +98,11 @@ impl Pack {
         self.base
     }
 
-    /// Finds what a commit makes. It takes no memory, nor does the rest of a commit.
-    fn prepare(&self, heading: &Heading, shadow: &Shadow) -> Result<Prepared, PackFault>
-        requires area { self.now.base + area_length < 2 ^ 32 }
-        requires version { IsVersion heading.now.ino heading.now.set shadow.now.size heading.now.stamp heading.now.vector }
-        requires rests { RestsOn (size_of (copy_of self.now.copies heading.now.ino)) shadow.now }
-        ensures makes { IfOk result (λ p. Makes (is_free self.now.copies) (copy_of self.now.copies heading.now.ino) heading.now.ino heading.now.kind heading.now.set shadow.now heading.now.stamp heading.now.vector p.made) }
-        ensures numbers { IfOk result (λ p. length p.made.slot.pages ≡ 64) }
-        ensures place { IfOk result (λ p. p.made.which ≤ 1) }
-        ensures inside { IfOk result (λ p. (i : ℕ) → i < pages_of shadow.now.size → slice_index p.made.slot.pages i < 3072) }
-        ensures changed { IfOk result (λ p. HasChanged p.changed.first p.changed.stop shadow.now) }
-        ensures changed_ordered { IfOk result (λ p. p.changed.first ≤ p.changed.stop) }
-        ensures changed_inside { IfOk result (λ p. p.changed.stop ≤ pages_of shadow.now.size) }
-        ensures whole { IfOk result (λ _. AreWhole shadow.now (pages_of shadow.now.size)) }
-        ensures passed_ordered { IfOk result (λ p. p.passed.first ≤ p.passed.stop) }
-        ensures passed_inside { IfOk result (λ p. p.passed.stop ≤ 64) }
-        ensures same { IfOk result (λ p. (one : InodeCopy) → copy_of self.now.copies heading.now.ino ≡ Some one → SameButFor p.passed.first p.passed.stop one.slot.pages p.made.slot.pages) }
-        ensures closes { IfOk result (λ p. p.closes ≡ is_some (copy_of self.now.copies heading.now.ino)) }
+    /// Whether there is room for the changed pages.
+    fn room_for(&self, shadow: &Shadow) -> Result<(), PackFault>
+        requires size { shadow.now.size ≤ 65536 }
         ensures copies { AreCopies self.now.copies }
+        ensures room { OnOk result (needed shadow.now + length (named_pages self.now.copies) ≤ 3072) }
         ensures no_space { (pages free : ℕ) → (result ≡ Err (NoSpace pages free)) ↔ ((free < pages) × (pages ≡ needed shadow.now) × (free + length (named_pages self.now.copies) ≡ 3072)) }
         ensures early { IfErr result (λ fault. IsEarly fault) }
     {
@@ -125,15 +113,39 @@ impl Pack {
                 free: self.free,
             });
         }
+        Ok(())
+    }
+
+    /// Finds what a commit makes. It takes no memory, nor does the rest of a commit.
+    fn prepare(&self, heading: &Heading, shadow: &Shadow) -> Prepared
+        requires area { self.now.base + area_length < 2 ^ 32 }
+        requires version { IsVersion heading.now.ino heading.now.set shadow.now.size heading.now.stamp heading.now.vector }
+        requires rests { RestsOn (size_of (copy_of self.now.copies heading.now.ino)) shadow.now }
+        requires room { needed shadow.now + length (named_pages self.now.copies) ≤ 3072 }
+        ensures makes { Makes (is_free self.now.copies) (copy_of self.now.copies heading.now.ino) heading.now.ino heading.now.kind heading.now.set shadow.now heading.now.stamp heading.now.vector result.made }
+        ensures numbers { length result.made.slot.pages ≡ 64 }
+        ensures place { result.made.which ≤ 1 }
+        ensures inside { (i : ℕ) → i < pages_of shadow.now.size → slice_index result.made.slot.pages i < 3072 }
+        ensures changed { HasChanged result.changed.first result.changed.stop shadow.now }
+        ensures changed_ordered { result.changed.first ≤ result.changed.stop }
+        ensures changed_inside { result.changed.stop ≤ pages_of shadow.now.size }
+        ensures whole { AreWhole shadow.now (pages_of shadow.now.size) }
+        ensures passed_ordered { result.passed.first ≤ result.passed.stop }
+        ensures passed_inside { result.passed.stop ≤ 64 }
+        ensures same { (one : InodeCopy) → copy_of self.now.copies heading.now.ino ≡ Some one → SameButFor result.passed.first result.passed.stop one.slot.pages result.made.slot.pages }
+        ensures closes { result.closes ≡ is_some (copy_of self.now.copies heading.now.ino) }
+        ensures copies { AreCopies self.now.copies }
+    {
         let row = changed_row(shadow);
         let old = &self.copies[usize::from(heading.ino) - 1];
+        let passed = row_to_pass(old, row, page_count(shadow.size()));
         let made = next_copy(&self.uses, self.least, row, old, heading, shadow);
-        Ok(Prepared {
+        Prepared {
             made,
             changed: row,
-            passed: row_to_pass(old, row, page_count(shadow.size())),
+            passed,
             closes: old.is_some(),
-        })
+        }
     }
 
     /// The pack has this copy of the inode.

@@ -189,9 +189,11 @@ pub fn next_copy(
     ensures whole { AreWhole shadow.now (pages_of shadow.now.size) }
     ensures numbers { length result.slot.pages ≡ 64 }
 {
+    let which = next_which(old);
+    let turn = next_turn(old);
     let pages = take_pages(uses, least, row, old, shadow);
     let slot = Slot {
-        turn: next_turn(old),
+        turn,
         kind: heading.kind,
         ino: heading.ino,
         set: heading.set,
@@ -200,8 +202,5 @@ pub fn next_copy(
         vector: heading.vector,
         pages,
     };
-    InodeCopy {
-        which: next_which(old),
-        slot,
-    }
+    InodeCopy { which, slot }
 }

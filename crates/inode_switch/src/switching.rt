@@ -37,6 +37,7 @@ fn write_down<D: Disk, P: PieceSource>(disk: &mut D, source: &P) -> Result<(), D
 }
 
 // Writes a gate and makes it durable.
+#[inline(always)]
 pub(crate) fn set_gate<D: Disk>(disk: &mut D, gate: u32, byte: u8) -> Result<(), DiskFault>
     requires { gate < length (D.seen disk.old) }
     ensures written { OnOk result (D.seen disk.new ≡ overwritten (D.seen disk.old) gate (byte ∷ [])) }

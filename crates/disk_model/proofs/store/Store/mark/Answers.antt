@@ -1,4 +1,4 @@
-use Rattle.std.proofs.Common.{◌≡◌, ◌<◌, ◌≤◌, ◌+◌, ◌++◌, [], ◌∷◌, ap, sym, ◌∙◌, subst, List, Bool, cond, arith, length, vec_len, vec_capacity}
+use Rattle.std.proofs.Common.{◌≡◌, ◌≤◌, ◌+◌, ◌++◌, [], ◌∷◌, ap, sym, subst, List, arith, length}
 use Rattle.disk_model.specs.declared.store.Span.{Span}
 use Rattle.disk_model.specs.Store.{AreInRange, SameOutside}
 use Rattle.disk_model.proofs.Spans.{in_range_push, synced_push}
@@ -8,13 +8,12 @@ pub invariant_of-self : goal.invariant_of-self
 invariant_of-self c =
     let s = c.make_room.new.self in
     let more = s.unsynced.items ++ c.args.span ∷ [] in
-    let spare : vec_len s.unsynced < vec_capacity s.unsynced = omega (arith, s.room, c.make_room.ensures.room) in
-    let items : c.push.new.self.items ≡ more = c.push.ensures.items ∙ ap (λ (b : Bool). cond b more s.unsynced.items) (c.push.ensures.succeeds spare) in
+    let items : c.push_reserved.new.self.items ≡ more = c.push_reserved.ensures.items in
     let fits : c.args.span.at + c.args.span.len ≤ length s.seen.items = omega (arith, ap length c.make_room.ensures.seen, c.requires) in
     record {
       same_length = s.same_length;
       short = s.short;
-      room = omega (arith, s.room, c.push.ensures.capacity);
+      room = omega (arith, s.room, c.push_reserved.ensures.capacity);
       in_range = subst (λ (l : List Span). AreInRange l (length s.seen.items)) (sym items) (in_range_push s.unsynced.items c.args.span (length s.seen.items) s.in_range fits);
       synced = subst (λ (l : List Span). SameOutside l s.durable.items s.seen.items) (sym items) (synced_push s.unsynced.items c.args.span s.durable.items s.seen.items s.synced);
     }

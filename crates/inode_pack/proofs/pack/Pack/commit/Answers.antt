@@ -17,20 +17,20 @@ use Rattle.inode_pack.proofs.NewCopies.{own_copy, copies_after}
 use Rattle.inode_pack.proofs.Committed.{left_at_start, given_may, given_closes, given_left, given_calls, given_shows, given_replaced, given_on, same_fault, other_answer, disk_no_space, disk_tells}
 use Rattle.inode_pack.proofs.pack.Pack.commit.Goals as goal
 
-pub returns-in_err-prepared-clause-any_moment : goal.returns-in_err-prepared-clause-any_moment
-returns-in_err-prepared-clause-any_moment g c =
+pub returns-in_err-room_for-clause-any_moment : goal.returns-in_err-room_for-clause-any_moment
+returns-in_err-room_for-clause-any_moment g c =
     let pack = c.args.self.now in
     let disk = c.args.disk.now in
     let old = g.D.Disk.seen disk in
     let made = new_version pack.base c.args.ino c.args.kind c.args.set c.args.shadow.now c.args.stamp c.args.vector.now old in
     leaves_start g.D.Disk.now g.D.Disk.may_leave g.D.Disk.may_have_left disk (MayBeLeft pack c.args.ino made old)
     (λ x left. subst (λ (y : List ℕ). MayBeLeft pack c.args.ino made old y) (sym (c.requires.stands.settled x (g.met.D.Disk.only_now disk x left)))
-    (left_at_start pack c.args.ino made old c.in_err-prepared.ensures.copies c.requires.stands.shows))
+    (left_at_start pack c.args.ino made old c.in_err-room_for.ensures.copies c.requires.stands.shows))
 
-pub returns-in_err-prepared-clause-no_space : goal.returns-in_err-prepared-clause-no_space
-returns-in_err-prepared-clause-no_space g c pages free =
+pub returns-in_err-room_for-clause-no_space : goal.returns-in_err-room_for-clause-no_space
+returns-in_err-room_for-clause-no_space g c pages free =
     let h = given_on c.from_residual.result _ c.from_residual.ensures in
-    same_fault c.from_residual.result c.in_err-prepared.field-0.0 pages free _ (h.1 ∙ ap (λ (f : PackFault). Err f) h.2) (c.in_err-prepared.ensures.no_space pages free)
+    same_fault c.from_residual.result c.in_err-room_for.field-0.0 pages free _ (h.1 ∙ ap (λ (f : PackFault). Err f) h.2) (c.in_err-room_for.ensures.no_space pages free)
 
 pub replace_inode_from-requires-clause-may : goal.replace_inode_from-requires-clause-may
 replace_inode_from-requires-clause-may g c =
@@ -38,8 +38,8 @@ replace_inode_from-requires-clause-may g c =
     let ino = c.args.ino in
     let w = c.args.shadow.now in
     let old = g.D.Disk.seen c.args.disk.now in
-    let p = c.in_ok-prepared.prepared in
-    let e = c.in_ok-prepared.ensures in
+    let p = c.prepare-prepared.result in
+    let e = c.prepare-prepared.ensures in
     let s = set_up pack ino c.args.kind c.args.set w c.args.stamp c.args.vector.now p.made e.copies c.requires.version (omega arith) c.requires.rests e.whole e.numbers e.makes in
     given_may pack ino w p.made s old c.requires.stands.shows c.base-base.result (pieces_of c.base-base.result p.made w) c.base-base.ensures (ap (λ (b : ℕ). pieces_of b p.made w) c.base-base.ensures)
 
@@ -49,8 +49,8 @@ replace_inode_from-requires-clause-closes g c =
     let ino = c.args.ino in
     let w = c.args.shadow.now in
     let old = g.D.Disk.seen c.args.disk.now in
-    let p = c.in_ok-prepared.prepared in
-    let e = c.in_ok-prepared.ensures in
+    let p = c.prepare-prepared.result in
+    let e = c.prepare-prepared.ensures in
     let s = set_up pack ino c.args.kind c.args.set w c.args.stamp c.args.vector.now p.made e.copies c.requires.version (omega arith) c.requires.rests e.whole e.numbers e.makes in
     given_closes pack ino w p.made s old c.requires.stands.shows c.base-base.result (pieces_of c.base-base.result p.made w) c.base-base.ensures (ap (λ (b : ℕ). pieces_of b p.made w) c.base-base.ensures) p.closes e.closes
 
@@ -60,8 +60,8 @@ returns-in_err-replace_inode_from-clause-any_moment g c =
     let ino = c.args.ino in
     let w = c.args.shadow.now in
     let old = g.D.Disk.seen c.args.disk.now in
-    let p = c.in_ok-prepared.prepared in
-    let e = c.in_ok-prepared.ensures in
+    let p = c.prepare-prepared.result in
+    let e = c.prepare-prepared.ensures in
     let s = set_up pack ino c.args.kind c.args.set w c.args.stamp c.args.vector.now p.made e.copies c.requires.version (omega arith) c.requires.rests e.whole e.numbers e.makes in
     leaves_weaker g.D.Disk.now g.D.Disk.may_leave g.D.Disk.may_have_left c.args.disk.now c.replace_inode_from.new.disk
     (IsStage (pieces_of c.base-base.result p.made w) (slot_at c.base-base.result ino p.made.which) (closing c.base-base.result ino p.made.which old) old)
@@ -73,7 +73,7 @@ returns-in_err-replace_inode_from-clause-no_space g c pages free =
     let h = given_on c.from_residual-in_err-replace_inode_from.result _ c.from_residual-in_err-replace_inode_from.ensures in
     let r = c.from_residual-in_err-replace_inode_from.result in
     let is : r ≡ Err Disk = h.1 ∙ ap (λ (f : PackFault). Err f) h.2 in
-    other_answer r c.in_ok-prepared.prepared pages free _ (disk_no_space r pages free is) (c.in_ok-prepared.ensures.no_space pages free)
+    other_answer r tt pages free _ (disk_no_space r pages free is) (c.in_ok-room_for.ensures.no_space pages free)
 
 pub returns-in_err-replace_inode_from-clause-tells : goal.returns-in_err-replace_inode_from-clause-tells
 returns-in_err-replace_inode_from-clause-tells g c =
@@ -81,8 +81,8 @@ returns-in_err-replace_inode_from-clause-tells g c =
     let ino = c.args.ino in
     let w = c.args.shadow.now in
     let old = g.D.Disk.seen c.args.disk.now in
-    let p = c.in_ok-prepared.prepared in
-    let e = c.in_ok-prepared.ensures in
+    let p = c.prepare-prepared.result in
+    let e = c.prepare-prepared.ensures in
     let s = set_up pack ino c.args.kind c.args.set w c.args.stamp c.args.vector.now p.made e.copies c.requires.version (omega arith) c.requires.rests e.whole e.numbers e.makes in
     let h = given_on c.from_residual-in_err-replace_inode_from.result _ c.from_residual-in_err-replace_inode_from.ensures in
     let is = h.1 ∙ ap (λ (f : PackFault). Err f) h.2 in
@@ -97,8 +97,8 @@ put-requires-clause-copies g c =
     let ino = c.args.ino in
     let w = c.args.shadow.now in
     let old = g.D.Disk.seen c.args.disk.now in
-    let p = c.in_ok-prepared.prepared in
-    let e = c.in_ok-prepared.ensures in
+    let p = c.prepare-prepared.result in
+    let e = c.prepare-prepared.ensures in
     let s = set_up pack ino c.args.kind c.args.set w c.args.stamp c.args.vector.now p.made e.copies c.requires.version (omega arith) c.requires.rests e.whole e.numbers e.makes in
     copies_after pack ino w p.made s (place pack ino w p.made s old c.requires.stands.shows)
 
@@ -108,8 +108,8 @@ returns-clause-any_moment g c =
     let ino = c.args.ino in
     let w = c.args.shadow.now in
     let old = g.D.Disk.seen c.args.disk.now in
-    let p = c.in_ok-prepared.prepared in
-    let e = c.in_ok-prepared.ensures in
+    let p = c.prepare-prepared.result in
+    let e = c.prepare-prepared.ensures in
     let s = set_up pack ino c.args.kind c.args.set w c.args.stamp c.args.vector.now p.made e.copies c.requires.version (omega arith) c.requires.rests e.whole e.numbers e.makes in
     leaves_weaker g.D.Disk.now g.D.Disk.may_leave g.D.Disk.may_have_left c.args.disk.now c.replace_inode_from.new.disk
     (IsStage (pieces_of c.base-base.result p.made w) (slot_at c.base-base.result ino p.made.which) (closing c.base-base.result ino p.made.which old) old)
@@ -122,8 +122,8 @@ returns-clause-copies g c =
     let ino = c.args.ino in
     let w = c.args.shadow.now in
     let old = g.D.Disk.seen c.args.disk.now in
-    let p = c.in_ok-prepared.prepared in
-    let e = c.in_ok-prepared.ensures in
+    let p = c.prepare-prepared.result in
+    let e = c.prepare-prepared.ensures in
     let s = set_up pack ino c.args.kind c.args.set w c.args.stamp c.args.vector.now p.made e.copies c.requires.version (omega arith) c.requires.rests e.whole e.numbers e.makes in
     record {
       made = p.made;
@@ -138,8 +138,8 @@ returns-clause-stands g c =
     let ino = c.args.ino in
     let w = c.args.shadow.now in
     let old = g.D.Disk.seen c.args.disk.now in
-    let p = c.in_ok-prepared.prepared in
-    let e = c.in_ok-prepared.ensures in
+    let p = c.prepare-prepared.result in
+    let e = c.prepare-prepared.ensures in
     let s = set_up pack ino c.args.kind c.args.set w c.args.stamp c.args.vector.now p.made e.copies c.requires.version (omega arith) c.requires.rests e.whole e.numbers e.makes in
     subst (λ (new : PackState). Stands g.D.Disk.seen g.D.Disk.may_leave new c.replace_inode_from.new.disk) (sym c.put.ensures)
     (record { settled = c.in_ok-replace_inode_from.ensures.durable; shows = given_shows pack ino w p.made s old c.requires.stands.shows c.base-base.result (pieces_of c.base-base.result p.made w) c.base-base.ensures (ap (λ (b : ℕ). pieces_of b p.made w) c.base-base.ensures) (g.D.Disk.seen c.replace_inode_from.new.disk) c.in_ok-replace_inode_from.ensures.done })
@@ -150,13 +150,13 @@ returns-clause-replaced g c =
     let ino = c.args.ino in
     let w = c.args.shadow.now in
     let old = g.D.Disk.seen c.args.disk.now in
-    let p = c.in_ok-prepared.prepared in
-    let e = c.in_ok-prepared.ensures in
+    let p = c.prepare-prepared.result in
+    let e = c.prepare-prepared.ensures in
     let s = set_up pack ino c.args.kind c.args.set w c.args.stamp c.args.vector.now p.made e.copies c.requires.version (omega arith) c.requires.rests e.whole e.numbers e.makes in
     given_replaced pack ino w p.made s old c.requires.stands.shows c.base-base.result (pieces_of c.base-base.result p.made w) c.base-base.ensures (ap (λ (b : ℕ). pieces_of b p.made w) c.base-base.ensures) c.args.kind c.args.set c.args.stamp c.args.vector.now e.makes (g.D.Disk.seen c.replace_inode_from.new.disk) c.in_ok-replace_inode_from.ensures.replaced
 
 pub returns-clause-no_space : goal.returns-clause-no_space
-returns-clause-no_space g c pages free = other_answer _ c.in_ok-prepared.prepared pages free _ (λ e. absurd cc) (c.in_ok-prepared.ensures.no_space pages free)
+returns-clause-no_space g c pages free = other_answer _ tt pages free _ (λ e. absurd cc) (c.in_ok-room_for.ensures.no_space pages free)
 
 pub returns-clause-tells : goal.returns-clause-tells
 returns-clause-tells g c =
@@ -164,7 +164,7 @@ returns-clause-tells g c =
     let ino = c.args.ino in
     let w = c.args.shadow.now in
     let old = g.D.Disk.seen c.args.disk.now in
-    let p = c.in_ok-prepared.prepared in
-    let e = c.in_ok-prepared.ensures in
+    let p = c.prepare-prepared.result in
+    let e = c.prepare-prepared.ensures in
     let s = set_up pack ino c.args.kind c.args.set w c.args.stamp c.args.vector.now p.made e.copies c.requires.version (omega arith) c.requires.rests e.whole e.numbers e.makes in
     subst (λ (k : ℕ). TellsMany {T = Unit {0}} {E = DiskFault} k (g.D.Disk.passing c.args.disk.now) (g.D.Disk.passing c.replace_inode_from.new.disk) (Ok tt)) (given_calls pack ino w p.made s old c.requires.stands.shows c.base-base.result (pieces_of c.base-base.result p.made w) c.base-base.ensures (ap (λ (b : ℕ). pieces_of b p.made w) c.base-base.ensures)) c.in_ok-replace_inode_from.ensures.tells

@@ -1,10 +1,10 @@
-use Rattle.std.proofs.Common.{◌≡◌, ◌⊎◌, ◌≤◌, ℕ, Bool, List, length, get_or, sym, ap, subst, ◌∙◌, arith}
+use Rattle.std.proofs.Common.{◌≡◌, ◌⊎◌, ◌≤◌, ◌+◌, ℕ, Bool, List, length, get_or, sym, ap, subst, ◌∙◌, arith}
 use Rattle.pack_layout.specs.Layout.{pages_of}
 use Rattle.inode_pack.specs.declared.inode_copy.InodeCopy.{InodeCopy}
 use Rattle.std.specs.Prelude.{◌==◌, Option, Some}
 use Rattle.shadow_pages.specs.Working.{count_below}
 use Rattle.inode_pack.specs.Committing.{needed, RestsOn, size_of, TakesPages}
-use Rattle.inode_pack.specs.Pack.{PackState, AreUses, copy_of}
+use Rattle.inode_pack.specs.Pack.{PackState, AreUses, copy_of, named_pages}
 use Rattle.inode_pack.proofs.Setup.{copy_is, number_inside}
 use Rattle.inode_pack.proofs.Passing.{same_but_for}
 use Rattle.inode_pack.proofs.NewCopies.{copy_at, room_for, makes_alike}
@@ -13,7 +13,8 @@ use Rattle.inode_pack.proofs.pack.Pack.prepare.Goals as goal
 pub next_copy-made-requires-clause-room : goal.next_copy-made-requires-clause-room
 next_copy-made-requires-clause-room c =
     let inv = c.self.invariant in
-    let le : needed c.args.shadow.now ≤ c.self.inside.free = omega (arith, c.count_changed-needed.ensures.number) in
+    let fits : needed c.args.shadow.now + length (named_pages c.self.inside.copies.items) ≤ 3072 = subst (λ (p : PackState). needed c.args.shadow.now + length (named_pages p.copies) ≤ 3072) (sym c.self.view_is) c.requires.room in
+    let le : needed c.args.shadow.now ≤ c.self.inside.free = omega (arith, fits, inv.1.rest) in
     subst (λ (l : List ℕ). needed c.args.shadow.now ≤ count_below (λ p. get_or l p 0 == 0) (length l)) (sym c.deref.ensures.value)
     (room_for c.self.inside.copies.items c.self.inside.uses.items c.self.inside.free inv.0 inv.1 (needed c.args.shadow.now) le)
 
@@ -42,8 +43,8 @@ returns-clause-inside c =
     let rests = subst (λ (p : PackState). RestsOn (size_of (copy_of p.copies h.ino)) c.args.shadow.now) (sym c.self.view_is) c.requires.rests in
     number_inside copies h.ino c.args.shadow.now made.slot.pages inv.0 rests m.takes
 
-pub row_to_pass-requires-clause-slot : goal.row_to_pass-requires-clause-slot
-row_to_pass-requires-clause-slot c one held =
+pub row_to_pass-passed-requires-clause-slot : goal.row_to_pass-passed-requires-clause-slot
+row_to_pass-passed-requires-clause-slot c one held =
     let inv = c.self.invariant in
     let at = copy_at c.self.inside.copies.items c.self.inside.uses.items c.self.inside.free inv.0 inv.1 c.args.heading.now.ino c.from.result c.index-old.result.now c.requires.version.low c.requires.version.high c.from.ensures c.index-old.ensures in
     (copy_is c.self.inside.copies.items c.args.heading.now.ino one inv.0 (sym at ∙ held)).slot
@@ -54,12 +55,12 @@ returns-clause-same c one known =
     let h = c.args.heading.now in
     let w = c.args.shadow.now in
     let row = c.changed_row-row.result in
-    let pass = c.row_to_pass.result in
+    let pass = c.row_to_pass-passed.result in
     let at = copy_at c.self.inside.copies.items c.self.inside.uses.items c.self.inside.free inv.0 inv.1 h.ino c.from.result c.index-old.result.now c.requires.version.low c.requires.version.high c.from.ensures c.index-old.ensures in
     let held = at ∙ subst (λ (p : PackState). copy_of p.copies h.ino ≡ Some one) (sym c.self.view_is) known in
     let unused : ℕ → Bool = λ p. get_or c.deref.result.now p 0 == 0 in
     let takes = subst (λ (o : Option InodeCopy). TakesPages unused o w c.next_copy-made.result.slot.pages) held c.next_copy-made.ensures.makes.takes in
     let slot = (copy_is c.self.inside.copies.items h.ino one inv.0 (sym at ∙ held)).slot in
     let end = c.page_count.ensures.pages ∙ ap pages_of c.size.ensures.value in
-    let covers = subst (λ (n : ℕ). ((pass.first ≡ 0) × (pass.stop ≡ 64)) ⊎ ((pass.first ≡ row.first) × (pass.stop ≡ row.stop) × (pages_of one.slot.size ≤ n))) end (c.row_to_pass.ensures.covers one held) in
+    let covers = subst (λ (n : ℕ). ((pass.first ≡ 0) × (pass.stop ≡ 64)) ⊎ ((pass.first ≡ row.first) × (pass.stop ≡ row.stop) × (pages_of one.slot.size ≤ n))) end (c.row_to_pass-passed.ensures.covers one held) in
     same_but_for unused one w c.next_copy-made.result.slot.pages row.first row.stop pass.first pass.stop slot takes c.changed_row-row.ensures.changed covers
