@@ -192,6 +192,7 @@ impl Disk for RecordDisk {
         ensures answer { IsOk result ↔ HasRoom self.old (length bytes.now) }
         ensures full { OnErr result (seen_of self.new ≡ seen_of self.old) }
         ensures kept { OnOk result (Keeps (wrote self.old at (length bytes.now)) bytes.now self.old self.new) }
+        ensures faults { OnOk result (self.new.faults ≡ self.old.faults) }
         ensures not_kept { OnErr result (KeepsNone self.old self.new) }
         ensures room { SameRoom self.old self.new }
     {
@@ -212,6 +213,7 @@ impl Disk for RecordDisk {
         ensures remembers { Remembers self.old self.new }
         ensures answer { IsOk result ↔ HasRoom self.old 0 }
         ensures kept { OnOk result (Keeps Synced [] self.old self.new) }
+        ensures faults { OnOk result (self.new.faults ≡ self.old.faults) }
         ensures not_kept { OnErr result (KeepsNone self.old self.new) }
         ensures room { SameRoom self.old self.new }
     {

@@ -16,7 +16,7 @@ use crate::plan::{Heading, Row, changed_row, count_changed, next_copy, page_coun
 use crate::usage::{first_free, pages_named, pass_pages, row_to_pass};
 use crate::{InodeCopy, Pack, PackFault};
 use disk_model::Disk;
-use inode_switch::replace_inode_from;
+use inode_switch::replace_inode;
 use locus_ids::{Kind, Sites, Stamp};
 use shadow_pages::Shadow;
 use version_vector::Vector;
@@ -86,7 +86,7 @@ impl Pack {
             row: prepared.changed,
             shadow,
         };
-        replace_inode_from(disk, base, ino, which, prepared.closes, &pieces)?;
+        replace_inode(disk, base, ino, which, prepared.closes, &pieces)?;
         self.put(ino, &prepared.made, prepared.passed);
         Ok(())
     }

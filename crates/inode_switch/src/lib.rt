@@ -8,6 +8,6 @@ mod source;
 mod switching;
 
 pub use closing::close_losing_gate;
-pub use replacing::{replace_inode, replace_inode_from};
+pub use replacing::replace_inode;
 pub use source::PieceSource;
-pub use switching::{Piece, Pieces, switch};
+pub use switching::{Piece, Pieces};

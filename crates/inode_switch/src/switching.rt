@@ -50,33 +50,8 @@ pub(crate) fn set_gate<D: Disk>(disk: &mut D, gate: u32, byte: u8) -> Result<(),
     disk.sync()
 }
 
-/// Writes the pieces and syncs, opens a gate and syncs, and then closes the old gate, where there is one, and syncs.
-pub fn switch<D: Disk>(
-    disk: &mut D,
-    pieces: &Pieces,
-    gate: u32,
-    old_gate: Option<u32>,
-) -> Result<(), DiskFault>
-    requires settled { Only (D.seen disk.old) (D.may_leave disk.old) }
-    requires pieces { AreWithin pieces.now (length (D.seen disk.old)) }
-    requires gate { gate < length (D.seen disk.old) }
-    requires old_gate { GateWithin old_gate (length (D.seen disk.old)) }
-
-    // A crash leaves the pieces torn, or all of them and the gate torn, or the gate open and the old gate torn.
-    ensures any_moment { LeavesOnly D.now D.may_have_left disk.old disk.new (IsStage pieces.now gate old_gate (D.seen disk.old)) }
-
-    ensures done { OnOk result (D.seen disk.new ≡ switched pieces.now gate old_gate (D.seen disk.old)) }
-    ensures durable { OnOk result (Only (D.seen disk.new) (D.may_leave disk.new)) }
-
-    // It fails only where the disk did, and where the disk tells how many calls pass, exactly where they are too few.
-    ensures cause { HasCause (D.faults disk.old) (D.faults disk.new) result }
-    ensures tells { TellsMany (calls_of pieces.now old_gate) (D.passing disk.old) (D.passing disk.new) result }
-{
-    switch_from(disk, pieces, gate, old_gate)
-}
-
 /// Writes the pieces of a source and syncs, opens a gate and syncs, and then closes the old gate, where there is one, and syncs.
-pub(crate) fn switch_from<D: Disk, P: PieceSource>(
+pub(crate) fn switch<D: Disk, P: PieceSource>(
     disk: &mut D,
     source: &P,
     gate: u32,

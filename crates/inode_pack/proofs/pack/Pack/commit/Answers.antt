@@ -32,8 +32,8 @@ returns-in_err-room_for-clause-no_space g c pages free =
     let h = given_on c.from_residual.result _ c.from_residual.ensures in
     same_fault c.from_residual.result c.in_err-room_for.field-0.0 pages free _ (h.1 ∙ ap (λ (f : PackFault). Err f) h.2) (c.in_err-room_for.ensures.no_space pages free)
 
-pub replace_inode_from-requires-clause-may : goal.replace_inode_from-requires-clause-may
-replace_inode_from-requires-clause-may g c =
+pub replace_inode-requires-clause-may : goal.replace_inode-requires-clause-may
+replace_inode-requires-clause-may g c =
     let pack = c.args.self.now in
     let ino = c.args.ino in
     let w = c.args.shadow.now in
@@ -43,8 +43,8 @@ replace_inode_from-requires-clause-may g c =
     let s = set_up pack ino c.args.kind c.args.set w c.args.stamp c.args.vector.now p.made e.copies c.requires.version (omega arith) c.requires.rests e.whole e.numbers e.makes in
     given_may pack ino w p.made s old c.requires.stands.shows c.base-base.result (pieces_of c.base-base.result p.made w) c.base-base.ensures (ap (λ (b : ℕ). pieces_of b p.made w) c.base-base.ensures)
 
-pub replace_inode_from-requires-clause-closes : goal.replace_inode_from-requires-clause-closes
-replace_inode_from-requires-clause-closes g c =
+pub replace_inode-requires-clause-closes : goal.replace_inode-requires-clause-closes
+replace_inode-requires-clause-closes g c =
     let pack = c.args.self.now in
     let ino = c.args.ino in
     let w = c.args.shadow.now in
@@ -54,8 +54,8 @@ replace_inode_from-requires-clause-closes g c =
     let s = set_up pack ino c.args.kind c.args.set w c.args.stamp c.args.vector.now p.made e.copies c.requires.version (omega arith) c.requires.rests e.whole e.numbers e.makes in
     given_closes pack ino w p.made s old c.requires.stands.shows c.base-base.result (pieces_of c.base-base.result p.made w) c.base-base.ensures (ap (λ (b : ℕ). pieces_of b p.made w) c.base-base.ensures) p.closes e.closes
 
-pub returns-in_err-replace_inode_from-clause-any_moment : goal.returns-in_err-replace_inode_from-clause-any_moment
-returns-in_err-replace_inode_from-clause-any_moment g c =
+pub returns-in_err-replace_inode-clause-any_moment : goal.returns-in_err-replace_inode-clause-any_moment
+returns-in_err-replace_inode-clause-any_moment g c =
     let pack = c.args.self.now in
     let ino = c.args.ino in
     let w = c.args.shadow.now in
@@ -63,20 +63,20 @@ returns-in_err-replace_inode_from-clause-any_moment g c =
     let p = c.prepare-prepared.result in
     let e = c.prepare-prepared.ensures in
     let s = set_up pack ino c.args.kind c.args.set w c.args.stamp c.args.vector.now p.made e.copies c.requires.version (omega arith) c.requires.rests e.whole e.numbers e.makes in
-    leaves_weaker g.D.Disk.now g.D.Disk.may_leave g.D.Disk.may_have_left c.args.disk.now c.replace_inode_from.new.disk
+    leaves_weaker g.D.Disk.now g.D.Disk.may_leave g.D.Disk.may_have_left c.args.disk.now c.replace_inode.new.disk
     (IsStage (pieces_of c.base-base.result p.made w) (slot_at c.base-base.result ino p.made.which) (closing c.base-base.result ino p.made.which old) old)
     (MayBeLeft pack ino (new_version pack.base ino c.args.kind c.args.set w c.args.stamp c.args.vector.now old) old)
-    (given_left pack ino w p.made s old c.requires.stands.shows c.base-base.result (pieces_of c.base-base.result p.made w) c.base-base.ensures (ap (λ (b : ℕ). pieces_of b p.made w) c.base-base.ensures) c.args.kind c.args.set c.args.stamp c.args.vector.now e.makes) c.replace_inode_from.ensures.stages
+    (given_left pack ino w p.made s old c.requires.stands.shows c.base-base.result (pieces_of c.base-base.result p.made w) c.base-base.ensures (ap (λ (b : ℕ). pieces_of b p.made w) c.base-base.ensures) c.args.kind c.args.set c.args.stamp c.args.vector.now e.makes) c.replace_inode.ensures.stages
 
-pub returns-in_err-replace_inode_from-clause-no_space : goal.returns-in_err-replace_inode_from-clause-no_space
-returns-in_err-replace_inode_from-clause-no_space g c pages free =
-    let h = given_on c.from_residual-in_err-replace_inode_from.result _ c.from_residual-in_err-replace_inode_from.ensures in
-    let r = c.from_residual-in_err-replace_inode_from.result in
+pub returns-in_err-replace_inode-clause-no_space : goal.returns-in_err-replace_inode-clause-no_space
+returns-in_err-replace_inode-clause-no_space g c pages free =
+    let h = given_on c.from_residual-in_err-replace_inode.result _ c.from_residual-in_err-replace_inode.ensures in
+    let r = c.from_residual-in_err-replace_inode.result in
     let is : r ≡ Err Disk = h.1 ∙ ap (λ (f : PackFault). Err f) h.2 in
     other_answer r tt pages free _ (disk_no_space r pages free is) (c.in_ok-room_for.ensures.no_space pages free)
 
-pub returns-in_err-replace_inode_from-clause-tells : goal.returns-in_err-replace_inode_from-clause-tells
-returns-in_err-replace_inode_from-clause-tells g c =
+pub returns-in_err-replace_inode-clause-tells : goal.returns-in_err-replace_inode-clause-tells
+returns-in_err-replace_inode-clause-tells g c =
     let pack = c.args.self.now in
     let ino = c.args.ino in
     let w = c.args.shadow.now in
@@ -84,11 +84,11 @@ returns-in_err-replace_inode_from-clause-tells g c =
     let p = c.prepare-prepared.result in
     let e = c.prepare-prepared.ensures in
     let s = set_up pack ino c.args.kind c.args.set w c.args.stamp c.args.vector.now p.made e.copies c.requires.version (omega arith) c.requires.rests e.whole e.numbers e.makes in
-    let h = given_on c.from_residual-in_err-replace_inode_from.result _ c.from_residual-in_err-replace_inode_from.ensures in
+    let h = given_on c.from_residual-in_err-replace_inode.result _ c.from_residual-in_err-replace_inode.ensures in
     let is = h.1 ∙ ap (λ (f : PackFault). Err f) h.2 in
     let before = g.D.Disk.passing c.args.disk.now in
-    let after = g.D.Disk.passing c.replace_inode_from.new.disk in
-    let tells = disk_tells _ _ before after c.in_err-replace_inode_from.field-0.0 (given_calls pack ino w p.made s old c.requires.stands.shows c.base-base.result (pieces_of c.base-base.result p.made w) c.base-base.ensures (ap (λ (b : ℕ). pieces_of b p.made w) c.base-base.ensures)) c.in_err-replace_inode_from.ensures.tells in
+    let after = g.D.Disk.passing c.replace_inode.new.disk in
+    let tells = disk_tells _ _ before after c.in_err-replace_inode.field-0.0 (given_calls pack ino w p.made s old c.requires.stands.shows c.base-base.result (pieces_of c.base-base.result p.made w) c.base-base.ensures (ap (λ (b : ℕ). pieces_of b p.made w) c.base-base.ensures)) c.in_err-replace_inode.ensures.tells in
     subst (λ (r : Result (Unit {0}) PackFault). TellsMany (commit_calls w (copy_of pack.copies ino) r) before after (commit_answer r)) (sym is) tells
 
 pub put-requires-clause-copies : goal.put-requires-clause-copies
@@ -111,10 +111,10 @@ returns-clause-any_moment g c =
     let p = c.prepare-prepared.result in
     let e = c.prepare-prepared.ensures in
     let s = set_up pack ino c.args.kind c.args.set w c.args.stamp c.args.vector.now p.made e.copies c.requires.version (omega arith) c.requires.rests e.whole e.numbers e.makes in
-    leaves_weaker g.D.Disk.now g.D.Disk.may_leave g.D.Disk.may_have_left c.args.disk.now c.replace_inode_from.new.disk
+    leaves_weaker g.D.Disk.now g.D.Disk.may_leave g.D.Disk.may_have_left c.args.disk.now c.replace_inode.new.disk
     (IsStage (pieces_of c.base-base.result p.made w) (slot_at c.base-base.result ino p.made.which) (closing c.base-base.result ino p.made.which old) old)
     (MayBeLeft pack ino (new_version pack.base ino c.args.kind c.args.set w c.args.stamp c.args.vector.now old) old)
-    (given_left pack ino w p.made s old c.requires.stands.shows c.base-base.result (pieces_of c.base-base.result p.made w) c.base-base.ensures (ap (λ (b : ℕ). pieces_of b p.made w) c.base-base.ensures) c.args.kind c.args.set c.args.stamp c.args.vector.now e.makes) c.replace_inode_from.ensures.stages
+    (given_left pack ino w p.made s old c.requires.stands.shows c.base-base.result (pieces_of c.base-base.result p.made w) c.base-base.ensures (ap (λ (b : ℕ). pieces_of b p.made w) c.base-base.ensures) c.args.kind c.args.set c.args.stamp c.args.vector.now e.makes) c.replace_inode.ensures.stages
 
 pub returns-clause-copies : goal.returns-clause-copies
 returns-clause-copies g c =
@@ -141,8 +141,8 @@ returns-clause-stands g c =
     let p = c.prepare-prepared.result in
     let e = c.prepare-prepared.ensures in
     let s = set_up pack ino c.args.kind c.args.set w c.args.stamp c.args.vector.now p.made e.copies c.requires.version (omega arith) c.requires.rests e.whole e.numbers e.makes in
-    subst (λ (new : PackState). Stands g.D.Disk.seen g.D.Disk.may_leave new c.replace_inode_from.new.disk) (sym c.put.ensures)
-    (record { settled = c.in_ok-replace_inode_from.ensures.durable; shows = given_shows pack ino w p.made s old c.requires.stands.shows c.base-base.result (pieces_of c.base-base.result p.made w) c.base-base.ensures (ap (λ (b : ℕ). pieces_of b p.made w) c.base-base.ensures) (g.D.Disk.seen c.replace_inode_from.new.disk) c.in_ok-replace_inode_from.ensures.done })
+    subst (λ (new : PackState). Stands g.D.Disk.seen g.D.Disk.may_leave new c.replace_inode.new.disk) (sym c.put.ensures)
+    (record { settled = c.in_ok-replace_inode.ensures.durable; shows = given_shows pack ino w p.made s old c.requires.stands.shows c.base-base.result (pieces_of c.base-base.result p.made w) c.base-base.ensures (ap (λ (b : ℕ). pieces_of b p.made w) c.base-base.ensures) (g.D.Disk.seen c.replace_inode.new.disk) c.in_ok-replace_inode.ensures.done })
 
 pub returns-clause-replaced : goal.returns-clause-replaced
 returns-clause-replaced g c =
@@ -153,7 +153,7 @@ returns-clause-replaced g c =
     let p = c.prepare-prepared.result in
     let e = c.prepare-prepared.ensures in
     let s = set_up pack ino c.args.kind c.args.set w c.args.stamp c.args.vector.now p.made e.copies c.requires.version (omega arith) c.requires.rests e.whole e.numbers e.makes in
-    given_replaced pack ino w p.made s old c.requires.stands.shows c.base-base.result (pieces_of c.base-base.result p.made w) c.base-base.ensures (ap (λ (b : ℕ). pieces_of b p.made w) c.base-base.ensures) c.args.kind c.args.set c.args.stamp c.args.vector.now e.makes (g.D.Disk.seen c.replace_inode_from.new.disk) c.in_ok-replace_inode_from.ensures.replaced
+    given_replaced pack ino w p.made s old c.requires.stands.shows c.base-base.result (pieces_of c.base-base.result p.made w) c.base-base.ensures (ap (λ (b : ℕ). pieces_of b p.made w) c.base-base.ensures) c.args.kind c.args.set c.args.stamp c.args.vector.now e.makes (g.D.Disk.seen c.replace_inode.new.disk) c.in_ok-replace_inode.ensures.replaced
 
 pub returns-clause-no_space : goal.returns-clause-no_space
 returns-clause-no_space g c pages free = other_answer _ tt pages free _ (λ e. absurd cc) (c.in_ok-room_for.ensures.no_space pages free)
@@ -167,4 +167,4 @@ returns-clause-tells g c =
     let p = c.prepare-prepared.result in
     let e = c.prepare-prepared.ensures in
     let s = set_up pack ino c.args.kind c.args.set w c.args.stamp c.args.vector.now p.made e.copies c.requires.version (omega arith) c.requires.rests e.whole e.numbers e.makes in
-    subst (λ (k : ℕ). TellsMany {T = Unit {0}} {E = DiskFault} k (g.D.Disk.passing c.args.disk.now) (g.D.Disk.passing c.replace_inode_from.new.disk) (Ok tt)) (given_calls pack ino w p.made s old c.requires.stands.shows c.base-base.result (pieces_of c.base-base.result p.made w) c.base-base.ensures (ap (λ (b : ℕ). pieces_of b p.made w) c.base-base.ensures)) c.in_ok-replace_inode_from.ensures.tells
+    subst (λ (k : ℕ). TellsMany {T = Unit {0}} {E = DiskFault} k (g.D.Disk.passing c.args.disk.now) (g.D.Disk.passing c.replace_inode.new.disk) (Ok tt)) (given_calls pack ino w p.made s old c.requires.stands.shows c.base-base.result (pieces_of c.base-base.result p.made w) c.base-base.ensures (ap (λ (b : ℕ). pieces_of b p.made w) c.base-base.ensures)) c.in_ok-replace_inode.ensures.tells

@@ -10,7 +10,7 @@ use Rattle.inode_switch.specs.View.{IsOldOrNew, Replaced}
 use Rattle.inode_switch.specs.Replace.{made_version, closing}
 use Rattle.inode_switch.proofs.Moments.{leaves_weaker, on_ok}
 use Rattle.inode_switch.proofs.OldOrNew.{stage_view, switched_view}
-use Rattle.inode_switch.proofs.replacing.replace_inode_from.Goals as goal
+use Rattle.inode_switch.proofs.replacing.replace_inode.Goals as goal
 
 -- the gates as the switch was told them
 same_stage : (pieces : List Piece) (old x : List ℕ) (gate gate' : ℕ) (shuts shuts' : Option ℕ) → gate ≡ gate' → shuts ≡ shuts' → IsStage pieces gate shuts old x → IsStage pieces gate' shuts' old x
@@ -25,9 +25,9 @@ returns-clause-stages g c =
     let ino = c.args.ino in
     let which = c.args.which in
     let shuts : c.closing_place-old_gate.result ≡ closing base ino which old = c.closing_place-old_gate.ensures ∙ ap (λ (b : Bool). if b then Some (slot_at base ino (1 - which)) else None) c.requires.closes in
-    leaves_weaker g.D.Disk.now g.D.Disk.may_leave g.D.Disk.may_have_left c.args.disk.now c.switch_from.new.disk (IsStage pieces c.slot_at-gate.result c.closing_place-old_gate.result old) (IsStage pieces (slot_at base ino which) (closing base ino which old) old)
+    leaves_weaker g.D.Disk.now g.D.Disk.may_leave g.D.Disk.may_have_left c.args.disk.now c.switch.new.disk (IsStage pieces c.slot_at-gate.result c.closing_place-old_gate.result old) (IsStage pieces (slot_at base ino which) (closing base ino which old) old)
     (λ x. same_stage pieces old x c.slot_at-gate.result (slot_at base ino which) c.closing_place-old_gate.result (closing base ino which old) c.slot_at-gate.ensures shuts)
-    c.switch_from.ensures.any_moment
+    c.switch.ensures.any_moment
 
 pub returns-clause-outside : goal.returns-clause-outside
 returns-clause-outside g c =
@@ -37,10 +37,10 @@ returns-clause-outside g c =
     let ino = c.args.ino in
     let which = c.args.which in
     let shuts : c.closing_place-old_gate.result ≡ closing base ino which old = c.closing_place-old_gate.ensures ∙ ap (λ (b : Bool). if b then Some (slot_at base ino (1 - which)) else None) c.requires.closes in
-    leaves_weaker g.D.Disk.now g.D.Disk.may_leave g.D.Disk.may_have_left c.args.disk.now c.switch_from.new.disk (IsStage pieces c.slot_at-gate.result c.closing_place-old_gate.result old) (Torn base area_length old)
+    leaves_weaker g.D.Disk.now g.D.Disk.may_leave g.D.Disk.may_have_left c.args.disk.now c.switch.new.disk (IsStage pieces c.slot_at-gate.result c.closing_place-old_gate.result old) (Torn base area_length old)
     (λ x stage. stage_in_area base ino which pieces old c.requires.may x
     (same_stage pieces old x c.slot_at-gate.result (slot_at base ino which) c.closing_place-old_gate.result (closing base ino which old) c.slot_at-gate.ensures shuts stage))
-    c.switch_from.ensures.any_moment
+    c.switch.ensures.any_moment
 
 pub returns-clause-done : goal.returns-clause-done
 returns-clause-done g c =
@@ -50,9 +50,9 @@ returns-clause-done g c =
     let ino = c.args.ino in
     let which = c.args.which in
     let shuts : c.closing_place-old_gate.result ≡ closing base ino which old = c.closing_place-old_gate.ensures ∙ ap (λ (b : Bool). if b then Some (slot_at base ino (1 - which)) else None) c.requires.closes in
-    on_ok c.switch_from.result _ (g.D.Disk.seen c.switch_from.new.disk ≡ switched pieces (slot_at base ino which) (closing base ino which old) old)
+    on_ok c.switch.result _ (g.D.Disk.seen c.switch.new.disk ≡ switched pieces (slot_at base ino which) (closing base ino which old) old)
     (λ done. done ∙ ap (λ (n : ℕ). switched pieces n c.closing_place-old_gate.result old) c.slot_at-gate.ensures ∙ ap (λ (o : Option ℕ). switched pieces (slot_at base ino which) o old) shuts)
-    c.switch_from.ensures.done
+    c.switch.ensures.done
 
 pub returns-clause-any_moment : goal.returns-clause-any_moment
 returns-clause-any_moment g c =
@@ -63,11 +63,11 @@ returns-clause-any_moment g c =
     let which = c.args.which in
     let made = made_version base ino which pieces old in
     let shuts : c.closing_place-old_gate.result ≡ closing base ino which old = c.closing_place-old_gate.ensures ∙ ap (λ (b : Bool). if b then Some (slot_at base ino (1 - which)) else None) c.requires.closes in
-    leaves_weaker g.D.Disk.now g.D.Disk.may_leave g.D.Disk.may_have_left c.args.disk.now c.switch_from.new.disk (IsStage pieces c.slot_at-gate.result c.closing_place-old_gate.result old) (IsOldOrNew base ino made old)
+    leaves_weaker g.D.Disk.now g.D.Disk.may_leave g.D.Disk.may_have_left c.args.disk.now c.switch.new.disk (IsStage pieces c.slot_at-gate.result c.closing_place-old_gate.result old) (IsOldOrNew base ino made old)
     (λ x stage. stage_view base ino which pieces old c.requires.may x
     (subst (λ (o : Option ℕ). IsStage pieces (slot_at base ino which) o old x) shuts
     (subst (λ (n : ℕ). IsStage pieces n c.closing_place-old_gate.result old x) c.slot_at-gate.ensures stage)))
-    c.switch_from.ensures.any_moment
+    c.switch.ensures.any_moment
 
 pub returns-clause-replaced : goal.returns-clause-replaced
 returns-clause-replaced g c =
@@ -78,8 +78,8 @@ returns-clause-replaced g c =
     let which = c.args.which in
     let made = made_version base ino which pieces old in
     let shuts : c.closing_place-old_gate.result ≡ closing base ino which old = c.closing_place-old_gate.ensures ∙ ap (λ (b : Bool). if b then Some (slot_at base ino (1 - which)) else None) c.requires.closes in
-    on_ok c.switch_from.result _ (Replaced base ino made old (g.D.Disk.seen c.switch_from.new.disk))
+    on_ok c.switch.result _ (Replaced base ino made old (g.D.Disk.seen c.switch.new.disk))
     (λ done. subst (λ (l : List ℕ). Replaced base ino made old l)
     (sym (done ∙ ap (λ (n : ℕ). switched pieces n c.closing_place-old_gate.result old) c.slot_at-gate.ensures ∙ ap (λ (o : Option ℕ). switched pieces (slot_at base ino which) o old) shuts))
     (switched_view base ino which pieces old c.requires.may))
-    c.switch_from.ensures.done
+    c.switch.ensures.done

@@ -1,7 +1,7 @@
 use Rattle.std.proofs.Common.{◌≡◌, ◌∙◌, ap, refl, List, ℕ}
 use Rattle.inode_switch.specs.Switch.{written, opened}
 use Rattle.inode_switch.proofs.Stages.{stage_one, stage_two, stage_three}
-use Rattle.inode_switch.proofs.switching.switch_from.Goals as goal
+use Rattle.inode_switch.proofs.switching.switch.Goals as goal
 
 pub returns-in_err-write_down-clause-any_moment : goal.returns-in_err-write_down-clause-any_moment
 returns-in_err-write_down-clause-any_moment g c =
