@@ -1,3 +1,4 @@
 pub mod Versions
 pub mod Grants
 pub mod Counters
+pub mod Vectors

@@ -5,8 +5,6 @@
 
 mod ancestors;
 mod history;
-#[cfg(test)]
-mod tests;
 
 pub use ancestors::{is_ancestor, kept};
 pub use history::{History, Version};

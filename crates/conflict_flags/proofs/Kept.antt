@@ -18,6 +18,7 @@ use Rattle.conflict_flags.specs.Written.{zeros, joined_all, written, NoneTwice, 
 use Rattle.conflict_flags.specs.Copies.{is_maximal, tops, with_held, by_stamp, maxima, stamps_of}
 use Rattle.conflict_flags.specs.Table.{Table, the_file, copy_at, copy_of, put, present, takes, taken, is_site, grown, counted, first, committed, adopted, resolved, stepped, happens, start, run}
 use Rattle.conflict_flags.proofs.Numbers.{joined_bound, written_low, last_in}
+use Rattle.conflict_flags.proofs.Vectors.{IsOwn}
 use Rattle.conflict_flags.proofs.Ancestors.{Each, Counted, Counts, Named, place, named, ancestor-within, written_here, written_there, in_here, in_there, in_older, not_newest, part-zeros, true_or_false}
 
 -- a copy is of a version of the history, and has its written vector
@@ -36,6 +37,7 @@ pub record Good (w : Table) : Type 0 where
   pub count : Counted the_file w.history
   pub once : NoneTwice w.history
   pub numbers : Numbered w.history
+  pub own : Each IsOwn w.history
   pub copies : (at : ℕ) (c : Held) → copy_at w.copies at ≡ Some c → IsTrueCopy w.history c
   pub last : (a : Stamp) → is_in w.history the_file a ≡ true → Covers w.copies a
 
@@ -93,12 +95,12 @@ module _ (h : List Version) where
       (cases_eq (place a) at)
 
 -- a new version on parents whose written vectors join to v keeps it all, where v covers the site's own commits
-grown_good : (w : Table) (site : ℕ) (parents : List Stamp) (v : List ℕ) → 1 ≤ site → Good w →
+grown_good : (w : Table) (site : ℕ) (parents : List Stamp) (v : List ℕ) → 1 ≤ site → site ≤ 16 → Good w →
     Each (λ p. is_in w.history the_file p ≡ true) parents →
     ((t : ℕ) → part v t ≡ part (joined_all (written w.history the_file) parents) t) →
     ((a : Stamp) → is_in w.history the_file a ≡ true → place a ≡ site - 1 → a.n ≤ part v (site - 1)) →
     Good (grown w site parents v)
-grown_good w site parents v low good stand joins covers =
+grown_good w site parents v low high good stand joins covers =
     let at : ℕ = site - 1 in
     let stamp : Stamp = record { site = site; n = part v at + 1 } in
     let new : Held = record { site = site; stamp = stamp; vector = raised v at } in
@@ -122,6 +124,7 @@ grown_good w site parents v low good stand joins covers =
       count = (counts, good.count);
       once = (is_fresh, good.once);
       numbers = (ap (λ (n : ℕ). n + 1) counts_all, good.numbers);
+      own = (record { same = refl; most = high }, good.own);
       copies = λ t c e. ⊎_elim
           (λ (ts : t ≡ at). subst (IsTrueCopy (node ∷ w.history)) (some_eq (sym (copy_at-put_same w.copies at new) ∙ subst (λ (x : ℕ). copy_at (put w.copies at new) x ≡ Some c) ts e)) new_true)
           (λ (ts : t ≢ at). older_copy node w.history c refl is_fresh (good.copies t c (sym (copy_at-put_other w.copies at new t ts) ∙ e)))
@@ -143,13 +146,16 @@ either false x y f g = g
 site_low : (site : ℕ) → is_site site ≡ true → 1 ≤ site
 site_low site h = grind (arith, nat_tests)
 
+site_high : (site : ℕ) → is_site site ≡ true → site ≤ 16
+site_high site h = grind (arith, nat_tests)
+
 counted_good : (w : Table) (site : ℕ) (parents : List Stamp) (v : List ℕ) → Good w →
     Each (λ p. is_in w.history the_file p ≡ true) parents →
     ((t : ℕ) → part v t ≡ part (joined_all (written w.history the_file) parents) t) →
     ((a : Stamp) → is_in w.history the_file a ≡ true → place a ≡ site - 1 → a.n ≤ part v (site - 1)) →
     IsGood (counted w site parents v)
 counted_good w site parents v good stand joins covers = either (is_site site) _ _
-    (λ low. either (nat_lt (part v (site - 1)) 4294967295) _ _ (λ e. grown_good w site parents v (site_low site low) good stand joins covers) tt)
+    (λ low. either (nat_lt (part v (site - 1)) 4294967295) _ _ (λ e. grown_good w site parents v (site_low site low) (site_high site low) good stand joins covers) tt)
     tt
 
 first_good : (w : Table) (site : ℕ) (h : List Version) → w.history ≡ h → Good w → IsGood (first w site h)
@@ -187,6 +193,7 @@ taken_good w site from c good e above =
       count = good.count;
       once = good.once;
       numbers = good.numbers;
+      own = good.own;
       copies = λ t d f. ⊎_elim
           (λ (ts : t ≡ at). subst (IsTrueCopy w.history) (some_eq (sym (copy_at-put_same w.copies at own) ∙ subst (λ (x : ℕ). copy_at (put w.copies at own) x ≡ Some d) ts f)) is_true)
           (λ (ts : t ≢ at). good.copies t d (sym (copy_at-put_other w.copies at own t ts) ∙ f))
@@ -313,6 +320,7 @@ start_good = record {
   count = tt;
   once = tt;
   numbers = tt;
+  own = tt;
   copies = λ s c e. absurd (no_copies 16 s c e);
   last = λ a e. absurd (cc);
 }

@@ -3,3 +3,4 @@ pub mod Numbers
 pub mod Kept
 pub mod Ascending
 pub mod Places
+pub mod Vectors

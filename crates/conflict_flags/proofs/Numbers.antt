@@ -16,10 +16,10 @@ use Rattle.conflict_flags.proofs.Ancestors.{Each, Counted, Named, place, base, n
 made_test : (file : FileId) (site : ℕ) (v : Version) → v.file ≡ file → is_made_at file site v ≡ (v.stamp.site == site)
 made_test file site v e = rw (e, same_file_refl file) refl
 
-eq_true : (a b : ℕ) → a ≡ b → (a == b) ≡ true
+pub eq_true : (a b : ℕ) → a ≡ b → (a == b) ≡ true
 eq_true a b e = grind (arith, nat_tests)
 
-eq_false : (a b : ℕ) → a ≢ b → (a == b) ≡ false
+pub eq_false : (a b : ℕ) → a ≢ b → (a == b) ≡ false
 eq_false a b e = grind (arith, nat_tests)
 
 -- the newest version is one of the site's, or is not

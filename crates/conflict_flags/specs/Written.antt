@@ -1,5 +1,6 @@
--- The vector that each version is written with, by the history alone. A history is a list of versions, the newest
--- first. The counter of site s stands at place s - 1.
+-- The vector that each version is written with, as the join of its parents' vectors. The laws show that it has the same
+-- counters as the written vector of the history alone. A history is a list of versions, the newest first. The counter of
+-- site s stands at place s - 1.
 use Rattle.std.specs.Prelude.{◌+◌, length, filter, ◌≡◌, ℕ, ◌-◌, ◌==◌, Bool, false, cond, ◌&&◌, List, [], ◌∷◌, replicate}
 use Rattle.locus_ids.specs.declared.ids.FileId.{FileId}
 use Rattle.locus_ids.specs.declared.ids.Stamp.{Stamp}

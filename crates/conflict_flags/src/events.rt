@@ -2,7 +2,8 @@ ghost use Rattle.std.specs.Prelude.{◌≡◌, true, ◌↔◌, IfOk, List};
 ghost use Rattle.locus_ids.specs.declared.ids.Stamp.{Stamp};
 ghost use Rattle.version_vector.specs.Counters.{AllLe};
 ghost use Rattle.commit_graph.specs.Versions.{is_in, is_ancestor};
-ghost use Rattle.conflict_flags.specs.Written.{written, NoneTwice};
+ghost use Rattle.commit_graph.specs.Vectors.{vector_of};
+ghost use Rattle.conflict_flags.specs.Written.{NoneTwice};
 ghost use Rattle.conflict_flags.specs.Table.{run, start, the_file};
 
 use crate::{CopyTable, vectors_tell_ancestors};
@@ -24,7 +25,7 @@ pub fn play(alloc: Global, events: &[Event]) -> Result<CopyTable, NoMemory>
     ensures table { IfOk result (λ t. t ≡ run events.now start) }
     ensures once { IfOk result (λ t. NoneTwice t.history) }
     ensures tell { IfOk result (λ t. (a b : Stamp) → is_in t.history the_file a ≡ true → is_in t.history the_file b ≡ true →
-        (is_ancestor t.history the_file a b ≡ true) ↔ AllLe (written t.history the_file a) (written t.history the_file b)) }
+        (is_ancestor t.history the_file a b ≡ true) ↔ AllLe (vector_of t.history the_file a) (vector_of t.history the_file b)) }
 {
     let mut table = CopyTable::new(alloc);
     for event in events {

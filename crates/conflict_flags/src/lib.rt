@@ -1,14 +1,12 @@
 //! Which copies of a file are in conflict, and a table of copies of one file with its history, on which vectors and
-//! ancestry are proved to say the same. The synchronization site asks it which versions are kept; the laws of
-//! the whole cite its definitions of written vectors. It knows nothing of packets, disks or contents.
+//! ancestry are proved to say the same. The synchronization site asks it which versions are kept. It knows nothing of
+//! packets, disks or contents.
 #![tactic(auto)]
 
 mod events;
 mod held;
 mod laws;
 mod table;
-#[cfg(test)]
-mod tests;
 
 pub use events::{Event, play};
 pub use held::{Held, HeldList, maxima, two_beside};

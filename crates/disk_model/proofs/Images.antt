@@ -94,5 +94,5 @@ module _ (old new : ScriptDisk) (at n : ℕ) (fits : at + n ≤ length (seen old
   after : (image : List ℕ) → images new image → IsAfter (Torn at n) (images old) image
   after image is = image_after_write (unsynced old) (with_room (unsynced old)) (room_none (unsynced old)) at n (seen old) (seen new) fits torn image (subst (λ (l : List Span). IsImage l (seen new) image) waits is)
 
-  pub write_goes : Goes moment images images_since (Torn at n) old new
+  pub write_goes : Goes (Torn at n) (moment old) (moment new)
   write_goes = record { later = omega arith; images = after; since = λ t image le is. inr (after image is) }

@@ -1,3 +1,6 @@
 pub mod Spans
 pub mod Images
 pub mod Record
+pub mod Moments
+pub mod Tells
+pub mod ReadRuns

@@ -1,19 +1,44 @@
--- What a call of a disk does to the images that a crash may leave.
+-- A disk at a moment, and what a call does to the images that a crash may leave.
 use Rattle.std.specs.Prelude.{ℕ, zero, suc, ◌+◌, ◌-◌, ◌^◌, ◌≤◌, ◌≡◌, ◌⊎◌, min, List, Result, IsOk, IsErr, OnErr}
+
+-- what a disk tells of how many more writes and syncs pass
+pub data Passing : Type 0 where
+  Untold : Passing
+  All : Passing
+  Exactly : (calls : ℕ) → Passing
+
+-- A disk at a moment.
+pub record Moment : Type 1 where
+  -- what a read gives
+  pub seen : List ℕ
+  -- what a crash now may leave
+  pub may_leave : List ℕ → Type 0
+  -- the moment's number, which doesn't fall
+  pub now : ℕ
+  -- what a crash at some moment from that one on may have left
+  pub may_have_left : ℕ → List ℕ → Type 0
+  -- how often the disk has failed
+  pub faults : ℕ
+  -- how many more writes and syncs pass, where the disk tells
+  pub passing : Passing
 
 -- the image is one of these, or is made of one of these by a step
 abbrev pub IsAfter : (List ℕ → List ℕ → Type 0) → (List ℕ → Type 0) → List ℕ → Type 0
 IsAfter step images image = (earlier : List ℕ) × images earlier × step earlier image
 
 -- Time goes on over a call: each image after it, and each of a crash within it, is made of one before it by a step.
-pub record Goes {D : Type 0} (now : D → ℕ) (may_leave : D → List ℕ → Type 0) (may_have_left : D → ℕ → List ℕ → Type 0) (step : List ℕ → List ℕ → Type 0) (old new : D) : Type 0 where
-  pub later : now old ≤ now new
-  pub images : (c : List ℕ) → may_leave new c → IsAfter step (may_leave old) c
-  pub since : (t : ℕ) (c : List ℕ) → t ≤ now old → may_have_left new t c → may_have_left old t c ⊎ IsAfter step (may_leave old) c
+pub record Goes (step : List ℕ → List ℕ → Type 0) (old new : Moment) : Type 0 where
+  pub later : old.now ≤ new.now
+  pub images : (c : List ℕ) → new.may_leave c → IsAfter step old.may_leave c
+  pub since : (t : ℕ) (c : List ℕ) → t ≤ old.now → new.may_have_left t c → old.may_have_left t c ⊎ IsAfter step old.may_leave c
 
 -- a crash leaves this and nothing else
 abbrev pub Only : List ℕ → (List ℕ → Type 0) → Type 0
 Only image images = (c : List ℕ) → images c → c ≡ image
+
+-- nothing is pending: a crash leaves what a read gives
+abbrev pub IsSettled : Moment → Type 0
+IsSettled moment = Only moment.seen moment.may_leave
 
 -- the count rose, or stands at its last value
 abbrev pub Rose : ℕ → ℕ → Type 0
@@ -23,12 +48,6 @@ Rose before after = min (before + 1) (2 ^ 64 - 1) ≤ after
 pub record HasCause {T E : Type 0} (before after : ℕ) (result : Result T E) : Type 0 where
   pub later : before ≤ after
   pub failed : OnErr result (Rose before after)
-
--- what a disk tells of how many more writes and syncs pass
-pub data Passing : Type 0 where
-  Untold : Passing
-  All : Passing
-  Exactly : (calls : ℕ) → Passing
 
 -- a write or a sync passes where the disk told so, and lowers the number; at none left it fails and no more is told
 abbrev pub Tells : {T E : Type 0} → Passing → Passing → Result T E → Type 0

@@ -1,5 +1,6 @@
 pub mod Disk
 pub mod Images
+pub mod Moments
 pub mod RecordDisk
 pub mod RecordImages
 pub mod RecordLaws

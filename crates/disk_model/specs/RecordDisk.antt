@@ -6,32 +6,32 @@ use Rattle.disk_model.specs.declared.record_disk.Call.{Call}
 use Rattle.disk_model.specs.declared.record_disk.Call.TheVariants.{Wrote, Synced}
 use Rattle.disk_model.specs.Images.{overwritten, bytes_at, IsImage}
 
--- what a read gives at a moment, and which ranges are unsynced then
-pub record Moment : Type 0 where
+-- what a read gives, and which ranges are unsynced
+pub record State : Type 0 where
   pub read : List ℕ
   pub waiting : List Span
 
--- the moment after one call more; the bytes of the writes stand in a pool
-abbrev pub after_call : List ℕ → Moment → Call → Moment
-after_call pool moment (Wrote span from) = record { read = overwritten moment.read span.at (bytes_at pool from span.len); waiting = moment.waiting ++ span ∷ [] }
-after_call pool moment Synced = record { read = moment.read; waiting = [] }
+-- the state after one call more; the bytes of the writes stand in a pool
+abbrev pub after_call : List ℕ → State → Call → State
+after_call pool state (Wrote span from) = record { read = overwritten state.read span.at (bytes_at pool from span.len); waiting = state.waiting ++ span ∷ [] }
+after_call pool state Synced = record { read = state.read; waiting = [] }
 
--- the moment after these calls
-abbrev pub played : List ℕ → Moment → List Call → Moment
-played pool moment [] = moment
-played pool moment (call ∷ calls) = played pool (after_call pool moment call) calls
+-- the state after these calls
+abbrev pub played : List ℕ → State → List Call → State
+played pool state [] = state
+played pool state (call ∷ calls) = played pool (after_call pool state call) calls
 
 -- zeros, all of them durable
-abbrev pub blank : ℕ → Moment
+abbrev pub blank : ℕ → State
 blank len = record { read = replicate len 0; waiting = [] }
 
--- the moment after the first k of these calls on a blank disk
-abbrev pub moment_after : ℕ → List ℕ → List Call → ℕ → Moment
-moment_after len pool calls k = played pool (blank len) (take k calls)
+-- the state after the first k of these calls on a blank disk
+abbrev pub state_after : ℕ → List ℕ → List Call → ℕ → State
+state_after len pool calls k = played pool (blank len) (take k calls)
 
--- what a crash may leave at a moment
-abbrev pub image_of : Moment → List ℕ → Type 0
-image_of moment image = IsImage moment.waiting moment.read image
+-- what a crash may leave
+abbrev pub image_of : State → List ℕ → Type 0
+image_of state image = IsImage state.waiting state.read image
 
 -- where the bytes of a call end in the pool, and its range in the disk
 abbrev pub pool_end : Call → ℕ

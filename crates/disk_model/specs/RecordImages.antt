@@ -3,25 +3,30 @@ use Rattle.std.specs.Prelude.{ℕ, ◌≡◌, ◌+◌, ◌<◌, ◌≤◌, List,
 use Rattle.disk_model.specs.declared.record_disk.Call.{Call}
 use Rattle.disk_model.specs.declared.record_disk.Call.TheVariants.{Wrote}
 use Rattle.disk_model.specs.declared.record_disk.RecordDisk.{RecordDisk}
-use Rattle.disk_model.specs.RecordDisk.{Moment, moment_after, image_of}
+use Rattle.disk_model.specs.Disk.{Moment, Untold}
+use Rattle.disk_model.specs.RecordDisk.{State, state_after, image_of}
 
 abbrev pub seen : RecordDisk → List ℕ
 seen disk = disk.seen.items
 
--- the moment is the number of calls so far
-abbrev pub moment : RecordDisk → ℕ
-moment disk = length disk.calls.items
+-- the number of calls so far
+abbrev pub calls_kept : RecordDisk → ℕ
+calls_kept disk = length disk.calls.items
 
 -- what the disk was after the first k calls
-abbrev pub moment_at : RecordDisk → ℕ → Moment
-moment_at disk k = moment_after (length disk.seen.items) disk.pool.items disk.calls.items k
+abbrev pub state_at : RecordDisk → ℕ → State
+state_at disk k = state_after (length disk.seen.items) disk.pool.items disk.calls.items k
 
 abbrev pub images : RecordDisk → List ℕ → Type 0
-images disk image = image_of (moment_at disk (moment disk)) image
+images disk image = image_of (state_at disk (calls_kept disk)) image
 
 -- the images of all moments from t to now
 abbrev pub images_since : RecordDisk → ℕ → List ℕ → Type 0
-images_since disk t image = (k : ℕ) × (t ≤ k) × (k ≤ moment disk) × image_of (moment_at disk k) image
+images_since disk t image = (k : ℕ) × (t ≤ k) × (k ≤ calls_kept disk) × image_of (state_at disk k) image
+
+-- the disk as the trait sees it: a moment is numbered by the calls before it, and how many calls pass is not told
+abbrev pub moment : RecordDisk → Moment
+moment disk = record { seen = seen disk; may_leave = images disk; now = calls_kept disk; may_have_left = images_since disk; faults = disk.faults; passing = Untold }
 
 -- each image since an earlier moment is one since then still
 abbrev pub Remembers : RecordDisk → RecordDisk → Type 0

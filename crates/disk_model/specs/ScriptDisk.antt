@@ -8,6 +8,8 @@ use Rattle.disk_model.specs.declared.script.Turn.{Turn}
 use Rattle.disk_model.specs.declared.script.Turn.TheVariants.{Passes, Stops, Fails}
 use Rattle.disk_model.specs.declared.store.Span.{Span}
 use Rattle.disk_model.specs.declared.script_disk.ScriptDisk.{ScriptDisk}
+use Rattle.disk_model.specs.Disk.{Moment}
+use Rattle.disk_model.specs.Script.{passing_of}
 use Rattle.disk_model.specs.Images.{overwritten, covers, IsImage}
 use Rattle.disk_model.specs.Store.{left_in, with_room, durable_with_room}
 
@@ -30,8 +32,9 @@ images disk image = IsImage (unsynced disk) (seen disk) image
 abbrev pub images_since : ScriptDisk → ℕ → List ℕ → Type 0
 images_since disk t image = images disk image
 
-abbrev pub moment : ScriptDisk → ℕ
-moment disk = 0
+-- the disk as the trait sees it
+abbrev pub moment : ScriptDisk → Moment
+moment disk = record { seen = seen disk; may_leave = images disk; now = 0; may_have_left = images_since disk; faults = disk.script.faults; passing = passing_of disk.script }
 
 -- the bytes are as they were, and so is which of them are durable
 pub record SameBytes (old new : ScriptDisk) : Type 0 where

@@ -8,8 +8,6 @@ mod record_disk;
 mod script;
 mod script_disk;
 mod store;
-#[cfg(test)]
-mod tests;
 
 pub use disk::{Disk, DiskFault};
 pub use record_disk::RecordDisk;

@@ -2,7 +2,7 @@
 ghost use Rattle.std.specs.Prelude.{◌≡◌, ◌≤◌, ◌<◌, ◌+◌, ◌^◌, ◌-◌, ℕ, List, [], length, replicate, refl, ◌↔◌, IsOk, OnOk, OnErr, IfOk, vec_capacity};
 ghost use Rattle.disk_model.specs.Images.{overwritten, bytes_at, Torn, Same};
 ghost use Rattle.disk_model.specs.Disk.{Goes, Only, HasCause, Tells, TellsRead, Untold};
-ghost use Rattle.disk_model.specs.RecordDisk.{after_call, moment_after, disk_end, pool_end, StandInPool, StandOnDisk};
+ghost use Rattle.disk_model.specs.RecordDisk.{after_call, state_after, disk_end, pool_end, StandInPool, StandOnDisk};
 ghost use Rattle.disk_model.specs.declared.store.Span.{Span};
 
 use crate::store::{Span, put};
@@ -33,12 +33,12 @@ pub struct RecordDisk {
     ghost calls_fit: { length calls.items ≤ calls_room },
     ghost in_pool: { StandInPool pool.items calls.items },
     ghost on_disk: { StandOnDisk (length seen.items) calls.items },
-    ghost replayed: { (moment_after (length seen.items) pool.items calls.items (length calls.items)).read ≡ seen.items },
+    ghost replayed: { (state_after (length seen.items) pool.items calls.items (length calls.items)).read ≡ seen.items },
 }
 
 impl RecordDisk {
     ghost use Rattle.std.specs.Prelude.{◌++◌, ◌∷◌, take};
-    ghost use Rattle.disk_model.specs.RecordDisk.{Moment, played};
+    ghost use Rattle.disk_model.specs.RecordDisk.{played};
     ghost use Rattle.disk_model.specs.declared.record_disk.Call.TheVariants.{Wrote, Synced};
     ghost use Rattle.disk_model.specs.RecordImages.{seen, SameRoom};
 
@@ -76,9 +76,9 @@ impl RecordDisk {
     /// Makes the first so many of the kept calls on another disk, which then reads as this one did after them.
     pub fn replay<D: Disk>(&self, calls: usize, disk: &mut D) -> Result<(), DiskFault>
         requires calls { calls ≤ length self.now.calls.items }
-        requires long { length (D.seen disk.old) ≡ length (seen self.now) }
-        ensures read { OnOk result ((played self.now.pool.items (record { read = D.seen disk.old; waiting = [] }) (take calls self.now.calls.items)).read ≡ D.seen disk.new) }
-        ensures cause { HasCause (D.faults disk.old) (D.faults disk.new) result }
+        requires long { length (D.moment disk.old).seen ≡ length (seen self.now) }
+        ensures read { OnOk result ((played self.now.pool.items (record { read = (D.moment disk.old).seen; waiting = [] }) (take calls self.now.calls.items)).read ≡ (D.moment disk.new).seen) }
+        ensures cause { HasCause (D.moment disk.old).faults (D.moment disk.new).faults result }
     {
         let kept = self.calls.as_slice();
         for call in &kept[..calls] {
@@ -125,10 +125,10 @@ impl RecordDisk {
 /// Makes a kept call on a disk.
 fn repeat<D: Disk>(pool: &[u8], call: Call, disk: &mut D) -> Result<(), DiskFault>
     requires pool { pool_end call ≤ length pool.now }
-    requires disk { disk_end call ≤ length (D.seen disk.old) }
-    ensures read { OnOk result ((waiting : List Span) → (after_call pool.now (record { read = D.seen disk.old; waiting = waiting }) call).read ≡ D.seen disk.new) }
-    ensures long { OnOk result (length (D.seen disk.new) ≡ length (D.seen disk.old)) }
-    ensures cause { HasCause (D.faults disk.old) (D.faults disk.new) result }
+    requires disk { disk_end call ≤ length (D.moment disk.old).seen }
+    ensures read { OnOk result ((waiting : List Span) → (after_call pool.now (record { read = (D.moment disk.old).seen; waiting = waiting }) call).read ≡ (D.moment disk.new).seen) }
+    ensures long { OnOk result (length (D.moment disk.new).seen ≡ length (D.moment disk.old).seen) }
+    ensures cause { HasCause (D.moment disk.old).faults (D.moment disk.new).faults result }
 {
     match call {
         Call::Wrote(span, from) => {
@@ -140,21 +140,11 @@ fn repeat<D: Disk>(pool: &[u8], call: Call, disk: &mut D) -> Result<(), DiskFaul
 }
 
 impl Disk for RecordDisk {
-    ghost use Rattle.disk_model.specs.RecordImages.{seen as seen_of, moment, images, images_since, wrote, Remembers, HasRoom, SameRoom, Keeps, KeepsNone};
+    ghost use Rattle.disk_model.specs.RecordImages.{seen as seen_of, moment, images, wrote, Remembers, HasRoom, SameRoom, Keeps, KeepsNone};
     ghost use Rattle.disk_model.specs.declared.record_disk.Call.TheVariants.{Synced};
     ghost use Rattle.disk_model.specs.RecordLaws.{reads_one, same_length, one_now, none_else};
 
-    ghost seen = { seen_of };
-
-    ghost may_leave = { images };
-
-    ghost now = { moment };
-
-    ghost may_have_left = { images_since };
-
-    ghost faults = { λ disk. disk.faults };
-
-    ghost passing = { λ disk. Untold };
+    ghost moment = { moment };
 
     ghost reads_an_image = { reads_one };
 
@@ -172,7 +162,7 @@ impl Disk for RecordDisk {
         requires { at + length buf.old ≤ length (seen_of self.old) }
         ensures bytes { OnOk result (buf.new ≡ bytes_at (seen_of self.old) at (length buf.old)) }
         ensures seen { seen_of self.new ≡ seen_of self.old }
-        ensures crash { Goes moment images images_since Same self.old self.new }
+        ensures crash { Goes Same (moment self.old) (moment self.new) }
         ensures cause { HasCause self.old.faults self.new.faults result }
         ensures same { self.new ≡ self.old }
         ensures answer { IsOk result }
@@ -186,7 +176,7 @@ impl Disk for RecordDisk {
         requires { at + length bytes.now ≤ length (seen_of self.old) }
         ensures written { OnOk result (seen_of self.new ≡ overwritten (seen_of self.old) at bytes.now) }
         ensures failed { OnErr result (Torn at (length bytes.now) (seen_of self.old) (seen_of self.new)) }
-        ensures crash { Goes moment images images_since (Torn at (length bytes.now)) self.old self.new }
+        ensures crash { Goes (Torn at (length bytes.now)) (moment self.old) (moment self.new) }
         ensures cause { HasCause self.old.faults self.new.faults result }
         ensures remembers { Remembers self.old self.new }
         ensures answer { IsOk result ↔ HasRoom self.old (length bytes.now) }
@@ -208,7 +198,7 @@ impl Disk for RecordDisk {
     fn sync(&mut self) -> Result<(), DiskFault>
         ensures durable { OnOk result (Only (seen_of self.new) (images self.new)) }
         ensures seen { seen_of self.new ≡ seen_of self.old }
-        ensures crash { Goes moment images images_since Same self.old self.new }
+        ensures crash { Goes Same (moment self.old) (moment self.new) }
         ensures cause { HasCause self.old.faults self.new.faults result }
         ensures remembers { Remembers self.old self.new }
         ensures answer { IsOk result ↔ HasRoom self.old 0 }

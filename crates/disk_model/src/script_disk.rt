@@ -84,19 +84,9 @@ impl ScriptDisk {
 }
 
 impl Disk for ScriptDisk {
-    ghost use Rattle.disk_model.specs.ScriptDisk.{seen as seen_of, moment, images, images_since, SameBytes, Writes, Syncs};
+    ghost use Rattle.disk_model.specs.ScriptDisk.{seen as seen_of, moment, images, SameBytes, Writes, Syncs};
 
-    ghost seen = { seen_of };
-
-    ghost may_leave = { images };
-
-    ghost now = { moment };
-
-    ghost may_have_left = { images_since };
-
-    ghost faults = { λ disk. disk.script.faults };
-
-    ghost passing = { λ disk. passing_of disk.script };
+    ghost moment = { moment };
 
     ghost reads_an_image = { λ disk. record { long = refl; outside = λ k none. refl } };
 
@@ -114,7 +104,7 @@ impl Disk for ScriptDisk {
         requires { at + length buf.old ≤ length (seen_of self.old) }
         ensures bytes { OnOk result (buf.new ≡ bytes_at (seen_of self.old) at (length buf.old)) }
         ensures seen { seen_of self.new ≡ seen_of self.old }
-        ensures crash { Goes moment images images_since Same self.old self.new }
+        ensures crash { Goes Same (moment self.old) (moment self.new) }
         ensures cause { HasCause self.old.script.faults self.new.script.faults result }
         ensures tells { TellsRead (passing_of self.old.script) (passing_of self.new.script) result }
         ensures same { SameBytes self.old self.new }
@@ -136,7 +126,7 @@ impl Disk for ScriptDisk {
         requires { at + length bytes.now ≤ length (seen_of self.old) }
         ensures written { OnOk result (seen_of self.new ≡ overwritten (seen_of self.old) at bytes.now) }
         ensures failed { OnErr result (Torn at (length bytes.now) (seen_of self.old) (seen_of self.new)) }
-        ensures crash { Goes moment images images_since (Torn at (length bytes.now)) self.old self.new }
+        ensures crash { Goes (Torn at (length bytes.now)) (moment self.old) (moment self.new) }
         ensures cause { HasCause self.old.script.faults self.new.script.faults result }
         ensures tells { Tells (passing_of self.old.script) (passing_of self.new.script) result }
         ensures writes { Writes (turn_of self.old.script) at bytes.now self.old self.new }
@@ -160,7 +150,7 @@ impl Disk for ScriptDisk {
     fn sync(&mut self) -> Result<(), DiskFault>
         ensures durable { OnOk result (Only (seen_of self.new) (images self.new)) }
         ensures seen { seen_of self.new ≡ seen_of self.old }
-        ensures crash { Goes moment images images_since Same self.old self.new }
+        ensures crash { Goes Same (moment self.old) (moment self.new) }
         ensures cause { HasCause self.old.script.faults self.new.script.faults result }
         ensures tells { Tells (passing_of self.old.script) (passing_of self.new.script) result }
         ensures syncs { Syncs (turn_of self.old.script) self.old self.new }

@@ -25,10 +25,10 @@ pub record Lawful {A : Type 0} (c : Codec A) : Type 0 where
   pub takes : (u : Unread) (x : A) (after : Unread) → AreBytes u.bytes → c.read u ≡ Ok (x, after) → Takes u (c.spell x) after × c.Fits x
   pub again : (x : A) (at : ℕ) (rest : List ℕ) → c.Fits x → c.read (rest_at at (c.spell x ++ rest)) ≡ Ok (x, rest_at (at + length (c.spell x)) rest)
 
-AreBytes-drop : (n : ℕ) (bytes : List ℕ) → AreBytes bytes → AreBytes (drop n bytes)
+pub AreBytes-drop : (n : ℕ) (bytes : List ℕ) → AreBytes bytes → AreBytes (drop n bytes)
 AreBytes-drop n bytes h i = rw get_or-drop (h (n + i))
 
-AreBytes-take : (n : ℕ) (bytes : List ℕ) → AreBytes bytes → AreBytes (take n bytes)
+pub AreBytes-take : (n : ℕ) (bytes : List ℕ) → AreBytes bytes → AreBytes (take n bytes)
 AreBytes-take n bytes h i =
     elim (cases_lt i n) [
       | inl lt ↦ rw (get_or-take n bytes i 0 lt) (h i)

@@ -5,3 +5,4 @@ pub mod Loop
 pub mod Visits
 pub mod Whole
 pub mod Zeros
+pub mod Shapes

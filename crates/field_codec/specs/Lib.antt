@@ -3,4 +3,5 @@ pub mod Fields
 pub mod Sums
 pub mod Lists
 pub mod Reads
+pub mod Shapes
 pub mod Visits

@@ -4,6 +4,7 @@ use Rattle.field_codec.specs.declared.faults.FieldFault.{FieldFault}
 use Rattle.field_codec.specs.declared.faults.ReadError.{ReadError}
 use Rattle.field_codec.specs.declared.faults.ReadError.TheVariants.{Field, NoMemory}
 use Rattle.field_codec.specs.Codec.{Codec, Unread, whole}
+use Rattle.field_codec.specs.Shapes.{read_frame}
 
 -- the codec's value and what is left then, or the codec's fault; the value is seen by `view`
 abbrev pub Reads : {X A : Type 0} → Codec A → (X → A) → Unread → Result X FieldFault → Unread → Type 0
@@ -23,3 +24,8 @@ ReadsInMemory c view old result new = Gives (λ x. (view x, new)) result (c.read
 -- all of the bytes were read
 abbrev pub ReadsWhole : {X A : Type 0} → Codec A → (X → A) → List ℕ → Result X ReadError → Type 0
 ReadsWhole c view bytes result = Gives view result (whole c bytes)
+
+-- what stands in the frame, and what is left behind it
+abbrev pub ReadsFrame : Unread → Result Unread FieldFault → Unread → Type 0
+ReadsFrame old (Ok inner) new = read_frame old ≡ Ok (inner, new)
+ReadsFrame old (Err e) new = read_frame old ≡ Err e

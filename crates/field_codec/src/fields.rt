@@ -1,6 +1,6 @@
 ghost use Rattle.std.specs.Prelude.{◌≡◌, ◌<◌, ◌^◌, length, IsTrue, ◌↔◌, replicate, OnErr, nat_lt, if◌then◌else◌};
 ghost use Rattle.field_codec.specs.Codec.{u8, u16, u32, slice, u8_in, u16_in, u32_in, exactly, zeros};
-ghost use Rattle.field_codec.specs.Reads.{Reads};
+ghost use Rattle.field_codec.specs.Reads.{Reads, ReadsFrame};
 
 use crate::FieldFault;
 use std::marker::Model;
@@ -168,6 +168,25 @@ impl<'a> Fields<'a> {
         } else {
             Err(FieldFault::Range { at: self.at() })
         }
+    }
+
+    /// The next four bytes are a length. A reader over the so many bytes behind it, which are passed over here: the length is
+    /// out of range where fewer bytes are left.
+    pub fn frame(&mut self) -> Result<Fields<'a>, FieldFault>
+        ensures { ReadsFrame self.old result self.new }
+    {
+        let at = self.at();
+        let length = self.get_u32()?;
+        if self.left() < length {
+            return Err(FieldFault::Range { at });
+        }
+        let behind = self.at + length as usize;
+        let inner = Fields {
+            bytes: &self.bytes[..behind],
+            at: self.at,
+        };
+        self.at = behind;
+        Ok(inner)
     }
 
     /// Whether all bytes are read: those left over are out of range at the first of them.

@@ -9,8 +9,6 @@ mod faults;
 mod fields;
 mod put;
 mod table;
-#[cfg(test)]
-mod tests;
 
 pub use faults::{FieldFault, ReadError};
 pub use fields::Fields;

@@ -1,31 +1,33 @@
 -- What a commit leaves, from what the switch of its inode leaves.
-use Rattle.std.proofs.Common.{◌≡◌, ℕ, zero, suc, ◌+◌, ◌-◌, Bool, true, false, inl, List, [], ◌∷◌, ◌++◌, length, drop, get_or, Option, None, Some, refl, sym, ap, subst, ◌∙◌, arith, length-append}
+use Rattle.std.proofs.Common.{◌≡◌, ℕ, zero, suc, ◌+◌, ◌-◌, ◌<◌, Bool, true, false, inl, inr, List, [], ◌∷◌, ◌++◌, length, drop, get_or, Option, None, Some, refl, sym, ap, subst, ◌∙◌, arith, length-append}
 use Rattle.std.specs.Prelude.{◌↔◌, Result, Ok, Err, IsErr, IsErrAnd, is_some, if◌then◌else◌}
 use Rattle.std.proofs.lemmas.Bool.{false≢true}
-use Rattle.locus_ids.specs.declared.ids.Kind.{Kind}
-use Rattle.locus_ids.specs.declared.ids.Stamp.{Stamp}
-use Rattle.locus_ids.specs.declared.sites.Sites.{Sites}
-use Rattle.pack_layout.specs.Layout.{slot_at, page_at, pages_of, slot_bytes}
+use Rattle.file_content.specs.Pages.{pages_of}
+use Rattle.pack_layout.specs.Layout.{slot_at, page_at, slot_bytes}
 use Rattle.shadow_pages.specs.Working.{Working, page_at as shadow_page, count_below}
-use Rattle.inode_switch.specs.declared.switching.Piece.{Piece}
-use Rattle.inode_switch.specs.Switch.{IsStage, switched, calls_of}
+use Rattle.gate_switch.specs.Switch.{Piece}
+use Rattle.gate_switch.specs.Switch.{IsStage, switched, closed, calls_of}
 use Rattle.inode_switch.specs.View.{is_open, Version, IsOldOrNew, Replaced}
-use Rattle.inode_switch.specs.Replace.{MayReplace, made_version, closing}
-use Rattle.inode_switch.specs.Moments.{TellsMany}
+use Rattle.inode_switch.specs.Replace.{MayReplace, made_bytes, made_version, closing}
+use Rattle.disk_model.specs.Moments.{TellsMany}
 use Rattle.disk_model.specs.Disk.{Passing}
+use Rattle.disk_model.specs.Images.{bytes_at}
 use Rattle.disk_model.specs.declared.disk.DiskFault.{DiskFault}
 use Rattle.disk_model.specs.declared.disk.DiskFault.TheVariants.{Failed}
 use Rattle.inode_switch.proofs.OldOrNew.{stage_view}
 use Rattle.inode_switch.proofs.Outside.{stage_in_area}
-use Rattle.inode_switch.proofs.Pieces.{torn_same}
+use Rattle.gate_switch.proofs.Pieces.{torn_same, torn_overwritten}
+use Rattle.gate_switch.proofs.Tearing.{bytes_are, is_outside}
+use Rattle.inode_pack.proofs.NewCopies.{own_copy}
 use Rattle.inode_pack.specs.declared.inode_copy.InodeCopy.{InodeCopy}
+use Rattle.inode_pack.specs.declared.new_version.NewVersion.{NewVersion}
 use Rattle.inode_pack.specs.declared.pack_fault.PackFault.{PackFault}
 use Rattle.inode_pack.specs.declared.pack_fault.PackFault.TheVariants.{Disk, NoSpace}
-use Rattle.inode_pack.specs.Pack.{PackState, copy_of, Shows, ShowsCopy, AreCopies}
-use Rattle.inode_pack.specs.Committing.{Makes, MayBeLeft, with_copy, is_changed, is_free, needed, new_version, next_which}
+use Rattle.inode_pack.specs.Pack.{PackState, copy_of, number_in, Shows, ShowsCopy, AreCopies}
+use Rattle.inode_pack.specs.Committing.{Makes, MayBeLeft, HoldsPages, with_copy, is_changed, is_free, needed, new_version, next_which}
 use Rattle.inode_pack.specs.PagePieces.{piece_at, page_pieces, pieces_of}
 use Rattle.inode_pack.proofs.Setup.{Setup}
-use Rattle.inode_pack.proofs.Making.{pieces, place, may_replace, copy_says}
+use Rattle.inode_pack.proofs.Making.{pieces, place, may_replace, copy_says, changed_byte, gate_torn, long_pieces, number_below}
 use Rattle.inode_pack.proofs.NewContent.{version_made}
 use Rattle.inode_pack.proofs.Leaving.{stage_sound, shows_sound, switched_shows}
 
@@ -66,12 +68,12 @@ module _ (pack : PackState) (ino : ℕ) (w : Working) (made : InodeCopy) (s : Se
   pub closes_is : is_some (copy_of pack.copies ino) ≡ is_open old other
   closes_is = other_open (copy_of pack.copies ino) refl s.place (shows.copies ino s.low s.high)
 
-  pub stage_left : (kind : Kind) (set : Sites) (stamp : Stamp) (vector : List ℕ) → Makes (is_free pack.copies) (copy_of pack.copies ino) ino kind set w stamp vector made
-      → (c : List ℕ) → IsStage (pieces pack ino w made s) gate (closing pack.base ino made.which old) old c → MayBeLeft pack ino (new_version pack.base ino kind set w stamp vector old) old c
-  stage_left kind set stamp vector makes c stage =
+  pub stage_left : (version : NewVersion) → Makes (is_free pack.copies) (copy_of pack.copies ino) ino version w made
+      → (c : List ℕ) → IsStage (pieces pack ino w made s) gate (closing pack.base ino made.which old) old c → MayBeLeft pack ino (new_version pack.base ino version w old) old c
+  stage_left version makes c stage =
       let may = may_replace pack ino w made s old shows in
       record {
-        view = subst (λ (v : Version). IsOldOrNew pack.base ino v old c) (version_made pack ino w made s old shows kind set stamp vector makes) (stage_view pack.base ino made.which (pieces pack ino w made s) old may c stage);
+        view = subst (λ (v : Version). IsOldOrNew pack.base ino v old c) (version_made pack ino w made s old shows version makes) (stage_view pack.base ino made.which (pieces pack ino w made s) old may c stage);
         sound = stage_sound pack ino w made s old shows c stage;
         outside = stage_in_area pack.base ino made.which (pieces pack ino w made s) old may c stage;
       }
@@ -83,6 +85,42 @@ module _ (pack : PackState) (ino : ℕ) (w : Working) (made : InodeCopy) (s : Se
   -- how many calls that makes
   pub calls_are : calls_of (pieces pack ino w made s) (closing pack.base ino made.which old) ≡ needed w + (if is_some (copy_of pack.copies ino) then 6 else 4)
   calls_are = calls (is_open old other) (needed w) refl ∙ ap (λ (b : Bool). needed w + (if b then 6 else 4)) (sym closes_is)
+
+  abbrev new : List ℕ
+  new = made_bytes pack.base ino made.which (pieces pack ino w made s) old
+
+  long_new : length new ≡ length old
+  long_new = (gate_torn pack ino w made s old shows).long ∙ long_pieces pack ino w made s old shows
+
+  -- closing the old gate leaves the data pages
+  after_close : (b : Bool) (p k : ℕ) → (let o : Option ℕ = if b then Some other else None in get_or (closed o new) (page_at pack.base p + k) 0) ≡ get_or new (page_at pack.base p + k) 0
+  after_close false p k = refl
+  after_close true p k =
+      let area = shows.area in
+      let high = s.high in
+      let long = long_new in
+      (torn_overwritten new other (0 ∷ []) (omega arith)).outside (page_at pack.base p + k) (is_outside other 1 (page_at pack.base p + k) (inr (omega arith)))
+
+  long_closed : (b : Bool) → (let o : Option ℕ = if b then Some other else None in length (closed o new)) ≡ length new
+  long_closed false = refl
+  long_closed true = let area = shows.area in let high = s.high in let long = long_new in (torn_overwritten new other (0 ∷ []) (omega arith)).long
+
+  -- a changed page stands at its data page, whole
+  pub page_stands : (i : ℕ) (page : List ℕ) → i < pages_of w.size → shadow_page w.pages i ≡ Some page
+      → bytes_at (switched (pieces pack ino w made s) gate (closing pack.base ino made.which old) old) (page_at pack.base (number_in (copy_of (with_copy pack ino made).copies ino) i)) 1024 ≡ page
+  page_stands i page lt known =
+      let is = own_copy pack.copies ino (Some made) s.low (let count = s.are.count in let high = s.high in omega arith) in
+      let n = get_or made.slot.pages i 0 in
+      let full = s.whole i page lt known in
+      let b = is_open old other in
+      let long = long_closed b in
+      let more = long_new in
+      let area = shows.area in
+      let below = number_below pack ino w made s i lt in
+      ap (λ (o : Option InodeCopy). bytes_at (switched (pieces pack ino w made s) gate (closing pack.base ino made.which old) old) (page_at pack.base (number_in o i)) 1024) is
+      ∙ ap (λ (m : ℕ). bytes_at (switched (pieces pack ino w made s) gate (closing pack.base ino made.which old) old) (page_at pack.base n) m) (sym full)
+      ∙ bytes_are (switched (pieces pack ino w made s) gate (closing pack.base ino made.which old) old) page (page_at pack.base n) (omega arith)
+      (λ k less. after_close b n k ∙ changed_byte pack ino w made s old shows i k page lt known (omega arith))
 
 -- with the base and the pieces as the switch was given them
 module _ (pack : PackState) (ino : ℕ) (w : Working) (made : InodeCopy) (s : Setup pack ino w made) (old : List ℕ) (shows : Shows pack old) (base : ℕ) (given : List Piece) (at : base ≡ pack.base) (are : given ≡ pieces_of pack.base made w) where
@@ -102,10 +140,10 @@ module _ (pack : PackState) (ino : ℕ) (w : Working) (made : InodeCopy) (s : Se
   pub given_closes : (closes : Bool) → closes ≡ is_some (copy_of pack.copies ino) → closes ≡ is_open old (slot_at base ino (1 - made.which))
   given_closes closes is = is ∙ moved (λ b l. is_some (copy_of pack.copies ino) ≡ is_open old (slot_at b ino (1 - made.which))) (closes_is pack ino w made s old shows)
 
-  pub given_left : (kind : Kind) (set : Sites) (stamp : Stamp) (vector : List ℕ) → Makes (is_free pack.copies) (copy_of pack.copies ino) ino kind set w stamp vector made
-      → (c : List ℕ) → IsStage given (slot_at base ino made.which) (closing base ino made.which old) old c → MayBeLeft pack ino (new_version pack.base ino kind set w stamp vector old) old c
-  given_left kind set stamp vector makes c stage =
-      stage_left pack ino w made s old shows kind set stamp vector makes c (back (λ b l. IsStage l (slot_at b ino made.which) (closing b ino made.which old) old c) stage)
+  pub given_left : (version : NewVersion) → Makes (is_free pack.copies) (copy_of pack.copies ino) ino version w made
+      → (c : List ℕ) → IsStage given (slot_at base ino made.which) (closing base ino made.which old) old c → MayBeLeft pack ino (new_version pack.base ino version w old) old c
+  given_left version makes c stage =
+      stage_left pack ino w made s old shows version makes c (back (λ b l. IsStage l (slot_at b ino made.which) (closing b ino made.which old) old c) stage)
 
   pub given_calls : calls_of given (closing base ino made.which old) ≡ needed w + (if is_some (copy_of pack.copies ino) then 6 else 4)
   given_calls = moved (λ b l. calls_of l (closing b ino made.which old) ≡ needed w + (if is_some (copy_of pack.copies ino) then 6 else 4)) (calls_are pack ino w made s old shows)
@@ -115,10 +153,17 @@ module _ (pack : PackState) (ino : ℕ) (w : Working) (made : InodeCopy) (s : Se
       subst (λ (l : List ℕ). Shows (with_copy pack ino made) l) (sym is)
       (moved (λ b l. Shows (with_copy pack ino made) (switched l (slot_at b ino made.which) (closing b ino made.which old) old)) (switched_shows pack ino w made s old shows))
 
-  pub given_replaced : (kind : Kind) (set : Sites) (stamp : Stamp) (vector : List ℕ) → Makes (is_free pack.copies) (copy_of pack.copies ino) ino kind set w stamp vector made
-      → (read : List ℕ) → Replaced base ino (made_version base ino made.which given old) old read → Replaced pack.base ino (new_version pack.base ino kind set w stamp vector old) old read
-  given_replaced kind set stamp vector makes read done =
-      subst (λ (v : Version). Replaced pack.base ino v old read) (version_made pack ino w made s old shows kind set stamp vector makes) (back (λ b l. Replaced b ino (made_version b ino made.which l old) old read) done)
+  -- its changed pages stand where they are named
+  pub given_pages : (read : List ℕ) → read ≡ switched given (slot_at base ino made.which) (closing base ino made.which old) old → HoldsPages (with_copy pack ino made) ino w read
+  given_pages read is i page lt known =
+      subst (λ (l : List ℕ). bytes_at l (page_at pack.base (number_in (copy_of (with_copy pack ino made).copies ino) i)) 1024 ≡ page) (sym is)
+      (moved (λ b l. bytes_at (switched l (slot_at b ino made.which) (closing b ino made.which old) old) (page_at pack.base (number_in (copy_of (with_copy pack ino made).copies ino) i)) 1024 ≡ page)
+      (page_stands pack ino w made s old shows i page lt known))
+
+  pub given_replaced : (version : NewVersion) → Makes (is_free pack.copies) (copy_of pack.copies ino) ino version w made
+      → (read : List ℕ) → Replaced base ino (made_version base ino made.which given old) old read → Replaced pack.base ino (new_version pack.base ino version w old) old read
+  given_replaced version makes read done =
+      subst (λ (v : Version). Replaced pack.base ino v old read) (version_made pack ino w made s old shows version makes) (back (λ b l. Replaced b ino (made_version b ino made.which l old) old read) done)
 
 -- the fault that is given on
 pub given_on : (r : Result (Unit {0}) PackFault) (P : PackFault → Type 0) → IsErr r × IsErrAnd r P → (fault : PackFault) × (r ≡ Err fault) × P fault

@@ -6,7 +6,8 @@ use Rattle.pack_layout.specs.declared.slot.Slot.{Slot}
 use Rattle.std.proofs.lemmas.Bool.{cases_lt}
 use Rattle.std.proofs.lemmas.List.{get_or-take, get_or_append_left, get_or-append_right}
 use Rattle.disk_model.specs.Images.{bytes_at}
-use Rattle.pack_layout.specs.Layout.{area_length, slot_at, page_at, pages_of}
+use Rattle.file_content.specs.Pages.{pages_of}
+use Rattle.pack_layout.specs.Layout.{area_length, slot_at, page_at}
 use Rattle.inode_switch.specs.View.{size, page, bytes_of, Version, version, version_in, view}
 use Rattle.inode_switch.proofs.SlotBytes.{says}
 use Rattle.inode_pack.specs.declared.inode_copy.InodeCopy.{InodeCopy}

@@ -1,10 +1,10 @@
 -- The copy that is found in the slots of an inode is what counts there.
 use Rattle.std.proofs.Common.{◌≡◌, ℕ, zero, suc, ◌+◌, ◌-◌, ◌≤◌, ◌%◌, Bool, true, false, List, sym, ◌∙◌, arith, ⊎_elim}
-use Rattle.std.specs.Prelude.{Option, None, Some}
+use Rattle.std.specs.Prelude.{Option, None, Some, ◌==◌}
 use Rattle.std.specs.Option.{option_map}
 use Rattle.std.proofs.lemmas.Bool.{eqb-true, eq-eqb, cases_Bool}
 use Rattle.pack_layout.specs.Layout.{slot_at}
-use Rattle.inode_switch.specs.View.{is_open, turn, follows, counting}
+use Rattle.inode_switch.specs.View.{is_open, turn, Newer, First, Second, newer_of, newer, counting}
 use Rattle.inode_switch.specs.Replace.{IsNext}
 use Rattle.inode_switch.proofs.SlotBytes.{says}
 use Rattle.inode_pack.specs.declared.inode_copy.InodeCopy.{InodeCopy}
@@ -12,8 +12,8 @@ use Rattle.inode_pack.specs.Slots.{IsFound, IsRecovered, Counts, counting_place}
 
 -- a single open slot counts
 alone_counts : (base ino which : ℕ) (image : List ℕ) → which ≤ 1 → is_open image (slot_at base ino which) ≡ true → is_open image (slot_at base ino (1 - which)) ≡ false → counting_place base ino image ≡ Some (slot_at base ino which)
-alone_counts base ino zero image le one other = (λ i. counting (one i) (other i) (follows image (slot_at base ino 0) (slot_at base ino 1)) (slot_at base ino 0) (slot_at base ino 1))
-alone_counts base ino (suc zero) image le one other = (λ i. counting (other i) (one i) (follows image (slot_at base ino 0) (slot_at base ino 1)) (slot_at base ino 0) (slot_at base ino 1))
+alone_counts base ino zero image le one other = (λ i. counting (one i) (other i) (newer image (slot_at base ino 0) (slot_at base ino 1)) (slot_at base ino 0) (slot_at base ino 1))
+alone_counts base ino (suc zero) image le one other = (λ i. counting (other i) (one i) (newer image (slot_at base ino 0) (slot_at base ino 1)) (slot_at base ino 0) (slot_at base ino 1))
 alone_counts base ino (suc (suc n)) image le one other = absurd (omega arith)
 
 -- of two open slots that counts whose turn follows
@@ -24,16 +24,18 @@ winner_counts base ino zero image le one other next =
     let second = slot_at base ino 1 in
     let a = next.0 in
     let b = next.1 in
-    let no : follows image first second ≡ false = ⊎_elim
-    (λ (is : follows image first second ≡ true). let e = eqb-true ((turn image first + 1) % 3) (turn image second) is in absurd (omega arith))
-    (λ (is : follows image first second ≡ false). is)
-    (cases_Bool (follows image first second)) in
-    (λ i. counting (one i) (other i) (no i) first second)
+    let after : Bool = (turn image first + 1) % 3 == turn image second in
+    let no : after ≡ false = ⊎_elim
+    (λ (is : after ≡ true). let e = eqb-true ((turn image first + 1) % 3) (turn image second) is in absurd (omega arith))
+    (λ (is : after ≡ false). is)
+    (cases_Bool after) in
+    let yes : ((turn image second + 1) % 3 == turn image first) ≡ true = eq-eqb ((turn image second + 1) % 3) (turn image first) (sym next.1) in
+    (λ i. counting (one i) (other i) (newer_of (no i) (yes i)) first second)
 winner_counts base ino (suc zero) image le one other next =
     let first = slot_at base ino 0 in
     let second = slot_at base ino 1 in
-    let yes : follows image first second ≡ true = eq-eqb ((turn image first + 1) % 3) (turn image second) (sym next.1) in
-    (λ i. counting (other i) (one i) (yes i) first second)
+    let yes : ((turn image first + 1) % 3 == turn image second) ≡ true = eq-eqb ((turn image first + 1) % 3) (turn image second) (sym next.1) in
+    (λ i. counting (other i) (one i) (newer_of (yes i) ((turn image second + 1) % 3 == turn image first)) first second)
 winner_counts base ino (suc (suc n)) image le one other next = absurd (omega arith)
 
 pub found_counts : (base ino : ℕ) (image : List ℕ) (copy : Option InodeCopy) (loses : Bool) → IsFound base ino image copy loses → IsRecovered base ino image copy
@@ -42,7 +44,7 @@ found_counts base ino image None false found =
     let second = slot_at base ino 1 in
     let one = found.says 0 (omega arith) in
     let two = found.says 1 (omega arith) in
-    (λ i. counting (one i) (two i) (follows image first second) first second)
+    (λ i. counting (one i) (two i) (newer image first second) first second)
 found_counts base ino image None true found = absurd found.says
 found_counts base ino image (Some copy) false found =
     let s = says image (slot_at base ino copy.which) copy.slot found.says.bytes found.own.slot in

@@ -5,19 +5,20 @@ use Rattle.std.proofs.lemmas.Bool.{cases_lt, cases_eq, cases_Bool, eqb-true, lt-
 use Rattle.std.proofs.lemmas.Bool.Decides.{nat_tests}
 use Rattle.std.proofs.lemmas.List.{get_or_read}
 use Rattle.disk_model.specs.Images.{Torn, bytes_at, overwritten, is_within}
-use Rattle.pack_layout.specs.Layout.{area_length, slot_at, pages_of}
+use Rattle.file_content.specs.Pages.{pages_of}
+use Rattle.pack_layout.specs.Layout.{area_length, slot_at}
 use Rattle.inode_switch.specs.View.{is_open, turn, size, SameView}
 use Rattle.inode_switch.specs.Replace.{Loses}
 use Rattle.inode_switch.proofs.SlotBytes.{says}
-use Rattle.inode_switch.proofs.Views.{same_bytes}
-use Rattle.inode_switch.proofs.Pieces.{put_gate, torn_overwritten}
+use Rattle.gate_switch.proofs.Tearing.{same_bytes}
+use Rattle.gate_switch.proofs.Pieces.{put_gate, torn_overwritten}
 use Rattle.inode_pack.specs.declared.inode_copy.InodeCopy.{InodeCopy}
 use Rattle.inode_pack.specs.Pack.{copy_of, ShowsCopies}
 use Rattle.inode_pack.specs.Slots.{IsFound}
 use Rattle.inode_pack.specs.Mounting.{ClosesAscending, losing_gates, has_losing_gate}
 use Rattle.inode_pack.specs.Losing.{AreFound, IsClosing, KeepsCopies, closed_if, losing_slot, is_losing}
 use Rattle.inode_pack.proofs.Finding.{found_good, both_slots}
-use Rattle.inode_pack.proofs.Tearing.{torn_widens, torn_joins, torn_stays}
+use Rattle.gate_switch.proofs.Tearing.{torn_widens, torn_joins, torn_stays}
 
 -- what was found, once the losing gates of the inodes 1 to n are closed
 abbrev pub AreClosed : ℕ → ℕ → List ℕ → List (Option InodeCopy) → List Bool → Type 0

@@ -5,12 +5,12 @@ use Rattle.std.proofs.lemmas.Bool.{cases_eq, cases_Bool, cases_lt, eqb-true}
 use Rattle.disk_model.specs.Images.{bytes_at, overwritten, is_within, Torn}
 use Rattle.pack_layout.specs.Layout.{slot_at, slot_bytes}
 use Rattle.shadow_pages.specs.Working.{Working}
-use Rattle.inode_switch.specs.declared.switching.Piece.{Piece}
-use Rattle.inode_switch.specs.Switch.{touches, written, closed, switched, TornGate, IsStage}
+use Rattle.gate_switch.specs.Switch.{Piece}
+use Rattle.gate_switch.specs.Switch.{touches, written, closed, switched, TornGate, IsStage}
 use Rattle.inode_switch.specs.View.{is_open, turn}
 use Rattle.inode_switch.specs.Replace.{made_bytes, closing}
-use Rattle.inode_switch.proofs.Pieces.{torn_written, torn_overwritten, put_gate}
-use Rattle.inode_switch.proofs.Views.{same_bytes}
+use Rattle.gate_switch.proofs.Pieces.{torn_written, torn_overwritten, put_gate}
+use Rattle.gate_switch.proofs.Tearing.{same_bytes}
 use Rattle.inode_pack.specs.declared.inode_copy.InodeCopy.{InodeCopy}
 use Rattle.inode_pack.specs.Pack.{PackState, copy_of, IsPackOf, ShowsCopy, Shows, AreCopies}
 use Rattle.inode_pack.specs.Slots.{IsFound}

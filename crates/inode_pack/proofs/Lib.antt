@@ -21,5 +21,6 @@ pub mod SoundPack
 pub mod Taking
 pub mod Tearing
 pub mod Times
+pub mod Whole
 pub mod Passing
 pub mod Streaming

@@ -9,20 +9,21 @@ use Rattle.std.proofs.lemmas.List.{same_lists, get_or-take, get_or-drop, get_or_
 use Rattle.std.proofs.lemmas.List.Elements.{All-append, All-nil, All-cons}
 use Rattle.disk_model.specs.Images.{overwritten, bytes_at, is_within, Torn}
 use Rattle.pack_layout.specs.declared.slot.Slot.{Slot}
-use Rattle.pack_layout.specs.Layout.{area_length, slot_at, page_at, pages_of, slot_bytes, IsSlot}
+use Rattle.file_content.specs.Pages.{pages_of}
+use Rattle.pack_layout.specs.Layout.{area_length, slot_at, page_at, slot_bytes, IsSlot}
 use Rattle.shadow_pages.specs.Working.{Working, page_at as shadow_page}
-use Rattle.inode_switch.specs.declared.switching.Piece.{Piece}
-use Rattle.inode_switch.specs.Switch.{touches, written}
+use Rattle.gate_switch.specs.Switch.{Piece}
+use Rattle.gate_switch.specs.Switch.{touches, written}
 use Rattle.inode_switch.specs.Slots.{Holds, Says}
 use Rattle.inode_switch.specs.View.{is_open, turn, size, page}
 use Rattle.inode_switch.specs.Replace.{MayReplace, made_bytes}
-use Rattle.inode_switch.proofs.Pieces.{put_outside, put_gate, length-overwritten, written-append, torn_overwritten, torn_written}
+use Rattle.gate_switch.proofs.Pieces.{put_outside, put_gate, length-overwritten, written-append, torn_overwritten, torn_written}
 use Rattle.inode_switch.proofs.SlotBytes.{says}
 use Rattle.inode_pack.specs.declared.inode_copy.InodeCopy.{InodeCopy}
 use Rattle.inode_pack.specs.Pack.{PackState, copy_of, named_pages, times, ShowsCopy, Shows}
 use Rattle.inode_pack.specs.Committing.{is_changed, next_which, next_turn}
 use Rattle.inode_pack.specs.PagePieces.{page_pieces}
-use Rattle.inode_pack.proofs.Tearing.{put_inside}
+use Rattle.gate_switch.proofs.Tearing.{put_inside}
 use Rattle.inode_pack.proofs.Placing.{is_outside, touches_none, spared_pages, long_written, within_pages, written_page}
 use Rattle.inode_pack.proofs.Setup.{Setup, copy_is, page_named, number_inside, numbers_distinct}
 
@@ -88,8 +89,11 @@ module _ (pack : PackState) (ino : ℕ) (w : Working) (made : InodeCopy) (s : Se
   abbrev pub pieces : List Piece
   pieces = pages ++ body ∷ []
 
-  inside : (i : ℕ) → i < count → get_or made.slot.pages i 0 < 3072
+  inside : (i : ℕ) → i < pages_of w.size → get_or made.slot.pages i 0 < 3072
   inside = number_inside pack.copies ino w made.slot.pages s.are s.rests s.takes
+
+  pub number_below : (i : ℕ) → i < pages_of w.size → get_or made.slot.pages i 0 < 3072
+  number_below = inside
 
   long_body : length body.bytes ≡ 511
   long_body = let long = length-slot made.slot s.slot in omega (arith, length-drop 1 (slot_bytes made.slot))

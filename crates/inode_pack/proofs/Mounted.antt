@@ -10,7 +10,7 @@ use Rattle.inode_pack.specs.Mounting.{IsSound, IsCause, IsPassing, Recovers, Kee
 use Rattle.inode_pack.specs.Losing.{KeepsCopies, AreFound, is_losing}
 use Rattle.inode_pack.proofs.Counting.{found_counts}
 use Rattle.inode_pack.proofs.SoundPack.{found_sound}
-use Rattle.inode_pack.proofs.Tearing.{torn_widens, torn_stays, bytes_below}
+use Rattle.gate_switch.proofs.Tearing.{torn_widens, torn_stays, bytes_below}
 
 pub keeps_itself : (base group site : ℕ) (image : List ℕ) → KeepsPack base group site image image
 keeps_itself base group site image = record { outside = torn_stays base area_length image; view = λ ino low high. refl; sound = λ is. is; order = record { n = 0; closed = λ ino low le. absurd (omega arith); others = λ ino beyond high. refl } }

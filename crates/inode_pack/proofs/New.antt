@@ -9,11 +9,11 @@ use Rattle.locus_ids.specs.declared.sites.Sites.{Sites}
 use Rattle.locus_ids.specs.Sites.{has}
 use Rattle.disk_model.specs.Images.{bytes_at, overwritten, Torn}
 use Rattle.pack_layout.specs.Layout.{area_length, slot_at, slot_bytes, IsSlot}
-use Rattle.inode_switch.specs.View.{is_open, follows, counting}
+use Rattle.inode_switch.specs.View.{is_open, newer, counting}
 use Rattle.inode_pack.specs.Pack.{superblock, ShowsCopy, ShowsCopies}
 use Rattle.inode_pack.specs.Slots.{HasSlot, IsGoodInode, IsFound, counting_place}
 use Rattle.inode_pack.specs.Mounting.{IsSound, IsShared}
-use Rattle.inode_pack.proofs.Tearing.{bytes_below, torn_above, written_there}
+use Rattle.gate_switch.proofs.Tearing.{bytes_below, torn_above, written_there}
 use Rattle.inode_pack.specs.Format.{root_slot, new_copy, IsNew}
 
 pub stored_somewhere : (set : Sites) (site : ℕ) → has set site ≡ true → 1 ≤ set.0
@@ -115,7 +115,7 @@ module _ (base group site : ℕ) (set : Sites) (image : List ℕ) (new : IsNew b
       let second = slot_at base ino 1 in
       let one = shut ino 0 (omega arith) high (omega arith) (λ e. absurd (omega arith)) in
       let two = shut ino 1 (omega arith) high (omega arith) (λ e. refl) in
-      (λ i. counting (one i) (two i) (follows image first second) first second)
+      (λ i. counting (one i) (two i) (newer image first second) first second)
 
   none_shared : (number : ℕ) → IsShared base number image → ⊥
   none_shared number shared =

@@ -3,9 +3,6 @@ use Rattle.std.proofs.Common.{◌≡◌, ℕ, ◌+◌, ◌*◌, ◌/◌, ◌%◌
 use Rattle.std.specs.Prelude.{is_some}
 use Rattle.std.proofs.lemmas.Bool.{lt-ltb}
 use Rattle.std.proofs.lemmas.List.{same_lists, get_or_default}
-use Rattle.locus_ids.specs.declared.ids.Kind.{Kind}
-use Rattle.locus_ids.specs.declared.ids.Stamp.{Stamp}
-use Rattle.locus_ids.specs.declared.sites.Sites.{Sites}
 use Rattle.pack_layout.specs.Layout.{slot_at, page_at}
 use Rattle.shadow_pages.specs.Working.{Working, page_at as shadow_page, byte_in, byte_at, content}
 use Rattle.shadow_pages.proofs.Bytes.{length_below, below_at}
@@ -14,6 +11,7 @@ use Rattle.inode_switch.specs.View.{Version, version, version_in, view}
 use Rattle.inode_switch.specs.Replace.{made_version, made_bytes}
 use Rattle.inode_switch.proofs.VersionBytes.{content_length, content_byte}
 use Rattle.inode_pack.specs.declared.inode_copy.InodeCopy.{InodeCopy}
+use Rattle.inode_pack.specs.declared.new_version.NewVersion.{NewVersion}
 use Rattle.inode_pack.specs.Pack.{PackState, copy_of, number_in, ShowsCopy, Shows}
 use Rattle.inode_pack.specs.Slots.{IsFound}
 use Rattle.inode_pack.specs.Committing.{Makes, is_free, size_of, content_of, new_version}
@@ -76,9 +74,9 @@ module _ (pack : PackState) (ino : ℕ) (w : Working) (made : InodeCopy) (s : Se
       ∙ sym (below_at (byte_at base_content w) w.size k ∙ ap (λ (b : Bool). cond b (byte_at base_content w k) 0) (lt-ltb k w.size less))
       ∙ get_or_default (content base_content w) k 0 d (omega arith))
 
-  pub version_made : (kind : Kind) (set : Sites) (stamp : Stamp) (vector : List ℕ) → Makes (is_free pack.copies) (copy_of pack.copies ino) ino kind set w stamp vector made
-      → made_version pack.base ino made.which (pieces pack ino w made s) old ≡ new_version pack.base ino kind set w stamp vector old
-  version_made kind set stamp vector makes =
+  pub version_made : (given : NewVersion) → Makes (is_free pack.copies) (copy_of pack.copies ino) ino given w made
+      → made_version pack.base ino made.which (pieces pack ino w made s) old ≡ new_version pack.base ino given w old
+  version_made given makes =
       let fields = (new_says pack ino w made s old shows).fields ∙ ap field_bytes makes.says in
       let all = same_content in
       (λ i. record { fields = fields i; content = all i })

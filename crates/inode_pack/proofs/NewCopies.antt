@@ -4,13 +4,12 @@ use Rattle.std.specs.Prelude.{◌==◌, IfSome}
 use Rattle.std.proofs.lemmas.Bool.{cases_eq, cases_Bool, eqb-true}
 use Rattle.std.proofs.lemmas.List.{get_or-set_same, get_or-set_other, get_or_default}
 use Rattle.shadow_pages.proofs.Counts.{count_below_same}
-use Rattle.pack_layout.specs.Layout.{IsSlot, pages_of}
+use Rattle.file_content.specs.Pages.{pages_of}
+use Rattle.pack_layout.specs.Layout.{IsSlot}
 use Rattle.shadow_pages.specs.Working.{Working, count_below}
 use Rattle.inode_pack.specs.declared.inode_copy.InodeCopy.{InodeCopy}
+use Rattle.inode_pack.specs.declared.new_version.NewVersion.{NewVersion}
 use Rattle.inode_pack.specs.Pack.{PackState, copy_of, pages_in, named_pages, times, IsCopy, AreCopies, AreUses, number_in}
-use Rattle.locus_ids.specs.declared.ids.Kind.{Kind}
-use Rattle.locus_ids.specs.declared.ids.Stamp.{Stamp}
-use Rattle.locus_ids.specs.declared.sites.Sites.{Sites}
 use Rattle.inode_pack.specs.Committing.{is_changed, is_free, Makes}
 use Rattle.inode_pack.proofs.PageTimes.{times_take, times_own, times_other, named_here}
 use Rattle.inode_pack.proofs.NamedPages.{named_part, named-set, length-named_set, AreBelow, below-append, below_take, unnamed}
@@ -189,11 +188,11 @@ module _ (copies : List (Option InodeCopy)) (uses : List ℕ) (free : ℕ) (are 
     }
 
 -- the table of names and the copies say the same of which pages are free
-pub makes_alike : (copies : List (Option InodeCopy)) (uses : List ℕ) (free ino : ℕ) (o : Option InodeCopy) (kind : Kind) (sites : Sites) (w : Working) (stamp : Stamp) (vector : List ℕ) (made : InodeCopy)
-    → AreCopies copies → AreUses copies uses free → o ≡ copy_of copies ino → Makes (λ p. get_or uses p 0 == 0) o ino kind sites w stamp vector made → Makes (is_free copies) (copy_of copies ino) ino kind sites w stamp vector made
-makes_alike copies uses free ino o kind sites w stamp vector made are used e makes =
+pub makes_alike : (copies : List (Option InodeCopy)) (uses : List ℕ) (free ino : ℕ) (o : Option InodeCopy) (version : NewVersion) (w : Working) (made : InodeCopy)
+    → AreCopies copies → AreUses copies uses free → o ≡ copy_of copies ino → Makes (λ p. get_or uses p 0 == 0) o ino version w made → Makes (is_free copies) (copy_of copies ino) ino version w made
+makes_alike copies uses free ino o version w made are used e makes =
     let t = makes.takes in
-    let own : Makes (is_free copies) o ino kind sites w stamp vector made = record {
+    let own : Makes (is_free copies) o ino version w made = record {
       place = makes.place;
       says = makes.says;
       takes = record {
@@ -205,4 +204,4 @@ makes_alike copies uses free ino o kind sites w stamp vector made are used e mak
         rest = t.rest;
       };
     } in
-    subst (λ (c : Option InodeCopy). Makes (is_free copies) c ino kind sites w stamp vector made) e own
+    subst (λ (c : Option InodeCopy). Makes (is_free copies) c ino version w made) e own

@@ -2,13 +2,12 @@
 use Rattle.std.proofs.Common.{◌≡◌, ◌≢◌, ℕ, zero, suc, ◌*◌, ◌/◌, ◌^◌, ◌<◌, ◌≤◌, true, false, ⊎_elim, List, length, get_or, Option, None, Some, refl, sym, ap, subst, ◌∙◌, arith}
 use Rattle.std.specs.Prelude.{is_some, IfSome}
 use Rattle.std.proofs.lemmas.Bool.{cases_Bool, eqb-true, true≢false}
-use Rattle.locus_ids.specs.declared.ids.Kind.{Kind}
-use Rattle.locus_ids.specs.declared.ids.Stamp.{Stamp}
-use Rattle.locus_ids.specs.declared.sites.Sites.{Sites}
 use Rattle.pack_layout.specs.declared.slot.Slot.{Slot}
-use Rattle.pack_layout.specs.Layout.{IsSlot, NamePages, pages_of}
+use Rattle.file_content.specs.Pages.{pages_of}
+use Rattle.pack_layout.specs.Layout.{IsSlot, NamePages}
 use Rattle.shadow_pages.specs.Working.{Working, page_at as shadow_page}
 use Rattle.inode_pack.specs.declared.inode_copy.InodeCopy.{InodeCopy}
+use Rattle.inode_pack.specs.declared.new_version.NewVersion.{NewVersion}
 use Rattle.inode_pack.specs.Pack.{PackState, copy_of, pages_in, named_pages, times, IsCopy, AreCopies, number_in}
 use Rattle.inode_pack.specs.Committing.{IsVersion, RestsOn, size_of, is_changed, is_free, TakesPages, Makes, next_which, next_turn}
 use Rattle.inode_pack.specs.PagePieces.{AreWhole}
@@ -121,16 +120,16 @@ next_small : (o : Option InodeCopy) → next_turn o ≤ 2
 next_small None = omega arith
 next_small (Some copy) = omega arith
 
-pub set_up : (pack : PackState) (ino : ℕ) (kind : Kind) (set : Sites) (w : Working) (stamp : Stamp) (vector : List ℕ) (made : InodeCopy)
-    → AreCopies pack.copies → IsVersion ino set w.size stamp vector → set.0 < 2 ^ 16 → RestsOn (size_of (copy_of pack.copies ino)) w → AreWhole w (pages_of w.size) → length made.slot.pages ≡ 64
-    → Makes (is_free pack.copies) (copy_of pack.copies ino) ino kind set w stamp vector made → Setup pack ino w made
-set_up pack ino kind set w stamp vector made are is fits rests whole long makes =
+pub set_up : (pack : PackState) (ino : ℕ) (version : NewVersion) (w : Working) (made : InodeCopy)
+    → 1 ≤ ino → ino ≤ 1024 → AreCopies pack.copies → IsVersion version w.size → version.set.0 < 2 ^ 16 → RestsOn (size_of (copy_of pack.copies ino)) w → AreWhole w (pages_of w.size) → length made.slot.pages ≡ 64
+    → Makes (is_free pack.copies) (copy_of pack.copies ino) ino version w made → Setup pack ino w made
+set_up pack ino version w made low high are is fits rests whole long makes =
     let says = makes.says in
-    let slot : Slot = record { turn = next_turn (copy_of pack.copies ino); kind = kind; ino = ino; set = set; size = w.size; stamp = stamp; vector = vector; pages = made.slot.pages } in
+    let slot : Slot = record { turn = next_turn (copy_of pack.copies ino); kind = version.kind; ino = ino; set = version.set; size = w.size; stamp = version.stamp; vector = version.vector; pages = made.slot.pages } in
     let good : IsSlot slot = record {
       turn = next_small (copy_of pack.copies ino);
-      low = is.low;
-      high = is.high;
+      low = low;
+      high = high;
       some = is.some;
       sites = fits;
       size = is.most;
@@ -140,8 +139,8 @@ set_up pack ino kind set w stamp vector made are is fits rests whole long makes 
     } in
     record {
       are = are;
-      low = is.low;
-      high = is.high;
+      low = low;
+      high = high;
       slot = subst IsSlot (sym says) good;
       own = ap (λ (s : Slot). s.ino) says;
       size = ap (λ (s : Slot). s.size) says;

@@ -5,7 +5,8 @@ use Rattle.std.proofs.lemmas.Bool.{cases_lt}
 use Rattle.std.proofs.lemmas.List.{get_or-take}
 use Rattle.std.proofs.lemmas.List.Sums.{sum_by-le}
 use Rattle.std.proofs.lemmas.List.Elements.{All-from_get_or}
-use Rattle.pack_layout.specs.Layout.{slot_at, pages_of}
+use Rattle.file_content.specs.Pages.{pages_of}
+use Rattle.pack_layout.specs.Layout.{slot_at}
 use Rattle.inode_switch.specs.View.{page}
 use Rattle.inode_switch.proofs.SlotBytes.{says}
 use Rattle.inode_pack.specs.declared.inode_copy.InodeCopy.{InodeCopy}

@@ -1,7 +1,8 @@
 -- A pack that is found in an image is sound there.
 use Rattle.std.proofs.Common.{◌≡◌, ℕ, zero, suc, ◌+◌, ◌<◌, ◌≤◌, Bool, List, take, get_or, Option, None, Some, sym, ap, subst, ◌∙◌, arith}
 use Rattle.std.specs.Prelude.{IfSome}
-use Rattle.pack_layout.specs.Layout.{slot_at, pages_of}
+use Rattle.file_content.specs.Pages.{pages_of}
+use Rattle.pack_layout.specs.Layout.{slot_at}
 use Rattle.inode_switch.specs.View.{size, page}
 use Rattle.inode_switch.proofs.SlotBytes.{says}
 use Rattle.inode_pack.specs.declared.inode_copy.InodeCopy.{InodeCopy}

@@ -5,16 +5,17 @@ use Rattle.std.proofs.Math.Seq.{get_or-append_right}
 use Rattle.std.proofs.lemmas.Bool.{cases_lt, true≢false, false≢true}
 use Rattle.std.proofs.lemmas.List.{append-nil, get_or_append_left}
 use Rattle.disk_model.specs.Images.{is_within, Torn}
-use Rattle.disk_model.specs.Disk.{Goes, Passing}
+use Rattle.disk_model.specs.Disk.{Moment, Goes, Passing}
 use Rattle.disk_model.specs.declared.disk.DiskFault.{DiskFault}
 use Rattle.disk_model.specs.declared.disk.DiskFault.TheVariants.{Failed}
-use Rattle.inode_switch.specs.Moments.{TellsMany}
-use Rattle.inode_switch.proofs.Tells.{tells_longer}
-use Rattle.pack_layout.specs.Layout.{page_at, pages_of}
+use Rattle.disk_model.specs.Moments.{TellsMany}
+use Rattle.disk_model.proofs.Tells.{tells_longer}
+use Rattle.file_content.specs.Pages.{pages_of}
+use Rattle.pack_layout.specs.Layout.{page_at}
 use Rattle.shadow_pages.specs.Working.{Working}
-use Rattle.inode_switch.specs.declared.switching.Piece.{Piece}
-use Rattle.inode_switch.specs.Switch.{AreWithin, touches, TornIn}
-use Rattle.inode_switch.proofs.Pieces.{or_parts}
+use Rattle.gate_switch.specs.Switch.{Piece}
+use Rattle.gate_switch.specs.Switch.{AreWithin, touches, TornIn}
+use Rattle.gate_switch.proofs.Pieces.{or_parts}
 use Rattle.inode_pack.specs.Committing.{is_changed}
 use Rattle.inode_pack.specs.PagePieces.{piece_at, page_pieces}
 use Rattle.inode_pack.specs.Rows.{HasChanged}
@@ -40,9 +41,6 @@ torn_front xs ys a b torn = record { long = torn.long; outside = λ k none. torn
 
 pub torn_back : (xs ys : List Piece) (a b : List ℕ) → TornIn ys a b → TornIn (xs ++ ys) a b
 torn_back xs ys a b torn = record { long = torn.long; outside = λ k none. torn.outside k (outside_back xs ys k none) }
-
-pub torn_alone : (x : Piece) (a b : List ℕ) → Torn x.at (length x.bytes) a b → TornIn (x ∷ []) a b
-torn_alone x a b torn = record { long = torn.long; outside = λ k none. torn.outside k (or_parts (is_within x.at (length x.bytes) k) false none).0 }
 
 pub within_front : (xs ys : List Piece) (n : ℕ) → AreWithin (xs ++ ys) n → AreWithin xs n
 within_front xs ys n all = λ k d lt. subst (λ (p : Piece). p.at + length p.bytes ≤ n) (get_or_append_left xs ys d k lt) (all k d (omega (arith, length-append xs ys)))
@@ -106,15 +104,6 @@ module _ (base : ℕ) (numbers : List ℕ) (w : Working) where
 
 pub alone_within : (x : Piece) (n : ℕ) → AreWithin (x ∷ []) n → x.at + length x.bytes ≤ n
 alone_within x n all = all 0 x (omega arith)
-
--- a call whose step is one of a wider kind
-pub goes_wider : {D : Type 0} (now : D → ℕ) (may_leave : D → List ℕ → Type 0) (may_have_left : D → ℕ → List ℕ → Type 0) (small step : List ℕ → List ℕ → Type 0) (old new : D) → ((a b : List ℕ) → small a b → step a b)
-    → Goes now may_leave may_have_left small old new → Goes now may_leave may_have_left step old new
-goes_wider now may_leave may_have_left small step old new wider goes = record {
-  later = goes.later;
-  images = λ c is. let from = goes.images c is in (from.0, from.1, wider from.0 c from.2);
-  since = λ t c le left. ⊎_elim (λ was. inl was) (λ more. inr (more.0, more.1, wider more.0 c more.2)) (goes.since t c le left);
-}
 
 one_fault : (e f : DiskFault) → e ≡ f
 one_fault Failed Failed = refl

@@ -3,7 +3,7 @@ use Rattle.std.proofs.Common.{◌≡◌, ◌≢◌, ℕ, zero, suc, ◌+◌, ◌
 use Rattle.std.specs.Prelude.{Option, Some, is_some}
 use Rattle.std.proofs.lemmas.Bool.{cases_lt, true≢false}
 use Rattle.std.proofs.lemmas.List.{get_or-set_same, get_or-set_other}
-use Rattle.pack_layout.specs.Layout.{pages_of}
+use Rattle.file_content.specs.Pages.{pages_of}
 use Rattle.shadow_pages.specs.Working.{Working, count_below, page_at as shadow_page}
 use Rattle.inode_pack.specs.PagePieces.{AreWhole}
 use Rattle.inode_pack.specs.declared.inode_copy.InodeCopy.{InodeCopy}

@@ -6,7 +6,8 @@ use Rattle.std.proofs.lemmas.List.{take_more, get_or-take, append-nil}
 use Rattle.std.proofs.Math.ListN.{set}
 use Rattle.std.proofs.lemmas.List.Sums.{sum_by-set}
 use Rattle.std.proofs.lemmas.List.Folds.{sum_by-replicate}
-use Rattle.pack_layout.specs.Layout.{pages_of, IsSlot}
+use Rattle.file_content.specs.Pages.{pages_of}
+use Rattle.pack_layout.specs.Layout.{IsSlot}
 use Rattle.inode_pack.specs.declared.inode_copy.InodeCopy.{InodeCopy}
 use Rattle.inode_pack.specs.Pack.{times, pages_in, named_pages}
 use Rattle.inode_pack.specs.Losing.{AreSlots}

@@ -1,29 +1,26 @@
 -- The version that a commit makes, the data pages that this takes, and what a crash within the commit leaves.
-use Rattle.std.specs.Prelude.{◌≡◌, ℕ, ◌+◌, ◌-◌, ◌/◌, ◌%◌, ◌<◌, ◌≤◌, ◌==◌, Bool, true, false, List, [], slice_index, slice_set, Option, None, Some, is_some, Result, Ok, Err, if◌then◌else◌}
+use Rattle.std.specs.Prelude.{◌≡◌, ℕ, ◌+◌, ◌-◌, ◌/◌, ◌%◌, ◌<◌, ◌≤◌, ◌==◌, Bool, true, false, List, [], length, slice_index, slice_set, Option, None, Some, is_some, Result, Ok, Err, if◌then◌else◌}
 use Rattle.disk_model.specs.declared.disk.DiskFault.{DiskFault}
 use Rattle.disk_model.specs.declared.disk.DiskFault.TheVariants.{Failed}
-use Rattle.disk_model.specs.Images.{Torn}
-use Rattle.locus_ids.specs.declared.ids.Kind.{Kind}
-use Rattle.locus_ids.specs.declared.ids.Stamp.{Stamp}
-use Rattle.locus_ids.specs.declared.sites.Sites.{Sites}
-use Rattle.pack_layout.specs.Layout.{area_length, pages_of, IsStamp, AgreesWith}
+use Rattle.disk_model.specs.Images.{Torn, bytes_at}
+use Rattle.file_content.specs.Pages.{pages_of}
+use Rattle.pack_layout.specs.Layout.{area_length, page_at, IsStamp, AgreesWith}
 use Rattle.shadow_pages.specs.Working.{Working, page_at as shadow_page, content, count_below}
 use Rattle.inode_switch.specs.View.{Version, view, IsOldOrNew}
 use Rattle.inode_switch.specs.Slots.{field_bytes}
 use Rattle.inode_pack.specs.declared.inode_copy.InodeCopy.{InodeCopy}
+use Rattle.inode_pack.specs.declared.new_version.NewVersion.{NewVersion}
 use Rattle.inode_pack.specs.declared.pack_fault.PackFault.{PackFault}
-use Rattle.inode_pack.specs.declared.pack_fault.PackFault.TheVariants.{Disk, NoSpace, NoMemory}
+use Rattle.inode_pack.specs.declared.pack_fault.PackFault.TheVariants.{Disk, NoSpace}
 use Rattle.inode_pack.specs.Pack.{PackState, copy_of, named_pages, times, number_in}
 use Rattle.inode_pack.specs.Mounting.{IsSound}
 
--- what a slot says of a new version: an inode, a set that isn't empty, a size, and a stamp with its vector
-pub record IsVersion (ino : ℕ) (set : Sites) (bytes : ℕ) (stamp : Stamp) (vector : List ℕ) : Type 0 where
-  pub low : 1 ≤ ino
-  pub high : ino ≤ 1024
-  pub some : 1 ≤ set.0
+-- what a slot may say of a new version with so many bytes: a set that isn't empty, and a stamp with its vector
+pub record IsVersion (version : NewVersion) (bytes : ℕ) : Type 0 where
+  pub some : 1 ≤ version.set.0
   pub most : bytes ≤ 65536
-  pub named : IsStamp stamp
-  pub agrees : AgreesWith stamp vector
+  pub named : IsStamp version.stamp
+  pub agrees : AgreesWith version.stamp version.vector
 
 -- the size of a copy's content
 abbrev pub size_of : Option InodeCopy → ℕ
@@ -67,9 +64,9 @@ next_turn None = 0
 next_turn (Some copy) = (copy.slot.turn + 1) % 3
 
 -- the copy that a commit makes of an inode, where these are the free data pages and this is its copy so far
-pub record Makes (unused : ℕ → Bool) (old : Option InodeCopy) (ino : ℕ) (kind : Kind) (set : Sites) (w : Working) (stamp : Stamp) (vector : List ℕ) (made : InodeCopy) : Type 0 where
+pub record Makes (unused : ℕ → Bool) (old : Option InodeCopy) (ino : ℕ) (version : NewVersion) (w : Working) (made : InodeCopy) : Type 0 where
   pub place : made.which ≡ next_which old
-  pub says : made.slot ≡ record { turn = next_turn old; kind = kind; ino = ino; set = set; size = w.size; stamp = stamp; vector = vector; pages = made.slot.pages }
+  pub says : made.slot ≡ record { turn = next_turn old; kind = version.kind; ino = ino; set = version.set; size = w.size; stamp = version.stamp; vector = version.vector; pages = made.slot.pages }
   pub takes : TakesPages unused old w made.slot.pages
 
 -- the pack has this copy of the inode, and is else as it was
@@ -77,9 +74,9 @@ abbrev pub with_copy : PackState → ℕ → InodeCopy → PackState
 with_copy pack ino made = record { base = pack.base; group = pack.group; site = pack.site; copies = slice_set pack.copies (ino - 1) (Some made) }
 
 -- the pack after a commit
-pub record Commits (old : PackState) (ino : ℕ) (kind : Kind) (set : Sites) (w : Working) (stamp : Stamp) (vector : List ℕ) (new : PackState) : Type 0 where
+pub record Commits (old : PackState) (ino : ℕ) (version : NewVersion) (w : Working) (new : PackState) : Type 0 where
   pub made : InodeCopy
-  pub makes : Makes (is_free old.copies) (copy_of old.copies ino) ino kind set w stamp vector made
+  pub makes : Makes (is_free old.copies) (copy_of old.copies ino) ino version w made
   pub becomes : new ≡ with_copy old ino made
   pub copy : copy_of new.copies ino ≡ Some made
 
@@ -89,11 +86,22 @@ content_of None = []
 content_of (Some version) = version.content
 
 -- the version that a commit makes over what the inode had in an image
-abbrev pub new_version : ℕ → ℕ → Kind → Sites → Working → Stamp → List ℕ → List ℕ → Version
-new_version base ino kind set w stamp vector image = record {
-  fields = field_bytes (record { turn = 0; kind = kind; ino = ino; set = set; size = w.size; stamp = stamp; vector = vector; pages = [] });
+abbrev pub new_version : ℕ → ℕ → NewVersion → Working → List ℕ → Version
+new_version base ino version w image = record {
+  fields = field_bytes (record { turn = 0; kind = version.kind; ino = ino; set = version.set; size = w.size; stamp = version.stamp; vector = version.vector; pages = [] });
   content = content (content_of (view image base ino)) w;
 }
+
+-- the version that an adoption makes: it has just this content
+abbrev pub adopted_version : ℕ → NewVersion → List ℕ → Version
+adopted_version ino version bytes = record {
+  fields = field_bytes (record { turn = 0; kind = version.kind; ino = ino; set = version.set; size = length bytes; stamp = version.stamp; vector = version.vector; pages = [] });
+  content = bytes;
+}
+
+-- each changed page of a content stands at its data page, with the zeros behind its end
+abbrev pub HoldsPages : PackState → ℕ → Working → List ℕ → Type 0
+HoldsPages pack ino w image = (i : ℕ) (page : List ℕ) → i < pages_of w.size → shadow_page w.pages i ≡ Some page → bytes_at image (page_at pack.base (number_in (copy_of pack.copies ino) i)) 1024 ≡ page
 
 -- what a crash within a commit leaves: wholly the old view or the new one, in a sound pack; outside the area all is as before
 pub record MayBeLeft (pack : PackState) (ino : ℕ) (made : Version) (old new : List ℕ) : Type 0 where
@@ -101,22 +109,19 @@ pub record MayBeLeft (pack : PackState) (ino : ℕ) (made : Version) (old new : 
   pub sound : IsSound pack.base pack.group pack.site new
   pub outside : Torn pack.base area_length old new
 
--- the writes and syncs of a commit: a write for each changed page and one for the slot, a sync, and two calls for each gate
-abbrev pub commit_calls : {T : Type 0} → Working → Option InodeCopy → Result T PackFault → ℕ
-commit_calls w old (Ok done) = needed w + (if is_some old then 6 else 4)
-commit_calls w old (Err Disk) = needed w + (if is_some old then 6 else 4)
-commit_calls w old (Err (NoSpace pages free)) = 0
-commit_calls w old (Err NoMemory) = 0
+-- the writes and syncs of a commit with so many new pages: a write for each and one for the slot, a sync, and two calls for each gate
+abbrev pub commit_calls : {T : Type 0} → ℕ → Option InodeCopy → Result T PackFault → ℕ
+commit_calls pages old (Ok done) = pages + (if is_some old then 6 else 4)
+commit_calls pages old (Err Disk) = pages + (if is_some old then 6 else 4)
+commit_calls pages old (Err (NoSpace more free)) = 0
 
 -- what the disk calls of a commit answered
 abbrev pub commit_answer : {T : Type 0} → Result T PackFault → Result (Unit {0}) DiskFault
 commit_answer (Ok done) = Ok tt
 commit_answer (Err Disk) = Err Failed
 commit_answer (Err (NoSpace pages free)) = Ok tt
-commit_answer (Err NoMemory) = Ok tt
 
 -- a fault that comes before the first call of the disk
 abbrev pub IsEarly : PackFault → Type 0
 IsEarly Disk = ⊥
 IsEarly (NoSpace pages free) = Unit {0}
-IsEarly NoMemory = Unit {0}

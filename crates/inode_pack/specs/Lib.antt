@@ -6,3 +6,6 @@ pub mod Pack
 pub mod PagePieces
 pub mod Slots
 pub mod Rows
+pub mod Whole
+pub mod NextIno
+pub mod Found

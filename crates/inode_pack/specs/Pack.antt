@@ -1,8 +1,9 @@
 -- What a pack knows of its area, and which bytes of a disk are that pack.
 use Rattle.std.specs.Prelude.{◌≡◌, ℕ, zero, suc, ◌+◌, ◌-◌, ◌*◌, ◌<◌, ◌≤◌, ◌==◌, false, List, [], ◌∷◌, ◌++◌, length, take, replicate, codes, slice_index, slice_index_or, Option, None, Some, IfSome, if◌then◌else◌}
-use Rattle.disk_model.specs.Disk.{Only}
+use Rattle.disk_model.specs.Disk.{Moment, IsSettled}
 use Rattle.disk_model.specs.Images.{bytes_at}
-use Rattle.pack_layout.specs.Layout.{area_length, slot_at, pages_of, slot_bytes, IsSlot}
+use Rattle.file_content.specs.Pages.{pages_of}
+use Rattle.pack_layout.specs.Layout.{area_length, slot_at, slot_bytes, IsSlot}
 use Rattle.inode_switch.specs.View.{is_open}
 use Rattle.inode_pack.specs.declared.inode_copy.InodeCopy.{InodeCopy}
 
@@ -81,9 +82,9 @@ pub record Shows (pack : PackState) (image : List ℕ) : Type 0 where
   pub copies : ShowsCopies pack.base image (copy_of pack.copies)
 
 -- the pack stands on the disk: a read shows it, and a crash leaves what a read gives
-pub record Stands {D : Type 0} (seen : D → List ℕ) (may_leave : D → List ℕ → Type 0) (pack : PackState) (disk : D) : Type 0 where
-  pub settled : Only (seen disk) (may_leave disk)
-  pub shows : Shows pack (seen disk)
+pub record Stands (pack : PackState) (moment : Moment) : Type 0 where
+  pub settled : IsSettled moment
+  pub shows : Shows pack moment.seen
 
 -- this inode has a copy whose content has this page
 pub record HasPage (pack : PackState) (ino page : ℕ) : Type 0 where

@@ -1,8 +1,9 @@
 -- The bytes that a commit writes: its changed pages, each at its data page, and the slot behind its gate.
 use Rattle.std.specs.Prelude.{◌≡◌, ℕ, zero, suc, ◌+◌, ◌<◌, List, [], ◌∷◌, ◌++◌, length, drop, slice_index, Option, None, Some}
-use Rattle.pack_layout.specs.Layout.{slot_at, page_at, pages_of, slot_bytes}
+use Rattle.file_content.specs.Pages.{pages_of}
+use Rattle.pack_layout.specs.Layout.{slot_at, page_at, slot_bytes}
 use Rattle.shadow_pages.specs.Working.{Working, page_at as shadow_page}
-use Rattle.inode_switch.specs.declared.switching.Piece.{Piece}
+use Rattle.gate_switch.specs.Switch.{Piece}
 use Rattle.inode_pack.specs.declared.inode_copy.InodeCopy.{InodeCopy}
 
 abbrev pub piece_at : ℕ → Option (List ℕ) → List Piece

@@ -1,6 +1,6 @@
 -- Pages in a row, and the least data page that may be free: what keeps a commit from passing over all pages.
 use Rattle.std.specs.Prelude.{◌≡◌, ℕ, ◌<◌, ◌≤◌, true, List, slice_index}
-use Rattle.pack_layout.specs.Layout.{pages_of}
+use Rattle.file_content.specs.Pages.{pages_of}
 use Rattle.shadow_pages.specs.Working.{Working}
 use Rattle.inode_pack.specs.Committing.{is_changed}
 

@@ -4,7 +4,7 @@ use Rattle.disk_model.specs.Images.{bytes_at}
 use Rattle.pack_layout.specs.declared.slot.Slot.{Slot}
 use Rattle.pack_layout.specs.declared.slot.BadSlot.{BadSlot}
 use Rattle.pack_layout.specs.Layout.{slot_at, slot_bytes, IsSlot}
-use Rattle.inode_switch.specs.View.{is_open, turn, follows, counting}
+use Rattle.inode_switch.specs.View.{is_open, turn, newer, counting}
 use Rattle.inode_switch.specs.Replace.{IsNext}
 use Rattle.inode_pack.specs.declared.inode_copy.InodeCopy.{InodeCopy}
 use Rattle.inode_pack.specs.Pack.{IsCopy, ShowsCopy}
@@ -26,7 +26,7 @@ abbrev pub counting_place : ℕ → ℕ → List ℕ → Option ℕ
 counting_place base ino image =
     let first = slot_at base ino 0 in
     let second = slot_at base ino 1 in
-    counting (is_open image first) (is_open image second) (follows image first second) first second
+    counting (is_open image first) (is_open image second) (newer image first second) first second
 
 -- this slot counts, or none does
 abbrev pub Counts : ℕ → ℕ → List ℕ → Option Slot → Type 0

@@ -1,10 +1,10 @@
 // Of two open slots of an inode the one that doesn't count is closed.
 ghost use Rattle.std.specs.Prelude.{◌≡◌, ◌+◌, ◌-◌, ◌*◌, ◌≤◌, true, length, OnOk, IfSome, if◌then◌else◌};
-ghost use Rattle.disk_model.specs.Disk.{Only, HasCause};
+ghost use Rattle.disk_model.specs.Disk.{IsSettled, HasCause};
 ghost use Rattle.pack_layout.specs.Layout.{area_length, slot_at};
 ghost use Rattle.inode_switch.specs.Replace.{Loses};
 ghost use Rattle.inode_switch.specs.View.{SameView};
-ghost use Rattle.inode_switch.specs.Moments.{LeavesOnly, TellsMany};
+ghost use Rattle.disk_model.specs.Moments.{LeavesOnly, TellsMany};
 ghost use Rattle.inode_pack.specs.Pack.{copy_of, ShowsCopies};
 ghost use Rattle.inode_pack.specs.Mounting.{losing_gates};
 ghost use Rattle.inode_pack.specs.Losing.{AreFound, IsClosing, KeepsCopies, closed_if, losing_slot};
@@ -20,17 +20,17 @@ pub(crate) fn close_losing<D: Disk>(
     copies: &[Option<InodeCopy>],
     losing: &[bool],
 ) -> Result<(), DiskFault>
-    requires settled { Only (D.seen disk.old) (D.may_leave disk.old) }
-    requires area { base + area_length ≤ length (D.seen disk.old) }
+    requires settled { IsSettled (D.moment disk.old) }
+    requires area { base + area_length ≤ length (D.moment disk.old).seen }
     requires copies { length copies.now ≡ 1024 }
     requires losing { length losing.now ≡ 1024 }
-    requires found { AreFound base 1024 (D.seen disk.old) copies.now losing.now }
-    ensures any_moment { LeavesOnly D.now D.may_have_left disk.old disk.new (KeepsCopies base copies.now (D.seen disk.old)) }
-    ensures kept { OnOk result (KeepsCopies base copies.now (D.seen disk.old) (D.seen disk.new)) }
-    ensures shows { OnOk result (ShowsCopies base (D.seen disk.new) (copy_of copies.now)) }
-    ensures durable { OnOk result (Only (D.seen disk.new) (D.may_leave disk.new)) }
-    ensures cause { HasCause (D.faults disk.old) (D.faults disk.new) result }
-    ensures tells { TellsMany (2 * losing_gates base 1024 (D.seen disk.old)) (D.passing disk.old) (D.passing disk.new) result }
+    requires found { AreFound base 1024 (D.moment disk.old).seen copies.now losing.now }
+    ensures any_moment { LeavesOnly (D.moment disk.old) (D.moment disk.new) (KeepsCopies base copies.now (D.moment disk.old).seen) }
+    ensures kept { OnOk result (KeepsCopies base copies.now (D.moment disk.old).seen (D.moment disk.new).seen) }
+    ensures shows { OnOk result (ShowsCopies base (D.moment disk.new).seen (copy_of copies.now)) }
+    ensures durable { OnOk result (IsSettled (D.moment disk.new)) }
+    ensures cause { HasCause (D.moment disk.old).faults (D.moment disk.new).faults result }
+    ensures tells { TellsMany (2 * losing_gates base 1024 (D.moment disk.old).seen) (D.moment disk.old).passing (D.moment disk.new).passing result }
 {
     for i in 0..1024 {
         let which = losing_slot(&copies[usize::from(i)]);
@@ -58,15 +58,15 @@ fn close_one<D: Disk>(
     which: u8,
     loses: bool,
 ) -> Result<(), DiskFault>
-    requires settled { Only (D.seen disk.old) (D.may_leave disk.old) }
-    requires area { base + area_length ≤ length (D.seen disk.old) }
-    requires loses { loses ≡ true → Loses base ino which (D.seen disk.old) }
-    ensures any_moment { LeavesOnly D.now D.may_have_left disk.old disk.new (IsClosing base ino which loses (D.seen disk.old)) }
-    ensures done { OnOk result (D.seen disk.new ≡ closed_if loses (slot_at base ino which) (D.seen disk.old)) }
-    ensures view { OnOk result (SameView base (D.seen disk.old) (D.seen disk.new)) }
-    ensures durable { OnOk result (Only (D.seen disk.new) (D.may_leave disk.new)) }
-    ensures cause { HasCause (D.faults disk.old) (D.faults disk.new) result }
-    ensures tells { TellsMany (if loses then 2 else 0) (D.passing disk.old) (D.passing disk.new) result }
+    requires settled { IsSettled (D.moment disk.old) }
+    requires area { base + area_length ≤ length (D.moment disk.old).seen }
+    requires loses { loses ≡ true → Loses base ino which (D.moment disk.old).seen }
+    ensures any_moment { LeavesOnly (D.moment disk.old) (D.moment disk.new) (IsClosing base ino which loses (D.moment disk.old).seen) }
+    ensures done { OnOk result ((D.moment disk.new).seen ≡ closed_if loses (slot_at base ino which) (D.moment disk.old).seen) }
+    ensures view { OnOk result (SameView base (D.moment disk.old).seen (D.moment disk.new).seen) }
+    ensures durable { OnOk result (IsSettled (D.moment disk.new)) }
+    ensures cause { HasCause (D.moment disk.old).faults (D.moment disk.new).faults result }
+    ensures tells { TellsMany (if loses then 2 else 0) (D.moment disk.old).passing (D.moment disk.new).passing result }
 {
     if !loses {
         return Ok(());

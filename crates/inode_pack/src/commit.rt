@@ -1,25 +1,27 @@
 // A version is committed, wholly or not at all.
 ghost use Rattle.std.specs.Prelude.{◌≡◌, ◌↔◌, ◌≤◌, ◌<◌, ◌+◌, ◌-◌, ◌^◌, ℕ, List, length, slice_index, slice_set, Option, Some, Err, is_some, OnOk, OnErr, IfOk, IfErr};
 ghost use Rattle.disk_model.specs.Disk.{HasCause};
-ghost use Rattle.pack_layout.specs.Layout.{area_length, pages_of};
-ghost use Rattle.inode_switch.specs.Moments.{LeavesOnly, TellsMany};
+ghost use Rattle.file_content.specs.Pages.{pages_of};
+ghost use Rattle.pack_layout.specs.Layout.{area_length};
+ghost use Rattle.disk_model.specs.Moments.{LeavesOnly, TellsMany};
 ghost use Rattle.inode_switch.specs.View.{Replaced};
 ghost use Rattle.inode_pack.specs.Pack.{copy_of, named_pages, AreCopies, Stands};
 ghost use Rattle.inode_pack.specs.declared.pack_fault.PackFault.TheVariants.{NoSpace};
 ghost use Rattle.inode_pack.specs.declared.inode_copy.InodeCopy.{InodeCopy};
 ghost use Rattle.inode_pack.specs.Rows.{HasChanged, SameButFor};
 ghost use Rattle.inode_pack.specs.PagePieces.{AreWhole};
-ghost use Rattle.inode_pack.specs.Committing.{IsVersion, RestsOn, size_of, needed, is_free, Makes, Commits, with_copy, new_version, MayBeLeft, commit_calls, commit_answer, IsEarly};
+ghost use Rattle.inode_pack.specs.Committing.{IsVersion, RestsOn, size_of, needed, is_free, Makes, Commits, HoldsPages, with_copy, new_version, adopted_version, MayBeLeft, commit_calls, commit_answer, IsEarly};
+ghost use Rattle.inode_pack.specs.Whole.{whole};
 
+use crate::new_content::NewContent;
 use crate::pieces::CommitPieces;
-use crate::plan::{Heading, Row, changed_row, count_changed, next_copy, page_count};
+use crate::plan::{Row, next_copy, page_count};
 use crate::usage::{first_free, pages_named, pass_pages, row_to_pass};
-use crate::{InodeCopy, Pack, PackFault};
+use crate::{InodeCopy, NewVersion, Pack, PackFault};
 use disk_model::Disk;
 use inode_switch::replace_inode;
-use locus_ids::{Kind, Sites, Stamp};
+use locus_ids::{Bytes, Ino};
 use shadow_pages::Shadow;
-use version_vector::Vector;
 
 /// What a commit makes and writes.
 #[derive(Drop)]
@@ -40,51 +42,104 @@ impl Pack {
     pub fn commit<D: Disk>(
         &mut self,
         disk: &mut D,
-        ino: u16,
-        kind: Kind,
-        set: Sites,
+        ino: Ino,
+        version: &NewVersion,
         shadow: &Shadow,
-        vector: &Vector<16>,
-        stamp: Stamp,
     ) -> Result<(), PackFault>
-        requires stands { Stands D.seen D.may_leave self.old disk.old }
-        requires version { IsVersion ino set shadow.now.size stamp vector.now }
+        requires stands { Stands self.old (D.moment disk.old) }
+        requires version { IsVersion version.now shadow.now.size }
         requires rests { RestsOn (size_of (copy_of self.old.copies ino)) shadow.now }
 
         // At each moment a crash leaves the old view or the new one, in a sound pack, and nothing else changed.
-        ensures any_moment { LeavesOnly D.now D.may_have_left disk.old disk.new
-            (MayBeLeft self.old ino (new_version self.old.base ino kind set shadow.now stamp vector.now (D.seen disk.old)) (D.seen disk.old)) }
+        ensures any_moment { LeavesOnly (D.moment disk.old) (D.moment disk.new)
+            (MayBeLeft self.old ino (new_version self.old.base ino version.now shadow.now (D.moment disk.old).seen) (D.moment disk.old).seen) }
 
         // After it the pack has the new copy, and so has the disk, whatever comes.
-        ensures copies { OnOk result (Commits self.old ino kind set shadow.now stamp vector.now self.new) }
-        ensures stands { OnOk result (Stands D.seen D.may_leave self.new disk.new) }
-        ensures replaced { OnOk result (Replaced self.old.base ino (new_version self.old.base ino kind set shadow.now stamp vector.now (D.seen disk.old)) (D.seen disk.old) (D.seen disk.new)) }
+        ensures copies { OnOk result (Commits self.old ino version.now shadow.now self.new) }
+        ensures stands { OnOk result (Stands self.new (D.moment disk.new)) }
+        ensures replaced { OnOk result (Replaced self.old.base ino (new_version self.old.base ino version.now shadow.now (D.moment disk.old).seen) (D.moment disk.old).seen (D.moment disk.new).seen) }
+        ensures pages { OnOk result (HoldsPages self.new ino shadow.now (D.moment disk.new).seen) }
 
         ensures kept { OnErr result (self.new ≡ self.old) }
         ensures no_space { (pages free : ℕ) → (result ≡ Err (NoSpace pages free)) ↔ ((free < pages) × (pages ≡ needed shadow.now) × (free + length (named_pages self.old.copies) ≡ 3072)) }
         ensures early { IfErr result (λ fault. IsEarly fault → disk.new ≡ disk.old) }
 
         // The disk fails only where its count rose, and where it tells how many calls pass, exactly where they are too few.
-        ensures cause { HasCause (D.faults disk.old) (D.faults disk.new) (commit_answer result) }
-        ensures tells { TellsMany (commit_calls shadow.now (copy_of self.old.copies ino) result) (D.passing disk.old) (D.passing disk.new) (commit_answer result) }
+        ensures cause { HasCause (D.moment disk.old).faults (D.moment disk.new).faults (commit_answer result) }
+        ensures tells { TellsMany (commit_calls (needed shadow.now) (copy_of self.old.copies ino) result) (D.moment disk.old).passing (D.moment disk.new).passing (commit_answer result) }
+    {
+        self.store(disk, ino.get(), *version, shadow)
+    }
+
+    /// Adopts a version that was made elsewhere, with its whole content. All its pages are written, each to the least free data
+    /// page; those of the version so far are free only afterwards. `NoSpace` comes exactly where they are more than are free.
+    /// After `Disk` the pack must be mounted again, and is wholly old or wholly new.
+    pub fn adopt<D: Disk>(
+        &mut self,
+        disk: &mut D,
+        ino: Ino,
+        version: &NewVersion,
+        content: &Bytes,
+    ) -> Result<(), PackFault>
+        requires stands { Stands self.old (D.moment disk.old) }
+        requires version { IsVersion version.now (length content.now) }
+
+        // At each moment a crash leaves the old view or the new one, in a sound pack, and nothing else changed.
+        ensures any_moment { LeavesOnly (D.moment disk.old) (D.moment disk.new)
+            (MayBeLeft self.old ino (adopted_version ino version.now content.now) (D.moment disk.old).seen) }
+
+        // After it the pack has the new copy, and so has the disk, whatever comes.
+        ensures copies { OnOk result (Commits self.old ino version.now (whole content.now) self.new) }
+        ensures stands { OnOk result (Stands self.new (D.moment disk.new)) }
+        ensures replaced { OnOk result (Replaced self.old.base ino (adopted_version ino version.now content.now) (D.moment disk.old).seen (D.moment disk.new).seen) }
+        ensures pages { OnOk result (HoldsPages self.new ino (whole content.now) (D.moment disk.new).seen) }
+
+        ensures kept { OnErr result (self.new ≡ self.old) }
+        ensures no_space { (pages free : ℕ) → (result ≡ Err (NoSpace pages free)) ↔ ((free < pages) × (pages ≡ pages_of (length content.now)) × (free + length (named_pages self.old.copies) ≡ 3072)) }
+        ensures early { IfErr result (λ fault. IsEarly fault → disk.new ≡ disk.old) }
+
+        // The disk fails only where its count rose, and where it tells how many calls pass, exactly where they are too few.
+        ensures cause { HasCause (D.moment disk.old).faults (D.moment disk.new).faults (commit_answer result) }
+        ensures tells { TellsMany (commit_calls (pages_of (length content.now)) (copy_of self.old.copies ino) result) (D.moment disk.old).passing (D.moment disk.new).passing (commit_answer result) }
+    {
+        self.store(disk, ino.get(), *version, content)
+    }
+
+    /// Makes a version of an inode, wholly or not at all.
+    fn store<D: Disk, C: NewContent>(
+        &mut self,
+        disk: &mut D,
+        ino: u16,
+        version: NewVersion,
+        content: &C,
+    ) -> Result<(), PackFault>
+        requires low { 1 ≤ ino }
+        requires high { ino ≤ 1024 }
+        requires stands { Stands self.old (D.moment disk.old) }
+        requires version { IsVersion version (C.working content.now).size }
+        requires rests { RestsOn (size_of (copy_of self.old.copies ino)) (C.working content.now) }
+        ensures any_moment { LeavesOnly (D.moment disk.old) (D.moment disk.new)
+            (MayBeLeft self.old ino (new_version self.old.base ino version (C.working content.now) (D.moment disk.old).seen) (D.moment disk.old).seen) }
+        ensures copies { OnOk result (Commits self.old ino version (C.working content.now) self.new) }
+        ensures stands { OnOk result (Stands self.new (D.moment disk.new)) }
+        ensures replaced { OnOk result (Replaced self.old.base ino (new_version self.old.base ino version (C.working content.now) (D.moment disk.old).seen) (D.moment disk.old).seen (D.moment disk.new).seen) }
+        ensures pages { OnOk result (HoldsPages self.new ino (C.working content.now) (D.moment disk.new).seen) }
+        ensures kept { OnErr result (self.new ≡ self.old) }
+        ensures no_space { (pages free : ℕ) → (result ≡ Err (NoSpace pages free)) ↔ ((free < pages) × (pages ≡ needed (C.working content.now)) × (free + length (named_pages self.old.copies) ≡ 3072)) }
+        ensures early { IfErr result (λ fault. IsEarly fault → disk.new ≡ disk.old) }
+        ensures cause { HasCause (D.moment disk.old).faults (D.moment disk.new).faults (commit_answer result) }
+        ensures tells { TellsMany (commit_calls (needed (C.working content.now)) (copy_of self.old.copies ino) result) (D.moment disk.old).passing (D.moment disk.new).passing (commit_answer result) }
     {
         let _len = disk.len();
-        let heading = Heading {
-            ino,
-            kind,
-            set,
-            stamp,
-            vector: *vector,
-        };
         let base = self.base();
-        self.room_for(shadow)?;
-        let prepared = self.prepare(&heading, shadow);
+        self.room_for(content)?;
+        let prepared = self.prepare(ino, &version, content);
         let which = prepared.made.which;
         let pieces = CommitPieces {
             base,
             made: &prepared.made,
             row: prepared.changed,
-            shadow,
+            content,
         };
         replace_inode(disk, base, ino, which, prepared.closes, &pieces)?;
         self.put(ino, &prepared.made, prepared.passed);
@@ -99,14 +154,14 @@ impl Pack {
     }
 
     /// Whether there is room for the changed pages.
-    fn room_for(&self, shadow: &Shadow) -> Result<(), PackFault>
-        requires size { shadow.now.size ≤ 65536 }
+    fn room_for<C: NewContent>(&self, content: &C) -> Result<(), PackFault>
+        requires size { (C.working content.now).size ≤ 65536 }
         ensures copies { AreCopies self.now.copies }
-        ensures room { OnOk result (needed shadow.now + length (named_pages self.now.copies) ≤ 3072) }
-        ensures no_space { (pages free : ℕ) → (result ≡ Err (NoSpace pages free)) ↔ ((free < pages) × (pages ≡ needed shadow.now) × (free + length (named_pages self.now.copies) ≡ 3072)) }
+        ensures room { OnOk result (needed (C.working content.now) + length (named_pages self.now.copies) ≤ 3072) }
+        ensures no_space { (pages free : ℕ) → (result ≡ Err (NoSpace pages free)) ↔ ((free < pages) × (pages ≡ needed (C.working content.now)) × (free + length (named_pages self.now.copies) ≡ 3072)) }
         ensures early { IfErr result (λ fault. IsEarly fault) }
     {
-        let needed = count_changed(shadow);
+        let needed = content.count();
         if needed > self.free {
             return Err(PackFault::NoSpace {
                 needed,
@@ -117,29 +172,31 @@ impl Pack {
     }
 
     /// Finds what a commit makes. It takes no memory, nor does the rest of a commit.
-    fn prepare(&self, heading: &Heading, shadow: &Shadow) -> Prepared
+    fn prepare<C: NewContent>(&self, ino: u16, version: &NewVersion, content: &C) -> Prepared
         requires area { self.now.base + area_length < 2 ^ 32 }
-        requires version { IsVersion heading.now.ino heading.now.set shadow.now.size heading.now.stamp heading.now.vector }
-        requires rests { RestsOn (size_of (copy_of self.now.copies heading.now.ino)) shadow.now }
-        requires room { needed shadow.now + length (named_pages self.now.copies) ≤ 3072 }
-        ensures makes { Makes (is_free self.now.copies) (copy_of self.now.copies heading.now.ino) heading.now.ino heading.now.kind heading.now.set shadow.now heading.now.stamp heading.now.vector result.made }
+        requires low { 1 ≤ ino }
+        requires high { ino ≤ 1024 }
+        requires version { IsVersion version.now (C.working content.now).size }
+        requires rests { RestsOn (size_of (copy_of self.now.copies ino)) (C.working content.now) }
+        requires room { needed (C.working content.now) + length (named_pages self.now.copies) ≤ 3072 }
+        ensures makes { Makes (is_free self.now.copies) (copy_of self.now.copies ino) ino version.now (C.working content.now) result.made }
         ensures numbers { length result.made.slot.pages ≡ 64 }
         ensures place { result.made.which ≤ 1 }
-        ensures inside { (i : ℕ) → i < pages_of shadow.now.size → slice_index result.made.slot.pages i < 3072 }
-        ensures changed { HasChanged result.changed.first result.changed.stop shadow.now }
+        ensures inside { (i : ℕ) → i < pages_of (C.working content.now).size → slice_index result.made.slot.pages i < 3072 }
+        ensures changed { HasChanged result.changed.first result.changed.stop (C.working content.now) }
         ensures changed_ordered { result.changed.first ≤ result.changed.stop }
-        ensures changed_inside { result.changed.stop ≤ pages_of shadow.now.size }
-        ensures whole { AreWhole shadow.now (pages_of shadow.now.size) }
+        ensures changed_inside { result.changed.stop ≤ pages_of (C.working content.now).size }
+        ensures whole { AreWhole (C.working content.now) (pages_of (C.working content.now).size) }
         ensures passed_ordered { result.passed.first ≤ result.passed.stop }
         ensures passed_inside { result.passed.stop ≤ 64 }
-        ensures same { (one : InodeCopy) → copy_of self.now.copies heading.now.ino ≡ Some one → SameButFor result.passed.first result.passed.stop one.slot.pages result.made.slot.pages }
-        ensures closes { result.closes ≡ is_some (copy_of self.now.copies heading.now.ino) }
+        ensures same { (one : InodeCopy) → copy_of self.now.copies ino ≡ Some one → SameButFor result.passed.first result.passed.stop one.slot.pages result.made.slot.pages }
+        ensures closes { result.closes ≡ is_some (copy_of self.now.copies ino) }
         ensures copies { AreCopies self.now.copies }
     {
-        let row = changed_row(shadow);
-        let old = &self.copies[usize::from(heading.ino) - 1];
-        let passed = row_to_pass(old, row, page_count(shadow.size()));
-        let made = next_copy(&self.uses, self.least, row, old, heading, shadow);
+        let row = content.row();
+        let old = &self.copies[usize::from(ino) - 1];
+        let passed = row_to_pass(old, row, page_count(content.size()));
+        let made = next_copy(&self.uses, self.least, row, old, ino, version, content);
         Prepared {
             made,
             changed: row,

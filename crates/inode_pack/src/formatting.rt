@@ -1,10 +1,10 @@
 // A new pack.
 ghost use Rattle.std.specs.Prelude.{◌≡◌, ℕ, ◌+◌, ◌≤◌, ◌<◌, length, slice_index, true, OnOk};
-ghost use Rattle.disk_model.specs.Disk.{Goes, Only, HasCause};
+ghost use Rattle.disk_model.specs.Disk.{Goes, IsSettled, HasCause};
 ghost use Rattle.disk_model.specs.Images.{bytes_at, Torn};
 ghost use Rattle.locus_ids.specs.Sites.{has};
 ghost use Rattle.pack_layout.specs.Layout.{area_length, slot_bytes};
-ghost use Rattle.inode_switch.specs.Moments.{TellsMany};
+ghost use Rattle.disk_model.specs.Moments.{TellsMany};
 ghost use Rattle.inode_pack.specs.Pack.{ShowsCopies};
 ghost use Rattle.inode_pack.specs.Mounting.{IsSound};
 ghost use Rattle.inode_pack.specs.Format.{new_copy, root_slot, IsNew};
@@ -26,16 +26,16 @@ pub fn format<D: Disk>(
     site: SiteId,
     set: Sites,
 ) -> Result<(), DiskFault>
-    requires area { base + area_length ≤ length (D.seen disk.old) }
+    requires area { base + area_length ≤ length (D.moment disk.old).seen }
     requires stored { has set site ≡ true }
-    ensures formatted { OnOk result (IsNew base group site set (D.seen disk.new)) }
-    ensures sound { OnOk result (IsSound base group site (D.seen disk.new)) }
-    ensures copies { OnOk result (ShowsCopies base (D.seen disk.new) (new_copy set)) }
-    ensures outside { OnOk result (Torn base area_length (D.seen disk.old) (D.seen disk.new)) }
-    ensures durable { OnOk result (Only (D.seen disk.new) (D.may_leave disk.new)) }
-    ensures crash { Goes D.now D.may_leave D.may_have_left (Torn base area_length) disk.old disk.new }
-    ensures cause { HasCause (D.faults disk.old) (D.faults disk.new) result }
-    ensures tells { TellsMany 67 (D.passing disk.old) (D.passing disk.new) result }
+    ensures formatted { OnOk result (IsNew base group site set (D.moment disk.new).seen) }
+    ensures sound { OnOk result (IsSound base group site (D.moment disk.new).seen) }
+    ensures copies { OnOk result (ShowsCopies base (D.moment disk.new).seen (new_copy set)) }
+    ensures outside { OnOk result (Torn base area_length (D.moment disk.old).seen (D.moment disk.new).seen) }
+    ensures durable { OnOk result (IsSettled (D.moment disk.new)) }
+    ensures crash { Goes (Torn base area_length) (D.moment disk.old) (D.moment disk.new) }
+    ensures cause { HasCause (D.moment disk.old).faults (D.moment disk.new).faults result }
+    ensures tells { TellsMany 67 (D.moment disk.old).passing (D.moment disk.new).passing result }
 {
     disk.write_at(base, &superblock(group, site))?;
     zero_slots(disk, base)?;
@@ -45,26 +45,26 @@ pub fn format<D: Disk>(
 
 /// Writes zeros over all slots.
 fn zero_slots<D: Disk>(disk: &mut D, base: u32) -> Result<(), DiskFault>
-    requires { base + area_length ≤ length (D.seen disk.old) }
-    ensures zeros { OnOk result ((k : ℕ) → 1024 ≤ k → k < 1049600 → slice_index (D.seen disk.new) (base + k) ≡ 0) }
-    ensures outside { OnOk result (Torn (base + 1024) 1048576 (D.seen disk.old) (D.seen disk.new)) }
-    ensures crash { Goes D.now D.may_leave D.may_have_left (Torn (base + 1024) 1048576) disk.old disk.new }
-    ensures cause { HasCause (D.faults disk.old) (D.faults disk.new) result }
-    ensures tells { TellsMany 64 (D.passing disk.old) (D.passing disk.new) result }
+    requires { base + area_length ≤ length (D.moment disk.old).seen }
+    ensures zeros { OnOk result ((k : ℕ) → 1024 ≤ k → k < 1049600 → slice_index (D.moment disk.new).seen (base + k) ≡ 0) }
+    ensures outside { OnOk result (Torn (base + 1024) 1048576 (D.moment disk.old).seen (D.moment disk.new).seen) }
+    ensures crash { Goes (Torn (base + 1024) 1048576) (D.moment disk.old) (D.moment disk.new) }
+    ensures cause { HasCause (D.moment disk.old).faults (D.moment disk.new).faults result }
+    ensures tells { TellsMany 64 (D.moment disk.old).passing (D.moment disk.new).passing result }
 {
     write_pieces(disk, base, &[0; 16_384])
 }
 
 /// Writes a piece of zeros over all slots, one time behind the other.
 fn write_pieces<D: Disk>(disk: &mut D, base: u32, zeros: &[u8]) -> Result<(), DiskFault>
-    requires area { base + area_length ≤ length (D.seen disk.old) }
+    requires area { base + area_length ≤ length (D.moment disk.old).seen }
     requires long { length zeros.now ≡ 16384 }
     requires zeros { (j : ℕ) → j < 16384 → slice_index zeros.now j ≡ 0 }
-    ensures zeros { OnOk result ((k : ℕ) → 1024 ≤ k → k < 1049600 → slice_index (D.seen disk.new) (base + k) ≡ 0) }
-    ensures outside { OnOk result (Torn (base + 1024) 1048576 (D.seen disk.old) (D.seen disk.new)) }
-    ensures crash { Goes D.now D.may_leave D.may_have_left (Torn (base + 1024) 1048576) disk.old disk.new }
-    ensures cause { HasCause (D.faults disk.old) (D.faults disk.new) result }
-    ensures tells { TellsMany 64 (D.passing disk.old) (D.passing disk.new) result }
+    ensures zeros { OnOk result ((k : ℕ) → 1024 ≤ k → k < 1049600 → slice_index (D.moment disk.new).seen (base + k) ≡ 0) }
+    ensures outside { OnOk result (Torn (base + 1024) 1048576 (D.moment disk.old).seen (D.moment disk.new).seen) }
+    ensures crash { Goes (Torn (base + 1024) 1048576) (D.moment disk.old) (D.moment disk.new) }
+    ensures cause { HasCause (D.moment disk.old).faults (D.moment disk.new).faults result }
+    ensures tells { TellsMany 64 (D.moment disk.old).passing (D.moment disk.new).passing result }
 {
     let _len = disk.len();
     for i in 0..64 {
@@ -75,12 +75,12 @@ fn write_pieces<D: Disk>(disk: &mut D, base: u32, zeros: &[u8]) -> Result<(), Di
 
 /// Writes the root directory into the first slot.
 fn write_root<D: Disk>(disk: &mut D, base: u32, set: Sites) -> Result<(), DiskFault>
-    requires { base + area_length ≤ length (D.seen disk.old) }
-    ensures root { OnOk result (bytes_at (D.seen disk.new) (base + 1024) 512 ≡ slot_bytes (root_slot set)) }
-    ensures outside { OnOk result (Torn (base + 1024) 512 (D.seen disk.old) (D.seen disk.new)) }
-    ensures crash { Goes D.now D.may_leave D.may_have_left (Torn (base + 1024) 512) disk.old disk.new }
-    ensures cause { HasCause (D.faults disk.old) (D.faults disk.new) result }
-    ensures tells { TellsMany 1 (D.passing disk.old) (D.passing disk.new) result }
+    requires { base + area_length ≤ length (D.moment disk.old).seen }
+    ensures root { OnOk result (bytes_at (D.moment disk.new).seen (base + 1024) 512 ≡ slot_bytes (root_slot set)) }
+    ensures outside { OnOk result (Torn (base + 1024) 512 (D.moment disk.old).seen (D.moment disk.new).seen) }
+    ensures crash { Goes (Torn (base + 1024) 512) (D.moment disk.old) (D.moment disk.new) }
+    ensures cause { HasCause (D.moment disk.old).faults (D.moment disk.new).faults result }
+    ensures tells { TellsMany 1 (D.moment disk.old).passing (D.moment disk.new).passing result }
 {
     let _len = disk.len();
     disk.write_at(base + 1_024, &root_bytes(set))

@@ -6,6 +6,7 @@ ghost use Rattle.pack_layout.specs.Layout.{area_length};
 ghost use Rattle.inode_pack.specs.Pack.{IsPackOf};
 ghost use Rattle.inode_pack.specs.Mounting.{IsCause, disk_answer};
 ghost use Rattle.inode_pack.specs.Losing.{AreFound};
+ghost use Rattle.inode_pack.specs.Found.{copy_in, is_beside};
 
 use crate::slots::{Found, read_inode};
 use crate::{InodeCopy, MountFault};
@@ -25,11 +26,11 @@ pub(crate) struct Inodes {
 impl Inodes {
     /// Adds what the slots of the next inode say.
     fn push(&mut self, found: Found) -> Result<(), NoMemory>
-        ensures copies { OnOk result (self.new.copies.items ≡ self.old.copies.items ++ found.copy ∷ []) }
-        ensures losing { OnOk result (self.new.losing.items ≡ self.old.losing.items ++ found.loses ∷ []) }
+        ensures copies { OnOk result (self.new.copies.items ≡ self.old.copies.items ++ copy_in found ∷ []) }
+        ensures losing { OnOk result (self.new.losing.items ≡ self.old.losing.items ++ is_beside found ∷ []) }
     {
-        self.copies.push(found.copy)?;
-        self.losing.push(found.loses)?;
+        self.copies.push(found.copy())?;
+        self.losing.push(found.is_beside())?;
         Ok(())
     }
 }
@@ -40,15 +41,15 @@ pub(crate) fn read_inodes<D: Disk>(
     disk: &mut D,
     base: u32,
 ) -> Result<Inodes, MountFault>
-    requires { base + area_length ≤ length (D.seen disk.old) }
-    ensures found { IfOk result (λ read. AreFound base 1024 (D.seen disk.old) read.copies.items read.losing.items) }
+    requires { base + area_length ≤ length (D.moment disk.old).seen }
+    ensures found { IfOk result (λ read. AreFound base 1024 (D.moment disk.old).seen read.copies.items read.losing.items) }
     ensures copies { IfOk result (λ read. length read.copies.items ≡ 1024) }
     ensures losing { IfOk result (λ read. length read.losing.items ≡ 1024) }
-    ensures fault { (group site : ℕ) → IsPackOf base group site (D.seen disk.old) → IfErr result (λ fault. IsCause base group site (D.seen disk.old) fault) }
-    ensures seen { D.seen disk.new ≡ D.seen disk.old }
-    ensures crash { Goes D.now D.may_leave D.may_have_left Same disk.old disk.new }
-    ensures cause { HasCause (D.faults disk.old) (D.faults disk.new) (disk_answer result) }
-    ensures tells { TellsRead (D.passing disk.old) (D.passing disk.new) (disk_answer result) }
+    ensures fault { (group site : ℕ) → IsPackOf base group site (D.moment disk.old).seen → IfErr result (λ fault. IsCause base group site (D.moment disk.old).seen fault) }
+    ensures seen { (D.moment disk.new).seen ≡ (D.moment disk.old).seen }
+    ensures crash { Goes Same (D.moment disk.old) (D.moment disk.new) }
+    ensures cause { HasCause (D.moment disk.old).faults (D.moment disk.new).faults (disk_answer result) }
+    ensures tells { TellsRead (D.moment disk.old).passing (D.moment disk.new).passing (disk_answer result) }
 {
     let copies = Vec::with_capacity(alloc, 1024)?;
     let losing = Vec::with_capacity(alloc, 1024)?;

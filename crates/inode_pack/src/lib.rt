@@ -4,13 +4,14 @@
 
 mod closing;
 mod commit;
-#[cfg(test)]
-mod commit_tests;
 mod formatting;
 mod inode_copy;
 mod inodes;
 mod mount;
 mod mount_fault;
+mod new_content;
+mod new_version;
+mod next_ino;
 mod pack;
 mod pack_fault;
 mod pages;
@@ -19,13 +20,13 @@ mod plan;
 mod shared;
 mod slots;
 mod superblock;
-#[cfg(test)]
-mod tests;
 mod usage;
 
 pub use formatting::format;
 pub use inode_copy::InodeCopy;
 pub use mount_fault::MountFault;
+pub use new_version::NewVersion;
+pub use next_ino::Inos;
 pub use pack::Pack;
 pub use pack_fault::PackFault;
 pub use slots::held_slot;

@@ -1,9 +1,9 @@
 // A pack is found again on a disk.
 ghost use Rattle.std.specs.Prelude.{◌≡◌, ◌+◌, ◌≤◌, length, IfOk, IfErr, OnOk};
-ghost use Rattle.disk_model.specs.Disk.{Goes, Only, HasCause, TellsRead};
+ghost use Rattle.disk_model.specs.Disk.{Goes, IsSettled, HasCause, TellsRead};
 ghost use Rattle.disk_model.specs.Images.{Same};
 ghost use Rattle.pack_layout.specs.Layout.{area_length};
-ghost use Rattle.inode_switch.specs.Moments.{LeavesOnly, TellsMany};
+ghost use Rattle.disk_model.specs.Moments.{LeavesOnly, TellsMany};
 ghost use Rattle.inode_pack.specs.Pack.{AreCopies, AreUses, Stands};
 ghost use Rattle.inode_pack.specs.Mounting.{IsSound, IsCause, IsPassing, Recovers, KeepsPack, mount_calls, disk_answer};
 ghost use Rattle.inode_pack.specs.Losing.{AreFound};
@@ -28,27 +28,27 @@ impl Pack {
         group: u8,
         site: SiteId,
     ) -> Result<Pack, MountFault>
-        requires settled { Only (D.seen disk.old) (D.may_leave disk.old) }
-        requires area { base + area_length ≤ length (D.seen disk.old) }
+        requires settled { IsSettled (D.moment disk.old) }
+        requires area { base + area_length ≤ length (D.moment disk.old).seen }
 
         // The pack stands on the disk, and its copies are the view that the image had before.
-        ensures stands { IfOk result (λ pack. Stands D.seen D.may_leave pack disk.new) }
+        ensures stands { IfOk result (λ pack. Stands pack (D.moment disk.new)) }
         ensures base { IfOk result (λ pack. pack.base ≡ base) }
         ensures group { IfOk result (λ pack. pack.group ≡ group) }
         ensures site { IfOk result (λ pack. pack.site ≡ site) }
-        ensures recovered { IfOk result (λ pack. Recovers base (D.seen disk.old) pack.copies) }
+        ensures recovered { IfOk result (λ pack. Recovers base (D.moment disk.old).seen pack.copies) }
         ensures copies { IfOk result (λ pack. AreCopies pack.copies) }
 
         // It mounts exactly where the image is sound, but for want of memory and a failing disk.
-        ensures sound { OnOk result (IsSound base group site (D.seen disk.old)) }
-        ensures fault { IfErr result (λ fault. IsCause base group site (D.seen disk.old) fault) }
-        ensures mounts { IsSound base group site (D.seen disk.old) → IfErr result (λ fault. IsPassing fault) }
+        ensures sound { OnOk result (IsSound base group site (D.moment disk.old).seen) }
+        ensures fault { IfErr result (λ fault. IsCause base group site (D.moment disk.old).seen fault) }
+        ensures mounts { IsSound base group site (D.moment disk.old).seen → IfErr result (λ fault. IsPassing fault) }
 
         // Whenever a crash comes, nothing is lost.
-        ensures any_moment { LeavesOnly D.now D.may_have_left disk.old disk.new (KeepsPack base group site (D.seen disk.old)) }
+        ensures any_moment { LeavesOnly (D.moment disk.old) (D.moment disk.new) (KeepsPack base group site (D.moment disk.old).seen) }
 
-        ensures cause { HasCause (D.faults disk.old) (D.faults disk.new) (disk_answer result) }
-        ensures tells { TellsMany (mount_calls base (D.seen disk.old) result) (D.passing disk.old) (D.passing disk.new) (disk_answer result) }
+        ensures cause { HasCause (D.moment disk.old).faults (D.moment disk.new).faults (disk_answer result) }
+        ensures tells { TellsMany (mount_calls base (D.moment disk.old).seen result) (D.moment disk.old).passing (D.moment disk.new).passing (disk_answer result) }
     {
         let survey = read_pack(alloc, disk, base, group, site)?;
         close_losing(disk, base, &survey.copies, &survey.losing)?;
@@ -81,17 +81,17 @@ fn read_pack<D: Disk>(
     group: u8,
     site: SiteId,
 ) -> Result<Survey, MountFault>
-    requires { base + area_length ≤ length (D.seen disk.old) }
-    ensures sound { OnOk result (IsSound base group site (D.seen disk.old)) }
-    ensures found { IfOk result (λ survey. AreFound base 1024 (D.seen disk.old) survey.copies.items survey.losing.items) }
+    requires { base + area_length ≤ length (D.moment disk.old).seen }
+    ensures sound { OnOk result (IsSound base group site (D.moment disk.old).seen) }
+    ensures found { IfOk result (λ survey. AreFound base 1024 (D.moment disk.old).seen survey.copies.items survey.losing.items) }
     ensures losing { IfOk result (λ survey. length survey.losing.items ≡ 1024) }
     ensures copies { IfOk result (λ survey. AreCopies survey.copies.items) }
     ensures uses { IfOk result (λ survey. AreUses survey.copies.items survey.uses.items survey.free) }
-    ensures fault { IfErr result (λ fault. IsCause base group site (D.seen disk.old) fault) }
-    ensures seen { D.seen disk.new ≡ D.seen disk.old }
-    ensures crash { Goes D.now D.may_leave D.may_have_left Same disk.old disk.new }
-    ensures cause { HasCause (D.faults disk.old) (D.faults disk.new) (disk_answer result) }
-    ensures tells { TellsRead (D.passing disk.old) (D.passing disk.new) (disk_answer result) }
+    ensures fault { IfErr result (λ fault. IsCause base group site (D.moment disk.old).seen fault) }
+    ensures seen { (D.moment disk.new).seen ≡ (D.moment disk.old).seen }
+    ensures crash { Goes Same (D.moment disk.old) (D.moment disk.new) }
+    ensures cause { HasCause (D.moment disk.old).faults (D.moment disk.new).faults (disk_answer result) }
+    ensures tells { TellsRead (D.moment disk.old).passing (D.moment disk.new).passing (disk_answer result) }
 {
     if !is_pack_of(disk, base, group, site)? {
         return Err(MountFault::NotAPack);

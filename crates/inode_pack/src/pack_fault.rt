@@ -1,10 +1,9 @@
 ghost use Rattle.std.specs.Prelude.{◌≡◌};
 
 use disk_model::DiskFault;
-use locus_ids::NoMemory;
 use thiserror::Error;
 
-/// Why a version isn't committed.
+/// Why a version isn't committed or adopted.
 #[derive(Clone, Copy, Debug, PartialEq, Eq, Error)]
 pub enum PackFault {
     /// The pack must be mounted again: it has the old version or the new one.
@@ -13,8 +12,6 @@ pub enum PackFault {
     /// The version has `needed` new pages, and `free` data pages are free.
     #[error("{needed} pages are needed and {free} are free")]
     NoSpace { needed: u16, free: u16 },
-    #[error("no memory")]
-    NoMemory,
 }
 
 impl From<DiskFault> for PackFault {
@@ -24,15 +21,5 @@ impl From<DiskFault> for PackFault {
 
     fn from(_: DiskFault) -> PackFault {
         PackFault::Disk
-    }
-}
-
-impl From<NoMemory> for PackFault {
-    ghost use Rattle.inode_pack.specs.declared.pack_fault.PackFault.TheVariants.{NoMemory};
-
-    ghost from_gives = { λ _ fault. fault ≡ NoMemory };
-
-    fn from(_: NoMemory) -> PackFault {
-        PackFault::NoMemory
     }
 }

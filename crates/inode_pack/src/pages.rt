@@ -19,15 +19,15 @@ impl Pack {
         page: u16,
         buf: &mut [u8; 1024],
     ) -> Result<(), DiskFault>
-        requires stands { Stands D.seen D.may_leave self.now disk.old }
+        requires stands { Stands self.now (D.moment disk.old) }
         requires page { HasPage self.now ino page }
-        ensures bytes { OnOk result (buf.new ≡ bytes_at (D.seen disk.old) (page_at self.now.base (number_in (copy_of self.now.copies ino) page)) 1024) }
-        ensures content { OnOk result ((version : Version) → view (D.seen disk.old) self.now.base ino ≡ Some version → IsPageOf version.content page buf.new) }
-        ensures seen { D.seen disk.new ≡ D.seen disk.old }
-        ensures stands { Stands D.seen D.may_leave self.now disk.new }
-        ensures crash { Goes D.now D.may_leave D.may_have_left Same disk.old disk.new }
-        ensures cause { HasCause (D.faults disk.old) (D.faults disk.new) result }
-        ensures tells { TellsRead (D.passing disk.old) (D.passing disk.new) result }
+        ensures bytes { OnOk result (buf.new ≡ bytes_at (D.moment disk.old).seen (page_at self.now.base (number_in (copy_of self.now.copies ino) page)) 1024) }
+        ensures content { OnOk result ((version : Version) → view (D.moment disk.old).seen self.now.base ino ≡ Some version → IsPageOf version.content page buf.new) }
+        ensures seen { (D.moment disk.new).seen ≡ (D.moment disk.old).seen }
+        ensures stands { Stands self.now (D.moment disk.new) }
+        ensures crash { Goes Same (D.moment disk.old) (D.moment disk.new) }
+        ensures cause { HasCause (D.moment disk.old).faults (D.moment disk.new).faults result }
+        ensures tells { TellsRead (D.moment disk.old).passing (D.moment disk.new).passing result }
     {
         let _len = disk.len();
         let number = self.number_of(ino, page);

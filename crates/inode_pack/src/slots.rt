@@ -5,45 +5,67 @@ ghost use Rattle.disk_model.specs.Images.{Same};
 ghost use Rattle.std.specs.Option.{option_map};
 ghost use Rattle.pack_layout.specs.Layout.{area_length, slot_at, IsSlot};
 ghost use Rattle.inode_pack.specs.Slots.{IsGoodInode, Counts, IsRead, IsFound};
+ghost use Rattle.inode_pack.specs.Found.{copy_in, is_beside};
 
 use crate::InodeCopy;
 use disk_model::{Disk, DiskFault};
 use pack_layout::{BadSlot, Slot, newer, read_slot, slot_at};
 
-/// What the two slots of an inode say: the version that counts, and whether the other slot is open too.
+/// What the two slots of an inode say.
 #[derive(Drop)]
-pub(crate) struct Found {
-    pub copy: Option<InodeCopy>,
-    pub loses: bool,
+pub(crate) enum Found {
+    /// No slot is open.
+    Nothing,
+    /// One slot is open.
+    Alone(InodeCopy),
+    /// Both slots are open, and this one counts.
+    Beside(InodeCopy),
+}
+
+impl Found {
+    /// The version that counts.
+    pub fn copy(&self) -> Option<InodeCopy>
+        ensures { result ≡ copy_in self.now }
+    {
+        match self {
+            Found::Nothing => None,
+            Found::Alone(copy) => Some(*copy),
+            Found::Beside(copy) => Some(*copy),
+        }
+    }
+
+    /// Whether another slot is open beside it.
+    pub fn is_beside(&self) -> bool
+        ensures { result ≡ is_beside self.now }
+    {
+        match self {
+            Found::Nothing => false,
+            Found::Alone(_) => false,
+            Found::Beside(_) => true,
+        }
+    }
 }
 
 /// Of the open slots of an inode the one that counts, or `BadSlot` exactly where both are open with equal turns.
 fn choose(first: Option<Slot>, second: Option<Slot>) -> Result<Found, BadSlot>
-    ensures found { (base ino : ℕ) (image : List ℕ) → IsRead ino (slot_at base ino 0) image (Ok first) → IsRead ino (slot_at base ino 1) image (Ok second) → IfOk result (λ found. IsFound base ino image found.copy found.loses) }
+    ensures found { (base ino : ℕ) (image : List ℕ) → IsRead ino (slot_at base ino 0) image (Ok first) → IsRead ino (slot_at base ino 1) image (Ok second) → IfOk result (λ found. IsFound base ino image (copy_in found) (is_beside found)) }
     ensures bad { (base ino : ℕ) (image : List ℕ) → IsRead ino (slot_at base ino 0) image (Ok first) → IsRead ino (slot_at base ino 1) image (Ok second) → IfErr result (λ _. IsGoodInode base ino image → ⊥) }
 {
     match (first, second) {
-        (None, None) => Ok(Found {
-            copy: None,
-            loses: false,
-        }),
-        (Some(slot), None) => Ok(picked(0, slot, false)),
-        (None, Some(slot)) => Ok(picked(1, slot, false)),
+        (None, None) => Ok(Found::Nothing),
+        (Some(slot), None) => Ok(Found::Alone(InodeCopy { which: 0, slot })),
+        (None, Some(slot)) => Ok(Found::Alone(InodeCopy { which: 1, slot })),
         (Some(first), Some(second)) => match newer(&first, &second) {
             None => Err(BadSlot),
-            Some(true) => Ok(picked(1, second, true)),
-            Some(false) => Ok(picked(0, first, true)),
+            Some(true) => Ok(Found::Beside(InodeCopy {
+                which: 1,
+                slot: second,
+            })),
+            Some(false) => Ok(Found::Beside(InodeCopy {
+                which: 0,
+                slot: first,
+            })),
         },
-    }
-}
-
-fn picked(which: u8, slot: Slot, loses: bool) -> Found
-    ensures copy { result.copy ≡ Some (record { which = which; slot = slot }) }
-    ensures loses { result.loses ≡ loses }
-{
-    Found {
-        copy: Some(InodeCopy { which, slot }),
-        loses,
     }
 }
 
@@ -53,15 +75,15 @@ fn read_at<D: Disk>(
     ino: u16,
     which: u8,
 ) -> Result<Result<Option<Slot>, BadSlot>, DiskFault>
-    requires area { base + area_length ≤ length (D.seen disk.old) }
+    requires area { base + area_length ≤ length (D.moment disk.old).seen }
     requires low { 1 ≤ ino }
     requires high { ino ≤ 1024 }
     requires which { which ≤ 1 }
-    ensures read { IfOk result (λ read. IsRead ino (slot_at base ino which) (D.seen disk.old) read) }
-    ensures seen { D.seen disk.new ≡ D.seen disk.old }
-    ensures crash { Goes D.now D.may_leave D.may_have_left Same disk.old disk.new }
-    ensures cause { HasCause (D.faults disk.old) (D.faults disk.new) result }
-    ensures tells { TellsRead (D.passing disk.old) (D.passing disk.new) result }
+    ensures read { IfOk result (λ read. IsRead ino (slot_at base ino which) (D.moment disk.old).seen read) }
+    ensures seen { (D.moment disk.new).seen ≡ (D.moment disk.old).seen }
+    ensures crash { Goes Same (D.moment disk.old) (D.moment disk.new) }
+    ensures cause { HasCause (D.moment disk.old).faults (D.moment disk.new).faults result }
+    ensures tells { TellsRead (D.moment disk.old).passing (D.moment disk.new).passing result }
 {
     let _len = disk.len();
     let mut bytes = [0; 512];
@@ -75,15 +97,15 @@ pub(crate) fn read_inode<D: Disk>(
     base: u32,
     ino: u16,
 ) -> Result<Result<Found, BadSlot>, DiskFault>
-    requires area { base + area_length ≤ length (D.seen disk.old) }
+    requires area { base + area_length ≤ length (D.moment disk.old).seen }
     requires low { 1 ≤ ino }
     requires high { ino ≤ 1024 }
-    ensures found { IfOk result (λ read. IfOk read (λ found. IsFound base ino (D.seen disk.old) found.copy found.loses)) }
-    ensures bad { IfOk result (λ read. IfErr read (λ _. IsGoodInode base ino (D.seen disk.old) → ⊥)) }
-    ensures seen { D.seen disk.new ≡ D.seen disk.old }
-    ensures crash { Goes D.now D.may_leave D.may_have_left Same disk.old disk.new }
-    ensures cause { HasCause (D.faults disk.old) (D.faults disk.new) result }
-    ensures tells { TellsRead (D.passing disk.old) (D.passing disk.new) result }
+    ensures found { IfOk result (λ read. IfOk read (λ found. IsFound base ino (D.moment disk.old).seen (copy_in found) (is_beside found))) }
+    ensures bad { IfOk result (λ read. IfErr read (λ _. IsGoodInode base ino (D.moment disk.old).seen → ⊥)) }
+    ensures seen { (D.moment disk.new).seen ≡ (D.moment disk.old).seen }
+    ensures crash { Goes Same (D.moment disk.old) (D.moment disk.new) }
+    ensures cause { HasCause (D.moment disk.old).faults (D.moment disk.new).faults result }
+    ensures tells { TellsRead (D.moment disk.old).passing (D.moment disk.new).passing result }
 {
     let first = read_at(disk, base, ino, 0)?;
     let second = read_at(disk, base, ino, 1)?;
@@ -94,7 +116,7 @@ fn both(
     first: Result<Option<Slot>, BadSlot>,
     second: Result<Option<Slot>, BadSlot>,
 ) -> Result<Found, BadSlot>
-    ensures found { (base ino : ℕ) (image : List ℕ) → IsRead ino (slot_at base ino 0) image first → IsRead ino (slot_at base ino 1) image second → IfOk result (λ found. IsFound base ino image found.copy found.loses) }
+    ensures found { (base ino : ℕ) (image : List ℕ) → IsRead ino (slot_at base ino 0) image first → IsRead ino (slot_at base ino 1) image second → IfOk result (λ found. IsFound base ino image (copy_in found) (is_beside found)) }
     ensures bad { (base ino : ℕ) (image : List ℕ) → IsRead ino (slot_at base ino 0) image first → IsRead ino (slot_at base ino 1) image second → IfErr result (λ _. IsGoodInode base ino image → ⊥) }
 {
     choose(first?, second?)
@@ -102,19 +124,19 @@ fn both(
 
 /// The slot of an inode that counts, or `None` exactly where none does.
 pub fn held_slot<D: Disk>(disk: &mut D, base: u32, ino: u16) -> Result<Option<Slot>, DiskFault>
-    requires area { base + area_length ≤ length (D.seen disk.old) }
+    requires area { base + area_length ≤ length (D.moment disk.old).seen }
     requires low { 1 ≤ ino }
     requires high { ino ≤ 1024 }
-    requires good { IsGoodInode base ino (D.seen disk.old) }
-    ensures counts { IfOk result (λ held. Counts base ino (D.seen disk.old) held) }
+    requires good { IsGoodInode base ino (D.moment disk.old).seen }
+    ensures counts { IfOk result (λ held. Counts base ino (D.moment disk.old).seen held) }
     ensures own { IfOk result (λ held. IfSome held (λ slot. IsSlot slot × (slot.ino ≡ ino))) }
-    ensures seen { D.seen disk.new ≡ D.seen disk.old }
-    ensures crash { Goes D.now D.may_leave D.may_have_left Same disk.old disk.new }
-    ensures cause { HasCause (D.faults disk.old) (D.faults disk.new) result }
-    ensures tells { TellsRead (D.passing disk.old) (D.passing disk.new) result }
+    ensures seen { (D.moment disk.new).seen ≡ (D.moment disk.old).seen }
+    ensures crash { Goes Same (D.moment disk.old) (D.moment disk.new) }
+    ensures cause { HasCause (D.moment disk.old).faults (D.moment disk.new).faults result }
+    ensures tells { TellsRead (D.moment disk.old).passing (D.moment disk.new).passing result }
 {
     match read_inode(disk, base, ino)? {
-        Ok(found) => Ok(slot_of(found.copy)),
+        Ok(found) => Ok(slot_of(found.copy())),
         Err(BadSlot) => Ok(None),
     }
 }

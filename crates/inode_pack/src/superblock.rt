@@ -25,12 +25,12 @@ pub(crate) fn is_pack_of<D: Disk>(
     group: u8,
     site: SiteId,
 ) -> Result<bool, DiskFault>
-    requires { base + 1024 ≤ length (D.seen disk.old) }
-    ensures is { IfOk result (λ is. IsTrue is ↔ IsPackOf base group site (D.seen disk.old)) }
-    ensures seen { D.seen disk.new ≡ D.seen disk.old }
-    ensures crash { Goes D.now D.may_leave D.may_have_left Same disk.old disk.new }
-    ensures cause { HasCause (D.faults disk.old) (D.faults disk.new) result }
-    ensures tells { TellsRead (D.passing disk.old) (D.passing disk.new) result }
+    requires { base + 1024 ≤ length (D.moment disk.old).seen }
+    ensures is { IfOk result (λ is. IsTrue is ↔ IsPackOf base group site (D.moment disk.old).seen) }
+    ensures seen { (D.moment disk.new).seen ≡ (D.moment disk.old).seen }
+    ensures crash { Goes Same (D.moment disk.old) (D.moment disk.new) }
+    ensures cause { HasCause (D.moment disk.old).faults (D.moment disk.new).faults result }
+    ensures tells { TellsRead (D.moment disk.old).passing (D.moment disk.new).passing result }
 {
     let mut block = [0; 1024];
     disk.read(base, &mut block)?;

@@ -1,6 +1,7 @@
 // How often each data page is named.
 ghost use Rattle.std.specs.Prelude.{◌≡◌, ◌⊎◌, ◌≤◌, ◌<◌, ◌+◌, ◌==◌, ◌^◌, ℕ, length, slice_index, Option, Some, if◌then◌else◌};
-ghost use Rattle.pack_layout.specs.Layout.{IsSlot, pages_of};
+ghost use Rattle.file_content.specs.Pages.{pages_of};
+ghost use Rattle.pack_layout.specs.Layout.{IsSlot};
 ghost use Rattle.inode_pack.specs.declared.inode_copy.InodeCopy.{InodeCopy};
 ghost use Rattle.inode_pack.specs.Pack.{pages_in, times};
 ghost use Rattle.inode_pack.specs.Rows.{SameButFor, NoneBelow};

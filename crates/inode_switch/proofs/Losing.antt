@@ -7,7 +7,7 @@ use Rattle.disk_model.specs.Images.{overwritten, is_within, Torn}
 use Rattle.pack_layout.specs.Layout.{slot_at, page_at}
 use Rattle.inode_switch.specs.View.{is_open, turn, page, version, view, SameView}
 use Rattle.inode_switch.specs.Replace.{Loses, IsNext}
-use Rattle.inode_switch.proofs.Pieces.{torn_overwritten}
+use Rattle.gate_switch.proofs.Pieces.{torn_overwritten}
 use Rattle.inode_switch.proofs.Views.{Keeps, Agrees, same_view, same_version, same_open}
 use Rattle.inode_switch.proofs.OldOrNew.{own_by, one_slot, below_pages}
 

@@ -4,12 +4,13 @@ use Rattle.std.specs.Prelude.{Option, None, Some, ◌==◌, if◌then◌else◌}
 use Rattle.std.proofs.lemmas.Bool.{cases_eq, cases_Bool, eqb-true, eq-eqb}
 use Rattle.std.proofs.lemmas.Bool.Decides.{nat_tests}
 use Rattle.disk_model.specs.Images.{is_within, Torn}
-use Rattle.inode_switch.specs.declared.switching.Piece.{Piece}
-use Rattle.inode_switch.specs.Switch.{touches, TornIn, TornGate, IsStage, written, closed, switched}
-use Rattle.pack_layout.specs.Layout.{slot_at, page_at, pages_of}
-use Rattle.inode_switch.specs.View.{is_open, turn, size, page, Version, version, follows, counting, version_in, view, SameView, Replaced, IsOldOrNew}
+use Rattle.gate_switch.specs.Switch.{Piece}
+use Rattle.gate_switch.specs.Switch.{touches, TornIn, TornGate, IsStage, written, closed, switched}
+use Rattle.file_content.specs.Pages.{pages_of}
+use Rattle.pack_layout.specs.Layout.{slot_at, page_at}
+use Rattle.inode_switch.specs.View.{is_open, turn, size, page, Version, version, Newer, Second, First, newer_of, newer, counting, version_in, view, SameView, Replaced, IsOldOrNew}
 use Rattle.inode_switch.specs.Replace.{MayReplace, made_bytes, made_version, closing, IsNext}
-use Rattle.inode_switch.proofs.Pieces.{torn_written, torn_overwritten, put_gate}
+use Rattle.gate_switch.proofs.Pieces.{torn_written, torn_overwritten, put_gate}
 use Rattle.inode_switch.proofs.Views.{Keeps, Agrees, same_view, same_version}
 
 -- slots begin at every 512 bytes
@@ -57,13 +58,13 @@ module _ (base ino which : ℕ) (pieces : List Piece) (old : List ℕ) (may : Ma
   pub torn_pieces : (c : List ℕ) → TornIn pieces old c → SameView base old c
   torn_pieces c torn = stays_old c torn.long (λ k none out. torn.outside k none) (ap (λ (n : ℕ). n == 165) (torn.outside gate (may.gates ino which may.low may.high may.place)) ∙ may.shut)
 
-wins_first : (c : List ℕ) (base x y : ℕ) (made : Version) (p f : Bool) → version c base x ≡ made → (p ≡ true → f ≡ false) → version_in c base (counting true p f x y) ≡ Some made
+wins_first : (c : List ℕ) (base x y : ℕ) (made : Version) (p : Bool) (f : Newer) → version c base x ≡ made → (p ≡ true → f ≡ First) → version_in c base (counting true p f x y) ≡ Some made
 wins_first c base x y made false f is loses = ap (λ (v : Version). Some v) is
-wins_first c base x y made true f is loses = ap (λ (g : Bool). version_in c base (counting true true g x y)) (loses refl) ∙ ap (λ (v : Version). Some v) is
+wins_first c base x y made true f is loses = ap (λ (g : Newer). version_in c base (counting true true g x y)) (loses refl) ∙ ap (λ (v : Version). Some v) is
 
-wins_second : (c : List ℕ) (base x y : ℕ) (made : Version) (p f : Bool) → version c base y ≡ made → (p ≡ true → f ≡ true) → version_in c base (counting p true f x y) ≡ Some made
+wins_second : (c : List ℕ) (base x y : ℕ) (made : Version) (p : Bool) (f : Newer) → version c base y ≡ made → (p ≡ true → f ≡ Second) → version_in c base (counting p true f x y) ≡ Some made
 wins_second c base x y made false f is wins = ap (λ (v : Version). Some v) is
-wins_second c base x y made true f is wins = ap (λ (g : Bool). version_in c base (counting true true g x y)) (wins refl) ∙ ap (λ (v : Version). Some v) is
+wins_second c base x y made true f is wins = ap (λ (g : Newer). version_in c base (counting true true g x y)) (wins refl) ∙ ap (λ (v : Version). Some v) is
 
 follows_next : (o n : ℕ) → IsNext o n → ((o + 1) % 3 == n) ≡ true
 follows_next o n next = eq-eqb ((o + 1) % 3) n (sym next.1)
@@ -79,11 +80,11 @@ not_before (suc (suc (suc o))) n next = absurd (omega (arith, next.0))
 pub own_by : (base ino which : ℕ) → which ≤ 1 → (c : List ℕ) (made : Version) → is_open c (slot_at base ino which) ≡ true → version c base (slot_at base ino which) ≡ made
     → (is_open c (slot_at base ino (1 - which)) ≡ true → IsNext (turn c (slot_at base ino (1 - which))) (turn c (slot_at base ino which))) → view c base ino ≡ Some made
 own_by base ino zero place c made open_is is next =
-    (λ i. version_in c base (counting (open_is i) (is_open c (slot_at base ino 1)) (follows c (slot_at base ino 0) (slot_at base ino 1)) (slot_at base ino 0) (slot_at base ino 1)))
-    ∙ wins_first c base (slot_at base ino 0) (slot_at base ino 1) made (is_open c (slot_at base ino 1)) (follows c (slot_at base ino 0) (slot_at base ino 1)) is (λ p. not_before (turn c (slot_at base ino 1)) (turn c (slot_at base ino 0)) (next p))
+    (λ i. version_in c base (counting (open_is i) (is_open c (slot_at base ino 1)) (newer c (slot_at base ino 0) (slot_at base ino 1)) (slot_at base ino 0) (slot_at base ino 1)))
+    ∙ wins_first c base (slot_at base ino 0) (slot_at base ino 1) made (is_open c (slot_at base ino 1)) (newer c (slot_at base ino 0) (slot_at base ino 1)) is (λ p. (λ i. newer_of (not_before (turn c (slot_at base ino 1)) (turn c (slot_at base ino 0)) (next p) i) (follows_next (turn c (slot_at base ino 1)) (turn c (slot_at base ino 0)) (next p) i)))
 own_by base ino (suc zero) place c made open_is is next =
-    (λ i. version_in c base (counting (is_open c (slot_at base ino 0)) (open_is i) (follows c (slot_at base ino 0) (slot_at base ino 1)) (slot_at base ino 0) (slot_at base ino 1)))
-    ∙ wins_second c base (slot_at base ino 0) (slot_at base ino 1) made (is_open c (slot_at base ino 0)) (follows c (slot_at base ino 0) (slot_at base ino 1)) is (λ p. follows_next (turn c (slot_at base ino 0)) (turn c (slot_at base ino 1)) (next p))
+    (λ i. version_in c base (counting (is_open c (slot_at base ino 0)) (open_is i) (newer c (slot_at base ino 0) (slot_at base ino 1)) (slot_at base ino 0) (slot_at base ino 1)))
+    ∙ wins_second c base (slot_at base ino 0) (slot_at base ino 1) made (is_open c (slot_at base ino 0)) (newer c (slot_at base ino 0) (slot_at base ino 1)) is (λ p. ap (λ (b : Bool). newer_of b ((turn c (slot_at base ino 1) + 1) % 3 == turn c (slot_at base ino 0))) (follows_next (turn c (slot_at base ino 0)) (turn c (slot_at base ino 1)) (next p)))
 own_by base ino (suc (suc w)) place c made open_is is next = absurd (omega arith)
 
 module _ (base ino which : ℕ) (pieces : List Piece) (old : List ℕ) (may : MayReplace base ino which pieces old) where

@@ -4,11 +4,11 @@ use Rattle.std.specs.Prelude.{Option, None, Some, if◌then◌else◌}
 use Rattle.std.proofs.lemmas.Bool.Decides.{nat_tests}
 use Rattle.disk_model.specs.Images.{is_within, Torn}
 use Rattle.pack_layout.specs.Layout.{area_length, slot_at}
-use Rattle.inode_switch.specs.declared.switching.Piece.{Piece}
-use Rattle.inode_switch.specs.Switch.{TornIn, TornGate, IsStage, written}
+use Rattle.gate_switch.specs.Switch.{Piece}
+use Rattle.gate_switch.specs.Switch.{TornIn, TornGate, IsStage, written}
 use Rattle.inode_switch.specs.View.{is_open}
 use Rattle.inode_switch.specs.Replace.{MayReplace, made_bytes, closing}
-use Rattle.inode_switch.proofs.Pieces.{torn_written}
+use Rattle.gate_switch.proofs.Pieces.{torn_written}
 use Rattle.inode_switch.proofs.OldOrNew.{made_torn}
 
 -- a place outside an area isn't one within it

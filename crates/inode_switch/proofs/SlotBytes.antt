@@ -8,7 +8,8 @@ use Rattle.std.proofs.lemmas.Bool.{cases_lt}
 use Rattle.std.proofs.Math.Seq.{take-append_seam}
 use Rattle.pack_layout.specs.declared.slot.Slot.{Slot}
 use Rattle.disk_model.specs.Images.{bytes_at}
-use Rattle.pack_layout.specs.Layout.{kind_number, slot_bytes, IsSlot, NamePages, pages_of}
+use Rattle.file_content.specs.Pages.{pages_of}
+use Rattle.pack_layout.specs.Layout.{kind_number, slot_bytes, IsSlot, NamePages}
 use Rattle.inode_switch.specs.View.{page}
 use Rattle.inode_switch.specs.Slots.{Holds, Says, field_bytes}
 

@@ -4,7 +4,8 @@ use Rattle.std.proofs.lemmas.Bool.{cases_lt}
 use Rattle.std.proofs.lemmas.List.{get_or-take, get_or-drop, get_or_append_left, get_or-append_right}
 use Rattle.disk_model.specs.Images.{bytes_at}
 use Rattle.pack_layout.specs.declared.slot.Slot.{Slot}
-use Rattle.pack_layout.specs.Layout.{area_length, page_at, pages_of, IsSlot}
+use Rattle.file_content.specs.Pages.{pages_of}
+use Rattle.pack_layout.specs.Layout.{area_length, page_at, IsSlot}
 use Rattle.inode_switch.specs.Slots.{Says}
 use Rattle.inode_switch.specs.View.{size, page, bytes_of, version}
 

@@ -3,21 +3,10 @@ use Rattle.std.proofs.Common.{◌≡◌, ◌⊎◌, inl, inr, ℕ, zero, suc, �
 use Rattle.std.specs.Prelude.{Some, ◌==◌}
 use Rattle.std.proofs.lemmas.List.{same_lists, get_or_default, get_or-take, get_or-drop}
 use Rattle.disk_model.specs.Images.{bytes_at}
-use Rattle.pack_layout.specs.Layout.{page_at, pages_of}
-use Rattle.inode_switch.specs.View.{is_open, size, page, bytes_of, Version, version, follows, counting, version_in}
-
-pub same_bytes : (a b : List ℕ) (at n : ℕ) → length b ≡ length a → ((k : ℕ) → k < n → get_or b (at + k) 0 ≡ get_or a (at + k) 0) → bytes_at b at n ≡ bytes_at a at n
-same_bytes a b at n long same = same_lists (bytes_at b at n) (bytes_at a at n) lengths (λ k d lt. here k d lt)
-  where
-    lengths : length (bytes_at b at n) ≡ length (bytes_at a at n)
-    lengths = omega (arith, length-take n (drop at a), length-take n (drop at b), length-drop at a, length-drop at b, long)
-
-    here : (k : ℕ) (d : ℕ) → k < length (bytes_at b at n) → get_or (bytes_at b at n) k d ≡ get_or (bytes_at a at n) k d
-    here k d lt =
-        let below : k < n = omega (arith, length-take n (drop at b)) in
-        get_or_default (bytes_at b at n) k d 0 lt
-        ∙ get_or-take n (drop at b) k 0 below ∙ get_or-drop at b k 0 ∙ same k below ∙ sym (get_or-drop at a k 0) ∙ sym (get_or-take n (drop at a) k 0 below)
-        ∙ get_or_default (bytes_at a at n) k 0 d (omega (arith, lengths))
+use Rattle.gate_switch.proofs.Tearing.{same_bytes}
+use Rattle.file_content.specs.Pages.{pages_of}
+use Rattle.pack_layout.specs.Layout.{page_at}
+use Rattle.inode_switch.specs.View.{is_open, size, page, bytes_of, Version, version, Newer, Second, First, Neither, newer_of, newer, counting, version_in}
 
 -- a slot and its pages are the same in both
 pub record Keeps (base slot : ℕ) (a b : List ℕ) : Type 0 where
@@ -64,37 +53,38 @@ abbrev pub Agrees : ℕ → ℕ → List ℕ → List ℕ → Type 0
 Agrees base slot a b = ((is_open a slot ≡ false) × (is_open b slot ≡ false)) ⊎ Keeps base slot a b
 
 module _ (base x y : ℕ) (a b : List ℕ) where
-  both : (o p f : Bool) → version b base x ≡ version a base x → version b base y ≡ version a base y → version_in b base (counting o p f x y) ≡ version_in a base (counting o p f x y)
-  both true true true first second = ap (λ (v : Version). Some v) second
-  both true true false first second = ap (λ (v : Version). Some v) first
+  both : (o p : Bool) (f : Newer) → version b base x ≡ version a base x → version b base y ≡ version a base y → version_in b base (counting o p f x y) ≡ version_in a base (counting o p f x y)
+  both true true Second first second = ap (λ (v : Version). Some v) second
+  both true true First first second = ap (λ (v : Version). Some v) first
+  both true true Neither first second = refl
   both true false f first second = ap (λ (v : Version). Some v) first
   both false true f first second = ap (λ (v : Version). Some v) second
   both false false f first second = refl
 
-  only_first : (o f g : Bool) → version b base x ≡ version a base x → version_in b base (counting o false f x y) ≡ version_in a base (counting o false g x y)
+  only_first : (o : Bool) (f g : Newer) → version b base x ≡ version a base x → version_in b base (counting o false f x y) ≡ version_in a base (counting o false g x y)
   only_first true f g first = ap (λ (v : Version). Some v) first
   only_first false f g first = refl
 
-  only_second : (p f g : Bool) → version b base y ≡ version a base y → version_in b base (counting false p f x y) ≡ version_in a base (counting false p g x y)
+  only_second : (p : Bool) (f g : Newer) → version b base y ≡ version a base y → version_in b base (counting false p f x y) ≡ version_in a base (counting false p g x y)
   only_second true f g second = ap (λ (v : Version). Some v) second
   only_second false f g second = refl
 
-  same_follows : Keeps base x a b → Keeps base y a b → follows b x y ≡ follows a x y
-  same_follows first second = (λ i. (first.bytes 1 (omega arith) i + 1) % 3 == second.bytes 1 (omega arith) i)
+  same_newer : Keeps base x a b → Keeps base y a b → newer b x y ≡ newer a x y
+  same_newer first second = (λ i. newer_of ((first.bytes 1 (omega arith) i + 1) % 3 == second.bytes 1 (omega arith) i) ((second.bytes 1 (omega arith) i + 1) % 3 == first.bytes 1 (omega arith) i))
 
   pub same_view : Agrees base x a b → Agrees base y a b
-      → version_in b base (counting (is_open b x) (is_open b y) (follows b x y) x y) ≡ version_in a base (counting (is_open a x) (is_open a y) (follows a x y) x y)
+      → version_in b base (counting (is_open b x) (is_open b y) (newer b x y) x y) ≡ version_in a base (counting (is_open a x) (is_open a y) (newer a x y) x y)
   same_view (inl shut) (inl also) =
-      (λ i. version_in b base (counting (shut.1 i) (also.1 i) (follows b x y) x y))
-      ∙ sym (λ i. version_in a base (counting (shut.0 i) (also.0 i) (follows a x y) x y))
+      (λ i. version_in b base (counting (shut.1 i) (also.1 i) (newer b x y) x y))
+      ∙ sym (λ i. version_in a base (counting (shut.0 i) (also.0 i) (newer a x y) x y))
   same_view (inl shut) (inr second) =
-      (λ i. version_in b base (counting (shut.1 i) (same_open base y a b second i) (follows b x y) x y))
-      ∙ only_second (is_open a y) (follows b x y) (follows a x y) (same_version base y a b second)
-      ∙ sym (λ i. version_in a base (counting (shut.0 i) (is_open a y) (follows a x y) x y))
+      (λ i. version_in b base (counting (shut.1 i) (same_open base y a b second i) (newer b x y) x y))
+      ∙ only_second (is_open a y) (newer b x y) (newer a x y) (same_version base y a b second)
+      ∙ sym (λ i. version_in a base (counting (shut.0 i) (is_open a y) (newer a x y) x y))
   same_view (inr first) (inl shut) =
-      (λ i. version_in b base (counting (same_open base x a b first i) (shut.1 i) (follows b x y) x y))
-      ∙ only_first (is_open a x) (follows b x y) (follows a x y) (same_version base x a b first)
-      ∙ sym (λ i. version_in a base (counting (is_open a x) (shut.0 i) (follows a x y) x y))
+      (λ i. version_in b base (counting (same_open base x a b first i) (shut.1 i) (newer b x y) x y))
+      ∙ only_first (is_open a x) (newer b x y) (newer a x y) (same_version base x a b first)
+      ∙ sym (λ i. version_in a base (counting (is_open a x) (shut.0 i) (newer a x y) x y))
   same_view (inr first) (inr second) =
-      (λ i. version_in b base (counting (same_open base x a b first i) (same_open base y a b second i) (same_follows first second i) x y))
-      ∙ both (is_open a x) (is_open a y) (follows a x y) (same_version base x a b first) (same_version base y a b second)
+      (λ i. version_in b base (counting (same_open base x a b first i) (same_open base y a b second i) (same_newer first second i) x y))
+      ∙ both (is_open a x) (is_open a y) (newer a x y) (same_version base x a b first) (same_version base y a b second)

@@ -1,9 +1,10 @@
 -- What a commit may write: its closed slot behind the gate, and pages of no slot that is open.
 use Rattle.std.specs.Prelude.{ℕ, ◌+◌, ◌-◌, ◌%◌, ◌≤◌, ◌<◌, ◌≡◌, true, false, List, length, Option, None, Some, if◌then◌else◌}
 use Rattle.disk_model.specs.Images.{is_within}
-use Rattle.inode_switch.specs.declared.switching.Piece.{Piece}
-use Rattle.inode_switch.specs.Switch.{AreWithin, touches, written, opened}
-use Rattle.pack_layout.specs.Layout.{area_length, slot_at, page_at, pages_of}
+use Rattle.gate_switch.specs.Switch.{Piece}
+use Rattle.gate_switch.specs.Switch.{AreWithin, touches, written, opened}
+use Rattle.file_content.specs.Pages.{pages_of}
+use Rattle.pack_layout.specs.Layout.{area_length, slot_at, page_at}
 use Rattle.inode_switch.specs.View.{is_open, turn, size, page, Version, version}
 
 -- none of the pieces meets this slot or its pages

@@ -1,7 +1,8 @@
 -- What an image of a pack stands for: for each inode nothing, or the version of the slot that counts.
 use Rattle.std.specs.Prelude.{ℕ, zero, suc, ◌+◌, ◌*◌, ◌%◌, ◌≤◌, ◌≡◌, ◌≢◌, ◌⊎◌, ◌==◌, Bool, true, false, List, [], ◌++◌, take, slice_index, Option, None, Some}
 use Rattle.disk_model.specs.Images.{bytes_at}
-use Rattle.pack_layout.specs.Layout.{open_gate, page_at, pages_of, slot_at}
+use Rattle.file_content.specs.Pages.{pages_of}
+use Rattle.pack_layout.specs.Layout.{open_gate, page_at, slot_at}
 
 -- a slot begins with its gate and its turn
 abbrev pub is_open : List ℕ → ℕ → Bool
@@ -33,14 +34,26 @@ version image base slot = record {
   content = take (size image slot) (bytes_of image base slot (pages_of (size image slot)));
 }
 
--- the turn of the second slot is the one after that of the first: 0, 1 and 2 go round
-abbrev pub follows : List ℕ → ℕ → ℕ → Bool
-follows image first second = (turn image first + 1) % 3 == turn image second
+-- which of two slots has the turn that follows the other's
+pub data Newer : Type 0 where
+  Second : Newer
+  First : Newer
+  Neither : Newer
 
--- of two open slots that counts whose turn follows the other's; a single open one counts
-abbrev pub counting : Bool → Bool → Bool → ℕ → ℕ → Option ℕ
-counting true true true first second = Some second
-counting true true false first second = Some first
+abbrev pub newer_of : Bool → Bool → Newer
+newer_of true after = Second
+newer_of false true = First
+newer_of false false = Neither
+
+-- the turns 0, 1 and 2 go round
+abbrev pub newer : List ℕ → ℕ → ℕ → Newer
+newer image first second = newer_of ((turn image first + 1) % 3 == turn image second) ((turn image second + 1) % 3 == turn image first)
+
+-- of two open slots the newer one counts, and none where neither is; a single open one counts
+abbrev pub counting : Bool → Bool → Newer → ℕ → ℕ → Option ℕ
+counting true true Second first second = Some second
+counting true true First first second = Some first
+counting true true Neither first second = None
 counting true false newer first second = Some first
 counting false true newer first second = Some second
 counting false false newer first second = None
@@ -54,7 +67,7 @@ abbrev pub view : List ℕ → ℕ → ℕ → Option Version
 view image base ino =
     let first = slot_at base ino 0 in
     let second = slot_at base ino 1 in
-    version_in image base (counting (is_open image first) (is_open image second) (follows image first second) first second)
+    version_in image base (counting (is_open image first) (is_open image second) (newer image first second) first second)
 
 -- the view is as it was
 abbrev pub SameView : ℕ → List ℕ → List ℕ → Type 0

@@ -1,13 +1,9 @@
-//! Inodes on a disk: each commit of an inode is wholly old or wholly new, whenever a crash comes. Storage sites call it.
-//! It knows bytes and slots, and nothing of sites that speak, instances or epochs.
+//! Inodes on a disk: a version of an inode replaces the one before it wholly or not at all, whenever a crash comes. Packs call
+//! it. It knows slots and data pages as bytes, and nothing of sites, instances or epochs.
 #![tactic(auto)]
 
 mod closing;
 mod replacing;
-mod source;
-mod switching;
 
 pub use closing::close_losing_gate;
 pub use replacing::replace_inode;
-pub use source::PieceSource;
-pub use switching::{Piece, Pieces};

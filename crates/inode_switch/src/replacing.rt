@@ -1,16 +1,15 @@
 // One inode is replaced, wholly or not at all.
 ghost use Rattle.std.specs.Prelude.{◌≡◌, ◌≤◌, ◌<◌, ◌+◌, ◌-◌, ◌^◌, ℕ, List, length, OnOk, if◌then◌else◌};
 ghost use Rattle.disk_model.specs.Images.{Torn};
-ghost use Rattle.disk_model.specs.Disk.{Only, HasCause};
-ghost use Rattle.inode_switch.specs.Moments.{LeavesOnly, TellsMany};
-ghost use Rattle.inode_switch.specs.Switch.{IsStage, switched, calls_of};
+ghost use Rattle.disk_model.specs.Disk.{IsSettled, HasCause};
+ghost use Rattle.disk_model.specs.Moments.{LeavesOnly, TellsMany};
+ghost use Rattle.gate_switch.specs.Switch.{IsStage, switched, calls_of};
 ghost use Rattle.pack_layout.specs.Layout.{area_length, slot_at};
 ghost use Rattle.inode_switch.specs.View.{is_open, IsOldOrNew, Replaced};
 ghost use Rattle.inode_switch.specs.Replace.{MayReplace, made_version, closing};
 
-use crate::PieceSource;
-use crate::switching::switch;
 use disk_model::{Disk, DiskFault};
+use gate_switch::{PieceSource, switch};
 use pack_layout::slot_at;
 
 /// Replaces the version of an inode in the pack whose area begins at `base`: the pieces of the source are the changed pages and
@@ -24,28 +23,28 @@ pub fn replace_inode<D: Disk, P: PieceSource>(
     closes: bool,
     source: &P,
 ) -> Result<(), DiskFault>
-    requires settled { Only (D.seen disk.old) (D.may_leave disk.old) }
+    requires settled { IsSettled (D.moment disk.old) }
     requires short { base + area_length < 2 ^ 32 }
-    requires may { MayReplace base ino which (P.pieces source.now) (D.seen disk.old) }
-    requires closes { closes ≡ is_open (D.seen disk.old) (slot_at base ino (1 - which)) }
+    requires may { MayReplace base ino which (P.pieces source.now) (D.moment disk.old).seen }
+    requires closes { closes ≡ is_open (D.moment disk.old).seen (slot_at base ino (1 - which)) }
 
     // At each moment of the call a crash leaves the view from before, or that view with this inode replaced.
-    ensures any_moment { LeavesOnly D.now D.may_have_left disk.old disk.new
-        (IsOldOrNew base ino (made_version base ino which (P.pieces source.now) (D.seen disk.old)) (D.seen disk.old)) }
+    ensures any_moment { LeavesOnly (D.moment disk.old) (D.moment disk.new)
+        (IsOldOrNew base ino (made_version base ino which (P.pieces source.now) (D.moment disk.old).seen) (D.moment disk.old).seen) }
 
     // It leaves the pieces torn, or all of them and the gate torn, or the gate open and the old gate torn; what is outside
     // the area stays.
-    ensures stages { LeavesOnly D.now D.may_have_left disk.old disk.new
-        (IsStage (P.pieces source.now) (slot_at base ino which) (closing base ino which (D.seen disk.old)) (D.seen disk.old)) }
-    ensures outside { LeavesOnly D.now D.may_have_left disk.old disk.new (Torn base area_length (D.seen disk.old)) }
+    ensures stages { LeavesOnly (D.moment disk.old) (D.moment disk.new)
+        (IsStage (P.pieces source.now) (slot_at base ino which) (closing base ino which (D.moment disk.old).seen) (D.moment disk.old).seen) }
+    ensures outside { LeavesOnly (D.moment disk.old) (D.moment disk.new) (Torn base area_length (D.moment disk.old).seen) }
 
     // After it the new version is there, and a crash leaves what a read gives.
-    ensures done { OnOk result (D.seen disk.new ≡ switched (P.pieces source.now) (slot_at base ino which) (closing base ino which (D.seen disk.old)) (D.seen disk.old)) }
-    ensures replaced { OnOk result (Replaced base ino (made_version base ino which (P.pieces source.now) (D.seen disk.old)) (D.seen disk.old) (D.seen disk.new)) }
-    ensures durable { OnOk result (Only (D.seen disk.new) (D.may_leave disk.new)) }
+    ensures done { OnOk result ((D.moment disk.new).seen ≡ switched (P.pieces source.now) (slot_at base ino which) (closing base ino which (D.moment disk.old).seen) (D.moment disk.old).seen) }
+    ensures replaced { OnOk result (Replaced base ino (made_version base ino which (P.pieces source.now) (D.moment disk.old).seen) (D.moment disk.old).seen (D.moment disk.new).seen) }
+    ensures durable { OnOk result (IsSettled (D.moment disk.new)) }
 
-    ensures cause { HasCause (D.faults disk.old) (D.faults disk.new) result }
-    ensures tells { TellsMany (calls_of (P.pieces source.now) (closing base ino which (D.seen disk.old))) (D.passing disk.old) (D.passing disk.new) result }
+    ensures cause { HasCause (D.moment disk.old).faults (D.moment disk.new).faults result }
+    ensures tells { TellsMany (calls_of (P.pieces source.now) (closing base ino which (D.moment disk.old).seen)) (D.moment disk.old).passing (D.moment disk.new).passing result }
 {
     let gate = slot_at(base, ino, which);
     let old_gate = closing_place(base, ino, which, closes);

@@ -3,7 +3,7 @@ use Rattle.std.proofs.Common.{ℕ, suc, ◌≡◌, ◌+◌, ◌<◌, ◌==◌, B
 use Rattle.std.specs.List.{onto_first}
 use Rattle.std.proofs.lemmas.List.{take-append-drop, append-nil, length-take, take_all, drop_all}
 use Rattle.std.proofs.Math.Seq.{drop-cons}
-use Rattle.line_reader.specs.Reading.{lines_of, first_line, after_line, has_feed, IsFirstFeed, ReadsLine, IsLong}
+use Rattle.line_reader.specs.Reading.{lines_of, first_line, after_line, has_feed, IsFirstFeed, ReadsLine, EndsInFeed, IsLong}
 use Rattle.line_reader.proofs.Feeds.{neither}
 
 -- the lines are the first one, and those of what follows it
@@ -58,6 +58,15 @@ reads_whole ahead len found left =
     let parts : ahead ≡ take len ahead ++ 10 ∷ drop (suc len) ahead = rw found.feed at (split_at ahead len found.within) in
     rw (add-one) (read_parts (take len ahead) (drop (suc len) ahead ++ left) (ahead ++ left) found.free
     (ap (λ s. s ++ left) parts ∙ append_assoc (take len ahead) (10 ∷ drop (suc len) ahead) left))
+
+-- it ends with its line feed
+pub ends_in_feed : (ahead : List ℕ) (len : ℕ) → IsFirstFeed ahead len → (left : List ℕ) → EndsInFeed (take len ahead) (ahead ++ left) (drop (len + 1) ahead ++ left)
+ends_in_feed ahead len found left =
+    let parts : ahead ≡ take len ahead ++ 10 ∷ drop (suc len) ahead = rw found.feed at (split_at ahead len found.within) in
+    rw (add-one) (record {
+      parts = ap (λ s. s ++ left) parts ∙ append_assoc (take len ahead) (10 ∷ drop (suc len) ahead) left;
+      free = found.free;
+    })
 
 -- a last line, without a line feed, is read
 pub reads_last : (line rest : List ℕ) → 0 < length line → has_feed line ≡ false → rest ≡ [] → ReadsLine line line rest

@@ -1,7 +1,8 @@
 -- What holds between the bytes to be read before and after a call, where they are told.
-use Rattle.std.proofs.Common.{ℕ, ◌≡◌, List, [], ◌++◌, Option, Some, None, refl, ap, sym, ◌∙◌, subst, append_assoc}
+use Rattle.std.proofs.Common.{ℕ, ◌≡◌, Bool, true, false, cond, List, [], ◌++◌, Option, Some, None, refl, ap, sym, ◌∙◌, subst, append_assoc}
 use Rattle.std.specs.Io.KnownBytes.{Keeps, IsAtEnd, Consumes}
 use Rattle.line_reader.specs.Reading.{to_read, Between}
+use Rattle.line_reader.specs.Readers.{nothing_of}
 
 pub Keeps-same : (a : Option (List ℕ)) → Keeps a a
 Keeps-same None = tt
@@ -40,3 +41,21 @@ Keeps-kept ahead (Some xs) (Some ys) p = ap (λ s. ahead ++ s) p
 -- the same, where the bytes ahead are known by an equation
 pub Keeps-grown : (ahead held taken : List ℕ) (before after : Option (List ℕ)) → held ≡ ahead ++ taken → Consumes before after taken → Keeps (to_read ahead before) (to_read held after)
 Keeps-grown ahead held taken before after e p = rw e (Keeps-taken ahead taken before after p)
+
+-- a reader that has seen the end of its source takes no more from it
+pub at_end-nothing : (known : Option (List ℕ)) → IsAtEnd (nothing_of known)
+at_end-nothing None = tt
+at_end-nothing (Some left) = refl
+
+-- to see the end loses nothing
+pub Keeps-ended : (ahead : List ℕ) (known : Option (List ℕ)) (ended : Bool) → (ended ≡ true → IsAtEnd known) → Keeps (to_read ahead known) (to_read ahead (cond ended (nothing_of known) known))
+Keeps-ended ahead None true end = tt
+Keeps-ended ahead None false end = tt
+Keeps-ended ahead (Some left) true end = ap (λ s. ahead ++ s) (sym (end refl))
+Keeps-ended ahead (Some left) false end = refl
+
+-- bytes taken ahead are still to be read, while the end was not seen
+pub Keeps-open : (ahead held taken : List ℕ) (before after : Option (List ℕ)) (ended : Bool) → ended ≡ false → held ≡ ahead ++ taken → Consumes before after taken
+    → Keeps (to_read ahead (cond ended (nothing_of before) before)) (to_read held (cond ended (nothing_of after) after))
+Keeps-open ahead held taken before after true shut e p = absurd (let clash : true ≡ false = shut in cc)
+Keeps-open ahead held taken before after false shut e p = Keeps-grown ahead held taken before after e p

@@ -1,5 +1,5 @@
 -- The lines of some bytes, and what a reader of lines takes from a source that tells its bytes.
-use Rattle.std.specs.Prelude.{ℕ, ◌≡◌, ◌<◌, ◌==◌, Bool, false, cond, List, [], ◌∷◌, length, take, slice_index, Some, None}
+use Rattle.std.specs.Prelude.{ℕ, ◌≡◌, ◌<◌, ◌==◌, Bool, false, cond, List, [], ◌∷◌, ◌++◌, length, take, slice_index, Some, None}
 use Rattle.std.specs.declared.option.Option.{Option}
 use Rattle.std.specs.List.{list_any, onto_first}
 use Rattle.std.specs.Io.KnownBytes.{prepend_known}
@@ -55,6 +55,11 @@ pub record ReadsLine (line xs ys : List ℕ) : Type 0 where
   pub first : line ≡ first_line xs
   pub rest : ys ≡ after_line xs
   pub lines : lines_of xs ≡ line ∷ lines_of ys
+
+-- the line stands at the front of xs with its line feed, and ys is what follows that
+pub record EndsInFeed (line xs ys : List ℕ) : Type 0 where
+  pub parts : xs ≡ line ++ 10 ∷ ys
+  pub free : has_feed line ≡ false
 
 -- the first line of xs is longer than the limit
 pub record IsLong (limit : ℕ) (xs : List ℕ) : Type 0 where

@@ -5,7 +5,5 @@
 mod block;
 mod reader;
 mod scan;
-#[cfg(test)]
-mod tests;
 
 pub use reader::{LineReader, Next};

@@ -1,8 +1,8 @@
 ghost use Rattle.std.specs.Prelude.{◌≡◌, ℕ, ◌+◌, ◌≤◌, ◌<◌, List, [], length, take, drop, true, false, IfOk, OnErr};
 ghost use Rattle.std.specs.Io.KnownBytes.{Keeps, IsAtEnd};
 ghost use Rattle.locus_io.specs.Causes.{HasCause};
-ghost use Rattle.line_reader.specs.Reading.{has_feed, ReadsLine, IsLong};
-ghost use Rattle.line_reader.specs.Readers.{Stays, IfTold};
+ghost use Rattle.line_reader.specs.Reading.{has_feed, ReadsLine, EndsInFeed, IsLong};
+ghost use Rattle.line_reader.specs.Readers.{Stays, IfTold, left_for};
 ghost use Rattle.line_reader.specs.Scans.{IsLast};
 
 use crate::block::{move_to_front, take_at};
@@ -16,7 +16,8 @@ use std::marker::Model;
 /// At least so many bytes are asked of a source at once.
 const BLOCK: usize = 65_536;
 
-/// Reads lines one by one, and counts them. It takes bytes from its source a block at a time.
+/// Reads lines one by one, and counts them. It takes bytes from its source a block at a time. Where it has seen the end of the
+/// source, it asks it no more.
 #[derive(Drop)]
 pub struct LineReader {
     block: Vec<u8>,
@@ -26,6 +27,7 @@ pub struct LineReader {
     line_to: usize,
     limit: u32,
     number: u32,
+    ended: bool,
 }
 
 impl Model for LineReader {
@@ -40,6 +42,7 @@ impl Model for LineReader {
       line = slice_range r.block.items r.line_from r.line_to;
       number = r.number;
       limit = r.limit;
+      ended = r.ended;
     } };
 
     ghost invariant = { λ r.
@@ -63,7 +66,7 @@ pub enum Next {
 impl LineReader {
     /// A reader that has read nothing. A line may have `limit` bytes without its line feed.
     pub fn new(alloc: Global, limit: u32) -> Result<LineReader, NoMemory>
-        ensures { IfOk result (λ reader. reader ≡ record { ahead = []; line = []; number = 0; limit = limit }) }
+        ensures { IfOk result (λ reader. reader ≡ record { ahead = []; line = []; number = 0; limit = limit; ended = false }) }
     {
         let block = vec![in alloc; 0u8; limit as usize + BLOCK]?;
         Ok(LineReader {
@@ -74,6 +77,7 @@ impl LineReader {
             line_to: 0,
             limit,
             number: 0,
+            ended: false,
         })
     }
 
@@ -91,11 +95,12 @@ impl LineReader {
         self.number
     }
 
-    /// Reads the next line. A last line may lack its line feed. It asks the source for bytes only where no line feed
-    /// stands among those that it has taken ahead, so a fault finds no whole line there. Where it reads no line, all that
-    /// was to be read still is.
+    /// Reads the next line. A last line may lack its line feed, and is read only where the end of the source was seen. It asks
+    /// the source for bytes only where no line feed stands among those that it has taken ahead, so a fault finds no whole
+    /// line there. Where it reads no line, all that was to be read still is.
     pub fn next<S: Source>(&mut self, source: &mut S) -> Result<Next, ReadFault>
         ensures line { result ≡ Ok Next.Line → IfTold self.old self.new (S.left source.old) (S.left source.new) (ReadsLine self.new.line) }
+        ensures feed { result ≡ Ok Next.Line → self.new.ended ≡ false → IfTold self.old self.new (S.left source.old) (S.left source.new) (EndsInFeed self.new.line) }
         ensures short { result ≡ Ok Next.Line → length self.new.line ≤ self.old.limit }
         ensures counted { result ≡ Ok Next.Line → self.new.number ≡ self.old.number + 1 }
         ensures few { self.new.number ≤ 1000000 }
@@ -107,6 +112,10 @@ impl LineReader {
         ensures stays { ¬ (result ≡ Ok Next.Line) → Stays self.old self.new (S.left source.old) (S.left source.new) }
         ensures limit { self.new.limit ≡ self.old.limit }
         ensures asks { has_feed self.old.ahead ≡ true → source.new ≡ source.old }
+        ensures asks_past { self.old.number ≡ 1000000 → 0 < length self.old.ahead → source.new ≡ source.old }
+        ensures asks_no_more { self.old.ended ≡ true → (source.new ≡ source.old) × (self.new.ended ≡ true) }
+        ensures seen { self.old.ended ≡ false → self.new.ended ≡ true → IsAtEnd (S.left source.new) }
+        ensures open { OnErr result (self.new.ended ≡ false) }
         ensures part { OnErr result (has_feed self.new.ahead ≡ false) }
         ensures cause { HasCause (S.faults source.old) (S.faults source.new) result }
     {
@@ -145,6 +154,9 @@ impl LineReader {
         ensures stays { Stays self.old self.new (S.left source.old) (S.left source.new) }
         ensures limit { self.new.limit ≡ self.old.limit }
         ensures asks { 0 < length self.old.ahead → source.new ≡ source.old }
+        ensures asks_no_more { self.old.ended ≡ true → (source.new ≡ source.old) × (self.new.ended ≡ true) }
+        ensures seen { self.old.ended ≡ false → self.new.ended ≡ true → IsAtEnd (S.left source.new) }
+        ensures open { OnErr result (self.new.ended ≡ false) }
         ensures part { OnErr result (has_feed self.new.ahead ≡ false) }
         ensures cause { HasCause (S.faults source.old) (S.faults source.new) result }
     {
@@ -189,14 +201,41 @@ impl LineReader {
         self.number += 1;
     }
 
-    /// Takes a block after the bytes that were taken ahead, and says how many bytes came.
+    /// Takes a block after the bytes that were taken ahead, and says how many bytes came. None is the end, after which it asks the
+    /// source no more.
     fn fill<S: Source>(&mut self, source: &mut S) -> Result<usize, ReadFault>
         requires short { length self.old.ahead ≤ self.old.limit }
         requires line { self.old.line ≡ [] }
         ensures grown { IfOk result (λ n. length self.new.ahead ≡ length self.old.ahead + n) }
         ensures front { take (length self.old.ahead) self.new.ahead ≡ self.old.ahead }
         ensures same { OnErr result (self.new.ahead ≡ self.old.ahead) }
+        ensures end { IfOk result (λ n. n ≡ 0 → (self.new.ended ≡ true) × IsAtEnd (left_for self.new (S.left source.new))) }
+        ensures more { IfOk result (λ n. 0 < n → (self.old.ended ≡ false) × (self.new.ended ≡ false)) }
+        ensures asks_no_more { self.old.ended ≡ true → (source.new ≡ source.old) × (self.new.ended ≡ true) }
+        ensures seen { self.old.ended ≡ false → self.new.ended ≡ true → IsAtEnd (S.left source.new) }
+        ensures open { OnErr result (self.new.ended ≡ false) }
+        ensures stays { Stays self.old self.new (S.left source.old) (S.left source.new) }
+        ensures limit { self.new.limit ≡ self.old.limit }
+        ensures cause { HasCause (S.faults source.old) (S.faults source.new) result }
+    {
+        if self.ended {
+            return Ok(0);
+        }
+        let taken = self.take_block(source)?;
+        self.ended = taken == 0;
+        Ok(taken)
+    }
+
+    /// Takes a block from the source.
+    fn take_block<S: Source>(&mut self, source: &mut S) -> Result<usize, ReadFault>
+        requires short { length self.old.ahead ≤ self.old.limit }
+        requires line { self.old.line ≡ [] }
+        requires open { self.old.ended ≡ false }
+        ensures grown { IfOk result (λ n. length self.new.ahead ≡ length self.old.ahead + n) }
+        ensures front { take (length self.old.ahead) self.new.ahead ≡ self.old.ahead }
+        ensures same { OnErr result (self.new.ahead ≡ self.old.ahead) }
         ensures end { IfOk result (λ n. n ≡ 0 → IsAtEnd (S.left source.new)) }
+        ensures open { self.new.ended ≡ false }
         ensures stays { Stays self.old self.new (S.left source.old) (S.left source.new) }
         ensures limit { self.new.limit ≡ self.old.limit }
         ensures cause { HasCause (S.faults source.old) (S.faults source.new) result }

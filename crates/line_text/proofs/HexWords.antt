@@ -1,14 +1,18 @@
 -- Words of lower-case hexadecimal.
 use Rattle.std.proofs.Common.{◌≡◌, ℕ, zero, suc, ◌+◌, ◌*◌, ◌/◌, ◌%◌, ◌<◌, ◌≤◌, ◌==◌, Bool, true, false, ◌&&◌, ◌⊎◌, List, [], ◌∷◌, length, slice_index, Option, Some, None, unwrap_or, Result, Ok, Err, refl, sym, ap, ◌∙◌, arith, inl, inr, ⊎_elim}
-use Rattle.std.specs.Prelude.{◌||◌, not, nat_le}
-use Rattle.std.specs.List.{AllByRecursion, list_all}
+use Rattle.std.specs.Prelude.{◌||◌, not, nat_le, MatchResult}
+use Rattle.std.specs.List.{list_all}
 use Rattle.std.specs.Result.{result_unwrap_or}
-use Rattle.std.proofs.lemmas.Bool.{false≢true, and_parts, cases_lt, eqb-true, leb-true}
-use Rattle.hex.specs.Hex.{IsBytes, decode_of, decode_pairs, digit_or_error, hex_digit_value, encode_lower, encode_with, lower_digits, pair_value, value_at, ◌>>=◌}
+use Rattle.std.specs.Str.{bytes_eq}
+use Rattle.std.proofs.lemmas.Bool.{false≢true, and_parts, cases_lt, eqb-true, leb-true, lt-ltb, ltb-true}
+use Rattle.std.proofs.lemmas.Option.{cond_some, none-some, option_and_then_some}
+use Rattle.std.proofs.lemmas.Slice.Eq.{bytes_eq-Decides}
+use Rattle.hex.specs.Hex.{IsBytes, decode_of, decode_pairs, digit_or_error, hex_digit_value, decode_sized, encode_lower, encode_with, lower_digits, pair_value, value_at, ◌>>=◌}
 use Rattle.hex.specs.declared.error.FromHexError.{FromHexError}
-use Rattle.hex.proofs.HexLemmas.{decode_of-even, decode_of-ok, decode_of-encode_lower, length-encode_with}
-use Rattle.trace_book.specs.Text.{hex_text}
-use Rattle.line_text.specs.Words.{IsHex, is_lower_digit}
+use Rattle.hex.proofs.HexLemmas.{decode_of-even, decode_of-ok, decode_of-encode_lower, decode_sized-encode_lower, decode_sized-ok, decode_sized-twice, length-encode_with}
+use Rattle.schedule_lines.specs.Ranges.{is_between, is_byte}
+use Rattle.line_text.specs.Words.{byte_in, checked_bytes, hex_in, is_lower_digit, only_one}
+use Rattle.line_text.proofs.NumberTexts.{between_parts, is_between_from}
 
 -- the digit that the value of this digit is written as
 abbrev rewritten : ℕ → ℕ
@@ -117,46 +121,125 @@ encode_again i (a ∷ b ∷ rest) bytes h low =
     let front : encode_lower (p0.0 ∷ p3.0) ≡ a ∷ b ∷ encode_lower p3.0 = rw (da, db) refl in
     ap (λ l. a ∷ b ∷ l) ih ∙ sym front ∙ ap encode_lower e
 
--- each is a byte, by place and by element
-by_place : (xs : List ℕ) → AllByRecursion (λ b. b < 256) xs → IsBytes xs
+-- ---- the bytes that a word gives
+
+and_both : (a b : Bool) → a ≡ true → b ≡ true → (a && b) ≡ true
+and_both a b ha hb = rw (ha, hb) refl
+
+by_place : (xs : List ℕ) → list_all is_byte xs ≡ true → IsBytes xs
 by_place [] h k = omega arith
-by_place (x ∷ xs) h zero = h.0
-by_place (x ∷ xs) h (suc k) = by_place xs h.1 k
+by_place (x ∷ xs) h zero = ltb-true x 256 (and_parts (is_byte x) (list_all is_byte xs) h).0
+by_place (x ∷ xs) h (suc k) = by_place xs (and_parts (is_byte x) (list_all is_byte xs) h).1 k
 
-by_element : (xs : List ℕ) → IsBytes xs → AllByRecursion (λ b. b < 256) xs
-by_element [] h = tt
-by_element (x ∷ xs) h = (h 0, by_element xs (λ k. h (suc k)))
+by_element : (xs : List ℕ) → IsBytes xs → list_all is_byte xs ≡ true
+by_element [] h = refl
+by_element (x ∷ xs) h = and_both (is_byte x) (list_all is_byte xs) (lt-ltb x 256 (h 0)) (by_element xs (λ k. h (suc k)))
 
-text_of_some : (bytes : List ℕ) → 0 < length bytes → hex_text bytes ≡ encode_lower bytes
-text_of_some [] h = absurd (omega arith)
-text_of_some (b ∷ bs) h = refl
+-- the word is these bytes, 1 to so many, in lower-case hexadecimal
+abbrev pub IsHex : ℕ → List ℕ → List ℕ → Type 0
+IsHex most word bytes = (word ≡ encode_lower bytes) × (is_between 1 most (length bytes) ≡ true) × (list_all is_byte bytes ≡ true)
 
--- a word in hexadecimal is in lower case, and decodes
-pub hex_word : (most : ℕ) (word bytes : List ℕ) → IsHex most word bytes →
-    (decode_of word ≡ Ok bytes) × (list_all is_lower_digit word ≡ true) × (length word ≡ 2 * length bytes)
-hex_word most word bytes h =
-    let e : word ≡ encode_lower bytes = h.0 ∙ text_of_some bytes h.1 in
-    rw e (decode_of-encode_lower bytes (by_place bytes h.3), encode_is_lower bytes (by_place bytes h.3), length-encode_with lower_digits bytes)
+checked_sound : (most : ℕ) (word bytes : List ℕ) (r : Result (List ℕ) FromHexError) → checked_bytes most word r ≡ Some bytes → IsHex most word bytes
+checked_sound most word bytes (Err e) h = absurd (none-some bytes h)
+checked_sound most word bytes (Ok b) h =
+    let p = cond_some (bytes_eq word (encode_lower b) && is_between 1 most (length b) && list_all is_byte b) b bytes h in
+    let q = and_parts (bytes_eq word (encode_lower b) && is_between 1 most (length b)) (list_all is_byte b) p.0 in
+    let r = and_parts (bytes_eq word (encode_lower b)) (is_between 1 most (length b)) q.0 in
+    let text : word ≡ encode_lower b = (bytes_eq-Decides word (encode_lower b)).0 r.0 in
+    (text ∙ ap encode_lower p.1, ap (λ l. is_between 1 most (length l)) (sym p.1) ∙ r.1, ap (list_all is_byte) (sym p.1) ∙ q.1)
+
+-- what a word gives is in the range, and the word is its text
+pub hex_sound : (most : ℕ) (word bytes : List ℕ) → hex_in most word ≡ Some bytes → IsHex most word bytes
+hex_sound most word bytes h = checked_sound most word bytes (decode_of word) h
+
+-- a word that is the text of bytes and decodes to them gives them
+pub hex_read : (most : ℕ) (word bytes : List ℕ) → decode_of word ≡ Ok bytes → IsHex most word bytes → hex_in most word ≡ Some bytes
+hex_read most word bytes d h = rw (d, (bytes_eq-Decides word (encode_lower bytes)).1 h.0, h.1, h.2) refl
+
+-- the text of bytes gives the bytes
+pub hex_complete : (most : ℕ) (bytes : List ℕ) → is_between 1 most (length bytes) ≡ true → list_all is_byte bytes ≡ true → hex_in most (encode_lower bytes) ≡ Some bytes
+hex_complete most bytes r b = hex_read most (encode_lower bytes) bytes (decode_of-encode_lower bytes (by_place bytes b)) (refl, r, b)
 
 -- lower-case digits that decode are the hexadecimal of the bytes
-pub hex_found : (most : ℕ) (word bytes : List ℕ) → decode_of word ≡ Ok bytes → list_all is_lower_digit word ≡ true → 0 < length word → length word ≤ 2 * most → IsHex most word bytes
+pub hex_found : (most : ℕ) (word bytes : List ℕ) → decode_of word ≡ Ok bytes → list_all is_lower_digit word ≡ true → 0 < length word → length word ≤ 2 * most → hex_in most word ≡ Some bytes
 hex_found most word bytes d low some short =
     let ok = decode_of-ok word bytes d in
     let pairs : decode_pairs 0 word ≡ Ok bytes = sym (decode_of-even word ok.0) ∙ d in
     let size : length word ≡ 2 * length bytes = ok.2 in
-    let more : 0 < length bytes = omega arith in
-    (encode_again 0 word bytes pairs low ∙ sym (text_of_some bytes more), more, omega arith, by_element bytes ok.3)
+    let more : 1 ≤ length bytes = omega arith in
+    hex_read most word bytes d (encode_again 0 word bytes pairs low, is_between_from 1 most (length bytes) more (omega arith), by_element bytes ok.3)
 
-pub hex_some : (most : ℕ) (word bytes : List ℕ) → IsHex most word bytes → (0 < length word) × (length word % 2 ≡ 0) × (length word ≤ 2 * most)
-hex_some most word bytes h =
-    let size : length word ≡ 2 * length bytes = (hex_word most word bytes h).2 in
-    let more : 0 < length bytes = h.1 in
-    let short : length bytes ≤ most = h.2 in
-    (omega arith, omega arith, omega arith)
+-- what a word in hexadecimal is like
+pub record IsHexWord (most : ℕ) (word : List ℕ) : Type 0 where
+  pub some : 0 < length word
+  pub even : length word % 2 ≡ 0
+  pub short : length word ≤ 2 * most
+  pub lower : list_all is_lower_digit word ≡ true
 
-pub hex_lower : (most : ℕ) (word bytes : List ℕ) → IsHex most word bytes → list_all is_lower_digit word ≡ true
-hex_lower most word bytes h = (hex_word most word bytes h).1
+pub hex_word : (most : ℕ) (word bytes : List ℕ) → hex_in most word ≡ Some bytes → IsHexWord most word
+hex_word most word bytes h =
+    let s = hex_sound most word bytes h in
+    let size : length word ≡ 2 * length bytes = ap length s.0 ∙ length-encode_with lower_digits bytes in
+    let p = between_parts 1 most (length bytes) s.1 in
+    let more : 1 ≤ length bytes = p.0 in
+    let few : length bytes ≤ most = p.1 in
+    record {
+      some = omega arith;
+      even = omega arith;
+      short = omega arith;
+      lower = ap (list_all is_lower_digit) s.0 ∙ encode_is_lower bytes (by_place bytes s.2);
+    }
+
+-- a word that gives nothing
+pub gives_none : {X : Type 0} (o : Option X) → ((x : X) → o ≡ Some x → ⊥) → None ≡ o
+gives_none None h = refl
+gives_none (Some x) h = absurd (h x refl)
 
 pub not_empty : (n : ℕ) → false ≡ (n == 0) → 0 < n
 not_empty zero h = absurd (false≢true h)
 not_empty (suc n) h = omega arith
+
+-- ---- one byte
+
+written_ok : (d : Result (List ℕ) FromHexError) (r : Result (Unit {0}) FromHexError) (out : List ℕ) (x : Unit {0}) →
+    MatchResult d (λ bytes. (r ≡ Ok tt) × (out ≡ bytes)) (λ e. r ≡ Err e) → r ≡ Ok x → d ≡ Ok out
+written_ok (Ok bytes) r out x m h = ap Ok (sym m.1)
+written_ok (Err e) r out x m h = cc
+
+written_err : (d : Result (List ℕ) FromHexError) (r : Result (Unit {0}) FromHexError) (out bytes : List ℕ) (e : FromHexError) →
+    MatchResult d (λ bytes. (r ≡ Ok tt) × (out ≡ bytes)) (λ e. r ≡ Err e) → r ≡ Err e → d ≡ Ok bytes → ⊥
+written_err (Ok b) r out bytes e m h k = let done : r ≡ Ok tt = m.0 in cc
+written_err (Err f) r out bytes e m h k = cc
+
+only : (out : List ℕ) → length out ≡ 1 → Some (slice_index out 0) ≡ only_one out
+only [] h = absurd (omega arith)
+only (b ∷ []) h = refl
+only (b ∷ c ∷ cs) h = absurd (omega arith)
+
+pub byte_found : (word out : List ℕ) (r : Result (Unit {0}) FromHexError) (x : Unit {0}) →
+    MatchResult (decode_sized word 1) (λ bytes. (r ≡ Ok tt) × (out ≡ bytes)) (λ e. r ≡ Err e) → r ≡ Ok x →
+    list_all is_lower_digit word ≡ true → Some (slice_index out 0) ≡ byte_in word
+byte_found word out r x m h low =
+    let sized : decode_sized word 1 ≡ Ok out = written_ok (decode_sized word 1) r out x m h in
+    let two : length word ≡ 2 * 1 = (decode_sized-ok word 1 out sized) in
+    let read : decode_of word ≡ Ok out = sym (decode_sized-twice word 1 two) ∙ sized in
+    let size : length word ≡ 2 * length out = (decode_of-ok word out read).2 in
+    let one : length out ≡ 1 = omega arith in
+    let found : hex_in 1 word ≡ Some out = hex_found 1 word out read low (omega arith) (omega arith) in
+    rw found (only out one)
+
+pub byte_none : (word out : List ℕ) (r : Result (Unit {0}) FromHexError) (e : FromHexError) →
+    MatchResult (decode_sized word 1) (λ bytes. (r ≡ Ok tt) × (out ≡ bytes)) (λ e. r ≡ Err e) → r ≡ Err e → None ≡ byte_in word
+byte_none word out r e m h = gives_none (byte_in word) (λ b k.
+    option_and_then_some only_one (hex_in 1 word) b k (λ bytes f g.
+    let s = hex_sound 1 word bytes f in
+    let p = between_parts 1 1 (length bytes) s.1 in
+    let low : 1 ≤ length bytes = p.0 in
+    let high : length bytes ≤ 1 = p.1 in
+    let one : length bytes ≡ 1 = omega arith in
+    let sized : decode_sized word 1 ≡ Ok bytes = ap (λ w. decode_sized w 1) s.0 ∙ decode_sized-encode_lower bytes 1 one (by_place bytes s.2) in
+    written_err (decode_sized word 1) r out bytes e m h sized))
+
+pub byte_upper : (word : List ℕ) → list_all is_lower_digit word ≡ false → None ≡ byte_in word
+byte_upper word h = gives_none (byte_in word) (λ b k.
+    option_and_then_some only_one (hex_in 1 word) b k (λ bytes f g. false≢true (sym h ∙ (hex_word 1 word bytes f).lower)))

@@ -1,3 +1,9 @@
-mod Numbers
+mod Splits
+mod NumberTexts
 mod HexWords
-mod Spellings
+mod SiteLists
+mod CallForms
+mod EventForms
+mod HeaderForms
+mod Answered
+mod ReaderSteps

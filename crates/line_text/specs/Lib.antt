@@ -1,2 +1,7 @@
-pub mod Built
 pub mod Words
+pub mod Numerals
+pub mod CallReader
+pub mod EventReader
+pub mod HeaderReader
+pub mod Reading
+pub mod ReadSoFar

@@ -1,11 +1,25 @@
-//! The parser of schedule lines: which line some bytes spell, where so many lines stand before it. The runner of a
-//! schedule calls it once for each line. It knows nothing of files, streams or sites that run, and it keeps nothing.
+//! The parser of schedule lines: which line, call or header line some bytes are, where the header says so much. The runner of
+//! a schedule calls it once for each line. It knows nothing of files, streams or sites that run, and it keeps nothing.
 #![tactic(auto)]
 
-mod call_words;
-mod lines;
-#[cfg(test)]
-mod tests;
+mod call_word;
+mod calls;
+mod event_word;
+mod events;
+mod fault;
+mod header_word;
+mod headers;
+mod hex_words;
+mod numbers;
+mod schedule_reader;
+mod site_lists;
+mod tree_lines;
 mod words;
 
-pub use lines::parse;
+pub use calls::parse_call;
+pub use events::parse_line;
+pub use fault::LineFault;
+pub use headers::{HeaderStep, parse_header};
+pub use schedule_reader::{LineRead, ScheduleReader};
+pub use tree_lines::parse_tree_line;
+pub use words::is_passed;

@@ -5,17 +5,17 @@
 mod byte_list;
 mod config;
 mod ids;
+mod ino;
 mod item_list;
 mod memory;
 mod refusal;
 mod sites;
 pub mod sizes;
-#[cfg(test)]
-mod tests;
 
 pub use byte_list::Bytes;
 pub use config::{Config, Mount, Mounts};
 pub use ids::{Brought, CallId, EpochId, FileId, InstId, Kind, Member, Mode, Serial, Stamp};
+pub use ino::Ino;
 pub use item_list::{ItemList, Names, Stamps};
 pub use memory::NoMemory;
 pub use refusal::Refusal;

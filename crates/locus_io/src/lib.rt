@@ -6,8 +6,6 @@
 mod memory_sink;
 mod memory_source;
 mod standard;
-#[cfg(test)]
-mod tests;
 mod traits;
 
 pub use memory_sink::{MemSink, SureSink};

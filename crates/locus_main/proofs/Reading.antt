@@ -3,14 +3,14 @@ use Rattle.std.proofs.Common.{◌≡◌, ℕ, ◌+◌, ◌<◌, ◌≤◌, suc, 
 use Rattle.std.proofs.lemmas.Bool.Decides.{eqb_tells}
 use Rattle.std.proofs.lemmas.List.{append-nil}
 use Rattle.std.specs.List.{AllByRecursion}
-use Rattle.tree_model.specs.declared.line.HeaderLine.{HeaderLine}
-use Rattle.tree_model.specs.declared.line.HeaderLine.TheVariants as header
-use Rattle.tree_model.specs.declared.line.Line.{Line}
-use Rattle.tree_model.specs.declared.line.Line.TheVariants as line
-use Rattle.tree_model.specs.declared.line.ScheduleLine.{ScheduleLine}
-use Rattle.tree_model.specs.declared.line.ScheduleLine.TheVariants.{Passed, Header, Event}
-use Rattle.tree_model.specs.Lines.{Spells, counts, header_spelling, event_spelling}
-use Rattle.tree_model.specs.Reading.{is_counted, is_call_line, how_many, place_of, calls_of, Reads, ReadsAfter, IsSchedule, IsBuilt, MayEnd, IsBadAfter, IsFirstBad}
+use Rattle.first_model.specs.declared.line.HeaderLine.{HeaderLine}
+use Rattle.first_model.specs.declared.line.HeaderLine.TheVariants as header
+use Rattle.first_model.specs.declared.line.Line.{Line}
+use Rattle.first_model.specs.declared.line.Line.TheVariants as line
+use Rattle.first_model.specs.declared.line.ScheduleLine.{ScheduleLine}
+use Rattle.first_model.specs.declared.line.ScheduleLine.TheVariants.{Passed, Header, Event}
+use Rattle.first_model.specs.Lines.{Spells, counts, header_spelling, event_spelling}
+use Rattle.first_model.specs.Reading.{is_counted, is_call_line, how_many, place_of, calls_of, Reads, ReadsAfter, IsSchedule, IsBuilt, MayEnd, IsBadAfter, IsFirstBad}
 use Rattle.locus_main.specs.Runs.{IsWithinLimits, IsAccepted}
 
 -- the first letter of a call line

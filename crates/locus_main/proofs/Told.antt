@@ -1,5 +1,5 @@
 -- Bytes that are told or not, and the text of a trace that goes on.
-use Rattle.std.proofs.Common.{◌≡◌, ℕ, ◌+◌, take, List, [], ◌∷◌, ◌++◌, Option, Some, None, length, reverse, refl, ap, sym, ◌∙◌, arith, append_assoc}
+use Rattle.std.proofs.Common.{◌≡◌, ℕ, ◌+◌, take, List, [], ◌∷◌, ◌++◌, Option, Some, None, length, reverse, refl, ap, sym, ◌∙◌, arith, append_assoc, Bool, true, false, cond, subst}
 use Rattle.std.proofs.lemmas.List.{append-nil, take_all}
 use Rattle.std.proofs.lemmas.Grind.{reverse_onto}
 use Rattle.std.proofs.Math.Seq.{take-append-add}
@@ -8,8 +8,9 @@ use Rattle.std.specs.Io.KnownBytes.{Appends, Keeps, IsAtEnd}
 use Rattle.locus_io.specs.Causes.{AppendsFront}
 use Rattle.trace_book.specs.declared.book.Entry.{Entry}
 use Rattle.trace_book.specs.Text.{text, entry_text}
-use Rattle.tree_model.specs.Trace.{Trace, told}
+use Rattle.first_model.specs.Trace.{Trace, told}
 use Rattle.line_reader.specs.Reading.{to_read, Between, ReadsLine, lines_of}
+use Rattle.line_reader.specs.Readers.{nothing_of}
 
 told-append : (xs : List Entry) (ys : List Entry) → told (xs ++ ys) ≡ told ys ++ told xs
 told-append [] ys = sym (append-nil (told ys))
@@ -103,3 +104,13 @@ pub Between-read : (a : Option (List ℕ)) (b : Option (List ℕ)) (lines : List
 Between-read None b lines p = tt
 Between-read (Some x) None lines p = absurd p
 Between-read (Some x) (Some y) lines p = (lines_of y, p)
+
+-- a source is at its end where what a reader may take from it is, and where the reader has seen the end
+pub end_by : (ended : Bool) (left : Option (List ℕ)) → (ended ≡ true → IsAtEnd left) → IsAtEnd (cond ended (nothing_of left) left) → IsAtEnd left
+end_by true left seen h = seen refl
+end_by false left seen h = h
+
+-- what held of a source holds of it now, where it was not asked since or was found so
+pub since_then : {X : Type 0} (P : X → Type 0) (ended : Bool) (was now : X) → (ended ≡ true → P was) → (ended ≡ true → now ≡ was) → (ended ≡ false → P now) → P now
+since_then P true was now held same found = subst P (sym (same refl)) (held refl)
+since_then P false was now held same found = found refl

@@ -4,14 +4,14 @@ use Rattle.std.specs.declared.option.Option.{Option}
 use Rattle.std.specs.List.{AllByRecursion}
 use Rattle.std.specs.Io.KnownBytes.{Appends}
 use Rattle.locus_io.specs.Causes.{AppendsFront}
-use Rattle.tree_model.specs.declared.line.ScheduleLine.{ScheduleLine}
-use Rattle.tree_model.specs.Reading.{IsSchedule, MayEnd, IsFirstBad}
-use Rattle.tree_model.specs.Trace.{Trace, told}
-use Rattle.tree_model.specs.Lawful.{IsLawful}
-use Rattle.tree_model.specs.Calm.{CalmRoundsAnswer}
-use Rattle.tree_model.specs.Orderly.{OrderlyBlocksForm}
+use Rattle.first_model.specs.declared.line.ScheduleLine.{ScheduleLine}
+use Rattle.first_model.specs.Reading.{IsSchedule, MayEnd, IsFirstBad}
+use Rattle.first_model.specs.Trace.{Trace, told}
+use Rattle.first_model.specs.Lawful.{IsLawful}
+use Rattle.first_model.specs.Calm.{CalmRoundsAnswer}
+use Rattle.first_model.specs.Orderly.{OrderlyBlocksForm}
 use Rattle.one_site.specs.Rounds.{RoundsAreCalm, RoundsAreOrderly, StepsAtRounds}
-use Rattle.line_reader.specs.Reading.{lines_of, whole_lines}
+use Rattle.line_reader.specs.Reading.{whole_lines}
 
 -- there are at most 1,000,000 lines, of at most 16,384 bytes each
 pub record IsWithinLimits (lines : List (List ℕ)) : Type 0 where
@@ -77,12 +77,12 @@ pub record StopsAtLimit (all : List (List ℕ)) (before after : Option (List ℕ
   pub runs : AreRun earlier before after
 
 -- The run stops where the source fails. Of the bytes that were taken from it, the lines that end with a line feed were
--- run; where the source has nothing left, perhaps a last line without one too.
+-- run, and no other.
 pub record StopsAtFault (input left : List ℕ) (before after : Option (List ℕ)) : Type 0 where
   pub taken : List ℕ
   pub split : input ≡ taken ++ left
   pub read : List (List ℕ)
-  pub whole : (read ≡ whole_lines taken) ⊎ ((left ≡ []) × (read ≡ lines_of taken))
+  pub whole : read ≡ whole_lines taken
   pub runs : AreRun read before after
 
 -- a front of the text of such a trace of some first lines is written

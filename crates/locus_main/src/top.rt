@@ -1,8 +1,8 @@
-ghost use Rattle.std.specs.Prelude.{◌≡◌, ◌≢◌, ℕ, ◌≤◌, ◌<◌, ◌+◌, ◌⊎◌, ◌∷◌, ◌↔◌, [], List, codes, IfSome, Some, true};
+ghost use Rattle.std.specs.Prelude.{◌≡◌, ◌≢◌, ℕ, ◌≤◌, ◌<◌, ◌+◌, ◌⊎◌, ◌∷◌, ◌↔◌, [], List, codes, IfSome, Some, true, false};
 ghost use Rattle.std.specs.Io.KnownBytes.{IsAtEnd};
 ghost use Rattle.locus_io.specs.Causes.{Rose};
 ghost use Rattle.line_reader.specs.Reading.{lines_of, Between};
-ghost use Rattle.tree_model.specs.declared.line.ScheduleLine.{ScheduleLine};
+ghost use Rattle.first_model.specs.declared.line.ScheduleLine.{ScheduleLine};
 ghost use Rattle.one_site.specs.Standing.{StandsWell, IsSmall};
 ghost use Rattle.locus_main.specs.Codes.{ends_written};
 ghost use Rattle.locus_main.specs.Runs.{IsAccepted, IsWholeRun, StopsAtBad, StopsAtLong, StopsAtLimit, StopsAtFault, WritesFront};
@@ -73,7 +73,7 @@ fn run<S: Source, K: Sink>(
     requires stands { StandsWell runner.old [] [] }
     requires small { IsSmall runner.old }
     requires start { runner.old.place ≡ 0 }
-    requires unread { reader.old ≡ record { ahead = []; line = []; number = 0; limit = 16384 } }
+    requires unread { reader.old ≡ record { ahead = []; line = []; number = 0; limit = 16384; ended = false } }
     ensures whole { result ≡ Status.Ok → IfSome (S.left source.old) (λ input. IsAtEnd (S.left source.new) × IsWholeRun (lines_of input) (K.taken sink.old) (K.taken sink.new)) }
     ensures flushed { result ≡ Status.Ok → K.flushed sink.new ≡ K.taken sink.new }
     ensures nothing_held { ends_written result ≡ true → (sink.new ≡ sink.old) ⊎ (K.flushed sink.new ≡ K.taken sink.new) }

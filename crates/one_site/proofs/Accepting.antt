@@ -20,13 +20,13 @@ use Rattle.trace_book.specs.declared.reply.Reply.TheVariants as reply
 use Rattle.trace_book.specs.declared.descriptor.Descriptor.{Descriptor}
 use Rattle.trace_book.specs.declared.descriptor.Beginning.{Beginning}
 use Rattle.trace_book.specs.declared.descriptor.Beginning.TheVariants.{Denied, Uses, Walks}
-use Rattle.tree_model.specs.declared.instance.Instance.{Instance}
-use Rattle.tree_model.specs.declared.instance.Waiting.{Waiting}
-use Rattle.tree_model.specs.declared.line.ScheduleLine.TheVariants.{Event}
-use Rattle.tree_model.specs.declared.line.Line.TheVariants as line
-use Rattle.tree_model.specs.Reading.{IsBuiltCall}
-use Rattle.tree_model.specs.Trace.{Trace, accepted_as, descriptor, last_line, uses_by, uses_of, close_of, is_close, closed_by}
-use Rattle.tree_model.specs.Tree.{is_named}
+use Rattle.first_model.specs.declared.instance.Instance.{Instance}
+use Rattle.first_model.specs.declared.instance.Waiting.{Waiting}
+use Rattle.first_model.specs.declared.line.ScheduleLine.TheVariants.{Event}
+use Rattle.first_model.specs.declared.line.Line.TheVariants as line
+use Rattle.first_model.specs.Reading.{IsBuiltCall}
+use Rattle.first_model.specs.Trace.{Trace, accepted_as, descriptor, last_line, uses_by, uses_of, close_of, is_close, closed_by}
+use Rattle.first_model.specs.Tree.{is_named}
 use Rattle.one_site.specs.declared.runner.Runner.{Runner}
 use Rattle.one_site.specs.Ids.{the_epoch, call_id, serial_of}
 use Rattle.one_site.specs.Known.{Known, Good, Place, number_at, with_record, IsNamed}

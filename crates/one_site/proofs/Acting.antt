@@ -14,14 +14,14 @@ use Rattle.trace_book.specs.declared.record.Record.{Record}
 use Rattle.trace_book.specs.declared.record.Record.TheVariants as told
 use Rattle.trace_book.specs.declared.operation.Op.{Op}
 use Rattle.trace_book.specs.declared.operation.Outcome.{Outcome}
-use Rattle.tree_model.specs.declared.instance.Instance.{Instance}
-use Rattle.tree_model.specs.declared.instance.Waiting.{Waiting}
-use Rattle.tree_model.specs.Trace.{Trace, descriptor, is_taken, held, history, candidates, call_of_act, call_of_release, is_call, last_line}
-use Rattle.tree_model.specs.Tree.{is_named, is_writer, where_it, without_it, acted, committed}
-use Rattle.tree_model.specs.Calls.{close_answer, outcome_answer, wants_next, gives_reply, due}
-use Rattle.tree_model.specs.Lawful.{MayCommit, MayRelease, IsStepOf, IsStep, IsReplyTo}
-use Rattle.tree_model.specs.Room.{result_on, parents_of, list_of}
-use Rattle.tree_model.specs.OneTree.{first_of}
+use Rattle.first_model.specs.declared.instance.Instance.{Instance}
+use Rattle.first_model.specs.declared.instance.Waiting.{Waiting}
+use Rattle.first_model.specs.Trace.{Trace, descriptor, is_taken, held, history, candidates, call_of_act, call_of_release, is_call, last_line}
+use Rattle.first_model.specs.Tree.{is_named, is_writer, where_it, without_it, acted, committed}
+use Rattle.first_model.specs.Calls.{close_answer, outcome_answer, wants_next, gives_reply, due}
+use Rattle.first_model.specs.Lawful.{MayCommit, MayRelease, IsStepOf, IsStep, IsReplyTo}
+use Rattle.first_model.specs.Room.{result_on, parents_of, list_of}
+use Rattle.first_model.specs.OneTree.{first_of}
 use Rattle.one_site.specs.declared.files.FileState.{FileState}
 use Rattle.one_site.specs.Ids.{one_site, the_epoch, call_id, file_of, stamp_of, stamp_no, entry}
 use Rattle.one_site.specs.Files.{KnowsInode, KnowsFile, file_at}

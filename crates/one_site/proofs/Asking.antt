@@ -18,14 +18,14 @@ use Rattle.trace_book.specs.declared.call.OpenMode.{OpenMode}
 use Rattle.trace_book.specs.declared.call.OpenMode.TheVariants as how
 use Rattle.trace_book.specs.declared.operation.What.{What}
 use Rattle.trace_book.specs.declared.operation.Served.{Served}
-use Rattle.tree_model.specs.declared.instance.Instance.{Instance}
-use Rattle.tree_model.specs.declared.instance.Waiting.{Waiting}
-use Rattle.tree_model.specs.Trace.{Trace, descriptor, kept_in, is_taken, held, held_in, history, candidates}
-use Rattle.tree_model.specs.Tree.{tree, opened, openers}
-use Rattle.tree_model.specs.Calls.{wants_next, wants_after, look_answer, granted_answer, answers, gives_reply}
-use Rattle.tree_model.specs.Lawful.{AsksOpen}
-use Rattle.tree_model.specs.OneTree.{served_by, open_refusal, IsUnnumbered, Placed}
-use Rattle.tree_model.specs.Room.{list_of}
+use Rattle.first_model.specs.declared.instance.Instance.{Instance}
+use Rattle.first_model.specs.declared.instance.Waiting.{Waiting}
+use Rattle.first_model.specs.Trace.{Trace, descriptor, kept_in, is_taken, held, held_in, history, candidates}
+use Rattle.first_model.specs.Tree.{tree, opened, openers}
+use Rattle.first_model.specs.Calls.{wants_next, wants_after, look_answer, granted_answer, answers, gives_reply}
+use Rattle.first_model.specs.Lawful.{AsksOpen}
+use Rattle.first_model.specs.OneTree.{served_by, open_refusal, IsUnnumbered, Placed}
+use Rattle.first_model.specs.Room.{list_of}
 use Rattle.one_site.specs.declared.files.FileState.{FileState}
 use Rattle.one_site.specs.Ids.{one_site, the_epoch, call_id, serial_of, file_of, stamp_of, entry}
 use Rattle.one_site.specs.Files.{KnowsInode, KnowsFile, file_at}

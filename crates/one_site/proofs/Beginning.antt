@@ -12,7 +12,7 @@ use Rattle.trace_book.specs.declared.call.Call.{Call}
 use Rattle.trace_book.specs.declared.call.Call.TheVariants as call
 use Rattle.trace_book.specs.declared.descriptor.Descriptor.{Descriptor}
 use Rattle.trace_book.specs.declared.descriptor.Beginning.TheVariants.{Denied, Uses, Walks}
-use Rattle.tree_model.specs.Trace.{closed_by}
+use Rattle.first_model.specs.Trace.{closed_by}
 use Rattle.one_site.specs.Ids.{the_epoch}
 use Rattle.one_site.specs.Steps.{freed}
 use Rattle.one_site.proofs.Names.{same_epoch-refl}

@@ -18,20 +18,20 @@ use Rattle.trace_book.specs.declared.operation.Outcome.TheVariants.{No}
 use Rattle.trace_book.specs.declared.reply.Reply.TheVariants as reply
 use Rattle.trace_book.specs.declared.descriptor.Beginning.{Beginning}
 use Rattle.trace_book.specs.declared.descriptor.Beginning.TheVariants.{Denied, Uses, Walks}
-use Rattle.tree_model.specs.declared.instance.Instance.{Instance}
-use Rattle.tree_model.specs.declared.instance.Waiting.{Waiting}
-use Rattle.tree_model.specs.declared.line.ScheduleLine.{ScheduleLine}
-use Rattle.tree_model.specs.declared.line.ScheduleLine.TheVariants.{Event}
-use Rattle.tree_model.specs.declared.line.Line.{Line}
-use Rattle.tree_model.specs.declared.line.Line.TheVariants as line
-use Rattle.tree_model.specs.Reading.{is_call_line, how_many, IsBuiltCall}
-use Rattle.tree_model.specs.Directory.{Looked, One, Nothing, Several, lookup}
-use Rattle.tree_model.specs.Lines.{config_of}
-use Rattle.tree_model.specs.Trace.{Trace, waiting, waiting_of}
-use Rattle.tree_model.specs.Tree.{is_none}
-use Rattle.tree_model.specs.Calls.{due}
-use Rattle.tree_model.specs.Room.{list_of}
-use Rattle.tree_model.specs.Lawful.{EachComes, tells_own, tells_own_of, is_void}
+use Rattle.first_model.specs.declared.instance.Instance.{Instance}
+use Rattle.first_model.specs.declared.instance.Waiting.{Waiting}
+use Rattle.first_model.specs.declared.line.ScheduleLine.{ScheduleLine}
+use Rattle.first_model.specs.declared.line.ScheduleLine.TheVariants.{Event}
+use Rattle.first_model.specs.declared.line.Line.{Line}
+use Rattle.first_model.specs.declared.line.Line.TheVariants as line
+use Rattle.first_model.specs.Reading.{is_call_line, how_many, IsBuiltCall}
+use Rattle.first_model.specs.Directory.{Looked, One, Nothing, Several, lookup}
+use Rattle.first_model.specs.Lines.{config_of}
+use Rattle.first_model.specs.Trace.{Trace, waiting, waiting_of}
+use Rattle.first_model.specs.Tree.{is_none}
+use Rattle.first_model.specs.Calls.{due}
+use Rattle.first_model.specs.Room.{list_of}
+use Rattle.first_model.specs.Lawful.{EachComes, tells_own, tells_own_of, is_void}
 use Rattle.one_site.specs.declared.runner.Runner.{Runner}
 use Rattle.one_site.specs.Ids.{one_site, call_id, entry}
 use Rattle.one_site.specs.Known.{Place, with_record}

@@ -6,11 +6,11 @@ use Rattle.trace_book.specs.declared.book.Entry.{Entry}
 use Rattle.trace_book.specs.declared.record.Record.{Record}
 use Rattle.trace_book.specs.Scripts.{wants}
 use Rattle.trace_book.specs.Descriptors.{lowest_free, is_in}
-use Rattle.tree_model.specs.declared.instance.Waiting.{Waiting}
-use Rattle.tree_model.specs.Trace.{Trace, descriptor, epoch_of, last_line, waiting}
-use Rattle.tree_model.specs.Calls.{wants_next, wants_as, answers, left_epoch, left_since, unless_in, gives_reply, is_unanswered, needs_no_request, due, due_among}
-use Rattle.tree_model.specs.Lawful.{MayFollow, IsStep, IsServed, IsReplyTo}
-use Rattle.tree_model.specs.Room.{list_of}
+use Rattle.first_model.specs.declared.instance.Waiting.{Waiting}
+use Rattle.first_model.specs.Trace.{Trace, descriptor, epoch_of, last_line, waiting}
+use Rattle.first_model.specs.Calls.{wants_next, wants_as, answers, left_epoch, left_since, unless_in, gives_reply, is_unanswered, needs_no_request, due, due_among}
+use Rattle.first_model.specs.Lawful.{MayFollow, IsStep, IsServed, IsReplyTo}
+use Rattle.first_model.specs.Room.{list_of}
 use Rattle.one_site.specs.Ids.{one_site, the_epoch, call_id, entry}
 use Rattle.one_site.specs.Known.{Site, Known, Good, Place, number_at, lines_to, with_record}
 

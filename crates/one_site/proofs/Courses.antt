@@ -7,14 +7,14 @@ use Rattle.std.proofs.Math.Seq.{get_or-append_seam}
 use Rattle.std.specs.List.{AllByRecursion, list_any}
 use Rattle.trace_book.specs.declared.record.Record.{Record}
 use Rattle.trace_book.specs.declared.record.Record.TheVariants.{Stopped, Budget}
-use Rattle.tree_model.specs.declared.line.ScheduleLine.{ScheduleLine}
-use Rattle.tree_model.specs.declared.line.ScheduleLine.TheVariants.{Passed, Header, Event}
-use Rattle.tree_model.specs.declared.line.HeaderLine.TheVariants as header
-use Rattle.tree_model.specs.declared.line.Line.TheVariants as line
-use Rattle.tree_model.specs.Reading.{IsBuilt, is_counted}
-use Rattle.tree_model.specs.Trace.{Trace, before_line}
-use Rattle.tree_model.specs.Calm.{line_at}
-use Rattle.tree_model.specs.Orderly.{starts_at, initiator, is_break, tells_break, IsOrderly}
+use Rattle.first_model.specs.declared.line.ScheduleLine.{ScheduleLine}
+use Rattle.first_model.specs.declared.line.ScheduleLine.TheVariants.{Passed, Header, Event}
+use Rattle.first_model.specs.declared.line.HeaderLine.TheVariants as header
+use Rattle.first_model.specs.declared.line.Line.TheVariants as line
+use Rattle.first_model.specs.Reading.{IsBuilt, is_counted}
+use Rattle.first_model.specs.Trace.{Trace, before_line}
+use Rattle.first_model.specs.Calm.{line_at}
+use Rattle.first_model.specs.Orderly.{starts_at, initiator, is_break, tells_break, IsOrderly}
 use Rattle.one_site.specs.Rounds.{IsSteady, IsMerged, HasBegun, Course}
 use Rattle.one_site.proofs.Rounds.{slot-push, slot-within}
 

@@ -17,14 +17,14 @@ use Rattle.trace_book.specs.declared.operation.Outcome.{Outcome}
 use Rattle.trace_book.specs.declared.operation.Outcome.TheVariants.{Done, No}
 use Rattle.trace_book.specs.declared.reply.Reply.TheVariants as reply
 use Rattle.trace_book.specs.declared.descriptor.Beginning.TheVariants.{Walks}
-use Rattle.tree_model.specs.declared.instance.Instance.{Instance}
-use Rattle.tree_model.specs.declared.instance.Waiting.{Waiting}
-use Rattle.tree_model.specs.Directory.{entries_of, dir_bytes, with_entry, new_entry, is_pair, probe_result, result_of}
-use Rattle.tree_model.specs.Pages.{changed_after, needed}
-use Rattle.tree_model.specs.Room.{free_pages}
-use Rattle.tree_model.specs.Trace.{Trace, descriptor, history, candidates, held, is_taken, call_of_act, call_of_release}
-use Rattle.tree_model.specs.OneTree.{sites_named}
-use Rattle.tree_model.specs.Tree.{acted, is_named, is_writer, process_of, committed}
+use Rattle.first_model.specs.declared.instance.Instance.{Instance}
+use Rattle.first_model.specs.declared.instance.Waiting.{Waiting}
+use Rattle.first_model.specs.Directory.{entries_of, dir_bytes, with_entry, new_entry, is_pair, probe_result, result_of}
+use Rattle.first_model.specs.Pages.{changed_after, needed}
+use Rattle.first_model.specs.Room.{free_pages}
+use Rattle.first_model.specs.Trace.{Trace, descriptor, history, candidates, held, is_taken, call_of_act, call_of_release}
+use Rattle.first_model.specs.OneTree.{sites_named}
+use Rattle.first_model.specs.Tree.{acted, is_named, is_writer, process_of, committed}
 use Rattle.one_site.specs.declared.files.FileState.{FileState}
 use Rattle.one_site.specs.Ids.{one_site, the_epoch, call_id, serial_of, file_of, stamp_no, stamp_of}
 use Rattle.one_site.specs.Files.{KnowsInode, KnowsFile, file_at}

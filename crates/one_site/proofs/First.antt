@@ -5,11 +5,11 @@ use Rattle.std.specs.List.{Contains}
 use Rattle.locus_ids.specs.declared.ids.Stamp.{Stamp}
 use Rattle.locus_ids.specs.declared.ids.Brought.{Brought}
 use Rattle.trace_book.specs.declared.record.Record.TheVariants as told
-use Rattle.tree_model.specs.declared.line.ScheduleLine.{ScheduleLine}
-use Rattle.tree_model.specs.declared.line.ScheduleLine.TheVariants.{Event}
-use Rattle.tree_model.specs.declared.line.Line.TheVariants as line
-use Rattle.tree_model.specs.Trace.{Trace, last_line, is_member, has_joined, candidates, with_held, format_stamp, held, history, is_taken}
-use Rattle.tree_model.specs.Lawful.{EachComes, MayStart}
+use Rattle.first_model.specs.declared.line.ScheduleLine.{ScheduleLine}
+use Rattle.first_model.specs.declared.line.ScheduleLine.TheVariants.{Event}
+use Rattle.first_model.specs.declared.line.Line.TheVariants as line
+use Rattle.first_model.specs.Trace.{Trace, last_line, is_member, has_joined, candidates, with_held, format_stamp, held, history, is_taken}
+use Rattle.first_model.specs.Lawful.{EachComes, MayStart}
 use Rattle.one_site.specs.declared.runner.Runner.{Runner}
 use Rattle.one_site.specs.declared.files.FileState.{FileState}
 use Rattle.one_site.specs.Ids.{one_site, the_epoch, the_members, file_of, entry}

@@ -4,7 +4,7 @@ use Rattle.std.proofs.lemmas.Bool.{cond_both}
 use Rattle.locus_ids.specs.declared.ids.Stamp.{Stamp}
 use Rattle.commit_graph.specs.declared.history.Version.{Version}
 use Rattle.commit_graph.specs.Versions.{same_stamp, is_version, is_ancestor, with_stamp}
-use Rattle.tree_model.specs.Trace.{format_stamp, format_version}
+use Rattle.first_model.specs.Trace.{format_stamp, format_version}
 use Rattle.one_site.specs.Ids.{file_of, stamp_no}
 use Rattle.one_site.specs.Files.{KnowsFile, KnowsNone}
 use Rattle.one_site.proofs.Names.{same_yes, same_stamp-true}

@@ -4,10 +4,10 @@ use Rattle.std.specs.List.{AllByRecursion}
 use Rattle.std.proofs.lemmas.Bool.{le-ltb}
 use Rattle.std.proofs.lemmas.List.Sums.{sum_by-cons}
 use Rattle.trace_book.specs.declared.operation.Outcome.{Outcome}
-use Rattle.tree_model.specs.declared.instance.Instance.{Instance}
-use Rattle.tree_model.specs.Trace.{Trace, is_taken, stored, held, history, candidates}
-use Rattle.tree_model.specs.Tree.{tree}
-use Rattle.tree_model.specs.Room.{pages_held, held_pages, changed_pages, free_pages, in_room, is_stored_at}
+use Rattle.first_model.specs.declared.instance.Instance.{Instance}
+use Rattle.first_model.specs.Trace.{Trace, is_taken, stored, held, history, candidates}
+use Rattle.first_model.specs.Tree.{tree}
+use Rattle.first_model.specs.Room.{pages_held, held_pages, changed_pages, free_pages, in_room, is_stored_at}
 use Rattle.one_site.specs.declared.files.FileState.{FileState}
 use Rattle.one_site.specs.Ids.{one_site, the_epoch, file_of}
 use Rattle.one_site.specs.Files.{KnowsInode, file_at}

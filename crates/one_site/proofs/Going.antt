@@ -15,15 +15,15 @@ use Rattle.trace_book.specs.declared.call.OpenMode.{OpenMode}
 use Rattle.trace_book.specs.declared.call.OpenMode.TheVariants as how
 use Rattle.trace_book.specs.declared.descriptor.Beginning.{Beginning}
 use Rattle.trace_book.specs.declared.descriptor.Beginning.TheVariants.{Denied, Uses, Walks}
-use Rattle.dir_list.specs.Entries.{IsEntry}
-use Rattle.dir_list.proofs.Reading.{entries_of-dir_bytes}
-use Rattle.dir_list.proofs.Paths.{components-one}
-use Rattle.tree_model.specs.declared.dir_entry.DirEntry.{DirEntry}
-use Rattle.tree_model.specs.declared.instance.Waiting.{Waiting}
-use Rattle.tree_model.specs.Directory.{entries_of, dir_bytes}
-use Rattle.tree_model.specs.Reading.{IsBuiltCall, IsFlatPath}
-use Rattle.tree_model.specs.Calls.{gives_reply, due}
-use Rattle.tree_model.specs.Trace.{Trace, descriptor}
+use Rattle.first_dirs.specs.Entries.{IsEntry}
+use Rattle.first_dirs.proofs.Reading.{entries_of-dir_bytes}
+use Rattle.first_dirs.proofs.Paths.{components-one}
+use Rattle.first_model.specs.declared.dir_entry.DirEntry.{DirEntry}
+use Rattle.first_model.specs.declared.instance.Waiting.{Waiting}
+use Rattle.first_model.specs.Directory.{entries_of, dir_bytes}
+use Rattle.first_model.specs.Reading.{IsBuiltCall, IsFlatPath}
+use Rattle.first_model.specs.Calls.{gives_reply, due}
+use Rattle.first_model.specs.Trace.{Trace, descriptor}
 use Rattle.one_site.specs.declared.files.FileState.{FileState}
 use Rattle.one_site.specs.declared.runner.Runner.{Runner}
 use Rattle.one_site.specs.Ids.{one_site}

@@ -3,15 +3,15 @@ use Rattle.std.proofs.Common.{◌≡◌, ◌≤◌, ◌<◌, ◌+◌, ◌++◌, 
 use Rattle.std.proofs.lemmas.Bool.{false≢true}
 use Rattle.locus_ids.specs.declared.sites.Sites.{Sites}
 use Rattle.trace_book.specs.declared.book.Entry.{Entry}
-use Rattle.tree_model.specs.declared.line.ScheduleLine.{ScheduleLine}
-use Rattle.tree_model.specs.declared.line.ScheduleLine.TheVariants.{Passed, Header, Event}
-use Rattle.tree_model.specs.declared.line.HeaderLine.TheVariants as header
-use Rattle.tree_model.specs.declared.line.Line.TheVariants as line
-use Rattle.tree_model.specs.Lines.{config_of, with_line, no_cluster}
-use Rattle.tree_model.specs.Reading.{is_counted, is_call_line}
-use Rattle.tree_model.specs.Trace.{Trace, last_line, is_member}
-use Rattle.tree_model.specs.Calls.{due}
-use Rattle.tree_model.specs.Lawful.{EachComes, MayJoin}
+use Rattle.first_model.specs.declared.line.ScheduleLine.{ScheduleLine}
+use Rattle.first_model.specs.declared.line.ScheduleLine.TheVariants.{Passed, Header, Event}
+use Rattle.first_model.specs.declared.line.HeaderLine.TheVariants as header
+use Rattle.first_model.specs.declared.line.Line.TheVariants as line
+use Rattle.first_model.specs.Lines.{config_of, with_line, no_cluster}
+use Rattle.first_model.specs.Reading.{is_counted, is_call_line}
+use Rattle.first_model.specs.Trace.{Trace, last_line, is_member}
+use Rattle.first_model.specs.Calls.{due}
+use Rattle.first_model.specs.Lawful.{EachComes, MayJoin}
 use Rattle.one_site.specs.declared.runner.Runner.{Runner}
 use Rattle.one_site.specs.Ids.{one_site, the_epoch, the_members}
 use Rattle.one_site.specs.Records.{join_records}

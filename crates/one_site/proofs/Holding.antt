@@ -4,7 +4,7 @@ use Rattle.locus_ids.specs.declared.config.Config.{Config}
 use Rattle.locus_ids.specs.declared.ids.FileId.{FileId}
 use Rattle.locus_ids.specs.declared.ids.EpochId.{EpochId}
 use Rattle.trace_book.specs.Descriptors.{is_in}
-use Rattle.tree_model.specs.Trace.{Trace, epoch_of, held, held_in, stored, stored_in}
+use Rattle.first_model.specs.Trace.{Trace, epoch_of, held, held_in, stored, stored_in}
 use Rattle.one_site.proofs.Names.{same_epoch-refl}
 
 pub held_in-now : (c : Config) (t : Trace) (e : EpochId) (site : ℕ) (f : FileId) → epoch_of t site ≡ Some e → held_in c t e site f ≡ held c t site f

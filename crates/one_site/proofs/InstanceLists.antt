@@ -4,11 +4,11 @@ use Rattle.std.specs.List.{Contains, AllByRecursion}
 use Rattle.locus_ids.specs.declared.ids.Stamp.{Stamp}
 use Rattle.locus_ids.specs.declared.ids.EpochId.{EpochId}
 use Rattle.locus_ids.specs.declared.ids.Serial.{Serial}
-use Rattle.tree_model.specs.declared.instance.Instance.{Instance}
+use Rattle.first_model.specs.declared.instance.Instance.{Instance}
 use Rattle.trace_book.specs.Scripts.{Ended}
-use Rattle.tree_model.specs.Calls.{close_answer}
-use Rattle.tree_model.specs.Tree.{where_it, without_it, is_named}
-use Rattle.tree_model.specs.OneTree.{first_of}
+use Rattle.first_model.specs.Calls.{close_answer}
+use Rattle.first_model.specs.Tree.{where_it, without_it, is_named}
+use Rattle.first_model.specs.OneTree.{first_of}
 
 -- none of these passes
 abbrev pub NonePass : (Instance → Bool) → List Instance → Type 0

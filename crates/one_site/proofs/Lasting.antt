@@ -13,16 +13,16 @@ use Rattle.trace_book.specs.declared.operation.Outcome.{Outcome}
 use Rattle.trace_book.specs.declared.operation.Outcome.TheVariants.{No}
 use Rattle.trace_book.specs.declared.descriptor.Beginning.{Beginning}
 use Rattle.trace_book.specs.declared.descriptor.Beginning.TheVariants.{Denied, Uses, Walks}
-use Rattle.tree_model.specs.declared.instance.Instance.{Instance}
-use Rattle.tree_model.specs.declared.instance.Waiting.{Waiting}
-use Rattle.tree_model.specs.declared.line.ScheduleLine.{ScheduleLine}
-use Rattle.tree_model.specs.declared.line.ScheduleLine.TheVariants.{Passed, Header, Event}
-use Rattle.tree_model.specs.declared.line.Line.TheVariants as line
-use Rattle.tree_model.specs.Reading.{IsBuilt, IsBuiltCall}
-use Rattle.tree_model.specs.Directory.{Looked, One, Nothing, Several, lookup, new_entry}
-use Rattle.dir_list.specs.Entries.{HasShortName}
-use Rattle.dir_list.proofs.Laws.{AllByRecursion-with_entry}
-use Rattle.dir_list.proofs.Paths.{name-short}
+use Rattle.first_model.specs.declared.instance.Instance.{Instance}
+use Rattle.first_model.specs.declared.instance.Waiting.{Waiting}
+use Rattle.first_model.specs.declared.line.ScheduleLine.{ScheduleLine}
+use Rattle.first_model.specs.declared.line.ScheduleLine.TheVariants.{Passed, Header, Event}
+use Rattle.first_model.specs.declared.line.Line.TheVariants as line
+use Rattle.first_model.specs.Reading.{IsBuilt, IsBuiltCall}
+use Rattle.first_model.specs.Directory.{Looked, One, Nothing, Several, lookup, new_entry}
+use Rattle.first_dirs.specs.Entries.{HasShortName}
+use Rattle.first_dirs.proofs.Laws.{AllByRecursion-with_entry}
+use Rattle.first_dirs.proofs.Paths.{name-short}
 use Rattle.one_site.specs.declared.runner.Runner.{Runner}
 use Rattle.one_site.specs.Steps.{begins, table_of, runner_by}
 use Rattle.one_site.specs.Settle.{Settled, settled, settled_of, stepped, created, opened, opened_kind, opened_file, granted, excluded, read, wrote, closed, closed_by, Stand, Between, Nowhere, stand_of, probe_of, next_ino}

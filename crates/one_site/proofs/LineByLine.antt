@@ -2,15 +2,15 @@
 use Rattle.std.proofs.Common.{◌≡◌, ◌≤◌, ◌+◌, ◌++◌, ◌∷◌, ℕ, Bool, true, false, cond, List, [], length, reverse, Option, None, Some, refl, sym, ◌∙◌, subst, arith, eqb, ⊎_elim}
 use Rattle.std.proofs.lemmas.Bool.Decides.{eqb_tells}
 use Rattle.trace_book.specs.declared.call.Call.{Call}
-use Rattle.tree_model.specs.declared.instance.Waiting.{Waiting}
-use Rattle.tree_model.specs.declared.line.ScheduleLine.{ScheduleLine}
-use Rattle.tree_model.specs.declared.line.ScheduleLine.TheVariants.{Passed, Header, Event}
-use Rattle.tree_model.specs.declared.line.HeaderLine.TheVariants as header
-use Rattle.tree_model.specs.declared.line.Line.TheVariants as line
-use Rattle.tree_model.specs.Lines.{Spells}
+use Rattle.first_model.specs.declared.instance.Waiting.{Waiting}
+use Rattle.first_model.specs.declared.line.ScheduleLine.{ScheduleLine}
+use Rattle.first_model.specs.declared.line.ScheduleLine.TheVariants.{Passed, Header, Event}
+use Rattle.first_model.specs.declared.line.HeaderLine.TheVariants as header
+use Rattle.first_model.specs.declared.line.Line.TheVariants as line
+use Rattle.first_model.specs.Lines.{Spells}
 use Rattle.trace_book.specs.declared.book.Entry.{Entry}
-use Rattle.tree_model.specs.Reading.{IsBuilt, IsBuiltCall, Reads, place_of, calls_of}
-use Rattle.tree_model.specs.Trace.{Trace}
+use Rattle.first_model.specs.Reading.{IsBuilt, IsBuiltCall, Reads, place_of, calls_of}
+use Rattle.first_model.specs.Trace.{Trace}
 use Rattle.one_site.specs.declared.runner.Runner.{Runner}
 use Rattle.one_site.specs.Settle.{Settled, settled}
 use Rattle.one_site.specs.Records.{start_records}

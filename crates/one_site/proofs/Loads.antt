@@ -1,10 +1,10 @@
 -- Files that were committed and instances that are open are at most as many as the instances that were granted.
 use Rattle.std.proofs.Common.{◌≡◌, ◌≤◌, ◌+◌, ◌++◌, ◌∷◌, ℕ, Bool, true, false, cond, List, [], length, Some, refl, sym, ap, ◌∙◌, arith, eqb, length-append}
 use Rattle.std.proofs.lemmas.List.{append_assoc}
-use Rattle.tree_model.specs.declared.instance.Instance.{Instance}
-use Rattle.tree_model.specs.Trace.{Trace, stored, with_number}
-use Rattle.tree_model.specs.Tree.{where_it, without_it}
-use Rattle.tree_model.specs.OneTree.{first_of}
+use Rattle.first_model.specs.declared.instance.Instance.{Instance}
+use Rattle.first_model.specs.Trace.{Trace, stored, with_number}
+use Rattle.first_model.specs.Tree.{where_it, without_it}
+use Rattle.first_model.specs.OneTree.{first_of}
 use Rattle.one_site.specs.Known.{Site}
 
 length-where_it : (p : Instance → Bool) (change : Instance → Instance) (xs : List Instance) → length (where_it p change xs) ≡ length xs

@@ -10,13 +10,13 @@ use Rattle.trace_book.specs.Scripts.{wants, Close, Make, Opened, Ended}
 use Rattle.trace_book.specs.Descriptors.{lowest_free}
 use Rattle.trace_book.specs.declared.record.Record.{Record}
 use Rattle.trace_book.specs.declared.record.Record.TheVariants as told
-use Rattle.tree_model.specs.declared.instance.Instance.{Instance}
-use Rattle.tree_model.specs.declared.instance.Waiting.{Waiting}
-use Rattle.tree_model.specs.Trace.{Trace, descriptor, is_taken, held, history, candidates, call_of_release, call_named, last_line}
-use Rattle.tree_model.specs.Tree.{tree, is_named, is_writer, committed, process_of}
-use Rattle.tree_model.specs.Calls.{close_answer, wants_next, wants_as, answers, gives_reply, due}
-use Rattle.tree_model.specs.Lawful.{MayCommit, MayRelease, MayGrant, IsStep, IsReplyTo}
-use Rattle.tree_model.specs.OneTree.{making_set, wanted_packs, of_call, sites_named}
+use Rattle.first_model.specs.declared.instance.Instance.{Instance}
+use Rattle.first_model.specs.declared.instance.Waiting.{Waiting}
+use Rattle.first_model.specs.Trace.{Trace, descriptor, is_taken, held, history, candidates, call_of_release, call_named, last_line}
+use Rattle.first_model.specs.Tree.{tree, is_named, is_writer, committed, process_of}
+use Rattle.first_model.specs.Calls.{close_answer, wants_next, wants_as, answers, gives_reply, due}
+use Rattle.first_model.specs.Lawful.{MayCommit, MayRelease, MayGrant, IsStep, IsReplyTo}
+use Rattle.first_model.specs.OneTree.{making_set, wanted_packs, of_call, sites_named}
 use Rattle.one_site.specs.declared.files.FileState.{FileState}
 use Rattle.one_site.specs.Ids.{one_site, the_epoch, call_id, serial_of, file_of, stamp_no, entry}
 use Rattle.one_site.specs.Files.{KnowsInode, KnowsNone, file_at}

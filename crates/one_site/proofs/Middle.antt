@@ -9,11 +9,11 @@ use Rattle.locus_ids.specs.declared.ids.Serial.{Serial}
 use Rattle.commit_graph.specs.Versions.{same_file}
 use Rattle.commit_graph.specs.Grants.{is_read}
 use Rattle.trace_book.specs.Descriptors.{is_in}
-use Rattle.tree_model.specs.declared.instance.Instance.{Instance}
+use Rattle.first_model.specs.declared.instance.Instance.{Instance}
 use Rattle.trace_book.specs.Scripts.{Ended}
-use Rattle.tree_model.specs.Calls.{close_answer}
-use Rattle.tree_model.specs.Tree.{where_it, without_it, is_named, is_writer}
-use Rattle.tree_model.specs.OneTree.{first_of}
+use Rattle.first_model.specs.Calls.{close_answer}
+use Rattle.first_model.specs.Tree.{where_it, without_it, is_named, is_writer}
+use Rattle.first_model.specs.OneTree.{first_of}
 use Rattle.one_site.specs.Ids.{the_epoch}
 use Rattle.one_site.specs.Opens.{AreExclusive, are_compatible}
 use Rattle.one_site.proofs.Names.{same_file-refl, same_file-true}

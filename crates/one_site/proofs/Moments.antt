@@ -4,9 +4,9 @@ use Rattle.std.specs.List.{AllByRecursion, list_any}
 use Rattle.trace_book.specs.declared.book.Entry.{Entry}
 use Rattle.trace_book.specs.declared.record.Record.{Record}
 use Rattle.trace_book.specs.declared.record.Record.TheVariants.{Up, Stopped, Leave, Join, Budget}
-use Rattle.tree_model.specs.declared.line.ScheduleLine.{ScheduleLine}
-use Rattle.tree_model.specs.Trace.{Trace, is_up, up_after, boot_of, boot_after, before_line, epoch_of, epoch_after, members_after, boot_in}
-use Rattle.tree_model.specs.Calm.{is_budget, tells_budget, reaches, IsMoment, AreTogether}
+use Rattle.first_model.specs.declared.line.ScheduleLine.{ScheduleLine}
+use Rattle.first_model.specs.Trace.{Trace, is_up, up_after, boot_of, boot_after, before_line, epoch_of, epoch_after, members_after, boot_in}
+use Rattle.first_model.specs.Calm.{is_budget, tells_budget, reaches, IsMoment, AreTogether}
 use Rattle.one_site.specs.Ids.{the_epoch, the_members}
 use Rattle.one_site.specs.Rounds.{IsSteady, IsAlone}
 use Rattle.one_site.proofs.Heading.{only-member}

@@ -5,8 +5,8 @@ use Rattle.commit_graph.specs.Versions.{same_file}
 use Rattle.commit_graph.specs.Grants.{is_read}
 use Rattle.trace_book.specs.Same.{same_epoch, same_serial}
 use Rattle.trace_book.specs.Descriptors.{is_in}
-use Rattle.tree_model.specs.declared.instance.Instance.{Instance}
-use Rattle.tree_model.specs.Tree.{is_named, is_writer, openers, opener_of}
+use Rattle.first_model.specs.declared.instance.Instance.{Instance}
+use Rattle.first_model.specs.Tree.{is_named, is_writer, openers, opener_of}
 use Rattle.one_site.specs.declared.files.FileState.{FileState}
 use Rattle.one_site.specs.Ids.{the_epoch, file_of, serial_of}
 use Rattle.one_site.specs.Known.{IsNamed}

@@ -2,11 +2,11 @@
 use Rattle.std.proofs.Common.{◌≡◌, ◌+◌, suc, Bool, true, false, cond, List, [], ◌∷◌, ◌++◌, refl, ap, sym, ◌∙◌, arith, append_assoc, inl, inr, ◌⊎◌, ⊎_elim}
 use Rattle.std.proofs.lemmas.List.Sums.{fold-append}
 use Rattle.locus_ids.specs.declared.config.Config.{Config}
-use Rattle.tree_model.specs.declared.line.ScheduleLine.{ScheduleLine}
-use Rattle.tree_model.specs.Lines.{config_of, with_line, no_cluster}
-use Rattle.tree_model.specs.Reading.{how_many, is_counted, is_call_line, place_of, calls_of}
-use Rattle.tree_model.specs.Trace.{Trace}
-use Rattle.tree_model.specs.Lawful.{EachComes}
+use Rattle.first_model.specs.declared.line.ScheduleLine.{ScheduleLine}
+use Rattle.first_model.specs.Lines.{config_of, with_line, no_cluster}
+use Rattle.first_model.specs.Reading.{how_many, is_counted, is_call_line, place_of, calls_of}
+use Rattle.first_model.specs.Trace.{Trace}
+use Rattle.first_model.specs.Lawful.{EachComes}
 use Rattle.one_site.proofs.Starting.{nil-split}
 
 pub snoc_split : {X : Type 0} (lines : List X) (b : X) (before : List X) (x : X) (rest : List X) → lines ++ b ∷ [] ≡ before ++ x ∷ rest →

@@ -20,13 +20,13 @@ use Rattle.trace_book.specs.declared.operation.Served.TheVariants as served
 use Rattle.trace_book.specs.declared.reply.Reply.TheVariants as reply
 use Rattle.trace_book.specs.declared.descriptor.Descriptor.{Descriptor}
 use Rattle.trace_book.specs.declared.descriptor.Beginning.TheVariants.{Walks}
-use Rattle.tree_model.specs.declared.instance.Instance.{Instance}
-use Rattle.tree_model.specs.declared.instance.Waiting.{Waiting}
-use Rattle.tree_model.specs.Directory.{entries_of, lookup}
-use Rattle.tree_model.specs.Trace.{Trace, descriptor, kept_in, history, candidates, held, is_taken, call_named}
-use Rattle.tree_model.specs.Tree.{opened, openers, process_of, begins_owing}
-use Rattle.tree_model.specs.Calls.{entered}
-use Rattle.tree_model.specs.OneTree.{served_by}
+use Rattle.first_model.specs.declared.instance.Instance.{Instance}
+use Rattle.first_model.specs.declared.instance.Waiting.{Waiting}
+use Rattle.first_model.specs.Directory.{entries_of, lookup}
+use Rattle.first_model.specs.Trace.{Trace, descriptor, kept_in, history, candidates, held, is_taken, call_named}
+use Rattle.first_model.specs.Tree.{opened, openers, process_of, begins_owing}
+use Rattle.first_model.specs.Calls.{entered}
+use Rattle.first_model.specs.OneTree.{served_by}
 use Rattle.one_site.specs.declared.files.FileState.{FileState}
 use Rattle.one_site.specs.Ids.{one_site, the_epoch, call_id, serial_of, file_of, stamp_of}
 use Rattle.one_site.specs.Files.{file_at, KnowsFile, KnowsInode}

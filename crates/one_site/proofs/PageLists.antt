@@ -7,9 +7,9 @@ use Rattle.std.proofs.lemmas.Map.Steps.{length-le_from_distinct_below}
 use Rattle.std.proofs.lemmas.Bool.{eqb-true}
 use Rattle.locus_ids.specs.declared.ids.Kind.{Kind}
 use Rattle.trace_book.specs.declared.operation.Op.TheVariants as op
-use Rattle.tree_model.specs.declared.dir_entry.DirEntry.{DirEntry}
-use Rattle.tree_model.specs.Directory.{written, entry_bytes, dir_bytes, with_entry, new_entry, entries_of, is_before}
-use Rattle.tree_model.specs.Pages.{pages_of, pages_from, pages_between, is_replaced, has_page, with_page, with_pages, needed, changed_after}
+use Rattle.first_model.specs.declared.dir_entry.DirEntry.{DirEntry}
+use Rattle.first_model.specs.Directory.{written, entry_bytes, dir_bytes, with_entry, new_entry, entries_of, is_before}
+use Rattle.first_model.specs.Pages.{pages_of, pages_from, pages_between, is_replaced, has_page, with_page, with_pages, needed, changed_after}
 use Rattle.one_site.specs.Known.{ArePages}
 
 pub pages-few : (n : ℕ) → n ≤ 65536 → pages_of n ≤ 64

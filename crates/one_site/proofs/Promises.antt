@@ -3,14 +3,14 @@ use Rattle.std.proofs.Common.{◌≡◌, ◌≤◌, ◌+◌, ◌-◌, ℕ, zero,
 use Rattle.std.specs.Prelude.{nat_le}
 use Rattle.std.specs.List.{AllByRecursion}
 use Rattle.std.proofs.lemmas.Bool.{false≢true, leb-true}
-use Rattle.tree_model.specs.declared.instance.Waiting.{Waiting}
-use Rattle.tree_model.specs.declared.line.ScheduleLine.{ScheduleLine}
-use Rattle.tree_model.specs.declared.line.ScheduleLine.TheVariants.{Passed, Event}
-use Rattle.tree_model.specs.declared.line.Line.TheVariants as line
-use Rattle.tree_model.specs.Lines.{config_of}
-use Rattle.tree_model.specs.Trace.{Trace, is_up, boot_of, before_line, epoch_of, boot_in, is_member}
-use Rattle.tree_model.specs.Calm.{line_at, lines_before, through_line, reaches, CalmRoundsAnswer}
-use Rattle.tree_model.specs.Orderly.{starts_at, initiator, is_reached, is_polled, narrowed, is_chosen, Forms, OrderlyBlocksForm}
+use Rattle.first_model.specs.declared.instance.Waiting.{Waiting}
+use Rattle.first_model.specs.declared.line.ScheduleLine.{ScheduleLine}
+use Rattle.first_model.specs.declared.line.ScheduleLine.TheVariants.{Passed, Event}
+use Rattle.first_model.specs.declared.line.Line.TheVariants as line
+use Rattle.first_model.specs.Lines.{config_of}
+use Rattle.first_model.specs.Trace.{Trace, is_up, boot_of, before_line, epoch_of, boot_in, is_member}
+use Rattle.first_model.specs.Calm.{line_at, lines_before, through_line, reaches, CalmRoundsAnswer}
+use Rattle.first_model.specs.Orderly.{starts_at, initiator, is_reached, is_polled, narrowed, is_chosen, Forms, OrderlyBlocksForm}
 use Rattle.one_site.specs.declared.runner.Runner.{Runner}
 use Rattle.one_site.specs.Ids.{the_epoch, the_members}
 use Rattle.one_site.specs.Rounds.{IsOwn, IsAlone, RoundsAnswer, RoundsAreCalm, RoundsAreOrderly}

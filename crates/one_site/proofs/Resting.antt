@@ -8,8 +8,8 @@ use Rattle.locus_ids.specs.declared.refusal.Refusal.TheVariants.{Busy}
 use Rattle.commit_graph.specs.Versions.{same_file}
 use Rattle.commit_graph.specs.Grants.{is_read, Opener, excludes, grant_refusal}
 use Rattle.trace_book.specs.Same.{same_epoch, same_serial}
-use Rattle.tree_model.specs.declared.instance.Instance.{Instance}
-use Rattle.tree_model.specs.Tree.{is_named, openers, opener_of}
+use Rattle.first_model.specs.declared.instance.Instance.{Instance}
+use Rattle.first_model.specs.Tree.{is_named, openers, opener_of}
 use Rattle.one_site.specs.declared.files.FileState.{FileState}
 use Rattle.one_site.specs.Ids.{the_epoch, file_of, serial_of}
 use Rattle.one_site.specs.Files.{file_at}
@@ -18,7 +18,7 @@ use Rattle.one_site.specs.Known.{Site, IsNamed}
 use Rattle.trace_book.specs.Scripts.{mode_of}
 use Rattle.trace_book.specs.declared.call.OpenMode.{OpenMode}
 use Rattle.trace_book.specs.declared.call.OpenMode.TheVariants as how
-use Rattle.tree_model.specs.Room.{merges}
+use Rattle.first_model.specs.Room.{merges}
 use Rattle.one_site.proofs.FileLists.{file_at-within, file_at-push_other}
 use Rattle.one_site.proofs.Asking.{is_ordinary}
 use Rattle.one_site.proofs.Creating.{GrowsFiles}

@@ -1,12 +1,12 @@
 -- What the rounds so far have left behind stays so by one more line.
 use Rattle.std.proofs.Common.{◌≡◌, ◌≤◌, ◌+◌, ◌-◌, ◌++◌, ◌∷◌, ℕ, cond, List, [], length, reverse, sym, ap, ◌∙◌, subst, arith, length-append, ⊎_elim}
-use Rattle.tree_model.specs.declared.line.ScheduleLine.{ScheduleLine}
-use Rattle.tree_model.specs.declared.line.ScheduleLine.TheVariants.{Event}
-use Rattle.tree_model.specs.declared.line.Line.TheVariants as line
-use Rattle.tree_model.specs.Lines.{Spells}
-use Rattle.tree_model.specs.Reading.{IsBuilt, is_counted}
-use Rattle.tree_model.specs.Trace.{Trace, before_line}
-use Rattle.tree_model.specs.Calm.{line_at, through_line}
+use Rattle.first_model.specs.declared.line.ScheduleLine.{ScheduleLine}
+use Rattle.first_model.specs.declared.line.ScheduleLine.TheVariants.{Event}
+use Rattle.first_model.specs.declared.line.Line.TheVariants as line
+use Rattle.first_model.specs.Lines.{Spells}
+use Rattle.first_model.specs.Reading.{IsBuilt, is_counted}
+use Rattle.first_model.specs.Trace.{Trace, before_line}
+use Rattle.first_model.specs.Calm.{line_at, through_line}
 use Rattle.one_site.specs.declared.runner.Runner.{Runner}
 use Rattle.one_site.specs.Rounds.{IsOwn, IsRound, Course, RoundsAnswer}
 use Rattle.one_site.specs.Settle.{Settled}

@@ -5,14 +5,14 @@ use Rattle.std.proofs.lemmas.Bool.Decides.{eqb_tells}
 use Rattle.std.specs.List.{AllByRecursion}
 use Rattle.trace_book.specs.declared.book.Entry.{Entry}
 use Rattle.trace_book.specs.declared.record.Record.TheVariants.{Join}
-use Rattle.tree_model.specs.declared.line.ScheduleLine.{ScheduleLine}
-use Rattle.tree_model.specs.declared.line.ScheduleLine.TheVariants.{Passed, Event}
-use Rattle.tree_model.specs.declared.line.Line.{Line}
-use Rattle.tree_model.specs.declared.line.Line.TheVariants as line
-use Rattle.tree_model.specs.Lines.{Spells}
-use Rattle.tree_model.specs.Reading.{IsBuilt}
-use Rattle.tree_model.specs.Trace.{Trace}
-use Rattle.tree_model.specs.Room.{list_of}
+use Rattle.first_model.specs.declared.line.ScheduleLine.{ScheduleLine}
+use Rattle.first_model.specs.declared.line.ScheduleLine.TheVariants.{Passed, Event}
+use Rattle.first_model.specs.declared.line.Line.{Line}
+use Rattle.first_model.specs.declared.line.Line.TheVariants as line
+use Rattle.first_model.specs.Lines.{Spells}
+use Rattle.first_model.specs.Reading.{IsBuilt}
+use Rattle.first_model.specs.Trace.{Trace}
+use Rattle.first_model.specs.Room.{list_of}
 use Rattle.one_site.specs.declared.runner.Runner.{Runner}
 use Rattle.one_site.specs.Ids.{the_epoch, the_members, entry}
 use Rattle.one_site.specs.Rounds.{IsOwn, IsSteady, IsAlone, IsRound}

@@ -9,10 +9,10 @@ use Rattle.locus_ids.specs.declared.ids.Mode.{Mode}
 use Rattle.commit_graph.specs.Versions.{same_file}
 use Rattle.commit_graph.specs.Grants.{excluder, excludes}
 use Rattle.trace_book.specs.Same.{same_epoch}
-use Rattle.tree_model.specs.declared.dir_entry.DirEntry.{DirEntry}
-use Rattle.tree_model.specs.declared.instance.Instance.{Instance}
-use Rattle.tree_model.specs.Directory.{with_entry, is_before}
-use Rattle.tree_model.specs.Tree.{is_named, openers, opener_of}
+use Rattle.first_model.specs.declared.dir_entry.DirEntry.{DirEntry}
+use Rattle.first_model.specs.declared.instance.Instance.{Instance}
+use Rattle.first_model.specs.Directory.{with_entry, is_before}
+use Rattle.first_model.specs.Tree.{is_named, openers, opener_of}
 use Rattle.one_site.specs.declared.files.FileState.{FileState}
 use Rattle.one_site.specs.Ids.{the_epoch, file_of}
 use Rattle.one_site.specs.Settle.{Between, Nowhere, stand_of, behind, state_at}

@@ -5,9 +5,9 @@ use Rattle.trace_book.specs.declared.call.Call.{Call}
 use Rattle.trace_book.specs.declared.call.Call.TheVariants as call
 use Rattle.trace_book.specs.declared.descriptor.Beginning.{Beginning}
 use Rattle.trace_book.specs.declared.descriptor.Beginning.TheVariants.{Uses, Denied, Walks}
-use Rattle.tree_model.specs.declared.instance.Waiting.{Waiting}
-use Rattle.tree_model.specs.Reading.{IsBuiltCall}
-use Rattle.tree_model.specs.Trace.{Trace}
+use Rattle.first_model.specs.declared.instance.Waiting.{Waiting}
+use Rattle.first_model.specs.Reading.{IsBuiltCall}
+use Rattle.first_model.specs.Trace.{Trace}
 use Rattle.one_site.specs.declared.runner.Runner.{Runner}
 use Rattle.one_site.specs.Known.{Place, number_at}
 use Rattle.one_site.specs.Settle.{settled, settled_of, stepped}

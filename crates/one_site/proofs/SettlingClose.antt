@@ -13,10 +13,10 @@ use Rattle.trace_book.specs.declared.call.Call.TheVariants as call
 use Rattle.trace_book.specs.declared.descriptor.Descriptor.{Descriptor}
 use Rattle.trace_book.specs.declared.descriptor.Beginning.{Beginning}
 use Rattle.trace_book.specs.declared.descriptor.Beginning.TheVariants.{Uses}
-use Rattle.tree_model.specs.declared.instance.Instance.{Instance}
-use Rattle.tree_model.specs.declared.instance.Waiting.{Waiting}
-use Rattle.tree_model.specs.declared.dir_entry.DirEntry.{DirEntry}
-use Rattle.tree_model.specs.Trace.{Trace, uses_of, uses_by, is_close, close_of}
+use Rattle.first_model.specs.declared.instance.Instance.{Instance}
+use Rattle.first_model.specs.declared.instance.Waiting.{Waiting}
+use Rattle.first_model.specs.declared.dir_entry.DirEntry.{DirEntry}
+use Rattle.first_model.specs.Trace.{Trace, uses_of, uses_by, is_close, close_of}
 use Rattle.one_site.specs.declared.files.FileState.{FileState}
 use Rattle.one_site.specs.declared.runner.Runner.{Runner}
 use Rattle.one_site.specs.Ids.{the_epoch, stamp_of}

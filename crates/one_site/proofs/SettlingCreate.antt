@@ -14,13 +14,13 @@ use Rattle.trace_book.specs.declared.operation.Outcome.{Outcome}
 use Rattle.trace_book.specs.declared.operation.Outcome.TheVariants.{Done, No}
 use Rattle.trace_book.specs.declared.descriptor.Beginning.{Beginning}
 use Rattle.trace_book.specs.declared.descriptor.Beginning.TheVariants.{Walks, Uses, Denied}
-use Rattle.tree_model.specs.declared.dir_entry.DirEntry.{DirEntry}
-use Rattle.tree_model.specs.declared.instance.Waiting.{Waiting}
-use Rattle.tree_model.specs.Directory.{entries_of, dir_bytes, with_entry, new_entry, is_pair, has_name, probe_among, probe_result, max_bytes}
-use Rattle.tree_model.specs.Trace.{Trace, uses_of}
-use Rattle.tree_model.specs.Reading.{IsBuiltCall, IsFlatPath}
-use Rattle.dir_list.proofs.Laws.{AllByRecursion-with_entry, list_any-is_pair}
-use Rattle.dir_list.proofs.Paths.{but_last-one, last_of-one, name-short}
+use Rattle.first_model.specs.declared.dir_entry.DirEntry.{DirEntry}
+use Rattle.first_model.specs.declared.instance.Waiting.{Waiting}
+use Rattle.first_model.specs.Directory.{entries_of, dir_bytes, with_entry, new_entry, is_pair, has_name, probe_among, probe_result, max_bytes}
+use Rattle.first_model.specs.Trace.{Trace, uses_of}
+use Rattle.first_model.specs.Reading.{IsBuiltCall, IsFlatPath}
+use Rattle.first_dirs.proofs.Laws.{AllByRecursion-with_entry, list_any-is_pair}
+use Rattle.first_dirs.proofs.Paths.{but_last-one, last_of-one, name-short}
 use Rattle.one_site.specs.declared.files.FileState.{FileState}
 use Rattle.one_site.specs.declared.runner.Runner.{Runner}
 use Rattle.one_site.specs.Files.{file_at}

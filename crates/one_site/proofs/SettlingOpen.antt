@@ -17,15 +17,15 @@ use Rattle.trace_book.specs.declared.call.OpenMode.TheVariants as how
 use Rattle.trace_book.specs.declared.descriptor.Descriptor.{Descriptor}
 use Rattle.trace_book.specs.declared.descriptor.Beginning.{Beginning}
 use Rattle.trace_book.specs.declared.descriptor.Beginning.TheVariants.{Walks, Uses, Denied}
-use Rattle.tree_model.specs.declared.dir_entry.DirEntry.{DirEntry}
-use Rattle.tree_model.specs.declared.instance.Instance.{Instance}
-use Rattle.tree_model.specs.declared.instance.Waiting.{Waiting}
-use Rattle.tree_model.specs.Directory.{entries_of, lookup, looked_among, is_meant, Looked, One, Nothing, Several}
-use Rattle.tree_model.specs.Trace.{Trace, descriptor}
-use Rattle.tree_model.specs.Calls.{entered}
-use Rattle.tree_model.specs.Reading.{IsBuiltCall, IsFlatPath}
-use Rattle.tree_model.specs.Room.{merges}
-use Rattle.dir_list.proofs.Paths.{components-one}
+use Rattle.first_model.specs.declared.dir_entry.DirEntry.{DirEntry}
+use Rattle.first_model.specs.declared.instance.Instance.{Instance}
+use Rattle.first_model.specs.declared.instance.Waiting.{Waiting}
+use Rattle.first_model.specs.Directory.{entries_of, lookup, looked_among, is_meant, Looked, One, Nothing, Several}
+use Rattle.first_model.specs.Trace.{Trace, descriptor}
+use Rattle.first_model.specs.Calls.{entered}
+use Rattle.first_model.specs.Reading.{IsBuiltCall, IsFlatPath}
+use Rattle.first_model.specs.Room.{merges}
+use Rattle.first_dirs.proofs.Paths.{components-one}
 use Rattle.one_site.specs.declared.runner.Runner.{Runner}
 use Rattle.one_site.specs.Ids.{the_epoch, serial_of, stamp_of}
 use Rattle.one_site.specs.Files.{file_at}

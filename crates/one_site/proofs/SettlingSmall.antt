@@ -16,11 +16,11 @@ use Rattle.trace_book.specs.declared.operation.Outcome.TheVariants.{No}
 use Rattle.trace_book.specs.declared.descriptor.Descriptor.{Descriptor}
 use Rattle.trace_book.specs.declared.descriptor.Beginning.{Beginning}
 use Rattle.trace_book.specs.declared.descriptor.Beginning.TheVariants.{Uses}
-use Rattle.tree_model.specs.declared.dir_entry.DirEntry.{DirEntry}
-use Rattle.tree_model.specs.declared.instance.Instance.{Instance}
-use Rattle.tree_model.specs.declared.instance.Waiting.{Waiting}
-use Rattle.tree_model.specs.Directory.{Looked, One, Nothing, Several, lookup, dir_bytes}
-use Rattle.tree_model.specs.Tree.{is_named}
+use Rattle.first_model.specs.declared.dir_entry.DirEntry.{DirEntry}
+use Rattle.first_model.specs.declared.instance.Instance.{Instance}
+use Rattle.first_model.specs.declared.instance.Waiting.{Waiting}
+use Rattle.first_model.specs.Directory.{Looked, One, Nothing, Several, lookup, dir_bytes}
+use Rattle.first_model.specs.Tree.{is_named}
 use Rattle.one_site.specs.declared.files.FileState.{FileState}
 use Rattle.one_site.specs.declared.runner.Runner.{Runner}
 use Rattle.one_site.specs.Ids.{the_epoch, serial_of}

@@ -9,12 +9,12 @@ use Rattle.commit_graph.specs.Grants.{is_read}
 use Rattle.trace_book.specs.declared.call.Call.TheVariants as call
 use Rattle.trace_book.specs.declared.operation.Op.TheVariants as op
 use Rattle.trace_book.specs.declared.descriptor.Beginning.TheVariants.{Uses}
-use Rattle.tree_model.specs.declared.instance.Instance.{Instance}
-use Rattle.tree_model.specs.declared.instance.Waiting.{Waiting}
-use Rattle.tree_model.specs.Reading.{IsBuiltCall}
-use Rattle.tree_model.specs.Pages.{needed}
-use Rattle.tree_model.specs.Room.{free_pages}
-use Rattle.tree_model.specs.Trace.{Trace, uses_of, uses_by, is_close, close_of}
+use Rattle.first_model.specs.declared.instance.Instance.{Instance}
+use Rattle.first_model.specs.declared.instance.Waiting.{Waiting}
+use Rattle.first_model.specs.Reading.{IsBuiltCall}
+use Rattle.first_model.specs.Pages.{needed}
+use Rattle.first_model.specs.Room.{free_pages}
+use Rattle.first_model.specs.Trace.{Trace, uses_of, uses_by, is_close, close_of}
 use Rattle.one_site.specs.declared.runner.Runner.{Runner}
 use Rattle.one_site.specs.Ids.{one_site, the_epoch}
 use Rattle.one_site.specs.Opens.{AreExclusive, AreDistinct}

@@ -7,7 +7,7 @@ use Rattle.std.proofs.lemmas.List.Elements.{Contains-append_left, Contains-appen
 use Rattle.locus_ids.specs.declared.ids.Serial.{Serial}
 use Rattle.trace_book.specs.Same.{same_serial}
 use Rattle.trace_book.specs.declared.descriptor.Descriptor.{Descriptor}
-use Rattle.tree_model.specs.declared.instance.Instance.{Instance}
+use Rattle.first_model.specs.declared.instance.Instance.{Instance}
 use Rattle.one_site.specs.declared.files.FileState.{FileState}
 use Rattle.one_site.specs.Ids.{the_epoch, serial_of}
 use Rattle.one_site.specs.Known.{IsNamed}

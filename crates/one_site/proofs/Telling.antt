@@ -8,13 +8,13 @@ use Rattle.trace_book.specs.declared.record.Record.TheVariants.{Accept, Answer, 
 use Rattle.trace_book.specs.declared.call.Call.{Call}
 use Rattle.trace_book.specs.declared.reply.Reply.{Reply}
 use Rattle.trace_book.specs.declared.descriptor.Descriptor.{Descriptor}
-use Rattle.tree_model.specs.declared.instance.Waiting.{Waiting}
-use Rattle.tree_model.specs.declared.line.ScheduleLine.TheVariants.{Event}
-use Rattle.tree_model.specs.declared.line.Line.TheVariants as line
-use Rattle.tree_model.specs.Trace.{Trace, descriptor, waiting, waiting_of, without_call, accepted_as, closed_by, opened_by, uses_by, is_of, last_line, is_close}
-use Rattle.tree_model.specs.Calls.{wants_next, is_due, due, due_among}
-use Rattle.tree_model.specs.Lawful.{IsReplyTo, answers_call}
-use Rattle.tree_model.specs.Room.{list_of}
+use Rattle.first_model.specs.declared.instance.Waiting.{Waiting}
+use Rattle.first_model.specs.declared.line.ScheduleLine.TheVariants.{Event}
+use Rattle.first_model.specs.declared.line.Line.TheVariants as line
+use Rattle.first_model.specs.Trace.{Trace, descriptor, waiting, waiting_of, without_call, accepted_as, closed_by, opened_by, uses_by, is_of, last_line, is_close}
+use Rattle.first_model.specs.Calls.{wants_next, is_due, due, due_among}
+use Rattle.first_model.specs.Lawful.{IsReplyTo, answers_call}
+use Rattle.first_model.specs.Room.{list_of}
 use Rattle.one_site.specs.Ids.{one_site, the_epoch, call_id, serial_of, entry}
 use Rattle.one_site.specs.Known.{Site, Known, Good, Place, number_at, with_record, IsCurrent}
 use Rattle.one_site.proofs.Names.{same_call-refl}

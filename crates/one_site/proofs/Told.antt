@@ -5,10 +5,10 @@ use Rattle.std.proofs.lemmas.List.{reverse-append}
 use Rattle.locus_ids.specs.declared.config.Config.{Config}
 use Rattle.trace_book.specs.declared.book.Entry.{Entry}
 use Rattle.trace_book.specs.declared.record.Record.{Record}
-use Rattle.tree_model.specs.declared.line.ScheduleLine.{ScheduleLine}
-use Rattle.tree_model.specs.Reading.{how_many}
-use Rattle.tree_model.specs.Trace.{Trace, before_line, last_line}
-use Rattle.tree_model.specs.Lawful.{EachComes, IsLawful, IsWithoutEffect, must_tell, tells_own, tells_own_of, is_void, IsVoidLine}
+use Rattle.first_model.specs.declared.line.ScheduleLine.{ScheduleLine}
+use Rattle.first_model.specs.Reading.{how_many}
+use Rattle.first_model.specs.Trace.{Trace, before_line, last_line}
+use Rattle.first_model.specs.Lawful.{EachComes, IsLawful, IsWithoutEffect, must_tell, tells_own, tells_own_of, is_void, IsVoidLine}
 use Rattle.one_site.proofs.Names.{not_same}
 use Rattle.one_site.proofs.OneMore.{snoc_split}
 use Rattle.one_site.proofs.RoundRecords.{AreOf}

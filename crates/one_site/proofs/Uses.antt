@@ -10,10 +10,10 @@ use Rattle.trace_book.specs.Same.{same_epoch, same_serial}
 use Rattle.trace_book.specs.declared.record.Record.TheVariants as told
 use Rattle.trace_book.specs.declared.call.Call.{Call}
 use Rattle.trace_book.specs.declared.descriptor.Beginning.TheVariants.{Uses, Walks}
-use Rattle.tree_model.specs.declared.instance.Instance.{Instance}
-use Rattle.tree_model.specs.declared.instance.Waiting.{Waiting}
-use Rattle.tree_model.specs.Trace.{Trace, uses_of, uses_by, is_close, accepted_as}
-use Rattle.tree_model.specs.Tree.{is_named}
+use Rattle.first_model.specs.declared.instance.Instance.{Instance}
+use Rattle.first_model.specs.declared.instance.Waiting.{Waiting}
+use Rattle.first_model.specs.Trace.{Trace, uses_of, uses_by, is_close, accepted_as}
+use Rattle.first_model.specs.Tree.{is_named}
 use Rattle.one_site.specs.Ids.{the_epoch}
 use Rattle.one_site.specs.Known.{Place, with_record}
 use Rattle.one_site.specs.Opens.{AreDistinct}

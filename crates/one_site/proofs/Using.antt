@@ -17,13 +17,13 @@ use Rattle.trace_book.specs.declared.operation.Outcome.{Outcome}
 use Rattle.trace_book.specs.declared.operation.Outcome.TheVariants as outcome
 use Rattle.trace_book.specs.declared.reply.Reply.TheVariants as reply
 use Rattle.trace_book.specs.declared.descriptor.Beginning.TheVariants.{Uses}
-use Rattle.tree_model.specs.declared.instance.Instance.{Instance}
-use Rattle.tree_model.specs.declared.instance.Waiting.{Waiting}
-use Rattle.tree_model.specs.Directory.{written, result_of}
-use Rattle.tree_model.specs.Pages.{changed_after, needed}
-use Rattle.tree_model.specs.Trace.{Trace, descriptor, call_of_act, call_of_release, uses_of, close_of}
-use Rattle.tree_model.specs.Tree.{acted, is_named, is_writer, committed, where_it}
-use Rattle.tree_model.specs.Room.{merges, result_on, free_pages}
+use Rattle.first_model.specs.declared.instance.Instance.{Instance}
+use Rattle.first_model.specs.declared.instance.Waiting.{Waiting}
+use Rattle.first_model.specs.Directory.{written, result_of}
+use Rattle.first_model.specs.Pages.{changed_after, needed}
+use Rattle.first_model.specs.Trace.{Trace, descriptor, call_of_act, call_of_release, uses_of, close_of}
+use Rattle.first_model.specs.Tree.{acted, is_named, is_writer, committed, where_it}
+use Rattle.first_model.specs.Room.{merges, result_on, free_pages}
 use Rattle.one_site.specs.declared.files.FileState.{FileState}
 use Rattle.one_site.specs.Ids.{one_site, the_epoch, call_id, file_of, stamp_no, stamp_of}
 use Rattle.one_site.specs.Files.{file_at}

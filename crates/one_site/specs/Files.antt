@@ -5,7 +5,7 @@ use Rattle.locus_ids.specs.declared.ids.Stamp.{Stamp}
 use Rattle.commit_graph.specs.declared.history.Version.{Version}
 use Rattle.commit_graph.specs.Versions.{is_ancestor, kept, content_of, same_stamp}
 use Rattle.commit_graph.specs.Counters.{counter}
-use Rattle.tree_model.specs.Trace.{format_stamp}
+use Rattle.first_model.specs.Trace.{format_stamp}
 use Rattle.one_site.specs.declared.files.FileState.{FileState}
 use Rattle.one_site.specs.Ids.{file_of, stamp_no, stamp_of}
 

@@ -9,7 +9,7 @@ use Rattle.locus_ids.specs.declared.ids.CallId.{CallId}
 use Rattle.locus_ids.specs.declared.ids.Serial.{Serial}
 use Rattle.trace_book.specs.declared.book.Entry.{Entry}
 use Rattle.trace_book.specs.declared.record.Record.{Record}
-use Rattle.tree_model.specs.Trace.{format_stamp}
+use Rattle.first_model.specs.Trace.{format_stamp}
 
 -- one site, which has the only pack of group 0
 abbrev pub one_site : Config

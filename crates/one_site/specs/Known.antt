@@ -5,14 +5,14 @@ use Rattle.commit_graph.specs.Grants.{is_read}
 use Rattle.trace_book.specs.Scripts.{Answer}
 use Rattle.trace_book.specs.declared.record.Record.{Record}
 use Rattle.trace_book.specs.declared.descriptor.Descriptor.{Descriptor}
-use Rattle.tree_model.specs.declared.instance.Instance.{Instance}
-use Rattle.tree_model.specs.declared.instance.Waiting.{Waiting}
-use Rattle.tree_model.specs.declared.line.ScheduleLine.{ScheduleLine}
-use Rattle.tree_model.specs.Trace.{Trace, is_up, boot_of, epoch_of, has_joined, members_of, is_started, history, held, candidates, granted_to, opening_of, is_taken, stored, calls_accepted, call_named, waiting, descriptor, uses_of, close_of, last_line}
-use Rattle.tree_model.specs.Tree.{tree}
-use Rattle.tree_model.specs.Calls.{answers}
-use Rattle.tree_model.specs.Lawful.{EachComes}
-use Rattle.tree_model.specs.Room.{list_of, merges}
+use Rattle.first_model.specs.declared.instance.Instance.{Instance}
+use Rattle.first_model.specs.declared.instance.Waiting.{Waiting}
+use Rattle.first_model.specs.declared.line.ScheduleLine.{ScheduleLine}
+use Rattle.first_model.specs.Trace.{Trace, is_up, boot_of, epoch_of, has_joined, members_of, is_started, history, held, candidates, granted_to, opening_of, is_taken, stored, calls_accepted, call_named, waiting, descriptor, uses_of, close_of, last_line}
+use Rattle.first_model.specs.Tree.{tree}
+use Rattle.first_model.specs.Calls.{answers}
+use Rattle.first_model.specs.Lawful.{EachComes}
+use Rattle.first_model.specs.Room.{list_of, merges}
 use Rattle.one_site.specs.declared.files.FileState.{FileState}
 use Rattle.one_site.specs.Ids.{one_site, the_epoch, the_members, file_of, call_id, serial_of, stamp_of, entry}
 use Rattle.one_site.specs.Files.{KnowsInode, file_at}

@@ -12,14 +12,14 @@ use Rattle.trace_book.specs.declared.call.Call.TheVariants as call
 use Rattle.trace_book.specs.declared.record.Record.TheVariants.{Grant, Act, Commit, Release}
 use Rattle.trace_book.specs.declared.operation.Op.TheVariants.{Insert}
 use Rattle.trace_book.specs.declared.operation.Outcome.TheVariants.{Done}
-use Rattle.tree_model.specs.declared.instance.Instance.{Instance}
-use Rattle.tree_model.specs.declared.instance.Waiting.{Waiting}
+use Rattle.first_model.specs.declared.instance.Instance.{Instance}
+use Rattle.first_model.specs.declared.instance.Waiting.{Waiting}
 use Rattle.commit_graph.specs.Versions.{same_file}
 use Rattle.commit_graph.specs.Grants.{Opener, excludes}
 use Rattle.trace_book.specs.Same.{same_epoch}
-use Rattle.tree_model.specs.Tree.{opener_of}
+use Rattle.first_model.specs.Tree.{opener_of}
 use Rattle.locus_ids.specs.declared.ids.Mode.{Mode}
-use Rattle.dir_list.specs.Entries.{HasShortName}
+use Rattle.first_dirs.specs.Entries.{HasShortName}
 use Rattle.one_site.specs.declared.runner.Runner.{Runner}
 use Rattle.one_site.specs.Ids.{the_epoch, file_of, call_id, serial_of, stamp_no, stamp_of, entry}
 use Rattle.one_site.specs.Settle.{Settled, Stand, Between, read, wrote, closed, stand_of, nothing}

@@ -3,12 +3,12 @@ use Rattle.std.specs.Prelude.{ℕ, ◌≡◌, ◌≤◌, ◌<◌, ◌+◌, Bool,
 use Rattle.std.specs.List.{AllByRecursion}
 use Rattle.trace_book.specs.declared.record.Record.{Record}
 use Rattle.trace_book.specs.declared.record.Record.TheVariants.{Up, Stopped, Leave, Join, Budget, Start, Look, Grant, Refuse, Act, Commit, Release}
-use Rattle.tree_model.specs.declared.line.ScheduleLine.{ScheduleLine}
-use Rattle.tree_model.specs.declared.line.ScheduleLine.TheVariants.{Passed, Event}
-use Rattle.tree_model.specs.declared.line.Line.TheVariants as line
-use Rattle.tree_model.specs.Trace.{Trace, is_up, epoch_of, boot_of, before_line, members_of, waiting}
-use Rattle.tree_model.specs.Calm.{line_at, through_line, IsCalmRound}
-use Rattle.tree_model.specs.Orderly.{IsOrderly}
+use Rattle.first_model.specs.declared.line.ScheduleLine.{ScheduleLine}
+use Rattle.first_model.specs.declared.line.ScheduleLine.TheVariants.{Passed, Event}
+use Rattle.first_model.specs.declared.line.Line.TheVariants as line
+use Rattle.first_model.specs.Trace.{Trace, is_up, epoch_of, boot_of, before_line, members_of, waiting}
+use Rattle.first_model.specs.Calm.{line_at, through_line, IsCalmRound}
+use Rattle.first_model.specs.Orderly.{IsOrderly}
 use Rattle.one_site.specs.Ids.{the_epoch, the_members}
 
 -- only site 1 merges, and no site parts

@@ -17,12 +17,12 @@ use Rattle.trace_book.specs.declared.operation.Outcome.{Outcome}
 use Rattle.trace_book.specs.declared.operation.Outcome.TheVariants.{No}
 use Rattle.trace_book.specs.declared.descriptor.Beginning.{Beginning}
 use Rattle.trace_book.specs.declared.descriptor.Beginning.TheVariants.{Uses}
-use Rattle.tree_model.specs.declared.dir_entry.DirEntry.{DirEntry}
-use Rattle.tree_model.specs.declared.instance.Instance.{Instance}
-use Rattle.tree_model.specs.declared.instance.Waiting.{Waiting}
-use Rattle.tree_model.specs.Directory.{Looked, One, Nothing, Several, lookup, has_name, probe_among, with_entry, new_entry, dir_bytes, written}
-use Rattle.tree_model.specs.Pages.{changed_after}
-use Rattle.tree_model.specs.Tree.{is_named, openers}
+use Rattle.first_model.specs.declared.dir_entry.DirEntry.{DirEntry}
+use Rattle.first_model.specs.declared.instance.Instance.{Instance}
+use Rattle.first_model.specs.declared.instance.Waiting.{Waiting}
+use Rattle.first_model.specs.Directory.{Looked, One, Nothing, Several, lookup, has_name, probe_among, with_entry, new_entry, dir_bytes, written}
+use Rattle.first_model.specs.Pages.{changed_after}
+use Rattle.first_model.specs.Tree.{is_named, openers}
 use Rattle.one_site.specs.declared.files.FileState.{FileState}
 use Rattle.one_site.specs.declared.runner.Runner.{Runner}
 use Rattle.one_site.specs.Ids.{the_epoch, file_of, call_id, serial_of, stamp_of}

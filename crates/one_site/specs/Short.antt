@@ -1,6 +1,6 @@
 -- The names of a runner are short.
 use Rattle.std.specs.List.{AllByRecursion}
-use Rattle.dir_list.specs.Entries.{HasShortName}
+use Rattle.first_dirs.specs.Entries.{HasShortName}
 use Rattle.one_site.specs.declared.runner.Runner.{Runner}
 use Rattle.one_site.specs.Room.{WaitsForShortName}
 

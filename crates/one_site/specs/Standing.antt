@@ -7,21 +7,21 @@ use Rattle.trace_book.specs.declared.descriptor.Descriptor.{Descriptor}
 use Rattle.trace_book.specs.declared.descriptor.Beginning.{Beginning}
 use Rattle.trace_book.specs.declared.descriptor.Beginning.TheVariants.{Uses, Denied, Walks}
 use Rattle.trace_book.specs.declared.call.Call.{Call}
-use Rattle.tree_model.specs.declared.dir_entry.DirEntry.{DirEntry}
-use Rattle.tree_model.specs.declared.instance.Instance.{Instance}
-use Rattle.tree_model.specs.declared.instance.Waiting.{Waiting}
-use Rattle.tree_model.specs.declared.line.ScheduleLine.{ScheduleLine}
+use Rattle.first_model.specs.declared.dir_entry.DirEntry.{DirEntry}
+use Rattle.first_model.specs.declared.instance.Instance.{Instance}
+use Rattle.first_model.specs.declared.instance.Waiting.{Waiting}
+use Rattle.first_model.specs.declared.line.ScheduleLine.{ScheduleLine}
 use Rattle.trace_book.specs.declared.call.Call.TheVariants as call
 use Rattle.trace_book.specs.Descriptors.{lowest_free}
 use Rattle.trace_book.specs.Same.{same_serial}
 use Rattle.commit_graph.specs.Grants.{is_read}
-use Rattle.tree_model.specs.Lines.{config_of, no_cluster}
-use Rattle.tree_model.specs.Reading.{Reads, place_of, calls_of, IsBuiltCall}
-use Rattle.tree_model.specs.Directory.{dir_bytes}
-use Rattle.tree_model.specs.Trace.{Trace, uses_of, close_of, is_close, uses_by, last_line}
-use Rattle.tree_model.specs.Lawful.{IsLawful}
-use Rattle.tree_model.specs.Calm.{CalmRoundsAnswer}
-use Rattle.tree_model.specs.Orderly.{OrderlyBlocksForm}
+use Rattle.first_model.specs.Lines.{config_of, no_cluster}
+use Rattle.first_model.specs.Reading.{Reads, place_of, calls_of, IsBuiltCall}
+use Rattle.first_model.specs.Directory.{dir_bytes}
+use Rattle.first_model.specs.Trace.{Trace, uses_of, close_of, is_close, uses_by, last_line}
+use Rattle.first_model.specs.Lawful.{IsLawful}
+use Rattle.first_model.specs.Calm.{CalmRoundsAnswer}
+use Rattle.first_model.specs.Orderly.{OrderlyBlocksForm}
 use Rattle.locus_ids.specs.declared.config.Config.{Config}
 use Rattle.locus_ids.specs.declared.ids.CallId.{CallId}
 use Rattle.locus_ids.specs.declared.ids.Kind.TheVariants.{File}

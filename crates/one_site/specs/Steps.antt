@@ -9,7 +9,7 @@ use Rattle.trace_book.specs.declared.reply.Reply.TheVariants as reply
 use Rattle.trace_book.specs.declared.descriptor.Descriptor.{Descriptor}
 use Rattle.trace_book.specs.declared.descriptor.Beginning.{Beginning}
 use Rattle.trace_book.specs.declared.descriptor.Beginning.TheVariants.{Denied, Uses, Walks}
-use Rattle.tree_model.specs.declared.instance.Waiting.{Waiting}
+use Rattle.first_model.specs.declared.instance.Waiting.{Waiting}
 use Rattle.one_site.specs.declared.runner.Runner.{Runner}
 use Rattle.one_site.specs.Ids.{the_epoch, call_id, entry}
 

@@ -1,11 +1,11 @@
 -- What the site tells of a line, and what it becomes.
 use Rattle.std.specs.Prelude.{ℕ, ◌+◌, ◌∷◌, [], ◌==◌, cond, Option, Some, None}
 use Rattle.trace_book.specs.declared.call.Call.{Call}
-use Rattle.tree_model.specs.declared.instance.Waiting.{Waiting}
-use Rattle.tree_model.specs.declared.line.ScheduleLine.{ScheduleLine}
-use Rattle.tree_model.specs.declared.line.ScheduleLine.TheVariants.{Passed, Header, Event}
-use Rattle.tree_model.specs.declared.line.Line.{Line}
-use Rattle.tree_model.specs.declared.line.Line.TheVariants as line
+use Rattle.first_model.specs.declared.instance.Waiting.{Waiting}
+use Rattle.first_model.specs.declared.line.ScheduleLine.{ScheduleLine}
+use Rattle.first_model.specs.declared.line.ScheduleLine.TheVariants.{Passed, Header, Event}
+use Rattle.first_model.specs.declared.line.Line.{Line}
+use Rattle.first_model.specs.declared.line.Line.TheVariants as line
 use Rattle.one_site.specs.declared.runner.Runner.{Runner}
 use Rattle.one_site.specs.Records.{join_records, start_records, void_records}
 use Rattle.one_site.specs.Steps.{accept_told, accepted_runner}

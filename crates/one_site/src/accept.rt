@@ -7,9 +7,9 @@ ghost use Rattle.one_site.specs.Records.{void_records};
 use crate::Runner;
 use crate::copying::copy_call;
 use crate::epoch::{EPOCH, call_id};
+use first_model::Waiting;
 use locus_ids::{Mode, NoMemory, Refusal};
 use trace_book::{Beginning, Book, Call, Record, Reply};
-use tree_model::Waiting;
 
 impl Runner {
     /// The lowest free descriptor.

@@ -1,9 +1,9 @@
 ghost use Rattle.std.specs.Prelude.{◌≡◌, ◌≤◌, ◌<◌, ◌+◌, ◌++◌, length, OnOk, IfOk};
 ghost use Rattle.std.specs.List.{AllByRecursion};
-ghost use Rattle.tree_model.specs.Directory.{dir_bytes, with_entry, new_entry};
+ghost use Rattle.first_model.specs.Directory.{dir_bytes, with_entry, new_entry};
 ghost use Rattle.locus_ids.specs.declared.ids.Kind.TheVariants.{File};
-ghost use Rattle.dir_list.specs.Entries.{HasShortName};
-ghost use Rattle.dir_list.specs.Looking.{outcome_of};
+ghost use Rattle.first_dirs.specs.Entries.{HasShortName};
+ghost use Rattle.first_dirs.specs.Looking.{outcome_of};
 ghost use Rattle.trace_book.specs.declared.operation.Outcome.TheVariants.{Done, No};
 ghost use Rattle.one_site.specs.Settle.{created, probe_of};
 ghost use Rattle.one_site.specs.Steps.{IsIdle};
@@ -11,12 +11,12 @@ ghost use Rattle.one_site.specs.Room.{HasRoom};
 
 use crate::tell_create::{tell_done_create, tell_refused_create};
 use crate::{FileState, Runner};
-use dir_list::{encode, probe, put};
+use first_dirs::{encode, probe, put};
+use first_model::DirEntry;
 use locus_ids::sizes::MAX_BYTES;
 use locus_ids::{Bytes, Kind, NoMemory, Refusal};
 use std::alloc::Global;
 use trace_book::Book;
-use tree_model::DirEntry;
 
 impl Runner {
     /// Makes a file of this name in the root directory, or tells why it may not be made.

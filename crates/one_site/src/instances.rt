@@ -1,16 +1,16 @@
 ghost use Rattle.std.specs.Prelude.{◌≡◌, ◌≤◌, ◌<◌, ◌+◌, List, [], ◌∷◌, ◌++◌, length, take, drop, slice_get, slice_index_or, insert, OnOk, OnErr, IfSome, IfNone, false, true};
 ghost use Rattle.std.specs.Option.{option_copied};
 ghost use Rattle.std.specs.List.{AllByRecursion, remove};
-ghost use Rattle.tree_model.specs.Tree.{is_named};
+ghost use Rattle.first_model.specs.Tree.{is_named};
 ghost use Rattle.one_site.specs.Ids.{the_epoch};
 ghost use Rattle.one_site.specs.Settle.{stand_of, Nowhere, has_read};
 ghost use Rattle.one_site.specs.Room.{stand_at, instance_at, with_instance, has_content};
 
 use crate::epoch::EPOCH;
+use first_model::Instance;
 use locus_ids::{Bytes, ItemList, NoMemory, Serial};
 use std::alloc::Global;
 use std::marker::Model;
-use tree_model::Instance;
 
 /// The open instances of the site, the earliest granted first.
 #[derive(Debug, Drop)]
@@ -20,7 +20,7 @@ pub struct Instances {
 
 impl Model for Instances {
     ghost use Rattle.std.specs.Prelude.{List};
-    ghost use Rattle.tree_model.specs.declared.instance.Instance.{Instance};
+    ghost use Rattle.first_model.specs.declared.instance.Instance.{Instance};
 
     ghost Value = { List Instance };
 

@@ -1,8 +1,8 @@
 ghost use Rattle.std.specs.Prelude.{◌≡◌, ◌<◌, ◌+◌, ◌++◌, Option, Some, None, OnOk, IfOk, true, false};
 ghost use Rattle.commit_graph.specs.Grants.{excluder, Opener};
 ghost use Rattle.trace_book.specs.Scripts.{mode_of};
-ghost use Rattle.tree_model.specs.Directory.{lookup};
-ghost use Rattle.tree_model.specs.Tree.{openers};
+ghost use Rattle.first_model.specs.Directory.{lookup};
+ghost use Rattle.first_model.specs.Tree.{openers};
 ghost use Rattle.one_site.specs.Ids.{the_epoch, file_of};
 ghost use Rattle.one_site.specs.Settle.{opened, opened_file, granted, refused, lost, excluded, opened_instance};
 ghost use Rattle.one_site.specs.Steps.{IsIdle, table_of};
@@ -11,11 +11,11 @@ ghost use Rattle.one_site.specs.Room.{HasRoom, excludes_here, busy_with};
 use crate::Runner;
 use crate::epoch::{EPOCH, call_id, file_of, serial_of, stamp_of};
 use crate::tell_open::{mode_of, tell_busy_open, tell_done_open, tell_lost_open};
-use dir_list::{LookResult, lookup};
+use first_dirs::{LookResult, lookup};
+use first_model::Instance;
 use locus_ids::{Bytes, ItemList, Kind, Mode, NoMemory, Refusal};
 use std::alloc::Global;
 use trace_book::{Book, Descriptor, OpenMode};
-use tree_model::Instance;
 
 impl Runner {
     /// Opens the file of this name of the root directory, or tells why it isn't opened.

@@ -5,7 +5,7 @@ ghost use Rattle.one_site.specs.Room.{HasRoom, stand_at};
 
 use crate::Runner;
 use crate::tell_use::{tell_read, tell_write};
-use file_bytes::{pages_written, part, written};
+use first_bytes::{pages_written, part, written};
 use locus_ids::{Bytes, NoMemory, Serial};
 use std::alloc::Global;
 use trace_book::Book;

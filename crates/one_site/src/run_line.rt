@@ -1,6 +1,6 @@
 ghost use Rattle.std.specs.Prelude.{◌≡◌, ◌≤◌, ◌<◌, ◌+◌, ◌++◌, [], OnOk};
-ghost use Rattle.tree_model.specs.declared.line.ScheduleLine.TheVariants.{Event};
-ghost use Rattle.tree_model.specs.Reading.{IsBuilt};
+ghost use Rattle.first_model.specs.declared.line.ScheduleLine.TheVariants.{Event};
+ghost use Rattle.first_model.specs.Reading.{IsBuilt};
 ghost use Rattle.one_site.specs.Room.{CanSettle};
 ghost use Rattle.one_site.specs.Went.{went, happened, rounded, called};
 ghost use Rattle.one_site.specs.Short.{IsShort};
@@ -8,11 +8,11 @@ ghost use Rattle.one_site.specs.Standing.{IsSmall, HasSmallNumbers, Carries, Ref
 
 use crate::epoch::{tell_join, tell_start};
 use crate::{FileState, Files, LineFault, Runner};
-use line_text::parse;
+use first_lines::parse;
+use first_model::{Line, ScheduleLine};
 use locus_ids::{Bytes, NoMemory};
 use std::alloc::Global;
 use trace_book::{Book, Call};
-use tree_model::{Line, ScheduleLine};
 
 impl Runner {
     /// Runs one line, whose number counts from 1, and tells its records.

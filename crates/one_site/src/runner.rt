@@ -2,10 +2,10 @@ ghost use Rattle.std.specs.Prelude.{◌≡◌, []};
 ghost use Rattle.one_site.specs.Standing.{IsSmall, StandsWell};
 
 use crate::{Files, Instances};
+use first_model::{DirEntry, Waiting};
 use locus_ids::ItemList;
 use std::alloc::Global;
 use trace_book::Descriptor;
-use tree_model::{DirEntry, Waiting};
 
 /// The site: what it keeps of the schedule so far.
 #[derive(Drop)]

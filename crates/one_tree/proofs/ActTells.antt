@@ -17,15 +17,15 @@ use Rattle.trace_book.specs.declared.operation.Op.{Op}
 use Rattle.trace_book.specs.declared.operation.Op.TheVariants as op
 use Rattle.trace_book.specs.declared.operation.Outcome.{Outcome}
 use Rattle.trace_book.specs.declared.operation.Outcome.TheVariants as outcome
-use Rattle.tree_model.specs.declared.dir_entry.DirEntry.{DirEntry}
-use Rattle.tree_model.specs.declared.instance.Instance.{Instance}
-use Rattle.tree_model.specs.Directory.{Looked, One, Nothing, Several, entries_of, find_result, has_name, insert_result, is_pair, is_refusal, lookup, max_bytes, probe_among}
-use Rattle.tree_model.specs.Trace.{Trace, held_in, history, stored_in}
-use Rattle.tree_model.specs.Tree.{is_named, tree}
-use Rattle.tree_model.specs.Pages.{needed, pages_of}
-use Rattle.tree_model.specs.Room.{changed_pages, committed_outcome, free_pages, held_pages, in_room, is_spent, is_stored_at, pack_pages, pages_held, parents_of, result_on, uncommitted_outcome}
-use Rattle.tree_model.specs.OneTree.{GivesAct, GivesRelease, instance_named, is_group}
-use Rattle.dir_list.specs.Looking.{look_result}
+use Rattle.first_model.specs.declared.dir_entry.DirEntry.{DirEntry}
+use Rattle.first_model.specs.declared.instance.Instance.{Instance}
+use Rattle.first_model.specs.Directory.{Looked, One, Nothing, Several, entries_of, find_result, has_name, insert_result, is_pair, is_refusal, lookup, max_bytes, probe_among}
+use Rattle.first_model.specs.Trace.{Trace, held_in, history, stored_in}
+use Rattle.first_model.specs.Tree.{is_named, tree}
+use Rattle.first_model.specs.Pages.{needed, pages_of}
+use Rattle.first_model.specs.Room.{changed_pages, committed_outcome, free_pages, held_pages, in_room, is_spent, is_stored_at, pack_pages, pages_held, parents_of, result_on, uncommitted_outcome}
+use Rattle.first_model.specs.OneTree.{GivesAct, GivesRelease, instance_named, is_group}
+use Rattle.first_dirs.specs.Looking.{look_result}
 use Rattle.one_tree.specs.Told.{is_done, is_no_space, is_no_too_long}
 use Rattle.one_tree.specs.Seen.{content_at}
 use Rattle.one_tree.specs.Tables.{stored_by}

@@ -10,8 +10,8 @@ use Rattle.trace_book.specs.Same.{same_epoch}
 use Rattle.trace_book.specs.Descriptors.{is_in}
 use Rattle.trace_book.specs.declared.record.Record.{Record}
 use Rattle.trace_book.specs.declared.record.Record.TheVariants.{Up, Stopped, Leave, Join, Start, Commit, Release, Adopt}
-use Rattle.tree_model.specs.Trace.{Trace, members_of, is_started, epoch_of, held_in, candidates, granted_to, call_named, history, has_pack, format_stamp, stored, stored_in, with_held, with_number, accepted_as}
-use Rattle.tree_model.specs.Trace as trace
+use Rattle.first_model.specs.Trace.{Trace, members_of, is_started, epoch_of, held_in, candidates, granted_to, call_named, history, has_pack, format_stamp, stored, stored_in, with_held, with_number, accepted_as}
+use Rattle.first_model.specs.Trace as trace
 use Rattle.one_tree.specs.Rows.{put_first}
 use Rattle.one_tree.specs.Tables.{is_copy_of, is_inside, is_row_of, is_stay_of, is_stored, has_stayed, left, formatted, now_of, numbers_of, seen_of, seen_from_now, stamps_of, stored_by, with_brought}
 use Rattle.one_tree.specs.Steps.{copies_left, copies_with, here, known_left, members_left, new_copy, started_left, stays_left, with_published}

@@ -7,8 +7,8 @@ use Rattle.commit_graph.specs.declared.history.Version.{Version}
 use Rattle.trace_book.specs.Same.{same_epoch}
 use Rattle.trace_book.specs.declared.record.Record.{Record}
 use Rattle.trace_book.specs.declared.record.Record.TheVariants.{Start, Look, Grant, Refuse, Act, Release}
-use Rattle.tree_model.specs.Trace.{Trace, history}
-use Rattle.tree_model.specs.OneTree.{Gives, GivesAct, GivesGrant, GivesLook, GivesRefusal, GivesRelease, GivesStart, concerns, is_group}
+use Rattle.first_model.specs.Trace.{Trace, history}
+use Rattle.first_model.specs.OneTree.{Gives, GivesAct, GivesGrant, GivesLook, GivesRefusal, GivesRelease, GivesStart, concerns, is_group}
 use Rattle.one_tree.specs.Checks.{gives_act, gives_grant, gives_look, gives_refusal, gives_release, gives_start}
 use Rattle.one_tree.specs.Steps.{answer, answer_by, gives, is_own, next}
 use Rattle.one_tree.specs.Standing.{IsSameTree, Leads, Says, Stands, own_file}

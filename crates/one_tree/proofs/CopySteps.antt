@@ -9,7 +9,7 @@ use Rattle.locus_ids.specs.declared.ids.FileId.{FileId}
 use Rattle.locus_ids.specs.declared.ids.Stamp.{Stamp}
 use Rattle.commit_graph.specs.Versions.{same_file}
 use Rattle.trace_book.specs.Descriptors.{is_in}
-use Rattle.tree_model.specs.Trace.{Trace, epoch_of, held, held_in}
+use Rattle.first_model.specs.Trace.{Trace, epoch_of, held, held_in}
 use Rattle.one_tree.specs.Rows.{put_first}
 use Rattle.one_tree.specs.Tables.{is_copy_of, now_of, seen_of, seen_from_now}
 use Rattle.one_tree.specs.Steps.{copies_with, new_copy}

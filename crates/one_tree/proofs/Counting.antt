@@ -2,8 +2,8 @@
 use Rattle.std.proofs.Common.{◌≡◌, ℕ, zero, suc, ◌+◌, ◌-◌, ◌<◌, ◌||◌, ◌&&◌, not, Bool, true, false, Option, Some, refl, sym, ap, ◌∙◌, arith}
 use Rattle.locus_ids.specs.Sites.{has}
 use Rattle.locus_ids.specs.declared.sites.Sites.{Sites}
-use Rattle.tree_model.specs.Trace.{least_from}
-use Rattle.tree_model.specs.OneTree.{is_within}
+use Rattle.first_model.specs.Trace.{least_from}
+use Rattle.first_model.specs.OneTree.{is_within}
 
 unfold_at : (p : ℕ → Bool) (site n : ℕ) → site < n → least_from p site (n - site) ≡ least_from p site (suc (n - (site + 1)))
 unfold_at p site n h = let e : n - site ≡ suc (n - (site + 1)) = omega arith in ap (least_from p site) e

@@ -3,7 +3,7 @@ use Rattle.std.proofs.Common.{◌≡◌, Bool, true, false, ◌||◌, cond, List
 use Rattle.std.specs.Prelude.{filter}
 use Rattle.std.specs.List.{find, list_any}
 use Rattle.std.proofs.lemmas.Bool.{cases_Bool}
-use Rattle.tree_model.specs.Trace.{or_else}
+use Rattle.first_model.specs.Trace.{or_else}
 use Rattle.one_tree.specs.Rows.{put_first, change_first, latest, if_passes}
 
 -- a row that was put is found

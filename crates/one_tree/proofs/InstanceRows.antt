@@ -2,8 +2,8 @@
 use Rattle.std.proofs.Common.{◌≡◌, ℕ, Bool, true, false, cond, List, [], ◌∷◌, get_or, set, Option, None, Some, refl, sym, ap, ◌∙◌, ⊎_elim}
 use Rattle.std.specs.List.{position_from, find}
 use Rattle.std.proofs.lemmas.Bool.{cases_Bool}
-use Rattle.tree_model.specs.declared.instance.Instance.{Instance}
-use Rattle.tree_model.specs.Tree.{where_it, without_it}
+use Rattle.first_model.specs.declared.instance.Instance.{Instance}
+use Rattle.first_model.specs.Tree.{where_it, without_it}
 use Rattle.one_tree.specs.Rows.{change_first, without_first}
 use Rattle.one_tree.proofs.RowLists.{change_first-at, change_first-nowhere}
 

@@ -13,11 +13,11 @@ use Rattle.trace_book.specs.Same.{same_epoch, same_serial}
 use Rattle.trace_book.specs.declared.operation.Op.{Op}
 use Rattle.trace_book.specs.declared.operation.Op.TheVariants as op
 use Rattle.trace_book.specs.declared.operation.Outcome.{Outcome}
-use Rattle.tree_model.specs.declared.instance.Instance.{Instance}
-use Rattle.tree_model.specs.Directory.{is_refusal}
-use Rattle.tree_model.specs.Trace.{Trace, history}
-use Rattle.tree_model.specs.Tree.{acted, carried_out, committed, is_named, openers, opener_of, stamped_content, tree, where_it, without_it}
-use Rattle.tree_model.specs.OneTree.{first_of, instance_named}
+use Rattle.first_model.specs.declared.instance.Instance.{Instance}
+use Rattle.first_model.specs.Directory.{is_refusal}
+use Rattle.first_model.specs.Trace.{Trace, history}
+use Rattle.first_model.specs.Tree.{acted, carried_out, committed, is_named, openers, opener_of, stamped_content, tree, where_it, without_it}
+use Rattle.first_model.specs.OneTree.{first_of, instance_named}
 use Rattle.one_tree.specs.Seen.{changed_left, content_at, content_left, counted, owes_left, worked}
 use Rattle.one_tree.specs.Steps.{acted_by}
 use Rattle.one_tree.specs.Standing.{Stands, is_of_epoch}

@@ -6,7 +6,7 @@ use Rattle.std.proofs.lemmas.Bool.{false≢true}
 use Rattle.locus_ids.specs.declared.ids.Brought.{Brought}
 use Rattle.locus_ids.specs.declared.ids.Stamp.{Stamp}
 use Rattle.commit_graph.specs.Versions.{same_stamp, is_stamp_below, with_stamp}
-use Rattle.tree_model.specs.Trace.{format_stamp, with_held}
+use Rattle.first_model.specs.Trace.{format_stamp, with_held}
 use Rattle.one_tree.specs.Tables.{is_copy_of, now_of, stamps_of, with_brought, with_copies, with_known, with_root}
 use Rattle.one_tree.specs.Steps.{with_published}
 use Rattle.one_tree.specs.Standing.{IsSingle}

@@ -18,12 +18,12 @@ use Rattle.trace_book.specs.declared.operation.What.{What}
 use Rattle.trace_book.specs.declared.operation.What.TheVariants as what
 use Rattle.trace_book.specs.declared.operation.Served.{Served}
 use Rattle.trace_book.specs.declared.operation.Served.TheVariants as served
-use Rattle.tree_model.specs.declared.instance.Waiting.{Waiting}
-use Rattle.tree_model.specs.Trace.{Trace, is_started, held_in, kept_in, call_named, history, members_of, sync_site, sync_site_among, or_else}
-use Rattle.tree_model.specs.Tree.{tree, openers, is_none}
-use Rattle.tree_model.specs.OneTree.{GivesGrant, GivesLook, GivesRefusal, IsNewFile, IsOfSite, IsUnnumbered, MayLackNumber, Placed, Refuses, is_given_by, is_good_list, is_kept, is_kept_stamp, is_make, is_site, making_set, making_site, makes, makes_at, numbers_used, of_call, open_refusal, place_refusal, resolving_site, root_numbers, served_by, site_named, sites_named, wanted_packs}
-use Rattle.tree_model.specs.OneTree as one
-use Rattle.tree_model.specs.Room.{list_of}
+use Rattle.first_model.specs.declared.instance.Waiting.{Waiting}
+use Rattle.first_model.specs.Trace.{Trace, is_started, held_in, kept_in, call_named, history, members_of, sync_site, sync_site_among, or_else}
+use Rattle.first_model.specs.Tree.{tree, openers, is_none}
+use Rattle.first_model.specs.OneTree.{GivesGrant, GivesLook, GivesRefusal, IsNewFile, IsOfSite, IsUnnumbered, MayLackNumber, Placed, Refuses, is_given_by, is_good_list, is_kept, is_kept_stamp, is_make, is_site, making_set, making_site, makes, makes_at, numbers_used, of_call, open_refusal, place_refusal, resolving_site, root_numbers, served_by, site_named, sites_named, wanted_packs}
+use Rattle.first_model.specs.OneTree as one
+use Rattle.first_model.specs.Room.{list_of}
 use Rattle.one_tree.specs.Rows.{told_by}
 use Rattle.one_tree.specs.Seen.{seen_call}
 use Rattle.one_tree.specs.Told.{refusal_of, is_at, is_unserved_storage}

@@ -4,9 +4,9 @@ use Rattle.std.specs.List.{find, list_all}
 use Rattle.std.proofs.lemmas.Bool.{cases_Bool, false≢true}
 use Rattle.locus_ids.specs.declared.ids.FileId.{FileId}
 use Rattle.trace_book.specs.Same.{same_serial}
-use Rattle.tree_model.specs.declared.instance.Instance.{Instance}
-use Rattle.tree_model.specs.Tree.{where_it, without_it}
-use Rattle.tree_model.specs.OneTree.{is_group}
+use Rattle.first_model.specs.declared.instance.Instance.{Instance}
+use Rattle.first_model.specs.Tree.{where_it, without_it}
+use Rattle.first_model.specs.OneTree.{is_group}
 use Rattle.one_tree.specs.Rows.{latest}
 use Rattle.one_tree.specs.Seen.{is_grant_row}
 use Rattle.one_tree.specs.Steps.{group_by}

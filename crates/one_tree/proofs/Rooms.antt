@@ -6,8 +6,8 @@ use Rattle.locus_ids.specs.declared.ids.EpochId.{EpochId}
 use Rattle.commit_graph.specs.declared.history.Version.{Version}
 use Rattle.trace_book.specs.declared.operation.Op.{Op}
 use Rattle.trace_book.specs.declared.operation.Op.TheVariants as op
-use Rattle.tree_model.specs.declared.instance.Instance.{Instance}
-use Rattle.tree_model.specs.Room.{changed_pages, is_stored_at}
+use Rattle.first_model.specs.declared.instance.Instance.{Instance}
+use Rattle.first_model.specs.Room.{changed_pages, is_stored_at}
 use Rattle.one_tree.specs.Seen.{changed_by, changed_left, content_left}
 use Rattle.one_tree.specs.Tables.{numbers_of, is_stored_row, stored_by}
 use Rattle.one_tree.specs.declared.copies.HeldCopy.{HeldCopy}

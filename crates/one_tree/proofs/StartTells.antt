@@ -6,8 +6,8 @@ use Rattle.std.proofs.lemmas.Bool.{false≢true, ltb-true, lt-ltb}
 use Rattle.locus_ids.specs.declared.ids.Brought.{Brought}
 use Rattle.locus_ids.specs.declared.ids.Stamp.{Stamp}
 use Rattle.commit_graph.specs.Versions.{is_stamp_below, same_stamp}
-use Rattle.tree_model.specs.Trace.{Trace}
-use Rattle.tree_model.specs.OneTree.{AreAscending, GivesStart, is_copy_below}
+use Rattle.first_model.specs.Trace.{Trace}
+use Rattle.first_model.specs.OneTree.{AreAscending, GivesStart, is_copy_below}
 use Rattle.one_tree.specs.Tables.{stamps_of}
 use Rattle.one_tree.specs.Checks.{gives_start, has_copies, has_copy, is_ascending, is_ascending_from, same_copy}
 use Rattle.one_tree.specs.Standing.{Stands}

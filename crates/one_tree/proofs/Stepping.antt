@@ -2,7 +2,7 @@
 use Rattle.std.proofs.Common.{◌≡◌, ℕ, true, List}
 use Rattle.commit_graph.specs.declared.history.Version.{Version}
 use Rattle.trace_book.specs.declared.record.Record.{Record}
-use Rattle.tree_model.specs.Trace.{Trace, history}
+use Rattle.first_model.specs.Trace.{Trace, history}
 use Rattle.one_tree.specs.Steps.{after, gives, is_own}
 use Rattle.one_tree.specs.Standing.{Stands}
 use Rattle.one_tree.specs.declared.tree.OneTree.{OneTree}

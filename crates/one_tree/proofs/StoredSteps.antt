@@ -7,7 +7,7 @@ use Rattle.locus_ids.specs.declared.ids.EpochId.{EpochId}
 use Rattle.locus_ids.specs.declared.ids.FileId.{FileId}
 use Rattle.locus_ids.specs.declared.ids.Stamp.{Stamp}
 use Rattle.trace_book.specs.Descriptors.{is_in}
-use Rattle.tree_model.specs.Trace.{Trace, epoch_of, stored, stored_in, with_number}
+use Rattle.first_model.specs.Trace.{Trace, epoch_of, stored, stored_in, with_number}
 use Rattle.one_tree.specs.Rows.{put_first}
 use Rattle.one_tree.specs.Tables.{is_copy_of, is_row_of, is_stored, is_stored_row, numbers_of, seen_from_now, stored_by}
 use Rattle.one_tree.specs.Steps.{copies_with, new_copy}

@@ -14,8 +14,8 @@ use Rattle.trace_book.specs.declared.operation.Served.{Served}
 use Rattle.trace_book.specs.declared.operation.Served.TheVariants as served
 use Rattle.trace_book.specs.declared.operation.Outcome.{Outcome}
 use Rattle.trace_book.specs.declared.operation.Outcome.TheVariants as outcome
-use Rattle.tree_model.specs.Tree.{is_none}
-use Rattle.tree_model.specs.Room.{list_of}
+use Rattle.first_model.specs.Tree.{is_none}
+use Rattle.first_model.specs.Room.{list_of}
 use Rattle.one_tree.specs.Rows.{told_by}
 use Rattle.one_tree.specs.Told.{is_at, is_committed, is_data, is_done, is_found, is_no_absent, is_no_ambiguous, is_no_exists, is_no_inode, is_no_space, is_no_too_long, is_told, is_unserved_conflict, is_unserved_storage, refusal_of, same_kind}
 use Rattle.one_tree.specs.Checks.{is_list_of, is_refused, is_this, same_option}

@@ -15,13 +15,13 @@ use Rattle.trace_book.specs.Same.{same_epoch, same_serial, same_call}
 use Rattle.trace_book.specs.Descriptors.{is_in}
 use Rattle.trace_book.specs.declared.record.Record.{Record}
 use Rattle.trace_book.specs.declared.record.Record.TheVariants.{Accept, Grant, Refuse, Act, Commit, Release}
-use Rattle.tree_model.specs.declared.instance.Instance.{Instance}
-use Rattle.tree_model.specs.declared.instance.Waiting.{Waiting}
-use Rattle.tree_model.specs.Trace.{Trace, epoch_of, granted_to, call_named, history}
-use Rattle.tree_model.specs.Trace as trace
-use Rattle.tree_model.specs.Tree.{tree, opened, acted, committed, is_named, is_none, is_writer, process_of, stamped_content, where_it, without_it}
-use Rattle.tree_model.specs.Directory.{is_refusal}
-use Rattle.tree_model.specs.OneTree.{granted_group, instance_named, is_group, is_make, is_passed_probe, maker_of, makes, with_make, without_make}
+use Rattle.first_model.specs.declared.instance.Instance.{Instance}
+use Rattle.first_model.specs.declared.instance.Waiting.{Waiting}
+use Rattle.first_model.specs.Trace.{Trace, epoch_of, granted_to, call_named, history}
+use Rattle.first_model.specs.Trace as trace
+use Rattle.first_model.specs.Tree.{tree, opened, acted, committed, is_named, is_none, is_writer, process_of, stamped_content, where_it, without_it}
+use Rattle.first_model.specs.Directory.{is_refusal}
+use Rattle.first_model.specs.OneTree.{granted_group, instance_named, is_group, is_make, is_passed_probe, maker_of, makes, with_make, without_make}
 use Rattle.one_tree.specs.Rows.{latest, told_by}
 use Rattle.one_tree.specs.Tables.{is_inside}
 use Rattle.one_tree.specs.Seen.{changed_left, content_at, content_left, counted, is_call_row, is_grant_row, owes_left, seen_call, worked}

@@ -21,17 +21,17 @@ use Rattle.trace_book.specs.declared.operation.What.{What}
 use Rattle.trace_book.specs.declared.operation.What.TheVariants as what
 use Rattle.trace_book.specs.declared.operation.Served.{Served}
 use Rattle.trace_book.specs.declared.operation.Outcome.{Outcome}
-use Rattle.tree_model.specs.declared.instance.Instance.{Instance}
-use Rattle.tree_model.specs.declared.dir_entry.DirEntry.{DirEntry}
-use Rattle.tree_model.specs.Directory.{has_name, entries_of, lookup, is_pair, max_bytes}
-use Rattle.tree_model.specs.Trace.{sync_site_among, least_from, or_else}
-use Rattle.tree_model.specs.Tree.{openers, is_named, is_none}
-use Rattle.tree_model.specs.Pages.{needed, pages_of}
-use Rattle.tree_model.specs.Room.{changed_pages, pack_pages}
-use Rattle.tree_model.specs.OneTree.{is_copy_below, is_kept, is_kept_stamp, is_good_list, wanted_packs, first_that, is_place, is_make, is_site, is_given_by, root_numbers}
-use Rattle.dir_list.specs.Looking.{look_result}
-use Rattle.dir_list.specs.declared.look.LookResult.{LookResult}
-use Rattle.dir_list.specs.declared.look.LookResult.TheVariants.{Found, Absent, Ambiguous}
+use Rattle.first_model.specs.declared.instance.Instance.{Instance}
+use Rattle.first_model.specs.declared.dir_entry.DirEntry.{DirEntry}
+use Rattle.first_model.specs.Directory.{has_name, entries_of, lookup, is_pair, max_bytes}
+use Rattle.first_model.specs.Trace.{sync_site_among, least_from, or_else}
+use Rattle.first_model.specs.Tree.{openers, is_named, is_none}
+use Rattle.first_model.specs.Pages.{needed, pages_of}
+use Rattle.first_model.specs.Room.{changed_pages, pack_pages}
+use Rattle.first_model.specs.OneTree.{is_copy_below, is_kept, is_kept_stamp, is_good_list, wanted_packs, first_that, is_place, is_make, is_site, is_given_by, root_numbers}
+use Rattle.first_dirs.specs.Looking.{look_result}
+use Rattle.first_dirs.specs.declared.look.LookResult.{LookResult}
+use Rattle.first_dirs.specs.declared.look.LookResult.TheVariants.{Found, Absent, Ambiguous}
 use Rattle.one_tree.specs.Rows.{latest}
 use Rattle.one_tree.specs.Tables.{is_copy_of, has_stayed, formatted, seen_of, stamps_of, stored_by}
 use Rattle.one_tree.specs.Seen.{content_at, is_call_row, is_grant_row}

@@ -1,6 +1,6 @@
 -- Tables as lists of rows: the first row of a name counts, and where rows are only added the last one does.
 use Rattle.std.specs.Prelude.{Bool, cond, List, [], ◌∷◌, Option, None, Some}
-use Rattle.tree_model.specs.Trace.{or_else}
+use Rattle.first_model.specs.Trace.{or_else}
 
 -- the first row that passes is this one, or a new one after the others is
 abbrev pub put_first : {X : Type 0} → (X → Bool) → X → List X → List X

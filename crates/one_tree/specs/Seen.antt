@@ -9,12 +9,12 @@ use Rattle.commit_graph.specs.Versions.{content_of}
 use Rattle.trace_book.specs.Same.{same_call, same_serial}
 use Rattle.trace_book.specs.declared.operation.Op.{Op}
 use Rattle.trace_book.specs.declared.operation.Op.TheVariants as op
-use Rattle.tree_model.specs.declared.instance.Instance.{Instance}
-use Rattle.tree_model.specs.declared.instance.Waiting.{Waiting}
-use Rattle.tree_model.specs.Directory.{content_after, changes}
-use Rattle.tree_model.specs.Pages.{changed_after, pages_between, pages_replaced, with_pages}
-use Rattle.tree_model.specs.Tree.{begins_owing, is_none}
-use Rattle.tree_model.specs.OneTree.{site_named, sites_named}
+use Rattle.first_model.specs.declared.instance.Instance.{Instance}
+use Rattle.first_model.specs.declared.instance.Waiting.{Waiting}
+use Rattle.first_model.specs.Directory.{content_after, changes}
+use Rattle.first_model.specs.Pages.{changed_after, pages_between, pages_replaced, with_pages}
+use Rattle.first_model.specs.Tree.{begins_owing, is_none}
+use Rattle.first_model.specs.OneTree.{site_named, sites_named}
 use Rattle.one_tree.specs.declared.calls.Accepted.{Accepted}
 use Rattle.one_tree.specs.declared.calls.Granted.{Granted}
 

@@ -8,11 +8,11 @@ use Rattle.locus_ids.specs.declared.ids.EpochId.{EpochId}
 use Rattle.trace_book.specs.Same.{same_epoch}
 use Rattle.trace_book.specs.Descriptors.{is_in}
 use Rattle.trace_book.specs.declared.record.Record.{Record}
-use Rattle.tree_model.specs.declared.instance.Instance.{Instance}
-use Rattle.tree_model.specs.Trace.{Trace, members_of, is_started, epoch_of, held, held_in, stored, stored_in, candidates, granted_to, call_named}
-use Rattle.tree_model.specs.Trace as trace
-use Rattle.tree_model.specs.Tree.{tree}
-use Rattle.tree_model.specs.OneTree.{concerns, Gives, granted_group, makes}
+use Rattle.first_model.specs.declared.instance.Instance.{Instance}
+use Rattle.first_model.specs.Trace.{Trace, members_of, is_started, epoch_of, held, held_in, stored, stored_in, candidates, granted_to, call_named}
+use Rattle.first_model.specs.Trace as trace
+use Rattle.first_model.specs.Tree.{tree}
+use Rattle.first_model.specs.OneTree.{concerns, Gives, granted_group, makes}
 use Rattle.one_tree.specs.Rows.{latest, told_by}
 use Rattle.one_tree.specs.Tables.{is_copy_of, is_inside, is_row_of, has_stayed, formatted, now_of, numbers_of, seen_of, stamps_of, stored_by}
 use Rattle.one_tree.specs.Seen.{is_grant_row, seen_call}

@@ -15,11 +15,11 @@ use Rattle.trace_book.specs.declared.record.Record.TheVariants.{Up, Stopped, Lea
 use Rattle.trace_book.specs.declared.call.Call.{Call}
 use Rattle.trace_book.specs.declared.operation.Op.{Op}
 use Rattle.trace_book.specs.declared.operation.Outcome.{Outcome}
-use Rattle.tree_model.specs.declared.instance.Instance.{Instance}
-use Rattle.tree_model.specs.Directory.{is_refusal}
-use Rattle.tree_model.specs.Trace.{has_pack}
-use Rattle.tree_model.specs.Tree.{begins_owing, committed, is_named, is_writer, where_it, without_it}
-use Rattle.tree_model.specs.OneTree.{is_group, is_make, is_passed_probe, maker_of, site_named, sites_named, with_make, without_make}
+use Rattle.first_model.specs.declared.instance.Instance.{Instance}
+use Rattle.first_model.specs.Directory.{is_refusal}
+use Rattle.first_model.specs.Trace.{has_pack}
+use Rattle.first_model.specs.Tree.{begins_owing, committed, is_named, is_writer, where_it, without_it}
+use Rattle.first_model.specs.OneTree.{is_group, is_make, is_passed_probe, maker_of, site_named, sites_named, with_make, without_make}
 use Rattle.one_tree.specs.Rows.{put_first, told_by}
 use Rattle.one_tree.specs.Tables.{is_copy_of, is_inside, is_stay_of, is_stored, left, seen_from_now, with_brought, with_known}
 use Rattle.one_tree.specs.Seen.{changed_left, content_at, content_left, counted, owes_left, worked}

@@ -4,7 +4,7 @@ use Rattle.locus_ids.specs.declared.config.Config.{Config}
 use Rattle.locus_ids.specs.declared.ids.Stamp.{Stamp}
 use Rattle.locus_ids.specs.declared.ids.Brought.{Brought}
 use Rattle.commit_graph.specs.Versions.{same_stamp, is_stamp_below}
-use Rattle.tree_model.specs.Trace.{has_pack, format_stamp}
+use Rattle.first_model.specs.Trace.{has_pack, format_stamp}
 use Rattle.one_tree.specs.declared.members.Stay.{Stay}
 use Rattle.one_tree.specs.declared.copies.HeldCopy.{HeldCopy}
 use Rattle.one_tree.specs.Rows.{change_first}

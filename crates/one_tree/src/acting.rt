@@ -1,7 +1,7 @@
 ghost use Rattle.std.specs.Prelude.{◌≡◌, ◌==◌, ◌+◌, reverse, cond, length, take, nat_le, Some, IfOk, OnOk, OnErr};
 ghost use Rattle.commit_graph.specs.Versions.{content_of, is_version};
-ghost use Rattle.tree_model.specs.Directory.{dir_bytes, entries_of, new_entry, with_entry};
-ghost use Rattle.tree_model.specs.Tree.{begins_owing, is_named, where_it};
+ghost use Rattle.first_model.specs.Directory.{dir_bytes, entries_of, new_entry, with_entry};
+ghost use Rattle.first_model.specs.Tree.{begins_owing, is_named, where_it};
 ghost use Rattle.one_tree.specs.Checks.{gives_act, is_act_on};
 ghost use Rattle.one_tree.specs.Seen.{changed_by, content_at, content_left, owes_left};
 ghost use Rattle.one_tree.specs.Steps.{acted_by};
@@ -10,12 +10,12 @@ use crate::OneTree;
 use crate::instances::Instances;
 use crate::told::is_refusal;
 use commit_graph::{History, Version};
-use dir_list::{decode, encode, put};
-use file_bytes::{pages_left, pages_put, pages_written, written};
+use first_bytes::{pages_left, pages_put, pages_written, written};
+use first_dirs::{decode, encode, put};
+use first_model::{DirEntry, Instance};
 use locus_ids::{Bytes, EpochId, FileId, ItemList, Kind, Mode, NoMemory, Serial, Stamp};
 use std::alloc::Global;
 use trace_book::{Op, Outcome};
-use tree_model::{DirEntry, Instance};
 
 impl OneTree {
     /// The tree gives this operation, of the instance that the epoch knows by this name.

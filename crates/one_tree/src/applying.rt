@@ -5,7 +5,7 @@ ghost use Rattle.one_tree.specs.Checks.{gives_act, gives_grant, gives_look, give
 ghost use Rattle.one_tree.specs.Steps.{answer, answer_by, group_by, next};
 ghost use Rattle.one_tree.specs.Tables.{left};
 ghost use Rattle.one_tree.specs.declared.applied.Applied.TheVariants.{Follows, Differs, Other};
-ghost use Rattle.tree_model.specs.OneTree.{is_group};
+ghost use Rattle.first_model.specs.OneTree.{is_group};
 
 use crate::calls::latest_grant;
 use crate::{Applied, OneTree};

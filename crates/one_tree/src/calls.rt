@@ -4,7 +4,7 @@ ghost use Rattle.one_tree.specs.Seen.{is_call_row, is_grant_row, seen_call};
 ghost use Rattle.commit_graph.specs.Versions.{same_file};
 ghost use Rattle.std.specs.List.{list_any};
 ghost use Rattle.trace_book.specs.Same.{same_call, same_serial};
-ghost use Rattle.tree_model.specs.OneTree.{site_named, sites_named};
+ghost use Rattle.first_model.specs.OneTree.{site_named, sites_named};
 
 use locus_ids::{CallId, FileId, Serial, Sites};
 use trace_book::{Call, OpenMode};

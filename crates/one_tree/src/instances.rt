@@ -1,14 +1,14 @@
 ghost use Rattle.std.specs.Prelude.{◌≡◌, ◌<◌, List, [], ◌∷◌, ◌++◌, length, Some, IfSome, OnOk, OnErr, find};
 ghost use Rattle.std.specs.List.{position_from};
 ghost use Rattle.std.specs.Option.{option_copied};
-ghost use Rattle.tree_model.specs.Tree.{committed, is_named, is_writer, where_it, without_it};
+ghost use Rattle.first_model.specs.Tree.{committed, is_named, is_writer, where_it, without_it};
 ghost use Rattle.commit_graph.specs.Grants.{is_read};
 ghost use Rattle.one_tree.specs.Seen.{worked, counted};
 
+use first_model::Instance;
 use locus_ids::{Bytes, EpochId, FileId, ItemList, Mode, NoMemory, Serial, Stamp};
 use std::alloc::Global;
 use std::marker::Model;
-use tree_model::Instance;
 
 /// The open instances of an epoch, the earliest granted first.
 #[derive(Debug, Drop)]
@@ -18,7 +18,7 @@ pub struct Instances {
 
 impl Model for Instances {
     ghost use Rattle.std.specs.Prelude.{List};
-    ghost use Rattle.tree_model.specs.declared.instance.Instance.{Instance};
+    ghost use Rattle.first_model.specs.declared.instance.Instance.{Instance};
 
     ghost Value = { List Instance };
 

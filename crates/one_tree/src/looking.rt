@@ -1,5 +1,5 @@
 ghost use Rattle.std.specs.Prelude.{◌≡◌, cond, IfOk};
-ghost use Rattle.tree_model.specs.OneTree.{is_kept};
+ghost use Rattle.first_model.specs.OneTree.{is_kept};
 ghost use Rattle.one_tree.specs.Checks.{gives_look, is_served, is_served_only, kept_now};
 ghost use Rattle.one_tree.specs.Told.{is_at, is_unserved_storage};
 

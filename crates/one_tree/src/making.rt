@@ -1,15 +1,15 @@
 ghost use Rattle.std.specs.Prelude.{◌≡◌, IfOk, IfSome, IfNone, Some, find};
-ghost use Rattle.tree_model.specs.OneTree.{is_make, is_passed_probe, maker_of, with_make, without_make};
-ghost use Rattle.tree_model.specs.Tree.{is_named};
+ghost use Rattle.first_model.specs.OneTree.{is_make, is_passed_probe, maker_of, with_make, without_make};
+ghost use Rattle.first_model.specs.Tree.{is_named};
 ghost use Rattle.one_tree.specs.Steps.{makes_acted};
 
 use crate::OneTree;
 use crate::calls::latest_grant;
 use crate::told::is_done;
+use first_model::Instance;
 use locus_ids::{CallId, EpochId, ItemList, Mode, NoMemory, Serial};
 use std::alloc::Global;
 use trace_book::{Op, Outcome};
-use tree_model::Instance;
 
 impl OneTree {
     /// The makes underway after an operation of the epoch, or `None` where they are as before.

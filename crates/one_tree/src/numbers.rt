@@ -1,5 +1,5 @@
 ghost use Rattle.std.specs.Prelude.{◌≡◌, ◌≤◌, ◌+◌, length, filter, nat_le, IfOk};
-ghost use Rattle.tree_model.specs.OneTree.{is_given_by, is_site, root_numbers};
+ghost use Rattle.first_model.specs.OneTree.{is_given_by, is_site, root_numbers};
 ghost use Rattle.one_tree.specs.Checks.{lacks_numbers, making_place, numbers_taken, makes_wanting};
 ghost use Rattle.one_tree.specs.Tables.{stored_by};
 

@@ -2,8 +2,8 @@ ghost use Rattle.std.specs.Prelude.{◌≡◌, ◌&&◌, not, cond, IfOk, None};
 ghost use Rattle.commit_graph.specs.Grants.{excluder, is_read};
 ghost use Rattle.commit_graph.specs.Versions.{same_file};
 ghost use Rattle.trace_book.specs.Same.{same_epoch};
-ghost use Rattle.tree_model.specs.Tree.{openers};
-ghost use Rattle.tree_model.specs.OneTree.{is_make, wanted_packs};
+ghost use Rattle.first_model.specs.Tree.{openers};
+ghost use Rattle.first_model.specs.OneTree.{is_make, wanted_packs};
 ghost use Rattle.one_tree.specs.Checks.{busy_by, call_row, gives_grant, gives_refusal, holds_kept, is_list_of, is_new, is_placed, is_refused, is_this, is_unnumbered, kept_denial, kept_now, lacks_numbers, making_place, open_denial, place_denial, resolving_by, same_option, seen_now, sites_by, unless};
 ghost use Rattle.one_tree.specs.Tables.{formatted, has_stayed};
 
@@ -14,9 +14,9 @@ use crate::making::is_make;
 use crate::placing::{has_pack, is_good_list, is_of_site, making_site, sync_site, wanted_packs};
 use crate::told::{Denial, is_no_inode, is_told};
 use commit_graph::History;
+use first_model::Instance;
 use locus_ids::{CallId, EpochId, FileId, Mode, NoMemory, Refusal, Serial, Sites, Stamp};
 use std::alloc::Global;
-use tree_model::Instance;
 
 impl OneTree {
     /// The tree gives this grant.

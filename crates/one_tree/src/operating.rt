@@ -1,10 +1,10 @@
 ghost use Rattle.std.specs.Prelude.{◌≡◌, ◌+◌, ◌&&◌, not, cond, length, filter, nat_lt, nat_le, IfOk};
 ghost use Rattle.std.specs.List.{list_any};
-ghost use Rattle.tree_model.specs.Directory.{entries_of, has_name, is_pair, lookup, max_bytes};
-ghost use Rattle.tree_model.specs.Pages.{needed};
+ghost use Rattle.first_model.specs.Directory.{entries_of, has_name, is_pair, lookup, max_bytes};
+ghost use Rattle.first_model.specs.Pages.{needed};
 ghost use Rattle.one_tree.specs.Checks.{first_ino, free_now, is_committed_by, is_given, is_inserted, is_looked, is_probed};
 ghost use Rattle.one_tree.specs.Told.{is_done, is_no_too_long};
-ghost use Rattle.dir_list.specs.Looking.{look_result};
+ghost use Rattle.first_dirs.specs.Looking.{look_result};
 ghost use Rattle.trace_book.specs.declared.operation.Op.TheVariants.{Insert, Write};
 
 use crate::OneTree;
@@ -14,12 +14,12 @@ use crate::told::{
     is_no_too_long,
 };
 use commit_graph::History;
-use dir_list::{LookResult, decode, lookup};
-use file_bytes::{needed_to_put, needed_to_write, part_of};
+use first_bytes::{needed_to_put, needed_to_write, part_of};
+use first_dirs::{LookResult, decode, lookup};
+use first_model::{DirEntry, Instance};
 use locus_ids::{Bytes, Kind, NoMemory, Stamp};
 use std::alloc::Global;
 use trace_book::{Op, Outcome};
-use tree_model::{DirEntry, Instance};
 
 impl OneTree {
     /// The operation on the instance gives this outcome.

@@ -1,7 +1,7 @@
 ghost use Rattle.std.specs.Prelude.{◌≡◌, ◌||◌, not};
 ghost use Rattle.locus_ids.specs.Sites.{has};
-ghost use Rattle.tree_model.specs.Trace.{has_pack, is_member, least_from, packs_of, sync_site_among};
-ghost use Rattle.tree_model.specs.OneTree.{is_good_list, is_place, is_within, wanted_packs};
+ghost use Rattle.first_model.specs.Trace.{has_pack, is_member, least_from, packs_of, sync_site_among};
+ghost use Rattle.first_model.specs.OneTree.{is_good_list, is_place, is_within, wanted_packs};
 ghost use Rattle.one_tree.specs.Checks.{is_of_site, making_site_by};
 
 use locus_ids::{Config, Members, Sites};

@@ -3,8 +3,8 @@ ghost use Rattle.one_tree.specs.Checks.{gives_release, is_release_of};
 
 use crate::OneTree;
 use crate::opening::is_same_option;
+use first_model::Instance;
 use locus_ids::{FileId, Serial, Stamp};
-use tree_model::Instance;
 
 impl OneTree {
     /// The tree gives this release, of the instance that the epoch knows by this name.

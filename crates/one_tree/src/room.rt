@@ -1,5 +1,5 @@
 ghost use Rattle.std.specs.Prelude.{◌≡◌, ◌-◌, sum_by};
-ghost use Rattle.tree_model.specs.Room.{changed_pages, is_stored_at};
+ghost use Rattle.first_model.specs.Room.{changed_pages, is_stored_at};
 ghost use Rattle.one_tree.specs.Checks.{free_now, is_roomed, pages_seen};
 ghost use Rattle.one_tree.specs.Tables.{stored_by};
 
@@ -7,10 +7,10 @@ use crate::OneTree;
 use crate::acting::size_at;
 use crate::told::{is_done, is_no_space};
 use commit_graph::History;
-use file_bytes::pages_of;
+use first_bytes::pages_of;
+use first_model::Instance;
 use locus_ids::{EpochId, FileId};
 use trace_book::Outcome;
-use tree_model::Instance;
 
 /// The pages of a pack.
 const PACK_PAGES: usize = 3072;

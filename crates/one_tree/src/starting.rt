@@ -1,5 +1,5 @@
 ghost use Rattle.std.specs.Prelude.{◌≡◌};
-ghost use Rattle.tree_model.specs.OneTree.{is_copy_below};
+ghost use Rattle.first_model.specs.OneTree.{is_copy_below};
 ghost use Rattle.one_tree.specs.Checks.{gives_start, has_copies, has_copy, is_ascending, is_ascending_from, same_copy};
 ghost use Rattle.commit_graph.specs.Versions.{is_stamp_below};
 

@@ -11,12 +11,12 @@ use crate::known::{note, with_brought};
 use crate::making::{is_make, without_make};
 use crate::placing::has_pack;
 use commit_graph::History;
+use first_model::Instance;
 use locus_ids::{
     Brought, CallId, EpochId, FileId, ItemList, Members, Mode, NoMemory, Serial, Stamp,
 };
 use std::alloc::Global;
 use trace_book::{Call, Op, Outcome};
-use tree_model::Instance;
 
 impl OneTree {
     /// A site joins an epoch.

@@ -1,6 +1,6 @@
 ghost use Rattle.std.specs.Prelude.{◌≡◌};
 ghost use Rattle.one_tree.specs.Told.{is_at, is_committed, is_data, is_done, is_found, is_no_absent, is_no_ambiguous, is_no_exists, is_no_inode, is_no_space, is_no_too_long, is_told, is_unserved_conflict, is_unserved_storage, same_kind};
-ghost use Rattle.tree_model.specs.Directory.{is_refusal};
+ghost use Rattle.first_model.specs.Directory.{is_refusal};
 
 use locus_ids::{Kind, Refusal, Stamp};
 use trace_book::{Outcome, Served};

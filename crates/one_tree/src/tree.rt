@@ -1,5 +1,5 @@
 ghost use Rattle.std.specs.Prelude.{◌≡◌, ℕ, [], IfOk, OnErr};
-ghost use Rattle.tree_model.specs.Trace.{Trace, history};
+ghost use Rattle.first_model.specs.Trace.{Trace, history};
 ghost use Rattle.one_tree.specs.Standing.{IsSameTree, Leads, Says, Stands};
 ghost use Rattle.one_tree.specs.declared.applied.Applied.TheVariants.{Differs};
 

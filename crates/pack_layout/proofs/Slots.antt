@@ -13,7 +13,8 @@ use Rattle.field_codec.proofs.Laws.{whole_takes, whole_again}
 use Rattle.field_codec.proofs.Loop.{spelled_alike}
 use Rattle.pack_layout.specs.declared.slot.Slot.{Slot}
 use Rattle.pack_layout.specs.declared.slot.BadSlot.{BadSlot}
-use Rattle.pack_layout.specs.Layout.{open_gate, kind_number, slot_bytes, IsSlot, NamePages, pages_of}
+use Rattle.file_content.specs.Pages.{pages_of}
+use Rattle.pack_layout.specs.Layout.{open_gate, kind_number, slot_bytes, IsSlot, NamePages}
 use Rattle.pack_layout.specs.Fields.{repeated, kinds, slots}
 use Rattle.pack_layout.proofs.Laws.{slots_laws}
 

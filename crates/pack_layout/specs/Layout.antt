@@ -5,6 +5,7 @@ use Rattle.std.specs.List.{flat_map}
 use Rattle.locus_ids.specs.declared.ids.Kind.{Kind}
 use Rattle.locus_ids.specs.declared.ids.Kind.TheVariants.{File, Dir}
 use Rattle.locus_ids.specs.declared.ids.Stamp.{Stamp}
+use Rattle.file_content.specs.Pages.{pages_of}
 use Rattle.pack_layout.specs.declared.slot.Slot.{Slot}
 
 -- the disk begins with a label of 1,024 bytes; the areas of the packs follow it
@@ -45,10 +46,6 @@ pub record AgreesWith (t : Stamp) (v : List ℕ) : Type 0 where
   pub each : (i : ℕ) → slice_index v i < 2 ^ 32
   pub own : 1 ≤ t.site → slice_index v (t.site - 1) ≡ t.n
   pub none : t.site ≡ 0 → (i : ℕ) → slice_index v i ≡ 0
-
--- how many pages a content of such a size has
-abbrev pub pages_of : ℕ → ℕ
-pages_of size = (size + 1023) / 1024
 
 -- 64 page numbers: the first n name different pages of the area, and the others none
 pub record NamePages (n : ℕ) (pages : List ℕ) : Type 0 where

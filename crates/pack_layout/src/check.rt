@@ -1,5 +1,6 @@
 ghost use Rattle.std.specs.Prelude.{◌≡◌, ◌≢◌, ℕ, ◌<◌, ◌≤◌, ◌↔◌, length, IsTrue, slice_index};
-ghost use Rattle.pack_layout.specs.Layout.{IsStamp, AgreesWith, NamePages, IsSlot, pages_of};
+ghost use Rattle.file_content.specs.Pages.{pages_of};
+ghost use Rattle.pack_layout.specs.Layout.{IsStamp, AgreesWith, NamePages, IsSlot};
 
 use crate::Slot;
 use locus_ids::Stamp;

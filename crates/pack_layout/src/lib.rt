@@ -6,8 +6,6 @@ mod check;
 mod places;
 mod read;
 mod slot;
-#[cfg(test)]
-mod tests;
 mod write;
 
 pub use places::{area_at, disk_len, page_at, slot_at};

@@ -1,8 +1,27 @@
 -- Contents byte by byte.
 use Rattle.std.proofs.Common.{◌≡◌, ℕ, zero, suc, ◌+◌, ◌-◌, ◌*◌, ◌<◌, ◌≤◌, min, max, cond, ltb, List, [], ◌∷◌, ◌++◌, length, get_or, take, drop, replicate, refl, sym, ap, ◌∙◌, arith, inl, inr}
 use Rattle.std.proofs.lemmas.Bool.{cases_lt, lt-ltb, le-ltb, le-leb, lt-leb}
-use Rattle.std.proofs.lemmas.List.{length-append, length-take, length-drop, length-replicate, get_or-take, get_or-drop, get_or_past, get_or-replicate, get_or_append_left, get_or-append_right}
-use Rattle.shadow_pages.specs.Working.{Working, below, spliced, padded, written, over, byte_after, byte_at, content}
+use Rattle.std.proofs.lemmas.List.{length-append, length-take, length-drop, length-replicate, get_or-take, get_or-drop, get_or_past, get_or-replicate, get_or_append_left, get_or-append_right, append-nil, drop_all}
+use Rattle.file_content.specs.Contents.{written}
+use Rattle.shadow_pages.specs.Working.{Working, below, spliced, padded, over, byte_after, byte_at, content}
+
+-- a content padded with zeros up to a place, and from there overwritten by some bytes
+abbrev pub patched : ℕ → List ℕ → List ℕ → List ℕ
+patched at bytes old = spliced at bytes (padded at old)
+
+behind : (at n : ℕ) (content : List ℕ) → drop (at + n) (padded at content) ≡ drop (at + n) content
+behind at n content = elim (cases_lt (length content) at) [
+  | inl short ↦
+      drop_all (at + n) (padded at content) (omega (arith, length-append content (replicate (at - length content) 0), length-replicate {A = ℕ} (at - length content) 0))
+      ∙ sym (drop_all (at + n) content (omega arith))
+  | inr long ↦
+      let none : at - length content ≡ 0 = omega arith in
+      ap (λ (m : ℕ). drop (at + n) (content ++ replicate m 0)) none ∙ ap (λ (l : List ℕ). drop (at + n) l) (append-nil content)
+]
+
+-- that is what a write leaves of a content
+pub patched_is : (at : ℕ) (bytes content : List ℕ) → patched at bytes content ≡ written content at bytes
+patched_is at bytes content = ap (λ (l : List ℕ). take at (padded at content) ++ bytes ++ l) (behind at (length bytes) content)
 
 pub over_in : (at : ℕ) (bytes : List ℕ) (k old : ℕ) → at ≤ k → k < at + length bytes → over at bytes k old ≡ get_or bytes (k - at) 0
 over_in at bytes k old low high = rw (le-leb at k low, lt-ltb k (at + length bytes) high) refl
@@ -54,12 +73,12 @@ padded_at n xs k = elim (cases_lt k (length xs)) [
 pub length_padded : (n : ℕ) (xs : List ℕ) → length (padded n xs) ≡ max n (length xs)
 length_padded n xs = omega (arith, length-append xs (replicate (n - length xs) 0), length-replicate {A = ℕ} (n - length xs) 0)
 
-pub written_at : (at : ℕ) (bytes old : List ℕ) (k : ℕ) → get_or (written at bytes old) k 0 ≡ over at bytes k (get_or old k 0)
-written_at at bytes old k =
+pub patched_at : (at : ℕ) (bytes old : List ℕ) (k : ℕ) → get_or (patched at bytes old) k 0 ≡ over at bytes k (get_or old k 0)
+patched_at at bytes old k =
     spliced_at at bytes (padded at old) k (omega (arith, length_padded at old)) ∙ ap (λ (b : ℕ). over at bytes k b) (padded_at at old k)
 
-pub length_written : (at : ℕ) (bytes old : List ℕ) → length (written at bytes old) ≡ max (length old) (at + length bytes)
-length_written at bytes old =
+pub length_patched : (at : ℕ) (bytes old : List ℕ) → length (patched at bytes old) ≡ max (length old) (at + length bytes)
+length_patched at bytes old =
     let long : length (padded at old) ≡ max at (length old) = length_padded at old in
     omega (arith, long, length_spliced at bytes (padded at old) (omega (arith, long)))
 

@@ -4,7 +4,8 @@ use Rattle.std.specs.Option.{is_some}
 use Rattle.std.proofs.lemmas.Bool.{cases_lt, cases_eq, lt-ltb, le-ltb}
 use Rattle.std.proofs.lemmas.Grind.{same_number_lists}
 use Rattle.std.proofs.lemmas.List.{length-take, get_or-take, get_or_past, get_or_append_left, get_or-append_right}
-use Rattle.shadow_pages.specs.Working.{Working, byte_in, byte_at, content, pages_of}
+use Rattle.file_content.specs.Pages.{pages_of}
+use Rattle.shadow_pages.specs.Working.{Working, byte_in, byte_at, content}
 use Rattle.shadow_pages.proofs.Bytes.{content_at, length_content, zero_at}
 
 pub content_cut : (base : List ℕ) (w : Working) (len : ℕ) (new : List (Option (List ℕ))) → len ≤ w.size

@@ -3,10 +3,12 @@ use Rattle.std.proofs.Common.{◌≡◌, ℕ, ◌+◌, ◌-◌, ◌*◌, ◌/◌
 use Rattle.std.specs.Option.{is_none, is_some}
 use Rattle.std.proofs.lemmas.Bool.{cases_lt, lt-ltb, le-ltb, le-leb, lt-leb}
 use Rattle.std.proofs.lemmas.Grind.{same_number_lists}
-use Rattle.shadow_pages.specs.Working.{Working, byte_at, content, written, number_changed, count_below, byte_after, over, touches, needed, pages_of, AreAmong, IsClean}
+use Rattle.file_content.specs.Contents.{written}
+use Rattle.file_content.specs.Pages.{pages_of}
+use Rattle.shadow_pages.specs.Working.{Working, byte_at, content, number_changed, count_below, byte_after, over, touches, needed, AreAmong, IsClean}
 use Rattle.shadow_pages.specs.declared.base_page.BasePage.{BasePage}
 use Rattle.shadow_pages.specs.Pages.{AreOf, AreWritten}
-use Rattle.shadow_pages.proofs.Bytes.{over_before, over_past, written_at, length_written, content_at, length_content}
+use Rattle.shadow_pages.proofs.Bytes.{patched, patched_is, over_before, over_past, patched_at, length_patched, content_at, length_content}
 use Rattle.shadow_pages.proofs.Counts.{span_sum, count_below_same}
 
 module _ (w : Working) (at : ℕ) (bytes : List ℕ) (handed : List BasePage) (first stop : ℕ) (made : List (List ℕ)) (grown new : List (Option (List ℕ)))
@@ -71,16 +73,16 @@ module _ (w : Working) (at : ℕ) (bytes : List ℕ) (handed : List BasePage) (f
     ]
   ]
 
-  pub content_after : (base : List ℕ) → AreOf base w.size handed → content base after ≡ written at bytes (content base w)
-  content_after base of = same_number_lists (content base after) (written at bytes (content base w)) lengths each where
-    lengths : length (content base after) ≡ length (written at bytes (content base w))
-    lengths = omega (arith, length_content base after, length_written at bytes (content base w), length_content base w)
+  pub content_after : (base : List ℕ) → AreOf base w.size handed → content base after ≡ written (content base w) at bytes
+  content_after base of = same_number_lists (content base after) (patched at bytes (content base w)) lengths each ∙ patched_is at bytes (content base w) where
+    lengths : length (content base after) ≡ length (patched at bytes (content base w))
+    lengths = omega (arith, length_content base after, length_patched at bytes (content base w), length_content base w)
 
-    each : (k : ℕ) → k < length (content base after) → get_or (content base after) k 0 ≡ get_or (written at bytes (content base w)) k 0
+    each : (k : ℕ) → k < length (content base after) → get_or (content base after) k 0 ≡ get_or (patched at bytes (content base w)) k 0
     each k lt =
         let small : k < max w.size (at + length bytes) = omega (arith, length_content base after) in
         content_at base after k ∙ rw (lt-ltb k (max w.size (at + length bytes)) small) (byte_is base of k small)
-        ∙ sym (written_at at bytes (content base w) k ∙ ap (λ (b : ℕ). over at bytes k b) (content_at base w k))
+        ∙ sym (patched_at at bytes (content base w) k ∙ ap (λ (b : ℕ). over at bytes k b) (content_at base w k))
 
   pub clean_after : IsClean w → IsClean after
   clean_after clean i k small past = elim (cases_lt i first) [

@@ -1,5 +1,6 @@
 -- A content that is worked on over a base: the pages that were changed, and for the rest the base.
 use Rattle.std.specs.Prelude.{◌≡◌, ℕ, zero, suc, ◌+◌, ◌-◌, ◌*◌, ◌/◌, ◌%◌, ◌<◌, ◌≤◌, min, max, Bool, true, ◌&&◌, nat_lt, nat_le, List, [], ◌∷◌, ◌++◌, length, take, drop, replicate, slice_index, slice_index_or, Some, None, Option, is_none, is_some, if◌then◌else◌}
+use Rattle.file_content.specs.Pages.{pages_of}
 
 -- the size of the content in bytes, and for each page its bytes if it was changed
 pub record Working : Type 0 where
@@ -36,18 +37,10 @@ padded n xs = xs ++ replicate (n - length xs) 0
 abbrev pub spliced : ℕ → List ℕ → List ℕ → List ℕ
 spliced at bytes xs = take at xs ++ bytes ++ drop (at + length bytes) xs
 
--- a content padded with zeros up to a place, and from there overwritten by some bytes
-abbrev pub written : ℕ → List ℕ → List ℕ → List ℕ
-written at bytes old = spliced at bytes (padded at old)
-
 -- so many of the numbers below n pass a test
 abbrev pub count_below : (ℕ → Bool) → ℕ → ℕ
 count_below test zero = 0
 count_below test (suc n) = count_below test n + (if test n then 1 else 0)
-
--- how many pages some bytes fill
-abbrev pub pages_of : ℕ → ℕ
-pages_of size = (size + 1023) / 1024
 
 -- page i meets the bytes from one place up to another
 abbrev pub meets : ℕ → ℕ → ℕ → Bool

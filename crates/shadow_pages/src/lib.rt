@@ -9,8 +9,6 @@ mod page;
 mod place;
 mod shadow;
 mod span;
-#[cfg(test)]
-mod tests;
 
 pub use base_page::{BasePage, PageList};
 pub use shadow::{Shadow, ShadowFault};

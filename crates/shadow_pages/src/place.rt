@@ -1,5 +1,6 @@
 ghost use Rattle.std.specs.Prelude.{◌≡◌, ℕ, ◌+◌, ◌-◌, ◌≤◌, ◌<◌, length, List, IfOk, OnOk, OnErr, None, Some, slice_index_or, nat_le, nat_lt, ◌&&◌, if◌then◌else◌, is_none, is_some, [], max, ◌*◌, ◌++◌, take, replicate};
-ghost use Rattle.shadow_pages.specs.Working.{page_at, byte_in, number_changed, count_below, pages_of};
+ghost use Rattle.file_content.specs.Pages.{pages_of};
+ghost use Rattle.shadow_pages.specs.Working.{page_at, byte_in, number_changed, count_below};
 
 use crate::page::Page;
 use crate::span::pages_of;

@@ -1,5 +1,6 @@
 ghost use Rattle.std.specs.Prelude.{◌≡◌, ℕ, ◌+◌, ◌*◌, ◌≤◌, ◌<◌, ◌↔◌, ◌&&◌, ◌||◌, min, max, length, take, List, [], IfOk, OnOk, OnErr, IfSome, MatchOption, None, Some, Err, is_some, is_none, nat_lt, slice_index};
-ghost use Rattle.shadow_pages.specs.Working.{Working, page_at, content, written, touches, needed, number_changed, AreAmong, IsZeroFrom, count_below};
+ghost use Rattle.file_content.specs.Contents.{written};
+ghost use Rattle.shadow_pages.specs.Working.{Working, page_at, content, touches, needed, number_changed, AreAmong, IsZeroFrom, count_below};
 ghost use Rattle.shadow_pages.specs.Pages.{AreOf, Hands};
 ghost use Rattle.shadow_pages.specs.declared.shadow.ShadowFault.TheVariants.{NoSpace};
 
@@ -45,7 +46,8 @@ pub struct Shadow {
 
 impl Model for Shadow {
     ghost use Rattle.std.specs.Prelude.{◌≡◌, ◌≤◌, length};
-    ghost use Rattle.shadow_pages.specs.Working.{Working, AreAmong, IsClean, number_changed, pages_of};
+    ghost use Rattle.file_content.specs.Pages.{pages_of};
+    ghost use Rattle.shadow_pages.specs.Working.{Working, AreAmong, IsClean, number_changed};
 
     ghost Value = { Working };
 
@@ -127,7 +129,7 @@ impl Shadow {
         requires end { at + length bytes.now ≤ 1110016 }
         requires handed { Hands self.old at (length bytes.now) base.now }
 
-        ensures content { OnOk result ((old : List ℕ) → AreOf old self.old.size base.now → content old self.new ≡ written at bytes.now (content old self.old)) }
+        ensures content { OnOk result ((old : List ℕ) → AreOf old self.old.size base.now → content old self.new ≡ written (content old self.old) at bytes.now) }
         ensures size { OnOk result (self.new.size ≡ max self.old.size (at + length bytes.now)) }
         ensures pages { OnOk result ((i : ℕ) → is_some (page_at self.new.pages i) ≡ (is_some (page_at self.old.pages i) || touches self.old at (length bytes.now) i)) }
         ensures changed { OnOk result (number_changed self.new.pages ≡ number_changed self.old.pages + needed self.old at (length bytes.now)) }

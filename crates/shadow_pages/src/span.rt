@@ -1,5 +1,6 @@
 ghost use Rattle.std.specs.Prelude.{◌≡◌, ℕ, ◌+◌, ◌*◌, ◌≤◌, ◌<◌, ◌↔◌, min, IsTrue, length, nat_lt, ◌-◌, ◌^◌};
-ghost use Rattle.shadow_pages.specs.Working.{meets, pages_of};
+ghost use Rattle.file_content.specs.Pages.{pages_of};
+ghost use Rattle.shadow_pages.specs.Working.{meets};
 
 /// The number of pages that some bytes fill.
 pub fn pages_of(size: u32) -> u32

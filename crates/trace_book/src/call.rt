@@ -1,4 +1,6 @@
-use locus_ids::{Bytes, FileId, Sites};
+ghost use Rattle.std.specs.Prelude.{◌≡◌, IfOk};
+
+use locus_ids::{Bytes, FileId, NoMemory, Sites};
 
 /// How a call opens a file.
 #[derive(Clone, Copy, Debug, PartialEq, Eq)]
@@ -10,7 +12,7 @@ pub enum OpenMode {
 }
 
 /// A call of a process. A path is kept as it was written.
-#[derive(Debug, Drop)]
+#[derive(Clone, Debug, Drop)]
 pub enum Call {
     /// `sites` are those that get a pack's copy; all packs of the group where it is left out.
     Create { path: Bytes, sites: Option<Sites> },
@@ -29,4 +31,14 @@ pub enum Call {
     Close { fd: u16 },
     /// The system merges the versions of a directory. No user calls it.
     Mend { file: FileId },
+}
+
+impl Call {
+    /// An equal call.
+    pub fn copy(&self) -> Result<Call, NoMemory>
+        ensures { IfOk result (λ made. made ≡ self.now) }
+    {
+        let copy = self.clone()?;
+        Ok(copy)
+    }
 }

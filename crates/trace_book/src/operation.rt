@@ -1,7 +1,9 @@
-use locus_ids::{Bytes, Kind, Refusal, Stamp};
+ghost use Rattle.std.specs.Prelude.{◌≡◌, IfOk};
+
+use locus_ids::{Bytes, Kind, NoMemory, Refusal, Stamp};
 
 /// An operation on an open instance.
-#[derive(Debug, Drop)]
+#[derive(Clone, Debug, Drop)]
 pub enum Op {
     /// Asks that the name has no live entry, and that an entry for it fits.
     Probe { name: Bytes },
@@ -20,7 +22,7 @@ pub enum Op {
 }
 
 /// What an operation gave.
-#[derive(Debug, Drop)]
+#[derive(Clone, Debug, Drop)]
 pub enum Outcome {
     Done,
     Found { ino: u16, kind: Kind },
@@ -30,7 +32,7 @@ pub enum Outcome {
 }
 
 /// What a Look asks of a directory or a file.
-#[derive(Debug, Drop)]
+#[derive(Clone, Debug, Drop)]
 pub enum What {
     Name { component: Bytes },
     List,
@@ -40,8 +42,48 @@ pub enum What {
 }
 
 /// What the synchronization site answers a Look: the version that is served, or a refusal.
-#[derive(Debug, Drop)]
+#[derive(Clone, Debug, Drop)]
 pub enum Served {
     At { stamp: Stamp },
     No { why: Refusal },
+}
+
+impl Op {
+    /// An equal operation.
+    pub fn copy(&self) -> Result<Op, NoMemory>
+        ensures { IfOk result (λ made. made ≡ self.now) }
+    {
+        let copy = self.clone()?;
+        Ok(copy)
+    }
+}
+
+impl Outcome {
+    /// An equal outcome.
+    pub fn copy(&self) -> Result<Outcome, NoMemory>
+        ensures { IfOk result (λ made. made ≡ self.now) }
+    {
+        let copy = self.clone()?;
+        Ok(copy)
+    }
+}
+
+impl What {
+    /// An equal what.
+    pub fn copy(&self) -> Result<What, NoMemory>
+        ensures { IfOk result (λ made. made ≡ self.now) }
+    {
+        let copy = self.clone()?;
+        Ok(copy)
+    }
+}
+
+impl Served {
+    /// An equal answer.
+    pub fn copy(&self) -> Result<Served, NoMemory>
+        ensures { IfOk result (λ made. made ≡ self.now) }
+    {
+        let copy = self.clone()?;
+        Ok(copy)
+    }
 }

@@ -1,7 +1,9 @@
-use locus_ids::{Bytes, FileId, Kind, Names, Refusal, Stamp};
+ghost use Rattle.std.specs.Prelude.{◌≡◌, IfOk};
+
+use locus_ids::{Bytes, FileId, Kind, Names, NoMemory, Refusal, Stamp};
 
 /// What a call is answered.
-#[derive(Debug, Drop)]
+#[derive(Clone, Debug, Drop)]
 pub enum Reply {
     /// A file or directory was made.
     Made {
@@ -37,4 +39,14 @@ pub enum Reply {
     No {
         why: Refusal,
     },
+}
+
+impl Reply {
+    /// An equal reply.
+    pub fn copy(&self) -> Result<Reply, NoMemory>
+        ensures { IfOk result (λ made. made ≡ self.now) }
+    {
+        let copy = self.clone()?;
+        Ok(copy)
+    }
 }

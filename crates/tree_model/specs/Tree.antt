@@ -1,113 +1,169 @@
--- The one tree: its open instances by the records so far, the earliest granted first.
-use Rattle.std.specs.Prelude.{ℕ, Bool, true, false, not, ◌&&◌, ◌||◌, cond, List, [], ◌∷◌, ◌++◌, map, filter, Option, None, Some}
+-- What becomes of the tree by a record, and the tree of a trace.
+use Rattle.std.specs.Prelude.{ℕ, ◌==◌, Bool, true, false, not, ◌&&◌, List, [], ◌∷◌, ◌++◌, filter, map, Option, None, Some, cond}
+use Rattle.std.specs.Option.{is_none}
 use Rattle.locus_ids.specs.declared.config.Config.{Config}
+use Rattle.locus_ids.specs.declared.sites.Members.{Members}
 use Rattle.locus_ids.specs.declared.ids.FileId.{FileId}
 use Rattle.locus_ids.specs.declared.ids.Stamp.{Stamp}
 use Rattle.locus_ids.specs.declared.ids.EpochId.{EpochId}
 use Rattle.locus_ids.specs.declared.ids.CallId.{CallId}
 use Rattle.locus_ids.specs.declared.ids.Serial.{Serial}
 use Rattle.locus_ids.specs.declared.ids.Mode.{Mode}
-use Rattle.locus_ids.specs.declared.ids.Mode.TheVariants as mode
-use Rattle.commit_graph.specs.Versions.{same_file, content_of}
-use Rattle.commit_graph.specs.Grants.{Opener, is_read}
-use Rattle.trace_book.specs.Same.{same_epoch, same_serial}
-use Rattle.trace_book.specs.Descriptors.{is_in}
+use Rattle.locus_ids.specs.declared.ids.Brought.{Brought}
+use Rattle.commit_graph.specs.declared.history.Version.{Version}
+use Rattle.trace_book.specs.Same.{same_epoch, same_call}
 use Rattle.trace_book.specs.declared.record.Record.{Record}
-use Rattle.trace_book.specs.declared.record.Record.TheVariants.{Grant, Act, Commit, Release}
+use Rattle.trace_book.specs.declared.record.Record.TheVariants.{Up, Stopped, Leave, Join, Start, Accept, Grant, Refuse, Act, Commit, Release, Adopt}
 use Rattle.trace_book.specs.declared.operation.Op.{Op}
 use Rattle.trace_book.specs.declared.operation.Op.TheVariants as op
 use Rattle.trace_book.specs.declared.operation.Outcome.{Outcome}
+use Rattle.trace_book.specs.declared.operation.Outcome.TheVariants as outcome
+use Rattle.file_effects.specs.Works.{begun, committed}
+use Rattle.tree_model.specs.declared.copy.HeldCopy.{HeldCopy}
+use Rattle.tree_model.specs.declared.instance.Granted.{Granted}
 use Rattle.tree_model.specs.declared.instance.Instance.{Instance}
-use Rattle.tree_model.specs.declared.instance.Waiting.{Waiting}
-use Rattle.tree_model.specs.Directory.{content_after, changes, is_refusal}
-use Rattle.tree_model.specs.Pages.{changed_after}
-use Rattle.tree_model.specs.Trace.{Trace, history, epoch_of, call_named}
+use Rattle.tree_model.specs.Lists.{change_first, without_first}
+use Rattle.tree_model.specs.Folds.{Trace, over}
+use Rattle.tree_model.specs.Packs.{has_pack}
+use Rattle.tree_model.specs.Histories.{history, format_stamp, stamped_content}
+use Rattle.tree_model.specs.State.{TreeState, empty_tree, is_inside, copy_of, with_copy, with_brought, with_all, stamps_of, kept_of, call_in, process_of, is_named, is_writer, instance_in, is_granted_here, is_make, held_at}
+use Rattle.tree_model.specs.Working.{work_after}
 
--- the instance with this name
-abbrev pub is_named : EpochId → Serial → Instance → Bool
-is_named e i x = same_epoch x.epoch e && same_serial x.inst i
+-- Sites come and go.
 
--- an instance by which the file may be committed in this epoch
-abbrev pub is_writer : Option EpochId → FileId → Instance → Bool
-is_writer now f x = is_in now x.epoch && same_file x.file f && not (is_read x.mode)
+abbrev pub without_number : ℕ → List ℕ → List ℕ
+without_number n ns = filter (λ m. not (m == n)) ns
 
-abbrev pub stamped_content : Config → Trace → FileId → Option Stamp → List ℕ
-stamped_content c before f None = []
-stamped_content c before f (Some s) = content_of (history c before) f s
+abbrev pub left : ℕ → TreeState → TreeState
+left site t = record t { inside = without_number site t.inside }
 
-abbrev pub process_of : Option Waiting → ℕ
-process_of None = 0
-process_of (Some w) = w.process
+-- the copies with the root directory of the format, where the site has a pack and no version of it yet
+abbrev pub with_root : TreeState → ℕ → List HeldCopy
+with_root t site = cond (has_pack t.config t.group site && is_none (copy_of t.copies site 1))
+    (t.copies ++ record { site = site; ino = 1; now = format_stamp; held = None } ∷ [])
+    t.copies
 
-abbrev pub begins_owing : Mode → Bool
-begins_owing mode.Make = true
-begins_owing mode.Resolve = true
-begins_owing mode.Read = false
-begins_owing mode.Write = false
-begins_owing mode.Mend = false
+-- a copy in the epoch is the one of now, at the site that joins
+abbrev pub entered : ℕ → HeldCopy → HeldCopy
+entered site c = cond (c.site == site) (record c { held = Some c.now }) c
 
--- an instance as it is granted: the content of its version, and a commit owed where it makes or resolves
-abbrev pub opened : Config → Trace → EpochId → CallId → Serial → Mode → FileId → Option Stamp → ℕ → Instance
-opened c before e call i mode f stamp ss = record {
-  epoch = e;
-  inst = i;
-  call = call;
-  process = process_of (call_named before call);
-  mode = mode;
-  file = f;
-  ss = ss;
-  last = stamp;
-  committed = None;
-  content = stamped_content c before f stamp;
-  owes = begins_owing mode;
-  fresh = false;
-  changed = [];
-  ops = 0;
+-- a site joins the epoch, and brings what it has of the group where it has a pack
+abbrev pub joined : ℕ → Members → TreeState → TreeState
+joined site members t = record t {
+  members = Some members;
+  inside = site ∷ without_number site t.inside;
+  copies = map (entered site) (with_root t site);
+  known = cond (has_pack t.config t.group site) (with_all (filter (λ (c : HeldCopy). c.site == site) (with_root t site)) t.known) t.known;
 }
 
-abbrev pub is_none : {X : Type 0} → Option X → Bool
-is_none None = true
-is_none (Some x) = false
+-- Versions.
 
--- an instance after an operation that isn't refused; an abort goes back to the last committed content, with no page
--- changed, and what must be committed at all stays owed
-abbrev pub carried_out : Config → Trace → ℕ → Op → Instance → Instance
-carried_out c before n op.Abort x = record x { ops = n; fresh = false; content = stamped_content c before x.file x.last; owes = begins_owing x.mode && is_none x.committed; changed = [] }
-carried_out c before n o x = record x { ops = n; fresh = false; content = content_after o x.content; owes = x.owes || changes o x.content; changed = changed_after o x.content x.changed }
+-- the copy of a site that has this version now, in the epoch too while the site is there
+abbrev pub copy_now : TreeState → ℕ → ℕ → Stamp → HeldCopy
+copy_now t site ino stamp = record {
+  site = site;
+  ino = ino;
+  now = stamp;
+  held = cond (is_inside t site) (Some stamp) (held_at t site ino);
+}
 
--- an instance after an operation; a refused one changes nothing but the number
-abbrev pub acted : Config → Trace → ℕ → Op → Outcome → Instance → Instance
-acted c before n o result x = cond (is_refusal result) (record x { ops = n; fresh = false }) (carried_out c before n o x)
+-- the site has this version of the file now
+abbrev pub has_now : FileId → ℕ → Stamp → TreeState → TreeState
+has_now f site stamp t = record t { copies = cond (f.group == t.group) (with_copy (copy_now t site f.ino stamp) t.copies) t.copies }
 
--- an instance once its content is committed: no page is changed any more
-abbrev pub committed : Stamp → Instance → Instance
-committed stamp x = record x { last = Some stamp; committed = Some stamp; owes = false; fresh = true; changed = [] }
+abbrev pub once_committed : Stamp → Instance → Instance
+once_committed stamp x = record x { work = committed stamp x.work }
 
--- the first that passes is changed
-abbrev pub where_it : (Instance → Bool) → (Instance → Instance) → List Instance → List Instance
-where_it p change [] = []
-where_it p change (x ∷ xs) = cond (p x) (change x ∷ xs) (x ∷ where_it p change xs)
+-- a commit is one of the open instance of its file at its site, while the site is in the epoch
+abbrev pub committed_at : FileId → ℕ → Stamp → TreeState → TreeState
+committed_at f site stamp t = record t {
+  instances = cond (is_inside t site) (change_first (is_writer f site) (once_committed stamp) t.instances) t.instances;
+}
 
--- the first that passes is taken out
-abbrev pub without_it : (Instance → Bool) → List Instance → List Instance
-without_it p [] = []
-without_it p (x ∷ xs) = cond (p x) xs (x ∷ without_it p xs)
+abbrev pub published : FileId → Option Stamp → List Brought → List Brought
+published f None known = known
+published f (Some stamp) known = with_brought (record { ino = f.ino; stamp = stamp }) known
 
-abbrev pub tree_after : Record → Config → Trace → List Instance → List Instance
-tree_after (Grant e call request i mode f stamp ss) c before old = old ++ opened c before e call i mode f stamp ss ∷ []
-tree_after (Act e i n o result) c before old = where_it (is_named e i) (acted c before n o result) old
-tree_after (Commit f site stamp parents content) c before old = where_it (is_writer (epoch_of before site) f) (committed stamp) old
-tree_after (Release e i f stamp) c before old = without_it (is_named e i) old
-tree_after _ c before old = old
+-- Instances.
 
--- the open instances of all epochs, from grant to release
-abbrev pub tree : Config → Trace → List Instance
-tree c [] = []
-tree c (r ∷ before) = tree_after r.what c before (tree c before)
+abbrev pub grant_of : TreeState → CallId → Serial → Mode → FileId → ℕ → Granted
+grant_of t call i m f ss = record { inst = i; call = call; process = process_of (call_in t.calls call); mode = m; file = f; ss = ss }
 
-abbrev pub opener_of : Instance → Opener
-opener_of x = record { site = x.call.site; process = x.process; mode = x.mode }
+-- an instance as it is granted has the content of its version
+abbrev pub opened : List Version → Granted → Option Stamp → Instance
+opened h g stamp = record { grant = g; work = begun g.mode stamp (stamped_content h g.file stamp) }
 
--- the open instances of a file in an epoch, as they exclude others, the earliest granted first
-abbrev pub openers : List Instance → EpochId → FileId → List Opener
-openers xs e f = map opener_of (filter (λ x. same_epoch x.epoch e && same_file x.file f) xs)
+abbrev pub granted : List Version → Granted → Option Stamp → TreeState → TreeState
+granted h g stamp t = record t {
+  grants = t.grants ++ g ∷ [];
+  instances = cond (g.file.group == t.group) (t.instances ++ opened h g stamp ∷ []) t.instances;
+}
+
+-- the operation is a probe that finds the name free
+abbrev pub is_passed_probe : Op → Outcome → Bool
+is_passed_probe (op.Probe name) outcome.Done = true
+is_passed_probe _ _ = false
+
+abbrev pub with_make : Option Instance → List CallId → List CallId
+with_make None calls = calls
+with_make (Some x) calls = x.grant.call ∷ calls
+
+abbrev pub without_make : CallId → List CallId → List CallId
+without_make call calls = filter (λ d. not (same_call d call)) calls
+
+-- the make of a released instance is over
+abbrev pub without_made : Option Instance → List CallId → List CallId
+without_made None calls = calls
+without_made (Some x) calls = cond (is_make x.grant.mode) (without_make x.grant.call calls) calls
+
+abbrev pub once_acted : List Version → TreeState → Op → Outcome → Instance → Instance
+once_acted h t o result x = record x { work = work_after h t o result x }
+
+abbrev pub acted : List Version → Serial → Op → Outcome → TreeState → TreeState
+acted h i o result t = record t {
+  instances = change_first (is_named i) (once_acted h t o result) t.instances;
+  makes = cond (is_passed_probe o result) (with_make (instance_in t i) t.makes) t.makes;
+}
+
+abbrev pub released : Serial → FileId → Option Stamp → TreeState → TreeState
+released i f stamp t = record t {
+  known = published f stamp t.known;
+  instances = without_first (is_named i) t.instances;
+  makes = without_made (instance_in t i) t.makes;
+}
+
+-- The whole tree.
+
+-- the tree after a record, by the history of the records before it
+abbrev pub next : List Version → Record → TreeState → TreeState
+next h (Up site boot) t = left site t
+next h (Stopped site cause) t = left site t
+next h (Leave site e) t = left site t
+next h (Join site e members) t = cond (same_epoch e t.epoch) (joined site members t) (left site t)
+next h (Start e group copies) t = cond (same_epoch e t.epoch && (group == t.group)) (record t { started = true }) t
+next h (Accept site process call words) t = record t { calls = t.calls ++ record { call = call; process = process; words = words } ∷ [] }
+next h (Commit f site stamp parents content) t = committed_at f site stamp (has_now f site stamp t)
+next h (Adopt f site stamp) t = has_now f site stamp t
+next h (Grant e call request i m f stamp ss) t = cond (same_epoch e t.epoch) (granted h (grant_of t call i m f ss) stamp t) t
+next h (Refuse e call request i m f why) t = cond (same_epoch e t.epoch && ((f.group == t.group) && is_make m)) (record t { makes = without_make call t.makes }) t
+next h (Act e i n o result) t = cond (same_epoch e t.epoch && is_granted_here t i) (acted h i o result t) t
+next h (Release e i f stamp) t = cond (same_epoch e t.epoch && (f.group == t.group)) (released i f stamp t) t
+next h _ t = t
+
+-- the tree of an epoch and a group by the records so far
+abbrev pub tree_of : Config → EpochId → ℕ → Trace → TreeState
+tree_of c e group trace = over (empty_tree c e group) (λ r before t. next (history c before) r.what t) trace
+
+-- What the records so far tell of a file in an epoch.
+
+-- the version that the site has of the file in the epoch: it stays what it was when the site left
+abbrev pub held_in : Config → Trace → EpochId → ℕ → FileId → Option Stamp
+held_in c before e site f = held_at (tree_of c e f.group before) site f.ino
+
+-- the versions of the file that members brought to the epoch or that were published in it, ascending
+abbrev pub candidates : Config → Trace → EpochId → FileId → List Stamp
+candidates c before e f = stamps_of (tree_of c e f.group before).known f.ino
+
+-- the versions kept in the epoch: brought or published, and no proper ancestor of another such version
+abbrev pub kept_in : Config → Trace → EpochId → FileId → List Stamp
+kept_in c before e f = kept_of (history c before) (tree_of c e f.group before) f

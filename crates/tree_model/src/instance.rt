@@ -1,10 +1,9 @@
-use locus_ids::{Bytes, CallId, EpochId, FileId, ItemList, Mode, Serial, Stamp};
-use trace_book::{Beginning, Call};
+use file_effects::Work;
+use locus_ids::{CallId, FileId, Mode, Serial};
 
-/// An open instance of the one tree.
-#[derive(Debug, Drop)]
-pub struct Instance {
-    pub epoch: EpochId,
+/// What a grant fixes of an instance.
+#[derive(Clone, Copy, Debug, PartialEq, Eq)]
+pub struct Granted {
     pub inst: Serial,
     /// The call that opened it, and its process.
     pub call: CallId,
@@ -13,30 +12,11 @@ pub struct Instance {
     pub file: FileId,
     /// The storage site.
     pub ss: u8,
-    /// The version that it stands on.
-    pub last: Option<Stamp>,
-    /// The last version that it committed.
-    pub committed: Option<Stamp>,
-    /// The working content.
-    pub content: Bytes,
-    /// A commit is owed.
-    pub owes: bool,
-    /// The last version was committed since the last operation.
-    pub fresh: bool,
-    /// The pages of the working content, from 0, that were changed since the last commit or abort, each once.
-    pub changed: ItemList<usize>,
-    /// Operations done.
-    pub ops: u32,
 }
 
-/// An accepted call.
+/// An open instance: what its grant fixed, and what has become of it since.
 #[derive(Debug, Drop)]
-pub struct Waiting {
-    pub site: u8,
-    pub process: u8,
-    pub call: CallId,
-    pub words: Call,
-    /// The epoch that the site was in.
-    pub epoch: Option<EpochId>,
-    pub beginning: Beginning,
+pub struct Instance {
+    pub grant: Granted,
+    pub work: Work,
 }

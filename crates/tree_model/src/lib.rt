@@ -1,11 +1,12 @@
-//! The definitions of a lawful trace: the lines of a schedule, what the records so far tell, the one tree of an epoch
-//! and group, directories, and which record may come next. The runner and the laws stand on this room; it runs nothing.
+//! What the records of a trace tell, and what the one tree of an epoch and a group is by them: its state as a value, what it
+//! gives next, and what becomes of it. The laws of traces and every program that follows a tree stand on these definitions.
+//! There is no running part in this room, and it knows nothing of packets, disks or of how sites talk.
 #![tactic(auto)]
 
-mod dir_entry;
+mod accepted;
+mod copy;
 mod instance;
-mod line;
 
-pub use dir_entry::DirEntry;
-pub use instance::{Instance, Waiting};
-pub use line::{HeaderLine, Leave, Line, ScheduleLine};
+pub use accepted::{AcceptedCall, Waiting};
+pub use copy::HeldCopy;
+pub use instance::{Granted, Instance};

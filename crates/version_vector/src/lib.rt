@@ -4,8 +4,6 @@
 #![tactic(auto)]
 
 mod laws;
-#[cfg(test)]
-mod tests;
 mod vector;
 
 pub use laws::{joins_are_maxima, vectors_are_ordered};

@@ -2,33 +2,33 @@ use Rattle.std.proofs.Common.{◌≡◌, ◌≤◌, ◌+◌, ◌*◌, ◌∙◌,
 use Rattle.std.specs.Prelude.{Option, None, Some, IfSome, Ok, Err, if◌then◌else◌}
 use Rattle.disk_model.specs.declared.disk.DiskFault.{DiskFault}
 use Rattle.pack_layout.specs.Layout.{slot_at}
-use Rattle.inode_switch.specs.Moments.{TellsMany}
+use Rattle.disk_model.specs.Moments.{TellsMany}
 use Rattle.inode_switch.specs.Replace.{Loses}
-use Rattle.inode_switch.proofs.Moments.{leaves_start, leaves_weaker}
-use Rattle.inode_switch.proofs.Tells.{tells_none, tells_join}
+use Rattle.disk_model.proofs.Moments.{leaves_start, leaves_weaker}
+use Rattle.disk_model.proofs.Tells.{tells_none, tells_join}
 use Rattle.inode_pack.specs.declared.inode_copy.InodeCopy.{InodeCopy}
 use Rattle.inode_pack.specs.Pack.{copy_of, IsCopy}
 use Rattle.inode_pack.specs.Mounting.{losing_gates}
 use Rattle.inode_pack.specs.Losing.{is_losing, losing_slot, KeepsCopies, IsClosing, closed_if}
 use Rattle.inode_pack.proofs.Finding.{found_own}
 use Rattle.inode_pack.proofs.Gates.{none_closed, keeps_start, losing_none, this_loses, crash_keeps, closed_more, shut_gate, gate_is_shut, losing_place, calls_more, found_gates, losing_rises, copy_at, losing_at, closing_keeps}
-use Rattle.inode_pack.proofs.Runs.{leaves_joins, tells_failed}
+use Rattle.disk_model.proofs.ReadRuns.{leaves_joins, tells_failed}
 use Rattle.inode_pack.proofs.closing.close_losing.Goals as goal
 
 pub loop-i-init : goal.loop-i-init
 loop-i-init g c =
     let old = c.args.disk.now in
-    let seen = g.D.Disk.seen old in
+    let seen = (g.D.Disk.moment old).seen in
     let start = keeps_start c.args.base seen c.args.copies.now c.args.losing.now c.requires.found in
     record {
       settled = c.requires.settled;
       long = refl;
       closed = none_closed c.args.base seen c.args.copies.now c.args.losing.now c.requires.found;
       kept = start;
-      leaves = leaves_start g.D.Disk.now g.D.Disk.may_leave g.D.Disk.may_have_left old (KeepsCopies c.args.base c.args.copies.now seen)
+      leaves = leaves_start g.D.Disk.moment old (KeepsCopies c.args.base c.args.copies.now seen)
           (λ x left. subst (λ (l : List ℕ). KeepsCopies c.args.base c.args.copies.now seen l) (sym (c.requires.settled x (g.met.D.Disk.only_now old x left))) start);
       cause = omega arith;
-      tells = rw losing_none (tells_none (g.D.Disk.passing old));
+      tells = rw losing_none (tells_none (g.D.Disk.moment old).passing);
     }
 
 place_of : (ino : ℕ) (copy : Option InodeCopy) → IfSome copy (λ one. IsCopy ino one) → IfSome copy (λ one. one.which ≤ 1)
@@ -38,7 +38,7 @@ place_of ino (Some copy) own = own.place
 pub losing_slot-which-requires : goal.losing_slot-which-requires
 losing_slot-which-requires g c =
     let is = copy_at c.args.copies.now c.index-copies-from.result c.loop-i.i c.from.result c.from.ensures (omega (arith, c.requires.copies)) c.index-copies-from.is in
-    let own = found_own c.args.base (g.D.Disk.seen c.args.disk.now) c.args.copies.now c.args.losing.now c.requires.copies c.requires.found (c.loop-i.i + 1) in
+    let own = found_own c.args.base (g.D.Disk.moment c.args.disk.now).seen c.args.copies.now c.args.losing.now c.requires.copies c.requires.found (c.loop-i.i + 1) in
     place_of (c.loop-i.i + 1) c.index-copies-from.result (subst (λ (o : Option InodeCopy). IfSome o (λ one. IsCopy (c.loop-i.i + 1) one)) (sym is) own)
 
 pub close_one-requires-clause-loses : goal.close_one-requires-clause-loses
@@ -51,8 +51,8 @@ close_one-requires-clause-loses g c loses =
     let loses_is = losing_at c.args.losing.now i c.from-in-loop-i.result c.from-in-loop-i.ensures in
     let area = c.requires.area in
     let long = inv.long in
-    subst (λ (w : ℕ). Loses base (i + 1) w (g.D.Disk.seen c.loop-i.disk)) (sym which_is)
-    (this_loses base i (g.D.Disk.seen c.loop-i.disk) c.args.copies.now c.args.losing.now inv.closed (omega arith) c.loop-i-test.true (sym loses_is ∙ loses))
+    subst (λ (w : ℕ). Loses base (i + 1) w (g.D.Disk.moment c.loop-i.disk).seen) (sym which_is)
+    (this_loses base i (g.D.Disk.moment c.loop-i.disk).seen c.args.copies.now c.args.losing.now inv.closed (omega arith) c.loop-i-test.true (sym loses_is ∙ loses))
 
 pub returns-in_err-close_one-clause-any_moment : goal.returns-in_err-close_one-clause-any_moment
 returns-in_err-close_one-clause-any_moment g c =
@@ -61,13 +61,13 @@ returns-in_err-close_one-clause-any_moment g c =
     let inv = c.loop-i.invariant in
     let copies = c.args.copies.now in
     let losing = c.args.losing.now in
-    let old = g.D.Disk.seen c.args.disk.now in
-    let now = g.D.Disk.seen c.loop-i.disk in
+    let old = (g.D.Disk.moment c.args.disk.now).seen in
+    let now = (g.D.Disk.moment c.loop-i.disk).seen in
     let copy_is = copy_at copies c.index-copies-from.result i c.from.result c.from.ensures (omega (arith, c.requires.copies)) c.index-copies-from.is in
     let which_is : c.losing_slot-which.result ≡ losing_slot (copy_of copies (i + 1)) = c.losing_slot-which.ensures ∙ ap losing_slot copy_is in
     let loses_is = losing_at losing i c.from-in-loop-i.result c.from-in-loop-i.ensures in
-    leaves_joins g.D.Disk.now g.D.Disk.may_leave g.D.Disk.may_have_left c.args.disk.now c.loop-i.disk c.close_one.new.disk (KeepsCopies base copies old) inv.leaves
-    (leaves_weaker g.D.Disk.now g.D.Disk.may_leave g.D.Disk.may_have_left c.loop-i.disk c.close_one.new.disk (IsClosing base (i + 1) c.losing_slot-which.result (get_or losing c.from-in-loop-i.result false) now) (KeepsCopies base copies old)
+    leaves_joins g.D.Disk.moment c.args.disk.now c.loop-i.disk c.close_one.new.disk (KeepsCopies base copies old) inv.leaves
+    (leaves_weaker g.D.Disk.moment c.loop-i.disk c.close_one.new.disk (IsClosing base (i + 1) c.losing_slot-which.result (get_or losing c.from-in-loop-i.result false) now) (KeepsCopies base copies old)
     (λ x closing. closing_keeps base i old now x copies losing (get_or losing c.from-in-loop-i.result false) c.losing_slot-which.result c.requires.found inv.closed c.loop-i-test.true loses_is which_is inv.kept closing) c.close_one.ensures.any_moment)
 
 pub returns-in_err-close_one-clause-tells : goal.returns-in_err-close_one-clause-tells
@@ -77,8 +77,8 @@ returns-in_err-close_one-clause-tells g c =
     let inv = c.loop-i.invariant in
     let copies = c.args.copies.now in
     let losing = c.args.losing.now in
-    let old = g.D.Disk.seen c.args.disk.now in
-    let now = g.D.Disk.seen c.loop-i.disk in
+    let old = (g.D.Disk.moment c.args.disk.now).seen in
+    let now = (g.D.Disk.moment c.loop-i.disk).seen in
     let copy_is = copy_at copies c.index-copies-from.result i c.from.result c.from.ensures (omega (arith, c.requires.copies)) c.index-copies-from.is in
     let which_is : c.losing_slot-which.result ≡ losing_slot (copy_of copies (i + 1)) = c.losing_slot-which.ensures ∙ ap losing_slot copy_is in
     let loses_is = losing_at losing i c.from-in-loop-i.result c.from-in-loop-i.ensures in
@@ -97,9 +97,9 @@ loop-i-preserved g c =
     let inv = c.loop-i.invariant in
     let copies = c.args.copies.now in
     let losing = c.args.losing.now in
-    let old = g.D.Disk.seen c.args.disk.now in
-    let now = g.D.Disk.seen c.loop-i.disk in
-    let new = g.D.Disk.seen c.close_one.new.disk in
+    let old = (g.D.Disk.moment c.args.disk.now).seen in
+    let now = (g.D.Disk.moment c.loop-i.disk).seen in
+    let new = (g.D.Disk.moment c.close_one.new.disk).seen in
     let copy_is = copy_at copies c.index-copies-from.result i c.from.result c.from.ensures (omega (arith, c.requires.copies)) c.index-copies-from.is in
     let which_is : c.losing_slot-which.result ≡ losing_slot (copy_of copies (i + 1)) = c.losing_slot-which.ensures ∙ ap losing_slot copy_is in
     let loses_is = losing_at losing i c.from-in-loop-i.result c.from-in-loop-i.ensures in
@@ -118,10 +118,10 @@ loop-i-preserved g c =
       long = torn.long ∙ inv.long;
       closed = closed_more base i now new copies losing inv.closed test torn (gate_is_shut gate (is_losing losing (i + 1)) now new fits done);
       kept = crash_keeps base i now new copies losing inv.closed test torn old c.requires.found inv.kept c.in_ok-close_one.ensures.view;
-      leaves = leaves_joins g.D.Disk.now g.D.Disk.may_leave g.D.Disk.may_have_left c.args.disk.now c.loop-i.disk c.close_one.new.disk (KeepsCopies base copies old) inv.leaves
-          (leaves_weaker g.D.Disk.now g.D.Disk.may_leave g.D.Disk.may_have_left c.loop-i.disk c.close_one.new.disk (IsClosing base (i + 1) c.losing_slot-which.result (get_or losing c.from-in-loop-i.result false) now) (KeepsCopies base copies old)
+      leaves = leaves_joins g.D.Disk.moment c.args.disk.now c.loop-i.disk c.close_one.new.disk (KeepsCopies base copies old) inv.leaves
+          (leaves_weaker g.D.Disk.moment c.loop-i.disk c.close_one.new.disk (IsClosing base (i + 1) c.losing_slot-which.result (get_or losing c.from-in-loop-i.result false) now) (KeepsCopies base copies old)
           (λ x closing. closing_keeps base i old now x copies losing (get_or losing c.from-in-loop-i.result false) c.losing_slot-which.result c.requires.found inv.closed c.loop-i-test.true loses_is which_is inv.kept closing) c.close_one.ensures.any_moment);
       cause = omega (arith, inv.cause, c.close_one.ensures.cause.later);
-      tells = subst (λ (n : ℕ). TellsMany {T = Unit {0}} {E = DiskFault} n (g.D.Disk.passing c.args.disk.now) (g.D.Disk.passing c.close_one.new.disk) (Ok tt)) calls
+      tells = subst (λ (n : ℕ). TellsMany {T = Unit {0}} {E = DiskFault} n (g.D.Disk.moment c.args.disk.now).passing (g.D.Disk.moment c.close_one.new.disk).passing (Ok tt)) calls
           (tells_join (2 * losing_gates base i old) (if get_or losing c.from-in-loop-i.result false then 2 else 0) _ _ _ (Ok tt) inv.tells c.in_ok-close_one.ensures.tells);
     }

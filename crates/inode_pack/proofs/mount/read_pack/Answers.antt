@@ -10,7 +10,7 @@ use Rattle.inode_pack.proofs.mount.read_pack.Goals as goal
 pub count_uses-requires-clause-slots : goal.count_uses-requires-clause-slots
 count_uses-requires-clause-slots g c =
     let base = c.args.base in
-    let seen = g.D.Disk.seen c.args.disk.now in
+    let seen = (g.D.Disk.moment c.args.disk.now).seen in
     let copies = c.in_ok-inodes.inodes.copies.items in
     let losing = c.in_ok-inodes.inodes.losing.items in
     let found = subst (λ (l : List ℕ). AreFound base 1024 l copies losing) c.in_ok-is_pack_of.ensures.seen c.in_ok-inodes.ensures.found in
@@ -20,7 +20,7 @@ count_uses-requires-clause-slots g c =
 pub returns-in-Some-clause-fault : goal.returns-in-Some-clause-fault
 returns-in-Some-clause-fault g c =
     let base = c.args.base in
-    let seen = g.D.Disk.seen c.args.disk.now in
+    let seen = (g.D.Disk.moment c.args.disk.now).seen in
     let copies = c.in_ok-inodes.inodes.copies.items in
     let losing = c.in_ok-inodes.inodes.losing.items in
     let found = subst (λ (l : List ℕ). AreFound base 1024 l copies losing) c.in_ok-is_pack_of.ensures.seen c.in_ok-inodes.ensures.found in
@@ -40,7 +40,7 @@ returns-in-Some-clause-fault g c =
 pub overflow_cast-result : goal.overflow_cast-result
 overflow_cast-result g c =
     let base = c.args.base in
-    let seen = g.D.Disk.seen c.args.disk.now in
+    let seen = (g.D.Disk.moment c.args.disk.now).seen in
     let copies = c.in_ok-inodes.inodes.copies.items in
     let losing = c.in_ok-inodes.inodes.losing.items in
     let found = subst (λ (l : List ℕ). AreFound base 1024 l copies losing) c.in_ok-is_pack_of.ensures.seen c.in_ok-inodes.ensures.found in
@@ -59,7 +59,7 @@ overflow_cast-result g c =
 pub overflow_sub-result : goal.overflow_sub-result
 overflow_sub-result g c =
     let base = c.args.base in
-    let seen = g.D.Disk.seen c.args.disk.now in
+    let seen = (g.D.Disk.moment c.args.disk.now).seen in
     let copies = c.in_ok-inodes.inodes.copies.items in
     let losing = c.in_ok-inodes.inodes.losing.items in
     let found = subst (λ (l : List ℕ). AreFound base 1024 l copies losing) c.in_ok-is_pack_of.ensures.seen c.in_ok-inodes.ensures.found in
@@ -78,7 +78,7 @@ overflow_sub-result g c =
 pub returns-clause-sound : goal.returns-clause-sound
 returns-clause-sound g c =
     let base = c.args.base in
-    let seen = g.D.Disk.seen c.args.disk.now in
+    let seen = (g.D.Disk.moment c.args.disk.now).seen in
     let copies = c.in_ok-inodes.inodes.copies.items in
     let losing = c.in_ok-inodes.inodes.losing.items in
     let found = subst (λ (l : List ℕ). AreFound base 1024 l copies losing) c.in_ok-is_pack_of.ensures.seen c.in_ok-inodes.ensures.found in
@@ -95,7 +95,7 @@ returns-clause-sound g c =
 pub returns-clause-copies : goal.returns-clause-copies
 returns-clause-copies g c =
     let base = c.args.base in
-    let seen = g.D.Disk.seen c.args.disk.now in
+    let seen = (g.D.Disk.moment c.args.disk.now).seen in
     let copies = c.in_ok-inodes.inodes.copies.items in
     let losing = c.in_ok-inodes.inodes.losing.items in
     let found = subst (λ (l : List ℕ). AreFound base 1024 l copies losing) c.in_ok-is_pack_of.ensures.seen c.in_ok-inodes.ensures.found in
@@ -111,7 +111,7 @@ returns-clause-copies g c =
 pub returns-clause-uses : goal.returns-clause-uses
 returns-clause-uses g c =
     let base = c.args.base in
-    let seen = g.D.Disk.seen c.args.disk.now in
+    let seen = (g.D.Disk.moment c.args.disk.now).seen in
     let copies = c.in_ok-inodes.inodes.copies.items in
     let losing = c.in_ok-inodes.inodes.losing.items in
     let found = subst (λ (l : List ℕ). AreFound base 1024 l copies losing) c.in_ok-is_pack_of.ensures.seen c.in_ok-inodes.ensures.found in

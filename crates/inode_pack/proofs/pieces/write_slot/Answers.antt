@@ -1,23 +1,23 @@
 use Rattle.std.proofs.Common.{◌≡◌, ◌∙◌, ◌+◌, ℕ, List, [], ◌∷◌, ◌++◌, length, replicate, ap, arith}
 use Rattle.disk_model.specs.Images.{overwritten}
 use Rattle.pack_layout.specs.Layout.{slot_at}
-use Rattle.inode_switch.specs.Switch.{written}
-use Rattle.inode_switch.proofs.Moments.{on_ok}
+use Rattle.gate_switch.specs.Switch.{written}
+use Rattle.disk_model.proofs.Moments.{on_ok}
 use Rattle.inode_pack.specs.PagePieces.{body_piece}
 use Rattle.inode_pack.proofs.Streaming.{alone_within}
 use Rattle.inode_pack.proofs.pieces.write_slot.Goals as goal
 
 pub write_at-requires : goal.write_at-requires
 write_at-requires g c =
-    let fits = alone_within (body_piece c.args.base c.args.made.now) (length (g.D.Disk.seen c.args.disk.now)) c.requires.within in
+    let fits = alone_within (body_piece c.args.base c.args.made.now) (length (g.D.Disk.moment c.args.disk.now).seen) c.requires.within in
     let long = ap length c.write_fields.ensures in
     omega (arith, fits, long, c.slot_at.ensures)
 
 pub returns-clause-written : goal.returns-clause-written
 returns-clause-written g c =
-    let old = g.D.Disk.seen c.args.disk.now in
+    let old = (g.D.Disk.moment c.args.disk.now).seen in
     let made = c.args.made.now in
     let place = slot_at c.args.base made.slot.ino made.which in
-    on_ok c.write_at.result _ (g.D.Disk.seen c.write_at.new.self ≡ written old (body_piece c.args.base made ∷ []))
+    on_ok c.write_at.result _ ((g.D.Disk.moment c.write_at.new.self).seen ≡ written old (body_piece c.args.base made ∷ []))
     (λ e. e ∙ ap (λ (n : ℕ). overwritten old (n + 1) (c.write_fields.new.out ++ replicate 304 0)) c.slot_at.ensures ∙ ap (λ (l : List ℕ). overwritten old (place + 1) l) c.write_fields.ensures)
     c.write_at.ensures.written

@@ -1,16 +1,16 @@
 use Rattle.std.proofs.Common.{◌≡◌, ◌+◌, ◌-◌, ◌≤◌, ◌<◌, false, ℕ, Bool, length, slice_index, sym, ap, ◌∙◌, arith}
 use Rattle.std.specs.Prelude.{◌==◌}
 use Rattle.std.proofs.lemmas.Bool.{eq-eqb, ne_eqb}
-use Rattle.pack_layout.specs.Layout.{pages_of}
+use Rattle.file_content.specs.Pages.{pages_of}
 use Rattle.inode_pack.proofs.Taking.{takes_start, takes_skip, unchanged, takes_stays, takes_one, takes_done, room, same_taking, same_so_far, whole_skip, whole_more}
 use Rattle.inode_pack.specs.Committing.{is_changed}
 use Rattle.inode_pack.proofs.plan.take_pages.Goals as goal
 use Rattle.inode_pack.proofs.plan.take_pages.Goals.{then-is_changed, else-is_changed}
 
 pub loop-i-init : goal.loop-i-init
-loop-i-init c =
+loop-i-init g c =
     let unused : ℕ → Bool = λ p. slice_index c.args.uses.now p == 0 in
-    let w = c.args.shadow.now in
+    let w = (g.C.NewContent.working c.args.content.now) in
     let row = c.args.row in
     let start = takes_start unused c.args.old.now w c.numbers_before-numbers.result c.args.least (omega arith) c.requires.least.most
     (λ page lt. ne_eqb _ _ (λ e. let named = c.requires.least.named page lt in omega arith)) c.numbers_before-numbers.ensures in
@@ -21,16 +21,16 @@ loop-i-init c =
     }
 
 pub next_free-found-requires-clause-some : goal.next_free-found-requires-clause-some
-next_free-found-requires-clause-some c =
+next_free-found-requires-clause-some g c =
     let in_row = c.requires.inside in
-    room (λ p. slice_index c.args.uses.now p == 0) c.args.old.now c.args.shadow.now c.loop-i.i c.loop-i.from (length c.args.uses.now) c.loop-i.numbers c.loop-i.invariant.so_far
+    room (λ p. slice_index c.args.uses.now p == 0) c.args.old.now (g.C.NewContent.working c.args.content.now) c.loop-i.i c.loop-i.from (length c.args.uses.now) c.loop-i.numbers c.loop-i.invariant.so_far
     (omega (arith, in_row)) (sym c.is_changed.ensures.changed ∙ c.if-is_changed.true) c.requires.room
 
 pub loop-i-preserved : goal.loop-i-preserved
-loop-i-preserved c =
+loop-i-preserved g c =
     let unused : ℕ → Bool = λ p. slice_index c.args.uses.now p == 0 in
     let old = c.args.old.now in
-    let shadow = c.args.shadow.now in
+    let shadow = (g.C.NewContent.working c.args.content.now) in
     let so_far = c.loop-i.invariant.so_far in
     let i = c.loop-i.i in
     let from = c.loop-i.from in
@@ -48,16 +48,16 @@ loop-i-preserved c =
     }
 
 pub returns-clause-whole : goal.returns-clause-whole
-returns-clause-whole c =
-    let w = c.args.shadow.now in
+returns-clause-whole g c =
+    let w = (g.C.NewContent.working c.args.content.now) in
     let row = c.args.row in
     whole_skip w c.loop-i.i (pages_of w.size) c.loop-i.invariant.whole
     (λ k low high. unchanged w row.first row.stop k c.requires.changed high (λ p. let b = p.1 in omega arith))
 
 pub returns-clause-takes : goal.returns-clause-takes
-returns-clause-takes c =
+returns-clause-takes g c =
     let unused : ℕ → Bool = λ p. slice_index c.args.uses.now p == 0 in
-    let w = c.args.shadow.now in
+    let w = (g.C.NewContent.working c.args.content.now) in
     let row = c.args.row in
     let i = c.loop-i.i in
     let end = c.page_count.ensures.pages ∙ ap pages_of c.size.ensures.value in

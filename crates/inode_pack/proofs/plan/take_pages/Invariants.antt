@@ -5,4 +5,4 @@ use Rattle.inode_pack.proofs.Taking.{TakesSoFar}
 use Rattle.inode_pack.proofs.plan.take_pages.Given as goal
 
 abbrev pub invariant-loop-i : goal.invariant-loop-i
-invariant-loop-i l = record { so_far : TakesSoFar (λ p. slice_index l.uses p == 0) l.old l.shadow l.i l.from l.numbers; whole : AreWhole l.shadow l.i }
+invariant-loop-i g l = record { so_far : TakesSoFar (λ p. slice_index l.uses p == 0) l.old (g.C.NewContent.working l.content) l.i l.from l.numbers; whole : AreWhole (g.C.NewContent.working l.content) l.i }

@@ -11,11 +11,11 @@ returns-in-Some-true-clause-found c base ino image a b =
     let one = subst (λ (o : Option Slot). IsRead ino (slot_at base ino 0) image (Ok o)) c.in-Some-Some.is-0 a in
     let two = subst (λ (o : Option Slot). IsRead ino (slot_at base ino 1) image (Ok o)) c.in-Some-Some.is-1 b in
     let newer_is = sym c.newer.ensures ∙ c.in-Some-true.is ∙ ap (λ (f : Bool). Some f) c.in-Some-true.field-0-test in
-    rw c.picked-in-Some-true.ensures.copy (rw c.picked-in-Some-true.ensures.loses (second_wins base ino image _ _ one two newer_is))
+    second_wins base ino image _ _ one two newer_is
 
 pub returns-in-Some-false-clause-found : goal.returns-in-Some-false-clause-found
 returns-in-Some-false-clause-found c base ino image a b =
     let one = subst (λ (o : Option Slot). IsRead ino (slot_at base ino 0) image (Ok o)) c.in-Some-Some.is-0 a in
     let two = subst (λ (o : Option Slot). IsRead ino (slot_at base ino 1) image (Ok o)) c.in-Some-Some.is-1 b in
     let newer_is = sym c.newer.ensures ∙ c.in-Some-false.is ∙ ap (λ (f : Bool). Some f) c.in-Some-false.field-0-test in
-    rw c.picked-in-Some-false.ensures.copy (rw c.picked-in-Some-false.ensures.loses (first_wins base ino image _ _ one two newer_is))
+    first_wins base ino image _ _ one two newer_is

@@ -2,13 +2,13 @@ use Rattle.std.proofs.Common.{◌≡◌, ◌-◌, ◌∙◌, ap, subst, sym, Lis
 use Rattle.std.specs.Prelude.{Option, Some, None, if◌then◌else◌}
 use Rattle.disk_model.specs.Images.{Torn}
 use Rattle.pack_layout.specs.Layout.{area_length}
-use Rattle.inode_switch.specs.declared.switching.Piece.{Piece}
-use Rattle.inode_switch.specs.Switch.{IsStage, switched}
+use Rattle.gate_switch.specs.Switch.{Piece}
+use Rattle.gate_switch.specs.Switch.{IsStage, switched}
 use Rattle.inode_switch.proofs.Outside.{stage_in_area}
 use Rattle.pack_layout.specs.Layout.{slot_at}
 use Rattle.inode_switch.specs.View.{IsOldOrNew, Replaced}
 use Rattle.inode_switch.specs.Replace.{made_version, closing}
-use Rattle.inode_switch.proofs.Moments.{leaves_weaker, on_ok}
+use Rattle.disk_model.proofs.Moments.{leaves_weaker, on_ok}
 use Rattle.inode_switch.proofs.OldOrNew.{stage_view, switched_view}
 use Rattle.inode_switch.proofs.replacing.replace_inode.Goals as goal
 
@@ -19,51 +19,51 @@ same_stage pieces old x gate gate' shuts shuts' e f stage =
 
 pub returns-clause-stages : goal.returns-clause-stages
 returns-clause-stages g c =
-    let old = g.D.Disk.seen c.args.disk.now in
+    let old = (g.D.Disk.moment c.args.disk.now).seen in
     let pieces = g.P.PieceSource.pieces c.args.source.now in
     let base = c.args.base in
     let ino = c.args.ino in
     let which = c.args.which in
     let shuts : c.closing_place-old_gate.result ≡ closing base ino which old = c.closing_place-old_gate.ensures ∙ ap (λ (b : Bool). if b then Some (slot_at base ino (1 - which)) else None) c.requires.closes in
-    leaves_weaker g.D.Disk.now g.D.Disk.may_leave g.D.Disk.may_have_left c.args.disk.now c.switch.new.disk (IsStage pieces c.slot_at-gate.result c.closing_place-old_gate.result old) (IsStage pieces (slot_at base ino which) (closing base ino which old) old)
+    leaves_weaker g.D.Disk.moment c.args.disk.now c.switch.new.disk (IsStage pieces c.slot_at-gate.result c.closing_place-old_gate.result old) (IsStage pieces (slot_at base ino which) (closing base ino which old) old)
     (λ x. same_stage pieces old x c.slot_at-gate.result (slot_at base ino which) c.closing_place-old_gate.result (closing base ino which old) c.slot_at-gate.ensures shuts)
     c.switch.ensures.any_moment
 
 pub returns-clause-outside : goal.returns-clause-outside
 returns-clause-outside g c =
-    let old = g.D.Disk.seen c.args.disk.now in
+    let old = (g.D.Disk.moment c.args.disk.now).seen in
     let pieces = g.P.PieceSource.pieces c.args.source.now in
     let base = c.args.base in
     let ino = c.args.ino in
     let which = c.args.which in
     let shuts : c.closing_place-old_gate.result ≡ closing base ino which old = c.closing_place-old_gate.ensures ∙ ap (λ (b : Bool). if b then Some (slot_at base ino (1 - which)) else None) c.requires.closes in
-    leaves_weaker g.D.Disk.now g.D.Disk.may_leave g.D.Disk.may_have_left c.args.disk.now c.switch.new.disk (IsStage pieces c.slot_at-gate.result c.closing_place-old_gate.result old) (Torn base area_length old)
+    leaves_weaker g.D.Disk.moment c.args.disk.now c.switch.new.disk (IsStage pieces c.slot_at-gate.result c.closing_place-old_gate.result old) (Torn base area_length old)
     (λ x stage. stage_in_area base ino which pieces old c.requires.may x
     (same_stage pieces old x c.slot_at-gate.result (slot_at base ino which) c.closing_place-old_gate.result (closing base ino which old) c.slot_at-gate.ensures shuts stage))
     c.switch.ensures.any_moment
 
 pub returns-clause-done : goal.returns-clause-done
 returns-clause-done g c =
-    let old = g.D.Disk.seen c.args.disk.now in
+    let old = (g.D.Disk.moment c.args.disk.now).seen in
     let pieces = g.P.PieceSource.pieces c.args.source.now in
     let base = c.args.base in
     let ino = c.args.ino in
     let which = c.args.which in
     let shuts : c.closing_place-old_gate.result ≡ closing base ino which old = c.closing_place-old_gate.ensures ∙ ap (λ (b : Bool). if b then Some (slot_at base ino (1 - which)) else None) c.requires.closes in
-    on_ok c.switch.result _ (g.D.Disk.seen c.switch.new.disk ≡ switched pieces (slot_at base ino which) (closing base ino which old) old)
+    on_ok c.switch.result _ ((g.D.Disk.moment c.switch.new.disk).seen ≡ switched pieces (slot_at base ino which) (closing base ino which old) old)
     (λ done. done ∙ ap (λ (n : ℕ). switched pieces n c.closing_place-old_gate.result old) c.slot_at-gate.ensures ∙ ap (λ (o : Option ℕ). switched pieces (slot_at base ino which) o old) shuts)
     c.switch.ensures.done
 
 pub returns-clause-any_moment : goal.returns-clause-any_moment
 returns-clause-any_moment g c =
-    let old = g.D.Disk.seen c.args.disk.now in
+    let old = (g.D.Disk.moment c.args.disk.now).seen in
     let pieces = g.P.PieceSource.pieces c.args.source.now in
     let base = c.args.base in
     let ino = c.args.ino in
     let which = c.args.which in
     let made = made_version base ino which pieces old in
     let shuts : c.closing_place-old_gate.result ≡ closing base ino which old = c.closing_place-old_gate.ensures ∙ ap (λ (b : Bool). if b then Some (slot_at base ino (1 - which)) else None) c.requires.closes in
-    leaves_weaker g.D.Disk.now g.D.Disk.may_leave g.D.Disk.may_have_left c.args.disk.now c.switch.new.disk (IsStage pieces c.slot_at-gate.result c.closing_place-old_gate.result old) (IsOldOrNew base ino made old)
+    leaves_weaker g.D.Disk.moment c.args.disk.now c.switch.new.disk (IsStage pieces c.slot_at-gate.result c.closing_place-old_gate.result old) (IsOldOrNew base ino made old)
     (λ x stage. stage_view base ino which pieces old c.requires.may x
     (subst (λ (o : Option ℕ). IsStage pieces (slot_at base ino which) o old x) shuts
     (subst (λ (n : ℕ). IsStage pieces n c.closing_place-old_gate.result old x) c.slot_at-gate.ensures stage)))
@@ -71,14 +71,14 @@ returns-clause-any_moment g c =
 
 pub returns-clause-replaced : goal.returns-clause-replaced
 returns-clause-replaced g c =
-    let old = g.D.Disk.seen c.args.disk.now in
+    let old = (g.D.Disk.moment c.args.disk.now).seen in
     let pieces = g.P.PieceSource.pieces c.args.source.now in
     let base = c.args.base in
     let ino = c.args.ino in
     let which = c.args.which in
     let made = made_version base ino which pieces old in
     let shuts : c.closing_place-old_gate.result ≡ closing base ino which old = c.closing_place-old_gate.ensures ∙ ap (λ (b : Bool). if b then Some (slot_at base ino (1 - which)) else None) c.requires.closes in
-    on_ok c.switch.result _ (Replaced base ino made old (g.D.Disk.seen c.switch.new.disk))
+    on_ok c.switch.result _ (Replaced base ino made old (g.D.Disk.moment c.switch.new.disk).seen)
     (λ done. subst (λ (l : List ℕ). Replaced base ino made old l)
     (sym (done ∙ ap (λ (n : ℕ). switched pieces n c.closing_place-old_gate.result old) c.slot_at-gate.ensures ∙ ap (λ (o : Option ℕ). switched pieces (slot_at base ino which) o old) shuts))
     (switched_view base ino which pieces old c.requires.may))

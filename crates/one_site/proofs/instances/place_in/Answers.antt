@@ -1,7 +1,7 @@
 use Rattle.std.proofs.Common.{◌≡◌, [], sym, ◌∙◌, rules}
 use Rattle.std.proofs.lemmas.List.{take_all}
 use Rattle.std.specs.Prelude.{filter}
-use Rattle.tree_model.specs.Tree.{is_named}
+use Rattle.first_model.specs.Tree.{is_named}
 use Rattle.one_site.specs.Ids.{the_epoch}
 use Rattle.one_site.proofs.Searching.{found_here, not_found}
 use Rattle.one_site.proofs.instances.place_in.Goals as goal

@@ -1,6 +1,6 @@
 use Rattle.std.proofs.Common.{◌≡◌, [], take}
 use Rattle.std.specs.Prelude.{filter}
-use Rattle.tree_model.specs.Tree.{is_named}
+use Rattle.first_model.specs.Tree.{is_named}
 use Rattle.one_site.specs.Ids.{the_epoch}
 use Rattle.one_site.proofs.instances.place_in.Given as goal
 

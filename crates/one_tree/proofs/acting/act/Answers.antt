@@ -2,9 +2,9 @@ use Rattle.std.proofs.Common.{◌≡◌, ℕ, Bool, false, List, refl, sym, ap, 
 use Rattle.commit_graph.specs.declared.history.Version.{Version}
 use Rattle.trace_book.specs.declared.operation.Op.{Op}
 use Rattle.trace_book.specs.declared.operation.Outcome.{Outcome}
-use Rattle.tree_model.specs.declared.instance.Instance.{Instance}
-use Rattle.tree_model.specs.Directory.{is_refusal}
-use Rattle.tree_model.specs.Tree.{is_named}
+use Rattle.first_model.specs.declared.instance.Instance.{Instance}
+use Rattle.first_model.specs.Directory.{is_refusal}
+use Rattle.first_model.specs.Tree.{is_named}
 use Rattle.one_tree.specs.Seen.{changed_by, changed_left, content_left, owes_left, worked}
 use Rattle.one_tree.specs.Steps.{acted_by}
 use Rattle.one_tree.proofs.Rooms.{changed-by}

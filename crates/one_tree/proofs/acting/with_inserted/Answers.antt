@@ -1,7 +1,7 @@
 use Rattle.std.proofs.Common.{◌≤◌, length, subst, sym, ◌∙◌, arith}
 use Rattle.std.specs.List.{AllByRecursion}
-use Rattle.dir_list.specs.Entries.{HasShortName}
-use Rattle.dir_list.proofs.Laws.{AllByRecursion-with_entry}
+use Rattle.first_dirs.specs.Entries.{HasShortName}
+use Rattle.first_dirs.proofs.Laws.{AllByRecursion-with_entry}
 use Rattle.one_tree.proofs.acting.with_inserted.Goals as goal
 
 pub encode-requires : goal.encode-requires

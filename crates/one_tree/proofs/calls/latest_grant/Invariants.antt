@@ -1,5 +1,5 @@
 use Rattle.std.proofs.Common.{◌≡◌, drop}
-use Rattle.tree_model.specs.Trace.{or_else}
+use Rattle.first_model.specs.Trace.{or_else}
 use Rattle.one_tree.specs.Rows.{latest}
 use Rattle.one_tree.specs.Seen.{is_grant_row}
 use Rattle.one_tree.proofs.calls.latest_grant.Given as goal

@@ -1,5 +1,5 @@
 use Rattle.std.proofs.Common.{◌≡◌, drop}
-use Rattle.tree_model.specs.OneTree.{is_kept}
+use Rattle.first_model.specs.OneTree.{is_kept}
 use Rattle.one_tree.proofs.looking.is_kept.Given as goal
 
 abbrev pub invariant-loop-one : goal.invariant-loop-one

@@ -1,5 +1,5 @@
 use Rattle.std.proofs.Common.{◌≡◌, Some, take}
-use Rattle.tree_model.specs.OneTree.{without_make}
+use Rattle.first_model.specs.OneTree.{without_make}
 use Rattle.one_tree.proofs.making.without_make.Given as goal
 
 abbrev pub invariant-loop-other : goal.invariant-loop-other

@@ -1,5 +1,5 @@
 use Rattle.std.proofs.Common.{◌≡◌, ◌≤◌, take, length, filter}
-use Rattle.tree_model.specs.OneTree.{is_given_by}
+use Rattle.first_model.specs.OneTree.{is_given_by}
 use Rattle.one_tree.proofs.numbers.given_by.Given as goal
 
 abbrev pub invariant-loop-ino : goal.invariant-loop-ino

@@ -1,6 +1,6 @@
 use Rattle.std.proofs.Common.{◌≡◌, drop}
 use Rattle.commit_graph.specs.Grants.{excluder}
-use Rattle.tree_model.specs.Tree.{openers}
+use Rattle.first_model.specs.Tree.{openers}
 use Rattle.one_tree.proofs.opening.busy.Given as goal
 
 abbrev pub invariant-loop-instance : goal.invariant-loop-instance

@@ -1,6 +1,6 @@
 use Rattle.std.proofs.Common.{◌≡◌, drop}
 use Rattle.std.specs.Prelude.{filter}
-use Rattle.tree_model.specs.Directory.{has_name}
+use Rattle.first_model.specs.Directory.{has_name}
 use Rattle.one_tree.specs.Checks.{first_ino}
 use Rattle.one_tree.proofs.operating.first_named.Given as goal
 

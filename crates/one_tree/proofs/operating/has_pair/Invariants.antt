@@ -1,6 +1,6 @@
 use Rattle.std.proofs.Common.{◌≡◌, drop}
 use Rattle.std.specs.List.{list_any}
-use Rattle.tree_model.specs.Directory.{is_pair}
+use Rattle.first_model.specs.Directory.{is_pair}
 use Rattle.one_tree.proofs.operating.has_pair.Given as goal
 
 abbrev pub invariant-loop-entry : goal.invariant-loop-entry

@@ -1,5 +1,5 @@
 use Rattle.std.proofs.Common.{◌≡◌}
-use Rattle.tree_model.specs.OneTree.{is_within}
+use Rattle.first_model.specs.OneTree.{is_within}
 use Rattle.one_tree.proofs.placing.is_within.Given as goal
 
 abbrev pub invariant-loop-left : goal.invariant-loop-left

@@ -1,5 +1,5 @@
 use Rattle.std.proofs.Common.{sym, ◌∙◌}
-use Rattle.tree_model.specs.OneTree.{is_place}
+use Rattle.first_model.specs.OneTree.{is_place}
 use Rattle.one_tree.proofs.Counting.{least_from-here, least_from-later}
 use Rattle.one_tree.proofs.placing.least_place.Goals as goal
 

@@ -1,6 +1,6 @@
 use Rattle.std.proofs.Common.{◌≡◌, ◌-◌}
-use Rattle.tree_model.specs.Trace.{least_from}
-use Rattle.tree_model.specs.OneTree.{is_place}
+use Rattle.first_model.specs.Trace.{least_from}
+use Rattle.first_model.specs.OneTree.{is_place}
 use Rattle.one_tree.proofs.placing.least_place.Given as goal
 
 abbrev pub invariant-loop-site : goal.invariant-loop-site

@@ -1,5 +1,5 @@
 use Rattle.std.proofs.Common.{◌≡◌, ◌-◌, drop}
-use Rattle.tree_model.specs.Room.{changed_pages}
+use Rattle.first_model.specs.Room.{changed_pages}
 use Rattle.one_tree.proofs.room.less_changed.Given as goal
 
 abbrev pub invariant-loop-instance : goal.invariant-loop-instance

@@ -4,7 +4,7 @@ use Rattle.disk_model.proofs.record_disk.RecordDisk.replay.Given as goal
 
 abbrev pub invariant-loop-call : goal.invariant-loop-call
 invariant-loop-call g l = record {
-  read : (played l.self.pool.items (record { read = g.D.Disk.seen l.initial.disk; waiting = [] }) (take l.call-index l.self.calls.items)).read ≡ g.D.Disk.seen l.disk;
-  long : length (g.D.Disk.seen l.disk) ≡ length l.self.seen.items;
-  cause : g.D.Disk.faults l.initial.disk ≤ g.D.Disk.faults l.disk;
+  read : (played l.self.pool.items (record { read = (g.D.Disk.moment l.initial.disk).seen; waiting = [] }) (take l.call-index l.self.calls.items)).read ≡ (g.D.Disk.moment l.disk).seen;
+  long : length (g.D.Disk.moment l.disk).seen ≡ length l.self.seen.items;
+  cause : (g.D.Disk.moment l.initial.disk).faults ≤ (g.D.Disk.moment l.disk).faults;
 }

@@ -9,7 +9,7 @@ returns-in-Passes-clause-crash c =
     let bytes = c.args.bytes.now in
     let n = length bytes in
     let torn : Torn c.args.at n old.store.seen.items c.write.new.self.seen.items = subst (λ (l : List ℕ). Torn c.args.at n old.store.seen.items l) (sym c.write.ensures.seen) (torn_overwritten old.store.seen.items c.args.at bytes c.requires) in
-    write_goes old _ c.args.at n c.requires torn c.write.ensures.unsynced
+    write_goes old (record { store = c.write.new.self; script = c.next_write.new.self }) c.args.at n c.requires torn c.write.ensures.unsynced
 
 pub returns-in-Stops-clause-failed : goal.returns-in-Stops-clause-failed
 returns-in-Stops-clause-failed c =
@@ -20,4 +20,4 @@ returns-in-Stops-clause-failed c =
 pub returns-in-Stops-clause-crash : goal.returns-in-Stops-clause-crash
 returns-in-Stops-clause-crash c =
     let old = c.args.self.now in
-    write_goes old _ c.args.at (length c.args.bytes.now) c.requires (returns-in-Stops-clause-failed c) c.stop_write.ensures.unsynced
+    write_goes old (record { store = c.stop_write.new.self; script = c.next_write.new.self }) c.args.at (length c.args.bytes.now) c.requires (returns-in-Stops-clause-failed c) c.stop_write.ensures.unsynced

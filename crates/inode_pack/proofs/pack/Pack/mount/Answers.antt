@@ -1,72 +1,66 @@
 use Rattle.std.proofs.Common.{subst, List, ℕ}
 use Rattle.std.specs.Prelude.{Option}
-use Rattle.inode_switch.proofs.Moments.{leaves_weaker}
+use Rattle.disk_model.proofs.Moments.{leaves_weaker}
 use Rattle.inode_pack.specs.declared.inode_copy.InodeCopy.{InodeCopy}
 use Rattle.inode_pack.specs.Pack.{PackState, ShowsCopies, copy_of}
 use Rattle.inode_pack.specs.Mounting.{KeepsPack}
 use Rattle.inode_pack.specs.Losing.{KeepsCopies}
 use Rattle.inode_pack.proofs.Mounted.{keeps_itself, keeps_pack, mounted, recovered, mounts}
-use Rattle.inode_pack.proofs.Runs.{leaves_same, leaves_joins}
+use Rattle.disk_model.proofs.ReadRuns.{leaves_same, leaves_joins}
 use Rattle.inode_pack.proofs.pack.Pack.mount.Goals as goal
 
 pub returns-in_err-survey-clause-mounts : goal.returns-in_err-survey-clause-mounts
 returns-in_err-survey-clause-mounts g c sound =
-    mounts c.args.base c.args.group c.args.site (g.D.Disk.seen c.args.disk.now) c.from_residual.result c.in_err-survey.field-0.0 c.from_residual.ensures.1 c.in_err-survey.ensures.fault sound
+    mounts c.args.base c.args.group c.args.site (g.D.Disk.moment c.args.disk.now).seen c.from_residual.result c.in_err-survey.field-0.0 c.from_residual.ensures.1 c.in_err-survey.ensures.fault sound
 
 pub returns-in_err-survey-clause-any_moment : goal.returns-in_err-survey-clause-any_moment
 returns-in_err-survey-clause-any_moment g c =
-    let N = g.D.Disk.now in
-    let L = g.D.Disk.may_leave in
-    let H = g.D.Disk.may_have_left in
+    let M = g.D.Disk.moment in
     let old = c.args.disk.now in
-    let seen = g.D.Disk.seen old in
+    let seen = (g.D.Disk.moment old).seen in
     let keeps = KeepsPack c.args.base c.args.group c.args.site seen in
-    leaves_same N L H old c.read_pack.new.disk seen keeps c.requires.settled (g.met.D.Disk.only_now old) c.read_pack.ensures.crash (keeps_itself c.args.base c.args.group c.args.site seen)
+    leaves_same M old c.read_pack.new.disk seen keeps c.requires.settled (g.met.D.Disk.only_now old) c.read_pack.ensures.crash (keeps_itself c.args.base c.args.group c.args.site seen)
 
 pub returns-in_err-close_losing-clause-any_moment : goal.returns-in_err-close_losing-clause-any_moment
 returns-in_err-close_losing-clause-any_moment g c =
-    let N = g.D.Disk.now in
-    let L = g.D.Disk.may_leave in
-    let H = g.D.Disk.may_have_left in
+    let M = g.D.Disk.moment in
     let old = c.args.disk.now in
     let mid = c.read_pack.new.disk in
-    let seen = g.D.Disk.seen old in
+    let seen = (g.D.Disk.moment old).seen in
     let keeps = KeepsPack c.args.base c.args.group c.args.site seen in
-    let first = leaves_same N L H old mid seen keeps c.requires.settled (g.met.D.Disk.only_now old) c.read_pack.ensures.crash (keeps_itself c.args.base c.args.group c.args.site seen) in
+    let first = leaves_same M old mid seen keeps c.requires.settled (g.met.D.Disk.only_now old) c.read_pack.ensures.crash (keeps_itself c.args.base c.args.group c.args.site seen) in
     let copies = c.in_ok-survey.survey.copies.items in
     let same = c.deref.ensures.value in
-    let step = λ (x : List ℕ) (kept : KeepsCopies c.args.base c.deref.result.now (g.D.Disk.seen mid) x).
+    let step = λ (x : List ℕ) (kept : KeepsCopies c.args.base c.deref.result.now (g.D.Disk.moment mid).seen x).
     keeps_pack c.args.base c.args.group c.args.site copies seen x c.in_ok-survey.ensures.copies
-    (subst (λ (l : List ℕ). KeepsCopies c.args.base copies l x) c.in_ok-survey.ensures.seen (subst (λ (o : List (Option InodeCopy)). KeepsCopies c.args.base o (g.D.Disk.seen mid) x) same kept)) in
-    leaves_joins N L H old mid c.close_losing.new.disk keeps first
-    (leaves_weaker N L H mid c.close_losing.new.disk (KeepsCopies c.args.base c.deref.result.now (g.D.Disk.seen mid)) keeps step c.close_losing.ensures.any_moment)
+    (subst (λ (l : List ℕ). KeepsCopies c.args.base copies l x) c.in_ok-survey.ensures.seen (subst (λ (o : List (Option InodeCopy)). KeepsCopies c.args.base o (g.D.Disk.moment mid).seen x) same kept)) in
+    leaves_joins M old mid c.close_losing.new.disk keeps first
+    (leaves_weaker M mid c.close_losing.new.disk (KeepsCopies c.args.base c.deref.result.now (g.D.Disk.moment mid).seen) keeps step c.close_losing.ensures.any_moment)
 
 pub returns-clause-any_moment : goal.returns-clause-any_moment
 returns-clause-any_moment g c =
-    let N = g.D.Disk.now in
-    let L = g.D.Disk.may_leave in
-    let H = g.D.Disk.may_have_left in
+    let M = g.D.Disk.moment in
     let old = c.args.disk.now in
     let mid = c.read_pack.new.disk in
-    let seen = g.D.Disk.seen old in
+    let seen = (g.D.Disk.moment old).seen in
     let keeps = KeepsPack c.args.base c.args.group c.args.site seen in
-    let first = leaves_same N L H old mid seen keeps c.requires.settled (g.met.D.Disk.only_now old) c.read_pack.ensures.crash (keeps_itself c.args.base c.args.group c.args.site seen) in
+    let first = leaves_same M old mid seen keeps c.requires.settled (g.met.D.Disk.only_now old) c.read_pack.ensures.crash (keeps_itself c.args.base c.args.group c.args.site seen) in
     let copies = c.in_ok-survey.survey.copies.items in
     let same = c.deref.ensures.value in
-    let step = λ (x : List ℕ) (kept : KeepsCopies c.args.base c.deref.result.now (g.D.Disk.seen mid) x).
+    let step = λ (x : List ℕ) (kept : KeepsCopies c.args.base c.deref.result.now (g.D.Disk.moment mid).seen x).
     keeps_pack c.args.base c.args.group c.args.site copies seen x c.in_ok-survey.ensures.copies
-    (subst (λ (l : List ℕ). KeepsCopies c.args.base copies l x) c.in_ok-survey.ensures.seen (subst (λ (o : List (Option InodeCopy)). KeepsCopies c.args.base o (g.D.Disk.seen mid) x) same kept)) in
-    leaves_joins N L H old mid c.close_losing.new.disk keeps first
-    (leaves_weaker N L H mid c.close_losing.new.disk (KeepsCopies c.args.base c.deref.result.now (g.D.Disk.seen mid)) keeps step c.close_losing.ensures.any_moment)
+    (subst (λ (l : List ℕ). KeepsCopies c.args.base copies l x) c.in_ok-survey.ensures.seen (subst (λ (o : List (Option InodeCopy)). KeepsCopies c.args.base o (g.D.Disk.moment mid).seen x) same kept)) in
+    leaves_joins M old mid c.close_losing.new.disk keeps first
+    (leaves_weaker M mid c.close_losing.new.disk (KeepsCopies c.args.base c.deref.result.now (g.D.Disk.moment mid).seen) keeps step c.close_losing.ensures.any_moment)
 
 pub returns-clause-recovered : goal.returns-clause-recovered
-returns-clause-recovered g c = recovered c.args.base (g.D.Disk.seen c.args.disk.now) c.in_ok-survey.survey.copies.items c.in_ok-survey.survey.losing.items c.in_ok-survey.ensures.found
+returns-clause-recovered g c = recovered c.args.base (g.D.Disk.moment c.args.disk.now).seen c.in_ok-survey.survey.copies.items c.in_ok-survey.survey.losing.items c.in_ok-survey.ensures.found
 
 pub returns-clause-stands : goal.returns-clause-stands
 returns-clause-stands g c =
-    let seen = g.D.Disk.seen c.args.disk.now in
-    let mid = g.D.Disk.seen c.read_pack.new.disk in
-    let new = g.D.Disk.seen c.close_losing.new.disk in
+    let seen = (g.D.Disk.moment c.args.disk.now).seen in
+    let mid = (g.D.Disk.moment c.read_pack.new.disk).seen in
+    let new = (g.D.Disk.moment c.close_losing.new.disk).seen in
     let copies = c.in_ok-survey.survey.copies.items in
     let same = c.deref.ensures.value in
     let kept = subst (λ (l : List ℕ). KeepsCopies c.args.base copies l new) c.in_ok-survey.ensures.seen (subst (λ (o : List (Option InodeCopy)). KeepsCopies c.args.base o mid new) same c.in_ok-close_losing.ensures.kept) in

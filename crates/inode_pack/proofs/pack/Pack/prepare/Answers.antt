@@ -1,5 +1,5 @@
 use Rattle.std.proofs.Common.{◌≡◌, ◌⊎◌, ◌≤◌, ◌+◌, ℕ, Bool, List, length, get_or, sym, ap, subst, ◌∙◌, arith}
-use Rattle.pack_layout.specs.Layout.{pages_of}
+use Rattle.file_content.specs.Pages.{pages_of}
 use Rattle.inode_pack.specs.declared.inode_copy.InodeCopy.{InodeCopy}
 use Rattle.std.specs.Prelude.{◌==◌, Option, Some}
 use Rattle.shadow_pages.specs.Working.{count_below}
@@ -11,56 +11,54 @@ use Rattle.inode_pack.proofs.NewCopies.{copy_at, room_for, makes_alike}
 use Rattle.inode_pack.proofs.pack.Pack.prepare.Goals as goal
 
 pub next_copy-made-requires-clause-room : goal.next_copy-made-requires-clause-room
-next_copy-made-requires-clause-room c =
+next_copy-made-requires-clause-room g c =
     let inv = c.self.invariant in
-    let fits : needed c.args.shadow.now + length (named_pages c.self.inside.copies.items) ≤ 3072 = subst (λ (p : PackState). needed c.args.shadow.now + length (named_pages p.copies) ≤ 3072) (sym c.self.view_is) c.requires.room in
-    let le : needed c.args.shadow.now ≤ c.self.inside.free = omega (arith, fits, inv.1.rest) in
-    subst (λ (l : List ℕ). needed c.args.shadow.now ≤ count_below (λ p. get_or l p 0 == 0) (length l)) (sym c.deref.ensures.value)
-    (room_for c.self.inside.copies.items c.self.inside.uses.items c.self.inside.free inv.0 inv.1 (needed c.args.shadow.now) le)
+    let fits : needed (g.C.NewContent.working c.args.content.now) + length (named_pages c.self.inside.copies.items) ≤ 3072 = subst (λ (p : PackState). needed (g.C.NewContent.working c.args.content.now) + length (named_pages p.copies) ≤ 3072) (sym c.self.view_is) c.requires.room in
+    let le : needed (g.C.NewContent.working c.args.content.now) ≤ c.self.inside.free = omega (arith, fits, inv.1.rest) in
+    subst (λ (l : List ℕ). needed (g.C.NewContent.working c.args.content.now) ≤ count_below (λ p. get_or l p 0 == 0) (length l)) (sym c.deref.ensures.value)
+    (room_for c.self.inside.copies.items c.self.inside.uses.items c.self.inside.free inv.0 inv.1 (needed (g.C.NewContent.working c.args.content.now)) le)
 
 pub next_copy-made-requires-clause-which : goal.next_copy-made-requires-clause-which
-next_copy-made-requires-clause-which c copy held =
+next_copy-made-requires-clause-which g c copy held =
     let inv = c.self.invariant in
-    let at = copy_at c.self.inside.copies.items c.self.inside.uses.items c.self.inside.free inv.0 inv.1 c.args.heading.now.ino c.from.result c.index-old.result.now c.requires.version.low c.requires.version.high c.from.ensures c.index-old.ensures in
-    (copy_is c.self.inside.copies.items c.args.heading.now.ino copy inv.0 (sym at ∙ held)).place
+    let at = copy_at c.self.inside.copies.items c.self.inside.uses.items c.self.inside.free inv.0 inv.1 c.args.ino c.from.result c.index-old.result.now c.requires.low c.requires.high c.from.ensures c.index-old.ensures in
+    (copy_is c.self.inside.copies.items c.args.ino copy inv.0 (sym at ∙ held)).place
 
 pub next_copy-made-requires-clause-turn : goal.next_copy-made-requires-clause-turn
-next_copy-made-requires-clause-turn c copy held =
+next_copy-made-requires-clause-turn g c copy held =
     let inv = c.self.invariant in
-    let at = copy_at c.self.inside.copies.items c.self.inside.uses.items c.self.inside.free inv.0 inv.1 c.args.heading.now.ino c.from.result c.index-old.result.now c.requires.version.low c.requires.version.high c.from.ensures c.index-old.ensures in
-    (copy_is c.self.inside.copies.items c.args.heading.now.ino copy inv.0 (sym at ∙ held)).slot.turn
+    let at = copy_at c.self.inside.copies.items c.self.inside.uses.items c.self.inside.free inv.0 inv.1 c.args.ino c.from.result c.index-old.result.now c.requires.low c.requires.high c.from.ensures c.index-old.ensures in
+    (copy_is c.self.inside.copies.items c.args.ino copy inv.0 (sym at ∙ held)).slot.turn
 
 pub returns-clause-inside : goal.returns-clause-inside
-returns-clause-inside c =
+returns-clause-inside g c =
     let inv = c.self.invariant in
     let copies = c.self.inside.copies.items in
-    let h = c.args.heading.now in
     let uses = c.deref.result.now in
     let made = c.next_copy-made.result in
     let used = subst (λ (l : List ℕ). AreUses copies l c.self.inside.free) (sym c.deref.ensures.value) inv.1 in
-    let at = copy_at copies c.self.inside.uses.items c.self.inside.free inv.0 inv.1 h.ino c.from.result c.index-old.result.now c.requires.version.low c.requires.version.high c.from.ensures c.index-old.ensures in
-    let m = makes_alike copies uses c.self.inside.free h.ino c.index-old.result.now h.kind h.set c.args.shadow.now h.stamp h.vector made inv.0 used at c.next_copy-made.ensures.makes in
-    let rests = subst (λ (p : PackState). RestsOn (size_of (copy_of p.copies h.ino)) c.args.shadow.now) (sym c.self.view_is) c.requires.rests in
-    number_inside copies h.ino c.args.shadow.now made.slot.pages inv.0 rests m.takes
+    let at = copy_at copies c.self.inside.uses.items c.self.inside.free inv.0 inv.1 c.args.ino c.from.result c.index-old.result.now c.requires.low c.requires.high c.from.ensures c.index-old.ensures in
+    let m = makes_alike copies uses c.self.inside.free c.args.ino c.index-old.result.now c.args.version.now (g.C.NewContent.working c.args.content.now) made inv.0 used at c.next_copy-made.ensures.makes in
+    let rests = subst (λ (p : PackState). RestsOn (size_of (copy_of p.copies c.args.ino)) (g.C.NewContent.working c.args.content.now)) (sym c.self.view_is) c.requires.rests in
+    number_inside copies c.args.ino (g.C.NewContent.working c.args.content.now) made.slot.pages inv.0 rests m.takes
 
 pub row_to_pass-passed-requires-clause-slot : goal.row_to_pass-passed-requires-clause-slot
-row_to_pass-passed-requires-clause-slot c one held =
+row_to_pass-passed-requires-clause-slot g c one held =
     let inv = c.self.invariant in
-    let at = copy_at c.self.inside.copies.items c.self.inside.uses.items c.self.inside.free inv.0 inv.1 c.args.heading.now.ino c.from.result c.index-old.result.now c.requires.version.low c.requires.version.high c.from.ensures c.index-old.ensures in
-    (copy_is c.self.inside.copies.items c.args.heading.now.ino one inv.0 (sym at ∙ held)).slot
+    let at = copy_at c.self.inside.copies.items c.self.inside.uses.items c.self.inside.free inv.0 inv.1 c.args.ino c.from.result c.index-old.result.now c.requires.low c.requires.high c.from.ensures c.index-old.ensures in
+    (copy_is c.self.inside.copies.items c.args.ino one inv.0 (sym at ∙ held)).slot
 
 pub returns-clause-same : goal.returns-clause-same
-returns-clause-same c one known =
+returns-clause-same g c one known =
     let inv = c.self.invariant in
-    let h = c.args.heading.now in
-    let w = c.args.shadow.now in
-    let row = c.changed_row-row.result in
+    let w = (g.C.NewContent.working c.args.content.now) in
+    let row = c.row-row.result in
     let pass = c.row_to_pass-passed.result in
-    let at = copy_at c.self.inside.copies.items c.self.inside.uses.items c.self.inside.free inv.0 inv.1 h.ino c.from.result c.index-old.result.now c.requires.version.low c.requires.version.high c.from.ensures c.index-old.ensures in
-    let held = at ∙ subst (λ (p : PackState). copy_of p.copies h.ino ≡ Some one) (sym c.self.view_is) known in
+    let at = copy_at c.self.inside.copies.items c.self.inside.uses.items c.self.inside.free inv.0 inv.1 c.args.ino c.from.result c.index-old.result.now c.requires.low c.requires.high c.from.ensures c.index-old.ensures in
+    let held = at ∙ subst (λ (p : PackState). copy_of p.copies c.args.ino ≡ Some one) (sym c.self.view_is) known in
     let unused : ℕ → Bool = λ p. get_or c.deref.result.now p 0 == 0 in
     let takes = subst (λ (o : Option InodeCopy). TakesPages unused o w c.next_copy-made.result.slot.pages) held c.next_copy-made.ensures.makes.takes in
-    let slot = (copy_is c.self.inside.copies.items h.ino one inv.0 (sym at ∙ held)).slot in
+    let slot = (copy_is c.self.inside.copies.items c.args.ino one inv.0 (sym at ∙ held)).slot in
     let end = c.page_count.ensures.pages ∙ ap pages_of c.size.ensures.value in
     let covers = subst (λ (n : ℕ). ((pass.first ≡ 0) × (pass.stop ≡ 64)) ⊎ ((pass.first ≡ row.first) × (pass.stop ≡ row.stop) × (pages_of one.slot.size ≤ n))) end (c.row_to_pass-passed.ensures.covers one held) in
-    same_but_for unused one w c.next_copy-made.result.slot.pages row.first row.stop pass.first pass.stop slot takes c.changed_row-row.ensures.changed covers
+    same_but_for unused one w c.next_copy-made.result.slot.pages row.first row.stop pass.first pass.stop slot takes c.row-row.ensures.changed covers

@@ -3,14 +3,14 @@ use Rattle.std.specs.Prelude.{Some}
 use Rattle.disk_model.specs.Images.{bytes_at}
 use Rattle.pack_layout.specs.Layout.{page_at}
 use Rattle.inode_switch.specs.View.{Version, view}
-use Rattle.inode_switch.proofs.Moments.{on_ok}
+use Rattle.disk_model.proofs.Moments.{on_ok}
 use Rattle.inode_pack.specs.Pack.{PackState, AreCopies, copy_of, number_in, IsPageOf}
 use Rattle.inode_pack.proofs.Contents.{shown_page}
 use Rattle.inode_pack.proofs.pack.Pack.read_page.Goals as goal
 
 pub returns-clause-bytes : goal.returns-clause-bytes
 returns-clause-bytes g c =
-    let seen = g.D.Disk.seen c.args.disk.now in
+    let seen = (g.D.Disk.moment c.args.disk.now).seen in
     let number = number_in (copy_of c.args.self.now.copies c.args.ino) c.args.page in
     let at : c.page_at.result ≡ page_at c.args.self.now.base number = c.page_at.ensures ∙ ap (λ (v : PackState). page_at v.base c.number_of-number.result) c.self.view_is ∙ ap (λ (n : ℕ). page_at c.args.self.now.base n) c.number_of-number.ensures.number in
     let long : length c.args.buf.now ≡ 1024 = omega arith in
@@ -20,7 +20,7 @@ returns-clause-bytes g c =
 
 pub returns-clause-content : goal.returns-clause-content
 returns-clause-content g c =
-    let seen = g.D.Disk.seen c.args.disk.now in
+    let seen = (g.D.Disk.moment c.args.disk.now).seen in
     let pack = c.args.self.now in
     let are = subst (λ (v : PackState). AreCopies v.copies) c.self.view_is c.self.invariant.0 in
     on_ok c.read.result _ ((v : Version) → view seen pack.base c.args.ino ≡ Some v → IsPageOf v.content c.args.page c.read.new.buf)

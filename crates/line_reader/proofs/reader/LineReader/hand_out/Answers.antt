@@ -9,5 +9,5 @@ returns c =
     let within = rw (← c.self.view_is) at c.requires.within in
     let room : c.args.len ≤ inside.to - inside.from = omega (arith, within, length-take (inside.to - inside.from) (drop inside.from inside.block.items)) in
     rw (← c.self.view_is)
-    (same_reader _ _ _ _ _ _ (range_rest inside.block.items inside.from inside.to c.args.len c.min-self-inside.result (omega arith) c.min-self-inside.ensures)
+    (same_reader _ _ _ _ _ _ _ (range_rest inside.block.items inside.from inside.to c.args.len c.min-self-inside.result (omega arith) c.min-self-inside.ensures)
     (range_front inside.block.items inside.from inside.to c.args.len room))

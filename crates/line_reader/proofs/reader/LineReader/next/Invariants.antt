@@ -1,11 +1,14 @@
 use Rattle.std.proofs.Common.{◌≡◌, ◌≤◌, ◌<◌, ◌+◌, ◌-◌, [], length, take, true, false}
 use Rattle.std.specs.Io.KnownBytes.{Keeps}
-use Rattle.line_reader.specs.Reading.{has_feed, to_read}
+use Rattle.line_reader.specs.Reading.{has_feed}
+use Rattle.line_reader.specs.Readers.{still_read}
 use Rattle.line_reader.proofs.reader.LineReader.next.Given as goal
 
 abbrev pub invariant-loop-len : goal.invariant-loop-len
 invariant-loop-len g l = record {
-  kept : Keeps (to_read l.initial.self.ahead (g.S.Source.left l.initial.source)) (to_read l.self.ahead (g.S.Source.left l.source));
+  kept : Keeps (still_read l.initial.self (g.S.Source.left l.initial.source)) (still_read l.self (g.S.Source.left l.source));
+  ended : l.self.ended ≡ l.initial.self.ended;
+  held : l.initial.self.ended ≡ true → l.source ≡ l.initial.source;
   number : l.self.number ≡ l.initial.self.number;
   limit : l.self.limit ≡ l.initial.self.limit;
   line : l.self.line ≡ [];

@@ -1,6 +1,6 @@
 use Rattle.std.proofs.Common.{◌≤◌, length, sym, ap, ◌∙◌, subst, arith}
 use Rattle.std.specs.List.{AllByRecursion}
-use Rattle.dir_list.specs.Entries.{HasShortName}
+use Rattle.first_dirs.specs.Entries.{HasShortName}
 use Rattle.one_site.proofs.Searching.{All-with_entry}
 use Rattle.one_site.proofs.runner.Runner.enter.Goals as goal
 

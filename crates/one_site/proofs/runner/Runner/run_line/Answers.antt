@@ -1,7 +1,7 @@
 use Rattle.std.proofs.Common.{◌≡◌, ◌++◌, List, length, ap, sym, subst, ◌∙◌, rules}
 use Rattle.trace_book.specs.declared.book.Entry.{Entry}
-use Rattle.tree_model.specs.Lines.{Spells}
-use Rattle.tree_model.specs.Reading.{IsBuilt}
+use Rattle.first_model.specs.Lines.{Spells}
+use Rattle.first_model.specs.Reading.{IsBuilt}
 use Rattle.one_site.specs.Went.{went}
 use Rattle.one_site.specs.Standing.{HasSmallNumbers}
 use Rattle.one_site.specs.Short.{IsShort}

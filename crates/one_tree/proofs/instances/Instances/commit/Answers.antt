@@ -1,5 +1,5 @@
 use Rattle.std.proofs.Common.{Some, set, ap, ◌∙◌}
-use Rattle.tree_model.specs.Tree.{committed, is_writer}
+use Rattle.first_model.specs.Tree.{committed, is_writer}
 use Rattle.one_tree.proofs.InstanceRows.{where_it-at, where_it-nowhere}
 use Rattle.one_tree.proofs.instances.Instances.commit.Goals as goal
 

@@ -1,4 +1,4 @@
-use Rattle.tree_model.specs.Tree.{is_named}
+use Rattle.first_model.specs.Tree.{is_named}
 use Rattle.one_tree.specs.Seen.{counted}
 use Rattle.one_tree.proofs.InstanceRows.{where_it-at, where_it-nowhere}
 use Rattle.one_tree.proofs.instances.Instances.count.Goals as goal

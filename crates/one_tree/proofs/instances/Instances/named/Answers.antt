@@ -1,6 +1,6 @@
 use Rattle.std.proofs.Common.{ap, ◌∙◌, Some}
 use Rattle.std.specs.List.{find, position_from}
-use Rattle.tree_model.specs.Tree.{is_named}
+use Rattle.first_model.specs.Tree.{is_named}
 use Rattle.one_tree.proofs.RowLists.{find-at, find-nowhere}
 use Rattle.one_tree.proofs.instances.Instances.named.Goals as goal
 

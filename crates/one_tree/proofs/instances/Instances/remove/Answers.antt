@@ -1,5 +1,5 @@
 use Rattle.std.proofs.Common.{sym, ◌∙◌}
-use Rattle.tree_model.specs.Tree.{is_named}
+use Rattle.first_model.specs.Tree.{is_named}
 use Rattle.one_tree.proofs.RowLists.{without_first-at, without_first-nowhere}
 use Rattle.one_tree.proofs.InstanceRows.{without_it-rows}
 use Rattle.one_tree.proofs.instances.Instances.remove.Goals as goal

@@ -1,5 +1,5 @@
 use Rattle.std.proofs.Common.{◌≡◌, ◌≤◌, take, length, filter}
-use Rattle.tree_model.specs.OneTree.{is_site}
+use Rattle.first_model.specs.OneTree.{is_site}
 use Rattle.one_tree.specs.Checks.{making_place}
 use Rattle.one_tree.proofs.tree.OneTree.makes_wanting.Given as goal
 

@@ -1,6 +1,7 @@
 use Rattle.std.proofs.Common.{◌+◌, get_or, None}
 use Rattle.std.specs.Option.{is_none}
-use Rattle.shadow_pages.specs.Working.{touches, pages_of}
+use Rattle.file_content.specs.Pages.{pages_of}
+use Rattle.shadow_pages.specs.Working.{touches}
 use Rattle.shadow_pages.proofs.Counts.{span_count}
 use Rattle.shadow_pages.proofs.shadow.Shadow.needed.Goals as goal
 

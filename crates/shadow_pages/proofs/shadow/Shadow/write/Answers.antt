@@ -1,5 +1,6 @@
 use Rattle.std.proofs.Common.{arith, ◌+◌, ◌≤◌, length}
-use Rattle.shadow_pages.specs.Working.{needed, pages_of}
+use Rattle.file_content.specs.Pages.{pages_of}
+use Rattle.shadow_pages.specs.Working.{needed}
 use Rattle.shadow_pages.proofs.Counts.{count_below_le, number_changed_le}
 use Rattle.shadow_pages.proofs.Write.{content_after, clean_after, count_after, among_after}
 use Rattle.shadow_pages.proofs.shadow.Shadow.write.Goals as goal

@@ -1,0 +1,12 @@
+pub mod Paths
+pub mod Words
+pub mod Descriptors
+pub mod Walks
+pub mod Closing
+pub mod Making
+pub mod Removing
+pub mod Naming
+pub mod Opening
+pub mod Mending
+pub mod Scripts
+pub mod Samples

@@ -1,0 +1,59 @@
+-- create and mkdir: open the directory, probe the name, make the file, close it, insert the entry, close the directory.
+use Rattle.std.specs.Prelude.{ℕ, List, [], ◌∷◌, Option}
+use Rattle.locus_ids.specs.declared.ids.FileId.{FileId}
+use Rattle.locus_ids.specs.declared.ids.Serial.{Serial}
+use Rattle.locus_ids.specs.declared.ids.Kind.{Kind}
+use Rattle.locus_ids.specs.declared.ids.Kind.TheVariants.{File, Dir}
+use Rattle.locus_ids.specs.declared.sites.Sites.{Sites}
+use Rattle.locus_ids.specs.declared.config.Mount.{Mount}
+use Rattle.locus_ids.specs.declared.refusal.Refusal.TheVariants.{NotDir}
+use Rattle.trace_book.specs.declared.call.OpenMode.TheVariants as how
+use Rattle.trace_book.specs.declared.operation.Op.TheVariants as op
+use Rattle.trace_book.specs.declared.reply.Reply.TheVariants as reply
+use Rattle.trace_book.specs.Names.{components, but_last, last_of}
+use Rattle.call_rules.specs.declared.answer.Answer.{Answer}
+use Rattle.call_rules.specs.declared.answer.Answer.TheVariants.{Opened, Did, Ended, Refused}
+use Rattle.call_rules.specs.declared.want.Want.{Want}
+use Rattle.call_rules.specs.declared.want.Want.TheVariants.{Open, Make, Do, Close, Give, Never}
+use Rattle.call_rules.specs.Walks.{walked}
+use Rattle.call_rules.specs.Closing.{Unchanged, give_up, close_all}
+
+abbrev pub after_insert : Serial → List ℕ → Kind → ℕ → List Answer → Want
+after_insert p name kind ino [] = Do p (op.Insert name ino kind)
+after_insert p name kind ino (Did o ∷ rest) = close_all (p ∷ []) (reply.Made ino) rest
+after_insert p name kind ino (Refused why ∷ rest) = give_up (Unchanged p ∷ []) why rest
+after_insert p name kind ino (_ ∷ rest) = Never
+
+abbrev pub after_make : Serial → List ℕ → Kind → Serial → ℕ → List Answer → Want
+after_make p name kind made ino [] = Close made
+after_make p name kind made ino (Ended stamp ∷ rest) = after_insert p name kind ino rest
+after_make p name kind made ino (Refused why ∷ rest) = give_up (Unchanged p ∷ []) why rest
+after_make p name kind made ino (_ ∷ rest) = Never
+
+abbrev pub after_probe : Serial → ℕ → List ℕ → Kind → Option Sites → List Answer → Want
+after_probe p group name kind sites [] = Make group kind sites
+after_probe p group name kind sites (Opened made ino ∷ rest) = after_make p name kind made ino rest
+after_probe p group name kind sites (Refused why ∷ rest) = give_up (Unchanged p ∷ []) why rest
+after_probe p group name kind sites (_ ∷ rest) = Never
+
+abbrev pub probes : Serial → ℕ → List ℕ → Kind → Option Sites → List Answer → Want
+probes p group name kind sites [] = Do p (op.Probe name)
+probes p group name kind sites (Did o ∷ rest) = after_probe p group name kind sites rest
+probes p group name kind sites (Refused why ∷ rest) = give_up (Unchanged p ∷ []) why rest
+probes p group name kind sites (_ ∷ rest) = Never
+
+-- the directory that a walk has reached is opened for a change of its entries
+abbrev pub opens_dir : List ℕ → (Serial → List Answer → Want) → FileId → Kind → List Answer → Want
+opens_dir reached next dir File answers = Give (reply.No (NotDir reached))
+opens_dir reached next dir Dir [] = Open dir how.Write
+opens_dir reached next dir Dir (Opened p ino ∷ rest) = next p rest
+opens_dir reached next dir Dir (Refused why ∷ rest) = Give (reply.No why)
+opens_dir reached next dir Dir (_ ∷ rest) = Never
+
+-- a walk of all components but the last, and a change of the directory that it reaches; `next` has the directory's group
+abbrev pub changes_dir : List Mount → List ℕ → (ℕ → Serial → List Answer → Want) → List Answer → Want
+changes_dir mounts path next answers = walked mounts (but_last (components path)) answers
+    (λ dir kind rest. opens_dir (last_of (but_last (components path))) (next dir.group) dir kind rest)
+
+abbrev pub make_wants : List Mount → List ℕ → Kind → Option Sites → List Answer → Want
+make_wants mounts path kind sites answers = changes_dir mounts path (λ group p rest. probes p group (last_of (components path)) kind sites rest) answers

@@ -1,0 +1,25 @@
+use locus_ids::{Kind, Names, Refusal, Serial, Stamp, Stamps};
+use trace_book::Outcome;
+
+/// What a request of a call was answered.
+#[derive(Debug, Drop)]
+pub enum Answer {
+    /// A look at a component: the entry that it finds.
+    Entered { ino: u16, kind: Kind },
+    /// A look at the names that a directory shows.
+    Showed { names: Names },
+    /// A look at what a file is. Size in bytes.
+    Described { kind: Kind, size: u32, stamp: Stamp },
+    /// A look at the whole content of a version, which stays at the site that asked.
+    Brought,
+    /// An open or a make: the instance, and its file's inode.
+    Opened { inst: Serial, ino: u16 },
+    /// An open to mend: the instance, and the stamps of the versions that are kept, ascending.
+    Merging { inst: Serial, kept: Stamps },
+    /// An operation that was carried out.
+    Did { result: Outcome },
+    /// A close, with the version that it made.
+    Ended { stamp: Option<Stamp> },
+    /// The request was refused.
+    Refused { why: Refusal },
+}

@@ -1,0 +1,14 @@
+pub mod Samples
+pub mod Tests
+pub mod Fields
+pub mod OneByOne
+pub mod KindTable
+pub mod Digits
+pub mod Numbered
+pub mod Orders
+pub mod Filtering
+pub mod Placing
+pub mod FirstOf
+pub mod Following
+pub mod Whole
+pub mod ContentOf

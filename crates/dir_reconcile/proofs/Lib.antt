@@ -1,0 +1,5 @@
+pub mod Samples
+pub mod Steps
+pub mod JoinLaws
+pub mod Directories
+pub mod Revived

@@ -1,0 +1,8 @@
+//! The tests of the disk rooms: what no clause says, a module for each room, by its public calls alone. They stand above these rooms,
+//! so that none of them is proved twice for its tests. Nothing calls this room, and no crate stands on it.
+#![tactic(auto)]
+
+#[cfg(test)]
+mod pack_crash_tests;
+#[cfg(test)]
+mod site_label_tests;

@@ -1,0 +1,57 @@
+-- The pages of a content, of 1,024 bytes each, numbered from 0. The last one may be shorter.
+use Rattle.std.specs.Prelude.{ℕ, zero, suc, ◌+◌, ◌-◌, ◌*◌, ◌/◌, ◌==◌, min, Bool, not, cond, nat_lt, List, [], ◌∷◌, ◌++◌, length, filter}
+use Rattle.std.specs.List.{list_any}
+use Rattle.std.specs.Str.{bytes_eq}
+use Rattle.file_content.specs.Contents.{part}
+
+-- how many pages so many bytes take
+abbrev pub pages_of : ℕ → ℕ
+pages_of size = (size + 1023) / 1024
+
+-- the bytes of a page, and none of a page past the end
+abbrev pub page_of : List ℕ → ℕ → List ℕ
+page_of content page = part content (1024 * page) 1024
+
+-- so many page numbers, from this one on
+abbrev pub pages_from : ℕ → ℕ → List ℕ
+pages_from first zero = []
+pages_from first (suc more) = first ∷ pages_from (first + 1) more
+
+-- the pages that meet the bytes from this place up to that end
+abbrev pub pages_between : ℕ → ℕ → List ℕ
+pages_between from end = cond (nat_lt from end) (pages_from (from / 1024) (pages_of end - from / 1024)) []
+
+-- the pages that a write changes: those from its place, or from the old end where that is less, up to its own end, also
+-- where the bytes are the same
+abbrev pub pages_written : List ℕ → ℕ → List ℕ → List ℕ
+pages_written content at bytes = pages_between (min at (length content)) (at + length bytes)
+
+-- the page isn't what it was: other bytes, or more or fewer
+abbrev pub is_replaced : List ℕ → List ℕ → ℕ → Bool
+is_replaced old new page = not (bytes_eq (page_of new page) (page_of old page))
+
+-- the pages of the new content that are new or other than they were
+abbrev pub pages_replaced : List ℕ → List ℕ → List ℕ
+pages_replaced old new = filter (is_replaced old new) (pages_from 0 (pages_of (length new)))
+
+-- Lists of pages that were changed: each page stands once.
+
+abbrev pub has_page : List ℕ → ℕ → Bool
+has_page changed page = list_any (λ p. p == page) changed
+
+-- the changed pages, with this one
+abbrev pub with_page : ℕ → List ℕ → List ℕ
+with_page page changed = cond (has_page changed page) changed (changed ++ page ∷ [])
+
+-- the changed pages, with these
+abbrev pub with_pages : List ℕ → List ℕ → List ℕ
+with_pages [] changed = changed
+with_pages (page ∷ more) changed = with_pages more (with_page page changed)
+
+-- those of the changed pages that begin before the end of a content of this size
+abbrev pub pages_within : ℕ → List ℕ → List ℕ
+pages_within size changed = filter (λ page. nat_lt (1024 * page) size) changed
+
+-- how many of the pages weren't changed before: so many free pages are needed to change them all
+abbrev pub pages_needed : List ℕ → List ℕ → ℕ
+pages_needed pages changed = length (filter (λ page. not (has_page changed page)) pages)

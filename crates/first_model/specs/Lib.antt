@@ -1,0 +1,13 @@
+pub mod Lines
+pub mod Reading
+pub mod Trace
+pub mod Directory
+pub mod Pages
+pub mod Tree
+pub mod Room
+pub mod Files
+pub mod Calls
+pub mod Calm
+pub mod Lawful
+pub mod Orderly
+pub mod OneTree

@@ -1,0 +1,45 @@
+use Rattle.std.proofs.Common.{◌≡◌, ◌+◌, ◌<◌, ◌∙◌, ℕ, length, ap, subst}
+use Rattle.std.specs.Prelude.{◌↔◌, OnOk, Err}
+use Rattle.disk_model.specs.Moments.{LeavesOnly, TellsMany}
+use Rattle.inode_switch.specs.View.{Version, Replaced}
+use Rattle.inode_pack.specs.declared.pack_fault.PackFault.TheVariants.{NoSpace}
+use Rattle.inode_pack.specs.Pack.{copy_of, named_pages}
+use Rattle.inode_pack.specs.Committing.{MayBeLeft, HoldsPages, size_of, adopted_version, needed, commit_calls, commit_answer}
+use Rattle.inode_pack.specs.Whole.{whole}
+use Rattle.inode_pack.proofs.Whole.{rests_whole, adopted_is, needed_all}
+use Rattle.inode_pack.proofs.pack.Pack.adopt.Goals as goal
+
+pub store-requires-clause-rests : goal.store-requires-clause-rests
+store-requires-clause-rests g c = rests_whole (size_of (copy_of c.args.self.now.copies c.get.result)) c.args.content.now
+
+pub returns-clause-any_moment : goal.returns-clause-any_moment
+returns-clause-any_moment g c =
+    let M = g.D.Disk.moment in
+    let pack = c.args.self.now in
+    let old = (M c.args.disk.now).seen in
+    subst (λ (n : ℕ). LeavesOnly (M c.args.disk.now) (M c.store.new.disk) (MayBeLeft pack n (adopted_version n c.args.version.now c.args.content.now) old)) c.get.ensures.value
+    (subst (λ (v : Version). LeavesOnly (M c.args.disk.now) (M c.store.new.disk) (MayBeLeft pack c.get.result v old)) (adopted_is pack.base c.get.result c.args.version.now c.args.content.now old) c.store.ensures.any_moment)
+
+pub returns-clause-replaced : goal.returns-clause-replaced
+returns-clause-replaced g c =
+    let M = g.D.Disk.moment in
+    let pack = c.args.self.now in
+    let old = (M c.args.disk.now).seen in
+    let new = (M c.store.new.disk).seen in
+    subst (λ (n : ℕ). OnOk c.store.result (Replaced pack.base n (adopted_version n c.args.version.now c.args.content.now) old new)) c.get.ensures.value
+    (subst (λ (v : Version). OnOk c.store.result (Replaced pack.base c.get.result v old new)) (adopted_is pack.base c.get.result c.args.version.now c.args.content.now old) c.store.ensures.replaced)
+
+pub returns-clause-pages : goal.returns-clause-pages
+returns-clause-pages g c = subst (λ (n : ℕ). OnOk c.store.result (HoldsPages c.store.new.self n (whole c.args.content.now) (g.D.Disk.moment c.store.new.disk).seen)) c.get.ensures.value c.store.ensures.pages
+
+pub returns-clause-no_space : goal.returns-clause-no_space
+returns-clause-no_space g c pages free =
+    subst (λ (n : ℕ). (c.store.result ≡ Err (NoSpace pages free)) ↔ ((free < pages) × (pages ≡ n) × (free + length (named_pages c.args.self.now.copies) ≡ 3072))) (needed_all c.args.content.now) (c.store.ensures.no_space pages free)
+
+pub returns-clause-tells : goal.returns-clause-tells
+returns-clause-tells g c =
+    let before = (g.D.Disk.moment c.args.disk.now).passing in
+    let after = (g.D.Disk.moment c.store.new.disk).passing in
+    let copies = c.args.self.now.copies in
+    subst (λ (n : ℕ). TellsMany (commit_calls n (copy_of copies c.args.ino) c.store.result) before after (commit_answer c.store.result)) (needed_all c.args.content.now)
+    (subst (λ (i : ℕ). TellsMany (commit_calls (needed (whole c.args.content.now)) (copy_of copies i) c.store.result) before after (commit_answer c.store.result)) c.get.ensures.value c.store.ensures.tells)

@@ -1,0 +1,146 @@
+// What is written of a new content: the changed pages of a shadow, or all pages of a whole content.
+ghost use Rattle.std.specs.Prelude.{◌≡◌, ◌≤◌, ◌<◌, ℕ, List, length, Some, OnOk};
+ghost use Rattle.disk_model.specs.Disk.{Goes, HasCause};
+ghost use Rattle.disk_model.specs.Moments.{TellsMany};
+ghost use Rattle.file_content.specs.Pages.{pages_of};
+ghost use Rattle.shadow_pages.specs.Working.{Working, page_at as shadow_page, padded};
+ghost use Rattle.gate_switch.specs.Switch.{AreWithin, TornIn, written};
+ghost use Rattle.inode_pack.specs.Whole.{whole};
+ghost use Rattle.inode_pack.specs.PagePieces.{piece_at};
+ghost use Rattle.inode_pack.specs.Rows.{HasChanged};
+ghost use Rattle.inode_pack.specs.Committing.{is_changed, needed};
+
+use crate::plan::{Row, page_count};
+use disk_model::{Disk, DiskFault};
+use locus_ids::Bytes;
+use shadow_pages::Shadow;
+
+/// A new content over the one before it: its size, and the pages of it that are written. The others stay where they stand.
+pub(crate) trait NewContent {
+    /// The content, as its size and its changed pages.
+    ghost working: { Self → Working };
+
+    /// The size of the content in bytes.
+    fn size(&self) -> u32
+        requires { (working self.now).size ≤ 65536 }
+        ensures value { result ≡ (working self.now).size };
+
+    /// Pages of the content in a row, among which all changed ones are.
+    fn row(&self) -> Row
+        requires { (working self.now).size ≤ 65536 }
+        ensures changed { HasChanged result.first result.stop (working self.now) }
+        ensures ordered { result.first ≤ result.stop }
+        ensures inside { result.stop ≤ pages_of (working self.now).size };
+
+    /// How many pages of the content are changed.
+    fn count(&self) -> u16
+        requires { (working self.now).size ≤ 65536 }
+        ensures number { result ≡ needed (working self.now) }
+        ensures most { result ≤ 64 };
+
+    /// Whether a page is changed.
+    fn is_changed(&self, i: u16) -> bool
+        requires { (working self.now).size ≤ 65536 }
+        ensures changed { result ≡ is_changed (working self.now) i }
+        ensures whole { (page : List ℕ) → shadow_page (working self.now).pages i ≡ Some page → length page ≡ 1024 };
+
+    /// Writes a page at a place, if it is changed.
+    fn put_page<D: Disk>(&self, disk: &mut D, at: u32, i: u16) -> Result<(), DiskFault>
+        requires { AreWithin (piece_at at (shadow_page (working self.now).pages i)) (length (D.moment disk.old).seen) }
+        ensures written { OnOk result ((D.moment disk.new).seen ≡ written (D.moment disk.old).seen (piece_at at (shadow_page (working self.now).pages i))) }
+        ensures crash { Goes (TornIn (piece_at at (shadow_page (working self.now).pages i))) (D.moment disk.old) (D.moment disk.new) }
+        ensures cause { HasCause (D.moment disk.old).faults (D.moment disk.new).faults result }
+        ensures tells { TellsMany (length (piece_at at (shadow_page (working self.now).pages i))) (D.moment disk.old).passing (D.moment disk.new).passing result };
+}
+
+impl NewContent for Shadow {
+    ghost working = { λ s. s };
+
+    fn size(&self) -> u32 {
+        Shadow::size(self)
+    }
+
+    fn row(&self) -> Row {
+        let hull = self.hull();
+        let end = page_count(Shadow::size(self));
+        let stop = hull.stop.min(u32::from(end)) as u16;
+        let first = hull.first.min(u32::from(stop)) as u16;
+        Row { first, stop }
+    }
+
+    fn count(&self) -> u16 {
+        self.changed()
+    }
+
+    fn is_changed(&self, i: u16) -> bool {
+        match self.page(i) {
+            Some(_) => true,
+            None => false,
+        }
+    }
+
+    fn put_page<D: Disk>(&self, disk: &mut D, at: u32, i: u16) -> Result<(), DiskFault> {
+        let Some(page) = self.page(i) else {
+            return Ok(());
+        };
+        disk.write_at(at, page)
+    }
+}
+
+impl NewContent for Bytes {
+    ghost working = { λ b. whole b };
+
+    fn size(&self) -> u32 {
+        self.len() as u32
+    }
+
+    fn row(&self) -> Row {
+        Row {
+            first: 0,
+            stop: page_count(self.len() as u32),
+        }
+    }
+
+    fn count(&self) -> u16 {
+        page_count(self.len() as u32)
+    }
+
+    fn is_changed(&self, i: u16) -> bool {
+        i < page_count(self.len() as u32)
+    }
+
+    fn put_page<D: Disk>(&self, disk: &mut D, at: u32, i: u16) -> Result<(), DiskFault> {
+        let from = 1_024 * usize::from(i);
+        let bytes = self.as_slice();
+        if from >= bytes.len() {
+            return Ok(());
+        }
+        let rest = &bytes[from..];
+        if rest.len() < 1_024 {
+            return put_last(disk, at, rest);
+        }
+        disk.write_at(at, &rest[..1_024])
+    }
+}
+
+/// Writes the last page of a content, with zeros behind its end.
+fn put_last<D: Disk>(disk: &mut D, at: u32, bytes: &[u8]) -> Result<(), DiskFault>
+    requires short { length bytes.now < 1024 }
+    requires within { AreWithin (piece_at at (Some (padded 1024 bytes.now))) (length (D.moment disk.old).seen) }
+    ensures written { OnOk result ((D.moment disk.new).seen ≡ written (D.moment disk.old).seen (piece_at at (Some (padded 1024 bytes.now)))) }
+    ensures crash { Goes (TornIn (piece_at at (Some (padded 1024 bytes.now)))) (D.moment disk.old) (D.moment disk.new) }
+    ensures cause { HasCause (D.moment disk.old).faults (D.moment disk.new).faults result }
+    ensures tells { TellsMany 1 (D.moment disk.old).passing (D.moment disk.new).passing result }
+{
+    disk.write_at(at, &padded_page(bytes))
+}
+
+/// A page with zeros behind these bytes.
+fn padded_page(bytes: &[u8]) -> [u8; 1024]
+    requires { length bytes.now < 1024 }
+    ensures { result ≡ padded 1024 bytes.now }
+{
+    let mut page = [0; 1_024];
+    page[..bytes.len()].copy_from_slice(bytes);
+    page
+}

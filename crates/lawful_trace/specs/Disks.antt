@@ -1,0 +1,246 @@
+-- The disk of a site, by the lines that arm it and the records so far: how many calls were made since, which gates a stop
+-- has left open two and two, and so which disk call stops the site. A call is a write or a sync.
+use Rattle.std.specs.Prelude.{ℕ, zero, suc, ◌+◌, ◌-◌, ◌*◌, ◌==◌, Bool, true, false, not, ◌&&◌, ◌||◌, cond, List, [], ◌∷◌, length, take, drop, fold, Option, None, Some, nat_le}
+use Rattle.std.specs.Option.{is_some}
+use Rattle.locus_ids.specs.declared.config.Config.{Config}
+use Rattle.locus_ids.specs.declared.ids.FileId.{FileId}
+use Rattle.locus_ids.specs.declared.ids.Stamp.{Stamp}
+use Rattle.commit_graph.specs.Versions.{content_of}
+use Rattle.trace_book.specs.declared.record.Record.{Record}
+use Rattle.trace_book.specs.declared.record.Record.TheVariants.{Up, Stopped, Commit, Adopt}
+use Rattle.trace_book.specs.declared.record.StopCause.TheVariants as cause
+use Rattle.schedule_lines.specs.declared.line.Leave.{Leave}
+use Rattle.schedule_lines.specs.declared.line.Leave.TheVariants as leave
+use Rattle.schedule_lines.specs.declared.line.ScheduleLine.{ScheduleLine}
+use Rattle.schedule_lines.specs.declared.line.ScheduleLine.TheVariants.{Event}
+use Rattle.schedule_lines.specs.declared.line.Line.TheVariants as line
+use Rattle.file_content.specs.Pages.{pages_of}
+use Rattle.tree_model.specs.declared.instance.Instance.{Instance}
+use Rattle.tree_model.specs.Folds.{Trace, over, last_line}
+use Rattle.tree_model.specs.Epochs.{is_up}
+use Rattle.tree_model.specs.Histories.{history, held}
+use Rattle.tree_model.specs.Files.{committing}
+
+-- Armed disks.
+
+-- a line that arms a disk: after so many calls the next one stops the site and leaves unsynced bytes as told, or it fails
+pub data Arming : Type 0 where
+  Stops : (calls : ℕ) → Leave → Arming
+  Fails : (calls : ℕ) → Arming
+
+abbrev pub calls_of : Arming → ℕ
+calls_of (Stops calls leave) = calls
+calls_of (Fails calls) = calls
+
+abbrev pub is_fault : Arming → Bool
+is_fault (Stops calls leave) = false
+is_fault (Fails calls) = true
+
+-- an armed disk: the calls since its line, and the commits and adoptions since
+pub record Armed : Type 0 where
+  pub arming : Arming
+  pub used : ℕ
+  pub made : ℕ
+
+-- A disk: how it is armed; whether both halves of its label have an open gate; and whether both slots of a file have one.
+-- Only a stop leaves two gates open, and a boot closes one of them, so there is one such file at most.
+pub record Disk : Type 0 where
+  pub armed : Option Armed
+  pub halves : Bool
+  pub slots : Bool
+
+abbrev pub first_disk : Disk
+first_disk = record { armed = None; halves = false; slots = false }
+
+abbrev pub newly_armed : Arming → Option Armed
+newly_armed a = Some (record { arming = a; used = 0; made = 0 })
+
+-- a line that arms the disk replaces what was armed before
+abbrev pub armed_by : ℕ → ScheduleLine → Disk → Disk
+armed_by site (Event (line.ArmStop s calls left)) d = cond (s == site) (record d { armed = newly_armed (Stops calls left) }) d
+armed_by site (Event (line.ArmFail s calls)) d = cond (s == site) (record d { armed = newly_armed (Fails calls) }) d
+armed_by site _ d = d
+
+-- the disk after the lines with numbers above the first and up to the last
+abbrev pub through_lines : List ScheduleLine → ℕ → ℕ → ℕ → Disk → Disk
+through_lines lines site first last d = fold (λ old l. armed_by site l old) d (take (last - first) (drop first lines))
+
+-- Gates. An open gate is the byte 165.
+
+-- whether a gate is open where a call that was to change it was cut: its write, or the sync behind that. A stop leaves
+-- unsynced bytes as told; a write that fails writes nothing, and what was written before it is there.
+abbrev pub is_left_open : Arming → Bool → Bool → Bool → Bool
+is_left_open (Stops calls leave.Old) synced was becomes = was
+is_left_open (Stops calls leave.New) synced was becomes = becomes
+is_left_open (Stops calls (leave.Byte b)) synced was becomes = b == 165
+is_left_open (Fails calls) synced was becomes = cond synced becomes was
+
+-- a switch from an old gate to a new one was cut: which of them are open
+pub record Gates : Type 0 where
+  pub new : Bool
+  pub old : Bool
+
+-- by the call that was cut, counted from the write of the new gate as 1: that write and its sync open the new one, the
+-- two calls after them close the old one; before, nothing is switched, and after, all is
+abbrev pub gates_cut_in : Arming → ℕ → Gates
+gates_cut_in a zero = record { new = false; old = true }
+gates_cut_in a (suc zero) = record { new = is_left_open a false false true; old = true }
+gates_cut_in a (suc (suc zero)) = record { new = is_left_open a true false true; old = true }
+gates_cut_in a (suc (suc (suc zero))) = record { new = true; old = is_left_open a false true false }
+gates_cut_in a (suc (suc (suc (suc zero)))) = record { new = true; old = is_left_open a true true false }
+gates_cut_in a (suc (suc (suc (suc (suc n))))) = record { new = true; old = false }
+
+abbrev pub are_both_open : Gates → Bool
+are_both_open g = g.new && g.old
+
+-- a losing gate was to be closed, by a write and a sync, and the call of this number was cut: it is still open
+abbrev pub is_loser_open : Arming → ℕ → Bool
+is_loser_open a zero = true
+is_loser_open a (suc zero) = is_left_open a false true false
+is_loser_open a (suc (suc zero)) = is_left_open a true true false
+is_loser_open a (suc (suc (suc n))) = false
+
+-- Versions on the disk.
+
+-- The calls by which a version is written: one for each page, one for the slot, a sync, one for its gate, a sync; and
+-- where an older slot was open, one for its gate and a sync.
+pub record Writing : Type 0 where
+  pub pages : ℕ
+  pub older : Bool
+
+abbrev pub calls_of_writing : Writing → ℕ
+calls_of_writing w = w.pages + cond w.older 6 4
+
+-- once a version is on the disk where the disk let so many calls pass: both slots are open where the old gate wasn't closed
+abbrev pub slots_after : Arming → Writing → ℕ → Bool
+slots_after a w left = w.older && are_both_open (gates_cut_in a (left + 1 - (w.pages + 2)))
+
+abbrev pub written_with : Writing → Disk → Option Armed → Disk
+written_with w d None = d
+written_with w d (Some a) = record d {
+  armed = Some (record a { used = a.used + calls_of_writing w; made = a.made + 1 });
+  slots = slots_after a.arming w (calls_of a.arming - a.used);
+}
+
+-- the disk after a version was written
+abbrev pub written : Writing → Disk → Disk
+written w d = written_with w d d.armed
+
+abbrev pub pages_changed : Option Instance → ℕ
+pages_changed None = 0
+pages_changed (Some x) = length x.work.changed
+
+-- a commit writes the pages that its instance has changed
+abbrev pub writing_commit : Config → Trace → FileId → ℕ → Writing
+writing_commit c before f site = record {
+  pages = pages_changed (committing c before f site);
+  older = is_some (held c before site f);
+}
+
+-- an adoption writes all pages of the version
+abbrev pub writing_adoption : Config → Trace → FileId → ℕ → Stamp → Writing
+writing_adoption c before f site stamp = record {
+  pages = pages_of (length (content_of (history c before) f stamp));
+  older = is_some (held c before site f);
+}
+
+-- Boots.
+
+-- a boot closes the losing half of the label where both are open, switches the label in six calls, and closes the losing
+-- slot where both of a file are open
+abbrev pub calls_of_label : Disk → ℕ
+calls_of_label d = cond d.halves 8 6
+
+abbrev pub calls_of_boot : Disk → ℕ
+calls_of_boot d = calls_of_label d + cond d.slots 2 0
+
+abbrev pub booted_with : Disk → Option Armed → Disk
+booted_with d None = record { armed = None; halves = false; slots = false }
+booted_with d (Some a) = record { armed = Some (record a { used = a.used + calls_of_boot d }); halves = false; slots = false }
+
+-- the halves of the label are both open where the boot was cut in the call of this number
+abbrev pub halves_cut_in : Arming → Disk → ℕ → Bool
+halves_cut_in a d call = cond (d.halves && nat_le call 2) (is_loser_open a call) (are_both_open (gates_cut_in a (call - cond d.halves 4 2)))
+
+-- a stopped site that stops was cut in its boot; any other stop changes no gate that an earlier record doesn't tell
+abbrev pub stopped_with : Bool → Disk → Option Armed → Disk
+stopped_with up d None = record d { armed = None }
+stopped_with true d (Some a) = record d { armed = None }
+stopped_with false d (Some a) = record {
+  armed = None;
+  halves = halves_cut_in a.arming d (calls_of a.arming - a.used + 1);
+  slots = d.slots && is_loser_open a.arming (calls_of a.arming - a.used + 1 - calls_of_label d);
+}
+
+-- The fold.
+
+abbrev pub disk_after : Record → Config → Trace → ℕ → Disk → Disk
+disk_after (Up s boot) c before site d = cond (s == site) (booted_with d d.armed) d
+disk_after (Stopped s cause) c before site d = cond (s == site) (stopped_with (is_up before site) d d.armed) d
+disk_after (Commit f s stamp parents content) c before site d = cond (s == site) (written (writing_commit c before f site) d) d
+disk_after (Adopt f s stamp) c before site d = cond (s == site) (written (writing_adoption c before f site stamp) d) d
+disk_after _ c before site d = d
+
+-- the disk of the site after these records
+abbrev pub disk_of : Config → List ScheduleLine → Trace → ℕ → Disk
+disk_of c lines trace site = over first_disk (λ r before old. disk_after r.what c before site (through_lines lines site (last_line before) r.line old)) trace
+
+-- the disk as the line with this number finds it, and then its armed part
+abbrev pub disk_at : Config → List ScheduleLine → Trace → ℕ → ℕ → Disk
+disk_at c lines before n site = through_lines lines site (last_line before) n (disk_of c lines before site)
+
+abbrev pub armed_at : Config → List ScheduleLine → Trace → ℕ → ℕ → Option Armed
+armed_at c lines before n site = (disk_at c lines before n site).armed
+
+-- Stops within a disk call.
+
+abbrev pub has_left : Option Armed → Bool
+has_left None = false
+has_left (Some a) = nat_le a.used (calls_of a.arming)
+
+-- the site whose disk has a new version by this record
+abbrev pub writer_of : Record → Option ℕ
+writer_of (Commit f s stamp parents content) = Some s
+writer_of (Adopt f s stamp) = Some s
+writer_of _ = None
+
+-- the records without the last one, where that tells of a version on the disk
+abbrev pub without_version : Trace → Trace
+without_version [] = []
+without_version (r ∷ before) = cond (is_some (writer_of r.what)) before (r ∷ before)
+
+-- The call after the last that passes can be one of the event of this moment: no more calls were made so far than pass. Or
+-- no more than pass were made up to the last record, which tells of the version that was cut off, and is on the disk.
+abbrev pub may_cut : Config → List ScheduleLine → Trace → ℕ → ℕ → Bool
+may_cut c lines before n site = has_left (armed_at c lines before n site) || has_left (armed_at c lines (without_version before) n site)
+
+-- the disk is armed by a line of this kind
+abbrev pub is_armed_as : Bool → Option Armed → Bool
+is_armed_as fault None = false
+is_armed_as fault (Some a) = cond (is_fault a.arming) fault (not fault)
+
+-- an armed disk that stops nothing has room for the commits and adoptions since its line, which make four calls each at
+-- least
+abbrev pub is_within_calls : Option Armed → Bool
+is_within_calls None = true
+is_within_calls (Some a) = nat_le (4 * a.made) (calls_of a.arming)
+
+-- the record that comes next, if there is one, stops the site within a disk call
+abbrev pub is_cut_next : Option Record → ℕ → Bool
+is_cut_next None site = false
+is_cut_next (Some (Stopped s cause.Fuse)) site = s == site
+is_cut_next (Some (Stopped s cause.Fault)) site = s == site
+is_cut_next (Some _) site = false
+
+abbrev pub fits_calls : Config → List ScheduleLine → Option Record → Trace → Option ℕ → Bool
+fits_calls c lines next now None = true
+fits_calls c lines next now (Some site) = is_cut_next next site || is_within_calls (disk_of c lines now site).armed
+
+abbrev pub all_fit_calls : Config → List ScheduleLine → Option Record → Trace → Bool
+all_fit_calls c lines next [] = true
+all_fit_calls c lines next (r ∷ before) = fits_calls c lines next (r ∷ before) (writer_of r.what) && all_fit_calls c lines (Some r.what) before
+
+-- after each version that is on a disk, and that no stop has cut off, the disk isn't armed, or has room for the versions
+-- since its line
+abbrev pub keeps_calls : Config → List ScheduleLine → Trace → Bool
+keeps_calls c lines trace = all_fit_calls c lines None trace

@@ -1,0 +1,74 @@
+// Numbers in words: decimal digits without a sign or a leading zero.
+ghost use Rattle.std.specs.Prelude.{◌≡◌, ℕ, ◌≤◌, ◌↔◌, IfSome, IfNone};
+ghost use Rattle.line_text.specs.CallReader.{descriptor_in};
+ghost use Rattle.line_text.specs.Numerals.{IsNumber, begins_well};
+ghost use Rattle.line_text.specs.Words.{number_in, site_in};
+
+use locus_ids::SiteId;
+
+/// The number from `low` to `most` that the word is.
+pub(crate) fn number(word: &[u8], low: u32, most: u32) -> Option<u32>
+    ensures { result ≡ number_in low most word.now }
+{
+    let n = plain_number(word, most)?;
+    if n < low { None } else { Some(n) }
+}
+
+/// The number up to `most` that the word is.
+fn plain_number(word: &[u8], most: u32) -> Option<u32>
+    ensures found { IfSome result (IsNumber most word.now) }
+    ensures none { IfNone result ((n : ℕ) → IsNumber most word.now n → ⊥) }
+{
+    if !begins_well(word) {
+        return None;
+    }
+    let Ok(text) = str::from_utf8(word) else {
+        return None;
+    };
+    let Ok(n) = text.parse::<u32>() else {
+        return None;
+    };
+    if n <= most { Some(n) } else { None }
+}
+
+/// A digit, which is no zero before other bytes.
+fn begins_well(word: &[u8]) -> bool
+    ensures { result ≡ begins_well word.now }
+{
+    match word {
+        [] => false,
+        [only] => b'0' <= *only && *only <= b'9',
+        [first, _, ..] => b'1' <= *first && *first <= b'9',
+    }
+}
+
+/// The number from `low` to `most` that the word is, where the most is below 256.
+pub(crate) fn small_number(word: &[u8], low: u8, most: u8) -> Option<u8>
+    ensures { result ≡ number_in low most word.now }
+{
+    let n = number(word, u32::from(low), u32::from(most))?;
+    Some(n as u8)
+}
+
+/// The number from 0 to `most` that the word is, where the most is below 65,536.
+pub(crate) fn short_number(word: &[u8], most: u16) -> Option<u16>
+    ensures { result ≡ number_in 0 most word.now }
+{
+    let n = number(word, 0, u32::from(most))?;
+    Some(n as u16)
+}
+
+/// The descriptor that the word is.
+pub(crate) fn descriptor(word: &[u8]) -> Option<u16>
+    ensures { result ≡ descriptor_in word.now }
+{
+    short_number(word, 65_535)
+}
+
+/// The site that the word is, in a cluster of n sites.
+pub(crate) fn site(word: &[u8], n: u8) -> Option<SiteId>
+    ensures { result ≡ site_in n word.now }
+{
+    let number = small_number(word, 1, n.min(16))?;
+    SiteId::new(number)
+}

@@ -1,0 +1,16 @@
+pub mod Tables
+pub mod Views
+pub mod Versions
+pub mod Notices
+pub mod Opens
+pub mod Looks
+pub mod Reports
+pub mod Storage
+pub mod Operations
+pub mod Pulling
+pub mod Requests
+pub mod Using
+pub mod Epochs
+pub mod Adoption
+pub mod Mends
+pub mod Own

@@ -1,0 +1,17 @@
+use locus_ids::{Bytes, FileId, ItemList, Kind, Sites, Stamp};
+use version_vector::Vector;
+
+/// What a pack holds of a file.
+#[derive(Debug, Drop)]
+pub struct FileCopy {
+    pub file: FileId,
+    pub kind: Kind,
+    /// The sites that store the file.
+    pub set: Sites,
+    pub stamp: Stamp,
+    pub vector: Vector<16>,
+    pub content: Bytes,
+}
+
+/// The copies of a site, by group and inode, ascending.
+pub type FileCopies = ItemList<FileCopy>;

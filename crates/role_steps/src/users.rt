@@ -1,0 +1,82 @@
+use call_rules::Answer;
+use locus_ids::{Bytes, FileId, ItemList, SiteId};
+use trace_book::{Beginning, Call, Descriptor, Op, What};
+use version_vector::Vector;
+use wire_messages::Opening;
+
+/// An instance that a using site has opened.
+#[derive(Clone, Copy, Debug, PartialEq, Eq)]
+pub struct UserInstance {
+    pub serial: u32,
+    pub ss: SiteId,
+    /// The vector that the open was answered.
+    pub vector: Vector<16>,
+    /// The operations asked of it.
+    pub ops: u32,
+}
+
+/// By serial, ascending.
+pub type UserInstances = ItemList<UserInstance>;
+
+/// The request that a call waits for.
+#[derive(Debug, Drop)]
+pub enum Asking {
+    Look {
+        file: FileId,
+        what: What,
+        take: u32,
+    },
+    Open {
+        serial: u32,
+        file: FileId,
+        how: Opening,
+    },
+    Op {
+        serial: u32,
+        ss: SiteId,
+        number: u32,
+        op: Op,
+        seen: Vector<16>,
+    },
+    Close {
+        serial: u32,
+        ss: SiteId,
+    },
+}
+
+/// What the requests of a call were answered, the earliest answer first.
+pub type Answers = ItemList<Answer>;
+
+/// Contents of versions.
+pub type Contents = ItemList<Bytes>;
+
+/// A call that has no reply yet.
+#[derive(Debug, Drop)]
+pub struct WaitingCall {
+    /// 0 for a mend, which its site calls itself.
+    pub process: u8,
+    /// The number of the call at its site.
+    pub call: u32,
+    pub words: Call,
+    pub begins: Beginning,
+    pub answers: Answers,
+    /// The number of its current request.
+    pub request: u16,
+    pub asking: Asking,
+    /// The whole contents that its looks have brought, for a mend.
+    pub brought: Contents,
+}
+
+/// By process, mends first, by group, ascending.
+pub type WaitingCalls = ItemList<WaitingCall>;
+
+/// An open descriptor of a process.
+#[derive(Clone, Copy, Debug, PartialEq, Eq)]
+pub struct DescriptorRow {
+    pub process: u8,
+    pub fd: u16,
+    pub descriptor: Descriptor,
+}
+
+/// By process and number, ascending.
+pub type DescriptorRows = ItemList<DescriptorRow>;

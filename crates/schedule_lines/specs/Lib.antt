@@ -1,0 +1,4 @@
+pub mod Spelling
+pub mod Ranges
+pub mod Cluster
+pub mod Schedule

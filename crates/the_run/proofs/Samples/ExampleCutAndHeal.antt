@@ -1,0 +1,124 @@
+-- The run of a recorded schedule of 37 lines, to the whole text of its trace, 63 records.
+use Rattle.std.specs.Prelude.{◌≡◌, refl, ℕ, List, [], ◌∷◌, ◌++◌, Option, Some, None, codes}
+use Rattle.trace_book.specs.declared.call.Call.TheVariants as call
+use Rattle.trace_book.specs.declared.call.OpenMode.TheVariants as how
+use Rattle.schedule_lines.specs.declared.header.HeaderLine.TheVariants as header
+use Rattle.schedule_lines.specs.declared.line.Leave.TheVariants as leave
+use Rattle.schedule_lines.specs.declared.line.Line.TheVariants as line
+use Rattle.schedule_lines.specs.declared.line.ScheduleLine.{ScheduleLine}
+use Rattle.schedule_lines.specs.declared.line.ScheduleLine.TheVariants.{Passed, Header, Event}
+use Rattle.std.specs.Fmt.{digits}
+use Rattle.hex.specs.Hex.{encode_with}
+use Rattle.the_run.specs.Runs.{run, printed}
+
+abbrev lines : List ScheduleLine
+lines =
+    Passed ∷
+    Header (header.Sites 3) ∷
+    Header (header.Group 0 (record { 0 = 7 })) ∷
+    Event (line.Merge 1) ∷
+    Event (line.Settle 1000) ∷
+    Passed ∷
+    Event (line.Call 1 1 (call.Create (codes "/f") None)) ∷
+    Event (line.Settle 1000) ∷
+    Passed ∷
+    Event (line.Down 1 3) ∷
+    Event (line.Down 2 3) ∷
+    Event (line.Part 1) ∷
+    Event (line.Part 3) ∷
+    Event (line.Settle 1000) ∷
+    Passed ∷
+    Event (line.Call 1 1 (call.Open (codes "/f") how.Write)) ∷
+    Event (line.Settle 1000) ∷
+    Event (line.Call 1 1 (call.Write 0 0 (97 ∷ []))) ∷
+    Event (line.Settle 1000) ∷
+    Event (line.Call 1 1 (call.Close 0)) ∷
+    Event (line.Settle 1000) ∷
+    Passed ∷
+    Event (line.Call 3 1 (call.Open (codes "/f") how.Read)) ∷
+    Event (line.Settle 1000) ∷
+    Event (line.Call 3 1 (call.Read 0 0 10)) ∷
+    Event (line.Settle 1000) ∷
+    Event (line.Call 3 1 (call.Close 0)) ∷
+    Event (line.Settle 1000) ∷
+    Passed ∷
+    Event (line.Up 1 3) ∷
+    Event (line.Up 2 3) ∷
+    Event (line.Merge 1) ∷
+    Event (line.Settle 1000) ∷
+    Event (line.Call 3 1 (call.Open (codes "/f") how.Read)) ∷
+    Event (line.Settle 1000) ∷
+    Event (line.Call 3 1 (call.Read 0 0 10)) ∷
+    Event (line.Settle 1000) ∷
+    []
+
+abbrev written : List ℕ
+written =
+    codes "5 join 1 e1.1.1 1:1,2:1,3:1\n" ++
+    codes "5 join 2 e1.1.1 1:1,2:1,3:1\n" ++
+    codes "5 join 3 e1.1.1 1:1,2:1,3:1\n" ++
+    codes "5 start e1.1.1 0 1=0.0\n" ++
+    codes "7 call 1 1 c1.1.1 create /f\n" ++
+    codes "8 grant e1.1.1 c1.1.1 1 i1.1 w 0.1 0.0 1\n" ++
+    codes "8 act e1.1.1 i1.1 1 probe f ok\n" ++
+    codes "8 grant e1.1.1 c1.1.1 3 i1.2 n 0.2 - 1\n" ++
+    codes "8 commit 0.2 1 1.1 - -\n" ++
+    codes "8 release e1.1.1 i1.2 0.2 1.1\n" ++
+    codes "8 adopt 0.2 2 1.1\n" ++
+    codes "8 adopt 0.2 3 1.1\n" ++
+    codes "8 act e1.1.1 i1.1 2 insert f 2 f ok\n" ++
+    codes "8 commit 0.1 1 1.1 0.0 016600020100000001\n" ++
+    codes "8 release e1.1.1 i1.1 0.1 1.1\n" ++
+    codes "8 reply 1 1 c1.1.1 ok 2\n" ++
+    codes "8 adopt 0.1 2 1.1\n" ++
+    codes "8 adopt 0.1 3 1.1\n" ++
+    codes "12 leave 1 e1.1.1\n" ++
+    codes "13 leave 3 e1.1.1\n" ++
+    codes "13 join 3 e2.3.1 3:1\n" ++
+    codes "14 leave 2 e1.1.1\n" ++
+    codes "14 start e2.3.1 0 1=1.1 2=1.1\n" ++
+    codes "14 join 1 e2.1.1 1:1,2:1\n" ++
+    codes "14 join 2 e2.1.1 1:1,2:1\n" ++
+    codes "14 start e2.1.1 0 1=1.1 2=1.1\n" ++
+    codes "16 call 1 1 c1.1.2 open /f w\n" ++
+    codes "17 look e2.1.1 c1.1.2 1 0.1 name f 1.1\n" ++
+    codes "17 grant e2.1.1 c1.1.2 2 i1.3 w 0.2 1.1 1\n" ++
+    codes "17 reply 1 1 c1.1.2 ok 0\n" ++
+    codes "18 call 1 1 c1.1.3 write 0 0 61\n" ++
+    codes "19 act e2.1.1 i1.3 1 write 0 61 ok\n" ++
+    codes "19 reply 1 1 c1.1.3 ok\n" ++
+    codes "20 call 1 1 c1.1.4 close 0\n" ++
+    codes "21 commit 0.2 1 1.2 1.1 61\n" ++
+    codes "21 release e2.1.1 i1.3 0.2 1.2\n" ++
+    codes "21 reply 1 1 c1.1.4 ok 1.2\n" ++
+    codes "21 adopt 0.2 2 1.2\n" ++
+    codes "23 call 3 1 c3.1.1 open /f r\n" ++
+    codes "24 look e2.3.1 c3.1.1 1 0.1 name f 1.1\n" ++
+    codes "24 grant e2.3.1 c3.1.1 2 i3.1 r 0.2 1.1 3\n" ++
+    codes "24 reply 3 1 c3.1.1 ok 0\n" ++
+    codes "25 call 3 1 c3.1.2 read 0 0 10\n" ++
+    codes "26 act e2.3.1 i3.1 1 read 0 10 ok -\n" ++
+    codes "26 reply 3 1 c3.1.2 ok -\n" ++
+    codes "27 call 3 1 c3.1.3 close 0\n" ++
+    codes "28 release e2.3.1 i3.1 0.2 -\n" ++
+    codes "28 reply 3 1 c3.1.3 ok\n" ++
+    codes "32 leave 1 e2.1.1\n" ++
+    codes "33 leave 2 e2.1.1\n" ++
+    codes "33 leave 3 e2.3.1\n" ++
+    codes "33 join 1 e3.1.1 1:1,2:1,3:1\n" ++
+    codes "33 join 2 e3.1.1 1:1,2:1,3:1\n" ++
+    codes "33 join 3 e3.1.1 1:1,2:1,3:1\n" ++
+    codes "33 start e3.1.1 0 1=1.1 2=1.1 2=1.2\n" ++
+    codes "33 adopt 0.2 3 1.2\n" ++
+    codes "34 call 3 1 c3.1.4 open /f r\n" ++
+    codes "35 look e3.1.1 c3.1.4 1 0.1 name f 1.1\n" ++
+    codes "35 grant e3.1.1 c3.1.4 2 i3.2 r 0.2 1.2 3\n" ++
+    codes "35 reply 3 1 c3.1.4 ok 0\n" ++
+    codes "36 call 3 1 c3.1.5 read 0 0 10\n" ++
+    codes "37 act e3.1.1 i3.2 1 read 0 10 ok 61\n" ++
+    codes "37 reply 3 1 c3.1.5 ok 61\n" ++
+    []
+
+pub runs : printed (run lines) ≡ written
+unfolding digits encode_with
+runs = refl

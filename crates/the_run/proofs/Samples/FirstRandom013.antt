@@ -1,0 +1,59 @@
+-- The run of a recorded schedule of 15 lines, to the whole text of its trace, 21 records.
+use Rattle.std.specs.Prelude.{◌≡◌, refl, ℕ, List, [], ◌∷◌, ◌++◌, None, codes}
+use Rattle.trace_book.specs.declared.call.Call.TheVariants as call
+use Rattle.trace_book.specs.declared.call.OpenMode.TheVariants as how
+use Rattle.schedule_lines.specs.declared.header.HeaderLine.TheVariants as header
+use Rattle.schedule_lines.specs.declared.line.Line.TheVariants as line
+use Rattle.schedule_lines.specs.declared.line.ScheduleLine.{ScheduleLine}
+use Rattle.schedule_lines.specs.declared.line.ScheduleLine.TheVariants.{Header, Event}
+use Rattle.std.specs.Fmt.{digits}
+use Rattle.hex.specs.Hex.{encode_with}
+use Rattle.the_run.specs.Runs.{run, printed}
+
+abbrev lines : List ScheduleLine
+lines =
+    Header (header.Sites 1) ∷
+    Header (header.Group 0 (record { 0 = 1 })) ∷
+    Event (line.Merge 1) ∷
+    Event (line.Settle 724451) ∷
+    Event (line.Call 1 1 (call.Create (codes "/a") None)) ∷
+    Event (line.Settle 11535) ∷
+    Event (line.Call 1 1 (call.Close 0)) ∷
+    Event (line.Settle 11584) ∷
+    Event (line.Call 1 1 (call.Write 0 1024 (4 ∷ []))) ∷
+    Event (line.Settle 4571) ∷
+    Event (line.Call 1 1 (call.Write 0 0 (66 ∷ []))) ∷
+    Event (line.Settle 16934) ∷
+    Event (line.Call 1 1 (call.Open (codes "/longer-name_0123456789") how.Write)) ∷
+    Event (line.Settle 15248) ∷
+    Event (line.Settle 1000) ∷
+    []
+
+abbrev written : List ℕ
+written =
+    codes "3 join 1 e1.1.1 1:1\n" ++
+    codes "4 start e1.1.1 0 1=0.0\n" ++
+    codes "5 call 1 1 c1.1.1 create /a\n" ++
+    codes "6 grant e1.1.1 c1.1.1 1 i1.1 w 0.1 0.0 1\n" ++
+    codes "6 act e1.1.1 i1.1 1 probe a ok\n" ++
+    codes "6 grant e1.1.1 c1.1.1 3 i1.2 n 0.2 - 1\n" ++
+    codes "6 commit 0.2 1 1.1 - -\n" ++
+    codes "6 release e1.1.1 i1.2 0.2 1.1\n" ++
+    codes "6 act e1.1.1 i1.1 2 insert a 2 f ok\n" ++
+    codes "6 commit 0.1 1 1.1 0.0 016100020100000001\n" ++
+    codes "6 release e1.1.1 i1.1 0.1 1.1\n" ++
+    codes "6 reply 1 1 c1.1.1 ok 2\n" ++
+    codes "7 call 1 1 c1.1.2 close 0\n" ++
+    codes "7 reply 1 1 c1.1.2 baddescriptor\n" ++
+    codes "9 call 1 1 c1.1.3 write 0 1024 04\n" ++
+    codes "9 reply 1 1 c1.1.3 baddescriptor\n" ++
+    codes "11 call 1 1 c1.1.4 write 0 0 42\n" ++
+    codes "11 reply 1 1 c1.1.4 baddescriptor\n" ++
+    codes "13 call 1 1 c1.1.5 open /longer-name_0123456789 w\n" ++
+    codes "14 look e1.1.1 c1.1.5 1 0.1 name longer-name_0123456789 1.1\n" ++
+    codes "14 reply 1 1 c1.1.5 absent longer-name_0123456789\n" ++
+    []
+
+pub runs : printed (run lines) ≡ written
+unfolding digits encode_with
+runs = refl

@@ -1,0 +1,91 @@
+-- The run of a recorded schedule of 22 lines, to the whole text of its trace, 46 records.
+use Rattle.std.specs.Prelude.{◌≡◌, refl, ℕ, List, [], ◌∷◌, ◌++◌, None, codes}
+use Rattle.trace_book.specs.declared.call.Call.TheVariants as call
+use Rattle.trace_book.specs.declared.call.OpenMode.TheVariants as how
+use Rattle.schedule_lines.specs.declared.header.HeaderLine.TheVariants as header
+use Rattle.schedule_lines.specs.declared.line.Line.TheVariants as line
+use Rattle.schedule_lines.specs.declared.line.ScheduleLine.{ScheduleLine}
+use Rattle.schedule_lines.specs.declared.line.ScheduleLine.TheVariants.{Header, Event}
+use Rattle.std.specs.Fmt.{digits}
+use Rattle.hex.specs.Hex.{encode_with}
+use Rattle.the_run.specs.Runs.{run, printed}
+
+abbrev lines : List ScheduleLine
+lines =
+    Header (header.Sites 3) ∷
+    Header (header.Group 0 (record { 0 = 7 })) ∷
+    Event (line.Merge 1) ∷
+    Event (line.Settle 1000) ∷
+    Event (line.Call 1 1 (call.Create (codes "/a") None)) ∷
+    Event (line.Settle 1000) ∷
+    Event (line.Call 1 1 (call.Open (codes "/a") how.Write)) ∷
+    Event (line.Settle 1000) ∷
+    Event (line.Call 2 1 (call.Open (codes "/a") how.Read)) ∷
+    Event (line.Settle 1000) ∷
+    Event (line.Call 1 1 (call.Write 0 0 (110 ∷ 101 ∷ 119 ∷ []))) ∷
+    Event (line.Settle 1000) ∷
+    Event (line.Call 1 1 (call.Close 0)) ∷
+    Event (line.Settle 1000) ∷
+    Event (line.Call 2 1 (call.Open (codes "/a") how.Read)) ∷
+    Event (line.Settle 1000) ∷
+    Event (line.Call 2 1 (call.Write 0 0 (97 ∷ []))) ∷
+    Event (line.Settle 1000) ∷
+    Event (line.Call 2 1 (call.Read 0 0 10)) ∷
+    Event (line.Settle 1000) ∷
+    Event (line.Call 2 1 (call.Read 5 0 1)) ∷
+    Event (line.Settle 1000) ∷
+    []
+
+abbrev written : List ℕ
+written =
+    codes "4 join 1 e1.1.1 1:1,2:1,3:1\n" ++
+    codes "4 join 2 e1.1.1 1:1,2:1,3:1\n" ++
+    codes "4 join 3 e1.1.1 1:1,2:1,3:1\n" ++
+    codes "4 start e1.1.1 0 1=0.0\n" ++
+    codes "5 call 1 1 c1.1.1 create /a\n" ++
+    codes "6 grant e1.1.1 c1.1.1 1 i1.1 w 0.1 0.0 1\n" ++
+    codes "6 act e1.1.1 i1.1 1 probe a ok\n" ++
+    codes "6 grant e1.1.1 c1.1.1 3 i1.2 n 0.2 - 1\n" ++
+    codes "6 commit 0.2 1 1.1 - -\n" ++
+    codes "6 release e1.1.1 i1.2 0.2 1.1\n" ++
+    codes "6 adopt 0.2 2 1.1\n" ++
+    codes "6 adopt 0.2 3 1.1\n" ++
+    codes "6 act e1.1.1 i1.1 2 insert a 2 f ok\n" ++
+    codes "6 commit 0.1 1 1.1 0.0 016100020100000001\n" ++
+    codes "6 release e1.1.1 i1.1 0.1 1.1\n" ++
+    codes "6 reply 1 1 c1.1.1 ok 2\n" ++
+    codes "6 adopt 0.1 2 1.1\n" ++
+    codes "6 adopt 0.1 3 1.1\n" ++
+    codes "7 call 1 1 c1.1.2 open /a w\n" ++
+    codes "8 look e1.1.1 c1.1.2 1 0.1 name a 1.1\n" ++
+    codes "8 grant e1.1.1 c1.1.2 2 i1.3 w 0.2 1.1 1\n" ++
+    codes "8 reply 1 1 c1.1.2 ok 0\n" ++
+    codes "9 call 2 1 c2.1.1 open /a r\n" ++
+    codes "10 look e1.1.1 c2.1.1 1 0.1 name a 1.1\n" ++
+    codes "10 refuse e1.1.1 c2.1.1 2 i2.1 r 0.2 busy 1 1\n" ++
+    codes "10 reply 2 1 c2.1.1 busy 1 1\n" ++
+    codes "11 call 1 1 c1.1.3 write 0 0 6e6577\n" ++
+    codes "12 act e1.1.1 i1.3 1 write 0 6e6577 ok\n" ++
+    codes "12 reply 1 1 c1.1.3 ok\n" ++
+    codes "13 call 1 1 c1.1.4 close 0\n" ++
+    codes "14 commit 0.2 1 1.2 1.1 6e6577\n" ++
+    codes "14 release e1.1.1 i1.3 0.2 1.2\n" ++
+    codes "14 reply 1 1 c1.1.4 ok 1.2\n" ++
+    codes "14 adopt 0.2 2 1.2\n" ++
+    codes "14 adopt 0.2 3 1.2\n" ++
+    codes "15 call 2 1 c2.1.2 open /a r\n" ++
+    codes "16 look e1.1.1 c2.1.2 1 0.1 name a 1.1\n" ++
+    codes "16 grant e1.1.1 c2.1.2 2 i2.2 r 0.2 1.2 2\n" ++
+    codes "16 reply 2 1 c2.1.2 ok 0\n" ++
+    codes "17 call 2 1 c2.1.3 write 0 0 61\n" ++
+    codes "17 reply 2 1 c2.1.3 readonly\n" ++
+    codes "19 call 2 1 c2.1.4 read 0 0 10\n" ++
+    codes "20 act e1.1.1 i2.2 1 read 0 10 ok 6e6577\n" ++
+    codes "20 reply 2 1 c2.1.4 ok 6e6577\n" ++
+    codes "21 call 2 1 c2.1.5 read 5 0 1\n" ++
+    codes "21 reply 2 1 c2.1.5 baddescriptor\n" ++
+    []
+
+pub runs : printed (run lines) ≡ written
+unfolding digits encode_with
+runs = refl

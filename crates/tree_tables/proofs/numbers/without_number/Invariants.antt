@@ -1,0 +1,6 @@
+use Rattle.std.proofs.Common.{◌≡◌, take}
+use Rattle.tree_model.specs.Tree.{without_number}
+use Rattle.tree_tables.proofs.numbers.without_number.Given as goal
+
+abbrev pub invariant-loop-other : goal.invariant-loop-other
+invariant-loop-other l = l.made ≡ without_number l.number (take l.other-index l.numbers)

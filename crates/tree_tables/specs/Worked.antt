@@ -1,0 +1,6 @@
+-- An instance of which this has become.
+use Rattle.file_effects.specs.declared.work.Work.{Work}
+use Rattle.tree_model.specs.declared.instance.Instance.{Instance}
+
+abbrev pub worked : Work → Instance → Instance
+worked w x = record x { work = w }

@@ -1,0 +1,5 @@
+pub mod Copies
+pub mod OpeningLaws
+pub mod AnswerLaws
+pub mod BodyLaws
+pub mod PacketLaws
