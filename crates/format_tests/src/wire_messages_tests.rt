@@ -4,7 +4,8 @@ ghost use Rattle.wire_messages.specs.Packets.{FitsPacket};
 use locus_ids::{Bytes, EpochId, NoMemory};
 use std::alloc::Global;
 use std::test::Fail;
-use wire_messages::{Body, NotAPacket, Packet, decode, encode};
+use wire_messages::{Body, Packet, encode};
+use wire_reading::{NotAPacket, decode};
 
 // The packet with no body in epoch (1, 1, 1), from boot 1 of site 1 to boot 1 of site 2.
 const POLL: [u8; 25] = [

@@ -4,7 +4,7 @@ use Rattle.std.specs.Prelude.{Option, None, Some, ◌==◌}
 use Rattle.std.specs.Option.{option_map}
 use Rattle.std.proofs.lemmas.Bool.{eqb-true, eq-eqb, cases_Bool}
 use Rattle.pack_layout.specs.Layout.{slot_at}
-use Rattle.inode_switch.specs.View.{is_open, turn, Newer, First, Second, newer_of, newer, counting}
+use Rattle.inode_switch.specs.View.{is_open, turn, newer_of, newer, counting}
 use Rattle.inode_switch.specs.Replace.{IsNext}
 use Rattle.inode_switch.proofs.SlotBytes.{says}
 use Rattle.inode_pack.specs.declared.inode_copy.InodeCopy.{InodeCopy}

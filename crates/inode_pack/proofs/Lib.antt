@@ -22,5 +22,7 @@ pub mod Taking
 pub mod Tearing
 pub mod Times
 pub mod Whole
+pub mod Marked
+pub mod PutPages
 pub mod Passing
 pub mod Streaming

@@ -1,5 +1,5 @@
 -- A mount that read only.
-use Rattle.std.specs.Prelude.{ℕ, List, Result, Err}
+use Rattle.std.specs.Prelude.{ℕ, List, Err}
 use Rattle.disk_model.specs.Disk.{Passing, TellsRead}
 use Rattle.disk_model.specs.Moments.{TellsMany}
 use Rattle.disk_model.proofs.ReadRuns.{reads_alone, reads_failed}

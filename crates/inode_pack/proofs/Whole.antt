@@ -4,9 +4,9 @@ use Rattle.std.specs.Prelude.{is_some, if◌then◌else◌}
 use Rattle.std.proofs.lemmas.Bool.{cases_lt, lt-ltb, le-ltb}
 use Rattle.std.proofs.lemmas.List.{same_lists, get_or_default, get_or-take, get_or-drop, get_or_past, get_or_append_left, get_or_at, take_all, append-nil}
 use Rattle.file_content.specs.Pages.{pages_of, page_of}
-use Rattle.shadow_pages.specs.Working.{Working, page_at as shadow_page, byte_in, byte_at, content, count_below, padded}
+use Rattle.shadow_pages.specs.Working.{page_at as shadow_page, byte_in, byte_at, content, count_below, padded}
 use Rattle.shadow_pages.proofs.Bytes.{padded_at, length_padded, length_below, below_at}
-use Rattle.inode_switch.specs.View.{Version, view}
+use Rattle.inode_switch.specs.View.{view}
 use Rattle.inode_pack.specs.declared.new_version.NewVersion.{NewVersion}
 use Rattle.inode_pack.specs.Whole.{full_page, full_pages, whole}
 use Rattle.inode_pack.specs.Committing.{is_changed, needed, RestsOn, content_of, new_version, adopted_version}

@@ -7,5 +7,6 @@ pub mod PagePieces
 pub mod Slots
 pub mod Rows
 pub mod Whole
+pub mod Marked
 pub mod NextIno
 pub mod Found

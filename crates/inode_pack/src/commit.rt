@@ -12,8 +12,9 @@ ghost use Rattle.inode_pack.specs.Rows.{HasChanged, SameButFor};
 ghost use Rattle.inode_pack.specs.PagePieces.{AreWhole};
 ghost use Rattle.inode_pack.specs.Committing.{IsVersion, RestsOn, size_of, needed, is_free, Makes, Commits, HoldsPages, with_copy, new_version, adopted_version, MayBeLeft, commit_calls, commit_answer, IsEarly};
 ghost use Rattle.inode_pack.specs.Whole.{whole};
+ghost use Rattle.inode_pack.specs.Marked.{marked};
 
-use crate::new_content::NewContent;
+use crate::new_content::{MarkedContent, NewContent};
 use crate::pieces::CommitPieces;
 use crate::plan::{Row, next_copy, page_count};
 use crate::usage::{first_free, pages_named, pass_pages, row_to_pass};
@@ -105,6 +106,43 @@ impl Pack {
         self.store(disk, ino.get(), *version, content)
     }
 
+    /// Commits a version of an inode whose content is this one. Only the marked pages are written, each to the least free data
+    /// page; the others stay those that the inode has. `NoSpace` comes exactly where they are more than are free. After `Disk`
+    /// the pack must be mounted again, and is wholly old or wholly new.
+    pub fn commit_pages<D: Disk>(
+        &mut self,
+        disk: &mut D,
+        ino: Ino,
+        version: &NewVersion,
+        content: &[u8],
+        marks: &[bool; 64],
+    ) -> Result<(), PackFault>
+        requires stands { Stands self.old (D.moment disk.old) }
+        requires version { IsVersion version.now (length content.now) }
+        requires rests { RestsOn (size_of (copy_of self.old.copies ino)) (marked content.now marks.now) }
+
+        // At each moment a crash leaves the old view or the new one, in a sound pack, and nothing else changed.
+        ensures any_moment { LeavesOnly (D.moment disk.old) (D.moment disk.new)
+            (MayBeLeft self.old ino (new_version self.old.base ino version.now (marked content.now marks.now) (D.moment disk.old).seen) (D.moment disk.old).seen) }
+
+        // After it the pack has the new copy, and so has the disk, whatever comes.
+        ensures copies { OnOk result (Commits self.old ino version.now (marked content.now marks.now) self.new) }
+        ensures stands { OnOk result (Stands self.new (D.moment disk.new)) }
+        ensures good { AreCopies self.new.copies }
+        ensures replaced { OnOk result (Replaced self.old.base ino (new_version self.old.base ino version.now (marked content.now marks.now) (D.moment disk.old).seen) (D.moment disk.old).seen (D.moment disk.new).seen) }
+        ensures pages { OnOk result (HoldsPages self.new ino (marked content.now marks.now) (D.moment disk.new).seen) }
+
+        ensures kept { OnErr result (self.new ≡ self.old) }
+        ensures no_space { (pages free : ℕ) → (result ≡ Err (NoSpace pages free)) ↔ ((free < pages) × (pages ≡ needed (marked content.now marks.now)) × (free + length (named_pages self.old.copies) ≡ 3072)) }
+        ensures early { IfErr result (λ fault. IsEarly fault → disk.new ≡ disk.old) }
+
+        // The disk fails only where its count rose, and where it tells how many calls pass, exactly where they are too few.
+        ensures cause { HasCause (D.moment disk.old).faults (D.moment disk.new).faults (commit_answer result) }
+        ensures tells { TellsMany (commit_calls (needed (marked content.now marks.now)) (copy_of self.old.copies ino) result) (D.moment disk.old).passing (D.moment disk.new).passing (commit_answer result) }
+    {
+        self.store(disk, ino.get(), *version, &MarkedContent { content, marks })
+    }
+
     /// Makes a version of an inode, wholly or not at all.
     fn store<D: Disk, C: NewContent>(
         &mut self,
@@ -122,6 +160,7 @@ impl Pack {
             (MayBeLeft self.old ino (new_version self.old.base ino version (C.working content.now) (D.moment disk.old).seen) (D.moment disk.old).seen) }
         ensures copies { OnOk result (Commits self.old ino version (C.working content.now) self.new) }
         ensures stands { OnOk result (Stands self.new (D.moment disk.new)) }
+        ensures good { AreCopies self.new.copies }
         ensures replaced { OnOk result (Replaced self.old.base ino (new_version self.old.base ino version (C.working content.now) (D.moment disk.old).seen) (D.moment disk.old).seen (D.moment disk.new).seen) }
         ensures pages { OnOk result (HoldsPages self.new ino (C.working content.now) (D.moment disk.new).seen) }
         ensures kept { OnErr result (self.new ≡ self.old) }

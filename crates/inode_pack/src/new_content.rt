@@ -1,11 +1,12 @@
 // What is written of a new content: the changed pages of a shadow, or all pages of a whole content.
-ghost use Rattle.std.specs.Prelude.{◌≡◌, ◌≤◌, ◌<◌, ℕ, List, length, Some, OnOk};
+ghost use Rattle.std.specs.Prelude.{◌≡◌, ◌≤◌, ◌<◌, ◌*◌, ℕ, List, length, Some, OnOk, true};
 ghost use Rattle.disk_model.specs.Disk.{Goes, HasCause};
 ghost use Rattle.disk_model.specs.Moments.{TellsMany};
 ghost use Rattle.file_content.specs.Pages.{pages_of};
-ghost use Rattle.shadow_pages.specs.Working.{Working, page_at as shadow_page, padded};
+ghost use Rattle.shadow_pages.specs.Working.{Working, page_at as shadow_page, padded, count_below};
 ghost use Rattle.gate_switch.specs.Switch.{AreWithin, TornIn, written};
-ghost use Rattle.inode_pack.specs.Whole.{whole};
+ghost use Rattle.inode_pack.specs.Whole.{whole, full_page};
+ghost use Rattle.inode_pack.specs.Marked.{is_marked, marked};
 ghost use Rattle.inode_pack.specs.PagePieces.{piece_at};
 ghost use Rattle.inode_pack.specs.Rows.{HasChanged};
 ghost use Rattle.inode_pack.specs.Committing.{is_changed, needed};
@@ -110,17 +111,96 @@ impl NewContent for Bytes {
     }
 
     fn put_page<D: Disk>(&self, disk: &mut D, at: u32, i: u16) -> Result<(), DiskFault> {
-        let from = 1_024 * usize::from(i);
         let bytes = self.as_slice();
-        if from >= bytes.len() {
+        if 1_024 * usize::from(i) >= bytes.len() {
             return Ok(());
         }
-        let rest = &bytes[from..];
-        if rest.len() < 1_024 {
-            return put_last(disk, at, rest);
-        }
-        disk.write_at(at, &rest[..1_024])
+        put_full(disk, at, bytes, i)
     }
+}
+
+/// A content, and which of its pages are new.
+#[derive(Clone, Copy)]
+pub(crate) struct MarkedContent<'a> {
+    pub content: &'a [u8],
+    pub marks: &'a [bool; 64],
+}
+
+impl NewContent for MarkedContent<'_> {
+    ghost working = { λ m. marked m.content.now m.marks.now };
+
+    fn size(&self) -> u32 {
+        self.content.len() as u32
+    }
+
+    fn row(&self) -> Row {
+        Row {
+            first: 0,
+            stop: page_count(self.content.len() as u32),
+        }
+    }
+
+    fn count(&self) -> u16 {
+        count_marked(self.marks, page_count(self.content.len() as u32))
+    }
+
+    fn is_changed(&self, i: u16) -> bool {
+        is_new_page(self.content, self.marks, i)
+    }
+
+    fn put_page<D: Disk>(&self, disk: &mut D, at: u32, i: u16) -> Result<(), DiskFault> {
+        if !is_new_page(self.content, self.marks, i) {
+            return Ok(());
+        }
+        put_full(disk, at, self.content, i)
+    }
+}
+
+/// How many of the first pages are marked.
+fn count_marked(marks: &[bool; 64], end: u16) -> u16
+    requires { end ≤ 64 }
+    ensures number { result ≡ count_below (is_marked marks.now) end }
+    ensures most { result ≤ end }
+{
+    let mut count = 0;
+    for i in 0..end {
+        if marks[usize::from(i)] {
+            count += 1;
+        }
+    }
+    count
+}
+
+/// A page is one of the content, and marked.
+fn is_new_page(content: &[u8], marks: &[bool; 64], i: u16) -> bool
+    ensures changed { result ≡ is_changed (marked content.now marks.now) i }
+    ensures inside { result ≡ true → 1024 * i < length content.now }
+{
+    let at = usize::from(i);
+    if 1_024 * at >= content.len() {
+        return false;
+    }
+    if at >= 64 {
+        return false;
+    }
+    marks[at]
+}
+
+/// Writes page i of a content, with zeros behind its end.
+fn put_full<D: Disk>(disk: &mut D, at: u32, bytes: &[u8], i: u16) -> Result<(), DiskFault>
+    requires inside { 1024 * i < length bytes.now }
+    requires within { AreWithin (piece_at at (Some (full_page bytes.now i))) (length (D.moment disk.old).seen) }
+    ensures written { OnOk result ((D.moment disk.new).seen ≡ written (D.moment disk.old).seen (piece_at at (Some (full_page bytes.now i)))) }
+    ensures crash { Goes (TornIn (piece_at at (Some (full_page bytes.now i)))) (D.moment disk.old) (D.moment disk.new) }
+    ensures cause { HasCause (D.moment disk.old).faults (D.moment disk.new).faults result }
+    ensures tells { TellsMany 1 (D.moment disk.old).passing (D.moment disk.new).passing result }
+{
+    let from = 1_024 * usize::from(i);
+    let rest = &bytes[from..];
+    if rest.len() < 1_024 {
+        return put_last(disk, at, rest);
+    }
+    disk.write_at(at, &rest[..1_024])
 }
 
 /// Writes the last page of a content, with zeros behind its end.

@@ -36,6 +36,13 @@ impl Model for Pack {
 }
 
 impl Pack {
+    /// The group of which this is a pack.
+    pub fn group(&self) -> u8
+        ensures { result ≡ self.now.group }
+    {
+        self.group
+    }
+
     /// The version of an inode, or `None` exactly where this pack has none, as for each number outside 1 to 1,024.
     pub fn copy(&self, ino: u16) -> Option<&Slot>
         ensures value { option_copied result ≡ option_map (λ copy. copy.slot) (copy_of self.now.copies ino) }

@@ -1,6 +1,6 @@
 -- The laws of packets.
 use Rattle.std.proofs.Common.{◌≡◌, ℕ, ◌+◌, ◌^◌, ◌<◌, ◌⊎◌, inl, inr, List, [], ◌++◌, length, Result, Ok, Err, refl, sym, ap, subst, ◌∙◌, append_assoc, arith}
-use Rattle.std.specs.Result.{IfOk, OnOk}
+use Rattle.std.specs.Result.{OnOk}
 use Rattle.std.proofs.lemmas.List.{append-nil}
 use Rattle.locus_ids.specs.declared.ids.EpochId.{EpochId}
 use Rattle.field_codec.specs.declared.faults.FieldFault.{FieldFault}
@@ -12,10 +12,8 @@ use Rattle.wire_fields.proofs.PartLaws.{u8_in_laws, sites_laws, numbers_laws, ep
 use Rattle.wire_fields.proofs.Members.{range}
 use Rattle.wire_messages.specs.declared.body.Body.{Body}
 use Rattle.wire_messages.specs.declared.packet.Packet.{Packet}
-use Rattle.wire_messages.specs.declared.decoder.NotAPacket.{NotAPacket}
-use Rattle.wire_messages.specs.declared.decoder.NotAPacket.TheVariants.{At, NoMemory}
 use Rattle.wire_messages.specs.Bodies.{kind_number, body_bytes, FitsBody, bodies}
-use Rattle.wire_messages.specs.Packets.{Header, headers, header_of, packet_of, packet_bytes, FitsPacket, IsPacket, parts, packets, Decodes, BeginsNoOther}
+use Rattle.wire_messages.specs.Packets.{Header, headers, header_of, packet_of, packet_bytes, FitsPacket, IsPacket, parts, packets, BeginsNoOther}
 use Rattle.wire_messages.proofs.BodyLaws.{every_body, covers_body, kind_in_range}
 
 headers_laws : Lawful headers
@@ -88,22 +86,7 @@ packets_laws = record { takes = takes; again = again } where
         subst (λ (t : List ℕ). packets.read (rest_at at (t ++ rest)) ≡ Ok (x, rest_at (at + length t) rest)) e
         (rw (parts_laws.again (header_of x, x.body) at rest (parts_fit x h)) refl)
 
--- what was decoded has these bytes
-pub found : (bytes : List ℕ) (r : Result Packet NotAPacket) → AreBytes bytes → Decodes (whole packets bytes) r → IfOk r (IsPacket bytes)
-found bytes (Ok p) h given = by_read (whole packets bytes) refl given where
-  by_read : (o : Result Packet FieldFault) → whole packets bytes ≡ o → Decodes o (Ok p) → IsPacket bytes p
-  by_read (Ok q) e same = let k = whole_takes packets_laws bytes q h e in subst (λ (x : Packet). IsPacket bytes x) (sym same) (k.1, k.0)
-  by_read (Err d) e none = absurd none
-found bytes (Err e) h given = tt
-
--- a packet that has these bytes was decoded, unless memory ran out
-pub only : (bytes : List ℕ) (r : Result Packet NotAPacket) → Decodes (whole packets bytes) r → (p : Packet) → IsPacket bytes p → (r ≡ Ok p) ⊎ (r ≡ Err NoMemory)
-only bytes r given p is = answered r (subst (λ (o : Result Packet FieldFault). Decodes o r) (ap (whole packets) is.0 ∙ whole_again packets_laws p is.1) given) where
-  answered : (r : Result Packet NotAPacket) → Decodes (Ok p) r → (r ≡ Ok p) ⊎ (r ≡ Err NoMemory)
-  answered (Ok q) same = inl (ap (λ (x : Packet). Ok x) same)
-  answered (Err (At at)) none = absurd none
-  answered (Err NoMemory) given = inr refl
-
+-- a packet whose bytes begin with those of a packet is that packet
 pub begins_no_other : BeginsNoOther
 begins_no_other p q more fits_p fits_q e =
     let one : packets.read (rest_at 0 (packet_bytes q)) ≡ Ok (q, rest_at (0 + length (packet_bytes q)) []) = ap (λ (t : List ℕ). packets.read (rest_at 0 t)) (sym (append-nil (packet_bytes q))) ∙ packets_laws.again q 0 [] fits_q in
@@ -111,10 +94,14 @@ begins_no_other p q more fits_p fits_q e =
     let same = ok_is (q, rest_at (0 + length (packet_bytes q)) []) (p, rest_at (0 + length (packet_bytes p)) more) (sym one ∙ other) in
     (ap (λ (x : Packet × Unread). x.0) same, sym (ap (λ (x : Packet × Unread). x.1.bytes) same))
 
--- a header, the length of a body and the body were added
-pub appended : {E : Type 0} (r : Result (Unit {0}) E) (out mid new body : List ℕ) (n : ℕ) (p : Packet) → body ≡ body_bytes p.body → n ≡ length body → mid ≡ out ++ (headers.spell (header_of p) ++ u32.spell n) → OnOk r (new ≡ mid ++ body) → OnOk r (new ≡ out ++ packet_bytes p)
-appended (Ok x) out mid new body n p is len e h =
+-- a header and the length of a body, and then the body, are the packet
+pub spelled : (heading body : List ℕ) (n : ℕ) (p : Packet) → body ≡ body_bytes p.body → n ≡ length body → heading ≡ headers.spell (header_of p) ++ u32.spell n → heading ++ body ≡ packet_bytes p
+spelled heading body n p is len e =
     let head : List ℕ = headers.spell (header_of p) in
-    h ∙ ap (λ (t : List ℕ). t ++ body) e ∙ append_assoc out (head ++ u32.spell n) body
-    ∙ ap (λ (t : List ℕ). out ++ t) (append_assoc head (u32.spell n) body ∙ ap (λ (k : ℕ). head ++ (u32.spell k ++ body)) len ∙ ap (λ (b : List ℕ). head ++ (u32.spell (length b) ++ b)) is)
-appended (Err d) out mid new body n p is len e h = tt
+    ap (λ (t : List ℕ). t ++ body) e ∙ append_assoc head (u32.spell n) body
+    ∙ ap (λ (k : ℕ). head ++ (u32.spell k ++ body)) len ∙ ap (λ (b : List ℕ). head ++ (u32.spell (length b) ++ b)) is
+
+-- the heading and the body were added
+pub added : {E : Type 0} (r : Result (Unit {0}) E) (old new heading body : List ℕ) (n : ℕ) (p : Packet) → body ≡ body_bytes p.body → n ≡ length body → heading ≡ headers.spell (header_of p) ++ u32.spell n → OnOk r (new ≡ old ++ (heading ++ body)) → OnOk r (new ≡ old ++ packet_bytes p)
+added (Ok x) old new heading body n p is len e h = h ∙ ap (λ (t : List ℕ). old ++ t) (spelled heading body n p is len e)
+added (Err d) old new heading body n p is len e h = tt

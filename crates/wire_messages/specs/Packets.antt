@@ -1,16 +1,11 @@
 -- Packets as bytes: a header of 25 bytes, of which the last four are the length of the body, and the body.
 use Rattle.std.specs.Prelude.{◌≡◌, ℕ, ◌<◌, ◌^◌, List, [], ◌++◌, length, Result, Ok, Err}
 use Rattle.locus_ids.specs.declared.ids.EpochId.{EpochId}
-use Rattle.field_codec.specs.declared.faults.FieldFault.{FieldFault}
-use Rattle.field_codec.specs.declared.faults.FieldFault.TheVariants.{Short, Range}
 use Rattle.field_codec.specs.Codec.{Codec, u32, u8_in, pair, followed_by, ◌>>=◌}
 use Rattle.field_codec.specs.Shapes.{framed}
 use Rattle.wire_fields.specs.Parts.{sites, numbers, epochs}
 use Rattle.wire_messages.specs.declared.body.Body.{Body}
 use Rattle.wire_messages.specs.declared.packet.Packet.{Packet}
-use Rattle.wire_messages.specs.declared.decoder.Heading.{Heading}
-use Rattle.wire_messages.specs.declared.decoder.NotAPacket.{NotAPacket}
-use Rattle.wire_messages.specs.declared.decoder.NotAPacket.TheVariants.{At, NoMemory}
 use Rattle.wire_messages.specs.Bodies.{kind_number, body_bytes, FitsBody, bodies}
 
 -- the version, the kind, the sender and its boot, the receiver and its boot, and the epoch
@@ -55,23 +50,6 @@ packets = record {
   spell = packet_bytes;
   read = λ u. parts.read u >>= λ r. Ok (packet_of r.0.0 r.0.1, r.1);
 }
-
--- a header that a reader has read
-abbrev pub seen_header : Heading → Header
-seen_header h = (1, (h.kind, (h.from, (h.from_boot, (h.to, (h.to_boot, h.epoch))))))
-
--- the place that a fault names
-abbrev pub place_of : FieldFault → ℕ
-place_of (Short at) = at
-place_of (Range at) = at
-
--- what a decoder gives, unless memory runs out: the packet that was read, or the place of the first fault
-abbrev pub Decodes : Result Packet FieldFault → Result Packet NotAPacket → Type 0
-Decodes (Ok p) (Ok q) = q ≡ p
-Decodes (Ok p) (Err (At at)) = ⊥
-Decodes (Err fault) (Ok q) = ⊥
-Decodes (Err fault) (Err (At at)) = at ≡ place_of fault
-Decodes _ (Err NoMemory) = Unit {0}
 
 -- a packet whose bytes begin with those of a packet is that packet
 abbrev pub BeginsNoOther : Type 0

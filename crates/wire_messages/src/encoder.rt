@@ -1,4 +1,4 @@
-ghost use Rattle.std.specs.Prelude.{◌≡◌, ◌++◌, OnOk, OnErr};
+ghost use Rattle.std.specs.Prelude.{◌≡◌, [], ◌++◌, IfOk, OnOk, OnErr};
 ghost use Rattle.field_codec.specs.Codec.{u32};
 ghost use Rattle.wire_messages.specs.Packets.{headers, header_of, packet_bytes, FitsPacket};
 
@@ -6,7 +6,14 @@ use crate::Packet;
 use crate::put_bodies::{kind_number, put_body};
 use field_codec::{put_u8, put_u32};
 use locus_ids::{Bytes, NoMemory};
+use std::alloc::Global;
 use wire_fields::{put_epoch, put_site};
+
+/// What stands before a body has so many bytes.
+const HEADING_BYTES: usize = 25;
+
+/// A body with a whole page has so many bytes, and most others have fewer.
+const BODY_ROOM: usize = 1_035;
 
 /// What stands before the length of the body.
 fn put_header(out: &mut Bytes, p: &Packet) -> Result<(), NoMemory>
@@ -29,14 +36,27 @@ fn put_heading(out: &mut Bytes, p: &Packet, length: u32) -> Result<(), NoMemory>
     put_u32(out, length)
 }
 
-fn append_packet(p: &Packet, out: &mut Bytes) -> Result<(), NoMemory>
-    requires { FitsPacket p.now }
-    ensures { OnOk result (out.new ≡ out.old ++ packet_bytes p.now) }
+/// Takes memory for so many bytes at once, of which there are none yet.
+fn with_room(alloc: Global, room: &[u8]) -> Result<Bytes, NoMemory>
+    ensures { IfOk result (λ made. made ≡ []) }
 {
-    let mut body = Bytes::new(out.allocator());
-    put_body(&mut body, &p.body)?;
-    put_heading(out, p, body.len() as u32)?;
-    out.append(body.as_slice())
+    let mut bytes = Bytes::from_slice(alloc, room)?;
+    bytes.clear();
+    Ok(bytes)
+}
+
+/// Adds two rows of bytes, both or, after `NoMemory`, none.
+fn append_both(out: &mut Bytes, first: &[u8], then: &[u8]) -> Result<(), NoMemory>
+    ensures ok { OnOk result (out.new ≡ out.old ++ (first.now ++ then.now)) }
+    ensures err { OnErr result (out.new ≡ out.old) }
+{
+    let before = out.len();
+    out.append(first)?;
+    if let Err(fault) = out.append(then) {
+        out.truncate(before);
+        return Err(fault);
+    }
+    Ok(())
 }
 
 /// Adds the bytes of a packet at the end, all or, after `NoMemory`, none.
@@ -45,7 +65,9 @@ pub fn encode(p: &Packet, out: &mut Bytes) -> Result<(), NoMemory>
     ensures ok { OnOk result (out.new ≡ out.old ++ packet_bytes p.now) }
     ensures err { OnErr result (out.new ≡ out.old) }
 {
-    let mut whole = Bytes::new(out.allocator());
-    append_packet(p, &mut whole)?;
-    out.append(whole.as_slice())
+    let mut body = with_room(out.allocator(), &[0; BODY_ROOM])?;
+    put_body(&mut body, &p.body)?;
+    let mut heading = with_room(out.allocator(), &[0; HEADING_BYTES])?;
+    put_heading(&mut heading, p, body.len() as u32)?;
+    append_both(out, heading.as_slice(), body.as_slice())
 }

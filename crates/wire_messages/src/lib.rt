@@ -1,10 +1,9 @@
-//! The packets that sites send each other, as values and as bytes, and the outbox that takes what an event sends and tells.
+//! The packets that sites send each other, as values, the bytes of each, and the outbox that takes what an event sends and tells.
 //! Whoever handles packets, and the run that carries them, stands on this room. It knows the bytes of each kind, and nothing
 //! of what a site does with it.
 #![tactic(auto)]
 
 mod body;
-mod decoder;
 mod encoder;
 mod laws;
 mod outbox;
@@ -13,17 +12,11 @@ mod put_answers;
 mod put_bodies;
 mod put_replies;
 mod put_requests;
-mod read_answers;
-mod read_bodies;
-mod read_openings;
-mod read_replies;
-mod read_requests;
 
 pub use body::{
     Body, CloseAnswer, Granted, LookAnswer, MadeVersion, OpenedAs, Opening, ReportedCopies,
     ReportedCopy,
 };
-pub use decoder::{NotAPacket, decode};
 pub use encoder::encode;
 pub use laws::no_packet_begins_another;
 pub use outbox::{Outbox, Records};

@@ -1,4 +1,4 @@
-use Rattle.std.proofs.Common.{◌≡◌, ◌∙◌, ◌-◌, ◌++◌, ◌<◌, ℕ, zero, suc, List, length, drop, replicate, refl, ap, arith}
+use Rattle.std.proofs.Common.{◌≡◌, ◌∙◌, ◌-◌, ◌++◌, ℕ, zero, suc, List, length, drop, replicate, ap, arith}
 use Rattle.inode_pack.proofs.new_content.padded_page.Goals as goal
 
 drop-zeros : (m n : ℕ) → drop n (replicate {A = ℕ} m 0) ≡ replicate (m - n) 0

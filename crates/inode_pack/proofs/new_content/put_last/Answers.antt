@@ -1,7 +1,7 @@
 use Rattle.std.proofs.Common.{◌≡◌, ◌∙◌, ℕ, List, [], ◌∷◌, length, ap, subst, arith}
 use Rattle.disk_model.specs.Images.{overwritten, Torn}
 use Rattle.disk_model.proofs.Moments.{goes_wider, on_ok}
-use Rattle.gate_switch.specs.Switch.{Piece, TornIn, written}
+use Rattle.gate_switch.specs.Switch.{Piece, TornIn}
 use Rattle.gate_switch.proofs.Pieces.{torn_alone}
 use Rattle.shadow_pages.specs.Working.{padded}
 use Rattle.inode_pack.proofs.Streaming.{alone_within}

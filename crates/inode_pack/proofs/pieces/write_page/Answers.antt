@@ -1,11 +1,10 @@
-use Rattle.std.proofs.Common.{◌≡◌, ◌∙◌, ℕ, List, length, get_or, ap, subst, sym, None}
+use Rattle.std.proofs.Common.{◌≡◌, ◌∙◌, ℕ, length, get_or, ap, subst, sym, None}
 use Rattle.pack_layout.specs.Layout.{page_at}
 use Rattle.disk_model.specs.Disk.{Goes}
 use Rattle.disk_model.specs.Moments.{TellsMany}
 use Rattle.disk_model.proofs.Moments.{on_ok}
 use Rattle.gate_switch.specs.Switch.{AreWithin, TornIn, written}
 use Rattle.inode_pack.specs.PagePieces.{piece_at}
-use Rattle.inode_pack.proofs.pieces.write_page.Given.{Over}
 use Rattle.inode_pack.proofs.pieces.write_page.Goals as goal
 
 -- the page's place

@@ -1,4 +1,4 @@
-use Rattle.std.proofs.Common.{List, length, subst, arith}
+use Rattle.std.proofs.Common.{List, length, subst}
 use Rattle.std.specs.Prelude.{Option, ℕ}
 use Rattle.gate_switch.specs.Switch.{AreWithin}
 use Rattle.inode_pack.specs.PagePieces.{piece_at}

@@ -1,4 +1,4 @@
-use Rattle.std.proofs.Common.{◌≡◌, ◌+◌, ◌<◌, ◌∙◌, ℕ, length, ap, subst}
+use Rattle.std.proofs.Common.{◌≡◌, ◌+◌, ◌<◌, ℕ, length, subst}
 use Rattle.std.specs.Prelude.{◌↔◌, OnOk, Err}
 use Rattle.disk_model.specs.Moments.{LeavesOnly, TellsMany}
 use Rattle.inode_switch.specs.View.{Version, Replaced}

@@ -8,7 +8,7 @@ use Rattle.inode_switch.specs.Replace.{closing}
 use Rattle.disk_model.proofs.Moments.{leaves_start, leaves_weaker}
 use Rattle.inode_pack.specs.declared.pack_fault.PackFault.{PackFault}
 use Rattle.inode_pack.specs.declared.pack_fault.PackFault.TheVariants.{Disk}
-use Rattle.inode_pack.specs.Pack.{PackState, copy_of, Stands}
+use Rattle.inode_pack.specs.Pack.{PackState, copy_of, Stands, AreCopies}
 use Rattle.inode_pack.specs.Committing.{MayBeLeft, new_version, needed, HoldsPages, commit_calls, commit_answer}
 use Rattle.inode_pack.specs.PagePieces.{pieces_of}
 use Rattle.inode_pack.proofs.Setup.{set_up}
@@ -180,3 +180,14 @@ returns-clause-pages g c =
     let s = set_up pack ino c.args.version w p.made c.requires.low c.requires.high e.copies c.requires.version (omega arith) c.requires.rests e.whole e.numbers e.makes in
     subst (λ (new : PackState). HoldsPages new ino w (g.D.Disk.moment c.replace_inode.new.disk).seen) (sym c.put.ensures)
     (given_pages pack ino w p.made s old c.requires.stands.shows c.base-base.result (pieces_of c.base-base.result p.made w) c.base-base.ensures (ap (λ (b : ℕ). pieces_of b p.made w) c.base-base.ensures) (g.D.Disk.moment c.replace_inode.new.disk).seen c.in_ok-replace_inode.ensures.done)
+
+pub returns-clause-good : goal.returns-clause-good
+returns-clause-good g c =
+    let pack = c.args.self.now in
+    let ino = c.args.ino in
+    let w = (g.C.NewContent.working c.args.content.now) in
+    let old = (g.D.Disk.moment c.args.disk.now).seen in
+    let p = c.prepare-prepared.result in
+    let e = c.prepare-prepared.ensures in
+    let s = set_up pack ino c.args.version w p.made c.requires.low c.requires.high e.copies c.requires.version (omega arith) c.requires.rests e.whole e.numbers e.makes in
+    subst (λ (new : PackState). AreCopies new.copies) (sym c.put.ensures) (copies_after pack ino w p.made s (place pack ino w p.made s old c.requires.stands.shows))

@@ -1,0 +1,10 @@
+use Rattle.std.proofs.Common.{◌≡◌, ℕ, ◌≤◌, ◌<◌, ◌-◌, length}
+use Rattle.std.specs.Prelude.{slice_index}
+use Rattle.circuits.specs.Circuits.{reached_boot}
+use Rattle.circuits.proofs.cut.CutCircuits.links_of.Given as goal
+
+abbrev pub invariant-loop-to : goal.invariant-loop-to
+invariant-loop-to l = record {
+  room : length l.boot ≡ 16;
+  each : (t : ℕ) → 1 ≤ t → t < l.to → slice_index l.boot (t - 1) ≡ reached_boot l.self l.boots l.from t;
+}

@@ -1,0 +1,4 @@
+pub mod Opened
+pub mod OpenIndex
+pub mod Settled
+pub mod Indexed

@@ -1,0 +1,4 @@
+pub mod Numbers
+pub mod History
+pub mod Sited
+pub mod Covers

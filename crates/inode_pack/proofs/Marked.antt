@@ -1,0 +1,99 @@
+-- The pages of a content of which some are marked.
+use Rattle.std.proofs.Common.{◌≡◌, ⊎_elim, ℕ, zero, suc, ◌+◌, ◌*◌, ◌<◌, ◌≤◌, Bool, true, false, ltb, List, [], ◌∷◌, length, get_or, Option, None, Some, refl, sym, ◌∙◌, ap, arith, length-append}
+use Rattle.std.specs.Prelude.{is_some, ◌&&◌, if◌then◌else◌}
+use Rattle.std.proofs.lemmas.Bool.{cases_lt, lt-ltb, le-ltb}
+use Rattle.std.proofs.lemmas.List.{get_or_past, get_or_append_left, get_or_at}
+use Rattle.file_content.specs.Pages.{pages_of}
+use Rattle.shadow_pages.specs.Working.{page_at as shadow_page, count_below}
+use Rattle.inode_pack.specs.Whole.{full_page}
+use Rattle.inode_pack.specs.Marked.{is_marked, page_if, marked_pages, marked}
+use Rattle.inode_pack.specs.Committing.{is_changed, needed}
+use Rattle.inode_pack.proofs.Whole.{long_page}
+
+length_marked : (bytes : List ℕ) (marks : List Bool) (n : ℕ) → length (marked_pages bytes marks n) ≡ n
+length_marked bytes marks zero = refl
+length_marked bytes marks (suc n) = let e = length_marked bytes marks n in omega (arith, length-append (marked_pages bytes marks n) (page_if (is_marked marks n) (full_page bytes n) ∷ []))
+
+marked_in : (bytes : List ℕ) (marks : List Bool) (n i : ℕ) → i < n → get_or (marked_pages bytes marks n) i None ≡ page_if (is_marked marks i) (full_page bytes i)
+marked_in bytes marks zero i lt = absurd (omega arith)
+marked_in bytes marks (suc n) i lt = ⊎_elim
+    (λ (less : i < n). get_or_append_left (marked_pages bytes marks n) (page_if (is_marked marks n) (full_page bytes n) ∷ []) None i (let l = length_marked bytes marks n in omega arith) ∙ marked_in bytes marks n i less)
+    (λ (ge : n ≤ i).
+    let e : n ≡ i = omega arith in
+    get_or_at (marked_pages bytes marks n) (page_if (is_marked marks n) (full_page bytes n)) [] None i (omega (arith, length_marked bytes marks n)) ∙ ap (λ (j : ℕ). page_if (is_marked marks j) (full_page bytes j)) e)
+    (cases_lt i n)
+
+-- page i of the content, if it is one and marked
+pub page_here : (bytes : List ℕ) (marks : List Bool) (i : ℕ) → i < pages_of (length bytes) → shadow_page (marked bytes marks).pages i ≡ page_if (is_marked marks i) (full_page bytes i)
+page_here bytes marks i lt = marked_in bytes marks (pages_of (length bytes)) i lt
+
+pub page_past : (bytes : List ℕ) (marks : List Bool) (i : ℕ) → pages_of (length bytes) ≤ i → shadow_page (marked bytes marks).pages i ≡ None
+page_past bytes marks i le = get_or_past (marked_pages bytes marks (pages_of (length bytes))) i None (omega (arith, length_marked bytes marks (pages_of (length bytes))))
+
+some_if : (b : Bool) (page : List ℕ) → is_some (page_if b page) ≡ b
+some_if true page = refl
+some_if false page = refl
+
+and_true : (b : Bool) → (true && b) ≡ b
+and_true true = refl
+and_true false = refl
+
+pub changed_here : (bytes : List ℕ) (marks : List Bool) (i : ℕ) → i < pages_of (length bytes) → is_changed (marked bytes marks) i ≡ is_marked marks i
+changed_here bytes marks i lt = ap (λ (o : Option (List ℕ)). is_some o) (page_here bytes marks i lt) ∙ some_if (is_marked marks i) (full_page bytes i)
+
+-- whether a page is changed
+pub marked_is : (bytes : List ℕ) (marks : List Bool) (i n : ℕ) → n ≡ pages_of (length bytes) → (ltb i n && is_marked marks i) ≡ is_changed (marked bytes marks) i
+marked_is bytes marks i n e = ⊎_elim
+    (λ (lt : i < n). ap (λ (b : Bool). b && is_marked marks i) (lt-ltb i n lt) ∙ and_true (is_marked marks i) ∙ sym (changed_here bytes marks i (omega arith)))
+    (λ (le : n ≤ i). ap (λ (b : Bool). b && is_marked marks i) (le-ltb i n le) ∙ sym (ap (λ (o : Option (List ℕ)). is_some o) (page_past bytes marks i (omega arith))))
+    (cases_lt i n)
+
+page_of_if : (b : Bool) (made page : List ℕ) → page_if b made ≡ Some page → (b ≡ true) × (made ≡ page)
+page_of_if true made page is = (refl, cc)
+page_of_if false made page is = absurd (let e : None ≡ Some page = is in cc)
+
+pub marked_long : (bytes : List ℕ) (marks : List Bool) (i : ℕ) (page : List ℕ) → shadow_page (marked bytes marks).pages i ≡ Some page → length page ≡ 1024
+marked_long bytes marks i page is =
+    let n = pages_of (length bytes) in
+    ⊎_elim
+    (λ (lt : i < n).
+    let e = page_of_if (is_marked marks i) (full_page bytes i) page (sym (page_here bytes marks i lt) ∙ is) in
+    sym (ap (λ (l : List ℕ). length l) e.1) ∙ long_page bytes i)
+    (λ (le : n ≤ i). let e : None ≡ Some page = sym (page_past bytes marks i le) ∙ is in absurd cc)
+    (cases_lt i n)
+
+-- a page that is changed is that of the content
+pub page_changed : (bytes : List ℕ) (marks : List Bool) (i : ℕ) → i < pages_of (length bytes) → is_marked marks i ≡ true → shadow_page (marked bytes marks).pages i ≡ Some (full_page bytes i)
+page_changed bytes marks i lt is = page_here bytes marks i lt ∙ ap (λ (b : Bool). page_if b (full_page bytes i)) is
+
+-- a page that isn't changed
+pub page_unchanged : (bytes : List ℕ) (marks : List Bool) (i : ℕ) → is_changed (marked bytes marks) i ≡ false → shadow_page (marked bytes marks).pages i ≡ None
+page_unchanged bytes marks i is = none_if (shadow_page (marked bytes marks).pages i) is
+  where
+    none_if : (o : Option (List ℕ)) → is_some o ≡ false → o ≡ None
+    none_if None e = refl
+    none_if (Some x) e = absurd (cc)
+
+-- a page past the end, and one without a mark, isn't changed
+pub past_end : (bytes : List ℕ) (marks : List Bool) (i at : ℕ) → at ≡ i → length bytes ≤ 1024 * at → false ≡ is_changed (marked bytes marks) i
+past_end bytes marks i at e le = sym (ap (λ (o : Option (List ℕ)). is_some o) (page_past bytes marks i (omega arith)))
+
+pub is_mark : (bytes : List ℕ) (marks : List Bool) (i at : ℕ) → at ≡ i → 1024 * at < length bytes → get_or marks at false ≡ is_changed (marked bytes marks) i
+is_mark bytes marks i at e lt = ap (λ (n : ℕ). get_or marks n false) e ∙ sym (changed_here bytes marks i (omega arith))
+
+pub no_mark : (bytes : List ℕ) (marks : List Bool) (i at : ℕ) → at ≡ i → 1024 * at < length bytes → length marks ≤ at → false ≡ is_changed (marked bytes marks) i
+no_mark bytes marks i at e lt le = sym (get_or_past marks at false le) ∙ is_mark bytes marks i at e lt
+
+-- so many pages are changed as are marked
+pub needed_marked : (bytes : List ℕ) (marks : List Bool) → needed (marked bytes marks) ≡ count_below (is_marked marks) (pages_of (length bytes))
+needed_marked bytes marks = counts (pages_of (length bytes)) (omega arith)
+  where
+    counts : (n : ℕ) → n ≤ pages_of (length bytes) → count_below (is_changed (marked bytes marks)) n ≡ count_below (is_marked marks) n
+    counts zero le = refl
+    counts (suc n) le =
+        let before = counts n (omega arith) in
+        let here = changed_here bytes marks n (omega arith) in
+        (λ i. let m : ℕ = if here i then 1 else 0 in before i + m)
+
+pub new_page : (bytes : List ℕ) (marks : List Bool) (i : ℕ) → is_changed (marked bytes marks) i ≡ true → 1024 * i < length bytes → shadow_page (marked bytes marks).pages i ≡ Some (full_page bytes i)
+new_page bytes marks i is lt = page_changed bytes marks i (omega arith) (sym (changed_here bytes marks i (omega arith)) ∙ is)

@@ -1,0 +1,16 @@
+use Rattle.std.proofs.Common.{ℕ, subst}
+use Rattle.std.specs.Prelude.{OnOk}
+use Rattle.disk_model.specs.Moments.{LeavesOnly}
+use Rattle.inode_pack.specs.Committing.{MayBeLeft, HoldsPages, new_version}
+use Rattle.inode_pack.specs.Marked.{marked}
+use Rattle.inode_pack.proofs.pack.Pack.commit_pages.Goals as goal
+
+pub returns-clause-any_moment : goal.returns-clause-any_moment
+returns-clause-any_moment g c =
+    let M = g.D.Disk.moment in
+    let pack = c.args.self.now in
+    let old = (M c.args.disk.now).seen in
+    subst (λ (n : ℕ). LeavesOnly (M c.args.disk.now) (M c.store.new.disk) (MayBeLeft pack n (new_version pack.base n c.args.version.now (marked c.args.content.now c.args.marks.now) old) old)) c.get.ensures.value c.store.ensures.any_moment
+
+pub returns-clause-pages : goal.returns-clause-pages
+returns-clause-pages g c = subst (λ (n : ℕ). OnOk c.store.result (HoldsPages c.store.new.self n (marked c.args.content.now c.args.marks.now) (g.D.Disk.moment c.store.new.disk).seen)) c.get.ensures.value c.store.ensures.pages

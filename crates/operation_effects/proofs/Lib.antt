@@ -1,0 +1,5 @@
+pub mod Writing
+pub mod Judged
+pub mod Inserting
+pub mod Bounded
+pub mod Mended

@@ -1,0 +1,4 @@
+pub mod Vectors
+pub mod Boots
+pub mod Short
+pub mod ShortBodies

@@ -1,0 +1,56 @@
+ghost use Rattle.std.specs.Prelude.{◌↔◌, ◌≤◌, ◌+◌, IsTrue, Some, None};
+ghost use Rattle.field_codec.specs.Lists.{AllFit};
+ghost use Rattle.wire_fields.specs.Parts.{stamps_after, ascending_stamps};
+ghost use Rattle.wire_messages.specs.Answers.{copies_from, reported_copies};
+
+use crate::answers::is_copy_from;
+use locus_ids::{Stamp, Stamps};
+use wire_messages::{ReportedCopies, ReportedCopy};
+
+/// Copies whose inodes ascend from this one on.
+fn are_copies_from(least: u16, copies: &[ReportedCopy]) -> bool
+    ensures { IsTrue result ↔ AllFit copies_from (λ _ copy. copy.ino + 1) least copies.now }
+{
+    match copies {
+        [] => true,
+        [first, rest @ ..] => {
+            is_copy_from(least, first) && first.ino <= 1_024 && are_copies_from(first.ino + 1, rest)
+        }
+    }
+}
+
+/// The copies of a group, their inodes ascending.
+pub fn are_copies(copies: &ReportedCopies) -> bool
+    ensures { IsTrue result ↔ reported_copies.Fits copies.now }
+{
+    copies.len() < 65_536 && are_copies_from(1, copies.as_slice())
+}
+
+/// A stamp that may stand after the last one.
+fn is_stamp_after(last: Option<Stamp>, stamp: Stamp) -> bool
+    ensures { IsTrue result ↔ (stamps_after last).Fits stamp }
+{
+    if stamp.site > 16 || (stamp.site == 0) != (stamp.n == 0) {
+        return false;
+    }
+    match last {
+        None => true,
+        Some(last) => last.site <= stamp.site && (last.site < stamp.site || last.n < stamp.n),
+    }
+}
+
+fn are_stamps_after(last: Option<Stamp>, stamps: &[Stamp]) -> bool
+    ensures { IsTrue result ↔ AllFit stamps_after (λ _ stamp. Some stamp) last stamps.now }
+{
+    match stamps {
+        [] => true,
+        [first, rest @ ..] => is_stamp_after(last, *first) && are_stamps_after(Some(*first), rest),
+    }
+}
+
+/// Stamps that ascend.
+pub fn are_ascending(stamps: &Stamps) -> bool
+    ensures { IsTrue result ↔ ascending_stamps.Fits stamps.now }
+{
+    stamps.len() < 256 && are_stamps_after(None, stamps.as_slice())
+}

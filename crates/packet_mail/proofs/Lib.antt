@@ -1,0 +1,4 @@
+pub mod Rows
+pub mod Sent
+pub mod Calls
+pub mod Listing

@@ -1,0 +1,17 @@
+// A table of one value.
+ghost use Rattle.std.specs.Prelude.{◌≡◌, ℕ, ◌<◌, IfOk, vec_len, slice_index_or};
+
+use locus_ids::NoMemory;
+use std::alloc::Global;
+
+/// A table of one value.
+pub fn filled<T: Copy + Drop>(alloc: Global, len: usize, value: T) -> Result<Vec<T>, NoMemory>
+    ensures len { IfOk result (λ v. vec_len v ≡ len) }
+    ensures all { IfOk result (λ v. (j : ℕ) (d : T) → j < len → slice_index_or v.items j d ≡ value) }
+{
+    let mut made = Vec::with_capacity(alloc, len)?;
+    while made.len() < len {
+        made.push(value)?;
+    }
+    Ok(made)
+}

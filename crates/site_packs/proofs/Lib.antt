@@ -1,0 +1,13 @@
+pub mod Areas
+pub mod Fields
+pub mod Rows
+pub mod Seen
+pub mod Behind
+pub mod Reports
+pub mod FreeNumbers
+pub mod PageBytes
+pub mod Contents
+pub mod Stored
+pub mod Marks
+pub mod Fills
+pub mod Mounts

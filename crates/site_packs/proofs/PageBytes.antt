@@ -1,0 +1,74 @@
+-- The bytes that a page of a content begins with.
+use Rattle.std.proofs.Common.{◌≡◌, ℕ, ◌+◌, ◌-◌, ◌*◌, ◌/◌, ◌≤◌, ◌<◌, List, [], ◌∷◌, ◌++◌, length, take, drop, get_or, Option, None, Some, refl, sym, ap, subst, ◌∙◌, arith, length-take, length-drop}
+use Rattle.std.specs.Prelude.{min}
+use Rattle.std.proofs.lemmas.List.{same_lists, get_or_default, get_or-take, get_or-drop, take_all, take-take, drop-take, take-append-drop}
+use Rattle.file_content.specs.Pages.{pages_of, page_of}
+use Rattle.inode_switch.specs.View.{Version, view}
+use Rattle.inode_pack.specs.Pack.{PackState, IsPageOf}
+use Rattle.inode_pack.specs.Committing.{content_of}
+use Rattle.site_packs.specs.Reading.{HasContent}
+
+-- so many bytes of a page that was read
+pub page_part : (content buf : List ℕ) (page len : ℕ) → IsPageOf content page buf → 1024 * page + len ≤ length content → len ≤ 1024 → length buf ≡ 1024 → take len buf ≡ take len (drop (1024 * page) content)
+page_part content buf page len is inside few long =
+    let n : length (take len buf) ≡ len = omega (arith, length-take len buf) in
+    let m : length (take len (drop (1024 * page) content)) ≡ len = omega (arith, length-take len (drop (1024 * page) content), length-drop (1024 * page) content) in
+    same_lists (take len buf) (take len (drop (1024 * page) content)) (n ∙ sym m) (λ k d lt.
+    let less : k < len = omega arith in
+    get_or_default (take len buf) k d 0 lt
+    ∙ get_or-take len buf k 0 less
+    ∙ sym (is k (omega arith) (omega arith))
+    ∙ sym (get_or-drop (1024 * page) content k 0)
+    ∙ sym (get_or-take len (drop (1024 * page) content) k 0 less)
+    ∙ get_or_default (take len (drop (1024 * page) content)) k 0 d (omega arith))
+
+take_more : (n m : ℕ) (xs : List ℕ) → take (n + m) xs ≡ take n xs ++ take m (drop n xs)
+take_more n m xs =
+    sym (take-append-drop n (take (n + m) xs))
+    ∙ (let a = take-take n (n + m) xs (omega arith) in let b = drop-take n m xs in (λ i. a i ++ b i))
+
+-- one page more of a content
+pub next_page : (content buf : List ℕ) (page : ℕ) → IsPageOf content page buf → 1024 * page < length content → length buf ≡ 1024
+    → take (1024 * page) content ++ take (min 1024 (length content - 1024 * page)) buf ≡ take (1024 * (page + 1)) content
+next_page content buf page is lt long =
+    let len = min 1024 (length content - 1024 * page) in
+    let part = page_part content buf page len is (omega arith) (omega arith) long in
+    let whole : take 1024 (drop (1024 * page) content) ≡ take len (drop (1024 * page) content) =
+    same_lists (take 1024 (drop (1024 * page) content)) (take len (drop (1024 * page) content))
+    (omega (arith, length-take 1024 (drop (1024 * page) content), length-take len (drop (1024 * page) content), length-drop (1024 * page) content))
+    (λ k d l.
+    let less : k < len = omega (arith, length-take 1024 (drop (1024 * page) content), length-drop (1024 * page) content) in
+    get_or-take 1024 (drop (1024 * page) content) k d (omega arith) ∙ sym (get_or-take len (drop (1024 * page) content) k d less)) in
+    let e : 1024 * page + 1024 ≡ 1024 * (page + 1) = omega arith in
+    ap (λ (l : List ℕ). take (1024 * page) content ++ l) (part ∙ sym whole) ∙ sym (take_more (1024 * page) 1024 content) ∙ ap (λ (n : ℕ). take n content) e
+
+-- the first page alone
+pub this_page : (content buf : List ℕ) (page : ℕ) → IsPageOf content page buf → 1024 * page < length content → length buf ≡ 1024 → take (min 1024 (length content - 1024 * page)) buf ≡ page_of content page
+this_page content buf page is lt long =
+    let len = min 1024 (length content - 1024 * page) in
+    page_part content buf page len is (omega arith) (omega arith) long
+    ∙ same_lists (take len (drop (1024 * page) content)) (take 1024 (drop (1024 * page) content))
+    (omega (arith, length-take 1024 (drop (1024 * page) content), length-take len (drop (1024 * page) content), length-drop (1024 * page) content))
+    (λ k d l.
+    let less : k < len = omega (arith, length-take len (drop (1024 * page) content)) in
+    get_or-take len (drop (1024 * page) content) k d less ∙ sym (get_or-take 1024 (drop (1024 * page) content) k d (omega arith)))
+
+pub content_is : (pack : PackState) (ino bytes : ℕ) (image : List ℕ) → (has : HasContent pack ino bytes image) → content_of (view image pack.base ino) ≡ has.version.content
+content_is pack ino bytes image has = ap content_of has.seen
+
+pub content_long : (pack : PackState) (ino bytes : ℕ) (image : List ℕ) → HasContent pack ino bytes image → length (content_of (view image pack.base ino)) ≡ bytes
+content_long pack ino bytes image has = ap (λ (l : List ℕ). length l) (content_is pack ino bytes image has) ∙ has.size
+
+-- no page past the end
+pub past_page : (content : List ℕ) (page : ℕ) → length content ≤ 1024 * page → page_of content page ≡ []
+past_page content page le = none_left (page_of content page) (omega (arith, length-take 1024 (drop (1024 * page) content), length-drop (1024 * page) content))
+  where
+    none_left : (xs : List ℕ) → length xs ≡ 0 → xs ≡ []
+    none_left [] e = refl
+    none_left (x ∷ xs) e = absurd (omega arith)
+
+-- a page that has fewer bytes doesn't begin so
+pub short_page : (content : List ℕ) (page : ℕ) (bytes : List ℕ) → 1 ≤ length bytes → length content < 1024 * page + length bytes → take (length bytes) (page_of content page) ≡ bytes → ⊥
+short_page content page bytes some over is =
+    let n = ap (λ (l : List ℕ). length l) is in
+    omega (arith, length-take (length bytes) (page_of content page), length-take 1024 (drop (1024 * page) content), length-drop (1024 * page) content)

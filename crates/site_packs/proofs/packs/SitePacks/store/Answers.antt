@@ -1,0 +1,196 @@
+use Rattle.std.proofs.Common.{◌≡◌, ◌∙◌, ◌+◌, ◌*◌, ◌<◌, ◌≤◌, ℕ, List, length, ap, sym, subst, arith, refl}
+use Rattle.std.specs.Prelude.{Option, Some, None, Result, Ok, Err, OnOk, OnErr, IfErr, slice_get, slice_set, map, is_some}
+use Rattle.std.proofs.lemmas.Option.{slice_get_read}
+use Rattle.disk_model.specs.Images.{Torn}
+use Rattle.disk_model.specs.Moments.{LeavesOnly, TellsMany}
+use Rattle.disk_model.proofs.Moments.{leaves_weaker}
+use Rattle.pack_layout.specs.Layout.{area_length}
+use Rattle.inode_switch.specs.View.{Replaced}
+use Rattle.inode_pack.specs.declared.pack_fault.PackFault.{PackFault}
+use Rattle.inode_pack.specs.Pack.{PackState, Stands, copy_of, named_pages}
+use Rattle.inode_pack.specs.Marked.{marked}
+use Rattle.inode_pack.specs.Committing.{new_version, needed, commit_calls, commit_answer, MayBeLeft as MayBeLeftIn}
+use Rattle.role_steps.specs.Tables.{with_row}
+use Rattle.role_steps.specs.Storage.{copy_key}
+use Rattle.site_packs.specs.Copies.{copies_on}
+use Rattle.site_packs.specs.Packs.{PacksState, pack_group, ArePacks, Stand, SamePlaces, groups_of, pack_in, copy_at}
+use Rattle.site_packs.specs.Committing.{MayBeLeft, copy_made, room, store_calls}
+use Rattle.site_packs.specs.Marking.{Fills, FillsAt}
+use Rattle.site_packs.proofs.Reports.{found_pack}
+use Rattle.site_packs.proofs.Stored.{replaced, left, room_is, had_copy, calls_same, after_packs, on_ok_map, only_disk, kept_packs, stand_packs}
+use Rattle.site_packs.proofs.packs.SitePacks.store.Goals as goal
+
+pub commit_pages-requires-clause-stands : goal.commit_pages-requires-clause-stands
+commit_pages-requires-clause-stands g c =
+    let M = g.D.Disk.moment in
+    let p = c.args.self.now in
+    let old = (M c.args.disk.now).seen in
+    let at = c.args.at in
+    let file = c.args.file in
+    let pack = c.index_mut.result.now in
+    let items = ap (λ (q : PacksState). q.packs) c.self.view_is in
+    let are = subst (λ (q : PacksState). ArePacks 0 0 q.site q.packs) c.self.view_is c.self.invariant in
+    let inside : at < length c.self.inside.packs.items = subst (λ (l : List PackState). at < length l) (sym items) c.requires.inside in
+    let place : slice_get p.packs at ≡ Some pack = subst (λ (l : List PackState). slice_get l at ≡ Some pack) items (slice_get_read c.self.inside.packs.items (length c.self.inside.packs.items) at pack refl inside c.index_mut.ensures.value) in
+    let is : pack_in file.group p.packs ≡ Some pack = sym c.requires.place ∙ place in
+    record { settled = c.requires.stands.settled; shows = (found_pack p.site file.group p.packs old pack are c.requires.stands.shown is).shows }
+
+pub commit_pages-requires-clause-rests : goal.commit_pages-requires-clause-rests
+commit_pages-requires-clause-rests g c =
+    let M = g.D.Disk.moment in
+    let p = c.args.self.now in
+    let old = (M c.args.disk.now).seen in
+    let at = c.args.at in
+    let file = c.args.file in
+    let pack = c.index_mut.result.now in
+    let items = ap (λ (q : PacksState). q.packs) c.self.view_is in
+    let are = subst (λ (q : PacksState). ArePacks 0 0 q.site q.packs) c.self.view_is c.self.invariant in
+    let inside : at < length c.self.inside.packs.items = subst (λ (l : List PackState). at < length l) (sym items) c.requires.inside in
+    let place : slice_get p.packs at ≡ Some pack = subst (λ (l : List PackState). slice_get l at ≡ Some pack) items (slice_get_read c.self.inside.packs.items (length c.self.inside.packs.items) at pack refl inside c.index_mut.ensures.value) in
+    let is : pack_in file.group p.packs ≡ Some pack = sym c.requires.place ∙ place in
+    let fills : Fills pack c.args.ino c.args.content.now c.args.marks.now old = subst (λ (o : Option PackState). FillsAt o c.args.ino c.args.content.now c.args.marks.now old) is c.requires.fills in
+    fills.rests
+
+pub returns-clause-any_moment : goal.returns-clause-any_moment
+returns-clause-any_moment g c =
+    let M = g.D.Disk.moment in
+    let p = c.args.self.now in
+    let old = (M c.args.disk.now).seen in
+    let at = c.args.at in
+    let file = c.args.file in
+    let pack = c.index_mut.result.now in
+    let items = ap (λ (q : PacksState). q.packs) c.self.view_is in
+    let are = subst (λ (q : PacksState). ArePacks 0 0 q.site q.packs) c.self.view_is c.self.invariant in
+    let inside : at < length c.self.inside.packs.items = subst (λ (l : List PackState). at < length l) (sym items) c.requires.inside in
+    let place : slice_get p.packs at ≡ Some pack = subst (λ (l : List PackState). slice_get l at ≡ Some pack) items (slice_get_read c.self.inside.packs.items (length c.self.inside.packs.items) at pack refl inside c.index_mut.ensures.value) in
+    let is : pack_in file.group p.packs ≡ Some pack = sym c.requires.place ∙ place in
+    let fills : Fills pack file.ino c.args.content.now c.args.marks.now old = subst (λ (n : ℕ). Fills pack n c.args.content.now c.args.marks.now old) c.requires.own (subst (λ (o : Option PackState). FillsAt o c.args.ino c.args.content.now c.args.marks.now old) is c.requires.fills) in
+    leaves_weaker M c.args.disk.now c.commit_pages.new.disk (MayBeLeftIn pack file.ino (new_version pack.base file.ino c.args.version (marked c.args.content.now c.args.marks.now) old) old) (MayBeLeft p (copy_made file c.args.version c.args.content.now) old)
+    (left p old at file pack c.args.version c.args.content.now c.args.marks.now are c.requires.stands.shown place is c.requires.whole.low c.requires.whole.high (omega arith) c.requires.whole.version fills)
+    (subst (λ (n : ℕ). LeavesOnly (M c.args.disk.now) (M c.commit_pages.new.disk) (MayBeLeftIn pack n (new_version pack.base n c.args.version (marked c.args.content.now c.args.marks.now) old) old)) c.requires.own c.commit_pages.ensures.any_moment)
+
+pub returns-clause-copies : goal.returns-clause-copies
+returns-clause-copies g c =
+    let M = g.D.Disk.moment in
+    let p = c.args.self.now in
+    let old = (M c.args.disk.now).seen in
+    let at = c.args.at in
+    let file = c.args.file in
+    let pack = c.index_mut.result.now in
+    let items = ap (λ (q : PacksState). q.packs) c.self.view_is in
+    let are = subst (λ (q : PacksState). ArePacks 0 0 q.site q.packs) c.self.view_is c.self.invariant in
+    let inside : at < length c.self.inside.packs.items = subst (λ (l : List PackState). at < length l) (sym items) c.requires.inside in
+    let place : slice_get p.packs at ≡ Some pack = subst (λ (l : List PackState). slice_get l at ≡ Some pack) items (slice_get_read c.self.inside.packs.items (length c.self.inside.packs.items) at pack refl inside c.index_mut.ensures.value) in
+    let is : pack_in file.group p.packs ≡ Some pack = sym c.requires.place ∙ place in
+    let fills : Fills pack file.ino c.args.content.now c.args.marks.now old = subst (λ (n : ℕ). Fills pack n c.args.content.now c.args.marks.now old) c.requires.own (subst (λ (o : Option PackState). FillsAt o c.args.ino c.args.content.now c.args.marks.now old) is c.requires.fills) in
+    let new = (M c.commit_pages.new.disk).seen in
+    let torn = (c.commit_pages.ensures.any_moment.each new (g.met.D.Disk.counts_now c.commit_pages.new.disk (M c.args.disk.now).now new c.commit_pages.ensures.any_moment.later (g.met.D.Disk.reads_an_image c.commit_pages.new.disk))).outside in
+    on_ok_map c.commit_pages.result (Replaced pack.base file.ino (new_version pack.base file.ino c.args.version (marked c.args.content.now c.args.marks.now) old) old new)
+    (copies_on (groups_of p) new ≡ with_row copy_key (copy_made file c.args.version c.args.content.now) (copies_on (groups_of p) old))
+    (replaced p old at file pack c.args.version c.args.content.now c.args.marks.now are c.requires.stands.shown place is c.requires.whole.low c.requires.whole.high (omega arith) c.requires.whole.version fills new torn)
+    (subst (λ (n : ℕ). OnOk c.commit_pages.result (Replaced pack.base n (new_version pack.base n c.args.version (marked c.args.content.now c.args.marks.now) old) old new)) c.requires.own c.commit_pages.ensures.replaced)
+
+pub invariant_of-self : goal.invariant_of-self
+invariant_of-self g c =
+    let M = g.D.Disk.moment in
+    let p = c.args.self.now in
+    let old = (M c.args.disk.now).seen in
+    let at = c.args.at in
+    let file = c.args.file in
+    let pack = c.index_mut.result.now in
+    let items = ap (λ (q : PacksState). q.packs) c.self.view_is in
+    let are = subst (λ (q : PacksState). ArePacks 0 0 q.site q.packs) c.self.view_is c.self.invariant in
+    let inside : at < length c.self.inside.packs.items = subst (λ (l : List PackState). at < length l) (sym items) c.requires.inside in
+    let place : slice_get p.packs at ≡ Some pack = subst (λ (l : List PackState). slice_get l at ≡ Some pack) items (slice_get_read c.self.inside.packs.items (length c.self.inside.packs.items) at pack refl inside c.index_mut.ensures.value) in
+    let is : pack_in file.group p.packs ≡ Some pack = sym c.requires.place ∙ place in
+    let after = (after_packs p at pack c.commit_pages.new.self c.args.ino c.args.version (marked c.args.content.now c.args.marks.now) c.commit_pages.result are place c.commit_pages.ensures.good c.commit_pages.ensures.kept c.commit_pages.ensures.copies).0 in
+    let site = ap (λ (q : PacksState). q.site) c.self.view_is in
+    subst (λ (l : List PackState). ArePacks 0 0 c.self.inside.site (slice_set l at c.commit_pages.new.self)) (sym items) (subst (λ (s : ℕ). ArePacks 0 0 s (slice_set p.packs at c.commit_pages.new.self)) (sym site) after)
+
+pub returns-clause-places : goal.returns-clause-places
+returns-clause-places g c =
+    let M = g.D.Disk.moment in
+    let p = c.args.self.now in
+    let old = (M c.args.disk.now).seen in
+    let at = c.args.at in
+    let file = c.args.file in
+    let pack = c.index_mut.result.now in
+    let items = ap (λ (q : PacksState). q.packs) c.self.view_is in
+    let are = subst (λ (q : PacksState). ArePacks 0 0 q.site q.packs) c.self.view_is c.self.invariant in
+    let inside : at < length c.self.inside.packs.items = subst (λ (l : List PackState). at < length l) (sym items) c.requires.inside in
+    let place : slice_get p.packs at ≡ Some pack = subst (λ (l : List PackState). slice_get l at ≡ Some pack) items (slice_get_read c.self.inside.packs.items (length c.self.inside.packs.items) at pack refl inside c.index_mut.ensures.value) in
+    let is : pack_in file.group p.packs ≡ Some pack = sym c.requires.place ∙ place in
+    let after = (after_packs p at pack c.commit_pages.new.self c.args.ino c.args.version (marked c.args.content.now c.args.marks.now) c.commit_pages.result are place c.commit_pages.ensures.good c.commit_pages.ensures.kept c.commit_pages.ensures.copies).1 in
+    record {
+      site = ap (λ (q : PacksState). q.site) c.self.view_is;
+      groups = ap (λ (l : List PackState). map pack_group (slice_set l at c.commit_pages.new.self)) items ∙ after;
+    }
+
+pub returns-clause-stands : goal.returns-clause-stands
+returns-clause-stands g c =
+    let M = g.D.Disk.moment in
+    let p = c.args.self.now in
+    let old = (M c.args.disk.now).seen in
+    let at = c.args.at in
+    let file = c.args.file in
+    let pack = c.index_mut.result.now in
+    let items = ap (λ (q : PacksState). q.packs) c.self.view_is in
+    let are = subst (λ (q : PacksState). ArePacks 0 0 q.site q.packs) c.self.view_is c.self.invariant in
+    let inside : at < length c.self.inside.packs.items = subst (λ (l : List PackState). at < length l) (sym items) c.requires.inside in
+    let place : slice_get p.packs at ≡ Some pack = subst (λ (l : List PackState). slice_get l at ≡ Some pack) items (slice_get_read c.self.inside.packs.items (length c.self.inside.packs.items) at pack refl inside c.index_mut.ensures.value) in
+    let is : pack_in file.group p.packs ≡ Some pack = sym c.requires.place ∙ place in
+    let new = (M c.commit_pages.new.disk).seen in
+    let torn = (c.commit_pages.ensures.any_moment.each new (g.met.D.Disk.counts_now c.commit_pages.new.disk (M c.args.disk.now).now new c.commit_pages.ensures.any_moment.later (g.met.D.Disk.reads_an_image c.commit_pages.new.disk))).outside in
+    subst (λ (l : List PackState). OnOk c.commit_pages.result (Stand (record { site = c.self.inside.site; packs = slice_set l at c.commit_pages.new.self }) (M c.commit_pages.new.disk))) (sym items)
+    (stand_packs p c.self.inside.site at pack c.commit_pages.new.self c.args.ino c.args.version (marked c.args.content.now c.args.marks.now) old (M c.commit_pages.new.disk) c.commit_pages.result are place c.requires.stands.shown torn c.commit_pages.ensures.good c.commit_pages.ensures.copies c.commit_pages.ensures.stands)
+
+pub returns-clause-kept : goal.returns-clause-kept
+returns-clause-kept g c =
+    let M = g.D.Disk.moment in
+    let p = c.args.self.now in
+    let old = (M c.args.disk.now).seen in
+    let at = c.args.at in
+    let file = c.args.file in
+    let pack = c.index_mut.result.now in
+    let items = ap (λ (q : PacksState). q.packs) c.self.view_is in
+    let are = subst (λ (q : PacksState). ArePacks 0 0 q.site q.packs) c.self.view_is c.self.invariant in
+    let inside : at < length c.self.inside.packs.items = subst (λ (l : List PackState). at < length l) (sym items) c.requires.inside in
+    let place : slice_get p.packs at ≡ Some pack = subst (λ (l : List PackState). slice_get l at ≡ Some pack) items (slice_get_read c.self.inside.packs.items (length c.self.inside.packs.items) at pack refl inside c.index_mut.ensures.value) in
+    let is : pack_in file.group p.packs ≡ Some pack = sym c.requires.place ∙ place in
+    kept_packs c.self.inside.site p c.self.inside.packs.items at pack c.commit_pages.new.self c.commit_pages.result (ap (λ (q : PacksState). q.site) c.self.view_is) items place c.commit_pages.ensures.kept
+
+pub returns-clause-only : goal.returns-clause-only
+returns-clause-only g c =
+    let M = g.D.Disk.moment in
+    let p = c.args.self.now in
+    let old = (M c.args.disk.now).seen in
+    let at = c.args.at in
+    let file = c.args.file in
+    let pack = c.index_mut.result.now in
+    let items = ap (λ (q : PacksState). q.packs) c.self.view_is in
+    let are = subst (λ (q : PacksState). ArePacks 0 0 q.site q.packs) c.self.view_is c.self.invariant in
+    let inside : at < length c.self.inside.packs.items = subst (λ (l : List PackState). at < length l) (sym items) c.requires.inside in
+    let place : slice_get p.packs at ≡ Some pack = subst (λ (l : List PackState). slice_get l at ≡ Some pack) items (slice_get_read c.self.inside.packs.items (length c.self.inside.packs.items) at pack refl inside c.index_mut.ensures.value) in
+    let is : pack_in file.group p.packs ≡ Some pack = sym c.requires.place ∙ place in
+    let fills : Fills pack file.ino c.args.content.now c.args.marks.now old = subst (λ (n : ℕ). Fills pack n c.args.content.now c.args.marks.now old) c.requires.own (subst (λ (o : Option PackState). FillsAt o c.args.ino c.args.content.now c.args.marks.now old) is c.requires.fills) in
+    only_disk c.commit_pages.result (needed (marked c.args.content.now c.args.marks.now)) (length (named_pages pack.copies)) (room p old file.group) c.requires.room (room_is p old at file pack c.args.version c.args.content.now c.args.marks.now are c.requires.stands.shown place is c.requires.whole.low c.requires.whole.high (omega arith) c.requires.whole.version fills) (λ pages free. (c.commit_pages.ensures.no_space pages free).0)
+
+pub returns-clause-tells : goal.returns-clause-tells
+returns-clause-tells g c =
+    let M = g.D.Disk.moment in
+    let p = c.args.self.now in
+    let old = (M c.args.disk.now).seen in
+    let at = c.args.at in
+    let file = c.args.file in
+    let pack = c.index_mut.result.now in
+    let items = ap (λ (q : PacksState). q.packs) c.self.view_is in
+    let are = subst (λ (q : PacksState). ArePacks 0 0 q.site q.packs) c.self.view_is c.self.invariant in
+    let inside : at < length c.self.inside.packs.items = subst (λ (l : List PackState). at < length l) (sym items) c.requires.inside in
+    let place : slice_get p.packs at ≡ Some pack = subst (λ (l : List PackState). slice_get l at ≡ Some pack) items (slice_get_read c.self.inside.packs.items (length c.self.inside.packs.items) at pack refl inside c.index_mut.ensures.value) in
+    let is : pack_in file.group p.packs ≡ Some pack = sym c.requires.place ∙ place in
+    let fills : Fills pack file.ino c.args.content.now c.args.marks.now old = subst (λ (n : ℕ). Fills pack n c.args.content.now c.args.marks.now old) c.requires.own (subst (λ (o : Option PackState). FillsAt o c.args.ino c.args.content.now c.args.marks.now old) is c.requires.fills) in
+    let pages = needed (marked c.args.content.now c.args.marks.now) in
+    let before = (M c.args.disk.now).passing in
+    let after = (M c.commit_pages.new.disk).passing in
+    subst (λ (n : ℕ). TellsMany n before after (commit_answer c.commit_pages.result)) (calls_same pages (copy_of pack.copies file.ino) (copy_at p old file) c.commit_pages.result (had_copy p old at file pack c.args.version c.args.content.now c.args.marks.now are c.requires.stands.shown place is c.requires.whole.low c.requires.whole.high (omega arith) c.requires.whole.version fills))
+    (subst (λ (n : ℕ). TellsMany (commit_calls pages (copy_of pack.copies n) c.commit_pages.result) before after (commit_answer c.commit_pages.result)) c.requires.own c.commit_pages.ensures.tells)

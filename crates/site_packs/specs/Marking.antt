@@ -1,0 +1,32 @@
+-- Which pages of a content are marked as new.
+use Rattle.std.specs.Prelude.{◌≡◌, ℕ, ◌<◌, ◌≤◌, Bool, true, false, List, length, Option, None, Some}
+use Rattle.file_content.specs.Pages.{pages_of, has_page}
+use Rattle.shadow_pages.specs.Working.{content, count_below}
+use Rattle.inode_switch.specs.View.{view}
+use Rattle.inode_pack.specs.Marked.{is_marked, marked}
+use Rattle.inode_pack.specs.Pack.{PackState, copy_of}
+use Rattle.inode_pack.specs.Committing.{RestsOn, size_of, content_of}
+use Rattle.site_packs.specs.Committing.{ArePages, IsKept}
+
+-- the marks are those of the changed pages
+pub record AreMarks (count : ℕ) (changed : List ℕ) (marks : List Bool) : Type 0 where
+  pub pages : ArePages count changed
+  pub each : (i : ℕ) → is_marked marks i ≡ has_page changed i
+  pub number : count_below (is_marked marks) count ≡ length changed
+
+-- with the marked pages in the place of the inode's, its content is this one
+pub record Fills (pack : PackState) (ino : ℕ) (new : List ℕ) (marks : List Bool) (image : List ℕ) : Type 0 where
+  pub rests : RestsOn (size_of (copy_of pack.copies ino)) (marked new marks)
+  pub is : content (content_of (view image pack.base ino)) (marked new marks) ≡ new
+
+abbrev pub FillsAt : Option PackState → ℕ → List ℕ → List Bool → List ℕ → Type 0
+FillsAt None ino new marks image = ⊥
+FillsAt (Some pack) ino new marks image = Fills pack ino new marks image
+
+-- each page of the content is marked
+abbrev pub AreAll : ℕ → List Bool → Type 0
+AreAll count marks = (i : ℕ) → i < count → is_marked marks i ≡ true
+
+-- each page of the new content that isn't marked is that of the old one
+abbrev pub KeepsRest : List ℕ → List ℕ → List Bool → Type 0
+KeepsRest old new marks = (page : ℕ) → page < pages_of (length new) → is_marked marks page ≡ false → IsKept old new page

@@ -1,0 +1,58 @@
+// Whether a commit of a version may be carried out.
+ghost use Rattle.std.specs.Prelude.{◌≡◌, ◌↔◌, ◌<◌, length, Err, IfOk};
+ghost use Rattle.disk_model.specs.Disk.{Goes, HasCause, TellsRead};
+ghost use Rattle.disk_model.specs.Images.{Same};
+ghost use Rattle.site_packs.specs.declared.faults.CommitFault.TheVariants.{NoSpace, Unfit};
+ghost use Rattle.site_packs.specs.Packs.{Stand};
+ghost use Rattle.site_packs.specs.Committing.{IsFit, room, commit_answer};
+ghost use Rattle.site_packs.specs.Planning.{IsAdmitted};
+
+use crate::marking::marks_of;
+use crate::planning::Plan;
+use crate::{CommitFault, NewVersion, SitePacks};
+use disk_model::Disk;
+use locus_ids::FileId;
+
+/// Where a version is to be stored, and which of its pages are written.
+#[derive(Drop)]
+pub(crate) struct Admitted {
+    pub plan: Plan,
+    pub marks: [bool; 64],
+}
+
+impl SitePacks {
+    /// Finds what stands against a commit, and writes nothing.
+    pub(crate) fn admit<D: Disk>(
+        &self,
+        disk: &mut D,
+        file: FileId,
+        version: &NewVersion,
+        content: &[u8],
+        changed: &[usize],
+    ) -> Result<Admitted, CommitFault>
+        requires stands { Stand self.now (D.moment disk.old) }
+        ensures admitted { IfOk result (λ admitted. IsAdmitted self.now (D.moment disk.old).seen file version.now content.now changed.now admitted) }
+        ensures unfit { result ≡ Err Unfit → IsFit self.now (D.moment disk.old).seen file version.now content.now changed.now → ⊥ }
+        ensures no_space { (result ≡ Err NoSpace) ↔ (room self.now (D.moment disk.old).seen file.group < length changed.now) }
+        ensures early { result ≡ Err NoSpace → disk.new ≡ disk.old }
+        ensures seen { (D.moment disk.new).seen ≡ (D.moment disk.old).seen }
+        ensures stands { Stand self.now (D.moment disk.new) }
+        ensures crash { Goes Same (D.moment disk.old) (D.moment disk.new) }
+        ensures cause { HasCause (D.moment disk.old).faults (D.moment disk.new).faults (commit_answer result) }
+        ensures tells { TellsRead (D.moment disk.old).passing (D.moment disk.new).passing (commit_answer result) }
+    {
+        if changed.len() > usize::from(self.free_pages(file.group)) {
+            return Err(CommitFault::NoSpace);
+        }
+        let Some(plan) = self.plan(file, version, content.len()) else {
+            return Err(CommitFault::Unfit);
+        };
+        let Some(marks) = marks_of(changed, content.len().div_ceil(1_024)) else {
+            return Err(CommitFault::Unfit);
+        };
+        if !self.keeps_rest(disk, file, content, &marks)? {
+            return Err(CommitFault::Unfit);
+        }
+        Ok(Admitted { plan, marks })
+    }
+}

@@ -1,0 +1,107 @@
+// A version is committed or adopted, wholly or not at all.
+ghost use Rattle.std.specs.Prelude.{◌≡◌, ◌↔◌, ◌⊎◌, ◌<◌, length, is_some, Err, OnOk, OnErr};
+ghost use Rattle.disk_model.specs.Disk.{HasCause};
+ghost use Rattle.disk_model.specs.Moments.{LeavesOnly, TellsMany};
+ghost use Rattle.file_content.specs.Pages.{pages_of};
+ghost use Rattle.role_steps.specs.Tables.{with_row};
+ghost use Rattle.role_steps.specs.Storage.{copy_key};
+ghost use Rattle.site_packs.specs.declared.faults.CommitFault.TheVariants.{NoSpace, Unfit};
+ghost use Rattle.site_packs.specs.Copies.{copies_on};
+ghost use Rattle.site_packs.specs.Packs.{Stand, SamePlaces, groups_of, copy_at};
+ghost use Rattle.site_packs.specs.Committing.{IsFit, IsWholeFit, MayBeLeft, copy_made, room, commit_calls, commit_answer};
+
+use crate::{CommitFault, NewVersion, SitePacks};
+use disk_model::Disk;
+use locus_ids::FileId;
+
+impl SitePacks {
+    /// Commits a version of a file. The pages of its content that were changed are written, `changed` having the number of each;
+    /// the others are compared with those of the copy so far. `NoSpace` comes exactly where more pages were changed than are
+    /// free, and before any call of the disk; `Unfit` exactly where the copy may not be kept so, and before any write. After
+    /// `Disk` the packs must be mounted again, and have the old copy or the new one.
+    pub fn commit<D: Disk>(
+        &mut self,
+        disk: &mut D,
+        file: FileId,
+        version: &NewVersion,
+        content: &[u8],
+        changed: &[usize],
+    ) -> Result<(), CommitFault>
+        requires stands { Stand self.old (D.moment disk.old) }
+
+        // At each moment a crash leaves the old copies or the new ones, in packs that mount, and nothing else changed.
+        ensures any_moment { LeavesOnly (D.moment disk.old) (D.moment disk.new) (MayBeLeft self.old (copy_made file version.now content.now) (D.moment disk.old).seen) }
+
+        // After it the site has the new copy, whatever comes.
+        ensures copies { OnOk result (copies_on (groups_of self.old) (D.moment disk.new).seen ≡ with_row copy_key (copy_made file version.now content.now) (copies_on (groups_of self.old) (D.moment disk.old).seen)) }
+        ensures stands { OnOk result (Stand self.new (D.moment disk.new)) }
+        ensures places { SamePlaces self.old self.new }
+
+        ensures kept { OnErr result (self.new ≡ self.old) }
+        ensures fit { OnOk result (IsFit self.old (D.moment disk.old).seen file version.now content.now changed.now) }
+        ensures unfit { result ≡ Err Unfit → IsFit self.old (D.moment disk.old).seen file version.now content.now changed.now → ⊥ }
+        ensures no_space { (result ≡ Err NoSpace) ↔ (room self.old (D.moment disk.old).seen file.group < length changed.now) }
+        ensures early { result ≡ Err NoSpace → disk.new ≡ disk.old }
+        ensures unwritten { result ≡ Err Unfit → ((D.moment disk.new).seen ≡ (D.moment disk.old).seen) × Stand self.new (D.moment disk.new) }
+
+        // The disk fails only where its count rose, and where it tells how many calls pass, exactly where they are too few.
+        ensures cause { HasCause (D.moment disk.old).faults (D.moment disk.new).faults (commit_answer result) }
+        ensures tells { TellsMany (commit_calls (length changed.now) (is_some (copy_at self.old (D.moment disk.old).seen file)) result) (D.moment disk.old).passing (D.moment disk.new).passing (commit_answer result) }
+    {
+        let _invariant = &self.site;
+        let admitted = match self.admit(disk, file, version, content, changed) {
+            Ok(admitted) => admitted,
+            Err(fault) => return Err(fault),
+        };
+        let plan = &admitted.plan;
+        let marks = &admitted.marks;
+        match self.store(disk, plan.at, plan.ino, file, *version, content, marks) {
+            Ok(()) => Ok(()),
+            Err(_) => Err(CommitFault::Disk),
+        }
+    }
+
+    /// Adopts a version of a file that was made elsewhere, with its whole content. `NoSpace` comes exactly where it has more pages
+    /// than are free, `Unfit` exactly where the copy may not be kept so, both before any call of the disk. After `Disk` the packs
+    /// must be mounted again, and have the old copy or the new one.
+    pub fn adopt<D: Disk>(
+        &mut self,
+        disk: &mut D,
+        file: FileId,
+        version: &NewVersion,
+        content: &[u8],
+    ) -> Result<(), CommitFault>
+        requires stands { Stand self.old (D.moment disk.old) }
+
+        // At each moment a crash leaves the old copies or the new ones, in packs that mount, and nothing else changed.
+        ensures any_moment { LeavesOnly (D.moment disk.old) (D.moment disk.new) (MayBeLeft self.old (copy_made file version.now content.now) (D.moment disk.old).seen) }
+
+        // After it the site has the new copy, whatever comes.
+        ensures copies { OnOk result (copies_on (groups_of self.old) (D.moment disk.new).seen ≡ with_row copy_key (copy_made file version.now content.now) (copies_on (groups_of self.old) (D.moment disk.old).seen)) }
+        ensures stands { OnOk result (Stand self.new (D.moment disk.new)) }
+        ensures places { SamePlaces self.old self.new }
+
+        ensures kept { OnErr result (self.new ≡ self.old) }
+        ensures fit { OnOk result (IsWholeFit self.old file version.now (length content.now)) }
+        ensures unfit { result ≡ Err Unfit → IsWholeFit self.old file version.now (length content.now) → ⊥ }
+        ensures no_space { (result ≡ Err NoSpace) ↔ (room self.old (D.moment disk.old).seen file.group < pages_of (length content.now)) }
+        ensures early { (result ≡ Err NoSpace) ⊎ (result ≡ Err Unfit) → disk.new ≡ disk.old }
+
+        // The disk fails only where its count rose, and where it tells how many calls pass, exactly where they are too few.
+        ensures cause { HasCause (D.moment disk.old).faults (D.moment disk.new).faults (commit_answer result) }
+        ensures tells { TellsMany (commit_calls (pages_of (length content.now)) (is_some (copy_at self.old (D.moment disk.old).seen file)) result) (D.moment disk.old).passing (D.moment disk.new).passing (commit_answer result) }
+    {
+        let _invariant = &self.site;
+        if content.len().div_ceil(1_024) > usize::from(self.free_pages(file.group)) {
+            return Err(CommitFault::NoSpace);
+        }
+        let Some(plan) = self.plan(file, version, content.len()) else {
+            return Err(CommitFault::Unfit);
+        };
+        let marks = [true; 64];
+        match self.store(disk, plan.at, plan.ino, file, *version, content, &marks) {
+            Ok(()) => Ok(()),
+            Err(_) => Err(CommitFault::Disk),
+        }
+    }
+}

@@ -1,0 +1,60 @@
+use disk_model::DiskFault;
+use locus_ids::NoMemory;
+use thiserror::Error;
+
+/// Why a version isn't committed or adopted.
+#[derive(Clone, Copy, Debug, PartialEq, Eq, Error)]
+pub enum CommitFault {
+    /// The packs must be mounted again: they have the old copy or the new one.
+    #[error("the disk failed")]
+    Disk,
+    /// The version has more new pages than the pack has free ones.
+    #[error("no space")]
+    NoSpace,
+    /// The site has no pack of the group, the inode is none, no slot may say what the version is, or a page that isn't among the
+    /// changed ones is not that of the copy so far.
+    #[error("unfit version")]
+    Unfit,
+}
+
+impl From<DiskFault> for CommitFault {
+    ghost use Rattle.std.specs.Prelude.{◌≡◌};
+    ghost use Rattle.site_packs.specs.declared.faults.CommitFault.TheVariants.{Disk};
+
+    ghost from_gives = { λ _ fault. fault ≡ Disk };
+
+    fn from(_: DiskFault) -> CommitFault {
+        CommitFault::Disk
+    }
+}
+
+/// Why a content isn't read.
+#[derive(Clone, Copy, Debug, PartialEq, Eq, Error)]
+pub enum ReadFault {
+    #[error("the disk failed")]
+    Disk,
+    #[error("no memory")]
+    NoMemory,
+}
+
+impl From<DiskFault> for ReadFault {
+    ghost use Rattle.std.specs.Prelude.{◌≡◌};
+    ghost use Rattle.site_packs.specs.declared.faults.ReadFault.TheVariants.{Disk};
+
+    ghost from_gives = { λ _ fault. fault ≡ Disk };
+
+    fn from(_: DiskFault) -> ReadFault {
+        ReadFault::Disk
+    }
+}
+
+impl From<NoMemory> for ReadFault {
+    ghost use Rattle.std.specs.Prelude.{◌≡◌};
+    ghost use Rattle.site_packs.specs.declared.faults.ReadFault.TheVariants.{NoMemory};
+
+    ghost from_gives = { λ _ fault. fault ≡ NoMemory };
+
+    fn from(_: NoMemory) -> ReadFault {
+        ReadFault::NoMemory
+    }
+}

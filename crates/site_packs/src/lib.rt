@@ -1,0 +1,23 @@
+//! The packs of one site on its disk, seen as copies of files: a file with its kind, set, stamp, vector and content, ascending
+//! by group and inode. Storage sites and the site itself call it. Nobody above it speaks of slots, data pages or areas, and it
+//! knows nothing of instances, packets or other sites.
+#![tactic(auto)]
+
+mod admitting;
+mod committing;
+mod faults;
+mod groups;
+mod heads;
+mod keeping;
+mod marking;
+mod mounting;
+mod numbers;
+mod packs;
+mod pages;
+mod planning;
+mod reading;
+mod storing;
+
+pub use faults::{CommitFault, ReadFault};
+pub use inode_pack::{MountFault, NewVersion};
+pub use packs::SitePacks;

@@ -1,0 +1,24 @@
+// Which pages of a content are marked as new.
+ghost use Rattle.std.specs.Prelude.{◌≡◌, ◌≤◌, length, IfSome, IfNone};
+ghost use Rattle.site_packs.specs.Committing.{ArePages};
+ghost use Rattle.site_packs.specs.Marking.{AreMarks};
+
+/// The marks of the changed pages, or `None` exactly where a number is none of a page or stands twice.
+pub(crate) fn marks_of(changed: &[usize], count: usize) -> Option<[bool; 64]>
+    requires { count ≤ 64 }
+    ensures some { IfSome result (λ marks. AreMarks count changed.now marks) }
+    ensures none { IfNone result (ArePages count changed.now → ⊥) }
+{
+    let mut marks = [false; 64];
+    for i in 0..changed.len() {
+        let page = changed[i];
+        if page >= count {
+            return None;
+        }
+        if marks[page] {
+            return None;
+        }
+        marks[page] = true;
+    }
+    Some(marks)
+}

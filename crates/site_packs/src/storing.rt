@@ -1,0 +1,50 @@
+// A version is stored in its pack.
+ghost use Rattle.std.specs.Prelude.{◌≡◌, ◌<◌, ◌≤◌, length, slice_get, OnOk, OnErr, IfErr};
+ghost use Rattle.disk_model.specs.Disk.{HasCause};
+ghost use Rattle.disk_model.specs.Moments.{LeavesOnly, TellsMany};
+ghost use Rattle.inode_pack.specs.Committing.{needed, commit_answer};
+ghost use Rattle.inode_pack.specs.Marked.{marked};
+ghost use Rattle.inode_pack.specs.declared.pack_fault.PackFault.TheVariants.{Disk};
+ghost use Rattle.role_steps.specs.Tables.{with_row};
+ghost use Rattle.role_steps.specs.Storage.{copy_key};
+ghost use Rattle.site_packs.specs.Copies.{copies_on};
+ghost use Rattle.site_packs.specs.Packs.{Stand, SamePlaces, groups_of, pack_in, copy_at};
+ghost use Rattle.site_packs.specs.Committing.{IsWholeFit, MayBeLeft, copy_made, room, store_calls};
+ghost use Rattle.site_packs.specs.Marking.{FillsAt};
+
+use crate::{NewVersion, SitePacks};
+use disk_model::Disk;
+use inode_pack::PackFault;
+use locus_ids::{FileId, Ino};
+
+impl SitePacks {
+    /// Stores a version of a file in the pack at a place, which is that of the file's group. Its marked pages are written.
+    pub(crate) fn store<D: Disk>(
+        &mut self,
+        disk: &mut D,
+        at: usize,
+        ino: Ino,
+        file: FileId,
+        version: NewVersion,
+        content: &[u8],
+        marks: &[bool; 64],
+    ) -> Result<(), PackFault>
+        requires stands { Stand self.old (D.moment disk.old) }
+        requires inside { at < length self.old.packs }
+        requires place { slice_get self.old.packs at ≡ pack_in file.group self.old.packs }
+        requires own { ino ≡ file.ino }
+        requires whole { IsWholeFit self.old file version (length content.now) }
+        requires fills { FillsAt (pack_in file.group self.old.packs) ino content.now marks.now (D.moment disk.old).seen }
+        requires room { needed (marked content.now marks.now) ≤ room self.old (D.moment disk.old).seen file.group }
+        ensures any_moment { LeavesOnly (D.moment disk.old) (D.moment disk.new) (MayBeLeft self.old (copy_made file version content.now) (D.moment disk.old).seen) }
+        ensures copies { OnOk result (copies_on (groups_of self.old) (D.moment disk.new).seen ≡ with_row copy_key (copy_made file version content.now) (copies_on (groups_of self.old) (D.moment disk.old).seen)) }
+        ensures stands { OnOk result (Stand self.new (D.moment disk.new)) }
+        ensures places { SamePlaces self.old self.new }
+        ensures kept { OnErr result (self.new ≡ self.old) }
+        ensures only { IfErr result (λ fault. fault ≡ Disk) }
+        ensures cause { HasCause (D.moment disk.old).faults (D.moment disk.new).faults (commit_answer result) }
+        ensures tells { TellsMany (store_calls (needed (marked content.now marks.now)) (copy_at self.old (D.moment disk.old).seen file) result) (D.moment disk.old).passing (D.moment disk.new).passing (commit_answer result) }
+    {
+        self.packs[at].commit_pages(disk, ino, &version, content, marks)
+    }
+}

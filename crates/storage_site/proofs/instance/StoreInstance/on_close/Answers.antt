@@ -1,0 +1,12 @@
+use Rattle.std.proofs.Common.{◌≡◌, refl, subst, sym, ◌∙◌}
+use Rattle.role_steps.specs.Views.{Store, Outcome}
+use Rattle.storage_site.specs.Stores.{RowGives, again_packets, store_of}
+use Rattle.storage_site.proofs.Given.{sends_so, again_close}
+use Rattle.storage_site.proofs.instance.StoreInstance.on_close.Goals as goal
+
+pub returns-clause-gives : goal.returns-clause-gives
+returns-clause-gives g c xs h =
+    subst (λ (o : Outcome Store). RowGives o xs c.args.self.now c.args.packs.now (g.D.Disk.moment c.args.disk.now).seen c.args.out.now c.close_again.new.out)
+    (again_close c.args.frame.now c.args.self.now c.args.self.now.stage (store_of xs c.args.packs.now (g.D.Disk.moment c.args.disk.now).seen) (sym c.is_running.ensures ∙ c.if-is_running.false))
+    (sends_so xs c.args.packs.now (g.D.Disk.moment c.args.disk.now).seen (again_packets c.args.frame.now c.args.self.now c.args.self.now.stage) c.args.self.now c.args.self.now c.args.out.now c.close_again.new.out h refl
+    c.in_ok-close_again.ensures.packets c.in_ok-close_again.ensures.records)

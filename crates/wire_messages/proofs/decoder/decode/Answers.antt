@@ -1,9 +1,0 @@
-use Rattle.std.proofs.Common.{arith}
-use Rattle.wire_messages.proofs.PacketLaws.{found, only}
-use Rattle.wire_messages.proofs.decoder.decode.Goals as goal
-
-pub returns-clause-found : goal.returns-clause-found
-returns-clause-found c = found c.args.bytes.now c.read_placed.result (λ i. omega (arith, c.type_inv.bytes i)) c.read_placed.ensures
-
-pub returns-clause-only : goal.returns-clause-only
-returns-clause-only c = only c.args.bytes.now c.read_placed.result c.read_placed.ensures

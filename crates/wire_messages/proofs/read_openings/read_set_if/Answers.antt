@@ -1,7 +1,0 @@
-use Rattle.wire_messages.proofs.read_openings.read_set_if.Goals as goal
-
-pub returns-then-wanted : goal.returns-then-wanted
-returns-then-wanted c = rw c.if-wanted.true c.u16_in.ensures.read
-
-pub returns-else-wanted : goal.returns-else-wanted
-returns-else-wanted c = rw c.if-wanted.false c.u16_in-else-wanted.ensures.read
