@@ -1,0 +1,4 @@
+pub mod Opened
+pub mod Turns
+pub mod Closings
+pub mod Reported

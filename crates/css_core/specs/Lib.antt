@@ -1,0 +1,4 @@
+pub mod Decided
+pub mod Lettered
+pub mod Closed
+pub mod Started
