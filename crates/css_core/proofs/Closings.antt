@@ -1,5 +1,5 @@
 -- A close by what it is to the row of its instance.
-use Rattle.std.proofs.Common.{◌≡◌, ℕ, true, Option, Some, None, refl, ap, ◌∙◌}
+use Rattle.std.proofs.Common.{◌≡◌, ℕ, Option, Some, None, refl}
 use Rattle.locus_ids.specs.declared.ids.Serial.{Serial}
 use Rattle.wire_messages.specs.declared.body.MadeVersion.{MadeVersion}
 use Rattle.role_steps.specs.Views.{Frame, Outcome, quiet, sends}

@@ -15,7 +15,7 @@ use Rattle.role_steps.specs.declared.synchronizing.OpenStage.TheVariants as stag
 use Rattle.css_opens.specs.Settled.{is_asked, is_asked_stage, settled_row, settled_rows}
 use Rattle.css_opens.specs.declared.entry.Settling.{Settling}
 use Rattle.css_opens.specs.declared.entry.Settling.TheVariants.{Grant, Refuse, End}
-use Rattle.css_core.specs.Closed.{settled_table, settled_sent, settled_told}
+use Rattle.css_core.specs.Closed.{settled_sent, settled_told}
 
 abbrev pub settling_of : OpenedAs → Settling
 settling_of (opened.Open ino size) = Grant ino size

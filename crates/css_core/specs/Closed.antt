@@ -18,7 +18,6 @@ use Rattle.role_steps.specs.declared.synchronizing.OpenRow.{OpenRow}
 use Rattle.css_versions.specs.Known.{published_row}
 use Rattle.css_opens.specs.Settled.{settled_rows, answer_sent, answer_told}
 use Rattle.css_opens.specs.declared.entry.Settling.{Settling}
-use Rattle.css_opens.specs.declared.entry.Settling.TheVariants.{End}
 
 abbrev pub settled_table : Serial → Settling → SyncTable → SyncTable
 settled_table inst s t = record t { opens = settled_rows s (open_row t inst) t.opens }

@@ -1,4 +1,3 @@
-pub mod Decided
 pub mod Lettered
 pub mod Closed
 pub mod Started

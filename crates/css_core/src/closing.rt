@@ -1,13 +1,11 @@
-//! Closes, what members tell that they hold, and ticks.
-
-ghost use Rattle.std.specs.Prelude.{◌≡◌, ◌++◌, None, OnOk};
+ghost use Rattle.std.specs.Prelude.{◌≡◌, ◌++◌, OnOk};
 ghost use Rattle.site_frame.specs.Printed.{printed};
 ghost use Rattle.role_steps.specs.Versions.{file_row};
 ghost use Rattle.role_steps.specs.Reports.{on_closed, stamp_made, on_have, on_have_of, sync_repeats};
 ghost use Rattle.role_steps.specs.Notices.{row_notices};
 ghost use Rattle.css_core.specs.Closed.{published_as, notices_as, closed_into};
 
-use crate::Css;
+use crate::css::Css;
 use css_notices::{notify_all, notify_lagging};
 use css_opens::{Closing, Settling};
 use locus_ids::{FileId, Kind, NoMemory, Serial, SiteId, Sites, Stamp};
@@ -16,8 +14,6 @@ use trace_book::Record;
 use wire_messages::{Body, MadeVersion, Outbox};
 
 impl Css {
-    // ---- closes, and what members hold ----
-
     /// The close of an instance at its storage site, with the version that it committed last.
     #[tactic(auto, using(crate::proofs::Closings::closed_as))]
     pub fn on_closed(

@@ -5,9 +5,8 @@
 
 mod closing;
 mod css;
-mod decision;
 mod early;
-mod grants;
+mod kept;
 mod looking;
 mod looks;
 mod opening;
@@ -16,4 +15,5 @@ mod requests;
 mod service;
 
 pub use css::Css;
-pub use requests::{LookRequest, OpenRequest};
+pub use css_decision::OpenRequest;
+pub use requests::LookRequest;

@@ -1,6 +1,4 @@
-//! Looks.
-
-ghost use Rattle.std.specs.Prelude.{◌≡◌, ◌++◌, ◌∷◌, [], None, IfOk, OnOk};
+ghost use Rattle.std.specs.Prelude.{◌≡◌, ◌++◌, ◌∷◌, [], IfOk, OnOk};
 ghost use Rattle.site_frame.specs.Printed.{printed};
 ghost use Rattle.role_steps.specs.Tables.{row};
 ghost use Rattle.role_steps.specs.Versions.{file_row};
@@ -9,17 +7,16 @@ ghost use Rattle.role_steps.specs.Looks.{look_key, takes_look, service, new_look
 ghost use Rattle.role_steps.specs.Reports.{on_look};
 ghost use Rattle.css_core.specs.Lettered.{turn_after, last_sent};
 
+use crate::LookRequest;
+use crate::css::Css;
 use crate::looks::{LookRow, Turn, look_row, note_look, unknown_row};
 use crate::service::{Service, service_on};
-use crate::{Css, LookRequest};
 use keyed_tables::process_key;
 use locus_ids::{NoMemory, Refusal, SiteId};
 use site_frame::SiteFrame;
 use wire_messages::{Body, Outbox};
 
 impl Css {
-    // ---- looks ----
-
     /// A Look of a using site.
     pub fn on_look(
         &mut self,

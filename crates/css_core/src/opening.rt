@@ -1,20 +1,20 @@
-//! Opens, and what the storage site answers them.
-
-ghost use Rattle.std.specs.Prelude.{◌≡◌, ◌++◌, [], None, true, IfOk, OnOk};
+ghost use Rattle.std.specs.Prelude.{◌≡◌, ◌++◌, None, true, IfOk, OnOk};
 ghost use Rattle.std.specs.Option.{option_map};
 ghost use Rattle.site_frame.specs.Printed.{printed};
 ghost use Rattle.commit_graph.specs.Grants.{grant_refusal};
 ghost use Rattle.role_steps.specs.Versions.{stamps_of, kept, file_row};
 ghost use Rattle.role_steps.specs.Opens.{decision, file_decision, decides, takes_open, on_opened, open_row, openers};
 ghost use Rattle.role_steps.specs.Reports.{waits_early, on_open};
-ghost use Rattle.css_core.specs.Decided.{decision_of};
+ghost use Rattle.css_decision.specs.Decided.{decision_of};
 ghost use Rattle.css_opens.specs.Settled.{is_asked, settled_row};
 ghost use Rattle.css_core.specs.Closed.{settled_table, settled_sent, settled_told};
 
-use crate::decision::{Decision, asked_entry, denied_entry, grant_on, make_decision};
+use crate::css::Css;
 use crate::early::is_waiting;
-use crate::grants::{kept_refusal, mode_of};
-use crate::{Css, OpenRequest};
+use css_decision::{
+    Decision, OpenRequest, asked_entry, denied_entry, grant_on, kept_refusal, make_decision,
+    mode_of,
+};
 use css_opens::Settling;
 use locus_ids::{FileId, Mode, NoMemory, Refusal, Serial, SiteId};
 use role_steps::Early;
@@ -22,8 +22,6 @@ use site_frame::SiteFrame;
 use wire_messages::{Body, OpenedAs, Opening, Outbox};
 
 impl Css {
-    // ---- opens ----
-
     /// An Open of a using site.
     pub fn on_open(
         &mut self,

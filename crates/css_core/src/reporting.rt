@@ -1,14 +1,12 @@
-//! Reports, the start, and the requests that waited for it.
-
-ghost use Rattle.std.specs.Prelude.{◌≡◌, ◌++◌, true, IfOk, OnOk};
+ghost use Rattle.std.specs.Prelude.{◌≡◌, ◌++◌, IfOk, OnOk};
 ghost use Rattle.site_frame.specs.Printed.{printed};
-ghost use Rattle.role_steps.specs.Opens.{takes_open};
-ghost use Rattle.role_steps.specs.Looks.{takes_look};
 ghost use Rattle.role_steps.specs.Reports.{takes_early, takes_all_early, with_all_reported, on_report};
 ghost use Rattle.css_core.specs.Started.{all_in, started_by, starts_where, counted, reported_by};
 
+use crate::LookRequest;
+use crate::css::Css;
 use crate::early::{brought, has_all};
-use crate::{Css, LookRequest, OpenRequest};
+use css_decision::OpenRequest;
 use css_notices::{members_of, notify_all};
 use locus_ids::{NoMemory, SiteId};
 use role_steps::{Earlies, Early};
@@ -18,8 +16,6 @@ use trace_book::Record;
 use wire_messages::{Body, Outbox, ReportedCopy};
 
 impl Css {
-    // ---- reports and the start ----
-
     /// The report of a member: each one is answered, and the first counts.
     pub fn on_report(
         &mut self,
@@ -129,7 +125,7 @@ impl Css {
 
     /// The requests that waited.
     #[tactic(auto, using(site_frame::proofs::Printing::printed_append))]
-    pub(crate) fn takes_all_early(
+    fn takes_all_early(
         &mut self,
         frame: &SiteFrame,
         early: &[Early],
@@ -147,7 +143,7 @@ impl Css {
     }
 
     /// A request that waited.
-    pub(crate) fn takes_early(
+    fn takes_early(
         &mut self,
         frame: &SiteFrame,
         from: SiteId,

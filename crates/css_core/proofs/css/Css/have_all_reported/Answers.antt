@@ -1,4 +1,4 @@
-use Rattle.std.proofs.Common.{◌≡◌, ◌∙◌}
+use Rattle.std.proofs.Common.{◌∙◌}
 use Rattle.css_core.proofs.Reported.{all_reported}
 use Rattle.css_core.proofs.css.Css.have_all_reported.Goals as goal
 

@@ -2,7 +2,7 @@ ghost use Rattle.std.specs.Prelude.{◌≡◌, IfOk};
 ghost use Rattle.role_steps.specs.Opens.{make_decision, plain_decision, resolve_from, grant_on, denied_row, asked_row};
 ghost use Rattle.wire_messages.specs.declared.body.Opening.TheVariants.{Mend};
 ghost use Rattle.role_steps.specs.Versions.{holding_of};
-ghost use Rattle.css_core.specs.Decided.{decision_of};
+ghost use Rattle.css_decision.specs.Decided.{decision_of};
 
 use crate::OpenRequest;
 use crate::grants::mode_of;

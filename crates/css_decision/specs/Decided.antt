@@ -1,7 +1,7 @@
 -- What is decided of an open.
 use Rattle.role_steps.specs.Opens.{Decision, Denies, Grants}
-use Rattle.css_core.specs.declared.decision.Decision.{Decision as Decided}
-use Rattle.css_core.specs.declared.decision.Decision.TheVariants.{Denied, Granted}
+use Rattle.css_decision.specs.declared.decision.Decision.{Decision as Decided}
+use Rattle.css_decision.specs.declared.decision.Decision.TheVariants.{Denied, Granted}
 
 abbrev pub decision_of : Decided → Decision
 decision_of (Denied why) = Denies why
