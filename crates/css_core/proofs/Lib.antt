@@ -2,3 +2,4 @@ pub mod Opened
 pub mod Turns
 pub mod Closings
 pub mod Reported
+pub mod Named

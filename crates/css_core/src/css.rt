@@ -1,9 +1,12 @@
-ghost use Rattle.std.specs.Prelude.{◌≡◌};
+ghost use Rattle.std.specs.Prelude.{◌≡◌, true};
 ghost use Rattle.std.specs.Option.{option_copied, is_some};
 ghost use Rattle.std.specs.List.{list_any};
 ghost use Rattle.role_steps.specs.Versions.{file_row};
+ghost use Rattle.role_steps.specs.Views.{serial_key};
 ghost use Rattle.role_steps.specs.Opens.{open_row, is_open_on};
 ghost use Rattle.role_steps.specs.Reports.{new_table};
+ghost use Rattle.role_steps.specs.declared.synchronizing.OpenRow.{OpenRow};
+ghost use Rattle.trace_book.specs.Same.{same_serial};
 
 use crate::looks::LookRow;
 use css_opens::Opens;
@@ -94,10 +97,30 @@ impl Css {
         self.opens.find(inst).is_some()
     }
 
+    /// The group was asked for an instance of this name, each being told by its two numbers.
+    pub fn is_opened(&self, inst: Serial) -> bool
+        ensures { result ≡ list_any (λ (r : OpenRow). same_serial r.inst inst) self.now.opens }
+    {
+        match self.opens.find(inst) {
+            Some(entry) => is_named(entry.inst(), inst),
+            None => false,
+        }
+    }
+
     /// An instance of the file is open.
     pub fn is_open(&self, file: FileId) -> bool
         ensures { result ≡ list_any (is_open_on file) self.now.opens }
     {
         self.opens.is_open(file)
     }
+}
+
+/// An instance that has the key of a name has the name.
+fn is_named(found: Serial, inst: Serial) -> bool
+    requires { serial_key found ≡ serial_key inst }
+    ensures same { result ≡ same_serial found inst }
+    ensures named { result ≡ true }
+{
+    let (found_site, site) = (found.us, inst.us);
+    found_site == site && found.serial == inst.serial
 }

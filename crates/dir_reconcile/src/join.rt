@@ -21,7 +21,7 @@ pub fn join_dirs(alloc: Global, a: &Dir, b: &Dir) -> Result<Dir, NoMemory>
 fn merge(alloc: Global, xs: &[Entry], ys: &[Entry]) -> Result<Vec<Entry>, NoMemory>
     ensures { IfOk result (λ v. v.items ≡ joined_dirs xs.now ys.now) }
 {
-    let mut out = Vec::new(alloc);
+    let mut out = Vec::with_capacity(alloc, xs.len().saturating_add(ys.len()))?;
     let mut i = 0;
     let mut j = 0;
     while are_left(xs, i, ys, j) {

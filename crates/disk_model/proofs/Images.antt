@@ -6,7 +6,7 @@ use Rattle.disk_model.specs.declared.store.Span.{Span}
 use Rattle.disk_model.specs.Images.{overwritten, is_within, covers, Torn, IsImage}
 use Rattle.disk_model.specs.Disk.{IsAfter, Goes, Only}
 use Rattle.disk_model.specs.Store.{with_room, left_in}
-use Rattle.disk_model.specs.ScriptDisk.{seen, unsynced, images, images_since, moment}
+use Rattle.disk_model.specs.ScriptDisk.{seen, unsynced, images, moment}
 use Rattle.disk_model.specs.declared.script.Leave.{Leave}
 use Rattle.disk_model.specs.declared.script.Leave.TheVariants.{Old, New, Byte}
 use Rattle.disk_model.specs.declared.script_disk.ScriptDisk.{ScriptDisk}
@@ -25,7 +25,7 @@ torn_overwritten xs at ys fits = record {
   outside = λ k out. put_outside at xs ys k fits out;
 }
 
-room_none : (unsynced : List Span) (k : ℕ) → covers unsynced k ≡ false → covers (with_room unsynced) k ≡ false
+pub room_none : (unsynced : List Span) (k : ℕ) → covers unsynced k ≡ false → covers (with_room unsynced) k ≡ false
 room_none unsynced k none = by (ltb (length unsynced) 1024)
   where
     by : (b : Bool) → covers (cond b unsynced []) k ≡ false

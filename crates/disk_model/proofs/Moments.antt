@@ -1,5 +1,5 @@
 -- How runs of disk calls go on.
-use Rattle.std.proofs.Common.{inl, inr, ⊎_elim, ℕ, List, arith, subst}
+use Rattle.std.proofs.Common.{inl, inr, ⊎_elim, ℕ, ◌≤◌, List, arith, subst}
 use Rattle.std.specs.Prelude.{Result, Ok, Err, OnOk}
 use Rattle.disk_model.specs.Disk.{Moment, Goes, IsAfter, Only}
 use Rattle.disk_model.specs.Moments.{LeavesOnly}
@@ -48,6 +48,10 @@ module _ {D : Type 0} (moment : D → Moment) where
     each = λ c left. weaker c (leaves.each c left);
     before = λ t c le left. ⊎_elim (λ was. inl was) (λ more. inr (weaker c more)) (leaves.before t c le left);
   }
+
+  -- what a cut leaves now is one of the images of the run
+  pub leaves_cut : (old new : D) (P : List ℕ → Type 0) → LeavesOnly (moment old) (moment new) P → ((t : ℕ) (c : List ℕ) → t ≤ (moment new).now → (moment new).may_leave c → (moment new).may_have_left t c) → (moment new).may_leave (moment new).left → P (moment new).left
+  leaves_cut old new P leaves counts is = leaves.each (moment new).left (counts (moment old).now (moment new).left leaves.later is)
 
 pub on_ok : {T E : Type 0} (r : Result T E) (A B : Type 0) → (A → B) → OnOk r A → OnOk r B
 on_ok (Ok x) A B f a = f a

@@ -44,6 +44,10 @@ reads_alone (Exactly calls) q tells = record {
   too_few = λ lt. absurd (omega arith);
 }
 
+-- after a read as many pass
+pub reads_exact : {T : Type 0} (x : T) (p q : Passing) (passed : ℕ) → TellsRead {T = T} {E = DiskFault} p q (Ok x) → p ≡ Exactly passed → q ≡ Exactly passed
+reads_exact {T} x p q passed tells is = (subst (λ (k : Passing). TellsRead {T = T} {E = DiskFault} k q (Ok x)) is tells).1
+
 -- a read fails only where the disk doesn't tell
 pub reads_failed : (n : ℕ) (p q : Passing) → TellsRead {T = Unit {0}} {E = DiskFault} p q (Err Failed) → TellsMany {T = Unit {0}} {E = DiskFault} n p q (Err Failed)
 reads_failed n Untold q tells = tt

@@ -11,7 +11,7 @@ use Rattle.disk_model.specs.declared.record_disk.RecordDisk.{RecordDisk}
 use Rattle.disk_model.specs.Images.{overwritten, bytes_at, Torn, Same, IsImage}
 use Rattle.disk_model.specs.Disk.{IsAfter, Goes}
 use Rattle.disk_model.specs.RecordDisk.{State, after_call, played, blank, state_after, image_of, pool_end, StandInPool}
-use Rattle.disk_model.specs.RecordImages.{seen, calls_kept, moment, state_at, images, images_since, Remembers}
+use Rattle.disk_model.specs.RecordImages.{seen, calls_kept, moment, state_at, images, Remembers}
 use Rattle.disk_model.proofs.Images.{image_after_write, torn_overwritten}
 
 played-append : (pool : List ℕ) (m : State) (xs ys : List Call) → played pool m (xs ++ ys) ≡ played pool (played pool m xs) ys

@@ -1,6 +1,6 @@
 -- How many calls pass, over runs of calls.
 use Rattle.std.proofs.Common.{◌≡◌, ⊎_elim, ◌<◌, ◌≤◌, ◌+◌, ◌-◌, ℕ, zero, suc, refl, ◌∙◌, ap, subst, arith}
-use Rattle.std.specs.Prelude.{Result, Ok, Err, IsOk, IsErr}
+use Rattle.std.specs.Prelude.{Result, Ok, Err, IsOk, IsErr, OnErr}
 use Rattle.std.proofs.lemmas.Bool.{cases_lt, false≢true}
 use Rattle.disk_model.specs.Disk.{Passing, Untold, All, Exactly, Tells}
 use Rattle.disk_model.specs.declared.disk.DiskFault.{DiskFault}
@@ -57,3 +57,26 @@ tells_join n m (Exactly calls) q r result first then = record { enough = enough;
         (λ (few : calls < n). absurd (false≢true (first.too_few few).0))
         (λ (fits : n ≤ calls). let short : calls - n < m = omega arith in (rest fits).too_few short)
         (cases_lt calls n)
+
+-- where a run failed, fewer passed than it makes
+pub tells_few : (n : ℕ) (p q : Passing) (result : Answer) (passed : ℕ) → TellsMany n p q result → p ≡ Exactly passed → OnErr result (passed < n)
+tells_few n p q (Ok x) passed tells is = tt
+tells_few n p q (Err e) passed tells is = by (subst (λ (k : Passing). TellsMany {T = Unit {0}} {E = DiskFault} n k q (Err e)) is tells)
+  where
+    by : TellsExactly {T = Unit {0}} {E = DiskFault} n passed q (Err e) → passed < n
+    by told = ⊎_elim (λ (lt : passed < n). lt) (λ (le : n ≤ passed). absurd (false≢true (told.enough le).0)) (cases_lt passed n)
+
+pub on_err : {T E : Type 0} (r : Result T E) (A B C : Type 0) → (A → B → C) → OnErr r A → OnErr r B → OnErr r C
+on_err (Ok x) A B C f a b = a
+on_err (Err e) A B C f a b = f a b
+
+-- and where it passed, so many fewer pass after it
+pub tells_rest : (n : ℕ) (p q : Passing) (passed : ℕ) → TellsMany {T = Unit {0}} {E = DiskFault} n p q (Ok tt) → p ≡ Exactly passed → (n ≤ passed) × (q ≡ Exactly (passed - n))
+tells_rest n p q passed tells is = by (subst (λ (k : Passing). TellsMany {T = Unit {0}} {E = DiskFault} n k q (Ok tt)) is tells)
+  where
+    by : TellsExactly {T = Unit {0}} {E = DiskFault} n passed q (Ok tt) → (n ≤ passed) × (q ≡ Exactly (passed - n))
+    by told = ⊎_elim (λ (lt : passed < n). absurd (false≢true (told.too_few lt).0)) (λ (le : n ≤ passed). (le, (told.enough le).1)) (cases_lt passed n)
+
+pub answers_err : {T E : Type 0} (r : Result T E) (A : Type 0) → A → OnErr r A
+answers_err (Ok x) A a = tt
+answers_err (Err e) A a = a

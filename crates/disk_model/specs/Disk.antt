@@ -1,5 +1,6 @@
 -- A disk at a moment, and what a call does to the images that a crash may leave.
-use Rattle.std.specs.Prelude.{ℕ, zero, suc, ◌+◌, ◌-◌, ◌^◌, ◌≤◌, ◌≡◌, ◌⊎◌, min, List, Result, IsOk, IsErr, OnErr}
+use Rattle.std.specs.Prelude.{ℕ, zero, suc, ◌+◌, ◌-◌, ◌^◌, ◌≤◌, ◌≡◌, ◌⊎◌, min, List, Result, IsOk, IsErr, OnOk, OnErr}
+use Rattle.disk_model.specs.Cut.{Cut, left_by, left_in_write}
 
 -- what a disk tells of how many more writes and syncs pass
 pub data Passing : Type 0 where
@@ -21,6 +22,10 @@ pub record Moment : Type 1 where
   pub faults : ℕ
   -- how many more writes and syncs pass, where the disk tells
   pub passing : Passing
+  -- how the first one is cut off that doesn't pass
+  pub how : Cut
+  -- what a disk that is cut off so and then crashed is left with, if that is now
+  pub left : List ℕ
 
 -- the image is one of these, or is made of one of these by a step
 abbrev pub IsAfter : (List ℕ → List ℕ → Type 0) → (List ℕ → Type 0) → List ℕ → Type 0
@@ -61,3 +66,19 @@ abbrev pub TellsRead : {T E : Type 0} → Passing → Passing → Result T E →
 TellsRead Untold after result = Unit {0}
 TellsRead All after result = IsOk result × (after ≡ All)
 TellsRead (Exactly calls) after result = IsOk result × (after ≡ Exactly calls)
+
+-- a call that changes nothing in what a cut leaves
+pub record KeepsCut (old new : Moment) : Type 0 where
+  pub how : new.how ≡ old.how
+  pub left : new.left ≡ old.left
+
+-- What a cut leaves after a write to a settled disk: the range as the cut has it, whether the write passed or was itself cut off.
+pub record CutsWrite {T E : Type 0} (at : ℕ) (bytes : List ℕ) (old new : Moment) (result : Result T E) : Type 0 where
+  pub how : new.how ≡ old.how
+  pub passed : IsSettled old → OnOk result (new.left ≡ left_by old.how old.seen at bytes)
+  pub cut : IsSettled old → old.passing ≡ Exactly zero → new.left ≡ left_in_write old.how old.seen at bytes
+
+-- a sync that is cut off changes nothing
+pub record CutsSync (old new : Moment) : Type 0 where
+  pub how : new.how ≡ old.how
+  pub cut : old.passing ≡ Exactly zero → new.left ≡ old.left

@@ -1,3 +1,4 @@
+pub mod Cut
 pub mod Disk
 pub mod Images
 pub mod Moments
@@ -5,5 +6,6 @@ pub mod RecordDisk
 pub mod RecordImages
 pub mod RecordLaws
 pub mod Script
+pub mod ScriptLaws
 pub mod ScriptDisk
 pub mod Store

@@ -3,6 +3,7 @@ use Rattle.std.specs.Prelude.{ℕ, ◌≡◌, ◌+◌, ◌<◌, ◌≤◌, List,
 use Rattle.disk_model.specs.declared.record_disk.Call.{Call}
 use Rattle.disk_model.specs.declared.record_disk.Call.TheVariants.{Wrote}
 use Rattle.disk_model.specs.declared.record_disk.RecordDisk.{RecordDisk}
+use Rattle.disk_model.specs.Cut.{Fails}
 use Rattle.disk_model.specs.Disk.{Moment, Untold}
 use Rattle.disk_model.specs.RecordDisk.{State, state_after, image_of}
 
@@ -24,9 +25,10 @@ images disk image = image_of (state_at disk (calls_kept disk)) image
 abbrev pub images_since : RecordDisk → ℕ → List ℕ → Type 0
 images_since disk t image = (k : ℕ) × (t ≤ k) × (k ≤ calls_kept disk) × image_of (state_at disk k) image
 
--- the disk as the trait sees it: a moment is numbered by the calls before it, and how many calls pass is not told
+-- the disk as the trait sees it: a moment is numbered by the calls before it, and how many calls pass is not told;
+-- one that fails does nothing
 abbrev pub moment : RecordDisk → Moment
-moment disk = record { seen = seen disk; may_leave = images disk; now = calls_kept disk; may_have_left = images_since disk; faults = disk.faults; passing = Untold }
+moment disk = record { seen = seen disk; may_leave = images disk; now = calls_kept disk; may_have_left = images_since disk; faults = disk.faults; passing = Untold; how = Fails; left = seen disk }
 
 -- each image since an earlier moment is one since then still
 abbrev pub Remembers : RecordDisk → RecordDisk → Type 0

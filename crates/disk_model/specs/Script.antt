@@ -9,6 +9,8 @@ use Rattle.disk_model.specs.declared.script.Armed.TheVariants.{Nothing, StopAfte
 use Rattle.disk_model.specs.declared.script.Turn.{Turn}
 use Rattle.disk_model.specs.declared.script.Turn.TheVariants.{Passes, Stops, Fails}
 use Rattle.disk_model.specs.declared.script.Script.{Script}
+use Rattle.disk_model.specs.Cut.{Cut}
+use Rattle.disk_model.specs.Cut as cut
 use Rattle.disk_model.specs.Disk.{Passing, Untold, All, Exactly}
 
 -- what the next write or sync meets
@@ -99,3 +101,12 @@ after_read script = record {
   fired = fired_after (read_turn_of script) script.fired;
   faults = faults_after (read_turn_of script) script.faults;
 }
+
+-- how the armed script cuts off a call
+abbrev pub how_at : Armed → Cut
+how_at Nothing = cut.Fails
+how_at (StopAfter calls leave) = cut.Stops leave
+how_at (FaultAfter calls) = cut.Fails
+
+abbrev pub how_of : Script → Cut
+how_of script = how_at script.writes

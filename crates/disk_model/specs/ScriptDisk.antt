@@ -1,5 +1,5 @@
 -- A disk that a script stops or makes fail.
-use Rattle.std.specs.Prelude.{ℕ, ◌≡◌, cond, List, [], ◌∷◌, ◌++◌, length, replicate, slice_index, None}
+use Rattle.std.specs.Prelude.{ℕ, suc, ◌≡◌, cond, List, [], ◌∷◌, ◌++◌, length, replicate, slice_index, None}
 use Rattle.disk_model.specs.declared.script.Leave.{Leave}
 use Rattle.disk_model.specs.declared.script.Leave.TheVariants.{Old, New, Byte}
 use Rattle.disk_model.specs.declared.script.Fired.TheVariants.{No}
@@ -9,7 +9,9 @@ use Rattle.disk_model.specs.declared.script.Turn.TheVariants.{Passes, Stops, Fai
 use Rattle.disk_model.specs.declared.store.Span.{Span}
 use Rattle.disk_model.specs.declared.script_disk.ScriptDisk.{ScriptDisk}
 use Rattle.disk_model.specs.Disk.{Moment}
-use Rattle.disk_model.specs.Script.{passing_of}
+use Rattle.disk_model.specs.Cut.{Cut}
+use Rattle.disk_model.specs.Cut as cut
+use Rattle.disk_model.specs.Script.{passing_of, how_of}
 use Rattle.disk_model.specs.Images.{overwritten, covers, IsImage}
 use Rattle.disk_model.specs.Store.{left_in, with_room, durable_with_room}
 
@@ -32,9 +34,37 @@ images disk image = IsImage (unsynced disk) (seen disk) image
 abbrev pub images_since : ScriptDisk → ℕ → List ℕ → Type 0
 images_since disk t image = images disk image
 
+-- the bytes with this one in these ranges
+abbrev pub spoiled_from : ℕ → List Span → ℕ → List ℕ → List ℕ
+spoiled_from k spans byte [] = []
+spoiled_from k spans byte (x ∷ xs) = cond (covers spans k) byte x ∷ spoiled_from (suc k) spans byte xs
+
+-- what a crash makes of the bytes, as it is told
+abbrev pub crashed : Leave → List Span → List ℕ → List ℕ → List ℕ
+crashed Old unsynced durable seen = durable
+crashed New unsynced durable seen = seen
+crashed (Byte byte) unsynced durable seen = spoiled_from 0 unsynced byte seen
+
+-- and where a cut tells it: a call that fails leaves what was read
+abbrev pub crashed_by : Cut → List Span → List ℕ → List ℕ → List ℕ
+crashed_by (cut.Stops leave) unsynced durable seen = crashed leave unsynced durable seen
+crashed_by cut.Fails unsynced durable seen = seen
+
+abbrev pub cut_image : ScriptDisk → List ℕ
+cut_image disk = crashed_by (how_of disk.script) (unsynced disk) (durable disk) (seen disk)
+
 -- the disk as the trait sees it
 abbrev pub moment : ScriptDisk → Moment
-moment disk = record { seen = seen disk; may_leave = images disk; now = 0; may_have_left = images_since disk; faults = disk.script.faults; passing = passing_of disk.script }
+moment disk = record {
+  seen = seen disk;
+  may_leave = images disk;
+  now = 0;
+  may_have_left = images_since disk;
+  faults = disk.script.faults;
+  passing = passing_of disk.script;
+  how = how_of disk.script;
+  left = cut_image disk;
+}
 
 -- the bytes are as they were, and so is which of them are durable
 pub record SameBytes (old new : ScriptDisk) : Type 0 where

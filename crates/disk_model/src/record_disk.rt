@@ -1,7 +1,7 @@
 // A disk in memory that keeps each call.
 ghost use Rattle.std.specs.Prelude.{◌≡◌, ◌≤◌, ◌<◌, ◌+◌, ◌^◌, ◌-◌, ℕ, List, [], length, replicate, refl, ◌↔◌, IsOk, OnOk, OnErr, IfOk, vec_capacity};
 ghost use Rattle.disk_model.specs.Images.{overwritten, bytes_at, Torn, Same};
-ghost use Rattle.disk_model.specs.Disk.{Goes, Only, HasCause, Tells, TellsRead, Untold};
+ghost use Rattle.disk_model.specs.Disk.{Goes, Only, HasCause, Tells, TellsRead, Untold, KeepsCut, CutsWrite, CutsSync};
 ghost use Rattle.disk_model.specs.RecordDisk.{after_call, state_after, disk_end, pool_end, StandInPool, StandOnDisk};
 ghost use Rattle.disk_model.specs.declared.store.Span.{Span};
 
@@ -148,6 +148,8 @@ impl Disk for RecordDisk {
 
     ghost reads_an_image = { reads_one };
 
+    ghost leaves_an_image = { reads_one };
+
     ghost keeps_length = { same_length };
 
     ghost counts_now = { one_now };
@@ -164,6 +166,7 @@ impl Disk for RecordDisk {
         ensures seen { seen_of self.new ≡ seen_of self.old }
         ensures crash { Goes Same (moment self.old) (moment self.new) }
         ensures cause { HasCause self.old.faults self.new.faults result }
+        ensures cut { KeepsCut (moment self.old) (moment self.new) }
         ensures same { self.new ≡ self.old }
         ensures answer { IsOk result }
     {
@@ -178,6 +181,7 @@ impl Disk for RecordDisk {
         ensures failed { OnErr result (Torn at (length bytes.now) (seen_of self.old) (seen_of self.new)) }
         ensures crash { Goes (Torn at (length bytes.now)) (moment self.old) (moment self.new) }
         ensures cause { HasCause self.old.faults self.new.faults result }
+        ensures cut { CutsWrite at bytes.now (moment self.old) (moment self.new) result }
         ensures remembers { Remembers self.old self.new }
         ensures answer { IsOk result ↔ HasRoom self.old (length bytes.now) }
         ensures full { OnErr result (seen_of self.new ≡ seen_of self.old) }
@@ -200,6 +204,7 @@ impl Disk for RecordDisk {
         ensures seen { seen_of self.new ≡ seen_of self.old }
         ensures crash { Goes Same (moment self.old) (moment self.new) }
         ensures cause { HasCause self.old.faults self.new.faults result }
+        ensures cut { CutsSync (moment self.old) (moment self.new) }
         ensures remembers { Remembers self.old self.new }
         ensures answer { IsOk result ↔ HasRoom self.old 0 }
         ensures kept { OnOk result (Keeps Synced [] self.old self.new) }

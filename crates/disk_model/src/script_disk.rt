@@ -1,7 +1,7 @@
 // A disk in memory that a script stops or makes fail.
 ghost use Rattle.std.specs.Prelude.{◌≡◌, ◌≤◌, ◌+◌, ℕ, length, refl, OnOk, OnErr, IfOk};
 ghost use Rattle.disk_model.specs.Images.{overwritten, bytes_at, Torn, Same, IsImage};
-ghost use Rattle.disk_model.specs.Disk.{Goes, Only, HasCause, Tells, TellsRead};
+ghost use Rattle.disk_model.specs.Disk.{Goes, Only, HasCause, Tells, TellsRead, KeepsCut, CutsWrite, CutsSync};
 ghost use Rattle.disk_model.specs.Script.{turn_of, read_turn_of, passing_of, outcome, after_write, after_read};
 
 use crate::script::{Armed, Script, Turn};
@@ -20,7 +20,7 @@ pub struct ScriptDisk {
 }
 
 impl ScriptDisk {
-    ghost use Rattle.disk_model.specs.ScriptDisk.{seen, unsynced, IsNew, SameBytes, Crashed};
+    ghost use Rattle.disk_model.specs.ScriptDisk.{seen, unsynced, durable, IsNew, SameBytes, Crashed, crashed};
 
     /// A disk of zeros, all of them durable, with nothing armed. No later call takes memory.
     pub fn new(alloc: Global, len: u32) -> Result<ScriptDisk, NoMemory>
@@ -70,6 +70,7 @@ impl ScriptDisk {
     pub fn crash(&mut self, leave: Leave)
         ensures bytes { Crashed leave self.old self.new }
         ensures image { IsImage (unsynced self.old) (seen self.old) (seen self.new) }
+        ensures left { seen self.new ≡ crashed leave (unsynced self.old) (durable self.old) (seen self.old) }
         ensures script { self.new.script ≡ record self.old.script { writes = Armed.Nothing; reads = None; fired = Fired.No } }
     {
         match leave {
@@ -85,10 +86,13 @@ impl ScriptDisk {
 
 impl Disk for ScriptDisk {
     ghost use Rattle.disk_model.specs.ScriptDisk.{seen as seen_of, moment, images, SameBytes, Writes, Syncs};
+    ghost use Rattle.disk_model.specs.ScriptLaws.{leaves_one};
 
     ghost moment = { moment };
 
     ghost reads_an_image = { λ disk. record { long = refl; outside = λ k none. refl } };
+
+    ghost leaves_an_image = { leaves_one };
 
     ghost keeps_length = { λ disk image is. is.long };
 
@@ -107,6 +111,7 @@ impl Disk for ScriptDisk {
         ensures crash { Goes Same (moment self.old) (moment self.new) }
         ensures cause { HasCause self.old.script.faults self.new.script.faults result }
         ensures tells { TellsRead (passing_of self.old.script) (passing_of self.new.script) result }
+        ensures cut { KeepsCut (moment self.old) (moment self.new) }
         ensures same { SameBytes self.old self.new }
         ensures answer { result ≡ outcome (read_turn_of self.old.script) }
         ensures script { self.new.script ≡ after_read self.old.script }
@@ -129,6 +134,7 @@ impl Disk for ScriptDisk {
         ensures crash { Goes (Torn at (length bytes.now)) (moment self.old) (moment self.new) }
         ensures cause { HasCause self.old.script.faults self.new.script.faults result }
         ensures tells { Tells (passing_of self.old.script) (passing_of self.new.script) result }
+        ensures cut { CutsWrite at bytes.now (moment self.old) (moment self.new) result }
         ensures writes { Writes (turn_of self.old.script) at bytes.now self.old self.new }
         ensures answer { result ≡ outcome (turn_of self.old.script) }
         ensures script { self.new.script ≡ after_write self.old.script }
@@ -153,6 +159,7 @@ impl Disk for ScriptDisk {
         ensures crash { Goes Same (moment self.old) (moment self.new) }
         ensures cause { HasCause self.old.script.faults self.new.script.faults result }
         ensures tells { Tells (passing_of self.old.script) (passing_of self.new.script) result }
+        ensures cut { CutsSync (moment self.old) (moment self.new) }
         ensures syncs { Syncs (turn_of self.old.script) self.old self.new }
         ensures answer { result ≡ outcome (turn_of self.old.script) }
         ensures script { self.new.script ≡ after_write self.old.script }

@@ -1,1 +1,3 @@
+pub mod Cutting
+pub mod Gates
 pub mod Switch

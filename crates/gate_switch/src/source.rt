@@ -17,5 +17,6 @@ pub trait PieceSource {
         ensures written { OnOk result ((D.moment disk.new).seen ≡ written (D.moment disk.old).seen (pieces self.now)) }
         ensures crash { Goes (TornIn (pieces self.now)) (D.moment disk.old) (D.moment disk.new) }
         ensures cause { HasCause (D.moment disk.old).faults (D.moment disk.new).faults result }
-        ensures tells { TellsMany (length (pieces self.now)) (D.moment disk.old).passing (D.moment disk.new).passing result };
+        ensures tells { TellsMany (length (pieces self.now)) (D.moment disk.old).passing (D.moment disk.new).passing result }
+        ensures how { (D.moment disk.new).how ≡ (D.moment disk.old).how };
 }

@@ -1,9 +1,10 @@
 // What a switch writes is on the disk before its gate opens, and the old gate closes last.
-ghost use Rattle.std.specs.Prelude.{◌≡◌, ◌≤◌, ◌<◌, ◌+◌, ℕ, List, [], ◌∷◌, length, OnOk, IsOk};
+ghost use Rattle.std.specs.Prelude.{◌≡◌, ◌≤◌, ◌<◌, ◌+◌, ℕ, List, [], ◌∷◌, length, OnOk, OnErr, IsOk};
 ghost use Rattle.disk_model.specs.Images.{overwritten, Torn};
-ghost use Rattle.disk_model.specs.Disk.{Goes, IsSettled, HasCause};
+ghost use Rattle.disk_model.specs.Disk.{Goes, IsSettled, HasCause, Exactly};
 ghost use Rattle.disk_model.specs.Moments.{LeavesOnly, TellsMany};
 ghost use Rattle.gate_switch.specs.Switch.{Piece, AreWithin, TornIn, written, IsStage, switched, calls_of, GateWithin};
+ghost use Rattle.gate_switch.specs.Cutting.{CutsGate, IsCut};
 
 use crate::PieceSource;
 use disk_model::{Disk, DiskFault};
@@ -33,6 +34,10 @@ pub fn switch<D: Disk, P: PieceSource>(
     // It fails only where the disk did, and where the disk tells how many calls pass, exactly where they are too few.
     ensures cause { HasCause (D.moment disk.old).faults (D.moment disk.new).faults result }
     ensures tells { TellsMany (calls_of (P.pieces source.now) old_gate) (D.moment disk.old).passing (D.moment disk.new).passing result }
+
+    // Where it does, a crash as the disk cuts off the call leaves just this.
+    ensures how { (D.moment disk.new).how ≡ (D.moment disk.old).how }
+    ensures cut { (passed : ℕ) → (D.moment disk.old).passing ≡ Exactly passed → OnErr result (IsCut (P.pieces source.now) gate old_gate (D.moment disk.old).how passed (D.moment disk.old).seen (D.moment disk.new).left) }
 {
     write_down(disk, source)?;
     set_gate(disk, gate, OPEN)?;
@@ -50,6 +55,7 @@ pub fn close_gate<D: Disk>(disk: &mut D, gate: u32) -> Result<(), DiskFault>
     ensures crash { Goes (Torn gate 1) (D.moment disk.old) (D.moment disk.new) }
     ensures cause { HasCause (D.moment disk.old).faults (D.moment disk.new).faults result }
     ensures tells { TellsMany 2 (D.moment disk.old).passing (D.moment disk.new).passing result }
+    ensures cut { CutsGate gate 0 (D.moment disk.old) (D.moment disk.new) }
 {
     set_gate(disk, gate, CLOSED)
 }
@@ -62,6 +68,7 @@ fn write_down<D: Disk, P: PieceSource>(disk: &mut D, source: &P) -> Result<(), D
     ensures crash { Goes (TornIn (P.pieces source.now)) (D.moment disk.old) (D.moment disk.new) }
     ensures cause { HasCause (D.moment disk.old).faults (D.moment disk.new).faults result }
     ensures tells { TellsMany (length (P.pieces source.now) + 1) (D.moment disk.old).passing (D.moment disk.new).passing result }
+    ensures how { (D.moment disk.new).how ≡ (D.moment disk.old).how }
 {
     source.write_to(disk)?;
     disk.sync()
@@ -76,6 +83,7 @@ fn set_gate<D: Disk>(disk: &mut D, gate: u32, byte: u8) -> Result<(), DiskFault>
     ensures crash { Goes (Torn gate 1) (D.moment disk.old) (D.moment disk.new) }
     ensures cause { HasCause (D.moment disk.old).faults (D.moment disk.new).faults result }
     ensures tells { TellsMany 2 (D.moment disk.old).passing (D.moment disk.new).passing result }
+    ensures cut { CutsGate gate byte (D.moment disk.old) (D.moment disk.new) }
 {
     disk.write_at(gate, &[byte])?;
     disk.sync()

@@ -29,6 +29,11 @@ use Rattle.inode_pack.specs.PagePieces.{piece_at, page_pieces, pieces_of}
 use Rattle.inode_pack.proofs.Setup.{Setup}
 use Rattle.inode_pack.proofs.Making.{pieces, place, may_replace, copy_says, changed_byte, gate_torn, long_pieces, number_below}
 use Rattle.inode_pack.proofs.NewContent.{version_made}
+use Rattle.disk_model.specs.Cut.{Cut}
+use Rattle.gate_switch.specs.Gates.{new_gate}
+use Rattle.inode_switch.specs.Cutting.{IsViewBy, IsCutReplacing}
+use Rattle.inode_pack.specs.Cutting.{IsCutCommit}
+use Rattle.inode_pack.proofs.CutCommit.{cut_both}
 use Rattle.inode_pack.proofs.Leaving.{stage_sound, shows_sound, switched_shows}
 
 -- a piece for each changed page
@@ -81,6 +86,9 @@ module _ (pack : PackState) (ino : ℕ) (w : Working) (made : InodeCopy) (s : Se
   calls : (b : Bool) (n : ℕ) → n ≡ needed w → (let o : Option ℕ = if b then Some other else None in calls_of (pieces pack ino w made s) o) ≡ n + (if b then 6 else 4)
   calls true n e = let l = length-pages pack.base made.slot.pages w (pages_of w.size) in omega (arith, length-append (page_pieces pack.base made.slot.pages w (pages_of w.size)) (record { at = gate + 1; bytes = drop 1 (slot_bytes made.slot) } ∷ []))
   calls false n e = let l = length-pages pack.base made.slot.pages w (pages_of w.size) in omega (arith, length-append (page_pieces pack.base made.slot.pages w (pages_of w.size)) (record { at = gate + 1; bytes = drop 1 (slot_bytes made.slot) } ∷ []))
+
+  pub pieces_count : length (pieces pack ino w made s) ≡ needed w + 1
+  pieces_count = let l = length-pages pack.base made.slot.pages w (pages_of w.size) in omega (arith, length-append (page_pieces pack.base made.slot.pages w (pages_of w.size)) (record { at = gate + 1; bytes = drop 1 (slot_bytes made.slot) } ∷ []))
 
   -- how many calls that makes
   pub calls_are : calls_of (pieces pack ino w made s) (closing pack.base ino made.which old) ≡ needed w + (if is_some (copy_of pack.copies ino) then 6 else 4)
@@ -164,6 +172,22 @@ module _ (pack : PackState) (ino : ℕ) (w : Working) (made : InodeCopy) (s : Se
       → (read : List ℕ) → Replaced base ino (made_version base ino made.which given old) old read → Replaced pack.base ino (new_version pack.base ino version w old) old read
   given_replaced version makes read done =
       subst (λ (v : Version). Replaced pack.base ino v old read) (version_made pack ino w made s old shows version makes) (back (λ b l. Replaced b ino (made_version b ino made.which l old) old read) done)
+
+  -- a page for each that is changed, and what stands behind the gate
+  pub given_pages_are : length given ≡ needed w + 1
+  given_pages_are = moved (λ b l. length l ≡ needed w + 1) (pieces_count pack ino w made s old shows)
+
+  -- what the switch left that was cut off
+  pub given_cut : (version : NewVersion) → Makes (is_free pack.copies) (copy_of pack.copies ino) ino version w made → (how : Cut) (passed : ℕ) (c : List ℕ) → MayBeLeft pack ino (new_version pack.base ino version w old) old c
+      → IsCutReplacing base ino made.which given (needed w) how passed old c → IsCutCommit pack ino (new_version pack.base ino version w old) (needed w) how passed old c
+  given_cut version makes how passed c left cut =
+      let all = pieces pack ino w made s in
+      let own = back (λ b l. IsCutReplacing b ino made.which l (needed w) how passed old c) cut in
+      record {
+        left = left;
+        view = subst (λ (v : Version). IsViewBy (new_gate (needed w) how passed) pack.base ino v old c) (version_made pack ino w made s old shows version makes) own.view;
+        both = cut_both pack ino made.which all (needed w) how passed old c s.are shows s.low s.high (place pack ino w made s old shows) (closes_is pack ino w made s old shows) own;
+      }
 
 -- the fault that is given on
 pub given_on : (r : Result (Unit {0}) PackFault) (P : PackFault → Type 0) → IsErr r × IsErrAnd r P → (fault : PackFault) × (r ≡ Err fault) × P fault

@@ -30,7 +30,7 @@ pub record SameSlots (base ino : ℕ) (a b : List ℕ) : Type 0 where
   pub bytes : (w k : ℕ) → w ≤ 1 → k < 512 → get_or b (slot_at base ino w + k) 0 ≡ get_or a (slot_at base ino w + k) 0
 
 module _ (base ino : ℕ) (a b : List ℕ) (same : SameSlots base ino a b) where
-  same_gate : (w : ℕ) → w ≤ 1 → is_open b (slot_at base ino w) ≡ is_open a (slot_at base ino w)
+  pub same_gate : (w : ℕ) → w ≤ 1 → is_open b (slot_at base ino w) ≡ is_open a (slot_at base ino w)
   same_gate w le = ap (λ (n : ℕ). n == 165) (let e : slot_at base ino w + 0 ≡ slot_at base ino w = omega arith in subst (λ (k : ℕ). get_or b k 0 ≡ get_or a k 0) e (same.bytes w 0 le (omega arith)))
 
   same_slot : (w : ℕ) → w ≤ 1 → bytes_at b (slot_at base ino w) 512 ≡ bytes_at a (slot_at base ino w) 512
@@ -74,7 +74,7 @@ module _ (base ino which : ℕ) (a b : List ℕ) (low : 1 ≤ ino) (place : whic
   }
 
   -- and it is as it was
-  unchanged : get_or b (slot_at base ino which) 0 ≡ get_or a (slot_at base ino which) 0 → SameSlots base ino a b
+  pub unchanged : get_or b (slot_at base ino which) 0 ≡ get_or a (slot_at base ino which) 0 → SameSlots base ino a b
   unchanged e = record {
     long = torn.long;
     bytes = λ w k le lt. ⊎_elim

@@ -26,3 +26,6 @@ pub mod Marked
 pub mod PutPages
 pub mod Passing
 pub mod Streaming
+pub mod LosingLists
+pub mod CutClosing
+pub mod CutCommit

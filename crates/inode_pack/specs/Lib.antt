@@ -10,3 +10,4 @@ pub mod Whole
 pub mod Marked
 pub mod NextIno
 pub mod Found
+pub mod Cutting

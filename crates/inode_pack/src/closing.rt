@@ -1,12 +1,14 @@
 // Of two open slots of an inode the one that doesn't count is closed.
-ghost use Rattle.std.specs.Prelude.{◌≡◌, ◌+◌, ◌-◌, ◌*◌, ◌≤◌, true, length, OnOk, IfSome, if◌then◌else◌};
-ghost use Rattle.disk_model.specs.Disk.{IsSettled, HasCause};
+ghost use Rattle.std.specs.Prelude.{◌≡◌, ◌+◌, ◌-◌, ◌*◌, ◌≤◌, ℕ, true, length, OnOk, OnErr, IfSome, if◌then◌else◌};
+ghost use Rattle.disk_model.specs.Disk.{IsSettled, HasCause, Exactly};
+ghost use Rattle.gate_switch.specs.Cutting.{CutsGate};
 ghost use Rattle.pack_layout.specs.Layout.{area_length, slot_at};
 ghost use Rattle.inode_switch.specs.Replace.{Loses};
 ghost use Rattle.inode_switch.specs.View.{SameView};
 ghost use Rattle.disk_model.specs.Moments.{LeavesOnly, TellsMany};
 ghost use Rattle.inode_pack.specs.Pack.{copy_of, ShowsCopies};
 ghost use Rattle.inode_pack.specs.Mounting.{losing_gates};
+ghost use Rattle.inode_pack.specs.Cutting.{losing_inodes, closings_left};
 ghost use Rattle.inode_pack.specs.Losing.{AreFound, IsClosing, KeepsCopies, closed_if, losing_slot};
 
 use crate::InodeCopy;
@@ -31,6 +33,8 @@ pub(crate) fn close_losing<D: Disk>(
     ensures durable { OnOk result (IsSettled (D.moment disk.new)) }
     ensures cause { HasCause (D.moment disk.old).faults (D.moment disk.new).faults result }
     ensures tells { TellsMany (2 * losing_gates base 1024 (D.moment disk.old).seen) (D.moment disk.old).passing (D.moment disk.new).passing result }
+    ensures how { (D.moment disk.new).how ≡ (D.moment disk.old).how }
+    ensures cut { (passed : ℕ) → (D.moment disk.old).passing ≡ Exactly passed → OnErr result (losing_inodes base (D.moment disk.new).left ≡ closings_left (D.moment disk.old).how passed (losing_inodes base (D.moment disk.old).seen)) }
 {
     for i in 0..1024 {
         let which = losing_slot(&copies[usize::from(i)]);
@@ -67,6 +71,8 @@ fn close_one<D: Disk>(
     ensures durable { OnOk result (IsSettled (D.moment disk.new)) }
     ensures cause { HasCause (D.moment disk.old).faults (D.moment disk.new).faults result }
     ensures tells { TellsMany (if loses then 2 else 0) (D.moment disk.old).passing (D.moment disk.new).passing result }
+    ensures how { (D.moment disk.new).how ≡ (D.moment disk.old).how }
+    ensures cut { OnErr result ((loses ≡ true) × CutsGate (slot_at base ino which) 0 (D.moment disk.old) (D.moment disk.new)) }
 {
     if !loses {
         return Ok(());

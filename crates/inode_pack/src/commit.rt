@@ -1,6 +1,6 @@
 // A version is committed, wholly or not at all.
 ghost use Rattle.std.specs.Prelude.{◌≡◌, ◌↔◌, ◌≤◌, ◌<◌, ◌+◌, ◌-◌, ◌^◌, ℕ, List, length, slice_index, slice_set, Option, Some, Err, is_some, OnOk, OnErr, IfOk, IfErr};
-ghost use Rattle.disk_model.specs.Disk.{HasCause};
+ghost use Rattle.disk_model.specs.Disk.{HasCause, Exactly};
 ghost use Rattle.file_content.specs.Pages.{pages_of};
 ghost use Rattle.pack_layout.specs.Layout.{area_length};
 ghost use Rattle.disk_model.specs.Moments.{LeavesOnly, TellsMany};
@@ -11,6 +11,7 @@ ghost use Rattle.inode_pack.specs.declared.inode_copy.InodeCopy.{InodeCopy};
 ghost use Rattle.inode_pack.specs.Rows.{HasChanged, SameButFor};
 ghost use Rattle.inode_pack.specs.PagePieces.{AreWhole};
 ghost use Rattle.inode_pack.specs.Committing.{IsVersion, RestsOn, size_of, needed, is_free, Makes, Commits, HoldsPages, with_copy, new_version, adopted_version, MayBeLeft, commit_calls, commit_answer, IsEarly};
+ghost use Rattle.inode_pack.specs.Cutting.{IsCutCommit};
 ghost use Rattle.inode_pack.specs.Whole.{whole};
 ghost use Rattle.inode_pack.specs.Marked.{marked};
 
@@ -68,6 +69,11 @@ impl Pack {
         // The disk fails only where its count rose, and where it tells how many calls pass, exactly where they are too few.
         ensures cause { HasCause (D.moment disk.old).faults (D.moment disk.new).faults (commit_answer result) }
         ensures tells { TellsMany (commit_calls (needed shadow.now) (copy_of self.old.copies ino) result) (D.moment disk.old).passing (D.moment disk.new).passing (commit_answer result) }
+
+        // Where it tells so, a crash as it cuts off the call leaves just this.
+        ensures how { (D.moment disk.new).how ≡ (D.moment disk.old).how }
+        ensures cut { (passed : ℕ) → (D.moment disk.old).passing ≡ Exactly passed → OnErr (commit_answer result)
+            (IsCutCommit self.old ino (new_version self.old.base ino version.now shadow.now (D.moment disk.old).seen) (needed shadow.now) (D.moment disk.old).how passed (D.moment disk.old).seen (D.moment disk.new).left) }
     {
         self.store(disk, ino.get(), *version, shadow)
     }
@@ -102,6 +108,11 @@ impl Pack {
         // The disk fails only where its count rose, and where it tells how many calls pass, exactly where they are too few.
         ensures cause { HasCause (D.moment disk.old).faults (D.moment disk.new).faults (commit_answer result) }
         ensures tells { TellsMany (commit_calls (pages_of (length content.now)) (copy_of self.old.copies ino) result) (D.moment disk.old).passing (D.moment disk.new).passing (commit_answer result) }
+
+        // Where it tells so, a crash as it cuts off the call leaves just this.
+        ensures how { (D.moment disk.new).how ≡ (D.moment disk.old).how }
+        ensures cut { (passed : ℕ) → (D.moment disk.old).passing ≡ Exactly passed → OnErr (commit_answer result)
+            (IsCutCommit self.old ino (adopted_version ino version.now content.now) (pages_of (length content.now)) (D.moment disk.old).how passed (D.moment disk.old).seen (D.moment disk.new).left) }
     {
         self.store(disk, ino.get(), *version, content)
     }
@@ -139,6 +150,11 @@ impl Pack {
         // The disk fails only where its count rose, and where it tells how many calls pass, exactly where they are too few.
         ensures cause { HasCause (D.moment disk.old).faults (D.moment disk.new).faults (commit_answer result) }
         ensures tells { TellsMany (commit_calls (needed (marked content.now marks.now)) (copy_of self.old.copies ino) result) (D.moment disk.old).passing (D.moment disk.new).passing (commit_answer result) }
+
+        // Where it tells so, a crash as it cuts off the call leaves just this.
+        ensures how { (D.moment disk.new).how ≡ (D.moment disk.old).how }
+        ensures cut { (passed : ℕ) → (D.moment disk.old).passing ≡ Exactly passed → OnErr (commit_answer result)
+            (IsCutCommit self.old ino (new_version self.old.base ino version.now (marked content.now marks.now) (D.moment disk.old).seen) (needed (marked content.now marks.now)) (D.moment disk.old).how passed (D.moment disk.old).seen (D.moment disk.new).left) }
     {
         self.store(disk, ino.get(), *version, &MarkedContent { content, marks })
     }
@@ -168,6 +184,9 @@ impl Pack {
         ensures early { IfErr result (λ fault. IsEarly fault → disk.new ≡ disk.old) }
         ensures cause { HasCause (D.moment disk.old).faults (D.moment disk.new).faults (commit_answer result) }
         ensures tells { TellsMany (commit_calls (needed (C.working content.now)) (copy_of self.old.copies ino) result) (D.moment disk.old).passing (D.moment disk.new).passing (commit_answer result) }
+        ensures how { (D.moment disk.new).how ≡ (D.moment disk.old).how }
+        ensures cut { (passed : ℕ) → (D.moment disk.old).passing ≡ Exactly passed → OnErr (commit_answer result)
+            (IsCutCommit self.old ino (new_version self.old.base ino version (C.working content.now) (D.moment disk.old).seen) (needed (C.working content.now)) (D.moment disk.old).how passed (D.moment disk.old).seen (D.moment disk.new).left) }
     {
         let _len = disk.len();
         let base = self.base();

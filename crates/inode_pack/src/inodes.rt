@@ -50,6 +50,7 @@ pub(crate) fn read_inodes<D: Disk>(
     ensures crash { Goes Same (D.moment disk.old) (D.moment disk.new) }
     ensures cause { HasCause (D.moment disk.old).faults (D.moment disk.new).faults (disk_answer result) }
     ensures tells { TellsRead (D.moment disk.old).passing (D.moment disk.new).passing (disk_answer result) }
+    ensures how { (D.moment disk.new).how ≡ (D.moment disk.old).how }
 {
     let copies = Vec::with_capacity(alloc, 1024)?;
     let losing = Vec::with_capacity(alloc, 1024)?;

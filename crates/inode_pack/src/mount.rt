@@ -1,11 +1,12 @@
 // A pack is found again on a disk.
-ghost use Rattle.std.specs.Prelude.{◌≡◌, ◌+◌, ◌≤◌, length, IfOk, IfErr, OnOk};
-ghost use Rattle.disk_model.specs.Disk.{Goes, IsSettled, HasCause, TellsRead};
+ghost use Rattle.std.specs.Prelude.{◌≡◌, ℕ, ◌+◌, ◌≤◌, length, IfOk, IfErr, OnOk, OnErr};
+ghost use Rattle.disk_model.specs.Disk.{Goes, IsSettled, HasCause, TellsRead, Exactly};
 ghost use Rattle.disk_model.specs.Images.{Same};
 ghost use Rattle.pack_layout.specs.Layout.{area_length};
 ghost use Rattle.disk_model.specs.Moments.{LeavesOnly, TellsMany};
 ghost use Rattle.inode_pack.specs.Pack.{AreCopies, AreUses, Stands};
 ghost use Rattle.inode_pack.specs.Mounting.{IsSound, IsCause, IsPassing, Recovers, KeepsPack, mount_calls, disk_answer};
+ghost use Rattle.inode_pack.specs.Cutting.{IsCutMount};
 ghost use Rattle.inode_pack.specs.Losing.{AreFound};
 
 use crate::closing::close_losing;
@@ -49,6 +50,10 @@ impl Pack {
 
         ensures cause { HasCause (D.moment disk.old).faults (D.moment disk.new).faults (disk_answer result) }
         ensures tells { TellsMany (mount_calls base (D.moment disk.old).seen result) (D.moment disk.old).passing (D.moment disk.new).passing (disk_answer result) }
+
+        // Where it tells so, a crash as it cuts off the call leaves just this.
+        ensures how { (D.moment disk.new).how ≡ (D.moment disk.old).how }
+        ensures cut { (passed : ℕ) → (D.moment disk.old).passing ≡ Exactly passed → OnErr (disk_answer result) (IsCutMount base group site (D.moment disk.old).how passed (D.moment disk.old).seen (D.moment disk.new).left) }
     {
         let survey = read_pack(alloc, disk, base, group, site)?;
         close_losing(disk, base, &survey.copies, &survey.losing)?;
@@ -92,6 +97,7 @@ fn read_pack<D: Disk>(
     ensures crash { Goes Same (D.moment disk.old) (D.moment disk.new) }
     ensures cause { HasCause (D.moment disk.old).faults (D.moment disk.new).faults (disk_answer result) }
     ensures tells { TellsRead (D.moment disk.old).passing (D.moment disk.new).passing (disk_answer result) }
+    ensures how { (D.moment disk.new).how ≡ (D.moment disk.old).how }
 {
     if !is_pack_of(disk, base, group, site)? {
         return Err(MountFault::NotAPack);

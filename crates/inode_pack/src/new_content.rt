@@ -51,7 +51,8 @@ pub(crate) trait NewContent {
         ensures written { OnOk result ((D.moment disk.new).seen ≡ written (D.moment disk.old).seen (piece_at at (shadow_page (working self.now).pages i))) }
         ensures crash { Goes (TornIn (piece_at at (shadow_page (working self.now).pages i))) (D.moment disk.old) (D.moment disk.new) }
         ensures cause { HasCause (D.moment disk.old).faults (D.moment disk.new).faults result }
-        ensures tells { TellsMany (length (piece_at at (shadow_page (working self.now).pages i))) (D.moment disk.old).passing (D.moment disk.new).passing result };
+        ensures tells { TellsMany (length (piece_at at (shadow_page (working self.now).pages i))) (D.moment disk.old).passing (D.moment disk.new).passing result }
+        ensures how { (D.moment disk.new).how ≡ (D.moment disk.old).how };
 }
 
 impl NewContent for Shadow {
@@ -194,6 +195,7 @@ fn put_full<D: Disk>(disk: &mut D, at: u32, bytes: &[u8], i: u16) -> Result<(), 
     ensures crash { Goes (TornIn (piece_at at (Some (full_page bytes.now i)))) (D.moment disk.old) (D.moment disk.new) }
     ensures cause { HasCause (D.moment disk.old).faults (D.moment disk.new).faults result }
     ensures tells { TellsMany 1 (D.moment disk.old).passing (D.moment disk.new).passing result }
+    ensures how { (D.moment disk.new).how ≡ (D.moment disk.old).how }
 {
     let from = 1_024 * usize::from(i);
     let rest = &bytes[from..];
@@ -211,6 +213,7 @@ fn put_last<D: Disk>(disk: &mut D, at: u32, bytes: &[u8]) -> Result<(), DiskFaul
     ensures crash { Goes (TornIn (piece_at at (Some (padded 1024 bytes.now)))) (D.moment disk.old) (D.moment disk.new) }
     ensures cause { HasCause (D.moment disk.old).faults (D.moment disk.new).faults result }
     ensures tells { TellsMany 1 (D.moment disk.old).passing (D.moment disk.new).passing result }
+    ensures how { (D.moment disk.new).how ≡ (D.moment disk.old).how }
 {
     disk.write_at(at, &padded_page(bytes))
 }

@@ -28,6 +28,7 @@ impl Pack {
         ensures crash { Goes Same (D.moment disk.old) (D.moment disk.new) }
         ensures cause { HasCause (D.moment disk.old).faults (D.moment disk.new).faults result }
         ensures tells { TellsRead (D.moment disk.old).passing (D.moment disk.new).passing result }
+        ensures how { (D.moment disk.new).how ≡ (D.moment disk.old).how }
     {
         let _len = disk.len();
         let number = self.number_of(ino, page);

@@ -66,6 +66,7 @@ fn write_page<D: Disk, C: NewContent>(
     ensures crash { Goes (TornIn (piece_at (page_at base (slice_index numbers.now i)) (shadow_page (C.working content.now).pages i))) (D.moment disk.old) (D.moment disk.new) }
     ensures cause { HasCause (D.moment disk.old).faults (D.moment disk.new).faults result }
     ensures tells { TellsMany (length (piece_at (page_at base (slice_index numbers.now i)) (shadow_page (C.working content.now).pages i))) (D.moment disk.old).passing (D.moment disk.new).passing result }
+    ensures how { (D.moment disk.new).how ≡ (D.moment disk.old).how }
 {
     let at = page_at(base, numbers[usize::from(i)]);
     content.put_page(disk, at, i)
@@ -91,6 +92,7 @@ fn write_pages<D: Disk, C: NewContent>(
     ensures crash { Goes (TornIn (page_pieces base numbers.now (C.working content.now) (pages_of (C.working content.now).size))) (D.moment disk.old) (D.moment disk.new) }
     ensures cause { HasCause (D.moment disk.old).faults (D.moment disk.new).faults result }
     ensures tells { TellsMany (length (page_pieces base numbers.now (C.working content.now) (pages_of (C.working content.now).size))) (D.moment disk.old).passing (D.moment disk.new).passing result }
+    ensures how { (D.moment disk.new).how ≡ (D.moment disk.old).how }
 {
     for i in row.first..row.stop {
         write_page(disk, base, numbers, content, i)?;
@@ -109,6 +111,7 @@ fn write_slot<D: Disk>(disk: &mut D, base: u32, made: &InodeCopy) -> Result<(), 
     ensures crash { Goes (TornIn (body_piece base made.now ∷ [])) (D.moment disk.old) (D.moment disk.new) }
     ensures cause { HasCause (D.moment disk.old).faults (D.moment disk.new).faults result }
     ensures tells { TellsMany 1 (D.moment disk.old).passing (D.moment disk.new).passing result }
+    ensures how { (D.moment disk.new).how ≡ (D.moment disk.old).how }
 {
     let mut body = [0; 511];
     write_fields(&made.slot, &mut body[..207]);

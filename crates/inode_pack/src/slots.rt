@@ -84,6 +84,7 @@ fn read_at<D: Disk>(
     ensures crash { Goes Same (D.moment disk.old) (D.moment disk.new) }
     ensures cause { HasCause (D.moment disk.old).faults (D.moment disk.new).faults result }
     ensures tells { TellsRead (D.moment disk.old).passing (D.moment disk.new).passing result }
+    ensures how { (D.moment disk.new).how ≡ (D.moment disk.old).how }
 {
     let _len = disk.len();
     let mut bytes = [0; 512];
@@ -106,6 +107,7 @@ pub(crate) fn read_inode<D: Disk>(
     ensures crash { Goes Same (D.moment disk.old) (D.moment disk.new) }
     ensures cause { HasCause (D.moment disk.old).faults (D.moment disk.new).faults result }
     ensures tells { TellsRead (D.moment disk.old).passing (D.moment disk.new).passing result }
+    ensures how { (D.moment disk.new).how ≡ (D.moment disk.old).how }
 {
     let first = read_at(disk, base, ino, 0)?;
     let second = read_at(disk, base, ino, 1)?;
@@ -134,6 +136,7 @@ pub fn held_slot<D: Disk>(disk: &mut D, base: u32, ino: u16) -> Result<Option<Sl
     ensures crash { Goes Same (D.moment disk.old) (D.moment disk.new) }
     ensures cause { HasCause (D.moment disk.old).faults (D.moment disk.new).faults result }
     ensures tells { TellsRead (D.moment disk.old).passing (D.moment disk.new).passing result }
+    ensures how { (D.moment disk.new).how ≡ (D.moment disk.old).how }
 {
     match read_inode(disk, base, ino)? {
         Ok(found) => Ok(slot_of(found.copy())),

@@ -31,6 +31,7 @@ pub(crate) fn is_pack_of<D: Disk>(
     ensures crash { Goes Same (D.moment disk.old) (D.moment disk.new) }
     ensures cause { HasCause (D.moment disk.old).faults (D.moment disk.new).faults result }
     ensures tells { TellsRead (D.moment disk.old).passing (D.moment disk.new).passing result }
+    ensures how { (D.moment disk.new).how ≡ (D.moment disk.old).how }
 {
     let mut block = [0; 1024];
     disk.read(base, &mut block)?;

@@ -4,3 +4,4 @@ pub mod OldOrNew
 pub mod Losing
 pub mod Outside
 pub mod VersionBytes
+pub mod Cutting

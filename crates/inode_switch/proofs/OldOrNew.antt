@@ -100,10 +100,10 @@ module _ (base ino which : ℕ) (pieces : List Piece) (old : List ℕ) (may : Ma
   abbrev made : List ℕ
   made = made_bytes base ino which pieces old
 
-  mid_torn : TornIn pieces old mid
+  pub mid_torn : TornIn pieces old mid
   mid_torn = torn_written pieces old may.within
 
-  gate_fits : gate' + 1 ≤ length mid
+  pub gate_fits : gate' + 1 ≤ length mid
   gate_fits = omega (arith, may.area, may.high, may.place, mid_torn.long)
 
   pub made_torn : Torn gate' 1 mid made
@@ -114,7 +114,7 @@ module _ (base ino which : ℕ) (pieces : List Piece) (old : List ℕ) (may : Ma
   beside at k ne = grind (arith, nat_tests)
 
   -- the gate torn to what is no open one
-  torn_shut : (c : List ℕ) → Torn gate' 1 mid c → is_open c gate' ≡ false → SameView base old c
+  pub torn_shut : (c : List ℕ) → Torn gate' 1 mid c → is_open c gate' ≡ false → SameView base old c
   torn_shut c torn closed = stays_old base ino which pieces old may c (torn.long ∙ mid_torn.long) (λ k none ne. torn.outside k (beside gate' k ne) ∙ mid_torn.outside k none) closed
 
   -- a change at most at the other gate, after the new slot is open
@@ -177,15 +177,19 @@ module _ (base ino which : ℕ) (pieces : List Piece) (old : List ℕ) (may : Ma
   other_gate : (c : List ℕ) → ((k : ℕ) → k ≢ gate' → get_or c k 0 ≡ get_or mid k 0) → is_open c other' ≡ true → is_open old other' ≡ true
   other_gate c each is = ap (λ (n : ℕ). n == 165) (sym (each other' (λ e. omega (arith, may.place)) ∙ mid_torn.outside other' (may.gates ino (1 - which) may.low may.high (omega arith)))) ∙ is
 
-  -- the gate torn: it is open, or it isn't
-  pub torn_gate : (c : List ℕ) → Torn gate' 1 mid c → IsOldOrNew base ino (made_version base ino which pieces old) old c
-  torn_gate c torn = ⊎_elim
-      (λ (is : is_open c gate' ≡ true). inr (replaced c (torn.long ∙ sym made_torn.long)
+  -- the gate torn to an open one
+  pub torn_opened : (c : List ℕ) → Torn gate' 1 mid c → is_open c gate' ≡ true → Replaced base ino (made_version base ino which pieces old) old c
+  torn_opened c torn is = replaced c (torn.long ∙ sym made_torn.long)
       (λ k ne. ⊎_elim
       (λ (e : k ≡ gate'). ap (λ (n : ℕ). get_or c n 0) e ∙ eqb-true (get_or c gate' 0) 165 is ∙ sym (put_gate mid gate' 165 gate_fits) ∙ sym (ap (λ (n : ℕ). get_or made n 0) e))
       (λ (apart : k ≢ gate'). torn.outside k (beside gate' k apart) ∙ sym (made_torn.outside k (beside gate' k apart)))
       (cases_eq k gate'))
-      (other_gate c (λ k apart. torn.outside k (beside gate' k apart)))))
+      (other_gate c (λ k apart. torn.outside k (beside gate' k apart)))
+
+  -- the gate torn: it is open, or it isn't
+  pub torn_gate : (c : List ℕ) → Torn gate' 1 mid c → IsOldOrNew base ino (made_version base ino which pieces old) old c
+  torn_gate c torn = ⊎_elim
+      (λ (is : is_open c gate' ≡ true). inr (torn_opened c torn is))
       (λ (is : is_open c gate' ≡ false). inl (torn_shut c torn is))
       (cases_Bool (is_open c gate'))
 
@@ -197,10 +201,10 @@ module _ (base ino which : ℕ) (pieces : List Piece) (old : List ℕ) (may : Ma
   pub just_made : Replaced base ino (made_version base ino which pieces old) old made
   just_made = replaced made refl (λ k ne. refl) (other_gate made (λ k apart. made_torn.outside k (beside gate' k apart)))
 
-  closing_open : is_open old other' ≡ true → closing base ino which old ≡ Some other'
+  pub closing_open : is_open old other' ≡ true → closing base ino which old ≡ Some other'
   closing_open is = ap (λ (b : Bool). if b then Some other' else None) is
 
-  closing_shut : is_open old other' ≡ false → closing base ino which old ≡ None
+  pub closing_shut : is_open old other' ≡ false → closing base ino which old ≡ None
   closing_shut is = ap (λ (b : Bool). if b then Some other' else None) is
 
   -- each stage has the old view or the new one
@@ -212,7 +216,7 @@ module _ (base ino which : ℕ) (pieces : List Piece) (old : List ℕ) (may : Ma
       (λ (is : is_open old other' ≡ false). absurd (subst (λ (o : Option ℕ). TornGate o made c) (closing_shut is) torn))
       (cases_Bool (is_open old other'))
 
-  other_fits : other' + 1 ≤ length made
+  pub other_fits : other' + 1 ≤ length made
   other_fits = omega (arith, may.area, may.high, may.low, made_torn.long, mid_torn.long)
 
   -- and at the end the new one

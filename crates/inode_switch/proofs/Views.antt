@@ -1,7 +1,6 @@
 -- Images that agree where the view looks have one view.
-use Rattle.std.proofs.Common.{◌≡◌, ◌⊎◌, inl, inr, ℕ, zero, suc, ◌+◌, ◌*◌, ◌≤◌, ◌<◌, Bool, true, false, List, ◌++◌, length, take, drop, get_or, refl, sym, ◌∙◌, ap, subst, arith, length-take, length-drop, ◌%◌}
+use Rattle.std.proofs.Common.{◌≡◌, ◌⊎◌, inl, inr, ℕ, zero, suc, ◌+◌, ◌*◌, ◌≤◌, ◌<◌, Bool, true, false, List, ◌++◌, length, take, get_or, refl, sym, ◌∙◌, ap, subst, arith, ◌%◌}
 use Rattle.std.specs.Prelude.{Some, ◌==◌}
-use Rattle.std.proofs.lemmas.List.{same_lists, get_or_default, get_or-take, get_or-drop}
 use Rattle.disk_model.specs.Images.{bytes_at}
 use Rattle.gate_switch.proofs.Tearing.{same_bytes}
 use Rattle.file_content.specs.Pages.{pages_of}

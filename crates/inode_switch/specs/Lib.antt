@@ -1,3 +1,4 @@
+pub mod Cutting
 pub mod Replace
 pub mod Slots
 pub mod View

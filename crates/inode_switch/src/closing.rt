@@ -3,6 +3,7 @@ ghost use Rattle.std.specs.Prelude.{◌≡◌, ◌≤◌, ◌<◌, ◌+◌, ◌-
 ghost use Rattle.disk_model.specs.Images.{overwritten, Torn};
 ghost use Rattle.disk_model.specs.Disk.{IsSettled, HasCause};
 ghost use Rattle.disk_model.specs.Moments.{LeavesOnly, TellsMany};
+ghost use Rattle.gate_switch.specs.Cutting.{CutsGate};
 ghost use Rattle.pack_layout.specs.Layout.{area_length, slot_at};
 ghost use Rattle.inode_switch.specs.View.{SameView};
 ghost use Rattle.inode_switch.specs.Replace.{Loses};
@@ -30,6 +31,7 @@ pub fn close_losing_gate<D: Disk>(
     ensures durable { OnOk result (IsSettled (D.moment disk.new)) }
     ensures cause { HasCause (D.moment disk.old).faults (D.moment disk.new).faults result }
     ensures tells { TellsMany 2 (D.moment disk.old).passing (D.moment disk.new).passing result }
+    ensures cut { CutsGate (slot_at base ino which) 0 (D.moment disk.old) (D.moment disk.new) }
 {
     let gate = slot_at(base, ino, which);
     close_gate(disk, gate)

@@ -1,12 +1,13 @@
 // One inode is replaced, wholly or not at all.
-ghost use Rattle.std.specs.Prelude.{◌≡◌, ◌≤◌, ◌<◌, ◌+◌, ◌-◌, ◌^◌, ℕ, List, length, OnOk, if◌then◌else◌};
+ghost use Rattle.std.specs.Prelude.{◌≡◌, ◌≤◌, ◌<◌, ◌+◌, ◌-◌, ◌^◌, ℕ, List, length, OnOk, OnErr, if◌then◌else◌};
 ghost use Rattle.disk_model.specs.Images.{Torn};
-ghost use Rattle.disk_model.specs.Disk.{IsSettled, HasCause};
+ghost use Rattle.disk_model.specs.Disk.{IsSettled, HasCause, Exactly};
 ghost use Rattle.disk_model.specs.Moments.{LeavesOnly, TellsMany};
 ghost use Rattle.gate_switch.specs.Switch.{IsStage, switched, calls_of};
 ghost use Rattle.pack_layout.specs.Layout.{area_length, slot_at};
 ghost use Rattle.inode_switch.specs.View.{is_open, IsOldOrNew, Replaced};
 ghost use Rattle.inode_switch.specs.Replace.{MayReplace, made_version, closing};
+ghost use Rattle.inode_switch.specs.Cutting.{IsCutReplacing};
 
 use disk_model::{Disk, DiskFault};
 use gate_switch::{PieceSource, switch};
@@ -45,6 +46,11 @@ pub fn replace_inode<D: Disk, P: PieceSource>(
 
     ensures cause { HasCause (D.moment disk.old).faults (D.moment disk.new).faults result }
     ensures tells { TellsMany (calls_of (P.pieces source.now) (closing base ino which (D.moment disk.old).seen)) (D.moment disk.old).passing (D.moment disk.new).passing result }
+
+    // Where it tells so, a crash as it cuts off the call leaves just this.
+    ensures how { (D.moment disk.new).how ≡ (D.moment disk.old).how }
+    ensures cut { (pages passed : ℕ) → length (P.pieces source.now) ≡ pages + 1 → (D.moment disk.old).passing ≡ Exactly passed
+        → OnErr result (IsCutReplacing base ino which (P.pieces source.now) pages (D.moment disk.old).how passed (D.moment disk.old).seen (D.moment disk.new).left) }
 {
     let gate = slot_at(base, ino, which);
     let old_gate = closing_place(base, ino, which, closes);

@@ -2,3 +2,4 @@ pub mod Rows
 pub mod Sent
 pub mod Calls
 pub mod Listing
+pub mod Known

@@ -1,8 +1,9 @@
 -- What the run's world has of packets, and what is done with it.
-use Rattle.std.specs.Prelude.{ℕ, ◌+◌, ◌==◌, Bool, false, List, [], ◌∷◌, ◌++◌, length, Option, None, Some, is_some, slice_index_or}
+use Rattle.std.specs.Prelude.{◌≡◌, ℕ, ◌+◌, ◌==◌, Bool, false, List, [], ◌∷◌, ◌++◌, length, Option, None, Some, is_some, slice_index_or}
 use Rattle.std.specs.List.{list_any}
 use Rattle.wire_messages.specs.Bodies.{kind_of}
 use Rattle.wire_messages.specs.declared.packet.Packet.{Packet}
+use Rattle.wire_messages.specs.Packets.{FitsPacket}
 use Rattle.role_steps.specs.Tables.{row, without_row, total, first_that}
 use Rattle.the_run.specs.Worlds.{World, Limit, Numbered, number_of, numbered_from, newest_onto, packet_size, limit_passed}
 use Rattle.circuits.specs.Circuits.{circuit_of}
@@ -47,6 +48,11 @@ sent_at k m = row number_of k m.sent
 
 abbrev pub is_sent : ℕ → Post → Bool
 is_sent k m = is_some (sent_at k m)
+
+-- the packet is one that was sent with its number, and one of the format
+pub record IsKnown (m : Post) (x : Numbered) : Type 0 where
+  pub sent : sent_at x.number m ≡ Some x
+  pub fits : FitsPacket x.packet
 
 abbrev pub is_lost : ℕ → Post → Bool
 is_lost k m = list_any (λ j. j == k) m.lost

@@ -1,9 +1,9 @@
 ghost use Rattle.std.specs.Prelude.{◌≡◌, ◌≢◌, ℕ, ◌+◌, ◌<◌, ◌≤◌, List, [], ◌∷◌, ◌++◌, map, true, is_some, length, slice_range, Ok, Err, Some, None, IfOk, IfSome, OnOk, OnErr};
-ghost use Rattle.std.specs.List.{All};
+ghost use Rattle.std.specs.List.{All, AllByRecursion};
 ghost use Rattle.wire_messages.specs.Bodies.{kind_of};
 ghost use Rattle.wire_messages.specs.Packets.{FitsPacket, IsPacket};
 ghost use Rattle.the_run.specs.Worlds.{Limit};
-ghost use Rattle.packet_mail.specs.Posts.{Post, no_post, posts, limit_of_packet, passes, loses, sent_at, is_sent, is_lost, is_underway, number_in, packet_in, next_number, sender_in, receiver_in, pending_of};
+ghost use Rattle.packet_mail.specs.Posts.{Post, no_post, posts, limit_of_packet, passes, loses, sent_at, is_sent, is_lost, is_underway, number_in, packet_in, next_number, sender_in, receiver_in, pending_of, IsKnown};
 ghost use Rattle.packet_mail.specs.Letters.{post_of, InOrder, TellsLost, IsLetter};
 
 use crate::MailFault;
@@ -134,7 +134,8 @@ impl Mail {
     /// The lowest number of a packet under way whose circuit is up, given for each circuit whether it is.
     pub fn next(&self, up: &[bool]) -> Option<u32>
         requires { length up.now ≡ 256 }
-        ensures { result ≡ next_number up.now self.now }
+        ensures value { result ≡ next_number up.now self.now }
+        ensures known { AllByRecursion (IsKnown self.now) self.now.underway }
     {
         self.queue.next(up)
     }

@@ -1,5 +1,5 @@
 -- A boot, from the closing of a losing half and the raising.
-use Rattle.std.proofs.Common.{◌≡◌, ◌⊎◌, inl, inr, ℕ, ◌+◌, ◌≤◌, Bool, true, false, List, refl, sym, ◌∙◌, ap, subst, arith}
+use Rattle.std.proofs.Common.{◌≡◌, ◌⊎◌, inl, ℕ, ◌+◌, ◌≤◌, Bool, true, false, List, refl, sym, ◌∙◌, ap, subst}
 use Rattle.std.specs.Prelude.{Result, Ok, Err, IsErr, IsErrAnd, ◌&&◌, if◌then◌else◌}
 use Rattle.std.proofs.lemmas.Bool.{false≢true}
 use Rattle.disk_model.specs.Images.{Torn, Same}
@@ -8,7 +8,7 @@ use Rattle.disk_model.specs.Moments.{LeavesOnly, TellsMany}
 use Rattle.disk_model.proofs.Moments.{leaves_weaker}
 use Rattle.disk_model.specs.declared.disk.DiskFault.{DiskFault}
 use Rattle.disk_model.specs.declared.disk.DiskFault.TheVariants.{Failed}
-use Rattle.disk_model.proofs.Tells.{tells_longer, tells_join}
+use Rattle.disk_model.proofs.Tells.{tells_longer}
 use Rattle.disk_model.proofs.ReadRuns.{reads_then, leaves_same, leaves_joins}
 use Rattle.gate_switch.proofs.Tearing.{torn_joins, torn_stays}
 use Rattle.site_label.specs.declared.half.Half.{Half}

@@ -1,3 +1,5 @@
 pub mod Halves
 pub mod Stages
 pub mod Boots
+pub mod Cutting
+pub mod Image

@@ -5,13 +5,13 @@ use Rattle.std.proofs.lemmas.Bool.{cases_Bool, eqb-true}
 use Rattle.std.proofs.lemmas.List.{same_lists, get_or_default, get_or-take, get_or-drop, take-take, get_or-append_right}
 use Rattle.std.proofs.Math.Seq.{take-append_seam}
 use Rattle.disk_model.specs.Images.{bytes_at, overwritten, is_within, Torn}
-use Rattle.gate_switch.specs.Switch.{Piece, TornIn, IsStage, touches, switched}
+use Rattle.gate_switch.specs.Switch.{Piece, TornIn, IsStage, switched}
 use Rattle.gate_switch.proofs.Pieces.{torn_overwritten, put_gate}
 use Rattle.gate_switch.proofs.Tearing.{same_bytes, is_outside, put_inside, torn_joins, torn_widens}
 use Rattle.site_label.specs.declared.half.Half.{Half}
 use Rattle.site_label.specs.declared.half.Half.TheVariants.{First, Second}
 use Rattle.site_label.specs.Label.{half_at, half_bytes, is_open, other_half, Says, IsOlder, HasBoot, IsAlone, IsNew}
-use Rattle.site_label.specs.Raising.{body_piece, IsRaising}
+use Rattle.site_label.specs.Raising.{IsRaising}
 use Rattle.site_label.proofs.Halves.{length-half, first_byte, says_open}
 
 -- a half has the same bytes in both images
@@ -25,7 +25,7 @@ within_label Second = omega arith
 says_kept : (site boot : ℕ) (half : Half) (old new : List ℕ) → length new ≡ length old → SameHalf half old new → Says site boot half old → Says site boot half new
 says_kept site boot half old new long same says = same_bytes old new (half_at half) 512 long same ∙ says
 
-open_kept : (half : Half) (old new : List ℕ) → SameHalf half old new → is_open new half ≡ is_open old half
+pub open_kept : (half : Half) (old new : List ℕ) → SameHalf half old new → is_open new half ≡ is_open old half
 open_kept half old new same =
     let e : half_at half + 0 ≡ half_at half = omega arith in
     ap (λ (n : ℕ). n == 165) (subst (λ (n : ℕ). get_or new n 0 ≡ get_or old n 0) e (same 0 (omega arith)))
@@ -40,7 +40,7 @@ gate_before First old new torn = gate_beside Second old new torn
 gate_before Second old new torn = gate_beside First old new torn
 
 -- the body of the other half is torn
-body_beside : (half : Half) (old new : List ℕ) → Torn (half_at (other_half half) + 1) 511 old new → SameHalf half old new
+pub body_beside : (half : Half) (old new : List ℕ) → Torn (half_at (other_half half) + 1) 511 old new → SameHalf half old new
 body_beside First old new torn = λ k lt. torn.outside (0 + k) (is_outside 513 511 (0 + k) (inl (omega arith)))
 body_beside Second old new torn = λ k lt. torn.outside (512 + k) (is_outside 1 511 (512 + k) (inr (omega arith)))
 
@@ -70,20 +70,23 @@ gate_inside : (half : Half) (old new : List ℕ) → Torn (half_at half) 1 old n
 gate_inside half old new torn = torn_widens (half_at half) 1 0 1024 (omega arith) (let w = within_label half in omega arith) old new torn
 
 -- of two open halves the one that doesn't count is closed
-pub closing : (site boot lesser : ℕ) (half : Half) (old new : List ℕ) → boot < 2 ^ 32 → lesser < boot → Says site boot half old → Says site lesser (other_half half) old → Torn (half_at (other_half half)) 1 old new → IsRaising site boot old new
-closing site boot lesser half old new fits less says beside torn = record {
-  number = inl (record {
-    half = half;
-    fits = fits;
-    says = says_kept site boot half old new torn.long (gate_beside half old new torn) says;
-    other = older (gate_torn site lesser (other_half half) old new beside torn);
-  });
-  outside = gate_inside (other_half half) old new torn;
+pub closes_number : (site boot lesser : ℕ) (half : Half) (old new : List ℕ) → boot < 2 ^ 32 → lesser < boot → Says site boot half old → Says site lesser (other_half half) old → Torn (half_at (other_half half)) 1 old new → HasBoot site boot new
+closes_number site boot lesser half old new fits less says beside torn = record {
+  half = half;
+  fits = fits;
+  says = says_kept site boot half old new torn.long (gate_beside half old new torn) says;
+  other = older (gate_torn site lesser (other_half half) old new beside torn);
 }
   where
     older : (is_open new (other_half half) ≡ false) ⊎ Says site lesser (other_half half) new → IsOlder site boot (other_half half) new
     older (inl shut) = inl shut
     older (inr says) = inr (lesser, less, says)
+
+pub closing : (site boot lesser : ℕ) (half : Half) (old new : List ℕ) → boot < 2 ^ 32 → lesser < boot → Says site boot half old → Says site lesser (other_half half) old → Torn (half_at (other_half half)) 1 old new → IsRaising site boot old new
+closing site boot lesser half old new fits less says beside torn = record {
+  number = inl (closes_number site boot lesser half old new fits less says beside torn);
+  outside = gate_inside (other_half half) old new torn;
+}
 
 -- and at the end it is
 pub closed : (site boot : ℕ) (half : Half) (old : List ℕ) → boot < 2 ^ 32 → Says site boot half old → 1024 ≤ length old → IsAlone site boot half (overwritten old (half_at (other_half half)) (0 ∷ []))
@@ -127,23 +130,23 @@ module _ (site boot : ℕ) (half : Half) (old : List ℕ) (alone : IsAlone site 
   pub body_fits : at + 1 + length bytes ≤ length old
   body_fits = let l = length_body in let w = within_label new_half in omega arith
 
-  mid_torn : Torn (at + 1) 511 old mid
+  pub mid_torn : Torn (at + 1) 511 old mid
   mid_torn = subst (λ (n : ℕ). Torn (at + 1) n old mid) length_body (torn_overwritten old (at + 1) bytes body_fits)
 
   pub gate_fits : at + 1 ≤ length mid
   gate_fits = let l = mid_torn.long in let w = within_label new_half in omega arith
 
-  opened_torn : Torn at 1 mid opened
+  pub opened_torn : Torn at 1 mid opened
   opened_torn = torn_overwritten mid at (165 ∷ []) gate_fits
 
   -- while the body is written
-  in_body : (c : List ℕ) → TornIn (body ∷ []) old c → Torn (at + 1) 511 old c
+  pub in_body : (c : List ℕ) → TornIn (body ∷ []) old c → Torn (at + 1) 511 old c
   in_body c torn = record {
     long = torn.long;
     outside = λ k out. torn.outside k (ap (λ (b : Bool). b || false) (subst (λ (n : ℕ). is_within (at + 1) n k ≡ false) (sym length_body) out));
   }
 
-  stage_one : (c : List ℕ) → Torn (at + 1) 511 old c → HasBoot site boot c
+  pub stage_one : (c : List ℕ) → Torn (at + 1) 511 old c → HasBoot site boot c
   stage_one c torn = record {
     half = half;
     fits = alone.fits;
@@ -152,12 +155,12 @@ module _ (site boot : ℕ) (half : Half) (old : List ℕ) (alone : IsAlone site 
   }
 
   -- the half that counts stays until the new one is open
-  stays : (c : List ℕ) → Torn at 1 mid c → Says site boot half c
+  pub stays : (c : List ℕ) → Torn at 1 mid c → Says site boot half c
   stays c torn =
       says_kept site boot half mid c torn.long (gate_beside half mid c torn)
       (says_kept site boot half old mid mid_torn.long (body_beside half old mid mid_torn) alone.says)
 
-  made : (c : List ℕ) → Torn at 1 mid c → is_open c new_half ≡ true → Says site (boot + 1) new_half c
+  pub made : (c : List ℕ) → Torn at 1 mid c → is_open c new_half ≡ true → Says site (boot + 1) new_half c
   made c torn is = stands c (half_bytes site (boot + 1)) at (length-half site (boot + 1)) (let l = torn.long in let m = mid_torn.long in let w = within_label new_half in omega arith) each
     where
       each : (k : ℕ) → k < 512 → get_or c (at + k) 0 ≡ get_or (half_bytes site (boot + 1)) k 0
@@ -172,7 +175,7 @@ module _ (site boot : ℕ) (half : Half) (old : List ℕ) (alone : IsAlone site 
           ∙ ap (λ (n : ℕ). get_or mid n 0) e ∙ put_inside old (at + 1) bytes k body_fits (omega arith) ∙ get_or-drop 1 (half_bytes site (boot + 1)) k 0 ∙ ap (λ (n : ℕ). get_or (half_bytes site (boot + 1)) n 0) f
 
   -- both halves are open, and the new one counts
-  raised : (c : List ℕ) → Says site (boot + 1) new_half c → IsOlder site (boot + 1) half c → HasBoot site (boot + 1) c
+  pub raised : (c : List ℕ) → Says site (boot + 1) new_half c → IsOlder site (boot + 1) half c → HasBoot site (boot + 1) c
   raised c says older = record { half = new_half; fits = fits; says = says; other = subst (λ (h : Half). IsOlder site (boot + 1) h c) (sym (twice half)) older }
 
   -- while its gate opens
@@ -186,7 +189,7 @@ module _ (site boot : ℕ) (half : Half) (old : List ℕ) (alone : IsAlone site 
   opened_says = made opened opened_torn (ap (λ (n : ℕ). n == 165) (put_gate mid at 165 gate_fits))
 
   -- while the old gate closes
-  stage_three : (c : List ℕ) → Torn (half_at half) 1 opened c → HasBoot site (boot + 1) c
+  pub stage_three : (c : List ℕ) → Torn (half_at half) 1 opened c → HasBoot site (boot + 1) c
   stage_three c torn = raised c (says_kept site (boot + 1) new_half opened c torn.long (gate_before half opened c torn) opened_says) (older (gate_torn site boot half opened c (stays opened opened_torn) torn))
     where
       older : (is_open c half ≡ false) ⊎ Says site boot half c → IsOlder site (boot + 1) half c
@@ -214,23 +217,23 @@ module _ (site boot : ℕ) (half : Half) (old : List ℕ) (alone : IsAlone site 
       stage_three (overwritten opened (half_at half) (0 ∷ [])) (torn_overwritten opened (half_at half) (0 ∷ []) (omega arith))
 
 -- a new label has the boot number 1
+new_byte : (site : ℕ) (image : List ℕ) → IsNew site image → (k : ℕ) → k < 1024 → get_or image (0 + k) 0 ≡ get_or (half_bytes site 1 ++ replicate 512 0) k 0
+new_byte site image new k lt = sym (get_or-drop 0 image k 0) ∙ sym (get_or-take 1024 (drop 0 image) k 0 lt) ∙ ap (λ (l : List ℕ). get_or l k 0) new
+
+pub second_shut : (site : ℕ) (image : List ℕ) → IsNew site image → is_open image Second ≡ false
+second_shut site image new =
+    let long = length-half site 1 in
+    ap (λ (n : ℕ). n == 165) (new_byte site image new 512 (omega arith) ∙ get_or-append_right (half_bytes site 1) (replicate 512 0) 512 512 0 long (omega arith))
+
 pub new_label : (site : ℕ) (image : List ℕ) → IsNew site image → HasBoot site 1 image
 new_label site image new = record {
   half = First;
   fits = omega arith;
   says = first;
-  other = inl (ap (λ (n : ℕ). n == 165) second);
+  other = inl (second_shut site image new);
 }
   where
-    byte : (k : ℕ) → k < 1024 → get_or image (0 + k) 0 ≡ get_or (half_bytes site 1 ++ replicate 512 0) k 0
-    byte k lt = sym (get_or-drop 0 image k 0) ∙ sym (get_or-take 1024 (drop 0 image) k 0 lt) ∙ ap (λ (l : List ℕ). get_or l k 0) new
-
     first : Says site 1 First image
     first =
         let long = length-half site 1 in
         sym (take-take 512 1024 image (omega arith)) ∙ ap (λ (l : List ℕ). take 512 l) new ∙ ap (λ (n : ℕ). take n (half_bytes site 1 ++ replicate 512 0)) (sym long) ∙ take-append_seam (half_bytes site 1) (replicate 512 0)
-
-    second : get_or image 512 0 ≡ 0
-    second =
-        let long = length-half site 1 in
-        byte 512 (omega arith) ∙ get_or-append_right (half_bytes site 1) (replicate 512 0) 512 512 0 long (omega arith)

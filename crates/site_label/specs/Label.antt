@@ -1,5 +1,5 @@
 -- The label of a disk: its first 1,024 bytes, in two halves of 512.
-use Rattle.std.specs.Prelude.{◌≡◌, ◌⊎◌, ℕ, ◌+◌, ◌^◌, ◌<◌, ◌==◌, Bool, false, List, ◌∷◌, ◌++◌, replicate, codes, slice_index}
+use Rattle.std.specs.Prelude.{◌≡◌, ◌⊎◌, ℕ, ◌^◌, ◌<◌, ◌==◌, Bool, false, List, ◌∷◌, ◌++◌, replicate, codes, slice_index}
 use Rattle.std.specs.Int.{w32, to_be_bytes}
 use Rattle.disk_model.specs.Images.{bytes_at}
 use Rattle.site_label.specs.declared.half.Half.{Half}

@@ -1,10 +1,11 @@
-ghost use Rattle.std.specs.Prelude.{◌≡◌, ◌≤◌, ◌<◌, ◌+◌, ◌^◌, ◌++◌, ℕ, List, length, replicate, OnOk, IfOk, IfErr, if◌then◌else◌};
+ghost use Rattle.std.specs.Prelude.{◌≡◌, ◌≤◌, ◌<◌, ◌+◌, ◌^◌, ◌++◌, ℕ, List, length, replicate, false, OnOk, OnErr, IfOk, IfErr, if◌then◌else◌};
 ghost use Rattle.disk_model.specs.Images.{Torn, Same};
-ghost use Rattle.disk_model.specs.Disk.{Goes, IsSettled, HasCause, TellsRead};
+ghost use Rattle.disk_model.specs.Disk.{Goes, IsSettled, HasCause, TellsRead, KeepsCut, Exactly};
 ghost use Rattle.disk_model.specs.Moments.{LeavesOnly, TellsMany};
 ghost use Rattle.site_label.specs.Label.{HasBoot, IsAlone, IsNew, half_bytes};
 ghost use Rattle.site_label.specs.Reading.{IsCounted};
-ghost use Rattle.site_label.specs.Raising.{IsRaising, MayBeLeft, IsRaised, IsUnread, IsCause, IsEarly, boot_calls, disk_answer};
+ghost use Rattle.site_label.specs.Raising.{IsRaising, MayBeLeft, IsRaised, IsUnread, IsCause, IsEarly, boot_calls, disk_answer, are_open};
+ghost use Rattle.site_label.specs.Cutting.{IsLabel, IsLeft, boot_left, raise_left};
 
 use crate::LabelFault;
 use crate::body::HalfBody;
@@ -23,6 +24,7 @@ impl Label {
         requires { 1024 ≤ length (D.moment disk.old).seen }
         ensures formatted { OnOk result (IsNew site (D.moment disk.new).seen) }
         ensures boot { OnOk result (HasBoot site 1 (D.moment disk.new).seen) }
+        ensures alone { OnOk result (are_open (D.moment disk.new).seen ≡ false) }
         ensures outside { OnOk result (Torn 0 1024 (D.moment disk.old).seen (D.moment disk.new).seen) }
         ensures durable { OnOk result (IsSettled (D.moment disk.new)) }
         ensures crash { Goes (Torn 0 1024) (D.moment disk.old) (D.moment disk.new) }
@@ -42,6 +44,7 @@ impl Label {
         ensures crash { Goes Same (D.moment disk.old) (D.moment disk.new) }
         ensures cause { HasCause (D.moment disk.old).faults (D.moment disk.new).faults (disk_answer result) }
         ensures tells { TellsRead (D.moment disk.old).passing (D.moment disk.new).passing (disk_answer result) }
+        ensures cut { KeepsCut (D.moment disk.old) (D.moment disk.new) }
     {
         let counted = read_label(disk, site)?;
         Ok(counted.boot)
@@ -59,6 +62,7 @@ impl Label {
         // After it the label has the raised number, whatever comes.
         ensures raised { IfOk result (λ boot. IsRaised site (D.moment disk.old).seen boot) }
         ensures boot { IfOk result (λ boot. HasBoot site boot (D.moment disk.new).seen) }
+        ensures alone { OnOk result (are_open (D.moment disk.new).seen ≡ false) }
         ensures durable { OnOk result (IsSettled (D.moment disk.new)) }
 
         ensures fault { IfErr result (λ fault. IsCause site (D.moment disk.old).seen fault) }
@@ -67,6 +71,11 @@ impl Label {
         // The disk fails only where its count rose, and where it tells how many calls pass, exactly where they are too few.
         ensures cause { HasCause (D.moment disk.old).faults (D.moment disk.new).faults (disk_answer result) }
         ensures tells { TellsMany (boot_calls (D.moment disk.old).seen result) (D.moment disk.old).passing (D.moment disk.new).passing (disk_answer result) }
+
+        // Where it tells so, a crash as it cuts off the call leaves just this.
+        ensures how { (D.moment disk.new).how ≡ (D.moment disk.old).how }
+        ensures cut { (before passed : ℕ) → HasBoot site before (D.moment disk.old).seen → (D.moment disk.old).passing ≡ Exactly passed
+            → OnErr (disk_answer result) (IsLeft site (boot_left (are_open (D.moment disk.old).seen) (D.moment disk.old).how passed before) (D.moment disk.old).seen (D.moment disk.new).left) }
     {
         let counted = read_label(disk, site)?;
         if counted.boot == u32::MAX {
@@ -98,6 +107,8 @@ fn close_other<D: Disk>(disk: &mut D, site: SiteId, counted: &Counted) -> Result
     ensures durable { OnOk result (IsSettled (D.moment disk.new)) }
     ensures cause { HasCause (D.moment disk.old).faults (D.moment disk.new).faults result }
     ensures tells { TellsMany (if counted.now.beside then 2 else 0) (D.moment disk.old).passing (D.moment disk.new).passing result }
+    ensures how { (D.moment disk.new).how ≡ (D.moment disk.old).how }
+    ensures cut { (passed : ℕ) → (D.moment disk.old).passing ≡ Exactly passed → OnErr result (IsLabel site (boot_left counted.now.beside (D.moment disk.old).how passed counted.now.boot) (D.moment disk.new).left) }
 {
     if !counted.beside {
         return Ok(());
@@ -116,6 +127,9 @@ fn raise<D: Disk>(disk: &mut D, site: SiteId, counted: &Counted) -> Result<(), D
     ensures durable { OnOk result (IsSettled (D.moment disk.new)) }
     ensures cause { HasCause (D.moment disk.old).faults (D.moment disk.new).faults result }
     ensures tells { TellsMany 6 (D.moment disk.old).passing (D.moment disk.new).passing result }
+    ensures alone { OnOk result (are_open (D.moment disk.new).seen ≡ false) }
+    ensures how { (D.moment disk.new).how ≡ (D.moment disk.old).how }
+    ensures cut { (passed : ℕ) → (D.moment disk.old).passing ≡ Exactly passed → OnErr result (IsLabel site (raise_left (D.moment disk.old).how passed counted.now.boot) (D.moment disk.new).left) }
 {
     let half = counted.half.other();
     let boot = counted.boot + 1;

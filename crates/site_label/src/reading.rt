@@ -1,7 +1,7 @@
 // What the halves of a label say.
 ghost use Rattle.std.specs.Prelude.{◌≡◌, ◌≤◌, ◌<◌, ◌^◌, ℕ, List, length, IfOk, IfErr};
 ghost use Rattle.disk_model.specs.Images.{Same};
-ghost use Rattle.disk_model.specs.Disk.{Goes, HasCause, TellsRead};
+ghost use Rattle.disk_model.specs.Disk.{Goes, HasCause, TellsRead, KeepsCut};
 ghost use Rattle.site_label.specs.Reading.{IsReading, IsHalf, IsCounted, counted_of, greater};
 ghost use Rattle.site_label.specs.Raising.{IsUnread, disk_answer};
 
@@ -35,6 +35,7 @@ pub(crate) fn read_label<D: Disk>(disk: &mut D, site: SiteId) -> Result<Counted,
     ensures crash { Goes Same (D.moment disk.old) (D.moment disk.new) }
     ensures cause { HasCause (D.moment disk.old).faults (D.moment disk.new).faults (disk_answer result) }
     ensures tells { TellsRead (D.moment disk.old).passing (D.moment disk.new).passing (disk_answer result) }
+    ensures cut { KeepsCut (D.moment disk.old) (D.moment disk.new) }
 {
     let first = read_half(disk, site, Half::First)?;
     let second = read_half(disk, site, Half::Second)?;
@@ -52,6 +53,7 @@ fn read_half<D: Disk>(disk: &mut D, site: SiteId, half: Half) -> Result<Reading,
     ensures crash { Goes Same (D.moment disk.old) (D.moment disk.new) }
     ensures cause { HasCause (D.moment disk.old).faults (D.moment disk.new).faults result }
     ensures tells { TellsRead (D.moment disk.old).passing (D.moment disk.new).passing result }
+    ensures cut { KeepsCut (D.moment disk.old) (D.moment disk.new) }
 {
     let mut bytes = [0; 512];
     disk.read(half.at(), &mut bytes)?;

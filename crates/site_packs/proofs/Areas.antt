@@ -8,7 +8,7 @@ use Rattle.pack_layout.specs.Layout.{area_length, area_at, slot_at, page_at}
 use Rattle.gate_switch.proofs.Tearing.{same_bytes, is_outside}
 use Rattle.inode_switch.specs.View.{is_open, turn, size, page, Newer, First, Second, Neither, newer_of, newer, counting, view}
 use Rattle.inode_switch.proofs.SlotBytes.{says}
-use Rattle.inode_switch.proofs.Views.{Keeps, Agrees, same_view}
+use Rattle.inode_switch.proofs.Views.{Agrees, same_view}
 use Rattle.inode_pack.specs.declared.inode_copy.InodeCopy.{InodeCopy}
 use Rattle.inode_pack.specs.declared.mount_fault.MountFault.{MountFault}
 use Rattle.inode_pack.specs.declared.mount_fault.MountFault.TheVariants.{Disk, NotAPack, BadSlot, SharedPage, NoMemory}
@@ -51,7 +51,7 @@ module _ (base : ℕ) (a b : List ℕ) (agree : AgreeOn base a b) where
   slot_bytes_same : (ino which : ℕ) → 1 ≤ ino → ino ≤ 1024 → which ≤ 1 → bytes_at b (slot_at base ino which) 512 ≡ bytes_at a (slot_at base ino which) 512
   slot_bytes_same ino which low high le = same_bytes a b (slot_at base ino which) 512 agree.long (λ k lt. slot_byte ino which k low high le lt)
 
-  open_same : (ino which : ℕ) → 1 ≤ ino → ino ≤ 1024 → which ≤ 1 → is_open b (slot_at base ino which) ≡ is_open a (slot_at base ino which)
+  pub open_same : (ino which : ℕ) → 1 ≤ ino → ino ≤ 1024 → which ≤ 1 → is_open b (slot_at base ino which) ≡ is_open a (slot_at base ino which)
   open_same ino which low high le =
       let e : slot_at base ino which + 0 ≡ slot_at base ino which = omega arith in
       ap (λ (n : ℕ). n == 165) (subst (λ (n : ℕ). get_or b n 0 ≡ get_or a n 0) e (slot_byte ino which 0 low high le (omega arith)))

@@ -1,5 +1,5 @@
 -- The copies of packs whose areas stand one behind the other.
-use Rattle.std.proofs.Common.{◌≡◌, ◌≢◌, ◌⊎◌, inl, inr, ⊎_elim, ℕ, zero, suc, ◌+◌, ◌*◌, ◌≤◌, ◌<◌, Bool, true, false, List, [], ◌∷◌, ◌++◌, length, drop, get_or, Option, None, Some, refl, sym, ap, subst, ◌∙◌, arith}
+use Rattle.std.proofs.Common.{◌≡◌, ◌≢◌, ◌⊎◌, inl, inr, ⊎_elim, ℕ, zero, suc, ◌+◌, ◌*◌, ◌≤◌, ◌<◌, true, false, List, [], ◌∷◌, ◌++◌, length, drop, get_or, Option, None, Some, refl, sym, ap, subst, ◌∙◌, arith}
 use Rattle.std.specs.Prelude.{map, slice_get, slice_set, is_some, ◌==◌, ◌||◌}
 use Rattle.std.proofs.lemmas.Bool.{cases_lt, eqb-true, eq-eqb, false≢true}
 use Rattle.std.specs.Option.{option_map}
@@ -13,7 +13,7 @@ use Rattle.role_steps.specs.Tables.{row, with_row}
 use Rattle.role_steps.specs.Storage.{copy_key}
 use Rattle.role_steps.specs.declared.copies.FileCopy.{FileCopy}
 use Rattle.site_packs.specs.Copies.{copy_in, copies_from, copies_in, copies_behind}
-use Rattle.site_packs.specs.Packs.{pack_group, pack_in, has_group, IsPackAt, ArePacks, AreShown}
+use Rattle.site_packs.specs.Packs.{pack_group, pack_in, has_group, ArePacks, AreShown}
 use Rattle.site_packs.specs.Mounting.{AreSoundBehind}
 use Rattle.site_packs.proofs.Areas.{AgreeOn, other_area, view_same, shows_same}
 use Rattle.site_packs.proofs.Rows.{Between, wider, both_between, row_outside, row_right, row_left, put_behind, put_among, copies_between, copies_same, copies_replaced, row_here}
@@ -83,7 +83,7 @@ behind_same nth least site (pack ∷ packs) old new are same =
     (λ i. one i ++ rest i)
 
 -- a pack whose area isn't the torn one
-one_kept : (nth other : ℕ) (pack : PackState) (old new : List ℕ) → pack.base ≡ area_at other → AreCopies pack.copies → nth ≢ other → Torn (area_at nth) area_length old new → Shows pack old
+pub one_kept : (nth other : ℕ) (pack : PackState) (old new : List ℕ) → pack.base ≡ area_at other → AreCopies pack.copies → nth ≢ other → Torn (area_at nth) area_length old new → Shows pack old
     → SameView pack.base old new × Shows pack new × IsSound (area_at other) pack.group pack.site new
 one_kept nth other pack old new base are apart torn shows =
     let agree : AgreeOn pack.base old new = subst (λ (b : ℕ). AgreeOn b old new) (sym base) (other_area nth other old new apart torn) in

@@ -1,17 +1,15 @@
 -- The copy that the fields of a slot spell is what the slot says.
-use Rattle.std.proofs.Common.{◌≡◌, inl, inr, ℕ, zero, suc, ◌+◌, ◌-◌, ◌*◌, ◌^◌, ◌<◌, ◌≤◌, List, [], ◌∷◌, ◌++◌, length, drop, get_or, refl, sym, ap, subst, ◌∙◌, arith}
+use Rattle.std.proofs.Common.{◌≡◌, inl, inr, ℕ, zero, suc, ◌+◌, ◌*◌, ◌^◌, ◌<◌, List, [], ◌∷◌, length, get_or, refl, ap, ◌∙◌, arith}
 use Rattle.std.specs.List.{flat_map}
-use Rattle.std.specs.Int.{w16, w32, to_be_bytes, byte_at}
+use Rattle.std.specs.Int.{w32, to_be_bytes, byte_at}
 use Rattle.locus_ids.specs.declared.ids.Kind.{Kind}
 use Rattle.locus_ids.specs.declared.ids.Kind.TheVariants.{File, Dir}
 use Rattle.pack_layout.specs.declared.slot.Slot.{Slot}
 use Rattle.pack_layout.specs.Layout.{kind_number, IsStamp, AgreesWith}
 use Rattle.inode_switch.specs.Slots.{field_bytes}
 use Rattle.inode_switch.specs.View.{Version}
-use Rattle.role_steps.specs.Views.{file_key}
 use Rattle.role_steps.specs.Storage.{copy_key}
-use Rattle.role_steps.specs.declared.copies.FileCopy.{FileCopy}
-use Rattle.site_packs.specs.Copies.{kind_in, number16, number32, counters_in, copy_in}
+use Rattle.site_packs.specs.Copies.{kind_in, counters_in, copy_in}
 
 kind_back : (k : Kind) → kind_in (kind_number k) ≡ k
 kind_back File = refl

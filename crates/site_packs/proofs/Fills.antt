@@ -1,10 +1,10 @@
 -- A content whose unmarked pages are those of the copy so far is what storing its marked pages makes.
-use Rattle.std.proofs.Common.{◌≡◌, ◌≢◌, ⊎_elim, ℕ, zero, suc, ◌+◌, ◌-◌, ◌*◌, ◌/◌, ◌%◌, ◌≤◌, ◌<◌, Bool, true, false, cond, List, [], ◌∷◌, ◌++◌, length, take, drop, get_or, Option, None, Some, refl, sym, ap, subst, ◌∙◌, arith, length-take, length-drop}
+use Rattle.std.proofs.Common.{◌≡◌, ℕ, zero, suc, ◌+◌, ◌*◌, ◌/◌, ◌%◌, ◌≤◌, ◌<◌, Bool, true, false, cond, List, [], length, drop, get_or, Option, None, Some, refl, sym, ap, subst, ◌∙◌, arith, length-take, length-drop}
 use Rattle.std.specs.Prelude.{is_some, slice_get, replicate, if◌then◌else◌}
-use Rattle.std.proofs.lemmas.Bool.{cases_Bool, cases_lt, lt-ltb, false≢true}
+use Rattle.std.proofs.lemmas.Bool.{lt-ltb, false≢true}
 use Rattle.std.proofs.lemmas.List.{same_lists, get_or_default, get_or-take, get_or-drop}
 use Rattle.file_content.specs.Pages.{pages_of, page_of}
-use Rattle.shadow_pages.specs.Working.{Working, page_at as shadow_page, byte_in, byte_at, content, count_below}
+use Rattle.shadow_pages.specs.Working.{byte_in, byte_at, content, count_below}
 use Rattle.shadow_pages.proofs.Bytes.{length_below, below_at}
 use Rattle.inode_switch.specs.View.{Version, view}
 use Rattle.inode_pack.specs.declared.inode_copy.InodeCopy.{InodeCopy}

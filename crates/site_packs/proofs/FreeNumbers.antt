@@ -1,11 +1,10 @@
 -- Which numbers are free.
-use Rattle.std.proofs.Common.{◌≡◌, ℕ, zero, suc, ◌+◌, ◌-◌, ◌*◌, ◌≤◌, ◌<◌, Bool, true, false, cond, List, [], ◌∷◌, ◌++◌, Option, None, Some, refl, sym, ap, subst, ◌∙◌, arith}
-use Rattle.std.specs.Prelude.{map, is_some, ◌==◌, ◌||◌, ◌&&◌}
+use Rattle.std.proofs.Common.{◌≡◌, ℕ, zero, suc, ◌+◌, ◌-◌, ◌*◌, ◌≤◌, ◌<◌, Bool, true, false, cond, List, [], ◌∷◌, ◌++◌, Option, None, Some, refl, sym, ap, ◌∙◌, arith}
+use Rattle.std.specs.Prelude.{is_some, ◌==◌, ◌||◌, ◌&&◌}
 use Rattle.std.specs.List.{list_any}
 use Rattle.std.specs.Option.{option_map}
 use Rattle.std.proofs.lemmas.Bool.Decides.{nat_tests}
 use Rattle.pack_layout.specs.Layout.{area_at}
-use Rattle.pack_layout.specs.declared.slot.Slot.{Slot}
 use Rattle.inode_switch.specs.View.{Version, view}
 use Rattle.inode_pack.specs.Pack.{PackState}
 use Rattle.wire_messages.specs.declared.body.ReportedCopy.{ReportedCopy}
@@ -13,9 +12,9 @@ use Rattle.role_steps.specs.Tables.{row}
 use Rattle.role_steps.specs.Views.{Store}
 use Rattle.role_steps.specs.Storage.{copy_key, reported, is_held, is_used, is_making, next_ino}
 use Rattle.role_steps.specs.declared.copies.FileCopy.{FileCopy}
-use Rattle.site_packs.specs.Copies.{copy_in, with_version, copies_from, copies_in, copies_behind, copies_on}
-use Rattle.site_packs.specs.Packs.{PacksState, pack_group, pack_in, slot_held, slot_reported, ArePacks, AreShown, AreMaking, groups_of, is_taken, free_ino}
-use Rattle.site_packs.proofs.Fields.{group_of, ino_of}
+use Rattle.site_packs.specs.Copies.{with_version, copies_from, copies_in, copies_behind, copies_on}
+use Rattle.site_packs.specs.Packs.{PacksState, pack_in, slot_held, slot_reported, ArePacks, AreShown, AreMaking, groups_of, is_taken, free_ino}
+use Rattle.site_packs.proofs.Fields.{ino_of}
 use Rattle.site_packs.proofs.Reports.{head_is}
 
 -- each inode's number is a small one

@@ -11,3 +11,6 @@ pub mod Stored
 pub mod Marks
 pub mod Fills
 pub mod Mounts
+pub mod Cutting
+pub mod NewPacks
+pub mod Formatted

@@ -1,10 +1,9 @@
 -- Marking pages one by one.
-use Rattle.std.proofs.Common.{◌≡◌, ◌≢◌, ⊎_elim, ℕ, zero, suc, ◌+◌, ◌-◌, ◌*◌, ◌/◌, ◌%◌, ◌≤◌, ◌<◌, ◌==◌, Bool, true, false, List, [], ◌∷◌, ◌++◌, length, take, drop, get_or, set, replicate, Option, None, Some, refl, sym, ap, subst, ◌∙◌, arith, length-append, length-take, length-drop, cond}
+use Rattle.std.proofs.Common.{◌≡◌, ◌≢◌, ⊎_elim, ℕ, zero, suc, ◌+◌, ◌≤◌, ◌<◌, ◌==◌, Bool, true, false, List, [], ◌∷◌, ◌++◌, length, take, get_or, replicate, refl, sym, ap, subst, ◌∙◌, arith, length-append, length-take}
 use Rattle.std.specs.Prelude.{slice_set, ◌||◌, if◌then◌else◌}
-use Rattle.std.specs.List.{list_any}
 use Rattle.std.proofs.lemmas.Bool.{cases_eq, cases_lt, cases_Bool, eqb-true, eq-eqb, false≢true}
 use Rattle.std.proofs.lemmas.Bool.Decides.{nat_tests}
-use Rattle.std.proofs.lemmas.List.{get_or_append_left, get_or_at, get_or_past, get_or-take, take_all, take_more}
+use Rattle.std.proofs.lemmas.List.{get_or_append_left, get_or_at, get_or-take, take_all, take_more}
 use Rattle.file_content.specs.Pages.{has_page}
 use Rattle.shadow_pages.specs.Working.{count_below}
 use Rattle.inode_pack.specs.Marked.{is_marked}

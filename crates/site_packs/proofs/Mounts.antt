@@ -1,27 +1,26 @@
 -- How the packs of a site are mounted one behind the other.
-use Rattle.std.proofs.Common.{◌≡◌, ◌≢◌, ◌⊎◌, inl, inr, ⊎_elim, ℕ, zero, suc, ◌+◌, ◌-◌, ◌*◌, ◌≤◌, ◌<◌, Bool, true, false, cond, List, [], ◌∷◌, ◌++◌, length, take, drop, get_or, Option, None, Some, refl, sym, ap, subst, ◌∙◌, arith, append_assoc}
-use Rattle.std.specs.Prelude.{◌==◌, map, filter, Result, Ok, Err, IfErr, IsErrAnd}
+use Rattle.std.proofs.Common.{◌≡◌, inl, inr, ⊎_elim, ℕ, suc, ◌+◌, ◌-◌, ◌*◌, ◌≤◌, ◌<◌, Bool, true, false, cond, List, [], ◌∷◌, ◌++◌, length, take, drop, get_or, refl, sym, ap, subst, ◌∙◌, arith, append_assoc}
+use Rattle.std.specs.Prelude.{◌==◌, filter, Result, Ok, Err, IfErr, IsErrAnd}
 use Rattle.std.proofs.lemmas.Bool.{cases_lt, eqb-true, eq-eqb, false≢true}
 use Rattle.std.proofs.lemmas.List.{take_all, append-nil}
 use Rattle.locus_ids.specs.Sites.{has}
 use Rattle.locus_ids.specs.declared.config.Config.{Config}
-use Rattle.disk_model.specs.Images.{Torn, is_within}
+use Rattle.disk_model.specs.Images.{Torn}
 use Rattle.pack_layout.specs.Layout.{area_length, area_at}
 use Rattle.gate_switch.proofs.Tearing.{torn_widens, torn_stays, torn_joins, is_outside}
-use Rattle.inode_switch.specs.View.{view, SameView}
 use Rattle.inode_pack.specs.declared.mount_fault.MountFault.{MountFault}
 use Rattle.inode_pack.specs.declared.mount_fault.MountFault.TheVariants.{Disk, NotAPack, BadSlot, SharedPage, NoMemory}
-use Rattle.inode_pack.specs.Pack.{PackState, AreCopies, Shows, Stands}
+use Rattle.inode_pack.specs.Pack.{PackState, AreCopies, Stands}
 use Rattle.disk_model.specs.Disk.{Moment, IsSettled, Passing}
 use Rattle.disk_model.specs.Moments.{TellsMany}
 use Rattle.disk_model.specs.declared.disk.DiskFault.{DiskFault}
 use Rattle.disk_model.specs.declared.disk.DiskFault.TheVariants.{Failed}
 use Rattle.disk_model.proofs.Tells.{tells_join}
-use Rattle.inode_pack.specs.Mounting.{IsSound, IsCause as IsCauseOfPack, IsPassing, KeepsPack, losing_gates}
+use Rattle.inode_pack.specs.Mounting.{IsSound, IsPassing, KeepsPack, losing_gates}
 use Rattle.inode_pack.proofs.Mounted.{mounts}
 use Rattle.role_steps.specs.Views.{pack_sites, all_groups}
 use Rattle.site_packs.specs.Copies.{copies_behind}
-use Rattle.site_packs.specs.Packs.{pack_group, groups_at, ArePacks, AreShown}
+use Rattle.site_packs.specs.Packs.{groups_at}
 use Rattle.site_packs.specs.Mounting.{AreSoundBehind, IsFirstCause, IsCauseBehind, AreGroups, AreKept, LeavesPacks, KeepsCopies, AreMounted, TellsMount, gates_behind}
 use Rattle.site_packs.proofs.Areas.{AgreeOn, other_area, view_same, sound_same, cause_same, shows_same, agree_back, gates_same}
 use Rattle.site_packs.proofs.Behind.{pack_same}
@@ -82,10 +81,10 @@ kept_since nth site (group ∷ groups) a b c agree sound kept = (
   kept_since (nth + 1) site groups a b c (λ m le. agree m (omega arith)) sound.1 kept.2,
 )
 
-widen_first : (nth count : ℕ) (a b : List ℕ) → Torn (area_at nth) area_length a b → Torn (area_at nth) (area_length * suc count) a b
+pub widen_first : (nth count : ℕ) (a b : List ℕ) → Torn (area_at nth) area_length a b → Torn (area_at nth) (area_length * suc count) a b
 widen_first nth count a b torn = torn_widens (area_at nth) area_length (area_at nth) (area_length * suc count) (omega arith) (omega arith) a b torn
 
-widen_rest : (nth count : ℕ) (a b : List ℕ) → Torn (area_at (nth + 1)) (area_length * count) a b → Torn (area_at nth) (area_length * suc count) a b
+pub widen_rest : (nth count : ℕ) (a b : List ℕ) → Torn (area_at (nth + 1)) (area_length * count) a b → Torn (area_at nth) (area_length * suc count) a b
 widen_rest nth count a b torn = torn_widens (area_at (nth + 1)) (area_length * count) (area_at nth) (area_length * suc count) (omega arith) (omega arith) a b torn
 
 -- within the mount of the first pack

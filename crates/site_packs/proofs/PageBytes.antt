@@ -1,9 +1,9 @@
 -- The bytes that a page of a content begins with.
-use Rattle.std.proofs.Common.{◌≡◌, ℕ, ◌+◌, ◌-◌, ◌*◌, ◌/◌, ◌≤◌, ◌<◌, List, [], ◌∷◌, ◌++◌, length, take, drop, get_or, Option, None, Some, refl, sym, ap, subst, ◌∙◌, arith, length-take, length-drop}
+use Rattle.std.proofs.Common.{◌≡◌, ℕ, ◌+◌, ◌-◌, ◌*◌, ◌≤◌, ◌<◌, List, [], ◌∷◌, ◌++◌, length, take, drop, refl, sym, ap, ◌∙◌, arith, length-take, length-drop}
 use Rattle.std.specs.Prelude.{min}
-use Rattle.std.proofs.lemmas.List.{same_lists, get_or_default, get_or-take, get_or-drop, take_all, take-take, drop-take, take-append-drop}
-use Rattle.file_content.specs.Pages.{pages_of, page_of}
-use Rattle.inode_switch.specs.View.{Version, view}
+use Rattle.std.proofs.lemmas.List.{same_lists, get_or_default, get_or-take, get_or-drop, take-take, drop-take, take-append-drop}
+use Rattle.file_content.specs.Pages.{page_of}
+use Rattle.inode_switch.specs.View.{view}
 use Rattle.inode_pack.specs.Pack.{PackState, IsPageOf}
 use Rattle.inode_pack.specs.Committing.{content_of}
 use Rattle.site_packs.specs.Reading.{HasContent}

@@ -1,6 +1,6 @@
 -- What slots say of the copies of a site, as it is reported.
-use Rattle.std.proofs.Common.{◌≡◌, ◌≢◌, ◌⊎◌, inl, inr, ⊎_elim, ℕ, zero, suc, ◌+◌, ◌*◌, ◌≤◌, ◌<◌, Bool, true, false, cond, List, [], ◌∷◌, ◌++◌, length, take, get_or, Option, None, Some, refl, sym, ap, subst, ◌∙◌, arith, length-append, length-take, append_assoc}
-use Rattle.std.specs.Prelude.{map, slice_get, is_some, ◌==◌, IfSome}
+use Rattle.std.proofs.Common.{◌≡◌, ◌≢◌, ◌⊎◌, inl, inr, ⊎_elim, ℕ, zero, suc, ◌+◌, ◌*◌, ◌≤◌, ◌<◌, Bool, true, false, cond, List, [], ◌∷◌, ◌++◌, length, take, get_or, Option, None, Some, refl, sym, ap, subst, ◌∙◌, arith, length-append, length-take}
+use Rattle.std.specs.Prelude.{map, slice_get, ◌==◌, IfSome}
 use Rattle.std.specs.Option.{option_map}
 use Rattle.std.proofs.lemmas.Bool.{cases_lt, eqb-true, eq-eqb, false≢true}
 use Rattle.std.proofs.lemmas.Bool.Decides.{nat_tests}
@@ -17,9 +17,9 @@ use Rattle.role_steps.specs.Tables.{row, total}
 use Rattle.role_steps.specs.Storage.{copy_key, copy_pages, reported, report_of}
 use Rattle.role_steps.specs.declared.copies.FileCopy.{FileCopy}
 use Rattle.site_packs.specs.Copies.{copy_in, with_version, copies_from, copies_in, copies_behind}
-use Rattle.site_packs.specs.Packs.{PacksState, pack_group, pack_in, slot_in, slot_held, slot_reported, slots_reported, slots_from, pack_reported, IsPackAt, ArePacks, AreShown, copy_at}
+use Rattle.site_packs.specs.Packs.{PacksState, pack_group, pack_in, slot_in, slot_held, slot_reported, slots_reported, slots_from, pack_reported, ArePacks, AreShown, copy_at}
 use Rattle.site_packs.proofs.Fields.{group_of, content_of_copy}
-use Rattle.site_packs.proofs.Seen.{Held, held_none, held_some, reported_here}
+use Rattle.site_packs.proofs.Seen.{held_none, held_some, reported_here}
 use Rattle.site_packs.proofs.Behind.{PackHere, pack_here, pack_row, pack_no_row, found_in, behind_found, pack_place}
 
 -- ---- the pack of a group ----

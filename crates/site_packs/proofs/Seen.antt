@@ -1,5 +1,5 @@
 -- What the view has of the inodes of a pack that an image shows.
-use Rattle.std.proofs.Common.{◌≡◌, ℕ, ◌+◌, ◌*◌, ◌≤◌, ◌<◌, false, List, length, Option, None, Some, refl, sym, ap, subst, ◌∙◌, arith}
+use Rattle.std.proofs.Common.{◌≡◌, ℕ, ◌≤◌, false, List, length, Option, None, Some, refl, ap, subst, ◌∙◌}
 use Rattle.std.specs.Prelude.{IfSome}
 use Rattle.std.specs.Option.{option_map}
 use Rattle.pack_layout.specs.declared.slot.Slot.{Slot}
@@ -10,9 +10,8 @@ use Rattle.inode_switch.proofs.SlotBytes.{says}
 use Rattle.inode_switch.proofs.VersionBytes.{content_length}
 use Rattle.inode_pack.specs.declared.inode_copy.InodeCopy.{InodeCopy}
 use Rattle.inode_pack.specs.Pack.{PackState, AreCopies, Shows, ShowsCopy, IsCopy, copy_of}
-use Rattle.inode_pack.specs.Slots.{IsFound, IsRecovered}
+use Rattle.inode_pack.specs.Slots.{IsFound}
 use Rattle.inode_pack.proofs.Counting.{found_counts}
-use Rattle.wire_messages.specs.declared.body.ReportedCopy.{ReportedCopy}
 use Rattle.role_steps.specs.Storage.{reported}
 use Rattle.role_steps.specs.declared.copies.FileCopy.{FileCopy}
 use Rattle.site_packs.specs.Copies.{copy_in}

@@ -1,5 +1,5 @@
 -- What storing a version in one pack makes of the copies of the site.
-use Rattle.std.proofs.Common.{◌≡◌, ◌≢◌, ◌⊎◌, inl, inr, ⊎_elim, ℕ, zero, suc, ◌+◌, ◌-◌, ◌*◌, ◌≤◌, ◌<◌, Bool, List, [], ◌∷◌, length, Option, None, Some, refl, sym, ap, subst, ◌∙◌, arith, cond}
+use Rattle.std.proofs.Common.{◌≡◌, inl, inr, ⊎_elim, ℕ, zero, suc, ◌+◌, ◌*◌, ◌≤◌, ◌<◌, Bool, true, false, List, [], ◌∷◌, length, Option, None, Some, refl, sym, ap, subst, ◌∙◌, arith, cond}
 use Rattle.std.specs.Prelude.{OnOk, OnErr, IfErr, map, slice_get, slice_set, is_some, ◌^◌, Result, Ok, Err, if◌then◌else◌}
 use Rattle.std.specs.Option.{option_map}
 use Rattle.locus_ids.specs.declared.ids.FileId.{FileId}
@@ -12,21 +12,27 @@ use Rattle.inode_pack.proofs.Leaving.{shows_sound}
 use Rattle.site_packs.specs.Mounting.{AreSoundBehind}
 use Rattle.shadow_pages.specs.Working.{Working, content}
 use Rattle.disk_model.specs.Disk.{Moment}
-use Rattle.inode_switch.specs.View.{Version, view, Replaced, IsOldOrNew}
+use Rattle.inode_switch.specs.View.{Version, view, Replaced}
 use Rattle.inode_pack.specs.declared.inode_copy.InodeCopy.{InodeCopy}
 use Rattle.inode_pack.specs.declared.new_version.NewVersion.{NewVersion}
 use Rattle.inode_pack.specs.declared.pack_fault.PackFault.{PackFault}
 use Rattle.inode_pack.specs.declared.pack_fault.PackFault.TheVariants as pack_says
 use Rattle.inode_pack.specs.Pack.{PackState, AreCopies, Stands, copy_of, named_pages}
 use Rattle.inode_pack.specs.Marked.{marked}
-use Rattle.inode_pack.specs.Committing.{IsVersion, Commits, new_version, content_of, needed, commit_calls, MayBeLeft as MayBeLeftIn}
-use Rattle.role_steps.specs.Tables.{with_row, total}
-use Rattle.role_steps.specs.Storage.{copy_key, copy_pages}
+use Rattle.inode_pack.specs.Committing.{IsVersion, Commits, new_version, content_of, commit_calls, commit_answer as pack_answer, MayBeLeft as MayBeLeftIn}
+use Rattle.role_steps.specs.Tables.{with_row}
+use Rattle.role_steps.specs.Storage.{copy_key}
 use Rattle.role_steps.specs.declared.copies.FileCopy.{FileCopy}
 use Rattle.site_packs.specs.Copies.{copy_in, copies_on}
-use Rattle.site_packs.specs.Packs.{PacksState, Stand, groups_of, pack_group, pack_in, slot_held, slot_in, ArePacks, AreShown, copy_at}
+use Rattle.site_packs.specs.Packs.{PacksState, Stand, groups_of, pack_group, pack_in, ArePacks, AreShown, copy_at}
 use Rattle.site_packs.specs.Committing.{MayBeLeft, copy_made, room, store_calls}
 use Rattle.site_packs.specs.Marking.{Fills}
+use Rattle.disk_model.specs.Cut.{Cut}
+use Rattle.gate_switch.specs.Gates.{new_gate}
+use Rattle.inode_switch.specs.Cutting.{IsViewBy}
+use Rattle.inode_pack.specs.Cutting.{IsCutCommit, are_both_open}
+use Rattle.site_packs.specs.Cutting.{IsCut, both_open_on, file_in}
+use Rattle.site_packs.proofs.Cutting.{both_but, none_shown}
 use Rattle.site_packs.proofs.Fields.{spelled, stamp_fits}
 use Rattle.site_packs.proofs.Behind.{PackHere, pack_here, set_packs, all_same_but, behind_same, behind_replaced, sound_but}
 use Rattle.site_packs.proofs.Reports.{PackFound, found_pack, pages_total, pages_named}
@@ -86,6 +92,10 @@ module _ (p : PacksState) (old : List ℕ) (at : ℕ) (file : FileId) (pack : Pa
         outside = torn_widens pack.base area_length 1024 (area_length * length (groups_of p)) (omega arith) (omega arith) old new may.outside;
       }
 
+  copies_by : (new : List ℕ) → MayBeLeftIn pack file.ino version_made old new → (b : Bool) → IsViewBy b pack.base file.ino version_made old new → copies_on (groups_of p) new ≡ cond b (with_row copy_key copy (copies_on (groups_of p) old)) (copies_on (groups_of p) old)
+  copies_by new may true by = replaced new may.outside by
+  copies_by new may false same = behind_same 0 0 p.site p.packs old new are (all_same_but 0 0 p.site at p.packs pack old new are place shown (torn_here new may.outside) same)
+
   -- the room of the pack
   pub room_is : (free : ℕ) → free + length (named_pages pack.copies) ≡ 3072 → room p old file.group ≡ free
   room_is free sum =
@@ -104,6 +114,15 @@ module _ (p : PacksState) (old : List ℕ) (at : ℕ) (file : FileId) (pack : Pa
   -- the inode has a copy where the site has one of the file
   pub had_copy : is_some (copy_of pack.copies file.ino) ≡ is_some (copy_at p old file)
   had_copy = sym (ap (λ (o : Option FileCopy). is_some o) (copy_found p old file are shown (omega arith) pack is low high) ∙ some_made file.group file.ino (view old pack.base file.ino) ∙ had (copy_of pack.copies file.ino) refl)
+
+  -- what is left of a write that was cut off
+  pub cut_left : (pages : ℕ) (how : Cut) (passed : ℕ) (new : List ℕ) → IsCutCommit pack file.ino (new_version pack.base file.ino given (marked bytes marks) old) pages how passed old new → IsCut p (copy_made file given bytes) pages how passed old new
+  cut_left pages how passed new cut = record {
+    left = left new cut.left;
+    copies = copies_by new cut.left (new_gate pages how passed) cut.view;
+    both = both_but 0 0 p.site at p.packs pack old new are place shown (torn_here new cut.left.outside) file.ino (are_both_open (is_some (copy_of pack.copies file.ino)) pages how passed) cut.both
+        ∙ (λ i. cond (are_both_open (had_copy i) pages how passed) (file_in (found.own i) file.ino ∷ []) []);
+  }
 
 calls_are : (pages : ℕ) (o : Option InodeCopy) (q : Option FileCopy) → is_some o ≡ is_some q → pages + (if is_some o then 6 else 4) ≡ pages + (4 + cond (is_some q) 2 0)
 calls_are pages None None e = omega arith
@@ -175,6 +194,16 @@ stand_packs p site at pack made ino given w old moment (Ok x) are is shown torn 
     record { settled = stands.settled; shown = all.1 }
 stand_packs p site at pack made ino given w old moment (Err x) are is shown torn good commits stands = tt
 
+-- and then no file has both gates open
+pub none_after : {T : Type 0} (p : PacksState) (at : ℕ) (pack made : PackState) (ino : ℕ) (given : NewVersion) (w : Working) (old : List ℕ) (moment : Moment) (result : Result T PackFault) → ArePacks 0 0 p.site p.packs → slice_get p.packs at ≡ Some pack → AreShown p.packs old
+    → Torn pack.base area_length old moment.seen → AreCopies made.copies → OnOk result (Commits pack ino given w made) → OnOk result (Stands made moment) → OnOk result (both_open_on (groups_of p) moment.seen ≡ [])
+none_after p at pack made ino given w old moment (Ok x) are is shown torn good commits stands =
+    let same = by_result {T = Unit {0}} pack made ino given w (Ok tt) tt commits in
+    let base = (pack_here 0 0 p.site at p.packs pack are is).base in
+    let all = set_packs 0 0 p.site at p.packs pack made old moment.seen are is shown (subst (λ (b : ℕ). Torn b area_length old moment.seen) base torn) (record { shows = stands.shows; base = same.base; site = same.site; group = same.group; copies = good }) in
+    ap (λ (l : List ℕ). both_open_on l moment.seen) (sym all.2) ∙ none_shown 0 0 p.site (slice_set p.packs at made) moment.seen all.0 all.1
+none_after p at pack made ino given w old moment (Err x) are is shown torn good commits stands = tt
+
 pub kept_packs : {T : Type 0} (site : ℕ) (p : PacksState) (packs : List PackState) (at : ℕ) (pack made : PackState) (result : Result T PackFault) → site ≡ p.site → packs ≡ p.packs → slice_get p.packs at ≡ Some pack → OnErr result (made ≡ pack)
     → OnErr result (◌≡◌ {A = PacksState} (record { site = site; packs = slice_set packs at made }) p)
 kept_packs site p packs at pack made (Ok x) own same is kept = tt
@@ -209,3 +238,9 @@ stays p x image are shown = record {
   sound = sound_shown 0 0 p.site p.packs image are shown;
   outside = torn_stays 1024 (area_length * length (groups_of p)) image;
 }
+
+-- what holds where the disk of a pack failed
+pub on_commit : {T : Type 0} (result : Result T PackFault) (A B : Type 0) → (A → B) → OnErr (pack_answer result) A → OnErr (pack_answer result) B
+on_commit (Ok x) A B f a = a
+on_commit (Err pack_says.Disk) A B f a = f a
+on_commit (Err (pack_says.NoSpace more free)) A B f a = a

@@ -1,5 +1,5 @@
 -- What a commit makes of the copies of a site, when it is refused, and what a crash within it leaves.
-use Rattle.std.specs.Prelude.{◌≡◌, ◌≢◌, ◌⊎◌, ℕ, ◌+◌, ◌-◌, ◌*◌, ◌<◌, ◌≤◌, Bool, true, false, cond, List, take, length, slice_index, Option, None, Some, is_some, Result, Ok, Err}
+use Rattle.std.specs.Prelude.{◌≡◌, ◌≢◌, ◌⊎◌, ℕ, ◌+◌, ◌-◌, ◌*◌, ◌<◌, ◌≤◌, Bool, true, false, cond, List, take, length, slice_index, Option, is_some, Result, Ok, Err}
 use Rattle.locus_ids.specs.declared.ids.FileId.{FileId}
 use Rattle.disk_model.specs.declared.disk.DiskFault.{DiskFault}
 use Rattle.disk_model.specs.declared.disk.DiskFault.TheVariants.{Failed}
@@ -14,7 +14,7 @@ use Rattle.role_steps.specs.Tables.{with_row, total}
 use Rattle.role_steps.specs.Storage.{copy_key, copy_pages, content_of, pack_pages}
 use Rattle.role_steps.specs.declared.copies.FileCopy.{FileCopy}
 use Rattle.site_packs.specs.declared.faults.CommitFault.{CommitFault}
-use Rattle.site_packs.specs.declared.faults.CommitFault.TheVariants.{Disk, NoSpace, Unfit}
+use Rattle.site_packs.specs.declared.faults.CommitFault.TheVariants.{Disk, Cut, NoSpace, Unfit}
 use Rattle.site_packs.specs.declared.faults.ReadFault.{ReadFault}
 use Rattle.site_packs.specs.declared.faults.ReadFault.TheVariants as read
 use Rattle.site_packs.specs.Copies.{copies_on}
@@ -66,6 +66,7 @@ calls_of pages had_older = pages + (4 + cond had_older 2 0)
 abbrev pub commit_calls : {T : Type 0} → ℕ → Bool → Result T CommitFault → ℕ
 commit_calls pages had_older (Ok done) = calls_of pages had_older
 commit_calls pages had_older (Err Disk) = calls_of pages had_older
+commit_calls pages had_older (Err (Cut size)) = calls_of pages had_older
 commit_calls pages had_older (Err NoSpace) = 0
 commit_calls pages had_older (Err Unfit) = 0
 
@@ -79,6 +80,7 @@ store_calls pages old (Err (pack.NoSpace more free)) = 0
 abbrev pub commit_answer : {T : Type 0} → Result T CommitFault → Result (Unit {0}) DiskFault
 commit_answer (Ok done) = Ok tt
 commit_answer (Err Disk) = Err Failed
+commit_answer (Err (Cut size)) = Err Failed
 commit_answer (Err NoSpace) = Ok tt
 commit_answer (Err Unfit) = Ok tt
 

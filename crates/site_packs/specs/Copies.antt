@@ -1,6 +1,5 @@
 -- The copies of files that an image of a disk holds: what each inode of each pack of the site has there.
 use Rattle.std.specs.Prelude.{ℕ, zero, suc, ◌+◌, ◌*◌, ◌==◌, cond, List, [], ◌∷◌, ◌++◌, drop, slice_index, Option, None, Some}
-use Rattle.locus_ids.specs.declared.ids.FileId.{FileId}
 use Rattle.locus_ids.specs.declared.ids.Kind.{Kind}
 use Rattle.locus_ids.specs.declared.ids.Kind.TheVariants as kind
 use Rattle.pack_layout.specs.Layout.{area_at}

@@ -5,3 +5,5 @@ pub mod Mounting
 pub mod Committing
 pub mod Marking
 pub mod Planning
+pub mod Cutting
+pub mod Formatting

@@ -1,5 +1,5 @@
 -- Which pages of a content are marked as new.
-use Rattle.std.specs.Prelude.{◌≡◌, ℕ, ◌<◌, ◌≤◌, Bool, true, false, List, length, Option, None, Some}
+use Rattle.std.specs.Prelude.{◌≡◌, ℕ, ◌<◌, Bool, true, false, List, length, Option, None, Some}
 use Rattle.file_content.specs.Pages.{pages_of, has_page}
 use Rattle.shadow_pages.specs.Working.{content, count_below}
 use Rattle.inode_switch.specs.View.{view}

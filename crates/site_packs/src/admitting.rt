@@ -1,10 +1,11 @@
 // Whether a commit of a version may be carried out.
-ghost use Rattle.std.specs.Prelude.{◌≡◌, ◌↔◌, ◌<◌, length, Err, IfOk};
+ghost use Rattle.std.specs.Prelude.{◌≡◌, ◌↔◌, ◌<◌, ℕ, Bool, length, Err, IfOk, IfErr};
 ghost use Rattle.disk_model.specs.Disk.{Goes, HasCause, TellsRead};
 ghost use Rattle.disk_model.specs.Images.{Same};
 ghost use Rattle.site_packs.specs.declared.faults.CommitFault.TheVariants.{NoSpace, Unfit};
 ghost use Rattle.site_packs.specs.Packs.{Stand};
 ghost use Rattle.site_packs.specs.Committing.{IsFit, room, commit_answer};
+ghost use Rattle.site_packs.specs.Cutting.{HasSize};
 ghost use Rattle.site_packs.specs.Planning.{IsAdmitted};
 
 use crate::marking::marks_of;
@@ -35,11 +36,13 @@ impl SitePacks {
         ensures unfit { result ≡ Err Unfit → IsFit self.now (D.moment disk.old).seen file version.now content.now changed.now → ⊥ }
         ensures no_space { (result ≡ Err NoSpace) ↔ (room self.now (D.moment disk.old).seen file.group < length changed.now) }
         ensures early { result ≡ Err NoSpace → disk.new ≡ disk.old }
+        ensures unwritten { IfErr result (λ fault. (pages : ℕ) (replaces : Bool) → HasSize pages replaces fault) }
         ensures seen { (D.moment disk.new).seen ≡ (D.moment disk.old).seen }
         ensures stands { Stand self.now (D.moment disk.new) }
         ensures crash { Goes Same (D.moment disk.old) (D.moment disk.new) }
         ensures cause { HasCause (D.moment disk.old).faults (D.moment disk.new).faults (commit_answer result) }
         ensures tells { TellsRead (D.moment disk.old).passing (D.moment disk.new).passing (commit_answer result) }
+        ensures how { (D.moment disk.new).how ≡ (D.moment disk.old).how }
     {
         if changed.len() > usize::from(self.free_pages(file.group)) {
             return Err(CommitFault::NoSpace);

@@ -1,24 +1,26 @@
 // A version is committed or adopted, wholly or not at all.
-ghost use Rattle.std.specs.Prelude.{◌≡◌, ◌↔◌, ◌⊎◌, ◌<◌, length, is_some, Err, OnOk, OnErr};
-ghost use Rattle.disk_model.specs.Disk.{HasCause};
+ghost use Rattle.std.specs.Prelude.{◌≡◌, ◌↔◌, ◌⊎◌, ◌<◌, ℕ, [], length, is_some, Err, OnOk, OnErr, IfErr};
+ghost use Rattle.disk_model.specs.Disk.{HasCause, Exactly};
 ghost use Rattle.disk_model.specs.Moments.{LeavesOnly, TellsMany};
 ghost use Rattle.file_content.specs.Pages.{pages_of};
 ghost use Rattle.role_steps.specs.Tables.{with_row};
 ghost use Rattle.role_steps.specs.Storage.{copy_key};
-ghost use Rattle.site_packs.specs.declared.faults.CommitFault.TheVariants.{NoSpace, Unfit};
+ghost use Rattle.site_packs.specs.declared.faults.CommitFault.TheVariants.{Disk, NoSpace, Unfit};
 ghost use Rattle.site_packs.specs.Copies.{copies_on};
 ghost use Rattle.site_packs.specs.Packs.{Stand, SamePlaces, groups_of, copy_at};
 ghost use Rattle.site_packs.specs.Committing.{IsFit, IsWholeFit, MayBeLeft, copy_made, room, commit_calls, commit_answer};
+ghost use Rattle.site_packs.specs.Cutting.{both_open_on, IsCut, HasSize};
 
-use crate::{CommitFault, NewVersion, SitePacks};
+use crate::{CommitFault, NewVersion, SitePacks, WriteSize};
 use disk_model::Disk;
 use locus_ids::FileId;
 
 impl SitePacks {
     /// Commits a version of a file. The pages of its content that were changed are written, `changed` having the number of each;
     /// the others are compared with those of the copy so far. `NoSpace` comes exactly where more pages were changed than are
-    /// free, and before any call of the disk; `Unfit` exactly where the copy may not be kept so, and before any write. After
-    /// `Disk` the packs must be mounted again, and have the old copy or the new one.
+    /// free, and before any call of the disk; `Unfit` exactly where the copy may not be kept so, and before any write;
+    /// `Disk` where a read failed, before any write. After `Cut` the packs must be mounted again, and have the old copy or the
+    /// new one.
     pub fn commit<D: Disk>(
         &mut self,
         disk: &mut D,
@@ -47,8 +49,18 @@ impl SitePacks {
         // The disk fails only where its count rose, and where it tells how many calls pass, exactly where they are too few.
         ensures cause { HasCause (D.moment disk.old).faults (D.moment disk.new).faults (commit_answer result) }
         ensures tells { TellsMany (commit_calls (length changed.now) (is_some (copy_at self.old (D.moment disk.old).seen file)) result) (D.moment disk.old).passing (D.moment disk.new).passing (commit_answer result) }
+
+        // Where it tells so, a crash as it cuts off the write leaves just this.
+        ensures none { OnOk result (both_open_on (groups_of self.old) (D.moment disk.new).seen ≡ []) }
+        ensures size { IfErr result (λ fault. HasSize (length changed.now) (is_some (copy_at self.old (D.moment disk.old).seen file)) fault) }
+        ensures unread { result ≡ Err Disk → ((D.moment disk.new).seen ≡ (D.moment disk.old).seen) × Stand self.new (D.moment disk.new) }
+        ensures told { (passed : ℕ) → (D.moment disk.old).passing ≡ Exactly passed → result ≡ Err Disk → ⊥ }
+        ensures how { (D.moment disk.new).how ≡ (D.moment disk.old).how }
+        ensures cut { (passed : ℕ) → (D.moment disk.old).passing ≡ Exactly passed → OnErr (commit_answer result)
+            (IsCut self.old (copy_made file version.now content.now) (length changed.now) (D.moment disk.old).how passed (D.moment disk.old).seen (D.moment disk.new).left) }
     {
         let _invariant = &self.site;
+        let replaces = self.head(file).is_some();
         let admitted = match self.admit(disk, file, version, content, changed) {
             Ok(admitted) => admitted,
             Err(fault) => return Err(fault),
@@ -57,13 +69,16 @@ impl SitePacks {
         let marks = &admitted.marks;
         match self.store(disk, plan.at, plan.ino, file, *version, content, marks) {
             Ok(()) => Ok(()),
-            Err(_) => Err(CommitFault::Disk),
+            Err(_) => Err(CommitFault::Cut(WriteSize {
+                pages: changed.len(),
+                replaces,
+            })),
         }
     }
 
     /// Adopts a version of a file that was made elsewhere, with its whole content. `NoSpace` comes exactly where it has more pages
-    /// than are free, `Unfit` exactly where the copy may not be kept so, both before any call of the disk. After `Disk` the packs
-    /// must be mounted again, and have the old copy or the new one.
+    /// than are free, `Unfit` exactly where the copy may not be kept so, both before any call of the disk. `Disk` is never
+    /// answered. After `Cut` the packs must be mounted again, and have the old copy or the new one.
     pub fn adopt<D: Disk>(
         &mut self,
         disk: &mut D,
@@ -90,9 +105,19 @@ impl SitePacks {
         // The disk fails only where its count rose, and where it tells how many calls pass, exactly where they are too few.
         ensures cause { HasCause (D.moment disk.old).faults (D.moment disk.new).faults (commit_answer result) }
         ensures tells { TellsMany (commit_calls (pages_of (length content.now)) (is_some (copy_at self.old (D.moment disk.old).seen file)) result) (D.moment disk.old).passing (D.moment disk.new).passing (commit_answer result) }
+
+        // Where it tells so, a crash as it cuts off the write leaves just this.
+        ensures none { OnOk result (both_open_on (groups_of self.old) (D.moment disk.new).seen ≡ []) }
+        ensures size { IfErr result (λ fault. HasSize (pages_of (length content.now)) (is_some (copy_at self.old (D.moment disk.old).seen file)) fault) }
+        ensures written { result ≡ Err Disk → ⊥ }
+        ensures how { (D.moment disk.new).how ≡ (D.moment disk.old).how }
+        ensures cut { (passed : ℕ) → (D.moment disk.old).passing ≡ Exactly passed → OnErr (commit_answer result)
+            (IsCut self.old (copy_made file version.now content.now) (pages_of (length content.now)) (D.moment disk.old).how passed (D.moment disk.old).seen (D.moment disk.new).left) }
     {
         let _invariant = &self.site;
-        if content.len().div_ceil(1_024) > usize::from(self.free_pages(file.group)) {
+        let replaces = self.head(file).is_some();
+        let pages = content.len().div_ceil(1_024);
+        if pages > usize::from(self.free_pages(file.group)) {
             return Err(CommitFault::NoSpace);
         }
         let Some(plan) = self.plan(file, version, content.len()) else {
@@ -101,7 +126,7 @@ impl SitePacks {
         let marks = [true; 64];
         match self.store(disk, plan.at, plan.ino, file, *version, content, &marks) {
             Ok(()) => Ok(()),
-            Err(_) => Err(CommitFault::Disk),
+            Err(_) => Err(CommitFault::Cut(WriteSize { pages, replaces })),
         }
     }
 }

@@ -2,12 +2,22 @@ use disk_model::DiskFault;
 use locus_ids::NoMemory;
 use thiserror::Error;
 
+/// What the write of a version was to write: so many pages, and it was to replace another version or not.
+#[derive(Clone, Copy, Debug, PartialEq, Eq)]
+pub struct WriteSize {
+    pub pages: usize,
+    pub replaces: bool,
+}
+
 /// Why a version isn't committed or adopted.
 #[derive(Clone, Copy, Debug, PartialEq, Eq, Error)]
 pub enum CommitFault {
-    /// The packs must be mounted again: they have the old copy or the new one.
+    /// A read failed before the first write.
     #[error("the disk failed")]
     Disk,
+    /// The write of the version was cut off. The packs must be mounted again: they have the old copy or the new one.
+    #[error("the write was cut off")]
+    Cut(WriteSize),
     /// The version has more new pages than the pack has free ones.
     #[error("no space")]
     NoSpace,

@@ -38,6 +38,7 @@ impl SitePacks {
         ensures crash { Goes Same (D.moment disk.old) (D.moment disk.new) }
         ensures cause { HasCause (D.moment disk.old).faults (D.moment disk.new).faults result }
         ensures tells { TellsRead (D.moment disk.old).passing (D.moment disk.new).passing result }
+        ensures how { (D.moment disk.new).how ≡ (D.moment disk.old).how }
     {
         let _invariant = &self.site;
         let ino = number_of(file);
@@ -81,6 +82,7 @@ fn keeps_pages<D: Disk>(
     ensures crash { Goes Same (D.moment disk.old) (D.moment disk.new) }
     ensures cause { HasCause (D.moment disk.old).faults (D.moment disk.new).faults result }
     ensures tells { TellsRead (D.moment disk.old).passing (D.moment disk.new).passing result }
+    ensures how { (D.moment disk.new).how ≡ (D.moment disk.old).how }
 {
     for page in 0..page_count(content.len() as u32) {
         if !keeps_page(pack, disk, ino, size, content, marks, page)? {
@@ -110,6 +112,7 @@ fn keeps_page<D: Disk>(
     ensures crash { Goes Same (D.moment disk.old) (D.moment disk.new) }
     ensures cause { HasCause (D.moment disk.old).faults (D.moment disk.new).faults result }
     ensures tells { TellsRead (D.moment disk.old).passing (D.moment disk.new).passing result }
+    ensures how { (D.moment disk.new).how ≡ (D.moment disk.old).how }
 {
     if marks[usize::from(page)] {
         return Ok(true);

@@ -6,6 +6,7 @@
 mod admitting;
 mod committing;
 mod faults;
+mod formatting;
 mod groups;
 mod heads;
 mod keeping;
@@ -16,8 +17,9 @@ mod packs;
 mod pages;
 mod planning;
 mod reading;
+mod shut_gates;
 mod storing;
 
-pub use faults::{CommitFault, ReadFault};
+pub use faults::{CommitFault, ReadFault, WriteSize};
 pub use inode_pack::{MountFault, NewVersion};
 pub use packs::SitePacks;

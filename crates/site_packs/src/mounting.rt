@@ -1,10 +1,11 @@
 // The packs of a site are found again on its disk.
-ghost use Rattle.std.specs.Prelude.{◌≡◌, ◌≤◌, ◌+◌, ◌*◌, [], ◌∷◌, ◌++◌, length, OnOk, IfOk, IfErr};
-ghost use Rattle.disk_model.specs.Disk.{IsSettled, HasCause};
+ghost use Rattle.std.specs.Prelude.{◌≡◌, ◌≤◌, ◌+◌, ◌*◌, ℕ, [], ◌∷◌, ◌++◌, length, OnOk, OnErr, IfOk, IfErr};
+ghost use Rattle.disk_model.specs.Disk.{IsSettled, HasCause, Exactly};
 ghost use Rattle.disk_model.specs.Moments.{LeavesOnly};
 ghost use Rattle.inode_pack.specs.Mounting.{IsPassing, disk_answer};
 ghost use Rattle.site_packs.specs.Copies.{copies_on};
 ghost use Rattle.site_packs.specs.Packs.{Stand, groups_of, groups_at, areas_end};
+ghost use Rattle.site_packs.specs.Cutting.{both_open_on, IsCutMount, IsCutBehind};
 ghost use Rattle.site_packs.specs.Mounting.{AreSound, AreSoundBehind, IsCause, IsCauseBehind, AreMounted, LeavesPacks, KeepsCopies, TellsMount, gates_behind, mount_calls};
 
 use crate::groups::groups_at;
@@ -19,6 +20,7 @@ impl SitePacks {
     /// Mounts all packs of a site, by group ascending. Each slot is read once, and of two open slots of an inode the one that
     /// doesn't count is closed. The first pack that doesn't mount tells why. Packs that a crash left within a format, commit or
     /// mount are found as they were before or after.
+    #[tactic(auto, using(crate::proofs::Cutting::mount_calls_are))]
     pub fn mount<D: Disk>(
         alloc: Global,
         config: &Config,
@@ -44,6 +46,12 @@ impl SitePacks {
 
         ensures cause { HasCause (D.moment disk.old).faults (D.moment disk.new).faults (disk_answer result) }
         ensures tells { TellsMount (mount_calls (groups_at config.now site) (D.moment disk.old).seen) (D.moment disk.old).passing (D.moment disk.new).passing result }
+        ensures calls { mount_calls (groups_at config.now site) (D.moment disk.old).seen ≡ 2 * length (both_open_on (groups_at config.now site) (D.moment disk.old).seen) }
+        ensures none { OnOk result (both_open_on (groups_at config.now site) (D.moment disk.new).seen ≡ []) }
+
+        // Where it tells so, a crash as it cuts off the call leaves just this.
+        ensures how { (D.moment disk.new).how ≡ (D.moment disk.old).how }
+        ensures cut { (passed : ℕ) → (D.moment disk.old).passing ≡ Exactly passed → OnErr (disk_answer result) (IsCutMount site (groups_at config.now site) (D.moment disk.old).how passed (D.moment disk.old).seen (D.moment disk.new).left) }
     {
         let groups = groups_at(alloc, config, site)?;
         let mut packs = Vec::new(alloc);
@@ -69,6 +77,8 @@ fn mount_behind<D: Disk>(
     ensures fault { IfErr result (λ fault. IsCauseBehind nth site groups.now (D.moment disk.old).seen fault) }
     ensures cause { HasCause (D.moment disk.old).faults (D.moment disk.new).faults (disk_answer result) }
     ensures tells { TellsMount (2 * gates_behind nth groups.now (D.moment disk.old).seen) (D.moment disk.old).passing (D.moment disk.new).passing result }
+    ensures how { (D.moment disk.new).how ≡ (D.moment disk.old).how }
+    ensures cut { (passed : ℕ) → (D.moment disk.old).passing ≡ Exactly passed → OnErr (disk_answer result) (IsCutBehind nth groups.now (D.moment disk.old).how passed (D.moment disk.old).seen (D.moment disk.new).left) }
 {
     if groups.is_empty() {
         return Ok(());

@@ -49,6 +49,7 @@ pub(crate) fn read_content<D: Disk>(
     ensures crash { Goes Same (D.moment disk.old) (D.moment disk.new) }
     ensures cause { HasCause (D.moment disk.old).faults (D.moment disk.new).faults (read_answer result) }
     ensures tells { TellsRead (D.moment disk.old).passing (D.moment disk.new).passing (read_answer result) }
+    ensures how { (D.moment disk.new).how ≡ (D.moment disk.old).how }
 {
     let mut page = [0; 1_024];
     for i in 0..page_count(size) {
@@ -74,6 +75,7 @@ pub(crate) fn load_page<D: Disk>(
     ensures crash { Goes Same (D.moment disk.old) (D.moment disk.new) }
     ensures cause { HasCause (D.moment disk.old).faults (D.moment disk.new).faults (read_answer result) }
     ensures tells { TellsRead (D.moment disk.old).passing (D.moment disk.new).passing (read_answer result) }
+    ensures how { (D.moment disk.new).how ≡ (D.moment disk.old).how }
 {
     let mut bytes = Bytes::new(alloc);
     if 1_024 * u32::from(page) >= size {
@@ -103,6 +105,7 @@ pub(crate) fn begins_page<D: Disk>(
     ensures crash { Goes Same (D.moment disk.old) (D.moment disk.new) }
     ensures cause { HasCause (D.moment disk.old).faults (D.moment disk.new).faults result }
     ensures tells { TellsRead (D.moment disk.old).passing (D.moment disk.new).passing result }
+    ensures how { (D.moment disk.new).how ≡ (D.moment disk.old).how }
 {
     if 1_024 * u32::from(page) + bytes.len() as u32 > size {
         return Ok(false);

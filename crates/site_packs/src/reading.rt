@@ -29,6 +29,7 @@ impl SitePacks {
         ensures crash { Goes Same (D.moment disk.old) (D.moment disk.new) }
         ensures cause { HasCause (D.moment disk.old).faults (D.moment disk.new).faults (read_answer result) }
         ensures tells { TellsRead (D.moment disk.old).passing (D.moment disk.new).passing (read_answer result) }
+        ensures how { (D.moment disk.new).how ≡ (D.moment disk.old).how }
     {
         let _invariant = &self.site;
         let ino = number_of(file);
@@ -57,6 +58,7 @@ impl SitePacks {
         ensures crash { Goes Same (D.moment disk.old) (D.moment disk.new) }
         ensures cause { HasCause (D.moment disk.old).faults (D.moment disk.new).faults (read_answer result) }
         ensures tells { TellsRead (D.moment disk.old).passing (D.moment disk.new).passing (read_answer result) }
+        ensures how { (D.moment disk.new).how ≡ (D.moment disk.old).how }
     {
         let _invariant = &self.site;
         let ino = number_of(file);

@@ -1,6 +1,6 @@
 // A version is stored in its pack.
-ghost use Rattle.std.specs.Prelude.{◌≡◌, ◌<◌, ◌≤◌, length, slice_get, OnOk, OnErr, IfErr};
-ghost use Rattle.disk_model.specs.Disk.{HasCause};
+ghost use Rattle.std.specs.Prelude.{◌≡◌, ◌<◌, ◌≤◌, ℕ, [], length, slice_get, OnOk, OnErr, IfErr};
+ghost use Rattle.disk_model.specs.Disk.{HasCause, Exactly};
 ghost use Rattle.disk_model.specs.Moments.{LeavesOnly, TellsMany};
 ghost use Rattle.inode_pack.specs.Committing.{needed, commit_answer};
 ghost use Rattle.inode_pack.specs.Marked.{marked};
@@ -10,6 +10,7 @@ ghost use Rattle.role_steps.specs.Storage.{copy_key};
 ghost use Rattle.site_packs.specs.Copies.{copies_on};
 ghost use Rattle.site_packs.specs.Packs.{Stand, SamePlaces, groups_of, pack_in, copy_at};
 ghost use Rattle.site_packs.specs.Committing.{IsWholeFit, MayBeLeft, copy_made, room, store_calls};
+ghost use Rattle.site_packs.specs.Cutting.{both_open_on, IsCut};
 ghost use Rattle.site_packs.specs.Marking.{FillsAt};
 
 use crate::{NewVersion, SitePacks};
@@ -44,6 +45,10 @@ impl SitePacks {
         ensures only { IfErr result (λ fault. fault ≡ Disk) }
         ensures cause { HasCause (D.moment disk.old).faults (D.moment disk.new).faults (commit_answer result) }
         ensures tells { TellsMany (store_calls (needed (marked content.now marks.now)) (copy_at self.old (D.moment disk.old).seen file) result) (D.moment disk.old).passing (D.moment disk.new).passing (commit_answer result) }
+        ensures none { OnOk result (both_open_on (groups_of self.old) (D.moment disk.new).seen ≡ []) }
+        ensures how { (D.moment disk.new).how ≡ (D.moment disk.old).how }
+        ensures cut { (passed : ℕ) → (D.moment disk.old).passing ≡ Exactly passed → OnErr (commit_answer result)
+            (IsCut self.old (copy_made file version content.now) (needed (marked content.now marks.now)) (D.moment disk.old).how passed (D.moment disk.old).seen (D.moment disk.new).left) }
     {
         self.packs[at].commit_pages(disk, ino, &version, content, marks)
     }

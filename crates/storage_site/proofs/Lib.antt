@@ -1,2 +1,4 @@
-pub mod Latest
-pub mod Given
+pub mod Standing
+pub mod Placing
+pub mod Serves
+pub mod Opens

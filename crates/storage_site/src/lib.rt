@@ -3,14 +3,13 @@
 //! epochs beyond its frame.
 #![tactic(auto)]
 
-mod acting;
-mod closing;
-mod committing;
-mod fault;
-mod instance;
-mod operations;
+mod calls;
+mod opening;
+mod requests;
+mod serving;
 mod store;
+mod telling;
 
-pub use fault::StoreFault;
-pub use instance::StoreInstance;
+pub use requests::LookRequest;
 pub use store::Store;
+pub use store_instances::{StoreFault, StoreRequest};

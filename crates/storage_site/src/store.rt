@@ -1,16 +1,17 @@
-ghost use Rattle.std.specs.Prelude.{◌≡◌, ◌-◌, ℕ, List, []};
-ghost use Rattle.role_steps.specs.Tables.{total};
+ghost use Rattle.std.specs.Prelude.{◌≡◌, ◌++◌, ◌∷◌, ◌-◌, ◌==◌, ℕ, List, [], None, true, cond, filter, length, not, slice_get, OnOk, OnErr};
 ghost use Rattle.std.specs.List.{list_any};
-ghost use Rattle.role_steps.specs.Storage.{changed_pages, free_pages, is_open_of};
+ghost use Rattle.role_steps.specs.Tables.{row, total, with_latest};
+ghost use Rattle.role_steps.specs.Storage.{free_pages, instance_key, is_open, is_open_of};
 ghost use Rattle.site_packs.specs.Packs.{AreShown};
-ghost use Rattle.storage_site.specs.Stores.{store_of};
+ghost use Rattle.store_instances.specs.Stores.{store_of};
+ghost use Rattle.storage_site.specs.Standing.{changed_by, is_of};
 
-use crate::StoreInstance;
-use keyed_tables::KeyIndex;
-use locus_ids::FileId;
+use keyed_tables::{KeyIndex, serial_key};
+use locus_ids::{FileId, NoMemory};
 use site_packs::SitePacks;
 use std::alloc::Global;
 use std::marker::Model;
+use store_instances::StoreInstance;
 
 /// The instances of the storage role of a site in its epoch, in the order in which they were opened. Contracts see their
 /// list; the copies are the packs'.
@@ -18,18 +19,21 @@ use std::marker::Model;
 pub struct Store {
     pub(crate) rows: Vec<StoreInstance>,
     pub(crate) index: KeyIndex,
+    /// The places of the open ones, ascending.
+    pub(crate) standing: Vec<usize>,
 }
 
 impl Model for Store {
     ghost use Rattle.std.specs.Prelude.{◌≡◌, List, map};
     ghost use Rattle.role_steps.specs.declared.instances.Instance.{Instance};
     ghost use Rattle.role_steps.specs.Storage.{instance_key};
+    ghost use Rattle.storage_site.specs.Standing.{open_from};
 
     ghost Value = { List Instance };
 
     ghost view = { λ s. s.rows.items };
 
-    ghost invariant = { λ s. s.index ≡ map instance_key s.rows.items };
+    ghost invariant = { λ s. (s.index ≡ map instance_key s.rows.items) × (s.standing.items ≡ open_from 0 s.rows.items) };
 }
 
 impl Store {
@@ -40,6 +44,7 @@ impl Store {
         Store {
             rows: Vec::new(alloc),
             index: KeyIndex::new(alloc),
+            standing: Vec::new(alloc),
         }
     }
 
@@ -49,46 +54,115 @@ impl Store {
     {
         self.index = KeyIndex::new(*self.rows.allocator());
         self.rows.clear();
+        self.standing.clear();
     }
 
     /// The file has an open instance here.
     pub fn has_open(&self, file: FileId) -> bool
         ensures { result ≡ list_any (is_open_of file) self.now }
     {
-        self.rows.iter().any(|row| is_open_of(row, file))
+        any_of(self.rows.as_slice(), self.standing.as_slice(), file)
     }
 
     /// The pages of the group's pack that neither a copy has nor an open instance has changed.
     pub fn free_pages(&self, packs: &SitePacks, group: u8) -> u16
         ensures { (image : List ℕ) → AreShown packs.now.packs image → result ≡ free_pages (store_of self.now packs.now image) group }
     {
-        less_changed(self.rows.as_slice(), packs.free_pages(group), group)
+        let free = packs.free_pages(group);
+        less_changed(self.rows.as_slice(), self.standing.as_slice(), free, group)
+    }
+
+    /// An open instance of a new name, after all others. After `NoMemory` the store is as it was.
+    pub(crate) fn push(&mut self, new: StoreInstance) -> Result<(), NoMemory>
+        requires absent { row instance_key (instance_key new) self.old ≡ None }
+        requires stands { is_open new.stage ≡ true }
+        ensures { OnOk result (self.new ≡ with_latest instance_key new self.old) }
+    {
+        let place = next_place(self.rows.as_slice());
+        self.standing.push(place)?;
+        match push_row(&mut self.rows, &mut self.index, new) {
+            Ok(()) => Ok(()),
+            Err(fault) => {
+                self.standing.pop();
+                Err(fault)
+            }
+        }
     }
 }
 
-fn is_open_of(row: &StoreInstance, file: FileId) -> bool
-    ensures { result ≡ is_open_of file row.now }
+fn next_place(rows: &[StoreInstance]) -> usize
+    ensures { result ≡ length rows.now }
 {
-    row.is_open() && row.file == file
+    rows.len()
 }
 
-/// What is left of so many pages when the open instances of the group have theirs.
-fn less_changed(rows: &[StoreInstance], free: u16, group: u8) -> u16
-    ensures { result ≡ free - total (changed_pages group) rows.now }
+/// One row more with its key, after all others.
+fn push_row(
+    rows: &mut Vec<StoreInstance>,
+    index: &mut KeyIndex,
+    new: StoreInstance,
+) -> Result<(), NoMemory>
+    ensures rows { OnOk result (rows.new.items ≡ rows.old.items ++ new ∷ []) }
+    ensures index { OnOk result (index.new ≡ index.old ++ instance_key new ∷ []) }
+    ensures kept { OnErr result (rows.new.items ≡ rows.old.items) }
+    ensures known { OnErr result (index.new ≡ index.old) }
+{
+    let key = serial_key(new.inst());
+    rows.push(new)?;
+    match index.push(key) {
+        Ok(()) => Ok(()),
+        Err(fault) => {
+            rows.pop();
+            Err(fault)
+        }
+    }
+}
+
+/// The instance of a place has ended, or is still open: only open ones have their place kept.
+pub(crate) fn keep_open(standing: &mut Vec<usize>, place: usize, is_open: bool)
+    ensures { standing.new.items ≡ cond is_open standing.old.items (filter (λ q. not (q == place)) standing.old.items) }
+{
+    if !is_open {
+        standing.retain(|q| *q != place);
+    }
+}
+
+/// One of the instances at these places is of the file.
+fn any_of(rows: &[StoreInstance], standing: &[usize], file: FileId) -> bool
+    ensures { result ≡ list_any (λ q. is_of file (slice_get rows.now q)) standing.now }
+{
+    standing.iter().any(|place| is_of(rows, *place, file))
+}
+
+fn is_of(rows: &[StoreInstance], place: usize, file: FileId) -> bool
+    ensures { result ≡ is_of file (slice_get rows.now place) }
+{
+    match rows.get(place) {
+        Some(row) => row.file() == file,
+        None => false,
+    }
+}
+
+/// What is left of so many pages when the instances at these places have theirs, where they are open ones of the group.
+fn less_changed(rows: &[StoreInstance], standing: &[usize], free: u16, group: u8) -> u16
+    ensures { result ≡ free - total (λ q. changed_by group (slice_get rows.now q)) standing.now }
 {
     let mut left = free;
-    for row in rows {
-        left = less_of(row, left, group);
+    for place in standing {
+        left = less_at(rows, *place, left, group);
     }
     left
 }
 
-fn less_of(row: &StoreInstance, free: u16, group: u8) -> u16
-    ensures { result ≡ free - changed_pages group row.now }
+fn less_at(rows: &[StoreInstance], place: usize, free: u16, group: u8) -> u16
+    ensures { result ≡ free - changed_by group (slice_get rows.now place) }
 {
-    if !row.is_open() || row.file.group != group {
+    let Some(row) = rows.get(place) else {
+        return free;
+    };
+    if !row.is_open() || row.file().group != group {
         return free;
     }
-    let changed = row.work.changed.len().min(usize::from(free));
+    let changed = row.changed().min(usize::from(free));
     free - changed as u16
 }

@@ -179,7 +179,8 @@ run_from c n (x ∷ xs) w = run_from c (n + 1) xs (acts_line c n x w)
 abbrev pub run_in : Config → List ScheduleLine → World
 run_in c lines = run_from c 1 lines (first_world c)
 
--- the world after the lines of a schedule, or, where an event passed a limit, the one before that event, with the limit
+-- The world after the lines of a schedule, or, where an event passed a limit, one with the sites, the trace and the counts of
+-- before that event, and with the limit.
 abbrev pub run : List ScheduleLine → World
 run lines = run_in (config_of lines) lines
 

@@ -61,7 +61,7 @@ pub record World : Type 0 where
   pub packets : ℕ  -- packets sent
   pub bytes : ℕ  -- bytes of packets sent
   pub text : ℕ  -- bytes of the records' text
-  pub over : Option Limit  -- the limit that the next event passed; then nothing happens any more
+  pub over : Option Limit  -- the limit that the next event passed; then no event happens any more
 
 -- ---- sites and circuits ----
 
@@ -146,7 +146,8 @@ abbrev pub counts_event : ℕ → List Packet → List Told → (World → World
 counts_event n ps told change packets bytes text w = unless_over (limit_passed packets bytes text) n ps told change packets bytes text w
 
 -- An event of a line: the world changes, and then has these packets and what is told. An event that passes a limit leaves
--- the world as it was before it, and nothing happens after it.
+-- the sites as they were before it, and no event happens after it: nothing is told or sent any more, though a line may still
+-- cut or mend a circuit, arm a script or take a packet from those under way.
 abbrev pub happened_of : Option Limit → ℕ → List Packet → List Told → (World → World) → World → World
 happened_of (Some l) n ps told change w = w
 happened_of None n ps told change w =

@@ -13,6 +13,16 @@ use Rattle.inode_pack.specs.Losing.{is_losing, losing_slot, KeepsCopies, IsClosi
 use Rattle.inode_pack.proofs.Finding.{found_own}
 use Rattle.inode_pack.proofs.Gates.{none_closed, keeps_start, losing_none, this_loses, crash_keeps, closed_more, shut_gate, gate_is_shut, losing_place, calls_more, found_gates, losing_rises, copy_at, losing_at, closing_keeps}
 use Rattle.disk_model.proofs.ReadRuns.{leaves_joins, tells_failed}
+use Rattle.std.proofs.Common.{◌-◌, ◌<◌, [], ◌∷◌, ⊎_elim}
+use Rattle.std.specs.Prelude.{true}
+use Rattle.std.proofs.lemmas.Bool.{cases_lt}
+use Rattle.disk_model.specs.Cut.{Cut, left_by, left_in_write}
+use Rattle.disk_model.specs.Disk.{Passing, Exactly}
+use Rattle.pack_layout.specs.Layout.{area_length}
+use Rattle.disk_model.proofs.Tells.{tells_few, tells_rest, answers_err}
+use Rattle.gate_switch.specs.Cutting.{CutsGate}
+use Rattle.inode_pack.specs.Cutting.{losing_inodes, closings_left}
+use Rattle.inode_pack.proofs.CutClosing.{closing_write, closing_sync}
 use Rattle.inode_pack.proofs.closing.close_losing.Goals as goal
 
 pub loop-i-init : goal.loop-i-init
@@ -29,6 +39,7 @@ loop-i-init g c =
           (λ x left. subst (λ (l : List ℕ). KeepsCopies c.args.base c.args.copies.now seen l) (sym (c.requires.settled x (g.met.D.Disk.only_now old x left))) start);
       cause = omega arith;
       tells = rw losing_none (tells_none (g.D.Disk.moment old).passing);
+      how = refl;
     }
 
 place_of : (ino : ℕ) (copy : Option InodeCopy) → IfSome copy (λ one. IsCopy ino one) → IfSome copy (λ one. one.which ≤ 1)
@@ -124,4 +135,48 @@ loop-i-preserved g c =
       cause = omega (arith, inv.cause, c.close_one.ensures.cause.later);
       tells = subst (λ (n : ℕ). TellsMany {T = Unit {0}} {E = DiskFault} n (g.D.Disk.moment c.args.disk.now).passing (g.D.Disk.moment c.close_one.new.disk).passing (Ok tt)) calls
           (tells_join (2 * losing_gates base i old) (if get_or losing c.from-in-loop-i.result false then 2 else 0) _ _ _ (Ok tt) inv.tells c.in_ok-close_one.ensures.tells);
+      how = c.close_one.ensures.how ∙ inv.how;
     }
+
+-- a closing makes two calls at most
+few_left : (loses : Bool) (left : ℕ) (p q : Passing) (fault : DiskFault) → TellsMany {T = Unit {0}} {E = DiskFault} (if loses then 2 else 0) p q (Err fault) → p ≡ Exactly left → left < 2
+few_left true left p q fault tells is = tells_few 2 p q (Err fault) left tells is
+few_left false left p q fault tells is = let lt : left < 0 = tells_few 0 p q (Err fault) left tells is in omega (arith, lt)
+
+pub returns-in_err-close_one-clause-cut : goal.returns-in_err-close_one-clause-cut
+returns-in_err-close_one-clause-cut g c passed told =
+    let M = g.D.Disk.moment in
+    let i = c.loop-i.i in
+    let base = c.args.base in
+    let inv = c.loop-i.invariant in
+    let copies = c.args.copies.now in
+    let losing = c.args.losing.now in
+    let old = (M c.args.disk.now).seen in
+    let mid = c.loop-i.disk in
+    let now = (M mid).seen in
+    let new = c.close_one.new.disk in
+    let copy_is = copy_at copies c.index-copies-from.result i c.from.result c.from.ensures (omega (arith, c.requires.copies)) c.index-copies-from.is in
+    let which_is : c.losing_slot-which.result ≡ losing_slot (copy_of copies (i + 1)) = c.losing_slot-which.ensures ∙ ap losing_slot copy_is in
+    let loses_is = losing_at losing i c.from-in-loop-i.result c.from-in-loop-i.ensures in
+    let loses = get_or losing c.from-in-loop-i.result false in
+    let gate = slot_at base (i + 1) (losing_slot (copy_of copies (i + 1))) in
+    let one = c.in_err-close_one.ensures.cut in
+    let is_losing_one : is_losing losing (i + 1) ≡ true = sym loses_is ∙ one.0 in
+    let cuts = subst (λ (w : ℕ). CutsGate (slot_at base (i + 1) w) 0 (M mid) (M new)) which_is one.1 in
+    let before = 2 * losing_gates base i old in
+    let rest = tells_rest before (M c.args.disk.now).passing (M mid).passing passed inv.tells told in
+    let area : base + area_length ≤ length now = omega (arith, c.requires.area, inv.long) in
+    let how = (M c.args.disk.now).how in
+    let same : (M mid).how ≡ how = inv.how in
+    let few : passed - before < 2 = few_left loses (passed - before) (M mid).passing (M new).passing c.in_err-close_one.field-0.0 c.in_err-close_one.ensures.tells rest.1 in
+    let left : losing_inodes base (M new).left ≡ closings_left how passed (losing_inodes base old) = ⊎_elim
+    (λ (first : passed - before < 1).
+    let none : passed - before ≡ 0 = omega (arith, first) in
+    closing_write base i old now copies losing c.requires.found inv.closed c.loop-i-test.true is_losing_one area how passed (M new).left (omega (arith, none, rest.0))
+    (cuts.write inv.settled (rest.1 ∙ ap Exactly none) ∙ ap (λ (h : Cut). left_in_write h now gate (0 ∷ [])) same))
+    (λ (second : 1 ≤ passed - before).
+    let one_left : passed - before ≡ 1 = omega (arith, second, few) in
+    closing_sync base i old now copies losing c.requires.found inv.closed c.loop-i-test.true is_losing_one area how passed (M new).left (omega (arith, one_left, rest.0))
+    (cuts.sync inv.settled (rest.1 ∙ ap Exactly one_left) ∙ ap (λ (h : Cut). left_by h now gate (0 ∷ [])) same))
+    (cases_lt (passed - before) 1) in
+    answers_err c.from_residual.result _ left

@@ -17,4 +17,5 @@ invariant-loop-i g l = record {
   leaves : LeavesOnly (g.D.Disk.moment l.initial.disk) (g.D.Disk.moment l.disk) (KeepsCopies l.base l.copies (g.D.Disk.moment l.initial.disk).seen);
   cause : (g.D.Disk.moment l.initial.disk).faults ≤ (g.D.Disk.moment l.disk).faults;
   tells : TellsMany {T = Unit {0}} {E = DiskFault} (2 * losing_gates l.base l.i (g.D.Disk.moment l.initial.disk).seen) (g.D.Disk.moment l.initial.disk).passing (g.D.Disk.moment l.disk).passing (Ok tt);
+  how : (g.D.Disk.moment l.disk).how ≡ (g.D.Disk.moment l.initial.disk).how;
 }

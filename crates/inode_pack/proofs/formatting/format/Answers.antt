@@ -9,6 +9,8 @@ use Rattle.inode_pack.specs.Format.{IsNew, new_copy}
 use Rattle.inode_pack.proofs.New.{made_new, length-superblock, root_is_slot, stored_somewhere, new_is_sound, new_copies}
 use Rattle.gate_switch.proofs.Tearing.{torn_widens, torn_joins, torn_stays}
 use Rattle.inode_pack.proofs.formatting.format.Given.{Over}
+use Rattle.std.specs.Prelude.{Ok}
+use Rattle.disk_model.proofs.Tells.{tells_one, tells_join}
 use Rattle.inode_pack.proofs.formatting.format.Goals as goal
 
 pub returns-in_err-zero_slots-clause-crash : goal.returns-in_err-zero_slots-clause-crash
@@ -83,3 +85,15 @@ returns-clause-outside g c =
     on_ok c.sync.result _ (Torn base area_length (g.D.Disk.moment c.args.disk.now).seen (g.D.Disk.moment c.sync.new.self).seen)
     (λ _. subst (λ (l : List ℕ). Torn base area_length (g.D.Disk.moment c.args.disk.now).seen l) (sym c.sync.ensures.seen) all)
     c.sync.ensures.durable
+
+pub returns-clause-tells : goal.returns-clause-tells
+returns-clause-tells g c =
+    let M = g.D.Disk.moment in
+    let a = (M c.args.disk.now).passing in
+    let b = (M c.write_at.new.self).passing in
+    let d = (M c.zero_slots.new.disk).passing in
+    let e = (M c.write_root.new.disk).passing in
+    let f = (M c.sync.new.self).passing in
+    let one = tells_join 1 64 a b d (Ok tt) (tells_one a b (Ok tt) c.in_ok-write_at.ensures.tells) c.in_ok-zero_slots.ensures.tells in
+    let two = tells_join 65 1 a d e (Ok tt) one c.in_ok-write_root.ensures.tells in
+    tells_join 66 1 a e f c.sync.result two (tells_one e f c.sync.result c.sync.ensures.tells)

@@ -35,4 +35,5 @@ loop-i-preserved g c =
       goes = goes_same g.D.Disk.moment c.args.disk.now c.loop-i.disk c.read_inode.new.disk inv.goes c.read_inode.ensures.crash;
       cause = omega (arith, inv.cause, c.read_inode.ensures.cause.later);
       tells = reads_join (g.D.Disk.moment c.args.disk.now).passing (g.D.Disk.moment c.loop-i.disk).passing (g.D.Disk.moment c.read_inode.new.disk).passing (Ok tt) inv.tells (reads_ok c.in_ok-found.field-0 _ _ c.in_ok-found.ensures.tells);
+      how = c.read_inode.ensures.how ∙ inv.how;
     }

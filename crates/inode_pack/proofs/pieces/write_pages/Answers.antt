@@ -27,6 +27,7 @@ loop-i-init g c =
       goes = goes_start g.D.Disk.moment (TornIn (page_pieces base numbers w (pages_of w.size))) disk (torn_stays (page_pieces base numbers w (pages_of w.size)));
       cause = omega arith;
       tells = subst (λ (l : List Piece). TellsMany {T = Unit {0}} {E = DiskFault} (length l) (g.D.Disk.moment disk).passing (g.D.Disk.moment disk).passing (Ok tt)) (sym none) (tells_none (g.D.Disk.moment disk).passing);
+      how = refl;
     }
 
 pub write_page-requires-clause-within : goal.write_page-requires-clause-within
@@ -90,6 +91,7 @@ loop-i-preserved g c =
       cause = omega (arith, inv.cause, c.write_page.ensures.cause.later);
       tells = subst (λ (k : ℕ). TellsMany {T = Unit {0}} {E = DiskFault} k (g.D.Disk.moment c.args.disk.now).passing (g.D.Disk.moment c.write_page.new.disk).passing (Ok tt)) count
           (tells_join (length so_far) (length one) _ _ _ (Ok tt) inv.tells c.in_ok-write_page.ensures.tells);
+      how = c.write_page.ensures.how ∙ inv.how;
     }
 
 pub returns-clause-written : goal.returns-clause-written

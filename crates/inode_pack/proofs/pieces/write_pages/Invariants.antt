@@ -15,4 +15,5 @@ invariant-loop-i g l = record {
   goes : Goes (TornIn (page_pieces l.base l.numbers (g.C.NewContent.working l.content) (pages_of (g.C.NewContent.working l.content).size))) (g.D.Disk.moment l.initial.disk) (g.D.Disk.moment l.disk);
   cause : (g.D.Disk.moment l.initial.disk).faults ≤ (g.D.Disk.moment l.disk).faults;
   tells : TellsMany {T = Unit {0}} {E = DiskFault} (length (page_pieces l.base l.numbers (g.C.NewContent.working l.content) l.i)) (g.D.Disk.moment l.initial.disk).passing (g.D.Disk.moment l.disk).passing (Ok tt);
+  how : (g.D.Disk.moment l.disk).how ≡ (g.D.Disk.moment l.initial.disk).how;
 }

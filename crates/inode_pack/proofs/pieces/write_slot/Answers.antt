@@ -1,8 +1,11 @@
-use Rattle.std.proofs.Common.{◌≡◌, ◌∙◌, ◌+◌, ℕ, List, [], ◌∷◌, ◌++◌, length, replicate, ap, arith}
+use Rattle.std.proofs.Common.{◌≡◌, ◌∙◌, ◌+◌, ℕ, List, [], ◌∷◌, ◌++◌, length, replicate, ap, subst, arith}
 use Rattle.disk_model.specs.Images.{overwritten}
 use Rattle.pack_layout.specs.Layout.{slot_at}
 use Rattle.gate_switch.specs.Switch.{written}
-use Rattle.disk_model.proofs.Moments.{on_ok}
+use Rattle.disk_model.proofs.Moments.{on_ok, goes_wider}
+use Rattle.disk_model.specs.Images.{Torn}
+use Rattle.gate_switch.specs.Switch.{TornIn}
+use Rattle.gate_switch.proofs.Pieces.{torn_alone}
 use Rattle.inode_pack.specs.PagePieces.{body_piece}
 use Rattle.inode_pack.proofs.Streaming.{alone_within}
 use Rattle.inode_pack.proofs.pieces.write_slot.Goals as goal
@@ -21,3 +24,12 @@ returns-clause-written g c =
     on_ok c.write_at.result _ ((g.D.Disk.moment c.write_at.new.self).seen ≡ written old (body_piece c.args.base made ∷ []))
     (λ e. e ∙ ap (λ (n : ℕ). overwritten old (n + 1) (c.write_fields.new.out ++ replicate 304 0)) c.slot_at.ensures ∙ ap (λ (l : List ℕ). overwritten old (place + 1) l) c.write_fields.ensures)
     c.write_at.ensures.written
+
+pub returns-clause-crash : goal.returns-clause-crash
+returns-clause-crash g c =
+    let made = c.args.made.now in
+    let piece = body_piece c.args.base made in
+    let bytes = c.write_fields.new.out ++ replicate 304 0 in
+    goes_wider g.D.Disk.moment (Torn (c.slot_at.result + 1) (length bytes)) (TornIn (piece ∷ [])) c.args.disk.now c.write_at.new.self
+    (λ a b torn. torn_alone piece a b (subst (λ (l : List ℕ). Torn piece.at (length l) a b) c.write_fields.ensures (subst (λ (n : ℕ). Torn (n + 1) (length bytes) a b) c.slot_at.ensures torn)))
+    c.write_at.ensures.crash

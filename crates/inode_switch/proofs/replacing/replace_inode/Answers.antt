@@ -1,5 +1,5 @@
-use Rattle.std.proofs.Common.{◌≡◌, ◌-◌, ◌∙◌, ap, subst, sym, List, ℕ, Bool}
-use Rattle.std.specs.Prelude.{Option, Some, None, if◌then◌else◌}
+use Rattle.std.proofs.Common.{◌≡◌, ◌<◌, ◌-◌, ◌∙◌, ap, subst, sym, List, ℕ, Bool}
+use Rattle.std.specs.Prelude.{Option, Some, None, OnErr, if◌then◌else◌}
 use Rattle.disk_model.specs.Images.{Torn}
 use Rattle.pack_layout.specs.Layout.{area_length}
 use Rattle.gate_switch.specs.Switch.{Piece}
@@ -10,6 +10,11 @@ use Rattle.inode_switch.specs.View.{IsOldOrNew, Replaced}
 use Rattle.inode_switch.specs.Replace.{made_version, closing}
 use Rattle.disk_model.proofs.Moments.{leaves_weaker, on_ok}
 use Rattle.inode_switch.proofs.OldOrNew.{stage_view, switched_view}
+use Rattle.gate_switch.specs.Cutting.{IsCut}
+use Rattle.gate_switch.specs.Switch.{calls_of}
+use Rattle.disk_model.proofs.Tells.{tells_few, on_err}
+use Rattle.inode_switch.specs.Cutting.{IsCutReplacing}
+use Rattle.inode_switch.proofs.Cutting.{cut_replacing}
 use Rattle.inode_switch.proofs.replacing.replace_inode.Goals as goal
 
 -- the gates as the switch was told them
@@ -83,3 +88,22 @@ returns-clause-replaced g c =
     (sym (done ∙ ap (λ (n : ℕ). switched pieces n c.closing_place-old_gate.result old) c.slot_at-gate.ensures ∙ ap (λ (o : Option ℕ). switched pieces (slot_at base ino which) o old) shuts))
     (switched_view base ino which pieces old c.requires.may))
     c.switch.ensures.done
+
+pub returns-clause-cut : goal.returns-clause-cut
+returns-clause-cut g c pages passed count told =
+    let M = g.D.Disk.moment in
+    let old = c.args.disk.now in
+    let new = c.switch.new.disk in
+    let seen = (M old).seen in
+    let pieces = g.P.PieceSource.pieces c.args.source.now in
+    let base = c.args.base in
+    let ino = c.args.ino in
+    let which = c.args.which in
+    let gate = slot_at base ino which in
+    let shuts : c.closing_place-old_gate.result ≡ closing base ino which seen = c.closing_place-old_gate.ensures ∙ ap (λ (b : Bool). if b then Some (slot_at base ino (1 - which)) else None) c.requires.closes in
+    let few = subst (λ (o : Option ℕ). OnErr c.switch.result (passed < calls_of pieces o)) shuts (tells_few (calls_of pieces c.closing_place-old_gate.result) (M old).passing (M new).passing c.switch.result passed c.switch.ensures.tells told) in
+    let cut = subst (λ (o : Option ℕ). OnErr c.switch.result (IsCut pieces gate o (M old).how passed seen (M new).left)) shuts
+    (subst (λ (n : ℕ). OnErr c.switch.result (IsCut pieces n c.closing_place-old_gate.result (M old).how passed seen (M new).left)) c.slot_at-gate.ensures (c.switch.ensures.cut passed told)) in
+    on_err c.switch.result _ _ (IsCutReplacing base ino which pieces pages (M old).how passed seen (M new).left)
+    (λ lt is. cut_replacing base ino which pieces seen c.requires.may pages passed (M old).how (M new).left is count lt)
+    few cut

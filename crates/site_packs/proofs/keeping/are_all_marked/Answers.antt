@@ -1,4 +1,4 @@
-use Rattle.std.proofs.Common.{◌≡◌, ◌<◌, ◌∙◌, ℕ, true, false, sym, ap, arith, length, get_or}
+use Rattle.std.proofs.Common.{◌<◌, ◌∙◌, ℕ, false, sym, ap, arith, length, get_or}
 use Rattle.std.proofs.lemmas.Bool.{false≢true}
 use Rattle.file_content.specs.Pages.{pages_of}
 use Rattle.site_packs.proofs.Fills.{none_kept}

@@ -1,4 +1,4 @@
-use Rattle.std.proofs.Common.{◌≡◌, ◌<◌, ◌≤◌, ◌∙◌, ℕ, List, false, sym, ap, subst, arith, ⊎_elim}
+use Rattle.std.proofs.Common.{◌≡◌, ◌<◌, ◌≤◌, ◌∙◌, ℕ, List, false, subst, arith, ⊎_elim}
 use Rattle.std.specs.Prelude.{Ok}
 use Rattle.std.proofs.lemmas.Bool.{cases_lt}
 use Rattle.disk_model.proofs.ReadRuns.{reads_join, reads_ok, goes_same}
@@ -27,4 +27,5 @@ loop-page-preserved g c =
       goes = goes_same M c.args.disk.now c.loop-page.disk c.keeps_page.new.disk inv.goes c.keeps_page.ensures.crash;
       cause = omega (arith, inv.cause, c.keeps_page.ensures.cause.later);
       tells = reads_join (M c.args.disk.now).passing (M c.loop-page.disk).passing (M c.keeps_page.new.disk).passing (Ok tt) inv.tells (reads_ok c.in_ok-keeps_page.field-0 _ _ c.in_ok-keeps_page.ensures.tells);
+      how = c.keeps_page.ensures.how ∙ inv.how;
     }

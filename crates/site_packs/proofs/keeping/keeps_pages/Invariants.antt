@@ -18,4 +18,5 @@ invariant-loop-page g l = record {
   goes : Goes Same (g.D.Disk.moment l.initial.disk) (g.D.Disk.moment l.disk);
   cause : (g.D.Disk.moment l.initial.disk).faults ≤ (g.D.Disk.moment l.disk).faults;
   tells : TellsRead {T = Unit {0}} {E = DiskFault} (g.D.Disk.moment l.initial.disk).passing (g.D.Disk.moment l.disk).passing (Ok tt);
+  how : (g.D.Disk.moment l.disk).how ≡ (g.D.Disk.moment l.initial.disk).how;
 }

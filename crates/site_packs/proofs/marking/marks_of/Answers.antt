@@ -1,4 +1,4 @@
-use Rattle.std.proofs.Common.{◌≡◌, ◌≤◌, ◌<◌, ◌∙◌, length, get_or, refl, arith, length-set}
+use Rattle.std.proofs.Common.{◌∙◌, get_or, refl, arith, length-set}
 use Rattle.site_packs.proofs.Marks.{no_marks, not_once, not_inside, next_mark, all_marks}
 use Rattle.site_packs.proofs.marking.marks_of.Goals as goal
 

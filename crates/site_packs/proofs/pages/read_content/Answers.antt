@@ -1,8 +1,7 @@
-use Rattle.std.proofs.Common.{◌≡◌, ◌∙◌, ◌+◌, ◌-◌, ◌*◌, ◌<◌, ◌++◌, ℕ, List, length, take, ap, sym, subst, arith, append_assoc}
-use Rattle.std.specs.Prelude.{Ok, Some, min}
-use Rattle.file_content.specs.Pages.{pages_of}
+use Rattle.std.proofs.Common.{◌≡◌, ◌∙◌, ◌-◌, ◌*◌, ◌<◌, ◌++◌, ℕ, List, length, take, ap, sym, subst, arith, append_assoc}
+use Rattle.std.specs.Prelude.{Ok, min}
 use Rattle.disk_model.proofs.ReadRuns.{reads_join, reads_ok, goes_same}
-use Rattle.inode_switch.specs.View.{Version, view}
+use Rattle.inode_switch.specs.View.{view}
 use Rattle.inode_pack.specs.Pack.{IsPageOf}
 use Rattle.inode_pack.specs.Committing.{content_of}
 use Rattle.site_packs.proofs.PageBytes.{next_page, content_is, content_long}
@@ -36,4 +35,5 @@ loop-i-preserved g c =
       goes = goes_same M c.args.disk.now c.loop-i.disk c.read_page.new.disk inv.goes c.read_page.ensures.crash;
       cause = omega (arith, inv.cause, c.read_page.ensures.cause.later);
       tells = reads_join (M c.args.disk.now).passing (M c.loop-i.disk).passing (M c.read_page.new.disk).passing (Ok tt) inv.tells (reads_ok c.in_ok-read_page.field-0 _ _ c.in_ok-read_page.ensures.tells);
+      how = c.read_page.ensures.how ∙ inv.how;
     }

@@ -1,7 +1,9 @@
-use Rattle.std.proofs.Common.{◌≡◌, ◌-◌, take}
+use Rattle.std.proofs.Common.{◌≡◌, ℕ, ◌-◌, drop}
+use Rattle.std.specs.Prelude.{slice_get}
 use Rattle.role_steps.specs.Tables.{total}
-use Rattle.role_steps.specs.Storage.{changed_pages}
+use Rattle.storage_site.specs.Standing.{changed_by}
 use Rattle.storage_site.proofs.store.less_changed.Given as goal
 
-abbrev pub invariant-loop-row : goal.invariant-loop-row
-invariant-loop-row l = l.left ≡ l.free - total (changed_pages l.group) (take l.row-index l.rows)
+abbrev pub invariant-loop-place : goal.invariant-loop-place
+invariant-loop-place l =
+    l.left - total (λ (q : ℕ). changed_by l.group (slice_get l.rows q)) (drop l.place-index l.standing) ≡ l.free - total (λ (q : ℕ). changed_by l.group (slice_get l.rows q)) l.standing

@@ -7,6 +7,9 @@ use Rattle.inode_pack.specs.Pack.{copy_of, named_pages}
 use Rattle.inode_pack.specs.Committing.{MayBeLeft, HoldsPages, size_of, adopted_version, needed, commit_calls, commit_answer}
 use Rattle.inode_pack.specs.Whole.{whole}
 use Rattle.inode_pack.proofs.Whole.{rests_whole, adopted_is, needed_all}
+use Rattle.std.specs.Prelude.{OnErr}
+use Rattle.file_content.specs.Pages.{pages_of}
+use Rattle.inode_pack.specs.Cutting.{IsCutCommit}
 use Rattle.inode_pack.proofs.pack.Pack.adopt.Goals as goal
 
 pub store-requires-clause-rests : goal.store-requires-clause-rests
@@ -43,3 +46,15 @@ returns-clause-tells g c =
     let copies = c.args.self.now.copies in
     subst (λ (n : ℕ). TellsMany (commit_calls n (copy_of copies c.args.ino) c.store.result) before after (commit_answer c.store.result)) (needed_all c.args.content.now)
     (subst (λ (i : ℕ). TellsMany (commit_calls (needed (whole c.args.content.now)) (copy_of copies i) c.store.result) before after (commit_answer c.store.result)) c.get.ensures.value c.store.ensures.tells)
+
+pub returns-clause-cut : goal.returns-clause-cut
+returns-clause-cut g c passed told =
+    let M = g.D.Disk.moment in
+    let pack = c.args.self.now in
+    let old = (M c.args.disk.now).seen in
+    let new = (M c.store.new.disk).left in
+    let how = (M c.args.disk.now).how in
+    let answer = commit_answer c.store.result in
+    subst (λ (n : ℕ). OnErr answer (IsCutCommit pack n (adopted_version n c.args.version.now c.args.content.now) (pages_of (length c.args.content.now)) how passed old new)) c.get.ensures.value
+    (subst (λ (k : ℕ). OnErr answer (IsCutCommit pack c.get.result (adopted_version c.get.result c.args.version.now c.args.content.now) k how passed old new)) (needed_all c.args.content.now)
+    (subst (λ (v : Version). OnErr answer (IsCutCommit pack c.get.result v (needed (whole c.args.content.now)) how passed old new)) (adopted_is pack.base c.get.result c.args.version.now c.args.content.now old) (c.store.ensures.cut passed told)))

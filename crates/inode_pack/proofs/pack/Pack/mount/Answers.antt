@@ -7,6 +7,12 @@ use Rattle.inode_pack.specs.Mounting.{KeepsPack}
 use Rattle.inode_pack.specs.Losing.{KeepsCopies}
 use Rattle.inode_pack.proofs.Mounted.{keeps_itself, keeps_pack, mounted, recovered, mounts}
 use Rattle.disk_model.proofs.ReadRuns.{leaves_same, leaves_joins}
+use Rattle.std.proofs.Common.{◌≡◌, ◌∙◌}
+use Rattle.disk_model.proofs.Moments.{leaves_cut}
+use Rattle.disk_model.proofs.ReadRuns.{reads_exact}
+use Rattle.disk_model.proofs.Tells.{answers_err}
+use Rattle.inode_pack.specs.Mounting.{disk_answer}
+use Rattle.inode_pack.specs.Cutting.{IsCutMount, losing_inodes, closings_left}
 use Rattle.inode_pack.proofs.pack.Pack.mount.Goals as goal
 
 pub returns-in_err-survey-clause-mounts : goal.returns-in_err-survey-clause-mounts
@@ -67,3 +73,20 @@ returns-clause-stands g c =
     let shows = subst (λ (o : List (Option InodeCopy)). ShowsCopies c.args.base new (copy_of o)) same c.in_ok-close_losing.ensures.shows in
     let pack : PackState = record { base = c.args.base; group = c.args.group; site = c.args.site; copies = copies } in
     record { settled = c.in_ok-close_losing.ensures.durable; shows = mounted pack seen new c.requires.area c.in_ok-survey.ensures.sound.named kept shows }
+
+pub returns-in_err-close_losing-clause-cut : goal.returns-in_err-close_losing-clause-cut
+returns-in_err-close_losing-clause-cut g c passed told =
+    let M = g.D.Disk.moment in
+    let old = c.args.disk.now in
+    let mid = c.read_pack.new.disk in
+    let new = c.close_losing.new.disk in
+    let base = c.args.base in
+    let passing = reads_exact _ (M old).passing (M mid).passing passed c.in_ok-survey.ensures.tells told in
+    let both : losing_inodes base (M new).left ≡ closings_left (M mid).how passed (losing_inodes base (M mid).seen) = c.in_err-close_losing.ensures.cut passed passing in
+    let how : (M mid).how ≡ (M old).how = c.read_pack.ensures.how in
+    let seen : (M mid).seen ≡ (M old).seen = c.in_ok-survey.ensures.seen in
+    let left : IsCutMount base c.args.group c.args.site (M old).how passed (M old).seen (M new).left = record {
+      kept = leaves_cut M old new (KeepsPack base c.args.group c.args.site (M old).seen) (returns-in_err-close_losing-clause-any_moment g c) (g.met.D.Disk.counts_now new) (g.met.D.Disk.leaves_an_image new);
+      both = both ∙ (λ i. closings_left (how i) passed (losing_inodes base (seen i)));
+    } in
+    answers_err (disk_answer c.from_residual-in_err-close_losing.result) _ left

@@ -1,5 +1,5 @@
 use Rattle.std.proofs.Common.{◌≡◌, ℕ, List, sym, ap, subst, ◌∙◌, arith}
-use Rattle.std.specs.Prelude.{Some, Result, Ok, Err}
+use Rattle.std.specs.Prelude.{Some, Result, Ok, Err, OnErr}
 use Rattle.disk_model.specs.declared.disk.DiskFault.{DiskFault}
 use Rattle.disk_model.specs.Moments.{TellsMany}
 use Rattle.gate_switch.specs.Switch.{IsStage}
@@ -15,6 +15,9 @@ use Rattle.inode_pack.proofs.Setup.{set_up}
 use Rattle.inode_pack.proofs.Making.{place}
 use Rattle.inode_pack.proofs.NewCopies.{own_copy, copies_after}
 use Rattle.inode_pack.proofs.Committed.{left_at_start, given_may, given_closes, given_left, given_calls, given_shows, given_replaced, given_pages, given_on, same_fault, other_answer, disk_no_space, disk_tells}
+use Rattle.disk_model.proofs.Moments.{leaves_cut}
+use Rattle.inode_pack.specs.Cutting.{IsCutCommit}
+use Rattle.inode_pack.proofs.Committed.{given_pages_are, given_cut}
 use Rattle.inode_pack.proofs.pack.Pack.store.Goals as goal
 
 pub returns-in_err-room_for-clause-any_moment : goal.returns-in_err-room_for-clause-any_moment
@@ -191,3 +194,26 @@ returns-clause-good g c =
     let e = c.prepare-prepared.ensures in
     let s = set_up pack ino c.args.version w p.made c.requires.low c.requires.high e.copies c.requires.version (omega arith) c.requires.rests e.whole e.numbers e.makes in
     subst (λ (new : PackState). AreCopies new.copies) (sym c.put.ensures) (copies_after pack ino w p.made s (place pack ino w p.made s old c.requires.stands.shows))
+
+pub returns-in_err-replace_inode-clause-cut : goal.returns-in_err-replace_inode-clause-cut
+returns-in_err-replace_inode-clause-cut g c passed told =
+    let M = g.D.Disk.moment in
+    let pack = c.args.self.now in
+    let ino = c.args.ino in
+    let w = (g.C.NewContent.working c.args.content.now) in
+    let before = c.args.disk.now in
+    let after = c.replace_inode.new.disk in
+    let old = (M before).seen in
+    let p = c.prepare-prepared.result in
+    let e = c.prepare-prepared.ensures in
+    let s = set_up pack ino c.args.version w p.made c.requires.low c.requires.high e.copies c.requires.version (omega arith) c.requires.rests e.whole e.numbers e.makes in
+    let given = pieces_of c.base-base.result p.made w in
+    let are = ap (λ (b : ℕ). pieces_of b p.made w) c.base-base.ensures in
+    let h = given_on c.from_residual-in_err-replace_inode.result _ c.from_residual-in_err-replace_inode.ensures in
+    let is = h.1 ∙ ap (λ (f : PackFault). Err f) h.2 in
+    let made = new_version pack.base ino c.args.version w old in
+    let count = given_pages_are pack ino w p.made s old c.requires.stands.shows c.base-base.result given c.base-base.ensures are in
+    let cut = c.in_err-replace_inode.ensures.cut (needed w) passed count told in
+    let left = leaves_cut M before after (MayBeLeft pack ino made old) (returns-in_err-replace_inode-clause-any_moment g c) (g.met.D.Disk.counts_now after) (g.met.D.Disk.leaves_an_image after) in
+    subst (λ (r : Result (Unit {0}) PackFault). OnErr (commit_answer r) (IsCutCommit pack ino made (needed w) (M before).how passed old (M after).left)) (sym is)
+    (given_cut pack ino w p.made s old c.requires.stands.shows c.base-base.result given c.base-base.ensures are c.args.version e.makes (M before).how passed (M after).left left cut)

@@ -1,14 +1,13 @@
-use Rattle.std.proofs.Common.{◌≡◌, ◌∙◌, ◌+◌, ℕ, List, [], ◌∷◌, length, take, drop, subst, ap, arith, length-drop, length-take}
+use Rattle.std.proofs.Common.{◌≡◌, ◌∙◌, ◌+◌, ℕ, List, [], ◌∷◌, length, take, drop, subst, ap, arith, length-drop}
 use Rattle.std.proofs.lemmas.List.{take_all}
 use Rattle.disk_model.specs.Images.{overwritten, Torn}
 use Rattle.disk_model.proofs.Moments.{goes_wider, on_ok}
 use Rattle.disk_model.proofs.Tells.{tells_one}
-use Rattle.gate_switch.specs.Switch.{Piece, TornIn, written}
+use Rattle.gate_switch.specs.Switch.{TornIn, written}
 use Rattle.gate_switch.proofs.Pieces.{torn_alone}
 use Rattle.site_label.specs.Label.{half_at, half_bytes}
 use Rattle.site_label.specs.Raising.{body_piece}
 use Rattle.site_label.proofs.Halves.{length-half}
-use Rattle.site_label.proofs.body.HalfBodyPieceSource.write_to.Given.{Over}
 use Rattle.site_label.proofs.body.HalfBodyPieceSource.write_to.Goals as goal
 
 -- what is written is the half but for its gate

@@ -1,25 +1,25 @@
-use Rattle.std.proofs.Common.{◌≡◌, ◌∙◌, ◌+◌, ◌*◌, ◌<◌, ◌≤◌, ℕ, Bool, true, List, length, ap, sym, subst, arith, refl}
-use Rattle.std.specs.Prelude.{Option, Some, None, Result, Ok, Err, replicate, is_some}
+use Rattle.std.proofs.Common.{ℕ, true, length, sym, subst, arith}
+use Rattle.std.specs.Prelude.{Ok, Err, replicate, is_some}
 use Rattle.disk_model.specs.declared.disk.DiskFault.{DiskFault}
 use Rattle.disk_model.specs.declared.disk.DiskFault.TheVariants.{Failed}
-use Rattle.disk_model.specs.Moments.{LeavesOnly, TellsMany}
+use Rattle.disk_model.specs.Moments.{TellsMany}
 use Rattle.disk_model.proofs.Moments.{leaves_start}
-use Rattle.disk_model.proofs.ReadRuns.{leaves_same, leaves_joins, reads_then}
 use Rattle.file_content.specs.Pages.{pages_of}
 use Rattle.inode_pack.specs.declared.pack_fault.PackFault.{PackFault}
 use Rattle.inode_pack.specs.Committing.{needed, commit_answer}
 use Rattle.inode_pack.specs.Marked.{marked}
-use Rattle.inode_pack.proofs.Marked.{needed_marked}
 use Rattle.role_steps.specs.Storage.{content_of}
-use Rattle.site_packs.specs.Packs.{PacksState, ArePacks, pack_in, copy_at}
-use Rattle.site_packs.specs.Committing.{MayBeLeft, copy_made, room, calls_of, store_calls}
-use Rattle.site_packs.specs.Marking.{AreAll, FillsAt}
+use Rattle.site_packs.specs.Packs.{PacksState, ArePacks, copy_at}
+use Rattle.site_packs.specs.Committing.{MayBeLeft, copy_made, calls_of, store_calls}
+use Rattle.site_packs.specs.Marking.{AreAll}
 use Rattle.site_packs.proofs.Stored.{stays}
 use Rattle.site_packs.proofs.Fills.{all_true, all_kept, needed_all, fills_at}
+use Rattle.std.specs.Prelude.{OnErr}
+use Rattle.site_packs.specs.Cutting.{IsCut}
 use Rattle.site_packs.proofs.packs.SitePacks.adopt.Goals as goal
 
-pub returns-then-div_ceil-from-clause-any_moment : goal.returns-then-div_ceil-from-clause-any_moment
-returns-then-div_ceil-from-clause-any_moment g c =
+pub returns-then-pages-from-clause-any_moment : goal.returns-then-pages-from-clause-any_moment
+returns-then-pages-from-clause-any_moment g c =
     let M = g.D.Disk.moment in
     let d = c.args.disk.now in
     let are = subst (λ (q : PacksState). ArePacks 0 0 q.site q.packs) c.self.view_is c.self.invariant in
@@ -53,8 +53,8 @@ store-requires-clause-room g c =
     let marks = replicate 64 true in
     let all : AreAll (pages_of (length c.args.content.now)) marks = all_true 64 (pages_of (length c.args.content.now)) (omega arith) in
     let need = needed_all c.args.content.now marks all in
-    let le = c.if-div_ceil-from.false in
-    let count = c.div_ceil.ensures in
+    let le = c.if-pages-from.false in
+    let count = c.div_ceil-pages.ensures in
     let from = c.from.ensures in
     let free = c.free_pages.ensures seen c.requires.stands.shown in
     omega arith
@@ -80,3 +80,18 @@ returns-in-Err-clause-tells g c =
     let old = copy_at c.args.self.now seen c.args.file in
     subst (λ (n : ℕ). TellsMany {T = Unit {0}} {E = DiskFault} (calls_of n (is_some old)) before after (Err Failed)) (needed_all c.args.content.now marks all)
     (subst (λ (f : PackFault). TellsMany (store_calls {T = Unit {0}} (needed (marked c.args.content.now marks)) old (Err f)) before after (commit_answer {T = Unit {0}} (Err f))) c.in-Err.ensures.only c.in-Err.ensures.tells)
+
+pub returns-in-Err-clause-cut : goal.returns-in-Err-clause-cut
+returns-in-Err-clause-cut g c passed told =
+    let M = g.D.Disk.moment in
+    let d = c.args.disk.now in
+    let p = c.args.self.now in
+    let seen = (M d).seen in
+    let new = (M c.store.new.disk).left in
+    let most = c.in-Some.ensures.some.whole.version.most in
+    let marks = replicate 64 true in
+    let all : AreAll (pages_of (length c.args.content.now)) marks = all_true 64 (pages_of (length c.args.content.now)) (omega arith) in
+    let w = marked c.args.content.now marks in
+    let x = copy_made c.args.file c.args.version.now c.args.content.now in
+    subst (λ (n : ℕ). IsCut p x n (M d).how passed seen new) (needed_all c.args.content.now marks all)
+    (subst (λ (f : PackFault). OnErr (commit_answer {T = Unit {0}} (Err f)) (IsCut p x (needed w) (M d).how passed seen new)) c.in-Err.ensures.only (c.in-Err.ensures.cut passed told))

@@ -1,21 +1,22 @@
-use Rattle.std.proofs.Common.{◌≡◌, ◌∙◌, ◌+◌, ◌*◌, ◌<◌, ◌≤◌, ℕ, Bool, true, List, length, ap, sym, subst, arith, refl}
-use Rattle.std.specs.Prelude.{Option, Some, None, Result, Ok, Err, replicate, is_some}
+use Rattle.std.proofs.Common.{◌≡◌, ◌∙◌, ℕ, List, length, ap, sym, subst, arith}
+use Rattle.std.specs.Prelude.{Ok, Err, is_some}
 use Rattle.disk_model.specs.declared.disk.DiskFault.{DiskFault}
 use Rattle.disk_model.specs.declared.disk.DiskFault.TheVariants.{Failed}
 use Rattle.disk_model.specs.Moments.{LeavesOnly, TellsMany}
-use Rattle.disk_model.proofs.Moments.{leaves_start}
-use Rattle.disk_model.proofs.ReadRuns.{leaves_same, leaves_joins, reads_then}
-use Rattle.file_content.specs.Pages.{pages_of}
+use Rattle.disk_model.proofs.ReadRuns.{leaves_same, leaves_joins, reads_then, reads_exact}
 use Rattle.inode_pack.specs.declared.pack_fault.PackFault.{PackFault}
 use Rattle.inode_pack.specs.Committing.{needed, commit_answer}
 use Rattle.inode_pack.specs.Marked.{marked}
 use Rattle.inode_pack.proofs.Marked.{needed_marked}
-use Rattle.role_steps.specs.Storage.{content_of}
 use Rattle.site_packs.specs.Packs.{PacksState, ArePacks, pack_in, copy_at}
 use Rattle.site_packs.specs.Committing.{MayBeLeft, copy_made, room, calls_of, store_calls}
-use Rattle.site_packs.specs.Marking.{AreAll, FillsAt}
+use Rattle.site_packs.specs.Marking.{FillsAt}
 use Rattle.site_packs.proofs.Stored.{stays}
-use Rattle.site_packs.proofs.Fills.{all_true, all_kept, needed_all, fills_at}
+use Rattle.site_packs.proofs.Fills.{fills_at}
+use Rattle.std.specs.Prelude.{OnErr}
+use Rattle.disk_model.specs.Cut.{Cut}
+use Rattle.disk_model.specs.Disk.{Exactly}
+use Rattle.site_packs.specs.Cutting.{IsCut}
 use Rattle.site_packs.proofs.packs.SitePacks.commit.Goals as goal
 
 pub returns-in-Err-clause-any_moment : goal.returns-in-Err-clause-any_moment
@@ -91,3 +92,25 @@ returns-in-Err-store-clause-tells g c =
     reads_then n (M c.args.disk.now).passing before after (Err Failed) c.in-Ok.ensures.tells
     (subst (λ (m : ℕ). TellsMany {T = Unit {0}} {E = DiskFault} m before after (Err Failed)) calls
     (subst (λ (f : PackFault). TellsMany (store_calls {T = Unit {0}} (needed w) (copy_at c.args.self.now (M c.admit.new.disk).seen c.args.file) (Err f)) before after (commit_answer {T = Unit {0}} (Err f))) c.in-Err-store.ensures.only c.in-Err-store.ensures.tells))
+
+pub returns-in-Err-clause-size : goal.returns-in-Err-clause-size
+returns-in-Err-clause-size g c = c.in-Err.ensures.unwritten _ _
+
+pub returns-in-Err-store-clause-cut : goal.returns-in-Err-store-clause-cut
+returns-in-Err-store-clause-cut g c passed told =
+    let M = g.D.Disk.moment in
+    let d = c.args.disk.now in
+    let mid = c.admit.new.disk in
+    let p = c.args.self.now in
+    let new = (M c.store.new.disk).left in
+    let admitted = c.in-Ok.ensures.admitted in
+    let w = marked c.args.content.now c.in-Ok.admitted.marks in
+    let need : needed w ≡ length c.args.changed.now = needed_marked c.args.content.now c.in-Ok.admitted.marks ∙ admitted.marks.number in
+    let x = copy_made c.args.file c.args.version.now c.args.content.now in
+    let passing : (M mid).passing ≡ Exactly passed = reads_exact tt (M d).passing (M mid).passing passed c.in-Ok.ensures.tells told in
+    let seen : (M mid).seen ≡ (M d).seen = c.admit.ensures.seen in
+    let how : (M mid).how ≡ (M d).how = c.admit.ensures.how in
+    let cut : IsCut p x (needed w) (M mid).how passed (M mid).seen new =
+    subst (λ (f : PackFault). OnErr (commit_answer {T = Unit {0}} (Err f)) (IsCut p x (needed w) (M mid).how passed (M mid).seen new)) c.in-Err-store.ensures.only (c.in-Err-store.ensures.cut passed passing) in
+    subst (λ (n : ℕ). IsCut p x n (M d).how passed (M d).seen new) need
+    (subst (λ (h : Cut). IsCut p x (needed w) h passed (M d).seen new) how (subst (λ (l : List ℕ). IsCut p x (needed w) (M mid).how passed l new) seen cut))

@@ -1,15 +1,12 @@
-use Rattle.std.proofs.Common.{◌≡◌, ◌∙◌, ◌*◌, ◌<◌, ℕ, List, [], ◌++◌, ap, sym, subst, arith, refl}
-use Rattle.std.specs.Prelude.{Option, Some, None, OnOk, IfOk, ◌↔◌, true}
+use Rattle.std.proofs.Common.{◌≡◌, ◌∙◌, ℕ, List, ap, sym, subst, arith}
+use Rattle.std.specs.Prelude.{Option, Some, IfOk, ◌↔◌, true}
 use Rattle.site_packs.specs.Marking.{KeepsRest}
 use Rattle.std.specs.Option.{option_copied}
-use Rattle.file_content.specs.Pages.{page_of}
-use Rattle.pack_layout.specs.declared.slot.Slot.{Slot}
 use Rattle.inode_switch.specs.View.{view}
 use Rattle.inode_pack.specs.Pack.{PackState}
 use Rattle.inode_pack.specs.Committing.{content_of as content_in}
 use Rattle.role_steps.specs.Storage.{content_of}
 use Rattle.site_packs.specs.Packs.{PacksState, ArePacks, slot_held, copy_at}
-use Rattle.site_packs.specs.Reading.{HasContent}
 use Rattle.site_packs.proofs.Contents.{no_content, content_at, has_content}
 use Rattle.site_packs.proofs.Reports.{found_pack}
 use Rattle.site_packs.proofs.packs.SitePacks.keeps_rest.Goals as goal

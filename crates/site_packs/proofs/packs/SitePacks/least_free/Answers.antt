@@ -1,5 +1,4 @@
-use Rattle.std.proofs.Common.{◌≡◌, ◌∙◌, ◌+◌, ◌-◌, ◌*◌, ◌≤◌, sym, ap, subst, arith, ℕ}
-use Rattle.std.specs.Prelude.{Option}
+use Rattle.std.proofs.Common.{◌≡◌, ◌∙◌, ◌+◌, ◌-◌, ◌*◌, sym, ap, arith, ℕ}
 use Rattle.site_packs.specs.Packs.{PacksState, free_ino}
 use Rattle.site_packs.proofs.FreeNumbers.{next_free, this_free}
 use Rattle.site_packs.proofs.packs.SitePacks.least_free.Goals as goal

@@ -1,4 +1,4 @@
-use Rattle.std.proofs.Common.{◌≡◌, ◌∙◌, ◌+◌, ◌-◌, ◌*◌, ◌≤◌, sym, ap, subst, arith, ℕ}
+use Rattle.std.proofs.Common.{◌≡◌, ◌∙◌, ◌+◌, ◌-◌, ◌*◌, ap, subst, arith}
 use Rattle.site_packs.specs.Packs.{PacksState, ArePacks}
 use Rattle.site_packs.proofs.FreeNumbers.{free_is}
 use Rattle.site_packs.proofs.packs.SitePacks.next_ino.Goals as goal

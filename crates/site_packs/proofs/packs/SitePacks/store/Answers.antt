@@ -1,23 +1,22 @@
-use Rattle.std.proofs.Common.{◌≡◌, ◌∙◌, ◌+◌, ◌*◌, ◌<◌, ◌≤◌, ℕ, List, length, ap, sym, subst, arith, refl}
-use Rattle.std.specs.Prelude.{Option, Some, None, Result, Ok, Err, OnOk, OnErr, IfErr, slice_get, slice_set, map, is_some}
+use Rattle.std.proofs.Common.{◌≡◌, ◌∙◌, ◌<◌, ℕ, List, length, ap, sym, subst, arith, refl}
+use Rattle.std.specs.Prelude.{Option, Some, OnOk, OnErr, slice_get, slice_set, map}
 use Rattle.std.proofs.lemmas.Option.{slice_get_read}
-use Rattle.disk_model.specs.Images.{Torn}
 use Rattle.disk_model.specs.Moments.{LeavesOnly, TellsMany}
 use Rattle.disk_model.proofs.Moments.{leaves_weaker}
-use Rattle.pack_layout.specs.Layout.{area_length}
 use Rattle.inode_switch.specs.View.{Replaced}
-use Rattle.inode_pack.specs.declared.pack_fault.PackFault.{PackFault}
-use Rattle.inode_pack.specs.Pack.{PackState, Stands, copy_of, named_pages}
+use Rattle.inode_pack.specs.Pack.{PackState, copy_of, named_pages}
 use Rattle.inode_pack.specs.Marked.{marked}
 use Rattle.inode_pack.specs.Committing.{new_version, needed, commit_calls, commit_answer, MayBeLeft as MayBeLeftIn}
 use Rattle.role_steps.specs.Tables.{with_row}
 use Rattle.role_steps.specs.Storage.{copy_key}
 use Rattle.site_packs.specs.Copies.{copies_on}
-use Rattle.site_packs.specs.Packs.{PacksState, pack_group, ArePacks, Stand, SamePlaces, groups_of, pack_in, copy_at}
-use Rattle.site_packs.specs.Committing.{MayBeLeft, copy_made, room, store_calls}
+use Rattle.site_packs.specs.Packs.{PacksState, pack_group, ArePacks, Stand, groups_of, pack_in, copy_at}
+use Rattle.site_packs.specs.Committing.{MayBeLeft, copy_made, room}
 use Rattle.site_packs.specs.Marking.{Fills, FillsAt}
 use Rattle.site_packs.proofs.Reports.{found_pack}
-use Rattle.site_packs.proofs.Stored.{replaced, left, room_is, had_copy, calls_same, after_packs, on_ok_map, only_disk, kept_packs, stand_packs}
+use Rattle.site_packs.proofs.Stored.{on_commit, cut_left, none_after, replaced, left, room_is, had_copy, calls_same, after_packs, on_ok_map, only_disk, kept_packs, stand_packs}
+use Rattle.inode_pack.specs.Cutting.{IsCutCommit}
+use Rattle.site_packs.specs.Cutting.{IsCut}
 use Rattle.site_packs.proofs.packs.SitePacks.store.Goals as goal
 
 pub commit_pages-requires-clause-stands : goal.commit_pages-requires-clause-stands
@@ -194,3 +193,41 @@ returns-clause-tells g c =
     let after = (M c.commit_pages.new.disk).passing in
     subst (λ (n : ℕ). TellsMany n before after (commit_answer c.commit_pages.result)) (calls_same pages (copy_of pack.copies file.ino) (copy_at p old file) c.commit_pages.result (had_copy p old at file pack c.args.version c.args.content.now c.args.marks.now are c.requires.stands.shown place is c.requires.whole.low c.requires.whole.high (omega arith) c.requires.whole.version fills))
     (subst (λ (n : ℕ). TellsMany (commit_calls pages (copy_of pack.copies n) c.commit_pages.result) before after (commit_answer c.commit_pages.result)) c.requires.own c.commit_pages.ensures.tells)
+
+pub returns-clause-none : goal.returns-clause-none
+returns-clause-none g c =
+    let M = g.D.Disk.moment in
+    let p = c.args.self.now in
+    let old = (M c.args.disk.now).seen in
+    let at = c.args.at in
+    let file = c.args.file in
+    let pack = c.index_mut.result.now in
+    let items = ap (λ (q : PacksState). q.packs) c.self.view_is in
+    let are = subst (λ (q : PacksState). ArePacks 0 0 q.site q.packs) c.self.view_is c.self.invariant in
+    let inside : at < length c.self.inside.packs.items = subst (λ (l : List PackState). at < length l) (sym items) c.requires.inside in
+    let place : slice_get p.packs at ≡ Some pack = subst (λ (l : List PackState). slice_get l at ≡ Some pack) items (slice_get_read c.self.inside.packs.items (length c.self.inside.packs.items) at pack refl inside c.index_mut.ensures.value) in
+    let is : pack_in file.group p.packs ≡ Some pack = sym c.requires.place ∙ place in
+    let new = (M c.commit_pages.new.disk).seen in
+    let torn = (c.commit_pages.ensures.any_moment.each new (g.met.D.Disk.counts_now c.commit_pages.new.disk (M c.args.disk.now).now new c.commit_pages.ensures.any_moment.later (g.met.D.Disk.reads_an_image c.commit_pages.new.disk))).outside in
+    none_after p at pack c.commit_pages.new.self c.args.ino c.args.version (marked c.args.content.now c.args.marks.now) old (M c.commit_pages.new.disk) c.commit_pages.result are place c.requires.stands.shown torn c.commit_pages.ensures.good c.commit_pages.ensures.copies c.commit_pages.ensures.stands
+
+pub returns-clause-cut : goal.returns-clause-cut
+returns-clause-cut g c passed told =
+    let M = g.D.Disk.moment in
+    let p = c.args.self.now in
+    let old = (M c.args.disk.now).seen in
+    let at = c.args.at in
+    let file = c.args.file in
+    let pack = c.index_mut.result.now in
+    let items = ap (λ (q : PacksState). q.packs) c.self.view_is in
+    let are = subst (λ (q : PacksState). ArePacks 0 0 q.site q.packs) c.self.view_is c.self.invariant in
+    let inside : at < length c.self.inside.packs.items = subst (λ (l : List PackState). at < length l) (sym items) c.requires.inside in
+    let place : slice_get p.packs at ≡ Some pack = subst (λ (l : List PackState). slice_get l at ≡ Some pack) items (slice_get_read c.self.inside.packs.items (length c.self.inside.packs.items) at pack refl inside c.index_mut.ensures.value) in
+    let is : pack_in file.group p.packs ≡ Some pack = sym c.requires.place ∙ place in
+    let fills : Fills pack file.ino c.args.content.now c.args.marks.now old = subst (λ (n : ℕ). Fills pack n c.args.content.now c.args.marks.now old) c.requires.own (subst (λ (o : Option PackState). FillsAt o c.args.ino c.args.content.now c.args.marks.now old) is c.requires.fills) in
+    let w = marked c.args.content.now c.args.marks.now in
+    let how = (M c.args.disk.now).how in
+    let new = (M c.commit_pages.new.disk).left in
+    on_commit c.commit_pages.result (IsCutCommit pack file.ino (new_version pack.base file.ino c.args.version w old) (needed w) how passed old new) (IsCut p (copy_made file c.args.version c.args.content.now) (needed w) how passed old new)
+    (cut_left p old at file pack c.args.version c.args.content.now c.args.marks.now are c.requires.stands.shown place is c.requires.whole.low c.requires.whole.high (omega arith) c.requires.whole.version fills (needed w) how passed new)
+    (subst (λ (n : ℕ). OnErr (commit_answer c.commit_pages.result) (IsCutCommit pack n (new_version pack.base n c.args.version w old) (needed w) how passed old new)) c.requires.own (c.commit_pages.ensures.cut passed told))

@@ -1,0 +1,65 @@
+ghost use Rattle.std.specs.Prelude.{◌≡◌, [], OnOk};
+ghost use Rattle.packet_order.specs.Orders.{behind, sorted_out, together};
+
+use crate::{OrderFault, Part};
+use locus_ids::NoMemory;
+use std::alloc::Global;
+use std::marker::Model;
+use wire_messages::Outbox;
+
+/// What events of a site send and tell, in the order of the run: one outbox after the other.
+#[derive(Drop)]
+pub struct Dispatch {
+    parts: Vec<Part>,
+}
+
+impl Model for Dispatch {
+    ghost use Rattle.wire_messages.specs.Outboxes.{Outgoing};
+    ghost use Rattle.packet_order.specs.Orders.{together};
+
+    ghost Value = { Outgoing };
+
+    ghost view = { λ d. together d.parts.items };
+}
+
+impl Dispatch {
+    /// Nothing is sent and nothing told. What it takes later comes from this allocator.
+    pub fn new(alloc: Global) -> Dispatch
+        ensures { result ≡ record { packets = []; records = [] } }
+    {
+        Dispatch {
+            parts: Vec::new(alloc),
+        }
+    }
+
+    /// Adds what an outbox gave, as it stands.
+    pub fn add(&mut self, outbox: Outbox) -> Result<(), NoMemory>
+        ensures { OnOk result (self.new ≡ behind self.old outbox) }
+    {
+        let part = Part::new(*self.parts.allocator(), outbox);
+        self.push(part)
+    }
+
+    /// Adds what an outbox gave, its packets in order. `Unfit` only where there are several packets and one isn't of the format.
+    pub fn add_in_order(&mut self, outbox: Outbox) -> Result<(), OrderFault>
+        ensures { OnOk result (self.new ≡ behind self.old (sorted_out outbox)) }
+    {
+        let part = Part::in_order(*self.parts.allocator(), outbox)?;
+        self.push(part)?;
+        Ok(())
+    }
+
+    fn push(&mut self, part: Part) -> Result<(), NoMemory>
+        ensures { OnOk result (self.new ≡ behind self.old part) }
+    {
+        self.parts.push(part)?;
+        Ok(())
+    }
+
+    /// What was added, one after the other.
+    pub fn parts(&self) -> &[Part]
+        ensures { self.now ≡ together result.now }
+    {
+        self.parts.as_slice()
+    }
+}

@@ -1,0 +1,61 @@
+// Packets as their bytes, by which they are ordered.
+ghost use Rattle.std.specs.Prelude.{◌≡◌, ◌≤◌, length, map, cond, false, IfOk};
+ghost use Rattle.std.specs.Ordering.{is_lt};
+ghost use Rattle.std.specs.Cmp.Lexicographic.{slice_cmp};
+ghost use Rattle.wire_messages.specs.Packets.{packet_bytes};
+ghost use Rattle.wire_messages.specs.declared.packet.Packet.{Packet};
+ghost use Rattle.the_run.specs.Steps.{is_before};
+
+use crate::OrderFault;
+use locus_ids::{Bytes, ItemList};
+use packet_fit::fits;
+use std::alloc::Global;
+use std::cmp::Ordering;
+use wire_messages::{Packet, encode};
+
+/// Where the number of the kind, the receiver and the body stand.
+const KIND_AT: usize = 1;
+
+const RECEIVER_AT: usize = 7;
+
+const BODY_AT: usize = 25;
+
+/// The bytes of each packet in turn.
+pub(crate) fn letters_of(alloc: Global, packets: &[Packet]) -> Result<ItemList<Bytes>, OrderFault>
+    ensures { IfOk result (λ made. made ≡ map packet_bytes packets.now) }
+{
+    let mut made = ItemList::new(alloc);
+    for packet in packets {
+        made.push(letter_of(alloc, packet)?)?;
+    }
+    Ok(made)
+}
+
+/// The bytes of a packet.
+fn letter_of(alloc: Global, packet: &Packet) -> Result<Bytes, OrderFault>
+    ensures { IfOk result (λ made. made ≡ packet_bytes packet.now) }
+{
+    if !fits(packet) {
+        return Err(OrderFault::Unfit);
+    }
+    let mut letter = Bytes::new(alloc);
+    encode(packet, &mut letter)?;
+    Ok(letter)
+}
+
+/// The packet of the first bytes goes before that of the second.
+pub(crate) fn is_before(a: &[u8], b: &[u8]) -> bool
+    requires first { 25 ≤ length a.now }
+    requires second { 25 ≤ length b.now }
+    ensures { (p q : Packet) → a.now ≡ packet_bytes p → b.now ≡ packet_bytes q → result ≡ is_before p q }
+{
+    match a[KIND_AT].cmp(&b[KIND_AT]) {
+        Ordering::Less => true,
+        Ordering::Greater => false,
+        Ordering::Equal => match a[RECEIVER_AT].cmp(&b[RECEIVER_AT]) {
+            Ordering::Less => true,
+            Ordering::Greater => false,
+            Ordering::Equal => a[BODY_AT..].cmp(&b[BODY_AT..]) == Ordering::Less,
+        },
+    }
+}

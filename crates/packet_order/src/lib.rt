@@ -1,0 +1,15 @@
+//! The order in which what a site's event gives goes out: packets by kind, receiver and bytes, and several outboxes one after
+//! the other; and which packets a site drops unread. It knows nothing of what a packet is for.
+#![tactic(auto)]
+
+mod dispatch;
+mod fault;
+mod framing;
+mod letters;
+mod part;
+mod sorting;
+
+pub use dispatch::Dispatch;
+pub use fault::OrderFault;
+pub use framing::{is_dropped, is_forming};
+pub use part::Part;

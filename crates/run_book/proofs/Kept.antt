@@ -1,0 +1,79 @@
+-- The book of a world after an event of the run.
+use Rattle.std.proofs.Common.{◌≡◌, ℕ, ◌+◌, List, [], ◌∷◌, ◌++◌, length, Option, None, Some, Bool, true, false, refl, sym, ap, ◌∙◌, append_assoc, subst}
+use Rattle.wire_messages.specs.declared.packet.Packet.{Packet}
+use Rattle.role_steps.specs.Tables.{total}
+use Rattle.role_steps.specs.Views.{Told}
+use Rattle.site_frame.specs.Printed.{printed}
+use Rattle.the_run.specs.Worlds.{World, Limit, Numbered, packet_size, told_size, told_onto, numbered_from, newest_onto, limit_passed, with_numbered, unless_over, happened_of, happened}
+use Rattle.the_run.specs.Runs.{printed as printed_of}
+use Rattle.packet_mail.specs.Posts.{Post, posts, post_of_world}
+use Rattle.packet_mail.proofs.Sent.{post_same}
+use Rattle.run_book.specs.Ledgers.{Ledger, record_size, lines_text, limit_of_sizes, with_event, with_measured, with_event_unless, books_of, books, limit_in, IsBookOf, Keeps, Elsewhere}
+use Rattle.trace_book.specs.declared.record.Record.{Record}
+use Rattle.run_book.specs.declared.fault.Passed.{Passed}
+use Rattle.std.specs.Option.{is_some}
+use Rattle.run_book.proofs.Printing.{told_text, told_sizes, lines_size}
+
+module _ (n : ℕ) (ps : List Packet) (told : List Told) (change : World → World) (taken : List ℕ) (w : World) (b : Ledger) (els : Elsewhere w (change w)) (k : Keeps taken w b) where
+  -- the event is within the limits
+  within : IsBookOf w b → w.over ≡ None → Keeps taken (with_numbered (numbered_from (w.packets + 1) ps) (told_onto n told w.trace) (w.packets + length ps) (w.bytes + total packet_size ps) (w.text + total (told_size n) told) (change w)) (with_event ps (lines_text n (printed told)) b)
+  within h e = record {
+    printed = told_text n told w.trace ∙ (ap (λ y. y ++ lines_text n (printed told)) k.printed ∙ append_assoc taken b.fresh (lines_text n (printed told)));
+    over = k.over ∙ sym els.over;
+    whole = λ _. record {
+      post = ap (posts ps) h.post ∙ post_same
+          (ap (λ (m : Post). newest_onto (numbered_from (w.packets + 1) ps) m.sent) (sym els.post))
+          (ap (λ (m : Post). m.underway ++ numbered_from (w.packets + 1) ps) (sym els.post))
+          (ap (λ (m : Post). m.lost) (sym els.post))
+          refl
+          refl;
+      text = ap (λ x. x + length (lines_text n (printed told))) h.text ∙ ap (λ x. w.text + x) (lines_size n (printed told) ∙ sym (told_sizes n told));
+    };
+  }
+
+  -- both see the same limit
+  same_limit : IsBookOf w b → limit_of_sizes (length ps) (total packet_size ps) (total (record_size n) (printed told)) b ≡ limit_passed (w.packets + length ps) (w.bytes + total packet_size ps) (w.text + total (told_size n) told)
+  same_limit h = rw (h.post, h.text, told_sizes n told) refl
+
+  counted : (o : Option Limit) → IsBookOf w b → w.over ≡ None → Keeps taken (unless_over o n ps told change (w.packets + length ps) (w.bytes + total packet_size ps) (w.text + total (told_size n) told) w) (with_event_unless o n ps (printed told) b)
+  counted (Some l) h e = record { printed = k.printed; over = refl; whole = λ z. absurd (cc) }
+  counted None h e = within h e
+
+  event : (o : Option Limit) → w.over ≡ o → Keeps taken (happened_of o n ps told change w) (books_of o n ps (printed told) b)
+  event (Some l) e = k
+  event None e =
+      let h = k.whole e in
+      subst (λ (o : Option Limit). Keeps taken (unless_over (limit_passed (w.packets + length ps) (w.bytes + total packet_size ps) (w.text + total (told_size n) told)) n ps told change (w.packets + length ps) (w.bytes + total packet_size ps) (w.text + total (told_size n) told) w) (with_event_unless o n ps (printed told) b)) (sym (same_limit h))
+      (counted (limit_passed (w.packets + length ps) (w.bytes + total packet_size ps) (w.text + total (told_size n) told)) h e)
+
+  pub event_kept : Keeps taken (happened n ps told change w) (books n ps (printed told) b)
+  event_kept = subst (λ (o : Option Limit). Keeps taken (happened n ps told change w) (books_of o n ps (printed told) b)) (sym k.over) (event w.over refl)
+
+-- ---- in code ----
+
+none_passed : (o : Option Passed) → is_some o ≡ false → limit_in o ≡ None
+none_passed None e = refl
+none_passed (Some p) e = absurd (cc)
+
+some_passed : (o : Option Passed) (n : ℕ) (ps : List Packet) (rs : List Record) (b : Ledger) → is_some o ≡ true → books_of (limit_in o) n ps rs b ≡ b
+some_passed None n ps rs b e = absurd (cc)
+some_passed (Some p) n ps rs b e = refl
+
+-- a limit was passed before
+pub books_over : (n : ℕ) (ps : List Packet) (rs : List Record) (b : Ledger) (o : Option Passed) → limit_in o ≡ b.over → is_some o ≡ true → b ≡ books n ps rs b
+books_over n ps rs b o e s = sym (ap (λ l. books_of l n ps rs b) (sym e) ∙ some_passed o n ps rs b s)
+
+same_event : (o : Option Limit) (n : ℕ) (ps : List Packet) (rs : List Record) (b : Ledger) → with_measured o ps (lines_text n rs) b ≡ with_event_unless o n ps rs b
+same_event (Some l) n ps rs b = refl
+same_event None n ps rs b = refl
+
+-- an event that was measured
+pub books_within : (n : ℕ) (ps : List Packet) (rs : List Record) (b c : Ledger) (o : Option Passed) (packets bytes : ℕ) (text : List ℕ) → limit_in o ≡ b.over → is_some o ≡ false → packets ≡ length ps → bytes ≡ total packet_size ps → text ≡ lines_text n rs → c ≡ with_measured (limit_of_sizes packets bytes (length text) b) ps text b → c ≡ books n ps rs b
+books_within n ps rs b c o packets bytes text e s ep eb et h =
+    h
+    ∙ (ap (λ k. with_measured (limit_of_sizes k bytes (length text) b) ps text b) ep
+    ∙ (ap (λ k. with_measured (limit_of_sizes (length ps) k (length text) b) ps text b) eb
+    ∙ (ap (λ t. with_measured (limit_of_sizes (length ps) (total packet_size ps) (length t) b) ps t b) et
+    ∙ (ap (λ k. with_measured (limit_of_sizes (length ps) (total packet_size ps) k b) ps (lines_text n rs) b) (lines_size n rs)
+    ∙ (same_event (limit_of_sizes (length ps) (total packet_size ps) (total (record_size n) rs) b) n ps rs b
+    ∙ ap (λ l. books_of l n ps rs b) (sym (sym e ∙ none_passed o s)))))))

@@ -1,0 +1,3 @@
+pub mod Printing
+pub mod Kept
+pub mod Parts

@@ -1,0 +1,171 @@
+ghost use Rattle.std.specs.Prelude.{◌≡◌, ◌+◌, ◌≤◌, [], true, length, Err, IfOk, OnOk};
+ghost use Rattle.std.specs.List.{AllByRecursion};
+ghost use Rattle.wire_messages.specs.Packets.{FitsPacket};
+ghost use Rattle.packet_order.specs.Orders.{together};
+ghost use Rattle.packet_mail.specs.Posts.{passes, loses, is_sent, next_number, IsKnown};
+ghost use Rattle.run_book.specs.Ledgers.{no_ledger, limit_in, with_event, with_measured, limit_of_sizes, books};
+
+use crate::measures::{Measured, is_past, put_all, sizes_of};
+use crate::{BookFault, Passed};
+use locus_ids::{Bytes, NoMemory};
+use packet_mail::{MOST_BYTES, MOST_PACKETS, Mail};
+use packet_order::{Dispatch, Part};
+use std::alloc::Global;
+use std::marker::Model;
+
+/// The bytes of text that a run may print.
+pub const MOST_TEXT: usize = 134_217_728;
+
+/// The packets of a run, the text of its records that nobody has taken yet, and the limit that an event passed.
+#[derive(Drop)]
+pub struct RunBook {
+    mail: Mail,
+    fresh: Bytes,
+    text: usize,
+    passed: Option<Passed>,
+}
+
+impl Model for RunBook {
+    ghost use Rattle.std.specs.Prelude.{◌≤◌};
+    ghost use Rattle.run_book.specs.Ledgers.{Ledger, limit_in};
+
+    ghost Value = { Ledger };
+
+    ghost view = { λ b. record { post = b.mail; fresh = b.fresh; text = b.text; over = limit_in b.passed } };
+
+    ghost invariant = { λ b. b.text ≤ 134217728 };
+}
+
+impl RunBook {
+    ghost use Rattle.run_book.specs.Ledgers.{Ledger};
+
+    /// Nothing has happened.
+    pub fn new(alloc: Global) -> Result<RunBook, NoMemory>
+        ensures { IfOk result (λ book. book ≡ no_ledger) }
+    {
+        Ok(RunBook {
+            mail: Mail::new(alloc)?,
+            fresh: Bytes::new(alloc),
+            text: 0,
+            passed: None,
+        })
+    }
+
+    /// The packets.
+    pub fn mail(&self) -> &Mail
+        ensures { result.now ≡ self.now.post }
+    {
+        &self.mail
+    }
+
+    fn allocator(&self) -> Global {
+        self.fresh.allocator()
+    }
+
+    /// The limit that an event passed. Nothing happens after it.
+    pub fn passed(&self) -> Option<Passed>
+        ensures { limit_in result ≡ self.now.over }
+    {
+        self.passed
+    }
+
+    /// The text that nobody has taken yet.
+    pub fn fresh(&self) -> &[u8]
+        ensures { result.now ≡ self.now.fresh }
+    {
+        self.fresh.as_slice()
+    }
+
+    /// The text is taken.
+    pub fn take_fresh(&mut self)
+        ensures { self.new ≡ record self.old { fresh = [] } }
+    {
+        self.fresh.clear();
+    }
+
+    /// The lowest number of a packet under way whose circuit is up, given for each circuit whether it is.
+    pub fn next(&self, up: &[bool]) -> Option<u32>
+        requires { length up.now ≡ 256 }
+        ensures value { result ≡ next_number up.now self.now.post }
+        ensures known { AllByRecursion (IsKnown self.now.post) self.now.post.underway }
+    {
+        self.mail.next(up)
+    }
+
+    /// The packet of this number isn't under way any more, if it was.
+    pub fn pass(&mut self, number: u32)
+        ensures { self.new ≡ record self.old { post = passes number self.old.post } }
+    {
+        self.mail.pass(number);
+    }
+
+    /// The packet of this number is lost.
+    pub fn lose(&mut self, number: u32) -> Result<(), NoMemory>
+        requires { is_sent number self.old.post ≡ true }
+        ensures { OnOk result (self.new ≡ record self.old { post = loses number self.old.post }) }
+    {
+        self.mail.lose(number)?;
+        Ok(())
+    }
+
+    /// The limit that an event with so many packets, bytes of packets and bytes of text passes, if it passes one.
+    fn limit_of(&self, packets: usize, bytes: usize, text: usize) -> Option<Passed>
+        ensures { limit_in result ≡ limit_of_sizes packets bytes text self.now }
+    {
+        if is_past(MOST_PACKETS as usize, self.mail.packets() as usize, packets) {
+            Some(Passed::Packets)
+        } else if is_past(MOST_BYTES, self.mail.bytes(), bytes) {
+            Some(Passed::Bytes)
+        } else if is_past(MOST_TEXT, self.text, text) {
+            Some(Passed::Trace)
+        } else {
+            None
+        }
+    }
+
+    /// The event is within the limits.
+    fn put(&mut self, parts: &[Part], text: &Bytes) -> Result<(), BookFault>
+        requires fits { AllByRecursion (λ p. FitsPacket p) (together parts.now).packets }
+        requires room { self.old.text + length text.now ≤ 134217728 }
+        ensures ok { OnOk result (self.new ≡ with_event (together parts.now).packets text.now self.old) }
+        ensures unfit { result ≡ Err BookFault.Unfit → ⊥ }
+    {
+        put_all(&mut self.mail, parts)?;
+        if self.fresh.append(text.as_slice()).is_err() {
+            return Err(BookFault::NoMemory);
+        }
+        self.text += text.len();
+        Ok(())
+    }
+
+    /// An event that was measured, with its limit tested.
+    fn enter(&mut self, parts: &[Part], event: &Measured) -> Result<(), BookFault>
+        requires { AllByRecursion (λ p. FitsPacket p) (together parts.now).packets }
+        ensures ok { OnOk result (self.new ≡ with_measured (limit_of_sizes event.now.packets event.now.bytes (length event.now.text) self.old) (together parts.now).packets event.now.text self.old) }
+        ensures unfit { result ≡ Err BookFault.Unfit → ⊥ }
+    {
+        match self.limit_of(event.packets, event.bytes, event.text.len()) {
+            Some(limit) => {
+                self.passed = Some(limit);
+                Ok(())
+            }
+            None => self.put(parts, &event.text),
+        }
+    }
+
+    /// An event of a line sends packets and tells records: all of them where it passes no limit, and none where it does.
+    pub fn happened(&mut self, line: u32, out: &Dispatch) -> Result<(), BookFault>
+        ensures ok { OnOk result (self.new ≡ books line out.now.packets out.now.records self.old) }
+        ensures unfit { result ≡ Err BookFault.Unfit → AllByRecursion (λ p. FitsPacket p) out.now.packets → ⊥ }
+    {
+        if self.passed().is_some() {
+            return Ok(());
+        }
+        let event = match sizes_of(self.allocator(), line, out) {
+            Ok(event) => event,
+            Err(fault) => return Err(fault),
+        };
+        self.enter(out.parts(), &event)?;
+        Ok(())
+    }
+}

@@ -1,0 +1,4 @@
+pub mod Image
+pub mod Formats
+pub mod Boots
+pub mod Run

@@ -1,0 +1,155 @@
+-- A pack as a format leaves it: one copy, the empty root directory, and no inode with two open slots.
+use Rattle.std.proofs.Common.{◌≡◌, ◌≢◌, ℕ, zero, suc, ◌+◌, ◌-◌, ◌*◌, ◌≤◌, ◌<◌, ◌^◌, Bool, true, false, List, [], ◌∷◌, ◌++◌, length, take, drop, get_or, Option, None, Some, refl, sym, ap, subst, ◌∙◌, arith, ⊎_elim}
+use Rattle.std.specs.Prelude.{◌==◌, ◌&&◌, cond, map, filter, if◌then◌else◌}
+use Rattle.std.proofs.lemmas.Bool.{eqb-true, cases_Bool, cases_eq}
+use Rattle.locus_ids.specs.Sites.{has}
+use Rattle.locus_ids.specs.declared.config.Config.{Config}
+use Rattle.locus_ids.specs.declared.ids.Kind.TheVariants as kind
+use Rattle.locus_ids.specs.declared.sites.Sites.{Sites}
+use Rattle.dir_format.specs.Entries.{nothing_seen}
+use Rattle.disk_model.specs.Images.{Torn}
+use Rattle.pack_layout.specs.Layout.{area_length, area_at, slot_at, IsSlot}
+use Rattle.inode_switch.specs.View.{is_open, Version, version, version_in, view, SameView}
+use Rattle.inode_switch.proofs.SlotBytes.{says}
+use Rattle.inode_switch.proofs.VersionBytes.{content_length}
+use Rattle.inode_pack.specs.declared.inode_copy.InodeCopy.{InodeCopy}
+use Rattle.inode_pack.specs.Pack.{PackState, copy_of, ShowsCopy, ShowsCopies}
+use Rattle.inode_pack.specs.Slots.{IsFound}
+use Rattle.inode_pack.specs.Mounting.{IsSound, has_losing_gate, losing_gates}
+use Rattle.inode_pack.specs.Format.{root_slot, new_copy}
+use Rattle.inode_pack.proofs.Counting.{found_counts}
+use Rattle.inode_pack.proofs.New.{stored_somewhere, root_is_slot}
+use Rattle.role_steps.specs.Views.{pack_sites}
+use Rattle.role_steps.specs.declared.copies.FileCopy.{FileCopy}
+use Rattle.site_packs.specs.Copies.{copy_in, with_version, copies_from, copies_in, copies_behind}
+use Rattle.site_packs.specs.Packs.{pack_group, ArePacks, AreShown}
+use Rattle.site_packs.specs.Mounting.{AreSoundBehind, root_copy, gates_behind}
+use Rattle.site_packs.specs.Formatting.{root_in, HasRootAlone, stored_among, AreNew}
+use Rattle.site_packs.proofs.Fields.{copy_of_fields, stamp_fits}
+use Rattle.site_packs.proofs.Areas.{AgreeOn, view_same, sound_same, gates_same}
+use Rattle.site_packs.proofs.Behind.{pack_same}
+use Rattle.locus_ids.specs.declared.ids.FileId.{FileId}
+use Rattle.site_packs.specs.Cutting.{both_open_on}
+use Rattle.site_packs.proofs.Mounts.{before_torn}
+use Rattle.site_packs.proofs.Cutting.{mount_calls_are}
+
+-- ---- one pack ----
+
+none_from : (group : ℕ) (held : ℕ → Option Version) (ino left : ℕ) → ((i : ℕ) → ino ≤ i → i < ino + left → held i ≡ None) → copies_from group held ino left ≡ []
+none_from group held ino zero none = refl
+none_from group held ino (suc left) none =
+    let rest = none_from group held (ino + 1) left (λ i low high. none i (omega arith) (omega arith)) in
+    let here = none ino (omega arith) (omega arith) in
+    (λ i. with_version group ino (here i) (rest i))
+
+root_from : (group left : ℕ) (held : ℕ → Option Version) (v : Version) → held 1 ≡ Some v → ((i : ℕ) → 2 ≤ i → i < 2 + left → held i ≡ None) → copies_from group held 1 (suc left) ≡ copy_in group 1 v ∷ []
+root_from group left held v one none =
+    let rest = none_from group held 2 left none in
+    (λ i. with_version group 1 (one i) (rest i))
+
+no_bytes : (l : List ℕ) → length l ≡ 0 → l ≡ []
+no_bytes [] e = refl
+no_bytes (x ∷ l) e = absurd (omega arith)
+
+is_other : (ino : ℕ) → ino ≢ 1 → (ino == 1) ≡ false
+is_other ino ne = ⊎_elim (λ (yes : (ino == 1) ≡ true). absurd (ne (eqb-true ino 1 yes))) (λ (no : (ino == 1) ≡ false). no) (cases_Bool (ino == 1))
+
+abbrev root : Sites → InodeCopy
+root set = record { which = 0; slot = root_slot set }
+
+none_there : (base ino : ℕ) (set : Sites) (image : List ℕ) → ino ≢ 1 → ShowsCopy base ino image (new_copy set ino) → view image base ino ≡ None
+none_there base ino set image ne shows =
+    let says' : ShowsCopy base ino image None = subst (λ (b : Bool). ShowsCopy base ino image (if b then Some (root set) else None)) (is_other ino ne) shows in
+    ap (λ (o : Option ℕ). version_in image base o) (found_counts base ino image None false (record { says = says'; own = tt }))
+
+root_there : (base group : ℕ) (set : Sites) (image : List ℕ) → base + area_length ≤ length image → IsSlot (root_slot set) → ShowsCopies base image (new_copy set)
+    → (v : Version) × (view image base 1 ≡ Some v) × (copy_in group 1 v ≡ root_in group set)
+root_there base group set image area slot shows =
+    let found : IsFound base 1 image (Some (root set)) false = record { says = shows 1 (omega arith) (omega arith); own = record { place = omega arith; slot = slot; own = refl } } in
+    let counts = found_counts base 1 image (Some (root set)) false found in
+    let place = slot_at base 1 0 in
+    let s = says image place (root_slot set) found.says.bytes slot in
+    let v = version image base place in
+    let empty = no_bytes v.content (content_length image base place (root_slot set) slot s area) in
+    let made = copy_of_fields group 1 (root_slot set) v slot.sites (omega arith) slot.vector s.fields in
+    (v, ap (λ (o : Option ℕ). version_in image base o) counts.place, made ∙ ap (λ (l : List ℕ). record { file = record { group = group; ino = 1 }; kind = kind.Dir; set = set; stamp = record { site = 0; n = 0 }; vector = nothing_seen; content = l }) empty)
+
+new_copies_in : (base group : ℕ) (set : Sites) (image : List ℕ) → base + area_length ≤ length image → IsSlot (root_slot set) → ShowsCopies base image (new_copy set) → copies_in base group image ≡ root_in group set ∷ []
+unfolding copies_in
+new_copies_in base group set image area slot shows =
+    let r = root_there base group set image area slot shows in
+    root_from group 1023 (view image base) r.0 r.1 (λ i low high. none_there base i set image (λ e. omega arith) (shows i (omega arith) (omega arith)))
+    ∙ ap (λ (x : FileCopy). x ∷ []) r.2
+
+-- an inode with at most one open slot
+one_shut : (a b : Bool) → b ≡ false → (a && b) ≡ false
+one_shut true b e = e
+one_shut false b e = refl
+
+shut_at : (base ino : ℕ) (image : List ℕ) (o : Option InodeCopy) → ShowsCopy base ino image o → has_losing_gate base ino image ≡ false
+shut_at base ino image None shows = one_shut (is_open image (slot_at base ino 0)) (is_open image (slot_at base ino 1)) (shows 1 (omega arith))
+shut_at base ino image (Some copy) shows = by copy.which shows.place shows.other
+  where
+    by : (which : ℕ) → which ≤ 1 → is_open image (slot_at base ino (1 - which)) ≡ false → has_losing_gate base ino image ≡ false
+    by zero le other = one_shut (is_open image (slot_at base ino 0)) (is_open image (slot_at base ino 1)) other
+    by (suc zero) le other = ap (λ (b : Bool). b && is_open image (slot_at base ino 1)) other
+    by (suc (suc n)) le other = absurd (omega arith)
+
+none_lose : (base n : ℕ) (copies : ℕ → Option InodeCopy) (image : List ℕ) → n ≤ 1024 → ShowsCopies base image copies → losing_gates base n image ≡ 0
+unfolding losing_gates
+none_lose base zero copies image le shows = refl
+none_lose base (suc n) copies image le shows =
+    let rest = none_lose base n copies image (omega arith) shows in
+    let here = shut_at base (suc n) image (copies (suc n)) (shows (suc n) (omega arith) le) in
+    (λ i. let m : ℕ = if here i then 1 else 0 in rest i + m)
+
+pub root_alone : (base group site : ℕ) (set : Sites) (image : List ℕ) → base + area_length ≤ length image → has set site ≡ true → set.0 < 2 ^ 16
+    → IsSound base group site image → ShowsCopies base image (new_copy set) → HasRootAlone base group site set image
+root_alone base group site set image area stored small sound shows = record {
+  copies = new_copies_in base group set image area (root_is_slot set (stored_somewhere set site stored) small) shows;
+  sound = sound;
+  shut = none_lose base 1024 (new_copy set) image (omega arith) shows;
+}
+
+-- ---- packs one behind the other ----
+
+root_same : (base group site : ℕ) (set : Sites) (a b : List ℕ) → AgreeOn base a b → HasRootAlone base group site set a → HasRootAlone base group site set b
+root_same base group site set a b agree has = record {
+  copies = pack_same base group a b (λ ino low high. view_same base a b agree ino low high (has.sound.inodes ino low high)) ∙ has.copies;
+  sound = sound_same base a b agree group site has.sound;
+  shut = gates_same base a b agree 1024 (omega arith) ∙ has.shut;
+}
+
+pub new_first : (nth : ℕ) (c : Config) (site group : ℕ) (groups mid new : List ℕ) → HasRootAlone (area_at nth) group site (pack_sites c group) mid
+    → Torn (area_at (nth + 1)) (area_length * length groups) mid new → AreNew (nth + 1) c site groups new → AreNew nth c site (group ∷ groups) new
+new_first nth c site group groups mid new has torn rest =
+    let here = root_same (area_at nth) group site (pack_sites c group) mid new (before_torn nth (length groups) mid new torn) has in
+    let one = here.copies in
+    let more = rest.copies in
+    let a = here.shut in
+    let b = rest.shut in
+    record { copies = (λ i. one i ++ more i); sound = (here.sound, rest.sound); shut = (λ i. a i + b i) }
+
+-- the first of these groups is stored, or it isn't
+pub stored_first : (c : Config) (site group : ℕ) (groups : List ℕ) → has (pack_sites c group) site ≡ true → stored_among c site (group ∷ groups) ≡ group ∷ stored_among c site groups
+stored_first c site group groups is = ap (λ (b : Bool). cond b (group ∷ stored_among c site groups) (stored_among c site groups)) is
+
+pub stored_behind : (c : Config) (site group : ℕ) (groups : List ℕ) → has (pack_sites c group) site ≡ false → stored_among c site (group ∷ groups) ≡ stored_among c site groups
+stored_behind c site group groups is = ap (λ (b : Bool). cond b (group ∷ stored_among c site groups) (stored_among c site groups)) is
+
+-- ---- packs that stand ----
+
+pub gates_shown : (nth least site : ℕ) (packs : List PackState) (image : List ℕ) → ArePacks nth least site packs → AreShown packs image → gates_behind nth (map pack_group packs) image ≡ 0
+gates_shown nth least site [] image are shown = refl
+gates_shown nth least site (pack ∷ packs) image are shown =
+    let base = are.0.base in
+    let one = none_lose (area_at nth) 1024 (copy_of pack.copies) image (omega arith) (subst (λ (b : ℕ). ShowsCopies b image (copy_of pack.copies)) base shown.0.copies) in
+    let rest = gates_shown (nth + 1) (pack.group + 1) site packs image are.1 shown.1 in
+    (λ i. one i + rest i)
+
+no_files : (files : List FileId) → 2 * length files ≡ 0 → files ≡ []
+no_files [] none = refl
+no_files (file ∷ files) none = absurd (omega arith)
+
+pub none_shown : (site : ℕ) (packs : List PackState) (image : List ℕ) → ArePacks 0 0 site packs → AreShown packs image → both_open_on (map pack_group packs) image ≡ []
+none_shown site packs image are shown = no_files (both_open_on (map pack_group packs) image) (sym (mount_calls_are (map pack_group packs) image) ∙ ap (λ (n : ℕ). 2 * n) (gates_shown 0 0 site packs image are shown))

@@ -1,0 +1,5 @@
+pub mod Back
+pub mod Groups
+pub mod Served
+pub mod Giving
+pub mod Others

@@ -1,0 +1,18 @@
+use Rattle.std.proofs.Common.{◌∙◌, ap, sym}
+use Rattle.role_steps.specs.Tables.{with_row}
+use Rattle.role_steps.specs.Adoption.{table_group}
+use Rattle.role_steps.specs.Reports.{on_closed}
+use Rattle.site_tables.proofs.Back.{given_at, given_quiet, with_at, with_none}
+use Rattle.site_tables.proofs.Groups.{on_closed_keeps}
+use Rattle.site_tables.proofs.at_instance.on_closed.Goals as goal
+
+pub returns-in_default : goal.returns-in_default
+returns-in_default c = with_none (on_closed c.args.frame.now c.args.from c.args.inst c.args.made) c.args.inst c.args.tables.now c.args.out.now c.in_default.ensures.group
+
+pub returns-in_default-take_table : goal.returns-in_default-take_table
+returns-in_default-take_table c = with_at (on_closed c.args.frame.now c.args.from c.args.inst c.args.made) c.args.inst c.in-Some.group c.args.tables.now c.take_table.new.tables c.args.out.now c.args.out.now c.in-Some.ensures.rising c.in-Some.ensures.group
+    (given_quiet (on_closed c.args.frame.now c.args.from c.args.inst c.args.made) c.in-Some.group c.args.tables.now c.take_table.new.tables c.args.out.now (sym c.in_default-take_table.ensures.table) c.take_table.ensures.left)
+
+pub returns : goal.returns
+returns c = with_at (on_closed c.args.frame.now c.args.from c.args.inst c.args.made) c.args.inst c.in-Some.group c.args.tables.now c.put.new.self c.args.out.now c.on_closed.new.out c.in-Some.ensures.rising c.in-Some.ensures.group
+    (given_at (on_closed c.args.frame.now c.args.from c.args.inst c.args.made) c.in-Some.group c.args.tables.now c.put.new.self c.in-Some-take_table.table c.on_closed.new.self c.args.out.now c.on_closed.new.out c.in-Some-take_table.ensures.rising (sym c.in-Some-take_table.ensures.table) (on_closed_keeps c.args.frame.now c.args.from c.args.inst c.args.made c.in-Some-take_table.table) c.in_ok-on_closed.ensures.view c.in_ok-on_closed.ensures.packets c.in_ok-on_closed.ensures.records (c.in_ok-put.ensures.ok ∙ ap (with_row table_group c.on_closed.new.self) c.in-Some-take_table.ensures.left))

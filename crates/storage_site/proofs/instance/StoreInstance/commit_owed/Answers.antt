@@ -1,8 +1,0 @@
-use Rattle.storage_site.proofs.Given.{owed_so}
-use Rattle.storage_site.proofs.instance.StoreInstance.commit_owed.Goals as goal
-
-pub returns-clause-gives : goal.returns-clause-gives
-returns-clause-gives g c xs v =
-    owed_so c.args.frame.now c.args.self.now xs c.args.packs.now c.commit.new.packs (g.D.Disk.moment c.args.disk.now).seen (g.D.Disk.moment c.commit.new.disk).seen c.act_counted.new.self c.args.out.now c.act_counted.new.out
-    c.args.vector.now c.in_ok-stamp.stamp c.commit.new.self c.commit.new.out v c.in_ok-stamp.ensures.stamp c.in_ok-stamp.ensures.row c.in_ok-stamp.ensures.copies c.in_ok-stamp.ensures.packets c.in_ok-stamp.ensures.records
-    c.in_ok-act_counted.ensures.row c.in_ok-act_counted.ensures.packets c.in_ok-act_counted.ensures.records

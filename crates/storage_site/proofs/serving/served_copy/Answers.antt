@@ -1,0 +1,22 @@
+use Rattle.std.proofs.Common.{ℕ, List, sym, ap, ◌∙◌}
+use Rattle.role_steps.specs.Storage.{served_content}
+use Rattle.site_packs.specs.Packs.{copy_at}
+use Rattle.storage_site.proofs.Serves.{served_none, served_other, served_same}
+use Rattle.storage_site.proofs.serving.served_copy.Goals as goal
+
+pub returns-in_default-clause-answer : goal.returns-in_default-clause-answer
+returns-in_default-clause-answer g c =
+    let image : List ℕ = (g.D.Disk.moment c.args.disk.now).seen in
+    served_none c.args.what.now c.args.stamp (copy_at c.args.packs.now image c.args.file) (sym c.in_default.is ∙ c.head.ensures image c.requires.shown)
+
+pub returns-then-not-same_stamp-clause-answer : goal.returns-then-not-same_stamp-clause-answer
+returns-then-not-same_stamp-clause-answer g c =
+    let image : List ℕ = (g.D.Disk.moment c.args.disk.now).seen in
+    served_other c.args.what.now c.args.stamp (copy_at c.args.packs.now image c.args.file) c.in-Some.copy (sym c.in-Some.is ∙ c.head.ensures image c.requires.shown) (sym c.same_stamp.ensures ∙ c.if-not-same_stamp.true)
+
+pub returns-clause-answer : goal.returns-clause-answer
+returns-clause-answer g c =
+    let image : List ℕ = (g.D.Disk.moment c.args.disk.now).seen in
+    c.in_ok-answer.ensures
+    ∙ (ap (λ (bytes : List ℕ). served_content c.args.what.now bytes) c.in_ok-read.ensures.content
+    ∙ served_same c.args.what.now c.args.stamp (copy_at c.args.packs.now image c.args.file) c.in-Some.copy (sym c.in-Some.is ∙ c.head.ensures image c.requires.shown) (sym c.same_stamp.ensures ∙ c.if-not-same_stamp.false))

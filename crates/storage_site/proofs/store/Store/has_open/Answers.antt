@@ -1,0 +1,9 @@
+use Rattle.std.proofs.Common.{◌∙◌, ap}
+use Rattle.storage_site.specs.Standing.{open_from}
+use Rattle.storage_site.proofs.Standing.{any_standing}
+use Rattle.storage_site.proofs.store.Store.has_open.Goals as goal
+
+pub returns : goal.returns
+returns c =
+    c.any_of.ensures
+    ∙ any_standing c.args.self.now c.as_slice.result.now c.self.inside.standing.items c.as_slice-2.result.now (c.as_slice.ensures.value ∙ c.self.view_is) c.as_slice-2.ensures.value (c.self.invariant.1 ∙ ap (open_from 0) c.self.view_is) c.args.file

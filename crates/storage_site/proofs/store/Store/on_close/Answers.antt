@@ -1,0 +1,77 @@
+use Rattle.std.proofs.Common.{◌≡◌, ℕ, List, Ok, Option, Some, None, set, sym, subst, ap, ◌∙◌}
+use Rattle.role_steps.specs.Views.{Store}
+use Rattle.role_steps.specs.Storage.{instance_key, on_close_at, on_close_of}
+use Rattle.role_steps.specs.Views.{serial_key}
+use Rattle.role_steps.specs.Tables.{row}
+use Rattle.role_steps.specs.declared.instances.Instance.{Instance}
+use Rattle.store_instances.specs.Stores.{Gives, store_of}
+use Rattle.store_instances.specs.Writes.{Writes}
+use Rattle.store_instances.proofs.Stays.{nothing_written, same_at}
+use Rattle.storage_site.proofs.Placing.{placed_so, stand_same, gives_placed, quiet_store}
+use Rattle.keyed_tables.proofs.Placed.{absent_latest}
+use Rattle.storage_site.proofs.store.Store.on_close.Goals as goal
+
+pub invariant_of-self : goal.invariant_of-self
+invariant_of-self g c = (
+  (placed_so c.serial_key.result c.self.inside.rows.items c.self.inside.index c.in-Some.place c.index_mut-row.result.now c.on_close.new.self c.self.invariant.0 c.in-Some.ensures.place c.index_mut-row.ensures.value c.on_close.ensures.key).keys_after,
+  stand_same c.self.inside.rows.items c.self.inside.standing.items c.in-Some.place c.index_mut-row.result.now c.on_close.new.self c.self.invariant.1 c.index_mut-row.ensures.value (c.on_close.ensures.stays),
+)
+
+pub invariant_of-self-in-Some : goal.invariant_of-self-in-Some
+invariant_of-self-in-Some g c = (
+  (placed_so c.serial_key.result c.self.inside.rows.items c.self.inside.index c.in-Some.place c.index_mut-row.result.now c.on_close.new.self c.self.invariant.0 c.in-Some.ensures.place c.index_mut-row.ensures.value c.on_close.ensures.key).keys_after,
+  stand_same c.self.inside.rows.items c.self.inside.standing.items c.in-Some.place c.index_mut-row.result.now c.on_close.new.self c.self.invariant.1 c.index_mut-row.ensures.value (c.on_close.ensures.stays),
+)
+
+pub returns-in-None-clause-gives : goal.returns-in-None-clause-gives
+returns-in-None-clause-gives g c =
+    let xs : List Instance = c.self.inside.rows.items in
+    let absent : row instance_key (serial_key c.args.inst) xs ≡ None = ap (λ (k : ℕ). row instance_key k xs) (sym c.serial_key.ensures) ∙ absent_latest instance_key c.serial_key.result xs c.self.inside.index c.self.invariant.0 c.in-None.ensures.place in
+    rw (← c.self.view_is)
+    (subst (λ (o : Option Instance). Gives (on_close_of c.args.frame.now o (store_of xs c.args.packs.now (g.D.Disk.moment c.args.disk.now).seen)) (store_of xs c.args.packs.now (g.D.Disk.moment c.args.disk.now).seen) c.args.out.now c.args.out.now)
+    (sym absent) (quiet_store (store_of xs c.args.packs.now (g.D.Disk.moment c.args.disk.now).seen) c.args.out.now))
+
+pub returns-in_ok-on_close-in-Some-clause-gives : goal.returns-in_ok-on_close-in-Some-clause-gives
+returns-in_ok-on_close-in-Some-clause-gives g c =
+    let xs : List Instance = c.self.inside.rows.items in
+    let i : Instance = c.index_mut-row.result.now in
+    let there = placed_so c.serial_key.result xs c.self.inside.index c.in-Some.place i c.on_close.new.self c.self.invariant.0 c.in-Some.ensures.place c.index_mut-row.ensures.value c.on_close.ensures.key in
+    let asked : row instance_key (serial_key c.args.inst) xs ≡ Some i = ap (λ (k : ℕ). row instance_key k xs) (sym c.serial_key.ensures) ∙ there.asked in
+    rw (← c.self.view_is)
+    (subst (λ (o : Option Instance). Gives (on_close_of c.args.frame.now o (store_of xs c.args.packs.now (g.D.Disk.moment c.args.disk.now).seen)) (store_of (set xs c.in-Some.place c.on_close.new.self) c.on_close.new.packs (g.D.Disk.moment c.on_close.new.disk).seen) c.args.out.now c.on_close.new.out)
+    (sym asked)
+    (gives_placed (on_close_at c.args.frame.now i i.stage (store_of xs c.args.packs.now (g.D.Disk.moment c.args.disk.now).seen)) xs (set xs c.in-Some.place c.on_close.new.self) c.on_close.new.self c.on_close.new.packs (g.D.Disk.moment c.on_close.new.disk).seen c.args.out.now c.on_close.new.out there.after
+    (c.in_ok-on_close-in-Some.ensures.gives xs there.is_row)))
+
+pub returns-in-None-clause-disk : goal.returns-in-None-clause-disk
+returns-in-None-clause-disk g c =
+    let xs : List Instance = c.self.inside.rows.items in
+    let s : Store = store_of xs c.args.packs.now (g.D.Disk.moment c.args.disk.now).seen in
+    let absent : row instance_key (serial_key c.args.inst) xs ≡ None = ap (λ (k : ℕ). row instance_key k xs) (sym c.serial_key.ensures) ∙ absent_latest instance_key c.serial_key.result xs c.self.inside.index c.self.invariant.0 c.in-None.ensures.place in
+    rw (← c.self.view_is)
+    (subst (λ (o : Option Instance). Writes (on_close_of c.args.frame.now o s).written c.args.packs.now (g.D.Disk.moment c.args.disk.now) (g.D.Disk.moment c.args.disk.now) c.args.out.now c.args.out.now (Ok tt))
+    (sym absent) (nothing_written c.args.packs.now (g.D.Disk.moment c.args.disk.now) c.args.out.now c.args.out.now tt))
+
+pub returns-in_ok-on_close-in-Some-clause-disk : goal.returns-in_ok-on_close-in-Some-clause-disk
+returns-in_ok-on_close-in-Some-clause-disk g c =
+    let xs : List Instance = c.self.inside.rows.items in
+    let s : Store = store_of xs c.args.packs.now (g.D.Disk.moment c.args.disk.now).seen in
+    let i : Instance = c.index_mut-row.result.now in
+    let there = placed_so c.serial_key.result xs c.self.inside.index c.in-Some.place i c.on_close.new.self c.self.invariant.0 c.in-Some.ensures.place c.index_mut-row.ensures.value c.on_close.ensures.key in
+    let asked : row instance_key (serial_key c.args.inst) xs ≡ Some i = ap (λ (k : ℕ). row instance_key k xs) (sym c.serial_key.ensures) ∙ there.asked in
+    rw (← c.self.view_is)
+    (subst (λ (o : Option Instance). Writes (on_close_of c.args.frame.now o s).written c.args.packs.now (g.D.Disk.moment c.args.disk.now) (g.D.Disk.moment c.on_close.new.disk) c.args.out.now c.on_close.new.out (Ok tt))
+    (sym asked) (c.in_ok-on_close-in-Some.ensures.disk s))
+
+pub returns-in_err-on_close-in-Some-clause-disk : goal.returns-in_err-on_close-in-Some-clause-disk
+returns-in_err-on_close-in-Some-clause-disk g c =
+    let xs : List Instance = c.self.inside.rows.items in
+    let s : Store = store_of xs c.args.packs.now (g.D.Disk.moment c.args.disk.now).seen in
+    let i : Instance = c.index_mut-row.result.now in
+    let there = placed_so c.serial_key.result xs c.self.inside.index c.in-Some.place i c.on_close.new.self c.self.invariant.0 c.in-Some.ensures.place c.index_mut-row.ensures.value c.on_close.ensures.key in
+    let asked : row instance_key (serial_key c.args.inst) xs ≡ Some i = ap (λ (k : ℕ). row instance_key k xs) (sym c.serial_key.ensures) ∙ there.asked in
+    rw (← c.self.view_is)
+    (subst (λ (o : Option Instance). Writes (on_close_of c.args.frame.now o s).written c.args.packs.now (g.D.Disk.moment c.args.disk.now) (g.D.Disk.moment c.on_close.new.disk) c.args.out.now c.on_close.new.out c.from_residual.result)
+    (sym asked)
+    (same_at (on_close_at c.args.frame.now i i.stage s).written c.args.packs.now (g.D.Disk.moment c.args.disk.now) (g.D.Disk.moment c.on_close.new.disk) c.args.out.now c.on_close.new.out c.from_residual.result c.in_err-on_close-in-Some.field-0.0 c.from_residual.ensures.1
+    (c.in_err-on_close-in-Some.ensures.disk s)))

@@ -1,0 +1,78 @@
+use Rattle.std.proofs.Common.{◌≡◌, ℕ, List, Ok, Option, Some, None, set, get_or, sym, subst, ap, ◌∙◌}
+use Rattle.role_steps.specs.Views.{Store}
+use Rattle.role_steps.specs.Storage.{free_pages, instance_key, is_open}
+use Rattle.role_steps.specs.Views.{serial_key}
+use Rattle.role_steps.specs.Tables.{row}
+use Rattle.role_steps.specs.Operations.{on_op_at, on_op_of}
+use Rattle.role_steps.specs.declared.instances.Instance.{Instance}
+use Rattle.store_instances.specs.Stores.{Gives, store_of}
+use Rattle.store_instances.specs.Writes.{Writes}
+use Rattle.store_instances.proofs.Stays.{nothing_written, same_at}
+use Rattle.storage_site.proofs.Placing.{placed_so, stand_same, gives_placed, quiet_store}
+use Rattle.keyed_tables.proofs.Placed.{absent_latest}
+use Rattle.storage_site.proofs.store.Store.on_op.Goals as goal
+
+pub invariant_of-self : goal.invariant_of-self
+invariant_of-self g c = (
+  (placed_so c.serial_key.result c.self.inside.rows.items c.self.inside.index c.in-Some.place c.index_mut-row.result.now c.on_op.new.self c.self.invariant.0 c.in-Some.ensures.place c.index_mut-row.ensures.value c.on_op.ensures.key).keys_after,
+  stand_same c.self.inside.rows.items c.self.inside.standing.items c.in-Some.place c.index_mut-row.result.now c.on_op.new.self c.self.invariant.1 c.index_mut-row.ensures.value (ap is_open c.on_op.ensures.stage),
+)
+
+pub invariant_of-self-in-Some : goal.invariant_of-self-in-Some
+invariant_of-self-in-Some g c = (
+  (placed_so c.serial_key.result c.self.inside.rows.items c.self.inside.index c.in-Some.place c.index_mut-row.result.now c.on_op.new.self c.self.invariant.0 c.in-Some.ensures.place c.index_mut-row.ensures.value c.on_op.ensures.key).keys_after,
+  stand_same c.self.inside.rows.items c.self.inside.standing.items c.in-Some.place c.index_mut-row.result.now c.on_op.new.self c.self.invariant.1 c.index_mut-row.ensures.value (ap is_open c.on_op.ensures.stage),
+)
+
+pub returns-in-None-clause-gives : goal.returns-in-None-clause-gives
+returns-in-None-clause-gives g c =
+    let xs : List Instance = c.self.inside.rows.items in
+    let absent : row instance_key (serial_key c.args.inst) xs ≡ None = ap (λ (k : ℕ). row instance_key k xs) (sym c.serial_key.ensures) ∙ absent_latest instance_key c.serial_key.result xs c.self.inside.index c.self.invariant.0 c.in-None.ensures.place in
+    rw (← c.self.view_is)
+    (subst (λ (o : Option Instance). Gives (on_op_of c.args.frame.now c.args.mending.now o c.args.n c.args.op.now c.args.seen.now (store_of xs c.args.packs.now (g.D.Disk.moment c.args.disk.now).seen)) (store_of xs c.args.packs.now (g.D.Disk.moment c.args.disk.now).seen) c.args.out.now c.args.out.now)
+    (sym absent) (quiet_store (store_of xs c.args.packs.now (g.D.Disk.moment c.args.disk.now).seen) c.args.out.now))
+
+pub returns-in_ok-on_op-in-Some-clause-gives : goal.returns-in_ok-on_op-in-Some-clause-gives
+returns-in_ok-on_op-in-Some-clause-gives g c =
+    let xs : List Instance = c.self.inside.rows.items in
+    let i : Instance = c.index_mut-row.result.now in
+    let there = placed_so c.serial_key.result xs c.self.inside.index c.in-Some.place i c.on_op.new.self c.self.invariant.0 c.in-Some.ensures.place c.index_mut-row.ensures.value c.on_op.ensures.key in
+    let asked : row instance_key (serial_key c.args.inst) xs ≡ Some i = ap (λ (k : ℕ). row instance_key k xs) (sym c.serial_key.ensures) ∙ there.asked in
+    rw (← c.self.view_is)
+    (subst (λ (o : Option Instance). Gives (on_op_of c.args.frame.now c.args.mending.now o c.args.n c.args.op.now c.args.seen.now (store_of xs c.args.packs.now (g.D.Disk.moment c.args.disk.now).seen)) (store_of (set xs c.in-Some.place c.on_op.new.self) c.on_op.new.packs (g.D.Disk.moment c.on_op.new.disk).seen) c.args.out.now c.on_op.new.out)
+    (sym asked)
+    (gives_placed (on_op_at c.args.frame.now c.args.mending.now i i.stage c.args.n c.args.op.now c.args.seen.now (store_of xs c.args.packs.now (g.D.Disk.moment c.args.disk.now).seen)) xs (set xs c.in-Some.place c.on_op.new.self) c.on_op.new.self c.on_op.new.packs (g.D.Disk.moment c.on_op.new.disk).seen c.args.out.now c.on_op.new.out there.after
+    (c.in_ok-on_op-in-Some.ensures.gives xs there.is_row (ap (λ (ys : List Instance). free_pages (store_of ys c.args.packs.now (g.D.Disk.moment c.args.disk.now).seen) i.file.group) c.self.view_is ∙ sym (c.free_at-free.ensures (g.D.Disk.moment c.args.disk.now).seen i c.requires.shown (c.index_mut-row.ensures.value ∙ ap (λ (ys : List Instance). get_or ys c.in-Some.place i) c.self.view_is))))))
+
+pub returns-in-None-clause-disk : goal.returns-in-None-clause-disk
+returns-in-None-clause-disk g c =
+    let xs : List Instance = c.self.inside.rows.items in
+    let s : Store = store_of xs c.args.packs.now (g.D.Disk.moment c.args.disk.now).seen in
+    let absent : row instance_key (serial_key c.args.inst) xs ≡ None = ap (λ (k : ℕ). row instance_key k xs) (sym c.serial_key.ensures) ∙ absent_latest instance_key c.serial_key.result xs c.self.inside.index c.self.invariant.0 c.in-None.ensures.place in
+    rw (← c.self.view_is)
+    (subst (λ (o : Option Instance). Writes (on_op_of c.args.frame.now c.args.mending.now o c.args.n c.args.op.now c.args.seen.now s).written c.args.packs.now (g.D.Disk.moment c.args.disk.now) (g.D.Disk.moment c.args.disk.now) c.args.out.now c.args.out.now (Ok tt))
+    (sym absent) (nothing_written c.args.packs.now (g.D.Disk.moment c.args.disk.now) c.args.out.now c.args.out.now tt))
+
+pub returns-in_ok-on_op-in-Some-clause-disk : goal.returns-in_ok-on_op-in-Some-clause-disk
+returns-in_ok-on_op-in-Some-clause-disk g c =
+    let xs : List Instance = c.self.inside.rows.items in
+    let s : Store = store_of xs c.args.packs.now (g.D.Disk.moment c.args.disk.now).seen in
+    let i : Instance = c.index_mut-row.result.now in
+    let there = placed_so c.serial_key.result xs c.self.inside.index c.in-Some.place i c.on_op.new.self c.self.invariant.0 c.in-Some.ensures.place c.index_mut-row.ensures.value c.on_op.ensures.key in
+    let asked : row instance_key (serial_key c.args.inst) xs ≡ Some i = ap (λ (k : ℕ). row instance_key k xs) (sym c.serial_key.ensures) ∙ there.asked in
+    rw (← c.self.view_is)
+    (subst (λ (o : Option Instance). Writes (on_op_of c.args.frame.now c.args.mending.now o c.args.n c.args.op.now c.args.seen.now s).written c.args.packs.now (g.D.Disk.moment c.args.disk.now) (g.D.Disk.moment c.on_op.new.disk) c.args.out.now c.on_op.new.out (Ok tt))
+    (sym asked) (c.in_ok-on_op-in-Some.ensures.disk s))
+
+pub returns-in_err-on_op-in-Some-clause-disk : goal.returns-in_err-on_op-in-Some-clause-disk
+returns-in_err-on_op-in-Some-clause-disk g c =
+    let xs : List Instance = c.self.inside.rows.items in
+    let s : Store = store_of xs c.args.packs.now (g.D.Disk.moment c.args.disk.now).seen in
+    let i : Instance = c.index_mut-row.result.now in
+    let there = placed_so c.serial_key.result xs c.self.inside.index c.in-Some.place i c.on_op.new.self c.self.invariant.0 c.in-Some.ensures.place c.index_mut-row.ensures.value c.on_op.ensures.key in
+    let asked : row instance_key (serial_key c.args.inst) xs ≡ Some i = ap (λ (k : ℕ). row instance_key k xs) (sym c.serial_key.ensures) ∙ there.asked in
+    rw (← c.self.view_is)
+    (subst (λ (o : Option Instance). Writes (on_op_of c.args.frame.now c.args.mending.now o c.args.n c.args.op.now c.args.seen.now s).written c.args.packs.now (g.D.Disk.moment c.args.disk.now) (g.D.Disk.moment c.on_op.new.disk) c.args.out.now c.on_op.new.out c.from_residual.result)
+    (sym asked)
+    (same_at (on_op_at c.args.frame.now c.args.mending.now i i.stage c.args.n c.args.op.now c.args.seen.now s).written c.args.packs.now (g.D.Disk.moment c.args.disk.now) (g.D.Disk.moment c.on_op.new.disk) c.args.out.now c.on_op.new.out c.from_residual.result c.in_err-on_op-in-Some.field-0.0 c.from_residual.ensures.1
+    (c.in_err-on_op-in-Some.ensures.disk s)))

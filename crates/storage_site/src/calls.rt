@@ -1,0 +1,111 @@
+//! The calls of the role that are about one instance.
+
+ghost use Rattle.std.specs.Prelude.{◌≡◌, ◌<◌, ℕ, List, length, slice_index_or, OnOk};
+ghost use Rattle.role_steps.specs.Storage.{free_pages, on_close, on_closed_ok};
+ghost use Rattle.role_steps.specs.Operations.{on_op};
+ghost use Rattle.role_steps.specs.declared.instances.Instance.{Instance};
+ghost use Rattle.site_packs.specs.Packs.{AreShown, PacksState, SamePlaces, Stand};
+ghost use Rattle.store_instances.specs.Stores.{Gives, store_of};
+ghost use Rattle.store_instances.specs.Writes.{Writes};
+
+use crate::Store;
+use crate::store::keep_open;
+use disk_model::Disk;
+use keyed_tables::serial_key;
+use locus_ids::{NoMemory, Serial};
+use operation_effects::MendingWork;
+use site_frame::SiteFrame;
+use site_packs::SitePacks;
+use store_instances::StoreFault;
+use trace_book::Op;
+use version_vector::Vector;
+use wire_messages::Outbox;
+
+impl Store {
+    /// An operation of this number on an instance. Each number is executed once: the last one is answered again, and any that
+    /// is neither that nor the next is ignored. What an operation commits is on the disk before it is answered.
+    pub fn on_op<D: Disk>(
+        &mut self,
+        frame: &SiteFrame,
+        packs: &mut SitePacks,
+        disk: &mut D,
+        inst: Serial,
+        n: u32,
+        op: &Op,
+        seen: &Vector<16>,
+        mending: &MendingWork,
+        out: &mut Outbox,
+    ) -> Result<(), StoreFault>
+        requires { Stand packs.old (D.moment disk.old) }
+        ensures gives { OnOk result (Gives (on_op frame.now mending.now inst n op.now seen.now (store_of self.old packs.old (D.moment disk.old).seen)) (store_of self.new packs.new (D.moment disk.new).seen) out.old out.new) }
+        ensures stands { OnOk result (Stand packs.new (D.moment disk.new)) }
+        ensures places { OnOk result (SamePlaces packs.old packs.new) }
+        ensures disk { Writes (on_op frame.now mending.now inst n op.now seen.now (store_of self.old packs.old (D.moment disk.old).seen)).written packs.old (D.moment disk.old) (D.moment disk.new) out.old out.new result }
+    {
+        match self.index.place(serial_key(inst)) {
+            None => Ok(()),
+            Some(place) => {
+                let free = self.free_at(packs, place);
+                let row = &mut self.rows[place];
+                row.on_op(frame, packs, disk, n, op, seen, mending, free, out)?;
+                Ok(())
+            }
+        }
+    }
+
+    /// A close of an instance. What it owes is committed first; a repeated close is answered as far as the first one came.
+    pub fn on_close<D: Disk>(
+        &mut self,
+        frame: &SiteFrame,
+        packs: &mut SitePacks,
+        disk: &mut D,
+        inst: Serial,
+        out: &mut Outbox,
+    ) -> Result<(), StoreFault>
+        requires { Stand packs.old (D.moment disk.old) }
+        ensures gives { OnOk result (Gives (on_close frame.now inst (store_of self.old packs.old (D.moment disk.old).seen)) (store_of self.new packs.new (D.moment disk.new).seen) out.old out.new) }
+        ensures stands { OnOk result (Stand packs.new (D.moment disk.new)) }
+        ensures places { OnOk result (SamePlaces packs.old packs.new) }
+        ensures disk { Writes (on_close frame.now inst (store_of self.old packs.old (D.moment disk.old).seen)).written packs.old (D.moment disk.old) (D.moment disk.new) out.old out.new result }
+    {
+        match self.index.place(serial_key(inst)) {
+            None => Ok(()),
+            Some(place) => {
+                let row = &mut self.rows[place];
+                row.on_close(frame, packs, disk, out)?;
+                Ok(())
+            }
+        }
+    }
+
+    /// The synchronization site has answered the close of an instance.
+    pub fn on_closed_ok(
+        &mut self,
+        frame: &SiteFrame,
+        inst: Serial,
+        out: &mut Outbox,
+    ) -> Result<(), NoMemory>
+        ensures gives { OnOk result ((p : PacksState) (image : List ℕ) → Gives (on_closed_ok frame.now inst (store_of self.old p image)) (store_of self.new p image) out.old out.new) }
+        ensures count { OnOk result (length self.new ≡ length self.old) }
+    {
+        match self.index.place(serial_key(inst)) {
+            None => Ok(()),
+            Some(place) => {
+                let row = &mut self.rows[place];
+                row.on_closed_ok(frame, out)?;
+                let is_open = row.is_open();
+                keep_open(&mut self.standing, place, is_open);
+                Ok(())
+            }
+        }
+    }
+
+    /// The free pages of the group of an instance's file.
+    fn free_at(&self, packs: &SitePacks, place: usize) -> u16
+        requires { place < length self.now }
+        ensures { (image : List ℕ) (i : Instance) → AreShown packs.now.packs image → i ≡ slice_index_or self.now place i → result ≡ free_pages (store_of self.now packs.now image) i.file.group }
+    {
+        let group = self.rows[place].file().group;
+        self.free_pages(packs, group)
+    }
+}

@@ -1,0 +1,3 @@
+pub mod Latest
+pub mod Given
+pub mod Stays

@@ -1,0 +1,34 @@
+-- What becomes of the disk in a call that writes nothing, and in one that hands on what became of it.
+use Rattle.std.proofs.Common.{◌≡◌, refl, sym, subst, arith}
+use Rattle.std.specs.Prelude.{Option, None, Result, Ok, Err, IsErrAnd}
+use Rattle.disk_model.specs.Disk.{Moment}
+use Rattle.disk_model.proofs.ReadRuns.{reads_alone, reads_start}
+use Rattle.wire_messages.specs.Outboxes.{Outgoing}
+use Rattle.role_steps.specs.Views.{DiskWrite}
+use Rattle.site_packs.specs.Packs.{PacksState}
+use Rattle.store_instances.specs.declared.fault.StoreFault.{StoreFault}
+use Rattle.store_instances.specs.declared.fault.StoreFault.TheVariants as fault
+use Rattle.store_instances.specs.Writes.{Writes}
+
+-- nothing was written, and nothing asked of the disk
+pub nothing_written : {T : Type 0} (p : PacksState) (m : Moment) (before after : Outgoing) (x : T) → Writes None p m m before after (Ok x)
+nothing_written p m before after x = record {
+  stopped = λ e. absurd cc;
+  cause = record { later = omega arith; failed = tt };
+  tells = reads_alone m.passing m.passing (reads_start m.passing);
+  told = λ passed e is. absurd cc;
+  cut = λ passed e. tt;
+  size = tt;
+  how = refl;
+}
+
+-- a fault of the role, as a `?` hands it on
+same_fault : {T S : Type 0} (write : Option DiskWrite) (p : PacksState) (old new : Moment) (before after : Outgoing) (e : StoreFault) → Writes {T = S} write p old new before after (Err e) → Writes {T = T} write p old new before after (Err e)
+same_fault write p old new before after fault.Disk w = record { stopped = w.stopped; cause = w.cause; tells = w.tells; told = λ passed e is. w.told passed e refl; cut = w.cut; size = w.size; how = w.how }
+same_fault write p old new before after (fault.Cut size) w = record { stopped = w.stopped; cause = w.cause; tells = w.tells; told = λ passed e is. absurd cc; cut = w.cut; size = w.size; how = w.how }
+same_fault write p old new before after fault.Unfit w = record { stopped = w.stopped; cause = w.cause; tells = tt; told = λ passed e is. absurd cc; cut = w.cut; size = w.size; how = w.how }
+same_fault write p old new before after fault.NoMemory w = record { stopped = w.stopped; cause = w.cause; tells = tt; told = λ passed e is. absurd cc; cut = w.cut; size = w.size; how = w.how }
+
+pub same_at : {T S : Type 0} (write : Option DiskWrite) (p : PacksState) (old new : Moment) (before after : Outgoing) (r : Result T StoreFault) (e : StoreFault) → IsErrAnd r (λ f. f ≡ e) → Writes {T = S} write p old new before after (Err e) → Writes write p old new before after r
+same_at write p old new before after (Ok x) e h w = absurd h
+same_at {T = T} {S = S} write p old new before after (Err f) e h w = same_fault {T = T} {S = S} write p old new before after f (subst (λ (g : StoreFault). Writes {T = S} write p old new before after (Err g)) (sym h) w)

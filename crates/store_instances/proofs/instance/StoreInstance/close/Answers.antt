@@ -1,0 +1,27 @@
+use Rattle.std.proofs.Common.{subst, sym, ◌∙◌}
+use Rattle.locus_ids.specs.declared.refusal.Refusal.TheVariants as refusal
+use Rattle.wire_messages.specs.declared.body.CloseAnswer.TheVariants as closing
+use Rattle.role_steps.specs.Views.{Store, Outcome}
+use Rattle.store_instances.specs.Stores.{RowGives, store_of}
+use Rattle.store_instances.proofs.Given.{idle_close, owing_close, shut_so, spent_close}
+use Rattle.store_instances.proofs.instance.StoreInstance.close.Goals as goal
+
+pub returns-then-not-owes-clause-gives : goal.returns-then-not-owes-clause-gives
+returns-then-not-owes-clause-gives g c xs h =
+    subst (λ (o : Outcome Store). RowGives o xs c.shut.new.self c.args.packs.now (g.D.Disk.moment c.args.disk.now).seen c.args.out.now c.shut.new.out)
+    (idle_close c.args.frame.now c.args.self.now (store_of xs c.args.packs.now (g.D.Disk.moment c.args.disk.now).seen) (sym c.owes.ensures ∙ c.if-not-owes.true))
+    (shut_so c.args.frame.now c.args.self.now closing.Nothing xs c.args.packs.now (g.D.Disk.moment c.args.disk.now).seen c.shut.new.self c.args.out.now c.shut.new.out
+    (c.in_ok-shut.ensures.row (g.D.Disk.moment c.args.disk.now).seen c.requires.shown) (c.in_ok-shut.ensures.packets (g.D.Disk.moment c.args.disk.now).seen c.requires.shown) c.in_ok-shut.ensures.records)
+
+pub returns-in_ok-shut-in-None-clause-gives : goal.returns-in_ok-shut-in-None-clause-gives
+returns-in_ok-shut-in-None-clause-gives g c xs h =
+    subst (λ (o : Outcome Store). RowGives o xs c.shut-in-None.new.self c.args.packs.now (g.D.Disk.moment c.args.disk.now).seen c.args.out.now c.shut-in-None.new.out)
+    (spent_close c.args.frame.now c.args.self.now (store_of xs c.args.packs.now (g.D.Disk.moment c.args.disk.now).seen) (sym c.owes.ensures ∙ c.if-not-owes.false) c.in-None.ensures.none)
+    (shut_so c.args.frame.now c.args.self.now (closing.No refusal.Spent) xs c.args.packs.now (g.D.Disk.moment c.args.disk.now).seen c.shut-in-None.new.self c.args.out.now c.shut-in-None.new.out
+    (c.in_ok-shut-in-None.ensures.row (g.D.Disk.moment c.args.disk.now).seen c.requires.shown) (c.in_ok-shut-in-None.ensures.packets (g.D.Disk.moment c.args.disk.now).seen c.requires.shown) c.in_ok-shut-in-None.ensures.records)
+
+pub returns-in_ok-close_owed-in-Some-clause-gives : goal.returns-in_ok-close_owed-in-Some-clause-gives
+returns-in_ok-close_owed-in-Some-clause-gives g c xs h =
+    subst (λ (o : Outcome Store). RowGives o xs c.close_owed.new.self c.close_owed.new.packs (g.D.Disk.moment c.close_owed.new.disk).seen c.args.out.now c.close_owed.new.out)
+    (owing_close c.args.frame.now c.args.self.now (store_of xs c.args.packs.now (g.D.Disk.moment c.args.disk.now).seen) (sym c.owes.ensures ∙ c.if-not-owes.false) c.in-Some.ensures.risen)
+    (c.in_ok-close_owed-in-Some.ensures.gives xs c.in-Some.ensures.some)

@@ -1,0 +1,19 @@
+use Rattle.std.proofs.Common.{Ok, refl, subst, sym, ◌∙◌}
+use Rattle.role_steps.specs.Views.{Store, Outcome}
+use Rattle.store_instances.specs.Stores.{RowGives, again_packets, store_of}
+use Rattle.store_instances.specs.Writes.{Writes}
+use Rattle.store_instances.proofs.Given.{again_close, running_close, sends_so}
+use Rattle.store_instances.proofs.instance.StoreInstance.on_close.Goals as goal
+
+pub returns-clause-gives : goal.returns-clause-gives
+returns-clause-gives g c xs h =
+    subst (λ (o : Outcome Store). RowGives o xs c.args.self.now c.args.packs.now (g.D.Disk.moment c.args.disk.now).seen c.args.out.now c.close_again.new.out)
+    (again_close c.args.frame.now c.args.self.now c.args.self.now.stage (store_of xs c.args.packs.now (g.D.Disk.moment c.args.disk.now).seen) (sym c.is_running.ensures ∙ c.if-is_running.false))
+    (sends_so xs c.args.packs.now (g.D.Disk.moment c.args.disk.now).seen (again_packets c.args.frame.now c.args.self.now c.args.self.now.stage) c.args.self.now c.args.self.now c.args.out.now c.close_again.new.out h refl
+    c.in_ok-close_again.ensures.packets c.in_ok-close_again.ensures.records)
+
+pub returns-then-is_running-clause-disk : goal.returns-then-is_running-clause-disk
+returns-then-is_running-clause-disk g c s =
+    subst (λ (o : Outcome Store). Writes o.written c.args.packs.now (g.D.Disk.moment c.args.disk.now) (g.D.Disk.moment c.close.new.disk) c.args.out.now c.close.new.out (Ok tt))
+    (running_close c.args.frame.now c.args.self.now c.args.self.now.stage s (sym c.is_running.ensures ∙ c.if-is_running.true))
+    (c.in_ok-close.ensures.disk s)

@@ -1,0 +1,143 @@
+//! The working content of an instance becomes a version of its file.
+
+ghost use Rattle.std.specs.Prelude.{◌≡◌, ◌++◌, ◌∷◌, [], ◌-◌, IfSome, IfNone, IfOk, OnOk, Some, is_some, true, false, length, slice_index, ℕ, Err, IfErr, OnErr};
+ghost use Rattle.disk_model.specs.Disk.{Exactly, HasCause};
+ghost use Rattle.disk_model.specs.Moments.{LeavesOnly};
+ghost use Rattle.role_steps.specs.Tables.{with_row};
+ghost use Rattle.role_steps.specs.Storage.{commit_record, copy_key, copy_made, instance_committed, instance_key, is_spent, next_stamp, next_vector};
+ghost use Rattle.site_packs.specs.Copies.{copies_on};
+ghost use Rattle.site_packs.specs.Committing.{MayBeLeft, calls_of};
+ghost use Rattle.site_packs.specs.Cutting.{IsCut};
+ghost use Rattle.site_packs.specs.Packs.{SamePlaces, Stand, copy_at, groups_of};
+ghost use Rattle.store_instances.specs.Writes.{HasSize, TellsWrite, Writes, disk_answer, write_as};
+
+use crate::{StoreFault, StoreInstance};
+use disk_model::Disk;
+use locus_ids::{Bytes, ItemList, NoMemory, SiteId, Stamp, Stamps};
+use site_frame::SiteFrame;
+use site_packs::{NewVersion, SitePacks};
+use trace_book::Record;
+use version_vector::Vector;
+use wire_messages::Outbox;
+
+impl StoreInstance {
+    /// The vector of the next version, in which this site's counter is one more, or `None` where it can't rise.
+    pub(crate) fn next_vector(&self, frame: &SiteFrame) -> Option<Vector<16>>
+        ensures some { IfSome result (λ v. v ≡ next_vector frame.now self.now) }
+        ensures risen { IfSome result (λ v. is_spent frame.now self.now ≡ false) }
+        ensures none { IfNone result (is_spent frame.now self.now ≡ true) }
+    {
+        let _me = frame.me.get();
+        match self.vector.bump(frame.me) {
+            Ok(vector) => Some(vector),
+            Err(_) => None,
+        }
+    }
+
+    /// The working content is committed as the version of this vector. Its record is told before the disk is written.
+    pub(crate) fn commit<D: Disk>(
+        &mut self,
+        frame: &SiteFrame,
+        packs: &mut SitePacks,
+        disk: &mut D,
+        vector: &Vector<16>,
+        out: &mut Outbox,
+    ) -> Result<Stamp, StoreFault>
+        requires { Stand packs.old (D.moment disk.old) }
+        ensures stamp { IfOk result (λ stamp. stamp ≡ next_stamp frame.now vector.now) }
+        ensures row { OnOk result (self.new ≡ instance_committed self.old vector.now (next_stamp frame.now vector.now)) }
+        ensures copies { OnOk result (copies_on (groups_of packs.new) (D.moment disk.new).seen ≡ with_row copy_key (copy_made self.old vector.now (next_stamp frame.now vector.now)) (copies_on (groups_of packs.old) (D.moment disk.old).seen)) }
+        ensures stands { OnOk result (Stand packs.new (D.moment disk.new)) }
+        ensures places { OnOk result (SamePlaces packs.old packs.new) }
+        ensures key { instance_key self.new ≡ instance_key self.old }
+        ensures stage { self.new.stage ≡ self.old.stage }
+        ensures packets { OnOk result (out.new.packets ≡ out.old.packets) }
+        ensures records { OnOk result (out.new.records ≡ out.old.records ++ commit_record frame.now self.old (next_stamp frame.now vector.now) ∷ []) }
+        ensures disk { Writes (Some (write_as frame.now self.old vector.now)) packs.old (D.moment disk.old) (D.moment disk.new) out.old out.new result }
+    {
+        let stamp = next_stamp(frame.me, vector);
+        let parents = only(&self.parents, stamp)?;
+        self.tell_commit(frame, stamp, out)?;
+        self.write(packs, disk, vector, stamp)?;
+        self.vector = *vector;
+        self.parents = parents;
+        self.work.commit(stamp);
+        Ok(stamp)
+    }
+
+    /// The working content goes to the disk as the version of this vector and stamp. Here a refused commit becomes a fault of
+    /// the role.
+    fn write<D: Disk>(
+        &self,
+        packs: &mut SitePacks,
+        disk: &mut D,
+        vector: &Vector<16>,
+        stamp: Stamp,
+    ) -> Result<(), StoreFault>
+        requires { Stand packs.old (D.moment disk.old) }
+        ensures copies { OnOk result (copies_on (groups_of packs.new) (D.moment disk.new).seen ≡ with_row copy_key (copy_made self.now vector.now stamp) (copies_on (groups_of packs.old) (D.moment disk.old).seen)) }
+        ensures stands { OnOk result (Stand packs.new (D.moment disk.new)) }
+        ensures places { OnOk result (SamePlaces packs.old packs.new) }
+        ensures leaves { LeavesOnly (D.moment disk.old) (D.moment disk.new) (MayBeLeft packs.old (copy_made self.now vector.now stamp) (D.moment disk.old).seen) }
+        ensures cause { HasCause (D.moment disk.old).faults (D.moment disk.new).faults (disk_answer result) }
+        ensures tells { TellsWrite (calls_of (length self.now.work.changed) (is_some (copy_at packs.old (D.moment disk.old).seen self.now.file))) (D.moment disk.old).passing (D.moment disk.new).passing result }
+        ensures told { (passed : ℕ) → (D.moment disk.old).passing ≡ Exactly passed → result ≡ Err StoreFault.Disk → ⊥ }
+        ensures cut { (passed : ℕ) → (D.moment disk.old).passing ≡ Exactly passed → OnErr (disk_answer result) (IsCut packs.old (copy_made self.now vector.now stamp) (length self.now.work.changed) (D.moment disk.old).how passed (D.moment disk.old).seen (D.moment disk.new).left) }
+        ensures size { IfErr result (HasSize (length self.now.work.changed) (is_some (copy_at packs.old (D.moment disk.old).seen self.now.file))) }
+        ensures how { (D.moment disk.new).how ≡ (D.moment disk.old).how }
+    {
+        let version = NewVersion {
+            kind: self.kind,
+            set: self.set,
+            stamp,
+            vector: *vector,
+        };
+        let content = self.work.content.as_slice();
+        let changed = self.work.changed.as_slice();
+        match packs.commit(disk, self.file, &version, content, changed) {
+            Ok(()) => Ok(()),
+            Err(refused) => Err(StoreFault::from(refused)),
+        }
+    }
+
+    /// Tells of the version of this stamp.
+    fn tell_commit(&self, frame: &SiteFrame, stamp: Stamp, out: &mut Outbox) -> Result<(), NoMemory>
+        ensures packets { OnOk result (out.new.packets ≡ out.old.packets) }
+        ensures records { OnOk result (out.new.records ≡ out.old.records ++ commit_record frame.now self.now stamp ∷ []) }
+    {
+        let alloc = self.parents.allocator();
+        out.note(Record::Commit {
+            file: self.file,
+            site: frame.me.get(),
+            stamp,
+            parents: copied(&self.parents)?,
+            content: Bytes::from_slice(alloc, self.work.content.as_slice())?,
+        })
+    }
+}
+
+/// The stamp of the next version.
+fn next_stamp(me: SiteId, vector: &Vector<16>) -> Stamp
+    ensures { result ≡ record { site = me; n = slice_index vector.now (me - 1) } }
+{
+    let site = me.get();
+    Stamp {
+        site,
+        n: vector.part(me),
+    }
+}
+
+fn only(before: &Stamps, stamp: Stamp) -> Result<Stamps, NoMemory>
+    ensures { IfOk result (λ made. made ≡ stamp ∷ []) }
+{
+    let mut made = ItemList::new(before.allocator());
+    made.push(stamp)?;
+    Ok(made)
+}
+
+fn copied(stamps: &Stamps) -> Result<Stamps, NoMemory>
+    ensures { IfOk result (λ made. made ≡ stamps.now) }
+{
+    let copy = stamps.copy()?;
+    Ok(copy)
+}

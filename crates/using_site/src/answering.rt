@@ -1,0 +1,240 @@
+ghost use Rattle.std.specs.Prelude.{◌≡◌, List, Some, IfOk, OnOk};
+ghost use Rattle.locus_ids.specs.declared.ids.FileId.{FileId};
+ghost use Rattle.locus_ids.specs.declared.ids.Stamp.{Stamp};
+ghost use Rattle.dir_format.specs.Contents.{entries_of};
+ghost use Rattle.dir_format.specs.Lookups.{shown_names};
+ghost use Rattle.role_steps.specs.Tables.{first_that, row};
+ghost use Rattle.role_steps.specs.Requests.{waiting_key};
+ghost use Rattle.role_steps.specs.Using.{asks_open_of, close_answer, kept_for, looks_again, on_close_done, on_look_done, on_op_done, on_open_done, op_answer, opened_answer, takes_look, takes_open};
+ghost use Rattle.role_steps.specs.declared.users.WaitingCall.{WaitingCall};
+ghost use Rattle.keyed_tables.specs.Rising.{Rising};
+ghost use Rattle.wire_messages.specs.declared.body.LookAnswer.TheVariants as looked;
+ghost use Rattle.using_site.specs.Steps.{Gives, mended_by};
+ghost use Rattle.using_site.specs.Rows.{asks_whole};
+
+use crate::checking::{close_asker, look_asker, op_asker, open_asker};
+use crate::users::UsingSite;
+use crate::waiting::{Waiting, send_request};
+use call_rules::Answer;
+use dir_format::{dir_in, shown_names};
+use locus_ids::{Bytes, Names, NoMemory, Serial, Stamps};
+use role_steps::{Asking, UserInstance};
+use site_frame::SiteFrame;
+use std::alloc::Global;
+use trace_book::{Call, Outcome, What};
+use wire_messages::{CloseAnswer, Granted, LookAnswer, Outbox};
+
+impl UsingSite {
+    /// An open is answered. `kept` are the stamps of the kept versions of the directory that the call mends which asks
+    /// this open (`mend_opening`), and none of any other call's. An answer to what no call asks now is ignored.
+    pub fn on_open_done(
+        &mut self,
+        frame: &SiteFrame,
+        kept: Stamps,
+        serial: u32,
+        answer: Granted,
+        out: &mut Outbox,
+    ) -> Result<(), NoMemory>
+        ensures { (all : FileId → List Stamp) → kept_for all (mended_by (first_that (asks_open_of serial) self.old.waiting)) ≡ kept → OnOk result (Gives (on_open_done frame.now all serial answer self.old) self.new out.old out.new) }
+    {
+        let Some(key) = open_asker(serial, self.waiting.as_slice()) else {
+            return Ok(());
+        };
+        match answer {
+            Granted::Open {
+                ss,
+                ino,
+                vector,
+                ..
+            } => {
+                let answer = self.opened_answer(frame, key, serial, ino, kept);
+                self.instances.put(UserInstance {
+                    serial,
+                    ss,
+                    vector,
+                    ops: 0,
+                })?;
+                self.take(frame, key, answer, None, out)
+            }
+            Granted::No { why } => self.take(frame, key, Answer::Refused { why }, None, out),
+        }
+    }
+
+    /// What an open is to the call of this key: a mend's brings the stamps of the kept versions.
+    fn opened_answer(
+        &self,
+        frame: &SiteFrame,
+        key: u64,
+        serial: u32,
+        ino: u16,
+        kept: Stamps,
+    ) -> Answer
+        ensures { (w : WaitingCall) → row waiting_key key self.now.waiting ≡ Some w → result ≡ opened_answer frame.now serial ino kept w.words }
+    {
+        let inst = Serial {
+            us: frame.me.get(),
+            serial,
+        };
+        match self.waiting.find(key) {
+            Some(waiting) => match waiting.caller.script.words() {
+                Call::Mend { file: _ } => Answer::Merging { inst, kept },
+                _ => Answer::Opened { inst, ino },
+            },
+            None => Answer::Opened { inst, ino },
+        }
+    }
+
+    /// An operation is answered. An answer to what no call asks now, or of another sort, is ignored.
+    pub fn on_op_done(
+        &mut self,
+        frame: &SiteFrame,
+        serial: u32,
+        number: u32,
+        outcome: Outcome,
+        out: &mut Outbox,
+    ) -> Result<(), NoMemory>
+        ensures { OnOk result (Gives (on_op_done frame.now serial number outcome self.old) self.new out.old out.new) }
+    {
+        let Some(key) = op_asker(serial, number, &outcome, self.waiting.as_slice()) else {
+            return Ok(());
+        };
+        self.take(frame, key, op_answer(outcome), None, out)
+    }
+
+    /// A close is answered: the instance is gone. An answer to what no call asks now is ignored.
+    pub fn on_close_done(
+        &mut self,
+        frame: &SiteFrame,
+        serial: u32,
+        answer: CloseAnswer,
+        out: &mut Outbox,
+    ) -> Result<(), NoMemory>
+        ensures { OnOk result (Gives (on_close_done frame.now serial answer self.old) self.new out.old out.new) }
+    {
+        let Some(key) = close_asker(serial, self.waiting.as_slice()) else {
+            return Ok(());
+        };
+        self.instances.remove(u64::from(serial));
+        self.take(frame, key, close_answer(answer), None, out)
+    }
+
+    /// A look is answered. An answer to what no call asks now, or of another sort, is ignored; where the version was there
+    /// no more, the same request is asked with the next take.
+    pub fn on_look_done(
+        &mut self,
+        frame: &SiteFrame,
+        call: u32,
+        request: u16,
+        take: u32,
+        answer: LookAnswer,
+        out: &mut Outbox,
+    ) -> Result<(), NoMemory>
+        ensures { OnOk result (Gives (on_look_done frame.now call request take answer self.old) self.new out.old out.new) }
+    {
+        let Some(key) = look_asker(call, request, take, &answer, self.waiting.as_slice()) else {
+            return Ok(());
+        };
+        match answer {
+            LookAnswer::Found { ino, kind } => {
+                self.take(frame, key, Answer::Entered { ino, kind }, None, out)
+            }
+            LookAnswer::Content { bytes } => self.take_content(frame, key, bytes, out),
+            LookAnswer::Stat { kind, size, stamp } => {
+                let answer = Answer::Described { kind, size, stamp };
+                self.take(frame, key, answer, None, out)
+            }
+            LookAnswer::Moved => self.look_again(frame, key, out),
+            LookAnswer::No { why } => self.take(frame, key, Answer::Refused { why }, None, out),
+        }
+    }
+
+    /// A whole content stays here; of a list the shown names are the answer.
+    fn take_content(
+        &mut self,
+        frame: &SiteFrame,
+        key: u64,
+        bytes: Bytes,
+        out: &mut Outbox,
+    ) -> Result<(), NoMemory>
+        ensures { (w : WaitingCall) → Rising waiting_key self.old.waiting → row waiting_key key self.old.waiting ≡ Some w → OnOk result (Gives (takes_look frame.now w (looked.Content bytes) self.old) self.new out.old out.new) }
+    {
+        if self.asks_whole(key) {
+            return self.take(frame, key, Answer::Brought, Some(bytes), out);
+        }
+        let names = shown(self.alloc, bytes.as_slice())?;
+        self.take(frame, key, Answer::Showed { names }, None, out)
+    }
+
+    /// The call of this key looks at the whole content of a version.
+    fn asks_whole(&self, key: u64) -> bool
+        ensures { (w : WaitingCall) → row waiting_key key self.now.waiting ≡ Some w → result ≡ asks_whole w.asking }
+    {
+        match self.waiting.find(key) {
+            Some(waiting) => is_whole(&waiting.asking),
+            None => false,
+        }
+    }
+
+    /// The same request is asked with the next take.
+    fn look_again(&mut self, frame: &SiteFrame, key: u64, out: &mut Outbox) -> Result<(), NoMemory>
+        ensures { (w : WaitingCall) → Rising waiting_key self.old.waiting → row waiting_key key self.old.waiting ≡ Some w → OnOk result (Gives (looks_again frame.now w w.asking self.old) self.new out.old out.new) }
+    {
+        let Some(waiting) = self.waiting.remove(key) else {
+            return Ok(());
+        };
+        let Waiting { caller, asking } = waiting;
+        match asking {
+            Asking::Look { file, what, take } => {
+                let Some(take) = take.checked_add(1) else {
+                    return Err(NoMemory);
+                };
+                let asking = Asking::Look { file, what, take };
+                send_request(frame, &caller, &asking, out)?;
+                self.waiting.put(Waiting { caller, asking })
+            }
+            asking => self.waiting.put(Waiting { caller, asking }),
+        }
+    }
+}
+
+fn is_whole(asking: &Asking) -> bool
+    ensures { result ≡ asks_whole asking.now }
+{
+    match asking {
+        Asking::Look {
+            what: What::Whole { .. },
+            ..
+        } => true,
+        _ => false,
+    }
+}
+
+/// The names that a directory of this content shows.
+fn shown(alloc: Global, bytes: &[u8]) -> Result<Names, NoMemory>
+    ensures { IfOk result (λ names. names ≡ shown_names (entries_of bytes.now)) }
+{
+    if bytes.len() >= 4_294_967_296 {
+        return Err(NoMemory);
+    }
+    let dir = dir_in(alloc, bytes)?;
+    shown_names(alloc, &dir)
+}
+
+fn op_answer(outcome: Outcome) -> Answer
+    ensures { result ≡ op_answer outcome }
+{
+    match outcome {
+        Outcome::No { why } => Answer::Refused { why },
+        result => Answer::Did { result },
+    }
+}
+
+fn close_answer(answer: CloseAnswer) -> Answer
+    ensures { result ≡ close_answer answer }
+{
+    match answer {
+        CloseAnswer::Nothing => Answer::Ended { stamp: None },
+        CloseAnswer::Made { stamp } => Answer::Ended { stamp: Some(stamp) },
+        CloseAnswer::No { why } => Answer::Refused { why },
+    }
+}
