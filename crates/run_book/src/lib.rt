@@ -1,4 +1,4 @@
-//! The book of a run: what the run of a schedule has besides its sites. The packets, the text of the records, and the limit that
+//! The book of a run: the packets, the text of the records, and the limit that
 //! an event passed. The world stands on this room. It knows no site and no circuit.
 #![tactic(auto)]
 
