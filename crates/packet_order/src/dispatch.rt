@@ -1,4 +1,6 @@
-ghost use Rattle.std.specs.Prelude.{◌≡◌, [], OnOk};
+ghost use Rattle.std.specs.Prelude.{◌≡◌, [], Err, OnOk};
+ghost use Rattle.std.specs.List.{AllByRecursion};
+ghost use Rattle.wire_messages.specs.Packets.{FitsPacket};
 ghost use Rattle.packet_order.specs.Orders.{behind, sorted_out, together};
 
 use crate::{OrderFault, Part};
@@ -42,11 +44,14 @@ impl Dispatch {
 
     /// Adds what an outbox gave, its packets in order. `Unfit` only where there are several packets and one isn't of the format.
     pub fn add_in_order(&mut self, outbox: Outbox) -> Result<(), OrderFault>
-        ensures { OnOk result (self.new ≡ behind self.old (sorted_out outbox)) }
+        ensures order { OnOk result (self.new ≡ behind self.old (sorted_out outbox)) }
+        ensures unfit { result ≡ Err OrderFault.Unfit → AllByRecursion (λ p. FitsPacket p) outbox.packets → ⊥ }
     {
         let part = Part::in_order(*self.parts.allocator(), outbox)?;
-        self.push(part)?;
-        Ok(())
+        match self.push(part) {
+            Ok(()) => Ok(()),
+            Err(_) => Err(OrderFault::NoMemory),
+        }
     }
 
     fn push(&mut self, part: Part) -> Result<(), NoMemory>

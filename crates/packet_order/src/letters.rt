@@ -1,8 +1,9 @@
 // Packets as their bytes, by which they are ordered.
-ghost use Rattle.std.specs.Prelude.{◌≡◌, ◌≤◌, length, map, cond, false, IfOk};
+ghost use Rattle.std.specs.Prelude.{◌≡◌, ◌≤◌, length, map, cond, false, Err, IfOk};
+ghost use Rattle.std.specs.List.{AllByRecursion};
 ghost use Rattle.std.specs.Ordering.{is_lt};
 ghost use Rattle.std.specs.Cmp.Lexicographic.{slice_cmp};
-ghost use Rattle.wire_messages.specs.Packets.{packet_bytes};
+ghost use Rattle.wire_messages.specs.Packets.{FitsPacket, packet_bytes};
 ghost use Rattle.wire_messages.specs.declared.packet.Packet.{Packet};
 ghost use Rattle.the_run.specs.Steps.{is_before};
 
@@ -20,27 +21,34 @@ const RECEIVER_AT: usize = 7;
 
 const BODY_AT: usize = 25;
 
-/// The bytes of each packet in turn.
+/// The bytes of each packet in turn, if all are of the format.
 pub(crate) fn letters_of(alloc: Global, packets: &[Packet]) -> Result<ItemList<Bytes>, OrderFault>
-    ensures { IfOk result (λ made. made ≡ map packet_bytes packets.now) }
+    ensures letters { IfOk result (λ made. made ≡ map packet_bytes packets.now) }
+    ensures unfit { result ≡ Err OrderFault.Unfit → AllByRecursion (λ p. FitsPacket p) packets.now → ⊥ }
 {
     let mut made = ItemList::new(alloc);
     for packet in packets {
-        made.push(letter_of(alloc, packet)?)?;
+        match made.push(letter_of(alloc, packet)?) {
+            Ok(()) => {}
+            Err(_) => return Err(OrderFault::NoMemory),
+        }
     }
     Ok(made)
 }
 
-/// The bytes of a packet.
+/// The bytes of a packet, if it is one of the format.
 fn letter_of(alloc: Global, packet: &Packet) -> Result<Bytes, OrderFault>
-    ensures { IfOk result (λ made. made ≡ packet_bytes packet.now) }
+    ensures letter { IfOk result (λ made. made ≡ packet_bytes packet.now) }
+    ensures unfit { result ≡ Err OrderFault.Unfit → FitsPacket packet.now → ⊥ }
 {
     if !fits(packet) {
         return Err(OrderFault::Unfit);
     }
     let mut letter = Bytes::new(alloc);
-    encode(packet, &mut letter)?;
-    Ok(letter)
+    match encode(packet, &mut letter) {
+        Ok(()) => Ok(letter),
+        Err(_) => Err(OrderFault::NoMemory),
+    }
 }
 
 /// The packet of the first bytes goes before that of the second.

@@ -10,14 +10,14 @@ use Rattle.site_label.specs.Cutting.{LabelState, raise_left, boot_left}
 use Rattle.role_steps.specs.Tables.{without_row}
 use Rattle.role_steps.specs.Views.{file_key}
 use Rattle.role_steps.specs.declared.copies.FileCopy.{FileCopy}
-use Rattle.the_run.specs.Disks.{Disk, Label, Armed, Cut, Stops, Fails, BootWrite, ClosesLosing, WritesBody, OpensHalf, ClosesOther, ClosesGate, Booted, CutOff, boots, boots_armed, boot_writes, written, file_number, gate_left as run_gate}
+use Rattle.the_run.specs.Disks.{Disk, Label, Armed, Cut, Stops, Fails, BootWrite, ClosesLosing, WritesBody, OpensHalf, ClosesOther, ClosesGate, Booted, Whole, CutOff, boots, boots_freely, boots_armed, boot_writes, written, file_number, gate_left as run_gate}
 use Rattle.site_disk.specs.Image.{one_half}
 use Rattle.site_disk.specs.Boots.{label_calls, label_left, files_left}
 use Rattle.site_disk.specs.Run.{as_label, as_cut, cut_boot}
 use Rattle.site_disk.proofs.Runs.{first_out, writes_counted}
 
 -- a gate is left alike
-gate_same : (how : Cut) (writing was to : Bool) → run_gate how writing was to ≡ gate_left (as_cut how) writing was to
+pub gate_same : (how : Cut) (writing was to : Bool) → run_gate how writing was to ≡ gate_left (as_cut how) writing was to
 gate_same (Stops leave.Old) writing was to = refl
 gate_same (Stops leave.New) writing was to = refl
 gate_same (Stops (leave.Byte byte)) writing was to = refl
@@ -135,3 +135,19 @@ whole true a left copies files boot few = ⊎_elim
 
 pub cut_boots : (d : Disk) (a : Armed) → a.left < 2 * length (boot_writes d) → boots (Some a) d ≡ CutOff (cut_boot a d) a.how
 cut_boots d a few = let e = writes_counted d in whole d.label.both_open a a.left d.copies d.both_open d.label.boot (omega arith)
+
+-- ---- a boot that isn't cut off ----
+
+armed_whole : (xs : List BootWrite) (a : Armed) (left : ℕ) (d : Disk) → 2 * length xs ≤ left
+    → boots_armed a left xs d ≡ Whole (boots_freely xs d) (Some (record a { left = left - 2 * length xs }))
+armed_whole [] a left d h =
+    let e : left ≡ left - 2 * length {A = BootWrite} [] = omega arith in
+    ap (λ (k : ℕ). Whole d (Some (record a { left = k }))) e
+armed_whole (x ∷ xs) a zero d h = absurd (omega arith)
+armed_whole (x ∷ xs) a (suc zero) d h = absurd (omega arith)
+armed_whole (x ∷ xs) a (suc (suc left)) d h =
+    let e : left - 2 * length xs ≡ suc (suc left) - 2 * length (x ∷ xs) = omega arith in
+    armed_whole xs a left (written x d) (omega arith) ∙ ap (λ (k : ℕ). Whole (boots_freely xs (written x d)) (Some (record a { left = k }))) e
+
+pub whole_boots : (d : Disk) (a : Armed) → 2 * length (boot_writes d) ≤ a.left → boots (Some a) d ≡ Whole (boots_freely (boot_writes d) d) (Some (record a { left = a.left - 2 * length (boot_writes d) }))
+whole_boots d a h = armed_whole (boot_writes d) a a.left d h

@@ -5,3 +5,4 @@ pub mod Counts
 pub mod Runs
 pub mod Cutting
 pub mod CutRuns
+pub mod CutCommits

@@ -1,0 +1,99 @@
+-- The mends that start at the end of an event.
+use Rattle.std.proofs.Common.{◌≡◌, ℕ, cond, true, false, Bool, not, ◌&&◌, List, [], ◌∷◌, length, take, drop, get_or, ◌≤◌, ◌-◌, arith, Option, None, Some, refl, sym, ap, ◌∙◌, subst}
+use Rattle.std.proofs.lemmas.List.{take_all}
+use Rattle.std.specs.List.{list_all}
+use Rattle.locus_ids.specs.declared.ids.FileId.{FileId}
+use Rattle.wire_messages.specs.Outboxes.{Outgoing}
+use Rattle.dir_format.specs.Entries.{is_live}
+use Rattle.dir_format.specs.Contents.{entries_of, entries_from, entries_where, is_dir}
+use Rattle.dir_format.specs.Grammar.{dir_bytes}
+use Rattle.dir_format.specs.declared.entry.Entry.{Entry}
+use Rattle.std.specs.Str.{bytes_eq}
+use Rattle.dir_reconcile.specs.Rescues.{rescue_wanted}
+use Rattle.dir_reconcile.specs.declared.kept.KeptVector.{KeptVector}
+use Rattle.role_steps.specs.Views.{Frame, SiteView, Users, Outcome, quiet}
+use Rattle.role_steps.specs.Epochs.{with_users}
+use Rattle.role_steps.specs.Using.{on_call}
+use Rattle.role_steps.specs.Tables.{first_that}
+use Rattle.role_steps.specs.declared.synchronizing.FileRow.{FileRow}
+use Rattle.trace_book.specs.declared.call.Call.TheVariants as call
+use Rattle.role_steps.specs.Mends.{has_mend_in, kept_vectors, row_file, starts_mend, starts_mend_of, starts_mends_in, wants_mend, wants_rescue_in}
+use Rattle.role_steps.specs.declared.synchronizing.SyncTable.{SyncTable}
+use Rattle.site_packs.specs.Copies.{copies_on}
+use Rattle.site_packs.specs.Packs.{PacksState, groups_of}
+use Rattle.using_site.specs.Steps.{Gives}
+use Rattle.site_tables.proofs.Giving.{gives_as, gives_then, gives_within}
+use Rattle.site_mends.specs.Mending.{IsSeen, file_in}
+
+pub seen_with : (v : SiteView) (packs : PacksState) (image after : List ℕ) (u now : Users) → after ≡ image → IsSeen v packs image u → IsSeen (with_users v now) packs after now
+seen_with v packs image after u now e h = record { copies = h.copies ∙ ap (λ xs. copies_on (groups_of packs) xs) (sym e); users = refl }
+
+-- ---- the mend of one group ----
+
+no_file : {P : Type 0} (file : FileId) → ◌≡◌ {A = Option FileId} (Some file) None → P
+no_file file e = absurd (cc)
+
+same_found : (a b : FileId) → ◌≡◌ {A = Option FileId} (Some a) (Some b) → a ≡ b
+same_found a b e = cc
+
+mend_of : (f : Frame) (t : SyncTable) (v : SiteView) (r : Option FileRow) (u now : Users) (file : FileId) (a b : Outgoing) → v.users ≡ u → ◌≡◌ {A = Option FileId} (Some file) (file_in t r) → Gives (on_call f (Some f.epoch) 0 (call.Mend file) u) now a b → Gives (starts_mend_of f t r v) (with_users v now) a b
+mend_of f t v None u now file a b h e g = no_file file e
+mend_of f t v (Some r) u now file a b h e g =
+    gives_within (with_users v) (on_call f (Some f.epoch) 0 (call.Mend (row_file t r)) v.users) now a b (gives_as (on_call f (Some f.epoch) 0 (call.Mend file) u) (on_call f (Some f.epoch) 0 (call.Mend (row_file t r)) v.users) now a b (ap (λ x. on_call f (Some f.epoch) 0 (call.Mend (row_file t r)) x) h ∙ ap (λ x. on_call f (Some f.epoch) 0 (call.Mend x) u) (sym (same_found file (row_file t r) e))) g)
+
+abbrev starts_by : Frame → SyncTable → SiteView → Bool → Outcome SiteView
+starts_by f t v b = elim b [
+  | true ↦ starts_mend_of f t (first_that (wants_mend v t) t.files) v
+  | false ↦ quiet v
+]
+
+may_start : (t : SyncTable) (v : SiteView) (u : Users) → v.users ≡ u → t.started ≡ true → has_mend_in u t.group ≡ false → (t.started && not (has_mend_in v.users t.group)) ≡ true
+may_start t v u h s n = ap (λ b. b && not (has_mend_in v.users t.group)) s ∙ (ap (λ x. not (has_mend_in x t.group)) h ∙ ap not n)
+
+-- the first directory that wants a mend gets it, where the table has started and none waits
+pub mend_starts : (f : Frame) (t : SyncTable) (v : SiteView) (u now : Users) (file : FileId) (a b : Outgoing) → v.users ≡ u → t.started ≡ true → has_mend_in u t.group ≡ false → ◌≡◌ {A = Option FileId} (Some file) (file_in t (first_that (wants_mend v t) t.files)) → Gives (on_call f (Some f.epoch) 0 (call.Mend file) u) now a b → Gives (starts_mend f t v) (with_users v now) a b
+mend_starts f t v u now file a b h s n e g =
+    gives_as (starts_mend_of f t (first_that (wants_mend v t) t.files) v) (starts_mend f t v) (with_users v now) a b (ap (starts_by f t v) (may_start t v u h s n)) (mend_of f t v (first_that (wants_mend v t) t.files) u now file a b h e g)
+
+-- a mend in one group, and then in the others
+pub mends_then : (f : Frame) (t : SyncTable) (ts : List SyncTable) (v : SiteView) (u w : Users) (a b c : Outgoing) → Gives (starts_mend f t v) (with_users v u) a b → Gives (starts_mends_in f ts (with_users v u)) (with_users (with_users v u) w) b c → Gives (starts_mends_in f (t ∷ ts) v) (with_users v w) a c
+mends_then f t ts v u w a b c g h = gives_then (starts_mend f t v) (starts_mends_in f ts) (with_users v u) (with_users v w) a b c g h
+
+rest_of : (t : SyncTable) (ts : List SyncTable) → take (length (t ∷ ts) - 1) (drop 1 (t ∷ ts)) ≡ ts
+rest_of t ts = take_all (length (t ∷ ts) - 1) ts (omega arith)
+
+-- the same of a list that begins with this table
+pub mends_of : (f : Frame) (all : List SyncTable) (t : SyncTable) (v : SiteView) (u w : Users) (a b c : Outgoing) → 1 ≤ length all → t ≡ get_or all 0 t → Gives (starts_mend f t v) (with_users v u) a b → Gives (starts_mends_in f (take (length all - 1) (drop 1 all)) (with_users v u)) (with_users (with_users v u) w) b c → Gives (starts_mends_in f all v) (with_users v w) a c
+mends_of f [] t v u w a b c some e g h = absurd (omega arith)
+mends_of f (x ∷ ts) t v u w a b c some e g h =
+    mends_then f x ts v u w a b c (subst (λ y. Gives (starts_mend f y v) (with_users v u) a b) e g) (subst (λ l. Gives (starts_mends_in f l (with_users v u)) (with_users (with_users v u) w) b c) (rest_of x ts) h)
+
+-- ---- what wants a rescue ----
+
+none_wanted : (kept : List KeptVector) → rescue_wanted [] kept ≡ false
+none_wanted kept = refl
+
+abbrev rescue_by : List KeptVector → Bool → List Entry → Bool
+rescue_by kept all ds = elim all [
+  | true ↦ false
+  | false ↦ rescue_wanted ds kept
+]
+
+-- where the entries that were read are all live, none wants a rescue
+by_read : (bytes : List ℕ) (ds : List Entry) (kept : List KeptVector) → rescue_by kept (list_all is_live (entries_where bytes ds)) (entries_where bytes ds) ≡ rescue_by kept (list_all is_live ds) (entries_where bytes ds)
+by_read bytes ds kept = elim (bytes_eq (dir_bytes ds) bytes && is_dir ds) as (λ b. rescue_by kept (list_all is_live (cond b ds [])) (cond b ds []) ≡ rescue_by kept (list_all is_live ds) (cond b ds [])) [
+  | true ↦ refl
+  | false ↦ elim (list_all is_live ds) as (λ b. false ≡ rescue_by kept b []) [
+    | true ↦ refl
+    | false ↦ refl
+  ]
+]
+
+pub wanted_in : (t : SyncTable) (content : List ℕ) → wants_rescue_in t content ≡ rescue_by (kept_vectors t) (list_all is_live (entries_of content)) (entries_of content)
+wanted_in t content = sym (by_read content (entries_from (length content) content) (kept_vectors t))
+
+pub all_live : (t : SyncTable) (content : List ℕ) → list_all is_live (entries_of content) ≡ true → false ≡ wants_rescue_in t content
+all_live t content e = sym (wanted_in t content ∙ ap (λ b. rescue_by (kept_vectors t) b (entries_of content)) e)
+
+pub some_removed : (t : SyncTable) (content : List ℕ) → list_all is_live (entries_of content) ≡ false → rescue_wanted (entries_of content) (kept_vectors t) ≡ wants_rescue_in t content
+some_removed t content e = sym (wanted_in t content ∙ ap (λ b. rescue_by (kept_vectors t) b (entries_of content)) e)

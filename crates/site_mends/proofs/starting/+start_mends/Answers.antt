@@ -1,0 +1,6 @@
+use Rattle.role_steps.specs.Epochs.{with_users}
+use Rattle.site_mends.proofs.Mends.{mends_of, seen_with}
+use Rattle.site_mends.proofs.starting.+start_mends.Goals as goal
+
+pub returns-clause-gives : goal.returns-clause-gives
+returns-clause-gives g t c = λ v h. mends_of c.args.frame.now c.args.tables.now c.table-item.result v c.start_mend.new.users c.start_mends.new.users c.args.out.now c.start_mend.new.out c.start_mends.new.out c.in-len1-up.len_at_least c.table-item.is (c.in_ok-start_mend.ensures.gives v h) (c.in_ok-start_mends.ensures.gives (with_users v c.start_mend.new.users) (seen_with v c.args.packs.now _ _ c.args.users.now c.start_mend.new.users c.in_ok-start_mend.ensures.disk.seen h))

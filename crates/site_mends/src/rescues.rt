@@ -1,0 +1,83 @@
+// Whether a file has to be rescued in the only kept version of a directory.
+ghost use Rattle.std.specs.Prelude.{◌≡◌, IfOk};
+ghost use Rattle.std.specs.List.{list_all};
+ghost use Rattle.commit_graph.specs.Versions.{same_stamp};
+ghost use Rattle.dir_format.specs.Entries.{is_live};
+ghost use Rattle.role_steps.specs.Views.{SiteView};
+ghost use Rattle.role_steps.specs.Storage.{copy_of};
+ghost use Rattle.role_steps.specs.Mends.{wants_rescue_in, wants_rescue_of};
+ghost use Rattle.site_packs.specs.Copies.{copies_on};
+ghost use Rattle.site_packs.specs.Packs.{Stand, groups_of};
+ghost use Rattle.site_mends.specs.Mending.{WasRead};
+
+use crate::MendFault;
+use css_core::Css;
+use dir_format::{Entry, dir_in};
+use dir_reconcile::rescue_wanted;
+use disk_model::Disk;
+use locus_ids::sizes::MAX_BYTES;
+use locus_ids::{Bytes, FileId, Stamp};
+use site_packs::SitePacks;
+use site_tables::kept_vectors;
+use std::alloc::Global;
+
+/// The site's own pack holds this version, and a rescue is wanted in it. An empty directory isn't read.
+pub(crate) fn wants_rescue<D: Disk>(
+    alloc: Global,
+    table: &Css,
+    file: FileId,
+    stamp: Stamp,
+    packs: &SitePacks,
+    disk: &mut D,
+) -> Result<bool, MendFault>
+    requires { Stand packs.now (D.moment disk.old) }
+    ensures wants { IfOk result (λ wants. (v : SiteView) → v.store.copies ≡ copies_on (groups_of packs.now) (D.moment disk.old).seen → wants ≡ wants_rescue_of table.now stamp (copy_of v.store file)) }
+    ensures disk { WasRead packs.now (D.moment disk.old) (D.moment disk.new) }
+{
+    let Some(copy) = packs.head(file) else {
+        return Ok(false);
+    };
+    if !same_stamp(copy.stamp, stamp) || copy.size == 0 {
+        return Ok(false);
+    }
+    let mut content = Bytes::new(alloc);
+    packs.read(disk, file, &mut content)?;
+    wants_rescue_in(alloc, table, content.as_slice())
+}
+
+/// Two stamps name one version of a file.
+fn same_stamp(a: Stamp, b: Stamp) -> bool
+    ensures { result ≡ same_stamp a b }
+{
+    a.site == b.site && a.n == b.n
+}
+
+/// A rescue is wanted in a directory of this content. Where no entry is removed, none is.
+fn wants_rescue_in(alloc: Global, table: &Css, content: &[u8]) -> Result<bool, MendFault>
+    ensures { IfOk result (λ wants. wants ≡ wants_rescue_in table.now content.now) }
+{
+    if content.len() > MAX_BYTES {
+        return Err(MendFault::Unfit);
+    }
+    let dir = dir_in(alloc, content)?;
+    if all_live(dir.as_slice()) {
+        return Ok(false);
+    }
+    match kept_vectors(alloc, table)? {
+        Some(kept) => Ok(rescue_wanted(&dir, &kept)),
+        None => Err(MendFault::Unfit),
+    }
+}
+
+fn all_live(entries: &[Entry]) -> bool
+    ensures { result ≡ list_all is_live entries.now }
+{
+    entries.iter().all(|entry| is_live(entry))
+}
+
+/// The entry is live.
+fn is_live(entry: &Entry) -> bool
+    ensures { result ≡ is_live entry.now }
+{
+    entry.count % 2 == 1
+}

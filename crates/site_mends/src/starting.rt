@@ -1,0 +1,104 @@
+// The mends that start, group by group.
+ghost use Rattle.std.specs.Prelude.{◌≡◌, IfOk, OnOk};
+ghost use Rattle.role_steps.specs.Views.{SiteView};
+ghost use Rattle.role_steps.specs.Epochs.{with_users};
+ghost use Rattle.role_steps.specs.Tables.{first_that};
+ghost use Rattle.role_steps.specs.Mends.{starts_mend, starts_mends_in, wants_mend};
+ghost use Rattle.site_packs.specs.Packs.{Stand};
+ghost use Rattle.using_site.specs.Steps.{Gives};
+ghost use Rattle.site_mends.specs.Mending.{file_in, IsSeen, WasRead};
+
+use crate::MendFault;
+use crate::wanting::{file_of, wants_mend};
+use css_core::Css;
+use css_versions::KnownFile;
+use disk_model::Disk;
+use locus_ids::FileId;
+use site_frame::SiteFrame;
+use site_packs::SitePacks;
+use std::alloc::Global;
+use using_site::UsingSite;
+use wire_messages::Outbox;
+
+/// Starts a mend in each of these groups that wants one, ascending.
+pub fn start_mends<D: Disk>(
+    alloc: Global,
+    tables: &[Css],
+    frame: &SiteFrame,
+    packs: &SitePacks,
+    users: &mut UsingSite,
+    disk: &mut D,
+    out: &mut Outbox,
+) -> Result<(), MendFault>
+    requires { Stand packs.now (D.moment disk.old) }
+    ensures gives { OnOk result ((v : SiteView) → IsSeen v packs.now (D.moment disk.old).seen users.old → Gives (starts_mends_in frame.now tables.now v) (with_users v users.new) out.old out.new) }
+    ensures disk { WasRead packs.now (D.moment disk.old) (D.moment disk.new) }
+{
+    let [table, later @ ..] = tables else {
+        return Ok(());
+    };
+    start_mend(alloc, table, frame, packs, users, disk, out)?;
+    start_mends(alloc, later, frame, packs, users, disk, out)?;
+    Ok(())
+}
+
+/// Starts a mend in a group, where none waits: that of the least inode which wants one.
+fn start_mend<D: Disk>(
+    alloc: Global,
+    table: &Css,
+    frame: &SiteFrame,
+    packs: &SitePacks,
+    users: &mut UsingSite,
+    disk: &mut D,
+    out: &mut Outbox,
+) -> Result<(), MendFault>
+    requires { Stand packs.now (D.moment disk.old) }
+    ensures gives { OnOk result ((v : SiteView) → IsSeen v packs.now (D.moment disk.old).seen users.old → Gives (starts_mend frame.now table.now v) (with_users v users.new) out.old out.new) }
+    ensures disk { WasRead packs.now (D.moment disk.old) (D.moment disk.new) }
+{
+    if !table.started() || users.has_mend_in(table.group()) {
+        return Ok(());
+    }
+    match first_wanting(alloc, table, packs, users, disk)? {
+        None => Ok(()),
+        Some(file) => {
+            users.start_mend(frame, file, out)?;
+            Ok(())
+        }
+    }
+}
+
+/// The directory of the least inode in a group that wants a mend.
+fn first_wanting<D: Disk>(
+    alloc: Global,
+    table: &Css,
+    packs: &SitePacks,
+    users: &UsingSite,
+    disk: &mut D,
+) -> Result<Option<FileId>, MendFault>
+    requires { Stand packs.now (D.moment disk.old) }
+    ensures found { IfOk result (λ found. (v : SiteView) → IsSeen v packs.now (D.moment disk.old).seen users.now → found ≡ file_in table.now (first_that (wants_mend v table.now) table.now.files)) }
+    ensures disk { WasRead packs.now (D.moment disk.old) (D.moment disk.new) }
+{
+    first_wanting_of(alloc, table, table.files(), packs, users, disk)
+}
+
+fn first_wanting_of<D: Disk>(
+    alloc: Global,
+    table: &Css,
+    files: &[KnownFile],
+    packs: &SitePacks,
+    users: &UsingSite,
+    disk: &mut D,
+) -> Result<Option<FileId>, MendFault>
+    requires { Stand packs.now (D.moment disk.old) }
+    ensures found { IfOk result (λ found. (v : SiteView) → IsSeen v packs.now (D.moment disk.old).seen users.now → found ≡ file_in table.now (first_that (wants_mend v table.now) files.now)) }
+    ensures disk { WasRead packs.now (D.moment disk.old) (D.moment disk.new) }
+{
+    for file in files {
+        if wants_mend(alloc, table, file, packs, users, disk)? {
+            return Ok(Some(file_of(table, file)));
+        }
+    }
+    Ok(None)
+}
