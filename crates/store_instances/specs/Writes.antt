@@ -1,5 +1,5 @@
 -- What becomes of the disk in a call of the role.
-use Rattle.std.specs.Prelude.{◌≡◌, ℕ, List, [], ◌∷◌, ◌++◌, length, Option, None, Some, is_some, Result, Ok, Err, Bool, IfErr, OnErr}
+use Rattle.std.specs.Prelude.{◌≡◌, ℕ, List, [], ◌∷◌, ◌++◌, ◌⊎◌, length, Option, None, Some, is_some, Result, Ok, Err, Bool, IfErr, OnErr}
 use Rattle.disk_model.specs.declared.disk.DiskFault.{DiskFault}
 use Rattle.disk_model.specs.declared.disk.DiskFault.TheVariants.{Failed}
 use Rattle.disk_model.specs.Disk.{Moment, Passing, Exactly, Goes, HasCause, TellsRead}
@@ -65,6 +65,10 @@ abbrev pub MayLeave : PacksState → Option DiskWrite → List ℕ → List ℕ 
 MayLeave p None old new = new ≡ old
 MayLeave p (Some w) old new = MayBeLeft p w.copy old new
 
+-- the same whatever the call answers: where it stopped before the write, or makes none, all is as it was
+abbrev pub LeavesEver : PacksState → Option DiskWrite → Moment → Moment → Type 0
+LeavesEver p write old new = LeavesOnly old new (λ image. (image ≡ old.seen) ⊎ MayLeave p write old.seen image)
+
 -- the record of a version, which is told before it is written
 abbrev pub told_first : Option DiskWrite → List Record
 told_first None = []
@@ -110,6 +114,10 @@ HasSizeOf (Some w) p image f = HasSize w.pages (is_some (copy_at p image w.copy.
 -- what becomes of the disk in a call that makes this write or none
 pub record Writes {T : Type 0} (write : Option DiskWrite) (p : PacksState) (old new : Moment) (before after : Outgoing) (result : Result T StoreFault) : Type 0 where
   pub stopped : disk_answer result ≡ Err Failed → Stopped write p old new before after
+  -- whatever it answers
+  pub leaves : LeavesEver p write old new
+  -- where a read failed nothing is written
+  pub unread : result ≡ Err fault.Disk → new.seen ≡ old.seen
   pub cause : HasCause old.faults new.faults (disk_answer result)
   pub tells : TellsWrite (calls_in p old.seen write) old.passing new.passing result
   -- where it tells how many calls pass it fails in the write alone, and a crash then leaves just this

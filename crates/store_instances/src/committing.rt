@@ -81,6 +81,7 @@ impl StoreInstance {
         ensures leaves { LeavesOnly (D.moment disk.old) (D.moment disk.new) (MayBeLeft packs.old (copy_made self.now vector.now stamp) (D.moment disk.old).seen) }
         ensures cause { HasCause (D.moment disk.old).faults (D.moment disk.new).faults (disk_answer result) }
         ensures tells { TellsWrite (calls_of (length self.now.work.changed) (is_some (copy_at packs.old (D.moment disk.old).seen self.now.file))) (D.moment disk.old).passing (D.moment disk.new).passing result }
+        ensures unread { result ≡ Err StoreFault.Disk → (D.moment disk.new).seen ≡ (D.moment disk.old).seen }
         ensures told { (passed : ℕ) → (D.moment disk.old).passing ≡ Exactly passed → result ≡ Err StoreFault.Disk → ⊥ }
         ensures cut { (passed : ℕ) → (D.moment disk.old).passing ≡ Exactly passed → OnErr (disk_answer result) (IsCut packs.old (copy_made self.now vector.now stamp) (length self.now.work.changed) (D.moment disk.old).how passed (D.moment disk.old).seen (D.moment disk.new).left) }
         ensures size { IfErr result (HasSize (length self.now.work.changed) (is_some (copy_at packs.old (D.moment disk.old).seen self.now.file))) }

@@ -50,7 +50,7 @@ returns-in-None-clause-disk g c =
     let absent : row instance_key (serial_key c.args.inst) xs ≡ None = ap (λ (k : ℕ). row instance_key k xs) (sym c.serial_key.ensures) ∙ absent_latest instance_key c.serial_key.result xs c.self.inside.index c.self.invariant.0 c.in-None.ensures.place in
     rw (← c.self.view_is)
     (subst (λ (o : Option Instance). Writes (on_close_of c.args.frame.now o s).written c.args.packs.now (g.D.Disk.moment c.args.disk.now) (g.D.Disk.moment c.args.disk.now) c.args.out.now c.args.out.now (Ok tt))
-    (sym absent) (nothing_written c.args.packs.now (g.D.Disk.moment c.args.disk.now) c.args.out.now c.args.out.now tt))
+    (sym absent) (nothing_written c.args.packs.now (g.D.Disk.moment c.args.disk.now) c.args.out.now c.args.out.now tt c.requires.settled (g.met.D.Disk.only_now c.args.disk.now)))
 
 pub returns-in_ok-on_close-in-Some-clause-disk : goal.returns-in_ok-on_close-in-Some-clause-disk
 returns-in_ok-on_close-in-Some-clause-disk g c =

@@ -1,8 +1,10 @@
-use Rattle.std.proofs.Common.{subst, sym, ◌∙◌}
+use Rattle.std.proofs.Common.{Ok, subst, sym, ◌∙◌}
 use Rattle.locus_ids.specs.declared.refusal.Refusal.TheVariants as refusal
 use Rattle.wire_messages.specs.declared.body.CloseAnswer.TheVariants as closing
 use Rattle.role_steps.specs.Views.{Store, Outcome}
 use Rattle.store_instances.specs.Stores.{RowGives, store_of}
+use Rattle.store_instances.specs.Writes.{Writes}
+use Rattle.store_instances.proofs.Stays.{nothing_failed, nothing_written}
 use Rattle.store_instances.proofs.Given.{idle_close, owing_close, shut_so, spent_close}
 use Rattle.store_instances.proofs.instance.StoreInstance.close.Goals as goal
 
@@ -25,3 +27,27 @@ returns-in_ok-close_owed-in-Some-clause-gives g c xs h =
     subst (λ (o : Outcome Store). RowGives o xs c.close_owed.new.self c.close_owed.new.packs (g.D.Disk.moment c.close_owed.new.disk).seen c.args.out.now c.close_owed.new.out)
     (owing_close c.args.frame.now c.args.self.now (store_of xs c.args.packs.now (g.D.Disk.moment c.args.disk.now).seen) (sym c.owes.ensures ∙ c.if-not-owes.false) c.in-Some.ensures.risen)
     (c.in_ok-close_owed-in-Some.ensures.gives xs c.in-Some.ensures.some)
+
+pub returns-in_err-shut-clause-disk : goal.returns-in_err-shut-clause-disk
+returns-in_err-shut-clause-disk g c s =
+    subst (λ (o : Outcome Store). Writes o.written c.args.packs.now (g.D.Disk.moment c.args.disk.now) (g.D.Disk.moment c.args.disk.now) c.args.out.now c.shut.new.out c.from_residual.result)
+    (idle_close c.args.frame.now c.args.self.now s (sym c.owes.ensures ∙ c.if-not-owes.true))
+    (nothing_failed c.args.packs.now (g.D.Disk.moment c.args.disk.now) c.args.out.now c.shut.new.out c.from_residual.result c.from_residual.ensures.1 c.requires.settled (g.met.D.Disk.only_now c.args.disk.now))
+
+pub returns-then-not-owes-clause-disk : goal.returns-then-not-owes-clause-disk
+returns-then-not-owes-clause-disk g c s =
+    subst (λ (o : Outcome Store). Writes o.written c.args.packs.now (g.D.Disk.moment c.args.disk.now) (g.D.Disk.moment c.args.disk.now) c.args.out.now c.shut.new.out (Ok tt))
+    (idle_close c.args.frame.now c.args.self.now s (sym c.owes.ensures ∙ c.if-not-owes.true))
+    (nothing_written c.args.packs.now (g.D.Disk.moment c.args.disk.now) c.args.out.now c.shut.new.out tt c.requires.settled (g.met.D.Disk.only_now c.args.disk.now))
+
+pub returns-in_err-shut-in-None-clause-disk : goal.returns-in_err-shut-in-None-clause-disk
+returns-in_err-shut-in-None-clause-disk g c s =
+    subst (λ (o : Outcome Store). Writes o.written c.args.packs.now (g.D.Disk.moment c.args.disk.now) (g.D.Disk.moment c.args.disk.now) c.args.out.now c.shut-in-None.new.out c.from_residual-in_err-shut-in-None.result)
+    (spent_close c.args.frame.now c.args.self.now s (sym c.owes.ensures ∙ c.if-not-owes.false) c.in-None.ensures.none)
+    (nothing_failed c.args.packs.now (g.D.Disk.moment c.args.disk.now) c.args.out.now c.shut-in-None.new.out c.from_residual-in_err-shut-in-None.result c.from_residual-in_err-shut-in-None.ensures.1 c.requires.settled (g.met.D.Disk.only_now c.args.disk.now))
+
+pub returns-in_ok-shut-in-None-clause-disk : goal.returns-in_ok-shut-in-None-clause-disk
+returns-in_ok-shut-in-None-clause-disk g c s =
+    subst (λ (o : Outcome Store). Writes o.written c.args.packs.now (g.D.Disk.moment c.args.disk.now) (g.D.Disk.moment c.args.disk.now) c.args.out.now c.shut-in-None.new.out (Ok tt))
+    (spent_close c.args.frame.now c.args.self.now s (sym c.owes.ensures ∙ c.if-not-owes.false) c.in-None.ensures.none)
+    (nothing_written c.args.packs.now (g.D.Disk.moment c.args.disk.now) c.args.out.now c.shut-in-None.new.out tt c.requires.settled (g.met.D.Disk.only_now c.args.disk.now))

@@ -35,7 +35,7 @@ returns-in_ok-execute-in_default-clause-disk g c s =
     ∙ ap (λ (o : Outcome Store). o.written)
     (next_op c.args.frame.now c.args.mending.now c.args.self.now c.args.n c.args.op.now c.args.seen.now s (sym c.is_running.ensures ∙ c.if-not-is_running.false)
     (λ e. c.if-n-done.false (e ∙ sym c.done-done.ensures)) (ap (λ (d : ℕ). c.args.n == d + 1) (sym c.done-done.ensures) ∙ sym c.is_next.ensures.value ∙ c.if-not-is_next.false)))
-    (nothing_written c.args.packs.now (g.D.Disk.moment c.args.disk.now) c.args.out.now c.execute.new.out tt)
+    (nothing_written c.args.packs.now (g.D.Disk.moment c.args.disk.now) c.args.out.now c.execute.new.out tt c.requires.settled (g.met.D.Disk.only_now c.args.disk.now))
 
 pub returns-in_ok-commit_op-in-Commit-clause-disk : goal.returns-in_ok-commit_op-in-Commit-clause-disk
 returns-in_ok-commit_op-in-Commit-clause-disk g c s =
