@@ -13,7 +13,7 @@ use Rattle.dir_reconcile.specs.declared.kept.KeptVector.{KeptVector}
 use Rattle.dir_reconcile.specs.Rescues.{is_to_rescue, rescued, rescue_is_spent, wants_rescue, is_that, chosen}
 use Rattle.file_effects.specs.Effects.{Effect, mends, puts}
 use Rattle.file_content.specs.Contents.{max_bytes}
-use Rattle.role_steps.specs.Operations.{Mending, has_several, joined_contents, mend_effect, or_spent}
+use Rattle.role_steps.specs.OperationEffects.{Mending, has_several, joined_contents, mend_effect, or_spent}
 use Rattle.operation_effects.specs.Settling.{effect_by}
 use Rattle.operation_effects.proofs.Judged.{kept_effect}
 

@@ -2,7 +2,7 @@
 use Rattle.std.specs.Prelude.{ℕ, ◌<◌, ◌^◌, List, [], ◌∷◌, length}
 use Rattle.dir_format.specs.Contents.{entries_of}
 use Rattle.dir_reconcile.specs.Joins.{AgreeOnKinds}
-use Rattle.role_steps.specs.Operations.{joined_contents}
+use Rattle.role_steps.specs.OperationEffects.{joined_contents}
 use Rattle.trace_book.specs.declared.operation.Op.{Op}
 use Rattle.trace_book.specs.declared.operation.Op.TheVariants as op
 use Rattle.operation_effects.specs.declared.fault.EffectFault.{EffectFault}

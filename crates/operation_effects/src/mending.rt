@@ -10,7 +10,7 @@ pub struct MendingWork {
 }
 
 impl Model for MendingWork {
-    ghost use Rattle.role_steps.specs.Operations.{Mending};
+    ghost use Rattle.role_steps.specs.OperationEffects.{Mending};
 
     ghost Value = { Mending };
 

@@ -5,7 +5,7 @@ ghost use Rattle.dir_format.specs.Grammar.{dir_bytes};
 ghost use Rattle.dir_format.specs.Contents.{entries_of};
 ghost use Rattle.dir_reconcile.specs.Joins.{AgreeOnKinds, joined_dirs};
 ghost use Rattle.dir_reconcile.specs.Rescues.{rescued};
-ghost use Rattle.role_steps.specs.Operations.{has_several, joined_contents, mend_effect};
+ghost use Rattle.role_steps.specs.OperationEffects.{has_several, joined_contents, mend_effect};
 ghost use Rattle.file_effects.specs.Effects.{mends};
 ghost use Rattle.operation_effects.specs.Joinable.{AreJoinable, IsMemory};
 ghost use Rattle.operation_effects.specs.Settling.{IsShort, effect_by, effects_by};

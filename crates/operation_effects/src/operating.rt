@@ -3,7 +3,7 @@ ghost use Rattle.trace_book.specs.declared.operation.Op.TheVariants as Op;
 ghost use Rattle.trace_book.specs.declared.operation.Outcome.TheVariants as Outcome;
 ghost use Rattle.file_content.specs.Contents.{part};
 ghost use Rattle.file_effects.specs.Effects.{As, Removes, effect, tells};
-ghost use Rattle.role_steps.specs.Operations.{effect_of};
+ghost use Rattle.role_steps.specs.OperationEffects.{effect_of};
 ghost use Rattle.operation_effects.specs.Joinable.{CanWorkOn, IsMemory};
 ghost use Rattle.operation_effects.specs.Settling.{IsShortOf, effects_by, worked, worked_so};
 

@@ -1,33 +1,19 @@
--- Several packets sent, and the listing of those under way.
-use Rattle.std.proofs.Common.{◌≡◌, ℕ, zero, suc, ◌+◌, ◌<◌, ◌≤◌, List, [], ◌∷◌, ◌++◌, length, map, get_or, take, drop, Option, Some, None, Bool, true, false, refl, sym, ap, subst, ◌∙◌, append_assoc, add-one, drop-cons, arith}
+-- The listing of the packets under way.
+use Rattle.std.proofs.Common.{◌≡◌, ℕ, zero, suc, ◌+◌, ◌<◌, ◌≤◌, List, [], ◌∷◌, ◌++◌, length, map, get_or, take, Option, Some, None, Bool, true, false, refl, sym, ap, subst, ◌∙◌, arith}
 use Rattle.std.specs.Option.{IfSome}
-use Rattle.std.proofs.lemmas.List.{append-nil, map-append, take_all}
+use Rattle.std.proofs.lemmas.List.{map-append, take_all}
 use Rattle.trace_book.specs.declared.packet_kind.PacketKind.{PacketKind}
 use Rattle.wire_messages.specs.Bodies.{kind_of}
 use Rattle.wire_messages.specs.declared.packet.Packet.{Packet}
 use Rattle.role_steps.specs.Tables.{row}
-use Rattle.the_run.specs.Worlds.{Numbered, number_of, numbered_from}
+use Rattle.the_run.specs.Worlds.{Numbered, number_of}
 use Rattle.packet_queue.specs.Queues.{Queues, numbers_of}
 use Rattle.packet_queue.proofs.Threads.{split, pending_yes, pending_no}
 use Rattle.packet_mail.specs.declared.mail.PendingPacket.{PendingPacket}
-use Rattle.packet_mail.specs.Posts.{Post, posts, sent_at, sender_in, receiver_in, pending_of}
+use Rattle.packet_mail.specs.Posts.{Post, sent_at, sender_in, receiver_in, pending_of}
 use Rattle.packet_mail.specs.Letters.{numbered, post_of, InOrder}
 use Rattle.packet_mail.proofs.Rows.{here, further}
-use Rattle.packet_mail.proofs.Sent.{post_same}
 use Rattle.packet_mail.proofs.Calls.{sent_row}
-
--- ---- packets sent one by one ----
-
-pub posts_none : (m : Post) → posts [] m ≡ m
-posts_none m = post_same refl (append-nil m.underway) refl (omega arith) (omega arith)
-
-pub posts_cons : (p : Packet) (ps : List Packet) (m : Post) → posts (p ∷ ps) m ≡ posts ps (posts (p ∷ []) m)
-posts_cons p ps m = post_same refl (sym (append_assoc m.underway (numbered_from (m.packets + 1) (p ∷ [])) (numbered_from ((m.packets + 1) + 1) ps))) refl (omega arith) (omega arith)
-
-pub put_more : (ps : List Packet) (i : ℕ) (p : Packet) (m m' w : Post) → i < length ps → p ≡ get_or ps i p → m' ≡ posts (p ∷ []) m → posts (drop i ps) m ≡ w → posts (drop (i + 1) ps) m' ≡ w
-put_more ps i p m m' w l g e h =
-    let d : drop i ps ≡ p ∷ drop (i + 1) ps = drop-cons ps i p l ∙ (ap (λ x. x ∷ drop (suc i) ps) (sym g) ∙ ap (λ n. p ∷ drop n ps) (sym (add-one i))) in
-    ap (posts (drop (i + 1) ps)) e ∙ (sym (posts_cons p (drop (i + 1) ps) m) ∙ (ap (λ xs. posts xs m) (sym d) ∙ h))
 
 -- ---- a packet as it is listed ----
 

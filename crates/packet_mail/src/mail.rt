@@ -1,5 +1,5 @@
 ghost use Rattle.std.specs.Prelude.{◌≡◌, ◌≢◌, ℕ, ◌+◌, ◌<◌, ◌≤◌, List, [], ◌∷◌, ◌++◌, map, true, is_some, length, slice_range, Ok, Err, Some, None, IfOk, IfSome, OnOk, OnErr};
-ghost use Rattle.std.specs.List.{All, AllByRecursion};
+ghost use Rattle.std.specs.List.{AllByRecursion};
 ghost use Rattle.wire_messages.specs.Bodies.{kind_of};
 ghost use Rattle.wire_messages.specs.Packets.{FitsPacket, IsPacket};
 ghost use Rattle.the_run.specs.Worlds.{Limit};
@@ -208,17 +208,6 @@ impl Mail {
             return None;
         }
         receiver_on(self.queue.circuit(number))
-    }
-
-    /// Sends packets in order, with the next numbers.
-    pub fn put_all(&mut self, packets: &[Packet]) -> Result<(), MailFault>
-        requires { All (λ p. FitsPacket p) packets.now }
-        ensures { OnOk result (self.new ≡ posts packets.now self.old) }
-    {
-        for packet in packets {
-            self.put(packet)?;
-        }
-        Ok(())
     }
 
     /// What the schedule's listing tells of a packet that was sent.

@@ -21,7 +21,8 @@ use Rattle.role_steps.specs.Views.{Frame, Store, quiet, sends, and_then, packet}
 use Rattle.role_steps.specs.Versions.{is_below}
 use Rattle.role_steps.specs.Looks.{LookRequest}
 use Rattle.role_steps.specs.Storage.{StoreRequest, copy_of, instance_of, is_open, opened_packets, own_ino, opens, opens_made, on_open_ss_of, on_open_ss, is_spent, commits, next_stamp, next_vector, shuts, shuts_again, closes_owing, closes, on_close_at, on_close_of, on_close, ends_at, on_closed_ok_of, on_closed_ok, on_look_ss, has_page, pulled_page, on_pull, closed_again, store_repeats}
-use Rattle.role_steps.specs.Operations.{Mending, acts, acts_committed, commits_owing, last_committed, commit_op, executes_effect, executes, effect_of, op_again, by_number, on_op_at, on_op_of, on_op}
+use Rattle.role_steps.specs.Operations.{acts, acts_committed, commits_owing, last_committed, commit_op, executes_effect, executes, op_again, by_number, on_op_at, on_op_of, on_op}
+use Rattle.role_steps.specs.OperationEffects.{Mending, effect_of}
 use Rattle.role_steps.specs.Pulling.{pull_of, pull_packets, is_complete, goes_on, replaces_pull, begins_pull, on_notify, is_awaited, on_page_of, on_page, pull_repeats}
 use Rattle.role_steps.specs.declared.copies.FileCopy.{FileCopy}
 use Rattle.role_steps.specs.declared.instances.Instance.{Instance}

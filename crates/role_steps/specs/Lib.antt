@@ -6,6 +6,7 @@ pub mod Opens
 pub mod Looks
 pub mod Reports
 pub mod Storage
+pub mod OperationEffects
 pub mod Operations
 pub mod Pulling
 pub mod Requests

@@ -17,7 +17,7 @@ use Rattle.role_steps.specs.Views.{Frame, Users, SiteView, Outcome, quiet, and_t
 use Rattle.role_steps.specs.Versions.{kept, stamps_of, file_row}
 use Rattle.role_steps.specs.Opens.{is_open_on}
 use Rattle.role_steps.specs.Storage.{copy_of}
-use Rattle.role_steps.specs.Operations.{Mending}
+use Rattle.role_steps.specs.OperationEffects.{Mending}
 use Rattle.role_steps.specs.Using.{on_call}
 use Rattle.role_steps.specs.Epochs.{with_users}
 use Rattle.role_steps.specs.Adoption.{table_group}

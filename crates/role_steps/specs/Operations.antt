@@ -8,13 +8,7 @@ use Rattle.trace_book.specs.declared.operation.Op.TheVariants as op
 use Rattle.trace_book.specs.declared.operation.Outcome.{Outcome as Result}
 use Rattle.trace_book.specs.declared.operation.Outcome.TheVariants as result
 use Rattle.trace_book.specs.declared.record.Record.TheVariants as says
-use Rattle.dir_format.specs.declared.entry.Entry.{Entry}
-use Rattle.dir_format.specs.Grammar.{dir_bytes}
-use Rattle.dir_format.specs.Contents.{entries_of}
-use Rattle.dir_reconcile.specs.declared.kept.KeptVector.{KeptVector}
-use Rattle.dir_reconcile.specs.Joins.{joined_dirs}
-use Rattle.dir_reconcile.specs.Rescues.{rescued, rescue_is_spent}
-use Rattle.file_effects.specs.Effects.{As, Removes, Mends, Effect, effect}
+use Rattle.file_effects.specs.Effects.{Effect}
 use Rattle.file_effects.specs.Works.{result_in, operated, counted, aborted}
 use Rattle.file_effects.specs.declared.work.Work.{Work}
 use Rattle.wire_messages.specs.declared.packet.Packet.{Packet}
@@ -24,36 +18,7 @@ use Rattle.role_steps.specs.Storage.{copy_of, content_of, instance_of, with_inst
 use Rattle.role_steps.specs.declared.instances.Instance.{Instance}
 use Rattle.role_steps.specs.declared.instances.Stage.{Stage}
 use Rattle.role_steps.specs.declared.instances.Stage.TheVariants as stage
-
--- what a mend works on, which is at the same site: the contents that its looks have brought, and the vectors of all kept
--- versions of the group
-pub record Mending : Type 0 where
-  pub contents : List (List ℕ)
-  pub kept : List KeptVector
-
--- ---- the effect of an operation ----
-
-abbrev pub joined_contents : List (List ℕ) → List Entry
-joined_contents [] = []
-joined_contents (c ∷ cs) = joined_dirs (entries_of c) (joined_contents cs)
-
-abbrev pub has_several : {A : Type 0} → List A → Bool
-has_several [] = false
-has_several (x ∷ []) = false
-has_several (x ∷ y ∷ zs) = true
-
-abbrev pub or_spent : Bool → Option Effect → Option Effect
-or_spent spent None = None
-or_spent spent (Some e) = Some (record e { spent = spent })
-
--- the rescue of the join of all kept contents
-abbrev pub mend_effect : List Entry → Mending → List ℕ → Option Effect
-mend_effect ds m content = or_spent (rescue_is_spent ds m.kept) (effect (Mends (has_several m.contents) (dir_bytes (rescued ds m.kept))) content)
-
-abbrev pub effect_of : Op → List ℕ → Mending → List ℕ → Option Effect
-effect_of (op.Remove name ino) seen m content = effect (Removes name ino seen) content
-effect_of op.Mend seen m content = mend_effect (joined_contents m.contents) m content
-effect_of o seen m content = effect (As o) content
+use Rattle.role_steps.specs.OperationEffects.{Mending, effect_of}
 
 -- ---- what is told and answered ----
 

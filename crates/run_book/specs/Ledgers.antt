@@ -1,4 +1,4 @@
--- What the run's world has besides its sites, as a book keeps it.
+-- What a book keeps of the run's world: its packets, and the text of its trace with the limits.
 use Rattle.std.specs.Prelude.{◌≡◌, ℕ, ◌+◌, List, [], ◌∷◌, ◌++◌, length, Option, None, Some}
 use Rattle.trace_book.specs.Text.{entry_text}
 use Rattle.trace_book.specs.declared.record.Record.{Record}
@@ -70,7 +70,7 @@ pub record IsBookOf (w : World) (b : Ledger) : Type 0 where
   pub post : b.post ≡ post_of_world w
   pub text : b.text ≡ w.text
 
--- The book keeps what the world has besides its sites, where these bytes of its text were taken before. Once a limit was passed
+-- The book keeps the packets and the text of the world, where these bytes of its text were taken before. Once a limit was passed
 -- only the text and the limit count.
 pub record Keeps (taken : List ℕ) (w : World) (b : Ledger) : Type 0 where
   pub printed : printed w ≡ taken ++ b.fresh

@@ -31,7 +31,8 @@ use Rattle.role_steps.specs.Views.{Frame, Store, Users, quiet, sends, and_then, 
 use Rattle.role_steps.specs.Versions.{is_below}
 use Rattle.role_steps.specs.Looks.{LookRequest}
 use Rattle.role_steps.specs.Storage.{StoreRequest, instance_of, own_ino, opens, opens_made, on_open_ss_of, on_open_ss, is_spent, commits, next_stamp, next_vector, shuts, shuts_again, closes_owing, closes, on_close_at, on_close_of, on_close, ends_at, on_closed_ok_of, on_closed_ok, on_look_ss, on_pull}
-use Rattle.role_steps.specs.Operations.{Mending, acts, acts_committed, commits_owing, last_committed, commit_op, executes_effect, executes, effect_of, op_again, by_number, on_op_at, on_op_of, on_op}
+use Rattle.role_steps.specs.Operations.{acts, acts_committed, commits_owing, last_committed, commit_op, executes_effect, executes, op_again, by_number, on_op_at, on_op_of, on_op}
+use Rattle.role_steps.specs.OperationEffects.{Mending, effect_of}
 use Rattle.role_steps.specs.Pulling.{pull_of, goes_on as pulls_on, begins_pull, replaces_pull, on_notify, is_awaited, on_page_of, on_page}
 use Rattle.role_steps.specs.Requests.{descriptors_of, asks_op_of, asks_close_of, user_instance}
 use Rattle.role_steps.specs.Using.{accepted, frees, with_brought, content_answer, asks_want, next_want, goes_on, on_call, takes_answer, with_answer, takes_open, on_open_done_of, on_open_done, on_op_done_of, on_op_done, on_close_done_of, on_close_done, looks_again, takes_look, on_look_done_of, on_look_done, asks_open_of, asks_op_number, asks_take}

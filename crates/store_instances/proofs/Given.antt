@@ -24,7 +24,8 @@ use Rattle.wire_messages.specs.Outboxes.{Outgoing}
 use Rattle.role_steps.specs.Tables.{row, with_row, with_latest}
 use Rattle.role_steps.specs.Views.{Frame, Store, Outcome, quiet, sends, joined_to, to_sync, file_key}
 use Rattle.role_steps.specs.Storage.{copy_key, copy_made, instance_key, instance_of, with_instance, free_pages, is_spent, commits, next_stamp, next_vector, instance_committed, commit_record, closed_packets, made_version, opened_packets, shut, shuts, shuts_again, closes, on_close_at}
-use Rattle.role_steps.specs.Operations.{Mending, acts, acts_committed, by_number, commit_op, last_committed, executes, executes_effect, effect_of, on_op_at, op_again, op_done}
+use Rattle.role_steps.specs.Operations.{acts, acts_committed, by_number, commit_op, last_committed, executes, executes_effect, on_op_at, op_again, op_done}
+use Rattle.role_steps.specs.OperationEffects.{Mending, effect_of}
 use Rattle.role_steps.specs.declared.copies.FileCopy.{FileCopy}
 use Rattle.role_steps.specs.declared.instances.Instance.{Instance}
 use Rattle.role_steps.specs.declared.instances.Stage.{Stage}

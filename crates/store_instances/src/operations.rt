@@ -4,7 +4,8 @@ ghost use Rattle.std.specs.Prelude.{◌≡◌, ◌<◌, ◌+◌, ◌==◌, ◌++
 ghost use Rattle.role_steps.specs.Views.{Store};
 ghost use Rattle.role_steps.specs.Storage.{free_pages, instance_key, next_vector};
 ghost use Rattle.trace_book.specs.declared.record.Record.TheVariants as Record;
-ghost use Rattle.role_steps.specs.Operations.{abort_op, commit_op, effect_of, executes_effect, last_committed, on_op_at, op_done};
+ghost use Rattle.role_steps.specs.Operations.{abort_op, commit_op, executes_effect, last_committed, on_op_at, op_done};
+ghost use Rattle.role_steps.specs.OperationEffects.{effect_of};
 ghost use Rattle.file_effects.specs.Works.{counted};
 ghost use Rattle.role_steps.specs.declared.instances.Instance.{Instance};
 ghost use Rattle.site_packs.specs.Packs.{PacksState, SamePlaces, Stand};

@@ -14,7 +14,8 @@ use Rattle.wire_messages.specs.declared.body.CloseAnswer.{CloseAnswer}
 use Rattle.wire_messages.specs.declared.body.CloseAnswer.TheVariants as closing
 use Rattle.role_steps.specs.Views.{Frame, Store, DiskWrite, Outcome, quiet, sends, and_then}
 use Rattle.role_steps.specs.Storage.{StoreRequest, instance_of, own_ino, opens, opens_made, on_open_ss_of, on_open_ss, is_spent, copy_made, commit_record, commits, next_stamp, next_vector, shuts, shuts_again, closes_owing, closes, on_close_at, on_close_of, on_close, ends_at, on_closed_ok_of, on_closed_ok}
-use Rattle.role_steps.specs.Operations.{Mending, acts, acts_committed, commits_owing, last_committed, commit_op, executes_effect, executes, effect_of, op_again, by_number, on_op_at, on_op_of, on_op}
+use Rattle.role_steps.specs.Operations.{acts, acts_committed, commits_owing, last_committed, commit_op, executes_effect, executes, op_again, by_number, on_op_at, on_op_of, on_op}
+use Rattle.role_steps.specs.OperationEffects.{Mending, effect_of}
 use Rattle.role_steps.specs.declared.instances.Instance.{Instance}
 use Rattle.role_steps.specs.declared.instances.Stage.{Stage}
 use Rattle.role_steps.specs.declared.instances.Stage.TheVariants as stage

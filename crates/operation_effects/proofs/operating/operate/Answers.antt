@@ -2,7 +2,7 @@ use Rattle.std.proofs.Common.{◌≡◌, IfOk, subst, sym}
 use Rattle.std.specs.Prelude.{Option}
 use Rattle.trace_book.specs.declared.operation.Op.{Op}
 use Rattle.trace_book.specs.declared.operation.Outcome.{Outcome}
-use Rattle.role_steps.specs.Operations.{effect_of}
+use Rattle.role_steps.specs.OperationEffects.{effect_of}
 use Rattle.operation_effects.specs.Settling.{worked, worked_so}
 use Rattle.operation_effects.proofs.operating.operate.Goals as goal
 

@@ -2,7 +2,7 @@ use Rattle.std.proofs.Common.{◌≡◌, None, ap, subst, refl, ◌∙◌}
 use Rattle.std.specs.Prelude.{Option}
 use Rattle.trace_book.specs.declared.operation.Outcome.{Outcome}
 use Rattle.file_effects.specs.declared.work.Work.{Work}
-use Rattle.role_steps.specs.Operations.{effect_of}
+use Rattle.role_steps.specs.OperationEffects.{effect_of}
 use Rattle.role_steps.specs.declared.instances.Instance.{Instance}
 use Rattle.operation_effects.specs.Settling.{worked, worked_so}
 use Rattle.store_instances.proofs.Given.{executes_none}
