@@ -2,6 +2,11 @@
 use Rattle.std.proofs.Common.{◌≡◌, ℕ, cond, true, false, Bool, not, ◌&&◌, List, [], ◌∷◌, length, take, drop, get_or, ◌≤◌, ◌-◌, arith, Option, None, Some, refl, sym, ap, ◌∙◌, subst}
 use Rattle.std.proofs.lemmas.List.{take_all}
 use Rattle.std.specs.List.{list_all}
+use Rattle.std.specs.Prelude.{Result, Ok}
+use Rattle.disk_model.specs.declared.disk.DiskFault.{DiskFault}
+use Rattle.disk_model.specs.Disk.{Moment, TellsRead}
+use Rattle.disk_model.proofs.Moments.{on_ok}
+use Rattle.disk_model.proofs.ReadRuns.{goes_same, reads_join}
 use Rattle.locus_ids.specs.declared.ids.FileId.{FileId}
 use Rattle.wire_messages.specs.Outboxes.{Outgoing}
 use Rattle.dir_format.specs.Entries.{is_live}
@@ -23,10 +28,22 @@ use Rattle.site_packs.specs.Copies.{copies_on}
 use Rattle.site_packs.specs.Packs.{PacksState, groups_of}
 use Rattle.using_site.specs.Steps.{Gives}
 use Rattle.site_tables.proofs.Giving.{gives_as, gives_then, gives_within}
-use Rattle.site_mends.specs.Mending.{IsSeen, file_in}
+use Rattle.site_mends.specs.Mending.{IsSeen, WasRead, file_in}
+use Rattle.site_mends.specs.declared.fault.MendFault.{MendFault}
 
 pub seen_with : (v : SiteView) (packs : PacksState) (image after : List ℕ) (u now : Users) → after ≡ image → IsSeen v packs image u → IsSeen (with_users v now) packs after now
 seen_with v packs image after u now e h = record { copies = h.copies ∙ ap (λ xs. copies_on (groups_of packs) xs) (sym e); users = refl }
+
+-- one reading after another
+module _ {D : Type 0} (moment : D → Moment) where
+  pub read_then : {S T : Type 0} (packs : PacksState) (old mid new : D) (x : S) (r : Result T MendFault) → WasRead packs (moment old) (moment mid) (Ok x) → WasRead packs (moment mid) (moment new) r → WasRead packs (moment old) (moment new) r
+  read_then packs old mid new x r h k = record {
+    seen = k.seen ∙ h.seen;
+    stands = k.stands;
+    how = k.how ∙ h.how;
+    same = goes_same moment old mid new h.same k.same;
+    passes = on_ok r (TellsRead {T = Unit {0}} {E = DiskFault} (moment mid).passing (moment new).passing (Ok tt)) (TellsRead {T = Unit {0}} {E = DiskFault} (moment old).passing (moment new).passing (Ok tt)) (λ t. reads_join (moment old).passing (moment mid).passing (moment new).passing (Ok tt) h.passes t) k.passes;
+  }
 
 -- ---- the mend of one group ----
 

@@ -32,7 +32,7 @@ pub(crate) fn wants_rescue<D: Disk>(
 ) -> Result<bool, MendFault>
     requires { Stand packs.now (D.moment disk.old) }
     ensures wants { IfOk result (λ wants. (v : SiteView) → v.store.copies ≡ copies_on (groups_of packs.now) (D.moment disk.old).seen → wants ≡ wants_rescue_of table.now stamp (copy_of v.store file)) }
-    ensures disk { WasRead packs.now (D.moment disk.old) (D.moment disk.new) }
+    ensures disk { WasRead packs.now (D.moment disk.old) (D.moment disk.new) result }
 {
     let Some(copy) = packs.head(file) else {
         return Ok(false);

@@ -32,7 +32,7 @@ pub fn start_mends<D: Disk>(
 ) -> Result<(), MendFault>
     requires { Stand packs.now (D.moment disk.old) }
     ensures gives { OnOk result ((v : SiteView) → IsSeen v packs.now (D.moment disk.old).seen users.old → Gives (starts_mends_in frame.now tables.now v) (with_users v users.new) out.old out.new) }
-    ensures disk { WasRead packs.now (D.moment disk.old) (D.moment disk.new) }
+    ensures disk { WasRead packs.now (D.moment disk.old) (D.moment disk.new) result }
 {
     let [table, later @ ..] = tables else {
         return Ok(());
@@ -54,7 +54,7 @@ fn start_mend<D: Disk>(
 ) -> Result<(), MendFault>
     requires { Stand packs.now (D.moment disk.old) }
     ensures gives { OnOk result ((v : SiteView) → IsSeen v packs.now (D.moment disk.old).seen users.old → Gives (starts_mend frame.now table.now v) (with_users v users.new) out.old out.new) }
-    ensures disk { WasRead packs.now (D.moment disk.old) (D.moment disk.new) }
+    ensures disk { WasRead packs.now (D.moment disk.old) (D.moment disk.new) result }
 {
     if !table.started() || users.has_mend_in(table.group()) {
         return Ok(());
@@ -78,7 +78,7 @@ fn first_wanting<D: Disk>(
 ) -> Result<Option<FileId>, MendFault>
     requires { Stand packs.now (D.moment disk.old) }
     ensures found { IfOk result (λ found. (v : SiteView) → IsSeen v packs.now (D.moment disk.old).seen users.now → found ≡ file_in table.now (first_that (wants_mend v table.now) table.now.files)) }
-    ensures disk { WasRead packs.now (D.moment disk.old) (D.moment disk.new) }
+    ensures disk { WasRead packs.now (D.moment disk.old) (D.moment disk.new) result }
 {
     first_wanting_of(alloc, table, table.files(), packs, users, disk)
 }
@@ -93,7 +93,7 @@ fn first_wanting_of<D: Disk>(
 ) -> Result<Option<FileId>, MendFault>
     requires { Stand packs.now (D.moment disk.old) }
     ensures found { IfOk result (λ found. (v : SiteView) → IsSeen v packs.now (D.moment disk.old).seen users.now → found ≡ file_in table.now (first_that (wants_mend v table.now) files.now)) }
-    ensures disk { WasRead packs.now (D.moment disk.old) (D.moment disk.new) }
+    ensures disk { WasRead packs.now (D.moment disk.old) (D.moment disk.new) result }
 {
     for file in files {
         if wants_mend(alloc, table, file, packs, users, disk)? {

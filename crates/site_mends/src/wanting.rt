@@ -36,7 +36,7 @@ pub(crate) fn wants_mend<D: Disk>(
 ) -> Result<bool, MendFault>
     requires { Stand packs.now (D.moment disk.old) }
     ensures wants { IfOk result (λ wants. (v : SiteView) → IsSeen v packs.now (D.moment disk.old).seen users.now → wants ≡ wants_mend v table.now file.now) }
-    ensures disk { WasRead packs.now (D.moment disk.old) (D.moment disk.new) }
+    ensures disk { WasRead packs.now (D.moment disk.old) (D.moment disk.new) result }
 {
     if file.kind() == Kind::File {
         return Ok(false);

@@ -1,6 +1,10 @@
 use Rattle.role_steps.specs.Epochs.{with_users}
-use Rattle.site_mends.proofs.Mends.{mends_of, seen_with}
+use Rattle.std.specs.Prelude.{Ok}
+use Rattle.site_mends.proofs.Mends.{mends_of, read_then, seen_with}
 use Rattle.site_mends.proofs.starting.+start_mends.Goals as goal
 
 pub returns-clause-gives : goal.returns-clause-gives
 returns-clause-gives g t c = λ v h. mends_of c.args.frame.now c.args.tables.now c.table-item.result v c.start_mend.new.users c.start_mends.new.users c.args.out.now c.start_mend.new.out c.start_mends.new.out c.in-len1-up.len_at_least c.table-item.is (c.in_ok-start_mend.ensures.gives v h) (c.in_ok-start_mends.ensures.gives (with_users v c.start_mend.new.users) (seen_with v c.args.packs.now _ _ c.args.users.now c.start_mend.new.users c.in_ok-start_mend.ensures.disk.seen h))
+
+pub returns-clause-disk : goal.returns-clause-disk
+returns-clause-disk g t c = read_then g.D.Disk.moment {S = Unit {0}} {T = Unit {0}} c.args.packs.now c.args.disk.now c.start_mend.new.disk c.start_mends.new.disk tt (Ok tt) c.in_ok-start_mend.ensures.disk c.in_ok-start_mends.ensures.disk

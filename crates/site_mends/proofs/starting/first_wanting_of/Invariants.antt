@@ -1,4 +1,4 @@
-use Rattle.std.proofs.Common.{◌≡◌, drop}
+use Rattle.std.proofs.Common.{◌≡◌, Ok, drop}
 use Rattle.role_steps.specs.Views.{SiteView}
 use Rattle.role_steps.specs.Tables.{first_that}
 use Rattle.role_steps.specs.Mends.{wants_mend}
@@ -8,5 +8,5 @@ use Rattle.site_mends.proofs.starting.first_wanting_of.Given as goal
 abbrev pub invariant-loop-file : goal.invariant-loop-file
 invariant-loop-file g l = record {
   found : (v : SiteView) → IsSeen v l.packs (g.D.Disk.moment l.fn.disk).seen l.users → first_that (wants_mend v l.table) (drop l.file-index l.files) ≡ first_that (wants_mend v l.table) l.files;
-  disk : WasRead l.packs (g.D.Disk.moment l.fn.disk) (g.D.Disk.moment l.disk);
+  disk : WasRead {T = Unit {0}} l.packs (g.D.Disk.moment l.fn.disk) (g.D.Disk.moment l.disk) (Ok tt);
 }

@@ -1,0 +1,2 @@
+pub mod FlatCommand
+pub mod Words
