@@ -7,3 +7,4 @@ mod EventForms
 mod HeaderForms
 mod Answered
 mod ReaderSteps
+pub mod OneReading

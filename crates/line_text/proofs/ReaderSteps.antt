@@ -26,12 +26,12 @@ use Rattle.line_text.proofs.CallForms.{and_both}
 
 -- ---- first words
 
-header_begins : (h : HeaderLine) → begins_header (header_spelling h) ≡ true
+pub header_begins : (h : HeaderLine) → begins_header (header_spelling h) ≡ true
 header_begins (header.Sites count) = refl
 header_begins (header.Group group sites) = refl
 header_begins (header.Mount group name) = refl
 
-event_begins : (e : Line) → begins_header (event_spelling e) ≡ false
+pub event_begins : (e : Line) → begins_header (event_spelling e) ≡ false
 event_begins (event.Call site process call) = refl
 event_begins (event.Deliver packet) = refl
 event_begins (event.Lose packet) = refl

@@ -35,6 +35,7 @@ impl SiteDisk {
         ensures site { IfOk result (λ packs. packs.site ≡ site) }
         ensures groups { IfOk result (λ packs. groups_of packs ≡ groups_at config.now site) }
         ensures none { OnOk result (both_open_on (groups_at config.now site) (D.moment disk.new).seen ≡ []) }
+        ensures sound { OnOk result (AreSound site (groups_at config.now site) (D.moment disk.new).seen) }
         ensures outside { OnOk result (Torn 0 (disk_length config.now site) (D.moment disk.old).seen (D.moment disk.new).seen) }
         ensures crash { Goes (Torn 0 (disk_length config.now site)) (D.moment disk.old) (D.moment disk.new) }
 

@@ -5,7 +5,7 @@ use Rattle.site_label.specs.Label.{HasBoot}
 use Rattle.site_label.proofs.Image.{boot_same, new_same, new_shut}
 use Rattle.site_packs.specs.Packs.{groups_at, areas_end}
 use Rattle.site_packs.specs.Copies.{copies_on}
-use Rattle.site_packs.specs.Mounting.{KeepsCopies, new_copies, mount_calls}
+use Rattle.site_packs.specs.Mounting.{AreSound, KeepsCopies, new_copies, mount_calls}
 use Rattle.site_disk.specs.Image.{label_on, one_half}
 use Rattle.site_disk.proofs.Labels.{label_there}
 use Rattle.site_disk.proofs.Leaving.{goes_by, goes_format, goes_mounted, label_inside, areas_inside, both_inside, on_ok_any}
@@ -128,3 +128,14 @@ returns-clause-copies g c =
     let mounting = c.mount_new.ensures.any_moment in
     let keeps : KeepsCopies site groups (M two).seen (M new).seen = mounting.each (M new).seen (g.met.D.Disk.counts_now new (M two).now (M new).seen mounting.later (g.met.D.Disk.reads_an_image new)) in
     on_ok_any c.mount_new.result (copies_on groups (M new).seen ≡ new_copies config site) (keeps.copies ∙ c.in_ok-format-2.ensures.copies)
+
+pub returns-clause-sound : goal.returns-clause-sound
+returns-clause-sound g c =
+    let M = g.D.Disk.moment in
+    let site = c.args.site in
+    let groups = groups_at c.args.config.now site in
+    let two = c.format-2.new.disk in
+    let new = c.mount_new.new.disk in
+    let mounting = c.mount_new.ensures.any_moment in
+    let keeps : KeepsCopies site groups (M two).seen (M new).seen = mounting.each (M new).seen (g.met.D.Disk.counts_now new (M two).now (M new).seen mounting.later (g.met.D.Disk.reads_an_image new)) in
+    on_ok_any c.mount_new.result (AreSound site groups (M new).seen) (keeps.sound c.in_ok-format-2.ensures.sound)

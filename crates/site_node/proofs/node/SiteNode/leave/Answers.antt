@@ -1,0 +1,9 @@
+use Rattle.role_steps.specs.Epochs.{leaves}
+use Rattle.merge_protocol.specs.Parts.{epoch_named}
+use Rattle.site_node.specs.Views.{view_of}
+use Rattle.site_node.proofs.Leaves.{leaves_as}
+use Rattle.site_node.proofs.node.SiteNode.leave.Goals as goal
+
+pub returns : goal.returns
+returns c = leaves_as (λ m. leaves m) c.site-me.result c.in_ok-left.left (epoch_named c.args.self.now.epochs.epoch) c.args.self.now c.leave_rest.new.self c.leave.new.self c.args.out.now c.leave.new.out c.leave_rest.new.out
+    c.site-me.ensures (λ image. c.leaving_by_parts.ensures.leave c.site-me.result (view_of c.args.self.now image)) c.in_ok-left.ensures.left c.in_ok-left.ensures.view c.in_ok-left.ensures.packets c.in_ok-left.ensures.records c.in_ok-leave_rest.ensures

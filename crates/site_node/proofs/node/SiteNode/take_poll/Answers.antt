@@ -1,0 +1,9 @@
+use Rattle.role_steps.specs.Epochs.{on_poll}
+use Rattle.merge_protocol.specs.Parts.{left_at_poll}
+use Rattle.site_node.specs.Views.{view_of}
+use Rattle.site_node.proofs.Leaves.{leaves_as}
+use Rattle.site_node.proofs.node.SiteNode.take_poll.Goals as goal
+
+pub returns : goal.returns
+returns c = leaves_as (λ m. on_poll m c.args.links.now c.args.header.from c.args.header.from_boot c.args.header.id) c.site-me.result c.in_ok-left.left (left_at_poll c.args.header.id c.args.self.now.epochs) c.args.self.now c.leave_rest.new.self c.on_poll.new.self c.args.out.now c.on_poll.new.out c.leave_rest.new.out
+    c.site-me.ensures (λ image. c.leaving_by_parts.ensures.poll c.site-me.result c.args.links.now c.args.header.from c.args.header.from_boot c.args.header.id (view_of c.args.self.now image)) c.in_ok-left.ensures.left c.in_ok-left.ensures.view c.in_ok-left.ensures.packets c.in_ok-left.ensures.records c.in_ok-leave_rest.ensures

@@ -1,0 +1,15 @@
+use Rattle.std.proofs.Common.{refl}
+use Rattle.role_steps.specs.Storage.{on_pull}
+use Rattle.site_node.proofs.Cuts.{reads_ill, reads_well}
+use Rattle.site_node.proofs.Moving.{same_places}
+use Rattle.site_node.proofs.Parts.{store_moves}
+use Rattle.site_node.proofs.node.SiteNode.take_pull.Goals as goal
+
+pub returns-in-Ok-clause-step : goal.returns-in-Ok-clause-step
+returns-in-Ok-clause-step g c = store_moves (λ v. on_pull c.args.self.now.frame c.args.from c.args.file c.args.stamp c.args.page v.store) c.args.self.now c.args.self.now.store c.args.self.now.packs (g.D.Disk.moment c.args.disk.now) (g.D.Disk.moment c.on_pull.new.disk) c.args.out.now c.on_pull.new.out c.in-Ok.ensures.gives c.on_pull.ensures.stands (same_places c.args.self.now.packs c.args.self.now.packs refl)
+
+pub returns-in-Ok-clause-disk : goal.returns-in-Ok-clause-disk
+returns-in-Ok-clause-disk g c = reads_well g.D.Disk.moment {T = Unit {0}} {S = Unit {0}} c.args.self.now.packs c.args.disk.now c.on_pull.new.disk c.args.out.now c.on_pull.new.out tt tt c.requires.settled (g.met.D.Disk.only_now c.args.disk.now) c.in-Ok.ensures.disk
+
+pub returns-in-Err-clause-disk : goal.returns-in-Err-clause-disk
+returns-in-Err-clause-disk g c = reads_ill g.D.Disk.moment {T = Unit {0}} {S = Unit {0}} c.args.self.now.packs c.args.disk.now c.on_pull.new.disk c.args.out.now c.on_pull.new.out c.reading.result c.on_pull.result c.reading.ensures c.requires.settled (g.met.D.Disk.only_now c.args.disk.now) c.on_pull.ensures.disk

@@ -1,0 +1,12 @@
+use Rattle.std.proofs.Common.{◌≤◌, arith}
+use Rattle.site_node.proofs.Parts.{notified_works, paged_works}
+use Rattle.site_node.proofs.node.SiteNode.take_pulled.Goals as goal
+
+pub returns-in_ok-on_notify-in-Notify-clause-works : goal.returns-in_ok-on_notify-in-Notify-clause-works
+returns-in_ok-on_notify-in-Notify-clause-works c =
+    let small : c.in-Notify.size ≤ 65536 = omega (arith, c.if-size-gt-MAX_BYTES.false) in
+    rw c.in-Notify.is (notified_works c.args.from c.head_of-own.result (record { file = c.in-Notify.file; kind = c.in-Notify.kind; set = c.in-Notify.set; size = c.in-Notify.size; stamp = c.in-Notify.stamp; vector = c.in-Notify.vector; holder = c.in-Notify.holder; content = c.new.result }) c.args.self.now c.on_notify.new.self c.args.out.now c.on_notify.new.out c.new.ensures small c.head_of-own.ensures
+    c.in_ok-on_notify-in-Notify.ensures.view c.in_ok-on_notify-in-Notify.ensures.packets c.in_ok-on_notify-in-Notify.ensures.records)
+
+pub returns-in_ok-on_page-in-Page-clause-works : goal.returns-in_ok-on_page-in-Page-clause-works
+returns-in_ok-on_page-in-Page-clause-works c = rw c.in-Page.is (paged_works c.in-Page.file c.in-Page.stamp c.in-Page.page c.as_slice.result.now c.in-Page.bytes c.args.self.now c.on_page.new.self c.args.out.now c.on_page.new.out c.as_slice.ensures c.in_ok-on_page-in-Page.ensures.view c.in_ok-on_page-in-Page.ensures.packets c.in_ok-on_page-in-Page.ensures.records)

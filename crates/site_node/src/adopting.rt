@@ -1,0 +1,87 @@
+// An adoption is tried.
+ghost use Rattle.std.specs.Prelude.{◌≡◌, true, OnOk};
+ghost use Rattle.site_packs.specs.Packs.{Stand};
+ghost use Rattle.the_run.specs.Steps.{adopts_in, tries_at};
+ghost use Rattle.role_steps.specs.Pulling.{is_complete};
+ghost use Rattle.site_node.specs.Views.{Moves, view_of};
+ghost use Rattle.site_node.specs.Writing.{EventWrites};
+ghost use Rattle.site_node.specs.Adopting.{adopted_now};
+ghost use Rattle.site_node.specs.Taking.{is_tried};
+ghost use Rattle.wire_messages.specs.declared.body.Body.{Body};
+
+use crate::framing::enter;
+use crate::{NodeFault, SiteNode};
+use disk_model::Disk;
+use role_steps::Pull;
+use site_packs::NewVersion;
+use site_tables::notes_own;
+use trace_book::Record;
+use wire_messages::{Body, Outbox};
+
+impl SiteNode {
+    /// Adopts the version that is next, if an adoption is tried.
+    pub(crate) fn try_adoption<D: Disk>(
+        &mut self,
+        disk: &mut D,
+        tries: bool,
+        out: &mut Outbox,
+    ) -> Result<(), NodeFault>
+        requires { Stand self.old.packs (D.moment disk.old) }
+        ensures step { (body : Body) → tries ≡ is_tried body → OnOk result (Moves (tries_at self.old.frame.config self.old.frame.me body) self.old (D.moment disk.old) self.new (D.moment disk.new) out.old out.new) }
+        ensures disk { (body : Body) → tries ≡ is_tried body → EventWrites (tries_at self.old.frame.config self.old.frame.me body (view_of self.old (D.moment disk.old).seen)).written self.old.packs (D.moment disk.old) (D.moment disk.new) out.old out.new result }
+    {
+        if !tries {
+            return Ok(());
+        }
+        self.adopt(disk, out)
+    }
+
+    /// Adopts the version that is next, if any is.
+    pub(crate) fn adopt<D: Disk>(&mut self, disk: &mut D, out: &mut Outbox) -> Result<(), NodeFault>
+        requires { Stand self.old.packs (D.moment disk.old) }
+        ensures step { OnOk result (Moves (adopts_in self.old.frame.config self.old.frame.me) self.old (D.moment disk.old) self.new (D.moment disk.new) out.old out.new) }
+        ensures disk { EventWrites (adopts_in self.old.frame.config self.old.frame.me (view_of self.old (D.moment disk.old).seen)).written self.old.packs (D.moment disk.old) (D.moment disk.new) out.old out.new result }
+    {
+        let Some(epoch) = self.epochs.epoch() else {
+            return Ok(());
+        };
+        enter(&mut self.frame, self.epochs.boot(), &epoch);
+        let Some(pull) = self.choose() else {
+            return Ok(());
+        };
+        self.adopt_pull(disk, &pull, out)
+    }
+
+    /// A pulled version takes the place of the site's own copy, and its synchronization site hears of it.
+    fn adopt_pull<D: Disk>(
+        &mut self,
+        disk: &mut D,
+        pull: &Pull,
+        out: &mut Outbox,
+    ) -> Result<(), NodeFault>
+        requires { Stand self.old.packs (D.moment disk.old) }
+        ensures step { OnOk result (Moves (adopted_now self.old.frame pull.now) self.old (D.moment disk.old) self.new (D.moment disk.new) out.old out.new) }
+        ensures disk { is_complete pull.now ≡ true → EventWrites (adopted_now self.old.frame pull.now (view_of self.old (D.moment disk.old).seen)).written self.old.packs (D.moment disk.old) (D.moment disk.new) out.old out.new result }
+    {
+        let me = self.site();
+        let file = pull.file;
+        let stamp = pull.stamp;
+        out.note(Record::Adopt {
+            file,
+            site: me.get(),
+            stamp,
+        })?;
+        let version = NewVersion {
+            kind: pull.kind,
+            set: pull.set,
+            stamp,
+            vector: pull.vector,
+        };
+        self.packs
+            .adopt(disk, file, &version, pull.content.as_slice())?;
+        notes_own(&mut self.tables, me, file, stamp)?;
+        self.frame
+            .send_to_sync(file.group, Body::Have { file, stamp }, out)?;
+        Ok(())
+    }
+}

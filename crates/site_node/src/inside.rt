@@ -1,0 +1,68 @@
+// A packet of the site's epoch, by the role that takes it.
+ghost use Rattle.std.specs.Prelude.{◌≡◌, OnOk};
+ghost use Rattle.site_packs.specs.Packs.{Stand};
+ghost use Rattle.the_run.specs.Steps.{takes_inside};
+ghost use Rattle.site_node.specs.Views.{Moves, Works, view_of};
+ghost use Rattle.site_node.specs.Writing.{EventWrites};
+ghost use Rattle.site_node.specs.Roles.{answered, role_takes};
+ghost use Rattle.site_node.specs.declared.roles.Role.TheVariants as role;
+
+use crate::roles::{Role, role_of};
+use crate::{NodeFault, SiteNode};
+use disk_model::Disk;
+use locus_ids::{NoMemory, SiteId};
+use site_tables::take;
+use wire_messages::{Body, Outbox};
+
+impl SiteNode {
+    /// Takes what a member sent in the epoch of the frame.
+    pub(crate) fn take_inside<D: Disk>(
+        &mut self,
+        disk: &mut D,
+        from: SiteId,
+        body: Body,
+        out: &mut Outbox,
+    ) -> Result<(), NodeFault>
+        requires { Stand self.old.packs (D.moment disk.old) }
+        ensures step { OnOk result (Moves (takes_inside self.old.frame from body) self.old (D.moment disk.old) self.new (D.moment disk.new) out.old out.new) }
+        ensures disk { EventWrites (takes_inside self.old.frame from body (view_of self.old (D.moment disk.old).seen)).written self.old.packs (D.moment disk.old) (D.moment disk.new) out.old out.new result }
+    {
+        match role_of(&body) {
+            Role::Tables => {
+                self.take_at_tables(from, body, out)?;
+                Ok(())
+            }
+            Role::Store => self.take_at_store(disk, from, body, out),
+            Role::Users => {
+                self.take_at_users(from, body, out)?;
+                Ok(())
+            }
+            Role::Pulls => {
+                self.take_at_pulls(from, body, out)?;
+                Ok(())
+            }
+            Role::Epochs => {
+                self.take_report_ok(&body);
+                Ok(())
+            }
+            Role::Nobody => Ok(()),
+        }
+    }
+
+    /// Takes what a member sent, where it is for a synchronization site.
+    fn take_at_tables(&mut self, from: SiteId, body: Body, out: &mut Outbox) -> Result<(), NoMemory>
+        ensures { OnOk result (Works (role_takes role.Tables self.old.frame from body) self.old self.new out.old out.new) }
+    {
+        take(&mut self.tables, &self.frame, from, body, out)?;
+        Ok(())
+    }
+
+    /// A report of this site is answered.
+    fn take_report_ok(&mut self, body: &Body)
+        ensures { self.new ≡ record self.old { epochs = answered body.now self.old.epochs } }
+    {
+        if let Body::ReportOk { group } = body {
+            self.epochs.on_report_ok(*group);
+        }
+    }
+}

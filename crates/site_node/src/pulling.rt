@@ -1,0 +1,89 @@
+// What comes to the site that pulls versions.
+ghost use Rattle.std.specs.Prelude.{◌≡◌, ℕ, List, IfErr, OnOk};
+ghost use Rattle.propagation.specs.Sized.{head_of};
+ghost use Rattle.site_packs.specs.Packs.{AreShown, copy_at};
+ghost use Rattle.site_node.specs.Views.{Works};
+ghost use Rattle.site_node.specs.Faults.{IsUncut};
+ghost use Rattle.site_node.specs.Roles.{role_takes};
+ghost use Rattle.site_node.specs.declared.roles.Role.TheVariants as role;
+
+use crate::{NodeFault, SiteNode};
+use locus_ids::sizes::MAX_BYTES;
+use locus_ids::{Bytes, FileId, SiteId};
+use propagation::CopyHead;
+use role_steps::Pull;
+use wire_messages::{Body, Outbox};
+
+impl SiteNode {
+    /// Takes what a member sent, where it is for the site that pulls versions. A version of more bytes than a file may have is
+    /// unfit.
+    pub(crate) fn take_at_pulls(
+        &mut self,
+        from: SiteId,
+        body: Body,
+        out: &mut Outbox,
+    ) -> Result<(), NodeFault>
+        ensures works { OnOk result (Works (role_takes role.Pulls self.old.frame from body) self.old self.new out.old out.new) }
+        ensures uncut { IfErr result IsUncut }
+    {
+        self.take_pulled(from, &body, out)
+    }
+
+    fn take_pulled(&mut self, from: SiteId, body: &Body, out: &mut Outbox) -> Result<(), NodeFault>
+        ensures works { OnOk result (Works (role_takes role.Pulls self.old.frame from body.now) self.old self.new out.old out.new) }
+        ensures uncut { IfErr result IsUncut }
+    {
+        match body {
+            Body::Notify {
+                file,
+                kind,
+                set,
+                size,
+                stamp,
+                vector,
+                holder,
+            } => {
+                if *size as usize > MAX_BYTES {
+                    return Err(NodeFault::Unfit);
+                }
+                let pull = Pull {
+                    file: *file,
+                    kind: *kind,
+                    set: *set,
+                    size: *size,
+                    stamp: *stamp,
+                    vector: *vector,
+                    holder: *holder,
+                    content: Bytes::new(self.alloc),
+                };
+                let own = self.head_of(*file);
+                self.pulls.on_notify(&self.frame, from, own, pull, out)?;
+                Ok(())
+            }
+            Body::Page {
+                file,
+                stamp,
+                page,
+                bytes,
+            } => {
+                self.pulls
+                    .on_page(&self.frame, *file, *stamp, *page, bytes.as_slice(), out)?;
+                Ok(())
+            }
+            _ => Ok(()),
+        }
+    }
+
+    /// What the site's own copy of a file is.
+    pub(crate) fn head_of(&self, file: FileId) -> Option<CopyHead>
+        ensures { (image : List ℕ) → AreShown self.now.packs.packs image → head_of (copy_at self.now.packs image file) ≡ result }
+    {
+        match self.packs.head(file) {
+            Some(copy) => Some(CopyHead {
+                stamp: copy.stamp,
+                vector: copy.vector,
+            }),
+            None => None,
+        }
+    }
+}

@@ -1,0 +1,77 @@
+// A packet that the site's frame lets through.
+ghost use Rattle.std.specs.Prelude.{◌≡◌, OnOk};
+ghost use Rattle.site_packs.specs.Packs.{Stand};
+ghost use Rattle.site_node.specs.Views.{Moves, view_of};
+ghost use Rattle.site_node.specs.Taking.{in_epoch_takes, taken};
+ghost use Rattle.site_node.specs.Writing.{EventWrites};
+
+use crate::framing::enter;
+use crate::{NodeFault, SiteNode};
+use disk_model::Disk;
+use locus_ids::{Links, SiteId};
+use merge_protocol::FormingHeader;
+use wire_messages::{Body, Outbox, Packet};
+
+impl SiteNode {
+    /// Takes a packet, by its kind.
+    pub(crate) fn take<D: Disk>(
+        &mut self,
+        disk: &mut D,
+        links: &Links,
+        packet: Packet,
+        out: &mut Outbox,
+    ) -> Result<(), NodeFault>
+        requires { Stand self.old.packs (D.moment disk.old) }
+        ensures step { OnOk result (Moves (taken self.old.frame.config self.old.frame.me links.now packet) self.old (D.moment disk.old) self.new (D.moment disk.new) out.old out.new) }
+        ensures disk { EventWrites (taken self.old.frame.config self.old.frame.me links.now packet (view_of self.old (D.moment disk.old).seen)).written self.old.packs (D.moment disk.old) (D.moment disk.new) out.old out.new result }
+    {
+        let from = packet.from;
+        let header = FormingHeader {
+            from,
+            from_boot: packet.from_boot,
+            id: packet.epoch,
+        };
+        match packet.body {
+            Body::Poll => {
+                self.take_poll(links, header, out)?;
+                Ok(())
+            }
+            Body::Promise { reach } => {
+                self.take_promise(header, reach);
+                Ok(())
+            }
+            Body::Refuse { promised } => {
+                self.take_refuse(links, header.id, promised, out)?;
+                Ok(())
+            }
+            Body::Install { members } => {
+                self.take_install(&header, &members, out)?;
+                Ok(())
+            }
+            Body::Joined => {
+                self.take_joined(from, header.id);
+                Ok(())
+            }
+            body => self.take_in_epoch(disk, from, body, out),
+        }
+    }
+
+    /// Takes a packet of the epoch that the site is in.
+    fn take_in_epoch<D: Disk>(
+        &mut self,
+        disk: &mut D,
+        from: SiteId,
+        body: Body,
+        out: &mut Outbox,
+    ) -> Result<(), NodeFault>
+        requires { Stand self.old.packs (D.moment disk.old) }
+        ensures step { OnOk result (Moves (in_epoch_takes self.old.frame.config self.old.frame.me from body) self.old (D.moment disk.old) self.new (D.moment disk.new) out.old out.new) }
+        ensures disk { EventWrites (in_epoch_takes self.old.frame.config self.old.frame.me from body (view_of self.old (D.moment disk.old).seen)).written self.old.packs (D.moment disk.old) (D.moment disk.new) out.old out.new result }
+    {
+        let Some(epoch) = self.epochs.epoch() else {
+            return Ok(());
+        };
+        enter(&mut self.frame, self.epochs.boot(), &epoch);
+        self.take_inside(disk, from, body, out)
+    }
+}
