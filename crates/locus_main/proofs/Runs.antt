@@ -1,97 +1,108 @@
 -- What the loop over the lines has come to, and what each of its ends says.
-use Rattle.std.proofs.Common.{◌≡◌, ℕ, ◌+◌, ◌≤◌, ◌<◌, List, [], ◌∷◌, ◌++◌, Option, Some, None, length, take, reverse, refl, ap, sym, ◌∙◌, subst, arith, append_assoc, length-append, ⊎_elim, eqb, Bool, true, false, cond}
+use Rattle.std.proofs.Common.{◌≡◌, ℕ, ◌+◌, ◌≤◌, ◌<◌, List, [], ◌∷◌, ◌++◌, Option, Some, None, length, take, refl, ap, sym, ◌∙◌, subst, arith, append_assoc, length-append, ⊎_elim, eqb, Bool, true, false, cond}
+use Rattle.std.proofs.lemmas.Bool.{false≢true}
 use Rattle.std.proofs.lemmas.List.{append-nil, take_at, take_all}
 use Rattle.std.specs.Prelude.{IfSome}
 use Rattle.std.specs.List.{onto_first}
 use Rattle.std.specs.Io.KnownBytes.{Appends, Keeps, IsAtEnd}
-use Rattle.trace_book.specs.Text.{text}
-use Rattle.first_model.specs.declared.line.ScheduleLine.{ScheduleLine}
-use Rattle.first_model.specs.Reading.{IsSchedule}
-use Rattle.first_model.specs.Trace.{Trace, told}
-use Rattle.one_site.specs.declared.runner.Runner.{Runner}
-use Rattle.one_site.specs.Standing.{StandsWell, Refuses}
+use Rattle.locus_io.specs.Causes.{AppendsFront}
+use Rattle.schedule_lines.specs.Cluster.{config_of, is_whole}
+use Rattle.schedule_lines.specs.declared.line.ScheduleLine.{ScheduleLine}
+use Rattle.schedule_lines.specs.Schedule.{IsSchedule}
+use Rattle.the_run.specs.Worlds.{Limit}
+use Rattle.the_run.specs.Runs.{run, printed}
+use Rattle.schedule_run.specs.declared.runner.ScheduleRunner.{ScheduleRunner}
 use Rattle.line_reader.specs.Reading.{lines_of, has_feed, to_read, Between, ReadsLine, EndsInFeed, IsLong, first_line, after_line}
-use Rattle.locus_main.specs.Runs.{IsWithinLimits, Writes, AreRun, IsWholeRun, StopsAtBad, StopsAtLong, StopsAtLimit, StopsAtFault, WritesFront}
-use Rattle.locus_main.specs.Turns.{Goes, IsCutShort}
+use Rattle.locus_main.specs.Runs.{IsWithinLimits, Writes, AreRun, IsWholeRun, StopsAtBad, StopsAtLong, StopsAtCount, StopsAtFault, StopsAtLimit, WritesFront}
+use Rattle.locus_main.specs.Turns.{HasWritten, Refuses, Goes, IsCutShort}
 use Rattle.locus_main.proofs.Schedules.{IsSchedule-push, IsSchedule-length, IsWithinLimits-push}
-use Rattle.locus_main.proofs.Told.{ReadsLines, told-reverse, Appends-nothing, Appends-then, AppendsFront-whole, AppendsFront-kept, AppendsFront-then, Between-none, Between-line, Between-rest, Between-read, Between-end, IsAllRead, at_end, if_some}
+use Rattle.locus_main.proofs.Told.{ReadsLines, Appends-nothing, Appends-then, AppendsFront-whole, AppendsFront-kept, AppendsFront-then, Between-none, Between-line, Between-rest, Between-read, Between-end, IsAllRead, at_end, if_some}
 use Rattle.locus_main.proofs.Whole.{AreWhole, Between-whole-none, Between-whole-line, wholly_read}
-use Rattle.locus_main.proofs.Empty.{calm-none, answered-none, orderly-none, formed-none}
 
--- the lines and the trace so far, of which the text is written
-pub record SoFar (r : Runner) (number : ℕ) (ended : Bool) (left0 left1 taken0 taken1 : Option (List ℕ)) : Type 0 where
+-- the lines so far, of which the run is written
+pub record SoFar (r : ScheduleRunner) (number : ℕ) (ended : Bool) (left0 left1 taken0 taken1 : Option (List ℕ)) : Type 0 where
   pub bytes : List (List ℕ)
   pub lines : List ScheduleLine
   pub schedule : IsSchedule bytes lines
   pub within : IsWithinLimits bytes
-  pub trace : Trace
-  pub stands : StandsWell r lines trace
-  pub written : Appends taken0 taken1 (told trace)
+  pub stands : HasWritten lines r
+  pub writes : Writes lines taken0 taken1
   pub counted : length bytes ≡ number
   pub read : Between left0 left1 (ReadsLines bytes)
   pub whole : ended ≡ false → Between left0 left1 (AreWhole bytes)
 
-pub SoFar-start : (r : Runner) (a : Option (List ℕ)) (t : Option (List ℕ)) (n : ℕ) → n ≡ 0 → StandsWell r [] [] → SoFar r n false a (to_read [] a) t t
+pub SoFar-start : (r : ScheduleRunner) (a : Option (List ℕ)) (t : Option (List ℕ)) (n : ℕ) → n ≡ 0 → HasWritten [] r → SoFar r n false a (to_read [] a) t t
 SoFar-start r a t n none stands = record {
   bytes = [];
   lines = [];
   schedule = tt;
   within = record { few = omega arith; short = tt };
-  trace = [];
   stands = stands;
-  written = Appends-nothing t;
+  writes = record { within = refl; written = Appends-nothing t };
   counted = sym none;
   read = Between-none a;
   whole = λ _. Between-whole-none a;
 }
 
+-- what a turn does after whatever lines were run
+abbrev pub Turns : ScheduleRunner → ℕ → List ℕ → Option Limit → ScheduleRunner → Option (List ℕ) → Option (List ℕ) → Type 0
+Turns r m line limit r' u v = (lines : List ScheduleLine) → m ≡ length lines + 1 → HasWritten lines r → Goes lines line limit r' u v
+
 -- the number that the next line has
-next : (r : Runner) (n : ℕ) (m : ℕ) (d : Bool) (a b t u : Option (List ℕ)) → (s : SoFar r n d a b t u) → m ≡ n + 1 → m ≡ length s.lines + 1
+next : (r : ScheduleRunner) (n : ℕ) (m : ℕ) (d : Bool) (a b t u : Option (List ℕ)) → (s : SoFar r n d a b t u) → m ≡ n + 1 → m ≡ length s.lines + 1
 next r n m d a b t u s e = omega (arith, s.counted, e, IsSchedule-length s.bytes s.lines s.schedule)
 
-pub SoFar-next : (r : Runner) (r' : Runner) (n : ℕ) (m : ℕ) (d : Bool) (f : Bool) (line : List ℕ) (a b c t u v : Option (List ℕ)) →
-    SoFar r n d a b t u → m ≡ n + 1 → m ≤ 1000000 → length line ≤ 16384 → Between b c (ReadsLine line) → (f ≡ false → d ≡ false) → (f ≡ false → Between b c (EndsInFeed line)) → Goes r r' m line u v → SoFar r' m f a c t v
-SoFar-next r r' n m d f line a b c t u v s e few short reads opens feeds goes =
-    let went = goes.carries s.lines s.trace (next r n m d a b t u s e) s.stands in
+-- the text with the rest of a turn
+longer : (was now fresh : List ℕ) (t u v : Option (List ℕ)) → Appends t u was → Appends u v fresh → now ≡ was ++ fresh → Appends t v now
+longer was now fresh t u v p q e = subst (λ (s : List ℕ). Appends t v s) (sym e) (Appends-then t u v was fresh p q)
+
+pub SoFar-next : (r : ScheduleRunner) (r' : ScheduleRunner) (n : ℕ) (m : ℕ) (d : Bool) (f : Bool) (line : List ℕ) (a b c t u v : Option (List ℕ)) →
+    SoFar r n d a b t u → m ≡ n + 1 → m ≤ 1000000 → length line ≤ 16384 → Between b c (ReadsLine line) → (f ≡ false → d ≡ false) → (f ≡ false → Between b c (EndsInFeed line)) → Turns r m line None r' u v → SoFar r' m f a c t v
+SoFar-next r r' n m d f line a b c t u v s e few short reads opens feeds turn =
+    let goes = turn s.lines (next r n m d a b t u s e) s.stands in
     record {
       bytes = s.bytes ++ line ∷ [];
-      lines = s.lines ++ went.0 ∷ [];
-      schedule = IsSchedule-push s.bytes s.lines line went.0 s.schedule went.1;
+      lines = s.lines ++ goes.line ∷ [];
+      schedule = IsSchedule-push s.bytes s.lines line goes.line s.schedule goes.reads;
       within = IsWithinLimits-push s.bytes line m s.within (omega (arith, s.counted, e)) few short;
-      trace = reverse goes.records ++ s.trace;
-      stands = went.2;
-      written = rw (told-reverse goes.records s.trace) (Appends-then t u v (told s.trace) (text goes.records) s.written goes.written);
+      stands = goes.ran;
+      writes = record { within = goes.passes; written = longer _ _ goes.fresh t u v s.writes.written goes.written goes.told };
       counted = omega (arith, length-append s.bytes (line ∷ []), s.counted, e);
       read = Between-line a b c s.bytes line s.read reads;
       whole = λ open_still. Between-whole-line a b c s.bytes line (s.whole (opens open_still)) (feeds open_still);
     }
 
-writes : (r : Runner) (n : ℕ) (d : Bool) (a b t u : Option (List ℕ)) → (s : SoFar r n d a b t u) → Writes s.lines t u
-writes r n d a b t u s = record { trace = s.trace; lawful = s.stands.stands.lawful; steps = s.stands.rounds.steps; calm = s.stands.calm; answered = s.stands.answered; orderly = s.stands.orderly; formed = s.stands.formed; written = s.written }
+are_run : (r : ScheduleRunner) (n : ℕ) (d : Bool) (a b t u : Option (List ℕ)) → (s : SoFar r n d a b t u) → AreRun s.bytes t u
+are_run r n d a b t u s = record { lines = s.lines; schedule = s.schedule; within = s.within; writes = s.writes }
 
-are_run : (r : Runner) (n : ℕ) (d : Bool) (a b t u : Option (List ℕ)) → (s : SoFar r n d a b t u) → AreRun s.bytes t u
-are_run r n d a b t u s = record { lines = s.lines; schedule = s.schedule; within = s.within; writes = writes r n d a b t u s }
+no_header : (lines : List ScheduleLine) → length lines ≡ 0 → is_whole (config_of lines) ≡ true → ⊥
+no_header [] e h = false≢true h
+no_header (l ∷ ls) e h = absurd (omega arith)
+
+-- a whole header has lines
+pub has_lines : (r : ScheduleRunner) (n : ℕ) (d : Bool) (a b t u : Option (List ℕ)) → SoFar r n d a b t u → ((lines : List ScheduleLine) → HasWritten lines r → is_whole (config_of lines) ≡ true) → n ≡ 0 → ⊥
+has_lines r n d a b t u s enough none = no_header s.lines (omega (arith, IsSchedule-length s.bytes s.lines s.schedule, s.counted, none)) (enough s.lines s.stands)
 
 -- all lines were read
 all_of : (bytes : List (List ℕ)) (all xs ys : List ℕ) → lines_of all ≡ bytes ++ lines_of xs → IsAllRead xs ys → lines_of all ≡ bytes
 all_of bytes all xs ys e read = e ∙ ap (λ s. bytes ++ lines_of s) read.0 ∙ append-nil bytes
 
 -- The end of the input, where the header is whole.
-pub Ends-whole : (r : Runner) (n : ℕ) (d : Bool) (a b : Option (List ℕ)) (ahead : List ℕ) (rest left t u : Option (List ℕ)) →
-    SoFar r n d a b t u → Between b (to_read ahead rest) (λ xs ys. xs ≡ []) → Keeps b (to_read ahead rest) → (IsAtEnd rest → IsAtEnd left) → 2 ≤ r.place → IfSome a (λ input. IsAtEnd left × IsWholeRun (lines_of input) t u)
+pub Ends-whole : (r : ScheduleRunner) (n : ℕ) (d : Bool) (a b : Option (List ℕ)) (ahead : List ℕ) (rest left t u : Option (List ℕ)) →
+    SoFar r n d a b t u → Between b (to_read ahead rest) (λ xs ys. xs ≡ []) → Keeps b (to_read ahead rest) → (IsAtEnd rest → IsAtEnd left) → ((lines : List ScheduleLine) → HasWritten lines r → is_whole (config_of lines) ≡ true) → IfSome a (λ input. IsAtEnd left × IsWholeRun (lines_of input) t u)
 Ends-whole r n d a b ahead rest left t u s ends keeps shown enough = if_some a _ _ (Between-rest a b (to_read ahead rest) s.bytes IsAllRead s.read (Between-end b (to_read ahead rest) ends keeps)) (λ input h.
     let P : List (List ℕ) → Type 0 = λ ls. IsWholeRun ls t u in (
       shown (at_end ahead rest h.1 h.4 h.3.1),
       subst P (sym (all_of s.bytes input h.0 h.1 h.2 h.3)) (record {
         lines = s.lines;
-        accepted = record { schedule = s.schedule; ends = omega (arith, s.stands.stands.place, enough); within = s.within };
-        writes = writes r n d a b t u s;
+        accepted = record { schedule = s.schedule; ends = enough s.lines s.stands; within = s.within };
+        writes = s.writes;
       }),
     ))
 
 -- The end of the input in the header.
-pub Ends-short : (r : Runner) (n : ℕ) (d : Bool) (a b c t u : Option (List ℕ)) (line : ℕ) →
-    SoFar r n d a b t u → Between b c (λ xs ys. xs ≡ []) → Keeps b c → r.place < 2 → line ≡ n + 1 → IfSome a (λ input. StopsAtBad (lines_of input) line t u)
+pub Ends-short : (r : ScheduleRunner) (n : ℕ) (d : Bool) (a b c t u : Option (List ℕ)) (line : ℕ) →
+    SoFar r n d a b t u → Between b c (λ xs ys. xs ≡ []) → Keeps b c → ((lines : List ScheduleLine) → HasWritten lines r → is_whole (config_of lines) ≡ false) → line ≡ n + 1 → IfSome a (λ input. StopsAtBad (lines_of input) line t u)
 Ends-short r n d a b c t u line s ends keeps few e = if_some a _ _ (Between-rest a b c s.bytes IsAllRead s.read (Between-end b c ends keeps)) (λ input h.
     let P : List (List ℕ) → Type 0 = λ ls. StopsAtBad ls line t u in
     let all : take line s.bytes ≡ s.bytes = take_all line s.bytes (omega (arith, s.counted, e)) in
@@ -103,15 +114,15 @@ Ends-short r n d a b c t u line s ends keeps few e = if_some a _ _ (Between-rest
         split = sym (append-nil s.bytes);
         number = omega (arith, s.counted, e);
         schedule = s.schedule;
-        bad = λ m. omega (arith, m, s.stands.stands.place, few);
+        bad = λ m. false≢true (sym (few s.lines s.stands) ∙ m);
       };
       within = subst IsWithinLimits (sym all) s.within;
-      writes = writes r n d a b t u s;
+      writes = s.writes;
     }))
 
 -- A line that may not stand there.
-pub Ends-bad : (r : Runner) (n : ℕ) (d : Bool) (a b c t u : Option (List ℕ)) (line : List ℕ) (number : ℕ) →
-    SoFar r n d a b t u → Between b c (ReadsLine line) → Refuses r line → number ≡ n + 1 → number ≤ 1000000 → length line ≤ 16384 → IfSome a (λ input. StopsAtBad (lines_of input) number t u)
+pub Ends-bad : (r : ScheduleRunner) (n : ℕ) (d : Bool) (a b c t u : Option (List ℕ)) (line : List ℕ) (number : ℕ) →
+    SoFar r n d a b t u → Between b c (ReadsLine line) → ((lines : List ScheduleLine) → HasWritten lines r → Refuses lines line) → number ≡ n + 1 → number ≤ 1000000 → length line ≤ 16384 → IfSome a (λ input. StopsAtBad (lines_of input) number t u)
 Ends-bad r n d a b c t u line number s reads refuses e few short = if_some a _ _ (Between-rest a b c s.bytes (ReadsLine line) s.read reads) (λ input h.
     let P : List (List ℕ) → Type 0 = λ ls. StopsAtBad ls number t u in
     let all : lines_of input ≡ s.bytes ++ line ∷ lines_of h.1 = h.2 ∙ ap (λ ls. s.bytes ++ ls) h.3.lines in
@@ -125,14 +136,14 @@ Ends-bad r n d a b c t u line number s reads refuses e few short = if_some a _ _
         split = refl;
         number = omega (arith, s.counted, e);
         schedule = s.schedule;
-        bad = λ l q. refuses s.lines s.trace l s.stands.stands q;
+        bad = refuses s.lines s.stands;
       };
       within = subst IsWithinLimits (sym front) (IsWithinLimits-push s.bytes line number s.within (omega (arith, s.counted, e)) few short);
-      writes = writes r n d a b t u s;
+      writes = s.writes;
     }))
 
 -- A line that is too long.
-pub Ends-long : (r : Runner) (n : ℕ) (d : Bool) (a b c t u : Option (List ℕ)) (limit : ℕ) →
+pub Ends-long : (r : ScheduleRunner) (n : ℕ) (d : Bool) (a b c t u : Option (List ℕ)) (limit : ℕ) →
     SoFar r n d a b t u → Between b c (λ xs ys. IsLong limit xs) → limit ≡ 16384 → n < 1000000 → IfSome a (λ input. StopsAtLong (lines_of input) t u)
 Ends-long r n d a b c t u limit s long most early = if_some a _ _ (Between-rest a b c s.bytes (λ xs ys. IsLong limit xs) s.read long) (λ input h.
     record {
@@ -158,8 +169,8 @@ lines_some (x ∷ xs) h = by_test (eqb x 10) (lines_of xs)
     by_test false ls = by_first ls
 
 -- A line past the last that there may be.
-pub Ends-many : (r : Runner) (n : ℕ) (d : Bool) (a b c t u : Option (List ℕ)) →
-    SoFar r n d a b t u → Between b c (λ xs ys. 0 < length xs) → n ≡ 1000000 → IfSome a (λ input. StopsAtLimit (lines_of input) t u)
+pub Ends-many : (r : ScheduleRunner) (n : ℕ) (d : Bool) (a b c t u : Option (List ℕ)) →
+    SoFar r n d a b t u → Between b c (λ xs ys. 0 < length xs) → n ≡ 1000000 → IfSome a (λ input. StopsAtCount (lines_of input) t u)
 Ends-many r n d a b c t u s many full = if_some a _ _ (Between-rest a b c s.bytes (λ xs ys. 0 < length xs) s.read many) (λ input h.
     record {
       earlier = s.bytes;
@@ -171,13 +182,13 @@ Ends-many r n d a b c t u s many full = if_some a _ _ (Between-rest a b c s.byte
     })
 
 -- A read that failed, where no line stands whole among the bytes that were taken ahead.
-pub Ends-fault : (r : Runner) (n : ℕ) (d : Bool) (a b : Option (List ℕ)) (ahead : List ℕ) (left t u : Option (List ℕ)) →
+pub Ends-fault : (r : ScheduleRunner) (n : ℕ) (d : Bool) (a b : Option (List ℕ)) (ahead : List ℕ) (left t u : Option (List ℕ)) →
     SoFar r n d a b t u → d ≡ false → Keeps b (to_read ahead left) → has_feed ahead ≡ false → Between a left (λ input rest. StopsAtFault input rest t u)
 Ends-fault r n d a b ahead left t u s opened keeps part = wholly_read a b ahead left s.bytes (λ input rest. StopsAtFault input rest t u) (s.whole opened) keeps part
     (λ input taken rest split whole. record { taken = taken; split = split; read = s.bytes; whole = whole; runs = are_run r n d a b t u s })
 
 -- Whatever comes between two lines, a front is written.
-pub Ends-front : (r : Runner) (n : ℕ) (d : Bool) (a b t u : Option (List ℕ)) → SoFar r n d a b t u → IfSome a (λ input. WritesFront (lines_of input) t u)
+pub Ends-front : (r : ScheduleRunner) (n : ℕ) (d : Bool) (a b t u : Option (List ℕ)) → SoFar r n d a b t u → IfSome a (λ input. WritesFront (lines_of input) t u)
 Ends-front r n d a b t u s = if_some a _ _ (Between-read a b s.bytes s.read) (λ input h.
     record {
       earlier = s.bytes;
@@ -185,19 +196,31 @@ Ends-front r n d a b t u s = if_some a _ _ (Between-read a b s.bytes s.read) (λ
       split = h.1;
       lines = s.lines;
       schedule = s.schedule;
-      trace = s.trace;
-      lawful = s.stands.stands.lawful;
-      steps = s.stands.rounds.steps;
-      calm = s.stands.calm;
-      answered = s.stands.answered;
-      orderly = s.stands.orderly;
-      formed = s.stands.formed;
-      written = AppendsFront-whole t u (told s.trace) s.written;
+      written = AppendsFront-whole t u (printed (run s.lines)) s.writes.written;
+    })
+
+-- A line whose run passes a limit.
+pub Ends-limit : (r : ScheduleRunner) (r' : ScheduleRunner) (n : ℕ) (m : ℕ) (d : Bool) (line : List ℕ) (limit : Limit) (a b c t u v : Option (List ℕ)) →
+    SoFar r n d a b t u → m ≡ n + 1 → Between b c (ReadsLine line) → Turns r m line (Some limit) r' u v → IfSome a (λ input. StopsAtLimit (lines_of input) limit t v)
+Ends-limit r r' n m d line limit a b c t u v s e reads turn = if_some a _ _ (Between-rest a b c s.bytes (ReadsLine line) s.read reads) (λ input h.
+    let goes = turn s.lines (next r n m d a b t u s e) s.stands in
+    record {
+      earlier = s.bytes;
+      bytes = line;
+      later = lines_of h.1;
+      split = h.2 ∙ ap (λ ls. s.bytes ++ ls) h.3.lines;
+      lines = s.lines;
+      line = goes.line;
+      schedule = s.schedule;
+      reads = goes.reads;
+      within = s.writes.within;
+      passes = goes.passes;
+      written = longer _ _ goes.fresh t u v s.writes.written goes.written goes.told;
     })
 
 -- Whatever comes in a turn, a front is written.
-pub Ends-cut : (r : Runner) (n : ℕ) (m : ℕ) (d : Bool) (line : List ℕ) (a b c t u v : Option (List ℕ)) →
-    SoFar r n d a b t u → m ≡ n + 1 → Between b c (ReadsLine line) → IsCutShort r m line u v → IfSome a (λ input. WritesFront (lines_of input) t v)
+pub Ends-cut : (r : ScheduleRunner) (n : ℕ) (m : ℕ) (d : Bool) (line : List ℕ) (a b c t u v : Option (List ℕ)) →
+    SoFar r n d a b t u → m ≡ n + 1 → Between b c (ReadsLine line) → ((lines : List ScheduleLine) → m ≡ length lines + 1 → HasWritten lines r → IsCutShort lines line u v) → IfSome a (λ input. WritesFront (lines_of input) t v)
 Ends-cut r n m d line a b c t u v s e reads cut = if_some a _ _ (Between-rest a b c s.bytes (ReadsLine line) s.read reads) (λ input h.
     let all : lines_of input ≡ s.bytes ++ line ∷ lines_of h.1 = h.2 ∙ ap (λ ls. s.bytes ++ ls) h.3.lines in
     ⊎_elim
@@ -207,39 +230,19 @@ Ends-cut r n m d line a b c t u v s e reads cut = if_some a _ _ (Between-rest a 
       split = all;
       lines = s.lines;
       schedule = s.schedule;
-      trace = s.trace;
-      lawful = s.stands.stands.lawful;
-      steps = s.stands.rounds.steps;
-      calm = s.stands.calm;
-      answered = s.stands.answered;
-      orderly = s.stands.orderly;
-      formed = s.stands.formed;
-      written = AppendsFront-kept t u v (told s.trace) s.written keeps;
+      written = AppendsFront-kept t u v (printed (run s.lines)) s.writes.written keeps;
     })
-    (λ part.
-    let went = part.carries s.lines s.trace (next r n m d a b t u s e) s.stands in
-    record {
+    (λ part. record {
       earlier = s.bytes ++ line ∷ [];
       later = lines_of h.1;
       split = all ∙ sym (append_assoc s.bytes (line ∷ []) (lines_of h.1));
-      lines = s.lines ++ went.0 ∷ [];
-      schedule = IsSchedule-push s.bytes s.lines line went.0 s.schedule went.1;
-      trace = reverse part.records ++ s.trace;
-      lawful = went.2.stands.lawful;
-      steps = went.2.rounds.steps;
-      calm = went.2.calm;
-      answered = went.2.answered;
-      orderly = went.2.orderly;
-      formed = went.2.formed;
-      written = rw (told-reverse part.records s.trace) (AppendsFront-then t u v (told s.trace) (text part.records) s.written part.written);
+      lines = s.lines ++ part.line ∷ [];
+      schedule = IsSchedule-push s.bytes s.lines line part.line s.schedule part.reads;
+      written = subst (λ (p : List ℕ). AppendsFront t v p) (sym part.told) (AppendsFront-then t u v (printed (run s.lines)) part.fresh s.writes.written part.written);
     })
-    cut)
+    (cut s.lines (next r n m d a b t u s e) s.stands))
 
 -- Before the first line nothing is written.
-no_split : {X : Type 0} (xs : List X) (x : X) (ys : List X) → [] ≡ xs ++ x ∷ ys → ⊥
-no_split [] x ys e = cc
-no_split (y ∷ xs) x ys e = cc
-
 pub Nothing-front : (a : Option (List ℕ)) (t : Option (List ℕ)) → IfSome a (λ input. WritesFront (lines_of input) t t)
 Nothing-front None t = tt
 Nothing-front (Some x) t = record {
@@ -248,12 +251,5 @@ Nothing-front (Some x) t = record {
   split = refl;
   lines = [];
   schedule = tt;
-  trace = [];
-  lawful = record { each = tt; prompt = refl; once = λ earlier l later e begins. absurd (no_split earlier l later e); void = λ earlier l later e idle. absurd (no_split earlier l later e) };
-  steps = tt;
-  calm = calm-none;
-  answered = answered-none;
-  orderly = orderly-none;
-  formed = formed-none;
   written = AppendsFront-whole t t [] (Appends-nothing t);
 }

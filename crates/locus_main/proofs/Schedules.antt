@@ -2,8 +2,8 @@
 use Rattle.std.proofs.Common.{◌≡◌, ℕ, ◌≤◌, ◌+◌, suc, List, [], ◌∷◌, ◌++◌, length, refl, ap, sym, subst, arith, append_assoc, length-append}
 use Rattle.std.proofs.lemmas.List.{append-nil}
 use Rattle.std.specs.List.{AllByRecursion}
-use Rattle.first_model.specs.declared.line.ScheduleLine.{ScheduleLine}
-use Rattle.first_model.specs.Reading.{Reads, ReadsAfter, IsSchedule}
+use Rattle.schedule_lines.specs.declared.line.ScheduleLine.{ScheduleLine}
+use Rattle.schedule_lines.specs.Schedule.{Reads, ReadsAfter, IsSchedule}
 use Rattle.locus_main.specs.Runs.{IsWithinLimits}
 
 ReadsAfter-push : (earlier : List ScheduleLine) (bs : List (List ℕ)) (ls : List ScheduleLine) (b : List ℕ) (l : ScheduleLine) →

@@ -1,28 +1,12 @@
--- Bytes that are told or not, and the text of a trace that goes on.
-use Rattle.std.proofs.Common.{◌≡◌, ℕ, ◌+◌, take, List, [], ◌∷◌, ◌++◌, Option, Some, None, length, reverse, refl, ap, sym, ◌∙◌, arith, append_assoc, Bool, true, false, cond, subst}
+-- Bytes that are told or not, and what goes on with them.
+use Rattle.std.proofs.Common.{◌≡◌, ℕ, ◌+◌, take, List, [], ◌∷◌, ◌++◌, Option, Some, None, length, refl, ap, sym, ◌∙◌, arith, append_assoc, Bool, true, false, cond, subst}
 use Rattle.std.proofs.lemmas.List.{append-nil, take_all}
-use Rattle.std.proofs.lemmas.Grind.{reverse_onto}
 use Rattle.std.proofs.Math.Seq.{take-append-add}
 use Rattle.std.specs.Prelude.{IfSome}
 use Rattle.std.specs.Io.KnownBytes.{Appends, Keeps, IsAtEnd}
 use Rattle.locus_io.specs.Causes.{AppendsFront}
-use Rattle.trace_book.specs.declared.book.Entry.{Entry}
-use Rattle.trace_book.specs.Text.{text, entry_text}
-use Rattle.first_model.specs.Trace.{Trace, told}
 use Rattle.line_reader.specs.Reading.{to_read, Between, ReadsLine, lines_of}
 use Rattle.line_reader.specs.Readers.{nothing_of}
-
-told-append : (xs : List Entry) (ys : List Entry) → told (xs ++ ys) ≡ told ys ++ told xs
-told-append [] ys = sym (append-nil (told ys))
-told-append (x ∷ xs) ys = ap (λ s. s ++ entry_text x.line x.what) (told-append xs ys) ∙ append_assoc (told ys) (told xs) (entry_text x.line x.what)
-
-told-is : (xs : List Entry) → told (reverse xs) ≡ text xs
-told-is [] = refl
-told-is (x ∷ xs) = ap told (reverse_onto xs x []) ∙ told-append (reverse xs) (x ∷ []) ∙ ap (λ s. entry_text x.line x.what ++ s) (told-is xs)
-
--- the text of a trace that goes on by some records
-pub told-reverse : (xs : List Entry) (trace : Trace) → told (reverse xs ++ trace) ≡ told trace ++ text xs
-told-reverse xs trace = told-append (reverse xs) trace ∙ ap (λ s. told trace ++ s) (told-is xs)
 
 pub Appends-nothing : (a : Option (List ℕ)) → Appends a a []
 Appends-nothing None = tt

@@ -2,6 +2,8 @@
 use Rattle.std.specs.Prelude.{ℕ, Bool, true, false, List, codes}
 use Rattle.locus_io.specs.declared.traits.WriteFault.{WriteFault}
 use Rattle.locus_io.specs.declared.traits.WriteFault.TheVariants as write
+use Rattle.the_run.specs.Worlds.{Limit}
+use Rattle.the_run.specs.Worlds as world
 use Rattle.locus_main.specs.declared.status.Status.{Status}
 use Rattle.locus_main.specs.declared.status.Status.TheVariants as status
 use Rattle.locus_main.specs.declared.status.Limited.{Limited}
@@ -16,6 +18,7 @@ code_of status.ReadFault = 4
 code_of status.WriteFault = 5
 code_of status.NoMemory = 6
 code_of (status.Limit what) = 7
+code_of status.WorldFault = 8
 
 -- a run that ends so was not cut short while it wrote
 abbrev pub ends_written : Status → Bool
@@ -26,6 +29,7 @@ ends_written status.ReadFault = true
 ends_written status.WriteFault = false
 ends_written status.NoMemory = false
 ends_written (status.Limit what) = true
+ends_written status.WorldFault = true
 
 -- a limit's name in a message
 abbrev pub limit_word : Limited → List ℕ
@@ -34,6 +38,12 @@ limit_word Bytes = codes "bytes"
 limit_word Trace = codes "trace"
 limit_word Line = codes "line"
 limit_word Lines = codes "lines"
+
+-- what has the limit that a run passes
+abbrev pub limited : Limit → Limited
+limited world.Packets = Packets
+limited world.Bytes = Bytes
+limited world.Trace = Trace
 
 -- what a run comes to where a write goes wrong
 abbrev pub status_of : WriteFault → Status

@@ -19,6 +19,8 @@ pub enum Status {
     NoMemory,
     /// A further step would pass a limit.
     Limit { what: Limited },
+    /// The world of the run could not do a line. That this never comes is not proved.
+    WorldFault,
 }
 
 /// What has a limit.
@@ -49,6 +51,7 @@ impl Status {
             Status::WriteFault => 5,
             Status::NoMemory => 6,
             Status::Limit { what: _ } => 7,
+            Status::WorldFault => 8,
         }
     }
 
@@ -65,6 +68,7 @@ impl Status {
                 let word = what.word();
                 eprintln!(rt; "locus: limit {word}")
             }
+            Status::WorldFault => eprintln!(rt; "locus: world fault"),
         }
     }
 }

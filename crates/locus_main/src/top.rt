@@ -1,11 +1,13 @@
-ghost use Rattle.std.specs.Prelude.{◌≡◌, ◌≢◌, ℕ, ◌≤◌, ◌<◌, ◌+◌, ◌⊎◌, ◌∷◌, ◌↔◌, [], List, codes, IfSome, Some, true, false};
+ghost use Rattle.std.specs.Prelude.{◌≡◌, ◌≢◌, ℕ, ◌≤◌, ◌<◌, ◌+◌, ◌⊎◌, ◌∷◌, ◌↔◌, [], List, codes, IfSome, Some, None, true, false};
 ghost use Rattle.std.specs.Io.KnownBytes.{IsAtEnd};
 ghost use Rattle.locus_io.specs.Causes.{Rose};
 ghost use Rattle.line_reader.specs.Reading.{lines_of, Between};
-ghost use Rattle.first_model.specs.declared.line.ScheduleLine.{ScheduleLine};
-ghost use Rattle.one_site.specs.Standing.{StandsWell, IsSmall};
-ghost use Rattle.locus_main.specs.Codes.{ends_written};
-ghost use Rattle.locus_main.specs.Runs.{IsAccepted, IsWholeRun, StopsAtBad, StopsAtLong, StopsAtLimit, StopsAtFault, WritesFront};
+ghost use Rattle.schedule_lines.specs.declared.line.ScheduleLine.{ScheduleLine};
+ghost use Rattle.the_run.specs.Worlds.{Limit};
+ghost use Rattle.the_run.specs.Runs.{run as run_of};
+ghost use Rattle.locus_main.specs.Codes.{ends_written, limited};
+ghost use Rattle.locus_main.specs.Turns.{HasWritten};
+ghost use Rattle.locus_main.specs.Runs.{IsAccepted, IsWholeRun, StopsAtBad, StopsAtLong, StopsAtCount, StopsAtFault, StopsAtLimit, WritesFront};
 
 use crate::lines::next_line;
 use crate::status::{Limited, Status};
@@ -15,18 +17,19 @@ use line_reader::LineReader;
 use locus_ids::Names;
 use locus_ids::sizes::LINE_BYTES;
 use locus_io::{Sink, Source};
-use one_site::Runner;
+use schedule_run::ScheduleRunner;
 use std::alloc::Global;
 
 /// Does what the words ask. The one command is `run`: it reads a schedule and writes its trace, the records of a line
 /// before it reads the next one.
+#[tactic(none)]
 pub fn locus<S: Source, K: Sink>(
     alloc: Global,
     words: &Names,
     source: &mut S,
     sink: &mut K,
 ) -> Status
-    // The whole input is a schedule, and the text of a lawful trace of its lines is written and flushed. Where a run ends
+    // The whole input is a schedule, its run passes no limit, and the text of the run's trace is written and flushed. Where it ends
     // otherwise, but not within a write, either nothing was given or all is flushed.
     ensures whole { result ≡ Status.Ok → IfSome (S.left source.old) (λ input. IsAtEnd (S.left source.new) × IsWholeRun (lines_of input) (K.taken sink.old) (K.taken sink.new)) }
     ensures flushed { result ≡ Status.Ok → K.flushed sink.new ≡ K.taken sink.new }
@@ -40,39 +43,38 @@ pub fn locus<S: Source, K: Sink>(
     ensures cut_off { result ≡ Status.ReadFault → Between (S.left source.old) (S.left source.new) (λ input left. StopsAtFault input left (K.taken sink.old) (K.taken sink.new)) }
     ensures write_fault { result ≡ Status.WriteFault → Rose (K.faults sink.old) (K.faults sink.new) }
     ensures long_line { result ≡ Status.Limit Limited.Line → IfSome (S.left source.old) (λ input. StopsAtLong (lines_of input) (K.taken sink.old) (K.taken sink.new)) }
-    ensures many_lines { result ≡ Status.Limit Limited.Lines → IfSome (S.left source.old) (λ input. StopsAtLimit (lines_of input) (K.taken sink.old) (K.taken sink.new)) }
-    ensures no_other_limit { (what : Limited) → result ≡ Status.Limit what → (what ≡ Limited.Line) ⊎ (what ≡ Limited.Lines) }
+    ensures many_lines { result ≡ Status.Limit Limited.Lines → IfSome (S.left source.old) (λ input. StopsAtCount (lines_of input) (K.taken sink.old) (K.taken sink.new)) }
+    ensures limit { (limit : Limit) → result ≡ Status.Limit (limited limit) → IfSome (S.left source.old) (λ input. StopsAtLimit (lines_of input) limit (K.taken sink.old) (K.taken sink.new)) }
 
-    // Whatever comes, a front of the text of a lawful trace of some first lines is written.
+    // Whatever comes, a front of the text of the run of some first lines is written.
     ensures front { IfSome (S.left source.old) (λ input. WritesFront (lines_of input) (K.taken sink.old) (K.taken sink.new)) }
 
-    // A schedule within the limits is run to its end where nothing fails, but for want of memory.
-    ensures complete { (input : List ℕ) (lines : List ScheduleLine) → words.now ≡ codes "run" ∷ [] → S.left source.old ≡ Some input → IsAccepted (lines_of input) lines
-        → (Rose (S.faults source.old) (S.faults source.new) → ⊥) → (Rose (K.faults sink.old) (K.faults sink.new) → ⊥) → (result ≡ Status.Ok) ⊎ (result ≡ Status.NoMemory) }
+    // A schedule within the limits is run to its end where nothing fails, but for want of memory, or where the world could not do a
+    // line. That this never comes is not proved.
+    ensures complete { (input : List ℕ) (lines : List ScheduleLine) → words.now ≡ codes "run" ∷ [] → S.left source.old ≡ Some input → IsAccepted (lines_of input) lines → (run_of lines).over ≡ None
+        → (Rose (S.faults source.old) (S.faults source.new) → ⊥) → (Rose (K.faults sink.old) (K.faults sink.new) → ⊥) → (result ≡ Status.Ok) ⊎ (result ≡ Status.NoMemory) ⊎ (result ≡ Status.WorldFault) }
 {
     if !is_run(words) {
         return Status::BadWords;
     }
     match LineReader::new(alloc, LINE_BYTES) {
         Ok(mut reader) => {
-            let mut runner = Runner::new(alloc);
-            run(alloc, &mut runner, &mut reader, source, sink)
+            let mut runner = ScheduleRunner::new(alloc);
+            run(&mut runner, &mut reader, source, sink)
         }
         Err(_) => Status::NoMemory,
     }
 }
 
 /// Runs each line.
+#[tactic(none)]
 fn run<S: Source, K: Sink>(
-    alloc: Global,
-    runner: &mut Runner,
+    runner: &mut ScheduleRunner,
     reader: &mut LineReader,
     source: &mut S,
     sink: &mut K,
 ) -> Status
-    requires stands { StandsWell runner.old [] [] }
-    requires small { IsSmall runner.old }
-    requires start { runner.old.place ≡ 0 }
+    requires stands { HasWritten [] runner.old }
     requires unread { reader.old ≡ record { ahead = []; line = []; number = 0; limit = 16384; ended = false } }
     ensures whole { result ≡ Status.Ok → IfSome (S.left source.old) (λ input. IsAtEnd (S.left source.new) × IsWholeRun (lines_of input) (K.taken sink.old) (K.taken sink.new)) }
     ensures flushed { result ≡ Status.Ok → K.flushed sink.new ≡ K.taken sink.new }
@@ -83,15 +85,15 @@ fn run<S: Source, K: Sink>(
     ensures cut_off { result ≡ Status.ReadFault → Between (S.left source.old) (S.left source.new) (λ input left. StopsAtFault input left (K.taken sink.old) (K.taken sink.new)) }
     ensures write_fault { result ≡ Status.WriteFault → Rose (K.faults sink.old) (K.faults sink.new) }
     ensures long_line { result ≡ Status.Limit Limited.Line → IfSome (S.left source.old) (λ input. StopsAtLong (lines_of input) (K.taken sink.old) (K.taken sink.new)) }
-    ensures many_lines { result ≡ Status.Limit Limited.Lines → IfSome (S.left source.old) (λ input. StopsAtLimit (lines_of input) (K.taken sink.old) (K.taken sink.new)) }
-    ensures no_other_limit { (what : Limited) → result ≡ Status.Limit what → (what ≡ Limited.Line) ⊎ (what ≡ Limited.Lines) }
+    ensures many_lines { result ≡ Status.Limit Limited.Lines → IfSome (S.left source.old) (λ input. StopsAtCount (lines_of input) (K.taken sink.old) (K.taken sink.new)) }
+    ensures limit { (limit : Limit) → result ≡ Status.Limit (limited limit) → IfSome (S.left source.old) (λ input. StopsAtLimit (lines_of input) limit (K.taken sink.old) (K.taken sink.new)) }
     ensures front { IfSome (S.left source.old) (λ input. WritesFront (lines_of input) (K.taken sink.old) (K.taken sink.new)) }
 {
     loop {
         match next_line(reader, source) {
             Ok(true) => {}
             Ok(false) => {
-                if runner.place >= 2 {
+                if runner.may_end() {
                     return Status::Ok;
                 }
                 return Status::BadLine {
@@ -100,7 +102,7 @@ fn run<S: Source, K: Sink>(
             }
             Err(status) => return status,
         }
-        match take_turn(alloc, runner, reader.number(), reader.bytes(), sink) {
+        match take_turn(runner, reader.number(), reader.bytes(), sink) {
             Ok(()) => {}
             Err(status) => return status,
         }

@@ -1,14 +1,11 @@
 use Rattle.std.proofs.Common.{◌≤◌, ◌-◌, ◌≡◌, ◌⊎◌, true}
 use Rattle.std.specs.Io.KnownBytes.{IsAtEnd}
 use Rattle.line_reader.specs.Readers.{still_read}
-use Rattle.one_site.specs.Standing.{IsSmall}
 use Rattle.locus_main.proofs.Runs.{SoFar}
 use Rattle.locus_main.proofs.top.run.Given as goal
 
-abbrev pub invariant-loop-reader : goal.invariant-loop-reader
-invariant-loop-reader g l = record {
-  small : IsSmall l.runner;
-  place : l.runner.place ≤ l.reader.number;
+abbrev pub invariant-loop-runner : goal.invariant-loop-runner
+invariant-loop-runner g l = record {
   limit : l.reader.limit ≡ 16384;
   few : l.reader.number ≤ 1000000;
   source : g.S.Source.faults l.initial.source ≤ g.S.Source.faults l.source;
@@ -18,5 +15,5 @@ invariant-loop-reader g l = record {
   so_far : SoFar l.runner l.reader.number l.reader.ended (g.S.Source.left l.initial.source) (still_read l.reader (g.S.Source.left l.source)) (g.K.Sink.taken l.initial.sink) (g.K.Sink.taken l.sink);
 }
 
-abbrev pub decreases-loop-reader : goal.decreases-loop-reader
-decreases-loop-reader g l = 1000000 - l.reader.number
+abbrev pub decreases-loop-runner : goal.decreases-loop-runner
+decreases-loop-runner g l = 1000000 - l.reader.number

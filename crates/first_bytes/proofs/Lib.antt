@@ -1,2 +1,0 @@
-pub mod Overwriting
-pub mod Paging

@@ -1,3 +1,0 @@
-mod Numbers
-mod HexWords
-mod Spellings

@@ -1,0 +1,10 @@
+use Rattle.std.proofs.Common.{List, Option, sym, ap, subst, ◌++◌, [], ℕ, ◌∙◌}
+use Rattle.schedule_run.specs.Standing.{StandsAs}
+use Rattle.schedule_run.proofs.Lasting.{nothing_told}
+use Rattle.world.specs.declared.world.World.{World}
+use Rattle.schedule_run.proofs.runner.ScheduleRunner.fresh.Goals as goal
+
+pub returns-in-None : goal.returns-in-None
+returns-in-None c = λ lines taken h.
+    let s = subst (λ (w : Option World). StandsAs lines taken w) c.in-None.is h.world in
+    nothing_told lines s.0 ∙ sym (ap (λ (t : List ℕ). t ++ []) s.1)

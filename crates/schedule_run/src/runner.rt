@@ -1,0 +1,138 @@
+ghost use Rattle.std.specs.Prelude.{◌≡◌, ℕ, ◌+◌, List, [], ◌∷◌, ◌++◌, Err, length, IfOk, OnOk};
+ghost use Rattle.schedule_lines.specs.Cluster.{config_of, is_whole};
+ghost use Rattle.schedule_lines.specs.Schedule.{Reads};
+ghost use Rattle.schedule_lines.specs.declared.line.ScheduleLine.{ScheduleLine};
+ghost use Rattle.schedule_lines.specs.declared.line.ScheduleLine.TheVariants.{Event};
+ghost use Rattle.the_run.specs.Worlds.{first_world};
+ghost use Rattle.world.specs.States.{state_of};
+ghost use Rattle.world.specs.Shown.{Shows};
+ghost use Rattle.the_run.specs.Runs.{run, printed};
+ghost use Rattle.run_book.specs.Ledgers.{limit_in};
+ghost use Rattle.schedule_run.specs.Standing.{StandsAs, ShowsRun, HasRun, RunsNext};
+
+use crate::RunFault;
+use line_text::{LineRead, ScheduleReader};
+use locus_ids::Config;
+use run_book::Passed;
+use schedule_lines::Line;
+use std::alloc::Global;
+use world::World;
+
+/// Runs a schedule line by line.
+#[derive(Drop)]
+pub struct ScheduleRunner {
+    alloc: Global,
+    reader: ScheduleReader,
+    world: Option<World>,
+}
+
+/// The world before the first event line of a schedule.
+fn first_world(alloc: Global, config: &Config) -> Result<World, RunFault>
+    ensures made { IfOk result (λ made. Shows config.now [] (first_world config.now) (state_of made)) }
+    ensures good { result ≡ Err RunFault.Bad → ⊥ }
+{
+    let config = config.copy()?;
+    let world = World::new(alloc, config)?;
+    Ok(world)
+}
+
+impl ScheduleRunner {
+    /// Before the first line.
+    pub fn new(alloc: Global) -> ScheduleRunner
+        ensures { HasRun [] [] result }
+    {
+        ScheduleRunner {
+            alloc,
+            reader: ScheduleReader::new(alloc),
+            world: None,
+        }
+    }
+
+    /// Runs the next line, with its number from 1. Then what the trace tells of the lines so far is what was taken before, and the
+    /// fresh text. A line that may not stand there changes nothing.
+    pub fn run_line(&mut self, number: u32, bytes: &[u8]) -> Result<(), RunFault>
+        ensures ran { (lines : List ScheduleLine) (taken : List ℕ) → number ≡ length lines + 1 → HasRun lines taken self.old → OnOk result (RunsNext lines bytes.now taken self.new) }
+        ensures bad { (lines : List ScheduleLine) (taken : List ℕ) → HasRun lines taken self.old → result ≡ Err RunFault.Bad → (l : ScheduleLine) → Reads lines bytes.now l → ⊥ }
+        ensures kept { result ≡ Err RunFault.Bad → self.new ≡ self.old }
+    {
+        match self.reader.read(self.alloc, bytes)? {
+            LineRead::Passed => Ok(()),
+            LineRead::Header => Ok(()),
+            LineRead::Event { line } => self.happen(number, line),
+        }
+    }
+
+    /// The first event line makes the world.
+    fn begin(&mut self) -> Result<(), RunFault>
+        ensures reader { OnOk result (self.new.reader ≡ self.old.reader) }
+        ensures world { (lines : List ScheduleLine) (taken : List ℕ) → self.old.reader.header.config ≡ config_of lines → StandsAs lines taken self.old.world → OnOk result (ShowsRun lines taken self.new.world) }
+        ensures good { result ≡ Err RunFault.Bad → ⊥ }
+    {
+        if self.world.is_none() {
+            self.world = Some(first_world(self.alloc, &self.reader.header.config)?);
+        }
+        Ok(())
+    }
+
+    /// Does an event line in the world.
+    fn act(&mut self, number: u32, line: Line) -> Result<(), RunFault>
+        ensures reader { OnOk result (self.new.reader ≡ self.old.reader) }
+        ensures world { (lines : List ScheduleLine) (taken : List ℕ) → number ≡ length lines + 1 → ShowsRun lines taken self.old.world → OnOk result (StandsAs (lines ++ Event line ∷ []) taken self.new.world) }
+        ensures good { result ≡ Err RunFault.Bad → ⊥ }
+    {
+        match &mut self.world {
+            Some(world) => {
+                world.step(number, line)?;
+                Ok(())
+            }
+            None => Err(RunFault::NoMemory),
+        }
+    }
+
+    /// An event line happens in the world, which the first of them makes.
+    fn happen(&mut self, number: u32, line: Line) -> Result<(), RunFault>
+        ensures reader { OnOk result (self.new.reader ≡ self.old.reader) }
+        ensures world { (lines : List ScheduleLine) (taken : List ℕ) → number ≡ length lines + 1 → self.old.reader.header.config ≡ config_of lines → StandsAs lines taken self.old.world → OnOk result (StandsAs (lines ++ Event line ∷ []) taken self.new.world) }
+        ensures good { result ≡ Err RunFault.Bad → ⊥ }
+    {
+        self.begin()?;
+        self.act(number, line)
+    }
+
+    /// The header is whole, so that the schedule may end here.
+    pub fn may_end(&self) -> bool
+        ensures { (lines : List ScheduleLine) (taken : List ℕ) → HasRun lines taken self.now → result ≡ is_whole (config_of lines) }
+    {
+        self.reader.header.whole
+    }
+
+    /// The text of the trace that nobody has taken yet.
+    pub fn fresh(&self) -> &[u8]
+        ensures { (lines : List ScheduleLine) (taken : List ℕ) → HasRun lines taken self.now → printed (run lines) ≡ taken ++ result.now }
+    {
+        match &self.world {
+            Some(world) => world.fresh(),
+            None => &[],
+        }
+    }
+
+    /// The text is taken.
+    pub fn take_fresh(&mut self)
+        ensures { (lines : List ScheduleLine) (taken : List ℕ) → HasRun lines taken self.old → HasRun lines (printed (run lines)) self.new }
+    {
+        match &mut self.world {
+            Some(world) => world.take_fresh(),
+            None => {}
+        }
+    }
+
+    /// The limit that an event of these lines passed: then the run has ended with the world before that event.
+    pub fn passed(&self) -> Option<Passed>
+        ensures { (lines : List ScheduleLine) (taken : List ℕ) → HasRun lines taken self.now → limit_in result ≡ (run lines).over }
+    {
+        match &self.world {
+            Some(world) => world.passed(),
+            None => None,
+        }
+    }
+}

@@ -1,0 +1,5 @@
+pub mod Places
+pub mod Counts
+pub mod Views
+pub mod Standing
+pub mod Asking

@@ -1,0 +1,13 @@
+use trace_book::Call;
+use wire_messages::Packet;
+
+/// An event of a site.
+#[derive(Debug, Drop)]
+pub enum SiteEvent {
+    Call { process: u8, call: Call },
+    Receive { packet: Packet },
+    Tick,
+    Part,
+    Merge,
+    GiveUp,
+}

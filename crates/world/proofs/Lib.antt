@@ -1,0 +1,12 @@
+pub mod Tables
+pub mod Changes
+pub mod Events
+pub mod Acting
+pub mod Over
+pub mod Asking
+pub mod Letters
+pub mod Rounds
+pub mod First
+pub mod LineLaws
+pub mod Reading
+pub mod Pending

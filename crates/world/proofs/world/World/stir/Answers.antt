@@ -1,0 +1,8 @@
+use Rattle.the_run.specs.Worlds.{place_at, happens}
+use Rattle.the_run.specs.Runs.{is_stopped}
+use Rattle.site_place.specs.Places.{event_of}
+use Rattle.world.proofs.Asking.{unless_asked}
+use Rattle.world.proofs.world.World.stir.Goals as goal
+
+pub returns : goal.returns
+returns c = unless_asked c.args.line (λ w. is_stopped (place_at w c.args.site)) (λ k w. happens k c.args.line c.args.site (event_of c.args.event) w) c.is_stopped-is_void.result _ _ c.is_stopped-is_void.ensures c.in_ok-happen_unless.ensures

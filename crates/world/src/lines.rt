@@ -1,0 +1,158 @@
+ghost use Rattle.std.specs.Prelude.{not, OnOk};
+ghost use Rattle.role_steps.specs.Views.{Calls};
+ghost use Rattle.the_run.specs.Worlds.{place_at, is_cut, arms, happens};
+ghost use Rattle.the_run.specs.Runs.{is_stopped, is_in_no_epoch, is_busy, unless_void, stops_line, boots_line, cuts_circuit, mends_circuit, act};
+ghost use Rattle.site_place.specs.Places.{event_of, armed_by};
+ghost use Rattle.world.specs.States.{state_of};
+ghost use Rattle.world.specs.Shown.{FollowsWithin};
+
+use crate::{World, WorldFault};
+use locus_ids::SiteId;
+use packet_order::Dispatch;
+use schedule_lines::Line;
+use site_place::{CallCut, DiskScript, SiteEvent};
+use trace_book::Call;
+
+impl World {
+    /// A call of a process, void where the process is busy.
+    fn call(&mut self, line: u32, site: SiteId, process: u8, call: Call) -> Result<(), WorldFault>
+        ensures { OnOk result (FollowsWithin (λ c w. unless_void line (is_busy process (place_at w site)) (happens c line site (Calls process call)) w) (state_of self.old) (state_of self.new)) }
+    {
+        let is_void = self.is_busy(site, process);
+        self.happen_unless(line, is_void, site, SiteEvent::Call { process, call })?;
+        Ok(())
+    }
+
+    /// A tick or a merge, void where the site doesn't run.
+    fn stir(&mut self, line: u32, site: SiteId, event: SiteEvent) -> Result<(), WorldFault>
+        ensures { OnOk result (FollowsWithin (λ c w. unless_void line (is_stopped (place_at w site)) (happens c line site (event_of event)) w) (state_of self.old) (state_of self.new)) }
+    {
+        let is_void = self.is_stopped(site);
+        self.happen_unless(line, is_void, site, event)?;
+        Ok(())
+    }
+
+    /// A parting or a giving up, void where the site is in no epoch.
+    fn leave(&mut self, line: u32, site: SiteId, event: SiteEvent) -> Result<(), WorldFault>
+        ensures { OnOk result (FollowsWithin (λ c w. unless_void line (is_in_no_epoch (place_at w site)) (happens c line site (event_of event)) w) (state_of self.old) (state_of self.new)) }
+    {
+        let is_void = self.is_in_no_epoch(site);
+        self.happen_unless(line, is_void, site, event)?;
+        Ok(())
+    }
+
+    /// The site stops, void where it doesn't run.
+    fn stop(&mut self, line: u32, site: SiteId) -> Result<(), WorldFault>
+        ensures { OnOk result (FollowsWithin (λ c w. stops_line line site (place_at w site) w) (state_of self.old) (state_of self.new)) }
+    {
+        let at = usize::from(site.get()) - 1;
+        if at >= self.places.len() {
+            self.void(line)?;
+            return Ok(());
+        }
+        if self.places[at].is_stopped() {
+            self.void(line)?;
+            return Ok(());
+        }
+        let mut out = Dispatch::new(self.alloc);
+        self.places[at].stop(site, &mut out)?;
+        self.note(line, &out)?;
+        Ok(())
+    }
+
+    /// The site boots, void where it runs or isn't there.
+    fn boot(&mut self, line: u32, site: SiteId) -> Result<(), WorldFault>
+        ensures { OnOk result (FollowsWithin (λ c w. boots_line line site (place_at w site) w) (state_of self.old) (state_of self.new)) }
+    {
+        let at = usize::from(site.get()) - 1;
+        if at >= self.places.len() {
+            self.void(line)?;
+            return Ok(());
+        }
+        if !self.places[at].is_stopped() {
+            self.void(line)?;
+            return Ok(());
+        }
+        let mut out = Dispatch::new(self.alloc);
+        self.places[at].start(site, &mut out)?;
+        self.note(line, &out)?;
+        Ok(())
+    }
+
+    /// A script is armed, in place of one that is.
+    fn arm(&mut self, script: DiskScript)
+        ensures { FollowsWithin (λ c w. arms (armed_by script) w) (state_of self.old) (state_of self.new) }
+    {
+        let at = usize::from(script.site.get()) - 1;
+        if at < self.places.len() {
+            self.places[at].arm(script);
+        }
+    }
+
+    /// The circuit is cut, void where it is.
+    fn down(&mut self, line: u32, one: SiteId, other: SiteId) -> Result<(), WorldFault>
+        ensures { OnOk result (FollowsWithin (λ c w. unless_void line (is_cut w one other) (cuts_circuit one other) w) (state_of self.old) (state_of self.new)) }
+    {
+        if self.cuts.is_cut(one, other) {
+            self.void(line)?;
+            return Ok(());
+        }
+        self.cuts.cut(one, other)?;
+        Ok(())
+    }
+
+    /// The circuit is mended, void where it isn't cut.
+    fn up(&mut self, line: u32, one: SiteId, other: SiteId) -> Result<(), WorldFault>
+        ensures { OnOk result (FollowsWithin (λ c w. unless_void line (not (is_cut w one other)) (mends_circuit one other) w) (state_of self.old) (state_of self.new)) }
+    {
+        if !self.cuts.is_cut(one, other) {
+            self.void(line)?;
+            return Ok(());
+        }
+        self.cuts.mend(one, other);
+        Ok(())
+    }
+
+    /// Does a line, where no limit was passed.
+    pub(crate) fn act(&mut self, number: u32, line: Line) -> Result<(), WorldFault>
+        ensures { OnOk result (FollowsWithin (λ c w. act c number line w) (state_of self.old) (state_of self.new)) }
+    {
+        match line {
+            Line::Call {
+                site,
+                process,
+                call,
+            } => self.call(number, site, process, call),
+            Line::Deliver { packet } => self.deliver(number, packet),
+            Line::Lose { packet } => self.lose(number, packet),
+            Line::Tick { site } => self.stir(number, site, SiteEvent::Tick),
+            Line::Down { one, other } => self.down(number, one, other),
+            Line::Up { one, other } => self.up(number, one, other),
+            Line::Part { site } => self.leave(number, site, SiteEvent::Part),
+            Line::Merge { site } => self.stir(number, site, SiteEvent::Merge),
+            Line::GiveUp { site } => self.leave(number, site, SiteEvent::GiveUp),
+            Line::Stop { site } => self.stop(number, site),
+            Line::ArmStop { site, calls, leave } => {
+                let how = CallCut::Stops { leave };
+                self.arm(DiskScript {
+                    site,
+                    left: calls,
+                    how,
+                });
+                Ok(())
+            }
+            Line::ArmFail { site, calls } => {
+                let how = CallCut::Fails;
+                self.arm(DiskScript {
+                    site,
+                    left: calls,
+                    how,
+                });
+                Ok(())
+            }
+            Line::Boot { site } => self.boot(number, site),
+            Line::Settle { most } => self.settle(number, most),
+            Line::Pending => self.list_pending(number),
+        }
+    }
+}

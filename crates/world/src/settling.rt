@@ -1,0 +1,53 @@
+ghost use Rattle.std.specs.Prelude.{OnOk};
+ghost use Rattle.role_steps.specs.Views.{all_sites};
+ghost use Rattle.the_run.specs.Runs.{ticks_to, delivers, settles};
+ghost use Rattle.world.specs.States.{state_of};
+ghost use Rattle.world.specs.Shown.{Follows, FollowsWithin};
+
+use crate::{World, WorldFault};
+use locus_ids::SiteId;
+use site_place::SiteEvent;
+use trace_book::Record;
+
+impl World {
+    /// Each running site ticks, in ascending order.
+    fn tick_all(&mut self, line: u32) -> Result<(), WorldFault>
+        ensures { OnOk result (Follows (λ c w. ticks_to c line all_sites w) (state_of self.old) (state_of self.new)) }
+    {
+        for at in 0..16 {
+            let Some(site) = SiteId::new(at + 1) else {
+                return Err(WorldFault::NoMemory);
+            };
+            self.happen(line, site, SiteEvent::Tick)?;
+        }
+        Ok(())
+    }
+
+    /// Packets are delivered, the lowest-numbered first, so often at most as the budget says.
+    fn deliver_all(&mut self, line: u32, budget: u32) -> Result<(), WorldFault>
+        ensures { OnOk result (Follows (λ c w. delivers c line budget w) (state_of self.old) (state_of self.new)) }
+    {
+        let mut left = budget;
+        while left > 0 {
+            let Some(number) = self.next() else {
+                return Ok(());
+            };
+            self.arrive(line, number)?;
+            left -= 1;
+        }
+        if self.next().is_some() {
+            self.tell(line, Record::Budget)?;
+            return Ok(());
+        }
+        Ok(())
+    }
+
+    /// A round: each running site ticks, and then packets are delivered.
+    pub(crate) fn settle(&mut self, line: u32, budget: u32) -> Result<(), WorldFault>
+        ensures { OnOk result (FollowsWithin (λ c w. settles c line budget w) (state_of self.old) (state_of self.new)) }
+    {
+        self.tick_all(line)?;
+        self.deliver_all(line, budget)?;
+        Ok(())
+    }
+}
