@@ -201,8 +201,8 @@ Ends-front r n d a b t u s = if_some a _ _ (Between-read a b s.bytes s.read) (λ
 
 -- A line whose run passes a limit.
 pub Ends-limit : (r : ScheduleRunner) (r' : ScheduleRunner) (n : ℕ) (m : ℕ) (d : Bool) (line : List ℕ) (limit : Limit) (a b c t u v : Option (List ℕ)) →
-    SoFar r n d a b t u → m ≡ n + 1 → Between b c (ReadsLine line) → Turns r m line (Some limit) r' u v → IfSome a (λ input. StopsAtLimit (lines_of input) limit t v)
-Ends-limit r r' n m d line limit a b c t u v s e reads turn = if_some a _ _ (Between-rest a b c s.bytes (ReadsLine line) s.read reads) (λ input h.
+    SoFar r n d a b t u → m ≡ n + 1 → m ≤ 1000000 → length line ≤ 16384 → Between b c (ReadsLine line) → Turns r m line (Some limit) r' u v → IfSome a (λ input. StopsAtLimit (lines_of input) limit t v)
+Ends-limit r r' n m d line limit a b c t u v s e few short reads turn = if_some a _ _ (Between-rest a b c s.bytes (ReadsLine line) s.read reads) (λ input h.
     let goes = turn s.lines (next r n m d a b t u s e) s.stands in
     record {
       earlier = s.bytes;
@@ -213,6 +213,7 @@ Ends-limit r r' n m d line limit a b c t u v s e reads turn = if_some a _ _ (Bet
       line = goes.line;
       schedule = s.schedule;
       reads = goes.reads;
+      small = IsWithinLimits-push s.bytes line m s.within (omega (arith, s.counted, e)) few short;
       within = s.writes.within;
       passes = goes.passes;
       written = longer _ _ goes.fresh t u v s.writes.written goes.written goes.told;

@@ -85,6 +85,7 @@ pub record StopsAtLimit (all : List (List ℕ)) (limit : Limit) (before after : 
   pub line : ScheduleLine
   pub schedule : IsSchedule earlier lines
   pub reads : Reads lines bytes line
+  pub small : IsWithinLimits (earlier ++ bytes ∷ [])
   pub within : (run lines).over ≡ None
   pub passes : (run (lines ++ line ∷ [])).over ≡ Some limit
   pub written : Appends before after (printed (run (lines ++ line ∷ [])))

@@ -122,7 +122,10 @@ pub returns-in-Err-take_turn-clause-limit : goal.returns-in-Err-take_turn-clause
 returns-in-Err-take_turn-clause-limit g c = λ limit e.
     let counted : c.next_line.new.reader.number ≡ c.loop-runner.reader.number + 1 = c.in-Ok-true.ensures.counted (ap Ok c.in-Ok-true.field-0-test) in
     let P : List ℕ → Type 0 = λ p. IfTold c.loop-runner.reader c.next_line.new.reader (g.S.Source.left c.loop-runner.source) (g.S.Source.left c.next_line.new.source) (ReadsLine p) in
+    let Short : List ℕ → Type 0 = λ p. length p ≤ 16384 in
+    let short : length c.next_line.new.reader.line ≤ 16384 = omega (arith, c.in-Ok-true.ensures.short (ap Ok c.in-Ok-true.field-0-test), c.loop-runner.invariant.limit) in
     Ends-limit _ _ _ _ _ _ limit _ _ _ _ _ _ c.loop-runner.invariant.so_far (c.number-in-loop-runner.ensures ∙ counted)
+    (omega (arith, c.number-in-loop-runner.ensures, c.in-Ok-true.ensures.few)) (subst Short (sym c.bytes.ensures) short)
     (subst P (sym c.bytes.ensures) (c.in-Ok-true.ensures.line (ap Ok c.in-Ok-true.field-0-test)))
     (λ lines counts stands. c.in-Err-take_turn.ensures.limit lines limit counts stands (ap Err e))
 
