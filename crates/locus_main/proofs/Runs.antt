@@ -13,7 +13,8 @@ use Rattle.the_run.specs.Worlds.{Limit}
 use Rattle.the_run.specs.Runs.{run, printed}
 use Rattle.schedule_run.specs.declared.runner.ScheduleRunner.{ScheduleRunner}
 use Rattle.line_reader.specs.Reading.{lines_of, has_feed, to_read, Between, ReadsLine, EndsInFeed, IsLong, first_line, after_line}
-use Rattle.locus_main.specs.Runs.{IsWithinLimits, Writes, AreRun, IsWholeRun, StopsAtBad, StopsAtLong, StopsAtCount, StopsAtFault, StopsAtLimit, WritesFront}
+use Rattle.locus_main.specs.Runs.{IsWithinLimits, Writes, AreRun, IsWholeRun, StopsAtBad, StopsAtLong, StopsAtCount, StopsAtFault, StopsAtLimit, StopsAtWorld, WritesFront}
+use Rattle.schedule_run.specs.Standing.{MayStand}
 use Rattle.locus_main.specs.Turns.{HasWritten, Refuses, Goes, IsCutShort}
 use Rattle.locus_main.proofs.Schedules.{IsSchedule-push, IsSchedule-length, IsWithinLimits-push}
 use Rattle.locus_main.proofs.Told.{ReadsLines, Appends-nothing, Appends-then, AppendsFront-whole, AppendsFront-kept, AppendsFront-then, Between-none, Between-line, Between-rest, Between-read, Between-end, IsAllRead, at_end, if_some}
@@ -217,6 +218,24 @@ Ends-limit r r' n m d line limit a b c t u v s e few short reads turn = if_some 
       within = s.writes.within;
       passes = goes.passes;
       written = longer _ _ goes.fresh t u v s.writes.written goes.written goes.told;
+    })
+
+-- A line that the world could not do.
+pub Ends-world : (r : ScheduleRunner) (n : ℕ) (m : ℕ) (d : Bool) (line : List ℕ) (a b c t u : Option (List ℕ)) →
+    SoFar r n d a b t u → m ≡ n + 1 → m ≤ 1000000 → length line ≤ 16384 → Between b c (ReadsLine line) → ((lines : List ScheduleLine) → HasWritten lines r → MayStand lines line) → IfSome a (λ input. StopsAtWorld (lines_of input) t u)
+Ends-world r n m d line a b c t u s e few short reads may = if_some a _ _ (Between-rest a b c s.bytes (ReadsLine line) s.read reads) (λ input h.
+    let stands = may s.lines s.stands in
+    record {
+      earlier = s.bytes;
+      bytes = line;
+      later = lines_of h.1;
+      split = h.2 ∙ ap (λ ls. s.bytes ++ ls) h.3.lines;
+      lines = s.lines;
+      line = stands.line;
+      schedule = s.schedule;
+      reads = stands.reads;
+      small = IsWithinLimits-push s.bytes line m s.within (omega (arith, s.counted, e)) few short;
+      writes = s.writes;
     })
 
 -- Whatever comes in a turn, a front is written.

@@ -10,6 +10,7 @@ use Rattle.schedule_lines.specs.declared.line.ScheduleLine.{ScheduleLine}
 use Rattle.the_run.specs.Worlds.{Limit}
 use Rattle.the_run.specs.Worlds as bound
 use Rattle.the_run.specs.Runs.{run, printed}
+use Rattle.world.specs.declared.fault.WorldFault.{WorldFault}
 use Rattle.world.specs.declared.fault.WorldFault.TheVariants as world
 use Rattle.schedule_run.specs.declared.fault.RunFault.{RunFault}
 use Rattle.schedule_run.specs.declared.fault.RunFault.TheVariants.{Bad, NoMemory, World}
@@ -57,6 +58,12 @@ no_write_is (World world.NoMemory) n e = cc
 no_write_is (World world.UnfitPacket) n e = cc
 no_write_is (World world.UnfitValue) n e = cc
 no_write_is (World world.Disk) n e = cc
+
+-- only a fault of the world ends a run as one
+pub world_is : (f : RunFault) (n : ℕ) → status_of_line f n ≡ status.WorldFault → (x : WorldFault) × (f ≡ World x)
+world_is Bad n e = absurd (cc)
+world_is NoMemory n e = absurd (cc)
+world_is (World x) n e = (x, refl)
 
 -- the limits of a run end a turn
 pub limits_end : (l : Limit) → ends_turn (status.Limit (limited l)) ≡ true
@@ -140,6 +147,10 @@ pub write_no_line : (f : WriteFault) (line : ℕ) → status_of f ≡ status.Bad
 write_no_line write.Failed line e = cc
 write_no_line write.NoMemory line e = cc
 
+pub write_no_world : (f : WriteFault) → status_of f ≡ status.WorldFault → ⊥
+write_no_world write.Failed e = cc
+write_no_world write.NoMemory e = cc
+
 pub write_no_limit : (f : WriteFault) (what : Limited) → status_of f ≡ status.Limit what → ⊥
 write_no_limit write.Failed what e = cc
 write_no_limit write.NoMemory what e = cc
@@ -165,6 +176,12 @@ stopped_no_line o s line h e = no_line_is (limited h.0) line (sym h.2 ∙ e)
 
 pub stopped_no_write : (o : Option Limit) (s : Status) → Stopped o s → s ≡ status.WriteFault → ⊥
 stopped_no_write o s h e = no_write_limit (limited h.0) (sym h.2 ∙ e)
+
+no_world_limit : (what : Limited) → status.Limit what ≡ status.WorldFault → ⊥
+no_world_limit what e = cc
+
+pub stopped_no_world : (o : Option Limit) (s : Status) → Stopped o s → s ≡ status.WorldFault → ⊥
+stopped_no_world o s h e = no_world_limit (limited h.0) (sym h.2 ∙ e)
 
 -- ---- answers ----
 

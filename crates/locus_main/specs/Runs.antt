@@ -90,6 +90,19 @@ pub record StopsAtLimit (all : List (List ℕ)) (limit : Limit) (before after : 
   pub passes : (run (lines ++ line ∷ [])).over ≡ Some limit
   pub written : Appends before after (printed (run (lines ++ line ∷ [])))
 
+-- The program stops at a line that the world could not do, though it may stand there. The run of the lines before it is written.
+pub record StopsAtWorld (all : List (List ℕ)) (before after : Option (List ℕ)) : Type 0 where
+  pub earlier : List (List ℕ)
+  pub bytes : List ℕ
+  pub later : List (List ℕ)
+  pub split : all ≡ earlier ++ bytes ∷ later
+  pub lines : List ScheduleLine
+  pub line : ScheduleLine
+  pub schedule : IsSchedule earlier lines
+  pub reads : Reads lines bytes line
+  pub small : IsWithinLimits (earlier ++ bytes ∷ [])
+  pub writes : Writes lines before after
+
 -- a front of the text of the run of some first lines is written
 pub record WritesFront (all : List (List ℕ)) (before after : Option (List ℕ)) : Type 0 where
   pub earlier : List (List ℕ)

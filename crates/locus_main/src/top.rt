@@ -7,7 +7,7 @@ ghost use Rattle.the_run.specs.Worlds.{Limit};
 ghost use Rattle.the_run.specs.Runs.{run as run_of};
 ghost use Rattle.locus_main.specs.Codes.{ends_written, limited};
 ghost use Rattle.locus_main.specs.Turns.{HasWritten};
-ghost use Rattle.locus_main.specs.Runs.{IsAccepted, IsWholeRun, StopsAtBad, StopsAtLong, StopsAtCount, StopsAtFault, StopsAtLimit, WritesFront};
+ghost use Rattle.locus_main.specs.Runs.{IsAccepted, IsWholeRun, StopsAtBad, StopsAtLong, StopsAtCount, StopsAtFault, StopsAtLimit, StopsAtWorld, WritesFront};
 
 use crate::lines::next_line;
 use crate::status::{Limited, Status};
@@ -45,6 +45,7 @@ pub fn locus<S: Source, K: Sink>(
     ensures long_line { result ≡ Status.Limit Limited.Line → IfSome (S.left source.old) (λ input. StopsAtLong (lines_of input) (K.taken sink.old) (K.taken sink.new)) }
     ensures many_lines { result ≡ Status.Limit Limited.Lines → IfSome (S.left source.old) (λ input. StopsAtCount (lines_of input) (K.taken sink.old) (K.taken sink.new)) }
     ensures limit { (limit : Limit) → result ≡ Status.Limit (limited limit) → IfSome (S.left source.old) (λ input. StopsAtLimit (lines_of input) limit (K.taken sink.old) (K.taken sink.new)) }
+    ensures world_fault { result ≡ Status.WorldFault → IfSome (S.left source.old) (λ input. StopsAtWorld (lines_of input) (K.taken sink.old) (K.taken sink.new)) }
 
     // Whatever comes, a front of the text of the run of some first lines is written.
     ensures front { IfSome (S.left source.old) (λ input. WritesFront (lines_of input) (K.taken sink.old) (K.taken sink.new)) }
@@ -87,6 +88,7 @@ fn run<S: Source, K: Sink>(
     ensures long_line { result ≡ Status.Limit Limited.Line → IfSome (S.left source.old) (λ input. StopsAtLong (lines_of input) (K.taken sink.old) (K.taken sink.new)) }
     ensures many_lines { result ≡ Status.Limit Limited.Lines → IfSome (S.left source.old) (λ input. StopsAtCount (lines_of input) (K.taken sink.old) (K.taken sink.new)) }
     ensures limit { (limit : Limit) → result ≡ Status.Limit (limited limit) → IfSome (S.left source.old) (λ input. StopsAtLimit (lines_of input) limit (K.taken sink.old) (K.taken sink.new)) }
+    ensures world_fault { result ≡ Status.WorldFault → IfSome (S.left source.old) (λ input. StopsAtWorld (lines_of input) (K.taken sink.old) (K.taken sink.new)) }
     ensures front { IfSome (S.left source.old) (λ input. WritesFront (lines_of input) (K.taken sink.old) (K.taken sink.new)) }
 {
     loop {

@@ -4,6 +4,7 @@ ghost use Rattle.locus_io.specs.Causes.{Rose, AppendsFront};
 ghost use Rattle.schedule_lines.specs.declared.line.ScheduleLine.{ScheduleLine};
 ghost use Rattle.the_run.specs.Worlds.{Limit};
 ghost use Rattle.run_book.specs.Ledgers.{limit_in};
+ghost use Rattle.schedule_run.specs.Standing.{MayStand};
 ghost use Rattle.locus_main.specs.Codes.{ends_written, limited};
 ghost use Rattle.locus_main.specs.Turns.{status_of_line, ends_turn, HasWritten, Refuses, Goes, IsCutShort};
 
@@ -64,6 +65,7 @@ pub fn take_turn<K: Sink>(
     ensures limit { (lines : List ScheduleLine) (limit : Limit) → number ≡ length lines + 1 → HasWritten lines runner.old → result ≡ Err (Status.Limit (limited limit)) → Goes lines bytes.now (Some limit) runner.new (K.taken sink.old) (K.taken sink.new) }
     ensures flushed { OnOk result (K.flushed sink.new ≡ K.taken sink.new) }
     ensures bad { (lines : List ScheduleLine) (line : ℕ) → HasWritten lines runner.old → result ≡ Err (Status.BadLine line) → (line ≡ number) × Refuses lines bytes.now × (sink.new ≡ sink.old) }
+    ensures world { (lines : List ScheduleLine) → HasWritten lines runner.old → result ≡ Err Status.WorldFault → MayStand lines bytes.now × (sink.new ≡ sink.old) }
     ensures err { (lines : List ScheduleLine) → number ≡ length lines + 1 → HasWritten lines runner.old → OnErr result (IsCutShort lines bytes.now (K.taken sink.old) (K.taken sink.new)) }
     ensures failed { result ≡ Err Status.WriteFault → Rose (K.faults sink.old) (K.faults sink.new) }
     ensures only { IfErr result (λ status. ends_turn status ≡ true) }

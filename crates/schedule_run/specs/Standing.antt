@@ -25,6 +25,11 @@ pub record HasRun (lines : List ScheduleLine) (taken : List ℕ) (r : ScheduleRu
   pub reader : r.reader ≡ reader_after lines
   pub world : StandsAs lines taken r.world
 
+-- the bytes are a line that may stand after these lines
+pub record MayStand (lines : List ScheduleLine) (bytes : List ℕ) : Type 0 where
+  pub line : ScheduleLine
+  pub reads : Reads lines bytes line
+
 -- the bytes are a line that may stand after these lines, and the runner is then the one after it
 pub record RunsNext (lines : List ScheduleLine) (bytes taken : List ℕ) (new : ScheduleRunner) : Type 0 where
   pub line : ScheduleLine

@@ -19,9 +19,10 @@ pub enum RunFault {
 impl From<LineFault> for RunFault {
     ghost use Rattle.std.specs.Prelude.{◌≡◌};
     ghost use Rattle.line_text.specs.declared.fault.LineFault.TheVariants as line;
-    ghost use Rattle.schedule_run.specs.declared.fault.RunFault.TheVariants.{Bad};
+    ghost use Rattle.world.specs.declared.fault.WorldFault.{WorldFault};
+    ghost use Rattle.schedule_run.specs.declared.fault.RunFault.TheVariants.{Bad, World};
 
-    ghost from_gives = { λ fault made. made ≡ Bad → fault ≡ line.Bad };
+    ghost from_gives = { λ fault made. (made ≡ Bad → fault ≡ line.Bad) × ((f : WorldFault) → made ≡ World f → ⊥) };
 
     fn from(fault: LineFault) -> RunFault {
         match fault {

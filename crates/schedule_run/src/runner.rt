@@ -8,7 +8,8 @@ ghost use Rattle.world.specs.States.{state_of};
 ghost use Rattle.world.specs.Shown.{Shows};
 ghost use Rattle.the_run.specs.Runs.{run, printed};
 ghost use Rattle.run_book.specs.Ledgers.{limit_in};
-ghost use Rattle.schedule_run.specs.Standing.{StandsAs, ShowsRun, HasRun, RunsNext};
+ghost use Rattle.world.specs.declared.fault.WorldFault.{WorldFault};
+ghost use Rattle.schedule_run.specs.Standing.{StandsAs, ShowsRun, HasRun, MayStand, RunsNext};
 
 use crate::RunFault;
 use line_text::{LineRead, ScheduleReader};
@@ -49,11 +50,12 @@ impl ScheduleRunner {
     }
 
     /// Runs the next line, with its number from 1. Then what the trace tells of the lines so far is what was taken before, and the
-    /// fresh text. A line that may not stand there changes nothing.
+    /// fresh text. A line that may not stand there changes nothing. The world can't go on at a line alone that may stand there.
     pub fn run_line(&mut self, number: u32, bytes: &[u8]) -> Result<(), RunFault>
         ensures ran { (lines : List ScheduleLine) (taken : List ℕ) → number ≡ length lines + 1 → HasRun lines taken self.old → OnOk result (RunsNext lines bytes.now taken self.new) }
         ensures bad { (lines : List ScheduleLine) (taken : List ℕ) → HasRun lines taken self.old → result ≡ Err RunFault.Bad → (l : ScheduleLine) → Reads lines bytes.now l → ⊥ }
         ensures kept { result ≡ Err RunFault.Bad → self.new ≡ self.old }
+        ensures world { (lines : List ScheduleLine) (taken : List ℕ) (fault : WorldFault) → HasRun lines taken self.old → result ≡ Err (RunFault.World fault) → MayStand lines bytes.now }
     {
         match self.reader.read(self.alloc, bytes)? {
             LineRead::Passed => Ok(()),

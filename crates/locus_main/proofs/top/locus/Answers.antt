@@ -55,6 +55,9 @@ returns-then-not-is_run-clause-untouched g c = λ e. (refl, refl)
 pub returns-then-not-is_run-clause-bad_line : goal.returns-then-not-is_run-clause-bad_line
 returns-then-not-is_run-clause-bad_line g c = λ line e. absurd (cc)
 
+pub returns-then-not-is_run-clause-world_fault : goal.returns-then-not-is_run-clause-world_fault
+returns-then-not-is_run-clause-world_fault g c = λ e. absurd (cc)
+
 pub returns-then-not-is_run-clause-limit : goal.returns-then-not-is_run-clause-limit
 returns-then-not-is_run-clause-limit g c = λ limit e. absurd (cc)
 
@@ -93,6 +96,9 @@ returns-in-Ok-clause-long_line g c = c.run.ensures.long_line
 
 pub returns-in-Ok-clause-many_lines : goal.returns-in-Ok-clause-many_lines
 returns-in-Ok-clause-many_lines g c = c.run.ensures.many_lines
+
+pub returns-in-Ok-clause-world_fault : goal.returns-in-Ok-clause-world_fault
+returns-in-Ok-clause-world_fault g c = c.run.ensures.world_fault
 
 pub returns-in-Ok-clause-limit : goal.returns-in-Ok-clause-limit
 returns-in-Ok-clause-limit g c = c.run.ensures.limit
@@ -138,6 +144,9 @@ returns-in-Err-clause-words g c = (λ e is. absurd (cc), λ no. absurd (no (c.is
 
 pub returns-in-Err-clause-bad_line : goal.returns-in-Err-clause-bad_line
 returns-in-Err-clause-bad_line g c = λ line e. absurd (cc)
+
+pub returns-in-Err-clause-world_fault : goal.returns-in-Err-clause-world_fault
+returns-in-Err-clause-world_fault g c = λ e. absurd (cc)
 
 pub returns-in-Err-clause-limit : goal.returns-in-Err-clause-limit
 returns-in-Err-clause-limit g c = λ limit e. absurd (cc)

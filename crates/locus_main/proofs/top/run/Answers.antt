@@ -4,7 +4,7 @@ use Rattle.std.specs.Io.KnownBytes.{Keeps, IsAtEnd}
 use Rattle.line_reader.specs.Reading.{to_read, ReadsLine, EndsInFeed}
 use Rattle.line_reader.specs.Readers.{Reader, IfTold, nothing_of, still_read}
 use Rattle.locus_main.proofs.Told.{end_by, since_then}
-use Rattle.locus_main.proofs.Runs.{SoFar, Turns, has_lines, SoFar-start, SoFar-next, Ends-whole, Ends-short, Ends-bad, Ends-long, Ends-many, Ends-fault, Ends-front, Ends-limit, Ends-cut}
+use Rattle.locus_main.proofs.Runs.{SoFar, Turns, has_lines, SoFar-start, SoFar-next, Ends-whole, Ends-short, Ends-bad, Ends-long, Ends-many, Ends-fault, Ends-front, Ends-limit, Ends-world, Ends-cut}
 use Rattle.locus_main.specs.Codes.{limited}
 use Rattle.locus_main.specs.declared.status.Status.TheVariants as status
 use Rattle.locus_main.specs.declared.status.Limited.TheVariants as what
@@ -129,6 +129,19 @@ returns-in-Err-take_turn-clause-limit g c = λ limit e.
     (subst P (sym c.bytes.ensures) (c.in-Ok-true.ensures.line (ap Ok c.in-Ok-true.field-0-test)))
     (λ lines counts stands. c.in-Err-take_turn.ensures.limit lines limit counts stands (ap Err e))
 
+pub returns-in-Err-take_turn-clause-world_fault : goal.returns-in-Err-take_turn-clause-world_fault
+returns-in-Err-take_turn-clause-world_fault g c = λ e.
+    let s = c.loop-runner.invariant.so_far in
+    let w = c.in-Err-take_turn.ensures.world s.lines s.stands (ap Err e) in
+    let counted : c.next_line.new.reader.number ≡ c.loop-runner.reader.number + 1 = c.in-Ok-true.ensures.counted (ap Ok c.in-Ok-true.field-0-test) in
+    let P : List ℕ → Type 0 = λ p. IfTold c.loop-runner.reader c.next_line.new.reader (g.S.Source.left c.loop-runner.source) (g.S.Source.left c.next_line.new.source) (ReadsLine p) in
+    let Short : List ℕ → Type 0 = λ p. length p ≤ 16384 in
+    let short : length c.next_line.new.reader.line ≤ 16384 = omega (arith, c.in-Ok-true.ensures.short (ap Ok c.in-Ok-true.field-0-test), c.loop-runner.invariant.limit) in
+    rw w.1 (Ends-world _ _ _ _ _ _ _ _ _ _ s (c.number-in-loop-runner.ensures ∙ counted)
+    (omega (arith, c.number-in-loop-runner.ensures, c.in-Ok-true.ensures.few)) (subst Short (sym c.bytes.ensures) short)
+    (subst P (sym c.bytes.ensures) (c.in-Ok-true.ensures.line (ap Ok c.in-Ok-true.field-0-test)))
+    (λ lines stands. (c.in-Err-take_turn.ensures.world lines stands (ap Err e)).0))
+
 pub returns-in-Err-take_turn-clause-front : goal.returns-in-Err-take_turn-clause-front
 returns-in-Err-take_turn-clause-front g c =
     let counted : c.next_line.new.reader.number ≡ c.loop-runner.reader.number + 1 = c.in-Ok-true.ensures.counted (ap Ok c.in-Ok-true.field-0-test) in
@@ -166,6 +179,9 @@ returns-then-may_end-clause-long_line g c = λ e. absurd (cc)
 pub returns-then-may_end-clause-many_lines : goal.returns-then-may_end-clause-many_lines
 returns-then-may_end-clause-many_lines g c = λ e. absurd (cc)
 
+pub returns-then-may_end-clause-world_fault : goal.returns-then-may_end-clause-world_fault
+returns-then-may_end-clause-world_fault g c = λ e. absurd (cc)
+
 pub returns-then-may_end-clause-limit : goal.returns-then-may_end-clause-limit
 returns-then-may_end-clause-limit g c = λ limit e. absurd (cc)
 
@@ -196,6 +212,9 @@ returns-in-Ok-false-clause-long_line g c = λ e. absurd (cc)
 pub returns-in-Ok-false-clause-many_lines : goal.returns-in-Ok-false-clause-many_lines
 returns-in-Ok-false-clause-many_lines g c = λ e. absurd (cc)
 
+pub returns-in-Ok-false-clause-world_fault : goal.returns-in-Ok-false-clause-world_fault
+returns-in-Ok-false-clause-world_fault g c = λ e. absurd (cc)
+
 pub returns-in-Ok-false-clause-limit : goal.returns-in-Ok-false-clause-limit
 returns-in-Ok-false-clause-limit g c = λ limit e. absurd (cc)
 
@@ -218,6 +237,9 @@ returns-in-Err-clause-read_fault g c = λ e. rose_since _ _ _ c.loop-runner.inva
 
 pub returns-in-Err-clause-write_fault : goal.returns-in-Err-clause-write_fault
 returns-in-Err-clause-write_fault g c = λ e. absurd (reads_not _ status.WriteFault (reads_end _ c.in-Err.ensures.only) refl e)
+
+pub returns-in-Err-clause-world_fault : goal.returns-in-Err-clause-world_fault
+returns-in-Err-clause-world_fault g c = λ e. absurd (reads_not _ status.WorldFault (reads_end _ c.in-Err.ensures.only) refl e)
 
 pub returns-in-Err-clause-limit : goal.returns-in-Err-clause-limit
 returns-in-Err-clause-limit g c = λ limit e. absurd (reads_not _ (status.Limit (limited limit)) (reads_end _ c.in-Err.ensures.only) (no_read_limit limit) e)

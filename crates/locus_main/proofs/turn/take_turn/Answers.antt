@@ -2,7 +2,7 @@ use Rattle.std.proofs.Common.{◌≡◌, Err, Some, None, ap, sym, ◌∙◌, in
 use Rattle.run_book.specs.Ledgers.{limit_in}
 use Rattle.locus_main.specs.Codes.{limited}
 use Rattle.locus_main.proofs.Told.{AppendsFront-whole}
-use Rattle.locus_main.proofs.Turns.{line_is_bad, faults_end, no_limit_is, no_write_is, keeps_same, goes_on, goes_in_part, write_failed, write_no_line, write_no_limit, Stopped, stopped_ends, stopped_at, stopped_no_line, stopped_no_write, same_err, always_err, always_ok, then_ok, then_err, at_err, hands_no_ok, hands_ends, hands_held, hands_is}
+use Rattle.locus_main.proofs.Turns.{world_is, write_no_world, stopped_no_world, line_is_bad, faults_end, no_limit_is, no_write_is, keeps_same, goes_on, goes_in_part, write_failed, write_no_line, write_no_limit, Stopped, stopped_ends, stopped_at, stopped_no_line, stopped_no_write, same_err, always_err, always_ok, then_ok, then_err, at_err, hands_no_ok, hands_ends, hands_held, hands_is}
 use Rattle.locus_main.proofs.turn.take_turn.Goals as goal
 
 -- ---- the line was not done ----
@@ -14,6 +14,11 @@ pub returns-in-Err-clause-bad : goal.returns-in-Err-clause-bad
 returns-in-Err-clause-bad g c = λ lines line stands e.
     let b = line_is_bad c.in-Err.fault c.args.number line (sym c.status_of.ensures ∙ same_err _ _ e) in
     (b.1, c.run_line.ensures.bad lines _ stands (c.in-Err.is ∙ ap Err b.0), refl)
+
+pub returns-in-Err-clause-world : goal.returns-in-Err-clause-world
+returns-in-Err-clause-world g c = λ lines stands e.
+    let w = world_is c.in-Err.fault c.args.number (sym c.status_of.ensures ∙ same_err _ _ e) in
+    (c.run_line.ensures.world lines _ w.0 stands (c.in-Err.is ∙ ap Err w.1), refl)
 
 pub returns-in-Err-clause-err : goal.returns-in-Err-clause-err
 returns-in-Err-clause-err g c = λ lines counts stands. inl (keeps_same _)
@@ -43,6 +48,9 @@ returns-in_err-send-clause-flushed g c = hands_no_ok _ c.from_residual.result c.
 
 pub returns-in_err-send-clause-bad : goal.returns-in_err-send-clause-bad
 returns-in_err-send-clause-bad g c = λ lines line stands e. absurd (write_no_line c.in_err-send.field-0.0 line (hands_is c.from_residual.result c.in_err-send.field-0.0 _ c.from_residual.ensures.1 e))
+
+pub returns-in_err-send-clause-world : goal.returns-in_err-send-clause-world
+returns-in_err-send-clause-world g c = λ lines stands e. absurd (write_no_world c.in_err-send.field-0.0 (hands_is c.from_residual.result c.in_err-send.field-0.0 _ c.from_residual.ensures.1 e))
 
 pub returns-in_err-send-clause-err : goal.returns-in_err-send-clause-err
 returns-in_err-send-clause-err g c = λ lines counts stands. always_err c.from_residual.result
@@ -78,6 +86,9 @@ returns-clause-flushed g c = always_ok c.stop_past.result c.in_ok-send.ensures.f
 
 pub returns-clause-bad : goal.returns-clause-bad
 returns-clause-bad g c = λ lines line stands e. absurd (stopped_no_line (limit_in c.passed.result) _ line (at_err (Stopped (limit_in c.passed.result)) c.stop_past.result _ c.stop_past.ensures.err e) refl)
+
+pub returns-clause-world : goal.returns-clause-world
+returns-clause-world g c = λ lines stands e. absurd (stopped_no_world (limit_in c.passed.result) _ (at_err (Stopped (limit_in c.passed.result)) c.stop_past.result _ c.stop_past.ensures.err e) refl)
 
 pub returns-clause-err : goal.returns-clause-err
 returns-clause-err g c = λ lines counts stands. always_err c.stop_past.result

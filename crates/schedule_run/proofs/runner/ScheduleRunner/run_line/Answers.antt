@@ -14,3 +14,8 @@ returns-in-Event-clause-ran c = λ lines taken en h.
     event_next lines c.args.bytes.now taken c.args.number c.in-Event.line c.args.self.now (record c.args.self.now { reader = c.read.new.self }) c.happen.new.self c.happen.result en h
     (subst (λ (x : LineRead). ReadsNext lines c.args.bytes.now x c.read.new.self) c.in-Event.is (c.in_ok-read.ensures.read lines h.reader)) refl
     c.happen.ensures.reader c.happen.ensures.world
+
+pub returns-in-Event-clause-world : goal.returns-in-Event-clause-world
+returns-in-Event-clause-world c = λ lines taken fault h e.
+    let n = c.in_ok-read.ensures.read lines h.reader in
+    record { line = n.line; reads = n.reads }
