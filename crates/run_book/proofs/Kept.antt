@@ -1,24 +1,26 @@
 -- The book of a world after an event of the run.
-use Rattle.std.proofs.Common.{◌≡◌, ℕ, ◌+◌, List, [], ◌∷◌, ◌++◌, length, Option, None, Some, Bool, true, false, refl, sym, ap, ◌∙◌, append_assoc, subst}
+use Rattle.std.proofs.Common.{◌≡◌, ℕ, ◌+◌, List, ◌++◌, length, Option, None, Some, true, false, refl, sym, ap, ◌∙◌, append_assoc, subst}
 use Rattle.wire_messages.specs.declared.packet.Packet.{Packet}
 use Rattle.role_steps.specs.Tables.{total}
 use Rattle.role_steps.specs.Views.{Told}
 use Rattle.site_frame.specs.Printed.{printed}
-use Rattle.the_run.specs.Worlds.{World, Limit, Numbered, packet_size, told_size, told_onto, numbered_from, newest_onto, limit_passed, with_numbered, unless_over, happened_of, happened}
-use Rattle.the_run.specs.Runs.{printed as printed_of}
-use Rattle.packet_mail.specs.Posts.{Post, posts, post_of_world}
+use Rattle.the_run.specs.Worlds.{World, Limit, packet_size, told_size, told_onto, numbered_from, newest_onto, limit_passed, with_numbered, unless_over, happened_of, happened}
+use Rattle.the_run.specs.Commands.{no_counts}
+use Rattle.packet_mail.specs.Posts.{Post, posts}
 use Rattle.packet_mail.proofs.Sent.{post_same}
-use Rattle.run_book.specs.Ledgers.{Ledger, record_size, lines_text, limit_of_sizes, with_event, with_measured, with_event_unless, books_of, books, limit_in, IsBookOf, Keeps, Elsewhere}
+use Rattle.run_book.specs.Ledgers.{Ledger, record_size, lines_text, limit_of_sizes, with_event, with_event_unless, books_of, books, limit_in, IsBookOf, Keeps, Elsewhere}
 use Rattle.trace_book.specs.declared.record.Record.{Record}
 use Rattle.run_book.specs.declared.fault.Passed.{Passed}
 use Rattle.std.specs.Option.{is_some}
-use Rattle.run_book.proofs.Printing.{told_text, told_sizes, lines_size}
+use Rattle.run_book.proofs.Printing.{lines_size, told_counts, told_sizes, told_written}
+use Rattle.run_book.specs.Writings.{counts_after, lines_written}
 
 module _ (n : ℕ) (ps : List Packet) (told : List Told) (change : World → World) (taken : List ℕ) (w : World) (b : Ledger) (els : Elsewhere w (change w)) (k : Keeps taken w b) where
   -- the event is within the limits
-  within : IsBookOf w b → w.over ≡ None → Keeps taken (with_numbered (numbered_from (w.packets + 1) ps) (told_onto n told w.trace) (w.packets + length ps) (w.bytes + total packet_size ps) (w.text + total (told_size n) told) (change w)) (with_event ps (lines_text n (printed told)) b)
+  within : IsBookOf w b → w.over ≡ None → Keeps taken (with_numbered (numbered_from (w.packets + 1) ps) (told_onto n told w.trace) (w.packets + length ps) (w.bytes + total packet_size ps) (w.text + total (told_size n) told) (change w)) (with_event n ps (printed told) b)
   within h e = record {
-    printed = told_text n told w.trace ∙ (ap (λ y. y ++ lines_text n (printed told)) k.printed ∙ append_assoc taken b.fresh (lines_text n (printed told)));
+    written = told_written b.writing n told w.trace ∙ (ap (λ y. y ++ lines_written b.writing n (printed told)) k.written ∙ append_assoc taken b.fresh (lines_written b.writing n (printed told)));
+    counts = told_counts no_counts n told w.trace ∙ ap (λ c. counts_after c (printed told)) k.counts;
     over = k.over ∙ sym els.over;
     whole = λ _. record {
       post = ap (posts ps) h.post ∙ post_same
@@ -36,7 +38,7 @@ module _ (n : ℕ) (ps : List Packet) (told : List Told) (change : World → Wor
   same_limit h = rw (h.post, h.text, told_sizes n told) refl
 
   counted : (o : Option Limit) → IsBookOf w b → w.over ≡ None → Keeps taken (unless_over o n ps told change (w.packets + length ps) (w.bytes + total packet_size ps) (w.text + total (told_size n) told) w) (with_event_unless o n ps (printed told) b)
-  counted (Some l) h e = record { printed = k.printed; over = refl; whole = λ z. absurd (cc) }
+  counted (Some l) h e = record { written = k.written; counts = k.counts; over = refl; whole = λ z. absurd (cc) }
   counted None h e = within h e
 
   event : (o : Option Limit) → w.over ≡ o → Keeps taken (happened_of o n ps told change w) (books_of o n ps (printed told) b)
@@ -63,17 +65,23 @@ some_passed (Some p) n ps rs b e = refl
 pub books_over : (n : ℕ) (ps : List Packet) (rs : List Record) (b : Ledger) (o : Option Passed) → limit_in o ≡ b.over → is_some o ≡ true → b ≡ books n ps rs b
 books_over n ps rs b o e s = sym (ap (λ l. books_of l n ps rs b) (sym e) ∙ some_passed o n ps rs b s)
 
-same_event : (o : Option Limit) (n : ℕ) (ps : List Packet) (rs : List Record) (b : Ledger) → with_measured o ps (lines_text n rs) b ≡ with_event_unless o n ps rs b
-same_event (Some l) n ps rs b = refl
-same_event None n ps rs b = refl
-
 -- an event that was measured
-pub books_within : (n : ℕ) (ps : List Packet) (rs : List Record) (b c : Ledger) (o : Option Passed) (packets bytes : ℕ) (text : List ℕ) → limit_in o ≡ b.over → is_some o ≡ false → packets ≡ length ps → bytes ≡ total packet_size ps → text ≡ lines_text n rs → c ≡ with_measured (limit_of_sizes packets bytes (length text) b) ps text b → c ≡ books n ps rs b
+pub books_within : (n : ℕ) (ps : List Packet) (rs : List Record) (b c : Ledger) (o : Option Passed) (packets bytes : ℕ) (text : List ℕ) → limit_in o ≡ b.over → is_some o ≡ false → packets ≡ length ps → bytes ≡ total packet_size ps → text ≡ lines_text n rs → c ≡ with_event_unless (limit_of_sizes packets bytes (length text) b) n ps rs b → c ≡ books n ps rs b
 books_within n ps rs b c o packets bytes text e s ep eb et h =
     h
-    ∙ (ap (λ k. with_measured (limit_of_sizes k bytes (length text) b) ps text b) ep
-    ∙ (ap (λ k. with_measured (limit_of_sizes (length ps) k (length text) b) ps text b) eb
-    ∙ (ap (λ t. with_measured (limit_of_sizes (length ps) (total packet_size ps) (length t) b) ps t b) et
-    ∙ (ap (λ k. with_measured (limit_of_sizes (length ps) (total packet_size ps) k b) ps (lines_text n rs) b) (lines_size n rs)
-    ∙ (same_event (limit_of_sizes (length ps) (total packet_size ps) (total (record_size n) rs) b) n ps rs b
-    ∙ ap (λ l. books_of l n ps rs b) (sym (sym e ∙ none_passed o s)))))))
+    ∙ (ap (λ k. with_event_unless (limit_of_sizes k bytes (length text) b) n ps rs b) ep
+    ∙ (ap (λ k. with_event_unless (limit_of_sizes (length ps) k (length text) b) n ps rs b) eb
+    ∙ (ap (λ k. with_event_unless (limit_of_sizes (length ps) (total packet_size ps) k b) n ps rs b) (ap length et ∙ lines_size n rs)
+    ∙ ap (λ l. books_of l n ps rs b) (sym (sym e ∙ none_passed o s)))))
+
+-- an event doesn't change what a book writes
+event_writing : (o : Option Limit) (n : ℕ) (ps : List Packet) (rs : List Record) (b : Ledger) → (with_event_unless o n ps rs b).writing ≡ b.writing
+event_writing (Some l) n ps rs b = refl
+event_writing None n ps rs b = refl
+
+writing_of : (o : Option Limit) (n : ℕ) (ps : List Packet) (rs : List Record) (b : Ledger) → (books_of o n ps rs b).writing ≡ b.writing
+writing_of (Some l) n ps rs b = refl
+writing_of None n ps rs b = event_writing (limit_of_sizes (length ps) (total packet_size ps) (total (record_size n) rs) b) n ps rs b
+
+pub writing_kept : (n : ℕ) (ps : List Packet) (rs : List Record) (b : Ledger) → (books n ps rs b).writing ≡ b.writing
+writing_kept n ps rs b = writing_of b.over n ps rs b

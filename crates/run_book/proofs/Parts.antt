@@ -1,5 +1,5 @@
 -- Packets and records part by part.
-use Rattle.std.proofs.Common.{◌≡◌, ℕ, zero, suc, ◌+◌, ◌<◌, List, [], ◌∷◌, ◌++◌, length, drop, get_or, Option, Some, None, refl, sym, ap, subst, ◌∙◌, append_assoc, arith}
+use Rattle.std.proofs.Common.{◌≡◌, ℕ, zero, suc, ◌+◌, ◌<◌, List, [], ◌∷◌, ◌++◌, length, drop, get_or, Some, refl, sym, ap, subst, ◌∙◌, append_assoc, arith}
 use Rattle.std.specs.Prelude.{slice_get}
 use Rattle.std.specs.List.{AllByRecursion}
 use Rattle.std.proofs.lemmas.List.{append-nil}
@@ -14,7 +14,9 @@ use Rattle.role_steps.specs.Tables.{total}
 use Rattle.the_run.specs.Worlds.{packet_size, numbered_from, newest_onto}
 use Rattle.packet_mail.specs.Posts.{Post, posts}
 use Rattle.packet_mail.proofs.Sent.{post_same}
+use Rattle.the_run.specs.Commands.{Counts, counted_in, reply_line}
 use Rattle.run_book.specs.Ledgers.{lines_text}
+use Rattle.run_book.specs.Writings.{counts_after, replies_of}
 
 left_at : {A : Type 0} (xs : List A) (i : ℕ) (x : A) → Some x ≡ slice_get xs i → drop i xs ≡ x ∷ drop (suc i) xs
 left_at [] i x e = absurd (cc)
@@ -97,6 +99,35 @@ text_more n parts i part t t' whole l is e h =
     ∙ (append_assoc t (lines_text n part.records) (lines_text n (together (drop (i + 1) parts)).records)
     ∙ (ap (λ y. t ++ y) (sym (text_append n part.records (together (drop (i + 1) parts)).records))
     ∙ (ap (λ ps. t ++ lines_text n (together ps).records) (sym (part_left parts i part l is)) ∙ h)))
+
+replies_append : (rs ss : List Record) → replies_of (rs ++ ss) ≡ replies_of rs ++ replies_of ss
+replies_append [] ss = refl
+replies_append (r ∷ rs) ss = ap (λ y. reply_line r ++ y) (replies_append rs ss) ∙ sym (append_assoc (reply_line r) (replies_of rs) (replies_of ss))
+
+-- the replies of one part more
+pub replies_more : (parts : List Outgoing) (i : ℕ) (part : Outgoing) (t t' whole : List ℕ) → i < length parts → part ≡ get_or parts i part → t' ≡ t ++ replies_of part.records → t ++ replies_of (together (drop i parts)).records ≡ whole → t' ++ replies_of (together (drop (i + 1) parts)).records ≡ whole
+replies_more parts i part t t' whole l is e h =
+    ap (λ y. y ++ replies_of (together (drop (i + 1) parts)).records) e
+    ∙ (append_assoc t (replies_of part.records) (replies_of (together (drop (i + 1) parts)).records)
+    ∙ (ap (λ y. t ++ y) (sym (replies_append part.records (together (drop (i + 1) parts)).records))
+    ∙ (ap (λ ps. t ++ replies_of (together ps).records) (sym (part_left parts i part l is)) ∙ h)))
+
+counts_append : (c : Counts) (rs ss : List Record) → counts_after c (rs ++ ss) ≡ counts_after (counts_after c rs) ss
+counts_append c [] ss = refl
+counts_append c (r ∷ rs) ss = counts_append (counted_in c r) rs ss
+
+-- the counts of one part more
+pub counts_more : (parts : List Outgoing) (i : ℕ) (part : Outgoing) (c d whole : Counts) → i < length parts → part ≡ get_or parts i part → d ≡ counts_after c part.records → counts_after c (together (drop i parts)).records ≡ whole → counts_after d (together (drop (i + 1) parts)).records ≡ whole
+counts_more parts i part c d whole l is e h =
+    ap (λ y. counts_after y (together (drop (i + 1) parts)).records) e
+    ∙ (sym (counts_append c part.records (together (drop (i + 1) parts)).records)
+    ∙ (ap (λ ps. counts_after c (together ps).records) (sym (part_left parts i part l is)) ∙ h))
+
+-- the counts of one record more
+pub record_counted : (rs : List Record) (i : ℕ) (r : Record) (c d whole : Counts) → i < length rs → r ≡ get_or rs i r → d ≡ counted_in c r → counts_after c (drop i rs) ≡ whole → counts_after d (drop (i + 1) rs) ≡ whole
+record_counted rs i r c d whole l is e h =
+    ap (λ y. counts_after y (drop (i + 1) rs)) e
+    ∙ (ap (counts_after c) (sym (left_from rs i r (ap (λ x. Some x) is ∙ sym (slice_get-get_or rs i r l)))) ∙ h)
 
 -- the packets of one part are of the format where all are
 pub part_fits : (parts : List Outgoing) (i : ℕ) (part : Outgoing) → i < length parts → part ≡ get_or parts i part → AllByRecursion (λ (p : Packet). FitsPacket p) (together parts).packets → AllByRecursion (λ (p : Packet). FitsPacket p) part.packets

@@ -1,26 +1,31 @@
-ghost use Rattle.std.specs.Prelude.{◌≡◌, ◌+◌, ◌≤◌, [], true, length, Err, IfOk, OnOk};
+ghost use Rattle.std.specs.Prelude.{◌≡◌, ℕ, ◌+◌, ◌≤◌, [], true, length, Err, IfOk, OnOk};
 ghost use Rattle.std.specs.List.{AllByRecursion};
 ghost use Rattle.wire_messages.specs.Packets.{FitsPacket};
 ghost use Rattle.packet_order.specs.Orders.{together};
 ghost use Rattle.packet_mail.specs.Posts.{passes, loses, is_sent, next_number, IsKnown};
-ghost use Rattle.run_book.specs.Ledgers.{no_ledger, limit_in, with_event, with_measured, limit_of_sizes, books};
+ghost use Rattle.run_book.specs.Ledgers.{no_ledger, limit_in, lines_text, with_event, with_event_unless, limit_of_sizes, books};
+ghost use Rattle.run_book.specs.Writings.{counts_in};
 
+use crate::counts::with_parts;
 use crate::measures::{Measured, is_past, put_all, sizes_of};
-use crate::{BookFault, Passed};
+use crate::writing::add_written;
+use crate::{BookFault, Passed, RunCounts, Writing};
 use locus_ids::{Bytes, NoMemory};
 use packet_mail::{MOST_BYTES, MOST_PACKETS, Mail};
 use packet_order::{Dispatch, Part};
 use std::alloc::Global;
 use std::marker::Model;
 
-/// The bytes of text that a run may print.
+/// The bytes of text that the records of a run may have, written or not.
 pub const MOST_TEXT: usize = 134_217_728;
 
-/// The packets of a run, the text of its records that nobody has taken yet, and the limit that an event passed.
+/// The packets of a run, what is written of its records and nobody has taken yet, their counts, and the limit that an event passed.
 #[derive(Drop)]
 pub struct RunBook {
     mail: Mail,
+    writing: Writing,
     fresh: Bytes,
+    counts: RunCounts,
     text: usize,
     passed: Option<Passed>,
 }
@@ -28,10 +33,11 @@ pub struct RunBook {
 impl Model for RunBook {
     ghost use Rattle.std.specs.Prelude.{◌≤◌};
     ghost use Rattle.run_book.specs.Ledgers.{Ledger, limit_in};
+    ghost use Rattle.run_book.specs.Writings.{counts_in};
 
     ghost Value = { Ledger };
 
-    ghost view = { λ b. record { post = b.mail; fresh = b.fresh; text = b.text; over = limit_in b.passed } };
+    ghost view = { λ b. record { post = b.mail; writing = b.writing; fresh = b.fresh; counts = counts_in b.counts; text = b.text; over = limit_in b.passed } };
 
     ghost invariant = { λ b. b.text ≤ 134217728 };
 }
@@ -39,13 +45,15 @@ impl Model for RunBook {
 impl RunBook {
     ghost use Rattle.run_book.specs.Ledgers.{Ledger};
 
-    /// Nothing has happened.
-    pub fn new(alloc: Global) -> Result<RunBook, NoMemory>
-        ensures { IfOk result (λ book. book ≡ no_ledger) }
+    /// Nothing has happened. Of what will happen the book writes this.
+    pub fn new(alloc: Global, writing: Writing) -> Result<RunBook, NoMemory>
+        ensures { IfOk result (λ book. book ≡ no_ledger writing) }
     {
         Ok(RunBook {
             mail: Mail::new(alloc)?,
+            writing,
             fresh: Bytes::new(alloc),
+            counts: RunCounts::new(),
             text: 0,
             passed: None,
         })
@@ -69,14 +77,21 @@ impl RunBook {
         self.passed
     }
 
-    /// The text that nobody has taken yet.
+    /// The counts of all records.
+    pub fn counts(&self) -> RunCounts
+        ensures { counts_in result ≡ self.now.counts }
+    {
+        self.counts
+    }
+
+    /// What is written and nobody has taken yet.
     pub fn fresh(&self) -> &[u8]
         ensures { result.now ≡ self.now.fresh }
     {
         self.fresh.as_slice()
     }
 
-    /// The text is taken.
+    /// What is written is taken.
     pub fn take_fresh(&mut self)
         ensures { self.new ≡ record self.old { fresh = [] } }
     {
@@ -127,13 +142,17 @@ impl RunBook {
     fn put(&mut self, parts: &[Part], text: &Bytes) -> Result<(), BookFault>
         requires fits { AllByRecursion (λ p. FitsPacket p) (together parts.now).packets }
         requires room { self.old.text + length text.now ≤ 134217728 }
-        ensures ok { OnOk result (self.new ≡ with_event (together parts.now).packets text.now self.old) }
+        ensures ok { (n : ℕ) → text.now ≡ lines_text n (together parts.now).records → OnOk result (self.new ≡ with_event n (together parts.now).packets (together parts.now).records self.old) }
         ensures unfit { result ≡ Err BookFault.Unfit → ⊥ }
     {
         put_all(&mut self.mail, parts)?;
-        if self.fresh.append(text.as_slice()).is_err() {
+        let Ok(counts) = with_parts(self.counts, parts) else {
+            return Err(BookFault::NoMemory);
+        };
+        if add_written(self.writing, parts, text, &mut self.fresh).is_err() {
             return Err(BookFault::NoMemory);
         }
+        self.counts = counts;
         self.text += text.len();
         Ok(())
     }
@@ -141,7 +160,7 @@ impl RunBook {
     /// An event that was measured, with its limit tested.
     fn enter(&mut self, parts: &[Part], event: &Measured) -> Result<(), BookFault>
         requires { AllByRecursion (λ p. FitsPacket p) (together parts.now).packets }
-        ensures ok { OnOk result (self.new ≡ with_measured (limit_of_sizes event.now.packets event.now.bytes (length event.now.text) self.old) (together parts.now).packets event.now.text self.old) }
+        ensures ok { (n : ℕ) → event.now.text ≡ lines_text n (together parts.now).records → OnOk result (self.new ≡ with_event_unless (limit_of_sizes event.now.packets event.now.bytes (length event.now.text) self.old) n (together parts.now).packets (together parts.now).records self.old) }
         ensures unfit { result ≡ Err BookFault.Unfit → ⊥ }
     {
         match self.limit_of(event.packets, event.bytes, event.text.len()) {

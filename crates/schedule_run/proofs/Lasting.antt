@@ -12,13 +12,13 @@ use Rattle.the_run.specs.Worlds.{World as RunWorld, first_world}
 use Rattle.the_run.specs.Runs.{act, run, printed}
 use Rattle.world.specs.declared.world.World.{World}
 use Rattle.world.specs.States.{WorldState, state_of}
-use Rattle.world.specs.Shown.{Shows, Follows}
+use Rattle.world.specs.Shown.{Taken, all_taken, Shows, Follows}
 use Rattle.line_text.specs.ReadSoFar.{ReadsNext}
 use Rattle.line_text.specs.declared.schedule_reader.LineRead.TheVariants as told
 use Rattle.line_text.specs.declared.schedule_reader.ScheduleReader.{ScheduleReader}
 use Rattle.schedule_run.specs.declared.fault.RunFault.{RunFault}
 use Rattle.schedule_run.specs.declared.runner.ScheduleRunner.{ScheduleRunner}
-use Rattle.schedule_run.specs.Standing.{StandsAs, HasRun, RunsNext}
+use Rattle.schedule_run.specs.Standing.{text_taken, StandsAs, HasRun, RunsNext}
 use Rattle.schedule_run.proofs.Growing.{config_more, begun_more, run_more, run_quiet}
 
 pub untrue : (a b : Bool) → (not a && b) ≡ true → a ≡ false
@@ -37,7 +37,7 @@ passed_stands lines taken number None e s = (not_begun lines Passed s.0 refl, s.
 passed_stands lines taken number (Some x) e s =
     let c = config_more lines Passed in
     let r = run_more lines Passed number e c in
-    (begun lines Passed s.0, subst (λ (k : Config). Shows k taken (run (lines ++ Passed ∷ [])) (state_of x)) (sym c) (subst (λ (w : RunWorld). Shows (config_of lines) taken w (state_of x)) (sym r) s.1))
+    (begun lines Passed s.0, subst (λ (k : Config). Shows k (text_taken taken) (run (lines ++ Passed ∷ [])) (state_of x)) (sym c) (subst (λ (w : RunWorld). Shows (config_of lines) (text_taken taken) w (state_of x)) (sym r) s.1))
 
 -- a header line, which only comes before all event lines
 pub header_stands : (lines : List ScheduleLine) (taken : List ℕ) (h : HeaderLine) (w : Option World) → (not (has_begun lines) && may_join (config_of lines) h) ≡ true → StandsAs lines taken w → StandsAs (lines ++ Header h ∷ []) taken w
@@ -51,18 +51,18 @@ is_begun lines e = begun_more lines (Event e) ∙ or_true (has_begun lines) wher
   or_true false = refl
 
 -- an event line, done in a world that shows the run
-pub event_stands : (lines : List ScheduleLine) (taken : List ℕ) (number : ℕ) (e : Line) (x y : World) → number ≡ length lines + 1 → Shows (config_of lines) taken (run lines) (state_of x) → Follows (λ c w. act c number e w) (state_of x) (state_of y) → StandsAs (lines ++ Event e ∷ []) taken (Some y)
+pub event_stands : (lines : List ScheduleLine) (taken : List ℕ) (number : ℕ) (e : Line) (x y : World) → number ≡ length lines + 1 → Shows (config_of lines) (text_taken taken) (run lines) (state_of x) → Follows (λ c w. act c number e w) (state_of x) (state_of y) → StandsAs (lines ++ Event e ∷ []) taken (Some y)
 event_stands lines taken number e x y en sh f =
     let c = config_more lines (Event e) in
     let r = run_more lines (Event e) number en c in
-    (is_begun lines e, subst (λ (k : Config). Shows k taken (run (lines ++ Event e ∷ [])) (state_of y)) (sym c) (subst (λ (w : RunWorld). Shows (config_of lines) taken w (state_of y)) (sym r) (f (config_of lines) taken (run lines) sh)))
+    (is_begun lines e, subst (λ (k : Config). Shows k (text_taken taken) (run (lines ++ Event e ∷ [])) (state_of y)) (sym c) (subst (λ (w : RunWorld). Shows (config_of lines) (text_taken taken) w (state_of y)) (sym r) (f (config_of lines) (text_taken taken) (run lines) sh)))
 
 -- the first world, before the first event line
-pub first_stands : (lines : List ScheduleLine) (taken : List ℕ) (config : Config) (x : WorldState) → has_begun lines ≡ false → taken ≡ [] → config ≡ config_of lines → Shows config [] (first_world config) x → Shows (config_of lines) taken (run lines) x
+pub first_stands : (lines : List ScheduleLine) (taken : List ℕ) (config : Config) (x : WorldState) → has_begun lines ≡ false → taken ≡ [] → config ≡ config_of lines → Shows config (text_taken []) (first_world config) x → Shows (config_of lines) (text_taken taken) (run lines) x
 first_stands lines taken config x b t c sh =
-    subst (λ (w : RunWorld). Shows (config_of lines) taken w x) (sym (run_quiet lines b))
-    (subst (λ (ts : List ℕ). Shows (config_of lines) ts (first_world (config_of lines)) x) (sym t)
-    (subst (λ (k : Config). Shows k [] (first_world k) x) c sh))
+    subst (λ (w : RunWorld). Shows (config_of lines) (text_taken taken) w x) (sym (run_quiet lines b))
+    (subst (λ (ts : List ℕ). Shows (config_of lines) (text_taken ts) (first_world (config_of lines)) x) (sym t)
+    (subst (λ (k : Config). Shows k (text_taken []) (first_world k) x) c sh))
 
 -- what is told before the first event line: nothing
 pub nothing_told : (lines : List ScheduleLine) → has_begun lines ≡ false → printed (run lines) ≡ []
@@ -115,14 +115,14 @@ event_next lines bytes taken number e r mid new (Ok x) en h n same kept acts =
 
 -- the text that is fresh
 pub fresh_follows : (lines : List ScheduleLine) (taken : List ℕ) (w : Option World) (bytes : List ℕ) → StandsAs lines taken w
-    → IfSome w (λ x. (c : Config) (ts : List ℕ) (v : RunWorld) → Shows c ts v (state_of x) → printed v ≡ ts ++ bytes) → (w ≡ None → bytes ≡ []) → printed (run lines) ≡ taken ++ bytes
+    → IfSome w (λ x. (c : Config) (ts : List ℕ) (v : RunWorld) → Shows c (text_taken ts) v (state_of x) → printed v ≡ ts ++ bytes) → (w ≡ None → bytes ≡ []) → printed (run lines) ≡ taken ++ bytes
 fresh_follows lines taken None bytes s f none = nothing_told lines s.0 ∙ sym (ap (λ (t : List ℕ). t ++ bytes) s.1 ∙ none refl)
 fresh_follows lines taken (Some x) bytes s f none = f (config_of lines) taken (run lines) s.1
 
 -- the runner whose text was taken
 pub taken_stands : (lines : List ScheduleLine) (taken : List ℕ) (x y : World) → StandsAs lines taken (Some x)
-    → ((c : Config) (ts : List ℕ) (v : RunWorld) → Shows c ts v (state_of x) → Shows c (printed v) v (state_of y)) → StandsAs lines (printed (run lines)) (Some y)
-taken_stands lines taken x y s f = (s.0, f (config_of lines) taken (run lines) s.1)
+    → ((c : Config) (ts : Taken) (v : RunWorld) → Shows c ts v (state_of x) → Shows c (all_taken ts.writing v) v (state_of y)) → StandsAs lines (printed (run lines)) (Some y)
+taken_stands lines taken x y s f = (s.0, f (config_of lines) (text_taken taken) (run lines) s.1)
 
 pub none_stands : (lines : List ScheduleLine) (taken : List ℕ) → StandsAs lines taken None → StandsAs lines (printed (run lines)) None
 none_stands lines taken s = (s.0, nothing_told lines s.0)

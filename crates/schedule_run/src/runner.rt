@@ -5,7 +5,7 @@ ghost use Rattle.schedule_lines.specs.declared.line.ScheduleLine.{ScheduleLine};
 ghost use Rattle.schedule_lines.specs.declared.line.ScheduleLine.TheVariants.{Event};
 ghost use Rattle.the_run.specs.Worlds.{first_world};
 ghost use Rattle.world.specs.States.{state_of};
-ghost use Rattle.world.specs.Shown.{Shows};
+ghost use Rattle.world.specs.Shown.{Shows, nothing_taken};
 ghost use Rattle.the_run.specs.Runs.{run, printed};
 ghost use Rattle.run_book.specs.Ledgers.{limit_in};
 ghost use Rattle.world.specs.declared.fault.WorldFault.{WorldFault};
@@ -14,7 +14,7 @@ ghost use Rattle.schedule_run.specs.Standing.{StandsAs, ShowsRun, HasRun, MaySta
 use crate::RunFault;
 use line_text::{LineRead, ScheduleReader};
 use locus_ids::Config;
-use run_book::Passed;
+use run_book::{Passed, Writing};
 use schedule_lines::Line;
 use std::alloc::Global;
 use world::World;
@@ -29,11 +29,11 @@ pub struct ScheduleRunner {
 
 /// The world before the first event line of a schedule.
 fn first_world(alloc: Global, config: &Config) -> Result<World, RunFault>
-    ensures made { IfOk result (λ made. Shows config.now [] (first_world config.now) (state_of made)) }
+    ensures made { IfOk result (λ made. Shows config.now (nothing_taken Writing.Trace) (first_world config.now) (state_of made)) }
     ensures good { result ≡ Err RunFault.Bad → ⊥ }
 {
     let config = config.copy()?;
-    let world = World::new(alloc, config)?;
+    let world = World::new(alloc, config, Writing::Trace)?;
     Ok(world)
 }
 

@@ -1,5 +1,3 @@
 pub mod Text
 pub mod Same
 pub mod Names
-pub mod Descriptors
-pub mod Scripts

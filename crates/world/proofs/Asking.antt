@@ -15,9 +15,10 @@ use Rattle.the_run.specs.Runs.{is_stopped, unless_void, stops_line, boots_line}
 use Rattle.circuits.specs.Circuits.{reached_boot, reached_boots, is_up_among, boot_in}
 use Rattle.circuits.proofs.Cuts.{of_all_sites}
 use Rattle.site_place.specs.Places.{PlaceState, Happening, Gives, acts_in, happens_in, happens_at as happens_place, stops_at, stops_in, boots_to, boots_at as boots_place, boots_in}
+use Rattle.run_book.proofs.Kept.{writing_kept}
 use Rattle.run_book.specs.Ledgers.{Ledger, Keeps, books, books_of}
 use Rattle.world.specs.States.{WorldState, state_at, place_of, boot_at, boots_of}
-use Rattle.world.specs.Shown.{ShowsSites, Shows, Follows, FollowsWithin, Answers}
+use Rattle.world.specs.Shown.{Taken, ShowsSites, Shows, Follows, FollowsWithin, Answers}
 use Rattle.world.proofs.Tables.{key_found}
 use Rattle.world.proofs.Events.{event_shown}
 use Rattle.world.proofs.Acting.{acts_lead, stop_leads, boot_leads, boots_none, boots_some}
@@ -119,15 +120,16 @@ noted_as : (x y : WorldState) (n at : ℕ) (g h : Happening) → g ≡ h → Not
 noted_as x y n at g h e k = subst (λ (z : Happening). Noted x y n at z) e k
 
 -- a limit was passed, and the event is no event
-over_stays : (c : Config) (taken : List ℕ) (w : World) (x y : WorldState) (n at : ℕ) (h : Happening) (l : Limit) → w.over ≡ Some l → Noted x y n at h → Shows c taken w x → Shows c taken w y
+over_stays : (c : Config) (taken : Taken) (w : World) (x y : WorldState) (n at : ℕ) (h : Happening) (l : Limit) → w.over ≡ Some l → Noted x y n at h → Shows c taken w x → Shows c taken w y
 over_stays c taken w x y n at h l e k sh = record {
   config = k.config ∙ sh.config;
-  book = subst (λ (b : Ledger). Keeps taken w b) (sym (k.book ∙ ap (λ o. books_of o n h.sent (printed h.told) x.book) (sh.book.over ∙ e))) sh.book;
+  writing = ap (λ (b : Ledger). b.writing) k.book ∙ (writing_kept n h.sent (printed h.told) x.book ∙ sh.writing);
+  book = subst (λ (b : Ledger). Keeps taken.bytes w b) (sym (k.book ∙ ap (λ o. books_of o n h.sent (printed h.told) x.book) (sh.book.over ∙ e))) sh.book;
   sites = λ f. absurd (cc);
 }
 
 module _ (n s at : ℕ) (x y : WorldState) (low : 1 ≤ s) (high : s ≤ 16) (is : s ≡ at + 1) (within : at < length x.places) (p : PlaceState) (found : state_at x.places s ≡ Some p) where
-  running : (c : Config) (e : Event) (links : Links) (taken : List ℕ) (w : World) → w.over ≡ None → Shows c taken w x → links_of w s ≡ links → (q : Place) → p.place ≡ q → is_stopped (Some q) ≡ false → Noted x y n at (happens_place c s links e p.armed q) → Shows c taken (happens_at c n s e (Some q) w) y
+  running : (c : Config) (e : Event) (links : Links) (taken : Taken) (w : World) → w.over ≡ None → Shows c taken w x → links_of w s ≡ links → (q : Place) → p.place ≡ q → is_stopped (Some q) ≡ false → Noted x y n at (happens_place c s links e p.armed q) → Shows c taken (happens_at c n s e (Some q) w) y
   running c e links taken w o sh el (Stopped d) ep st k = absurd (cc)
   running c e links taken w o sh el (Running v) ep st k =
       let sites = sh.sites o in
@@ -146,7 +148,7 @@ module _ (n s at : ℕ) (x y : WorldState) (low : 1 ≤ s) (high : s ≤ 16) (is
 
   -- ---- a stop and a boot ----
 
-  stopping : (c : Config) (taken : List ℕ) (w : World) → w.over ≡ None → Shows c taken w x → (q : Place) → is_stopped (Some q) ≡ false → Noted x y n at (stops_at s p.armed q) → Shows c taken (stops_line n s (Some q) w) y
+  stopping : (c : Config) (taken : Taken) (w : World) → w.over ≡ None → Shows c taken w x → (q : Place) → is_stopped (Some q) ≡ false → Noted x y n at (stops_at s p.armed q) → Shows c taken (stops_line n s (Some q) w) y
   stopping c taken w o sh (Stopped d) st k = absurd (cc)
   stopping c taken w o sh (Running v) st k =
       stop_leads n s w (sh.sites o).table (λ u. Shows c taken u y) v p.armed (λ change ch. event_shown c taken w x y n s at (stops_at s p.armed (Running v)) change o sh is within ch k.config k.places k.circuits k.book)
@@ -156,7 +158,7 @@ module _ (n s at : ℕ) (x y : WorldState) (low : 1 ≤ s) (high : s ≤ 16) (is
       let there : place_at w s ≡ Some p.place = (sh.sites o).places s low high ∙ ap place_of found in
       subst (λ (q : Option Place). Shows c taken (stops_line n s q w) y) (sym there) (stopping c taken w o sh p.place st k)
 
-  starting : (c : Config) (taken : List ℕ) (w : World) → w.over ≡ None → Shows c taken w x → (q : Place) → is_stopped (Some q) ≡ true → Noted x y n at (boots_place s p.armed q) → Shows c taken (boots_line n s (Some q) w) y
+  starting : (c : Config) (taken : Taken) (w : World) → w.over ≡ None → Shows c taken w x → (q : Place) → is_stopped (Some q) ≡ true → Noted x y n at (boots_place s p.armed q) → Shows c taken (boots_line n s (Some q) w) y
   starting c taken w o sh (Running v) st k = absurd (cc)
   starting c taken w o sh (Stopped d) st k =
       let sites = sh.sites o in

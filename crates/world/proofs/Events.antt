@@ -7,10 +7,10 @@ use Rattle.role_steps.specs.Views.{Told}
 use Rattle.site_frame.specs.Printed.{printed}
 use Rattle.the_run.specs.Worlds.{World, Limit, place_at, script_of, packet_size, told_size, limit_passed, unless_over, happened_of, happened}
 use Rattle.site_place.specs.Places.{PlaceState, Happening}
-use Rattle.run_book.specs.Ledgers.{books}
-use Rattle.run_book.proofs.Kept.{event_kept}
+use Rattle.run_book.specs.Ledgers.{Ledger, books}
+use Rattle.run_book.proofs.Kept.{event_kept, writing_kept}
 use Rattle.world.specs.States.{WorldState, state_at, place_of}
-use Rattle.world.specs.Shown.{ShowsSites, Shows}
+use Rattle.world.specs.Shown.{Taken, ShowsSites, Shows}
 use Rattle.world.proofs.Tables.{split, state_put, state_other}
 use Rattle.world.proofs.Changes.{Changes}
 
@@ -28,10 +28,11 @@ pub over_happened : (n : ℕ) (ps : List Packet) (told : List Told) (change : Wo
 over_happened n ps told change w l e = ap (λ o. happened_of o n ps told change w) e
 
 -- an event that changes no site
-pub event_alone : (c : Config) (taken : List ℕ) (w : World) (x y : WorldState) (n : ℕ) (ps : List Packet) (told : List Told) → Shows c taken w x → y.config ≡ x.config → y.places ≡ x.places → y.circuits ≡ x.circuits → y.book ≡ books n ps (printed told) x.book → Shows c taken (happened n ps told (λ now. now) w) y
+pub event_alone : (c : Config) (taken : Taken) (w : World) (x y : WorldState) (n : ℕ) (ps : List Packet) (told : List Told) → Shows c taken w x → y.config ≡ x.config → y.places ≡ x.places → y.circuits ≡ x.circuits → y.book ≡ books n ps (printed told) x.book → Shows c taken (happened n ps told (λ now. now) w) y
 event_alone c taken w x y n ps told sh ec ep ek eb = record {
   config = ec ∙ sh.config;
-  book = rw eb (event_kept n ps told (λ now. now) taken w x.book (record { post = refl; over = refl }) sh.book);
+  writing = ap (λ (b : Ledger). b.writing) eb ∙ (writing_kept n ps (printed told) x.book ∙ sh.writing);
+  book = rw eb (event_kept n ps told (λ now. now) taken.bytes w x.book (record { post = refl; over = refl }) sh.book);
   sites = at w.over refl;
 } where
   same : ShowsSites w x → ShowsSites w y
@@ -47,10 +48,11 @@ event_alone c taken w x y n ps told sh ec ep ek eb = record {
   at None e = happened_sites n ps told (λ now. now) w w.over y e (same (sh.sites e))
 
 -- an event of one site
-pub event_shown : (c : Config) (taken : List ℕ) (w : World) (x y : WorldState) (n s at : ℕ) (h : Happening) (change : World → World) → w.over ≡ None → Shows c taken w x → s ≡ at + 1 → at < length x.places → Changes s h.state w (change w) → y.config ≡ x.config → y.places ≡ set x.places at h.state → y.circuits ≡ x.circuits → y.book ≡ books n h.sent (printed h.told) x.book → Shows c taken (happened n h.sent h.told change w) y
+pub event_shown : (c : Config) (taken : Taken) (w : World) (x y : WorldState) (n s at : ℕ) (h : Happening) (change : World → World) → w.over ≡ None → Shows c taken w x → s ≡ at + 1 → at < length x.places → Changes s h.state w (change w) → y.config ≡ x.config → y.places ≡ set x.places at h.state → y.circuits ≡ x.circuits → y.book ≡ books n h.sent (printed h.told) x.book → Shows c taken (happened n h.sent h.told change w) y
 event_shown c taken w x y n s at h change o sh e l ch ec ep ek eb = record {
   config = ec ∙ sh.config;
-  book = rw eb (event_kept n h.sent h.told change taken w x.book ch.elsewhere sh.book);
+  writing = ap (λ (b : Ledger). b.writing) eb ∙ (writing_kept n h.sent (printed h.told) x.book ∙ sh.writing);
+  book = rw eb (event_kept n h.sent h.told change taken.bytes w x.book ch.elsewhere sh.book);
   sites = happened_sites n h.sent h.told change w w.over y o after;
 } where
   k : ShowsSites w x

@@ -13,7 +13,8 @@ use Rattle.the_run.specs.Worlds.{PlaceRow, place_in, place_at, place_site, first
 use Rattle.site_place.specs.Places.{PlaceState}
 use Rattle.run_book.specs.Ledgers.{Ledger, no_ledger, Keeps}
 use Rattle.world.specs.States.{WorldState, state_at, place_of, first_state, AreFirst}
-use Rattle.world.specs.Shown.{Shows}
+use Rattle.run_book.specs.declared.writing.Writing.{Writing}
+use Rattle.world.specs.Shown.{nothing_taken, Shows}
 use Rattle.world.proofs.Tables.{split, either, state_none}
 
 any_first : (s t : ℕ) (ss : List ℕ) → (t == s) ≡ false → list_any (λ i. i == s) (t ∷ ss) ≡ true → list_any (λ i. i == s) ss ≡ true
@@ -78,10 +79,11 @@ module _ (c : Config) where
       let i : first_state c (k + 1) ≡ p = cc in
       ap (λ (x : PlaceState). x.armed) i
 
-  pub first_shown : (x : WorldState) → x.config ≡ c → AreFirst c (min c.sites 16) x.places → x.circuits ≡ [] → x.book ≡ no_ledger → Shows c [] (first_world c) x
-  first_shown x ec f ek eb = record {
+  pub first_shown : (x : WorldState) (writing : Writing) → x.config ≡ c → AreFirst c (min c.sites 16) x.places → x.circuits ≡ [] → x.book ≡ no_ledger writing → Shows c (nothing_taken writing) (first_world c) x
+  first_shown x writing ec f ek eb = record {
     config = ec;
-    book = subst (λ (b : Ledger). Keeps [] (first_world c) b) (sym eb) (record { printed = refl; over = refl; whole = λ e. record { post = refl; text = refl } });
+    writing = ap (λ (b : Ledger). b.writing) eb;
+    book = subst (λ (b : Ledger). Keeps [] (first_world c) b) (sym eb) (record { written = refl; counts = refl; over = refl; whole = λ e. record { post = refl; text = refl } });
     sites = λ e. record { places = first_places x.places f; scripts = first_scripts x.places f; table = tt; circuits = sym ek };
   }
 

@@ -15,7 +15,7 @@ use Rattle.packet_mail.specs.Posts.{Post, post_of_world, passes, loses as loses_
 use Rattle.site_place.specs.Places.{PlaceState, drops}
 use Rattle.run_book.specs.Ledgers.{Ledger, Keeps}
 use Rattle.world.specs.States.{WorldState, state_at, place_of, boots_of}
-use Rattle.world.specs.Shown.{ShowsSites, Shows, Follows, FollowsWithin, Answers}
+use Rattle.world.specs.Shown.{Taken, ShowsSites, Shows, Follows, FollowsWithin, Answers}
 use Rattle.world.specs.Listed.{comes_if, may_come, stays_if, may_be_lost, next_number, listed, is_taken}
 use Rattle.world.proofs.Tables.{key_found, same_rest}
 use Rattle.world.proofs.Asking.{up_is, unless_yes, unless_no}
@@ -26,7 +26,7 @@ pub sent_by : (o : Option Numbered) (a : ℕ) → Some a ≡ sender_in o → is_
 sent_by None a e = absurd (cc)
 sent_by (Some x) a e = refl
 
-module _ (c : Config) (taken : List ℕ) (w : World) (x : WorldState) (o : w.over ≡ None) (sh : Shows c taken w x) where
+module _ (c : Config) (taken : Taken) (w : World) (x : WorldState) (o : w.over ≡ None) (sh : Shows c taken w x) where
   post_is : x.book.post ≡ post_of_world w
   post_is = (sh.book.whole o).post
 
@@ -59,7 +59,7 @@ comes_as w x lost up e f = rw (e, f) refl
 
 -- a packet that was sent, by whether it is lost
 module _ (x : WorldState) (k from to : ℕ) (lost : Bool) (ef : Some from ≡ sender_in (sent_at k x.book.post)) (et : Some to ≡ receiver_in (sent_at k x.book.post)) (el : lost ≡ is_lost_in k x.book.post) where
-  come_as : (c : Config) (taken : List ℕ) (w : World) → w.over ≡ None → Shows c taken w x → (up : Bool) → is_up w from to ≡ up → may_come k w ≡ not (lost || not up)
+  come_as : (c : Config) (taken : Taken) (w : World) → w.over ≡ None → Shows c taken w x → (up : Bool) → is_up w from to ≡ up → may_come k w ≡ not (lost || not up)
   come_as c taken w o sh up eu = at (packet_at w k) refl where
     at : (q : Option Numbered) → packet_at w k ≡ q → comes_if w q ≡ not (lost || not up)
     at None e = absurd (let f : sent_at k x.book.post ≡ None = sym (packet_same c taken w x o sh k) ∙ e in let g : Some from ≡ sender_in None = ef ∙ ap sender_in f in cc)
@@ -124,7 +124,7 @@ come_alike w x up k t m y is =
     let b = range 1 16 y.packet.to is.fits.to.0 in
     up_is w x k y.packet.from y.packet.to a.0 a.1 b.0 b.1 ∙ sym (t.each y.packet.from y.packet.to a.0 a.1 b.0 b.1)
 
-pub next_within : (x : WorldState) (up : List Bool) (r : Option ℕ) (c : Config) (taken : List ℕ) (w : World) → w.over ≡ None → Shows c taken w x → TellsUp up x.circuits (boots_of x.places) → AllByRecursion (IsKnown x.book.post) x.book.post.underway → r ≡ next_in up x.book.post → next_number w ≡ r
+pub next_within : (x : WorldState) (up : List Bool) (r : Option ℕ) (c : Config) (taken : Taken) (w : World) → w.over ≡ None → Shows c taken w x → TellsUp up x.circuits (boots_of x.places) → AllByRecursion (IsKnown x.book.post) x.book.post.underway → r ≡ next_in up x.book.post → next_number w ≡ r
 next_within x up r c taken w o sh t known er =
     let post : x.book.post ≡ post_of_world w = (sh.book.whole o).post in
     let known' : AllByRecursion (IsKnown x.book.post) w.underway = subst (λ (m : Post). AllByRecursion (IsKnown x.book.post) m.underway) post known in
@@ -132,7 +132,7 @@ next_within x up r c taken w o sh t known er =
     ∙ (ap number_in (first_alike (can_come w) (can_come_by up) w.underway (all_map (IsKnown x.book.post) (λ y. can_come w y ≡ can_come_by up y) w.underway (come_alike w x up (sh.sites o) t x.book.post) known'))
     ∙ (ap (next_in up) (sym post) ∙ sym er))
 
-pub next_known : (x : WorldState) (c : Config) (taken : List ℕ) (w : World) → w.over ≡ None → Shows c taken w x → AllByRecursion (IsKnown x.book.post) x.book.post.underway → IfSome (next_packet w) (λ y. packet_at w y.number ≡ Some y)
+pub next_known : (x : WorldState) (c : Config) (taken : Taken) (w : World) → w.over ≡ None → Shows c taken w x → AllByRecursion (IsKnown x.book.post) x.book.post.underway → IfSome (next_packet w) (λ y. packet_at w y.number ≡ Some y)
 next_known x c taken w o sh known =
     let post : x.book.post ≡ post_of_world w = (sh.book.whole o).post in
     let known' : AllByRecursion (IsKnown (post_of_world w)) w.underway = subst (λ (m : Post). AllByRecursion (IsKnown m) m.underway) post known in
@@ -158,36 +158,40 @@ sites_along w x y k ep ek = record {
 }
 
 -- the packet isn't under way any more
-pub pass_shown : (c : Config) (taken : List ℕ) (w : World) (x y : WorldState) (k : ℕ) → w.over ≡ None → Shows c taken w x → y.config ≡ x.config → y.places ≡ x.places → y.circuits ≡ x.circuits → y.book ≡ record x.book { post = passes k x.book.post } → Shows c taken (passed k w) y
+pub pass_shown : (c : Config) (taken : Taken) (w : World) (x y : WorldState) (k : ℕ) → w.over ≡ None → Shows c taken w x → y.config ≡ x.config → y.places ≡ x.places → y.circuits ≡ x.circuits → y.book ≡ record x.book { post = passes k x.book.post } → Shows c taken (passed k w) y
 pass_shown c taken w x y k o sh ec ep ek eb =
-    let book : Keeps taken (passed k w) (record x.book { post = passes k x.book.post }) = record {
-      printed = sh.book.printed;
+    let book : Keeps taken.bytes (passed k w) (record x.book { post = passes k x.book.post }) = record {
+      written = sh.book.written;
+      counts = sh.book.counts;
       over = sh.book.over;
       whole = λ e. record { post = ap (passes k) (sh.book.whole o).post; text = (sh.book.whole o).text };
     } in
     let sites = sites_along w x y (sh.sites o) ep ek in
     record {
       config = ec ∙ sh.config;
-      book = subst (λ (b : Ledger). Keeps taken (passed k w) b) (sym eb) book;
+      writing = ap (λ (b : Ledger). b.writing) eb ∙ sh.writing;
+      book = subst (λ (b : Ledger). Keeps taken.bytes (passed k w) b) (sym eb) book;
       sites = λ e. record { places = sites.places; scripts = sites.scripts; table = sites.table; circuits = sites.circuits };
     }
 
-pub lose_shown : (c : Config) (taken : List ℕ) (w : World) (x y : WorldState) (k : ℕ) → w.over ≡ None → Shows c taken w x → y.config ≡ x.config → y.places ≡ x.places → y.circuits ≡ x.circuits → y.book ≡ record x.book { post = loses_in k x.book.post } → Shows c taken (loses k w) y
+pub lose_shown : (c : Config) (taken : Taken) (w : World) (x y : WorldState) (k : ℕ) → w.over ≡ None → Shows c taken w x → y.config ≡ x.config → y.places ≡ x.places → y.circuits ≡ x.circuits → y.book ≡ record x.book { post = loses_in k x.book.post } → Shows c taken (loses k w) y
 lose_shown c taken w x y k o sh ec ep ek eb =
-    let book : Keeps taken (loses k w) (record x.book { post = loses_in k x.book.post }) = record {
-      printed = sh.book.printed;
+    let book : Keeps taken.bytes (loses k w) (record x.book { post = loses_in k x.book.post }) = record {
+      written = sh.book.written;
+      counts = sh.book.counts;
       over = sh.book.over;
       whole = λ e. record { post = ap (loses_in k) (sh.book.whole o).post; text = (sh.book.whole o).text };
     } in
     let sites = sites_along w x y (sh.sites o) ep ek in
     record {
       config = ec ∙ sh.config;
-      book = subst (λ (b : Ledger). Keeps taken (loses k w) b) (sym eb) book;
+      writing = ap (λ (b : Ledger). b.writing) eb ∙ sh.writing;
+      book = subst (λ (b : Ledger). Keeps taken.bytes (loses k w) b) (sym eb) book;
       sites = λ e. record { places = sites.places; scripts = sites.scripts; table = sites.table; circuits = sites.circuits };
     }
 
 -- a packet that was sent arrives, as the world takes it that has it no more under way
-pub arrive_shown : (n k : ℕ) (p : Packet) (x y z : WorldState) → Some p ≡ packet_in (sent_at k x.book.post) → y.config ≡ x.config → y.places ≡ x.places → y.circuits ≡ x.circuits → y.book ≡ record x.book { post = passes k x.book.post } → FollowsWithin (λ c w. arrives_at c n p (place_at w p.to) w) y z → (u : Numbered) (c : Config) (taken : List ℕ) (w : World) → w.over ≡ None → packet_at w k ≡ Some u → Shows c taken w x → Shows c taken (arrives c n u w) z
+pub arrive_shown : (n k : ℕ) (p : Packet) (x y z : WorldState) → Some p ≡ packet_in (sent_at k x.book.post) → y.config ≡ x.config → y.places ≡ x.places → y.circuits ≡ x.circuits → y.book ≡ record x.book { post = passes k x.book.post } → FollowsWithin (λ c w. arrives_at c n p (place_at w p.to) w) y z → (u : Numbered) (c : Config) (taken : Taken) (w : World) → w.over ≡ None → packet_at w k ≡ Some u → Shows c taken w x → Shows c taken (arrives c n u w) z
 arrive_shown n k p x y z is ec ep ek eb h u c taken w o e sh =
     let number : u.number ≡ k = key_found number_of k w.sent u e in
     let there : sent_at k x.book.post ≡ Some u = sym (packet_same c taken w x o sh k) ∙ e in
@@ -198,7 +202,7 @@ arrive_shown n k p x y z is ec ep ek eb h u c taken w o e sh =
     subst (λ (j : ℕ). Shows c taken (arrives_at c n u.packet (place_at w u.packet.to) (passed j w)) z) (sym number) step
 
 -- nothing was sent with the number
-pub arrive_none : (n k : ℕ) (x z : WorldState) → None ≡ packet_in (sent_at k x.book.post) → (u : Numbered) (c : Config) (taken : List ℕ) (w : World) → w.over ≡ None → packet_at w k ≡ Some u → Shows c taken w x → Shows c taken (arrives c n u w) z
+pub arrive_none : (n k : ℕ) (x z : WorldState) → None ≡ packet_in (sent_at k x.book.post) → (u : Numbered) (c : Config) (taken : Taken) (w : World) → w.over ≡ None → packet_at w k ≡ Some u → Shows c taken w x → Shows c taken (arrives c n u w) z
 arrive_none n k x z is u c taken w o e sh =
     let there : sent_at k x.book.post ≡ Some u = sym (packet_same c taken w x o sh k) ∙ e in
     let same : None ≡ Some u.packet = is ∙ ap packet_in there in
@@ -206,7 +210,7 @@ arrive_none n k x z is u c taken w o e sh =
 
 -- ---- lines ----
 
-pub deliver_yes : (n k : ℕ) (x y : WorldState) (b : Bool) → Answers (may_come k) x b → b ≡ true → ((u : Numbered) (c : Config) (taken : List ℕ) (w : World) → w.over ≡ None → packet_at w k ≡ Some u → Shows c taken w x → Shows c taken (arrives c n u w) y) → FollowsWithin (λ c w. delivers_line c n (packet_at w k) w) x y
+pub deliver_yes : (n k : ℕ) (x y : WorldState) (b : Bool) → Answers (may_come k) x b → b ≡ true → ((u : Numbered) (c : Config) (taken : Taken) (w : World) → w.over ≡ None → packet_at w k ≡ Some u → Shows c taken w x → Shows c taken (arrives c n u w) y) → FollowsWithin (λ c w. delivers_line c n (packet_at w k) w) x y
 deliver_yes n k x y b h t g c taken w o sh = at (packet_at w k) refl (h c taken w o sh ∙ t) where
   at : (q : Option Numbered) → packet_at w k ≡ q → comes_if w q ≡ true → Shows c taken (delivers_line c n q w) y
   at None e f = absurd (cc)
@@ -267,7 +271,7 @@ module _ (c : Config) (n : ℕ) (p : Packet) (w : World) where
     untrue false r = absurd (cc)
 
 module _ (n : ℕ) (p : Packet) (x : WorldState) (low : 1 ≤ p.to) (high : p.to ≤ 16) (b : Bool) (asked : b ≡ is_taken p (state_at x.places p.to)) where
-  site_is : (c : Config) (taken : List ℕ) (w : World) → w.over ≡ None → Shows c taken w x → place_at w p.to ≡ place_of (state_at x.places p.to)
+  site_is : (c : Config) (taken : Taken) (w : World) → w.over ≡ None → Shows c taken w x → place_at w p.to ≡ place_of (state_at x.places p.to)
   site_is c taken w o sh = (sh.sites o).places p.to low high
 
   pub hand_goes : (y : WorldState) → b ≡ true → Follows (λ c w. happens c n p.to (Receives p) w) x y → FollowsWithin (λ c w. arrives_at c n p (place_at w p.to) w) x y

@@ -9,27 +9,28 @@ use Rattle.locus_ids.specs.declared.config.Config.{Config}
 use Rattle.schedule_lines.specs.declared.line.Line.{Line as LineWords}
 use Rattle.the_run.specs.Disks.{Armed}
 use Rattle.the_run.specs.Worlds.{World, Limit, CutCircuit, script_of, armed_site, is_cut, is_between, arms}
-use Rattle.the_run.specs.Runs.{act, printed}
+use Rattle.the_run.specs.Runs.{act, entries_of_run}
 use Rattle.circuits.specs.Circuits.{is_cut_among}
 use Rattle.site_place.specs.Places.{PlaceState}
 use Rattle.run_book.specs.declared.fault.Passed.{Passed}
+use Rattle.run_book.specs.Writings.{written_of}
 use Rattle.run_book.specs.Ledgers.{Ledger, Keeps, limit_in}
 use Rattle.world.specs.States.{WorldState, state_at, place_of}
-use Rattle.world.specs.Shown.{ShowsSites, Shows, Follows, FollowsWithin, Answers}
+use Rattle.world.specs.Shown.{Taken, all_taken, ShowsSites, Shows, Follows, FollowsWithin, Answers}
 use Rattle.world.proofs.Tables.{split, put_here, put_there, state_put, state_other, state_none}
 use Rattle.world.proofs.Over.{ended_shown, act_over}
 
 -- ---- scripts ----
 
 module _ (a : Armed) (s at : ℕ) (x y : WorldState) (own : a.site ≡ s) (is : s ≡ at + 1) (ec : y.config ≡ x.config) (ek : y.circuits ≡ x.circuits) (eb : y.book ≡ x.book) where
-  armed_book : (taken : List ℕ) (w : World) → Keeps taken w x.book → Keeps taken (arms a w) y.book
-  armed_book taken w k = subst (λ (b : Ledger). Keeps taken (arms a w) b) (sym eb) (record { printed = k.printed; over = k.over; whole = λ e. record { post = (k.whole e).post; text = (k.whole e).text } })
+  armed_book : (taken : Taken) (w : World) → Keeps taken.bytes w x.book → Keeps taken.bytes (arms a w) y.book
+  armed_book taken w k = subst (λ (b : Ledger). Keeps taken.bytes (arms a w) b) (sym eb) (record { written = k.written; counts = k.counts; over = k.over; whole = λ e. record { post = (k.whole e).post; text = (k.whole e).text } })
 
   other_script : (w : World) (t : ℕ) → t ≢ s → script_of (arms a w) t ≡ script_of w t
   other_script w t ne = put_there armed_site a t w.armed (λ f. ne (sym f ∙ own))
 
   pub arm_follows : (p : PlaceState) → at < length x.places → state_at x.places s ≡ Some p → y.places ≡ set x.places at (record p { armed = Some a }) → Follows (λ c w. arms a w) x y
-  arm_follows p l found ep c taken w sh = record { config = ec ∙ sh.config; book = armed_book taken w sh.book; sites = λ e. armed_sites w (sh.sites e) } where
+  arm_follows p l found ep c taken w sh = record { config = ec ∙ sh.config; writing = ap (λ (b : Ledger). b.writing) eb ∙ sh.writing; book = armed_book taken w sh.book; sites = λ e. armed_sites w (sh.sites e) } where
     here : state_at y.places s ≡ Some (record p { armed = Some a })
     here = ap (λ (xs : List PlaceState). state_at xs s) ep ∙ state_put x.places s at (record p { armed = Some a }) is l
 
@@ -53,7 +54,7 @@ module _ (a : Armed) (s at : ℕ) (x y : WorldState) (own : a.site ≡ s) (is : 
 
   -- the site isn't there
   pub arm_absent : length x.places ≤ at → y.places ≡ x.places → Follows (λ c w. arms a w) x y
-  arm_absent l ep c taken w sh = record { config = ec ∙ sh.config; book = armed_book taken w sh.book; sites = λ e. armed_sites w (sh.sites e) } where
+  arm_absent l ep c taken w sh = record { config = ec ∙ sh.config; writing = ap (λ (b : Ledger). b.writing) eb ∙ sh.writing; book = armed_book taken w sh.book; sites = λ e. armed_sites w (sh.sites e) } where
     same : (t : ℕ) → state_at y.places t ≡ state_at x.places t
     same t = ap (λ (xs : List PlaceState). state_at xs t) ep
 
@@ -78,7 +79,8 @@ uncut_answer x a b r e c taken w o sh = ap not (cut_answer x a b r e c taken w o
 pub circuits_follow : (f : List CutCircuit → List CutCircuit) (x y : WorldState) → y.config ≡ x.config → y.places ≡ x.places → y.circuits ≡ f x.circuits → y.book ≡ x.book → FollowsWithin (λ c w. record w { circuits = f w.circuits }) x y
 circuits_follow f x y ec ep ek eb c taken w o sh = record {
   config = ec ∙ sh.config;
-  book = subst (λ (b : Ledger). Keeps taken (record w { circuits = f w.circuits }) b) (sym eb) (record { printed = sh.book.printed; over = sh.book.over; whole = λ e. record { post = (sh.book.whole o).post; text = (sh.book.whole o).text } });
+  writing = ap (λ (b : Ledger). b.writing) eb ∙ sh.writing;
+  book = subst (λ (b : Ledger). Keeps taken.bytes (record w { circuits = f w.circuits }) b) (sym eb) (record { written = sh.book.written; counts = sh.book.counts; over = sh.book.over; whole = λ e. record { post = (sh.book.whole o).post; text = (sh.book.whole o).text } });
   sites = λ e. record {
     places = λ s l m. (sh.sites o).places s l m ∙ ap (λ (xs : List PlaceState). place_of (state_at xs s)) (sym ep);
     scripts = λ s p g. (sh.sites o).scripts s p (ap (λ (xs : List PlaceState). state_at xs s) (sym ep) ∙ g);
@@ -109,10 +111,10 @@ pub step_within : (f : Config → World → World) (x y : WorldState) (o : Optio
 step_within f x y o eo is h c taken w sh = h c taken w (sym sh.book.over ∙ (sym eo ∙ limit_none o is)) sh
 
 -- where a limit was passed there is no next packet, and otherwise it is as told
-pub always : (x : WorldState) (P : World → Type 0) (o : Option Passed) → limit_in o ≡ x.book.over → is_some o ≡ false → ((c : Config) (taken : List ℕ) (w : World) → w.over ≡ None → Shows c taken w x → P w) → (c : Config) (taken : List ℕ) (w : World) → Shows c taken w x → P w
+pub always : (x : WorldState) (P : World → Type 0) (o : Option Passed) → limit_in o ≡ x.book.over → is_some o ≡ false → ((c : Config) (taken : Taken) (w : World) → w.over ≡ None → Shows c taken w x → P w) → (c : Config) (taken : Taken) (w : World) → Shows c taken w x → P w
 always x P o eo is h c taken w sh = h c taken w (sym sh.book.over ∙ (sym eo ∙ limit_none o is)) sh
 
-pub where_over : (x : WorldState) (P : World → Type 0) (o : Option Passed) → limit_in o ≡ x.book.over → is_some o ≡ true → ((w : World) (l : Limit) → w.over ≡ Some l → P w) → (c : Config) (taken : List ℕ) (w : World) → Shows c taken w x → P w
+pub where_over : (x : WorldState) (P : World → Type 0) (o : Option Passed) → limit_in o ≡ x.book.over → is_some o ≡ true → ((w : World) (l : Limit) → w.over ≡ Some l → P w) → (c : Config) (taken : Taken) (w : World) → Shows c taken w x → P w
 where_over x P o eo is h c taken w sh = let k = limit_some o is in h w k.0 (sym sh.book.over ∙ (sym eo ∙ k.1))
 
 pub line_is : (n : ℕ) (line x : LineWords) (old new : WorldState) → line ≡ x → FollowsWithin (λ c w. act c n x w) old new → FollowsWithin (λ c w. act c n line w) old new
@@ -123,10 +125,11 @@ line_done r n line x old new e h = subst (λ (l : LineWords). OnOk r (FollowsWit
 
 -- ---- the text ----
 
-pub taken_shown : (c : Config) (taken : List ℕ) (w : World) (x y : WorldState) → y.config ≡ x.config → y.places ≡ x.places → y.circuits ≡ x.circuits → y.book ≡ record x.book { fresh = [] } → Shows c taken w x → Shows c (printed w) w y
+pub taken_shown : (c : Config) (taken : Taken) (w : World) (x y : WorldState) → y.config ≡ x.config → y.places ≡ x.places → y.circuits ≡ x.circuits → y.book ≡ record x.book { fresh = [] } → Shows c taken w x → Shows c (all_taken taken.writing w) w y
 taken_shown c taken w x y ec ep ek eb sh = record {
   config = ec ∙ sh.config;
-  book = subst (λ (b : Ledger). Keeps (printed w) w b) (sym eb) (record { printed = sym (append-nil (printed w)); over = sh.book.over; whole = λ e. record { post = (sh.book.whole e).post; text = (sh.book.whole e).text } });
+  writing = ap (λ (b : Ledger). b.writing) eb ∙ sh.writing;
+  book = subst (λ (b : Ledger). Keeps (written_of taken.writing (entries_of_run w)) w b) (sym eb) (record { written = ap (λ k. written_of k (entries_of_run w)) sh.writing ∙ sym (append-nil (written_of taken.writing (entries_of_run w))); counts = sh.book.counts; over = sh.book.over; whole = λ e. record { post = (sh.book.whole e).post; text = (sh.book.whole e).text } });
   sites = λ e. record {
     places = λ s l m. (sh.sites e).places s l m ∙ ap (λ (xs : List PlaceState). place_of (state_at xs s)) (sym ep);
     scripts = λ s p g. (sh.sites e).scripts s p (ap (λ (xs : List PlaceState). state_at xs s) (sym ep) ∙ g);

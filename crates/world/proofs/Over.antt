@@ -5,13 +5,14 @@ use Rattle.schedule_lines.specs.declared.line.Line.{Line as LineWords}
 use Rattle.schedule_lines.specs.declared.line.Line.TheVariants as line
 use Rattle.wire_messages.specs.declared.packet.Packet.{Packet}
 use Rattle.role_steps.specs.Views.{SiteView, DiskWrite, Outcome, Event, Calls, Ticks, Parts, Merges, GivesUp, Receives, all_sites}
-use Rattle.trace_book.specs.Text.{text}
 use Rattle.the_run.specs.Disks.{Armed, Booted, Whole, CutOff, write_calls, boots}
 use Rattle.the_run.specs.Steps.{step, is_dropped}
 use Rattle.the_run.specs.Worlds.{World, Limit, Line, Place, Running, Stopped, Numbered, place_at, links_of, script_of, voids, runs_on, spends, cut_event, writes_of, acts_of, happens_at, happens, passed, loses, is_cut}
 use Rattle.the_run.specs.Runs.{packet_at, next_packet, next_packet_of, arrives_at, arrives, goes_round, ends_round, delivers, ticks_to, settles, unless_void, delivers_line, loses_line, stops_line, boots_as, boots_line, act, shown_onto, is_busy, is_stopped, is_in_no_epoch, cuts_circuit, mends_circuit}
+use Rattle.the_run.specs.Commands.{counts_onto, no_counts}
+use Rattle.run_book.specs.Writings.{written_of}
 use Rattle.world.specs.States.{WorldState}
-use Rattle.world.specs.Shown.{Shows}
+use Rattle.world.specs.Shown.{Taken, Shows}
 use Rattle.world.proofs.Events.{over_happened}
 
 -- the text and the limit are as they were
@@ -23,11 +24,13 @@ pub ended_same : (w v : World) → v ≡ w → Ended w v
 ended_same w v e = record { trace = ap (λ (x : World). x.trace) e; over = ap (λ (x : World). x.over) e }
 
 -- what is shown of a world that has ended
-pub ended_shown : (c : Config) (taken : List ℕ) (w v : World) (x : WorldState) (l : Limit) → w.over ≡ Some l → Ended w v → Shows c taken w x → Shows c taken v x
+pub ended_shown : (c : Config) (taken : Taken) (w v : World) (x : WorldState) (l : Limit) → w.over ≡ Some l → Ended w v → Shows c taken w x → Shows c taken v x
 ended_shown c taken w v x l e k sh = record {
   config = sh.config;
+  writing = sh.writing;
   book = record {
-    printed = ap (λ (t : List Line). text (shown_onto t [])) k.trace ∙ sh.book.printed;
+    written = ap (λ (t : List Line). written_of x.book.writing (shown_onto t [])) k.trace ∙ sh.book.written;
+    counts = ap (λ (t : List Line). counts_onto no_counts (shown_onto t [])) k.trace ∙ sh.book.counts;
     over = sh.book.over ∙ sym k.over;
     whole = λ f. absurd (let g : v.over ≡ Some l = k.over ∙ e in cc);
   };

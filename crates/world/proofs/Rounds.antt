@@ -1,5 +1,5 @@
 -- A round, packet by packet.
-use Rattle.std.proofs.Common.{◌≡◌, ℕ, zero, suc, ◌+◌, ◌<◌, List, ◌∷◌, drop, Option, Some, None, true, false, refl, sym, ap, subst, ◌∙◌, arith}
+use Rattle.std.proofs.Common.{◌≡◌, ℕ, zero, suc, ◌+◌, ◌<◌, ◌∷◌, drop, Option, Some, None, true, false, refl, sym, ap, subst, ◌∙◌, arith}
 use Rattle.std.specs.Option.{is_some, IfSome}
 use Rattle.locus_ids.specs.declared.config.Config.{Config}
 use Rattle.trace_book.specs.declared.record.Record.TheVariants as says
@@ -8,18 +8,18 @@ use Rattle.the_run.specs.Worlds.{World, Limit, Numbered, happens, says_only}
 use Rattle.the_run.specs.Runs.{packet_at, next_packet, next_packet_of, arrives, goes_round, ends_round, delivers, ticks_to}
 use Rattle.packet_mail.specs.Posts.{number_in}
 use Rattle.world.specs.States.{WorldState}
-use Rattle.world.specs.Shown.{Shows, Follows}
+use Rattle.world.specs.Shown.{Taken, Shows, Follows}
 use Rattle.world.specs.Listed.{next_number}
 
 -- the worlds that the start shows are led to such ones that what is left of the round ends as the whole one
 abbrev pub Rests : (Config → World → World) → (Config → World → World) → WorldState → WorldState → Type 0
-Rests rest whole start now = (c : Config) (taken : List ℕ) (w : World) → Shows c taken w start → (v : World) × (Shows c taken v now × (rest c v ≡ whole c w))
+Rests rest whole start now = (c : Config) (taken : Taken) (w : World) → Shows c taken w start → (v : World) × (Shows c taken v now × (rest c v ≡ whole c w))
 
 pub rests_first : (whole : Config → World → World) (x : WorldState) → Rests whole whole x x
 rests_first whole x c taken w sh = (w, (sh, refl))
 
 -- the rest does nothing
-pub rests_done : (rest whole : Config → World → World) (x y : WorldState) → Rests rest whole x y → ((c : Config) (taken : List ℕ) (v : World) → Shows c taken v y → rest c v ≡ v) → Follows whole x y
+pub rests_done : (rest whole : Config → World → World) (x y : WorldState) → Rests rest whole x y → ((c : Config) (taken : Taken) (v : World) → Shows c taken v y → rest c v ≡ v) → Follows whole x y
 rests_done rest whole x y h g c taken w sh =
     let k = h c taken w sh in
     subst (λ (u : World). Shows c taken u y) (sym (g c taken k.0 k.1.0) ∙ k.1.1) k.1.0
@@ -72,7 +72,7 @@ none_found None e = refl
 none_found (Some u) e = absurd (cc)
 
 -- one packet more is delivered
-pub deliver_more : (n budget left less k : ℕ) (x y z : WorldState) (r : Option ℕ) → left ≡ suc less → r ≡ Some k → ((c : Config) (taken : List ℕ) (w : World) → Shows c taken w y → next_number w ≡ r) → ((c : Config) (taken : List ℕ) (w : World) → Shows c taken w y → IfSome (next_packet w) (λ u. packet_at w u.number ≡ Some u)) → ((u : Numbered) (c : Config) (taken : List ℕ) (w : World) → w.over ≡ None → packet_at w k ≡ Some u → Shows c taken w y → Shows c taken (arrives c n u w) z) → Rests (λ c w. delivers c n left w) (λ c w. delivers c n budget w) x y → Rests (λ c w. delivers c n less w) (λ c w. delivers c n budget w) x z
+pub deliver_more : (n budget left less k : ℕ) (x y z : WorldState) (r : Option ℕ) → left ≡ suc less → r ≡ Some k → ((c : Config) (taken : Taken) (w : World) → Shows c taken w y → next_number w ≡ r) → ((c : Config) (taken : Taken) (w : World) → Shows c taken w y → IfSome (next_packet w) (λ u. packet_at w u.number ≡ Some u)) → ((u : Numbered) (c : Config) (taken : Taken) (w : World) → w.over ≡ None → packet_at w k ≡ Some u → Shows c taken w y → Shows c taken (arrives c n u w) z) → Rests (λ c w. delivers c n left w) (λ c w. delivers c n budget w) x y → Rests (λ c w. delivers c n less w) (λ c w. delivers c n budget w) x z
 deliver_more n budget left less k x y z r el er next known arrive h c taken w sh =
     let b = h c taken w sh in
     let v : World = b.0 in
@@ -85,16 +85,16 @@ deliver_more n budget left less k x y z r el er next known arrive h c taken w sh
     (arrives c n u v, (arrive u c taken v (within_limits v u v.over f.1.0) sent' b.1.0, sym step ∙ b.1.1))
 
 -- there is no packet that can be delivered
-pub deliver_none : (n budget left : ℕ) (x y : WorldState) (r : Option ℕ) → is_some r ≡ false → ((c : Config) (taken : List ℕ) (w : World) → Shows c taken w y → next_number w ≡ r) → Rests (λ c w. delivers c n left w) (λ c w. delivers c n budget w) x y → Follows (λ c w. delivers c n budget w) x y
+pub deliver_none : (n budget left : ℕ) (x y : WorldState) (r : Option ℕ) → is_some r ≡ false → ((c : Config) (taken : Taken) (w : World) → Shows c taken w y → next_number w ≡ r) → Rests (λ c w. delivers c n left w) (λ c w. delivers c n budget w) x y → Follows (λ c w. delivers c n budget w) x y
 deliver_none n budget left x y r er next h = rests_done (λ c w. delivers c n left w) (λ c w. delivers c n budget w) x y h (λ c taken v sh. at c v left (none_found (next_packet v) (ap is_some (next c taken v sh) ∙ er))) where
   at : (c : Config) (v : World) (m : ℕ) → next_packet v ≡ None → delivers c n m v ≡ v
   at c v zero e = ap (ends_round n v) e
   at c v (suc m) e = ap (goes_round c n (delivers c n m) v) e
 
 -- the budget is spent, and there is one more
-pub deliver_end : (n budget left : ℕ) (x y z : WorldState) (r : Option ℕ) → left ≡ 0 → is_some r ≡ true → ((c : Config) (taken : List ℕ) (w : World) → Shows c taken w y → next_number w ≡ r) → Follows (λ c w. says_only n says.Budget w) y z → Rests (λ c w. delivers c n left w) (λ c w. delivers c n budget w) x y → Follows (λ c w. delivers c n budget w) x z
+pub deliver_end : (n budget left : ℕ) (x y z : WorldState) (r : Option ℕ) → left ≡ 0 → is_some r ≡ true → ((c : Config) (taken : Taken) (w : World) → Shows c taken w y → next_number w ≡ r) → Follows (λ c w. says_only n says.Budget w) y z → Rests (λ c w. delivers c n left w) (λ c w. delivers c n budget w) x y → Follows (λ c w. delivers c n budget w) x z
 deliver_end n budget left x y z r el er next g h = rests_last (λ c w. delivers c n left w) (λ c w. delivers c n budget w) x y z h last where
-  at : (c : Config) (taken : List ℕ) (v : World) (q : Option Numbered) → is_some (number_in q) ≡ true → Shows c taken (says_only n says.Budget v) z → Shows c taken (ends_round n v q) z
+  at : (c : Config) (taken : Taken) (v : World) (q : Option Numbered) → is_some (number_in q) ≡ true → Shows c taken (says_only n says.Budget v) z → Shows c taken (ends_round n v q) z
   at c taken v None e sh = absurd (cc)
   at c taken v (Some u) e sh = sh
 

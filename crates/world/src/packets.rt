@@ -5,7 +5,7 @@ ghost use Rattle.the_run.specs.Worlds.{World as RunWorld, Numbered, place_at, ha
 ghost use Rattle.the_run.specs.Runs.{packet_at, next_packet, arrives, arrives_at, delivers_line, loses_line, lists_pending};
 ghost use Rattle.packet_mail.specs.Posts.{is_sent};
 ghost use Rattle.world.specs.States.{state_of, state_at};
-ghost use Rattle.world.specs.Shown.{Shows, Follows, FollowsWithin, Answers};
+ghost use Rattle.world.specs.Shown.{Taken, Shows, Follows, FollowsWithin, Answers};
 ghost use Rattle.world.specs.Listed.{may_come, may_be_lost, next_number, listed, is_taken};
 
 use crate::{World, WorldFault};
@@ -73,8 +73,8 @@ impl World {
 
     /// The lowest-numbered packet that can be delivered; none where a limit was passed.
     pub(crate) fn next(&self) -> Option<u32>
-        ensures value { (c : Config) (taken : List ℕ) (w : RunWorld) → Shows c taken w (state_of self.now) → next_number w ≡ result }
-        ensures known { (c : Config) (taken : List ℕ) (w : RunWorld) → Shows c taken w (state_of self.now) → IfSome (next_packet w) (λ x. packet_at w x.number ≡ Some x) }
+        ensures value { (c : Config) (taken : Taken) (w : RunWorld) → Shows c taken w (state_of self.now) → next_number w ≡ result }
+        ensures known { (c : Config) (taken : Taken) (w : RunWorld) → Shows c taken w (state_of self.now) → IfSome (next_packet w) (λ x. packet_at w x.number ≡ Some x) }
     {
         if self.book.passed().is_some() {
             return None;
@@ -116,7 +116,7 @@ impl World {
 
     /// A packet arrives, for the first time or again.
     pub(crate) fn arrive(&mut self, line: u32, number: u32) -> Result<(), WorldFault>
-        ensures { OnOk result ((x : Numbered) (c : Config) (taken : List ℕ) (w : RunWorld) → w.over ≡ None → packet_at w number ≡ Some x → Shows c taken w (state_of self.old) → Shows c taken (arrives c line x w) (state_of self.new)) }
+        ensures { OnOk result ((x : Numbered) (c : Config) (taken : Taken) (w : RunWorld) → w.over ≡ None → packet_at w number ≡ Some x → Shows c taken w (state_of self.old) → Shows c taken (arrives c line x w) (state_of self.new)) }
     {
         let found = self.book.mail().packet(self.alloc, number)?;
         let Some(packet) = found else {

@@ -1,16 +1,18 @@
 ghost use Rattle.std.specs.Prelude.{◌≡◌, ℕ, List, [], ◌++◌, IfOk, OnOk, min};
 ghost use Rattle.locus_ids.specs.declared.config.Config.{Config};
 ghost use Rattle.the_run.specs.Worlds.{World as RunWorld, first_world};
-ghost use Rattle.the_run.specs.Runs.{act, printed};
+ghost use Rattle.the_run.specs.Runs.{act, entries_of_run};
+ghost use Rattle.the_run.specs.Commands.{counts_onto, no_counts};
+ghost use Rattle.run_book.specs.Writings.{written_of, counts_in};
 ghost use Rattle.run_book.specs.Ledgers.{limit_in, books};
 ghost use Rattle.world.specs.States.{state_of, AreFirst};
-ghost use Rattle.world.specs.Shown.{Shows, Follows};
+ghost use Rattle.world.specs.Shown.{Taken, nothing_taken, all_taken, Shows, Follows};
 
 use crate::WorldFault;
 use circuits::CutCircuits;
 use locus_ids::{Config, SiteId};
 use packet_order::Dispatch;
-use run_book::{Passed, RunBook};
+use run_book::{Passed, RunBook, RunCounts, Writing};
 use schedule_lines::Line;
 use site_place::SitePlace;
 use std::alloc::Global;
@@ -43,11 +45,12 @@ fn first_places(alloc: Global, config: &Config) -> Result<Vec<SitePlace>, WorldF
 
 impl World {
     /// The first world of a cluster: all sites run in their first boot, in no epoch, and all circuits are up.
-    pub fn new(alloc: Global, config: Config) -> Result<World, WorldFault>
-        ensures { IfOk result (λ made. Shows config [] (first_world config) (state_of made)) }
+    /// Of its records this is written.
+    pub fn new(alloc: Global, config: Config, writing: Writing) -> Result<World, WorldFault>
+        ensures { IfOk result (λ made. Shows config (nothing_taken writing) (first_world config) (state_of made)) }
     {
         let places = first_places(alloc, &config)?;
-        let book = RunBook::new(alloc)?;
+        let book = RunBook::new(alloc, writing)?;
         Ok(World {
             alloc,
             config,
@@ -59,23 +62,30 @@ impl World {
 
     /// The limit that an event passed. Nothing happens after it.
     pub fn passed(&self) -> Option<Passed>
-        ensures { (c : Config) (taken : List ℕ) (w : RunWorld) → Shows c taken w (state_of self.now) → limit_in result ≡ w.over }
+        ensures { (c : Config) (taken : Taken) (w : RunWorld) → Shows c taken w (state_of self.now) → limit_in result ≡ w.over }
     {
         self.book.passed()
     }
 
-    /// The text of the trace that nobody has taken yet.
+    /// What is written of the records and nobody has taken yet.
     pub fn fresh(&self) -> &[u8]
-        ensures { (c : Config) (taken : List ℕ) (w : RunWorld) → Shows c taken w (state_of self.now) → printed w ≡ taken ++ result.now }
+        ensures { (c : Config) (taken : Taken) (w : RunWorld) → Shows c taken w (state_of self.now) → written_of taken.writing (entries_of_run w) ≡ taken.bytes ++ result.now }
     {
         self.book.fresh()
     }
 
-    /// The text is taken.
+    /// What is written is taken.
     pub fn take_fresh(&mut self)
-        ensures { (c : Config) (taken : List ℕ) (w : RunWorld) → Shows c taken w (state_of self.old) → Shows c (printed w) w (state_of self.new) }
+        ensures { (c : Config) (taken : Taken) (w : RunWorld) → Shows c taken w (state_of self.old) → Shows c (all_taken taken.writing w) w (state_of self.new) }
     {
         self.book.take_fresh();
+    }
+
+    /// The counts of all records.
+    pub fn counts(&self) -> RunCounts
+        ensures { (c : Config) (taken : Taken) (w : RunWorld) → Shows c taken w (state_of self.now) → counts_in result ≡ counts_onto no_counts (entries_of_run w) }
+    {
+        self.book.counts()
     }
 
     /// What an event sends and tells, in the book.
