@@ -1,11 +1,12 @@
 -- An outbox's packets, in the order of their places.
-use Rattle.std.proofs.Common.{◌≡◌, ℕ, zero, suc, ◌<◌, ◌≤◌, ◌==◌, List, [], ◌∷◌, length, slice_get, Option, Some, None, true, false, refl, sym, ap, ◌∙◌, arith}
+use Rattle.std.proofs.Common.{◌≡◌, ℕ, zero, suc, ◌+◌, ◌<◌, ◌≤◌, ◌==◌, List, [], ◌∷◌, ◌++◌, length, map, take, drop, set, get_or, slice_get, Option, Some, None, true, false, refl, sym, ap, ◌∙◌, arith}
+use Rattle.std.specs.List.{flat_map}
 use Rattle.trace_book.specs.declared.record.Record.{Record}
 use Rattle.wire_messages.specs.Outboxes.{Outgoing}
 use Rattle.wire_messages.specs.declared.packet.Packet.{Packet}
 use Rattle.role_steps.specs.Tables.{put_before, sorted_onto}
 use Rattle.the_run.specs.Steps.{is_before, in_order}
-use Rattle.packet_order.specs.Orders.{picked, with_picked, in_place, sorted_out, ArePlaces}
+use Rattle.packet_order.specs.Orders.{picked, with_picked, in_place, sorted_out, packets_in, records_in, together, unsent, ArePlaces}
 use Rattle.packet_order.proofs.Placing.{length_picked}
 
 pub length_in_place : (ps : List Packet) (is : List ℕ) (n : ℕ) → ArePlaces (length ps) is → n ≡ length is → (n ≡ 0 → ⊥) → n ≡ length (in_place ps is)
@@ -79,3 +80,27 @@ pub many : (o : Outgoing) (ps : List Packet) (rs : List Record) (is : List ℕ) 
 many o ps rs is n p r e c l =
     let long : 2 ≤ length ps = omega arith in
     ap (λ (xs : List Packet). out_of xs rs) (many_ordered ps is long e ∙ ap in_order p) ∙ ap (out_of (in_order o.packets)) r
+
+-- ---- nothing is sent ----
+
+none_sent : (parts : List Outgoing) → flat_map packets_in (map unsent parts) ≡ []
+none_sent [] = refl
+none_sent (part ∷ parts) = none_sent parts
+
+all_told : (parts : List Outgoing) → flat_map records_in (map unsent parts) ≡ flat_map records_in parts
+all_told [] = refl
+all_told (part ∷ parts) = ap (λ (rs : List Record). part.records ++ rs) (all_told parts)
+
+pub together_unsent : (parts : List Outgoing) → together (map unsent parts) ≡ unsent (together parts)
+together_unsent parts = (λ i. record { packets = none_sent parts i; records = all_told parts i })
+
+-- one part more is unsent
+pub unsent_more : (parts now : List Outgoing) (i : ℕ) (d : Outgoing) → i < length parts → now ≡ map unsent (take i parts) ++ drop i parts
+    → set now i (unsent (get_or now i d)) ≡ map unsent (take (i + 1) parts) ++ drop (i + 1) parts
+unsent_more parts now i d l e =
+    let next : suc i ≡ i + 1 = omega arith in
+    ap (λ (xs : List Outgoing). set xs i (unsent (get_or xs i d))) e ∙ (at parts i l ∙ ap (λ (k : ℕ). map unsent (take k parts) ++ drop k parts) next) where
+      at : (xs : List Outgoing) (k : ℕ) → k < length xs → set (map unsent (take k xs) ++ drop k xs) k (unsent (get_or (map unsent (take k xs) ++ drop k xs) k d)) ≡ map unsent (take (suc k) xs) ++ drop (suc k) xs
+      at [] k m = absurd (omega arith)
+      at (x ∷ xs) zero m = refl
+      at (x ∷ xs) (suc k) m = ap (λ (ys : List Outgoing). unsent x ∷ ys) (at xs k (omega arith))

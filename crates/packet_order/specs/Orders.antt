@@ -48,3 +48,7 @@ behind first then = record { packets = first.packets ++ then.packets; records = 
 
 abbrev pub sorted_out : Outgoing → Outgoing
 sorted_out o = record { packets = in_order o.packets; records = o.records }
+
+-- what is told there, with nothing sent
+abbrev pub unsent : Outgoing → Outgoing
+unsent out = record { packets = []; records = out.records }

@@ -1,7 +1,7 @@
-ghost use Rattle.std.specs.Prelude.{◌≡◌, [], Err, OnOk};
+ghost use Rattle.std.specs.Prelude.{◌≡◌, [], map, Err, OnOk};
 ghost use Rattle.std.specs.List.{AllByRecursion};
 ghost use Rattle.wire_messages.specs.Packets.{FitsPacket};
-ghost use Rattle.packet_order.specs.Orders.{behind, sorted_out, together};
+ghost use Rattle.packet_order.specs.Orders.{behind, sorted_out, together, unsent};
 
 use crate::{OrderFault, Part};
 use locus_ids::NoMemory;
@@ -22,6 +22,15 @@ impl Model for Dispatch {
     ghost Value = { Outgoing };
 
     ghost view = { λ d. together d.parts.items };
+}
+
+/// Of no part anything is sent.
+fn drop_each(parts: &mut Vec<Part>)
+    ensures { parts.new.items ≡ map unsent parts.old.items }
+{
+    for part in parts.iter_mut() {
+        part.drop_packets();
+    }
 }
 
 impl Dispatch {
@@ -59,6 +68,13 @@ impl Dispatch {
     {
         self.parts.push(part)?;
         Ok(())
+    }
+
+    /// Nothing of it is sent: its packets are dropped, and what is told stays as it was.
+    pub fn drop_packets(&mut self)
+        ensures { self.new ≡ unsent self.old }
+    {
+        drop_each(&mut self.parts);
     }
 
     /// What was added, one after the other.

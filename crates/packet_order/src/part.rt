@@ -2,7 +2,7 @@ ghost use Rattle.std.specs.Prelude.{◌≡◌, length, slice_get, Err, IfOk};
 ghost use Rattle.std.specs.List.{AllByRecursion};
 ghost use Rattle.std.specs.Option.{option_copied};
 ghost use Rattle.wire_messages.specs.Packets.{FitsPacket};
-ghost use Rattle.packet_order.specs.Orders.{sorted_out};
+ghost use Rattle.packet_order.specs.Orders.{sorted_out, unsent};
 
 use crate::OrderFault;
 use crate::sorting::order_of;
@@ -90,6 +90,14 @@ impl Part {
             Some(place) => self.packets.get(*place),
             None => None,
         }
+    }
+
+    /// Nothing of it is sent, and its records stay.
+    pub(crate) fn drop_packets(&mut self)
+        ensures { self.new ≡ unsent self.old }
+    {
+        self.packets.clear();
+        self.places.clear();
     }
 
     /// What is told, the earliest record first.

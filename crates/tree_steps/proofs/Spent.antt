@@ -32,7 +32,7 @@ next-most h file parents site = let g = greatest-most (λ p. counter h file p si
 not_below : (a b : ℕ) → b ≤ a → nat_lt a b ≡ false
 not_below a b h = grind (arith, h)
 
-never_spent : (h : List Version) (t : TreeState) (x : Instance) → length h < 4294967295 → is_spent h t x ≡ false
+pub never_spent : (h : List Version) (t : TreeState) (x : Instance) → length h < 4294967295 → is_spent h t x ≡ false
 never_spent h t x short =
     let most = next-most h x.grant.file (parents_of h t x) x.grant.ss in
     not_below 4294967295 (next_number h x.grant.file (parents_of h t x) x.grant.ss) (omega (arith, most, short))

@@ -3,6 +3,7 @@
 //! how sites talk.
 #![tactic(auto)]
 
+mod acting;
 mod looking;
 mod numbers;
 mod opening;
@@ -14,3 +15,4 @@ mod tree;
 mod working;
 
 pub use tree::TreeTables;
+pub use working::content_at;

@@ -90,11 +90,32 @@ impl TreeTables {
         epoch == self.epoch && group == self.group
     }
 
+    /// The epoch is that of this tree.
+    pub fn is_of(&self, epoch: EpochId) -> bool
+        ensures { result ≡ same_epoch epoch self.now.epoch }
+    {
+        epoch == self.epoch
+    }
+
     /// The instance was granted in the group of the tree.
     pub fn is_granted_here(&self, inst: Serial) -> bool
         ensures { result ≡ is_granted_here self.now inst }
     {
         group_granted(self.grants.as_slice(), inst, self.group)
+    }
+
+    /// Which group the tree is of.
+    pub fn group(&self) -> u8
+        ensures { result ≡ self.now.group }
+    {
+        self.group
+    }
+
+    /// The versions that were brought to the epoch or published in it.
+    pub fn known(&self) -> &[Brought]
+        ensures { result.now ≡ self.now.known }
+    {
+        self.known.as_slice()
     }
 
     /// The allocator that the lists are kept with.

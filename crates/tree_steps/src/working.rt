@@ -15,7 +15,7 @@ pub(crate) fn begins_owing(mode: Mode) -> bool
 }
 
 /// The content of a version, or no bytes where there is none.
-pub(crate) fn content_at(
+pub fn content_at(
     alloc: Global,
     h: &History,
     file: FileId,

@@ -1,0 +1,7 @@
+use Rattle.std.proofs.Common.{◌≡◌, sym, ap, ◌∙◌}
+use Rattle.packet_order.specs.Orders.{together, unsent}
+use Rattle.packet_order.proofs.Parts.{together_unsent}
+use Rattle.packet_order.proofs.dispatch.Dispatch.drop_packets.Goals as goal
+
+pub returns : goal.returns
+returns c = ap together c.drop_each.ensures ∙ (together_unsent c.self.inside.parts.items ∙ ap unsent c.self.view_is)

@@ -1,0 +1,4 @@
+pub mod Operated
+pub mod Given
+pub mod Changed
+pub mod Kept

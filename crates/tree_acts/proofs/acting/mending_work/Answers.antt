@@ -1,0 +1,11 @@
+use Rattle.std.proofs.Common.{◌≡◌, subst, Option, IfOk}
+use Rattle.file_effects.specs.declared.work.Work.{Work}
+use Rattle.tree_acts.proofs.Given.{mends_with}
+use Rattle.tree_acts.proofs.acting.mending_work.Goals as goal
+
+pub returns : goal.returns
+returns c =
+    λ is. subst (λ (v : Option Work). IfOk c.operated_work.result (λ made. made ≡ v))
+    (mends_with c.args.h.now c.args.tree.now c.args.outcome.now c.args.instance.now c.args.op.now c.zero.result c.in_ok-mending.mending is
+    c.in_ok-mending.ensures.contents c.in_ok-mending.ensures.kept)
+    c.operated_work.ensures

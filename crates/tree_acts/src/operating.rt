@@ -1,0 +1,77 @@
+ghost use Rattle.std.specs.Prelude.{◌≡◌, ◌≤◌, ◌<◌, length, IfOk};
+ghost use Rattle.file_effects.specs.declared.work.Work.{Work};
+ghost use Rattle.role_steps.specs.OperationEffects.{effect_of};
+ghost use Rattle.tree_acts.specs.Acting.{work_by};
+
+use file_effects::Work;
+use locus_ids::sizes::MAX_BYTES;
+use locus_ids::{Bytes, ItemList, NoMemory};
+use operation_effects::{MendingWork, OpenWork, WorkingContent, operate};
+use trace_book::{Op, Outcome};
+use tree_tables::same_outcome;
+use version_vector::Vector;
+
+/// What becomes of an instance by an operation that gives this outcome where so many pages are free, or `None` where it
+/// gives another one, or isn't lawful. A removal is by one who saw this vector.
+#[tactic(auto, using(crate::proofs::Operated::unlawful_so, crate::proofs::Operated::other_so, crate::proofs::Operated::given_so))]
+pub(crate) fn work_by(
+    work: &Work,
+    op: &Op,
+    seen: &Vector<16>,
+    mending: &MendingWork,
+    free: u16,
+    outcome: &Outcome,
+) -> Result<Option<Work>, NoMemory>
+    requires { work.now.ops < 4294967295 }
+    ensures { IfOk result (λ made. made ≡ work_by free outcome.now work.now (effect_of op.now seen.now mending.now work.now.content)) }
+{
+    let mut open = opened(work)?;
+    let Ok(gave) = operate(&mut open, op, seen, mending, free) else {
+        return Err(NoMemory);
+    };
+    let Some(gave) = gave else {
+        return Ok(None);
+    };
+    if !same_outcome(&gave, outcome) {
+        return Ok(None);
+    }
+    let work = closed(open)?;
+    Ok(Some(work))
+}
+
+/// The same work, to be operated on in place. A content that is longer than that of a file may be is past what it takes.
+fn opened(work: &Work) -> Result<OpenWork, NoMemory>
+    ensures { IfOk result (λ made. made ≡ work.now) }
+{
+    let alloc = work.changed.allocator();
+    if work.content.len() > MAX_BYTES {
+        return Err(NoMemory);
+    }
+    let content = WorkingContent::from_slice(alloc, work.content.as_slice())?;
+    let changed = work.changed.copy()?;
+    Ok(OpenWork {
+        ops: work.ops,
+        content,
+        owes: work.owes,
+        last: work.last,
+        committed: work.committed,
+        fresh: work.fresh,
+        changed,
+    })
+}
+
+/// The same work, in the tree.
+fn closed(worked: OpenWork) -> Result<Work, NoMemory>
+    ensures { IfOk result (λ made. made ≡ worked) }
+{
+    let content = Bytes::from_slice(worked.changed.allocator(), worked.content.as_slice())?;
+    Ok(Work {
+        ops: worked.ops,
+        content,
+        owes: worked.owes,
+        last: worked.last,
+        committed: worked.committed,
+        fresh: worked.fresh,
+        changed: worked.changed,
+    })
+}
