@@ -2,9 +2,12 @@
 use Rattle.std.proofs.Common.{◌≡◌, ℕ, cond, true, false, Bool, not, ◌&&◌, List, [], ◌∷◌, length, take, drop, get_or, ◌≤◌, ◌-◌, arith, Option, None, Some, refl, sym, ap, ◌∙◌, subst}
 use Rattle.std.proofs.lemmas.List.{take_all}
 use Rattle.std.specs.List.{list_all}
-use Rattle.std.specs.Prelude.{Result, Ok}
+use Rattle.std.proofs.lemmas.Bool.{false≢true}
+use Rattle.std.specs.Prelude.{Result, Ok, Err, OnOk, IfErr, IsErrAnd}
 use Rattle.disk_model.specs.declared.disk.DiskFault.{DiskFault}
-use Rattle.disk_model.specs.Disk.{Moment, TellsRead}
+use Rattle.disk_model.specs.declared.disk.DiskFault.TheVariants.{Failed}
+use Rattle.disk_model.specs.Disk.{Moment, Passing, Untold, All, Exactly, Goes, HasCause, Rose, TellsRead}
+use Rattle.disk_model.specs.Images.{Same}
 use Rattle.disk_model.proofs.Moments.{on_ok}
 use Rattle.disk_model.proofs.ReadRuns.{goes_same, reads_join}
 use Rattle.locus_ids.specs.declared.ids.FileId.{FileId}
@@ -25,14 +28,90 @@ use Rattle.trace_book.specs.declared.call.Call.TheVariants as call
 use Rattle.role_steps.specs.Mends.{has_mend_in, kept_vectors, row_file, starts_mend, starts_mend_of, starts_mends_in, wants_mend, wants_rescue_in}
 use Rattle.role_steps.specs.declared.synchronizing.SyncTable.{SyncTable}
 use Rattle.site_packs.specs.Copies.{copies_on}
-use Rattle.site_packs.specs.Packs.{PacksState, groups_of}
+use Rattle.site_packs.specs.Committing.{read_answer}
+use Rattle.site_packs.specs.Packs.{PacksState, Stand, groups_of}
+use Rattle.site_packs.specs.declared.faults.ReadFault.{ReadFault}
+use Rattle.site_packs.specs.declared.faults.ReadFault.TheVariants as read
 use Rattle.using_site.specs.Steps.{Gives}
 use Rattle.site_tables.proofs.Giving.{gives_as, gives_then, gives_within}
-use Rattle.site_mends.specs.Mending.{IsSeen, WasRead, file_in}
+use Rattle.site_mends.specs.Mending.{IsCause, IsOffDisk, IsSeen, WasRead, fault_of_read, file_in}
 use Rattle.site_mends.specs.declared.fault.MendFault.{MendFault}
+use Rattle.site_mends.specs.declared.fault.MendFault.TheVariants.{NoMemory, Disk, Unfit}
 
 pub seen_with : (v : SiteView) (packs : PacksState) (image after : List ℕ) (u now : Users) → after ≡ image → IsSeen v packs image u → IsSeen (with_users v now) packs after now
 seen_with v packs image after u now e h = record { copies = h.copies ∙ ap (λ xs. copies_on (groups_of packs) xs) (sym e); users = refl }
+
+-- ---- why a reading failed ----
+
+abbrev IsTold : Passing → Type 0
+IsTold Untold = ⊥
+IsTold All = Unit {0}
+IsTold (Exactly n) = Unit {0}
+
+rose_then : (old mid new : ℕ) → old ≤ mid → Rose mid new → Rose old new
+rose_then old mid new le rose = omega (arith, le, rose)
+
+told_well : {T : Type 0} (r : Result T MendFault) (p q : Passing) → TellsRead {T = Unit {0}} {E = DiskFault} p q (Ok tt) → OnOk r (TellsRead {T = Unit {0}} {E = DiskFault} p q (Ok tt))
+told_well (Ok x) p q t = t
+told_well (Err e) p q t = tt
+
+on_err : {T : Type 0} (r : Result T MendFault) (A B : MendFault → Type 0) → ((f : MendFault) → A f → B f) → IfErr r A → IfErr r B
+on_err (Ok x) A B f a = tt
+on_err (Err e) A B f a = f e a
+
+-- where the disk tells nothing after reads that passed, it told nothing before them
+untold_then : (p q : Passing) → TellsRead {T = Unit {0}} {E = DiskFault} p q (Ok tt) → q ≡ Untold → p ≡ Untold
+untold_then Untold q t e = refl
+untold_then All q t e = absurd (subst IsTold (sym t.1 ∙ e) tt)
+untold_then (Exactly n) q t e = absurd (subst IsTold (sym t.1 ∙ e) tt)
+
+untold : (p q : Passing) (x : DiskFault) → TellsRead {T = Unit {0}} {E = DiskFault} p q (Err x) → p ≡ Untold
+untold Untold q x t = refl
+untold All q x t = absurd (false≢true t.0)
+untold (Exactly n) q x t = absurd (false≢true t.0)
+
+-- the count that rose after reads that passed rose over all
+cause_then : (old mid new : Moment) (f : MendFault) → old.faults ≤ mid.faults → TellsRead {T = Unit {0}} {E = DiskFault} old.passing mid.passing (Ok tt) → IsCause mid new f → IsCause old new f
+cause_then old mid new Disk le t c = (rose_then old.faults mid.faults new.faults le c.0, untold_then old.passing mid.passing t c.1)
+cause_then old mid new NoMemory le t c = tt
+cause_then old mid new Unfit le t c = tt
+
+cause_off : {T : Type 0} (old new : Moment) (r : Result T MendFault) → IfErr r IsOffDisk → IfErr r (IsCause old new)
+cause_off old new (Ok x) h = tt
+cause_off old new (Err Disk) h = absurd h
+cause_off old new (Err NoMemory) h = tt
+cause_off old new (Err Unfit) h = tt
+
+cause_read : (old new : Moment) (e : ReadFault) → HasCause old.faults new.faults (read_answer {T = Unit {0}} (Err e)) → TellsRead old.passing new.passing (read_answer {T = Unit {0}} (Err e)) → IsCause old new (fault_of_read e)
+cause_read old new read.Disk h t = (h.failed, untold old.passing new.passing Failed t)
+cause_read old new read.NoMemory h t = tt
+
+-- a content that couldn't be read
+pub read_ill : {T : Type 0} (packs : PacksState) (old new : Moment) (r : Result T MendFault) (e : ReadFault) → IsErrAnd r (λ f. f ≡ fault_of_read e) → new.seen ≡ old.seen → Stand packs new → new.how ≡ old.how → Goes Same old new
+    → HasCause old.faults new.faults (read_answer {T = Unit {0}} (Err e)) → TellsRead old.passing new.passing (read_answer {T = Unit {0}} (Err e)) → WasRead packs old new r
+read_ill packs old new (Ok x) e h seen stands how same c t = absurd h
+read_ill packs old new (Err f) e h seen stands how same c t = record {
+  seen = seen;
+  stands = stands;
+  how = how;
+  same = same;
+  passes = tt;
+  later = c.later;
+  cause = subst (IsCause old new) (sym h) (cause_read old new e c t);
+}
+
+-- what was read well, whatever is then answered of it
+pub read_well : {T : Type 0} (packs : PacksState) (old new : Moment) (r : Result T MendFault) → new.seen ≡ old.seen → Stand packs new → new.how ≡ old.how → Goes Same old new → HasCause {T = Unit {0}} {E = DiskFault} old.faults new.faults (Ok tt)
+    → TellsRead {T = Unit {0}} {E = DiskFault} old.passing new.passing (Ok tt) → IfErr r IsOffDisk → WasRead packs old new r
+read_well packs old new r seen stands how same c t h = record {
+  seen = seen;
+  stands = stands;
+  how = how;
+  same = same;
+  passes = told_well r old.passing new.passing t;
+  later = c.later;
+  cause = cause_off old new r h;
+}
 
 -- one reading after another
 module _ {D : Type 0} (moment : D → Moment) where
@@ -43,6 +122,8 @@ module _ {D : Type 0} (moment : D → Moment) where
     how = k.how ∙ h.how;
     same = goes_same moment old mid new h.same k.same;
     passes = on_ok r (TellsRead {T = Unit {0}} {E = DiskFault} (moment mid).passing (moment new).passing (Ok tt)) (TellsRead {T = Unit {0}} {E = DiskFault} (moment old).passing (moment new).passing (Ok tt)) (λ t. reads_join (moment old).passing (moment mid).passing (moment new).passing (Ok tt) h.passes t) k.passes;
+    later = omega (arith, h.later, k.later);
+    cause = on_err r (IsCause (moment mid) (moment new)) (IsCause (moment old) (moment new)) (λ f c. cause_then (moment old) (moment mid) (moment new) f h.later h.passes c) k.cause;
   }
 
 -- ---- the mend of one group ----

@@ -15,12 +15,22 @@ pub enum MendFault {
 }
 
 impl From<NoMemory> for MendFault {
+    ghost use Rattle.std.specs.Prelude.{◌≡◌};
+    ghost use Rattle.site_mends.specs.declared.fault.MendFault.TheVariants.{NoMemory};
+
+    ghost from_gives = { λ _ fault. fault ≡ NoMemory };
+
     fn from(_: NoMemory) -> MendFault {
         MendFault::NoMemory
     }
 }
 
 impl From<ReadFault> for MendFault {
+    ghost use Rattle.std.specs.Prelude.{◌≡◌};
+    ghost use Rattle.site_mends.specs.Mending.{fault_of_read};
+
+    ghost from_gives = { λ error fault. fault ≡ fault_of_read error };
+
     fn from(fault: ReadFault) -> MendFault {
         match fault {
             ReadFault::Disk => MendFault::Disk,

@@ -4,6 +4,7 @@
 
 mod fault;
 mod rescues;
+mod scanning;
 mod starting;
 mod wanting;
 

@@ -1,5 +1,5 @@
 // Whether a file has to be rescued in the only kept version of a directory.
-ghost use Rattle.std.specs.Prelude.{◌≡◌, IfOk};
+ghost use Rattle.std.specs.Prelude.{◌≡◌, IfErr, IfOk};
 ghost use Rattle.std.specs.List.{list_all};
 ghost use Rattle.commit_graph.specs.Versions.{same_stamp};
 ghost use Rattle.dir_format.specs.Entries.{is_live};
@@ -8,9 +8,10 @@ ghost use Rattle.role_steps.specs.Storage.{copy_of};
 ghost use Rattle.role_steps.specs.Mends.{wants_rescue_in, wants_rescue_of};
 ghost use Rattle.site_packs.specs.Copies.{copies_on};
 ghost use Rattle.site_packs.specs.Packs.{Stand, groups_of};
-ghost use Rattle.site_mends.specs.Mending.{WasRead};
+ghost use Rattle.site_mends.specs.Mending.{IsOffDisk, WasRead};
 
 use crate::MendFault;
+use crate::scanning::are_surely_live;
 use css_core::Css;
 use dir_format::{Entry, dir_in};
 use dir_reconcile::rescue_wanted;
@@ -54,10 +55,14 @@ fn same_stamp(a: Stamp, b: Stamp) -> bool
 
 /// A rescue is wanted in a directory of this content. Where no entry is removed, none is.
 fn wants_rescue_in(alloc: Global, table: &Css, content: &[u8]) -> Result<bool, MendFault>
-    ensures { IfOk result (λ wants. wants ≡ wants_rescue_in table.now content.now) }
+    ensures wants { IfOk result (λ wants. wants ≡ wants_rescue_in table.now content.now) }
+    ensures off_disk { IfErr result IsOffDisk }
 {
     if content.len() > MAX_BYTES {
         return Err(MendFault::Unfit);
+    }
+    if are_surely_live(content) {
+        return Ok(false);
     }
     let dir = dir_in(alloc, content)?;
     if all_live(dir.as_slice()) {

@@ -83,10 +83,11 @@ TellsWrite calls before after (Err fault.Unfit) = Unit {0}
 TellsWrite calls before after (Err fault.NoMemory) = Unit {0}
 
 -- The disk failed in a call that makes this write or none: a crash at any moment of it leaves the copies as they were or with
--- the new one, and what is told is the version's record.
+-- the new one, and what is told is the version's record; nothing is sent.
 pub record Stopped (write : Option DiskWrite) (p : PacksState) (old new : Moment) (before after : Outgoing) : Type 0 where
   pub leaves : LeavesOnly old new (MayLeave p write old.seen)
   pub records : after.records ≡ before.records ++ told_first write
+  pub packets : after.packets ≡ before.packets
 
 -- what a crash leaves where the disk cuts off the write after so many calls
 abbrev pub IsCutIn : Option DiskWrite → PacksState → Moment → Moment → ℕ → Type 0

@@ -8,11 +8,11 @@ use Rattle.role_steps.specs.Mends.{kept_vectors}
 use Rattle.site_mends.proofs.Mends.{all_live, some_removed}
 use Rattle.site_mends.proofs.rescues.wants_rescue_in.Goals as goal
 
-pub returns-then-all_live : goal.returns-then-all_live
-returns-then-all_live c = all_live c.args.table.now c.args.content.now (ap (λ ds. list_all is_live ds) (sym (c.as_slice.ensures.value ∙ c.in_ok-dir.ensures)) ∙ (sym c.all_live.ensures ∙ c.if-all_live.true))
+pub returns-then-all_live-clause-wants : goal.returns-then-all_live-clause-wants
+returns-then-all_live-clause-wants c = all_live c.args.table.now c.args.content.now (ap (λ ds. list_all is_live ds) (sym (c.as_slice.ensures.value ∙ c.in_ok-dir.ensures)) ∙ (sym c.all_live.ensures ∙ c.if-all_live.true))
 
-pub returns-in-Some : goal.returns-in-Some
-returns-in-Some c =
+pub returns-in-Some-clause-wants : goal.returns-in-Some-clause-wants
+returns-in-Some-clause-wants c =
     let kept : c.in-Some.kept ≡ kept_vectors c.args.table.now = subst (λ o. IfSome o (λ (vectors : List KeptVector). vectors ≡ kept_vectors c.args.table.now)) c.in-Some.is c.in_ok-kept.ensures in
     let removed = ap (λ ds. list_all is_live ds) (sym (c.as_slice.ensures.value ∙ c.in_ok-dir.ensures)) ∙ (sym c.all_live.ensures ∙ c.if-all_live.false) in
     c.rescue_wanted.ensures ∙ (ap (λ ds. rescue_wanted ds c.in-Some.kept) c.in_ok-dir.ensures ∙ (ap (λ ks. rescue_wanted (entries_of c.args.content.now) ks) kept ∙ some_removed c.args.table.now c.args.content.now removed))

@@ -1,0 +1,5 @@
+pub mod Going
+pub mod Locks
+pub mod Facts
+pub mod Writing
+pub mod Joins

@@ -1,0 +1,8 @@
+//! Laws of every run about instances and locks: how an instance goes on from its grant to its release, which may be open side
+//! by side, and that scripts change only what they have opened to write. Theorems about the run alone; this room has no
+//! running part.
+#![tactic(auto)]
+
+mod laws;
+
+pub use laws::{instances_go_on, joins_are_once, scripts_open_what_they_change, tables_are_locked};

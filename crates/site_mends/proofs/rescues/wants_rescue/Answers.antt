@@ -1,0 +1,8 @@
+use Rattle.site_mends.proofs.Mends.{read_ill, read_well}
+use Rattle.site_mends.proofs.rescues.wants_rescue.Goals as goal
+
+pub returns-clause-disk : goal.returns-clause-disk
+returns-clause-disk g c = read_well c.args.packs.now (g.D.Disk.moment c.args.disk.now) (g.D.Disk.moment c.read.new.disk) c.wants_rescue_in.result c.read.ensures.seen c.read.ensures.stands c.read.ensures.how c.read.ensures.crash c.in_ok-read.ensures.cause c.in_ok-read.ensures.tells c.wants_rescue_in.ensures.off_disk
+
+pub returns-in_err-read-clause-disk : goal.returns-in_err-read-clause-disk
+returns-in_err-read-clause-disk g c = read_ill c.args.packs.now (g.D.Disk.moment c.args.disk.now) (g.D.Disk.moment c.read.new.disk) c.from_residual.result c.in_err-read.field-0.0 c.from_residual.ensures.1 c.read.ensures.seen c.read.ensures.stands c.read.ensures.how c.read.ensures.crash c.in_err-read.ensures.cause c.in_err-read.ensures.tells
