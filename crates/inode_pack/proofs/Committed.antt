@@ -1,9 +1,11 @@
 -- What a commit leaves, from what the switch of its inode leaves.
-use Rattle.std.proofs.Common.{◌≡◌, ℕ, zero, suc, ◌+◌, ◌-◌, ◌<◌, Bool, true, false, inl, inr, List, [], ◌∷◌, ◌++◌, length, drop, get_or, Option, None, Some, refl, sym, ap, subst, ◌∙◌, arith, length-append}
+use Rattle.std.proofs.Common.{◌≡◌, ℕ, zero, suc, ◌+◌, ◌<◌, Bool, true, false, inl, inr, List, [], ◌∷◌, ◌++◌, length, drop, get_or, Option, None, Some, refl, sym, ap, subst, ◌∙◌, arith, length-append}
 use Rattle.std.specs.Prelude.{◌↔◌, Result, Ok, Err, IsErr, IsErrAnd, is_some, if◌then◌else◌}
 use Rattle.std.proofs.lemmas.Bool.{false≢true}
 use Rattle.file_content.specs.Pages.{pages_of}
-use Rattle.pack_layout.specs.Layout.{slot_at, page_at, slot_bytes}
+use Rattle.pack_layout.specs.declared.half.Half.{Half}
+use Rattle.pack_layout.specs.Layout.{slot_at, page_at, slot_bytes, other_half}
+use Rattle.pack_layout.proofs.Halves.{half_most, other_twice}
 use Rattle.shadow_pages.specs.Working.{Working, page_at as shadow_page, count_below}
 use Rattle.gate_switch.specs.Switch.{Piece}
 use Rattle.gate_switch.specs.Switch.{IsStage, switched, closed, calls_of}
@@ -19,15 +21,16 @@ use Rattle.inode_switch.proofs.Outside.{stage_in_area}
 use Rattle.gate_switch.proofs.Pieces.{torn_same, torn_overwritten}
 use Rattle.gate_switch.proofs.Tearing.{bytes_are, is_outside}
 use Rattle.inode_pack.proofs.NewCopies.{own_copy}
-use Rattle.inode_pack.specs.declared.inode_copy.InodeCopy.{InodeCopy}
+use Rattle.pack_slots.specs.declared.inode_copy.InodeCopy.{InodeCopy}
 use Rattle.inode_pack.specs.declared.new_version.NewVersion.{NewVersion}
 use Rattle.inode_pack.specs.declared.pack_fault.PackFault.{PackFault}
 use Rattle.inode_pack.specs.declared.pack_fault.PackFault.TheVariants.{Disk, NoSpace}
-use Rattle.inode_pack.specs.Pack.{PackState, copy_of, number_in, Shows, ShowsCopy, AreCopies}
-use Rattle.inode_pack.specs.Committing.{Makes, MayBeLeft, HoldsPages, with_copy, is_changed, is_free, needed, new_version, next_which}
+use Rattle.inode_pack.specs.Pack.{PackState, number_in, Shows}
+use Rattle.pack_slots.specs.Copies.{copy_of, ShowsCopy, AreCopies}
+use Rattle.inode_pack.specs.Committing.{Makes, MayBeLeft, HoldsPages, with_copy, is_changed, is_free, needed, new_version, next_half}
 use Rattle.inode_pack.specs.PagePieces.{piece_at, page_pieces, pieces_of}
 use Rattle.inode_pack.proofs.Setup.{Setup}
-use Rattle.inode_pack.proofs.Making.{pieces, place, may_replace, copy_says, changed_byte, gate_torn, long_pieces, number_below}
+use Rattle.inode_pack.proofs.Making.{pieces, may_replace, copy_says, changed_byte, gate_torn, long_pieces, number_below}
 use Rattle.inode_pack.proofs.NewContent.{version_made}
 use Rattle.disk_model.specs.Cut.{Cut}
 use Rattle.gate_switch.specs.Gates.{new_gate}
@@ -54,33 +57,32 @@ left_at_start pack ino made old are shows = record { view = inl (λ i low high. 
 
 module _ (pack : PackState) (ino : ℕ) (w : Working) (made : InodeCopy) (s : Setup pack ino w made) (old : List ℕ) (shows : Shows pack old) where
   abbrev gate : ℕ
-  gate = slot_at pack.base ino made.which
+  gate = slot_at pack.base ino made.half
 
   abbrev other : ℕ
-  other = slot_at pack.base ino (1 - made.which)
+  other = slot_at pack.base ino (other_half made.half)
 
   pub same_pieces : pieces_of pack.base made w ≡ pieces pack ino w made s
-  same_pieces = ap (λ (i : ℕ). page_pieces pack.base made.slot.pages w (pages_of w.size) ++ record { at = slot_at pack.base i made.which + 1; bytes = drop 1 (slot_bytes made.slot) } ∷ []) s.own
+  same_pieces = ap (λ (i : ℕ). page_pieces pack.base made.slot.pages w (pages_of w.size) ++ record { at = slot_at pack.base i made.half + 1; bytes = drop 1 (slot_bytes made.slot) } ∷ []) s.own
 
-  other_open : (o : Option InodeCopy) → o ≡ copy_of pack.copies ino → made.which ≡ next_which o → ShowsCopy pack.base ino old o → is_some o ≡ is_open old other
-  other_open None e which shown = let p = place pack ino w made s old shows in sym (shown (1 - made.which) (omega arith))
-  other_open (Some copy) e which shown =
-      let p = shown.place in
-      let f : copy.which ≡ 1 - made.which = omega arith in
-      sym (ap (λ (n : ℕ). is_open old (slot_at pack.base ino n)) (sym f) ∙ (copy_says pack ino w made s old shows ino copy.which copy (sym e) shown.bytes).open_gate)
+  other_open : (o : Option InodeCopy) → o ≡ copy_of pack.copies ino → made.half ≡ next_half o → ShowsCopy pack.base ino old o → is_some o ≡ is_open old other
+  other_open None e half shown = sym (shown (other_half made.half))
+  other_open (Some copy) e half shown =
+      let f : other_half made.half ≡ copy.half = ap other_half half ∙ other_twice copy.half in
+      sym (ap (λ (one : Half). is_open old (slot_at pack.base ino one)) f ∙ (copy_says pack ino w made s old shows ino copy.half copy (sym e) shown.bytes).open_gate)
 
   -- the other slot is open where the inode has a copy
   pub closes_is : is_some (copy_of pack.copies ino) ≡ is_open old other
   closes_is = other_open (copy_of pack.copies ino) refl s.place (shows.copies ino s.low s.high)
 
   pub stage_left : (version : NewVersion) → Makes (is_free pack.copies) (copy_of pack.copies ino) ino version w made
-      → (c : List ℕ) → IsStage (pieces pack ino w made s) gate (closing pack.base ino made.which old) old c → MayBeLeft pack ino (new_version pack.base ino version w old) old c
+      → (c : List ℕ) → IsStage (pieces pack ino w made s) gate (closing pack.base ino made.half old) old c → MayBeLeft pack ino (new_version pack.base ino version w old) old c
   stage_left version makes c stage =
       let may = may_replace pack ino w made s old shows in
       record {
-        view = subst (λ (v : Version). IsOldOrNew pack.base ino v old c) (version_made pack ino w made s old shows version makes) (stage_view pack.base ino made.which (pieces pack ino w made s) old may c stage);
+        view = subst (λ (v : Version). IsOldOrNew pack.base ino v old c) (version_made pack ino w made s old shows version makes) (stage_view pack.base ino made.half (pieces pack ino w made s) old may c stage);
         sound = stage_sound pack ino w made s old shows c stage;
-        outside = stage_in_area pack.base ino made.which (pieces pack ino w made s) old may c stage;
+        outside = stage_in_area pack.base ino made.half (pieces pack ino w made s) old may c stage;
       }
 
   calls : (b : Bool) (n : ℕ) → n ≡ needed w → (let o : Option ℕ = if b then Some other else None in calls_of (pieces pack ino w made s) o) ≡ n + (if b then 6 else 4)
@@ -91,11 +93,11 @@ module _ (pack : PackState) (ino : ℕ) (w : Working) (made : InodeCopy) (s : Se
   pieces_count = let l = length-pages pack.base made.slot.pages w (pages_of w.size) in omega (arith, length-append (page_pieces pack.base made.slot.pages w (pages_of w.size)) (record { at = gate + 1; bytes = drop 1 (slot_bytes made.slot) } ∷ []))
 
   -- how many calls that makes
-  pub calls_are : calls_of (pieces pack ino w made s) (closing pack.base ino made.which old) ≡ needed w + (if is_some (copy_of pack.copies ino) then 6 else 4)
+  pub calls_are : calls_of (pieces pack ino w made s) (closing pack.base ino made.half old) ≡ needed w + (if is_some (copy_of pack.copies ino) then 6 else 4)
   calls_are = calls (is_open old other) (needed w) refl ∙ ap (λ (b : Bool). needed w + (if b then 6 else 4)) (sym closes_is)
 
   abbrev new : List ℕ
-  new = made_bytes pack.base ino made.which (pieces pack ino w made s) old
+  new = made_bytes pack.base ino made.half (pieces pack ino w made s) old
 
   long_new : length new ≡ length old
   long_new = (gate_torn pack ino w made s old shows).long ∙ long_pieces pack ino w made s old shows
@@ -107,15 +109,16 @@ module _ (pack : PackState) (ino : ℕ) (w : Working) (made : InodeCopy) (s : Se
       let area = shows.area in
       let high = s.high in
       let long = long_new in
+      let most = half_most (other_half made.half) in
       (torn_overwritten new other (0 ∷ []) (omega arith)).outside (page_at pack.base p + k) (is_outside other 1 (page_at pack.base p + k) (inr (omega arith)))
 
   long_closed : (b : Bool) → (let o : Option ℕ = if b then Some other else None in length (closed o new)) ≡ length new
   long_closed false = refl
-  long_closed true = let area = shows.area in let high = s.high in let long = long_new in (torn_overwritten new other (0 ∷ []) (omega arith)).long
+  long_closed true = let area = shows.area in let high = s.high in let long = long_new in let most = half_most (other_half made.half) in (torn_overwritten new other (0 ∷ []) (omega arith)).long
 
   -- a changed page stands at its data page, whole
   pub page_stands : (i : ℕ) (page : List ℕ) → i < pages_of w.size → shadow_page w.pages i ≡ Some page
-      → bytes_at (switched (pieces pack ino w made s) gate (closing pack.base ino made.which old) old) (page_at pack.base (number_in (copy_of (with_copy pack ino made).copies ino) i)) 1024 ≡ page
+      → bytes_at (switched (pieces pack ino w made s) gate (closing pack.base ino made.half old) old) (page_at pack.base (number_in (copy_of (with_copy pack ino made).copies ino) i)) 1024 ≡ page
   page_stands i page lt known =
       let is = own_copy pack.copies ino (Some made) s.low (let count = s.are.count in let high = s.high in omega arith) in
       let n = get_or made.slot.pages i 0 in
@@ -125,9 +128,9 @@ module _ (pack : PackState) (ino : ℕ) (w : Working) (made : InodeCopy) (s : Se
       let more = long_new in
       let area = shows.area in
       let below = number_below pack ino w made s i lt in
-      ap (λ (o : Option InodeCopy). bytes_at (switched (pieces pack ino w made s) gate (closing pack.base ino made.which old) old) (page_at pack.base (number_in o i)) 1024) is
-      ∙ ap (λ (m : ℕ). bytes_at (switched (pieces pack ino w made s) gate (closing pack.base ino made.which old) old) (page_at pack.base n) m) (sym full)
-      ∙ bytes_are (switched (pieces pack ino w made s) gate (closing pack.base ino made.which old) old) page (page_at pack.base n) (omega arith)
+      ap (λ (o : Option InodeCopy). bytes_at (switched (pieces pack ino w made s) gate (closing pack.base ino made.half old) old) (page_at pack.base (number_in o i)) 1024) is
+      ∙ ap (λ (m : ℕ). bytes_at (switched (pieces pack ino w made s) gate (closing pack.base ino made.half old) old) (page_at pack.base n) m) (sym full)
+      ∙ bytes_are (switched (pieces pack ino w made s) gate (closing pack.base ino made.half old) old) page (page_at pack.base n) (omega arith)
       (λ k less. after_close b n k ∙ changed_byte pack ino w made s old shows i k page lt known (omega arith))
 
 -- with the base and the pieces as the switch was given them
@@ -142,36 +145,36 @@ module _ (pack : PackState) (ino : ℕ) (w : Working) (made : InodeCopy) (s : Se
   back : (P : ℕ → List Piece → Type 0) → P base given → P pack.base (pieces pack ino w made s)
   back P h = subst (P pack.base) same (subst (λ (b : ℕ). P b given) at h)
 
-  pub given_may : MayReplace base ino made.which given old
-  given_may = moved (λ b l. MayReplace b ino made.which l old) (may_replace pack ino w made s old shows)
+  pub given_may : MayReplace base ino made.half given old
+  given_may = moved (λ b l. MayReplace b ino made.half l old) (may_replace pack ino w made s old shows)
 
-  pub given_closes : (closes : Bool) → closes ≡ is_some (copy_of pack.copies ino) → closes ≡ is_open old (slot_at base ino (1 - made.which))
-  given_closes closes is = is ∙ moved (λ b l. is_some (copy_of pack.copies ino) ≡ is_open old (slot_at b ino (1 - made.which))) (closes_is pack ino w made s old shows)
+  pub given_closes : (closes : Bool) → closes ≡ is_some (copy_of pack.copies ino) → closes ≡ is_open old (slot_at base ino (other_half made.half))
+  given_closes closes is = is ∙ moved (λ b l. is_some (copy_of pack.copies ino) ≡ is_open old (slot_at b ino (other_half made.half))) (closes_is pack ino w made s old shows)
 
   pub given_left : (version : NewVersion) → Makes (is_free pack.copies) (copy_of pack.copies ino) ino version w made
-      → (c : List ℕ) → IsStage given (slot_at base ino made.which) (closing base ino made.which old) old c → MayBeLeft pack ino (new_version pack.base ino version w old) old c
+      → (c : List ℕ) → IsStage given (slot_at base ino made.half) (closing base ino made.half old) old c → MayBeLeft pack ino (new_version pack.base ino version w old) old c
   given_left version makes c stage =
-      stage_left pack ino w made s old shows version makes c (back (λ b l. IsStage l (slot_at b ino made.which) (closing b ino made.which old) old c) stage)
+      stage_left pack ino w made s old shows version makes c (back (λ b l. IsStage l (slot_at b ino made.half) (closing b ino made.half old) old c) stage)
 
-  pub given_calls : calls_of given (closing base ino made.which old) ≡ needed w + (if is_some (copy_of pack.copies ino) then 6 else 4)
-  given_calls = moved (λ b l. calls_of l (closing b ino made.which old) ≡ needed w + (if is_some (copy_of pack.copies ino) then 6 else 4)) (calls_are pack ino w made s old shows)
+  pub given_calls : calls_of given (closing base ino made.half old) ≡ needed w + (if is_some (copy_of pack.copies ino) then 6 else 4)
+  given_calls = moved (λ b l. calls_of l (closing b ino made.half old) ≡ needed w + (if is_some (copy_of pack.copies ino) then 6 else 4)) (calls_are pack ino w made s old shows)
 
-  pub given_shows : (read : List ℕ) → read ≡ switched given (slot_at base ino made.which) (closing base ino made.which old) old → Shows (with_copy pack ino made) read
+  pub given_shows : (read : List ℕ) → read ≡ switched given (slot_at base ino made.half) (closing base ino made.half old) old → Shows (with_copy pack ino made) read
   given_shows read is =
       subst (λ (l : List ℕ). Shows (with_copy pack ino made) l) (sym is)
-      (moved (λ b l. Shows (with_copy pack ino made) (switched l (slot_at b ino made.which) (closing b ino made.which old) old)) (switched_shows pack ino w made s old shows))
+      (moved (λ b l. Shows (with_copy pack ino made) (switched l (slot_at b ino made.half) (closing b ino made.half old) old)) (switched_shows pack ino w made s old shows))
 
   -- its changed pages stand where they are named
-  pub given_pages : (read : List ℕ) → read ≡ switched given (slot_at base ino made.which) (closing base ino made.which old) old → HoldsPages (with_copy pack ino made) ino w read
+  pub given_pages : (read : List ℕ) → read ≡ switched given (slot_at base ino made.half) (closing base ino made.half old) old → HoldsPages (with_copy pack ino made) ino w read
   given_pages read is i page lt known =
       subst (λ (l : List ℕ). bytes_at l (page_at pack.base (number_in (copy_of (with_copy pack ino made).copies ino) i)) 1024 ≡ page) (sym is)
-      (moved (λ b l. bytes_at (switched l (slot_at b ino made.which) (closing b ino made.which old) old) (page_at pack.base (number_in (copy_of (with_copy pack ino made).copies ino) i)) 1024 ≡ page)
+      (moved (λ b l. bytes_at (switched l (slot_at b ino made.half) (closing b ino made.half old) old) (page_at pack.base (number_in (copy_of (with_copy pack ino made).copies ino) i)) 1024 ≡ page)
       (page_stands pack ino w made s old shows i page lt known))
 
   pub given_replaced : (version : NewVersion) → Makes (is_free pack.copies) (copy_of pack.copies ino) ino version w made
-      → (read : List ℕ) → Replaced base ino (made_version base ino made.which given old) old read → Replaced pack.base ino (new_version pack.base ino version w old) old read
+      → (read : List ℕ) → Replaced base ino (made_version base ino made.half given old) old read → Replaced pack.base ino (new_version pack.base ino version w old) old read
   given_replaced version makes read done =
-      subst (λ (v : Version). Replaced pack.base ino v old read) (version_made pack ino w made s old shows version makes) (back (λ b l. Replaced b ino (made_version b ino made.which l old) old read) done)
+      subst (λ (v : Version). Replaced pack.base ino v old read) (version_made pack ino w made s old shows version makes) (back (λ b l. Replaced b ino (made_version b ino made.half l old) old read) done)
 
   -- a page for each that is changed, and what stands behind the gate
   pub given_pages_are : length given ≡ needed w + 1
@@ -179,14 +182,14 @@ module _ (pack : PackState) (ino : ℕ) (w : Working) (made : InodeCopy) (s : Se
 
   -- what the switch left that was cut off
   pub given_cut : (version : NewVersion) → Makes (is_free pack.copies) (copy_of pack.copies ino) ino version w made → (how : Cut) (passed : ℕ) (c : List ℕ) → MayBeLeft pack ino (new_version pack.base ino version w old) old c
-      → IsCutReplacing base ino made.which given (needed w) how passed old c → IsCutCommit pack ino (new_version pack.base ino version w old) (needed w) how passed old c
+      → IsCutReplacing base ino made.half given (needed w) how passed old c → IsCutCommit pack ino (new_version pack.base ino version w old) (needed w) how passed old c
   given_cut version makes how passed c left cut =
       let all = pieces pack ino w made s in
-      let own = back (λ b l. IsCutReplacing b ino made.which l (needed w) how passed old c) cut in
+      let own = back (λ b l. IsCutReplacing b ino made.half l (needed w) how passed old c) cut in
       record {
         left = left;
         view = subst (λ (v : Version). IsViewBy (new_gate (needed w) how passed) pack.base ino v old c) (version_made pack ino w made s old shows version makes) own.view;
-        both = cut_both pack ino made.which all (needed w) how passed old c s.are shows s.low s.high (place pack ino w made s old shows) (closes_is pack ino w made s old shows) own;
+        both = cut_both pack ino made.half all (needed w) how passed old c s.are shows s.low s.high (closes_is pack ino w made s old shows) own;
       }
 
 -- the fault that is given on

@@ -10,10 +10,11 @@ use Rattle.file_content.specs.Pages.{pages_of}
 use Rattle.pack_layout.specs.Layout.{area_length, slot_at, page_at}
 use Rattle.inode_switch.specs.View.{size, page, bytes_of, Version, version, version_in, view}
 use Rattle.inode_switch.proofs.SlotBytes.{says}
-use Rattle.inode_pack.specs.declared.inode_copy.InodeCopy.{InodeCopy}
-use Rattle.inode_pack.specs.Pack.{PackState, AreCopies, Shows, ShowsCopy, HasPage, IsPageOf, IsCopy, copy_of, number_in}
-use Rattle.inode_pack.specs.Slots.{IsCounting, IsFound}
-use Rattle.inode_pack.proofs.Counting.{found_counts}
+use Rattle.pack_slots.specs.declared.inode_copy.InodeCopy.{InodeCopy}
+use Rattle.inode_pack.specs.Pack.{PackState, Shows, HasPage, IsPageOf, number_in}
+use Rattle.pack_slots.specs.Copies.{AreCopies, ShowsCopy, IsCopy, copy_of}
+use Rattle.pack_slots.specs.Slots.{IsCounting, IsFound}
+use Rattle.pack_slots.proofs.Counting.{found_counts}
 
 pub length-bytes_at : (image : List ℕ) (at n : ℕ) → at + n ≤ length image → length (bytes_at image at n) ≡ n
 length-bytes_at image at n fits = omega (arith, length-take n (drop at image), length-drop at image)
@@ -46,7 +47,7 @@ module _ (image : List ℕ) (base place : ℕ) where
 pub page_of_content : (base ino i : ℕ) (image : List ℕ) (copy : InodeCopy) (v : Version) → base + area_length ≤ length image → IsCopy ino copy → IsCounting base ino image copy → i < pages_of copy.slot.size
     → view image base ino ≡ Some v → IsPageOf v.content i (bytes_at image (page_at base (get_or copy.slot.pages i 0)) 1024)
 page_of_content base ino i image copy v area is counts lt seen k small inside =
-    let place = slot_at base ino copy.which in
+    let place = slot_at base ino copy.half in
     let s = says image place copy.slot counts.bytes is.slot in
     let few = is.slot.size in
     let at_most : pages_of copy.slot.size ≤ 64 = omega arith in

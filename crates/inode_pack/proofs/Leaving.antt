@@ -1,9 +1,11 @@
 -- What a crash within a commit leaves is a sound pack.
-use Rattle.std.proofs.Common.{◌≡◌, ◌≢◌, ℕ, ◌+◌, ◌-◌, ◌%◌, ◌<◌, ◌≤◌, Bool, true, false, inl, inr, ⊎_elim, List, [], ◌∷◌, length, get_or, Option, None, Some, refl, sym, ap, subst, ◌∙◌, arith}
+use Rattle.std.proofs.Common.{◌≡◌, ◌≢◌, ℕ, ◌+◌, ◌%◌, ◌<◌, ◌≤◌, Bool, true, false, inl, inr, ⊎_elim, List, [], ◌∷◌, length, get_or, Option, None, Some, refl, sym, ap, subst, ◌∙◌, arith}
 use Rattle.std.specs.Prelude.{◌==◌, if◌then◌else◌}
 use Rattle.std.proofs.lemmas.Bool.{cases_eq, cases_Bool, cases_lt, eqb-true}
 use Rattle.disk_model.specs.Images.{bytes_at, overwritten, is_within, Torn}
-use Rattle.pack_layout.specs.Layout.{slot_at, slot_bytes}
+use Rattle.pack_layout.specs.declared.half.Half.{Half}
+use Rattle.pack_layout.specs.Layout.{slot_at, slot_bytes, half_number, other_half}
+use Rattle.pack_layout.proofs.Halves.{half_most, half_sum, other_twice, cases_half}
 use Rattle.shadow_pages.specs.Working.{Working}
 use Rattle.gate_switch.specs.Switch.{Piece}
 use Rattle.gate_switch.specs.Switch.{touches, written, closed, switched, TornGate, IsStage}
@@ -11,53 +13,55 @@ use Rattle.inode_switch.specs.View.{is_open, turn}
 use Rattle.inode_switch.specs.Replace.{made_bytes, closing}
 use Rattle.gate_switch.proofs.Pieces.{torn_written, torn_overwritten, put_gate}
 use Rattle.gate_switch.proofs.Tearing.{same_bytes}
-use Rattle.inode_pack.specs.declared.inode_copy.InodeCopy.{InodeCopy}
-use Rattle.inode_pack.specs.Pack.{PackState, copy_of, IsPackOf, ShowsCopy, Shows, AreCopies}
-use Rattle.inode_pack.specs.Slots.{IsFound}
-use Rattle.inode_pack.specs.Mounting.{IsSound}
-use Rattle.inode_pack.specs.Committing.{next_which, next_turn, with_copy}
+use Rattle.pack_slots.specs.declared.inode_copy.InodeCopy.{InodeCopy}
+use Rattle.inode_pack.specs.Pack.{PackState, Shows}
+use Rattle.pack_slots.specs.Copies.{copy_of, IsPackOf, ShowsCopy, AreCopies}
+use Rattle.pack_slots.specs.Slots.{IsFound}
+use Rattle.pack_slots.specs.Mounting.{IsSound}
+use Rattle.inode_pack.specs.Committing.{next_half, next_turn, with_copy}
 use Rattle.inode_pack.proofs.Placing.{is_outside}
 use Rattle.inode_pack.proofs.Setup.{Setup, copy_is}
-use Rattle.inode_pack.proofs.Making.{pieces, place, shut, open_copy, copy_says, spared_slot, may_replace, gate_torn, new_holds, apart_slots, long_pieces}
+use Rattle.inode_pack.proofs.Making.{pieces, shut, open_copy, copy_says, spared_slot, may_replace, gate_torn, new_holds, apart_slots, long_pieces}
 use Rattle.inode_pack.proofs.NewCopies.{own_copy, other_copy, copies_after}
-use Rattle.inode_pack.proofs.SoundPack.{AllFound, found_sound}
+use Rattle.pack_slots.proofs.SoundPack.{AllFound, found_sound}
 
 -- the slots of an inode whose bytes stay
-shows_same : (base i : ℕ) (a b : List ℕ) (o : Option InodeCopy) → length b ≡ length a → ((which k : ℕ) → which ≤ 1 → k < 512 → get_or b (slot_at base i which + k) 0 ≡ get_or a (slot_at base i which + k) 0) → ShowsCopy base i a o → ShowsCopy base i b o
-shows_same base i a b None long same shows = λ which le.
-    let e : slot_at base i which + 0 ≡ slot_at base i which = omega arith in
-    ap (λ (n : ℕ). n == 165) (subst (λ (n : ℕ). get_or b n 0 ≡ get_or a n 0) e (same which 0 le (omega arith))) ∙ shows which le
+shows_same : (base i : ℕ) (a b : List ℕ) (o : Option InodeCopy) → length b ≡ length a → ((half : Half) (k : ℕ) → k < 512 → get_or b (slot_at base i half + k) 0 ≡ get_or a (slot_at base i half + k) 0) → ShowsCopy base i a o → ShowsCopy base i b o
+shows_same base i a b None long same shows = λ half.
+    let e : slot_at base i half + 0 ≡ slot_at base i half = omega arith in
+    ap (λ (n : ℕ). n == 165) (subst (λ (n : ℕ). get_or b n 0 ≡ get_or a n 0) e (same half 0 (omega arith))) ∙ shows half
 shows_same base i a b (Some copy) long same shows =
-    let p = shows.place in
-    let e : slot_at base i (1 - copy.which) + 0 ≡ slot_at base i (1 - copy.which) = omega arith in
+    let e : slot_at base i (other_half copy.half) + 0 ≡ slot_at base i (other_half copy.half) = omega arith in
     record {
-      place = p;
-      bytes = same_bytes a b (slot_at base i copy.which) 512 long (λ k lt. same copy.which k p lt) ∙ shows.bytes;
-      other = ap (λ (n : ℕ). n == 165) (subst (λ (n : ℕ). get_or b n 0 ≡ get_or a n 0) e (same (1 - copy.which) 0 (omega arith) (omega arith))) ∙ shows.other;
+      bytes = same_bytes a b (slot_at base i copy.half) 512 long (λ k lt. same copy.half k lt) ∙ shows.bytes;
+      other = ap (λ (n : ℕ). n == 165) (subst (λ (n : ℕ). get_or b n 0 ≡ get_or a n 0) e (same (other_half copy.half) 0 (omega arith))) ∙ shows.other;
     }
 
 module _ (pack : PackState) (ino : ℕ) (w : Working) (made : InodeCopy) (s : Setup pack ino w made) (old : List ℕ) (shows : Shows pack old) where
   abbrev gate : ℕ
-  gate = slot_at pack.base ino made.which
+  gate = slot_at pack.base ino made.half
 
   abbrev other : ℕ
-  other = slot_at pack.base ino (1 - made.which)
+  other = slot_at pack.base ino (other_half made.half)
 
   abbrev all : List Piece
   all = pieces pack ino w made s
 
   abbrev new : List ℕ
-  new = made_bytes pack.base ino made.which (pieces pack ino w made s) old
+  new = made_bytes pack.base ino made.half (pieces pack ino w made s) old
 
   abbrev after : PackState
   after = with_copy pack ino made
 
-  small : made.which ≤ 1
-  small = place pack ino w made s old shows
+  small : half_number made.half ≤ 1
+  small = half_most made.half
+
+  sum : half_number (other_half made.half) + half_number made.half ≡ 1
+  sum = half_sum made.half
 
   -- the bytes of a slot but that which is written, and the first one of that too
-  spared : (i which k : ℕ) → k < 512 → 1 ≤ i → i ≤ 1024 → which ≤ 1 → slot_at pack.base i which ≢ gate → touches all (slot_at pack.base i which + k) ≡ false
-  spared i which k lt low high le apart = spared_slot pack ino w made s (slot_at pack.base i which + k) (omega arith) (apart_slots pack.base i which ino made.which k lt low s.low le small (inr apart))
+  spared : (i : ℕ) (half : Half) (k : ℕ) → k < 512 → 1 ≤ i → i ≤ 1024 → slot_at pack.base i half ≢ gate → touches all (slot_at pack.base i half + k) ≡ false
+  spared i half k lt low high apart = let most = half_most half in spared_slot pack ino w made s (slot_at pack.base i half + k) (omega arith) (apart_slots pack.base i half ino made.half k lt low s.low (inr apart))
 
   -- an image where at most the pieces and the two gates changed
   module _ (c : List ℕ) (long : length c ≡ length old) (each : (k : ℕ) → touches all k ≡ false → k ≢ gate → k ≢ other → get_or c k 0 ≡ get_or old k 0) where
@@ -66,35 +70,31 @@ module _ (pack : PackState) (ino : ℕ) (w : Working) (made : InodeCopy) (s : Se
 
     others_still : (i : ℕ) → 1 ≤ i → i ≤ 1024 → i ≢ ino → ShowsCopy pack.base i c (copy_of pack.copies i)
     others_still i low high ne = shows_same pack.base i old c (copy_of pack.copies i) long
-        (λ which k le lt. let l = s.low in let p = small in each (slot_at pack.base i which + k) (spared i which k lt low high le (λ e. ne (omega arith))) (λ e. ne (omega arith)) (λ e. ne (omega arith)))
+        (λ half k lt. let l = s.low in let p = small in let q = sum in let most = half_most half in each (slot_at pack.base i half + k) (spared i half k lt low high (λ e. ne (omega arith))) (λ e. ne (omega arith)) (λ e. ne (omega arith)))
         (shows.copies i low high)
 
   -- the new slot isn't open: the pack is as it was
   module _ (c : List ℕ) (long : length c ≡ length old) (each : (k : ℕ) → touches all k ≡ false → k ≢ gate → get_or c k 0 ≡ get_or old k 0) (is_shut : is_open c gate ≡ false) where
     other_same : (k : ℕ) → k < 512 → get_or c (other + k) 0 ≡ get_or old (other + k) 0
     other_same k lt =
-        let p = small in let l = s.low in let h = s.high in
+        let p = small in let q = sum in let l = s.low in let h = s.high in
         let apart : other ≢ gate = (λ e. omega arith) in
-        each (other + k) (spared ino (1 - made.which) k lt s.low s.high (omega arith) apart) (λ e. omega arith)
+        each (other + k) (spared ino (other_half made.half) k lt s.low s.high apart) (λ e. omega arith)
 
     other_open : is_open c other ≡ is_open old other
     other_open = let e : other + 0 ≡ other = omega arith in ap (λ (n : ℕ). n == 165) (subst (λ (n : ℕ). get_or c n 0 ≡ get_or old n 0) e (other_same 0 (omega arith)))
 
-    slots_of : (o : Option InodeCopy) → made.which ≡ next_which o → ShowsCopy pack.base ino old o → ShowsCopy pack.base ino c o
-    slots_of None e shown = λ which le. ⊎_elim
-        (λ (same : which ≡ made.which). ap (λ (n : ℕ). is_open c (slot_at pack.base ino n)) same ∙ is_shut)
-        (λ (ne : which ≢ made.which).
-        let p = small in let f : which ≡ 1 - made.which = omega arith in
-        ap (λ (n : ℕ). is_open c (slot_at pack.base ino n)) f ∙ other_open ∙ shown (1 - made.which) (omega arith))
-        (cases_eq which made.which)
+    slots_of : (o : Option InodeCopy) → made.half ≡ next_half o → ShowsCopy pack.base ino old o → ShowsCopy pack.base ino c o
+    slots_of None e shown = λ half. ⊎_elim
+        (λ (same : half ≡ made.half). ap (λ (one : Half). is_open c (slot_at pack.base ino one)) same ∙ is_shut)
+        (λ (f : half ≡ other_half made.half). ap (λ (one : Half). is_open c (slot_at pack.base ino one)) f ∙ other_open ∙ shown (other_half made.half))
+        (cases_half half made.half)
     slots_of (Some copy) e shown =
-        let p = shown.place in
-        let f : 1 - made.which ≡ copy.which = omega arith in
+        let f : other_half made.half ≡ copy.half = ap other_half e ∙ other_twice copy.half in
         record {
-          place = p;
-          bytes = subst (λ (n : ℕ). bytes_at c (slot_at pack.base ino n) 512 ≡ slot_bytes copy.slot) f
-              (same_bytes old c other 512 long other_same ∙ ap (λ (n : ℕ). bytes_at old (slot_at pack.base ino n) 512) f ∙ shown.bytes);
-          other = ap (λ (n : ℕ). is_open c (slot_at pack.base ino n)) (sym e) ∙ is_shut;
+          bytes = subst (λ (half : Half). bytes_at c (slot_at pack.base ino half) 512 ≡ slot_bytes copy.slot) f
+              (same_bytes old c other 512 long other_same ∙ ap (λ (half : Half). bytes_at old (slot_at pack.base ino half) 512) f ∙ shown.bytes);
+          other = ap (λ (half : Half). is_open c (slot_at pack.base ino half)) (sym e) ∙ is_shut;
         }
 
     pub still_found : AllFound pack.base c pack.copies
@@ -123,24 +123,24 @@ module _ (pack : PackState) (ino : ℕ) (w : Working) (made : InodeCopy) (s : Se
     long_old = long ∙ (gate_torn pack ino w made s old shows).long ∙ long_pieces pack ino w made s old shows
 
     own_bytes : bytes_at c gate 512 ≡ slot_bytes made.slot
-    own_bytes = let p = small in let l = s.low in same_bytes new c gate 512 long (λ k lt. each (gate + k) (λ e. omega arith)) ∙ new_holds pack ino w made s old shows
+    own_bytes = let q = sum in let l = s.low in same_bytes new c gate 512 long (λ k lt. each (gate + k) (λ e. omega arith)) ∙ new_holds pack ino w made s old shows
 
     alone : is_open c other ≡ false → ShowsCopy pack.base ino c (Some made)
-    alone is = record { place = small; bytes = own_bytes; other = is }
+    alone is = record { bytes = own_bytes; other = is }
 
     beside : is_open c other ≡ true → IsFound pack.base ino c (Some made) true
     beside is =
-        let p = small in
+        let q = sum in
         let l = s.low in
         let was = opens is in
-        let o = open_copy pack ino w made s old shows ino (1 - made.which) s.low s.high (omega arith) was in
+        let o = open_copy pack ino w made s old shows ino (other_half made.half) s.low s.high was in
         let copy = o.0 in
         let is_copy = copy_is pack.copies ino copy s.are o.1 in
-        let t = copy_says pack ino w made s old shows ino (1 - made.which) copy o.1 o.3 in
+        let t = copy_says pack ino w made s old shows ino (other_half made.half) copy o.1 o.3 in
         let apart : other ≢ gate = (λ e. omega arith) in
         let byte : (k : ℕ) → k < 512 → get_or c (other + k) 0 ≡ get_or old (other + k) 0 = (λ k lt. ⊎_elim
         (λ (e : k ≡ 0). let f : other + k ≡ other = omega arith in ap (λ (n : ℕ). get_or c n 0) f ∙ eqb-true (get_or c other 0) 165 is ∙ sym (eqb-true (get_or old other 0) 165 was) ∙ sym (ap (λ (n : ℕ). get_or old n 0) f))
-        (λ (ne : k ≢ 0). as_old (other + k) (spared ino (1 - made.which) k lt s.low s.high (omega arith) apart) (λ e. omega arith) (λ e. omega arith))
+        (λ (ne : k ≢ 0). as_old (other + k) (spared ino (other_half made.half) k lt s.low s.high apart) (λ e. omega arith) (λ e. omega arith))
         (cases_eq k 0)) in
         let turn_is : turn c other ≡ copy.slot.turn = byte 1 (omega arith) ∙ t.turn in
         let few = is_copy.slot.turn in
@@ -151,13 +151,13 @@ module _ (pack : PackState) (ino : ℕ) (w : Working) (made : InodeCopy) (s : Se
             other = record { slot = copy.slot; bytes = same_bytes old c other 512 long_old byte ∙ o.3; is = is_copy.slot; own = is_copy.own };
             next = (omega arith, s.turn ∙ ap next_turn o.1 ∙ ap (λ (n : ℕ). (n + 1) % 3) (sym turn_is));
           };
-          own = record { place = small; slot = s.slot; own = s.own };
+          own = record { slot = s.slot; own = s.own };
         }
 
     own_found : (loses : Bool) × IsFound pack.base ino c (Some made) loses
     own_found = ⊎_elim
         (λ (is : is_open c other ≡ true). (true, beside is))
-        (λ (is : is_open c other ≡ false). (false, record { says = alone is; own = record { place = small; slot = s.slot; own = s.own } }))
+        (λ (is : is_open c other ≡ false). (false, record { says = alone is; own = record { slot = s.slot; own = s.own } }))
         (cases_Bool (is_open c other))
 
     own_is : copy_of after.copies ino ≡ Some made
@@ -172,11 +172,11 @@ module _ (pack : PackState) (ino : ℕ) (w : Working) (made : InodeCopy) (s : Se
     now_found : AllFound pack.base c after.copies
     now_found = λ i low high. ⊎_elim
         (λ (e : i ≡ ino). subst (λ (n : ℕ). (loses : Bool) × IsFound pack.base n c (copy_of after.copies n) loses) (sym e) (subst (λ (o : Option InodeCopy). (loses : Bool) × IsFound pack.base ino c o loses) (sym own_is) own_found))
-        (λ (ne : i ≢ ino). (false, record { says = others_show i low high ne; own = (copies_after pack ino w made s small).own i }))
+        (λ (ne : i ≢ ino). (false, record { says = others_show i low high ne; own = (copies_after pack ino w made s).own i }))
         (cases_eq i ino)
 
     pub now_sound : IsSound pack.base pack.group pack.site c
-    now_sound = found_sound pack.base pack.group pack.site c after.copies (copies_after pack ino w made s small) (named_still c long_old as_old) now_found
+    now_sound = found_sound pack.base pack.group pack.site c after.copies (copies_after pack ino w made s) (named_still c long_old as_old) now_found
 
     -- with the old slot closed the image is the new pack
     pub now_shows : is_open c other ≡ false → Shows after c
@@ -191,10 +191,10 @@ module _ (pack : PackState) (ino : ℕ) (w : Working) (made : InodeCopy) (s : Se
 
   -- the gate of the slot beside it stays, and is another one
   apart_gates : other ≢ gate
-  apart_gates e = let p = small in let l = s.low in omega arith
+  apart_gates e = let q = sum in omega arith
 
   other_stays : get_or (written old all) other 0 ≡ get_or old other 0
-  other_stays = let p = small in (torn_written all old (may_replace pack ino w made s old shows).within).outside other ((may_replace pack ino w made s old shows).gates ino (1 - made.which) s.low s.high (omega arith))
+  other_stays = (torn_written all old (may_replace pack ino w made s old shows).within).outside other ((may_replace pack ino w made s old shows).gates ino (other_half made.half) s.low s.high)
 
   not_gate : (k : ℕ) → k ≢ gate → is_within gate 1 k ≡ false
   not_gate k ne = is_outside gate 1 k (⊎_elim (λ (lt : k < gate). inl lt) (λ (ge : gate ≤ k). inr (⊎_elim (λ (less : k < gate + 1). absurd (ne (omega arith))) (λ (more : gate + 1 ≤ k). more) (cases_lt k (gate + 1)))) (cases_lt k gate))
@@ -220,14 +220,14 @@ module _ (pack : PackState) (ino : ℕ) (w : Working) (made : InodeCopy) (s : Se
   old_gate_sound c true is torn = now_sound c torn.long (λ k ne. torn.outside k (not_other k ne)) (λ _. is)
 
   -- each stage of the switch is a sound pack
-  pub stage_sound : (c : List ℕ) → IsStage all gate (closing pack.base ino made.which old) old c → IsSound pack.base pack.group pack.site c
+  pub stage_sound : (c : List ℕ) → IsStage all gate (closing pack.base ino made.half old) old c → IsSound pack.base pack.group pack.site c
   stage_sound c (inl torn) = still_sound c torn.long (λ k none ne. torn.outside k none)
-      (ap (λ (n : ℕ). n == 165) (torn.outside gate ((may_replace pack ino w made s old shows).gates ino made.which s.low s.high small)) ∙ shut pack ino w made s old shows)
+      (ap (λ (n : ℕ). n == 165) (torn.outside gate ((may_replace pack ino w made s old shows).gates ino made.half s.low s.high)) ∙ shut pack ino w made s old shows)
   stage_sound c (inr (inl torn)) = torn_sound c torn (is_open c gate) refl
   stage_sound c (inr (inr torn)) = old_gate_sound c (is_open old other) refl torn
 
   other_fits : other + 1 ≤ length new
-  other_fits = let a = long_pieces pack ino w made s old shows in let b = (gate_torn pack ino w made s old shows).long in let area = shows.area in let p = small in let h = s.high in let l = s.low in omega arith
+  other_fits = let a = long_pieces pack ino w made s old shows in let b = (gate_torn pack ino w made s old shows).long in let area = shows.area in let q = sum in let h = s.high in let l = s.low in omega arith
 
   closed_shows : (b : Bool) → is_open old other ≡ b → (let o : Option ℕ = if b then Some other else None in Shows after (closed o new))
   closed_shows true is =
@@ -238,7 +238,7 @@ module _ (pack : PackState) (ino : ℕ) (w : Working) (made : InodeCopy) (s : Se
       now_shows new refl (λ k ne. refl) (λ opened. ap (λ (n : ℕ). n == 165) (sym same) ∙ opened) (ap (λ (n : ℕ). n == 165) same ∙ is)
 
   -- and the last one the pack with the new copy
-  pub switched_shows : Shows after (switched all gate (closing pack.base ino made.which old) old)
+  pub switched_shows : Shows after (switched all gate (closing pack.base ino made.half old) old)
   switched_shows = closed_shows (is_open old other) refl
 
 -- a pack that is shown is sound

@@ -1,16 +1,19 @@
 -- What a commit writes may replace the inode's version.
-use Rattle.std.proofs.Common.{◌≡◌, ◌≢◌, ◌⊎◌, ℕ, zero, suc, ◌+◌, ◌-◌, ◌*◌, ◌%◌, ◌<◌, ◌≤◌, Bool, true, false, ◌||◌, inl, inr, ⊎_elim, List, [], ◌∷◌, ◌++◌, length, drop, replicate, get_or, Option, None, Some, refl, sym, ap, subst, ◌∙◌, arith, length-append, length-take, length-drop}
+use Rattle.std.proofs.Common.{◌≡◌, ◌≢◌, ◌⊎◌, ℕ, zero, suc, ◌+◌, ◌*◌, ◌%◌, ◌<◌, ◌≤◌, Bool, true, false, ◌||◌, inl, inr, ⊎_elim, List, [], ◌∷◌, ◌++◌, length, drop, replicate, get_or, Option, None, Some, refl, sym, ap, subst, ◌∙◌, arith, length-append, length-take, length-drop}
 use Rattle.std.specs.Prelude.{is_some}
 use Rattle.std.specs.Int.{w16, w32, to_be_bytes}
 use Rattle.std.specs.List.{flat_map}
-use Rattle.std.proofs.lemmas.Bool.{cases_lt, cases_eq, eqb-true, true≢false}
+use Rattle.std.proofs.lemmas.Bool.{cases_lt, eqb-true, true≢false}
 use Rattle.std.proofs.lemmas.Bool.Decides.{nat_tests}
 use Rattle.std.proofs.lemmas.List.{same_lists, get_or-take, get_or-drop, get_or_default}
 use Rattle.std.proofs.lemmas.List.Elements.{All-append, All-nil, All-cons}
 use Rattle.disk_model.specs.Images.{overwritten, bytes_at, is_within, Torn}
 use Rattle.pack_layout.specs.declared.slot.Slot.{Slot}
 use Rattle.file_content.specs.Pages.{pages_of}
-use Rattle.pack_layout.specs.Layout.{area_length, slot_at, page_at, slot_bytes, IsSlot}
+use Rattle.pack_layout.specs.declared.half.Half.{Half}
+use Rattle.pack_layout.specs.declared.half.Half.TheVariants.{First}
+use Rattle.pack_layout.specs.Layout.{area_length, slot_at, page_at, slot_bytes, IsSlot, other_half}
+use Rattle.pack_layout.proofs.Halves.{half_most, cases_half}
 use Rattle.shadow_pages.specs.Working.{Working, page_at as shadow_page}
 use Rattle.gate_switch.specs.Switch.{Piece}
 use Rattle.gate_switch.specs.Switch.{touches, written}
@@ -19,9 +22,10 @@ use Rattle.inode_switch.specs.View.{is_open, turn, size, page}
 use Rattle.inode_switch.specs.Replace.{MayReplace, made_bytes}
 use Rattle.gate_switch.proofs.Pieces.{put_outside, put_gate, length-overwritten, written-append, torn_overwritten, torn_written}
 use Rattle.inode_switch.proofs.SlotBytes.{says}
-use Rattle.inode_pack.specs.declared.inode_copy.InodeCopy.{InodeCopy}
-use Rattle.inode_pack.specs.Pack.{PackState, copy_of, named_pages, times, ShowsCopy, Shows}
-use Rattle.inode_pack.specs.Committing.{is_changed, next_which, next_turn}
+use Rattle.pack_slots.specs.declared.inode_copy.InodeCopy.{InodeCopy}
+use Rattle.inode_pack.specs.Pack.{PackState, Shows}
+use Rattle.pack_slots.specs.Copies.{copy_of, named_pages, times, ShowsCopy}
+use Rattle.inode_pack.specs.Committing.{is_changed, next_half, next_turn}
 use Rattle.inode_pack.specs.PagePieces.{page_pieces}
 use Rattle.gate_switch.proofs.Tearing.{put_inside}
 use Rattle.inode_pack.proofs.Placing.{is_outside, touches_none, spared_pages, long_written, within_pages, written_page}
@@ -40,41 +44,35 @@ length-slot s is =
     omega (arith, length-append (flat_map (to_be_bytes w32) s.vector) (flat_map (to_be_bytes w16) s.pages ++ replicate 304 0), length-append (flat_map (to_be_bytes w16) s.pages) (replicate 304 0))
 
 -- an open slot is that of a copy
-open_of : (base i which : ℕ) (old : List ℕ) (o : Option InodeCopy) → which ≤ 1 → ShowsCopy base i old o → is_open old (slot_at base i which) ≡ true
-    → (copy : InodeCopy) × (o ≡ Some copy) × (copy.which ≡ which) × Holds old (slot_at base i which) copy.slot
-open_of base i which old None le shows is = absurd (true≢false (sym is ∙ shows which le))
-open_of base i which old (Some copy) le shows is = ⊎_elim
-    (λ (e : copy.which ≡ which). (copy, refl, e, subst (λ (n : ℕ). Holds old (slot_at base i n) copy.slot) e shows.bytes))
-    (λ (ne : copy.which ≢ which).
-    let other : 1 - copy.which ≡ which = (let p = shows.place in omega arith) in
-    absurd (true≢false (sym is ∙ ap (λ (n : ℕ). is_open old (slot_at base i n)) (sym other) ∙ shows.other)))
-    (cases_eq copy.which which)
+open_of : (base i : ℕ) (half : Half) (old : List ℕ) (o : Option InodeCopy) → ShowsCopy base i old o → is_open old (slot_at base i half) ≡ true
+    → (copy : InodeCopy) × (o ≡ Some copy) × (copy.half ≡ half) × Holds old (slot_at base i half) copy.slot
+open_of base i half old None shows is = absurd (true≢false (sym is ∙ shows half))
+open_of base i half old (Some copy) shows is = ⊎_elim
+    (λ (e : half ≡ copy.half). (copy, refl, sym e, subst (λ (one : Half). Holds old (slot_at base i one) copy.slot) (sym e) shows.bytes))
+    (λ (e : half ≡ other_half copy.half). absurd (true≢false (sym is ∙ ap (λ (one : Half). is_open old (slot_at base i one)) e ∙ shows.other)))
+    (cases_half half copy.half)
 
 -- the slot that is written is closed
-shut_of : (base i : ℕ) (old : List ℕ) (o : Option InodeCopy) → ShowsCopy base i old o → is_open old (slot_at base i (next_which o)) ≡ false
-shut_of base i old None shows = shows 0 (omega arith)
+shut_of : (base i : ℕ) (old : List ℕ) (o : Option InodeCopy) → ShowsCopy base i old o → is_open old (slot_at base i (next_half o)) ≡ false
+shut_of base i old None shows = shows First
 shut_of base i old (Some copy) shows = shows.other
-
-which_small : (base i : ℕ) (old : List ℕ) (o : Option InodeCopy) → ShowsCopy base i old o → next_which o ≤ 1
-which_small base i old None shows = omega arith
-which_small base i old (Some copy) shows = let p = shows.place in omega arith
 
 within_area : (base at n k : ℕ) → base ≤ at → at + n ≤ base + 4195328 → is_within base 4195328 k ≡ false → is_within at n k ≡ false
 within_area base at n k low high out = grind (arith, nat_tests)
 
 -- a slot's first byte, and a byte of another slot, is none of those behind the gate of this one
-pub apart_slots : (base i w ino which k : ℕ) → k < 512 → 1 ≤ i → 1 ≤ ino → w ≤ 1 → which ≤ 1 → (k ≡ 0) ⊎ (slot_at base i w ≢ slot_at base ino which) → is_within (slot_at base ino which + 1) 511 (slot_at base i w + k) ≡ false
-apart_slots base i w ino which k lt low low' place place' h = is_outside (slot_at base ino which + 1) 511 (slot_at base i w + k) (⊎_elim
-    (λ (less : slot_at base i w + k < slot_at base ino which + 1). inl less)
-    (λ (ge : slot_at base ino which + 1 ≤ slot_at base i w + k). inr (⊎_elim
+pub apart_slots : (base i : ℕ) (one : Half) (ino : ℕ) (half : Half) (k : ℕ) → k < 512 → 1 ≤ i → 1 ≤ ino → (k ≡ 0) ⊎ (slot_at base i one ≢ slot_at base ino half) → is_within (slot_at base ino half + 1) 511 (slot_at base i one + k) ≡ false
+apart_slots base i one ino half k lt low low' h = is_outside (slot_at base ino half + 1) 511 (slot_at base i one + k) (⊎_elim
+    (λ (less : slot_at base i one + k < slot_at base ino half + 1). inl less)
+    (λ (ge : slot_at base ino half + 1 ≤ slot_at base i one + k). inr (⊎_elim
     (λ (e : k ≡ 0). omega arith)
-    (λ (ne : slot_at base i w ≢ slot_at base ino which). omega arith)
+    (λ (ne : slot_at base i one ≢ slot_at base ino half). omega arith)
     h))
-    (cases_lt (slot_at base i w + k) (slot_at base ino which + 1)))
+    (cases_lt (slot_at base i one + k) (slot_at base ino half + 1)))
 
 module _ (pack : PackState) (ino : ℕ) (w : Working) (made : InodeCopy) (s : Setup pack ino w made) where
   abbrev gate : ℕ
-  gate = slot_at pack.base ino made.which
+  gate = slot_at pack.base ino made.half
 
   abbrev count : ℕ
   count = pages_of w.size
@@ -83,7 +81,7 @@ module _ (pack : PackState) (ino : ℕ) (w : Working) (made : InodeCopy) (s : Se
   pages = page_pieces pack.base made.slot.pages w (pages_of w.size)
 
   abbrev body : Piece
-  body = record { at = slot_at pack.base ino made.which + 1; bytes = drop 1 (slot_bytes made.slot) }
+  body = record { at = slot_at pack.base ino made.half + 1; bytes = drop 1 (slot_bytes made.slot) }
 
   -- what is written before the gate opens
   abbrev pub pieces : List Piece
@@ -110,13 +108,13 @@ module _ (pack : PackState) (ino : ℕ) (w : Working) (made : InodeCopy) (s : Se
   changed_of : (i : ℕ) (page : List ℕ) → shadow_page w.pages i ≡ Some page → is_changed w i ≡ true
   changed_of i page is = ap (λ (o : Option (List ℕ)). is_some o) is
 
-  pub spared_named : (p k : ℕ) → k < 1024 → 1 ≤ times p (named_pages pack.copies) → made.which ≤ 1 → touches pieces (page_at pack.base p + k) ≡ false
-  spared_named p k lt named place = touches_none pages (body ∷ []) (page_at pack.base p + k)
+  pub spared_named : (p k : ℕ) → k < 1024 → 1 ≤ times p (named_pages pack.copies) → touches pieces (page_at pack.base p + k) ≡ false
+  spared_named p k lt named = touches_none pages (body ∷ []) (page_at pack.base p + k)
       (spared_pages pack.base made.slot.pages w count s.whole inside count (page_at pack.base p + k) (omega arith) (λ i page less is.
       let free = eqb-true (times (get_or made.slot.pages i 0) (named_pages pack.copies)) 0 (s.takes.free i less (changed_of i page is)) in
       is_outside (page_at pack.base (get_or made.slot.pages i 0)) 1024 (page_at pack.base p + k)
       (beside p (get_or made.slot.pages i 0) k lt (λ e. let f = ap (λ (q : ℕ). times q (named_pages pack.copies)) e in absurd (omega arith)))))
-      (spared_body (page_at pack.base p + k) (let high = s.high in let low = s.low in is_outside (gate + 1) 511 (page_at pack.base p + k) (inr (omega arith))))
+      (spared_body (page_at pack.base p + k) (let high = s.high in let low = s.low in let most = half_most made.half in is_outside (gate + 1) 511 (page_at pack.base p + k) (inr (omega arith))))
     where
       beside : (p q k : ℕ) → k < 1024 → p ≢ q → (page_at pack.base p + k < page_at pack.base q) ⊎ (page_at pack.base q + 1024 ≤ page_at pack.base p + k)
       beside p q k lt ne = ⊎_elim (λ (less : p < q). inl (omega arith)) (λ (ge : q ≤ p). inr (omega arith)) (cases_lt p q)
@@ -125,18 +123,15 @@ module _ (pack : PackState) (ino : ℕ) (w : Working) (made : InodeCopy) (s : Se
     own_shows : ShowsCopy pack.base ino old (copy_of pack.copies ino)
     own_shows = shows.copies ino s.low s.high
 
-    pub place : made.which ≤ 1
-    place = let e = s.place in let small = which_small pack.base ino old (copy_of pack.copies ino) own_shows in omega arith
-
     pub shut : is_open old gate ≡ false
-    shut = ap (λ (n : ℕ). is_open old (slot_at pack.base ino n)) s.place ∙ shut_of pack.base ino old (copy_of pack.copies ino) own_shows
+    shut = ap (λ (half : Half). is_open old (slot_at pack.base ino half)) s.place ∙ shut_of pack.base ino old (copy_of pack.copies ino) own_shows
 
-    pub open_copy : (i which : ℕ) → 1 ≤ i → i ≤ 1024 → which ≤ 1 → is_open old (slot_at pack.base i which) ≡ true
-        → (copy : InodeCopy) × (copy_of pack.copies i ≡ Some copy) × (copy.which ≡ which) × Holds old (slot_at pack.base i which) copy.slot
-    open_copy i which low high le is = open_of pack.base i which old (copy_of pack.copies i) le (shows.copies i low high) is
+    pub open_copy : (i : ℕ) (half : Half) → 1 ≤ i → i ≤ 1024 → is_open old (slot_at pack.base i half) ≡ true
+        → (copy : InodeCopy) × (copy_of pack.copies i ≡ Some copy) × (copy.half ≡ half) × Holds old (slot_at pack.base i half) copy.slot
+    open_copy i half low high is = open_of pack.base i half old (copy_of pack.copies i) (shows.copies i low high) is
 
-    pub copy_says : (i which : ℕ) (copy : InodeCopy) → copy_of pack.copies i ≡ Some copy → Holds old (slot_at pack.base i which) copy.slot → Says old (slot_at pack.base i which) copy.slot
-    copy_says i which copy held holds = says old (slot_at pack.base i which) copy.slot holds (copy_is pack.copies i copy s.are held).slot
+    pub copy_says : (i : ℕ) (half : Half) (copy : InodeCopy) → copy_of pack.copies i ≡ Some copy → Holds old (slot_at pack.base i half) copy.slot → Says old (slot_at pack.base i half) copy.slot
+    copy_says i half copy held holds = says old (slot_at pack.base i half) copy.slot holds (copy_is pack.copies i copy s.are held).slot
 
     -- the bytes once the pieces are written
     abbrev before : List ℕ
@@ -146,7 +141,7 @@ module _ (pack : PackState) (ino : ℕ) (w : Working) (made : InodeCopy) (s : Se
     long_before = long_written pack.base made.slot.pages w count s.whole inside old shows.area count (omega arith)
 
     body_fits : gate + 1 + length body.bytes ≤ length before
-    body_fits = let long = long_body in let all = long_before in let area = shows.area in let high = s.high in let low = s.low in let p = place in omega arith
+    body_fits = let long = long_body in let all = long_before in let area = shows.area in let high = s.high in let low = s.low in let p = half_most made.half in omega arith
 
     whole_is : written old pieces ≡ overwritten before body.at body.bytes
     whole_is = written-append old pages (body ∷ [])
@@ -163,7 +158,7 @@ module _ (pack : PackState) (ino : ℕ) (w : Working) (made : InodeCopy) (s : Se
         ∙ get_or-drop 1 (slot_bytes made.slot) k 0
 
     abbrev new : List ℕ
-    new = made_bytes pack.base ino made.which pieces old
+    new = made_bytes pack.base ino made.half pieces old
 
     gate_fits : gate + 1 ≤ length (written old pieces)
     gate_fits = let long = long_body in let fits = body_fits in let a = long_before in let b = long_pieces in omega arith
@@ -208,40 +203,41 @@ module _ (pack : PackState) (ino : ℕ) (w : Working) (made : InodeCopy) (s : Se
     turn_before : turn (written old pieces) gate ≡ made.slot.turn
     turn_before = byte_before 1 (omega arith) ∙ new_says.turn
 
-    pub may_replace : MayReplace pack.base ino made.which pieces old
+    pub may_replace : MayReplace pack.base ino made.half pieces old
     may_replace = record {
       area = shows.area;
       within = All-append (λ (piece : Piece). piece.at + length piece.bytes ≤ length old) pages (body ∷ []) (within_pages pack.base made.slot.pages w count s.whole inside old shows.area count (omega arith))
           (All-cons (λ (piece : Piece). piece.at + length piece.bytes ≤ length old) body [] (let fits = body_fits in let b = long_before in omega arith) (All-nil (λ (piece : Piece). piece.at + length piece.bytes ≤ length old)));
       inside = λ k out. touches_none pages (body ∷ []) k
           (spared_pages pack.base made.slot.pages w count s.whole inside count k (omega arith) (λ i page less is. let number = inside i less in within_area pack.base (page_at pack.base (get_or made.slot.pages i 0)) 1024 k (omega arith) (omega arith) out))
-          (spared_body k (let high = s.high in let low = s.low in let p = place in within_area pack.base (gate + 1) 511 k (omega arith) (omega arith) out));
+          (spared_body k (let high = s.high in let low = s.low in let p = half_most made.half in within_area pack.base (gate + 1) 511 k (omega arith) (omega arith) out));
       low = s.low;
       high = s.high;
-      place = place;
       shut = shut;
-      gates = λ i which low high le.
-          let e : slot_at pack.base i which + 0 ≡ slot_at pack.base i which = omega arith in
-          subst (λ (k : ℕ). touches pieces k ≡ false) e (spared_slot (slot_at pack.base i which + 0) (omega arith) (apart_slots pack.base i which ino made.which 0 (omega arith) low s.low le place (inl refl)));
-      spares = λ i which low high le is.
-          let o = open_copy i which low high le is in
-          let t = copy_says i which o.0 o.1 o.3 in
+      gates = λ i half low high.
+          let e : slot_at pack.base i half + 0 ≡ slot_at pack.base i half = omega arith in
+          let most = half_most half in
+          subst (λ (k : ℕ). touches pieces k ≡ false) e (spared_slot (slot_at pack.base i half + 0) (omega arith) (apart_slots pack.base i half ino made.half 0 (omega arith) low s.low (inl refl)));
+      spares = λ i half low high is.
+          let o = open_copy i half low high is in
+          let t = copy_says i half o.0 o.1 o.3 in
+          let most = half_most half in
           let c = copy_is pack.copies i o.0 s.are o.1 in
           let small = c.slot.size in
           let e = t.size in
-          let apart : slot_at pack.base i which ≢ gate = (λ same. true≢false (sym is ∙ ap (λ (k : ℕ). is_open old k) same ∙ shut)) in
+          let apart : slot_at pack.base i half ≢ gate = (λ same. true≢false (sym is ∙ ap (λ (k : ℕ). is_open old k) same ∙ shut)) in
           record {
             few = omega arith;
-            bytes = λ k lt. spared_slot (slot_at pack.base i which + k) (omega arith) (apart_slots pack.base i which ino made.which k lt low s.low le place (inr apart));
+            bytes = λ k lt. spared_slot (slot_at pack.base i half + k) (omega arith) (apart_slots pack.base i half ino made.half k lt low s.low (inr apart));
             pages = λ n k lt in_page.
                 let below : n < pages_of o.0.slot.size = subst (λ (m : ℕ). n < pages_of m) e lt in
-                subst (λ (p : ℕ). touches pieces (page_at pack.base p + k) ≡ false) (sym (t.pages n (omega arith))) (spared_named (get_or o.0.slot.pages n 0) k in_page (page_named pack.copies i n o.0 s.are o.1 below) place);
+                subst (λ (p : ℕ). touches pieces (page_at pack.base p + k) ≡ false) (sym (t.pages n (omega arith))) (spared_named (get_or o.0.slot.pages n 0) k in_page (page_named pack.copies i n o.0 s.are o.1 below));
           };
       few = (let e = size_before in let small = s.slot.size in omega arith);
       next = λ is.
-          let p = place in
-          let o = open_copy ino (1 - made.which) s.low s.high (omega arith) is in
-          let t = copy_says ino (1 - made.which) o.0 o.1 o.3 in
+          let p = half_most made.half in
+          let o = open_copy ino (other_half made.half) s.low s.high is in
+          let t = copy_says ino (other_half made.half) o.0 o.1 o.3 in
           let c = copy_is pack.copies ino o.0 s.are o.1 in
           let small = c.slot.turn in
           let e = t.turn in
@@ -250,17 +246,17 @@ module _ (pack : PackState) (ino : ℕ) (w : Working) (made : InodeCopy) (s : Se
 
     -- the data pages are those that the pieces leave
     gate_spares : (p k : ℕ) → get_or new (page_at pack.base p + k) 0 ≡ get_or (written old pieces) (page_at pack.base p + k) 0
-    gate_spares p k = let high = s.high in let low = s.low in let q = place in gate_torn.outside (page_at pack.base p + k) (is_outside gate 1 (page_at pack.base p + k) (inr (omega arith)))
+    gate_spares p k = let high = s.high in let low = s.low in let q = half_most made.half in gate_torn.outside (page_at pack.base p + k) (is_outside gate 1 (page_at pack.base p + k) (inr (omega arith)))
 
     -- a page that is named stays
     pub kept_byte : (p k : ℕ) → k < 1024 → 1 ≤ times p (named_pages pack.copies) → get_or new (page_at pack.base p + k) 0 ≡ get_or old (page_at pack.base p + k) 0
-    kept_byte p k lt named = gate_spares p k ∙ (torn_written pieces old may_replace.within).outside (page_at pack.base p + k) (spared_named p k lt named place)
+    kept_byte p k lt named = gate_spares p k ∙ (torn_written pieces old may_replace.within).outside (page_at pack.base p + k) (spared_named p k lt named)
 
     -- a changed one has its new bytes
     pub changed_byte : (i k : ℕ) (page : List ℕ) → i < pages_of w.size → shadow_page w.pages i ≡ Some page → k < 1024 → get_or new (page_at pack.base (get_or made.slot.pages i 0) + k) 0 ≡ get_or page k 0
     changed_byte i k page lt is small =
         let at = page_at pack.base (get_or made.slot.pages i 0) + k in
-        let high = s.high in let low = s.low in let q = place in let long = long_body in
+        let high = s.high in let low = s.low in let q = half_most made.half in let long = long_body in
         gate_spares (get_or made.slot.pages i 0) k
         ∙ ap (λ (l : List ℕ). get_or l at 0) whole_is
         ∙ put_outside body.at before body.bytes at body_fits (is_outside body.at (length body.bytes) at (inr (omega arith)))

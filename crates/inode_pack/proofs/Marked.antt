@@ -1,13 +1,14 @@
 -- The pages of a content of which some are marked.
 use Rattle.std.proofs.Common.{◌≡◌, ⊎_elim, ℕ, zero, suc, ◌+◌, ◌*◌, ◌<◌, ◌≤◌, Bool, true, false, ltb, List, [], ◌∷◌, length, get_or, Option, None, Some, refl, sym, ◌∙◌, ap, arith, length-append}
 use Rattle.std.specs.Prelude.{is_some, ◌&&◌, if◌then◌else◌}
-use Rattle.std.proofs.lemmas.Bool.{cases_lt, lt-ltb, le-ltb}
+use Rattle.std.proofs.lemmas.Bool.{cases_lt, lt-ltb, le-ltb, true≢false}
 use Rattle.std.proofs.lemmas.List.{get_or_past, get_or_append_left, get_or_at}
 use Rattle.file_content.specs.Pages.{pages_of}
 use Rattle.shadow_pages.specs.Working.{page_at as shadow_page, count_below}
 use Rattle.inode_pack.specs.Whole.{full_page}
 use Rattle.inode_pack.specs.Marked.{is_marked, page_if, marked_pages, marked}
 use Rattle.inode_pack.specs.Committing.{is_changed, needed}
+use Rattle.inode_pack.specs.Rows.{HasChanged}
 use Rattle.inode_pack.proofs.Whole.{long_page}
 
 length_marked : (bytes : List ℕ) (marks : List Bool) (n : ℕ) → length (marked_pages bytes marks n) ≡ n
@@ -97,3 +98,15 @@ needed_marked bytes marks = counts (pages_of (length bytes)) (omega arith)
 
 pub new_page : (bytes : List ℕ) (marks : List Bool) (i : ℕ) → is_changed (marked bytes marks) i ≡ true → 1024 * i < length bytes → shadow_page (marked bytes marks).pages i ≡ Some (full_page bytes i)
 new_page bytes marks i is lt = page_changed bytes marks i (omega arith) (sym (changed_here bytes marks i (omega arith)) ∙ is)
+
+-- pages in a row are all that are changed, where no other one is marked
+pub row_has : (bytes : List ℕ) (marks : List Bool) (first stop end : ℕ) → end ≡ pages_of (length bytes) → ((i : ℕ) → i < first → is_marked marks i ≡ false) → ((i : ℕ) → stop ≤ i → i < end → is_marked marks i ≡ false) → HasChanged first stop (marked bytes marks)
+row_has bytes marks first stop end e before behind i lt is =
+    let mark : is_marked marks i ≡ true = sym (changed_here bytes marks i lt) ∙ is in (
+      ⊎_elim (λ (less : i < first). absurd (true≢false (sym mark ∙ before i less))) (λ (le : first ≤ i). le) (cases_lt i first),
+      ⊎_elim (λ (less : i < stop). less) (λ (le : stop ≤ i). absurd (true≢false (sym mark ∙ behind i le (omega arith)))) (cases_lt i stop),
+    )
+
+-- a mark as the code reads it
+pub mark_at : (marks : List Bool) (i at : ℕ) → at ≡ i → get_or marks at false ≡ false → is_marked marks i ≡ false
+mark_at marks i at e is = ap (λ (n : ℕ). get_or marks n false) (sym e) ∙ is

@@ -2,14 +2,15 @@
 use Rattle.std.proofs.Common.{◌≡◌, ◌≤◌, ◌+◌, ◌∙◌, subst, sym, List, ℕ, Bool, length, refl, arith}
 use Rattle.std.specs.Prelude.{Option, Result, Ok, Err, IfErr, IsErrAnd}
 use Rattle.pack_layout.specs.Layout.{area_length}
-use Rattle.inode_pack.specs.declared.inode_copy.InodeCopy.{InodeCopy}
-use Rattle.inode_pack.specs.declared.mount_fault.MountFault.{MountFault}
-use Rattle.inode_pack.specs.declared.mount_fault.MountFault.TheVariants.{Disk, NotAPack, BadSlot, SharedPage, NoMemory}
-use Rattle.inode_pack.specs.Pack.{PackState, AreCopies, IsPackOf, ShowsCopies, Shows, copy_of}
-use Rattle.inode_pack.specs.Mounting.{IsSound, IsCause, IsPassing, Recovers, KeepsPack}
-use Rattle.inode_pack.specs.Losing.{KeepsCopies, AreFound, is_losing}
-use Rattle.inode_pack.proofs.Counting.{found_counts}
-use Rattle.inode_pack.proofs.SoundPack.{found_sound}
+use Rattle.pack_slots.specs.declared.inode_copy.InodeCopy.{InodeCopy}
+use Rattle.pack_slots.specs.declared.mount_fault.MountFault.{MountFault}
+use Rattle.pack_slots.specs.declared.mount_fault.MountFault.TheVariants.{Disk, NotAPack, BadSlot, SharedPage, NoMemory}
+use Rattle.inode_pack.specs.Pack.{PackState, Shows}
+use Rattle.pack_slots.specs.Copies.{AreCopies, IsPackOf, ShowsCopies, copy_of}
+use Rattle.pack_slots.specs.Mounting.{IsSound, IsCause, IsPassing, Recovers, KeepsPack}
+use Rattle.pack_slots.specs.Losing.{KeepsCopies, AreFound, is_losing}
+use Rattle.pack_slots.proofs.Counting.{found_counts}
+use Rattle.pack_slots.proofs.SoundPack.{found_sound}
 use Rattle.gate_switch.proofs.Tearing.{torn_widens, torn_stays, bytes_below}
 
 pub keeps_itself : (base group site : ℕ) (image : List ℕ) → KeepsPack base group site image image

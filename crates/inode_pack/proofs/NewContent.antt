@@ -10,18 +10,19 @@ use Rattle.inode_switch.specs.Slots.{Holds, field_bytes}
 use Rattle.inode_switch.specs.View.{Version, version, version_in, view}
 use Rattle.inode_switch.specs.Replace.{made_version, made_bytes}
 use Rattle.inode_switch.proofs.VersionBytes.{content_length, content_byte}
-use Rattle.inode_pack.specs.declared.inode_copy.InodeCopy.{InodeCopy}
+use Rattle.pack_slots.specs.declared.inode_copy.InodeCopy.{InodeCopy}
 use Rattle.inode_pack.specs.declared.new_version.NewVersion.{NewVersion}
-use Rattle.inode_pack.specs.Pack.{PackState, copy_of, number_in, ShowsCopy, Shows}
-use Rattle.inode_pack.specs.Slots.{IsFound}
+use Rattle.inode_pack.specs.Pack.{PackState, number_in, Shows}
+use Rattle.pack_slots.specs.Copies.{copy_of, ShowsCopy}
+use Rattle.pack_slots.specs.Slots.{IsFound}
 use Rattle.inode_pack.specs.Committing.{Makes, is_free, size_of, content_of, new_version}
-use Rattle.inode_pack.proofs.Counting.{found_counts}
+use Rattle.pack_slots.proofs.Counting.{found_counts}
 use Rattle.inode_pack.proofs.Setup.{Setup, copy_is, held_page, page_named}
 use Rattle.inode_pack.proofs.Making.{pieces, copy_says, new_says, new_area, kept_byte, changed_byte}
 
 -- what the view has of an inode with a copy
 pub view_of : (pack : PackState) (ino : ℕ) (w : Working) (made : InodeCopy) (s : Setup pack ino w made) (old : List ℕ) (shows : Shows pack old) (copy : InodeCopy) → copy_of pack.copies ino ≡ Some copy
-    → (Holds old (slot_at pack.base ino copy.which) copy.slot) × (view old pack.base ino ≡ Some (version old pack.base (slot_at pack.base ino copy.which)))
+    → (Holds old (slot_at pack.base ino copy.half) copy.slot) × (view old pack.base ino ≡ Some (version old pack.base (slot_at pack.base ino copy.half)))
 view_of pack ino w made s old shows copy held =
     let shown = subst (λ (o : Option InodeCopy). ShowsCopy pack.base ino old o) held (shows.copies ino s.low s.high) in
     let found : IsFound pack.base ino old (Some copy) false = record { says = shown; own = copy_is pack.copies ino copy s.are held } in
@@ -30,10 +31,10 @@ view_of pack ino w made s old shows copy held =
 
 module _ (pack : PackState) (ino : ℕ) (w : Working) (made : InodeCopy) (s : Setup pack ino w made) (old : List ℕ) (shows : Shows pack old) where
   abbrev gate : ℕ
-  gate = slot_at pack.base ino made.which
+  gate = slot_at pack.base ino made.half
 
   abbrev new : List ℕ
-  new = made_bytes pack.base ino made.which (pieces pack ino w made s) old
+  new = made_bytes pack.base ino made.half (pieces pack ino w made s) old
 
   abbrev base_content : List ℕ
   base_content = content_of (view old pack.base ino)
@@ -60,7 +61,7 @@ module _ (pack : PackState) (ino : ℕ) (w : Working) (made : InodeCopy) (s : Se
       let fits : k < copy.slot.size = (let e = ap size_of h.1 in omega arith) in
       ap (λ (p : ℕ). get_or new (page_at pack.base p + r) 0) unchanged
       ∙ kept_byte pack ino w made s old shows (get_or copy.slot.pages i 0) r (omega arith) (page_named pack.copies ino i copy s.are h.1 h.2)
-      ∙ sym (content_byte old pack.base (slot_at pack.base ino copy.which) copy.slot c.slot (copy_says pack ino w made s old shows ino copy.which copy h.1 v.0) shows.area k fits)
+      ∙ sym (content_byte old pack.base (slot_at pack.base ino copy.half) copy.slot c.slot (copy_says pack ino w made s old shows ino copy.half copy h.1 v.0) shows.area k fits)
       ∙ ap (λ (o : Option Version). get_or (content_of o) k 0) (sym v.1)
 
   same_content : (version new pack.base gate).content ≡ content base_content w
@@ -75,7 +76,7 @@ module _ (pack : PackState) (ino : ℕ) (w : Working) (made : InodeCopy) (s : Se
       ∙ get_or_default (content base_content w) k 0 d (omega arith))
 
   pub version_made : (given : NewVersion) → Makes (is_free pack.copies) (copy_of pack.copies ino) ino given w made
-      → made_version pack.base ino made.which (pieces pack ino w made s) old ≡ new_version pack.base ino given w old
+      → made_version pack.base ino made.half (pieces pack ino w made s) old ≡ new_version pack.base ino given w old
   version_made given makes =
       let fields = (new_says pack ino w made s old shows).fields ∙ ap field_bytes makes.says in
       let all = same_content in

@@ -7,12 +7,14 @@ use Rattle.shadow_pages.proofs.Counts.{count_below_same}
 use Rattle.file_content.specs.Pages.{pages_of}
 use Rattle.pack_layout.specs.Layout.{IsSlot}
 use Rattle.shadow_pages.specs.Working.{Working, count_below}
-use Rattle.inode_pack.specs.declared.inode_copy.InodeCopy.{InodeCopy}
+use Rattle.pack_slots.specs.declared.inode_copy.InodeCopy.{InodeCopy}
 use Rattle.inode_pack.specs.declared.new_version.NewVersion.{NewVersion}
-use Rattle.inode_pack.specs.Pack.{PackState, copy_of, pages_in, named_pages, times, IsCopy, AreCopies, AreUses, number_in}
+use Rattle.inode_pack.specs.Pack.{PackState, number_in}
+use Rattle.pack_slots.specs.Copies.{copy_of, pages_in, named_pages, times, IsCopy, AreCopies, AreUses}
 use Rattle.inode_pack.specs.Committing.{is_changed, is_free, Makes}
-use Rattle.inode_pack.proofs.PageTimes.{times_take, times_own, times_other, named_here}
-use Rattle.inode_pack.proofs.NamedPages.{named_part, named-set, length-named_set, AreBelow, below-append, below_take, unnamed}
+use Rattle.pack_slots.proofs.PageTimes.{times_take, times_own, times_other, named_here}
+use Rattle.pack_slots.proofs.NamedPages.{named_part, named-set, length-named_set, AreBelow, below-append, below_take}
+use Rattle.inode_pack.proofs.FreeCounts.{unnamed}
 use Rattle.inode_pack.proofs.Setup.{Setup, copy_is, kept_page}
 
 -- different pages are among themselves once at most
@@ -78,7 +80,7 @@ module _ (copies : List (Option InodeCopy)) (ino : ℕ) (made : Option InodeCopy
   pub length_set : length (named_pages (set copies (ino - 1) made)) + length (pages_in (copy_of copies ino)) ≡ length (named_pages copies) + length (pages_in made)
   length_set = subst (λ (o : Option InodeCopy). length (named_pages (set copies (ino - 1) made)) + length (pages_in o) ≡ length (named_pages copies) + length (pages_in made)) (held_at copies ino low) (length-named_set copies (ino - 1) made (omega arith))
 
-module _ (pack : PackState) (ino : ℕ) (w : Working) (made : InodeCopy) (s : Setup pack ino w made) (which : made.which ≤ 1) where
+module _ (pack : PackState) (ino : ℕ) (w : Working) (made : InodeCopy) (s : Setup pack ino w made) where
   abbrev copies : List (Option InodeCopy)
   copies = set pack.copies (ino - 1) (Some made)
 
@@ -125,7 +127,7 @@ module _ (pack : PackState) (ino : ℕ) (w : Working) (made : InodeCopy) (s : Se
     count = length-set pack.copies (ino - 1) (Some made) ∙ s.are.count;
     own = λ other. ⊎_elim
         (λ (e : other ≡ ino).
-        let own : IfSome (Some made) (λ copy. IsCopy ino copy) = record { place = which; slot = s.slot; own = s.own } in
+        let own : IfSome (Some made) (λ copy. IsCopy ino copy) = record { slot = s.slot; own = s.own } in
         let count = s.are.count in
         let high = s.high in
         subst (λ (i : ℕ). IfSome (copy_of copies i) (λ copy. IsCopy i copy)) (sym e) (subst (λ (o : Option InodeCopy). IfSome o (λ copy. IsCopy ino copy)) (sym (own_copy pack.copies ino (Some made) s.low (omega arith))) own))
@@ -133,6 +135,13 @@ module _ (pack : PackState) (ino : ℕ) (w : Working) (made : InodeCopy) (s : Se
         (cases_eq other ino);
     apart = once;
   }
+
+-- a number of an inode as it was got
+pub low_of : (got ino : ℕ) → got ≡ ino → 1 ≤ got → 1 ≤ ino
+low_of got ino e low = omega arith
+
+pub high_of : (got ino : ℕ) → got ≡ ino → got ≤ 1024 → ino ≤ 1024
+high_of got ino e high = omega arith
 
 -- the copy of an inode, and how the data pages are named
 module _ (copies : List (Option InodeCopy)) (uses : List ℕ) (free : ℕ) (are : AreCopies copies) (used : AreUses copies uses free) where

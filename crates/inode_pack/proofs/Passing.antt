@@ -5,7 +5,7 @@ use Rattle.std.proofs.lemmas.Bool.{cases_lt}
 use Rattle.file_content.specs.Pages.{pages_of}
 use Rattle.pack_layout.specs.Layout.{IsSlot}
 use Rattle.shadow_pages.specs.Working.{Working}
-use Rattle.inode_pack.specs.declared.inode_copy.InodeCopy.{InodeCopy}
+use Rattle.pack_slots.specs.declared.inode_copy.InodeCopy.{InodeCopy}
 use Rattle.inode_pack.specs.Committing.{TakesPages}
 use Rattle.inode_pack.specs.Rows.{HasChanged, SameButFor}
 use Rattle.inode_pack.proofs.Taking.{unchanged}

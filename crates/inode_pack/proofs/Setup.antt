@@ -6,13 +6,14 @@ use Rattle.pack_layout.specs.declared.slot.Slot.{Slot}
 use Rattle.file_content.specs.Pages.{pages_of}
 use Rattle.pack_layout.specs.Layout.{IsSlot, NamePages}
 use Rattle.shadow_pages.specs.Working.{Working, page_at as shadow_page}
-use Rattle.inode_pack.specs.declared.inode_copy.InodeCopy.{InodeCopy}
+use Rattle.pack_slots.specs.declared.inode_copy.InodeCopy.{InodeCopy}
 use Rattle.inode_pack.specs.declared.new_version.NewVersion.{NewVersion}
-use Rattle.inode_pack.specs.Pack.{PackState, copy_of, pages_in, named_pages, times, IsCopy, AreCopies, number_in}
-use Rattle.inode_pack.specs.Committing.{IsVersion, RestsOn, size_of, is_changed, is_free, TakesPages, Makes, next_which, next_turn}
+use Rattle.inode_pack.specs.Pack.{PackState, number_in}
+use Rattle.pack_slots.specs.Copies.{copy_of, pages_in, named_pages, times, IsCopy, AreCopies}
+use Rattle.inode_pack.specs.Committing.{IsVersion, RestsOn, size_of, is_changed, is_free, TakesPages, Makes, next_half, next_turn}
 use Rattle.inode_pack.specs.PagePieces.{AreWhole}
-use Rattle.inode_pack.proofs.PageTimes.{named_here}
-use Rattle.inode_pack.proofs.NamedPages.{named_part}
+use Rattle.pack_slots.proofs.PageTimes.{named_here}
+use Rattle.pack_slots.proofs.NamedPages.{named_part}
 
 pub record Setup (pack : PackState) (ino : ℕ) (w : Working) (made : InodeCopy) : Type 0 where
   pub are : AreCopies pack.copies
@@ -21,7 +22,7 @@ pub record Setup (pack : PackState) (ino : ℕ) (w : Working) (made : InodeCopy)
   pub slot : IsSlot made.slot
   pub own : made.slot.ino ≡ ino
   pub size : made.slot.size ≡ w.size
-  pub place : made.which ≡ next_which (copy_of pack.copies ino)
+  pub place : made.half ≡ next_half (copy_of pack.copies ino)
   pub turn : made.slot.turn ≡ next_turn (copy_of pack.copies ino)
   pub takes : TakesPages (is_free pack.copies) (copy_of pack.copies ino) w made.slot.pages
   pub rests : RestsOn (size_of (copy_of pack.copies ino)) w

@@ -6,7 +6,7 @@ use Rattle.std.proofs.lemmas.List.{get_or-set_same, get_or-set_other}
 use Rattle.file_content.specs.Pages.{pages_of}
 use Rattle.shadow_pages.specs.Working.{Working, count_below, page_at as shadow_page}
 use Rattle.inode_pack.specs.PagePieces.{AreWhole}
-use Rattle.inode_pack.specs.declared.inode_copy.InodeCopy.{InodeCopy}
+use Rattle.pack_slots.specs.declared.inode_copy.InodeCopy.{InodeCopy}
 use Rattle.inode_pack.specs.Pack.{number_in}
 use Rattle.inode_pack.specs.Committing.{is_changed, needed, TakesPages}
 use Rattle.inode_pack.specs.Rows.{HasChanged}

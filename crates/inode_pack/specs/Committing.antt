@@ -4,16 +4,19 @@ use Rattle.disk_model.specs.declared.disk.DiskFault.{DiskFault}
 use Rattle.disk_model.specs.declared.disk.DiskFault.TheVariants.{Failed}
 use Rattle.disk_model.specs.Images.{Torn, bytes_at}
 use Rattle.file_content.specs.Pages.{pages_of}
-use Rattle.pack_layout.specs.Layout.{area_length, page_at, IsStamp, AgreesWith}
+use Rattle.pack_layout.specs.declared.half.Half.{Half}
+use Rattle.pack_layout.specs.declared.half.Half.TheVariants.{First}
+use Rattle.pack_layout.specs.Layout.{area_length, page_at, IsStamp, AgreesWith, other_half}
 use Rattle.shadow_pages.specs.Working.{Working, page_at as shadow_page, content, count_below}
 use Rattle.inode_switch.specs.View.{Version, view, IsOldOrNew}
 use Rattle.inode_switch.specs.Slots.{field_bytes}
-use Rattle.inode_pack.specs.declared.inode_copy.InodeCopy.{InodeCopy}
+use Rattle.pack_slots.specs.declared.inode_copy.InodeCopy.{InodeCopy}
 use Rattle.inode_pack.specs.declared.new_version.NewVersion.{NewVersion}
 use Rattle.inode_pack.specs.declared.pack_fault.PackFault.{PackFault}
 use Rattle.inode_pack.specs.declared.pack_fault.PackFault.TheVariants.{Disk, NoSpace}
-use Rattle.inode_pack.specs.Pack.{PackState, copy_of, named_pages, times, number_in}
-use Rattle.inode_pack.specs.Mounting.{IsSound}
+use Rattle.inode_pack.specs.Pack.{PackState, number_in}
+use Rattle.pack_slots.specs.Copies.{copy_of, named_pages, times}
+use Rattle.pack_slots.specs.Mounting.{IsSound}
 
 -- what a slot may say of a new version with so many bytes: a set that isn't empty, and a stamp with its vector
 pub record IsVersion (version : NewVersion) (bytes : ℕ) : Type 0 where
@@ -54,9 +57,9 @@ pub record TakesPages (unused : ℕ → Bool) (old : Option InodeCopy) (w : Work
   pub rest : (i : ℕ) → pages_of w.size ≤ i → i < 64 → slice_index numbers i ≡ 65535
 
 -- the first version of an inode goes to its first slot, another one to the slot that isn't open
-abbrev pub next_which : Option InodeCopy → ℕ
-next_which None = 0
-next_which (Some copy) = 1 - copy.which
+abbrev pub next_half : Option InodeCopy → Half
+next_half None = First
+next_half (Some copy) = other_half copy.half
 
 -- the first one has turn 0, another one the turn that follows: 0, 1 and 2 go round
 abbrev pub next_turn : Option InodeCopy → ℕ
@@ -65,7 +68,7 @@ next_turn (Some copy) = (copy.slot.turn + 1) % 3
 
 -- the copy that a commit makes of an inode, where these are the free data pages and this is its copy so far
 pub record Makes (unused : ℕ → Bool) (old : Option InodeCopy) (ino : ℕ) (version : NewVersion) (w : Working) (made : InodeCopy) : Type 0 where
-  pub place : made.which ≡ next_which old
+  pub place : made.half ≡ next_half old
   pub says : made.slot ≡ record { turn = next_turn old; kind = version.kind; ino = ino; set = version.set; size = w.size; stamp = version.stamp; vector = version.vector; pages = made.slot.pages }
   pub takes : TakesPages unused old w made.slot.pages
 

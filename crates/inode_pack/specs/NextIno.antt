@@ -1,7 +1,8 @@
 -- Which numbers a site may give to new inodes.
 use Rattle.std.specs.Prelude.{◌≡◌, ℕ, ◌+◌, ◌-◌, ◌*◌, ◌≤◌, ◌==◌, ◌&&◌, Bool, true, not, List, is_none}
 use Rattle.std.specs.List.{list_any}
-use Rattle.inode_pack.specs.Pack.{PackState, copy_of}
+use Rattle.inode_pack.specs.Pack.{PackState}
+use Rattle.pack_slots.specs.Copies.{copy_of}
 
 -- the number is in no slot, and not among those held
 abbrev pub is_unused : PackState → List ℕ → ℕ → Bool

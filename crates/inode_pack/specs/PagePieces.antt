@@ -4,7 +4,7 @@ use Rattle.file_content.specs.Pages.{pages_of}
 use Rattle.pack_layout.specs.Layout.{slot_at, page_at, slot_bytes}
 use Rattle.shadow_pages.specs.Working.{Working, page_at as shadow_page}
 use Rattle.gate_switch.specs.Switch.{Piece}
-use Rattle.inode_pack.specs.declared.inode_copy.InodeCopy.{InodeCopy}
+use Rattle.pack_slots.specs.declared.inode_copy.InodeCopy.{InodeCopy}
 
 abbrev pub piece_at : ℕ → Option (List ℕ) → List Piece
 piece_at at None = []
@@ -17,7 +17,7 @@ page_pieces base numbers w (suc n) = page_pieces base numbers w n ++ piece_at (p
 
 -- the slot but for its gate
 abbrev pub body_piece : ℕ → InodeCopy → Piece
-body_piece base made = record { at = slot_at base made.slot.ino made.which + 1; bytes = drop 1 (slot_bytes made.slot) }
+body_piece base made = record { at = slot_at base made.slot.ino made.half + 1; bytes = drop 1 (slot_bytes made.slot) }
 
 abbrev pub pieces_of : ℕ → InodeCopy → Working → List Piece
 pieces_of base made w = page_pieces base made.slot.pages w (pages_of w.size) ++ body_piece base made ∷ []

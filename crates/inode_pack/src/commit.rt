@@ -5,9 +5,10 @@ ghost use Rattle.file_content.specs.Pages.{pages_of};
 ghost use Rattle.pack_layout.specs.Layout.{area_length};
 ghost use Rattle.disk_model.specs.Moments.{LeavesOnly, TellsMany};
 ghost use Rattle.inode_switch.specs.View.{Replaced};
-ghost use Rattle.inode_pack.specs.Pack.{copy_of, named_pages, AreCopies, Stands};
+ghost use Rattle.pack_slots.specs.Copies.{copy_of, named_pages, AreCopies};
+ghost use Rattle.inode_pack.specs.Pack.{Stands};
 ghost use Rattle.inode_pack.specs.declared.pack_fault.PackFault.TheVariants.{NoSpace};
-ghost use Rattle.inode_pack.specs.declared.inode_copy.InodeCopy.{InodeCopy};
+ghost use Rattle.pack_slots.specs.declared.inode_copy.InodeCopy.{InodeCopy};
 ghost use Rattle.inode_pack.specs.Rows.{HasChanged, SameButFor};
 ghost use Rattle.inode_pack.specs.PagePieces.{AreWhole};
 ghost use Rattle.inode_pack.specs.Committing.{IsVersion, RestsOn, size_of, needed, is_free, Makes, Commits, HoldsPages, with_copy, new_version, adopted_version, MayBeLeft, commit_calls, commit_answer, IsEarly};
@@ -19,11 +20,11 @@ use crate::new_content::{MarkedContent, NewContent};
 use crate::pieces::CommitPieces;
 use crate::plan::{Row, next_copy, page_count};
 use crate::usage::{first_free, pages_named, pass_pages, row_to_pass};
-use crate::{InodeCopy, NewVersion, Pack, PackFault};
+use crate::{NewVersion, Pack, PackFault};
 use disk_model::Disk;
 use inode_switch::replace_inode;
 use locus_ids::{Bytes, Ino};
-use shadow_pages::Shadow;
+use pack_slots::InodeCopy;
 
 /// What a commit makes and writes.
 #[derive(Drop)]
@@ -38,46 +39,6 @@ struct Prepared {
 }
 
 impl Pack {
-    /// Commits a version of an inode: its content is the shadow's over the content that the inode has. Only changed pages are
-    /// written, each to the least free data page. `NoSpace` comes exactly where they are more than are free. After `Disk` the
-    /// pack must be mounted again, and is wholly old or wholly new.
-    pub fn commit<D: Disk>(
-        &mut self,
-        disk: &mut D,
-        ino: Ino,
-        version: &NewVersion,
-        shadow: &Shadow,
-    ) -> Result<(), PackFault>
-        requires stands { Stands self.old (D.moment disk.old) }
-        requires version { IsVersion version.now shadow.now.size }
-        requires rests { RestsOn (size_of (copy_of self.old.copies ino)) shadow.now }
-
-        // At each moment a crash leaves the old view or the new one, in a sound pack, and nothing else changed.
-        ensures any_moment { LeavesOnly (D.moment disk.old) (D.moment disk.new)
-            (MayBeLeft self.old ino (new_version self.old.base ino version.now shadow.now (D.moment disk.old).seen) (D.moment disk.old).seen) }
-
-        // After it the pack has the new copy, and so has the disk, whatever comes.
-        ensures copies { OnOk result (Commits self.old ino version.now shadow.now self.new) }
-        ensures stands { OnOk result (Stands self.new (D.moment disk.new)) }
-        ensures replaced { OnOk result (Replaced self.old.base ino (new_version self.old.base ino version.now shadow.now (D.moment disk.old).seen) (D.moment disk.old).seen (D.moment disk.new).seen) }
-        ensures pages { OnOk result (HoldsPages self.new ino shadow.now (D.moment disk.new).seen) }
-
-        ensures kept { OnErr result (self.new ≡ self.old) }
-        ensures no_space { (pages free : ℕ) → (result ≡ Err (NoSpace pages free)) ↔ ((free < pages) × (pages ≡ needed shadow.now) × (free + length (named_pages self.old.copies) ≡ 3072)) }
-        ensures early { IfErr result (λ fault. IsEarly fault → disk.new ≡ disk.old) }
-
-        // The disk fails only where its count rose, and where it tells how many calls pass, exactly where they are too few.
-        ensures cause { HasCause (D.moment disk.old).faults (D.moment disk.new).faults (commit_answer result) }
-        ensures tells { TellsMany (commit_calls (needed shadow.now) (copy_of self.old.copies ino) result) (D.moment disk.old).passing (D.moment disk.new).passing (commit_answer result) }
-
-        // Where it tells so, a crash as it cuts off the call leaves just this.
-        ensures how { (D.moment disk.new).how ≡ (D.moment disk.old).how }
-        ensures cut { (passed : ℕ) → (D.moment disk.old).passing ≡ Exactly passed → OnErr (commit_answer result)
-            (IsCutCommit self.old ino (new_version self.old.base ino version.now shadow.now (D.moment disk.old).seen) (needed shadow.now) (D.moment disk.old).how passed (D.moment disk.old).seen (D.moment disk.new).left) }
-    {
-        self.store(disk, ino.get(), *version, shadow)
-    }
-
     /// Adopts a version that was made elsewhere, with its whole content. All its pages are written, each to the least free data
     /// page; those of the version so far are free only afterwards. `NoSpace` comes exactly where they are more than are free.
     /// After `Disk` the pack must be mounted again, and is wholly old or wholly new.
@@ -114,13 +75,13 @@ impl Pack {
         ensures cut { (passed : ℕ) → (D.moment disk.old).passing ≡ Exactly passed → OnErr (commit_answer result)
             (IsCutCommit self.old ino (adopted_version ino version.now content.now) (pages_of (length content.now)) (D.moment disk.old).how passed (D.moment disk.old).seen (D.moment disk.new).left) }
     {
-        self.store(disk, ino.get(), *version, content)
+        self.store(disk, ino, *version, content)
     }
 
     /// Commits a version of an inode whose content is this one. Only the marked pages are written, each to the least free data
     /// page; the others stay those that the inode has. `NoSpace` comes exactly where they are more than are free. After `Disk`
     /// the pack must be mounted again, and is wholly old or wholly new.
-    pub fn commit_pages<D: Disk>(
+    pub fn commit<D: Disk>(
         &mut self,
         disk: &mut D,
         ino: Ino,
@@ -156,19 +117,17 @@ impl Pack {
         ensures cut { (passed : ℕ) → (D.moment disk.old).passing ≡ Exactly passed → OnErr (commit_answer result)
             (IsCutCommit self.old ino (new_version self.old.base ino version.now (marked content.now marks.now) (D.moment disk.old).seen) (needed (marked content.now marks.now)) (D.moment disk.old).how passed (D.moment disk.old).seen (D.moment disk.new).left) }
     {
-        self.store(disk, ino.get(), *version, &MarkedContent { content, marks })
+        self.store(disk, ino, *version, &MarkedContent { content, marks })
     }
 
     /// Makes a version of an inode, wholly or not at all.
     fn store<D: Disk, C: NewContent>(
         &mut self,
         disk: &mut D,
-        ino: u16,
+        ino: Ino,
         version: NewVersion,
         content: &C,
     ) -> Result<(), PackFault>
-        requires low { 1 ≤ ino }
-        requires high { ino ≤ 1024 }
         requires stands { Stands self.old (D.moment disk.old) }
         requires version { IsVersion version (C.working content.now).size }
         requires rests { RestsOn (size_of (copy_of self.old.copies ino)) (C.working content.now) }
@@ -192,14 +151,15 @@ impl Pack {
         let base = self.base();
         self.room_for(content)?;
         let prepared = self.prepare(ino, &version, content);
-        let which = prepared.made.which;
+        let half = prepared.made.half;
         let pieces = CommitPieces {
             base,
+            ino,
             made: &prepared.made,
             row: prepared.changed,
             content,
         };
-        replace_inode(disk, base, ino, which, prepared.closes, &pieces)?;
+        replace_inode(disk, base, ino, half, prepared.closes, &pieces)?;
         self.put(ino, &prepared.made, prepared.passed);
         Ok(())
     }
@@ -230,16 +190,16 @@ impl Pack {
     }
 
     /// Finds what a commit makes. It takes no memory, nor does the rest of a commit.
-    fn prepare<C: NewContent>(&self, ino: u16, version: &NewVersion, content: &C) -> Prepared
+    fn prepare<C: NewContent>(&self, ino: Ino, version: &NewVersion, content: &C) -> Prepared
         requires area { self.now.base + area_length < 2 ^ 32 }
-        requires low { 1 ≤ ino }
-        requires high { ino ≤ 1024 }
         requires version { IsVersion version.now (C.working content.now).size }
         requires rests { RestsOn (size_of (copy_of self.now.copies ino)) (C.working content.now) }
         requires room { needed (C.working content.now) + length (named_pages self.now.copies) ≤ 3072 }
         ensures makes { Makes (is_free self.now.copies) (copy_of self.now.copies ino) ino version.now (C.working content.now) result.made }
         ensures numbers { length result.made.slot.pages ≡ 64 }
-        ensures place { result.made.which ≤ 1 }
+        ensures own { result.made.slot.ino ≡ ino }
+        ensures low { 1 ≤ ino }
+        ensures high { ino ≤ 1024 }
         ensures inside { (i : ℕ) → i < pages_of (C.working content.now).size → slice_index result.made.slot.pages i < 3072 }
         ensures changed { HasChanged result.changed.first result.changed.stop (C.working content.now) }
         ensures changed_ordered { result.changed.first ≤ result.changed.stop }
@@ -252,7 +212,7 @@ impl Pack {
         ensures copies { AreCopies self.now.copies }
     {
         let row = content.row();
-        let old = &self.copies[usize::from(ino) - 1];
+        let old = &self.copies[usize::from(ino.get()) - 1];
         let passed = row_to_pass(old, row, page_count(content.size()));
         let made = next_copy(&self.uses, self.least, row, old, ino, version, content);
         Prepared {
@@ -264,16 +224,14 @@ impl Pack {
     }
 
     /// The pack has this copy of the inode.
-    fn put(&mut self, ino: u16, made: &InodeCopy, row: Row)
-        requires low { 1 ≤ ino }
-        requires high { ino ≤ 1024 }
+    fn put(&mut self, ino: Ino, made: &InodeCopy, row: Row)
         requires copies { AreCopies (with_copy self.old ino made.now).copies }
         requires ordered { row.first ≤ row.stop }
         requires inside { row.stop ≤ 64 }
         requires same { (one : InodeCopy) → copy_of self.old.copies ino ≡ Some one → SameButFor row.first row.stop one.slot.pages made.now.slot.pages }
         ensures { self.new ≡ with_copy self.old ino made.now }
     {
-        let at = usize::from(ino) - 1;
+        let at = usize::from(ino.get()) - 1;
         let old = &self.copies[at];
         let least = pass_pages(&mut self.uses, old, made, row, self.least);
         self.least = first_free(&self.uses, least);

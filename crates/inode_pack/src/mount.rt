@@ -1,21 +1,17 @@
 // A pack is found again on a disk.
 ghost use Rattle.std.specs.Prelude.{◌≡◌, ℕ, ◌+◌, ◌≤◌, length, IfOk, IfErr, OnOk, OnErr};
-ghost use Rattle.disk_model.specs.Disk.{Goes, IsSettled, HasCause, TellsRead, Exactly};
-ghost use Rattle.disk_model.specs.Images.{Same};
-ghost use Rattle.pack_layout.specs.Layout.{area_length};
+ghost use Rattle.disk_model.specs.Disk.{IsSettled, HasCause, Exactly};
 ghost use Rattle.disk_model.specs.Moments.{LeavesOnly, TellsMany};
-ghost use Rattle.inode_pack.specs.Pack.{AreCopies, AreUses, Stands};
-ghost use Rattle.inode_pack.specs.Mounting.{IsSound, IsCause, IsPassing, Recovers, KeepsPack, mount_calls, disk_answer};
-ghost use Rattle.inode_pack.specs.Cutting.{IsCutMount};
-ghost use Rattle.inode_pack.specs.Losing.{AreFound};
+ghost use Rattle.pack_layout.specs.Layout.{area_length};
+ghost use Rattle.pack_slots.specs.Copies.{AreCopies};
+ghost use Rattle.pack_slots.specs.Mounting.{IsSound, IsCause, IsPassing, Recovers, KeepsPack, mount_calls, disk_answer};
+ghost use Rattle.pack_slots.specs.Cutting.{IsCutMount};
+ghost use Rattle.inode_pack.specs.Pack.{Stands};
 
-use crate::closing::close_losing;
-use crate::inodes::read_inodes;
-use crate::shared::{count_uses, least_shared};
-use crate::superblock::is_pack_of;
-use crate::{InodeCopy, MountFault, Pack};
+use crate::Pack;
 use disk_model::Disk;
 use locus_ids::SiteId;
+use pack_slots::{MountFault, close_losing, read_pack};
 use std::alloc::Global;
 
 impl Pack {
@@ -67,50 +63,4 @@ impl Pack {
             least: 0,
         })
     }
-}
-
-/// What a mount finds by reading.
-#[derive(Drop)]
-struct Survey {
-    copies: Vec<Option<InodeCopy>>,
-    losing: Vec<bool>,
-    uses: Vec<u32>,
-    free: u16,
-}
-
-/// Reads a whole pack, and finds each fault of it.
-fn read_pack<D: Disk>(
-    alloc: Global,
-    disk: &mut D,
-    base: u32,
-    group: u8,
-    site: SiteId,
-) -> Result<Survey, MountFault>
-    requires { base + area_length ≤ length (D.moment disk.old).seen }
-    ensures sound { OnOk result (IsSound base group site (D.moment disk.old).seen) }
-    ensures found { IfOk result (λ survey. AreFound base 1024 (D.moment disk.old).seen survey.copies.items survey.losing.items) }
-    ensures losing { IfOk result (λ survey. length survey.losing.items ≡ 1024) }
-    ensures copies { IfOk result (λ survey. AreCopies survey.copies.items) }
-    ensures uses { IfOk result (λ survey. AreUses survey.copies.items survey.uses.items survey.free) }
-    ensures fault { IfErr result (λ fault. IsCause base group site (D.moment disk.old).seen fault) }
-    ensures seen { (D.moment disk.new).seen ≡ (D.moment disk.old).seen }
-    ensures crash { Goes Same (D.moment disk.old) (D.moment disk.new) }
-    ensures cause { HasCause (D.moment disk.old).faults (D.moment disk.new).faults (disk_answer result) }
-    ensures tells { TellsRead (D.moment disk.old).passing (D.moment disk.new).passing (disk_answer result) }
-    ensures how { (D.moment disk.new).how ≡ (D.moment disk.old).how }
-{
-    if !is_pack_of(disk, base, group, site)? {
-        return Err(MountFault::NotAPack);
-    }
-    let inodes = read_inodes(alloc, disk, base)?;
-    let uses = count_uses(alloc, &inodes.copies)?;
-    if let Some(page) = least_shared(&uses.counts) {
-        return Err(MountFault::SharedPage { page });
-    }
-    Ok(Survey {
-        copies: inodes.copies,
-        losing: inodes.losing,
-        free: 3_072 - uses.total as u16,
-        uses: uses.counts,
-    })
 }

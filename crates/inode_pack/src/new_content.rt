@@ -1,5 +1,5 @@
-// What is written of a new content: the changed pages of a shadow, or all pages of a whole content.
-ghost use Rattle.std.specs.Prelude.{◌≡◌, ◌≤◌, ◌<◌, ◌*◌, ℕ, List, length, Some, OnOk, true};
+// What is written of a new content: all pages of it, or those that are marked.
+ghost use Rattle.std.specs.Prelude.{◌≡◌, ◌≤◌, ◌<◌, ◌*◌, ℕ, List, length, Some, OnOk, true, false};
 ghost use Rattle.disk_model.specs.Disk.{Goes, HasCause};
 ghost use Rattle.disk_model.specs.Moments.{TellsMany};
 ghost use Rattle.file_content.specs.Pages.{pages_of};
@@ -14,7 +14,6 @@ ghost use Rattle.inode_pack.specs.Committing.{is_changed, needed};
 use crate::plan::{Row, page_count};
 use disk_model::{Disk, DiskFault};
 use locus_ids::Bytes;
-use shadow_pages::Shadow;
 
 /// A new content over the one before it: its size, and the pages of it that are written. The others stay where they stand.
 pub(crate) trait NewContent {
@@ -53,40 +52,6 @@ pub(crate) trait NewContent {
         ensures cause { HasCause (D.moment disk.old).faults (D.moment disk.new).faults result }
         ensures tells { TellsMany (length (piece_at at (shadow_page (working self.now).pages i))) (D.moment disk.old).passing (D.moment disk.new).passing result }
         ensures how { (D.moment disk.new).how ≡ (D.moment disk.old).how };
-}
-
-impl NewContent for Shadow {
-    ghost working = { λ s. s };
-
-    fn size(&self) -> u32 {
-        Shadow::size(self)
-    }
-
-    fn row(&self) -> Row {
-        let hull = self.hull();
-        let end = page_count(Shadow::size(self));
-        let stop = hull.stop.min(u32::from(end)) as u16;
-        let first = hull.first.min(u32::from(stop)) as u16;
-        Row { first, stop }
-    }
-
-    fn count(&self) -> u16 {
-        self.changed()
-    }
-
-    fn is_changed(&self, i: u16) -> bool {
-        match self.page(i) {
-            Some(_) => true,
-            None => false,
-        }
-    }
-
-    fn put_page<D: Disk>(&self, disk: &mut D, at: u32, i: u16) -> Result<(), DiskFault> {
-        let Some(page) = self.page(i) else {
-            return Ok(());
-        };
-        disk.write_at(at, page)
-    }
 }
 
 impl NewContent for Bytes {
@@ -135,10 +100,10 @@ impl NewContent for MarkedContent<'_> {
     }
 
     fn row(&self) -> Row {
-        Row {
-            first: 0,
-            stop: page_count(self.content.len() as u32),
-        }
+        let end = page_count(self.content.len() as u32);
+        let first = first_marked(self.marks, end);
+        let stop = end_of_marked(self.marks, first, end);
+        Row { first, stop }
     }
 
     fn count(&self) -> u16 {
@@ -155,6 +120,37 @@ impl NewContent for MarkedContent<'_> {
         }
         put_full(disk, at, self.content, i)
     }
+}
+
+/// The first marked page below `end`, or `end`.
+fn first_marked(marks: &[bool; 64], end: u16) -> u16
+    requires { end ≤ 64 }
+    ensures most { result ≤ end }
+    ensures before { (i : ℕ) → i < result → is_marked marks.now i ≡ false }
+{
+    for i in 0..end {
+        if marks[usize::from(i)] {
+            return i;
+        }
+    }
+    end
+}
+
+/// Where the marked pages from `first` on and below `end` end.
+fn end_of_marked(marks: &[bool; 64], first: u16, end: u16) -> u16
+    requires ordered { first ≤ end }
+    requires inside { end ≤ 64 }
+    ensures low { first ≤ result }
+    ensures high { result ≤ end }
+    ensures behind { (i : ℕ) → result ≤ i → i < end → is_marked marks.now i ≡ false }
+{
+    for i in first..end {
+        let stop = first + end - i;
+        if marks[usize::from(stop) - 1] {
+            return stop;
+        }
+    }
+    first
 }
 
 /// How many of the first pages are marked.

@@ -1,10 +1,10 @@
 ghost use Rattle.std.specs.Prelude.{◌≡◌, ◌+◌, length, IfSome};
 ghost use Rattle.std.specs.Option.{option_copied, option_map};
-ghost use Rattle.inode_pack.specs.Pack.{copy_of, named_pages, IsCopy};
+ghost use Rattle.pack_slots.specs.Copies.{copy_of, named_pages, IsCopy};
 
-use crate::InodeCopy;
 use locus_ids::SiteId;
 use pack_layout::Slot;
+use pack_slots::InodeCopy;
 use std::marker::Model;
 
 /// The part of a filegroup that a site stores, in an area of its disk. It knows the newest version of each inode there, and
@@ -25,7 +25,8 @@ pub struct Pack {
 }
 
 impl Model for Pack {
-    ghost use Rattle.inode_pack.specs.Pack.{PackState, AreCopies, AreUses};
+    ghost use Rattle.inode_pack.specs.Pack.{PackState};
+    ghost use Rattle.pack_slots.specs.Copies.{AreCopies, AreUses};
     ghost use Rattle.inode_pack.specs.Rows.{NoneBelow};
 
     ghost Value = { PackState };

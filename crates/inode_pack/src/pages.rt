@@ -4,7 +4,8 @@ ghost use Rattle.disk_model.specs.Disk.{Goes, HasCause, TellsRead};
 ghost use Rattle.disk_model.specs.Images.{bytes_at, Same};
 ghost use Rattle.pack_layout.specs.Layout.{page_at};
 ghost use Rattle.inode_switch.specs.View.{Version, view};
-ghost use Rattle.inode_pack.specs.Pack.{copy_of, Stands, HasPage, number_in, IsPageOf};
+ghost use Rattle.pack_slots.specs.Copies.{copy_of};
+ghost use Rattle.inode_pack.specs.Pack.{Stands, HasPage, number_in, IsPageOf};
 
 use crate::Pack;
 use disk_model::{Disk, DiskFault};

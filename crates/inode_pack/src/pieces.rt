@@ -9,26 +9,26 @@ ghost use Rattle.gate_switch.specs.Switch.{AreWithin, TornIn, written};
 ghost use Rattle.inode_pack.specs.PagePieces.{piece_at, page_pieces, body_piece, pieces_of};
 ghost use Rattle.inode_pack.specs.Rows.{HasChanged};
 
-use crate::InodeCopy;
 use crate::new_content::NewContent;
 use crate::plan::Row;
 use disk_model::{Disk, DiskFault};
 use gate_switch::PieceSource;
+use locus_ids::Ino;
 use pack_layout::{page_at, slot_at, write_fields};
+use pack_slots::InodeCopy;
 
 /// All that a commit writes before the gate opens: the changed pages, and last the slot.
 #[derive(Drop)]
 pub(crate) struct CommitPieces<'a, C: NewContent> {
     pub base: u32,
+    pub ino: Ino,
     pub made: &'a InodeCopy,
     /// Pages in a row, among which all changed ones are.
     pub row: Row,
     pub content: &'a C,
     ghost area: { base + area_length < 2 ^ 32 },
     ghost size: { (C.working content.now).size ≤ 65536 },
-    ghost low: { 1 ≤ made.now.slot.ino },
-    ghost high: { made.now.slot.ino ≤ 1024 },
-    ghost which: { made.now.which ≤ 1 },
+    ghost own: { made.now.slot.ino ≡ ino },
     ghost numbers: { (i : ℕ) → i < pages_of (C.working content.now).size → slice_index made.now.slot.pages i < 3072 },
     ghost changed: { HasChanged row.first row.stop (C.working content.now) },
     ghost ordered: { row.first ≤ row.stop },
@@ -46,7 +46,7 @@ impl<C: NewContent> PieceSource for CommitPieces<'_, C> {
             self.row,
             self.content,
         )?;
-        write_slot(disk, self.base, self.made)
+        write_slot(disk, self.base, self.ino, self.made)
     }
 }
 
@@ -101,11 +101,9 @@ fn write_pages<D: Disk, C: NewContent>(
 }
 
 /// Writes the slot but for its gate.
-fn write_slot<D: Disk>(disk: &mut D, base: u32, made: &InodeCopy) -> Result<(), DiskFault>
+fn write_slot<D: Disk>(disk: &mut D, base: u32, ino: Ino, made: &InodeCopy) -> Result<(), DiskFault>
     requires area { base + area_length < 2 ^ 32 }
-    requires low { 1 ≤ made.now.slot.ino }
-    requires high { made.now.slot.ino ≤ 1024 }
-    requires which { made.now.which ≤ 1 }
+    requires own { made.now.slot.ino ≡ ino }
     requires within { AreWithin (body_piece base made.now ∷ []) (length (D.moment disk.old).seen) }
     ensures written { OnOk result ((D.moment disk.new).seen ≡ written (D.moment disk.old).seen (body_piece base made.now ∷ [])) }
     ensures crash { Goes (TornIn (body_piece base made.now ∷ [])) (D.moment disk.old) (D.moment disk.new) }
@@ -115,5 +113,5 @@ fn write_slot<D: Disk>(disk: &mut D, base: u32, made: &InodeCopy) -> Result<(), 
 {
     let mut body = [0; 511];
     write_fields(&made.slot, &mut body[..207]);
-    disk.write_at(slot_at(base, made.slot.ino, made.which) + 1, &body)
+    disk.write_at(slot_at(base, ino, made.half) + 1, &body)
 }

@@ -6,11 +6,13 @@ ghost use Rattle.shadow_pages.specs.Working.{count_below};
 ghost use Rattle.inode_pack.specs.PagePieces.{AreWhole};
 ghost use Rattle.inode_pack.specs.Pack.{number_in};
 ghost use Rattle.inode_pack.specs.Rows.{HasChanged, NoneBelow};
-ghost use Rattle.inode_pack.specs.Committing.{needed, TakesPages, Makes, next_which, next_turn};
+ghost use Rattle.inode_pack.specs.Committing.{needed, TakesPages, Makes, next_half, next_turn};
 
+use crate::NewVersion;
 use crate::new_content::NewContent;
-use crate::{InodeCopy, NewVersion};
-use pack_layout::Slot;
+use locus_ids::Ino;
+use pack_layout::{Half, Slot};
+use pack_slots::InodeCopy;
 
 /// Pages in a row: those from `first` up to `stop`.
 #[derive(Clone, Copy)]
@@ -98,14 +100,12 @@ pub fn take_pages<C: NewContent>(
 }
 
 /// In which of the inode's slots the new version stands.
-fn next_which(old: &Option<InodeCopy>) -> u8
-    requires { (copy : InodeCopy) → old.now ≡ Some copy → copy.which ≤ 1 }
-    ensures which { result ≡ next_which old.now }
-    ensures most { result ≤ 1 }
+fn next_half(old: &Option<InodeCopy>) -> Half
+    ensures { result ≡ next_half old.now }
 {
     match old {
-        Some(copy) => 1 - copy.which,
-        None => 0,
+        Some(copy) => copy.half.other(),
+        None => Half::First,
     }
 }
 
@@ -126,7 +126,7 @@ pub fn next_copy<C: NewContent>(
     least: u16,
     row: Row,
     old: &Option<InodeCopy>,
-    ino: u16,
+    ino: Ino,
     version: &NewVersion,
     content: &C,
 ) -> InodeCopy
@@ -137,25 +137,23 @@ pub fn next_copy<C: NewContent>(
     requires inside { row.stop ≤ pages_of (C.working content.now).size }
     requires size { (C.working content.now).size ≤ 65536 }
     requires room { needed (C.working content.now) ≤ count_below (λ p. slice_index uses.now p == 0) (length uses.now) }
-    requires which { (copy : InodeCopy) → old.now ≡ Some copy → copy.which ≤ 1 }
     requires turn { (copy : InodeCopy) → old.now ≡ Some copy → copy.slot.turn ≤ 2 }
     ensures makes { Makes (λ p. slice_index uses.now p == 0) old.now ino version.now (C.working content.now) result }
-    ensures place { result.which ≤ 1 }
     ensures whole { AreWhole (C.working content.now) (pages_of (C.working content.now).size) }
     ensures numbers { length result.slot.pages ≡ 64 }
 {
-    let which = next_which(old);
+    let half = next_half(old);
     let turn = next_turn(old);
     let pages = take_pages(uses, least, row, old, content);
     let slot = Slot {
         turn,
         kind: version.kind,
-        ino,
+        ino: ino.get(),
         set: version.set,
         size: content.size(),
         stamp: version.stamp,
         vector: version.vector,
         pages,
     };
-    InodeCopy { which, slot }
+    InodeCopy { half, slot }
 }

@@ -2,12 +2,12 @@
 ghost use Rattle.std.specs.Prelude.{◌≡◌, ◌⊎◌, ◌≤◌, ◌<◌, ◌+◌, ◌==◌, ◌^◌, ℕ, length, slice_index, Option, Some, if◌then◌else◌};
 ghost use Rattle.file_content.specs.Pages.{pages_of};
 ghost use Rattle.pack_layout.specs.Layout.{IsSlot};
-ghost use Rattle.inode_pack.specs.declared.inode_copy.InodeCopy.{InodeCopy};
-ghost use Rattle.inode_pack.specs.Pack.{pages_in, times};
+ghost use Rattle.pack_slots.specs.declared.inode_copy.InodeCopy.{InodeCopy};
+ghost use Rattle.pack_slots.specs.Copies.{pages_in, times};
 ghost use Rattle.inode_pack.specs.Rows.{SameButFor, NoneBelow};
 
-use crate::InodeCopy;
 use crate::plan::{Row, page_count};
+use pack_slots::InodeCopy;
 
 /// A number is named once less, where it is a data page.
 fn release(uses: &mut Vec<u32>, page: u16)

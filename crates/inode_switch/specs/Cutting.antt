@@ -1,9 +1,10 @@
 -- What a replacement leaves that was cut off.
-use Rattle.std.specs.Prelude.{ℕ, ◌-◌, ◌≤◌, ◌≡◌, ◌≢◌, ◌&&◌, Bool, true, false, List}
+use Rattle.std.specs.Prelude.{ℕ, ◌≤◌, ◌≡◌, ◌≢◌, ◌&&◌, Bool, true, false, List}
 use Rattle.disk_model.specs.Cut.{Cut}
 use Rattle.gate_switch.specs.Switch.{Piece}
 use Rattle.gate_switch.specs.Gates.{new_gate, old_gate}
-use Rattle.pack_layout.specs.Layout.{slot_at}
+use Rattle.pack_layout.specs.declared.half.Half.{Half}
+use Rattle.pack_layout.specs.Layout.{slot_at, other_half}
 use Rattle.inode_switch.specs.View.{Version, is_open, SameView, Replaced}
 use Rattle.inode_switch.specs.Replace.{made_version}
 
@@ -13,8 +14,8 @@ IsViewBy true base ino made old new = Replaced base ino made old new
 IsViewBy false base ino made old new = SameView base old new
 
 -- The view, and which gates are open, after so many calls passed and the next one was cut off; so many pages are written.
-pub record IsCutReplacing (base ino which : ℕ) (pieces : List Piece) (pages : ℕ) (how : Cut) (passed : ℕ) (old new : List ℕ) : Type 0 where
-  pub view : IsViewBy (new_gate pages how passed) base ino (made_version base ino which pieces old) old new
-  pub mine : is_open new (slot_at base ino which) ≡ new_gate pages how passed
-  pub other : is_open new (slot_at base ino (1 - which)) ≡ (is_open old (slot_at base ino (1 - which)) && old_gate pages how passed)
-  pub rest : (i w : ℕ) → 1 ≤ i → i ≤ 1024 → w ≤ 1 → i ≢ ino → is_open new (slot_at base i w) ≡ is_open old (slot_at base i w)
+pub record IsCutReplacing (base ino : ℕ) (half : Half) (pieces : List Piece) (pages : ℕ) (how : Cut) (passed : ℕ) (old new : List ℕ) : Type 0 where
+  pub view : IsViewBy (new_gate pages how passed) base ino (made_version base ino half pieces old) old new
+  pub mine : is_open new (slot_at base ino half) ≡ new_gate pages how passed
+  pub other : is_open new (slot_at base ino (other_half half)) ≡ (is_open old (slot_at base ino (other_half half)) && old_gate pages how passed)
+  pub rest : (i : ℕ) (each : Half) → 1 ≤ i → i ≤ 1024 → i ≢ ino → is_open new (slot_at base i each) ≡ is_open old (slot_at base i each)

@@ -1,10 +1,11 @@
 -- What a commit may write: its closed slot behind the gate, and pages of no slot that is open.
-use Rattle.std.specs.Prelude.{ℕ, ◌+◌, ◌-◌, ◌%◌, ◌≤◌, ◌<◌, ◌≡◌, true, false, List, length, Option, None, Some, if◌then◌else◌}
+use Rattle.std.specs.Prelude.{ℕ, ◌+◌, ◌%◌, ◌≤◌, ◌<◌, ◌≡◌, true, false, List, length, Option, None, Some, if◌then◌else◌}
 use Rattle.disk_model.specs.Images.{is_within}
 use Rattle.gate_switch.specs.Switch.{Piece}
 use Rattle.gate_switch.specs.Switch.{AreWithin, touches, written, opened}
 use Rattle.file_content.specs.Pages.{pages_of}
-use Rattle.pack_layout.specs.Layout.{area_length, slot_at, page_at}
+use Rattle.pack_layout.specs.declared.half.Half.{Half}
+use Rattle.pack_layout.specs.Layout.{area_length, slot_at, page_at, other_half}
 use Rattle.inode_switch.specs.View.{is_open, turn, size, page, Version, version}
 
 -- none of the pieces meets this slot or its pages
@@ -19,37 +20,35 @@ IsNext before after = (before ≤ 2) × (after ≡ (before + 1) % 3)
 
 -- The slot to be written is closed; the pieces lie in the area, and meet no gate and no open slot or its pages; the new
 -- slot names at most 64 pages, and its turn follows that of the inode's other slot, where that is open.
-pub record MayReplace (base ino which : ℕ) (pieces : List Piece) (old : List ℕ) : Type 0 where
+pub record MayReplace (base ino : ℕ) (half : Half) (pieces : List Piece) (old : List ℕ) : Type 0 where
   pub area : base + area_length ≤ length old
   pub within : AreWithin pieces (length old)
   pub inside : (k : ℕ) → is_within base area_length k ≡ false → touches pieces k ≡ false
   pub low : 1 ≤ ino
   pub high : ino ≤ 1024
-  pub place : which ≤ 1
-  pub shut : is_open old (slot_at base ino which) ≡ false
-  pub gates : (i w : ℕ) → 1 ≤ i → i ≤ 1024 → w ≤ 1 → touches pieces (slot_at base i w) ≡ false
-  pub spares : (i w : ℕ) → 1 ≤ i → i ≤ 1024 → w ≤ 1 → is_open old (slot_at base i w) ≡ true → Spares base (slot_at base i w) pieces old
-  pub few : pages_of (size (written old pieces) (slot_at base ino which)) ≤ 64
-  pub next : is_open old (slot_at base ino (1 - which)) ≡ true → IsNext (turn old (slot_at base ino (1 - which))) (turn (written old pieces) (slot_at base ino which))
+  pub shut : is_open old (slot_at base ino half) ≡ false
+  pub gates : (i : ℕ) (each : Half) → 1 ≤ i → i ≤ 1024 → touches pieces (slot_at base i each) ≡ false
+  pub spares : (i : ℕ) (each : Half) → 1 ≤ i → i ≤ 1024 → is_open old (slot_at base i each) ≡ true → Spares base (slot_at base i each) pieces old
+  pub few : pages_of (size (written old pieces) (slot_at base ino half)) ≤ 64
+  pub next : is_open old (slot_at base ino (other_half half)) ≡ true → IsNext (turn old (slot_at base ino (other_half half))) (turn (written old pieces) (slot_at base ino half))
 
 -- the bytes once the new slot is open, and the version that it then has
-abbrev pub made_bytes : ℕ → ℕ → ℕ → List Piece → List ℕ → List ℕ
-made_bytes base ino which pieces old = opened (slot_at base ino which) (written old pieces)
+abbrev pub made_bytes : ℕ → ℕ → Half → List Piece → List ℕ → List ℕ
+made_bytes base ino half pieces old = opened (slot_at base ino half) (written old pieces)
 
-abbrev pub made_version : ℕ → ℕ → ℕ → List Piece → List ℕ → Version
-made_version base ino which pieces old = version (made_bytes base ino which pieces old) base (slot_at base ino which)
+abbrev pub made_version : ℕ → ℕ → Half → List Piece → List ℕ → Version
+made_version base ino half pieces old = version (made_bytes base ino half pieces old) base (slot_at base ino half)
 
 -- the gate that is closed at the end: that of the other slot, where it is open
-abbrev pub closing : ℕ → ℕ → ℕ → List ℕ → Option ℕ
-closing base ino which old = if is_open old (slot_at base ino (1 - which)) then Some (slot_at base ino (1 - which)) else None
+abbrev pub closing : ℕ → ℕ → Half → List ℕ → Option ℕ
+closing base ino half old = if is_open old (slot_at base ino (other_half half)) then Some (slot_at base ino (other_half half)) else None
 
 -- Both slots of the inode are open, and this one loses: the other's turn follows its own. Open slots name at most 64 pages.
-pub record Loses (base ino which : ℕ) (old : List ℕ) : Type 0 where
+pub record Loses (base ino : ℕ) (half : Half) (old : List ℕ) : Type 0 where
   pub area : base + area_length ≤ length old
   pub low : 1 ≤ ino
   pub high : ino ≤ 1024
-  pub place : which ≤ 1
-  pub mine : is_open old (slot_at base ino which) ≡ true
-  pub other : is_open old (slot_at base ino (1 - which)) ≡ true
-  pub next : IsNext (turn old (slot_at base ino which)) (turn old (slot_at base ino (1 - which)))
-  pub few : (i w : ℕ) → 1 ≤ i → i ≤ 1024 → w ≤ 1 → is_open old (slot_at base i w) ≡ true → pages_of (size old (slot_at base i w)) ≤ 64
+  pub mine : is_open old (slot_at base ino half) ≡ true
+  pub other : is_open old (slot_at base ino (other_half half)) ≡ true
+  pub next : IsNext (turn old (slot_at base ino half)) (turn old (slot_at base ino (other_half half)))
+  pub few : (i : ℕ) (each : Half) → 1 ≤ i → i ≤ 1024 → is_open old (slot_at base i each) ≡ true → pages_of (size old (slot_at base i each)) ≤ 64

@@ -2,6 +2,7 @@
 use Rattle.std.specs.Prelude.{ℕ, zero, suc, ◌+◌, ◌*◌, ◌%◌, ◌≤◌, ◌≡◌, ◌≢◌, ◌⊎◌, ◌==◌, Bool, true, false, List, [], ◌++◌, take, slice_index, Option, None, Some}
 use Rattle.disk_model.specs.Images.{bytes_at}
 use Rattle.file_content.specs.Pages.{pages_of}
+use Rattle.pack_layout.specs.declared.half.Half.TheVariants as slot_half
 use Rattle.pack_layout.specs.Layout.{open_gate, page_at, slot_at}
 
 -- a slot begins with its gate and its turn
@@ -65,8 +66,8 @@ version_in image base (Some slot) = Some (version image base slot)
 -- what an inode has in this image
 abbrev pub view : List ℕ → ℕ → ℕ → Option Version
 view image base ino =
-    let first = slot_at base ino 0 in
-    let second = slot_at base ino 1 in
+    let first = slot_at base ino slot_half.First in
+    let second = slot_at base ino slot_half.Second in
     version_in image base (counting (is_open image first) (is_open image second) (newer image first second) first second)
 
 -- the view is as it was

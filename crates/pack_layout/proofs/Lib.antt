@@ -1,3 +1,4 @@
 pub mod Body
+pub mod Halves
 pub mod Laws
 pub mod Slots

@@ -1,11 +1,13 @@
 -- Where everything of a pack stands, and what a slot is.
-use Rattle.std.specs.Prelude.{◌≡◌, ◌≢◌, ℕ, ◌+◌, ◌-◌, ◌*◌, ◌/◌, ◌%◌, ◌^◌, ◌<◌, ◌≤◌, ◌⊎◌, ◌==◌, Bool, List, ◌∷◌, ◌++◌, length, replicate, slice_index, Option, Some, None, if◌then◌else◌}
+use Rattle.std.specs.Prelude.{◌≡◌, ◌≢◌, ℕ, ◌+◌, ◌-◌, ◌*◌, ◌%◌, ◌^◌, ◌<◌, ◌≤◌, ◌⊎◌, ◌==◌, Bool, List, ◌∷◌, ◌++◌, length, replicate, slice_index, Option, Some, None, if◌then◌else◌}
 use Rattle.std.specs.Int.{w16, w32, to_be_bytes}
 use Rattle.std.specs.List.{flat_map}
 use Rattle.locus_ids.specs.declared.ids.Kind.{Kind}
 use Rattle.locus_ids.specs.declared.ids.Kind.TheVariants.{File, Dir}
 use Rattle.locus_ids.specs.declared.ids.Stamp.{Stamp}
 use Rattle.file_content.specs.Pages.{pages_of}
+use Rattle.pack_layout.specs.declared.half.Half.{Half}
+use Rattle.pack_layout.specs.declared.half.Half.TheVariants.{First, Second}
 use Rattle.pack_layout.specs.declared.slot.Slot.{Slot}
 
 -- the disk begins with a label of 1,024 bytes; the areas of the packs follow it
@@ -15,9 +17,18 @@ area_length = 4195328
 abbrev pub area_at : ℕ → ℕ
 area_at nth = 1024 + area_length * nth
 
+-- of an inode's two slots the second one stands behind the first
+abbrev pub half_number : Half → ℕ
+half_number First = 0
+half_number Second = 1
+
+abbrev pub other_half : Half → Half
+other_half First = Second
+other_half Second = First
+
 -- an area begins with 1,024 bytes that name the pack; then two slots of 512 bytes for each inode from 1 on, then the data pages
-abbrev pub slot_at : ℕ → ℕ → ℕ → ℕ
-slot_at base ino which = base + 1024 + 1024 * (ino - 1) + 512 * which
+abbrev pub slot_at : ℕ → ℕ → Half → ℕ
+slot_at base ino half = base + 1024 + 1024 * (ino - 1) + 512 * half_number half
 
 abbrev pub page_at : ℕ → ℕ → ℕ
 page_at base page = base + 1049600 + 1024 * page

@@ -3,12 +3,14 @@
 #![tactic(auto)]
 
 mod check;
+mod half;
 mod places;
 mod read;
 mod slot;
 mod write;
 
-pub use places::{area_at, disk_len, page_at, slot_at};
+pub use half::Half;
+pub use places::{area_at, disk_len, nth_inode, page_at, slot_at};
 pub use read::read_slot;
 pub use slot::{BadSlot, Slot, newer};
 pub use write::{write_body, write_fields};

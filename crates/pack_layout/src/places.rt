@@ -1,6 +1,9 @@
 ghost use Rattle.std.specs.Prelude.{◌≡◌, ◌+◌, ◌≤◌, ◌<◌, ◌^◌};
 ghost use Rattle.pack_layout.specs.Layout.{area_at, area_length, page_at, slot_at};
 
+use crate::Half;
+use locus_ids::Ino;
+
 const LABEL_LENGTH: u32 = 1_024;
 
 const AREA_LENGTH: u32 = 4_195_328;
@@ -29,15 +32,27 @@ pub fn area_at(nth: u8) -> u32
     LABEL_LENGTH + AREA_LENGTH * nth as u32
 }
 
-/// The place of one of the two slots of an inode, in the area from `base`.
-pub fn slot_at(base: u32, ino: u16, which: u8) -> u32
-    requires area { base + area_length < 2 ^ 32 }
-    requires low { 1 ≤ ino }
-    requires high { ino ≤ 1024 }
-    requires which { which ≤ 1 }
-    ensures { result ≡ slot_at base ino which }
+/// The inode whose slots stand behind those of so many others.
+pub fn nth_inode(n: u16) -> Ino
+    requires { n < 1024 }
+    ensures { result ≡ n + 1 }
 {
-    base + SLOTS_AT + 2 * SLOT_LENGTH * (ino as u32 - 1) + SLOT_LENGTH * which as u32
+    match Ino::new(n + 1) {
+        Some(ino) => ino,
+        None => Ino::root(),
+    }
+}
+
+/// The place of one of the two slots of an inode, in the area from `base`.
+pub fn slot_at(base: u32, ino: Ino, half: Half) -> u32
+    requires { base + area_length < 2 ^ 32 }
+    ensures { result ≡ slot_at base ino half }
+{
+    let first = base + SLOTS_AT + 2 * SLOT_LENGTH * (u32::from(ino.get()) - 1);
+    match half {
+        Half::First => first,
+        Half::Second => first + SLOT_LENGTH,
+    }
 }
 
 /// The place of a data page, in the area from `base`.

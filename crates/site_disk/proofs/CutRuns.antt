@@ -5,7 +5,7 @@ use Rattle.std.proofs.lemmas.Bool.{false≢true, true≢false, lt-ltb, le-ltb, c
 use Rattle.locus_ids.specs.declared.ids.FileId.{FileId}
 use Rattle.schedule_lines.specs.declared.line.Leave.TheVariants as leave
 use Rattle.gate_switch.specs.Gates.{gate_left}
-use Rattle.inode_pack.specs.Cutting.{closings_left}
+use Rattle.pack_slots.specs.Cutting.{closings_left}
 use Rattle.site_label.specs.Cutting.{LabelState, raise_left, boot_left}
 use Rattle.role_steps.specs.Tables.{without_row}
 use Rattle.role_steps.specs.Views.{file_key}

@@ -10,10 +10,10 @@ use Rattle.disk_model.specs.Moments.{TellsMany}
 use Rattle.disk_model.specs.declared.disk.DiskFault.{DiskFault}
 use Rattle.disk_model.specs.declared.disk.DiskFault.TheVariants.{Failed}
 use Rattle.pack_layout.specs.Layout.{area_length}
-use Rattle.inode_pack.specs.Cutting.{closings_left}
-use Rattle.inode_pack.specs.declared.mount_fault.MountFault.{MountFault}
-use Rattle.inode_pack.specs.declared.mount_fault.MountFault.TheVariants as mount
-use Rattle.inode_pack.specs.Mounting.{disk_answer as mount_answer}
+use Rattle.pack_slots.specs.Cutting.{closings_left}
+use Rattle.pack_slots.specs.declared.mount_fault.MountFault.{MountFault}
+use Rattle.pack_slots.specs.declared.mount_fault.MountFault.TheVariants as mount
+use Rattle.pack_slots.specs.Mounting.{disk_answer as mount_answer}
 use Rattle.site_label.specs.declared.label_fault.LabelFault.{LabelFault}
 use Rattle.site_label.specs.declared.label_fault.LabelFault.TheVariants as label
 use Rattle.site_label.specs.Label.{HasBoot}

@@ -8,9 +8,9 @@ use Rattle.disk_model.specs.Moments.{TellsMany}
 use Rattle.disk_model.specs.declared.disk.DiskFault.{DiskFault}
 use Rattle.disk_model.specs.declared.disk.DiskFault.TheVariants.{Failed}
 use Rattle.disk_model.proofs.Tells.{tells_join}
-use Rattle.inode_pack.specs.declared.mount_fault.MountFault.{MountFault}
-use Rattle.inode_pack.specs.declared.mount_fault.MountFault.TheVariants as mount
-use Rattle.inode_pack.specs.Mounting.{IsPassing as IsPassingMount}
+use Rattle.pack_slots.specs.declared.mount_fault.MountFault.{MountFault}
+use Rattle.pack_slots.specs.declared.mount_fault.MountFault.TheVariants as mount
+use Rattle.pack_slots.specs.Mounting.{IsPassing as IsPassingMount}
 use Rattle.site_label.specs.declared.label_fault.LabelFault.{LabelFault}
 use Rattle.site_label.specs.declared.label_fault.LabelFault.TheVariants as label
 use Rattle.site_label.specs.Label.{HasBoot}

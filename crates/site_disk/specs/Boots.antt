@@ -7,11 +7,11 @@ use Rattle.disk_model.specs.declared.disk.DiskFault.TheVariants.{Failed}
 use Rattle.disk_model.specs.Disk.{Passing}
 use Rattle.disk_model.specs.Images.{Torn}
 use Rattle.disk_model.specs.Moments.{TellsMany}
-use Rattle.inode_pack.specs.declared.mount_fault.MountFault.{MountFault}
-use Rattle.inode_pack.specs.declared.mount_fault.MountFault.TheVariants as mount
+use Rattle.pack_slots.specs.declared.mount_fault.MountFault.{MountFault}
+use Rattle.pack_slots.specs.declared.mount_fault.MountFault.TheVariants as mount
 use Rattle.site_label.specs.declared.label_fault.LabelFault.{LabelFault}
 use Rattle.site_label.specs.declared.label_fault.LabelFault.TheVariants as label
-use Rattle.inode_pack.specs.Cutting.{closings_left}
+use Rattle.pack_slots.specs.Cutting.{closings_left}
 use Rattle.site_label.specs.Cutting.{LabelState, boot_left}
 use Rattle.site_label.specs.Label.{HasBoot}
 use Rattle.site_label.specs.Raising.{are_open}

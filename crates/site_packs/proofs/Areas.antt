@@ -4,17 +4,21 @@ use Rattle.std.specs.Prelude.{◌==◌, ◌&&◌, if◌then◌else◌}
 use Rattle.std.proofs.lemmas.Bool.{cases_Bool, cases_lt}
 use Rattle.disk_model.specs.Images.{bytes_at, Torn}
 use Rattle.file_content.specs.Pages.{pages_of}
-use Rattle.pack_layout.specs.Layout.{area_length, area_at, slot_at, page_at}
+use Rattle.pack_layout.specs.declared.half.Half.{Half}
+use Rattle.pack_layout.specs.declared.half.Half.TheVariants as slot_half
+use Rattle.pack_layout.specs.Layout.{area_length, area_at, slot_at, page_at, other_half}
+use Rattle.pack_layout.proofs.Halves.{half_most}
 use Rattle.gate_switch.proofs.Tearing.{same_bytes, is_outside}
 use Rattle.inode_switch.specs.View.{is_open, turn, size, page, Newer, First, Second, Neither, newer_of, newer, counting, view}
 use Rattle.inode_switch.proofs.SlotBytes.{says}
 use Rattle.inode_switch.proofs.Views.{Agrees, same_view}
-use Rattle.inode_pack.specs.declared.inode_copy.InodeCopy.{InodeCopy}
-use Rattle.inode_pack.specs.declared.mount_fault.MountFault.{MountFault}
-use Rattle.inode_pack.specs.declared.mount_fault.MountFault.TheVariants.{Disk, NotAPack, BadSlot, SharedPage, NoMemory}
-use Rattle.inode_pack.specs.Pack.{PackState, copy_of, IsPackOf, ShowsCopy, Shows}
-use Rattle.inode_pack.specs.Slots.{HasSlot, IsGoodInode, counting_place}
-use Rattle.inode_pack.specs.Mounting.{Names, IsShared, IsSound, IsCause, losing_gates}
+use Rattle.pack_slots.specs.declared.inode_copy.InodeCopy.{InodeCopy}
+use Rattle.pack_slots.specs.declared.mount_fault.MountFault.{MountFault}
+use Rattle.pack_slots.specs.declared.mount_fault.MountFault.TheVariants.{Disk, NotAPack, BadSlot, SharedPage, NoMemory}
+use Rattle.inode_pack.specs.Pack.{PackState, Shows}
+use Rattle.pack_slots.specs.Copies.{copy_of, IsPackOf, ShowsCopy}
+use Rattle.pack_slots.specs.Slots.{HasSlot, IsGoodInode, counting_place}
+use Rattle.pack_slots.specs.Mounting.{Names, IsShared, IsSound, IsCause, losing_gates}
 
 -- the area from `base` on has the same bytes in both
 pub record AgreeOn (base : ℕ) (a b : List ℕ) : Type 0 where
@@ -42,93 +46,92 @@ at_place : (base at : ℕ) (a b : List ℕ) → AgreeOn base a b → base ≤ at
 at_place base at a b agree low high = let e : base + (at - base) ≡ at = omega arith in subst (λ (n : ℕ). get_or b n 0 ≡ get_or a n 0) e (agree.each (at - base) (omega arith))
 
 module _ (base : ℕ) (a b : List ℕ) (agree : AgreeOn base a b) where
-  slot_byte : (ino which k : ℕ) → 1 ≤ ino → ino ≤ 1024 → which ≤ 1 → k < 512 → get_or b (slot_at base ino which + k) 0 ≡ get_or a (slot_at base ino which + k) 0
-  slot_byte ino which k low high le lt = at_place base (slot_at base ino which + k) a b agree (omega arith) (omega arith)
+  slot_byte : (ino : ℕ) (half : Half) (k : ℕ) → 1 ≤ ino → ino ≤ 1024 → k < 512 → get_or b (slot_at base ino half + k) 0 ≡ get_or a (slot_at base ino half + k) 0
+  slot_byte ino half k low high lt = let most = half_most half in at_place base (slot_at base ino half + k) a b agree (omega arith) (omega arith)
 
   page_byte : (number k : ℕ) → number < 3072 → k < 1024 → get_or b (page_at base number + k) 0 ≡ get_or a (page_at base number + k) 0
   page_byte number k lt small = at_place base (page_at base number + k) a b agree (omega arith) (omega arith)
 
-  slot_bytes_same : (ino which : ℕ) → 1 ≤ ino → ino ≤ 1024 → which ≤ 1 → bytes_at b (slot_at base ino which) 512 ≡ bytes_at a (slot_at base ino which) 512
-  slot_bytes_same ino which low high le = same_bytes a b (slot_at base ino which) 512 agree.long (λ k lt. slot_byte ino which k low high le lt)
+  slot_bytes_same : (ino : ℕ) (half : Half) → 1 ≤ ino → ino ≤ 1024 → bytes_at b (slot_at base ino half) 512 ≡ bytes_at a (slot_at base ino half) 512
+  slot_bytes_same ino half low high = same_bytes a b (slot_at base ino half) 512 agree.long (λ k lt. slot_byte ino half k low high lt)
 
-  pub open_same : (ino which : ℕ) → 1 ≤ ino → ino ≤ 1024 → which ≤ 1 → is_open b (slot_at base ino which) ≡ is_open a (slot_at base ino which)
-  open_same ino which low high le =
-      let e : slot_at base ino which + 0 ≡ slot_at base ino which = omega arith in
-      ap (λ (n : ℕ). n == 165) (subst (λ (n : ℕ). get_or b n 0 ≡ get_or a n 0) e (slot_byte ino which 0 low high le (omega arith)))
+  pub open_same : (ino : ℕ) (half : Half) → 1 ≤ ino → ino ≤ 1024 → is_open b (slot_at base ino half) ≡ is_open a (slot_at base ino half)
+  open_same ino half low high =
+      let e : slot_at base ino half + 0 ≡ slot_at base ino half = omega arith in
+      ap (λ (n : ℕ). n == 165) (subst (λ (n : ℕ). get_or b n 0 ≡ get_or a n 0) e (slot_byte ino half 0 low high (omega arith)))
 
-  turn_same : (ino which : ℕ) → 1 ≤ ino → ino ≤ 1024 → which ≤ 1 → turn b (slot_at base ino which) ≡ turn a (slot_at base ino which)
-  turn_same ino which low high le = slot_byte ino which 1 low high le (omega arith)
+  turn_same : (ino : ℕ) (half : Half) → 1 ≤ ino → ino ≤ 1024 → turn b (slot_at base ino half) ≡ turn a (slot_at base ino half)
+  turn_same ino half low high = slot_byte ino half 1 low high (omega arith)
 
-  size_same : (ino which : ℕ) → 1 ≤ ino → ino ≤ 1024 → which ≤ 1 → size b (slot_at base ino which) ≡ size a (slot_at base ino which)
-  size_same ino which low high le =
-      let at : (k : ℕ) → k < 512 → get_or b (slot_at base ino which + k) 0 ≡ get_or a (slot_at base ino which + k) 0 = (λ k lt. slot_byte ino which k low high le lt) in
+  size_same : (ino : ℕ) (half : Half) → 1 ≤ ino → ino ≤ 1024 → size b (slot_at base ino half) ≡ size a (slot_at base ino half)
+  size_same ino half low high =
+      let at : (k : ℕ) → k < 512 → get_or b (slot_at base ino half + k) 0 ≡ get_or a (slot_at base ino half + k) 0 = (λ k lt. slot_byte ino half k low high lt) in
       (λ i. ((at 7 (omega arith) i * 256 + at 8 (omega arith) i) * 256 + at 9 (omega arith) i) * 256 + at 10 (omega arith) i)
 
-  page_same : (ino which n : ℕ) → 1 ≤ ino → ino ≤ 1024 → which ≤ 1 → n < 64 → page b (slot_at base ino which) n ≡ page a (slot_at base ino which) n
-  page_same ino which n low high le lt =
-      let slot = slot_at base ino which in
+  page_same : (ino : ℕ) (half : Half) (n : ℕ) → 1 ≤ ino → ino ≤ 1024 → n < 64 → page b (slot_at base ino half) n ≡ page a (slot_at base ino half) n
+  page_same ino half n low high lt =
+      let slot = slot_at base ino half in
       let e : slot + (80 + 2 * n) ≡ slot + 80 + 2 * n = omega arith in
       let f : slot + (81 + 2 * n) ≡ slot + 81 + 2 * n = omega arith in
-      let greater = subst (λ (m : ℕ). get_or b m 0 ≡ get_or a m 0) e (slot_byte ino which (80 + 2 * n) low high le (omega arith)) in
-      let lesser = subst (λ (m : ℕ). get_or b m 0 ≡ get_or a m 0) f (slot_byte ino which (81 + 2 * n) low high le (omega arith)) in
+      let greater = subst (λ (m : ℕ). get_or b m 0 ≡ get_or a m 0) e (slot_byte ino half (80 + 2 * n) low high (omega arith)) in
+      let lesser = subst (λ (m : ℕ). get_or b m 0 ≡ get_or a m 0) f (slot_byte ino half (81 + 2 * n) low high (omega arith)) in
       (λ i. greater i * 256 + lesser i)
 
-  newer_same : (ino : ℕ) → 1 ≤ ino → ino ≤ 1024 → newer b (slot_at base ino 0) (slot_at base ino 1) ≡ newer a (slot_at base ino 0) (slot_at base ino 1)
+  newer_same : (ino : ℕ) → 1 ≤ ino → ino ≤ 1024 → newer b (slot_at base ino slot_half.First) (slot_at base ino slot_half.Second) ≡ newer a (slot_at base ino slot_half.First) (slot_at base ino slot_half.Second)
   newer_same ino low high =
-      let one = turn_same ino 0 low high (omega arith) in
-      let two = turn_same ino 1 low high (omega arith) in
+      let one = turn_same ino slot_half.First low high in
+      let two = turn_same ino slot_half.Second low high in
       (λ i. newer_of ((one i + 1) % 3 == two i) ((two i + 1) % 3 == one i))
 
   pub place_same : (ino : ℕ) → 1 ≤ ino → ino ≤ 1024 → counting_place base ino b ≡ counting_place base ino a
   place_same ino low high =
-      let one = open_same ino 0 low high (omega arith) in
-      let two = open_same ino 1 low high (omega arith) in
+      let one = open_same ino slot_half.First low high in
+      let two = open_same ino slot_half.Second low high in
       let n = newer_same ino low high in
-      (λ i. counting (one i) (two i) (n i) (slot_at base ino 0) (slot_at base ino 1))
+      (λ i. counting (one i) (two i) (n i) (slot_at base ino slot_half.First) (slot_at base ino slot_half.Second))
 
   pub named_same : (group site : ℕ) → IsPackOf base group site a → IsPackOf base group site b
   named_same group site named = same_bytes a b base 1024 agree.long (λ k lt. agree.each k (omega arith)) ∙ named
 
-  has_slot_same : (ino which : ℕ) → 1 ≤ ino → ino ≤ 1024 → which ≤ 1 → HasSlot ino (slot_at base ino which) a → HasSlot ino (slot_at base ino which) b
-  has_slot_same ino which low high le has = record { slot = has.slot; bytes = slot_bytes_same ino which low high le ∙ has.bytes; is = has.is; own = has.own }
+  has_slot_same : (ino : ℕ) (half : Half) → 1 ≤ ino → ino ≤ 1024 → HasSlot ino (slot_at base ino half) a → HasSlot ino (slot_at base ino half) b
+  has_slot_same ino half low high has = record { slot = has.slot; bytes = slot_bytes_same ino half low high ∙ has.bytes; is = has.is; own = has.own }
 
   pub good_same : (ino : ℕ) → 1 ≤ ino → ino ≤ 1024 → IsGoodInode base ino a → IsGoodInode base ino b
   good_same ino low high good = record {
-    slots = λ which le is. has_slot_same ino which low high le (good.slots which le (sym (open_same ino which low high le) ∙ is));
-    turns = λ one two e. good.turns (sym (open_same ino 0 low high (omega arith)) ∙ one) (sym (open_same ino 1 low high (omega arith)) ∙ two)
-        (sym (turn_same ino 0 low high (omega arith)) ∙ e ∙ turn_same ino 1 low high (omega arith));
+    slots = λ half is. has_slot_same ino half low high (good.slots half (sym (open_same ino half low high) ∙ is));
+    turns = λ one two e. good.turns (sym (open_same ino slot_half.First low high) ∙ one) (sym (open_same ino slot_half.Second low high) ∙ two)
+        (sym (turn_same ino slot_half.First low high) ∙ e ∙ turn_same ino slot_half.Second low high);
   }
 
-  agrees : (ino which : ℕ) → 1 ≤ ino → ino ≤ 1024 → which ≤ 1 → IsGoodInode base ino a → Agrees base (slot_at base ino which) a b
-  agrees ino which low high le good = ⊎_elim
-      (λ (is : is_open a (slot_at base ino which) ≡ true).
-      let has = good.slots which le is in
-      let s = says a (slot_at base ino which) has.slot has.bytes has.is in
+  agrees : (ino : ℕ) (half : Half) → 1 ≤ ino → ino ≤ 1024 → IsGoodInode base ino a → Agrees base (slot_at base ino half) a b
+  agrees ino half low high good = ⊎_elim
+      (λ (is : is_open a (slot_at base ino half) ≡ true).
+      let has = good.slots half is in
+      let s = says a (slot_at base ino half) has.slot has.bytes has.is in
       let small = has.is.size in
       let e = s.size in
       inr (record {
         long = agree.long;
         few = omega arith;
-        bytes = λ k lt. slot_byte ino which k low high le lt;
+        bytes = λ k lt. slot_byte ino half k low high lt;
         pages = λ i k lt in_page.
             let inside : i < pages_of has.slot.size = subst (λ (n : ℕ). i < pages_of n) e lt in
             let number = has.is.pages.inside i inside in
             let f = s.pages i (omega arith) in
-            page_byte (page a (slot_at base ino which) i) k (omega arith) in_page;
+            page_byte (page a (slot_at base ino half) i) k (omega arith) in_page;
       }))
-      (λ (is : is_open a (slot_at base ino which) ≡ false). inl (is, open_same ino which low high le ∙ is))
-      (cases_Bool (is_open a (slot_at base ino which)))
+      (λ (is : is_open a (slot_at base ino half) ≡ false). inl (is, open_same ino half low high ∙ is))
+      (cases_Bool (is_open a (slot_at base ino half)))
 
   -- what the view has of a good inode
   pub view_same : (ino : ℕ) → 1 ≤ ino → ino ≤ 1024 → IsGoodInode base ino a → view b base ino ≡ view a base ino
-  view_same ino low high good = same_view base (slot_at base ino 0) (slot_at base ino 1) a b (agrees ino 0 low high (omega arith) good) (agrees ino 1 low high (omega arith) good)
+  view_same ino low high good = same_view base (slot_at base ino slot_half.First) (slot_at base ino slot_half.Second) a b (agrees ino slot_half.First low high good) (agrees ino slot_half.Second low high good)
 
   shows_copy_same : (ino : ℕ) → 1 ≤ ino → ino ≤ 1024 → (o : Option InodeCopy) → ShowsCopy base ino a o → ShowsCopy base ino b o
-  shows_copy_same ino low high None shows = λ which le. open_same ino which low high le ∙ shows which le
+  shows_copy_same ino low high None shows = λ half. open_same ino half low high ∙ shows half
   shows_copy_same ino low high (Some copy) shows = record {
-    place = shows.place;
-    bytes = slot_bytes_same ino copy.which low high shows.place ∙ shows.bytes;
-    other = open_same ino (1 - copy.which) low high (omega arith) ∙ shows.other;
+    bytes = slot_bytes_same ino copy.half low high ∙ shows.bytes;
+    other = open_same ino (other_half copy.half) low high ∙ shows.other;
   }
 
 -- a slot that counts is open
@@ -140,31 +143,31 @@ counts_open true false f x y place is = inl (let e : Some x ≡ Some place = is 
 counts_open false true f x y place is = inr (let e : Some y ≡ Some place = is in cc, refl)
 counts_open false false f x y place is = absurd (let e : None ≡ Some place = is in cc)
 
-pub counting_slot : (base ino : ℕ) (image : List ℕ) (place : ℕ) → counting_place base ino image ≡ Some place → (which : ℕ) × (which ≤ 1) × (place ≡ slot_at base ino which) × (is_open image (slot_at base ino which) ≡ true)
+pub counting_slot : (base ino : ℕ) (image : List ℕ) (place : ℕ) → counting_place base ino image ≡ Some place → (half : Half) × (place ≡ slot_at base ino half) × (is_open image (slot_at base ino half) ≡ true)
 counting_slot base ino image place is =
-    let first = slot_at base ino 0 in
-    let second = slot_at base ino 1 in
+    let first = slot_at base ino slot_half.First in
+    let second = slot_at base ino slot_half.Second in
     ⊎_elim
-    (λ (one : (place ≡ first) × (is_open image first ≡ true)). (0, omega arith, one.0, one.1))
-    (λ (two : (place ≡ second) × (is_open image second ≡ true)). (1, omega arith, two.0, two.1))
+    (λ (one : (place ≡ first) × (is_open image first ≡ true)). (slot_half.First, one.0, one.1))
+    (λ (two : (place ≡ second) × (is_open image second ≡ true)). (slot_half.Second, two.0, two.1))
     (counts_open (is_open image first) (is_open image second) (newer image first second) first second place is)
 
 module _ (base : ℕ) (a b : List ℕ) (agree : AgreeOn base a b) where
   names_same : (ino number : ℕ) → 1 ≤ ino → ino ≤ 1024 → IsGoodInode base ino b → Names base ino number b → Names base ino number a
   names_same ino number low high good names =
       let c = counting_slot base ino b names.place names.counts in
-      let has = good.slots c.0 c.1 c.3 in
+      let has = good.slots c.0 c.2 in
       let s = says b (slot_at base ino c.0) has.slot has.bytes has.is in
       let small = has.is.size in
-      let e : size b names.place ≡ has.slot.size = ap (size b) c.2 ∙ s.size in
+      let e : size b names.place ≡ has.slot.size = ap (size b) c.1 ∙ s.size in
       let inside = names.inside in
       let few : names.i < 64 = (let lt : names.i < pages_of has.slot.size = subst (λ (n : ℕ). names.i < pages_of n) e inside in omega arith) in
       record {
         place = names.place;
         counts = sym (place_same base a b agree ino low high) ∙ names.counts;
         i = names.i;
-        inside = subst (λ (n : ℕ). names.i < pages_of n) (ap (size b) c.2 ∙ size_same base a b agree ino c.0 low high c.1 ∙ ap (size a) (sym c.2)) inside;
-        is = ap (λ (at : ℕ). page a at names.i) c.2 ∙ sym (page_same base a b agree ino c.0 names.i low high c.1 few) ∙ ap (λ (at : ℕ). page b at names.i) (sym c.2) ∙ names.is;
+        inside = subst (λ (n : ℕ). names.i < pages_of n) (ap (size b) c.1 ∙ size_same base a b agree ino c.0 low high ∙ ap (size a) (sym c.1)) inside;
+        is = ap (λ (at : ℕ). page a at names.i) c.1 ∙ sym (page_same base a b agree ino c.0 names.i low high few) ∙ ap (λ (at : ℕ). page b at names.i) (sym c.1) ∙ names.is;
       }
 
   shared_same : (number : ℕ) → ((ino : ℕ) → 1 ≤ ino → ino ≤ 1024 → IsGoodInode base ino b) → IsShared base number b → IsShared base number a

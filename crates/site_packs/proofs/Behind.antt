@@ -6,8 +6,9 @@ use Rattle.std.specs.Option.{option_map}
 use Rattle.disk_model.specs.Images.{Torn}
 use Rattle.pack_layout.specs.Layout.{area_length, area_at}
 use Rattle.inode_switch.specs.View.{Version, view, SameView, Replaced}
-use Rattle.inode_pack.specs.Pack.{PackState, AreCopies, Shows}
-use Rattle.inode_pack.specs.Mounting.{IsSound}
+use Rattle.inode_pack.specs.Pack.{PackState, Shows}
+use Rattle.pack_slots.specs.Copies.{AreCopies}
+use Rattle.pack_slots.specs.Mounting.{IsSound}
 use Rattle.inode_pack.proofs.Leaving.{shows_sound}
 use Rattle.role_steps.specs.Tables.{row, with_row}
 use Rattle.role_steps.specs.Storage.{copy_key}

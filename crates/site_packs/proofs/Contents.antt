@@ -5,8 +5,9 @@ use Rattle.std.specs.Option.{option_map}
 use Rattle.locus_ids.specs.declared.ids.FileId.{FileId}
 use Rattle.pack_layout.specs.declared.slot.Slot.{Slot}
 use Rattle.inode_switch.specs.View.{Version, view}
-use Rattle.inode_pack.specs.declared.inode_copy.InodeCopy.{InodeCopy}
-use Rattle.inode_pack.specs.Pack.{PackState, IsCopy, copy_of}
+use Rattle.pack_slots.specs.declared.inode_copy.InodeCopy.{InodeCopy}
+use Rattle.inode_pack.specs.Pack.{PackState}
+use Rattle.pack_slots.specs.Copies.{IsCopy, copy_of}
 use Rattle.inode_pack.specs.Committing.{content_of as content_in}
 use Rattle.role_steps.specs.Storage.{content_of, reported}
 use Rattle.role_steps.specs.declared.copies.FileCopy.{FileCopy}

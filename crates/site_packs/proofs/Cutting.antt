@@ -12,12 +12,13 @@ use Rattle.disk_model.proofs.Tells.{tells_few}
 use Rattle.gate_switch.specs.Gates.{gate_left}
 use Rattle.gate_switch.proofs.Tearing.{torn_joins}
 use Rattle.pack_layout.specs.Layout.{area_length, area_at}
-use Rattle.inode_pack.specs.declared.mount_fault.MountFault.{MountFault}
-use Rattle.inode_pack.specs.declared.mount_fault.MountFault.TheVariants.{Disk, NotAPack, BadSlot, SharedPage, NoMemory}
-use Rattle.inode_pack.specs.Pack.{PackState, AreCopies, Shows}
-use Rattle.inode_pack.specs.Mounting.{losing_gates, mount_calls as pack_calls, disk_answer, KeepsPack}
-use Rattle.inode_pack.specs.Cutting.{losing_inodes, closings_left, IsCutMount as IsCutPack}
-use Rattle.inode_pack.proofs.LosingLists.{losing_same, losing_count, closings_behind}
+use Rattle.pack_slots.specs.declared.mount_fault.MountFault.{MountFault}
+use Rattle.pack_slots.specs.declared.mount_fault.MountFault.TheVariants.{Disk, NotAPack, BadSlot, SharedPage, NoMemory}
+use Rattle.inode_pack.specs.Pack.{PackState, Shows}
+use Rattle.pack_slots.specs.Copies.{AreCopies}
+use Rattle.pack_slots.specs.Mounting.{losing_gates, mount_calls as pack_calls, disk_answer, KeepsPack}
+use Rattle.pack_slots.specs.Cutting.{losing_inodes, closings_left, IsCutMount as IsCutPack}
+use Rattle.pack_slots.proofs.LosingLists.{losing_same, losing_count, closings_behind}
 use Rattle.inode_pack.proofs.CutCommit.{shows_no_losing}
 use Rattle.site_packs.specs.Packs.{pack_group, ArePacks, AreShown}
 use Rattle.site_packs.specs.Mounting.{gates_behind, mount_calls}

@@ -7,8 +7,9 @@ use Rattle.file_content.specs.Pages.{pages_of, page_of}
 use Rattle.shadow_pages.specs.Working.{byte_in, byte_at, content, count_below}
 use Rattle.shadow_pages.proofs.Bytes.{length_below, below_at}
 use Rattle.inode_switch.specs.View.{Version, view}
-use Rattle.inode_pack.specs.declared.inode_copy.InodeCopy.{InodeCopy}
-use Rattle.inode_pack.specs.Pack.{PackState, AreCopies, Shows, copy_of}
+use Rattle.pack_slots.specs.declared.inode_copy.InodeCopy.{InodeCopy}
+use Rattle.inode_pack.specs.Pack.{PackState, Shows}
+use Rattle.pack_slots.specs.Copies.{AreCopies, copy_of}
 use Rattle.inode_pack.specs.Whole.{full_page}
 use Rattle.inode_pack.specs.Marked.{is_marked, page_if, marked}
 use Rattle.inode_pack.specs.Committing.{size_of, content_of, needed}

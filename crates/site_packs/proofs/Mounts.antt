@@ -8,15 +8,16 @@ use Rattle.locus_ids.specs.declared.config.Config.{Config}
 use Rattle.disk_model.specs.Images.{Torn}
 use Rattle.pack_layout.specs.Layout.{area_length, area_at}
 use Rattle.gate_switch.proofs.Tearing.{torn_widens, torn_stays, torn_joins, is_outside}
-use Rattle.inode_pack.specs.declared.mount_fault.MountFault.{MountFault}
-use Rattle.inode_pack.specs.declared.mount_fault.MountFault.TheVariants.{Disk, NotAPack, BadSlot, SharedPage, NoMemory}
-use Rattle.inode_pack.specs.Pack.{PackState, AreCopies, Stands}
+use Rattle.pack_slots.specs.declared.mount_fault.MountFault.{MountFault}
+use Rattle.pack_slots.specs.declared.mount_fault.MountFault.TheVariants.{Disk, NotAPack, BadSlot, SharedPage, NoMemory}
+use Rattle.inode_pack.specs.Pack.{PackState, Stands}
+use Rattle.pack_slots.specs.Copies.{AreCopies}
 use Rattle.disk_model.specs.Disk.{Moment, IsSettled, Passing}
 use Rattle.disk_model.specs.Moments.{TellsMany}
 use Rattle.disk_model.specs.declared.disk.DiskFault.{DiskFault}
 use Rattle.disk_model.specs.declared.disk.DiskFault.TheVariants.{Failed}
 use Rattle.disk_model.proofs.Tells.{tells_join}
-use Rattle.inode_pack.specs.Mounting.{IsSound, IsPassing, KeepsPack, losing_gates}
+use Rattle.pack_slots.specs.Mounting.{IsSound, IsPassing, KeepsPack, losing_gates}
 use Rattle.inode_pack.proofs.Mounted.{mounts}
 use Rattle.role_steps.specs.Views.{pack_sites, all_groups}
 use Rattle.site_packs.specs.Copies.{copies_behind}

@@ -8,17 +8,20 @@ use Rattle.locus_ids.specs.declared.ids.Kind.TheVariants as kind
 use Rattle.locus_ids.specs.declared.sites.Sites.{Sites}
 use Rattle.dir_format.specs.Entries.{nothing_seen}
 use Rattle.disk_model.specs.Images.{Torn}
-use Rattle.pack_layout.specs.Layout.{area_length, area_at, slot_at, IsSlot}
+use Rattle.pack_layout.specs.declared.half.Half.{Half}
+use Rattle.pack_layout.specs.declared.half.Half.TheVariants.{First, Second}
+use Rattle.pack_layout.specs.Layout.{area_length, area_at, slot_at, IsSlot, other_half}
 use Rattle.inode_switch.specs.View.{is_open, Version, version, version_in, view, SameView}
 use Rattle.inode_switch.proofs.SlotBytes.{says}
 use Rattle.inode_switch.proofs.VersionBytes.{content_length}
-use Rattle.inode_pack.specs.declared.inode_copy.InodeCopy.{InodeCopy}
-use Rattle.inode_pack.specs.Pack.{PackState, copy_of, ShowsCopy, ShowsCopies}
-use Rattle.inode_pack.specs.Slots.{IsFound}
-use Rattle.inode_pack.specs.Mounting.{IsSound, has_losing_gate, losing_gates}
-use Rattle.inode_pack.specs.Format.{root_slot, new_copy}
-use Rattle.inode_pack.proofs.Counting.{found_counts}
-use Rattle.inode_pack.proofs.New.{stored_somewhere, root_is_slot}
+use Rattle.pack_slots.specs.declared.inode_copy.InodeCopy.{InodeCopy}
+use Rattle.inode_pack.specs.Pack.{PackState}
+use Rattle.pack_slots.specs.Copies.{copy_of, ShowsCopy, ShowsCopies}
+use Rattle.pack_slots.specs.Slots.{IsFound}
+use Rattle.pack_slots.specs.Mounting.{IsSound, has_losing_gate, losing_gates}
+use Rattle.pack_slots.specs.Format.{root_slot, new_copy}
+use Rattle.pack_slots.proofs.Counting.{found_counts}
+use Rattle.pack_slots.proofs.New.{stored_somewhere, root_is_slot}
 use Rattle.role_steps.specs.Views.{pack_sites}
 use Rattle.role_steps.specs.declared.copies.FileCopy.{FileCopy}
 use Rattle.site_packs.specs.Copies.{copy_in, with_version, copies_from, copies_in, copies_behind}
@@ -55,7 +58,7 @@ is_other : (ino : ℕ) → ino ≢ 1 → (ino == 1) ≡ false
 is_other ino ne = ⊎_elim (λ (yes : (ino == 1) ≡ true). absurd (ne (eqb-true ino 1 yes))) (λ (no : (ino == 1) ≡ false). no) (cases_Bool (ino == 1))
 
 abbrev root : Sites → InodeCopy
-root set = record { which = 0; slot = root_slot set }
+root set = record { half = First; slot = root_slot set }
 
 none_there : (base ino : ℕ) (set : Sites) (image : List ℕ) → ino ≢ 1 → ShowsCopy base ino image (new_copy set ino) → view image base ino ≡ None
 none_there base ino set image ne shows =
@@ -65,9 +68,9 @@ none_there base ino set image ne shows =
 root_there : (base group : ℕ) (set : Sites) (image : List ℕ) → base + area_length ≤ length image → IsSlot (root_slot set) → ShowsCopies base image (new_copy set)
     → (v : Version) × (view image base 1 ≡ Some v) × (copy_in group 1 v ≡ root_in group set)
 root_there base group set image area slot shows =
-    let found : IsFound base 1 image (Some (root set)) false = record { says = shows 1 (omega arith) (omega arith); own = record { place = omega arith; slot = slot; own = refl } } in
+    let found : IsFound base 1 image (Some (root set)) false = record { says = shows 1 (omega arith) (omega arith); own = record { slot = slot; own = refl } } in
     let counts = found_counts base 1 image (Some (root set)) false found in
-    let place = slot_at base 1 0 in
+    let place = slot_at base 1 First in
     let s = says image place (root_slot set) found.says.bytes slot in
     let v = version image base place in
     let empty = no_bytes v.content (content_length image base place (root_slot set) slot s area) in
@@ -87,13 +90,12 @@ one_shut true b e = e
 one_shut false b e = refl
 
 shut_at : (base ino : ℕ) (image : List ℕ) (o : Option InodeCopy) → ShowsCopy base ino image o → has_losing_gate base ino image ≡ false
-shut_at base ino image None shows = one_shut (is_open image (slot_at base ino 0)) (is_open image (slot_at base ino 1)) (shows 1 (omega arith))
-shut_at base ino image (Some copy) shows = by copy.which shows.place shows.other
+shut_at base ino image None shows = one_shut (is_open image (slot_at base ino First)) (is_open image (slot_at base ino Second)) (shows Second)
+shut_at base ino image (Some copy) shows = by copy.half shows.other
   where
-    by : (which : ℕ) → which ≤ 1 → is_open image (slot_at base ino (1 - which)) ≡ false → has_losing_gate base ino image ≡ false
-    by zero le other = one_shut (is_open image (slot_at base ino 0)) (is_open image (slot_at base ino 1)) other
-    by (suc zero) le other = ap (λ (b : Bool). b && is_open image (slot_at base ino 1)) other
-    by (suc (suc n)) le other = absurd (omega arith)
+    by : (half : Half) → is_open image (slot_at base ino (other_half half)) ≡ false → has_losing_gate base ino image ≡ false
+    by First other = one_shut (is_open image (slot_at base ino First)) (is_open image (slot_at base ino Second)) other
+    by Second other = ap (λ (b : Bool). b && is_open image (slot_at base ino Second)) other
 
 none_lose : (base n : ℕ) (copies : ℕ → Option InodeCopy) (image : List ℕ) → n ≤ 1024 → ShowsCopies base image copies → losing_gates base n image ≡ 0
 unfolding losing_gates

@@ -10,8 +10,9 @@ use Rattle.file_content.specs.Pages.{pages_of}
 use Rattle.pack_layout.specs.Layout.{area_at}
 use Rattle.pack_layout.specs.declared.slot.Slot.{Slot}
 use Rattle.inode_switch.specs.View.{Version, view}
-use Rattle.inode_pack.specs.declared.inode_copy.InodeCopy.{InodeCopy}
-use Rattle.inode_pack.specs.Pack.{PackState, AreCopies, Shows, IsCopy, copy_of, pages_in, named_pages}
+use Rattle.pack_slots.specs.declared.inode_copy.InodeCopy.{InodeCopy}
+use Rattle.inode_pack.specs.Pack.{PackState, Shows}
+use Rattle.pack_slots.specs.Copies.{AreCopies, IsCopy, copy_of, pages_in, named_pages}
 use Rattle.wire_messages.specs.declared.body.ReportedCopy.{ReportedCopy}
 use Rattle.role_steps.specs.Tables.{row, total}
 use Rattle.role_steps.specs.Storage.{copy_key, copy_pages, reported, report_of}

@@ -8,10 +8,11 @@ use Rattle.inode_switch.specs.Slots.{field_bytes}
 use Rattle.inode_switch.specs.View.{Version, version, version_in, view}
 use Rattle.inode_switch.proofs.SlotBytes.{says}
 use Rattle.inode_switch.proofs.VersionBytes.{content_length}
-use Rattle.inode_pack.specs.declared.inode_copy.InodeCopy.{InodeCopy}
-use Rattle.inode_pack.specs.Pack.{PackState, AreCopies, Shows, ShowsCopy, IsCopy, copy_of}
-use Rattle.inode_pack.specs.Slots.{IsFound}
-use Rattle.inode_pack.proofs.Counting.{found_counts}
+use Rattle.pack_slots.specs.declared.inode_copy.InodeCopy.{InodeCopy}
+use Rattle.inode_pack.specs.Pack.{PackState, Shows}
+use Rattle.pack_slots.specs.Copies.{AreCopies, ShowsCopy, IsCopy, copy_of}
+use Rattle.pack_slots.specs.Slots.{IsFound}
+use Rattle.pack_slots.proofs.Counting.{found_counts}
 use Rattle.role_steps.specs.Storage.{reported}
 use Rattle.role_steps.specs.declared.copies.FileCopy.{FileCopy}
 use Rattle.site_packs.specs.Copies.{copy_in}
@@ -38,7 +39,7 @@ pub held_some : (pack : PackState) (ino : ℕ) (image : List ℕ) (copy : InodeC
 held_some pack ino image copy are shows low high is =
     let found = shown pack ino image (Some copy) are shows low high is in
     let counts = found_counts pack.base ino image (Some copy) false found in
-    let place = slot_at pack.base ino copy.which in
+    let place = slot_at pack.base ino copy.half in
     let s = says image place copy.slot found.says.bytes found.own.slot in
     record {
       version = version image pack.base place;

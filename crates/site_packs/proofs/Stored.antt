@@ -7,17 +7,18 @@ use Rattle.disk_model.specs.Images.{Torn}
 use Rattle.pack_layout.specs.declared.slot.Slot.{Slot}
 use Rattle.pack_layout.specs.Layout.{area_length, area_at}
 use Rattle.gate_switch.proofs.Tearing.{torn_widens, torn_stays}
-use Rattle.inode_pack.specs.Mounting.{IsSound}
+use Rattle.pack_slots.specs.Mounting.{IsSound}
 use Rattle.inode_pack.proofs.Leaving.{shows_sound}
 use Rattle.site_packs.specs.Mounting.{AreSoundBehind}
 use Rattle.shadow_pages.specs.Working.{Working, content}
 use Rattle.disk_model.specs.Disk.{Moment}
 use Rattle.inode_switch.specs.View.{Version, view, Replaced}
-use Rattle.inode_pack.specs.declared.inode_copy.InodeCopy.{InodeCopy}
+use Rattle.pack_slots.specs.declared.inode_copy.InodeCopy.{InodeCopy}
 use Rattle.inode_pack.specs.declared.new_version.NewVersion.{NewVersion}
 use Rattle.inode_pack.specs.declared.pack_fault.PackFault.{PackFault}
 use Rattle.inode_pack.specs.declared.pack_fault.PackFault.TheVariants as pack_says
-use Rattle.inode_pack.specs.Pack.{PackState, AreCopies, Stands, copy_of, named_pages}
+use Rattle.inode_pack.specs.Pack.{PackState, Stands}
+use Rattle.pack_slots.specs.Copies.{AreCopies, copy_of, named_pages}
 use Rattle.inode_pack.specs.Marked.{marked}
 use Rattle.inode_pack.specs.Committing.{IsVersion, Commits, new_version, content_of, commit_calls, commit_answer as pack_answer, MayBeLeft as MayBeLeftIn}
 use Rattle.role_steps.specs.Tables.{with_row}

@@ -5,7 +5,8 @@ use Rattle.disk_model.specs.Cut.{Cut}
 use Rattle.disk_model.specs.Images.{Torn}
 use Rattle.gate_switch.specs.Gates.{new_gate}
 use Rattle.pack_layout.specs.Layout.{area_at, area_length}
-use Rattle.inode_pack.specs.Cutting.{losing_inodes, are_both_open, closings_left}
+use Rattle.pack_slots.specs.Cutting.{losing_inodes, closings_left}
+use Rattle.inode_pack.specs.Cutting.{are_both_open}
 use Rattle.role_steps.specs.Tables.{with_row}
 use Rattle.role_steps.specs.Storage.{copy_key}
 use Rattle.role_steps.specs.declared.copies.FileCopy.{FileCopy}

@@ -5,7 +5,7 @@ use Rattle.locus_ids.specs.declared.config.Config.{Config}
 use Rattle.locus_ids.specs.declared.ids.Kind.TheVariants as kind
 use Rattle.locus_ids.specs.declared.sites.Sites.{Sites}
 use Rattle.dir_format.specs.Entries.{nothing_seen}
-use Rattle.inode_pack.specs.Mounting.{IsSound, losing_gates}
+use Rattle.pack_slots.specs.Mounting.{IsSound, losing_gates}
 use Rattle.role_steps.specs.Views.{pack_sites}
 use Rattle.role_steps.specs.declared.copies.FileCopy.{FileCopy}
 use Rattle.site_packs.specs.Copies.{copies_in, copies_behind}

@@ -4,7 +4,8 @@ use Rattle.file_content.specs.Pages.{pages_of, has_page}
 use Rattle.shadow_pages.specs.Working.{content, count_below}
 use Rattle.inode_switch.specs.View.{view}
 use Rattle.inode_pack.specs.Marked.{is_marked, marked}
-use Rattle.inode_pack.specs.Pack.{PackState, copy_of}
+use Rattle.inode_pack.specs.Pack.{PackState}
+use Rattle.pack_slots.specs.Copies.{copy_of}
 use Rattle.inode_pack.specs.Committing.{RestsOn, size_of, content_of}
 use Rattle.site_packs.specs.Committing.{ArePages, IsKept}
 

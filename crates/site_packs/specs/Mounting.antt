@@ -9,9 +9,9 @@ use Rattle.disk_model.specs.Images.{Torn}
 use Rattle.disk_model.specs.Moments.{TellsMany}
 use Rattle.dir_format.specs.Entries.{nothing_seen}
 use Rattle.pack_layout.specs.Layout.{area_length, area_at}
-use Rattle.inode_pack.specs.declared.mount_fault.MountFault.{MountFault}
-use Rattle.inode_pack.specs.declared.mount_fault.MountFault.TheVariants.{Disk, NotAPack, BadSlot, SharedPage, NoMemory}
-use Rattle.inode_pack.specs.Mounting.{IsSound, IsCause as IsCauseOfPack, IsPassing, losing_gates}
+use Rattle.pack_slots.specs.declared.mount_fault.MountFault.{MountFault}
+use Rattle.pack_slots.specs.declared.mount_fault.MountFault.TheVariants.{Disk, NotAPack, BadSlot, SharedPage, NoMemory}
+use Rattle.pack_slots.specs.Mounting.{IsSound, IsCause as IsCauseOfPack, IsPassing, losing_gates}
 use Rattle.role_steps.specs.Views.{pack_sites}
 use Rattle.role_steps.specs.declared.copies.FileCopy.{FileCopy}
 use Rattle.site_packs.specs.Copies.{copies_on}

@@ -8,8 +8,9 @@ use Rattle.locus_ids.specs.declared.ids.FileId.{FileId}
 use Rattle.disk_model.specs.Disk.{Moment, IsSettled}
 use Rattle.pack_layout.specs.Layout.{area_length, area_at}
 use Rattle.pack_layout.specs.declared.slot.Slot.{Slot}
-use Rattle.inode_pack.specs.declared.inode_copy.InodeCopy.{InodeCopy}
-use Rattle.inode_pack.specs.Pack.{PackState, AreCopies, Shows, copy_of}
+use Rattle.pack_slots.specs.declared.inode_copy.InodeCopy.{InodeCopy}
+use Rattle.inode_pack.specs.Pack.{PackState, Shows}
+use Rattle.pack_slots.specs.Copies.{AreCopies, copy_of}
 use Rattle.wire_messages.specs.declared.body.ReportedCopy.{ReportedCopy}
 use Rattle.role_steps.specs.Tables.{row}
 use Rattle.role_steps.specs.Views.{Store, pack_sites, all_groups, file_key}

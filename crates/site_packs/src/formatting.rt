@@ -5,7 +5,7 @@ ghost use Rattle.disk_model.specs.Disk.{Goes, IsSettled, HasCause};
 ghost use Rattle.disk_model.specs.Images.{Torn};
 ghost use Rattle.disk_model.specs.Moments.{TellsMany};
 ghost use Rattle.pack_layout.specs.Layout.{area_length, area_at};
-ghost use Rattle.inode_pack.specs.Format.{IsNew};
+ghost use Rattle.pack_slots.specs.Format.{IsNew};
 ghost use Rattle.site_packs.specs.Copies.{copies_on};
 ghost use Rattle.site_packs.specs.Packs.{groups_at, areas_end};
 ghost use Rattle.site_packs.specs.Mounting.{AreSound, new_copies, mount_calls};
@@ -80,6 +80,6 @@ fn format_pack<D: Disk>(
     ensures cause { HasCause (D.moment disk.old).faults (D.moment disk.new).faults result }
     ensures tells { TellsMany 67 (D.moment disk.old).passing (D.moment disk.new).passing result }
 {
-    inode_pack::format(disk, base, group, site, set)?;
+    pack_slots::format(disk, base, group, site, set)?;
     Ok(())
 }

@@ -21,5 +21,6 @@ mod shut_gates;
 mod storing;
 
 pub use faults::{CommitFault, ReadFault, WriteSize};
-pub use inode_pack::{MountFault, NewVersion};
+pub use inode_pack::NewVersion;
+pub use pack_slots::MountFault;
 pub use packs::SitePacks;

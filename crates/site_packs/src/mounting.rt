@@ -2,7 +2,7 @@
 ghost use Rattle.std.specs.Prelude.{◌≡◌, ◌≤◌, ◌+◌, ◌*◌, ℕ, [], ◌∷◌, ◌++◌, length, OnOk, OnErr, IfOk, IfErr};
 ghost use Rattle.disk_model.specs.Disk.{IsSettled, HasCause, Exactly};
 ghost use Rattle.disk_model.specs.Moments.{LeavesOnly};
-ghost use Rattle.inode_pack.specs.Mounting.{IsPassing, disk_answer};
+ghost use Rattle.pack_slots.specs.Mounting.{IsPassing, disk_answer};
 ghost use Rattle.site_packs.specs.Copies.{copies_on};
 ghost use Rattle.site_packs.specs.Packs.{Stand, groups_of, groups_at, areas_end};
 ghost use Rattle.site_packs.specs.Cutting.{both_open_on, IsCutMount, IsCutBehind};

@@ -1,7 +1,7 @@
 // The packs of a site.
 ghost use Rattle.std.specs.Prelude.{◌≡◌, ◌<◌, length, slice_get, None, IfSome, IfNone};
 ghost use Rattle.std.specs.Option.{option_copied};
-ghost use Rattle.site_packs.specs.Packs.{groups_of, has_group, pack_in, slot_held};
+ghost use Rattle.site_packs.specs.Packs.{pack_in, slot_held};
 
 use inode_pack::Pack;
 use locus_ids::{FileId, SiteId};
@@ -31,16 +31,6 @@ impl SitePacks {
         ensures { result ≡ self.now.site }
     {
         self.site
-    }
-
-    /// The site has a pack of the group.
-    pub fn has_group(&self, group: u8) -> bool
-        ensures { result ≡ has_group (groups_of self.now) group }
-    {
-        match self.pack_of(group) {
-            Some(_) => true,
-            None => false,
-        }
     }
 
     /// The pack of a group.

@@ -50,6 +50,6 @@ impl SitePacks {
         ensures cut { (passed : ℕ) → (D.moment disk.old).passing ≡ Exactly passed → OnErr (commit_answer result)
             (IsCut self.old (copy_made file version content.now) (needed (marked content.now marks.now)) (D.moment disk.old).how passed (D.moment disk.old).seen (D.moment disk.new).left) }
     {
-        self.packs[at].commit_pages(disk, ino, &version, content, marks)
+        self.packs[at].commit(disk, ino, &version, content, marks)
     }
 }

@@ -1,6 +1,6 @@
 use Rattle.std.proofs.Common.{◌∙◌, Option, sym, ap}
 use Rattle.std.proofs.lemmas.List.{get_or-replicate}
-use Rattle.inode_pack.specs.declared.inode_copy.InodeCopy.{InodeCopy}
+use Rattle.pack_slots.specs.declared.inode_copy.InodeCopy.{InodeCopy}
 use Rattle.inode_pack.specs.Pack.{number_in}
 use Rattle.inode_pack.proofs.plan.numbers_before.Goals as goal
 

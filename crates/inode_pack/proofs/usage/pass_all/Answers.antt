@@ -1,6 +1,6 @@
 use Rattle.std.proofs.Common.{◌+◌, ◌-◌, ◌≡◌, ap, ℕ, get_or, take, arith}
-use Rattle.inode_pack.specs.Pack.{times}
-use Rattle.inode_pack.proofs.PageTimes.{times_take, times_same, times_all, named_all}
+use Rattle.pack_slots.specs.Copies.{times}
+use Rattle.pack_slots.proofs.PageTimes.{times_take, times_same, times_all, named_all}
 use Rattle.inode_pack.proofs.usage.pass_all.Goals as goal
 
 pub loop-i-init : goal.loop-i-init

@@ -1,5 +1,5 @@
 use Rattle.std.proofs.Common.{◌≡◌, ◌+◌, ◌<◌, ℕ, length, take, slice_index}
-use Rattle.inode_pack.specs.Pack.{times}
+use Rattle.pack_slots.specs.Copies.{times}
 use Rattle.inode_pack.specs.Rows.{NoneBelow}
 use Rattle.inode_pack.proofs.usage.pass_all.Given as goal
 

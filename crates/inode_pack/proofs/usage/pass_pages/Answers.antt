@@ -4,9 +4,9 @@ use Rattle.std.specs.Prelude.{Option}
 use Rattle.pack_layout.specs.declared.slot.Slot.{Slot}
 use Rattle.file_content.specs.Pages.{pages_of}
 use Rattle.pack_layout.specs.Layout.{IsSlot}
-use Rattle.inode_pack.specs.declared.inode_copy.InodeCopy.{InodeCopy}
-use Rattle.inode_pack.specs.Pack.{pages_in, times}
-use Rattle.inode_pack.proofs.PageTimes.{times_first}
+use Rattle.pack_slots.specs.declared.inode_copy.InodeCopy.{InodeCopy}
+use Rattle.pack_slots.specs.Copies.{pages_in, times}
+use Rattle.pack_slots.proofs.PageTimes.{times_first}
 use Rattle.inode_pack.proofs.usage.pass_pages.Goals as goal
 
 -- past its content a slot names no data page

@@ -17,12 +17,12 @@ returns-clause-any_moment g c =
     let old = c.args.disk.now in
     let seen = (g.D.Disk.moment old).seen in
     let base = c.args.base in
-    let gate = slot_at base c.args.ino c.args.which in
+    let gate = slot_at base c.args.ino c.args.half in
     let l = c.requires.loses in
     leaves_more M (Torn gate 1) old old c.close_gate.new.disk (SameView base seen)
     (leaves_start M old (SameView base seen) (λ x left. subst (λ (y : List ℕ). SameView base seen y) (sym (c.requires.settled x (g.met.D.Disk.only_now old x left))) (λ i low high. refl)))
     (subst (λ (n : ℕ). Goes (Torn n 1) (M old) (M c.close_gate.new.disk)) c.slot_at-gate.ensures c.close_gate.ensures.crash)
-    (λ x after. torn_same_view base c.args.ino c.args.which seen l x (from_only M (Torn gate 1) old seen x c.requires.settled after) l.mine)
+    (λ x after. torn_same_view base c.args.ino c.args.half seen l x (from_only M (Torn gate 1) old seen x c.requires.settled after) l.mine)
 
 pub returns-clause-same : goal.returns-clause-same
 returns-clause-same g c =
@@ -30,7 +30,7 @@ returns-clause-same g c =
     let base = c.args.base in
     let l = c.requires.loses in
     on_ok c.close_gate.result _ (SameView base seen (g.D.Disk.moment c.close_gate.new.disk).seen)
-    (λ done. subst (λ (y : List ℕ). SameView base seen y) (sym (done ∙ ap (λ (n : ℕ). overwritten seen n (0 ∷ [])) c.slot_at-gate.ensures)) (closed_same_view base c.args.ino c.args.which seen l l.mine))
+    (λ done. subst (λ (y : List ℕ). SameView base seen y) (sym (done ∙ ap (λ (n : ℕ). overwritten seen n (0 ∷ [])) c.slot_at-gate.ensures)) (closed_same_view base c.args.ino c.args.half seen l l.mine))
     c.close_gate.ensures.written
 
 -- a crash leaves the gate torn
@@ -39,7 +39,7 @@ gate_only g c =
     let M = g.D.Disk.moment in
     let old = c.args.disk.now in
     let seen = (g.D.Disk.moment old).seen in
-    let gate = slot_at c.args.base c.args.ino c.args.which in
+    let gate = slot_at c.args.base c.args.ino c.args.half in
     leaves_more M (Torn gate 1) old old c.close_gate.new.disk (Torn gate 1 seen)
     (leaves_start M old (Torn gate 1 seen) (λ x left. subst (λ (y : List ℕ). Torn gate 1 seen y) (sym (c.requires.settled x (g.met.D.Disk.only_now old x left))) (torn_same gate 1 seen)))
     (subst (λ (n : ℕ). Goes (Torn n 1) (M old) (M c.close_gate.new.disk)) c.slot_at-gate.ensures c.close_gate.ensures.crash)
@@ -53,6 +53,6 @@ returns-clause-outside g c =
     let seen = (g.D.Disk.moment c.args.disk.now).seen in
     let base = c.args.base in
     let l = c.requires.loses in
-    leaves_weaker g.D.Disk.moment c.args.disk.now c.close_gate.new.disk (Torn (slot_at base c.args.ino c.args.which) 1 seen) (Torn base area_length seen)
-    (λ x torn. gate_in_area base c.args.ino c.args.which seen x l.low l.high l.place torn)
+    leaves_weaker g.D.Disk.moment c.args.disk.now c.close_gate.new.disk (Torn (slot_at base c.args.ino c.args.half) 1 seen) (Torn base area_length seen)
+    (λ x torn. gate_in_area base c.args.ino c.args.half seen x l.low l.high torn)
     (gate_only g c)

@@ -1,13 +1,13 @@
 use Rattle.std.proofs.Common.{◌≡◌, ◌+◌, ◌-◌, ◌*◌, length, take, drop, get_or, subst}
 use Rattle.disk_model.proofs.Moments.{leaves_weaker}
 use Rattle.disk_model.proofs.ReadRuns.{leaves_joins}
-use Rattle.inode_pack.specs.Mounting.{KeepsPack}
+use Rattle.pack_slots.specs.Mounting.{KeepsPack}
 use Rattle.site_packs.specs.Mounting.{AreMounted, LeavesPacks, IsCauseBehind}
 use Rattle.site_packs.proofs.Stored.{on_ok_map}
 use Rattle.site_packs.proofs.Mounts.{split_first, not_empty, empty_list, mounted_none, mounted_more, if_err_map, cause_more, leaves_first, leaves_rest, sound_rest, tells_more}
 use Rattle.disk_model.proofs.Tells.{tells_rest}
-use Rattle.inode_pack.specs.Mounting.{losing_gates}
-use Rattle.inode_pack.specs.Cutting.{IsCutMount}
+use Rattle.pack_slots.specs.Mounting.{losing_gates}
+use Rattle.pack_slots.specs.Cutting.{IsCutMount}
 use Rattle.disk_model.specs.Cut.{Cut}
 use Rattle.site_packs.specs.Cutting.{IsCutBehind}
 use Rattle.site_packs.proofs.Cutting.{cut_first, cut_later, on_fault, on_answer, mount_few}

@@ -1,39 +1,33 @@
 use Rattle.std.proofs.Common.{◌≡◌, ◌+◌, ◌<◌, ℕ, length, subst}
-use Rattle.std.specs.Prelude.{◌↔◌, OnOk, Err}
+use Rattle.std.specs.Prelude.{◌↔◌, OnOk, OnErr, Err}
 use Rattle.disk_model.specs.Moments.{LeavesOnly, TellsMany}
 use Rattle.inode_switch.specs.View.{Version, Replaced}
+use Rattle.pack_slots.specs.Copies.{copy_of, named_pages}
 use Rattle.inode_pack.specs.declared.pack_fault.PackFault.TheVariants.{NoSpace}
-use Rattle.inode_pack.specs.Pack.{copy_of, named_pages}
-use Rattle.inode_pack.specs.Committing.{MayBeLeft, HoldsPages, size_of, adopted_version, needed, commit_calls, commit_answer}
+use Rattle.inode_pack.specs.Committing.{MayBeLeft, size_of, adopted_version, needed, commit_calls, commit_answer}
+use Rattle.inode_pack.specs.Cutting.{IsCutCommit}
 use Rattle.inode_pack.specs.Whole.{whole}
 use Rattle.inode_pack.proofs.Whole.{rests_whole, adopted_is, needed_all}
-use Rattle.std.specs.Prelude.{OnErr}
-use Rattle.file_content.specs.Pages.{pages_of}
-use Rattle.inode_pack.specs.Cutting.{IsCutCommit}
 use Rattle.inode_pack.proofs.pack.Pack.adopt.Goals as goal
 
 pub store-requires-clause-rests : goal.store-requires-clause-rests
-store-requires-clause-rests g c = rests_whole (size_of (copy_of c.args.self.now.copies c.get.result)) c.args.content.now
+store-requires-clause-rests g c = rests_whole (size_of (copy_of c.args.self.now.copies c.args.ino)) c.args.content.now
 
 pub returns-clause-any_moment : goal.returns-clause-any_moment
 returns-clause-any_moment g c =
     let M = g.D.Disk.moment in
     let pack = c.args.self.now in
+    let ino = c.args.ino in
     let old = (M c.args.disk.now).seen in
-    subst (λ (n : ℕ). LeavesOnly (M c.args.disk.now) (M c.store.new.disk) (MayBeLeft pack n (adopted_version n c.args.version.now c.args.content.now) old)) c.get.ensures.value
-    (subst (λ (v : Version). LeavesOnly (M c.args.disk.now) (M c.store.new.disk) (MayBeLeft pack c.get.result v old)) (adopted_is pack.base c.get.result c.args.version.now c.args.content.now old) c.store.ensures.any_moment)
+    subst (λ (v : Version). LeavesOnly (M c.args.disk.now) (M c.store.new.disk) (MayBeLeft pack ino v old)) (adopted_is pack.base ino c.args.version.now c.args.content.now old) c.store.ensures.any_moment
 
 pub returns-clause-replaced : goal.returns-clause-replaced
 returns-clause-replaced g c =
     let M = g.D.Disk.moment in
     let pack = c.args.self.now in
+    let ino = c.args.ino in
     let old = (M c.args.disk.now).seen in
-    let new = (M c.store.new.disk).seen in
-    subst (λ (n : ℕ). OnOk c.store.result (Replaced pack.base n (adopted_version n c.args.version.now c.args.content.now) old new)) c.get.ensures.value
-    (subst (λ (v : Version). OnOk c.store.result (Replaced pack.base c.get.result v old new)) (adopted_is pack.base c.get.result c.args.version.now c.args.content.now old) c.store.ensures.replaced)
-
-pub returns-clause-pages : goal.returns-clause-pages
-returns-clause-pages g c = subst (λ (n : ℕ). OnOk c.store.result (HoldsPages c.store.new.self n (whole c.args.content.now) (g.D.Disk.moment c.store.new.disk).seen)) c.get.ensures.value c.store.ensures.pages
+    subst (λ (v : Version). OnOk c.store.result (Replaced pack.base ino v old (M c.store.new.disk).seen)) (adopted_is pack.base ino c.args.version.now c.args.content.now old) c.store.ensures.replaced
 
 pub returns-clause-no_space : goal.returns-clause-no_space
 returns-clause-no_space g c pages free =
@@ -43,18 +37,16 @@ pub returns-clause-tells : goal.returns-clause-tells
 returns-clause-tells g c =
     let before = (g.D.Disk.moment c.args.disk.now).passing in
     let after = (g.D.Disk.moment c.store.new.disk).passing in
-    let copies = c.args.self.now.copies in
-    subst (λ (n : ℕ). TellsMany (commit_calls n (copy_of copies c.args.ino) c.store.result) before after (commit_answer c.store.result)) (needed_all c.args.content.now)
-    (subst (λ (i : ℕ). TellsMany (commit_calls (needed (whole c.args.content.now)) (copy_of copies i) c.store.result) before after (commit_answer c.store.result)) c.get.ensures.value c.store.ensures.tells)
+    subst (λ (n : ℕ). TellsMany (commit_calls n (copy_of c.args.self.now.copies c.args.ino) c.store.result) before after (commit_answer c.store.result)) (needed_all c.args.content.now) c.store.ensures.tells
 
 pub returns-clause-cut : goal.returns-clause-cut
 returns-clause-cut g c passed told =
     let M = g.D.Disk.moment in
     let pack = c.args.self.now in
+    let ino = c.args.ino in
     let old = (M c.args.disk.now).seen in
     let new = (M c.store.new.disk).left in
     let how = (M c.args.disk.now).how in
     let answer = commit_answer c.store.result in
-    subst (λ (n : ℕ). OnErr answer (IsCutCommit pack n (adopted_version n c.args.version.now c.args.content.now) (pages_of (length c.args.content.now)) how passed old new)) c.get.ensures.value
-    (subst (λ (k : ℕ). OnErr answer (IsCutCommit pack c.get.result (adopted_version c.get.result c.args.version.now c.args.content.now) k how passed old new)) (needed_all c.args.content.now)
-    (subst (λ (v : Version). OnErr answer (IsCutCommit pack c.get.result v (needed (whole c.args.content.now)) how passed old new)) (adopted_is pack.base c.get.result c.args.version.now c.args.content.now old) (c.store.ensures.cut passed told)))
+    subst (λ (k : ℕ). OnErr answer (IsCutCommit pack ino (adopted_version ino c.args.version.now c.args.content.now) k how passed old new)) (needed_all c.args.content.now)
+    (subst (λ (v : Version). OnErr answer (IsCutCommit pack ino v (needed (whole c.args.content.now)) how passed old new)) (adopted_is pack.base ino c.args.version.now c.args.content.now old) (c.store.ensures.cut passed told))

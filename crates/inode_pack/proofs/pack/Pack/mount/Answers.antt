@@ -1,18 +1,19 @@
 use Rattle.std.proofs.Common.{subst, List, ℕ}
 use Rattle.std.specs.Prelude.{Option}
 use Rattle.disk_model.proofs.Moments.{leaves_weaker}
-use Rattle.inode_pack.specs.declared.inode_copy.InodeCopy.{InodeCopy}
-use Rattle.inode_pack.specs.Pack.{PackState, ShowsCopies, copy_of}
-use Rattle.inode_pack.specs.Mounting.{KeepsPack}
-use Rattle.inode_pack.specs.Losing.{KeepsCopies}
+use Rattle.pack_slots.specs.declared.inode_copy.InodeCopy.{InodeCopy}
+use Rattle.inode_pack.specs.Pack.{PackState}
+use Rattle.pack_slots.specs.Copies.{ShowsCopies, copy_of}
+use Rattle.pack_slots.specs.Mounting.{KeepsPack}
+use Rattle.pack_slots.specs.Losing.{KeepsCopies}
 use Rattle.inode_pack.proofs.Mounted.{keeps_itself, keeps_pack, mounted, recovered, mounts}
 use Rattle.disk_model.proofs.ReadRuns.{leaves_same, leaves_joins}
 use Rattle.std.proofs.Common.{◌≡◌, ◌∙◌}
 use Rattle.disk_model.proofs.Moments.{leaves_cut}
 use Rattle.disk_model.proofs.ReadRuns.{reads_exact}
 use Rattle.disk_model.proofs.Tells.{answers_err}
-use Rattle.inode_pack.specs.Mounting.{disk_answer}
-use Rattle.inode_pack.specs.Cutting.{IsCutMount, losing_inodes, closings_left}
+use Rattle.pack_slots.specs.Mounting.{disk_answer}
+use Rattle.pack_slots.specs.Cutting.{IsCutMount, losing_inodes, closings_left}
 use Rattle.inode_pack.proofs.pack.Pack.mount.Goals as goal
 
 pub returns-in_err-survey-clause-mounts : goal.returns-in_err-survey-clause-mounts

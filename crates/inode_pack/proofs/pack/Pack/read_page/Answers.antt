@@ -4,7 +4,8 @@ use Rattle.disk_model.specs.Images.{bytes_at}
 use Rattle.pack_layout.specs.Layout.{page_at}
 use Rattle.inode_switch.specs.View.{Version, view}
 use Rattle.disk_model.proofs.Moments.{on_ok}
-use Rattle.inode_pack.specs.Pack.{PackState, AreCopies, copy_of, number_in, IsPageOf}
+use Rattle.inode_pack.specs.Pack.{PackState, number_in, IsPageOf}
+use Rattle.pack_slots.specs.Copies.{AreCopies, copy_of}
 use Rattle.inode_pack.proofs.Contents.{shown_page}
 use Rattle.inode_pack.proofs.pack.Pack.read_page.Goals as goal
 

@@ -8,11 +8,11 @@ use Rattle.inode_switch.specs.Replace.{closing}
 use Rattle.disk_model.proofs.Moments.{leaves_start, leaves_weaker}
 use Rattle.inode_pack.specs.declared.pack_fault.PackFault.{PackFault}
 use Rattle.inode_pack.specs.declared.pack_fault.PackFault.TheVariants.{Disk}
-use Rattle.inode_pack.specs.Pack.{PackState, copy_of, Stands, AreCopies}
+use Rattle.inode_pack.specs.Pack.{PackState, Stands}
+use Rattle.pack_slots.specs.Copies.{copy_of, AreCopies}
 use Rattle.inode_pack.specs.Committing.{MayBeLeft, new_version, needed, HoldsPages, commit_calls, commit_answer}
 use Rattle.inode_pack.specs.PagePieces.{pieces_of}
 use Rattle.inode_pack.proofs.Setup.{set_up}
-use Rattle.inode_pack.proofs.Making.{place}
 use Rattle.inode_pack.proofs.NewCopies.{own_copy, copies_after}
 use Rattle.inode_pack.proofs.Committed.{left_at_start, given_may, given_closes, given_left, given_calls, given_shows, given_replaced, given_pages, given_on, same_fault, other_answer, disk_no_space, disk_tells}
 use Rattle.disk_model.proofs.Moments.{leaves_cut}
@@ -43,7 +43,7 @@ replace_inode-requires-clause-may g c =
     let old = (g.D.Disk.moment c.args.disk.now).seen in
     let p = c.prepare-prepared.result in
     let e = c.prepare-prepared.ensures in
-    let s = set_up pack ino c.args.version w p.made c.requires.low c.requires.high e.copies c.requires.version (omega arith) c.requires.rests e.whole e.numbers e.makes in
+    let s = set_up pack ino c.args.version w p.made e.low e.high e.copies c.requires.version (omega arith) c.requires.rests e.whole e.numbers e.makes in
     given_may pack ino w p.made s old c.requires.stands.shows c.base-base.result (pieces_of c.base-base.result p.made w) c.base-base.ensures (ap (λ (b : ℕ). pieces_of b p.made w) c.base-base.ensures)
 
 pub replace_inode-requires-clause-closes : goal.replace_inode-requires-clause-closes
@@ -54,7 +54,7 @@ replace_inode-requires-clause-closes g c =
     let old = (g.D.Disk.moment c.args.disk.now).seen in
     let p = c.prepare-prepared.result in
     let e = c.prepare-prepared.ensures in
-    let s = set_up pack ino c.args.version w p.made c.requires.low c.requires.high e.copies c.requires.version (omega arith) c.requires.rests e.whole e.numbers e.makes in
+    let s = set_up pack ino c.args.version w p.made e.low e.high e.copies c.requires.version (omega arith) c.requires.rests e.whole e.numbers e.makes in
     given_closes pack ino w p.made s old c.requires.stands.shows c.base-base.result (pieces_of c.base-base.result p.made w) c.base-base.ensures (ap (λ (b : ℕ). pieces_of b p.made w) c.base-base.ensures) p.closes e.closes
 
 pub returns-in_err-replace_inode-clause-any_moment : goal.returns-in_err-replace_inode-clause-any_moment
@@ -65,9 +65,9 @@ returns-in_err-replace_inode-clause-any_moment g c =
     let old = (g.D.Disk.moment c.args.disk.now).seen in
     let p = c.prepare-prepared.result in
     let e = c.prepare-prepared.ensures in
-    let s = set_up pack ino c.args.version w p.made c.requires.low c.requires.high e.copies c.requires.version (omega arith) c.requires.rests e.whole e.numbers e.makes in
+    let s = set_up pack ino c.args.version w p.made e.low e.high e.copies c.requires.version (omega arith) c.requires.rests e.whole e.numbers e.makes in
     leaves_weaker g.D.Disk.moment c.args.disk.now c.replace_inode.new.disk
-    (IsStage (pieces_of c.base-base.result p.made w) (slot_at c.base-base.result ino p.made.which) (closing c.base-base.result ino p.made.which old) old)
+    (IsStage (pieces_of c.base-base.result p.made w) (slot_at c.base-base.result ino p.made.half) (closing c.base-base.result ino p.made.half old) old)
     (MayBeLeft pack ino (new_version pack.base ino c.args.version w old) old)
     (given_left pack ino w p.made s old c.requires.stands.shows c.base-base.result (pieces_of c.base-base.result p.made w) c.base-base.ensures (ap (λ (b : ℕ). pieces_of b p.made w) c.base-base.ensures) c.args.version e.makes) c.replace_inode.ensures.stages
 
@@ -86,7 +86,7 @@ returns-in_err-replace_inode-clause-tells g c =
     let old = (g.D.Disk.moment c.args.disk.now).seen in
     let p = c.prepare-prepared.result in
     let e = c.prepare-prepared.ensures in
-    let s = set_up pack ino c.args.version w p.made c.requires.low c.requires.high e.copies c.requires.version (omega arith) c.requires.rests e.whole e.numbers e.makes in
+    let s = set_up pack ino c.args.version w p.made e.low e.high e.copies c.requires.version (omega arith) c.requires.rests e.whole e.numbers e.makes in
     let h = given_on c.from_residual-in_err-replace_inode.result _ c.from_residual-in_err-replace_inode.ensures in
     let is = h.1 ∙ ap (λ (f : PackFault). Err f) h.2 in
     let before = (g.D.Disk.moment c.args.disk.now).passing in
@@ -102,8 +102,8 @@ put-requires-clause-copies g c =
     let old = (g.D.Disk.moment c.args.disk.now).seen in
     let p = c.prepare-prepared.result in
     let e = c.prepare-prepared.ensures in
-    let s = set_up pack ino c.args.version w p.made c.requires.low c.requires.high e.copies c.requires.version (omega arith) c.requires.rests e.whole e.numbers e.makes in
-    copies_after pack ino w p.made s (place pack ino w p.made s old c.requires.stands.shows)
+    let s = set_up pack ino c.args.version w p.made e.low e.high e.copies c.requires.version (omega arith) c.requires.rests e.whole e.numbers e.makes in
+    copies_after pack ino w p.made s
 
 pub returns-clause-any_moment : goal.returns-clause-any_moment
 returns-clause-any_moment g c =
@@ -113,9 +113,9 @@ returns-clause-any_moment g c =
     let old = (g.D.Disk.moment c.args.disk.now).seen in
     let p = c.prepare-prepared.result in
     let e = c.prepare-prepared.ensures in
-    let s = set_up pack ino c.args.version w p.made c.requires.low c.requires.high e.copies c.requires.version (omega arith) c.requires.rests e.whole e.numbers e.makes in
+    let s = set_up pack ino c.args.version w p.made e.low e.high e.copies c.requires.version (omega arith) c.requires.rests e.whole e.numbers e.makes in
     leaves_weaker g.D.Disk.moment c.args.disk.now c.replace_inode.new.disk
-    (IsStage (pieces_of c.base-base.result p.made w) (slot_at c.base-base.result ino p.made.which) (closing c.base-base.result ino p.made.which old) old)
+    (IsStage (pieces_of c.base-base.result p.made w) (slot_at c.base-base.result ino p.made.half) (closing c.base-base.result ino p.made.half old) old)
     (MayBeLeft pack ino (new_version pack.base ino c.args.version w old) old)
     (given_left pack ino w p.made s old c.requires.stands.shows c.base-base.result (pieces_of c.base-base.result p.made w) c.base-base.ensures (ap (λ (b : ℕ). pieces_of b p.made w) c.base-base.ensures) c.args.version e.makes) c.replace_inode.ensures.stages
 
@@ -127,7 +127,7 @@ returns-clause-copies g c =
     let old = (g.D.Disk.moment c.args.disk.now).seen in
     let p = c.prepare-prepared.result in
     let e = c.prepare-prepared.ensures in
-    let s = set_up pack ino c.args.version w p.made c.requires.low c.requires.high e.copies c.requires.version (omega arith) c.requires.rests e.whole e.numbers e.makes in
+    let s = set_up pack ino c.args.version w p.made e.low e.high e.copies c.requires.version (omega arith) c.requires.rests e.whole e.numbers e.makes in
     record {
       made = p.made;
       makes = e.makes;
@@ -143,7 +143,7 @@ returns-clause-stands g c =
     let old = (g.D.Disk.moment c.args.disk.now).seen in
     let p = c.prepare-prepared.result in
     let e = c.prepare-prepared.ensures in
-    let s = set_up pack ino c.args.version w p.made c.requires.low c.requires.high e.copies c.requires.version (omega arith) c.requires.rests e.whole e.numbers e.makes in
+    let s = set_up pack ino c.args.version w p.made e.low e.high e.copies c.requires.version (omega arith) c.requires.rests e.whole e.numbers e.makes in
     subst (λ (new : PackState). Stands new (g.D.Disk.moment c.replace_inode.new.disk)) (sym c.put.ensures)
     (record { settled = c.in_ok-replace_inode.ensures.durable; shows = given_shows pack ino w p.made s old c.requires.stands.shows c.base-base.result (pieces_of c.base-base.result p.made w) c.base-base.ensures (ap (λ (b : ℕ). pieces_of b p.made w) c.base-base.ensures) (g.D.Disk.moment c.replace_inode.new.disk).seen c.in_ok-replace_inode.ensures.done })
 
@@ -155,7 +155,7 @@ returns-clause-replaced g c =
     let old = (g.D.Disk.moment c.args.disk.now).seen in
     let p = c.prepare-prepared.result in
     let e = c.prepare-prepared.ensures in
-    let s = set_up pack ino c.args.version w p.made c.requires.low c.requires.high e.copies c.requires.version (omega arith) c.requires.rests e.whole e.numbers e.makes in
+    let s = set_up pack ino c.args.version w p.made e.low e.high e.copies c.requires.version (omega arith) c.requires.rests e.whole e.numbers e.makes in
     given_replaced pack ino w p.made s old c.requires.stands.shows c.base-base.result (pieces_of c.base-base.result p.made w) c.base-base.ensures (ap (λ (b : ℕ). pieces_of b p.made w) c.base-base.ensures) c.args.version e.makes (g.D.Disk.moment c.replace_inode.new.disk).seen c.in_ok-replace_inode.ensures.replaced
 
 pub returns-clause-no_space : goal.returns-clause-no_space
@@ -169,7 +169,7 @@ returns-clause-tells g c =
     let old = (g.D.Disk.moment c.args.disk.now).seen in
     let p = c.prepare-prepared.result in
     let e = c.prepare-prepared.ensures in
-    let s = set_up pack ino c.args.version w p.made c.requires.low c.requires.high e.copies c.requires.version (omega arith) c.requires.rests e.whole e.numbers e.makes in
+    let s = set_up pack ino c.args.version w p.made e.low e.high e.copies c.requires.version (omega arith) c.requires.rests e.whole e.numbers e.makes in
     subst (λ (k : ℕ). TellsMany {T = Unit {0}} {E = DiskFault} k (g.D.Disk.moment c.args.disk.now).passing (g.D.Disk.moment c.replace_inode.new.disk).passing (Ok tt)) (given_calls pack ino w p.made s old c.requires.stands.shows c.base-base.result (pieces_of c.base-base.result p.made w) c.base-base.ensures (ap (λ (b : ℕ). pieces_of b p.made w) c.base-base.ensures)) c.in_ok-replace_inode.ensures.tells
 
 pub returns-clause-pages : goal.returns-clause-pages
@@ -180,7 +180,7 @@ returns-clause-pages g c =
     let old = (g.D.Disk.moment c.args.disk.now).seen in
     let p = c.prepare-prepared.result in
     let e = c.prepare-prepared.ensures in
-    let s = set_up pack ino c.args.version w p.made c.requires.low c.requires.high e.copies c.requires.version (omega arith) c.requires.rests e.whole e.numbers e.makes in
+    let s = set_up pack ino c.args.version w p.made e.low e.high e.copies c.requires.version (omega arith) c.requires.rests e.whole e.numbers e.makes in
     subst (λ (new : PackState). HoldsPages new ino w (g.D.Disk.moment c.replace_inode.new.disk).seen) (sym c.put.ensures)
     (given_pages pack ino w p.made s old c.requires.stands.shows c.base-base.result (pieces_of c.base-base.result p.made w) c.base-base.ensures (ap (λ (b : ℕ). pieces_of b p.made w) c.base-base.ensures) (g.D.Disk.moment c.replace_inode.new.disk).seen c.in_ok-replace_inode.ensures.done)
 
@@ -192,8 +192,8 @@ returns-clause-good g c =
     let old = (g.D.Disk.moment c.args.disk.now).seen in
     let p = c.prepare-prepared.result in
     let e = c.prepare-prepared.ensures in
-    let s = set_up pack ino c.args.version w p.made c.requires.low c.requires.high e.copies c.requires.version (omega arith) c.requires.rests e.whole e.numbers e.makes in
-    subst (λ (new : PackState). AreCopies new.copies) (sym c.put.ensures) (copies_after pack ino w p.made s (place pack ino w p.made s old c.requires.stands.shows))
+    let s = set_up pack ino c.args.version w p.made e.low e.high e.copies c.requires.version (omega arith) c.requires.rests e.whole e.numbers e.makes in
+    subst (λ (new : PackState). AreCopies new.copies) (sym c.put.ensures) (copies_after pack ino w p.made s)
 
 pub returns-in_err-replace_inode-clause-cut : goal.returns-in_err-replace_inode-clause-cut
 returns-in_err-replace_inode-clause-cut g c passed told =
@@ -206,7 +206,7 @@ returns-in_err-replace_inode-clause-cut g c passed told =
     let old = (M before).seen in
     let p = c.prepare-prepared.result in
     let e = c.prepare-prepared.ensures in
-    let s = set_up pack ino c.args.version w p.made c.requires.low c.requires.high e.copies c.requires.version (omega arith) c.requires.rests e.whole e.numbers e.makes in
+    let s = set_up pack ino c.args.version w p.made e.low e.high e.copies c.requires.version (omega arith) c.requires.rests e.whole e.numbers e.makes in
     let given = pieces_of c.base-base.result p.made w in
     let are = ap (λ (b : ℕ). pieces_of b p.made w) c.base-base.ensures in
     let h = given_on c.from_residual-in_err-replace_inode.result _ c.from_residual-in_err-replace_inode.ensures in

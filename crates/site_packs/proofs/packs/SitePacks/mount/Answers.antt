@@ -6,7 +6,7 @@ use Rattle.site_packs.specs.Mounting.{AreSoundBehind, IsCauseBehind, AreGroups, 
 use Rattle.site_packs.proofs.Mounts.{few_groups, are_groups, passing_result, leaves_copies, copies_kept}
 use Rattle.std.specs.Prelude.{Result, Err}
 use Rattle.disk_model.proofs.Moments.{leaves_cut}
-use Rattle.inode_pack.specs.declared.mount_fault.MountFault.{MountFault}
+use Rattle.pack_slots.specs.declared.mount_fault.MountFault.{MountFault}
 use Rattle.site_packs.specs.Cutting.{both_open_on, IsCutBehind, IsCutMount}
 use Rattle.site_packs.proofs.Cutting.{none_shown, on_fault, on_answer}
 use Rattle.site_packs.proofs.packs.SitePacks.mount.Goals as goal

@@ -4,7 +4,8 @@ use Rattle.std.proofs.lemmas.Option.{slice_get_read}
 use Rattle.disk_model.specs.Moments.{LeavesOnly, TellsMany}
 use Rattle.disk_model.proofs.Moments.{leaves_weaker}
 use Rattle.inode_switch.specs.View.{Replaced}
-use Rattle.inode_pack.specs.Pack.{PackState, copy_of, named_pages}
+use Rattle.inode_pack.specs.Pack.{PackState}
+use Rattle.pack_slots.specs.Copies.{copy_of, named_pages}
 use Rattle.inode_pack.specs.Marked.{marked}
 use Rattle.inode_pack.specs.Committing.{new_version, needed, commit_calls, commit_answer, MayBeLeft as MayBeLeftIn}
 use Rattle.role_steps.specs.Tables.{with_row}
@@ -19,8 +20,8 @@ use Rattle.inode_pack.specs.Cutting.{IsCutCommit}
 use Rattle.site_packs.specs.Cutting.{IsCut}
 use Rattle.site_packs.proofs.packs.SitePacks.store.Goals as goal
 
-pub commit_pages-requires-clause-stands : goal.commit_pages-requires-clause-stands
-commit_pages-requires-clause-stands g c =
+pub commit-requires-clause-stands : goal.commit-requires-clause-stands
+commit-requires-clause-stands g c =
     let M = g.D.Disk.moment in
     let p = c.args.self.now in
     let old = (M c.args.disk.now).seen in
@@ -34,8 +35,8 @@ commit_pages-requires-clause-stands g c =
     let is : pack_in file.group p.packs ≡ Some pack = sym c.requires.place ∙ place in
     record { settled = c.requires.stands.settled; shows = (found_pack p.site file.group p.packs old pack are c.requires.stands.shown is).shows }
 
-pub commit_pages-requires-clause-rests : goal.commit_pages-requires-clause-rests
-commit_pages-requires-clause-rests g c =
+pub commit-requires-clause-rests : goal.commit-requires-clause-rests
+commit-requires-clause-rests g c =
     let M = g.D.Disk.moment in
     let p = c.args.self.now in
     let old = (M c.args.disk.now).seen in
@@ -64,9 +65,9 @@ returns-clause-any_moment g c =
     let place : slice_get p.packs at ≡ Some pack = subst (λ (l : List PackState). slice_get l at ≡ Some pack) items (slice_get_read c.self.inside.packs.items (length c.self.inside.packs.items) at pack refl inside c.index_mut.ensures.value) in
     let is : pack_in file.group p.packs ≡ Some pack = sym c.requires.place ∙ place in
     let fills : Fills pack file.ino c.args.content.now c.args.marks.now old = subst (λ (n : ℕ). Fills pack n c.args.content.now c.args.marks.now old) c.requires.own (subst (λ (o : Option PackState). FillsAt o c.args.ino c.args.content.now c.args.marks.now old) is c.requires.fills) in
-    leaves_weaker M c.args.disk.now c.commit_pages.new.disk (MayBeLeftIn pack file.ino (new_version pack.base file.ino c.args.version (marked c.args.content.now c.args.marks.now) old) old) (MayBeLeft p (copy_made file c.args.version c.args.content.now) old)
+    leaves_weaker M c.args.disk.now c.commit.new.disk (MayBeLeftIn pack file.ino (new_version pack.base file.ino c.args.version (marked c.args.content.now c.args.marks.now) old) old) (MayBeLeft p (copy_made file c.args.version c.args.content.now) old)
     (left p old at file pack c.args.version c.args.content.now c.args.marks.now are c.requires.stands.shown place is c.requires.whole.low c.requires.whole.high (omega arith) c.requires.whole.version fills)
-    (subst (λ (n : ℕ). LeavesOnly (M c.args.disk.now) (M c.commit_pages.new.disk) (MayBeLeftIn pack n (new_version pack.base n c.args.version (marked c.args.content.now c.args.marks.now) old) old)) c.requires.own c.commit_pages.ensures.any_moment)
+    (subst (λ (n : ℕ). LeavesOnly (M c.args.disk.now) (M c.commit.new.disk) (MayBeLeftIn pack n (new_version pack.base n c.args.version (marked c.args.content.now c.args.marks.now) old) old)) c.requires.own c.commit.ensures.any_moment)
 
 pub returns-clause-copies : goal.returns-clause-copies
 returns-clause-copies g c =
@@ -82,12 +83,12 @@ returns-clause-copies g c =
     let place : slice_get p.packs at ≡ Some pack = subst (λ (l : List PackState). slice_get l at ≡ Some pack) items (slice_get_read c.self.inside.packs.items (length c.self.inside.packs.items) at pack refl inside c.index_mut.ensures.value) in
     let is : pack_in file.group p.packs ≡ Some pack = sym c.requires.place ∙ place in
     let fills : Fills pack file.ino c.args.content.now c.args.marks.now old = subst (λ (n : ℕ). Fills pack n c.args.content.now c.args.marks.now old) c.requires.own (subst (λ (o : Option PackState). FillsAt o c.args.ino c.args.content.now c.args.marks.now old) is c.requires.fills) in
-    let new = (M c.commit_pages.new.disk).seen in
-    let torn = (c.commit_pages.ensures.any_moment.each new (g.met.D.Disk.counts_now c.commit_pages.new.disk (M c.args.disk.now).now new c.commit_pages.ensures.any_moment.later (g.met.D.Disk.reads_an_image c.commit_pages.new.disk))).outside in
-    on_ok_map c.commit_pages.result (Replaced pack.base file.ino (new_version pack.base file.ino c.args.version (marked c.args.content.now c.args.marks.now) old) old new)
+    let new = (M c.commit.new.disk).seen in
+    let torn = (c.commit.ensures.any_moment.each new (g.met.D.Disk.counts_now c.commit.new.disk (M c.args.disk.now).now new c.commit.ensures.any_moment.later (g.met.D.Disk.reads_an_image c.commit.new.disk))).outside in
+    on_ok_map c.commit.result (Replaced pack.base file.ino (new_version pack.base file.ino c.args.version (marked c.args.content.now c.args.marks.now) old) old new)
     (copies_on (groups_of p) new ≡ with_row copy_key (copy_made file c.args.version c.args.content.now) (copies_on (groups_of p) old))
     (replaced p old at file pack c.args.version c.args.content.now c.args.marks.now are c.requires.stands.shown place is c.requires.whole.low c.requires.whole.high (omega arith) c.requires.whole.version fills new torn)
-    (subst (λ (n : ℕ). OnOk c.commit_pages.result (Replaced pack.base n (new_version pack.base n c.args.version (marked c.args.content.now c.args.marks.now) old) old new)) c.requires.own c.commit_pages.ensures.replaced)
+    (subst (λ (n : ℕ). OnOk c.commit.result (Replaced pack.base n (new_version pack.base n c.args.version (marked c.args.content.now c.args.marks.now) old) old new)) c.requires.own c.commit.ensures.replaced)
 
 pub invariant_of-self : goal.invariant_of-self
 invariant_of-self g c =
@@ -102,9 +103,9 @@ invariant_of-self g c =
     let inside : at < length c.self.inside.packs.items = subst (λ (l : List PackState). at < length l) (sym items) c.requires.inside in
     let place : slice_get p.packs at ≡ Some pack = subst (λ (l : List PackState). slice_get l at ≡ Some pack) items (slice_get_read c.self.inside.packs.items (length c.self.inside.packs.items) at pack refl inside c.index_mut.ensures.value) in
     let is : pack_in file.group p.packs ≡ Some pack = sym c.requires.place ∙ place in
-    let after = (after_packs p at pack c.commit_pages.new.self c.args.ino c.args.version (marked c.args.content.now c.args.marks.now) c.commit_pages.result are place c.commit_pages.ensures.good c.commit_pages.ensures.kept c.commit_pages.ensures.copies).0 in
+    let after = (after_packs p at pack c.commit.new.self c.args.ino c.args.version (marked c.args.content.now c.args.marks.now) c.commit.result are place c.commit.ensures.good c.commit.ensures.kept c.commit.ensures.copies).0 in
     let site = ap (λ (q : PacksState). q.site) c.self.view_is in
-    subst (λ (l : List PackState). ArePacks 0 0 c.self.inside.site (slice_set l at c.commit_pages.new.self)) (sym items) (subst (λ (s : ℕ). ArePacks 0 0 s (slice_set p.packs at c.commit_pages.new.self)) (sym site) after)
+    subst (λ (l : List PackState). ArePacks 0 0 c.self.inside.site (slice_set l at c.commit.new.self)) (sym items) (subst (λ (s : ℕ). ArePacks 0 0 s (slice_set p.packs at c.commit.new.self)) (sym site) after)
 
 pub returns-clause-places : goal.returns-clause-places
 returns-clause-places g c =
@@ -119,10 +120,10 @@ returns-clause-places g c =
     let inside : at < length c.self.inside.packs.items = subst (λ (l : List PackState). at < length l) (sym items) c.requires.inside in
     let place : slice_get p.packs at ≡ Some pack = subst (λ (l : List PackState). slice_get l at ≡ Some pack) items (slice_get_read c.self.inside.packs.items (length c.self.inside.packs.items) at pack refl inside c.index_mut.ensures.value) in
     let is : pack_in file.group p.packs ≡ Some pack = sym c.requires.place ∙ place in
-    let after = (after_packs p at pack c.commit_pages.new.self c.args.ino c.args.version (marked c.args.content.now c.args.marks.now) c.commit_pages.result are place c.commit_pages.ensures.good c.commit_pages.ensures.kept c.commit_pages.ensures.copies).1 in
+    let after = (after_packs p at pack c.commit.new.self c.args.ino c.args.version (marked c.args.content.now c.args.marks.now) c.commit.result are place c.commit.ensures.good c.commit.ensures.kept c.commit.ensures.copies).1 in
     record {
       site = ap (λ (q : PacksState). q.site) c.self.view_is;
-      groups = ap (λ (l : List PackState). map pack_group (slice_set l at c.commit_pages.new.self)) items ∙ after;
+      groups = ap (λ (l : List PackState). map pack_group (slice_set l at c.commit.new.self)) items ∙ after;
     }
 
 pub returns-clause-stands : goal.returns-clause-stands
@@ -138,10 +139,10 @@ returns-clause-stands g c =
     let inside : at < length c.self.inside.packs.items = subst (λ (l : List PackState). at < length l) (sym items) c.requires.inside in
     let place : slice_get p.packs at ≡ Some pack = subst (λ (l : List PackState). slice_get l at ≡ Some pack) items (slice_get_read c.self.inside.packs.items (length c.self.inside.packs.items) at pack refl inside c.index_mut.ensures.value) in
     let is : pack_in file.group p.packs ≡ Some pack = sym c.requires.place ∙ place in
-    let new = (M c.commit_pages.new.disk).seen in
-    let torn = (c.commit_pages.ensures.any_moment.each new (g.met.D.Disk.counts_now c.commit_pages.new.disk (M c.args.disk.now).now new c.commit_pages.ensures.any_moment.later (g.met.D.Disk.reads_an_image c.commit_pages.new.disk))).outside in
-    subst (λ (l : List PackState). OnOk c.commit_pages.result (Stand (record { site = c.self.inside.site; packs = slice_set l at c.commit_pages.new.self }) (M c.commit_pages.new.disk))) (sym items)
-    (stand_packs p c.self.inside.site at pack c.commit_pages.new.self c.args.ino c.args.version (marked c.args.content.now c.args.marks.now) old (M c.commit_pages.new.disk) c.commit_pages.result are place c.requires.stands.shown torn c.commit_pages.ensures.good c.commit_pages.ensures.copies c.commit_pages.ensures.stands)
+    let new = (M c.commit.new.disk).seen in
+    let torn = (c.commit.ensures.any_moment.each new (g.met.D.Disk.counts_now c.commit.new.disk (M c.args.disk.now).now new c.commit.ensures.any_moment.later (g.met.D.Disk.reads_an_image c.commit.new.disk))).outside in
+    subst (λ (l : List PackState). OnOk c.commit.result (Stand (record { site = c.self.inside.site; packs = slice_set l at c.commit.new.self }) (M c.commit.new.disk))) (sym items)
+    (stand_packs p c.self.inside.site at pack c.commit.new.self c.args.ino c.args.version (marked c.args.content.now c.args.marks.now) old (M c.commit.new.disk) c.commit.result are place c.requires.stands.shown torn c.commit.ensures.good c.commit.ensures.copies c.commit.ensures.stands)
 
 pub returns-clause-kept : goal.returns-clause-kept
 returns-clause-kept g c =
@@ -156,7 +157,7 @@ returns-clause-kept g c =
     let inside : at < length c.self.inside.packs.items = subst (λ (l : List PackState). at < length l) (sym items) c.requires.inside in
     let place : slice_get p.packs at ≡ Some pack = subst (λ (l : List PackState). slice_get l at ≡ Some pack) items (slice_get_read c.self.inside.packs.items (length c.self.inside.packs.items) at pack refl inside c.index_mut.ensures.value) in
     let is : pack_in file.group p.packs ≡ Some pack = sym c.requires.place ∙ place in
-    kept_packs c.self.inside.site p c.self.inside.packs.items at pack c.commit_pages.new.self c.commit_pages.result (ap (λ (q : PacksState). q.site) c.self.view_is) items place c.commit_pages.ensures.kept
+    kept_packs c.self.inside.site p c.self.inside.packs.items at pack c.commit.new.self c.commit.result (ap (λ (q : PacksState). q.site) c.self.view_is) items place c.commit.ensures.kept
 
 pub returns-clause-only : goal.returns-clause-only
 returns-clause-only g c =
@@ -172,7 +173,7 @@ returns-clause-only g c =
     let place : slice_get p.packs at ≡ Some pack = subst (λ (l : List PackState). slice_get l at ≡ Some pack) items (slice_get_read c.self.inside.packs.items (length c.self.inside.packs.items) at pack refl inside c.index_mut.ensures.value) in
     let is : pack_in file.group p.packs ≡ Some pack = sym c.requires.place ∙ place in
     let fills : Fills pack file.ino c.args.content.now c.args.marks.now old = subst (λ (n : ℕ). Fills pack n c.args.content.now c.args.marks.now old) c.requires.own (subst (λ (o : Option PackState). FillsAt o c.args.ino c.args.content.now c.args.marks.now old) is c.requires.fills) in
-    only_disk c.commit_pages.result (needed (marked c.args.content.now c.args.marks.now)) (length (named_pages pack.copies)) (room p old file.group) c.requires.room (room_is p old at file pack c.args.version c.args.content.now c.args.marks.now are c.requires.stands.shown place is c.requires.whole.low c.requires.whole.high (omega arith) c.requires.whole.version fills) (λ pages free. (c.commit_pages.ensures.no_space pages free).0)
+    only_disk c.commit.result (needed (marked c.args.content.now c.args.marks.now)) (length (named_pages pack.copies)) (room p old file.group) c.requires.room (room_is p old at file pack c.args.version c.args.content.now c.args.marks.now are c.requires.stands.shown place is c.requires.whole.low c.requires.whole.high (omega arith) c.requires.whole.version fills) (λ pages free. (c.commit.ensures.no_space pages free).0)
 
 pub returns-clause-tells : goal.returns-clause-tells
 returns-clause-tells g c =
@@ -190,9 +191,9 @@ returns-clause-tells g c =
     let fills : Fills pack file.ino c.args.content.now c.args.marks.now old = subst (λ (n : ℕ). Fills pack n c.args.content.now c.args.marks.now old) c.requires.own (subst (λ (o : Option PackState). FillsAt o c.args.ino c.args.content.now c.args.marks.now old) is c.requires.fills) in
     let pages = needed (marked c.args.content.now c.args.marks.now) in
     let before = (M c.args.disk.now).passing in
-    let after = (M c.commit_pages.new.disk).passing in
-    subst (λ (n : ℕ). TellsMany n before after (commit_answer c.commit_pages.result)) (calls_same pages (copy_of pack.copies file.ino) (copy_at p old file) c.commit_pages.result (had_copy p old at file pack c.args.version c.args.content.now c.args.marks.now are c.requires.stands.shown place is c.requires.whole.low c.requires.whole.high (omega arith) c.requires.whole.version fills))
-    (subst (λ (n : ℕ). TellsMany (commit_calls pages (copy_of pack.copies n) c.commit_pages.result) before after (commit_answer c.commit_pages.result)) c.requires.own c.commit_pages.ensures.tells)
+    let after = (M c.commit.new.disk).passing in
+    subst (λ (n : ℕ). TellsMany n before after (commit_answer c.commit.result)) (calls_same pages (copy_of pack.copies file.ino) (copy_at p old file) c.commit.result (had_copy p old at file pack c.args.version c.args.content.now c.args.marks.now are c.requires.stands.shown place is c.requires.whole.low c.requires.whole.high (omega arith) c.requires.whole.version fills))
+    (subst (λ (n : ℕ). TellsMany (commit_calls pages (copy_of pack.copies n) c.commit.result) before after (commit_answer c.commit.result)) c.requires.own c.commit.ensures.tells)
 
 pub returns-clause-none : goal.returns-clause-none
 returns-clause-none g c =
@@ -207,9 +208,9 @@ returns-clause-none g c =
     let inside : at < length c.self.inside.packs.items = subst (λ (l : List PackState). at < length l) (sym items) c.requires.inside in
     let place : slice_get p.packs at ≡ Some pack = subst (λ (l : List PackState). slice_get l at ≡ Some pack) items (slice_get_read c.self.inside.packs.items (length c.self.inside.packs.items) at pack refl inside c.index_mut.ensures.value) in
     let is : pack_in file.group p.packs ≡ Some pack = sym c.requires.place ∙ place in
-    let new = (M c.commit_pages.new.disk).seen in
-    let torn = (c.commit_pages.ensures.any_moment.each new (g.met.D.Disk.counts_now c.commit_pages.new.disk (M c.args.disk.now).now new c.commit_pages.ensures.any_moment.later (g.met.D.Disk.reads_an_image c.commit_pages.new.disk))).outside in
-    none_after p at pack c.commit_pages.new.self c.args.ino c.args.version (marked c.args.content.now c.args.marks.now) old (M c.commit_pages.new.disk) c.commit_pages.result are place c.requires.stands.shown torn c.commit_pages.ensures.good c.commit_pages.ensures.copies c.commit_pages.ensures.stands
+    let new = (M c.commit.new.disk).seen in
+    let torn = (c.commit.ensures.any_moment.each new (g.met.D.Disk.counts_now c.commit.new.disk (M c.args.disk.now).now new c.commit.ensures.any_moment.later (g.met.D.Disk.reads_an_image c.commit.new.disk))).outside in
+    none_after p at pack c.commit.new.self c.args.ino c.args.version (marked c.args.content.now c.args.marks.now) old (M c.commit.new.disk) c.commit.result are place c.requires.stands.shown torn c.commit.ensures.good c.commit.ensures.copies c.commit.ensures.stands
 
 pub returns-clause-cut : goal.returns-clause-cut
 returns-clause-cut g c passed told =
@@ -227,7 +228,7 @@ returns-clause-cut g c passed told =
     let fills : Fills pack file.ino c.args.content.now c.args.marks.now old = subst (λ (n : ℕ). Fills pack n c.args.content.now c.args.marks.now old) c.requires.own (subst (λ (o : Option PackState). FillsAt o c.args.ino c.args.content.now c.args.marks.now old) is c.requires.fills) in
     let w = marked c.args.content.now c.args.marks.now in
     let how = (M c.args.disk.now).how in
-    let new = (M c.commit_pages.new.disk).left in
-    on_commit c.commit_pages.result (IsCutCommit pack file.ino (new_version pack.base file.ino c.args.version w old) (needed w) how passed old new) (IsCut p (copy_made file c.args.version c.args.content.now) (needed w) how passed old new)
+    let new = (M c.commit.new.disk).left in
+    on_commit c.commit.result (IsCutCommit pack file.ino (new_version pack.base file.ino c.args.version w old) (needed w) how passed old new) (IsCut p (copy_made file c.args.version c.args.content.now) (needed w) how passed old new)
     (cut_left p old at file pack c.args.version c.args.content.now c.args.marks.now are c.requires.stands.shown place is c.requires.whole.low c.requires.whole.high (omega arith) c.requires.whole.version fills (needed w) how passed new)
-    (subst (λ (n : ℕ). OnErr (commit_answer c.commit_pages.result) (IsCutCommit pack n (new_version pack.base n c.args.version w old) (needed w) how passed old new)) c.requires.own (c.commit_pages.ensures.cut passed told))
+    (subst (λ (n : ℕ). OnErr (commit_answer c.commit.result) (IsCutCommit pack n (new_version pack.base n c.args.version w old) (needed w) how passed old new)) c.requires.own (c.commit.ensures.cut passed told))

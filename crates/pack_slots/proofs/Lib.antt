@@ -1,0 +1,13 @@
+pub mod Counting
+pub mod CutClosing
+pub mod Finding
+pub mod Gates
+pub mod LosingLists
+pub mod NamedPages
+pub mod New
+pub mod PageTimes
+pub mod Reading
+pub mod SharedPage
+pub mod SoundPack
+pub mod Tearing
+pub mod Times

@@ -1,0 +1,7 @@
+pub mod Copies
+pub mod Cutting
+pub mod Format
+pub mod Found
+pub mod Losing
+pub mod Mounting
+pub mod Slots
