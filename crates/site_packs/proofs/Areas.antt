@@ -229,6 +229,6 @@ unfolding losing_gates
 gates_same base a b agree zero le = refl
 gates_same base a b agree (suc n) le =
     let rest = gates_same base a b agree n (omega arith) in
-    let one = open_same base a b agree (suc n) 0 (omega arith) le (omega arith) in
-    let two = open_same base a b agree (suc n) 1 (omega arith) le (omega arith) in
+    let one = open_same base a b agree (suc n) slot_half.First (omega arith) le in
+    let two = open_same base a b agree (suc n) slot_half.Second (omega arith) le in
     (λ i. let m : ℕ = if one i && two i then 1 else 0 in rest i + m)

@@ -11,6 +11,7 @@ use Rattle.disk_model.specs.declared.disk.DiskFault.TheVariants.{Failed}
 use Rattle.disk_model.proofs.Tells.{tells_few}
 use Rattle.gate_switch.specs.Gates.{gate_left}
 use Rattle.gate_switch.proofs.Tearing.{torn_joins}
+use Rattle.pack_layout.specs.declared.half.Half.TheVariants.{First, Second}
 use Rattle.pack_layout.specs.Layout.{area_length, area_at}
 use Rattle.pack_slots.specs.declared.mount_fault.MountFault.{MountFault}
 use Rattle.pack_slots.specs.declared.mount_fault.MountFault.TheVariants.{Disk, NotAPack, BadSlot, SharedPage, NoMemory}
@@ -78,7 +79,7 @@ mount_calls_are groups image = ap (λ (n : ℕ). 2 * n) (sym (both_count 0 group
 
 -- areas that agree
 losing_agree : (base : ℕ) (a b : List ℕ) → AgreeOn base a b → losing_inodes base b ≡ losing_inodes base a
-losing_agree base a b agree = losing_same base b a 1 1024 (λ i low high. (λ j. open_same base a b agree i 0 low (omega arith) (omega arith) j && open_same base a b agree i 1 low (omega arith) (omega arith) j))
+losing_agree base a b agree = losing_same base b a 1 1024 (λ i low high. (λ j. open_same base a b agree i First low (omega arith) j && open_same base a b agree i Second low (omega arith) j))
 
 pub both_agree : (nth : ℕ) (groups a b : List ℕ) → AgreeBehind nth a b → both_behind nth groups b ≡ both_behind nth groups a
 both_agree nth [] a b agree = refl

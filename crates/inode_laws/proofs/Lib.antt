@@ -1,0 +1,5 @@
+pub mod RolesSend
+pub mod StoreFits
+pub mod SyncFits
+pub mod SiteFits
+pub mod FitsRun

@@ -1,0 +1,11 @@
+pub mod Books
+pub mod UsersFacts
+pub mod StoreFacts
+pub mod SyncFacts
+pub mod SyncEvents
+pub mod SiteFacts
+pub mod Joins
+pub mod FormingFacts
+pub mod StepFacts
+pub mod InstancesRun
+pub mod Agree
