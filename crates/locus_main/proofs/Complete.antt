@@ -1,56 +1,111 @@
--- A run of an accepted schedule comes to its end, or finds no memory.
+-- What a command that reads lines promises comes from how its loop ends.
 use Rattle.std.proofs.Common.{◌≡◌, ℕ, List, Option, Some, None, refl, subst, inl, inr, ◌⊎◌}
 use Rattle.std.specs.Prelude.{IfSome}
+use Rattle.std.specs.Io.KnownBytes.{IsAtEnd}
 use Rattle.schedule_lines.specs.declared.line.ScheduleLine.{ScheduleLine}
 use Rattle.the_run.specs.Worlds.{Limit}
 use Rattle.the_run.specs.Worlds as bound
 use Rattle.the_run.specs.Runs.{run}
-use Rattle.line_reader.specs.Reading.{lines_of}
+use Rattle.line_reader.specs.Reading.{lines_of, Between}
 use Rattle.locus_main.specs.declared.status.Status.{Status}
 use Rattle.locus_main.specs.declared.status.Status.TheVariants as status
 use Rattle.locus_main.specs.declared.status.Limited.TheVariants.{Packets, Bytes, Trace, Line, Lines}
 use Rattle.locus_main.specs.Codes.{limited}
-use Rattle.locus_main.specs.Runs.{IsAccepted, StopsAtBad, StopsAtLong, StopsAtCount, StopsAtLimit}
+use Rattle.locus_main.specs.Inputs.{Input}
+use Rattle.locus_main.specs.Promises.{ComesThrough, LinePromises}
+use Rattle.locus_main.specs.Runs.{IsAccepted, IsWholeRun, StopsAtBad, StopsAtLong, StopsAtCount, StopsAtFault, StopsAtLimit, StopsAtWorld, WritesFront, FailsInOpening}
 use Rattle.locus_main.proofs.Reading.{no_bad, no_long, no_more, no_limit}
 
 at_some : {X : Type 0} (o : Option X) (x : X) (P : X → Type 0) → o ≡ Some x → IfSome o P → P x
 at_some {X = X} o x P e h = subst (λ (p : Option X). IfSome p P) e h
 
--- what a run says of a bad line, a long line, a line too many and a limit
-pub record Causes (result : Status) (left before after : Option (List ℕ)) : Type 0 where
+-- what the loop says of each way that it ends
+pub record Ends (input : Input) (result : Status) (source left before after : Option (List ℕ)) : Type 0 where
   pub words : result ≡ status.BadWords → ⊥
-  pub bad_line : (line : ℕ) → result ≡ status.BadLine line → IfSome left (λ input. StopsAtBad (lines_of input) line before after)
-  pub long_line : result ≡ status.Limit Line → IfSome left (λ input. StopsAtLong (lines_of input) before after)
-  pub many_lines : result ≡ status.Limit Lines → IfSome left (λ input. StopsAtCount (lines_of input) before after)
-  pub limit : (l : Limit) → result ≡ status.Limit (limited l) → IfSome left (λ input. StopsAtLimit (lines_of input) l before after)
+  pub whole : result ≡ status.Ok → IfSome source (λ bytes. IsAtEnd left × IsWholeRun input (lines_of bytes) before after)
+  pub bad_line : (line : ℕ) → result ≡ status.BadLine line → IfSome source (λ bytes. StopsAtBad input (lines_of bytes) line before after)
+  pub cut_off : result ≡ status.ReadFault → Between source left (λ bytes rest. StopsAtFault input bytes rest before after)
+  pub long_line : result ≡ status.Limit Line → IfSome source (λ bytes. StopsAtLong input (lines_of bytes) before after)
+  pub many_lines : result ≡ status.Limit Lines → IfSome source (λ bytes. StopsAtCount input (lines_of bytes) before after)
+  pub limit : (l : Limit) → result ≡ status.Limit (limited l) → IfSome source (λ bytes. StopsAtLimit input (lines_of bytes) l before after)
+  pub world_fault : result ≡ status.WorldFault → IfSome source (λ bytes. StopsAtWorld input (lines_of bytes) before after)
+  pub front : IfSome source (λ bytes. WritesFront input (lines_of bytes) before after)
 
-abbrev Through : Status → Type 0
-Through result = (result ≡ status.Ok) ⊎ (result ≡ status.NoMemory) ⊎ (result ≡ status.WorldFault)
+-- an accepted input whose run passes no limit passes none
+passes_none : (input : Input) (result : Status) (source left before after : Option (List ℕ)) (bytes : List ℕ) (lines : List ScheduleLine) (l : Limit) →
+    Ends input result source left before after → source ≡ Some bytes → IsAccepted input (lines_of bytes) lines → (run lines).over ≡ None → result ≡ status.Limit (limited l) → ComesThrough result
+passes_none input result source left before after bytes lines l c told ok free e =
+    absurd (no_limit input (lines_of bytes) lines l before after ok.stands free (at_some source bytes _ told (c.limit l e)))
 
--- an accepted schedule whose run passes no limit passes none
-passes_none : (result : Status) (left before after : Option (List ℕ)) (input : List ℕ) (lines : List ScheduleLine) (l : Limit) →
-    Causes result left before after → left ≡ Some input → IsAccepted (lines_of input) lines → (run lines).over ≡ None → result ≡ status.Limit (limited l) → Through result
-passes_none result left before after input lines l c told ok free e =
-    let stop = at_some left input _ told (c.limit l e) in
-    absurd (no_limit (lines_of input) stop.earlier stop.bytes stop.later lines stop.lines stop.line l ok.schedule free stop.split stop.schedule stop.reads stop.passes)
+comes_through : (input : Input) (result : Status) (source left before after : Option (List ℕ)) (bytes : List ℕ) (lines : List ScheduleLine) →
+    Ends input result source left before after → source ≡ Some bytes → IsAccepted input (lines_of bytes) lines → (run lines).over ≡ None
+    → (result ≡ status.ReadFault → ⊥) → (result ≡ status.WriteFault → ⊥) → ComesThrough result
+comes_through input status.Ok source left before after bytes lines c told ok free r w = inl refl
+comes_through input status.BadWords source left before after bytes lines c told ok free r w = absurd (c.words refl)
+comes_through input (status.BadLine line) source left before after bytes lines c told ok free r w =
+    absurd (no_bad input (lines_of bytes) lines line before after ok (at_some source bytes _ told (c.bad_line line refl)))
+comes_through input status.ReadFault source left before after bytes lines c told ok free r w = absurd (r refl)
+comes_through input status.WriteFault source left before after bytes lines c told ok free r w = absurd (w refl)
+comes_through input status.NoMemory source left before after bytes lines c told ok free r w = inr (inl refl)
+comes_through input (status.Limit Packets) source left before after bytes lines c told ok free r w = passes_none input _ source left before after bytes lines bound.Packets c told ok free refl
+comes_through input (status.Limit Bytes) source left before after bytes lines c told ok free r w = passes_none input _ source left before after bytes lines bound.Bytes c told ok free refl
+comes_through input (status.Limit Trace) source left before after bytes lines c told ok free r w = passes_none input _ source left before after bytes lines bound.Trace c told ok free refl
+comes_through input (status.Limit Line) source left before after bytes lines c told ok free r w =
+    let stop = at_some source bytes _ told (c.long_line refl) in
+    absurd (no_long (lines_of bytes) stop.earlier stop.line stop.later ok.within stop.split stop.long)
+comes_through input (status.Limit Lines) source left before after bytes lines c told ok free r w =
+    let stop = at_some source bytes _ told (c.many_lines refl) in
+    absurd (no_more (lines_of bytes) stop.earlier stop.later ok.within stop.split stop.full stop.more)
+comes_through input status.WorldFault source left before after bytes lines c told ok free r w = inr (inr refl)
 
-pub comes_through : (result : Status) (left before after : Option (List ℕ)) (input : List ℕ) (lines : List ScheduleLine) →
-    Causes result left before after → (result ≡ status.ReadFault → ⊥) → (result ≡ status.WriteFault → ⊥) → left ≡ Some input → IsAccepted (lines_of input) lines → (run lines).over ≡ None → Through result
-comes_through status.Ok left before after input lines c r w told ok free = inl refl
-comes_through status.BadWords left before after input lines c r w told ok free = absurd (c.words refl)
-comes_through (status.BadLine line) left before after input lines c r w told ok free =
-    let stop = at_some left input _ told (c.bad_line line refl) in
-    absurd (no_bad (lines_of input) lines line stop.lines ok stop.first)
-comes_through status.ReadFault left before after input lines c r w told ok free = absurd (r refl)
-comes_through status.WriteFault left before after input lines c r w told ok free = absurd (w refl)
-comes_through status.NoMemory left before after input lines c r w told ok free = inr (inl refl)
-comes_through (status.Limit Packets) left before after input lines c r w told ok free = passes_none _ left before after input lines bound.Packets c told ok free refl
-comes_through (status.Limit Bytes) left before after input lines c r w told ok free = passes_none _ left before after input lines bound.Bytes c told ok free refl
-comes_through (status.Limit Trace) left before after input lines c r w told ok free = passes_none _ left before after input lines bound.Trace c told ok free refl
-comes_through (status.Limit Line) left before after input lines c r w told ok free =
-    let stop = at_some left input _ told (c.long_line refl) in
-    absurd (no_long (lines_of input) stop.earlier stop.line stop.later ok.within stop.split stop.long)
-comes_through (status.Limit Lines) left before after input lines c r w told ok free =
-    let stop = at_some left input _ told (c.many_lines refl) in
-    absurd (no_more (lines_of input) stop.earlier stop.later ok.within stop.split stop.full stop.more)
-comes_through status.WorldFault left before after input lines c r w told ok free = inr (inr refl)
+pub keeps_promises : (input : Input) (result : Status) (source left before after : Option (List ℕ)) → Ends input result source left before after → LinePromises input result source left before after
+keeps_promises input result source left before after c = record {
+  whole = c.whole;
+  bad_line = c.bad_line;
+  cut_off = c.cut_off;
+  long_line = c.long_line;
+  many_lines = c.many_lines;
+  limit = c.limit;
+  world_fault = c.world_fault;
+  front = c.front;
+  complete = λ bytes lines told ok free r w. comes_through input result source left before after bytes lines c told ok free r w;
+}
+
+-- ---- what an end is not ----
+
+-- a command that ended by this status alone
+no_limit_is : (l : Limit) → status.NoMemory ≡ status.Limit (limited l) → ⊥
+no_limit_is l e = cc
+
+pub for_memory : (input : Input) (source left before after : Option (List ℕ)) → IfSome source (λ bytes. WritesFront input (lines_of bytes) before after) → LinePromises input status.NoMemory source left before after
+for_memory input source left before after front = keeps_promises input status.NoMemory source left before after (record {
+  words = λ e. cc;
+  whole = λ e. absurd (cc);
+  bad_line = λ line e. absurd (cc);
+  cut_off = λ e. absurd (cc);
+  long_line = λ e. absurd (cc);
+  many_lines = λ e. absurd (cc);
+  limit = λ l e. absurd (no_limit_is l e);
+  world_fault = λ e. absurd (cc);
+  front = front;
+})
+
+world_no_limit : (l : Limit) → status.WorldFault ≡ status.Limit (limited l) → ⊥
+world_no_limit l e = cc
+
+in_opening : (input : Input) (source before after : Option (List ℕ)) → FailsInOpening input before after → IfSome source (λ bytes. StopsAtWorld input (lines_of bytes) before after)
+in_opening input None before after fails = tt
+in_opening input (Some x) before after fails = inl fails
+
+pub for_world : (input : Input) (source left before after : Option (List ℕ)) → FailsInOpening input before after → IfSome source (λ bytes. WritesFront input (lines_of bytes) before after) → LinePromises input status.WorldFault source left before after
+for_world input source left before after fails front = keeps_promises input status.WorldFault source left before after (record {
+  words = λ e. cc;
+  whole = λ e. absurd (cc);
+  bad_line = λ line e. absurd (cc);
+  cut_off = λ e. absurd (cc);
+  long_line = λ e. absurd (cc);
+  many_lines = λ e. absurd (cc);
+  limit = λ l e. absurd (world_no_limit l e);
+  world_fault = λ e. in_opening input source before after fails;
+  front = front;
+})

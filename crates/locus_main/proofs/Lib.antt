@@ -1,8 +1,13 @@
+pub mod Calls
 pub mod Complete
-pub mod Lists
+pub mod Inputs
+pub mod Loads
+pub mod Openings
 pub mod Reading
 pub mod Runs
 pub mod Schedules
+pub mod Standing
 pub mod Told
 pub mod Turns
 pub mod Whole
+pub mod Words

@@ -1,69 +1,38 @@
--- An accepted schedule has no bad line, no long one and none too many, and the run of its first lines passes no limit that the whole
+-- An accepted input has no bad line, no long one and none too many, and the run of its first lines passes no limit that the whole
 -- one doesn't pass.
-use Rattle.std.proofs.Common.{◌≡◌, ℕ, ◌<◌, ◌≤◌, List, [], ◌∷◌, ◌++◌, Option, None, Some, length, refl, ap, sym, ◌∙◌, subst, arith, append_assoc, length-append}
+use Rattle.std.proofs.Common.{◌≡◌, ℕ, ◌<◌, ◌≤◌, List, [], ◌∷◌, ◌++◌, Option, None, Some, length, refl, ap, sym, ◌∙◌, subst, arith, append_assoc, length-append, ⊎_elim}
 use Rattle.std.proofs.lemmas.List.{append-nil}
 use Rattle.std.specs.List.{AllByRecursion}
 use Rattle.schedule_lines.specs.declared.line.ScheduleLine.{ScheduleLine}
-use Rattle.schedule_lines.specs.Schedule.{Reads, ReadsAfter, IsSchedule, MayEnd, IsBadAfter, IsFirstBad}
 use Rattle.the_run.specs.Worlds.{Limit}
 use Rattle.the_run.specs.Runs.{run}
-use Rattle.line_text.proofs.OneReading.{one_line, one_schedule}
-use Rattle.schedule_run.proofs.Ending.{over_lasts}
-use Rattle.locus_main.specs.Runs.{IsWithinLimits, IsAccepted}
+use Rattle.locus_main.specs.Inputs.{Input, StandsFor, MayEndAfter, opening_of}
+use Rattle.locus_main.specs.Runs.{IsWithinLimits, IsAccepted, IsBadAfter, StopsAtBad, StopsAtLimit, PassesInOpening, PassesAtLine}
+use Rattle.locus_main.proofs.Inputs.{stands_first, stands_once, stands_in_front, over_stays}
 
--- a schedule up to a line, that line, and those after it
-pub record Parts (earlier : List ScheduleLine) (before : List (List ℕ)) (b : List ℕ) (rest : List (List ℕ)) (lines : List ScheduleLine) : Type 0 where
-  pub front : List ScheduleLine
-  pub line : ScheduleLine
-  pub back : List ScheduleLine
-  pub split : lines ≡ front ++ line ∷ back
-  pub schedule : ReadsAfter earlier before front
-  pub reads : Reads (earlier ++ front) b line
-  pub later : ReadsAfter ((earlier ++ front) ++ line ∷ []) rest back
+-- a line and what comes after it
+one_line_on : (earlier : List (List ℕ)) (bytes : List ℕ) (rest : List (List ℕ)) → earlier ++ bytes ∷ rest ≡ (earlier ++ bytes ∷ []) ++ rest
+one_line_on earlier bytes rest = sym (append_assoc earlier (bytes ∷ []) rest)
 
-parts : (before : List (List ℕ)) (earlier : List ScheduleLine) (b : List ℕ) (rest : List (List ℕ)) (ls : List ScheduleLine) → ReadsAfter earlier (before ++ b ∷ rest) ls → Parts earlier before b rest ls
-parts [] earlier b rest [] h = absurd h
-parts [] earlier b rest (l ∷ ls) h = record {
-  front = [];
-  line = l;
-  back = ls;
-  split = refl;
-  schedule = tt;
-  reads = subst (λ (s : List ScheduleLine). Reads s b l) (sym (append-nil earlier)) h.0;
-  later = subst (λ (s : List ScheduleLine). ReadsAfter (s ++ l ∷ []) rest ls) (sym (append-nil earlier)) h.1;
-}
-parts (p ∷ ps) earlier b rest [] h = absurd h
-parts (p ∷ ps) earlier b rest (l ∷ ls) h =
-    let more = parts ps (earlier ++ l ∷ []) b rest ls h.1 in
-    let same : (earlier ++ l ∷ []) ++ more.front ≡ earlier ++ l ∷ more.front = append_assoc earlier (l ∷ []) more.front in
-    record {
-      front = l ∷ more.front;
-      line = more.line;
-      back = more.back;
-      split = ap (λ (s : List ScheduleLine). l ∷ s) more.split;
-      schedule = (h.0, more.schedule);
-      reads = subst (λ (s : List ScheduleLine). Reads s b more.line) same more.reads;
-      later = subst (λ (s : List ScheduleLine). ReadsAfter (s ++ more.line ∷ []) rest more.back) same more.later;
-    }
+-- no line of an accepted input is bad
+no_bad_after : (input : Input) (earlier later : List (List ℕ)) (lines found : List ScheduleLine) →
+    StandsFor input (earlier ++ later) lines → MayEndAfter input lines → StandsFor input earlier found → IsBadAfter input earlier found later → ⊥
+no_bad_after input earlier [] lines found whole ends stands bad =
+    let same : lines ≡ found = stands_once input earlier lines found (subst (λ (bs : List (List ℕ)). StandsFor input bs lines) (append-nil earlier) whole) stands in
+    bad (subst (MayEndAfter input) same ends)
+no_bad_after input earlier (b ∷ rest) lines found whole ends stands bad =
+    let front = stands_in_front input (earlier ++ b ∷ []) rest lines (subst (λ (bs : List (List ℕ)). StandsFor input bs lines) (one_line_on earlier b rest) whole) in
+    bad front.0 front.1
 
--- no line of a schedule is bad
-no_bad_after : (rest before : List (List ℕ)) (lines found : List ScheduleLine) → IsSchedule (before ++ rest) lines → MayEnd lines → IsSchedule before found → IsBadAfter rest found → ⊥
-no_bad_after [] before lines found whole ends schedule bad =
-    let same = one_schedule before lines found (subst (λ (bs : List (List ℕ)). IsSchedule bs lines) (append-nil before) whole) schedule in
-    bad (subst MayEnd same ends)
-no_bad_after (b ∷ rest) before lines found whole ends schedule bad =
-    let p = parts before [] b rest lines whole in
-    bad p.line (subst (λ (s : List ScheduleLine). Reads s b p.line) (one_schedule before p.front found p.schedule schedule) p.reads)
-
-pub no_bad : (all : List (List ℕ)) (lines : List ScheduleLine) (n : ℕ) (found : List ScheduleLine) → IsAccepted all lines → IsFirstBad all n found → ⊥
-no_bad all lines n found ok first =
-    no_bad_after first.rest first.before lines found (subst (λ (bs : List (List ℕ)). IsSchedule bs lines) first.split ok.schedule) ok.ends first.schedule first.bad
+pub no_bad : (input : Input) (all : List (List ℕ)) (lines : List ScheduleLine) (n : ℕ) (t u : Option (List ℕ)) → IsAccepted input all lines → StopsAtBad input all n t u → ⊥
+no_bad input all lines n t u ok stop =
+    no_bad_after input stop.earlier stop.later lines stop.lines (subst (λ (bs : List (List ℕ)). StandsFor input bs lines) stop.split ok.stands) ok.ends stop.stands stop.bad
 
 all_at : {X : Type 0} (P : X → Type 0) (xs : List X) (x : X) (ys : List X) → AllByRecursion P (xs ++ x ∷ ys) → P x
 all_at P [] x ys h = h.0
 all_at P (z ∷ zs) x ys h = all_at P zs x ys h.1
 
--- no line of an accepted schedule is too long
+-- no line of an accepted input is too long
 pub no_long : (all earlier : List (List ℕ)) (line : List ℕ) (later : List (List ℕ)) → IsWithinLimits all → all ≡ earlier ++ line ∷ later → 16384 < length line → ⊥
 no_long all earlier line later within split long =
     let within' = subst IsWithinLimits split within in
@@ -77,13 +46,13 @@ over_both : (o : Option Limit) (limit : Limit) → o ≡ None → o ≡ Some lim
 over_both o limit e f = cc
 
 -- a run that passes no limit passes none in its first lines
-pub no_limit : (all earlier : List (List ℕ)) (bytes : List ℕ) (later : List (List ℕ)) (lines found : List ScheduleLine) (line : ScheduleLine) (limit : Limit) →
-    IsSchedule all lines → (run lines).over ≡ None → all ≡ earlier ++ bytes ∷ later → IsSchedule earlier found → Reads found bytes line → (run (found ++ line ∷ [])).over ≡ Some limit → ⊥
-no_limit all earlier bytes later lines found line limit whole free split schedule reads passes =
-    let p = parts earlier [] bytes later lines (subst (λ (bs : List (List ℕ)). IsSchedule bs lines) split whole) in
-    let fronts : p.front ≡ found = one_schedule earlier p.front found p.schedule schedule in
-    let last : p.line ≡ line = one_line found bytes p.line line (subst (λ (s : List ScheduleLine). Reads s bytes p.line) fronts p.reads) reads in
-    let same : p.front ++ p.line ∷ [] ≡ found ++ line ∷ [] = ap (λ (s : List ScheduleLine). s ++ p.line ∷ []) fronts ∙ ap (λ (l : ScheduleLine). found ++ l ∷ []) last in
-    let past : (run (p.front ++ p.line ∷ [])).over ≡ Some limit = ap (λ (s : List ScheduleLine). (run s).over) same ∙ passes in
-    let lasts : (run ((p.front ++ p.line ∷ []) ++ p.back)).over ≡ Some limit = over_lasts later (p.front ++ p.line ∷ []) p.back limit past p.later in
-    over_both (run lines).over limit free (ap (λ (s : List ScheduleLine). (run s).over) (p.split ∙ sym (append_assoc p.front (p.line ∷ []) p.back)) ∙ lasts)
+no_limit_in_front : (input : Input) (all front rest : List (List ℕ)) (lines some : List ScheduleLine) (limit : Limit) →
+    StandsFor input all lines → (run lines).over ≡ None → all ≡ front ++ rest → StandsFor input front some → (run some).over ≡ Some limit → ⊥
+no_limit_in_front input all front rest lines some limit whole free split stands passes =
+    over_both (run lines).over limit free (over_stays input front rest lines some limit (subst (λ (bs : List (List ℕ)). StandsFor input bs lines) split whole) stands passes)
+
+pub no_limit : (input : Input) (all : List (List ℕ)) (lines : List ScheduleLine) (limit : Limit) (t u : Option (List ℕ)) → StandsFor input all lines → (run lines).over ≡ None → StopsAtLimit input all limit t u → ⊥
+no_limit input all lines limit t u whole free stop = ⊎_elim
+    (λ (opens : PassesInOpening input limit t u). no_limit_in_front input all [] all lines (opening_of input) limit whole free refl (stands_first input) opens.passes)
+    (λ (at : PassesAtLine input all limit t u). no_limit_in_front input all (at.earlier ++ at.bytes ∷ []) at.later lines at.longer limit whole free (at.split ∙ one_line_on at.earlier at.bytes at.later) at.next at.passes)
+    stop

@@ -1,23 +1,19 @@
 -- Which turns end a run, and how.
 use Rattle.std.proofs.Common.{◌≡◌, ℕ, ◌≤◌, arith, ⊎_elim, Bool, true, false, List, [], ◌∷◌, ◌++◌, Option, None, Some, Result, Ok, Err, ◌⊎◌, ap, sym, subst, ◌∙◌, refl, inr}
 use Rattle.std.specs.Prelude.{OnOk, OnErr, IfErr, IsErrAnd}
-use Rattle.std.specs.Io.KnownBytes.{Appends, Keeps}
+use Rattle.std.specs.Io.KnownBytes.{Keeps}
 use Rattle.std.proofs.lemmas.Bool.{false≢true}
-use Rattle.locus_io.specs.Causes.{AppendsFront, Rose}
+use Rattle.locus_io.specs.Causes.{Rose}
 use Rattle.locus_io.specs.declared.traits.WriteFault.{WriteFault}
 use Rattle.locus_io.specs.declared.traits.WriteFault.TheVariants as write
-use Rattle.schedule_lines.specs.declared.line.ScheduleLine.{ScheduleLine}
 use Rattle.the_run.specs.Worlds.{Limit}
 use Rattle.the_run.specs.Worlds as bound
-use Rattle.the_run.specs.Runs.{run, printed}
 use Rattle.world.specs.declared.fault.WorldFault.{WorldFault}
 use Rattle.world.specs.declared.fault.WorldFault.TheVariants as world
 use Rattle.schedule_run.specs.declared.fault.RunFault.{RunFault}
 use Rattle.schedule_run.specs.declared.fault.RunFault.TheVariants.{Bad, NoMemory, World}
-use Rattle.schedule_run.specs.declared.runner.ScheduleRunner.{ScheduleRunner}
-use Rattle.schedule_run.specs.Standing.{HasRun, RunsNext}
 use Rattle.locus_main.specs.Codes.{ends_written, limited, status_of}
-use Rattle.locus_main.specs.Turns.{status_of_line, ends_turn, HasWritten, Goes, IsCutShort}
+use Rattle.locus_main.specs.Turns.{status_of_line, ends_turn, ends_telling}
 use Rattle.locus_main.specs.declared.status.Status.{Status}
 use Rattle.locus_main.specs.declared.status.Status.TheVariants as status
 use Rattle.locus_main.specs.declared.status.Limited.{Limited}
@@ -28,36 +24,28 @@ pub line_is_bad : (f : RunFault) (n line : ℕ) → status_of_line f n ≡ statu
 line_is_bad Bad n line e = (refl, cc)
 line_is_bad NoMemory n line e = absurd (cc)
 line_is_bad (World world.NoMemory) n line e = absurd (cc)
-line_is_bad (World world.UnfitPacket) n line e = absurd (cc)
-line_is_bad (World world.UnfitValue) n line e = absurd (cc)
-line_is_bad (World world.Disk) n line e = absurd (cc)
+line_is_bad (World _) n line e = absurd (cc)
 
 -- a fault ends a turn
 pub faults_end : (f : RunFault) (n : ℕ) → ends_turn (status_of_line f n) ≡ true
 faults_end Bad n = refl
 faults_end NoMemory n = refl
 faults_end (World world.NoMemory) n = refl
-faults_end (World world.UnfitPacket) n = refl
-faults_end (World world.UnfitValue) n = refl
-faults_end (World world.Disk) n = refl
+faults_end (World _) n = refl
 
 -- and is no limit
 pub no_limit_is : (f : RunFault) (n : ℕ) (what : Limited) → status_of_line f n ≡ status.Limit what → ⊥
 no_limit_is Bad n what e = cc
 no_limit_is NoMemory n what e = cc
 no_limit_is (World world.NoMemory) n what e = cc
-no_limit_is (World world.UnfitPacket) n what e = cc
-no_limit_is (World world.UnfitValue) n what e = cc
-no_limit_is (World world.Disk) n what e = cc
+no_limit_is (World _) n what e = cc
 
 -- nor a fault of a write
 pub no_write_is : (f : RunFault) (n : ℕ) → status_of_line f n ≡ status.WriteFault → ⊥
 no_write_is Bad n e = cc
 no_write_is NoMemory n e = cc
 no_write_is (World world.NoMemory) n e = cc
-no_write_is (World world.UnfitPacket) n e = cc
-no_write_is (World world.UnfitValue) n e = cc
-no_write_is (World world.Disk) n e = cc
+no_write_is (World _) n e = cc
 
 -- only a fault of the world ends a run as one
 pub world_is : (f : RunFault) (n : ℕ) → status_of_line f n ≡ status.WorldFault → (x : WorldFault) × (f ≡ World x)
@@ -66,7 +54,7 @@ world_is NoMemory n e = absurd (cc)
 world_is (World x) n e = (x, refl)
 
 -- the limits of a run end a turn
-pub limits_end : (l : Limit) → ends_turn (status.Limit (limited l)) ≡ true
+pub limits_end : (l : Limit) → ends_telling (status.Limit (limited l)) ≡ true
 limits_end bound.Packets = refl
 limits_end bound.Bytes = refl
 limits_end bound.Trace = refl
@@ -86,6 +74,25 @@ limited_once bound.Trace bound.Packets e = absurd (let f = one_limited (limited 
 limited_once bound.Trace bound.Bytes e = absurd (let f = one_limited (limited bound.Trace) (limited bound.Bytes) e in cc)
 limited_once bound.Trace bound.Trace e = refl
 
+-- telling ends a turn as it ends a run
+pub telling_ends : (s : Status) → ends_telling s ≡ true → ends_turn s ≡ true
+telling_ends status.Ok h = h
+telling_ends status.BadWords h = h
+telling_ends (status.BadLine line) h = refl
+telling_ends status.ReadFault h = h
+telling_ends status.WriteFault h = h
+telling_ends status.NoMemory h = h
+telling_ends (status.Limit what.Packets) h = h
+telling_ends (status.Limit what.Bytes) h = h
+telling_ends (status.Limit what.Trace) h = h
+telling_ends (status.Limit what.Line) h = h
+telling_ends (status.Limit what.Lines) h = h
+telling_ends status.WorldFault h = refl
+
+-- telling doesn't end a run otherwise
+pub telling_not : (s t : Status) → ends_telling s ≡ true → ends_telling t ≡ false → s ≡ t → ⊥
+telling_not s t h f e = false≢true (sym f ∙ (ap ends_telling (sym e) ∙ h))
+
 -- a turn doesn't end a run otherwise
 pub ends_not : (s t : Status) → ends_turn s ≡ true → ends_turn t ≡ false → s ≡ t → ⊥
 ends_not s t h f e = false≢true (sym f ∙ (ap ends_turn (sym e) ∙ h))
@@ -97,41 +104,8 @@ pub keeps_same : (a : Option (List ℕ)) → Keeps a a
 keeps_same None = tt
 keeps_same (Some xs) = refl
 
--- the line, with its text taken and its limit told
-pub goes_on : (lines : List ScheduleLine) (bytes fresh : List ℕ) (limit : Option Limit) (mid new : ScheduleRunner) (t u : Option (List ℕ)) →
-    (n : RunsNext lines bytes (printed (run lines)) mid)
-    → ((ls : List ScheduleLine) (taken : List ℕ) → HasRun ls taken mid → printed (run ls) ≡ taken ++ fresh)
-    → ((ls : List ScheduleLine) (taken : List ℕ) → HasRun ls taken mid → HasRun ls (printed (run ls)) new)
-    → ((ls : List ScheduleLine) (taken : List ℕ) → HasRun ls taken new → limit ≡ (run ls).over)
-    → Appends t u fresh → Goes lines bytes limit new t u
-goes_on lines bytes fresh limit mid new t u n tells takes passes written =
-    let ls : List ScheduleLine = lines ++ n.line ∷ [] in
-    let stands : HasWritten ls new = takes ls (printed (run lines)) n.ran in
-    record {
-      line = n.line;
-      reads = n.reads;
-      ran = stands;
-      passes = sym (passes ls (printed (run ls)) stands);
-      fresh = fresh;
-      told = tells ls (printed (run lines)) n.ran;
-      written = written;
-    }
-
--- the line, with a front of its text written
-pub goes_in_part : (lines : List ScheduleLine) (bytes fresh : List ℕ) (mid : ScheduleRunner) (t u : Option (List ℕ)) →
-    (n : RunsNext lines bytes (printed (run lines)) mid)
-    → ((ls : List ScheduleLine) (taken : List ℕ) → HasRun ls taken mid → printed (run ls) ≡ taken ++ fresh)
-    → AppendsFront t u fresh → IsCutShort lines bytes t u
-goes_in_part lines bytes fresh mid t u n tells written = inr (record {
-  line = n.line;
-  reads = n.reads;
-  fresh = fresh;
-  told = tells (lines ++ n.line ∷ []) (printed (run lines)) n.ran;
-  written = written;
-})
-
 -- what a write that fails comes to
-pub write_ends : (f : WriteFault) → ends_turn (status_of f) ≡ true
+pub write_ends : (f : WriteFault) → ends_telling (status_of f) ≡ true
 write_ends write.Failed = refl
 write_ends write.NoMemory = refl
 
@@ -159,8 +133,8 @@ write_no_limit write.NoMemory what e = cc
 abbrev pub Stopped : Option Limit → Status → Type 0
 Stopped passed s = (limit : Limit) × (passed ≡ Some limit) × (s ≡ status.Limit (limited limit))
 
-pub stopped_ends : (o : Option Limit) (s : Status) → Stopped o s → ends_turn s ≡ true
-stopped_ends o s h = ap ends_turn h.2 ∙ limits_end h.0
+pub stopped_ends : (o : Option Limit) (s : Status) → Stopped o s → ends_telling s ≡ true
+stopped_ends o s h = ap ends_telling h.2 ∙ limits_end h.0
 
 pub stopped_at : (o : Option Limit) (s : Status) (limit : Limit) → Stopped o s → s ≡ status.Limit (limited limit) → o ≡ Some limit
 stopped_at o s limit h e = h.1 ∙ ap (λ (l : Limit). Some l) (limited_once h.0 limit (sym h.2 ∙ e))
@@ -204,6 +178,10 @@ pub then_err : {T E : Type 0} {P Q : E → Type 0} (r : Result T E) → IfErr r 
 then_err (Ok x) p f = tt
 then_err (Err y) p f = f y p
 
+pub then_on_err : {T E P Q : Type 0} (r : Result T E) → OnErr r P → (P → Q) → OnErr r Q
+then_on_err (Ok x) p f = tt
+then_on_err (Err y) p f = f p
+
 pub at_err : {T E : Type 0} (P : E → Type 0) (r : Result T E) (e : E) → IfErr r P → r ≡ Err e → P e
 at_err P (Ok x) e p q = absurd (cc)
 at_err P (Err y) e p q = subst P (same_err y e q) p
@@ -216,9 +194,9 @@ pub hands_no_ok : (P : Type 0) (r : Result (Unit {0}) Status) (f : WriteFault) �
 hands_no_ok P (Ok x) f m = absurd m
 hands_no_ok P (Err s) f m = tt
 
-pub hands_ends : (r : Result (Unit {0}) Status) (f : WriteFault) → HandsOn r f → IfErr r (λ s. ends_turn s ≡ true)
+pub hands_ends : (r : Result (Unit {0}) Status) (f : WriteFault) → HandsOn r f → IfErr r (λ s. ends_telling s ≡ true)
 hands_ends (Ok x) f m = tt
-hands_ends (Err s) f m = ap ends_turn m ∙ write_ends f
+hands_ends (Err s) f m = ap ends_telling m ∙ write_ends f
 
 pub hands_held : (P : Type 0) (r : Result (Unit {0}) Status) (f : WriteFault) → HandsOn r f → IfErr r (λ s. ends_written s ≡ true → P)
 hands_held P (Ok x) f m = tt

@@ -4,6 +4,10 @@ use Rattle.locus_io.specs.declared.traits.WriteFault.{WriteFault}
 use Rattle.locus_io.specs.declared.traits.WriteFault.TheVariants as write
 use Rattle.the_run.specs.Worlds.{Limit}
 use Rattle.the_run.specs.Worlds as world
+use Rattle.world.specs.declared.fault.WorldFault.TheVariants as fault
+use Rattle.run_book.specs.Ledgers.{limit_named}
+use Rattle.load_run.specs.declared.fault.LoadFault.{LoadFault}
+use Rattle.load_run.specs.declared.fault.LoadFault.TheVariants as load
 use Rattle.locus_main.specs.declared.status.Status.{Status}
 use Rattle.locus_main.specs.declared.status.Status.TheVariants as status
 use Rattle.locus_main.specs.declared.status.Limited.{Limited}
@@ -31,6 +35,19 @@ ends_written status.NoMemory = false
 ends_written (status.Limit what) = true
 ends_written status.WorldFault = true
 
+-- a load may end so
+abbrev pub ends_load : Status → Bool
+ends_load status.Ok = true
+ends_load status.BadWords = false
+ends_load (status.BadLine line) = false
+ends_load status.ReadFault = false
+ends_load status.WriteFault = true
+ends_load status.NoMemory = true
+ends_load (status.Limit Line) = false
+ends_load (status.Limit Lines) = false
+ends_load (status.Limit _) = true
+ends_load status.WorldFault = true
+
 -- a limit's name in a message
 abbrev pub limit_word : Limited → List ℕ
 limit_word Packets = codes "packets"
@@ -49,3 +66,10 @@ limited world.Trace = Trace
 abbrev pub status_of : WriteFault → Status
 status_of write.Failed = status.WriteFault
 status_of write.NoMemory = status.NoMemory
+
+-- what a load comes to where it was not run to its end
+abbrev pub status_of_load : LoadFault → Status
+status_of_load (load.Limit passed) = status.Limit (limited (limit_named passed))
+status_of_load load.NoMemory = status.NoMemory
+status_of_load (load.World fault.NoMemory) = status.NoMemory
+status_of_load (load.World _) = status.WorldFault

@@ -1,113 +1,144 @@
--- What a run of a schedule has written when it ends, and where it ends.
-use Rattle.std.specs.Prelude.{ℕ, ◌≡◌, ◌<◌, ◌≤◌, List, [], ◌∷◌, ◌++◌, length, take, None, Some}
+-- What the run of an input has written when it ends, and where it ends.
+use Rattle.std.specs.Prelude.{ℕ, ◌≡◌, ◌≢◌, ◌<◌, ◌≤◌, ◌+◌, ◌⊎◌, List, [], ◌∷◌, ◌++◌, length, take, None, Some}
 use Rattle.std.specs.declared.option.Option.{Option}
 use Rattle.std.specs.List.{AllByRecursion}
-use Rattle.std.specs.Io.KnownBytes.{Appends}
+use Rattle.std.specs.Io.KnownBytes.{Appends, Keeps}
 use Rattle.locus_io.specs.Causes.{AppendsFront}
 use Rattle.line_reader.specs.Reading.{whole_lines}
 use Rattle.schedule_lines.specs.declared.line.ScheduleLine.{ScheduleLine}
-use Rattle.schedule_lines.specs.Schedule.{Reads, IsSchedule, MayEnd, IsFirstBad}
 use Rattle.the_run.specs.Worlds.{Limit}
-use Rattle.the_run.specs.Runs.{run, printed}
+use Rattle.the_run.specs.Runs.{run}
+use Rattle.locus_main.specs.Inputs.{Input, StandsFor, MayEndAfter, opening_of, output_of}
 
 -- there are at most 1,000,000 lines, of at most 16,384 bytes each
 pub record IsWithinLimits (lines : List (List ℕ)) : Type 0 where
   pub few : length lines ≤ 1000000
   pub short : AllByRecursion (λ line. length line ≤ 16384) lines
 
--- the run of these lines passes no limit, and the text of its trace is written
-pub record Writes (lines : List ScheduleLine) (before after : Option (List ℕ)) : Type 0 where
+-- the run of these lines passes no limit, and its output is written
+pub record Writes (input : Input) (lines : List ScheduleLine) (before after : Option (List ℕ)) : Type 0 where
   pub within : (run lines).over ≡ None
-  pub written : Appends before after (printed (run lines))
+  pub written : Appends before after (output_of input lines)
 
--- the lines of bytes are those of a schedule, and their run is written
-pub record AreRun (all : List (List ℕ)) (before after : Option (List ℕ)) : Type 0 where
+-- the lines of bytes are those of the input, and their run is written
+pub record AreRun (input : Input) (all : List (List ℕ)) (before after : Option (List ℕ)) : Type 0 where
   pub lines : List ScheduleLine
-  pub schedule : IsSchedule all lines
+  pub stands : StandsFor input all lines
   pub within : IsWithinLimits all
-  pub writes : Writes lines before after
+  pub writes : Writes input lines before after
 
--- the lines of bytes are these lines, a schedule with its whole header, within the limits
-pub record IsAccepted (all : List (List ℕ)) (lines : List ScheduleLine) : Type 0 where
-  pub schedule : IsSchedule all lines
-  pub ends : MayEnd lines
+-- the lines of bytes stand for these lines, after which the input may end, and are within the limits
+pub record IsAccepted (input : Input) (all : List (List ℕ)) (lines : List ScheduleLine) : Type 0 where
+  pub stands : StandsFor input all lines
+  pub ends : MayEndAfter input lines
   pub within : IsWithinLimits all
 
 -- the lines of bytes are accepted, and their run is written
-pub record IsWholeRun (all : List (List ℕ)) (before after : Option (List ℕ)) : Type 0 where
+pub record IsWholeRun (input : Input) (all : List (List ℕ)) (before after : Option (List ℕ)) : Type 0 where
   pub lines : List ScheduleLine
-  pub accepted : IsAccepted all lines
-  pub writes : Writes lines before after
+  pub accepted : IsAccepted input all lines
+  pub writes : Writes input lines before after
 
--- the program stops at the first bad line, and the run of the lines before it is written
-pub record StopsAtBad (all : List (List ℕ)) (number : ℕ) (before after : Option (List ℕ)) : Type 0 where
+-- the line may not stand after the earlier ones: with it they stand for no lines of a run
+abbrev pub Refuses : Input → List (List ℕ) → List ℕ → Type 0
+Refuses input earlier bytes = (lines : List ScheduleLine) → StandsFor input (earlier ++ bytes ∷ []) lines → ⊥
+
+-- what is left after the earlier lines begins with a line that may not stand there; or nothing is left, and the input may not end
+-- there
+abbrev pub IsBadAfter : Input → List (List ℕ) → List ScheduleLine → List (List ℕ) → Type 0
+IsBadAfter input earlier lines [] = MayEndAfter input lines → ⊥
+IsBadAfter input earlier lines (bytes ∷ rest) = Refuses input earlier bytes
+
+-- The program stops at the first bad line, which has this number from 1, and the run of the lines before it is written.
+pub record StopsAtBad (input : Input) (all : List (List ℕ)) (number : ℕ) (before after : Option (List ℕ)) : Type 0 where
+  pub earlier : List (List ℕ)
+  pub later : List (List ℕ)
+  pub split : all ≡ earlier ++ later
+  pub numbered : number ≡ length earlier + 1
   pub lines : List ScheduleLine
-  pub first : IsFirstBad all number lines
+  pub stands : StandsFor input earlier lines
+  pub bad : IsBadAfter input earlier lines later
   pub within : IsWithinLimits (take number all)
-  pub writes : Writes lines before after
+  pub writes : Writes input lines before after
 
 -- the program stops at a line that is too long
-pub record StopsAtLong (all : List (List ℕ)) (before after : Option (List ℕ)) : Type 0 where
+pub record StopsAtLong (input : Input) (all : List (List ℕ)) (before after : Option (List ℕ)) : Type 0 where
   pub earlier : List (List ℕ)
   pub line : List ℕ
   pub later : List (List ℕ)
   pub split : all ≡ earlier ++ line ∷ later
   pub few : length earlier < 1000000
   pub long : 16384 < length line
-  pub runs : AreRun earlier before after
+  pub runs : AreRun input earlier before after
 
 -- the program stops at a line past the last that there may be
-pub record StopsAtCount (all : List (List ℕ)) (before after : Option (List ℕ)) : Type 0 where
+pub record StopsAtCount (input : Input) (all : List (List ℕ)) (before after : Option (List ℕ)) : Type 0 where
   pub earlier : List (List ℕ)
   pub later : List (List ℕ)
   pub split : all ≡ earlier ++ later
   pub full : length earlier ≡ 1000000
   pub more : 0 < length later
-  pub runs : AreRun earlier before after
+  pub runs : AreRun input earlier before after
 
 -- The program stops where the source fails. Of the bytes that were taken from it, the lines that end with a line feed were
 -- run, and no other.
-pub record StopsAtFault (input left : List ℕ) (before after : Option (List ℕ)) : Type 0 where
+pub record StopsAtFault (input : Input) (bytes left : List ℕ) (before after : Option (List ℕ)) : Type 0 where
   pub taken : List ℕ
-  pub split : input ≡ taken ++ left
+  pub split : bytes ≡ taken ++ left
   pub read : List (List ℕ)
   pub whole : read ≡ whole_lines taken
-  pub runs : AreRun read before after
+  pub runs : AreRun input read before after
 
--- The program stops at the first line in which the run passes a limit, and this is the limit. The run's text is written: it has
--- the events before the one that passes it.
-pub record StopsAtLimit (all : List (List ℕ)) (limit : Limit) (before after : Option (List ℕ)) : Type 0 where
+-- the run of the opening passes the limit, and its output is written
+pub record PassesInOpening (input : Input) (limit : Limit) (before after : Option (List ℕ)) : Type 0 where
+  pub passes : (run (opening_of input)).over ≡ Some limit
+  pub written : Appends before after (output_of input (opening_of input))
+
+-- The run passes the limit in this line and not before. Its output is written: it has the events before the one that passes the
+-- limit.
+pub record PassesAtLine (input : Input) (all : List (List ℕ)) (limit : Limit) (before after : Option (List ℕ)) : Type 0 where
   pub earlier : List (List ℕ)
   pub bytes : List ℕ
   pub later : List (List ℕ)
   pub split : all ≡ earlier ++ bytes ∷ later
-  pub lines : List ScheduleLine
-  pub line : ScheduleLine
-  pub schedule : IsSchedule earlier lines
-  pub reads : Reads lines bytes line
   pub small : IsWithinLimits (earlier ++ bytes ∷ [])
+  pub lines : List ScheduleLine
+  pub stands : StandsFor input earlier lines
   pub within : (run lines).over ≡ None
-  pub passes : (run (lines ++ line ∷ [])).over ≡ Some limit
-  pub written : Appends before after (printed (run (lines ++ line ∷ [])))
+  pub longer : List ScheduleLine
+  pub next : StandsFor input (earlier ++ bytes ∷ []) longer
+  pub passes : (run longer).over ≡ Some limit
+  pub written : Appends before after (output_of input longer)
 
--- The program stops at a line that the world could not do, though it may stand there. The run of the lines before it is written.
-pub record StopsAtWorld (all : List (List ℕ)) (before after : Option (List ℕ)) : Type 0 where
+-- the program stops where the run passes this limit
+abbrev pub StopsAtLimit : Input → List (List ℕ) → Limit → Option (List ℕ) → Option (List ℕ) → Type 0
+StopsAtLimit input all limit before after = PassesInOpening input limit before after ⊎ PassesAtLine input all limit before after
+
+-- the world could not do a line of the opening, and nothing is written
+pub record FailsInOpening (input : Input) (before after : Option (List ℕ)) : Type 0 where
+  pub opens : opening_of input ≢ []
+  pub kept : Keeps before after
+
+-- The world could not do this line, though it may stand there. The run of the lines before it is written.
+pub record FailsAtLine (input : Input) (all : List (List ℕ)) (before after : Option (List ℕ)) : Type 0 where
   pub earlier : List (List ℕ)
   pub bytes : List ℕ
   pub later : List (List ℕ)
   pub split : all ≡ earlier ++ bytes ∷ later
-  pub lines : List ScheduleLine
-  pub line : ScheduleLine
-  pub schedule : IsSchedule earlier lines
-  pub reads : Reads lines bytes line
+  pub longer : List ScheduleLine
+  pub next : StandsFor input (earlier ++ bytes ∷ []) longer
   pub small : IsWithinLimits (earlier ++ bytes ∷ [])
-  pub writes : Writes lines before after
+  pub runs : AreRun input earlier before after
 
--- a front of the text of the run of some first lines is written
-pub record WritesFront (all : List (List ℕ)) (before after : Option (List ℕ)) : Type 0 where
+-- the program stops where the world could not do a line
+abbrev pub StopsAtWorld : Input → List (List ℕ) → Option (List ℕ) → Option (List ℕ) → Type 0
+StopsAtWorld input all before after = FailsInOpening input before after ⊎ FailsAtLine input all before after
+
+-- a front of the output of the run of some first lines is written
+pub record WritesFront (input : Input) (all : List (List ℕ)) (before after : Option (List ℕ)) : Type 0 where
   pub earlier : List (List ℕ)
   pub later : List (List ℕ)
   pub split : all ≡ earlier ++ later
   pub lines : List ScheduleLine
-  pub schedule : IsSchedule earlier lines
-  pub written : AppendsFront before after (printed (run lines))
+  pub stands : StandsFor input earlier lines
+  pub written : AppendsFront before after (output_of input lines)

@@ -4,17 +4,15 @@ use Rattle.std.specs.declared.option.Option.{Option}
 use Rattle.std.specs.Io.KnownBytes.{Appends, Keeps}
 use Rattle.locus_io.specs.Causes.{AppendsFront}
 use Rattle.schedule_lines.specs.declared.line.ScheduleLine.{ScheduleLine}
-use Rattle.schedule_lines.specs.Schedule.{Reads}
 use Rattle.the_run.specs.Worlds.{Limit}
-use Rattle.the_run.specs.Runs.{run, printed}
+use Rattle.the_run.specs.Runs.{run}
 use Rattle.world.specs.declared.fault.WorldFault.TheVariants as world
 use Rattle.schedule_run.specs.declared.fault.RunFault.{RunFault}
 use Rattle.schedule_run.specs.declared.fault.RunFault.TheVariants.{Bad, NoMemory, World}
-use Rattle.schedule_run.specs.declared.runner.ScheduleRunner.{ScheduleRunner}
-use Rattle.schedule_run.specs.Standing.{HasRun}
 use Rattle.locus_main.specs.declared.status.Status.{Status}
 use Rattle.locus_main.specs.declared.status.Status.TheVariants as status
 use Rattle.locus_main.specs.declared.status.Limited.TheVariants.{Line, Lines}
+use Rattle.locus_main.specs.Inputs.{Input, StandsFor, output_of}
 
 -- what a run comes to where the line of this number is not done
 abbrev pub status_of_line : RunFault → ℕ → Status
@@ -36,33 +34,57 @@ ends_turn (status.Limit Lines) = false
 ends_turn (status.Limit _) = true
 ends_turn status.WorldFault = true
 
--- the runner has run these lines, and all their text was taken
-abbrev pub HasWritten : List ScheduleLine → ScheduleRunner → Type 0
-HasWritten lines r = HasRun lines (printed (run lines)) r
+-- telling what is fresh may end a run so
+abbrev pub ends_telling : Status → Bool
+ends_telling (status.BadLine line) = false
+ends_telling status.WorldFault = false
+ends_telling s = ends_turn s
 
--- no line that may stand after these lines is spelled so
-abbrev pub Refuses : List ScheduleLine → List ℕ → Type 0
-Refuses lines bytes = (l : ScheduleLine) → Reads lines bytes l → ⊥
+-- What runs lines: after these lines of bytes, which stand for these lines of a run, and with these bytes of the output taken.
+abbrev pub Standing : Type 0 → Type 1
+Standing R = List (List ℕ) → List ScheduleLine → List ℕ → R → Type 0
 
--- The bytes are a line that may stand after these lines. The runner has run it too, which passes this limit, or none; the rest of
--- the text is written.
-pub record Goes (lines : List ScheduleLine) (bytes : List ℕ) (limit : Option Limit) (new : ScheduleRunner) (before after : Option (List ℕ)) : Type 0 where
-  pub line : ScheduleLine
-  pub reads : Reads lines bytes line
-  pub ran : HasWritten (lines ++ line ∷ []) new
-  pub passes : (run (lines ++ line ∷ [])).over ≡ limit
+-- these lines are run, and all their output was taken
+abbrev pub HasTold : {R : Type 0} → Standing R → Input → List (List ℕ) → List ScheduleLine → R → Type 0
+HasTold stands input all lines r = stands all lines (output_of input lines) r
+
+-- with these bytes as their last line the lines stand for some lines of a run, and these are run
+pub record RunsOn {R : Type 0} (stands : Standing R) (input : Input) (all : List (List ℕ)) (bytes taken : List ℕ) (new : R) : Type 0 where
+  pub longer : List ScheduleLine
+  pub next : StandsFor input (all ++ bytes ∷ []) longer
+  pub ran : stands (all ++ bytes ∷ []) longer taken new
+
+-- The rest of the output is taken and written. The run passes this limit, or none.
+pub record Tells {R : Type 0} (stands : Standing R) (input : Input) (all : List (List ℕ)) (lines : List ScheduleLine) (taken : List ℕ) (limit : Option Limit) (new : R) (before after : Option (List ℕ)) : Type 0 where
+  pub told : HasTold stands input all lines new
+  pub passes : (run lines).over ≡ limit
   pub fresh : List ℕ
-  pub told : printed (run (lines ++ line ∷ [])) ≡ printed (run lines) ++ fresh
+  pub rest : output_of input lines ≡ taken ++ fresh
   pub written : Appends before after fresh
 
--- the bytes are a line that may stand after these lines, and a front of the rest of the text is written
-pub record GoesInPart (lines : List ScheduleLine) (bytes : List ℕ) (before after : Option (List ℕ)) : Type 0 where
-  pub line : ScheduleLine
-  pub reads : Reads lines bytes line
+-- a front of the rest of the output is written
+pub record TellsFront (input : Input) (lines : List ScheduleLine) (taken : List ℕ) (before after : Option (List ℕ)) : Type 0 where
   pub fresh : List ℕ
-  pub told : printed (run (lines ++ line ∷ [])) ≡ printed (run lines) ++ fresh
+  pub rest : output_of input lines ≡ taken ++ fresh
   pub written : AppendsFront before after fresh
 
--- nothing is written, or a front of the rest of the text
-abbrev pub IsCutShort : List ScheduleLine → List ℕ → Option (List ℕ) → Option (List ℕ) → Type 0
-IsCutShort lines bytes before after = Keeps before after ⊎ GoesInPart lines bytes before after
+-- With these bytes as their last line the lines are run, and the rest of the output is told.
+pub record Goes {R : Type 0} (stands : Standing R) (input : Input) (all : List (List ℕ)) (lines : List ScheduleLine) (bytes : List ℕ) (limit : Option Limit) (new : R) (before after : Option (List ℕ)) : Type 0 where
+  pub longer : List ScheduleLine
+  pub next : StandsFor input (all ++ bytes ∷ []) longer
+  pub tells : Tells stands input (all ++ bytes ∷ []) longer (output_of input lines) limit new before after
+
+-- with these bytes as their last line the lines are run, and a front of the rest of the output is told
+pub record GoesInPart (input : Input) (all : List (List ℕ)) (lines : List ScheduleLine) (bytes : List ℕ) (before after : Option (List ℕ)) : Type 0 where
+  pub longer : List ScheduleLine
+  pub next : StandsFor input (all ++ bytes ∷ []) longer
+  pub tells : TellsFront input longer (output_of input lines) before after
+
+-- nothing is written, or a front of the rest of the output
+abbrev pub IsCutShort : Input → List (List ℕ) → List ScheduleLine → List ℕ → Option (List ℕ) → Option (List ℕ) → Type 0
+IsCutShort input all lines bytes before after = Keeps before after ⊎ GoesInPart input all lines bytes before after
+
+-- these bytes may be the next line
+pub record MayStand (input : Input) (all : List (List ℕ)) (bytes : List ℕ) : Type 0 where
+  pub longer : List ScheduleLine
+  pub next : StandsFor input (all ++ bytes ∷ []) longer

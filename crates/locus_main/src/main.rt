@@ -1,15 +1,18 @@
-//! The program: it reads a schedule from standard input and writes its trace to standard output.
+//! The program: it does the command that its words are. `run` reads a schedule from standard input and writes its trace to standard
+//! output; `tree` reads calls on a fixed cluster and writes their replies; `make` writes the counts of a generated load.
 //! This room is for the words, the status and the loop over the lines; the shell calls it. It must never know what a
 //! line does, or what a record says.
 #![tactic(auto)]
 
+mod commands;
+mod input;
 mod lines;
+mod runners;
 mod status;
 #[cfg(test)]
 mod tests;
 mod top;
 mod turn;
-mod words;
 
 use locus_ids::{Bytes, Names, NoMemory};
 use locus_io::{StdSink, StdSource};

@@ -28,16 +28,43 @@ fn status_of(alloc: Global, input: &[u8]) -> Result<Status, NoMemory> {
 }
 
 #[test]
-fn only_run_is_a_command(rt: HostRuntime) -> Result<(), Fail> {
+fn other_words_are_no_command(rt: HostRuntime) -> Result<(), Fail> {
     let alloc = rt.alloc();
     for words in [
         [b"run".as_slice(), b"x"].as_slice(),
         [b"--help".as_slice()].as_slice(),
         [b"Run".as_slice()].as_slice(),
+        [b"make".as_slice(), b"7", b"01"].as_slice(),
         [].as_slice(),
     ] {
         assert_eq!(rt; run_on(alloc, words, HEADER)?.0, Status::BadWords);
     }
+    Ok(())
+}
+
+#[test]
+fn a_tree_answers_each_call(rt: HostRuntime) -> Result<(), Fail> {
+    let alloc = rt.alloc();
+    let calls = b"# two sites\n\n1 1 create /a\n2 1 stat /a\n1 1 foo\n";
+    let (status, sink) = run_on(alloc, &[b"tree".as_slice()], calls)?;
+    assert_eq!(rt; status, Status::BadLine { line: 5 });
+    assert_eq!(rt;
+        sink.bytes(),
+        b"reply 1 1 c1.1.1 ok 2\nreply 2 1 c2.1.1 ok f 0.2 0 1.1\n".as_slice()
+    );
+    Ok(())
+}
+
+#[test]
+fn a_load_is_counted(rt: HostRuntime) -> Result<(), Fail> {
+    let alloc = rt.alloc();
+    let words = [b"make".as_slice(), b"0", b"1"];
+    let (status, sink) = run_on(alloc, &words, b"nonsense")?;
+    assert_eq!(rt; status, Status::Ok);
+    assert_eq!(rt;
+        sink.bytes(),
+        b"lines 21\ncalls 4\nreplies 4\nok 4\ncommits 2\nadopts 4\njoins 6\nvoids 3\n".as_slice()
+    );
     Ok(())
 }
 

@@ -18,10 +18,11 @@ use Rattle.line_text.specs.declared.fault.LineFault.{LineFault}
 use Rattle.line_text.specs.declared.fault.LineFault.TheVariants as text
 use Rattle.schedule_run.specs.declared.fault.RunFault.{RunFault}
 use Rattle.schedule_run.specs.declared.fault.RunFault.TheVariants as run
+use Rattle.world.specs.declared.fault.WorldFault.{WorldFault}
 use Rattle.the_run.specs.Commands.{Asked, asked_lines, opening_lines, tree_lines}
 use Rattle.opened_run.specs.Standing.{HasDone}
 use Rattle.tree_run.specs.declared.runner.TreeRunner.{TreeRunner}
-use Rattle.tree_run.specs.Standing.{tree_cluster, call_line, Asks, replies_taken, HasRun, RunsNext}
+use Rattle.tree_run.specs.Standing.{tree_cluster, call_line, Asks, MayAsk, replies_taken, HasRun, RunsNext}
 
 -- the first byte is that of a call
 abbrev begins_call : List ℕ → Bool
@@ -53,6 +54,16 @@ lines_more calls a =
     ∙ (append_assoc (opening_lines 100000) (flat_map (asked_lines 100000) calls) (asked_lines 100000 a)
     ∙ ap (λ (ls : List ScheduleLine). opening_lines 100000 ++ ls) (sym (flat_map-append (asked_lines 100000) calls (a ∷ []))))
 
+-- a line of the cluster that begins as a call does is asked
+pub may_ask : (calls : List Asked) (bytes taken : List ℕ) (e : Line) (old : TreeRunner) → HasRun calls taken old → IsLineOf old.header (codes "call " ++ bytes) e → MayAsk bytes
+may_ask calls bytes taken e old h is =
+    let k = is_call bytes e is.0 in
+    let fits : fits_event tree_cluster.sites e ≡ true = subst (λ (x : Header). fits_event x.config.sites e ≡ true) h.header is.2 in
+    record {
+      asked = k.0;
+      asks = (is.0 ∙ ap event_spelling k.1, subst (λ (x : Line). fits_event tree_cluster.sites x ≡ true) k.1 fits);
+    }
+
 -- after the call and the settle
 pub call_next : (calls : List Asked) (bytes taken : List ℕ) (e : Line) (old new : TreeRunner) → HasRun calls taken old → IsLineOf old.header (codes "call " ++ bytes) e → new.header ≡ old.header
     → HasDone ((tree_lines calls ++ Event e ∷ []) ++ Event (line.Settle 100000) ∷ []) (replies_taken taken) new.run → RunsNext calls bytes taken new
@@ -82,6 +93,14 @@ whole_header config = record { config = config; whole = true }
 pub header_made : (config : Config) → config ≡ tree_cluster → record { config = config; whole = true } ≡ header_of tree_cluster
 header_made config e = ap whole_header e
 
--- the line's fault that made this one
-pub bad_is : {A : Type 0} (fault : LineFault) (result : Result A RunFault) → IsErrAnd result (λ made. made ≡ run.Bad → fault ≡ text.Bad) → result ≡ Err run.Bad → fault ≡ text.Bad
-bad_is {A} fault result h e = (subst (λ (r : Result A RunFault). IsErrAnd r (λ made. made ≡ run.Bad → fault ≡ text.Bad)) e h) refl
+-- what a line's fault is made to
+abbrev pub IsMadeOf : LineFault → RunFault → Type 0
+IsMadeOf fault made = (made ≡ run.Bad → fault ≡ text.Bad) × ((f : WorldFault) → made ≡ run.World f → ⊥)
+
+-- the line's fault that made a bad line
+pub bad_is : {A : Type 0} (fault : LineFault) (result : Result A RunFault) → IsErrAnd result (IsMadeOf fault) → result ≡ Err run.Bad → fault ≡ text.Bad
+bad_is {A} fault result h e = (subst (λ (r : Result A RunFault). IsErrAnd r (IsMadeOf fault)) e h).0 refl
+
+-- no fault of a line is one of the world
+pub no_world_is : {A : Type 0} (fault : LineFault) (result : Result A RunFault) (f : WorldFault) → IsErrAnd result (IsMadeOf fault) → result ≡ Err (run.World f) → ⊥
+no_world_is {A} fault result f h e = (subst (λ (r : Result A RunFault). IsErrAnd r (IsMadeOf fault)) e h).1 f refl

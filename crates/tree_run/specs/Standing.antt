@@ -24,6 +24,11 @@ abbrev pub Asks : List ℕ → Option Asked → Type 0
 Asks bytes None = is_passed bytes ≡ true
 Asks bytes (Some a) = (codes "call " ++ bytes ≡ event_spelling (call_line a)) × (fits_event tree_cluster.sites (call_line a) ≡ true)
 
+-- the bytes ask some call
+pub record MayAsk (bytes : List ℕ) : Type 0 where
+  pub asked : Asked
+  pub asks : Asks bytes (Some asked)
+
 -- these bytes of the replies were taken
 abbrev pub replies_taken : List ℕ → Taken
 replies_taken bytes = record { writing = Replies; bytes = bytes }

@@ -2,7 +2,8 @@ ghost use Rattle.std.specs.Prelude.{◌≡◌, ℕ, [], ◌++◌, Err, List, Opt
 ghost use Rattle.the_run.specs.Runs.{run};
 ghost use Rattle.the_run.specs.Commands.{Asked, tree_lines, tree_text};
 ghost use Rattle.run_book.specs.Ledgers.{limit_in};
-ghost use Rattle.tree_run.specs.Standing.{Asks, HasRun, RunsNext};
+ghost use Rattle.world.specs.declared.fault.WorldFault.{WorldFault};
+ghost use Rattle.tree_run.specs.Standing.{Asks, MayAsk, HasRun, RunsNext};
 
 use generated_load::load_cluster;
 use line_text::{is_passed, parse_tree_line};
@@ -26,7 +27,8 @@ pub struct TreeRunner {
 impl TreeRunner {
     /// The opening is run, and no call was asked.
     pub fn new(alloc: Global) -> Result<TreeRunner, RunFault>
-        ensures { IfOk result (HasRun [] []) }
+        ensures opened { IfOk result (HasRun [] []) }
+        ensures good { result ≡ Err RunFault.Bad → ⊥ }
     {
         let config = load_cluster(alloc)?;
         let run = OpenedRun::new(alloc, MOST, Writing::Replies)?;
@@ -41,11 +43,12 @@ impl TreeRunner {
     }
 
     /// Runs the call that the next line asks, and a settle. Then the replies so far are what was taken before, and the fresh text.
-    /// An empty line or a comment asks nothing, and a bad line changes nothing.
+    /// An empty line or a comment asks nothing, and a bad line changes nothing. The world can't go on at a line alone that asks a call.
     pub fn run_line(&mut self, bytes: &[u8]) -> Result<(), RunFault>
         ensures ran { (calls : List Asked) (taken : List ℕ) → HasRun calls taken self.old → OnOk result (RunsNext calls bytes.now taken self.new) }
         ensures bad { (calls : List Asked) (taken : List ℕ) → HasRun calls taken self.old → result ≡ Err RunFault.Bad → (asked : Option Asked) → Asks bytes.now asked → ⊥ }
         ensures kept { result ≡ Err RunFault.Bad → self.new ≡ self.old }
+        ensures world { (calls : List Asked) (taken : List ℕ) (fault : WorldFault) → HasRun calls taken self.old → result ≡ Err (RunFault.World fault) → MayAsk bytes.now }
     {
         if is_passed(bytes) {
             return Ok(());

@@ -1,155 +1,193 @@
-use Rattle.std.proofs.Common.{refl, sym, ◌∙◌, inl, inr}
+use Rattle.std.proofs.Common.{ℕ, Err, ap, refl, ◌∙◌, inl, inr}
 use Rattle.std.proofs.lemmas.Bool.{false≢true}
-use Rattle.locus_main.proofs.Complete.{comes_through}
+use Rattle.the_run.specs.Runs.{run}
+use Rattle.the_run.specs.Commands.{load_lines, load_text}
+use Rattle.generated_load.specs.Draws.{draws_of}
+use Rattle.command_words.specs.declared.command.Command.TheVariants.{Run, Tree, Make}
+use Rattle.locus_main.specs.Inputs.Input.{Schedule, Calls}
+use Rattle.locus_main.specs.Promises.{LoadPromises}
+use Rattle.locus_main.proofs.Complete.{for_memory}
+use Rattle.locus_main.proofs.Loads.{no_load}
 use Rattle.locus_main.proofs.Runs.{Nothing-front}
+use Rattle.locus_main.proofs.Words.{for_load, not_another, run_is_no_tree, run_is_no_load, tree_is_no_run, tree_is_no_load, load_is_no_run, load_is_no_tree, one_command, read_as, few_events}
 use Rattle.locus_main.proofs.top.locus.Goals as goal
 
-pub returns-then-not-is_run-clause-front : goal.returns-then-not-is_run-clause-front
-returns-then-not-is_run-clause-front g c = Nothing-front _ _
+-- ---- run ----
 
-pub returns-in-Err-clause-front : goal.returns-in-Err-clause-front
-returns-in-Err-clause-front g c = Nothing-front _ _
+pub returns-in-Ok-Run-clause-run : goal.returns-in-Ok-Run-clause-run
+returns-in-Ok-Run-clause-run g c = λ is. c.run.ensures.promises
 
-pub returns-in-Ok-clause-complete : goal.returns-in-Ok-clause-complete
-returns-in-Ok-clause-complete g c = λ input lines words told ok free no_read no_write.
-    comes_through c.run.result _ _ _ input lines
-    (record {
-      words = c.run.ensures.words;
-      bad_line = c.run.ensures.bad_line;
-      long_line = c.run.ensures.long_line;
-      many_lines = c.run.ensures.many_lines;
-      limit = c.run.ensures.limit;
-    })
-    (λ e. no_read (c.run.ensures.read_fault e)) (λ e. no_write (c.run.ensures.write_fault e)) told ok free
+pub returns-in-Ok-Run-clause-tree : goal.returns-in-Ok-Run-clause-tree
+returns-in-Ok-Run-clause-tree g c = λ is. not_another c.args.words.now Run Tree run_is_no_tree (read_as c.args.words.now _ Run c.in-Ok-Run.field-0-is c.in-Ok-Run.ensures.command) is
 
-pub returns-then-not-is_run-clause-whole : goal.returns-then-not-is_run-clause-whole
-returns-then-not-is_run-clause-whole g c = λ e. absurd (cc)
+pub returns-in-Ok-Run-clause-make : goal.returns-in-Ok-Run-clause-make
+returns-in-Ok-Run-clause-make g c = λ number events is. not_another c.args.words.now Run (Make number events) (run_is_no_load number events) (read_as c.args.words.now _ Run c.in-Ok-Run.field-0-is c.in-Ok-Run.ensures.command) is
 
-pub returns-then-not-is_run-clause-flushed : goal.returns-then-not-is_run-clause-flushed
-returns-then-not-is_run-clause-flushed g c = λ e. absurd (cc)
+pub returns-in-Ok-Run-clause-asks_nothing : goal.returns-in-Ok-Run-clause-asks_nothing
+returns-in-Ok-Run-clause-asks_nothing g c = λ number events is. not_another c.args.words.now Run (Make number events) (run_is_no_load number events) (read_as c.args.words.now _ Run c.in-Ok-Run.field-0-is c.in-Ok-Run.ensures.command) is
 
-pub returns-then-not-is_run-clause-read_fault : goal.returns-then-not-is_run-clause-read_fault
-returns-then-not-is_run-clause-read_fault g c = λ e. absurd (cc)
+pub returns-in-Ok-Run-clause-words : goal.returns-in-Ok-Run-clause-words
+returns-in-Ok-Run-clause-words g c = λ e command is. absurd (c.run.ensures.words e)
 
-pub returns-then-not-is_run-clause-cut_off : goal.returns-then-not-is_run-clause-cut_off
-returns-then-not-is_run-clause-cut_off g c = λ e. absurd (cc)
+pub returns-in-Ok-Run-clause-no_command : goal.returns-in-Ok-Run-clause-no_command
+returns-in-Ok-Run-clause-no_command g c = λ none. absurd (none Run (read_as c.args.words.now _ Run c.in-Ok-Run.field-0-is c.in-Ok-Run.ensures.command))
 
-pub returns-then-not-is_run-clause-write_fault : goal.returns-then-not-is_run-clause-write_fault
-returns-then-not-is_run-clause-write_fault g c = λ e. absurd (cc)
+pub returns-in-Ok-Run-clause-untouched : goal.returns-in-Ok-Run-clause-untouched
+returns-in-Ok-Run-clause-untouched g c = λ none. absurd (none Run (read_as c.args.words.now _ Run c.in-Ok-Run.field-0-is c.in-Ok-Run.ensures.command))
 
-pub returns-then-not-is_run-clause-long_line : goal.returns-then-not-is_run-clause-long_line
-returns-then-not-is_run-clause-long_line g c = λ e. absurd (cc)
+pub returns-in-Ok-Run-clause-flushed : goal.returns-in-Ok-Run-clause-flushed
+returns-in-Ok-Run-clause-flushed g c = c.run.ensures.flushed
 
-pub returns-then-not-is_run-clause-many_lines : goal.returns-then-not-is_run-clause-many_lines
-returns-then-not-is_run-clause-many_lines g c = λ e. absurd (cc)
+pub returns-in-Ok-Run-clause-nothing_held : goal.returns-in-Ok-Run-clause-nothing_held
+returns-in-Ok-Run-clause-nothing_held g c = c.run.ensures.nothing_held
 
-pub returns-then-not-is_run-clause-nothing_held : goal.returns-then-not-is_run-clause-nothing_held
-returns-then-not-is_run-clause-nothing_held g c = λ e. inl refl
+pub returns-in-Ok-Run-clause-read_fault : goal.returns-in-Ok-Run-clause-read_fault
+returns-in-Ok-Run-clause-read_fault g c = c.run.ensures.read_fault
 
-pub returns-then-not-is_run-clause-words : goal.returns-then-not-is_run-clause-words
-returns-then-not-is_run-clause-words g c = (λ e is. false≢true (sym c.if-not-is_run.true ∙ c.is_run.ensures.1 is), λ no. refl)
+pub returns-in-Ok-Run-clause-write_fault : goal.returns-in-Ok-Run-clause-write_fault
+returns-in-Ok-Run-clause-write_fault g c = c.run.ensures.write_fault
 
-pub returns-then-not-is_run-clause-untouched : goal.returns-then-not-is_run-clause-untouched
-returns-then-not-is_run-clause-untouched g c = λ e. (refl, refl)
+-- ---- tree ----
 
-pub returns-then-not-is_run-clause-bad_line : goal.returns-then-not-is_run-clause-bad_line
-returns-then-not-is_run-clause-bad_line g c = λ line e. absurd (cc)
+pub returns-in-Ok-Tree-clause-run : goal.returns-in-Ok-Tree-clause-run
+returns-in-Ok-Tree-clause-run g c = λ is. not_another c.args.words.now Tree Run tree_is_no_run (read_as c.args.words.now _ Tree c.in-Ok-Tree.field-0-is c.in-Ok-Tree.ensures.command) is
 
-pub returns-then-not-is_run-clause-world_fault : goal.returns-then-not-is_run-clause-world_fault
-returns-then-not-is_run-clause-world_fault g c = λ e. absurd (cc)
+pub returns-in-Ok-Tree-clause-tree : goal.returns-in-Ok-Tree-clause-tree
+returns-in-Ok-Tree-clause-tree g c = λ is. c.tree.ensures.promises
 
-pub returns-then-not-is_run-clause-limit : goal.returns-then-not-is_run-clause-limit
-returns-then-not-is_run-clause-limit g c = λ limit e. absurd (cc)
+pub returns-in-Ok-Tree-clause-make : goal.returns-in-Ok-Tree-clause-make
+returns-in-Ok-Tree-clause-make g c = λ number events is. not_another c.args.words.now Tree (Make number events) (tree_is_no_load number events) (read_as c.args.words.now _ Tree c.in-Ok-Tree.field-0-is c.in-Ok-Tree.ensures.command) is
 
-pub returns-then-not-is_run-clause-complete : goal.returns-then-not-is_run-clause-complete
-returns-then-not-is_run-clause-complete g c = λ input lines is told ok free no_read no_write. absurd (false≢true (sym c.if-not-is_run.true ∙ c.is_run.ensures.1 is))
+pub returns-in-Ok-Tree-clause-asks_nothing : goal.returns-in-Ok-Tree-clause-asks_nothing
+returns-in-Ok-Tree-clause-asks_nothing g c = λ number events is. not_another c.args.words.now Tree (Make number events) (tree_is_no_load number events) (read_as c.args.words.now _ Tree c.in-Ok-Tree.field-0-is c.in-Ok-Tree.ensures.command) is
 
-pub run-requires-clause-stands : goal.run-requires-clause-stands
-run-requires-clause-stands g c = c.new-runner.ensures
+pub returns-in-Ok-Tree-clause-words : goal.returns-in-Ok-Tree-clause-words
+returns-in-Ok-Tree-clause-words g c = λ e command is. absurd (c.tree.ensures.words e)
 
-pub run-requires-clause-unread : goal.run-requires-clause-unread
-run-requires-clause-unread g c = c.in-Ok.ensures
+pub returns-in-Ok-Tree-clause-no_command : goal.returns-in-Ok-Tree-clause-no_command
+returns-in-Ok-Tree-clause-no_command g c = λ none. absurd (none Tree (read_as c.args.words.now _ Tree c.in-Ok-Tree.field-0-is c.in-Ok-Tree.ensures.command))
 
-pub returns-in-Ok-clause-whole : goal.returns-in-Ok-clause-whole
-returns-in-Ok-clause-whole g c = c.run.ensures.whole
+pub returns-in-Ok-Tree-clause-untouched : goal.returns-in-Ok-Tree-clause-untouched
+returns-in-Ok-Tree-clause-untouched g c = λ none. absurd (none Tree (read_as c.args.words.now _ Tree c.in-Ok-Tree.field-0-is c.in-Ok-Tree.ensures.command))
 
-pub returns-in-Ok-clause-flushed : goal.returns-in-Ok-clause-flushed
-returns-in-Ok-clause-flushed g c = c.run.ensures.flushed
+pub returns-in-Ok-Tree-clause-flushed : goal.returns-in-Ok-Tree-clause-flushed
+returns-in-Ok-Tree-clause-flushed g c = c.tree.ensures.flushed
 
-pub returns-in-Ok-clause-nothing_held : goal.returns-in-Ok-clause-nothing_held
-returns-in-Ok-clause-nothing_held g c = c.run.ensures.nothing_held
+pub returns-in-Ok-Tree-clause-nothing_held : goal.returns-in-Ok-Tree-clause-nothing_held
+returns-in-Ok-Tree-clause-nothing_held g c = c.tree.ensures.nothing_held
 
-pub returns-in-Ok-clause-bad_line : goal.returns-in-Ok-clause-bad_line
-returns-in-Ok-clause-bad_line g c = c.run.ensures.bad_line
+pub returns-in-Ok-Tree-clause-read_fault : goal.returns-in-Ok-Tree-clause-read_fault
+returns-in-Ok-Tree-clause-read_fault g c = c.tree.ensures.read_fault
 
-pub returns-in-Ok-clause-read_fault : goal.returns-in-Ok-clause-read_fault
-returns-in-Ok-clause-read_fault g c = c.run.ensures.read_fault
+pub returns-in-Ok-Tree-clause-write_fault : goal.returns-in-Ok-Tree-clause-write_fault
+returns-in-Ok-Tree-clause-write_fault g c = c.tree.ensures.write_fault
 
-pub returns-in-Ok-clause-cut_off : goal.returns-in-Ok-clause-cut_off
-returns-in-Ok-clause-cut_off g c = c.run.ensures.cut_off
+-- ---- make ----
 
-pub returns-in-Ok-clause-write_fault : goal.returns-in-Ok-clause-write_fault
-returns-in-Ok-clause-write_fault g c = c.run.ensures.write_fault
+pub make-requires : goal.make-requires
+make-requires g c = few_events c.args.words.now _ _ (read_as c.args.words.now _ (Make c.in-Ok-Make.number c.in-Ok-Make.events) c.in-Ok-Make.field-0-is c.in-Ok-Make.ensures.command)
 
-pub returns-in-Ok-clause-long_line : goal.returns-in-Ok-clause-long_line
-returns-in-Ok-clause-long_line g c = c.run.ensures.long_line
+pub returns-in-Ok-Make-clause-run : goal.returns-in-Ok-Make-clause-run
+returns-in-Ok-Make-clause-run g c = λ is. not_another c.args.words.now (Make c.in-Ok-Make.number c.in-Ok-Make.events) Run (load_is_no_run _ _) (read_as c.args.words.now _ (Make c.in-Ok-Make.number c.in-Ok-Make.events) c.in-Ok-Make.field-0-is c.in-Ok-Make.ensures.command) is
 
-pub returns-in-Ok-clause-many_lines : goal.returns-in-Ok-clause-many_lines
-returns-in-Ok-clause-many_lines g c = c.run.ensures.many_lines
+pub returns-in-Ok-Make-clause-tree : goal.returns-in-Ok-Make-clause-tree
+returns-in-Ok-Make-clause-tree g c = λ is. not_another c.args.words.now (Make c.in-Ok-Make.number c.in-Ok-Make.events) Tree (load_is_no_tree _ _) (read_as c.args.words.now _ (Make c.in-Ok-Make.number c.in-Ok-Make.events) c.in-Ok-Make.field-0-is c.in-Ok-Make.ensures.command) is
 
-pub returns-in-Ok-clause-world_fault : goal.returns-in-Ok-clause-world_fault
-returns-in-Ok-clause-world_fault g c = c.run.ensures.world_fault
+pub returns-in-Ok-Make-clause-make : goal.returns-in-Ok-Make-clause-make
+returns-in-Ok-Make-clause-make g c = λ number events is.
+    for_load (λ (n e : ℕ). LoadPromises (run (load_lines (draws_of n e))).over (load_text (draws_of n e)) c.make.result (g.K.Sink.taken c.args.sink.now) (g.K.Sink.taken c.make.new.sink))
+    _ _ number events (one_command c.args.words.now (Make c.in-Ok-Make.number c.in-Ok-Make.events) (Make number events) (read_as c.args.words.now _ (Make c.in-Ok-Make.number c.in-Ok-Make.events) c.in-Ok-Make.field-0-is c.in-Ok-Make.ensures.command) is) c.make.ensures.promises
 
-pub returns-in-Ok-clause-limit : goal.returns-in-Ok-clause-limit
-returns-in-Ok-clause-limit g c = c.run.ensures.limit
+pub returns-in-Ok-Make-clause-asks_nothing : goal.returns-in-Ok-Make-clause-asks_nothing
+returns-in-Ok-Make-clause-asks_nothing g c = λ number events is. refl
 
-pub returns-in-Ok-clause-front : goal.returns-in-Ok-clause-front
-returns-in-Ok-clause-front g c = c.run.ensures.front
+pub returns-in-Ok-Make-clause-words : goal.returns-in-Ok-Make-clause-words
+returns-in-Ok-Make-clause-words g c = λ e command is. absurd (c.make.ensures.words e)
 
-pub returns-in-Ok-clause-words : goal.returns-in-Ok-clause-words
-returns-in-Ok-clause-words g c = (λ e is. c.run.ensures.words e, λ no. absurd (no (c.is_run.ensures.0 c.if-not-is_run.false)))
+pub returns-in-Ok-Make-clause-no_command : goal.returns-in-Ok-Make-clause-no_command
+returns-in-Ok-Make-clause-no_command g c = λ none. absurd (none (Make c.in-Ok-Make.number c.in-Ok-Make.events) (read_as c.args.words.now _ (Make c.in-Ok-Make.number c.in-Ok-Make.events) c.in-Ok-Make.field-0-is c.in-Ok-Make.ensures.command))
 
-pub returns-in-Ok-clause-untouched : goal.returns-in-Ok-clause-untouched
-returns-in-Ok-clause-untouched g c = λ e. absurd (c.run.ensures.words e)
+pub returns-in-Ok-Make-clause-untouched : goal.returns-in-Ok-Make-clause-untouched
+returns-in-Ok-Make-clause-untouched g c = λ none. absurd (none (Make c.in-Ok-Make.number c.in-Ok-Make.events) (read_as c.args.words.now _ (Make c.in-Ok-Make.number c.in-Ok-Make.events) c.in-Ok-Make.field-0-is c.in-Ok-Make.ensures.command))
 
-pub returns-in-Err-clause-whole : goal.returns-in-Err-clause-whole
-returns-in-Err-clause-whole g c = λ e. absurd (cc)
+pub returns-in-Ok-Make-clause-flushed : goal.returns-in-Ok-Make-clause-flushed
+returns-in-Ok-Make-clause-flushed g c = c.make.ensures.flushed
 
-pub returns-in-Err-clause-flushed : goal.returns-in-Err-clause-flushed
-returns-in-Err-clause-flushed g c = λ e. absurd (cc)
+pub returns-in-Ok-Make-clause-nothing_held : goal.returns-in-Ok-Make-clause-nothing_held
+returns-in-Ok-Make-clause-nothing_held g c = c.make.ensures.nothing_held
 
-pub returns-in-Err-clause-untouched : goal.returns-in-Err-clause-untouched
-returns-in-Err-clause-untouched g c = λ e. absurd (cc)
+pub returns-in-Ok-Make-clause-write_fault : goal.returns-in-Ok-Make-clause-write_fault
+returns-in-Ok-Make-clause-write_fault g c = c.make.ensures.write_fault
 
-pub returns-in-Err-clause-read_fault : goal.returns-in-Err-clause-read_fault
-returns-in-Err-clause-read_fault g c = λ e. absurd (cc)
+pub returns-in-Ok-Make-clause-read_fault : goal.returns-in-Ok-Make-clause-read_fault
+returns-in-Ok-Make-clause-read_fault g c = λ e. absurd (c.make.ensures.reads e)
 
-pub returns-in-Err-clause-cut_off : goal.returns-in-Err-clause-cut_off
-returns-in-Err-clause-cut_off g c = λ e. absurd (cc)
+-- ---- other words ----
 
-pub returns-in-Err-clause-write_fault : goal.returns-in-Err-clause-write_fault
-returns-in-Err-clause-write_fault g c = λ e. absurd (cc)
+pub returns-in-Err-Bad-clause-run : goal.returns-in-Err-Bad-clause-run
+returns-in-Err-Bad-clause-run g c = λ is. absurd (c.read_words.ensures.bad (c.in-Err-Bad.is ∙ ap Err c.in-Err-Bad.field-0-is) Run is)
 
-pub returns-in-Err-clause-long_line : goal.returns-in-Err-clause-long_line
-returns-in-Err-clause-long_line g c = λ e. absurd (cc)
+pub returns-in-Err-Bad-clause-tree : goal.returns-in-Err-Bad-clause-tree
+returns-in-Err-Bad-clause-tree g c = λ is. absurd (c.read_words.ensures.bad (c.in-Err-Bad.is ∙ ap Err c.in-Err-Bad.field-0-is) Tree is)
 
-pub returns-in-Err-clause-many_lines : goal.returns-in-Err-clause-many_lines
-returns-in-Err-clause-many_lines g c = λ e. absurd (cc)
+pub returns-in-Err-Bad-clause-make : goal.returns-in-Err-Bad-clause-make
+returns-in-Err-Bad-clause-make g c = λ number events is. absurd (c.read_words.ensures.bad (c.in-Err-Bad.is ∙ ap Err c.in-Err-Bad.field-0-is) (Make number events) is)
 
-pub returns-in-Err-clause-nothing_held : goal.returns-in-Err-clause-nothing_held
-returns-in-Err-clause-nothing_held g c = λ e. absurd (false≢true e)
+pub returns-in-Err-Bad-clause-asks_nothing : goal.returns-in-Err-Bad-clause-asks_nothing
+returns-in-Err-Bad-clause-asks_nothing g c = λ number events is. absurd (c.read_words.ensures.bad (c.in-Err-Bad.is ∙ ap Err c.in-Err-Bad.field-0-is) (Make number events) is)
 
-pub returns-in-Err-clause-words : goal.returns-in-Err-clause-words
-returns-in-Err-clause-words g c = (λ e is. absurd (cc), λ no. absurd (no (c.is_run.ensures.0 c.if-not-is_run.false)))
+pub returns-in-Err-Bad-clause-words : goal.returns-in-Err-Bad-clause-words
+returns-in-Err-Bad-clause-words g c = λ e command is. c.read_words.ensures.bad (c.in-Err-Bad.is ∙ ap Err c.in-Err-Bad.field-0-is) command is
 
-pub returns-in-Err-clause-bad_line : goal.returns-in-Err-clause-bad_line
-returns-in-Err-clause-bad_line g c = λ line e. absurd (cc)
+pub returns-in-Err-Bad-clause-no_command : goal.returns-in-Err-Bad-clause-no_command
+returns-in-Err-Bad-clause-no_command g c = λ none. inl refl
 
-pub returns-in-Err-clause-world_fault : goal.returns-in-Err-clause-world_fault
-returns-in-Err-clause-world_fault g c = λ e. absurd (cc)
+pub returns-in-Err-Bad-clause-untouched : goal.returns-in-Err-Bad-clause-untouched
+returns-in-Err-Bad-clause-untouched g c = λ none. (refl, refl)
 
-pub returns-in-Err-clause-limit : goal.returns-in-Err-clause-limit
-returns-in-Err-clause-limit g c = λ limit e. absurd (cc)
+pub returns-in-Err-Bad-clause-flushed : goal.returns-in-Err-Bad-clause-flushed
+returns-in-Err-Bad-clause-flushed g c = λ e. absurd (cc)
 
-pub returns-in-Err-clause-complete : goal.returns-in-Err-clause-complete
-returns-in-Err-clause-complete g c = λ input lines is told ok free no_read no_write. inr (inl refl)
+pub returns-in-Err-Bad-clause-nothing_held : goal.returns-in-Err-Bad-clause-nothing_held
+returns-in-Err-Bad-clause-nothing_held g c = λ e. inl refl
+
+pub returns-in-Err-Bad-clause-read_fault : goal.returns-in-Err-Bad-clause-read_fault
+returns-in-Err-Bad-clause-read_fault g c = λ e. absurd (cc)
+
+pub returns-in-Err-Bad-clause-write_fault : goal.returns-in-Err-Bad-clause-write_fault
+returns-in-Err-Bad-clause-write_fault g c = λ e. absurd (cc)
+
+-- ---- no memory for the words ----
+
+pub returns-in-Err-NoMemory-clause-run : goal.returns-in-Err-NoMemory-clause-run
+returns-in-Err-NoMemory-clause-run g c = λ is. for_memory Schedule _ _ _ _ (Nothing-front Schedule _ _)
+
+pub returns-in-Err-NoMemory-clause-tree : goal.returns-in-Err-NoMemory-clause-tree
+returns-in-Err-NoMemory-clause-tree g c = λ is. for_memory Calls _ _ _ _ (Nothing-front Calls _ _)
+
+pub returns-in-Err-NoMemory-clause-make : goal.returns-in-Err-NoMemory-clause-make
+returns-in-Err-NoMemory-clause-make g c = λ number events is. no_load _ _ _
+
+pub returns-in-Err-NoMemory-clause-asks_nothing : goal.returns-in-Err-NoMemory-clause-asks_nothing
+returns-in-Err-NoMemory-clause-asks_nothing g c = λ number events is. refl
+
+pub returns-in-Err-NoMemory-clause-words : goal.returns-in-Err-NoMemory-clause-words
+returns-in-Err-NoMemory-clause-words g c = λ e command is. absurd (cc)
+
+pub returns-in-Err-NoMemory-clause-no_command : goal.returns-in-Err-NoMemory-clause-no_command
+returns-in-Err-NoMemory-clause-no_command g c = λ none. inr refl
+
+pub returns-in-Err-NoMemory-clause-untouched : goal.returns-in-Err-NoMemory-clause-untouched
+returns-in-Err-NoMemory-clause-untouched g c = λ none. (refl, refl)
+
+pub returns-in-Err-NoMemory-clause-flushed : goal.returns-in-Err-NoMemory-clause-flushed
+returns-in-Err-NoMemory-clause-flushed g c = λ e. absurd (cc)
+
+pub returns-in-Err-NoMemory-clause-nothing_held : goal.returns-in-Err-NoMemory-clause-nothing_held
+returns-in-Err-NoMemory-clause-nothing_held g c = λ e. absurd (false≢true e)
+
+pub returns-in-Err-NoMemory-clause-read_fault : goal.returns-in-Err-NoMemory-clause-read_fault
+returns-in-Err-NoMemory-clause-read_fault g c = λ e. absurd (cc)
+
+pub returns-in-Err-NoMemory-clause-write_fault : goal.returns-in-Err-NoMemory-clause-write_fault
+returns-in-Err-NoMemory-clause-write_fault g c = λ e. absurd (cc)

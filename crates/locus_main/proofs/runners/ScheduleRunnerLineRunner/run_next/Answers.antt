@@ -1,0 +1,13 @@
+use Rattle.locus_main.proofs.Standing.{schedule_number, schedule_on, schedule_refuses, schedule_may_stand}
+use Rattle.locus_main.proofs.Turns.{then_ok}
+use Rattle.locus_main.proofs.runners.ScheduleRunnerLineRunner.run_next.Goals as goal
+
+pub returns-clause-ran : goal.returns-clause-ran
+returns-clause-ran c = λ all lines taken number s.
+    then_ok c.run_line.result (c.run_line.ensures.ran lines taken (schedule_number all lines taken _ _ s number) s.ran) (λ next. schedule_on all lines _ taken _ _ s next)
+
+pub returns-clause-bad : goal.returns-clause-bad
+returns-clause-bad c = λ all lines taken s e. schedule_refuses all lines _ taken _ s (c.run_line.ensures.bad lines taken s.ran e)
+
+pub returns-clause-world : goal.returns-clause-world
+returns-clause-world c = λ all lines taken fault s e. schedule_may_stand all lines _ taken _ s (c.run_line.ensures.world lines taken fault s.ran e)

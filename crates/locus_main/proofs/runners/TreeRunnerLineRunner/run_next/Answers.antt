@@ -1,0 +1,12 @@
+use Rattle.locus_main.proofs.Standing.{tree_on, tree_refuses, tree_may_stand}
+use Rattle.locus_main.proofs.Turns.{then_ok}
+use Rattle.locus_main.proofs.runners.TreeRunnerLineRunner.run_next.Goals as goal
+
+pub returns-clause-ran : goal.returns-clause-ran
+returns-clause-ran c = λ all lines taken number s. then_ok c.run_line.result (c.run_line.ensures.ran s.calls taken s.ran) (λ next. tree_on all lines _ taken _ _ s next)
+
+pub returns-clause-bad : goal.returns-clause-bad
+returns-clause-bad c = λ all lines taken s e. tree_refuses all _ (c.run_line.ensures.bad s.calls taken s.ran e)
+
+pub returns-clause-world : goal.returns-clause-world
+returns-clause-world c = λ all lines taken fault s e. tree_may_stand all lines _ taken _ s (c.run_line.ensures.world s.calls taken fault s.ran e)
