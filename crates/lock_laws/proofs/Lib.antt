@@ -1,4 +1,5 @@
 pub mod Facts
+pub mod Apart
 pub mod SyncFacts
 pub mod StoreFacts
 pub mod UserFacts
@@ -6,6 +7,13 @@ pub mod SiteFacts
 pub mod FormingFacts
 pub mod StepFacts
 pub mod FactsRun
+pub mod Scripts
 pub mod Writing
 pub mod JoinFacts
 pub mod JoinsRun
+pub mod GrantTold
+pub mod GrantFacts
+pub mod BareRoles
+pub mod GrantSites
+pub mod GrantSteps
+pub mod GrantsRun

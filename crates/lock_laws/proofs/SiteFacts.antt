@@ -164,7 +164,7 @@ quiet_aloof ps = record { told = tt; none = refl; sent = tt }
 begins_aloof : (f : Frame) (p : Pull) (ps : List Pull) → PullsAloof (begins_pull f p ps)
 begins_aloof f p ps = elim (replaces_pull p (pull_of ps p.file)) as (λ b. PullsAloof (elim b [ true ↦ goes_on f p ps | false ↦ quiet ps ])) [ true ↦ record { told = tt; none = refl; sent = pull_aloof f p } | false ↦ quiet_aloof ps ]
 
-notify_aloof : (f : Frame) (from : ℕ) (o : Option FileCopy) (p : Pull) (ps : List Pull) → PullsAloof (on_notify f from o p ps)
+pub notify_aloof : (f : Frame) (from : ℕ) (o : Option FileCopy) (p : Pull) (ps : List Pull) → PullsAloof (on_notify f from o p ps)
 notify_aloof f from None p ps = begins_aloof f p ps
 notify_aloof f from (Some own) p ps =
     elim (same_stamp own.stamp p.stamp) as (λ b. PullsAloof (elim b [ true ↦ sends (packet f from (body.Have p.file p.stamp) ∷ []) ps | false ↦ elim (is_below own.vector p.vector) [ true ↦ begins_pull f p ps | false ↦ quiet ps ] ])) [
@@ -172,7 +172,7 @@ notify_aloof f from (Some own) p ps =
       | false ↦ elim (is_below own.vector p.vector) as (λ b. PullsAloof (elim b [ true ↦ begins_pull f p ps | false ↦ quiet ps ])) [ true ↦ begins_aloof f p ps | false ↦ quiet_aloof ps ]
     ]
 
-page_aloof : (f : Frame) (stamp : Stamp) (page : ℕ) (bytes : List ℕ) (o : Option Pull) (ps : List Pull) → PullsAloof (on_page_of f stamp page bytes o ps)
+pub page_aloof : (f : Frame) (stamp : Stamp) (page : ℕ) (bytes : List ℕ) (o : Option Pull) (ps : List Pull) → PullsAloof (on_page_of f stamp page bytes o ps)
 page_aloof f stamp page bytes None ps = quiet_aloof ps
 page_aloof f stamp page bytes (Some p) ps =
     elim (is_awaited p stamp page bytes) as (λ b. PullsAloof (elim b [ true ↦ goes_on f (record p { content = p.content ++ bytes }) ps | false ↦ quiet ps ])) [ true ↦ record { told = tt; none = refl; sent = pull_aloof f (record p { content = p.content ++ bytes }) } | false ↦ quiet_aloof ps ]

@@ -111,13 +111,13 @@ forming_not : (p : Packet) (x : Body) → p.body ≡ x → nat_lt (kind_number x
 forming_not p x q h = subst (λ (y : Body). nat_lt (kind_number y) 6 ≡ false) (sym q) h
 
 -- what is told where a pull goes on
-abbrev Silent : Outcome (List Pull) → Type 0
+abbrev pub Silent : Outcome (List Pull) → Type 0
 Silent o = (o.told ≡ []) × (o.written ≡ None)
 
 begins_silent : (f : Frame) (p : Pull) (ps : List Pull) → Silent (begins_pull f p ps)
 begins_silent f p ps = elim (replaces_pull p (pull_of ps p.file)) as (λ b. Silent (elim b [ true ↦ goes_on f p ps | false ↦ quiet ps ])) [ true ↦ (refl, refl) | false ↦ (refl, refl) ]
 
-notify_silent : (f : Frame) (from : ℕ) (o : Option FileCopy) (p : Pull) (ps : List Pull) → Silent (on_notify f from o p ps)
+pub notify_silent : (f : Frame) (from : ℕ) (o : Option FileCopy) (p : Pull) (ps : List Pull) → Silent (on_notify f from o p ps)
 notify_silent f from None p ps = begins_silent f p ps
 notify_silent f from (Some own) p ps =
     elim (same_stamp own.stamp p.stamp) as (λ b. Silent (elim b [ true ↦ sends (packet f from (body.Have p.file p.stamp) ∷ []) ps | false ↦ elim (is_below own.vector p.vector) [ true ↦ begins_pull f p ps | false ↦ quiet ps ] ])) [
@@ -125,14 +125,14 @@ notify_silent f from (Some own) p ps =
       | false ↦ elim (is_below own.vector p.vector) as (λ b. Silent (elim b [ true ↦ begins_pull f p ps | false ↦ quiet ps ])) [ true ↦ begins_silent f p ps | false ↦ (refl, refl) ]
     ]
 
-page_silent : (f : Frame) (stamp : Stamp) (page : ℕ) (bytes : List ℕ) (o : Option Pull) (ps : List Pull) → Silent (on_page_of f stamp page bytes o ps)
+pub page_silent : (f : Frame) (stamp : Stamp) (page : ℕ) (bytes : List ℕ) (o : Option Pull) (ps : List Pull) → Silent (on_page_of f stamp page bytes o ps)
 page_silent f stamp page bytes None ps = (refl, refl)
 page_silent f stamp page bytes (Some p) ps = elim (is_awaited p stamp page bytes) as (λ b. Silent (elim b [ true ↦ goes_on f (record p { content = p.content ++ bytes }) ps | false ↦ quiet ps ])) [ true ↦ (refl, refl) | false ↦ (refl, refl) ]
 
-abbrev SiteSilent : Outcome SiteView → Type 0
+abbrev pub SiteSilent : Outcome SiteView → Type 0
 SiteSilent o = (o.told ≡ []) × (o.written ≡ None)
 
-framed_notify : (c : Config) (me : ℕ) (p : Packet) (x : Body) (o : Option InEpoch) (v : SiteView) → p.body ≡ x → ((f : Frame) → SiteSilent (takes_inside f p.from x v)) → SiteSilent (takes_framed c me p o v)
+pub framed_notify : (c : Config) (me : ℕ) (p : Packet) (x : Body) (o : Option InEpoch) (v : SiteView) → p.body ≡ x → ((f : Frame) → SiteSilent (takes_inside f p.from x v)) → SiteSilent (takes_framed c me p o v)
 framed_notify c me p x None v q h = (refl, refl)
 framed_notify c me p x (Some e) v q h = subst (λ (y : Body). SiteSilent (takes_inside (frame_in c me v.boot e) p.from y v)) (sym q) (h (frame_in c me v.boot e))
 

@@ -3,3 +3,4 @@ pub mod Locks
 pub mod Facts
 pub mod Writing
 pub mod Joins
+pub mod Grants

@@ -4,6 +4,7 @@ ghost use Rattle.schedule_lines.specs.declared.line.ScheduleLine.{ScheduleLine};
 ghost use Rattle.the_run.specs.Runs.{run_in};
 ghost use Rattle.vector_laws.specs.Written.{past_of};
 ghost use Rattle.lock_laws.specs.Going.{InstancesGoOn};
+ghost use Rattle.lock_laws.specs.Grants.{GrantsAreLocked};
 ghost use Rattle.lock_laws.specs.Joins.{JoinsAreOnce};
 ghost use Rattle.lock_laws.specs.Locks.{TablesAreLocked};
 ghost use Rattle.lock_laws.specs.Writing.{ScriptsOpenWhatTheyChange};
@@ -31,4 +32,10 @@ pub fn scripts_open_what_they_change()
 /// After every schedule no site has joined an epoch twice, in whichever boot.
 pub fn joins_are_once()
     ensures { (c : Config) (lines : List ScheduleLine) → JoinsAreOnce (past_of (run_in c lines).trace) }
+{}
+
+/// After every schedule, of two grants of one file in one epoch, makes apart, both only read, or the earlier one was over
+/// when the later one was given: its instance was released, or its open refused after all.
+pub fn grants_are_locked()
+    ensures { (c : Config) (lines : List ScheduleLine) → GrantsAreLocked (past_of (run_in c lines).trace) }
 {}

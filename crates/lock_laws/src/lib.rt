@@ -5,4 +5,7 @@
 
 mod laws;
 
-pub use laws::{instances_go_on, joins_are_once, scripts_open_what_they_change, tables_are_locked};
+pub use laws::{
+    grants_are_locked, instances_go_on, joins_are_once, scripts_open_what_they_change,
+    tables_are_locked,
+};

@@ -12,9 +12,11 @@ pub mod Picking
 pub mod Endings
 pub mod Ticks
 pub mod Receives
+pub mod Causes
 pub mod Cuts
 pub mod Unwritten
 pub mod Together
 pub mod Received
 pub mod StoreParts
 pub mod Mendings
+pub mod Numbers

@@ -1,5 +1,6 @@
 -- What becomes of the disk in one part of an event after another.
 use Rattle.std.proofs.Common.{◌≡◌, ⊎_elim, ℕ, ◌+◌, ◌-◌, ◌*◌, ◌≤◌, ◌<◌, Bool, cond, List, [], ◌∷◌, ◌++◌, length, refl, sym, ap, ◌∙◌, subst, arith, inl, inr}
+use Rattle.std.proofs.lemmas.List.{append-nil}
 use Rattle.std.specs.Prelude.{◌⊎◌, Option, None, Some, is_some, Result, Ok, Err}
 use Rattle.disk_model.specs.declared.disk.DiskFault.{DiskFault}
 use Rattle.disk_model.specs.Cut.{Cut as HowCut}
@@ -14,6 +15,7 @@ use Rattle.pack_layout.specs.Layout.{area_length}
 use Rattle.inode_pack.specs.Cutting.{are_both_open}
 use Rattle.trace_book.specs.declared.record.Record.{Record}
 use Rattle.wire_messages.specs.Outboxes.{Outgoing}
+use Rattle.wire_messages.specs.declared.packet.Packet.{Packet}
 use Rattle.packet_order.specs.Orders.{behind}
 use Rattle.role_steps.specs.Tables.{row, with_row}
 use Rattle.role_steps.specs.Storage.{copy_key}
@@ -27,8 +29,9 @@ use Rattle.site_packs.specs.Mounting.{AreSound}
 use Rattle.site_packs.specs.Packs.{PacksState, SamePlaces, groups_of}
 use Rattle.store_instances.specs.Writes.{LeavesEver, MayLeave, calls_in}
 use Rattle.site_node.specs.declared.fault.NodeFault.{NodeFault}
-use Rattle.site_node.specs.declared.fault.NodeFault.TheVariants.{Cut}
+use Rattle.site_node.specs.declared.fault.NodeFault.TheVariants.{NoMemory, Cut}
 use Rattle.site_node.specs.Writing.{EventWrites, IsCutIn, replaces}
+use Rattle.site_node.proofs.Causes.{Causes, causes_at, causes_off, causes_then}
 
 same_fault : {T : Type 0} (e f : NodeFault) → ◌≡◌ {A = Result T NodeFault} (Err e) (Err f) → e ≡ f
 same_fault e f h = cc
@@ -71,6 +74,7 @@ module _ (p q : PacksState) (s : SamePlaces p q) where
     pages = k.pages;
     older = k.older ∙ older;
     records = k.records;
+    packets = k.packets;
     early = λ passed x. subst (λ (y : Bool). passed < calls_of w.pages y) older (k.early passed (t passed x));
     left = λ passed x. is_cut_here w.copy w.pages old.how passed old.seen new.left (subst (λ (y : List ℕ). IsCut q w.copy w.pages old.how passed y new.left) e (subst (λ (y : HowCut). IsCut q w.copy w.pages y passed mid.seen new.left) h (k.left passed (t passed x))));
   }
@@ -80,24 +84,41 @@ module _ (p q : PacksState) (s : SamePlaces p q) where
 
 -- ---- what is told where a part was cut off ----
 
-told_in : (w : Option DiskWrite) (p : PacksState) (size : WriteSize) (m n : Moment) (a b before after : Outgoing) → a.records ≡ [] → after ≡ behind before b → IsCutIn w p size m n a b → IsCutIn w p size m n before after
-told_in None p size m n a b before after e t k = k
-told_in (Some w) p size m n a b before after e t k = record {
+told_in : (w : Option DiskWrite) (p : PacksState) (size : WriteSize) (m n : Moment) (a b before after : Outgoing) → a.packets ≡ [] → a.records ≡ [] → after ≡ behind before b → IsCutIn w p size m n a b → IsCutIn w p size m n before after
+told_in None p size m n a b before after d e t k = k
+told_in (Some w) p size m n a b before after d e t k = record {
   pages = k.pages;
   older = k.older;
   records = ap (λ (x : Outgoing). x.records) t ∙ ap (λ (rs : List Record). before.records ++ rs) (k.records ∙ ap (λ (rs : List Record). rs ++ w.says ∷ []) e);
+  packets = ap (λ (x : Outgoing). x.packets) t ∙ (ap (λ (ps : List Packet). before.packets ++ ps) (k.packets ∙ d) ∙ append-nil before.packets);
   early = k.early;
   left = k.left;
 }
 
+abbrev IsHanded : NodeFault → NodeFault → Type 0
+IsHanded e f = (f ≡ e) ⊎ (f ≡ NoMemory)
+
+handed_causes : {T S : Type 0} (m n : Moment) (e f : NodeFault) → IsHanded e f → Causes {T = S} m n (Err e) → Causes {T = T} m n (Err f)
+handed_causes {T = T} {S = S} m n e f h k =
+    ⊎_elim (λ (is : f ≡ e). causes_at {T = T} {S = S} m n (Err f) e is k) (λ (is : f ≡ NoMemory). causes_at {T = T} {S = T} m n (Err f) NoMemory is (causes_off m n NoMemory tt k.cause.later)) h
+
+no_cut : (size : WriteSize) → NoMemory ≡ Cut size → ⊥
+no_cut size h = cc
+
+handed_cut : (e f : NodeFault) (size : WriteSize) → IsHanded e f → f ≡ Cut size → e ≡ Cut size
+handed_cut e f size h g = ⊎_elim (λ (is : f ≡ e). sym is ∙ g) (λ (is : f ≡ NoMemory). absurd (no_cut size (sym is ∙ g))) h
+
 -- the event hands on what its part has told
-pub cut_told : {T S : Type 0} (w : Option DiskWrite) (p : PacksState) (m n : Moment) (a b before after : Outgoing) (e f : NodeFault) → a.records ≡ [] → ((size : WriteSize) → f ≡ Cut size → e ≡ Cut size) → ((size : WriteSize) → f ≡ Cut size → after ≡ behind before b)
+pub cut_told : {T S : Type 0} (w : Option DiskWrite) (p : PacksState) (m n : Moment) (a b before after : Outgoing) (e f : NodeFault) → a.packets ≡ [] → a.records ≡ [] → IsHanded e f → ((size : WriteSize) → f ≡ Cut size → after ≡ behind before b)
     → EventWrites {T = S} w p m n a b (Err e) → EventWrites {T = T} w p m n before after (Err f)
-cut_told {S = S} w p m n a b before after e f empty is told k = record {
+cut_told {T = T} {S = S} w p m n a b before after e f unsent empty is told k = let c : Causes {T = T} m n (Err f) = handed_causes {T = T} {S = S} m n e f is (record { cause = k.cause; told = k.told; free = k.free }) in record {
   leaves = k.leaves;
   how = k.how;
   passes = tt;
-  cut = λ size g. let h : f ≡ Cut size = same_fault f (Cut size) g in told_in w p size m n a b before after empty (told size h) (k.cut size (as_err {T = S} e (Cut size) (is size h)));
+  cut = λ size g. let h : f ≡ Cut size = same_fault f (Cut size) g in told_in w p size m n a b before after unsent empty (told size h) (k.cut size (as_err {T = S} e (Cut size) (handed_cut e f size is h)));
+  cause = c.cause;
+  told = c.told;
+  free = c.free;
 }
 
 -- ---- one part after another ----
@@ -118,15 +139,18 @@ module _ {D : Type 0} (moment : D → Moment) (reads : (d : D) → (moment d).ma
 
   -- a fault in what writes nothing
   pub none_failed : {T : Type 0} (w : Option DiskWrite) (p : PacksState) (old new : D) (a b : Outgoing) (e : NodeFault) → EventWrites {T = T} None p (moment old) (moment new) a b (Err e) → EventWrites {T = T} w p (moment old) (moment new) a b (Err e)
-  none_failed w p old new a b e k = record { leaves = wider w p old new k.leaves; how = k.how; passes = tt; cut = λ size g. absurd (k.cut size g) }
+  none_failed w p old new a b e k = record { leaves = wider w p old new k.leaves; how = k.how; passes = tt; cut = λ size g. absurd (k.cut size g); cause = k.cause; told = k.told; free = k.free }
 
   -- a part, and then one that only reads
   pub then_reads : {S T : Type 0} (w : Option DiskWrite) (p q : PacksState) (old mid new : D) (a b c d before after : Outgoing) (x : S) (r : Result T NodeFault) → EventWrites w p (moment old) (moment mid) a b (Ok x) → EventWrites None q (moment mid) (moment new) c d r → EventWrites w p (moment old) (moment new) before after r
-  then_reads w p q old mid new a b c d before after x r one two = record {
+  then_reads {T = T} w p q old mid new a b c d before after x r one two = record {
     leaves = leaves_joins moment old mid new (Ever w p old) one.leaves (leaves_weaker moment mid new (Ever None q mid) (Ever w p old) (λ image is. ⊎_elim (again image) (again image) is) two.leaves);
     how = two.how ∙ one.how;
     passes = on_ok r (Many 0 mid new) (Many calls old new) all two.passes;
     cut = λ size g. absurd (two.cut size g);
+    cause = causes.cause;
+    told = causes.told;
+    free = causes.free;
   }
     where
       Many : ℕ → D → D → Type 0
@@ -134,6 +158,9 @@ module _ {D : Type 0} (moment : D → Moment) (reads : (d : D) → (moment d).ma
 
       calls : ℕ
       calls = calls_in p (moment old).seen w
+
+      causes : Causes {T = T} (moment old) (moment new) r
+      causes = causes_then calls (moment old) (moment mid) (moment new) r one.cause.later one.passes (record { cause = two.cause; told = two.told; free = two.free })
 
       again : (image : List ℕ) → image ≡ (moment mid).seen → Ever w p old image
       again image e = subst (Ever w p old) (sym e) (seen_is w p old mid one.leaves)
@@ -143,13 +170,19 @@ module _ {D : Type 0} (moment : D → Moment) (reads : (d : D) → (moment d).ma
 
   -- one that only reads, and then a part
   pub reads_first : {S T : Type 0} (w : Option DiskWrite) (p q : PacksState) (old mid new : D) (a b c d : Outgoing) (x : S) (r : Result T NodeFault) → SamePlaces p q → EventWrites None p (moment old) (moment mid) a b (Ok x) → EventWrites w q (moment mid) (moment new) c d r → EventWrites w p (moment old) (moment new) c d r
-  reads_first w p q old mid new a b c d x r s one two = record {
+  reads_first {T = T} w p q old mid new a b c d x r s one two = record {
     leaves = leaves_joins moment old mid new (Ever w p old) (wider w p old mid one.leaves) (leaves_weaker moment mid new (Ever w q mid) (Ever w p old) (λ image is. ⊎_elim (λ e. inl (e ∙ seen)) (λ k. inr (left_from image k)) is) two.leaves);
     how = two.how ∙ one.how;
     passes = on_ok r (Many (calls_in q (moment mid).seen w) mid new) (Many (calls_in p (moment old).seen w) old new) all two.passes;
     cut = λ size g. cut_here p q s w size (moment old) (moment mid) (moment new) c d seen one.how as_many (two.cut size g);
+    cause = causes.cause;
+    told = causes.told;
+    free = causes.free;
   }
     where
+      causes : Causes {T = T} (moment old) (moment new) r
+      causes = causes_then 0 (moment old) (moment mid) (moment new) r one.cause.later one.passes (record { cause = two.cause; told = two.told; free = two.free })
+
       Many : ℕ → D → D → Type 0
       Many n from to = TellsMany {T = Unit {0}} {E = DiskFault} n (moment from).passing (moment to).passing (Ok tt)
 

@@ -37,10 +37,17 @@ fault_of_mend mend.NoMemory = NoMemory
 fault_of_mend mend.Disk = Disk
 fault_of_mend mend.Unfit = Unfit
 
--- no write was cut off
-abbrev pub IsUncut : NodeFault → Type 0
-IsUncut (Cut size) = ⊥
-IsUncut NoMemory = Unit {0}
-IsUncut Disk = Unit {0}
-IsUncut NoNumber = Unit {0}
-IsUncut Unfit = Unit {0}
+-- the fault of a call that only reads: no write is cut off in it
+abbrev pub fault_of_reading : StoreFault → NodeFault
+fault_of_reading store.Disk = Disk
+fault_of_reading (store.Cut size) = Disk
+fault_of_reading store.Unfit = Unfit
+fault_of_reading store.NoMemory = NoMemory
+
+-- no call of the disk failed
+abbrev pub IsOffDisk : NodeFault → Type 0
+IsOffDisk Disk = ⊥
+IsOffDisk (Cut size) = ⊥
+IsOffDisk NoMemory = Unit {0}
+IsOffDisk NoNumber = Unit {0}
+IsOffDisk Unfit = Unit {0}

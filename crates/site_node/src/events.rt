@@ -1,12 +1,12 @@
 // The events of a site. Each is the run's step.
-ghost use Rattle.std.specs.Prelude.{◌≡◌, OnOk};
+ghost use Rattle.std.specs.Prelude.{◌≡◌, ◌⊎◌, OnOk, IfErr};
 ghost use Rattle.role_steps.specs.Views.{Calls, Receives, Ticks, Parts, Merges, GivesUp};
 ghost use Rattle.site_packs.specs.Packs.{Stand};
 ghost use Rattle.site_packs.specs.declared.faults.WriteSize.{WriteSize};
 ghost use Rattle.packet_order.specs.Orders.{behind};
 ghost use Rattle.site_node.specs.Views.{Moves, steps_at, view_of};
 ghost use Rattle.site_node.specs.Writing.{EventWrites};
-ghost use Rattle.site_node.specs.declared.fault.NodeFault.TheVariants.{Cut};
+ghost use Rattle.site_node.specs.declared.fault.NodeFault.TheVariants.{Cut, NoMemory, NoNumber};
 ghost use Rattle.site_node.specs.Taking.{is_tried};
 
 use crate::{NodeFault, SiteNode};
@@ -100,6 +100,7 @@ impl SiteNode {
         requires { Stand self.old.packs (D.moment disk.old) }
         ensures step { OnOk result (Moves (steps_at self.old links.now Parts) self.old (D.moment disk.old) self.new (D.moment disk.new) out.old out.new) }
         ensures disk { EventWrites (steps_at self.old links.now Parts (view_of self.old (D.moment disk.old).seen)).written self.old.packs (D.moment disk.old) (D.moment disk.new) out.old out.new result }
+        ensures spent { IfErr result (λ fault. fault ≡ NoNumber → self.old.epochs.promised.number ≡ 4294967295) }
     {
         let mut own = Outbox::new(self.alloc);
         self.start_part(links, &mut own)?;
@@ -118,6 +119,7 @@ impl SiteNode {
         requires { Stand self.old.packs (D.moment disk.old) }
         ensures step { OnOk result (Moves (steps_at self.old links.now Merges) self.old (D.moment disk.old) self.new (D.moment disk.new) out.old out.new) }
         ensures disk { EventWrites (steps_at self.old links.now Merges (view_of self.old (D.moment disk.old).seen)).written self.old.packs (D.moment disk.old) (D.moment disk.new) out.old out.new result }
+        ensures spent { IfErr result (λ fault. fault ≡ NoNumber → self.old.epochs.promised.number ≡ 4294967295) }
     {
         let mut own = Outbox::new(self.alloc);
         self.start_merge(links, &mut own)?;
@@ -147,7 +149,7 @@ impl SiteNode {
 
 /// The fault of a part of an event. Where the disk cut a write off, the event hands on what the part has told: the write's record.
 fn cut_off(fault: NodeFault, told: Outbox, out: &mut Dispatch) -> NodeFault
-    ensures fault { (size : WriteSize) → result ≡ Cut size → fault ≡ Cut size }
+    ensures fault { (result ≡ fault) ⊎ (result ≡ NoMemory) }
     ensures told { (size : WriteSize) → result ≡ Cut size → out.new ≡ behind out.old told }
 {
     match fault {

@@ -1,5 +1,6 @@
 // How a site takes part in forming an epoch.
-ghost use Rattle.std.specs.Prelude.{◌≡◌, OnOk};
+ghost use Rattle.std.specs.Prelude.{◌≡◌, IfErr, OnOk};
+ghost use Rattle.merge_protocol.specs.declared.errors.EpochError.TheVariants.{NoNumber};
 ghost use Rattle.role_steps.specs.Epochs.{on_install, on_joined, on_poll, on_promise, on_refuse, starts_merge, starts_part};
 ghost use Rattle.wire_messages.specs.Outboxes.{Outgoing};
 ghost use Rattle.site_node.specs.Views.{Works};
@@ -49,7 +50,8 @@ impl SiteNode {
         promised: EpochId,
         out: &mut Outbox,
     ) -> Result<(), EpochError>
-        ensures { OnOk result (Works (on_refuse self.old.frame.me links.now id promised) self.old self.new out.old out.new) }
+        ensures works { OnOk result (Works (on_refuse self.old.frame.me links.now id promised) self.old self.new out.old out.new) }
+        ensures spent { IfErr result (λ e. e ≡ NoNumber → promised.number ≡ 4294967295) }
     {
         leaving_by_parts();
         let me = self.site();
@@ -84,7 +86,8 @@ impl SiteNode {
 
     /// The site begins to form an epoch of the members of its own that it reaches.
     pub(crate) fn start_part(&mut self, links: &Links, out: &mut Outbox) -> Result<(), EpochError>
-        ensures { OnOk result (Works (starts_part self.old.frame.me links.now) self.old self.new out.old out.new) }
+        ensures works { OnOk result (Works (starts_part self.old.frame.me links.now) self.old self.new out.old out.new) }
+        ensures spent { IfErr result (λ e. e ≡ NoNumber → self.old.epochs.promised.number ≡ 4294967295) }
     {
         leaving_by_parts();
         let me = self.site();
@@ -95,7 +98,8 @@ impl SiteNode {
 
     /// The site begins to form an epoch of all sites that it reaches.
     pub(crate) fn start_merge(&mut self, links: &Links, out: &mut Outbox) -> Result<(), EpochError>
-        ensures { OnOk result (Works (starts_merge self.old.frame.me links.now) self.old self.new out.old out.new) }
+        ensures works { OnOk result (Works (starts_merge self.old.frame.me links.now) self.old self.new out.old out.new) }
+        ensures spent { IfErr result (λ e. e ≡ NoNumber → self.old.epochs.promised.number ≡ 4294967295) }
     {
         leaving_by_parts();
         let me = self.site();

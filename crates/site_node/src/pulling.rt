@@ -3,7 +3,7 @@ ghost use Rattle.std.specs.Prelude.{◌≡◌, ℕ, List, IfErr, OnOk};
 ghost use Rattle.propagation.specs.Sized.{head_of};
 ghost use Rattle.site_packs.specs.Packs.{AreShown, copy_at};
 ghost use Rattle.site_node.specs.Views.{Works};
-ghost use Rattle.site_node.specs.Faults.{IsUncut};
+ghost use Rattle.site_node.specs.Faults.{IsOffDisk};
 ghost use Rattle.site_node.specs.Roles.{role_takes};
 ghost use Rattle.site_node.specs.declared.roles.Role.TheVariants as role;
 
@@ -24,14 +24,14 @@ impl SiteNode {
         out: &mut Outbox,
     ) -> Result<(), NodeFault>
         ensures works { OnOk result (Works (role_takes role.Pulls self.old.frame from body) self.old self.new out.old out.new) }
-        ensures uncut { IfErr result IsUncut }
+        ensures off_disk { IfErr result IsOffDisk }
     {
         self.take_pulled(from, &body, out)
     }
 
     fn take_pulled(&mut self, from: SiteId, body: &Body, out: &mut Outbox) -> Result<(), NodeFault>
         ensures works { OnOk result (Works (role_takes role.Pulls self.old.frame from body.now) self.old self.new out.old out.new) }
-        ensures uncut { IfErr result IsUncut }
+        ensures off_disk { IfErr result IsOffDisk }
     {
         match body {
             Body::Notify {

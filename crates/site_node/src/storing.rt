@@ -7,7 +7,7 @@ ghost use Rattle.role_steps.specs.Views.{Frame, Store};
 ghost use Rattle.the_run.specs.Steps.{at_store, from_user};
 ghost use Rattle.site_packs.specs.Packs.{Stand};
 ghost use Rattle.site_node.specs.Views.{Moves, view_of};
-ghost use Rattle.site_node.specs.Faults.{IsUncut};
+ghost use Rattle.site_node.specs.Faults.{IsOffDisk, fault_of_reading};
 ghost use Rattle.site_node.specs.Writing.{EventWrites};
 ghost use Rattle.site_node.specs.Roles.{mending_at, operated, role_takes};
 ghost use Rattle.site_node.specs.declared.roles.Role.TheVariants as role;
@@ -221,7 +221,7 @@ impl SiteNode {
     /// What an operation works on that is a mend; anything for another one.
     fn work_for(&self, inst: Serial, op: &Op) -> Result<MendingWork, NodeFault>
         ensures work { IfOk result (λ work. (f : Frame) (n : ℕ) (seen image : List ℕ) (s : Store) → on_op f work inst n op.now seen s ≡ on_op f (mending_at (view_of self.now image) inst) inst n op.now seen s) }
-        ensures uncut { IfErr result IsUncut }
+        ensures off_disk { IfErr result IsOffDisk }
     {
         match op {
             Op::Mend => self.mending_work(inst),
@@ -232,7 +232,7 @@ impl SiteNode {
     /// What the mend of the instance's group works on.
     fn mending_work(&self, inst: Serial) -> Result<MendingWork, NodeFault>
         ensures work { IfOk result (λ work. (image : List ℕ) → work ≡ mending_at (view_of self.now image) inst) }
-        ensures uncut { IfErr result IsUncut }
+        ensures off_disk { IfErr result IsOffDisk }
     {
         let group = self.store.instance_group(inst).unwrap_or(0);
         Ok(MendingWork {
@@ -256,7 +256,7 @@ impl SiteNode {
     /// The vectors of all kept versions of the group, where the site has its table.
     fn vectors_of(&self, group: u8) -> Result<KeptVectors, NodeFault>
         ensures kept { IfOk result (λ made. (image : List ℕ) → made ≡ (mending (view_of self.now image) group).kept) }
-        ensures uncut { IfErr result IsUncut }
+        ensures off_disk { IfErr result IsOffDisk }
     {
         let Some(table) = self.tables.find(u64::from(group)) else {
             return Ok(KeptVectors::new(self.alloc));
@@ -281,7 +281,7 @@ fn no_work(alloc: Global) -> MendingWork {
 
 /// The fault of a call that only reads: no write is cut off in it.
 fn reading(fault: StoreFault) -> NodeFault
-    ensures { IsUncut result }
+    ensures { result ≡ fault_of_reading fault }
 {
     match fault {
         StoreFault::Disk => NodeFault::Disk,

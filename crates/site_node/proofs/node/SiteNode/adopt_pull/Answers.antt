@@ -4,7 +4,7 @@ use Rattle.wire_messages.specs.Outboxes.{Outgoing}
 use Rattle.site_tables.specs.Tables.{noting_own}
 use Rattle.site_node.specs.declared.fault.NodeFault.TheVariants.{NoMemory}
 use Rattle.site_node.proofs.Adoptions.{adopted_moves}
-use Rattle.site_node.proofs.Cuts.{failed_still, pull_err, pull_failed, pull_ok}
+use Rattle.site_node.proofs.Cuts.{failed_still, pull_err, pull_failed, pull_ok, unread_adopt}
 use Rattle.site_node.proofs.node.SiteNode.adopt_pull.Goals as goal
 
 pub returns-clause-step : goal.returns-clause-step
@@ -12,17 +12,17 @@ returns-clause-step g c = adopted_moves c.args.pull.now c.as_slice.result.now c.
     c.in_ok-adopt.ensures.copies c.in_ok-adopt.ensures.stands c.adopt.ensures.places (c.in_ok-notes_own.ensures ∙ ap (λ (k : ℕ). noting_own k c.args.pull.now.file c.args.pull.now.stamp c.args.self.now.tables) c.site-me.ensures) c.in_ok-note.ensures.ok c.in_ok-send_to_sync.ensures.packets c.in_ok-send_to_sync.ensures.records
 
 pub returns-clause-disk : goal.returns-clause-disk
-returns-clause-disk g c = λ full. pull_ok c.args.self.now.frame c.args.pull.now c.as_slice.result.now c.as_slice.ensures c.args.self.now.packs (g.D.Disk.moment c.args.disk.now) (g.D.Disk.moment c.adopt.new.disk) c.args.out.now c.send_to_sync.new.out full c.adopt.ensures.any_moment c.adopt.ensures.how c.in_ok-adopt.ensures.tells
+returns-clause-disk g c = λ full. pull_ok c.args.self.now.frame c.args.pull.now c.as_slice.result.now c.as_slice.ensures c.args.self.now.packs (g.D.Disk.moment c.args.disk.now) (g.D.Disk.moment c.adopt.new.disk) c.args.out.now c.send_to_sync.new.out full c.adopt.ensures.any_moment c.adopt.ensures.how c.in_ok-adopt.ensures.tells c.in_ok-adopt.ensures.cause.later
 
 pub returns-in_err-note-clause-disk : goal.returns-in_err-note-clause-disk
 returns-in_err-note-clause-disk g c = λ full. failed_still _ c.args.self.now.packs (g.D.Disk.moment c.args.disk.now) c.args.out.now c.note.new.self c.from_residual.result NoMemory c.from_residual.ensures.1 tt c.requires.settled (g.met.D.Disk.only_now c.args.disk.now)
 
 pub returns-in_err-adopt-clause-disk : goal.returns-in_err-adopt-clause-disk
 returns-in_err-adopt-clause-disk g c = λ full. pull_err c.args.self.now.frame c.args.pull.now c.as_slice.result.now c.as_slice.ensures c.args.self.now.packs (g.D.Disk.moment c.args.disk.now) (g.D.Disk.moment c.adopt.new.disk) c.args.out.now c.note.new.self full c.adopt.ensures.any_moment c.adopt.ensures.how c.from_residual-in_err-adopt.result c.in_err-adopt.field-0.0 c.from_residual-in_err-adopt.ensures.1 c.in_err-adopt.ensures.tells c.in_err-adopt.ensures.size c.in_err-adopt.ensures.cut
-    (ap (λ (o : Outgoing). o.records) c.in_ok-note.ensures.ok ∙ ap (λ (k : ℕ). c.args.out.now.records ++ says.Adopt c.args.pull.now.file k c.args.pull.now.stamp ∷ []) (c.get.ensures.value ∙ c.site-me.ensures))
+    (c.in_ok-note.ensures.ok ∙ ap (λ (k : ℕ). record c.args.out.now { records = c.args.out.now.records ++ says.Adopt c.args.pull.now.file k c.args.pull.now.stamp ∷ [] }) (c.get.ensures.value ∙ c.site-me.ensures)) c.in_err-adopt.ensures.cause (unread_adopt c.in_err-adopt.field-0.0 c.in_err-adopt.ensures.written)
 
 pub returns-in_err-notes_own-clause-disk : goal.returns-in_err-notes_own-clause-disk
-returns-in_err-notes_own-clause-disk g c = λ full. pull_failed c.args.self.now.frame c.args.pull.now c.as_slice.result.now c.as_slice.ensures c.args.self.now.packs (g.D.Disk.moment c.args.disk.now) (g.D.Disk.moment c.adopt.new.disk) c.args.out.now c.note.new.self full c.adopt.ensures.any_moment c.adopt.ensures.how c.from_residual-in_err-notes_own.result NoMemory c.from_residual-in_err-notes_own.ensures.1 tt
+returns-in_err-notes_own-clause-disk g c = λ full. pull_failed c.args.self.now.frame c.args.pull.now c.as_slice.result.now c.as_slice.ensures c.args.self.now.packs (g.D.Disk.moment c.args.disk.now) (g.D.Disk.moment c.adopt.new.disk) c.args.out.now c.note.new.self full c.adopt.ensures.any_moment c.adopt.ensures.how c.from_residual-in_err-notes_own.result NoMemory c.from_residual-in_err-notes_own.ensures.1 tt c.in_ok-adopt.ensures.cause.later
 
 pub returns-in_err-send_to_sync-clause-disk : goal.returns-in_err-send_to_sync-clause-disk
-returns-in_err-send_to_sync-clause-disk g c = λ full. pull_failed c.args.self.now.frame c.args.pull.now c.as_slice.result.now c.as_slice.ensures c.args.self.now.packs (g.D.Disk.moment c.args.disk.now) (g.D.Disk.moment c.adopt.new.disk) c.args.out.now c.send_to_sync.new.out full c.adopt.ensures.any_moment c.adopt.ensures.how c.from_residual-in_err-send_to_sync.result NoMemory c.from_residual-in_err-send_to_sync.ensures.1 tt
+returns-in_err-send_to_sync-clause-disk g c = λ full. pull_failed c.args.self.now.frame c.args.pull.now c.as_slice.result.now c.as_slice.ensures c.args.self.now.packs (g.D.Disk.moment c.args.disk.now) (g.D.Disk.moment c.adopt.new.disk) c.args.out.now c.send_to_sync.new.out full c.adopt.ensures.any_moment c.adopt.ensures.how c.from_residual-in_err-send_to_sync.result NoMemory c.from_residual-in_err-send_to_sync.ensures.1 tt c.in_ok-adopt.ensures.cause.later

@@ -3,9 +3,11 @@ use Rattle.role_steps.specs.Epochs.{passes_over}
 use Rattle.the_run.specs.Steps.{ends_event}
 use Rattle.site_node.specs.Mending.{mends_at}
 use Rattle.site_node.specs.Views.{Moves}
-use Rattle.site_node.specs.declared.fault.NodeFault.TheVariants.{NoMemory}
+use Rattle.site_node.specs.declared.fault.NodeFault.TheVariants.{NoMemory, NoNumber}
 use Rattle.site_node.proofs.Cuts.{failed_still, none_at}
 use Rattle.site_node.proofs.Moving.{moves_from, moves_then, moves_work}
+use Rattle.std.proofs.Common.{◌≡◌}
+use Rattle.site_node.proofs.Numbers.{if_err, memory_numbered}
 use Rattle.site_node.proofs.node.SiteNode.end_event.Goals as goal
 
 pub start_mends-requires : goal.start_mends-requires
@@ -23,3 +25,6 @@ returns-clause-disk g c = none_at c.args.self.now.packs c.pass_over.new.self.pac
 
 pub returns-in_err-pass_over-clause-disk : goal.returns-in_err-pass_over-clause-disk
 returns-in_err-pass_over-clause-disk g c = failed_still _ c.args.self.now.packs (g.D.Disk.moment c.args.disk.now) c.args.out.now c.pass_over.new.out c.from_residual.result NoMemory c.from_residual.ensures.1 tt c.requires.settled (g.met.D.Disk.only_now c.args.disk.now)
+
+pub returns-in_err-pass_over-clause-numbered : goal.returns-in_err-pass_over-clause-numbered
+returns-in_err-pass_over-clause-numbered g c = if_err c.from_residual.result NoMemory (λ f. f ≡ NoNumber → ⊥) c.from_residual.ensures.1 memory_numbered

@@ -3,7 +3,7 @@ use Rattle.the_run.specs.Steps.{ends_event}
 use Rattle.site_node.specs.Faults.{fault_of_order}
 use Rattle.site_node.specs.Views.{view_of}
 use Rattle.site_node.specs.declared.fault.NodeFault.TheVariants.{NoMemory}
-use Rattle.site_node.proofs.Cuts.{ended_ill, ended_late, ended_well, failed_still, order_uncut}
+use Rattle.site_node.proofs.Cuts.{ended_ill, ended_late, ended_well, failed_still, order_off}
 use Rattle.site_node.proofs.Unwritten.{leave_step}
 use Rattle.site_node.proofs.Endings.{event_alone}
 use Rattle.site_node.proofs.Moving.{moves_from, moves_work}
@@ -28,4 +28,4 @@ pub returns-in_err-end_event-clause-disk : goal.returns-in_err-end_event-clause-
 returns-in_err-end_event-clause-disk g c = ended_ill _ (leave_step c.args.self.now.frame.config c.args.self.now.frame.me c.args.links.now (view_of c.args.self.now (g.D.Disk.moment c.args.disk.now).seen)) c.args.self.now.packs c.leave.new.self.packs (g.D.Disk.moment c.args.disk.now) (g.D.Disk.moment c.end_event.new.disk) c.args.out.now c.args.out.now c.leave.new.out c.end_event.new.out {T = Unit {0}} {S = Unit {0}} c.from_residual-in_err-end_event.result c.in_err-end_event.field-0.0 c.from_residual-in_err-end_event.ensures.1 c.in_err-end_event.ensures.disk
 
 pub returns-in_err-add_in_order-clause-disk : goal.returns-in_err-add_in_order-clause-disk
-returns-in_err-add_in_order-clause-disk g c = ended_late _ (leave_step c.args.self.now.frame.config c.args.self.now.frame.me c.args.links.now (view_of c.args.self.now (g.D.Disk.moment c.args.disk.now).seen)) c.args.self.now.packs c.leave.new.self.packs (g.D.Disk.moment c.args.disk.now) (g.D.Disk.moment c.end_event.new.disk) c.args.out.now c.add_in_order.new.self c.leave.new.out c.end_event.new.out {T = Unit {0}} {S = Unit {0}} c.from_residual-in_err-add_in_order.result (fault_of_order c.in_err-add_in_order.field-0.0) tt c.from_residual-in_err-add_in_order.ensures.1 (order_uncut c.in_err-add_in_order.field-0.0) c.in_ok-end_event.ensures.disk
+returns-in_err-add_in_order-clause-disk g c = ended_late _ (leave_step c.args.self.now.frame.config c.args.self.now.frame.me c.args.links.now (view_of c.args.self.now (g.D.Disk.moment c.args.disk.now).seen)) c.args.self.now.packs c.leave.new.self.packs (g.D.Disk.moment c.args.disk.now) (g.D.Disk.moment c.end_event.new.disk) c.args.out.now c.add_in_order.new.self c.leave.new.out c.end_event.new.out {T = Unit {0}} {S = Unit {0}} c.from_residual-in_err-add_in_order.result (fault_of_order c.in_err-add_in_order.field-0.0) tt c.from_residual-in_err-add_in_order.ensures.1 (order_off c.in_err-add_in_order.field-0.0) c.in_ok-end_event.ensures.disk

@@ -2,29 +2,41 @@ use Rattle.role_steps.specs.Epochs.{starts_part}
 use Rattle.the_run.specs.Steps.{ends_event}
 use Rattle.site_node.specs.Faults.{fault_of_epoch, fault_of_order}
 use Rattle.site_node.specs.Views.{view_of}
-use Rattle.site_node.proofs.Cuts.{ended_ill, ended_late, ended_well, epoch_uncut, failed_still, order_uncut}
+use Rattle.site_node.specs.declared.fault.NodeFault.TheVariants.{NoNumber}
+use Rattle.site_node.proofs.Cuts.{ended_ill, ended_late, ended_well, epoch_off, failed_still, order_off}
 use Rattle.site_node.proofs.Unwritten.{part_step}
 use Rattle.site_node.proofs.Endings.{event_alone}
 use Rattle.site_node.proofs.Moving.{moves_from, moves_work}
+use Rattle.std.proofs.Common.{◌≡◌}
+use Rattle.site_node.proofs.Numbers.{if_err, order_numbered, spent_at}
 use Rattle.site_node.proofs.node.SiteNode.part.Goals as goal
 
 pub end_event-requires : goal.end_event-requires
-end_event-requires g c = (moves_work (starts_part c.args.self.now.frame.me c.args.links.now) c.args.self.now c.start_part.new.self (g.D.Disk.moment c.args.disk.now) c.new-own.result c.start_part.new.out c.requires c.in_ok-start_part.ensures).stands
+end_event-requires g c = (moves_work (starts_part c.args.self.now.frame.me c.args.links.now) c.args.self.now c.start_part.new.self (g.D.Disk.moment c.args.disk.now) c.new-own.result c.start_part.new.out c.requires c.in_ok-start_part.ensures.works).stands
 
 pub returns-clause-step : goal.returns-clause-step
 returns-clause-step g c = event_alone (starts_part c.args.self.now.frame.me c.args.links.now) (ends_event c.args.self.now.frame.config c.args.self.now.frame.me c.args.links.now) c.args.self.now c.start_part.new.self c.end_event.new.self (g.D.Disk.moment c.args.disk.now) (g.D.Disk.moment c.args.disk.now) (g.D.Disk.moment c.end_event.new.disk) c.new-own.result c.start_part.new.out c.end_event.new.out c.args.out.now c.add_in_order.new.self c.new-own.ensures.packets c.new-own.ensures.records
-    (moves_work (starts_part c.args.self.now.frame.me c.args.links.now) c.args.self.now c.start_part.new.self (g.D.Disk.moment c.args.disk.now) c.new-own.result c.start_part.new.out c.requires c.in_ok-start_part.ensures)
-    (moves_from (λ k me. ends_event k me c.args.links.now) c.args.self.now c.start_part.new.self c.end_event.new.self (g.D.Disk.moment c.args.disk.now) (g.D.Disk.moment c.end_event.new.disk) c.start_part.new.out c.end_event.new.out c.in_ok-start_part.ensures.config c.in_ok-start_part.ensures.me c.in_ok-end_event.ensures.step)
+    (moves_work (starts_part c.args.self.now.frame.me c.args.links.now) c.args.self.now c.start_part.new.self (g.D.Disk.moment c.args.disk.now) c.new-own.result c.start_part.new.out c.requires c.in_ok-start_part.ensures.works)
+    (moves_from (λ k me. ends_event k me c.args.links.now) c.args.self.now c.start_part.new.self c.end_event.new.self (g.D.Disk.moment c.args.disk.now) (g.D.Disk.moment c.end_event.new.disk) c.start_part.new.out c.end_event.new.out c.in_ok-start_part.ensures.works.config c.in_ok-start_part.ensures.works.me c.in_ok-end_event.ensures.step)
     c.in_ok-add_in_order.ensures.order
 
 pub returns-clause-disk : goal.returns-clause-disk
 returns-clause-disk g c = ended_well _ (part_step c.args.self.now.frame.config c.args.self.now.frame.me c.args.links.now (view_of c.args.self.now (g.D.Disk.moment c.args.disk.now).seen)) c.args.self.now.packs c.start_part.new.self.packs (g.D.Disk.moment c.args.disk.now) (g.D.Disk.moment c.end_event.new.disk) c.args.out.now c.add_in_order.new.self c.start_part.new.out c.end_event.new.out {T = Unit {0}} {S = Unit {0}} tt tt c.in_ok-end_event.ensures.disk
 
 pub returns-in_err-start_part-clause-disk : goal.returns-in_err-start_part-clause-disk
-returns-in_err-start_part-clause-disk g c = failed_still _ c.args.self.now.packs (g.D.Disk.moment c.args.disk.now) c.args.out.now c.args.out.now c.from_residual.result (fault_of_epoch c.in_err-start_part.field-0.0) c.from_residual.ensures.1 (epoch_uncut c.in_err-start_part.field-0.0) c.requires.settled (g.met.D.Disk.only_now c.args.disk.now)
+returns-in_err-start_part-clause-disk g c = failed_still _ c.args.self.now.packs (g.D.Disk.moment c.args.disk.now) c.args.out.now c.args.out.now c.from_residual.result (fault_of_epoch c.in_err-start_part.field-0.0) c.from_residual.ensures.1 (epoch_off c.in_err-start_part.field-0.0) c.requires.settled (g.met.D.Disk.only_now c.args.disk.now)
 
 pub returns-in_err-end_event-clause-disk : goal.returns-in_err-end_event-clause-disk
 returns-in_err-end_event-clause-disk g c = ended_ill _ (part_step c.args.self.now.frame.config c.args.self.now.frame.me c.args.links.now (view_of c.args.self.now (g.D.Disk.moment c.args.disk.now).seen)) c.args.self.now.packs c.start_part.new.self.packs (g.D.Disk.moment c.args.disk.now) (g.D.Disk.moment c.end_event.new.disk) c.args.out.now c.args.out.now c.start_part.new.out c.end_event.new.out {T = Unit {0}} {S = Unit {0}} c.from_residual-in_err-end_event.result c.in_err-end_event.field-0.0 c.from_residual-in_err-end_event.ensures.1 c.in_err-end_event.ensures.disk
 
 pub returns-in_err-add_in_order-clause-disk : goal.returns-in_err-add_in_order-clause-disk
-returns-in_err-add_in_order-clause-disk g c = ended_late _ (part_step c.args.self.now.frame.config c.args.self.now.frame.me c.args.links.now (view_of c.args.self.now (g.D.Disk.moment c.args.disk.now).seen)) c.args.self.now.packs c.start_part.new.self.packs (g.D.Disk.moment c.args.disk.now) (g.D.Disk.moment c.end_event.new.disk) c.args.out.now c.add_in_order.new.self c.start_part.new.out c.end_event.new.out {T = Unit {0}} {S = Unit {0}} c.from_residual-in_err-add_in_order.result (fault_of_order c.in_err-add_in_order.field-0.0) tt c.from_residual-in_err-add_in_order.ensures.1 (order_uncut c.in_err-add_in_order.field-0.0) c.in_ok-end_event.ensures.disk
+returns-in_err-add_in_order-clause-disk g c = ended_late _ (part_step c.args.self.now.frame.config c.args.self.now.frame.me c.args.links.now (view_of c.args.self.now (g.D.Disk.moment c.args.disk.now).seen)) c.args.self.now.packs c.start_part.new.self.packs (g.D.Disk.moment c.args.disk.now) (g.D.Disk.moment c.end_event.new.disk) c.args.out.now c.add_in_order.new.self c.start_part.new.out c.end_event.new.out {T = Unit {0}} {S = Unit {0}} c.from_residual-in_err-add_in_order.result (fault_of_order c.in_err-add_in_order.field-0.0) tt c.from_residual-in_err-add_in_order.ensures.1 (order_off c.in_err-add_in_order.field-0.0) c.in_ok-end_event.ensures.disk
+
+pub returns-in_err-start_part-clause-spent : goal.returns-in_err-start_part-clause-spent
+returns-in_err-start_part-clause-spent g c = if_err c.from_residual.result (fault_of_epoch c.in_err-start_part.field-0.0) (λ f. f ≡ NoNumber → c.args.self.now.epochs.promised.number ≡ 4294967295) c.from_residual.ensures.1 (spent_at c.in_err-start_part.field-0.0 (c.args.self.now.epochs.promised.number ≡ 4294967295) c.in_err-start_part.ensures.spent)
+
+pub returns-in_err-end_event-clause-spent : goal.returns-in_err-end_event-clause-spent
+returns-in_err-end_event-clause-spent g c = if_err c.from_residual-in_err-end_event.result c.in_err-end_event.field-0.0 (λ f. f ≡ NoNumber → c.args.self.now.epochs.promised.number ≡ 4294967295) c.from_residual-in_err-end_event.ensures.1 (λ h. absurd (c.in_err-end_event.ensures.numbered h))
+
+pub returns-in_err-add_in_order-clause-spent : goal.returns-in_err-add_in_order-clause-spent
+returns-in_err-add_in_order-clause-spent g c = if_err c.from_residual-in_err-add_in_order.result (fault_of_order c.in_err-add_in_order.field-0.0) (λ f. f ≡ NoNumber → c.args.self.now.epochs.promised.number ≡ 4294967295) c.from_residual-in_err-add_in_order.ensures.1 (λ h. absurd (order_numbered c.in_err-add_in_order.field-0.0 h))

@@ -6,7 +6,7 @@ use Rattle.site_node.specs.Faults.{fault_of_order}
 use Rattle.site_node.specs.Taking.{taken}
 use Rattle.site_node.specs.Views.{steps_at, view_of}
 use Rattle.site_node.specs.declared.fault.NodeFault.TheVariants.{NoMemory}
-use Rattle.site_node.proofs.Cuts.{failed_after, handed, order_uncut, untouched}
+use Rattle.site_node.proofs.Cuts.{failed_after, handed, order_off, untouched}
 use Rattle.site_node.proofs.Received.{dropped_none, receive_failed, received}
 use Rattle.site_node.proofs.Together.{cut_told, then_reads}
 use Rattle.site_node.proofs.Receives.{receives, receives_none}
@@ -24,11 +24,11 @@ returns-then-is_dropped-clause-disk g c = untouched _ c.args.self.now.packs (g.D
 
 pub returns-in-Err-clause-disk : goal.returns-in-Err-clause-disk
 returns-in-Err-clause-disk g c = receive_failed g.D.Disk.moment g.met.D.Disk.reads_an_image g.met.D.Disk.counts_now {T = Unit {0}} c.args.links.now c.args.packet c.args.self.now c.args.disk.now c.take.new.disk c.args.out.now c.cut_off.new.out c.cut_off.result (sym (c.is_dropped.ensures (g.D.Disk.moment c.args.disk.now).seen) ∙ c.if-is_dropped.false)
-    (cut_told {T = Unit {0}} {S = Unit {0}} (taken c.args.self.now.frame.config c.args.self.now.frame.me c.args.links.now c.args.packet (view_of c.args.self.now (g.D.Disk.moment c.args.disk.now).seen)).written c.args.self.now.packs (g.D.Disk.moment c.args.disk.now) (g.D.Disk.moment c.take.new.disk) c.new-own.result c.take.new.out c.args.out.now c.cut_off.new.out c.in-Err.fault c.cut_off.result c.new-own.ensures.records c.cut_off.ensures.fault c.cut_off.ensures.told c.in-Err.ensures.disk)
+    (cut_told {T = Unit {0}} {S = Unit {0}} (taken c.args.self.now.frame.config c.args.self.now.frame.me c.args.links.now c.args.packet (view_of c.args.self.now (g.D.Disk.moment c.args.disk.now).seen)).written c.args.self.now.packs (g.D.Disk.moment c.args.disk.now) (g.D.Disk.moment c.take.new.disk) c.new-own.result c.take.new.out c.args.out.now c.cut_off.new.out c.in-Err.fault c.cut_off.result c.new-own.ensures.packets c.new-own.ensures.records c.cut_off.ensures.fault c.cut_off.ensures.told c.in-Err.ensures.disk)
 
 pub returns-in-Err-try_adoption-clause-disk : goal.returns-in-Err-try_adoption-clause-disk
 returns-in-Err-try_adoption-clause-disk g c = (received g.D.Disk.moment g.met.D.Disk.reads_an_image g.met.D.Disk.counts_now {S = Unit {0}} {T = Unit {0}} c.args.links.now c.args.packet c.args.self.now c.take.new.self c.args.disk.now c.take.new.disk c.try_adoption.new.disk c.new-own.result c.take.new.out c.args.out.now c.cut_off-in-Err-try_adoption.new.out tt (Err c.cut_off-in-Err-try_adoption.result) (sym (c.is_dropped.ensures (g.D.Disk.moment c.args.disk.now).seen) ∙ c.if-is_dropped.false) c.in_default.ensures.step c.in_default.ensures.disk
-    (cut_told {T = Unit {0}} {S = Unit {0}} (tries_at c.take.new.self.frame.config c.take.new.self.frame.me c.args.packet.body (view_of c.take.new.self (g.D.Disk.moment c.take.new.disk).seen)).written c.take.new.self.packs (g.D.Disk.moment c.take.new.disk) (g.D.Disk.moment c.try_adoption.new.disk) c.new-adopted.result c.try_adoption.new.out c.args.out.now c.cut_off-in-Err-try_adoption.new.out c.in-Err-try_adoption.fault c.cut_off-in-Err-try_adoption.result c.new-adopted.ensures.records c.cut_off-in-Err-try_adoption.ensures.fault c.cut_off-in-Err-try_adoption.ensures.told
+    (cut_told {T = Unit {0}} {S = Unit {0}} (tries_at c.take.new.self.frame.config c.take.new.self.frame.me c.args.packet.body (view_of c.take.new.self (g.D.Disk.moment c.take.new.disk).seen)).written c.take.new.self.packs (g.D.Disk.moment c.take.new.disk) (g.D.Disk.moment c.try_adoption.new.disk) c.new-adopted.result c.try_adoption.new.out c.args.out.now c.cut_off-in-Err-try_adoption.new.out c.in-Err-try_adoption.fault c.cut_off-in-Err-try_adoption.result c.new-adopted.ensures.packets c.new-adopted.ensures.records c.cut_off-in-Err-try_adoption.ensures.fault c.cut_off-in-Err-try_adoption.ensures.told
     (c.in-Err-try_adoption.ensures.disk c.args.packet.body c.tries_at-tries.ensures)))
 
 pub returns-in_err-end_event-clause-disk : goal.returns-in_err-end_event-clause-disk
@@ -49,7 +49,7 @@ returns-in_err-add_in_order-clause-disk g c = failed_after {T = Unit {0}} {S = U
     (then_reads g.D.Disk.moment g.met.D.Disk.reads_an_image g.met.D.Disk.counts_now {S = Unit {0}} {T = Unit {0}} (steps_at c.args.self.now c.args.links.now (Receives c.args.packet) (view_of c.args.self.now (g.D.Disk.moment c.args.disk.now).seen)).written c.args.self.now.packs c.try_adoption.new.self.packs c.args.disk.now c.try_adoption.new.disk c.end_event.new.disk c.new-adopted.result c.try_adoption.new.out c.take.new.out c.end_event.new.out c.args.out.now c.args.out.now tt (Ok tt)
     (received g.D.Disk.moment g.met.D.Disk.reads_an_image g.met.D.Disk.counts_now {S = Unit {0}} {T = Unit {0}} c.args.links.now c.args.packet c.args.self.now c.take.new.self c.args.disk.now c.take.new.disk c.try_adoption.new.disk c.new-own.result c.take.new.out c.new-adopted.result c.try_adoption.new.out tt (Ok tt) (sym (c.is_dropped.ensures (g.D.Disk.moment c.args.disk.now).seen) ∙ c.if-is_dropped.false) c.in_default.ensures.step c.in_default.ensures.disk (c.in_default-try_adoption.ensures.disk c.args.packet.body c.tries_at-tries.ensures))
     c.in_ok-end_event.ensures.disk)
-    c.from_residual-in_err-add_in_order.ensures.1 (order_uncut c.in_err-add_in_order.field-0.0)
+    c.from_residual-in_err-add_in_order.ensures.1 (order_off c.in_err-add_in_order.field-0.0)
 
 pub returns-clause-disk : goal.returns-clause-disk
 returns-clause-disk g c = then_reads g.D.Disk.moment g.met.D.Disk.reads_an_image g.met.D.Disk.counts_now {S = Unit {0}} {T = Unit {0}} (steps_at c.args.self.now c.args.links.now (Receives c.args.packet) (view_of c.args.self.now (g.D.Disk.moment c.args.disk.now).seen)).written c.args.self.now.packs c.try_adoption.new.self.packs c.args.disk.now c.try_adoption.new.disk c.end_event.new.disk c.new-adopted.result c.try_adoption.new.out c.take.new.out c.end_event.new.out c.args.out.now c.add_in_order.new.self tt (Ok tt)

@@ -1,4 +1,4 @@
-use Rattle.std.proofs.Common.{List, refl, subst}
+use Rattle.std.proofs.Common.{◌≡◌, List, refl, subst}
 use Rattle.role_steps.specs.Epochs.{with_users}
 use Rattle.role_steps.specs.Mends.{starts_mends_in}
 use Rattle.role_steps.specs.Views.{SiteView}
@@ -7,6 +7,9 @@ use Rattle.site_mends.specs.Mending.{IsSeen}
 use Rattle.using_site.specs.Steps.{Gives}
 use Rattle.site_node.proofs.Cuts.{mends_ill, mends_well, untouched}
 use Rattle.site_node.proofs.Starts.{entered_frame, mends_inside, mends_outside}
+use Rattle.site_node.specs.Faults.{fault_of_mend}
+use Rattle.site_node.specs.declared.fault.NodeFault.TheVariants.{NoNumber}
+use Rattle.site_node.proofs.Numbers.{if_err, mend_numbered}
 use Rattle.site_node.proofs.node.SiteNode.start_mends.Goals as goal
 
 pub returns-in_default-clause-step : goal.returns-in_default-clause-step
@@ -25,3 +28,6 @@ returns-clause-disk g c = mends_well g.D.Disk.moment {T = Unit {0}} {S = Unit {0
 
 pub returns-in_err-start_mends-clause-disk : goal.returns-in_err-start_mends-clause-disk
 returns-in_err-start_mends-clause-disk g c = mends_ill g.D.Disk.moment {T = Unit {0}} {S = Unit {0}} c.args.self.now.packs c.args.disk.now c.start_mends.new.disk c.args.out.now c.start_mends.new.out c.from_residual.result c.in_err-start_mends.field-0.0 c.from_residual.ensures.1 c.requires.settled (g.met.D.Disk.only_now c.args.disk.now) c.in_err-start_mends.ensures.disk
+
+pub returns-in_err-start_mends-clause-numbered : goal.returns-in_err-start_mends-clause-numbered
+returns-in_err-start_mends-clause-numbered g c = if_err c.from_residual.result (fault_of_mend c.in_err-start_mends.field-0.0) (λ f. f ≡ NoNumber → ⊥) c.from_residual.ensures.1 (mend_numbered c.in_err-start_mends.field-0.0)

@@ -3,7 +3,7 @@ use Rattle.site_node.specs.Faults.{fault_of_epoch}
 use Rattle.site_node.specs.Taking.{in_epoch_takes, taken}
 use Rattle.site_node.specs.Views.{Moves, view_of}
 use Rattle.site_node.specs.declared.fault.NodeFault.TheVariants.{NoMemory}
-use Rattle.site_node.proofs.Cuts.{epoch_uncut, failed_still, untouched, written_as}
+use Rattle.site_node.proofs.Cuts.{epoch_off, failed_still, untouched, written_as}
 use Rattle.site_node.proofs.Moving.{moves_work}
 use Rattle.site_node.proofs.Takes.{inside_written, taken_as, taken_inside}
 use Rattle.site_node.proofs.Unwritten.{forms_none}
@@ -21,7 +21,7 @@ returns-in-Promise-clause-step g c = taken_as c.args.self.now.frame.config c.arg
 
 pub returns-in_ok-take_refuse-in-Refuse-clause-step : goal.returns-in_ok-take_refuse-in-Refuse-clause-step
 returns-in_ok-take_refuse-in-Refuse-clause-step g c = taken_as c.args.self.now.frame.config c.args.self.now.frame.me c.args.links.now c.args.packet (body.Refuse c.in-Refuse.promised) c.args.self.now c.take_refuse.new.self (g.D.Disk.moment c.args.disk.now) (g.D.Disk.moment c.args.disk.now) c.args.out.now c.take_refuse.new.out c.in-Refuse.is
-    (moves_work (on_refuse c.args.self.now.frame.me c.args.links.now c.args.packet.epoch c.in-Refuse.promised) c.args.self.now c.take_refuse.new.self (g.D.Disk.moment c.args.disk.now) c.args.out.now c.take_refuse.new.out c.requires c.in_ok-take_refuse-in-Refuse.ensures)
+    (moves_work (on_refuse c.args.self.now.frame.me c.args.links.now c.args.packet.epoch c.in-Refuse.promised) c.args.self.now c.take_refuse.new.self (g.D.Disk.moment c.args.disk.now) c.args.out.now c.take_refuse.new.out c.requires c.in_ok-take_refuse-in-Refuse.ensures.works)
 
 pub returns-in_ok-take_install-in-Install-clause-step : goal.returns-in_ok-take_install-in-Install-clause-step
 returns-in_ok-take_install-in-Install-clause-step g c = taken_as c.args.self.now.frame.config c.args.self.now.frame.me c.args.links.now c.args.packet (body.Install c.in-Install.members) c.args.self.now c.take_install.new.self (g.D.Disk.moment c.args.disk.now) (g.D.Disk.moment c.args.disk.now) c.args.out.now c.take_install.new.out c.in-Install.is
@@ -52,7 +52,7 @@ pub returns-in_ok-take_refuse-in-Refuse-clause-disk : goal.returns-in_ok-take_re
 returns-in_ok-take_refuse-in-Refuse-clause-disk g c = untouched _ c.args.self.now.packs (g.D.Disk.moment c.args.disk.now) c.args.out.now c.take_refuse.new.out tt (forms_none c.args.self.now.frame.config c.args.self.now.frame.me c.args.links.now c.args.packet (body.Refuse c.in-Refuse.promised) (view_of c.args.self.now (g.D.Disk.moment c.args.disk.now).seen) c.in-Refuse.is tt) c.requires.settled (g.met.D.Disk.only_now c.args.disk.now)
 
 pub returns-in_err-take_refuse-in-Refuse-clause-disk : goal.returns-in_err-take_refuse-in-Refuse-clause-disk
-returns-in_err-take_refuse-in-Refuse-clause-disk g c = failed_still _ c.args.self.now.packs (g.D.Disk.moment c.args.disk.now) c.args.out.now c.take_refuse.new.out c.from_residual-in_err-take_refuse-in-Refuse.result (fault_of_epoch c.in_err-take_refuse-in-Refuse.field-0.0) c.from_residual-in_err-take_refuse-in-Refuse.ensures.1 (epoch_uncut c.in_err-take_refuse-in-Refuse.field-0.0) c.requires.settled (g.met.D.Disk.only_now c.args.disk.now)
+returns-in_err-take_refuse-in-Refuse-clause-disk g c = failed_still _ c.args.self.now.packs (g.D.Disk.moment c.args.disk.now) c.args.out.now c.take_refuse.new.out c.from_residual-in_err-take_refuse-in-Refuse.result (fault_of_epoch c.in_err-take_refuse-in-Refuse.field-0.0) c.from_residual-in_err-take_refuse-in-Refuse.ensures.1 (epoch_off c.in_err-take_refuse-in-Refuse.field-0.0) c.requires.settled (g.met.D.Disk.only_now c.args.disk.now)
 
 pub returns-in_ok-take_install-in-Install-clause-disk : goal.returns-in_ok-take_install-in-Install-clause-disk
 returns-in_ok-take_install-in-Install-clause-disk g c = untouched _ c.args.self.now.packs (g.D.Disk.moment c.args.disk.now) c.args.out.now c.take_install.new.out tt (forms_none c.args.self.now.frame.config c.args.self.now.frame.me c.args.links.now c.args.packet (body.Install c.in-Install.members) (view_of c.args.self.now (g.D.Disk.moment c.args.disk.now).seen) c.in-Install.is tt) c.requires.settled (g.met.D.Disk.only_now c.args.disk.now)

@@ -64,7 +64,7 @@ pub returns-in_ok-take_at_pulls-in-Pulls-clause-disk : goal.returns-in_ok-take_a
 returns-in_ok-take_at_pulls-in-Pulls-clause-disk g c = untouched _ c.args.self.now.packs (g.D.Disk.moment c.args.disk.now) c.args.out.now c.take_at_pulls.new.out tt (unwritten_by c.args.self.now.frame c.args.from c.args.body (view_of c.args.self.now (g.D.Disk.moment c.args.disk.now).seen) role.Pulls (sym c.in-Pulls.is ∙ c.role_of.ensures) tt) c.requires.settled (g.met.D.Disk.only_now c.args.disk.now)
 
 pub returns-in_err-take_at_pulls-in-Pulls-clause-disk : goal.returns-in_err-take_at_pulls-in-Pulls-clause-disk
-returns-in_err-take_at_pulls-in-Pulls-clause-disk g c = failed_still _ c.args.self.now.packs (g.D.Disk.moment c.args.disk.now) c.args.out.now c.take_at_pulls.new.out c.from_residual-in_err-take_at_pulls-in-Pulls.result c.in_err-take_at_pulls-in-Pulls.field-0.0 c.from_residual-in_err-take_at_pulls-in-Pulls.ensures.1 c.in_err-take_at_pulls-in-Pulls.ensures.uncut c.requires.settled (g.met.D.Disk.only_now c.args.disk.now)
+returns-in_err-take_at_pulls-in-Pulls-clause-disk g c = failed_still _ c.args.self.now.packs (g.D.Disk.moment c.args.disk.now) c.args.out.now c.take_at_pulls.new.out c.from_residual-in_err-take_at_pulls-in-Pulls.result c.in_err-take_at_pulls-in-Pulls.field-0.0 c.from_residual-in_err-take_at_pulls-in-Pulls.ensures.1 c.in_err-take_at_pulls-in-Pulls.ensures.off_disk c.requires.settled (g.met.D.Disk.only_now c.args.disk.now)
 
 pub returns-in-Epochs-clause-disk : goal.returns-in-Epochs-clause-disk
 returns-in-Epochs-clause-disk g c = untouched _ c.args.self.now.packs (g.D.Disk.moment c.args.disk.now) c.args.out.now c.args.out.now tt (unwritten_by c.args.self.now.frame c.args.from c.args.body (view_of c.args.self.now (g.D.Disk.moment c.args.disk.now).seen) role.Epochs (sym c.in-Epochs.is ∙ c.role_of.ensures) tt) c.requires.settled (g.met.D.Disk.only_now c.args.disk.now)

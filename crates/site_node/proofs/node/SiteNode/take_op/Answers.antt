@@ -28,4 +28,4 @@ returns-in_err-on_op-clause-disk g c =
     (store_err {T = Unit {0}} {S = Unit {0}} _ c.args.self.now.packs (g.D.Disk.moment c.args.disk.now) (g.D.Disk.moment c.on_op.new.disk) c.args.out.now c.on_op.new.out c.from_residual-in_err-on_op.result c.in_err-on_op.field-0.0 c.from_residual-in_err-on_op.ensures.1 c.in_err-on_op.ensures.disk)
 
 pub returns-in_err-work-clause-disk : goal.returns-in_err-work-clause-disk
-returns-in_err-work-clause-disk g c = failed_still _ c.args.self.now.packs (g.D.Disk.moment c.args.disk.now) c.args.out.now c.args.out.now c.from_residual.result c.in_err-work.field-0.0 c.from_residual.ensures.1 c.in_err-work.ensures.uncut c.requires.settled (g.met.D.Disk.only_now c.args.disk.now)
+returns-in_err-work-clause-disk g c = failed_still _ c.args.self.now.packs (g.D.Disk.moment c.args.disk.now) c.args.out.now c.args.out.now c.from_residual.result c.in_err-work.field-0.0 c.from_residual.ensures.1 c.in_err-work.ensures.off_disk c.requires.settled (g.met.D.Disk.only_now c.args.disk.now)

@@ -5,7 +5,7 @@ use Rattle.std.specs.Prelude.{Ok, Err}
 use Rattle.site_node.specs.Faults.{fault_of_order}
 use Rattle.site_node.specs.Views.{view_of}
 use Rattle.site_node.specs.declared.fault.NodeFault.TheVariants.{NoMemory}
-use Rattle.site_node.proofs.Cuts.{failed_after, handed, order_uncut, written_as}
+use Rattle.site_node.proofs.Cuts.{failed_after, handed, order_off, written_as}
 use Rattle.site_node.proofs.Together.{cut_told, then_reads}
 use Rattle.site_node.proofs.Ticks.{tick_given}
 use Rattle.site_node.proofs.Unwritten.{tick_step}
@@ -19,13 +19,13 @@ returns-clause-step g c = tick_given c.args.links.now c.args.self.now c.adopt.ne
     c.new-adopted.ensures.packets c.new-adopted.ensures.records c.new-last.ensures.packets c.new-last.ensures.records c.in_default.ensures.step c.in_ok-add.ensures c.in_ok-repeat.ensures c.in_ok-end_event.ensures.step c.in_ok-add_in_order.ensures.order
 
 pub returns-in-Err-clause-disk : goal.returns-in-Err-clause-disk
-returns-in-Err-clause-disk g c = written_as _ (adopts_in c.args.self.now.frame.config c.args.self.now.frame.me (view_of c.args.self.now (g.D.Disk.moment c.args.disk.now).seen)).written _ _ _ _ _ _ (tick_step c.args.self.now.frame.config c.args.self.now.frame.me c.args.links.now (view_of c.args.self.now (g.D.Disk.moment c.args.disk.now).seen)) (cut_told {T = Unit {0}} {S = Unit {0}} (adopts_in c.args.self.now.frame.config c.args.self.now.frame.me (view_of c.args.self.now (g.D.Disk.moment c.args.disk.now).seen)).written c.args.self.now.packs (g.D.Disk.moment c.args.disk.now) (g.D.Disk.moment c.adopt.new.disk) c.new-adopted.result c.adopt.new.out c.args.out.now c.cut_off.new.out c.in-Err.fault c.cut_off.result c.new-adopted.ensures.records c.cut_off.ensures.fault c.cut_off.ensures.told c.in-Err.ensures.disk)
+returns-in-Err-clause-disk g c = written_as _ (adopts_in c.args.self.now.frame.config c.args.self.now.frame.me (view_of c.args.self.now (g.D.Disk.moment c.args.disk.now).seen)).written _ _ _ _ _ _ (tick_step c.args.self.now.frame.config c.args.self.now.frame.me c.args.links.now (view_of c.args.self.now (g.D.Disk.moment c.args.disk.now).seen)) (cut_told {T = Unit {0}} {S = Unit {0}} (adopts_in c.args.self.now.frame.config c.args.self.now.frame.me (view_of c.args.self.now (g.D.Disk.moment c.args.disk.now).seen)).written c.args.self.now.packs (g.D.Disk.moment c.args.disk.now) (g.D.Disk.moment c.adopt.new.disk) c.new-adopted.result c.adopt.new.out c.args.out.now c.cut_off.new.out c.in-Err.fault c.cut_off.result c.new-adopted.ensures.packets c.new-adopted.ensures.records c.cut_off.ensures.fault c.cut_off.ensures.told c.in-Err.ensures.disk)
 
 pub returns-in_err-add-clause-disk : goal.returns-in_err-add-clause-disk
 returns-in_err-add-clause-disk g c = written_as _ (adopts_in c.args.self.now.frame.config c.args.self.now.frame.me (view_of c.args.self.now (g.D.Disk.moment c.args.disk.now).seen)).written _ _ _ _ _ _ (tick_step c.args.self.now.frame.config c.args.self.now.frame.me c.args.links.now (view_of c.args.self.now (g.D.Disk.moment c.args.disk.now).seen)) (failed_after {T = Unit {0}} {S = Unit {0}} (adopts_in c.args.self.now.frame.config c.args.self.now.frame.me (view_of c.args.self.now (g.D.Disk.moment c.args.disk.now).seen)).written c.args.self.now.packs (g.D.Disk.moment c.args.disk.now) (g.D.Disk.moment c.adopt.new.disk) c.args.out.now c.add.new.self c.new-adopted.result c.adopt.new.out tt c.from_residual.result NoMemory c.in_default.ensures.disk c.from_residual.ensures.1 tt)
 
 pub returns-in_err-repeat-clause-disk : goal.returns-in_err-repeat-clause-disk
-returns-in_err-repeat-clause-disk g c = written_as _ (adopts_in c.args.self.now.frame.config c.args.self.now.frame.me (view_of c.args.self.now (g.D.Disk.moment c.args.disk.now).seen)).written _ _ _ _ _ _ (tick_step c.args.self.now.frame.config c.args.self.now.frame.me c.args.links.now (view_of c.args.self.now (g.D.Disk.moment c.args.disk.now).seen)) (failed_after {T = Unit {0}} {S = Unit {0}} (adopts_in c.args.self.now.frame.config c.args.self.now.frame.me (view_of c.args.self.now (g.D.Disk.moment c.args.disk.now).seen)).written c.args.self.now.packs (g.D.Disk.moment c.args.disk.now) (g.D.Disk.moment c.adopt.new.disk) c.args.out.now c.repeat.new.out c.new-adopted.result c.adopt.new.out tt c.from_residual-in_err-repeat.result (fault_of_order c.in_err-repeat.field-0.0) c.in_default.ensures.disk c.from_residual-in_err-repeat.ensures.1 (order_uncut c.in_err-repeat.field-0.0))
+returns-in_err-repeat-clause-disk g c = written_as _ (adopts_in c.args.self.now.frame.config c.args.self.now.frame.me (view_of c.args.self.now (g.D.Disk.moment c.args.disk.now).seen)).written _ _ _ _ _ _ (tick_step c.args.self.now.frame.config c.args.self.now.frame.me c.args.links.now (view_of c.args.self.now (g.D.Disk.moment c.args.disk.now).seen)) (failed_after {T = Unit {0}} {S = Unit {0}} (adopts_in c.args.self.now.frame.config c.args.self.now.frame.me (view_of c.args.self.now (g.D.Disk.moment c.args.disk.now).seen)).written c.args.self.now.packs (g.D.Disk.moment c.args.disk.now) (g.D.Disk.moment c.adopt.new.disk) c.args.out.now c.repeat.new.out c.new-adopted.result c.adopt.new.out tt c.from_residual-in_err-repeat.result (fault_of_order c.in_err-repeat.field-0.0) c.in_default.ensures.disk c.from_residual-in_err-repeat.ensures.1 (order_off c.in_err-repeat.field-0.0))
 
 pub returns-in_err-end_event-clause-disk : goal.returns-in_err-end_event-clause-disk
 returns-in_err-end_event-clause-disk g c = written_as _ (adopts_in c.args.self.now.frame.config c.args.self.now.frame.me (view_of c.args.self.now (g.D.Disk.moment c.args.disk.now).seen)).written _ _ _ _ _ _ (tick_step c.args.self.now.frame.config c.args.self.now.frame.me c.args.links.now (view_of c.args.self.now (g.D.Disk.moment c.args.disk.now).seen)) (handed {T = Unit {0}} {S = Unit {0}} (adopts_in c.args.self.now.frame.config c.args.self.now.frame.me (view_of c.args.self.now (g.D.Disk.moment c.args.disk.now).seen)).written c.args.self.now.packs (g.D.Disk.moment c.args.disk.now) (g.D.Disk.moment c.end_event.new.disk) c.args.out.now c.repeat.new.out c.from_residual-in_err-end_event.result c.in_err-end_event.field-0.0 c.from_residual-in_err-end_event.ensures.1
@@ -34,7 +34,7 @@ returns-in_err-end_event-clause-disk g c = written_as _ (adopts_in c.args.self.n
 pub returns-in_err-add_in_order-clause-disk : goal.returns-in_err-add_in_order-clause-disk
 returns-in_err-add_in_order-clause-disk g c = written_as _ (adopts_in c.args.self.now.frame.config c.args.self.now.frame.me (view_of c.args.self.now (g.D.Disk.moment c.args.disk.now).seen)).written _ _ _ _ _ _ (tick_step c.args.self.now.frame.config c.args.self.now.frame.me c.args.links.now (view_of c.args.self.now (g.D.Disk.moment c.args.disk.now).seen)) (failed_after {T = Unit {0}} {S = Unit {0}} (adopts_in c.args.self.now.frame.config c.args.self.now.frame.me (view_of c.args.self.now (g.D.Disk.moment c.args.disk.now).seen)).written c.args.self.now.packs (g.D.Disk.moment c.args.disk.now) (g.D.Disk.moment c.end_event.new.disk) c.args.out.now c.add_in_order.new.self c.args.out.now c.repeat.new.out tt c.from_residual-in_err-add_in_order.result (fault_of_order c.in_err-add_in_order.field-0.0)
     (then_reads g.D.Disk.moment g.met.D.Disk.reads_an_image g.met.D.Disk.counts_now {S = Unit {0}} {T = Unit {0}} (adopts_in c.args.self.now.frame.config c.args.self.now.frame.me (view_of c.args.self.now (g.D.Disk.moment c.args.disk.now).seen)).written c.args.self.now.packs c.repeat.new.self.packs c.args.disk.now c.adopt.new.disk c.end_event.new.disk c.new-adopted.result c.adopt.new.out c.new-last.result c.end_event.new.out c.args.out.now c.repeat.new.out tt (Ok tt) c.in_default.ensures.disk c.in_ok-end_event.ensures.disk)
-    c.from_residual-in_err-add_in_order.ensures.1 (order_uncut c.in_err-add_in_order.field-0.0))
+    c.from_residual-in_err-add_in_order.ensures.1 (order_off c.in_err-add_in_order.field-0.0))
 
 pub returns-clause-disk : goal.returns-clause-disk
 returns-clause-disk g c = written_as _ (adopts_in c.args.self.now.frame.config c.args.self.now.frame.me (view_of c.args.self.now (g.D.Disk.moment c.args.disk.now).seen)).written _ _ _ _ _ _ (tick_step c.args.self.now.frame.config c.args.self.now.frame.me c.args.links.now (view_of c.args.self.now (g.D.Disk.moment c.args.disk.now).seen))
