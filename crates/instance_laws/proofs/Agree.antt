@@ -22,9 +22,9 @@ use Rattle.the_run.specs.Runs.{run_in}
 use Rattle.the_run.specs.Kept.{Among}
 use Rattle.run_laws.proofs.Run.{found_among}
 use Rattle.vector_laws.specs.Written.{past_of, Begun, GrantedRecord, Granted as WasGrantedBy, WasTold, WasBegun, WasGranted, InstancesAgree}
-use Rattle.instance_laws.specs.Book.{Note, Asked, Began, Book, AskedBy, IsFor, BeganFact, Sound}
+use Rattle.instance_laws.specs.Book.{Note, Asked, Placed, Began, Book, AskedBy, IsFor, BeganFact, Sound}
 use Rattle.instance_laws.specs.Facts.{BodyFact, MadeFact, GrantFact, RecordFact, ToldFact, NumberedFact, WorldFact, Booked}
-use Rattle.instance_laws.specs.Laws.{AsksOpen, SerialsAreOnce, BegunOnce}
+use Rattle.instance_laws.specs.Laws.{AsksOpen, SerialsAreOnce, AsksInstance, PlacesAreOnce, BegunOnce}
 use Rattle.instance_laws.proofs.Books.{asked_once}
 use Rattle.instance_laws.proofs.InstancesRun.{run_booked}
 
@@ -124,3 +124,24 @@ run_serials c lines x y serial f g h i a b from boot p q =
     let one : Among (Asked x.packet.from x.packet.from_boot serial f h) k.0 = asked_note k.0 x.packet x.packet.body serial f h (found_among (NumberedFact k.0) x w.sent world.packets a) p in
     let other : Among (Asked y.packet.from y.packet.from_boot serial g i) k.0 = asked_note k.0 y.packet y.packet.body serial g i (found_among (NumberedFact k.0) y w.sent world.packets b) q in
     world.sound.once.asked y.packet.from y.packet.from_boot serial f g h i (subst (λ (n : Note). Among n k.0) (λ j. Asked (from j) (boot j) serial f h) one) other
+
+-- where an instance was placed
+record PlacedNoted (book : Book) (p : Packet) (inst : Serial) : Type 0 where
+  group : ℕ
+  css : ℕ
+  boot : ℕ
+  placed : Among (Placed p.epoch inst group css boot p.to) book
+
+placed_note : (book : Book) (p : Packet) (x : Body) (inst : Serial) → BodyFact book p x → AsksInstance inst x → PlacedNoted book p inst
+placed_note book p (body.OpenSs asked file m set kind base vector parents) inst h k = record { group = file.group; css = h.css; boot = h.css_boot; placed = subst (λ (i : Serial). Among (Placed p.epoch i file.group h.css h.css_boot p.to) book) k h.placed }
+placed_note book p _ inst h k = absurd k
+
+pub run_places : (c : Config) (lines : List ScheduleLine) → PlacesAreOnce (run_in c lines)
+run_places c lines x y a b at here epoch key p q =
+    let w : World = run_in c lines in
+    let k : Booked c w = run_booked c lines in
+    let world : WorldFact c k.0 w = k.1 in
+    let one : PlacedNoted k.0 x.packet a = placed_note k.0 x.packet x.packet.body a (found_among (NumberedFact k.0) x w.sent world.packets at) p in
+    let other : PlacedNoted k.0 y.packet b = placed_note k.0 y.packet y.packet.body b (found_among (NumberedFact k.0) y w.sent world.packets here) q in
+    world.sound.once.placed y.packet.epoch a b one.group one.css one.boot x.packet.to other.group other.css other.boot y.packet.to key
+    (subst (λ (e : EpochId). Among (Placed e a one.group one.css one.boot x.packet.to) k.0) epoch one.placed) other.placed

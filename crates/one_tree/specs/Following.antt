@@ -1,5 +1,5 @@
 -- How a tree stands to a record, and the tree after it.
-use Rattle.std.specs.Prelude.{Bool, true, false, not, ◌&&◌, cond, List}
+use Rattle.std.specs.Prelude.{Bool, not, ◌&&◌, cond, List}
 use Rattle.commit_graph.specs.declared.history.Version.{Version}
 use Rattle.trace_book.specs.declared.record.Record.{Record}
 use Rattle.tree_model.specs.State.{TreeState}

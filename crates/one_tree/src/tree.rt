@@ -46,11 +46,11 @@ impl OneTree {
     /// kept.
     ///
     /// `NoMemory`, with the tree as it was, comes also for what no lawful trace has: a history of 4,294,967,295 versions or
-    /// more, an operation on a content of more than 65,536 bytes, a mend of versions that can't be joined or where a version
-    /// of an inode past 1024 is kept.
+    /// more, an operation on a content of more than 65,536 bytes, and a mend of versions that can't be joined, where an inode
+    /// is a file in one and a directory in another.
     ///
-    /// An operation looks up in the history each file that the storage site has, to count the room: the steps grow as the
-    /// files times the versions.
+    /// Most operations look up in the history each file that the storage site has, to count the room: the steps grow as the
+    /// files times the versions. A read and a cut need no room, and count none.
     pub fn apply(&mut self, h: &History, r: &Record) -> Result<Applied, TreeFault>
         ensures applied { IfOk result (λ told. told ≡ applied h.now self.old r.now) }
         ensures next { OnOk result (self.new ≡ tree_after h.now self.old r.now) }

@@ -1,6 +1,6 @@
 -- What an act gives and leaves by the definition of the tree, against what was carried out.
 use Rattle.std.proofs.Common.{◌≡◌, ◌<◌, ℕ, Bool, true, false, cond, List, [], ◌∷◌, length, Option, None, Some, refl, sym, ap, subst, ◌∙◌, arith}
-use Rattle.std.specs.Prelude.{map}
+use Rattle.std.specs.Prelude.{filter, map}
 use Rattle.std.specs.List.{find}
 use Rattle.locus_ids.specs.declared.ids.FileId.{FileId}
 use Rattle.locus_ids.specs.declared.ids.Stamp.{Stamp}
@@ -26,7 +26,8 @@ use Rattle.tree_model.specs.State.{TreeState, kept_of}
 use Rattle.tree_model.specs.Mending.{join_of_kept, joined_all, joined_content, kept_vectors}
 use Rattle.tree_model.specs.Working.{are_several, effect_on, free_pages, in_room, is_target, operated_by, sees}
 use Rattle.tree_steps.proofs.Spent.{never_spent}
-use Rattle.tree_acts.specs.Acting.{IsPlain, given_work, work_by}
+use Rattle.tree_acts.specs.Acting.{IsPlain, given_work, has_number, work_by}
+use Rattle.tree_acts.proofs.Numbered.{rescued_alike}
 
 -- the result in the room that there is, and what becomes of the instance
 by_effect : (free : ℕ) (result : Outcome) (w : Work) (e : Option Effect) → work_by free result w e ≡ cond (is_given (in_room free w.changed e) result) (Some (operated_by result e w)) None
@@ -78,13 +79,13 @@ several_alike h f (a ∷ []) = refl
 several_alike h f (a ∷ b ∷ ss) = grind arith
 
 pub mends_so : (h : List Version) (t : TreeState) (result : Outcome) (x : Instance) (seen : List ℕ) (m : Mending)
-    → m.contents ≡ map (content_of h x.grant.file) (kept_of h t x.grant.file) → m.kept ≡ kept_vectors h t
+    → m.contents ≡ map (content_of h x.grant.file) (kept_of h t x.grant.file) → m.kept ≡ filter has_number (kept_vectors h t)
     → work_by (free_pages h t x.grant.ss) result x.work (role.effect_of op.Mend seen m x.work.content) ≡ given_work h t op.Mend result x
 mends_so h t result x seen m contents kept =
     let joined : joined_contents m.contents ≡ join_of_kept h t x.grant.file = ap joined_contents contents ∙ joins_alike h x.grant.file (kept_of h t x.grant.file) in
     let several : has_several m.contents ≡ are_several (kept_of h t x.grant.file) = ap (has_several {A = List ℕ}) contents ∙ several_alike h x.grant.file (kept_of h t x.grant.file) in
     let left : dir_bytes (rescued (joined_contents m.contents) m.kept) ≡ joined_content h t x.grant.file =
-    ap (λ ds. dir_bytes (rescued ds m.kept)) joined ∙ ap (λ vs. dir_bytes (rescued (join_of_kept h t x.grant.file) vs)) kept in
+    ap (λ vs. dir_bytes (rescued (joined_contents m.contents) vs)) kept ∙ ap dir_bytes (rescued_alike m.contents (kept_vectors h t)) ∙ ap (λ ds. dir_bytes (rescued ds (kept_vectors h t))) joined in
     let same : mend_effect (joined_contents m.contents) m x.work.content ≡ effect_on h t op.Mend x =
     sym (mended_so x.work.content (joined_contents m.contents) m)
     ∙ ap (λ (b : Bool). Some (mends x.work.content b (dir_bytes (rescued (joined_contents m.contents) m.kept)))) several
@@ -92,7 +93,7 @@ mends_so h t result x seen m contents kept =
     ap (work_by (free_pages h t x.grant.ss) result x.work) same ∙ by_effect (free_pages h t x.grant.ss) result x.work (effect_on h t op.Mend x)
 
 pub mends_with : (h : List Version) (t : TreeState) (result : Outcome) (x : Instance) (o : Op) (seen : List ℕ) (m : Mending) → o ≡ op.Mend
-    → m.contents ≡ map (content_of h x.grant.file) (kept_of h t x.grant.file) → m.kept ≡ kept_vectors h t
+    → m.contents ≡ map (content_of h x.grant.file) (kept_of h t x.grant.file) → m.kept ≡ filter has_number (kept_vectors h t)
     → work_by (free_pages h t x.grant.ss) result x.work (role.effect_of o seen m x.work.content) ≡ given_work h t op.Mend result x
 mends_with h t result x o seen m is contents kept =
     subst (λ (p : Op). work_by (free_pages h t x.grant.ss) result x.work (role.effect_of p seen m x.work.content) ≡ given_work h t op.Mend result x) (sym is) (mends_so h t result x seen m contents kept)

@@ -1,9 +1,10 @@
 -- What an act gives and leaves, as one value.
-use Rattle.std.specs.Prelude.{ℕ, ◌+◌, ◌==◌, List, Option, None, Some, cond}
+use Rattle.std.specs.Prelude.{ℕ, ◌+◌, ◌==◌, Bool, true, false, ◌&&◌, nat_le, List, Option, None, Some, cond}
 use Rattle.commit_graph.specs.declared.history.Version.{Version}
 use Rattle.trace_book.specs.declared.operation.Op.{Op}
 use Rattle.trace_book.specs.declared.operation.Op.TheVariants as op
 use Rattle.trace_book.specs.declared.operation.Outcome.{Outcome}
+use Rattle.dir_reconcile.specs.declared.kept.KeptVector.{KeptVector}
 use Rattle.file_effects.specs.Effects.{Effect}
 use Rattle.file_effects.specs.Works.{operated, result_in}
 use Rattle.file_effects.specs.declared.work.Work.{Work}
@@ -34,3 +35,17 @@ IsPlain op.Abort = ⊥
 IsPlain op.Mend = ⊥
 IsPlain (op.Remove name ino) = ⊥
 IsPlain _ = Unit {0}
+
+-- an inode of this number can be in a directory
+abbrev pub is_number : ℕ → Bool
+is_number ino = nat_le 1 ino && nat_le ino 1024
+
+-- the vector is one of a file that a directory can have
+abbrev pub has_number : KeptVector → Bool
+has_number kept = is_number kept.ino
+
+-- the operation may change pages, for which there must be room
+abbrev pub needs_room : Op → Bool
+needs_room (op.Read at len) = false
+needs_room (op.Cut len) = false
+needs_room _ = true

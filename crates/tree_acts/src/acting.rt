@@ -7,7 +7,7 @@ ghost use Rattle.tree_model.specs.Working.{free_pages};
 ghost use Rattle.file_effects.specs.Works.{commit_result};
 ghost use Rattle.role_steps.specs.OperationEffects.{effect_of};
 ghost use Rattle.tree_model.specs.Same.{is_given};
-ghost use Rattle.tree_acts.specs.Acting.{IsPlain, acted_work, given_work, work_by};
+ghost use Rattle.tree_acts.specs.Acting.{IsPlain, acted_work, given_work, needs_room, work_by};
 
 use crate::mending::mending;
 use crate::operating::work_by;
@@ -28,8 +28,8 @@ use written_vectors::vector_of;
 /// Whether the tree gives this act: where it does, the act is carried out, and where it doesn't, the tree stays. After
 /// `NoMemory` the tree is as it was.
 ///
-/// `NoMemory` comes also where a working content is longer than that of a file may be, where the kept versions of a
-/// directory to be mended can't be joined, and where a version of an inode is kept that no file has.
+/// `NoMemory` comes also where a working content is longer than that of a file may be, and where the kept versions of a
+/// directory to be mended can't be joined.
 pub fn act(
     tree: &mut TreeTables,
     h: &History,
@@ -104,7 +104,8 @@ fn given_work(
     }
 }
 
-/// A commit gives the last version once none is owed. It can always be made: no counter is as long as the history.
+/// A commit gives the last version once none is owed. One that is owed can be made, and comes first: no counter is greater
+/// than the history is long.
 fn committed_work(
     tree: &TreeTables,
     h: &History,
@@ -235,6 +236,7 @@ fn no_mending(alloc: Global) -> MendingWork {
     }
 }
 
+#[tactic(auto, using(crate::proofs::Roomless::roomless_so))]
 /// What becomes of an open instance by an operation that is carried out in the room that its storage site has.
 fn operated_work(
     tree: &TreeTables,
@@ -248,8 +250,29 @@ fn operated_work(
     requires { instance.now.work.ops < 4294967295 }
     ensures { IfOk result (λ made. made ≡ work_by (free_pages h.now tree.now instance.now.grant.ss) outcome.now instance.now.work (effect_of op.now seen.now mending.now instance.now.work.content)) }
 {
-    let free = free_pages(tree, h, instance.grant.ss);
+    let free = room_for(tree, h, op, instance.grant.ss);
     work_by(&instance.work, op, seen, mending, free, outcome)
+}
+
+/// The pages that are free at a site, which aren't counted for an operation that needs none.
+fn room_for(tree: &TreeTables, h: &History, op: &Op, site: u8) -> u16
+    ensures { result ≡ cond (needs_room op.now) (free_pages h.now tree.now site) 0 }
+{
+    if needs_room(op) {
+        free_pages(tree, h, site)
+    } else {
+        0
+    }
+}
+
+fn needs_room(op: &Op) -> bool
+    ensures { result ≡ needs_room op.now }
+{
+    match op {
+        Op::Read { at: _, len: _ } => false,
+        Op::Cut { len: _ } => false,
+        _ => true,
+    }
 }
 
 fn free_pages(tree: &TreeTables, h: &History, site: u8) -> u16

@@ -2,6 +2,7 @@ ghost use Rattle.std.specs.Prelude.{◌≡◌, ◌<◌, ◌++◌, ◌∷◌, [],
 ghost use Rattle.commit_graph.specs.Versions.{content_of};
 ghost use Rattle.tree_model.specs.Mending.{file_in, is_kept, kept_vectors, vector_kept};
 ghost use Rattle.tree_model.specs.State.{kept_of};
+ghost use Rattle.tree_acts.specs.Acting.{has_number, is_number};
 
 use commit_graph::History;
 use dir_reconcile::{KeptVector, KeptVectors};
@@ -13,11 +14,11 @@ use tree_tables::has_stamp;
 use written_vectors::vector_of;
 
 /// What a mend of a directory works on: the contents of its versions that are kept, and the vectors of all versions that are
-/// kept of the group's files.
+/// kept of the group's files. A directory has no others: a version of an inode past its range is left out.
 pub(crate) fn mending(tree: &TreeTables, h: &History, file: FileId) -> Result<MendingWork, NoMemory>
     requires { length h.now < 4294967295 }
     ensures contents { IfOk result (λ made. made.contents ≡ map (content_of h.now file) (kept_of h.now tree.now file)) }
-    ensures kept { IfOk result (λ made. made.kept ≡ kept_vectors h.now tree.now) }
+    ensures kept { IfOk result (λ made. made.kept ≡ filter has_number (kept_vectors h.now tree.now)) }
 {
     let stamps = tree.kept(h, file)?;
     let contents = contents(tree.allocator(), h, file, stamps.as_slice())?;
@@ -48,10 +49,10 @@ struct KeptOf {
     stamps: Stamps,
 }
 
-/// The vectors of the versions that are kept of all files of the group.
+/// The vectors of the versions that are kept of all files of the group, where a directory can have them.
 fn kept_vectors(tree: &TreeTables, h: &History) -> Result<KeptVectors, NoMemory>
     requires { length h.now < 4294967295 }
-    ensures { IfOk result (λ made. made ≡ kept_vectors h.now tree.now) }
+    ensures { IfOk result (λ made. made ≡ filter has_number (kept_vectors h.now tree.now)) }
 {
     let mut made = KeptVectors::new(tree.allocator());
     let mut kept = kept_of(tree, h, 0)?;
@@ -62,7 +63,7 @@ fn kept_vectors(tree: &TreeTables, h: &History) -> Result<KeptVectors, NoMemory>
     Ok(made)
 }
 
-/// Adds the vector of a version where it is one of those that are kept of its file.
+/// Adds the vector of a version where it is one of those that are kept of its file, and a directory can have that.
 fn add_kept(
     tree: &TreeTables,
     h: &History,
@@ -72,9 +73,12 @@ fn add_kept(
 ) -> Result<(), NoMemory>
     requires short { length h.now < 4294967295 }
     requires kept { kept.now ≡ kept_of h.now tree.now (file_in tree.now brought.ino) }
-    ensures { OnOk result (made.new ≡ made.old ++ map (vector_kept h.now tree.now) (filter (is_kept h.now tree.now) (brought ∷ []))) }
+    ensures { OnOk result (made.new ≡ made.old ++ filter has_number (map (vector_kept h.now tree.now) (filter (is_kept h.now tree.now) (brought ∷ [])))) }
 {
     if !has_stamp(kept, brought.stamp) {
+        return Ok(());
+    }
+    if !is_number(brought.ino) {
         return Ok(());
     }
     let vector = vector_kept(tree, h, brought)?;
@@ -102,7 +106,14 @@ fn kept_at(tree: &TreeTables, h: &History, before: KeptOf, ino: u16) -> Result<K
     kept_of(tree, h, ino)
 }
 
-/// The vector of a version that is kept. An inode that no file has is past what it takes.
+/// An inode of this number can be in a directory.
+fn is_number(ino: u16) -> bool
+    ensures { result ≡ is_number ino }
+{
+    1 <= ino && ino <= 1_024
+}
+
+/// The vector of a version of an inode that a directory can have; of another one it has none to give.
 fn vector_kept(tree: &TreeTables, h: &History, brought: Brought) -> Result<KeptVector, NoMemory>
     requires { length h.now < 4294967295 }
     ensures { IfOk result (λ made. made ≡ vector_kept h.now tree.now brought) }
