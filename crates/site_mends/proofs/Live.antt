@@ -4,7 +4,6 @@ use Rattle.std.specs.List.{list_all}
 use Rattle.std.proofs.lemmas.List.{length-drop}
 use Rattle.dir_format.specs.Contents.{entries_from, entry_at, width_at, count_at, is_odd}
 use Rattle.dir_format.specs.Entries.{is_live}
-use Rattle.dir_format.specs.declared.entry.Entry.{Entry}
 use Rattle.site_mends.specs.Scanning.{IsBehindLive}
 
 -- where there is room for all entries, more room gives no other ones
@@ -28,9 +27,9 @@ behind_live bytes behind h l =
     let n = h.named in
     let w : width_at n h.rest ≡ n + 7 = live_width n h.rest true h.live refl in
     let rest : entries_from (length h.rest) (drop (width_at n h.rest) h.rest) ≡ entries_from (length behind) behind =
-        ap (λ k. entries_from (length h.rest) (drop k h.rest)) w
-        ∙ (ap (entries_from (length h.rest)) (sym h.behind)
-        ∙ room (length h.rest) (length behind) behind (omega (arith, ap length h.behind, length-drop (n + 7) h.rest)) (omega arith)) in
+    ap (λ k. entries_from (length h.rest) (drop k h.rest)) w
+    ∙ (ap (entries_from (length h.rest)) (sym h.behind)
+    ∙ room (length h.rest) (length behind) behind (omega (arith, ap length h.behind, length-drop (n + 7) h.rest)) (omega arith)) in
     subst (λ (xs : List ℕ). list_all is_live (entries_from (length xs) xs) ≡ true) (sym h.split)
     (ap (λ b. b && list_all is_live (entries_from (length h.rest) (drop (width_at n h.rest) h.rest))) h.live
     ∙ (ap (λ es. list_all is_live es) rest ∙ l))

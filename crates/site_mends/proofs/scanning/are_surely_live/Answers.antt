@@ -1,5 +1,3 @@
-use Rattle.std.proofs.Common.{IfSome, List, ℕ, subst}
-use Rattle.site_mends.specs.Scanning.{IsBehindLive}
 use Rattle.site_mends.proofs.Live.{behind_live}
 use Rattle.site_mends.proofs.scanning.are_surely_live.Goals as goal
 
