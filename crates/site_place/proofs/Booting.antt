@@ -3,7 +3,7 @@ use Rattle.std.proofs.Common.{◌≡◌, ℕ, ◌+◌, ◌-◌, ◌*◌, ◌<◌
 use Rattle.std.specs.Prelude.{Option, None, Some, if◌then◌else◌}
 use Rattle.trace_book.specs.declared.record.Record.TheVariants as says
 use Rattle.wire_messages.specs.Outboxes.{Outgoing}
-use Rattle.packet_order.specs.Orders.{behind}
+use Rattle.role_steps.specs.Views.{SiteView}
 use Rattle.the_run.specs.Disks.{Disk, Booted, Whole, CutOff, one_label, boot_writes, boots}
 use Rattle.the_run.specs.Worlds.{Running, Stopped, fresh, cause_of}
 use Rattle.site_packs.specs.Copies.{copies_on}
@@ -19,7 +19,7 @@ use Rattle.site_disk.proofs.CutRuns.{cut_boots, whole_boots}
 use Rattle.site_node.specs.declared.node.SiteNode.{SiteNode}
 use Rattle.site_node.specs.Views.{view_of}
 use Rattle.site_place.specs.declared.script.DiskScript.{DiskScript}
-use Rattle.site_place.specs.Places.{Gives, armed_by, cut_by, boots_to, boots_at}
+use Rattle.site_place.specs.Places.{PlaceState, Gives, armed_by, cut_by, boots_to, boots_at}
 use Rattle.site_place.specs.Views.{armed_in}
 use Rattle.site_place.proofs.Scripts.{AllPassed, with_count}
 
@@ -43,24 +43,25 @@ boots_all d (Some x) left n same passed =
 pub number_raised : (me boot : ℕ) (image : List ℕ) → IsRaised me image boot → boot ≡ label_number image + 1
 number_raised me boot image is = let number = boot_there me is.0 image is.1 in let e = is.2 in omega (arith, number, e)
 
-pub boots_up : (groups : List ℕ) (me home boot left : ℕ) (n : SiteNode) (image now : List ℕ) (armed : Option DiskScript) (out after : Outgoing) → IsRaised home image boot → AllPassed armed (boot_calls groups image) left
-    → view_of n now ≡ fresh boot (copies_on groups image) → after ≡ behind out (record { packets = []; records = says.Up me boot ∷ [] })
-    → Gives (boots_at me (armed_in armed) (Stopped (disk_on groups image))) (record { place = Running (view_of n now); armed = armed_in (with_count left armed) }) out after
-boots_up groups me home boot left n image now armed out after is passed view told =
+pub boots_up : (groups : List ℕ) (me home boot left : ℕ) (n : SiteNode) (image now : List ℕ) (armed : Option DiskScript) (b : PlaceState) (out : Outgoing) → IsRaised home image boot → AllPassed armed (boot_calls groups image) left
+    → view_of n now ≡ fresh boot (copies_on groups image) → out ≡ record { packets = []; records = says.Up me boot ∷ [] }
+    → Gives (boots_at me (armed_in armed) (Stopped (disk_on groups image))) b (record b { place = Running (view_of n now); armed = armed_in (with_count left armed) }) out
+boots_up groups me home boot left n image now armed b out is passed view told =
     let d = disk_on groups image in
     let number = number_raised home boot image is in
     let same = boots_all d armed left (boot_calls groups image) (calls_counted groups image) passed in
-    subst (λ (b : Booted). Gives (boots_to me b) (record { place = Running (view_of n now); armed = armed_in (with_count left armed) }) out after) (sym same) (record {
-      state = (λ i. record { place = Running ((view ∙ ap (λ (k : ℕ). fresh k (copies_on groups image)) number) i); armed = armed_in (with_count left armed) });
+    let later = record b { place = Running (view_of n now); armed = armed_in (with_count left armed) } in
+    subst (λ (k : Booted). Gives (boots_to me k) b later out) (sym same) (record {
+      state = ap (λ (v : SiteView). record b { place = Running v; armed = armed_in (with_count left armed) }) (view ∙ ap (λ (k : ℕ). fresh k (copies_on groups image)) number);
       packets = ap (λ (g : Outgoing). g.packets) told;
-      records = ap (λ (g : Outgoing). g.records) told ∙ ap (λ (k : ℕ). out.records ++ says.Up me k ∷ []) number;
+      records = ap (λ (g : Outgoing). g.records) told ∙ ap (λ (k : ℕ). says.Up me k ∷ []) number;
     })
 
 -- what is left of a disk whose boot was cut off is what the run has left
-pub boot_cut : (groups : List ℕ) (me home : ℕ) (image left : List ℕ) (x : DiskScript) (out after : Outgoing) → AreSound home groups image → x.left < boot_calls groups image
-    → IsCutBoot home groups (as_cut (cut_by x.how)) (label_number image) x.left image left → after ≡ behind out (record { packets = []; records = says.Stopped me (cause_of (cut_by x.how)) ∷ [] })
-    → Gives (boots_at me (Some (armed_by x)) (Stopped (disk_on groups image))) (record { place = Stopped (disk_on groups left); armed = None }) out after
-boot_cut groups me home image left x out after sound few cut told =
+pub boot_cut : (groups : List ℕ) (me home : ℕ) (image left : List ℕ) (x : DiskScript) (b : PlaceState) (out : Outgoing) → AreSound home groups image → x.left < boot_calls groups image
+    → IsCutBoot home groups (as_cut (cut_by x.how)) (label_number image) x.left image left → out ≡ record { packets = []; records = says.Stopped me (cause_of (cut_by x.how)) ∷ [] }
+    → Gives (boots_at me (Some (armed_by x)) (Stopped (disk_on groups image))) b (record b { place = Stopped (disk_on groups left); armed = None }) out
+boot_cut groups me home image left x b out sound few cut told =
     let d = disk_on groups image in
     let count = calls_counted groups image in
     let same : boots (Some (armed_by x)) d ≡ CutOff (cut_boot (armed_by x) d) (cut_by x.how) = cut_boots d (armed_by x) (omega (arith, few, count)) in
@@ -68,8 +69,8 @@ boot_cut groups me home image left x out after sound few cut told =
     let files = cut.both in
     let label = cut.label in
     let disk : disk_on groups left ≡ cut_boot (armed_by x) d = (λ i. record { copies = copies i; both_open = files i; label = as_label (label i) }) in
-    subst (λ (b : Booted). Gives (boots_to me b) (record { place = Stopped (disk_on groups left); armed = None }) out after) (sym same) (record {
-      state = ap (λ (k : Disk). record { place = Stopped k; armed = None }) disk;
+    subst (λ (k : Booted). Gives (boots_to me k) b (record b { place = Stopped (disk_on groups left); armed = None }) out) (sym same) (record {
+      state = ap (λ (k : Disk). record b { place = Stopped k; armed = None }) disk;
       packets = ap (λ (g : Outgoing). g.packets) told;
       records = ap (λ (g : Outgoing). g.records) told;
     })

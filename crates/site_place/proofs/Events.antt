@@ -6,7 +6,6 @@ use Rattle.disk_model.specs.Disk.{Moment, Exactly}
 use Rattle.trace_book.specs.declared.record.Record.{Record}
 use Rattle.trace_book.specs.declared.record.Record.TheVariants as says
 use Rattle.wire_messages.specs.Outboxes.{Outgoing}
-use Rattle.packet_order.specs.Orders.{behind}
 use Rattle.role_steps.specs.Views.{SiteView, Outcome, DiskWrite, Shown}
 use Rattle.site_frame.specs.Printed.{printed}
 use Rattle.disk_model.specs.Cut.{Cut as DiskCut}
@@ -23,7 +22,7 @@ use Rattle.site_node.specs.declared.node.SiteNode.{SiteNode}
 use Rattle.site_node.specs.Views.{view_of}
 use Rattle.site_node.specs.Writing.{IsCutIn}
 use Rattle.site_place.specs.declared.script.DiskScript.{DiskScript}
-use Rattle.site_place.specs.Places.{Happening, Gives, armed_by, cut_by, runs_in, cut_in, writes_armed_in, acts_in}
+use Rattle.site_place.specs.Places.{PlaceState, Happening, Gives, armed_by, cut_by, runs_in, cut_in, writes_armed_in, acts_in}
 use Rattle.site_place.specs.Views.{armed_in}
 use Rattle.site_place.proofs.Scripts.{AllPassed, with_count}
 
@@ -69,12 +68,12 @@ told_cut me d x pages told same is =
     ∙ told_by (new_gate d.pages (cut_by x.how) x.left) me d (cut_by x.how))
 
 -- an event that was cut off leaves and tells what the run does
-pub acts_cut : (groups : List ℕ) (me : ℕ) (n : SiteNode) (old new : Moment) (o : Outcome SiteView) (w : Option DiskWrite) (x : DiskScript) (size : WriteSize) (before own out after : Outgoing) (left : List ℕ)
+pub acts_cut : (groups : List ℕ) (me : ℕ) (n : SiteNode) (old new : Moment) (o : Outcome SiteView) (w : Option DiskWrite) (x : DiskScript) (size : WriteSize) (before own after : Outgoing) (left : List ℕ) (b : PlaceState)
     → groups_of n.packs ≡ groups → label_on left ≡ one_half n.epochs.boot → old.passing ≡ Exactly x.left → old.how ≡ as_cut (cut_by x.how) → left ≡ new.left → before.records ≡ []
-    → IsCutIn w n.packs size old new before own → after ≡ behind out (record { packets = []; records = cut_records me size.pages x own.records })
-    → Gives (acts_in me (view_of n old.seen) o w (Some (armed_by x))) (record { place = Stopped (disk_on groups left); armed = None }) out after
-acts_cut groups me n old new o None x size before own out after left same label passing how is empty cut told = absurd cut
-acts_cut groups me n old new o (Some d) x size before own out after left same label passing how is empty cut told =
+    → IsCutIn w n.packs size old new before own → after ≡ record { packets = []; records = cut_records me size.pages x own.records }
+    → Gives (acts_in me (view_of n old.seen) o w (Some (armed_by x))) b (record b { place = Stopped (disk_on groups left); armed = None }) after
+acts_cut groups me n old new o None x size before own after left b same label passing how is empty cut told = absurd cut
+acts_cut groups me n old new o (Some d) x size before own after left b same label passing how is empty cut told =
     let v = view_of n old.seen in
     let calls = write_calls v.store d in
     let few : nat_lt x.left calls ≡ true = lt-ltb x.left calls (cut.early x.left passing) in
@@ -85,8 +84,8 @@ acts_cut groups me n old new o (Some d) x size before own out after left same la
     ap (λ (gs : List ℕ). disk_on gs left) (sym same) ∙ cut_commits n.packs v.boot v.store d (cut_by x.how) x.left old.seen left gate refl label in
     let records : own.records ≡ d.says ∷ [] = cut.records ∙ ap (λ (l : List Record). l ++ d.says ∷ []) empty in
     let says_all = told_cut me d x size.pages own.records cut.pages records in
-    subst (λ (h : Happening). Gives h (record { place = Stopped (disk_on groups left); armed = None }) out after) (sym (cut_when me v o d (armed_by x) calls few)) (record {
-      state = ap (λ (k : Disk). record { place = Stopped k; armed = None }) disk;
+    subst (λ (h : Happening). Gives h b (record b { place = Stopped (disk_on groups left); armed = None }) after) (sym (cut_when me v o d (armed_by x) calls few)) (record {
+      state = ap (λ (k : Disk). record b { place = Stopped k; armed = None }) disk;
       packets = ap (λ (g : Outgoing). g.packets) told;
-      records = ap (λ (g : Outgoing). g.records) told ∙ ap (λ (l : List Record). out.records ++ l) says_all;
+      records = ap (λ (g : Outgoing). g.records) told ∙ says_all;
     })

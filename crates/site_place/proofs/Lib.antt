@@ -1,11 +1,11 @@
-pub mod Clusters
 pub mod Scripts
 pub mod Images
 pub mod Arming
 pub mod Running
 pub mod Events
 pub mod Happening
+pub mod Fitting
 pub mod Stopping
 pub mod Booting
 pub mod Starting
-pub mod Fitting
+pub mod Refusing

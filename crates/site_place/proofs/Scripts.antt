@@ -136,3 +136,7 @@ pub too_few : (n calls : ℕ) (p q : Passing) → p ≡ Exactly calls → TellsM
 too_few n calls p q exact tells =
     let told = subst (λ (k : Passing). TellsMany {T = Unit {0}} {E = DiskFault} n k q (Err Failed)) exact tells in
     ⊎_elim (λ (lt : calls < n). lt) (λ (ge : n ≤ calls). absurd (false≢true (told.enough ge).0)) (cases_lt calls n)
+
+-- calls that all pass don't fail
+pub not_failed : (n : ℕ) (p q : Passing) → p ≡ All → TellsMany {T = Unit {0}} {E = DiskFault} n p q (Err Failed) → ⊥
+not_failed n p q all tells = false≢true (subst (λ (k : Passing). TellsMany {T = Unit {0}} {E = DiskFault} n k q (Err Failed)) all tells).0

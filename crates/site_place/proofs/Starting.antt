@@ -2,12 +2,12 @@
 use Rattle.std.proofs.Common.{◌≡◌, ℕ, ◌<◌, Bool, true, false, List, [], ◌∷◌, refl, sym, ◌∙◌, subst}
 use Rattle.std.specs.Prelude.{Option, None, Some, is_some, Result, Err, OnErr}
 use Rattle.std.proofs.lemmas.Bool.{false≢true, true≢false}
+use Rattle.locus_ids.specs.declared.config.Config.{Config}
 use Rattle.disk_model.specs.declared.script.Script.{Script}
 use Rattle.trace_book.specs.declared.record.Record.TheVariants as says
 use Rattle.wire_messages.specs.Outboxes.{Outgoing}
-use Rattle.packet_order.specs.Orders.{behind}
 use Rattle.the_run.specs.Disks.{Armed}
-use Rattle.the_run.specs.Worlds.{Running, fresh, cause_of}
+use Rattle.the_run.specs.Worlds.{Running, Stopped, fresh, cause_of}
 use Rattle.site_packs.specs.Copies.{copies_on}
 use Rattle.site_packs.specs.Mounting.{AreSound}
 use Rattle.site_label.specs.Image.{label_number}
@@ -19,7 +19,7 @@ use Rattle.disk_model.specs.declared.disk.DiskFault.{DiskFault}
 use Rattle.disk_model.specs.declared.disk.DiskFault.TheVariants.{Failed}
 use Rattle.disk_model.specs.Disk.{Passing}
 use Rattle.disk_model.specs.Moments.{TellsMany}
-use Rattle.site_disk.specs.Run.{as_cut}
+use Rattle.site_disk.specs.Run.{as_cut, disk_on}
 use Rattle.site_node.specs.declared.node.SiteNode.{SiteNode}
 use Rattle.site_node.specs.Views.{view_of}
 use Rattle.site_place.specs.declared.script.DiskScript.{DiskScript}
@@ -27,7 +27,8 @@ use Rattle.site_place.specs.Counts.{counted, armed_by_script, waiting}
 use Rattle.site_place.specs.Places.{PlaceState, Gives, cut_by, boots_in}
 use Rattle.site_place.specs.Views.{armed_in, place_in}
 use Rattle.site_place.proofs.Booting.{boots_up, boot_cut}
-use Rattle.site_place.proofs.Happening.{nothing_given}
+use Rattle.site_place.proofs.Fitting.{given_at}
+use Rattle.site_place.proofs.Happening.{state_at, nothing_given, nothing_out}
 use Rattle.site_place.proofs.Scripts.{AllPassed, with_count}
 
 pub not_running : (x : Option SiteNode) (b : Bool) → b ≡ is_some x → b ≡ false → x ≡ None
@@ -35,31 +36,32 @@ not_running None b e f = refl
 not_running (Some n) b e f = absurd (true≢false (sym e ∙ f))
 
 -- where the site runs nothing happens
-pub start_nothing : (gs : List ℕ) (s : ℕ) (x : Option SiteNode) (image : List ℕ) (armed : Option Armed) (state : PlaceState) (out : Outgoing) (b : Bool) → record { place = place_in gs x image; armed = armed } ≡ state → b ≡ is_some x → b ≡ true → Gives (boots_in s state) state out out
-start_nothing gs s None image armed state out b shown e t = absurd (false≢true (sym e ∙ t))
-start_nothing gs s (Some n) image armed state out b shown e t =
-    subst (λ (k : PlaceState). Gives (boots_in s k) k out out) shown (nothing_given (record { place = Running (view_of n image); armed = armed }) out)
+pub start_nothing : (gs : List ℕ) (config : Config) (me : ℕ) (x : Option SiteNode) (image : List ℕ) (armed : Option Armed) (state : PlaceState) (out : Outgoing) (b : Bool) → state_at config me (place_in gs x image) armed ≡ state → b ≡ is_some x → b ≡ true → out ≡ nothing_out → Gives (boots_in state) state state out
+start_nothing gs config me None image armed state out b shown e t empty = absurd (false≢true (sym e ∙ t))
+start_nothing gs config me (Some n) image armed state out b shown e t empty =
+    subst (λ (k : PlaceState). Gives (boots_in k) k k out) shown (nothing_given config me (Running (view_of n image)) armed out empty)
 
-pub start_up : (gs : List ℕ) (me s : ℕ) (x y : Option SiteNode) (n : SiteNode) (image now : List ℕ) (armed later : Option DiskScript) (boot left : ℕ) (state : PlaceState) (out after : Outgoing)
-    → record { place = place_in gs x image; armed = armed_in armed } ≡ state → x ≡ None → y ≡ Some n → later ≡ with_count left armed → IsRaised me image boot → AllPassed armed (boot_calls gs image) left
-    → view_of n now ≡ fresh boot (copies_on gs image) → after ≡ behind out (record { packets = []; records = says.Up s boot ∷ [] })
-    → Gives (boots_in s state) (record { place = place_in gs y now; armed = armed_in later }) out after
-start_up gs me s x y n image now armed later boot left state out after shown none up armed_is raised passed view told =
-    subst (λ (k : PlaceState). Gives (boots_in s k) (record { place = place_in gs y now; armed = armed_in later }) out after) shown
-    (subst (λ (k : Option SiteNode). Gives (boots_in s (record { place = place_in gs k image; armed = armed_in armed })) (record { place = place_in gs y now; armed = armed_in later }) out after) (sym none)
-    (subst (λ (k : Option SiteNode). Gives (boots_in s (record { place = place_in gs None image; armed = armed_in armed })) (record { place = place_in gs k now; armed = armed_in later }) out after) (sym up)
-    (subst (λ (k : Option DiskScript). Gives (boots_in s (record { place = place_in gs None image; armed = armed_in armed })) (record { place = place_in gs (Some n) now; armed = armed_in k }) out after) (sym armed_is)
-    (boots_up gs s me boot left n image now armed out after raised passed view told))))
+pub start_up : (gs : List ℕ) (config : Config) (me : ℕ) (x y : Option SiteNode) (n : SiteNode) (image now : List ℕ) (armed later : Option DiskScript) (boot left : ℕ) (state : PlaceState) (out : Outgoing)
+    → state_at config me (place_in gs x image) (armed_in armed) ≡ state → x ≡ None → y ≡ Some n → later ≡ with_count left armed → IsRaised me image boot → AllPassed armed (boot_calls gs image) left
+    → view_of n now ≡ fresh boot (copies_on gs image) → out ≡ record { packets = []; records = says.Up me boot ∷ [] }
+    → Gives (boots_in state) state (state_at config me (place_in gs y now) (armed_in later)) out
+start_up gs config me x y n image now armed later boot left state out shown none up armed_is raised passed view told =
+    let before = state_at config me (Stopped (disk_on gs image)) (armed_in armed) in
+    given_at boots_in gs config me x None image (armed_in armed) state (state_at config me (place_in gs y now) (armed_in later)) out shown none
+    (subst (λ (k : Option SiteNode). Gives (boots_in before) before (state_at config me (place_in gs k now) (armed_in later)) out) (sym up)
+    (subst (λ (k : Option DiskScript). Gives (boots_in before) before (state_at config me (place_in gs (Some n) now) (armed_in k)) out) (sym armed_is)
+    (boots_up gs me me boot left n image now armed before out raised passed view told)))
 
-pub start_cut : (gs : List ℕ) (me s : ℕ) (x : Option SiteNode) (image left : List ℕ) (armed : Option DiskScript) (script : DiskScript) (state : PlaceState) (out after : Outgoing)
-    → record { place = place_in gs x image; armed = armed_in armed } ≡ state → x ≡ None → armed ≡ Some script → AreSound me gs image → script.left < boot_calls gs image
-    → IsCutBoot me gs (as_cut (cut_by script.how)) (label_number image) script.left image left → after ≡ behind out (record { packets = []; records = says.Stopped s (cause_of (cut_by script.how)) ∷ [] })
-    → Gives (boots_in s state) (record { place = place_in gs x left; armed = None }) out after
-start_cut gs me s x image left armed script state out after shown none is sound few cut told =
-    subst (λ (k : PlaceState). Gives (boots_in s k) (record { place = place_in gs x left; armed = None }) out after) shown
-    (subst (λ (k : Option SiteNode). Gives (boots_in s (record { place = place_in gs k image; armed = armed_in armed })) (record { place = place_in gs k left; armed = None }) out after) (sym none)
-    (subst (λ (k : Option DiskScript). Gives (boots_in s (record { place = place_in gs None image; armed = armed_in k })) (record { place = place_in gs None left; armed = None }) out after) (sym is)
-    (boot_cut gs s me image left script out after sound few cut told)))
+pub start_cut : (gs : List ℕ) (config : Config) (me : ℕ) (x : Option SiteNode) (image left : List ℕ) (armed : Option DiskScript) (script : DiskScript) (state : PlaceState) (out : Outgoing)
+    → state_at config me (place_in gs x image) (armed_in armed) ≡ state → x ≡ None → armed ≡ Some script → AreSound me gs image → script.left < boot_calls gs image
+    → IsCutBoot me gs (as_cut (cut_by script.how)) (label_number image) script.left image left → out ≡ record { packets = []; records = says.Stopped me (cause_of (cut_by script.how)) ∷ [] }
+    → Gives (boots_in state) state (state_at config me (place_in gs x left) None) out
+start_cut gs config me x image left armed script state out shown none is sound few cut told =
+    let before = state_at config me (Stopped (disk_on gs image)) in
+    given_at boots_in gs config me x None image (armed_in armed) state (state_at config me (place_in gs x left) None) out shown none
+    (subst (λ (k : Option SiteNode). Gives (boots_in (before (armed_in armed))) (before (armed_in armed)) (state_at config me (place_in gs k left) None) out) (sym none)
+    (subst (λ (k : Option DiskScript). Gives (boots_in (before (armed_in k))) (before (armed_in k)) (state_at config me (place_in gs None left) None) out) (sym is)
+    (boot_cut gs me me image left script (before (armed_in (Some script))) out sound few cut told)))
 
 -- the count is that of the disk
 pub count_is : (s : Script) (left kept : ℕ) → left ≡ kept → counted s kept ≡ kept → counted s left ≡ left

@@ -2,4 +2,4 @@ pub mod Places
 pub mod Counts
 pub mod Views
 pub mod Standing
-pub mod Asking
+pub mod Starts

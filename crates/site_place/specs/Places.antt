@@ -1,5 +1,5 @@
 -- A site as it stands in the world, and what an event does to it, to what it sends and to what it tells.
-use Rattle.std.specs.Prelude.{◌≡◌, ℕ, ◌-◌, nat_lt, Bool, true, false, List, [], ◌∷◌, ◌++◌, Option, Some, None}
+use Rattle.std.specs.Prelude.{◌≡◌, ℕ, ◌-◌, nat_lt, Bool, true, false, List, [], ◌∷◌, Option, Some, None}
 use Rattle.locus_ids.specs.declared.sites.Links.{Links}
 use Rattle.locus_ids.specs.declared.config.Config.{Config}
 use Rattle.trace_book.specs.declared.record.Record.TheVariants as says
@@ -17,13 +17,17 @@ use Rattle.site_place.specs.declared.script.CallCut.{CallCut}
 use Rattle.site_place.specs.declared.script.CallCut.TheVariants as script
 use Rattle.site_place.specs.declared.script.DiskScript.{DiskScript}
 
+-- the cluster, the site's number in it, how it stands, and the script that is armed for its disk
 pub record PlaceState : Type 0 where
+  pub config : Config
+  pub site : ℕ
   pub place : Place
   pub armed : Option Armed
 
 -- how a site stands after an event, and what the event sends and tells
 pub record Happening : Type 0 where
-  pub state : PlaceState
+  pub place : Place
+  pub armed : Option Armed
   pub sent : List Packet
   pub told : List Told
 
@@ -42,18 +46,18 @@ event_of event.Part = Parts
 event_of event.Merge = Merges
 event_of event.GiveUp = GivesUp
 
-abbrev pub nothing_in : PlaceState → Happening
-nothing_in p = record { state = p; sent = []; told = [] }
+abbrev pub nothing_at : Option Armed → Place → Happening
+nothing_at armed place = record { place = place; armed = armed; sent = []; told = [] }
 
 -- ---- an event of a site that runs ----
 
 -- the outcome, whole
 abbrev pub runs_in : Outcome SiteView → Option Armed → Happening
-runs_in o armed = record { state = record { place = Running o.view; armed = armed }; sent = o.sent; told = o.told }
+runs_in o armed = record { place = Running o.view; armed = armed; sent = o.sent; told = o.told }
 
 -- the site stops in its write
 abbrev pub cut_in : ℕ → SiteView → DiskWrite → Armed → Happening
-cut_in s v d a = record { state = record { place = Stopped (cut_disk v.boot v.store d a.how a.left); armed = None }; sent = []; told = cut_told s d a.how a.left }
+cut_in s v d a = record { place = Stopped (cut_disk v.boot v.store d a.how a.left); armed = None; sent = []; told = cut_told s d a.how a.left }
 
 abbrev pub writes_armed_in : ℕ → SiteView → Outcome SiteView → DiskWrite → Armed → ℕ → Happening
 writes_armed_in s v o d a calls = elim (nat_lt a.left calls) [
@@ -70,12 +74,12 @@ acts_in s v o None armed = runs_in o armed
 acts_in s v o (Some d) armed = writes_in s v o d armed
 
 abbrev pub happens_at : Config → ℕ → Links → Event → Option Armed → Place → Happening
-happens_at c s links e armed (Stopped d) = nothing_in (record { place = Stopped d; armed = armed })
+happens_at c s links e armed (Stopped d) = nothing_at armed (Stopped d)
 happens_at c s links e armed (Running v) = acts_in s v (step c s links v e) (step c s links v e).written armed
 
 -- what an event does where the site runs; else nothing
-abbrev pub happens_in : Config → ℕ → Links → Event → PlaceState → Happening
-happens_in c s links e p = happens_at c s links e p.armed p.place
+abbrev pub happens_in : Links → Event → PlaceState → Happening
+happens_in links e p = happens_at p.config p.site links e p.armed p.place
 
 -- ---- a packet ----
 
@@ -86,29 +90,38 @@ drops p (Running v) = is_dropped p v
 -- ---- a stop and a boot ----
 
 abbrev pub stops_at : ℕ → Option Armed → Place → Happening
-stops_at s armed (Stopped d) = nothing_in (record { place = Stopped d; armed = armed })
-stops_at s armed (Running v) = record { state = record { place = Stopped (disk_of v); armed = None }; sent = []; told = Shown (says.Stopped s cause.Asked) ∷ [] }
+stops_at s armed (Stopped d) = nothing_at armed (Stopped d)
+stops_at s armed (Running v) = record { place = Stopped (disk_of v); armed = None; sent = []; told = Shown (says.Stopped s cause.Asked) ∷ [] }
 
 -- what a stop does where the site runs; else nothing
-abbrev pub stops_in : ℕ → PlaceState → Happening
-stops_in s p = stops_at s p.armed p.place
+abbrev pub stops_in : PlaceState → Happening
+stops_in p = stops_at p.site p.armed p.place
 
 abbrev pub boots_to : ℕ → Booted → Happening
-boots_to s (Whole d a) = record { state = record { place = Running (fresh d.label.boot d.copies); armed = a }; sent = []; told = Shown (says.Up s d.label.boot) ∷ [] }
-boots_to s (CutOff d how) = record { state = record { place = Stopped d; armed = None }; sent = []; told = Shown (says.Stopped s (cause_of how)) ∷ [] }
+boots_to s (Whole d a) = record { place = Running (fresh d.label.boot d.copies); armed = a; sent = []; told = Shown (says.Up s d.label.boot) ∷ [] }
+boots_to s (CutOff d how) = record { place = Stopped d; armed = None; sent = []; told = Shown (says.Stopped s (cause_of how)) ∷ [] }
 
 abbrev pub boots_at : ℕ → Option Armed → Place → Happening
-boots_at s armed (Running v) = nothing_in (record { place = Running v; armed = armed })
+boots_at s armed (Running v) = nothing_at armed (Running v)
 boots_at s armed (Stopped d) = boots_to s (boots armed d)
 
 -- what a boot does where the site is stopped; else nothing
-abbrev pub boots_in : ℕ → PlaceState → Happening
-boots_in s p = boots_at s p.armed p.place
+abbrev pub boots_in : PlaceState → Happening
+boots_in p = boots_at p.site p.armed p.place
+
+-- the boot number on the disk of a site
+abbrev pub disk_boot : Place → ℕ
+disk_boot (Running v) = v.boot
+disk_boot (Stopped d) = d.label.boot
 
 -- ---- in code ----
 
--- the site stands as after the event, and the outbox has what the event sends and prints
-pub record Gives (h : Happening) (after : PlaceState) (out after_out : Outgoing) : Type 0 where
-  pub state : after ≡ h.state
-  pub packets : after_out.packets ≡ out.packets ++ h.sent
-  pub records : after_out.records ≡ out.records ++ printed h.told
+-- the site after the event: it stands so, and is the same site of the same cluster
+abbrev pub led_to : Happening → PlaceState → PlaceState
+led_to h p = record p { place = h.place; armed = h.armed }
+
+-- the event was that: the site stands as after it, and what it sends and prints is given
+pub record Gives (h : Happening) (before after : PlaceState) (out : Outgoing) : Type 0 where
+  pub state : after ≡ led_to h before
+  pub packets : out.packets ≡ h.sent
+  pub records : out.records ≡ printed h.told

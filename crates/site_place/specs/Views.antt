@@ -21,4 +21,4 @@ place_in groups None image = Stopped (disk_on groups image)
 place_in groups (Some n) image = Running (view_of n image)
 
 abbrev pub place_shown : Inside → PlaceState
-place_shown p = record { place = place_in (groups_at p.config p.me) p.node (seen p.disk.disk); armed = armed_in p.armed }
+place_shown p = record { config = p.config; site = p.me; place = place_in (groups_at p.config p.me) p.node (seen p.disk.disk); armed = armed_in p.armed }

@@ -1,6 +1,4 @@
 use locus_ids::NoMemory;
-use site_disk::{BootFault, FormatFault};
-use site_node::NodeFault;
 use thiserror::Error;
 
 /// Why an event did not happen whole. Then the run cannot go on.
@@ -8,12 +6,19 @@ use thiserror::Error;
 pub enum PlaceFault {
     #[error("no memory")]
     NoMemory,
-    /// A value that is none of the disk's format was to be written, or what is on the disk is none.
+    /// A value that is none of the disk's format was to be written, or no number is left for an epoch.
     #[error("no value of the format")]
     Unfit,
-    /// The disk failed with no script that makes it fail.
-    #[error("the disk failed")]
-    Disk,
+}
+
+/// Why a site did not boot, other than by a disk call that was cut off. Then the run cannot go on.
+#[derive(Clone, Copy, Debug, PartialEq, Eq, Error)]
+pub enum StartFault {
+    #[error("no memory")]
+    NoMemory,
+    /// The boot number on the disk is the greatest one.
+    #[error("boot numbers are spent")]
+    Spent,
 }
 
 impl From<NoMemory> for PlaceFault {
@@ -22,31 +27,13 @@ impl From<NoMemory> for PlaceFault {
     }
 }
 
-impl From<FormatFault> for PlaceFault {
-    fn from(fault: FormatFault) -> PlaceFault {
-        match fault {
-            FormatFault::NoMemory => PlaceFault::NoMemory,
-            FormatFault::Disk => PlaceFault::Disk,
-        }
-    }
-}
+impl From<NoMemory> for StartFault {
+    ghost use Rattle.std.specs.Prelude.{◌≡◌};
+    ghost use Rattle.site_place.specs.declared.fault.StartFault.TheVariants.{NoMemory};
 
-impl From<BootFault> for PlaceFault {
-    fn from(fault: BootFault) -> PlaceFault {
-        match fault {
-            BootFault::NoMemory => PlaceFault::NoMemory,
-            BootFault::Disk => PlaceFault::Disk,
-            _ => PlaceFault::Unfit,
-        }
-    }
-}
+    ghost from_gives = { λ _ fault. fault ≡ NoMemory };
 
-impl From<NodeFault> for PlaceFault {
-    fn from(fault: NodeFault) -> PlaceFault {
-        match fault {
-            NodeFault::NoMemory => PlaceFault::NoMemory,
-            NodeFault::Disk | NodeFault::Cut(_) => PlaceFault::Disk,
-            NodeFault::NoNumber | NodeFault::Unfit => PlaceFault::Unfit,
-        }
+    fn from(_: NoMemory) -> StartFault {
+        StartFault::NoMemory
     }
 }

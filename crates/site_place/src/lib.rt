@@ -3,7 +3,6 @@
 #![tactic(auto)]
 
 mod acting;
-mod cluster;
 mod counted_disk;
 mod event;
 mod fault;
@@ -13,6 +12,6 @@ mod script;
 mod telling;
 
 pub use event::SiteEvent;
-pub use fault::PlaceFault;
+pub use fault::{PlaceFault, StartFault};
 pub use place::SitePlace;
 pub use script::{CallCut, DiskScript};

@@ -1,19 +1,19 @@
-ghost use Rattle.std.specs.Prelude.{◌≡◌, true, Some, None, IfOk, OnOk};
+ghost use Rattle.std.specs.Prelude.{◌≡◌, true, Some, None, Err, IfOk};
 ghost use Rattle.the_run.specs.Worlds.{Running, fresh, formatted, boot_of};
 ghost use Rattle.the_run.specs.Runs.{is_stopped, is_in_no_epoch, is_busy};
-ghost use Rattle.site_place.specs.Asking.{IsActing};
-ghost use Rattle.site_place.specs.Places.{PlaceState, Gives, event_of, armed_by, happens_in, stops_in, boots_in, drops};
+ghost use Rattle.site_place.specs.Starts.{IsOfWhole};
+ghost use Rattle.site_place.specs.Places.{PlaceState, Gives, event_of, armed_by, happens_in, stops_in, boots_in, disk_boot, drops};
 
 use crate::acting::act;
-use crate::cluster::is_same_cluster;
 use crate::counted_disk::CountedDisk;
 use crate::script::{cause_of, with_left};
-use crate::telling::{stopped, tell, tell_cut};
-use crate::{DiskScript, PlaceFault, SiteEvent};
-use locus_ids::{Config, Links, SiteId};
+use crate::telling::{stopped, told_alone, told_of_cut};
+use crate::{DiskScript, PlaceFault, SiteEvent, StartFault};
+use locus_ids::{Config, Links, NoMemory, SiteId};
 use packet_order::Dispatch;
-use site_disk::{BootFault, SiteDisk};
+use site_disk::{BootFault, FormatFault, SiteDisk};
 use site_node::{NodeFault, SiteNode};
+use site_packs::WriteSize;
 use std::alloc::Global;
 use std::marker::Model;
 use trace_book::{Record, StopCause};
@@ -49,13 +49,18 @@ impl SitePlace {
     ghost use Rattle.site_place.specs.Places.{PlaceState};
 
     /// A site with a freshly formatted disk, in its first boot.
-    pub fn new(alloc: Global, config: &Config, me: SiteId) -> Result<SitePlace, PlaceFault>
-        ensures { IfOk result (λ made. made ≡ record { place = Running (fresh 1 (formatted config.now me)); armed = None }) }
+    pub fn new(alloc: Global, config: &Config, me: SiteId) -> Result<SitePlace, NoMemory>
+        ensures { IfOk result (λ made. made ≡ record { config = config.now; site = me; place = Running (fresh 1 (formatted config.now me)); armed = None }) }
     {
         let cluster = config.copy()?;
         let own = config.copy()?;
         let mut disk = CountedDisk::new(alloc, SiteDisk::length(config, me))?;
-        let packs = SiteDisk::format(alloc, &mut disk, config, me)?;
+        let packs = match SiteDisk::format(alloc, &mut disk, config, me) {
+            Ok(packs) => packs,
+            Err(FormatFault::NoMemory) => return Err(NoMemory),
+            // All calls of a disk pass on which nothing is armed.
+            Err(FormatFault::Disk) => unreachable!(),
+        };
         let node = SiteNode::fresh(alloc, own, me, 1, packs);
         Ok(SitePlace {
             alloc,
@@ -114,70 +119,64 @@ impl SitePlace {
         }
     }
 
-    /// An event of the site, where it runs: all of it, or, where the armed script cuts its disk write off, what a stop leaves.
-    /// `Unfit` also where the cluster or the site is another one, and where there is something in the outbox already.
-    pub fn happen(
-        &mut self,
-        config: &Config,
-        me: SiteId,
-        links: &Links,
-        event: SiteEvent,
-        out: &mut Dispatch,
-    ) -> Result<(), PlaceFault>
-        ensures { OnOk result (Gives (happens_in config.now me links.now (event_of event) self.old) self.new out.old out.new) }
+    /// An event of the site, where it runs: all of it, or, where the armed script cuts its disk write off, what a stop leaves. It
+    /// gives what the event sends and tells.
+    pub fn happen(&mut self, links: &Links, event: SiteEvent) -> Result<Dispatch, PlaceFault>
+        ensures { IfOk result (λ out. Gives (happens_in links.now (event_of event) self.old) self.old self.new out) }
     {
+        let mut out = Dispatch::new(self.alloc);
         let Some(node) = &mut self.node else {
-            return Ok(());
+            return Ok(out);
         };
-        if !may_act(self.me, &self.config, me, config, out) {
-            return Err(PlaceFault::Unfit);
-        }
-        match act(node, &mut self.disk, links, event, out) {
+        match act(node, &mut self.disk, links, event, &mut out) {
             Ok(()) => {
                 self.armed = with_left(self.armed, self.disk.left());
-                Ok(())
-            }
-            Err(NodeFault::Cut(size)) => {
-                leave(&mut self.node);
-                let Some(script) = self.armed else {
-                    self.disk.disarm();
-                    return Err(PlaceFault::Disk);
-                };
-                self.armed = None;
-                self.disk.crash(script.how);
-                tell_cut(self.alloc, me, size.pages, script, out)?;
-                Ok(())
+                Ok(out)
             }
             Err(fault) => {
                 leave(&mut self.node);
+                let size = match size_of(fault) {
+                    Ok(size) => size,
+                    Err(refusal) => {
+                        self.armed = None;
+                        self.disk.disarm();
+                        return Err(refusal);
+                    }
+                };
+                // All calls of a disk pass on which nothing is armed.
+                let Some(script) = self.armed else {
+                    unreachable!()
+                };
                 self.armed = None;
-                self.disk.disarm();
-                Err(PlaceFault::from(fault))
+                self.disk.crash(script.how);
+                let told = told_of_cut(self.alloc, self.me, size.pages, script, out)?;
+                Ok(told)
             }
         }
     }
 
-    /// The site stops, where it runs.
-    pub fn stop(&mut self, me: SiteId, out: &mut Dispatch) -> Result<(), PlaceFault>
-        ensures { OnOk result (Gives (stops_in me self.old) self.new out.old out.new) }
+    /// The site stops, where it runs. It gives what that tells.
+    pub fn stop(&mut self) -> Result<Dispatch, NoMemory>
+        ensures { IfOk result (λ out. Gives (stops_in self.old) self.old self.new out) }
     {
         let Some(node) = &self.node else {
-            return Ok(());
+            return Ok(Dispatch::new(self.alloc));
         };
         node.gates_are_shut();
         leave(&mut self.node);
         self.armed = None;
         self.disk.disarm();
-        tell(self.alloc, stopped(me, StopCause::Asked), out)?;
-        Ok(())
+        let told = told_alone(self.alloc, stopped(self.me, StopCause::Asked))?;
+        Ok(told)
     }
 
-    /// The site boots, where it is stopped.
-    pub fn start(&mut self, me: SiteId, out: &mut Dispatch) -> Result<(), PlaceFault>
-        ensures { OnOk result (Gives (boots_in me self.old) self.new out.old out.new) }
+    /// The site boots, where it is stopped. It gives what that tells.
+    pub fn start(&mut self) -> Result<Dispatch, StartFault>
+        ensures gives { IfOk result (λ out. Gives (boots_in self.old) self.old self.new out) }
+        ensures spent { result ≡ Err StartFault.Spent → disk_boot self.old.place ≡ 4294967295 }
     {
         if self.node.is_some() {
-            return Ok(());
+            return Ok(Dispatch::new(self.alloc));
         }
         let config = self.config.copy()?;
         match SiteDisk::boot(self.alloc, &mut self.disk, &self.config, self.me) {
@@ -185,24 +184,24 @@ impl SitePlace {
                 self.armed = with_left(self.armed, self.disk.left());
                 let node = SiteNode::fresh(self.alloc, config, self.me, boot, packs);
                 enter(&mut self.node, node);
-                let site = me.get();
-                tell(self.alloc, Record::Up { site, boot }, out)?;
-                Ok(())
+                let site = self.me.get();
+                let told = told_alone(self.alloc, Record::Up { site, boot })?;
+                Ok(told)
             }
-            Err(BootFault::Disk) => {
-                let Some(script) = self.armed else {
+            Err(fault) => {
+                if let Some(refusal) = why_not(fault) {
+                    self.armed = None;
                     self.disk.disarm();
-                    return Err(PlaceFault::Disk);
+                    return Err(refusal);
+                }
+                // All calls of a disk pass on which nothing is armed.
+                let Some(script) = self.armed else {
+                    unreachable!()
                 };
                 self.armed = None;
                 self.disk.crash(script.how);
-                tell(self.alloc, stopped(me, cause_of(script.how)), out)?;
-                Ok(())
-            }
-            Err(fault) => {
-                self.armed = None;
-                self.disk.disarm();
-                Err(PlaceFault::from(fault))
+                let told = told_alone(self.alloc, stopped(self.me, cause_of(script.how)))?;
+                Ok(told)
             }
         }
     }
@@ -216,17 +215,31 @@ impl SitePlace {
     }
 }
 
-/// The site and the cluster are those of the event, and there is nothing in the outbox.
-fn may_act(own: SiteId, cluster: &Config, me: SiteId, config: &Config, out: &Dispatch) -> bool
-    ensures { result ≡ true → IsActing own cluster.now me config.now out.now }
+/// The size of the write that was cut off, or why the event didn't happen otherwise.
+fn size_of(fault: NodeFault) -> Result<WriteSize, PlaceFault>
+    requires { fault ≡ NodeFault.Disk → ⊥ }
+    ensures { IfOk result (λ size. fault ≡ NodeFault.Cut size) }
 {
-    if own != me {
-        return false;
+    match fault {
+        NodeFault::Cut(size) => Ok(size),
+        NodeFault::NoMemory => Err(PlaceFault::NoMemory),
+        NodeFault::NoNumber | NodeFault::Unfit => Err(PlaceFault::Unfit),
+        NodeFault::Disk => unreachable!(),
     }
-    if !out.parts().is_empty() {
-        return false;
+}
+
+/// Why a whole disk isn't booted, or `None` where a call of it failed.
+fn why_not(fault: BootFault) -> Option<StartFault>
+    requires { IsOfWhole fault }
+    ensures failed { result ≡ None → fault ≡ BootFault.Disk }
+    ensures spent { result ≡ Some StartFault.Spent → fault ≡ BootFault.Spent }
+{
+    match fault {
+        BootFault::Disk => None,
+        BootFault::NoMemory => Some(StartFault::NoMemory),
+        BootFault::Spent => Some(StartFault::Spent),
+        _ => unreachable!(),
     }
-    is_same_cluster(cluster, config)
 }
 
 /// The site doesn't run any more.

@@ -12,7 +12,7 @@ use Rattle.world.proofs.Changes.{Changes, change_puts, change_arms, change_stops
 -- whatever holds of each world that the happening leads to
 module _ (n s : ℕ) (w : World) (r : Rising armed_site w.armed) (P : World → Type 0) where
   abbrev Leads : Happening → Type 0
-  Leads h = (change : World → World) → Changes s h.state w (change w) → P (happened n h.sent h.told change w)
+  Leads h = (change : World → World) → Changes s h.place h.armed w (change w) → P (happened n h.sent h.told change w)
 
   site_of : (a : Armed) → script_of w s ≡ Some a → a.site ≡ s
   site_of a e = key_found armed_site s w.armed a e

@@ -8,17 +8,17 @@ use Rattle.wire_messages.specs.Outboxes.{Outgoing}
 use Rattle.trace_book.specs.declared.record.Record.{Record}
 use Rattle.role_steps.specs.Views.{Event, all_sites}
 use Rattle.site_frame.specs.Printed.{printed}
-use Rattle.the_run.specs.Disks.{Armed, boots}
+use Rattle.the_run.specs.Disks.{Armed, Booted, Whole, CutOff, boots}
 use Rattle.the_run.specs.Steps.{step}
 use Rattle.the_run.specs.Worlds.{World, Limit, Place, Running, Stopped, CutCircuit, place_at, script_of, boot_of, is_between, link_of, links_of, is_up, voids, happens_at, happens}
 use Rattle.the_run.specs.Runs.{is_stopped, unless_void, stops_line, boots_line}
 use Rattle.circuits.specs.Circuits.{reached_boot, reached_boots, is_up_among, boot_in}
 use Rattle.circuits.proofs.Cuts.{of_all_sites}
-use Rattle.site_place.specs.Places.{PlaceState, Happening, Gives, acts_in, happens_in, happens_at as happens_place, stops_at, stops_in, boots_to, boots_at as boots_place, boots_in}
+use Rattle.site_place.specs.Places.{PlaceState, Happening, Gives, led_to, acts_in, happens_in, happens_at as happens_place, stops_at, stops_in, boots_to, boots_at as boots_place, boots_in}
 use Rattle.run_book.proofs.Kept.{writing_kept}
 use Rattle.run_book.specs.Ledgers.{Ledger, Keeps, books, books_of}
 use Rattle.world.specs.States.{WorldState, state_at, place_of, boot_at, boots_of}
-use Rattle.world.specs.Shown.{Taken, ShowsSites, Shows, Follows, FollowsWithin, Answers}
+use Rattle.world.specs.Shown.{Taken, IsSite, ShowsSites, Shows, Follows, FollowsWithin, Answers}
 use Rattle.world.proofs.Tables.{key_found}
 use Rattle.world.proofs.Events.{event_shown}
 use Rattle.world.proofs.Acting.{acts_lead, stop_leads, boot_leads, boots_none, boots_some}
@@ -98,30 +98,24 @@ done_asked n test f b x y h t g c taken w e sh = unless_no n (f c) (test w) w (�
 
 -- ---- events of a site ----
 
-abbrev pub no_out : Outgoing
-no_out = record { packets = []; records = [] }
-
 -- a site of the world in code after a happening, and the book with what it sent and told
-pub record Noted (x y : WorldState) (n at : ℕ) (h : Happening) : Type 0 where
+pub record Noted (x y : WorldState) (n at : ℕ) (p : PlaceState) (h : Happening) : Type 0 where
   pub config : y.config ≡ x.config
-  pub places : y.places ≡ set x.places at h.state
+  pub places : y.places ≡ set x.places at (led_to h p)
   pub circuits : y.circuits ≡ x.circuits
   pub book : y.book ≡ books n h.sent (printed h.told) x.book
 
-pub noted : (x y : WorldState) (n at : ℕ) (h : Happening) (q : PlaceState) (out : Outgoing) → Gives h q no_out out → y.config ≡ x.config → y.places ≡ set x.places at q → y.circuits ≡ x.circuits → y.book ≡ books n out.packets out.records x.book → Noted x y n at h
-noted x y n at h q out g ec ep ek eb = record {
+pub noted : (x y : WorldState) (n at : ℕ) (p q : PlaceState) (h : Happening) (out : Outgoing) → Gives h p q out → y.config ≡ x.config → y.places ≡ set x.places at q → y.circuits ≡ x.circuits → y.book ≡ books n out.packets out.records x.book → Noted x y n at p h
+noted x y n at p q h out g ec ep ek eb = record {
   config = ec;
   places = ep ∙ ap (set x.places at) g.state;
   circuits = ek;
   book = eb ∙ (ap (λ (ps : List Packet). books n ps out.records x.book) g.packets ∙ ap (λ (rs : List Record). books n h.sent rs x.book) g.records);
 }
 
-noted_as : (x y : WorldState) (n at : ℕ) (g h : Happening) → g ≡ h → Noted x y n at g → Noted x y n at h
-noted_as x y n at g h e k = subst (λ (z : Happening). Noted x y n at z) e k
-
 -- a limit was passed, and the event is no event
-over_stays : (c : Config) (taken : Taken) (w : World) (x y : WorldState) (n at : ℕ) (h : Happening) (l : Limit) → w.over ≡ Some l → Noted x y n at h → Shows c taken w x → Shows c taken w y
-over_stays c taken w x y n at h l e k sh = record {
+over_stays : (c : Config) (taken : Taken) (w : World) (x y : WorldState) (n at : ℕ) (p : PlaceState) (h : Happening) (l : Limit) → w.over ≡ Some l → Noted x y n at p h → Shows c taken w x → Shows c taken w y
+over_stays c taken w x y n at p h l e k sh = record {
   config = k.config ∙ sh.config;
   writing = ap (λ (b : Ledger). b.writing) k.book ∙ (writing_kept n h.sent (printed h.told) x.book ∙ sh.writing);
   book = subst (λ (b : Ledger). Keeps taken.bytes w b) (sym (k.book ∙ ap (λ o. books_of o n h.sent (printed h.told) x.book) (sh.book.over ∙ e))) sh.book;
@@ -129,50 +123,76 @@ over_stays c taken w x y n at h l e k sh = record {
 }
 
 module _ (n s at : ℕ) (x y : WorldState) (low : 1 ≤ s) (high : s ≤ 16) (is : s ≡ at + 1) (within : at < length x.places) (p : PlaceState) (found : state_at x.places s ≡ Some p) where
-  running : (c : Config) (e : Event) (links : Links) (taken : Taken) (w : World) → w.over ≡ None → Shows c taken w x → links_of w s ≡ links → (q : Place) → p.place ≡ q → is_stopped (Some q) ≡ false → Noted x y n at (happens_place c s links e p.armed q) → Shows c taken (happens_at c n s e (Some q) w) y
+  running : (c : Config) (e : Event) (links : Links) (taken : Taken) (w : World) → w.over ≡ None → Shows c taken w x → links_of w s ≡ links → (q : Place) → p.place ≡ q → is_stopped (Some q) ≡ false → Noted x y n at p (happens_place c s links e p.armed q) → Shows c taken (happens_at c n s e (Some q) w) y
   running c e links taken w o sh el (Stopped d) ep st k = absurd (cc)
   running c e links taken w o sh el (Running v) ep st k =
       let sites = sh.sites o in
       let out = step c s (links_of w s) v e in
-      let k' : Noted x y n at (acts_in s v out out.written p.armed) = subst (λ (z : Links). Noted x y n at (acts_in s v (step c s z v e) (step c s z v e).written p.armed)) (sym el) k in
-      acts_lead n s w sites.table (λ u. Shows c taken u y) v out out.written p.armed (sites.scripts s p found) (λ change ch. event_shown c taken w x y n s at (acts_in s v out out.written p.armed) change o sh is within ch k'.config k'.places k'.circuits k'.book)
+      let k' : Noted x y n at p (acts_in s v out out.written p.armed) = subst (λ (z : Links). Noted x y n at p (acts_in s v (step c s z v e) (step c s z v e).written p.armed)) (sym el) k in
+      acts_lead n s w sites.table (λ u. Shows c taken u y) v out out.written p.armed (sites.scripts s p found) (λ change ch. event_shown c taken w x y n s at p (acts_in s v out out.written p.armed) change o sh is within found ch k'.config k'.places k'.circuits k'.book)
 
-  pub happen_follows : (e : Event) (links : Links) → is_stopped (Some p.place) ≡ false → Answers (λ w. links_of w s) x links → Noted x y n at (happens_in x.config s links e p) → Follows (λ c w. happens c n s e w) x y
+  -- the site's number and cluster are those of the world
+  own_event : (c : Config) (e : Event) (links : Links) → IsSite c s p → Noted x y n at p (happens_in links e p) → Noted x y n at p (happens_place c s links e p.armed p.place)
+  own_event c e links own k =
+      subst (λ (z : Config). Noted x y n at p (happens_place z s links e p.armed p.place)) own.config
+      (subst (λ (t : ℕ). Noted x y n at p (happens_place p.config t links e p.armed p.place)) own.site k)
+
+  pub happen_follows : (e : Event) (links : Links) → is_stopped (Some p.place) ≡ false → Answers (λ w. links_of w s) x links → Noted x y n at p (happens_in links e p) → Follows (λ c w. happens c n s e w) x y
   happen_follows e links st el k c taken w sh = cases w.over refl where
     cases : (o : Option Limit) → w.over ≡ o → Shows c taken (happens c n s e w) y
-    cases (Some l) eo = subst (λ (u : World). Shows c taken u y) (sym (happens_over c n l s e w eo)) (over_stays c taken w x y n at (happens_in x.config s links e p) l eo k sh)
+    cases (Some l) eo = subst (λ (u : World). Shows c taken u y) (sym (happens_over c n l s e w eo)) (over_stays c taken w x y n at p (happens_in links e p) l eo k sh)
     cases None eo =
         let there : place_at w s ≡ Some p.place = (sh.sites eo).places s low high ∙ ap place_of found in
-        let k' : Noted x y n at (happens_place c s links e p.armed p.place) = subst (λ (z : Config). Noted x y n at (happens_place z s links e p.armed p.place)) sh.config k in
+        let own = (sh.sites eo).own s p found in
+        let k' = own_event c e links (record { site = own.site; config = own.config ∙ sh.config }) k in
         subst (λ (q : Option Place). Shows c taken (happens_at c n s e q w) y) (sym there) (running c e links taken w eo sh (el c taken w eo sh) p.place refl st k')
 
   -- ---- a stop and a boot ----
 
-  stopping : (c : Config) (taken : Taken) (w : World) → w.over ≡ None → Shows c taken w x → (q : Place) → is_stopped (Some q) ≡ false → Noted x y n at (stops_at s p.armed q) → Shows c taken (stops_line n s (Some q) w) y
+  stopping : (c : Config) (taken : Taken) (w : World) → w.over ≡ None → Shows c taken w x → (q : Place) → is_stopped (Some q) ≡ false → Noted x y n at p (stops_at s p.armed q) → Shows c taken (stops_line n s (Some q) w) y
   stopping c taken w o sh (Stopped d) st k = absurd (cc)
   stopping c taken w o sh (Running v) st k =
-      stop_leads n s w (sh.sites o).table (λ u. Shows c taken u y) v p.armed (λ change ch. event_shown c taken w x y n s at (stops_at s p.armed (Running v)) change o sh is within ch k.config k.places k.circuits k.book)
+      stop_leads n s w (sh.sites o).table (λ u. Shows c taken u y) v p.armed (λ change ch. event_shown c taken w x y n s at p (stops_at s p.armed (Running v)) change o sh is within found ch k.config k.places k.circuits k.book)
 
-  pub stop_follows : is_stopped (Some p.place) ≡ false → Noted x y n at (stops_in s p) → FollowsWithin (λ c w. stops_line n s (place_at w s) w) x y
+  pub stop_follows : is_stopped (Some p.place) ≡ false → Noted x y n at p (stops_in p) → FollowsWithin (λ c w. stops_line n s (place_at w s) w) x y
   stop_follows st k c taken w o sh =
       let there : place_at w s ≡ Some p.place = (sh.sites o).places s low high ∙ ap place_of found in
-      subst (λ (q : Option Place). Shows c taken (stops_line n s q w) y) (sym there) (stopping c taken w o sh p.place st k)
+      let k' : Noted x y n at p (stops_at s p.armed p.place) = subst (λ (t : ℕ). Noted x y n at p (stops_at t p.armed p.place)) ((sh.sites o).own s p found).site k in
+      subst (λ (q : Option Place). Shows c taken (stops_line n s q w) y) (sym there) (stopping c taken w o sh p.place st k')
 
-  starting : (c : Config) (taken : Taken) (w : World) → w.over ≡ None → Shows c taken w x → (q : Place) → is_stopped (Some q) ≡ true → Noted x y n at (boots_place s p.armed q) → Shows c taken (boots_line n s (Some q) w) y
+  starting : (c : Config) (taken : Taken) (w : World) → w.over ≡ None → Shows c taken w x → (q : Place) → is_stopped (Some q) ≡ true → Noted x y n at p (boots_place s p.armed q) → Shows c taken (boots_line n s (Some q) w) y
   starting c taken w o sh (Running v) st k = absurd (cc)
   starting c taken w o sh (Stopped d) st k =
       let sites = sh.sites o in
       let script : script_of w s ≡ p.armed = sites.scripts s p found in
-      let k' : Noted x y n at (boots_to s (boots (script_of w s) d)) = subst (λ (a : Option Armed). Noted x y n at (boots_to s (boots a d))) (sym script) k in
+      let k' : Noted x y n at p (boots_to s (boots (script_of w s) d)) = subst (λ (a : Option Armed). Noted x y n at p (boots_to s (boots a d))) (sym script) k in
       boot_leads n s w sites.table (λ u. Shows c taken u y) (boots (script_of w s) d)
       (λ d' b. boots_none (script_of w s) d d' b)
       (λ d' a b. boots_some s (script_of w s) d d' a (λ a' f. key_found _ s w.armed a' f) b)
-      (λ change ch. event_shown c taken w x y n s at (boots_to s (boots (script_of w s) d)) change o sh is within ch k'.config k'.places k'.circuits k'.book)
+      (λ change ch. event_shown c taken w x y n s at p (boots_to s (boots (script_of w s) d)) change o sh is within found ch k'.config k'.places k'.circuits k'.book)
 
-  pub start_follows : is_stopped (Some p.place) ≡ true → Noted x y n at (boots_in s p) → FollowsWithin (λ c w. boots_line n s (place_at w s) w) x y
+  pub start_follows : is_stopped (Some p.place) ≡ true → Noted x y n at p (boots_in p) → FollowsWithin (λ c w. boots_line n s (place_at w s) w) x y
   start_follows st k c taken w o sh =
       let there : place_at w s ≡ Some p.place = (sh.sites o).places s low high ∙ ap place_of found in
-      subst (λ (q : Option Place). Shows c taken (boots_line n s q w) y) (sym there) (starting c taken w o sh p.place st k)
+      let k' : Noted x y n at p (boots_place s p.armed p.place) = subst (λ (t : ℕ). Noted x y n at p (boots_place t p.armed p.place)) ((sh.sites o).own s p found).site k in
+      subst (λ (q : Option Place). Shows c taken (boots_line n s q w) y) (sym there) (starting c taken w o sh p.place st k')
+
+-- a stop and a boot send nothing
+pub stop_sends_none : (h : Happening) (p q : PlaceState) (out : Outgoing) → h ≡ stops_in p → Gives h p q out → out.packets ≡ []
+stop_sends_none h p q out is g = g.packets ∙ (ap (λ (k : Happening). k.sent) is ∙ at p.place) where
+  at : (place : Place) → (stops_at p.site p.armed place).sent ≡ []
+  at (Stopped d) = refl
+  at (Running v) = refl
+
+booted_none : (s : ℕ) (b : Booted) → (boots_to s b).sent ≡ []
+booted_none s (Whole d a) = refl
+booted_none s (CutOff d how) = refl
+
+pub boot_sends_none : (h : Happening) (p q : PlaceState) (out : Outgoing) → h ≡ boots_in p → Gives h p q out → out.packets ≡ []
+boot_sends_none h p q out is g = g.packets ∙ (ap (λ (k : Happening). k.sent) is ∙ at p.place) where
+  at : (place : Place) → (boots_place p.site p.armed place).sent ≡ []
+  at (Stopped d) = booted_none p.site (boots p.armed d)
+  at (Running v) = refl
 
 -- ---- sites that aren't there, or don't run, or run ----
 

@@ -5,14 +5,14 @@ use Rattle.keyed_tables.proofs.Searched.{put_rising, without_rising}
 use Rattle.role_steps.specs.Tables.{row, with_row}
 use Rattle.the_run.specs.Disks.{Disk, Armed}
 use Rattle.the_run.specs.Worlds.{World, Place, Stopped, place_in, place_at, place_site, script_of, armed_site, puts, arms, stops_with}
-use Rattle.site_place.specs.Places.{PlaceState}
 use Rattle.run_book.specs.Ledgers.{Elsewhere}
 use Rattle.world.proofs.Tables.{put_here, put_there, out_here, out_there}
 
-pub record Changes (s : ℕ) (p : PlaceState) (old new : World) : Type 0 where
-  pub place_here : place_at new s ≡ Some p.place
+-- the site stands so, with this script, and all else is as it was
+pub record Changes (s : ℕ) (place : Place) (armed : Option Armed) (old new : World) : Type 0 where
+  pub place_here : place_at new s ≡ Some place
   pub place_there : (t : ℕ) → t ≢ s → place_at new t ≡ place_at old t
-  pub script_here : script_of new s ≡ p.armed
+  pub script_here : script_of new s ≡ armed
   pub script_there : (t : ℕ) → t ≢ s → script_of new t ≡ script_of old t
   pub table : Rising armed_site new.armed
   pub circuits : new.circuits ≡ old.circuits
@@ -29,7 +29,7 @@ module _ (s : ℕ) (w : World) (r : Rising armed_site w.armed) where
   puts_there p t ne = ap place_in (put_there place_site (record { site = s; place = p }) t w.places (flip t s ne))
 
   -- the site stands so, with the script that it had
-  pub change_puts : (p : Place) (a : Option Armed) → script_of w s ≡ a → Changes s (record { place = p; armed = a }) w (puts s p w)
+  pub change_puts : (p : Place) (a : Option Armed) → script_of w s ≡ a → Changes s p a w (puts s p w)
   change_puts p a e = record {
     place_here = puts_here p;
     place_there = puts_there p;
@@ -41,7 +41,7 @@ module _ (s : ℕ) (w : World) (r : Rising armed_site w.armed) where
   }
 
   -- the site stands so, with this script
-  pub change_arms : (p : Place) (a : Armed) → a.site ≡ s → Changes s (record { place = p; armed = Some a }) w (puts s p (arms a w))
+  pub change_arms : (p : Place) (a : Armed) → a.site ≡ s → Changes s p (Some a) w (puts s p (arms a w))
   change_arms p a e = record {
     place_here = puts_here p;
     place_there = puts_there p;
@@ -53,7 +53,7 @@ module _ (s : ℕ) (w : World) (r : Rising armed_site w.armed) where
   }
 
   -- the site is stopped, with no script
-  pub change_stops : (d : Disk) → Changes s (record { place = Stopped d; armed = None }) w (stops_with s d w)
+  pub change_stops : (d : Disk) → Changes s (Stopped d) None w (stops_with s d w)
   change_stops d = record {
     place_here = puts_here (Stopped d);
     place_there = puts_there (Stopped d);

@@ -1,5 +1,5 @@
 -- The first world.
-use Rattle.std.proofs.Common.{◌≡◌, ℕ, zero, suc, ◌+◌, ◌<◌, ◌≤◌, ◌==◌, nat_lt, List, [], ◌∷◌, ◌++◌, length, map, filter, min, Some, None, true, false, refl, sym, ap, subst, ◌∙◌, arith}
+use Rattle.std.proofs.Common.{◌≡◌, ℕ, zero, suc, ◌+◌, ◌<◌, ◌≤◌, ◌==◌, nat_lt, List, [], ◌∷◌, ◌++◌, length, map, filter, min, Some, None, true, false, add-one, refl, sym, ap, subst, ◌∙◌, arith}
 use Rattle.std.specs.Prelude.{slice_get}
 use Rattle.std.specs.List.{list_any}
 use Rattle.std.proofs.lemmas.Bool.Decides.{nat_tests}
@@ -14,8 +14,9 @@ use Rattle.site_place.specs.Places.{PlaceState}
 use Rattle.run_book.specs.Ledgers.{Ledger, no_ledger, Keeps}
 use Rattle.world.specs.States.{WorldState, state_at, place_of, first_state, AreFirst}
 use Rattle.run_book.specs.declared.writing.Writing.{Writing}
-use Rattle.world.specs.Shown.{nothing_taken, Shows}
+use Rattle.world.specs.Shown.{nothing_taken, IsSite, Shows}
 use Rattle.world.proofs.Tables.{split, either, state_none}
+use Rattle.world.proofs.Events.{own_along}
 
 any_first : (s t : ℕ) (ss : List ℕ) → (t == s) ≡ false → list_any (λ i. i == s) (t ∷ ss) ≡ true → list_any (λ i. i == s) ss ≡ true
 any_first s t ss e h = rw e at h
@@ -79,12 +80,22 @@ module _ (c : Config) where
       let i : first_state c (k + 1) ≡ p = cc in
       ap (λ (x : PlaceState). x.armed) i
 
+  first_own : (places : List PlaceState) → AreFirst c (min c.sites 16) places → (s : ℕ) (p : PlaceState) → state_at places s ≡ Some p → IsSite c s p
+  first_own places f zero p e = absurd (cc)
+  first_own places f (suc k) p e =
+      let l : k < length places = slice_get_within places k p e in
+      let m : length places ≡ min c.sites 16 = f.size in
+      let g : slice_get places k ≡ Some (first_state c (k + 1)) = f.each k (omega arith) in
+      let h : Some p ≡ Some (first_state c (k + 1)) = sym e ∙ g in
+      let i : p ≡ first_state c (k + 1) = cc in
+      record { site = ap (λ (x : PlaceState). x.site) i ∙ add-one k; config = ap (λ (x : PlaceState). x.config) i }
+
   pub first_shown : (x : WorldState) (writing : Writing) → x.config ≡ c → AreFirst c (min c.sites 16) x.places → x.circuits ≡ [] → x.book ≡ no_ledger writing → Shows c (nothing_taken writing) (first_world c) x
   first_shown x writing ec f ek eb = record {
     config = ec;
     writing = ap (λ (b : Ledger). b.writing) eb;
     book = subst (λ (b : Ledger). Keeps [] (first_world c) b) (sym eb) (record { written = refl; counts = refl; over = refl; whole = λ e. record { post = refl; text = refl } });
-    sites = λ e. record { places = first_places x.places f; scripts = first_scripts x.places f; table = tt; circuits = sym ek };
+    sites = λ e. record { places = first_places x.places f; scripts = first_scripts x.places f; own = λ s p g. own_along c x.config s p ec (first_own x.places f s p g); table = tt; circuits = sym ek };
   }
 
 get_last : (ps : List PlaceState) (p : PlaceState) (k : ℕ) → k ≡ length ps → slice_get (ps ++ p ∷ []) k ≡ Some p

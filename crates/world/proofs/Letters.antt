@@ -18,6 +18,7 @@ use Rattle.world.specs.States.{WorldState, state_at, place_of, boots_of}
 use Rattle.world.specs.Shown.{Taken, ShowsSites, Shows, Follows, FollowsWithin, Answers}
 use Rattle.world.specs.Listed.{comes_if, may_come, stays_if, may_be_lost, next_number, listed, is_taken}
 use Rattle.world.proofs.Tables.{key_found, same_rest}
+use Rattle.world.proofs.Events.{own_along}
 use Rattle.world.proofs.Asking.{up_is, unless_yes, unless_no}
 
 -- ---- packets by number ----
@@ -149,10 +150,11 @@ hand_taken : (c : Config) (n : ℕ) (p : Packet) (w : World) (q : Place) → dro
 hand_taken c n p w (Stopped d) e = absurd (cc)
 hand_taken c n p w (Running v) e = ap (λ b. elim b [ true ↦ w | false ↦ happens c n p.to (Receives p) w ]) e
 
-sites_along : (w : World) (x y : WorldState) → ShowsSites w x → y.places ≡ x.places → y.circuits ≡ x.circuits → ShowsSites w y
-sites_along w x y k ep ek = record {
+sites_along : (w : World) (x y : WorldState) → ShowsSites w x → y.config ≡ x.config → y.places ≡ x.places → y.circuits ≡ x.circuits → ShowsSites w y
+sites_along w x y k ec ep ek = record {
   places = λ s l m. k.places s l m ∙ ap (λ (xs : List PlaceState). place_of (state_at xs s)) (sym ep);
   scripts = λ s p e. k.scripts s p (ap (λ (xs : List PlaceState). state_at xs s) (sym ep) ∙ e);
+  own = λ s p e. own_along x.config y.config s p ec (k.own s p (ap (λ (xs : List PlaceState). state_at xs s) (sym ep) ∙ e));
   table = k.table;
   circuits = k.circuits ∙ sym ek;
 }
@@ -166,12 +168,12 @@ pass_shown c taken w x y k o sh ec ep ek eb =
       over = sh.book.over;
       whole = λ e. record { post = ap (passes k) (sh.book.whole o).post; text = (sh.book.whole o).text };
     } in
-    let sites = sites_along w x y (sh.sites o) ep ek in
+    let sites = sites_along w x y (sh.sites o) ec ep ek in
     record {
       config = ec ∙ sh.config;
       writing = ap (λ (b : Ledger). b.writing) eb ∙ sh.writing;
       book = subst (λ (b : Ledger). Keeps taken.bytes (passed k w) b) (sym eb) book;
-      sites = λ e. record { places = sites.places; scripts = sites.scripts; table = sites.table; circuits = sites.circuits };
+      sites = λ e. record { places = sites.places; scripts = sites.scripts; own = sites.own; table = sites.table; circuits = sites.circuits };
     }
 
 pub lose_shown : (c : Config) (taken : Taken) (w : World) (x y : WorldState) (k : ℕ) → w.over ≡ None → Shows c taken w x → y.config ≡ x.config → y.places ≡ x.places → y.circuits ≡ x.circuits → y.book ≡ record x.book { post = loses_in k x.book.post } → Shows c taken (loses k w) y
@@ -182,12 +184,12 @@ lose_shown c taken w x y k o sh ec ep ek eb =
       over = sh.book.over;
       whole = λ e. record { post = ap (loses_in k) (sh.book.whole o).post; text = (sh.book.whole o).text };
     } in
-    let sites = sites_along w x y (sh.sites o) ep ek in
+    let sites = sites_along w x y (sh.sites o) ec ep ek in
     record {
       config = ec ∙ sh.config;
       writing = ap (λ (b : Ledger). b.writing) eb ∙ sh.writing;
       book = subst (λ (b : Ledger). Keeps taken.bytes (loses k w) b) (sym eb) book;
-      sites = λ e. record { places = sites.places; scripts = sites.scripts; table = sites.table; circuits = sites.circuits };
+      sites = λ e. record { places = sites.places; scripts = sites.scripts; own = sites.own; table = sites.table; circuits = sites.circuits };
     }
 
 -- a packet that was sent arrives, as the world takes it that has it no more under way

@@ -1,12 +1,13 @@
 -- Lines that change scripts or circuits, and lines after which nothing happens.
-use Rattle.std.proofs.Common.{◌≡◌, ◌≢◌, ℕ, ◌+◌, ◌<◌, ◌≤◌, List, [], length, set, Option, Some, None, Bool, true, false, not, refl, sym, ap, subst, ◌∙◌}
+use Rattle.std.proofs.Common.{◌≡◌, ◌≢◌, ℕ, ◌+◌, ◌<◌, ◌≤◌, List, [], length, set, Option, Some, None, Bool, true, false, not, inl, inr, refl, sym, ap, subst, ◌∙◌}
 use Rattle.std.specs.Option.{is_some}
-use Rattle.std.specs.Prelude.{Result, OnOk}
+use Rattle.std.specs.Prelude.{Result, Ok, Err, IsErr, IsErrAnd, OnOk, IfErr}
 use Rattle.std.specs.List.{list_any}
 use Rattle.std.proofs.lemmas.List.{append-nil}
 use Rattle.keyed_tables.proofs.Searched.{put_rising}
 use Rattle.locus_ids.specs.declared.config.Config.{Config}
 use Rattle.schedule_lines.specs.declared.line.Line.{Line as LineWords}
+use Rattle.schedule_lines.specs.declared.line.Line.TheVariants as line
 use Rattle.the_run.specs.Disks.{Armed}
 use Rattle.the_run.specs.Worlds.{World, Limit, CutCircuit, script_of, armed_site, is_cut, is_between, arms}
 use Rattle.the_run.specs.Runs.{act, entries_of_run}
@@ -16,8 +17,13 @@ use Rattle.run_book.specs.declared.fault.Passed.{Passed}
 use Rattle.run_book.specs.Writings.{written_of}
 use Rattle.run_book.specs.Ledgers.{Ledger, Keeps, limit_in}
 use Rattle.world.specs.States.{WorldState, state_at, place_of}
-use Rattle.world.specs.Shown.{Taken, all_taken, ShowsSites, Shows, Follows, FollowsWithin, Answers}
+use Rattle.world.specs.declared.fault.WorldFault.{WorldFault}
+use Rattle.site_place.specs.declared.fault.StartFault.{StartFault}
+use Rattle.site_place.specs.declared.fault.StartFault.TheVariants as start
+use Rattle.world.specs.Faults.{MayCome, fault_of_start}
+use Rattle.world.specs.Shown.{Taken, all_taken, IsSite, ShowsSites, Shows, Follows, FollowsWithin, Answers}
 use Rattle.world.proofs.Tables.{split, put_here, put_there, state_put, state_other, state_none}
+use Rattle.world.proofs.Events.{own_along}
 use Rattle.world.proofs.Over.{ended_shown, act_over}
 
 -- ---- scripts ----
@@ -48,6 +54,9 @@ module _ (a : Armed) (s at : ℕ) (x y : WorldState) (own : a.site ≡ s) (is : 
       scripts = λ t q e. split t s
           (λ f. let g : Some (record p { armed = Some a }) ≡ Some q = sym (ap (λ i. state_at y.places i) f ∙ here) ∙ e in let h : record p { armed = Some a } ≡ q = cc in ap (script_of (arms a v)) f ∙ (put_here armed_site a s v.armed own ∙ ap (λ (z : PlaceState). z.armed) h))
           (λ f. other_script v t f ∙ k.scripts t q (sym (there t f) ∙ e));
+      own = λ t q e. own_along x.config y.config t q ec (split t s
+          (λ f. let g : Some (record p { armed = Some a }) ≡ Some q = sym (ap (λ i. state_at y.places i) f ∙ here) ∙ e in let h : record p { armed = Some a } ≡ q = cc in subst (λ (z : PlaceState). IsSite x.config t z) h (let i = k.own s p found in record { site = i.site ∙ sym f; config = i.config }))
+          (λ f. k.own t q (sym (there t f) ∙ e)));
       table = put_rising armed_site a v.armed k.table;
       circuits = k.circuits ∙ sym ek;
     }
@@ -64,6 +73,7 @@ module _ (a : Armed) (s at : ℕ) (x y : WorldState) (own : a.site ≡ s) (is : 
       scripts = λ t q e. split t s
           (λ f. absurd (let g : None ≡ Some q = sym (ap (λ i. state_at x.places i) f ∙ state_none x.places s at is l) ∙ (sym (same t) ∙ e) in cc))
           (λ f. other_script v t f ∙ k.scripts t q (sym (same t) ∙ e));
+      own = λ t q e. own_along x.config y.config t q ec (k.own t q (sym (same t) ∙ e));
       table = put_rising armed_site a v.armed k.table;
       circuits = k.circuits ∙ sym ek;
     }
@@ -84,6 +94,7 @@ circuits_follow f x y ec ep ek eb c taken w o sh = record {
   sites = λ e. record {
     places = λ s l m. (sh.sites o).places s l m ∙ ap (λ (xs : List PlaceState). place_of (state_at xs s)) (sym ep);
     scripts = λ s p g. (sh.sites o).scripts s p (ap (λ (xs : List PlaceState). state_at xs s) (sym ep) ∙ g);
+    own = λ s p g. own_along x.config y.config s p ec ((sh.sites o).own s p (ap (λ (xs : List PlaceState). state_at xs s) (sym ep) ∙ g));
     table = (sh.sites o).table;
     circuits = ap f (sh.sites o).circuits ∙ sym ek;
   };
@@ -123,6 +134,22 @@ line_is n line x old new e h = subst (λ (l : LineWords). FollowsWithin (λ c w.
 pub line_done : {A B : Type 0} (r : Result A B) (n : ℕ) (line x : LineWords) (old new : WorldState) → line ≡ x → OnOk r (FollowsWithin (λ c w. act c n x w) old new) → OnOk r (FollowsWithin (λ c w. act c n line w) old new)
 line_done r n line x old new e h = subst (λ (l : LineWords). OnOk r (FollowsWithin (λ c w. act c n l w) old new)) (sym e) h
 
+-- ---- faults ----
+
+pub any_fault : {T : Type 0} (r : Result T WorldFault) (line x : LineWords) → line ≡ x → ((fault : WorldFault) → MayCome x fault) → IfErr r (MayCome line)
+any_fault (Ok done) line x e h = tt
+any_fault (Err fault) line x e h = subst (λ (l : LineWords). MayCome l fault) (sym e) (h fault)
+
+-- what holds of the fault that is given on
+pub if_given : {T : Type 0} (r : Result T WorldFault) (fault : WorldFault) (line x : LineWords) → line ≡ x → IsErr r × IsErrAnd r (λ e. e ≡ fault) → MayCome x fault → IfErr r (MayCome line)
+if_given (Ok done) fault line x e given holds = tt
+if_given (Err other) fault line x e given holds = subst (λ (l : LineWords). MayCome l other) (sym e) (subst (λ (f : WorldFault). MayCome x f) (sym given.1) holds)
+
+-- a boot that is refused
+pub start_refused : (site : ℕ) (refused : StartFault) → MayCome (line.Boot site) (fault_of_start refused)
+start_refused site start.NoMemory = inl refl
+start_refused site start.Spent = inr refl
+
 -- ---- the text ----
 
 pub taken_shown : (c : Config) (taken : Taken) (w : World) (x y : WorldState) → y.config ≡ x.config → y.places ≡ x.places → y.circuits ≡ x.circuits → y.book ≡ record x.book { fresh = [] } → Shows c taken w x → Shows c (all_taken taken.writing w) w y
@@ -133,6 +160,7 @@ taken_shown c taken w x y ec ep ek eb sh = record {
   sites = λ e. record {
     places = λ s l m. (sh.sites e).places s l m ∙ ap (λ (xs : List PlaceState). place_of (state_at xs s)) (sym ep);
     scripts = λ s p g. (sh.sites e).scripts s p (ap (λ (xs : List PlaceState). state_at xs s) (sym ep) ∙ g);
+    own = λ s p g. own_along x.config y.config s p ec ((sh.sites e).own s p (ap (λ (xs : List PlaceState). state_at xs s) (sym ep) ∙ g));
     table = (sh.sites e).table;
     circuits = (sh.sites e).circuits ∙ sym ek;
   };

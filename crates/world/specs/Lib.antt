@@ -1,3 +1,4 @@
 pub mod States
 pub mod Shown
 pub mod Listed
+pub mod Faults

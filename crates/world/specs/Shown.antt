@@ -22,10 +22,16 @@ nothing_taken writing = record { writing = writing; bytes = [] }
 abbrev pub all_taken : Writing → World → Taken
 all_taken writing w = record { writing = writing; bytes = written_of writing (entries_of_run w) }
 
+-- the site of this number in this cluster
+pub record IsSite (c : Config) (s : ℕ) (p : PlaceState) : Type 0 where
+  pub site : p.site ≡ s
+  pub config : p.config ≡ c
+
 -- each site stands as in the world, with the script that is armed for it, and the same circuits are cut
 pub record ShowsSites (w : World) (x : WorldState) : Type 0 where
   pub places : (s : ℕ) → 1 ≤ s → s ≤ 16 → place_at w s ≡ place_of (state_at x.places s)
   pub scripts : (s : ℕ) (p : PlaceState) → state_at x.places s ≡ Some p → script_of w s ≡ p.armed
+  pub own : (s : ℕ) (p : PlaceState) → state_at x.places s ≡ Some p → IsSite x.config s p
   pub table : Rising armed_site w.armed
   pub circuits : w.circuits ≡ x.circuits
 

@@ -35,7 +35,7 @@ boots_of places = map (boot_at places) all_sites
 
 -- a site of the first world
 abbrev pub first_state : Config → ℕ → PlaceState
-first_state c s = record { place = Running (fresh 1 (formatted c s)); armed = None }
+first_state c s = record { config = c; site = s; place = Running (fresh 1 (formatted c s)); armed = None }
 
 -- so many sites, as in the first world
 pub record AreFirst (c : Config) (count : ℕ) (places : List PlaceState) : Type 0 where

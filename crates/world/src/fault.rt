@@ -1,7 +1,6 @@
 use locus_ids::NoMemory;
 use run_book::BookFault;
-use site_place::PlaceFault;
-use std::alloc::AllocFailed;
+use site_place::{PlaceFault, StartFault};
 use thiserror::Error;
 
 /// Why a line was not done. Then the run cannot go on.
@@ -12,22 +11,21 @@ pub enum WorldFault {
     /// A packet that an event sends is not one of the format.
     #[error("no packet of the format")]
     UnfitPacket,
-    /// A value that is none of the disk's format was to be written, or what is on the disk is none.
+    /// A value that is none of the disk's format was to be written, or no number is left for an epoch.
     #[error("no value of the format")]
     UnfitValue,
-    /// A disk failed with no script that makes it fail.
-    #[error("the disk failed")]
-    Disk,
+    /// The boot number of a site is the greatest one.
+    #[error("boot numbers are spent")]
+    Spent,
 }
 
 impl From<NoMemory> for WorldFault {
-    fn from(_: NoMemory) -> WorldFault {
-        WorldFault::NoMemory
-    }
-}
+    ghost use Rattle.std.specs.Prelude.{◌≡◌};
+    ghost use Rattle.world.specs.declared.fault.WorldFault.TheVariants.{NoMemory};
 
-impl<T: Drop> From<AllocFailed<T>> for WorldFault {
-    fn from(_: AllocFailed<T>) -> WorldFault {
+    ghost from_gives = { λ _ fault. fault ≡ NoMemory };
+
+    fn from(_: NoMemory) -> WorldFault {
         WorldFault::NoMemory
     }
 }
@@ -46,7 +44,20 @@ impl From<PlaceFault> for WorldFault {
         match fault {
             PlaceFault::NoMemory => WorldFault::NoMemory,
             PlaceFault::Unfit => WorldFault::UnfitValue,
-            PlaceFault::Disk => WorldFault::Disk,
+        }
+    }
+}
+
+impl From<StartFault> for WorldFault {
+    ghost use Rattle.world.specs.Faults.{fault_of_start};
+    ghost use Rattle.std.specs.Prelude.{◌≡◌};
+
+    ghost from_gives = { λ refused fault. fault ≡ fault_of_start refused };
+
+    fn from(fault: StartFault) -> WorldFault {
+        match fault {
+            StartFault::NoMemory => WorldFault::NoMemory,
+            StartFault::Spent => WorldFault::Spent,
         }
     }
 }

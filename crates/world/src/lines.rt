@@ -1,16 +1,16 @@
-ghost use Rattle.std.specs.Prelude.{not, OnOk};
+ghost use Rattle.std.specs.Prelude.{not, OnOk, IfErr};
 ghost use Rattle.role_steps.specs.Views.{Calls};
 ghost use Rattle.the_run.specs.Worlds.{place_at, is_cut, arms, happens};
 ghost use Rattle.the_run.specs.Runs.{is_stopped, is_in_no_epoch, is_busy, unless_void, stops_line, boots_line, cuts_circuit, mends_circuit, act};
 ghost use Rattle.site_place.specs.Places.{event_of, armed_by};
 ghost use Rattle.world.specs.States.{state_of};
 ghost use Rattle.world.specs.Shown.{FollowsWithin};
+ghost use Rattle.world.specs.Faults.{MayCome};
 
 use crate::{World, WorldFault};
-use locus_ids::SiteId;
-use packet_order::Dispatch;
+use locus_ids::{NoMemory, SiteId};
 use schedule_lines::Line;
-use site_place::{CallCut, DiskScript, SiteEvent};
+use site_place::{CallCut, DiskScript, SiteEvent, StartFault};
 use trace_book::Call;
 
 impl World {
@@ -42,7 +42,7 @@ impl World {
     }
 
     /// The site stops, void where it doesn't run.
-    fn stop(&mut self, line: u32, site: SiteId) -> Result<(), WorldFault>
+    fn stop(&mut self, line: u32, site: SiteId) -> Result<(), NoMemory>
         ensures { OnOk result (FollowsWithin (λ c w. stops_line line site (place_at w site) w) (state_of self.old) (state_of self.new)) }
     {
         let at = usize::from(site.get()) - 1;
@@ -54,14 +54,13 @@ impl World {
             self.void(line)?;
             return Ok(());
         }
-        let mut out = Dispatch::new(self.alloc);
-        self.places[at].stop(site, &mut out)?;
-        self.note(line, &out)?;
+        let out = self.places[at].stop()?;
+        self.note_told(line, &out)?;
         Ok(())
     }
 
     /// The site boots, void where it runs or isn't there.
-    fn boot(&mut self, line: u32, site: SiteId) -> Result<(), WorldFault>
+    fn boot(&mut self, line: u32, site: SiteId) -> Result<(), StartFault>
         ensures { OnOk result (FollowsWithin (λ c w. boots_line line site (place_at w site) w) (state_of self.old) (state_of self.new)) }
     {
         let at = usize::from(site.get()) - 1;
@@ -73,9 +72,8 @@ impl World {
             self.void(line)?;
             return Ok(());
         }
-        let mut out = Dispatch::new(self.alloc);
-        self.places[at].start(site, &mut out)?;
-        self.note(line, &out)?;
+        let out = self.places[at].start()?;
+        self.note_told(line, &out)?;
         Ok(())
     }
 
@@ -90,7 +88,7 @@ impl World {
     }
 
     /// The circuit is cut, void where it is.
-    fn down(&mut self, line: u32, one: SiteId, other: SiteId) -> Result<(), WorldFault>
+    fn down(&mut self, line: u32, one: SiteId, other: SiteId) -> Result<(), NoMemory>
         ensures { OnOk result (FollowsWithin (λ c w. unless_void line (is_cut w one other) (cuts_circuit one other) w) (state_of self.old) (state_of self.new)) }
     {
         if self.cuts.is_cut(one, other) {
@@ -102,7 +100,7 @@ impl World {
     }
 
     /// The circuit is mended, void where it isn't cut.
-    fn up(&mut self, line: u32, one: SiteId, other: SiteId) -> Result<(), WorldFault>
+    fn up(&mut self, line: u32, one: SiteId, other: SiteId) -> Result<(), NoMemory>
         ensures { OnOk result (FollowsWithin (λ c w. unless_void line (not (is_cut w one other)) (mends_circuit one other) w) (state_of self.old) (state_of self.new)) }
     {
         if !self.cuts.is_cut(one, other) {
@@ -115,7 +113,8 @@ impl World {
 
     /// Does a line, where no limit was passed.
     pub(crate) fn act(&mut self, number: u32, line: Line) -> Result<(), WorldFault>
-        ensures { OnOk result (FollowsWithin (λ c w. act c number line w) (state_of self.old) (state_of self.new)) }
+        ensures step { OnOk result (FollowsWithin (λ c w. act c number line w) (state_of self.old) (state_of self.new)) }
+        ensures fault { IfErr result (MayCome line) }
     {
         match line {
             Line::Call {
@@ -124,14 +123,26 @@ impl World {
                 call,
             } => self.call(number, site, process, call),
             Line::Deliver { packet } => self.deliver(number, packet),
-            Line::Lose { packet } => self.lose(number, packet),
+            Line::Lose { packet } => {
+                self.lose(number, packet)?;
+                Ok(())
+            }
             Line::Tick { site } => self.stir(number, site, SiteEvent::Tick),
-            Line::Down { one, other } => self.down(number, one, other),
-            Line::Up { one, other } => self.up(number, one, other),
+            Line::Down { one, other } => {
+                self.down(number, one, other)?;
+                Ok(())
+            }
+            Line::Up { one, other } => {
+                self.up(number, one, other)?;
+                Ok(())
+            }
             Line::Part { site } => self.leave(number, site, SiteEvent::Part),
             Line::Merge { site } => self.stir(number, site, SiteEvent::Merge),
             Line::GiveUp { site } => self.leave(number, site, SiteEvent::GiveUp),
-            Line::Stop { site } => self.stop(number, site),
+            Line::Stop { site } => {
+                self.stop(number, site)?;
+                Ok(())
+            }
             Line::ArmStop { site, calls, leave } => {
                 let how = CallCut::Stops { leave };
                 self.arm(DiskScript {
@@ -150,9 +161,15 @@ impl World {
                 });
                 Ok(())
             }
-            Line::Boot { site } => self.boot(number, site),
+            Line::Boot { site } => {
+                self.boot(number, site)?;
+                Ok(())
+            }
             Line::Settle { most } => self.settle(number, most),
-            Line::Pending => self.list_pending(number),
+            Line::Pending => {
+                self.list_pending(number)?;
+                Ok(())
+            }
         }
     }
 }

@@ -140,7 +140,7 @@ impl World {
     }
 
     /// The packet is lost, void where it wasn't sent or is lost.
-    pub(crate) fn lose(&mut self, line: u32, number: u32) -> Result<(), WorldFault>
+    pub(crate) fn lose(&mut self, line: u32, number: u32) -> Result<(), NoMemory>
         ensures { OnOk result (FollowsWithin (λ c w. loses_line line (packet_at w number) w) (state_of self.old) (state_of self.new)) }
     {
         if self.may_be_lost(number) {
@@ -152,12 +152,12 @@ impl World {
     }
 
     /// The packets under way are listed.
-    pub(crate) fn list_pending(&mut self, line: u32) -> Result<(), WorldFault>
+    pub(crate) fn list_pending(&mut self, line: u32) -> Result<(), NoMemory>
         ensures { OnOk result (FollowsWithin (λ c w. lists_pending line w) (state_of self.old) (state_of self.new)) }
     {
         let pending = self.book.mail().pending(self.alloc)?;
         let out = told_of(self.alloc, pending.as_slice())?;
-        self.note(line, &out)?;
+        self.note_told(line, &out)?;
         Ok(())
     }
 }

@@ -5,7 +5,7 @@ ghost use Rattle.world.specs.States.{state_of};
 ghost use Rattle.world.specs.Shown.{Follows, FollowsWithin};
 
 use crate::{World, WorldFault};
-use locus_ids::SiteId;
+use epoch_rules::site_at;
 use site_place::SiteEvent;
 use trace_book::Record;
 
@@ -15,10 +15,7 @@ impl World {
         ensures { OnOk result (Follows (λ c w. ticks_to c line all_sites w) (state_of self.old) (state_of self.new)) }
     {
         for at in 0..16 {
-            let Some(site) = SiteId::new(at + 1) else {
-                return Err(WorldFault::NoMemory);
-            };
-            self.happen(line, site, SiteEvent::Tick)?;
+            self.happen(line, site_at(at), SiteEvent::Tick)?;
         }
         Ok(())
     }

@@ -119,16 +119,16 @@ impl World {
     }
 
     /// Tells a record, and nothing else happens.
-    pub(crate) fn tell(&mut self, line: u32, what: Record) -> Result<(), WorldFault>
+    pub(crate) fn tell(&mut self, line: u32, what: Record) -> Result<(), NoMemory>
         ensures { OnOk result (Follows (λ c w. says_only line what w) (state_of self.old) (state_of self.new)) }
     {
         let out = told_alone(self.alloc, what)?;
-        self.note(line, &out)?;
+        self.note_told(line, &out)?;
         Ok(())
     }
 
     /// The line has no effect.
-    pub(crate) fn void(&mut self, line: u32) -> Result<(), WorldFault>
+    pub(crate) fn void(&mut self, line: u32) -> Result<(), NoMemory>
         ensures { OnOk result (Follows (λ c w. voids line w) (state_of self.old) (state_of self.new)) }
     {
         self.tell(line, Record::Void)
@@ -154,8 +154,7 @@ impl World {
             return Ok(());
         }
         let links = self.links_of(site);
-        let mut out = Dispatch::new(self.alloc);
-        self.places[at].happen(&self.config, site, &links, event, &mut out)?;
+        let out = self.places[at].happen(&links, event)?;
         self.note(line, &out)?;
         Ok(())
     }

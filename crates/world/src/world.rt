@@ -1,4 +1,4 @@
-ghost use Rattle.std.specs.Prelude.{◌≡◌, ℕ, List, [], ◌++◌, IfOk, OnOk, min};
+ghost use Rattle.std.specs.Prelude.{◌≡◌, ℕ, List, [], ◌++◌, IfOk, IfErr, OnOk, min};
 ghost use Rattle.locus_ids.specs.declared.config.Config.{Config};
 ghost use Rattle.the_run.specs.Worlds.{World as RunWorld, first_world};
 ghost use Rattle.the_run.specs.Runs.{act, entries_of_run};
@@ -7,12 +7,14 @@ ghost use Rattle.run_book.specs.Writings.{written_of, counts_in};
 ghost use Rattle.run_book.specs.Ledgers.{limit_in, books};
 ghost use Rattle.world.specs.States.{state_of, AreFirst};
 ghost use Rattle.world.specs.Shown.{Taken, nothing_taken, all_taken, Shows, Follows};
+ghost use Rattle.world.specs.Faults.{MayCome};
 
 use crate::WorldFault;
 use circuits::CutCircuits;
-use locus_ids::{Config, SiteId};
+use epoch_rules::site_at;
+use locus_ids::{Config, NoMemory};
 use packet_order::Dispatch;
-use run_book::{Passed, RunBook, RunCounts, Writing};
+use run_book::{BookFault, Passed, RunBook, RunCounts, Writing};
 use schedule_lines::Line;
 use site_place::SitePlace;
 use std::alloc::Global;
@@ -28,16 +30,13 @@ pub struct World {
 }
 
 /// The sites of a cluster, each freshly formatted and in its first boot.
-fn first_places(alloc: Global, config: &Config) -> Result<Vec<SitePlace>, WorldFault>
+fn first_places(alloc: Global, config: &Config) -> Result<Vec<SitePlace>, NoMemory>
     ensures { IfOk result (λ made. AreFirst config.now (min config.now.sites 16) made.items) }
 {
     let mut places = Vec::new(alloc);
-    let count = config.sites.min(16);
+    let count = usize::from(config.sites.min(16));
     for at in 0..count {
-        let Some(site) = SiteId::new(at + 1) else {
-            return Err(WorldFault::NoMemory);
-        };
-        let place = SitePlace::new(alloc, config, site)?;
+        let place = SitePlace::new(alloc, config, site_at(at))?;
         places.push(place)?;
     }
     Ok(places)
@@ -46,7 +45,7 @@ fn first_places(alloc: Global, config: &Config) -> Result<Vec<SitePlace>, WorldF
 impl World {
     /// The first world of a cluster: all sites run in their first boot, in no epoch, and all circuits are up.
     /// Of its records this is written.
-    pub fn new(alloc: Global, config: Config, writing: Writing) -> Result<World, WorldFault>
+    pub fn new(alloc: Global, config: Config, writing: Writing) -> Result<World, NoMemory>
         ensures { IfOk result (λ made. Shows config (nothing_taken writing) (first_world config) (state_of made)) }
     {
         let places = first_places(alloc, &config)?;
@@ -99,10 +98,27 @@ impl World {
         Ok(())
     }
 
+    /// What an event tells that sends nothing, in the book.
+    pub(crate) fn note_told(&mut self, line: u32, out: &Dispatch) -> Result<(), NoMemory>
+        requires { out.now.packets ≡ [] }
+        ensures config { OnOk result (self.new.config ≡ self.old.config) }
+        ensures places { OnOk result (self.new.places.items ≡ self.old.places.items) }
+        ensures cuts { OnOk result (self.new.cuts ≡ self.old.cuts) }
+        ensures book { OnOk result (self.new.book ≡ books line out.now.packets out.now.records self.old.book) }
+    {
+        match self.book.happened(line, out) {
+            Ok(()) => Ok(()),
+            Err(BookFault::NoMemory) => Err(NoMemory),
+            // Only a packet can be unfit.
+            Err(BookFault::Unfit) => unreachable!(),
+        }
+    }
+
     /// Does a line of a schedule as the run says, with its number. Whatever world of the run is shown before, after it that world
     /// is shown as the line leaves it.
     pub fn step(&mut self, number: u32, line: Line) -> Result<(), WorldFault>
-        ensures { OnOk result (Follows (λ c w. act c number line w) (state_of self.old) (state_of self.new)) }
+        ensures step { OnOk result (Follows (λ c w. act c number line w) (state_of self.old) (state_of self.new)) }
+        ensures fault { IfErr result (MayCome line) }
     {
         if self.book.passed().is_some() {
             return Ok(());

@@ -7,4 +7,4 @@ use Rattle.schedule_run.proofs.runner.ScheduleRunner.act.Goals as goal
 pub returns-in_ok-step-in-Some-clause-world : goal.returns-in_ok-step-in-Some-clause-world
 returns-in_ok-step-in-Some-clause-world c = λ lines taken en h.
     event_stands lines taken c.args.number c.args.line c.in-Some.world c.step.new.self en
-    (subst (λ (w : Option World). ShowsRun lines taken w) c.in-Some.is h) c.in_ok-step-in-Some.ensures
+    (subst (λ (w : Option World). ShowsRun lines taken w) c.in-Some.is h) c.in_ok-step-in-Some.ensures.step

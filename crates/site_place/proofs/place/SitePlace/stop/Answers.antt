@@ -3,7 +3,6 @@ use Rattle.std.specs.Prelude.{Option}
 use Rattle.disk_model.specs.declared.script.Armed.TheVariants.{Nothing}
 use Rattle.disk_model.specs.ScriptDisk.{seen, moment}
 use Rattle.trace_book.specs.declared.record.Record.{Record}
-use Rattle.packet_order.specs.Orders.{behind}
 use Rattle.site_node.specs.declared.node.SiteNode.{SiteNode}
 use Rattle.site_place.specs.Standing.{IsWhole, IsRunning, MayRun}
 use Rattle.site_place.specs.Views.{armed_in}
@@ -12,7 +11,7 @@ use Rattle.site_place.proofs.Stopping.{stop_given, stop_nothing}
 use Rattle.site_place.proofs.place.SitePlace.stop.Goals as goal
 
 pub returns-in_default : goal.returns-in_default
-returns-in_default c = let p = c.self.inside in stop_nothing p.config p.me c.args.me p.node (seen p.disk.disk) (armed_in p.armed) c.args.self.now c.args.out.now c.self.view_is c.in_default.is
+returns-in_default c = let p = c.self.inside in stop_nothing p.config p.me p.node (seen p.disk.disk) (armed_in p.armed) c.args.self.now c.new.result c.self.view_is c.in_default.is c.new.ensures
 
 pub invariant_of-self : goal.invariant_of-self
 invariant_of-self c =
@@ -45,6 +44,6 @@ returns c =
     let now = c.disarm.new.self.disk in
     let n = c.in-Some.node in
     let runs : IsRunning p.config p.me n (moment old) = subst (λ (k : Option SiteNode). MayRun p.config p.me k (moment old)) c.in-Some.is c.self.invariant.node in
-    stop_given p.config p.me c.args.me n p.node c.leave.new.node (seen old) (seen now) (armed_in p.armed) c.args.self.now c.args.out.now c.tell.new.out c.self.view_is c.in-Some.is c.leave.ensures c.disarm.ensures.seen runs.groups runs.label
+    stop_given p.config p.me n p.node c.leave.new.node (seen old) (seen now) (armed_in p.armed) c.args.self.now c.in_ok-told.told c.self.view_is c.in-Some.is c.leave.ensures c.disarm.ensures.seen runs.groups runs.label
     (c.gates_are_shut.ensures (seen old) runs.stands.shown)
-    (c.in_ok-tell.ensures ∙ ap (λ (r : Record). behind c.args.out.now (record { packets = []; records = r ∷ [] })) c.stopped.ensures)
+    (c.in_ok-told.ensures ∙ ap (λ (r : Record). record { packets = []; records = r ∷ [] }) c.stopped.ensures)

@@ -3,7 +3,7 @@ use Rattle.site_place.specs.Places.{event_of, happens_in}
 use Rattle.world.specs.States.{state_of}
 use Rattle.world.proofs.Tables.{state_read, state_none}
 use Rattle.world.proofs.Asking.{happen_absent, happen_stopped, happen_follows, noted}
-use Rattle.world.proofs.Reading.{stopped_along, gives_from}
+use Rattle.world.proofs.Reading.{stopped_along}
 use Rattle.world.proofs.world.World.happen.Goals as goal
 
 pub returns-then-at-len : goal.returns-then-at-len
@@ -16,10 +16,12 @@ pub returns : goal.returns
 returns c =
     let x = state_of c.args.self.now in
     let p = c.index_mut.result.now in
-    let h = happens_in c.args.self.now.config c.args.site c.links_of-links.result (event_of c.args.event) p in
-    let read = state_read c.args.self.now.places.items c.args.site (c.from-at.result - 1) p (omega arith) (omega arith) c.index_mut.ensures.value in
-    let before = state_read c.args.self.now.places.items c.args.site (c.from-at.result - 1) c.index.result.now (omega arith) (omega arith) c.index.ensures in
-    happen_follows c.args.line c.args.site (c.from-at.result - 1) x _ (omega arith) (omega arith) (omega arith) (omega arith) p read (event_of c.args.event) c.links_of-links.result
+    let at = c.from-at.result - 1 in
+    let e = event_of c.args.event in
+    let links = c.links_of-links.result in
+    let read = state_read c.args.self.now.places.items c.args.site at p (omega arith) (omega arith) c.index_mut.ensures.value in
+    let before = state_read c.args.self.now.places.items c.args.site at c.index.result.now (omega arith) (omega arith) c.index.ensures in
+    happen_follows c.args.line c.args.site at x _ (omega arith) (omega arith) (omega arith) (omega arith) p read e links
     (stopped_along _ c.index.result.now p false before read (sym c.is_stopped.ensures ∙ c.if-is_stopped.false))
     c.links_of-links.ensures
-    (noted x _ c.args.line (c.from-at.result - 1) h c.happen.new.self c.happen.new.out (gives_from h c.happen.new.self _ c.happen.new.out c.new-out.ensures c.in_ok-happen.ensures) c.in_ok-note.ensures.config c.in_ok-note.ensures.places c.in_ok-note.ensures.cuts c.in_ok-note.ensures.book)
+    (noted x _ c.args.line at p c.happen.new.self (happens_in links e p) c.in_ok-out.out c.in_ok-out.ensures c.in_ok-note.ensures.config c.in_ok-note.ensures.places c.in_ok-note.ensures.cuts c.in_ok-note.ensures.book)

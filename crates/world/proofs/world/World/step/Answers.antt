@@ -1,11 +1,14 @@
-use Rattle.std.proofs.Common.{sym, ◌∙◌}
+use Rattle.std.proofs.Common.{refl, sym, ◌∙◌}
 use Rattle.the_run.specs.Runs.{act}
 use Rattle.world.specs.States.{state_of}
-use Rattle.world.proofs.LineLaws.{step_over, step_within}
+use Rattle.world.proofs.LineLaws.{step_over, step_within, if_given}
 use Rattle.world.proofs.world.World.step.Goals as goal
 
-pub returns-then-is_some : goal.returns-then-is_some
-returns-then-is_some c = step_over c.args.number c.args.line (state_of c.args.self.now) c.passed.result c.passed.ensures (sym c.is_some.ensures ∙ c.if-is_some.true)
+pub returns-then-is_some-clause-step : goal.returns-then-is_some-clause-step
+returns-then-is_some-clause-step c = step_over c.args.number c.args.line (state_of c.args.self.now) c.passed.result c.passed.ensures (sym c.is_some.ensures ∙ c.if-is_some.true)
 
-pub returns : goal.returns
-returns c = step_within (λ k w. act k c.args.number c.args.line w) (state_of c.args.self.now) _ c.passed.result c.passed.ensures (sym c.is_some.ensures ∙ c.if-is_some.false) c.in_ok-act.ensures
+pub returns-clause-step : goal.returns-clause-step
+returns-clause-step c = step_within (λ k w. act k c.args.number c.args.line w) (state_of c.args.self.now) _ c.passed.result c.passed.ensures (sym c.is_some.ensures ∙ c.if-is_some.false) c.in_ok-act.ensures.step
+
+pub returns-in_err-act-clause-fault : goal.returns-in_err-act-clause-fault
+returns-in_err-act-clause-fault c = if_given c.from_residual.result c.in_err-act.field-0.0 c.args.line c.args.line refl c.from_residual.ensures c.in_err-act.ensures.fault
