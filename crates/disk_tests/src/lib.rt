@@ -3,6 +3,16 @@
 #![tactic(auto)]
 
 #[cfg(test)]
+mod disk_model_tests;
+#[cfg(test)]
 mod pack_crash_tests;
+#[cfg(test)]
+mod pack_layout_tests;
+#[cfg(test)]
+mod pack_tests;
+#[cfg(test)]
+mod packs;
+#[cfg(test)]
+mod shadow_tests;
 #[cfg(test)]
 mod site_label_tests;

@@ -1,66 +1,24 @@
-ghost use Rattle.std.specs.Prelude.{ℕ, ◌≤◌, ◌<◌, ◌+◌, ◌^◌, length, IfOk, OnOk};
-ghost use Rattle.disk_model.specs.Disk.{IsSettled};
-ghost use Rattle.disk_model.specs.ScriptDisk.{seen, moment};
-ghost use Rattle.pack_layout.specs.Layout.{area_length};
-ghost use Rattle.inode_pack.specs.Pack.{Stands};
-ghost use Rattle.inode_pack.specs.Committing.{IsVersion};
-
+use crate::packs::{
+    BASE, adopt, byte_at, commit_first_page, crashed, disk_length, first_site, page_and_half,
+    page_byte, second_inode, settle,
+};
 use disk_model::{Disk, Leave, RecordDisk, ScriptDisk};
-use inode_pack::{MountFault, NewVersion, Pack, format};
-use locus_ids::{Bytes, Ino, Kind, SiteId, Sites, Stamp};
-use pack_layout::{Slot, page_at, slot_at};
+use inode_pack::Pack;
+use locus_ids::{Bytes, Sites};
+use pack_layout::{Half, Slot, slot_at};
+use pack_slots::{MountFault, format};
 use std::alloc::Global;
 use std::test::Fail;
-use version_vector::Vector;
 
-const BASE: u32 = 1_024;
-
-/// The length of a disk with one pack. It has no contract, so that no proof spells out so many zeros.
-fn disk_length() -> u32 {
-    4_196_352
+/// How the second version of inode 2 comes.
+#[derive(Clone, Copy)]
+enum Second {
+    Adopted,
+    Committed,
 }
 
-fn first_site() -> Result<SiteId, &'static str> {
-    SiteId::new(1).ok_or("no site")
-}
-
-fn second_inode() -> Result<Ino, &'static str> {
-    Ino::new(2).ok_or("no inode")
-}
-
-/// A version of a file that nobody has changed yet. It may have any content.
-fn unchanged_file(set: Sites) -> NewVersion
-    requires some { 1 ≤ set.0 }
-    requires sites { set.0 < 2 ^ 16 }
-    ensures { (n : ℕ) → n ≤ 65536 → IsVersion result n }
-{
-    NewVersion {
-        kind: Kind::File,
-        set,
-        stamp: Stamp { site: 0, n: 0 },
-        vector: Vector::zero(),
-    }
-}
-
-/// Adopts a version of an inode.
-fn adopt<D: Disk>(pack: &mut Pack, disk: &mut D, ino: Ino, content: &Bytes) -> Result<(), Fail>
-    requires stands { Stands pack.old (D.moment disk.old) }
-    requires size { length content.now ≤ 65536 }
-    ensures stands { OnOk result (Stands pack.new (D.moment disk.new)) }
-{
-    pack.adopt(disk, ino, &unchanged_file(Sites(1)), content)?;
-    Ok(())
-}
-
-/// A content of a page and a half, and the same byte everywhere.
-fn page_and_half(alloc: Global, byte: u8) -> Result<Bytes, Fail>
-    ensures { IfOk result (λ content. length content ≤ 65536) }
-{
-    Ok(Bytes::from_slice(alloc, &[byte; 1_536])?)
-}
-
-/// A new pack with two versions of inode 2 that are adopted, and how many calls there were before each and at the end.
-fn two_adoptions(alloc: Global, disk: &mut RecordDisk) -> Result<[usize; 3], Fail> {
+/// A new pack with two versions of inode 2, and how many calls there were before each and at the end. The first one is adopted.
+fn two_versions(alloc: Global, disk: &mut RecordDisk, second: Second) -> Result<[usize; 3], Fail> {
     let site = first_site()?;
     let ino = second_inode()?;
     if disk.len() < 4_196_352 || !Sites(1).has(site) {
@@ -71,56 +29,13 @@ fn two_adoptions(alloc: Global, disk: &mut RecordDisk) -> Result<[usize; 3], Fai
     let first = disk.calls();
     let old = page_and_half(alloc, 7)?;
     adopt(&mut pack, disk, ino, &old)?;
-    let second = disk.calls();
+    let middle = disk.calls();
     let new = page_and_half(alloc, 9)?;
-    adopt(&mut pack, disk, ino, &new)?;
-    Ok([first, second, disk.calls()])
-}
-
-/// The disk that a crash at this moment leaves.
-fn crashed(
-    alloc: Global,
-    record: &RecordDisk,
-    calls: usize,
-    leave: Leave,
-) -> Result<ScriptDisk, Fail> {
-    let mut disk = ScriptDisk::new(alloc, disk_length())?;
-    if calls > record.calls() || disk.len() != record.len() {
-        return Err("no such call")?;
+    match second {
+        Second::Adopted => adopt(&mut pack, disk, ino, &new)?,
+        Second::Committed => commit_first_page(&mut pack, disk, ino, new.as_slice())?,
     }
-    record.replay(calls, &mut disk)?;
-    disk.crash(leave);
-    Ok(disk)
-}
-
-/// Makes all durable, so that a pack may be mounted.
-fn settle(disk: &mut ScriptDisk) -> Result<(), Fail>
-    ensures area { OnOk result (1024 + area_length ≤ length (seen disk.new)) }
-    ensures settled { OnOk result (IsSettled (moment disk.new)) }
-{
-    disk.sync()?;
-    if disk.len() < 4_196_352 {
-        return Err("a short disk")?;
-    }
-    Ok(())
-}
-
-/// A byte of the disk.
-fn byte_at(disk: &mut ScriptDisk, at: u32) -> Result<u8, Fail> {
-    let mut byte = [0];
-    if at >= disk.len() {
-        return Err("no such byte")?;
-    }
-    disk.read(at, &mut byte)?;
-    Ok(byte[0])
-}
-
-/// A byte of a data page.
-fn page_byte(disk: &mut ScriptDisk, page: u16, at: u32) -> Result<u8, Fail> {
-    if page >= 3_072 || at >= 1_024 {
-        return Err("no such page")?;
-    }
-    byte_at(disk, page_at(BASE, page) + at)
+    Ok([first, middle, disk.calls()])
 }
 
 /// The first and the last byte of the first page of a content, and the last byte of a page and a half.
@@ -132,7 +47,8 @@ fn content_bytes(disk: &mut ScriptDisk, slot: &Slot) -> Result<[u8; 3], Fail> {
     ])
 }
 
-/// Whether a crash at this moment leaves inode 2 the first content or the second one, or 0 for none. It is whole.
+/// Whether a crash at this moment leaves inode 2 the first content, the second one, or the first page of the second one before
+/// the rest of the first; 0 for none. It is whole.
 fn version_after(
     alloc: Global,
     record: &RecordDisk,
@@ -149,6 +65,7 @@ fn version_after(
     match content_bytes(&mut disk, slot)? {
         [7, 7, 7] => Ok(1),
         [9, 9, 9] => Ok(2),
+        [9, 9, 7] => Ok(3),
         _ => Err("neither version")?,
     }
 }
@@ -172,7 +89,7 @@ fn versions(
 #[test]
 fn a_crash_within_a_first_adoption_leaves_nothing_or_all(rt: HostRuntime) -> Result<(), Fail> {
     let mut record = RecordDisk::new(rt.alloc(), disk_length(), 96, 1_100_000)?;
-    let [first, second, _] = two_adoptions(rt.alloc(), &mut record)?;
+    let [first, second, _] = two_versions(rt.alloc(), &mut record, Second::Adopted)?;
     // Two pages, the slot, a sync, the gate, a sync.
     let wanted = [
         [0, 0, 0],
@@ -193,7 +110,7 @@ fn a_crash_within_an_adoption_leaves_the_older_version_or_the_adopted_one(
     rt: HostRuntime,
 ) -> Result<(), Fail> {
     let mut record = RecordDisk::new(rt.alloc(), disk_length(), 96, 1_100_000)?;
-    let [_, second, end] = two_adoptions(rt.alloc(), &mut record)?;
+    let [_, second, end] = two_versions(rt.alloc(), &mut record, Second::Adopted)?;
     // Two pages, the slot, a sync, the gate, a sync, the old gate, a sync.
     let wanted = [
         [1, 1, 1],
@@ -212,9 +129,31 @@ fn a_crash_within_an_adoption_leaves_the_older_version_or_the_adopted_one(
 }
 
 #[test]
+fn a_crash_within_a_commit_leaves_the_older_version_or_the_committed_one(
+    rt: HostRuntime,
+) -> Result<(), Fail> {
+    let mut record = RecordDisk::new(rt.alloc(), disk_length(), 96, 1_100_000)?;
+    let [_, middle, end] = two_versions(rt.alloc(), &mut record, Second::Committed)?;
+    // The marked page, the slot, a sync, the gate, a sync, the old gate, a sync.
+    let wanted = [
+        [1, 1, 1],
+        [1, 1, 1],
+        [1, 1, 1],
+        [1, 1, 1],
+        [1, 3, 1],
+        [3, 3, 3],
+        [3, 3, 3],
+        [3, 3, 3],
+    ];
+    let found = versions(rt.alloc(), &record, middle, end)?;
+    assert_eq!(rt; found.as_slice(), wanted.as_flattened());
+    Ok(())
+}
+
+#[test]
 fn pages_are_written_ascending_and_the_slot_behind_them(rt: HostRuntime) -> Result<(), Fail> {
     let mut record = RecordDisk::new(rt.alloc(), disk_length(), 96, 1_100_000)?;
-    let [first, _, _] = two_adoptions(rt.alloc(), &mut record)?;
+    let [first, _, _] = two_versions(rt.alloc(), &mut record, Second::Adopted)?;
     // The first byte of both data pages, the kind in the slot, and its gate.
     for (more, want) in [
         (0, [0, 0, 0, 0]),
@@ -230,8 +169,41 @@ fn pages_are_written_ascending_and_the_slot_behind_them(rt: HostRuntime) -> Resu
         let found = [
             page_byte(&mut disk, 0, 0)?,
             page_byte(&mut disk, 1, 0)?,
-            byte_at(&mut disk, slot_at(BASE, 2, 0) + 2)?,
-            byte_at(&mut disk, slot_at(BASE, 2, 0))?,
+            byte_at(&mut disk, slot_at(BASE, second_inode()?, Half::First) + 2)?,
+            byte_at(&mut disk, slot_at(BASE, second_inode()?, Half::First))?,
+        ];
+        assert_eq!(rt; found, want);
+    }
+    Ok(())
+}
+
+#[test]
+fn an_adoption_leaves_the_pages_of_the_older_version_and_closes_it_last(
+    rt: HostRuntime,
+) -> Result<(), Fail> {
+    let mut record = RecordDisk::new(rt.alloc(), disk_length(), 96, 1_100_000)?;
+    let [_, middle, _] = two_versions(rt.alloc(), &mut record, Second::Adopted)?;
+    let ino = second_inode()?;
+    // The first byte of four data pages, the kind in the other slot, its gate, and the gate of the older one.
+    for (more, want) in [
+        (0, [7, 7, 0, 0, 0, 0, 0xA5]),
+        (1, [7, 7, 9, 0, 0, 0, 0xA5]),
+        (2, [7, 7, 9, 9, 0, 0, 0xA5]),
+        (3, [7, 7, 9, 9, 1, 0, 0xA5]),
+        (5, [7, 7, 9, 9, 1, 0xA5, 0xA5]),
+        (7, [7, 7, 9, 9, 1, 0xA5, 0]),
+    ] {
+        let more: usize = more;
+        let calls = middle.saturating_add(more);
+        let mut disk = crashed(rt.alloc(), &record, calls, Leave::New)?;
+        let found = [
+            page_byte(&mut disk, 0, 0)?,
+            page_byte(&mut disk, 1, 0)?,
+            page_byte(&mut disk, 2, 0)?,
+            page_byte(&mut disk, 3, 0)?,
+            byte_at(&mut disk, slot_at(BASE, ino, Half::Second) + 2)?,
+            byte_at(&mut disk, slot_at(BASE, ino, Half::Second))?,
+            byte_at(&mut disk, slot_at(BASE, ino, Half::First))?,
         ];
         assert_eq!(rt; found, want);
     }

@@ -1,7 +1,7 @@
 use Rattle.std.proofs.Common.{ℕ, List, sym, refl, inl, subst}
 use Rattle.pack_layout.specs.Layout.{AgreesWith}
-use Rattle.inode_pack.proofs.New.{root_is_slot}
-use Rattle.disk_tests.proofs.pack_crash_tests.unchanged_file.Goals as goal
+use Rattle.pack_slots.proofs.New.{root_is_slot}
+use Rattle.disk_tests.proofs.packs.unchanged_file.Goals as goal
 
 pub returns : goal.returns
 returns c n most = record {
