@@ -1,0 +1,9 @@
+pub mod Sets
+pub mod RolesSend
+pub mod StorePacks
+pub mod SyncPacks
+pub mod SitePacks
+pub mod LocksKept
+pub mod PacksRun
+pub mod Making
+pub mod Homes

@@ -1,0 +1,10 @@
+pub mod SyncAsks
+pub mod StoreAsks
+pub mod Leads
+pub mod UserAsks
+pub mod SiteAsks
+pub mod AsksRun
+pub mod Granting
+pub mod SitePlaces
+pub mod PlacesRun
+pub mod Writers
