@@ -3,8 +3,8 @@ use Rattle.std.proofs.Common.{◌≡◌, ℕ, List, sym, ◌∙◌, ap, subst, i
 use Rattle.std.specs.Prelude.{Option, None, Some, Result, Err}
 use Rattle.std.proofs.lemmas.Bool.{false≢true}
 use Rattle.locus_ids.specs.declared.config.Config.{Config}
-use Rattle.inode_pack.specs.declared.mount_fault.MountFault.{MountFault}
-use Rattle.inode_pack.specs.declared.mount_fault.MountFault.TheVariants as mount
+use Rattle.pack_slots.specs.declared.mount_fault.MountFault.{MountFault}
+use Rattle.pack_slots.specs.declared.mount_fault.MountFault.TheVariants as mount
 use Rattle.site_label.specs.Image.{label_number}
 use Rattle.site_label.specs.Label.{HasBoot}
 use Rattle.site_label.proofs.Image.{boot_there}
