@@ -1,6 +1,7 @@
 pub mod Sets
 pub mod RolesSend
 pub mod StorePacks
+pub mod RowPacks
 pub mod SyncPacks
 pub mod SitePacks
 pub mod LocksKept

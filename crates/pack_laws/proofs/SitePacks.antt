@@ -53,7 +53,8 @@ use Rattle.pack_laws.specs.Packed.{ReportedPacked, BodyPacked, PacketPacked, Pul
 use Rattle.pack_laws.proofs.Sets.{every_filter, passing, every_and}
 use Rattle.pack_laws.proofs.RolesSend.{AllPacked, on_pull_packed, on_notify_packed, on_page_packed, pull_repeats_packed, users_repeats_packed, on_call_packed, on_open_done_packed, on_op_done_packed, on_close_done_packed, on_look_done_packed}
 use Rattle.pack_laws.proofs.StorePacks.{StoreOut, sync_packed, on_open_ss_packed, on_close_packed, on_closed_ok_packed, on_op_packed, store_repeats_packed}
-use Rattle.pack_laws.proofs.SyncPacks.{InTable, TableOut, on_report_packed, on_open_packed, on_look_packed, on_opened_packed, on_closed_packed, on_have_packed, sync_repeats_packed}
+use Rattle.pack_laws.proofs.RowPacks.{InTable}
+use Rattle.pack_laws.proofs.SyncPacks.{TableOut, on_report_packed, on_open_packed, on_look_packed, on_opened_packed, on_closed_packed, on_have_packed, sync_repeats_packed}
 
 test_same : (a b : ℕ) → (a == b) ≡ true → a ≡ b
 test_same a b e = grind (arith, nat_tests)
