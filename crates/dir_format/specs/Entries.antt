@@ -1,5 +1,5 @@
 -- The entries of a directory, their order, and which lists of entries are a directory.
-use Rattle.std.specs.Prelude.{◌≡◌, ℕ, ◌≤◌, ◌<◌, ◌^◌, ◌%◌, ◌==◌, Bool, true, ◌&&◌, List, [], ◌∷◌, length, replicate, Option, Some, None}
+use Rattle.std.specs.Prelude.{◌≡◌, ℕ, ◌≤◌, ◌<◌, ◌^◌, ◌%◌, ◌==◌, Bool, true, ◌&&◌, List, [], ◌∷◌, length, replicate, Option}
 use Rattle.std.specs.List.{AllByRecursion, find}
 use Rattle.std.specs.Str.{bytes_eq}
 use Rattle.std.specs.Ordering.{nat_cmp, ordering_then}
@@ -29,10 +29,6 @@ entry_cmp a b = ordering_then (slice_cmp nat_cmp a.name b.name) (nat_cmp a.ino b
 -- the entry has this name and this inode
 abbrev pub is_pair : List ℕ → ℕ → Entry → Bool
 is_pair name ino d = bytes_eq d.name name && (d.ino == ino)
-
-abbrev pub first_of_list : List Entry → Option Entry
-first_of_list [] = None
-first_of_list (d ∷ ds) = Some d
 
 -- the entry of a pair of name and inode, live or not
 abbrev pub pair_in : List ℕ → ℕ → List Entry → Option Entry

@@ -2,7 +2,6 @@ pub mod Laws
 pub mod Lists
 pub mod Sums
 pub mod Loop
-pub mod Visits
 pub mod Whole
 pub mod Zeros
 pub mod Shapes

@@ -4,4 +4,3 @@ pub mod Sums
 pub mod Lists
 pub mod Reads
 pub mod Shapes
-pub mod Visits

@@ -4,7 +4,6 @@
 //! spelled so is read) then come from those of the parts.
 #![tactic(auto)]
 
-mod example;
 mod faults;
 mod fields;
 mod put;

@@ -9,4 +9,4 @@ mod working;
 
 pub use effect::Left;
 pub use files::{cuts, mends, reads, writes};
-pub use working::{abort, begun, carry_out, commit, count, result_in};
+pub use working::{abort, begun, commit, count, result_in};

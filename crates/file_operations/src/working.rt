@@ -1,10 +1,9 @@
-ghost use Rattle.std.specs.Prelude.{◌≡◌, ◌<◌, ◌≤◌, [], false, length, IfOk, OnOk, OnErr};
+ghost use Rattle.std.specs.Prelude.{◌≡◌, ◌<◌, ◌≤◌, false, length, IfOk};
 ghost use Rattle.file_content.specs.Pages.{pages_needed};
 ghost use Rattle.file_effects.specs.Effects.{is_refusal};
-ghost use Rattle.file_effects.specs.Works.{aborted, begins_owing, begun, carried_out, changed_after, committed, counted, result_in};
+ghost use Rattle.file_effects.specs.Works.{aborted, begins_owing, begun, committed, counted, result_in};
 
 use crate::Left;
-use file_content::{pages_within, with_pages};
 use file_effects::Work;
 use locus_ids::{Bytes, ItemList, Mode, NoMemory, Refusal, Stamp};
 use std::alloc::Global;
@@ -32,22 +31,6 @@ pub fn count(work: &mut Work)
 {
     work.ops += 1;
     work.fresh = false;
-}
-
-/// An operation with this effect is carried out. After `NoMemory` all is as it was.
-pub fn carry_out(work: &mut Work, effect: Left) -> Result<(), NoMemory>
-    requires { work.old.ops < 4294967295 }
-    ensures ok { OnOk result (work.new ≡ carried_out effect work.old) }
-    ensures err { OnErr result (work.new ≡ work.old) }
-{
-    let alloc = work.changed.allocator();
-    let changed = changed_after(alloc, &effect, work.changed.as_slice())?;
-    work.ops += 1;
-    work.fresh = false;
-    work.owes = work.owes || effect.counts;
-    work.changed = changed;
-    work.content = effect.content;
-    Ok(())
 }
 
 /// The content is committed as this version.
@@ -78,18 +61,6 @@ fn begins_owing(mode: Mode) -> bool
     ensures { result ≡ begins_owing mode }
 {
     matches!(mode, Mode::Make | Mode::Resolve)
-}
-
-/// The changed pages after an effect.
-fn changed_after(
-    alloc: Global,
-    effect: &Left,
-    changed: &[usize],
-) -> Result<ItemList<usize>, NoMemory>
-    ensures { IfOk result (λ made. made ≡ changed_after effect.now changed.now) }
-{
-    let within = pages_within(alloc, effect.content.len(), changed)?;
-    with_pages(alloc, effect.pages.as_slice(), within.as_slice())
 }
 
 fn is_refusal(outcome: &Outcome) -> bool

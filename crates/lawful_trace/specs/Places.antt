@@ -1,7 +1,7 @@
 -- Lines by their numbers, which circuits they cut, and by which of them a site starts to part or to merge.
 use Rattle.std.specs.Prelude.{ℕ, zero, suc, ◌+◌, ◌-◌, ◌==◌, Bool, false, not, ◌&&◌, ◌||◌, cond, List, take, fold, Option, None, Some, slice_index_or}
 use Rattle.std.specs.Option.{is_some}
-use Rattle.std.specs.List.{list_any, list_all}
+use Rattle.std.specs.List.{list_all}
 use Rattle.schedule_lines.specs.declared.line.ScheduleLine.{ScheduleLine}
 use Rattle.schedule_lines.specs.declared.line.ScheduleLine.TheVariants.{Passed, Event}
 use Rattle.schedule_lines.specs.declared.line.Line.TheVariants as line
@@ -14,10 +14,6 @@ use Rattle.tree_model.specs.Packs.{all_sites}
 -- every one of sites 1 to 16 passes
 abbrev pub each_site : (ℕ → Bool) → Bool
 each_site p = list_all p all_sites
-
--- some one of them passes
-abbrev pub some_site : (ℕ → Bool) → Bool
-some_site p = list_any p all_sites
 
 -- Lines by their numbers, from 1.
 

@@ -57,14 +57,6 @@ pub struct Serial {
     pub serial: u32,
 }
 
-/// The name of an instance, which is one open file.
-#[derive(Clone, Copy, Debug, PartialEq, Eq)]
-pub struct InstId {
-    pub epoch: EpochId,
-    pub us: u8,
-    pub serial: u32,
-}
-
 /// A member of an epoch with its boot number.
 #[derive(Clone, Copy, Debug, PartialEq, Eq)]
 pub struct Member {

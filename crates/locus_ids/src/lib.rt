@@ -14,7 +14,7 @@ pub mod sizes;
 
 pub use byte_list::Bytes;
 pub use config::{Config, Mount, Mounts};
-pub use ids::{Brought, CallId, EpochId, FileId, InstId, Kind, Member, Mode, Serial, Stamp};
+pub use ids::{Brought, CallId, EpochId, FileId, Kind, Member, Mode, Serial, Stamp};
 pub use ino::Ino;
 pub use item_list::{ItemList, Names, Stamps};
 pub use memory::NoMemory;

@@ -1,5 +1,5 @@
 -- Which line of a schedule may stand where, and which line is the first bad one.
-use Rattle.std.specs.Prelude.{ℕ, ◌≡◌, ◌+◌, Bool, true, false, not, ◌&&◌, List, [], ◌∷◌, ◌++◌, length}
+use Rattle.std.specs.Prelude.{ℕ, ◌≡◌, ◌+◌, Bool, true, false, not, ◌&&◌, List, [], ◌∷◌, ◌++◌}
 use Rattle.std.specs.List.{list_any}
 use Rattle.schedule_lines.specs.Cluster.{config_of, is_whole, may_join}
 use Rattle.schedule_lines.specs.Ranges.{fits_event}
@@ -53,19 +53,3 @@ ReadsAfter earlier (bytes ∷ rest) [] = ⊥
 -- these lines of bytes are lines that stand as those of a schedule may; where the header is whole too, they are a schedule
 abbrev pub IsSchedule : List (List ℕ) → List ScheduleLine → Type 0
 IsSchedule bytes lines = ReadsAfter [] bytes lines
-
--- what is left of the bytes after these lines begins with a line that may not stand there, or nothing is left and the
--- schedule may not end there
-abbrev pub IsBadAfter : List (List ℕ) → List ScheduleLine → Type 0
-IsBadAfter [] lines = MayEnd lines → ⊥
-IsBadAfter (bytes ∷ rest) lines = (l : ScheduleLine) → Reads lines bytes l → ⊥
-
--- Number n, from 1, is the first bad line: the lines before it are those of a schedule, and it may not stand there; or
--- all of them are, the header isn't whole, and n is one past the last.
-pub record IsFirstBad (all : List (List ℕ)) (n : ℕ) (lines : List ScheduleLine) : Type 0 where
-  pub before : List (List ℕ)
-  pub rest : List (List ℕ)
-  pub split : all ≡ before ++ rest
-  pub number : n ≡ length before + 1
-  pub schedule : IsSchedule before lines
-  pub bad : IsBadAfter rest lines

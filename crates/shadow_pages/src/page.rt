@@ -4,9 +4,6 @@ use locus_ids::NoMemory;
 use std::alloc::Global;
 use std::marker::Model;
 
-/// The bytes of a page.
-pub const PAGE: usize = 1024;
-
 /// A whole page in memory.
 #[derive(Drop)]
 pub struct Page {

@@ -4,7 +4,7 @@ use Rattle.locus_ids.specs.declared.sites.Members.{Members}
 use Rattle.locus_ids.specs.declared.ids.EpochId.{EpochId}
 use Rattle.trace_book.specs.Same.{same_epoch}
 use Rattle.trace_book.specs.declared.record.Record.{Record}
-use Rattle.trace_book.specs.declared.record.Record.TheVariants.{Up, Stopped, Leave, Join, Start, Accept}
+use Rattle.trace_book.specs.declared.record.Record.TheVariants.{Up, Stopped, Leave, Join, Accept}
 use Rattle.tree_model.specs.Folds.{Trace, over}
 
 abbrev pub up_after : Record → ℕ → Bool → Bool
@@ -72,14 +72,6 @@ members_after _ e old = old
 -- the members of an epoch, by the records of those that joined it
 abbrev pub members_of : Trace → EpochId → Option Members
 members_of trace e = over None (λ r before old. members_after r.what e old) trace
-
-abbrev pub started_after : Record → EpochId → ℕ → Bool → Bool
-started_after (Start epoch g copies) e group old = same_epoch epoch e && (g == group) || old
-started_after _ e group old = old
-
--- the group has started in the epoch
-abbrev pub is_started : Trace → EpochId → ℕ → Bool
-is_started trace e group = over false (λ r before old. started_after r.what e group old) trace
 
 abbrev pub calls_after : Record → ℕ → ℕ → ℕ
 calls_after (Accept s process call words) site old = cond (s == site) (old + 1) old

@@ -111,23 +111,3 @@ gives h t _ = false
 
 abbrev pub Gives : List Version → TreeState → Record → Type 0
 Gives h t r = gives h t r ≡ true
-
--- each as a proposition
-
-abbrev pub GivesStart : TreeState → List Brought → Type 0
-GivesStart t copies = gives_start t copies ≡ true
-
-abbrev pub GivesLook : List Version → TreeState → FileId → What → Served → Type 0
-GivesLook h t f w result = gives_look h t f w result ≡ true
-
-abbrev pub GivesGrant : List Version → TreeState → CallId → Serial → Mode → FileId → Option Stamp → ℕ → Type 0
-GivesGrant h t call i m f stamp ss = gives_grant h t call i m f stamp ss ≡ true
-
-abbrev pub GivesRefusal : List Version → TreeState → CallId → Mode → FileId → Refusal → Type 0
-GivesRefusal h t call m f why = gives_refusal h t call m f why ≡ true
-
-abbrev pub GivesAct : List Version → TreeState → Serial → ℕ → Op → Outcome → Type 0
-GivesAct h t i n o result = gives_act h t i n o result ≡ true
-
-abbrev pub GivesRelease : List Version → TreeState → Serial → FileId → Option Stamp → Type 0
-GivesRelease h t i f stamp = gives_release h t i f stamp ≡ true

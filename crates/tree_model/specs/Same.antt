@@ -71,10 +71,6 @@ same_all (a ∷ as_after) (b ∷ bs_after) = same_brought a b && same_all as_aft
 same_all _ _ = false
 
 -- the answer is there, and is this one
-abbrev pub is_refused : Option Refusal → Refusal → Bool
-is_refused None why = false
-is_refused (Some r) why = same_refusal r why
-
 abbrev pub is_given : Option Outcome → Outcome → Bool
 is_given None result = false
 is_given (Some o) result = same_outcome o result

@@ -156,10 +156,6 @@ tree_of c e group trace = over (empty_tree c e group) (λ r before t. next (hist
 
 -- What the records so far tell of a file in an epoch.
 
--- the version that the site has of the file in the epoch: it stays what it was when the site left
-abbrev pub held_in : Config → Trace → EpochId → ℕ → FileId → Option Stamp
-held_in c before e site f = held_at (tree_of c e f.group before) site f.ino
-
 -- the versions of the file that members brought to the epoch or that were published in it, ascending
 abbrev pub candidates : Config → Trace → EpochId → FileId → List Stamp
 candidates c before e f = stamps_of (tree_of c e f.group before).known f.ino
