@@ -7,7 +7,7 @@ use std::test::Fail;
 fn lines_end_with_a_line_feed(rt: HostRuntime) -> Result<(), Fail> {
     let alloc = rt.alloc();
     let text = Bytes::from_slice(alloc, b"ab\n\n#c d\nabcdef\nx")?;
-    let mut source = SureSource::new(alloc, text);
+    let mut source = SureSource::new(text);
     let mut reader = LineReader::new(alloc, 6)?;
     let lines = [b"ab".as_slice(), b"", b"#c d", b"abcdef", b"x"];
     for (i, line) in lines.iter().enumerate() {
@@ -26,7 +26,7 @@ fn lines_end_with_a_line_feed(rt: HostRuntime) -> Result<(), Fail> {
 fn a_line_past_the_limit_stays(rt: HostRuntime) -> Result<(), Fail> {
     let alloc = rt.alloc();
     for text in [b"a\nabcd\nb\n".as_slice(), b"a\nabcd", b"a\nabcdefgh\n"] {
-        let mut source = SureSource::new(alloc, Bytes::from_slice(alloc, text)?);
+        let mut source = SureSource::new(Bytes::from_slice(alloc, text)?);
         let mut reader = LineReader::new(alloc, 3)?;
         assert_eq!(rt; reader.next(&mut source), Ok(Next::Line));
         assert_eq!(rt; reader.next(&mut source), Ok(Next::LongLine));
@@ -41,7 +41,7 @@ fn nothing_is_lost_by_a_fault(rt: HostRuntime) -> Result<(), Fail> {
     let alloc = rt.alloc();
     let text = Bytes::from_slice(alloc, b"a\nb")?;
     let fails = Bytes::from_slice(alloc, &[1, 3])?;
-    let mut source = MemSource::new(alloc, text, fails);
+    let mut source = MemSource::new(text, fails);
     let mut reader = LineReader::new(alloc, 3)?;
     assert_eq!(rt; reader.next(&mut source), Err(ReadFault::Failed));
     assert_eq!(rt; reader.next(&mut source), Ok(Next::Line));
@@ -58,7 +58,7 @@ fn a_source_is_asked_no_more_past_its_end(rt: HostRuntime) -> Result<(), Fail> {
     let alloc = rt.alloc();
     let text = Bytes::from_slice(alloc, b"a\nb")?;
     let fails = Bytes::from_slice(alloc, &[3])?;
-    let mut source = MemSource::new(alloc, text, fails);
+    let mut source = MemSource::new(text, fails);
     let mut reader = LineReader::new(alloc, 3)?;
     assert_eq!(rt; reader.next(&mut source), Ok(Next::Line));
     assert_eq!(rt; reader.next(&mut source), Ok(Next::Line));
@@ -74,7 +74,7 @@ fn a_last_line_is_not_read_at_a_fault(rt: HostRuntime) -> Result<(), Fail> {
     let alloc = rt.alloc();
     let text = Bytes::from_slice(alloc, b"a\nb")?;
     let fails = Bytes::from_slice(alloc, &[2])?;
-    let mut source = MemSource::new(alloc, text, fails);
+    let mut source = MemSource::new(text, fails);
     let mut reader = LineReader::new(alloc, 3)?;
     assert_eq!(rt; reader.next(&mut source), Ok(Next::Line));
     assert_eq!(rt; reader.next(&mut source), Err(ReadFault::Failed));
@@ -90,7 +90,7 @@ fn a_million_lines_may_be_read(rt: HostRuntime) -> Result<(), Fail> {
         text.append(b"# a comment of some length\n")?;
     }
     text.push(b'x')?;
-    let mut source = SureSource::new(alloc, text);
+    let mut source = SureSource::new(text);
     let mut reader = LineReader::new(alloc, 16_384)?;
     for _ in 0..1_000_000u32 {
         assert_eq!(rt; reader.next(&mut source), Ok(Next::Line));

@@ -13,7 +13,7 @@ fn listed_reads_fail(rt: HostRuntime) -> Result<(), Fail> {
     let alloc = rt.alloc();
     let bytes = Bytes::from_slice(alloc, b"abc")?;
     let fails = Bytes::from_slice(alloc, &[2, 4])?;
-    let mut source = MemSource::new(alloc, bytes, fails);
+    let mut source = MemSource::new(bytes, fails);
     let mut buf = [0; 2];
     assert_eq!(rt; source.take(&mut buf), Ok(2));
     assert_eq!(rt; buf, [b'a', b'b']);
@@ -32,7 +32,7 @@ fn a_block_is_read_at_once(rt: HostRuntime) -> Result<(), Fail> {
     for n in 0..100_000u32 {
         bytes.push((n % 251) as u8)?;
     }
-    let mut source = SureSource::new(alloc, bytes);
+    let mut source = SureSource::new(bytes);
     let mut buf = vec![in alloc; 0; 65_536]?;
     assert_eq!(rt; source.take(&mut buf), Ok(65_536));
     assert_eq!(rt; buf.get(65_535), Some(&24));

@@ -1,5 +1,11 @@
 //! Sizes that several crates name.
 
+/// The greatest number of sites.
+pub const SITES: usize = 16;
+
+/// The inodes of a pack.
+pub const INODES: u16 = 1_024;
+
 /// The bytes of a page.
 pub const PAGE_BYTES: usize = 1_024;
 

@@ -6,7 +6,6 @@ ghost use Rattle.locus_io.specs.Memory.{is_listed};
 
 use crate::{ReadFault, Source};
 use locus_ids::Bytes;
-use std::alloc::Global;
 use std::marker::Model;
 
 /// Bytes in memory, of which the listed calls fail.
@@ -32,10 +31,9 @@ impl Model for MemSource {
 
 impl MemSource {
     /// A source of these bytes. `fails` lists the numbers of the calls that fail, from 1.
-    pub fn new(alloc: Global, bytes: Bytes, fails: Bytes) -> MemSource
+    pub fn new(bytes: Bytes, fails: Bytes) -> MemSource
         ensures { result ≡ record { left = bytes; fails = fails; calls = 0; faults = 0 } }
     {
-        let _ = alloc;
         MemSource {
             bytes,
             at: 0,
@@ -117,10 +115,9 @@ impl Model for SureSource {
 
 impl SureSource {
     /// A source of these bytes.
-    pub fn new(alloc: Global, bytes: Bytes) -> SureSource
+    pub fn new(bytes: Bytes) -> SureSource
         ensures { result ≡ bytes }
     {
-        let _ = alloc;
         SureSource { bytes, at: 0 }
     }
 }

@@ -17,7 +17,7 @@ fn words_of(alloc: Global, words: &[&[u8]]) -> Result<Names, NoMemory> {
 
 /// What these words and this input come to, and what is written.
 fn run_on(alloc: Global, words: &[&[u8]], input: &[u8]) -> Result<(Status, SureSink), NoMemory> {
-    let mut source = SureSource::new(alloc, Bytes::from_slice(alloc, input)?);
+    let mut source = SureSource::new(Bytes::from_slice(alloc, input)?);
     let mut sink = SureSink::new(alloc);
     let status = locus(alloc, &words_of(alloc, words)?, &mut source, &mut sink);
     Ok((status, sink))
@@ -106,7 +106,7 @@ fn a_line_has_a_limit(rt: HostRuntime) -> Result<(), Fail> {
 fn a_first_read_that_fails_writes_nothing(rt: HostRuntime) -> Result<(), Fail> {
     let alloc = rt.alloc();
     let bytes = Bytes::from_slice(alloc, HEADER)?;
-    let mut source = MemSource::new(alloc, bytes, Bytes::from_slice(alloc, &[1])?);
+    let mut source = MemSource::new(bytes, Bytes::from_slice(alloc, &[1])?);
     let mut sink = SureSink::new(alloc);
     let words = words_of(alloc, &[b"run".as_slice()])?;
     let status = locus(alloc, &words, &mut source, &mut sink);
@@ -120,7 +120,7 @@ fn a_later_read_that_fails_keeps_the_whole_lines(rt: HostRuntime) -> Result<(), 
     let alloc = rt.alloc();
     let mut bytes = Bytes::from_slice(alloc, HEADER)?;
     bytes.append(b"call 1 1 create /f")?;
-    let mut source = MemSource::new(alloc, bytes, Bytes::from_slice(alloc, &[2])?);
+    let mut source = MemSource::new(bytes, Bytes::from_slice(alloc, &[2])?);
     let mut sink = SureSink::new(alloc);
     let words = words_of(alloc, &[b"run".as_slice()])?;
     let status = locus(alloc, &words, &mut source, &mut sink);
@@ -133,7 +133,7 @@ fn a_later_read_that_fails_keeps_the_whole_lines(rt: HostRuntime) -> Result<(), 
 #[test]
 fn a_first_write_that_fails_writes_nothing(rt: HostRuntime) -> Result<(), Fail> {
     let alloc = rt.alloc();
-    let mut source = SureSource::new(alloc, Bytes::from_slice(alloc, HEADER)?);
+    let mut source = SureSource::new(Bytes::from_slice(alloc, HEADER)?);
     let mut sink = MemSink::new(alloc, Bytes::from_slice(alloc, &[1])?);
     let words = words_of(alloc, &[b"run".as_slice()])?;
     let status = locus(alloc, &words, &mut source, &mut sink);
