@@ -111,7 +111,8 @@ pub record IsPolledBefore (lines : List ScheduleLine) (trace : Trace) (site sett
   pub block : IsBlock lines trace n settle
   pub polled : is_polled lines trace n by site ≡ true
 
--- In an orderly schedule a site leaves only by its own line, or in the round that ends a block in which it is polled.
+-- Up to a line up to which a schedule is orderly a site leaves only by its own line, or in the round that ends a block in which it
+-- is polled.
 abbrev pub LeavesAreOwn : List ScheduleLine → Trace → Type 0
-LeavesAreOwn lines trace = (n site : ℕ) (e : EpochId) → Contains trace (record { line = n; what = Leave site e })
-    → IsOrderly lines trace n → (makes_leave (line_at lines n) site ≡ true) ⊎ IsPolledBefore lines trace site n
+LeavesAreOwn lines trace = (n last site : ℕ) (e : EpochId) → Contains trace (record { line = n; what = Leave site e }) → n ≤ last
+    → IsOrderly lines trace last → (makes_leave (line_at lines n) site ≡ true) ⊎ IsPolledBefore lines trace site n
