@@ -10,6 +10,8 @@ use Rattle.inode_pack.specs.Marked.{is_marked, page_if, marked_pages, marked}
 use Rattle.inode_pack.specs.Committing.{is_changed, needed}
 use Rattle.inode_pack.specs.Rows.{HasChanged}
 use Rattle.inode_pack.proofs.Whole.{long_page}
+use Rattle.inode_pack.proofs.FreeCounts.{count_gap}
+use Rattle.inode_pack.proofs.Taking.{unchanged}
 
 length_marked : (bytes : List ℕ) (marks : List Bool) (n : ℕ) → length (marked_pages bytes marks n) ≡ n
 length_marked bytes marks zero = refl
@@ -85,16 +87,26 @@ is_mark bytes marks i at e lt = ap (λ (n : ℕ). get_or marks n false) e ∙ sy
 pub no_mark : (bytes : List ℕ) (marks : List Bool) (i at : ℕ) → at ≡ i → 1024 * at < length bytes → length marks ≤ at → false ≡ is_changed (marked bytes marks) i
 no_mark bytes marks i at e lt le = sym (get_or_past marks at false le) ∙ is_mark bytes marks i at e lt
 
--- so many pages are changed as are marked
+-- so many of the first pages are changed as are marked
+counts : (bytes : List ℕ) (marks : List Bool) (n : ℕ) → n ≤ pages_of (length bytes) → count_below (is_changed (marked bytes marks)) n ≡ count_below (is_marked marks) n
+counts bytes marks zero le = refl
+counts bytes marks (suc n) le =
+    let before = counts bytes marks n (omega arith) in
+    let here = changed_here bytes marks n (omega arith) in
+    (λ i. let m : ℕ = if here i then 1 else 0 in before i + m)
+
 pub needed_marked : (bytes : List ℕ) (marks : List Bool) → needed (marked bytes marks) ≡ count_below (is_marked marks) (pages_of (length bytes))
-needed_marked bytes marks = counts (pages_of (length bytes)) (omega arith)
-  where
-    counts : (n : ℕ) → n ≤ pages_of (length bytes) → count_below (is_changed (marked bytes marks)) n ≡ count_below (is_marked marks) n
-    counts zero le = refl
-    counts (suc n) le =
-        let before = counts n (omega arith) in
-        let here = changed_here bytes marks n (omega arith) in
-        (λ i. let m : ℕ = if here i then 1 else 0 in before i + m)
+needed_marked bytes marks = counts bytes marks (pages_of (length bytes)) (omega arith)
+
+-- so many as are marked in a row, where all that are changed are there
+pub needed_row : (bytes : List ℕ) (marks : List Bool) (first stop n : ℕ) → HasChanged first stop (marked bytes marks) → first ≤ stop → stop ≤ pages_of (length bytes)
+    → count_below (is_marked marks) first + n ≡ count_below (is_marked marks) stop → n ≡ needed (marked bytes marks)
+needed_row bytes marks first stop n has ordered inside is =
+    let w = marked bytes marks in
+    let end = pages_of (length bytes) in
+    let before = count_gap (is_changed w) 0 first (omega arith) (λ p low high. unchanged w first stop p has (omega (arith, high, ordered, inside)) (λ out. omega (arith, out.0, high))) in
+    let behind = count_gap (is_changed w) stop end inside (λ p low high. unchanged w first stop p has high (λ out. omega (arith, out.1, low))) in
+    omega (arith, is, before, behind, counts bytes marks first (omega arith), counts bytes marks stop inside)
 
 pub new_page : (bytes : List ℕ) (marks : List Bool) (i : ℕ) → is_changed (marked bytes marks) i ≡ true → 1024 * i < length bytes → shadow_page (marked bytes marks).pages i ≡ Some (full_page bytes i)
 new_page bytes marks i is lt = page_changed bytes marks i (omega arith) (sym (changed_here bytes marks i (omega arith)) ∙ is)

@@ -30,8 +30,6 @@ use pack_slots::InodeCopy;
 #[derive(Drop)]
 struct Prepared {
     made: InodeCopy,
-    /// Pages in a row, among which all changed ones are.
-    changed: Row,
     /// Pages in a row, among which all are whose data pages differ from those of the inode's copy so far.
     passed: Row,
     /// The inode has a version, whose slot is to be closed.
@@ -149,14 +147,15 @@ impl Pack {
     {
         let _len = disk.len();
         let base = self.base();
-        self.room_for(content)?;
-        let prepared = self.prepare(ino, &version, content);
+        let row = content.row();
+        self.room_for(content, row)?;
+        let prepared = self.prepare(ino, &version, content, row);
         let half = prepared.made.half;
         let pieces = CommitPieces {
             base,
             ino,
             made: &prepared.made,
-            row: prepared.changed,
+            row,
             content,
         };
         replace_inode(disk, base, ino, half, prepared.closes, &pieces)?;
@@ -172,14 +171,17 @@ impl Pack {
     }
 
     /// Whether there is room for the changed pages.
-    fn room_for<C: NewContent>(&self, content: &C) -> Result<(), PackFault>
+    fn room_for<C: NewContent>(&self, content: &C, row: Row) -> Result<(), PackFault>
         requires size { (C.working content.now).size ≤ 65536 }
+        requires changed { HasChanged row.first row.stop (C.working content.now) }
+        requires ordered { row.first ≤ row.stop }
+        requires inside { row.stop ≤ pages_of (C.working content.now).size }
         ensures copies { AreCopies self.now.copies }
         ensures room { OnOk result (needed (C.working content.now) + length (named_pages self.now.copies) ≤ 3072) }
         ensures no_space { (pages free : ℕ) → (result ≡ Err (NoSpace pages free)) ↔ ((free < pages) × (pages ≡ needed (C.working content.now)) × (free + length (named_pages self.now.copies) ≡ 3072)) }
         ensures early { IfErr result (λ fault. IsEarly fault) }
     {
-        let needed = content.count();
+        let needed = content.count(row);
         if needed > self.free {
             return Err(PackFault::NoSpace {
                 needed,
@@ -190,10 +192,19 @@ impl Pack {
     }
 
     /// Finds what a commit makes. It takes no memory, nor does the rest of a commit.
-    fn prepare<C: NewContent>(&self, ino: Ino, version: &NewVersion, content: &C) -> Prepared
+    fn prepare<C: NewContent>(
+        &self,
+        ino: Ino,
+        version: &NewVersion,
+        content: &C,
+        row: Row,
+    ) -> Prepared
         requires area { self.now.base + area_length < 2 ^ 32 }
         requires version { IsVersion version.now (C.working content.now).size }
         requires rests { RestsOn (size_of (copy_of self.now.copies ino)) (C.working content.now) }
+        requires changed { HasChanged row.first row.stop (C.working content.now) }
+        requires ordered { row.first ≤ row.stop }
+        requires inside { row.stop ≤ pages_of (C.working content.now).size }
         requires room { needed (C.working content.now) + length (named_pages self.now.copies) ≤ 3072 }
         ensures makes { Makes (is_free self.now.copies) (copy_of self.now.copies ino) ino version.now (C.working content.now) result.made }
         ensures numbers { length result.made.slot.pages ≡ 64 }
@@ -201,9 +212,6 @@ impl Pack {
         ensures low { 1 ≤ ino }
         ensures high { ino ≤ 1024 }
         ensures inside { (i : ℕ) → i < pages_of (C.working content.now).size → slice_index result.made.slot.pages i < 3072 }
-        ensures changed { HasChanged result.changed.first result.changed.stop (C.working content.now) }
-        ensures changed_ordered { result.changed.first ≤ result.changed.stop }
-        ensures changed_inside { result.changed.stop ≤ pages_of (C.working content.now).size }
         ensures whole { AreWhole (C.working content.now) (pages_of (C.working content.now).size) }
         ensures passed_ordered { result.passed.first ≤ result.passed.stop }
         ensures passed_inside { result.passed.stop ≤ 64 }
@@ -211,13 +219,11 @@ impl Pack {
         ensures closes { result.closes ≡ is_some (copy_of self.now.copies ino) }
         ensures copies { AreCopies self.now.copies }
     {
-        let row = content.row();
         let old = &self.copies[usize::from(ino.get()) - 1];
         let passed = row_to_pass(old, row, page_count(content.size()));
         let made = next_copy(&self.uses, self.least, row, old, ino, version, content);
         Prepared {
             made,
-            changed: row,
             passed,
             closes: old.is_some(),
         }

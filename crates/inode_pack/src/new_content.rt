@@ -1,5 +1,5 @@
 // What is written of a new content: all pages of it, or those that are marked.
-ghost use Rattle.std.specs.Prelude.{◌≡◌, ◌≤◌, ◌<◌, ◌*◌, ℕ, List, length, Some, OnOk, true, false};
+ghost use Rattle.std.specs.Prelude.{◌≡◌, ◌≤◌, ◌<◌, ◌+◌, ◌*◌, ℕ, List, length, Some, OnOk, true, false};
 ghost use Rattle.disk_model.specs.Disk.{Goes, HasCause};
 ghost use Rattle.disk_model.specs.Moments.{TellsMany};
 ghost use Rattle.file_content.specs.Pages.{pages_of};
@@ -32,9 +32,12 @@ pub(crate) trait NewContent {
         ensures ordered { result.first ≤ result.stop }
         ensures inside { result.stop ≤ pages_of (working self.now).size };
 
-    /// How many pages of the content are changed.
-    fn count(&self) -> u16
-        requires { (working self.now).size ≤ 65536 }
+    /// How many pages of the content are changed, all of which are among those in a row.
+    fn count(&self, row: Row) -> u16
+        requires size { (working self.now).size ≤ 65536 }
+        requires changed { HasChanged row.first row.stop (working self.now) }
+        requires ordered { row.first ≤ row.stop }
+        requires inside { row.stop ≤ pages_of (working self.now).size }
         ensures number { result ≡ needed (working self.now) }
         ensures most { result ≤ 64 };
 
@@ -68,7 +71,7 @@ impl NewContent for Bytes {
         }
     }
 
-    fn count(&self) -> u16 {
+    fn count(&self, _row: Row) -> u16 {
         page_count(self.len() as u32)
     }
 
@@ -106,8 +109,8 @@ impl NewContent for MarkedContent<'_> {
         Row { first, stop }
     }
 
-    fn count(&self) -> u16 {
-        count_marked(self.marks, page_count(self.content.len() as u32))
+    fn count(&self, row: Row) -> u16 {
+        count_marked(self.marks, row)
     }
 
     fn is_changed(&self, i: u16) -> bool {
@@ -153,14 +156,15 @@ fn end_of_marked(marks: &[bool; 64], first: u16, end: u16) -> u16
     first
 }
 
-/// How many of the first pages are marked.
-fn count_marked(marks: &[bool; 64], end: u16) -> u16
-    requires { end ≤ 64 }
-    ensures number { result ≡ count_below (is_marked marks.now) end }
-    ensures most { result ≤ end }
+/// How many pages in a row are marked.
+fn count_marked(marks: &[bool; 64], row: Row) -> u16
+    requires ordered { row.first ≤ row.stop }
+    requires inside { row.stop ≤ 64 }
+    ensures number { count_below (is_marked marks.now) row.first + result ≡ count_below (is_marked marks.now) row.stop }
+    ensures most { result ≤ 64 }
 {
     let mut count = 0;
-    for i in 0..end {
+    for i in row.first..row.stop {
         if marks[usize::from(i)] {
             count += 1;
         }

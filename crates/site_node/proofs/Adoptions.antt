@@ -26,10 +26,10 @@ use Rattle.site_tables.specs.Tables.{noting_own, noting_own_of}
 use Rattle.site_node.specs.Views.{view_of, Moves}
 use Rattle.site_node.specs.Adopting.{adopted_now, choice_at, is_above}
 use Rattle.site_node.specs.Writing.{EventWrites}
-use Rattle.site_node.specs.declared.fault.NodeFault.{NodeFault}
+use Rattle.site_parts.specs.declared.fault.NodeFault.{NodeFault}
 use Rattle.site_node.specs.declared.node.SiteNode.{SiteNode}
 use Rattle.site_tables.proofs.Giving.{gives_none, gives_as}
-use Rattle.site_node.proofs.Cuts.{copy_with}
+use Rattle.site_parts.proofs.Cuts.{copy_with}
 use Rattle.site_node.proofs.Moving.{same_places}
 
 notes_of : (f : Frame) (p : Pull) (o : Option SyncTable) (v : SiteView) → notes_own_at f p o v ≡ record v { tables = noting_own_of f.me p.file p.stamp o v.tables }

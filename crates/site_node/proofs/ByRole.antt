@@ -13,11 +13,12 @@ use Rattle.role_steps.specs.Reports.{on_report, on_open, on_look, on_closed, on_
 use Rattle.role_steps.specs.Opens.{on_opened}
 use Rattle.site_tables.specs.Tables.{tables_at, tables_at_of, tables_with}
 use Rattle.role_steps.specs.Views.{within}
-use Rattle.site_node.specs.Roles.{answered, role_of, role_takes, with_tables, without_report}
+use Rattle.site_node.specs.Roles.{answered, role_takes, with_tables, without_report}
+use Rattle.site_parts.specs.Roles.{role_of}
 use Rattle.wire_messages.specs.Outboxes.{Outgoing}
 use Rattle.site_node.specs.Views.{view_of, Works}
 use Rattle.site_node.specs.declared.node.SiteNode.{SiteNode}
-use Rattle.site_node.specs.declared.roles.Role.TheVariants as role
+use Rattle.site_parts.specs.declared.roles.Role.TheVariants as role
 
 table_of : (g : SyncTable → Outcome SyncTable) (o : Option SyncTable) (v : SiteView) → at_table_of g o v ≡ within (with_tables v) (tables_at_of g o v.tables)
 table_of g None v = refl

@@ -1,7 +1,5 @@
 -- A site joins an epoch, and passes sites over.
-use Rattle.std.proofs.Common.{◌≡◌, ℕ, ◌+◌, ◌<◌, ◌≤◌, List, [], ◌∷◌, ◌++◌, append-nil, append_assoc, length, get_or, drop, map, filter, Option, None, Some, refl, sym, ap, ◌∙◌, subst}
-use Rattle.std.proofs.lemmas.List.{drop_all, drop_more}
-use Rattle.std.specs.List.{flat_map}
+use Rattle.std.proofs.Common.{◌≡◌, ℕ, List, [], ◌∷◌, ◌++◌, append-nil, map, filter, Option, None, Some, refl, sym, ap, ◌∙◌, subst}
 use Rattle.locus_ids.specs.declared.ids.EpochId.{EpochId}
 use Rattle.locus_ids.specs.declared.sites.Links.{Links}
 use Rattle.locus_ids.specs.declared.sites.Members.{Members}
@@ -166,16 +164,6 @@ quiet_works f old part a law n = subst (λ (x : EpochPart). Works f old (record 
   config = refl;
   me = refl;
 })
-
--- ---- reports, group by group ----
-
-pub group_reported : (f : ℕ → List Packet) (groups : List ℕ) (i group : ℕ) (now before first : List Packet) → i < length groups → group ≡ get_or groups i 0 → now ≡ before ++ f group → before ++ flat_map f (drop i groups) ≡ first → now ++ flat_map f (drop (i + 1) groups) ≡ first
-group_reported f groups i group now before first h e n p =
-    let rest : List Packet = flat_map f (drop (i + 1) groups) in
-    ap (λ (ps : List Packet). ps ++ rest) n ∙ (append_assoc before (f group) rest ∙ (ap (λ (k : ℕ). before ++ (f k ++ rest)) e ∙ (sym (ap (λ (gs : List ℕ). before ++ flat_map f gs) (drop_more groups i 0 h)) ∙ p)))
-
-pub groups_reported : (f : ℕ → List Packet) (groups : List ℕ) (i : ℕ) (now first : List Packet) → length groups ≤ i → now ++ flat_map f (drop i groups) ≡ first → now ≡ first
-groups_reported f groups i now first h p = sym (ap (λ (gs : List ℕ). now ++ flat_map f gs) (drop_all i groups h) ∙ append-nil now) ∙ p
 
 -- ---- where the site's number was read before ----
 

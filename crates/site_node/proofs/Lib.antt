@@ -1,5 +1,4 @@
 pub mod Moving
-pub mod Working
 pub mod Takes
 pub mod Starts
 pub mod Parts
@@ -12,11 +11,6 @@ pub mod Picking
 pub mod Endings
 pub mod Ticks
 pub mod Receives
-pub mod Causes
-pub mod Cuts
 pub mod Unwritten
 pub mod Together
 pub mod Received
-pub mod StoreParts
-pub mod Mendings
-pub mod Numbers

@@ -23,7 +23,7 @@ use Rattle.site_tables.proofs.Giving.{gives_as, gives_within}
 use Rattle.the_run.specs.Steps.{call_frame, epoch_id, takes_call}
 use Rattle.using_site.specs.Steps.{Gives}
 use Rattle.wire_messages.specs.Outboxes.{Outgoing}
-use Rattle.site_node.specs.Framing.{calling, outside}
+use Rattle.site_parts.specs.Framing.{calling, outside}
 use Rattle.site_node.specs.Views.{view_of, Works}
 use Rattle.site_node.specs.declared.node.SiteNode.{SiteNode}
 

@@ -32,9 +32,12 @@ use Rattle.wire_messages.specs.declared.body.CloseAnswer.{CloseAnswer}
 use Rattle.wire_messages.specs.declared.body.Granted.{Granted}
 use Rattle.wire_messages.specs.declared.body.LookAnswer.{LookAnswer}
 use Rattle.trace_book.specs.declared.operation.Outcome.{Outcome as Done}
-use Rattle.site_node.specs.declared.roles.Role.TheVariants as role
+use Rattle.site_parts.specs.declared.roles.Role.TheVariants as role
 use Rattle.site_node.proofs.Moving.{works_as, works_none}
 use Rattle.site_node.specs.Roles.{role_takes, users_take, with_tables}
+use Rattle.site_parts.specs.Roles.{mending_by, store_take}
+use Rattle.site_parts.specs.declared.fault.NodeFault.{NodeFault}
+use Rattle.std.specs.Prelude.{Result, Ok, Err, OnOk}
 use Rattle.site_node.specs.Views.{view_of, Moves, Works}
 use Rattle.site_node.specs.declared.node.SiteNode.{SiteNode}
 use Rattle.site_tables.proofs.Giving.{gives_within}
@@ -55,9 +58,12 @@ store_moves o old instances packs m n a b g s p = record {
   me = refl;
 }
 
--- the same outcome is given
-pub store_given : (o p : Outcome Store) (now : Store) (a b : Outgoing) → o ≡ p → StoreGives o now a b → StoreGives p now a b
-store_given o p now a b e g = subst (λ (q : Outcome Store). StoreGives q now a b) e g
+-- what the storage site makes of a packet
+pub store_taken : (r : Result (Unit {0}) NodeFault) (from : ℕ) (b : Body) (old : SiteNode) (instances : List Instance) (packs : PacksState) (m n : Moment) (given now : Outgoing)
+    → OnOk r (StoreGives (store_take old.frame (mending_by old.tables old.users (store_of old.store old.packs m.seen)) from b (store_of old.store old.packs m.seen)) (store_of instances packs n.seen) given now) → OnOk r (Stand packs n) → OnOk r (SamePlaces old.packs packs)
+    → OnOk r (Moves (role_takes role.Store old.frame from b) old m (record old { store = instances; packs = packs }) n given now)
+store_taken (Ok x) from b old instances packs m n given now g s p = store_moves (λ v. store_take old.frame (mending_by v.tables v.users v.store) from b v.store) old instances packs m n given now g s p
+store_taken (Err e) from b old instances packs m n given now g s p = tt
 
 pub pulls_work : (o : SiteView → Outcome (List Pull)) (old : SiteNode) (pulls : List Pull) (a b : Outgoing) → ((image : List ℕ) → AreShown old.packs.packs image → pulls ≡ (o (view_of old image)).view) → ((image : List ℕ) → AreShown old.packs.packs image → b.packets ≡ a.packets ++ (o (view_of old image)).sent)
     → b.records ≡ a.records → ((v : SiteView) → (o v).told ≡ []) → Works (λ v. within (with_pulls v) (o v)) old (record old { pulls = pulls }) a b

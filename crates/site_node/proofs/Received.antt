@@ -8,7 +8,7 @@ use Rattle.wire_messages.specs.Outboxes.{Outgoing}
 use Rattle.wire_messages.specs.declared.packet.Packet.{Packet}
 use Rattle.role_steps.specs.Views.{SiteView, DiskWrite, Receives, first_written}
 use Rattle.the_run.specs.Steps.{is_dropped, tries_at}
-use Rattle.site_node.specs.declared.fault.NodeFault.{NodeFault}
+use Rattle.site_parts.specs.declared.fault.NodeFault.{NodeFault}
 use Rattle.site_node.specs.declared.node.SiteNode.{SiteNode}
 use Rattle.site_node.specs.Taking.{is_tried, taken}
 use Rattle.site_node.specs.Views.{view_of, Moves, steps_at}

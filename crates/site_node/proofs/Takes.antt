@@ -16,6 +16,9 @@ use Rattle.role_steps.specs.declared.rounds.InEpoch.{InEpoch}
 use Rattle.site_packs.specs.Packs.{Stand}
 use Rattle.the_run.specs.Steps.{takes, takes_framed, takes_inside}
 use Rattle.site_tables.proofs.Giving.{gives_none, gives_as}
+use Rattle.std.specs.Prelude.{Result, Ok, Err, IfErr}
+use Rattle.site_parts.specs.declared.fault.NodeFault.{NodeFault}
+use Rattle.site_parts.specs.declared.fault.NodeFault.TheVariants.{NoNumber}
 use Rattle.site_node.specs.Taking.{in_epoch_takes, in_epoch_takes_of, taken}
 use Rattle.site_node.specs.Views.{view_of, Moves}
 use Rattle.site_node.specs.declared.node.SiteNode.{SiteNode}
@@ -78,3 +81,9 @@ outside_written c me from b v e = ap (λ (o : Option InEpoch). (in_epoch_takes_o
 
 pub entered_written : (c : Config) (me from : ℕ) (b : Body) (e : InEpoch) (frame : Frame) (v : SiteView) → ◌≡◌ {A = Option InEpoch} (Some e) v.epoch → frame ≡ frame_in c me v.boot e → (in_epoch_takes c me from b v).written ≡ (takes_inside frame from b v).written
 entered_written c me from b e frame v h f = ap (λ (o : Option InEpoch). (in_epoch_takes_of c me from b o v).written) (sym h) ∙ ap (λ (x : Frame). (takes_inside x from b v).written) (sym f)
+
+-- ---- when no number is left ----
+
+pub never_spent : {T : Type 0} (P : Type 0) (r : Result T NodeFault) → IfErr r (λ f. f ≡ NoNumber → ⊥) → IfErr r (λ f. f ≡ NoNumber → P)
+never_spent P (Ok x) h = tt
+never_spent P (Err f) h = λ is. absurd (h is)

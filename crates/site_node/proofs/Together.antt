@@ -28,10 +28,11 @@ use Rattle.site_packs.specs.Cutting.{IsCut, both_open_on}
 use Rattle.site_packs.specs.Mounting.{AreSound}
 use Rattle.site_packs.specs.Packs.{PacksState, SamePlaces, groups_of}
 use Rattle.store_instances.specs.Writes.{LeavesEver, MayLeave, calls_in}
-use Rattle.site_node.specs.declared.fault.NodeFault.{NodeFault}
-use Rattle.site_node.specs.declared.fault.NodeFault.TheVariants.{NoMemory, Cut}
+use Rattle.site_parts.specs.declared.fault.NodeFault.{NodeFault}
+use Rattle.site_parts.specs.declared.fault.NodeFault.TheVariants.{NoMemory, Cut, NoNumber}
 use Rattle.site_node.specs.Writing.{EventWrites, IsCutIn, replaces}
-use Rattle.site_node.proofs.Causes.{Causes, causes_at, causes_off, causes_then}
+use Rattle.site_parts.proofs.Causes.{Causes, causes_at, causes_off, causes_then}
+use Rattle.site_parts.proofs.Numbers.{memory_numbered}
 
 same_fault : {T : Type 0} (e f : NodeFault) → ◌≡◌ {A = Result T NodeFault} (Err e) (Err f) → e ≡ f
 same_fault e f h = cc
@@ -107,6 +108,12 @@ no_cut size h = cc
 
 handed_cut : (e f : NodeFault) (size : WriteSize) → IsHanded e f → f ≡ Cut size → e ≡ Cut size
 handed_cut e f size h g = ⊎_elim (λ (is : f ≡ e). sym is ∙ g) (λ (is : f ≡ NoMemory). absurd (no_cut size (sym is ∙ g))) h
+
+pub handed_numbered : (e f : NodeFault) → IsHanded e f → (e ≡ NoNumber → ⊥) → f ≡ NoNumber → ⊥
+handed_numbered e f h n g = ⊎_elim (λ (is : f ≡ e). n (sym is ∙ g)) (λ (is : f ≡ NoMemory). memory_numbered (sym is ∙ g)) h
+
+pub handed_spent : (P : Type 0) (e f : NodeFault) → IsHanded e f → (e ≡ NoNumber → P) → f ≡ NoNumber → P
+handed_spent P e f h k g = ⊎_elim (λ (is : f ≡ e). k (sym is ∙ g)) (λ (is : f ≡ NoMemory). absurd (memory_numbered (sym is ∙ g))) h
 
 -- the event hands on what its part has told
 pub cut_told : {T S : Type 0} (w : Option DiskWrite) (p : PacksState) (m n : Moment) (a b before after : Outgoing) (e f : NodeFault) → a.packets ≡ [] → a.records ≡ [] → IsHanded e f → ((size : WriteSize) → f ≡ Cut size → after ≡ behind before b)

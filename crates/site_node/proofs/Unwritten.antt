@@ -26,10 +26,10 @@ use Rattle.role_steps.specs.declared.synchronizing.SyncTable.{SyncTable}
 use Rattle.the_run.specs.Steps.{adopts_in, at_table_of, call_frame, ends_after, ends_event, epoch_id, is_opened_in, starts_mends_of, takes, takes_call, takes_framed, takes_inside, ticks_after, tries_at, whole}
 use Rattle.run_laws.proofs.SyncTells.{on_opened_talks, on_open_talks, on_look_talks, on_report_talks, on_closed_talks, on_have_talks}
 use Rattle.run_laws.proofs.RolesTell.{on_notify_talks, on_page_talks, on_call_talks, on_open_done_talks, on_op_done_talks, on_close_done_talks, on_look_done_talks}
-use Rattle.site_node.specs.Roles.{role_of}
+use Rattle.site_parts.specs.Roles.{role_of}
 use Rattle.site_node.specs.Taking.{is_tried, taken}
-use Rattle.site_node.specs.declared.roles.Role.{Role}
-use Rattle.site_node.specs.declared.roles.Role.TheVariants as role
+use Rattle.site_parts.specs.declared.roles.Role.{Role}
+use Rattle.site_parts.specs.declared.roles.Role.TheVariants as role
 
 abbrev by_case : Bool → Outcome SiteView → Outcome SiteView → Outcome SiteView
 by_case b x y = elim b [

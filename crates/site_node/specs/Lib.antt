@@ -1,9 +1,7 @@
 pub mod Views
 pub mod Roles
-pub mod Framing
 pub mod Taking
 pub mod Adopting
 pub mod Mending
 pub mod Repeats
-pub mod Faults
 pub mod Writing

@@ -1,30 +1,27 @@
 -- What each role of a site takes of the packets of its epoch.
 use Rattle.std.specs.Prelude.{ℕ, List, [], Option}
 use Rattle.locus_ids.specs.declared.ids.FileId.{FileId}
-use Rattle.locus_ids.specs.declared.ids.Serial.{Serial}
 use Rattle.locus_ids.specs.declared.ids.Stamp.{Stamp}
 use Rattle.wire_messages.specs.declared.body.Body.{Body}
 use Rattle.wire_messages.specs.declared.body.Granted.{Granted}
 use Rattle.wire_messages.specs.declared.body.Body.TheVariants as body
-use Rattle.trace_book.specs.declared.operation.Op.{Op}
 use Rattle.role_steps.specs.Tables.{without_row}
-use Rattle.role_steps.specs.Views.{Frame, Store, Users, SiteView, Outcome, quiet, within}
-use Rattle.role_steps.specs.Storage.{copy_of, instance_of, on_open_ss, on_close, on_closed_ok, on_look_ss, on_pull}
-use Rattle.role_steps.specs.Operations.{on_op}
-use Rattle.role_steps.specs.OperationEffects.{Mending}
+use Rattle.role_steps.specs.Views.{Frame, Users, SiteView, Outcome, quiet, within}
+use Rattle.role_steps.specs.Storage.{copy_of}
 use Rattle.role_steps.specs.Pulling.{on_notify, on_page}
 use Rattle.role_steps.specs.Using.{on_open_done, on_op_done, on_close_done, on_look_done}
 use Rattle.role_steps.specs.Epochs.{with_users}
 use Rattle.role_steps.specs.Adoption.{with_store}
-use Rattle.role_steps.specs.Mends.{mending, kept_stamps}
+use Rattle.role_steps.specs.Mends.{kept_stamps}
 use Rattle.role_steps.specs.declared.copies.FileCopy.{FileCopy}
 use Rattle.role_steps.specs.declared.pulls.Pull.{Pull}
 use Rattle.role_steps.specs.declared.synchronizing.SyncTable.{SyncTable}
-use Rattle.the_run.specs.Steps.{from_user, group_of, with_pulls}
+use Rattle.the_run.specs.Steps.{with_pulls}
 use Rattle.merge_protocol.specs.Parts.{EpochPart}
 use Rattle.site_tables.specs.Tables.{tables_take}
-use Rattle.site_node.specs.declared.roles.Role.{Role}
-use Rattle.site_node.specs.declared.roles.Role.TheVariants as role
+use Rattle.site_parts.specs.Roles.{mending_by, store_take}
+use Rattle.site_parts.specs.declared.roles.Role.{Role}
+use Rattle.site_parts.specs.declared.roles.Role.TheVariants as role
 
 -- ---- what a role takes ----
 
@@ -34,21 +31,6 @@ users_take f all (body.OpDone serial n result) u = on_op_done f serial n result 
 users_take f all (body.CloseDone serial answer) u = on_close_done f serial answer u
 users_take f all (body.LookDone call request take answer) u = on_look_done f call request take answer u
 users_take f all _ u = quiet u
-
--- the mend that an operation on this instance works for
-abbrev pub mending_at : SiteView → Serial → Mending
-mending_at v inst = mending v (group_of (instance_of v.store inst))
-
-abbrev pub store_take : Frame → (Serial → Mending) → ℕ → Body → Store → Outcome Store
-store_take f m from (body.OpenSs inst file mode set kind base vector parents) s =
-    on_open_ss f (record { inst = inst; file = file; mode = mode; set = set; kind = kind; base = base; vector = vector; parents = parents }) s
-store_take f m from (body.Op serial n o seen) s = on_op f (m (from_user from serial)) (from_user from serial) n o seen s
-store_take f m from (body.Close serial) s = on_close f (from_user from serial) s
-store_take f m from (body.ClosedOk inst) s = on_closed_ok f inst s
-store_take f m from (body.LookSs us call process request take file what serve) s =
-    on_look_ss f us (record { call = call; process = process; request = request; take = take; file = file; what = what }) serve s
-store_take f m from (body.Pull file stamp page) s = on_pull f from file stamp page s
-store_take f m from _ s = quiet s
 
 abbrev pub pulls_take : Frame → (FileId → Option FileCopy) → ℕ → Body → List Pull → Outcome (List Pull)
 pulls_take f own from (body.Notify file kind set size stamp vector holder) pulls =
@@ -62,34 +44,12 @@ without_report _ v = v
 
 -- ---- by role ----
 
-abbrev pub role_of : Body → Role
-role_of (body.Report group copies) = role.Tables
-role_of (body.ReportOk group) = role.Epochs
-role_of (body.Open serial call process request file how) = role.Tables
-role_of (body.OpenSs inst file mode set kind base vector parents) = role.Store
-role_of (body.Opened inst answer) = role.Tables
-role_of (body.OpenDone serial answer) = role.Users
-role_of (body.Op serial n o seen) = role.Store
-role_of (body.OpDone serial n result) = role.Users
-role_of (body.Close serial) = role.Store
-role_of (body.Closed inst made) = role.Tables
-role_of (body.ClosedOk inst) = role.Store
-role_of (body.CloseDone serial answer) = role.Users
-role_of (body.Look call process request take file what) = role.Tables
-role_of (body.LookSs us call process request take file what serve) = role.Store
-role_of (body.LookDone call request take answer) = role.Users
-role_of (body.Notify file kind set size stamp vector holder) = role.Pulls
-role_of (body.Pull file stamp page) = role.Store
-role_of (body.Page file stamp page bytes) = role.Pulls
-role_of (body.Have file stamp) = role.Tables
-role_of _ = role.Nobody
-
 abbrev pub with_tables : SiteView → List SyncTable → SiteView
 with_tables v ts = record v { tables = ts }
 
 abbrev pub role_takes : Role → Frame → ℕ → Body → SiteView → Outcome SiteView
 role_takes role.Tables f from b v = within (with_tables v) (tables_take f from b v.tables)
-role_takes role.Store f from b v = within (with_store v) (store_take f (mending_at v) from b v.store)
+role_takes role.Store f from b v = within (with_store v) (store_take f (mending_by v.tables v.users v.store) from b v.store)
 role_takes role.Users f from b v = within (with_users v) (users_take f (kept_stamps v) b v.users)
 role_takes role.Pulls f from b v = within (with_pulls v) (pulls_take f (copy_of v.store) from b v.pulls)
 role_takes role.Epochs f from b v = quiet (without_report b v)
@@ -98,10 +58,6 @@ role_takes role.Nobody f from b v = quiet v
 -- an answer to an open
 abbrev pub opened_at : Frame → ℕ → Granted → SiteView → Outcome SiteView
 opened_at f serial answer v = within (with_users v) (on_open_done f (kept_stamps v) serial answer v.users)
-
--- an operation on an instance
-abbrev pub operated : Frame → Serial → ℕ → Op → List ℕ → SiteView → Outcome SiteView
-operated f inst n o seen v = within (with_store v) (on_op f (mending_at v inst) inst n o seen v.store)
 
 -- the site's place in its epoch, once a report is answered
 abbrev pub answered : Body → EpochPart → EpochPart

@@ -1,5 +1,5 @@
 -- A packet that the frame lets through, and one of the epoch that the site is in.
-use Rattle.std.specs.Prelude.{ℕ, Bool, true, false, Option, None, Some}
+use Rattle.std.specs.Prelude.{◌≡◌, ℕ, Bool, true, false, Option, None, Some}
 use Rattle.locus_ids.specs.declared.sites.Links.{Links}
 use Rattle.locus_ids.specs.declared.config.Config.{Config}
 use Rattle.wire_messages.specs.declared.packet.Packet.{Packet}
@@ -25,3 +25,8 @@ abbrev pub is_tried : Body → Bool
 is_tried (body.Notify file kind set size stamp vector holder) = true
 is_tried (body.Page file stamp page bytes) = true
 is_tried _ = false
+
+-- it refuses for an id of the greatest number
+abbrev pub IsSpent : Body → Type 0
+IsSpent (body.Refuse promised) = promised.number ≡ 4294967295
+IsSpent _ = ⊥

@@ -1,5 +1,5 @@
 // An adoption is tried.
-ghost use Rattle.std.specs.Prelude.{◌≡◌, true, OnOk};
+ghost use Rattle.std.specs.Prelude.{◌≡◌, ◌≢◌, true, IfErr, OnOk};
 ghost use Rattle.site_packs.specs.Packs.{Stand};
 ghost use Rattle.the_run.specs.Steps.{adopts_in, tries_at};
 ghost use Rattle.role_steps.specs.Pulling.{is_complete};
@@ -7,13 +7,14 @@ ghost use Rattle.site_node.specs.Views.{Moves, view_of};
 ghost use Rattle.site_node.specs.Writing.{EventWrites};
 ghost use Rattle.site_node.specs.Adopting.{adopted_now};
 ghost use Rattle.site_node.specs.Taking.{is_tried};
+ghost use Rattle.site_parts.specs.declared.fault.NodeFault.TheVariants.{NoNumber};
 ghost use Rattle.wire_messages.specs.declared.body.Body.{Body};
 
-use crate::framing::enter;
-use crate::{NodeFault, SiteNode};
+use crate::SiteNode;
 use disk_model::Disk;
 use role_steps::Pull;
 use site_packs::NewVersion;
+use site_parts::{NodeFault, enter};
 use site_tables::notes_own;
 use trace_book::Record;
 use wire_messages::{Body, Outbox};
@@ -29,6 +30,7 @@ impl SiteNode {
         requires { Stand self.old.packs (D.moment disk.old) }
         ensures step { (body : Body) → tries ≡ is_tried body → OnOk result (Moves (tries_at self.old.frame.config self.old.frame.me body) self.old (D.moment disk.old) self.new (D.moment disk.new) out.old out.new) }
         ensures disk { (body : Body) → tries ≡ is_tried body → EventWrites (tries_at self.old.frame.config self.old.frame.me body (view_of self.old (D.moment disk.old).seen)).written self.old.packs (D.moment disk.old) (D.moment disk.new) out.old out.new result }
+        ensures numbered { IfErr result (λ fault. fault ≢ NoNumber) }
     {
         if !tries {
             return Ok(());
@@ -41,6 +43,7 @@ impl SiteNode {
         requires { Stand self.old.packs (D.moment disk.old) }
         ensures step { OnOk result (Moves (adopts_in self.old.frame.config self.old.frame.me) self.old (D.moment disk.old) self.new (D.moment disk.new) out.old out.new) }
         ensures disk { EventWrites (adopts_in self.old.frame.config self.old.frame.me (view_of self.old (D.moment disk.old).seen)).written self.old.packs (D.moment disk.old) (D.moment disk.new) out.old out.new result }
+        ensures numbered { IfErr result (λ fault. fault ≢ NoNumber) }
     {
         let Some(epoch) = self.epochs.epoch() else {
             return Ok(());
@@ -62,6 +65,7 @@ impl SiteNode {
         requires { Stand self.old.packs (D.moment disk.old) }
         ensures step { OnOk result (Moves (adopted_now self.old.frame pull.now) self.old (D.moment disk.old) self.new (D.moment disk.new) out.old out.new) }
         ensures disk { is_complete pull.now ≡ true → EventWrites (adopted_now self.old.frame pull.now (view_of self.old (D.moment disk.old).seen)).written self.old.packs (D.moment disk.old) (D.moment disk.new) out.old out.new result }
+        ensures numbered { IfErr result (λ fault. fault ≢ NoNumber) }
     {
         let me = self.site();
         let file = pull.file;

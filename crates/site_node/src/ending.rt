@@ -1,17 +1,17 @@
 // How an event ends.
-ghost use Rattle.std.specs.Prelude.{◌≡◌, None, OnOk, IfErr};
+ghost use Rattle.std.specs.Prelude.{◌≡◌, ◌≢◌, None, IfErr, OnOk};
 ghost use Rattle.site_packs.specs.Packs.{Stand};
 ghost use Rattle.the_run.specs.Steps.{ends_event};
 ghost use Rattle.site_node.specs.Views.{Moves};
 ghost use Rattle.site_node.specs.Mending.{mends_at};
 ghost use Rattle.site_node.specs.Writing.{EventWrites};
-ghost use Rattle.site_node.specs.declared.fault.NodeFault.TheVariants.{NoNumber};
+ghost use Rattle.site_parts.specs.declared.fault.NodeFault.TheVariants.{NoNumber};
 
-use crate::framing::enter;
-use crate::{NodeFault, SiteNode};
+use crate::SiteNode;
 use disk_model::Disk;
 use locus_ids::Links;
 use site_mends::start_mends;
+use site_parts::{NodeFault, enter};
 use wire_messages::Outbox;
 
 impl SiteNode {
@@ -25,7 +25,7 @@ impl SiteNode {
         requires { Stand self.old.packs (D.moment disk.old) }
         ensures step { OnOk result (Moves (ends_event self.old.frame.config self.old.frame.me links.now) self.old (D.moment disk.old) self.new (D.moment disk.new) out.old out.new) }
         ensures disk { EventWrites None self.old.packs (D.moment disk.old) (D.moment disk.new) out.old out.new result }
-        ensures numbered { IfErr result (λ fault. fault ≡ NoNumber → ⊥) }
+        ensures numbered { IfErr result (λ fault. fault ≢ NoNumber) }
     {
         self.pass_over(links, out)?;
         self.start_mends(disk, out)
@@ -36,7 +36,7 @@ impl SiteNode {
         requires { Stand self.old.packs (D.moment disk.old) }
         ensures step { OnOk result (Moves (mends_at self.old.frame.config self.old.frame.me) self.old (D.moment disk.old) self.new (D.moment disk.new) out.old out.new) }
         ensures disk { EventWrites None self.old.packs (D.moment disk.old) (D.moment disk.new) out.old out.new result }
-        ensures numbered { IfErr result (λ fault. fault ≡ NoNumber → ⊥) }
+        ensures numbered { IfErr result (λ fault. fault ≢ NoNumber) }
     {
         let Some(epoch) = self.epochs.epoch() else {
             return Ok(());

@@ -1,18 +1,19 @@
 // The events of a site. Each is the run's step.
-ghost use Rattle.std.specs.Prelude.{◌≡◌, ◌⊎◌, OnOk, IfErr};
+ghost use Rattle.std.specs.Prelude.{◌≡◌, ◌≢◌, ◌⊎◌, IfErr, OnOk};
 ghost use Rattle.role_steps.specs.Views.{Calls, Receives, Ticks, Parts, Merges, GivesUp};
 ghost use Rattle.site_packs.specs.Packs.{Stand};
 ghost use Rattle.site_packs.specs.declared.faults.WriteSize.{WriteSize};
 ghost use Rattle.packet_order.specs.Orders.{behind};
 ghost use Rattle.site_node.specs.Views.{Moves, steps_at, view_of};
 ghost use Rattle.site_node.specs.Writing.{EventWrites};
-ghost use Rattle.site_node.specs.declared.fault.NodeFault.TheVariants.{Cut, NoMemory, NoNumber};
-ghost use Rattle.site_node.specs.Taking.{is_tried};
+ghost use Rattle.site_parts.specs.declared.fault.NodeFault.TheVariants.{Cut, NoMemory, NoNumber};
+ghost use Rattle.site_node.specs.Taking.{IsSpent, is_tried};
 
-use crate::{NodeFault, SiteNode};
+use crate::SiteNode;
 use disk_model::Disk;
 use locus_ids::Links;
 use packet_order::Dispatch;
+use site_parts::NodeFault;
 use trace_book::Call;
 use wire_messages::{Body, Outbox, Packet};
 
@@ -29,6 +30,7 @@ impl SiteNode {
         requires { Stand self.old.packs (D.moment disk.old) }
         ensures step { OnOk result (Moves (steps_at self.old links.now (Calls process words)) self.old (D.moment disk.old) self.new (D.moment disk.new) out.old out.new) }
         ensures disk { EventWrites (steps_at self.old links.now (Calls process words) (view_of self.old (D.moment disk.old).seen)).written self.old.packs (D.moment disk.old) (D.moment disk.new) out.old out.new result }
+        ensures numbered { IfErr result (λ fault. fault ≢ NoNumber) }
     {
         let mut own = Outbox::new(self.alloc);
         self.take_call(process, words, &mut own)?;
@@ -48,6 +50,7 @@ impl SiteNode {
         requires { Stand self.old.packs (D.moment disk.old) }
         ensures step { OnOk result (Moves (steps_at self.old links.now (Receives packet)) self.old (D.moment disk.old) self.new (D.moment disk.new) out.old out.new) }
         ensures disk { EventWrites (steps_at self.old links.now (Receives packet) (view_of self.old (D.moment disk.old).seen)).written self.old.packs (D.moment disk.old) (D.moment disk.new) out.old out.new result }
+        ensures spent { IfErr result (λ fault. fault ≡ NoNumber → IsSpent packet.body) }
     {
         if self.is_dropped(&packet) {
             return Ok(());
@@ -77,6 +80,7 @@ impl SiteNode {
         requires { Stand self.old.packs (D.moment disk.old) }
         ensures step { OnOk result (Moves (steps_at self.old links.now Ticks) self.old (D.moment disk.old) self.new (D.moment disk.new) out.old out.new) }
         ensures disk { EventWrites (steps_at self.old links.now Ticks (view_of self.old (D.moment disk.old).seen)).written self.old.packs (D.moment disk.old) (D.moment disk.new) out.old out.new result }
+        ensures numbered { IfErr result (λ fault. fault ≢ NoNumber) }
     {
         let mut adopted = Outbox::new(self.alloc);
         if let Err(fault) = self.adopt(disk, &mut adopted) {
@@ -138,6 +142,7 @@ impl SiteNode {
         requires { Stand self.old.packs (D.moment disk.old) }
         ensures step { OnOk result (Moves (steps_at self.old links.now GivesUp) self.old (D.moment disk.old) self.new (D.moment disk.new) out.old out.new) }
         ensures disk { EventWrites (steps_at self.old links.now GivesUp (view_of self.old (D.moment disk.old).seen)).written self.old.packs (D.moment disk.old) (D.moment disk.new) out.old out.new result }
+        ensures numbered { IfErr result (λ fault. fault ≢ NoNumber) }
     {
         let mut own = Outbox::new(self.alloc);
         self.leave(&mut own)?;

@@ -1,16 +1,17 @@
 // A packet of the site's epoch, by the role that takes it.
-ghost use Rattle.std.specs.Prelude.{◌≡◌, OnOk};
+ghost use Rattle.std.specs.Prelude.{◌≡◌, ◌≢◌, IfErr, OnOk};
 ghost use Rattle.site_packs.specs.Packs.{Stand};
 ghost use Rattle.the_run.specs.Steps.{takes_inside};
 ghost use Rattle.site_node.specs.Views.{Moves, Works, view_of};
 ghost use Rattle.site_node.specs.Writing.{EventWrites};
 ghost use Rattle.site_node.specs.Roles.{answered, role_takes};
-ghost use Rattle.site_node.specs.declared.roles.Role.TheVariants as role;
+ghost use Rattle.site_parts.specs.declared.fault.NodeFault.TheVariants.{NoNumber};
+ghost use Rattle.site_parts.specs.declared.roles.Role.TheVariants as role;
 
-use crate::roles::{Role, role_of};
-use crate::{NodeFault, SiteNode};
+use crate::SiteNode;
 use disk_model::Disk;
 use locus_ids::{NoMemory, SiteId};
+use site_parts::{NodeFault, Role, role_of, take_at_store};
 use site_tables::take;
 use wire_messages::{Body, Outbox};
 
@@ -26,6 +27,7 @@ impl SiteNode {
         requires { Stand self.old.packs (D.moment disk.old) }
         ensures step { OnOk result (Moves (takes_inside self.old.frame from body) self.old (D.moment disk.old) self.new (D.moment disk.new) out.old out.new) }
         ensures disk { EventWrites (takes_inside self.old.frame from body (view_of self.old (D.moment disk.old).seen)).written self.old.packs (D.moment disk.old) (D.moment disk.new) out.old out.new result }
+        ensures numbered { IfErr result (λ fault. fault ≢ NoNumber) }
     {
         match role_of(&body) {
             Role::Tables => {
@@ -55,6 +57,33 @@ impl SiteNode {
     {
         take(&mut self.tables, &self.frame, from, body, out)?;
         Ok(())
+    }
+
+    /// Takes what a member sent, where it is for the storage site.
+    fn take_at_store<D: Disk>(
+        &mut self,
+        disk: &mut D,
+        from: SiteId,
+        body: Body,
+        out: &mut Outbox,
+    ) -> Result<(), NodeFault>
+        requires { Stand self.old.packs (D.moment disk.old) }
+        ensures step { OnOk result (Moves (role_takes role.Store self.old.frame from body) self.old (D.moment disk.old) self.new (D.moment disk.new) out.old out.new) }
+        ensures disk { EventWrites (role_takes role.Store self.old.frame from body (view_of self.old (D.moment disk.old).seen)).written self.old.packs (D.moment disk.old) (D.moment disk.new) out.old out.new result }
+        ensures numbered { IfErr result (λ fault. fault ≢ NoNumber) }
+    {
+        take_at_store(
+            self.alloc,
+            &mut self.store,
+            &mut self.packs,
+            &self.frame,
+            &self.tables,
+            &self.users,
+            disk,
+            from,
+            body,
+            out,
+        )
     }
 
     /// A report of this site is answered.

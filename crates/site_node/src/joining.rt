@@ -1,23 +1,15 @@
 // What the site does where it joins an epoch.
-ghost use Rattle.std.specs.Prelude.{◌≡◌, ◌++◌, ℕ, List, [], ◌∷◌, OnOk};
-ghost use Rattle.std.specs.List.{flat_map};
-ghost use Rattle.role_steps.specs.Views.{SiteView};
-ghost use Rattle.role_steps.specs.Epochs.{all_reports, decides, joined_view, joins, passes_over, report_packets};
-ghost use Rattle.merge_protocol.specs.Parts.{alone, epoch_part};
-ghost use Rattle.trace_book.specs.declared.record.Record.TheVariants as Record;
-ghost use Rattle.site_packs.specs.Copies.{copies_on};
-ghost use Rattle.site_packs.specs.Packs.{AreShown, groups_of};
+ghost use Rattle.std.specs.Prelude.{◌≡◌, ◌++◌, ℕ, List, OnOk};
+ghost use Rattle.role_steps.specs.Epochs.{all_reports, decides, joins, passes_over};
+ghost use Rattle.site_packs.specs.Packs.{AreShown};
 ghost use Rattle.site_node.specs.Views.{Works, view_of};
 
 use crate::SiteNode;
-use crate::framing::enter;
 use locus_ids::{Links, NoMemory};
-use merge_protocol::{EpochState, passing_by_parts};
+use merge_protocol::passing_by_parts;
 use role_steps::InEpoch;
-use site_frame::SiteFrame;
-use site_packs::SitePacks;
+use site_parts::{enter, join_epoch, report_groups};
 use site_tables::start_tables;
-use storage_site::Store;
 use wire_messages::Outbox;
 
 impl SiteNode {
@@ -72,36 +64,4 @@ impl SiteNode {
         )?;
         Ok(())
     }
-}
-
-/// The site is in the epoch, as far as its place in epochs goes.
-fn join_epoch(
-    epochs: &mut EpochState,
-    frame: &SiteFrame,
-    epoch: InEpoch,
-    out: &mut Outbox,
-) -> Result<(), NoMemory>
-    ensures view { OnOk result (epochs.new ≡ epoch_part (joined_view frame.now.config frame.now.me epoch.id epoch.members (alone epochs.old))) }
-    ensures packets { OnOk result (out.new.packets ≡ out.old.packets) }
-    ensures records { OnOk result (out.new.records ≡ out.old.records ++ Record.Join frame.now.me epoch.id epoch.members ∷ []) }
-{
-    epochs.join(&frame.config, frame.me, epoch, out)?;
-    Ok(())
-}
-
-/// Each pack of these groups is reported.
-fn report_groups(
-    groups: &[u8],
-    store: &Store,
-    packs: &SitePacks,
-    frame: &SiteFrame,
-    out: &mut Outbox,
-) -> Result<(), NoMemory>
-    ensures packets { OnOk result ((v : SiteView) (image : List ℕ) → AreShown packs.now.packs image → v.store.copies ≡ copies_on (groups_of packs.now) image → out.new.packets ≡ out.old.packets ++ flat_map (report_packets frame.now v) groups.now) }
-    ensures records { OnOk result (out.new.records ≡ out.old.records) }
-{
-    for group in groups {
-        store.report(frame, packs, *group, out)?;
-    }
-    Ok(())
 }

@@ -3,15 +3,16 @@ ghost use Rattle.std.specs.Prelude.{◌≡◌, ℕ, List, IfErr, OnOk};
 ghost use Rattle.propagation.specs.Sized.{head_of};
 ghost use Rattle.site_packs.specs.Packs.{AreShown, copy_at};
 ghost use Rattle.site_node.specs.Views.{Works};
-ghost use Rattle.site_node.specs.Faults.{IsOffDisk};
+ghost use Rattle.site_parts.specs.Faults.{IsOwn};
 ghost use Rattle.site_node.specs.Roles.{role_takes};
-ghost use Rattle.site_node.specs.declared.roles.Role.TheVariants as role;
+ghost use Rattle.site_parts.specs.declared.roles.Role.TheVariants as role;
 
-use crate::{NodeFault, SiteNode};
+use crate::SiteNode;
 use locus_ids::sizes::MAX_BYTES;
 use locus_ids::{Bytes, FileId, SiteId};
 use propagation::CopyHead;
 use role_steps::Pull;
+use site_parts::NodeFault;
 use wire_messages::{Body, Outbox};
 
 impl SiteNode {
@@ -24,14 +25,14 @@ impl SiteNode {
         out: &mut Outbox,
     ) -> Result<(), NodeFault>
         ensures works { OnOk result (Works (role_takes role.Pulls self.old.frame from body) self.old self.new out.old out.new) }
-        ensures off_disk { IfErr result IsOffDisk }
+        ensures own { IfErr result IsOwn }
     {
         self.take_pulled(from, &body, out)
     }
 
     fn take_pulled(&mut self, from: SiteId, body: &Body, out: &mut Outbox) -> Result<(), NodeFault>
         ensures works { OnOk result (Works (role_takes role.Pulls self.old.frame from body.now) self.old self.new out.old out.new) }
-        ensures off_disk { IfErr result IsOffDisk }
+        ensures own { IfErr result IsOwn }
     {
         match body {
             Body::Notify {

@@ -1,15 +1,16 @@
 // A packet that the site's frame lets through.
-ghost use Rattle.std.specs.Prelude.{◌≡◌, OnOk};
+ghost use Rattle.std.specs.Prelude.{◌≡◌, ◌≢◌, IfErr, OnOk};
 ghost use Rattle.site_packs.specs.Packs.{Stand};
 ghost use Rattle.site_node.specs.Views.{Moves, view_of};
-ghost use Rattle.site_node.specs.Taking.{in_epoch_takes, taken};
+ghost use Rattle.site_node.specs.Taking.{IsSpent, in_epoch_takes, taken};
 ghost use Rattle.site_node.specs.Writing.{EventWrites};
+ghost use Rattle.site_parts.specs.declared.fault.NodeFault.TheVariants.{NoNumber};
 
-use crate::framing::enter;
-use crate::{NodeFault, SiteNode};
+use crate::SiteNode;
 use disk_model::Disk;
 use locus_ids::{Links, SiteId};
 use merge_protocol::FormingHeader;
+use site_parts::{NodeFault, enter};
 use wire_messages::{Body, Outbox, Packet};
 
 impl SiteNode {
@@ -24,6 +25,7 @@ impl SiteNode {
         requires { Stand self.old.packs (D.moment disk.old) }
         ensures step { OnOk result (Moves (taken self.old.frame.config self.old.frame.me links.now packet) self.old (D.moment disk.old) self.new (D.moment disk.new) out.old out.new) }
         ensures disk { EventWrites (taken self.old.frame.config self.old.frame.me links.now packet (view_of self.old (D.moment disk.old).seen)).written self.old.packs (D.moment disk.old) (D.moment disk.new) out.old out.new result }
+        ensures spent { IfErr result (λ fault. fault ≡ NoNumber → IsSpent packet.body) }
     {
         let from = packet.from;
         let header = FormingHeader {
@@ -67,6 +69,7 @@ impl SiteNode {
         requires { Stand self.old.packs (D.moment disk.old) }
         ensures step { OnOk result (Moves (in_epoch_takes self.old.frame.config self.old.frame.me from body) self.old (D.moment disk.old) self.new (D.moment disk.new) out.old out.new) }
         ensures disk { EventWrites (in_epoch_takes self.old.frame.config self.old.frame.me from body (view_of self.old (D.moment disk.old).seen)).written self.old.packs (D.moment disk.old) (D.moment disk.new) out.old out.new result }
+        ensures numbered { IfErr result (λ fault. fault ≢ NoNumber) }
     {
         let Some(epoch) = self.epochs.epoch() else {
             return Ok(());

@@ -13,10 +13,10 @@ ghost use Rattle.site_node.specs.Views.{view_of};
 ghost use Rattle.site_node.specs.Repeats.{Adds, Repeats, forming_repeats, installs_again};
 
 use crate::SiteNode;
-use crate::framing::enter;
 use locus_ids::NoMemory;
 use packet_order::{Dispatch, OrderFault};
 use role_steps::InEpoch;
+use site_parts::enter;
 use site_tables::repeat_notices;
 use wire_messages::Outbox;
 

@@ -3,14 +3,14 @@ ghost use Rattle.std.specs.Prelude.{◌≡◌, ℕ, List, IfOk, OnOk};
 ghost use Rattle.role_steps.specs.Mends.{kept_stamps};
 ghost use Rattle.role_steps.specs.Using.{kept_for};
 ghost use Rattle.the_run.specs.Steps.{epoch_id, takes_call};
-ghost use Rattle.site_node.specs.Framing.{calling};
+ghost use Rattle.site_parts.specs.Framing.{calling};
 ghost use Rattle.site_node.specs.Views.{Works, view_of};
 ghost use Rattle.site_node.specs.Roles.{opened_at, role_takes};
-ghost use Rattle.site_node.specs.declared.roles.Role.TheVariants as role;
+ghost use Rattle.site_parts.specs.declared.roles.Role.TheVariants as role;
 
 use crate::SiteNode;
-use crate::framing::{enter, stay_outside};
 use locus_ids::{EpochId, FileId, NoMemory, SiteId, Stamps};
+use site_parts::{enter, stay_outside};
 use site_tables::stamps_kept;
 use trace_book::Call;
 use wire_messages::{Body, Granted, Outbox};

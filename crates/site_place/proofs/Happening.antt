@@ -17,8 +17,8 @@ use Rattle.site_packs.specs.declared.faults.WriteSize.{WriteSize}
 use Rattle.site_packs.specs.Packs.{groups_at}
 use Rattle.store_instances.specs.Writes.{calls_in}
 use Rattle.site_disk.specs.Run.{as_cut, disk_on}
-use Rattle.site_node.specs.declared.fault.NodeFault.{NodeFault}
-use Rattle.site_node.specs.declared.fault.NodeFault.TheVariants.{Cut}
+use Rattle.site_parts.specs.declared.fault.NodeFault.{NodeFault}
+use Rattle.site_parts.specs.declared.fault.NodeFault.TheVariants.{Cut}
 use Rattle.site_node.specs.declared.node.SiteNode.{SiteNode}
 use Rattle.site_node.specs.Views.{view_of, Moves, steps_at}
 use Rattle.site_node.specs.Writing.{EventWrites}

@@ -47,7 +47,7 @@ pub returns-clause-same : goal.returns-clause-same
 returns-clause-same g c one known =
     let inv = c.self.invariant in
     let w = (g.C.NewContent.working c.args.content.now) in
-    let row = c.row-row.result in
+    let row = c.args.row in
     let pass = c.row_to_pass-passed.result in
     let at = copy_at c.self.inside.copies.items c.self.inside.uses.items c.self.inside.free inv.0 inv.1 c.args.ino c.from.result c.index-old.result.now (low_of c.get.result c.args.ino c.get.ensures.value c.get.ensures.low) (high_of c.get.result c.args.ino c.get.ensures.value c.get.ensures.high) (c.from.ensures ∙ c.get.ensures.value) c.index-old.ensures in
     let held = at ∙ subst (λ (p : PackState). copy_of p.copies c.args.ino ≡ Some one) (sym c.self.view_is) known in
@@ -56,4 +56,4 @@ returns-clause-same g c one known =
     let slot = (copy_is c.self.inside.copies.items c.args.ino one inv.0 (sym at ∙ held)).slot in
     let end = c.page_count.ensures.pages ∙ ap pages_of c.size.ensures.value in
     let covers = subst (λ (n : ℕ). ((pass.first ≡ 0) × (pass.stop ≡ 64)) ⊎ ((pass.first ≡ row.first) × (pass.stop ≡ row.stop) × (pages_of one.slot.size ≤ n))) end (c.row_to_pass-passed.ensures.covers one held) in
-    same_but_for unused one w c.next_copy-made.result.slot.pages row.first row.stop pass.first pass.stop slot takes c.row-row.ensures.changed covers
+    same_but_for unused one w c.next_copy-made.result.slot.pages row.first row.stop pass.first pass.stop slot takes c.requires.changed covers

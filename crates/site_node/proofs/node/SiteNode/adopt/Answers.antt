@@ -3,7 +3,7 @@ use Rattle.the_run.specs.Steps.{adopts_in}
 use Rattle.site_node.specs.Adopting.{adopted_now}
 use Rattle.site_node.specs.Views.{Moves, view_of}
 use Rattle.site_node.proofs.Adoptions.{adopted_none, adopted_some, adopted_written, adopts_outside, chosen_complete, none_written, outside_written}
-use Rattle.site_node.proofs.Cuts.{untouched}
+use Rattle.site_parts.proofs.Cuts.{untouched}
 use Rattle.site_node.proofs.Starts.{entered_frame}
 use Rattle.site_node.proofs.node.SiteNode.adopt.Goals as goal
 

@@ -1,10 +1,11 @@
-use Rattle.std.proofs.Common.{ℕ, ◌++◌, ◌∷◌, [], ap, ◌∙◌}
+use Rattle.std.proofs.Common.{ℕ, ◌++◌, ◌∷◌, [], ap, ◌∙◌, ◌≢◌}
 use Rattle.trace_book.specs.declared.record.Record.TheVariants as says
-use Rattle.wire_messages.specs.Outboxes.{Outgoing}
 use Rattle.site_tables.specs.Tables.{noting_own}
-use Rattle.site_node.specs.declared.fault.NodeFault.TheVariants.{NoMemory}
+use Rattle.site_parts.specs.declared.fault.NodeFault.TheVariants.{NoMemory, NoNumber}
 use Rattle.site_node.proofs.Adoptions.{adopted_moves}
-use Rattle.site_node.proofs.Cuts.{failed_still, pull_err, pull_failed, pull_ok, unread_adopt}
+use Rattle.site_parts.proofs.Cuts.{failed_still, pull_err, pull_failed, pull_ok, unread_adopt}
+use Rattle.site_parts.specs.Faults.{fault_of_commit}
+use Rattle.site_parts.proofs.Numbers.{commit_numbered, if_err, memory_numbered}
 use Rattle.site_node.proofs.node.SiteNode.adopt_pull.Goals as goal
 
 pub returns-clause-step : goal.returns-clause-step
@@ -26,3 +27,15 @@ returns-in_err-notes_own-clause-disk g c = λ full. pull_failed c.args.self.now.
 
 pub returns-in_err-send_to_sync-clause-disk : goal.returns-in_err-send_to_sync-clause-disk
 returns-in_err-send_to_sync-clause-disk g c = λ full. pull_failed c.args.self.now.frame c.args.pull.now c.as_slice.result.now c.as_slice.ensures c.args.self.now.packs (g.D.Disk.moment c.args.disk.now) (g.D.Disk.moment c.adopt.new.disk) c.args.out.now c.send_to_sync.new.out full c.adopt.ensures.any_moment c.adopt.ensures.how c.from_residual-in_err-send_to_sync.result NoMemory c.from_residual-in_err-send_to_sync.ensures.1 tt c.in_ok-adopt.ensures.cause.later
+
+pub returns-in_err-note-clause-numbered : goal.returns-in_err-note-clause-numbered
+returns-in_err-note-clause-numbered g c = if_err c.from_residual.result NoMemory (λ f. f ≢ NoNumber) c.from_residual.ensures.1 memory_numbered
+
+pub returns-in_err-adopt-clause-numbered : goal.returns-in_err-adopt-clause-numbered
+returns-in_err-adopt-clause-numbered g c = if_err c.from_residual-in_err-adopt.result (fault_of_commit c.in_err-adopt.field-0.0) (λ f. f ≢ NoNumber) c.from_residual-in_err-adopt.ensures.1 (commit_numbered c.in_err-adopt.field-0.0)
+
+pub returns-in_err-notes_own-clause-numbered : goal.returns-in_err-notes_own-clause-numbered
+returns-in_err-notes_own-clause-numbered g c = if_err c.from_residual-in_err-notes_own.result NoMemory (λ f. f ≢ NoNumber) c.from_residual-in_err-notes_own.ensures.1 memory_numbered
+
+pub returns-in_err-send_to_sync-clause-numbered : goal.returns-in_err-send_to_sync-clause-numbered
+returns-in_err-send_to_sync-clause-numbered g c = if_err c.from_residual-in_err-send_to_sync.result NoMemory (λ f. f ≢ NoNumber) c.from_residual-in_err-send_to_sync.ensures.1 memory_numbered

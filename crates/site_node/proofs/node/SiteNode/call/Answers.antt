@@ -1,11 +1,13 @@
+use Rattle.std.proofs.Common.{◌≢◌}
 use Rattle.the_run.specs.Steps.{ends_event, takes_call}
-use Rattle.site_node.specs.Faults.{fault_of_order}
+use Rattle.site_parts.specs.Faults.{fault_of_order}
 use Rattle.site_node.specs.Views.{view_of}
-use Rattle.site_node.specs.declared.fault.NodeFault.TheVariants.{NoMemory}
-use Rattle.site_node.proofs.Cuts.{ended_ill, ended_late, ended_well, failed_still, order_off}
+use Rattle.site_parts.specs.declared.fault.NodeFault.TheVariants.{NoMemory, NoNumber}
+use Rattle.site_parts.proofs.Cuts.{ended_ill, ended_late, ended_well, failed_still, order_off}
 use Rattle.site_node.proofs.Unwritten.{call_step}
 use Rattle.site_node.proofs.Endings.{event_alone}
 use Rattle.site_node.proofs.Moving.{moves_from, moves_work}
+use Rattle.site_parts.proofs.Numbers.{if_err, memory_numbered, order_numbered}
 use Rattle.site_node.proofs.node.SiteNode.call.Goals as goal
 
 pub end_event-requires : goal.end_event-requires
@@ -28,3 +30,12 @@ returns-in_err-end_event-clause-disk g c = ended_ill _ (call_step c.args.self.no
 
 pub returns-in_err-add_in_order-clause-disk : goal.returns-in_err-add_in_order-clause-disk
 returns-in_err-add_in_order-clause-disk g c = ended_late _ (call_step c.args.self.now.frame.config c.args.self.now.frame.me c.args.links.now c.args.process c.args.words (view_of c.args.self.now (g.D.Disk.moment c.args.disk.now).seen)) c.args.self.now.packs c.take_call.new.self.packs (g.D.Disk.moment c.args.disk.now) (g.D.Disk.moment c.end_event.new.disk) c.args.out.now c.add_in_order.new.self c.take_call.new.out c.end_event.new.out {T = Unit {0}} {S = Unit {0}} c.from_residual-in_err-add_in_order.result (fault_of_order c.in_err-add_in_order.field-0.0) tt c.from_residual-in_err-add_in_order.ensures.1 (order_off c.in_err-add_in_order.field-0.0) c.in_ok-end_event.ensures.disk
+
+pub returns-in_err-take_call-clause-numbered : goal.returns-in_err-take_call-clause-numbered
+returns-in_err-take_call-clause-numbered g c = if_err c.from_residual.result NoMemory (λ f. f ≢ NoNumber) c.from_residual.ensures.1 memory_numbered
+
+pub returns-in_err-end_event-clause-numbered : goal.returns-in_err-end_event-clause-numbered
+returns-in_err-end_event-clause-numbered g c = if_err c.from_residual-in_err-end_event.result c.in_err-end_event.field-0.0 (λ f. f ≢ NoNumber) c.from_residual-in_err-end_event.ensures.1 c.in_err-end_event.ensures.numbered
+
+pub returns-in_err-add_in_order-clause-numbered : goal.returns-in_err-add_in_order-clause-numbered
+returns-in_err-add_in_order-clause-numbered g c = if_err c.from_residual-in_err-add_in_order.result (fault_of_order c.in_err-add_in_order.field-0.0) (λ f. f ≢ NoNumber) c.from_residual-in_err-add_in_order.ensures.1 (order_numbered c.in_err-add_in_order.field-0.0)

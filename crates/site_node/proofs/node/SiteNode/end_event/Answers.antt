@@ -3,11 +3,11 @@ use Rattle.role_steps.specs.Epochs.{passes_over}
 use Rattle.the_run.specs.Steps.{ends_event}
 use Rattle.site_node.specs.Mending.{mends_at}
 use Rattle.site_node.specs.Views.{Moves}
-use Rattle.site_node.specs.declared.fault.NodeFault.TheVariants.{NoMemory, NoNumber}
-use Rattle.site_node.proofs.Cuts.{failed_still, none_at}
+use Rattle.site_parts.specs.declared.fault.NodeFault.TheVariants.{NoMemory, NoNumber}
+use Rattle.site_parts.proofs.Cuts.{failed_still, none_at}
 use Rattle.site_node.proofs.Moving.{moves_from, moves_then, moves_work}
 use Rattle.std.proofs.Common.{◌≡◌}
-use Rattle.site_node.proofs.Numbers.{if_err, memory_numbered}
+use Rattle.site_parts.proofs.Numbers.{if_err, memory_numbered}
 use Rattle.site_node.proofs.node.SiteNode.end_event.Goals as goal
 
 pub start_mends-requires : goal.start_mends-requires

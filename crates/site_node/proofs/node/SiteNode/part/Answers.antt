@@ -1,14 +1,14 @@
 use Rattle.role_steps.specs.Epochs.{starts_part}
 use Rattle.the_run.specs.Steps.{ends_event}
-use Rattle.site_node.specs.Faults.{fault_of_epoch, fault_of_order}
+use Rattle.site_parts.specs.Faults.{fault_of_epoch, fault_of_order}
 use Rattle.site_node.specs.Views.{view_of}
-use Rattle.site_node.specs.declared.fault.NodeFault.TheVariants.{NoNumber}
-use Rattle.site_node.proofs.Cuts.{ended_ill, ended_late, ended_well, epoch_off, failed_still, order_off}
+use Rattle.site_parts.specs.declared.fault.NodeFault.TheVariants.{NoNumber}
+use Rattle.site_parts.proofs.Cuts.{ended_ill, ended_late, ended_well, epoch_off, failed_still, order_off}
 use Rattle.site_node.proofs.Unwritten.{part_step}
 use Rattle.site_node.proofs.Endings.{event_alone}
 use Rattle.site_node.proofs.Moving.{moves_from, moves_work}
 use Rattle.std.proofs.Common.{◌≡◌}
-use Rattle.site_node.proofs.Numbers.{if_err, order_numbered, spent_at}
+use Rattle.site_parts.proofs.Numbers.{if_err, order_numbered, spent_at}
 use Rattle.site_node.proofs.node.SiteNode.part.Goals as goal
 
 pub end_event-requires : goal.end_event-requires

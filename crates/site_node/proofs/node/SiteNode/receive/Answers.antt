@@ -1,15 +1,17 @@
-use Rattle.std.proofs.Common.{sym, ◌∙◌}
+use Rattle.std.proofs.Common.{sym, ◌∙◌, ◌≡◌}
 use Rattle.std.specs.Prelude.{Ok, Err}
 use Rattle.role_steps.specs.Views.{Receives}
 use Rattle.the_run.specs.Steps.{tries_at}
-use Rattle.site_node.specs.Faults.{fault_of_order}
-use Rattle.site_node.specs.Taking.{taken}
+use Rattle.site_parts.specs.Faults.{fault_of_order}
+use Rattle.site_node.specs.Taking.{IsSpent, taken}
 use Rattle.site_node.specs.Views.{steps_at, view_of}
-use Rattle.site_node.specs.declared.fault.NodeFault.TheVariants.{NoMemory}
-use Rattle.site_node.proofs.Cuts.{failed_after, handed, order_off, untouched}
+use Rattle.site_parts.specs.declared.fault.NodeFault.TheVariants.{NoMemory, NoNumber}
+use Rattle.site_parts.proofs.Cuts.{failed_after, handed, order_off, untouched}
 use Rattle.site_node.proofs.Received.{dropped_none, receive_failed, received}
 use Rattle.site_node.proofs.Together.{cut_told, then_reads}
 use Rattle.site_node.proofs.Receives.{receives, receives_none}
+use Rattle.site_node.proofs.Together.{handed_numbered, handed_spent}
+use Rattle.site_parts.proofs.Numbers.{if_err, memory_numbered, order_numbered}
 use Rattle.site_node.proofs.node.SiteNode.receive.Goals as goal
 
 pub returns-then-is_dropped-clause-step : goal.returns-then-is_dropped-clause-step
@@ -55,3 +57,18 @@ pub returns-clause-disk : goal.returns-clause-disk
 returns-clause-disk g c = then_reads g.D.Disk.moment g.met.D.Disk.reads_an_image g.met.D.Disk.counts_now {S = Unit {0}} {T = Unit {0}} (steps_at c.args.self.now c.args.links.now (Receives c.args.packet) (view_of c.args.self.now (g.D.Disk.moment c.args.disk.now).seen)).written c.args.self.now.packs c.try_adoption.new.self.packs c.args.disk.now c.try_adoption.new.disk c.end_event.new.disk c.new-adopted.result c.try_adoption.new.out c.take.new.out c.end_event.new.out c.args.out.now c.add_in_order.new.self tt (Ok tt)
     (received g.D.Disk.moment g.met.D.Disk.reads_an_image g.met.D.Disk.counts_now {S = Unit {0}} {T = Unit {0}} c.args.links.now c.args.packet c.args.self.now c.take.new.self c.args.disk.now c.take.new.disk c.try_adoption.new.disk c.new-own.result c.take.new.out c.new-adopted.result c.try_adoption.new.out tt (Ok tt) (sym (c.is_dropped.ensures (g.D.Disk.moment c.args.disk.now).seen) ∙ c.if-is_dropped.false) c.in_default.ensures.step c.in_default.ensures.disk (c.in_default-try_adoption.ensures.disk c.args.packet.body c.tries_at-tries.ensures))
     c.in_ok-end_event.ensures.disk
+
+pub returns-in-Err-clause-spent : goal.returns-in-Err-clause-spent
+returns-in-Err-clause-spent g c = handed_spent (IsSpent c.args.packet.body) c.in-Err.fault c.cut_off.result c.cut_off.ensures.fault c.in-Err.ensures.spent
+
+pub returns-in-Err-try_adoption-clause-spent : goal.returns-in-Err-try_adoption-clause-spent
+returns-in-Err-try_adoption-clause-spent g c = λ h. absurd (handed_numbered c.in-Err-try_adoption.fault c.cut_off-in-Err-try_adoption.result c.cut_off-in-Err-try_adoption.ensures.fault c.in-Err-try_adoption.ensures.numbered h)
+
+pub returns-in_err-end_event-clause-spent : goal.returns-in_err-end_event-clause-spent
+returns-in_err-end_event-clause-spent g c = if_err c.from_residual.result c.in_err-end_event.field-0.0 (λ f. f ≡ NoNumber → IsSpent c.args.packet.body) c.from_residual.ensures.1 (λ h. absurd (c.in_err-end_event.ensures.numbered h))
+
+pub returns-in_err-add-clause-spent : goal.returns-in_err-add-clause-spent
+returns-in_err-add-clause-spent g c = if_err c.from_residual-in_err-add.result NoMemory (λ f. f ≡ NoNumber → IsSpent c.args.packet.body) c.from_residual-in_err-add.ensures.1 (λ h. absurd (memory_numbered h))
+
+pub returns-in_err-add_in_order-clause-spent : goal.returns-in_err-add_in_order-clause-spent
+returns-in_err-add_in_order-clause-spent g c = if_err c.from_residual-in_err-add_in_order.result (fault_of_order c.in_err-add_in_order.field-0.0) (λ f. f ≡ NoNumber → IsSpent c.args.packet.body) c.from_residual-in_err-add_in_order.ensures.1 (λ h. absurd (order_numbered c.in_err-add_in_order.field-0.0 h))

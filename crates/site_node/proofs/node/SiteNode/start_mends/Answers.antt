@@ -5,11 +5,11 @@ use Rattle.role_steps.specs.Views.{SiteView}
 use Rattle.role_steps.specs.declared.synchronizing.SyncTable.{SyncTable}
 use Rattle.site_mends.specs.Mending.{IsSeen}
 use Rattle.using_site.specs.Steps.{Gives}
-use Rattle.site_node.proofs.Cuts.{mends_ill, mends_well, untouched}
+use Rattle.site_parts.proofs.Cuts.{mends_ill, mends_well, untouched}
 use Rattle.site_node.proofs.Starts.{entered_frame, mends_inside, mends_outside}
-use Rattle.site_node.specs.Faults.{fault_of_mend}
-use Rattle.site_node.specs.declared.fault.NodeFault.TheVariants.{NoNumber}
-use Rattle.site_node.proofs.Numbers.{if_err, mend_numbered}
+use Rattle.site_parts.specs.Faults.{fault_of_mend}
+use Rattle.site_parts.specs.declared.fault.NodeFault.TheVariants.{NoNumber}
+use Rattle.site_parts.proofs.Numbers.{if_err, mend_numbered}
 use Rattle.site_node.proofs.node.SiteNode.start_mends.Goals as goal
 
 pub returns-in_default-clause-step : goal.returns-in_default-clause-step

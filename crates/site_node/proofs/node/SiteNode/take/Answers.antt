@@ -1,14 +1,17 @@
+use Rattle.std.proofs.Common.{◌≡◌, subst, sym}
 use Rattle.disk_model.proofs.Moments.{on_ok}
-use Rattle.site_node.specs.Faults.{fault_of_epoch}
-use Rattle.site_node.specs.Taking.{in_epoch_takes, taken}
+use Rattle.site_parts.specs.Faults.{fault_of_epoch}
+use Rattle.site_node.specs.Taking.{IsSpent, in_epoch_takes, taken}
 use Rattle.site_node.specs.Views.{Moves, view_of}
-use Rattle.site_node.specs.declared.fault.NodeFault.TheVariants.{NoMemory}
-use Rattle.site_node.proofs.Cuts.{epoch_off, failed_still, untouched, written_as}
+use Rattle.site_parts.specs.declared.fault.NodeFault.TheVariants.{NoMemory, NoNumber}
+use Rattle.site_parts.proofs.Cuts.{epoch_off, failed_still, untouched, written_as}
 use Rattle.site_node.proofs.Moving.{moves_work}
 use Rattle.site_node.proofs.Takes.{inside_written, taken_as, taken_inside}
 use Rattle.site_node.proofs.Unwritten.{forms_none}
 use Rattle.role_steps.specs.Epochs.{on_install, on_joined, on_poll, on_promise, on_refuse}
 use Rattle.wire_messages.specs.declared.body.Body.TheVariants as body
+use Rattle.site_node.proofs.Takes.{never_spent}
+use Rattle.site_parts.proofs.Numbers.{if_err, memory_numbered, spent_at}
 use Rattle.site_node.proofs.node.SiteNode.take.Goals as goal
 
 pub returns-in_ok-take_poll-in-Poll-clause-step : goal.returns-in_ok-take_poll-in-Poll-clause-step
@@ -62,3 +65,15 @@ returns-in_err-take_install-in-Install-clause-disk g c = failed_still _ c.args.s
 
 pub returns-in-Joined-clause-disk : goal.returns-in-Joined-clause-disk
 returns-in-Joined-clause-disk g c = untouched _ c.args.self.now.packs (g.D.Disk.moment c.args.disk.now) c.args.out.now c.args.out.now tt (forms_none c.args.self.now.frame.config c.args.self.now.frame.me c.args.links.now c.args.packet body.Joined (view_of c.args.self.now (g.D.Disk.moment c.args.disk.now).seen) c.in-Joined.is tt) c.requires.settled (g.met.D.Disk.only_now c.args.disk.now)
+
+pub returns-in_default-clause-spent : goal.returns-in_default-clause-spent
+returns-in_default-clause-spent g c = never_spent (IsSpent c.args.packet.body) c.take_in_epoch.result c.take_in_epoch.ensures.numbered
+
+pub returns-in_err-take_poll-in-Poll-clause-spent : goal.returns-in_err-take_poll-in-Poll-clause-spent
+returns-in_err-take_poll-in-Poll-clause-spent g c = if_err c.from_residual.result NoMemory (λ f. f ≡ NoNumber → IsSpent c.args.packet.body) c.from_residual.ensures.1 (λ h. absurd (memory_numbered h))
+
+pub returns-in_err-take_refuse-in-Refuse-clause-spent : goal.returns-in_err-take_refuse-in-Refuse-clause-spent
+returns-in_err-take_refuse-in-Refuse-clause-spent g c = if_err c.from_residual-in_err-take_refuse-in-Refuse.result (fault_of_epoch c.in_err-take_refuse-in-Refuse.field-0.0) (λ f. f ≡ NoNumber → IsSpent c.args.packet.body) c.from_residual-in_err-take_refuse-in-Refuse.ensures.1 (λ h. subst IsSpent (sym c.in-Refuse.is) (spent_at c.in_err-take_refuse-in-Refuse.field-0.0 (IsSpent (body.Refuse c.in-Refuse.promised)) c.in_err-take_refuse-in-Refuse.ensures.spent h))
+
+pub returns-in_err-take_install-in-Install-clause-spent : goal.returns-in_err-take_install-in-Install-clause-spent
+returns-in_err-take_install-in-Install-clause-spent g c = if_err c.from_residual-in_err-take_install-in-Install.result NoMemory (λ f. f ≡ NoNumber → IsSpent c.args.packet.body) c.from_residual-in_err-take_install-in-Install.ensures.1 (λ h. absurd (memory_numbered h))

@@ -2,7 +2,7 @@ use Rattle.disk_model.proofs.Moments.{on_ok}
 use Rattle.the_run.specs.Steps.{takes_inside}
 use Rattle.site_node.specs.Taking.{in_epoch_takes}
 use Rattle.site_node.specs.Views.{Moves, view_of}
-use Rattle.site_node.proofs.Cuts.{untouched, written_as}
+use Rattle.site_parts.proofs.Cuts.{untouched, written_as}
 use Rattle.site_node.proofs.Starts.{entered_frame}
 use Rattle.site_node.proofs.Takes.{entered_written, outside_written, takes_entered, takes_outside}
 use Rattle.site_node.proofs.node.SiteNode.take_in_epoch.Goals as goal

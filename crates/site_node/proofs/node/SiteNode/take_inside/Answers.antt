@@ -1,15 +1,16 @@
-use Rattle.std.proofs.Common.{◌∙◌, ap, sym}
+use Rattle.std.proofs.Common.{◌∙◌, ap, sym, ◌≢◌}
 use Rattle.disk_model.proofs.Moments.{on_ok}
 use Rattle.role_steps.specs.Views.{Outcome, SiteView}
 use Rattle.the_run.specs.Steps.{takes_inside}
 use Rattle.site_node.specs.Roles.{role_takes}
-use Rattle.site_node.specs.declared.roles.Role.TheVariants as role
+use Rattle.site_parts.specs.declared.roles.Role.TheVariants as role
 use Rattle.site_node.specs.Views.{Moves, view_of}
-use Rattle.site_node.specs.declared.fault.NodeFault.TheVariants.{NoMemory}
-use Rattle.site_node.proofs.Cuts.{failed_still, untouched, written_as}
+use Rattle.site_parts.specs.declared.fault.NodeFault.TheVariants.{NoMemory, NoNumber}
+use Rattle.site_parts.proofs.Cuts.{failed_still, untouched, written_as}
 use Rattle.site_node.proofs.Unwritten.{unwritten_by}
 use Rattle.site_node.proofs.ByRole.{reports_work, takes_by_role}
 use Rattle.site_node.proofs.Moving.{moves_as, moves_none, moves_work}
+use Rattle.site_parts.proofs.Numbers.{if_err, memory_numbered, own_numbered, own_off}
 use Rattle.site_node.proofs.node.SiteNode.take_inside.Goals as goal
 
 pub returns-in_ok-take_at_tables-in-Tables-clause-step : goal.returns-in_ok-take_at_tables-in-Tables-clause-step
@@ -64,10 +65,19 @@ pub returns-in_ok-take_at_pulls-in-Pulls-clause-disk : goal.returns-in_ok-take_a
 returns-in_ok-take_at_pulls-in-Pulls-clause-disk g c = untouched _ c.args.self.now.packs (g.D.Disk.moment c.args.disk.now) c.args.out.now c.take_at_pulls.new.out tt (unwritten_by c.args.self.now.frame c.args.from c.args.body (view_of c.args.self.now (g.D.Disk.moment c.args.disk.now).seen) role.Pulls (sym c.in-Pulls.is ∙ c.role_of.ensures) tt) c.requires.settled (g.met.D.Disk.only_now c.args.disk.now)
 
 pub returns-in_err-take_at_pulls-in-Pulls-clause-disk : goal.returns-in_err-take_at_pulls-in-Pulls-clause-disk
-returns-in_err-take_at_pulls-in-Pulls-clause-disk g c = failed_still _ c.args.self.now.packs (g.D.Disk.moment c.args.disk.now) c.args.out.now c.take_at_pulls.new.out c.from_residual-in_err-take_at_pulls-in-Pulls.result c.in_err-take_at_pulls-in-Pulls.field-0.0 c.from_residual-in_err-take_at_pulls-in-Pulls.ensures.1 c.in_err-take_at_pulls-in-Pulls.ensures.off_disk c.requires.settled (g.met.D.Disk.only_now c.args.disk.now)
+returns-in_err-take_at_pulls-in-Pulls-clause-disk g c = failed_still _ c.args.self.now.packs (g.D.Disk.moment c.args.disk.now) c.args.out.now c.take_at_pulls.new.out c.from_residual-in_err-take_at_pulls-in-Pulls.result c.in_err-take_at_pulls-in-Pulls.field-0.0 c.from_residual-in_err-take_at_pulls-in-Pulls.ensures.1 (own_off c.in_err-take_at_pulls-in-Pulls.field-0.0 c.in_err-take_at_pulls-in-Pulls.ensures.own) c.requires.settled (g.met.D.Disk.only_now c.args.disk.now)
 
 pub returns-in-Epochs-clause-disk : goal.returns-in-Epochs-clause-disk
 returns-in-Epochs-clause-disk g c = untouched _ c.args.self.now.packs (g.D.Disk.moment c.args.disk.now) c.args.out.now c.args.out.now tt (unwritten_by c.args.self.now.frame c.args.from c.args.body (view_of c.args.self.now (g.D.Disk.moment c.args.disk.now).seen) role.Epochs (sym c.in-Epochs.is ∙ c.role_of.ensures) tt) c.requires.settled (g.met.D.Disk.only_now c.args.disk.now)
 
 pub returns-in-Nobody-clause-disk : goal.returns-in-Nobody-clause-disk
 returns-in-Nobody-clause-disk g c = untouched _ c.args.self.now.packs (g.D.Disk.moment c.args.disk.now) c.args.out.now c.args.out.now tt (unwritten_by c.args.self.now.frame c.args.from c.args.body (view_of c.args.self.now (g.D.Disk.moment c.args.disk.now).seen) role.Nobody (sym c.in-Nobody.is ∙ c.role_of.ensures) tt) c.requires.settled (g.met.D.Disk.only_now c.args.disk.now)
+
+pub returns-in_err-take_at_tables-in-Tables-clause-numbered : goal.returns-in_err-take_at_tables-in-Tables-clause-numbered
+returns-in_err-take_at_tables-in-Tables-clause-numbered g c = if_err c.from_residual.result NoMemory (λ f. f ≢ NoNumber) c.from_residual.ensures.1 memory_numbered
+
+pub returns-in_err-take_at_users-in-Users-clause-numbered : goal.returns-in_err-take_at_users-in-Users-clause-numbered
+returns-in_err-take_at_users-in-Users-clause-numbered g c = if_err c.from_residual-in_err-take_at_users-in-Users.result NoMemory (λ f. f ≢ NoNumber) c.from_residual-in_err-take_at_users-in-Users.ensures.1 memory_numbered
+
+pub returns-in_err-take_at_pulls-in-Pulls-clause-numbered : goal.returns-in_err-take_at_pulls-in-Pulls-clause-numbered
+returns-in_err-take_at_pulls-in-Pulls-clause-numbered g c = if_err c.from_residual-in_err-take_at_pulls-in-Pulls.result c.in_err-take_at_pulls-in-Pulls.field-0.0 (λ f. f ≢ NoNumber) c.from_residual-in_err-take_at_pulls-in-Pulls.ensures.1 (own_numbered c.in_err-take_at_pulls-in-Pulls.field-0.0 c.in_err-take_at_pulls-in-Pulls.ensures.own)

@@ -1,14 +1,16 @@
 use Rattle.the_run.specs.Steps.{adopts_in}
 use Rattle.site_packs.specs.Packs.{PacksState, Stand}
-use Rattle.std.proofs.Common.{sym, subst}
+use Rattle.std.proofs.Common.{sym, subst, ◌≢◌}
 use Rattle.std.specs.Prelude.{Ok, Err}
-use Rattle.site_node.specs.Faults.{fault_of_order}
+use Rattle.site_parts.specs.Faults.{fault_of_order}
 use Rattle.site_node.specs.Views.{view_of}
-use Rattle.site_node.specs.declared.fault.NodeFault.TheVariants.{NoMemory}
-use Rattle.site_node.proofs.Cuts.{failed_after, handed, order_off, written_as}
+use Rattle.site_parts.specs.declared.fault.NodeFault.TheVariants.{NoMemory, NoNumber}
+use Rattle.site_parts.proofs.Cuts.{failed_after, handed, order_off, written_as}
 use Rattle.site_node.proofs.Together.{cut_told, then_reads}
 use Rattle.site_node.proofs.Ticks.{tick_given}
 use Rattle.site_node.proofs.Unwritten.{tick_step}
+use Rattle.site_node.proofs.Together.{handed_numbered}
+use Rattle.site_parts.proofs.Numbers.{if_err, memory_numbered, order_numbered}
 use Rattle.site_node.proofs.node.SiteNode.tick.Goals as goal
 
 pub end_event-requires : goal.end_event-requires
@@ -39,3 +41,18 @@ returns-in_err-add_in_order-clause-disk g c = written_as _ (adopts_in c.args.sel
 pub returns-clause-disk : goal.returns-clause-disk
 returns-clause-disk g c = written_as _ (adopts_in c.args.self.now.frame.config c.args.self.now.frame.me (view_of c.args.self.now (g.D.Disk.moment c.args.disk.now).seen)).written _ _ _ _ _ _ (tick_step c.args.self.now.frame.config c.args.self.now.frame.me c.args.links.now (view_of c.args.self.now (g.D.Disk.moment c.args.disk.now).seen))
     (then_reads g.D.Disk.moment g.met.D.Disk.reads_an_image g.met.D.Disk.counts_now {S = Unit {0}} {T = Unit {0}} (adopts_in c.args.self.now.frame.config c.args.self.now.frame.me (view_of c.args.self.now (g.D.Disk.moment c.args.disk.now).seen)).written c.args.self.now.packs c.repeat.new.self.packs c.args.disk.now c.adopt.new.disk c.end_event.new.disk c.new-adopted.result c.adopt.new.out c.new-last.result c.end_event.new.out c.args.out.now c.add_in_order.new.self tt (Ok tt) c.in_default.ensures.disk c.in_ok-end_event.ensures.disk)
+
+pub returns-in-Err-clause-numbered : goal.returns-in-Err-clause-numbered
+returns-in-Err-clause-numbered g c = handed_numbered c.in-Err.fault c.cut_off.result c.cut_off.ensures.fault c.in-Err.ensures.numbered
+
+pub returns-in_err-add-clause-numbered : goal.returns-in_err-add-clause-numbered
+returns-in_err-add-clause-numbered g c = if_err c.from_residual.result NoMemory (λ f. f ≢ NoNumber) c.from_residual.ensures.1 memory_numbered
+
+pub returns-in_err-repeat-clause-numbered : goal.returns-in_err-repeat-clause-numbered
+returns-in_err-repeat-clause-numbered g c = if_err c.from_residual-in_err-repeat.result (fault_of_order c.in_err-repeat.field-0.0) (λ f. f ≢ NoNumber) c.from_residual-in_err-repeat.ensures.1 (order_numbered c.in_err-repeat.field-0.0)
+
+pub returns-in_err-end_event-clause-numbered : goal.returns-in_err-end_event-clause-numbered
+returns-in_err-end_event-clause-numbered g c = if_err c.from_residual-in_err-end_event.result c.in_err-end_event.field-0.0 (λ f. f ≢ NoNumber) c.from_residual-in_err-end_event.ensures.1 c.in_err-end_event.ensures.numbered
+
+pub returns-in_err-add_in_order-clause-numbered : goal.returns-in_err-add_in_order-clause-numbered
+returns-in_err-add_in_order-clause-numbered g c = if_err c.from_residual-in_err-add_in_order.result (fault_of_order c.in_err-add_in_order.field-0.0) (λ f. f ≢ NoNumber) c.from_residual-in_err-add_in_order.ensures.1 (order_numbered c.in_err-add_in_order.field-0.0)

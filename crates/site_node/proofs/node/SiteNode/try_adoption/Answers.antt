@@ -3,7 +3,7 @@ use Rattle.disk_model.proofs.Moments.{on_ok}
 use Rattle.role_steps.specs.Views.{Outcome, SiteView}
 use Rattle.the_run.specs.Steps.{adopts_in, tries_at}
 use Rattle.site_node.specs.Views.{Moves, view_of}
-use Rattle.site_node.proofs.Cuts.{untouched, written_as}
+use Rattle.site_parts.proofs.Cuts.{untouched, written_as}
 use Rattle.site_node.proofs.Receives.{tried, tries_none, tries_now}
 use Rattle.site_node.proofs.Unwritten.{untried_none}
 use Rattle.site_node.proofs.node.SiteNode.try_adoption.Goals as goal

@@ -1,5 +1,0 @@
-use Rattle.std.proofs.Common.{◌≡◌, ◌++◌, drop}
-use Rattle.site_node.proofs.node.SiteNode.brought.Given as goal
-
-abbrev pub invariant-loop-content : goal.invariant-loop-content
-invariant-loop-content l = l.made ++ drop l.content-index l.contents ≡ l.contents

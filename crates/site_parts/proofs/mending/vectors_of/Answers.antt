@@ -1,0 +1,16 @@
+use Rattle.std.proofs.Common.{◌≡◌, ◌∙◌, List, IfSome, sym, subst, ap}
+use Rattle.dir_reconcile.specs.declared.kept.KeptVector.{KeptVector}
+use Rattle.role_steps.specs.Mends.{kept_vectors, vectors_of}
+use Rattle.role_steps.specs.Adoption.{table_group}
+use Rattle.role_steps.specs.Tables.{row}
+use Rattle.std.specs.Option.{option_copied}
+use Rattle.std.specs.Prelude.{ℕ}
+use Rattle.site_parts.proofs.mending.vectors_of.Goals as goal
+
+pub returns-in_default-clause-kept : goal.returns-in_default-clause-kept
+returns-in_default-clause-kept c = c.new.ensures ∙ ap vectors_of (sym (ap (λ o. option_copied o) c.in_default.is) ∙ (c.find.ensures ∙ ap (λ (k : ℕ). row table_group k c.args.tables.now) c.from.ensures))
+
+pub returns-in-Some-2-clause-kept : goal.returns-in-Some-2-clause-kept
+returns-in-Some-2-clause-kept c =
+    let kept : c.in-Some-2.vectors ≡ kept_vectors c.in-Some.table.now = subst (λ o. IfSome o (λ (vectors : List KeptVector). vectors ≡ kept_vectors c.in-Some.table.now)) c.in-Some-2.is c.in_ok-vectors.ensures in
+    kept ∙ ap vectors_of (ap (λ o. option_copied o) (sym c.in-Some.is) ∙ (c.find.ensures ∙ ap (λ (k : ℕ). row table_group k c.args.tables.now) c.from.ensures))

@@ -1,0 +1,65 @@
+use Rattle.std.proofs.Common.{refl, ap, subst, sym}
+use Rattle.std.specs.Prelude.{OnOk}
+use Rattle.locus_ids.specs.declared.ids.Serial.{Serial}
+use Rattle.role_steps.specs.Operations.{on_op}
+use Rattle.role_steps.specs.Storage.{on_close}
+use Rattle.role_steps.specs.Views.{Outcome, Store}
+use Rattle.run_laws.proofs.RolesTell.{on_closed_ok_talks, on_look_ss_talks, on_open_ss_talks, on_pull_talks}
+use Rattle.store_instances.specs.Stores.{Gives, store_of}
+use Rattle.site_parts.specs.Roles.{mending_by}
+use Rattle.site_parts.specs.Writing.{EventWrites}
+use Rattle.site_parts.proofs.Cuts.{untouched, written_as}
+use Rattle.site_parts.proofs.StoreParts.{given_as, others_quiet, store_stays}
+use Rattle.site_parts.proofs.storing.take_at_store.Goals as goal
+
+pub returns-in-OpenSs-clause-gives : goal.returns-in-OpenSs-clause-gives
+returns-in-OpenSs-clause-gives g c = rw c.in-OpenSs.is c.take_open.ensures.gives
+
+pub returns-in-OpenSs-clause-disk : goal.returns-in-OpenSs-clause-disk
+returns-in-OpenSs-clause-disk g c = rw c.in-OpenSs.is (written_as _ _ _ _ _ _ _ _ (on_open_ss_talks c.args.frame.now (record { inst = c.in-OpenSs.inst; file = c.in-OpenSs.file; mode = c.in-OpenSs.mode; set = c.in-OpenSs.set; kind = c.in-OpenSs.kind; base = c.in-OpenSs.base; vector = c.in-OpenSs.vector; parents = c.in-OpenSs.parents }) (store_of c.args.store.now c.args.packs.now (g.D.Disk.moment c.args.disk.now).seen)).1 c.take_open.ensures.disk)
+
+pub returns-in-LookSs-clause-gives : goal.returns-in-LookSs-clause-gives
+returns-in-LookSs-clause-gives g c = rw c.in-LookSs.is c.take_look.ensures.gives
+
+pub returns-in-LookSs-clause-disk : goal.returns-in-LookSs-clause-disk
+returns-in-LookSs-clause-disk g c = rw c.in-LookSs.is (written_as _ _ _ _ _ _ _ _ (on_look_ss_talks c.args.frame.now c.in-LookSs.us (record { call = c.in-LookSs.call; process = c.in-LookSs.process; request = c.in-LookSs.request; take = c.in-LookSs.take; file = c.in-LookSs.file; what = c.in-LookSs.what }) c.in-LookSs.serve (store_of c.args.store.now c.args.packs.now (g.D.Disk.moment c.args.disk.now).seen)).1 c.take_look.ensures.disk)
+
+pub returns-in-Pull-clause-gives : goal.returns-in-Pull-clause-gives
+returns-in-Pull-clause-gives g c = rw c.in-Pull.is c.take_pull.ensures.gives
+
+pub returns-in-Pull-clause-disk : goal.returns-in-Pull-clause-disk
+returns-in-Pull-clause-disk g c = rw c.in-Pull.is (written_as _ _ _ _ _ _ _ _ (on_pull_talks c.args.frame.now c.args.from c.in-Pull.file c.in-Pull.stamp c.in-Pull.page (store_of c.args.store.now c.args.packs.now (g.D.Disk.moment c.args.disk.now).seen)).1 c.take_pull.ensures.disk)
+
+pub returns-in-ClosedOk-clause-gives : goal.returns-in-ClosedOk-clause-gives
+returns-in-ClosedOk-clause-gives g c = rw c.in-ClosedOk.is c.take_closed_ok.ensures.gives
+
+pub returns-in-ClosedOk-clause-disk : goal.returns-in-ClosedOk-clause-disk
+returns-in-ClosedOk-clause-disk g c = rw c.in-ClosedOk.is (written_as _ _ _ _ _ _ _ _ (on_closed_ok_talks c.args.frame.now c.in-ClosedOk.inst (store_of c.args.store.now c.args.packs.now (g.D.Disk.moment c.args.disk.now).seen)).1 c.take_closed_ok.ensures.disk)
+
+pub returns-in-Close-clause-gives : goal.returns-in-Close-clause-gives
+returns-in-Close-clause-gives g c = rw c.in-Close.is (subst (λ (i : Serial). OnOk c.take_close.result (Gives (on_close c.args.frame.now i (store_of c.args.store.now c.args.packs.now (g.D.Disk.moment c.args.disk.now).seen)) (store_of c.take_close.new.store c.take_close.new.packs (g.D.Disk.moment c.take_close.new.disk).seen) c.args.out.now c.take_close.new.out)) c.named.ensures c.take_close.ensures.gives)
+
+pub returns-in-Close-clause-disk : goal.returns-in-Close-clause-disk
+returns-in-Close-clause-disk g c = rw c.in-Close.is (subst (λ (i : Serial). EventWrites {T = Unit {0}} (on_close c.args.frame.now i (store_of c.args.store.now c.args.packs.now (g.D.Disk.moment c.args.disk.now).seen)).written c.args.packs.now (g.D.Disk.moment c.args.disk.now) (g.D.Disk.moment c.take_close.new.disk) c.args.out.now c.take_close.new.out c.take_close.result) c.named.ensures c.take_close.ensures.disk)
+
+pub returns-in_default-clause-gives : goal.returns-in_default-clause-gives
+returns-in_default-clause-gives g c =
+    let s : Store = store_of c.args.store.now c.args.packs.now (g.D.Disk.moment c.args.disk.now).seen in
+    store_stays _ s c.args.out.now (others_quiet c.args.frame.now (mending_by c.args.tables.now c.args.users.now s) c.args.from c.args.body s c.in_default.not-OpenSs c.in_default.not-Op c.in_default.not-Close c.in_default.not-ClosedOk c.in_default.not-LookSs c.in_default.not-Pull)
+
+pub returns-in_default-clause-disk : goal.returns-in_default-clause-disk
+returns-in_default-clause-disk g c =
+    let s : Store = store_of c.args.store.now c.args.packs.now (g.D.Disk.moment c.args.disk.now).seen in
+    untouched _ c.args.packs.now (g.D.Disk.moment c.args.disk.now) c.args.out.now c.args.out.now tt (ap (λ (o : Outcome Store). o.written) (others_quiet c.args.frame.now (mending_by c.args.tables.now c.args.users.now s) c.args.from c.args.body s c.in_default.not-OpenSs c.in_default.not-Op c.in_default.not-Close c.in_default.not-ClosedOk c.in_default.not-LookSs c.in_default.not-Pull)) c.requires.settled (g.met.D.Disk.only_now c.args.disk.now)
+
+pub returns-in_ok-work-in-Op-clause-gives : goal.returns-in_ok-work-in-Op-clause-gives
+returns-in_ok-work-in-Op-clause-gives g c =
+    let s : Store = store_of c.args.store.now c.args.packs.now (g.D.Disk.moment c.args.disk.now).seen in
+    rw c.in-Op.is (subst (λ (i : Serial). OnOk c.take_op.result (Gives (on_op c.args.frame.now (mending_by c.args.tables.now c.args.users.now s i) i c.in-Op.number c.in-Op.op c.in-Op.seen s) (store_of c.take_op.new.store c.take_op.new.packs (g.D.Disk.moment c.take_op.new.disk).seen) c.args.out.now c.take_op.new.out)) c.named-inst.ensures
+    (given_as c.take_op.result _ _ _ _ _ (c.in_ok-work-in-Op.ensures.work c.args.frame.now c.in-Op.number c.in-Op.seen s refl) c.take_op.ensures.gives))
+
+pub returns-in_ok-work-in-Op-clause-disk : goal.returns-in_ok-work-in-Op-clause-disk
+returns-in_ok-work-in-Op-clause-disk g c =
+    let s : Store = store_of c.args.store.now c.args.packs.now (g.D.Disk.moment c.args.disk.now).seen in
+    rw c.in-Op.is (subst (λ (i : Serial). EventWrites {T = Unit {0}} (on_op c.args.frame.now (mending_by c.args.tables.now c.args.users.now s i) i c.in-Op.number c.in-Op.op c.in-Op.seen s).written c.args.packs.now (g.D.Disk.moment c.args.disk.now) (g.D.Disk.moment c.take_op.new.disk) c.args.out.now c.take_op.new.out c.take_op.result) c.named-inst.ensures
+    (written_as _ _ _ _ _ _ _ _ (ap (λ (o : Outcome Store). o.written) (sym (c.in_ok-work-in-Op.ensures.work c.args.frame.now c.in-Op.number c.in-Op.seen s refl))) c.take_op.ensures.disk))

@@ -1,0 +1,17 @@
+use Rattle.std.proofs.Common.{◌≢◌, refl}
+use Rattle.site_parts.specs.declared.fault.NodeFault.TheVariants.{NoMemory, NoNumber}
+use Rattle.site_parts.proofs.Cuts.{failed_still, untouched}
+use Rattle.site_parts.proofs.Numbers.{if_err, memory_numbered}
+use Rattle.site_parts.proofs.storing.take_closed_ok.Goals as goal
+
+pub returns-clause-gives : goal.returns-clause-gives
+returns-clause-gives g c = c.in_ok-on_closed_ok.ensures.gives c.args.packs.now (g.D.Disk.moment c.args._disk.now).seen
+
+pub returns-clause-disk : goal.returns-clause-disk
+returns-clause-disk g c = untouched _ c.args.packs.now (g.D.Disk.moment c.args._disk.now) c.args.out.now c.on_closed_ok.new.out tt refl c.requires.settled (g.met.D.Disk.only_now c.args._disk.now)
+
+pub returns-in_err-on_closed_ok-clause-disk : goal.returns-in_err-on_closed_ok-clause-disk
+returns-in_err-on_closed_ok-clause-disk g c = failed_still _ c.args.packs.now (g.D.Disk.moment c.args._disk.now) c.args.out.now c.on_closed_ok.new.out c.from_residual.result NoMemory c.from_residual.ensures.1 tt c.requires.settled (g.met.D.Disk.only_now c.args._disk.now)
+
+pub returns-in_err-on_closed_ok-clause-numbered : goal.returns-in_err-on_closed_ok-clause-numbered
+returns-in_err-on_closed_ok-clause-numbered g c = if_err c.from_residual.result NoMemory (λ f. f ≢ NoNumber) c.from_residual.ensures.1 memory_numbered

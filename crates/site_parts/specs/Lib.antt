@@ -1,0 +1,4 @@
+pub mod Roles
+pub mod Framing
+pub mod Faults
+pub mod Writing

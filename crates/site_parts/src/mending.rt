@@ -1,0 +1,91 @@
+// What the mend of an instance's group works on.
+ghost use Rattle.std.specs.Prelude.{◌≡◌, ℕ, List, IfOk, IfErr};
+ghost use Rattle.role_steps.specs.Adoption.{table_group};
+ghost use Rattle.role_steps.specs.Mends.{brought_by, is_mend_in, vectors_of};
+ghost use Rattle.role_steps.specs.Operations.{on_op};
+ghost use Rattle.role_steps.specs.Tables.{first_that, row};
+ghost use Rattle.role_steps.specs.Views.{Frame, Store as StoreView};
+ghost use Rattle.site_parts.specs.Faults.{IsOwn};
+ghost use Rattle.site_parts.specs.Roles.{mending_by};
+
+use crate::NodeFault;
+use css_core::Css;
+use dir_reconcile::KeptVectors;
+use keyed_tables::SortedTable;
+use locus_ids::{Bytes, ItemList, NoMemory, Serial};
+use operation_effects::MendingWork;
+use site_tables::kept_vectors;
+use std::alloc::Global;
+use storage_site::Store;
+use trace_book::Op;
+use using_site::UsingSite;
+
+/// What an operation works on that is a mend; anything for another one.
+pub(crate) fn work_for(
+    alloc: Global,
+    store: &Store,
+    tables: &SortedTable<Css>,
+    users: &UsingSite,
+    inst: Serial,
+    op: &Op,
+) -> Result<MendingWork, NodeFault>
+    ensures work { IfOk result (λ work. (f : Frame) (n : ℕ) (seen : List ℕ) (s : StoreView) → s.instances ≡ store.now → on_op f work inst n op.now seen s ≡ on_op f (mending_by tables.now users.now s inst) inst n op.now seen s) }
+    ensures own { IfErr result IsOwn }
+{
+    match op {
+        Op::Mend => mending_work(alloc, store, tables, users, inst),
+        _ => Ok(no_work(alloc)),
+    }
+}
+
+/// What the mend of the instance's group works on.
+fn mending_work(
+    alloc: Global,
+    store: &Store,
+    tables: &SortedTable<Css>,
+    users: &UsingSite,
+    inst: Serial,
+) -> Result<MendingWork, NodeFault>
+    ensures work { IfOk result (λ work. (s : StoreView) → s.instances ≡ store.now → work ≡ mending_by tables.now users.now s inst) }
+    ensures own { IfErr result IsOwn }
+{
+    let group = store.instance_group(inst).unwrap_or(0);
+    Ok(MendingWork {
+        contents: brought(alloc, users, group)?,
+        kept: vectors_of(alloc, tables, group)?,
+    })
+}
+
+/// The contents that the mend of the group has brought.
+fn brought(alloc: Global, users: &UsingSite, group: u8) -> Result<ItemList<Bytes>, NoMemory>
+    ensures { IfOk result (λ made. made ≡ brought_by (first_that (is_mend_in group) users.now.waiting)) }
+{
+    let contents = users.brought(group);
+    let mut made = ItemList::new(alloc);
+    for content in contents {
+        made.push(content.copy()?)?;
+    }
+    Ok(made)
+}
+
+/// The vectors of all kept versions of the group, where the site has its table.
+fn vectors_of(alloc: Global, tables: &SortedTable<Css>, group: u8) -> Result<KeptVectors, NodeFault>
+    ensures kept { IfOk result (λ made. made ≡ vectors_of (row table_group group tables.now)) }
+    ensures own { IfErr result IsOwn }
+{
+    let Some(table) = tables.find(u64::from(group)) else {
+        return Ok(KeptVectors::new(alloc));
+    };
+    match kept_vectors(alloc, table)? {
+        Some(vectors) => Ok(vectors),
+        None => Err(NodeFault::Unfit),
+    }
+}
+
+/// Nothing to mend.
+fn no_work(alloc: Global) -> MendingWork {
+    MendingWork {
+        contents: ItemList::new(alloc),
+        kept: KeptVectors::new(alloc),
+    }
+}

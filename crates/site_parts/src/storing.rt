@@ -1,0 +1,271 @@
+// What comes to the storage site.
+ghost use Rattle.std.specs.Prelude.{◌≡◌, ◌≢◌, None, IfErr, OnOk};
+ghost use Rattle.role_steps.specs.Operations.{on_op};
+ghost use Rattle.role_steps.specs.Storage.{on_close, on_closed_ok, on_look_ss, on_open_ss, on_pull};
+ghost use Rattle.site_packs.specs.Packs.{SamePlaces, Stand};
+ghost use Rattle.store_instances.specs.Stores.{Gives, store_of};
+ghost use Rattle.the_run.specs.Steps.{from_user};
+ghost use Rattle.site_parts.specs.Faults.{fault_of_reading};
+ghost use Rattle.site_parts.specs.Roles.{mending_by, store_take};
+ghost use Rattle.site_parts.specs.Writing.{EventWrites};
+ghost use Rattle.site_parts.specs.declared.fault.NodeFault.TheVariants.{NoNumber};
+
+use crate::NodeFault;
+use crate::mending::work_for;
+use css_core::Css;
+use disk_model::Disk;
+use keyed_tables::SortedTable;
+use locus_ids::{FileId, Serial, SiteId, Stamp};
+use operation_effects::MendingWork;
+use site_frame::SiteFrame;
+use site_packs::SitePacks;
+use std::alloc::Global;
+use storage_site::{LookRequest, Store, StoreFault, StoreRequest};
+use trace_book::Op;
+use using_site::UsingSite;
+use version_vector::Vector;
+use wire_messages::{Body, Outbox};
+
+/// Takes what a member sent, where it is for the storage site; else nothing happens. The tables and the using site tell what a mend
+/// works on.
+pub fn take_at_store<D: Disk>(
+    alloc: Global,
+    store: &mut Store,
+    packs: &mut SitePacks,
+    frame: &SiteFrame,
+    tables: &SortedTable<Css>,
+    users: &UsingSite,
+    disk: &mut D,
+    from: SiteId,
+    body: Body,
+    out: &mut Outbox,
+) -> Result<(), NodeFault>
+    requires { Stand packs.old (D.moment disk.old) }
+    ensures gives { OnOk result (Gives (store_take frame.now (mending_by tables.now users.now (store_of store.old packs.old (D.moment disk.old).seen)) from body (store_of store.old packs.old (D.moment disk.old).seen)) (store_of store.new packs.new (D.moment disk.new).seen) out.old out.new) }
+    ensures stands { OnOk result (Stand packs.new (D.moment disk.new)) }
+    ensures places { OnOk result (SamePlaces packs.old packs.new) }
+    ensures disk { EventWrites (store_take frame.now (mending_by tables.now users.now (store_of store.old packs.old (D.moment disk.old).seen)) from body (store_of store.old packs.old (D.moment disk.old).seen)).written packs.old (D.moment disk.old) (D.moment disk.new) out.old out.new result }
+    ensures numbered { IfErr result (λ fault. fault ≢ NoNumber) }
+{
+    match body {
+        Body::OpenSs {
+            inst,
+            file,
+            mode,
+            set,
+            kind,
+            base,
+            vector,
+            parents,
+        } => {
+            let asked = StoreRequest {
+                inst,
+                file,
+                mode,
+                set,
+                kind,
+                base,
+                vector,
+                parents,
+            };
+            take_open(store, packs, frame, disk, asked, out)
+        }
+        Body::Op {
+            serial,
+            number,
+            op,
+            seen,
+        } => {
+            let inst = named(from, serial);
+            let work = work_for(alloc, store, tables, users, inst, &op)?;
+            take_op(
+                store, packs, frame, disk, inst, number, &op, &seen, &work, out,
+            )
+        }
+        Body::Close { serial } => take_close(store, packs, frame, disk, named(from, serial), out),
+        Body::ClosedOk { inst } => take_closed_ok(store, packs, frame, disk, inst, out),
+        Body::LookSs {
+            us,
+            call,
+            process,
+            request,
+            take,
+            file,
+            what,
+            serve,
+        } => {
+            let look = LookRequest {
+                call,
+                process,
+                request,
+                take,
+                file,
+                what,
+            };
+            take_look(store, packs, frame, disk, us, &look, serve, out)
+        }
+        Body::Pull { file, stamp, page } => {
+            take_pull(store, packs, frame, disk, from, file, stamp, page, out)
+        }
+        body => {
+            ignored(body);
+            Ok(())
+        }
+    }
+}
+
+/// An open.
+fn take_open<D: Disk>(
+    store: &mut Store,
+    packs: &SitePacks,
+    frame: &SiteFrame,
+    disk: &mut D,
+    asked: StoreRequest,
+    out: &mut Outbox,
+) -> Result<(), NodeFault>
+    requires { Stand packs.now (D.moment disk.old) }
+    ensures gives { OnOk result (Gives (on_open_ss frame.now asked (store_of store.old packs.now (D.moment disk.old).seen)) (store_of store.new packs.now (D.moment disk.new).seen) out.old out.new) }
+    ensures stands { Stand packs.now (D.moment disk.new) }
+    ensures disk { EventWrites None packs.now (D.moment disk.old) (D.moment disk.new) out.old out.new result }
+    ensures numbered { IfErr result (λ fault. fault ≢ NoNumber) }
+{
+    match store.on_open_ss(frame, packs, disk, asked, out) {
+        Ok(()) => Ok(()),
+        Err(fault) => Err(reading(fault)),
+    }
+}
+
+/// A look at a file.
+fn take_look<D: Disk>(
+    store: &Store,
+    packs: &SitePacks,
+    frame: &SiteFrame,
+    disk: &mut D,
+    us: SiteId,
+    look: &LookRequest,
+    serve: Stamp,
+    out: &mut Outbox,
+) -> Result<(), NodeFault>
+    requires { Stand packs.now (D.moment disk.old) }
+    ensures gives { OnOk result (Gives (on_look_ss frame.now us look.now serve (store_of store.now packs.now (D.moment disk.old).seen)) (store_of store.now packs.now (D.moment disk.new).seen) out.old out.new) }
+    ensures stands { Stand packs.now (D.moment disk.new) }
+    ensures disk { EventWrites None packs.now (D.moment disk.old) (D.moment disk.new) out.old out.new result }
+    ensures numbered { IfErr result (λ fault. fault ≢ NoNumber) }
+{
+    match store.on_look_ss(frame, packs, disk, us, look, serve, out) {
+        Ok(()) => Ok(()),
+        Err(fault) => Err(reading(fault)),
+    }
+}
+
+/// A page is asked for.
+fn take_pull<D: Disk>(
+    store: &Store,
+    packs: &SitePacks,
+    frame: &SiteFrame,
+    disk: &mut D,
+    from: SiteId,
+    file: FileId,
+    stamp: Stamp,
+    page: u8,
+    out: &mut Outbox,
+) -> Result<(), NodeFault>
+    requires { Stand packs.now (D.moment disk.old) }
+    ensures gives { OnOk result (Gives (on_pull frame.now from file stamp page (store_of store.now packs.now (D.moment disk.old).seen)) (store_of store.now packs.now (D.moment disk.new).seen) out.old out.new) }
+    ensures stands { Stand packs.now (D.moment disk.new) }
+    ensures disk { EventWrites None packs.now (D.moment disk.old) (D.moment disk.new) out.old out.new result }
+    ensures numbered { IfErr result (λ fault. fault ≢ NoNumber) }
+{
+    match store.on_pull(frame, packs, disk, from, file, stamp, page, out) {
+        Ok(()) => Ok(()),
+        Err(fault) => Err(reading(fault)),
+    }
+}
+
+/// A close of an instance. What it owes is committed first.
+fn take_close<D: Disk>(
+    store: &mut Store,
+    packs: &mut SitePacks,
+    frame: &SiteFrame,
+    disk: &mut D,
+    inst: Serial,
+    out: &mut Outbox,
+) -> Result<(), NodeFault>
+    requires { Stand packs.old (D.moment disk.old) }
+    ensures gives { OnOk result (Gives (on_close frame.now inst (store_of store.old packs.old (D.moment disk.old).seen)) (store_of store.new packs.new (D.moment disk.new).seen) out.old out.new) }
+    ensures stands { OnOk result (Stand packs.new (D.moment disk.new)) }
+    ensures places { OnOk result (SamePlaces packs.old packs.new) }
+    ensures disk { EventWrites (on_close frame.now inst (store_of store.old packs.old (D.moment disk.old).seen)).written packs.old (D.moment disk.old) (D.moment disk.new) out.old out.new result }
+    ensures numbered { IfErr result (λ fault. fault ≢ NoNumber) }
+{
+    store.on_close(frame, packs, disk, inst, out)?;
+    Ok(())
+}
+
+/// The synchronization site has answered the close of an instance. Nothing is asked of the disk.
+fn take_closed_ok<D: Disk>(
+    store: &mut Store,
+    packs: &SitePacks,
+    frame: &SiteFrame,
+    _disk: &mut D,
+    inst: Serial,
+    out: &mut Outbox,
+) -> Result<(), NodeFault>
+    requires { Stand packs.now (D.moment _disk.old) }
+    ensures gives { OnOk result (Gives (on_closed_ok frame.now inst (store_of store.old packs.now (D.moment _disk.old).seen)) (store_of store.new packs.now (D.moment _disk.new).seen) out.old out.new) }
+    ensures stands { Stand packs.now (D.moment _disk.new) }
+    ensures disk { EventWrites None packs.now (D.moment _disk.old) (D.moment _disk.new) out.old out.new result }
+    ensures numbered { IfErr result (λ fault. fault ≢ NoNumber) }
+{
+    store.on_closed_ok(frame, inst, out)?;
+    Ok(())
+}
+
+/// An operation on an instance, with what a mend works on.
+fn take_op<D: Disk>(
+    store: &mut Store,
+    packs: &mut SitePacks,
+    frame: &SiteFrame,
+    disk: &mut D,
+    inst: Serial,
+    number: u32,
+    op: &Op,
+    seen: &Vector<16>,
+    work: &MendingWork,
+    out: &mut Outbox,
+) -> Result<(), NodeFault>
+    requires { Stand packs.old (D.moment disk.old) }
+    ensures gives { OnOk result (Gives (on_op frame.now work.now inst number op.now seen.now (store_of store.old packs.old (D.moment disk.old).seen)) (store_of store.new packs.new (D.moment disk.new).seen) out.old out.new) }
+    ensures stands { OnOk result (Stand packs.new (D.moment disk.new)) }
+    ensures places { OnOk result (SamePlaces packs.old packs.new) }
+    ensures disk { EventWrites (on_op frame.now work.now inst number op.now seen.now (store_of store.old packs.old (D.moment disk.old).seen)).written packs.old (D.moment disk.old) (D.moment disk.new) out.old out.new result }
+    ensures numbered { IfErr result (λ fault. fault ≢ NoNumber) }
+{
+    store.on_op(frame, packs, disk, inst, number, op, seen, work, out)?;
+    Ok(())
+}
+
+/// What is for another role.
+fn ignored(_body: Body) {}
+
+/// The fault of a call that only reads: no write is cut off in it.
+fn reading(fault: StoreFault) -> NodeFault
+    ensures { result ≡ fault_of_reading fault }
+{
+    match fault {
+        StoreFault::Disk => NodeFault::Disk,
+        StoreFault::Cut(_) => NodeFault::Disk,
+        StoreFault::Unfit => NodeFault::Unfit,
+        StoreFault::NoMemory => NodeFault::NoMemory,
+    }
+}
+
+/// The instance of this number that the using site named.
+fn named(us: SiteId, serial: u32) -> Serial
+    ensures { result ≡ from_user us serial }
+{
+    Serial {
+        us: us.get(),
+        serial,
+    }
+}
