@@ -29,7 +29,7 @@ use Rattle.role_steps.specs.declared.users.Asking.TheVariants as asking
 use Rattle.the_run.specs.Kept.{Among}
 use Rattle.the_run.proofs.Boots.{every_weaker}
 use Rattle.instance_laws.specs.Book.{Note, Listed, Asked, Placed, Began, Book, IsOf, AskedBy, PlacedFact, BeganFact, NoteFact, Once, Sound, Grown}
-use Rattle.instance_laws.specs.Facts.{AnswerFact, BodyFact, PacketFact, NoFact, Factless, MadeFact, RecordFact, ToldFact, AskingFact, WaitingFact, UsersFact, InstanceFact, StoreFact, StageFact, OpenFact, EarlyOf, EarlyFact, TableFact, TablesFact, InEpochFact, ViewFact}
+use Rattle.instance_laws.specs.Facts.{AnswerFact, BodyFact, PacketFact, NoFact, Factless, MadeFact, WasDenied, RecordFact, ToldFact, AskingFact, WaitingFact, UsersFact, InstanceFact, StoreFact, StageFact, OpenFact, EarlyOf, EarlyFact, TableFact, TablesFact, InEpochFact, ViewFact}
 
 -- ---- growing ----
 
@@ -84,7 +84,7 @@ note_later c a b l (Began e inst ss boot file) h = began_later a b l e inst ss b
 
 answer_later : (a b : Book) → Leads a b → (e : EpochId) (inst : Serial) (x : OpenedAs) → AnswerFact a e inst x → AnswerFact b e inst x
 answer_later a b l e inst (opened.Open ino size) h = record { ss = h.ss; boot = h.boot; file = h.file; began = l _ h.began; ino_is = h.ino_is }
-answer_later a b l e inst (opened.No why) h = tt
+answer_later a b l e inst (opened.No why) h = record { members = h.members; listed = l _ h.listed; file = h.file; how = h.how; asked = l _ h.asked; make = h.make }
 
 pub body_later : (a b : Book) → Leads a b → (p : Packet) (x : Body) → BodyFact a p x → BodyFact b p x
 body_later a b l p (body.Install members) h = l _ h
@@ -113,7 +113,13 @@ made_later a b l e inst file mode.Write h = tt
 made_later a b l e inst file mode.Resolve h = tt
 made_later a b l e inst file mode.Mend h = tt
 
+denied_later : (a b : Book) → Leads a b → (e : EpochId) (inst : Serial) (m : Mode) → (m ≡ mode.Make) ⊎ WasDenied a e inst → (m ≡ mode.Make) ⊎ WasDenied b e inst
+denied_later a b l e inst m (inl h) = inl h
+denied_later a b l e inst m (inr h) = inr (record { group = h.group; css = h.css; boot = h.boot; placed = l _ h.placed })
+
 record_later : (a b : Book) → Leads a b → (r : Record) → RecordFact a r → RecordFact b r
+record_later a b l (says.Join s e members) h = l _ h
+record_later a b l (says.Refuse e call request inst m file why) h = record { members = h.members; listed = l _ h.listed; file_asked = h.file_asked; how = h.how; asked = l _ h.asked; mode_is = h.mode_is; denied = denied_later a b l e inst m h.denied }
 record_later a b l (says.Grant e call request inst m file stamp ss) h = record { members = h.members; listed = l _ h.listed; file_asked = h.file_asked; how = h.how; asked = l _ h.asked; mode_is = h.mode_is; is_for = h.is_for; made = made_later a b l e inst file m h.made }
 record_later a b l _ h = tt
 

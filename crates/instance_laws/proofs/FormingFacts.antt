@@ -319,7 +319,7 @@ joins_known : (c : Config) (book : Book) (me : ℕ) (id : EpochId) (m : Members)
 joins_known c book me id m v j listed s h =
     plain_site c me v.boot book (joins c me id m v) s
     (joined_fact c book book me id m v j h (λ n k. k) listed (λ n k. inl k), refl)
-    (all_reports_fact book (frame_in c me v.boot (record { id = id; members = m })) (joined_view c me id m v)) (tt, tt)
+    (all_reports_fact book (frame_in c me v.boot (record { id = id; members = m })) (joined_view c me id m v)) (listed, tt)
 
 -- a new list is joined by the site that chose it
 joins_new : (c : Config) (book : Book) (me : ℕ) (id : EpochId) (m : Members) (v : SiteView) → Joining me id m v → id.site ≡ me → id.boot ≡ v.boot → Sound c book → ViewFact c book me v → SiteFine c me v.boot book (joins c me id m v)
@@ -331,7 +331,7 @@ joins_new c book me id m v j site boot s h =
       sound = sound_cons c new book s tt (once_listed id m book s.once (λ n k. not_passed v id j.last j.waits (h.passed (Listed id n) k (site, boot))));
       view = (joined_fact c book (new ∷ book) me id m v j h (λ n k. inr k) (inl refl) (listed_cons new book), refl);
       sent = all_reports_fact (new ∷ book) (frame_in c me v.boot (record { id = id; members = m })) (joined_view c me id m v);
-      told = (tt, tt);
+      told = (inl refl, tt);
     }
 
 both_true : (a b : Bool) → (a && b) ≡ true → (a ≡ true) × (b ≡ true)

@@ -185,7 +185,7 @@ pub store_fine : (f : Frame) (book : Book) (o : Outcome Store) → Sound f.confi
 store_fine f book o sound h = record { book = book; grown = grown_same (BeganHere f) book; sound = sound; view = h.view; sent = factless book o.sent h.sent; told = h.told book }
 
 opens_made_fine : (f : Frame) (book : Book) (r : StoreRequest) (o : Option ℕ) (s : Store) → Sound f.config book → (k : OpenSsHere f book r) → r.mode ≡ mode.Make → instance_of s r.inst ≡ None → InStore f book s → StoreFine f book (opens_made f r o s)
-opens_made_fine f book r None s sound k is_make none h = record { book = book; grown = grown_same (BeganHere f) book; sound = sound; view = h; sent = sync_body book f r.file.group (body.Opened r.inst (opened.No refusal.NoInode)) (λ to. tt); told = tt }
+opens_made_fine f book r None s sound k is_make none h = record { book = book; grown = grown_same (BeganHere f) book; sound = sound; view = h; sent = sync_body book f r.file.group (body.Opened r.inst (opened.No refusal.NoInode)) (λ to. record { members = k.members; listed = k.listed; file = r.file; how = k.how; asked = k.asked; make = k.mode_is ∙ is_make }); told = tt }
 opens_made_fine f book r (Some ino) s sound k is_make none h =
     let file : FileId = record { group = r.file.group; ino = ino } in
     begins_fine f book r file None (Begins f.me f.epoch r.inst file ∷ Reserves f.me f.epoch r.inst file ∷ []) s sound k (subst (λ (m : Mode). IsFor m file r.file) (sym (k.mode_is ∙ is_make)) refl) none h (λ b n. ((f.boot, n), (tt, tt)))

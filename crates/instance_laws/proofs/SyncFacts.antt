@@ -22,7 +22,7 @@ use Rattle.the_run.specs.Kept.{Among}
 use Rattle.the_run.proofs.InsideSync.{Found, row_found}
 use Rattle.vector_laws.proofs.SyncFacts.{FoundAt, row_at, every_latest}
 use Rattle.instance_laws.specs.Book.{Note, Listed, Placed, Began, Book, AskedBy, IsFor, PlacedFact, BeganFact, Sound}
-use Rattle.instance_laws.specs.Facts.{OpenedFact, AnswerFact, PacketFact, MadeFact, GrantFact, ToldFact, StageFact, OpenFact, own_serial, HasRow, TableFact, Fine}
+use Rattle.instance_laws.specs.Facts.{OpenedFact, MakeAsked, AnswerFact, PacketFact, MadeFact, GrantFact, ToldFact, StageFact, OpenFact, own_serial, HasRow, TableFact, Fine}
 use Rattle.instance_laws.proofs.Books.{Leads, grown_same, grown_then, grown_cons, packets_later, tolds_later, open_later, earlies_later, sound_cons, once_placed, asked_once, boot_same}
 use Rattle.instance_laws.proofs.StoreFacts.{latest_some, latest_same, is_for_self}
 
@@ -136,55 +136,63 @@ grant_told f book t us o r m k inst file same is = by_mode m is
     by_mode mode.Resolve q = (fact mode.Resolve q tt, tt)
     by_mode mode.Mend q = (fact mode.Mend q tt, tt)
 
-asks_fine : (f : Frame) (book : Book) (t : SyncTable) (us : ℕ) (o : OpenRequest) (d : Decision) → Sound f.config book → Comes f book t us o → open_row t (own_serial us o.serial) ≡ None → TableFact book f t → TableFine f t.group book (decides f t us o d)
-asks_fine f book t us o (Denies why) s k none h =
-    let r : OpenRow = denied_row us o why in
-    still f t.group book (decides f t us o (Denies why)) s
-    (table_open book f t r (record { file = o.file; how = o.how; asked = k.asked; mode_is = refl; group_is = k.group_is; is_for = is_for_self (mode_of o.how) o.file; placed = tt }) h, refl) (tt, tt) (tt, tt)
-asks_fine f book t us o (Grants ss stamp vector parents set kind) s k none h = record {
-  book = next;
-  grown = grown_cons (PlacedHere f t.group) new book (refl, k.group_is, refl, refl);
-  sound = sound_cons f.config new book s fact (once_placed f.epoch inst o.file.group f.me f.boot ss book s.once (unplaced f book t us o s k none h));
-  view = (
-    record {
-      css_is = h.css_is;
-      boot_is = h.boot_is;
-      opens = every_latest (OpenFact next f t.group) open_key r t.opens (record { file = o.file; how = o.how; asked = inr k.asked; mode_is = refl; group_is = k.group_is; is_for = is_for_self (mode_of o.how) o.file; placed = (refl, inl refl) }) (older t.opens h.opens);
-      looks = h.looks;
-      early = earlies_later book next leads f t.group t.early h.early;
-      has = has_row;
-    },
-    refl,
-  );
-  sent = (record { members = f.members; listed = inr k.listed; how = o.how; asked = inr k.asked; mode_is = refl; css = f.me; css_boot = f.boot; placed = inl refl; boot_is = refl }, tt);
-  told = grant_told f next t us o r (mode_of o.how) (record { listed = inr k.listed; asked = inr k.asked; group_is = k.group_is }) refl refl refl refl;
+-- what is placed is noted, with its row
+abbrev new_note : Frame → ℕ → OpenRequest → ℕ → Note
+new_note f us o ss = Placed f.epoch (own_serial us o.serial) o.file.group f.me f.boot ss
+
+noted_sound : (f : Frame) (book : Book) (t : SyncTable) (us : ℕ) (o : OpenRequest) (ss : ℕ) → Sound f.config book → Comes f book t us o → open_row t (own_serial us o.serial) ≡ None → TableFact book f t → Sound f.config (new_note f us o ss ∷ book)
+noted_sound f book t us o ss s k none h =
+    sound_cons f.config (new_note f us o ss) book s
+    (record { members = f.members; listed = inr k.listed; file = o.file; how = o.how; asked = inr k.asked; group_is = refl; css_is = ap (λ (g : ℕ). sync_site f.config f.members g) k.group_is ∙ h.css_is; boot_is = sym h.boot_is })
+    (once_placed f.epoch (own_serial us o.serial) o.file.group f.me f.boot ss book s.once (unplaced f book t us o s k none h))
+
+noted_table : (f : Frame) (book : Book) (t : SyncTable) (us : ℕ) (o : OpenRequest) (ss : ℕ) (r : OpenRow) → r.inst ≡ own_serial us o.serial → OpenFact (new_note f us o ss ∷ book) f t.group r → TableFact book f t → TableFact (new_note f us o ss ∷ book) f (with_open r t)
+noted_table f book t us o ss r inst_is fact h = record {
+  css_is = h.css_is;
+  boot_is = h.boot_is;
+  opens = every_latest (OpenFact next f t.group) open_key r t.opens fact (older t.opens h.opens);
+  looks = h.looks;
+  early = earlies_later book next leads f t.group t.early h.early;
+  has = has_row;
 }
   where
-    inst : Serial
-    inst = own_serial us o.serial
-
-    r : OpenRow
-    r = asked_row us o ss stamp vector parents set kind
-
-    new : Note
-    new = Placed f.epoch inst o.file.group f.me f.boot ss
-
     next : Book
-    next = new ∷ book
+    next = new_note f us o ss ∷ book
 
     leads : Leads book next
     leads n g = inr g
-
-    fact : PlacedFact f.config next f.epoch inst o.file.group f.me f.boot
-    fact = record { members = f.members; listed = inr k.listed; file = o.file; how = o.how; asked = inr k.asked; group_is = refl; css_is = ap (λ (g : ℕ). sync_site f.config f.members g) k.group_is ∙ h.css_is; boot_is = sym h.boot_is }
 
     older : (xs : List OpenRow) → Every (OpenFact book f t.group) xs → Every (OpenFact next f t.group) xs
     older [] g = tt
     older (x ∷ xs) g = (open_later book next leads f t.group x g.0, older xs g.1)
 
     has_row : (a : Serial) (other : ℕ) → Among (Placed f.epoch a t.group f.me f.boot other) next → HasRow (with_open r t) a
-    has_row a other (inl e) = subst (HasRow (with_open r t)) (placed_serial f.epoch a inst t.group f.me f.boot other o.file.group f.me f.boot ss e) (latest_same open_key r t.opens)
+    has_row a other (inl e) = subst (HasRow (with_open r t)) (inst_is ∙ placed_serial f.epoch a (own_serial us o.serial) t.group f.me f.boot other o.file.group f.me f.boot ss e) (latest_same open_key r t.opens)
     has_row a other (inr n) = let j : HasRow t a = h.has a other n in latest_some open_key (serial_key a) r t.opens j.0 j.1
+
+asks_fine : (f : Frame) (book : Book) (t : SyncTable) (us : ℕ) (o : OpenRequest) (d : Decision) → Sound f.config book → Comes f book t us o → open_row t (own_serial us o.serial) ≡ None → TableFact book f t → TableFine f t.group book (decides f t us o d)
+asks_fine f book t us o (Denies why) s k none h =
+    let r : OpenRow = denied_row us o why in
+    let next : Book = new_note f us o 0 ∷ book in
+    record {
+      book = next;
+      grown = grown_cons (PlacedHere f t.group) (new_note f us o 0) book (refl, k.group_is, refl, refl);
+      sound = noted_sound f book t us o 0 s k none h;
+      view = (noted_table f book t us o 0 r refl (record { file = o.file; how = o.how; asked = inr k.asked; mode_is = refl; group_is = k.group_is; is_for = is_for_self (mode_of o.how) o.file; placed = tt }) h, refl);
+      sent = (tt, tt);
+      told = (record { members = f.members; listed = inr k.listed; file_asked = o.file; how = o.how; asked = inr k.asked; mode_is = refl; denied = inr (record { group = o.file.group; css = f.me; boot = f.boot; placed = inl refl }) }, tt);
+    }
+asks_fine f book t us o (Grants ss stamp vector parents set kind) s k none h =
+    let r : OpenRow = asked_row us o ss stamp vector parents set kind in
+    let next : Book = new_note f us o ss ∷ book in
+    record {
+      book = next;
+      grown = grown_cons (PlacedHere f t.group) (new_note f us o ss) book (refl, k.group_is, refl, refl);
+      sound = noted_sound f book t us o ss s k none h;
+      view = (noted_table f book t us o ss r refl (record { file = o.file; how = o.how; asked = inr k.asked; mode_is = refl; group_is = k.group_is; is_for = is_for_self (mode_of o.how) o.file; placed = (refl, inl refl) }) h, refl);
+      sent = (record { members = f.members; listed = inr k.listed; how = o.how; asked = inr k.asked; mode_is = refl; css = f.me; css_boot = f.boot; placed = inl refl; boot_is = refl }, tt);
+      told = grant_told f next t us o r (mode_of o.how) (record { listed = inr k.listed; asked = inr k.asked; group_is = k.group_is }) refl refl refl refl;
+    }
 
 -- a repeated open
 repeats_fact : (book : Book) (f : Frame) (group : ℕ) (r : OpenRow) (s : OpenStage) → Among (Listed f.epoch f.members) book → (k : OpenFact book f group r) → StageFact book f r k.file s → Every (PacketFact book) (repeats_open f r s)
@@ -256,6 +264,13 @@ last_told f book inst r group ino size mode.Write s listed k file_is make key a 
 last_told f book inst r group ino size mode.Resolve s listed k file_is make key a = tt
 last_told f book inst r group ino size mode.Mend s listed k file_is make key a = tt
 
+-- what can't be begun is a make
+is_make : (f : Frame) (book : Book) (inst : Serial) (r : OpenRow) (group : ℕ) → Sound f.config book → Among (Listed f.epoch f.members) book → (k : OpenFact book f group r) → open_key r ≡ serial_key inst → MakeAsked book f.epoch inst → r.mode ≡ mode.Make
+is_make f book inst r group s listed k key a =
+    let members : a.members ≡ f.members = s.once.listed f.epoch a.members f.members a.listed listed in
+    let same : (a.file ≡ k.file) × (a.how ≡ k.how) = asked_once f.config book f.members inst r.inst a.file k.file a.how k.how s (sym key) (subst (λ (m : Members). AskedBy book m inst a.file a.how) members a.asked) k.asked in
+    sym k.mode_is ∙ (sym (ap mode_of same.1) ∙ a.make)
+
 answers_fine : (f : Frame) (book : Book) (inst : Serial) (r : OpenRow) (a : OpenedAs) (t : SyncTable) → Sound f.config book → Among (Listed f.epoch f.members) book → (k : OpenFact book f t.group r) → r.file ≡ k.file → open_key r ≡ serial_key inst → AnswerFact book f.epoch inst a → TableFact book f t → TableFine f t.group book (answers_open f r a t)
 answers_fine f book inst r (opened.Open ino size) t s listed k file_is key a h =
     let q : OpenRow = granted_row r ino size in
@@ -266,7 +281,7 @@ answers_fine f book inst r (opened.No why) t s listed k file_is key a h =
     let q : OpenRow = record r { stage = stage.Refused why } in
     still f t.group book (answers_open f r (opened.No why) t) s
     (table_open book f t q (record { file = k.file; how = k.how; asked = k.asked; mode_is = k.mode_is; group_is = k.group_is; is_for = k.is_for; placed = tt }) h, refl)
-    (tt, tt) (tt, tt)
+    (tt, tt) (record { members = f.members; listed = listed; file_asked = k.file; how = k.how; asked = k.asked; mode_is = k.mode_is; denied = inl (is_make f book inst r t.group s listed k key a) }, tt)
 
 stage_fine : (f : Frame) (book : Book) (inst : Serial) (r : OpenRow) (a : OpenedAs) (x : OpenStage) (t : SyncTable) → Sound f.config book → Among (Listed f.epoch f.members) book → (k : OpenFact book f t.group r) → StageFact book f r k.file x → open_key r ≡ serial_key inst → AnswerFact book f.epoch inst a → TableFact book f t → TableFine f t.group book (by_stage f r a x t)
 stage_fine f book inst r a stage.Asked t s listed k p key an h = answers_fine f book inst r a t s listed k p.0 key an h

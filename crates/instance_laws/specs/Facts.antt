@@ -60,9 +60,19 @@ pub record OpenedFact (book : Book) (e : EpochId) (inst : Serial) (ino : ℕ) : 
   pub began : Among (Began e inst ss boot file) book
   pub ino_is : file.ino ≡ ino
 
+-- an instance of this key was asked to be made
+pub record MakeAsked (book : Book) (e : EpochId) (inst : Serial) : Type 0 where
+  pub members : Members
+  pub listed : Among (Listed e members) book
+  pub file : FileId
+  pub how : Opening
+  pub asked : AskedBy book members inst file how
+  pub make : mode_of how ≡ mode.Make
+
+-- only a make finds that it can't be begun
 abbrev pub AnswerFact : Book → EpochId → Serial → OpenedAs → Type 0
 AnswerFact book e inst (opened.Open ino size) = OpenedFact book e inst ino
-AnswerFact book e inst (opened.No why) = Unit {0}
+AnswerFact book e inst (opened.No why) = MakeAsked book e inst
 
 abbrev pub BodyFact : Book → Packet → Body → Type 0
 BodyFact book p (body.Install members) = Among (Listed p.epoch members) book
@@ -103,8 +113,28 @@ pub record GrantFact (book : Book) (e : EpochId) (inst : Serial) (m : Mode) (fil
   pub is_for : IsFor m file file_asked
   pub made : MadeFact book e inst file m
 
+-- an open that is denied as it is taken is placed nowhere, which is noted as site 0
+pub record WasDenied (book : Book) (e : EpochId) (inst : Serial) : Type 0 where
+  pub group : ℕ
+  pub css : ℕ
+  pub boot : ℕ
+  pub placed : Among (Placed e inst group css boot 0) book
+
+-- a refusal is of an open that was asked in this mode; it was denied as it was taken, or is a make
+pub record RefuseFact (book : Book) (e : EpochId) (inst : Serial) (m : Mode) : Type 0 where
+  pub members : Members
+  pub listed : Among (Listed e members) book
+  pub file_asked : FileId
+  pub how : Opening
+  pub asked : AskedBy book members inst file_asked how
+  pub mode_is : mode_of how ≡ m
+  pub denied : (m ≡ mode.Make) ⊎ WasDenied book e inst
+
+-- a site joins an epoch with its members
 abbrev pub RecordFact : Book → Record → Type 0
+RecordFact book (says.Join s e members) = Among (Listed e members) book
 RecordFact book (says.Grant e call request inst mode file stamp ss) = GrantFact book e inst mode file
+RecordFact book (says.Refuse e call request inst mode file why) = RefuseFact book e inst mode
 RecordFact book _ = Unit {0}
 
 abbrev pub ToldFact : Book → Told → Type 0

@@ -108,7 +108,7 @@ locked_told : (older : List Told) (e : EpochId) (j k : ℕ) (file : FileId) (m n
 locked_told older e j k file m n (Shown r) h a im other b = locked_record older e j k file m n r h a im other b
 locked_told older e j k file m n _ h a im other b = absurd a
 
-apart : (past : List Told) → GrantsAreLocked past → GrantsAreApart past
+pub apart : (past : List Told) → GrantsAreLocked past → GrantsAreApart past
 apart [] h e file j k m n ne im other a b = absurd a
 apart (x ∷ older) h e file j k m n ne im other a b = by_head (apart older h.1 e file j k m n ne im other) a b
   where

@@ -37,7 +37,7 @@ true_false m a b = two (sym a ∙ b)
     two : true ≡ false → ⊥
     two e = cc
 
-alone : (past : List Told) → GrantsAreApart past → WritersAreAlone past
+pub alone : (past : List Told) → GrantsAreApart past → WritersAreAlone past
 alone past apart e file j k m n writes one other a b p q = by_test (j == k) refl
   where
     by_test : (t : Bool) → (j == k) ≡ t → j ≡ k

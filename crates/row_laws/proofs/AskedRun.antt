@@ -1,0 +1,243 @@
+-- In every run each record is placed, and the lines have asked for it.
+use Rattle.std.proofs.Common.{◌≡◌, ◌≤◌, ℕ, zero, suc, ◌+◌, ◌==◌, nat_le, Bool, true, false, cond, ◌&&◌, List, [], ◌∷◌, length, map, Option, Some, None, refl, sym, ◌∙◌, ap, subst, inl, inr, arith}
+use Rattle.std.proofs.lemmas.Bool.Decides.{nat_tests}
+use Rattle.std.proofs.lemmas.Bool.{and_from, le-leb}
+use Rattle.locus_ids.specs.declared.ids.EpochId.{EpochId}
+use Rattle.locus_ids.specs.declared.config.Config.{Config}
+use Rattle.schedule_lines.specs.declared.line.Line.{Line as LineWords}
+use Rattle.schedule_lines.specs.declared.line.Line.TheVariants as line
+use Rattle.schedule_lines.specs.declared.line.ScheduleLine.{ScheduleLine}
+use Rattle.trace_book.specs.declared.record.Record.{Record}
+use Rattle.trace_book.specs.declared.record.Record.TheVariants as says
+use Rattle.role_steps.specs.Tables.{row}
+use Rattle.role_steps.specs.Views.{Told, Shown, Promises, Event, Calls, Receives, Ticks, Parts, Merges, GivesUp}
+use Rattle.tree_model.specs.Folds.{Trace, last_line, before_line}
+use Rattle.tree_model.specs.Epochs.{boot_of}
+use Rattle.the_run.specs.Kept.{IsOwn, Kept}
+use Rattle.the_run.specs.Steps.{step}
+use Rattle.the_run.specs.Worlds.{World, Place, Running, Numbered, Line, number_of, links_of, place_in, place_site, passed, fresh, first_place, formatted, first_world}
+use Rattle.the_run.specs.Runs.{packet_record, run_in}
+use Rattle.the_run.proofs.InsideSync.{every_without}
+use Rattle.the_run.proofs.Runs.{some_eq}
+use Rattle.run_laws.specs.Standing.{Standing, nowhere, after_record, after_told, standing, GoesOn, EpochsGoOn}
+use Rattle.run_laws.specs.Naming.{Promised, DeedsOf, Has, Good}
+use Rattle.run_laws.proofs.Run.{good_kept, first_good}
+use Rattle.lawful_trace.specs.Places.{initiator}
+use Rattle.lawful_trace.specs.SiteRows.{is_site, starts_in, is_asked_for}
+use Rattle.lawful_trace.specs.LineRows.{settles}
+use Rattle.row_laws.specs.Shown.{with_told, shown, trace_of, EachRecord}
+use Rattle.row_laws.specs.Events.{PollsOthers, causes_of}
+use Rattle.row_laws.specs.ByLine.{IsLine, Gives, KeptIn}
+use Rattle.row_laws.specs.Rows.{IsPlaced, AskedRecord, IsAskedFor}
+use Rattle.row_laws.specs.Course.{Started, AskedHere, ToldRow, EachTold, Ascends, StandsAs, InCourse}
+use Rattle.row_laws.proofs.StepForms.{step_forms}
+use Rattle.row_laws.proofs.Tracing.{test_own, any_number, promise_started, ascends_later}
+use Rattle.row_laws.proofs.Asked.{acts_course, boot_course, asked_course, world_course, listed_rows, listed_up, listed_boot}
+use Rattle.row_laws.proofs.Causes.{receive_caused, tick_caused, line_caused}
+use Rattle.row_laws.proofs.ByLine.{every_line}
+
+-- ---- the invariant ----
+
+pub record Courses (lines : List ScheduleLine) (n : ℕ) (w : World) : Type 0 where
+  pub good : Good w
+  pub course : InCourse lines n w
+
+next_course : (lines : List ScheduleLine) (n : ℕ) (w : World) → InCourse lines n w → InCourse lines (n + 1) w
+next_course lines n w f = record { ascends = ascends_later n (n + 1) w.trace (omega arith) f.ascends; rows = f.rows; places = f.places; polls = f.polls; underway = f.underway }
+
+passed_course : (lines : List ScheduleLine) (n k : ℕ) (w : World) → InCourse lines n w → InCourse lines n (passed k w)
+passed_course lines n k w f = record { ascends = f.ascends; rows = f.rows; places = f.places; polls = f.polls; underway = every_without (λ (x : Numbered). PollsOthers x.packet) number_of k w.underway f.underway }
+
+own_given : (w : World) (l : LineWords) (s : ℕ) (e : Event) → Gives w l s e → IsOwn e
+own_given w l s (Calls process words) g = tt
+own_given w l s Ticks g = tt
+own_given w l s Parts g = tt
+own_given w l s Merges g = tt
+own_given w l s GivesUp g = tt
+own_given w (line.Call site process words) s (Receives p) g = g
+own_given w (line.Deliver packet) s (Receives p) g = g
+own_given w (line.Lose packet) s (Receives p) g = g
+own_given w (line.Tick site) s (Receives p) g = g
+own_given w (line.Down one other) s (Receives p) g = g
+own_given w (line.Up one other) s (Receives p) g = g
+own_given w (line.Part site) s (Receives p) g = g
+own_given w (line.Merge site) s (Receives p) g = g
+own_given w (line.GiveUp site) s (Receives p) g = g
+own_given w (line.Stop site) s (Receives p) g = g
+own_given w (line.ArmStop site calls left) s (Receives p) g = g
+own_given w (line.ArmFail site calls) s (Receives p) g = g
+own_given w (line.Boot site) s (Receives p) g = g
+own_given w (line.Settle most) s (Receives p) g = g
+own_given w line.Pending s (Receives p) g = g
+
+from_one : (n : ℕ) → 1 ≤ n + 1
+from_one n = omega arith
+
+-- the line with this number has begun, so that the number isn't 0
+one_of : (lines : List ScheduleLine) (n : ℕ) (l : LineWords) → IsLine lines n l → 1 ≤ n
+one_of lines zero l is = absurd (passed_line l is)
+  where
+    passed_line : (l : LineWords) → IsLine lines zero l → ⊥
+    passed_line l e = cc
+one_of lines (suc n) l is = omega arith
+
+courses_kept : (c : Config) (lines : List ScheduleLine) → KeptIn c lines (Courses lines)
+courses_kept c lines = record {
+  begins = λ n w there quiet p. record { good = p.good; course = next_course lines n w p.course };
+  ticks = λ n most s v w is here p. record {
+    good = kept.steps n s Ticks v w here tt p.good;
+    course = acts_course lines n s (causes_of s v Ticks) v (step c s (links_of w s) v Ticks) w (one_of lines n (line.Settle most) is) here (tick_caused lines n n s v w here p.course)
+        (step_forms (DeedsOf w.trace s) s c (links_of w s) v Ticks (p.good.views s v here) (p.course.places s (Running v) here).2) p.course;
+  };
+  receives = λ n l x v w is d here sent p. record {
+    good = kept.receives n x v w here sent p.good;
+    course = acts_course lines n x.packet.to (causes_of x.packet.to v (Receives x.packet)) v (step c x.packet.to (links_of (passed x.number w) x.packet.to) v (Receives x.packet)) (passed x.number w) (one_of lines n l is) here
+        (receive_caused lines n l x v w is d here sent p.good p.course)
+        (step_forms (DeedsOf w.trace x.packet.to) x.packet.to c (links_of (passed x.number w) x.packet.to) v (Receives x.packet) (p.good.views x.packet.to v here) (p.course.places x.packet.to (Running v) here).2) (passed_course lines n x.number w p.course);
+  };
+  passes = λ n k w p. record { good = kept.passes k w p.good; course = passed_course lines n k w p.course };
+  drops = λ n k w p. record { good = kept.drops k w p.good; course = (let f : InCourse lines n (passed k w) = passed_course lines n k w p.course in record { ascends = f.ascends; rows = f.rows; places = f.places; polls = f.polls; underway = f.underway }) };
+  budgets = λ n most w is p. record { good = kept.budgets n w p.good; course = world_course lines n (Shown says.Budget ∷ []) w (one_of lines n (line.Settle most) is) ((record { round = subst (λ (l : ScheduleLine). settles l ≡ true) (sym is) refl }, tt), tt) (λ t. refl) (λ t. refl) p.course };
+  voiding = λ n l w there is void p. record { good = kept.voiding (n + 1) w p.good; course = world_course lines (n + 1) (Shown says.Void ∷ []) w (from_one n) ((tt, tt), tt) (λ t. refl) (λ t. refl) (next_course lines n w p.course) };
+  steps = λ n s l e v w there is g here p. record {
+    good = kept.steps (n + 1) s e v w here (own_given w l s e g) p.good;
+    course = acts_course lines (n + 1) s (causes_of s v e) v (step c s (links_of w s) v e) w (from_one n) here (line_caused lines n s l e v w is g here p.good p.course)
+        (step_forms (DeedsOf w.trace s) s c (links_of w s) v e (p.good.views s v here) (p.course.places s (Running v) here).2) (next_course lines n w p.course);
+  };
+  cutting = λ n one other w there is cut p. record { good = kept.recuts _ w p.good; course = (let f : InCourse lines (n + 1) w = next_course lines n w p.course in record { ascends = f.ascends; rows = f.rows; places = f.places; polls = f.polls; underway = f.underway }) };
+  mending = λ n one other w there is cut p. record { good = kept.recuts _ w p.good; course = (let f : InCourse lines (n + 1) w = next_course lines n w p.course in record { ascends = f.ascends; rows = f.rows; places = f.places; polls = f.polls; underway = f.underway }) };
+  arming = λ n l a w there is so p. record { good = kept.arming a w p.good; course = (let f : InCourse lines (n + 1) w = next_course lines n w p.course in record { ascends = f.ascends; rows = f.rows; places = f.places; polls = f.polls; underway = f.underway }) };
+  pending = λ n w there is p. record { good = kept.pending (n + 1) w p.good; course = world_course lines (n + 1) (map packet_record w.underway) w (from_one n) (listed_rows lines (n + 1) w.underway w.trace is) (λ t. listed_up (n + 1) t w.underway w.trace) (λ t. listed_boot (n + 1) t w.underway w.trace) (next_course lines n w p.course) };
+  stopping = λ n s v w there is here p. record { good = kept.stopping (n + 1) s v w here p.good; course = asked_course lines (n + 1) s v w (from_one n) is here (next_course lines n w p.course) };
+  booting = λ n s d w there is here p. record { good = kept.booting (n + 1) s d w here p.good; course = boot_course lines (n + 1) s d w (from_one n) is here (next_course lines n w p.course) };
+}
+  where
+    kept : Kept c Good
+    kept = good_kept c
+
+-- ---- the first world ----
+
+none_place : (p : Place) → ◌≡◌ {A = Option Place} None (Some p) → ⊥
+none_place p e = cc
+
+first_places : (c : Config) (ss : List ℕ) (s : ℕ) (p : Place) → place_in (row place_site s (map (first_place c) ss)) ≡ Some p → StandsAs [] s p
+first_places c [] s p e = absurd (none_place p e)
+first_places c (t ∷ ts) s p e =
+    (elim (t == s) as (λ b. place_in (elim b [ true ↦ Some (first_place c t) | false ↦ row place_site s (map (first_place c) ts) ]) ≡ Some p → StandsAs [] s p) [
+      | true ↦ λ f. subst (StandsAs [] s) (some_eq (Running (fresh 1 (formatted c t))) p f) (refl, refl, record { round = tt; tables = tt })
+      | false ↦ λ f. first_places c ts s p f
+    ]) e
+
+first_courses : (c : Config) (lines : List ScheduleLine) → Courses lines 0 (first_world c)
+first_courses c lines = record {
+  good = first_good c;
+  course = record { ascends = tt; rows = tt; places = λ s p e. first_places c _ s p e; polls = tt; underway = tt };
+}
+
+pub run_courses : (c : Config) (lines : List ScheduleLine) → Courses lines (length lines) (run_in c lines)
+run_courses c lines = every_line c lines (Courses lines) (courses_kept c lines) (first_courses c lines)
+
+-- ---- a join goes back to its promise ----
+
+true_false : true ≡ false → ⊥
+true_false e = cc
+
+test_same : (a b : ℕ) → (a == b) ≡ true → a ≡ b
+test_same a b e = grind (arith, nat_tests)
+
+-- where a site has promised an id last, and hasn't joined it, the trace has the promise
+abbrev Was : ℕ → List Line → Standing → Type 0
+Was s trace now = now.installed ≡ false → Has Promised s now.promised trace
+
+was_either : (s : ℕ) (trace : List Line) (b : Bool) (then now : Standing) → Was s trace then → Was s trace now → Was s trace (cond b then now)
+was_either s trace true then now h g = h
+was_either s trace false then now h g = g
+
+record_was : (s : ℕ) (older : List Line) (r : Record) (now : Standing) → Was s older now → Was s older (after_record s r now)
+record_was s older (says.Up t boot) now h = was_either s older (t == s) nowhere now (λ f. absurd (true_false f)) h
+record_was s older (says.Join t id members) now h = was_either s older (t == s) (record { promised = now.promised; installed = true; epoch = Some id }) now (λ f. absurd (true_false f)) h
+record_was s older (says.Leave t id) now h = was_either s older (t == s) (record { promised = now.promised; installed = now.installed; epoch = None }) now h h
+record_was s older _ now h = h
+
+told_was : (s n : ℕ) (x : Told) (older : List Line) (now : Standing) → Was s older now → Was s (record { number = n; told = x } ∷ older) (after_told s x now)
+told_was s n (Shown r) older now h f = inr (record_was s older r now h f)
+told_was s n (Promises t id reach) older now h f =
+    (elim (t == s) as (λ b. (t == s) ≡ b → Was s (record { number = n; told = Promises t id reach } ∷ older) (cond b (record { promised = id; installed = false; epoch = now.epoch }) now)) [
+      | true ↦ λ q g. inl (test_same t s q, refl)
+      | false ↦ λ q g. inr (h g)
+    ]) refl f
+told_was s n _ older now h f = inr (h f)
+
+promised_has : (s : ℕ) (trace : List Line) → Was s trace (standing s trace)
+promised_has s [] e = absurd (true_false e)
+promised_has s (x ∷ older) e = told_was s x.number x.told older (standing s older) (promised_has s older) e
+
+some_site : (o : Option ℕ) (s : ℕ) → o ≡ Some s → is_site o s ≡ true
+some_site o s e = ap (λ (x : Option ℕ). is_site x s) e ∙ test_own s
+
+same_number : (a b : ℕ) → a ≡ b → (a == b) ≡ true
+same_number a b e = grind (arith, nat_tests)
+
+both : (a b : Bool) → a ≡ true → b ≡ true → (a && b) ≡ true
+both a b e f = ap (λ (x : Bool). x && b) e ∙ f
+
+asked_for : (lines : List ScheduleLine) (now : Trace) (n : ℕ) (id : EpochId) → Started lines now n id.site id.boot → is_asked_for lines now n id ≡ true
+asked_for lines now n id g =
+    any_number (λ m. starts_in lines now m id.site id.boot) g.line n
+    (both (is_site (initiator lines now g.line) id.site) (boot_of (before_line now g.line) id.site == id.boot) (some_site (initiator lines now g.line) id.site g.starter) (same_number (boot_of (before_line now g.line) id.site) id.boot g.boot_is)) g.from g.to
+
+-- ---- the rows ----
+
+join_asked : (lines : List ScheduleLine) (n s : ℕ) (id : EpochId) (older : List Line) → Ascends n older → EachTold lines older → ((standing s older).promised ≡ id) × ((standing s older).installed ≡ false) × ((standing s older).epoch ≡ None) → is_asked_for lines (shown older) n id ≡ true
+join_asked lines n s id older a rows m = asked_for lines (shown older) n id (promise_started lines n s id older a rows (subst (λ (i : EpochId). Has Promised s i older) m.0 (promised_has s older m.1)))
+
+record_asked : (lines : List ScheduleLine) (n : ℕ) (r : Record) (older : List Line) → Ascends n older → EachTold lines older → GoesOn (Shown r) older → AskedHere lines n (shown older) r → AskedRecord lines n (shown older) r
+record_asked lines n (says.Join s id members) older a rows m h = record { asked = join_asked lines n s id older a rows m }
+record_asked lines n (says.Up s boot) older a rows m h = h
+record_asked lines n (says.Stopped s why) older a rows m h = h
+record_asked lines n (says.Leave s id) older a rows m h = h
+record_asked lines n (says.Accept s process call words) older a rows m h = h
+record_asked lines n (says.Packet number from to kind) older a rows m h = h
+record_asked lines n says.Budget older a rows m h = h
+record_asked lines n _ older a rows m h = tt
+
+told_asked : (lines : List ScheduleLine) (n : ℕ) (x : Told) (older : List Line) → Ascends n older → EachTold lines older → ToldRow lines n (shown older) x → GoesOn x older → EachRecord (IsAskedFor lines) (shown older) → EachRecord (IsAskedFor lines) (with_told n x (shown older))
+told_asked lines n (Shown r) older a rows h m rest = (record_asked lines n r older a rows m h.0, rest)
+told_asked lines n _ older a rows h m rest = rest
+
+each_asked : (lines : List ScheduleLine) (n : ℕ) (trace : List Line) → Ascends n trace → EachTold lines trace → EpochsGoOn trace → EachRecord (IsAskedFor lines) (shown trace)
+each_asked lines n [] a rows g = tt
+each_asked lines n (x ∷ older) a rows g = told_asked lines x.number x.told older a.2 rows.1 rows.0 g.0 (each_asked lines x.number older a.2 rows.1 g.1)
+
+told_within : (n k : ℕ) (x : Told) (now : Trace) → k ≤ n → last_line now ≤ k → last_line (with_told k x now) ≤ n
+told_within n k (Shown r) now h g = h
+told_within n k _ now h g = omega (arith, h, g)
+
+pub last_within : (n : ℕ) (trace : List Line) → Ascends n trace → last_line (shown trace) ≤ n
+last_within n [] a = omega arith
+last_within n (x ∷ older) a = told_within n x.number x.told (shown older) a.1 (last_within x.number older a.2)
+
+told_placed : (lines : List ScheduleLine) (k : ℕ) (x : Told) (now : Trace) → 1 ≤ k → k ≤ length lines → last_line now ≤ k → EachRecord (IsPlaced lines) now → EachRecord (IsPlaced lines) (with_told k x now)
+told_placed lines k (Shown r) now one to last rest = (
+  record {
+    ascending = le-leb (last_line now) k last;
+    placed = and_from (nat_le 1 k) (nat_le k (length lines)) (le-leb 1 k one) (le-leb k (length lines) to);
+  },
+  rest,
+)
+told_placed lines k _ now one to last rest = rest
+
+each_placed : (lines : List ScheduleLine) (n : ℕ) (trace : List Line) → n ≤ length lines → Ascends n trace → EachRecord (IsPlaced lines) (shown trace)
+each_placed lines n [] le a = tt
+each_placed lines n (x ∷ older) le a = told_placed lines x.number x.told (shown older) a.0 to (last_within x.number older a.2) (each_placed lines x.number older to a.2)
+  where
+    to : x.number ≤ length lines
+    to = let e : x.number ≤ n = a.1 in omega (arith, e, le)
+
+-- ---- the laws ----
+
+pub run_placed : (c : Config) (lines : List ScheduleLine) → EachRecord (IsPlaced lines) (trace_of (run_in c lines))
+run_placed c lines = let p : Courses lines (length lines) (run_in c lines) = run_courses c lines in each_placed lines (length lines) (run_in c lines).trace (omega arith) p.course.ascends
+
+pub run_asked : (c : Config) (lines : List ScheduleLine) → EachRecord (IsAskedFor lines) (trace_of (run_in c lines))
+run_asked c lines = let p : Courses lines (length lines) (run_in c lines) = run_courses c lines in each_asked lines (length lines) (run_in c lines).trace p.course.ascends p.course.rows p.good.law

@@ -1,0 +1,11 @@
+pub mod SyncInward
+pub mod RolesInward
+pub mod SitesInward
+pub mod Forming
+pub mod StepForms
+pub mod ByLine
+pub mod Tracing
+pub mod Asked
+pub mod Causes
+pub mod AskedRun
+pub mod SitesGoOn

@@ -1,0 +1,89 @@
+-- What each record of a run meets as it is told, and how the sites stand by the records so far.
+use Rattle.std.specs.Prelude.{ℕ, ◌≡◌, ◌≤◌, ◌≢◌, ◌+◌, ◌⊎◌, true, false, List, [], ◌∷◌, Some}
+use Rattle.locus_ids.specs.declared.ids.EpochId.{EpochId}
+use Rattle.trace_book.specs.declared.call.Call.{Call}
+use Rattle.trace_book.specs.declared.record.Record.{Record}
+use Rattle.trace_book.specs.declared.record.Record.TheVariants as says
+use Rattle.schedule_lines.specs.declared.line.ScheduleLine.{ScheduleLine}
+use Rattle.role_steps.specs.Own.{Every}
+use Rattle.role_steps.specs.Views.{Told, Shown, Promises}
+use Rattle.tree_model.specs.Folds.{Trace, before_line}
+use Rattle.tree_model.specs.Epochs.{is_up, boot_of}
+use Rattle.the_run.specs.Worlds.{World, Place, Running, Stopped, Numbered, Line, place_at}
+use Rattle.lawful_trace.specs.Places.{line_at, initiator}
+use Rattle.lawful_trace.specs.SiteRows.{MayBoot, StopRow, makes_leave}
+use Rattle.lawful_trace.specs.CallRows.{CallLine}
+use Rattle.row_laws.specs.Shown.{shown, trace_of}
+use Rattle.row_laws.specs.Events.{Causes, PollsOthers, ViewForms}
+use Rattle.row_laws.specs.Rows.{AskedRecord}
+
+-- the site started a protocol by a line up to this number, in this boot
+pub record Started (lines : List ScheduleLine) (now : Trace) (n site boot : ℕ) : Type 0 where
+  pub line : ℕ
+  pub from : 1 ≤ line
+  pub to : line ≤ n
+  pub starter : initiator lines now line ≡ Some site
+  pub boot_is : boot_of (before_line now line) site ≡ boot
+
+-- another site started one by an earlier line
+pub record Polled (lines : List ScheduleLine) (now : Trace) (n site : ℕ) : Type 0 where
+  pub by : ℕ
+  pub boot : ℕ
+  pub last : ℕ
+  pub started : Started lines now last by boot
+  pub early : last + 1 ≤ n
+  pub other : by ≢ site
+
+-- ---- records ----
+
+-- as asked for, apart from a join, whose cause is its promise
+abbrev pub AskedHere : List ScheduleLine → ℕ → Trace → Record → Type 0
+AskedHere lines n before (says.Join site epoch members) = Unit {0}
+AskedHere lines n before r = AskedRecord lines n before r
+
+-- a stopped site boots; a running one stops, leaves and joins
+abbrev pub UpRecord : Trace → Record → Type 0
+UpRecord before (says.Up site boot) = MayBoot before site boot
+UpRecord before (says.Stopped site why) = StopRow before site why
+UpRecord before (says.Leave site epoch) = is_up before site ≡ true
+UpRecord before (says.Join site epoch members) = is_up before site ≡ true
+UpRecord before _ = Unit {0}
+
+-- what is promised is an id of a site that started a protocol in that boot
+abbrev pub ToldRow : List ScheduleLine → ℕ → Trace → Told → Type 0
+ToldRow lines n before (Shown r) = AskedHere lines n before r × UpRecord before r
+ToldRow lines n before (Promises site id reach) = Started lines before n id.site id.boot
+ToldRow lines n before _ = Unit {0}
+
+abbrev pub EachTold : List ScheduleLine → List Line → Type 0
+EachTold lines [] = Unit {0}
+EachTold lines (x ∷ older) = ToldRow lines x.number (shown older) x.told × EachTold lines older
+
+-- the numbers of lines ascend from 1, and none is above this one
+abbrev pub Ascends : ℕ → List Line → Type 0
+Ascends n [] = Unit {0}
+Ascends n (x ∷ older) = (1 ≤ x.number) × (x.number ≤ n) × Ascends x.number older
+
+-- ---- sites ----
+
+-- a site stands as the records say
+abbrev pub StandsAs : Trace → ℕ → Place → Type 0
+StandsAs now s (Running v) = (is_up now s ≡ true) × (boot_of now s ≡ v.boot) × ViewForms s v
+StandsAs now s (Stopped d) = (is_up now s ≡ false) × (boot_of now s ≤ d.label.boot)
+
+-- ---- the world, where the line with this number is the last one that has begun ----
+
+pub record InCourse (lines : List ScheduleLine) (n : ℕ) (w : World) : Type 0 where
+  pub ascends : Ascends n w.trace
+  pub rows : EachTold lines w.trace
+  pub places : (s : ℕ) (p : Place) → place_at w s ≡ Some p → StandsAs (trace_of w) s p
+  pub polls : Every (λ (x : Numbered). PollsOthers x.packet) w.sent
+  pub underway : Every (λ (x : Numbered). PollsOthers x.packet) w.underway
+
+-- ---- an event of a running site, whose causes are there ----
+
+pub record Caused (lines : List ScheduleLine) (n s : ℕ) (k : Causes) (now : Trace) : Type 0 where
+  pub up : is_up now s ≡ true
+  pub leave : k.leave → (makes_leave (line_at lines n) s ≡ true) ⊎ Polled lines now n s
+  pub promise : (id : EpochId) → k.promise id → Started lines now n id.site id.boot
+  pub accept : (process : ℕ) (words : Call) → k.accept process words → CallLine lines n s process words
