@@ -2,7 +2,7 @@ ghost use Rattle.std.specs.Prelude.{◌≡◌, ℕ, ◌≤◌, ◌∷◌, [], no
 ghost use Rattle.the_run.specs.Worlds.{CutCircuit, is_between};
 ghost use Rattle.circuits.specs.Circuits.{circuit_of, sender_on, receiver_on, is_cut_among, both_marked, reached_boot, reached_boots, is_up_among, TellsUp};
 
-use crate::numbers::{circuit_of, receiver_on, sender_on};
+use crate::numbers::circuit_of;
 use locus_ids::{Links, NoMemory, SiteId};
 use std::alloc::Global;
 use std::marker::Model;
@@ -132,23 +132,13 @@ impl CutCircuits {
         Links { boot }
     }
 
-    /// The circuit is up: both sites run and it isn't cut.
-    pub fn is_up(&self, boots: &[u32; 16], from: SiteId, to: SiteId) -> bool
-        ensures { result ≡ is_up_among self.now boots.now from to }
-    {
-        boots[usize::from(from.get()) - 1] != 0
-            && boots[usize::from(to.get()) - 1] != 0
-            && !self.is_cut(from, to)
-    }
-
-    /// The circuit of this number is up.
+    /// The circuit of this number is up: both sites run and it isn't cut.
     fn is_number_up(&self, boots: &[u32; 16], circuit: u8) -> bool
         ensures { result ≡ is_up_among self.now boots.now (sender_on circuit) (receiver_on circuit) }
     {
-        match (sender_on(circuit), receiver_on(circuit)) {
-            (Some(from), Some(to)) => self.is_up(boots, from, to),
-            _ => false,
-        }
+        boots[usize::from(circuit / 16)] != 0
+            && boots[usize::from(circuit % 16)] != 0
+            && !self.table[usize::from(circuit)]
     }
 
     /// Tells of each circuit, by its number, whether it is up.

@@ -1,35 +1,32 @@
 ghost use Rattle.std.specs.Prelude.{◌≡◌, ◌≢◌, ◌<◌, ◌≤◌, ◌+◌, ◌++◌, length, slice_range, Ok, Err, OnOk, OnErr, IfOk};
-ghost use Rattle.wire_messages.specs.Packets.{packet_bytes, FitsPacket, IsPacket};
+ghost use Rattle.wire_messages.specs.Packets.{IsPacket};
 ghost use Rattle.wire_messages.specs.declared.packet.Packet.{Packet};
-ghost use Rattle.the_run.specs.Worlds.{packet_size};
 
 use crate::MailFault;
 use locus_ids::{Bytes, NoMemory};
 use std::alloc::Global;
-use wire_messages::{Packet, encode};
+use wire_messages::Packet;
 use wire_reading::decode;
 
 /// The bytes of packets that a run may send.
 pub const MOST_BYTES: usize = 134_217_728;
 
 /// Adds the bytes of a packet to a log, or, after a fault, none.
-pub fn put_letter(log: &mut Bytes, packet: &Packet) -> Result<(), MailFault>
-    requires { FitsPacket packet.now }
-    ensures ok { OnOk result (log.new ≡ log.old ++ packet_bytes packet.now) }
+pub fn put_letter(log: &mut Bytes, letter: &[u8]) -> Result<(), MailFault>
+    requires { length log.old ≤ 134217728 }
+    ensures ok { OnOk result (log.new ≡ log.old ++ letter.now) }
     ensures err { OnErr result (log.new ≡ log.old) }
     ensures room { OnOk result (length log.new ≤ 134217728) }
-    ensures full { result ≡ Err MailFault.Full → 134217728 < length log.old + packet_size packet.now }
+    ensures full { result ≡ Err MailFault.Full → 134217728 < length log.old + length letter.now }
     ensures fits { result ≢ Err MailFault.Unfit }
 {
-    let before = log.len();
-    if encode(packet, log).is_err() {
-        return Err(MailFault::NoMemory);
-    }
-    if log.len() > MOST_BYTES {
-        log.truncate(before);
+    if letter.len() > MOST_BYTES - log.len() {
         return Err(MailFault::Full);
     }
-    Ok(())
+    match log.append(letter) {
+        Ok(()) => Ok(()),
+        Err(_) => Err(MailFault::NoMemory),
+    }
 }
 
 /// The bytes between two places.

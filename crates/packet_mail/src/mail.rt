@@ -1,7 +1,7 @@
 ghost use Rattle.std.specs.Prelude.{◌≡◌, ◌≢◌, ℕ, ◌+◌, ◌<◌, ◌≤◌, List, [], ◌∷◌, ◌++◌, map, true, is_some, length, slice_range, Ok, Err, Some, None, IfOk, IfSome, OnOk, OnErr};
 ghost use Rattle.std.specs.List.{AllByRecursion};
 ghost use Rattle.wire_messages.specs.Bodies.{kind_of};
-ghost use Rattle.wire_messages.specs.Packets.{FitsPacket, IsPacket};
+ghost use Rattle.wire_messages.specs.Packets.{IsPacket};
 ghost use Rattle.the_run.specs.Worlds.{Limit};
 ghost use Rattle.packet_mail.specs.Posts.{Post, no_post, posts, limit_of_packet, passes, loses, sent_at, is_sent, is_lost, is_underway, number_in, packet_in, next_number, sender_in, receiver_in, pending_of, IsKnown};
 ghost use Rattle.packet_mail.specs.Letters.{post_of, InOrder, TellsLost, IsLetter};
@@ -90,9 +90,9 @@ impl Mail {
         self.log.len()
     }
 
-    /// Sends a packet, with the next number.
-    pub fn put(&mut self, packet: &Packet) -> Result<(), MailFault>
-        requires { FitsPacket packet.now }
+    /// Sends a packet, which these bytes are, with the next number.
+    pub fn put(&mut self, packet: &Packet, letter: &[u8]) -> Result<(), MailFault>
+        requires { IsPacket letter.now packet.now }
         ensures ok { OnOk result (self.new ≡ posts (packet.now ∷ []) self.old) }
         ensures room { OnOk result (limit_of_packet packet.now self.old ≡ None) }
         ensures err { OnErr result (self.new ≡ self.old) }
@@ -103,7 +103,7 @@ impl Mail {
         if number > MOST_PACKETS {
             return Err(MailFault::Full);
         }
-        put_letter(&mut self.log, packet)?;
+        put_letter(&mut self.log, letter)?;
         self.ends[number as usize] = self.log.len() as u32;
         self.queue.add(circuit_of(packet.from, packet.to));
         Ok(())

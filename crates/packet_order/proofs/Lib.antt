@@ -1,3 +1,4 @@
 pub mod Placing
 pub mod Spelled
 pub mod Parts
+pub mod Ascending

@@ -50,15 +50,10 @@ none_at ps (k ∷ is) i h f e = sym (picked_none ps (k ∷ is) i h e)
 abbrev out_of : List Packet → List Record → Outgoing
 out_of ps rs = record { packets = ps; records = rs }
 
-few_in_order : (ps : List Packet) → length ps < 2 → ps ≡ in_order ps
-few_in_order [] l = refl
-few_in_order (p ∷ []) l = refl
-few_in_order (p ∷ q ∷ ps) l = absurd (omega arith)
-
-pub few : (o : Outgoing) (ps : List Packet) (rs : List Record) (is : List ℕ) (n : ℕ) → ps ≡ o.packets → rs ≡ o.records → is ≡ [] → n ≡ length ps → n < 2 → ◌≡◌ {A = Outgoing} (record { packets = in_place ps is; records = rs }) (sorted_out o)
-few o ps rs is n p r e c l =
-    let short : length ps < 2 = omega arith in
-    ap (λ (xs : List ℕ). out_of (in_place ps xs) rs) e ∙ (ap (λ (xs : List Packet). out_of xs rs) (few_in_order ps short ∙ ap in_order p) ∙ ap (out_of (in_order o.packets)) r)
+-- packets that are in order go as they stand
+pub as_they_stand : (o : Outgoing) (ps given : List Packet) (rs : List Record) (is : List ℕ) → ps ≡ o.packets → rs ≡ o.records → is ≡ [] → given ≡ ps → given ≡ in_order given → ◌≡◌ {A = Outgoing} (record { packets = in_place ps is; records = rs }) (sorted_out o)
+as_they_stand o ps given rs is p r e g s =
+    ap (λ (xs : List ℕ). out_of (in_place ps xs) rs) e ∙ (ap (λ (xs : List Packet). out_of xs rs) (sym g ∙ (s ∙ ap in_order (g ∙ p))) ∙ ap (out_of (in_order o.packets)) r)
 
 put_some : (p : Packet) (qs : List Packet) → put_before is_before p qs ≡ [] → ⊥
 put_some p [] e = absurd (cc)
@@ -71,15 +66,14 @@ onto_some : (ps done : List Packet) → (done ≡ [] → ⊥) → sorted_onto is
 onto_some [] done h e = h e
 onto_some (p ∷ ps) done h e = onto_some ps (put_before is_before p done) (put_some p done) e
 
-many_ordered : (ps : List Packet) (is : List ℕ) → 2 ≤ length ps → picked ps is ≡ in_order ps → in_place ps is ≡ in_order ps
-many_ordered [] is l e = absurd (omega arith)
-many_ordered (p ∷ ps) [] l e = absurd (onto_some ps (put_before is_before p []) (put_some p []) (sym e))
-many_ordered (p ∷ ps) (i ∷ is) l e = e
+placed : (ps : List Packet) (is : List ℕ) → picked ps is ≡ in_order ps → in_place ps is ≡ in_order ps
+placed [] [] e = refl
+placed [] (i ∷ is) e = e
+placed (p ∷ ps) [] e = absurd (onto_some ps (put_before is_before p []) (put_some p []) (sym e))
+placed (p ∷ ps) (i ∷ is) e = e
 
-pub many : (o : Outgoing) (ps : List Packet) (rs : List Record) (is : List ℕ) (n : ℕ) → ps ≡ o.packets → rs ≡ o.records → picked ps is ≡ in_order ps → n ≡ length ps → 2 ≤ n → ◌≡◌ {A = Outgoing} (record { packets = in_place ps is; records = rs }) (sorted_out o)
-many o ps rs is n p r e c l =
-    let long : 2 ≤ length ps = omega arith in
-    ap (λ (xs : List Packet). out_of xs rs) (many_ordered ps is long e ∙ ap in_order p) ∙ ap (out_of (in_order o.packets)) r
+pub at_places : (o : Outgoing) (ps : List Packet) (rs : List Record) (is : List ℕ) → ps ≡ o.packets → rs ≡ o.records → picked ps is ≡ in_order ps → ◌≡◌ {A = Outgoing} (record { packets = in_place ps is; records = rs }) (sorted_out o)
+at_places o ps rs is p r e = ap (λ (xs : List Packet). out_of xs rs) (placed ps is e ∙ ap in_order p) ∙ ap (out_of (in_order o.packets)) r
 
 -- ---- nothing is sent ----
 

@@ -1,7 +1,8 @@
 -- Packets in an order that numbers give, and what several outboxes give one after the other.
-use Rattle.std.specs.Prelude.{ℕ, suc, ◌<◌, true, false, Bool, List, [], ◌∷◌, ◌++◌, Option, None, Some, slice_get}
+use Rattle.std.specs.Prelude.{ℕ, suc, ◌+◌, ◌*◌, ◌<◌, true, false, Bool, List, [], ◌∷◌, ◌++◌, Option, None, Some, slice_get}
 use Rattle.std.specs.List.{flat_map}
 use Rattle.trace_book.specs.declared.record.Record.{Record}
+use Rattle.wire_messages.specs.Bodies.{kind_number}
 use Rattle.wire_messages.specs.Outboxes.{Outgoing}
 use Rattle.wire_messages.specs.declared.packet.Packet.{Packet}
 use Rattle.the_run.specs.Steps.{in_order}
@@ -31,6 +32,10 @@ place_before before x (y ∷ ys) = elim (before x y) [
   | true ↦ 0
   | false ↦ suc (place_before before x ys)
 ]
+
+-- the number of the kind and the receiver as one number, where the receiver is at most 16
+abbrev pub key : Packet → ℕ
+key p = 32 * kind_number p.body + p.to
 
 abbrev pub packets_in : Outgoing → List Packet
 packets_in o = o.packets

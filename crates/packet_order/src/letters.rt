@@ -1,5 +1,5 @@
-// Packets as their bytes, by which they are ordered.
-ghost use Rattle.std.specs.Prelude.{◌≡◌, ◌≤◌, length, map, cond, false, Err, IfOk};
+// Packets as their bytes.
+ghost use Rattle.std.specs.Prelude.{◌≡◌, ◌≤◌, ◌<◌, length, map, cond, false, Err, Some, slice_get, IfOk, OnOk};
 ghost use Rattle.std.specs.List.{AllByRecursion};
 ghost use Rattle.std.specs.Ordering.{is_lt};
 ghost use Rattle.std.specs.Cmp.Lexicographic.{slice_cmp};
@@ -37,8 +37,9 @@ pub(crate) fn letters_of(alloc: Global, packets: &[Packet]) -> Result<ItemList<B
 }
 
 /// The bytes of a packet, if it is one of the format.
-fn letter_of(alloc: Global, packet: &Packet) -> Result<Bytes, OrderFault>
+pub fn letter_of(alloc: Global, packet: &Packet) -> Result<Bytes, OrderFault>
     ensures letter { IfOk result (λ made. made ≡ packet_bytes packet.now) }
+    ensures fits { OnOk result (FitsPacket packet.now) }
     ensures unfit { result ≡ Err OrderFault.Unfit → FitsPacket packet.now → ⊥ }
 {
     if !fits(packet) {
@@ -49,6 +50,14 @@ fn letter_of(alloc: Global, packet: &Packet) -> Result<Bytes, OrderFault>
         Ok(()) => Ok(letter),
         Err(_) => Err(OrderFault::NoMemory),
     }
+}
+
+/// The bytes of the packet at a place, where these are those of packets.
+pub fn letter_at(letters: &[Bytes], place: usize) -> &[u8]
+    requires { place < length letters.now }
+    ensures { Some result.now ≡ slice_get letters.now place }
+{
+    letters[place].as_slice()
 }
 
 /// The packet of the first bytes goes before that of the second.

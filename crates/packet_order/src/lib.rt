@@ -5,6 +5,7 @@
 mod dispatch;
 mod fault;
 mod framing;
+mod keys;
 mod letters;
 mod part;
 mod sorting;
@@ -12,4 +13,5 @@ mod sorting;
 pub use dispatch::Dispatch;
 pub use fault::OrderFault;
 pub use framing::{is_dropped, is_forming};
+pub use letters::{letter_at, letter_of};
 pub use part::Part;

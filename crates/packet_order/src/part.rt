@@ -5,6 +5,7 @@ ghost use Rattle.wire_messages.specs.Packets.{FitsPacket};
 ghost use Rattle.packet_order.specs.Orders.{sorted_out, unsent};
 
 use crate::OrderFault;
+use crate::keys::are_ascending;
 use crate::sorting::order_of;
 use locus_ids::ItemList;
 use std::alloc::Global;
@@ -52,7 +53,7 @@ impl Part {
         ensures unfit { result ≡ Err OrderFault.Unfit → AllByRecursion (λ p. FitsPacket p) outbox.packets → ⊥ }
     {
         let (packets, records) = outbox.into_parts();
-        if packets.len() < 2 {
+        if are_ascending(packets.as_slice()) {
             let places = ItemList::new(alloc);
             return Ok(Part {
                 packets,

@@ -7,7 +7,7 @@ ghost use Rattle.the_run.specs.Steps.{in_order, is_before};
 ghost use Rattle.packet_order.specs.Orders.{picked, place_before, ArePlaces};
 
 use crate::OrderFault;
-use crate::letters::{is_before, letters_of};
+use crate::letters::{is_before, letter_at, letters_of};
 use locus_ids::{Bytes, ItemList};
 use std::alloc::Global;
 use wire_messages::Packet;
@@ -45,12 +45,4 @@ fn place_for(packets: &[Packet], letters: &[Bytes], places: &[usize], next: usiz
         }
     }
     places.len()
-}
-
-/// The bytes of the packet at a place.
-fn letter_at(letters: &[Bytes], place: usize) -> &[u8]
-    requires { place < length letters.now }
-    ensures { Some result.now ≡ slice_get letters.now place }
-{
-    letters[place].as_slice()
 }

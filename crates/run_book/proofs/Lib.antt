@@ -1,3 +1,4 @@
 pub mod Printing
 pub mod Kept
 pub mod Parts
+pub mod PartLetters

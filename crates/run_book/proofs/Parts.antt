@@ -27,10 +27,6 @@ left_at (y ∷ ys) (suc i) x e = left_at ys i x e
 pub left_from : {A : Type 0} (xs : List A) (i : ℕ) (x : A) → Some x ≡ slice_get xs i → drop i xs ≡ x ∷ drop (i + 1) xs
 left_from xs i x e = let f : suc i ≡ i + 1 = omega arith in left_at xs i x e ∙ ap (λ k. x ∷ drop k xs) f
 
-pub total_append : {A : Type 0} (measure : A → ℕ) (xs ys : List A) → total measure (xs ++ ys) ≡ total measure xs + total measure ys
-total_append measure [] ys = omega arith
-total_append measure (x ∷ xs) ys = let e : total measure (xs ++ ys) ≡ total measure xs + total measure ys = total_append measure xs ys in omega arith
-
 pub text_append : (n : ℕ) (rs ss : List Record) → lines_text n (rs ++ ss) ≡ lines_text n rs ++ lines_text n ss
 text_append n [] ss = refl
 text_append n (r ∷ rs) ss = ap (λ y. entry_text n r ++ y) (text_append n rs ss) ∙ sym (append_assoc (entry_text n r) (lines_text n rs) (lines_text n ss))
@@ -74,10 +70,6 @@ posts_append [] qs m =
     (ap (λ k. k + total packet_size qs) f)
 posts_append (p ∷ ps) qs m = posts_one p (ps ++ qs) m ∙ (posts_append ps qs (posts (p ∷ []) m) ∙ ap (posts qs) (sym (posts_one p ps m)))
 
--- one packet more is measured
-pub size_more : (xs : List Packet) (i : ℕ) (p : Packet) (a b whole : ℕ) → Some p ≡ slice_get xs i → b ≡ a + packet_size p → a + total packet_size (drop i xs) ≡ whole → b + total packet_size (drop (i + 1) xs) ≡ whole
-size_more xs i p a b whole at e h = let f : total packet_size (drop i xs) ≡ packet_size p + total packet_size (drop (i + 1) xs) = ap (total packet_size) (left_from xs i p at) in omega arith
-
 -- a property of one element more
 pub rest_has : {A : Type 0} (P : A → Type 0) (xs : List A) (i : ℕ) (p : A) → Some p ≡ slice_get xs i → P p → (AllByRecursion P (drop i xs) → AllByRecursion P xs) → AllByRecursion P (drop (i + 1) xs) → AllByRecursion P xs
 rest_has P xs i p at h f k = f (subst (AllByRecursion P) (sym (left_from xs i p at)) (h, k))
@@ -89,7 +81,7 @@ next_has P xs i p at h = subst (AllByRecursion P) (left_from xs i p at) h
 pub put_more : (xs : List Packet) (i : ℕ) (p : Packet) (m n whole : Post) → Some p ≡ slice_get xs i → n ≡ posts (p ∷ []) m → posts (drop i xs) m ≡ whole → posts (drop (i + 1) xs) n ≡ whole
 put_more xs i p m n whole at e h = ap (posts (drop (i + 1) xs)) e ∙ (sym (posts_one p (drop (i + 1) xs) m) ∙ (ap (λ ys. posts ys m) (sym (left_from xs i p at)) ∙ h))
 
-part_left : (parts : List Outgoing) (i : ℕ) (part : Outgoing) → i < length parts → part ≡ get_or parts i part → drop i parts ≡ part ∷ drop (i + 1) parts
+pub part_left : (parts : List Outgoing) (i : ℕ) (part : Outgoing) → i < length parts → part ≡ get_or parts i part → drop i parts ≡ part ∷ drop (i + 1) parts
 part_left parts i part l e = left_from parts i part (ap (λ x. Some x) e ∙ sym (slice_get-get_or parts i part l))
 
 -- the text of one part more
@@ -143,11 +135,6 @@ part_next parts i part l e h =
 
 pub part_rest : (parts : List Outgoing) (i : ℕ) (part : Outgoing) → i < length parts → part ≡ get_or parts i part → AllByRecursion (λ (p : Packet). FitsPacket p) part.packets → (AllByRecursion (λ (p : Packet). FitsPacket p) (together (drop i parts)).packets → AllByRecursion (λ (p : Packet). FitsPacket p) (together parts).packets) → AllByRecursion (λ (p : Packet). FitsPacket p) (together (drop (i + 1) parts)).packets → AllByRecursion (λ (p : Packet). FitsPacket p) (together parts).packets
 part_rest parts i part l e h f k = f (subst (λ (ps : List Outgoing). AllByRecursion (λ (p : Packet). FitsPacket p) (together ps).packets) (sym (part_left parts i part l e)) (all_append (λ (p : Packet). FitsPacket p) part.packets (together (drop (i + 1) parts)).packets h k))
-
-pub part_size : (parts : List Outgoing) (i : ℕ) (part : Outgoing) (a b whole : ℕ) → i < length parts → part ≡ get_or parts i part → b ≡ a + total packet_size part.packets → a + total packet_size (together (drop i parts)).packets ≡ whole → b + total packet_size (together (drop (i + 1) parts)).packets ≡ whole
-part_size parts i part a b whole l e n h =
-    let f : total packet_size (together (drop i parts)).packets ≡ total packet_size part.packets + total packet_size (together (drop (i + 1) parts)).packets = ap (λ ps. total packet_size (together ps).packets) (part_left parts i part l e) ∙ total_append packet_size part.packets (together (drop (i + 1) parts)).packets in
-    omega arith
 
 pub part_posts : (parts : List Outgoing) (i : ℕ) (part : Outgoing) (m n whole : Post) → i < length parts → part ≡ get_or parts i part → n ≡ posts part.packets m → posts (together (drop i parts)).packets m ≡ whole → posts (together (drop (i + 1) parts)).packets n ≡ whole
 part_posts parts i part m n whole l e k h =

@@ -1,6 +1,6 @@
-ghost use Rattle.std.specs.Prelude.{◌≡◌, ℕ, ◌+◌, ◌≤◌, [], true, length, Err, IfOk, OnOk};
+ghost use Rattle.std.specs.Prelude.{◌≡◌, ℕ, ◌+◌, ◌≤◌, [], map, true, length, Err, IfOk, OnOk};
 ghost use Rattle.std.specs.List.{AllByRecursion};
-ghost use Rattle.wire_messages.specs.Packets.{FitsPacket};
+ghost use Rattle.wire_messages.specs.Packets.{FitsPacket, packet_bytes};
 ghost use Rattle.packet_order.specs.Orders.{together};
 ghost use Rattle.packet_mail.specs.Posts.{passes, loses, is_sent, next_number, IsKnown};
 ghost use Rattle.run_book.specs.Ledgers.{no_ledger, limit_in, lines_text, with_event, with_event_unless, limit_of_sizes, books};
@@ -139,36 +139,38 @@ impl RunBook {
     }
 
     /// The event is within the limits.
-    fn put(&mut self, parts: &[Part], text: &Bytes) -> Result<(), BookFault>
+    fn put(&mut self, parts: &[Part], event: &Measured) -> Result<(), BookFault>
         requires fits { AllByRecursion (λ p. FitsPacket p) (together parts.now).packets }
-        requires room { self.old.text + length text.now ≤ 134217728 }
-        ensures ok { (n : ℕ) → text.now ≡ lines_text n (together parts.now).records → OnOk result (self.new ≡ with_event n (together parts.now).packets (together parts.now).records self.old) }
+        requires letters { event.now.letters ≡ map packet_bytes (together parts.now).packets }
+        requires room { self.old.text + length event.now.text ≤ 134217728 }
+        ensures ok { (n : ℕ) → event.now.text ≡ lines_text n (together parts.now).records → OnOk result (self.new ≡ with_event n (together parts.now).packets (together parts.now).records self.old) }
         ensures unfit { result ≡ Err BookFault.Unfit → ⊥ }
     {
-        put_all(&mut self.mail, parts)?;
+        put_all(&mut self.mail, parts, event.letters.as_slice())?;
         let Ok(counts) = with_parts(self.counts, parts) else {
             return Err(BookFault::NoMemory);
         };
-        if add_written(self.writing, parts, text, &mut self.fresh).is_err() {
+        if add_written(self.writing, parts, &event.text, &mut self.fresh).is_err() {
             return Err(BookFault::NoMemory);
         }
         self.counts = counts;
-        self.text += text.len();
+        self.text += event.text.len();
         Ok(())
     }
 
     /// An event that was measured, with its limit tested.
     fn enter(&mut self, parts: &[Part], event: &Measured) -> Result<(), BookFault>
-        requires { AllByRecursion (λ p. FitsPacket p) (together parts.now).packets }
-        ensures ok { (n : ℕ) → event.now.text ≡ lines_text n (together parts.now).records → OnOk result (self.new ≡ with_event_unless (limit_of_sizes event.now.packets event.now.bytes (length event.now.text) self.old) n (together parts.now).packets (together parts.now).records self.old) }
+        requires fits { AllByRecursion (λ p. FitsPacket p) (together parts.now).packets }
+        requires letters { event.now.letters ≡ map packet_bytes (together parts.now).packets }
+        ensures ok { (n : ℕ) → event.now.text ≡ lines_text n (together parts.now).records → OnOk result (self.new ≡ with_event_unless (limit_of_sizes (length event.now.letters) event.now.bytes (length event.now.text) self.old) n (together parts.now).packets (together parts.now).records self.old) }
         ensures unfit { result ≡ Err BookFault.Unfit → ⊥ }
     {
-        match self.limit_of(event.packets, event.bytes, event.text.len()) {
+        match self.limit_of(event.letters.len(), event.bytes, event.text.len()) {
             Some(limit) => {
                 self.passed = Some(limit);
                 Ok(())
             }
-            None => self.put(parts, &event.text),
+            None => self.put(parts, event),
         }
     }
 

@@ -1,20 +1,23 @@
-ghost use Rattle.std.specs.Prelude.{◌≡◌, ◌+◌, ◌≤◌, [], ◌∷◌, ◌++◌, nat_lt, length, Err, IfOk, OnOk};
+ghost use Rattle.std.specs.Prelude.{◌≡◌, ℕ, ◌+◌, ◌≤◌, [], ◌∷◌, ◌++◌, map, nat_lt, length, slice_get, Err, Some, IfOk, OnOk};
 ghost use Rattle.std.specs.List.{AllByRecursion};
 ghost use Rattle.role_steps.specs.Tables.{total};
-ghost use Rattle.wire_messages.specs.Packets.{FitsPacket};
+ghost use Rattle.wire_messages.specs.Packets.{FitsPacket, IsPacket, packet_bytes};
+ghost use Rattle.wire_messages.specs.declared.packet.Packet.{Packet};
 ghost use Rattle.the_run.specs.Worlds.{packet_size};
 ghost use Rattle.packet_order.specs.Orders.{together};
 ghost use Rattle.packet_mail.specs.Posts.{posts};
 ghost use Rattle.run_book.specs.Ledgers.{lines_text};
 
 use crate::BookFault;
-use locus_ids::{Bytes, NoMemory};
-use packet_fit::fits;
+use locus_ids::{Bytes, ItemList, NoMemory};
 use packet_mail::Mail;
-use packet_order::{Dispatch, Part};
+use packet_order::{Dispatch, OrderFault, Part, letter_at, letter_of};
 use std::alloc::Global;
 use trace_book::{Record, render};
-use wire_messages::{Packet, encode};
+use wire_messages::Packet;
+
+/// The bytes of packets, each alone.
+type Letters = ItemList<Bytes>;
 
 /// So many more are past the limit.
 pub fn is_past(limit: usize, count: usize, more: usize) -> bool
@@ -24,64 +27,66 @@ pub fn is_past(limit: usize, count: usize, more: usize) -> bool
     more > limit - count
 }
 
-/// The number of all packets together.
-fn count_of_all(parts: &[Part]) -> Result<usize, NoMemory>
-    ensures { IfOk result (λ count. count ≡ length (together parts.now).packets) }
-{
-    let mut count: usize = 0;
-    for part in parts {
-        let Some(more) = count.checked_add(part.len()) else {
-            return Err(NoMemory);
-        };
-        count = more;
-    }
-    Ok(count)
-}
-
 /// Adds the bytes of a packet, if it is one of the format.
-fn measure(packet: &Packet, letters: &mut Bytes) -> Result<(), BookFault>
-    ensures size { OnOk result (length letters.new ≡ length letters.old + packet_size packet.now) }
+fn add_letter(alloc: Global, packet: &Packet, letters: &mut Letters) -> Result<(), BookFault>
+    ensures letter { OnOk result (letters.new ≡ letters.old ++ packet_bytes packet.now ∷ []) }
     ensures fits { OnOk result (FitsPacket packet.now) }
     ensures unfit { result ≡ Err BookFault.Unfit → FitsPacket packet.now → ⊥ }
 {
-    if !fits(packet) {
-        return Err(BookFault::Unfit);
-    }
-    match encode(packet, letters) {
+    let letter = match letter_of(alloc, packet) {
+        Ok(letter) => letter,
+        Err(OrderFault::Unfit) => return Err(BookFault::Unfit),
+        Err(OrderFault::NoMemory) => return Err(BookFault::NoMemory),
+    };
+    match letters.push(letter) {
         Ok(()) => Ok(()),
         Err(_) => Err(BookFault::NoMemory),
     }
 }
 
-/// Adds the bytes of the packets of a part, if they are of the format.
-fn measure_part(part: &Part, letters: &mut Bytes) -> Result<(), BookFault>
-    ensures size { OnOk result (length letters.new ≡ length letters.old + total packet_size part.now.packets) }
+/// Adds the bytes of each packet of a part, if they are of the format.
+fn add_letters(alloc: Global, part: &Part, letters: &mut Letters) -> Result<(), BookFault>
+    ensures letters { OnOk result (letters.new ≡ letters.old ++ map packet_bytes part.now.packets) }
     ensures fits { OnOk result (AllByRecursion (λ p. FitsPacket p) part.now.packets) }
     ensures unfit { result ≡ Err BookFault.Unfit → AllByRecursion (λ p. FitsPacket p) part.now.packets → ⊥ }
 {
     for i in 0..part.len() {
         match part.packet(i) {
-            Some(packet) => measure(packet, letters)?,
+            Some(packet) => add_letter(alloc, packet, letters)?,
             None => return Err(BookFault::NoMemory),
         }
     }
     Ok(())
 }
 
-/// The number of bytes of all packets together, if they are of the format.
-fn size_of_all(alloc: Global, parts: &[Part]) -> Result<usize, BookFault>
-    ensures size { IfOk result (λ size. size ≡ total packet_size (together parts.now).packets) }
+/// The bytes of each packet in turn, if all are of the format.
+fn letters_of_all(alloc: Global, parts: &[Part]) -> Result<Letters, BookFault>
+    ensures letters { IfOk result (λ made. made ≡ map packet_bytes (together parts.now).packets) }
     ensures fits { OnOk result (AllByRecursion (λ p. FitsPacket p) (together parts.now).packets) }
     ensures unfit { result ≡ Err BookFault.Unfit → AllByRecursion (λ p. FitsPacket p) (together parts.now).packets → ⊥ }
 {
-    let mut letters = Bytes::new(alloc);
+    let mut letters = Letters::new(alloc);
     for part in parts {
-        match measure_part(part, &mut letters) {
+        match add_letters(alloc, part, &mut letters) {
             Ok(()) => {}
             Err(fault) => return Err(fault),
         }
     }
-    Ok(letters.len())
+    Ok(letters)
+}
+
+/// The number of bytes of all letters together.
+fn size_of_all(letters: &[Bytes]) -> Result<usize, NoMemory>
+    ensures { IfOk result (λ size. size ≡ total length letters.now) }
+{
+    let mut size: usize = 0;
+    for letter in letters {
+        let Some(more) = size.checked_add(letter.len()) else {
+            return Err(NoMemory);
+        };
+        size = more;
+    }
+    Ok(size)
 }
 
 /// Adds the text of some records of one line.
@@ -105,41 +110,46 @@ fn text_of_all(alloc: Global, line: u32, parts: &[Part]) -> Result<Bytes, NoMemo
     Ok(text)
 }
 
-/// Sends a packet.
-fn put_one(mail: &mut Mail, packet: &Packet) -> Result<(), BookFault>
-    requires { FitsPacket packet.now }
+/// Sends a packet, which these bytes are.
+fn put_one(mail: &mut Mail, packet: &Packet, letter: &[u8]) -> Result<(), BookFault>
+    requires { IsPacket letter.now packet.now }
     ensures ok { OnOk result (mail.new ≡ posts (packet.now ∷ []) mail.old) }
     ensures fits { result ≡ Err BookFault.Unfit → ⊥ }
 {
-    match mail.put(packet) {
+    match mail.put(packet, letter) {
         Ok(()) => Ok(()),
         Err(_) => Err(BookFault::NoMemory),
     }
 }
 
-/// Sends the packets of a part.
-fn put_part(mail: &mut Mail, part: &Part) -> Result<(), BookFault>
-    requires { AllByRecursion (λ p. FitsPacket p) part.now.packets }
+/// Sends the packets of a part, whose bytes stand among these from a place on.
+fn put_part(mail: &mut Mail, part: &Part, letters: &[Bytes], first: usize) -> Result<(), BookFault>
+    requires packets { AllByRecursion (λ p. FitsPacket p) part.now.packets }
+    requires room { first + length part.now.packets ≤ length letters.now }
+    requires letters { (i : ℕ) (p : Packet) → slice_get part.now.packets i ≡ Some p → slice_get letters.now (first + i) ≡ Some (packet_bytes p) }
     ensures ok { OnOk result (mail.new ≡ posts part.now.packets mail.old) }
     ensures fits { result ≡ Err BookFault.Unfit → ⊥ }
 {
     for i in 0..part.len() {
         match part.packet(i) {
-            Some(packet) => put_one(mail, packet)?,
+            Some(packet) => put_one(mail, packet, letter_at(letters, first + i))?,
             None => return Err(BookFault::NoMemory),
         }
     }
     Ok(())
 }
 
-/// Sends all packets.
-pub fn put_all(mail: &mut Mail, parts: &[Part]) -> Result<(), BookFault>
-    requires { AllByRecursion (λ p. FitsPacket p) (together parts.now).packets }
+/// Sends all packets, whose bytes these are.
+pub fn put_all(mail: &mut Mail, parts: &[Part], letters: &[Bytes]) -> Result<(), BookFault>
+    requires packets { AllByRecursion (λ p. FitsPacket p) (together parts.now).packets }
+    requires letters { letters.now ≡ map packet_bytes (together parts.now).packets }
     ensures ok { OnOk result (mail.new ≡ posts (together parts.now).packets mail.old) }
     ensures fits { result ≡ Err BookFault.Unfit → ⊥ }
 {
+    let mut first = 0;
     for part in parts {
-        put_part(mail, part)?;
+        put_part(mail, part, letters, first)?;
+        first += part.len();
     }
     Ok(())
 }
@@ -147,34 +157,35 @@ pub fn put_all(mail: &mut Mail, parts: &[Part]) -> Result<(), BookFault>
 /// What an event sends and tells, measured.
 #[derive(Debug, Drop)]
 pub struct Measured {
-    pub packets: usize,
+    /// The bytes of each packet.
+    pub letters: Letters,
     pub bytes: usize,
     pub text: Bytes,
 }
 
 /// Measures what an event of a line sends and tells. `Unfit` only where a packet isn't one of the format.
 pub fn sizes_of(alloc: Global, line: u32, out: &Dispatch) -> Result<Measured, BookFault>
-    ensures packets { IfOk result (λ event. event.packets ≡ length out.now.packets) }
+    ensures letters { IfOk result (λ event. event.letters ≡ map packet_bytes out.now.packets) }
     ensures bytes { IfOk result (λ event. event.bytes ≡ total packet_size out.now.packets) }
     ensures text { IfOk result (λ event. event.text ≡ lines_text line out.now.records) }
     ensures fits { OnOk result (AllByRecursion (λ p. FitsPacket p) out.now.packets) }
     ensures unfit { result ≡ Err BookFault.Unfit → AllByRecursion (λ p. FitsPacket p) out.now.packets → ⊥ }
 {
     let parts = out.parts();
-    let bytes = match size_of_all(alloc, parts) {
-        Ok(bytes) => bytes,
+    let letters = match letters_of_all(alloc, parts) {
+        Ok(letters) => letters,
         Err(fault) => return Err(fault),
+    };
+    let bytes = match size_of_all(letters.as_slice()) {
+        Ok(bytes) => bytes,
+        Err(_) => return Err(BookFault::NoMemory),
     };
     let text = match text_of_all(alloc, line, parts) {
         Ok(text) => text,
         Err(_) => return Err(BookFault::NoMemory),
     };
-    let packets = match count_of_all(parts) {
-        Ok(packets) => packets,
-        Err(_) => return Err(BookFault::NoMemory),
-    };
     Ok(Measured {
-        packets,
+        letters,
         bytes,
         text,
     })

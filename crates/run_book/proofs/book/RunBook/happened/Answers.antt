@@ -1,8 +1,9 @@
-use Rattle.std.proofs.Common.{◌≡◌, length, sym, ap, ◌∙◌}
+use Rattle.std.proofs.Common.{◌≡◌, ℕ, List, length, sym, ap, ◌∙◌}
 use Rattle.wire_messages.specs.Outboxes.{Outgoing}
 use Rattle.packet_order.specs.Orders.{together}
 use Rattle.run_book.specs.Ledgers.{limit_of_sizes, lines_text, with_event_unless}
 use Rattle.run_book.proofs.Kept.{books_within}
+use Rattle.run_book.proofs.PartLetters.{as_many}
 use Rattle.run_book.proofs.book.RunBook.happened.Goals as goal
 
 pub returns-clause-ok : goal.returns-clause-ok
@@ -11,6 +12,6 @@ returns-clause-ok c =
     let n = c.args.line in
     let event = c.in-Ok.event in
     let text : event.text ≡ lines_text n (together c.parts.result.now).records = c.in-Ok.ensures.text ∙ ap (λ (o : Outgoing). lines_text n o.records) c.parts.ensures in
-    books_within n c.args.out.now.packets c.args.out.now.records b c.enter.new.self c.passed.result event.packets event.bytes event.text
-    c.passed.ensures (sym c.is_some.ensures ∙ c.if-is_some.false) c.in-Ok.ensures.packets c.in-Ok.ensures.bytes c.in-Ok.ensures.text
-    (c.in_ok-enter.ensures.ok n text ∙ ap (λ (o : Outgoing). with_event_unless (limit_of_sizes event.packets event.bytes (length event.text) b) n o.packets o.records b) (sym c.parts.ensures))
+    books_within n c.args.out.now.packets c.args.out.now.records b c.enter.new.self c.passed.result (length event.letters) event.bytes event.text
+    c.passed.ensures (sym c.is_some.ensures ∙ c.if-is_some.false) (ap (λ (ls : List (List ℕ)). length ls) c.in-Ok.ensures.letters ∙ as_many c.args.out.now.packets) c.in-Ok.ensures.bytes c.in-Ok.ensures.text
+    (c.in_ok-enter.ensures.ok n text ∙ ap (λ (o : Outgoing). with_event_unless (limit_of_sizes (length event.letters) event.bytes (length event.text) b) n o.packets o.records b) (sym c.parts.ensures))
