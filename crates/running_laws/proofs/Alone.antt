@@ -1,5 +1,5 @@
 -- In every run a site commits a file alone: no other grant of the file in the epoch is left, makes apart.
-use Rattle.std.proofs.Common.{◌≡◌, ℕ, List, [], ◌∷◌, sym, inl, inr}
+use Rattle.std.proofs.Common.{ℕ, List, [], ◌∷◌, sym, inl, inr}
 use Rattle.locus_ids.specs.declared.ids.EpochId.{EpochId}
 use Rattle.locus_ids.specs.declared.ids.FileId.{FileId}
 use Rattle.locus_ids.specs.declared.ids.Mode.{Mode}
@@ -11,7 +11,7 @@ use Rattle.role_steps.specs.Views.{Told, Shown}
 use Rattle.the_run.specs.Runs.{run_in}
 use Rattle.vector_laws.specs.Written.{past_of}
 use Rattle.lock_laws.specs.Locks.{IsOfAFile}
-use Rattle.lock_laws.specs.Grants.{WasGrantedAs, IsOver, GrantsAreLocked}
+use Rattle.lock_laws.specs.Grants.{IsOver, GrantsAreLocked}
 use Rattle.lock_laws.proofs.Facts.{Later, same_later, one_later, then_later}
 use Rattle.lock_laws.proofs.GrantsRun.{run_grants}
 use Rattle.writer_laws.proofs.Granting.{apart}

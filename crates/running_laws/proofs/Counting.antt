@@ -15,7 +15,7 @@ use Rattle.dir_format.specs.declared.looking.LookResult.TheVariants as look
 use Rattle.dir_format.specs.Contents.{entries_of, is_dir}
 use Rattle.dir_format.specs.Lookups.{has_name, lookup, shown_names}
 use Rattle.dir_format.specs.Effects.{DirEffect, dir_effect, answers, refuses, max_size, size_of, probe_beside, probe_effect, find_by, find_effect, empty_among}
-use Rattle.file_effects.specs.Effects.{As, Effect, is_refusal, is_worded, in_directory, on_directory, effect}
+use Rattle.file_effects.specs.Effects.{Effect, is_refusal, is_worded, in_directory, on_directory}
 use Rattle.file_effects.specs.Works.{begins_owing, counted, carried_out, operated}
 use Rattle.file_effects.specs.declared.work.Work.{Work}
 use Rattle.role_steps.specs.OperationEffects.{Mending, effect_of}

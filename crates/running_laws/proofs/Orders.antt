@@ -1,5 +1,5 @@
 -- What was asked of one instance is asked alike, by the book: changes are of writers, and opens are as they were granted.
-use Rattle.std.proofs.Common.{◌≡◌, ℕ, ◌⊎◌, false, List, refl, sym, ◌∙◌, ap, subst, inl, inr}
+use Rattle.std.proofs.Common.{◌≡◌, ℕ, false, List, refl, sym, ◌∙◌, ap, subst}
 use Rattle.locus_ids.specs.declared.ids.EpochId.{EpochId}
 use Rattle.locus_ids.specs.declared.ids.FileId.{FileId}
 use Rattle.locus_ids.specs.declared.ids.Serial.{Serial}
@@ -24,14 +24,13 @@ use Rattle.the_run.specs.Steps.{from_user}
 use Rattle.the_run.specs.Worlds.{World, Numbered}
 use Rattle.the_run.specs.Runs.{run_in}
 use Rattle.run_laws.proofs.Run.{found_among}
-use Rattle.vector_laws.specs.Written.{past_of, WasTold}
-use Rattle.instance_laws.specs.Book.{Listed, Asked, Placed, Book, AskedBy, IsFor, Sound}
-use Rattle.instance_laws.specs.Facts.{OpenSsFact, BodyFact, GrantFact, RecordFact, ToldFact, NumberedFact, WorldFact, Booked}
+use Rattle.vector_laws.specs.Written.{past_of}
+use Rattle.instance_laws.specs.Book.{Listed, Asked, Book, AskedBy, IsFor}
+use Rattle.instance_laws.specs.Facts.{BodyFact, GrantFact, RecordFact, ToldFact, NumberedFact, WorldFact, Booked}
 use Rattle.instance_laws.proofs.Books.{asked_once}
 use Rattle.instance_laws.proofs.InstancesRun.{run_booked}
 use Rattle.lock_laws.specs.Joins.{WasJoined}
 use Rattle.lock_laws.specs.Locks.{IsOfAFile}
-use Rattle.lock_laws.specs.Grants.{WasGrantedAs}
 use Rattle.lock_laws.proofs.JoinsRun.{run_joins_once}
 use Rattle.writer_laws.specs.Asking.{NotToRead, AsksToWrite, IsAskedToWrite}
 use Rattle.writer_laws.proofs.AsksRun.{run_changes}
@@ -59,7 +58,7 @@ joined_listed c w g s e m h =
     join_told g.0 s e m k.0 k.1 k.2
 
 -- an instance that was asked for, by the book
-pub record OpenNoted (book : Book) (e : EpochId) (to key : ℕ) (m : Mode) (file : FileId) : Type 0 where
+pub record OpenNoted (book : Book) (e : EpochId) (key : ℕ) (m : Mode) (file : FileId) : Type 0 where
   pub inst : Serial
   pub key_is : serial_key inst ≡ key
   pub members : Members
@@ -69,16 +68,12 @@ pub record OpenNoted (book : Book) (e : EpochId) (to key : ℕ) (m : Mode) (file
   pub asked : AskedBy book members inst asked_file how
   pub mode_is : mode_of how ≡ m
   pub is_for : IsFor m file asked_file
-  pub group : ℕ
-  pub css : ℕ
-  pub boot : ℕ
-  pub placed : Among (Placed e inst group css boot to) book
 
-body_noted : (book : Book) (p : Packet) (b : Body) (key : ℕ) (m : Mode) (file : FileId) → BodyFact book p b → AsksIn key m file b → OpenNoted book p.epoch p.to key m file
-body_noted book p (body.OpenSs inst asked n set kind base vector parents) key m file h k = record { inst = inst; key_is = k.0; members = h.members; listed = h.listed; asked_file = asked; how = h.how; asked = h.asked; mode_is = h.mode_is ∙ k.1; is_for = k.2; group = asked.group; css = h.css; boot = h.css_boot; placed = h.placed }
+body_noted : (book : Book) (p : Packet) (b : Body) (key : ℕ) (m : Mode) (file : FileId) → BodyFact book p b → AsksIn key m file b → OpenNoted book p.epoch key m file
+body_noted book p (body.OpenSs inst asked n set kind base vector parents) key m file h k = record { inst = inst; key_is = k.0; members = h.members; listed = h.listed; asked_file = asked; how = h.how; asked = h.asked; mode_is = h.mode_is ∙ k.1; is_for = k.2 }
 body_noted book p _ key m file h k = absurd k
 
-pub open_noted : (c : Config) (w : World) (g : Booked c w) (y : Numbered) (key : ℕ) (m : Mode) (file : FileId) → Among y w.sent → AsksIn key m file y.packet.body → OpenNoted g.0 y.packet.epoch y.packet.to key m file
+pub open_noted : (c : Config) (w : World) (g : Booked c w) (y : Numbered) (key : ℕ) (m : Mode) (file : FileId) → Among y w.sent → AsksIn key m file y.packet.body → OpenNoted g.0 y.packet.epoch key m file
 open_noted c w g y key m file a k = let world : WorldFact c g.0 w = g.1 in body_noted g.0 y.packet y.packet.body key m file (found_among (NumberedFact g.0) y w.sent world.packets a) k
 
 -- an open that was asked to write
@@ -108,7 +103,7 @@ run_writers c lines x y serial t members m file a b change asks same joined boot
     let world : WorldFact c g.0 w = g.1 in
     let r : IsAskedToWrite w.sent x.packet.from x.packet.from_boot serial = run_changes c lines x serial a change in
     let q : WriteNoted g.0 r.opening.packet.from r.opening.packet.from_boot serial = write_noted g.0 r.opening.packet r.opening.packet.body serial (found_among (NumberedFact g.0) r.opening w.sent world.packets r.was_sent) r.asks in
-    let n : OpenNoted g.0 y.packet.epoch y.packet.to (serial_key (from_user x.packet.from serial)) m file = open_noted c w g y (serial_key (from_user x.packet.from serial)) m file b asks in
+    let n : OpenNoted g.0 y.packet.epoch (serial_key (from_user x.packet.from serial)) m file = open_noted c w g y (serial_key (from_user x.packet.from serial)) m file b asks in
     let listed : Among (Listed y.packet.epoch members) g.0 = subst (λ (e : EpochId). Among (Listed e members) g.0) same (joined_listed c w g t x.packet.epoch members joined) in
     let one : n.members ≡ members = world.sound.once.listed y.packet.epoch n.members members n.listed listed in
     let wrote : Among (Asked x.packet.from (boot_in members.boot x.packet.from) serial q.file q.how) g.0 = subst (λ (d : ℕ). Among (Asked x.packet.from d serial q.file q.how) g.0) (r.boot_is ∙ sym boot) (subst (λ (s : ℕ). Among (Asked s r.opening.packet.from_boot serial q.file q.how) g.0) r.site_is q.asked) in
@@ -133,7 +128,7 @@ run_as_granted c lines y key m n asked file a asks granted =
     let w : World = run_in c lines in
     let g : Booked c w = run_booked c lines in
     let world : WorldFact c g.0 w = g.1 in
-    let asking : OpenNoted g.0 y.packet.epoch y.packet.to key m asked = open_noted c w g y key m asked a asks in
+    let asking : OpenNoted g.0 y.packet.epoch key m asked = open_noted c w g y key m asked a asks in
     let grant : GrantNoted g.0 y.packet.epoch key file n = grant_noted c w g y.packet.epoch key file n granted in
     let given : GrantFact g.0 y.packet.epoch grant.inst n file = grant.fact in
     let one : asking.members ≡ given.members = world.sound.once.listed y.packet.epoch asking.members given.members asking.listed given.listed in

@@ -6,7 +6,7 @@ use Rattle.wire_messages.specs.declared.packet.Packet.{Packet}
 use Rattle.role_steps.specs.Own.{Every}
 use Rattle.role_steps.specs.Tables.{row}
 use Rattle.role_steps.specs.Views.{SiteView, Told, Outcome, all_sites}
-use Rattle.the_run.specs.Disks.{Disk, Booted, Whole, CutOff, boots}
+use Rattle.the_run.specs.Disks.{Booted, Whole, CutOff, boots}
 use Rattle.the_run.specs.Worlds.{World, Place, Running, Stopped, happened, place_at, place_in, place_site, script_of, puts, arms, passed, stops_with, disk_of, acts, fresh, first_place, first_world}
 use Rattle.the_run.specs.Runs.{boots_as}
 use Rattle.the_run.specs.Kept.{Kept}

@@ -1,7 +1,6 @@
 -- In every run no plain grant of a begun instance is refused.
-use Rattle.std.proofs.Common.{◌≡◌, ℕ, ◌≤◌, ◌⊎◌, List, refl, sym, ◌∙◌, ap, subst, inl, inr, arith}
+use Rattle.std.proofs.Common.{◌≡◌, ℕ, ◌≤◌, ◌⊎◌, List, sym, ◌∙◌, ap, subst, inl, inr, arith}
 use Rattle.locus_ids.specs.declared.ids.EpochId.{EpochId}
-use Rattle.locus_ids.specs.declared.ids.FileId.{FileId}
 use Rattle.locus_ids.specs.declared.ids.Serial.{Serial}
 use Rattle.locus_ids.specs.declared.ids.Mode.{Mode}
 use Rattle.locus_ids.specs.declared.ids.Mode.TheVariants as mode
@@ -14,14 +13,13 @@ use Rattle.role_steps.specs.Opens.{mode_of}
 use Rattle.role_steps.specs.Views.{Told, Shown, serial_key}
 use Rattle.the_run.specs.Worlds.{World}
 use Rattle.the_run.specs.Runs.{run_in}
-use Rattle.vector_laws.specs.Written.{past_of, WasTold}
+use Rattle.vector_laws.specs.Written.{past_of}
 use Rattle.instance_laws.specs.Book.{Book, AskedBy}
 use Rattle.instance_laws.specs.Facts.{WasDenied, RefuseFact, GrantFact, RecordFact, ToldFact, WorldFact, Booked}
 use Rattle.instance_laws.proofs.Books.{asked_once}
 use Rattle.instance_laws.proofs.InstancesRun.{run_booked}
-use Rattle.lock_laws.specs.Going.{WasBegunAt}
 use Rattle.lock_laws.specs.Locks.{IsOfAFile}
-use Rattle.lock_laws.specs.Grants.{WasGrantedAs, RefusedRecord, Refused}
+use Rattle.lock_laws.specs.Grants.{RefusedRecord, Refused}
 use Rattle.writer_laws.proofs.Granting.{told_found, GrantNoted, grant_noted}
 use Rattle.running_laws.specs.Running.{PlainGrantsStand}
 use Rattle.running_laws.proofs.OneSite.{KeyPlaced, begun_placed, placed_once}

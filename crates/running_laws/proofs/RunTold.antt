@@ -1,5 +1,5 @@
 -- What stores tell in every run, as it was owed: where instances are begun, and that what is done is of running instances.
-use Rattle.std.proofs.Common.{◌≡◌, ◌≤◌, ℕ, false, List, [], ◌∷◌, refl, sym, ◌∙◌, subst, inl, inr}
+use Rattle.std.proofs.Common.{◌≡◌, ◌≤◌, ℕ, false, List, [], ◌∷◌, refl, sym, subst, inl, inr}
 use Rattle.locus_ids.specs.declared.ids.EpochId.{EpochId}
 use Rattle.locus_ids.specs.declared.ids.FileId.{FileId}
 use Rattle.locus_ids.specs.declared.ids.Mode.{Mode}
@@ -13,7 +13,7 @@ use Rattle.the_run.specs.Worlds.{World, Numbered}
 use Rattle.the_run.specs.Runs.{run_in}
 use Rattle.vector_laws.specs.Written.{past_of, WasTold, Begun, WasBegun, GrantedRecord, Granted as WasGrantedBy, WasGranted, InstancesAgree}
 use Rattle.instance_laws.proofs.Agree.{run_agrees}
-use Rattle.lock_laws.specs.Going.{BegunAt, WasBegunAt, ShutAt, WasShutAt, ReleasedRecord, Released, WasReleased, IsEnding, RecordGoesOn, InstanceGoesOn, InstancesGoOn}
+use Rattle.lock_laws.specs.Going.{BegunAt, WasBegunAt, ShutAt, WasShutAt, ReleasedRecord, Released, WasReleased, RecordGoesOn, InstanceGoesOn, InstancesGoOn}
 use Rattle.lock_laws.specs.Locks.{IsOfAFile}
 use Rattle.lock_laws.specs.Grants.{WasGrantedAs}
 use Rattle.lock_laws.proofs.Facts.{Later, same_later, one_later, then_later}
@@ -21,10 +21,10 @@ use Rattle.lock_laws.proofs.FactsRun.{run_goes}
 use Rattle.writer_laws.specs.Granting.{GrantedThere, GrantsNameTheirSite}
 use Rattle.writer_laws.proofs.PlacesRun.{run_sites}
 use Rattle.running_laws.specs.Stores.{IsAsked, StoresStand}
-use Rattle.running_laws.specs.Running.{IsRunning, IsRunningSomewhere, IsWritten, RecordRuns, ToldRuns, InstancesRun, BegunAtOneSite, OpensAreAsGranted}
+use Rattle.running_laws.specs.Running.{IsRunning, RecordRuns, ToldRuns, InstancesRun, BegunAtOneSite, OpensAreAsGranted}
 use Rattle.running_laws.proofs.Spine.{Owed}
 use Rattle.running_laws.proofs.SpineRun.{EachOwed, Holds}
-use Rattle.running_laws.proofs.Stand.{Runs, RunsSomewhere, RunsToWrite, RecordOwed, StandFacts, StandOwed}
+use Rattle.running_laws.proofs.Stand.{Runs, RecordOwed, StandFacts, StandOwed}
 use Rattle.running_laws.proofs.StandRun.{stores_stand, run_standing}
 use Rattle.running_laws.proofs.Orders.{run_orderly, run_as_granted}
 use Rattle.running_laws.proofs.OneSite.{run_one_site}
@@ -160,15 +160,14 @@ record_runs w older (says.Commit file s stamp parents content) laws later goes h
     record { epoch = h.epoch; key = h.key; mode = k.mode; runs = k.runs; writes = subst (λ (m : Mode). is_read m ≡ false) same h.writes }
 record_runs w older _ laws later goes h = tt
 
-told_runs : (w : World) (older : List Told) (x : Told) → Laws w → Later older (past_of w.trace) → InstancesGoOn older → StandOwed w.sent older x → ToldRuns older x
-told_runs w older (Shown r) laws later goes h = record_runs w older r laws later goes h
+told_runs : (w : World) (older : List Told) (x : Told) → Laws w → Later (x ∷ older) (past_of w.trace) → InstancesGoOn older → StandOwed w.sent older x → ToldRuns older x
+told_runs w older (Shown r) laws later goes h = record_runs w older r laws (then_later older (Shown r ∷ older) (past_of w.trace) (one_later (Shown r) older) later) goes h
+told_runs w older (Begins s e inst file) laws later goes h = λ t other k. h.new other (subst (λ (n : ℕ). WasBegunAt older n e (serial_key inst) other) (sym (laws.one_site e (serial_key inst) s t file other (later _ (inl (refl, refl, refl, refl))) (later _ (inr k)))) k)
 told_runs w older _ laws later goes h = tt
 
 each_runs : (w : World) (past : List Told) → Laws w → Later past (past_of w.trace) → InstancesGoOn past → EachOwed (StandOwed w.sent) past → InstancesRun past
 each_runs w [] laws later goes h = tt
-each_runs w (x ∷ older) laws later goes h =
-    let before : Later older (past_of w.trace) = then_later older (x ∷ older) (past_of w.trace) (one_later x older) later in
-    (told_runs w older x laws before goes.1 h.0, each_runs w older laws before goes.1 h.1)
+each_runs w (x ∷ older) laws later goes h = (told_runs w older x laws later goes.1 h.0, each_runs w older laws (then_later older (x ∷ older) (past_of w.trace) (one_later x older) later) goes.1 h.1)
 
 run_laws_of : (c : Config) (lines : List ScheduleLine) → Laws (run_in c lines)
 run_laws_of c lines = record { one_site = run_one_site c lines; agree = run_agrees c lines; names = run_sites c lines; as_granted = run_as_granted c lines }

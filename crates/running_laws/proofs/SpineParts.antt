@@ -15,13 +15,12 @@ use Rattle.wire_messages.specs.declared.body.Body.TheVariants as body
 use Rattle.role_steps.specs.Own.{Every}
 use Rattle.role_steps.specs.Tables.{row, without_row, first_that}
 use Rattle.role_steps.specs.Views.{Frame, Store, Users, SiteView, Told, Shown, Begins, Shuts, Reserves, Promises, Outcome, quiet, sends, tells, and_then}
-use Rattle.role_steps.specs.Reports.{on_report, on_open, on_look, on_closed, on_have, on_have_of}
+use Rattle.role_steps.specs.Reports.{on_report, on_open, on_look, on_closed, on_have}
 use Rattle.role_steps.specs.Opens.{on_opened}
 use Rattle.role_steps.specs.Storage.{copy_of, with_copy, instance_of, on_open_ss, on_close, on_closed_ok}
 use Rattle.role_steps.specs.Operations.{on_op}
 use Rattle.role_steps.specs.Pulling.{pull_of, on_notify, on_page}
 use Rattle.role_steps.specs.Using.{on_call, on_open_done, on_op_done, on_close_done, on_look_done}
-use Rattle.role_steps.specs.Versions.{file_row}
 use Rattle.role_steps.specs.Epochs.{is_epoch_below, frame_in, with_users, leaves_of, leaves, promises, promised_view, reached, polls, round_id, begins_round, boots_where, part_boot, starts_part_of, promise_packet, refuse_packet, on_poll, on_promise_of, on_refuse_of, joins, may_install, is_in, joined_packet, on_install, on_joined, passed_over, unanswered, chosen_members, chosen_set, installs_all, decides_if, passes_over_of, passes_over}
 use Rattle.role_steps.specs.Adoption.{notes_own_at, copy_adopted, table_group, with_store, without_pull, is_ready, is_above_own, adopts_pull, adopts_first}
 use Rattle.role_steps.specs.Mends.{mending, kept_stamps, has_mend_in, wants_mend, starts_mend_of, starts_mend, starts_mends_in, row_file}
@@ -34,7 +33,6 @@ use Rattle.the_run.specs.Steps.{from_user, group_of, at_table_of, is_opened_in, 
 use Rattle.the_run.proofs.Boots.{every_weaker}
 use Rattle.run_laws.specs.Naming.{Deeds, ViewOk}
 use Rattle.run_laws.proofs.SyncTells.{on_opened_talks, on_open_talks, on_look_talks, on_report_talks, on_closed_talks}
-use Rattle.run_laws.specs.Words.{Talks}
 use Rattle.vector_laws.specs.Written.{WasTold}
 use Rattle.vector_laws.specs.Facts.{onto}
 use Rattle.vector_laws.proofs.FormingFacts.{both_true}

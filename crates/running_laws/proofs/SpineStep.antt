@@ -12,10 +12,9 @@ use Rattle.wire_messages.specs.declared.body.Body.TheVariants as body
 use Rattle.role_steps.specs.Views.{SiteView, Told, DiskWrite, Outcome, Event, Calls, Receives, Ticks, Parts, Merges, GivesUp, quiet, joined_to, first_written, boot_in}
 use Rattle.role_steps.specs.Storage.{copy_of}
 use Rattle.role_steps.specs.Pulling.{pull_of}
-use Rattle.role_steps.specs.Using.{on_call}
 use Rattle.role_steps.specs.Epochs.{frame_in, leaves, starts_part, starts_merge, boots_where, merge_boot}
 use Rattle.role_steps.specs.declared.rounds.InEpoch.{InEpoch}
-use Rattle.the_run.specs.Steps.{is_framed, is_forming, is_dropped, takes_inside, takes_framed, takes, adopts_in, tries_at, ends_event, whole, ticks_after, call_frame, epoch_id, takes_call, step}
+use Rattle.the_run.specs.Steps.{is_framed, is_forming, is_dropped, takes_framed, takes, adopts_in, tries_at, ends_event, whole, call_frame, epoch_id, takes_call, step}
 use Rattle.the_run.proofs.InsideSites.{adopts_of_plain}
 use Rattle.the_run.proofs.InsideRoles.{on_call_still}
 use Rattle.run_laws.specs.Naming.{Deeds, Now, ViewOk, Fine as EpochFine}

@@ -1,5 +1,5 @@
 -- What stands in a store, by what was told: it stays where the store tells nothing, and an instance is put in place.
-use Rattle.std.proofs.Common.{◌≡◌, ◌≤◌, ℕ, ◌==◌, ◌⊎◌, Bool, true, false, List, [], ◌∷◌, Option, Some, None, refl, sym, ◌∙◌, ap, subst, inl, inr}
+use Rattle.std.proofs.Common.{◌≡◌, ◌≤◌, ℕ, ◌==◌, true, false, List, [], ◌∷◌, Some, None, refl, sym, ◌∙◌, ap, subst, inl, inr}
 use Rattle.locus_ids.specs.declared.ids.EpochId.{EpochId}
 use Rattle.locus_ids.specs.declared.ids.FileId.{FileId}
 use Rattle.locus_ids.specs.declared.ids.Mode.{Mode}
@@ -7,14 +7,11 @@ use Rattle.locus_ids.specs.declared.sites.Members.{Members}
 use Rattle.commit_graph.specs.Grants.{is_read}
 use Rattle.trace_book.specs.declared.record.Record.{Record}
 use Rattle.trace_book.specs.declared.record.Record.TheVariants as says
-use Rattle.role_steps.specs.Own.{Every}
 use Rattle.role_steps.specs.Tables.{row, with_latest}
-use Rattle.role_steps.specs.Views.{Told, Shown, Begins, Shuts, Reserves, boot_in, serial_key}
+use Rattle.role_steps.specs.Views.{Told, Shown, Begins, Shuts, boot_in, serial_key}
 use Rattle.role_steps.specs.Storage.{instance_key}
 use Rattle.role_steps.specs.declared.instances.Instance.{Instance}
-use Rattle.role_steps.specs.declared.instances.Stage.{Stage}
 use Rattle.role_steps.specs.declared.instances.Stage.TheVariants as stage
-use Rattle.role_steps.specs.declared.rounds.InEpoch.{InEpoch}
 use Rattle.the_run.specs.Kept.{Among}
 use Rattle.the_run.specs.Steps.{from_user}
 use Rattle.the_run.specs.Worlds.{Numbered}
@@ -23,13 +20,12 @@ use Rattle.vector_laws.specs.Written.{WasTold}
 use Rattle.vector_laws.proofs.SyncFacts.{every_latest}
 use Rattle.lock_laws.specs.Going.{BegunAt, WasBegunAt, ShutAt, WasShutAt, IsGranted}
 use Rattle.lock_laws.specs.Joins.{WasJoined}
-use Rattle.lock_laws.proofs.Facts.{Later, onto_later}
+use Rattle.lock_laws.proofs.Facts.{onto_later}
 use Rattle.lock_laws.proofs.GrantTold.{latest_other, latest_same, test_same, none_some, some_same}
-use Rattle.vector_laws.specs.Facts.{onto}
 use Rattle.writer_laws.specs.Asking.{AsksChange}
 use Rattle.writer_laws.proofs.AsksRun.{Leads}
 use Rattle.running_laws.specs.Stores.{HasOn, HasShut, AsksIn, IsAsked, InstanceSo, Stands}
-use Rattle.running_laws.proofs.Spine.{Facts, Owed, FreeRecord, Free, IsStoreOf, ElsewhereRecord, Elsewhere, Spine}
+use Rattle.running_laws.proofs.Spine.{FreeRecord, Free, IsStoreOf, Elsewhere, Spine}
 use Rattle.running_laws.proofs.SpineRun.{SentFacts, SentOwed, Premise, Spines}
 
 -- ---- what is owed of what stores tell ----

@@ -1,12 +1,9 @@
 -- Operations, and each packet that the store takes: what stands in it is kept.
-use Rattle.std.proofs.Common.{◌≡◌, ℕ, ◌+◌, ◌==◌, Bool, true, false, ◌&&◌, List, [], Option, Some, None, refl, sym, ◌∙◌, subst, inl, inr}
+use Rattle.std.proofs.Common.{◌≡◌, ℕ, ◌+◌, ◌==◌, Bool, true, false, ◌&&◌, List, Option, Some, None, refl}
 use Rattle.std.specs.Option.{is_none}
 use Rattle.locus_ids.specs.declared.ids.Serial.{Serial}
-use Rattle.locus_ids.specs.declared.config.Config.{Config}
-use Rattle.commit_graph.specs.Grants.{is_read}
 use Rattle.trace_book.specs.declared.operation.Op.{Op}
 use Rattle.trace_book.specs.declared.operation.Op.TheVariants as op
-use Rattle.trace_book.specs.declared.operation.Outcome.{Outcome as Result}
 use Rattle.trace_book.specs.declared.operation.Outcome.TheVariants as result
 use Rattle.file_effects.specs.Works.{begins_owing, aborted}
 use Rattle.role_steps.specs.Views.{Frame, Store, Told, quiet, sends, serial_key}
@@ -18,7 +15,6 @@ use Rattle.role_steps.specs.declared.instances.Stage.{Stage}
 use Rattle.role_steps.specs.declared.instances.Stage.TheVariants as stage
 use Rattle.the_run.specs.Worlds.{Numbered}
 use Rattle.lock_laws.specs.Going.{IsGranted}
-use Rattle.running_laws.specs.Stores.{Stands}
 use Rattle.running_laws.proofs.Counting.{effect_not, begins_to_write}
 use Rattle.running_laws.proofs.StandStore.{StoreOut, InStore, quiet_out, sends_out, IsHere, FoundHere, granted_at, ToWrite, acts_out, effect_out, commit_out}
 

@@ -1,48 +1,45 @@
 -- In every run stores stand as they must, and tell only of what runs.
-use Rattle.std.proofs.Common.{◌≡◌, ◌≤◌, ℕ, ◌+◌, ◌==◌, ◌⊎◌, Bool, true, false, List, [], ◌∷◌, ◌++◌, Option, Some, None, refl, sym, ◌∙◌, ap, subst, inl, inr}
+use Rattle.std.proofs.Common.{◌≡◌, ◌≤◌, ℕ, true, List, Option, Some, None, refl, sym, ◌∙◌, subst, inl, inr}
 use Rattle.locus_ids.specs.declared.ids.EpochId.{EpochId}
 use Rattle.locus_ids.specs.declared.ids.FileId.{FileId}
 use Rattle.locus_ids.specs.declared.ids.Serial.{Serial}
 use Rattle.locus_ids.specs.declared.ids.Mode.{Mode}
 use Rattle.locus_ids.specs.declared.ids.Mode.TheVariants as mode
 use Rattle.locus_ids.specs.declared.config.Config.{Config}
-use Rattle.commit_graph.specs.Grants.{is_read}
 use Rattle.schedule_lines.specs.declared.line.ScheduleLine.{ScheduleLine}
 use Rattle.trace_book.specs.declared.operation.Op.{Op}
-use Rattle.wire_messages.specs.declared.packet.Packet.{Packet}
 use Rattle.wire_messages.specs.declared.body.Body.{Body}
 use Rattle.wire_messages.specs.declared.body.Body.TheVariants as body
 use Rattle.role_steps.specs.Own.{Every}
 use Rattle.role_steps.specs.Tables.{row}
-use Rattle.role_steps.specs.Views.{Frame, Store, SiteView, Told, Outcome, serial_key}
+use Rattle.role_steps.specs.Views.{Frame, Store, SiteView, Told, serial_key}
 use Rattle.role_steps.specs.Storage.{StoreRequest, instance_key, instance_of}
 use Rattle.role_steps.specs.Epochs.{frame_in}
 use Rattle.role_steps.specs.Mends.{mending}
 use Rattle.role_steps.specs.declared.instances.Instance.{Instance}
 use Rattle.role_steps.specs.declared.rounds.InEpoch.{InEpoch}
 use Rattle.run_laws.proofs.Run.{found_among}
-use Rattle.run_laws.specs.Naming.{Good}
 use Rattle.the_run.specs.Kept.{Among, WasSent, Kept}
 use Rattle.the_run.specs.Runs.{run_in}
 use Rattle.the_run.specs.Steps.{from_user, group_of}
-use Rattle.the_run.specs.Worlds.{World, Running, Numbered, place_at, first_world}
+use Rattle.the_run.specs.Worlds.{World, Running, Numbered, first_world}
 use Rattle.the_run.proofs.Runs.{every_run}
 use Rattle.vector_laws.specs.Written.{past_of}
 use Rattle.vector_laws.proofs.SyncFacts.{FoundAt, row_at}
 use Rattle.instance_laws.specs.Book.{IsFor}
-use Rattle.lock_laws.specs.Facts.{BodyFact, InstanceFact, NumberedFact, WorldFact, ViewFact}
+use Rattle.lock_laws.specs.Facts.{BodyFact, InstanceFact, NumberedFact, WorldFact}
 use Rattle.lock_laws.specs.Joins.{WasJoined}
 use Rattle.lock_laws.specs.Writing.{changes}
 use Rattle.lock_laws.proofs.SiteFacts.{inside_of}
 use Rattle.pack_laws.proofs.LocksKept.{Both, both_kept, first_both}
 use Rattle.writer_laws.specs.Asking.{AsksChange}
-use Rattle.running_laws.specs.Stores.{AsksIn, IsAsked, InstanceSo, Stands, StoresStand}
+use Rattle.running_laws.specs.Stores.{AsksIn, IsAsked, InstanceSo, StoresStand}
 use Rattle.running_laws.proofs.Spine.{InSite, in_epoch}
-use Rattle.running_laws.proofs.SpineParts.{takes_store, StoreDone}
-use Rattle.running_laws.proofs.SpineStep.{IsFramed, PacketDone}
-use Rattle.running_laws.proofs.SpineRun.{Holds, Before, Where, Stores, where_kept, first_where}
+use Rattle.running_laws.proofs.SpineParts.{takes_store}
+use Rattle.running_laws.proofs.SpineStep.{IsFramed}
+use Rattle.running_laws.proofs.SpineRun.{Before, Where, Stores, where_kept, first_where}
 use Rattle.running_laws.proofs.Stand.{StandFacts, StandOwed, ChangesAreOfWriters, stand_spines}
-use Rattle.running_laws.proofs.StandStore.{StoreOut, InStore, quiet_out, IsHere, FoundHere, ToWrite, AsksHere, on_open_ss_out, on_close_out, on_closed_ok_out}
+use Rattle.running_laws.proofs.StandStore.{StoreOut, InStore, quiet_out, FoundHere, AsksHere, on_open_ss_out, on_close_out, on_closed_ok_out}
 use Rattle.running_laws.proofs.StandOps.{FoundToWrite, on_op_out}
 use Rattle.running_laws.proofs.Underway.{UnderwaySent, sent_among, underway_kept, first_underway}
 use Rattle.running_laws.proofs.Placing.{PlacesSited, places_kept, first_places}

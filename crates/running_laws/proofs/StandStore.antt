@@ -1,5 +1,5 @@
 -- What the store does of each packet keeps what stands in it, and it tells only of what runs.
-use Rattle.std.proofs.Common.{◌≡◌, ◌≤◌, ℕ, ◌+◌, ◌==◌, Bool, true, false, List, [], ◌∷◌, Option, Some, None, refl, sym, ◌∙◌, ap, subst, inl, inr}
+use Rattle.std.proofs.Common.{◌≡◌, ◌≤◌, ℕ, Bool, true, false, List, [], ◌∷◌, Option, Some, None, refl, sym, ◌∙◌, subst, inl, inr}
 use Rattle.locus_ids.specs.declared.ids.EpochId.{EpochId}
 use Rattle.locus_ids.specs.declared.ids.FileId.{FileId}
 use Rattle.locus_ids.specs.declared.ids.Serial.{Serial}
@@ -13,7 +13,7 @@ use Rattle.trace_book.specs.declared.operation.Op.TheVariants as op
 use Rattle.trace_book.specs.declared.operation.Outcome.{Outcome as Result}
 use Rattle.trace_book.specs.declared.operation.Outcome.TheVariants as result
 use Rattle.file_effects.specs.Effects.{Effect}
-use Rattle.file_effects.specs.Works.{begins_owing, result_in, counted, operated, aborted}
+use Rattle.file_effects.specs.Works.{result_in, counted, operated}
 use Rattle.file_effects.specs.declared.work.Work.{Work}
 use Rattle.wire_messages.specs.declared.packet.Packet.{Packet}
 use Rattle.wire_messages.specs.declared.body.CloseAnswer.{CloseAnswer}
@@ -21,9 +21,8 @@ use Rattle.wire_messages.specs.declared.body.CloseAnswer.TheVariants as closing
 use Rattle.role_steps.specs.Own.{Every}
 use Rattle.role_steps.specs.Tables.{row, with_latest}
 use Rattle.role_steps.specs.Views.{Frame, Store, Told, Shown, Begins, Shuts, Reserves, DiskWrite, Outcome, quiet, sends, and_then, joined_to, first_written, serial_key}
-use Rattle.role_steps.specs.Storage.{StoreRequest, copy_of, content_of, instance_key, instance_of, is_open, own_ino, begun_instance, begins, with_instance, opened_packets, opens, opens_made, on_open_ss_of, on_open_ss, is_spent, instance_committed, commit_record, commits, next_stamp, next_vector, made_version, shut, closed_packets, shuts, shuts_again, closes_owing, closes, on_close_at, on_close_of, on_close, ends_at, on_closed_ok_of, on_closed_ok, free_pages}
-use Rattle.role_steps.specs.Operations.{act_record, acts, acts_committed, commits_owing, last_committed, commit_op, executes_effect, executes, op_again, by_number, on_op_at, on_op_of, on_op}
-use Rattle.role_steps.specs.OperationEffects.{Mending, effect_of}
+use Rattle.role_steps.specs.Storage.{StoreRequest, copy_of, instance_key, instance_of, own_ino, begun_instance, begins, opens, opens_made, on_open_ss_of, on_open_ss, is_spent, instance_committed, commit_record, commits, next_stamp, next_vector, made_version, shut, shuts, shuts_again, closes_owing, closes, on_close_at, on_close_of, on_close, ends_at, on_closed_ok_of, on_closed_ok, free_pages}
+use Rattle.role_steps.specs.Operations.{act_record, acts, acts_committed, commits_owing, last_committed, commit_op, executes_effect}
 use Rattle.role_steps.specs.declared.instances.Instance.{Instance}
 use Rattle.role_steps.specs.declared.instances.Stage.{Stage}
 use Rattle.role_steps.specs.declared.instances.Stage.TheVariants as stage
@@ -31,7 +30,6 @@ use Rattle.role_steps.proofs.Sending.{every_append}
 use Rattle.the_run.specs.Worlds.{Numbered}
 use Rattle.vector_laws.specs.Facts.{onto}
 use Rattle.vector_laws.proofs.Facts.{onto_append}
-use Rattle.vector_laws.proofs.SyncFacts.{FoundAt, row_at, every_latest}
 use Rattle.lock_laws.specs.Going.{WasBegunAt, WasShutAt, IsGranted}
 use Rattle.lock_laws.specs.Writing.{changes}
 use Rattle.lock_laws.proofs.Facts.{onto_later, granted_later}
@@ -39,8 +37,8 @@ use Rattle.lock_laws.proofs.GrantTold.{latest_same, none_some}
 use Rattle.running_laws.specs.Stores.{HasOn, HasShut, IsAsked, InstanceSo, Stands}
 use Rattle.running_laws.proofs.Spine.{AllOwed, DiskOwed, owed_append}
 use Rattle.running_laws.proofs.SpineParts.{Here}
-use Rattle.running_laws.proofs.Counting.{CountsNot, effect_not, operated_owes, begins_to_write}
-use Rattle.running_laws.proofs.Stand.{Runs, RunsToWrite, BeginsNew, StandOwed, Neither, stands_told, stands_neither, stands_put, stands_new, running_not_shut}
+use Rattle.running_laws.proofs.Counting.{CountsNot, operated_owes, begins_to_write}
+use Rattle.running_laws.proofs.Stand.{Runs, RunsToWrite, StandOwed, stands_neither, stands_put, stands_new, running_not_shut}
 
 -- ---- outcomes ----
 

@@ -1,5 +1,5 @@
 -- What a synchronization site tells, by any property of what is told: starts, looks, grants, refusals and releases alone.
-use Rattle.std.proofs.Common.{◌≡◌, ℕ, true, false, List, [], ◌∷◌, ◌++◌, Option, Some, None, refl}
+use Rattle.std.proofs.Common.{ℕ, true, false, List, [], ◌∷◌, Option, Some, None}
 use Rattle.std.specs.List.{flat_map}
 use Rattle.locus_ids.specs.Sites.{has}
 use Rattle.locus_ids.specs.declared.ids.Brought.{Brought}
@@ -24,8 +24,8 @@ use Rattle.role_steps.specs.Own.{Every}
 use Rattle.role_steps.specs.Tables.{row}
 use Rattle.role_steps.specs.Views.{Frame, Told, Shown, Outcome, quiet, sends, packet, process_key}
 use Rattle.role_steps.specs.Opens.{OpenRequest, Decision, Denies, Grants, decision, decides, call_id, denied_row, asked_row, granted_row, granted_at_once, granted_at_last, on_open_of, takes_open, open_row, answers_open, by_stage, on_opened_of, on_opened}
-use Rattle.role_steps.specs.Looks.{LookRequest, Service, is_look_before, is_same_look, new_look, service, result_of, after_last, takes_look, look_key}
-use Rattle.role_steps.specs.Reports.{waits_early, on_open, on_look, takes_early, takes_all_early, brought_files, starts, starts_if, have_all_reported, counts_report, with_report, on_report, stamp_made, closes_at, on_closed_of, on_closed, on_have}
+use Rattle.role_steps.specs.Looks.{LookRequest, is_look_before, is_same_look, new_look, service, result_of, after_last, takes_look, look_key}
+use Rattle.role_steps.specs.Reports.{waits_early, on_open, on_look, takes_early, takes_all_early, brought_files, starts, starts_if, have_all_reported, counts_report, with_report, on_report, stamp_made, closes_at, on_closed_of, on_closed}
 use Rattle.role_steps.specs.Versions.{file_row}
 use Rattle.role_steps.specs.declared.synchronizing.SyncTable.{SyncTable}
 use Rattle.role_steps.specs.declared.synchronizing.FileRow.{FileRow}

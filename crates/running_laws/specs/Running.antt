@@ -6,7 +6,7 @@ use Rattle.locus_ids.specs.declared.ids.Mode.{Mode}
 use Rattle.commit_graph.specs.Grants.{is_read}
 use Rattle.trace_book.specs.declared.record.Record.{Record}
 use Rattle.trace_book.specs.declared.record.Record.TheVariants as says
-use Rattle.role_steps.specs.Views.{Told, Shown, serial_key}
+use Rattle.role_steps.specs.Views.{Told, Shown, Begins, serial_key}
 use Rattle.the_run.specs.Kept.{Among}
 use Rattle.the_run.specs.Worlds.{World, Numbered}
 use Rattle.vector_laws.specs.Written.{past_of, WasTold}
@@ -47,9 +47,10 @@ RecordRuns older _ = Unit {0}
 
 abbrev pub ToldRuns : List Told → Told → Type 0
 ToldRuns older (Shown r) = RecordRuns older r
+ToldRuns older (Begins s e inst file) = (t : ℕ) (other : FileId) → WasBegunAt older t e (serial_key inst) other → ⊥
 ToldRuns older _ = Unit {0}
 
--- each operation is of a running instance, and each commit of one that isn't to read
+-- nothing is begun twice; each operation is of a running instance, and each commit of one that isn't to read
 abbrev pub InstancesRun : List Told → Type 0
 InstancesRun [] = Unit {0}
 InstancesRun (x ∷ older) = ToldRuns older x × InstancesRun older

@@ -11,7 +11,6 @@ use Rattle.role_steps.specs.Tables.{row}
 use Rattle.role_steps.specs.Views.{SiteView, Told, serial_key}
 use Rattle.role_steps.specs.Storage.{instance_key}
 use Rattle.role_steps.specs.declared.instances.Instance.{Instance}
-use Rattle.role_steps.specs.declared.instances.Stage.{Stage}
 use Rattle.role_steps.specs.declared.instances.Stage.TheVariants as stage
 use Rattle.role_steps.specs.declared.rounds.InEpoch.{InEpoch}
 use Rattle.the_run.specs.Kept.{Among}

@@ -18,9 +18,9 @@ pub fn instances_are_begun_at_one_site()
     ensures { (c : Config) (lines : List ScheduleLine) → BegunAtOneSite (past_of (run_in c lines).trace) }
 {}
 
-/// After every schedule each operation was executed, and each version committed, under an instance that runs by all that was
-/// told before it: a storage site, for a commit this one, has begun it on the file, and it was granted on it, but neither shut
-/// by any site nor released; and a commit's isn't to read.
+/// After every schedule no instance was begun twice in an epoch, at whichever sites; each operation was executed, and each
+/// version committed, under an instance that runs by all that was told before it: a storage site, for a commit this one, has
+/// begun it on the file, and it was granted on it, but neither shut by any site nor released; and a commit's isn't to read.
 pub fn instances_run()
     ensures { (c : Config) (lines : List ScheduleLine) → InstancesRun (past_of (run_in c lines).trace) }
 {}
