@@ -48,7 +48,7 @@ next_course lines n w f = record { ascends = ascends_later n (n + 1) w.trace (om
 passed_course : (lines : List ScheduleLine) (n k : ℕ) (w : World) → InCourse lines n w → InCourse lines n (passed k w)
 passed_course lines n k w f = record { ascends = f.ascends; rows = f.rows; places = f.places; polls = f.polls; underway = every_without (λ (x : Numbered). PollsOthers x.packet) number_of k w.underway f.underway }
 
-own_given : (w : World) (l : LineWords) (s : ℕ) (e : Event) → Gives w l s e → IsOwn e
+pub own_given : (w : World) (l : LineWords) (s : ℕ) (e : Event) → Gives w l s e → IsOwn e
 own_given w l s (Calls process words) g = tt
 own_given w l s Ticks g = tt
 own_given w l s Parts g = tt
@@ -81,7 +81,7 @@ one_of lines zero l is = absurd (passed_line l is)
     passed_line l e = cc
 one_of lines (suc n) l is = omega arith
 
-courses_kept : (c : Config) (lines : List ScheduleLine) → KeptIn c lines (Courses lines)
+pub courses_kept : (c : Config) (lines : List ScheduleLine) → KeptIn c lines (Courses lines)
 courses_kept c lines = record {
   begins = λ n w there quiet p. record { good = p.good; course = next_course lines n w p.course };
   ticks = λ n most s v w is here p. record {
@@ -128,7 +128,7 @@ first_places c (t ∷ ts) s p e =
       | false ↦ λ f. first_places c ts s p f
     ]) e
 
-first_courses : (c : Config) (lines : List ScheduleLine) → Courses lines 0 (first_world c)
+pub first_courses : (c : Config) (lines : List ScheduleLine) → Courses lines 0 (first_world c)
 first_courses c lines = record {
   good = first_good c;
   course = record { ascends = tt; rows = tt; places = λ s p e. first_places c _ s p e; polls = tt; underway = tt };

@@ -9,3 +9,12 @@ pub mod Asked
 pub mod Causes
 pub mod AskedRun
 pub mod SitesGoOn
+pub mod ArmsTraced
+pub mod Scripts
+pub mod Versions
+pub mod ArmsRun
+pub mod ArmsKept
+pub mod Sum
+pub mod SitesPlaced
+pub mod Circuits
+pub mod Voids

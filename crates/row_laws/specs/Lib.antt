@@ -4,3 +4,6 @@ pub mod Events
 pub mod ByLine
 pub mod Rows
 pub mod Course
+pub mod Arms
+pub mod Rest
+pub mod Voids

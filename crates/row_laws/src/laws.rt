@@ -1,9 +1,13 @@
-ghost use Rattle.std.specs.Prelude.{List};
+ghost use Rattle.std.specs.Prelude.{◌≡◌, true, List};
 ghost use Rattle.locus_ids.specs.declared.config.Config.{Config};
 ghost use Rattle.schedule_lines.specs.declared.line.ScheduleLine.{ScheduleLine};
-ghost use Rattle.the_run.specs.Runs.{run_in};
+ghost use Rattle.the_run.specs.Runs.{run, run_in};
+ghost use Rattle.lawful_trace.specs.Disks.{keeps_calls};
+ghost use Rattle.lawful_trace.specs.Lawful.{IsLawful};
 ghost use Rattle.row_laws.specs.Shown.{EachRecord, trace_of};
-ghost use Rattle.row_laws.specs.Rows.{IsPlaced, IsAskedFor, IsSiteRow};
+ghost use Rattle.row_laws.specs.Rows.{IsPlaced, IsAskedFor, IsSiteRow, IsArmedFor};
+ghost use Rattle.row_laws.specs.Rest.{MeetsTheRest};
+ghost use Rattle.row_laws.specs.Voids.{LinesFit, IsVoidRow};
 
 /// After every schedule the lines of the records ascend, and each is one of the lines that were read.
 pub fn records_are_placed()
@@ -23,4 +27,28 @@ pub fn records_are_asked_for()
 /// that it joined in this boot, with the list of all others that join it.
 pub fn sites_go_on()
     ensures { (c : Config) (lines : List ScheduleLine) → EachRecord IsSiteRow (trace_of (run_in c lines)) }
+{}
+
+/// After every schedule, where a site was stopped within a disk call, a line had armed its disk, of this kind, and neither
+/// was another armed since, nor had the site stopped.
+pub fn cut_sites_were_armed()
+    ensures { (c : Config) (lines : List ScheduleLine) → EachRecord (IsArmedFor c lines) (trace_of (run_in c lines)) }
+{}
+
+/// After every schedule an armed disk that stops nothing had room for the versions since its line: four calls each.
+pub fn armed_disks_keep_calls()
+    ensures { (c : Config) (lines : List ScheduleLine) → keeps_calls c lines (trace_of (run_in c lines)) ≡ true }
+{}
+
+/// The run of a schedule whose records of calls and of the tree are lawful is lawful, where its lines are in range, each list
+/// that a site joins has its boot, each cut is counted, void calls are so, and each line is told: its other records are
+/// lawful in every run.
+pub fn the_rest_makes_runs_lawful()
+    ensures { (lines : List ScheduleLine) → MeetsTheRest lines (trace_of (run lines)) → IsLawful lines (trace_of (run lines)) }
+{}
+
+/// After every schedule whose lines are in range for the cluster, a line that tells that it is void is so by the lines and
+/// the records before it, where it isn't a call.
+pub fn void_lines_are_void()
+    ensures { (c : Config) (lines : List ScheduleLine) → LinesFit c lines → EachRecord (IsVoidRow lines) (trace_of (run_in c lines)) }
 {}

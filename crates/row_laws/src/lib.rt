@@ -4,4 +4,7 @@
 
 mod laws;
 
-pub use laws::{records_are_asked_for, records_are_placed, sites_go_on};
+pub use laws::{
+    armed_disks_keep_calls, cut_sites_were_armed, records_are_asked_for, records_are_placed,
+    sites_go_on, the_rest_makes_runs_lawful, void_lines_are_void,
+};

@@ -1,0 +1,46 @@
+-- What is left of the lawful trace for other laws: the rows that speak of the one tree, and of calls.
+use Rattle.std.specs.Prelude.{ℕ, ◌≡◌, true, List}
+use Rattle.locus_ids.specs.declared.config.Config.{Config}
+use Rattle.trace_book.specs.declared.book.Entry.{Entry}
+use Rattle.trace_book.specs.declared.record.Record.{Record}
+use Rattle.trace_book.specs.declared.record.Record.TheVariants as says
+use Rattle.trace_book.specs.declared.record.StopCause.{StopCause}
+use Rattle.trace_book.specs.declared.record.StopCause.TheVariants as cause
+use Rattle.schedule_lines.specs.declared.line.ScheduleLine.{ScheduleLine}
+use Rattle.schedule_lines.specs.Cluster.{config_of}
+use Rattle.tree_model.specs.Folds.{Trace}
+use Rattle.tree_model.specs.Epochs.{boot_of}
+use Rattle.tree_model.specs.Packs.{boot_in}
+use Rattle.lawful_trace.specs.Places.{line_at}
+use Rattle.lawful_trace.specs.Disks.{may_cut}
+use Rattle.lawful_trace.specs.LineRows.{IsVoidAsked, are_told}
+use Rattle.lawful_trace.specs.Lawful.{MayCome}
+use Rattle.row_laws.specs.Shown.{EachRecord}
+use Rattle.row_laws.specs.Voids.{LinesFit, is_call}
+
+-- the disk call that was cut is counted by the pages of the versions
+abbrev pub IsCounted : Config → List ScheduleLine → ℕ → Trace → ℕ → StopCause → Type 0
+IsCounted c lines n before site cause.Asked = Unit {0}
+IsCounted c lines n before site cause.Fuse = may_cut c lines before n site ≡ true
+IsCounted c lines n before site cause.Fault = may_cut c lines before n site ≡ true
+
+-- what a record must meet beyond the laws of this crate: of sites, the count of a cut and the boot in a list; a void call;
+-- and the whole row of each record of calls and of the tree
+abbrev pub RestRecord : Config → List ScheduleLine → ℕ → Trace → Record → Type 0
+RestRecord c lines n before (says.Up site boot) = Unit {0}
+RestRecord c lines n before (says.Stopped site why) = IsCounted c lines n before site why
+RestRecord c lines n before (says.Leave site epoch) = Unit {0}
+RestRecord c lines n before (says.Join site epoch members) = boot_in members site ≡ boot_of before site
+RestRecord c lines n before (says.Packet number from to kind) = Unit {0}
+RestRecord c lines n before says.Void = is_call (line_at lines n) ≡ true → IsVoidAsked lines n before
+RestRecord c lines n before says.Budget = Unit {0}
+RestRecord c lines n before r = MayCome c before r
+
+abbrev pub IsRestRow : Config → List ScheduleLine → Trace → Entry → Type 0
+IsRestRow c lines before r = RestRecord c lines r.line before r.what
+
+-- the lines are in range for their cluster, each record of the trace meets the rest, and each line is told
+pub record MeetsTheRest (lines : List ScheduleLine) (trace : Trace) : Type 0 where
+  pub fit : LinesFit (config_of lines) lines
+  pub each : EachRecord (IsRestRow (config_of lines) lines) trace
+  pub told : are_told lines trace ≡ true
