@@ -1,0 +1,5 @@
+pub mod Fresh
+pub mod Holding
+pub mod Made
+pub mod Tables
+pub mod Locked
