@@ -8,6 +8,7 @@ use Rattle.line_reader.specs.Reading.{whole_lines}
 use Rattle.schedule_lines.specs.declared.line.ScheduleLine.{ScheduleLine}
 use Rattle.the_run.specs.Worlds.{Limit}
 use Rattle.the_run.specs.Runs.{run}
+use Rattle.version_laws.specs.Versions.{VersionsHold}
 use Rattle.locus_main.specs.Inputs.{Input, StandsFor, MayEndAfter, opening_of, output_of}
 
 -- there are at most 1,000,000 lines, of at most 16,384 bytes each
@@ -15,10 +16,11 @@ pub record IsWithinLimits (lines : List (List ℕ)) : Type 0 where
   pub few : length lines ≤ 1000000
   pub short : AllByRecursion (λ line. length line ≤ 16384) lines
 
--- the run of these lines passes no limit, and its output is written
+-- the run of these lines passes no limit, its output is written, and its versions are as they should be
 pub record Writes (input : Input) (lines : List ScheduleLine) (before after : Option (List ℕ)) : Type 0 where
   pub within : (run lines).over ≡ None
   pub written : Appends before after (output_of input lines)
+  pub versions : VersionsHold (run lines)
 
 -- the lines of bytes are those of the input, and their run is written
 pub record AreRun (input : Input) (all : List (List ℕ)) (before after : Option (List ℕ)) : Type 0 where
@@ -93,6 +95,7 @@ pub record StopsAtFault (input : Input) (bytes left : List ℕ) (before after : 
 pub record PassesInOpening (input : Input) (limit : Limit) (before after : Option (List ℕ)) : Type 0 where
   pub passes : (run (opening_of input)).over ≡ Some limit
   pub written : Appends before after (output_of input (opening_of input))
+  pub versions : VersionsHold (run (opening_of input))
 
 -- The run passes the limit in this line and not before. Its output is written: it has the events before the one that passes the
 -- limit.
@@ -109,6 +112,7 @@ pub record PassesAtLine (input : Input) (all : List (List ℕ)) (limit : Limit) 
   pub next : StandsFor input (earlier ++ bytes ∷ []) longer
   pub passes : (run longer).over ≡ Some limit
   pub written : Appends before after (output_of input longer)
+  pub versions : VersionsHold (run longer)
 
 -- the program stops where the run passes this limit
 abbrev pub StopsAtLimit : Input → List (List ℕ) → Limit → Option (List ℕ) → Option (List ℕ) → Type 0
@@ -142,3 +146,4 @@ pub record WritesFront (input : Input) (all : List (List ℕ)) (before after : O
   pub lines : List ScheduleLine
   pub stands : StandsFor input earlier lines
   pub written : AppendsFront before after (output_of input lines)
+  pub versions : VersionsHold (run lines)

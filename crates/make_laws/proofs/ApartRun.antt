@@ -315,10 +315,10 @@ happened_apart c n ps told change w sent owed g =
     happened_keeps (Apart c) n ps told change w g
     (λ l h. (let f : WorldApart (past_of w.trace) = g (record { law = h.law; once = h.once; changes = h.changes; modes = h.modes }) in record { apart = f.apart; low = f.low }))
     (λ k b t h. (let now : Known c (newest_onto new w.sent) (onto told past) = subst (Known c (newest_onto new w.sent)) same (subst (λ (xs : List Numbered). Known c (newest_onto new xs) (past_of (told_onto n told w.trace))) sent h) in
-        let before : Known c w.sent past = known_before c w.sent (newest_onto new w.sent) (newest_leads new w.sent) told past now in
-        let f : WorldApart past = g before in
-        let o : News past told = owed now.law before f in
-        record { apart = subst ReservesAreApart (sym same) (all_apart told past o.apart f.apart); low = subst (Every LowTold) (sym same) (all_low told past o.low f.low) }))
+    let before : Known c w.sent past = known_before c w.sent (newest_onto new w.sent) (newest_leads new w.sent) told past now in
+    let f : WorldApart past = g before in
+    let o : News past told = owed now.law before f in
+    record { apart = subst ReservesAreApart (sym same) (all_apart told past o.apart f.apart); low = subst (Every LowTold) (sym same) (all_low told past o.low f.low) }))
   where
     past : List Told
     past = past_of w.trace

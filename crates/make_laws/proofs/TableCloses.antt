@@ -253,9 +253,9 @@ have_made c past me e members from ino stamp t h = of_row (file_row t ino) (row_
           unstarted = h.unstarted;
           all = h.all;
           files = every_row (RowMade past e t.group) row_ino new t.files (record {
-                known = λ n. subst (λ (x : ℕ). IsKnown past (file_in t.group x)) (sym same.0) (k.1.known (subst NotEmpty same.1 n));
-                free = λ n. subst (λ (x : ℕ). IsFree past e (file_in t.group x)) (sym same.0) (k.1.free (subst NotEmpty same.1 n));
-              }) h.files;
+            known = λ n. subst (λ (x : ℕ). IsKnown past (file_in t.group x)) (sym same.0) (k.1.known (subst NotEmpty same.1 n));
+            free = λ n. subst (λ (x : ℕ). IsFree past e (file_in t.group x)) (sym same.0) (k.1.free (subst NotEmpty same.1 n));
+          }) h.files;
           opens = opens_put past e t.group t.files new t.opens (λ x at n. subst NotEmpty (sym same.1) (subst (λ (o : Option FileRow). NotEmpty (kept o)) q (subst (IsKept t.files) (sym (sym k.0 ∙ (sym same.0 ∙ at))) n))) h.opens;
           ended = h.ended;
           early = h.early;

@@ -226,9 +226,9 @@ reported_made c past me f from x t law fact u =
         unstarted = h.unstarted;
         all = h.all;
         files = every_row (RowMade past f.epoch t.group) row_ino r t.files (record {
-              known = λ n. subst (λ (k : ℕ). IsKnown past (file_in t.group k)) (sym ino) (written_known past (file_in t.group x.ino) x.stamp x.vector fact);
-              free = λ n s key w. absurd (h.unstarted u.started (reserved_started past s f.epoch key (file_in t.group (row_ino r)) law.goes law.apart w));
-            }) h.files;
+          known = λ n. subst (λ (k : ℕ). IsKnown past (file_in t.group k)) (sym ino) (written_known past (file_in t.group x.ino) x.stamp x.vector fact);
+          free = λ n s key w. absurd (h.unstarted u.started (reserved_started past s f.epoch key (file_in t.group (row_ino r)) law.goes law.apart w));
+        }) h.files;
         opens = opens_put past f.epoch t.group t.files r t.opens (λ k same n. kept_some (version_reported x) old.kept) h.opens;
         ended = h.ended;
         early = h.early;

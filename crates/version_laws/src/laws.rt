@@ -4,7 +4,8 @@ ghost use Rattle.locus_ids.specs.declared.config.Config.{Config};
 ghost use Rattle.schedule_lines.specs.declared.line.ScheduleLine.{ScheduleLine};
 ghost use Rattle.the_run.specs.Runs.{run_in};
 ghost use Rattle.vector_laws.specs.Written.{past_of, VectorsAreWritten, CommitsAreNumbered};
-ghost use Rattle.history_laws.specs.Commits.{commits_of, StampsAreOnce, VectorsTell, CopiesAreTrue, CommitsAreHeld};
+ghost use Rattle.history_laws.specs.Commits.{commits_of, VectorsTell, CopiesAreTrue, CommitsAreHeld};
+ghost use Rattle.version_laws.specs.Versions.{VersionsHold};
 
 /// After every schedule each copy on a disk, of a running site or a stopped one, is of a version told in the trace, or the
 /// format's, and has its written vector: counter by counter the greatest of its parents' written vectors, with that of the
@@ -19,22 +20,27 @@ pub fn commits_are_numbered()
     ensures { (c : Config) (lines : List ScheduleLine) → CommitsAreNumbered (past_of (run_in c lines).trace) }
 {}
 
-/// After every schedule in whose trace no file has two commits with one stamp: a commit's number counts the commits of its file
-/// at its site, the commits of one site form a chain, a written vector counts the ancestors by site, and of two versions one
-/// is an ancestor of the other exactly where its vector is at most the other's.
+/// After every schedule a commit's number counts the commits of its file at its site, the commits of one site form a chain, a
+/// written vector counts the ancestors by site, and of two versions one is an ancestor of the other exactly where its vector
+/// is at most the other's.
 pub fn vectors_tell_ancestors()
-    ensures { (c : Config) (lines : List ScheduleLine) → StampsAreOnce (past_of (run_in c lines).trace) →
-        (file : FileId) → VectorsTell file (commits_of file (past_of (run_in c lines).trace)) }
+    ensures { (c : Config) (lines : List ScheduleLine) → (file : FileId) → VectorsTell file (commits_of file (past_of (run_in c lines).trace)) }
 {}
 
-/// After every such schedule each copy on a disk is the format's or of a commit of its file in the trace, and has the vector
+/// After every schedule each copy on a disk is the format's or of a commit of its file in the trace, and has the vector
 /// that the history gives that version.
 pub fn copies_are_true()
-    ensures { (c : Config) (lines : List ScheduleLine) → StampsAreOnce (past_of (run_in c lines).trace) → CopiesAreTrue (run_in c lines) }
+    ensures { (c : Config) (lines : List ScheduleLine) → CopiesAreTrue (run_in c lines) }
 {}
 
-/// After every such schedule, a site that has committed a file holds a copy of it that has all those commits among its
+/// After every schedule, a site that has committed a file holds a copy of it that has all those commits among its
 /// ancestors.
 pub fn commits_are_held()
-    ensures { (c : Config) (lines : List ScheduleLine) → StampsAreOnce (past_of (run_in c lines).trace) → CommitsAreHeld (run_in c lines) }
+    ensures { (c : Config) (lines : List ScheduleLine) → CommitsAreHeld (run_in c lines) }
+{}
+
+/// All of these together, after every schedule, and that no file has two commits with one stamp: what the program promises of
+/// the run that it writes.
+pub fn versions_hold()
+    ensures { (c : Config) (lines : List ScheduleLine) → VersionsHold (run_in c lines) }
 {}
