@@ -18,3 +18,6 @@ pub mod Sum
 pub mod SitesPlaced
 pub mod Circuits
 pub mod Voids
+pub mod Tales
+pub mod TalesKept
+pub mod Fitting

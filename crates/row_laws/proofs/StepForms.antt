@@ -39,7 +39,7 @@ some_round K v (Some x) here h r = (h.waits (h.round_is x here).1).0
 
 -- ---- the end of an event ----
 
-ends_forms : (me boot : ℕ) (k : Causes) (c : Config) (links : Links) (v : SiteView) → v.boot ≡ boot → ViewForms me v → Forms me boot k (ends_event c me links v)
+pub ends_forms : (me boot : ℕ) (k : Causes) (c : Config) (links : Links) (v : SiteView) → v.boot ≡ boot → ViewForms me v → Forms me boot k (ends_event c me links v)
 ends_forms me boot k c links v here h =
     then_forms me boot k (passes_over c me links v) (λ now. starts_mends_of c me now.epoch now) (passes_over_forms me boot k c links v.round v refl here h)
     (λ b f. let now : SiteView = (passes_over c me links v).view in indoors_forms me boot k now (starts_mends_of c me now.epoch now) (mends_of_indoors c me now.epoch now f.tables) b f)

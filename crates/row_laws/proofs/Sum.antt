@@ -1,5 +1,8 @@
 -- A run that meets the rest is lawful.
-use Rattle.std.proofs.Common.{◌≡◌, ℕ, Bool, true, false, List, [], ◌∷◌, refl}
+use Rattle.std.proofs.Common.{◌≡◌, ◌≤◌, ◌<◌, ℕ, zero, suc, ◌+◌, Bool, true, false, List, [], ◌∷◌, length, None, refl, arith}
+use Rattle.std.proofs.lemmas.Bool.{and_from}
+use Rattle.std.specs.List.{list_all}
+use Rattle.commit_graph.specs.Vectors.{numbers_from}
 use Rattle.locus_ids.specs.declared.config.Config.{Config}
 use Rattle.trace_book.specs.declared.book.Entry.{Entry}
 use Rattle.trace_book.specs.declared.record.Record.{Record}
@@ -11,6 +14,7 @@ use Rattle.schedule_lines.specs.Cluster.{config_of}
 use Rattle.tree_model.specs.Folds.{Trace}
 use Rattle.the_run.specs.Runs.{run}
 use Rattle.lawful_trace.specs.Places.{line_at}
+use Rattle.lawful_trace.specs.LineRows.{is_told, are_told}
 use Rattle.lawful_trace.specs.SiteRows.{StopLine}
 use Rattle.lawful_trace.specs.Lawful.{MayCome, IsAsked, Comes, EachComes, IsLawful}
 use Rattle.row_laws.specs.Shown.{trace_of, EachRecord}
@@ -19,7 +23,10 @@ use Rattle.row_laws.specs.Rest.{IsCounted, RestRecord, IsRestRow, MeetsTheRest}
 use Rattle.row_laws.proofs.AskedRun.{run_placed, run_asked}
 use Rattle.row_laws.proofs.SitesGoOn.{run_sites}
 use Rattle.row_laws.specs.Voids.{is_call, VoidRecord, IsVoidRow}
+use Rattle.row_laws.specs.Tales.{ToldTo}
 use Rattle.row_laws.proofs.Voids.{run_voids}
+use Rattle.row_laws.proofs.TalesKept.{run_tales}
+use Rattle.row_laws.proofs.Fitting.{schedule_fits}
 use Rattle.row_laws.proofs.ArmsKept.{run_armed_for, run_keeps_calls}
 
 stop_line : (c : Config) (lines : List ScheduleLine) (n : ℕ) (before : Trace) (site : ℕ) (why : StopCause) → StopAsked lines n before site why → ArmedStop c lines n before site why → IsCounted c lines n before site why → StopLine c lines n before site why
@@ -72,9 +79,20 @@ all_come : (c : Config) (lines : List ScheduleLine) (trace : Trace) → EachReco
 all_come c lines [] p a s k v rest = tt
 all_come c lines (r ∷ before) p a s k v rest = (one_comes c lines before r p.0 a.0 s.0 k.0 v.0 rest.0, all_come c lines before p.1 a.1 s.1 k.1 v.1 rest.1)
 
-pub run_lawful : (lines : List ScheduleLine) → MeetsTheRest lines (trace_of (run lines)) → IsLawful lines (trace_of (run lines))
-run_lawful lines h = record {
-  each = all_come (config_of lines) lines (trace_of (run lines)) (run_placed (config_of lines) lines) (run_asked (config_of lines) lines) (run_sites (config_of lines) lines) (run_armed_for (config_of lines) lines) (run_voids (config_of lines) lines h.fit) h.each;
-  told = h.told;
+-- ---- the lines ----
+
+each_number : (p : ℕ → Bool) (first many : ℕ) → ((m : ℕ) → first ≤ m → m < first + many → p m ≡ true) → list_all p (numbers_from first many) ≡ true
+each_number p first zero each = refl
+each_number p first (suc many) each =
+    and_from (p first) (list_all p (numbers_from (first + 1) many)) (each first (omega arith) (omega arith))
+    (each_number p (first + 1) many (λ m low high. each m (omega (arith, low)) (omega (arith, high))))
+
+all_told : (lines : List ScheduleLine) (trace : Trace) → ToldTo lines (length lines) trace → ((n : ℕ) → is_call (line_at lines n) ≡ true → is_told lines trace n ≡ true) → are_told lines trace ≡ true
+all_told lines trace t calls = each_number (is_told lines trace) 1 (length lines) (λ m low high. void_asked (is_call (line_at lines m)) (t m low (omega (arith, high))) (calls m))
+
+pub run_lawful : (lines : List ScheduleLine) → (run lines).over ≡ None → MeetsTheRest lines (trace_of (run lines)) → IsLawful lines (trace_of (run lines))
+run_lawful lines none h = record {
+  each = all_come (config_of lines) lines (trace_of (run lines)) (run_placed (config_of lines) lines) (run_asked (config_of lines) lines) (run_sites (config_of lines) lines) (run_armed_for (config_of lines) lines) (run_voids (config_of lines) lines (schedule_fits lines h.order)) h.each;
+  told = all_told lines (trace_of (run lines)) (run_tales (config_of lines) lines (schedule_fits lines h.order) none) h.told;
   calls = run_keeps_calls (config_of lines) lines;
 }

@@ -72,7 +72,7 @@ apart_of now s o (Stopped d) e h epoch k = ap (λ (b : Bool). not b || is_none (
 -- ---- a void line ----
 
 -- by the line's words
-void_says : (c : Config) (lines : List ScheduleLine) (n : ℕ) (l : LineWords) (w : World) → fits_event c.sites l ≡ true → is_call (EventLine l) ≡ false → IsVoidIn w l → Good w → InCourse lines n w → HasPlaces c w → CircuitsAs lines n w → may_be_void (has_no_effect (take n lines) (trace_of w) l) ≡ true
+pub void_says : (c : Config) (lines : List ScheduleLine) (n : ℕ) (l : LineWords) (w : World) → fits_event c.sites l ≡ true → is_call (EventLine l) ≡ false → IsVoidIn w l → Good w → InCourse lines n w → HasPlaces c w → CircuitsAs lines n w → may_be_void (has_no_effect (take n lines) (trace_of w) l) ≡ true
 void_says c lines n (line.Call site process words) w fit none void good f has cuts = absurd (never_true none)
 void_says c lines n (line.Deliver packet) w fit none void good f has cuts = refl
 void_says c lines n (line.Lose packet) w fit none void good f has cuts = refl
@@ -107,11 +107,11 @@ void_row c lines n l w fit is void p q none = record {
 -- ---- what tells of no void line ----
 
 -- the record isn't Void
-abbrev NoVoidRecord : Record → Type 0
+abbrev pub NoVoidRecord : Record → Type 0
 NoVoidRecord says.Void = ⊥
 NoVoidRecord _ = Unit {0}
 
-abbrev NoVoid : Told → Type 0
+abbrev pub NoVoid : Told → Type 0
 NoVoid (Shown r) = NoVoidRecord r
 NoVoid _ = Unit {0}
 
@@ -119,7 +119,7 @@ site_record : (s : ℕ) (k : Causes) (r : Record) → SiteRecord s k r → NoVoi
 site_record s k says.Void h = absurd h
 site_record s k _ h = tt
 
-site_told : (s : ℕ) (k : Causes) (x : Told) → SiteTold s k x → NoVoid x
+pub site_told : (s : ℕ) (k : Causes) (x : Told) → SiteTold s k x → NoVoid x
 site_told s k (Shown r) h = site_record s k r h
 site_told s k _ h = tt
 
@@ -230,7 +230,7 @@ voided c lines n l w fit there is void p =
     cuts : CircuitsAs lines (n + 1) w
     cuts = void_cuts lines n l w there is void p.voids.circuits
 
-voids_kept : (c : Config) (lines : List ScheduleLine) → LinesFit c lines → KeptIn c lines (Voids c lines)
+pub voids_kept : (c : Config) (lines : List ScheduleLine) → LinesFit c lines → KeptIn c lines (Voids c lines)
 voids_kept c lines fit = record {
   begins = λ n w there quiet p. record { courses = kept.begins n w there quiet p.courses; voids = with_quiet c lines (n + 1) w p.voids.places (next_quiet c lines n w there (begins_none (line_at lines (n + 1)) quiet) p.voids) };
   ticks = λ n most s v w is here p. record {
@@ -265,7 +265,7 @@ voids_kept c lines fit = record {
     has : Kept c (HasPlaces c)
     has = places_kept c
 
-first_voids : (c : Config) (lines : List ScheduleLine) → Voids c lines 0 (first_world c)
+pub first_voids : (c : Config) (lines : List ScheduleLine) → Voids c lines 0 (first_world c)
 first_voids c lines = record { courses = first_courses c lines; voids = record { places = first_has c; circuits = λ a b. refl; rows = tt } }
 
 pub run_voids : (c : Config) (lines : List ScheduleLine) → LinesFit c lines → EachRecord (IsVoidRow lines) (trace_of (run_in c lines))

@@ -7,3 +7,4 @@ pub mod Course
 pub mod Arms
 pub mod Rest
 pub mod Voids
+pub mod Tales

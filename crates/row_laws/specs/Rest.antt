@@ -8,15 +8,16 @@ use Rattle.trace_book.specs.declared.record.StopCause.{StopCause}
 use Rattle.trace_book.specs.declared.record.StopCause.TheVariants as cause
 use Rattle.schedule_lines.specs.declared.line.ScheduleLine.{ScheduleLine}
 use Rattle.schedule_lines.specs.Cluster.{config_of}
+use Rattle.schedule_lines.specs.Schedule.{AreInOrder}
 use Rattle.tree_model.specs.Folds.{Trace}
 use Rattle.tree_model.specs.Epochs.{boot_of}
 use Rattle.tree_model.specs.Packs.{boot_in}
 use Rattle.lawful_trace.specs.Places.{line_at}
 use Rattle.lawful_trace.specs.Disks.{may_cut}
-use Rattle.lawful_trace.specs.LineRows.{IsVoidAsked, are_told}
+use Rattle.lawful_trace.specs.LineRows.{IsVoidAsked, is_told}
 use Rattle.lawful_trace.specs.Lawful.{MayCome}
 use Rattle.row_laws.specs.Shown.{EachRecord}
-use Rattle.row_laws.specs.Voids.{LinesFit, is_call}
+use Rattle.row_laws.specs.Voids.{is_call}
 
 -- the disk call that was cut is counted by the pages of the versions
 abbrev pub IsCounted : Config → List ScheduleLine → ℕ → Trace → ℕ → StopCause → Type 0
@@ -39,8 +40,8 @@ RestRecord c lines n before r = MayCome c before r
 abbrev pub IsRestRow : Config → List ScheduleLine → Trace → Entry → Type 0
 IsRestRow c lines before r = RestRecord c lines r.line before r.what
 
--- the lines are in range for their cluster, each record of the trace meets the rest, and each line is told
+-- the lines stand as those of a schedule may, each record of the trace meets the rest, and each call is told
 pub record MeetsTheRest (lines : List ScheduleLine) (trace : Trace) : Type 0 where
-  pub fit : LinesFit (config_of lines) lines
+  pub order : AreInOrder lines
   pub each : EachRecord (IsRestRow (config_of lines) lines) trace
-  pub told : are_told lines trace ≡ true
+  pub told : (n : ℕ) → is_call (line_at lines n) ≡ true → is_told lines trace n ≡ true

@@ -1,6 +1,8 @@
-ghost use Rattle.std.specs.Prelude.{◌≡◌, true, List};
+ghost use Rattle.std.specs.Prelude.{◌≡◌, true, List, length, None};
 ghost use Rattle.locus_ids.specs.declared.config.Config.{Config};
 ghost use Rattle.schedule_lines.specs.declared.line.ScheduleLine.{ScheduleLine};
+ghost use Rattle.schedule_lines.specs.Cluster.{config_of};
+ghost use Rattle.schedule_lines.specs.Schedule.{AreInOrder};
 ghost use Rattle.the_run.specs.Runs.{run, run_in};
 ghost use Rattle.lawful_trace.specs.Disks.{keeps_calls};
 ghost use Rattle.lawful_trace.specs.Lawful.{IsLawful};
@@ -8,6 +10,7 @@ ghost use Rattle.row_laws.specs.Shown.{EachRecord, trace_of};
 ghost use Rattle.row_laws.specs.Rows.{IsPlaced, IsAskedFor, IsSiteRow, IsArmedFor};
 ghost use Rattle.row_laws.specs.Rest.{MeetsTheRest};
 ghost use Rattle.row_laws.specs.Voids.{LinesFit, IsVoidRow};
+ghost use Rattle.row_laws.specs.Tales.{ToldTo};
 
 /// After every schedule the lines of the records ascend, and each is one of the lines that were read.
 pub fn records_are_placed()
@@ -40,15 +43,26 @@ pub fn armed_disks_keep_calls()
     ensures { (c : Config) (lines : List ScheduleLine) → keeps_calls c lines (trace_of (run_in c lines)) ≡ true }
 {}
 
-/// The run of a schedule whose records of calls and of the tree are lawful is lawful, where its lines are in range, each list
-/// that a site joins has its boot, each cut is counted, void calls are so, and each line is told: its other records are
-/// lawful in every run.
+/// The run of a schedule whose records of calls and of the tree are lawful is lawful, where its lines are in order and it
+/// passed no limit, each list that a site joins has its boot, each cut is counted, and calls are void or told as they must:
+/// its other records and lines are lawful in every run.
 pub fn the_rest_makes_runs_lawful()
-    ensures { (lines : List ScheduleLine) → MeetsTheRest lines (trace_of (run lines)) → IsLawful lines (trace_of (run lines)) }
+    ensures { (lines : List ScheduleLine) → (run lines).over ≡ None → MeetsTheRest lines (trace_of (run lines)) → IsLawful lines (trace_of (run lines)) }
 {}
 
 /// After every schedule whose lines are in range for the cluster, a line that tells that it is void is so by the lines and
 /// the records before it, where it isn't a call.
 pub fn void_lines_are_void()
     ensures { (c : Config) (lines : List ScheduleLine) → LinesFit c lines → EachRecord (IsVoidRow lines) (trace_of (run_in c lines)) }
+{}
+
+/// After every schedule whose lines are in range for the cluster, and whose run passed no limit, each line that isn't a call
+/// has told what it must: that it is void, once; its stop, its boot or the stop in it, or its leave, once.
+pub fn lines_are_told()
+    ensures { (c : Config) (lines : List ScheduleLine) → LinesFit c lines → (run_in c lines).over ≡ None → ToldTo lines (length lines) (trace_of (run_in c lines)) }
+{}
+
+/// The lines that the reader of schedules accepts are in range for the cluster that their header makes.
+pub fn schedules_fit_their_cluster()
+    ensures { (lines : List ScheduleLine) → AreInOrder lines → LinesFit (config_of lines) lines }
 {}

@@ -1,0 +1,73 @@
+-- The lines of a schedule are in range for its cluster.
+use Rattle.std.proofs.Common.{◌≡◌, ℕ, zero, suc, Bool, true, false, ◌||◌, ◌&&◌, not, List, [], ◌∷◌, ◌++◌, slice_index_or, refl, sym, ◌∙◌, ap, subst, append_assoc}
+use Rattle.std.proofs.lemmas.List.Sums.{fold-append}
+use Rattle.locus_ids.specs.declared.config.Config.{Config}
+use Rattle.schedule_lines.specs.Cluster.{no_cluster, with_line, config_of, is_whole, may_join}
+use Rattle.schedule_lines.specs.Ranges.{fits_event}
+use Rattle.schedule_lines.specs.Schedule.{is_event, has_begun, MayStand, MayFollow, AreInOrder}
+use Rattle.schedule_lines.specs.declared.line.Line.{Line as LineWords}
+use Rattle.schedule_lines.specs.declared.line.ScheduleLine.{ScheduleLine}
+use Rattle.schedule_lines.specs.declared.line.ScheduleLine.TheVariants.{Passed, Header, Event}
+use Rattle.row_laws.specs.Voids.{LinesFit}
+
+never : false ≡ true → ⊥
+never e = cc
+
+parts : (a b : Bool) → (a && b) ≡ true → (a ≡ true) × (b ≡ true)
+parts true true h = (refl, refl)
+parts true false h = absurd (cc)
+parts false true h = absurd (cc)
+parts false false h = absurd (cc)
+
+or_true : (b : Bool) → (b || true) ≡ true
+or_true true = refl
+or_true false = refl
+
+-- the cluster with one line more
+config_more : (earlier : List ScheduleLine) (l : ScheduleLine) → config_of (earlier ++ l ∷ []) ≡ with_line (config_of earlier) l
+config_more earlier l = fold-append with_line no_cluster earlier (l ∷ [])
+
+begun_more : (earlier : List ScheduleLine) (l : ScheduleLine) → has_begun (earlier ++ l ∷ []) ≡ (has_begun earlier || is_event l)
+begun_more [] l = no_more (is_event l)
+  where
+    no_more : (b : Bool) → (b || false) ≡ b
+    no_more true = refl
+    no_more false = refl
+begun_more (x ∷ xs) l = ap (λ (b : Bool). is_event x || b) (begun_more xs l) ∙ shift (is_event x) (has_begun xs) (is_event l)
+  where
+    shift : (a b c : Bool) → (a || (b || c)) ≡ ((a || b) || c)
+    shift true b c = refl
+    shift false b c = refl
+
+-- once an event line stands there, no line changes the cluster
+line_steady : (earlier : List ScheduleLine) (l : ScheduleLine) → MayStand earlier l → has_begun earlier ≡ true → with_line (config_of earlier) l ≡ config_of earlier
+line_steady earlier Passed h begun = refl
+line_steady earlier (Event e) h begun = refl
+line_steady earlier (Header x) h begun = absurd (never (sym (ap not begun) ∙ (parts (not (has_begun earlier)) (may_join (config_of earlier) x) h).0))
+
+steady : (earlier later : List ScheduleLine) → MayFollow earlier later → has_begun earlier ≡ true → config_of (earlier ++ later) ≡ config_of earlier
+steady earlier [] h begun = fold-append with_line no_cluster earlier []
+steady earlier (l ∷ later) h begun =
+    ap config_of (sym (append_assoc earlier (l ∷ []) later))
+    ∙ (steady (earlier ++ l ∷ []) later h.1 (begun_more earlier l ∙ ap (λ (b : Bool). b || is_event l) begun)
+    ∙ (config_more earlier l ∙ line_steady earlier l h.0 begun))
+
+event_fits : (earlier later : List ScheduleLine) (e : LineWords) → MayFollow earlier (Event e ∷ later) → fits_event (config_of (earlier ++ Event e ∷ later)).sites e ≡ true
+event_fits earlier later e h =
+    ap (λ (c : Config). fits_event c.sites e)
+    (ap config_of (sym (append_assoc earlier (Event e ∷ []) later))
+    ∙ (steady (earlier ++ Event e ∷ []) later h.1 (begun_more earlier (Event e) ∙ or_true (has_begun earlier)) ∙ config_more earlier (Event e)))
+    ∙ (parts (is_whole (config_of earlier)) (fits_event (config_of earlier).sites e) h.0).1
+
+passed_event : (l : LineWords) → Passed ≡ Event l → ⊥
+passed_event l e = cc
+
+each_fits : (earlier later : List ScheduleLine) → MayFollow earlier later → (k : ℕ) (l : LineWords) → slice_index_or later k Passed ≡ Event l → fits_event (config_of (earlier ++ later)).sites l ≡ true
+each_fits earlier [] h k l e = absurd (passed_event l e)
+each_fits earlier (x ∷ later) h zero l e =
+    subst (λ (y : ScheduleLine). MayFollow earlier (y ∷ later) → fits_event (config_of (earlier ++ y ∷ later)).sites l ≡ true) (sym e) (event_fits earlier later l) h
+each_fits earlier (x ∷ later) h (suc k) l e = ap (λ (ls : List ScheduleLine). fits_event (config_of ls).sites l) (sym (append_assoc earlier (x ∷ []) later)) ∙ each_fits (earlier ++ x ∷ []) later h.1 k l e
+
+pub schedule_fits : (lines : List ScheduleLine) → AreInOrder lines → LinesFit (config_of lines) lines
+schedule_fits lines h zero l e = absurd (passed_event l e)
+schedule_fits lines h (suc n) l e = each_fits [] lines h n l e
