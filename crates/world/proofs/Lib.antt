@@ -10,3 +10,4 @@ pub mod First
 pub mod LineLaws
 pub mod Reading
 pub mod Pending
+pub mod Versions

@@ -1,13 +1,16 @@
-ghost use Rattle.std.specs.Prelude.{◌≡◌, ℕ, List, [], ◌++◌, IfOk, IfErr, OnOk, min};
+ghost use Rattle.std.specs.Prelude.{◌≡◌, ℕ, ◌+◌, List, [], ◌∷◌, ◌++◌, length, IfOk, IfErr, OnOk, min};
 ghost use Rattle.locus_ids.specs.declared.config.Config.{Config};
+ghost use Rattle.schedule_lines.specs.declared.line.ScheduleLine.{ScheduleLine};
+ghost use Rattle.schedule_lines.specs.declared.line.ScheduleLine.TheVariants.{Event};
 ghost use Rattle.the_run.specs.Worlds.{World as RunWorld, first_world};
-ghost use Rattle.the_run.specs.Runs.{act, entries_of_run};
+ghost use Rattle.the_run.specs.Runs.{act, run_in, entries_of_run};
 ghost use Rattle.the_run.specs.Commands.{counts_onto, no_counts};
 ghost use Rattle.run_book.specs.Writings.{written_of, counts_in};
 ghost use Rattle.run_book.specs.Ledgers.{limit_in, books};
 ghost use Rattle.world.specs.States.{state_of, AreFirst};
 ghost use Rattle.world.specs.Shown.{Taken, nothing_taken, all_taken, Shows, Follows};
 ghost use Rattle.world.specs.Faults.{MayCome};
+ghost use Rattle.version_laws.specs.Versions.{VersionsHold};
 
 use crate::WorldFault;
 use circuits::CutCircuits;
@@ -115,9 +118,11 @@ impl World {
     }
 
     /// Does a line of a schedule as the run says, with its number. Whatever world of the run is shown before, after it that world
-    /// is shown as the line leaves it.
+    /// is shown as the line leaves it. Where that is the run of some lines, it's then that of these lines with this one, and of its
+    /// versions holds what does of every run's.
     pub fn step(&mut self, number: u32, line: Line) -> Result<(), WorldFault>
         ensures step { OnOk result (Follows (λ c w. act c number line w) (state_of self.old) (state_of self.new)) }
+        ensures versions { (c : Config) (lines : List ScheduleLine) (taken : Taken) → number ≡ length lines + 1 → Shows c taken (run_in c lines) (state_of self.old) → OnOk result (Shows c taken (run_in c (lines ++ Event line ∷ [])) (state_of self.new) × VersionsHold (run_in c (lines ++ Event line ∷ []))) }
         ensures fault { IfErr result (MayCome line) }
     {
         if self.book.passed().is_some() {
