@@ -2,6 +2,7 @@ ghost use Rattle.std.specs.Prelude.{◌≡◌};
 
 use locus_ids::NoMemory;
 use thiserror::Error;
+use tree_acts::ActFault;
 
 /// What the tree says of a record.
 #[derive(Clone, Copy, Debug, PartialEq, Eq)]
@@ -17,7 +18,9 @@ pub enum Applied {
 /// Why a record was not taken.
 #[derive(Clone, Copy, Debug, PartialEq, Eq, Error)]
 pub enum TreeFault {
-    /// No memory is left, or the tree doesn't take what it was given, as `OneTree::apply` says.
+    /// No lawful trace has it, as `OneTree::apply` says.
+    #[error("a record or a history that can't be judged")]
+    Unfit,
     #[error("no memory")]
     NoMemory,
 }
@@ -29,5 +32,18 @@ impl From<NoMemory> for TreeFault {
 
     fn from(_: NoMemory) -> TreeFault {
         TreeFault::NoMemory
+    }
+}
+
+impl From<ActFault> for TreeFault {
+    ghost use Rattle.one_tree.specs.Unfit.{fault_of_act};
+
+    ghost from_gives = { λ refused fault. fault ≡ fault_of_act refused };
+
+    fn from(refused: ActFault) -> TreeFault {
+        match refused {
+            ActFault::Unfit => TreeFault::Unfit,
+            ActFault::NoMemory => TreeFault::NoMemory,
+        }
     }
 }

@@ -6,9 +6,10 @@ ghost use Rattle.tree_model.specs.Given.{gives_look};
 ghost use Rattle.tree_model.specs.State.{is_granted_here, is_make};
 ghost use Rattle.tree_model.specs.Tree.{committed_at, has_now, joined, left, without_make};
 ghost use Rattle.one_tree.specs.Following.{applied, told_of, tree_after};
+ghost use Rattle.one_tree.specs.Unfit.{IsUnfitRecord};
 ghost use Rattle.one_tree.specs.declared.applied.Applied.TheVariants.{Other};
 
-use crate::{Applied, OneTree};
+use crate::{Applied, OneTree, TreeFault};
 use commit_graph::History;
 use locus_ids::{
     Brought, CallId, EpochId, FileId, Members, Mode, NoMemory, Refusal, Serial, Stamp,
@@ -17,22 +18,23 @@ use trace_book::{Call, Op, Outcome, Record, Served, What};
 use tree_acts::act;
 
 impl OneTree {
-    /// Takes a record. After `NoMemory` the tree is as it was.
-    pub(crate) fn step(&mut self, h: &History, r: &Record) -> Result<Applied, NoMemory>
+    /// Takes a record. After a fault the tree is as it was.
+    pub(crate) fn step(&mut self, h: &History, r: &Record) -> Result<Applied, TreeFault>
         requires { length h.now < 4294967295 }
         ensures applied { IfOk result (λ told. told ≡ applied h.now self.old r.now) }
         ensures next { OnOk result (self.new ≡ tree_after h.now self.old r.now) }
         ensures err { OnErr result (self.new ≡ self.old) }
+        ensures unfit { result ≡ Err TreeFault.Unfit → IsUnfitRecord h.now self.old r.now }
     {
         match r {
-            Record::Up { site, boot: _ } => self.leave(*site),
-            Record::Stopped { site, cause: _ } => self.leave(*site),
-            Record::Leave { site, epoch: _ } => self.leave(*site),
+            Record::Up { site, boot: _ } => Ok(self.leave(*site)?),
+            Record::Stopped { site, cause: _ } => Ok(self.leave(*site)?),
+            Record::Leave { site, epoch: _ } => Ok(self.leave(*site)?),
             Record::Join {
                 site,
                 epoch,
                 members,
-            } => self.join(*site, *epoch, members),
+            } => Ok(self.join(*site, *epoch, members)?),
             Record::Start {
                 epoch,
                 group,
@@ -43,7 +45,7 @@ impl OneTree {
                 process,
                 call,
                 words,
-            } => self.accept(*call, *process, words),
+            } => Ok(self.accept(*call, *process, words)?),
             Record::Look {
                 epoch,
                 call: _,
@@ -51,7 +53,7 @@ impl OneTree {
                 file,
                 what,
                 result: served,
-            } => self.look(h, *epoch, *file, what, served),
+            } => Ok(self.look(h, *epoch, *file, what, served)?),
             Record::Grant {
                 epoch,
                 call,
@@ -61,7 +63,7 @@ impl OneTree {
                 file,
                 stamp,
                 ss,
-            } => self.grant(h, *epoch, *call, *inst, *mode, *file, *stamp, *ss),
+            } => Ok(self.grant(h, *epoch, *call, *inst, *mode, *file, *stamp, *ss)?),
             Record::Refuse {
                 epoch,
                 call,
@@ -70,7 +72,7 @@ impl OneTree {
                 mode,
                 file,
                 why,
-            } => self.refuse(h, *epoch, *call, *inst, *mode, *file, why),
+            } => Ok(self.refuse(h, *epoch, *call, *inst, *mode, *file, why)?),
             Record::Act {
                 epoch,
                 inst,
@@ -84,14 +86,14 @@ impl OneTree {
                 stamp,
                 parents: _,
                 content: _,
-            } => self.commit(*file, *site, *stamp),
+            } => Ok(self.commit(*file, *site, *stamp)?),
             Record::Release {
                 epoch,
                 inst,
                 file,
                 stamp,
-            } => self.release(h, *epoch, *inst, *file, *stamp),
-            Record::Adopt { file, site, stamp } => self.adopt(*file, *site, *stamp),
+            } => Ok(self.release(h, *epoch, *inst, *file, *stamp)?),
+            Record::Adopt { file, site, stamp } => Ok(self.adopt(*file, *site, *stamp)?),
             _ => Ok(Applied::Other),
         }
     }
@@ -229,6 +231,7 @@ impl OneTree {
         }
     }
 
+    #[tactic(auto, using(crate::proofs::Unfitting::refused_so))]
     fn act(
         &mut self,
         h: &History,
@@ -237,11 +240,12 @@ impl OneTree {
         n: u32,
         op: &Op,
         outcome: &Outcome,
-    ) -> Result<Applied, NoMemory>
+    ) -> Result<Applied, TreeFault>
         requires { length h.now < 4294967295 }
         ensures applied { IfOk result (λ told. told ≡ applied h.now self.old (Record.Act epoch inst n op.now outcome.now)) }
         ensures next { OnOk result (self.new ≡ tree_after h.now self.old (Record.Act epoch inst n op.now outcome.now)) }
         ensures err { OnErr result (self.new ≡ self.old) }
+        ensures unfit { result ≡ Err TreeFault.Unfit → IsUnfitRecord h.now self.old (Record.Act epoch inst n op.now outcome.now) }
     {
         if !self.has_act(epoch, inst) {
             return Ok(Applied::Other);

@@ -6,6 +6,7 @@ ghost use Rattle.tree_model.specs.Histories.{history};
 ghost use Rattle.tree_model.specs.State.{empty_tree};
 ghost use Rattle.tree_model.specs.Tree.{tree_of};
 ghost use Rattle.one_tree.specs.Following.{applied, tree_after};
+ghost use Rattle.one_tree.specs.Unfit.{IsUnfit};
 ghost use Rattle.one_tree.specs.declared.applied.Applied.TheVariants.{Differs};
 
 use crate::{Applied, TreeFault};
@@ -45,23 +46,26 @@ impl OneTree {
     /// this epoch and group that the tree doesn't give differs, and the tree stays; what it needs of any other record is
     /// kept.
     ///
-    /// `NoMemory`, with the tree as it was, comes also for what no lawful trace has: a history of 4,294,967,295 versions or
-    /// more, an operation on a content of more than 65,536 bytes, and a mend of versions that can't be joined, where an inode
-    /// is a file in one and a directory in another.
+    /// After a fault the tree is as it was. `NoMemory` comes for want of memory alone. `Unfit` comes only for what no lawful
+    /// trace has: a history of 4,294,967,295 versions or more, an operation but a commit or an abort of an open instance whose
+    /// content is more than 65,536 bytes long, and a mend of versions that can't be joined, where an inode is a file in one
+    /// and a directory in another, or one is longer than 4,294,967,295 bytes.
     ///
     /// Most operations look up in the history each file that the storage site has, to count the room: the steps grow as the
     /// files times the versions. A read and a cut need no room, and count none.
+    #[tactic(auto, using(crate::proofs::Unfitting::full_so, crate::proofs::Unfitting::record_so))]
     pub fn apply(&mut self, h: &History, r: &Record) -> Result<Applied, TreeFault>
         ensures applied { IfOk result (λ told. told ≡ applied h.now self.old r.now) }
         ensures next { OnOk result (self.new ≡ tree_after h.now self.old r.now) }
         ensures err { OnErr result (self.new ≡ self.old) }
+        ensures unfit { result ≡ Err TreeFault.Unfit → IsUnfit h.now self.old r.now }
         // The tree of a trace is the fold of its records.
         ensures fold { IfOk result (λ told. (c : Config) (e : EpochId) (group : ℕ) (before : Trace) (line : ℕ) →
             self.old ≡ tree_of c e group before → h.now ≡ history c before → ¬ told ≡ Differs →
             self.new ≡ tree_of c e group (record { line = line; what = r.now } ∷ before)) }
     {
         if h.len() >= 4_294_967_295 {
-            return Err(TreeFault::NoMemory);
+            return Err(TreeFault::Unfit);
         }
         let told = self.step(h, r)?;
         Ok(told)

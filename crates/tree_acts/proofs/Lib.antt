@@ -4,3 +4,4 @@ pub mod Given
 pub mod Changed
 pub mod Kept
 pub mod Roomless
+pub mod Unfitting

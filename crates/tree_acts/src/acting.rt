@@ -1,4 +1,4 @@
-ghost use Rattle.std.specs.Prelude.{◌≡◌, ◌<◌, ◌+◌, ◌==◌, length, cond, true, false, IfOk, OnErr};
+ghost use Rattle.std.specs.Prelude.{◌≡◌, ◌<◌, ◌+◌, ◌==◌, ◌⊎◌, length, cond, true, false, IfOk, OnErr};
 ghost use Rattle.trace_book.specs.declared.operation.Op.TheVariants as Op;
 ghost use Rattle.tree_model.specs.Given.{gives_act};
 ghost use Rattle.tree_model.specs.State.{instance_in};
@@ -7,8 +7,11 @@ ghost use Rattle.tree_model.specs.Working.{free_pages};
 ghost use Rattle.file_effects.specs.Works.{commit_result};
 ghost use Rattle.role_steps.specs.OperationEffects.{effect_of};
 ghost use Rattle.tree_model.specs.Same.{is_given};
+ghost use Rattle.operation_effects.specs.Joinable.{CanWorkOn};
 ghost use Rattle.tree_acts.specs.Acting.{IsPlain, acted_work, given_work, needs_room, work_by};
+ghost use Rattle.tree_acts.specs.Unfit.{IsTooLong, IsUnfit, IsUnfitAct};
 
+use crate::ActFault;
 use crate::mending::mending;
 use crate::operating::work_by;
 use commit_graph::History;
@@ -25,11 +28,12 @@ use tree_tables::same_outcome;
 use version_vector::Vector;
 use written_vectors::vector_of;
 
-/// Whether the tree gives this act: where it does, the act is carried out, and where it doesn't, the tree stays. After
-/// `NoMemory` the tree is as it was.
+/// Whether the tree gives this act: where it does, the act is carried out, and where it doesn't, the tree stays. After a
+/// fault the tree is as it was. `NoMemory` comes for want of memory alone.
 ///
-/// `NoMemory` comes also where a working content is longer than that of a file may be, and where the kept versions of a
-/// directory to be mended can't be joined.
+/// `Unfit` comes only where an operation but a commit or an abort works on a content of more than 65,536 bytes, and where the
+/// kept versions of a directory to be mended can't be joined: an inode is a file in one of them and a directory in another,
+/// or one is longer than 4,294,967,295 bytes.
 pub fn act(
     tree: &mut TreeTables,
     h: &History,
@@ -37,11 +41,12 @@ pub fn act(
     n: u32,
     op: &Op,
     outcome: &Outcome,
-) -> Result<bool, NoMemory>
+) -> Result<bool, ActFault>
     requires { length h.now < 4294967295 }
     ensures given { IfOk result (λ yes. yes ≡ gives_act h.now tree.old inst n op.now outcome.now) }
     ensures next { IfOk result (λ yes. tree.new ≡ cond yes (acted h.now inst op.now outcome.now tree.old) tree.old) }
     ensures err { OnErr result (tree.new ≡ tree.old) }
+    ensures unfit { result ≡ Err ActFault.Unfit → IsUnfitAct h.now tree.old op.now (instance_in tree.old inst) }
 {
     match acted_work(tree, h, inst, n, op, outcome)? {
         Some(work) => {
@@ -60,9 +65,10 @@ fn acted_work(
     n: u32,
     op: &Op,
     outcome: &Outcome,
-) -> Result<Option<Work>, NoMemory>
+) -> Result<Option<Work>, ActFault>
     requires { length h.now < 4294967295 }
-    ensures { IfOk result (λ made. made ≡ acted_work h.now tree.now n op.now outcome.now (instance_in tree.now inst)) }
+    ensures value { IfOk result (λ made. made ≡ acted_work h.now tree.now n op.now outcome.now (instance_in tree.now inst)) }
+    ensures unfit { result ≡ Err ActFault.Unfit → IsUnfitAct h.now tree.now op.now (instance_in tree.now inst) }
 {
     let Some(instance) = tree.instance(inst) else {
         return Ok(None);
@@ -88,14 +94,15 @@ fn given_work(
     op: &Op,
     outcome: &Outcome,
     instance: &Instance,
-) -> Result<Option<Work>, NoMemory>
+) -> Result<Option<Work>, ActFault>
     requires short { length h.now < 4294967295 }
     requires few { instance.now.work.ops < 4294967295 }
-    ensures { IfOk result (λ made. made ≡ given_work h.now tree.now op.now outcome.now instance.now) }
+    ensures value { IfOk result (λ made. made ≡ given_work h.now tree.now op.now outcome.now instance.now) }
+    ensures unfit { result ≡ Err ActFault.Unfit → IsUnfit h.now tree.now op.now instance.now }
 {
     match op {
-        Op::Commit => committed_work(tree, h, outcome, instance),
-        Op::Abort => aborted_work(tree, h, outcome, instance),
+        Op::Commit => Ok(committed_work(tree, h, outcome, instance)?),
+        Op::Abort => Ok(aborted_work(tree, h, outcome, instance)?),
         Op::Mend => mending_work(tree, h, op, outcome, instance),
         Op::Remove { name, ino } => {
             removing_work(tree, h, name.as_slice(), *ino, op, outcome, instance)
@@ -182,10 +189,11 @@ fn removing_work(
     op: &Op,
     outcome: &Outcome,
     instance: &Instance,
-) -> Result<Option<Work>, NoMemory>
+) -> Result<Option<Work>, ActFault>
     requires short { length h.now < 4294967295 }
     requires few { instance.now.work.ops < 4294967295 }
-    ensures { op.now ≡ Op.Remove name.now ino → IfOk result (λ made. made ≡ given_work h.now tree.now op.now outcome.now instance.now) }
+    ensures value { op.now ≡ Op.Remove name.now ino → IfOk result (λ made. made ≡ given_work h.now tree.now op.now outcome.now instance.now) }
+    ensures unfit { op.now ≡ Op.Remove name.now ino → result ≡ Err ActFault.Unfit → IsUnfit h.now tree.now op.now instance.now }
 {
     let Some(target) = tree.target(instance.grant.call, ino) else {
         return Ok(None);
@@ -205,10 +213,11 @@ fn mending_work(
     op: &Op,
     outcome: &Outcome,
     instance: &Instance,
-) -> Result<Option<Work>, NoMemory>
+) -> Result<Option<Work>, ActFault>
     requires short { length h.now < 4294967295 }
     requires few { instance.now.work.ops < 4294967295 }
-    ensures { op.now ≡ Op.Mend → IfOk result (λ made. made ≡ given_work h.now tree.now Op.Mend outcome.now instance.now) }
+    ensures value { op.now ≡ Op.Mend → IfOk result (λ made. made ≡ given_work h.now tree.now Op.Mend outcome.now instance.now) }
+    ensures unfit { op.now ≡ Op.Mend → result ≡ Err ActFault.Unfit → IsUnfit h.now tree.now op.now instance.now }
 {
     let mending = mending(tree, h, instance.grant.file)?;
     operated_work(tree, h, op, &Vector::zero(), &mending, outcome, instance)
@@ -221,9 +230,10 @@ fn plain_work(
     op: &Op,
     outcome: &Outcome,
     instance: &Instance,
-) -> Result<Option<Work>, NoMemory>
+) -> Result<Option<Work>, ActFault>
     requires { instance.now.work.ops < 4294967295 }
-    ensures { IsPlain op.now → IfOk result (λ made. made ≡ given_work h.now tree.now op.now outcome.now instance.now) }
+    ensures value { IsPlain op.now → IfOk result (λ made. made ≡ given_work h.now tree.now op.now outcome.now instance.now) }
+    ensures unfit { IsPlain op.now → result ≡ Err ActFault.Unfit → IsUnfit h.now tree.now op.now instance.now }
 {
     let mending = no_mending(tree.allocator());
     operated_work(tree, h, op, &Vector::zero(), &mending, outcome, instance)
@@ -246,9 +256,10 @@ fn operated_work(
     mending: &MendingWork,
     outcome: &Outcome,
     instance: &Instance,
-) -> Result<Option<Work>, NoMemory>
+) -> Result<Option<Work>, ActFault>
     requires { instance.now.work.ops < 4294967295 }
-    ensures { IfOk result (λ made. made ≡ work_by (free_pages h.now tree.now instance.now.grant.ss) outcome.now instance.now.work (effect_of op.now seen.now mending.now instance.now.work.content)) }
+    ensures value { IfOk result (λ made. made ≡ work_by (free_pages h.now tree.now instance.now.grant.ss) outcome.now instance.now.work (effect_of op.now seen.now mending.now instance.now.work.content)) }
+    ensures unfit { result ≡ Err ActFault.Unfit → IsTooLong instance.now.work ⊎ ¬ CanWorkOn op.now mending.now.contents }
 {
     let free = room_for(tree, h, op, instance.grant.ss);
     work_by(&instance.work, op, seen, mending, free, outcome)

@@ -4,7 +4,9 @@
 #![tactic(auto)]
 
 mod acting;
+mod fault;
 mod mending;
 mod operating;
 
 pub use acting::act;
+pub use fault::ActFault;

@@ -2,7 +2,7 @@ ghost use Rattle.std.specs.Prelude.{◌≡◌, ◌<◌, ◌++◌, ◌∷◌, [],
 ghost use Rattle.commit_graph.specs.Versions.{content_of};
 ghost use Rattle.tree_model.specs.Mending.{file_in, is_kept, kept_vectors, vector_kept};
 ghost use Rattle.tree_model.specs.State.{kept_of};
-ghost use Rattle.tree_acts.specs.Acting.{has_number, is_number};
+ghost use Rattle.tree_acts.specs.Acting.{has_number};
 
 use commit_graph::History;
 use dir_reconcile::{KeptVector, KeptVectors};
@@ -78,10 +78,10 @@ fn add_kept(
     if !has_stamp(kept, brought.stamp) {
         return Ok(());
     }
-    if !is_number(brought.ino) {
+    let Some(ino) = Ino::new(brought.ino) else {
         return Ok(());
-    }
-    let vector = vector_kept(tree, h, brought)?;
+    };
+    let vector = vector_kept(tree, h, ino, brought.stamp)?;
     made.push(vector)?;
     Ok(())
 }
@@ -106,23 +106,18 @@ fn kept_at(tree: &TreeTables, h: &History, before: KeptOf, ino: u16) -> Result<K
     kept_of(tree, h, ino)
 }
 
-/// An inode of this number can be in a directory.
-fn is_number(ino: u16) -> bool
-    ensures { result ≡ is_number ino }
-{
-    1 <= ino && ino <= 1_024
-}
-
-/// The vector of a version of an inode that a directory can have; of another one it has none to give.
-fn vector_kept(tree: &TreeTables, h: &History, brought: Brought) -> Result<KeptVector, NoMemory>
+/// The vector of a version of an inode that a directory can have.
+fn vector_kept(
+    tree: &TreeTables,
+    h: &History,
+    ino: Ino,
+    stamp: Stamp,
+) -> Result<KeptVector, NoMemory>
     requires { length h.now < 4294967295 }
-    ensures { IfOk result (λ made. made ≡ vector_kept h.now tree.now brought) }
+    ensures { IfOk result (λ made. made ≡ vector_kept h.now tree.now (record { ino = ino; stamp = stamp })) }
 {
-    let Some(ino) = Ino::new(brought.ino) else {
-        return Err(NoMemory);
-    };
-    let file = file_in(tree, brought.ino);
-    let vector = vector_of(tree.allocator(), h, file, brought.stamp)?;
+    let file = file_in(tree, ino.get());
+    let vector = vector_of(tree.allocator(), h, file, stamp)?;
     Ok(KeptVector { ino, vector })
 }
 

@@ -1,0 +1,9 @@
+pub mod Told
+pub mod Circuits
+pub mod Reached
+pub mod Placed
+pub mod Spans
+pub mod Blocked
+pub mod Walk
+pub mod Closing
+pub mod Course

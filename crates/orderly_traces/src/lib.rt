@@ -1,0 +1,7 @@
+//! In orderly schedules each block forms its epochs: the law of every run, from the lines and the records of its trace to the
+//! worlds at the ends of its lines. Theorems about the run; this room has no running part.
+#![tactic(auto)]
+
+mod laws;
+
+pub use laws::orderly_blocks_agree;
