@@ -1,0 +1,4 @@
+pub mod Alone
+pub mod Standing
+pub mod Keeping
+pub mod Joining

@@ -1,0 +1,11 @@
+pub mod Printed
+pub mod Calls
+pub mod Serials
+pub mod Past
+pub mod Instances
+pub mod Following
+pub mod Packets
+pub mod Users
+pub mod Stores
+pub mod Tables
+pub mod Frames

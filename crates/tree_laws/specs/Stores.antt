@@ -1,0 +1,123 @@
+-- What a storage site has, by the trace alone: copies as held, instances as the one tree has them, pulls of what is known.
+use Rattle.std.specs.Prelude.{ℕ, ◌≡◌, ◌⊎◌, ◌≤◌, List, [], length, take, Option, None, Some}
+use Rattle.std.specs.Option.{option_map}
+use Rattle.locus_ids.specs.declared.config.Config.{Config}
+use Rattle.locus_ids.specs.declared.ids.CallId.{CallId}
+use Rattle.locus_ids.specs.declared.ids.EpochId.{EpochId}
+use Rattle.locus_ids.specs.declared.ids.FileId.{FileId}
+use Rattle.locus_ids.specs.declared.ids.Mode.{Mode}
+use Rattle.locus_ids.specs.declared.ids.Mode.TheVariants as mode
+use Rattle.locus_ids.specs.declared.ids.Serial.{Serial}
+use Rattle.locus_ids.specs.declared.ids.Stamp.{Stamp}
+use Rattle.trace_book.specs.declared.operation.Op.{Op}
+use Rattle.trace_book.specs.declared.operation.Outcome.{Outcome}
+use Rattle.wire_messages.specs.declared.body.CloseAnswer.{CloseAnswer}
+use Rattle.wire_messages.specs.declared.body.MadeVersion.{MadeVersion}
+use Rattle.wire_messages.specs.declared.body.Opening.TheVariants as how
+use Rattle.file_effects.specs.Works.{begun}
+use Rattle.role_steps.specs.Own.{Every}
+use Rattle.role_steps.specs.Reports.{stamp_made}
+use Rattle.role_steps.specs.Storage.{copy_of, instance_of}
+use Rattle.role_steps.specs.Using.{close_answer}
+use Rattle.role_steps.specs.Views.{Frame, Store}
+use Rattle.role_steps.specs.declared.copies.FileCopy.{FileCopy}
+use Rattle.role_steps.specs.declared.instances.Instance.{Instance}
+use Rattle.role_steps.specs.declared.instances.Stage.{Stage}
+use Rattle.role_steps.specs.declared.instances.Stage.TheVariants as stage
+use Rattle.role_steps.specs.declared.pulls.Pull.{Pull}
+use Rattle.the_run.specs.Worlds.{Line}
+use Rattle.tree_model.specs.declared.instance.Instance.{Instance as Open}
+use Rattle.tree_model.specs.Files.{HeldVersion, held_version, words_named, kind_made, kind_of_file, set_of_file}
+use Rattle.tree_model.specs.Histories.{history}
+use Rattle.tree_model.specs.Opening.{sites_made}
+use Rattle.tree_model.specs.Packs.{packs_of}
+use Rattle.tree_model.specs.Tree.{tree_of}
+use Rattle.tree_model.specs.Working.{parents_of}
+use Rattle.lawful_trace.specs.Progress.{close_answer as answer_of_close}
+use Rattle.tree_laws.specs.Printed.{entries}
+use Rattle.tree_laws.specs.Past.{WasGranted, WasNamed, WasDone, WasReleasedWith, WasBegun, WasReserved, WasShut}
+use Rattle.tree_laws.specs.Instances.{instance_now, IsOpenAt, AsksOpen, IsVersion, IsKnown, IsStarted}
+use Rattle.tree_laws.specs.Packets.{JoinsParents, MaybeMade, EndsNow}
+
+-- ---- copies ----
+
+abbrev pub copy_for : FileId → HeldVersion → FileCopy
+copy_for f v = record { file = f; kind = v.kind; set = v.set; stamp = v.stamp; vector = v.vector; content = v.content }
+
+-- the disk holds of each file what its site holds by the trace
+abbrev pub CopiesAreHeld : Config → List Line → ℕ → Store → Type 0
+CopiesAreHeld c trace me s = (f : FileId) → copy_of s f ≡ option_map (copy_for f) (held_version c (entries trace) me f)
+
+-- ---- instances ----
+
+-- the instance is the tree's: one equation for all its work, and its next version follows what the tree's follows
+pub record WorksAs (c : Config) (trace : List Line) (f : Frame) (i : Instance) (x : Open) : Type 0 where
+  pub open_at : IsOpenAt c trace f.epoch i.inst f.me x
+  pub file_is : x.grant.file ≡ i.file
+  pub mode_is : x.grant.mode ≡ i.mode
+  pub work_is : x.work ≡ i.work
+  pub parents_are : i.parents ≡ parents_of (history c (entries trace)) (tree_of c f.epoch i.file.group (entries trace)) x
+
+-- begun for a make that isn't granted yet: nothing was done with it
+pub record WaitsToBeGranted (c : Config) (trace : List Line) (f : Frame) (i : Instance) : Type 0 where
+  pub reserved : WasReserved trace f.me f.epoch i.inst i.file
+  pub fresh : i.work ≡ begun mode.Make None []
+  pub no_parents : i.parents ≡ []
+  pub unnamed : WasNamed trace f.epoch i.inst → ⊥
+
+abbrev pub RunsAs : Config → List Line → Frame → Instance → Type 0
+RunsAs c trace f i = ((x : Open) × WorksAs c trace f i x) ⊎ WaitsToBeGranted c trace f i
+
+-- what its close has made, and what it is answered
+pub record ClosesAs (c : Config) (trace : List Line) (f : Frame) (i : Instance) (made : Option MadeVersion) (a : CloseAnswer) : Type 0 where
+  pub ends : WasReleasedWith c trace f.epoch i.inst (stamp_made made) (close_answer a) ⊎ EndsNow c trace f.epoch f.me i.inst (stamp_made made)
+  pub answer_is : (x : Open) → instance_now c trace f.epoch i.inst ≡ Some x → answer_of_close (stamp_made made) (Some x) ≡ close_answer a
+  pub unchanged : (x : Open) → instance_now c trace f.epoch i.inst ≡ Some x → x.work.changed ≡ []
+  pub version : MaybeMade c trace f.epoch f.me i.inst made
+
+abbrev pub StageFact : Config → List Line → Frame → Instance → Stage → Type 0
+StageFact c trace f i stage.Running = RunsAs c trace f i × (WasShut trace f.me f.epoch i.inst → ⊥)
+StageFact c trace f i (stage.Closing made a) = ClosesAs c trace f i made a × (i.work.changed ≡ []) × WasShut trace f.me f.epoch i.inst
+StageFact c trace f i (stage.Closed a) = ((last : Option Stamp) × WasReleasedWith c trace f.epoch i.inst last (close_answer a)) × WasShut trace f.me f.epoch i.inst
+
+-- the answer kept for repeats is that of the last operation
+abbrev pub AnsweredFact : List Line → Frame → Instance → Option Outcome → Type 0
+AnsweredFact trace f i None = i.work.ops ≡ 0
+AnsweredFact trace f i (Some result) = (o : Op) × WasDone trace f.epoch i.inst i.work.ops o result
+
+-- the call that makes the file: it asks the make now, or was granted it
+abbrev pub IsMaker : Config → List Line → Frame → Instance → CallId → Type 0
+IsMaker c trace f i d = ((request : ℕ) × (file : FileId) × AsksOpen c trace f.epoch d request i.inst.serial file (how.Make i.set i.kind)) ⊎ ((request : ℕ) × WasGranted trace f.epoch d request i.inst mode.Make i.file None f.me)
+
+-- the sites and the kind of the file are those that its making call gives, or those of the file where it stands
+abbrev pub LiesAs : Config → List Line → Frame → Instance → Mode → Type 0
+LiesAs c trace f i mode.Make = (d : CallId) × IsMaker c trace f i d × (i.set ≡ sites_made (packs_of c i.file.group) (words_named (entries trace) (Some d))) × (i.kind ≡ kind_made (words_named (entries trace) (Some d)))
+LiesAs c trace f i _ = (i.set ≡ set_of_file c (entries trace) i.file) × (i.kind ≡ kind_of_file c (entries trace) i.file)
+
+pub record InstanceFact (c : Config) (trace : List Line) (f : Frame) (i : Instance) : Type 0 where
+  pub begun : WasBegun trace f.me f.epoch i.inst i.file
+  pub user : i.inst.us ≤ 16
+  pub vector_is : JoinsParents c trace i.file i.parents i.vector
+  pub lies : LiesAs c trace f i i.mode
+  pub stage : StageFact c trace f i i.stage
+  pub answered : AnsweredFact trace f i i.answered
+
+pub record StoreFact (c : Config) (trace : List Line) (f : Frame) (s : Store) : Type 0 where
+  pub instances : Every (InstanceFact c trace f) s.instances
+  -- each instance that the site has begun in the epoch is there
+  pub has : (i : Serial) (file : FileId) → WasBegun trace f.me f.epoch i file → (x : Instance) × (instance_of s i ≡ Some x)
+
+-- ---- pulls ----
+
+-- a known version is pulled, and its first pages have come
+pub record PullFact (c : Config) (trace : List Line) (e : EpochId) (p : Pull) : Type 0 where
+  pub started : IsStarted c trace e p.file.group
+  pub known : IsKnown c trace e p.file p.stamp
+  pub version : HeldVersion
+  pub is_version : IsVersion c trace p.file version
+  pub stamp_is : version.stamp ≡ p.stamp
+  pub kind_is : version.kind ≡ p.kind
+  pub set_is : version.set ≡ p.set
+  pub vector_is : version.vector ≡ p.vector
+  pub size_is : length version.content ≡ p.size
+  pub pages : p.content ≡ take (length p.content) version.content

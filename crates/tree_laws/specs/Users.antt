@@ -1,0 +1,147 @@
+-- What a using site has, by the trace alone: its waiting calls as far as their processes have taken answers, and the packet of
+-- each current request with its fact; its instances; its descriptors.
+use Rattle.std.specs.Prelude.{ℕ, ◌≡◌, ◌⊎◌, ◌+◌, ◌==◌, not, cond, List, [], ◌∷◌, length, map, filter, Option, None, Some}
+use Rattle.std.specs.List.{find, list_any}
+use Rattle.std.specs.Option.{is_some}
+use Rattle.locus_ids.specs.declared.config.Config.{Config}
+use Rattle.locus_ids.specs.declared.ids.CallId.{CallId}
+use Rattle.locus_ids.specs.declared.ids.FileId.{FileId}
+use Rattle.locus_ids.specs.declared.ids.Mode.{Mode}
+use Rattle.locus_ids.specs.declared.ids.Stamp.{Stamp}
+use Rattle.commit_graph.specs.Versions.{content_of, same_file}
+use Rattle.trace_book.specs.declared.call.Call.{Call}
+use Rattle.trace_book.specs.declared.call.Call.TheVariants as call
+use Rattle.trace_book.specs.declared.record.Record.{Record}
+use Rattle.trace_book.specs.declared.record.Record.TheVariants as says
+use Rattle.call_rules.specs.declared.answer.Answer.{Answer}
+use Rattle.call_rules.specs.declared.answer.Answer.TheVariants as answer
+use Rattle.call_rules.specs.declared.want.Want.{Want}
+use Rattle.call_rules.specs.declared.want.Want.TheVariants as want
+use Rattle.role_steps.specs.Own.{Every}
+use Rattle.role_steps.specs.Requests.{user_instance, descriptors_of, request_packets}
+use Rattle.role_steps.specs.Views.{Users, Frame, Told, Shown, Takes}
+use Rattle.role_steps.specs.declared.users.Asking.{Asking}
+use Rattle.role_steps.specs.declared.users.Asking.TheVariants as asking
+use Rattle.role_steps.specs.declared.users.UserInstance.{UserInstance}
+use Rattle.role_steps.specs.declared.users.WaitingCall.{WaitingCall}
+use Rattle.the_run.specs.Kept.{Among}
+use Rattle.the_run.specs.Worlds.{Line}
+use Rattle.tree_model.specs.declared.accepted.Waiting.{Waiting}
+use Rattle.tree_model.specs.Calls.{call_named, waiting}
+use Rattle.tree_model.specs.Epochs.{boot_of, calls_accepted}
+use Rattle.tree_model.specs.Histories.{history}
+use Rattle.tree_model.specs.State.{has_number}
+use Rattle.lawful_trace.specs.CallRows.{has_lost_mend, is_this}
+use Rattle.lawful_trace.specs.Tables.{begun, descriptor}
+use Rattle.tree_laws.specs.Printed.{entries}
+use Rattle.tree_laws.specs.Calls.{log, tries, script, Waits, Asks}
+use Rattle.tree_laws.specs.Serials.{asked_now, opens_asked, ops_asked, serial_asked}
+use Rattle.tree_laws.specs.Past.{WasGranted}
+use Rattle.tree_laws.specs.Instances.{IsOpening}
+use Rattle.tree_laws.specs.Packets.{PacketFact, SeesVersion, serial_of}
+
+abbrev pub own_call : ℕ → ℕ → ℕ → CallId
+own_call me boot n = record { site = me; boot = boot; n = n }
+
+-- ---- one call ----
+
+-- what the current request asks is what the script wants
+abbrev pub AskingIs : Config → List Line → ℕ → CallId → Want → Asking → Type 0
+AskingIs c trace me d (want.Look file w) (asking.Look f asked times) = (f ≡ file) × (asked ≡ w) × (times ≡ tries trace d)
+AskingIs c trace me d (want.Do inst o) (asking.Op serial ss n it seen) = (serial_of me serial ≡ inst) × (it ≡ o) × (n ≡ ops_asked c trace inst)
+AskingIs c trace me d (want.Close inst) (asking.Close serial ss) = serial_of me serial ≡ inst
+AskingIs c trace me d w (asking.Open serial f it) = IsOpening c w f it × (serial ≡ serial_asked c trace d)
+AskingIs c trace me d w _ = ⊥
+
+-- it is asked still, or its answer waits
+abbrev pub IsAnswered : Config → List Line → CallId → Want → Type 0
+IsAnswered c trace d w = Asks c trace d w ⊎ ((a : Answer) × Waits c trace d a)
+
+-- the contents that a mend has brought: of the versions that its looks named, which the process has taken
+pub record Brings (c : Config) (trace : List Line) (f : FileId) (stamps : List Stamp) (contents : List (List ℕ)) : Type 0 where
+  pub contents_are : contents ≡ map (content_of (history c (entries trace)) f) stamps
+
+abbrev pub BringsFor : Config → List Line → CallId → Call → List (List ℕ) → Type 0
+BringsFor c trace d (call.Mend file) contents = Brings c trace file (taken_whole (log trace d)) contents
+  where
+    -- of the stamps that the open told, as many as looks have brought
+    brought_of : List Stamp → List Answer → List Stamp
+    brought_of (s ∷ ss) (answer.Brought ∷ rest) = s ∷ brought_of ss rest
+    brought_of ss answers = []
+
+    taken_whole : List Answer → List Stamp
+    taken_whole (answer.Merging inst kept ∷ rest) = brought_of kept rest
+    taken_whole answers = []
+BringsFor c trace d _ contents = contents ≡ []
+
+-- a waiting call is as the trace has it
+pub record WaitingFact (c : Config) (trace : List Line) (f : Frame) (w : WaitingCall) : Type 0 where
+  pub caller : Waiting
+  pub named : call_named (entries trace) (own_call f.me f.boot w.call) ≡ Some caller
+  pub caller_is : caller ≡ record { site = f.me; process = w.process; call = own_call f.me f.boot w.call; words = w.words; epoch = Some f.epoch }
+  pub waits : find (is_this f.me w.process (own_call f.me f.boot w.call)) (waiting (entries trace)) ≡ Some caller
+  pub begins_is : begun (entries trace) (own_call f.me f.boot w.call) ≡ Some w.begins
+  pub answers_are : w.answers ≡ log trace (own_call f.me f.boot w.call)
+  pub request_is : w.request ≡ length w.answers + 1
+  pub wanted : Want
+  pub script_is : script c (entries trace) (own_call f.me f.boot w.call) None w.answers ≡ wanted
+  pub asking_is : AskingIs c trace f.me (own_call f.me f.boot w.call) wanted w.asking
+  pub answered : IsAnswered c trace (own_call f.me f.boot w.call) wanted
+  pub sent : Every (PacketFact c trace) (request_packets f w w.asking)
+  pub brings : BringsFor c trace (own_call f.me f.boot w.call) w.words w.brought
+
+-- ---- instances and descriptors ----
+
+-- an instance of the site was granted so, and its operations are counted
+pub record UserInstanceFact (c : Config) (trace : List Line) (f : Frame) (i : UserInstance) : Type 0 where
+  pub call : CallId
+  pub request : ℕ
+  pub mode : Mode
+  pub file : FileId
+  pub stamp : Option Stamp
+  pub was_granted : WasGranted trace f.epoch call request (serial_of f.me i.serial) mode file stamp i.ss
+  pub sees : SeesVersion c trace file mode stamp i.vector
+  pub ops : i.ops ≡ ops_asked c trace (serial_of f.me i.serial)
+
+abbrev pub without_closed : Want → List ℕ → List ℕ
+without_closed (want.Close inst) old = filter (λ n. not (n == inst.serial)) old
+without_closed _ old = old
+
+abbrev pub had_by : Want → Answer → List ℕ → List ℕ
+had_by w (answer.Opened inst ino) old = inst.serial ∷ old
+had_by w (answer.Merging inst kept) old = inst.serial ∷ old
+had_by w _ old = without_closed w old
+
+abbrev pub had_record : Record → ℕ → List ℕ → List ℕ
+had_record (says.Leave s e) me old = cond (s == me) [] old
+had_record (says.Stopped s cause) me old = cond (s == me) [] old
+had_record (says.Up s boot) me old = cond (s == me) [] old
+had_record _ me old = old
+
+abbrev pub had_told : Config → List Line → Told → ℕ → List ℕ → List ℕ
+had_told c older (Shown r) me old = had_record r me old
+had_told c older (Takes s d request times a) me old = cond (s == me) (had_by (asked_now c older d) a old) old
+had_told c older _ me old = old
+
+-- the serial numbers of the instances that the site has: opened by an answer that it took, and not closed by one
+abbrev pub had : Config → List Line → ℕ → List ℕ
+had c [] me = []
+had c (x ∷ older) me = had_told c older x.told me (had c older me)
+
+-- ---- the whole ----
+
+-- in an epoch
+pub record InsideUsers (c : Config) (trace : List Line) (f : Frame) (u : Users) : Type 0 where
+  pub calls : Every (WaitingFact c trace f) u.waiting
+  pub instances : Every (UserInstanceFact c trace f) u.instances
+  pub has : (serial : ℕ) → is_some (user_instance u serial) ≡ has_number (had c trace f.me) serial
+  -- each call of the site that waits is among them
+  pub all : (d : CallId) (process : ℕ) (caller : Waiting) → find (is_this f.me process d) (waiting (entries trace)) ≡ Some caller → (w : WaitingCall) × Among w u.waiting × (d ≡ own_call f.me f.boot w.call)
+  pub hopeless : (file : FileId) → list_any (same_file file) u.hopeless ≡ has_lost_mend (entries trace) f.epoch file
+
+-- in and out of epochs
+pub record UsersFact (c : Config) (trace : List Line) (me boot : ℕ) (u : Users) : Type 0 where
+  pub boot_is : boot ≡ boot_of (entries trace) me
+  pub calls : u.calls ≡ calls_accepted (entries trace) me
+  pub serials : u.serials ≡ opens_asked c trace me
+  pub descriptors : (process fd : ℕ) → descriptors_of u process fd ≡ descriptor (entries trace) me process fd
