@@ -55,7 +55,7 @@ record GrantNoted (book : Book) (e : EpochId) (key : ℕ) (file : FileId) : Type
   fact : GrantFact book e inst m file
 
 grant_record_noted : (book : Book) (e : EpochId) (key : ℕ) (file : FileId) (r : Record) → RecordFact book r → GrantedRecord e key file r → GrantNoted book e key file
-grant_record_noted book e key file (says.Grant at call request inst m of stamp ss) h k = record { inst = inst; m = m; key_is = k.1; fact = subst (λ (g : FileId). GrantFact book e inst m g) k.2 (subst (λ (i : EpochId). GrantFact book i inst m of) k.0 h) }
+grant_record_noted book e key file (says.Grant at call request inst m of stamp ss) h k = record { inst = inst; m = m; key_is = k.1; fact = subst (λ (g : FileId). GrantFact book e inst m g) k.2 (subst (λ (i : EpochId). GrantFact book i inst m of) k.0 h.0) }
 grant_record_noted book e key file _ h k = absurd k
 
 grant_noted : (book : Book) (e : EpochId) (key : ℕ) (file : FileId) (x : Told) → ToldFact book x → WasGrantedBy e key file x → GrantNoted book e key file

@@ -29,7 +29,7 @@ use Rattle.role_steps.specs.declared.users.Asking.TheVariants as asking
 use Rattle.the_run.specs.Kept.{Among}
 use Rattle.the_run.proofs.Boots.{every_weaker}
 use Rattle.instance_laws.specs.Book.{Note, Listed, Asked, Placed, Began, Book, IsOf, AskedBy, PlacedFact, BeganFact, NoteFact, Once, Sound, Grown}
-use Rattle.instance_laws.specs.Facts.{AnswerFact, BodyFact, PacketFact, NoFact, Factless, MadeFact, WasDenied, RecordFact, ToldFact, AskingFact, WaitingFact, UsersFact, InstanceFact, StoreFact, StageFact, OpenFact, EarlyOf, EarlyFact, TableFact, TablesFact, InEpochFact, ViewFact}
+use Rattle.instance_laws.specs.Facts.{AnswerFact, BodyFact, PacketFact, NoFact, Factless, MadeFact, WasPlaced, WasDenied, RecordFact, ToldFact, AskingFact, WaitingFact, UsersFact, InstanceFact, StoreFact, StageFact, OpenFact, EarlyOf, EarlyFact, TableFact, TablesFact, InEpochFact, ViewFact}
 
 -- ---- growing ----
 
@@ -113,14 +113,17 @@ made_later a b l e inst file mode.Write h = tt
 made_later a b l e inst file mode.Resolve h = tt
 made_later a b l e inst file mode.Mend h = tt
 
+place_later : (a b : Book) → Leads a b → (e : EpochId) (inst : Serial) (ss : ℕ) → WasPlaced a e inst ss → WasPlaced b e inst ss
+place_later a b l e inst ss h = record { group = h.group; css = h.css; boot = h.boot; placed = l _ h.placed }
+
 denied_later : (a b : Book) → Leads a b → (e : EpochId) (inst : Serial) (m : Mode) → (m ≡ mode.Make) ⊎ WasDenied a e inst → (m ≡ mode.Make) ⊎ WasDenied b e inst
 denied_later a b l e inst m (inl h) = inl h
-denied_later a b l e inst m (inr h) = inr (record { group = h.group; css = h.css; boot = h.boot; placed = l _ h.placed })
+denied_later a b l e inst m (inr h) = inr (place_later a b l e inst 0 h)
 
 record_later : (a b : Book) → Leads a b → (r : Record) → RecordFact a r → RecordFact b r
 record_later a b l (says.Join s e members) h = l _ h
 record_later a b l (says.Refuse e call request inst m file why) h = record { members = h.members; listed = l _ h.listed; file_asked = h.file_asked; how = h.how; asked = l _ h.asked; mode_is = h.mode_is; denied = denied_later a b l e inst m h.denied }
-record_later a b l (says.Grant e call request inst m file stamp ss) h = record { members = h.members; listed = l _ h.listed; file_asked = h.file_asked; how = h.how; asked = l _ h.asked; mode_is = h.mode_is; is_for = h.is_for; made = made_later a b l e inst file m h.made }
+record_later a b l (says.Grant e call request inst m file stamp ss) h = (record { members = h.0.members; listed = l _ h.0.listed; file_asked = h.0.file_asked; how = h.0.how; asked = l _ h.0.asked; mode_is = h.0.mode_is; is_for = h.0.is_for; made = made_later a b l e inst file m h.0.made }, place_later a b l e inst ss h.1)
 record_later a b l _ h = tt
 
 pub told_later : (a b : Book) → Leads a b → (x : Told) → ToldFact a x → ToldFact b x

@@ -22,7 +22,7 @@ use Rattle.the_run.specs.Kept.{Among}
 use Rattle.the_run.proofs.InsideSync.{Found, row_found}
 use Rattle.vector_laws.proofs.SyncFacts.{FoundAt, row_at, every_latest}
 use Rattle.instance_laws.specs.Book.{Note, Listed, Placed, Began, Book, AskedBy, IsFor, PlacedFact, BeganFact, Sound}
-use Rattle.instance_laws.specs.Facts.{OpenedFact, MakeAsked, AnswerFact, PacketFact, MadeFact, GrantFact, ToldFact, StageFact, OpenFact, own_serial, HasRow, TableFact, Fine}
+use Rattle.instance_laws.specs.Facts.{OpenedFact, MakeAsked, AnswerFact, PacketFact, MadeFact, GrantFact, WasPlaced, ToldFact, StageFact, OpenFact, own_serial, HasRow, TableFact, Fine}
 use Rattle.instance_laws.proofs.Books.{Leads, grown_same, grown_then, grown_cons, packets_later, tolds_later, open_later, earlies_later, sound_cons, once_placed, asked_once, boot_same}
 use Rattle.instance_laws.proofs.StoreFacts.{latest_some, latest_same, is_for_self}
 
@@ -114,8 +114,8 @@ no_grant_made : (book : Book) (e : EpochId) (inst : Serial) (file : FileId) (m :
 no_grant_made book e inst file m h x q = subst (λ (y : Mode). MadeFact book e inst file y) (sym q) h
 
 -- the grant of a row that is asked
-grant_told : (f : Frame) (book : Book) (t : SyncTable) (us : ℕ) (o : OpenRequest) (r : OpenRow) (m : Mode) → Comes f book t us o → r.inst ≡ own_serial us o.serial → r.file ≡ o.file → r.mode ≡ mode_of o.how → mode_of o.how ≡ m → Every (ToldFact book) (granted_at_once f r m)
-grant_told f book t us o r m k inst file same is = by_mode m is
+grant_told : (f : Frame) (book : Book) (t : SyncTable) (us : ℕ) (o : OpenRequest) (r : OpenRow) (m : Mode) → Comes f book t us o → r.inst ≡ own_serial us o.serial → r.file ≡ o.file → r.mode ≡ mode_of o.how → mode_of o.how ≡ m → WasPlaced book f.epoch r.inst r.ss → Every (ToldFact book) (granted_at_once f r m)
+grant_told f book t us o r m k inst file same is placed = by_mode m is
   where
     fact : (x : Mode) → mode_of o.how ≡ x → MadeFact book f.epoch r.inst r.file x → GrantFact book f.epoch r.inst r.mode r.file
     fact x q made = record {
@@ -131,10 +131,10 @@ grant_told f book t us o r m k inst file same is = by_mode m is
 
     by_mode : (m : Mode) → mode_of o.how ≡ m → Every (ToldFact book) (granted_at_once f r m)
     by_mode mode.Make q = tt
-    by_mode mode.Read q = (fact mode.Read q tt, tt)
-    by_mode mode.Write q = (fact mode.Write q tt, tt)
-    by_mode mode.Resolve q = (fact mode.Resolve q tt, tt)
-    by_mode mode.Mend q = (fact mode.Mend q tt, tt)
+    by_mode mode.Read q = ((fact mode.Read q tt, placed), tt)
+    by_mode mode.Write q = ((fact mode.Write q tt, placed), tt)
+    by_mode mode.Resolve q = ((fact mode.Resolve q tt, placed), tt)
+    by_mode mode.Mend q = ((fact mode.Mend q tt, placed), tt)
 
 -- what is placed is noted, with its row
 abbrev new_note : Frame → ℕ → OpenRequest → ℕ → Note
@@ -191,7 +191,7 @@ asks_fine f book t us o (Grants ss stamp vector parents set kind) s k none h =
       sound = noted_sound f book t us o ss s k none h;
       view = (noted_table f book t us o ss r refl (record { file = o.file; how = o.how; asked = inr k.asked; mode_is = refl; group_is = k.group_is; is_for = is_for_self (mode_of o.how) o.file; placed = (refl, inl refl) }) h, refl);
       sent = (record { members = f.members; listed = inr k.listed; how = o.how; asked = inr k.asked; mode_is = refl; css = f.me; css_boot = f.boot; placed = inl refl; boot_is = refl }, tt);
-      told = grant_told f next t us o r (mode_of o.how) (record { listed = inr k.listed; asked = inr k.asked; group_is = k.group_is }) refl refl refl refl;
+      told = grant_told f next t us o r (mode_of o.how) (record { listed = inr k.listed; asked = inr k.asked; group_is = k.group_is }) refl refl refl refl (record { group = o.file.group; css = f.me; boot = f.boot; placed = inl refl });
     }
 
 -- a repeated open
@@ -245,24 +245,27 @@ made_begun f book inst r group ino s listed k file_is make key a =
     file_eq : (x : FileId) (group ino : ℕ) → x.group ≡ group → x.ino ≡ ino → x ≡ record { group = group; ino = ino }
     file_eq x group ino e g = λ i. record { group = e i; ino = g i }
 
-last_told : (f : Frame) (book : Book) (inst : Serial) (r : OpenRow) (group ino size : ℕ) (m : Mode) → Sound f.config book → Among (Listed f.epoch f.members) book → (k : OpenFact book f group r) → r.file ≡ k.file → r.mode ≡ m → open_key r ≡ serial_key inst → OpenedFact book f.epoch inst ino → Every (ToldFact book) (granted_at_last f (granted_row r ino size) m)
-last_told f book inst r group ino size mode.Make s listed k file_is make key a = (
-  record {
-    members = f.members;
-    listed = listed;
-    file_asked = k.file;
-    how = k.how;
-    asked = k.asked;
-    mode_is = k.mode_is;
-    is_for = numbered_for r.mode r.file k.file ino file_is;
-    made = subst (λ (m : Mode). MadeFact book f.epoch r.inst (numbered_file m r.file ino) m) (sym make) (made_begun f book inst r group ino s listed k file_is make key a);
-  },
+last_told : (f : Frame) (book : Book) (inst : Serial) (r : OpenRow) (group ino size : ℕ) (m : Mode) → Sound f.config book → Among (Listed f.epoch f.members) book → (k : OpenFact book f group r) → r.file ≡ k.file → r.mode ≡ m → open_key r ≡ serial_key inst → OpenedFact book f.epoch inst ino → WasPlaced book f.epoch r.inst r.ss → Every (ToldFact book) (granted_at_last f (granted_row r ino size) m)
+last_told f book inst r group ino size mode.Make s listed k file_is make key a placed = (
+  (
+    record {
+      members = f.members;
+      listed = listed;
+      file_asked = k.file;
+      how = k.how;
+      asked = k.asked;
+      mode_is = k.mode_is;
+      is_for = numbered_for r.mode r.file k.file ino file_is;
+      made = subst (λ (m : Mode). MadeFact book f.epoch r.inst (numbered_file m r.file ino) m) (sym make) (made_begun f book inst r group ino s listed k file_is make key a);
+    },
+    placed,
+  ),
   tt,
 )
-last_told f book inst r group ino size mode.Read s listed k file_is make key a = tt
-last_told f book inst r group ino size mode.Write s listed k file_is make key a = tt
-last_told f book inst r group ino size mode.Resolve s listed k file_is make key a = tt
-last_told f book inst r group ino size mode.Mend s listed k file_is make key a = tt
+last_told f book inst r group ino size mode.Read s listed k file_is make key a placed = tt
+last_told f book inst r group ino size mode.Write s listed k file_is make key a placed = tt
+last_told f book inst r group ino size mode.Resolve s listed k file_is make key a placed = tt
+last_told f book inst r group ino size mode.Mend s listed k file_is make key a placed = tt
 
 -- what can't be begun is a make
 is_make : (f : Frame) (book : Book) (inst : Serial) (r : OpenRow) (group : ℕ) → Sound f.config book → Among (Listed f.epoch f.members) book → (k : OpenFact book f group r) → open_key r ≡ serial_key inst → MakeAsked book f.epoch inst → r.mode ≡ mode.Make
@@ -271,20 +274,20 @@ is_make f book inst r group s listed k key a =
     let same : (a.file ≡ k.file) × (a.how ≡ k.how) = asked_once f.config book f.members inst r.inst a.file k.file a.how k.how s (sym key) (subst (λ (m : Members). AskedBy book m inst a.file a.how) members a.asked) k.asked in
     sym k.mode_is ∙ (sym (ap mode_of same.1) ∙ a.make)
 
-answers_fine : (f : Frame) (book : Book) (inst : Serial) (r : OpenRow) (a : OpenedAs) (t : SyncTable) → Sound f.config book → Among (Listed f.epoch f.members) book → (k : OpenFact book f t.group r) → r.file ≡ k.file → open_key r ≡ serial_key inst → AnswerFact book f.epoch inst a → TableFact book f t → TableFine f t.group book (answers_open f r a t)
-answers_fine f book inst r (opened.Open ino size) t s listed k file_is key a h =
+answers_fine : (f : Frame) (book : Book) (inst : Serial) (r : OpenRow) (a : OpenedAs) (t : SyncTable) → Sound f.config book → Among (Listed f.epoch f.members) book → (k : OpenFact book f t.group r) → r.file ≡ k.file → open_key r ≡ serial_key inst → WasPlaced book f.epoch r.inst r.ss → AnswerFact book f.epoch inst a → TableFact book f t → TableFine f t.group book (answers_open f r a t)
+answers_fine f book inst r (opened.Open ino size) t s listed k file_is key placed a h =
     let q : OpenRow = granted_row r ino size in
     still f t.group book (answers_open f r (opened.Open ino size) t) s
     (table_open book f t q (record { file = k.file; how = k.how; asked = k.asked; mode_is = k.mode_is; group_is = k.group_is; is_for = numbered_for r.mode r.file k.file ino file_is; placed = tt }) h, refl)
-    (tt, tt) (last_told f book inst r t.group ino size r.mode s listed k file_is refl key a)
-answers_fine f book inst r (opened.No why) t s listed k file_is key a h =
+    (tt, tt) (last_told f book inst r t.group ino size r.mode s listed k file_is refl key a placed)
+answers_fine f book inst r (opened.No why) t s listed k file_is key placed a h =
     let q : OpenRow = record r { stage = stage.Refused why } in
     still f t.group book (answers_open f r (opened.No why) t) s
     (table_open book f t q (record { file = k.file; how = k.how; asked = k.asked; mode_is = k.mode_is; group_is = k.group_is; is_for = k.is_for; placed = tt }) h, refl)
     (tt, tt) (record { members = f.members; listed = listed; file_asked = k.file; how = k.how; asked = k.asked; mode_is = k.mode_is; denied = inl (is_make f book inst r t.group s listed k key a) }, tt)
 
 stage_fine : (f : Frame) (book : Book) (inst : Serial) (r : OpenRow) (a : OpenedAs) (x : OpenStage) (t : SyncTable) → Sound f.config book → Among (Listed f.epoch f.members) book → (k : OpenFact book f t.group r) → StageFact book f r k.file x → open_key r ≡ serial_key inst → AnswerFact book f.epoch inst a → TableFact book f t → TableFine f t.group book (by_stage f r a x t)
-stage_fine f book inst r a stage.Asked t s listed k p key an h = answers_fine f book inst r a t s listed k p.0 key an h
+stage_fine f book inst r a stage.Asked t s listed k p key an h = answers_fine f book inst r a t s listed k p.0 key (record { group = k.file.group; css = f.me; boot = f.boot; placed = p.1 }) an h
 stage_fine f book inst r a stage.Granted t s listed k p key an h = still f t.group book (quiet t) s (h, refl) tt tt
 stage_fine f book inst r a (stage.Refused why) t s listed k p key an h = still f t.group book (quiet t) s (h, refl) tt tt
 stage_fine f book inst r a stage.Ended t s listed k p key an h = still f t.group book (quiet t) s (h, refl) tt tt

@@ -113,12 +113,16 @@ pub record GrantFact (book : Book) (e : EpochId) (inst : Serial) (m : Mode) (fil
   pub is_for : IsFor m file file_asked
   pub made : MadeFact book e inst file m
 
--- an open that is denied as it is taken is placed nowhere, which is noted as site 0
-pub record WasDenied (book : Book) (e : EpochId) (inst : Serial) : Type 0 where
+-- a synchronization site placed the instance at this storage site
+pub record WasPlaced (book : Book) (e : EpochId) (inst : Serial) (ss : ℕ) : Type 0 where
   pub group : ℕ
   pub css : ℕ
   pub boot : ℕ
-  pub placed : Among (Placed e inst group css boot 0) book
+  pub placed : Among (Placed e inst group css boot ss) book
+
+-- an open that is denied as it is taken is placed nowhere, which is noted as site 0
+abbrev pub WasDenied : Book → EpochId → Serial → Type 0
+WasDenied book e inst = WasPlaced book e inst 0
 
 -- a refusal is of an open that was asked in this mode; it was denied as it was taken, or is a make
 pub record RefuseFact (book : Book) (e : EpochId) (inst : Serial) (m : Mode) : Type 0 where
@@ -133,7 +137,7 @@ pub record RefuseFact (book : Book) (e : EpochId) (inst : Serial) (m : Mode) : T
 -- a site joins an epoch with its members
 abbrev pub RecordFact : Book → Record → Type 0
 RecordFact book (says.Join s e members) = Among (Listed e members) book
-RecordFact book (says.Grant e call request inst mode file stamp ss) = GrantFact book e inst mode file
+RecordFact book (says.Grant e call request inst mode file stamp ss) = GrantFact book e inst mode file × WasPlaced book e inst ss
 RecordFact book (says.Refuse e call request inst mode file why) = RefuseFact book e inst mode
 RecordFact book _ = Unit {0}
 

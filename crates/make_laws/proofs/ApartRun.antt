@@ -1,5 +1,5 @@
 -- In every run a number is reserved where each earlier make of the file in the epoch is released.
-use Rattle.std.proofs.Common.{◌≡◌, ◌≢◌, ◌≤◌, ℕ, ◌+◌, ◌*◌, ◌-◌, ◌==◌, ◌||◌, Bool, true, false, cond, ◌&&◌, ◌⊎◌, List, [], ◌∷◌, ◌++◌, map, Option, Some, None, refl, sym, ◌∙◌, ap, subst, inl, inr, arith}
+use Rattle.std.proofs.Common.{◌≡◌, ◌≤◌, ℕ, ◌+◌, ◌*◌, ◌-◌, ◌==◌, ◌||◌, Bool, true, false, cond, ◌&&◌, List, [], ◌∷◌, ◌++◌, map, Option, Some, None, refl, sym, ◌∙◌, subst, inl, inr, arith}
 use Rattle.std.proofs.lemmas.Bool.Decides.{nat_tests}
 use Rattle.std.specs.List.{list_any}
 use Rattle.locus_ids.specs.declared.ids.EpochId.{EpochId}
@@ -17,21 +17,21 @@ use Rattle.role_steps.specs.Own.{Every}
 use Rattle.role_steps.specs.Tables.{row}
 use Rattle.role_steps.specs.Views.{Frame, Store, SiteView, Told, Shown, Begins, Reserves, Outcome, Event, Receives, serial_key}
 use Rattle.role_steps.specs.Epochs.{frame_in}
-use Rattle.role_steps.specs.Storage.{StoreRequest, instance_key, is_open, is_open_in, is_making, is_held, is_used, on_open_ss}
+use Rattle.role_steps.specs.Storage.{StoreRequest, instance_key, is_open, is_making, is_held, is_used, on_open_ss}
 use Rattle.role_steps.specs.declared.instances.Instance.{Instance}
 use Rattle.role_steps.specs.declared.instances.Stage.{Stage}
 use Rattle.role_steps.specs.declared.instances.Stage.TheVariants as stage
 use Rattle.role_steps.specs.declared.rounds.InEpoch.{InEpoch}
-use Rattle.role_steps.proofs.Sending.{every_map, every_append}
-use Rattle.the_run.specs.Disks.{Disk, Booted, Whole, CutOff, boots, cut_disk, is_on_disk}
+use Rattle.role_steps.proofs.Sending.{every_map}
+use Rattle.the_run.specs.Disks.{Booted, Whole, CutOff, boots, cut_disk, is_on_disk}
 use Rattle.the_run.specs.Steps.{step}
-use Rattle.the_run.specs.Worlds.{World, Place, Running, Numbered, links_of, place_at, script_of, happened, told_onto, numbered_from, newest_onto, disk_of, puts, arms, passed, loses, stops_with, cause_of, acts, fresh, first_world}
+use Rattle.the_run.specs.Worlds.{World, Running, Numbered, links_of, place_at, script_of, happened, told_onto, numbered_from, newest_onto, disk_of, puts, arms, passed, loses, stops_with, cause_of, acts, first_world}
 use Rattle.the_run.specs.Runs.{boots_as, packet_record, run_in}
-use Rattle.the_run.specs.Kept.{Among, WasSent, Kept, with_circuits}
+use Rattle.the_run.specs.Kept.{Among, Kept, with_circuits}
 use Rattle.the_run.proofs.Boots.{acts_cases}
 use Rattle.the_run.proofs.Events.{happened_keeps}
 use Rattle.the_run.proofs.Runs.{every_run}
-use Rattle.vector_laws.specs.Written.{past_of, WasTold}
+use Rattle.vector_laws.specs.Written.{past_of}
 use Rattle.vector_laws.specs.Facts.{onto}
 use Rattle.vector_laws.proofs.SyncFacts.{FoundAt, row_at}
 use Rattle.vector_laws.proofs.FactsRun.{past_onto}
@@ -39,18 +39,17 @@ use Rattle.lock_laws.specs.Going.{WasBegunAt, WasReleased}
 use Rattle.lock_laws.specs.Facts as locks
 use Rattle.writer_laws.proofs.AsksRun.{Leads, newest_leads}
 use Rattle.pack_laws.specs.Making.{IsOwnNumber, FilesAreMadeAtHome}
-use Rattle.running_laws.specs.Stores.{HasOn, AsksIn, IsAsked, InstanceSo, Stands, StoresStand}
+use Rattle.running_laws.specs.Stores.{HasOn, AsksIn, IsAsked, InstanceSo, Stands}
 use Rattle.running_laws.proofs.Spine.{order_before}
-use Rattle.running_laws.proofs.SpineRun.{Spines}
 use Rattle.running_laws.proofs.Stand.{ChangesAreOfWriters, stand_spines}
 use Rattle.running_laws.proofs.StandRun.{Orderly, Standing, standing_kept, first_standing, stores_stand}
 use Rattle.running_laws.proofs.Orders.{run_orderly}
 use Rattle.lock_laws.specs.Joins.{JoinsAreOnce}
 use Rattle.make_laws.specs.Holding.{ReservedAt, WasReserved, ApartTold, ReservesAreApart}
 use Rattle.make_laws.specs.Made.{AsksSo, IsAskedThere, Lawful, WorldMade}
-use Rattle.make_laws.proofs.Telling.{AnyGroup, Plain, any_record}
-use Rattle.make_laws.proofs.SitesTell.{IsOpened, ToldAs, step_plain}
-use Rattle.make_laws.proofs.Opening.{made_file, IsMade, IsPlain, OpenTold, open_told}
+use Rattle.make_laws.proofs.Telling.{AnyGroup, Plain}
+use Rattle.make_laws.proofs.SitesTell.{ToldAs, step_plain}
+use Rattle.make_laws.proofs.Opening.{made_file, OpenTold, open_told}
 use Rattle.make_laws.proofs.Happening.{cut_plain}
 use Rattle.make_laws.proofs.BegunRun.{made_kept, first_made}
 use Rattle.make_laws.proofs.FreshRun.{lawful_before, run_lawful}
@@ -110,7 +109,7 @@ begun_one : (s : ℕ) (e : EpochId) (key : ℕ) (file : FileId) (x : Told) (olde
 begun_one s e key file (Reserves t at inst of) older k h = subst (WasBegunAt older s e key) k.3 (subst (λ (n : ℕ). WasBegunAt older s e n of) k.2 (subst (λ (i : EpochId). WasBegunAt older s i (serial_key inst) of) k.1 (subst (λ (n : ℕ). WasBegunAt older n at (serial_key inst) of) k.0 h.0)))
 begun_one s e key file _ older k h = absurd k
 
-was_begun : (s : ℕ) (e : EpochId) (key : ℕ) (file : FileId) (past : List Told) → WasReserved past s e key file → ReservesAreApart past → WasBegunAt past s e key file
+pub was_begun : (s : ℕ) (e : EpochId) (key : ℕ) (file : FileId) (past : List Told) → WasReserved past s e key file → ReservesAreApart past → WasBegunAt past s e key file
 was_begun s e key file [] k h = absurd k
 was_begun s e key file (x ∷ older) (inl k) h = inr (begun_one s e key file x older k h.0)
 was_begun s e key file (x ∷ older) (inr k) h = inr (was_begun s e key file older k h.1)

@@ -1,5 +1,5 @@
 -- In every run what a storage site begins was asked so, and the number of what it makes was reserved.
-use Rattle.std.proofs.Common.{◌≡◌, ◌≢◌, ◌≤◌, ℕ, ◌+◌, ◌==◌, nat_lt, Bool, true, false, cond, ◌&&◌, ◌⊎◌, List, [], ◌∷◌, ◌++◌, filter, map, Option, Some, None, refl, sym, ◌∙◌, ap, subst, inl, inr, arith}
+use Rattle.std.proofs.Common.{◌≡◌, ◌≤◌, ℕ, ◌+◌, ◌==◌, nat_lt, Bool, true, false, cond, ◌&&◌, ◌⊎◌, List, [], ◌∷◌, ◌++◌, filter, map, Option, Some, None, refl, sym, ◌∙◌, ap, subst, inl, inr, arith}
 use Rattle.std.proofs.lemmas.Bool.Decides.{nat_tests}
 use Rattle.locus_ids.specs.declared.ids.EpochId.{EpochId}
 use Rattle.locus_ids.specs.declared.ids.FileId.{FileId}
@@ -7,30 +7,27 @@ use Rattle.locus_ids.specs.declared.ids.Mode.{Mode}
 use Rattle.locus_ids.specs.declared.ids.Mode.TheVariants as mode
 use Rattle.locus_ids.specs.declared.config.Config.{Config}
 use Rattle.trace_book.specs.declared.record.Record.TheVariants as says
-use Rattle.trace_book.specs.declared.record.StopCause.{StopCause}
 use Rattle.trace_book.specs.declared.record.StopCause.TheVariants as cause
 use Rattle.wire_messages.specs.declared.packet.Packet.{Packet}
-use Rattle.wire_messages.specs.declared.body.Body.{Body}
 use Rattle.role_steps.specs.Own.{Every}
 use Rattle.role_steps.specs.Tables.{row}
-use Rattle.role_steps.specs.Views.{Frame, Store, SiteView, Told, Shown, Begins, Shuts, Reserves, DiskWrite, Outcome, Event, Receives, all_sites, serial_key}
+use Rattle.role_steps.specs.Views.{Frame, Store, SiteView, Told, Shown, Begins, Reserves, Outcome, Event, Receives, all_sites, serial_key}
 use Rattle.role_steps.specs.Epochs.{frame_in}
 use Rattle.role_steps.specs.Storage.{StoreRequest, on_open_ss}
 use Rattle.role_steps.proofs.Sending.{every_append, every_map}
 use Rattle.the_run.specs.Disks.{Disk, Booted, Whole, CutOff, boots, cut_disk, is_on_disk}
 use Rattle.the_run.specs.Steps.{is_dropped, step}
-use Rattle.the_run.specs.Worlds.{World, Place, Running, Stopped, Numbered, number_of, links_of, place_at, place_in, place_site, script_of, happened, numbered_from, newest_onto, told_onto, disk_of, puts, arms, passed, loses, stops_with, cause_of, acts, first_place, first_world}
+use Rattle.the_run.specs.Worlds.{World, Place, Running, Stopped, Numbered, number_of, links_of, place_at, place_in, place_site, script_of, happened, numbered_from, newest_onto, told_onto, disk_of, puts, arms, passed, stops_with, cause_of, acts, first_place, first_world}
 use Rattle.the_run.specs.Runs.{boots_as, packet_record}
 use Rattle.the_run.specs.Kept.{Among, WasSent, IsOwn, Kept}
 use Rattle.the_run.proofs.Boots.{at_each, acts_cases, every_weaker}
-use Rattle.the_run.proofs.Events.{happened_keeps, puts_other, puts_same}
+use Rattle.the_run.proofs.Events.{happened_keeps, puts_other}
 use Rattle.the_run.proofs.InsideSync.{every_without}
-use Rattle.the_run.proofs.Runs.{some_eq}
 use Rattle.run_laws.proofs.Run.{found_among}
-use Rattle.vector_laws.specs.Written.{past_of, WasTold}
+use Rattle.vector_laws.specs.Written.{past_of}
 use Rattle.vector_laws.specs.Facts.{onto}
 use Rattle.vector_laws.proofs.FactsRun.{past_onto}
-use Rattle.lock_laws.specs.Going.{BegunAt, WasBegunAt}
+use Rattle.lock_laws.specs.Going.{BegunAt}
 use Rattle.lock_laws.specs.Locks.{IsOfAFile}
 use Rattle.lock_laws.proofs.Facts.{onto_later}
 use Rattle.writer_laws.proofs.AsksRun.{Leads, newest_leads, newest_has}
@@ -38,7 +35,7 @@ use Rattle.make_laws.specs.Holding.{ReservedAt, WasReserved}
 use Rattle.make_laws.specs.Made.{AsksSo, IsAskedThere, IsBegunSo, AllBegunSo, IsNoBegin, AlwaysBegunSo, WorldMade}
 use Rattle.make_laws.proofs.Telling.{AnyGroup, Plain}
 use Rattle.make_laws.proofs.SitesTell.{open_body, IsOpened, ToldAs, step_plain}
-use Rattle.make_laws.proofs.Opening.{made_file, IsMade, IsPlain, OpenTold, open_told}
+use Rattle.make_laws.proofs.Opening.{made_file, OpenTold, open_told}
 use Rattle.make_laws.proofs.Happening.{TellsOne, told_now, none_told, cut_plain, taken_epoch}
 
 -- ---- what stays ----

@@ -1,5 +1,5 @@
 -- A disk has a copy of each file that its site has committed, and of each root of which it has a pack.
-use Rattle.std.proofs.Common.{◌≡◌, ◌≢◌, ◌<◌, ℕ, ◌+◌, ◌*◌, ◌==◌, nat_lt, Bool, true, false, ◌⊎◌, List, [], ◌∷◌, ◌++◌, Option, Some, None, refl, sym, ◌∙◌, subst, inl, inr, arith}
+use Rattle.std.proofs.Common.{◌≡◌, ◌≢◌, ◌<◌, ℕ, ◌+◌, ◌*◌, ◌==◌, nat_lt, Bool, true, false, ◌⊎◌, List, [], ◌∷◌, ◌++◌, Option, refl, sym, ◌∙◌, subst, inl, inr, arith}
 use Rattle.std.proofs.lemmas.Bool.Decides.{nat_tests}
 use Rattle.locus_ids.specs.declared.ids.FileId.{FileId}
 use Rattle.locus_ids.specs.declared.config.Config.{Config}
@@ -10,10 +10,9 @@ use Rattle.role_steps.specs.Tables.{with_row}
 use Rattle.role_steps.specs.Views.{Told, Shown, DiskWrite, file_key}
 use Rattle.role_steps.specs.Storage.{copy_key}
 use Rattle.role_steps.specs.declared.copies.FileCopy.{FileCopy}
-use Rattle.vector_laws.specs.Held.{IsOf, StillRecord, Still, Untouched, Writes, OnDisk}
+use Rattle.vector_laws.specs.Held.{IsOf, StillRecord, Still, Writes, OnDisk}
 use Rattle.vector_laws.specs.Facts.{onto}
 use Rattle.history_laws.specs.Commits.{FitRecord, FitTold, NumbersFit}
-use Rattle.pack_laws.specs.Packs.{HasPack}
 use Rattle.pack_laws.specs.Making.{CommitsRecordAt, CommitsAt, WasCommittedAt}
 use Rattle.make_laws.specs.Made.{HasCopy, IsOwned, DiskHas}
 use Rattle.make_laws.proofs.Happening.{TellsOne, told_now, none_told, one_append}

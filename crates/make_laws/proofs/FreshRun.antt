@@ -1,5 +1,5 @@
 -- In every run a number is reserved for a file that nobody has committed.
-use Rattle.std.proofs.Common.{◌≡◌, ◌≢◌, ◌≤◌, ℕ, ◌+◌, ◌==◌, nat_lt, Bool, true, false, cond, ◌⊎◌, List, [], ◌∷◌, ◌++◌, filter, map, Option, Some, None, refl, sym, ◌∙◌, ap, subst, inl, inr, arith}
+use Rattle.std.proofs.Common.{◌≡◌, ◌≤◌, ℕ, ◌==◌, Bool, true, false, cond, ◌⊎◌, List, [], ◌∷◌, ◌++◌, filter, map, Option, Some, None, refl, sym, ◌∙◌, ap, subst, inl, inr, arith}
 use Rattle.std.proofs.lemmas.Bool.Decides.{nat_tests}
 use Rattle.locus_ids.specs.Sites.{has}
 use Rattle.locus_ids.specs.declared.ids.FileId.{FileId}
@@ -11,7 +11,7 @@ use Rattle.trace_book.specs.declared.record.StopCause.TheVariants as cause
 use Rattle.wire_messages.specs.declared.packet.Packet.{Packet}
 use Rattle.role_steps.specs.Own.{Every}
 use Rattle.role_steps.specs.Tables.{row, with_row}
-use Rattle.role_steps.specs.Views.{Frame, Store, SiteView, Told, Shown, Begins, Shuts, Reserves, DiskWrite, Outcome, Event, Receives, all_groups, pack_sites}
+use Rattle.role_steps.specs.Views.{Frame, Store, SiteView, Told, Shown, Begins, Reserves, DiskWrite, Outcome, Event, Receives, all_groups, pack_sites}
 use Rattle.role_steps.specs.Epochs.{frame_in}
 use Rattle.role_steps.specs.Storage.{StoreRequest, copy_key, on_open_ss}
 use Rattle.role_steps.specs.declared.copies.FileCopy.{FileCopy}
@@ -25,23 +25,23 @@ use Rattle.the_run.proofs.Boots.{at_each, acts_cases}
 use Rattle.the_run.proofs.Events.{happened_keeps, puts_other, puts_same}
 use Rattle.the_run.proofs.Runs.{every_run, some_eq}
 use Rattle.vector_laws.specs.Held.{Still, IsOf, Replaces, Writes, OnDisk, copies_on}
-use Rattle.vector_laws.specs.Written.{past_of, WasTold}
+use Rattle.vector_laws.specs.Written.{past_of}
 use Rattle.vector_laws.specs.Facts.{onto}
 use Rattle.vector_laws.proofs.SiteDisks.{SiteDisk, step_disk}
 use Rattle.vector_laws.proofs.FactsRun.{past_onto}
 use Rattle.vector_laws.proofs.Held.{KeepsCopies, boots_copies}
 use Rattle.inode_laws.proofs.FitsRun.{run_fits}
 use Rattle.lock_laws.proofs.FactsRun.{run_goes}
-use Rattle.pack_laws.specs.Packs.{HasPack, ToldPacked, FilesLieInPacks}
-use Rattle.pack_laws.specs.Making.{IsOwnNumber, CommitsFile, WasCommitted, WasCommittedAt, HomesCommitFirst, FilesAreMadeAtHome}
+use Rattle.pack_laws.specs.Packs.{HasPack}
+use Rattle.pack_laws.specs.Making.{IsOwnNumber, WasCommitted, WasCommittedAt, HomesCommitFirst}
 use Rattle.pack_laws.proofs.Making.{run_made}
 use Rattle.pack_laws.proofs.PacksRun.{run_packs}
 use Rattle.pack_laws.proofs.Homes.{run_homes}
 use Rattle.make_laws.specs.Fresh.{FreshTold, NumbersAreFresh}
-use Rattle.make_laws.specs.Made.{HasCopy, IsListed, IsOwned, DiskHas, Lawful, WorldMade, StartListed, WorldListed, WorldFresh}
+use Rattle.make_laws.specs.Made.{HasCopy, IsListed, DiskHas, Lawful, WorldMade, StartListed, WorldListed, WorldFresh}
 use Rattle.make_laws.proofs.Telling.{AnyGroup, Plain, any_record}
-use Rattle.make_laws.proofs.SitesTell.{IsOpened, ToldAs, step_plain}
-use Rattle.make_laws.proofs.Opening.{made_file, IsMade, IsPlain, OpenTold, open_told, unused_none}
+use Rattle.make_laws.proofs.SitesTell.{ToldAs, step_plain}
+use Rattle.make_laws.proofs.Opening.{made_file, OpenTold, open_told, unused_none}
 use Rattle.make_laws.proofs.Copies.{still_has, mine_has, others_have}
 use Rattle.make_laws.proofs.BegunRun.{made_kept, first_made}
 use Rattle.make_laws.proofs.ListedRun.{started_listed, listed_kept, first_listed}

@@ -11,7 +11,6 @@ pub mod Copies
 pub mod ListedRun
 pub mod FreshRun
 pub mod Modes
-pub mod PacksKept
 pub mod VectorsKept
 pub mod SendersRun
 pub mod TableTold
@@ -25,3 +24,6 @@ pub mod TablesRun
 pub mod MakeRun
 pub mod ApartRun
 pub mod LockedRun
+pub mod FirstRun
+pub mod ReportsRun
+pub mod NamesRun

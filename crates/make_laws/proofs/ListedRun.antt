@@ -1,5 +1,5 @@
 -- In every run the groups that start are listed, as those of tables are.
-use Rattle.std.proofs.Common.{◌≡◌, ◌≢◌, ℕ, ◌+◌, ◌==◌, nat_lt, Bool, true, false, cond, ◌⊎◌, List, [], ◌∷◌, ◌++◌, filter, map, Option, Some, None, refl, sym, ◌∙◌, ap, subst, inl, inr}
+use Rattle.std.proofs.Common.{◌≡◌, ℕ, ◌==◌, Bool, true, false, cond, List, [], ◌∷◌, map, Option, Some, None, sym, ◌∙◌, ap, subst, inl, inr}
 use Rattle.locus_ids.specs.declared.ids.EpochId.{EpochId}
 use Rattle.locus_ids.specs.declared.config.Config.{Config}
 use Rattle.trace_book.specs.declared.record.Record.{Record}
@@ -9,20 +9,20 @@ use Rattle.trace_book.specs.declared.record.StopCause.TheVariants as cause
 use Rattle.wire_messages.specs.declared.packet.Packet.{Packet}
 use Rattle.role_steps.specs.Own.{Every}
 use Rattle.role_steps.specs.Tables.{row}
-use Rattle.role_steps.specs.Views.{Frame, Store, SiteView, Told, Shown, Begins, Reserves, DiskWrite, Outcome, Event, Receives}
+use Rattle.role_steps.specs.Views.{Frame, Store, SiteView, Told, Shown, DiskWrite, Outcome, Event, Receives}
 use Rattle.role_steps.specs.Epochs.{frame_in}
 use Rattle.role_steps.specs.Storage.{StoreRequest, on_open_ss}
 use Rattle.role_steps.specs.declared.copies.FileCopy.{FileCopy}
 use Rattle.role_steps.proofs.Sending.{every_append, every_map}
 use Rattle.the_run.specs.Disks.{Disk, Booted, Whole, CutOff, boots, cut_disk, is_on_disk}
 use Rattle.the_run.specs.Steps.{step}
-use Rattle.the_run.specs.Worlds.{World, Place, Running, Stopped, Numbered, links_of, place_at, place_in, place_site, script_of, happened, told_onto, disk_of, puts, arms, passed, stops_with, cause_of, acts, fresh, formatted, first_place, first_world}
+use Rattle.the_run.specs.Worlds.{World, Place, Running, Stopped, links_of, place_at, place_in, place_site, script_of, happened, disk_of, puts, arms, passed, stops_with, cause_of, acts, fresh, formatted, first_place, first_world}
 use Rattle.the_run.specs.Runs.{boots_as, packet_record}
 use Rattle.the_run.specs.Kept.{Kept}
 use Rattle.the_run.proofs.Boots.{at_each, acts_cases, every_weaker}
 use Rattle.the_run.proofs.Events.{happened_keeps, puts_other, puts_same}
 use Rattle.the_run.proofs.Runs.{some_eq}
-use Rattle.vector_laws.specs.Held.{IsOf, Writes, OnDisk}
+use Rattle.vector_laws.specs.Held.{IsOf}
 use Rattle.vector_laws.specs.Written.{past_of}
 use Rattle.vector_laws.specs.Facts.{onto}
 use Rattle.vector_laws.proofs.SiteDisks.{SiteDisk, step_disk}
@@ -30,9 +30,9 @@ use Rattle.vector_laws.proofs.FactsRun.{past_onto}
 use Rattle.lock_laws.specs.Going.{Started, StartedRecord, WasStarted}
 use Rattle.make_laws.specs.Made.{IsListed, StartRecord, StartListed, WorldListed}
 use Rattle.make_laws.proofs.Telling.{At, AtRecord}
-use Rattle.make_laws.proofs.SitesTell.{TablesAt, IsOpened, ToldAs, step_tells}
+use Rattle.make_laws.proofs.SitesTell.{TablesAt, ToldAs, step_tells}
 use Rattle.make_laws.proofs.SiteGroups.{step_keeps}
-use Rattle.make_laws.proofs.Opening.{made_file, IsMade, IsPlain, OpenTold, open_told}
+use Rattle.make_laws.proofs.Opening.{OpenTold, open_told}
 
 -- ---- what is told ----
 

@@ -9,7 +9,7 @@ use Rattle.schedule_lines.specs.declared.line.ScheduleLine.{ScheduleLine}
 use Rattle.commit_graph.specs.Grants.{is_read}
 use Rattle.trace_book.specs.declared.record.Record.{Record}
 use Rattle.trace_book.specs.declared.record.Record.TheVariants as says
-use Rattle.role_steps.specs.Views.{Told, Shown, Reserves, serial_key}
+use Rattle.role_steps.specs.Views.{Told, Shown, Reserves}
 use Rattle.the_run.specs.Runs.{run_in}
 use Rattle.vector_laws.specs.Written.{past_of}
 use Rattle.lock_laws.specs.Going.{WasReleased}
@@ -17,7 +17,7 @@ use Rattle.lock_laws.specs.Grants.{GrantedAs, WasGrantedAs, IsOver, LockedRecord
 use Rattle.lock_laws.specs.Locks.{IsOfAFile}
 use Rattle.lock_laws.proofs.GrantsRun.{run_grants}
 use Rattle.make_laws.specs.Fresh.{FreshTold, NumbersAreFresh}
-use Rattle.make_laws.specs.Holding.{ReservedAt, WasReserved, ApartTold, ReservesAreApart}
+use Rattle.make_laws.specs.Holding.{WasReserved, ApartTold, ReservesAreApart}
 use Rattle.make_laws.specs.Tables.{IsKnown, IsFree, PlainRecord, PlainTold, PlainGrantsAreFree}
 use Rattle.make_laws.specs.Locked.{HeldRecord, HeldAs, WasHeldAs, OverAs, LockedTold, HoldsAreLocked}
 use Rattle.make_laws.proofs.FreshRun.{run_fresh}
@@ -90,7 +90,7 @@ known_told e j file m (Shown r) older h plain p = known_record e j file m r olde
 known_told e j file m _ older h plain p = absurd h
 
 -- what was granted plainly is known
-was_known : (e : EpochId) (j : ℕ) (file : FileId) (m : Mode) (past : List Told) → WasGrantedAs past e j file m → IsOfAFile m → PlainGrantsAreFree past → IsKnown past file
+pub was_known : (e : EpochId) (j : ℕ) (file : FileId) (m : Mode) (past : List Told) → WasGrantedAs past e j file m → IsOfAFile m → PlainGrantsAreFree past → IsKnown past file
 was_known e j file m [] h plain p = absurd h
 was_known e j file m (x ∷ older) (inl h) plain p = known_later x older file (known_told e j file m x older h plain p.0)
 was_known e j file m (x ∷ older) (inr h) plain p = known_later x older file (was_known e j file m older h plain p.1)

@@ -1,41 +1,30 @@
 -- In every run each plain grant is of a file that is known, and free.
-use Rattle.std.proofs.Common.{◌≡◌, ◌≢◌, ◌≤◌, ℕ, ◌==◌, Bool, true, false, cond, ◌&&◌, not, List, [], ◌∷◌, filter, map, Option, Some, None, refl, sym, ◌∙◌, ap, subst, inl, inr, arith}
+use Rattle.std.proofs.Common.{◌≡◌, ◌≤◌, ℕ, ◌==◌, Bool, true, false, cond, ◌&&◌, not, List, [], ◌∷◌, filter, map, Option, Some, None, refl, sym, ◌∙◌, subst, inl, inr, arith}
 use Rattle.locus_ids.specs.declared.ids.EpochId.{EpochId}
-use Rattle.locus_ids.specs.declared.ids.FileId.{FileId}
-use Rattle.locus_ids.specs.declared.ids.Mode.{Mode}
 use Rattle.locus_ids.specs.declared.sites.Members.{Members}
 use Rattle.locus_ids.specs.declared.config.Config.{Config}
 use Rattle.schedule_lines.specs.declared.line.ScheduleLine.{ScheduleLine}
-use Rattle.trace_book.specs.declared.record.Record.{Record}
 use Rattle.trace_book.specs.declared.record.Record.TheVariants as says
-use Rattle.trace_book.specs.declared.record.StopCause.{StopCause}
 use Rattle.trace_book.specs.declared.record.StopCause.TheVariants as cause
 use Rattle.wire_messages.specs.declared.packet.Packet.{Packet}
 use Rattle.role_steps.specs.Own.{Every}
 use Rattle.role_steps.specs.Tables.{row}
-use Rattle.role_steps.specs.Views.{SiteView, Told, Shown, DiskWrite, Outcome, Receives, sync_site}
-use Rattle.role_steps.specs.declared.copies.FileCopy.{FileCopy}
+use Rattle.role_steps.specs.Views.{SiteView, Told, Shown, Receives}
 use Rattle.role_steps.specs.declared.rounds.InEpoch.{InEpoch}
 use Rattle.role_steps.proofs.Sending.{every_map}
-use Rattle.the_run.specs.Disks.{Disk, Booted, Whole, CutOff, boots, cut_disk, is_on_disk}
+use Rattle.the_run.specs.Disks.{boots}
 use Rattle.the_run.specs.Steps.{step}
 use Rattle.the_run.specs.Joins.{Joined}
-use Rattle.the_run.specs.Worlds.{World, Place, Running, Stopped, Numbered, Line, links_of, place_at, place_in, place_site, script_of, happened, told_onto, disk_of, puts, arms, passed, stops_with, cause_of, acts, fresh, formatted, first_place, first_world}
-use Rattle.the_run.specs.Runs.{boots_as, packet_record, run_in}
+use Rattle.the_run.specs.Worlds.{World, Place, Running, Numbered, Line, links_of, place_at, place_in, place_site, script_of, disk_of, passed, acts, fresh, formatted, first_place, first_world}
+use Rattle.the_run.specs.Runs.{packet_record, run_in}
 use Rattle.the_run.specs.Kept.{Kept}
-use Rattle.the_run.proofs.Boots.{at_each, acts_cases, every_weaker}
-use Rattle.the_run.proofs.Events.{happened_keeps, puts_other, puts_same}
+use Rattle.the_run.proofs.Boots.{every_weaker}
 use Rattle.the_run.proofs.Runs.{every_run, some_eq}
 use Rattle.vector_laws.specs.Written.{past_of}
-use Rattle.vector_laws.specs.Held.{IsOf, Writes, OnDisk}
 use Rattle.vector_laws.specs.Facts.{onto}
 use Rattle.vector_laws.proofs.SiteDisks.{step_disk}
-use Rattle.vector_laws.proofs.FactsRun.{past_onto}
 use Rattle.lock_laws.specs.Joins.{WasJoined}
-use Rattle.lock_laws.proofs.Facts.{onto_later}
 use Rattle.std.proofs.lemmas.Bool.Decides.{nat_tests}
-use Rattle.locus_ids.specs.declared.ids.Serial.{Serial}
-use Rattle.wire_messages.specs.Bodies.{kind_number}
 use Rattle.wire_messages.specs.declared.body.Body.{Body}
 use Rattle.wire_messages.specs.declared.body.Body.TheVariants as body
 use Rattle.wire_messages.specs.declared.body.MadeVersion.{MadeVersion}
@@ -57,19 +46,17 @@ use Rattle.vector_laws.specs.Facts as vectors
 use Rattle.vector_laws.proofs.SyncFacts.{FoundAt, row_at}
 use Rattle.instance_laws.proofs.Agree.{run_agrees}
 use Rattle.lock_laws.specs.Facts as locks
-use Rattle.lock_laws.proofs.GrantSites.{Orderly, OneTold}
 use Rattle.lock_laws.proofs.JoinsRun.{run_joins_once}
 use Rattle.lock_laws.proofs.FactsRun.{run_goes}
 use Rattle.writer_laws.proofs.Granting.{run_alike}
 use Rattle.pack_laws.specs.Packs.{HasPack}
-use Rattle.pack_laws.specs.Packed.{WorldPacked, NumberedPacked, BodyPacked}
-use Rattle.pack_laws.proofs.LocksKept.{Both as LocksBoth}
+use Rattle.pack_laws.specs.Packed.{BodyPacked}
 use Rattle.make_laws.specs.Made.{IsSender, NumberedSender, WorldSent}
 use Rattle.make_laws.specs.Holding.{ReservesAreApart}
 use Rattle.make_laws.specs.Tables.{Ordered, PlainGrantsAreFree}
 use Rattle.make_laws.proofs.Telling.{Aside}
 use Rattle.make_laws.proofs.Happening.{taken_epoch, taken_boot}
-use Rattle.make_laws.proofs.PacksKept.{All as PacksAll, all_kept, first_all, sent_packed}
+use Rattle.pack_laws.proofs.PacksRun.{All as PacksAll, all_kept, first_all, sent_packed}
 use Rattle.make_laws.proofs.VectorsKept.{Both as VectorsBoth, both_kept, first_vectors, sent_fact}
 use Rattle.make_laws.proofs.SendersRun.{sent_kept, first_sent}
 use Rattle.make_laws.proofs.FreshRun.{run_fresh}
@@ -77,7 +64,7 @@ use Rattle.make_laws.proofs.Modes.{run_reserved}
 use Rattle.make_laws.proofs.TableCloses.{IsKnownIf, ClosesKnown, made_known}
 use Rattle.make_laws.proofs.TableTold.{ordered_before}
 use Rattle.make_laws.proofs.MakeSites.{SiteMade}
-use Rattle.make_laws.proofs.MakeInside.{ReportMade, TableClosed, BodyMade}
+use Rattle.make_laws.proofs.MakeInside.{TableClosed, BodyMade}
 use Rattle.make_laws.proofs.MakeSteps.{Brings, EventBrings, step_site}
 use Rattle.make_laws.proofs.TablesRun.{WhereOrdered, WorldTables, AsideWrite, written_aside, running_view, told_fact, stops_fact, acts_fact, as_fact}
 
@@ -138,7 +125,7 @@ brought c past p (body.Closed inst made) v e q agree d here s k f ts =
     every_weaker (locks.TableFact past e.id) (TableClosed past e.id (serial_key inst) made) v.tables (λ t h. table_closes past e.id (serial_key inst) made t agree m h) ts
 brought c past p _ v e q agree d here s k f ts = tt
 
-tables_there : (past : List Told) (s : ℕ) (v : SiteView) (e : InEpoch) (o : Option InEpoch) → o ≡ Some e → locks.InEpochFact past s v o → Every (locks.TableFact past e.id) v.tables
+pub tables_there : (past : List Told) (s : ℕ) (v : SiteView) (e : InEpoch) (o : Option InEpoch) → o ≡ Some e → locks.InEpochFact past s v o → Every (locks.TableFact past e.id) v.tables
 tables_there past s v e None q h = absurd (none_epoch e q)
   where
     none_epoch : (x : InEpoch) → ◌≡◌ {A = Option InEpoch} None (Some x) → ⊥
@@ -150,14 +137,14 @@ tables_there past s v e (Some x) q h = subst (λ (i : InEpoch). Every (locks.Tab
 
 -- ---- the run ----
 
-abbrev All : Config → World → Type 0
-All c w = (PacksAll c w × VectorsBoth w) × (WorldSent w × WhereOrdered c w)
+abbrev pub Ordering : Config → World → Type 0
+Ordering c w = (PacksAll c w × VectorsBoth w) × (WorldSent w × WhereOrdered c w)
 
 sender_of : (w : World) (x : Numbered) → WasSent w x → WorldSent w → IsSender x.packet
 sender_of w x (inl a) f = found_among NumberedSender x w.sent f.senders a
 sender_of w x (inr a) f = found_among NumberedSender x w.underway f.underway a
 
-brings : (c : Config) (w : World) (x : Numbered) (v : SiteView) → place_at w x.packet.to ≡ Some (Running v) → WasSent w x → All c w → InstancesAgree (past_of w.trace) → is_dropped x.packet v ≡ false → Brings c (past_of w.trace) x.packet v
+brings : (c : Config) (w : World) (x : Numbered) (v : SiteView) → place_at w x.packet.to ≡ Some (Running v) → WasSent w x → Ordering c w → InstancesAgree (past_of w.trace) → is_dropped x.packet v ≡ false → Brings c (past_of w.trace) x.packet v
 brings c w x v here sent g agree d e inside =
     let lock : locks.WorldFact w = g.0.0.0.1 in
     brought c (past_of w.trace) x.packet x.packet.body v e refl agree d inside (sender_of w x sent g.1.0) (sent_packed c w x sent (g.0.0.1 agree)) (sent_fact w x sent (g.0.1.1 agree)) (tables_there (past_of w.trace) x.packet.to v e v.epoch inside (lock.views x.packet.to v here).inside)
@@ -177,7 +164,7 @@ own_brings c past v Parts h = tt
 own_brings c past v Merges h = tt
 own_brings c past v GivesUp h = tt
 
-ordered_kept : (c : Config) → Kept c (All c)
+ordered_kept : (c : Config) → Kept c (Ordering c)
 ordered_kept c = record {
   steps = λ n s e v w here own g. ((packs.steps n s e v w here own g.0.0, vecs.steps n s e v w here own g.0.1), (sends.steps n s e v w here own g.1.0, acts_fact c n s v (step c s (links_of w s) v e) w here (aside s v e (links_of w s)) (λ synced order h. step_site c s (past_of w.trace) (links_of w s) v e (own_brings c (past_of w.trace) v e own) synced order h) g.1.1));
   receives = λ n x v w here sent g. ((packs.receives n x v w here sent g.0.0, vecs.receives n x v w here sent g.0.1), (sends.receives n x v w here sent g.1.0, received n x v w here sent g));
@@ -210,7 +197,7 @@ ordered_kept c = record {
     agrees : (told past : List Told) → Ordered (onto told past) → InstancesAgree past
     agrees told past h = let k : Ordered past = ordered_before told past h in k.agree
 
-    received : (n : ℕ) (x : Numbered) (v : SiteView) (w : World) → place_at w x.packet.to ≡ Some (Running v) → WasSent w x → All c w → WhereOrdered c (acts n x.packet.to v (step c x.packet.to (links_of (passed x.number w) x.packet.to) v (Receives x.packet)) (passed x.number w))
+    received : (n : ℕ) (x : Numbered) (v : SiteView) (w : World) → place_at w x.packet.to ≡ Some (Running v) → WasSent w x → Ordering c w → WhereOrdered c (acts n x.packet.to v (step c x.packet.to (links_of (passed x.number w) x.packet.to) v (Receives x.packet)) (passed x.number w))
     received n x v w here sent g =
         acts_fact c n x.packet.to v (step c x.packet.to (links_of (passed x.number w) x.packet.to) v (Receives x.packet)) (passed x.number w) here (aside x.packet.to v (Receives x.packet) (links_of (passed x.number w) x.packet.to))
         (λ synced order h. step_site c x.packet.to (past_of w.trace) (links_of (passed x.number w) x.packet.to) v (Receives x.packet) (λ d. brings c w x v here sent g (agrees (step c x.packet.to (links_of (passed x.number w) x.packet.to) v (Receives x.packet)).told (past_of w.trace) order) d) synced order h)
@@ -229,7 +216,7 @@ first_fact c (t ∷ ts) s v e =
       | false ↦ λ f. first_fact c ts s v f
     ]) e
 
-first_ordered : (c : Config) → All c (first_world c)
+first_ordered : (c : Config) → Ordering c (first_world c)
 first_ordered c = ((first_all c, first_vectors c), (first_sent c, (λ h. record { synced = λ e group k. absurd k; plain = tt; views = λ s v here. first_fact c _ s v here })))
 
 joined_line : (s : ℕ) (id : EpochId) (m : Members) (trace : List Line) → WasJoined (past_of trace) s id m → Joined s id m trace
@@ -249,8 +236,11 @@ run_ordered c lines apart = record {
   apart = apart;
 }
 
+pub run_ordering : (c : Config) (lines : List ScheduleLine) → Ordering c (run_in c lines)
+run_ordering c lines = every_run c (Ordering c) (ordered_kept c) (first_ordered c) lines
+
 pub run_free : (c : Config) (lines : List ScheduleLine) → ReservesAreApart (past_of (run_in c lines).trace) → PlainGrantsAreFree (past_of (run_in c lines).trace)
 run_free c lines apart =
-    let g : All c (run_in c lines) = every_run c (All c) (ordered_kept c) (first_ordered c) lines in
+    let g : Ordering c (run_in c lines) = run_ordering c lines in
     let f : WorldTables c (run_in c lines) = g.1.1 (run_ordered c lines apart) in
     f.plain

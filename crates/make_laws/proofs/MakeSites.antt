@@ -1,34 +1,28 @@
 -- The tables of a site know no file that is being made: what each event of a site keeps of that.
-use Rattle.std.proofs.Common.{◌≡◌, ℕ, ◌==◌, nat_lt, Bool, true, false, cond, List, [], ◌∷◌, ◌++◌, map, filter, Option, Some, None, refl, sym, ◌∙◌, ap, subst, inl, inr, arith}
-use Rattle.std.proofs.lemmas.Bool.Decides.{nat_tests}
+use Rattle.std.proofs.Common.{◌≡◌, ℕ, Bool, List, [], ◌∷◌, ◌++◌, Option, Some, None, refl, sym, ◌∙◌, subst, inl, inr}
 use Rattle.locus_ids.specs.declared.ids.EpochId.{EpochId}
-use Rattle.locus_ids.specs.declared.ids.FileId.{FileId}
-use Rattle.locus_ids.specs.declared.ids.Mode.{Mode}
 use Rattle.locus_ids.specs.declared.sites.Members.{Members}
 use Rattle.locus_ids.specs.declared.config.Config.{Config}
 use Rattle.trace_book.specs.declared.record.Record.{Record}
 use Rattle.trace_book.specs.declared.record.Record.TheVariants as says
 use Rattle.role_steps.specs.Own.{Every}
-use Rattle.role_steps.specs.Tables.{row, with_row, first_that}
-use Rattle.role_steps.specs.Views.{SiteView, Told, Shown, Reserves, DiskWrite, Outcome, quiet, joined_to, first_written, sync_site, all_groups}
-use Rattle.role_steps.specs.Reports.{new_table}
-use Rattle.role_steps.specs.Epochs.{is_sync_site}
+use Rattle.role_steps.specs.Tables.{row, first_that}
+use Rattle.role_steps.specs.Views.{SiteView, Told, Shown, Reserves, Outcome, quiet, joined_to, sync_site}
 use Rattle.role_steps.specs.Adoption.{table_group, with_table}
 use Rattle.role_steps.specs.declared.rounds.InEpoch.{InEpoch}
 use Rattle.role_steps.specs.declared.synchronizing.SyncTable.{SyncTable}
 use Rattle.role_steps.proofs.Sending.{every_append}
 use Rattle.the_run.specs.Steps.{at_table_of}
 use Rattle.the_run.proofs.Boots.{every_weaker}
-use Rattle.the_run.proofs.InsideSync.{every_row, Found, first_found}
+use Rattle.the_run.proofs.InsideSync.{Found, first_found}
 use Rattle.vector_laws.specs.Facts.{onto}
 use Rattle.vector_laws.proofs.Facts.{onto_append}
 use Rattle.vector_laws.proofs.SyncFacts.{FoundAt, row_at}
-use Rattle.lock_laws.specs.Joins.{WasJoined, JoinsAreOnce}
+use Rattle.lock_laws.specs.Joins.{WasJoined}
 use Rattle.lock_laws.proofs.Facts.{Later, onto_later}
 use Rattle.vector_laws.specs.Written.{WasTold}
-use Rattle.lock_laws.specs.Going.{WasStarted}
 use Rattle.lock_laws.proofs.GrantSites.{Rising, put_tables, rising_put, SyncedBy}
-use Rattle.make_laws.specs.Tables.{ReleasedOn, TableMade, Ordered, PlainRecord, PlainTold}
+use Rattle.make_laws.specs.Tables.{TableMade, PlainRecord, PlainTold}
 use Rattle.make_laws.specs.Fresh.{FreshTold}
 use Rattle.make_laws.proofs.Telling.{TabularRecord, Tabular, HereRecord, Here, AsideRecord, Aside}
 use Rattle.make_laws.proofs.TableTold.{AllFresh, IsForeign, not_tabular, table_later}

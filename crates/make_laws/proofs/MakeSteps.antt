@@ -3,30 +3,27 @@ use Rattle.std.proofs.Common.{◌≡◌, ℕ, ◌+◌, true, false, cond, ◌&&�
 use Rattle.locus_ids.specs.Sites.{has}
 use Rattle.locus_ids.specs.declared.ids.EpochId.{EpochId}
 use Rattle.locus_ids.specs.declared.ids.FileId.{FileId}
-use Rattle.locus_ids.specs.declared.ids.Mode.{Mode}
 use Rattle.locus_ids.specs.declared.sites.Members.{Members}
 use Rattle.locus_ids.specs.declared.sites.Sites.{Sites}
 use Rattle.locus_ids.specs.declared.sites.Links.{Links}
 use Rattle.locus_ids.specs.declared.config.Config.{Config}
 use Rattle.trace_book.specs.Same.{same_epoch}
 use Rattle.trace_book.specs.declared.call.Call.TheVariants as call
-use Rattle.trace_book.specs.declared.record.Record.{Record}
 use Rattle.trace_book.specs.declared.record.Record.TheVariants as says
 use Rattle.wire_messages.specs.declared.packet.Packet.{Packet}
 use Rattle.wire_messages.specs.declared.body.Body.{Body}
 use Rattle.wire_messages.specs.declared.body.Body.TheVariants as body
 use Rattle.role_steps.specs.Own.{Every}
 use Rattle.role_steps.specs.Tables.{row, without_row, first_that}
-use Rattle.role_steps.specs.Views.{Frame, Store, Users, SiteView, Event, Calls, Receives, Ticks, Parts, Merges, GivesUp, Told, Shown, Promises, DiskWrite, Outcome, quiet, sends, tells, and_then, joined_to, first_written, sync_site, pack_sites, all_groups}
-use Rattle.role_steps.specs.Reports.{new_table, on_have_of, on_report, on_open, on_look, on_closed, on_have}
-use Rattle.role_steps.specs.Opens.{on_opened}
-use Rattle.role_steps.specs.Storage.{copy_of, with_copy, instance_of}
+use Rattle.role_steps.specs.Views.{Frame, SiteView, Event, Calls, Receives, Ticks, Parts, Merges, GivesUp, Told, Shown, Promises, DiskWrite, Outcome, quiet, sends, tells, and_then, joined_to, first_written, sync_site, pack_sites, all_groups}
+use Rattle.role_steps.specs.Reports.{new_table, on_have_of}
+use Rattle.role_steps.specs.Storage.{copy_of, with_copy}
 use Rattle.role_steps.specs.Using.{on_call, reply_record}
 use Rattle.role_steps.specs.Versions.{file_row}
-use Rattle.role_steps.specs.Epochs.{is_epoch_below, frame_in, with_users, leaves_of, leaves, promises, promised_view, reached, polls, round_id, begins_round, boots_where, part_boot, starts_part_of, starts_part, merge_boot, starts_merge, promise_packet, refuse_packet, on_poll, on_promise_of, on_refuse_of, own_groups, is_sync_site, joins, may_install, is_in, joined_packet, on_install, on_joined, passed_over, unanswered, chosen_members, chosen_set, installs_all, decides_if, passes_over_of, passes_over}
+use Rattle.role_steps.specs.Epochs.{is_epoch_below, frame_in, leaves_of, leaves, promises, promised_view, reached, polls, round_id, begins_round, boots_where, part_boot, starts_part_of, starts_part, merge_boot, starts_merge, promise_packet, refuse_packet, on_poll, on_promise_of, on_refuse_of, own_groups, is_sync_site, joins, may_install, is_in, joined_packet, on_install, on_joined, passed_over, unanswered, chosen_members, chosen_set, installs_all, decides_if, passes_over_of, passes_over}
 use Rattle.role_steps.specs.Adoption.{notes_own_at, copy_adopted, adopt_record, table_group, with_table, with_store, without_pull, is_ready, is_above_own, adopts_pull, adopts_first}
-use Rattle.role_steps.specs.Mends.{mending, kept_stamps, has_mend_in, wants_mend, starts_mend_of, starts_mend, starts_mends_in, row_file}
-use Rattle.role_steps.specs.Pulling.{pull_of, on_notify, on_page}
+use Rattle.role_steps.specs.Mends.{has_mend_in, wants_mend, starts_mend_of, starts_mend, starts_mends_in, row_file}
+use Rattle.role_steps.specs.Pulling.{pull_of}
 use Rattle.role_steps.specs.declared.pulls.Pull.{Pull}
 use Rattle.role_steps.specs.declared.rounds.InEpoch.{InEpoch}
 use Rattle.role_steps.specs.declared.rounds.Round.{Round}
@@ -34,38 +31,21 @@ use Rattle.role_steps.specs.declared.synchronizing.SyncTable.{SyncTable}
 use Rattle.role_steps.specs.declared.synchronizing.FileRow.{FileRow}
 use Rattle.role_steps.specs.declared.users.WaitingCall.{WaitingCall}
 use Rattle.role_steps.proofs.Sending.{every_map}
-use Rattle.the_run.specs.Steps.{is_dropped, takes_framed, takes, adopts_in, tries_at, whole, call_frame, epoch_id, takes_call, step, adopts_of, starts_mends_of, ends_event, from_user, group_of, is_opened_in, takes_inside, with_pulls}
-use Rattle.the_run.proofs.Boots.{every_weaker}
+use Rattle.the_run.specs.Steps.{is_dropped, takes_framed, takes, adopts_in, tries_at, whole, call_frame, epoch_id, takes_call, step, adopts_of, starts_mends_of, ends_event}
 use Rattle.the_run.proofs.InsideSync.{Found, row_found}
 use Rattle.vector_laws.specs.Facts.{onto}
 use Rattle.vector_laws.proofs.Facts.{onto_append}
 use Rattle.lock_laws.specs.Joins.{WasJoined}
 use Rattle.lock_laws.proofs.StepFacts.{SiteSilent, notify_silent, page_silent, framed_notify}
-use Rattle.locus_ids.specs.declared.ids.Serial.{Serial}
-use Rattle.role_steps.specs.Tables.{with_row}
-use Rattle.wire_messages.specs.declared.body.MadeVersion.{MadeVersion}
-use Rattle.wire_messages.specs.declared.body.ReportedCopy.{ReportedCopy}
-use Rattle.role_steps.specs.Views.{Begins, Reserves, members_of, serial_key}
-use Rattle.role_steps.specs.Opens.{open_key}
-use Rattle.role_steps.specs.Storage.{StoreRequest, on_open_ss, on_close, on_closed_ok}
-use Rattle.role_steps.specs.Operations.{on_op}
-use Rattle.role_steps.specs.Using.{on_open_done, on_op_done, on_close_done, on_look_done}
-use Rattle.role_steps.specs.declared.synchronizing.OpenRow.{OpenRow}
-use Rattle.the_run.specs.Kept.{Among}
 use Rattle.vector_laws.specs.Written.{WasTold}
-use Rattle.vector_laws.specs.Facts.{ReportedFact}
 use Rattle.lock_laws.specs.Going.{WasStarted}
-use Rattle.lock_laws.proofs.GrantSites.{Rising, put_tables, rising_put, ascending_filter, made_rising, groups_ascend, passing, is_synced, SyncedBy}
+use Rattle.lock_laws.proofs.GrantSites.{put_tables, rising_put, ascending_filter, made_rising, groups_ascend, passing, is_synced, SyncedBy}
 use Rattle.make_laws.specs.Tables.{ReleasedOn, HasEnded, TableMade, Ordered}
-use Rattle.make_laws.proofs.Telling.{Tabular, Aside, idle_aside, storing_aside}
-use Rattle.make_laws.proofs.RolesTell.{AllIdle, on_notify_idle, on_page_idle, on_call_idle, on_open_done_idle, on_op_done_idle, on_close_done_idle, on_look_done_idle}
-use Rattle.make_laws.proofs.StoresTell.{StoreTells, on_close_tells, on_closed_ok_tells, on_op_tells}
-use Rattle.make_laws.proofs.Opening.{made_file, IsMade, IsPlain, OpenTold, open_told}
-use Rattle.make_laws.proofs.TableTold.{ordered_before, all_fresh, IsForeign, started_tabular, released_tabular, not_tabular}
-use Rattle.make_laws.proofs.TableOpens.{AllPlain, on_opened_keeps}
-use Rattle.make_laws.proofs.TableReports.{on_open_keeps, on_look_keeps, on_report_keeps}
-use Rattle.make_laws.proofs.TableCloses.{ClosesKnown, on_closed_keeps, have_made, on_have_keeps}
-use Rattle.make_laws.proofs.MakeSites.{TabularBy, TabularsSynced, asides_by, aside_plain, MadeIn, SiteMade, SiteKeeps, synced_after, in_foreign, in_aside, in_alike, alike, plain_site, quiet_site, then_site, in_epoch, group_part, with_part}
+use Rattle.make_laws.proofs.Telling.{Tabular, Aside}
+use Rattle.make_laws.proofs.RolesTell.{on_call_idle}
+use Rattle.make_laws.proofs.TableTold.{ordered_before, started_tabular, released_tabular}
+use Rattle.make_laws.proofs.TableCloses.{have_made}
+use Rattle.make_laws.proofs.MakeSites.{TabularsSynced, asides_by, aside_plain, MadeIn, SiteMade, SiteKeeps, synced_after, in_aside, alike, plain_site, quiet_site, then_site, in_epoch}
 use Rattle.make_laws.proofs.MakeInside.{BodyMade, user_site, inside_site}
 
 -- ---- adoptions and mends ----

@@ -1,5 +1,5 @@
 -- In every run a make is granted a file whose number was reserved for it, and what a number was reserved for is a make.
-use Rattle.std.proofs.Common.{◌≡◌, ℕ, ◌⊎◌, List, [], ◌∷◌, sym, ◌∙◌, ap, subst, inl, inr}
+use Rattle.std.proofs.Common.{◌≡◌, ℕ, List, [], ◌∷◌, sym, ◌∙◌, ap, subst, inl, inr}
 use Rattle.locus_ids.specs.declared.ids.EpochId.{EpochId}
 use Rattle.locus_ids.specs.declared.ids.FileId.{FileId}
 use Rattle.locus_ids.specs.declared.ids.Serial.{Serial}
@@ -13,10 +13,8 @@ use Rattle.trace_book.specs.declared.record.Record.TheVariants as says
 use Rattle.wire_messages.specs.declared.packet.Packet.{Packet}
 use Rattle.wire_messages.specs.declared.body.Body.{Body}
 use Rattle.wire_messages.specs.declared.body.Body.TheVariants as body
-use Rattle.role_steps.specs.Own.{Every}
 use Rattle.role_steps.specs.Opens.{mode_of}
 use Rattle.role_steps.specs.Views.{Told, Shown, Begins, serial_key}
-use Rattle.the_run.specs.Kept.{Among}
 use Rattle.the_run.specs.Worlds.{World, Numbered}
 use Rattle.the_run.specs.Runs.{run_in}
 use Rattle.run_laws.proofs.Run.{found_among}
@@ -26,13 +24,13 @@ use Rattle.instance_laws.specs.Facts.{BodyFact, OpenSsFact, GrantFact, NumberedF
 use Rattle.instance_laws.proofs.Agree.{run_agrees}
 use Rattle.instance_laws.proofs.Books.{asked_once}
 use Rattle.instance_laws.proofs.InstancesRun.{run_booked}
-use Rattle.lock_laws.specs.Going.{BegunAt, WasBegunAt, IsNumberedBy, GrantGoesOn, InstanceGoesOn, InstancesGoOn}
+use Rattle.lock_laws.specs.Going.{BegunAt, WasBegunAt, IsNumberedBy, InstanceGoesOn, InstancesGoOn}
 use Rattle.lock_laws.specs.Grants.{WasGrantedAs}
 use Rattle.lock_laws.proofs.FactsRun.{run_goes}
 use Rattle.writer_laws.proofs.Granting.{GrantNoted, grant_noted}
 use Rattle.make_laws.specs.Holding.{WasReserved, ReservedRecord, ReservedTold, MakesAreReserved, ReservesAreOfMakes}
 use Rattle.make_laws.specs.Made.{AsksSo, IsAskedThere, IsBegunSo, AllBegunSo, IsNoBegin, AlwaysBegunSo, WorldMade}
-use Rattle.make_laws.proofs.FreshRun.{Making, run_making}
+use Rattle.make_laws.proofs.FreshRun.{run_making}
 
 -- ---- the mode in which a storage site was asked is that of the grant ----
 

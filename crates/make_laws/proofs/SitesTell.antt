@@ -1,38 +1,26 @@
 -- What an event of a site tells is neither a begin nor a reserve, but where its store is asked to open.
 use Rattle.std.proofs.Common.{◌≡◌, ℕ, ◌+◌, true, false, ◌&&◌, not, cond, List, [], ◌∷◌, ◌++◌, Option, Some, None, refl, sym, ap, subst, ◌⊎◌, inl, inr}
-use Rattle.locus_ids.specs.Sites.{has, with_site}
 use Rattle.locus_ids.specs.declared.ids.EpochId.{EpochId}
-use Rattle.locus_ids.specs.declared.ids.Mode.{Mode}
-use Rattle.locus_ids.specs.declared.ids.Mode.TheVariants as mode
-use Rattle.locus_ids.specs.declared.ids.Serial.{Serial}
 use Rattle.locus_ids.specs.declared.refusal.Refusal.TheVariants as refusal
 use Rattle.locus_ids.specs.declared.sites.Links.{Links}
 use Rattle.locus_ids.specs.declared.sites.Members.{Members}
 use Rattle.locus_ids.specs.declared.sites.Sites.{Sites}
 use Rattle.locus_ids.specs.declared.config.Config.{Config}
 use Rattle.trace_book.specs.Same.{same_epoch}
-use Rattle.trace_book.specs.declared.record.Record.{Record}
-use Rattle.trace_book.specs.declared.record.Record.TheVariants as says
 use Rattle.trace_book.specs.declared.reply.Reply.TheVariants as reply
 use Rattle.trace_book.specs.declared.call.Call.TheVariants as call
 use Rattle.wire_messages.specs.declared.packet.Packet.{Packet}
 use Rattle.wire_messages.specs.declared.body.Body.{Body}
 use Rattle.wire_messages.specs.declared.body.Body.TheVariants as body
-use Rattle.wire_messages.specs.declared.body.OpenedAs.{OpenedAs}
-use Rattle.wire_messages.specs.declared.body.OpenedAs.TheVariants as opened
-use Rattle.wire_messages.specs.declared.body.MadeVersion.{MadeVersion}
 use Rattle.wire_messages.specs.declared.body.ReportedCopy.{ReportedCopy}
 use Rattle.role_steps.specs.Own.{Every}
 use Rattle.role_steps.specs.Tables.{row, first_that}
-use Rattle.role_steps.specs.Views.{Frame, SiteView, Told, Shown, Promises, Outcome, Event, Calls, Receives, Ticks, Parts, Merges, GivesUp, quiet, sends, tells, and_then, joined_to, first_written, packet, Users, serial_key, process_key}
-use Rattle.role_steps.specs.Opens.{OpenRequest, mode_of, Decision, Denies, Grants, decision, decides, asked_row, granted_row, granted_at_once, granted_at_last, on_open_of, takes_open, open_row, answers_open, by_stage, on_opened_of, on_opened}
-use Rattle.role_steps.specs.Looks.{LookRequest, is_look_before, is_same_look, new_look, after_last, takes_look, look_key}
-use Rattle.role_steps.specs.Reports.{waits_early, on_open, on_look, takes_early, takes_all_early, starts, starts_if, have_all_reported, counts_report, with_reported, with_all_reported, with_report, on_report, closes_at, on_closed_of, on_closed, on_have}
-use Rattle.role_steps.specs.Notices.{notices}
+use Rattle.role_steps.specs.Views.{Frame, SiteView, Told, Promises, Outcome, Event, Calls, Receives, Ticks, Parts, Merges, GivesUp, quiet, sends, tells, and_then, joined_to, Users}
+use Rattle.role_steps.specs.Opens.{on_opened}
+use Rattle.role_steps.specs.Reports.{on_report, on_closed, on_have}
 use Rattle.role_steps.specs.Storage.{StoreRequest, copy_of, instance_of, on_open_ss}
 use Rattle.role_steps.specs.Pulling.{on_notify, on_page}
 use Rattle.role_steps.specs.Using.{on_call, on_open_done, on_op_done, on_close_done, on_look_done, reply_record}
-use Rattle.role_steps.specs.Versions.{file_row}
 use Rattle.role_steps.specs.Epochs.{is_epoch_below, frame_in, leaves_of, leaves, promised_view, promises, reached, polls, round_id, begins_round, starts_merge, boots_where, merge_boot, part_boot, starts_part_of, starts_part, promise_packet, refuse_packet, on_poll, on_promise_of, on_refuse_of, joins, may_install, is_in, joined_packet, on_install, on_joined, passed_over, unanswered, decides_if, passes_over_of, passes_over}
 use Rattle.role_steps.specs.Adoption.{table_group, is_ready, is_above_own, adopts_pull, without_pull, adopts_first}
 use Rattle.role_steps.specs.Mends.{mending, kept_stamps, has_mend_in, wants_mend, row_file, starts_mend_of, starts_mend, starts_mends_in}
@@ -41,14 +29,9 @@ use Rattle.role_steps.specs.declared.rounds.InEpoch.{InEpoch}
 use Rattle.role_steps.specs.declared.rounds.Round.{Round}
 use Rattle.role_steps.specs.declared.synchronizing.SyncTable.{SyncTable}
 use Rattle.role_steps.specs.declared.synchronizing.FileRow.{FileRow}
-use Rattle.role_steps.specs.declared.synchronizing.OpenRow.{OpenRow}
-use Rattle.role_steps.specs.declared.synchronizing.OpenStage.{OpenStage}
-use Rattle.role_steps.specs.declared.synchronizing.OpenStage.TheVariants as stage
-use Rattle.role_steps.specs.declared.synchronizing.LastLook.{LastLook}
-use Rattle.role_steps.specs.declared.synchronizing.Early.{Early}
 use Rattle.role_steps.specs.declared.users.WaitingCall.{WaitingCall}
 use Rattle.role_steps.proofs.Sending.{every_append, every_map}
-use Rattle.the_run.specs.Steps.{from_user, group_of, in_order, at_table_of, is_opened_in, takes_inside, is_dropped, takes_framed, takes, adopts_of, adopts_in, tries_at, starts_mends_of, ends_event, whole, repeats, ticks_after, call_frame, epoch_id, takes_call, step}
+use Rattle.the_run.specs.Steps.{from_user, group_of, at_table_of, is_opened_in, takes_inside, is_dropped, takes_framed, takes, adopts_of, adopts_in, tries_at, starts_mends_of, ends_event, whole, call_frame, epoch_id, takes_call, step}
 use Rattle.the_run.proofs.InsideSync.{Found, row_found}
 use Rattle.make_laws.proofs.Telling.{Groups, AnyGroup, At, idle_at, storing_at}
 use Rattle.make_laws.proofs.RolesTell.{AllIdle, on_notify_idle, on_page_idle, on_call_idle, on_open_done_idle, on_op_done_idle, on_close_done_idle, on_look_done_idle}

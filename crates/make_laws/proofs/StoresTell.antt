@@ -1,25 +1,18 @@
 -- What a storage site tells, but where it is asked to open, is neither a begin nor a reserve.
-use Rattle.std.proofs.Common.{◌≡◌, ℕ, ◌+◌, ◌==◌, true, false, List, Option, Some, None, refl}
-use Rattle.locus_ids.specs.declared.ids.EpochId.{EpochId}
-use Rattle.locus_ids.specs.declared.ids.FileId.{FileId}
+use Rattle.std.proofs.Common.{ℕ, ◌+◌, ◌==◌, true, false, List, Option, Some, None}
 use Rattle.locus_ids.specs.declared.ids.Serial.{Serial}
 use Rattle.locus_ids.specs.declared.ids.Stamp.{Stamp}
-use Rattle.locus_ids.specs.declared.ids.Mode.{Mode}
-use Rattle.locus_ids.specs.declared.ids.Mode.TheVariants as mode
 use Rattle.locus_ids.specs.declared.refusal.Refusal.TheVariants as refusal
-use Rattle.trace_book.specs.declared.call.Call.{Call}
 use Rattle.trace_book.specs.declared.operation.Op.{Op}
 use Rattle.trace_book.specs.declared.operation.Op.TheVariants as op
-use Rattle.trace_book.specs.declared.operation.Outcome.{Outcome as Result}
 use Rattle.trace_book.specs.declared.operation.Outcome.TheVariants as result
 use Rattle.file_effects.specs.Effects.{Effect}
 use Rattle.file_effects.specs.Works.{counted}
 use Rattle.wire_messages.specs.declared.body.CloseAnswer.{CloseAnswer}
 use Rattle.wire_messages.specs.declared.body.CloseAnswer.TheVariants as closing
 use Rattle.role_steps.specs.Own.{Every}
-use Rattle.role_steps.specs.Tables.{first_that}
-use Rattle.role_steps.specs.Views.{Frame, Store, Users, DiskWrite, Outcome, quiet, sends, and_then}
-use Rattle.role_steps.specs.Storage.{StoreRequest, own_ino, opens, opens_made, on_open_ss_of, on_open_ss, instance_of, is_spent, commits, next_stamp, next_vector, shuts, shuts_again, closes_owing, closes, on_close_at, on_close_of, on_close, ends_at, on_closed_ok_of, on_closed_ok}
+use Rattle.role_steps.specs.Views.{Frame, Store, Outcome, quiet, sends, and_then}
+use Rattle.role_steps.specs.Storage.{instance_of, is_spent, commits, next_stamp, next_vector, shuts, shuts_again, closes_owing, closes, on_close_at, on_close_of, on_close, ends_at, on_closed_ok_of, on_closed_ok}
 use Rattle.role_steps.specs.Operations.{acts, acts_committed, commits_owing, last_committed, commit_op, executes_effect, executes, op_again, by_number, on_op_at, on_op_of, on_op}
 use Rattle.role_steps.specs.OperationEffects.{Mending, effect_of}
 use Rattle.role_steps.specs.declared.instances.Instance.{Instance}

@@ -1,8 +1,5 @@
 -- Opens and looks at a synchronization site: what its table knows of files that are being made.
-use Rattle.std.proofs.Common.{◌≡◌, ℕ, ◌==◌, Bool, true, false, cond, ◌⊎◌, List, [], ◌∷◌, ◌++◌, Option, Some, None, refl, sym, ◌∙◌, ap, subst, inl, inr, arith}
-use Rattle.std.proofs.lemmas.Bool.Decides.{nat_tests}
-use Rattle.std.specs.List.{list_any, flat_map}
-use Rattle.locus_ids.specs.Sites.{has}
+use Rattle.std.proofs.Common.{◌≡◌, ℕ, ◌==◌, Bool, true, false, List, [], ◌∷◌, ◌++◌, Option, Some, None, refl, sym, ◌∙◌, ap, subst, inl}
 use Rattle.locus_ids.specs.declared.ids.EpochId.{EpochId}
 use Rattle.locus_ids.specs.declared.ids.FileId.{FileId}
 use Rattle.locus_ids.specs.declared.ids.Mode.{Mode}
@@ -11,51 +8,35 @@ use Rattle.locus_ids.specs.declared.ids.Serial.{Serial}
 use Rattle.locus_ids.specs.declared.ids.Stamp.{Stamp}
 use Rattle.locus_ids.specs.declared.sites.Members.{Members}
 use Rattle.locus_ids.specs.declared.config.Config.{Config}
-use Rattle.commit_graph.specs.Versions.{same_file}
-use Rattle.commit_graph.specs.Grants.{is_read}
-use Rattle.trace_book.specs.declared.record.Record.TheVariants as says
 use Rattle.wire_messages.specs.declared.packet.Packet.{Packet}
-use Rattle.wire_messages.specs.declared.body.Body.{Body}
-use Rattle.wire_messages.specs.declared.body.Body.TheVariants as body
-use Rattle.wire_messages.specs.declared.body.MadeVersion.{MadeVersion}
-use Rattle.wire_messages.specs.declared.body.ReportedCopy.{ReportedCopy}
 use Rattle.wire_messages.specs.declared.body.OpenedAs.{OpenedAs}
 use Rattle.wire_messages.specs.declared.body.OpenedAs.TheVariants as opened
 use Rattle.role_steps.specs.Own.{Every}
 use Rattle.role_steps.specs.Tables.{row, with_latest}
-use Rattle.role_steps.specs.Views.{Frame, Told, Shown, Outcome, quiet, sends, and_then, packet, process_key, serial_key, sync_site}
+use Rattle.role_steps.specs.Views.{Frame, Told, Outcome, sends, and_then, serial_key}
 use Rattle.role_steps.specs.Versions.{file_row}
-use Rattle.role_steps.specs.Notices.{notices}
-use Rattle.role_steps.specs.Opens.{OpenRequest, Decision, Denies, Grants, is_open_stage, decision, refuse_record, grant_record, decides, denied_row, asked_row, granted_row, granted_at_once, granted_at_last, on_open_of, takes_open, open_row, open_key, with_open, answers_open, by_stage, on_opened_of, on_opened}
-use Rattle.role_steps.specs.Looks.{LookRequest, is_look_before, is_same_look, new_look, after_last, takes_look, look_key}
-use Rattle.role_steps.specs.Reports.{brought_files, waits_early, is_early_of, on_open, on_look, takes_early, takes_all_early, starts, starts_if, have_all_reported, counts_report, with_reported, with_all_reported, with_report, on_report, published, closed_ok, releases, closes_at, on_closed_of, on_closed, on_have_of, on_have}
+use Rattle.role_steps.specs.Opens.{OpenRequest, Decision, Denies, Grants, decision, refuse_record, grant_record, decides, denied_row, asked_row, granted_row, granted_at_once, granted_at_last, on_open_of, takes_open, open_row, open_key, with_open, answers_open, by_stage, on_opened_of, on_opened}
 use Rattle.role_steps.specs.declared.synchronizing.SyncTable.{SyncTable}
 use Rattle.role_steps.specs.declared.synchronizing.FileRow.{FileRow}
 use Rattle.role_steps.specs.declared.synchronizing.OpenRow.{OpenRow}
 use Rattle.role_steps.specs.declared.synchronizing.OpenStage.{OpenStage}
 use Rattle.role_steps.specs.declared.synchronizing.OpenStage.TheVariants as stage
-use Rattle.role_steps.specs.declared.synchronizing.LastLook.{LastLook}
-use Rattle.role_steps.specs.declared.synchronizing.Early.{Early}
 use Rattle.role_steps.proofs.Sending.{every_append}
-use Rattle.the_run.proofs.InsideSync.{Found, row_found}
-use Rattle.vector_laws.specs.Facts.{onto, WaitingFact, EarlyFact}
+use Rattle.vector_laws.specs.Facts.{onto}
 use Rattle.vector_laws.proofs.Facts.{onto_append}
 use Rattle.vector_laws.proofs.SyncFacts.{FoundAt, row_at}
 use Rattle.lock_laws.specs.Locks.{IsOfAFile}
-use Rattle.lock_laws.proofs.Facts.{onto_later}
-use Rattle.lock_laws.proofs.Apart.{ReadsBeside, ApartDecision, decision_apart, same_numbered, both_ands}
+use Rattle.lock_laws.proofs.Apart.{same_numbered}
 use Rattle.lock_laws.proofs.GrantTold.{latest_other, latest_same, test_same, none_some, some_same}
 use Rattle.lock_laws.proofs.Apart.{none_excludes}
 use Rattle.lock_laws.specs.Grants.{WasGrantedAs}
 use Rattle.commit_graph.specs.Grants.{Opener, excluder, kept_refusal, grant_refusal}
 use Rattle.locus_ids.specs.declared.refusal.Refusal.{Refusal}
 use Rattle.locus_ids.specs.declared.refusal.Refusal.TheVariants as refusal
-use Rattle.locus_ids.specs.declared.ids.Kind.{Kind}
-use Rattle.locus_ids.specs.declared.sites.Sites.{Sites}
 use Rattle.wire_messages.specs.declared.body.Opening.{Opening}
 use Rattle.wire_messages.specs.declared.body.Opening.TheVariants as how
 use Rattle.role_steps.specs.Versions.{row_ino, kept, stamps_of}
-use Rattle.role_steps.specs.Opens.{mode_of, openers, numbered_file, grant_on, unless_refused, file_decision, make_decision}
+use Rattle.role_steps.specs.Opens.{mode_of, openers, numbered_file, grant_on, unless_refused, file_decision}
 use Rattle.role_steps.specs.declared.synchronizing.VersionRow.{VersionRow}
 use Rattle.vector_laws.specs.Facts.{file_in}
 use Rattle.vector_laws.proofs.SyncFacts.{every_latest, file_eq}

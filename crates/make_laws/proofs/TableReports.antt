@@ -1,34 +1,23 @@
 -- Reports, closes and looks at a synchronization site: what its table knows of files that are being made.
-use Rattle.std.proofs.Common.{◌≡◌, ℕ, ◌==◌, nat_lt, ◌&&◌, Bool, true, false, cond, ◌⊎◌, List, [], ◌∷◌, ◌++◌, Option, Some, None, refl, sym, ◌∙◌, ap, subst, inl, inr, arith}
-use Rattle.std.proofs.lemmas.Bool.Decides.{nat_tests}
+use Rattle.std.proofs.Common.{◌≡◌, ℕ, ◌==◌, nat_lt, ◌&&◌, Bool, true, false, cond, List, [], ◌∷◌, ◌++◌, Option, Some, None, refl, sym, ◌∙◌, subst, inl, inr}
 use Rattle.std.specs.List.{list_any, flat_map}
 use Rattle.locus_ids.specs.Sites.{has}
 use Rattle.locus_ids.specs.declared.ids.EpochId.{EpochId}
 use Rattle.locus_ids.specs.declared.ids.FileId.{FileId}
-use Rattle.locus_ids.specs.declared.ids.Mode.{Mode}
-use Rattle.locus_ids.specs.declared.ids.Mode.TheVariants as mode
-use Rattle.locus_ids.specs.declared.ids.Serial.{Serial}
-use Rattle.locus_ids.specs.declared.ids.Stamp.{Stamp}
 use Rattle.locus_ids.specs.declared.sites.Members.{Members}
 use Rattle.locus_ids.specs.declared.config.Config.{Config}
-use Rattle.commit_graph.specs.Versions.{same_file}
-use Rattle.commit_graph.specs.Grants.{is_read}
 use Rattle.trace_book.specs.declared.record.Record.TheVariants as says
-use Rattle.wire_messages.specs.declared.packet.Packet.{Packet}
 use Rattle.wire_messages.specs.declared.body.Body.{Body}
 use Rattle.wire_messages.specs.declared.body.Body.TheVariants as body
-use Rattle.wire_messages.specs.declared.body.MadeVersion.{MadeVersion}
 use Rattle.wire_messages.specs.declared.body.ReportedCopy.{ReportedCopy}
-use Rattle.wire_messages.specs.declared.body.OpenedAs.{OpenedAs}
-use Rattle.wire_messages.specs.declared.body.OpenedAs.TheVariants as opened
 use Rattle.role_steps.specs.Own.{Every}
-use Rattle.role_steps.specs.Tables.{row, with_latest}
-use Rattle.role_steps.specs.Views.{Frame, Told, Shown, Outcome, quiet, sends, and_then, packet, process_key, serial_key, sync_site}
+use Rattle.role_steps.specs.Tables.{row}
+use Rattle.role_steps.specs.Views.{Frame, Told, Shown, Outcome, quiet, sends, packet, process_key}
 use Rattle.role_steps.specs.Versions.{file_row}
 use Rattle.role_steps.specs.Notices.{notices}
-use Rattle.role_steps.specs.Opens.{OpenRequest, Decision, Denies, Grants, is_open_stage, decision, refuse_record, grant_record, decides, denied_row, asked_row, granted_row, granted_at_once, granted_at_last, on_open_of, takes_open, open_row, open_key, with_open, answers_open, by_stage, on_opened_of, on_opened}
+use Rattle.role_steps.specs.Opens.{OpenRequest, takes_open}
 use Rattle.role_steps.specs.Looks.{LookRequest, is_look_before, is_same_look, new_look, after_last, takes_look, look_key}
-use Rattle.role_steps.specs.Reports.{brought_files, waits_early, is_early_of, on_open, on_look, takes_early, takes_all_early, starts, starts_if, have_all_reported, counts_report, with_reported, with_all_reported, with_report, on_report, published, closed_ok, releases, closes_at, on_closed_of, on_closed, on_have_of, on_have}
+use Rattle.role_steps.specs.Reports.{brought_files, waits_early, is_early_of, on_open, on_look, takes_early, takes_all_early, starts, starts_if, have_all_reported, counts_report, with_reported, with_all_reported, with_report, on_report}
 use Rattle.role_steps.specs.declared.synchronizing.SyncTable.{SyncTable}
 use Rattle.role_steps.specs.declared.synchronizing.FileRow.{FileRow}
 use Rattle.role_steps.specs.declared.synchronizing.OpenRow.{OpenRow}
@@ -37,38 +26,27 @@ use Rattle.role_steps.specs.declared.synchronizing.OpenStage.TheVariants as stag
 use Rattle.role_steps.specs.declared.synchronizing.LastLook.{LastLook}
 use Rattle.role_steps.specs.declared.synchronizing.Early.{Early}
 use Rattle.role_steps.proofs.Sending.{every_append}
-use Rattle.the_run.proofs.InsideSync.{Found, row_found}
 use Rattle.vector_laws.specs.Facts.{onto, WaitingFact, EarlyFact}
-use Rattle.vector_laws.proofs.Facts.{onto_append}
 use Rattle.vector_laws.proofs.SyncFacts.{FoundAt, row_at}
-use Rattle.lock_laws.specs.Locks.{IsOfAFile}
-use Rattle.lock_laws.proofs.Facts.{onto_later}
 use Rattle.std.specs.List.{list_all}
 use Rattle.locus_ids.specs.Sites.{with_site}
 use Rattle.role_steps.specs.Views.{members_of, pack_sites}
 use Rattle.role_steps.specs.Tables.{with_row}
-use Rattle.role_steps.specs.Versions.{row_ino, kept, is_below_some, not_below, with_kept, version_key, with_version, with_holder, known_or, unknown_file, version_of, rises_to, noted_at, noted_of, noted, holding_of}
-use Rattle.role_steps.specs.Opens.{open_key}
-use Rattle.role_steps.specs.Reports.{version_reported, published_row, stamp_made}
+use Rattle.role_steps.specs.Versions.{row_ino, kept, is_below_some, not_below, with_kept, version_key, with_version, with_holder, known_or, unknown_file}
+use Rattle.role_steps.specs.Reports.{version_reported}
 use Rattle.role_steps.specs.declared.synchronizing.VersionRow.{VersionRow}
-use Rattle.role_steps.specs.declared.synchronizing.Holding.{Holding}
 use Rattle.role_steps.proofs.Rows.{row_other, row_same}
 use Rattle.the_run.specs.Kept.{Among}
 use Rattle.the_run.proofs.Boots.{every_weaker}
 use Rattle.the_run.proofs.InsideSync.{every_row}
-use Rattle.vector_laws.specs.Written.{WasTold, WrittenAs, WasBegun, WasGranted, InstancesAgree}
-use Rattle.vector_laws.specs.Facts.{file_in, ReportedFact, MadeFact, MaybeMade}
-use Rattle.vector_laws.proofs.SyncFacts.{every_latest, file_eq}
-use Rattle.lock_laws.specs.Going.{WasReleased, WasStarted}
-use Rattle.lock_laws.specs.Grants.{WasGrantedAs}
-use Rattle.lock_laws.proofs.GrantTold.{latest_other, latest_same, test_same, none_some, some_same}
-use Rattle.lock_laws.proofs.Facts.{one_later}
+use Rattle.vector_laws.specs.Written.{WasTold}
+use Rattle.vector_laws.specs.Facts.{file_in, ReportedFact}
+use Rattle.lock_laws.proofs.GrantTold.{test_same}
 use Rattle.pack_laws.specs.Making.{NotEmpty}
-use Rattle.make_laws.specs.Holding.{WasReserved}
-use Rattle.make_laws.specs.Tables.{IsKnown, IsFree, ReleasedOn, RowMade, IsKept, StageMade, OpenMade, HasEnded, TableMade, Ordered}
+use Rattle.make_laws.specs.Tables.{IsKnown, ReleasedOn, RowMade, IsKept, StageMade, OpenMade, HasEnded, Ordered}
 use Rattle.make_laws.proofs.Telling.{Here}
-use Rattle.make_laws.proofs.TableTold.{known_later, ordered_before, written_known, reserved_started, pair, granted_reserved, granted_as, ReleasedFile, released_file, free_later, row_later, open_later, table_one}
-use Rattle.make_laws.proofs.TableOpens.{AllPlain, TableKeeps, Fine, Made, sends_keeps, then_keeps, kept_made, put_ended, row_key, takes_open_keeps}
+use Rattle.make_laws.proofs.TableTold.{written_known, reserved_started, row_later, open_later, table_one}
+use Rattle.make_laws.proofs.TableOpens.{Fine, Made, sends_keeps, then_keeps, takes_open_keeps}
 
 -- ---- looks ----
 

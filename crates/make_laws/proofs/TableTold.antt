@@ -1,5 +1,5 @@
 -- What a table knows of files that are being made stays, whatever others tell.
-use Rattle.std.proofs.Common.{◌≡◌, ℕ, ◌==◌, nat_lt, Bool, true, false, ◌⊎◌, List, [], ◌∷◌, ◌++◌, Option, Some, None, refl, sym, ◌∙◌, ap, subst, inl, inr}
+use Rattle.std.proofs.Common.{◌≡◌, ℕ, false, ◌⊎◌, List, [], ◌∷◌, refl, sym, ◌∙◌, ap, subst, inl, inr}
 use Rattle.locus_ids.specs.declared.ids.EpochId.{EpochId}
 use Rattle.locus_ids.specs.declared.ids.FileId.{FileId}
 use Rattle.locus_ids.specs.declared.ids.Mode.{Mode}
@@ -11,7 +11,6 @@ use Rattle.trace_book.specs.declared.record.Record.{Record}
 use Rattle.trace_book.specs.declared.record.Record.TheVariants as says
 use Rattle.role_steps.specs.Own.{Every}
 use Rattle.role_steps.specs.Views.{Told, Shown, Begins, Reserves, serial_key}
-use Rattle.role_steps.specs.Opens.{open_key}
 use Rattle.role_steps.specs.declared.synchronizing.SyncTable.{SyncTable}
 use Rattle.role_steps.specs.declared.synchronizing.FileRow.{FileRow}
 use Rattle.role_steps.specs.declared.synchronizing.OpenRow.{OpenRow}
@@ -20,16 +19,15 @@ use Rattle.role_steps.specs.declared.synchronizing.OpenStage.TheVariants as stag
 use Rattle.the_run.proofs.Boots.{every_weaker}
 use Rattle.vector_laws.specs.Written.{WasTold, WrittenAs, IsWrittenBy, IsCommitOf, GrantedRecord, Granted, WasGranted}
 use Rattle.vector_laws.specs.Facts.{onto, file_in}
-use Rattle.lock_laws.specs.Going.{BegunAt, WasBegunAt, StartedRecord, Started, WasStarted, ReleasedRecord, Released, WasReleased, IsEnding, RecordGoesOn, InstanceGoesOn, InstancesGoOn}
+use Rattle.lock_laws.specs.Going.{BegunAt, WasBegunAt, StartedRecord, Started, WasStarted, ReleasedRecord, Released, WasReleased, RecordGoesOn, InstanceGoesOn, InstancesGoOn}
 use Rattle.lock_laws.specs.Grants.{GrantedAsRecord, GrantedAs, WasGrantedAs}
-use Rattle.lock_laws.proofs.Facts.{Later, onto_later, one_later}
+use Rattle.lock_laws.proofs.Facts.{Later, one_later}
 use Rattle.lock_laws.proofs.GrantSites.{orderly_before}
-use Rattle.writer_laws.specs.Granting.{GrantsAreAlike}
-use Rattle.pack_laws.specs.Making.{CommitsRecord, CommitsFile, WasCommitted, NotEmpty}
+use Rattle.pack_laws.specs.Making.{CommitsRecord, CommitsFile, WasCommitted}
 use Rattle.make_laws.specs.Fresh.{FreshTold, NumbersAreFresh}
 use Rattle.make_laws.specs.Holding.{ReservedAt, WasReserved, ReservedRecord, ReservedTold, MakesAreReserved, ApartTold, ReservesAreApart}
-use Rattle.make_laws.specs.Tables.{IsKnown, IsFree, ReleasedOnRecord, ReleasedOn, RowMade, IsKept, StageMade, OpenMade, HasEnded, TableMade, Ordered, PlainRecord, PlainTold}
-use Rattle.make_laws.proofs.Telling.{TabularRecord, Tabular, HereRecord, Here}
+use Rattle.make_laws.specs.Tables.{IsKnown, IsFree, ReleasedOnRecord, ReleasedOn, RowMade, StageMade, OpenMade, HasEnded, TableMade, Ordered}
+use Rattle.make_laws.proofs.Telling.{TabularRecord, Tabular}
 
 -- ---- what was told, later ----
 

@@ -1,35 +1,26 @@
 -- What an event of the world leaves of what tables know of files that are being made.
-use Rattle.std.proofs.Common.{◌≡◌, ◌≢◌, ℕ, ◌==◌, Bool, true, false, cond, List, [], ◌∷◌, map, Option, Some, None, refl, sym, ◌∙◌, ap, subst, inl, inr}
+use Rattle.std.proofs.Common.{◌≡◌, ◌≢◌, ℕ, Bool, true, false, cond, List, [], ◌∷◌, Option, Some, None, refl, sym, ◌∙◌, ap, subst, inl, inr}
 use Rattle.locus_ids.specs.declared.ids.EpochId.{EpochId}
-use Rattle.locus_ids.specs.declared.ids.FileId.{FileId}
-use Rattle.locus_ids.specs.declared.ids.Mode.{Mode}
 use Rattle.locus_ids.specs.declared.sites.Members.{Members}
 use Rattle.locus_ids.specs.declared.config.Config.{Config}
-use Rattle.schedule_lines.specs.declared.line.ScheduleLine.{ScheduleLine}
 use Rattle.trace_book.specs.declared.record.Record.{Record}
 use Rattle.trace_book.specs.declared.record.Record.TheVariants as says
 use Rattle.trace_book.specs.declared.record.StopCause.{StopCause}
-use Rattle.trace_book.specs.declared.record.StopCause.TheVariants as cause
 use Rattle.wire_messages.specs.declared.packet.Packet.{Packet}
 use Rattle.role_steps.specs.Own.{Every}
-use Rattle.role_steps.specs.Tables.{row}
-use Rattle.role_steps.specs.Views.{SiteView, Told, Shown, DiskWrite, Outcome, Receives, sync_site}
+use Rattle.role_steps.specs.Views.{SiteView, Told, Shown, DiskWrite, Outcome, sync_site}
 use Rattle.role_steps.specs.declared.copies.FileCopy.{FileCopy}
 use Rattle.role_steps.specs.declared.rounds.InEpoch.{InEpoch}
-use Rattle.role_steps.proofs.Sending.{every_map}
-use Rattle.the_run.specs.Disks.{Disk, Booted, Whole, CutOff, boots, cut_disk, is_on_disk}
+use Rattle.the_run.specs.Disks.{Disk, Booted, Whole, CutOff, cut_disk, is_on_disk}
 use Rattle.the_run.specs.Steps.{step}
-use Rattle.the_run.specs.Joins.{Joined}
-use Rattle.the_run.specs.Worlds.{World, Place, Running, Stopped, Numbered, Line, links_of, place_at, place_in, place_site, script_of, happened, told_onto, disk_of, puts, arms, passed, stops_with, cause_of, acts, fresh, formatted, first_place, first_world}
-use Rattle.the_run.specs.Runs.{boots_as, packet_record, run_in}
-use Rattle.the_run.specs.Kept.{Kept}
+use Rattle.the_run.specs.Worlds.{World, Running, Stopped, place_at, happened, told_onto, puts, arms, stops_with, cause_of, acts, fresh}
+use Rattle.the_run.specs.Runs.{boots_as}
 use Rattle.the_run.proofs.Boots.{at_each, acts_cases, every_weaker}
 use Rattle.the_run.proofs.Events.{happened_keeps, puts_other, puts_same}
-use Rattle.the_run.proofs.Runs.{every_run, some_eq}
+use Rattle.the_run.proofs.Runs.{some_eq}
 use Rattle.vector_laws.specs.Written.{past_of}
 use Rattle.vector_laws.specs.Held.{IsOf, Writes, OnDisk}
 use Rattle.vector_laws.specs.Facts.{onto}
-use Rattle.vector_laws.proofs.SiteDisks.{step_disk}
 use Rattle.vector_laws.proofs.FactsRun.{past_onto}
 use Rattle.lock_laws.specs.Joins.{WasJoined}
 use Rattle.lock_laws.proofs.Facts.{onto_later}

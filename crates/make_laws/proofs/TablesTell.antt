@@ -1,13 +1,9 @@
 -- What a synchronization site tells is neither a begin nor a reserve, and starts its own group alone.
-use Rattle.std.proofs.Common.{◌≡◌, ℕ, ◌+◌, true, false, ◌&&◌, not, cond, List, [], ◌∷◌, ◌++◌, Option, Some, None, refl, sym, ap, subst, ◌⊎◌, inl, inr}
+use Rattle.std.proofs.Common.{◌≡◌, ℕ, true, false, List, [], ◌∷◌, Option, Some, None, refl, sym, subst}
 use Rattle.locus_ids.specs.Sites.{has, with_site}
 use Rattle.locus_ids.specs.declared.ids.Mode.{Mode}
 use Rattle.locus_ids.specs.declared.ids.Mode.TheVariants as mode
 use Rattle.locus_ids.specs.declared.ids.Serial.{Serial}
-use Rattle.locus_ids.specs.declared.refusal.Refusal.TheVariants as refusal
-use Rattle.trace_book.specs.declared.record.Record.{Record}
-use Rattle.trace_book.specs.declared.record.Record.TheVariants as says
-use Rattle.wire_messages.specs.declared.packet.Packet.{Packet}
 use Rattle.wire_messages.specs.declared.body.Body.{Body}
 use Rattle.wire_messages.specs.declared.body.Body.TheVariants as body
 use Rattle.wire_messages.specs.declared.body.OpenedAs.{OpenedAs}
@@ -15,24 +11,19 @@ use Rattle.wire_messages.specs.declared.body.OpenedAs.TheVariants as opened
 use Rattle.wire_messages.specs.declared.body.MadeVersion.{MadeVersion}
 use Rattle.wire_messages.specs.declared.body.ReportedCopy.{ReportedCopy}
 use Rattle.role_steps.specs.Own.{Every}
-use Rattle.role_steps.specs.Tables.{row, first_that}
-use Rattle.role_steps.specs.Views.{Frame, SiteView, Told, Shown, Promises, Outcome, Event, Calls, Receives, Ticks, Parts, Merges, GivesUp, quiet, sends, tells, and_then, joined_to, first_written, packet, Users, serial_key, process_key}
+use Rattle.role_steps.specs.Tables.{row}
+use Rattle.role_steps.specs.Views.{Frame, Outcome, quiet, sends, packet, process_key}
 use Rattle.role_steps.specs.Opens.{OpenRequest, mode_of, Decision, Denies, Grants, decision, decides, asked_row, granted_row, granted_at_once, granted_at_last, on_open_of, takes_open, open_row, answers_open, by_stage, on_opened_of, on_opened}
 use Rattle.role_steps.specs.Looks.{LookRequest, is_look_before, is_same_look, new_look, after_last, takes_look, look_key}
-use Rattle.role_steps.specs.Reports.{waits_early, on_open, on_look, takes_early, takes_all_early, starts, starts_if, have_all_reported, counts_report, with_reported, with_all_reported, with_report, on_report, closes_at, on_closed_of, on_closed, on_have}
-use Rattle.role_steps.specs.Notices.{notices}
-use Rattle.role_steps.specs.Storage.{StoreRequest, copy_of, instance_of, on_open_ss}
+use Rattle.role_steps.specs.Reports.{waits_early, on_open, on_look, takes_early, takes_all_early, starts, starts_if, have_all_reported, counts_report, with_reported, with_all_reported, with_report, on_report, closes_at, on_closed_of, on_closed}
 use Rattle.role_steps.specs.Versions.{file_row}
 use Rattle.role_steps.specs.declared.synchronizing.SyncTable.{SyncTable}
-use Rattle.role_steps.specs.declared.synchronizing.FileRow.{FileRow}
 use Rattle.role_steps.specs.declared.synchronizing.OpenRow.{OpenRow}
 use Rattle.role_steps.specs.declared.synchronizing.OpenStage.{OpenStage}
 use Rattle.role_steps.specs.declared.synchronizing.OpenStage.TheVariants as stage
 use Rattle.role_steps.specs.declared.synchronizing.LastLook.{LastLook}
 use Rattle.role_steps.specs.declared.synchronizing.Early.{Early}
-use Rattle.role_steps.specs.declared.users.WaitingCall.{WaitingCall}
-use Rattle.role_steps.proofs.Sending.{every_append, every_map}
-use Rattle.the_run.proofs.InsideSync.{Found, row_found}
+use Rattle.role_steps.proofs.Sending.{every_append}
 use Rattle.make_laws.proofs.Telling.{Groups, At}
 
 abbrev pub TableTells : Groups → Outcome SyncTable → Type 0

@@ -1,7 +1,6 @@
 -- What the laws of vectors carry of packets and views is kept by all that happens: it can stand beside other facts.
 use Rattle.std.proofs.Common.{◌≡◌, ℕ, ◌+◌, ◌==◌, Bool, true, false, cond, List, [], ◌∷◌, map, Option, Some, None, refl, sym, ◌∙◌, ap, subst, inl, inr}
 use Rattle.locus_ids.specs.declared.config.Config.{Config}
-use Rattle.schedule_lines.specs.declared.line.ScheduleLine.{ScheduleLine}
 use Rattle.trace_book.specs.declared.record.Record.TheVariants as says
 use Rattle.trace_book.specs.declared.record.StopCause.{StopCause}
 use Rattle.trace_book.specs.declared.record.StopCause.TheVariants as cause
@@ -15,17 +14,17 @@ use Rattle.role_steps.proofs.Sending.{every_append, every_map}
 use Rattle.the_run.specs.Disks.{Disk, Booted, Whole, CutOff, boots, cut_disk, is_on_disk}
 use Rattle.the_run.specs.Steps.{step}
 use Rattle.the_run.specs.Worlds.{World, Place, Running, Stopped, Numbered, Line, number_of, links_of, place_at, place_in, place_site, script_of, happened, numbered_from, told_onto, disk_of, puts, arms, passed, stops_with, cause_of, acts, fresh, root_copy, formatted, first_place, first_world}
-use Rattle.the_run.specs.Runs.{boots_as, packet_record, run_in}
+use Rattle.the_run.specs.Runs.{boots_as, packet_record}
 use Rattle.the_run.specs.Kept.{WasSent, IsOwn, Kept}
 use Rattle.the_run.proofs.Boots.{at_each, acts_cases, every_newest, every_numbered, every_weaker}
 use Rattle.the_run.proofs.Events.{happened_keeps, puts_other, puts_same}
 use Rattle.the_run.proofs.InsideSync.{every_row, every_without}
-use Rattle.the_run.proofs.Runs.{every_run, some_eq}
+use Rattle.the_run.proofs.Runs.{some_eq}
 use Rattle.run_laws.specs.Naming.{Deeds, DeedsOf, Good}
 use Rattle.run_laws.proofs.Run.{good_kept, first_good, found_among, was_sent}
 use Rattle.run_laws.proofs.Steps.{EventNames}
 use Rattle.vector_laws.specs.Held.{copies_on}
-use Rattle.vector_laws.specs.Written.{past_of, InstancesAgree, VectorsAreWritten, CommitsAreNumbered}
+use Rattle.vector_laws.specs.Written.{past_of, InstancesAgree, CommitsAreNumbered}
 use Rattle.vector_laws.specs.Facts.{PacketFact, CopyFact, ViewFact, NotCommit, NumberedAll, DiskFact, onto, NumberedFact, WorldFact, WhereAgreed}
 use Rattle.vector_laws.proofs.Facts.{Later, onto_later, body_later, copies_later, view_later, agree_before, numbered_none}
 use Rattle.vector_laws.proofs.SyncFacts.{seen_none}

@@ -1,5 +1,5 @@
 -- A number is reserved for a file of which there is no version yet.
-use Rattle.std.specs.Prelude.{ℕ, ◌≡◌, List, [], ◌∷◌}
+use Rattle.std.specs.Prelude.{◌≡◌, List, [], ◌∷◌}
 use Rattle.role_steps.specs.Views.{Told, Reserves}
 use Rattle.pack_laws.specs.Making.{WasCommitted}
 

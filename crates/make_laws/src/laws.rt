@@ -6,6 +6,9 @@ ghost use Rattle.vector_laws.specs.Written.{past_of};
 ghost use Rattle.make_laws.specs.Fresh.{NumbersAreFresh};
 ghost use Rattle.make_laws.specs.Holding.{MakesAreReserved, ReservesAreOfMakes};
 ghost use Rattle.make_laws.specs.Locked.{HoldsAreLocked};
+ghost use Rattle.make_laws.specs.First.{MakesCommitFirst};
+ghost use Rattle.make_laws.specs.Reporting.{TablesHaveReports};
+ghost use Rattle.make_laws.specs.Naming.{GrantsNameWhoBegins};
 
 /// After every schedule, when the number of a file was reserved nobody had committed a version of the file, and it is no root.
 pub fn numbers_are_fresh()
@@ -26,4 +29,21 @@ pub fn reserves_are_of_makes()
 /// file was reserved - both only read, or the earlier one was over: released, or for a plain grant refused after all.
 pub fn holds_are_locked()
     ensures { (c : Config) (lines : List ScheduleLine) → HoldsAreLocked (past_of (run_in c lines).trace) }
+{}
+
+/// After every schedule a site that committed a file of which there was no version before, and that is no root, was running a
+/// make of it, which was granted, and for which it had reserved the number.
+pub fn makes_commit_first()
+    ensures { (c : Config) (lines : List ScheduleLine) → MakesCommitFirst (past_of (run_in c lines).trace) }
+{}
+
+/// After every schedule a table of a running site has no opens before its group has started in the epoch, and once it has, all
+/// the members that have a pack of the group have reported.
+pub fn tables_have_reports()
+    ensures { (c : Config) (lines : List ScheduleLine) → TablesHaveReports c (run_in c lines) }
+{}
+
+/// After every schedule, the storage site that a grant names, of a make too, is the one that has begun the instance in the epoch.
+pub fn grants_name_who_begins()
+    ensures { (c : Config) (lines : List ScheduleLine) → GrantsNameWhoBegins (past_of (run_in c lines).trace) }
 {}

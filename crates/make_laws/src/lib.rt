@@ -4,4 +4,7 @@
 
 mod laws;
 
-pub use laws::{holds_are_locked, makes_are_reserved, numbers_are_fresh, reserves_are_of_makes};
+pub use laws::{
+    grants_name_who_begins, holds_are_locked, makes_are_reserved, makes_commit_first,
+    numbers_are_fresh, reserves_are_of_makes, tables_have_reports,
+};

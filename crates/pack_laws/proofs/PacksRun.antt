@@ -181,7 +181,7 @@ every_onto c (x ∷ xs) past h g = every_onto c xs (x ∷ past) h.1 (h.0, g)
 agree_before : (told past : List Told) → InstancesAgree (onto told past) → InstancesAgree past
 agree_before told past h e key begun granted b g = h e key begun granted (onto_later told past _ b) (onto_later told past _ g)
 
-abbrev Packed : Config → World → Type 0
+abbrev pub Packed : Config → World → Type 0
 Packed c w = InstancesAgree (past_of w.trace) → WorldPacked c w
 
 -- what an event leaves of a place
@@ -291,7 +291,7 @@ own_packed c me v Parts h = tt
 own_packed c me v Merges h = tt
 own_packed c me v GivesUp h = tt
 
-sent_packed : (c : Config) (w : World) (x : Numbered) → WasSent w x → WorldPacked c w → NumberedPacked c x
+pub sent_packed : (c : Config) (w : World) (x : Numbered) → WasSent w x → WorldPacked c w → NumberedPacked c x
 sent_packed c w x (inl a) f = found_among (NumberedPacked c) x w.sent f.packets a
 sent_packed c w x (inr a) f = found_among (NumberedPacked c) x w.underway f.underway a
 
@@ -309,10 +309,10 @@ allowed c x v w here sent l agree f = record {
   closes = λ d. body_closes c (past_of w.trace) x.packet.to x.packet x.packet.body v refl agree l.goes f.told (sent_lock w x sent l) (l.views x.packet.to v here) d;
 }
 
-abbrev All : Config → World → Type 0
+abbrev pub All : Config → World → Type 0
 All c w = Both w × Packed c w
 
-all_kept : (c : Config) → Kept c (All c)
+pub all_kept : (c : Config) → Kept c (All c)
 all_kept c = record {
   steps = λ n s e v w here own g. (lock.steps n s e v w here own g.0, acts_packed c n s v (step c s (links_of w s) v e) w here (λ a f. step_packed c s (links_of w s) v e (own_packed c s v e own) (f.views s v here)) (step_disk c s (links_of w s) v e) g.1);
   receives = λ n x v w here sent g. (lock.receives n x v w here sent g.0, received n x v w here sent g);
@@ -371,9 +371,12 @@ first_world_packed c = record {
   underway = tt;
 }
 
+pub first_all : (c : Config) → All c (first_world c)
+first_all c = (first_both c, (λ h. first_world_packed c))
+
 -- ---- the law ----
 
 pub run_packs : (c : Config) (lines : List ScheduleLine) → FilesLieInPacks c (run_in c lines)
 run_packs c lines =
-    let f : WorldPacked c (run_in c lines) = (every_run c (All c) (all_kept c) (first_both c, (λ h. first_world_packed c)) lines).1 (run_agrees c lines) in
+    let f : WorldPacked c (run_in c lines) = (every_run c (All c) (all_kept c) (first_all c) lines).1 (run_agrees c lines) in
     record { told = f.told; disks = f.disks }

@@ -21,3 +21,4 @@ pub use encoder::encode;
 pub use laws::no_packet_begins_another;
 pub use outbox::{Outbox, Records};
 pub use packet::{Packet, Packets};
+pub use put_bodies::kind_number;

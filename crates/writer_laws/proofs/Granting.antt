@@ -43,7 +43,7 @@ pub record GrantNoted (book : Book) (e : EpochId) (key : ℕ) (file : FileId) (m
 
 record_noted : (book : Book) (e : EpochId) (key : ℕ) (file : FileId) (m : Mode) (r : Record) → RecordFact book r → GrantedAsRecord e key file m r → GrantNoted book e key file m
 record_noted book e key file m (says.Grant at call request inst n of stamp ss) h k =
-    record { inst = inst; key_is = k.1; fact = subst (λ (x : Mode). GrantFact book e inst x file) k.3 (subst (λ (g : FileId). GrantFact book e inst n g) k.2 (subst (λ (i : EpochId). GrantFact book i inst n of) k.0 h)) }
+    record { inst = inst; key_is = k.1; fact = subst (λ (x : Mode). GrantFact book e inst x file) k.3 (subst (λ (g : FileId). GrantFact book e inst n g) k.2 (subst (λ (i : EpochId). GrantFact book i inst n of) k.0 h.0)) }
 record_noted book e key file m _ h k = absurd k
 
 told_noted : (book : Book) (e : EpochId) (key : ℕ) (file : FileId) (m : Mode) (x : Told) → ToldFact book x → GrantedAs e key file m x → GrantNoted book e key file m
