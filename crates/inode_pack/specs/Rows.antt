@@ -16,3 +16,8 @@ SameButFor first stop old made = (i : ℕ) → i < 64 → ((first ≤ i) × (i <
 pub record NoneBelow (least : ℕ) (uses : List ℕ) : Type 0 where
   pub most : least ≤ 3072
   pub named : (page : ℕ) → page < least → 1 ≤ slice_index uses page
+
+-- how many copies name each data page, and how many pages no copy names
+pub record PageUses : Type 0 where
+  pub uses : List ℕ
+  pub free : ℕ

@@ -19,7 +19,7 @@ ghost use Rattle.inode_pack.specs.Marked.{marked};
 use crate::new_content::{MarkedContent, NewContent};
 use crate::pieces::CommitPieces;
 use crate::plan::{Row, next_copy, page_count};
-use crate::usage::{first_free, pages_named, pass_pages, row_to_pass};
+use crate::usage::row_to_pass;
 use crate::{NewVersion, Pack, PackFault};
 use disk_model::Disk;
 use inode_switch::replace_inode;
@@ -182,11 +182,9 @@ impl Pack {
         ensures early { IfErr result (λ fault. IsEarly fault) }
     {
         let needed = content.count(row);
-        if needed > self.free {
-            return Err(PackFault::NoSpace {
-                needed,
-                free: self.free,
-            });
+        let free = self.pages.free();
+        if needed > free {
+            return Err(PackFault::NoSpace { needed, free });
         }
         Ok(())
     }
@@ -221,7 +219,7 @@ impl Pack {
     {
         let old = &self.copies[usize::from(ino.get()) - 1];
         let passed = row_to_pass(old, row, page_count(content.size()));
-        let made = next_copy(&self.uses, self.least, row, old, ino, version, content);
+        let made = next_copy(&self.pages, row, old, ino, version, content);
         Prepared {
             made,
             passed,
@@ -239,9 +237,7 @@ impl Pack {
     {
         let at = usize::from(ino.get()) - 1;
         let old = &self.copies[at];
-        let least = pass_pages(&mut self.uses, old, made, row, self.least);
-        self.least = first_free(&self.uses, least);
-        self.free = self.free + pages_named(old) - pages_named(&Some(*made));
+        self.pages.pass(old, made, row);
         self.copies[at] = Some(*made);
     }
 }

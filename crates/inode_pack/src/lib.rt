@@ -3,8 +3,10 @@
 #![tactic(auto)]
 
 mod commit;
+mod data_pages;
 mod mount;
 mod new_content;
+mod new_pages;
 mod new_version;
 mod next_ino;
 mod pack;

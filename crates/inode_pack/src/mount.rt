@@ -9,6 +9,7 @@ ghost use Rattle.pack_slots.specs.Cutting.{IsCutMount};
 ghost use Rattle.inode_pack.specs.Pack.{Stands};
 
 use crate::Pack;
+use crate::data_pages::DataPages;
 use disk_model::Disk;
 use locus_ids::SiteId;
 use pack_slots::{MountFault, close_losing, read_pack};
@@ -58,9 +59,7 @@ impl Pack {
             group,
             site,
             copies: survey.copies,
-            uses: survey.uses,
-            free: survey.free,
-            least: 0,
+            pages: DataPages::new(survey.uses, survey.free),
         })
     }
 }

@@ -2,6 +2,7 @@ ghost use Rattle.std.specs.Prelude.{◌≡◌, ◌+◌, length, IfSome};
 ghost use Rattle.std.specs.Option.{option_copied, option_map};
 ghost use Rattle.pack_slots.specs.Copies.{copy_of, named_pages, IsCopy};
 
+use crate::data_pages::DataPages;
 use locus_ids::SiteId;
 use pack_layout::Slot;
 use pack_slots::InodeCopy;
@@ -16,24 +17,19 @@ pub struct Pack {
     pub(crate) site: SiteId,
     /// The copy of each inode, that of inode 1 first.
     pub(crate) copies: Vec<Option<InodeCopy>>,
-    /// How many copies name each data page: none or one.
-    pub(crate) uses: Vec<u32>,
-    /// The number of data pages that no copy names.
-    pub(crate) free: u16,
-    /// A number below which no data page is free.
-    pub(crate) least: u16,
+    /// Which data pages these name.
+    pub(crate) pages: DataPages,
 }
 
 impl Model for Pack {
     ghost use Rattle.inode_pack.specs.Pack.{PackState};
     ghost use Rattle.pack_slots.specs.Copies.{AreCopies, AreUses};
-    ghost use Rattle.inode_pack.specs.Rows.{NoneBelow};
 
     ghost Value = { PackState };
 
     ghost view = { λ p. record { base = p.base; group = p.group; site = p.site; copies = p.copies.items } };
 
-    ghost invariant = { λ p. AreCopies p.copies.items × AreUses p.copies.items p.uses.items p.free × NoneBelow p.least p.uses.items };
+    ghost invariant = { λ p. AreCopies p.copies.items × AreUses p.copies.items p.pages.uses p.pages.free };
 }
 
 impl Pack {
@@ -62,6 +58,6 @@ impl Pack {
     pub fn free_pages(&self) -> u16
         ensures { result + length (named_pages self.now.copies) ≡ 3072 }
     {
-        self.free
+        self.pages.free()
     }
 }

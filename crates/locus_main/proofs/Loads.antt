@@ -11,8 +11,8 @@ use Rattle.the_run.specs.Worlds as bound
 use Rattle.run_book.specs.Ledgers.{limit_named}
 use Rattle.run_book.specs.declared.fault.Passed.{Passed}
 use Rattle.world.specs.declared.fault.WorldFault.TheVariants as world
-use Rattle.load_run.specs.declared.fault.LoadFault.{LoadFault}
-use Rattle.load_run.specs.declared.fault.LoadFault.TheVariants as load
+use Rattle.schedule_run.specs.declared.load_fault.LoadFault.{LoadFault}
+use Rattle.schedule_run.specs.declared.load_fault.LoadFault.TheVariants as load
 use Rattle.locus_main.specs.declared.status.Status.TheVariants as status
 use Rattle.locus_main.specs.Codes.{limited, ends_load, status_of, status_of_load}
 use Rattle.locus_main.specs.Promises.{LoadPromises}

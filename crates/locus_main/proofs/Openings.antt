@@ -5,8 +5,8 @@ use Rattle.schedule_run.specs.declared.fault.RunFault.{RunFault}
 use Rattle.schedule_run.specs.declared.fault.RunFault.TheVariants.{Bad, NoMemory, World}
 use Rattle.schedule_run.specs.declared.runner.ScheduleRunner.{ScheduleRunner}
 use Rattle.schedule_run.specs.Standing.{HasRun}
-use Rattle.tree_run.specs.declared.runner.TreeRunner.{TreeRunner}
-use Rattle.tree_run.specs.Standing.{HasRun as HasAsked}
+use Rattle.schedule_run.specs.declared.tree.TreeRunner.{TreeRunner}
+use Rattle.schedule_run.specs.Tree.{HasRun as HasAsked}
 use Rattle.locus_main.specs.declared.status.Status.{Status}
 use Rattle.locus_main.specs.declared.status.Status.TheVariants as status
 use Rattle.locus_main.specs.Inputs.{opening_of}

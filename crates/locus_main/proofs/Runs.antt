@@ -9,8 +9,8 @@ use Rattle.schedule_lines.specs.declared.line.ScheduleLine.{ScheduleLine}
 use Rattle.the_run.specs.Worlds.{Limit}
 use Rattle.schedule_lines.specs.Cluster.{config_of}
 use Rattle.the_run.specs.Runs.{run}
-use Rattle.version_laws.specs.Versions.{VersionsHold}
-use Rattle.version_laws.proofs.Hold.{run_versions_hold}
+use Rattle.copy_laws.specs.Hold.{VersionsAndCopiesHold}
+use Rattle.copy_laws.proofs.Hold.{run_versions_and_copies}
 use Rattle.line_reader.specs.Reading.{lines_of, has_feed, to_read, Between, ReadsLine, EndsInFeed, IsLong, first_line, after_line}
 use Rattle.locus_main.specs.Inputs.{Input, StandsFor, MayEndAfter, opening_of, output_of}
 use Rattle.locus_main.specs.Runs.{IsWithinLimits, Writes, AreRun, IsWholeRun, Refuses, StopsAtBad, StopsAtLong, StopsAtCount, StopsAtFault, StopsAtLimit, StopsAtWorld, WritesFront}
@@ -21,8 +21,8 @@ use Rattle.locus_main.proofs.Told.{ReadsLines, Appends-nothing, Appends-then, Ap
 use Rattle.locus_main.proofs.Whole.{AreWhole, Between-whole-none, Between-whole-line, wholly_read}
 
 -- the versions of a run
-run_versions : (lines : List ScheduleLine) → VersionsHold (run lines)
-run_versions lines = run_versions_hold (config_of lines) lines
+run_versions : (lines : List ScheduleLine) → VersionsAndCopiesHold (config_of lines) (run lines)
+run_versions lines = run_versions_and_copies (config_of lines) lines
 
 -- the lines so far, of which the run is written
 pub record SoFar {R : Type 0} (stands : Standing R) (input : Input) (r : R) (number : ℕ) (ended : Bool) (left0 left1 taken0 taken1 : Option (List ℕ)) : Type 0 where

@@ -9,9 +9,9 @@ use Rattle.the_run.specs.Commands.{Asked, tree_lines, tree_text}
 use Rattle.schedule_run.specs.declared.runner.ScheduleRunner.{ScheduleRunner}
 use Rattle.schedule_run.specs.Standing.{HasRun, RunsNext}
 use Rattle.schedule_run.specs.Standing as schedule
-use Rattle.tree_run.specs.declared.runner.TreeRunner.{TreeRunner}
-use Rattle.tree_run.specs.Standing.{Asks, MayAsk, with_asked}
-use Rattle.tree_run.specs.Standing as tree
+use Rattle.schedule_run.specs.declared.tree.TreeRunner.{TreeRunner}
+use Rattle.schedule_run.specs.Tree.{Asks, MayAsk, with_asked}
+use Rattle.schedule_run.specs.Tree as tree
 use Rattle.locus_main.specs.Inputs.{AreCalls, StandsFor, replies_of}
 use Rattle.locus_main.specs.Inputs.Input.{Schedule, Calls}
 use Rattle.locus_main.specs.Runners.{ScheduleStands, TreeStands}

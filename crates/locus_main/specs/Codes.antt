@@ -6,8 +6,8 @@ use Rattle.the_run.specs.Worlds.{Limit}
 use Rattle.the_run.specs.Worlds as world
 use Rattle.world.specs.declared.fault.WorldFault.TheVariants as fault
 use Rattle.run_book.specs.Ledgers.{limit_named}
-use Rattle.load_run.specs.declared.fault.LoadFault.{LoadFault}
-use Rattle.load_run.specs.declared.fault.LoadFault.TheVariants as load
+use Rattle.schedule_run.specs.declared.load_fault.LoadFault.{LoadFault}
+use Rattle.schedule_run.specs.declared.load_fault.LoadFault.TheVariants as load
 use Rattle.locus_main.specs.declared.status.Status.{Status}
 use Rattle.locus_main.specs.declared.status.Status.TheVariants as status
 use Rattle.locus_main.specs.declared.status.Limited.{Limited}

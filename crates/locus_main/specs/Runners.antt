@@ -5,8 +5,8 @@ use Rattle.schedule_lines.specs.Schedule.{IsSchedule}
 use Rattle.the_run.specs.Commands.{Asked, tree_lines}
 use Rattle.schedule_run.specs.declared.runner.ScheduleRunner.{ScheduleRunner}
 use Rattle.schedule_run.specs.Standing.{HasRun}
-use Rattle.tree_run.specs.declared.runner.TreeRunner.{TreeRunner}
-use Rattle.tree_run.specs.Standing.{HasRun as HasAsked}
+use Rattle.schedule_run.specs.declared.tree.TreeRunner.{TreeRunner}
+use Rattle.schedule_run.specs.Tree.{HasRun as HasAsked}
 use Rattle.locus_main.specs.Inputs.{AskAll}
 
 -- the lines of bytes are this schedule, which is run

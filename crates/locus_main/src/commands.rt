@@ -11,13 +11,11 @@ use crate::input::run_lines;
 use crate::status::{Limited, Status};
 use crate::turn::{send, status_of};
 use line_reader::LineReader;
-use load_run::{LoadFault, run_load};
 use locus_ids::sizes::LINE_BYTES;
 use locus_io::{Sink, Source};
 use run_book::Passed;
-use schedule_run::ScheduleRunner;
+use schedule_run::{LoadFault, ScheduleRunner, TreeRunner, run_load};
 use std::alloc::Global;
-use tree_run::TreeRunner;
 use world::WorldFault;
 
 /// Runs a schedule and writes its trace.

@@ -8,8 +8,7 @@ ghost use Rattle.locus_main.specs.Runs.{Refuses};
 ghost use Rattle.locus_main.specs.Turns.{RunsOn, MayStand};
 
 use run_book::Passed;
-use schedule_run::{RunFault, ScheduleRunner};
-use tree_run::TreeRunner;
+use schedule_run::{RunFault, ScheduleRunner, TreeRunner};
 
 /// What runs the lines of an input, one after another.
 pub trait LineRunner {

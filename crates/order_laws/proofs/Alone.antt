@@ -98,14 +98,14 @@ none_excludes m f (x ∷ xs) none = at (same_file x.grant.file f) refl none (non
     at false e h rest = ((λ same. absurd (true_false (sym same ∙ e))), rest h)
 
 -- an open that nothing refuses is excluded by none
-unrefused : (m : Mode) (os : List Opener) (kept : List Stamp) (o : Option Opener) → excluder m os ≡ o → grant_refusal m os kept ≡ None → o ≡ None
+pub unrefused : (m : Mode) (os : List Opener) (kept : List Stamp) (o : Option Opener) → excluder m os ≡ o → grant_refusal m os kept ≡ None → o ≡ None
 unrefused m os kept None e h = refl
 unrefused m os kept (Some one) e h = absurd (some (rw e at h))
   where
     some : {A : Type 0} {x : A} → ◌≡◌ {A = Option A} (Some x) None → ⊥
     some k = cc
 
-first_none : {A : Type 0} (a b : Option A) → is_none (option_or a b) ≡ true → a ≡ None
+pub first_none : {A : Type 0} (a b : Option A) → is_none (option_or a b) ≡ true → a ≡ None
 first_none None b h = refl
 first_none (Some x) b h = absurd (true_false (sym h))
 

@@ -20,7 +20,7 @@ use Rattle.tree_model.specs.Folds.{Trace}
 use Rattle.tree_model.specs.Given.{gives_release, instance_ends}
 use Rattle.tree_model.specs.Histories.{history}
 use Rattle.tree_model.specs.Packs.{has_pack}
-use Rattle.tree_model.specs.Same.{same_brought}
+use Rattle.tree_model.specs.Same.{same_brought, same_version}
 use Rattle.tree_model.specs.State.{TreeState, instance_in, is_brought_below, is_granted_here, is_make, is_named, stamps_of, with_all, with_brought}
 use Rattle.tree_model.specs.Tree.{acted, granted, grant_of, joined, kept_in, left, next, published, released, tree_of, with_root, without_make}
 use Rattle.lawful_trace.specs.Lawful.{MayCome}
@@ -60,7 +60,7 @@ pub kept_same : (v : Version) (h : List Version) (f : FileId) (ss : List Stamp) 
 kept_same v h f ss others = filter_same (λ a. not (is_covered (v ∷ h) f ss a)) (λ a. not (is_covered h f ss a)) (λ a. ap not (covered_same v h f ss a others)) ss
 
 -- what stands is another version than a new one
-others_stand : (v : Version) (h : List Version) (f : FileId) (s : Stamp) → is_in h v.file v.stamp ≡ false → is_in h f s ≡ true → is_version f s v ≡ false
+pub others_stand : (v : Version) (h : List Version) (f : FileId) (s : Stamp) → is_in h v.file v.stamp ≡ false → is_in h f s ≡ true → is_version f s v ≡ false
 others_stand v h f s new stands = at (is_version f s v) refl
   where
     is : is_version f s v ≡ true → is_in h v.file v.stamp ≡ true
@@ -70,7 +70,7 @@ others_stand v h f s new stands = at (is_version f s v) refl
     at true e = absurd (true_false (sym (is e) ∙ new))
     at false e = refl
 
-all_others : (v : Version) (h : List Version) (g ino : ℕ) (known : List Brought) → is_in h v.file v.stamp ≡ false → AllByRecursion (KnownStands h g) known → AreOthers v (At g ino) (map (λ (b : Brought). b.stamp) (filter (λ (b : Brought). b.ino == ino) known))
+pub all_others : (v : Version) (h : List Version) (g ino : ℕ) (known : List Brought) → is_in h v.file v.stamp ≡ false → AllByRecursion (KnownStands h g) known → AreOthers v (At g ino) (map (λ (b : Brought). b.stamp) (filter (λ (b : Brought). b.ino == ino) known))
 all_others v h g ino [] new all = tt
 all_others v h g ino (b ∷ bs) new all = at (b.ino == ino) refl (all_others v h g ino bs new all.1)
   where
@@ -95,7 +95,7 @@ stamps_same new ino (b ∷ bs) other = at (is_brought_below new b) (same_brought
     at false true later = refl
     at false false later = front (b.ino == ino) later
 
-published_same : (f : FileId) (stamp : Option Stamp) (ino : ℕ) (known : List Brought) → (f.ino == ino) ≡ false → stamps_of (published f stamp known) ino ≡ stamps_of known ino
+pub published_same : (f : FileId) (stamp : Option Stamp) (ino : ℕ) (known : List Brought) → (f.ino == ino) ≡ false → stamps_of (published f stamp known) ino ≡ stamps_of known ino
 published_same f None ino known other = refl
 published_same f (Some s) ino known other = stamps_same (record { ino = f.ino; stamp = s }) ino known other
 
@@ -145,16 +145,6 @@ changes_alone xs i j x y alone e k same writes = over (stand_or_same xs i j x y 
     over (inr (inl by)) = absurd (true_false (sym (by back).1 ∙ writes))
     over (inr (inr is)) = sym (found_name j xs y k) ∙ (ap (λ (z : Instance). z.grant.inst) (sym is) ∙ found_name i xs x e)
 
--- what may be released is open, and of the file
-pub record Ended (t : TreeState) (i : Serial) (f : FileId) : Type 0 where
-  pub ended : Instance
-  pub found : instance_in t i ≡ Some ended
-  pub file_is : ended.grant.file ≡ f
-
-ended_by : (h : List Version) (t : TreeState) (i : Serial) (f : FileId) (stamp : Option Stamp) (o : Option Instance) → instance_in t i ≡ o → instance_ends h t f stamp o ≡ true → Ended t i f
-ended_by h t i f stamp None e k = absurd (true_false (sym k))
-ended_by h t i f stamp (Some x) e k = record { ended = x; found = e; file_is = same_file_eq x.grant.file f (first_of (same_file x.grant.file f) _ k) }
-
 -- ---- record by record ----
 
 abbrev known_stamps : FileId → TreeState → List Stamp
@@ -164,7 +154,77 @@ known_if : (f : FileId) (b : Bool) (u t : TreeState) → (b ≡ true → known_s
 known_if f true u t e = e refl
 known_if f false u t e = refl
 
-module _ (c : Config) (before : Trace) (few : PacksAreOfSites c) (rows : RowsAreLawful c before) (e : EpochId) (f : FileId) (i : Serial) (x : Instance) (changing : IsChanging c before e f i x) where
+-- what a release that may come publishes leaves what is known of the file as it is
+abbrev pub PublishesNothing : Config → Trace → EpochId → FileId → Serial → Type 0
+PublishesNothing c before e f i = (d : EpochId) (j : Serial) (g : FileId) (stamp : Option Stamp) → gives_release (history c before) (tree_of c d g.group before) j g stamp ≡ true → PassesBy c before e f i (says.Release d j g stamp)
+    → same_epoch d (tree_of c e f.group before).epoch && (g.group == (tree_of c e f.group before).group) ≡ true → stamps_of (published g stamp (tree_of c e f.group before).known) f.ino ≡ stamps_of (tree_of c e f.group before).known f.ino
+
+-- what may be released in a tree is open in it, and is released with what it committed
+pub record EndsIn (c : Config) (before : Trace) (e : EpochId) (f : FileId) (d : EpochId) (j : Serial) (g : FileId) (stamp : Option Stamp) : Type 0 where
+  pub ended : Instance
+  pub found : instance_in (tree_of c e f.group before) j ≡ Some ended
+  pub file_is : ended.grant.file ≡ g
+  pub group_is : g.group ≡ f.group
+  pub epoch_is : d ≡ e
+  pub made : same_version stamp ended.work.committed ≡ true
+
+pub ends_in : (c : Config) (before : Trace) (e : EpochId) (f : FileId) (d : EpochId) (j : Serial) (g : FileId) (stamp : Option Stamp) → gives_release (history c before) (tree_of c d g.group before) j g stamp ≡ true
+    → same_epoch d (tree_of c e f.group before).epoch && (g.group == (tree_of c e f.group before).group) ≡ true → EndsIn c before e f d j g stamp
+ends_in c before e f d j g stamp gives same = of (instance_in t j) refl (subst (λ (u : TreeState). gives_release (history c before) u j g stamp ≡ true) (tree_is c e d f.group g.group before epoch_is group_is) gives)
+  where
+    t : TreeState
+    t = tree_of c e f.group before
+
+    epoch_is : d ≡ e
+    epoch_is = same_epoch_eq d (tree_of c e f.group before).epoch (first_of (same_epoch d (tree_of c e f.group before).epoch) _ same) ∙ (tree_named c e f.group before).0
+
+    group_is : g.group ≡ f.group
+    group_is = test_same g.group (tree_of c e f.group before).group (second_of (same_epoch d (tree_of c e f.group before).epoch) _ same) ∙ (tree_named c e f.group before).1
+
+    of : (o : Option Instance) → instance_in (tree_of c e f.group before) j ≡ o → instance_ends (history c before) (tree_of c e f.group before) g stamp o ≡ true → EndsIn c before e f d j g stamp
+    of None k h = absurd (true_false (sym h))
+    of (Some w) k h = record {
+      ended = w;
+      found = k;
+      file_is = same_file_eq w.grant.file g (first_of (same_file w.grant.file g) _ h);
+      group_is = group_is;
+      epoch_is = epoch_is;
+      made = first_of (same_version stamp w.work.committed) _ (second_of (same_file w.grant.file g) _ h);
+    }
+
+-- a file that has the group and the inode of another is that one
+pub file_eq : (g f : FileId) → g.group ≡ f.group → g.ino ≡ f.ino → g ≡ f
+file_eq g f a b = (λ q. record { group = a q; ino = b q })
+
+-- beside an open instance that changes the file no other is released
+pub changing_publishes_nothing : (c : Config) (before : Trace) → RowsAreLawful c before → (e : EpochId) (f : FileId) (i : Serial) (x : Instance) → IsChanging c before e f i x → PublishesNothing c before e f i
+changing_publishes_nothing c before rows e f i x changing d j g stamp gives passes same = at (ends_in c before e f d j g stamp gives same) (g.ino == f.ino) refl
+  where
+    at : EndsIn c before e f d j g stamp → (b : Bool) → (g.ino == f.ino) ≡ b → stamps_of (published g stamp (tree_of c e f.group before).known) f.ino ≡ stamps_of (tree_of c e f.group before).known f.ino
+    at w false k = published_same g stamp f.ino (tree_of c e f.group before).known k
+    at w true k = absurd (passes w.epoch_is (changes_alone (tree_of c e f.group before).instances i j x w.ended (rows_apart c before rows e f.group).alone changing.found w.found
+        (changing.file_is ∙ (sym (file_eq g f w.group_is (test_same g.ino f.ino k)) ∙ sym w.file_is)) changing.writes))
+
+-- the record publishes nothing of the file
+abbrev pub PublishesNone : Config → Trace → EpochId → FileId → Record → Type 0
+PublishesNone c before e f (says.Release d j g stamp) = same_epoch d (tree_of c e f.group before).epoch && (g.group == (tree_of c e f.group before).group) ≡ true → stamps_of (published g stamp (tree_of c e f.group before).known) f.ino ≡ stamps_of (tree_of c e f.group before).known f.ino
+PublishesNone c before e f _ = Unit {0}
+
+-- a commit has a stamp that its file has in no older version
+abbrev pub IsNew : Config → Trace → Record → Type 0
+IsNew c before (says.Commit g site stamp parents content) = is_in (history c before) g stamp ≡ false
+IsNew c before _ = Unit {0}
+
+pub passes_new : (c : Config) (before : Trace) (e : EpochId) (f : FileId) (i : Serial) (r : Record) → PassesBy c before e f i r → IsNew c before r
+passes_new c before e f i (says.Commit g site stamp parents content) passes = passes
+passes_new c before e f i r passes = tt
+
+pub passes_none : (c : Config) (before : Trace) (e : EpochId) (f : FileId) (i : Serial) → PublishesNothing c before e f i → (r : Record) → MayCome c before r → PassesBy c before e f i r → PublishesNone c before e f r
+passes_none c before e f i calm (says.Release d j g stamp) may passes = λ same. calm d j g stamp may.gives passes same
+passes_none c before e f i calm r may passes = tt
+
+-- once the group has started what is kept stays, but for what is published
+module _ (c : Config) (before : Trace) (few : PacksAreOfSites c) (rows : RowsAreLawful c before) (e : EpochId) (f : FileId) (started : (tree_of c e f.group before).started ≡ true) where
   abbrev t : TreeState
   t = tree_of c e f.group before
 
@@ -174,25 +234,13 @@ module _ (c : Config) (before : Trace) (few : PacksAreOfSites c) (rows : RowsAre
   named : (t.epoch ≡ e) × (t.group ≡ f.group)
   named = tree_named c e f.group before
 
-  -- the file of a release is another one
-  other_file : (d : EpochId) (j : Serial) (g : FileId) (stamp : Option Stamp) → gives_release h (tree_of c d g.group before) j g stamp ≡ true → (d ≡ e → j ≡ i → ⊥) → same_epoch d t.epoch && (g.group == t.group) ≡ true → (b : Bool) → (g.ino == f.ino) ≡ b → b ≡ false
-  other_file d j g stamp gives passes same false k = refl
-  other_file d j g stamp gives passes same true k =
-      let epoch_is : d ≡ e = same_epoch_eq d t.epoch (first_of (same_epoch d t.epoch) _ same) ∙ named.0 in
-      let group_is : g.group ≡ f.group = test_same g.group t.group (second_of (same_epoch d t.epoch) _ same) ∙ named.1 in
-      let file_is : g ≡ f = (λ q. record { group = group_is q; ino = test_same g.ino f.ino k q }) in
-      let one : tree_of c d g.group before ≡ t = tree_is c e d f.group g.group before epoch_is group_is in
-      let here : gives_release h t j g stamp ≡ true = subst (λ (u : TreeState). gives_release h u j g stamp ≡ true) one gives in
-      let ends : Ended t j g = ended_by h t j g stamp (instance_in t j) refl here in
-      absurd (passes epoch_is (changes_alone t.instances i j x ends.ended (rows_apart c before rows e f.group).alone changing.found ends.found (changing.file_is ∙ (sym file_is ∙ sym ends.file_is)) changing.writes))
-
   -- the versions that the tree knows of the file stay
-  known_same : (r : Record) → MayCome c before r → PassesBy c before e f i r → known_stamps f (next h r t) ≡ known_stamps f t
+  pub known_same : (r : Record) → MayCome c before r → PublishesNone c before e f r → known_stamps f (next h r t) ≡ known_stamps f t
   known_same (says.Join s d m) may passes = over (same_epoch d t.epoch) refl
     where
       brings : same_epoch d t.epoch ≡ true → has_pack t.config t.group s ≡ false
       brings b = subst (λ (k : Config). has_pack k t.group s ≡ false) (sym (tree_config c e f.group before)) (subst (λ (g : ℕ). has_pack c g s ≡ false) (sym named.1)
-          (no_pack_comes c before few rows e f.group s m (open_started c before rows e f.group i x changing.found) (subst (λ (y : EpochId). MayJoin before s y m) (same_epoch_eq d t.epoch b ∙ named.0) may)))
+          (no_pack_comes c before few rows e f.group s m started (subst (λ (y : EpochId). MayJoin before s y m) (same_epoch_eq d t.epoch b ∙ named.0) may)))
 
       over : (b : Bool) → same_epoch d t.epoch ≡ b → known_stamps f (cond b (joined s m t) (left s t)) ≡ known_stamps f t
       over true b = ap (λ (k : Bool). stamps_of (cond k (with_all (filter (λ (y : HeldCopy). y.site == s) (with_root t s)) t.known) t.known) f.ino) (brings b)
@@ -201,20 +249,19 @@ module _ (c : Config) (before : Trace) (few : PacksAreOfSites c) (rows : RowsAre
   known_same (says.Grant d call request j m g stamp ss) may passes = known_if f (same_epoch d t.epoch) (granted h (grant_of t call j m g ss) stamp t) t (λ b. refl)
   known_same (says.Refuse d call request j m g why) may passes = known_if f (same_epoch d t.epoch && ((g.group == t.group) && is_make m)) (record t { makes = without_make call t.makes }) t (λ b. refl)
   known_same (says.Act d j n o result) may passes = known_if f (same_epoch d t.epoch && is_granted_here t j) (acted h j o result t) t (λ b. refl)
-  known_same (says.Release d j g stamp) may passes = known_if f (same_epoch d t.epoch && (g.group == t.group)) (released j g stamp t) t
-      (λ b. published_same g stamp f.ino t.known (other_file d j g stamp may.gives passes b (g.ino == f.ino) refl))
+  known_same (says.Release d j g stamp) may passes = known_if f (same_epoch d t.epoch && (g.group == t.group)) (released j g stamp t) t passes
   known_same r may passes = refl
 
   -- and so do those of them that are kept
-  kept_by : (line : ℕ) (r : Record) → MayCome c before r → PassesBy c before e f i r → kept_in c (record { line = line; what = r } ∷ before) e f ≡ kept_in c before e f
-  kept_by line (says.Commit g site stamp parents content) may passes = kept_same v h f (known_stamps f t) (all_others v h f.group f.ino t.known passes stands)
+  pub kept_by : (line : ℕ) (r : Record) → MayCome c before r → IsNew c before r → PublishesNone c before e f r → kept_in c (record { line = line; what = r } ∷ before) e f ≡ kept_in c before e f
+  kept_by line (says.Commit g site stamp parents content) may new passes = kept_same v h f (known_stamps f t) (all_others v h f.group f.ino t.known new stands)
     where
       v : Version
       v = record { file = g; site = site; stamp = stamp; parents = parents; content = content }
 
       stands : AllByRecursion (KnownStands h f.group) t.known
       stands = subst (λ (k : ℕ). AllByRecursion (KnownStands h k) t.known) named.1 (rows_sound c before rows e f.group).known
-  kept_by line r may passes = ap (λ (ss : List Stamp). kept h f ss) (known_same r may passes)
+  kept_by line r may new passes = ap (λ (ss : List Stamp). kept h f ss) (known_same r may passes)
 
 pub versions_kept : (c : Config) (line : ℕ) (r : Record) (before : Trace) → PacksAreOfSites c → MayCome c before r → RowsAreLawful c before → KeepsVersions c line r before
-versions_kept c line r before few may rows e f i x changing passes = kept_by c before few rows e f i x changing line r may passes
+versions_kept c line r before few may rows e f i x changing passes = kept_by c before few rows e f (open_started c before rows e f.group i x changing.found) line r may (passes_new c before e f i r passes) (passes_none c before e f i (changing_publishes_nothing c before rows e f i x changing) r may passes)

@@ -117,11 +117,11 @@ arms_kept c lines = record {
   begins = λ n w there quiet p. record { courses = kept.begins n w there quiet p.courses; arms = next_arms c lines n w (last_within n w.trace p.courses.course.ascends) there (quiet_none (line_at lines (n + 1)) quiet) p.arms };
   ticks = λ n most s v w is here p. record {
     courses = kept.ticks n most s v w is here p.courses;
-    arms = acts_arms c lines n s (causes_of s v Ticks) v (step c s (links_of w s) v Ticks) w (step_forms (DeedsOf w.trace s) s c (links_of w s) v Ticks (p.courses.good.views s v here) (p.courses.course.places s (Running v) here).2).told (step_disk c s (links_of w s) v Ticks) p.arms;
+    arms = acts_arms c lines n s (causes_of s (links_of w s) v Ticks) v (step c s (links_of w s) v Ticks) w (step_forms (DeedsOf w.trace s) s c (links_of w s) v Ticks (p.courses.good.views s v here) (p.courses.course.places s (Running v) here).2).told (step_disk c s (links_of w s) v Ticks) p.arms;
   };
   receives = λ n l x v w is d here sent p. record {
     courses = kept.receives n l x v w is d here sent p.courses;
-    arms = acts_arms c lines n x.packet.to (causes_of x.packet.to v (Receives x.packet)) v (step c x.packet.to (links_of (passed x.number w) x.packet.to) v (Receives x.packet)) (passed x.number w)
+    arms = acts_arms c lines n x.packet.to (causes_of x.packet.to (links_of w x.packet.to) v (Receives x.packet)) v (step c x.packet.to (links_of (passed x.number w) x.packet.to) v (Receives x.packet)) (passed x.number w)
         (step_forms (DeedsOf w.trace x.packet.to) x.packet.to c (links_of (passed x.number w) x.packet.to) v (Receives x.packet) (p.courses.good.views x.packet.to v here) (p.courses.course.places x.packet.to (Running v) here).2).told
         (step_disk c x.packet.to (links_of (passed x.number w) x.packet.to) v (Receives x.packet)) (same_arms c lines n w (passed x.number w) refl refl p.arms);
   };
@@ -131,7 +131,7 @@ arms_kept c lines = record {
   voiding = λ n l w there is void p. record { courses = kept.voiding n l w there is void p.courses; arms = still_arms c lines (n + 1) [] (Shown says.Void ∷ []) (λ now. now) w refl (tt, tt) (begun_arms c lines n l w there is (void_none w l void) p) };
   steps = λ n s l e v w there is g here p. record {
     courses = kept.steps n s l e v w there is g here p.courses;
-    arms = acts_arms c lines (n + 1) s (causes_of s v e) v (step c s (links_of w s) v e) w (step_forms (DeedsOf w.trace s) s c (links_of w s) v e (p.courses.good.views s v here) (p.courses.course.places s (Running v) here).2).told (step_disk c s (links_of w s) v e) (begun_arms c lines n l w there is (gives_none w l s e g) p);
+    arms = acts_arms c lines (n + 1) s (causes_of s (links_of w s) v e) v (step c s (links_of w s) v e) w (step_forms (DeedsOf w.trace s) s c (links_of w s) v e (p.courses.good.views s v here) (p.courses.course.places s (Running v) here).2).told (step_disk c s (links_of w s) v e) (begun_arms c lines n l w there is (gives_none w l s e g) p);
   };
   cutting = λ n one other w there is cut p. record { courses = kept.cutting n one other w there is cut p.courses; arms = same_arms c lines (n + 1) w _ refl refl (begun_arms c lines n (line.Down one other) w there is tt p) };
   mending = λ n one other w there is cut p. record { courses = kept.mending n one other w there is cut p.courses; arms = same_arms c lines (n + 1) w _ refl refl (begun_arms c lines n (line.Up one other) w there is tt p) };

@@ -1,22 +1,25 @@
 -- In every run each record is placed, and the lines have asked for it.
-use Rattle.std.proofs.Common.{◌≡◌, ◌≤◌, ℕ, zero, suc, ◌+◌, ◌==◌, nat_le, Bool, true, false, cond, ◌&&◌, List, [], ◌∷◌, length, map, Option, Some, None, refl, sym, ◌∙◌, ap, subst, inl, inr, arith}
+use Rattle.std.proofs.Common.{◌≡◌, ◌≤◌, ℕ, zero, suc, ◌+◌, ◌==◌, nat_le, Bool, true, false, cond, ◌||◌, ◌&&◌, not, nat_lt, List, [], ◌∷◌, length, map, filter, Option, Some, None, refl, sym, ◌∙◌, ap, subst, inl, inr, arith}
 use Rattle.std.proofs.lemmas.Bool.Decides.{nat_tests}
+use Rattle.std.specs.List.{list_any}
 use Rattle.std.proofs.lemmas.Bool.{and_from, le-leb}
 use Rattle.locus_ids.specs.declared.ids.EpochId.{EpochId}
 use Rattle.locus_ids.specs.declared.config.Config.{Config}
 use Rattle.schedule_lines.specs.declared.line.Line.{Line as LineWords}
 use Rattle.schedule_lines.specs.declared.line.Line.TheVariants as line
 use Rattle.schedule_lines.specs.declared.line.ScheduleLine.{ScheduleLine}
+use Rattle.schedule_lines.specs.declared.line.ScheduleLine.TheVariants.{Event as EventLine}
 use Rattle.trace_book.specs.declared.record.Record.{Record}
 use Rattle.trace_book.specs.declared.record.Record.TheVariants as says
+use Rattle.role_steps.specs.Own.{Every}
 use Rattle.role_steps.specs.Tables.{row}
-use Rattle.role_steps.specs.Views.{Told, Shown, Promises, Event, Calls, Receives, Ticks, Parts, Merges, GivesUp}
+use Rattle.role_steps.specs.Views.{Told, Shown, Promises, Event, Calls, Receives, Ticks, Parts, Merges, GivesUp, all_sites}
 use Rattle.tree_model.specs.Folds.{Trace, last_line, before_line}
 use Rattle.tree_model.specs.Epochs.{boot_of}
 use Rattle.the_run.specs.Kept.{IsOwn, Kept}
 use Rattle.the_run.specs.Steps.{step}
-use Rattle.the_run.specs.Worlds.{World, Place, Running, Numbered, Line, number_of, links_of, place_in, place_site, passed, fresh, first_place, formatted, first_world}
-use Rattle.the_run.specs.Runs.{packet_record, run_in}
+use Rattle.the_run.specs.Worlds.{World, Place, Running, Numbered, Line, CutCircuit, is_between, is_cut, number_of, links_of, place_in, place_site, passed, fresh, first_place, formatted, first_world}
+use Rattle.the_run.specs.Runs.{packet_record, cuts_circuit, mends_circuit, run_in}
 use Rattle.the_run.proofs.InsideSync.{every_without}
 use Rattle.the_run.proofs.Runs.{some_eq}
 use Rattle.run_laws.specs.Standing.{Standing, nowhere, after_record, after_told, standing, GoesOn, EpochsGoOn}
@@ -28,8 +31,10 @@ use Rattle.lawful_trace.specs.LineRows.{settles}
 use Rattle.row_laws.specs.Shown.{with_told, shown, trace_of, EachRecord}
 use Rattle.row_laws.specs.Events.{PollsOthers, causes_of}
 use Rattle.row_laws.specs.ByLine.{IsLine, Gives, KeptIn}
-use Rattle.row_laws.specs.Rows.{IsPlaced, AskedRecord, IsAskedFor}
-use Rattle.row_laws.specs.Course.{Started, AskedHere, ToldRow, EachTold, Ascends, StandsAs, InCourse}
+use Rattle.row_laws.specs.Rows.{IsPlaced, AskedRecord, IsAskedFor, MemberRecord, IsMemberRow}
+use Rattle.row_laws.specs.Course.{Started, AskedHere, ToldRow, EachTold, Ascends, IsOfSite, StandsAs, InCourse}
+use Rattle.row_laws.specs.Voids.{CutsNoSelf}
+use Rattle.row_laws.proofs.Choosing.{CountsFrom, sixteen}
 use Rattle.row_laws.proofs.StepForms.{step_forms}
 use Rattle.row_laws.proofs.Tracing.{test_own, any_number, promise_started, ascends_later}
 use Rattle.row_laws.proofs.Asked.{acts_course, boot_course, asked_course, world_course, listed_rows, listed_up, listed_boot}
@@ -43,10 +48,10 @@ pub record Courses (lines : List ScheduleLine) (n : ℕ) (w : World) : Type 0 wh
   pub course : InCourse lines n w
 
 next_course : (lines : List ScheduleLine) (n : ℕ) (w : World) → InCourse lines n w → InCourse lines (n + 1) w
-next_course lines n w f = record { ascends = ascends_later n (n + 1) w.trace (omega arith) f.ascends; rows = f.rows; places = f.places; polls = f.polls; underway = f.underway }
+next_course lines n w f = record { ascends = ascends_later n (n + 1) w.trace (omega arith) f.ascends; rows = f.rows; places = f.places; circuits = f.circuits; polls = f.polls; underway = f.underway }
 
 passed_course : (lines : List ScheduleLine) (n k : ℕ) (w : World) → InCourse lines n w → InCourse lines n (passed k w)
-passed_course lines n k w f = record { ascends = f.ascends; rows = f.rows; places = f.places; polls = f.polls; underway = every_without (λ (x : Numbered). PollsOthers x.packet) number_of k w.underway f.underway }
+passed_course lines n k w f = record { ascends = f.ascends; rows = f.rows; places = f.places; circuits = f.circuits; polls = f.polls; underway = every_without (λ (x : Numbered). PollsOthers x.packet) number_of k w.underway f.underway }
 
 pub own_given : (w : World) (l : LineWords) (s : ℕ) (e : Event) → Gives w l s e → IsOwn e
 own_given w l s (Calls process words) g = tt
@@ -81,32 +86,63 @@ one_of lines zero l is = absurd (passed_line l is)
     passed_line l e = cc
 one_of lines (suc n) l is = omega arith
 
+-- ---- circuits ----
+
+test_same : (a b : ℕ) → (a == b) ≡ true → a ≡ b
+test_same a b e = grind (arith, nat_tests)
+
+-- a circuit between two sites is no site's with itself
+between_other : (one other s : ℕ) (x : CutCircuit) → x.one ≡ one → x.other ≡ other → (one ≡ s → other ≡ s → ⊥) → is_between s s x ≡ false
+between_other one other s x e f ne = at_ends x.one x.other (λ g h. ne (sym e ∙ g) (sym f ∙ h))
+  where
+    at_ends : (a b : ℕ) → (a ≡ s → b ≡ s → ⊥) → (((a == s) && (b == s)) || ((a == s) && (b == s))) ≡ false
+    at_ends a b ne = (elim (a == s) as (λ t. (a == s) ≡ t → ((t && (b == s)) || (t && (b == s))) ≡ false) [
+      | true ↦ λ q. (elim (b == s) as (λ t. (b == s) ≡ t → (t || t) ≡ false) [ true ↦ λ r. absurd (ne (test_same a s q) (test_same b s r)) | false ↦ λ r. refl ]) refl
+      | false ↦ λ q. refl
+    ]) refl
+
+cuts_other : (one other s : ℕ) → (one ≡ s → other ≡ s → ⊥) → (w : World) → is_cut w s s ≡ false → is_cut (cuts_circuit one other w) s s ≡ false
+cuts_other one other s ne w h = ap (λ (b : Bool). b || is_cut w s s) (between_other one other s (record { one = one; other = other }) refl refl ne) ∙ h
+
+fewer_any : (p q : CutCircuit → Bool) (xs : List CutCircuit) → list_any p xs ≡ false → list_any p (filter q xs) ≡ false
+fewer_any p q [] h = refl
+fewer_any p q (x ∷ xs) h =
+    let k : (p x ≡ false) × (list_any p xs ≡ false) = both_false (p x) (list_any p xs) h in
+    elim (q x) as (λ b. list_any p (cond b (x ∷ filter q xs) (filter q xs)) ≡ false) [ true ↦ ap (λ (b : Bool). b || list_any p (filter q xs)) k.0 ∙ fewer_any p q xs k.1 | false ↦ fewer_any p q xs k.1 ]
+  where
+    both_false : (a b : Bool) → (a || b) ≡ false → (a ≡ false) × (b ≡ false)
+    both_false true b h = absurd (cc)
+    both_false false b h = (refl, h)
+
+mends_other : (one other s : ℕ) (w : World) → is_cut w s s ≡ false → is_cut (mends_circuit one other w) s s ≡ false
+mends_other one other s w h = fewer_any (is_between s s) (λ x. not (is_between one other x)) w.circuits h
+
 pub courses_kept : (c : Config) (lines : List ScheduleLine) → KeptIn c lines (Courses lines)
 courses_kept c lines = record {
   begins = λ n w there quiet p. record { good = p.good; course = next_course lines n w p.course };
   ticks = λ n most s v w is here p. record {
     good = kept.steps n s Ticks v w here tt p.good;
-    course = acts_course lines n s (causes_of s v Ticks) v (step c s (links_of w s) v Ticks) w (one_of lines n (line.Settle most) is) here (tick_caused lines n n s v w here p.course)
+    course = acts_course lines n s (causes_of s (links_of w s) v Ticks) v (step c s (links_of w s) v Ticks) w (one_of lines n (line.Settle most) is) here (tick_caused lines n n s v w here p.course)
         (step_forms (DeedsOf w.trace s) s c (links_of w s) v Ticks (p.good.views s v here) (p.course.places s (Running v) here).2) p.course;
   };
   receives = λ n l x v w is d here sent p. record {
     good = kept.receives n x v w here sent p.good;
-    course = acts_course lines n x.packet.to (causes_of x.packet.to v (Receives x.packet)) v (step c x.packet.to (links_of (passed x.number w) x.packet.to) v (Receives x.packet)) (passed x.number w) (one_of lines n l is) here
+    course = acts_course lines n x.packet.to (causes_of x.packet.to (links_of w x.packet.to) v (Receives x.packet)) v (step c x.packet.to (links_of (passed x.number w) x.packet.to) v (Receives x.packet)) (passed x.number w) (one_of lines n l is) here
         (receive_caused lines n l x v w is d here sent p.good p.course)
         (step_forms (DeedsOf w.trace x.packet.to) x.packet.to c (links_of (passed x.number w) x.packet.to) v (Receives x.packet) (p.good.views x.packet.to v here) (p.course.places x.packet.to (Running v) here).2) (passed_course lines n x.number w p.course);
   };
   passes = λ n k w p. record { good = kept.passes k w p.good; course = passed_course lines n k w p.course };
-  drops = λ n k w p. record { good = kept.drops k w p.good; course = (let f : InCourse lines n (passed k w) = passed_course lines n k w p.course in record { ascends = f.ascends; rows = f.rows; places = f.places; polls = f.polls; underway = f.underway }) };
+  drops = λ n k w p. record { good = kept.drops k w p.good; course = (let f : InCourse lines n (passed k w) = passed_course lines n k w p.course in record { ascends = f.ascends; rows = f.rows; places = f.places; circuits = f.circuits; polls = f.polls; underway = f.underway }) };
   budgets = λ n most w is p. record { good = kept.budgets n w p.good; course = world_course lines n (Shown says.Budget ∷ []) w (one_of lines n (line.Settle most) is) ((record { round = subst (λ (l : ScheduleLine). settles l ≡ true) (sym is) refl }, tt), tt) (λ t. refl) (λ t. refl) p.course };
   voiding = λ n l w there is void p. record { good = kept.voiding (n + 1) w p.good; course = world_course lines (n + 1) (Shown says.Void ∷ []) w (from_one n) ((tt, tt), tt) (λ t. refl) (λ t. refl) (next_course lines n w p.course) };
   steps = λ n s l e v w there is g here p. record {
     good = kept.steps (n + 1) s e v w here (own_given w l s e g) p.good;
-    course = acts_course lines (n + 1) s (causes_of s v e) v (step c s (links_of w s) v e) w (from_one n) here (line_caused lines n s l e v w is g here p.good p.course)
+    course = acts_course lines (n + 1) s (causes_of s (links_of w s) v e) v (step c s (links_of w s) v e) w (from_one n) here (line_caused lines n s l e v w is g here p.good p.course)
         (step_forms (DeedsOf w.trace s) s c (links_of w s) v e (p.good.views s v here) (p.course.places s (Running v) here).2) (next_course lines n w p.course);
   };
-  cutting = λ n one other w there is cut p. record { good = kept.recuts _ w p.good; course = (let f : InCourse lines (n + 1) w = next_course lines n w p.course in record { ascends = f.ascends; rows = f.rows; places = f.places; polls = f.polls; underway = f.underway }) };
-  mending = λ n one other w there is cut p. record { good = kept.recuts _ w p.good; course = (let f : InCourse lines (n + 1) w = next_course lines n w p.course in record { ascends = f.ascends; rows = f.rows; places = f.places; polls = f.polls; underway = f.underway }) };
-  arming = λ n l a w there is so p. record { good = kept.arming a w p.good; course = (let f : InCourse lines (n + 1) w = next_course lines n w p.course in record { ascends = f.ascends; rows = f.rows; places = f.places; polls = f.polls; underway = f.underway }) };
+  cutting = λ n one other w there is cut p. record { good = kept.recuts _ w p.good; course = (let f : InCourse lines (n + 1) w = next_course lines n w p.course in record { ascends = f.ascends; rows = f.rows; places = f.places; circuits = λ none s. cuts_other one other s (λ e g. none (n + 1) one (is ∙ ap (λ (x : ℕ). EventLine (line.Down one x)) (g ∙ sym e))) w (f.circuits none s); polls = f.polls; underway = f.underway }) };
+  mending = λ n one other w there is cut p. record { good = kept.recuts _ w p.good; course = (let f : InCourse lines (n + 1) w = next_course lines n w p.course in record { ascends = f.ascends; rows = f.rows; places = f.places; circuits = λ none s. mends_other one other s w (f.circuits none s); polls = f.polls; underway = f.underway }) };
+  arming = λ n l a w there is so p. record { good = kept.arming a w p.good; course = (let f : InCourse lines (n + 1) w = next_course lines n w p.course in record { ascends = f.ascends; rows = f.rows; places = f.places; circuits = f.circuits; polls = f.polls; underway = f.underway }) };
   pending = λ n w there is p. record { good = kept.pending (n + 1) w p.good; course = world_course lines (n + 1) (map packet_record w.underway) w (from_one n) (listed_rows lines (n + 1) w.underway w.trace is) (λ t. listed_up (n + 1) t w.underway w.trace) (λ t. listed_boot (n + 1) t w.underway w.trace) (next_course lines n w p.course) };
   stopping = λ n s v w there is here p. record { good = kept.stopping (n + 1) s v w here p.good; course = asked_course lines (n + 1) s v w (from_one n) is here (next_course lines n w p.course) };
   booting = λ n s d w there is here p. record { good = kept.booting (n + 1) s d w here p.good; course = boot_course lines (n + 1) s d w (from_one n) is here (next_course lines n w p.course) };
@@ -120,18 +156,30 @@ courses_kept c lines = record {
 none_place : (p : Place) → ◌≡◌ {A = Option Place} None (Some p) → ⊥
 none_place p e = cc
 
-first_places : (c : Config) (ss : List ℕ) (s : ℕ) (p : Place) → place_in (row place_site s (map (first_place c) ss)) ≡ Some p → StandsAs [] s p
-first_places c [] s p e = absurd (none_place p e)
-first_places c (t ∷ ts) s p e =
-    (elim (t == s) as (λ b. place_in (elim b [ true ↦ Some (first_place c t) | false ↦ row place_site s (map (first_place c) ts) ]) ≡ Some p → StandsAs [] s p) [
-      | true ↦ λ f. subst (StandsAs [] s) (some_eq (Running (fresh 1 (formatted c t))) p f) (refl, refl, record { round = tt; tables = tt })
-      | false ↦ λ f. first_places c ts s p f
-    ]) e
+counted_sites : (n : ℕ) (xs : List ℕ) → CountsFrom n xs → 1 ≤ n → n + length xs ≤ 17 → Every IsOfSite xs
+counted_sites n [] h one top = tt
+counted_sites n (x ∷ xs) h one top =
+    let e : x ≡ n = h.0 in
+    let low : 1 ≤ x = omega (arith, e, one) in
+    let high : x ≤ 16 = omega (arith, e, top) in
+    ((low, high), counted_sites (n + 1) xs h.1 (omega arith) (omega (arith, top)))
+
+every_passed : (P : ℕ → Type 0) (test : ℕ → Bool) (xs : List ℕ) → Every P xs → Every P (filter test xs)
+every_passed P test [] h = tt
+every_passed P test (x ∷ xs) h = elim (test x) as (λ b. Every P (cond b (x ∷ filter test xs) (filter test xs))) [ true ↦ (h.0, every_passed P test xs h.1) | false ↦ every_passed P test xs h.1 ]
+
+first_places : (c : Config) (ss : List ℕ) → Every IsOfSite ss → (s : ℕ) (p : Place) → place_in (row place_site s (map (first_place c) ss)) ≡ Some p → StandsAs [] s p
+first_places c [] h s p e = absurd (none_place p e)
+first_places c (t ∷ ts) h s p e =
+    (elim (t == s) as (λ b. (t == s) ≡ b → place_in (elim b [ true ↦ Some (first_place c t) | false ↦ row place_site s (map (first_place c) ts) ]) ≡ Some p → StandsAs [] s p) [
+      | true ↦ λ same f. subst (StandsAs [] s) (some_eq (Running (fresh 1 (formatted c t))) p f) (refl, refl, record { round = tt; tables = tt }, subst IsOfSite (test_same t s same) h.0)
+      | false ↦ λ same f. first_places c ts h.1 s p f
+    ]) refl e
 
 pub first_courses : (c : Config) (lines : List ScheduleLine) → Courses lines 0 (first_world c)
 first_courses c lines = record {
   good = first_good c;
-  course = record { ascends = tt; rows = tt; places = λ s p e. first_places c _ s p e; polls = tt; underway = tt };
+  course = record { ascends = tt; rows = tt; places = λ s p e. first_places c (filter (λ t. nat_lt t (c.sites + 1)) all_sites) (every_passed IsOfSite (λ t. nat_lt t (c.sites + 1)) all_sites (counted_sites 1 all_sites sixteen (omega arith) (omega arith))) s p e; circuits = λ none s. refl; polls = tt; underway = tt };
 }
 
 pub run_courses : (c : Config) (lines : List ScheduleLine) → Courses lines (length lines) (run_in c lines)
@@ -141,9 +189,6 @@ run_courses c lines = every_line c lines (Courses lines) (courses_kept c lines) 
 
 true_false : true ≡ false → ⊥
 true_false e = cc
-
-test_same : (a b : ℕ) → (a == b) ≡ true → a ≡ b
-test_same a b e = grind (arith, nat_tests)
 
 -- where a site has promised an id last, and hasn't joined it, the trace has the promise
 abbrev Was : ℕ → List Line → Standing → Type 0
@@ -241,3 +286,20 @@ run_placed c lines = let p : Courses lines (length lines) (run_in c lines) = run
 
 pub run_asked : (c : Config) (lines : List ScheduleLine) → EachRecord (IsAskedFor lines) (trace_of (run_in c lines))
 run_asked c lines = let p : Courses lines (length lines) (run_in c lines) = run_courses c lines in each_asked lines (length lines) (run_in c lines).trace p.course.ascends p.course.rows p.good.law
+
+-- ---- lists ----
+
+member_record : (lines : List ScheduleLine) (n : ℕ) (r : Record) (before : Trace) → CutsNoSelf lines → AskedHere lines n before r → MemberRecord before r
+member_record lines n (says.Join s id members) before none h = h none
+member_record lines n _ before none h = tt
+
+each_member : (lines : List ScheduleLine) (trace : List Line) → CutsNoSelf lines → EachTold lines trace → EachRecord IsMemberRow (shown trace)
+each_member lines [] none rows = tt
+each_member lines (x ∷ older) none rows = by_told (each_member lines older none rows.1) x.told rows.0
+  where
+    by_told : EachRecord IsMemberRow (shown older) → (y : Told) → ToldRow lines x.number (shown older) y → EachRecord IsMemberRow (with_told x.number y (shown older))
+    by_told rest (Shown r) row = (member_record lines x.number r (shown older) none row.0, rest)
+    by_told rest _ row = rest
+
+pub run_members : (c : Config) (lines : List ScheduleLine) → CutsNoSelf lines → EachRecord IsMemberRow (trace_of (run_in c lines))
+run_members c lines none = let p : Courses lines (length lines) (run_in c lines) = run_courses c lines in each_member lines (run_in c lines).trace none p.course.rows

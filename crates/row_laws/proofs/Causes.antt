@@ -2,6 +2,7 @@
 use Rattle.std.proofs.Common.{◌≡◌, ◌≢◌, ◌≤◌, ℕ, ◌+◌, ◌==◌, ◌⊎◌, Bool, true, false, cond, ◌||◌, ◌&&◌, not, List, [], ◌∷◌, Option, Some, None, refl, sym, ◌∙◌, ap, subst, inl, inr, arith}
 use Rattle.std.specs.Option.{is_some}
 use Rattle.locus_ids.specs.declared.ids.EpochId.{EpochId}
+use Rattle.locus_ids.specs.declared.sites.Members.{Members}
 use Rattle.schedule_lines.specs.declared.line.Line.{Line as LineWords}
 use Rattle.schedule_lines.specs.declared.line.Line.TheVariants as line
 use Rattle.schedule_lines.specs.declared.line.ScheduleLine.{ScheduleLine}
@@ -13,13 +14,14 @@ use Rattle.trace_book.specs.declared.record.Record.TheVariants as says
 use Rattle.wire_messages.specs.declared.packet.Packet.{Packet}
 use Rattle.wire_messages.specs.declared.body.Body.{Body}
 use Rattle.wire_messages.specs.declared.body.Body.TheVariants as body
-use Rattle.role_steps.specs.Views.{SiteView, Told, Shown, Promises, Event, Calls, Receives, Ticks, Parts, Merges, GivesUp}
+use Rattle.role_steps.specs.Views.{SiteView, Told, Shown, Promises, Event, Calls, Receives, Ticks, Parts, Merges, GivesUp, boot_in}
 use Rattle.role_steps.specs.declared.rounds.InEpoch.{InEpoch}
 use Rattle.role_steps.specs.declared.rounds.Round.{Round}
 use Rattle.tree_model.specs.Folds.{Trace, before_line}
 use Rattle.tree_model.specs.Epochs.{is_up, boot_of, epoch_of}
 use Rattle.the_run.specs.Steps.{epoch_id}
-use Rattle.the_run.specs.Worlds.{World, Running, Numbered, Line, place_at}
+use Rattle.the_run.specs.Worlds.{World, Running, Numbered, Line, place_at, link_of, links_of}
+use Rattle.the_run.specs.Worlds.{boot_of as boot_number}
 use Rattle.the_run.specs.Runs.{is_in_no_epoch}
 use Rattle.the_run.specs.Kept.{WasSent}
 use Rattle.run_laws.specs.Standing.{Standing, nowhere, standing, after_record, after_told}
@@ -29,9 +31,10 @@ use Rattle.lawful_trace.specs.Places.{line_at, starts_at, initiator}
 use Rattle.lawful_trace.specs.SiteRows.{makes_leave}
 use Rattle.lawful_trace.specs.CallRows.{CallLine}
 use Rattle.row_laws.specs.Shown.{with_told, shown, trace_of}
-use Rattle.row_laws.specs.Events.{IsPoll, HasRound, IsOwnId, PollFact, PollsOthers, RoundFact, causes_of}
+use Rattle.row_laws.specs.Events.{IsPoll, HasRound, IsOwnId, ListsItself, PollFact, PollsOthers, RoundFact, causes_of}
 use Rattle.row_laws.specs.ByLine.{IsLine, Gives, Delivers}
-use Rattle.row_laws.specs.Course.{Started, Polled, InCourse, Caused}
+use Rattle.row_laws.specs.Course.{Started, Polled, HasItself, StandsAs, InCourse, Caused}
+use Rattle.row_laws.proofs.Choosing.{boot_there}
 use Rattle.row_laws.proofs.Tracing.{before_all, promise_started, test_own}
 
 -- ---- the epoch of a running site, by its records ----
@@ -137,14 +140,27 @@ earlier a n le ne = omega (arith, le, ne)
 started_early : (lines : List ScheduleLine) (n s boot : ℕ) (l : LineWords) (now : Trace) → IsLine lines n l → Delivers l → (g : Started lines now n s boot) → g.line + 1 ≤ n
 started_early lines n s boot l now is d g = earlier g.line n g.to (λ e. none_some s (sym (starts_none l (before_line now n) d) ∙ (ap (λ (x : ScheduleLine). starts_at x (before_line now n)) (sym is) ∙ (ap (initiator lines now) (sym e) ∙ g.starter))))
 
+-- ---- a join ----
+
+-- a running site reaches itself, unless a line cut it off, and so it is in the list that it joins
+itself : (lines : List ScheduleLine) (n s : ℕ) (v : SiteView) (w : World) → place_at w s ≡ Some (Running v) → InCourse lines n w → (m : Members) → ListsItself s v.boot (links_of w s) m → HasItself lines (trace_of w) s m
+itself lines n s v w here f m lists none = lists stood.3.1 reached ∙ sym stood.1
+  where
+    stood : StandsAs (trace_of w) s (Running v)
+    stood = f.places s (Running v) here
+
+    reached : boot_in (links_of w s).boot s ≡ v.boot
+    reached = boot_there (link_of w s) s stood.3.0 stood.3.1 ∙ (ap (λ (b : Bool). cond b 0 (boot_number (place_at w s))) (f.circuits none s) ∙ ap boot_number here)
+
 -- ---- a packet that comes ----
 
 pub receive_caused : (lines : List ScheduleLine) (n : ℕ) (l : LineWords) (x : Numbered) (v : SiteView) (w : World) → IsLine lines n l → Delivers l → place_at w x.packet.to ≡ Some (Running v) → WasSent w x → Good w → InCourse lines n w →
-    Caused lines n x.packet.to (causes_of x.packet.to v (Receives x.packet)) (trace_of w)
+    Caused lines n x.packet.to (causes_of x.packet.to (links_of w x.packet.to) v (Receives x.packet)) (trace_of w)
 receive_caused lines n l x v w is d here sent good f = record {
   up = (f.places x.packet.to (Running v) here).0;
   leave = λ p. inr (polled p);
   promise = λ id p. promised id p;
+  join = itself lines n x.packet.to v w here f;
   accept = λ process words a. absurd a;
 }
   where
@@ -165,11 +181,12 @@ receive_caused lines n l x v w is d here sent good f = record {
     promised id (inl p) = subst (λ (i : EpochId). Started lines (trace_of w) n i.site i.boot) (sym p.1) (poll_started lines n w x sent p.0 good f)
     promised id (inr p) = round_started lines n x.packet.to v w id v.round refl p.0 p.1 here good f
 
-pub tick_caused : (lines : List ScheduleLine) (n m s : ℕ) (v : SiteView) (w : World) → place_at w s ≡ Some (Running v) → InCourse lines n w → Caused lines m s (causes_of s v Ticks) (trace_of w)
+pub tick_caused : (lines : List ScheduleLine) (n m s : ℕ) (v : SiteView) (w : World) → place_at w s ≡ Some (Running v) → InCourse lines n w → Caused lines m s (causes_of s (links_of w s) v Ticks) (trace_of w)
 tick_caused lines n m s v w here f = record {
   up = (f.places s (Running v) here).0;
   leave = λ p. absurd p;
   promise = λ id p. absurd p;
+  join = itself lines n s v w here f;
   accept = λ process words a. absurd a;
 }
 
@@ -192,11 +209,12 @@ call_line lines n site process (call.Commit fd) is = record { asked = is }
 call_line lines n site process (call.Abort fd) is = record { asked = is }
 call_line lines n site process (call.Close fd) is = record { asked = is }
 
-call_caused : (lines : List ScheduleLine) (n s process : ℕ) (words : Call) (v : SiteView) (w : World) → IsLine lines (n + 1) (line.Call s process words) → place_at w s ≡ Some (Running v) → InCourse lines n w → Caused lines (n + 1) s (causes_of s v (Calls process words)) (trace_of w)
+call_caused : (lines : List ScheduleLine) (n s process : ℕ) (words : Call) (v : SiteView) (w : World) → IsLine lines (n + 1) (line.Call s process words) → place_at w s ≡ Some (Running v) → InCourse lines n w → Caused lines (n + 1) s (causes_of s (links_of w s) v (Calls process words)) (trace_of w)
 call_caused lines n s process words v w is here f = record {
   up = (f.places s (Running v) here).0;
   leave = λ p. absurd p;
   promise = λ id p. absurd p;
+  join = itself lines n s v w here f;
   accept = λ p x a. subst (λ (q : ℕ). CallLine lines (n + 1) s q x) (sym a.0) (subst (λ (y : Call). CallLine lines (n + 1) s process y) (sym a.1) (call_line lines (n + 1) s process words is));
 }
 
@@ -223,33 +241,36 @@ some_epoch : (o : Option InEpoch) → not (is_some o) ≡ false → is_some (epo
 some_epoch None e = absurd (never (sym e))
 some_epoch (Some x) e = refl
 
-part_caused : (lines : List ScheduleLine) (n s : ℕ) (v : SiteView) (w : World) → IsLine lines (n + 1) (line.Part s) → is_in_no_epoch (place_at w s) ≡ false → place_at w s ≡ Some (Running v) → Good w → InCourse lines n w → Caused lines (n + 1) s (causes_of s v Parts) (trace_of w)
+part_caused : (lines : List ScheduleLine) (n s : ℕ) (v : SiteView) (w : World) → IsLine lines (n + 1) (line.Part s) → is_in_no_epoch (place_at w s) ≡ false → place_at w s ≡ Some (Running v) → Good w → InCourse lines n w → Caused lines (n + 1) s (causes_of s (links_of w s) v Parts) (trace_of w)
 part_caused lines n s v w is inside here good f = record {
   up = (f.places s (Running v) here).0;
   leave = λ p. inl (leaves_here lines (n + 1) s (line.Part s) is (test_own s));
   promise = λ id own. line_starts lines n s (line.Part s) v w id is
       (both_here (is_up (trace_of w) s) (is_some (epoch_of (trace_of w) s)) s (f.places s (Running v) here).0 (ap is_some (epoch_here lines n s v w here good f) ∙ some_epoch v.epoch (sym (ap is_in_no_epoch here) ∙ inside))) here f own;
+  join = itself lines n s v w here f;
   accept = λ process words a. absurd a;
 }
 
-merge_caused : (lines : List ScheduleLine) (n s : ℕ) (v : SiteView) (w : World) → IsLine lines (n + 1) (line.Merge s) → place_at w s ≡ Some (Running v) → InCourse lines n w → Caused lines (n + 1) s (causes_of s v Merges) (trace_of w)
+merge_caused : (lines : List ScheduleLine) (n s : ℕ) (v : SiteView) (w : World) → IsLine lines (n + 1) (line.Merge s) → place_at w s ≡ Some (Running v) → InCourse lines n w → Caused lines (n + 1) s (causes_of s (links_of w s) v Merges) (trace_of w)
 merge_caused lines n s v w is here f = record {
   up = (f.places s (Running v) here).0;
   leave = λ p. inl (leaves_here lines (n + 1) s (line.Merge s) is (test_own s));
   promise = λ id own. line_starts lines n s (line.Merge s) v w id is (ap (λ (b : Bool). cond b (Some s) None) (f.places s (Running v) here).0) here f own;
+  join = itself lines n s v w here f;
   accept = λ process words a. absurd a;
 }
 
-give_caused : (lines : List ScheduleLine) (n s : ℕ) (v : SiteView) (w : World) → IsLine lines (n + 1) (line.GiveUp s) → place_at w s ≡ Some (Running v) → InCourse lines n w → Caused lines (n + 1) s (causes_of s v GivesUp) (trace_of w)
+give_caused : (lines : List ScheduleLine) (n s : ℕ) (v : SiteView) (w : World) → IsLine lines (n + 1) (line.GiveUp s) → place_at w s ≡ Some (Running v) → InCourse lines n w → Caused lines (n + 1) s (causes_of s (links_of w s) v GivesUp) (trace_of w)
 give_caused lines n s v w is here f = record {
   up = (f.places s (Running v) here).0;
   leave = λ p. inl (leaves_here lines (n + 1) s (line.GiveUp s) is (test_own s));
   promise = λ id p. absurd p;
+  join = itself lines n s v w here f;
   accept = λ process words a. absurd a;
 }
 
 -- what a line gives is caused by it
-pub line_caused : (lines : List ScheduleLine) (n s : ℕ) (l : LineWords) (e : Event) (v : SiteView) (w : World) → IsLine lines (n + 1) l → Gives w l s e → place_at w s ≡ Some (Running v) → Good w → InCourse lines n w → Caused lines (n + 1) s (causes_of s v e) (trace_of w)
+pub line_caused : (lines : List ScheduleLine) (n s : ℕ) (l : LineWords) (e : Event) (v : SiteView) (w : World) → IsLine lines (n + 1) l → Gives w l s e → place_at w s ≡ Some (Running v) → Good w → InCourse lines n w → Caused lines (n + 1) s (causes_of s (links_of w s) v e) (trace_of w)
 line_caused lines n s (line.Call site process words) (Calls p x) v w is g here good f =
     call_caused lines n s p x v w (subst (λ (y : Call). IsLine lines (n + 1) (line.Call s p y)) g.2 (subst (λ (q : ℕ). IsLine lines (n + 1) (line.Call s q words)) g.1 (subst (λ (t : ℕ). IsLine lines (n + 1) (line.Call t process words)) g.0 is))) here f
 line_caused lines n s (line.Tick site) Ticks v w is g here good f = tick_caused lines n (n + 1) s v w here f

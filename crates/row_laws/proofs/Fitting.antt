@@ -1,14 +1,16 @@
 -- The lines of a schedule are in range for its cluster.
-use Rattle.std.proofs.Common.{◌≡◌, ℕ, zero, suc, Bool, true, false, ◌||◌, ◌&&◌, not, List, [], ◌∷◌, ◌++◌, slice_index_or, refl, sym, ◌∙◌, ap, subst, append_assoc}
+use Rattle.std.proofs.Common.{◌≡◌, ℕ, zero, suc, Bool, true, false, ◌||◌, ◌&&◌, not, List, [], ◌∷◌, ◌++◌, slice_index_or, refl, sym, ◌∙◌, ap, subst, append_assoc, arith}
+use Rattle.std.proofs.lemmas.Bool.Decides.{nat_tests}
 use Rattle.std.proofs.lemmas.List.Sums.{fold-append}
 use Rattle.locus_ids.specs.declared.config.Config.{Config}
 use Rattle.schedule_lines.specs.Cluster.{no_cluster, with_line, config_of, is_whole, may_join}
-use Rattle.schedule_lines.specs.Ranges.{fits_event}
+use Rattle.schedule_lines.specs.Ranges.{are_two_sites, fits_event}
 use Rattle.schedule_lines.specs.Schedule.{is_event, has_begun, MayStand, MayFollow, AreInOrder}
 use Rattle.schedule_lines.specs.declared.line.Line.{Line as LineWords}
+use Rattle.schedule_lines.specs.declared.line.Line.TheVariants as line
 use Rattle.schedule_lines.specs.declared.line.ScheduleLine.{ScheduleLine}
 use Rattle.schedule_lines.specs.declared.line.ScheduleLine.TheVariants.{Passed, Header, Event}
-use Rattle.row_laws.specs.Voids.{LinesFit}
+use Rattle.row_laws.specs.Voids.{LinesFit, CutsNoSelf}
 
 never : false ≡ true → ⊥
 never e = cc
@@ -71,3 +73,10 @@ each_fits earlier (x ∷ later) h (suc k) l e = ap (λ (ls : List ScheduleLine).
 pub schedule_fits : (lines : List ScheduleLine) → AreInOrder lines → LinesFit (config_of lines) lines
 schedule_fits lines h zero l e = absurd (passed_event l e)
 schedule_fits lines h (suc n) l e = each_fits [] lines h n l e
+
+two_sites : (n s : ℕ) → are_two_sites n s s ≡ true → ⊥
+two_sites n s h = grind (arith, nat_tests)
+
+-- a circuit is between two sites
+pub cuts_none : (c : Config) (lines : List ScheduleLine) → LinesFit c lines → CutsNoSelf lines
+cuts_none c lines fit n s is = two_sites c.sites s (fit n (line.Down s s) is)

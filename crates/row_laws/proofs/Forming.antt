@@ -1,6 +1,7 @@
 -- What the handlers that form epochs tell and send, by their causes.
-use Rattle.std.proofs.Common.{◌≡◌, ◌≢◌, ℕ, zero, suc, ◌+◌, ◌==◌, Bool, true, false, cond, ◌&&◌, not, List, [], ◌∷◌, map, filter, get_or, Option, Some, None, refl, sym, ◌∙◌, ap, subst, inl, arith}
+use Rattle.std.proofs.Common.{◌≡◌, ◌≢◌, ◌≤◌, ◌<◌, ℕ, zero, suc, ◌+◌, ◌==◌, Bool, true, false, cond, ◌&&◌, not, List, [], ◌∷◌, map, filter, get_or, Option, Some, None, refl, sym, ◌∙◌, ap, subst, inl, arith}
 use Rattle.std.proofs.lemmas.Bool.Decides.{nat_tests}
+use Rattle.locus_ids.specs.Sites.{has}
 use Rattle.locus_ids.specs.declared.ids.EpochId.{EpochId}
 use Rattle.locus_ids.specs.declared.sites.Sites.{Sites}
 use Rattle.locus_ids.specs.declared.sites.Members.{Members}
@@ -14,19 +15,21 @@ use Rattle.wire_messages.specs.declared.body.Body.{Body}
 use Rattle.wire_messages.specs.declared.body.Body.TheVariants as body
 use Rattle.role_steps.specs.Own.{Every}
 use Rattle.role_steps.specs.Tables.{without_row}
-use Rattle.role_steps.specs.Views.{Frame, SiteView, Told, Shown, Promises, Outcome, quiet, sends, tells, and_then, joined_to, boot_in, all_sites}
+use Rattle.role_steps.specs.Views.{Frame, SiteView, Told, Shown, Promises, Outcome, quiet, sends, tells, and_then, joined_to, boot_in, pack_sites, all_sites, all_groups}
 use Rattle.role_steps.specs.Using.{reply_record}
 use Rattle.role_steps.specs.Reports.{new_table}
 use Rattle.role_steps.specs.Storage.{report_of}
-use Rattle.role_steps.specs.Epochs.{is_epoch_below, frame_in, leaves_of, leaves, promises, promised_view, reached, poll_packet, polled_sites, polls, round_id, begins_round, starts_merge, boots_where, merge_boot, part_boot, starts_part_of, starts_part, promise_packet, refuse_packet, on_poll, counts_promise, with_promise, on_promise_of, on_refuse_of, joined_view, report_packets, all_reports, joins, may_install, is_in, joined_packet, on_install, on_joined, left_boot, passed_over, has_promised, unanswered, chosen_members, chosen_set, others_of, install_packet, installs_all, decides_if, passes_over_of}
+use Rattle.role_steps.specs.Epochs.{is_epoch_below, frame_in, leaves_of, leaves, promises, promised_view, reached, poll_packet, polled_sites, polls, round_id, begins_round, starts_merge, boots_where, merge_boot, part_boot, starts_part_of, starts_part, promise_packet, refuse_packet, on_poll, counts_promise, with_promise, on_promise_of, on_refuse_of, own_groups, is_sync_site, joined_view, report_packets, all_reports, joins, may_install, is_in, joined_packet, on_install, on_joined, left_boot, is_polled, passed_over, has_promised, unanswered, chosen_members, chosen_set, others_of, install_packet, installs_all, decides_if, passes_over_of}
 use Rattle.role_steps.specs.declared.rounds.InEpoch.{InEpoch}
+use Rattle.role_steps.specs.declared.rounds.Promise.{Promise}
 use Rattle.role_steps.specs.declared.rounds.Round.{Round}
 use Rattle.role_steps.specs.declared.users.WaitingCall.{WaitingCall}
 use Rattle.role_steps.proofs.Sending.{every_append, every_cond, every_map, every_flat_map}
 use Rattle.the_run.proofs.Boots.{every_weaker}
 use Rattle.row_laws.specs.Inward.{Inward, InwardPacket, RoleRecord, RoleTold, LooksInward, Indoors}
-use Rattle.row_laws.specs.Events.{IsOwnId, HasRound, Causes, SiteRecord, SiteTold, PollFact, PollsOthers, RoundFact, ViewForms, Forms}
+use Rattle.row_laws.specs.Events.{IsOwnId, HasRound, ListsItself, PromisesRise, Causes, SiteRecord, SiteTold, PollFact, PollsOthers, RoundFact, ViewForms, Forms}
 use Rattle.row_laws.proofs.SyncInward.{no_first, sync_plain}
+use Rattle.row_laws.proofs.Choosing.{decided, row_rises, passed_rise}
 
 -- ---- what roles do ----
 
@@ -131,7 +134,7 @@ round_polls me boot r h = polls_others me boot r.id r.polled (unanswered r) h.0.
 polls_forms : (me boot : ℕ) (k : Causes) (id : EpochId) (polled : Links) (v : SiteView) → IsOwnId me boot id → boot_in polled.boot me ≡ 0 → v.boot ≡ boot → ViewForms me v → Forms me boot k (polls me id polled v)
 polls_forms me boot k id polled v own none here h = record {
   boot_is = here;
-  view = record { round = ((own.0, own.1 ∙ sym here), none); tables = h.tables };
+  view = record { round = ((own.0, own.1 ∙ sym here), none, tt); tables = h.tables };
   told = tt;
   sent = polls_others me v.boot id polled (polled_sites polled) own.0 (others_polled me polled none);
   written = tt;
@@ -215,7 +218,8 @@ pub on_promise_forms : (me boot : ℕ) (k : Causes) (from from_boot : ℕ) (id :
 on_promise_forms me boot k from from_boot id reach None v e here h = quiet_forms me boot k v here h
 on_promise_forms me boot k from from_boot id reach (Some r) v e here h =
     let own : RoundFact me v.boot (Some r) = subst (RoundFact me v.boot) e h.round in
-    goes_on me boot k (cond (counts_promise from from_boot id r) (with_promise from reach r) r) v (either_round me v.boot (counts_promise from from_boot id r) (with_promise from reach r) r own own) here h
+    let more : RoundFact me v.boot (Some (with_promise from reach r)) = (own.0, own.1, row_rises (record { site = from; reach = reach }) 0 r.promises (omega arith) own.2) in
+    goes_on me boot k (cond (counts_promise from from_boot id r) (with_promise from reach r) r) v (either_round me v.boot (counts_promise from from_boot id r) (with_promise from reach r) r more own) here h
 
 pub on_refuse_forms : (me boot : ℕ) (k : Causes) (links : Links) (id theirs : EpochId) (o : Option Round) (v : SiteView) → (HasRound o → IsIn v.epoch → k.leave) → (HasRound o → (i : EpochId) → IsOwnId me boot i → k.promise i) → v.round ≡ o → v.boot ≡ boot → ViewForms me v → Forms me boot k (on_refuse_of me links id theirs o v)
 on_refuse_forms me boot k links id theirs None v l g e here h = quiet_forms me boot k v here h
@@ -230,21 +234,36 @@ on_refuse_forms me boot k links id theirs (Some r) v l g e here h =
 pub reports_inward : (f : Frame) (v : SiteView) → Every InwardPacket (all_reports f v)
 reports_inward f v = every_flat_map InwardPacket (report_packets f v) v.reports (λ g. sync_plain f g (body.Report g (report_of g v.store.copies)) tt)
 
-joins_forms : (me boot : ℕ) (k : Causes) (c : Config) (id : EpochId) (m : Members) (v : SiteView) → v.boot ≡ boot → ViewForms me v → Forms me boot k (joins c me id m v)
-joins_forms me boot k c id m v here h = record {
+-- groups that there may be
+groups_low : (c : Config) (me : ℕ) → Every (λ (g : ℕ). g < 16) (own_groups c me)
+groups_low c me = still_all (λ (g : ℕ). g < 16) (λ g. has (pack_sites c g) me) all_groups (omega arith, (omega arith, (omega arith, (omega arith, tt))))
+
+tables_low : (gs : List ℕ) → Every (λ (g : ℕ). g < 16) gs → Every LooksInward (map new_table gs)
+tables_low [] h = tt
+tables_low (g ∷ gs) h = ((tt, h.0), tables_low gs h.1)
+
+-- the tables of a new epoch
+pub joined_tables : (c : Config) (me : ℕ) (m : Members) → Every LooksInward (map new_table (filter (is_sync_site c me m) (own_groups c me)))
+joined_tables c me m = tables_low (filter (is_sync_site c me m) (own_groups c me)) (still_all (λ (g : ℕ). g < 16) (is_sync_site c me m) (own_groups c me) (groups_low c me))
+
+joins_forms : (me boot : ℕ) (k : Causes) (c : Config) (id : EpochId) (m : Members) (v : SiteView) → k.join m → v.boot ≡ boot → ViewForms me v → Forms me boot k (joins c me id m v)
+joins_forms me boot k c id m v j here h = record {
   boot_is = here;
-  view = record { round = tt; tables = every_map LooksInward new_table _ (λ g. tt) };
-  told = (refl, tt);
+  view = record { round = tt; tables = joined_tables c me m };
+  told = ((refl, j), tt);
   sent = inward_polls (all_reports (frame_in c me v.boot (record { id = id; members = m })) (joined_view c me id m v)) (reports_inward (frame_in c me v.boot (record { id = id; members = m })) (joined_view c me id m v));
   written = tt;
 }
 
-pub on_install_forms : (me boot : ℕ) (k : Causes) (c : Config) (from from_boot : ℕ) (id : EpochId) (m : Members) (v : SiteView) → v.boot ≡ boot → ViewForms me v → Forms me boot k (on_install c me from from_boot id m v)
-on_install_forms me boot k c from from_boot id m v here h =
-    elim (may_install me id m v) as (λ t. Forms me boot k (elim t [ true ↦ and_then (joins c me id m v) (λ now. sends (joined_packet me from from_boot id now) now) | false ↦ sends (cond (is_in id v.epoch) (joined_packet me from from_boot id v) []) v ])) [
-      | true ↦ then_forms me boot k (joins c me id m v) (λ now. sends (joined_packet me from from_boot id now) now) (joins_forms me boot k c id m v here h) (λ b f. sends_forms me boot k (joined_packet me from from_boot id (joins c me id m v).view) (joins c me id m v).view b f (tt, tt))
-      | false ↦ sends_forms me boot k _ v here h (every_cond PollsOthers (is_in id v.epoch) (joined_packet me from from_boot id v) [] (tt, tt) tt)
-    ]
+pub on_install_forms : (me boot : ℕ) (k : Causes) (c : Config) (from from_boot : ℕ) (id : EpochId) (m : Members) (v : SiteView) → (boot_in m.boot me ≡ boot → k.join m) → v.boot ≡ boot → ViewForms me v → Forms me boot k (on_install c me from from_boot id m v)
+on_install_forms me boot k c from from_boot id m v j here h =
+    (elim (may_install me id m v) as (λ t. may_install me id m v ≡ t → Forms me boot k (elim t [ true ↦ and_then (joins c me id m v) (λ now. sends (joined_packet me from from_boot id now) now) | false ↦ sends (cond (is_in id v.epoch) (joined_packet me from from_boot id v) []) v ])) [
+      | true ↦ λ t. then_forms me boot k (joins c me id m v) (λ now. sends (joined_packet me from from_boot id now) now) (joins_forms me boot k c id m v (j (listed v.boot t ∙ here)) here h) (λ b f. sends_forms me boot k (joined_packet me from from_boot id (joins c me id m v).view) (joins c me id m v).view b f (tt, tt))
+      | false ↦ λ t. sends_forms me boot k _ v here h (every_cond PollsOthers (is_in id v.epoch) (joined_packet me from from_boot id v) [] (tt, tt) tt)
+    ]) refl
+  where
+    listed : (boot : ℕ) → (same_epoch id v.promised && (not v.installed && (boot_in m.boot me == boot))) ≡ true → boot_in m.boot me ≡ boot
+    listed boot t = grind (arith, nat_tests)
 
 pub on_joined_forms : (me boot : ℕ) (k : Causes) (from : ℕ) (id : EpochId) (v : SiteView) → v.boot ≡ boot → ViewForms me v → Forms me boot k (on_joined from id v)
 on_joined_forms me boot k from id v here h =
@@ -264,15 +283,26 @@ installs_forms me boot k id m v here h = record {
   written = tt;
 }
 
-decides_if_forms : (me boot : ℕ) (k : Causes) (c : Config) (links : Links) (q : Round) (xs : List ℕ) (v : SiteView) → RoundFact me v.boot (Some q) → v.boot ≡ boot → ViewForms me v → Forms me boot k (decides_if c me links q xs v)
-decides_if_forms me boot k c links q [] v own here h =
+decides_if_forms : (me boot : ℕ) (k : Causes) (c : Config) (links : Links) (q : Round) (xs : List ℕ) (v : SiteView) → k.join (chosen_members me v.boot q (chosen_set me links q)) → RoundFact me v.boot (Some q) → v.boot ≡ boot → ViewForms me v → Forms me boot k (decides_if c me links q xs v)
+decides_if_forms me boot k c links q [] v j own here h =
     let m : Members = chosen_members me v.boot q (chosen_set me links q) in
-    then_forms me boot k (joins c me q.id m v) (installs_all me q.id m) (joins_forms me boot k c q.id m v here h) (λ b f. installs_forms me boot k q.id m (joins c me q.id m v).view b f)
-decides_if_forms me boot k c links q (x ∷ xs) v own here h = goes_on me boot k q v own here h
+    then_forms me boot k (joins c me q.id m v) (installs_all me q.id m) (joins_forms me boot k c q.id m v j here h) (λ b f. installs_forms me boot k q.id m (joins c me q.id m v).view b f)
+decides_if_forms me boot k c links q (x ∷ xs) v j own here h = goes_on me boot k q v own here h
 
-pub passes_over_forms : (me boot : ℕ) (k : Causes) (c : Config) (links : Links) (o : Option Round) (v : SiteView) → v.round ≡ o → v.boot ≡ boot → ViewForms me v → Forms me boot k (passes_over_of c me links o v)
-passes_over_forms me boot k c links None v e here h = quiet_forms me boot k v here h
-passes_over_forms me boot k c links (Some r) v e here h =
+-- the sites of the promises that count were polled
+polled_site : (polled : Links) (p : Promise) → is_polled polled p ≡ true → 1 ≤ p.site
+polled_site polled p e = from_one p.site refl e
+  where
+    from_one : (s : ℕ) → s ≡ p.site → not (boot_in polled.boot s == 0) ≡ true → 1 ≤ s
+    from_one zero same e = absurd (cc)
+    from_one (suc s) same e = omega arith
+
+pub passes_over_forms : (me boot : ℕ) (k : Causes) (c : Config) (links : Links) (o : Option Round) (v : SiteView) → ((m : Members) → ListsItself me boot links m → k.join m) → v.round ≡ o → v.boot ≡ boot → ViewForms me v → Forms me boot k (passes_over_of c me links o v)
+passes_over_forms me boot k c links None v j e here h = quiet_forms me boot k v here h
+passes_over_forms me boot k c links (Some r) v j e here h =
     let own : RoundFact me v.boot (Some r) = subst (RoundFact me v.boot) e h.round in
-    decides_if_forms me boot k c links (passed_over links r) (unanswered (passed_over links r)) v
-    (own.0, none_where (left_boot links r.polled) me (cond_none (boot_in links.boot me == boot_in r.polled.boot me) (boot_in r.polled.boot me) own.1)) here h
+    let q : Round = passed_over links r in
+    let rise : PromisesRise 0 q.promises × PromisesRise 1 q.promises = passed_rise (is_polled q.polled) 0 r.promises (polled_site q.polled) own.2 in
+    decides_if_forms me boot k c links q (unanswered q) v
+    (j (chosen_members me v.boot q (chosen_set me links q)) (subst (λ (b : ℕ). ListsItself me b links (chosen_members me v.boot q (chosen_set me links q))) here (decided me v.boot links q rise.1)))
+    (own.0, none_where (left_boot links r.polled) me (cond_none (boot_in links.boot me == boot_in r.polled.boot me) (boot_in r.polled.boot me) own.1), rise.0) here h

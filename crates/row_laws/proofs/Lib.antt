@@ -1,6 +1,7 @@
 pub mod SyncInward
 pub mod RolesInward
 pub mod SitesInward
+pub mod Choosing
 pub mod Forming
 pub mod StepForms
 pub mod ByLine

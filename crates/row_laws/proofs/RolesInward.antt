@@ -49,90 +49,90 @@ use Rattle.role_steps.specs.declared.users.Asking.TheVariants as asking
 use Rattle.role_steps.specs.declared.users.WaitingCall.{WaitingCall}
 use Rattle.role_steps.specs.declared.users.UserInstance.{UserInstance}
 use Rattle.role_steps.proofs.Sending.{every_cond, every_flat_map}
-use Rattle.row_laws.specs.Inward.{InwardPacket, Inwardly, IsMend}
+use Rattle.row_laws.specs.Inward.{AllServed, InwardPacket, Inwardly, IsMend}
 use Rattle.row_laws.proofs.SyncInward.{sync_plain}
 
 -- ---- opens ----
 
-opens_made_inward : (f : Frame) (r : StoreRequest) (o : Option ℕ) (s : Store) → Inwardly (opens_made f r o s)
-opens_made_inward f r None s = (sync_plain f r.file.group _ tt, tt, tt)
-opens_made_inward f r (Some ino) s = (sync_plain f r.file.group _ tt, (tt, (tt, tt)), tt)
+opens_made_serves : (f : Frame) (r : StoreRequest) (o : Option ℕ) (s : Store) → AllServed (opens_made f r o s)
+opens_made_serves f r None s = (sync_plain f r.file.group _ tt, tt, tt)
+opens_made_serves f r (Some ino) s = (sync_plain f r.file.group _ tt, (tt, (tt, tt)), tt)
 
-opens_inward : (f : Frame) (r : StoreRequest) (m : Mode) (s : Store) → Inwardly (opens f r m s)
-opens_inward f r mode.Make s = opens_made_inward f r (own_ino s r.file.group f.me) s
-opens_inward f r mode.Read s = (sync_plain f r.file.group _ tt, (tt, tt), tt)
-opens_inward f r mode.Write s = (sync_plain f r.file.group _ tt, (tt, tt), tt)
-opens_inward f r mode.Resolve s = (sync_plain f r.file.group _ tt, (tt, tt), tt)
-opens_inward f r mode.Mend s = (sync_plain f r.file.group _ tt, (tt, tt), tt)
+opens_serves : (f : Frame) (r : StoreRequest) (m : Mode) (s : Store) → AllServed (opens f r m s)
+opens_serves f r mode.Make s = opens_made_serves f r (own_ino s r.file.group f.me) s
+opens_serves f r mode.Read s = (sync_plain f r.file.group _ tt, (tt, tt), tt)
+opens_serves f r mode.Write s = (sync_plain f r.file.group _ tt, (tt, tt), tt)
+opens_serves f r mode.Resolve s = (sync_plain f r.file.group _ tt, (tt, tt), tt)
+opens_serves f r mode.Mend s = (sync_plain f r.file.group _ tt, (tt, tt), tt)
 
-on_open_ss_of_inward : (f : Frame) (r : StoreRequest) (o : Option Instance) (s : Store) → Inwardly (on_open_ss_of f r o s)
-on_open_ss_of_inward f r None s = opens_inward f r r.mode s
-on_open_ss_of_inward f r (Some i) s = (every_cond InwardPacket (is_open i.stage) (opened_packets f i) [] (sync_plain f i.file.group _ tt) tt, tt, tt)
+on_open_ss_of_serves : (f : Frame) (r : StoreRequest) (o : Option Instance) (s : Store) → AllServed (on_open_ss_of f r o s)
+on_open_ss_of_serves f r None s = opens_serves f r r.mode s
+on_open_ss_of_serves f r (Some i) s = (every_cond InwardPacket (is_open i.stage) (opened_packets f i) [] (sync_plain f i.file.group _ tt) tt, tt, tt)
 
-pub on_open_ss_inward : (f : Frame) (r : StoreRequest) (s : Store) → Inwardly (on_open_ss f r s)
-on_open_ss_inward f r s = on_open_ss_of_inward f r (instance_of s r.inst) s
+pub on_open_ss_serves : (f : Frame) (r : StoreRequest) (s : Store) → AllServed (on_open_ss f r s)
+on_open_ss_serves f r s = on_open_ss_of_serves f r (instance_of s r.inst) s
 
 -- ---- closes ----
 
-shuts_inward : (f : Frame) (i : Instance) (a : CloseAnswer) (s : Store) → Inwardly (shuts f i a s)
-shuts_inward f i a s = (sync_plain f i.file.group _ tt, (tt, tt), tt)
+shuts_serves : (f : Frame) (i : Instance) (a : CloseAnswer) (s : Store) → AllServed (shuts f i a s)
+shuts_serves f i a s = (sync_plain f i.file.group _ tt, (tt, tt), tt)
 
-shuts_again_inward : (f : Frame) (a : CloseAnswer) (o : Option Instance) (s : Store) → Inwardly (shuts_again f a o s)
-shuts_again_inward f a None s = (tt, tt, tt)
-shuts_again_inward f a (Some i) s = shuts_inward f i a s
+shuts_again_serves : (f : Frame) (a : CloseAnswer) (o : Option Instance) (s : Store) → AllServed (shuts_again f a o s)
+shuts_again_serves f a None s = (tt, tt, tt)
+shuts_again_serves f a (Some i) s = shuts_serves f i a s
 
-closes_owing_inward : (f : Frame) (i : Instance) (s : Store) → Inwardly (closes_owing f i s)
-closes_owing_inward f i s =
+closes_owing_serves : (f : Frame) (i : Instance) (s : Store) → AllServed (closes_owing f i s)
+closes_owing_serves f i s =
     let a : CloseAnswer = closing.Made (next_stamp f (next_vector f i)) in
     let now : Store = (commits f i s).view in
-    let e : Inwardly (shuts_again f a (instance_of now i.inst) now) = shuts_again_inward f a (instance_of now i.inst) now in
-    elim (is_spent f i) as (λ b. Inwardly (elim b [ true ↦ shuts f i (closing.No refusal.Spent) s | false ↦ and_then (commits f i s) (λ now. shuts_again f (closing.Made (next_stamp f (next_vector f i))) (instance_of now i.inst) now) ])) [
-      | true ↦ shuts_inward f i (closing.No refusal.Spent) s
+    let e : AllServed (shuts_again f a (instance_of now i.inst) now) = shuts_again_serves f a (instance_of now i.inst) now in
+    elim (is_spent f i) as (λ b. AllServed (elim b [ true ↦ shuts f i (closing.No refusal.Spent) s | false ↦ and_then (commits f i s) (λ now. shuts_again f (closing.Made (next_stamp f (next_vector f i))) (instance_of now i.inst) now) ])) [
+      | true ↦ shuts_serves f i (closing.No refusal.Spent) s
       | false ↦ (e.0, (tt, e.1), tt)
     ]
 
-closes_inward : (f : Frame) (i : Instance) (s : Store) → Inwardly (closes f i s)
-closes_inward f i s =
-    elim i.work.owes as (λ b. Inwardly (elim b [ true ↦ closes_owing f i s | false ↦ shuts f i closing.Nothing s ])) [
-      | true ↦ closes_owing_inward f i s
-      | false ↦ shuts_inward f i closing.Nothing s
+closes_serves : (f : Frame) (i : Instance) (s : Store) → AllServed (closes f i s)
+closes_serves f i s =
+    elim i.work.owes as (λ b. AllServed (elim b [ true ↦ closes_owing f i s | false ↦ shuts f i closing.Nothing s ])) [
+      | true ↦ closes_owing_serves f i s
+      | false ↦ shuts_serves f i closing.Nothing s
     ]
 
-on_close_at_inward : (f : Frame) (i : Instance) (g : Stage) (s : Store) → Inwardly (on_close_at f i g s)
-on_close_at_inward f i stage.Running s = closes_inward f i s
-on_close_at_inward f i (stage.Closing made a) s = (sync_plain f i.file.group _ tt, tt, tt)
-on_close_at_inward f i (stage.Closed a) s = ((tt, tt), tt, tt)
+on_close_at_serves : (f : Frame) (i : Instance) (g : Stage) (s : Store) → AllServed (on_close_at f i g s)
+on_close_at_serves f i stage.Running s = closes_serves f i s
+on_close_at_serves f i (stage.Closing made a) s = (sync_plain f i.file.group _ tt, tt, tt)
+on_close_at_serves f i (stage.Closed a) s = ((tt, tt), tt, tt)
 
-on_close_of_inward : (f : Frame) (o : Option Instance) (s : Store) → Inwardly (on_close_of f o s)
-on_close_of_inward f None s = (tt, tt, tt)
-on_close_of_inward f (Some i) s = on_close_at_inward f i i.stage s
+on_close_of_serves : (f : Frame) (o : Option Instance) (s : Store) → AllServed (on_close_of f o s)
+on_close_of_serves f None s = (tt, tt, tt)
+on_close_of_serves f (Some i) s = on_close_at_serves f i i.stage s
 
-pub on_close_inward : (f : Frame) (inst : Serial) (s : Store) → Inwardly (on_close f inst s)
-on_close_inward f inst s = on_close_of_inward f (instance_of s inst) s
+pub on_close_serves : (f : Frame) (inst : Serial) (s : Store) → AllServed (on_close f inst s)
+on_close_serves f inst s = on_close_of_serves f (instance_of s inst) s
 
-ends_at_inward : (f : Frame) (i : Instance) (g : Stage) (s : Store) → Inwardly (ends_at f i g s)
-ends_at_inward f i stage.Running s = (tt, tt, tt)
-ends_at_inward f i (stage.Closing made a) s = ((tt, tt), tt, tt)
-ends_at_inward f i (stage.Closed a) s = (tt, tt, tt)
+ends_at_serves : (f : Frame) (i : Instance) (g : Stage) (s : Store) → AllServed (ends_at f i g s)
+ends_at_serves f i stage.Running s = (tt, tt, tt)
+ends_at_serves f i (stage.Closing made a) s = ((tt, tt), tt, tt)
+ends_at_serves f i (stage.Closed a) s = (tt, tt, tt)
 
-on_closed_ok_of_inward : (f : Frame) (o : Option Instance) (s : Store) → Inwardly (on_closed_ok_of f o s)
-on_closed_ok_of_inward f None s = (tt, tt, tt)
-on_closed_ok_of_inward f (Some i) s = ends_at_inward f i i.stage s
+on_closed_ok_of_serves : (f : Frame) (o : Option Instance) (s : Store) → AllServed (on_closed_ok_of f o s)
+on_closed_ok_of_serves f None s = (tt, tt, tt)
+on_closed_ok_of_serves f (Some i) s = ends_at_serves f i i.stage s
 
-pub on_closed_ok_inward : (f : Frame) (inst : Serial) (s : Store) → Inwardly (on_closed_ok f inst s)
-on_closed_ok_inward f inst s = on_closed_ok_of_inward f (instance_of s inst) s
+pub on_closed_ok_serves : (f : Frame) (inst : Serial) (s : Store) → AllServed (on_closed_ok f inst s)
+on_closed_ok_serves f inst s = on_closed_ok_of_serves f (instance_of s inst) s
 
 -- ---- looks and pulls ----
 
-pub on_look_ss_inward : (f : Frame) (us : ℕ) (l : LookRequest) (stamp : Stamp) (s : Store) → Inwardly (on_look_ss f us l stamp s)
-on_look_ss_inward f us l stamp s = ((tt, tt), tt, tt)
+pub on_look_ss_serves : (f : Frame) (us : ℕ) (l : LookRequest) (stamp : Stamp) (s : Store) → AllServed (on_look_ss f us l stamp s)
+on_look_ss_serves f us l stamp s = ((tt, tt), tt, tt)
 
 pulled_page_plain : (f : Frame) (from : ℕ) (file : FileId) (stamp : Stamp) (page : ℕ) (o : Option FileCopy) → Every InwardPacket (pulled_page f from file stamp page o)
 pulled_page_plain f from file stamp page None = tt
 pulled_page_plain f from file stamp page (Some x) = every_cond InwardPacket (has_page stamp page x) _ [] (tt, tt) tt
 
-pub on_pull_inward : (f : Frame) (from : ℕ) (file : FileId) (stamp : Stamp) (page : ℕ) (s : Store) → Inwardly (on_pull f from file stamp page s)
-on_pull_inward f from file stamp page s = (pulled_page_plain f from file stamp page (copy_of s file), tt, tt)
+pub on_pull_serves : (f : Frame) (from : ℕ) (file : FileId) (stamp : Stamp) (page : ℕ) (s : Store) → AllServed (on_pull f from file stamp page s)
+on_pull_serves f from file stamp page s = (pulled_page_plain f from file stamp page (copy_of s file), tt, tt)
 
 closed_again_plain : (f : Frame) (i : Instance) (g : Stage) → Every InwardPacket (closed_again f i g)
 closed_again_plain f i stage.Running = tt
@@ -144,99 +144,99 @@ store_repeats_plain f s = every_flat_map InwardPacket (λ (i : Instance). closed
 
 -- ---- operations ----
 
-executes_effect_inward : (f : Frame) (i : Instance) (o : Op) (e : Option Effect) (s : Store) → Inwardly (executes_effect f i o e s)
-executes_effect_inward f i o None s = (tt, tt, tt)
-executes_effect_inward f i o (Some e) s = ((tt, tt), (tt, tt), tt)
+executes_effect_serves : (f : Frame) (i : Instance) (o : Op) (e : Option Effect) (s : Store) → AllServed (executes_effect f i o e s)
+executes_effect_serves f i o None s = (tt, tt, tt)
+executes_effect_serves f i o (Some e) s = ((tt, tt), (tt, tt), tt)
 
-acts_committed_inward : (f : Frame) (stamp : Stamp) (o : Option Instance) (s : Store) → Inwardly (acts_committed f stamp o s)
-acts_committed_inward f stamp None s = (tt, tt, tt)
-acts_committed_inward f stamp (Some i) s = ((tt, tt), (tt, tt), tt)
+acts_committed_serves : (f : Frame) (stamp : Stamp) (o : Option Instance) (s : Store) → AllServed (acts_committed f stamp o s)
+acts_committed_serves f stamp None s = (tt, tt, tt)
+acts_committed_serves f stamp (Some i) s = ((tt, tt), (tt, tt), tt)
 
-commits_owing_inward : (f : Frame) (i : Instance) (s : Store) → Inwardly (commits_owing f i s)
-commits_owing_inward f i s =
+commits_owing_serves : (f : Frame) (i : Instance) (s : Store) → AllServed (commits_owing f i s)
+commits_owing_serves f i s =
     let stamp : Stamp = next_stamp f (next_vector f i) in
     let now : Store = (commits f i s).view in
-    let e : Inwardly (acts_committed f stamp (instance_of now i.inst) now) = acts_committed_inward f stamp (instance_of now i.inst) now in
-    elim (is_spent f i) as (λ b. Inwardly (elim b [ true ↦ acts f i op.Commit (result.No refusal.Spent) (counted i.work) s | false ↦ and_then (commits f i s) (λ now. acts_committed f (next_stamp f (next_vector f i)) (instance_of now i.inst) now) ])) [
+    let e : AllServed (acts_committed f stamp (instance_of now i.inst) now) = acts_committed_serves f stamp (instance_of now i.inst) now in
+    elim (is_spent f i) as (λ b. AllServed (elim b [ true ↦ acts f i op.Commit (result.No refusal.Spent) (counted i.work) s | false ↦ and_then (commits f i s) (λ now. acts_committed f (next_stamp f (next_vector f i)) (instance_of now i.inst) now) ])) [
       | true ↦ ((tt, tt), (tt, tt), tt)
       | false ↦ (e.0, (tt, e.1), tt)
     ]
 
-last_committed_inward : (f : Frame) (i : Instance) (o : Option Stamp) (s : Store) → Inwardly (last_committed f i o s)
-last_committed_inward f i None s = (tt, tt, tt)
-last_committed_inward f i (Some stamp) s = ((tt, tt), (tt, tt), tt)
+last_committed_serves : (f : Frame) (i : Instance) (o : Option Stamp) (s : Store) → AllServed (last_committed f i o s)
+last_committed_serves f i None s = (tt, tt, tt)
+last_committed_serves f i (Some stamp) s = ((tt, tt), (tt, tt), tt)
 
-commit_op_inward : (f : Frame) (i : Instance) (s : Store) → Inwardly (commit_op f i s)
-commit_op_inward f i s =
-    elim i.work.owes as (λ b. Inwardly (elim b [ true ↦ commits_owing f i s | false ↦ last_committed f i i.work.last s ])) [
-      | true ↦ commits_owing_inward f i s
-      | false ↦ last_committed_inward f i i.work.last s
+commit_op_serves : (f : Frame) (i : Instance) (s : Store) → AllServed (commit_op f i s)
+commit_op_serves f i s =
+    elim i.work.owes as (λ b. AllServed (elim b [ true ↦ commits_owing f i s | false ↦ last_committed f i i.work.last s ])) [
+      | true ↦ commits_owing_serves f i s
+      | false ↦ last_committed_serves f i i.work.last s
     ]
 
-executes_inward : (f : Frame) (m : Mending) (i : Instance) (o : Op) (seen : List ℕ) (s : Store) → Inwardly (executes f m i o seen s)
-executes_inward f m i op.Commit seen s = commit_op_inward f i s
-executes_inward f m i op.Abort seen s = ((tt, tt), (tt, tt), tt)
-executes_inward f m i (op.Probe name) seen s = executes_effect_inward f i (op.Probe name) (effect_of (op.Probe name) seen m i.work.content) s
-executes_inward f m i (op.Find component) seen s = executes_effect_inward f i (op.Find component) (effect_of (op.Find component) seen m i.work.content) s
-executes_inward f m i (op.Insert name ino kind) seen s = executes_effect_inward f i (op.Insert name ino kind) (effect_of (op.Insert name ino kind) seen m i.work.content) s
-executes_inward f m i (op.Remove name ino) seen s = executes_effect_inward f i (op.Remove name ino) (effect_of (op.Remove name ino) seen m i.work.content) s
-executes_inward f m i (op.Rename component name) seen s = executes_effect_inward f i (op.Rename component name) (effect_of (op.Rename component name) seen m i.work.content) s
-executes_inward f m i op.Empty seen s = executes_effect_inward f i op.Empty (effect_of op.Empty seen m i.work.content) s
-executes_inward f m i (op.Read at len) seen s = executes_effect_inward f i (op.Read at len) (effect_of (op.Read at len) seen m i.work.content) s
-executes_inward f m i (op.Write at bytes) seen s = executes_effect_inward f i (op.Write at bytes) (effect_of (op.Write at bytes) seen m i.work.content) s
-executes_inward f m i (op.Cut len) seen s = executes_effect_inward f i (op.Cut len) (effect_of (op.Cut len) seen m i.work.content) s
-executes_inward f m i op.Mend seen s = executes_effect_inward f i op.Mend (effect_of op.Mend seen m i.work.content) s
+executes_serves : (f : Frame) (m : Mending) (i : Instance) (o : Op) (seen : List ℕ) (s : Store) → AllServed (executes f m i o seen s)
+executes_serves f m i op.Commit seen s = commit_op_serves f i s
+executes_serves f m i op.Abort seen s = ((tt, tt), (tt, tt), tt)
+executes_serves f m i (op.Probe name) seen s = executes_effect_serves f i (op.Probe name) (effect_of (op.Probe name) seen m i.work.content) s
+executes_serves f m i (op.Find component) seen s = executes_effect_serves f i (op.Find component) (effect_of (op.Find component) seen m i.work.content) s
+executes_serves f m i (op.Insert name ino kind) seen s = executes_effect_serves f i (op.Insert name ino kind) (effect_of (op.Insert name ino kind) seen m i.work.content) s
+executes_serves f m i (op.Remove name ino) seen s = executes_effect_serves f i (op.Remove name ino) (effect_of (op.Remove name ino) seen m i.work.content) s
+executes_serves f m i (op.Rename component name) seen s = executes_effect_serves f i (op.Rename component name) (effect_of (op.Rename component name) seen m i.work.content) s
+executes_serves f m i op.Empty seen s = executes_effect_serves f i op.Empty (effect_of op.Empty seen m i.work.content) s
+executes_serves f m i (op.Read at len) seen s = executes_effect_serves f i (op.Read at len) (effect_of (op.Read at len) seen m i.work.content) s
+executes_serves f m i (op.Write at bytes) seen s = executes_effect_serves f i (op.Write at bytes) (effect_of (op.Write at bytes) seen m i.work.content) s
+executes_serves f m i (op.Cut len) seen s = executes_effect_serves f i (op.Cut len) (effect_of (op.Cut len) seen m i.work.content) s
+executes_serves f m i op.Mend seen s = executes_effect_serves f i op.Mend (effect_of op.Mend seen m i.work.content) s
 
 op_again_plain : (f : Frame) (i : Instance) (n : ℕ) (o : Option Result) → Every InwardPacket (op_again f i n o)
 op_again_plain f i n None = tt
 op_again_plain f i n (Some r) = (tt, tt)
 
-by_number_inward : (f : Frame) (m : Mending) (i : Instance) (n : ℕ) (o : Op) (seen : List ℕ) (s : Store) → Inwardly (by_number f m i n o seen s)
-by_number_inward f m i n o seen s =
-    elim (n == i.work.ops) as (λ b. Inwardly (elim b [ true ↦ sends (op_again f i n i.answered) s | false ↦ elim (n == i.work.ops + 1) [ true ↦ executes f m i o seen s | false ↦ quiet s ] ])) [
+by_number_serves : (f : Frame) (m : Mending) (i : Instance) (n : ℕ) (o : Op) (seen : List ℕ) (s : Store) → AllServed (by_number f m i n o seen s)
+by_number_serves f m i n o seen s =
+    elim (n == i.work.ops) as (λ b. AllServed (elim b [ true ↦ sends (op_again f i n i.answered) s | false ↦ elim (n == i.work.ops + 1) [ true ↦ executes f m i o seen s | false ↦ quiet s ] ])) [
       | true ↦ (op_again_plain f i n i.answered, tt, tt)
-      | false ↦ elim (n == i.work.ops + 1) as (λ b. Inwardly (elim b [ true ↦ executes f m i o seen s | false ↦ quiet s ])) [
-        | true ↦ executes_inward f m i o seen s
+      | false ↦ elim (n == i.work.ops + 1) as (λ b. AllServed (elim b [ true ↦ executes f m i o seen s | false ↦ quiet s ])) [
+        | true ↦ executes_serves f m i o seen s
         | false ↦ (tt, tt, tt)
       ]
     ]
 
-on_op_at_inward : (f : Frame) (m : Mending) (i : Instance) (g : Stage) (n : ℕ) (o : Op) (seen : List ℕ) (s : Store) → Inwardly (on_op_at f m i g n o seen s)
-on_op_at_inward f m i stage.Running n o seen s = by_number_inward f m i n o seen s
-on_op_at_inward f m i (stage.Closing made a) n o seen s = (tt, tt, tt)
-on_op_at_inward f m i (stage.Closed a) n o seen s = (tt, tt, tt)
+on_op_at_serves : (f : Frame) (m : Mending) (i : Instance) (g : Stage) (n : ℕ) (o : Op) (seen : List ℕ) (s : Store) → AllServed (on_op_at f m i g n o seen s)
+on_op_at_serves f m i stage.Running n o seen s = by_number_serves f m i n o seen s
+on_op_at_serves f m i (stage.Closing made a) n o seen s = (tt, tt, tt)
+on_op_at_serves f m i (stage.Closed a) n o seen s = (tt, tt, tt)
 
-on_op_of_inward : (f : Frame) (m : Mending) (i : Option Instance) (n : ℕ) (o : Op) (seen : List ℕ) (s : Store) → Inwardly (on_op_of f m i n o seen s)
-on_op_of_inward f m None n o seen s = (tt, tt, tt)
-on_op_of_inward f m (Some i) n o seen s = on_op_at_inward f m i i.stage n o seen s
+on_op_of_serves : (f : Frame) (m : Mending) (i : Option Instance) (n : ℕ) (o : Op) (seen : List ℕ) (s : Store) → AllServed (on_op_of f m i n o seen s)
+on_op_of_serves f m None n o seen s = (tt, tt, tt)
+on_op_of_serves f m (Some i) n o seen s = on_op_at_serves f m i i.stage n o seen s
 
-pub on_op_inward : (f : Frame) (m : Mending) (inst : Serial) (n : ℕ) (o : Op) (seen : List ℕ) (s : Store) → Inwardly (on_op f m inst n o seen s)
-on_op_inward f m inst n o seen s = on_op_of_inward f m (instance_of s inst) n o seen s
+pub on_op_serves : (f : Frame) (m : Mending) (inst : Serial) (n : ℕ) (o : Op) (seen : List ℕ) (s : Store) → AllServed (on_op f m inst n o seen s)
+on_op_serves f m inst n o seen s = on_op_of_serves f m (instance_of s inst) n o seen s
 
 -- ---- pulls ----
 
 pull_plain : (f : Frame) (p : Pull) → Every InwardPacket (pull_packets f p)
 pull_plain f p = every_cond InwardPacket (is_complete p) [] _ tt (tt, tt)
 
-begins_pull_inward : (f : Frame) (p : Pull) (ps : List Pull) → Inwardly (begins_pull f p ps)
-begins_pull_inward f p ps =
-    elim (replaces_pull p (pull_of ps p.file)) as (λ b. Inwardly (elim b [ true ↦ pulls_on f p ps | false ↦ quiet ps ])) [ true ↦ (pull_plain f p, tt, tt) | false ↦ (tt, tt, tt) ]
+begins_pull_serves : (f : Frame) (p : Pull) (ps : List Pull) → AllServed (begins_pull f p ps)
+begins_pull_serves f p ps =
+    elim (replaces_pull p (pull_of ps p.file)) as (λ b. AllServed (elim b [ true ↦ pulls_on f p ps | false ↦ quiet ps ])) [ true ↦ (pull_plain f p, tt, tt) | false ↦ (tt, tt, tt) ]
 
-pub on_notify_inward : (f : Frame) (from : ℕ) (o : Option FileCopy) (p : Pull) (ps : List Pull) → Inwardly (on_notify f from o p ps)
-on_notify_inward f from None p ps = begins_pull_inward f p ps
-on_notify_inward f from (Some own) p ps =
-    elim (same_stamp own.stamp p.stamp) as (λ b. Inwardly (elim b [ true ↦ sends (packet f from (body.Have p.file p.stamp) ∷ []) ps | false ↦ elim (is_below own.vector p.vector) [ true ↦ begins_pull f p ps | false ↦ quiet ps ] ])) [
+pub on_notify_serves : (f : Frame) (from : ℕ) (o : Option FileCopy) (p : Pull) (ps : List Pull) → AllServed (on_notify f from o p ps)
+on_notify_serves f from None p ps = begins_pull_serves f p ps
+on_notify_serves f from (Some own) p ps =
+    elim (same_stamp own.stamp p.stamp) as (λ b. AllServed (elim b [ true ↦ sends (packet f from (body.Have p.file p.stamp) ∷ []) ps | false ↦ elim (is_below own.vector p.vector) [ true ↦ begins_pull f p ps | false ↦ quiet ps ] ])) [
       | true ↦ ((tt, tt), tt, tt)
-      | false ↦ elim (is_below own.vector p.vector) as (λ b. Inwardly (elim b [ true ↦ begins_pull f p ps | false ↦ quiet ps ])) [ true ↦ begins_pull_inward f p ps | false ↦ (tt, tt, tt) ]
+      | false ↦ elim (is_below own.vector p.vector) as (λ b. AllServed (elim b [ true ↦ begins_pull f p ps | false ↦ quiet ps ])) [ true ↦ begins_pull_serves f p ps | false ↦ (tt, tt, tt) ]
     ]
 
-on_page_of_inward : (f : Frame) (stamp : Stamp) (page : ℕ) (bytes : List ℕ) (o : Option Pull) (ps : List Pull) → Inwardly (on_page_of f stamp page bytes o ps)
-on_page_of_inward f stamp page bytes None ps = (tt, tt, tt)
-on_page_of_inward f stamp page bytes (Some p) ps =
-    elim (is_awaited p stamp page bytes) as (λ b. Inwardly (elim b [ true ↦ pulls_on f (record p { content = p.content ++ bytes }) ps | false ↦ quiet ps ])) [ true ↦ (pull_plain f (record p { content = p.content ++ bytes }), tt, tt) | false ↦ (tt, tt, tt) ]
+on_page_of_serves : (f : Frame) (stamp : Stamp) (page : ℕ) (bytes : List ℕ) (o : Option Pull) (ps : List Pull) → AllServed (on_page_of f stamp page bytes o ps)
+on_page_of_serves f stamp page bytes None ps = (tt, tt, tt)
+on_page_of_serves f stamp page bytes (Some p) ps =
+    elim (is_awaited p stamp page bytes) as (λ b. AllServed (elim b [ true ↦ pulls_on f (record p { content = p.content ++ bytes }) ps | false ↦ quiet ps ])) [ true ↦ (pull_plain f (record p { content = p.content ++ bytes }), tt, tt) | false ↦ (tt, tt, tt) ]
 
-pub on_page_inward : (f : Frame) (file : FileId) (stamp : Stamp) (page : ℕ) (bytes : List ℕ) (ps : List Pull) → Inwardly (on_page f file stamp page bytes ps)
-on_page_inward f file stamp page bytes ps = on_page_of_inward f stamp page bytes (pull_of ps file) ps
+pub on_page_serves : (f : Frame) (file : FileId) (stamp : Stamp) (page : ℕ) (bytes : List ℕ) (ps : List Pull) → AllServed (on_page f file stamp page bytes ps)
+on_page_serves f file stamp page bytes ps = on_page_of_serves f stamp page bytes (pull_of ps file) ps
 
 pub pull_repeats_plain : (f : Frame) (ps : List Pull) → Every InwardPacket (pull_repeats f ps)
 pull_repeats_plain f ps = every_flat_map InwardPacket (pull_packets f) ps (pull_plain f)

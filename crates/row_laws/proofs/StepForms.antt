@@ -2,6 +2,7 @@
 use Rattle.std.proofs.Common.{◌≡◌, ℕ, true, false, ◌++◌, Option, Some, None, refl, sym, subst, inl, inr}
 use Rattle.std.specs.List.{flat_map}
 use Rattle.locus_ids.specs.declared.sites.Links.{Links}
+use Rattle.locus_ids.specs.declared.sites.Members.{Members}
 use Rattle.locus_ids.specs.declared.config.Config.{Config}
 use Rattle.trace_book.specs.declared.call.Call.{Call}
 use Rattle.wire_messages.specs.declared.packet.Packet.{Packet}
@@ -22,7 +23,7 @@ use Rattle.the_run.proofs.Boots.{every_weaker}
 use Rattle.the_run.proofs.StepSends.{order_sent}
 use Rattle.run_laws.specs.Naming.{Deeds, ViewOk}
 use Rattle.row_laws.specs.Inward.{InwardPacket, RoleTold, LooksInward, Indoors}
-use Rattle.row_laws.specs.Events.{IsPoll, HasRound, Causes, SiteTold, PollsOthers, RoundFact, ViewForms, Forms, causes_of}
+use Rattle.row_laws.specs.Events.{IsPoll, HasRound, ListsItself, Causes, SiteTold, PollsOthers, RoundFact, ViewForms, Forms, causes_of}
 use Rattle.row_laws.proofs.SyncInward.{no_first, sync_repeats_plain}
 use Rattle.row_laws.proofs.RolesInward.{store_repeats_plain, pull_repeats_plain, users_repeats_plain, on_call_rest}
 use Rattle.row_laws.proofs.SitesInward.{adopts_of_indoors, tries_indoors, mends_of_indoors, framed_indoors, quiet_indoors}
@@ -39,17 +40,17 @@ some_round K v (Some x) here h r = (h.waits (h.round_is x here).1).0
 
 -- ---- the end of an event ----
 
-pub ends_forms : (me boot : ℕ) (k : Causes) (c : Config) (links : Links) (v : SiteView) → v.boot ≡ boot → ViewForms me v → Forms me boot k (ends_event c me links v)
-ends_forms me boot k c links v here h =
-    then_forms me boot k (passes_over c me links v) (λ now. starts_mends_of c me now.epoch now) (passes_over_forms me boot k c links v.round v refl here h)
+pub ends_forms : (me boot : ℕ) (k : Causes) (c : Config) (links : Links) (v : SiteView) → ((m : Members) → ListsItself me boot links m → k.join m) → v.boot ≡ boot → ViewForms me v → Forms me boot k (ends_event c me links v)
+ends_forms me boot k c links v j here h =
+    then_forms me boot k (passes_over c me links v) (λ now. starts_mends_of c me now.epoch now) (passes_over_forms me boot k c links v.round v j refl here h)
     (λ b f. let now : SiteView = (passes_over c me links v).view in indoors_forms me boot k now (starts_mends_of c me now.epoch now) (mends_of_indoors c me now.epoch now f.tables) b f)
 
-whole_forms : (me boot : ℕ) (k : Causes) (c : Config) (links : Links) (o : Outcome SiteView) (tries : SiteView → Outcome SiteView) → Forms me boot k o → ((u : SiteView) → Every LooksInward u.tables → Indoors u (tries u)) → Forms me boot k (whole c me links o tries)
-whole_forms me boot k c links o tries h t =
+whole_forms : (me boot : ℕ) (k : Causes) (c : Config) (links : Links) (o : Outcome SiteView) (tries : SiteView → Outcome SiteView) → ((m : Members) → ListsItself me boot links m → k.join m) → Forms me boot k o → ((u : SiteView) → Every LooksInward u.tables → Indoors u (tries u)) → Forms me boot k (whole c me links o tries)
+whole_forms me boot k c links o tries j h t =
     let a : Outcome SiteView = tries o.view in
     let g : Forms me boot k a = indoors_forms me boot k o.view a (t o.view h.view.tables) h.boot_is h.view in
     let last : Outcome SiteView = ends_event c me links a.view in
-    let e : Forms me boot k last = ends_forms me boot k c links a.view g.boot_is g.view in
+    let e : Forms me boot k last = ends_forms me boot k c links a.view j g.boot_is g.view in
     record {
       boot_is = e.boot_is;
       view = e.view;
@@ -81,19 +82,19 @@ repeats_form c me (Some e) v h =
 
 -- ---- a packet ----
 
-takes_forms : (K : Deeds) (me : ℕ) (c : Config) (links : Links) (p : Packet) (x : Body) (v : SiteView) → p.body ≡ x → ViewOk K v → ViewForms me v → Forms me v.boot (causes_of me v (Receives p)) (takes c me links p x v)
-takes_forms K me c links p body.Poll v is ok h = on_poll_forms me v.boot (causes_of me v (Receives p)) links p.from p.from_boot p.epoch v (subst IsPoll (sym is) tt) (inl (subst IsPoll (sym is) tt, refl)) refl h
+takes_forms : (K : Deeds) (me : ℕ) (c : Config) (links : Links) (p : Packet) (x : Body) (v : SiteView) → p.body ≡ x → ViewOk K v → ViewForms me v → Forms me v.boot (causes_of me links v (Receives p)) (takes c me links p x v)
+takes_forms K me c links p body.Poll v is ok h = on_poll_forms me v.boot (causes_of me links v (Receives p)) links p.from p.from_boot p.epoch v (subst IsPoll (sym is) tt) (inl (subst IsPoll (sym is) tt, refl)) refl h
 takes_forms K me c links p (body.Promise reach) v is ok h = on_promise_forms me v.boot _ p.from p.from_boot p.epoch reach v.round v refl refl h
-takes_forms K me c links p (body.Refuse promised) v is ok h = on_refuse_forms me v.boot (causes_of me v (Receives p)) links p.epoch promised v.round v (λ r i. absurd (none_is_in v.epoch (some_round K v v.round refl ok r) i)) (λ r id own. inr (r, own)) refl refl h
-takes_forms K me c links p (body.Install members) v is ok h = on_install_forms me v.boot _ c p.from p.from_boot p.epoch members v refl h
+takes_forms K me c links p (body.Refuse promised) v is ok h = on_refuse_forms me v.boot (causes_of me links v (Receives p)) links p.epoch promised v.round v (λ r i. absurd (none_is_in v.epoch (some_round K v v.round refl ok r) i)) (λ r id own. inr (r, own)) refl refl h
+takes_forms K me c links p (body.Install members) v is ok h = on_install_forms me v.boot (causes_of me links v (Receives p)) c p.from p.from_boot p.epoch members v (λ e high same. e) refl h
 takes_forms K me c links p body.Joined v is ok h = on_joined_forms me v.boot _ p.from p.epoch v refl h
 takes_forms K me c links p _ v is ok h = indoors_forms me v.boot _ v (takes_framed c me p v.epoch v) (framed_indoors c me p v.epoch v h.tables) refl h
 
 -- ---- the step ----
 
-call_forms : (c : Config) (me process : ℕ) (words : Call) (v : SiteView) → ViewForms me v → Forms me v.boot (causes_of me v (Calls process words)) (takes_call c me process words v)
-call_forms c me process words v h =
-    let k : Causes = causes_of me v (Calls process words) in
+call_forms : (c : Config) (me process : ℕ) (links : Links) (words : Call) (v : SiteView) → ViewForms me v → Forms me v.boot (causes_of me links v (Calls process words)) (takes_call c me process words v)
+call_forms c me process links words v h =
+    let k : Causes = causes_of me links v (Calls process words) in
     let rest : _ = on_call_rest (call_frame c me v.boot v.epoch) (epoch_id v.epoch) process words v.users in
     record {
       boot_is = refl;
@@ -107,19 +108,19 @@ call_forms c me process words v h =
     refl_of None = refl
     refl_of (Some e) = refl
 
-pub step_forms : (K : Deeds) (me : ℕ) (c : Config) (links : Links) (v : SiteView) (e : Event) → ViewOk K v → ViewForms me v → Forms me v.boot (causes_of me v e) (step c me links v e)
-step_forms K me c links v (Calls process words) ok h = whole_forms me v.boot _ c links (takes_call c me process words v) quiet (call_forms c me process words v h) quiet_indoors
+pub step_forms : (K : Deeds) (me : ℕ) (c : Config) (links : Links) (v : SiteView) (e : Event) → ViewOk K v → ViewForms me v → Forms me v.boot (causes_of me links v e) (step c me links v e)
+step_forms K me c links v (Calls process words) ok h = whole_forms me v.boot (causes_of me links v (Calls process words)) c links (takes_call c me process words v) quiet (λ m j. j) (call_forms c me process links words v h) quiet_indoors
 step_forms K me c links v (Receives p) ok h =
-    elim (is_dropped p v) as (λ t. Forms me v.boot (causes_of me v (Receives p)) (elim t [ true ↦ quiet v | false ↦ whole c me links (takes c me links p p.body v) (tries_at c me p.body) ])) [
-      | true ↦ quiet_forms me v.boot (causes_of me v (Receives p)) v refl h
-      | false ↦ whole_forms me v.boot _ c links (takes c me links p p.body v) (tries_at c me p.body) (takes_forms K me c links p p.body v refl ok h) (tries_indoors c me p.body)
+    elim (is_dropped p v) as (λ t. Forms me v.boot (causes_of me links v (Receives p)) (elim t [ true ↦ quiet v | false ↦ whole c me links (takes c me links p p.body v) (tries_at c me p.body) ])) [
+      | true ↦ quiet_forms me v.boot (causes_of me links v (Receives p)) v refl h
+      | false ↦ whole_forms me v.boot (causes_of me links v (Receives p)) c links (takes c me links p p.body v) (tries_at c me p.body) (λ m j. j) (takes_forms K me c links p p.body v refl ok h) (tries_indoors c me p.body)
     ]
 step_forms K me c links v Ticks ok h =
-    let k : Causes = causes_of me v Ticks in
+    let k : Causes = causes_of me links v Ticks in
     let a : Outcome SiteView = adopts_in c me v in
     let g : Forms me v.boot k a = indoors_forms me v.boot k v a (adopts_of_indoors c me v.epoch v h.tables) refl h in
     let last : Outcome SiteView = ends_event c me links a.view in
-    let e : Forms me v.boot k last = ends_forms me v.boot k c links a.view g.boot_is g.view in
+    let e : Forms me v.boot k last = ends_forms me v.boot k c links a.view (λ m j. j) g.boot_is g.view in
     record {
       boot_is = e.boot_is;
       view = e.view;
@@ -127,6 +128,6 @@ step_forms K me c links v Ticks ok h =
       sent = every_append PollsOthers a.sent (repeats c me a.view ++ in_order last.sent) g.sent (every_append PollsOthers (repeats c me a.view) (in_order last.sent) (repeats_form c me a.view.epoch a.view g.view) (order_sent PollsOthers last.sent e.sent));
       written = no_first a.written last.written g.written e.written;
     }
-step_forms K me c links v Parts ok h = whole_forms me v.boot _ c links (starts_part me links v) quiet (starts_part_forms me v.boot (causes_of me v Parts) links v (λ i. tt) (λ id own. own) refl h) quiet_indoors
-step_forms K me c links v Merges ok h = whole_forms me v.boot _ c links (starts_merge me links v) quiet (starts_merge_forms me v.boot (causes_of me v Merges) links v (λ i. tt) (λ id own. own) refl h) quiet_indoors
-step_forms K me c links v GivesUp ok h = whole_forms me v.boot _ c links (leaves me v) quiet (leaves_of_forms me v.boot (causes_of me v GivesUp) v.epoch v (λ i. tt) refl h) quiet_indoors
+step_forms K me c links v Parts ok h = whole_forms me v.boot (causes_of me links v Parts) c links (starts_part me links v) quiet (λ m j. j) (starts_part_forms me v.boot (causes_of me links v Parts) links v (λ i. tt) (λ id own. own) refl h) quiet_indoors
+step_forms K me c links v Merges ok h = whole_forms me v.boot (causes_of me links v Merges) c links (starts_merge me links v) quiet (λ m j. j) (starts_merge_forms me v.boot (causes_of me links v Merges) links v (λ i. tt) (λ id own. own) refl h) quiet_indoors
+step_forms K me c links v GivesUp ok h = whole_forms me v.boot (causes_of me links v GivesUp) c links (leaves me v) quiet (λ m j. j) (leaves_of_forms me v.boot (causes_of me links v GivesUp) v.epoch v (λ i. tt) refl h) quiet_indoors

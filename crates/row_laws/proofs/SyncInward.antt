@@ -8,6 +8,8 @@ use Rattle.locus_ids.specs.declared.ids.Serial.{Serial}
 use Rattle.locus_ids.specs.declared.ids.Stamp.{Stamp}
 use Rattle.trace_book.specs.declared.operation.What.{What}
 use Rattle.trace_book.specs.declared.operation.What.TheVariants as what
+use Rattle.trace_book.specs.declared.record.Record.{Record}
+use Rattle.trace_book.specs.declared.record.Record.TheVariants as says
 use Rattle.wire_messages.specs.declared.body.Body.{Body}
 use Rattle.wire_messages.specs.declared.body.Body.TheVariants as body
 use Rattle.wire_messages.specs.declared.body.OpenedAs.{OpenedAs}
@@ -16,7 +18,7 @@ use Rattle.wire_messages.specs.declared.body.MadeVersion.{MadeVersion}
 use Rattle.wire_messages.specs.declared.body.ReportedCopy.{ReportedCopy}
 use Rattle.role_steps.specs.Own.{Every}
 use Rattle.role_steps.specs.Tables.{row}
-use Rattle.role_steps.specs.Views.{Frame, DiskWrite, Outcome, quiet, sends, and_then, first_written, packet, process_key, to_some, to_sync, sync_site}
+use Rattle.role_steps.specs.Views.{Frame, Told, Shown, Promises, DiskWrite, Outcome, quiet, sends, and_then, first_written, packet, process_key, to_some, to_sync, sync_site}
 use Rattle.role_steps.specs.Versions.{holders_of, chosen_site, file_row}
 use Rattle.role_steps.specs.Notices.{lagging, notice, notices_of, notices_by, file_notices, notices, row_notices}
 use Rattle.role_steps.specs.Opens.{OpenRequest, Decision, Denies, Grants, decision, decides, asked_row, granted_row, granted_at_once, granted_at_last, repeats_open, on_open_of, takes_open, open_row, with_open, answers_open, by_stage, on_opened_of, on_opened}
@@ -31,8 +33,9 @@ use Rattle.role_steps.specs.declared.synchronizing.OpenStage.TheVariants as stag
 use Rattle.role_steps.specs.declared.synchronizing.LastLook.{LastLook}
 use Rattle.role_steps.specs.declared.synchronizing.Early.{Early}
 use Rattle.role_steps.proofs.Sending.{every_append, every_cond, every_map, every_flat_map}
+use Rattle.the_run.proofs.Boots.{every_weaker}
 use Rattle.the_run.proofs.InsideSync.{Found, every_row, row_found}
-use Rattle.row_laws.specs.Inward.{Inward, InwardPacket, RoleTold, RoleWrite, LookInward, LooksInward, TableInwardly}
+use Rattle.row_laws.specs.Inward.{Inward, InwardPacket, RoleRecord, RoleTold, RoleWrite, ServedRecord, ServedTold, AllServed, Inwardly, LookInward, LooksInward, TableInwardly}
 
 -- ---- outcomes ----
 
@@ -47,8 +50,33 @@ pub no_first : (a b : Option DiskWrite) → RoleWrite a → RoleWrite b → Role
 no_first None b h g = g
 no_first (Some d) b h g = h
 
+-- ---- what tables and stores tell is what roles may ----
+
+pub served_role : (r : Record) → ServedRecord r → RoleRecord r
+served_role (says.Accept site process id words) h = absurd h
+served_role (says.Answer site process id r) h = absurd h
+served_role (says.Up site boot) h = absurd h
+served_role (says.Stopped site why) h = absurd h
+served_role (says.Leave site id) h = absurd h
+served_role (says.Join site id members) h = absurd h
+served_role (says.Packet number from to kind) h = absurd h
+served_role says.Void h = absurd h
+served_role says.Budget h = absurd h
+served_role _ h = tt
+
+served_one : (x : Told) → ServedTold x → RoleTold x
+served_one (Shown r) h = served_role r h
+served_one (Promises site id reach) h = absurd h
+served_one _ h = tt
+
+pub served_told : (told : List Told) → Every ServedTold told → Every RoleTold told
+served_told told h = every_weaker ServedTold RoleTold told served_one h
+
+pub serves_inward : {V : Type 0} (o : Outcome V) → AllServed o → Inwardly o
+serves_inward o h = (h.0, served_told o.told h.1, h.2)
+
 table_then : (o : Outcome SyncTable) (g : SyncTable → Outcome SyncTable) → TableInwardly o → TableInwardly (g o.view) → TableInwardly (and_then o g)
-table_then o g h k = (every_append InwardPacket o.sent (g o.view).sent h.0 k.0, every_append RoleTold o.told (g o.view).told h.1 k.1, no_first o.written (g o.view).written h.2 k.2, k.3)
+table_then o g h k = (every_append InwardPacket o.sent (g o.view).sent h.0 k.0, every_append ServedTold o.told (g o.view).told h.1 k.1, no_first o.written (g o.view).written h.2 k.2, k.3)
 
 -- ---- notices ----
 
@@ -73,11 +101,11 @@ sync_repeats_plain f t = every_cond InwardPacket t.started (notices f t) [] (not
 
 -- ---- opens ----
 
-once_inward : (f : Frame) (r : OpenRow) (m : Mode) → Every RoleTold (granted_at_once f r m)
+once_inward : (f : Frame) (r : OpenRow) (m : Mode) → Every ServedTold (granted_at_once f r m)
 once_inward f r mode.Make = tt
 once_inward f r _ = (tt, tt)
 
-last_inward : (f : Frame) (r : OpenRow) (m : Mode) → Every RoleTold (granted_at_last f r m)
+last_inward : (f : Frame) (r : OpenRow) (m : Mode) → Every ServedTold (granted_at_last f r m)
 last_inward f r mode.Make = (tt, tt)
 last_inward f r _ = tt
 
@@ -134,7 +162,7 @@ new_look_inward : (f : Frame) (us : ℕ) (l : LookRequest) (known : Option FileR
 new_look_inward f us l known t h =
     let s : Service = service f us l.what known in
     let p : Inward (letter us l known s).body = letter_plain us l known s in
-    ((p, tt), (tt, tt), tt, every_row LookInward look_key (last_look us l (letter us l known s)) t.looks p h)
+    ((p, tt), (tt, tt), tt, (every_row LookInward look_key (last_look us l (letter us l known s)) t.looks p h.0, h.1))
 
 after_last_inward : (f : Frame) (us : ℕ) (l : LookRequest) (o : Option LastLook) (t : SyncTable) → Found LookInward o → LooksInward t → TableInwardly (after_last f us l o t)
 after_last_inward f us l None t k h = new_look_inward f us l (file_row t l.file.ino) t h
@@ -148,7 +176,7 @@ after_last_inward f us l (Some last) t k h =
     ]
 
 takes_look_inward : (f : Frame) (us : ℕ) (l : LookRequest) (t : SyncTable) → LooksInward t → TableInwardly (takes_look f us l t)
-takes_look_inward f us l t h = after_last_inward f us l (row look_key (process_key us l.process) t.looks) t (row_found LookInward look_key (process_key us l.process) t.looks h) h
+takes_look_inward f us l t h = after_last_inward f us l (row look_key (process_key us l.process) t.looks) t (row_found LookInward look_key (process_key us l.process) t.looks h.0) h
 
 -- ---- requests before the start ----
 

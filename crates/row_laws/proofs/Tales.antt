@@ -84,7 +84,7 @@ told_same lines k m x now h ne =
     ∙ told_by_same (is_void_line lines now m) (line_at lines m) m (with_told k x now) now (λ p. many_other p k m x now ne)
 
 -- what a later line tells leaves them
-onto_told : (lines : List ScheduleLine) (k m : ℕ) (told : List Told) (trace : List Line) → m ≤ k → k ≢ m → is_told lines (shown (told_onto k told trace)) m ≡ is_told lines (shown trace) m
+pub onto_told : (lines : List ScheduleLine) (k m : ℕ) (told : List Told) (trace : List Line) → m ≤ k → k ≢ m → is_told lines (shown (told_onto k told trace)) m ≡ is_told lines (shown trace) m
 onto_told lines k m [] trace h ne = refl
 onto_told lines k m (x ∷ xs) trace h ne = onto_told lines k m xs (record { number = k; told = x } ∷ trace) h ne ∙ told_same lines k m x (shown trace) h ne
 
@@ -243,14 +243,20 @@ course_told lines m l told trace is q h t =
 no_limit : (l : Limit) → ◌≡◌ {A = Option Limit} (Some l) None → ⊥
 no_limit l e = cc
 
--- an event, where no limit was passed and none is by it
-pub happened_tales : (lines : List ScheduleLine) (m : ℕ) (ps : List Packet) (told : List Told) (change : World → World) (w : World) → (w.over ≡ None → ToldTo lines m (shown (told_onto m told w.trace))) → TalesTold lines m (happened m ps told change w)
-happened_tales lines m ps told change w h = by_over w.over refl
+-- what holds of the records after an event, where no limit was passed and none is by it
+pub happened_none : (P : Trace → Type 0) (m : ℕ) (ps : List Packet) (told : List Told) (change : World → World) (w : World) → (w.over ≡ None → P (shown (told_onto m told w.trace))) → (happened m ps told change w).over ≡ None → P (trace_of (happened m ps told change w))
+happened_none P m ps told change w h = by_over w.over refl
   where
-    by_limit : (l : Option Limit) (b t : ℕ) → w.over ≡ None → TalesTold lines m (unless_over l m ps told change (w.packets + length ps) b t w)
+    After : World → Type 0
+    After u = u.over ≡ None → P (trace_of u)
+
+    by_limit : (l : Option Limit) (b t : ℕ) → w.over ≡ None → After (unless_over l m ps told change (w.packets + length ps) b t w)
     by_limit (Some l) b t none = λ e. absurd (no_limit l e)
     by_limit None b t none = λ e. h none
 
-    by_over : (o : Option Limit) → w.over ≡ o → TalesTold lines m (happened_of o m ps told change w)
+    by_over : (o : Option Limit) → w.over ≡ o → After (happened_of o m ps told change w)
     by_over (Some l) is = λ e. absurd (no_limit l (sym is ∙ e))
     by_over None is = by_limit (limit_passed (w.packets + length ps) (w.bytes + total packet_size ps) (w.text + total (told_size m) told)) (w.bytes + total packet_size ps) (w.text + total (told_size m) told) is
+
+pub happened_tales : (lines : List ScheduleLine) (m : ℕ) (ps : List Packet) (told : List Told) (change : World → World) (w : World) → (w.over ≡ None → ToldTo lines m (shown (told_onto m told w.trace))) → TalesTold lines m (happened m ps told change w)
+happened_tales lines m ps told change w h = happened_none (ToldTo lines m) m ps told change w h

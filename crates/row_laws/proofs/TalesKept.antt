@@ -37,6 +37,7 @@ use Rattle.row_laws.specs.ByLine.{IsLine, begins_quietly, Gives, Delivers, ArmsA
 use Rattle.row_laws.specs.Course.{InCourse}
 use Rattle.row_laws.specs.Voids.{LinesFit, is_call}
 use Rattle.row_laws.specs.Tales.{LineTold, ToldTo, TalesTold}
+use Rattle.row_laws.proofs.SyncInward.{served_role}
 use Rattle.row_laws.proofs.Forming.{role_told, leaves_of_forms}
 use Rattle.row_laws.proofs.StepForms.{step_forms, ends_forms}
 use Rattle.row_laws.proofs.Tracing.{test_own}
@@ -88,7 +89,7 @@ acts_tales lines m s k v o w h t =
     acts_cases (TalesTold lines m) m s v o w
     (happened_tales lines m o.sent o.told (λ now. puts s (Running o.view) now) w (t o.told all))
     (λ a. happened_tales lines m o.sent o.told (λ now. puts s (Running o.view) (arms a now)) w (t o.told all))
-    (λ d a e. happened_tales lines m [] (cut_told s d a.how a.left) (stops_with s (cut_disk v.boot v.store d a.how a.left)) w (t (cut_told s d a.how a.left) (cut_none d a.how (is_on_disk d a.how a.left) (site_told s k (Shown d.says) (role_told s k (Shown d.says) (subst RoleWrite e h.written))))))
+    (λ d a e. happened_tales lines m [] (cut_told s d a.how a.left) (stops_with s (cut_disk v.boot v.store d a.how a.left)) w (t (cut_told s d a.how a.left) (cut_none d a.how (is_on_disk d a.how a.left) (site_told s k (Shown d.says) (role_told s k (Shown d.says) (served_role d.says (subst RoleWrite e h.written)))))))
   where
     all : Every NoVoid o.told
     all = site_all s k o.told h.told
@@ -117,7 +118,7 @@ not_apart lines n s v w here inside good f =
 -- ---- a line that has its site leave ----
 
 abbrev no_causes : Causes
-no_causes = record { leave = ⊥; promise = λ id. ⊥; accept = λ process words. ⊥ }
+no_causes = record { leave = ⊥; promise = λ id. ⊥; join = λ members. Unit {0}; accept = λ process words. ⊥ }
 
 no_leave_record : (s site : ℕ) (r : Record) → SiteRecord s no_causes r → tale (line.GiveUp site) r ≡ false
 no_leave_record s site (says.Leave t id) h = absurd h.1
@@ -139,7 +140,7 @@ record Leaves (s : ℕ) (o : Outcome SiteView) : Type 0 where
   others : Every (Passes (tale (line.GiveUp s)) false) rest
   none : o.written ≡ None
 
-gives_up : (c : Config) (s : ℕ) (links : Links) (v : SiteView) (o : Option InEpoch) → v.epoch ≡ o → is_some o ≡ true → Forms s v.boot (causes_of s v GivesUp) (leaves_of s o v) → Leaves s (whole c s links (leaves_of s o v) (λ now. record { view = now; sent = []; told = []; written = None }))
+gives_up : (c : Config) (s : ℕ) (links : Links) (v : SiteView) (o : Option InEpoch) → v.epoch ≡ o → is_some o ≡ true → Forms s v.boot (causes_of s links v GivesUp) (leaves_of s o v) → Leaves s (whole c s links (leaves_of s o v) (λ now. record { view = now; sent = []; told = []; written = None }))
 gives_up c s links v None e inside h = absurd (never inside)
 gives_up c s links v (Some x) e inside h =
     let left : SiteView = (leaves_of s (Some x) v).view in
@@ -152,7 +153,7 @@ gives_up c s links v (Some x) e inside h =
       leaves_so = test_own s;
       others = every_append (Passes (tale (line.GiveUp s)) false) (map (λ (w : WaitingCall). reply_record s v.boot w _) v.users.waiting) last.told
           (every_map (Passes (tale (line.GiveUp s)) false) (λ (w : WaitingCall). reply_record s v.boot w _) v.users.waiting (λ w. refl))
-          (every_weaker (SiteTold s no_causes) (Passes (tale (line.GiveUp s)) false) last.told (no_leave s s) (ends_forms s v.boot no_causes c links left h.boot_is h.view).told);
+          (every_weaker (SiteTold s no_causes) (Passes (tale (line.GiveUp s)) false) last.told (no_leave s s) (ends_forms s v.boot no_causes c links left (λ m j. tt) h.boot_is h.view).told);
       none = k.none;
     }
 
@@ -171,18 +172,18 @@ give_tales c lines n s v w is here inside p =
     o = step c s (links_of w s) v GivesUp
 
     g : Leaves s o
-    g = gives_up c s (links_of w s) v v.epoch refl (left_some v.epoch (sym (ap is_in_no_epoch here) ∙ inside)) (leaves_of_forms s v.boot (causes_of s v GivesUp) v.epoch v (λ i. tt) refl (p.voids.courses.course.places s (Running v) here).2)
+    g = gives_up c s (links_of w s) v v.epoch refl (left_some v.epoch (sym (ap is_in_no_epoch here) ∙ inside)) (leaves_of_forms s v.boot (causes_of s (links_of w s) v GivesUp) v.epoch v (λ i. tt) refl (p.voids.courses.course.places s (Running v) here).2)
 
 -- ---- the other lines of sites ----
 
 silent_tales : (c : Config) (lines : List ScheduleLine) (n s : ℕ) (l : LineWords) (e : Event) (v : SiteView) (w : World) → IsLine lines (n + 1) l → has_no_effect (take n lines) (trace_of w) l ≡ Some false → must_tell l ≡ false → place_at w s ≡ Some (Running v) → TalesOf c lines n w → TalesTold lines (n + 1) (acts (n + 1) s v (step c s (links_of w s) v e) w)
 silent_tales c lines n s l e v w is none must here p =
-    acts_tales lines (n + 1) s (causes_of s v e) v (step c s (links_of w s) v e) w (step_forms (DeedsOf w.trace s) s c (links_of w s) v e (p.voids.courses.good.views s v here) (p.voids.courses.course.places s (Running v) here).2)
+    acts_tales lines (n + 1) s (causes_of s (links_of w s) v e) v (step c s (links_of w s) v e) w (step_forms (DeedsOf w.trace s) s c (links_of w s) v e (p.voids.courses.good.views s v here) (p.voids.courses.course.places s (Running v) here).2)
     (λ told h. next_told lines n told w p.tales (λ q. silent_told lines n l told w is p.voids.courses.course none must))
 
 call_tales : (c : Config) (lines : List ScheduleLine) (n s : ℕ) (l : LineWords) (e : Event) (v : SiteView) (w : World) → IsLine lines (n + 1) l → is_call (EventLine l) ≡ true → place_at w s ≡ Some (Running v) → TalesOf c lines n w → TalesTold lines (n + 1) (acts (n + 1) s v (step c s (links_of w s) v e) w)
 call_tales c lines n s l e v w is call here p =
-    acts_tales lines (n + 1) s (causes_of s v e) v (step c s (links_of w s) v e) w (step_forms (DeedsOf w.trace s) s c (links_of w s) v e (p.voids.courses.good.views s v here) (p.voids.courses.course.places s (Running v) here).2)
+    acts_tales lines (n + 1) s (causes_of s (links_of w s) v e) v (step c s (links_of w s) v e) w (step_forms (DeedsOf w.trace s) s c (links_of w s) v e (p.voids.courses.good.views s v here) (p.voids.courses.course.places s (Running v) here).2)
     (λ told h. next_told lines n told w p.tales (λ q. absurd (never (sym q ∙ (ap is_call is ∙ call)))))
 
 step_tales : (c : Config) (lines : List ScheduleLine) (n s : ℕ) (l : LineWords) (e : Event) (v : SiteView) (w : World) → IsLine lines (n + 1) l → Gives w l s e → place_at w s ≡ Some (Running v) → TalesOf c lines n w → TalesTold lines (n + 1) (acts (n + 1) s v (step c s (links_of w s) v e) w)
@@ -251,12 +252,12 @@ tales_kept c lines fit = record {
   begins = λ n w there quiet p. record { voids = kept.begins n w there quiet p.voids; tales = λ none. told_to_next lines n (trace_of w) (p.tales none) (λ q. quiet_told lines n w quiet p.voids.courses.course) };
   ticks = λ n most s v w is here p. record {
     voids = kept.ticks n most s v w is here p.voids;
-    tales = acts_tales lines n s (causes_of s v Ticks) v (step c s (links_of w s) v Ticks) w (step_forms (DeedsOf w.trace s) s c (links_of w s) v Ticks (p.voids.courses.good.views s v here) (p.voids.courses.course.places s (Running v) here).2)
+    tales = acts_tales lines n s (causes_of s (links_of w s) v Ticks) v (step c s (links_of w s) v Ticks) w (step_forms (DeedsOf w.trace s) s c (links_of w s) v Ticks (p.voids.courses.good.views s v here) (p.voids.courses.course.places s (Running v) here).2)
         (λ told h none. course_to lines n (line.Settle most) told w is refl h (line_one lines n (line.Settle most) is) (p.tales none));
   };
   receives = λ n l x v w is d here sent p. record {
     voids = kept.receives n l x v w is d here sent p.voids;
-    tales = acts_tales lines n x.packet.to (causes_of x.packet.to v (Receives x.packet)) v (step c x.packet.to (links_of (passed x.number w) x.packet.to) v (Receives x.packet)) (passed x.number w)
+    tales = acts_tales lines n x.packet.to (causes_of x.packet.to (links_of w x.packet.to) v (Receives x.packet)) v (step c x.packet.to (links_of (passed x.number w) x.packet.to) v (Receives x.packet)) (passed x.number w)
         (step_forms (DeedsOf w.trace x.packet.to) x.packet.to c (links_of (passed x.number w) x.packet.to) v (Receives x.packet) (p.voids.courses.good.views x.packet.to v here) (p.voids.courses.course.places x.packet.to (Running v) here).2)
         (λ told h none. course_to lines n l told w is (delivers_quietly l d) h (line_one lines n l is) (p.tales none));
   };

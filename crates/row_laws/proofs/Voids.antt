@@ -35,6 +35,7 @@ use Rattle.row_laws.specs.Events.{Causes, SiteRecord, SiteTold, Forms, causes_of
 use Rattle.row_laws.specs.ByLine.{IsLine, begins_quietly, cannot_boot, IsVoidIn, Gives, ArmsAs, KeptIn}
 use Rattle.row_laws.specs.Course.{StandsAs, InCourse}
 use Rattle.row_laws.specs.Voids.{LinesFit, is_call, VoidRecord, IsVoidRow, HasPlaces, CircuitsAs, VoidsInCourse}
+use Rattle.row_laws.proofs.SyncInward.{served_role}
 use Rattle.row_laws.proofs.Forming.{role_told}
 use Rattle.row_laws.proofs.StepForms.{step_forms}
 use Rattle.row_laws.proofs.Tracing.{before_all}
@@ -165,7 +166,7 @@ acts_quiet lines m s k v o w h q =
     acts_cases (Quiet lines m) m s v o w
     (happened_quiet lines m o.sent o.told (λ now. puts s (Running o.view) now) w refl (site_all s k o.told h.told) q)
     (λ a. happened_quiet lines m o.sent o.told (λ now. puts s (Running o.view) (arms a now)) w refl (site_all s k o.told h.told) q)
-    (λ d a e. cut_quiet lines m s k d.says (cause_of a.how) (is_on_disk d a.how a.left) (stops_with s _) w refl (role_told s k (Shown d.says) (subst RoleWrite e h.written)) q)
+    (λ d a e. cut_quiet lines m s k d.says (cause_of a.how) (is_on_disk d a.how a.left) (stops_with s _) w refl (role_told s k (Shown d.says) (served_role d.says (subst RoleWrite e h.written))) q)
 
 boots_quiet : (lines : List ScheduleLine) (m s : ℕ) (b : Booted) (w : World) → Quiet lines m w → Quiet lines m (boots_as m s b w)
 boots_quiet lines m s (Whole d None) w q = happened_quiet lines m [] _ _ w refl (tt, tt) q
@@ -235,11 +236,11 @@ voids_kept c lines fit = record {
   begins = λ n w there quiet p. record { courses = kept.begins n w there quiet p.courses; voids = with_quiet c lines (n + 1) w p.voids.places (next_quiet c lines n w there (begins_none (line_at lines (n + 1)) quiet) p.voids) };
   ticks = λ n most s v w is here p. record {
     courses = kept.ticks n most s v w is here p.courses;
-    voids = with_quiet c lines n _ (has.steps n s Ticks v w here tt p.voids.places) (acts_quiet lines n s (causes_of s v Ticks) v (step c s (links_of w s) v Ticks) w (step_forms (DeedsOf w.trace s) s c (links_of w s) v Ticks (p.courses.good.views s v here) (p.courses.course.places s (Running v) here).2) (quiet_of c lines n w p.voids));
+    voids = with_quiet c lines n _ (has.steps n s Ticks v w here tt p.voids.places) (acts_quiet lines n s (causes_of s (links_of w s) v Ticks) v (step c s (links_of w s) v Ticks) w (step_forms (DeedsOf w.trace s) s c (links_of w s) v Ticks (p.courses.good.views s v here) (p.courses.course.places s (Running v) here).2) (quiet_of c lines n w p.voids));
   };
   receives = λ n l x v w is d here sent p. record {
     courses = kept.receives n l x v w is d here sent p.courses;
-    voids = with_quiet c lines n _ (has.receives n x v w here sent p.voids.places) (acts_quiet lines n x.packet.to (causes_of x.packet.to v (Receives x.packet)) v (step c x.packet.to (links_of (passed x.number w) x.packet.to) v (Receives x.packet)) (passed x.number w)
+    voids = with_quiet c lines n _ (has.receives n x v w here sent p.voids.places) (acts_quiet lines n x.packet.to (causes_of x.packet.to (links_of w x.packet.to) v (Receives x.packet)) v (step c x.packet.to (links_of (passed x.number w) x.packet.to) v (Receives x.packet)) (passed x.number w)
         (step_forms (DeedsOf w.trace x.packet.to) x.packet.to c (links_of (passed x.number w) x.packet.to) v (Receives x.packet) (p.courses.good.views x.packet.to v here) (p.courses.course.places x.packet.to (Running v) here).2) (record { circuits = p.voids.circuits; rows = p.voids.rows }));
   };
   passes = λ n k w p. record { courses = kept.passes n k w p.courses; voids = record { places = p.voids.places; circuits = p.voids.circuits; rows = p.voids.rows } };
@@ -249,7 +250,7 @@ voids_kept c lines fit = record {
   steps = λ n s l e v w there is g here p. record {
     courses = kept.steps n s l e v w there is g here p.courses;
     voids = with_quiet c lines (n + 1) _ (has.steps (n + 1) s e v w here (own_given w l s e g) p.voids.places)
-        (acts_quiet lines (n + 1) s (causes_of s v e) v (step c s (links_of w s) v e) w (step_forms (DeedsOf w.trace s) s c (links_of w s) v e (p.courses.good.views s v here) (p.courses.course.places s (Running v) here).2) (next_quiet c lines n w there (subst NoCircuit (sym is) (gives_none w l s e g)) p.voids));
+        (acts_quiet lines (n + 1) s (causes_of s (links_of w s) v e) v (step c s (links_of w s) v e) w (step_forms (DeedsOf w.trace s) s c (links_of w s) v e (p.courses.good.views s v here) (p.courses.course.places s (Running v) here).2) (next_quiet c lines n w there (subst NoCircuit (sym is) (gives_none w l s e g)) p.voids));
   };
   cutting = λ n one other w there is cut p. record { courses = kept.cutting n one other w there is cut p.courses; voids = record { places = p.voids.places; circuits = down_cut lines n one other w there is p.voids.circuits; rows = p.voids.rows } };
   mending = λ n one other w there is cut p. record { courses = kept.mending n one other w there is cut p.courses; voids = record { places = p.voids.places; circuits = up_cut lines n one other w there is p.voids.circuits; rows = p.voids.rows } };

@@ -1,6 +1,7 @@
 -- What each record of a run meets as it is told, and how the sites stand by the records so far.
 use Rattle.std.specs.Prelude.{ℕ, ◌≡◌, ◌≤◌, ◌≢◌, ◌+◌, ◌⊎◌, true, false, List, [], ◌∷◌, Some}
 use Rattle.locus_ids.specs.declared.ids.EpochId.{EpochId}
+use Rattle.locus_ids.specs.declared.sites.Members.{Members}
 use Rattle.trace_book.specs.declared.call.Call.{Call}
 use Rattle.trace_book.specs.declared.record.Record.{Record}
 use Rattle.trace_book.specs.declared.record.Record.TheVariants as says
@@ -9,13 +10,15 @@ use Rattle.role_steps.specs.Own.{Every}
 use Rattle.role_steps.specs.Views.{Told, Shown, Promises}
 use Rattle.tree_model.specs.Folds.{Trace, before_line}
 use Rattle.tree_model.specs.Epochs.{is_up, boot_of}
-use Rattle.the_run.specs.Worlds.{World, Place, Running, Stopped, Numbered, Line, place_at}
+use Rattle.tree_model.specs.Packs.{boot_in}
+use Rattle.the_run.specs.Worlds.{World, Place, Running, Stopped, Numbered, Line, place_at, is_cut}
 use Rattle.lawful_trace.specs.Places.{line_at, initiator}
 use Rattle.lawful_trace.specs.SiteRows.{MayBoot, StopRow, makes_leave}
 use Rattle.lawful_trace.specs.CallRows.{CallLine}
 use Rattle.row_laws.specs.Shown.{shown, trace_of}
 use Rattle.row_laws.specs.Events.{Causes, PollsOthers, ViewForms}
 use Rattle.row_laws.specs.Rows.{AskedRecord}
+use Rattle.row_laws.specs.Voids.{CutsNoSelf}
 
 -- the site started a protocol by a line up to this number, in this boot
 pub record Started (lines : List ScheduleLine) (now : Trace) (n site boot : ℕ) : Type 0 where
@@ -36,9 +39,13 @@ pub record Polled (lines : List ScheduleLine) (now : Trace) (n site : ℕ) : Typ
 
 -- ---- records ----
 
+-- the list has the site with its boot, unless sites were cut off from themselves
+abbrev pub HasItself : List ScheduleLine → Trace → ℕ → Members → Type 0
+HasItself lines before site members = CutsNoSelf lines → boot_in members site ≡ boot_of before site
+
 -- as asked for, apart from a join, whose cause is its promise
 abbrev pub AskedHere : List ScheduleLine → ℕ → Trace → Record → Type 0
-AskedHere lines n before (says.Join site epoch members) = Unit {0}
+AskedHere lines n before (says.Join site epoch members) = HasItself lines before site members
 AskedHere lines n before r = AskedRecord lines n before r
 
 -- a stopped site boots; a running one stops, leaves and joins
@@ -66,10 +73,14 @@ Ascends n (x ∷ older) = (1 ≤ x.number) × (x.number ≤ n) × Ascends x.numb
 
 -- ---- sites ----
 
+-- a number that may be a site's
+abbrev pub IsOfSite : ℕ → Type 0
+IsOfSite s = (1 ≤ s) × (s ≤ 16)
+
 -- a site stands as the records say
 abbrev pub StandsAs : Trace → ℕ → Place → Type 0
-StandsAs now s (Running v) = (is_up now s ≡ true) × (boot_of now s ≡ v.boot) × ViewForms s v
-StandsAs now s (Stopped d) = (is_up now s ≡ false) × (boot_of now s ≤ d.label.boot)
+StandsAs now s (Running v) = (is_up now s ≡ true) × (boot_of now s ≡ v.boot) × ViewForms s v × IsOfSite s
+StandsAs now s (Stopped d) = (is_up now s ≡ false) × (boot_of now s ≤ d.label.boot) × IsOfSite s
 
 -- ---- the world, where the line with this number is the last one that has begun ----
 
@@ -77,6 +88,7 @@ pub record InCourse (lines : List ScheduleLine) (n : ℕ) (w : World) : Type 0 w
   pub ascends : Ascends n w.trace
   pub rows : EachTold lines w.trace
   pub places : (s : ℕ) (p : Place) → place_at w s ≡ Some p → StandsAs (trace_of w) s p
+  pub circuits : CutsNoSelf lines → (s : ℕ) → is_cut w s s ≡ false
   pub polls : Every (λ (x : Numbered). PollsOthers x.packet) w.sent
   pub underway : Every (λ (x : Numbered). PollsOthers x.packet) w.underway
 
@@ -86,4 +98,5 @@ pub record Caused (lines : List ScheduleLine) (n s : ℕ) (k : Causes) (now : Tr
   pub up : is_up now s ≡ true
   pub leave : k.leave → (makes_leave (line_at lines n) s ≡ true) ⊎ Polled lines now n s
   pub promise : (id : EpochId) → k.promise id → Started lines now n id.site id.boot
+  pub join : (members : Members) → k.join members → HasItself lines now s members
   pub accept : (process : ℕ) (words : Call) → k.accept process words → CallLine lines n s process words

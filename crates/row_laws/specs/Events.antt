@@ -1,6 +1,8 @@
 -- What an event of a site may tell and send of epochs and calls, by the event.
-use Rattle.std.specs.Prelude.{ℕ, ◌≡◌, ◌≢◌, ◌⊎◌, Option, Some, None}
+use Rattle.std.specs.Prelude.{ℕ, ◌≡◌, ◌≢◌, ◌≤◌, ◌+◌, ◌⊎◌, List, [], ◌∷◌, Option, Some, None}
 use Rattle.locus_ids.specs.declared.ids.EpochId.{EpochId}
+use Rattle.locus_ids.specs.declared.sites.Links.{Links}
+use Rattle.locus_ids.specs.declared.sites.Members.{Members}
 use Rattle.trace_book.specs.declared.call.Call.{Call}
 use Rattle.trace_book.specs.declared.record.Record.{Record}
 use Rattle.trace_book.specs.declared.record.Record.TheVariants as says
@@ -9,6 +11,7 @@ use Rattle.wire_messages.specs.declared.body.Body.{Body}
 use Rattle.wire_messages.specs.declared.body.Body.TheVariants.{Poll}
 use Rattle.role_steps.specs.Own.{Every}
 use Rattle.role_steps.specs.Views.{SiteView, Told, Shown, Promises, Outcome, Event, Calls, Receives, Parts, Merges, GivesUp, boot_in}
+use Rattle.role_steps.specs.declared.rounds.Promise.{Promise}
 use Rattle.role_steps.specs.declared.rounds.Round.{Round}
 use Rattle.row_laws.specs.Inward.{IsMend, RoleRecord, RoleWrite, LooksInward}
 
@@ -47,17 +50,22 @@ abbrev pub MakesAccept : Event → ℕ → Call → Type 0
 MakesAccept (Calls process words) p x = (p ≡ process) × (x ≡ words)
 MakesAccept _ p x = ⊥
 
+-- the list has the site with this boot, where the links of the site have it so
+abbrev pub ListsItself : ℕ → ℕ → Links → Members → Type 0
+ListsItself me boot links m = me ≤ 16 → boot_in links.boot me ≡ boot → boot_in m.boot me ≡ boot
+
 -- ---- what is told ----
 
--- the causes of an event: for a leave, for the promise of an id, for a call of a process
+-- the causes of an event: for a leave, for the promise of an id, for the members of a join, for a call of a process
 pub record Causes : Type 1 where
   pub leave : Type 0
   pub promise : EpochId → Type 0
+  pub join : Members → Type 0
   pub accept : ℕ → Call → Type 0
 
 abbrev pub SiteRecord : ℕ → Causes → Record → Type 0
 SiteRecord me k (says.Leave t id) = (t ≡ me) × k.leave
-SiteRecord me k (says.Join t id members) = t ≡ me
+SiteRecord me k (says.Join t id members) = (t ≡ me) × k.join members
 SiteRecord me k (says.Accept t process call words) = IsMend words ⊎ ((t ≡ me) × k.accept process words)
 SiteRecord me k r = RoleRecord r
 
@@ -76,10 +84,15 @@ PollFact p _ = Unit {0}
 abbrev pub PollsOthers : Packet → Type 0
 PollsOthers p = PollFact p p.body
 
+-- promises of sites from this number on, ascending
+abbrev pub PromisesRise : ℕ → List Promise → Type 0
+PromisesRise n [] = Unit {0}
+PromisesRise n (p ∷ ps) = (n ≤ p.site) × PromisesRise (p.site + 1) ps
+
 -- an undecided round is of an id of this boot of the site, which it doesn't poll itself
 abbrev pub RoundFact : ℕ → ℕ → Option Round → Type 0
 RoundFact me boot None = Unit {0}
-RoundFact me boot (Some r) = IsOwnId me boot r.id × (boot_in r.polled.boot me ≡ 0)
+RoundFact me boot (Some r) = IsOwnId me boot r.id × (boot_in r.polled.boot me ≡ 0) × PromisesRise 0 r.promises
 
 pub record ViewForms (me : ℕ) (v : SiteView) : Type 0 where
   pub round : RoundFact me v.boot v.round
@@ -93,6 +106,6 @@ pub record Forms (me boot : ℕ) (k : Causes) (o : Outcome SiteView) : Type 0 wh
   pub sent : Every PollsOthers o.sent
   pub written : RoleWrite o.written
 
--- the causes that an event of a site gives
-abbrev pub causes_of : ℕ → SiteView → Event → Causes
-causes_of me v e = record { leave = MakesLeave e; promise = MakesPromise me v e; accept = MakesAccept e }
+-- the causes that an event of a site with these links gives
+abbrev pub causes_of : ℕ → Links → SiteView → Event → Causes
+causes_of me links v e = record { leave = MakesLeave e; promise = MakesPromise me v e; join = ListsItself me v.boot links; accept = MakesAccept e }

@@ -1,5 +1,5 @@
 -- What the roles of a site do inside an epoch: they form none, and tell nothing of their site or of lines.
-use Rattle.std.specs.Prelude.{◌≡◌, Option, Some, None}
+use Rattle.std.specs.Prelude.{◌≡◌, ◌<◌, Option, Some, None}
 use Rattle.trace_book.specs.declared.call.Call.{Call}
 use Rattle.trace_book.specs.declared.call.Call.TheVariants.{Mend}
 use Rattle.trace_book.specs.declared.record.Record.{Record}
@@ -49,11 +49,26 @@ RoleTold (Shown r) = RoleRecord r
 RoleTold (Promises site id reach) = ⊥
 RoleTold _ = Unit {0}
 
+-- it tells of no call either, as what tables and stores tell
+abbrev pub ServedRecord : Record → Type 0
+ServedRecord (says.Accept site process call words) = ⊥
+ServedRecord (says.Answer site process call r) = ⊥
+ServedRecord r = RoleRecord r
+
+abbrev pub ServedTold : Told → Type 0
+ServedTold (Shown r) = ServedRecord r
+ServedTold (Promises site id reach) = ⊥
+ServedTold _ = Unit {0}
+
+-- a version's record is such a one
 abbrev pub RoleWrite : Option DiskWrite → Type 0
 RoleWrite None = Unit {0}
-RoleWrite (Some d) = RoleRecord d.says
+RoleWrite (Some d) = ServedRecord d.says
 
 -- ---- outcomes ----
+
+abbrev pub AllServed : {V : Type 0} → Outcome V → Type 0
+AllServed o = Every InwardPacket o.sent × Every ServedTold o.told × RoleWrite o.written
 
 abbrev pub Inwardly : {V : Type 0} → Outcome V → Type 0
 Inwardly o = Every InwardPacket o.sent × Every RoleTold o.told × RoleWrite o.written
@@ -62,11 +77,12 @@ Inwardly o = Every InwardPacket o.sent × Every RoleTold o.told × RoleWrite o.w
 abbrev pub LookInward : LastLook → Type 0
 LookInward l = Inward l.body
 
+-- a table of a group that there may be, whose kept answers form no epoch
 abbrev pub LooksInward : SyncTable → Type 0
-LooksInward t = Every LookInward t.looks
+LooksInward t = Every LookInward t.looks × (t.group < 16)
 
 abbrev pub TableInwardly : Outcome SyncTable → Type 0
-TableInwardly o = Every InwardPacket o.sent × Every RoleTold o.told × RoleWrite o.written × LooksInward o.view
+TableInwardly o = Every InwardPacket o.sent × Every ServedTold o.told × RoleWrite o.written × LooksInward o.view
 
 -- an outcome of a site that does so, and leaves its boot, its round, its promise and its epoch
 pub record Indoors (v : SiteView) (o : Outcome SiteView) : Type 0 where

@@ -3,8 +3,8 @@ pub mod Inward
 pub mod Events
 pub mod ByLine
 pub mod Rows
+pub mod Voids
 pub mod Course
 pub mod Arms
 pub mod Rest
-pub mod Voids
 pub mod Tales

@@ -10,8 +10,6 @@ use Rattle.schedule_lines.specs.declared.line.ScheduleLine.{ScheduleLine}
 use Rattle.schedule_lines.specs.Cluster.{config_of}
 use Rattle.schedule_lines.specs.Schedule.{AreInOrder}
 use Rattle.tree_model.specs.Folds.{Trace}
-use Rattle.tree_model.specs.Epochs.{boot_of}
-use Rattle.tree_model.specs.Packs.{boot_in}
 use Rattle.lawful_trace.specs.Places.{line_at}
 use Rattle.lawful_trace.specs.Disks.{may_cut}
 use Rattle.lawful_trace.specs.LineRows.{IsVoidAsked, is_told}
@@ -25,13 +23,12 @@ IsCounted c lines n before site cause.Asked = Unit {0}
 IsCounted c lines n before site cause.Fuse = may_cut c lines before n site ≡ true
 IsCounted c lines n before site cause.Fault = may_cut c lines before n site ≡ true
 
--- what a record must meet beyond the laws of this crate: of sites, the count of a cut and the boot in a list; a void call;
--- and the whole row of each record of calls and of the tree
+-- what a record must meet beyond the laws of this crate: the count of a cut; a void call; and the whole row of each record of calls and of the tree
 abbrev pub RestRecord : Config → List ScheduleLine → ℕ → Trace → Record → Type 0
 RestRecord c lines n before (says.Up site boot) = Unit {0}
 RestRecord c lines n before (says.Stopped site why) = IsCounted c lines n before site why
 RestRecord c lines n before (says.Leave site epoch) = Unit {0}
-RestRecord c lines n before (says.Join site epoch members) = boot_in members site ≡ boot_of before site
+RestRecord c lines n before (says.Join site epoch members) = Unit {0}
 RestRecord c lines n before (says.Packet number from to kind) = Unit {0}
 RestRecord c lines n before says.Void = is_call (line_at lines n) ≡ true → IsVoidAsked lines n before
 RestRecord c lines n before says.Budget = Unit {0}

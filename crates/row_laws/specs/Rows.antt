@@ -10,7 +10,8 @@ use Rattle.trace_book.specs.declared.record.StopCause.{StopCause}
 use Rattle.trace_book.specs.declared.record.StopCause.TheVariants as cause
 use Rattle.schedule_lines.specs.declared.line.ScheduleLine.{ScheduleLine}
 use Rattle.tree_model.specs.Folds.{Trace, last_line}
-use Rattle.tree_model.specs.Epochs.{is_up, epoch_of, has_joined, last_joined, is_above_joined, members_of}
+use Rattle.tree_model.specs.Epochs.{is_up, boot_of, epoch_of, has_joined, last_joined, is_above_joined, members_of}
+use Rattle.tree_model.specs.Packs.{boot_in}
 use Rattle.lawful_trace.specs.Places.{line_at}
 use Rattle.lawful_trace.specs.Disks.{armed_at, is_armed_as}
 use Rattle.lawful_trace.specs.SiteRows.{MayBoot, IsBootAsked, StopRow, IsStopAsked, boots, MayLeave, IsLeaveAsked, IsJoinAsked}
@@ -67,6 +68,14 @@ SiteRecordRow before _ = Unit {0}
 -- a boot, a stop, a leave or a join comes as it may
 abbrev pub IsSiteRow : Trace → Entry → Type 0
 IsSiteRow before r = SiteRecordRow before r.what
+
+abbrev pub MemberRecord : Trace → Record → Type 0
+MemberRecord before (says.Join site epoch members) = boot_in members site ≡ boot_of before site
+MemberRecord before _ = Unit {0}
+
+-- the list that a site joins has it with its boot
+abbrev pub IsMemberRow : Trace → Entry → Type 0
+IsMemberRow before r = MemberRecord before r.what
 
 -- ---- armed disks ----
 

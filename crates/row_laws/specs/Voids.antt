@@ -20,6 +20,10 @@ use Rattle.row_laws.specs.Shown.{trace_of, EachRecord}
 abbrev pub LinesFit : Config → List ScheduleLine → Type 0
 LinesFit c lines = (n : ℕ) (l : LineWords) → line_at lines n ≡ EventLine l → fits_event c.sites l ≡ true
 
+-- no line cuts a site off from itself
+abbrev pub CutsNoSelf : List ScheduleLine → Type 0
+CutsNoSelf lines = (n site : ℕ) → line_at lines n ≡ EventLine (line.Down site site) → ⊥
+
 abbrev pub is_call : ScheduleLine → Bool
 is_call (EventLine (line.Call site process words)) = true
 is_call _ = false

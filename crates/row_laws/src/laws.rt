@@ -7,9 +7,9 @@ ghost use Rattle.the_run.specs.Runs.{run, run_in};
 ghost use Rattle.lawful_trace.specs.Disks.{keeps_calls};
 ghost use Rattle.lawful_trace.specs.Lawful.{IsLawful};
 ghost use Rattle.row_laws.specs.Shown.{EachRecord, trace_of};
-ghost use Rattle.row_laws.specs.Rows.{IsPlaced, IsAskedFor, IsSiteRow, IsArmedFor};
+ghost use Rattle.row_laws.specs.Rows.{IsPlaced, IsAskedFor, IsSiteRow, IsMemberRow, IsArmedFor};
 ghost use Rattle.row_laws.specs.Rest.{MeetsTheRest};
-ghost use Rattle.row_laws.specs.Voids.{LinesFit, IsVoidRow};
+ghost use Rattle.row_laws.specs.Voids.{LinesFit, CutsNoSelf, IsVoidRow};
 ghost use Rattle.row_laws.specs.Tales.{ToldTo};
 
 /// After every schedule the lines of the records ascend, and each is one of the lines that were read.
@@ -32,6 +32,12 @@ pub fn sites_go_on()
     ensures { (c : Config) (lines : List ScheduleLine) → EachRecord IsSiteRow (trace_of (run_in c lines)) }
 {}
 
+/// After every schedule in which no line cuts a site off from itself, the list that a site joins has it, with the boot number
+/// in which it joins.
+pub fn lists_have_who_joins()
+    ensures { (c : Config) (lines : List ScheduleLine) → CutsNoSelf lines → EachRecord IsMemberRow (trace_of (run_in c lines)) }
+{}
+
 /// After every schedule, where a site was stopped within a disk call, a line had armed its disk, of this kind, and neither
 /// was another armed since, nor had the site stopped.
 pub fn cut_sites_were_armed()
@@ -44,7 +50,7 @@ pub fn armed_disks_keep_calls()
 {}
 
 /// The run of a schedule whose records of calls and of the tree are lawful is lawful, where its lines are in order and it
-/// passed no limit, each list that a site joins has its boot, each cut is counted, and calls are void or told as they must:
+/// passed no limit, each cut is counted, and calls are void or told as they must:
 /// its other records and lines are lawful in every run.
 pub fn the_rest_makes_runs_lawful()
     ensures { (lines : List ScheduleLine) → (run lines).over ≡ None → MeetsTheRest lines (trace_of (run lines)) → IsLawful lines (trace_of (run lines)) }

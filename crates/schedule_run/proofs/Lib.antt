@@ -1,3 +1,7 @@
 pub mod Growing
 pub mod Lasting
 pub mod Ending
+pub mod Doing
+pub mod Asking
+pub mod OneAsking
+pub mod Events

@@ -9,7 +9,7 @@ pub enum MendFault {
     NoMemory,
     #[error("the disk failed")]
     Disk,
-    /// A copy has more bytes than a file may have, or a number in a table is no inode's.
+    /// A number in a table is no inode's.
     #[error("unfit")]
     Unfit,
 }

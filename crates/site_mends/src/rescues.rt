@@ -1,5 +1,5 @@
 // Whether a file has to be rescued in the only kept version of a directory.
-ghost use Rattle.std.specs.Prelude.{◌≡◌, IfErr, IfOk};
+ghost use Rattle.std.specs.Prelude.{◌≡◌, ◌≤◌, length, Err, IfErr, IfOk};
 ghost use Rattle.std.specs.List.{list_all};
 ghost use Rattle.commit_graph.specs.Versions.{same_stamp};
 ghost use Rattle.dir_format.specs.Entries.{is_live};
@@ -8,6 +8,8 @@ ghost use Rattle.role_steps.specs.Storage.{copy_of};
 ghost use Rattle.role_steps.specs.Mends.{wants_rescue_in, wants_rescue_of};
 ghost use Rattle.site_packs.specs.Copies.{copies_on};
 ghost use Rattle.site_packs.specs.Packs.{Stand, groups_of};
+ghost use Rattle.site_tables.specs.Inodes.{AreInodes};
+ghost use Rattle.site_mends.specs.declared.fault.MendFault.TheVariants.{Unfit};
 ghost use Rattle.site_mends.specs.Mending.{IsOffDisk, WasRead};
 
 use crate::MendFault;
@@ -16,7 +18,6 @@ use css_core::Css;
 use dir_format::{Entry, dir_in};
 use dir_reconcile::rescue_wanted;
 use disk_model::Disk;
-use locus_ids::sizes::MAX_BYTES;
 use locus_ids::{Bytes, FileId, Stamp};
 use site_packs::SitePacks;
 use site_tables::kept_vectors;
@@ -34,6 +35,7 @@ pub(crate) fn wants_rescue<D: Disk>(
     requires { Stand packs.now (D.moment disk.old) }
     ensures wants { IfOk result (λ wants. (v : SiteView) → v.store.copies ≡ copies_on (groups_of packs.now) (D.moment disk.old).seen → wants ≡ wants_rescue_of table.now stamp (copy_of v.store file)) }
     ensures disk { WasRead packs.now (D.moment disk.old) (D.moment disk.new) result }
+    ensures unfit { result ≡ Err Unfit → AreInodes table.now → ⊥ }
 {
     let Some(copy) = packs.head(file) else {
         return Ok(false);
@@ -55,12 +57,11 @@ fn same_stamp(a: Stamp, b: Stamp) -> bool
 
 /// A rescue is wanted in a directory of this content. Where no entry is removed, none is.
 fn wants_rescue_in(alloc: Global, table: &Css, content: &[u8]) -> Result<bool, MendFault>
+    requires { length content.now ≤ 65536 }
     ensures wants { IfOk result (λ wants. wants ≡ wants_rescue_in table.now content.now) }
     ensures off_disk { IfErr result IsOffDisk }
+    ensures unfit { result ≡ Err Unfit → AreInodes table.now → ⊥ }
 {
-    if content.len() > MAX_BYTES {
-        return Err(MendFault::Unfit);
-    }
     if are_surely_live(content) {
         return Ok(false);
     }

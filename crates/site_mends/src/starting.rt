@@ -1,11 +1,14 @@
 // The mends that start, group by group.
-ghost use Rattle.std.specs.Prelude.{◌≡◌, IfOk, OnOk};
+ghost use Rattle.std.specs.Prelude.{◌≡◌, Err, IfOk, OnOk};
+ghost use Rattle.std.specs.List.{AllByRecursion};
 ghost use Rattle.role_steps.specs.Views.{SiteView};
 ghost use Rattle.role_steps.specs.Epochs.{with_users};
 ghost use Rattle.role_steps.specs.Tables.{first_that};
 ghost use Rattle.role_steps.specs.Mends.{starts_mend, starts_mends_in, wants_mend};
 ghost use Rattle.site_packs.specs.Packs.{Stand};
 ghost use Rattle.using_site.specs.Steps.{Gives};
+ghost use Rattle.site_tables.specs.Inodes.{AreInodes};
+ghost use Rattle.site_mends.specs.declared.fault.MendFault.TheVariants.{Unfit};
 ghost use Rattle.site_mends.specs.Mending.{file_in, IsSeen, WasRead};
 
 use crate::MendFault;
@@ -20,7 +23,7 @@ use std::alloc::Global;
 use using_site::UsingSite;
 use wire_messages::Outbox;
 
-/// Starts a mend in each of these groups that wants one, ascending.
+/// Starts a mend in each of these groups that wants one, ascending. `Unfit` comes only where a number in a table is no inode's.
 pub fn start_mends<D: Disk>(
     alloc: Global,
     tables: &[Css],
@@ -33,6 +36,7 @@ pub fn start_mends<D: Disk>(
     requires { Stand packs.now (D.moment disk.old) }
     ensures gives { OnOk result ((v : SiteView) → IsSeen v packs.now (D.moment disk.old).seen users.old → Gives (starts_mends_in frame.now tables.now v) (with_users v users.new) out.old out.new) }
     ensures disk { WasRead packs.now (D.moment disk.old) (D.moment disk.new) result }
+    ensures unfit { result ≡ Err Unfit → AllByRecursion AreInodes tables.now → ⊥ }
 {
     let [table, later @ ..] = tables else {
         return Ok(());
@@ -55,6 +59,7 @@ fn start_mend<D: Disk>(
     requires { Stand packs.now (D.moment disk.old) }
     ensures gives { OnOk result ((v : SiteView) → IsSeen v packs.now (D.moment disk.old).seen users.old → Gives (starts_mend frame.now table.now v) (with_users v users.new) out.old out.new) }
     ensures disk { WasRead packs.now (D.moment disk.old) (D.moment disk.new) result }
+    ensures unfit { result ≡ Err Unfit → AreInodes table.now → ⊥ }
 {
     if !table.started() || users.has_mend_in(table.group()) {
         return Ok(());
@@ -79,6 +84,7 @@ fn first_wanting<D: Disk>(
     requires { Stand packs.now (D.moment disk.old) }
     ensures found { IfOk result (λ found. (v : SiteView) → IsSeen v packs.now (D.moment disk.old).seen users.now → found ≡ file_in table.now (first_that (wants_mend v table.now) table.now.files)) }
     ensures disk { WasRead packs.now (D.moment disk.old) (D.moment disk.new) result }
+    ensures unfit { result ≡ Err Unfit → AreInodes table.now → ⊥ }
 {
     first_wanting_of(alloc, table, table.files(), packs, users, disk)
 }
@@ -94,6 +100,7 @@ fn first_wanting_of<D: Disk>(
     requires { Stand packs.now (D.moment disk.old) }
     ensures found { IfOk result (λ found. (v : SiteView) → IsSeen v packs.now (D.moment disk.old).seen users.now → found ≡ file_in table.now (first_that (wants_mend v table.now) files.now)) }
     ensures disk { WasRead packs.now (D.moment disk.old) (D.moment disk.new) result }
+    ensures unfit { result ≡ Err Unfit → AreInodes table.now → ⊥ }
 {
     for file in files {
         if wants_mend(alloc, table, file, packs, users, disk)? {

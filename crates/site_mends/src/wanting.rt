@@ -1,8 +1,10 @@
 // Which directories want a mend.
-ghost use Rattle.std.specs.Prelude.{◌≡◌, IfOk};
+ghost use Rattle.std.specs.Prelude.{◌≡◌, Err, IfOk};
 ghost use Rattle.role_steps.specs.Views.{SiteView};
 ghost use Rattle.role_steps.specs.Mends.{may_mend, row_file, wants_mend};
 ghost use Rattle.site_packs.specs.Packs.{Stand};
+ghost use Rattle.site_tables.specs.Inodes.{AreInodes};
+ghost use Rattle.site_mends.specs.declared.fault.MendFault.TheVariants.{Unfit};
 ghost use Rattle.site_mends.specs.Mending.{IsSeen, WasRead};
 
 use crate::MendFault;
@@ -37,6 +39,7 @@ pub(crate) fn wants_mend<D: Disk>(
     requires { Stand packs.now (D.moment disk.old) }
     ensures wants { IfOk result (λ wants. (v : SiteView) → IsSeen v packs.now (D.moment disk.old).seen users.now → wants ≡ wants_mend v table.now file.now) }
     ensures disk { WasRead packs.now (D.moment disk.old) (D.moment disk.new) result }
+    ensures unfit { result ≡ Err Unfit → AreInodes table.now → ⊥ }
 {
     if file.kind() == Kind::File {
         return Ok(false);

@@ -1,5 +1,5 @@
 -- The content of a site's copy is that of the version that the view has.
-use Rattle.std.proofs.Common.{◌≡◌, ℕ, ◌≤◌, ◌<◌, List, [], Option, None, Some, refl, ap, subst, ◌∙◌}
+use Rattle.std.proofs.Common.{◌≡◌, ℕ, ◌≤◌, ◌<◌, List, [], length, Option, None, Some, refl, sym, ap, subst, ◌∙◌}
 use Rattle.std.specs.Prelude.{IfSome}
 use Rattle.std.specs.Option.{option_map}
 use Rattle.locus_ids.specs.declared.ids.FileId.{FileId}
@@ -67,3 +67,8 @@ has_by home group ino packs image pack slot (Some one) are shown is copy given =
 pub has_content : (home group ino : ℕ) (packs : List PackState) (image : List ℕ) (pack : PackState) (slot : Slot) → ArePacks 0 0 home packs → AreShown packs image → pack_in group packs ≡ Some pack → slot_in (copy_of pack.copies ino) ≡ Some slot
     → (1 ≤ ino) × (ino ≤ 1024) × HasContent pack ino slot.size image
 has_content home group ino packs image pack slot are shown is given = has_by home group ino packs image pack slot (copy_of pack.copies ino) are shown is refl given
+
+-- it has no more bytes than a file may have
+pub short_content : (pack : PackState) (ino bytes : ℕ) (image : List ℕ) → HasContent pack ino bytes image → length (content_in (view image pack.base ino)) ≤ 65536
+short_content pack ino bytes image has =
+    subst (λ (o : Option Version). length (content_in o) ≤ 65536) (sym has.seen) (subst (λ (n : ℕ). n ≤ 65536) (sym has.size) has.few)

@@ -5,3 +5,4 @@ pub mod StoreParts
 pub mod Mendings
 pub mod Reported
 pub mod Numbers
+pub mod Fits

@@ -2,3 +2,4 @@ pub mod Roles
 pub mod Framing
 pub mod Faults
 pub mod Writing
+pub mod Fitting

@@ -1,12 +1,17 @@
 // What the mend of an instance's group works on.
-ghost use Rattle.std.specs.Prelude.{◌≡◌, ℕ, List, IfOk, IfErr};
+ghost use Rattle.std.specs.Prelude.{◌≡◌, ℕ, List, Err, IfOk, IfErr};
 ghost use Rattle.role_steps.specs.Adoption.{table_group};
 ghost use Rattle.role_steps.specs.Mends.{brought_by, is_mend_in, vectors_of};
 ghost use Rattle.role_steps.specs.Operations.{on_op};
 ghost use Rattle.role_steps.specs.Tables.{first_that, row};
-ghost use Rattle.role_steps.specs.Views.{Frame, Store as StoreView};
+ghost use Rattle.role_steps.specs.Storage.{instance_key};
+ghost use Rattle.role_steps.specs.Views.{Frame, Store as StoreView, serial_key};
+ghost use Rattle.the_run.specs.Steps.{group_of};
+ghost use Rattle.storage_site.specs.Fitting.{CanOperateAt};
 ghost use Rattle.site_parts.specs.Faults.{IsOwn};
+ghost use Rattle.site_parts.specs.Fitting.{AreInodesOf, CanRest};
 ghost use Rattle.site_parts.specs.Roles.{mending_by};
+ghost use Rattle.site_parts.specs.declared.fault.NodeFault.TheVariants.{Unfit};
 
 use crate::NodeFault;
 use css_core::Css;
@@ -30,7 +35,9 @@ pub(crate) fn work_for(
     op: &Op,
 ) -> Result<MendingWork, NodeFault>
     ensures work { IfOk result (λ work. (f : Frame) (n : ℕ) (seen : List ℕ) (s : StoreView) → s.instances ≡ store.now → on_op f work inst n op.now seen s ≡ on_op f (mending_by tables.now users.now s inst) inst n op.now seen s) }
+    ensures can { IfOk result (λ work. (f : Frame) (groups : List ℕ) (n : ℕ) (s : StoreView) → s.instances ≡ store.now → CanOperateAt f (mending_by tables.now users.now s inst) groups inst n op.now s → CanOperateAt f work groups inst n op.now s) }
     ensures own { IfErr result IsOwn }
+    ensures unfit { result ≡ Err Unfit → CanRest tables.now (group_of (row instance_key (serial_key inst) store.now)) op.now → ⊥ }
 {
     match op {
         Op::Mend => mending_work(alloc, store, tables, users, inst),
@@ -48,6 +55,7 @@ fn mending_work(
 ) -> Result<MendingWork, NodeFault>
     ensures work { IfOk result (λ work. (s : StoreView) → s.instances ≡ store.now → work ≡ mending_by tables.now users.now s inst) }
     ensures own { IfErr result IsOwn }
+    ensures unfit { result ≡ Err Unfit → AreInodesOf (row table_group (group_of (row instance_key (serial_key inst) store.now)) tables.now) → ⊥ }
 {
     let group = store.instance_group(inst).unwrap_or(0);
     Ok(MendingWork {
@@ -72,6 +80,7 @@ fn brought(alloc: Global, users: &UsingSite, group: u8) -> Result<ItemList<Bytes
 fn vectors_of(alloc: Global, tables: &SortedTable<Css>, group: u8) -> Result<KeptVectors, NodeFault>
     ensures kept { IfOk result (λ made. made ≡ vectors_of (row table_group group tables.now)) }
     ensures own { IfErr result IsOwn }
+    ensures unfit { result ≡ Err Unfit → AreInodesOf (row table_group group tables.now) → ⊥ }
 {
     let Some(table) = tables.find(u64::from(group)) else {
         return Ok(KeptVectors::new(alloc));

@@ -1,14 +1,16 @@
 // What comes to the storage site.
-ghost use Rattle.std.specs.Prelude.{◌≡◌, ◌≢◌, None, IfErr, OnOk};
+ghost use Rattle.std.specs.Prelude.{◌≡◌, ◌≢◌, None, Err, IfErr, OnOk};
 ghost use Rattle.role_steps.specs.Operations.{on_op};
 ghost use Rattle.role_steps.specs.Storage.{on_close, on_closed_ok, on_look_ss, on_open_ss, on_pull};
-ghost use Rattle.site_packs.specs.Packs.{SamePlaces, Stand};
+ghost use Rattle.site_packs.specs.Packs.{SamePlaces, Stand, groups_of};
 ghost use Rattle.store_instances.specs.Stores.{Gives, store_of};
 ghost use Rattle.the_run.specs.Steps.{from_user};
+ghost use Rattle.storage_site.specs.Fitting.{CanCloseAt, CanOpen, CanOperateAt};
 ghost use Rattle.site_parts.specs.Faults.{fault_of_reading};
+ghost use Rattle.site_parts.specs.Fitting.{CanTakeAtStore};
 ghost use Rattle.site_parts.specs.Roles.{mending_by, store_take};
 ghost use Rattle.site_parts.specs.Writing.{EventWrites};
-ghost use Rattle.site_parts.specs.declared.fault.NodeFault.TheVariants.{NoNumber};
+ghost use Rattle.site_parts.specs.declared.fault.NodeFault.TheVariants.{NoNumber, Unfit};
 
 use crate::NodeFault;
 use crate::mending::work_for;
@@ -46,6 +48,7 @@ pub fn take_at_store<D: Disk>(
     ensures places { OnOk result (SamePlaces packs.old packs.new) }
     ensures disk { EventWrites (store_take frame.now (mending_by tables.now users.now (store_of store.old packs.old (D.moment disk.old).seen)) from body (store_of store.old packs.old (D.moment disk.old).seen)).written packs.old (D.moment disk.old) (D.moment disk.new) out.old out.new result }
     ensures numbered { IfErr result (λ fault. fault ≢ NoNumber) }
+    ensures unfit { result ≡ Err Unfit → CanTakeAtStore frame.now (mending_by tables.now users.now (store_of store.old packs.old (D.moment disk.old).seen)) tables.now (groups_of packs.old) packs.old.site from body (store_of store.old packs.old (D.moment disk.old).seen) → ⊥ }
 {
     match body {
         Body::OpenSs {
@@ -128,6 +131,7 @@ fn take_open<D: Disk>(
     ensures stands { Stand packs.now (D.moment disk.new) }
     ensures disk { EventWrites None packs.now (D.moment disk.old) (D.moment disk.new) out.old out.new result }
     ensures numbered { IfErr result (λ fault. fault ≢ NoNumber) }
+    ensures unfit { result ≡ Err Unfit → CanOpen frame.now packs.now.site asked → ⊥ }
 {
     match store.on_open_ss(frame, packs, disk, asked, out) {
         Ok(()) => Ok(()),
@@ -151,6 +155,7 @@ fn take_look<D: Disk>(
     ensures stands { Stand packs.now (D.moment disk.new) }
     ensures disk { EventWrites None packs.now (D.moment disk.old) (D.moment disk.new) out.old out.new result }
     ensures numbered { IfErr result (λ fault. fault ≢ NoNumber) }
+    ensures fit { result ≢ Err Unfit }
 {
     match store.on_look_ss(frame, packs, disk, us, look, serve, out) {
         Ok(()) => Ok(()),
@@ -175,6 +180,7 @@ fn take_pull<D: Disk>(
     ensures stands { Stand packs.now (D.moment disk.new) }
     ensures disk { EventWrites None packs.now (D.moment disk.old) (D.moment disk.new) out.old out.new result }
     ensures numbered { IfErr result (λ fault. fault ≢ NoNumber) }
+    ensures fit { result ≢ Err Unfit }
 {
     match store.on_pull(frame, packs, disk, from, file, stamp, page, out) {
         Ok(()) => Ok(()),
@@ -197,6 +203,7 @@ fn take_close<D: Disk>(
     ensures places { OnOk result (SamePlaces packs.old packs.new) }
     ensures disk { EventWrites (on_close frame.now inst (store_of store.old packs.old (D.moment disk.old).seen)).written packs.old (D.moment disk.old) (D.moment disk.new) out.old out.new result }
     ensures numbered { IfErr result (λ fault. fault ≢ NoNumber) }
+    ensures unfit { result ≡ Err Unfit → CanCloseAt frame.now (groups_of packs.old) inst (store_of store.old packs.old (D.moment disk.old).seen) → ⊥ }
 {
     store.on_close(frame, packs, disk, inst, out)?;
     Ok(())
@@ -216,6 +223,7 @@ fn take_closed_ok<D: Disk>(
     ensures stands { Stand packs.now (D.moment _disk.new) }
     ensures disk { EventWrites None packs.now (D.moment _disk.old) (D.moment _disk.new) out.old out.new result }
     ensures numbered { IfErr result (λ fault. fault ≢ NoNumber) }
+    ensures fit { result ≢ Err Unfit }
 {
     store.on_closed_ok(frame, inst, out)?;
     Ok(())
@@ -240,6 +248,7 @@ fn take_op<D: Disk>(
     ensures places { OnOk result (SamePlaces packs.old packs.new) }
     ensures disk { EventWrites (on_op frame.now work.now inst number op.now seen.now (store_of store.old packs.old (D.moment disk.old).seen)).written packs.old (D.moment disk.old) (D.moment disk.new) out.old out.new result }
     ensures numbered { IfErr result (λ fault. fault ≢ NoNumber) }
+    ensures unfit { result ≡ Err Unfit → CanOperateAt frame.now work.now (groups_of packs.old) inst number op.now (store_of store.old packs.old (D.moment disk.old).seen) → ⊥ }
 {
     store.on_op(frame, packs, disk, inst, number, op, seen, work, out)?;
     Ok(())

@@ -3,3 +3,4 @@ pub mod Groups
 pub mod Served
 pub mod Giving
 pub mod Others
+pub mod Inodes

@@ -1,9 +1,10 @@
 // What the tables know of the versions that are kept.
-ghost use Rattle.std.specs.Prelude.{◌≡◌, ◌++◌, map, true, IfOk, IfSome, OnOk};
+ghost use Rattle.std.specs.Prelude.{◌≡◌, ◌++◌, map, true, false, IfOk, IfSome, IfNone, OnOk};
 ghost use Rattle.std.specs.List.{flat_map};
 ghost use Rattle.role_steps.specs.Adoption.{table_group};
 ghost use Rattle.role_steps.specs.Mends.{stamps_in, kept_vector, file_vectors, kept_vectors};
 ghost use Rattle.role_steps.specs.Tables.{row};
+ghost use Rattle.site_tables.specs.Inodes.{AreInodes, IsInode};
 
 use css_core::Css;
 use css_versions::KnownFile;
@@ -29,7 +30,8 @@ pub fn stamps_kept(
 
 /// The vectors of all kept versions of a group; `None` only where a number in the table is no inode's.
 pub fn kept_vectors(alloc: Global, table: &Css) -> Result<Option<KeptVectors>, NoMemory>
-    ensures { IfOk result (λ made. IfSome made (λ vectors. vectors ≡ kept_vectors table.now)) }
+    ensures vectors { IfOk result (λ made. IfSome made (λ vectors. vectors ≡ kept_vectors table.now)) }
+    ensures none { IfOk result (λ made. IfNone made (AreInodes table.now → ⊥)) }
 {
     let mut made = KeptVectors::new(alloc);
     for file in table.files() {
@@ -42,7 +44,8 @@ pub fn kept_vectors(alloc: Global, table: &Css) -> Result<Option<KeptVectors>, N
 
 /// Adds the vectors of the kept versions of a file, where its number is an inode's.
 fn add_file(made: &mut KeptVectors, file: &KnownFile) -> Result<bool, NoMemory>
-    ensures { IfOk result (λ is_file. is_file ≡ true → made.new ≡ made.old ++ file_vectors file.now) }
+    ensures vectors { IfOk result (λ is_file. is_file ≡ true → made.new ≡ made.old ++ file_vectors file.now) }
+    ensures none { IfOk result (λ is_file. is_file ≡ false → IsInode file.now → ⊥) }
 {
     let Some(ino) = Ino::new(file.ino()) else {
         return Ok(false);

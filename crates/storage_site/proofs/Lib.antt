@@ -2,3 +2,4 @@ pub mod Standing
 pub mod Placing
 pub mod Serves
 pub mod Opens
+pub mod Fits

@@ -1,12 +1,13 @@
 //! The calls of the role that are about one instance.
 
-ghost use Rattle.std.specs.Prelude.{◌≡◌, ◌<◌, ℕ, List, length, slice_index_or, OnOk};
+ghost use Rattle.std.specs.Prelude.{◌≡◌, ◌<◌, ℕ, List, length, slice_index_or, Err, OnOk};
 ghost use Rattle.role_steps.specs.Storage.{free_pages, on_close, on_closed_ok};
 ghost use Rattle.role_steps.specs.Operations.{on_op};
 ghost use Rattle.role_steps.specs.declared.instances.Instance.{Instance};
-ghost use Rattle.site_packs.specs.Packs.{AreShown, PacksState, SamePlaces, Stand};
+ghost use Rattle.site_packs.specs.Packs.{AreShown, PacksState, SamePlaces, Stand, groups_of};
 ghost use Rattle.store_instances.specs.Stores.{Gives, store_of};
 ghost use Rattle.store_instances.specs.Writes.{Writes};
+ghost use Rattle.storage_site.specs.Fitting.{CanCloseAt, CanOperateAt};
 
 use crate::Store;
 use crate::store::keep_open;
@@ -41,6 +42,7 @@ impl Store {
         ensures stands { OnOk result (Stand packs.new (D.moment disk.new)) }
         ensures places { OnOk result (SamePlaces packs.old packs.new) }
         ensures disk { Writes (on_op frame.now mending.now inst n op.now seen.now (store_of self.old packs.old (D.moment disk.old).seen)).written packs.old (D.moment disk.old) (D.moment disk.new) out.old out.new result }
+        ensures unfit { result ≡ Err StoreFault.Unfit → CanOperateAt frame.now mending.now (groups_of packs.old) inst n op.now (store_of self.old packs.old (D.moment disk.old).seen) → ⊥ }
     {
         match self.index.place(serial_key(inst)) {
             None => Ok(()),
@@ -67,6 +69,7 @@ impl Store {
         ensures stands { OnOk result (Stand packs.new (D.moment disk.new)) }
         ensures places { OnOk result (SamePlaces packs.old packs.new) }
         ensures disk { Writes (on_close frame.now inst (store_of self.old packs.old (D.moment disk.old).seen)).written packs.old (D.moment disk.old) (D.moment disk.new) out.old out.new result }
+        ensures unfit { result ≡ Err StoreFault.Unfit → CanCloseAt frame.now (groups_of packs.old) inst (store_of self.old packs.old (D.moment disk.old).seen) → ⊥ }
     {
         match self.index.place(serial_key(inst)) {
             None => Ok(()),

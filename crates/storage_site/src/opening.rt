@@ -1,6 +1,6 @@
 //! An open at the storage site that the synchronization site has chosen.
 
-ghost use Rattle.std.specs.Prelude.{◌≡◌, ◌++◌, true, false, None, slice_get, IfOk, OnOk};
+ghost use Rattle.std.specs.Prelude.{◌≡◌, ◌≢◌, ◌++◌, true, false, None, slice_get, Err, IfOk, OnOk};
 ghost use Rattle.std.specs.List.{flat_map};
 ghost use Rattle.std.specs.Option.{is_some};
 ghost use Rattle.role_steps.specs.Tables.{row, with_latest};
@@ -9,13 +9,13 @@ ghost use Rattle.role_steps.specs.Storage.{instance_key, is_open, on_open_ss, op
 ghost use Rattle.site_packs.specs.Packs.{Stand};
 ghost use Rattle.store_instances.specs.Stores.{Gives, base_by, is_make, store_of};
 ghost use Rattle.store_instances.specs.Writes.{Reads};
+ghost use Rattle.storage_site.specs.Fitting.{CanOpen};
 ghost use Rattle.storage_site.specs.Serving.{made_ino, no_inode_packets};
 ghost use Rattle.storage_site.specs.Standing.{made_by};
 
 use crate::Store;
 use disk_model::Disk;
 use keyed_tables::serial_key;
-use locus_ids::sizes::MAX_BYTES;
 use locus_ids::{Bytes, FileId, ItemList, Mode, NoMemory, Refusal, SiteId, Stamp};
 use operation_effects::WorkingContent;
 use site_frame::SiteFrame;
@@ -25,8 +25,8 @@ use store_instances::{StoreFault, StoreInstance, StoreRequest};
 use wire_messages::{Body, OpenedAs, Outbox, ReportedCopy};
 
 impl Store {
-    /// An open. A repeated one is answered again while the instance is open, and begins no second one. A using site that is no
-    /// site, and packs of another site than the frame's, are unfit.
+    /// An open. A repeated one is answered again while the instance is open, and begins no second one. `Unfit` comes only where
+    /// the using site is no site, or a file is to be made in packs of another site than the frame's.
     pub fn on_open_ss<D: Disk>(
         &mut self,
         frame: &SiteFrame,
@@ -39,6 +39,7 @@ impl Store {
         ensures gives { OnOk result (Gives (on_open_ss frame.now asked (store_of self.old packs.now (D.moment disk.old).seen)) (store_of self.new packs.now (D.moment disk.new).seen) out.old out.new) }
         ensures stands { Stand packs.now (D.moment disk.new) }
         ensures disk { Reads (D.moment disk.old) (D.moment disk.new) result }
+        ensures unfit { result ≡ Err StoreFault.Unfit → CanOpen frame.now packs.now.site asked → ⊥ }
     {
         match self.find(asked.inst) {
             Some(row) => {
@@ -66,6 +67,7 @@ impl Store {
         ensures gives { OnOk result (Gives (opens frame.now asked asked.mode (store_of self.old packs.now (D.moment disk.old).seen)) (store_of self.new packs.now (D.moment disk.new).seen) out.old out.new) }
         ensures stands { Stand packs.now (D.moment disk.new) }
         ensures disk { Reads (D.moment disk.old) (D.moment disk.new) result }
+        ensures unfit { result ≡ Err StoreFault.Unfit → CanOpen frame.now packs.now.site asked → ⊥ }
     {
         let Some(us) = SiteId::new(asked.inst.us) else {
             return Err(StoreFault::Unfit);
@@ -93,6 +95,7 @@ impl Store {
         ensures gives { OnOk result (Gives (opens frame.now asked asked.mode (store_of self.old packs.now (D.moment disk.old).seen)) (store_of self.new packs.now (D.moment disk.new).seen) out.old out.new) }
         ensures stands { Stand packs.now (D.moment disk.new) }
         ensures disk { Reads (D.moment disk.old) (D.moment disk.new) result }
+        ensures fit { result ≢ Err StoreFault.Unfit }
     {
         let alloc = *self.rows.allocator();
         let file = asked.file;
@@ -100,9 +103,6 @@ impl Store {
         let base = base_of(asked.mode, head, asked.base);
         let mut bytes = Bytes::new(alloc);
         packs.read(disk, file, &mut bytes)?;
-        if bytes.len() > MAX_BYTES {
-            return Err(StoreFault::Unfit);
-        }
         let content = WorkingContent::from_slice(alloc, bytes.as_slice())?;
         let new = StoreInstance::begun(alloc, us, asked, file, base, content);
         self.begin(frame, new, out)?;
@@ -126,6 +126,7 @@ impl Store {
         ensures gives { OnOk result (Gives (opens frame.now asked asked.mode (store_of self.old packs.now (D.moment disk.old).seen)) (store_of self.new packs.now (D.moment disk.new).seen) out.old out.new) }
         ensures stands { Stand packs.now (D.moment disk.new) }
         ensures disk { Reads (D.moment disk.old) (D.moment disk.new) result }
+        ensures unfit { result ≡ Err StoreFault.Unfit → packs.now.site ≡ frame.now.me → ⊥ }
     {
         if !is_own(packs, frame) {
             return Err(StoreFault::Unfit);
@@ -178,7 +179,8 @@ impl Store {
 
 /// The packs are those of the frame's site.
 fn is_own(packs: &SitePacks, frame: &SiteFrame) -> bool
-    ensures { result ≡ true → packs.now.site ≡ frame.now.me }
+    ensures own { result ≡ true → packs.now.site ≡ frame.now.me }
+    ensures other { result ≡ false → packs.now.site ≡ frame.now.me → ⊥ }
 {
     packs.site() == frame.me
 }

@@ -1,6 +1,6 @@
 //! Looks and pulls: what the copies on the disk show to other sites.
 
-ghost use Rattle.std.specs.Prelude.{◌≡◌, ◌<◌, ◌^◌, ◌++◌, ◌∷◌, [], ℕ, List, length, IfOk, OnOk};
+ghost use Rattle.std.specs.Prelude.{◌≡◌, ◌≢◌, ◌<◌, ◌^◌, ◌++◌, ◌∷◌, [], ℕ, List, length, Err, IfOk, OnOk};
 ghost use Rattle.commit_graph.specs.Versions.{same_stamp};
 ghost use Rattle.wire_messages.specs.declared.body.Body.TheVariants as Body;
 ghost use Rattle.role_steps.specs.Views.{packet};
@@ -14,7 +14,6 @@ use crate::{LookRequest, Store};
 use dir_format::{LookResult, dir_in, lookup};
 use disk_model::Disk;
 use file_content::pages_of;
-use locus_ids::sizes::MAX_BYTES;
 use locus_ids::{Bytes, FileId, NoMemory, Refusal, SiteId, Stamp};
 use site_frame::SiteFrame;
 use site_packs::SitePacks;
@@ -39,6 +38,7 @@ impl Store {
         ensures gives { OnOk result (Gives (on_look_ss frame.now us look.now serve (store_of self.now packs.now (D.moment disk.old).seen)) (store_of self.now packs.now (D.moment disk.new).seen) out.old out.new) }
         ensures stands { Stand packs.now (D.moment disk.new) }
         ensures disk { Reads (D.moment disk.old) (D.moment disk.new) result }
+        ensures fit { result ≢ Err StoreFault.Unfit }
     {
         let alloc = *self.rows.allocator();
         let answer = served_copy(alloc, packs, disk, look.file, &look.what, serve)?;
@@ -62,6 +62,7 @@ impl Store {
         ensures gives { OnOk result (Gives (on_pull frame.now from file stamp page (store_of self.now packs.now (D.moment disk.old).seen)) (store_of self.now packs.now (D.moment disk.new).seen) out.old out.new) }
         ensures stands { Stand packs.now (D.moment disk.new) }
         ensures disk { Reads (D.moment disk.old) (D.moment disk.new) result }
+        ensures fit { result ≢ Err StoreFault.Unfit }
     {
         let alloc = *self.rows.allocator();
         if !has_page(packs.head(file), stamp, page) {
@@ -145,6 +146,7 @@ fn served_copy<D: Disk>(
     ensures answer { IfOk result (λ a. a ≡ served_copy what.now stamp (copy_at packs.now (D.moment disk.old).seen file)) }
     ensures stands { Stand packs.now (D.moment disk.new) }
     ensures disk { Reads (D.moment disk.old) (D.moment disk.new) result }
+    ensures fit { result ≢ Err StoreFault.Unfit }
 {
     let Some(copy) = packs.head(file) else {
         return Ok(LookAnswer::Moved);
@@ -154,9 +156,6 @@ fn served_copy<D: Disk>(
     }
     let mut content = Bytes::new(alloc);
     packs.read(disk, file, &mut content)?;
-    if content.len() > MAX_BYTES {
-        return Err(StoreFault::Unfit);
-    }
     let answer = served_content(alloc, what, content)?;
     Ok(answer)
 }

@@ -1,3 +1,4 @@
 pub mod Latest
 pub mod Given
 pub mod Stays
+pub mod Fits

@@ -1,12 +1,14 @@
 //! The close of one instance.
 
-ghost use Rattle.std.specs.Prelude.{◌≡◌, ◌++◌, ℕ, List, Some, length, true, IfOk, OnOk, OnErr};
+ghost use Rattle.std.specs.Prelude.{◌≡◌, ◌++◌, ℕ, List, Some, length, true, Err, IfOk, OnOk, OnErr};
 ghost use Rattle.role_steps.specs.declared.instances.Stage.TheVariants as Stage;
-ghost use Rattle.role_steps.specs.Storage.{content_of, close_done, closed_again, closed_packets, closes, ends_at, instance_key, is_open, made_version, next_vector, on_close_at, shut};
+ghost use Rattle.role_steps.specs.Storage.{content_of, close_done, closed_again, closed_packets, closes, ends_at, instance_key, is_open, made_version, next_stamp, next_vector, on_close_at, shut};
 ghost use Rattle.role_steps.specs.Views.{Store};
 ghost use Rattle.role_steps.specs.declared.instances.Instance.{Instance};
-ghost use Rattle.site_packs.specs.Packs.{AreShown, PacksState, SamePlaces, Stand, copy_at};
+ghost use Rattle.site_packs.specs.Copies.{copies_on};
+ghost use Rattle.site_packs.specs.Packs.{AreShown, PacksState, SamePlaces, Stand, copy_at, groups_of};
 ghost use Rattle.store_instances.specs.Stores.{IsRow, RowGives, again_packets, commits_and_shuts, store_of};
+ghost use Rattle.store_instances.specs.Fitting.{CanClose, CanCommit, CanStore};
 ghost use Rattle.store_instances.specs.Writes.{Writes, write_as};
 
 use crate::{StoreFault, StoreInstance};
@@ -35,6 +37,7 @@ impl StoreInstance {
         ensures stands { OnOk result (Stand packs.new (D.moment disk.new)) }
         ensures places { OnOk result (SamePlaces packs.old packs.new) }
         ensures disk { (s : Store) → Writes (on_close_at frame.now self.old self.old.stage s).written packs.old (D.moment disk.old) (D.moment disk.new) out.old out.new result }
+        ensures unfit { result ≡ Err StoreFault.Unfit → CanClose frame.now (groups_of packs.old) (copies_on (groups_of packs.old) (D.moment disk.old).seen) self.old self.old.stage → ⊥ }
     {
         if self.is_running() {
             self.close(frame, packs, disk, out)?;
@@ -115,6 +118,7 @@ impl StoreInstance {
         ensures stands { OnOk result (Stand packs.new (D.moment disk.new)) }
         ensures places { OnOk result (SamePlaces packs.old packs.new) }
         ensures disk { (s : Store) → Writes (closes frame.now self.old s).written packs.old (D.moment disk.old) (D.moment disk.new) out.old out.new result }
+        ensures unfit { result ≡ Err StoreFault.Unfit → CanCommit frame.now (groups_of packs.old) (copies_on (groups_of packs.old) (D.moment disk.old).seen) self.old → ⊥ }
     {
         if !self.owes() {
             self.shut(frame, packs, CloseAnswer::Nothing, out)?;
@@ -149,6 +153,7 @@ impl StoreInstance {
         ensures stands { OnOk result (Stand packs.new (D.moment disk.new)) }
         ensures places { OnOk result (SamePlaces packs.old packs.new) }
         ensures disk { Writes (Some (write_as frame.now self.old vector.now)) packs.old (D.moment disk.old) (D.moment disk.new) out.old out.new result }
+        ensures unfit { result ≡ Err StoreFault.Unfit → CanStore (groups_of packs.old) (copies_on (groups_of packs.old) (D.moment disk.old).seen) self.old vector.now (next_stamp frame.now vector.now) → ⊥ }
     {
         let stamp = self.commit(frame, packs, disk, vector, out)?;
         self.shut(frame, packs, CloseAnswer::Made { stamp }, out)?;

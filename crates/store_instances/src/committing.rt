@@ -9,6 +9,7 @@ ghost use Rattle.site_packs.specs.Copies.{copies_on};
 ghost use Rattle.site_packs.specs.Committing.{MayBeLeft, calls_of};
 ghost use Rattle.site_packs.specs.Cutting.{IsCut};
 ghost use Rattle.site_packs.specs.Packs.{SamePlaces, Stand, copy_at, groups_of};
+ghost use Rattle.store_instances.specs.Fitting.{CanStore};
 ghost use Rattle.store_instances.specs.Writes.{HasSize, TellsWrite, Writes, disk_answer, write_as};
 
 use crate::{StoreFault, StoreInstance};
@@ -54,6 +55,7 @@ impl StoreInstance {
         ensures packets { OnOk result (out.new.packets ≡ out.old.packets) }
         ensures records { OnOk result (out.new.records ≡ out.old.records ++ commit_record frame.now self.old (next_stamp frame.now vector.now) ∷ []) }
         ensures disk { Writes (Some (write_as frame.now self.old vector.now)) packs.old (D.moment disk.old) (D.moment disk.new) out.old out.new result }
+        ensures unfit { result ≡ Err StoreFault.Unfit → CanStore (groups_of packs.old) (copies_on (groups_of packs.old) (D.moment disk.old).seen) self.old vector.now (next_stamp frame.now vector.now) → ⊥ }
     {
         let stamp = next_stamp(frame.me, vector);
         let parents = only(&self.parents, stamp)?;
@@ -86,6 +88,7 @@ impl StoreInstance {
         ensures cut { (passed : ℕ) → (D.moment disk.old).passing ≡ Exactly passed → OnErr (disk_answer result) (IsCut packs.old (copy_made self.now vector.now stamp) (length self.now.work.changed) (D.moment disk.old).how passed (D.moment disk.old).seen (D.moment disk.new).left) }
         ensures size { IfErr result (HasSize (length self.now.work.changed) (is_some (copy_at packs.old (D.moment disk.old).seen self.now.file))) }
         ensures how { (D.moment disk.new).how ≡ (D.moment disk.old).how }
+        ensures unfit { result ≡ Err StoreFault.Unfit → CanStore (groups_of packs.old) (copies_on (groups_of packs.old) (D.moment disk.old).seen) self.now vector.now stamp → ⊥ }
     {
         let version = NewVersion {
             kind: self.kind,

@@ -1,20 +1,22 @@
 //! Numbered operations at one instance: each number is executed once.
 
-ghost use Rattle.std.specs.Prelude.{◌≡◌, ◌<◌, ◌+◌, ◌==◌, ◌++◌, ◌∷◌, [], ℕ, List, None, OnOk, Some, true, Ok};
+ghost use Rattle.std.specs.Prelude.{◌≡◌, ◌≢◌, ◌<◌, ◌+◌, ◌==◌, ◌++◌, ◌∷◌, [], ℕ, List, None, OnOk, Some, true, Ok, Err};
 ghost use Rattle.role_steps.specs.Views.{Store};
-ghost use Rattle.role_steps.specs.Storage.{free_pages, instance_key, next_vector};
+ghost use Rattle.role_steps.specs.Storage.{free_pages, instance_key, next_stamp, next_vector};
 ghost use Rattle.trace_book.specs.declared.record.Record.TheVariants as Record;
 ghost use Rattle.role_steps.specs.Operations.{abort_op, commit_op, executes_effect, last_committed, on_op_at, op_done};
 ghost use Rattle.role_steps.specs.OperationEffects.{effect_of};
 ghost use Rattle.file_effects.specs.Works.{counted};
 ghost use Rattle.role_steps.specs.declared.instances.Instance.{Instance};
-ghost use Rattle.site_packs.specs.Packs.{PacksState, SamePlaces, Stand};
+ghost use Rattle.site_packs.specs.Copies.{copies_on};
+ghost use Rattle.site_packs.specs.Packs.{PacksState, SamePlaces, Stand, groups_of};
 ghost use Rattle.store_instances.specs.Stores.{IsRow, RowGives, commits_and_acts, store_of};
+ghost use Rattle.operation_effects.specs.Joinable.{CanWorkOn};
+ghost use Rattle.store_instances.specs.Fitting.{CanCommit, CanOperate, CanStore};
 ghost use Rattle.store_instances.specs.Writes.{Writes, disk_answer, write_as};
 
 use crate::{StoreFault, StoreInstance};
 use disk_model::Disk;
-use locus_ids::sizes::MAX_BYTES;
 use locus_ids::{Bytes, NoMemory, Refusal};
 use operation_effects::{MendingWork, operate};
 use site_frame::SiteFrame;
@@ -45,6 +47,7 @@ impl StoreInstance {
         ensures stands { OnOk result (Stand packs.new (D.moment disk.new)) }
         ensures places { OnOk result (SamePlaces packs.old packs.new) }
         ensures disk { (s : Store) → Writes (on_op_at frame.now mending.now self.old self.old.stage n op.now seen.now s).written packs.old (D.moment disk.old) (D.moment disk.new) out.old out.new result }
+        ensures unfit { result ≡ Err StoreFault.Unfit → CanOperate frame.now mending.now (groups_of packs.old) (copies_on (groups_of packs.old) (D.moment disk.old).seen) self.old self.old.stage n op.now → ⊥ }
     {
         if !self.is_running() {
             return Ok(());
@@ -86,6 +89,7 @@ impl StoreInstance {
         requires { self.old.work.ops < 4294967295 }
         ensures gives { OnOk result ((xs : List Instance) (p : PacksState) (image : List ℕ) → IsRow self.old xs → free_pages (store_of xs p image) self.old.file.group ≡ free → RowGives (executes_effect frame.now self.old op.now (effect_of op.now seen.now mending.now self.old.work.content) (store_of xs p image)) xs self.new p image out.old out.new) }
         ensures disk { disk_answer result ≡ Ok tt }
+        ensures unfit { result ≡ Err StoreFault.Unfit → CanWorkOn op.now mending.now.contents → ⊥ }
         ensures key { instance_key self.new ≡ instance_key self.old }
         ensures stage { self.new.stage ≡ self.old.stage }
     {
@@ -114,6 +118,7 @@ impl StoreInstance {
         ensures stands { OnOk result (Stand packs.new (D.moment disk.new)) }
         ensures places { OnOk result (SamePlaces packs.old packs.new) }
         ensures disk { (s : Store) → Writes (commit_op frame.now self.old s).written packs.old (D.moment disk.old) (D.moment disk.new) out.old out.new result }
+        ensures unfit { result ≡ Err StoreFault.Unfit → CanCommit frame.now (groups_of packs.old) (copies_on (groups_of packs.old) (D.moment disk.old).seen) self.old → ⊥ }
     {
         if !self.owes() {
             self.last_committed(frame, out)?;
@@ -149,6 +154,7 @@ impl StoreInstance {
         ensures stands { OnOk result (Stand packs.new (D.moment disk.new)) }
         ensures places { OnOk result (SamePlaces packs.old packs.new) }
         ensures disk { Writes (Some (write_as frame.now self.old vector.now)) packs.old (D.moment disk.old) (D.moment disk.new) out.old out.new result }
+        ensures unfit { result ≡ Err StoreFault.Unfit → CanStore (groups_of packs.old) (copies_on (groups_of packs.old) (D.moment disk.old).seen) self.old vector.now (next_stamp frame.now vector.now) → ⊥ }
     {
         let stamp = self.commit(frame, packs, disk, vector, out)?;
         self.act_counted(frame, &Op::Commit, Outcome::Committed { stamp }, out)?;
@@ -186,12 +192,10 @@ impl StoreInstance {
         ensures stage { self.new.stage ≡ self.old.stage }
         ensures stands { OnOk result (Stand packs.now (D.moment disk.new)) }
         ensures disk { Writes None packs.now (D.moment disk.old) (D.moment disk.new) out.old out.new result }
+        ensures fit { result ≢ Err StoreFault.Unfit }
     {
         let mut content = Bytes::new(self.parents.allocator());
         packs.read(disk, self.file, &mut content)?;
-        if content.len() > MAX_BYTES {
-            return Err(StoreFault::Unfit);
-        }
         self.work.abort(self.mode, content.as_slice())?;
         self.act(frame, &Op::Abort, Outcome::Done, out)?;
         Ok(())

@@ -74,16 +74,16 @@ heard_record c (says.Release e i f stamp) before d old = by_owner (call_of_relea
 heard_record c _ before d old = inl refl
 
 -- nothing is heard, nothing is taken, or it is a step or a turn of the call
-record Same (c : Config) (older : List Line) (n : ℕ) (x : Told) (d : CallId) : Type 0 where
-  heard_same : heard c (record { number = n; told = x } ∷ older) d ≡ heard c older d
-  log_same : log (record { number = n; told = x } ∷ older) d ≡ log older d
-  tries_same : tries (record { number = n; told = x } ∷ older) d ≡ tries older d
+pub record Same (c : Config) (older : List Line) (n : ℕ) (x : Told) (d : CallId) : Type 0 where
+  pub heard_same : heard c (record { number = n; told = x } ∷ older) d ≡ heard c older d
+  pub log_same : log (record { number = n; told = x } ∷ older) d ≡ log older d
+  pub tries_same : tries (record { number = n; told = x } ∷ older) d ≡ tries older d
 
 by_turn : (call d : CallId) (b : Bool) → same_call call d ≡ b → (same_call call d ≡ false) ⊎ (call ≡ d)
 by_turn call d true e = inr (same_call_eq call d e)
 by_turn call d false e = inl e
 
-same_told : (c : Config) (older : List Line) (n : ℕ) (x : Told) (d : CallId) → Same c older n x d ⊎ (StepOf older x d ⊎ Turns x d)
+pub same_told : (c : Config) (older : List Line) (n : ℕ) (x : Told) (d : CallId) → Same c older n x d ⊎ (StepOf older x d ⊎ Turns x d)
 same_told c older n (Shown r) d = ⊎_elim (λ (e : answers_after r c (entries older) d (heard c older d) ≡ heard c older d). inl (record { heard_same = e; log_same = refl; tries_same = refl })) (λ (e : StepRecord (entries older) r d). inr (inl e)) (heard_record c r (entries older) d (heard c older d))
 same_told c older n (Takes s call request k a) d = ⊎_elim (λ (e : same_call call d ≡ false). inl (record { heard_same = refl; log_same = rw e refl; tries_same = rw e refl })) (λ (e : call ≡ d). inr (inr e)) (by_turn call d (same_call call d) refl)
 same_told c older n (LooksAgain s call request k) d = ⊎_elim (λ (e : same_call call d ≡ false). inl (record { heard_same = rw e refl; log_same = refl; tries_same = rw e refl })) (λ (e : call ≡ d). inr (inr e)) (by_turn call d (same_call call d) refl)

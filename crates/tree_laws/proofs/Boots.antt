@@ -34,7 +34,7 @@ every_filter P p (x ∷ xs) h = at (every_filter P p xs h.1) (p x)
     at later false = later
 
 -- what passes has the property that the test gives
-every_passes : {A : Type 0} (P : A → Type 0) (p : A → Bool) → ((x : A) → p x ≡ true → P x) → (xs : List A) → Every P (filter p xs)
+pub every_passes : {A : Type 0} (P : A → Type 0) (p : A → Bool) → ((x : A) → p x ≡ true → P x) → (xs : List A) → Every P (filter p xs)
 every_passes P p h [] = tt
 every_passes P p h (x ∷ xs) = at (every_passes P p h xs) (p x) refl
   where
@@ -46,7 +46,7 @@ pub every_both : {A : Type 0} (P Q : A → Type 0) (xs : List A) → ((x : A) �
 every_both P Q [] h k = tt
 every_both P Q (x ∷ xs) h k = (h x k.0, every_both P Q xs h k.1)
 
-every_pair : {A : Type 0} (P Q R : A → Type 0) (xs : List A) → ((x : A) → P x → Q x → R x) → Every P xs → Every Q xs → Every R xs
+pub every_pair : {A : Type 0} (P Q R : A → Type 0) (xs : List A) → ((x : A) → P x → Q x → R x) → Every P xs → Every Q xs → Every R xs
 every_pair P Q R [] h k l = tt
 every_pair P Q R (x ∷ xs) h k l = (h x k.0 l.0, every_pair P Q R xs h k.1 l.1)
 

@@ -26,7 +26,7 @@ use Rattle.role_steps.specs.Views.{Told}
 use Rattle.the_run.specs.Worlds.{Line}
 use Rattle.tree_laws.specs.Past.{WasReleasedWith}
 use Rattle.tree_laws.specs.Following.{MayTell, IsFollowed}
-use Rattle.tree_laws.specs.Frames.{VersionsStay, AllStay}
+use Rattle.tree_laws.specs.Frames.{VersionsStay, OwnersStay, AllStay}
 use Rattle.tree_laws.specs.Packets.{ServeFact, LookDoneFact, OpenSsFact, OpenedFact, OpenDoneFact, OpFact, EndsNow, ClosedFact, BodyFact, PacketFact}
 use Rattle.tree_laws.proofs.CarriedActs.{op_told}
 use Rattle.tree_laws.proofs.CarriedCloses.{close_stays, ends_stay}
@@ -34,12 +34,16 @@ use Rattle.tree_laws.proofs.CarriedLooks.{More, call_of_stays, look_stays}
 use Rattle.tree_laws.proofs.CarriedOpens.{open_stays}
 use Rattle.tree_laws.proofs.Making.{makes_stay}
 use Rattle.tree_laws.proofs.Owing.{commits_owe}
+use Rattle.tree_laws.proofs.Seeing.{owners_stay}
 use Rattle.tree_laws.proofs.Versions.{versions_stay}
 use Rattle.tree_laws.proofs.CarriedVersions.{joins_stay, plain_stays, sees_stay, answers_stay, maybe_stays, notify_stays, page_stays}
 
 module _ (c : Config) (n : ℕ) (x : Told) (older : List Line) (h : IsFollowed c older) (may : MayTell c older x) (stay : AllStay c older (More n x older) x) where
   versions : VersionsStay c older (More n x older)
   versions = versions_stay c n x older h may stay.fresh stay.order
+
+  owners : OwnersStay c older (More n x older)
+  owners = owners_stay c n x older h may versions
 
   serve_stays : (e : EpochId) (us k process request times : ℕ) (f : FileId) (w : What) (stamp : Stamp) → ServeFact older e us k process request times f w stamp → ServeFact (More n x older) e us k process request times f w stamp
   serve_stays e us k process request times f w stamp s = record { call = s.call; is_call = call_of_stays c n x older h may e us k process s.call s.is_call; looked_so = inr s.looked_so }
@@ -64,14 +68,14 @@ module _ (c : Config) (n : ℕ) (x : Told) (older : List Line) (h : IsFollowed c
 
   op_stays : (e : EpochId) (ss : ℕ) (i : Serial) (k : ℕ) (o : Op) (seen : List ℕ) → OpFact c older e ss i k o seen → OpFact c (More n x older) e ss i k o seen
   op_stays e ss i k o seen (inl done) = inl (done.0, inr done.1)
-  op_stays e ss i k o seen (inr now) = op_told c n x older h may stay.owners e ss i k o seen now
+  op_stays e ss i k o seen (inr now) = op_told c n x older h may owners e ss i k o seen now
 
   closed_stays : (e : EpochId) (ss : ℕ) (i : Serial) (made : Option MadeVersion) → ClosedFact c older e ss i made → ClosedFact c (More n x older) e ss i made
   closed_stays e ss i made k = record { ends = over k.ends; version = maybe_stays c n x older versions e ss i made k.version }
     where
       over : ((a : Answer) × WasReleasedWith c older e i (stamp_made made) a) ⊎ EndsNow c older e ss i (stamp_made made) → ((a : Answer) × WasReleasedWith c (More n x older) e i (stamp_made made) a) ⊎ EndsNow c (More n x older) e ss i (stamp_made made)
       over (inl r) = inl (r.0, inr r.1)
-      over (inr now) = ends_stay c n x older h may stay.owners (commits_owe c older x may) e ss i (stamp_made made) now
+      over (inr now) = ends_stay c n x older h may owners (commits_owe c older x may) e ss i (stamp_made made) now
 
   body_stays : (p : Packet) (b : Body) → BodyFact c older p b → BodyFact c (More n x older) p b
   body_stays p (body.Report group copies) k = versions.reports p.epoch p.from group copies k
@@ -81,7 +85,7 @@ module _ (c : Config) (n : ℕ) (x : Told) (older : List Line) (h : IsFollowed c
   body_stays p (body.OpenDone serial a) k = open_done_stays p.epoch p.to serial a k
   body_stays p (body.Op serial number o seen) k = op_stays p.epoch p.to _ number o seen k
   body_stays p (body.OpDone serial number result) k = (k.0, inr k.1)
-  body_stays p (body.Close serial) k = close_stays c n x older h may stay.owners p.epoch p.to _ k
+  body_stays p (body.Close serial) k = close_stays c n x older h may owners p.epoch p.to _ k
   body_stays p (body.Closed inst made) k = closed_stays p.epoch p.from inst made k
   body_stays p (body.ClosedOk inst) k = inr k
   body_stays p (body.CloseDone serial a) k = (k.0, inr k.1)
@@ -89,6 +93,7 @@ module _ (c : Config) (n : ℕ) (x : Told) (older : List Line) (h : IsFollowed c
   body_stays p (body.LookSs us call process request times file w serve) k = serve_stays p.epoch us call process request times file w serve k
   body_stays p (body.LookDone call request times a) k = look_done_stays p.epoch p.to p.to_boot call request times a k
   body_stays p (body.Notify file kind set size stamp vector holder) k = notify_stays c n x older versions p.epoch file kind set size stamp vector k
+  body_stays p (body.Pull file stamp page) k = versions.stands file stamp k
   body_stays p (body.Page file stamp page bytes) k = page_stays c older (More n x older) versions file stamp page bytes k
   body_stays p (body.Have file stamp) k = versions.have p.epoch p.from file stamp k
   body_stays p _ k = tt

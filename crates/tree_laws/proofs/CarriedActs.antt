@@ -115,7 +115,7 @@ op_told c n x older h may owners e ss i k o seen now = over x may owners (asks_s
       at = s.new;
       open_at = record { found = s.found; place = ap (λ (g : Granted). g.ss) s.grant_same ∙ now.open_at.place };
       next = now.next ∙ ap (λ (m : ℕ). m + 1) (sym same);
-      sees = owners.sees e now.call i o seen now.asks a.asks now.sees;
+      sees = owners.sees e now.call i k o seen now.asks a.asks now.owner now.sees;
     })
 
     acted : (r : Record) → MayTell c older (Shown r) → (new : Instance) → ActsOn (history c (entries older)) (tree_of c e (granted_group (entries older) e i) (entries older)) e i now.at new r → (result : Outcome) × ActRecord e i k o result older r

@@ -144,7 +144,7 @@ same_version_eq None (Some b) h = absurd (true_false (sym h))
 same_version_eq (Some a) None h = absurd (true_false (sym h))
 
 -- what is released is its last commit
-released_last : (h : List Version) (t : TreeState) (i : Serial) (f : FileId) (stamp : Option Stamp) (x : Instance) → instance_in t i ≡ Some x → gives_release h t i f stamp ≡ true → stamp ≡ x.work.committed
+pub released_last : (h : List Version) (t : TreeState) (i : Serial) (f : FileId) (stamp : Option Stamp) (x : Instance) → instance_in t i ≡ Some x → gives_release h t i f stamp ≡ true → stamp ≡ x.work.committed
 released_last h t i f stamp x found gives = same_version_eq stamp x.work.committed (second (same_file x.grant.file f) (same_version stamp x.work.committed) (not x.work.owes || is_spent h t x) (subst (λ (y : Option Instance). instance_ends h t f stamp y ≡ true) found gives))
   where
     second : (a b d : Bool) → a && (b && d) ≡ true → b ≡ true

@@ -48,6 +48,7 @@ joins_stay c old new v f (p ∷ ps) vector h = (
   v.stands f p h.1,
   joins_stay c old new v f ps h.0 h.2,
   λ s. subst (λ (x : List ℕ). part vector s ≡ max (part x s) (part h.0 s)) (sym (v.vectors f p h.1)) (h.3 s),
+  h.4,
 )
 
 pub sees_stay : (c : Config) (old new : List Line) → VersionsStay c old new → (f : FileId) (m : Mode) (stamp : Option Stamp) (vector : List ℕ) → SeesVersion c old f m stamp vector → SeesVersion c new f m stamp vector
@@ -85,6 +86,7 @@ plain_stays c n x older stay e ss i f m set k base vector parents h = record {
   some = (h.some.0, stay.stands f h.some.0 h.some.1);
   set_is = h.set_is ∙ sym (stay.sets f h.some.0 h.some.1);
   kind_is = h.kind_is ∙ sym (stay.kinds f h.some.0 h.some.1);
+  alone = h.alone;
   vector_is = joins_stay c older (More n x older) stay f parents vector h.vector_is;
   parents_are = over h.parents_are;
 }
@@ -98,6 +100,7 @@ pub notify_stays : (c : Config) (n : ℕ) (x : Told) (older : List Line) → Ver
 notify_stays c n x older stay e f k set size stamp vector h = record {
   started = started_stays c n x older e f.group h.started;
   known = stay.known e f stamp h.known;
+  single = stay.single e f h.started h.single;
   version = h.version;
   is_version = version_stays c older (More n x older) stay f h.version h.is_version;
   stamp_is = h.stamp_is;

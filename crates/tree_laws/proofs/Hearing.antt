@@ -55,7 +55,7 @@ asking_named c before d free xs w e r = over (call_named before d) refl
     over None k = absurd (none (sym (ap (λ (o : Option Waiting). script_as c before o (begun before d) free xs) k) ∙ e))
     over (Some v) k = (v, k)
 
-take_all : (xs : Answers) (a : Answer) → take (length xs + 1 - 1) (xs ++ a ∷ []) ≡ xs
+pub take_all : (xs : Answers) (a : Answer) → take (length xs + 1 - 1) (xs ++ a ∷ []) ≡ xs
 take_all [] a = refl
 take_all (x ∷ xs) a = ap (λ (n : ℕ). take n (x ∷ xs ++ a ∷ [])) (number (length xs)) ∙ ap (λ (ys : Answers). x ∷ ys) (ap (λ (n : ℕ). take n (xs ++ a ∷ [])) (sym (same (length xs))) ∙ take_all xs a)
   where
@@ -65,7 +65,7 @@ take_all (x ∷ xs) a = ap (λ (n : ℕ). take n (x ∷ xs ++ a ∷ [])) (number
     same : (n : ℕ) → n + 1 - 1 ≡ n
     same n = omega arith
 
-take_own : (xs : Answers) → take (length xs + 1 - 1) xs ≡ xs
+pub take_own : (xs : Answers) → take (length xs + 1 - 1) xs ≡ xs
 take_own [] = refl
 take_own (x ∷ xs) = ap (λ (n : ℕ). take n (x ∷ xs)) (number (length xs)) ∙ ap (λ (ys : Answers). x ∷ ys) (ap (λ (n : ℕ). take n xs) (sym (same (length xs))) ∙ take_own xs)
   where

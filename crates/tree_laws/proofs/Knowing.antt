@@ -25,7 +25,7 @@ use Rattle.tree_laws.specs.Instances.{IsKnown}
 -- ---- a list of versions that grows ----
 
 -- the list has the stamp for the inode
-abbrev Knows : ℕ → Stamp → List Brought → Type 0
+abbrev pub Knows : ℕ → Stamp → List Brought → Type 0
 Knows ino s bs = has_stamp (stamps_of bs ino) s ≡ true
 
 knows_after : (ino : ℕ) (s : Stamp) (b : Brought) (bs : List Brought) → Knows ino s bs → Knows ino s (b ∷ bs)
@@ -51,7 +51,7 @@ knows_same ino s b bs cs more h = over (b.ino == ino) h
     over true k = either (same_stamp b.stamp s) k
     over false k = more k
 
-knows_brought : (ino : ℕ) (s : Stamp) (new : Brought) (bs : List Brought) → Knows ino s bs → Knows ino s (with_brought new bs)
+pub knows_brought : (ino : ℕ) (s : Stamp) (new : Brought) (bs : List Brought) → Knows ino s bs → Knows ino s (with_brought new bs)
 knows_brought ino s new [] h = knows_after ino s new [] h
 knows_brought ino s new (b ∷ bs) h = over (knows_brought ino s new bs) (is_brought_below new b) (same_brought new b)
   where
@@ -60,11 +60,11 @@ knows_brought ino s new (b ∷ bs) h = over (knows_brought ino s new bs) (is_bro
     over later false true = h
     over later false false = knows_same ino s b bs (with_brought new bs) later h
 
-knows_all : (ino : ℕ) (s : Stamp) (cs : List HeldCopy) (bs : List Brought) → Knows ino s bs → Knows ino s (with_all cs bs)
+pub knows_all : (ino : ℕ) (s : Stamp) (cs : List HeldCopy) (bs : List Brought) → Knows ino s bs → Knows ino s (with_all cs bs)
 knows_all ino s [] bs h = h
 knows_all ino s (c ∷ cs) bs h = knows_all ino s cs (with_brought (record { ino = c.ino; stamp = c.now }) bs) (knows_brought ino s (record { ino = c.ino; stamp = c.now }) bs h)
 
-knows_published : (ino : ℕ) (s : Stamp) (f : FileId) (stamp : Option Stamp) (bs : List Brought) → Knows ino s bs → Knows ino s (published f stamp bs)
+pub knows_published : (ino : ℕ) (s : Stamp) (f : FileId) (stamp : Option Stamp) (bs : List Brought) → Knows ino s bs → Knows ino s (published f stamp bs)
 knows_published ino s f None bs h = h
 knows_published ino s f (Some at) bs h = knows_brought ino s (record { ino = f.ino; stamp = at }) bs h
 

@@ -28,3 +28,16 @@ pub mod Using
 pub mod Versions
 pub mod Origins
 pub mod Waiting
+pub mod Later
+pub mod Descriptors
+pub mod Answered
+pub mod Alone
+pub mod Seeing
+pub mod Looking
+pub mod Holding
+pub mod HoldingCalls
+pub mod Having
+pub mod Awaiting
+pub mod OfOwn
+pub mod Stepping
+pub mod Mending

@@ -138,3 +138,11 @@ one_boot c trace e d other h a b same = (once c trace h).one d other e (a.accept
 -- a site has joined the epoch in which a call of it was made
 pub joined_where_made : (c : Config) (trace : List Line) (d : CallId) (e : EpochId) → IsFollowed c trace → IsCallIn (entries trace) e d → has_joined (entries trace) d.site e ≡ true
 joined_where_made c trace d e h k = ((once c trace h).made d e (k.accepted, k.named, k.made_in)).0
+
+-- a call of the epoch that its site is in is of the boot in which the site runs
+pub boot_where_inside : (c : Config) (trace : List Line) (d : CallId) (e : EpochId) → IsFollowed c trace → IsCallIn (entries trace) e d → epoch_of (entries trace) d.site ≡ Some e → d.boot ≡ boot_of (entries trace) d.site
+boot_where_inside c trace d e h k inside = over ((once c trace h).made d e (k.accepted, k.named, k.made_in)).1
+  where
+    over : (d.boot ≡ boot_of (entries trace) d.site) ⊎ (epoch_of (entries trace) d.site ≡ Some e → ⊥) → d.boot ≡ boot_of (entries trace) d.site
+    over (inl same) = same
+    over (inr out) = absurd (out inside)

@@ -7,6 +7,7 @@ use Rattle.locus_ids.specs.declared.config.Config.{Config}
 use Rattle.locus_ids.specs.declared.ids.EpochId.{EpochId}
 use Rattle.locus_ids.specs.declared.ids.FileId.{FileId}
 use Rattle.locus_ids.specs.declared.ids.Serial.{Serial}
+use Rattle.locus_ids.specs.declared.ids.Stamp.{Stamp}
 use Rattle.commit_graph.specs.Grants.{is_read}
 use Rattle.commit_graph.specs.Versions.{same_file}
 use Rattle.commit_graph.specs.declared.history.Version.{Version}
@@ -122,7 +123,7 @@ inside_is c (r ∷ before) e g s = inside_record c r.line r.what before e g s (i
 
 -- ---- what is open in a tree is of its group ----
 
-abbrev InGroup : ℕ → Instance → Type 0
+abbrev pub InGroup : ℕ → Instance → Type 0
 InGroup g x = x.grant.file.group ≡ g
 
 pub every_added : {A : Type 0} (P : A → Type 0) (xs : List A) (x : A) → Every P xs → P x → Every P (xs ++ x ∷ [])
@@ -156,49 +157,62 @@ found_every P p (y ∷ xs) x e h = at (λ (k : find p xs ≡ Some x). found_ever
     at later true k = subst P (some_is y x k) h.0
     at later false k = later k
 
-group_record : (h : List Version) (r : Record) (t : TreeState) → Every (InGroup t.group) t.instances → Every (InGroup t.group) (next h r t).instances
-group_record h (says.Join s e m) t k = over (same_epoch e t.epoch)
+-- what the record grants in the tree has the property
+abbrev pub GrantHas : (Granted → Type 0) → TreeState → Record → Type 0
+GrantHas P t (says.Grant e call request i m f stamp ss) = e ≡ t.epoch → f.group ≡ t.group → P (grant_of t call i m f ss)
+GrantHas P t _ = Unit {0}
+
+-- a property of grants that each open instance's grant has, each has after a record
+pub grants_have : (P : Granted → Type 0) (h : List Version) (r : Record) (t : TreeState) → GrantHas P t r → Every (λ (x : Instance). P x.grant) t.instances → Every (λ (x : Instance). P x.grant) (next h r t).instances
+grants_have P h (says.Join s e m) t new k = over (same_epoch e t.epoch)
   where
-    over : (b : Bool) → Every (InGroup t.group) (cond b (joined s m t) (left s t)).instances
+    over : (b : Bool) → Every (λ (x : Instance). P x.grant) (cond b (joined s m t) (left s t)).instances
     over true = k
     over false = k
-group_record h (says.Start e group copies) t k = over (same_epoch e t.epoch && (group == t.group))
+grants_have P h (says.Start e group copies) t new k = over (same_epoch e t.epoch && (group == t.group))
   where
-    over : (b : Bool) → Every (InGroup t.group) (cond b (record t { started = true }) t).instances
+    over : (b : Bool) → Every (λ (x : Instance). P x.grant) (cond b (record t { started = true }) t).instances
     over true = k
     over false = k
-group_record h (says.Refuse e call request i m f why) t k = over (same_epoch e t.epoch && ((f.group == t.group) && is_make m))
+grants_have P h (says.Refuse e call request i m f why) t new k = over (same_epoch e t.epoch && ((f.group == t.group) && is_make m))
   where
-    over : (b : Bool) → Every (InGroup t.group) (cond b (record t { makes = without_make call t.makes }) t).instances
+    over : (b : Bool) → Every (λ (x : Instance). P x.grant) (cond b (record t { makes = without_make call t.makes }) t).instances
     over true = k
     over false = k
-group_record h (says.Grant e call request i m f stamp ss) t k = over (same_epoch e t.epoch) (f.group == t.group) refl
+grants_have P h (says.Grant e call request i m f stamp ss) t new k = over (same_epoch e t.epoch) (f.group == t.group) refl refl
   where
     g : Granted
     g = grant_of t call i m f ss
 
-    over : (a b : Bool) → (f.group == t.group) ≡ b → Every (InGroup t.group) (cond a (record t { grants = t.grants ++ g ∷ []; instances = cond b (t.instances ++ opened h g stamp ∷ []) t.instances }) t).instances
-    over true true e = every_added (InGroup t.group) t.instances (opened h g stamp) k (test_same f.group t.group e)
-    over true false e = k
-    over false b e = k
-group_record h (says.Act e i n o result) t k = over (same_epoch e t.epoch && is_granted_here t i)
+    over : (a b : Bool) → same_epoch e t.epoch ≡ a → (f.group == t.group) ≡ b → Every (λ (x : Instance). P x.grant) (cond a (record t { grants = t.grants ++ g ∷ []; instances = cond b (t.instances ++ opened h g stamp ∷ []) t.instances }) t).instances
+    over true true p q = every_added (λ (x : Instance). P x.grant) t.instances (opened h g stamp) k (new (same_epoch_eq e t.epoch p) (test_same f.group t.group q))
+    over true false p q = k
+    over false b p q = k
+grants_have P h (says.Act e i n o result) t new k = over (same_epoch e t.epoch && is_granted_here t i)
   where
-    over : (b : Bool) → Every (InGroup t.group) (cond b (record t { instances = change_first (is_named i) (once_acted h t o result) t.instances; makes = cond (is_passed_probe o result) (with_make (instance_in t i) t.makes) t.makes }) t).instances
-    over true = every_changed (InGroup t.group) (is_named i) (once_acted h t o result) (λ x p. p) t.instances k
+    over : (b : Bool) → Every (λ (x : Instance). P x.grant) (cond b (record t { instances = change_first (is_named i) (once_acted h t o result) t.instances; makes = cond (is_passed_probe o result) (with_make (instance_in t i) t.makes) t.makes }) t).instances
+    over true = every_changed (λ (x : Instance). P x.grant) (is_named i) (once_acted h t o result) (λ x p. p) t.instances k
     over false = k
-group_record h (says.Commit f s stamp parents content) t k = over (is_inside t s)
+grants_have P h (says.Commit f s stamp parents content) t new k = over (is_inside t s)
   where
-    over : (b : Bool) → Every (InGroup t.group) (cond b (change_first (is_writer f s) (once_committed stamp) t.instances) t.instances)
-    over true = every_changed (InGroup t.group) (is_writer f s) (once_committed stamp) (λ x p. p) t.instances k
+    over : (b : Bool) → Every (λ (x : Instance). P x.grant) (cond b (change_first (is_writer f s) (once_committed stamp) t.instances) t.instances)
+    over true = every_changed (λ (x : Instance). P x.grant) (is_writer f s) (once_committed stamp) (λ x p. p) t.instances k
     over false = k
-group_record h (says.Release e i f stamp) t k = over (same_epoch e t.epoch && (f.group == t.group))
+grants_have P h (says.Release e i f stamp) t new k = over (same_epoch e t.epoch && (f.group == t.group))
   where
-    over : (b : Bool) → Every (InGroup t.group) (cond b (released i f stamp t) t).instances
-    over true = every_left (InGroup t.group) (is_named i) t.instances k
+    over : (b : Bool) → Every (λ (x : Instance). P x.grant) (cond b (released i f stamp t) t).instances
+    over true = every_left (λ (x : Instance). P x.grant) (is_named i) t.instances k
     over false = k
-group_record h _ t k = k
+grants_have P h _ t new k = k
 
-in_group : (c : Config) (e : EpochId) (g : ℕ) (before : Trace) → Every (InGroup g) (tree_of c e g before).instances
+group_given : (t : TreeState) (r : Record) → GrantHas (λ (g : Granted). g.file.group ≡ t.group) t r
+group_given t (says.Grant e call request i m f stamp ss) = λ at same. same
+group_given t _ = tt
+
+group_record : (h : List Version) (r : Record) (t : TreeState) → Every (InGroup t.group) t.instances → Every (InGroup t.group) (next h r t).instances
+group_record h r t k = grants_have (λ (g : Granted). g.file.group ≡ t.group) h r t (group_given t r) k
+
+pub in_group : (c : Config) (e : EpochId) (g : ℕ) (before : Trace) → Every (InGroup g) (tree_of c e g before).instances
 in_group c e g [] = tt
 in_group c e g (r ∷ before) = (let t : TreeState = tree_of c e g before in
     subst (λ (k : ℕ). Every (InGroup k) (next (history c before) r.what t).instances) (tree_group_is c e g before)
@@ -206,7 +220,7 @@ in_group c e g (r ∷ before) = (let t : TreeState = tree_of c e g before in
 
 -- ---- the one that is committed ----
 
-none_left : {A : Type 0} (p q : A → Bool) (xs : List A) (x : A) → find p xs ≡ Some x → q x ≡ true → filter q xs ≡ [] → ⊥
+pub none_left : {A : Type 0} (p q : A → Bool) (xs : List A) (x : A) → find p xs ≡ Some x → q x ≡ true → filter q xs ≡ [] → ⊥
 none_left p q [] x e t f = none e
   where
     none : ◌≡◌ {A = Option _} None (Some x) → ⊥
@@ -221,7 +235,7 @@ none_left p q (y ∷ xs) x e t f = at (λ (k : find p xs ≡ Some x). none_left 
     at later true false g e f = true_false (sym t ∙ (ap q (sym (some_is y x e)) ∙ g))
     at later false false g e f = later e f
 
-only_one : {A : Type 0} (p q : A → Bool) (xs : List A) (x y : A) → find p xs ≡ Some x → q x ≡ true → filter q xs ≡ y ∷ [] → x ≡ y
+pub only_one : {A : Type 0} (p q : A → Bool) (xs : List A) (x y : A) → find p xs ≡ Some x → q x ≡ true → filter q xs ≡ y ∷ [] → x ≡ y
 only_one p q [] x y e t f = absurd (none e)
   where
     none : ◌≡◌ {A = Option _} None (Some x) → ⊥
@@ -240,7 +254,7 @@ only_one p q (z ∷ xs) x y e t f = at (λ (k : find p xs ≡ Some x). only_one 
     at later false true g e f = absurd (none_left p q xs x e t (rest_is z y (filter q xs) f))
     at later false false g e f = later e f
 
-writer_writes : (f : FileId) (s : ℕ) (x : Instance) → is_writer f s x ≡ true → is_writing f x ≡ true
+pub writer_writes : (f : FileId) (s : ℕ) (x : Instance) → is_writer f s x ≡ true → is_writing f x ≡ true
 writer_writes f s x h = over (same_file x.grant.file f) (x.grant.ss == s) (not (is_read x.grant.mode)) h
   where
     over : (a b d : Bool) → a && (b && d) ≡ true → a && d ≡ true
@@ -258,24 +272,26 @@ writer_group f s x h = over (same_file x.grant.file f) ((x.grant.ss == s) && not
     over true b e k = same e
     over false b e k = absurd (true_false (sym k))
 
-owed_record : (c : Config) (older : List Line) (r : Record) (e : EpochId) (i : Serial) (at : Instance) → MayTell c older (Shown r) → instance_now c older e i ≡ Some at → CommitsTold c older e i at (Shown r) → at.work.owes ≡ true
-owed_record c older (says.Commit f s stamp parents content) e i at may found told = subst (λ (x : Instance). x.work.owes ≡ true) (sym (only_one (is_named i) (is_writing f) t.instances at may.row.instance found (writer_writes f s at told.1) one)) may.row.owes
+-- an instance that is found in a tree of the epoch, and that a commit may be of, owes it
+pub owed_where : (c : Config) (older : List Line) (e : EpochId) (g : ℕ) (p : Instance → Bool) (at : Instance) (f : FileId) (s : ℕ) (stamp : Stamp) (parents : List Stamp) (content : List ℕ) → MayTell c older (Shown (says.Commit f s stamp parents content)) →
+    find p (tree_of c e g (entries older)).instances ≡ Some at → is_inside (tree_of c e g (entries older)) s ≡ true → is_writer f s at ≡ true → at.work.owes ≡ true
+owed_where c older e g p at f s stamp parents content may found inside writes = subst (λ (x : Instance). x.work.owes ≡ true) (sym (only_one p (is_writing f) t.instances at may.row.instance found (writer_writes f s at writes) one)) may.row.owes
   where
-    g : ℕ
-    g = granted_group (entries older) e i
-
     t : TreeState
     t = tree_of c e g (entries older)
 
     epoch_is : may.row.epoch ≡ e
-    epoch_is = same_epoch_eq may.row.epoch e (ap (λ (o : Option EpochId). is_in o e) (sym may.row.inside) ∙ (sym (inside_is c (entries older) e g s) ∙ told.0))
+    epoch_is = same_epoch_eq may.row.epoch e (ap (λ (o : Option EpochId). is_in o e) (sym may.row.inside) ∙ (sym (inside_is c (entries older) e g s) ∙ inside))
 
     group_is : f.group ≡ g
-    group_is = sym (writer_group f s at told.1) ∙ found_every (InGroup g) (is_named i) t.instances at found (in_group c e g (entries older))
+    group_is = sym (writer_group f s at writes) ∙ found_every (InGroup g) p t.instances at found (in_group c e g (entries older))
 
     one : filter (is_writing f) t.instances ≡ may.row.instance ∷ []
     one = subst (λ (k : ℕ). filter (is_writing f) (tree_of c e k (entries older)).instances ≡ may.row.instance ∷ []) group_is
         (subst (λ (y : EpochId). filter (is_writing f) (tree_of c y f.group (entries older)).instances ≡ may.row.instance ∷ []) epoch_is may.row.one)
+
+owed_record : (c : Config) (older : List Line) (r : Record) (e : EpochId) (i : Serial) (at : Instance) → MayTell c older (Shown r) → instance_now c older e i ≡ Some at → CommitsTold c older e i at (Shown r) → at.work.owes ≡ true
+owed_record c older (says.Commit f s stamp parents content) e i at may found told = owed_where c older e (granted_group (entries older) e i) (is_named i) at f s stamp parents content may found told.0 told.1
 owed_record c older _ e i at may found told = absurd told
 
 pub commits_owe : (c : Config) (older : List Line) (x : Told) → MayTell c older x → CommitsOwe c older x

@@ -33,7 +33,7 @@ none_some a e = cc
 
 -- ---- what was granted was named ----
 
-granted_named : (trace : List Line) (e : EpochId) (i : Serial) (g : CallId) → granted_to (entries trace) e i ≡ Some g → WasNamed trace e i
+pub granted_named : (trace : List Line) (e : EpochId) (i : Serial) (g : CallId) → granted_to (entries trace) e i ≡ Some g → WasNamed trace e i
 granted_named [] e i g k = absurd (none_some g k)
 granted_named (y ∷ older) e i g k = over (λ z. granted_named older e i g z) y.told k
   where
@@ -73,11 +73,11 @@ number_more c xs n d e = at (n == suc (length xs)) refl
 
 -- the reply opens
 opened_reply : (c : Config) (older : List Line) (d : CallId) (r : Reply) (w : Want) → Asks c older d w → AnswersInTime c older d r → is_opened r ≡ true → ⊥
-opened_reply c older d (reply.Opened fd) w k t e = true_false (sym (subst (λ (v : Want). is_request v ≡ true) (sym k.asked) k.request) ∙ t.nothing_asked)
+opened_reply c older d (reply.Opened fd) w k t e = true_false (sym (subst (λ (v : Want). is_request v ≡ true) (sym k.asked) k.request) ∙ t.replies.nothing_asked)
 opened_reply c older d _ w k t e = absurd (true_false (sym e))
 
 -- who has named what is as it was, or the call that was granted it is answered by a descriptor
-named_record : (c : Config) (older : List Line) (n : ℕ) (r : Record) (d : CallId) (w : Want) → MayTell c older (Shown r) → Asks c older d w → has_named (record { line = n; what = r } ∷ entries older) d ≡ has_named (entries older) d
+pub named_record : (c : Config) (older : List Line) (n : ℕ) (r : Record) (d : CallId) (w : Want) → MayTell c older (Shown r) → Asks c older d w → has_named (record { line = n; what = r } ∷ entries older) d ≡ has_named (entries older) d
 named_record c older n (says.Answer s process other r) d w may k = at (same_call other d) (is_opened r) refl refl
   where
     at : (a b : Bool) → same_call other d ≡ a → is_opened r ≡ b → (a && b || has_named (entries older) d) ≡ has_named (entries older) d
@@ -86,7 +86,7 @@ named_record c older n (says.Answer s process other r) d w may k = at (same_call
     at false b p q = refl
 named_record c older n _ d w may k = refl
 
-named_more : (n : ℕ) (r : Record) (before : Trace) (d : CallId) → has_named before d ≡ true → has_named (record { line = n; what = r } ∷ before) d ≡ true
+pub named_more : (n : ℕ) (r : Record) (before : Trace) (d : CallId) → has_named before d ≡ true → has_named (record { line = n; what = r } ∷ before) d ≡ true
 named_more n (says.Answer s process other r) before d h = at (same_call other d && is_opened r)
   where
     at : (a : Bool) → (a || has_named before d) ≡ true
@@ -96,7 +96,7 @@ named_more n _ before d h = h
 
 -- ---- what may be granted, used or closed ----
 
-granted_same : (c : Config) (older : List Line) (n : ℕ) (r : Record) (e : EpochId) (i : Serial) (g : CallId) → MayTell c older (Shown r) → granted_to (entries older) e i ≡ Some g → granted_to (record { line = n; what = r } ∷ entries older) e i ≡ Some g
+pub granted_same : (c : Config) (older : List Line) (n : ℕ) (r : Record) (e : EpochId) (i : Serial) (g : CallId) → MayTell c older (Shown r) → granted_to (entries older) e i ≡ Some g → granted_to (record { line = n; what = r } ∷ entries older) e i ≡ Some g
 granted_same c older n (says.Grant at d request inst m f stamp ss) e i g may k = at_it (same_epoch at e) (same_serial inst i) refl refl
   where
     at_it : (a b : Bool) → same_epoch at e ≡ a → same_serial inst i ≡ b → cond (a && b) (Some d) (granted_to (entries older) e i) ≡ Some g
@@ -105,7 +105,7 @@ granted_same c older n (says.Grant at d request inst m f stamp ss) e i g may k =
     at_it false b p q = k
 granted_same c older n _ e i g may k = k
 
-used_same : (n : ℕ) (r : Record) (before : Trace) (e : EpochId) (i : Serial) (k : ℕ) (d : CallId) → use_number (uses_of before e i) k ≡ Some d → use_number (uses_of (record { line = n; what = r } ∷ before) e i) k ≡ Some d
+pub used_same : (n : ℕ) (r : Record) (before : Trace) (e : EpochId) (i : Serial) (k : ℕ) (d : CallId) → use_number (uses_of before e i) k ≡ Some d → use_number (uses_of (record { line = n; what = r } ∷ before) e i) k ≡ Some d
 used_same n (says.Accept s process new words) before e i k d h = at (not (is_close words) && uses_by (begins_now before s process words) e i)
   where
     at : (b : Bool) → use_number (cond b (new ∷ uses_of before e i) (uses_of before e i)) k ≡ Some d
@@ -125,7 +125,7 @@ closed_again before (call.Close fd) (begins.Denied why) e i d t h k = true_false
 closed_again before (call.Close fd) begins.Walks e i d t h k = true_false (sym k)
 closed_again before _ b e i d t h k = true_false (sym k)
 
-closed_same : (c : Config) (older : List Line) (n : ℕ) (r : Record) (e : EpochId) (i : Serial) (d : CallId) → MayTell c older (Shown r) → close_of (entries older) e i ≡ Some d → close_of (record { line = n; what = r } ∷ entries older) e i ≡ Some d
+pub closed_same : (c : Config) (older : List Line) (n : ℕ) (r : Record) (e : EpochId) (i : Serial) (d : CallId) → MayTell c older (Shown r) → close_of (entries older) e i ≡ Some d → close_of (record { line = n; what = r } ∷ entries older) e i ≡ Some d
 closed_same c older n (says.Accept s process new words) e i d may h = at (is_close words && uses_by (begins_now (entries older) s process words) e i) refl
   where
     at : (b : Bool) → is_close words && uses_by (begins_now (entries older) s process words) e i ≡ b → cond b (Some new) (close_of (entries older) e i) ≡ Some d

@@ -107,5 +107,13 @@ named_told c n _ older d may low = refl
 pub named_stays : (c : Config) (n : ℕ) (x : Told) (older : List Line) (d : CallId) → IsFollowed c older → MayTell c older x → IsNamed (entries older) d → call_named (onto_entries n x (entries older)) d ≡ call_named (entries older) d
 named_stays c n x older d h may named = named_told c n x older d may (calls_are_low c older h d named)
 
+begun_told : (c : Config) (n : ℕ) (x : Told) (older : List Line) (d : CallId) → MayTell c older x → IsLow (entries older) d → begun (onto_entries n x (entries older)) d ≡ begun (entries older) d
+begun_told c n (Shown r) older d may low = (stays_record c n r (entries older) d may.row low).begins
+begun_told c n _ older d may low = refl
+
+-- and began where it began
+pub begun_stays : (c : Config) (n : ℕ) (x : Told) (older : List Line) (d : CallId) → IsFollowed c older → MayTell c older x → IsNamed (entries older) d → begun (onto_entries n x (entries older)) d ≡ begun (entries older) d
+begun_stays c n x older d h may named = begun_told c n x older d may (calls_are_low c older h d named)
+
 pub in_stays : (c : Config) (n : ℕ) (x : Told) (older : List Line) (e : EpochId) (d : CallId) → IsFollowed c older → MayTell c older x → IsCallIn (entries older) e d → IsCallIn (onto_entries n x (entries older)) e d
 in_stays c n x older e d h may k = record { accepted = k.accepted; named = named_stays c n x older d h may (k.accepted, k.named) ∙ k.named; made_in = k.made_in }

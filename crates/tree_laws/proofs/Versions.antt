@@ -21,5 +21,6 @@ versions_stay c n x older h may fresh o = record {
   have = o.have;
   used = λ e site f k. used_stays c n x older e site f k;
   reports = o.reports;
+  single = o.single;
   kept = o.kept;
 }

@@ -51,7 +51,7 @@ among_filter p x (y ∷ ys) t h = at (λ (k : Among x ys). among_filter p x ys t
     at later false e (inl same) = absurd (true_false (sym t ∙ (ap p same ∙ e)))
     at later false e (inr k) = later k
 
-found_among : {A : Type 0} (p : A → Bool) (xs : List A) (x : A) → find p xs ≡ Some x → Among x xs
+pub found_among : {A : Type 0} (p : A → Bool) (xs : List A) (x : A) → find p xs ≡ Some x → Among x xs
 found_among p [] x e = absurd (none_some x e)
 found_among p (y ∷ ys) x e = at (λ (k : find p ys ≡ Some x). found_among p ys x k) (p y) e
   where
@@ -62,13 +62,13 @@ found_among p (y ∷ ys) x e = at (λ (k : find p ys ≡ Some x). found_among p 
 -- ---- what waits is what was accepted ----
 
 -- an accepted call has its name and its site
-record IsIt (before : Trace) (d : CallId) (w : Waiting) : Type 0 where
-  call_is : w.call ≡ d
-  site_is : w.site ≡ d.site
+pub record IsIt (before : Trace) (d : CallId) (w : Waiting) : Type 0 where
+  pub call_is : w.call ≡ d
+  pub site_is : w.site ≡ d.site
 
-record Accepted (before : Trace) : Type 0 where
-  named : (d : CallId) (w : Waiting) → call_named before d ≡ Some w → IsIt before d w
-  waits : Every (λ (w : Waiting). call_named before w.call ≡ Some w) (waiting before)
+pub record Accepted (before : Trace) : Type 0 where
+  pub named : (d : CallId) (w : Waiting) → call_named before d ≡ Some w → IsIt before d w
+  pub waits : Every (λ (w : Waiting). call_named before w.call ≡ Some w) (waiting before)
 
 accepted_accept : (c : Config) (n s process : ℕ) (new : CallId) (words : Call) (older : List Line) → IsFollowed c older → MayTell c older (Shown (says.Accept s process new words)) → Accepted (entries older) → Accepted (record { line = n; what = says.Accept s process new words } ∷ entries older)
 accepted_accept c n s process new words older h may k = record { named = λ d w. named d w (same_call new d) refl; waits = (ap (λ (b : Bool). cond b (Some it) (call_named (entries older) new)) (same_call_own new), still (waiting (entries older)) k.waits) }
@@ -96,7 +96,7 @@ accepted_told : (c : Config) (n : ℕ) (x : Told) (older : List Line) → IsFoll
 accepted_told c n (Shown r) older h may k = accepted_record c n r older h may k
 accepted_told c n _ older h may k = k
 
-accepted : (c : Config) (trace : List Line) → IsFollowed c trace → Accepted (entries trace)
+pub accepted : (c : Config) (trace : List Line) → IsFollowed c trace → Accepted (entries trace)
 accepted c [] h = record { named = λ d w e. absurd (none_some w e); waits = tt }
 accepted c (x ∷ older) h = accepted_told c x.number x.told older h.1 h.0 (accepted c older h.1)
 
@@ -112,6 +112,7 @@ out_of false o a e = (refl, e)
 -- a call that asks isn't answered, while its site is in its epoch
 unanswered : (c : Config) (older : List Line) (d : CallId) (e : EpochId) (r : Reply) → AnswersInTime c older d r → epoch_of (entries older) d.site ≡ Some e → is_request (asked_now c older d) ≡ true → ⊥
 unanswered c older d e (reply.No (refusal.Changed at)) t inside asks = none_some e (sym t ∙ inside)
+unanswered c older d e (reply.Opened fd) t inside asks = true_false (sym asks ∙ t.replies.nothing_asked)
 unanswered c older d e (reply.No why) t inside asks = true_false (sym asks ∙ t.nothing_asked)
 unanswered c older d e _ t inside asks = true_false (sym asks ∙ t.nothing_asked)
 

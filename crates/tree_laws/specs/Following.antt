@@ -1,6 +1,6 @@
 -- Which told line may come when: a printed record as the lawful trace has it, and at its time by what its process has taken;
 -- and what only the laws see.
-use Rattle.std.specs.Prelude.{ℕ, ◌≡◌, ◌⊎◌, ◌+◌, true, false, List, [], ◌∷◌, None, Some}
+use Rattle.std.specs.Prelude.{ℕ, ◌≡◌, ◌⊎◌, ◌+◌, true, false, List, [], ◌∷◌, length, None, Some}
 use Rattle.std.specs.List.{find}
 use Rattle.locus_ids.specs.declared.config.Config.{Config}
 use Rattle.locus_ids.specs.declared.ids.CallId.{CallId}
@@ -17,6 +17,7 @@ use Rattle.trace_book.specs.declared.call.Call.{Call}
 use Rattle.trace_book.specs.declared.call.Call.TheVariants as call
 use Rattle.trace_book.specs.declared.descriptor.Beginning.{Beginning}
 use Rattle.trace_book.specs.declared.descriptor.Beginning.TheVariants as begins
+use Rattle.trace_book.specs.declared.descriptor.Descriptor.{Descriptor}
 use Rattle.trace_book.specs.declared.operation.Op.{Op}
 use Rattle.trace_book.specs.declared.operation.What.{What}
 use Rattle.trace_book.specs.declared.record.Record.{Record}
@@ -32,17 +33,19 @@ use Rattle.role_steps.specs.Views.{Told, Shown, Promises, Takes, LooksAgain, Beg
 use Rattle.the_run.specs.Worlds.{Line}
 use Rattle.tree_model.specs.declared.accepted.Waiting.{Waiting}
 use Rattle.tree_model.specs.declared.instance.Instance.{Instance}
-use Rattle.tree_model.specs.Calls.{waiting}
+use Rattle.tree_model.specs.Calls.{opening_of, waiting}
 use Rattle.tree_model.specs.Epochs.{epoch_of, members_of}
 use Rattle.tree_model.specs.Folds.{Trace}
 use Rattle.tree_model.specs.Opening.{is_given_by}
 use Rattle.tree_model.specs.Packs.{is_good_set, making_site_in}
+use Rattle.tree_model.specs.Tree.{kept_in}
 use Rattle.lawful_trace.specs.CallRows.{is_this}
 use Rattle.lawful_trace.specs.Lawful.{MayCome}
 use Rattle.lawful_trace.specs.Tables.{begins_now, close_of, call_of_act, call_of_release}
 use Rattle.lawful_trace.specs.TreeRows.{granted_group}
 use Rattle.tree_laws.specs.Printed.{entries}
 use Rattle.tree_laws.specs.Calls.{log, tries, heard, script, is_request, Asks, Waits, request_number}
+use Rattle.tree_laws.specs.Holding.{has_instances}
 use Rattle.tree_laws.specs.Past.{WasNamed, WasBegun, WasShut}
 use Rattle.tree_laws.specs.Instances.{IsOpenAt, AsksOpen, IsStarted, IsUsed, IsFull}
 
@@ -126,20 +129,27 @@ pub record ReleasesInTime (c : Config) (trace : List Line) (e : EpochId) (i : Se
   pub shut : WasShut trace at.grant.ss e i
   pub owes : at.work.owes ≡ false
 
--- nothing is adopted in an epoch before the group has started
+-- nothing is adopted in an epoch before the group has started, nor of a file of which several versions are kept
 pub record AdoptsInTime (c : Config) (trace : List Line) (f : FileId) (site : ℕ) : Type 0 where
   pub epoch : EpochId
   pub inside : epoch_of (entries trace) site ≡ Some epoch
   pub started : IsStarted c trace epoch f.group
+  pub single : length (kept_in c (entries trace) epoch f) ≡ 1
 
 -- the last answer is taken, and nothing is asked
 pub record RepliesInTime (c : Config) (trace : List Line) (d : CallId) : Type 0 where
   pub nothing_waits : heard c trace d ≡ log trace d
   pub nothing_asked : is_request (script c (entries trace) d None (log trace d)) ≡ false
 
+-- an open is answered by a descriptor while its call has the instance that was granted to it last
+pub record RepliesOpened (c : Config) (trace : List Line) (d : CallId) : Type 0 where
+  pub replies : RepliesInTime c trace d
+  pub held : (x : Descriptor) → opening_of (entries trace) d ≡ Some x → has_instances c trace d x.inst ≡ true
+
 -- a reply comes once nothing is asked any more; that the epoch was left comes whatever is asked, at a site that is in none
 abbrev pub AnswersInTime : Config → List Line → CallId → Reply → Type 0
 AnswersInTime c trace d (reply.No (refusal.Changed e)) = epoch_of (entries trace) d.site ≡ None
+AnswersInTime c trace d (reply.Opened fd) = RepliesOpened c trace d
 AnswersInTime c trace d r = RepliesInTime c trace d
 
 -- a close is accepted of an instance of which none was: its descriptor is free from then on
@@ -195,7 +205,7 @@ pub record BeginsGranted (c : Config) (trace : List Line) (s : ℕ) (e : EpochId
   pub open_at : IsOpenAt c trace e i s at
   pub file_is : at.grant.file ≡ f
 
--- what a call makes here, under a number that is free
+-- what a call makes here, under a number that is free, and of which nothing was begun here
 pub record BeginsMade (c : Config) (trace : List Line) (s : ℕ) (e : EpochId) (i : Serial) (f : FileId) : Type 0 where
   pub call : CallId
   pub request : ℕ
@@ -205,9 +215,11 @@ pub record BeginsMade (c : Config) (trace : List Line) (s : ℕ) (e : EpochId) (
   pub asks : AsksOpen c trace e call request i.serial asked (how.Make set kind)
   pub user_is : i.us ≡ call.site
   pub group_is : asked.group ≡ f.group
+  pub started : IsStarted c trace e f.group
   pub at : making_site_in c f.group (members_of (entries trace) e) call.site set ≡ Some s
   pub number : is_given_by s f.ino ≡ true
   pub unused : IsUsed c trace e s f → ⊥
+  pub untouched : (j : Serial) → WasBegun trace s e j f → ⊥
 
 pub record MayBegin (c : Config) (trace : List Line) (s : ℕ) (e : EpochId) (i : Serial) (f : FileId) : Type 0 where
   pub inside : epoch_of (entries trace) s ≡ Some e

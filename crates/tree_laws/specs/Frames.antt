@@ -1,5 +1,5 @@
 -- What packet facts ask of the history and the tree so that they stay when a line is added: what the order of versions gives.
-use Rattle.std.specs.Prelude.{ℕ, ◌≡◌, ◌⊎◌, true, List, Option, Some}
+use Rattle.std.specs.Prelude.{ℕ, ◌≡◌, ◌⊎◌, true, List, length, Option, Some}
 use Rattle.locus_ids.specs.declared.config.Config.{Config}
 use Rattle.locus_ids.specs.declared.ids.CallId.{CallId}
 use Rattle.locus_ids.specs.declared.ids.EpochId.{EpochId}
@@ -27,7 +27,7 @@ use Rattle.lawful_trace.specs.TreeRows.{granted_group}
 use Rattle.tree_laws.specs.Printed.{entries}
 use Rattle.tree_laws.specs.Calls.{Asks}
 use Rattle.tree_laws.specs.Past.{WasGranted, WasBegun}
-use Rattle.tree_laws.specs.Instances.{instance_now, Stands, IsKnown, HasAtLeast, IsUsed}
+use Rattle.tree_laws.specs.Instances.{instance_now, Stands, IsKnown, HasAtLeast, IsStarted, IsUsed}
 use Rattle.tree_laws.specs.Packets.{ReportFact, SeesFor, MakeOpenSs, NoNumber}
 
 -- no commit takes a stamp of its file that stands
@@ -47,6 +47,8 @@ pub record VersionsStay (c : Config) (old new : List Line) : Type 0 where
   pub have : (e : EpochId) (site : ℕ) (f : FileId) (s : Stamp) → HasAtLeast c old e site f s → HasAtLeast c new e site f s
   pub used : (e : EpochId) (site : ℕ) (f : FileId) → IsUsed c old e site f → IsUsed c new e site f
   pub reports : (e : EpochId) (site group : ℕ) (copies : List ReportedCopy) → ReportFact c old e site group copies → ReportFact c new e site group copies
+  -- where one version of a file is kept in an epoch, one is
+  pub single : (e : EpochId) (f : FileId) → IsStarted c old e f.group → length (kept_in c (entries old) e f) ≡ 1 → length (kept_in c (entries new) e f) ≡ 1
   -- while an instance isn't begun, what is kept of its file is what was kept at its grant
   pub kept : (e : EpochId) (d : CallId) (request : ℕ) (i : Serial) (m : Mode) (f : FileId) (stamp : Option Stamp) (ss : ℕ) (parents : List Stamp) → WasGranted old e d request i m f stamp ss →
       parents ≡ kept_in c (entries old) e f → ((site : ℕ) × WasBegun new site e i f) ⊎ (parents ≡ kept_in c (entries new) e f)
@@ -58,7 +60,7 @@ CommitsTold c old e i x _ = ⊥
 
 -- One call at a time asks something of an instance, and what a remove has seen stays while it is asked.
 pub record OwnersStay (c : Config) (old new : List Line) : Type 0 where
-  pub sees : (e : EpochId) (d : CallId) (i : Serial) (o : Op) (seen : List ℕ) → Asks c old d (want.Do i o) → Asks c new d (want.Do i o) → SeesFor c old e d i o seen → SeesFor c new e d i o seen
+  pub sees : (e : EpochId) (d : CallId) (i : Serial) (n : ℕ) (o : Op) (seen : List ℕ) → Asks c old d (want.Do i o) → Asks c new d (want.Do i o) → call_of_act (entries old) e i n ≡ Some d → SeesFor c old e d i o seen → SeesFor c new e d i o seen
   pub alone : (e : EpochId) (i : Serial) (n : ℕ) (d other : CallId) (o : Op) → Asks c old d (want.Do i o) → call_of_act (entries old) e i n ≡ Some d → Asks c old other (want.Close i) → call_of_release (entries old) e i ≡ Some other → ⊥
 
 -- an open instance that a commit may be of owes it
@@ -75,11 +77,11 @@ pub record MakesStay (c : Config) (old new : List Line) : Type 0 where
 pub record OrderStays (c : Config) (old new : List Line) : Type 0 where
   pub have : (e : EpochId) (site : ℕ) (f : FileId) (s : Stamp) → HasAtLeast c old e site f s → HasAtLeast c new e site f s
   pub reports : (e : EpochId) (site group : ℕ) (copies : List ReportedCopy) → ReportFact c old e site group copies → ReportFact c new e site group copies
+  pub single : (e : EpochId) (f : FileId) → IsStarted c old e f.group → length (kept_in c (entries old) e f) ≡ 1 → length (kept_in c (entries new) e f) ≡ 1
   pub kept : (e : EpochId) (d : CallId) (request : ℕ) (i : Serial) (m : Mode) (f : FileId) (stamp : Option Stamp) (ss : ℕ) (parents : List Stamp) → WasGranted old e d request i m f stamp ss →
       parents ≡ kept_in c (entries old) e f → ((site : ℕ) × WasBegun new site e i f) ⊎ (parents ≡ kept_in c (entries new) e f)
 
--- All that packet facts want of the order of versions and of processes, for a line that is added.
+-- All that packet facts want of the order of versions, for a line that is added.
 pub record AllStay (c : Config) (old new : List Line) (x : Told) : Type 0 where
   pub fresh : IsFresh c old x
   pub order : OrderStays c old new
-  pub owners : OwnersStay c old new

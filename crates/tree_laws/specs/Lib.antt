@@ -9,3 +9,6 @@ pub mod Users
 pub mod Stores
 pub mod Tables
 pub mod Frames
+pub mod Processes
+pub mod Holding
+pub mod Doing

@@ -10,6 +10,7 @@ use Rattle.locus_ids.specs.declared.ids.Kind.{Kind}
 use Rattle.locus_ids.specs.declared.ids.Mode.{Mode}
 use Rattle.locus_ids.specs.declared.ids.Mode.TheVariants as mode
 use Rattle.locus_ids.specs.declared.ids.Serial.{Serial}
+use Rattle.locus_ids.specs.declared.sites.Members.{Members}
 use Rattle.locus_ids.specs.declared.sites.Sites.{Sites}
 use Rattle.locus_ids.specs.declared.ids.Stamp.{Stamp}
 use Rattle.locus_ids.specs.declared.refusal.Refusal.{Refusal}
@@ -51,17 +52,17 @@ use Rattle.the_run.specs.Worlds.{Line}
 use Rattle.tree_model.specs.declared.accepted.Waiting.{Waiting}
 use Rattle.tree_model.specs.declared.instance.Instance.{Instance}
 use Rattle.tree_model.specs.Calls.{call_named}
-use Rattle.tree_model.specs.Epochs.{members_of}
+use Rattle.tree_model.specs.Epochs.{has_joined, members_of}
 use Rattle.tree_model.specs.Files.{HeldVersion, kind_of_file, set_of_file}
 use Rattle.tree_model.specs.Histories.{history}
 use Rattle.tree_model.specs.Packs.{is_good_set, making_site_in}
 use Rattle.tree_model.specs.Tree.{tree_of, kept_in}
-use Rattle.tree_model.specs.Working.{is_target}
+use Rattle.tree_model.specs.Working.{is_target, list_of, merges}
 use Rattle.lawful_trace.specs.Tables.{call_of_act, call_of_release}
 use Rattle.lawful_trace.specs.TreeRows.{IsCallIn}
 use Rattle.tree_laws.specs.Printed.{entries}
 use Rattle.tree_laws.specs.Calls.{tries, Asks, request_number}
-use Rattle.tree_laws.specs.Past.{WasLooked, WasGranted, WasRefused, WasNamed, WasDone, WasReleasedWith, WasReleased, WasBegun, WasShut}
+use Rattle.tree_laws.specs.Past.{WasLooked, WasGranted, WasRefused, WasNamedIn, WasDone, WasReleasedWith, WasReleased, WasBegun, WasShut}
 use Rattle.tree_laws.specs.Instances.{held_in, instance_now, IsOpenAt, AsksOpen, Stands, IsVersion, IsKnown, HasAtLeast, IsStarted, IsFull}
 
 -- ---- reports ----
@@ -80,8 +81,9 @@ pub record ReportedNow (c : Config) (trace : List Line) (e : EpochId) (site grou
   pub held : held_in c (entries trace) e site (file_in group x.ino) ≡ Some version.stamp
   pub same : x ≡ reported_version x.ino version
 
--- these are the copies of the group that the site has in the epoch
+-- these are the copies of the group that the site, which has joined the epoch, has in it
 pub record ReportsNow (c : Config) (trace : List Line) (e : EpochId) (site group : ℕ) (copies : List ReportedCopy) : Type 0 where
+  pub joined : has_joined (entries trace) site e ≡ true
   pub each : Every (ReportedNow c trace e site group) copies
   pub all : (ino : ℕ) (stamp : Stamp) → held_in c (entries trace) e site (file_in group ino) ≡ Some stamp → (x : ReportedCopy) × Among x copies × (x.ino ≡ ino)
 
@@ -149,15 +151,16 @@ serial_of us serial = record { us = us; serial = serial }
 pub record OpenFact (c : Config) (trace : List Line) (e : EpochId) (us serial n process request : ℕ) (f : FileId) (it : Opening) : Type 0 where
   pub call : CallId
   pub is_call : IsCallOf trace e us n process call
-  pub stands : WasNamed trace e (serial_of us serial) ⊎ AsksOpen c trace e call request serial f it
+  pub stands : WasNamedIn trace e f.group (serial_of us serial) ⊎ AsksOpen c trace e call request serial f it
 
 -- The vector that a storage site begins from: that of the version for reading and writing, and counter by counter the
--- greatest of all parents for a merge.
+-- greatest of all parents for a merge. It has a counter for each of the sixteen sites.
 abbrev pub JoinsParents : Config → List Line → FileId → List Stamp → List ℕ → Type 0
-JoinsParents c trace f [] vector = (s : ℕ) → part vector s ≡ 0
-JoinsParents c trace f (p ∷ ps) vector = (rest : List ℕ) × Stands c trace f p × JoinsParents c trace f ps rest × ((s : ℕ) → part vector s ≡ max (part (vector_of (history c (entries trace)) f p) s) (part rest s))
+JoinsParents c trace f [] vector = ((s : ℕ) → part vector s ≡ 0) × (length vector ≡ 16)
+JoinsParents c trace f (p ∷ ps) vector = (rest : List ℕ) × Stands c trace f p × JoinsParents c trace f ps rest × ((s : ℕ) → part vector s ≡ max (part (vector_of (history c (entries trace)) f p) s) (part rest s)) × (length vector ≡ 16)
 
--- an open of a file that stands: it was granted to this site; until it is begun what its first commit follows is kept
+-- an open of a file that stands: it was granted to this site; its first commit follows the version on which it was granted, or of
+-- a merge what is kept until it is begun
 pub record PlainOpenSs (c : Config) (trace : List Line) (e : EpochId) (ss : ℕ) (i : Serial) (f : FileId) (m : Mode) (set : Sites) (k : Kind) (base : Stamp) (vector : List ℕ) (parents : List Stamp) : Type 0 where
   pub call : CallId
   pub request : ℕ
@@ -167,10 +170,11 @@ pub record PlainOpenSs (c : Config) (trace : List Line) (e : EpochId) (ss : ℕ)
   pub some : (s : Stamp) × Stands c trace f s
   pub set_is : set ≡ set_of_file c (entries trace) f
   pub kind_is : k ≡ kind_of_file c (entries trace) f
+  pub alone : merges m ≡ false → parents ≡ list_of stamp
   pub vector_is : JoinsParents c trace f parents vector
   pub parents_are : ((site : ℕ) × WasBegun trace site e i f) ⊎ (parents ≡ kept_in c (entries trace) e f)
 
--- a make that is asked now, and whose file this site is to store
+-- a make that is asked now in a group that has started, and whose file this site is to store
 pub record MakesNow (c : Config) (trace : List Line) (e : EpochId) (ss : ℕ) (i : Serial) (group : ℕ) (set : Sites) (k : Kind) : Type 0 where
   pub call : CallId
   pub request : ℕ
@@ -178,19 +182,26 @@ pub record MakesNow (c : Config) (trace : List Line) (e : EpochId) (ss : ℕ) (i
   pub asks : AsksOpen c trace e call request i.serial file (how.Make set k)
   pub user_is : i.us ≡ call.site
   pub group_is : file.group ≡ group
+  pub started : IsStarted c trace e group
   pub good : is_good_set c group (members_of (entries trace) e) set ≡ true
   pub at : making_site_in c group (members_of (entries trace) e) call.site set ≡ Some ss
 
--- a make that was refused since no number is left
+-- a make that was refused since no number is left, that nobody has begun, and whose file this site was to store
 pub record RefusedFull (c : Config) (trace : List Line) (e : EpochId) (ss : ℕ) (i : Serial) (group : ℕ) : Type 0 where
   pub call : CallId
   pub request : ℕ
   pub was_refused : WasRefused trace e call request i mode.Make refusal.NoInode
   pub full : IsFull c trace e ss group
+  pub unbegun : (site : ℕ) (f : FileId) → WasBegun trace site e i f → ⊥
+  pub members : Option Members
+  pub own : ℕ
+  pub set : Sites
+  pub good : is_good_set c group members set ≡ true
+  pub at : making_site_in c group members own set ≡ Some ss
 
--- a make: begun, or refused for good, or asked now
+-- a make: begun here, or refused for good, or asked now
 abbrev pub MakeOpenSs : Config → List Line → EpochId → ℕ → Serial → ℕ → Sites → Kind → Type 0
-MakeOpenSs c trace e ss i group set k = ((site : ℕ) × (f : FileId) × WasBegun trace site e i f) ⊎ (RefusedFull c trace e ss i group ⊎ MakesNow c trace e ss i group set k)
+MakeOpenSs c trace e ss i group set k = ((f : FileId) × WasBegun trace ss e i f) ⊎ (RefusedFull c trace e ss i group ⊎ MakesNow c trace e ss i group set k)
 
 abbrev pub OpenSsFact : Config → List Line → EpochId → ℕ → Serial → FileId → Mode → Sites → Kind → Stamp → List ℕ → List Stamp → Type 0
 OpenSsFact c trace e ss i f mode.Make set k base vector parents = MakeOpenSs c trace e ss i f.group set k × (parents ≡ []) × JoinsParents c trace f [] vector
@@ -307,10 +318,11 @@ CloseDoneFact c trace e i a = (last : Option Stamp) × WasReleasedWith c trace e
 
 -- ---- versions ----
 
--- the group has started, and this version of the file is known in the epoch
+-- the group has started, this version of the file is known in the epoch, and one version of the file is kept there
 pub record NotifyFact (c : Config) (trace : List Line) (e : EpochId) (f : FileId) (k : Kind) (set : Sites) (size : ℕ) (stamp : Stamp) (vector : List ℕ) : Type 0 where
   pub started : IsStarted c trace e f.group
   pub known : IsKnown c trace e f stamp
+  pub single : length (kept_in c (entries trace) e f) ≡ 1
   pub version : HeldVersion
   pub is_version : IsVersion c trace f version
   pub stamp_is : version.stamp ≡ stamp
@@ -343,6 +355,7 @@ BodyFact c trace p (body.Look call process request times file w) = LookFact c tr
 BodyFact c trace p (body.LookSs us call process request times file w serve) = ServeFact trace p.epoch us call process request times file w serve
 BodyFact c trace p (body.LookDone call request times a) = LookDoneFact c trace p.epoch p.to p.to_boot call request times a
 BodyFact c trace p (body.Notify file kind set size stamp vector holder) = NotifyFact c trace p.epoch file kind set size stamp vector
+BodyFact c trace p (body.Pull file stamp page) = Stands c trace file stamp
 BodyFact c trace p (body.Page file stamp page bytes) = PageFact c trace file stamp page bytes
 BodyFact c trace p (body.Have file stamp) = HasAtLeast c trace p.epoch p.from file stamp
 BodyFact c trace p _ = Unit {0}

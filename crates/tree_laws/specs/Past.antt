@@ -102,6 +102,15 @@ NamingRecord e i older _ = ⊥
 abbrev pub WasNamed : List Line → EpochId → Serial → Type 0
 WasNamed trace e i = Was (Printed (NamingRecord e i)) trace
 
+-- or of a file of this group
+abbrev pub NamesHere : EpochId → ℕ → Serial → List Line → Record → Type 0
+NamesHere e group i older (says.Grant at call number inst m file on place) = NamesIt e i at inst × (file.group ≡ group)
+NamesHere e group i older (says.Refuse at call number inst m file reason) = NamesIt e i at inst × (file.group ≡ group)
+NamesHere e group i older _ = ⊥
+
+abbrev pub WasNamedIn : List Line → EpochId → ℕ → Serial → Type 0
+WasNamedIn trace e group i = Was (Printed (NamesHere e group i)) trace
+
 -- ---- operations and ends ----
 
 pub record ActOf (e : EpochId) (i : Serial) (n : ℕ) (o : Op) (result : Outcome) (at : EpochId) (inst : Serial) (number : ℕ) (what : Op) (gave : Outcome) : Type 0 where

@@ -1,5 +1,5 @@
 -- What a storage site has, by the trace alone: copies as held, instances as the one tree has them, pulls of what is known.
-use Rattle.std.specs.Prelude.{ℕ, ◌≡◌, ◌⊎◌, ◌≤◌, List, [], length, take, Option, None, Some}
+use Rattle.std.specs.Prelude.{ℕ, ◌≡◌, ◌⊎◌, ◌*◌, ◌≤◌, ◌<◌, true, false, List, [], ◌∷◌, length, take, Option, None, Some}
 use Rattle.std.specs.Option.{option_map}
 use Rattle.locus_ids.specs.declared.config.Config.{Config}
 use Rattle.locus_ids.specs.declared.ids.CallId.{CallId}
@@ -13,11 +13,10 @@ use Rattle.trace_book.specs.declared.operation.Op.{Op}
 use Rattle.trace_book.specs.declared.operation.Outcome.{Outcome}
 use Rattle.wire_messages.specs.declared.body.CloseAnswer.{CloseAnswer}
 use Rattle.wire_messages.specs.declared.body.MadeVersion.{MadeVersion}
-use Rattle.wire_messages.specs.declared.body.Opening.TheVariants as how
 use Rattle.file_effects.specs.Works.{begun}
 use Rattle.role_steps.specs.Own.{Every}
 use Rattle.role_steps.specs.Reports.{stamp_made}
-use Rattle.role_steps.specs.Storage.{copy_of, instance_of}
+use Rattle.role_steps.specs.Storage.{copy_key, copy_of, instance_key, instance_of}
 use Rattle.role_steps.specs.Using.{close_answer}
 use Rattle.role_steps.specs.Views.{Frame, Store}
 use Rattle.role_steps.specs.declared.copies.FileCopy.{FileCopy}
@@ -31,22 +30,33 @@ use Rattle.tree_model.specs.Files.{HeldVersion, held_version, words_named, kind_
 use Rattle.tree_model.specs.Histories.{history}
 use Rattle.tree_model.specs.Opening.{sites_made}
 use Rattle.tree_model.specs.Packs.{packs_of}
-use Rattle.tree_model.specs.Tree.{tree_of}
+use Rattle.tree_model.specs.Tree.{tree_of, kept_in}
 use Rattle.tree_model.specs.Working.{parents_of}
 use Rattle.lawful_trace.specs.Progress.{close_answer as answer_of_close}
 use Rattle.tree_laws.specs.Printed.{entries}
 use Rattle.tree_laws.specs.Past.{WasGranted, WasNamed, WasDone, WasReleasedWith, WasBegun, WasReserved, WasShut}
-use Rattle.tree_laws.specs.Instances.{instance_now, IsOpenAt, AsksOpen, IsVersion, IsKnown, IsStarted}
-use Rattle.tree_laws.specs.Packets.{JoinsParents, MaybeMade, EndsNow}
+use Rattle.tree_laws.specs.Instances.{IsOpenAt, HasAtLeast, Stands, IsVersion, IsKnown, IsStarted}
+use Rattle.tree_laws.specs.Packets.{JoinsParents, MakesNow, MaybeMade, EndsNow}
 
 -- ---- copies ----
 
 abbrev pub copy_for : FileId → HeldVersion → FileCopy
 copy_for f v = record { file = f; kind = v.kind; set = v.set; stamp = v.stamp; vector = v.vector; content = v.content }
 
--- the disk holds of each file what its site holds by the trace
-abbrev pub CopiesAreHeld : Config → List Line → ℕ → Store → Type 0
-CopiesAreHeld c trace me s = (f : FileId) → copy_of s f ≡ option_map (copy_for f) (held_version c (entries trace) me f)
+-- each of the keys stands once
+abbrev pub AreApart : {A : Type 0} → (A → ℕ) → List A → Type 0
+AreApart key [] = Unit {0}
+AreApart key (x ∷ xs) = Every (λ y. key y ≡ key x → ⊥) xs × AreApart key xs
+
+-- the keys ascend
+abbrev pub Ascends : {A : Type 0} → (A → ℕ) → List A → Type 0
+Ascends key [] = Unit {0}
+Ascends key (x ∷ xs) = Every (λ y. key x < key y) xs × Ascends key xs
+
+-- the disk holds of each file what its site holds by the trace, and no file twice; inode numbers have 16 bits
+pub record CopiesAreHeld (c : Config) (trace : List Line) (me : ℕ) (s : Store) : Type 0 where
+  pub are : (f : FileId) → f.ino < 65536 → copy_of s f ≡ option_map (copy_for f) (held_version c (entries trace) me f)
+  pub ascends : Ascends copy_key s.copies
 
 -- ---- instances ----
 
@@ -60,7 +70,7 @@ pub record WorksAs (c : Config) (trace : List Line) (f : Frame) (i : Instance) (
 
 -- begun for a make that isn't granted yet: nothing was done with it
 pub record WaitsToBeGranted (c : Config) (trace : List Line) (f : Frame) (i : Instance) : Type 0 where
-  pub reserved : WasReserved trace f.me f.epoch i.inst i.file
+  pub mode_is : i.mode ≡ mode.Make
   pub fresh : i.work ≡ begun mode.Make None []
   pub no_parents : i.parents ≡ []
   pub unnamed : WasNamed trace f.epoch i.inst → ⊥
@@ -68,51 +78,86 @@ pub record WaitsToBeGranted (c : Config) (trace : List Line) (f : Frame) (i : In
 abbrev pub RunsAs : Config → List Line → Frame → Instance → Type 0
 RunsAs c trace f i = ((x : Open) × WorksAs c trace f i x) ⊎ WaitsToBeGranted c trace f i
 
+-- its close ends now: this is what it is answered, and it has no changed page
+pub record EndsAs (c : Config) (trace : List Line) (f : Frame) (i : Instance) (made : Option MadeVersion) (a : CloseAnswer) : Type 0 where
+  pub now : EndsNow c trace f.epoch f.me i.inst (stamp_made made)
+  pub answer_is : answer_of_close (stamp_made made) (Some now.at) ≡ close_answer a
+  pub unchanged : now.at.work.changed ≡ []
+
 -- what its close has made, and what it is answered
 pub record ClosesAs (c : Config) (trace : List Line) (f : Frame) (i : Instance) (made : Option MadeVersion) (a : CloseAnswer) : Type 0 where
-  pub ends : WasReleasedWith c trace f.epoch i.inst (stamp_made made) (close_answer a) ⊎ EndsNow c trace f.epoch f.me i.inst (stamp_made made)
-  pub answer_is : (x : Open) → instance_now c trace f.epoch i.inst ≡ Some x → answer_of_close (stamp_made made) (Some x) ≡ close_answer a
-  pub unchanged : (x : Open) → instance_now c trace f.epoch i.inst ≡ Some x → x.work.changed ≡ []
+  pub ends : WasReleasedWith c trace f.epoch i.inst (stamp_made made) (close_answer a) ⊎ EndsAs c trace f i made a
   pub version : MaybeMade c trace f.epoch f.me i.inst made
 
+-- since its last operation nothing was committed, and where nothing is owed no page is changed
+pub record IsSettled (i : Instance) : Type 0 where
+  pub fresh : i.work.fresh ≡ false
+  pub clean : i.work.owes ≡ false → i.work.changed ≡ []
+
+-- it owes nothing, and has no changed page
+pub record IsClean (i : Instance) : Type 0 where
+  pub owes : i.work.owes ≡ false
+  pub changed : i.work.changed ≡ []
+
 abbrev pub StageFact : Config → List Line → Frame → Instance → Stage → Type 0
-StageFact c trace f i stage.Running = RunsAs c trace f i × (WasShut trace f.me f.epoch i.inst → ⊥)
-StageFact c trace f i (stage.Closing made a) = ClosesAs c trace f i made a × (i.work.changed ≡ []) × WasShut trace f.me f.epoch i.inst
-StageFact c trace f i (stage.Closed a) = ((last : Option Stamp) × WasReleasedWith c trace f.epoch i.inst last (close_answer a)) × WasShut trace f.me f.epoch i.inst
+StageFact c trace f i stage.Running = RunsAs c trace f i × IsSettled i × (WasShut trace f.me f.epoch i.inst → ⊥)
+StageFact c trace f i (stage.Closing made a) = ClosesAs c trace f i made a × IsClean i × WasShut trace f.me f.epoch i.inst
+StageFact c trace f i (stage.Closed a) = ((last : Option Stamp) × WasReleasedWith c trace f.epoch i.inst last (close_answer a)) × IsClean i × WasShut trace f.me f.epoch i.inst
 
 -- the answer kept for repeats is that of the last operation
 abbrev pub AnsweredFact : List Line → Frame → Instance → Option Outcome → Type 0
 AnsweredFact trace f i None = i.work.ops ≡ 0
 AnsweredFact trace f i (Some result) = (o : Op) × WasDone trace f.epoch i.inst i.work.ops o result
 
+-- the call asks the make now, which this site is to store
+pub record MakesIt (c : Config) (trace : List Line) (f : Frame) (i : Instance) (d : CallId) : Type 0 where
+  pub now : MakesNow c trace f.epoch f.me i.inst i.file.group i.set i.kind
+  pub call_is : now.call ≡ d
+
 -- the call that makes the file: it asks the make now, or was granted it
 abbrev pub IsMaker : Config → List Line → Frame → Instance → CallId → Type 0
-IsMaker c trace f i d = ((request : ℕ) × (file : FileId) × AsksOpen c trace f.epoch d request i.inst.serial file (how.Make i.set i.kind)) ⊎ ((request : ℕ) × WasGranted trace f.epoch d request i.inst mode.Make i.file None f.me)
+IsMaker c trace f i d = MakesIt c trace f i d ⊎ ((request : ℕ) × WasGranted trace f.epoch d request i.inst mode.Make i.file None f.me)
 
--- the sites and the kind of the file are those that its making call gives, or those of the file where it stands
+-- the sites and the kind are those of a file that stands
+pub record PlainLies (c : Config) (trace : List Line) (i : Instance) : Type 0 where
+  pub stamp : Stamp
+  pub stands : Stands c trace i.file stamp
+  pub set_is : i.set ≡ set_of_file c (entries trace) i.file
+  pub kind_is : i.kind ≡ kind_of_file c (entries trace) i.file
+
+-- the sites and the kind of the file are those that its making call gives, and its number is reserved; or they are those of the
+-- file where it stands
 abbrev pub LiesAs : Config → List Line → Frame → Instance → Mode → Type 0
-LiesAs c trace f i mode.Make = (d : CallId) × IsMaker c trace f i d × (i.set ≡ sites_made (packs_of c i.file.group) (words_named (entries trace) (Some d))) × (i.kind ≡ kind_made (words_named (entries trace) (Some d)))
-LiesAs c trace f i _ = (i.set ≡ set_of_file c (entries trace) i.file) × (i.kind ≡ kind_of_file c (entries trace) i.file)
+LiesAs c trace f i mode.Make = (d : CallId) × IsMaker c trace f i d × (i.set ≡ sites_made (packs_of c i.file.group) (words_named (entries trace) (Some d))) × (i.kind ≡ kind_made (words_named (entries trace) (Some d))) × WasReserved trace f.me f.epoch i.inst i.file
+LiesAs c trace f i _ = PlainLies c trace i
+
+-- a make owes its first version, or the site has one of its file
+abbrev pub HoldsMade : Config → List Line → Frame → Instance → Mode → Type 0
+HoldsMade c trace f i mode.Make = ((i.work.committed ≡ None) × (i.work.owes ≡ true)) ⊎ ((stamp : Stamp) × HasAtLeast c trace f.epoch f.me i.file stamp)
+HoldsMade c trace f i _ = Unit {0}
 
 pub record InstanceFact (c : Config) (trace : List Line) (f : Frame) (i : Instance) : Type 0 where
   pub begun : WasBegun trace f.me f.epoch i.inst i.file
   pub user : i.inst.us ≤ 16
   pub vector_is : JoinsParents c trace i.file i.parents i.vector
   pub lies : LiesAs c trace f i i.mode
+  pub holds : HoldsMade c trace f i i.mode
   pub stage : StageFact c trace f i i.stage
   pub answered : AnsweredFact trace f i i.answered
 
 pub record StoreFact (c : Config) (trace : List Line) (f : Frame) (s : Store) : Type 0 where
   pub instances : Every (InstanceFact c trace f) s.instances
+  pub apart : AreApart instance_key s.instances
   -- each instance that the site has begun in the epoch is there
   pub has : (i : Serial) (file : FileId) → WasBegun trace f.me f.epoch i file → (x : Instance) × (instance_of s i ≡ Some x)
 
 -- ---- pulls ----
 
--- a known version is pulled, and its first pages have come
+-- a known version is pulled, of a file of which one version is kept, and its first pages have come, or all
 pub record PullFact (c : Config) (trace : List Line) (e : EpochId) (p : Pull) : Type 0 where
   pub started : IsStarted c trace e p.file.group
   pub known : IsKnown c trace e p.file p.stamp
+  pub single : length (kept_in c (entries trace) e p.file) ≡ 1
   pub version : HeldVersion
   pub is_version : IsVersion c trace p.file version
   pub stamp_is : version.stamp ≡ p.stamp
@@ -121,3 +166,4 @@ pub record PullFact (c : Config) (trace : List Line) (e : EpochId) (p : Pull) : 
   pub vector_is : version.vector ≡ p.vector
   pub size_is : length version.content ≡ p.size
   pub pages : p.content ≡ take (length p.content) version.content
+  pub even : (length p.content ≡ p.size) ⊎ ((k : ℕ) × (length p.content ≡ 1024 * k))

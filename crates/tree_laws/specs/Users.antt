@@ -28,8 +28,9 @@ use Rattle.the_run.specs.Kept.{Among}
 use Rattle.the_run.specs.Worlds.{Line}
 use Rattle.tree_model.specs.declared.accepted.Waiting.{Waiting}
 use Rattle.tree_model.specs.Calls.{call_named, waiting}
-use Rattle.tree_model.specs.Epochs.{boot_of, calls_accepted}
+use Rattle.tree_model.specs.Epochs.{boot_of, calls_accepted, members_of}
 use Rattle.tree_model.specs.Histories.{history}
+use Rattle.tree_model.specs.Packs.{sync_site}
 use Rattle.tree_model.specs.State.{has_number}
 use Rattle.lawful_trace.specs.CallRows.{has_lost_mend, is_this}
 use Rattle.lawful_trace.specs.Tables.{begun, descriptor}
@@ -37,7 +38,7 @@ use Rattle.tree_laws.specs.Printed.{entries}
 use Rattle.tree_laws.specs.Calls.{log, tries, script, Waits, Asks}
 use Rattle.tree_laws.specs.Serials.{asked_now, opens_asked, ops_asked, serial_asked}
 use Rattle.tree_laws.specs.Past.{WasGranted}
-use Rattle.tree_laws.specs.Instances.{IsOpening}
+use Rattle.tree_laws.specs.Instances.{IsOpening, Stands}
 use Rattle.tree_laws.specs.Packets.{PacketFact, SeesVersion, serial_of}
 
 abbrev pub own_call : ℕ → ℕ → ℕ → CallId
@@ -59,19 +60,21 @@ IsAnswered c trace d w = Asks c trace d w ⊎ ((a : Answer) × Waits c trace d a
 
 -- the contents that a mend has brought: of the versions that its looks named, which the process has taken
 pub record Brings (c : Config) (trace : List Line) (f : FileId) (stamps : List Stamp) (contents : List (List ℕ)) : Type 0 where
+  pub stand : Every (Stands c trace f) stamps
   pub contents_are : contents ≡ map (content_of (history c (entries trace)) f) stamps
+
+-- of the stamps that the open told, as many as looks have brought
+abbrev pub brought_of : List Stamp → List Answer → List Stamp
+brought_of (s ∷ ss) (answer.Brought ∷ rest) = s ∷ brought_of ss rest
+brought_of ss answers = []
+
+-- the versions whose contents a mend has taken
+abbrev pub taken_whole : List Answer → List Stamp
+taken_whole (answer.Merging inst kept ∷ rest) = brought_of kept rest
+taken_whole answers = []
 
 abbrev pub BringsFor : Config → List Line → CallId → Call → List (List ℕ) → Type 0
 BringsFor c trace d (call.Mend file) contents = Brings c trace file (taken_whole (log trace d)) contents
-  where
-    -- of the stamps that the open told, as many as looks have brought
-    brought_of : List Stamp → List Answer → List Stamp
-    brought_of (s ∷ ss) (answer.Brought ∷ rest) = s ∷ brought_of ss rest
-    brought_of ss answers = []
-
-    taken_whole : List Answer → List Stamp
-    taken_whole (answer.Merging inst kept ∷ rest) = brought_of kept rest
-    taken_whole answers = []
 BringsFor c trace d _ contents = contents ≡ []
 
 -- a waiting call is as the trace has it
@@ -137,7 +140,8 @@ pub record InsideUsers (c : Config) (trace : List Line) (f : Frame) (u : Users) 
   pub has : (serial : ℕ) → is_some (user_instance u serial) ≡ has_number (had c trace f.me) serial
   -- each call of the site that waits is among them
   pub all : (d : CallId) (process : ℕ) (caller : Waiting) → find (is_this f.me process d) (waiting (entries trace)) ≡ Some caller → (w : WaitingCall) × Among w u.waiting × (d ≡ own_call f.me f.boot w.call)
-  pub hopeless : (file : FileId) → list_any (same_file file) u.hopeless ≡ has_lost_mend (entries trace) f.epoch file
+  -- of the groups that it synchronizes it knows which mends were refused for good
+  pub hopeless : (file : FileId) → sync_site c file.group (members_of (entries trace) f.epoch) ≡ Some f.me → list_any (same_file file) u.hopeless ≡ has_lost_mend (entries trace) f.epoch file
 
 -- in and out of epochs
 pub record UsersFact (c : Config) (trace : List Line) (me boot : ℕ) (u : Users) : Type 0 where

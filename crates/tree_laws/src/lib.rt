@@ -6,6 +6,7 @@
 mod laws;
 
 pub use laws::{
-    calls_that_ask_wait, followed_traces_are_lawful, packet_facts_stay, requests_are_next,
+    calls_ask_of_what_they_have, calls_that_ask_wait, earlier_calls_are_over,
+    followed_traces_are_lawful, looks_ascend, packet_facts_stay, requests_are_next,
     serials_are_of_one_open,
 };

@@ -10,7 +10,7 @@ ghost use Rattle.run_book.specs.Ledgers.{limit_in, books};
 ghost use Rattle.world.specs.States.{state_of, AreFirst};
 ghost use Rattle.world.specs.Shown.{Taken, nothing_taken, all_taken, Shows, Follows};
 ghost use Rattle.world.specs.Faults.{MayCome};
-ghost use Rattle.version_laws.specs.Versions.{VersionsHold};
+ghost use Rattle.copy_laws.specs.Hold.{VersionsAndCopiesHold};
 
 use crate::WorldFault;
 use circuits::CutCircuits;
@@ -122,7 +122,7 @@ impl World {
     /// versions holds what does of every run's.
     pub fn step(&mut self, number: u32, line: Line) -> Result<(), WorldFault>
         ensures step { OnOk result (Follows (λ c w. act c number line w) (state_of self.old) (state_of self.new)) }
-        ensures versions { (c : Config) (lines : List ScheduleLine) (taken : Taken) → number ≡ length lines + 1 → Shows c taken (run_in c lines) (state_of self.old) → OnOk result (Shows c taken (run_in c (lines ++ Event line ∷ [])) (state_of self.new) × VersionsHold (run_in c (lines ++ Event line ∷ []))) }
+        ensures versions { (c : Config) (lines : List ScheduleLine) (taken : Taken) → number ≡ length lines + 1 → Shows c taken (run_in c lines) (state_of self.old) → OnOk result (Shows c taken (run_in c (lines ++ Event line ∷ [])) (state_of self.new) × VersionsAndCopiesHold c (run_in c (lines ++ Event line ∷ []))) }
         ensures fault { IfErr result (MayCome line) }
     {
         if self.book.passed().is_some() {

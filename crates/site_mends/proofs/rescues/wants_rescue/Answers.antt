@@ -1,4 +1,5 @@
 use Rattle.site_mends.proofs.Mends.{read_ill, read_well}
+use Rattle.site_mends.proofs.Fits.{refused_read}
 use Rattle.site_mends.proofs.rescues.wants_rescue.Goals as goal
 
 pub returns-clause-disk : goal.returns-clause-disk
@@ -6,3 +7,6 @@ returns-clause-disk g c = read_well c.args.packs.now (g.D.Disk.moment c.args.dis
 
 pub returns-in_err-read-clause-disk : goal.returns-in_err-read-clause-disk
 returns-in_err-read-clause-disk g c = read_ill c.args.packs.now (g.D.Disk.moment c.args.disk.now) (g.D.Disk.moment c.read.new.disk) c.from_residual.result c.in_err-read.field-0.0 c.from_residual.ensures.1 c.read.ensures.seen c.read.ensures.stands c.read.ensures.how c.read.ensures.crash c.in_err-read.ensures.cause c.in_err-read.ensures.tells
+
+pub returns-in_err-read-clause-unfit : goal.returns-in_err-read-clause-unfit
+returns-in_err-read-clause-unfit g c so can = refused_read c.in_err-read.field-0.0 c.from_residual.result c.from_residual.ensures.1 so

@@ -1,4 +1,4 @@
-use Rattle.std.proofs.Common.{◌≡◌, true, length, ℕ}
+use Rattle.std.proofs.Common.{◌≡◌, true, length}
 use Rattle.std.specs.List.{list_all}
 use Rattle.dir_format.specs.Contents.{entries_from}
 use Rattle.dir_format.specs.Entries.{is_live}

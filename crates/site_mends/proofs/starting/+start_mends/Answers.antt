@@ -1,6 +1,9 @@
 use Rattle.role_steps.specs.Epochs.{with_users}
 use Rattle.std.specs.Prelude.{Ok}
 use Rattle.site_mends.proofs.Mends.{mends_of, read_then, seen_with}
+use Rattle.std.specs.List.{AllByRecursion}
+use Rattle.site_tables.specs.Inodes.{AreInodes}
+use Rattle.site_mends.proofs.Fits.{first_are, rest_are, unfit_at}
 use Rattle.site_mends.proofs.starting.+start_mends.Goals as goal
 
 pub returns-clause-gives : goal.returns-clause-gives
@@ -8,3 +11,11 @@ returns-clause-gives g t c = λ v h. mends_of c.args.frame.now c.args.tables.now
 
 pub returns-clause-disk : goal.returns-clause-disk
 returns-clause-disk g t c = read_then g.D.Disk.moment {S = Unit {0}} {T = Unit {0}} c.args.packs.now c.args.disk.now c.start_mend.new.disk c.start_mends.new.disk tt (Ok tt) c.in_ok-start_mend.ensures.disk c.in_ok-start_mends.ensures.disk
+
+pub returns-in_err-start_mend-clause-unfit : goal.returns-in_err-start_mend-clause-unfit
+returns-in_err-start_mend-clause-unfit g t c = unfit_at {S = Unit {0}} (AllByRecursion AreInodes c.args.tables.now) c.from_residual.result c.in_err-start_mend.field-0.0 c.from_residual.ensures.1
+    (λ so can. c.in_err-start_mend.ensures.unfit so (first_are c.args.tables.now c.table-item.result c.in-len1-up.len_at_least c.table-item.is can))
+
+pub returns-in_err-start_mends-clause-unfit : goal.returns-in_err-start_mends-clause-unfit
+returns-in_err-start_mends-clause-unfit g t c = unfit_at {S = Unit {0}} (AllByRecursion AreInodes c.args.tables.now) c.from_residual-in_err-start_mends.result c.in_err-start_mends.field-0.0 c.from_residual-in_err-start_mends.ensures.1
+    (λ so can. c.in_err-start_mends.ensures.unfit so (rest_are c.args.tables.now c.in-len1-up.len_at_least can))

@@ -10,6 +10,15 @@ use Rattle.site_parts.specs.Roles.{mending_by}
 use Rattle.site_parts.specs.Writing.{EventWrites}
 use Rattle.site_parts.proofs.Cuts.{untouched, written_as}
 use Rattle.site_parts.proofs.StoreParts.{given_as, others_quiet, store_stays}
+use Rattle.std.proofs.Common.{◌≡◌, Err}
+use Rattle.role_steps.specs.OperationEffects.{Mending}
+use Rattle.the_run.specs.Steps.{from_user, group_of}
+use Rattle.storage_site.specs.Fitting.{CanCloseAt, CanOperateAt}
+use Rattle.site_parts.specs.Fitting.{CanOperateHere, CanRest}
+use Rattle.site_parts.specs.declared.fault.NodeFault.TheVariants.{Unfit}
+use Rattle.site_parts.proofs.Fits.{unfit_at}
+use Rattle.site_packs.specs.Packs.{groups_of}
+use Rattle.role_steps.specs.Storage.{instance_of}
 use Rattle.site_parts.proofs.storing.take_at_store.Goals as goal
 
 pub returns-in-OpenSs-clause-gives : goal.returns-in-OpenSs-clause-gives
@@ -63,3 +72,31 @@ returns-in_ok-work-in-Op-clause-disk g c =
     let s : Store = store_of c.args.store.now c.args.packs.now (g.D.Disk.moment c.args.disk.now).seen in
     rw c.in-Op.is (subst (λ (i : Serial). EventWrites {T = Unit {0}} (on_op c.args.frame.now (mending_by c.args.tables.now c.args.users.now s i) i c.in-Op.number c.in-Op.op c.in-Op.seen s).written c.args.packs.now (g.D.Disk.moment c.args.disk.now) (g.D.Disk.moment c.take_op.new.disk) c.args.out.now c.take_op.new.out c.take_op.result) c.named-inst.ensures
     (written_as _ _ _ _ _ _ _ _ (ap (λ (o : Outcome Store). o.written) (sym (c.in_ok-work-in-Op.ensures.work c.args.frame.now c.in-Op.number c.in-Op.seen s refl))) c.take_op.ensures.disk))
+
+pub returns-in-OpenSs-clause-unfit : goal.returns-in-OpenSs-clause-unfit
+returns-in-OpenSs-clause-unfit g c = rw c.in-OpenSs.is c.take_open.ensures.unfit
+
+pub returns-in-LookSs-clause-unfit : goal.returns-in-LookSs-clause-unfit
+returns-in-LookSs-clause-unfit g c so can = c.take_look.ensures.fit so
+
+pub returns-in-Pull-clause-unfit : goal.returns-in-Pull-clause-unfit
+returns-in-Pull-clause-unfit g c so can = c.take_pull.ensures.fit so
+
+pub returns-in-ClosedOk-clause-unfit : goal.returns-in-ClosedOk-clause-unfit
+returns-in-ClosedOk-clause-unfit g c so can = c.take_closed_ok.ensures.fit so
+
+pub returns-in-Close-clause-unfit : goal.returns-in-Close-clause-unfit
+returns-in-Close-clause-unfit g c = rw c.in-Close.is (subst (λ (i : Serial). c.take_close.result ≡ Err Unfit → CanCloseAt c.args.frame.now (groups_of c.args.packs.now) i (store_of c.args.store.now c.args.packs.now (g.D.Disk.moment c.args.disk.now).seen) → ⊥) c.named.ensures c.take_close.ensures.unfit)
+
+pub returns-in_err-work-in-Op-clause-unfit : goal.returns-in_err-work-in-Op-clause-unfit
+returns-in_err-work-in-Op-clause-unfit g c =
+    let s : Store = store_of c.args.store.now c.args.packs.now (g.D.Disk.moment c.args.disk.now).seen in
+    rw c.in-Op.is (unfit_at {S = Mending} (CanOperateHere c.args.frame.now (mending_by c.args.tables.now c.args.users.now s (from_user c.args.from c.in-Op.serial)) c.args.tables.now (groups_of c.args.packs.now) (from_user c.args.from c.in-Op.serial) c.in-Op.number c.in-Op.op s) c.from_residual.result c.in_err-work-in-Op.field-0.0 c.from_residual.ensures.1
+    (λ so can. c.in_err-work-in-Op.ensures.unfit so (subst (λ (i : Serial). CanRest c.args.tables.now (group_of (instance_of s i)) c.in-Op.op) (sym c.named-inst.ensures) can.rests)))
+
+pub returns-in_ok-work-in-Op-clause-unfit : goal.returns-in_ok-work-in-Op-clause-unfit
+returns-in_ok-work-in-Op-clause-unfit g c =
+    let s : Store = store_of c.args.store.now c.args.packs.now (g.D.Disk.moment c.args.disk.now).seen in
+    rw c.in-Op.is (λ so can. c.take_op.ensures.unfit so
+    (c.in_ok-work-in-Op.ensures.can c.args.frame.now (groups_of c.args.packs.now) c.in-Op.number s refl
+    (subst (λ (i : Serial). CanOperateAt c.args.frame.now (mending_by c.args.tables.now c.args.users.now s i) (groups_of c.args.packs.now) i c.in-Op.number c.in-Op.op s) (sym c.named-inst.ensures) can.operates)))

@@ -2,6 +2,7 @@ use Rattle.std.proofs.Common.{◌≢◌, refl}
 use Rattle.site_parts.specs.declared.fault.NodeFault.TheVariants.{NoMemory, NoNumber}
 use Rattle.site_parts.proofs.Cuts.{failed_still, untouched}
 use Rattle.site_parts.proofs.Numbers.{if_err, memory_numbered}
+use Rattle.site_parts.proofs.Fits.{memory_fit}
 use Rattle.site_parts.proofs.storing.take_closed_ok.Goals as goal
 
 pub returns-clause-gives : goal.returns-clause-gives
@@ -15,3 +16,6 @@ returns-in_err-on_closed_ok-clause-disk g c = failed_still _ c.args.packs.now (g
 
 pub returns-in_err-on_closed_ok-clause-numbered : goal.returns-in_err-on_closed_ok-clause-numbered
 returns-in_err-on_closed_ok-clause-numbered g c = if_err c.from_residual.result NoMemory (λ f. f ≢ NoNumber) c.from_residual.ensures.1 memory_numbered
+
+pub returns-in_err-on_closed_ok-clause-fit : goal.returns-in_err-on_closed_ok-clause-fit
+returns-in_err-on_closed_ok-clause-fit g c = memory_fit c.from_residual.result c.from_residual.ensures.1

@@ -1,5 +1,7 @@
 use Rattle.site_parts.proofs.Cuts.{reads_ill, reads_well}
 use Rattle.site_parts.proofs.Numbers.{read_numbered}
+use Rattle.storage_site.specs.Fitting.{CanOpen}
+use Rattle.site_parts.proofs.Fits.{refused_reading}
 use Rattle.site_parts.proofs.storing.take_open.Goals as goal
 
 pub returns-in-Ok-clause-disk : goal.returns-in-Ok-clause-disk
@@ -10,3 +12,6 @@ returns-in-Err-clause-disk g c = reads_ill g.D.Disk.moment {T = Unit {0}} {S = U
 
 pub returns-in-Err-clause-numbered : goal.returns-in-Err-clause-numbered
 returns-in-Err-clause-numbered g c = read_numbered c.reading.result c.in-Err.fault c.reading.ensures
+
+pub returns-in-Err-clause-unfit : goal.returns-in-Err-clause-unfit
+returns-in-Err-clause-unfit g c = refused_reading {S = Unit {0}} (CanOpen c.args.frame.now c.args.packs.now.site c.args.asked) c.reading.result c.in-Err.fault c.reading.ensures c.in-Err.ensures.unfit

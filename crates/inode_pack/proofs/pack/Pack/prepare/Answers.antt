@@ -1,11 +1,10 @@
-use Rattle.std.proofs.Common.{◌≡◌, ◌⊎◌, ◌≤◌, ◌+◌, ℕ, Bool, List, length, get_or, sym, ap, subst, ◌∙◌, arith}
+use Rattle.std.proofs.Common.{◌≡◌, ◌⊎◌, ◌≤◌, ◌+◌, ℕ, Bool, length, get_or, sym, ap, subst, ◌∙◌, arith}
 use Rattle.file_content.specs.Pages.{pages_of}
 use Rattle.pack_slots.specs.declared.inode_copy.InodeCopy.{InodeCopy}
 use Rattle.std.specs.Prelude.{◌==◌, Option, Some}
-use Rattle.shadow_pages.specs.Working.{count_below}
 use Rattle.inode_pack.specs.Committing.{needed, RestsOn, size_of, TakesPages}
 use Rattle.inode_pack.specs.Pack.{PackState}
-use Rattle.pack_slots.specs.Copies.{AreUses, copy_of, named_pages}
+use Rattle.pack_slots.specs.Copies.{copy_of, named_pages}
 use Rattle.inode_pack.proofs.Setup.{copy_is, number_inside}
 use Rattle.inode_pack.proofs.Passing.{same_but_for}
 use Rattle.inode_pack.proofs.NewCopies.{copy_at, room_for, makes_alike, low_of, high_of}
@@ -15,32 +14,30 @@ pub next_copy-made-requires-clause-room : goal.next_copy-made-requires-clause-ro
 next_copy-made-requires-clause-room g c =
     let inv = c.self.invariant in
     let fits : needed (g.C.NewContent.working c.args.content.now) + length (named_pages c.self.inside.copies.items) ≤ 3072 = subst (λ (p : PackState). needed (g.C.NewContent.working c.args.content.now) + length (named_pages p.copies) ≤ 3072) (sym c.self.view_is) c.requires.room in
-    let le : needed (g.C.NewContent.working c.args.content.now) ≤ c.self.inside.free = omega (arith, fits, inv.1.rest) in
-    subst (λ (l : List ℕ). needed (g.C.NewContent.working c.args.content.now) ≤ count_below (λ p. get_or l p 0 == 0) (length l)) (sym c.deref.ensures.value)
-    (room_for c.self.inside.copies.items c.self.inside.uses.items c.self.inside.free inv.0 inv.1 (needed (g.C.NewContent.working c.args.content.now)) le)
+    let le : needed (g.C.NewContent.working c.args.content.now) ≤ c.self.inside.pages.free = omega (arith, fits, inv.1.rest) in
+    room_for c.self.inside.copies.items c.self.inside.pages.uses c.self.inside.pages.free inv.0 inv.1 (needed (g.C.NewContent.working c.args.content.now)) le
 
 pub next_copy-made-requires-clause-turn : goal.next_copy-made-requires-clause-turn
 next_copy-made-requires-clause-turn g c copy held =
     let inv = c.self.invariant in
-    let at = copy_at c.self.inside.copies.items c.self.inside.uses.items c.self.inside.free inv.0 inv.1 c.args.ino c.from.result c.index-old.result.now (low_of c.get.result c.args.ino c.get.ensures.value c.get.ensures.low) (high_of c.get.result c.args.ino c.get.ensures.value c.get.ensures.high) (c.from.ensures ∙ c.get.ensures.value) c.index-old.ensures in
+    let at = copy_at c.self.inside.copies.items c.self.inside.pages.uses c.self.inside.pages.free inv.0 inv.1 c.args.ino c.from.result c.index-old.result.now (low_of c.get.result c.args.ino c.get.ensures.value c.get.ensures.low) (high_of c.get.result c.args.ino c.get.ensures.value c.get.ensures.high) (c.from.ensures ∙ c.get.ensures.value) c.index-old.ensures in
     (copy_is c.self.inside.copies.items c.args.ino copy inv.0 (sym at ∙ held)).slot.turn
 
 pub returns-clause-inside : goal.returns-clause-inside
 returns-clause-inside g c =
     let inv = c.self.invariant in
     let copies = c.self.inside.copies.items in
-    let uses = c.deref.result.now in
+    let uses = c.self.inside.pages.uses in
     let made = c.next_copy-made.result in
-    let used = subst (λ (l : List ℕ). AreUses copies l c.self.inside.free) (sym c.deref.ensures.value) inv.1 in
-    let at = copy_at copies c.self.inside.uses.items c.self.inside.free inv.0 inv.1 c.args.ino c.from.result c.index-old.result.now (low_of c.get.result c.args.ino c.get.ensures.value c.get.ensures.low) (high_of c.get.result c.args.ino c.get.ensures.value c.get.ensures.high) (c.from.ensures ∙ c.get.ensures.value) c.index-old.ensures in
-    let m = makes_alike copies uses c.self.inside.free c.args.ino c.index-old.result.now c.args.version.now (g.C.NewContent.working c.args.content.now) made inv.0 used at c.next_copy-made.ensures.makes in
+    let at = copy_at copies c.self.inside.pages.uses c.self.inside.pages.free inv.0 inv.1 c.args.ino c.from.result c.index-old.result.now (low_of c.get.result c.args.ino c.get.ensures.value c.get.ensures.low) (high_of c.get.result c.args.ino c.get.ensures.value c.get.ensures.high) (c.from.ensures ∙ c.get.ensures.value) c.index-old.ensures in
+    let m = makes_alike copies uses c.self.inside.pages.free c.args.ino c.index-old.result.now c.args.version.now (g.C.NewContent.working c.args.content.now) made inv.0 inv.1 at c.next_copy-made.ensures.makes in
     let rests = subst (λ (p : PackState). RestsOn (size_of (copy_of p.copies c.args.ino)) (g.C.NewContent.working c.args.content.now)) (sym c.self.view_is) c.requires.rests in
     number_inside copies c.args.ino (g.C.NewContent.working c.args.content.now) made.slot.pages inv.0 rests m.takes
 
 pub row_to_pass-passed-requires-clause-slot : goal.row_to_pass-passed-requires-clause-slot
 row_to_pass-passed-requires-clause-slot g c one held =
     let inv = c.self.invariant in
-    let at = copy_at c.self.inside.copies.items c.self.inside.uses.items c.self.inside.free inv.0 inv.1 c.args.ino c.from.result c.index-old.result.now (low_of c.get.result c.args.ino c.get.ensures.value c.get.ensures.low) (high_of c.get.result c.args.ino c.get.ensures.value c.get.ensures.high) (c.from.ensures ∙ c.get.ensures.value) c.index-old.ensures in
+    let at = copy_at c.self.inside.copies.items c.self.inside.pages.uses c.self.inside.pages.free inv.0 inv.1 c.args.ino c.from.result c.index-old.result.now (low_of c.get.result c.args.ino c.get.ensures.value c.get.ensures.low) (high_of c.get.result c.args.ino c.get.ensures.value c.get.ensures.high) (c.from.ensures ∙ c.get.ensures.value) c.index-old.ensures in
     (copy_is c.self.inside.copies.items c.args.ino one inv.0 (sym at ∙ held)).slot
 
 pub returns-clause-same : goal.returns-clause-same
@@ -49,9 +46,9 @@ returns-clause-same g c one known =
     let w = (g.C.NewContent.working c.args.content.now) in
     let row = c.args.row in
     let pass = c.row_to_pass-passed.result in
-    let at = copy_at c.self.inside.copies.items c.self.inside.uses.items c.self.inside.free inv.0 inv.1 c.args.ino c.from.result c.index-old.result.now (low_of c.get.result c.args.ino c.get.ensures.value c.get.ensures.low) (high_of c.get.result c.args.ino c.get.ensures.value c.get.ensures.high) (c.from.ensures ∙ c.get.ensures.value) c.index-old.ensures in
+    let at = copy_at c.self.inside.copies.items c.self.inside.pages.uses c.self.inside.pages.free inv.0 inv.1 c.args.ino c.from.result c.index-old.result.now (low_of c.get.result c.args.ino c.get.ensures.value c.get.ensures.low) (high_of c.get.result c.args.ino c.get.ensures.value c.get.ensures.high) (c.from.ensures ∙ c.get.ensures.value) c.index-old.ensures in
     let held = at ∙ subst (λ (p : PackState). copy_of p.copies c.args.ino ≡ Some one) (sym c.self.view_is) known in
-    let unused : ℕ → Bool = λ p. get_or c.deref.result.now p 0 == 0 in
+    let unused : ℕ → Bool = λ p. get_or c.self.inside.pages.uses p 0 == 0 in
     let takes = subst (λ (o : Option InodeCopy). TakesPages unused o w c.next_copy-made.result.slot.pages) held c.next_copy-made.ensures.makes.takes in
     let slot = (copy_is c.self.inside.copies.items c.args.ino one inv.0 (sym at ∙ held)).slot in
     let end = c.page_count.ensures.pages ∙ ap pages_of c.size.ensures.value in

@@ -1,12 +1,12 @@
-use Rattle.std.proofs.Common.{◌≡◌, ◌∙◌, ℕ, List, ◌++◌, ap, sym, subst, arith}
-use Rattle.std.specs.Prelude.{Option, Some, OnOk}
+use Rattle.std.proofs.Common.{◌≡◌, ◌∙◌, ℕ, ◌≤◌, List, ◌++◌, length, ap, sym, subst, arith}
+use Rattle.std.specs.Prelude.{Option, Some, Result, Ok, Err, OnOk}
 use Rattle.std.specs.Option.{option_copied}
 use Rattle.inode_switch.specs.View.{view}
 use Rattle.inode_pack.specs.Pack.{PackState}
 use Rattle.inode_pack.specs.Committing.{content_of as content_in}
 use Rattle.role_steps.specs.Storage.{content_of}
 use Rattle.site_packs.specs.Packs.{PacksState, ArePacks, slot_held, copy_at}
-use Rattle.site_packs.proofs.Contents.{no_content, content_at, has_content}
+use Rattle.site_packs.proofs.Contents.{no_content, content_at, has_content, short_content}
 use Rattle.site_packs.proofs.Reports.{found_pack}
 use Rattle.site_packs.proofs.packs.SitePacks.read.Goals as goal
 
@@ -60,3 +60,18 @@ returns-in_default-copy-clause-content g c =
     let e = c.number_of-ino.ensures in
     c.clear.ensures ∙ sym (no_content c.args.self.now seen c.args.file are c.requires.stands.shown (omega arith)
     (ap (λ (o : Option PackState). slot_held o c.args.file.ino) is ∙ ap (λ (n : ℕ). slot_held (Some c.in-Some.pack.now) n) (sym e) ∙ slot))
+
+on_ok : {T E A B : Type 0} (r : Result T E) → (A → B) → OnOk r A → OnOk r B
+on_ok (Ok x) f h = f h
+on_ok (Err e) f h = tt
+
+pub returns-clause-short : goal.returns-clause-short
+returns-clause-short g c =
+    let seen = (g.D.Disk.moment c.args.disk.now).seen in
+    let are = subst (λ (p : PacksState). ArePacks 0 0 p.site p.packs) c.self.view_is c.self.invariant in
+    let is = sym c.pack_of.ensures ∙ ap (λ o. option_copied o) c.in-Some.is in
+    let slot = sym c.copy.ensures.value ∙ ap (λ o. option_copied o) c.in-Some-copy.is in
+    let has = has_content c.args.self.now.site c.args.file.group c.number_of-ino.result c.args.self.now.packs seen c.in-Some.pack.now c.in-Some-copy.slot.now are c.requires.stands.shown is slot in
+    let short = short_content c.in-Some.pack.now c.number_of-ino.result c.in-Some-copy.slot.now.size seen has.2 in
+    let content : List ℕ = content_in (view seen c.in-Some.pack.now.base c.number_of-ino.result) in
+    on_ok c.read_content.result (λ (e : c.read_content.new.out ≡ c.clear.new.self ++ content). subst (λ (l : List ℕ). length l ≤ 65536) (sym (e ∙ ap (λ (l : List ℕ). l ++ content) c.clear.ensures)) short) c.read_content.ensures.content

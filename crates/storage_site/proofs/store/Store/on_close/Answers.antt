@@ -9,6 +9,9 @@ use Rattle.store_instances.specs.Writes.{Writes}
 use Rattle.store_instances.proofs.Stays.{nothing_written, same_at}
 use Rattle.storage_site.proofs.Placing.{placed_so, stand_same, gives_placed, quiet_store}
 use Rattle.keyed_tables.proofs.Placed.{absent_latest}
+use Rattle.site_packs.specs.Packs.{groups_of}
+use Rattle.storage_site.specs.Fitting.{CanCloseAt, CanCloseOf}
+use Rattle.store_instances.proofs.Fits.{unfit_at}
 use Rattle.storage_site.proofs.store.Store.on_close.Goals as goal
 
 pub invariant_of-self : goal.invariant_of-self
@@ -75,3 +78,15 @@ returns-in_err-on_close-in-Some-clause-disk g c =
     (sym asked)
     (same_at (on_close_at c.args.frame.now i i.stage s).written c.args.packs.now (g.D.Disk.moment c.args.disk.now) (g.D.Disk.moment c.on_close.new.disk) c.args.out.now c.on_close.new.out c.from_residual.result c.in_err-on_close-in-Some.field-0.0 c.from_residual.ensures.1
     (c.in_err-on_close-in-Some.ensures.disk s)))
+
+pub returns-in_err-on_close-in-Some-clause-unfit : goal.returns-in_err-on_close-in-Some-clause-unfit
+returns-in_err-on_close-in-Some-clause-unfit g c =
+    let xs : List Instance = c.self.inside.rows.items in
+    let groups : List ℕ = groups_of c.args.packs.now in
+    let s : Store = store_of c.args.self.now c.args.packs.now (g.D.Disk.moment c.args.disk.now).seen in
+    let i : Instance = c.index_mut-row.result.now in
+    let there = placed_so c.serial_key.result xs c.self.inside.index c.in-Some.place i c.on_close.new.self c.self.invariant.0 c.in-Some.ensures.place c.index_mut-row.ensures.value c.on_close.ensures.key in
+    let asked : row instance_key (serial_key c.args.inst) c.args.self.now ≡ Some i =
+    ap (λ (ys : List Instance). row instance_key (serial_key c.args.inst) ys) (sym c.self.view_is) ∙ (ap (λ (k : ℕ). row instance_key k xs) (sym c.serial_key.ensures) ∙ there.asked) in
+    unfit_at {S = Unit {0}} (CanCloseAt c.args.frame.now groups c.args.inst s) c.from_residual.result c.in_err-on_close-in-Some.field-0.0 c.from_residual.ensures.1
+    (λ so can. c.in_err-on_close-in-Some.ensures.unfit so (subst (λ (o : Option Instance). CanCloseOf c.args.frame.now groups s.copies o) asked can))

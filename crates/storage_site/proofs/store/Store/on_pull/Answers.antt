@@ -9,6 +9,7 @@ use Rattle.store_instances.specs.Stores.{store_of}
 use Rattle.storage_site.specs.Serving.{has_page_of}
 use Rattle.store_instances.proofs.Latest.{nothing_more}
 use Rattle.storage_site.proofs.Serves.{sends_store, page_as, pulled_not, pulled_yes}
+use Rattle.store_instances.proofs.Fits.{memory_fit, refused_read}
 use Rattle.storage_site.proofs.store.Store.on_pull.Goals as goal
 
 pub returns-then-not-has_page-clause-gives : goal.returns-then-not-has_page-clause-gives
@@ -33,3 +34,9 @@ returns-clause-gives g c =
     ∙ (ap (λ (bytes : List ℕ). c.args.out.now.packets ++ (packet c.args.frame.now c.args.from (body.Page c.args.file c.args.stamp c.args.page bytes) ∷ [])) (c.in_ok-bytes.ensures.page ∙ ap (λ (n : ℕ). page_of (content_of copy) n) c.from.ensures)
     ∙ ap (λ (ps : List Packet). c.args.out.now.packets ++ ps) (pulled_yes c.args.frame.now c.args.from c.args.file c.args.stamp c.args.page copy held)))
     c.in_ok-send_page.ensures.records
+
+pub returns-in_err-bytes-clause-fit : goal.returns-in_err-bytes-clause-fit
+returns-in_err-bytes-clause-fit g c = refused_read c.in_err-bytes.field-0.0 c.from_residual.result c.from_residual.ensures.1
+
+pub returns-in_err-send_page-clause-fit : goal.returns-in_err-send_page-clause-fit
+returns-in_err-send_page-clause-fit g c = memory_fit c.from_residual-in_err-send_page.result c.from_residual-in_err-send_page.ensures.1

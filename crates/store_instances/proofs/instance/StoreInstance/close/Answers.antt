@@ -1,3 +1,4 @@
+use Rattle.std.proofs.Common.{List, ℕ}
 use Rattle.std.proofs.Common.{Ok, subst, sym, ◌∙◌}
 use Rattle.locus_ids.specs.declared.refusal.Refusal.TheVariants as refusal
 use Rattle.wire_messages.specs.declared.body.CloseAnswer.TheVariants as closing
@@ -6,6 +7,12 @@ use Rattle.store_instances.specs.Stores.{RowGives, store_of}
 use Rattle.store_instances.specs.Writes.{Writes}
 use Rattle.store_instances.proofs.Stays.{nothing_failed, nothing_written}
 use Rattle.store_instances.proofs.Given.{idle_close, owing_close, shut_so, spent_close}
+use Rattle.role_steps.specs.Storage.{next_stamp}
+use Rattle.store_instances.specs.Fitting.{CanCommit, CanStore}
+use Rattle.store_instances.proofs.Fits.{memory_fit, unfit_at}
+use Rattle.site_packs.specs.Packs.{groups_of}
+use Rattle.site_packs.specs.Copies.{copies_on}
+use Rattle.role_steps.specs.declared.copies.FileCopy.{FileCopy}
 use Rattle.store_instances.proofs.instance.StoreInstance.close.Goals as goal
 
 pub returns-then-not-owes-clause-gives : goal.returns-then-not-owes-clause-gives
@@ -51,3 +58,17 @@ returns-in_ok-shut-in-None-clause-disk g c s =
     subst (λ (o : Outcome Store). Writes o.written c.args.packs.now (g.D.Disk.moment c.args.disk.now) (g.D.Disk.moment c.args.disk.now) c.args.out.now c.shut-in-None.new.out (Ok tt))
     (spent_close c.args.frame.now c.args.self.now s (sym c.owes.ensures ∙ c.if-not-owes.false) c.in-None.ensures.none)
     (nothing_written c.args.packs.now (g.D.Disk.moment c.args.disk.now) c.args.out.now c.shut-in-None.new.out tt c.requires.settled (g.met.D.Disk.only_now c.args.disk.now))
+
+pub returns-in_err-shut-clause-unfit : goal.returns-in_err-shut-clause-unfit
+returns-in_err-shut-clause-unfit g c so can = memory_fit c.from_residual.result c.from_residual.ensures.1 so
+
+pub returns-in_err-shut-in-None-clause-unfit : goal.returns-in_err-shut-in-None-clause-unfit
+returns-in_err-shut-in-None-clause-unfit g c so can = memory_fit c.from_residual-in_err-shut-in-None.result c.from_residual-in_err-shut-in-None.ensures.1 so
+
+pub returns-in_err-close_owed-in-Some-clause-unfit : goal.returns-in_err-close_owed-in-Some-clause-unfit
+returns-in_err-close_owed-in-Some-clause-unfit g c =
+    let groups : List ℕ = groups_of c.args.packs.now in
+    let copies : List FileCopy = copies_on groups (g.D.Disk.moment c.args.disk.now).seen in
+    unfit_at {S = Unit {0}} (CanCommit c.args.frame.now groups copies c.args.self.now) c.from_residual-in_err-close_owed-in-Some.result c.in_err-close_owed-in-Some.field-0.0 c.from_residual-in_err-close_owed-in-Some.ensures.1
+    (λ so can. c.in_err-close_owed-in-Some.ensures.unfit so
+    (subst (λ v. CanStore groups copies c.args.self.now v (next_stamp c.args.frame.now v)) (sym c.in-Some.ensures.some) (can (sym c.owes.ensures ∙ c.if-not-owes.false) c.in-Some.ensures.risen)))

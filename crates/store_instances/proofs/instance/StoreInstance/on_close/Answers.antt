@@ -1,8 +1,14 @@
+use Rattle.std.proofs.Common.{List, ℕ}
 use Rattle.std.proofs.Common.{Ok, refl, subst, sym, ◌∙◌}
 use Rattle.role_steps.specs.Views.{Store, Outcome}
 use Rattle.store_instances.specs.Stores.{RowGives, again_packets, store_of}
 use Rattle.store_instances.specs.Writes.{Writes}
 use Rattle.store_instances.proofs.Given.{again_close, running_close, sends_so}
+use Rattle.store_instances.specs.Fitting.{CanClose}
+use Rattle.store_instances.proofs.Fits.{closes_running, memory_fit, unfit_at}
+use Rattle.site_packs.specs.Packs.{groups_of}
+use Rattle.site_packs.specs.Copies.{copies_on}
+use Rattle.role_steps.specs.declared.copies.FileCopy.{FileCopy}
 use Rattle.store_instances.proofs.instance.StoreInstance.on_close.Goals as goal
 
 pub returns-clause-gives : goal.returns-clause-gives
@@ -17,3 +23,13 @@ returns-then-is_running-clause-disk g c s =
     subst (λ (o : Outcome Store). Writes o.written c.args.packs.now (g.D.Disk.moment c.args.disk.now) (g.D.Disk.moment c.close.new.disk) c.args.out.now c.close.new.out (Ok tt))
     (running_close c.args.frame.now c.args.self.now c.args.self.now.stage s (sym c.is_running.ensures ∙ c.if-is_running.true))
     (c.in_ok-close.ensures.disk s)
+
+pub returns-in_err-close-clause-unfit : goal.returns-in_err-close-clause-unfit
+returns-in_err-close-clause-unfit g c =
+    let groups : List ℕ = groups_of c.args.packs.now in
+    let copies : List FileCopy = copies_on groups (g.D.Disk.moment c.args.disk.now).seen in
+    unfit_at {S = Unit {0}} (CanClose c.args.frame.now groups copies c.args.self.now c.args.self.now.stage) c.from_residual.result c.in_err-close.field-0.0 c.from_residual.ensures.1
+    (λ so can. c.in_err-close.ensures.unfit so (closes_running c.args.frame.now groups copies c.args.self.now c.args.self.now.stage (sym c.is_running.ensures ∙ c.if-is_running.true) can))
+
+pub returns-in_err-close_again-clause-unfit : goal.returns-in_err-close_again-clause-unfit
+returns-in_err-close_again-clause-unfit g c so can = memory_fit c.from_residual-in_err-close_again.result c.from_residual-in_err-close_again.ensures.1 so

@@ -1,3 +1,4 @@
+use Rattle.std.proofs.Common.{List}
 use Rattle.std.proofs.Common.{ℕ, ◌+◌, ◌==◌, Ok, Option, refl, subst, sym, ap, ◌∙◌}
 use Rattle.role_steps.specs.Views.{DiskWrite, Store, Outcome}
 use Rattle.trace_book.specs.declared.operation.Op.{Op}
@@ -6,6 +7,13 @@ use Rattle.store_instances.specs.Stores.{RowGives, store_of}
 use Rattle.store_instances.specs.Writes.{Writes}
 use Rattle.store_instances.proofs.Given.{quiet_so, sends_so, next_op, not_running, other_written, again_op, unknown_op}
 use Rattle.store_instances.proofs.Stays.{nothing_written}
+use Rattle.std.proofs.Common.{◌≡◌}
+use Rattle.trace_book.specs.declared.operation.Op.TheVariants as op
+use Rattle.store_instances.specs.Fitting.{CanExecute, CanOperate}
+use Rattle.store_instances.proofs.Fits.{is_next, memory_fit, operates, unfit_at, works_on}
+use Rattle.site_packs.specs.Packs.{groups_of}
+use Rattle.site_packs.specs.Copies.{copies_on}
+use Rattle.role_steps.specs.declared.copies.FileCopy.{FileCopy}
 use Rattle.store_instances.proofs.instance.StoreInstance.on_op.Goals as goal
 
 pub returns-then-not-is_running-clause-gives : goal.returns-then-not-is_running-clause-gives
@@ -45,3 +53,31 @@ returns-in_ok-commit_op-in-Commit-clause-disk g c s =
     (next_op c.args.frame.now c.args.mending.now c.args.self.now c.args.n c.args.op.now c.args.seen.now s (sym c.is_running.ensures ∙ c.if-not-is_running.false)
     (λ e. c.if-n-done.false (e ∙ sym c.done-done.ensures)) (ap (λ (d : ℕ). c.args.n == d + 1) (sym c.done-done.ensures) ∙ sym c.is_next.ensures.value ∙ c.if-not-is_next.false)))
     (c.in_ok-commit_op-in-Commit.ensures.disk s)
+
+pub returns-in_err-answer_again-clause-unfit : goal.returns-in_err-answer_again-clause-unfit
+returns-in_err-answer_again-clause-unfit g c so can = memory_fit c.from_residual.result c.from_residual.ensures.1 so
+
+pub returns-in_err-commit_op-in-Commit-clause-unfit : goal.returns-in_err-commit_op-in-Commit-clause-unfit
+returns-in_err-commit_op-in-Commit-clause-unfit g c =
+    let groups : List ℕ = groups_of c.args.packs.now in
+    let copies : List FileCopy = copies_on groups (g.D.Disk.moment c.args.disk.now).seen in
+    let next : c.args.n ≡ c.args.self.now.work.ops + 1 = is_next c.args.n c.args.self.now.work.ops (ap (λ (d : ℕ). c.args.n == d + 1) (sym c.done-done.ensures) ∙ sym c.is_next.ensures.value ∙ c.if-not-is_next.false) in
+    unfit_at {S = Unit {0}} (CanOperate c.args.frame.now c.args.mending.now groups copies c.args.self.now c.args.self.now.stage c.args.n c.args.op.now) c.from_residual-in_err-commit_op-in-Commit.result c.in_err-commit_op-in-Commit.field-0.0 c.from_residual-in_err-commit_op-in-Commit.ensures.1
+    (λ so can. c.in_err-commit_op-in-Commit.ensures.unfit so
+    (subst (λ (o : Op). CanExecute c.args.frame.now c.args.mending.now groups copies c.args.self.now o) c.in-Commit.is
+    (operates c.args.frame.now c.args.mending.now groups copies c.args.self.now c.args.self.now.stage c.args.n c.args.op.now (sym c.is_running.ensures ∙ c.if-not-is_running.false) next can)))
+
+pub returns-in_err-abort_op-in-Abort-clause-unfit : goal.returns-in_err-abort_op-in-Abort-clause-unfit
+returns-in_err-abort_op-in-Abort-clause-unfit g c =
+    unfit_at {S = Unit {0}} (CanOperate c.args.frame.now c.args.mending.now (groups_of c.args.packs.now) (copies_on (groups_of c.args.packs.now) (g.D.Disk.moment c.args.disk.now).seen) c.args.self.now c.args.self.now.stage c.args.n c.args.op.now) c.from_residual-in_err-abort_op-in-Abort.result c.in_err-abort_op-in-Abort.field-0.0 c.from_residual-in_err-abort_op-in-Abort.ensures.1
+    (λ so can. c.in_err-abort_op-in-Abort.ensures.fit so)
+
+pub returns-in_err-execute-in_default-clause-unfit : goal.returns-in_err-execute-in_default-clause-unfit
+returns-in_err-execute-in_default-clause-unfit g c =
+    let groups : List ℕ = groups_of c.args.packs.now in
+    let copies : List FileCopy = copies_on groups (g.D.Disk.moment c.args.disk.now).seen in
+    let next : c.args.n ≡ c.args.self.now.work.ops + 1 = is_next c.args.n c.args.self.now.work.ops (ap (λ (d : ℕ). c.args.n == d + 1) (sym c.done-done.ensures) ∙ sym c.is_next.ensures.value ∙ c.if-not-is_next.false) in
+    unfit_at {S = Unit {0}} (CanOperate c.args.frame.now c.args.mending.now groups copies c.args.self.now c.args.self.now.stage c.args.n c.args.op.now) c.from_residual-in_err-execute-in_default.result c.in_err-execute-in_default.field-0.0 c.from_residual-in_err-execute-in_default.ensures.1
+    (λ so can. c.in_err-execute-in_default.ensures.unfit so
+    (works_on c.args.frame.now c.args.mending.now groups copies c.args.self.now c.args.op.now c.in_default.not-Commit
+    (operates c.args.frame.now c.args.mending.now groups copies c.args.self.now c.args.self.now.stage c.args.n c.args.op.now (sym c.is_running.ensures ∙ c.if-not-is_running.false) next can)))

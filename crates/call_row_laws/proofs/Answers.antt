@@ -1,0 +1,158 @@
+-- What answers open, and what a call holds by them.
+use Rattle.std.proofs.Common.{◌≡◌, ℕ, ◌⊎◌, true, false, List, [], ◌∷◌, ◌++◌, refl, inl, inr}
+use Rattle.locus_ids.specs.declared.ids.Serial.{Serial}
+use Rattle.locus_ids.specs.declared.ids.Stamp.{Stamp}
+use Rattle.trace_book.specs.declared.call.Call.{Call}
+use Rattle.trace_book.specs.declared.call.Call.TheVariants as call
+use Rattle.trace_book.specs.declared.descriptor.Beginning.{Beginning}
+use Rattle.trace_book.specs.declared.descriptor.Beginning.TheVariants as begins
+use Rattle.trace_book.specs.declared.operation.Outcome.{Outcome as Result}
+use Rattle.trace_book.specs.declared.operation.Outcome.TheVariants as result
+use Rattle.trace_book.specs.declared.operation.What.TheVariants as what
+use Rattle.wire_messages.specs.declared.body.CloseAnswer.{CloseAnswer}
+use Rattle.wire_messages.specs.declared.body.CloseAnswer.TheVariants as closing
+use Rattle.call_rules.specs.declared.answer.Answer.{Answer}
+use Rattle.call_rules.specs.declared.answer.Answer.TheVariants as answer
+use Rattle.role_steps.specs.Own.{Every}
+use Rattle.role_steps.specs.Views.{Frame}
+use Rattle.role_steps.specs.Using.{last_opened, own_serial, opened_answer, op_answer, close_answer, content_answer, with_brought, asks_open_of}
+use Rattle.role_steps.specs.Using as using
+use Rattle.role_steps.specs.declared.users.Asking.{Asking}
+use Rattle.role_steps.specs.declared.users.Asking.TheVariants as asking
+use Rattle.role_steps.specs.declared.users.WaitingCall.{WaitingCall}
+use Rattle.call_row_laws.specs.Scripts.{OwnAnswer, BeginsOwn, IsOpened, EndsOpened}
+use Rattle.call_row_laws.specs.Serials.{AsksUnder, Opens, OpenedBy, Frees}
+use Rattle.call_row_laws.specs.Waiting.{SameCall}
+use Rattle.call_row_laws.proofs.Rising.{test_same}
+
+false_true : false ≡ true → ⊥
+false_true e = cc
+
+-- ---- the last answer ----
+
+pub last_more : (i n : Serial) (ino : ℕ) (xs : List Answer) → last_opened n (xs ++ answer.Opened i ino ∷ []) ≡ i
+last_more i n ino [] = refl
+last_more i n ino (answer.Opened j k ∷ xs) = last_more i j ino xs
+last_more i n ino (_ ∷ xs) = last_more i n ino xs
+
+pub ends_last : (xs : List Answer) (a : Answer) → EndsOpened (xs ++ a ∷ []) → IsOpened a
+ends_last [] a h = h
+ends_last (x ∷ []) a h = h
+ends_last (x ∷ y ∷ ys) a h = ends_last (y ∷ ys) a h
+
+pub ends_own : (n : Serial) (xs : List Answer) → EndsOpened xs → OpenedBy (last_opened n xs).serial xs
+ends_own n [] h = absurd h
+ends_own n (answer.Opened i ino ∷ []) h = inl refl
+ends_own n (_ ∷ []) h = absurd h
+ends_own n (answer.Opened i ino ∷ b ∷ rest) h = inr (ends_own i (b ∷ rest) h)
+ends_own n (_ ∷ b ∷ rest) h = inr (ends_own n (b ∷ rest) h)
+
+pub opened_more : (s : ℕ) (xs : List Answer) (a : Answer) → OpenedBy s (xs ++ a ∷ []) → OpenedBy s xs ⊎ Opens s a
+opened_more s [] a (inl h) = inr h
+opened_more s [] a (inr h) = absurd h
+opened_more s (x ∷ xs) a (inl h) = inl (inl h)
+opened_more s (x ∷ xs) a (inr h) = shift (opened_more s xs a h)
+  where
+    shift : OpenedBy s xs ⊎ Opens s a → OpenedBy s (x ∷ xs) ⊎ Opens s a
+    shift (inl k) = inl (inr k)
+    shift (inr k) = inr k
+
+-- ---- a call's own instances ----
+
+own_answer : (Q : ℕ → Type 0) (a : Answer) → ((s : ℕ) → Opens s a → Q s) → OwnAnswer (λ (i : Serial). Q i.serial) a
+own_answer Q (answer.Opened i ino) f = f i.serial refl
+own_answer Q (answer.Merging i kept) f = f i.serial refl
+own_answer Q _ f = tt
+
+pub own_answers : (Q : ℕ → Type 0) (xs : List Answer) → ((s : ℕ) → OpenedBy s xs → Q s) → Every (OwnAnswer (λ (i : Serial). Q i.serial)) xs
+own_answers Q [] f = tt
+own_answers Q (a ∷ rest) f = (own_answer Q a (λ s h. f s (inl h)), own_answers Q rest (λ s h. f s (inr h)))
+
+pub begins_own : (Q : ℕ → Type 0) (words : Call) (b : Beginning) → ((s : ℕ) → Frees s words b → Q s) → BeginsOwn (λ (i : Serial). Q i.serial) words b
+begins_own Q (call.Close fd) (begins.Uses e i) f = f i.serial refl
+begins_own Q (call.Close fd) (begins.Denied why) f = tt
+begins_own Q (call.Close fd) begins.Walks f = tt
+begins_own Q _ b f = tt
+
+-- ---- what each answer opens ----
+
+pub opens_it : (f : Frame) (serial ino s : ℕ) (kept : List Stamp) (words : Call) → Opens s (opened_answer f serial ino kept words) → serial ≡ s
+opens_it f serial ino s kept (call.Mend file) h = h
+opens_it f serial ino s kept _ h = h
+
+pub opened_is : (f : Frame) (serial ino : ℕ) (kept : List Stamp) (words : Call) → IsOpened (opened_answer f serial ino kept words) → opened_answer f serial ino kept words ≡ answer.Opened (own_serial f serial) ino
+opened_is f serial ino kept (call.Mend file) h = absurd h
+opened_is f serial ino kept _ h = refl
+
+-- the answer opens nothing
+abbrev pub OpensNone : Answer → Type 0
+OpensNone (answer.Opened inst ino) = ⊥
+OpensNone (answer.Merging inst kept) = ⊥
+OpensNone _ = Unit {0}
+
+pub none_opens : (s : ℕ) (a : Answer) → OpensNone a → Opens s a → ⊥
+none_opens s (answer.Opened i ino) n h = n
+none_opens s (answer.Merging i kept) n h = n
+none_opens s _ n h = h
+
+pub none_opened : (a : Answer) → OpensNone a → IsOpened a → ⊥
+none_opened (answer.Opened i ino) n h = n
+none_opened _ n h = h
+
+pub op_none : (r : Result) → OpensNone (op_answer r)
+op_none (result.No why) = tt
+op_none _ = tt
+
+pub close_none : (a : CloseAnswer) → OpensNone (close_answer a)
+close_none closing.Nothing = tt
+close_none (closing.Made stamp) = tt
+close_none (closing.No why) = tt
+
+pub content_none : (a : Asking) (bytes : List ℕ) → OpensNone (content_answer a bytes)
+content_none (asking.Look file what.List take) bytes = tt
+content_none (asking.Look file what.Stat take) bytes = tt
+content_none (asking.Look file (what.Name component) take) bytes = tt
+content_none (asking.Look file (what.Whole stamp) take) bytes = tt
+content_none (asking.Open serial file how) bytes = tt
+content_none (asking.Op serial ss n o seen) bytes = tt
+content_none (asking.Close serial ss) bytes = tt
+
+-- ---- a content that is brought ----
+
+-- two stages of one call, with the same answers
+pub record SameStage (v w : WaitingCall) : Type 0 where
+  pub same : SameCall v w
+  pub same_begins : v.begins ≡ w.begins
+  pub same_answers : v.answers ≡ w.answers
+
+pub stage_self : (w : WaitingCall) → SameStage w w
+stage_self w = record { same = record { same_process = refl; same_number = refl; same_words = refl }; same_begins = refl; same_answers = refl }
+
+pub brought_stage : (a : Asking) (bytes : List ℕ) (w : WaitingCall) → SameStage w (with_brought a bytes w)
+brought_stage (asking.Look file what.List take) bytes w = stage_self w
+brought_stage (asking.Look file what.Stat take) bytes w = stage_self w
+brought_stage (asking.Look file (what.Name component) take) bytes w = stage_self w
+brought_stage (asking.Look file (what.Whole stamp) take) bytes w = record { same = record { same_process = refl; same_number = refl; same_words = refl }; same_begins = refl; same_answers = refl }
+brought_stage (asking.Open serial file how) bytes w = stage_self w
+brought_stage (asking.Op serial ss n o seen) bytes w = stage_self w
+brought_stage (asking.Close serial ss) bytes w = stage_self w
+
+-- ---- whose answer it is ----
+
+open_test : (serial : ℕ) (w : WaitingCall) (a : Asking) → asks_open_of serial (record w { asking = a }) ≡ true → AsksUnder serial a
+open_test serial w (asking.Open s file how) h = test_same s serial h
+open_test serial w (asking.Look file x take) h = absurd (false_true h)
+open_test serial w (asking.Op s ss n o seen) h = absurd (false_true h)
+open_test serial w (asking.Close s ss) h = absurd (false_true h)
+
+pub open_under : (serial : ℕ) (w : WaitingCall) → asks_open_of serial w ≡ true → AsksUnder serial w.asking
+open_under serial w h = open_test serial w w.asking h
+
+close_test : (serial : ℕ) (w : WaitingCall) (a : Asking) → using.asks_close_of serial (record w { asking = a }) ≡ true → AsksUnder serial a
+close_test serial w (asking.Close s ss) h = test_same s serial h
+close_test serial w (asking.Look file x take) h = absurd (false_true h)
+close_test serial w (asking.Op s ss n o seen) h = absurd (false_true h)
+close_test serial w (asking.Open s file how) h = absurd (false_true h)
+
+pub close_under : (serial : ℕ) (w : WaitingCall) → using.asks_close_of serial w ≡ true → AsksUnder serial w.asking
+close_under serial w h = close_test serial w w.asking h

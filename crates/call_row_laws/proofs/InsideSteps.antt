@@ -1,0 +1,224 @@
+-- What a packet of the epoch, an adoption and the start of mends leave of the calls of a site.
+use Rattle.std.proofs.Common.{◌≡◌, ◌<◌, ℕ, ◌==◌, ◌⊎◌, Bool, true, false, ◌||◌, ◌&&◌, not, List, [], ◌∷◌, Option, Some, None, refl, sym, ◌∙◌, ap, subst, inl, inr, arith}
+use Rattle.std.proofs.lemmas.Bool.Decides.{nat_tests}
+use Rattle.std.specs.List.{list_any}
+use Rattle.locus_ids.specs.declared.config.Config.{Config}
+use Rattle.trace_book.specs.declared.call.Call.{Call}
+use Rattle.trace_book.specs.declared.call.Call.TheVariants as call
+use Rattle.wire_messages.specs.declared.packet.Packet.{Packet}
+use Rattle.wire_messages.specs.declared.body.Body.{Body}
+use Rattle.wire_messages.specs.declared.body.Body.TheVariants as body
+use Rattle.role_steps.specs.Own.{Every}
+use Rattle.role_steps.specs.Tables.{row, first_that}
+use Rattle.role_steps.specs.Views.{Frame, Store, Users, SiteView, Outcome, quiet}
+use Rattle.role_steps.specs.Adoption.{notes_own_at, notes_own, copy_adopted, with_store, table_group, is_ready, is_above_own, adopts_pull, without_pull, adopts_first}
+use Rattle.role_steps.specs.Epochs.{frame_in}
+use Rattle.role_steps.specs.Looks.{LookRequest}
+use Rattle.role_steps.specs.Mends.{mends_in, is_mend_in, has_mend_in, mending, kept_stamps, wants_mend, row_file, starts_mend_of, starts_mend, starts_mends_in}
+use Rattle.role_steps.specs.Opens.{OpenRequest, on_opened}
+use Rattle.role_steps.specs.Operations.{on_op}
+use Rattle.role_steps.specs.Pulling.{on_notify, on_page}
+use Rattle.role_steps.specs.Reports.{on_report, on_open, on_look, on_closed, on_have}
+use Rattle.role_steps.specs.Requests.{waiting_of}
+use Rattle.role_steps.specs.Storage.{copy_of, with_copy, instance_of, on_open_ss, on_close, on_closed_ok, on_look_ss, on_pull}
+use Rattle.role_steps.specs.Using.{on_call, on_open_done, on_op_done, on_close_done, on_look_done}
+use Rattle.role_steps.specs.Versions.{file_row}
+use Rattle.role_steps.specs.declared.pulls.Pull.{Pull}
+use Rattle.role_steps.specs.declared.rounds.InEpoch.{InEpoch}
+use Rattle.role_steps.specs.declared.synchronizing.FileRow.{FileRow}
+use Rattle.role_steps.specs.declared.synchronizing.SyncTable.{SyncTable}
+use Rattle.tree_model.specs.Folds.{Trace}
+use Rattle.the_run.specs.Kept.{Among}
+use Rattle.the_run.specs.Steps.{from_user, group_of, at_store, at_users, at_pulls, at_table_of, is_opened_in, takes_inside, takes_framed, adopts_of, tries_at, starts_mends_of, epoch_id}
+use Rattle.the_run.proofs.InsideSync.{Found, every_row, row_found, first_found}
+use Rattle.row_laws.specs.Inward.{AllServed, LooksInward, TableInwardly}
+use Rattle.row_laws.proofs.SyncInward.{on_opened_inward, on_open_inward, on_look_inward, on_report_inward, on_closed_inward, have_ok, on_have_inward}
+use Rattle.row_laws.proofs.RolesInward.{on_open_ss_serves, on_close_serves, on_closed_ok_serves, on_look_ss_serves, on_pull_serves, on_op_serves, on_notify_serves, on_page_serves}
+use Rattle.call_row_laws.specs.Serials.{Owned}
+use Rattle.call_row_laws.specs.Waiting.{after, KeyedAs, CallFree}
+use Rattle.call_row_laws.specs.Standing.{UsersDo, WasIn, IsInside, Stands, SiteDone, SiteDoes}
+use Rattle.call_row_laws.proofs.UserSteps.{on_open_done_do, on_op_done_do, on_close_done_do, on_look_done_do}
+use Rattle.call_row_laws.proofs.CallSteps.{on_call_do}
+use Rattle.call_row_laws.proofs.Sites.{all_served_free, plain_done, quiet_done, users_done, then_does}
+
+-- ---- tables, stores and pulls ----
+
+table_done : (s m : ℕ) (t : Trace) (g : SyncTable → Outcome SyncTable) (o : Option SyncTable) (v : SiteView) → Found LooksInward o → ((x : SyncTable) → LooksInward x → TableInwardly (g x)) → Stands s t v → SiteDone s m t (at_table_of g o v)
+table_done s m t g None v k f h = quiet_done s m t v h
+table_done s m t g (Some x) v k f h =
+    let r : TableInwardly (g x) = f x k in
+    plain_done s m t v (at_table_of g (Some x) v) refl refl refl (every_row LooksInward table_group (g x).view v.tables r.3 h.tables) (all_served_free (g x).told r.1) h
+
+group_done : (s m : ℕ) (t : Trace) (g : SyncTable → Outcome SyncTable) (group : ℕ) (v : SiteView) → ((x : SyncTable) → LooksInward x → TableInwardly (g x)) → Stands s t v → SiteDone s m t (at_table_of g (row table_group group v.tables) v)
+group_done s m t g group v f h = table_done s m t g (row table_group group v.tables) v (row_found LooksInward table_group group v.tables h.tables) f h
+
+with_done : (s m : ℕ) (t : Trace) (g : SyncTable → Outcome SyncTable) (test : SyncTable → Bool) (v : SiteView) → ((x : SyncTable) → LooksInward x → TableInwardly (g x)) → Stands s t v → SiteDone s m t (at_table_of g (first_that test v.tables) v)
+with_done s m t g test v f h = table_done s m t g (first_that test v.tables) v (first_found LooksInward test v.tables h.tables) f h
+
+store_done : (s m : ℕ) (t : Trace) (g : Store → Outcome Store) (v : SiteView) → AllServed (g v.store) → Stands s t v → SiteDone s m t (at_store g v)
+store_done s m t g v k h = plain_done s m t v (at_store g v) refl refl refl h.tables (all_served_free (g v.store).told k.1) h
+
+pulls_done : (s m : ℕ) (t : Trace) (g : List Pull → Outcome (List Pull)) (v : SiteView) → AllServed (g v.pulls) → Stands s t v → SiteDone s m t (at_pulls g v)
+pulls_done s m t g v k h = plain_done s m t v (at_pulls g v) refl refl refl h.tables (all_served_free (g v.pulls).told k.1) h
+
+-- a part of the users, in the epoch of the site
+inside_users : (s m : ℕ) (t : Trace) (g : Users → Outcome Users) (v : SiteView) (e : InEpoch) → v.epoch ≡ Some e → (WasIn s t e.id → Owned (WasIn s t) (Some e.id) v.users → UsersDo (WasIn s t) s v.boot (Some e.id) m t (g v.users)) → Stands s t v → SiteDone s m t (at_users g v)
+inside_users s m t g v e here go h =
+    users_done s m t v g h
+    (subst (λ (o : Option InEpoch). UsersDo (WasIn s t) s v.boot (epoch_id o) m t (g v.users)) (sym here) (go (subst (IsInside s t) here h.inside) (subst (λ (o : Option InEpoch). Owned (WasIn s t) (epoch_id o) v.users) here h.owned)))
+
+-- ---- a packet of the epoch ----
+
+inside_done : (c : Config) (s m : ℕ) (t : Trace) (from : ℕ) (x : Body) (v : SiteView) (e : InEpoch) → v.epoch ≡ Some e → Stands s t v → SiteDone s m t (takes_inside (frame_in c s v.boot e) from x v)
+inside_done c s m t from (body.Report group copies) v e here h = group_done s m t (on_report (frame_in c s v.boot e) from copies) group v (on_report_inward (frame_in c s v.boot e) from copies) h
+inside_done c s m t from (body.ReportOk group) v e here h = plain_done s m t v _ refl refl refl h.tables tt h
+inside_done c s m t from (body.Open serial call process request file how) v e here h = (let o : OpenRequest = record { serial = serial; call = call; process = process; request = request; file = file; how = how } in group_done s m t (on_open (frame_in c s v.boot e) from o) file.group v (on_open_inward (frame_in c s v.boot e) from o) h)
+inside_done c s m t from (body.OpenSs inst file mode set kind base vector parents) v e here h =
+    store_done s m t (on_open_ss (frame_in c s v.boot e) (record { inst = inst; file = file; mode = mode; set = set; kind = kind; base = base; vector = vector; parents = parents })) v
+    (on_open_ss_serves (frame_in c s v.boot e) (record { inst = inst; file = file; mode = mode; set = set; kind = kind; base = base; vector = vector; parents = parents }) v.store) h
+inside_done c s m t from (body.Opened inst answer) v e here h = with_done s m t (on_opened (frame_in c s v.boot e) inst answer) (is_opened_in inst) v (on_opened_inward (frame_in c s v.boot e) inst answer) h
+inside_done c s m t from (body.OpenDone serial answer) v e here h = inside_users s m t (on_open_done (frame_in c s v.boot e) (kept_stamps v) serial answer) v e here (λ k o. on_open_done_do (WasIn s t) (frame_in c s v.boot e) (Some e.id) m t (kept_stamps v) serial answer v.users k h.waits o) h
+inside_done c s m t from (body.Op serial n o seen) v e here h =
+    store_done s m t (on_op (frame_in c s v.boot e) (mending v (group_of (instance_of v.store (from_user from serial)))) (from_user from serial) n o seen) v
+    (on_op_serves (frame_in c s v.boot e) (mending v (group_of (instance_of v.store (from_user from serial)))) (from_user from serial) n o seen v.store) h
+inside_done c s m t from (body.OpDone serial n result) v e here h = inside_users s m t (on_op_done (frame_in c s v.boot e) serial n result) v e here (λ k o. on_op_done_do (WasIn s t) (frame_in c s v.boot e) (Some e.id) m t serial n result v.users h.waits o) h
+inside_done c s m t from (body.Close serial) v e here h = store_done s m t (on_close (frame_in c s v.boot e) (from_user from serial)) v (on_close_serves (frame_in c s v.boot e) (from_user from serial) v.store) h
+inside_done c s m t from (body.Closed inst made) v e here h = with_done s m t (on_closed (frame_in c s v.boot e) from inst made) (is_opened_in inst) v (on_closed_inward (frame_in c s v.boot e) from inst made) h
+inside_done c s m t from (body.ClosedOk inst) v e here h = store_done s m t (on_closed_ok (frame_in c s v.boot e) inst) v (on_closed_ok_serves (frame_in c s v.boot e) inst v.store) h
+inside_done c s m t from (body.CloseDone serial answer) v e here h = inside_users s m t (on_close_done (frame_in c s v.boot e) serial answer) v e here (λ k o. on_close_done_do (WasIn s t) (frame_in c s v.boot e) (Some e.id) m t serial answer v.users h.waits o) h
+inside_done c s m t from (body.Look call process request take file what) v e here h = (let l : LookRequest = record { call = call; process = process; request = request; take = take; file = file; what = what } in group_done s m t (on_look (frame_in c s v.boot e) from l) file.group v (on_look_inward (frame_in c s v.boot e) from l) h)
+inside_done c s m t from (body.LookSs us call process request take file what serve) v e here h = (let l : LookRequest = record { call = call; process = process; request = request; take = take; file = file; what = what } in store_done s m t (on_look_ss (frame_in c s v.boot e) us l serve) v (on_look_ss_serves (frame_in c s v.boot e) us l serve v.store) h)
+inside_done c s m t from (body.LookDone call request take answer) v e here h = inside_users s m t (on_look_done (frame_in c s v.boot e) call request take answer) v e here (λ k o. on_look_done_do (WasIn s t) (frame_in c s v.boot e) (Some e.id) m t call request take answer v.users h.waits o) h
+inside_done c s m t from (body.Notify file kind set size stamp vector holder) v e here h =
+    (let p : Pull = record { file = file; kind = kind; set = set; size = size; stamp = stamp; vector = vector; holder = holder; content = [] } in pulls_done s m t (on_notify (frame_in c s v.boot e) from (copy_of v.store file) p) v (on_notify_serves (frame_in c s v.boot e) from (copy_of v.store file) p v.pulls) h)
+inside_done c s m t from (body.Pull file stamp page) v e here h = store_done s m t (on_pull (frame_in c s v.boot e) from file stamp page) v (on_pull_serves (frame_in c s v.boot e) from file stamp page v.store) h
+inside_done c s m t from (body.Page file stamp page bytes) v e here h = pulls_done s m t (on_page (frame_in c s v.boot e) file stamp page bytes) v (on_page_serves (frame_in c s v.boot e) file stamp page bytes v.pulls) h
+inside_done c s m t from (body.Have file stamp) v e here h = group_done s m t (on_have from file stamp) file.group v (on_have_inward from file stamp) h
+inside_done c s m t from body.Poll v e here h = quiet_done s m t v h
+inside_done c s m t from (body.Promise reach) v e here h = quiet_done s m t v h
+inside_done c s m t from (body.Refuse promised) v e here h = quiet_done s m t v h
+inside_done c s m t from (body.Install members) v e here h = quiet_done s m t v h
+inside_done c s m t from body.Joined v e here h = quiet_done s m t v h
+
+pub framed_done : (c : Config) (s m : ℕ) (t : Trace) (p : Packet) (o : Option InEpoch) (v : SiteView) → v.epoch ≡ o → Stands s t v → SiteDone s m t (takes_framed c s p o v)
+framed_done c s m t p None v here h = quiet_done s m t v h
+framed_done c s m t p (Some e) v here h = inside_done c s m t p.from p.body v e here h
+
+-- ---- adoptions ----
+
+-- the users stay, and what is told and written is an adoption's
+pub record Adopts (v : SiteView) (o : Outcome SiteView) : Type 0 where
+  pub users : o.view.users ≡ v.users
+  pub epoch : o.view.epoch ≡ v.epoch
+  pub boot : o.view.boot ≡ v.boot
+  pub tables : Every LooksInward v.tables → Every LooksInward o.view.tables
+  pub free : Every CallFree o.told
+
+pub quiet_adopts : (v : SiteView) → Adopts v (quiet v)
+quiet_adopts v = record { users = refl; epoch = refl; boot = refl; tables = λ ok. ok; free = tt }
+
+noted_same : (f : Frame) (p : Pull) (o : Option SyncTable) (v : SiteView) → ((notes_own_at f p o v).users ≡ v.users) × ((notes_own_at f p o v).epoch ≡ v.epoch) × ((notes_own_at f p o v).boot ≡ v.boot)
+noted_same f p None v = (refl, refl, refl)
+noted_same f p (Some t) v = (refl, refl, refl)
+
+noted_tables : (f : Frame) (p : Pull) (o : Option SyncTable) (v : SiteView) → Found LooksInward o → Every LooksInward v.tables → Every LooksInward (notes_own_at f p o v).tables
+noted_tables f p None v k ok = ok
+noted_tables f p (Some t) v k ok = every_row LooksInward table_group _ v.tables (have_ok f.me p.stamp (file_row t p.file.ino) t k) ok
+
+adopts_pull_adopts : (f : Frame) (p : Pull) (v : SiteView) → Adopts v (adopts_pull f p v)
+adopts_pull_adopts f p v =
+    let kept : SiteView = without_pull p (with_store v (with_copy (copy_adopted p) v.store)) in
+    let same : ((notes_own f p kept).users ≡ v.users) × ((notes_own f p kept).epoch ≡ v.epoch) × ((notes_own f p kept).boot ≡ v.boot) = noted_same f p (row table_group p.file.group v.tables) kept in
+    record {
+      users = same.0;
+      epoch = same.1;
+      boot = same.2;
+      tables = λ ok. noted_tables f p (row table_group p.file.group v.tables) kept (row_found LooksInward table_group p.file.group v.tables ok) ok;
+      free = (tt, tt);
+    }
+
+adopts_first_adopts : (f : Frame) (ps : List Pull) (v : SiteView) → Adopts v (adopts_first f ps v)
+adopts_first_adopts f [] v = quiet_adopts v
+adopts_first_adopts f (p ∷ ps) v =
+    elim (is_ready v p) as (λ t. Adopts v (elim t [ true ↦ elim (is_above_own p (copy_of v.store p.file)) [ true ↦ adopts_pull f p v | false ↦ adopts_first f ps (without_pull p v) ] | false ↦ adopts_first f ps v ])) [
+      | true ↦ elim (is_above_own p (copy_of v.store p.file)) as (λ t. Adopts v (elim t [ true ↦ adopts_pull f p v | false ↦ adopts_first f ps (without_pull p v) ])) [
+        | true ↦ adopts_pull_adopts f p v
+        | false ↦ (let g : Adopts (without_pull p v) (adopts_first f ps (without_pull p v)) = adopts_first_adopts f ps (without_pull p v) in record { users = g.users; epoch = g.epoch; boot = g.boot; tables = g.tables; free = g.free })
+      ]
+      | false ↦ adopts_first_adopts f ps v
+    ]
+
+pub adopts_of_adopts : (c : Config) (me : ℕ) (e : Option InEpoch) (v : SiteView) → Adopts v (adopts_of c me e v)
+adopts_of_adopts c me None v = quiet_adopts v
+adopts_of_adopts c me (Some e) v = adopts_first_adopts (frame_in c me v.boot e) v.pulls v
+
+pub tries_adopts : (c : Config) (me : ℕ) (x : Body) (v : SiteView) → Adopts v (tries_at c me x v)
+tries_adopts c me (body.Notify file kind set size stamp vector holder) v = adopts_of_adopts c me v.epoch v
+tries_adopts c me (body.Page file stamp page bytes) v = adopts_of_adopts c me v.epoch v
+tries_adopts c me _ v = quiet_adopts v
+
+-- ---- mends ----
+
+none_other : {A : Type 0} (p : A → Bool) (xs : List A) → list_any p xs ≡ false → (x : A) → Among x xs → p x ≡ false
+none_other p [] h x a = absurd a
+none_other p (y ∷ ys) h x a = by_place a (parts (p y) (list_any p ys) h) (λ k b. none_other p ys k x b)
+  where
+    parts : (a b : Bool) → (a || b) ≡ false → (a ≡ false) × (b ≡ false)
+    parts true b h = absurd (cc)
+    parts false b h = (refl, h)
+
+    by_place : (x ≡ y) ⊎ Among x ys → (p y ≡ false) × (list_any p ys ≡ false) → (list_any p ys ≡ false → Among x ys → p x ≡ false) → p x ≡ false
+    by_place (inl e) k go = ap p e ∙ k.0
+    by_place (inr b) k go = go k.1 b
+
+-- a row that is no mend of the group has another key
+mend_alone : (process group : ℕ) (words : Call) → KeyedAs process words → group < 16 → mends_in group words ≡ false → waiting_of process words ≡ group → ⊥
+mend_alone process group (call.Mend file) k low none e = differs file.group group none e
+  where
+    differs : (a b : ℕ) → (a == b) ≡ false → a ≡ b → ⊥
+    differs a b n e = grind (arith, nat_tests)
+mend_alone process group _ k low none e = absurd (omega (arith, k, low, e))
+
+mend_done : (c : Config) (s m : ℕ) (t : Trace) (x : SyncTable) (o : Option FileRow) (v : SiteView) (e : InEpoch) → v.epoch ≡ Some e → LooksInward x → has_mend_in v.users x.group ≡ false → Stands s t v → SiteDone s m t (starts_mend_of (frame_in c s v.boot e) x o v)
+mend_done c s m t x None v e here ok none h = quiet_done s m t v h
+mend_done c s m t x (Some r) v e here ok none h =
+    inside_users s m t (on_call (frame_in c s v.boot e) (Some e.id) 0 (call.Mend (row_file x r))) v e here
+    (λ k o. on_call_do (WasIn s t) (frame_in c s v.boot e) (Some e.id) m 0 t (call.Mend (row_file x r)) v.users
+    (λ q a f. mend_alone q.process x.group q.words (h.waits.keyed q a) ok.1 (none_other (is_mend_in x.group) v.users.waiting none q a) f) ok.1 tt h.waits o) h
+
+not_true : (b : Bool) → not b ≡ true → b ≡ false
+not_true true h = absurd (cc)
+not_true false h = refl
+
+both_parts : (a b : Bool) → (a && b) ≡ true → (a ≡ true) × (b ≡ true)
+both_parts true b h = (refl, h)
+both_parts false b h = absurd (cc)
+
+starts_done : (c : Config) (s m : ℕ) (t : Trace) (x : SyncTable) (v : SiteView) (e : InEpoch) → v.epoch ≡ Some e → LooksInward x → Stands s t v → SiteDone s m t (starts_mend (frame_in c s v.boot e) x v)
+starts_done c s m t x v e here ok h =
+    (elim (x.started && not (has_mend_in v.users x.group)) as (λ b. (x.started && not (has_mend_in v.users x.group)) ≡ b → SiteDone s m t (elim b [ true ↦ starts_mend_of (frame_in c s v.boot e) x (first_that (wants_mend v x) x.files) v | false ↦ quiet v ])) [
+      | true ↦ λ k. mend_done c s m t x (first_that (wants_mend v x) x.files) v e here ok (not_true (has_mend_in v.users x.group) (both_parts x.started (not (has_mend_in v.users x.group)) k).1) h
+      | false ↦ λ k. quiet_done s m t v h
+    ]) refl
+
+-- a mend leaves the epoch and the boot
+abbrev Same : SiteView → Outcome SiteView → Type 0
+Same v o = (o.view.epoch ≡ v.epoch) × (o.view.boot ≡ v.boot)
+
+mend_same : (f : Frame) (x : SyncTable) (o : Option FileRow) (v : SiteView) → Same v (starts_mend_of f x o v)
+mend_same f x None v = (refl, refl)
+mend_same f x (Some r) v = (refl, refl)
+
+starts_same : (f : Frame) (x : SyncTable) (v : SiteView) → Same v (starts_mend f x v)
+starts_same f x v = elim (x.started && not (has_mend_in v.users x.group)) as (λ b. Same v (elim b [ true ↦ starts_mend_of f x (first_that (wants_mend v x) x.files) v | false ↦ quiet v ])) [ true ↦ mend_same f x (first_that (wants_mend v x) x.files) v | false ↦ (refl, refl) ]
+
+all_start : (c : Config) (s m boot : ℕ) (t : Trace) (ts : List SyncTable) (v : SiteView) (e : InEpoch) → v.boot ≡ boot → v.epoch ≡ Some e → Every LooksInward ts → Stands s t v → SiteDoes s m t (starts_mends_in (frame_in c s boot e) ts v)
+all_start c s m boot t [] v e own here ok h = λ new. quiet_done s m t v h
+all_start c s m boot t (x ∷ xs) v e own here ok h =
+    let k : Same v (starts_mend (frame_in c s boot e) x v) = starts_same (frame_in c s boot e) x v in
+    then_does s m t (starts_mend (frame_in c s boot e) x v) (starts_mends_in (frame_in c s boot e) xs) (λ new. subst (λ (b : ℕ). SiteDone s m t (starts_mend (frame_in c s b e) x v)) own (starts_done c s m t x v e here ok.0 h))
+    (λ g. all_start c s m boot (after m (starts_mend (frame_in c s boot e) x v).told t) xs (starts_mend (frame_in c s boot e) x v).view e (k.1 ∙ own) (k.0 ∙ here) ok.1 g)
+
+pub mends_does : (c : Config) (s m : ℕ) (t : Trace) (o : Option InEpoch) (v : SiteView) → v.epoch ≡ o → Stands s t v → SiteDoes s m t (starts_mends_of c s o v)
+mends_does c s m t None v here h = λ new. quiet_done s m t v h
+mends_does c s m t (Some e) v here h = all_start c s m v.boot t v.tables v e refl here h.tables h

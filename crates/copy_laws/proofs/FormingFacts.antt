@@ -1,0 +1,319 @@
+-- Adoptions, mends, and how an epoch is formed: what a site keeps and sends of versions is as it was told.
+use Rattle.std.proofs.Common.{◌≡◌, ℕ, ◌+◌, ◌==◌, Bool, true, false, cond, ◌&&◌, ◌||◌, ◌*◌, ◌<◌, ◌∙◌, ap, length, not, List, [], ◌∷◌, Option, Some, None, refl, sym, subst, arith}
+use Rattle.std.proofs.lemmas.Bool.Decides.{nat_tests}
+use Rattle.std.specs.List.{list_any}
+use Rattle.commit_graph.specs.Versions.{same_file}
+use Rattle.locus_ids.specs.declared.ids.EpochId.{EpochId}
+use Rattle.locus_ids.specs.declared.ids.FileId.{FileId}
+use Rattle.locus_ids.specs.declared.sites.Links.{Links}
+use Rattle.locus_ids.specs.declared.sites.Members.{Members}
+use Rattle.locus_ids.specs.declared.sites.Sites.{Sites}
+use Rattle.locus_ids.specs.declared.config.Config.{Config}
+use Rattle.trace_book.specs.Same.{same_epoch}
+use Rattle.trace_book.specs.declared.call.Call.TheVariants as call
+use Rattle.wire_messages.specs.declared.body.Body.TheVariants as body
+use Rattle.role_steps.specs.Own.{Every}
+use Rattle.role_steps.specs.Tables.{row, with_row, without_row, first_that}
+use Rattle.role_steps.specs.Views.{Frame, SiteView, Told, Shown, Promises, Outcome, quiet, sends, tells, and_then, file_key}
+use Rattle.role_steps.specs.Reports.{new_table, on_have_of}
+use Rattle.role_steps.specs.Storage.{copy_key, copy_of, instance_key, is_open, is_open_of, has_open, with_copy, report_of, reported}
+use Rattle.role_steps.specs.Pulling.{pull_key, is_complete}
+use Rattle.role_steps.specs.Using.{on_call}
+use Rattle.role_steps.specs.Versions.{file_row, row_ino}
+use Rattle.role_steps.specs.Epochs.{is_epoch_below, frame_in, leaves_of, leaves, promises, promised_view, reached, poll_packet, polled_sites, polls, round_id, begins_round, boots_where, part_boot, starts_part_of, promise_packet, refuse_packet, on_poll, on_promise_of, on_refuse_of, report_packets, all_reports, joined_view, joins, may_install, is_in, joined_packet, on_install, on_joined, passed_over, unanswered, chosen_members, chosen_set, others_of, install_packet, installs_all, decides_if, passes_over_of, passes_over}
+use Rattle.role_steps.specs.Adoption.{notes_own_at, copy_adopted, adopt_record, table_group, with_store, without_pull, has_mend, has_room, is_ready, is_above_own, adopts_pull, adopts_first}
+use Rattle.role_steps.specs.Mends.{has_mend_in, wants_mend, starts_mend_of, starts_mend, starts_mends_in, row_file}
+use Rattle.role_steps.specs.declared.copies.FileCopy.{FileCopy}
+use Rattle.role_steps.specs.declared.instances.Instance.{Instance}
+use Rattle.role_steps.specs.declared.instances.Stage.{Stage}
+use Rattle.role_steps.specs.declared.instances.Stage.TheVariants as stage
+use Rattle.role_steps.specs.declared.pulls.Pull.{Pull}
+use Rattle.role_steps.specs.declared.rounds.InEpoch.{InEpoch}
+use Rattle.role_steps.specs.declared.rounds.Round.{Round}
+use Rattle.role_steps.specs.declared.synchronizing.SyncTable.{SyncTable}
+use Rattle.role_steps.specs.declared.synchronizing.FileRow.{FileRow}
+use Rattle.role_steps.proofs.Sending.{every_cond, every_map, every_flat_map}
+use Rattle.the_run.specs.Steps.{adopts_of, starts_mends_of, ends_event}
+use Rattle.the_run.proofs.InsideSync.{every_row, every_without, Found, row_found}
+use Rattle.run_laws.specs.Naming.{Deeds, ViewOk}
+use Rattle.run_laws.proofs.RolesTell.{on_call_talks}
+use Rattle.role_steps.proofs.Rows.{row_other}
+use Rattle.lock_laws.proofs.GrantTold.{test_same}
+use Rattle.history_laws.specs.Commits.{NumbersFit}
+use Rattle.history_laws.proofs.History.{same_file_refl}
+use Rattle.stamp_laws.proofs.CommitCovers.{key_file}
+use Rattle.copy_laws.specs.Contents.{HasContent, IsVersionOf, IsSized}
+use Rattle.copy_laws.proofs.Pages.{whole_front, has_fits}
+use Rattle.vector_laws.specs.Facts.{onto}
+use Rattle.copy_laws.specs.Facts.{ReportedFact, PacketFact, Factless, CopyFact, PullFact, LastMade, InstanceFact, IsLast, LastBy, RowFact, TableFact, InEpochFact, ViewFact}
+use Rattle.lock_laws.proofs.Facts.{Later, one_later, onto_later}
+use Rattle.copy_laws.proofs.Facts.{content_later, copies_later, pulls_later, instances_later, tables_later, then_fine}
+use Rattle.vector_laws.proofs.SyncFacts.{file_eq}
+use Rattle.vector_laws.proofs.SiteFacts.{talk_none}
+use Rattle.locus_ids.specs.declared.ids.Stamp.{Stamp}
+use Rattle.copy_laws.proofs.SyncEvents.{have_fact}
+use Rattle.copy_laws.proofs.StoreFacts.{sync_fact}
+use Rattle.copy_laws.proofs.RolesSend.{on_call_factless}
+use Rattle.vector_laws.proofs.SiteDisks.{starts_mends_keeps}
+use Rattle.copy_laws.proofs.SiteFacts.{SiteFine, inside_alike, plain_fine, quiet_fact, inside_of}
+
+-- ---- adoptions ----
+
+none_some : {A : Type 0} (x : A) → ◌≡◌ {A = Option A} None (Some x) → ⊥
+none_some x e = cc
+
+noted_fact : (me : ℕ) → (f : Frame) (past : List Told) (p : Pull) (e : InEpoch) (o : Option SyncTable) (v : SiteView) → f.epoch ≡ e.id → v.epoch ≡ Some e → Found (TableFact past e.id) o → ViewFact me past v → ViewFact me past (notes_own_at f p o v)
+noted_fact me f past p e None v at here k h = h
+noted_fact me f past p e (Some t) v at here k h =
+    let g : TableFact past f.epoch t = subst (λ (i : EpochId). TableFact past i t) (sym at) k in
+    let q : TableFact past f.epoch (on_have_of f.me p.stamp (file_row t p.file.ino) t) = have_fact past f f.me p.stamp (file_row t p.file.ino) t (row_found (RowFact past t.group) row_ino p.file.ino t.files g.files) g in
+    let w : SiteView = notes_own_at f p (Some t) v in
+    let i : Every (InstanceFact past e.id) v.store.instances × Every (TableFact past e.id) v.tables = inside_of me past v e here h in
+    record { copies = h.copies; last = h.last; pulls = h.pulls; inside = subst (InEpochFact past w) (sym here) (i.0, every_row (TableFact past e.id) table_group (on_have_of f.me p.stamp (file_row t p.file.ino) t) v.tables (subst (λ (n : EpochId). TableFact past n (on_have_of f.me p.stamp (file_row t p.file.ino) t)) at q) i.1) }
+
+both_so : (a b : Bool) → (a && b) ≡ true → (a ≡ true) × (b ≡ true)
+both_so true true h = (refl, refl)
+both_so true false h = absurd (cc)
+both_so false true h = absurd (cc)
+both_so false false h = absurd (cc)
+
+neither : (a b : Bool) → not (a || b) ≡ true → a ≡ false
+neither true b h = absurd (cc)
+neither false b h = refl
+
+none_any : {A : Type 0} (f : A → Bool) (xs : List A) → list_any f xs ≡ false → Every (λ (x : A). f x ≡ false) xs
+none_any f [] h = tt
+none_any f (x ∷ xs) h = let k : _ × _ = or_none (f x) (list_any f xs) h in (k.0, none_any f xs k.1)
+  where
+    or_none : (a b : Bool) → (a || b) ≡ false → (a ≡ false) × (b ≡ false)
+    or_none true b h = absurd (cc)
+    or_none false b h = (refl, h)
+
+-- of a running instance that has committed a file nothing is adopted
+not_adopted : (past : List Told) (e : EpochId) (file : FileId) (i : Instance) (stamp : Stamp) → NumbersFit past → file.ino < 65536 → InstanceFact past e i → is_open_of file i ≡ false → i.stage ≡ stage.Running → i.work.committed ≡ Some stamp → (file_key file == file_key i.file) ≡ false
+not_adopted past e file i stamp fit small k shut runs made = is_not (file_key file == file_key i.file) (λ q.
+    (let version : IsVersionOf past i.file stamp = subst (LastMade past i.file) made k.made in
+    let mine : i.file.ino < 65536 = has_fits past i.file stamp version.0 fit version.1 in
+    let same : file ≡ i.file = key_file file i.file small mine (test_same (file_key file) (file_key i.file) q) in
+    false_true (subst (λ (s : Stage). (is_open s && same_file i.file file) ≡ false) runs shut) (same_file_refl i.file file (sym same))))
+  where
+    is_not : (b : Bool) → (b ≡ true → ⊥) → b ≡ false
+    is_not true n = absurd (n refl)
+    is_not false n = refl
+
+    false_true : {b : Bool} → b ≡ false → b ≡ true → ⊥
+    false_true e f = absurd (cc)
+
+last_adopted : (me : ℕ) (past : List Told) (e : EpochId) (x : FileCopy) (copies : List FileCopy) (o : Option Instance) → NumbersFit past → x.file.ino < 65536 → Found (InstanceFact past e) o → Found (λ (i : Instance). is_open_of x.file i ≡ false) o → LastBy me copies o → LastBy me (with_row copy_key x copies) o
+last_adopted me past e x copies None fit small k shut h = tt
+last_adopted me past e x copies (Some i) fit small k shut h = λ stamp runs made. (let old : IsLast me copies i stamp = h stamp runs made in
+    record { site = old.site; writes = old.writes; by = record { copy = old.by.copy; found = row_other copy_key x (file_key i.file) copies (not_adopted past e x.file i stamp fit small k shut runs made) ∙ old.by.found; site = old.by.site } })
+
+adopts_pull_fact : (me : ℕ) → (f : Frame) (past : List Told) (p : Pull) (e : InEpoch) (v : SiteView) → NumbersFit past → f.epoch ≡ e.id → v.epoch ≡ Some e → is_ready v p ≡ true → PullFact past p → ViewFact me past v → SiteFine me past (adopts_pull f p v)
+adopts_pull_fact me f past p e v fit at here ready k h =
+    let x : Told = Shown (adopt_record f p) in
+    let now : List Told = x ∷ past in
+    let later : Later past now = one_later x past in
+    let w : SiteView = without_pull p (with_store v (with_copy (copy_adopted p) v.store)) in
+    let r : _ × _ = both_so (is_complete p) (has_room v.store p && not (has_open v.store p.file || has_mend v.users p.file)) ready in
+    let q : _ × _ = both_so (has_room v.store p) (not (has_open v.store p.file || has_mend v.users p.file)) r.1 in
+    let shut : has_open v.store p.file ≡ false = neither (has_open v.store p.file) (has_mend v.users p.file) q.1 in
+    let all : p.content ≡ k.content = k.first ∙ whole_front k.content (1024 * k.pages) (sym (ap length k.first) ∙ (test_same (length p.content) p.size r.0 ∙ k.size_is)) in
+    let c : CopyFact now (copy_adopted p) = content_later past now later p.file p.stamp p.content (subst (HasContent past p.file p.stamp) (sym all) k.has) in
+    let i : Every (InstanceFact past e.id) v.store.instances × Every (TableFact past e.id) v.tables = inside_of me past v e here h in
+    let small : p.file.ino < 65536 = has_fits past p.file p.stamp k.content fit k.has in
+    let g : ViewFact me now w = record {
+      copies = every_row (CopyFact now) copy_key (copy_adopted p) v.store.copies c (copies_later past now later v.store.copies h.copies);
+      last = λ key. last_adopted me past e.id (copy_adopted p) v.store.copies (row instance_key key v.store.instances) fit small (row_found (InstanceFact past e.id) instance_key key v.store.instances i.0) (row_found (λ (j : Instance). is_open_of p.file j ≡ false) instance_key key v.store.instances (none_any (is_open_of p.file) v.store.instances shut)) (h.last key);
+      pulls = every_without (PullFact now) pull_key (pull_key p) v.pulls (pulls_later past now later v.pulls h.pulls);
+      inside = subst (InEpochFact now w) (sym here) (instances_later past now later e.id v.store.instances i.0, tables_later past now later e.id v.tables i.1);
+    } in
+    record {
+      view = noted_fact me f now p e (row table_group p.file.group v.tables) w at here (row_found (TableFact now e.id) table_group p.file.group v.tables (tables_later past now later e.id v.tables i.1)) g;
+      sent = sync_fact now f p.file.group _ tt;
+      disk = c;
+    }
+
+without_fact : (me : ℕ) → (past : List Told) (p : Pull) (v : SiteView) → ViewFact me past v → ViewFact me past (without_pull p v)
+without_fact me past p v h = record { copies = h.copies; last = h.last; pulls = every_without (PullFact past) pull_key (pull_key p) v.pulls h.pulls; inside = inside_alike past v (without_pull p v) v.epoch refl refl h.inside }
+
+adopts_first_fact : (me : ℕ) → (f : Frame) (past : List Told) (ps : List Pull) (e : InEpoch) (v : SiteView) → NumbersFit past → f.epoch ≡ e.id → v.epoch ≡ Some e → Every (PullFact past) ps → ViewFact me past v → SiteFine me past (adopts_first f ps v)
+adopts_first_fact me f past [] e v fit at here k h = quiet_fact me past v h
+adopts_first_fact me f past (p ∷ ps) e v fit at here k h =
+    (elim (is_ready v p) as (λ t. is_ready v p ≡ t → SiteFine me past (elim t [ true ↦ elim (is_above_own p (copy_of v.store p.file)) [ true ↦ adopts_pull f p v | false ↦ adopts_first f ps (without_pull p v) ] | false ↦ adopts_first f ps v ])) [
+      | true ↦ λ ready. elim (is_above_own p (copy_of v.store p.file)) as (λ t. SiteFine me past (elim t [ true ↦ adopts_pull f p v | false ↦ adopts_first f ps (without_pull p v) ])) [
+        | true ↦ adopts_pull_fact me f past p e v fit at here ready k.0 h
+        | false ↦ adopts_first_fact me f past ps e (without_pull p v) fit at here k.1 (without_fact me past p v h)
+      ]
+      | false ↦ λ ready. adopts_first_fact me f past ps e v fit at here k.1 h
+    ]) refl
+
+pub adopts_of_fact : (c : Config) (me : ℕ) (past : List Told) (o : Option InEpoch) (v : SiteView) → NumbersFit past → v.epoch ≡ o → ViewFact me past v → SiteFine me past (adopts_of c me o v)
+adopts_of_fact c me past None v fit here h = quiet_fact me past v h
+adopts_of_fact c me past (Some e) v fit here h = adopts_first_fact me (frame_in c me v.boot e) past v.pulls e v fit refl here h.pulls h
+
+-- ---- mends ----
+
+mend_fact : (me : ℕ) → (f : Frame) (past : List Told) (t : SyncTable) (o : Option FileRow) (v : SiteView) → ViewFact me past v → SiteFine me past (starts_mend_of f t o v)
+mend_fact me f past t None v h = quiet_fact me past v h
+mend_fact me f past t (Some r) v h =
+    plain_fine me past v (starts_mend_of f t (Some r) v) refl refl refl refl refl (talk_none (on_call f (Some f.epoch) 0 (call.Mend (row_file t r)) v.users).told (on_call_talks f (Some f.epoch) 0 (call.Mend (row_file t r)) v.users).0) (on_call_talks f (Some f.epoch) 0 (call.Mend (row_file t r)) v.users).1 (on_call_factless f (Some f.epoch) 0 (call.Mend (row_file t r)) v.users) h
+
+starts_mend_fact : (me : ℕ) → (f : Frame) (past : List Told) (t : SyncTable) (v : SiteView) → ViewFact me past v → SiteFine me past (starts_mend f t v)
+starts_mend_fact me f past t v h =
+    elim (t.started && not (has_mend_in v.users t.group)) as (λ x. SiteFine me past (elim x [ true ↦ starts_mend_of f t (first_that (wants_mend v t) t.files) v | false ↦ quiet v ])) [
+      | true ↦ mend_fact me f past t (first_that (wants_mend v t) t.files) v h
+      | false ↦ quiet_fact me past v h
+    ]
+
+mends_fact : (me : ℕ) → (f : Frame) (past : List Told) (ts : List SyncTable) (v : SiteView) → ViewFact me past v → SiteFine me past (starts_mends_in f ts v)
+mends_fact me f past [] v h = quiet_fact me past v h
+mends_fact me f past (t ∷ ts) v h =
+    let o : Outcome SiteView = starts_mend f t v in
+    let k : SiteFine me past o = starts_mend_fact me f past t v h in
+    then_fine (ViewFact me) (ViewFact me) past o (starts_mends_in f ts o.view) k (mends_fact me f (onto o.told past) ts o.view k.view) (starts_mends_keeps f ts o.view).none
+
+mends_of_fact : (c : Config) (me : ℕ) (past : List Told) (o : Option InEpoch) (v : SiteView) → ViewFact me past v → SiteFine me past (starts_mends_of c me o v)
+mends_of_fact c me past None v h = quiet_fact me past v h
+mends_of_fact c me past (Some e) v h = mends_fact me (frame_in c me v.boot e) past v.tables v h
+
+-- ---- how an epoch is formed ----
+
+pub leaves_of_fact : (me : ℕ) (past : List Told) (e : Option InEpoch) (v : SiteView) → ViewFact me past v → SiteFine me past (leaves_of me e v)
+leaves_of_fact me past None v h = quiet_fact me past v h
+leaves_of_fact me past (Some e) v h =
+    let o : Outcome SiteView = leaves_of me (Some e) v in
+    record {
+      view = record { copies = copies_later past (onto o.told past) (onto_later o.told past) v.store.copies h.copies; last = λ key. tt; pulls = tt; inside = refl };
+      sent = tt;
+      disk = tt;
+    }
+
+promises_fact : (me : ℕ) (past : List Told) (id : EpochId) (reach : Sites) (v : SiteView) → ViewFact me past v → SiteFine me past (promises me id reach v)
+promises_fact me past id reach v h =
+    let o : Outcome SiteView = leaves me v in
+    let k : SiteFine me past o = leaves_of_fact me past v.epoch v h in
+    then_fine (ViewFact me) (ViewFact me) past o (tells (Promises me id reach ∷ []) (promised_view id o.view)) k (plain_fine me (onto o.told past) o.view (tells (Promises me id reach ∷ []) (promised_view id o.view)) refl refl refl refl refl (tt, tt) refl tt k.view) refl
+
+pub begins_fact : (me : ℕ) (past : List Told) (links : Links) (number : ℕ) (polled : Links) (v : SiteView) → ViewFact me past v → SiteFine me past (begins_round me links number polled v)
+begins_fact me past links number polled v h =
+    let id : EpochId = round_id me number v in
+    let o : Outcome SiteView = promises me id (reached links) v in
+    let k : SiteFine me past o = promises_fact me past id (reached links) v h in
+    then_fine (ViewFact me) (ViewFact me) past o (polls me id polled o.view) k (plain_fine me (onto o.told past) o.view (polls me id polled o.view) refl refl refl refl refl tt refl (every_map Factless (poll_packet me o.view.boot id polled) (polled_sites polled) (λ s. tt)) k.view) refl
+
+pub starts_part_fact : (me : ℕ) (past : List Told) (links : Links) (e : Option InEpoch) (v : SiteView) → ViewFact me past v → SiteFine me past (starts_part_of me links e v)
+starts_part_fact me past links None v h = quiet_fact me past v h
+starts_part_fact me past links (Some e) v h = begins_fact me past links (v.promised.number + 1) (boots_where (part_boot me links e.members)) v h
+
+pub on_poll_fact : (me : ℕ) (past : List Told) (links : Links) (from from_boot : ℕ) (id : EpochId) (v : SiteView) → ViewFact me past v → SiteFine me past (on_poll me links from from_boot id v)
+on_poll_fact me past links from from_boot id v h =
+    elim (is_epoch_below v.promised id) as (λ t. SiteFine me past (elim t [ true ↦ and_then (promises me id (reached links) v) (λ now. sends (promise_packet me links from from_boot id now) now) | false ↦ sends (cond (same_epoch id v.promised && not v.installed) (promise_packet me links from from_boot id v) (refuse_packet me from from_boot id v)) v ])) [
+      | true ↦ and_promise
+      | false ↦ plain_fine me past v (sends (cond (same_epoch id v.promised && not v.installed) (promise_packet me links from from_boot id v) (refuse_packet me from from_boot id v)) v) refl refl refl refl refl tt refl (every_cond Factless (same_epoch id v.promised && not v.installed) (promise_packet me links from from_boot id v) (refuse_packet me from from_boot id v) (tt, tt) (tt, tt)) h
+    ]
+  where
+    and_promise : SiteFine me past (and_then (promises me id (reached links) v) (λ now. sends (promise_packet me links from from_boot id now) now))
+    and_promise =
+        let o : Outcome SiteView = promises me id (reached links) v in
+        let k : SiteFine me past o = promises_fact me past id (reached links) v h in
+        then_fine (ViewFact me) (ViewFact me) past o (sends (promise_packet me links from from_boot id o.view) o.view) k (plain_fine me (onto o.told past) o.view (sends (promise_packet me links from from_boot id o.view) o.view) refl refl refl refl refl tt refl (tt, tt) k.view) refl
+
+pub on_promise_fact : (me : ℕ) → (past : List Told) (from from_boot : ℕ) (id : EpochId) (reach : Sites) (o : Option Round) (v : SiteView) → ViewFact me past v → SiteFine me past (on_promise_of from from_boot id reach o v)
+on_promise_fact me past from from_boot id reach None v h = quiet_fact me past v h
+on_promise_fact me past from from_boot id reach (Some r) v h = plain_fine me past v (on_promise_of from from_boot id reach (Some r) v) refl refl refl refl refl tt refl tt h
+
+pub on_refuse_fact : (me : ℕ) (past : List Told) (links : Links) (id theirs : EpochId) (o : Option Round) (v : SiteView) → ViewFact me past v → SiteFine me past (on_refuse_of me links id theirs o v)
+on_refuse_fact me past links id theirs None v h = quiet_fact me past v h
+on_refuse_fact me past links id theirs (Some r) v h =
+    elim (same_epoch r.id id) as (λ t. SiteFine me past (elim t [ true ↦ begins_round me links (theirs.number + 1) r.polled v | false ↦ quiet v ])) [
+      | true ↦ begins_fact me past links (theirs.number + 1) r.polled v h
+      | false ↦ quiet_fact me past v h
+    ]
+
+-- ---- joining: each copy is reported as it is ----
+
+report_fact : (past : List Told) (group : ℕ) (xs : List FileCopy) → Every (CopyFact past) xs → Every (ReportedFact past group) (report_of group xs)
+report_fact past group [] h = tt
+report_fact past group (x ∷ xs) h =
+    (elim (x.file.group == group) as (λ b. (x.file.group == group) ≡ b → Every (ReportedFact past group) (cond b (reported x ∷ report_of group xs) (report_of group xs))) [
+      | true ↦ λ e. (subst (λ (file : FileId). IsSized past file x.stamp (length x.content)) (file_eq x.file group x.file.ino (group_same e) refl) (record { content = x.content; has = h.0; size_is = refl }), report_fact past group xs h.1)
+      | false ↦ λ e. report_fact past group xs h.1
+    ]) refl
+  where
+    group_same : (x.file.group == group) ≡ true → x.file.group ≡ group
+    group_same e = grind (arith, nat_tests)
+
+pub all_reports_fact : (past : List Told) (f : Frame) (v : SiteView) → Every (CopyFact past) v.store.copies → Every (PacketFact past) (all_reports f v)
+all_reports_fact past f v h = every_flat_map (PacketFact past) (report_packets f v) v.reports (λ g. sync_fact past f g (body.Report g (report_of g v.store.copies)) (report_fact past g v.store.copies h))
+
+joins_fact : (c : Config) (me : ℕ) (past : List Told) (id : EpochId) (m : Members) (v : SiteView) → v.epoch ≡ None → ViewFact me past v → SiteFine me past (joins c me id m v)
+joins_fact c me past id m v gone h =
+    let o : Outcome SiteView = joins c me id m v in
+    let now : List Told = onto o.told past in
+    let copies : Every (CopyFact now) v.store.copies = copies_later past now (onto_later o.told past) v.store.copies h.copies in
+    let none : v.store.instances ≡ [] = subst (InEpochFact past v) gone h.inside in
+    record {
+      view = record {
+        copies = copies;
+        last = h.last;
+        pulls = pulls_later past now (onto_later o.told past) v.pulls h.pulls;
+        inside = (subst (λ (xs : List Instance). Every (InstanceFact now id) xs) (sym none) tt, every_map (TableFact now id) new_table _ (λ g. record { files = tt; opens = tt; looks = tt; early = tt }));
+      };
+      sent = all_reports_fact now (frame_in c me v.boot (record { id = id; members = m })) (joined_view c me id m v) copies;
+      disk = tt;
+    }
+
+pub both_true : (a b : Bool) → (a && b) ≡ true → (a ≡ true) × (b ≡ true)
+both_true true true h = (refl, refl)
+both_true true false h = absurd (cc)
+both_true false true h = absurd (cc)
+both_true false false h = absurd (cc)
+
+not_true : (a : Bool) → not a ≡ true → a ≡ false
+not_true true h = absurd (cc)
+not_true false h = refl
+
+pub on_install_fact : (K : Deeds) (c : Config) (me : ℕ) (past : List Told) (from from_boot : ℕ) (id : EpochId) (m : Members) (v : SiteView) → ViewOk K v → ViewFact me past v → SiteFine me past (on_install c me from from_boot id m v)
+on_install_fact K c me past from from_boot id m v ok h =
+    (elim (may_install me id m v) as (λ t. may_install me id m v ≡ t → SiteFine me past (elim t [ true ↦ and_then (joins c me id m v) (λ now. sends (joined_packet me from from_boot id now) now) | false ↦ sends (cond (is_in id v.epoch) (joined_packet me from from_boot id v) []) v ])) [
+      | true ↦ λ e. joins_on e
+      | false ↦ λ e. plain_fine me past v (sends (cond (is_in id v.epoch) (joined_packet me from from_boot id v) []) v) refl refl refl refl refl tt refl (every_cond Factless (is_in id v.epoch) (joined_packet me from from_boot id v) [] (tt, tt) tt) h
+    ]) refl
+  where
+    joins_on : may_install me id m v ≡ true → SiteFine me past (and_then (joins c me id m v) (λ now. sends (joined_packet me from from_boot id now) now))
+    joins_on e =
+        let a : (same_epoch id v.promised ≡ true) × (_ ≡ true) = both_true (same_epoch id v.promised) _ e in
+        let b : (not v.installed ≡ true) × (_ ≡ true) = both_true (not v.installed) _ a.1 in
+        let o : Outcome SiteView = joins c me id m v in
+        let k : SiteFine me past o = joins_fact c me past id m v (ok.waits (not_true v.installed b.0)).0 h in
+        then_fine (ViewFact me) (ViewFact me) past o (sends (joined_packet me from from_boot id o.view) o.view) k (plain_fine me (onto o.told past) o.view (sends (joined_packet me from from_boot id o.view) o.view) refl refl refl refl refl tt refl (tt, tt) k.view) refl
+
+pub on_joined_fact : (me : ℕ) → (past : List Told) (from : ℕ) (id : EpochId) (v : SiteView) → ViewFact me past v → SiteFine me past (on_joined from id v)
+on_joined_fact me past from id v h =
+    elim (is_in id v.epoch) as (λ b. SiteFine me past (quiet (cond b (record v { installs = without_row (λ s. s) from v.installs }) v))) [
+      | true ↦ plain_fine me past v (quiet (record v { installs = without_row (λ s. s) from v.installs })) refl refl refl refl refl tt refl tt h
+      | false ↦ quiet_fact me past v h
+    ]
+
+decides_if_fact : (K : Deeds) (c : Config) (me : ℕ) (past : List Told) (links : Links) (r q : Round) (xs : List ℕ) (v : SiteView) → v.round ≡ Some r → ViewOk K v → ViewFact me past v → SiteFine me past (decides_if c me links q xs v)
+decides_if_fact K c me past links r q [] v here ok h =
+    let m : Members = chosen_members me v.boot q (chosen_set me links q) in
+    let o : Outcome SiteView = joins c me q.id m v in
+    let k : SiteFine me past o = joins_fact c me past q.id m v (ok.waits (ok.round_is r here).1).0 h in
+    then_fine (ViewFact me) (ViewFact me) past o (installs_all me q.id m o.view) k (plain_fine me (onto o.told past) o.view (installs_all me q.id m o.view) refl refl refl refl refl tt refl (every_map Factless (install_packet me o.view.boot q.id m) (others_of me m) (λ s. tt)) k.view) refl
+decides_if_fact K c me past links r q (x ∷ xs) v here ok h = plain_fine me past v (decides_if c me links q (x ∷ xs) v) refl refl refl refl refl tt refl tt h
+
+passes_over_fact : (K : Deeds) (c : Config) (me : ℕ) (past : List Told) (links : Links) (o : Option Round) (v : SiteView) → v.round ≡ o → ViewOk K v → ViewFact me past v → SiteFine me past (passes_over_of c me links o v)
+passes_over_fact K c me past links None v here ok h = quiet_fact me past v h
+passes_over_fact K c me past links (Some r) v here ok h = decides_if_fact K c me past links r (passed_over links r) (unanswered (passed_over links r)) v here ok h
+
+pub ends_fact : (K : Deeds) (c : Config) (me : ℕ) (past : List Told) (links : Links) (v : SiteView) → ViewOk K v → ViewFact me past v → SiteFine me past (ends_event c me links v)
+ends_fact K c me past links v ok h =
+    let o : Outcome SiteView = passes_over c me links v in
+    let k : SiteFine me past o = passes_over_fact K c me past links v.round v refl ok h in
+    then_fine (ViewFact me) (ViewFact me) past o (starts_mends_of c me o.view.epoch o.view) k (mends_of_fact c me (onto o.told past) o.view.epoch o.view k.view) (mends_none c me o.view.epoch o.view)
+  where
+    mends_none : (c : Config) (me : ℕ) (e : Option InEpoch) (v : SiteView) → (starts_mends_of c me e v).written ≡ None
+    mends_none c me None v = refl
+    mends_none c me (Some e) v = (starts_mends_keeps (frame_in c me v.boot e) v.tables v).none

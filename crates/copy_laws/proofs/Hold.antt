@@ -1,0 +1,11 @@
+-- All that holds of versions and copies in a run.
+use Rattle.std.specs.Prelude.{List}
+use Rattle.locus_ids.specs.declared.config.Config.{Config}
+use Rattle.schedule_lines.specs.declared.line.ScheduleLine.{ScheduleLine}
+use Rattle.the_run.specs.Runs.{run_in}
+use Rattle.kept_laws.proofs.Hold.{run_kept_hold}
+use Rattle.copy_laws.specs.Hold.{VersionsAndCopiesHold}
+use Rattle.copy_laws.proofs.ContentsRun.{run_contents}
+
+pub run_versions_and_copies : (c : Config) (lines : List ScheduleLine) → VersionsAndCopiesHold c (run_in c lines)
+run_versions_and_copies c lines = record { kept = run_kept_hold c lines; contents = run_contents c lines }

@@ -1,0 +1,16 @@
+pub mod Ancestors
+pub mod Copies
+pub mod Turning
+pub mod Seats
+pub mod Made
+pub mod Packed
+pub mod Bringing
+pub mod Known
+pub mod Below
+pub mod Rising
+pub mod Begun
+pub mod Kept
+pub mod Reports
+pub mod Distinct
+pub mod Holding
+pub mod Released

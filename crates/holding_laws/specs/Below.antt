@@ -1,0 +1,17 @@
+-- The laws of every run on which these rest, as premises on a trace.
+use Rattle.std.specs.Prelude.{List}
+use Rattle.locus_ids.specs.declared.config.Config.{Config}
+use Rattle.role_steps.specs.Own.{Every}
+use Rattle.the_run.specs.Worlds.{Line}
+use Rattle.vector_laws.specs.Written.{past_of}
+use Rattle.history_laws.specs.Commits.{StampsAreOnce}
+use Rattle.pack_laws.specs.Packs.{ToldPacked}
+use Rattle.order_laws.specs.Joining.{PacksAreOfSites}
+
+pub record LawsBelow (c : Config) (trace : List Line) : Type 0 where
+  -- no file has two commits with one stamp
+  pub once : StampsAreOnce (past_of trace)
+  -- versions are made, adopted and granted where a pack is
+  pub packed : Every (ToldPacked c) (past_of trace)
+  -- the packs of each group are at some of the sixteen sites
+  pub packs : PacksAreOfSites c

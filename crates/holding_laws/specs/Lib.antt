@@ -1,0 +1,4 @@
+pub mod Order
+pub mod Below
+pub mod Granted
+pub mod Held

@@ -1,0 +1,15 @@
+pub mod Ordered
+pub mod Greatest
+pub mod Grown
+pub mod KeptRun
+pub mod TablesTell
+pub mod SitesTell
+pub mod Naming
+pub mod NamesRun
+pub mod Roots
+pub mod RootsRun
+pub mod Alike
+pub mod Candidates
+pub mod Standing
+pub mod VectorsKeep
+pub mod Hold

@@ -1,0 +1,17 @@
+pub mod Staying
+pub mod Composing
+pub mod Sorts
+pub mod Framing
+pub mod Rising
+pub mod Parts
+pub mod Lifting
+pub mod Inside
+pub mod Leaving
+pub mod Forming
+pub mod Repeats
+pub mod Steps
+pub mod Deeds
+pub mod Cuts
+pub mod Foreign
+pub mod Worlds
+pub mod Run

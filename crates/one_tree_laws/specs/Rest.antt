@@ -1,0 +1,83 @@
+-- What other laws of every run give of each line that is told: the rows of boots, stops and joins; new stamps; files where packs
+-- are; and the ranges of sites, processes and inode numbers.
+use Rattle.std.specs.Prelude.{ℕ, ◌≡◌, ◌<◌, List, [], ◌∷◌}
+use Rattle.locus_ids.specs.declared.config.Config.{Config}
+use Rattle.trace_book.specs.declared.record.Record.{Record}
+use Rattle.trace_book.specs.declared.record.Record.TheVariants as says
+use Rattle.role_steps.specs.Views.{Told, Shown}
+use Rattle.the_run.specs.Worlds.{Line}
+use Rattle.vector_laws.specs.Written.{past_of}
+use Rattle.history_laws.specs.Commits.{IsSite, StampsAreOnce}
+use Rattle.pack_laws.specs.Packs.{ToldPacked}
+use Rattle.lawful_trace.specs.Lawful.{MayCome}
+use Rattle.tree_laws.specs.Following.{IsFollowed, MayTell}
+use Rattle.tree_laws.specs.Frames.{IsFresh}
+use Rattle.tree_laws.specs.Printed.{entries}
+use Rattle.tree_laws.specs.Processes.{IsMend}
+use Rattle.order_laws.specs.Joining.{PacksAreOfSites}
+
+-- ---- one line ----
+
+abbrev pub RowRecord : Config → List Line → Record → Type 0
+RowRecord c older (says.Up s boot) = MayCome c (entries older) (says.Up s boot)
+RowRecord c older (says.Stopped s cause) = MayCome c (entries older) (says.Stopped s cause)
+RowRecord c older (says.Join s e members) = MayCome c (entries older) (says.Join s e members)
+RowRecord c older _ = Unit {0}
+
+-- a boot, a stop or a join comes as the lawful trace has it
+abbrev pub RowTold : Config → List Line → Told → Type 0
+RowTold c older (Shown r) = RowRecord c older r
+RowTold c older _ = Unit {0}
+
+abbrev pub RangeRecord : Record → Type 0
+RangeRecord (says.Join s e members) = IsSite s
+RangeRecord (says.Accept s process call words) = IsSite s × (process < 256) × (process ≡ 0 → IsMend words)
+RangeRecord (says.Commit f s stamp parents content) = (f.ino < 65536) × (stamp.n < 4294967295)
+RangeRecord _ = Unit {0}
+
+-- sites are those from 1 to 16, processes have numbers of one byte, of which 0 makes mends alone, inodes have numbers of two,
+-- and no counter of versions is at its end
+abbrev pub RangeTold : Told → Type 0
+RangeTold (Shown r) = RangeRecord r
+RangeTold _ = Unit {0}
+
+pub record RestTold (c : Config) (older : List Line) (x : Told) : Type 0 where
+  pub row : RowTold c older x
+  pub range : RangeTold x
+  -- a version is made, adopted and granted, an instance begun and a number reserved where a pack is
+  pub packed : ToldPacked c x
+  -- what is committed is a new version of its file
+  pub fresh : IsFresh c older x
+  pub once : StampsAreOnce (x ∷ past_of older)
+
+-- ---- all lines ----
+
+abbrev pub EachRest : Config → List Line → Type 0
+EachRest c [] = Unit {0}
+EachRest c (x ∷ older) = RestTold c older x.told × EachRest c older
+
+-- so it is of all lines of a trace, and the packs of each group are at some of the sixteen sites
+pub record IsRest (c : Config) (trace : List Line) : Type 0 where
+  pub each : EachRest c trace
+  pub packs : PacksAreOfSites c
+
+-- of what an event of line n tells
+abbrev pub AllRest : Config → ℕ → List Line → List Told → Type 0
+AllRest c n trace [] = Unit {0}
+AllRest c n trace (x ∷ xs) = RestTold c trace x × AllRest c n (record { number = n; told = x } ∷ trace) xs
+
+-- ---- so far ----
+
+-- all that was told so far came as it may, and other laws give the rest of it
+pub record Past (c : Config) (trace : List Line) : Type 0 where
+  pub followed : IsFollowed c trace
+  pub rest : IsRest c trace
+
+-- a line that may be told as the next one
+pub record Comes (c : Config) (older : List Line) (x : Told) : Type 0 where
+  pub past : Past c older
+  pub may : MayTell c older x
+  pub rest : RestTold c older x
+
+abbrev pub more : ℕ → Told → List Line → List Line
+more n x older = record { number = n; told = x } ∷ older

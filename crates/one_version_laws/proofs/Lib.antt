@@ -1,0 +1,10 @@
+pub mod Homes
+pub mod Naming
+pub mod Reserving
+pub mod Makes
+pub mod Lists
+pub mod Firsts
+pub mod Ascending
+pub mod Above
+pub mod Single
+pub mod Order

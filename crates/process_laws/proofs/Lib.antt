@@ -1,0 +1,15 @@
+pub mod Granting
+pub mod OneDescriptor
+pub mod Unreleased
+pub mod Open
+pub mod Begun
+pub mod Owner
+pub mod Current
+pub mod Once
+pub mod Had
+pub mod Taken
+pub mod GrantedHere
+pub mod Counted
+pub mod Operations
+pub mod OperationsRun
+pub mod CurrentOpens

@@ -1,0 +1,36 @@
+//! The tests of the rooms of the roles: what no clause says, a module for each room, by its public calls alone. They stand above
+//! these rooms, so that none of them is proved twice for its tests. Nothing calls this room, and no crate stands on it.
+#![tactic(auto)]
+
+#[cfg(test)]
+mod css_tests;
+#[cfg(test)]
+mod epoch_tests;
+#[cfg(test)]
+mod group;
+#[cfg(test)]
+mod instance_tests;
+#[cfg(test)]
+mod known;
+#[cfg(test)]
+mod made;
+#[cfg(test)]
+mod merge_tests;
+#[cfg(test)]
+mod pull_tests;
+#[cfg(test)]
+mod script_tests;
+#[cfg(test)]
+mod shown;
+#[cfg(test)]
+mod storage;
+#[cfg(test)]
+mod store_tests;
+#[cfg(test)]
+mod table_tests;
+#[cfg(test)]
+mod using_tests;
+#[cfg(test)]
+mod version_tests;
+#[cfg(test)]
+mod walk_tests;

@@ -1,0 +1,167 @@
+// propagation: site 2 pulls versions of two pages.
+use crate::made::{FILE, frame, given, is_text, site, stamp, vector};
+use crate::shown::shown;
+use locus_ids::{Bytes, FileId, Kind, Sites};
+use propagation::{Adopting, CopyHead, Puller};
+use role_steps::Pull;
+use site_frame::SiteFrame;
+use std::alloc::Global;
+use std::test::Fail;
+use version_vector::Vector;
+use wire_messages::Outbox;
+
+/// The puller at work. Each call gives what it sends.
+#[derive(Drop)]
+struct Pulling {
+    puller: Puller,
+    frame: SiteFrame,
+    alloc: Global,
+}
+
+impl Pulling {
+    fn new(alloc: Global) -> Result<Pulling, Fail> {
+        Ok(Pulling {
+            puller: Puller::new(alloc),
+            frame: frame(alloc, 2)?,
+            alloc,
+        })
+    }
+
+    /// Site 1 notifies it of a version of 1,536 bytes that it has committed so often, with the vector that is given.
+    fn notified(
+        &mut self,
+        ino: u16,
+        n: u32,
+        vector: Vector<16>,
+        own: Option<CopyHead>,
+    ) -> Result<String, Fail> {
+        let mut out = Outbox::new(self.alloc);
+        let pull = Pull {
+            file: FileId { group: 0, ino },
+            kind: Kind::File,
+            set: Sites(0b111),
+            size: 1_536,
+            stamp: stamp(1, n),
+            vector,
+            holder: site(1)?,
+            content: Bytes::new(self.alloc),
+        };
+        self.puller
+            .on_notify(&self.frame, site(1)?, own, pull, &mut out)?;
+        shown(self.alloc, &out)
+    }
+
+    /// A page of version 1.n of the file has come.
+    fn gets(&mut self, n: u32, page: u8, bytes: &[u8]) -> Result<String, Fail> {
+        let mut out = Outbox::new(self.alloc);
+        self.puller
+            .on_page(&self.frame, FILE, stamp(1, n), page, bytes, &mut out)?;
+        shown(self.alloc, &out)
+    }
+
+    fn ticks(&self) -> Result<String, Fail> {
+        let mut out = Outbox::new(self.alloc);
+        self.puller.repeats(&self.frame, &mut out)?;
+        shown(self.alloc, &out)
+    }
+}
+
+#[test]
+fn pages_are_asked_for_one_after_the_other(rt: HostRuntime) {
+    let mut pulling = given(&rt, Pulling::new(rt.alloc()));
+    is_text(
+        &rt,
+        pulling.notified(2, 1, vector(1, 0, 0), None),
+        "1 pull 0 0.2 1.1",
+    );
+    is_text(&rt, pulling.gets(1, 0, &[7; 1_024]), "1 pull 1 0.2 1.1");
+    is_text(&rt, pulling.ticks(), "1 pull 1 0.2 1.1");
+    is_text(&rt, pulling.gets(1, 1, &[7; 512]), "");
+    is_text(&rt, pulling.ticks(), "");
+    let pull = pulling.puller.take(FILE).expect(&rt, "no pull");
+    assert_eq!(rt; pull.content.len(), 1_536);
+    assert_eq!(rt; pulling.puller.len(), 0);
+}
+
+#[test]
+fn another_page_than_the_missing_one_is_ignored(rt: HostRuntime) {
+    let mut pulling = given(&rt, Pulling::new(rt.alloc()));
+    is_text(&rt, pulling.gets(1, 0, &[7; 1_024]), "");
+    given(&rt, pulling.notified(2, 1, vector(1, 0, 0), None));
+    // The second page, a short one, a long one, and the first page of another version.
+    is_text(&rt, pulling.gets(1, 1, &[7; 512]), "");
+    is_text(&rt, pulling.gets(1, 0, &[7; 512]), "");
+    is_text(&rt, pulling.gets(1, 0, &[7; 1_025]), "");
+    is_text(&rt, pulling.gets(2, 0, &[7; 1_024]), "");
+    is_text(&rt, pulling.gets(1, 0, &[7; 1_024]), "1 pull 1 0.2 1.1");
+    is_text(&rt, pulling.gets(1, 0, &[7; 1_024]), "");
+}
+
+/// The site has the version 1.2.
+fn own() -> Option<CopyHead> {
+    Some(CopyHead {
+        stamp: stamp(1, 2),
+        vector: vector(2, 0, 0),
+    })
+}
+
+#[test]
+fn only_a_version_above_the_own_one_is_pulled(rt: HostRuntime) {
+    let mut pulling = given(&rt, Pulling::new(rt.alloc()));
+    is_text(
+        &rt,
+        pulling.notified(2, 2, vector(2, 0, 0), own()),
+        "1 have 0.2 1.2",
+    );
+    is_text(&rt, pulling.notified(2, 1, vector(1, 0, 0), own()), "");
+    is_text(&rt, pulling.notified(2, 3, vector(1, 0, 1), own()), "");
+    assert_eq!(rt; pulling.puller.as_slice().len(), 0);
+    is_text(
+        &rt,
+        pulling.notified(2, 3, vector(3, 0, 0), own()),
+        "1 pull 0 0.2 1.3",
+    );
+    // The same again, one beside it, and one above it.
+    is_text(&rt, pulling.notified(2, 3, vector(3, 0, 0), own()), "");
+    is_text(&rt, pulling.notified(2, 4, vector(2, 0, 1), own()), "");
+    is_text(
+        &rt,
+        pulling.notified(2, 5, vector(4, 0, 0), own()),
+        "1 pull 0 0.2 1.5",
+    );
+    assert_eq!(rt; pulling.puller.as_slice().len(), 1);
+    pulling.puller.drop_pull(FILE);
+    assert_eq!(rt; pulling.puller.len(), 0);
+}
+
+/// A site where each pull is ready, and that of inode 2 is stale.
+struct Ready;
+
+impl Adopting for Ready {
+    ghost use Rattle.std.specs.Prelude.{true, nat_lt};
+
+    ghost ready = { λ site pull. true };
+
+    ghost above = { λ site pull. nat_lt 2 pull.file.ino };
+
+    fn is_ready(&self, _: &Pull) -> bool {
+        true
+    }
+
+    fn is_above_own(&self, pull: &Pull) -> bool {
+        pull.file.ino > 2
+    }
+}
+
+#[test]
+fn a_stale_pull_is_dropped_and_the_next_one_taken(rt: HostRuntime) {
+    let mut pulling = given(&rt, Pulling::new(rt.alloc()));
+    for ino in [4, 2, 3] {
+        given(&rt, pulling.notified(ino, 1, vector(1, 0, 0), None));
+    }
+    let taken = pulling.puller.choose(&Ready).expect(&rt, "none is chosen");
+    assert_eq!(rt; taken.file.ino, 3);
+    assert_eq!(rt; pulling.puller.len(), 1);
+    pulling.puller.leave();
+    assert_eq!(rt; pulling.puller.len(), 0);
+}

@@ -1,0 +1,284 @@
+// call_scripts, where group 1 stands on `usr`.
+use crate::made::{bytes, epoch, given, inst, is_text, mounts, stamp};
+use crate::shown::{push_file, push_op, push_reply};
+use call_rules::{Answer, Want};
+use call_scripts::Script;
+use locus_ids::{FileId, Kind, Mounts, Names, Refusal, Sites};
+use std::alloc::Global;
+use std::process::Abort;
+use std::test::Fail;
+use trace_book::{Beginning, Call, OpenMode, Outcome, Reply};
+
+/// A call with the answers that it has had. Each call gives what it asks next.
+#[derive(Drop)]
+struct Calling {
+    script: Script,
+    mounts: Mounts,
+    alloc: Global,
+}
+
+impl Calling {
+    /// A call that walks a path.
+    fn walks(alloc: Global, words: Call) -> Result<Calling, Fail> {
+        Calling::begins(alloc, words, Beginning::Walks)
+    }
+
+    /// A call on instance 1.1 of epoch 1.1.1.
+    fn uses(alloc: Global, words: Call) -> Result<Calling, Fail> {
+        let begins = Beginning::Uses {
+            epoch: epoch(1, 1, 1),
+            inst: inst(1, 1),
+        };
+        Calling::begins(alloc, words, begins)
+    }
+
+    fn begins(alloc: Global, words: Call, begins: Beginning) -> Result<Calling, Fail> {
+        Ok(Calling {
+            script: Script::start(alloc, words, begins)?,
+            mounts: mounts(alloc)?,
+            alloc,
+        })
+    }
+
+    fn next(&self) -> Result<String, Fail> {
+        let want = self.script.next(self.mounts.as_slice(), Some(4))?;
+        wanted(self.alloc, &want)
+    }
+
+    fn hears(&mut self, answer: Answer) -> Result<String, Fail> {
+        self.script.answer(answer)?;
+        self.next()
+    }
+
+    /// The directory that it opens is instance 1.1.
+    fn opened(&mut self, serial: u32, ino: u16) -> Result<String, Fail> {
+        let inst = inst(1, serial);
+        self.hears(Answer::Opened { inst, ino })
+    }
+
+    fn did(&mut self) -> Result<String, Fail> {
+        self.hears(Answer::Did {
+            result: Outcome::Done,
+        })
+    }
+
+    fn refused(&mut self, why: Refusal) -> Result<String, Fail> {
+        self.hears(Answer::Refused { why })
+    }
+
+    fn ended(&mut self) -> Result<String, Fail> {
+        self.hears(Answer::Ended { stamp: None })
+    }
+}
+
+/// What a call wants, as text.
+fn wanted(alloc: Global, want: &Want) -> Result<String, Fail> {
+    let mut text = String::new(alloc);
+    match want {
+        Want::Look { file, .. } => push_of(&mut text, "look ", *file)?,
+        Want::Open { file, .. } => push_of(&mut text, "open ", *file)?,
+        Want::OpenToMend { file } => push_of(&mut text, "mend ", *file)?,
+        Want::Make { group, sites, .. } => push_make(&mut text, *group, *sites)?,
+        Want::Do { inst, op } => push_op(alloc, &mut text, *inst, op)?,
+        Want::Close { inst } => {
+            let serial = inst.serial;
+            write!(text, "close {serial}")?;
+        }
+        Want::Give { reply } => push_reply(alloc, &mut text, reply.copy()?)?,
+        Want::Never => text.push_str("never")?,
+    }
+    Ok(text)
+}
+
+fn push_of(text: &mut String, word: &str, file: FileId) -> Result<(), Fail> {
+    text.push_str(word)?;
+    push_file(text, file)
+}
+
+fn push_make(text: &mut String, group: u8, sites: Option<Sites>) -> Result<(), Fail> {
+    match sites {
+        Some(sites) => {
+            let sites = sites.0;
+            write!(text, "make in {group} for {sites:b}")?;
+        }
+        None => write!(text, "make in {group}")?,
+    }
+    Ok(())
+}
+
+fn creating(alloc: Global, path: &str) -> Result<Calling, Fail> {
+    let path = bytes(alloc, path)?;
+    Calling::walks(alloc, Call::Create { path, sites: None })
+}
+
+#[test]
+fn a_create_makes_the_file_and_then_its_entry(rt: HostRuntime) {
+    let mut call = given(&rt, creating(rt.alloc(), "/a"));
+    is_text(&rt, call.next(), "open 0.1");
+    is_text(&rt, call.opened(1, 1), "i1.1 0 probe a");
+    is_text(&rt, call.did(), "make in 0");
+    is_text(&rt, call.opened(2, 65), "close 2");
+    is_text(&rt, call.ended(), "i1.1 0 insert a 65 f");
+    is_text(&rt, call.did(), "close 1");
+    is_text(&rt, call.ended(), "ok 65");
+    assert_eq!(rt; call.script.answers().len(), 6);
+    assert!(rt; matches!(call.script.words(), Call::Create { .. }));
+}
+
+#[test]
+fn a_refused_create_closes_what_it_has_open(rt: HostRuntime) {
+    let mut call = given(&rt, creating(rt.alloc(), "/usr/a"));
+    is_text(&rt, call.next(), "open 1.1");
+    given(&rt, call.opened(1, 1));
+    is_text(&rt, call.refused(Refusal::Exists { ino: 2 }), "close 1");
+    is_text(&rt, call.ended(), "exists 2");
+    // The same up to the make, which is refused.
+    call.script.take_back();
+    call.script.take_back();
+    is_text(&rt, call.did(), "make in 1");
+    is_text(&rt, call.refused(Refusal::NoStorage), "close 1");
+    is_text(&rt, call.ended(), "nostorage");
+}
+
+#[test]
+fn an_answer_that_is_taken_back_was_not_heard(rt: HostRuntime) {
+    let mut call = given(&rt, creating(rt.alloc(), "/a"));
+    is_text(&rt, call.ended(), "never");
+    call.script.take_back();
+    is_text(&rt, call.next(), "open 0.1");
+    assert_eq!(rt; call.script.answers().len(), 0);
+}
+
+/// An unlink of `/a`, once its directory is open and its entry is found.
+fn unlinking<R: Abort + Eprint>(rt: &R, alloc: Global, kind: Kind) -> Calling {
+    let path = given(rt, bytes(alloc, "/a"));
+    let mut call = given(rt, Calling::walks(alloc, Call::Unlink { path }));
+    given(rt, call.opened(1, 1));
+    let result = Outcome::Found { ino: 2, kind };
+    given(rt, call.hears(Answer::Did { result }));
+    call
+}
+
+#[test]
+fn an_unlink_removes_a_file_alone(rt: HostRuntime) {
+    let mut call = unlinking(&rt, rt.alloc(), Kind::File);
+    is_text(&rt, call.next(), "open 0.2");
+    is_text(&rt, call.opened(2, 2), "i1.1 0 remove a 2");
+    is_text(&rt, call.did(), "close 1");
+    is_text(&rt, call.ended(), "close 2");
+    is_text(&rt, call.ended(), "ok");
+    let mut call = unlinking(&rt, rt.alloc(), Kind::Dir);
+    is_text(&rt, call.next(), "close 1");
+    is_text(&rt, call.ended(), "isdir");
+}
+
+#[test]
+fn a_list_of_the_root_shows_the_mounts(rt: HostRuntime) {
+    let alloc = rt.alloc();
+    let path = given(&rt, bytes(alloc, "/"));
+    let mut call = given(&rt, Calling::walks(alloc, Call::List { path }));
+    is_text(&rt, call.next(), "look 0.1");
+    let mut names = Names::new(alloc);
+    names
+        .push(given(&rt, bytes(alloc, "a")))
+        .expect(&rt, "no memory");
+    names
+        .push(given(&rt, bytes(alloc, "v")))
+        .expect(&rt, "no memory");
+    is_text(&rt, call.hears(Answer::Showed { names }), "ok a usr v");
+}
+
+#[test]
+fn a_stat_asks_the_file_itself(rt: HostRuntime) {
+    let alloc = rt.alloc();
+    let path = given(&rt, bytes(alloc, "/a"));
+    let mut call = given(&rt, Calling::walks(alloc, Call::Stat { path }));
+    is_text(&rt, call.next(), "look 0.1");
+    let kind = Kind::File;
+    is_text(
+        &rt,
+        call.hears(Answer::Entered { ino: 2, kind }),
+        "look 0.2",
+    );
+    let stamp = stamp(1, 2);
+    is_text(
+        &rt,
+        call.hears(Answer::Described {
+            kind,
+            size: 3,
+            stamp,
+        }),
+        "ok f 0.2 3 1.2",
+    );
+}
+
+#[test]
+fn an_open_gives_the_free_descriptor(rt: HostRuntime) {
+    let alloc = rt.alloc();
+    let path = given(&rt, bytes(alloc, "/a"));
+    let mode = OpenMode::Read;
+    let mut call = given(&rt, Calling::walks(alloc, Call::Open { path, mode }));
+    let kind = Kind::Dir;
+    is_text(&rt, call.hears(Answer::Entered { ino: 2, kind }), "isdir");
+    call.script.take_back();
+    let kind = Kind::File;
+    is_text(
+        &rt,
+        call.hears(Answer::Entered { ino: 2, kind }),
+        "open 0.2",
+    );
+    is_text(&rt, call.opened(1, 2), "ok 4");
+}
+
+#[test]
+fn calls_on_an_instance_ask_once(rt: HostRuntime) {
+    let alloc = rt.alloc();
+    for (words, asks, replies) in [
+        (Call::Commit { fd: 0 }, "i1.1 0 commit", "ok"),
+        (Call::Cut { fd: 0, len: 9 }, "i1.1 0 cut 9", "ok"),
+        (
+            Call::Read {
+                fd: 0,
+                at: 1,
+                len: 2,
+            },
+            "i1.1 0 read 1 2",
+            "ok",
+        ),
+        (Call::Abort { fd: 0 }, "i1.1 0 abort", "ok"),
+    ] {
+        let mut call = given(&rt, Calling::uses(alloc, words));
+        is_text(&rt, call.next(), asks);
+        is_text(&rt, call.did(), replies);
+    }
+    let mut call = given(&rt, Calling::uses(alloc, Call::Close { fd: 0 }));
+    is_text(&rt, call.next(), "close 1");
+    is_text(
+        &rt,
+        call.hears(Answer::Ended {
+            stamp: Some(stamp(1, 2)),
+        }),
+        "ok 1.2",
+    );
+}
+
+#[test]
+fn bad_names_and_denied_calls_are_replied_to_at_once(rt: HostRuntime) {
+    let alloc = rt.alloc();
+    for path in ["a", "/a/", "/usr", "/", "/a@2", ""] {
+        let call = given(&rt, creating(alloc, path));
+        is_text(&rt, call.next(), "badname");
+    }
+    let (path, name) = (
+        given(&rt, bytes(alloc, "/a")),
+        given(&rt, bytes(alloc, "usr")),
+    );
+    let call = given(&rt, Calling::walks(alloc, Call::Rename { path, name }));
+    is_text(&rt, call.next(), "badname");
+    let why = Refusal::BadDescriptor;
+    let call = given(
+        &rt,
+        Calling::begins(alloc, Call::Close { fd: 0 }, Beginning::Denied { why }),
+    );
+    is_text(&rt, call.next(), "baddescriptor");
+}

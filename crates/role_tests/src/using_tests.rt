@@ -1,0 +1,367 @@
+// using_site: site 1, and at it process 1. Its storage site is site 2.
+use crate::made::{ROOT, bytes, epoch, frame, given, is_text, site, stamp};
+use crate::shown::shown;
+use locus_ids::{Kind, Members, Mode, Refusal, Stamp, Stamps};
+use site_frame::SiteFrame;
+use std::alloc::Global;
+use std::process::Abort;
+use std::test::Fail;
+use trace_book::{Call, OpenMode, Outcome};
+use using_site::UsingSite;
+use version_vector::Vector;
+use wire_messages::{CloseAnswer, Granted, LookAnswer, Outbox};
+
+/// The using site at work. Each call gives what it sends and tells.
+#[derive(Drop)]
+struct Using {
+    users: UsingSite,
+    frame: SiteFrame,
+    alloc: Global,
+}
+
+impl Using {
+    fn new(alloc: Global) -> Result<Using, Fail> {
+        Ok(Using {
+            users: UsingSite::new(alloc),
+            frame: frame(alloc, 1)?,
+            alloc,
+        })
+    }
+
+    fn calls(&mut self, words: Call) -> Result<String, Fail> {
+        let mut out = Outbox::new(self.alloc);
+        let now = Some(self.frame.epoch);
+        self.users.call(&self.frame, now, 1, words, &mut out)?;
+        shown(self.alloc, &out)
+    }
+
+    fn opens(&mut self, path: &str, mode: OpenMode) -> Result<String, Fail> {
+        let path = bytes(self.alloc, path)?;
+        self.calls(Call::Open { path, mode })
+    }
+
+    fn reads(&mut self, fd: u16) -> Result<String, Fail> {
+        self.calls(Call::Read { fd, at: 0, len: 3 })
+    }
+
+    fn looked(
+        &mut self,
+        call: u32,
+        request: u16,
+        take: u32,
+        answer: LookAnswer,
+    ) -> Result<String, Fail> {
+        let mut out = Outbox::new(self.alloc);
+        self.users
+            .on_look_done(&self.frame, call, request, take, answer, &mut out)?;
+        shown(self.alloc, &out)
+    }
+
+    fn opened(&mut self, serial: u32, answer: Granted) -> Result<String, Fail> {
+        let kept = Stamps::new(self.alloc);
+        self.opened_to_mend(kept, serial, answer)
+    }
+
+    fn opened_to_mend(
+        &mut self,
+        kept: Stamps,
+        serial: u32,
+        answer: Granted,
+    ) -> Result<String, Fail> {
+        let mut out = Outbox::new(self.alloc);
+        self.users
+            .on_open_done(&self.frame, kept, serial, answer, &mut out)?;
+        shown(self.alloc, &out)
+    }
+
+    fn did(&mut self, serial: u32, number: u32, outcome: Outcome) -> Result<String, Fail> {
+        let mut out = Outbox::new(self.alloc);
+        self.users
+            .on_op_done(&self.frame, serial, number, outcome, &mut out)?;
+        shown(self.alloc, &out)
+    }
+
+    fn closed(&mut self, serial: u32, answer: CloseAnswer) -> Result<String, Fail> {
+        let mut out = Outbox::new(self.alloc);
+        self.users
+            .on_close_done(&self.frame, serial, answer, &mut out)?;
+        shown(self.alloc, &out)
+    }
+
+    fn mends(&mut self) -> Result<String, Fail> {
+        let mut out = Outbox::new(self.alloc);
+        self.users.start_mend(&self.frame, ROOT, &mut out)?;
+        shown(self.alloc, &out)
+    }
+
+    fn leaves(&mut self) -> Result<String, Fail> {
+        let mut out = Outbox::new(self.alloc);
+        let (me, left) = (self.frame.me, self.frame.epoch);
+        self.users.leave(me, 1, left, &mut out)?;
+        shown(self.alloc, &out)
+    }
+
+    fn ticks(&self) -> Result<String, Fail> {
+        let mut out = Outbox::new(self.alloc);
+        self.users.repeats(&self.frame, &mut out)?;
+        shown(self.alloc, &out)
+    }
+}
+
+fn found() -> LookAnswer {
+    LookAnswer::Found {
+        ino: 2,
+        kind: Kind::File,
+    }
+}
+
+fn granted() -> Result<Granted, Fail> {
+    Ok(Granted::Open {
+        ss: site(2)?,
+        ino: 2,
+        size: 3,
+        stamp: stamp(2, 1),
+        vector: Vector::zero(),
+    })
+}
+
+/// Process 1 has `/a` open to read, by its first call.
+fn opened<R: Abort + Eprint>(rt: &R, alloc: Global) -> Using {
+    let mut using = given(rt, Using::new(alloc));
+    given(rt, using.opens("/a", OpenMode::Read));
+    given(rt, using.looked(1, 1, 1, found()));
+    given(rt, using.opened(1, given(rt, granted())));
+    using
+}
+
+#[test]
+fn an_open_looks_and_takes_a_descriptor(rt: HostRuntime) {
+    let mut using = given(&rt, Using::new(rt.alloc()));
+    is_text(
+        &rt,
+        using.opens("/a", OpenMode::Read),
+        "1 look 1.1.1 0.1; call 1 1 c1.1.1 open /a r",
+    );
+    assert!(rt; using.users.is_busy(1));
+    assert!(rt; !using.users.is_busy(2));
+    is_text(&rt, using.ticks(), "1 look 1.1.1 0.1");
+    is_text(&rt, using.looked(1, 1, 1, found()), "1 open 1 0.2");
+    is_text(
+        &rt,
+        using.opened(1, given(&rt, granted())),
+        "reply 1 1 c1.1.1 ok 0",
+    );
+    assert!(rt; !using.users.is_busy(1));
+    assert_eq!(rt; using.users.lowest_free(1), Some(1));
+    let descriptor = using.users.descriptor(1, 0).expect(&rt, "no descriptor");
+    assert_eq!(rt; descriptor.mode, Mode::Read);
+    assert!(rt; using.users.descriptor(2, 0).is_none());
+}
+
+#[test]
+fn a_look_that_moved_is_asked_again(rt: HostRuntime) {
+    let mut using = given(&rt, Using::new(rt.alloc()));
+    given(&rt, using.opens("/a", OpenMode::Read));
+    is_text(
+        &rt,
+        using.looked(1, 1, 1, LookAnswer::Moved),
+        "1 look 1.1.2 0.1",
+    );
+    // The first take is late now.
+    is_text(&rt, using.looked(1, 1, 1, found()), "");
+    is_text(&rt, using.looked(1, 1, 2, found()), "1 open 1 0.2");
+}
+
+#[test]
+fn an_operation_is_answered_by_its_own_outcome(rt: HostRuntime) {
+    let mut using = opened(&rt, rt.alloc());
+    is_text(&rt, using.reads(0), "2 op 1 1; call 1 1 c1.1.2 read 0 0 3");
+    let bytes = given(&rt, bytes(using.alloc, "abc"));
+    is_text(
+        &rt,
+        using.did(1, 1, Outcome::Data { bytes }),
+        "reply 1 1 c1.1.2 ok 616263",
+    );
+    is_text(
+        &rt,
+        using.calls(Call::Close { fd: 0 }),
+        "2 close 1; call 1 1 c1.1.3 close 0",
+    );
+    assert_eq!(rt; using.users.lowest_free(1), Some(0));
+    let made = CloseAnswer::Made { stamp: stamp(2, 2) };
+    is_text(&rt, using.closed(1, made), "reply 1 1 c1.1.3 ok 2.2");
+}
+
+/// Answers to a read that process 1 waits for: none of them is the one.
+#[test]
+fn other_answers_are_ignored(rt: HostRuntime) {
+    let mut using = opened(&rt, rt.alloc());
+    given(&rt, using.reads(0));
+    is_text(&rt, using.did(1, 1, Outcome::Done), "");
+    is_text(&rt, using.did(1, 2, no_space()), "");
+    is_text(&rt, using.did(2, 1, no_space()), "");
+    is_text(&rt, using.looked(1, 1, 1, found()), "");
+    is_text(&rt, using.looked(2, 1, 1, found()), "");
+    is_text(&rt, using.opened(1, given(&rt, granted())), "");
+    is_text(&rt, using.closed(1, CloseAnswer::Nothing), "");
+    assert!(rt; using.users.is_busy(1));
+    is_text(
+        &rt,
+        using.did(1, 1, no_space()),
+        "reply 1 1 c1.1.2 nospace 1 0",
+    );
+}
+
+fn no_space() -> Outcome {
+    Outcome::No {
+        why: Refusal::NoSpace { needed: 1, free: 0 },
+    }
+}
+
+#[test]
+fn what_may_not_be_is_answered_at_once(rt: HostRuntime) {
+    let mut using = opened(&rt, rt.alloc());
+    is_text(
+        &rt,
+        using.reads(5),
+        "call 1 1 c1.1.2 read 5 0 3; reply 1 1 c1.1.2 baddescriptor",
+    );
+    let bytes = given(&rt, bytes(using.alloc, "x"));
+    is_text(
+        &rt,
+        using.calls(Call::Write {
+            fd: 0,
+            at: 0,
+            bytes,
+        }),
+        "call 1 1 c1.1.3 write 0 0 78; reply 1 1 c1.1.3 readonly",
+    );
+    is_text(
+        &rt,
+        using.opens("a", OpenMode::Read),
+        "call 1 1 c1.1.4 open a r; reply 1 1 c1.1.4 badname",
+    );
+    is_text(
+        &rt,
+        using.opens("/usr", OpenMode::Write),
+        "call 1 1 c1.1.5 open /usr w; reply 1 1 c1.1.5 isdir",
+    );
+}
+
+#[test]
+fn a_refused_open_takes_no_descriptor(rt: HostRuntime) {
+    let mut using = given(&rt, Using::new(rt.alloc()));
+    given(&rt, using.opens("/a", OpenMode::Write));
+    given(&rt, using.looked(1, 1, 1, found()));
+    let why = Refusal::Busy {
+        site: 3,
+        process: 2,
+    };
+    is_text(
+        &rt,
+        using.opened(1, Granted::No { why }),
+        "reply 1 1 c1.1.1 busy 3 2",
+    );
+    assert_eq!(rt; using.users.lowest_free(1), Some(0));
+}
+
+#[test]
+fn a_descriptor_is_stale_in_the_next_epoch(rt: HostRuntime) {
+    let mut using = opened(&rt, rt.alloc());
+    given(&rt, using.reads(0));
+    is_text(&rt, using.leaves(), "reply 1 1 c1.1.2 changed e1.1.1");
+    assert!(rt; !using.users.is_busy(1));
+    using.frame.epoch = epoch(2, 1, 1);
+    is_text(
+        &rt,
+        using.reads(0),
+        "call 1 1 c1.1.3 read 0 0 3; reply 1 1 c1.1.3 stale e1.1.1",
+    );
+}
+
+#[test]
+fn outside_of_all_epochs_a_call_is_refused(rt: HostRuntime) {
+    let mut using = given(&rt, Using::new(rt.alloc()));
+    using.frame.members = Members { boot: [0; 16] };
+    let path = given(&rt, bytes(using.alloc, "/a"));
+    let mut out = Outbox::new(using.alloc);
+    using
+        .users
+        .call(&using.frame, None, 1, Call::Stat { path }, &mut out)
+        .expect(&rt, "no memory");
+    is_text(
+        &rt,
+        shown(using.alloc, &out),
+        "call 1 1 c1.1.1 stat /a; reply 1 1 c1.1.1 nopartition",
+    );
+}
+
+/// Site 1 mends its root directory, of which the versions 1.1 and 2.1 are kept.
+fn mending<R: Abort + Eprint>(rt: &R, alloc: Global) -> Using {
+    let mut using = given(rt, Using::new(alloc));
+    is_text(rt, using.mends(), "1 open 1 0.1; call 1 0 c1.1.1 mend 0.1");
+    using
+}
+
+fn kept(alloc: Global, versions: [Stamp; 2]) -> Result<Stamps, Fail> {
+    let mut kept = Stamps::new(alloc);
+    for version in versions {
+        kept.push(version)?;
+    }
+    Ok(kept)
+}
+
+#[test]
+fn a_mend_brings_each_kept_version(rt: HostRuntime) {
+    let mut using = mending(&rt, rt.alloc());
+    assert!(rt; using.users.has_mend(ROOT));
+    assert!(rt; using.users.has_mend_in(0));
+    assert!(rt; !using.users.has_mend_in(1));
+    assert_eq!(rt; using.users.mend_opening(1), Some(ROOT));
+    assert_eq!(rt; using.users.mend_opening(2), None);
+    let versions = given(&rt, kept(using.alloc, [stamp(1, 1), stamp(2, 1)]));
+    is_text(
+        &rt,
+        using.opened_to_mend(versions, 1, given(&rt, granted())),
+        "1 look 1.2.1 0.1",
+    );
+    let first = given(&rt, bytes(using.alloc, ""));
+    is_text(
+        &rt,
+        using.looked(1, 2, 1, LookAnswer::Content { bytes: first }),
+        "1 look 1.3.1 0.1",
+    );
+    let second = given(&rt, bytes(using.alloc, ""));
+    is_text(
+        &rt,
+        using.looked(1, 3, 1, LookAnswer::Content { bytes: second }),
+        "2 op 1 1",
+    );
+    assert_eq!(rt; using.users.brought(0).len(), 2);
+}
+
+#[test]
+fn a_mend_without_room_is_hopeless(rt: HostRuntime) {
+    let mut using = mending(&rt, rt.alloc());
+    let versions = given(&rt, kept(using.alloc, [stamp(1, 1), stamp(2, 1)]));
+    given(
+        &rt,
+        using.opened_to_mend(versions, 1, given(&rt, granted())),
+    );
+    for request in 2..4 {
+        let bytes = given(&rt, bytes(using.alloc, ""));
+        given(
+            &rt,
+            using.looked(1, request, 1, LookAnswer::Content { bytes }),
+        );
+    }
+    let why = Refusal::TooLong;
+    is_text(&rt, using.did(1, 1, Outcome::No { why }), "2 close 1");
+    is_text(
+        &rt,
+        using.closed(1, CloseAnswer::Nothing),
+        "reply 1 0 c1.1.1 toolong",
+    );
+    assert!(rt; !using.users.has_mend(ROOT));
+    assert!(rt; using.users.is_hopeless(ROOT));
+}

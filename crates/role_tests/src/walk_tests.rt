@@ -1,0 +1,166 @@
+// path_walk, where group 1 stands on `usr`.
+use crate::made::{FILE, ROOT, given, is_text, mounts};
+use crate::shown::{push_file, push_reply};
+use call_rules::Answer;
+use locus_ids::{FileId, Kind, Refusal};
+use path_walk::{
+    Walked, components, is_first_root, is_mounted, is_name, is_path, last_of, mounted, mounted_in,
+    plain_name, root_of, walk, without_last,
+};
+use std::alloc::Global;
+use std::test::Fail;
+use trace_book::Reply;
+
+/// The components of a path, with a comma behind each.
+fn pieces(alloc: Global, path: &str) -> Result<String, Fail> {
+    let names = components(alloc, path.as_bytes())?;
+    let mut text = String::new(alloc);
+    for name in names.as_slice() {
+        text.push_str(str::from_utf8(name.as_slice())?)?;
+        text.push_str(",")?;
+    }
+    Ok(text)
+}
+
+#[test]
+fn a_path_has_its_components(rt: HostRuntime) {
+    for (path, wanted) in [
+        ("/", ""),
+        ("", ""),
+        ("/a", "a,"),
+        ("/a/b@2", "a,b@2,"),
+        ("/a/", "a,,"),
+        ("//a", ",a,"),
+    ] {
+        is_text(&rt, pieces(rt.alloc(), path), wanted);
+    }
+}
+
+/// The bytes are a path.
+fn is_named(alloc: Global, path: &str) -> Result<bool, Fail> {
+    let names = components(alloc, path.as_bytes())?;
+    Ok(is_path(path.as_bytes(), names.as_slice()))
+}
+
+#[test]
+fn a_path_begins_with_a_slash_and_ends_with_a_name(rt: HostRuntime) {
+    for (path, wanted) in [
+        ("/", true),
+        ("/a", true),
+        ("/a@1024", true),
+        ("/a/b", true),
+        ("", false),
+        ("a", false),
+        ("/a/", false),
+        ("//a", false),
+        ("/..", false),
+        ("/a@0", false),
+        ("/a@1025", false),
+    ] {
+        assert_eq!(rt; given(&rt, is_named(rt.alloc(), path)), wanted, "{path}");
+    }
+}
+
+#[test]
+fn names_are_plain(rt: HostRuntime) {
+    assert!(rt; is_name(b"a"));
+    assert!(rt; !is_name(b"a@2"));
+    assert!(rt; !is_name(b"."));
+    assert!(rt; !is_name(b""));
+    assert_eq!(rt; plain_name(b"b@2"), b"b".as_slice());
+    assert_eq!(rt; plain_name(b"b"), b"b".as_slice());
+    let names = components(rt.alloc(), b"/a/b@2").expect(&rt, "no memory");
+    assert_eq!(rt; last_of(names.as_slice()), b"b@2".as_slice());
+    assert_eq!(rt; without_last(names.as_slice()).len(), 1);
+    assert_eq!(rt; last_of(&[]), b"".as_slice());
+    assert!(rt; without_last(&[]).is_empty());
+}
+
+#[test]
+fn only_the_root_of_group_0_has_mounts(rt: HostRuntime) {
+    let mounts = given(&rt, mounts(rt.alloc()));
+    let mounts = mounts.as_slice();
+    assert_eq!(rt; root_of(1), FileId { group: 1, ino: 1 });
+    assert_eq!(rt; mounted(mounts, b"usr"), Some(1));
+    assert_eq!(rt; mounted(mounts, b"us"), None);
+    assert!(rt; is_mounted(mounts, b"usr"));
+    assert!(rt; !is_mounted(mounts, b"usr@1"));
+    assert!(rt; is_first_root(ROOT));
+    assert!(rt; !is_first_root(FILE));
+    assert_eq!(rt; mounted_in(mounts, ROOT, b"usr"), Some(1));
+    assert_eq!(rt; mounted_in(mounts, root_of(1), b"usr"), None);
+}
+
+/// Where a walk along a path has come, as text.
+fn walked(alloc: Global, path: &str, answers: &[Answer]) -> Result<String, Fail> {
+    let mounts = mounts(alloc)?;
+    let names = components(alloc, path.as_bytes())?;
+    let mut text = String::new(alloc);
+    match walk(mounts.as_slice(), names.as_slice(), answers)? {
+        Walked::Asks { dir, name } => {
+            text.push_str(str::from_utf8(name)?)?;
+            text.push_str(" in ")?;
+            push_file(&mut text, dir)?;
+        }
+        Walked::Fails { why } => push_reply(alloc, &mut text, Reply::No { why })?,
+        Walked::There {
+            file,
+            kind,
+            answers,
+        } => push_there(&mut text, file, kind, answers)?,
+        Walked::Strays => text.push_str("strays")?,
+    }
+    Ok(text)
+}
+
+fn push_there(text: &mut String, file: FileId, kind: Kind, answers: &[Answer]) -> Result<(), Fail> {
+    push_file(text, file)?;
+    let left = answers.len();
+    match kind {
+        Kind::File => write!(text, " file, {left} left")?,
+        Kind::Dir => write!(text, " directory, {left} left")?,
+    }
+    Ok(())
+}
+
+fn entered(ino: u16, kind: Kind) -> Answer {
+    Answer::Entered { ino, kind }
+}
+
+#[test]
+fn a_walk_looks_for_one_component_after_the_other(rt: HostRuntime) {
+    let alloc = rt.alloc();
+    let dir = [entered(3, Kind::Dir)];
+    let both = [entered(3, Kind::Dir), entered(5, Kind::File)];
+    is_text(&rt, walked(alloc, "/", &[]), "0.1 directory, 0 left");
+    is_text(&rt, walked(alloc, "/a/b", &[]), "a in 0.1");
+    is_text(&rt, walked(alloc, "/a/b", &dir), "b in 0.3");
+    is_text(&rt, walked(alloc, "/a/b", &both), "0.5 file, 0 left");
+    is_text(&rt, walked(alloc, "/a", &both), "0.3 directory, 1 left");
+}
+
+#[test]
+fn a_mount_is_passed_without_a_look(rt: HostRuntime) {
+    let alloc = rt.alloc();
+    let dir = [entered(3, Kind::Dir)];
+    let file = [entered(5, Kind::File)];
+    is_text(&rt, walked(alloc, "/usr", &[]), "1.1 directory, 0 left");
+    is_text(&rt, walked(alloc, "/usr/a", &[]), "a in 1.1");
+    is_text(&rt, walked(alloc, "/usr/a", &file), "1.5 file, 0 left");
+    // Below the root the name is none of a mount.
+    is_text(&rt, walked(alloc, "/a/usr", &dir), "usr in 0.3");
+}
+
+#[test]
+fn a_walk_ends_where_it_is_refused(rt: HostRuntime) {
+    let alloc = rt.alloc();
+    let file = [entered(5, Kind::File)];
+    is_text(&rt, walked(alloc, "/a/b", &file), "notdir a");
+    is_text(&rt, walked(alloc, "/usr/a/b/c", &file), "notdir a");
+    let refused = [Answer::Refused {
+        why: Refusal::NoStorage,
+    }];
+    is_text(&rt, walked(alloc, "/a/b", &refused), "nostorage");
+    let stray = [Answer::Ended { stamp: None }];
+    is_text(&rt, walked(alloc, "/a/b", &stray), "strays");
+}

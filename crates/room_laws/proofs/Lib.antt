@@ -1,0 +1,6 @@
+pub mod Sums
+pub mod TreeCopies
+pub mod StoreCopies
+pub mod OpenGranted
+pub mod RoomInstances
+pub mod Room

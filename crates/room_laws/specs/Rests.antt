@@ -1,0 +1,19 @@
+-- The laws of every run on which the room of a storage site rests, as premises on a trace.
+use Rattle.std.specs.Prelude.{◌<◌, ◌≤◌, List}
+use Rattle.locus_ids.specs.declared.config.Config.{Config}
+use Rattle.locus_ids.specs.declared.ids.CallId.{CallId}
+use Rattle.locus_ids.specs.declared.ids.EpochId.{EpochId}
+use Rattle.locus_ids.specs.declared.ids.FileId.{FileId}
+use Rattle.locus_ids.specs.declared.ids.Stamp.{Stamp}
+use Rattle.the_run.specs.Worlds.{Line}
+use Rattle.lawful_trace.specs.TreeRows.{IsCallIn}
+use Rattle.tree_laws.specs.Instances.{Stands}
+use Rattle.tree_laws.specs.Printed.{entries}
+use Rattle.holding_laws.specs.Below.{LawsBelow}
+
+pub record RoomRests (c : Config) (trace : List Line) : Type 0 where
+  pub laws : LawsBelow c trace
+  -- the inode numbers of files have 16 bits
+  pub narrow : (f : FileId) (stamp : Stamp) → Stands c trace f stamp → f.ino < 65536
+  -- calls are of the sixteen sites
+  pub sites : (e : EpochId) (d : CallId) → IsCallIn (entries trace) e d → d.site ≤ 16

@@ -1,0 +1,19 @@
+ghost use Rattle.std.specs.Prelude.{ℕ, ◌≡◌, List};
+ghost use Rattle.locus_ids.specs.declared.config.Config.{Config};
+ghost use Rattle.role_steps.specs.Storage.{free_pages};
+ghost use Rattle.role_steps.specs.Views.{Frame, Store};
+ghost use Rattle.the_run.specs.Worlds.{Line};
+ghost use Rattle.tree_model.specs.Histories.{history};
+ghost use Rattle.tree_model.specs.Tree.{tree_of};
+ghost use Rattle.tree_model.specs.Working.{free_pages as tree_free};
+ghost use Rattle.tree_laws.specs.Doing.{FrameFact, StoreHeld};
+ghost use Rattle.tree_laws.specs.Following.{IsFollowed};
+ghost use Rattle.tree_laws.specs.Printed.{entries};
+ghost use Rattle.room_laws.specs.Rests.{RoomRests};
+
+/// Where each told line comes as it may, and a storage site has what was told of it, the pages that it has free for a group are
+/// those that the one tree has free there: the same copies take them, and the same open instances have changed pages.
+pub fn room_is_the_trees()
+    ensures { (c : Config) (trace : List Line) (f : Frame) (s : Store) → IsFollowed c trace → RoomRests c trace → FrameFact c trace f → StoreHeld c f trace s → (group : ℕ) →
+        free_pages s group ≡ tree_free (history c (entries trace)) (tree_of c f.epoch group (entries trace)) f.me }
+{}

@@ -1,0 +1,186 @@
+-- An adoption: it comes as it may, and the copy on the disk is then what the site holds.
+use Rattle.std.proofs.Common.{◌≡◌, ℕ, ◌<◌, ◌==◌, Bool, true, false, cond, ◌&&◌, List, [], ◌∷◌, length, take, Option, Some, None, refl, sym, ◌∙◌, ap, subst, inl, inr}
+use Rattle.std.specs.List.{list_any}
+use Rattle.std.specs.Option.{option_map}
+use Rattle.locus_ids.specs.declared.config.Config.{Config}
+use Rattle.locus_ids.specs.declared.ids.EpochId.{EpochId}
+use Rattle.locus_ids.specs.declared.ids.FileId.{FileId}
+use Rattle.locus_ids.specs.declared.ids.Stamp.{Stamp}
+use Rattle.locus_ids.specs.declared.sites.Sites.{Sites}
+use Rattle.locus_ids.specs.Sites.{has}
+use Rattle.commit_graph.specs.Vectors.{vector_of}
+use Rattle.commit_graph.specs.Versions.{same_file}
+use Rattle.wire_messages.specs.declared.body.Body.TheVariants as body
+use Rattle.role_steps.specs.Adoption.{adopt_record, copy_adopted, is_above_own}
+use Rattle.role_steps.specs.Own.{Every}
+use Rattle.role_steps.specs.Pulling.{is_complete}
+use Rattle.role_steps.specs.Storage.{copy_key, copy_of, with_copy}
+use Rattle.role_steps.specs.Versions.{is_below}
+use Rattle.role_steps.specs.Views.{Frame, Store, Told, Shown, file_key, sync_site, to_some, to_sync}
+use Rattle.role_steps.specs.declared.pulls.Pull.{Pull}
+use Rattle.the_run.specs.Kept.{Among}
+use Rattle.the_run.specs.Worlds.{Line}
+use Rattle.tree_model.specs.Epochs.{is_in as is_of_epoch}
+use Rattle.tree_model.specs.Files.{HeldVersion, held_version, set_of_file, version_of}
+use Rattle.tree_model.specs.Histories.{history, held}
+use Rattle.tree_model.specs.State.{TreeState, copy_of as copy_of_site, held_at, held_of, is_copy_of, is_inside, with_copy as with_held}
+use Rattle.tree_model.specs.Tree.{copy_now, tree_of}
+use Rattle.lawful_trace.specs.TreeRows.{is_above, is_stored_at}
+use Rattle.tree_laws.specs.Printed.{entries}
+use Rattle.tree_laws.specs.Doing.{FrameFact, StoreHeld}
+use Rattle.tree_laws.specs.Following.{MayTell, IsFollowed}
+use Rattle.tree_laws.specs.Frames.{AllStay, VersionsStay}
+use Rattle.tree_laws.specs.Instances.{held_in, HasAtLeast, Stands}
+use Rattle.tree_laws.specs.Packets.{PacketFact}
+use Rattle.tree_laws.specs.Stores.{CopiesAreHeld, InstanceFact, PullFact, copy_for}
+use Rattle.tree_laws.proofs.Boots.{every_both}
+use Rattle.tree_laws.proofs.CarriedVersions.{same_version_of}
+use Rattle.tree_laws.proofs.Kinship.{tree_group_is}
+use Rattle.tree_laws.proofs.Names.{true_false, test_same, test_own, same_epoch_own}
+use Rattle.tree_laws.proofs.Owing.{inside_is}
+use Rattle.tree_laws.proofs.Rows.{followed_rows}
+use Rattle.tree_laws.proofs.Versions.{versions_stay}
+use Rattle.order_laws.specs.Joining.{PacksAreOfSites}
+use Rattle.order_laws.proofs.Standing.{same_file_eq}
+use Rattle.store_laws.specs.Rests.{AdoptRests, StoreRests}
+use Rattle.store_laws.proofs.Commits.{both_of, file_own, keys_same, put_found}
+use Rattle.store_laws.proofs.Holding.{held_stands, versions_same}
+use Rattle.store_laws.proofs.Pulls.{own_ancestor}
+use Rattle.store_laws.proofs.Staying.{has_more, instance_more}
+use Rattle.store_laws.proofs.Tabled.{ascends_row, row_other, row_same}
+
+take_whole : {A : Type 0} (xs : List A) → take (length xs) xs ≡ xs
+take_whole [] = refl
+take_whole (x ∷ xs) = ap (λ ys. x ∷ ys) (take_whole xs)
+
+none_any : {A : Type 0} (p : A → Bool) (xs : List A) → ((x : A) → Among x xs → p x ≡ true → ⊥) → list_any p xs ≡ false
+none_any p [] away = refl
+none_any p (x ∷ xs) away = at (none_any p xs (λ y k. away y (inr k))) (p x) refl
+  where
+    at : list_any p xs ≡ false → (b : Bool) → p x ≡ b → list_any p (x ∷ xs) ≡ false
+    at later true e = absurd (away x (inl refl) e)
+    at later false e = rw e later
+
+module _ (c : Config) (n : ℕ) (trace : List Line) (few : PacksAreOfSites c) (h : IsFollowed c trace) (rests : StoreRests c trace) (f : Frame) (frame : FrameFact c trace f) (s : Store) (kept : StoreHeld c f trace s) (p : Pull) (k : PullFact c trace f.epoch p) (complete : is_complete p ≡ true) (wants : AdoptRests c trace f p) (above : is_above_own p (copy_of s p.file) ≡ true) where
+  abbrev told : Told
+  told = Shown (adopt_record f p)
+
+  abbrev after : List Line
+  after = record { number = n; told = told } ∷ trace
+
+  abbrev tree : TreeState
+  tree = tree_of c f.epoch p.file.group (entries trace)
+
+  stands : Stands c trace p.file p.stamp
+  stands = subst (λ (y : Stamp). Stands c trace p.file y) k.stamp_is k.is_version.stands
+
+  narrow : p.file.ino < 65536
+  narrow = rests.narrow p.file p.stamp stands
+
+  version_is : k.version ≡ version_of c (entries trace) p.file p.stamp
+  version_is = k.is_version.same ∙ ap (version_of c (entries trace) p.file) k.stamp_is
+
+  content_is : p.content ≡ k.version.content
+  content_is = k.pages ∙ (ap (λ (m : ℕ). take m k.version.content) (test_same (length p.content) p.size complete ∙ sym k.size_is) ∙ take_whole k.version.content)
+
+  vector_same : p.vector ≡ vector_of (history c (entries trace)) p.file p.stamp
+  vector_same = sym k.vector_is ∙ ap (λ (v : HeldVersion). v.vector) version_is
+
+  set_same : p.set ≡ set_of_file c (entries trace) p.file
+  set_same = sym k.set_is ∙ ap (λ (v : HeldVersion). v.set) version_is
+
+  -- ---- it comes as it may ----
+
+  is_above_held : is_above (history c (entries trace)) p.file (held c (entries trace) f.me p.file) p.stamp ≡ true
+  is_above_held = over (held c (entries trace) f.me p.file) refl (kept.copies.are p.file narrow)
+    where
+      over : (o : Option Stamp) → held c (entries trace) f.me p.file ≡ o → copy_of s p.file ≡ option_map (copy_for p.file) (option_map (version_of c (entries trace) p.file) o) → is_above (history c (entries trace)) p.file o p.stamp ≡ true
+      over None e q = refl
+      over (Some old) e q = wants.below old (held_stands c (entries trace) (followed_rows c trace h) f.me p.file old e)
+          (subst (λ (v : List ℕ). is_below (vector_of (history c (entries trace)) p.file old) v ≡ true) vector_same (sym (ap (is_above_own p) q) ∙ above))
+
+  pub may_adopt : MayTell c trace (Shown (adopt_record f p))
+  may_adopt = record {
+    row = record {
+      epoch = f.epoch;
+      inside = frame.inside;
+      known = k.known;
+      for = subst (λ (y : Sites). has y f.me ≡ true) set_same wants.wanted;
+      above = is_above_held;
+      shut = none_any (is_stored_at f.me p.file) tree.instances (λ x q e. wants.open_on x q e is_above_held);
+    };
+    in_time = record { epoch = f.epoch; inside = frame.inside; started = k.started; single = k.single };
+  }
+
+  -- ---- what the site has then ----
+
+  inside : is_inside tree f.me ≡ true
+  inside = inside_is c (entries trace) f.epoch p.file.group f.me ∙ (ap (λ (o : Option EpochId). is_of_epoch o f.epoch) frame.inside ∙ same_epoch_own f.epoch)
+
+  pub has_adopted : HasAtLeast c after f.epoch f.me p.file p.stamp
+  has_adopted = record { now = p.stamp; held = held_now; above = own_ancestor (history c (entries after)) p.file p.stamp }
+    where
+      group_test : (p.file.group == tree.group) ≡ true
+      group_test = subst (λ (g : ℕ). (p.file.group == g) ≡ true) (sym (tree_group_is c f.epoch p.file.group (entries trace))) (test_own p.file.group)
+
+      held_now : held_in c (entries after) f.epoch f.me p.file ≡ Some p.stamp
+      held_now = ap (λ (b : Bool). held_of (copy_of_site (cond b (with_held (copy_now tree f.me p.file.ino p.stamp) tree.copies) tree.copies) f.me p.file.ino)) group_test
+          ∙ (ap held_of (put_found (is_copy_of f.me p.file.ino) (copy_now tree f.me p.file.ino p.stamp) tree.copies (both_of (f.me == f.me) (p.file.ino == p.file.ino) (test_own f.me) (test_own p.file.ino)))
+          ∙ ap (λ (b : Bool). cond b (Some p.stamp) (held_at tree f.me p.file.ino)) inside)
+
+  pub adopted_sent : Every (PacketFact c after) (to_sync f p.file.group (body.Have p.file p.stamp))
+  adopted_sent = over (sync_site f.config f.members p.file.group)
+    where
+      over : (o : Option ℕ) → Every (PacketFact c after) (to_some f (body.Have p.file p.stamp) o)
+      over None = tt
+      over (Some site) = (has_adopted, tt)
+
+  -- ---- the disk ----
+
+  module _ (stay : AllStay c trace after told) where
+    versions : VersionsStay c trace after
+    versions = versions_stay c n told trace h may_adopt stay.fresh stay.order
+
+    version_now : k.version ≡ version_of c (entries after) p.file p.stamp
+    version_now = version_is ∙ sym (same_version_of c trace after versions p.file p.stamp stands)
+
+    copy_is : copy_adopted p ≡ copy_for p.file (version_of c (entries after) p.file p.stamp)
+    copy_is = λ j. record {
+      file = p.file;
+      kind = (sym k.kind_is ∙ ap (λ (v : HeldVersion). v.kind) version_now) j;
+      set = (sym k.set_is ∙ ap (λ (v : HeldVersion). v.set) version_now) j;
+      stamp = p.stamp;
+      vector = (sym k.vector_is ∙ ap (λ (v : HeldVersion). v.vector) version_now) j;
+      content = (content_is ∙ ap (λ (v : HeldVersion). v.content) version_now) j;
+    }
+
+    own_copy : (g : FileId) → p.file ≡ g → copy_of (with_copy (copy_adopted p) s) g ≡ option_map (copy_for g) (held_version c (entries after) f.me g)
+    own_copy g same = subst (λ (y : FileId). copy_of (with_copy (copy_adopted p) s) y ≡ option_map (copy_for y) (held_version c (entries after) f.me y)) same
+        (row_same copy_key (copy_adopted p) s.copies ∙ (ap Some copy_is ∙ sym (ap (λ (o : Option Stamp). option_map (copy_for p.file) (option_map (version_of c (entries after) p.file) o)) held_own)))
+      where
+        held_own : held c (entries after) f.me p.file ≡ Some p.stamp
+        held_own = ap (λ (b : Bool). cond b (Some p.stamp) (held c (entries trace) f.me p.file)) (both_of (same_file p.file p.file) (f.me == f.me) (file_own p.file) (test_own f.me))
+
+    other_copy : (g : FileId) → g.ino < 65536 → same_file p.file g ≡ false → copy_of (with_copy (copy_adopted p) s) g ≡ option_map (copy_for g) (held_version c (entries after) f.me g)
+    other_copy g low other = row_other copy_key (copy_adopted p) (file_key g) s.copies (λ e. true_false (sym (keys_same p.file g narrow low e) ∙ other))
+        ∙ (kept.copies.are g low ∙ sym (ap (λ (o : Option Stamp). option_map (copy_for g) (option_map (version_of c (entries after) g) o)) held_other ∙ versions_same c trace after versions g (held c (entries trace) f.me g) (λ t e. held_stands c (entries trace) (followed_rows c trace h) f.me g t e)))
+      where
+        held_other : held c (entries after) f.me g ≡ held c (entries trace) f.me g
+        held_other = ap (λ (b : Bool). cond (b && (f.me == f.me)) (Some p.stamp) (held c (entries trace) f.me g)) other
+
+    copies_adopted : CopiesAreHeld c after f.me (with_copy (copy_adopted p) s)
+    copies_adopted = record { are = λ g low. over g low (same_file p.file g) refl; ascends = ascends_row copy_key (copy_adopted p) s.copies kept.copies.ascends }
+      where
+        over : (g : FileId) → g.ino < 65536 → (b : Bool) → same_file p.file g ≡ b → copy_of (with_copy (copy_adopted p) s) g ≡ option_map (copy_for g) (held_version c (entries after) f.me g)
+        over g low true e = own_copy g (same_file_eq p.file g e)
+        over g low false e = other_copy g low e
+
+    pub store_adopted : StoreHeld c f after (with_copy (copy_adopted p) s)
+    store_adopted = record {
+      copies = copies_adopted;
+      instances = record {
+        instances = every_both (InstanceFact c trace f) (InstanceFact c after f) s.instances (λ i fact. instance_more c n told trace few h may_adopt stay f i tt fact) kept.instances.instances;
+        apart = kept.instances.apart;
+        has = has_more n told trace f s (λ z. z) kept.instances.has;
+      };
+    }

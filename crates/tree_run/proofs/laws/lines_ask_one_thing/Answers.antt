@@ -1,5 +1,0 @@
-use Rattle.tree_run.proofs.OneAsking.{one_asking}
-use Rattle.tree_run.proofs.laws.lines_ask_one_thing.Goals as goal
-
-pub returns : goal.returns
-returns c = one_asking
