@@ -46,6 +46,7 @@ use Rattle.row_laws.specs.Rows.{IsSiteRow}
 use Rattle.row_laws.specs.Voids.{LinesFit, HasPlaces, is_call}
 use Rattle.row_laws.proofs.AskedRun.{own_given}
 use Rattle.row_laws.proofs.ByLine.{every_line}
+use Rattle.row_laws.proofs.Causes.{comes_own, sent_polls}
 use Rattle.row_laws.proofs.RolesInward.{on_call_rest}
 use Rattle.row_laws.proofs.SitesGoOn.{run_sites}
 use Rattle.row_laws.proofs.SitesPlaced.{first_has, places_kept}
@@ -159,7 +160,7 @@ frame_accepts c s process words links v f now me plain h = record {
   told_is = refl;
   accepts = subst (λ (t : ℕ). ((t == s) && ((process == process) && not (is_mend words))) ≡ true) (sym me) (accept_tale s process words plain);
   others = every_append (Passes (tale (line.Call s process words)) false) went.told last.told (every_weaker RoleTold (Passes (tale (line.Call s process words)) false) went.told (told_passes s process words) rest.1)
-      (every_weaker (SiteTold s no_causes) (Passes (tale (line.Call s process words)) false) last.told (end_passes s s process words) (ends_forms s v.boot no_causes c links left (λ m j. tt) refl (record { round = h.round; tables = h.tables })).told);
+      (every_weaker (SiteTold s no_causes) (Passes (tale (line.Call s process words)) false) last.told (end_passes s s process words) (ends_forms s v.boot no_causes c links left (λ m j short. tt) refl (record { round = h.round; tables = h.tables; epoch = h.epoch })).told);
   none = none_written went.written (want_written f w (next_want f w freed) freed) last.written untouched.none;
 }
   where
@@ -244,14 +245,14 @@ lines_kept c lines fit = record {
   ticks = λ n most s v w is here p. record {
     calling = kept.ticks n most s v w is here p.calling;
     places = has.steps n s Ticks v w here tt p.places;
-    voids = acts_voids lines n s (causes_of s (links_of w s) v Ticks) v (step c s (links_of w s) v Ticks) w (step_forms (DeedsOf w.trace s) s c (links_of w s) v Ticks (p.calling.courses.good.views s v here) (p.calling.courses.course.places s (Running v) here).2) p.voids;
+    voids = acts_voids lines n s (causes_of s (links_of w s) v Ticks) v (step c s (links_of w s) v Ticks) w (step_forms (DeedsOf w.trace s) s c (links_of w s) v Ticks (p.calling.courses.good.views s v here) (p.calling.courses.course.places s (Running v) here).2 tt) p.voids;
     told = acts_calls lines n s v (step c s (links_of w s) v Ticks) w (λ told none order. course lines n told w.trace (line_other lines n (line.Settle most) is refl) (p.told none order));
   };
   receives = λ n l x v w is d here sent p. record {
     calling = kept.receives n l x v w is d here sent p.calling;
     places = has.receives n x v w here sent p.places;
     voids = acts_voids lines n x.packet.to (causes_of x.packet.to (links_of (passed x.number w) x.packet.to) v (Receives x.packet)) v (step c x.packet.to (links_of (passed x.number w) x.packet.to) v (Receives x.packet)) (passed x.number w)
-        (step_forms (DeedsOf w.trace x.packet.to) x.packet.to c (links_of (passed x.number w) x.packet.to) v (Receives x.packet) (p.calling.courses.good.views x.packet.to v here) (p.calling.courses.course.places x.packet.to (Running v) here).2) p.voids;
+        (step_forms (DeedsOf w.trace x.packet.to) x.packet.to c (links_of (passed x.number w) x.packet.to) v (Receives x.packet) (p.calling.courses.good.views x.packet.to v here) (p.calling.courses.course.places x.packet.to (Running v) here).2 (sent_polls lines n w x sent p.calling.courses.course)) p.voids;
     told = acts_calls lines n x.packet.to v (step c x.packet.to (links_of (passed x.number w) x.packet.to) v (Receives x.packet)) (passed x.number w) (λ told none order. course lines n told w.trace (line_other lines n l is (delivers_other l d)) (p.told none order));
   };
   passes = λ n k w p. record { calling = kept.passes n k w p.calling; places = p.places; voids = p.voids; told = p.told };
@@ -272,7 +273,7 @@ lines_kept c lines fit = record {
   steps = λ n s l e v w there is g here p. record {
     calling = kept.steps n s l e v w there is g here p.calling;
     places = has.steps (n + 1) s e v w here (own_given w l s e g) p.places;
-    voids = acts_voids lines (n + 1) s (causes_of s (links_of w s) v e) v (step c s (links_of w s) v e) w (step_forms (DeedsOf w.trace s) s c (links_of w s) v e (p.calling.courses.good.views s v here) (p.calling.courses.course.places s (Running v) here).2) p.voids;
+    voids = acts_voids lines (n + 1) s (causes_of s (links_of w s) v e) v (step c s (links_of w s) v e) w (step_forms (DeedsOf w.trace s) s c (links_of w s) v e (p.calling.courses.good.views s v here) (p.calling.courses.course.places s (Running v) here).2 (comes_own e (own_given w l s e g))) p.voids;
     told = line_told c lines n s l e v w fit is g here p;
   };
   cutting = λ n one other w there is cut p. record { calling = kept.cutting n one other w there is cut p.calling; places = p.places; voids = p.voids; told = λ none order. other_next lines n [] w.trace (line_other lines (n + 1) (line.Down one other) is refl) (p.told none order) };

@@ -35,7 +35,8 @@ use Rattle.row_laws.specs.ByLine.{IsLine, Gives, KeptIn}
 use Rattle.row_laws.specs.Voids.{LinesFit}
 use Rattle.row_laws.proofs.ByLine.{every_line}
 use Rattle.row_laws.proofs.StepForms.{step_forms}
-use Rattle.row_laws.proofs.AskedRun.{Courses, courses_kept, first_courses}
+use Rattle.row_laws.proofs.AskedRun.{own_given, Courses, courses_kept, first_courses}
+use Rattle.row_laws.proofs.Causes.{comes_own, sent_polls}
 use Rattle.row_laws.proofs.SitesGoOn.{run_sites}
 use Rattle.call_row_laws.specs.Accepting.{IsAcceptRow}
 use Rattle.call_row_laws.specs.Waiting.{after, AcceptTold, AllAccepted, OfSite, NoneWaits, CallFree}
@@ -264,12 +265,12 @@ calling_kept c lines fit = record {
   begins = λ n w there quiet p. record { courses = kept.begins n w there quiet p.courses; calls = p.calls };
   ticks = λ n most s v w is here p. record {
     courses = kept.ticks n most s v w is here p.courses;
-    calls = acts_go n s v (step c s (links_of w s) v Ticks) w here (step_forms (DeedsOf w.trace s) s c (links_of w s) v Ticks (p.courses.good.views s v here) (p.courses.course.places s (Running v) here).2).written (λ h. step_does c s n (trace_of w) (links_of w s) v Ticks tt h) p.calls;
+    calls = acts_go n s v (step c s (links_of w s) v Ticks) w here (step_forms (DeedsOf w.trace s) s c (links_of w s) v Ticks (p.courses.good.views s v here) (p.courses.course.places s (Running v) here).2 tt).written (λ h. step_does c s n (trace_of w) (links_of w s) v Ticks tt h) p.calls;
   };
   receives = λ n l x v w is d here sent p. record {
     courses = kept.receives n l x v w is d here sent p.courses;
     calls = acts_go n x.packet.to v (step c x.packet.to (links_of (passed x.number w) x.packet.to) v (Receives x.packet)) (passed x.number w) here
-        (step_forms (DeedsOf w.trace x.packet.to) x.packet.to c (links_of (passed x.number w) x.packet.to) v (Receives x.packet) (p.courses.good.views x.packet.to v here) (p.courses.course.places x.packet.to (Running v) here).2).written
+        (step_forms (DeedsOf w.trace x.packet.to) x.packet.to c (links_of (passed x.number w) x.packet.to) v (Receives x.packet) (p.courses.good.views x.packet.to v here) (p.courses.course.places x.packet.to (Running v) here).2 (sent_polls lines n w x sent p.courses.course)).written
         (λ h. step_does c x.packet.to n (trace_of w) (links_of (passed x.number w) x.packet.to) v (Receives x.packet) tt h) (λ order. (let g : CallsStand w = p.calls order in record { rows = g.rows; places = g.places }));
   };
   passes = λ n k w p. record { courses = kept.passes n k w p.courses; calls = λ order. (let g : CallsStand w = p.calls order in record { rows = g.rows; places = g.places }) };
@@ -278,7 +279,7 @@ calling_kept c lines fit = record {
   voiding = λ n l w there is void p. record { courses = kept.voiding n l w there is void p.courses; calls = world_go (n + 1) (Shown says.Void ∷ []) w (λ t. (tt, tt)) (free_place (n + 1) (Shown says.Void ∷ []) (tt, tt)) p.calls };
   steps = λ n s l e v w there is g here p. record {
     courses = kept.steps n s l e v w there is g here p.courses;
-    calls = acts_go (n + 1) s v (step c s (links_of w s) v e) w here (step_forms (DeedsOf w.trace s) s c (links_of w s) v e (p.courses.good.views s v here) (p.courses.course.places s (Running v) here).2).written
+    calls = acts_go (n + 1) s v (step c s (links_of w s) v e) w here (step_forms (DeedsOf w.trace s) s c (links_of w s) v e (p.courses.good.views s v here) (p.courses.course.places s (Running v) here).2 (comes_own e (own_given w l s e g))).written
         (λ h. step_does c s (n + 1) (trace_of w) (links_of w s) v e (line_may c lines (n + 1) s l e v w fit is g here) h) p.calls;
   };
   cutting = λ n one other w there is cut p. record { courses = kept.cutting n one other w there is cut p.courses; calls = λ order. (let g : CallsStand w = p.calls order in record { rows = g.rows; places = g.places }) };

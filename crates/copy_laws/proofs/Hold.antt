@@ -3,9 +3,23 @@ use Rattle.std.specs.Prelude.{List}
 use Rattle.locus_ids.specs.declared.config.Config.{Config}
 use Rattle.schedule_lines.specs.declared.line.ScheduleLine.{ScheduleLine}
 use Rattle.the_run.specs.Runs.{run_in}
+use Rattle.vector_laws.proofs.Held.{run_copies}
+use Rattle.vector_laws.proofs.FactsRun.{run_numbered}
+use Rattle.instance_laws.proofs.Agree.{run_agrees}
+use Rattle.inode_laws.proofs.FitsRun.{run_fits}
+use Rattle.kept_laws.proofs.RootsRun.{run_roots}
+use Rattle.kept_laws.proofs.NamesRun.{run_named}
 use Rattle.kept_laws.proofs.Hold.{run_kept_hold}
 use Rattle.copy_laws.specs.Hold.{VersionsAndCopiesHold}
 use Rattle.copy_laws.proofs.ContentsRun.{run_contents}
 
 pub run_versions_and_copies : (c : Config) (lines : List ScheduleLine) → VersionsAndCopiesHold c (run_in c lines)
-run_versions_and_copies c lines = record { kept = run_kept_hold c lines; contents = run_contents c lines }
+run_versions_and_copies c lines = record {
+  kept = run_kept_hold c lines;
+  numbered = run_numbered c lines (run_agrees c lines);
+  roots = run_roots c lines;
+  named = run_named c lines;
+  fit = run_fits c lines;
+  told = run_copies c lines;
+  contents = run_contents c lines;
+}

@@ -23,6 +23,8 @@ use Rattle.tree_laws.proofs.Names.{some_is}
 use Rattle.one_tree_laws.specs.Places.{AllOf, IsOf, SiteIn, PlaceFact}
 use Rattle.one_tree_laws.specs.Rest.{AllRest, Past, Comes, more}
 use Rattle.one_tree_laws.specs.Roles.{RolesDo}
+use Rattle.user_laws.proofs.Staying.{descriptors_stay}
+use Rattle.one_tree_laws.proofs.Frames.{copies_frame, outside_frame, pulls_frame, store_frame, users_frame}
 use Rattle.one_tree_laws.proofs.Framing.{epoch_same, up_same, idle_stays, stay_over}
 use Rattle.one_tree_laws.proofs.Parts.{Synced, synced_each, TablesAt, tables_stay}
 use Rattle.one_tree_laws.proofs.Sorts.{users_store, users_table, users_site, users_adopted, users_one, site_store, site_table, site_adopted, site_one, store_users, store_table, store_site, store_adopted, adopted_store, adopted_users, adopted_site, adopted_table, adopted_one, table_users, table_store, table_site, table_adopted, one_table, promise_users, promise_store, promise_table, promise_site, promise_adopted}
@@ -151,13 +153,14 @@ site_apart c roles n t x older None v k a h = record {
   up = up_apart n x older t a.site ∙ h.up;
   outside = epoch_apart n x older t a.site ∙ h.outside;
   users = record {
-    always = roles.users.stay_outside n x older t v.boot v.users k a.users a.site h.users.always;
+    always = outside_frame c n x older t v.boot v.users k a.users a.site h.users.always;
     idle = idle_stays c n x older t a.users a.site h.users.idle;
     calls = h.users.calls;
     instances = h.users.instances;
     hopeless = h.users.hopeless;
+    descriptors_ascend = h.users.descriptors_ascend;
   };
-  copies = roles.stores.copies_stay n x older t v.store k a.store a.adopted h.copies;
+  copies = copies_frame c n x older t v.store k a.store a.adopted h.copies;
   instances = h.instances;
   tables = h.tables;
   pulls = h.pulls;
@@ -168,11 +171,11 @@ site_apart c roles n t x older (Some e) v k a h =
     let tables : TablesAt c f AnyTable v.tables (more n x older) = tables_stay c roles n f AnyTable v.tables s x older k a.site a.adopted (nothing_to c older t x f a h.frame refl v.tables s) (record { frame = h.frame; each = any_facts c f older v.tables h.tables }) in
     record {
       frame = tables.frame;
-      users = record { inside = roles.users.stay n x older f v.users k h.frame a.users a.site h.users.inside; apart = h.users.apart };
-      store = roles.stores.stay n x older f v.store k a.store a.adopted a.site h.store;
+      users = record { inside = users_frame c n x older f v.users k h.frame a.users a.site h.users.inside; apart = h.users.apart; waiting_ascends = h.users.waiting_ascends; instances_ascend = h.users.instances_ascend; descriptors_ascend = h.users.descriptors_ascend };
+      store = store_frame c n x older f v.store k a.store a.adopted h.store;
       groups = h.groups;
       tables = all_facts c f (more n x older) v.tables tables.each;
-      pulls = roles.pulls.stay n x older f v.pulls k h.pulls;
+      pulls = pulls_frame c n x older f v.pulls k h.pulls;
     }
 
 pub place_apart : (c : Config) → RolesDo c → (n t : ℕ) (p : Place) (x : Told) (older : List Line) → Comes c older x → Apart c older t x → PlaceFact c t older p → PlaceFact c t (more n x older) p
@@ -181,7 +184,8 @@ place_apart c roles n t (Stopped d) x older k a h = record {
   stopped = up_apart n x older t a.site ∙ h.stopped;
   outside = epoch_apart n x older t a.site ∙ h.outside;
   idle = idle_stays c n x older t a.users a.site h.idle;
-  copies = roles.stores.copies_stay n x older t (record { copies = d.copies; instances = [] }) k a.store a.adopted h.copies;
+  descriptors = λ process fd. descriptors_stay n t process fd x older a.users a.site ∙ h.descriptors process fd;
+  copies = copies_frame c n x older t (record { copies = d.copies; instances = [] }) k a.store a.adopted h.copies;
 }
 
 -- ---- over all that one site tells ----

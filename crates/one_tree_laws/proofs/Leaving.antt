@@ -18,6 +18,7 @@ use Rattle.tree_laws.proofs.Names.{test_own}
 use Rattle.one_tree_laws.specs.Places.{IsOf, InsideFact, OutsideFact, UsersOutside, SiteFact, SiteIn, SiteFine}
 use Rattle.one_tree_laws.specs.Rest.{AllRest, RestTold, Past, Comes, more}
 use Rattle.one_tree_laws.specs.Roles.{RolesDo}
+use Rattle.one_tree_laws.proofs.Frames.{copies_frame, outside_frame}
 use Rattle.one_tree_laws.proofs.Staying.{Stays}
 use Rattle.one_tree_laws.proofs.Composing.{past_more, past_onto, rest_first, rest_last, site_then}
 use Rattle.one_tree_laws.proofs.Framing.{epoch_same, up_same, every_at, stay_over, idle_stays}
@@ -44,7 +45,7 @@ out_told : (c : Config) → RolesDo c → (n me : ℕ) (s : Store) (x : Told) (o
 out_told c roles n me s x older k u h = record {
   up = up_told n x older me u ∙ h.up;
   outside = epoch_told n x older me u ∙ h.outside;
-  copies = roles.stores.copies_stay n x older me s k (λ e w. users_store me me older e x u w) (λ a. users_adopted me me x u a) h.copies;
+  copies = copies_frame c n x older me s k (λ e w. users_store me me older e x u w) (λ a. users_adopted me me x u a) h.copies;
 }
 
 -- a using site answers, outside
@@ -85,7 +86,7 @@ leave_first c roles n me trace e v followed h fresh = (
   record {
     up = h.frame.up;
     outside = cond_own me None (epoch_of (entries trace) me);
-    copies = roles.stores.copies_stay n (Shown (says.Leave me e.id)) trace me (left_view v).store (record { past = followed; may = may; rest = fresh.0 }) (λ at w. w) (λ a. a) (copies_bare c trace me v.store h.store.copies);
+    copies = copies_frame c n (Shown (says.Leave me e.id)) trace me (left_view v).store (record { past = followed; may = may; rest = fresh.0 }) (λ at w. w) (λ a. a) (copies_bare c trace me v.store h.store.copies);
   },
 )
   where
@@ -125,13 +126,14 @@ promise_tells c roles n me id reach trace v followed rest h =
           up = h.outside.up;
           outside = h.outside.outside;
           users = record {
-            always = roles.users.stay_outside n x trace me v.boot v.users comes (λ k. k) (λ k. k) h.outside.users.always;
+            always = outside_frame c n x trace me v.boot v.users comes (λ k. k) (λ k. k) h.outside.users.always;
             idle = idle_stays c n x trace me (λ k. k) (λ k. k) h.outside.users.idle;
             calls = h.outside.users.calls;
             instances = h.outside.users.instances;
             hopeless = h.outside.users.hopeless;
+            descriptors_ascend = h.outside.users.descriptors_ascend;
           };
-          copies = roles.stores.copies_stay n x trace me v.store comes (λ at k. k) (λ k. k) h.outside.copies;
+          copies = copies_frame c n x trace me v.store comes (λ at k. k) (λ k. k) h.outside.copies;
           instances = h.outside.instances;
           tables = h.outside.tables;
           pulls = h.outside.pulls;

@@ -1,4 +1,5 @@
 pub mod Staying
+pub mod Frames
 pub mod Composing
 pub mod Sorts
 pub mod Framing

@@ -18,6 +18,7 @@ use Rattle.tree_laws.specs.Tables.{TableFact}
 use Rattle.one_tree_laws.specs.Places.{AllAt, synced_groups, UsersOf}
 use Rattle.one_tree_laws.specs.Rest.{AllRest, Past, Comes, more}
 use Rattle.one_tree_laws.specs.Roles.{RolesDo}
+use Rattle.one_tree_laws.proofs.Frames.{pulls_frame, store_frame, table_frame, users_frame}
 use Rattle.one_tree_laws.proofs.Composing.{past_more}
 use Rattle.one_tree_laws.proofs.Framing.{frame_stays, stay_over}
 use Rattle.one_tree_laws.proofs.Rising.{Rising, rising_filter, among_map, among_filter}
@@ -61,7 +62,7 @@ each_stays : (c : Config) → RolesDo c → (n : ℕ) (x : Told) (older : List L
     Every (λ (t : SyncTable). P t → TableFact c older f t) tables → Every (λ (t : SyncTable). P t → TableFact c (more n x older) f t) tables
 each_stays c roles n x older f P k frame a [] s other h = tt
 each_stays c roles n x older f P k frame a (t ∷ ts) s other h =
-    (λ p. roles.tables.stay n x older f t k frame (other.0 p) a (record { synced = s.0; fact = h.0 p }), each_stays c roles n x older f P k frame a ts s.1 other.1 h.1)
+    (λ p. table_frame c n x older f t k (other.0 p) a (h.0 p), each_stays c roles n x older f P k frame a ts s.1 other.1 h.1)
 
 pub tables_stay : (c : Config) → RolesDo c → (n : ℕ) (f : Frame) (P : SyncTable → Type 0) (tables : List SyncTable) → Every (Synced f) tables → (x : Told) (older : List Line) → Comes c older x → (IsOfSite f.me x → ⊥) → (IsAdopted f.me x → ⊥) → Every (λ (t : SyncTable). P t → IsOfTable f t.group x → ⊥) tables →
     TablesAt c f P tables older → TablesAt c f P tables (more n x older)
@@ -89,16 +90,19 @@ pub record NoTable (f : Frame) (P : SyncTable → Type 0) (tables : List SyncTab
 
 pub users_over : (c : Config) → RolesDo c → (n : ℕ) (f : Frame) (u : Users) (told : List Told) (trace : List Line) → Past c trace → AllTold c n trace told → AllRest c n trace told → AllAt (λ t x. NoUsers f.me x) n trace told → FrameFact c trace f → UsersOf c f trace u → UsersOf c f (told_onto n told trace) u
 users_over c roles n f u told trace h k fresh q frame fact = record {
-  inside = (stay_over c n (λ t x. NoUsers f.me x) (λ t. FrameFact c t f × UsersInside c f t u) (λ x older s no p. (frame_stays c n x older f s no.site p.0, roles.users.stay n x older f u s p.0 no.users no.site p.1)) told trace h k fresh q (frame, fact.inside)).1;
+  inside = (stay_over c n (λ t x. NoUsers f.me x) (λ t. FrameFact c t f × UsersInside c f t u) (λ x older s no p. (frame_stays c n x older f s no.site p.0, users_frame c n x older f u s p.0 no.users no.site p.1)) told trace h k fresh q (frame, fact.inside)).1;
   apart = fact.apart;
+  waiting_ascends = fact.waiting_ascends;
+  instances_ascend = fact.instances_ascend;
+  descriptors_ascend = fact.descriptors_ascend;
 }
 
 pub store_over : (c : Config) → RolesDo c → (n : ℕ) (f : Frame) (s : Store) (told : List Told) (trace : List Line) → Past c trace → AllTold c n trace told → AllRest c n trace told → AllAt (λ t x. NoStore f.me t x) n trace told → StoreHeld c f trace s → StoreHeld c f (told_onto n told trace) s
-store_over c roles n f s told trace h k fresh q fact = stay_over c n (λ t x. NoStore f.me t x) (λ t. StoreHeld c f t s) (λ x older comes no p. roles.stores.stay n x older f s comes no.store no.adopted no.site p) told trace h k fresh q fact
+store_over c roles n f s told trace h k fresh q fact = stay_over c n (λ t x. NoStore f.me t x) (λ t. StoreHeld c f t s) (λ x older comes no p. store_frame c n x older f s comes no.store no.adopted p) told trace h k fresh q fact
 
 pub tables_over : (c : Config) → RolesDo c → (n : ℕ) (f : Frame) (P : SyncTable → Type 0) (tables : List SyncTable) → Every (Synced f) tables → (told : List Told) (trace : List Line) → Past c trace → AllTold c n trace told → AllRest c n trace told → AllAt (λ t x. NoTable f P tables x) n trace told → TablesAt c f P tables trace → TablesAt c f P tables (told_onto n told trace)
 tables_over c roles n f P tables s told trace h k fresh q fact = stay_over c n (λ t x. NoTable f P tables x) (TablesAt c f P tables) (λ x older comes no p. tables_stay c roles n f P tables s x older comes no.site no.adopted no.others p) told trace h k fresh q fact
 
 pub pulls_over : (c : Config) → RolesDo c → (n : ℕ) (f : Frame) (ps : List Pull) (told : List Told) (trace : List Line) → Past c trace → AllTold c n trace told → AllRest c n trace told → PullsFact c f trace ps → PullsFact c f (told_onto n told trace) ps
 pulls_over c roles n f ps [] trace h k fresh fact = fact
-pulls_over c roles n f ps (x ∷ xs) trace h k fresh fact = pulls_over c roles n f ps xs (more n x trace) (past_more c n x trace h k.0 fresh.0) k.1 fresh.1 (roles.pulls.stay n x trace f ps (record { past = h; may = k.0; rest = fresh.0 }) fact)
+pulls_over c roles n f ps (x ∷ xs) trace h k fresh fact = pulls_over c roles n f ps xs (more n x trace) (past_more c n x trace h k.0 fresh.0) k.1 fresh.1 (pulls_frame c n x trace f ps (record { past = h; may = k.0; rest = fresh.0 }) fact)

@@ -27,6 +27,7 @@ use Rattle.tree_laws.specs.Packets.{PacketFact}
 use Rattle.one_tree_laws.specs.Places.{OutsideFact, PlaceFact, NumberedFact, WorldFact}
 use Rattle.one_tree_laws.specs.Rest.{IsRest}
 use Rattle.one_tree_laws.specs.Roles.{EventFact, MayCall, RolesDo}
+use Rattle.one_tree_laws.proofs.Frames.{first_users}
 use Rattle.one_tree_laws.proofs.Staying.{Stays}
 use Rattle.one_tree_laws.proofs.Cuts.{step_writes}
 use Rattle.one_tree_laws.proofs.Rising.{every_among, row_key}
@@ -93,7 +94,7 @@ first_fact : (c : Config) → RolesDo c → (s : ℕ) → OutsideFact c s [] (fr
 first_fact c roles s = record {
   up = refl;
   outside = refl;
-  users = record { always = roles.users.first s; idle = record { none_waits = tt; has_none = refl }; calls = refl; instances = refl; hopeless = refl };
+  users = record { always = first_users c s; idle = record { none_waits = tt; has_none = refl }; calls = refl; instances = refl; hopeless = refl; descriptors_ascend = tt };
   copies = roles.stores.first s;
   instances = refl;
   tables = refl;

@@ -22,6 +22,7 @@ use Rattle.vector_laws.proofs.Held.{KeepsCopies}
 use Rattle.tree_model.specs.declared.accepted.Waiting.{Waiting}
 use Rattle.tree_model.specs.Calls.{waiting}
 use Rattle.tree_model.specs.Epochs.{epoch_of, is_up}
+use Rattle.lawful_trace.specs.Tables.{descriptor}
 use Rattle.tree_laws.specs.Doing.{AllTold, IsWriteOf, WriteFact}
 use Rattle.tree_laws.specs.Following.{MayTell}
 use Rattle.tree_laws.specs.Packets.{PacketFact}
@@ -32,6 +33,7 @@ use Rattle.tree_laws.proofs.Names.{test_own, true_false}
 use Rattle.one_tree_laws.specs.Places.{AllOf, IsOf, IsIdle, SiteFact, SiteIn, SiteFine, StoppedFact, PlaceFact, NumberedFact, WorldFact}
 use Rattle.one_tree_laws.specs.Rest.{RestTold, IsRest, AllRest, Past, Comes, more}
 use Rattle.one_tree_laws.specs.Roles.{RolesDo}
+use Rattle.one_tree_laws.proofs.Frames.{booted_users, copies_frame}
 use Rattle.one_tree_laws.proofs.Staying.{Stays}
 use Rattle.one_tree_laws.proofs.Composing.{past_more, past_onto, packet_onto, rest_before, rest_told}
 use Rattle.one_tree_laws.proofs.Cuts.{WritesSo}
@@ -134,7 +136,8 @@ stopped_now c roles n s why trace d k copies = record {
   stopped = down_own s (is_up (entries trace) s);
   outside = cond_own s None (epoch_of (entries trace) s);
   idle = record { none_waits = none_left s (waiting (entries trace)); has_none = cond_own s [] (had c trace s) };
-  copies = roles.stores.copies_stay n (Shown (says.Stopped s why)) trace s (record { copies = d.copies; instances = [] }) k (λ e w. w) (λ a. a) copies;
+  descriptors = λ process fd. cond_own s None (descriptor (entries trace) s process fd);
+  copies = copies_frame c n (Shown (says.Stopped s why)) trace s (record { copies = d.copies; instances = [] }) k (λ e w. w) (λ a. a) copies;
 }
 
 -- the row of a stop, as other laws give it
@@ -204,18 +207,19 @@ pub stop_holds : (c : Config) → RolesDo c → Stays c → (n s : ℕ) (v : Sit
 stop_holds c roles stays n s v w here g = stops_holds c roles stays n s cause.Asked (disk_of v) w (λ f. store_copies c s w.trace v v.epoch (f.places s (Running v) here)) g
 
 -- a site has just booted
-booted_now : (c : Config) → RolesDo c → (n s boot : ℕ) (trace : List Line) (copies : List FileCopy) → Comes c trace (Shown (says.Up s boot)) → IsIdle c trace s → CopiesAreHeld c trace s (record { copies = copies; instances = [] }) → SiteFact c s (more n (Shown (says.Up s boot)) trace) (fresh boot copies)
-booted_now c roles n s boot trace copies k idle held = record {
+booted_now : (c : Config) → RolesDo c → (n s boot : ℕ) (trace : List Line) (copies : List FileCopy) → Comes c trace (Shown (says.Up s boot)) → IsIdle c trace s → ((process fd : ℕ) → descriptor (entries trace) s process fd ≡ None) → CopiesAreHeld c trace s (record { copies = copies; instances = [] }) → SiteFact c s (more n (Shown (says.Up s boot)) trace) (fresh boot copies)
+booted_now c roles n s boot trace copies k idle none held = record {
   up = up_own s (is_up (entries trace) s);
   outside = cond_own s None (epoch_of (entries trace) s);
   users = record {
-    always = roles.users.boots n s boot trace k;
+    always = booted_users c n s boot trace none;
     idle = record { none_waits = idle.none_waits; has_none = cond_own s [] (had c trace s) };
     calls = refl;
     instances = refl;
     hopeless = refl;
+    descriptors_ascend = tt;
   };
-  copies = roles.stores.copies_stay n (Shown (says.Up s boot)) trace s (record { copies = copies; instances = [] }) k (λ e w. w) (λ a. a) held;
+  copies = copies_frame c n (Shown (says.Up s boot)) trace s (record { copies = copies; instances = [] }) k (λ e w. w) (λ a. a) held;
   instances = refl;
   tables = refl;
   pulls = refl;
@@ -241,7 +245,7 @@ boots_hold c roles stays n s d (Whole x a) w here same g =
       told_so = (k.may, tt);
       sent = tt;
       places = λ t p e. placed c roles n s new told w rest (k.may, tt) r (inr (inl refl), tt)
-          (booted_now c roles n s x.label.boot w.trace x.copies k old.idle (subst (λ (xs : List FileCopy). CopiesAreHeld c w.trace s (record { copies = xs; instances = [] })) (sym same) old.copies)) f t p (sym (boot_places a s new w t) ∙ e);
+          (booted_now c roles n s x.label.boot w.trace x.copies k old.idle old.descriptors (subst (λ (xs : List FileCopy). CopiesAreHeld c w.trace s (record { copies = xs; instances = [] })) (sym same) old.copies)) f t p (sym (boot_places a s new w t) ∙ e);
     })) g
 boots_hold c roles stays n s d (CutOff x how) w here same g = stops_holds c roles stays n s (cause_of how) x w (λ f. subst (λ (xs : List FileCopy). CopiesAreHeld c w.trace s (record { copies = xs; instances = [] })) (sym same) (f.places s (Stopped d) here).copies) g
 

@@ -4,6 +4,7 @@ use Rattle.locus_ids.specs.declared.config.Config.{Config}
 use Rattle.locus_ids.specs.declared.ids.EpochId.{EpochId}
 use Rattle.role_steps.specs.Adoption.{table_group}
 use Rattle.role_steps.specs.Epochs.{frame_in, is_sync_site, own_groups}
+use Rattle.role_steps.specs.Requests.{descriptor_key, instance_serial, waiting_key}
 use Rattle.role_steps.specs.Own.{Every}
 use Rattle.role_steps.specs.Views.{Frame, Users, SiteView, Told, DiskWrite, Outcome, sync_site}
 use Rattle.role_steps.specs.declared.rounds.InEpoch.{InEpoch}
@@ -13,10 +14,11 @@ use Rattle.tree_model.specs.declared.accepted.Waiting.{Waiting}
 use Rattle.tree_model.specs.Calls.{waiting}
 use Rattle.tree_model.specs.Epochs.{epoch_of, is_up, members_of}
 use Rattle.tree_laws.specs.Doing.{AllTold, FrameFact, IsOfUsers, IsOfStore, IsAdopted, IsOfTable, IsOfSite, IsPromise, WrittenFact, UsersInside, StoreHeld, PullsFact}
+use Rattle.lawful_trace.specs.Tables.{descriptor}
 use Rattle.tree_laws.specs.Following.{IsFollowed}
 use Rattle.tree_laws.specs.Packets.{PacketFact}
 use Rattle.tree_laws.specs.Printed.{entries}
-use Rattle.tree_laws.specs.Stores.{CopiesAreHeld}
+use Rattle.tree_laws.specs.Stores.{Ascends, CopiesAreHeld}
 use Rattle.tree_laws.specs.Tables.{TableFact}
 use Rattle.tree_laws.specs.Users.{UsersFact, had}
 use Rattle.user_laws.specs.Leaving.{AreApart}
@@ -27,10 +29,13 @@ use Rattle.user_laws.specs.Leaving.{AreApart}
 abbrev pub synced_groups : Frame → List ℕ
 synced_groups f = filter (is_sync_site f.config f.me f.members) (own_groups f.config f.me)
 
--- the using site of a site in an epoch, of whose waiting calls no two have one number
+-- the using site of a site in an epoch: its tables ascend, and of its waiting calls no two have one number
 pub record UsersOf (c : Config) (f : Frame) (trace : List Line) (u : Users) : Type 0 where
   pub inside : UsersInside c f trace u
   pub apart : AreApart u.waiting
+  pub waiting_ascends : Ascends waiting_key u.waiting
+  pub instances_ascend : Ascends instance_serial u.instances
+  pub descriptors_ascend : Ascends descriptor_key u.descriptors
 
 -- a site in the epoch of the frame
 pub record InsideFact (c : Config) (f : Frame) (trace : List Line) (v : SiteView) : Type 0 where
@@ -55,6 +60,7 @@ pub record UsersOutside (c : Config) (me boot : ℕ) (trace : List Line) (u : Us
   pub calls : u.waiting ≡ []
   pub instances : u.instances ≡ []
   pub hopeless : u.hopeless ≡ []
+  pub descriptors_ascend : Ascends descriptor_key u.descriptors
 
 pub record OutsideFact (c : Config) (me : ℕ) (trace : List Line) (v : SiteView) : Type 0 where
   pub up : is_up (entries trace) me ≡ true
@@ -79,6 +85,7 @@ pub record StoppedFact (c : Config) (me : ℕ) (trace : List Line) (d : Disk) : 
   pub stopped : is_up (entries trace) me ≡ false
   pub outside : epoch_of (entries trace) me ≡ None
   pub idle : IsIdle c trace me
+  pub descriptors : (process fd : ℕ) → descriptor (entries trace) me process fd ≡ None
   pub copies : CopiesAreHeld c trace me (record { copies = d.copies; instances = [] })
 
 -- ---- an outcome of a site ----

@@ -1,5 +1,4 @@
--- What each role does, as the laws of roles have to give it: its steps are fine, and what it has stays while others tell what
--- they do.
+-- What each role does, as the laws of roles have to give it: its steps are fine.
 use Rattle.std.specs.Prelude.{ℕ, ◌≡◌, ◌==◌, true, false, List, [], Option, None, Some}
 use Rattle.std.specs.List.{list_any}
 use Rattle.locus_ids.specs.declared.config.Config.{Config}
@@ -34,7 +33,7 @@ use Rattle.role_steps.specs.Pulling.{on_notify, on_page, pull_repeats}
 use Rattle.role_steps.specs.Reports.{on_report, on_open, on_look, on_closed, on_have, sync_repeats}
 use Rattle.role_steps.specs.Storage.{StoreRequest, copy_of, instance_of, on_open_ss, on_close, on_closed_ok, on_look_ss, on_pull, store_repeats}
 use Rattle.role_steps.specs.Using.{on_call, on_open_done, on_op_done, on_close_done, on_look_done, users_leave}
-use Rattle.role_steps.specs.Views.{Frame, Users, Store, SiteView, Told, Shown, Outcome, Event, Calls, Receives}
+use Rattle.role_steps.specs.Views.{Frame, Users, Store, SiteView, Shown, Outcome, Event, Calls, Receives}
 use Rattle.role_steps.specs.declared.pulls.Pull.{Pull}
 use Rattle.role_steps.specs.declared.synchronizing.SyncTable.{SyncTable}
 use Rattle.role_steps.specs.declared.users.WaitingCall.{WaitingCall}
@@ -42,14 +41,13 @@ use Rattle.the_run.specs.Steps.{group_of, call_frame}
 use Rattle.the_run.specs.Worlds.{Line, formatted}
 use Rattle.tree_model.specs.Epochs.{epoch_of, is_up}
 use Rattle.role_steps.specs.Views.{sync_site}
-use Rattle.tree_laws.specs.Doing.{FrameFact, IsReceived, IsOfUsers, IsOfStore, IsAdopted, IsOfTable, IsOfSite, NoWrite, WriteFact, Fine, UsersInside, StoreHeld, StoreFine, TableFine, PullsFact, PullsFine}
+use Rattle.tree_laws.specs.Doing.{FrameFact, IsReceived, IsOfUsers, IsAdopted, NoWrite, WriteFact, Fine, StoreHeld, StoreFine, TableFine, PullsFact, PullsFine}
 use Rattle.tree_laws.specs.Packets.{PacketFact}
 use Rattle.tree_laws.specs.Printed.{entries}
 use Rattle.tree_laws.specs.Stores.{CopiesAreHeld}
 use Rattle.tree_laws.specs.Tables.{TableFact}
-use Rattle.tree_laws.specs.Users.{UsersFact}
 use Rattle.one_tree_laws.specs.Places.{InsideFact, OutsideFact, UsersOf, UsersOutside, SiteFact, SiteFine}
-use Rattle.one_tree_laws.specs.Rest.{AllRest, Past, Comes, more}
+use Rattle.one_tree_laws.specs.Rest.{AllRest, Past, more}
 
 -- ---- what a step stands on ----
 
@@ -77,21 +75,12 @@ EventFact c trace me v _ = Unit {0}
 
 -- ---- the using site ----
 
--- of a site that has just booted
-abbrev pub no_users : Users
-no_users = record { calls = 0; serials = 0; waiting = []; instances = []; descriptors = []; hopeless = [] }
-
 -- what the using site of a site in its epoch does as it may
 abbrev pub CallsFine : Config → ℕ → List Line → Frame → Outcome Users → Type 0
 CallsFine c n trace f o = Fine Users c n trace (IsOfUsers f.me) (UsersOf c f) NoWrite o
 
 pub record UsersDo (c : Config) : Type 0 where
-  pub stay : (n : ℕ) (x : Told) (older : List Line) (f : Frame) (u : Users) → Comes c older x → FrameFact c older f → (IsOfUsers f.me x → ⊥) → (IsOfSite f.me x → ⊥) → UsersInside c f older u → UsersInside c f (more n x older) u
-  pub stay_outside : (n : ℕ) (x : Told) (older : List Line) (me boot : ℕ) (u : Users) → Comes c older x → (IsOfUsers me x → ⊥) → (IsOfSite me x → ⊥) → UsersFact c older me boot u → UsersFact c (more n x older) me boot u
   pub calls : (n : ℕ) (trace : List Line) (f : Frame) (process : ℕ) (words : Call) (u : Users) → Ready c trace f → UsersOf c f trace u → MayCall c f.me process words u → AllRest c n trace (on_call f (Some f.epoch) process words u).told → CallsFine c n trace f (on_call f (Some f.epoch) process words u)
-  -- in the first boot of a site and after each boot
-  pub first : (me : ℕ) → UsersFact c [] me 1 no_users
-  pub boots : (n me boot : ℕ) (trace : List Line) → Comes c trace (Shown (says.Up me boot)) → UsersFact c (more n (Shown (says.Up me boot)) trace) me boot no_users
   -- in no epoch a call is answered at once
   pub calls_outside : (n : ℕ) (trace : List Line) (me boot process : ℕ) (words : Call) (u : Users) → Past c trace → is_up (entries trace) me ≡ true → epoch_of (entries trace) me ≡ None → UsersOutside c me boot trace u → MayCall c me process words u → AllRest c n trace (on_call (call_frame c me boot None) None process words u).told →
       Fine Users c n trace (IsOfUsers me) (UsersOutside c me boot) NoWrite (on_call (call_frame c me boot None) None process words u)
@@ -106,8 +95,6 @@ pub record UsersDo (c : Config) : Type 0 where
 -- ---- the storage site ----
 
 pub record StoreDo (c : Config) : Type 0 where
-  pub stay : (n : ℕ) (x : Told) (older : List Line) (f : Frame) (s : Store) → Comes c older x → ((e : EpochId) → IsOfStore older f.me e x → ⊥) → (IsAdopted f.me x → ⊥) → (IsOfSite f.me x → ⊥) → StoreHeld c f older s → StoreHeld c f (more n x older) s
-  pub copies_stay : (n : ℕ) (x : Told) (older : List Line) (me : ℕ) (s : Store) → Comes c older x → ((e : EpochId) → IsOfStore older me e x → ⊥) → (IsAdopted me x → ⊥) → CopiesAreHeld c older me s → CopiesAreHeld c (more n x older) me s
   -- a formatted disk
   pub first : (me : ℕ) → CopiesAreHeld c [] me (record { copies = formatted c me; instances = [] })
   pub opens : (n : ℕ) (trace : List Line) (f : Frame) (p : Packet) (r : StoreRequest) (s : Store) → Ready c trace f → StoreHeld c f trace s → Came c trace f p (body.OpenSs r.inst r.file r.mode r.set r.kind r.base r.vector r.parents) → AllRest c n trace (on_open_ss f r s).told → StoreFine c n trace f s (on_open_ss f r s)
@@ -127,7 +114,6 @@ pub record TableHere (c : Config) (trace : List Line) (f : Frame) (t : SyncTable
   pub fact : TableFact c trace f t
 
 pub record TablesDo (c : Config) : Type 0 where
-  pub stay : (n : ℕ) (x : Told) (older : List Line) (f : Frame) (t : SyncTable) → Comes c older x → FrameFact c older f → (IsOfTable f t.group x → ⊥) → (IsAdopted f.me x → ⊥) → TableHere c older f t → TableFact c (more n x older) f t
   pub reports : (n : ℕ) (trace : List Line) (f : Frame) (p : Packet) (group : ℕ) (copies : List ReportedCopy) (t : SyncTable) → Ready c trace f → TableHere c trace f t → Came c trace f p (body.Report group copies) → t.group ≡ group → AllRest c n trace (on_report f p.from copies t).told → TableFine c n trace f group (on_report f p.from copies t)
   pub opens : (n : ℕ) (trace : List Line) (f : Frame) (p : Packet) (o : OpenRequest) (t : SyncTable) → Ready c trace f → TableHere c trace f t → Came c trace f p (body.Open o.serial o.call o.process o.request o.file o.how) → t.group ≡ o.file.group → AllRest c n trace (on_open f p.from o t).told → TableFine c n trace f o.file.group (on_open f p.from o t)
   pub opened : (n : ℕ) (trace : List Line) (f : Frame) (p : Packet) (i : Serial) (a : OpenedAs) (t : SyncTable) → Ready c trace f → TableHere c trace f t → Came c trace f p (body.Opened i a) → AllRest c n trace (on_opened f i a t).told → TableFine c n trace f t.group (on_opened f i a t)
@@ -139,7 +125,6 @@ pub record TablesDo (c : Config) : Type 0 where
 -- ---- propagation, and mends ----
 
 pub record PullsDo (c : Config) : Type 0 where
-  pub stay : (n : ℕ) (x : Told) (older : List Line) (f : Frame) (ps : List Pull) → Comes c older x → PullsFact c f older ps → PullsFact c f (more n x older) ps
   pub notified : (n : ℕ) (trace : List Line) (f : Frame) (p : Packet) (pull : Pull) (s : Store) (ps : List Pull) → Ready c trace f → StoreHeld c f trace s → PullsFact c f trace ps → pull.content ≡ [] →
       Came c trace f p (body.Notify pull.file pull.kind pull.set pull.size pull.stamp pull.vector pull.holder) → PullsFine c n trace f (on_notify f p.from (copy_of s pull.file) pull ps)
   pub paged : (n : ℕ) (trace : List Line) (f : Frame) (p : Packet) (file : FileId) (stamp : Stamp) (page : ℕ) (bytes : List ℕ) (ps : List Pull) → Ready c trace f → PullsFact c f trace ps → Came c trace f p (body.Page file stamp page bytes) → PullsFine c n trace f (on_page f file stamp page bytes ps)

@@ -15,7 +15,7 @@ use Rattle.role_steps.specs.Own.{Every}
 use Rattle.role_steps.specs.Views.{SiteView, Told, Shown, Outcome}
 use Rattle.tree_model.specs.Folds.{Trace, before_line}
 use Rattle.lawful_trace.specs.Places.{line_at}
-use Rattle.lawful_trace.specs.Orderly.{is_break, is_reached, tells_break, IsOrderly, IsOrderlyLine}
+use Rattle.lawful_trace.specs.Orderly.{is_break, tells_break}
 use Rattle.lawful_trace.specs.Orderly as orderly
 use Rattle.the_run.specs.Disks.{Booted, Whole as WholeBoot, CutOff, boots}
 use Rattle.the_run.specs.Kept.{Kept}
@@ -140,8 +140,8 @@ all_apart lines b m fits h = record {
       reaches_itself lines fits b X s.0 s.1.0 (starter_boot lines fits b m i b X P low high (omega arith) h.low inside r));
   differ = λ i k X Y P L low less high r q. (told i k X Y P L low less high r q).0;
   apart = λ i k X Y P L t low less high r q x y. (told i k X Y P L low less high r q).1 t
-      (is_reached_at lines m X t (starter_boot lines fits b m i m X P low (omega (arith, less, high)) h.low (omega arith) inside r) (reaches_same lines b m m X t h.low (omega arith) inside x))
-      (is_reached_at lines m Y t (starter_boot lines fits b m k m Y L (omega (arith, low, less)) high h.low (omega arith) inside q) (reaches_same lines b m m Y t h.low (omega arith) inside y));
+      (is_reached_at lines fits m X t (starter_boot lines fits b m i m X P low (omega (arith, less, high)) h.low (omega arith) inside r) (reaches_same lines b m m X t h.low (omega arith) inside x))
+      (is_reached_at lines fits m Y t (starter_boot lines fits b m k m Y L (omega (arith, low, less)) high h.low (omega arith) inside q) (reaches_same lines b m m Y t h.low (omega arith) inside y));
 }
   where
     inside : Inside (config_of lines) lines b m

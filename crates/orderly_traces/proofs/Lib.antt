@@ -7,3 +7,6 @@ pub mod Blocked
 pub mod Walk
 pub mod Closing
 pub mod Course
+pub mod Listed
+pub mod Polled
+pub mod Forms

@@ -19,7 +19,7 @@ take_length zero xs = omega arith
 take_length (suc k) [] = omega arith
 take_length (suc k) (x ∷ xs) = (let h : length (take k xs) ≤ k = take_length k xs in omega (arith, h))
 
-take_whole : {A : Type 0} (k : ℕ) (xs : List A) → length xs ≤ k → take k xs ≡ xs
+pub take_whole : {A : Type 0} (k : ℕ) (xs : List A) → length xs ≤ k → take k xs ≡ xs
 take_whole zero [] h = refl
 take_whole (suc k) [] h = refl
 take_whole zero (x ∷ xs) h = absurd (omega (arith, h))

@@ -1,5 +1,5 @@
 -- From block to block of an orderly schedule: all is quiet before each block, and each forms its epochs.
-use Rattle.std.proofs.Common.{◌≡◌, ◌≢◌, ℕ, zero, suc, ◌+◌, ◌-◌, ◌≤◌, ◌<◌, ◌==◌, nat_le, Bool, true, false, cond, not, ◌&&◌, ◌||◌, List, [], ◌∷◌, take, Some, refl, sym, ◌∙◌, ap, subst, ◌⊎◌, inl, inr, arith}
+use Rattle.std.proofs.Common.{◌≡◌, ◌≢◌, ℕ, zero, suc, ◌+◌, ◌-◌, ◌≤◌, ◌<◌, ◌==◌, nat_le, Bool, true, false, cond, not, ◌&&◌, ◌||◌, List, take, Some, refl, sym, ◌∙◌, ap, subst, ◌⊎◌, inl, inr, arith}
 use Rattle.std.proofs.lemmas.Bool.Decides.{nat_tests}
 use Rattle.locus_ids.specs.declared.sites.Links.{Links}
 use Rattle.locus_ids.specs.declared.config.Config.{Config}
@@ -7,7 +7,6 @@ use Rattle.schedule_lines.specs.Cluster.{config_of}
 use Rattle.schedule_lines.specs.Ranges.{is_site}
 use Rattle.schedule_lines.specs.declared.line.ScheduleLine.{ScheduleLine}
 use Rattle.schedule_lines.specs.declared.line.ScheduleLine.TheVariants.{Passed}
-use Rattle.role_steps.specs.Own.{Every}
 use Rattle.role_steps.specs.Views.{SiteView, boot_in}
 use Rattle.tree_model.specs.Folds.{Trace, before_line}
 use Rattle.tree_model.specs.Epochs.{is_up}
@@ -19,13 +18,13 @@ use Rattle.the_run.specs.Runs.{acts_line, run}
 use Rattle.row_laws.specs.Shown.{trace_of}
 use Rattle.epoch_laws.proofs.Boots.{boot_there}
 use Rattle.epoch_laws.proofs.Run as known
-use Rattle.orderly_laws.specs.Blocks.{StartsBy, IsInBlock, StartsNobody, starts_of, StandApart, AreLinesApart}
+use Rattle.orderly_laws.specs.Blocks.{StartsBy, IsInBlock, starts_of, StandApart, AreLinesApart}
 use Rattle.orderly_laws.specs.Blocks as blocks
 use Rattle.orderly_laws.specs.Settling.{boot_at, reaches}
 use Rattle.orderly_laws.proofs.Places.{runs, links_same, link_boot}
-use Rattle.orderly_traces.specs.Fits.{FitsCluster, EachFits}
+use Rattle.orderly_traces.specs.Fits.{EachFits}
 use Rattle.orderly_traces.proofs.Blocked.{Begins, line_begins, starts_same, starter_runs, site_there, Unmoved, unmoved, unmoved_then, line_unmoved}
-use Rattle.orderly_traces.proofs.Circuits.{cut_is, self_uncut}
+use Rattle.orderly_traces.proofs.Circuits.{line_fits, take_fits, cut_is, self_uncut}
 use Rattle.orderly_traces.proofs.Placed.{place_within}
 use Rattle.orderly_traces.proofs.Reached.{running_up}
 use Rattle.orderly_traces.proofs.Spans.{world, next_world, span, one_more, before_at}
@@ -131,17 +130,6 @@ at lines k = world (config_of lines) lines k
 pub starts_is : (lines : List ScheduleLine) (i : ℕ) → initiator lines (trace_of (run lines)) (suc i) ≡ starts_at (line_at lines (suc i)) (trace_of (at lines i))
 starts_is lines i = ap (starts_at (line_at lines (suc i))) (before_at (config_of lines) lines i)
 
-line_fits : (sites : ℕ) (lines : List ScheduleLine) (k : ℕ) → Every (FitsCluster sites) lines → FitsCluster sites (line_at lines (suc k))
-line_fits sites [] zero h = tt
-line_fits sites [] (suc k) h = tt
-line_fits sites (x ∷ xs) zero h = h.0
-line_fits sites (x ∷ xs) (suc k) h = line_fits sites xs k h.1
-
-take_fits : (sites : ℕ) (lines : List ScheduleLine) (k : ℕ) → Every (FitsCluster sites) lines → Every (FitsCluster sites) (take k lines)
-take_fits sites lines zero h = tt
-take_fits sites [] (suc k) h = tt
-take_fits sites (x ∷ xs) (suc k) h = (h.0, take_fits sites xs k h.1)
-
 pub begins_at : (lines : List ScheduleLine) → EachFits lines → (i s : ℕ) → StartsLine lines i s → Begins (line_at lines (suc i)) (at lines i) s
 begins_at lines fits i s h = line_begins (config_of lines) (take i lines) (line_at lines (suc i)) s (line_fits (config_of lines).sites lines i fits) (sym (starts_is lines i) ∙ h)
 
@@ -173,16 +161,16 @@ starter_boot lines fits b e i k X P low high l m h r =
 pub starter_site : (lines : List ScheduleLine) → EachFits lines → (i X : ℕ) (P : Links) → IsInBlock (line_at lines (suc i)) (at lines i) → StartsBy (line_at lines (suc i)) (at lines i) X P → (1 ≤ X) × ((X ≤ 16) × (X ≤ (config_of lines).sites))
 starter_site lines fits i X P h r = site_there (config_of lines).sites X (starter_runs (line_at lines (suc i)) (at lines i) (config_of lines).sites X P (line_fits (config_of lines).sites lines i fits) h r).0
 
-not_zero : (a : ℕ) → a ≢ 0 → not (a == 0) ≡ true
+pub not_zero : (a : ℕ) → a ≢ 0 → not (a == 0) ≡ true
 not_zero a h = grind (arith, nat_tests)
 
-zero_not : (a : ℕ) → not (a == 0) ≡ true → a ≢ 0
+pub zero_not : (a : ℕ) → not (a == 0) ≡ true → a ≢ 0
 zero_not a h e = grind (arith, nat_tests)
 
 pub reaches_itself : (lines : List ScheduleLine) → EachFits lines → (k X : ℕ) → 1 ≤ X → X ≤ 16 → boot_at (at lines k) X ≢ 0 → reaches (at lines k) X X ≡ true
 reaches_itself lines fits k X low high some =
     let c : Config = config_of lines in
-    let whole : is_cut (at lines k) X X ≡ false = cut_is c (take k lines) X X ∙ self_uncut c.sites (take k lines) X (take_fits c.sites lines k fits) in
+    let whole : is_cut (at lines k) X X ≡ false = self_uncut c (take k lines) (take_fits c.sites lines k fits) X in
     let link : boot_in (links_of (at lines k) X).boot X ≡ boot_at (at lines k) X = boot_there (link_of (at lines k) X) X low high ∙ ap (λ (b : Bool). cond b 0 (boot_at (at lines k) X)) whole in
     not_zero (boot_in (links_of (at lines k) X).boot X) (λ z. some (sym link ∙ z))
 
@@ -200,8 +188,8 @@ site_low w X zero h = absurd (h refl)
 site_low w X (suc t) h = omega arith
 
 -- told by the records: at the line after k
-pub is_reached_at : (lines : List ScheduleLine) (k X t : ℕ) → boot_at (at lines k) X ≢ 0 → reaches (at lines k) X t ≡ true → is_reached lines (trace_of (run lines)) (suc k) X t ≡ true
-is_reached_at lines k X t some h =
+pub is_reached_at : (lines : List ScheduleLine) → EachFits lines → (k X t : ℕ) → boot_at (at lines k) X ≢ 0 → reaches (at lines k) X t ≡ true → is_reached lines (trace_of (run lines)) (suc k) X t ≡ true
+is_reached_at lines fits k X t some h =
     let c : Config = config_of lines in
     let w : World = at lines k in
     let link : boot_in (links_of w X).boot t ≢ 0 = zero_not (boot_in (links_of w X).boot t) h in
@@ -214,7 +202,7 @@ is_reached_at lines k X t some h =
     (at_most 1 t low) (at_most t c.sites high)
     (ap (λ (z : Trace). is_up z X) (before_at c lines k) ∙ running_up c (take k lines) X from.0 from.1)
     (ap (λ (z : Trace). is_up z t) (before_at c lines k) ∙ running_up c (take k lines) t to.0 to.1)
-    (ap (λ (j : ℕ). lawful.is_cut (take j lines) X t) {x = suc k - 1} {y = k} (omega arith) ∙ (sym (cut_is c (take k lines) X t) ∙ is.1))
+    (ap (λ (j : ℕ). lawful.is_cut (take j lines) X t) {x = suc k - 1} {y = k} (omega arith) ∙ (sym (cut_is c (take k lines) (take_fits c.sites lines k fits) X t) ∙ is.1))
   where
     at_most : (a b : ℕ) → a ≤ b → nat_le a b ≡ true
     at_most a b le = grind (arith, nat_tests)

@@ -1,5 +1,9 @@
 ghost use Rattle.std.specs.Prelude.{List};
 ghost use Rattle.schedule_lines.specs.declared.line.ScheduleLine.{ScheduleLine};
+ghost use Rattle.schedule_lines.specs.Schedule.{AreInOrder};
+ghost use Rattle.the_run.specs.Runs.{run};
+ghost use Rattle.lawful_trace.specs.Orderly.{OrderlyBlocksForm};
+ghost use Rattle.row_laws.specs.Shown.{trace_of};
 ghost use Rattle.orderly_traces.specs.Fits.{EachFits};
 ghost use Rattle.orderly_traces.specs.Agreeing.{IsWithin, OrderlyBlocksAgree};
 
@@ -8,4 +12,11 @@ ghost use Rattle.orderly_traces.specs.Agreeing.{IsWithin, OrderlyBlocksAgree};
 /// line's site, whose members are exactly these with their boots, and the other sites asked are in none; and all is quiet.
 pub fn orderly_blocks_agree()
     ensures { (lines : List ScheduleLine) → EachFits lines → IsWithin lines → OrderlyBlocksAgree lines }
+{}
+
+/// So do the records tell it, of a schedule whose lines are in order and whose run passes no limit: by the end of its block's
+/// round the chosen set of the line is in one epoch of the line's site, whose members are exactly these with their boot numbers,
+/// and the other sites asked are in none.
+pub fn orderly_blocks_form()
+    ensures { (lines : List ScheduleLine) → AreInOrder lines → IsWithin lines → OrderlyBlocksForm lines (trace_of (run lines)) }
 {}

@@ -4,4 +4,4 @@
 
 mod laws;
 
-pub use laws::orderly_blocks_agree;
+pub use laws::{orderly_blocks_agree, orderly_blocks_form};

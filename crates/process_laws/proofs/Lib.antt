@@ -13,3 +13,4 @@ pub mod Counted
 pub mod Operations
 pub mod OperationsRun
 pub mod CurrentOpens
+pub mod Synchronizing

@@ -8,7 +8,10 @@ ghost use Rattle.locus_ids.specs.declared.ids.Mode.TheVariants as mode;
 ghost use Rattle.locus_ids.specs.declared.ids.Serial.{Serial};
 ghost use Rattle.locus_ids.specs.declared.ids.Stamp.{Stamp};
 ghost use Rattle.locus_ids.specs.declared.refusal.Refusal.{Refusal};
+ghost use Rattle.locus_ids.specs.declared.sites.Members.{Members};
 ghost use Rattle.trace_book.specs.declared.descriptor.Descriptor.{Descriptor};
+ghost use Rattle.role_steps.specs.Views as role;
+ghost use Rattle.tree_model.specs.Packs as tree;
 ghost use Rattle.trace_book.specs.declared.operation.Op.{Op};
 ghost use Rattle.call_rules.specs.declared.want.Want.TheVariants as want;
 ghost use Rattle.the_run.specs.Worlds.{Line};
@@ -74,4 +77,10 @@ pub fn answered_opens_wait()
         WasGranted trace e d request i m f stamp ss → request_number trace d ≡ request → Waits c trace d (answer.Opened i f.ino) }
     ensures refused { (c : Config) (trace : List Line) (e : EpochId) (d : CallId) (request : ℕ) (i : Serial) (m : Mode) (why : Refusal) → IsFollowed c trace →
         WasRefused trace e d request i m why → request_number trace d ≡ request → Waits c trace d (answer.Refused why) }
+{}
+
+/// The site that a role takes for the synchronization site of a group among the members of its epoch is the one of the lawful
+/// trace: the least member that has a pack of the group.
+pub fn sync_sites_agree()
+    ensures { (c : Config) (m : Members) (group : ℕ) → role.sync_site c m group ≡ tree.sync_site c group (Some m) }
 {}

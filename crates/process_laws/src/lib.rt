@@ -6,5 +6,5 @@ mod laws;
 
 pub use laws::{
     answered_opens_wait, answers_wait_for_their_calls, askers_own_their_steps,
-    operations_are_counted, what_is_asked_is_had, what_is_asked_is_open,
+    operations_are_counted, sync_sites_agree, what_is_asked_is_had, what_is_asked_is_open,
 };

@@ -4,3 +4,4 @@ pub mod StoreCopies
 pub mod OpenGranted
 pub mod RoomInstances
 pub mod Room
+pub mod Narrow

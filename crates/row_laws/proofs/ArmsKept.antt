@@ -26,7 +26,8 @@ use Rattle.row_laws.specs.Rows.{IsArmedFor}
 use Rattle.row_laws.specs.Arms.{NoDisk, ArmedAs, Rises, ArmsInCourse}
 use Rattle.row_laws.proofs.StepForms.{step_forms}
 use Rattle.row_laws.proofs.Tracing.{test_own, test_other}
-use Rattle.row_laws.proofs.AskedRun.{Courses, courses_kept, first_courses, last_within}
+use Rattle.row_laws.proofs.AskedRun.{own_given, Courses, courses_kept, first_courses, last_within}
+use Rattle.row_laws.proofs.Causes.{comes_own, sent_polls}
 use Rattle.row_laws.proofs.Versions.{still_arms}
 use Rattle.row_laws.proofs.ArmsRun.{stop_arms, acts_arms, boot_arms, ArmsNone, next_arms, line_arms}
 use Rattle.row_laws.proofs.ByLine.{every_line}
@@ -117,12 +118,12 @@ arms_kept c lines = record {
   begins = λ n w there quiet p. record { courses = kept.begins n w there quiet p.courses; arms = next_arms c lines n w (last_within n w.trace p.courses.course.ascends) there (quiet_none (line_at lines (n + 1)) quiet) p.arms };
   ticks = λ n most s v w is here p. record {
     courses = kept.ticks n most s v w is here p.courses;
-    arms = acts_arms c lines n s (causes_of s (links_of w s) v Ticks) v (step c s (links_of w s) v Ticks) w (step_forms (DeedsOf w.trace s) s c (links_of w s) v Ticks (p.courses.good.views s v here) (p.courses.course.places s (Running v) here).2).told (step_disk c s (links_of w s) v Ticks) p.arms;
+    arms = acts_arms c lines n s (causes_of s (links_of w s) v Ticks) v (step c s (links_of w s) v Ticks) w (step_forms (DeedsOf w.trace s) s c (links_of w s) v Ticks (p.courses.good.views s v here) (p.courses.course.places s (Running v) here).2 tt).told (step_disk c s (links_of w s) v Ticks) p.arms;
   };
   receives = λ n l x v w is d here sent p. record {
     courses = kept.receives n l x v w is d here sent p.courses;
     arms = acts_arms c lines n x.packet.to (causes_of x.packet.to (links_of w x.packet.to) v (Receives x.packet)) v (step c x.packet.to (links_of (passed x.number w) x.packet.to) v (Receives x.packet)) (passed x.number w)
-        (step_forms (DeedsOf w.trace x.packet.to) x.packet.to c (links_of (passed x.number w) x.packet.to) v (Receives x.packet) (p.courses.good.views x.packet.to v here) (p.courses.course.places x.packet.to (Running v) here).2).told
+        (step_forms (DeedsOf w.trace x.packet.to) x.packet.to c (links_of (passed x.number w) x.packet.to) v (Receives x.packet) (p.courses.good.views x.packet.to v here) (p.courses.course.places x.packet.to (Running v) here).2 (sent_polls lines n w x sent p.courses.course)).told
         (step_disk c x.packet.to (links_of (passed x.number w) x.packet.to) v (Receives x.packet)) (same_arms c lines n w (passed x.number w) refl refl p.arms);
   };
   passes = λ n k w p. record { courses = kept.passes n k w p.courses; arms = same_arms c lines n w _ refl refl p.arms };
@@ -131,7 +132,7 @@ arms_kept c lines = record {
   voiding = λ n l w there is void p. record { courses = kept.voiding n l w there is void p.courses; arms = still_arms c lines (n + 1) [] (Shown says.Void ∷ []) (λ now. now) w refl (tt, tt) (begun_arms c lines n l w there is (void_none w l void) p) };
   steps = λ n s l e v w there is g here p. record {
     courses = kept.steps n s l e v w there is g here p.courses;
-    arms = acts_arms c lines (n + 1) s (causes_of s (links_of w s) v e) v (step c s (links_of w s) v e) w (step_forms (DeedsOf w.trace s) s c (links_of w s) v e (p.courses.good.views s v here) (p.courses.course.places s (Running v) here).2).told (step_disk c s (links_of w s) v e) (begun_arms c lines n l w there is (gives_none w l s e g) p);
+    arms = acts_arms c lines (n + 1) s (causes_of s (links_of w s) v e) v (step c s (links_of w s) v e) w (step_forms (DeedsOf w.trace s) s c (links_of w s) v e (p.courses.good.views s v here) (p.courses.course.places s (Running v) here).2 (comes_own e (own_given w l s e g))).told (step_disk c s (links_of w s) v e) (begun_arms c lines n l w there is (gives_none w l s e g) p);
   };
   cutting = λ n one other w there is cut p. record { courses = kept.cutting n one other w there is cut p.courses; arms = same_arms c lines (n + 1) w _ refl refl (begun_arms c lines n (line.Down one other) w there is tt p) };
   mending = λ n one other w there is cut p. record { courses = kept.mending n one other w there is cut p.courses; arms = same_arms c lines (n + 1) w _ refl refl (begun_arms c lines n (line.Up one other) w there is tt p) };

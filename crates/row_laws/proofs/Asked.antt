@@ -27,7 +27,7 @@ use Rattle.lawful_trace.specs.SiteRows.{boots as boots_site}
 use Rattle.lawful_trace.specs.LineRows.{lists_packets}
 use Rattle.row_laws.specs.Shown.{shown, trace_of}
 use Rattle.row_laws.specs.Inward.{RoleTold, RoleWrite}
-use Rattle.row_laws.specs.Events.{Causes, SiteTold, PollsOthers, Forms}
+use Rattle.row_laws.specs.Events.{Causes, SiteTold, FormingPacket, Forms}
 use Rattle.row_laws.specs.ByLine.{IsLine}
 use Rattle.row_laws.specs.Course.{ToldRow, IsOfSite, StandsAs, InCourse, Caused}
 use Rattle.row_laws.proofs.SyncInward.{served_role}
@@ -37,7 +37,7 @@ use Rattle.row_laws.proofs.Tracing.{test_own, test_other, AllRows, ascends_onto,
 -- ---- one event ----
 
 pub happened_course : (lines : List ScheduleLine) (m : ℕ) (ps : List Packet) (told : List Told) (change : World → World) (w : World) → 1 ≤ m → AllRows lines m told w.trace →
-    ((t : ℕ) (p : Place) → place_at (change w) t ≡ Some p → StandsAs (shown (told_onto m told w.trace)) t p) → (change w).sent ≡ w.sent → (change w).underway ≡ w.underway → (change w).circuits ≡ w.circuits → Every PollsOthers ps →
+    ((t : ℕ) (p : Place) → place_at (change w) t ≡ Some p → StandsAs (shown (told_onto m told w.trace)) t p) → (change w).sent ≡ w.sent → (change w).underway ≡ w.underway → (change w).circuits ≡ w.circuits → Every FormingPacket ps →
     InCourse lines m w → InCourse lines m (happened m ps told change w)
 happened_course lines m ps told change w one rows places sent underway circuits new f =
     happened_keeps (InCourse lines m) m ps told change w f
@@ -52,10 +52,10 @@ happened_course lines m ps told change w one rows places sent underway circuits 
     })
   where
     N : Numbered → Type 0
-    N x = PollsOthers x.packet
+    N x = FormingPacket x.packet
 
     added : Every N (numbered_from (w.packets + 1) ps)
-    added = every_numbered PollsOthers (w.packets + 1) ps new
+    added = every_numbered FormingPacket (w.packets + 1) ps new
 
 -- ---- places ----
 
@@ -161,7 +161,7 @@ up_course : (lines : List ScheduleLine) (m s : ℕ) (x : Disk) (change : World �
     ((t : ℕ) → place_at (change w) t ≡ place_at (puts s (Running (fresh x.label.boot x.copies)) w) t) → (change w).sent ≡ w.sent → (change w).underway ≡ w.underway → (change w).circuits ≡ w.circuits → InCourse lines m w → InCourse lines m (happened m [] (Shown (says.Up s x.label.boot) ∷ []) change w)
 up_course lines m s x change w one is down less of same sent underway circuits f =
     happened_course lines m [] (Shown (says.Up s x.label.boot) ∷ []) change w one ((record { asked = is }, record { stopped = down; above = less }), tt)
-    (λ t p here. one_place s (Running view) now w (own_up s (is_up (trace_of w) s), own_boot s x.label.boot (boot_of (trace_of w) s), record { round = tt; tables = tt }, of)
+    (λ t p here. one_place s (Running view) now w (own_up s (is_up (trace_of w) s), own_boot s x.label.boot (boot_of (trace_of w) s), record { round = tt; tables = tt; epoch = tt }, of)
     (λ u q ne e. stands_same (trace_of w) now u q (other_up s u (is_up (trace_of w) u) ne) (other_boot s u x.label.boot (boot_of (trace_of w) u) ne) (f.places u q e)) t p (sym (same t) ∙ here))
     sent underway circuits tt f
   where

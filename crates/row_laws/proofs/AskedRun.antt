@@ -4,6 +4,7 @@ use Rattle.std.proofs.lemmas.Bool.Decides.{nat_tests}
 use Rattle.std.specs.List.{list_any}
 use Rattle.std.proofs.lemmas.Bool.{and_from, le-leb}
 use Rattle.locus_ids.specs.declared.ids.EpochId.{EpochId}
+use Rattle.locus_ids.specs.declared.sites.Members.{Members}
 use Rattle.locus_ids.specs.declared.config.Config.{Config}
 use Rattle.schedule_lines.specs.declared.line.Line.{Line as LineWords}
 use Rattle.schedule_lines.specs.declared.line.Line.TheVariants as line
@@ -16,6 +17,7 @@ use Rattle.role_steps.specs.Tables.{row}
 use Rattle.role_steps.specs.Views.{Told, Shown, Promises, Event, Calls, Receives, Ticks, Parts, Merges, GivesUp, all_sites}
 use Rattle.tree_model.specs.Folds.{Trace, last_line, before_line}
 use Rattle.tree_model.specs.Epochs.{boot_of}
+use Rattle.the_run.specs.Joins.{IsJoinRecord, IsJoin, Joined}
 use Rattle.the_run.specs.Kept.{IsOwn, Kept}
 use Rattle.the_run.specs.Steps.{step}
 use Rattle.the_run.specs.Worlds.{World, Place, Running, Numbered, Line, CutCircuit, is_between, is_cut, number_of, links_of, place_in, place_site, passed, fresh, first_place, formatted, first_world}
@@ -29,16 +31,16 @@ use Rattle.lawful_trace.specs.Places.{initiator}
 use Rattle.lawful_trace.specs.SiteRows.{is_site, starts_in, is_asked_for}
 use Rattle.lawful_trace.specs.LineRows.{settles}
 use Rattle.row_laws.specs.Shown.{with_told, shown, trace_of, EachRecord}
-use Rattle.row_laws.specs.Events.{PollsOthers, causes_of}
+use Rattle.row_laws.specs.Events.{IsShort, FormingPacket, causes_of}
 use Rattle.row_laws.specs.ByLine.{IsLine, Gives, KeptIn}
-use Rattle.row_laws.specs.Rows.{IsPlaced, AskedRecord, IsAskedFor, MemberRecord, IsMemberRow}
+use Rattle.row_laws.specs.Rows.{IsPlaced, AskedRecord, IsAskedFor, MemberRecord, IsMemberRow, ShortRecord, IsShortRow}
 use Rattle.row_laws.specs.Course.{Started, AskedHere, ToldRow, EachTold, Ascends, IsOfSite, StandsAs, InCourse}
 use Rattle.row_laws.specs.Voids.{CutsNoSelf}
 use Rattle.row_laws.proofs.Choosing.{CountsFrom, sixteen}
 use Rattle.row_laws.proofs.StepForms.{step_forms}
 use Rattle.row_laws.proofs.Tracing.{test_own, any_number, promise_started, ascends_later}
 use Rattle.row_laws.proofs.Asked.{acts_course, boot_course, asked_course, world_course, listed_rows, listed_up, listed_boot}
-use Rattle.row_laws.proofs.Causes.{receive_caused, tick_caused, line_caused}
+use Rattle.row_laws.proofs.Causes.{comes_own, sent_polls, receive_caused, tick_caused, line_caused}
 use Rattle.row_laws.proofs.ByLine.{every_line}
 
 -- ---- the invariant ----
@@ -51,7 +53,7 @@ next_course : (lines : List ScheduleLine) (n : ℕ) (w : World) → InCourse lin
 next_course lines n w f = record { ascends = ascends_later n (n + 1) w.trace (omega arith) f.ascends; rows = f.rows; places = f.places; circuits = f.circuits; polls = f.polls; underway = f.underway }
 
 passed_course : (lines : List ScheduleLine) (n k : ℕ) (w : World) → InCourse lines n w → InCourse lines n (passed k w)
-passed_course lines n k w f = record { ascends = f.ascends; rows = f.rows; places = f.places; circuits = f.circuits; polls = f.polls; underway = every_without (λ (x : Numbered). PollsOthers x.packet) number_of k w.underway f.underway }
+passed_course lines n k w f = record { ascends = f.ascends; rows = f.rows; places = f.places; circuits = f.circuits; polls = f.polls; underway = every_without (λ (x : Numbered). FormingPacket x.packet) number_of k w.underway f.underway }
 
 pub own_given : (w : World) (l : LineWords) (s : ℕ) (e : Event) → Gives w l s e → IsOwn e
 own_given w l s (Calls process words) g = tt
@@ -123,13 +125,13 @@ courses_kept c lines = record {
   ticks = λ n most s v w is here p. record {
     good = kept.steps n s Ticks v w here tt p.good;
     course = acts_course lines n s (causes_of s (links_of w s) v Ticks) v (step c s (links_of w s) v Ticks) w (one_of lines n (line.Settle most) is) here (tick_caused lines n n s v w here p.course)
-        (step_forms (DeedsOf w.trace s) s c (links_of w s) v Ticks (p.good.views s v here) (p.course.places s (Running v) here).2) p.course;
+        (step_forms (DeedsOf w.trace s) s c (links_of w s) v Ticks (p.good.views s v here) (p.course.places s (Running v) here).2 tt) p.course;
   };
   receives = λ n l x v w is d here sent p. record {
     good = kept.receives n x v w here sent p.good;
     course = acts_course lines n x.packet.to (causes_of x.packet.to (links_of w x.packet.to) v (Receives x.packet)) v (step c x.packet.to (links_of (passed x.number w) x.packet.to) v (Receives x.packet)) (passed x.number w) (one_of lines n l is) here
         (receive_caused lines n l x v w is d here sent p.good p.course)
-        (step_forms (DeedsOf w.trace x.packet.to) x.packet.to c (links_of (passed x.number w) x.packet.to) v (Receives x.packet) (p.good.views x.packet.to v here) (p.course.places x.packet.to (Running v) here).2) (passed_course lines n x.number w p.course);
+        (step_forms (DeedsOf w.trace x.packet.to) x.packet.to c (links_of (passed x.number w) x.packet.to) v (Receives x.packet) (p.good.views x.packet.to v here) (p.course.places x.packet.to (Running v) here).2 (sent_polls lines n w x sent p.course)) (passed_course lines n x.number w p.course);
   };
   passes = λ n k w p. record { good = kept.passes k w p.good; course = passed_course lines n k w p.course };
   drops = λ n k w p. record { good = kept.drops k w p.good; course = (let f : InCourse lines n (passed k w) = passed_course lines n k w p.course in record { ascends = f.ascends; rows = f.rows; places = f.places; circuits = f.circuits; polls = f.polls; underway = f.underway }) };
@@ -138,7 +140,7 @@ courses_kept c lines = record {
   steps = λ n s l e v w there is g here p. record {
     good = kept.steps (n + 1) s e v w here (own_given w l s e g) p.good;
     course = acts_course lines (n + 1) s (causes_of s (links_of w s) v e) v (step c s (links_of w s) v e) w (from_one n) here (line_caused lines n s l e v w is g here p.good p.course)
-        (step_forms (DeedsOf w.trace s) s c (links_of w s) v e (p.good.views s v here) (p.course.places s (Running v) here).2) (next_course lines n w p.course);
+        (step_forms (DeedsOf w.trace s) s c (links_of w s) v e (p.good.views s v here) (p.course.places s (Running v) here).2 (comes_own e (own_given w l s e g))) (next_course lines n w p.course);
   };
   cutting = λ n one other w there is cut p. record { good = kept.recuts _ w p.good; course = (let f : InCourse lines (n + 1) w = next_course lines n w p.course in record { ascends = f.ascends; rows = f.rows; places = f.places; circuits = λ none s. cuts_other one other s (λ e g. none (n + 1) one (is ∙ ap (λ (x : ℕ). EventLine (line.Down one x)) (g ∙ sym e))) w (f.circuits none s); polls = f.polls; underway = f.underway }) };
   mending = λ n one other w there is cut p. record { good = kept.recuts _ w p.good; course = (let f : InCourse lines (n + 1) w = next_course lines n w p.course in record { ascends = f.ascends; rows = f.rows; places = f.places; circuits = λ none s. mends_other one other s w (f.circuits none s); polls = f.polls; underway = f.underway }) };
@@ -172,7 +174,7 @@ first_places : (c : Config) (ss : List ℕ) → Every IsOfSite ss → (s : ℕ) 
 first_places c [] h s p e = absurd (none_place p e)
 first_places c (t ∷ ts) h s p e =
     (elim (t == s) as (λ b. (t == s) ≡ b → place_in (elim b [ true ↦ Some (first_place c t) | false ↦ row place_site s (map (first_place c) ts) ]) ≡ Some p → StandsAs [] s p) [
-      | true ↦ λ same f. subst (StandsAs [] s) (some_eq (Running (fresh 1 (formatted c t))) p f) (refl, refl, record { round = tt; tables = tt }, subst IsOfSite (test_same t s same) h.0)
+      | true ↦ λ same f. subst (StandsAs [] s) (some_eq (Running (fresh 1 (formatted c t))) p f) (refl, refl, record { round = tt; tables = tt; epoch = tt }, subst IsOfSite (test_same t s same) h.0)
       | false ↦ λ same f. first_places c ts h.1 s p f
     ]) refl e
 
@@ -290,7 +292,7 @@ run_asked c lines = let p : Courses lines (length lines) (run_in c lines) = run_
 -- ---- lists ----
 
 member_record : (lines : List ScheduleLine) (n : ℕ) (r : Record) (before : Trace) → CutsNoSelf lines → AskedHere lines n before r → MemberRecord before r
-member_record lines n (says.Join s id members) before none h = h none
+member_record lines n (says.Join s id members) before none h = h.0 none
 member_record lines n _ before none h = tt
 
 each_member : (lines : List ScheduleLine) (trace : List Line) → CutsNoSelf lines → EachTold lines trace → EachRecord IsMemberRow (shown trace)
@@ -303,3 +305,35 @@ each_member lines (x ∷ older) none rows = by_told (each_member lines older non
 
 pub run_members : (c : Config) (lines : List ScheduleLine) → CutsNoSelf lines → EachRecord IsMemberRow (trace_of (run_in c lines))
 run_members c lines none = let p : Courses lines (length lines) (run_in c lines) = run_courses c lines in each_member lines (run_in c lines).trace none p.course.rows
+
+-- each list that was ever joined is of sites 1 to 16
+joined_short : (lines : List ScheduleLine) (trace : List Line) → EachTold lines trace → (s : ℕ) (id : EpochId) (m : Members) → Joined s id m trace → IsShort m
+joined_short lines [] rows s id m j = absurd j
+joined_short lines (x ∷ older) rows s id m (inr j) = joined_short lines older rows.1 s id m j
+joined_short lines (x ∷ older) rows s id m (inl j) = by_told x.told rows.0 j
+  where
+    by_record : (r : Record) → AskedHere lines x.number (shown older) r → IsJoinRecord s id m r → IsShort m
+    by_record (says.Join t i n) row k = subst IsShort k.2 row.1
+    by_record _ row k = absurd k
+
+    by_told : (y : Told) → ToldRow lines x.number (shown older) y → IsJoin s id m y → IsShort m
+    by_told (Shown r) row k = by_record r row.0 k
+    by_told _ row k = absurd k
+
+pub run_short : (c : Config) (lines : List ScheduleLine) (s : ℕ) (id : EpochId) (m : Members) → Joined s id m (run_in c lines).trace → IsShort m
+run_short c lines s id m j = let p : Courses lines (length lines) (run_in c lines) = run_courses c lines in joined_short lines (run_in c lines).trace p.course.rows s id m j
+
+short_record : (lines : List ScheduleLine) (n : ℕ) (r : Record) (before : Trace) → AskedHere lines n before r → ShortRecord r
+short_record lines n (says.Join s id members) before h = h.1
+short_record lines n _ before h = tt
+
+each_short : (lines : List ScheduleLine) (trace : List Line) → EachTold lines trace → EachRecord IsShortRow (shown trace)
+each_short lines [] rows = tt
+each_short lines (x ∷ older) rows = by_told (each_short lines older rows.1) x.told rows.0
+  where
+    by_told : EachRecord IsShortRow (shown older) → (y : Told) → ToldRow lines x.number (shown older) y → EachRecord IsShortRow (with_told x.number y (shown older))
+    by_told rest (Shown r) row = (short_record lines x.number r (shown older) row.0, rest)
+    by_told rest _ row = rest
+
+pub run_lists : (c : Config) (lines : List ScheduleLine) → EachRecord IsShortRow (trace_of (run_in c lines))
+run_lists c lines = let p : Courses lines (length lines) (run_in c lines) = run_courses c lines in each_short lines (run_in c lines).trace p.course.rows

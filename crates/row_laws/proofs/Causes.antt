@@ -23,7 +23,7 @@ use Rattle.the_run.specs.Steps.{epoch_id}
 use Rattle.the_run.specs.Worlds.{World, Running, Numbered, Line, place_at, link_of, links_of}
 use Rattle.the_run.specs.Worlds.{boot_of as boot_number}
 use Rattle.the_run.specs.Runs.{is_in_no_epoch}
-use Rattle.the_run.specs.Kept.{WasSent}
+use Rattle.the_run.specs.Kept.{IsOwn, WasSent}
 use Rattle.run_laws.specs.Standing.{Standing, nowhere, standing, after_record, after_told}
 use Rattle.run_laws.specs.Naming.{Promised, Deeds, Names, DeedsOf, ViewOk, Good}
 use Rattle.run_laws.proofs.Run.{found_among, was_sent}
@@ -31,7 +31,7 @@ use Rattle.lawful_trace.specs.Places.{line_at, starts_at, initiator}
 use Rattle.lawful_trace.specs.SiteRows.{makes_leave}
 use Rattle.lawful_trace.specs.CallRows.{CallLine}
 use Rattle.row_laws.specs.Shown.{with_told, shown, trace_of}
-use Rattle.row_laws.specs.Events.{IsPoll, HasRound, IsOwnId, ListsItself, PollFact, PollsOthers, RoundFact, causes_of}
+use Rattle.row_laws.specs.Events.{IsPoll, HasRound, IsOwnId, ListsItself, FormingFact, FormingPacket, Comes, RoundFact, causes_of}
 use Rattle.row_laws.specs.ByLine.{IsLine, Gives, Delivers}
 use Rattle.row_laws.specs.Course.{Started, Polled, HasItself, StandsAs, InCourse, Caused}
 use Rattle.row_laws.proofs.Choosing.{boot_there}
@@ -88,7 +88,7 @@ poll_names K id (body.Install members) h k = absurd h
 poll_names K id body.Joined h k = absurd h
 poll_names K id _ h k = absurd h
 
-poll_from : (p : Packet) (b : Body) → IsPoll b → PollFact p b → (p.epoch.site ≡ p.from) × (p.from ≢ p.to)
+poll_from : (p : Packet) (b : Body) → IsPoll b → FormingFact p b → (p.epoch.site ≡ p.from) × (p.from ≢ p.to)
 poll_from p body.Poll h k = k
 poll_from p (body.Promise reach) h k = absurd h
 poll_from p (body.Refuse promised) h k = absurd h
@@ -96,9 +96,14 @@ poll_from p (body.Install members) h k = absurd h
 poll_from p body.Joined h k = absurd h
 poll_from p _ h k = absurd h
 
-sent_polls : (lines : List ScheduleLine) (n : ℕ) (w : World) (x : Numbered) → WasSent w x → InCourse lines n w → PollsOthers x.packet
-sent_polls lines n w x (inl a) f = found_among (λ (y : Numbered). PollsOthers y.packet) x w.sent f.polls a
-sent_polls lines n w x (inr a) f = found_among (λ (y : Numbered). PollsOthers y.packet) x w.underway f.underway a
+-- an event that needs no packet
+pub comes_own : (e : Event) → IsOwn e → Comes e
+comes_own (Receives p) own = absurd own
+comes_own _ own = tt
+
+pub sent_polls : (lines : List ScheduleLine) (n : ℕ) (w : World) (x : Numbered) → WasSent w x → InCourse lines n w → FormingPacket x.packet
+sent_polls lines n w x (inl a) f = found_among (λ (y : Numbered). FormingPacket y.packet) x w.sent f.polls a
+sent_polls lines n w x (inr a) f = found_among (λ (y : Numbered). FormingPacket y.packet) x w.underway f.underway a
 
 poll_started : (lines : List ScheduleLine) (n : ℕ) (w : World) (x : Numbered) → WasSent w x → IsPoll x.packet.body → Good w → InCourse lines n w → Started lines (trace_of w) n x.packet.epoch.site x.packet.epoch.boot
 poll_started lines n w x sent is good f = promise_started lines n x.packet.from x.packet.epoch w.trace f.ascends f.rows (poll_names (DeedsOf w.trace x.packet.from) x.packet.epoch x.packet.body is (was_sent w x sent good))
@@ -160,7 +165,7 @@ receive_caused lines n l x v w is d here sent good f = record {
   up = (f.places x.packet.to (Running v) here).0;
   leave = λ p. inr (polled p);
   promise = λ id p. promised id p;
-  join = itself lines n x.packet.to v w here f;
+  join = λ members j. (itself lines n x.packet.to v w here f members j.0, j.1);
   accept = λ process words a. absurd a;
 }
   where
@@ -186,7 +191,7 @@ tick_caused lines n m s v w here f = record {
   up = (f.places s (Running v) here).0;
   leave = λ p. absurd p;
   promise = λ id p. absurd p;
-  join = itself lines n s v w here f;
+  join = λ members j. (itself lines n s v w here f members j.0, j.1);
   accept = λ process words a. absurd a;
 }
 
@@ -214,7 +219,7 @@ call_caused lines n s process words v w is here f = record {
   up = (f.places s (Running v) here).0;
   leave = λ p. absurd p;
   promise = λ id p. absurd p;
-  join = itself lines n s v w here f;
+  join = λ members j. (itself lines n s v w here f members j.0, j.1);
   accept = λ p x a. subst (λ (q : ℕ). CallLine lines (n + 1) s q x) (sym a.0) (subst (λ (y : Call). CallLine lines (n + 1) s process y) (sym a.1) (call_line lines (n + 1) s process words is));
 }
 
@@ -247,7 +252,7 @@ part_caused lines n s v w is inside here good f = record {
   leave = λ p. inl (leaves_here lines (n + 1) s (line.Part s) is (test_own s));
   promise = λ id own. line_starts lines n s (line.Part s) v w id is
       (both_here (is_up (trace_of w) s) (is_some (epoch_of (trace_of w) s)) s (f.places s (Running v) here).0 (ap is_some (epoch_here lines n s v w here good f) ∙ some_epoch v.epoch (sym (ap is_in_no_epoch here) ∙ inside))) here f own;
-  join = itself lines n s v w here f;
+  join = λ members j. (itself lines n s v w here f members j.0, j.1);
   accept = λ process words a. absurd a;
 }
 
@@ -256,7 +261,7 @@ merge_caused lines n s v w is here f = record {
   up = (f.places s (Running v) here).0;
   leave = λ p. inl (leaves_here lines (n + 1) s (line.Merge s) is (test_own s));
   promise = λ id own. line_starts lines n s (line.Merge s) v w id is (ap (λ (b : Bool). cond b (Some s) None) (f.places s (Running v) here).0) here f own;
-  join = itself lines n s v w here f;
+  join = λ members j. (itself lines n s v w here f members j.0, j.1);
   accept = λ process words a. absurd a;
 }
 
@@ -265,7 +270,7 @@ give_caused lines n s v w is here f = record {
   up = (f.places s (Running v) here).0;
   leave = λ p. inl (leaves_here lines (n + 1) s (line.GiveUp s) is (test_own s));
   promise = λ id p. absurd p;
-  join = itself lines n s v w here f;
+  join = λ members j. (itself lines n s v w here f members j.0, j.1);
   accept = λ process words a. absurd a;
 }
 

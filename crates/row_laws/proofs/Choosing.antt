@@ -68,6 +68,16 @@ boot_there f (suc place) low high = placed f 1 place all_sites sixteen (omega (a
     next : (n : ℕ) → 1 + n ≡ suc n
     next n = omega arith
 
+beyond : (f : ℕ → ℕ) (place : ℕ) (xs : List ℕ) → length xs ≤ place → get_or (map f xs) place 0 ≡ 0
+beyond f place [] h = refl
+beyond f zero (x ∷ xs) h = absurd (omega (arith, h))
+beyond f (suc place) (x ∷ xs) h = beyond f place xs (omega (arith, h))
+
+-- any other number has none
+pub boot_nowhere : (f : ℕ → ℕ) (s : ℕ) → 17 ≤ s → boot_in (map f all_sites) s ≡ 0
+boot_nowhere f zero h = refl
+boot_nowhere f (suc place) h = beyond f place all_sites (omega (arith, h))
+
 -- ---- what a site reaches ----
 
 abbrev reach_among : Links → List ℕ → Sites

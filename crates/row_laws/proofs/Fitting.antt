@@ -1,11 +1,12 @@
 -- The lines of a schedule are in range for its cluster.
-use Rattle.std.proofs.Common.{◌≡◌, ℕ, zero, suc, Bool, true, false, ◌||◌, ◌&&◌, not, List, [], ◌∷◌, ◌++◌, slice_index_or, refl, sym, ◌∙◌, ap, subst, append_assoc, arith}
+use Rattle.std.proofs.Common.{◌≡◌, ◌≤◌, ℕ, zero, suc, ◌==◌, Bool, true, false, ◌||◌, ◌&&◌, not, List, [], ◌∷◌, ◌++◌, slice_index_or, refl, sym, ◌∙◌, ap, subst, append_assoc, arith}
 use Rattle.std.proofs.lemmas.Bool.Decides.{nat_tests}
 use Rattle.std.proofs.lemmas.List.Sums.{fold-append}
 use Rattle.locus_ids.specs.declared.config.Config.{Config}
 use Rattle.schedule_lines.specs.Cluster.{no_cluster, with_line, config_of, is_whole, may_join}
-use Rattle.schedule_lines.specs.Ranges.{are_two_sites, fits_event}
+use Rattle.schedule_lines.specs.Ranges.{is_between, are_two_sites, fits_event}
 use Rattle.schedule_lines.specs.Schedule.{is_event, has_begun, MayStand, MayFollow, AreInOrder}
+use Rattle.schedule_lines.specs.declared.header.HeaderLine.TheVariants as header
 use Rattle.schedule_lines.specs.declared.line.Line.{Line as LineWords}
 use Rattle.schedule_lines.specs.declared.line.Line.TheVariants as line
 use Rattle.schedule_lines.specs.declared.line.ScheduleLine.{ScheduleLine}
@@ -80,3 +81,26 @@ two_sites n s h = grind (arith, nat_tests)
 -- a circuit is between two sites
 pub cuts_none : (c : Config) (lines : List ScheduleLine) → LinesFit c lines → CutsNoSelf lines
 cuts_none c lines fit n s is = two_sites c.sites s (fit n (line.Down s s) is)
+
+-- ---- how many sites ----
+
+few_line : (earlier : List ScheduleLine) (l : ScheduleLine) → MayStand earlier l → (config_of earlier).sites ≤ 16 → (with_line (config_of earlier) l).sites ≤ 16
+few_line earlier (Header (header.Sites count)) h few = within ((config_of earlier).sites == 0) (parts (not (has_begun earlier)) ((config_of earlier).sites == 0 && is_between 1 16 count) h).1
+  where
+    within : (b : Bool) → (b && is_between 1 16 count) ≡ true → count ≤ 16
+    within true e = grind (arith, nat_tests)
+    within false e = absurd (never e)
+few_line earlier (Header (header.Group group set)) h few = few
+few_line earlier (Header (header.Mount group name)) h few = few
+few_line earlier Passed h few = few
+few_line earlier (Event e) h few = few
+
+few_sites : (earlier later : List ScheduleLine) → MayFollow earlier later → (config_of earlier).sites ≤ 16 → (config_of (earlier ++ later)).sites ≤ 16
+few_sites earlier [] h few = subst (λ (c : Config). c.sites ≤ 16) (sym (fold-append with_line no_cluster earlier [])) few
+few_sites earlier (l ∷ later) h few =
+    subst (λ (ls : List ScheduleLine). (config_of ls).sites ≤ 16) (append_assoc earlier (l ∷ []) later)
+    (few_sites (earlier ++ l ∷ []) later h.1 (subst (λ (c : Config). c.sites ≤ 16) (sym (config_more earlier l)) (few_line earlier l h.0 few)))
+
+-- no cluster has more sites than there may be
+pub schedule_few : (lines : List ScheduleLine) → AreInOrder lines → (config_of lines).sites ≤ 16
+schedule_few lines h = few_sites [] lines h (omega arith)

@@ -19,7 +19,7 @@ use Rattle.role_steps.specs.Views.{Frame, SiteView, Told, Shown, Promises, Outco
 use Rattle.role_steps.specs.Using.{reply_record}
 use Rattle.role_steps.specs.Reports.{new_table}
 use Rattle.role_steps.specs.Storage.{report_of}
-use Rattle.role_steps.specs.Epochs.{is_epoch_below, frame_in, leaves_of, leaves, promises, promised_view, reached, poll_packet, polled_sites, polls, round_id, begins_round, starts_merge, boots_where, merge_boot, part_boot, starts_part_of, starts_part, promise_packet, refuse_packet, on_poll, counts_promise, with_promise, on_promise_of, on_refuse_of, own_groups, is_sync_site, joined_view, report_packets, all_reports, joins, may_install, is_in, joined_packet, on_install, on_joined, left_boot, is_polled, passed_over, has_promised, unanswered, chosen_members, chosen_set, others_of, install_packet, installs_all, decides_if, passes_over_of}
+use Rattle.role_steps.specs.Epochs.{is_epoch_below, frame_in, leaves_of, leaves, promises, promised_view, reached, poll_packet, polled_sites, polls, round_id, begins_round, starts_merge, boots_where, merge_boot, part_boot, starts_part_of, starts_part, promise_packet, refuse_packet, on_poll, counts_promise, with_promise, on_promise_of, on_refuse_of, own_groups, is_sync_site, joined_view, report_packets, all_reports, joins, may_install, is_in, joined_packet, on_install, on_joined, left_boot, is_polled, passed_over, has_promised, unanswered, member_boot, chosen_members, chosen_set, others_of, install_packet, installs_all, decides_if, passes_over_of}
 use Rattle.role_steps.specs.declared.rounds.InEpoch.{InEpoch}
 use Rattle.role_steps.specs.declared.rounds.Promise.{Promise}
 use Rattle.role_steps.specs.declared.rounds.Round.{Round}
@@ -27,9 +27,9 @@ use Rattle.role_steps.specs.declared.users.WaitingCall.{WaitingCall}
 use Rattle.role_steps.proofs.Sending.{every_append, every_cond, every_map, every_flat_map}
 use Rattle.the_run.proofs.Boots.{every_weaker}
 use Rattle.row_laws.specs.Inward.{Inward, InwardPacket, RoleRecord, RoleTold, LooksInward, Indoors}
-use Rattle.row_laws.specs.Events.{IsOwnId, HasRound, ListsItself, PromisesRise, Causes, SiteRecord, SiteTold, PollFact, PollsOthers, RoundFact, ViewForms, Forms}
+use Rattle.row_laws.specs.Events.{IsOwnId, HasRound, ListsItself, IsShort, PromisesRise, Causes, SiteRecord, SiteTold, FormingFact, FormingPacket, RoundFact, ListIsShort, ViewForms, Forms}
 use Rattle.row_laws.proofs.SyncInward.{no_first, sync_plain}
-use Rattle.row_laws.proofs.Choosing.{decided, row_rises, passed_rise}
+use Rattle.row_laws.proofs.Choosing.{boot_nowhere, decided, row_rises, passed_rise}
 
 -- ---- what roles do ----
 
@@ -44,17 +44,18 @@ role_told me k (Shown r) h = role_record me k r h
 role_told me k (Promises t id reach) h = absurd h
 role_told me k _ h = tt
 
-poll_inward : (p : Packet) (b : Body) → Inward b → PollFact p b
+poll_inward : (p : Packet) (b : Body) → Inward b → FormingFact p b
 poll_inward p body.Poll h = absurd h
+poll_inward p (body.Install members) h = absurd h
 poll_inward p _ h = tt
 
-pub inward_polls : (ps : List Packet) → Every InwardPacket ps → Every PollsOthers ps
-inward_polls ps h = every_weaker InwardPacket PollsOthers ps (λ p. poll_inward p p.body) h
+pub inward_polls : (ps : List Packet) → Every InwardPacket ps → Every FormingPacket ps
+inward_polls ps h = every_weaker InwardPacket FormingPacket ps (λ p. poll_inward p p.body) h
 
 pub indoors_forms : (me boot : ℕ) (k : Causes) (v : SiteView) (o : Outcome SiteView) → Indoors v o → v.boot ≡ boot → ViewForms me v → Forms me boot k o
 indoors_forms me boot k v o i here h = record {
   boot_is = i.boot ∙ here;
-  view = record { round = subst (λ (b : ℕ). RoundFact me b o.view.round) (sym i.boot) (subst (RoundFact me v.boot) (sym i.round) h.round); tables = i.tables };
+  view = record { round = subst (λ (b : ℕ). RoundFact me b o.view.round) (sym i.boot) (subst (RoundFact me v.boot) (sym i.round) h.round); tables = i.tables; epoch = subst ListIsShort (sym i.epoch) h.epoch };
   told = every_weaker RoleTold (SiteTold me k) o.told (role_told me k) i.inwardly.1;
   sent = inward_polls o.sent i.inwardly.0;
   written = i.inwardly.2;
@@ -65,7 +66,7 @@ indoors_forms me boot k v o i here h = record {
 pub quiet_forms : (me boot : ℕ) (k : Causes) (v : SiteView) → v.boot ≡ boot → ViewForms me v → Forms me boot k (quiet v)
 quiet_forms me boot k v here h = record { boot_is = here; view = h; told = tt; sent = tt; written = tt }
 
-sends_forms : (me boot : ℕ) (k : Causes) (ps : List Packet) (v : SiteView) → v.boot ≡ boot → ViewForms me v → Every PollsOthers ps → Forms me boot k (sends ps v)
+sends_forms : (me boot : ℕ) (k : Causes) (ps : List Packet) (v : SiteView) → v.boot ≡ boot → ViewForms me v → Every FormingPacket ps → Forms me boot k (sends ps v)
 sends_forms me boot k ps v here h s = record { boot_is = here; view = h; told = tt; sent = s; written = tt }
 
 pub joined_forms : (me boot : ℕ) (k : Causes) (o p : Outcome SiteView) → Forms me boot k o → Forms me boot k p → Forms me boot k (joined_to o p)
@@ -73,7 +74,7 @@ joined_forms me boot k o p h g = record {
   boot_is = g.boot_is;
   view = g.view;
   told = every_append (SiteTold me k) o.told p.told h.told g.told;
-  sent = every_append PollsOthers o.sent p.sent h.sent g.sent;
+  sent = every_append FormingPacket o.sent p.sent h.sent g.sent;
   written = no_first o.written p.written h.written g.written;
 }
 
@@ -91,7 +92,7 @@ pub leaves_of_forms : (me boot : ℕ) (k : Causes) (e : Option InEpoch) (v : Sit
 leaves_of_forms me boot k None v l here h = quiet_forms me boot k v here h
 leaves_of_forms me boot k (Some e) v l here h = record {
   boot_is = here;
-  view = record { round = h.round; tables = tt };
+  view = record { round = h.round; tables = tt; epoch = tt };
   told = ((refl, l tt), every_map (SiteTold me k) (λ (w : WaitingCall). reply_record me v.boot w _) v.users.waiting (λ w. tt));
   sent = tt;
   written = tt;
@@ -100,7 +101,7 @@ leaves_of_forms me boot k (Some e) v l here h = record {
 promises_forms : (me boot : ℕ) (k : Causes) (id : EpochId) (reach : Sites) (v : SiteView) → (IsIn v.epoch → k.leave) → k.promise id → v.boot ≡ boot → ViewForms me v → Forms me boot k (promises me id reach v)
 promises_forms me boot k id reach v l g here h =
     then_forms me boot k (leaves me v) (λ now. tells (Promises me id reach ∷ []) (promised_view id now)) (leaves_of_forms me boot k v.epoch v l here h)
-    (λ b f. record { boot_is = b; view = record { round = tt; tables = f.tables }; told = ((refl, g), tt); sent = tt; written = tt })
+    (λ b f. record { boot_is = b; view = record { round = tt; tables = f.tables; epoch = f.epoch }; told = ((refl, g), tt); sent = tt; written = tt })
 
 -- ---- polls ----
 
@@ -125,16 +126,16 @@ others_polled me polled none = every_weaker (λ (s : ℕ). not (boot_in polled.b
     (λ s e same. not_zero (boot_in polled.boot s) e (subst (λ (t : ℕ). boot_in polled.boot t ≡ 0) same none))
     (passed_all (λ s. not (boot_in polled.boot s == 0)) all_sites)
 
-polls_others : (me boot : ℕ) (id : EpochId) (polled : Links) (xs : List ℕ) → id.site ≡ me → Every (λ (s : ℕ). me ≢ s) xs → Every PollsOthers (map (poll_packet me boot id polled) xs)
-polls_others me boot id polled xs own h = mapped_all (λ (s : ℕ). me ≢ s) PollsOthers (poll_packet me boot id polled) xs (λ s ne. (own, ne)) h
+polls_others : (me boot : ℕ) (id : EpochId) (polled : Links) (xs : List ℕ) → id.site ≡ me → Every (λ (s : ℕ). me ≢ s) xs → Every FormingPacket (map (poll_packet me boot id polled) xs)
+polls_others me boot id polled xs own h = mapped_all (λ (s : ℕ). me ≢ s) FormingPacket (poll_packet me boot id polled) xs (λ s ne. (own, ne)) h
 
-pub round_polls : (me boot : ℕ) (r : Round) → RoundFact me boot (Some r) → Every PollsOthers (map (poll_packet me boot r.id r.polled) (unanswered r))
+pub round_polls : (me boot : ℕ) (r : Round) → RoundFact me boot (Some r) → Every FormingPacket (map (poll_packet me boot r.id r.polled) (unanswered r))
 round_polls me boot r h = polls_others me boot r.id r.polled (unanswered r) h.0.0 (still_all (λ (s : ℕ). me ≢ s) (λ s. not (has_promised r s)) (polled_sites r.polled) (others_polled me r.polled h.1))
 
 polls_forms : (me boot : ℕ) (k : Causes) (id : EpochId) (polled : Links) (v : SiteView) → IsOwnId me boot id → boot_in polled.boot me ≡ 0 → v.boot ≡ boot → ViewForms me v → Forms me boot k (polls me id polled v)
 polls_forms me boot k id polled v own none here h = record {
   boot_is = here;
-  view = record { round = ((own.0, own.1 ∙ sym here), none, tt); tables = h.tables };
+  view = record { round = ((own.0, own.1 ∙ sym here), none, tt); tables = h.tables; epoch = h.epoch };
   told = tt;
   sent = polls_others me v.boot id polled (polled_sites polled) own.0 (others_polled me polled none);
   written = tt;
@@ -203,12 +204,12 @@ on_poll_forms me boot k links from from_boot id v l g here h =
     elim (is_epoch_below v.promised id) as (λ t. Forms me boot k (elim t [ true ↦ and_then (promises me id (reached links) v) (λ now. sends (promise_packet me links from from_boot id now) now) | false ↦ sends (cond (same_epoch id v.promised && not v.installed) (promise_packet me links from from_boot id v) (refuse_packet me from from_boot id v)) v ])) [
       | true ↦ then_forms me boot k (promises me id (reached links) v) (λ now. sends (promise_packet me links from from_boot id now) now) (promises_forms me boot k id (reached links) v (λ i. l) g here h)
           (λ b f. sends_forms me boot k (promise_packet me links from from_boot id (promises me id (reached links) v).view) (promises me id (reached links) v).view b f (tt, tt))
-      | false ↦ sends_forms me boot k _ v here h (every_cond PollsOthers (same_epoch id v.promised && not v.installed) (promise_packet me links from from_boot id v) (refuse_packet me from from_boot id v) (tt, tt) (tt, tt))
+      | false ↦ sends_forms me boot k _ v here h (every_cond FormingPacket (same_epoch id v.promised && not v.installed) (promise_packet me links from from_boot id v) (refuse_packet me from from_boot id v) (tt, tt) (tt, tt))
     ]
 
 -- the round goes on under the same id, among the same sites
 goes_on : (me boot : ℕ) (k : Causes) (q : Round) (v : SiteView) → RoundFact me v.boot (Some q) → v.boot ≡ boot → ViewForms me v → Forms me boot k (quiet (record v { round = Some q }))
-goes_on me boot k q v own here h = record { boot_is = here; view = record { round = own; tables = h.tables }; told = tt; sent = tt; written = tt }
+goes_on me boot k q v own here h = record { boot_is = here; view = record { round = own; tables = h.tables; epoch = h.epoch }; told = tt; sent = tt; written = tt }
 
 either_round : (me boot : ℕ) (b : Bool) (x y : Round) → RoundFact me boot (Some x) → RoundFact me boot (Some y) → RoundFact me boot (Some (cond b x y))
 either_round me boot true x y h g = h
@@ -246,20 +247,20 @@ tables_low (g ∷ gs) h = ((tt, h.0), tables_low gs h.1)
 pub joined_tables : (c : Config) (me : ℕ) (m : Members) → Every LooksInward (map new_table (filter (is_sync_site c me m) (own_groups c me)))
 joined_tables c me m = tables_low (filter (is_sync_site c me m) (own_groups c me)) (still_all (λ (g : ℕ). g < 16) (is_sync_site c me m) (own_groups c me) (groups_low c me))
 
-joins_forms : (me boot : ℕ) (k : Causes) (c : Config) (id : EpochId) (m : Members) (v : SiteView) → k.join m → v.boot ≡ boot → ViewForms me v → Forms me boot k (joins c me id m v)
-joins_forms me boot k c id m v j here h = record {
+joins_forms : (me boot : ℕ) (k : Causes) (c : Config) (id : EpochId) (m : Members) (v : SiteView) → k.join m → IsShort m → v.boot ≡ boot → ViewForms me v → Forms me boot k (joins c me id m v)
+joins_forms me boot k c id m v j short here h = record {
   boot_is = here;
-  view = record { round = tt; tables = joined_tables c me m };
+  view = record { round = tt; tables = joined_tables c me m; epoch = short };
   told = ((refl, j), tt);
   sent = inward_polls (all_reports (frame_in c me v.boot (record { id = id; members = m })) (joined_view c me id m v)) (reports_inward (frame_in c me v.boot (record { id = id; members = m })) (joined_view c me id m v));
   written = tt;
 }
 
-pub on_install_forms : (me boot : ℕ) (k : Causes) (c : Config) (from from_boot : ℕ) (id : EpochId) (m : Members) (v : SiteView) → (boot_in m.boot me ≡ boot → k.join m) → v.boot ≡ boot → ViewForms me v → Forms me boot k (on_install c me from from_boot id m v)
-on_install_forms me boot k c from from_boot id m v j here h =
+pub on_install_forms : (me boot : ℕ) (k : Causes) (c : Config) (from from_boot : ℕ) (id : EpochId) (m : Members) (v : SiteView) → (boot_in m.boot me ≡ boot → k.join m) → IsShort m → v.boot ≡ boot → ViewForms me v → Forms me boot k (on_install c me from from_boot id m v)
+on_install_forms me boot k c from from_boot id m v j short here h =
     (elim (may_install me id m v) as (λ t. may_install me id m v ≡ t → Forms me boot k (elim t [ true ↦ and_then (joins c me id m v) (λ now. sends (joined_packet me from from_boot id now) now) | false ↦ sends (cond (is_in id v.epoch) (joined_packet me from from_boot id v) []) v ])) [
-      | true ↦ λ t. then_forms me boot k (joins c me id m v) (λ now. sends (joined_packet me from from_boot id now) now) (joins_forms me boot k c id m v (j (listed v.boot t ∙ here)) here h) (λ b f. sends_forms me boot k (joined_packet me from from_boot id (joins c me id m v).view) (joins c me id m v).view b f (tt, tt))
-      | false ↦ λ t. sends_forms me boot k _ v here h (every_cond PollsOthers (is_in id v.epoch) (joined_packet me from from_boot id v) [] (tt, tt) tt)
+      | true ↦ λ t. then_forms me boot k (joins c me id m v) (λ now. sends (joined_packet me from from_boot id now) now) (joins_forms me boot k c id m v (j (listed v.boot t ∙ here)) short here h) (λ b f. sends_forms me boot k (joined_packet me from from_boot id (joins c me id m v).view) (joins c me id m v).view b f (tt, tt))
+      | false ↦ λ t. sends_forms me boot k _ v here h (every_cond FormingPacket (is_in id v.epoch) (joined_packet me from from_boot id v) [] (tt, tt) tt)
     ]) refl
   where
     listed : (boot : ℕ) → (same_epoch id v.promised && (not v.installed && (boot_in m.boot me == boot))) ≡ true → boot_in m.boot me ≡ boot
@@ -268,25 +269,28 @@ on_install_forms me boot k c from from_boot id m v j here h =
 pub on_joined_forms : (me boot : ℕ) (k : Causes) (from : ℕ) (id : EpochId) (v : SiteView) → v.boot ≡ boot → ViewForms me v → Forms me boot k (on_joined from id v)
 on_joined_forms me boot k from id v here h =
     elim (is_in id v.epoch) as (λ b. Forms me boot k (quiet (cond b (record v { installs = without_row (λ s. s) from v.installs }) v))) [
-      | true ↦ record { boot_is = here; view = record { round = h.round; tables = h.tables }; told = tt; sent = tt; written = tt }
+      | true ↦ record { boot_is = here; view = record { round = h.round; tables = h.tables; epoch = h.epoch }; told = tt; sent = tt; written = tt }
       | false ↦ quiet_forms me boot k v here h
     ]
 
 -- ---- the decision ----
 
-installs_forms : (me boot : ℕ) (k : Causes) (id : EpochId) (m : Members) (v : SiteView) → v.boot ≡ boot → ViewForms me v → Forms me boot k (installs_all me id m v)
-installs_forms me boot k id m v here h = record {
+installs_forms : (me boot : ℕ) (k : Causes) (id : EpochId) (m : Members) (v : SiteView) → IsShort m → v.boot ≡ boot → ViewForms me v → Forms me boot k (installs_all me id m v)
+installs_forms me boot k id m v short here h = record {
   boot_is = here;
-  view = record { round = h.round; tables = h.tables };
+  view = record { round = h.round; tables = h.tables; epoch = h.epoch };
   told = tt;
-  sent = every_map PollsOthers (install_packet me v.boot id m) (others_of me m) (λ s. tt);
+  sent = every_map FormingPacket (install_packet me v.boot id m) (others_of me m) (λ s. short);
   written = tt;
 }
+
+chosen_short : (me boot : ℕ) (q : Round) (set : Sites) → IsShort (chosen_members me boot q set)
+chosen_short me boot q set t high = boot_nowhere (member_boot me boot q set) t high
 
 decides_if_forms : (me boot : ℕ) (k : Causes) (c : Config) (links : Links) (q : Round) (xs : List ℕ) (v : SiteView) → k.join (chosen_members me v.boot q (chosen_set me links q)) → RoundFact me v.boot (Some q) → v.boot ≡ boot → ViewForms me v → Forms me boot k (decides_if c me links q xs v)
 decides_if_forms me boot k c links q [] v j own here h =
     let m : Members = chosen_members me v.boot q (chosen_set me links q) in
-    then_forms me boot k (joins c me q.id m v) (installs_all me q.id m) (joins_forms me boot k c q.id m v j here h) (λ b f. installs_forms me boot k q.id m (joins c me q.id m v).view b f)
+    then_forms me boot k (joins c me q.id m v) (installs_all me q.id m) (joins_forms me boot k c q.id m v j (chosen_short me v.boot q (chosen_set me links q)) here h) (λ b f. installs_forms me boot k q.id m (joins c me q.id m v).view (chosen_short me v.boot q (chosen_set me links q)) b f)
 decides_if_forms me boot k c links q (x ∷ xs) v j own here h = goes_on me boot k q v own here h
 
 -- the sites of the promises that count were polled
@@ -297,12 +301,12 @@ polled_site polled p e = from_one p.site refl e
     from_one zero same e = absurd (cc)
     from_one (suc s) same e = omega arith
 
-pub passes_over_forms : (me boot : ℕ) (k : Causes) (c : Config) (links : Links) (o : Option Round) (v : SiteView) → ((m : Members) → ListsItself me boot links m → k.join m) → v.round ≡ o → v.boot ≡ boot → ViewForms me v → Forms me boot k (passes_over_of c me links o v)
+pub passes_over_forms : (me boot : ℕ) (k : Causes) (c : Config) (links : Links) (o : Option Round) (v : SiteView) → ((m : Members) → ListsItself me boot links m → IsShort m → k.join m) → v.round ≡ o → v.boot ≡ boot → ViewForms me v → Forms me boot k (passes_over_of c me links o v)
 passes_over_forms me boot k c links None v j e here h = quiet_forms me boot k v here h
 passes_over_forms me boot k c links (Some r) v j e here h =
     let own : RoundFact me v.boot (Some r) = subst (RoundFact me v.boot) e h.round in
     let q : Round = passed_over links r in
     let rise : PromisesRise 0 q.promises × PromisesRise 1 q.promises = passed_rise (is_polled q.polled) 0 r.promises (polled_site q.polled) own.2 in
     decides_if_forms me boot k c links q (unanswered q) v
-    (j (chosen_members me v.boot q (chosen_set me links q)) (subst (λ (b : ℕ). ListsItself me b links (chosen_members me v.boot q (chosen_set me links q))) here (decided me v.boot links q rise.1)))
+    (j (chosen_members me v.boot q (chosen_set me links q)) (subst (λ (b : ℕ). ListsItself me b links (chosen_members me v.boot q (chosen_set me links q))) here (decided me v.boot links q rise.1)) (chosen_short me v.boot q (chosen_set me links q)))
     (own.0, none_where (left_boot links r.polled) me (cond_none (boot_in links.boot me == boot_in r.polled.boot me) (boot_in r.polled.boot me) own.1), rise.0) here h

@@ -88,7 +88,7 @@ is_new s id older first =
 
 -- ---- its list is that of the others ----
 
-abbrev Listed : EpochId → List Line → Option Members → Type 0
+abbrev pub Listed : EpochId → List Line → Option Members → Type 0
 Listed id older o = (m : Members) → o ≡ Some m → (t : ℕ) × Joined t id m older
 
 record_listed : (n : ℕ) (id : EpochId) (r : Record) (older : List Line) → Listed id older (members_of (shown older) id) → Listed id (record { number = n; told = Shown r } ∷ older) (members_of (record { line = n; what = r } ∷ shown older) id)
@@ -103,7 +103,7 @@ told_listed : (n : ℕ) (id : EpochId) (x : Told) (older : List Line) → Listed
 told_listed n id (Shown r) older h = record_listed n id r older h
 told_listed n id _ older h = λ k f. (let g : (t : ℕ) × Joined t id k older = h k f in (g.0, inr g.1))
 
-listed_before : (id : EpochId) (trace : List Line) → Listed id trace (members_of (shown trace) id)
+pub listed_before : (id : EpochId) (trace : List Line) → Listed id trace (members_of (shown trace) id)
 listed_before id [] = λ m e. absurd (none_some m e)
 listed_before id (x ∷ older) = told_listed x.number id x.told older (listed_before id older)
 

@@ -23,7 +23,7 @@ use Rattle.the_run.proofs.Boots.{every_weaker}
 use Rattle.the_run.proofs.StepSends.{order_sent}
 use Rattle.run_laws.specs.Naming.{Deeds, ViewOk}
 use Rattle.row_laws.specs.Inward.{InwardPacket, RoleTold, LooksInward, Indoors}
-use Rattle.row_laws.specs.Events.{IsPoll, HasRound, ListsItself, Causes, SiteTold, PollsOthers, RoundFact, ViewForms, Forms, causes_of}
+use Rattle.row_laws.specs.Events.{IsPoll, HasRound, ListsItself, IsShort, Causes, SiteTold, FormingFact, FormingPacket, Comes, RoundFact, ListIsShort, ViewForms, Forms, causes_of}
 use Rattle.row_laws.proofs.SyncInward.{no_first, sync_repeats_plain}
 use Rattle.row_laws.proofs.RolesInward.{store_repeats_plain, pull_repeats_plain, users_repeats_plain, on_call_rest}
 use Rattle.row_laws.proofs.SitesInward.{adopts_of_indoors, tries_indoors, mends_of_indoors, framed_indoors, quiet_indoors}
@@ -40,12 +40,12 @@ some_round K v (Some x) here h r = (h.waits (h.round_is x here).1).0
 
 -- ---- the end of an event ----
 
-pub ends_forms : (me boot : ℕ) (k : Causes) (c : Config) (links : Links) (v : SiteView) → ((m : Members) → ListsItself me boot links m → k.join m) → v.boot ≡ boot → ViewForms me v → Forms me boot k (ends_event c me links v)
+pub ends_forms : (me boot : ℕ) (k : Causes) (c : Config) (links : Links) (v : SiteView) → ((m : Members) → ListsItself me boot links m → IsShort m → k.join m) → v.boot ≡ boot → ViewForms me v → Forms me boot k (ends_event c me links v)
 ends_forms me boot k c links v j here h =
     then_forms me boot k (passes_over c me links v) (λ now. starts_mends_of c me now.epoch now) (passes_over_forms me boot k c links v.round v j refl here h)
     (λ b f. let now : SiteView = (passes_over c me links v).view in indoors_forms me boot k now (starts_mends_of c me now.epoch now) (mends_of_indoors c me now.epoch now f.tables) b f)
 
-whole_forms : (me boot : ℕ) (k : Causes) (c : Config) (links : Links) (o : Outcome SiteView) (tries : SiteView → Outcome SiteView) → ((m : Members) → ListsItself me boot links m → k.join m) → Forms me boot k o → ((u : SiteView) → Every LooksInward u.tables → Indoors u (tries u)) → Forms me boot k (whole c me links o tries)
+whole_forms : (me boot : ℕ) (k : Causes) (c : Config) (links : Links) (o : Outcome SiteView) (tries : SiteView → Outcome SiteView) → ((m : Members) → ListsItself me boot links m → IsShort m → k.join m) → Forms me boot k o → ((u : SiteView) → Every LooksInward u.tables → Indoors u (tries u)) → Forms me boot k (whole c me links o tries)
 whole_forms me boot k c links o tries j h t =
     let a : Outcome SiteView = tries o.view in
     let g : Forms me boot k a = indoors_forms me boot k o.view a (t o.view h.view.tables) h.boot_is h.view in
@@ -55,7 +55,7 @@ whole_forms me boot k c links o tries j h t =
       boot_is = e.boot_is;
       view = e.view;
       told = every_append (SiteTold me k) a.told (o.told ++ last.told) g.told (every_append (SiteTold me k) o.told last.told h.told e.told);
-      sent = every_append PollsOthers a.sent (in_order (o.sent ++ last.sent)) g.sent (order_sent PollsOthers (o.sent ++ last.sent) (every_append PollsOthers o.sent last.sent h.sent e.sent));
+      sent = every_append FormingPacket a.sent (in_order (o.sent ++ last.sent)) g.sent (order_sent FormingPacket (o.sent ++ last.sent) (every_append FormingPacket o.sent last.sent h.sent e.sent));
       written = no_first a.written _ g.written (no_first o.written last.written h.written e.written);
     }
 
@@ -69,26 +69,26 @@ inside_inward f e v =
     (every_append InwardPacket (in_order (pull_repeats f v.pulls)) _ (order_sent InwardPacket (pull_repeats f v.pulls) (pull_repeats_plain f v.pulls))
     (order_sent InwardPacket (flat_map (sync_repeats f) v.tables) (every_flat_map InwardPacket (sync_repeats f) v.tables (sync_repeats_plain f))))))
 
-polls_again : (me : ℕ) (v : SiteView) (o : Option Round) → v.round ≡ o → ViewForms me v → Every PollsOthers (poll_repeats me v o)
+polls_again : (me : ℕ) (v : SiteView) (o : Option Round) → v.round ≡ o → ViewForms me v → Every FormingPacket (poll_repeats me v o)
 polls_again me v None e h = tt
 polls_again me v (Some r) e h = round_polls me v.boot r (subst (RoundFact me v.boot) e h.round)
 
-repeats_form : (c : Config) (me : ℕ) (o : Option InEpoch) (v : SiteView) → ViewForms me v → Every PollsOthers (repeats_of c me o v)
-repeats_form c me None v h = order_sent PollsOthers (poll_repeats me v v.round) (polls_again me v v.round refl h)
-repeats_form c me (Some e) v h =
-    every_append PollsOthers (in_order (poll_repeats me v v.round ++ install_repeats me v e)) (repeats_inside (frame_in c me v.boot e) e v)
-    (order_sent PollsOthers (poll_repeats me v v.round ++ install_repeats me v e) (every_append PollsOthers (poll_repeats me v v.round) (install_repeats me v e) (polls_again me v v.round refl h) (every_map PollsOthers (install_packet me v.boot e.id e.members) v.installs (λ s. tt))))
+repeats_form : (c : Config) (me : ℕ) (o : Option InEpoch) (v : SiteView) → ListIsShort o → ViewForms me v → Every FormingPacket (repeats_of c me o v)
+repeats_form c me None v short h = order_sent FormingPacket (poll_repeats me v v.round) (polls_again me v v.round refl h)
+repeats_form c me (Some e) v short h =
+    every_append FormingPacket (in_order (poll_repeats me v v.round ++ install_repeats me v e)) (repeats_inside (frame_in c me v.boot e) e v)
+    (order_sent FormingPacket (poll_repeats me v v.round ++ install_repeats me v e) (every_append FormingPacket (poll_repeats me v v.round) (install_repeats me v e) (polls_again me v v.round refl h) (every_map FormingPacket (install_packet me v.boot e.id e.members) v.installs (λ s. short))))
     (inward_polls _ (inside_inward (frame_in c me v.boot e) e v))
 
 -- ---- a packet ----
 
-takes_forms : (K : Deeds) (me : ℕ) (c : Config) (links : Links) (p : Packet) (x : Body) (v : SiteView) → p.body ≡ x → ViewOk K v → ViewForms me v → Forms me v.boot (causes_of me links v (Receives p)) (takes c me links p x v)
-takes_forms K me c links p body.Poll v is ok h = on_poll_forms me v.boot (causes_of me links v (Receives p)) links p.from p.from_boot p.epoch v (subst IsPoll (sym is) tt) (inl (subst IsPoll (sym is) tt, refl)) refl h
-takes_forms K me c links p (body.Promise reach) v is ok h = on_promise_forms me v.boot _ p.from p.from_boot p.epoch reach v.round v refl refl h
-takes_forms K me c links p (body.Refuse promised) v is ok h = on_refuse_forms me v.boot (causes_of me links v (Receives p)) links p.epoch promised v.round v (λ r i. absurd (none_is_in v.epoch (some_round K v v.round refl ok r) i)) (λ r id own. inr (r, own)) refl refl h
-takes_forms K me c links p (body.Install members) v is ok h = on_install_forms me v.boot (causes_of me links v (Receives p)) c p.from p.from_boot p.epoch members v (λ e high same. e) refl h
-takes_forms K me c links p body.Joined v is ok h = on_joined_forms me v.boot _ p.from p.epoch v refl h
-takes_forms K me c links p _ v is ok h = indoors_forms me v.boot _ v (takes_framed c me p v.epoch v) (framed_indoors c me p v.epoch v h.tables) refl h
+takes_forms : (K : Deeds) (me : ℕ) (c : Config) (links : Links) (p : Packet) (x : Body) (v : SiteView) → p.body ≡ x → FormingFact p x → ViewOk K v → ViewForms me v → Forms me v.boot (causes_of me links v (Receives p)) (takes c me links p x v)
+takes_forms K me c links p body.Poll v is comes ok h = on_poll_forms me v.boot (causes_of me links v (Receives p)) links p.from p.from_boot p.epoch v (subst IsPoll (sym is) tt) (inl (subst IsPoll (sym is) tt, refl)) refl h
+takes_forms K me c links p (body.Promise reach) v is comes ok h = on_promise_forms me v.boot _ p.from p.from_boot p.epoch reach v.round v refl refl h
+takes_forms K me c links p (body.Refuse promised) v is comes ok h = on_refuse_forms me v.boot (causes_of me links v (Receives p)) links p.epoch promised v.round v (λ r i. absurd (none_is_in v.epoch (some_round K v v.round refl ok r) i)) (λ r id own. inr (r, own)) refl refl h
+takes_forms K me c links p (body.Install members) v is comes ok h = on_install_forms me v.boot (causes_of me links v (Receives p)) c p.from p.from_boot p.epoch members v (λ e. (λ high same. e, comes)) comes refl h
+takes_forms K me c links p body.Joined v is comes ok h = on_joined_forms me v.boot _ p.from p.epoch v refl h
+takes_forms K me c links p _ v is comes ok h = indoors_forms me v.boot _ v (takes_framed c me p v.epoch v) (framed_indoors c me p v.epoch v h.tables) refl h
 
 -- ---- the step ----
 
@@ -98,7 +98,7 @@ call_forms c me process links words v h =
     let rest : _ = on_call_rest (call_frame c me v.boot v.epoch) (epoch_id v.epoch) process words v.users in
     record {
       boot_is = refl;
-      view = record { round = h.round; tables = h.tables };
+      view = record { round = h.round; tables = h.tables; epoch = h.epoch };
       told = (inr (refl_of v.epoch, (refl, refl)), every_weaker RoleTold (SiteTold me k) _ (role_told me k) rest.1);
       sent = inward_polls _ rest.0;
       written = rest.2;
@@ -108,26 +108,26 @@ call_forms c me process links words v h =
     refl_of None = refl
     refl_of (Some e) = refl
 
-pub step_forms : (K : Deeds) (me : ℕ) (c : Config) (links : Links) (v : SiteView) (e : Event) → ViewOk K v → ViewForms me v → Forms me v.boot (causes_of me links v e) (step c me links v e)
-step_forms K me c links v (Calls process words) ok h = whole_forms me v.boot (causes_of me links v (Calls process words)) c links (takes_call c me process words v) quiet (λ m j. j) (call_forms c me process links words v h) quiet_indoors
-step_forms K me c links v (Receives p) ok h =
+pub step_forms : (K : Deeds) (me : ℕ) (c : Config) (links : Links) (v : SiteView) (e : Event) → ViewOk K v → ViewForms me v → Comes e → Forms me v.boot (causes_of me links v e) (step c me links v e)
+step_forms K me c links v (Calls process words) ok h comes = whole_forms me v.boot (causes_of me links v (Calls process words)) c links (takes_call c me process words v) quiet (λ m j short. (j, short)) (call_forms c me process links words v h) quiet_indoors
+step_forms K me c links v (Receives p) ok h comes =
     elim (is_dropped p v) as (λ t. Forms me v.boot (causes_of me links v (Receives p)) (elim t [ true ↦ quiet v | false ↦ whole c me links (takes c me links p p.body v) (tries_at c me p.body) ])) [
       | true ↦ quiet_forms me v.boot (causes_of me links v (Receives p)) v refl h
-      | false ↦ whole_forms me v.boot (causes_of me links v (Receives p)) c links (takes c me links p p.body v) (tries_at c me p.body) (λ m j. j) (takes_forms K me c links p p.body v refl ok h) (tries_indoors c me p.body)
+      | false ↦ whole_forms me v.boot (causes_of me links v (Receives p)) c links (takes c me links p p.body v) (tries_at c me p.body) (λ m j short. (j, short)) (takes_forms K me c links p p.body v refl comes ok h) (tries_indoors c me p.body)
     ]
-step_forms K me c links v Ticks ok h =
+step_forms K me c links v Ticks ok h comes =
     let k : Causes = causes_of me links v Ticks in
     let a : Outcome SiteView = adopts_in c me v in
     let g : Forms me v.boot k a = indoors_forms me v.boot k v a (adopts_of_indoors c me v.epoch v h.tables) refl h in
     let last : Outcome SiteView = ends_event c me links a.view in
-    let e : Forms me v.boot k last = ends_forms me v.boot k c links a.view (λ m j. j) g.boot_is g.view in
+    let e : Forms me v.boot k last = ends_forms me v.boot k c links a.view (λ m j short. (j, short)) g.boot_is g.view in
     record {
       boot_is = e.boot_is;
       view = e.view;
       told = every_append (SiteTold me k) a.told last.told g.told e.told;
-      sent = every_append PollsOthers a.sent (repeats c me a.view ++ in_order last.sent) g.sent (every_append PollsOthers (repeats c me a.view) (in_order last.sent) (repeats_form c me a.view.epoch a.view g.view) (order_sent PollsOthers last.sent e.sent));
+      sent = every_append FormingPacket a.sent (repeats c me a.view ++ in_order last.sent) g.sent (every_append FormingPacket (repeats c me a.view) (in_order last.sent) (repeats_form c me a.view.epoch a.view g.view.epoch g.view) (order_sent FormingPacket last.sent e.sent));
       written = no_first a.written last.written g.written e.written;
     }
-step_forms K me c links v Parts ok h = whole_forms me v.boot (causes_of me links v Parts) c links (starts_part me links v) quiet (λ m j. j) (starts_part_forms me v.boot (causes_of me links v Parts) links v (λ i. tt) (λ id own. own) refl h) quiet_indoors
-step_forms K me c links v Merges ok h = whole_forms me v.boot (causes_of me links v Merges) c links (starts_merge me links v) quiet (λ m j. j) (starts_merge_forms me v.boot (causes_of me links v Merges) links v (λ i. tt) (λ id own. own) refl h) quiet_indoors
-step_forms K me c links v GivesUp ok h = whole_forms me v.boot (causes_of me links v GivesUp) c links (leaves me v) quiet (λ m j. j) (leaves_of_forms me v.boot (causes_of me links v GivesUp) v.epoch v (λ i. tt) refl h) quiet_indoors
+step_forms K me c links v Parts ok h comes = whole_forms me v.boot (causes_of me links v Parts) c links (starts_part me links v) quiet (λ m j short. (j, short)) (starts_part_forms me v.boot (causes_of me links v Parts) links v (λ i. tt) (λ id own. own) refl h) quiet_indoors
+step_forms K me c links v Merges ok h comes = whole_forms me v.boot (causes_of me links v Merges) c links (starts_merge me links v) quiet (λ m j short. (j, short)) (starts_merge_forms me v.boot (causes_of me links v Merges) links v (λ i. tt) (λ id own. own) refl h) quiet_indoors
+step_forms K me c links v GivesUp ok h comes = whole_forms me v.boot (causes_of me links v GivesUp) c links (leaves me v) quiet (λ m j short. (j, short)) (leaves_of_forms me v.boot (causes_of me links v GivesUp) v.epoch v (λ i. tt) refl h) quiet_indoors

@@ -32,7 +32,7 @@ use Rattle.lawful_trace.specs.Places.{line_at}
 use Rattle.lawful_trace.specs.LineRows.{is_apart, has_no_effect, tale, must_tell, is_told}
 use Rattle.row_laws.specs.Shown.{shown, trace_of}
 use Rattle.row_laws.specs.Inward.{RoleWrite}
-use Rattle.row_laws.specs.Events.{Causes, SiteRecord, SiteTold, Forms, causes_of}
+use Rattle.row_laws.specs.Events.{Causes, SiteRecord, SiteTold, Comes, Forms, causes_of}
 use Rattle.row_laws.specs.ByLine.{IsLine, begins_quietly, Gives, Delivers, ArmsAs, KeptIn}
 use Rattle.row_laws.specs.Course.{InCourse}
 use Rattle.row_laws.specs.Voids.{LinesFit, is_call}
@@ -41,7 +41,7 @@ use Rattle.row_laws.proofs.SyncInward.{served_role}
 use Rattle.row_laws.proofs.Forming.{role_told, leaves_of_forms}
 use Rattle.row_laws.proofs.StepForms.{step_forms, ends_forms}
 use Rattle.row_laws.proofs.Tracing.{test_own}
-use Rattle.row_laws.proofs.Causes.{epoch_here}
+use Rattle.row_laws.proofs.Causes.{epoch_here, sent_polls}
 use Rattle.row_laws.proofs.Voids.{NoVoid, NoVoidRecord, site_told, site_all, void_says, Voids, voids_kept, first_voids}
 use Rattle.row_laws.proofs.Tales.{Passes, told_to_onto, told_to_next, voids_told, silent_told, tale_told, quiet_told, course_told, happened_tales}
 use Rattle.row_laws.proofs.ByLine.{every_line}
@@ -153,7 +153,7 @@ gives_up c s links v (Some x) e inside h =
       leaves_so = test_own s;
       others = every_append (Passes (tale (line.GiveUp s)) false) (map (λ (w : WaitingCall). reply_record s v.boot w _) v.users.waiting) last.told
           (every_map (Passes (tale (line.GiveUp s)) false) (λ (w : WaitingCall). reply_record s v.boot w _) v.users.waiting (λ w. refl))
-          (every_weaker (SiteTold s no_causes) (Passes (tale (line.GiveUp s)) false) last.told (no_leave s s) (ends_forms s v.boot no_causes c links left (λ m j. tt) h.boot_is h.view).told);
+          (every_weaker (SiteTold s no_causes) (Passes (tale (line.GiveUp s)) false) last.told (no_leave s s) (ends_forms s v.boot no_causes c links left (λ m j short. tt) h.boot_is h.view).told);
       none = k.none;
     }
 
@@ -176,22 +176,22 @@ give_tales c lines n s v w is here inside p =
 
 -- ---- the other lines of sites ----
 
-silent_tales : (c : Config) (lines : List ScheduleLine) (n s : ℕ) (l : LineWords) (e : Event) (v : SiteView) (w : World) → IsLine lines (n + 1) l → has_no_effect (take n lines) (trace_of w) l ≡ Some false → must_tell l ≡ false → place_at w s ≡ Some (Running v) → TalesOf c lines n w → TalesTold lines (n + 1) (acts (n + 1) s v (step c s (links_of w s) v e) w)
-silent_tales c lines n s l e v w is none must here p =
-    acts_tales lines (n + 1) s (causes_of s (links_of w s) v e) v (step c s (links_of w s) v e) w (step_forms (DeedsOf w.trace s) s c (links_of w s) v e (p.voids.courses.good.views s v here) (p.voids.courses.course.places s (Running v) here).2)
+silent_tales : (c : Config) (lines : List ScheduleLine) (n s : ℕ) (l : LineWords) (e : Event) (v : SiteView) (w : World) → Comes e → IsLine lines (n + 1) l → has_no_effect (take n lines) (trace_of w) l ≡ Some false → must_tell l ≡ false → place_at w s ≡ Some (Running v) → TalesOf c lines n w → TalesTold lines (n + 1) (acts (n + 1) s v (step c s (links_of w s) v e) w)
+silent_tales c lines n s l e v w comes is none must here p =
+    acts_tales lines (n + 1) s (causes_of s (links_of w s) v e) v (step c s (links_of w s) v e) w (step_forms (DeedsOf w.trace s) s c (links_of w s) v e (p.voids.courses.good.views s v here) (p.voids.courses.course.places s (Running v) here).2 comes)
     (λ told h. next_told lines n told w p.tales (λ q. silent_told lines n l told w is p.voids.courses.course none must))
 
-call_tales : (c : Config) (lines : List ScheduleLine) (n s : ℕ) (l : LineWords) (e : Event) (v : SiteView) (w : World) → IsLine lines (n + 1) l → is_call (EventLine l) ≡ true → place_at w s ≡ Some (Running v) → TalesOf c lines n w → TalesTold lines (n + 1) (acts (n + 1) s v (step c s (links_of w s) v e) w)
-call_tales c lines n s l e v w is call here p =
-    acts_tales lines (n + 1) s (causes_of s (links_of w s) v e) v (step c s (links_of w s) v e) w (step_forms (DeedsOf w.trace s) s c (links_of w s) v e (p.voids.courses.good.views s v here) (p.voids.courses.course.places s (Running v) here).2)
+call_tales : (c : Config) (lines : List ScheduleLine) (n s : ℕ) (l : LineWords) (e : Event) (v : SiteView) (w : World) → Comes e → IsLine lines (n + 1) l → is_call (EventLine l) ≡ true → place_at w s ≡ Some (Running v) → TalesOf c lines n w → TalesTold lines (n + 1) (acts (n + 1) s v (step c s (links_of w s) v e) w)
+call_tales c lines n s l e v w comes is call here p =
+    acts_tales lines (n + 1) s (causes_of s (links_of w s) v e) v (step c s (links_of w s) v e) w (step_forms (DeedsOf w.trace s) s c (links_of w s) v e (p.voids.courses.good.views s v here) (p.voids.courses.course.places s (Running v) here).2 comes)
     (λ told h. next_told lines n told w p.tales (λ q. absurd (never (sym q ∙ (ap is_call is ∙ call)))))
 
 step_tales : (c : Config) (lines : List ScheduleLine) (n s : ℕ) (l : LineWords) (e : Event) (v : SiteView) (w : World) → IsLine lines (n + 1) l → Gives w l s e → place_at w s ≡ Some (Running v) → TalesOf c lines n w → TalesTold lines (n + 1) (acts (n + 1) s v (step c s (links_of w s) v e) w)
-step_tales c lines n s (line.Call site process words) (Calls p x) v w is g here q = call_tales c lines n s (line.Call site process words) (Calls p x) v w is refl here q
-step_tales c lines n s (line.Tick site) Ticks v w is g here q = silent_tales c lines n s (line.Tick site) Ticks v w is (ap (λ (t : ℕ). Some (not (is_up (trace_of w) t))) g ∙ some_false (is_up (trace_of w) s) (q.voids.courses.course.places s (Running v) here).0) refl here q
-step_tales c lines n s (line.Merge site) Merges v w is g here q = silent_tales c lines n s (line.Merge site) Merges v w is (ap (λ (t : ℕ). Some (not (is_up (trace_of w) t))) g ∙ some_false (is_up (trace_of w) s) (q.voids.courses.course.places s (Running v) here).0) refl here q
+step_tales c lines n s (line.Call site process words) (Calls p x) v w is g here q = call_tales c lines n s (line.Call site process words) (Calls p x) v w tt is refl here q
+step_tales c lines n s (line.Tick site) Ticks v w is g here q = silent_tales c lines n s (line.Tick site) Ticks v w tt is (ap (λ (t : ℕ). Some (not (is_up (trace_of w) t))) g ∙ some_false (is_up (trace_of w) s) (q.voids.courses.course.places s (Running v) here).0) refl here q
+step_tales c lines n s (line.Merge site) Merges v w is g here q = silent_tales c lines n s (line.Merge site) Merges v w tt is (ap (λ (t : ℕ). Some (not (is_up (trace_of w) t))) g ∙ some_false (is_up (trace_of w) s) (q.voids.courses.course.places s (Running v) here).0) refl here q
 step_tales c lines n s (line.Part site) Parts v w is g here q =
-    silent_tales c lines n s (line.Part site) Parts v w is (ap (λ (t : ℕ). Some (is_apart (trace_of w) t)) g.0 ∙ ap Some (not_apart lines n s v w here (subst (λ (t : ℕ). is_in_no_epoch (place_at w t) ≡ false) g.0 g.1) q.voids.courses.good q.voids.courses.course)) refl here q
+    silent_tales c lines n s (line.Part site) Parts v w tt is (ap (λ (t : ℕ). Some (is_apart (trace_of w) t)) g.0 ∙ ap Some (not_apart lines n s v w here (subst (λ (t : ℕ). is_in_no_epoch (place_at w t) ≡ false) g.0 g.1) q.voids.courses.good q.voids.courses.course)) refl here q
 step_tales c lines n s (line.GiveUp site) GivesUp v w is g here q =
     give_tales c lines n s v w (subst (λ (t : ℕ). IsLine lines (n + 1) (line.GiveUp t)) g.0 is) here (subst (λ (t : ℕ). is_in_no_epoch (place_at w t) ≡ false) g.0 g.1) q
 step_tales c lines n s _ _ v w is g here q = absurd g
@@ -252,13 +252,13 @@ tales_kept c lines fit = record {
   begins = λ n w there quiet p. record { voids = kept.begins n w there quiet p.voids; tales = λ none. told_to_next lines n (trace_of w) (p.tales none) (λ q. quiet_told lines n w quiet p.voids.courses.course) };
   ticks = λ n most s v w is here p. record {
     voids = kept.ticks n most s v w is here p.voids;
-    tales = acts_tales lines n s (causes_of s (links_of w s) v Ticks) v (step c s (links_of w s) v Ticks) w (step_forms (DeedsOf w.trace s) s c (links_of w s) v Ticks (p.voids.courses.good.views s v here) (p.voids.courses.course.places s (Running v) here).2)
+    tales = acts_tales lines n s (causes_of s (links_of w s) v Ticks) v (step c s (links_of w s) v Ticks) w (step_forms (DeedsOf w.trace s) s c (links_of w s) v Ticks (p.voids.courses.good.views s v here) (p.voids.courses.course.places s (Running v) here).2 tt)
         (λ told h none. course_to lines n (line.Settle most) told w is refl h (line_one lines n (line.Settle most) is) (p.tales none));
   };
   receives = λ n l x v w is d here sent p. record {
     voids = kept.receives n l x v w is d here sent p.voids;
     tales = acts_tales lines n x.packet.to (causes_of x.packet.to (links_of w x.packet.to) v (Receives x.packet)) v (step c x.packet.to (links_of (passed x.number w) x.packet.to) v (Receives x.packet)) (passed x.number w)
-        (step_forms (DeedsOf w.trace x.packet.to) x.packet.to c (links_of (passed x.number w) x.packet.to) v (Receives x.packet) (p.voids.courses.good.views x.packet.to v here) (p.voids.courses.course.places x.packet.to (Running v) here).2)
+        (step_forms (DeedsOf w.trace x.packet.to) x.packet.to c (links_of (passed x.number w) x.packet.to) v (Receives x.packet) (p.voids.courses.good.views x.packet.to v here) (p.voids.courses.course.places x.packet.to (Running v) here).2 (sent_polls lines n w x sent p.voids.courses.course))
         (λ told h none. course_to lines n l told w is (delivers_quietly l d) h (line_one lines n l is) (p.tales none));
   };
   passes = λ n k w p. record { voids = kept.passes n k w p.voids; tales = p.tales };

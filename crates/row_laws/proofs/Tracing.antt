@@ -20,7 +20,7 @@ use Rattle.lawful_trace.specs.SiteRows.{makes_leave, is_another, was_polled}
 use Rattle.lawful_trace.specs.CallRows.{CallLine}
 use Rattle.row_laws.specs.Shown.{with_told, shown}
 use Rattle.row_laws.specs.Inward.{IsMend}
-use Rattle.row_laws.specs.Events.{Causes, SiteRecord, SiteTold}
+use Rattle.row_laws.specs.Events.{IsShort, Causes, SiteRecord, SiteTold}
 use Rattle.row_laws.specs.Course.{Started, Polled, HasItself, AskedHere, UpRecord, ToldRow, EachTold, Ascends, Caused}
 
 -- ---- tests ----
@@ -145,7 +145,7 @@ caused_told lines m s k x now h g = record {
   up = told_same_up s s m k x now h ∙ g.up;
   leave = λ l. by_leave (g.leave l);
   promise = λ id p. started_told lines m m id.site id.boot x now (omega arith) (g.promise id p);
-  join = λ members j none. g.join members j none ∙ sym (told_same_boot s s m k x now h);
+  join = λ members j. (λ none. (g.join members j).0 none ∙ sym (told_same_boot s s m k x now h), (g.join members j).1);
   accept = g.accept;
 }
   where
@@ -221,7 +221,7 @@ accept_line lines m s t process k words now g (inr h) = subst (λ (u : ℕ). Cal
 
 record_row : (lines : List ScheduleLine) (m s : ℕ) (k : Causes) (r : Record) (now : Trace) → SiteRecord s k r → Caused lines m s k now → AskedHere lines m now r × UpRecord now r
 record_row lines m s k (says.Leave t id) now h g = (record { cause = subst (λ (u : ℕ). makes_leave (line_at lines m) u || was_polled lines now m u ≡ true) (sym h.0) (leave_cause lines now m s (g.leave h.1)) }, subst (λ (u : ℕ). is_up now u ≡ true) (sym h.0) g.up)
-record_row lines m s k (says.Join t id members) now h g = (subst (λ (u : ℕ). HasItself lines now u members) (sym h.0) (g.join members h.1), subst (λ (u : ℕ). is_up now u ≡ true) (sym h.0) g.up)
+record_row lines m s k (says.Join t id members) now h g = (subst (λ (u : ℕ). HasItself lines now u members × IsShort members) (sym h.0) (g.join members h.1), subst (λ (u : ℕ). is_up now u ≡ true) (sym h.0) g.up)
 record_row lines m s k (says.Accept t process c words) now h g = (accept_line lines m s t process k words now g h, tt)
 record_row lines m s k (says.Up t boot) now h g = absurd h
 record_row lines m s k (says.Stopped t why) now h g = absurd h

@@ -39,7 +39,7 @@ use Rattle.row_laws.proofs.SyncInward.{served_role}
 use Rattle.row_laws.proofs.Forming.{role_told}
 use Rattle.row_laws.proofs.StepForms.{step_forms}
 use Rattle.row_laws.proofs.Tracing.{before_all}
-use Rattle.row_laws.proofs.Causes.{epoch_here}
+use Rattle.row_laws.proofs.Causes.{epoch_here, comes_own, sent_polls}
 use Rattle.row_laws.proofs.AskedRun.{Courses, courses_kept, first_courses, own_given}
 use Rattle.row_laws.proofs.SitesPlaced.{first_has, places_kept}
 use Rattle.row_laws.proofs.Circuits.{NoCircuit, still_cut, kept_cut, down_cut, up_cut, down_void, up_void}
@@ -236,12 +236,12 @@ voids_kept c lines fit = record {
   begins = λ n w there quiet p. record { courses = kept.begins n w there quiet p.courses; voids = with_quiet c lines (n + 1) w p.voids.places (next_quiet c lines n w there (begins_none (line_at lines (n + 1)) quiet) p.voids) };
   ticks = λ n most s v w is here p. record {
     courses = kept.ticks n most s v w is here p.courses;
-    voids = with_quiet c lines n _ (has.steps n s Ticks v w here tt p.voids.places) (acts_quiet lines n s (causes_of s (links_of w s) v Ticks) v (step c s (links_of w s) v Ticks) w (step_forms (DeedsOf w.trace s) s c (links_of w s) v Ticks (p.courses.good.views s v here) (p.courses.course.places s (Running v) here).2) (quiet_of c lines n w p.voids));
+    voids = with_quiet c lines n _ (has.steps n s Ticks v w here tt p.voids.places) (acts_quiet lines n s (causes_of s (links_of w s) v Ticks) v (step c s (links_of w s) v Ticks) w (step_forms (DeedsOf w.trace s) s c (links_of w s) v Ticks (p.courses.good.views s v here) (p.courses.course.places s (Running v) here).2 tt) (quiet_of c lines n w p.voids));
   };
   receives = λ n l x v w is d here sent p. record {
     courses = kept.receives n l x v w is d here sent p.courses;
     voids = with_quiet c lines n _ (has.receives n x v w here sent p.voids.places) (acts_quiet lines n x.packet.to (causes_of x.packet.to (links_of w x.packet.to) v (Receives x.packet)) v (step c x.packet.to (links_of (passed x.number w) x.packet.to) v (Receives x.packet)) (passed x.number w)
-        (step_forms (DeedsOf w.trace x.packet.to) x.packet.to c (links_of (passed x.number w) x.packet.to) v (Receives x.packet) (p.courses.good.views x.packet.to v here) (p.courses.course.places x.packet.to (Running v) here).2) (record { circuits = p.voids.circuits; rows = p.voids.rows }));
+        (step_forms (DeedsOf w.trace x.packet.to) x.packet.to c (links_of (passed x.number w) x.packet.to) v (Receives x.packet) (p.courses.good.views x.packet.to v here) (p.courses.course.places x.packet.to (Running v) here).2 (sent_polls lines n w x sent p.courses.course)) (record { circuits = p.voids.circuits; rows = p.voids.rows }));
   };
   passes = λ n k w p. record { courses = kept.passes n k w p.courses; voids = record { places = p.voids.places; circuits = p.voids.circuits; rows = p.voids.rows } };
   drops = λ n k w p. record { courses = kept.drops n k w p.courses; voids = record { places = p.voids.places; circuits = p.voids.circuits; rows = p.voids.rows } };
@@ -250,7 +250,7 @@ voids_kept c lines fit = record {
   steps = λ n s l e v w there is g here p. record {
     courses = kept.steps n s l e v w there is g here p.courses;
     voids = with_quiet c lines (n + 1) _ (has.steps (n + 1) s e v w here (own_given w l s e g) p.voids.places)
-        (acts_quiet lines (n + 1) s (causes_of s (links_of w s) v e) v (step c s (links_of w s) v e) w (step_forms (DeedsOf w.trace s) s c (links_of w s) v e (p.courses.good.views s v here) (p.courses.course.places s (Running v) here).2) (next_quiet c lines n w there (subst NoCircuit (sym is) (gives_none w l s e g)) p.voids));
+        (acts_quiet lines (n + 1) s (causes_of s (links_of w s) v e) v (step c s (links_of w s) v e) w (step_forms (DeedsOf w.trace s) s c (links_of w s) v e (p.courses.good.views s v here) (p.courses.course.places s (Running v) here).2 (comes_own e (own_given w l s e g))) (next_quiet c lines n w there (subst NoCircuit (sym is) (gives_none w l s e g)) p.voids));
   };
   cutting = λ n one other w there is cut p. record { courses = kept.cutting n one other w there is cut p.courses; voids = record { places = p.voids.places; circuits = down_cut lines n one other w there is p.voids.circuits; rows = p.voids.rows } };
   mending = λ n one other w there is cut p. record { courses = kept.mending n one other w there is cut p.courses; voids = record { places = p.voids.places; circuits = up_cut lines n one other w there is p.voids.circuits; rows = p.voids.rows } };

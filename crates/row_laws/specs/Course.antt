@@ -16,7 +16,7 @@ use Rattle.lawful_trace.specs.Places.{line_at, initiator}
 use Rattle.lawful_trace.specs.SiteRows.{MayBoot, StopRow, makes_leave}
 use Rattle.lawful_trace.specs.CallRows.{CallLine}
 use Rattle.row_laws.specs.Shown.{shown, trace_of}
-use Rattle.row_laws.specs.Events.{Causes, PollsOthers, ViewForms}
+use Rattle.row_laws.specs.Events.{IsShort, Causes, FormingPacket, ViewForms}
 use Rattle.row_laws.specs.Rows.{AskedRecord}
 use Rattle.row_laws.specs.Voids.{CutsNoSelf}
 
@@ -43,9 +43,9 @@ pub record Polled (lines : List ScheduleLine) (now : Trace) (n site : ℕ) : Typ
 abbrev pub HasItself : List ScheduleLine → Trace → ℕ → Members → Type 0
 HasItself lines before site members = CutsNoSelf lines → boot_in members site ≡ boot_of before site
 
--- as asked for, apart from a join, whose cause is its promise
+-- as asked for, apart from a join, whose cause is its promise: its list has sites 1 to 16 alone, and itself
 abbrev pub AskedHere : List ScheduleLine → ℕ → Trace → Record → Type 0
-AskedHere lines n before (says.Join site epoch members) = HasItself lines before site members
+AskedHere lines n before (says.Join site epoch members) = HasItself lines before site members × IsShort members
 AskedHere lines n before r = AskedRecord lines n before r
 
 -- a stopped site boots; a running one stops, leaves and joins
@@ -89,8 +89,8 @@ pub record InCourse (lines : List ScheduleLine) (n : ℕ) (w : World) : Type 0 w
   pub rows : EachTold lines w.trace
   pub places : (s : ℕ) (p : Place) → place_at w s ≡ Some p → StandsAs (trace_of w) s p
   pub circuits : CutsNoSelf lines → (s : ℕ) → is_cut w s s ≡ false
-  pub polls : Every (λ (x : Numbered). PollsOthers x.packet) w.sent
-  pub underway : Every (λ (x : Numbered). PollsOthers x.packet) w.underway
+  pub polls : Every (λ (x : Numbered). FormingPacket x.packet) w.sent
+  pub underway : Every (λ (x : Numbered). FormingPacket x.packet) w.underway
 
 -- ---- an event of a running site, whose causes are there ----
 
@@ -98,5 +98,5 @@ pub record Caused (lines : List ScheduleLine) (n s : ℕ) (k : Causes) (now : Tr
   pub up : is_up now s ≡ true
   pub leave : k.leave → (makes_leave (line_at lines n) s ≡ true) ⊎ Polled lines now n s
   pub promise : (id : EpochId) → k.promise id → Started lines now n id.site id.boot
-  pub join : (members : Members) → k.join members → HasItself lines now s members
+  pub join : (members : Members) → k.join members → HasItself lines now s members × IsShort members
   pub accept : (process : ℕ) (words : Call) → k.accept process words → CallLine lines n s process words

@@ -8,9 +8,10 @@ use Rattle.trace_book.specs.declared.record.Record.{Record}
 use Rattle.trace_book.specs.declared.record.Record.TheVariants as says
 use Rattle.wire_messages.specs.declared.packet.Packet.{Packet}
 use Rattle.wire_messages.specs.declared.body.Body.{Body}
-use Rattle.wire_messages.specs.declared.body.Body.TheVariants.{Poll}
+use Rattle.wire_messages.specs.declared.body.Body.TheVariants.{Poll, Install}
 use Rattle.role_steps.specs.Own.{Every}
 use Rattle.role_steps.specs.Views.{SiteView, Told, Shown, Promises, Outcome, Event, Calls, Receives, Parts, Merges, GivesUp, boot_in}
+use Rattle.role_steps.specs.declared.rounds.InEpoch.{InEpoch}
 use Rattle.role_steps.specs.declared.rounds.Promise.{Promise}
 use Rattle.role_steps.specs.declared.rounds.Round.{Round}
 use Rattle.row_laws.specs.Inward.{IsMend, RoleRecord, RoleWrite, LooksInward}
@@ -54,6 +55,10 @@ MakesAccept _ p x = ⊥
 abbrev pub ListsItself : ℕ → ℕ → Links → Members → Type 0
 ListsItself me boot links m = me ≤ 16 → boot_in links.boot me ≡ boot → boot_in m.boot me ≡ boot
 
+-- the list has no site beyond the sixteenth
+abbrev pub IsShort : Members → Type 0
+IsShort m = (t : ℕ) → 17 ≤ t → boot_in m.boot t ≡ 0
+
 -- ---- what is told ----
 
 -- the causes of an event: for a leave, for the promise of an id, for the members of a join, for a call of a process
@@ -76,13 +81,19 @@ SiteTold me k _ = Unit {0}
 
 -- ---- what is sent, and the round ----
 
--- a site polls others for an id of its own
-abbrev pub PollFact : Packet → Body → Type 0
-PollFact p Poll = (p.epoch.site ≡ p.from) × (p.from ≢ p.to)
-PollFact p _ = Unit {0}
+-- a site polls others for an id of its own, and installs a list of sites 1 to 16
+abbrev pub FormingFact : Packet → Body → Type 0
+FormingFact p Poll = (p.epoch.site ≡ p.from) × (p.from ≢ p.to)
+FormingFact p (Install members) = IsShort members
+FormingFact p _ = Unit {0}
 
-abbrev pub PollsOthers : Packet → Type 0
-PollsOthers p = PollFact p p.body
+abbrev pub FormingPacket : Packet → Type 0
+FormingPacket p = FormingFact p p.body
+
+-- so is the packet that comes
+abbrev pub Comes : Event → Type 0
+Comes (Receives p) = FormingPacket p
+Comes _ = Unit {0}
 
 -- promises of sites from this number on, ascending
 abbrev pub PromisesRise : ℕ → List Promise → Type 0
@@ -94,18 +105,24 @@ abbrev pub RoundFact : ℕ → ℕ → Option Round → Type 0
 RoundFact me boot None = Unit {0}
 RoundFact me boot (Some r) = IsOwnId me boot r.id × (boot_in r.polled.boot me ≡ 0) × PromisesRise 0 r.promises
 
+-- the list of the epoch that a site is in
+abbrev pub ListIsShort : Option InEpoch → Type 0
+ListIsShort None = Unit {0}
+ListIsShort (Some e) = IsShort e.members
+
 pub record ViewForms (me : ℕ) (v : SiteView) : Type 0 where
   pub round : RoundFact me v.boot v.round
   pub tables : Every LooksInward v.tables
+  pub epoch : ListIsShort v.epoch
 
 -- an outcome of an event with these causes
 pub record Forms (me boot : ℕ) (k : Causes) (o : Outcome SiteView) : Type 0 where
   pub boot_is : o.view.boot ≡ boot
   pub view : ViewForms me o.view
   pub told : Every (SiteTold me k) o.told
-  pub sent : Every PollsOthers o.sent
+  pub sent : Every FormingPacket o.sent
   pub written : RoleWrite o.written
 
 -- the causes that an event of a site with these links gives
 abbrev pub causes_of : ℕ → Links → SiteView → Event → Causes
-causes_of me links v e = record { leave = MakesLeave e; promise = MakesPromise me v e; join = ListsItself me v.boot links; accept = MakesAccept e }
+causes_of me links v e = record { leave = MakesLeave e; promise = MakesPromise me v e; join = λ members. ListsItself me v.boot links members × IsShort members; accept = MakesAccept e }

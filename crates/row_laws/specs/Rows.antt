@@ -17,6 +17,7 @@ use Rattle.lawful_trace.specs.Disks.{armed_at, is_armed_as}
 use Rattle.lawful_trace.specs.SiteRows.{MayBoot, IsBootAsked, StopRow, IsStopAsked, boots, MayLeave, IsLeaveAsked, IsJoinAsked}
 use Rattle.lawful_trace.specs.CallRows.{CallLine}
 use Rattle.lawful_trace.specs.LineRows.{IsRoundAsked, IsListAsked}
+use Rattle.row_laws.specs.Events.{IsShort}
 
 -- ---- numbers ----
 
@@ -76,6 +77,14 @@ MemberRecord before _ = Unit {0}
 -- the list that a site joins has it with its boot
 abbrev pub IsMemberRow : Trace → Entry → Type 0
 IsMemberRow before r = MemberRecord before r.what
+
+abbrev pub ShortRecord : Record → Type 0
+ShortRecord (says.Join site epoch members) = IsShort members
+ShortRecord _ = Unit {0}
+
+-- the list that a site joins has no site beyond the sixteenth
+abbrev pub IsShortRow : Trace → Entry → Type 0
+IsShortRow before r = ShortRecord r.what
 
 -- ---- armed disks ----
 

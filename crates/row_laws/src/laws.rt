@@ -7,7 +7,7 @@ ghost use Rattle.the_run.specs.Runs.{run, run_in};
 ghost use Rattle.lawful_trace.specs.Disks.{keeps_calls};
 ghost use Rattle.lawful_trace.specs.Lawful.{IsLawful};
 ghost use Rattle.row_laws.specs.Shown.{EachRecord, trace_of};
-ghost use Rattle.row_laws.specs.Rows.{IsPlaced, IsAskedFor, IsSiteRow, IsMemberRow, IsArmedFor};
+ghost use Rattle.row_laws.specs.Rows.{IsPlaced, IsAskedFor, IsSiteRow, IsMemberRow, IsShortRow, IsArmedFor};
 ghost use Rattle.row_laws.specs.Rest.{MeetsTheRest};
 ghost use Rattle.row_laws.specs.Voids.{LinesFit, CutsNoSelf, IsVoidRow};
 ghost use Rattle.row_laws.specs.Tales.{ToldTo};
@@ -36,6 +36,11 @@ pub fn sites_go_on()
 /// in which it joins.
 pub fn lists_have_who_joins()
     ensures { (c : Config) (lines : List ScheduleLine) → CutsNoSelf lines → EachRecord IsMemberRow (trace_of (run_in c lines)) }
+{}
+
+/// After every schedule the list that a site joins has no site beyond the sixteenth.
+pub fn lists_are_of_sites()
+    ensures { (c : Config) (lines : List ScheduleLine) → EachRecord IsShortRow (trace_of (run_in c lines)) }
 {}
 
 /// After every schedule, where a site was stopped within a disk call, a line had armed its disk, of this kind, and neither

@@ -36,7 +36,7 @@ use Rattle.locus_ids.specs.declared.ids.Stamp.{Stamp}
 use Rattle.version_vector.specs.Counters.{part}
 use Rattle.commit_graph.specs.Grants.{is_read}
 use Rattle.commit_graph.specs.Vectors.{vector_of}
-use Rattle.commit_graph.specs.Versions.{content_of as version_content, is_ancestor, is_version, same_file, same_stamp}
+use Rattle.commit_graph.specs.Versions.{content_of as version_content, is_ancestor, is_in, is_version, same_file, same_stamp}
 use Rattle.commit_graph.specs.declared.history.Version.{Version}
 use Rattle.trace_book.specs.declared.record.Record.TheVariants as says
 use Rattle.file_effects.specs.Works.{committed}
@@ -46,7 +46,9 @@ use Rattle.role_steps.specs.Views.{Frame, Store, Told, Shown, file_key}
 use Rattle.role_steps.specs.declared.instances.Instance.{Instance}
 use Rattle.the_run.specs.Worlds.{Line}
 use Rattle.tree_model.specs.declared.instance.Instance.{Instance as Open}
-use Rattle.tree_model.specs.Epochs.{is_in as is_of_epoch}
+use Rattle.tree_model.specs.Epochs.{epoch_of, is_in as is_of_epoch}
+use Rattle.trace_book.specs.declared.record.Record.{Record}
+use Rattle.tree_model.specs.Folds.{Trace}
 use Rattle.tree_model.specs.Files.{committing_in, first_call, held_version, kind_made, kind_of_file, set_of_file, version_of, words_named}
 use Rattle.tree_model.specs.Histories.{history, held}
 use Rattle.tree_model.specs.Lists.{change_first}
@@ -70,7 +72,7 @@ use Rattle.tree_laws.proofs.Rows.{followed_rows}
 use Rattle.tree_laws.proofs.Versions.{versions_stay}
 use Rattle.order_laws.specs.Joining.{PacksAreOfSites}
 use Rattle.order_laws.proofs.Alone.{rows_apart}
-use Rattle.order_laws.proofs.Standing.{newest, same_file_eq}
+use Rattle.order_laws.proofs.Standing.{later_true, newest, same_file_eq}
 use Rattle.store_laws.specs.Rests.{StoreRests}
 use Rattle.store_laws.proofs.Holding.{held_stands}
 use Rattle.store_laws.proofs.Raising.{first_writer, next_numbered, one_writes, vector_written, writer_changed, zeros}
@@ -135,6 +137,19 @@ granted_number c (y ∷ older) h e d request i f stamp ss (inl g) = now y.told h
         (number (history c (entries older)) (tree_of c at file.group (entries older)) call file on place (subst (λ (k : Mode). is_placed (history c (entries older)) (tree_of c at file.group (entries older)) call k file on place ≡ true) p.mode_is
         (given_parts (history c (entries older)) (tree_of c at file.group (entries older)) call inst m file on place may.row.gives).placed)))
     now _ may p = absurd p
+
+-- a file without versions has no first commit
+none_after : (c : Config) (before : Trace) (f : FileId) (n : ℕ) (z : Record) → (((s : Stamp) → is_in (history c before) f s ≡ true → ⊥) → first_call c before f ≡ None) → ((s : Stamp) → is_in (history c (record { line = n; what = z } ∷ before)) f s ≡ true → ⊥) → first_call c (record { line = n; what = z } ∷ before) f ≡ None
+none_after c before f n (says.Commit g site stamp parents content) older off = ap (λ (o : Option CallId). option_or o (cond (same_file g f) (option_map (λ (x : Open). x.grant.call) (committing c before f site)) None)) (older (λ s e. off s (later_true _ _ e))) ∙ over (same_file g f) refl
+  where
+    over : (b : Bool) → same_file g f ≡ b → cond b (option_map (λ (x : Open). x.grant.call) (committing c before f site)) None ≡ None
+    over true e = absurd (off stamp (newest (record { file = g; site = site; stamp = stamp; parents = parents; content = content }) (history c before) f stamp (same_file_eq g f e) refl))
+    over false e = refl
+none_after c before f n _ older off = older off
+
+none_first : (c : Config) (before : Trace) (f : FileId) → ((s : Stamp) → is_in (history c before) f s ≡ true → ⊥) → first_call c before f ≡ None
+none_first c [] f off = refl
+none_first c (r ∷ before) f off = none_after c before f r.line r.what (none_first c before f) off
 
 module _ (c : Config) (n : ℕ) (trace : List Line) (few : PacksAreOfSites c) (h : IsFollowed c trace) (rests : StoreRests c trace) (f : Frame) (frame : FrameFact c trace f) (s : Store) (kept : StoreHeld c f trace s) (i : Instance) (k : InstanceFact c trace f i) (x : Open) (w : WorksAs c trace f i x) (unshut : WasShut trace f.me f.epoch i.inst → ⊥) (owes : i.work.owes ≡ true) (writes : is_read i.mode ≡ false) where
   abbrev vector : List ℕ
@@ -297,7 +312,11 @@ module _ (c : Config) (n : ℕ) (trace : List Line) (few : PacksAreOfSites c) (h
     made_first : (d : CallId) → IsMaker c trace f i d → i.mode ≡ mode.Make → first_call c (entries after) i.file ≡ Some d
     made_first d m make = (let g : (request : ℕ) × WasGranted trace f.epoch d request i.inst mode.Make i.file None f.me = made_granted d m in
         let call : x.grant.call ≡ d = (open_is c trace h f.epoch d g.0 i.inst mode.Make i.file None f.me x g.1 w.open_at.found).3 in
-        first_now d call (subst (λ (y : CallId). (first_call c (entries trace) i.file ≡ None) ⊎ (first_call c (entries trace) i.file ≡ Some y)) call (subst (λ (y : FileId). (first_call c (entries trace) y ≡ None) ⊎ (first_call c (entries trace) y ≡ Some x.grant.call)) w.file_is (rests.first f.epoch i.inst x w.open_at.found (w.mode_is ∙ make)))))
+        first_now d call (subst (λ (y : CallId). (first_call c (entries trace) i.file ≡ None) ⊎ (first_call c (entries trace) i.file ≡ Some y)) call (subst (λ (y : FileId). (first_call c (entries trace) y ≡ None) ⊎ (first_call c (entries trace) y ≡ Some x.grant.call)) w.file_is (none_or (rests.first f.epoch i.inst x w.open_at.found (w.mode_is ∙ make) (subst (λ (z : ℕ). epoch_of (entries trace) z ≡ Some f.epoch) (sym w.open_at.place) frame.inside))))))
+      where
+        none_or : ((t : Stamp) → Stands c trace x.grant.file t → ⊥) ⊎ (first_call c (entries trace) x.grant.file ≡ Some x.grant.call) → (first_call c (entries trace) x.grant.file ≡ None) ⊎ (first_call c (entries trace) x.grant.file ≡ Some x.grant.call)
+        none_or (inl away) = inl (none_first c (entries trace) x.grant.file away)
+        none_or (inr some) = inr some
 
     not_root : (d : CallId) → IsMaker c trace f i d → (i.file.ino == 1) ≡ false
     not_root d m = above_one f.me i.file.ino (made_given d m)

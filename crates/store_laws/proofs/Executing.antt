@@ -309,16 +309,16 @@ module _ (c : Config) (n : ℕ) (trace : List Line) (few : PacksAreOfSites c) (h
 -- ---- by its stage ----
 
 pub op_fine : (c : Config) (n : ℕ) (trace : List Line) → PacksAreOfSites c → IsFollowed c trace → StoreRests c trace → OpRests c trace → (f : Frame) → FrameFact c trace f → (s : Store) → StoreHeld c f trace s → ((group : ℕ) → free_pages s group ≡ tree_free (history c (entries trace)) (tree_of c f.epoch group (entries trace)) f.me) → ((i : Instance) → Among i s.instances → MayWrite f i) →
-    (m : Mending) (inst : Serial) → inst.us ≤ 16 → (number : ℕ) (o : Op) (seen : List ℕ) → OpFact c trace f.epoch f.me inst number o seen → ((i : Instance) → Among i s.instances → o ≡ op.Mend → MendsAs c trace f i.file m) →
+    (m : Mending) (inst : Serial) → inst.us ≤ 16 → (number : ℕ) (o : Op) (seen : List ℕ) → OpFact c trace f.epoch f.me inst number o seen → ((i : Instance) → Among i s.instances → i.inst ≡ inst → o ≡ op.Mend → MendsAs c trace f i.file m) →
     AllStays c n trace (on_op f m inst number o seen s).told → StoreFine c n trace f s (on_op f m inst number o seen s)
 op_fine c n trace few h rests more f frame s kept room ready m inst low number o seen fact mends stays = over (instance_of s inst) refl stays
   where
-    at : (i : Instance) → InstanceFact c trace f i → Among i s.instances → OpFact c trace f.epoch f.me i.inst number o seen → (t : Stage) → i.stage ≡ t → StageFact c trace f i t → AllStays c n trace (on_op_at f m i t number o seen s).told → StoreFine c n trace f s (on_op_at f m i t number o seen s)
-    at i k among fact stage.Running is st stays = numbered_fine c n trace few h rests more f frame s kept room i k (ready i among) is number o seen m fact (mends i among) st stays
-    at i k among fact (stage.Closing made a) is st stays = record { told = tt; own = tt; view = kept; sent = tt; written = tt }
-    at i k among fact (stage.Closed a) is st stays = record { told = tt; own = tt; view = kept; sent = tt; written = tt }
+    at : (i : Instance) → InstanceFact c trace f i → Among i s.instances → i.inst ≡ inst → OpFact c trace f.epoch f.me i.inst number o seen → (t : Stage) → i.stage ≡ t → StageFact c trace f i t → AllStays c n trace (on_op_at f m i t number o seen s).told → StoreFine c n trace f s (on_op_at f m i t number o seen s)
+    at i k among same fact stage.Running is st stays = numbered_fine c n trace few h rests more f frame s kept room i k (ready i among) is number o seen m fact (mends i among same) st stays
+    at i k among same fact (stage.Closing made a) is st stays = record { told = tt; own = tt; view = kept; sent = tt; written = tt }
+    at i k among same fact (stage.Closed a) is st stays = record { told = tt; own = tt; view = kept; sent = tt; written = tt }
 
     over : (y : Option Instance) → instance_of s inst ≡ y → AllStays c n trace (on_op_of f m y number o seen s).told → StoreFine c n trace f s (on_op_of f m y number o seen s)
     over None e stays = record { told = tt; own = tt; view = kept; sent = tt; written = tt }
     over (Some i) e stays = (let k : InstanceFact c trace f i × (i.inst ≡ inst) = found_instance c trace f s kept inst low i e in
-        at i k.0 (row_among instance_key (serial_key inst) s.instances i e) (subst (λ (j : Serial). OpFact c trace f.epoch f.me j number o seen) (sym k.1) fact) i.stage refl k.0.stage stays)
+        at i k.0 (row_among instance_key (serial_key inst) s.instances i e) k.1 (subst (λ (j : Serial). OpFact c trace f.epoch f.me j number o seen) (sym k.1) fact) i.stage refl k.0.stage stays)

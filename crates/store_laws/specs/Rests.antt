@@ -1,6 +1,6 @@
 -- What the storage site's steps want of a trace beside the facts of the store: laws of every run, and of files and their
 -- versions.
-use Rattle.std.specs.Prelude.{ℕ, ◌≡◌, ◌⊎◌, ◌≤◌, ◌<◌, true, false, List, [], ◌∷◌, Option, Some, None, map}
+use Rattle.std.specs.Prelude.{ℕ, ◌≡◌, ◌⊎◌, ◌≤◌, ◌<◌, true, false, List, [], ◌∷◌, Option, Some, map}
 use Rattle.locus_ids.specs.declared.config.Config.{Config}
 use Rattle.locus_ids.specs.declared.ids.CallId.{CallId}
 use Rattle.locus_ids.specs.declared.ids.EpochId.{EpochId}
@@ -85,8 +85,9 @@ pub record StoreRests (c : Config) (trace : List Line) : Type 0 where
   -- what was released isn't open
   pub released : (e : EpochId) (i : Serial) (x : Open) → WasReleased trace e i → instance_now c trace e i ≡ Some x → ⊥
   pub stands : (e : EpochId) (i : Serial) (x : Open) → instance_now c trace e i ≡ Some x → StandsOnHeld c trace e x
-  -- what a make makes has no version but by its call
-  pub first : (e : EpochId) (i : Serial) (x : Open) → instance_now c trace e i ≡ Some x → x.grant.mode ≡ mode.Make → (first_call c (entries trace) x.grant.file ≡ None) ⊎ (first_call c (entries trace) x.grant.file ≡ Some x.grant.call)
+  -- while the storage site of a make is in the epoch, what it makes has no version, or its call was the first to commit it
+  pub first : (e : EpochId) (i : Serial) (x : Open) → instance_now c trace e i ≡ Some x → x.grant.mode ≡ mode.Make → epoch_of (entries trace) x.grant.ss ≡ Some e →
+      ((stamp : Stamp) → Stands c trace x.grant.file stamp → ⊥) ⊎ (first_call c (entries trace) x.grant.file ≡ Some x.grant.call)
 
 -- for each line that is told packet facts stay
 abbrev pub AllStays : Config → ℕ → List Line → List Told → Type 0

@@ -124,7 +124,7 @@ pub fn pulls_are_of_known_versions()
 pub fn operations_come_as_they_may()
     ensures { (c : Config) (n : ℕ) (trace : List Line) → PacksAreOfSites c → IsFollowed c trace → StoreRests c trace → OpRests c trace → (f : Frame) → FrameFact c trace f → (s : Store) → StoreHeld c f trace s →
         ((group : ℕ) → free_pages s group ≡ tree_free (history c (entries trace)) (tree_of c f.epoch group (entries trace)) f.me) → ((i : Instance) → Among i s.instances → MayWrite f i) →
-        (m : Mending) (inst : Serial) → inst.us ≤ 16 → (number : ℕ) (o : Op) (seen : List ℕ) → OpFact c trace f.epoch f.me inst number o seen → ((i : Instance) → Among i s.instances → o ≡ op.Mend → MendsAs c trace f i.file m) →
+        (m : Mending) (inst : Serial) → inst.us ≤ 16 → (number : ℕ) (o : Op) (seen : List ℕ) → OpFact c trace f.epoch f.me inst number o seen → ((i : Instance) → Among i s.instances → i.inst ≡ inst → o ≡ op.Mend → MendsAs c trace f i.file m) →
         AllStays c n trace (on_op f m inst number o seen s).told → StoreFine c n trace f s (on_op f m inst number o seen s) }
 {}
 

@@ -22,3 +22,4 @@ pub mod Notices
 pub mod Answering
 pub mod Sets
 pub mod Makes
+pub mod Repeated

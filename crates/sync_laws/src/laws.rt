@@ -20,9 +20,13 @@ ghost use Rattle.locus_ids.specs.declared.ids.Kind.{Kind};
 ghost use Rattle.locus_ids.specs.declared.ids.Serial.{Serial};
 ghost use Rattle.locus_ids.specs.declared.sites.Sites.{Sites};
 ghost use Rattle.wire_messages.specs.declared.body.Opening.TheVariants as how;
+ghost use Rattle.wire_messages.specs.declared.body.MadeVersion.{MadeVersion};
 ghost use Rattle.wire_messages.specs.declared.body.OpenedAs.{OpenedAs};
+ghost use Rattle.wire_messages.specs.declared.body.ReportedCopy.{ReportedCopy};
+ghost use Rattle.locus_ids.specs.Sites.{has};
+ghost use Rattle.role_steps.specs.declared.synchronizing.OpenStage.TheVariants as stage;
 ghost use Rattle.role_steps.specs.Own.{Every};
-ghost use Rattle.role_steps.specs.Reports.{on_look, on_open, sync_repeats};
+ghost use Rattle.role_steps.specs.Reports.{on_closed, on_look, on_open, on_report, sync_repeats};
 ghost use Rattle.tree_laws.specs.Doing.{TableFine};
 ghost use Rattle.tree_laws.specs.Packets.{LookFact, OpenFact, OpenedFact, PacketFact};
 ghost use Rattle.sync_laws.specs.Opening.{IsFileMode, IsPlainOpening};
@@ -83,4 +87,13 @@ pub fn makes_are_asked_of_their_sites()
 pub fn epochs_name_boots()
     ensures calls { (c : Config) (trace : List Line) → IsFollowed c trace → (e : EpochId) (d : CallId) (m : Members) → IsCallIn (entries trace) e d → members_of (entries trace) e ≡ Some m → boot_in m d.site ≡ d.boot }
     ensures joined { (c : Config) (trace : List Line) → IsFollowed c trace → (s : ℕ) (e : EpochId) → epoch_of (entries trace) s ≡ Some e → has_joined (entries trace) s e ≡ true }
+{}
+
+/// A close that comes again of an instance that is over is answered again and tells nothing, and so is the report of a member that has
+/// reported; neither changes the table. An open that was refused, or isn't granted yet, isn't closed.
+pub fn what_comes_again_changes_nothing()
+    ensures closes { (c : Config) (n : ℕ) (trace : List Line) (f : Frame) (t : SyncTable) → TableFact c trace f t → (ss : ℕ) (inst : Serial) (made : Option MadeVersion) →
+        ((r : OpenRow) → open_row t inst ≡ Some r → r.stage ≡ stage.Granted → ⊥) → TableFine c n trace f t.group (on_closed f ss inst made t) }
+    ensures reports { (c : Config) (n : ℕ) (trace : List Line) (f : Frame) (t : SyncTable) → TableFact c trace f t → (from : ℕ) (copies : List ReportedCopy) →
+        has t.reported from ≡ true → TableFine c n trace f t.group (on_report f from copies t) }
 {}

@@ -7,5 +7,5 @@ mod laws;
 pub use laws::{
     epochs_name_boots, looks_are_served, makes_are_asked_of_their_sites,
     notices_are_of_kept_versions, opens_of_files_are_answered, opens_of_files_go_on,
-    table_facts_stay,
+    table_facts_stay, what_comes_again_changes_nothing,
 };

@@ -28,6 +28,7 @@ use Rattle.tree_laws.specs.Packets.{PacketFact}
 use Rattle.tree_laws.specs.Users.{own_call, WaitingFact, UsersFact}
 use Rattle.tree_laws.proofs.Names.{same_call_eq, test_own}
 use Rattle.user_laws.specs.Leaving.{AreApart, LeavesFine}
+use Rattle.user_laws.proofs.Idle.{idle_waits, idle_has}
 use Rattle.user_laws.proofs.Staying.{With, find_kept}
 
 -- ---- one call ----
@@ -96,6 +97,8 @@ users_leave_fine c n older f u apart k = record {
   own = all_own f u.waiting;
   always = all_answered c n (With n (Shown (says.Leave f.me f.epoch)) older) f u.waiting (record u { waiting = []; instances = []; hopeless = [] }) (record { boot_is = k.always.boot_is; calls = k.always.calls; serials = k.always.serials; descriptors = k.always.descriptors });
   sent = refl;
+  none_waits = idle_waits c n older f u k.inside;
+  has_none = idle_has c n older f u;
 }
 
 -- ---- a tick ----

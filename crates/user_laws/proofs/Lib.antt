@@ -1,3 +1,5 @@
 pub mod Staying
 pub mod Views
+pub mod Idle
 pub mod Leaving
+pub mod Booting

@@ -4,4 +4,6 @@
 
 mod laws;
 
-pub use laws::{repeats_carry_their_facts, users_leave_rightly, users_stay};
+pub use laws::{
+    counts_stay_outside, repeats_carry_their_facts, users_begin_so, users_leave_rightly, users_stay,
+};

@@ -1,0 +1,5 @@
+pub mod Wants
+pub mod Mends
+pub mod Granted
+pub mod Whole
+pub mod Only
