@@ -1,7 +1,10 @@
 -- What other laws of every run give of each line that is told: the rows of boots, stops and joins; new stamps; files where packs
 -- are; and the ranges of sites, processes and inode numbers.
-use Rattle.std.specs.Prelude.{ℕ, ◌≡◌, ◌<◌, List, [], ◌∷◌}
+use Rattle.std.specs.Prelude.{ℕ, ◌≡◌, ◌<◌, ◌≤◌, true, List, [], ◌∷◌}
 use Rattle.locus_ids.specs.declared.config.Config.{Config}
+use Rattle.schedule_lines.specs.Ranges.{fits_call}
+use Rattle.trace_book.specs.declared.call.Call.{Call}
+use Rattle.trace_book.specs.declared.call.Call.TheVariants as call
 use Rattle.trace_book.specs.declared.record.Record.{Record}
 use Rattle.trace_book.specs.declared.record.Record.TheVariants as says
 use Rattle.role_steps.specs.Views.{Told, Shown}
@@ -13,7 +16,6 @@ use Rattle.lawful_trace.specs.Lawful.{MayCome}
 use Rattle.tree_laws.specs.Following.{IsFollowed, MayTell}
 use Rattle.tree_laws.specs.Frames.{IsFresh}
 use Rattle.tree_laws.specs.Printed.{entries}
-use Rattle.tree_laws.specs.Processes.{IsMend}
 use Rattle.order_laws.specs.Joining.{PacksAreOfSites}
 
 -- ---- one line ----
@@ -29,21 +31,33 @@ abbrev pub RowTold : Config → List Line → Told → Type 0
 RowTold c older (Shown r) = RowRecord c older r
 RowTold c older _ = Unit {0}
 
-abbrev pub RangeRecord : Record → Type 0
-RangeRecord (says.Join s e members) = IsSite s
-RangeRecord (says.Accept s process call words) = IsSite s × (process < 256) × (process ≡ 0 → IsMend words)
-RangeRecord (says.Commit f s stamp parents content) = (f.ino < 65536) × (stamp.n < 4294967295)
-RangeRecord _ = Unit {0}
+-- a call that a line asked: of one of the sites, of a process from 1 on with a number of one byte, with words that a line may have
+pub record AskedCall (c : Config) (s process : ℕ) (words : Call) : Type 0 where
+  pub site : IsSite s
+  pub process_low : 1 ≤ process
+  pub process_high : process < 256
+  pub fits : fits_call c.sites words ≡ true
 
--- sites are those from 1 to 16, processes have numbers of one byte, of which 0 makes mends alone, inodes have numbers of two,
--- and no counter of versions is at its end
-abbrev pub RangeTold : Told → Type 0
-RangeTold (Shown r) = RangeRecord r
-RangeTold _ = Unit {0}
+-- a mend is asked by no line: its row says whose it is
+abbrev pub RangeCall : Config → ℕ → ℕ → Call → Type 0
+RangeCall c s process (call.Mend file) = Unit {0}
+RangeCall c s process words = AskedCall c s process words
+
+abbrev pub RangeRecord : Config → Record → Type 0
+RangeRecord c (says.Join s e members) = IsSite s
+RangeRecord c (says.Accept s process call words) = RangeCall c s process words
+RangeRecord c (says.Commit f s stamp parents content) = (f.ino < 65536) × (stamp.n < 4294967295)
+RangeRecord c _ = Unit {0}
+
+-- sites are those from 1 to 16, lines ask calls of processes of one byte, of which none is 0, inodes have numbers of two bytes, and
+-- no counter of versions is at its end
+abbrev pub RangeTold : Config → Told → Type 0
+RangeTold c (Shown r) = RangeRecord c r
+RangeTold c _ = Unit {0}
 
 pub record RestTold (c : Config) (older : List Line) (x : Told) : Type 0 where
   pub row : RowTold c older x
-  pub range : RangeTold x
+  pub range : RangeTold c x
   -- a version is made, adopted and granted, an instance begun and a number reserved where a pack is
   pub packed : ToldPacked c x
   -- what is committed is a new version of its file

@@ -1,0 +1,9 @@
+pub mod Shown
+pub mod Ranges
+pub mod Fresh
+pub mod Resting
+pub mod Known
+pub mod Premises
+pub mod Staying
+pub mod Named
+pub mod Roles

@@ -1,0 +1,88 @@
+-- In every run whose lines fit, and in which no counter of versions comes to its end, other laws give the rest of each line.
+use Rattle.std.proofs.Common.{ℕ, List, [], ◌∷◌}
+use Rattle.locus_ids.specs.declared.config.Config.{Config}
+use Rattle.schedule_lines.specs.declared.line.ScheduleLine.{ScheduleLine}
+use Rattle.trace_book.specs.declared.record.Record.{Record}
+use Rattle.trace_book.specs.declared.record.Record.TheVariants as says
+use Rattle.role_steps.specs.Own.{Every}
+use Rattle.role_steps.specs.Views.{Told, Shown}
+use Rattle.the_run.specs.Runs.{run_in}
+use Rattle.the_run.specs.Worlds.{Line}
+use Rattle.tree_model.specs.Folds.{Trace}
+use Rattle.vector_laws.specs.Written.{CommitsAreNumbered, past_of}
+use Rattle.vector_laws.proofs.FactsRun.{run_numbered}
+use Rattle.history_laws.specs.Commits.{FitTold, NumbersFit, StampsAreOnce}
+use Rattle.instance_laws.proofs.Agree.{run_agrees}
+use Rattle.inode_laws.proofs.FitsRun.{run_fits}
+use Rattle.pack_laws.specs.Packs.{ToldPacked}
+use Rattle.pack_laws.proofs.PacksRun.{run_packs}
+use Rattle.stamp_laws.proofs.LawsRun.{run_stamps}
+use Rattle.row_laws.specs.Shown.{EachRecord}
+use Rattle.row_laws.specs.Voids.{LinesFit}
+use Rattle.tree_laws.specs.Printed.{entries, onto_entries}
+use Rattle.order_laws.specs.Joining.{PacksAreOfSites}
+use Rattle.holding_laws.proofs.Below.{once_before}
+use Rattle.one_tree_laws.specs.Rest.{EachRest, IsRest, RangeTold, RowTold}
+use Rattle.rest_laws.specs.Counters.{CountersAreLow, LowTold}
+use Rattle.rest_laws.proofs.Fresh.{told_fresh}
+use Rattle.rest_laws.proofs.Ranges.{boots_begin, call_range, listed_site}
+use Rattle.rest_laws.proofs.Shown.{IsRow, run_rows}
+
+-- what the laws of every run give of a trace
+record Gives (c : Config) (lines : List ScheduleLine) (t : List Line) : Type 0 where
+  rows : EachRecord (IsRow lines) (entries t)
+  low : CountersAreLow t
+  fit : NumbersFit (past_of t)
+  packed : Every (ToldPacked c) (past_of t)
+  numbered : CommitsAreNumbered (past_of t)
+  once : StampsAreOnce (past_of t)
+
+rows_before : (lines : List ScheduleLine) (n : ℕ) (x : Told) (t : Trace) → EachRecord (IsRow lines) (onto_entries n x t) → EachRecord (IsRow lines) t
+rows_before lines n (Shown r) t h = h.1
+rows_before lines n _ t h = h
+
+gives_before : (c : Config) (lines : List ScheduleLine) (x : Line) (older : List Line) → Gives c lines (x ∷ older) → Gives c lines older
+gives_before c lines x older g = record { rows = rows_before lines x.number x.told (entries older) g.rows; low = g.low.1; fit = g.fit.1; packed = g.packed.1; numbered = g.numbered.1; once = once_before x older g.once }
+
+-- ---- one line ----
+
+row_record : (c : Config) (lines : List ScheduleLine) (n : ℕ) (older : List Line) (r : Record) → IsRow lines (entries older) (record { line = n; what = r }) → RowTold c older (Shown r)
+row_record c lines n older (says.Up s boot) h = h.site
+row_record c lines n older (says.Stopped s cause) h = h.site
+row_record c lines n older (says.Join s e members) h = record { up = h.site.up; outside = h.site.outside; new = h.site.new; later = h.site.later; same = h.site.same; member = h.member }
+row_record c lines n older _ h = tt
+
+range_record : (c : Config) (lines : List ScheduleLine) (n : ℕ) (older : List Line) (r : Record) → LinesFit c lines → EachRecord (IsRow lines) (entries older) → IsRow lines (entries older) (record { line = n; what = r }) → FitTold (Shown r) → LowTold (Shown r) → RangeTold c (Shown r)
+range_record c lines n older (says.Join s e members) fit rows h k low = listed_site members s _ h.member (boots_begin lines (entries older) rows s) h.short
+range_record c lines n older (says.Accept s process id words) fit rows h k low = call_range c lines n s process words fit h.asked
+range_record c lines n older (says.Commit f s stamp parents content) fit rows h k low = (k, low)
+range_record c lines n older _ fit rows h k low = tt
+
+row_told : (c : Config) (lines : List ScheduleLine) (n : ℕ) (older : List Line) (x : Told) → EachRecord (IsRow lines) (onto_entries n x (entries older)) → RowTold c older x
+row_told c lines n older (Shown r) h = row_record c lines n older r h.0
+row_told c lines n older _ h = tt
+
+range_told : (c : Config) (lines : List ScheduleLine) (n : ℕ) (older : List Line) (x : Told) → LinesFit c lines → EachRecord (IsRow lines) (onto_entries n x (entries older)) → FitTold x → LowTold x → RangeTold c x
+range_told c lines n older (Shown r) fit h k low = range_record c lines n older r fit h.1 h.0 k low
+range_told c lines n older _ fit h k low = tt
+
+-- ---- all lines ----
+
+each_rest : (c : Config) (lines : List ScheduleLine) → LinesFit c lines → (t : List Line) → Gives c lines t → EachRest c t
+each_rest c lines fit [] g = tt
+each_rest c lines fit (x ∷ older) g = (
+  record {
+    row = row_told c lines x.number older x.told g.rows;
+    range = range_told c lines x.number older x.told fit g.rows g.fit.0 g.low.0;
+    packed = g.packed.0;
+    fresh = told_fresh c older x.told g.numbered.0 g.once;
+    once = g.once;
+  },
+  each_rest c lines fit older (gives_before c lines x older g),
+)
+
+pub run_rests : (c : Config) (lines : List ScheduleLine) → LinesFit c lines → PacksAreOfSites c → CountersAreLow (run_in c lines).trace → IsRest c (run_in c lines).trace
+run_rests c lines fit packs low = record {
+  each = each_rest c lines fit (run_in c lines).trace (record { rows = run_rows c lines fit; low = low; fit = run_fits c lines; packed = (run_packs c lines).told; numbered = run_numbered c lines (run_agrees c lines); once = run_stamps c lines });
+  packs = packs;
+}

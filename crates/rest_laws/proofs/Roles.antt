@@ -1,0 +1,158 @@
+-- The steps that the laws of roles give, so that only the others are left.
+use Rattle.std.proofs.Common.{◌≡◌, ℕ, List, [], refl, sym, subst}
+use Rattle.locus_ids.specs.declared.config.Config.{Config}
+use Rattle.locus_ids.specs.declared.ids.EpochId.{EpochId}
+use Rattle.locus_ids.specs.declared.ids.FileId.{FileId}
+use Rattle.locus_ids.specs.declared.ids.Serial.{Serial}
+use Rattle.locus_ids.specs.declared.ids.Stamp.{Stamp}
+use Rattle.trace_book.specs.declared.record.Record.TheVariants as says
+use Rattle.wire_messages.specs.declared.body.Body.{Body}
+use Rattle.wire_messages.specs.declared.body.Body.TheVariants as body
+use Rattle.wire_messages.specs.declared.body.Opening.{Opening}
+use Rattle.wire_messages.specs.declared.body.Opening.TheVariants as how
+use Rattle.wire_messages.specs.declared.packet.Packet.{Packet}
+use Rattle.role_steps.specs.Looks.{LookRequest}
+use Rattle.role_steps.specs.Opens.{OpenRequest}
+use Rattle.role_steps.specs.Pulling.{on_notify, on_page}
+use Rattle.role_steps.specs.Reports.{on_open, on_look}
+use Rattle.role_steps.specs.Storage.{StoreRequest, copy_of, on_open_ss, on_closed_ok, on_look_ss, on_pull}
+use Rattle.role_steps.specs.Using.{users_leave}
+use Rattle.role_steps.specs.Views.{Frame, Users, Store, Shown}
+use Rattle.role_steps.specs.declared.pulls.Pull.{Pull}
+use Rattle.role_steps.specs.declared.synchronizing.SyncTable.{SyncTable}
+use Rattle.the_run.specs.Worlds.{Line}
+use Rattle.tree_laws.specs.Doing.{IsOfUsers, NoWrite, Fine, StoreHeld, StoreFine, TableFine, PullsFact, PullsFine}
+use Rattle.tree_laws.specs.Packets.{BodyFact, LookFact, NotifyFact, OpenFact, OpenSsFact, ServeFact}
+use Rattle.tree_laws.specs.Past.{WasReleased}
+use Rattle.user_laws.specs.Leaving.{LeavesFine}
+use Rattle.user_laws.proofs.Leaving.{users_leave_fine}
+use Rattle.store_laws.proofs.Closes.{closed_ok_fine}
+use Rattle.store_laws.proofs.MakingHere.{open_fine as begin_fine}
+use Rattle.store_laws.proofs.Pulls.{notify_fine, page_fine}
+use Rattle.store_laws.proofs.Serving.{look_served, page_sent}
+use Rattle.sync_laws.specs.Serving.{Serving}
+use Rattle.sync_laws.proofs.Looks.{look_fine}
+use Rattle.sync_laws.proofs.Makes.{make_fine}
+use Rattle.sync_laws.proofs.Notices.{repeats_fine}
+use Rattle.sync_laws.proofs.Opens.{open_fine}
+use Rattle.one_tree_laws.specs.Places.{UsersOf, UsersOutside}
+use Rattle.one_tree_laws.specs.Rest.{Past, more}
+use Rattle.one_tree_laws.specs.Roles.{Came, Ready, RolesDo, TableHere}
+use Rattle.rest_laws.specs.Left.{RolesLeft}
+use Rattle.rest_laws.proofs.Named.{released_low}
+use Rattle.rest_laws.proofs.Premises.{files_ordered, makes_said, store_rests}
+use Rattle.rest_laws.proofs.Staying.{opens_stay, serving}
+
+-- the fact of the packet that came
+its_fact : (c : Config) (t : List Line) (f : Frame) (p : Packet) (b : Body) → Came c t f p b → BodyFact c t p b
+its_fact c t f p b came = subst (BodyFact c t p) came.body_is came.fact
+
+-- ---- the using site ----
+
+leaves : (c : Config) (n : ℕ) (t : List Line) (f : Frame) (u : Users) → Ready c t f → UsersOf c f t u →
+    Fine Users c n (more n (Shown (says.Leave f.me f.epoch)) t) (IsOfUsers f.me) (UsersOutside c f.me f.boot) NoWrite (users_leave f.me f.boot f.epoch u)
+leaves c n t f u ready k =
+    let l : LeavesFine c n (more n (Shown (says.Leave f.me f.epoch)) t) f u = users_leave_fine c n t f u k.apart k.inside in
+    record {
+      told = l.told;
+      own = l.own;
+      view = record { always = l.always; idle = record { none_waits = l.none_waits; has_none = l.has_none }; calls = refl; instances = refl; hopeless = refl; descriptors_ascend = k.descriptors_ascend };
+      sent = tt;
+      written = tt;
+    }
+
+-- ---- the storage site ----
+
+opens : (c : Config) (n : ℕ) (t : List Line) (f : Frame) (p : Packet) (r : StoreRequest) (s : Store) → Ready c t f → StoreHeld c f t s → Came c t f p (body.OpenSs r.inst r.file r.mode r.set r.kind r.base r.vector r.parents) → StoreFine c n t f s (on_open_ss f r s)
+opens c n t f p r s ready held came =
+    begin_fine c n t ready.past.rest.packs ready.past.followed (store_rests c t ready.past) f ready.frame s held r.inst r.file r.mode r.set r.kind r.base r.vector r.parents
+    (subst (λ (e : EpochId). OpenSsFact c t e f.me r.inst r.file r.mode r.set r.kind r.base r.vector r.parents) came.received.epoch_is
+    (subst (λ (s : ℕ). OpenSsFact c t p.epoch s r.inst r.file r.mode r.set r.kind r.base r.vector r.parents) came.received.to_is (its_fact c t f p _ came)))
+    (opens_stay c n t f r s)
+
+ends : (c : Config) (n : ℕ) (t : List Line) (f : Frame) (p : Packet) (i : Serial) (s : Store) → Ready c t f → StoreHeld c f t s → Came c t f p (body.ClosedOk i) → StoreFine c n t f s (on_closed_ok f i s)
+ends c n t f p i s ready held came =
+    let k : WasReleased t f.epoch i = subst (λ (e : EpochId). WasReleased t e i) came.received.epoch_is (its_fact c t f p (body.ClosedOk i) came) in
+    closed_ok_fine c n t (store_rests c t ready.past) f s held i (released_low c t ready.past f.epoch i k) k
+
+serves : (c : Config) (n : ℕ) (t : List Line) (f : Frame) (p : Packet) (us : ℕ) (l : LookRequest) (stamp : Stamp) (s : Store) → Ready c t f → StoreHeld c f t s → Came c t f p (body.LookSs us l.call l.process l.request l.take l.file l.what stamp) → StoreFine c n t f s (on_look_ss f us l stamp s)
+serves c n t f p us l stamp s ready held came =
+    look_served c n t ready.past.followed (store_rests c t ready.past) f ready.frame s held us l.call l.process l.request l.take l.file l.what stamp
+    (subst (λ (e : EpochId). ServeFact t e us l.call l.process l.request l.take l.file l.what stamp) came.received.epoch_is (its_fact c t f p (body.LookSs us l.call l.process l.request l.take l.file l.what stamp) came))
+
+gives : (c : Config) (n : ℕ) (t : List Line) (f : Frame) (p : Packet) (file : FileId) (stamp : Stamp) (page : ℕ) (s : Store) → Ready c t f → StoreHeld c f t s → Came c t f p (body.Pull file stamp page) → StoreFine c n t f s (on_pull f p.from file stamp page s)
+gives c n t f p file stamp page s ready held came = page_sent c n t ready.past.followed (store_rests c t ready.past) f s held p.from file stamp page (its_fact c t f p (body.Pull file stamp page) came)
+
+-- ---- the synchronization site of a group ----
+
+table_opens : (c : Config) (n : ℕ) (t : List Line) (f : Frame) (from : ℕ) (tab : SyncTable) → Past c t → Serving c n t f tab → (serial call process request : ℕ) (file : FileId) (q : Opening) → file.group ≡ tab.group →
+    OpenFact c t f.epoch from serial call process request file q → TableFine c n t f tab.group (on_open f from (record { serial = serial; call = call; process = process; request = request; file = file; how = q }) tab)
+table_opens c n t f from tab past ready serial call process request file (how.Make set k) group_is fact = make_fine c n t f tab ready (makes_said c t past) from serial call process request file set k group_is fact
+table_opens c n t f from tab past ready serial call process request file how.Read group_is fact = open_fine c n t f tab ready (files_ordered c t past f.epoch) from (record { serial = serial; call = call; process = process; request = request; file = file; how = how.Read }) tt group_is fact
+table_opens c n t f from tab past ready serial call process request file how.Write group_is fact = open_fine c n t f tab ready (files_ordered c t past f.epoch) from (record { serial = serial; call = call; process = process; request = request; file = file; how = how.Write }) tt group_is fact
+table_opens c n t f from tab past ready serial call process request file how.Mend group_is fact = open_fine c n t f tab ready (files_ordered c t past f.epoch) from (record { serial = serial; call = call; process = process; request = request; file = file; how = how.Mend }) tt group_is fact
+table_opens c n t f from tab past ready serial call process request file (how.Resolve site) group_is fact = open_fine c n t f tab ready (files_ordered c t past f.epoch) from (record { serial = serial; call = call; process = process; request = request; file = file; how = how.Resolve site }) tt group_is fact
+
+tab_opens : (c : Config) → RolesLeft c → (n : ℕ) (t : List Line) (f : Frame) (p : Packet) (o : OpenRequest) (tab : SyncTable) → Ready c t f → TableHere c t f tab → Came c t f p (body.Open o.serial o.call o.process o.request o.file o.how) → tab.group ≡ o.file.group → TableFine c n t f o.file.group (on_open f p.from o tab)
+tab_opens c left n t f p o tab ready here came group_is = subst (λ (g : ℕ). TableFine c n t f g (on_open f p.from o tab)) group_is
+    (table_opens c n t f p.from tab ready.past (serving c n t f tab ready.past ready.frame (left.said t ready.past) here) o.serial o.call o.process o.request o.file o.how (sym group_is)
+    (subst (λ (e : EpochId). OpenFact c t e p.from o.serial o.call o.process o.request o.file o.how) came.received.epoch_is (its_fact c t f p (body.Open o.serial o.call o.process o.request o.file o.how) came)))
+
+tab_looks : (c : Config) → RolesLeft c → (n : ℕ) (t : List Line) (f : Frame) (p : Packet) (l : LookRequest) (tab : SyncTable) → Ready c t f → TableHere c t f tab → Came c t f p (body.Look l.call l.process l.request l.take l.file l.what) → tab.group ≡ l.file.group → TableFine c n t f l.file.group (on_look f p.from l tab)
+tab_looks c left n t f p l tab ready here came group_is = subst (λ (g : ℕ). TableFine c n t f g (on_look f p.from l tab)) group_is
+    (look_fine c n t f tab (serving c n t f tab ready.past ready.frame (left.said t ready.past) here) p.from l (sym group_is)
+    (subst (λ (e : EpochId). LookFact c t e p.from l.call l.process l.request l.take l.file l.what) came.received.epoch_is (its_fact c t f p (body.Look l.call l.process l.request l.take l.file l.what) came)))
+
+-- ---- propagation ----
+
+notified : (c : Config) (n : ℕ) (t : List Line) (f : Frame) (p : Packet) (pull : Pull) (s : Store) (ps : List Pull) → Ready c t f → StoreHeld c f t s → PullsFact c f t ps → pull.content ≡ [] →
+    Came c t f p (body.Notify pull.file pull.kind pull.set pull.size pull.stamp pull.vector pull.holder) → PullsFine c n t f (on_notify f p.from (copy_of s pull.file) pull ps)
+notified c n t f p pull s ps ready held all empty came =
+    subst (λ (b : List ℕ). PullsFine c n t f (on_notify f p.from (copy_of s pull.file) (record { file = pull.file; kind = pull.kind; set = pull.set; size = pull.size; stamp = pull.stamp; vector = pull.vector; holder = pull.holder; content = b }) ps)) (sym empty)
+    (notify_fine c n t ready.past.followed (store_rests c t ready.past) f ready.frame s held.copies ps all p.from pull.file pull.kind pull.set pull.size pull.stamp pull.vector pull.holder
+    (subst (λ (e : EpochId). NotifyFact c t e pull.file pull.kind pull.set pull.size pull.stamp pull.vector) came.received.epoch_is (its_fact c t f p (body.Notify pull.file pull.kind pull.set pull.size pull.stamp pull.vector pull.holder) came)))
+
+paged : (c : Config) (n : ℕ) (t : List Line) (f : Frame) (p : Packet) (file : FileId) (stamp : Stamp) (page : ℕ) (bytes : List ℕ) (ps : List Pull) → Ready c t f → PullsFact c f t ps → Came c t f p (body.Page file stamp page bytes) → PullsFine c n t f (on_page f file stamp page bytes ps)
+paged c n t f p file stamp page bytes ps ready all came = page_fine c n t (store_rests c t ready.past) f ps all file stamp page bytes (its_fact c t f p (body.Page file stamp page bytes) came)
+
+-- ---- all ----
+
+pub roles_do : (c : Config) → RolesLeft c → RolesDo c
+roles_do c left = record {
+  users = record {
+    calls = left.users.calls;
+    calls_outside = left.users.calls_outside;
+    opened = left.users.opened;
+    acted = left.users.acted;
+    closed = left.users.closed;
+    looked = left.users.looked;
+    leaves = λ n t f u ready k rest. leaves c n t f u ready k;
+  };
+  stores = record {
+    first = left.stores.first;
+    opens = λ n t f p r s ready held came rest. opens c n t f p r s ready held came;
+    acts = left.stores.acts;
+    closes = left.stores.closes;
+    ends = λ n t f p i s ready held came rest. ends c n t f p i s ready held came;
+    serves = λ n t f p us l stamp s ready held came rest. serves c n t f p us l stamp s ready held came;
+    gives = λ n t f p file stamp page s ready held came rest. gives c n t f p file stamp page s ready held came;
+    repeats = left.stores.repeats;
+  };
+  tables = record {
+    reports = left.tables.reports;
+    opens = λ n t f p o tab ready here came group_is rest. tab_opens c left n t f p o tab ready here came group_is;
+    opened = left.tables.opened;
+    closed = left.tables.closed;
+    looks = λ n t f p l tab ready here came group_is rest. tab_looks c left n t f p l tab ready here came group_is;
+    notes = left.tables.notes;
+    repeats = λ t f tab ready here. repeats_fine c t f tab here.fact;
+  };
+  pulls = record {
+    notified = λ n t f p pull s ps ready held all empty came. notified c n t f p pull s ps ready held all empty came;
+    paged = λ n t f p file stamp page bytes ps ready all came. paged c n t f p file stamp page bytes ps ready all came;
+    repeats = left.pulls.repeats;
+    adopts = left.pulls.adopts;
+    mends = left.pulls.mends;
+  };
+  epochs = left.epochs;
+}

@@ -1,0 +1,5 @@
+use Rattle.rest_laws.proofs.Roles.{roles_do}
+use Rattle.rest_laws.proofs.laws.roles_do_as_they_may.Goals as goal
+
+pub returns : goal.returns
+returns c = λ config left. roles_do config left

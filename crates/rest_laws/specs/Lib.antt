@@ -1,0 +1,4 @@
+pub mod Counters
+pub mod Known
+pub mod Asking
+pub mod Left

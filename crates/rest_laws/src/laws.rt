@@ -1,0 +1,49 @@
+ghost use Rattle.std.specs.Prelude.{List};
+ghost use Rattle.locus_ids.specs.declared.config.Config.{Config};
+ghost use Rattle.schedule_lines.specs.declared.line.ScheduleLine.{ScheduleLine};
+ghost use Rattle.locus_ids.specs.declared.ids.EpochId.{EpochId};
+ghost use Rattle.the_run.specs.Runs.{run_in};
+ghost use Rattle.the_run.specs.Worlds.{Line};
+ghost use Rattle.row_laws.specs.Voids.{LinesFit};
+ghost use Rattle.order_laws.specs.Joining.{PacksAreOfSites};
+ghost use Rattle.store_laws.specs.Rests.{StoreRests};
+ghost use Rattle.sync_laws.specs.Making.{MakesAreSaid};
+ghost use Rattle.sync_laws.specs.Serving.{CallsAreKnown, FilesAreOrdered};
+ghost use Rattle.one_tree_laws.specs.Rest.{IsRest, Past};
+ghost use Rattle.rest_laws.specs.Asking.{OpensAreSaid};
+ghost use Rattle.one_tree_laws.specs.Roles.{RolesDo};
+ghost use Rattle.rest_laws.specs.Counters.{CountersAreLow};
+ghost use Rattle.rest_laws.specs.Left.{RolesLeft};
+ghost use Rattle.tree_laws.specs.Following.{IsFollowed, RowsAreLawful};
+ghost use Rattle.tree_laws.specs.Printed.{entries};
+
+/// After every schedule whose lines are in range for the cluster, and whose run brings no counter of versions to its end, each boot,
+/// stop and join came as it may, sites, processes, words and inode numbers are in range, versions lie where packs are, and each
+/// commit is a new version.
+pub fn every_run_has_its_rest()
+    ensures { (c : Config) (lines : List ScheduleLine) → LinesFit c lines → PacksAreOfSites c → CountersAreLow (run_in c lines).trace → IsRest c (run_in c lines).trace }
+{}
+
+/// What the steps of storage sites and of synchronization sites rest on is so wherever all that was told came as it may: who is in an
+/// epoch and who calls are of the sixteen sites, process 0 makes mends alone, files have numbers of 16 bits, makes are asked for some
+/// sites as their words say, whole contents are asked of kept versions, and who has the only kept version at least has it.
+pub fn roles_rest_on_the_past()
+    ensures stores { (c : Config) (trace : List Line) → Past c trace → StoreRests c trace }
+    ensures calls { (c : Config) (trace : List Line) → Past c trace → OpensAreSaid c trace → CallsAreKnown c trace }
+    ensures files { (c : Config) (trace : List Line) → Past c trace → (e : EpochId) → FilesAreOrdered c trace e }
+    ensures makes { (c : Config) (trace : List Line) → Past c trace → MakesAreSaid c trace }
+{}
+
+/// Each role does its steps as it may, where those do that no law gives yet: the laws of roles give, from what came so far, that looks
+/// are served and opens answered, granted opens begun, ended instances ended, pages sent and noted, and calls answered when a site
+/// leaves its epoch.
+pub fn roles_do_as_they_may()
+    ensures { (c : Config) → RolesLeft c → RolesDo c }
+{}
+
+/// After every schedule whose lines are in range for the cluster, and whose run brings no counter of versions to its end, whatever was
+/// told came as it may, and each printed record is lawful, where the steps that are left are fine.
+pub fn every_run_is_one_tree()
+    ensures told { (c : Config) (lines : List ScheduleLine) → LinesFit c lines → PacksAreOfSites c → CountersAreLow (run_in c lines).trace → RolesLeft c → IsFollowed c (run_in c lines).trace }
+    ensures rows { (c : Config) (lines : List ScheduleLine) → LinesFit c lines → PacksAreOfSites c → CountersAreLow (run_in c lines).trace → RolesLeft c → RowsAreLawful c (entries (run_in c lines).trace) }
+{}
