@@ -1,0 +1,52 @@
+ghost use Rattle.std.specs.Prelude.{ℕ, ◌≡◌, true, false, List};
+ghost use Rattle.locus_ids.specs.declared.config.Config.{Config};
+ghost use Rattle.locus_ids.specs.declared.ids.EpochId.{EpochId};
+ghost use Rattle.locus_ids.specs.declared.sites.Members.{Members};
+ghost use Rattle.role_steps.specs.Epochs.{all_reports, joins};
+ghost use Rattle.role_steps.specs.Own.{Every};
+ghost use Rattle.role_steps.specs.Reports.{have_all_reported, starts, takes_all_early};
+ghost use Rattle.role_steps.specs.Views.{Frame, SiteView};
+ghost use Rattle.role_steps.specs.declared.synchronizing.Early.{Early};
+ghost use Rattle.role_steps.specs.declared.synchronizing.SyncTable.{SyncTable};
+ghost use Rattle.the_run.specs.Worlds.{Line};
+ghost use Rattle.tree_laws.specs.Doing.{NoWrite, TableFine};
+ghost use Rattle.tree_laws.specs.Packets.{PacketFact};
+ghost use Rattle.tree_laws.specs.Tables.{early_packet};
+ghost use Rattle.one_tree_laws.specs.Places.{InsideFact, OutsideFact, SiteFact, SiteFine};
+ghost use Rattle.one_tree_laws.specs.Rest.{AllRest, Past};
+ghost use Rattle.one_tree_laws.specs.Roles.{EpochsDo, Ready, TableHere};
+ghost use Rattle.epoch_tree_laws.specs.Starting.{BroughtFiles};
+ghost use Rattle.epoch_tree_laws.specs.Waiting.{RequestsDo, WaitsIn};
+
+/// What a site reports of a pack are the versions that it has in the epoch, all of them and no others, whenever it reports: its
+/// disk holds what its site has, and while it is in the epoch that is what it has there.
+pub fn reports_tell_what_is_held()
+    ensures { (c : Config) (trace : List Line) (f : Frame) (v : SiteView) → Ready c trace f → InsideFact c f trace v → Every (PacketFact c trace) (all_reports f v) }
+{}
+
+/// A site that joins an epoch does so as it may, and has there what it has to: no call waits, it has no instance, and the tables of
+/// the groups that it synchronizes are new, since nothing stands of a group before all its packs have joined. What it reports is what
+/// it has.
+pub fn sites_join_with_nothing()
+    ensures { (c : Config) (n : ℕ) (trace : List Line) (me : ℕ) (e : EpochId) (members : Members) (v : SiteView) → Past c trace → OutsideFact c me trace v → AllRest c n trace (joins c me e members v).told →
+        SiteFine c n trace me (SiteFact c me) NoWrite (joins c me e members v) }
+{}
+
+/// So both steps of epochs are as the induction over a run asks for them, with no premise left.
+pub fn epochs_are_joined_and_reported()
+    ensures { (c : Config) → EpochsDo c }
+{}
+
+/// Once a group has started, the requests that waited for it are served one after the other, in the order in which they came, each as
+/// if it came now: where opens and looks are done as they may, so are all of these together.
+pub fn requests_that_waited_are_served()
+    ensures { (c : Config) (n : ℕ) (trace : List Line) (f : Frame) (es : List Early) (t : SyncTable) → RequestsDo c → Ready c trace f → TableHere c trace f t → t.started ≡ true → Every (λ (x : Early). PacketFact c trace (early_packet f x)) es → Every (WaitsIn t.group) es → AllRest c n trace (takes_all_early f es t).told →
+        TableFine c n trace f t.group (takes_all_early f es t) }
+{}
+
+/// A group starts once all its members have reported, as it may: all that have a pack have joined. Where what they have reported is all
+/// that they brought, the start tells what the tree knows, the table is then what the tree has, and the requests that waited are served.
+pub fn groups_start_when_all_have_reported()
+    ensures { (c : Config) (n : ℕ) (trace : List Line) (f : Frame) (t : SyncTable) → RequestsDo c → Ready c trace f → TableHere c trace f t → t.started ≡ false → have_all_reported f t ≡ true → BroughtFiles c trace f t → Every (WaitsIn t.group) t.early → AllRest c n trace (starts f t).told →
+        TableFine c n trace f t.group (starts f t) }
+{}
