@@ -6,3 +6,4 @@ pub mod Then
 pub mod Waiting
 pub mod Brought
 pub mod Starting
+pub mod Reporting

@@ -1,5 +1,5 @@
 -- A group starts once all its members have reported: the start comes as it may, and the table is then what the tree has.
-use Rattle.std.proofs.Common.{◌≡◌, ℕ, zero, suc, ◌==◌, Bool, true, false, not, ◌&&◌, ◌||◌, cond, List, [], ◌∷◌, ◌++◌, filter, map, Option, Some, None, refl, sym, ◌∙◌, ap, subst, ◌⊎◌, inl, inr, arith}
+use Rattle.std.proofs.Common.{◌≡◌, ℕ, zero, suc, ◌==◌, Bool, true, false, not, ◌&&◌, ◌||◌, cond, List, [], ◌∷◌, filter, Option, Some, None, refl, sym, ◌∙◌, ap, subst, ◌⊎◌, inl, inr, arith}
 use Rattle.std.specs.List.{flat_map, list_all}
 use Rattle.std.specs.Prelude.{get_or, nat_lt}
 use Rattle.std.proofs.lemmas.Bool.Decides.{nat_tests}
@@ -7,20 +7,16 @@ use Rattle.locus_ids.specs.Sites.{has}
 use Rattle.locus_ids.specs.declared.config.Config.{Config}
 use Rattle.locus_ids.specs.declared.ids.Brought.{Brought}
 use Rattle.locus_ids.specs.declared.ids.EpochId.{EpochId}
-use Rattle.locus_ids.specs.declared.ids.Stamp.{Stamp}
 use Rattle.locus_ids.specs.declared.sites.Members.{Members}
 use Rattle.trace_book.specs.Same.{same_epoch}
 use Rattle.trace_book.specs.declared.record.Record.TheVariants as says
 use Rattle.role_steps.specs.Own.{Every}
 use Rattle.role_steps.specs.Notices.{notices}
 use Rattle.role_steps.specs.Reports.{brought_files, have_all_reported, starts, takes_all_early}
-use Rattle.role_steps.specs.Versions.{file_row}
 use Rattle.role_steps.specs.Views.{Frame, Told, Shown, Outcome, pack_sites, sync_site}
 use Rattle.role_steps.specs.Views as role
-use Rattle.role_steps.specs.declared.synchronizing.Early.{Early}
 use Rattle.role_steps.specs.declared.synchronizing.FileRow.{FileRow}
 use Rattle.role_steps.specs.declared.synchronizing.LastLook.{LastLook}
-use Rattle.role_steps.specs.declared.synchronizing.OpenRow.{OpenRow}
 use Rattle.role_steps.specs.declared.synchronizing.SyncTable.{SyncTable}
 use Rattle.the_run.specs.Worlds.{Line}
 use Rattle.tree_model.specs.Epochs.{has_joined, members_of}
@@ -30,14 +26,13 @@ use Rattle.tree_model.specs.Packs as tree
 use Rattle.tree_model.specs.Same.{same_all}
 use Rattle.tree_model.specs.State.{TreeState, held_at, kept_of, openers, stamps_of}
 use Rattle.tree_model.specs.Tree.{tree_of}
-use Rattle.lawful_trace.specs.TreeRows.{MayStart, has_joined_some, have_all_joined, is_served}
+use Rattle.lawful_trace.specs.TreeRows.{has_joined_some, have_all_joined, is_served}
 use Rattle.tree_laws.specs.Doing.{TableFine}
 use Rattle.tree_laws.specs.Following.{MayTell}
 use Rattle.tree_laws.specs.Frames.{AllStay, VersionsStay}
-use Rattle.tree_laws.specs.Instances.{held_in}
 use Rattle.tree_laws.specs.Packets.{PacketFact, file_in}
 use Rattle.tree_laws.specs.Printed.{entries}
-use Rattle.tree_laws.specs.Tables.{ExactFact, FileFact, FilesFact, IsAhead, IsNoted, IsStill, ReportedFiles, RowFact, StartedFiles, TableFact, early_packet}
+use Rattle.tree_laws.specs.Tables.{ExactFact, FileFact, FilesFact, IsAhead, IsNoted, ReportedFiles, RowFact, TableFact}
 use Rattle.tree_laws.proofs.Boots.{every_both}
 use Rattle.tree_laws.proofs.Carried.{packet_stays}
 use Rattle.tree_laws.proofs.Names.{same_epoch_own, test_own}
@@ -47,7 +42,6 @@ use Rattle.holding_laws.proofs.Copies.{epoch_joined}
 use Rattle.process_laws.proofs.Synchronizing.{sync_same}
 use Rattle.sync_laws.proofs.Ahead.{ahead_stays}
 use Rattle.sync_laws.proofs.Files.{file_row_stays}
-use Rattle.sync_laws.proofs.Members.{table_boot}
 use Rattle.sync_laws.proofs.Notices.{repeats_fine}
 use Rattle.sync_laws.proofs.OpensStay.{names_stay, open_row_stays}
 use Rattle.sync_laws.proofs.Trees.{same_if}

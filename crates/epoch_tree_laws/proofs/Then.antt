@@ -1,5 +1,5 @@
 -- One thing after another at a table.
-use Rattle.std.proofs.Common.{◌≡◌, ℕ, List, [], ◌∷◌, ◌++◌, Option, Some, None, refl, sym, ◌∙◌, subst}
+use Rattle.std.proofs.Common.{◌≡◌, ℕ, List, [], ◌∷◌, ◌++◌, Option, Some, None, sym, subst}
 use Rattle.locus_ids.specs.declared.config.Config.{Config}
 use Rattle.locus_ids.specs.declared.ids.EpochId.{EpochId}
 use Rattle.role_steps.specs.Own.{Every}
@@ -7,7 +7,7 @@ use Rattle.role_steps.specs.Views.{Frame, Told, DiskWrite, Outcome, first_writte
 use Rattle.role_steps.specs.declared.synchronizing.SyncTable.{SyncTable}
 use Rattle.role_steps.proofs.Sending.{every_append}
 use Rattle.the_run.specs.Worlds.{Line, told_onto}
-use Rattle.tree_laws.specs.Doing.{AllTold, FrameFact, IsOfTable, IsOfSite, NoWrite, TableFine, TableOf, WrittenFact}
+use Rattle.tree_laws.specs.Doing.{IsOfTable, IsOfSite, NoWrite, TableFine, TableOf, WrittenFact}
 use Rattle.tree_laws.specs.Instances.{IsStarted}
 use Rattle.tree_laws.specs.Packets.{PacketFact}
 use Rattle.tree_laws.proofs.Kinship.{started_stays}

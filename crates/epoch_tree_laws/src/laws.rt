@@ -2,9 +2,10 @@ ghost use Rattle.std.specs.Prelude.{ℕ, ◌≡◌, true, false, List};
 ghost use Rattle.locus_ids.specs.declared.config.Config.{Config};
 ghost use Rattle.locus_ids.specs.declared.ids.EpochId.{EpochId};
 ghost use Rattle.locus_ids.specs.declared.sites.Members.{Members};
+ghost use Rattle.wire_messages.specs.declared.body.ReportedCopy.{ReportedCopy};
 ghost use Rattle.role_steps.specs.Epochs.{all_reports, joins};
 ghost use Rattle.role_steps.specs.Own.{Every};
-ghost use Rattle.role_steps.specs.Reports.{have_all_reported, starts, takes_all_early};
+ghost use Rattle.role_steps.specs.Reports.{have_all_reported, on_report, starts, takes_all_early};
 ghost use Rattle.role_steps.specs.Views.{Frame, SiteView};
 ghost use Rattle.role_steps.specs.declared.synchronizing.Early.{Early};
 ghost use Rattle.role_steps.specs.declared.synchronizing.SyncTable.{SyncTable};
@@ -15,6 +16,7 @@ ghost use Rattle.tree_laws.specs.Tables.{early_packet};
 ghost use Rattle.one_tree_laws.specs.Places.{InsideFact, OutsideFact, SiteFact, SiteFine};
 ghost use Rattle.one_tree_laws.specs.Rest.{AllRest, Past};
 ghost use Rattle.one_tree_laws.specs.Roles.{EpochsDo, Ready, TableHere};
+ghost use Rattle.epoch_tree_laws.specs.Reporting.{MayCount};
 ghost use Rattle.epoch_tree_laws.specs.Starting.{BroughtFiles};
 ghost use Rattle.epoch_tree_laws.specs.Waiting.{RequestsDo, WaitsIn};
 
@@ -49,4 +51,11 @@ pub fn requests_that_waited_are_served()
 pub fn groups_start_when_all_have_reported()
     ensures { (c : Config) (n : ℕ) (trace : List Line) (f : Frame) (t : SyncTable) → RequestsDo c → Ready c trace f → TableHere c trace f t → t.started ≡ false → have_all_reported f t ≡ true → BroughtFiles c trace f t → Every (WaitsIn t.group) t.early → AllRest c n trace (starts f t).told →
         TableFine c n trace f t.group (starts f t) }
+{}
+
+/// A report is answered, and the first of a member counts; with the last one the group starts, and what waited is served. Where a table
+/// with the report is what the reports have told, all of this is as it may be.
+pub fn reports_are_counted()
+    ensures { (c : Config) (n : ℕ) (trace : List Line) (f : Frame) (from : ℕ) (xs : List ReportedCopy) (t : SyncTable) → RequestsDo c → Ready c trace f → TableHere c trace f t → MayCount c trace f from xs t → AllRest c n trace (on_report f from xs t).told →
+        TableFine c n trace f t.group (on_report f from xs t) }
 {}

@@ -4,6 +4,7 @@ pub mod Fresh
 pub mod Resting
 pub mod Known
 pub mod Premises
+pub mod Packs
 pub mod Staying
 pub mod Named
 pub mod Roles

@@ -82,7 +82,7 @@ make_said c t e d g =
     ap (λ (k : Config). sites_made (packs_of k (tree_of c e g (entries t)).group) (words_of (call_in (tree_of c e g (entries t)).calls d))) (tree_config c e g (entries t)) ∙
     (ap (λ (k : ℕ). sites_made (packs_of c k) (words_of (call_in (tree_of c e g (entries t)).calls d))) (tree_group_is c e g (entries t)) ∙ ap (sites_made (packs_of c g)) (words_same c e g t d))
 
-some_low : (n : ℕ) (set : Sites) → is_some_sites n set ≡ true → set.0 < 2 ^ 16
+pub some_low : (n : ℕ) (set : Sites) → is_some_sites n set ≡ true → set.0 < 2 ^ 16
 some_low n set h = within (2 ^ min n 16) (2 ^ 16) (second (nat_lt 0 set.0) (nat_lt set.0 (2 ^ min n 16)) h) (pow_mono (capped n))
   where
     capped : (k : ℕ) → min k 16 ≤ 16

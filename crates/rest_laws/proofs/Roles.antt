@@ -1,5 +1,5 @@
 -- The steps that the laws of roles give, so that only the others are left.
-use Rattle.std.proofs.Common.{◌≡◌, ℕ, List, [], refl, sym, subst}
+use Rattle.std.proofs.Common.{◌≡◌, ℕ, Bool, true, false, cond, List, [], ◌∷◌, refl, sym, subst}
 use Rattle.locus_ids.specs.declared.config.Config.{Config}
 use Rattle.locus_ids.specs.declared.ids.EpochId.{EpochId}
 use Rattle.locus_ids.specs.declared.ids.FileId.{FileId}
@@ -12,21 +12,27 @@ use Rattle.wire_messages.specs.declared.body.Opening.{Opening}
 use Rattle.wire_messages.specs.declared.body.Opening.TheVariants as how
 use Rattle.wire_messages.specs.declared.packet.Packet.{Packet}
 use Rattle.role_steps.specs.Looks.{LookRequest}
+use Rattle.role_steps.specs.Own.{Every}
+use Rattle.role_steps.specs.declared.instances.Instance.{Instance}
+use Rattle.role_steps.specs.declared.instances.Stage.{Stage}
+use Rattle.role_steps.specs.declared.instances.Stage.TheVariants as stage
 use Rattle.role_steps.specs.Opens.{OpenRequest}
-use Rattle.role_steps.specs.Pulling.{on_notify, on_page}
+use Rattle.role_steps.specs.Pulling.{is_complete, next_page, on_notify, on_page, pull_packets}
 use Rattle.role_steps.specs.Reports.{on_open, on_look}
-use Rattle.role_steps.specs.Storage.{StoreRequest, copy_of, on_open_ss, on_closed_ok, on_look_ss, on_pull}
+use Rattle.role_steps.specs.Storage.{StoreRequest, closed_again, store_repeats, copy_of, on_open_ss, on_closed_ok, on_look_ss, on_pull}
 use Rattle.role_steps.specs.Using.{users_leave}
-use Rattle.role_steps.specs.Views.{Frame, Users, Store, Shown}
+use Rattle.role_steps.specs.Views.{Frame, Users, Store, Shown, packet}
 use Rattle.role_steps.specs.declared.pulls.Pull.{Pull}
 use Rattle.role_steps.specs.declared.synchronizing.SyncTable.{SyncTable}
 use Rattle.the_run.specs.Worlds.{Line}
 use Rattle.tree_laws.specs.Doing.{IsOfUsers, NoWrite, Fine, StoreHeld, StoreFine, TableFine, PullsFact, PullsFine}
-use Rattle.tree_laws.specs.Packets.{BodyFact, LookFact, NotifyFact, OpenFact, OpenSsFact, ServeFact}
+use Rattle.tree_laws.specs.Packets.{BodyFact, PacketFact, LookFact, NotifyFact, OpenFact, OpenSsFact, ServeFact}
+use Rattle.tree_laws.specs.Instances.{Stands}
 use Rattle.tree_laws.specs.Past.{WasReleased}
+use Rattle.tree_laws.specs.Stores.{InstanceFact, PullFact, StageFact}
 use Rattle.user_laws.specs.Leaving.{LeavesFine}
 use Rattle.user_laws.proofs.Leaving.{users_leave_fine}
-use Rattle.store_laws.proofs.Closes.{closed_ok_fine}
+use Rattle.store_laws.proofs.Closes.{closed_ok_fine, closed_sent}
 use Rattle.store_laws.proofs.MakingHere.{open_fine as begin_fine}
 use Rattle.store_laws.proofs.Pulls.{notify_fine, page_fine}
 use Rattle.store_laws.proofs.Serving.{look_served, page_sent}
@@ -38,6 +44,8 @@ use Rattle.sync_laws.proofs.Opens.{open_fine}
 use Rattle.one_tree_laws.specs.Places.{UsersOf, UsersOutside}
 use Rattle.one_tree_laws.specs.Rest.{Past, more}
 use Rattle.one_tree_laws.specs.Roles.{Came, Ready, RolesDo, TableHere}
+use Rattle.one_tree_laws.proofs.Repeats.{every_flat}
+use Rattle.epoch_tree_laws.proofs.Joins.{epochs_do}
 use Rattle.rest_laws.specs.Left.{RolesLeft}
 use Rattle.rest_laws.proofs.Named.{released_low}
 use Rattle.rest_laws.proofs.Premises.{files_ordered, makes_said, store_rests}
@@ -83,6 +91,18 @@ serves c n t f p us l stamp s ready held came =
 gives : (c : Config) (n : ℕ) (t : List Line) (f : Frame) (p : Packet) (file : FileId) (stamp : Stamp) (page : ℕ) (s : Store) → Ready c t f → StoreHeld c f t s → Came c t f p (body.Pull file stamp page) → StoreFine c n t f s (on_pull f p.from file stamp page s)
 gives c n t f p file stamp page s ready held came = page_sent c n t ready.past.followed (store_rests c t ready.past) f s held p.from file stamp page (its_fact c t f p (body.Pull file stamp page) came)
 
+-- each close that isn't answered yet is told again
+closed_once : (c : Config) (t : List Line) (f : Frame) (i : Instance) (at : Stage) → StageFact c t f i at → Every (PacketFact c t) (closed_again f i at)
+closed_once c t f i (stage.Closing made a) k = closed_sent c t f i made a k.0
+closed_once c t f i _ k = tt
+
+all_closed : (c : Config) (t : List Line) (f : Frame) (is : List Instance) → Every (InstanceFact c t f) is → Every (λ (i : Instance). Every (PacketFact c t) (closed_again f i i.stage)) is
+all_closed c t f [] k = tt
+all_closed c t f (i ∷ is) k = (closed_once c t f i i.stage k.0.stage, all_closed c t f is k.1)
+
+stores_again : (c : Config) (t : List Line) (f : Frame) (s : Store) → StoreHeld c f t s → Every (PacketFact c t) (store_repeats f s)
+stores_again c t f s held = every_flat (PacketFact c t) (λ (i : Instance). closed_again f i i.stage) s.instances (all_closed c t f s.instances held.instances.instances)
+
 -- ---- the synchronization site of a group ----
 
 table_opens : (c : Config) (n : ℕ) (t : List Line) (f : Frame) (from : ℕ) (tab : SyncTable) → Past c t → Serving c n t f tab → (serial call process request : ℕ) (file : FileId) (q : Opening) → file.group ≡ tab.group →
@@ -115,6 +135,18 @@ notified c n t f p pull s ps ready held all empty came =
 paged : (c : Config) (n : ℕ) (t : List Line) (f : Frame) (p : Packet) (file : FileId) (stamp : Stamp) (page : ℕ) (bytes : List ℕ) (ps : List Pull) → Ready c t f → PullsFact c f t ps → Came c t f p (body.Page file stamp page bytes) → PullsFine c n t f (on_page f file stamp page bytes ps)
 paged c n t f p file stamp page bytes ps ready all came = page_fine c n t (store_rests c t ready.past) f ps all file stamp page bytes (its_fact c t f p (body.Page file stamp page bytes) came)
 
+-- the next page of what is pulled stands
+pull_once : (c : Config) (t : List Line) (f : Frame) (x : Pull) → PullFact c t f.epoch x → Every (PacketFact c t) (pull_packets f x)
+pull_once c t f x k = over (is_complete x)
+  where
+    over : (b : Bool) → Every (PacketFact c t) (cond b [] (packet f x.holder (body.Pull x.file x.stamp (next_page x)) ∷ []))
+    over true = tt
+    over false = (subst (λ (z : Stamp). Stands c t x.file z) k.stamp_is k.is_version.stands, tt)
+
+pulls_again : (c : Config) (t : List Line) (f : Frame) (ps : List Pull) → PullsFact c f t ps → Every (λ (x : Pull). Every (PacketFact c t) (pull_packets f x)) ps
+pulls_again c t f [] all = tt
+pulls_again c t f (x ∷ xs) all = (pull_once c t f x all.0, pulls_again c t f xs all.1)
+
 -- ---- all ----
 
 pub roles_do : (c : Config) → RolesLeft c → RolesDo c
@@ -136,7 +168,7 @@ roles_do c left = record {
     ends = λ n t f p i s ready held came rest. ends c n t f p i s ready held came;
     serves = λ n t f p us l stamp s ready held came rest. serves c n t f p us l stamp s ready held came;
     gives = λ n t f p file stamp page s ready held came rest. gives c n t f p file stamp page s ready held came;
-    repeats = left.stores.repeats;
+    repeats = λ t f s ready held. stores_again c t f s held;
   };
   tables = record {
     reports = left.tables.reports;
@@ -150,9 +182,9 @@ roles_do c left = record {
   pulls = record {
     notified = λ n t f p pull s ps ready held all empty came. notified c n t f p pull s ps ready held all empty came;
     paged = λ n t f p file stamp page bytes ps ready all came. paged c n t f p file stamp page bytes ps ready all came;
-    repeats = left.pulls.repeats;
+    repeats = λ t f ps ready all. every_flat (PacketFact c t) (pull_packets f) ps (pulls_again c t f ps all);
     adopts = left.pulls.adopts;
     mends = left.pulls.mends;
   };
-  epochs = left.epochs;
+  epochs = epochs_do c;
 }

@@ -36,7 +36,7 @@ use Rattle.tree_laws.specs.Printed.{entries}
 use Rattle.tree_laws.specs.Stores.{CopiesAreHeld}
 use Rattle.one_tree_laws.specs.Places.{InsideFact, UsersOf, UsersOutside}
 use Rattle.one_tree_laws.specs.Rest.{AllRest, Past}
-use Rattle.one_tree_laws.specs.Roles.{Ready, Came, MayCall, CallsFine, TableHere, EpochsDo}
+use Rattle.one_tree_laws.specs.Roles.{Ready, Came, MayCall, CallsFine, TableHere}
 use Rattle.rest_laws.specs.Asking.{OpensAreSaid}
 
 -- ---- the using site ----
@@ -59,7 +59,6 @@ pub record StoreLeft (c : Config) : Type 0 where
   pub acts : (n : ℕ) (trace : List Line) (f : Frame) (p : Packet) (serial k : ℕ) (o : Op) (seen : List ℕ) (v : SiteView) → Ready c trace f → InsideFact c f trace v → Came c trace f p (body.Op serial k o seen) →
       AllRest c n trace (on_op f (mending v (group_of (instance_of v.store (record { us = p.from; serial = serial })))) (record { us = p.from; serial = serial }) k o seen v.store).told → StoreFine c n trace f v.store (on_op f (mending v (group_of (instance_of v.store (record { us = p.from; serial = serial })))) (record { us = p.from; serial = serial }) k o seen v.store)
   pub closes : (n : ℕ) (trace : List Line) (f : Frame) (p : Packet) (serial : ℕ) (s : Store) → Ready c trace f → StoreHeld c f trace s → Came c trace f p (body.Close serial) → AllRest c n trace (on_close f (record { us = p.from; serial = serial }) s).told → StoreFine c n trace f s (on_close f (record { us = p.from; serial = serial }) s)
-  pub repeats : (trace : List Line) (f : Frame) (s : Store) → Ready c trace f → StoreHeld c f trace s → Every (PacketFact c trace) (store_repeats f s)
 
 -- ---- the synchronization site of a group ----
 
@@ -72,7 +71,6 @@ pub record TablesLeft (c : Config) : Type 0 where
 -- ---- propagation, and mends ----
 
 pub record PullsLeft (c : Config) : Type 0 where
-  pub repeats : (trace : List Line) (f : Frame) (ps : List Pull) → Ready c trace f → PullsFact c f trace ps → Every (PacketFact c trace) (pull_repeats f ps)
   -- what is pulled and ready is adopted
   pub adopts : (n : ℕ) (trace : List Line) (f : Frame) (v : SiteView) → Ready c trace f → InsideFact c f trace v → AllRest c n trace (adopts f v).told → Fine SiteView c n trace (IsAdopted f.me) (InsideFact c f) (WriteFact c n trace f.me v.store) (adopts f v)
   -- a mend that is wanted starts
@@ -87,4 +85,3 @@ pub record RolesLeft (c : Config) : Type 0 where
   pub stores : StoreLeft c
   pub tables : TablesLeft c
   pub pulls : PullsLeft c
-  pub epochs : EpochsDo c

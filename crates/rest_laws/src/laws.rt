@@ -2,7 +2,9 @@ ghost use Rattle.std.specs.Prelude.{List};
 ghost use Rattle.locus_ids.specs.declared.config.Config.{Config};
 ghost use Rattle.schedule_lines.specs.declared.line.ScheduleLine.{ScheduleLine};
 ghost use Rattle.locus_ids.specs.declared.ids.EpochId.{EpochId};
-ghost use Rattle.the_run.specs.Runs.{run_in};
+ghost use Rattle.schedule_lines.specs.Cluster.{config_of};
+ghost use Rattle.schedule_lines.specs.Schedule.{AreInOrder};
+ghost use Rattle.the_run.specs.Runs.{run, run_in};
 ghost use Rattle.the_run.specs.Worlds.{Line};
 ghost use Rattle.row_laws.specs.Voids.{LinesFit};
 ghost use Rattle.order_laws.specs.Joining.{PacksAreOfSites};
@@ -42,8 +44,10 @@ pub fn roles_do_as_they_may()
 {}
 
 /// After every schedule whose lines are in range for the cluster, and whose run brings no counter of versions to its end, whatever was
-/// told came as it may, and each printed record is lawful, where the steps that are left are fine.
+/// told came as it may, and each printed record is lawful, where the steps that are left are fine. So it is of the lines that the
+/// reader of schedules accepts, in the cluster that their header makes.
 pub fn every_run_is_one_tree()
     ensures told { (c : Config) (lines : List ScheduleLine) → LinesFit c lines → PacksAreOfSites c → CountersAreLow (run_in c lines).trace → RolesLeft c → IsFollowed c (run_in c lines).trace }
     ensures rows { (c : Config) (lines : List ScheduleLine) → LinesFit c lines → PacksAreOfSites c → CountersAreLow (run_in c lines).trace → RolesLeft c → RowsAreLawful c (entries (run_in c lines).trace) }
+    ensures read { (lines : List ScheduleLine) → AreInOrder lines → CountersAreLow (run lines).trace → RolesLeft (config_of lines) → RowsAreLawful (config_of lines) (entries (run lines).trace) }
 {}
