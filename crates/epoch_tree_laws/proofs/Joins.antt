@@ -136,13 +136,15 @@ module _ (c : Config) (n : ℕ) (trace : List Line) (me : ℕ) (e : EpochId) (me
   users : UsersOf c f now v.users
   users = record {
     inside = record {
-      always = record { boot_is = h.users.always.boot_is; calls = h.users.always.calls; serials = h.users.always.serials; descriptors = h.users.always.descriptors };
+      always = record { boot_is = h.users.always.boot_is; calls = h.users.always.calls; serials = h.users.always.serials; descriptors = h.users.always.descriptors; ascends = h.users.always.ascends };
       inside = record {
         calls = subst (Every (WaitingFact c now f)) (sym h.users.calls) tt;
         instances = subst (Every (UserInstanceFact c now f)) (sym h.users.instances) tt;
         has = λ serial. ap (λ (is : List UserInstance). is_some (row instance_serial serial is)) h.users.instances ∙ sym (ap (λ (ns : List ℕ). has_number ns serial) h.users.idle.has_none);
         all = λ d process caller k. absurd (none_found me process d (waiting (entries trace)) h.users.idle.none_waits caller k);
         hopeless = none_lost;
+        ascends = subst (Ascends waiting_key) (sym h.users.calls) tt;
+        numbered = subst (Ascends instance_serial) (sym h.users.instances) tt;
       };
     };
     apart = subst CallsApart (sym h.users.calls) tt;
@@ -173,21 +175,28 @@ module _ (c : Config) (n : ℕ) (trace : List Line) (me : ℕ) (e : EpochId) (me
   table_new g pack = record {
     started = unstarted_is (tree_of c e g (entries now)).started refl;
     early = tt;
+    early_here = tt;
     early_only = λ k. refl;
+    all = λ k. absurd (started_new k);
     rows = tt;
     rise = tt;
     files = record {
-      joined = λ site k. absurd (nobody site k);
-      brought = λ site ino stamp k q. absurd (nobody site k);
+      joined = λ site k. absurd (nobody site k.1);
+      brought = λ site ino stamp k q. absurd (nobody site k.1);
       known = tt;
+      holds = tt;
     };
     opens = tt;
+    apart = tt;
     has = λ i w. absurd (unstarted g pack (named_started c e g i now after.followed w));
     openers_are = λ ino ne. sym (unstarted_openers c e g now (followed_rows c now after.followed) (unstarted g pack) (record { group = g; ino = ino }));
     turns = λ us process low. sym (no_turn us process (last_turn now e g us process) refl);
     looks = tt;
   }
     where
+      started_new : false ≡ true → ⊥
+      started_new k = cc
+
       unstarted_is : (b : Bool) → (tree_of c e g (entries now)).started ≡ b → false ≡ (tree_of c e g (entries now)).started
       unstarted_is true k = absurd (unstarted g pack k)
       unstarted_is false k = sym k
@@ -210,6 +219,14 @@ module _ (c : Config) (n : ℕ) (trace : List Line) (me : ℕ) (e : EpochId) (me
       at true pack later = inner (is_sync_site c me members g) pack later
       at false pack later = later
 
+  packs_own : (gs : List ℕ) → Every (λ (g : ℕ). has_pack c g me ≡ true) (filter (λ (g : ℕ). has (pack_sites c g) me) gs)
+  packs_own [] = tt
+  packs_own (g ∷ gs) = at (has (pack_sites c g) me) refl (packs_own gs)
+    where
+      at : (b : Bool) → has (pack_sites c g) me ≡ b → Every (λ (k : ℕ). has_pack c k me ≡ true) (filter (λ (k : ℕ). has (pack_sites c k) me) gs) → Every (λ (k : ℕ). has_pack c k me ≡ true) (cond b (g ∷ filter (λ (k : ℕ). has (pack_sites c k) me) gs) (filter (λ (k : ℕ). has (pack_sites c k) me) gs))
+      at true pack later = (pack, later)
+      at false pack later = later
+
   inside : InsideFact c f now (joined_view c me e members v)
   inside = record {
     frame = frame;
@@ -218,6 +235,7 @@ module _ (c : Config) (n : ℕ) (trace : List Line) (me : ℕ) (e : EpochId) (me
     groups = names_same (filter (is_sync_site c me members) (own_groups c me));
     tables = tables_new all_groups;
     pulls = subst (PullsFact c f now) (sym h.pulls) tt;
+    reports = packs_own all_groups;
   }
 
   join_fine : SiteFine c n trace me (SiteFact c me) NoWrite (joins c me e members v)
@@ -225,7 +243,7 @@ module _ (c : Config) (n : ℕ) (trace : List Line) (me : ℕ) (e : EpochId) (me
     told = (may, tt);
     own = (inr (inl refl), tt);
     view = inside;
-    sent = reports_sent c now f (joined_view c me e members v) after frame store.copies;
+    sent = reports_sent c now f (joined_view c me e members v) after frame store.copies (packs_own all_groups);
     written = tt;
   }
 
@@ -236,5 +254,5 @@ joins_fine c n trace me e members v past h fresh = join_fine c n trace me e memb
 pub epochs_do : (c : Config) → EpochsDo c
 epochs_do c = record {
   joins = λ n trace me e members v past h fresh. joins_fine c n trace me e members v past h fresh;
-  reports = λ trace f v ready h. reports_sent c trace f v ready.past ready.frame h.store.copies;
+  reports = λ trace f v ready h. reports_sent c trace f v ready.past ready.frame h.store.copies h.reports;
 }

@@ -7,3 +7,12 @@ pub mod Waiting
 pub mod Brought
 pub mod Starting
 pub mod Reporting
+pub mod Counting
+pub mod Counted
+pub mod Apart
+pub mod Bringing
+pub mod Noting
+pub mod Members
+pub mod Sorted
+pub mod Known
+pub mod Coming

@@ -11,11 +11,12 @@ use Rattle.role_steps.specs.declared.synchronizing.Early.{Early}
 use Rattle.role_steps.specs.declared.synchronizing.SyncTable.{SyncTable}
 use Rattle.the_run.specs.Worlds.{Line}
 use Rattle.tree_laws.specs.Doing.{TableFine}
+use Rattle.tree_laws.specs.Tables.{WaitsIn}
 use Rattle.tree_laws.proofs.Names.{true_false}
 use Rattle.one_tree_laws.specs.Rest.{AllRest}
 use Rattle.one_tree_laws.specs.Roles.{Ready, TableHere}
 use Rattle.epoch_tree_laws.specs.Reporting.{MayCount}
-use Rattle.epoch_tree_laws.specs.Waiting.{RequestsDo, WaitsIn}
+use Rattle.epoch_tree_laws.specs.Waiting.{RequestsDo}
 use Rattle.epoch_tree_laws.proofs.Starting.{starts_fine}
 use Rattle.epoch_tree_laws.proofs.Then.{table_then}
 use Rattle.epoch_tree_laws.proofs.Waiting.{quiet_fine}
@@ -33,7 +34,7 @@ all_like from (x ∷ xs) t = (let k : IsLike (with_all_reported from xs (with_re
 pub report_like : (from : ℕ) (xs : List ReportedCopy) (t : SyncTable) → IsLike (with_report from xs t) t
 report_like from xs t = (let k = all_like from xs _ in record { group = k.group; started = k.started; early = k.early })
 
-module _ (c : Config) (does : RequestsDo c) (n : ℕ) (trace : List Line) (f : Frame) (from : ℕ) (xs : List ReportedCopy) (t : SyncTable) (ready : Ready c trace f) (here : TableHere c trace f t) (may : MayCount c trace f from xs t) where
+module _ (c : Config) (does : RequestsDo c) (n : ℕ) (trace : List Line) (f : Frame) (from : ℕ) (xs : List ReportedCopy) (t : SyncTable) (ready : Ready c trace f) (here : TableHere c trace f t) (all : t.started ≡ true → has t.reported from ≡ true) (may : MayCount c trace f from xs t) where
   like : IsLike (with_report from xs t) t
   like = report_like from xs t
 
@@ -45,7 +46,7 @@ module _ (c : Config) (does : RequestsDo c) (n : ℕ) (trace : List Line) (f : F
       counted = record { synced = subst (λ (g : ℕ). sync_site f.config f.members g ≡ Some f.me) (sym like.group) here.synced; fact = may.counts waits new }
 
       groups : Every (WaitsIn (with_report from xs t).group) (with_report from xs t).early
-      groups = subst (λ (g : ℕ). Every (WaitsIn g) (with_report from xs t).early) (sym like.group) (subst (λ (es : List Early). Every (WaitsIn t.group) es) (sym like.early) may.waits)
+      groups = subst (λ (g : ℕ). Every (WaitsIn g) (with_report from xs t).early) (sym like.group) (subst (λ (es : List Early). Every (WaitsIn t.group) es) (sym like.early) here.fact.early_here)
 
       over : (b : Bool) → have_all_reported f (with_report from xs t) ≡ b → AllRest c n trace (elim b as (λ (z : Bool). Outcome SyncTable) [ true ↦ starts f (with_report from xs t) | false ↦ quiet (with_report from xs t) ]).told →
           TableFine c n trace f (with_report from xs t).group (elim b as (λ (z : Bool). Outcome SyncTable) [ true ↦ starts f (with_report from xs t) | false ↦ quiet (with_report from xs t) ])
@@ -56,7 +57,7 @@ module _ (c : Config) (does : RequestsDo c) (n : ℕ) (trace : List Line) (f : F
   waiting new = over t.started refl
     where
       over : (b : Bool) → t.started ≡ b → t.started ≡ false
-      over true s = absurd (true_false (sym (may.all s) ∙ new))
+      over true s = absurd (true_false (sym (all s) ∙ new))
       over false s = s
 
   counts_fine : AllRest c n trace (counts_report f from xs t).told → TableFine c n trace f t.group (counts_report f from xs t)

@@ -13,11 +13,11 @@ use Rattle.role_steps.specs.Storage.{copy_key, copy_of, reported, report_of}
 use Rattle.role_steps.specs.Tables.{row}
 use Rattle.role_steps.specs.Views.{Frame, Store, SiteView, sync_site, to_some}
 use Rattle.role_steps.specs.declared.copies.FileCopy.{FileCopy}
-use Rattle.role_steps.proofs.Sending.{every_flat_map}
 use Rattle.the_run.specs.Kept.{Among}
 use Rattle.the_run.specs.Worlds.{Line}
 use Rattle.tree_model.specs.Files.{version_of}
 use Rattle.tree_model.specs.Histories.{held}
+use Rattle.tree_model.specs.Packs.{has_pack}
 use Rattle.tree_laws.specs.Doing.{FrameFact}
 use Rattle.tree_laws.specs.Instances.{held_in}
 use Rattle.tree_laws.specs.Packets.{PacketFact, ReportedNow, ReportsNow, file_in}
@@ -34,6 +34,7 @@ use Rattle.holding_laws.proofs.Made.{held_stand}
 use Rattle.room_laws.proofs.StoreCopies.{copies_narrow}
 use Rattle.store_laws.proofs.Tabled.{row_among}
 use Rattle.one_tree_laws.specs.Rest.{Past}
+use Rattle.one_tree_laws.proofs.Repeats.{every_flat}
 use Rattle.one_tree_laws.proofs.Staying.{rest_below}
 use Rattle.epoch_tree_laws.proofs.Narrow.{stands_narrow}
 
@@ -140,9 +141,13 @@ module _ (c : Config) (trace : List Line) (f : Frame) (s : Store) (past : Past c
 
 -- ---- the packets ----
 
-pub reports_sent : (c : Config) (trace : List Line) (f : Frame) (v : SiteView) → Past c trace → FrameFact c trace f → CopiesAreHeld c trace f.me v.store → Every (PacketFact c trace) (all_reports f v)
-reports_sent c trace f v past frame copies = every_flat_map (PacketFact c trace) (report_packets f v) v.reports (λ g. to g (sync_site f.config f.members g))
+pub reports_sent : (c : Config) (trace : List Line) (f : Frame) (v : SiteView) → Past c trace → FrameFact c trace f → CopiesAreHeld c trace f.me v.store → Every (λ (g : ℕ). has_pack c g f.me ≡ true) v.reports → Every (PacketFact c trace) (all_reports f v)
+reports_sent c trace f v past frame copies packs = every_flat (PacketFact c trace) (report_packets f v) v.reports (sent v.reports packs)
   where
-    to : (g : ℕ) (o : Option ℕ) → Every (PacketFact c trace) (to_some f (body.Report g (report_of g v.store.copies)) o)
-    to g None = tt
-    to g (Some s) = (inr (reports_now c trace f v.store past frame copies g), tt)
+    to : (g : ℕ) → has_pack c g f.me ≡ true → (o : Option ℕ) → Every (PacketFact c trace) (to_some f (body.Report g (report_of g v.store.copies)) o)
+    to g pack None = tt
+    to g pack (Some s) = ((record { joined = epoch_joined (entries trace) f.me f.epoch frame.inside; packed = pack }, inr (reports_now c trace f v.store past frame copies g)), tt)
+
+    sent : (gs : List ℕ) → Every (λ (g : ℕ). has_pack c g f.me ≡ true) gs → Every (λ (g : ℕ). Every (PacketFact c trace) (report_packets f v g)) gs
+    sent [] k = tt
+    sent (g ∷ gs) k = (to g k.0 (sync_site f.config f.members g), sent gs k.1)

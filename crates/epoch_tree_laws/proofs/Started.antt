@@ -20,7 +20,6 @@ use Rattle.tree_model.specs.declared.accepted.Waiting.{Waiting}
 use Rattle.tree_model.specs.declared.instance.Instance.{Instance}
 use Rattle.tree_model.specs.Calls.{accepted_as, call_named}
 use Rattle.tree_model.specs.Epochs.{epoch_of, has_joined, is_in}
-use Rattle.tree_model.specs.State.{opener_of, openers}
 use Rattle.tree_model.specs.Tree.{tree_of}
 use Rattle.lawful_trace.specs.CallRows.{CallRow, ends_mending, has_lost_mend, is_lost_mend, is_mend_of}
 use Rattle.tree_laws.specs.Calls.{tries}
@@ -28,7 +27,7 @@ use Rattle.tree_laws.specs.Following.{IsFollowed, MayPrint, MayTell, RowsAreLawf
 use Rattle.tree_laws.specs.Instances.{IsStarted}
 use Rattle.tree_laws.specs.Past.{BeginsIt, NamesHere, Printed, WasBegun, WasNamedIn}
 use Rattle.tree_laws.specs.Printed.{entries}
-use Rattle.tree_laws.specs.Tables.{Turn, is_look_of, last_turn, turn_record, turn_told}
+use Rattle.tree_laws.specs.Tables.{Turn, is_look_of, last_turn, turn_record, turn_told, named_instance, tree_openers}
 use Rattle.tree_laws.proofs.Kinship.{started_stays}
 use Rattle.tree_laws.proofs.Names.{same_epoch_eq, some_is, test_same, true_false}
 use Rattle.order_laws.proofs.Alone.{first_of, second_of}
@@ -83,8 +82,8 @@ module _ (c : Config) (e : EpochId) (g : ℕ) where
 
   -- ---- instances ----
 
-  pub unstarted_openers : (t : List Line) → RowsAreLawful c (entries t) → (IsStarted c t e g → ⊥) → (file : FileId) → openers (tree_of c e g (entries t)) file ≡ []
-  unstarted_openers t rows none file = ap (λ (xs : List Instance). map opener_of (filter (λ (x : Instance). same_file x.grant.file file) xs)) (empty (tree_of c e g (entries t)).instances (rows_started c (entries t) rows e g))
+  pub unstarted_openers : (t : List Line) → RowsAreLawful c (entries t) → (IsStarted c t e g → ⊥) → (file : FileId) → tree_openers (tree_of c e g (entries t)) file ≡ []
+  unstarted_openers t rows none file = ap (λ (xs : List Instance). map named_instance (filter (λ (x : Instance). same_file x.grant.file file) xs)) (empty (tree_of c e g (entries t)).instances (rows_started c (entries t) rows e g))
     where
       empty : (xs : List Instance) → AllByRecursion (λ (x : Instance). (tree_of c e g (entries t)).started ≡ true) xs → xs ≡ []
       empty [] all = refl

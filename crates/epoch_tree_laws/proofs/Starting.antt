@@ -1,5 +1,5 @@
 -- A group starts once all its members have reported: the start comes as it may, and the table is then what the tree has.
-use Rattle.std.proofs.Common.{◌≡◌, ℕ, zero, suc, ◌==◌, Bool, true, false, not, ◌&&◌, ◌||◌, cond, List, [], ◌∷◌, filter, Option, Some, None, refl, sym, ◌∙◌, ap, subst, ◌⊎◌, inl, inr, arith}
+use Rattle.std.proofs.Common.{◌≡◌, ℕ, zero, suc, ◌+◌, ◌≤◌, ◌==◌, Bool, true, false, not, ◌&&◌, ◌||◌, cond, List, [], ◌∷◌, filter, Option, Some, None, refl, sym, ◌∙◌, ap, subst, ◌⊎◌, inl, inr, arith}
 use Rattle.std.specs.List.{flat_map, list_all}
 use Rattle.std.specs.Prelude.{get_or, nat_lt}
 use Rattle.std.proofs.lemmas.Bool.Decides.{nat_tests}
@@ -8,6 +8,7 @@ use Rattle.locus_ids.specs.declared.config.Config.{Config}
 use Rattle.locus_ids.specs.declared.ids.Brought.{Brought}
 use Rattle.locus_ids.specs.declared.ids.EpochId.{EpochId}
 use Rattle.locus_ids.specs.declared.sites.Members.{Members}
+use Rattle.commit_graph.specs.Vectors.{numbers_from}
 use Rattle.trace_book.specs.Same.{same_epoch}
 use Rattle.trace_book.specs.declared.record.Record.TheVariants as says
 use Rattle.role_steps.specs.Own.{Every}
@@ -24,7 +25,7 @@ use Rattle.tree_model.specs.Histories.{history}
 use Rattle.tree_model.specs.Packs.{all_sites, has_pack, is_member_of}
 use Rattle.tree_model.specs.Packs as tree
 use Rattle.tree_model.specs.Same.{same_all}
-use Rattle.tree_model.specs.State.{TreeState, held_at, kept_of, openers, stamps_of}
+use Rattle.tree_model.specs.State.{TreeState, held_at, kept_of, stamps_of}
 use Rattle.tree_model.specs.Tree.{tree_of}
 use Rattle.lawful_trace.specs.TreeRows.{has_joined_some, have_all_joined, is_served}
 use Rattle.tree_laws.specs.Doing.{TableFine}
@@ -32,7 +33,7 @@ use Rattle.tree_laws.specs.Following.{MayTell}
 use Rattle.tree_laws.specs.Frames.{AllStay, VersionsStay}
 use Rattle.tree_laws.specs.Packets.{PacketFact, file_in}
 use Rattle.tree_laws.specs.Printed.{entries}
-use Rattle.tree_laws.specs.Tables.{ExactFact, FileFact, FilesFact, IsAhead, IsNoted, ReportedFiles, RowFact, TableFact}
+use Rattle.tree_laws.specs.Tables.{ExactFact, FileFact, FilesFact, IsAhead, IsNoted, ReportedFiles, RowFact, TableFact, WaitsIn, tree_openers}
 use Rattle.tree_laws.proofs.Boots.{every_both}
 use Rattle.tree_laws.proofs.Carried.{packet_stays}
 use Rattle.tree_laws.proofs.Names.{same_epoch_own, test_own}
@@ -49,12 +50,12 @@ use Rattle.one_tree_laws.specs.Rest.{AllRest, Comes, RestTold, more}
 use Rattle.one_tree_laws.specs.Roles.{Ready, TableHere}
 use Rattle.one_tree_laws.proofs.Staying.{stays}
 use Rattle.epoch_tree_laws.specs.Starting.{BroughtFiles}
-use Rattle.epoch_tree_laws.specs.Waiting.{RequestsDo, WaitsIn}
+use Rattle.epoch_tree_laws.specs.Waiting.{RequestsDo}
 use Rattle.epoch_tree_laws.proofs.Brought.{all_same, stamps_row}
 use Rattle.epoch_tree_laws.proofs.Then.{ready_onto, table_then}
 use Rattle.epoch_tree_laws.proofs.Waiting.{all_fine, waits_onto}
 
-both : (a b : Bool) → a ≡ true → b ≡ true → a && b ≡ true
+pub both : (a b : Bool) → a ≡ true → b ≡ true → a && b ≡ true
 both true b x y = y
 both false b x y = x
 
@@ -69,9 +70,14 @@ passes_one p q x xs k = at (q x) k
 above_zero : (b : ℕ) → not (b == 0) ≡ nat_lt 0 b
 above_zero b = grind (arith, nat_tests)
 
-member_same : (m : Members) (site : ℕ) → role.is_member m site ≡ tree.is_member m site
+pub member_same : (m : Members) (site : ℕ) → role.is_member m site ≡ tree.is_member m site
 member_same m zero = refl
 member_same m (suc place) = above_zero (get_or m.boot place 0)
+
+-- numbers from one on are that at least
+numbers_low : (k n : ℕ) → 1 ≤ k → Every (λ (s : ℕ). 1 ≤ s) (numbers_from k n)
+numbers_low k zero low = tt
+numbers_low k (suc n) low = (low, numbers_low (k + 1) n (omega (arith, low)))
 
 or_so : (a b : Bool) → (a ≡ true → b ≡ true) → not a || b ≡ true
 or_so true b h = h refl
@@ -107,15 +113,15 @@ module _ (c : Config) (n : ℕ) (trace : List Line) (f : Frame) (t : SyncTable) 
       (ap (λ (k : Config). has (pack_sites k t.group) site) ready.frame.config_is ∙ second_of (is_member_of (members_of (entries trace) f.epoch) site) _ k)
       (member_same f.members site ∙ (sym (ap (λ (o : Option Members). is_member_of o site) ready.frame.members_are) ∙ first_of (is_member_of (members_of (entries trace) f.epoch) site) _ k))
 
-  whole_of : (sites : List ℕ) → list_all (has t.reported) (filter (λ (k : ℕ). has (pack_sites f.config t.group) k && role.is_member f.members k) sites) ≡ true →
+  whole_of : (sites : List ℕ) → Every (λ (s : ℕ). 1 ≤ s) sites → list_all (has t.reported) (filter (λ (k : ℕ). has (pack_sites f.config t.group) k && role.is_member f.members k) sites) ≡ true →
       list_all (λ (site : ℕ). not (is_member_of (members_of (entries trace) f.epoch) site && has_pack c t.group site) || has_joined (entries trace) site f.epoch) sites ≡ true
-  whole_of [] k = refl
-  whole_of (site ∷ sites) k = (let w = passes_one (has t.reported) (λ (k : ℕ). has (pack_sites f.config t.group) k && role.is_member f.members k) site sites k in
+  whole_of [] low k = refl
+  whole_of (site ∷ sites) low k = (let w = passes_one (has t.reported) (λ (k : ℕ). has (pack_sites f.config t.group) k && role.is_member f.members k) site sites k in
       both (not (is_member_of (members_of (entries trace) f.epoch) site && has_pack c t.group site) || has_joined (entries trace) site f.epoch) _
-      (or_so (is_member_of (members_of (entries trace) f.epoch) site && has_pack c t.group site) (has_joined (entries trace) site f.epoch) (λ m. told_files.joined site (w.0 (member_is site m)))) (whole_of sites w.1))
+      (or_so (is_member_of (members_of (entries trace) f.epoch) site && has_pack c t.group site) (has_joined (entries trace) site f.epoch) (λ m. told_files.joined site (low.0, w.0 (member_is site m)))) (whole_of sites low.1 w.1))
 
   whole : have_all_joined c (entries trace) f.epoch t.group ≡ true
-  whole = whole_of role.all_sites reported
+  whole = whole_of role.all_sites (numbers_low 1 16 (omega arith)) reported
 
   pub start_may : MayTell c trace x
   start_may = record {
@@ -164,7 +170,9 @@ module _ (c : Config) (n : ℕ) (trace : List Line) (f : Frame) (t : SyncTable) 
   table_now = record {
     started = sym (begun its refl);
     early = tt;
+    early_here = tt;
     early_only = λ k. refl;
+    all = λ k. reported;
     rows = every_both (FileFact c trace f.epoch t.group) (FileFact c now f.epoch t.group) t.files (file_row_stays c trace now versions f.epoch t.group) here.fact.rows;
     rise = here.fact.rise;
     files = record {
@@ -173,8 +181,9 @@ module _ (c : Config) (n : ℕ) (trace : List Line) (f : Frame) (t : SyncTable) 
       exact = λ ino r k. exact_now r (files.exact ino r k);
     };
     opens = every_both (RowFact c trace f.epoch t.group) (RowFact c now f.epoch t.group) t.opens (λ r k. open_row_stays c n x trace ready.past.followed start_may versions f t.group (λ q. q) r (λ q. q) k) here.fact.opens;
+    apart = here.fact.apart;
     has = λ i w. here.fact.has i (names_stay n trace f t.group x (λ q. q) i w);
-    openers_are = λ ino some. here.fact.openers_are ino some ∙ sym (same_field (λ (u : TreeState). openers u (file_in t.group ino)) refl);
+    openers_are = λ ino some. here.fact.openers_are ino some ∙ sym (same_field (λ (u : TreeState). tree_openers u (file_in t.group ino)) refl);
     turns = λ us process small. here.fact.turns us process small;
     looks = every_both (λ (l : LastLook). PacketFact c trace (role.packet f l.to l.body)) (λ (l : LastLook). PacketFact c now (role.packet f l.to l.body)) t.looks (λ l p. packet_stays c n x trace ready.past.followed start_may all_stay (role.packet f l.to l.body) p) here.fact.looks;
   }

@@ -15,12 +15,12 @@ use Rattle.the_run.specs.Worlds.{Line, told_onto}
 use Rattle.tree_laws.specs.Doing.{TableFine}
 use Rattle.tree_laws.specs.Instances.{IsStarted}
 use Rattle.tree_laws.specs.Packets.{PacketFact}
-use Rattle.tree_laws.specs.Tables.{early_packet}
+use Rattle.tree_laws.specs.Tables.{IsRequestIn, WaitsIn, early_packet}
 use Rattle.one_tree_laws.specs.Rest.{AllRest}
 use Rattle.one_tree_laws.specs.Roles.{Came, Ready, TableHere}
 use Rattle.one_tree_laws.proofs.Composing.{packet_onto, rest_first, rest_last}
 use Rattle.one_tree_laws.proofs.Staying.{stays}
-use Rattle.epoch_tree_laws.specs.Waiting.{IsRequestIn, RequestsDo, WaitsIn}
+use Rattle.epoch_tree_laws.specs.Waiting.{RequestsDo}
 use Rattle.epoch_tree_laws.proofs.Then.{ready_onto, started_onto, table_then}
 
 -- the way that is taken once the group has started

@@ -1,3 +1,4 @@
 pub mod Waiting
 pub mod Starting
 pub mod Reporting
+pub mod Counting

@@ -1,28 +1,17 @@
 -- Requests that wait for the start of their group.
 use Rattle.std.specs.Prelude.{ℕ, ◌≡◌, List}
 use Rattle.locus_ids.specs.declared.config.Config.{Config}
-use Rattle.wire_messages.specs.declared.body.Body.{Body}
 use Rattle.wire_messages.specs.declared.body.Body.TheVariants as body
 use Rattle.wire_messages.specs.declared.packet.Packet.{Packet}
 use Rattle.role_steps.specs.Looks.{LookRequest}
 use Rattle.role_steps.specs.Opens.{OpenRequest}
 use Rattle.role_steps.specs.Reports.{on_look, on_open}
 use Rattle.role_steps.specs.Views.{Frame}
-use Rattle.role_steps.specs.declared.synchronizing.Early.{Early}
 use Rattle.role_steps.specs.declared.synchronizing.SyncTable.{SyncTable}
 use Rattle.the_run.specs.Worlds.{Line}
 use Rattle.tree_laws.specs.Doing.{TableFine}
 use Rattle.one_tree_laws.specs.Rest.{AllRest}
 use Rattle.one_tree_laws.specs.Roles.{Came, Ready, TableHere}
-
--- the request is for a file of the group
-abbrev pub IsRequestIn : ℕ → Body → Type 0
-IsRequestIn group (body.Open serial call process request file it) = group ≡ file.group
-IsRequestIn group (body.Look call process request take file w) = group ≡ file.group
-IsRequestIn group _ = Unit {0}
-
-abbrev pub WaitsIn : ℕ → Early → Type 0
-WaitsIn group x = IsRequestIn group x.body
 
 -- a synchronization site does opens and looks as it may, as they come
 pub record RequestsDo (c : Config) : Type 0 where

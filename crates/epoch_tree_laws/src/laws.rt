@@ -1,24 +1,28 @@
 ghost use Rattle.std.specs.Prelude.{ℕ, ◌≡◌, true, false, List};
+ghost use Rattle.locus_ids.specs.Sites.{has};
 ghost use Rattle.locus_ids.specs.declared.config.Config.{Config};
 ghost use Rattle.locus_ids.specs.declared.ids.EpochId.{EpochId};
 ghost use Rattle.locus_ids.specs.declared.sites.Members.{Members};
+ghost use Rattle.wire_messages.specs.declared.body.Body.TheVariants as body;
 ghost use Rattle.wire_messages.specs.declared.body.ReportedCopy.{ReportedCopy};
+ghost use Rattle.wire_messages.specs.declared.packet.Packet.{Packet};
 ghost use Rattle.role_steps.specs.Epochs.{all_reports, joins};
 ghost use Rattle.role_steps.specs.Own.{Every};
-ghost use Rattle.role_steps.specs.Reports.{have_all_reported, on_report, starts, takes_all_early};
+ghost use Rattle.role_steps.specs.Reports.{have_all_reported, on_report, starts, takes_all_early, with_report};
 ghost use Rattle.role_steps.specs.Views.{Frame, SiteView};
 ghost use Rattle.role_steps.specs.declared.synchronizing.Early.{Early};
 ghost use Rattle.role_steps.specs.declared.synchronizing.SyncTable.{SyncTable};
 ghost use Rattle.the_run.specs.Worlds.{Line};
 ghost use Rattle.tree_laws.specs.Doing.{NoWrite, TableFine};
-ghost use Rattle.tree_laws.specs.Packets.{PacketFact};
-ghost use Rattle.tree_laws.specs.Tables.{early_packet};
+ghost use Rattle.tree_laws.specs.Packets.{PacketFact, ReportedNow};
+ghost use Rattle.tree_laws.specs.Tables.{ReportedFiles, TableFact, WaitsIn, early_packet};
 ghost use Rattle.one_tree_laws.specs.Places.{InsideFact, OutsideFact, SiteFact, SiteFine};
 ghost use Rattle.one_tree_laws.specs.Rest.{AllRest, Past};
-ghost use Rattle.one_tree_laws.specs.Roles.{EpochsDo, Ready, TableHere};
+ghost use Rattle.one_tree_laws.specs.Roles.{Came, EpochsDo, Ready, TableHere};
+ghost use Rattle.epoch_tree_laws.specs.Counting.{IsNotedRight, RowsSo};
 ghost use Rattle.epoch_tree_laws.specs.Reporting.{MayCount};
 ghost use Rattle.epoch_tree_laws.specs.Starting.{BroughtFiles};
-ghost use Rattle.epoch_tree_laws.specs.Waiting.{RequestsDo, WaitsIn};
+ghost use Rattle.epoch_tree_laws.specs.Waiting.{RequestsDo};
 
 /// What a site reports of a pack are the versions that it has in the epoch, all of them and no others, whenever it reports: its
 /// disk holds what its site has, and while it is in the epoch that is what it has there.
@@ -56,6 +60,23 @@ pub fn groups_start_when_all_have_reported()
 /// A report is answered, and the first of a member counts; with the last one the group starts, and what waited is served. Where a table
 /// with the report is what the reports have told, all of this is as it may be.
 pub fn reports_are_counted()
-    ensures { (c : Config) (n : ℕ) (trace : List Line) (f : Frame) (from : ℕ) (xs : List ReportedCopy) (t : SyncTable) → RequestsDo c → Ready c trace f → TableHere c trace f t → MayCount c trace f from xs t → AllRest c n trace (on_report f from xs t).told →
+    ensures { (c : Config) (n : ℕ) (trace : List Line) (f : Frame) (from : ℕ) (xs : List ReportedCopy) (t : SyncTable) → RequestsDo c → Ready c trace f → TableHere c trace f t → (t.started ≡ true → has t.reported from ≡ true) → MayCount c trace f from xs t → AllRest c n trace (on_report f from xs t).told →
         TableFine c n trace f t.group (on_report f from xs t) }
+{}
+
+/// Where a member tells what it has, the rows of the table with its report are so by the trace, as those without it: kinds, sets and
+/// vectors are those of the versions, those are kept that are below no other, whoever is noted has at least what is noted, and each kept
+/// version has a holder. So is the whole table, where its files are what the reports so far have told.
+pub fn reported_rows_stand()
+    ensures rows { (c : Config) (trace : List Line) (e : EpochId) (g from : ℕ) (xs : List ReportedCopy) (t : SyncTable) → Past c trace → Every (ReportedNow c trace e from g) xs → RowsSo c trace e g from t → RowsSo c trace e g from (with_report from xs t) }
+    ensures table { (c : Config) (trace : List Line) (f : Frame) (from : ℕ) (xs : List ReportedCopy) (t : SyncTable) → Past c trace → t.started ≡ false → TableFact c trace f t → Every (IsNotedRight c trace f.epoch t.group from) t.files → Every (ReportedNow c trace f.epoch from t.group) xs → ReportedFiles c trace f (with_report from xs t) →
+        TableFact c trace f (with_report from xs t) }
+{}
+
+/// A report comes as it may, whatever has come before it: it is answered; the first of a member counts, and the table is then what the
+/// reports so far have told; with the last one the group starts with all that was brought and nothing else, and what waited is served.
+/// Where opens and looks are done as they may, this is so of every report.
+pub fn reports_come_as_they_may()
+    ensures { (c : Config) → RequestsDo c → (n : ℕ) (trace : List Line) (f : Frame) (p : Packet) (group : ℕ) (copies : List ReportedCopy) (t : SyncTable) → Ready c trace f → TableHere c trace f t → Came c trace f p (body.Report group copies) → t.group ≡ group → AllRest c n trace (on_report f p.from copies t).told →
+        TableFine c n trace f group (on_report f p.from copies t) }
 {}

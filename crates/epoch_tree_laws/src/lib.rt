@@ -5,6 +5,7 @@
 mod laws;
 
 pub use laws::{
-    epochs_are_joined_and_reported, groups_start_when_all_have_reported, reports_are_counted,
-    reports_tell_what_is_held, requests_that_waited_are_served, sites_join_with_nothing,
+    epochs_are_joined_and_reported, groups_start_when_all_have_reported, reported_rows_stand,
+    reports_are_counted, reports_come_as_they_may, reports_tell_what_is_held,
+    requests_that_waited_are_served, sites_join_with_nothing,
 };

@@ -68,18 +68,18 @@ zero_part f none (n ∷ ns) (suc t) = zero_part f none ns t
 
 -- ---- the laws on which this rests ----
 
-record Grounds (c : Config) (file : FileId) (trace : List Line) : Type 0 where
-  counted : Counted file (commits_of file (past_of trace))
-  own : Each IsOwn (commits_of file (past_of trace))
-  tells : VectorsTell file (commits_of file (past_of trace))
-  same : Alike c file trace
-  order : AreOrdered (history c (printed trace)) file
-  under : file.ino ≡ 1 → (b : Stamp) → is_in (commits_of file (past_of trace)) file b ≡ true → is_ancestor (history c (printed trace)) file format_stamp b ≡ true
+pub record Grounds (c : Config) (file : FileId) (trace : List Line) : Type 0 where
+  pub counted : Counted file (commits_of file (past_of trace))
+  pub own : Each IsOwn (commits_of file (past_of trace))
+  pub tells : VectorsTell file (commits_of file (past_of trace))
+  pub same : Alike c file trace
+  pub order : AreOrdered (history c (printed trace)) file
+  pub under : file.ino ≡ 1 → (b : Stamp) → is_in (commits_of file (past_of trace)) file b ≡ true → is_ancestor (history c (printed trace)) file format_stamp b ≡ true
 
-abbrev H : Config → List Line → List Version
+abbrev pub H : Config → List Line → List Version
 H c trace = history c (printed trace)
 
-abbrev C : FileId → List Line → List Version
+abbrev pub C : FileId → List Line → List Version
 C file trace = commits_of file (past_of trace)
 
 -- ---- vectors ----
@@ -113,7 +113,7 @@ format_under c file trace k a b f = all_le-from_AllLe (vector_of (C file trace) 
 -- ---- two versions ----
 
 -- the two orders agree on them
-abbrev Agree : Config → FileId → List Line → Stamp → Stamp → Type 0
+abbrev pub Agree : Config → FileId → List Line → Stamp → Stamp → Type 0
 Agree c file trace a b = is_proper_ancestor (H c trace) file a b ≡ has_below (H c trace) file a b
 
 not_format_in : (c : Config) (file : FileId) (trace : List Line) → Grounds c file trace → (b : Stamp) → is_in (C file trace) file b ≡ true → is_format b ≡ false
@@ -175,7 +175,7 @@ alone_agree c file trace a b fa fb =
     let same : b ≡ a = format_is b fb ∙ sym (format_is a fa) in
     subst (Agree c file trace a) (sym same) (ap (λ (t : Bool). not t && is_ancestor (H c trace) file a a) (same_stamp_refl a) ∙ sym (never_both (all_le (vector_of (H c trace) file a) (vector_of (H c trace) file a))))
 
-agree : (c : Config) (file : FileId) (trace : List Line) → Grounds c file trace → (a b : Stamp) → StandsIn file (C file trace) a → StandsIn file (C file trace) b → Agree c file trace a b
+pub agree : (c : Config) (file : FileId) (trace : List Line) → Grounds c file trace → (a b : Stamp) → StandsIn file (C file trace) a → StandsIn file (C file trace) b → Agree c file trace a b
 agree c file trace k a b (inl fa) (inl fb) = alone_agree c file trace a b fa.0 fb.0
 agree c file trace k a b (inl fa) (inr hb) = first_agree c file trace k a b fa.0 fa.1 hb
 agree c file trace k a b (inr ha) (inl fb) = last_agree c file trace k a b ha fb.0

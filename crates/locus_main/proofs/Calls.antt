@@ -1,7 +1,8 @@
 -- What the lines of a tree ask.
 use Rattle.std.proofs.Common.{◌≡◌, ℕ, List, [], ◌∷◌, ◌++◌, Option, None, Some, refl, ap, sym, ◌∙◌}
 use Rattle.the_run.specs.Commands.{Asked}
-use Rattle.schedule_run.specs.Tree.{Asks, with_asked}
+use Rattle.the_run.specs.Asking.{Asks}
+use Rattle.schedule_run.specs.Tree.{with_asked}
 use Rattle.schedule_run.proofs.OneAsking.{one_asking}
 use Rattle.locus_main.specs.Inputs.{before_calls, AskAll}
 

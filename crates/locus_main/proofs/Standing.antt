@@ -10,7 +10,8 @@ use Rattle.schedule_run.specs.declared.runner.ScheduleRunner.{ScheduleRunner}
 use Rattle.schedule_run.specs.Standing.{HasRun, RunsNext}
 use Rattle.schedule_run.specs.Standing as schedule
 use Rattle.schedule_run.specs.declared.tree.TreeRunner.{TreeRunner}
-use Rattle.schedule_run.specs.Tree.{Asks, MayAsk, with_asked}
+use Rattle.the_run.specs.Asking.{Asks, MayAsk}
+use Rattle.schedule_run.specs.Tree.{with_asked}
 use Rattle.schedule_run.specs.Tree as tree
 use Rattle.locus_main.specs.Inputs.{AreCalls, StandsFor, replies_of}
 use Rattle.locus_main.specs.Inputs.Input.{Schedule, Calls}

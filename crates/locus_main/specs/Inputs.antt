@@ -6,7 +6,7 @@ use Rattle.schedule_lines.specs.declared.line.ScheduleLine.{ScheduleLine}
 use Rattle.schedule_lines.specs.Schedule.{IsSchedule, MayEnd}
 use Rattle.the_run.specs.Runs.{run, printed, entries_of_run}
 use Rattle.the_run.specs.Commands.{Asked, opening_lines, tree_lines, reply_line}
-use Rattle.schedule_run.specs.Tree.{Asks}
+use Rattle.the_run.specs.Asking.{Asks}
 
 -- the lines of `run` are a schedule, those of `tree` are calls on the fixed cluster
 pub data Input : Type 0 where

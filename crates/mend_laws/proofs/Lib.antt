@@ -3,3 +3,4 @@ pub mod Mends
 pub mod Granted
 pub mod Whole
 pub mod Only
+pub mod Mending

@@ -77,11 +77,11 @@ at_looks file f (what.Whole s) k = absurd k
 mend_at : (file : FileId) (xs : Answers) → IsAt file (mend_wants file xs)
 mend_at file xs = mend_so (IsAt file) (at_looks file) (λ f m. tt) (λ g k sites. tt) (λ i o. tt) (λ i. tt) (λ r. tt) tt file (λ s. refl) refl xs
 
-abbrev IsMendCall : Call → Type 0
+abbrev pub IsMendCall : Call → Type 0
 IsMendCall (call.Mend f) = Unit {0}
 IsMendCall _ = ⊥
 
-no_mend : (words : Call) → (IsMendCall words → ⊥) → (f : FileId) → words ≡ call.Mend f → ⊥
+pub no_mend : (words : Call) → (IsMendCall words → ⊥) → (f : FileId) → words ≡ call.Mend f → ⊥
 no_mend words none f e = none (subst IsMendCall (sym e) tt)
 
 -- the call is a mend of this file
@@ -113,7 +113,7 @@ no_give r f x e = cc
 give_opens : (r : Reply) (f : FileId) → want.Give r ≡ want.OpenToMend f → ⊥
 give_opens r f e = cc
 
-packed_or : (p : ℕ → Bool) (w : Want) → (where_packed p w ≡ w) ⊎ (where_packed p w ≡ want.Give (reply.No refusal.NoStorage))
+pub packed_or : (p : ℕ → Bool) (w : Want) → (where_packed p w ≡ w) ⊎ (where_packed p w ≡ want.Give (reply.No refusal.NoStorage))
 packed_or p w = over w
   where
     by_test : (b : Bool) (y : Want) → (cond b y (want.Give (reply.No refusal.NoStorage)) ≡ y) ⊎ (cond b y (want.Give (reply.No refusal.NoStorage)) ≡ want.Give (reply.No refusal.NoStorage))

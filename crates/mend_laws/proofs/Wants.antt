@@ -41,8 +41,14 @@ abbrev pub IsPlainLook : What → Type 0
 IsPlainLook (what.Whole stamp) = ⊥
 IsPlainLook _ = Unit {0}
 
--- what scripts want has a property, where each want has it but the opens of mends and the looks at whole contents
-module _ (P : Want → Type 0) (looking : (f : FileId) (w : What) → IsPlainLook w → P (want.Look f w)) (opening : (f : FileId) (m : OpenMode) → P (want.Open f m)) (making : (g : ℕ) (k : Kind) (sites : Option Sites) → P (want.Make g k sites)) (doing : (i : Serial) (o : Op) → P (want.Do i o)) (closing : (i : Serial) → P (want.Close i)) (giving : (r : Reply) → P (want.Give r)) (never : P want.Never) where
+-- operations that aren't the mending itself
+abbrev pub IsPlainOp : Op → Type 0
+IsPlainOp op.Mend = ⊥
+IsPlainOp _ = Unit {0}
+
+-- what scripts want has a property, where each want has it but the opens of mends, the looks at whole contents and the
+-- mending itself
+module _ (P : Want → Type 0) (looking : (f : FileId) (w : What) → IsPlainLook w → P (want.Look f w)) (opening : (f : FileId) (m : OpenMode) → P (want.Open f m)) (making : (g : ℕ) (k : Kind) (sites : Option Sites) → P (want.Make g k sites)) (doing : (i : Serial) (o : Op) → IsPlainOp o → P (want.Do i o)) (closing : (i : Serial) → P (want.Close i)) (giving : (r : Reply) → P (want.Give r)) (never : P want.Never) where
   gives_so : (r : Reply) (xs : List Answer) → P (gives r xs)
   gives_so r [] = giving r
   gives_so r (x ∷ xs) = never
@@ -54,15 +60,15 @@ module _ (P : Want → Type 0) (looking : (f : FileId) (w : What) → IsPlainLoo
   closes_so i next h (_ ∷ rest) = never
 
   aborts_so : (i : Serial) (next : List Answer → Want) → ((xs : List Answer) → P (next xs)) → (xs : List Answer) → P (aborts i next xs)
-  aborts_so i next h [] = doing i op.Abort
+  aborts_so i next h [] = doing i op.Abort tt
   aborts_so i next h (answer.Did o ∷ rest) = h rest
   aborts_so i next h (answer.Refused why ∷ rest) = h rest
   aborts_so i next h (_ ∷ rest) = never
 
-  pub give_up_so : (own : List Own) (why : Refusal) (xs : List Answer) → P (give_up own why xs)
-  give_up_so [] why xs = gives_so _ xs
-  give_up_so (Unchanged i ∷ own) why xs = closes_so i (give_up own why) (give_up_so own why) xs
-  give_up_so (Changed i ∷ own) why xs = aborts_so i (closes i (give_up own why)) (closes_so i (give_up own why) (give_up_so own why)) xs
+  pub give_up_by : (own : List Own) (why : Refusal) (xs : List Answer) → P (give_up own why xs)
+  give_up_by [] why xs = gives_so _ xs
+  give_up_by (Unchanged i ∷ own) why xs = closes_so i (give_up own why) (give_up_by own why) xs
+  give_up_by (Changed i ∷ own) why xs = aborts_so i (closes i (give_up own why)) (closes_so i (give_up own why) (give_up_by own why)) xs
 
   refused_so : (is : List Serial) (r : Reply) (i : Serial) (why : Refusal) (xs : List Answer) → P (close_all (i ∷ is) r (answer.Refused why ∷ xs))
   refused_so [] r i why xs = gives_so _ xs
@@ -102,27 +108,27 @@ module _ (P : Want → Type 0) (looking : (f : FileId) (w : What) → IsPlainLoo
   -- ---- create and mkdir ----
 
   after_insert_so : (p : Serial) (name : List ℕ) (k : Kind) (ino : ℕ) (xs : List Answer) → P (after_insert p name k ino xs)
-  after_insert_so p name k ino [] = doing p _
+  after_insert_so p name k ino [] = doing p _ tt
   after_insert_so p name k ino (answer.Did o ∷ rest) = close_all_so (p ∷ []) (reply.Made ino) rest
-  after_insert_so p name k ino (answer.Refused why ∷ rest) = give_up_so (Unchanged p ∷ []) why rest
+  after_insert_so p name k ino (answer.Refused why ∷ rest) = give_up_by (Unchanged p ∷ []) why rest
   after_insert_so p name k ino (_ ∷ rest) = never
 
   after_make_so : (p : Serial) (name : List ℕ) (k : Kind) (made : Serial) (ino : ℕ) (xs : List Answer) → P (after_make p name k made ino xs)
   after_make_so p name k made ino [] = closing made
   after_make_so p name k made ino (answer.Ended stamp ∷ rest) = after_insert_so p name k ino rest
-  after_make_so p name k made ino (answer.Refused why ∷ rest) = give_up_so (Unchanged p ∷ []) why rest
+  after_make_so p name k made ino (answer.Refused why ∷ rest) = give_up_by (Unchanged p ∷ []) why rest
   after_make_so p name k made ino (_ ∷ rest) = never
 
   after_probe_so : (p : Serial) (group : ℕ) (name : List ℕ) (k : Kind) (sites : Option Sites) → (xs : List Answer) → P (after_probe p group name k sites xs)
   after_probe_so p group name k sites [] = making _ _ _
   after_probe_so p group name k sites (answer.Opened made ino ∷ rest) = after_make_so p name k made ino rest
-  after_probe_so p group name k sites (answer.Refused why ∷ rest) = give_up_so (Unchanged p ∷ []) why rest
+  after_probe_so p group name k sites (answer.Refused why ∷ rest) = give_up_by (Unchanged p ∷ []) why rest
   after_probe_so p group name k sites (_ ∷ rest) = never
 
   probes_so : (p : Serial) (group : ℕ) (name : List ℕ) (k : Kind) (sites : Option Sites) → (xs : List Answer) → P (probes p group name k sites xs)
-  probes_so p group name k sites [] = doing p _
+  probes_so p group name k sites [] = doing p _ tt
   probes_so p group name k sites (answer.Did o ∷ rest) = after_probe_so p group name k sites rest
-  probes_so p group name k sites (answer.Refused why ∷ rest) = give_up_so (Unchanged p ∷ []) why rest
+  probes_so p group name k sites (answer.Refused why ∷ rest) = give_up_by (Unchanged p ∷ []) why rest
   probes_so p group name k sites (_ ∷ rest) = never
 
   make_so : (mounts : List Mount) (path : List ℕ) (k : Kind) (sites : Option Sites) → (xs : List Answer) → P (make_wants mounts path k sites xs)
@@ -131,40 +137,40 @@ module _ (P : Want → Type 0) (looking : (f : FileId) (w : What) → IsPlainLoo
   -- ---- unlink, rmdir and rename ----
 
   removes_so : (p t : Serial) (name : List ℕ) (ino : ℕ) (xs : List Answer) → P (removes p t name ino xs)
-  removes_so p t name ino [] = doing p _
+  removes_so p t name ino [] = doing p _ tt
   removes_so p t name ino (answer.Did o ∷ rest) = close_all_so (p ∷ t ∷ []) reply.Done rest
-  removes_so p t name ino (answer.Refused why ∷ rest) = give_up_so (Unchanged p ∷ Unchanged t ∷ []) why rest
+  removes_so p t name ino (answer.Refused why ∷ rest) = give_up_by (Unchanged p ∷ Unchanged t ∷ []) why rest
   removes_so p t name ino (_ ∷ rest) = never
 
   empties_so : (k : Kind) (p t : Serial) (name : List ℕ) (ino : ℕ) (xs : List Answer) → P (empties k p t name ino xs)
   empties_so kind.File p t name ino xs = removes_so p t name ino xs
-  empties_so kind.Dir p t name ino [] = doing t _
+  empties_so kind.Dir p t name ino [] = doing t _ tt
   empties_so kind.Dir p t name ino (answer.Did o ∷ rest) = removes_so p t name ino rest
-  empties_so kind.Dir p t name ino (answer.Refused why ∷ rest) = give_up_so (Unchanged p ∷ Unchanged t ∷ []) why rest
+  empties_so kind.Dir p t name ino (answer.Refused why ∷ rest) = give_up_by (Unchanged p ∷ Unchanged t ∷ []) why rest
   empties_so kind.Dir p t name ino (_ ∷ rest) = never
 
   target_so : (k : Kind) (p : Serial) (group : ℕ) (name : List ℕ) (ino : ℕ) (xs : List Answer) → P (opens_target k p group name ino xs)
   target_so k p group name ino [] = opening _ _
   target_so k p group name ino (answer.Opened t found ∷ rest) = empties_so k p t name ino rest
-  target_so k p group name ino (answer.Refused why ∷ rest) = give_up_so (Unchanged p ∷ []) why rest
+  target_so k p group name ino (answer.Refused why ∷ rest) = give_up_by (Unchanged p ∷ []) why rest
   target_so k p group name ino (_ ∷ rest) = never
 
   by_kind_so : (k found : Kind) (p : Serial) (group : ℕ) (component : List ℕ) (ino : ℕ) (xs : List Answer) → P (by_kind k found p group component ino xs)
   by_kind_so kind.File kind.File p group component ino xs = target_so kind.File p group _ ino xs
   by_kind_so kind.Dir kind.Dir p group component ino xs = target_so kind.Dir p group _ ino xs
-  by_kind_so kind.File kind.Dir p group component ino xs = give_up_so (Unchanged p ∷ []) _ xs
-  by_kind_so kind.Dir kind.File p group component ino xs = give_up_so (Unchanged p ∷ []) _ xs
+  by_kind_so kind.File kind.Dir p group component ino xs = give_up_by (Unchanged p ∷ []) _ xs
+  by_kind_so kind.Dir kind.File p group component ino xs = give_up_by (Unchanged p ∷ []) _ xs
 
   finds_so : (k : Kind) (p : Serial) (group : ℕ) (component : List ℕ) (xs : List Answer) → P (finds k p group component xs)
-  finds_so k p group component [] = doing p _
+  finds_so k p group component [] = doing p _ tt
   finds_so k p group component (answer.Did (outcome.Found ino found) ∷ rest) = by_kind_so k found p group component ino rest
-  finds_so k p group component (answer.Refused why ∷ rest) = give_up_so (Unchanged p ∷ []) why rest
+  finds_so k p group component (answer.Refused why ∷ rest) = give_up_by (Unchanged p ∷ []) why rest
   finds_so k p group component (_ ∷ rest) = never
 
   renames_so : (p : Serial) (component name : List ℕ) (xs : List Answer) → P (renames p component name xs)
-  renames_so p component name [] = doing p _
+  renames_so p component name [] = doing p _ tt
   renames_so p component name (answer.Did o ∷ rest) = close_all_so (p ∷ []) reply.Done rest
-  renames_so p component name (answer.Refused why ∷ rest) = give_up_so (Unchanged p ∷ []) why rest
+  renames_so p component name (answer.Refused why ∷ rest) = give_up_by (Unchanged p ∷ []) why rest
   renames_so p component name (_ ∷ rest) = never
 
   -- ---- mend, open, list, stat, and uses ----
@@ -175,24 +181,24 @@ module _ (P : Want → Type 0) (looking : (f : FileId) (w : What) → IsPlainLoo
   close_so i (answer.Refused why ∷ []) = giving _
   close_so i (_ ∷ rest) = never
 
-  pub after_mend_so : (i : Serial) (xs : List Answer) → P (after_mend i xs)
-  after_mend_so i [] = doing i _
-  after_mend_so i (answer.Did o ∷ rest) = close_so i rest
-  after_mend_so i (answer.Refused why ∷ rest) = give_up_so (Unchanged i ∷ []) why rest
-  after_mend_so i (_ ∷ rest) = never
+  pub after_mend_by : (i : Serial) → P (want.Do i op.Mend) → (xs : List Answer) → P (after_mend i xs)
+  after_mend_by i mends [] = mends
+  after_mend_by i mends (answer.Did o ∷ rest) = close_so i rest
+  after_mend_by i mends (answer.Refused why ∷ rest) = give_up_by (Unchanged i ∷ []) why rest
+  after_mend_by i mends (_ ∷ rest) = never
 
-  brings_so : (i : Serial) (f : FileId) (stamps : List Stamp) → ((s : Stamp) → P (want.Look f (what.Whole s))) → (xs : List Answer) → P (brings i f stamps xs)
-  brings_so i f [] whole xs = after_mend_so i xs
-  brings_so i f (s ∷ ss) whole [] = whole s
-  brings_so i f (s ∷ ss) whole (answer.Brought ∷ rest) = brings_so i f ss whole rest
-  brings_so i f (s ∷ ss) whole (answer.Refused why ∷ rest) = give_up_so (Unchanged i ∷ []) why rest
-  brings_so i f (s ∷ ss) whole (_ ∷ rest) = never
+  brings_so : (i : Serial) (f : FileId) (stamps : List Stamp) → ((s : Stamp) → P (want.Look f (what.Whole s))) → P (want.Do i op.Mend) → (xs : List Answer) → P (brings i f stamps xs)
+  brings_so i f [] whole mends xs = after_mend_by i mends xs
+  brings_so i f (s ∷ ss) whole mends [] = whole s
+  brings_so i f (s ∷ ss) whole mends (answer.Brought ∷ rest) = brings_so i f ss whole mends rest
+  brings_so i f (s ∷ ss) whole mends (answer.Refused why ∷ rest) = give_up_by (Unchanged i ∷ []) why rest
+  brings_so i f (s ∷ ss) whole mends (_ ∷ rest) = never
 
-  pub mend_so : (f : FileId) → ((s : Stamp) → P (want.Look f (what.Whole s))) → P (want.OpenToMend f) → (xs : List Answer) → P (mend_wants f xs)
-  mend_so f whole mends [] = mends
-  mend_so f whole mends (answer.Merging i kept ∷ rest) = brings_so i f kept whole rest
-  mend_so f whole mends (answer.Refused why ∷ []) = giving _
-  mend_so f whole mends (_ ∷ rest) = never
+  pub mend_by : (f : FileId) → ((s : Stamp) → P (want.Look f (what.Whole s))) → P (want.OpenToMend f) → ((i : Serial) → P (want.Do i op.Mend)) → (xs : List Answer) → P (mend_wants f xs)
+  mend_by f whole opens mends [] = opens
+  mend_by f whole opens mends (answer.Merging i kept ∷ rest) = brings_so i f kept whole (mends i) rest
+  mend_by f whole opens mends (answer.Refused why ∷ []) = giving _
+  mend_by f whole opens mends (_ ∷ rest) = never
 
   opens_file_so : (m : OpenMode) (free : Option ℕ) (f : FileId) (k : Kind) (xs : List Answer) → P (opens_file m free f k xs)
   opens_file_so m free f kind.Dir xs = giving _
@@ -216,18 +222,18 @@ module _ (P : Want → Type 0) (looking : (f : FileId) (w : What) → IsPlainLoo
   describes_so f k (answer.Refused why ∷ []) = giving _
   describes_so f k (_ ∷ rest) = never
 
-  op_so : (i : Serial) (o : Op) (xs : List Answer) → P (op_wants i o xs)
-  op_so i o [] = doing i o
-  op_so i o (answer.Did result ∷ []) = giving _
-  op_so i o (answer.Refused why ∷ []) = giving _
-  op_so i o (_ ∷ rest) = never
+  op_so : (i : Serial) (o : Op) → IsPlainOp o → (xs : List Answer) → P (op_wants i o xs)
+  op_so i o plain [] = doing i o plain
+  op_so i o plain (answer.Did result ∷ []) = giving _
+  op_so i o plain (answer.Refused why ∷ []) = giving _
+  op_so i o plain (_ ∷ rest) = never
 
   uses_so : (words : Call) (i : Serial) (xs : List Answer) → P (uses_wants words i xs)
-  uses_so (call.Read fd at len) i xs = op_so i _ xs
-  uses_so (call.Write fd at bytes) i xs = op_so i _ xs
-  uses_so (call.Cut fd len) i xs = op_so i _ xs
-  uses_so (call.Commit fd) i xs = op_so i _ xs
-  uses_so (call.Abort fd) i xs = op_so i _ xs
+  uses_so (call.Read fd at len) i xs = op_so i _ tt xs
+  uses_so (call.Write fd at bytes) i xs = op_so i _ tt xs
+  uses_so (call.Cut fd len) i xs = op_so i _ tt xs
+  uses_so (call.Commit fd) i xs = op_so i _ tt xs
+  uses_so (call.Abort fd) i xs = op_so i _ tt xs
   uses_so (call.Close fd) i xs = close_so i xs
   uses_so _ i xs = never
 
@@ -258,8 +264,8 @@ module _ (P : Want → Type 0) (looking : (f : FileId) (w : What) → IsPlainLoo
       over true = giving _
       over false = begun_so mounts free words other b xs
 
-  pub packed_so : (is_packed : ℕ → Bool) (w : Want) → P w → P (where_packed is_packed w)
-  packed_so is_packed w h = over w h
+  pub packed_by : (is_packed : ℕ → Bool) (w : Want) → P w → P (where_packed is_packed w)
+  packed_by is_packed w h = over w h
     where
       by_test : (x : Bool) (y : Want) → P y → P (cond x y (want.Give (reply.No refusal.NoStorage)))
       by_test true y k = k
@@ -275,5 +281,23 @@ module _ (P : Want → Type 0) (looking : (f : FileId) (w : What) → IsPlainLoo
       over (want.Give r) k = k
       over want.Never k = k
 
+  pub wants_by : (mounts : List Mount) (is_packed : ℕ → Bool) (free : Option ℕ) (words : Call) → ((f : FileId) → words ≡ call.Mend f → ⊥) → (b : Beginning) (xs : List Answer) → P (wants mounts is_packed free words b xs)
+  wants_by mounts is_packed free words other b xs = packed_by is_packed (named_wants mounts free words b xs) (named_so mounts free words other b xs)
+
+-- ---- where mending itself is no exception ----
+
+module _ (P : Want → Type 0) (looking : (f : FileId) (w : What) → IsPlainLook w → P (want.Look f w)) (opening : (f : FileId) (m : OpenMode) → P (want.Open f m)) (making : (g : ℕ) (k : Kind) (sites : Option Sites) → P (want.Make g k sites)) (doing : (i : Serial) (o : Op) → P (want.Do i o)) (closing : (i : Serial) → P (want.Close i)) (giving : (r : Reply) → P (want.Give r)) (never : P want.Never) where
+  pub give_up_so : (own : List Own) (why : Refusal) (xs : List Answer) → P (give_up own why xs)
+  give_up_so own why xs = give_up_by P looking opening making (λ i o plain. doing i o) closing giving never own why xs
+
+  pub after_mend_so : (i : Serial) (xs : List Answer) → P (after_mend i xs)
+  after_mend_so i xs = after_mend_by P looking opening making (λ i o plain. doing i o) closing giving never i (doing i op.Mend) xs
+
+  pub mend_so : (f : FileId) → ((s : Stamp) → P (want.Look f (what.Whole s))) → P (want.OpenToMend f) → (xs : List Answer) → P (mend_wants f xs)
+  mend_so f whole opens xs = mend_by P looking opening making (λ i o plain. doing i o) closing giving never f whole opens (λ i. doing i op.Mend) xs
+
+  pub packed_so : (is_packed : ℕ → Bool) (w : Want) → P w → P (where_packed is_packed w)
+  packed_so is_packed w h = packed_by P looking opening making (λ i o plain. doing i o) closing giving never is_packed w h
+
   pub wants_so : (mounts : List Mount) (is_packed : ℕ → Bool) (free : Option ℕ) (words : Call) → ((f : FileId) → words ≡ call.Mend f → ⊥) → (b : Beginning) (xs : List Answer) → P (wants mounts is_packed free words b xs)
-  wants_so mounts is_packed free words other b xs = packed_so is_packed (named_wants mounts free words b xs) (named_so mounts free words other b xs)
+  wants_so mounts is_packed free words other b xs = wants_by P looking opening making (λ i o plain. doing i o) closing giving never mounts is_packed free words other b xs

@@ -64,7 +64,7 @@ safe_told c n (Takes s it request times a) older d h may named k = over (same_ca
     over false e = safe_still c n (Takes s it request times a) older h may d named (ap (λ (b : Bool). cond b (log older d ++ a ∷ []) (log older d)) e) k
 safe_told c n x older d h may named k = safe_still c n x older h may d named refl k
 
-all_safe : (c : Config) (trace : List Line) → IsFollowed c trace → (d : CallId) → IsNamed (entries trace) d → IsSafe c trace d
+pub all_safe : (c : Config) (trace : List Line) → IsFollowed c trace → (d : CallId) → IsNamed (entries trace) d → IsSafe c trace d
 all_safe c [] h d named = absurd (none named.0 named.1)
   where
     none : (w : Waiting) → ◌≡◌ {A = Option Waiting} None (Some w) → ⊥

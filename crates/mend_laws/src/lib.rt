@@ -4,4 +4,6 @@
 
 mod laws;
 
-pub use laws::{only_kept_versions_are_had, whole_contents_are_of_kept_versions};
+pub use laws::{
+    mends_have_all_that_is_kept, only_kept_versions_are_had, whole_contents_are_of_kept_versions,
+};

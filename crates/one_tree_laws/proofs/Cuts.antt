@@ -61,12 +61,12 @@ plain_once (Shuts site e inst) past h once = once
 plain_once _ past h once = absurd h
 
 rest_record : (c : Config) (t : List Line) (r : Record) → IsPlainRecord r → StampsAreOnce (Shown r ∷ past_of t) → RestTold c t (Shown r)
-rest_record c t (says.Act e inst n o result) h once = record { row = tt; range = tt; packed = tt; fresh = tt; once = once }
+rest_record c t (says.Act e inst n o result) h once = record { row = tt; range = h; packed = tt; fresh = tt; once = once; numbered = tt; sited = tt; rooted = tt }
 rest_record c t _ h once = absurd h
 
 plain_rest : (c : Config) (t : List Line) (x : Told) → IsPlain x → StampsAreOnce (x ∷ past_of t) → RestTold c t x
 plain_rest c t (Shown r) h once = rest_record c t r h once
-plain_rest c t (Shuts site e inst) h once = record { row = tt; range = tt; packed = tt; fresh = tt; once = once }
+plain_rest c t (Shuts site e inst) h once = record { row = tt; range = tt; packed = tt; fresh = tt; once = once; numbered = tt; sited = tt; rooted = tt }
 plain_rest c t _ h once = absurd h
 
 all_plain : (c : Config) (n : ℕ) (xs : List Told) (t : List Line) → StampsAreOnce (past_of t) → Every IsPlain xs → AllRest c n t xs
@@ -137,32 +137,32 @@ adopts_writes c roles n me trace v past h = λ d e rest.
 
 -- ---- the whole step ----
 
-leaves_none : (me : ℕ) (e : Option InEpoch) (v : SiteView) → (leaves_of me e v).written ≡ None
+pub leaves_none : (me : ℕ) (e : Option InEpoch) (v : SiteView) → (leaves_of me e v).written ≡ None
 leaves_none me None v = refl
 leaves_none me (Some e) v = refl
 
 promises_none : (me : ℕ) (id : EpochId) (reach : Sites) (v : SiteView) → (promises me id reach v).written ≡ None
 promises_none me id reach v = ap (λ (w : Option DiskWrite). first_written w None) (leaves_none me v.epoch v)
 
-begins_none : (me : ℕ) (links : Links) (number : ℕ) (polled : Links) (v : SiteView) → (begins_round me links number polled v).written ≡ None
+pub begins_none : (me : ℕ) (links : Links) (number : ℕ) (polled : Links) (v : SiteView) → (begins_round me links number polled v).written ≡ None
 begins_none me links number polled v = ap (λ (w : Option DiskWrite). first_written w None) (promises_none me (round_id me number v) (reached links) v)
 
-part_none : (me : ℕ) (links : Links) (e : Option InEpoch) (v : SiteView) → (starts_part_of me links e v).written ≡ None
+pub part_none : (me : ℕ) (links : Links) (e : Option InEpoch) (v : SiteView) → (starts_part_of me links e v).written ≡ None
 part_none me links None v = refl
 part_none me links (Some e) v = begins_none me links (v.promised.number + 1) (boots_where (part_boot me links e.members)) v
 
-poll_none : (me : ℕ) (links : Links) (from from_boot : ℕ) (id : EpochId) (v : SiteView) → (on_poll me links from from_boot id v).written ≡ None
+pub poll_none : (me : ℕ) (links : Links) (from from_boot : ℕ) (id : EpochId) (v : SiteView) → (on_poll me links from from_boot id v).written ≡ None
 poll_none me links from from_boot id v = over (is_epoch_below v.promised id)
   where
     over : (b : Bool) → (elim b as (λ (x : Bool). Outcome SiteView) [ true ↦ and_then (promises me id (reached links) v) (λ now. sends (promise_packet me links from from_boot id now) now) | false ↦ sends (cond (same_epoch id v.promised && not v.installed) (promise_packet me links from from_boot id v) (refuse_packet me from from_boot id v)) v ]).written ≡ None
     over true = ap (λ (w : Option DiskWrite). first_written w None) (promises_none me id (reached links) v)
     over false = refl
 
-promise_none : (from from_boot : ℕ) (id : EpochId) (reach : Sites) (o : Option Round) (v : SiteView) → (on_promise_of from from_boot id reach o v).written ≡ None
+pub promise_none : (from from_boot : ℕ) (id : EpochId) (reach : Sites) (o : Option Round) (v : SiteView) → (on_promise_of from from_boot id reach o v).written ≡ None
 promise_none from from_boot id reach None v = refl
 promise_none from from_boot id reach (Some r) v = refl
 
-refuse_none : (me : ℕ) (links : Links) (id theirs : EpochId) (o : Option Round) (v : SiteView) → (on_refuse_of me links id theirs o v).written ≡ None
+pub refuse_none : (me : ℕ) (links : Links) (id theirs : EpochId) (o : Option Round) (v : SiteView) → (on_refuse_of me links id theirs o v).written ≡ None
 refuse_none me links id theirs None v = refl
 refuse_none me links id theirs (Some r) v = over (same_epoch r.id id)
   where
@@ -170,7 +170,7 @@ refuse_none me links id theirs (Some r) v = over (same_epoch r.id id)
     over true = begins_none me links (theirs.number + 1) r.polled v
     over false = refl
 
-install_none : (c : Config) (me from from_boot : ℕ) (id : EpochId) (members : Members) (v : SiteView) → (on_install c me from from_boot id members v).written ≡ None
+pub install_none : (c : Config) (me from from_boot : ℕ) (id : EpochId) (members : Members) (v : SiteView) → (on_install c me from from_boot id members v).written ≡ None
 install_none c me from from_boot id members v = over (may_install me id members v)
   where
     over : (b : Bool) → (elim b as (λ (x : Bool). Outcome SiteView) [ true ↦ and_then (joins c me id members v) (λ now. sends (joined_packet me from from_boot id now) now) | false ↦ sends (cond (is_in id v.epoch) (joined_packet me from from_boot id v) []) v ]).written ≡ None

@@ -26,12 +26,13 @@ use Rattle.role_steps.specs.declared.instances.Stage.TheVariants as stage
 use Rattle.role_steps.specs.declared.pulls.Pull.{Pull}
 use Rattle.role_steps.specs.declared.rounds.InEpoch.{InEpoch}
 use Rattle.the_run.specs.Steps.{adopts_of}
+use Rattle.one_tree_laws.specs.Rest.{IsSpentMend}
 
 abbrev pub IsPlainRecord : Record → Type 0
-IsPlainRecord (says.Act e inst n o result) = Unit {0}
+IsPlainRecord (says.Act e inst n o r) = IsSpentMend o r → ⊥
 IsPlainRecord _ = ⊥
 
--- an operation, or a shut
+-- an operation that is no mend for which a count is at its end, or a shut
 abbrev pub IsPlain : Told → Type 0
 IsPlain (Shown r) = IsPlainRecord r
 IsPlain (Shuts site e inst) = Unit {0}
@@ -81,7 +82,7 @@ effect_shaped f i o (Some e) s = tt
 
 committed_plain : (f : Frame) (stamp : Stamp) (o : Option Instance) (s : Store) → Every IsPlain (acts_committed f stamp o s).told
 committed_plain f stamp None s = tt
-committed_plain f stamp (Some i) s = (tt, tt)
+committed_plain f stamp (Some i) s = ((λ k. k), tt)
 
 last_shaped : (f : Frame) (i : Instance) (o : Option Stamp) (s : Store) → Shaped (last_committed f i o s)
 last_shaped f i None s = tt

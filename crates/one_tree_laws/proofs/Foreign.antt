@@ -176,6 +176,7 @@ site_apart c roles n t x older (Some e) v k a h =
       groups = h.groups;
       tables = all_facts c f (more n x older) v.tables tables.each;
       pulls = pulls_frame c n x older f v.pulls k h.pulls;
+      reports = h.reports;
     }
 
 pub place_apart : (c : Config) → RolesDo c → (n t : ℕ) (p : Place) (x : Told) (older : List Line) → Comes c older x → Apart c older t x → PlaceFact c t older p → PlaceFact c t (more n x older) p

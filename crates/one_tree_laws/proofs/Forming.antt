@@ -37,10 +37,10 @@ use Rattle.one_tree_laws.proofs.Leaving.{Gone, gone_site, promises_fine}
 
 -- ---- rounds don't matter ----
 
-pub site_alike : (c : Config) (me : ℕ) (t : List Line) (v : SiteView) (promised : EpochId) (installed : Bool) (round : Option Round) (installs reports : List ℕ) (o : Option InEpoch) → SiteIn c me t v o →
-    SiteIn c me t (record v { promised = promised; installed = installed; round = round; installs = installs; reports = reports }) o
-site_alike c me t v promised installed round installs reports None h = record { up = h.up; outside = h.outside; users = h.users; copies = h.copies; instances = h.instances; tables = h.tables; pulls = h.pulls }
-site_alike c me t v promised installed round installs reports (Some e) h = record { frame = h.frame; users = h.users; store = h.store; groups = h.groups; tables = h.tables; pulls = h.pulls }
+pub site_alike : (c : Config) (me : ℕ) (t : List Line) (v : SiteView) (promised : EpochId) (installed : Bool) (round : Option Round) (installs : List ℕ) (o : Option InEpoch) → SiteIn c me t v o →
+    SiteIn c me t (record v { promised = promised; installed = installed; round = round; installs = installs }) o
+site_alike c me t v promised installed round installs None h = record { up = h.up; outside = h.outside; users = h.users; copies = h.copies; instances = h.instances; tables = h.tables; pulls = h.pulls }
+site_alike c me t v promised installed round installs (Some e) h = record { frame = h.frame; users = h.users; store = h.store; groups = h.groups; tables = h.tables; pulls = h.pulls; reports = h.reports }
 
 abbrev Does : Config → ℕ → List Line → ℕ → Outcome SiteView → Type 0
 Does c n trace me o = SiteFine c n trace me (SiteFact c me) NoWrite o
@@ -61,7 +61,7 @@ begins_fine c roles stays n me links number polled trace v followed h rest =
     let a : SiteFine c n trace me (Gone c me) NoWrite o = promises_fine c roles stays n me id (reached links) trace v followed h (rest_first c n o.told [] trace rest) in
     site_then c n trace me (Gone c me) (SiteFact c me) NoWrite o (polls me id polled o.view) stays followed fresh a
     (sends_fine c n (told_onto n o.told trace) me (map (poll_packet me o.view.boot id polled) (polled_sites polled)) (record o.view { round = Some (new_round id polled) })
-    (site_alike c me (told_onto n o.told trace) o.view o.view.promised o.view.installed (Some (new_round id polled)) o.view.installs o.view.reports o.view.epoch (gone_site c me (told_onto n o.told trace) o.view a.view))
+    (site_alike c me (told_onto n o.told trace) o.view o.view.promised o.view.installed (Some (new_round id polled)) o.view.installs o.view.epoch (gone_site c me (told_onto n o.told trace) o.view a.view))
     (every_map (PacketFact c (told_onto n o.told trace)) (poll_packet me o.view.boot id polled) (polled_sites polled) (λ s. tt)))
 
 pub starts_part_fine : (c : Config) → RolesDo c → Stays c → (n me : ℕ) (links : Links) (trace : List Line) (e : Option InEpoch) (v : SiteView) → Past c trace → SiteFact c me trace v → AllRest c n trace (starts_part_of me links e v).told → Does c n trace me (starts_part_of me links e v)
@@ -85,7 +85,7 @@ pub on_promise_fine : (c : Config) (n me from from_boot : ℕ) (id : EpochId) (r
 on_promise_fine c n me from from_boot id reach trace None v h = quiet_fine c n trace me v h
 on_promise_fine c n me from from_boot id reach trace (Some r) v h =
     let q : Option Round = Some (cond (counts_promise from from_boot id r) (with_promise from reach r) r) in
-    quiet_fine c n trace me (record v { round = q }) (site_alike c me trace v v.promised v.installed q v.installs v.reports v.epoch h)
+    quiet_fine c n trace me (record v { round = q }) (site_alike c me trace v v.promised v.installed q v.installs v.epoch h)
 
 pub on_refuse_fine : (c : Config) → RolesDo c → Stays c → (n me : ℕ) (links : Links) (id theirs : EpochId) (trace : List Line) (o : Option Round) (v : SiteView) → Past c trace → SiteFact c me trace v → AllRest c n trace (on_refuse_of me links id theirs o v).told → Does c n trace me (on_refuse_of me links id theirs o v)
 on_refuse_fine c roles stays n me links id theirs trace None v followed h rest = quiet_fine c n trace me v h
@@ -123,7 +123,7 @@ pub on_joined_fine : (c : Config) (n me from : ℕ) (id : EpochId) (trace : List
 on_joined_fine c n me from id trace v h = over (is_in id v.epoch)
   where
     over : (b : Bool) → Does c n trace me (quiet (cond b (record v { installs = without_row (λ s. s) from v.installs }) v))
-    over true = quiet_fine c n trace me (record v { installs = without_row (λ s. s) from v.installs }) (site_alike c me trace v v.promised v.installed v.round (without_row (λ s. s) from v.installs) v.reports v.epoch h)
+    over true = quiet_fine c n trace me (record v { installs = without_row (λ s. s) from v.installs }) (site_alike c me trace v v.promised v.installed v.round (without_row (λ s. s) from v.installs) v.epoch h)
     over false = quiet_fine c n trace me v h
 
 decides_fine : (c : Config) → RolesDo c → Stays c → (n me : ℕ) (id : EpochId) (members : Members) (trace : List Line) (v : SiteView) → Past c trace → SiteFact c me trace v → AllRest c n trace (decides c me id members v).told → Does c n trace me (decides c me id members v)
@@ -133,7 +133,7 @@ decides_fine c roles stays n me id members trace v followed h rest =
     let a : Does c n trace me o = joins_fine c roles n me id members trace v followed h (rest_first c n o.told [] trace rest) in
     site_then c n trace me (SiteFact c me) (SiteFact c me) NoWrite o (installs_all me id members o.view) stays followed rest a
     (sends_fine c n t me (map (install_packet me o.view.boot id members) (others_of me members)) (record o.view { installs = others_of me members })
-    (site_alike c me t o.view o.view.promised o.view.installed o.view.round (others_of me members) o.view.reports o.view.epoch a.view)
+    (site_alike c me t o.view o.view.promised o.view.installed o.view.round (others_of me members) o.view.epoch a.view)
     (every_map (PacketFact c t) (install_packet me o.view.boot id members) (others_of me members) (λ s. tt)))
 
 passes_fine : (c : Config) → RolesDo c → Stays c → (n me : ℕ) (links : Links) (trace : List Line) (o : Option Round) (v : SiteView) → Past c trace → SiteFact c me trace v → AllRest c n trace (passes_over_of c me links o v).told → Does c n trace me (passes_over_of c me links o v)
@@ -142,7 +142,7 @@ passes_fine c roles stays n me links trace (Some r) v followed h rest = over (un
   where
     over : (ss : List ℕ) → AllRest c n trace (decides_if c me links (passed_over links r) ss v).told → Does c n trace me (decides_if c me links (passed_over links r) ss v)
     over [] k = decides_fine c roles stays n me (passed_over links r).id (chosen_members me v.boot (passed_over links r) (chosen_set me links (passed_over links r))) trace v followed h k
-    over (s ∷ ss) k = quiet_fine c n trace me (record v { round = Some (passed_over links r) }) (site_alike c me trace v v.promised v.installed (Some (passed_over links r)) v.installs v.reports v.epoch h)
+    over (s ∷ ss) k = quiet_fine c n trace me (record v { round = Some (passed_over links r) }) (site_alike c me trace v v.promised v.installed (Some (passed_over links r)) v.installs v.epoch h)
 
 -- ---- mends and adoptions of a site in its epoch ----
 

@@ -45,7 +45,8 @@ outside_frame c n x older me boot u k no_users no_site h = record {
   boot_is = h.boot_is ∙ sym (boots_stay n me x older no_site);
   calls = h.calls ∙ sym (calls_stay n me x older no_users no_site);
   serials = h.serials ∙ sym (opens_stay c n me x older no_users no_site);
-  descriptors = λ process fd. h.descriptors process fd ∙ sym (descriptors_stay n me process fd x older no_users no_site);
+  descriptors = λ process fd low. h.descriptors process fd low ∙ sym (descriptors_stay n me process fd x older no_users no_site);
+  ascends = h.ascends;
 }
 
 -- of a site that has just booted
@@ -53,7 +54,7 @@ abbrev pub no_users : Users
 no_users = record { calls = 0; serials = 0; waiting = []; instances = []; descriptors = []; hopeless = [] }
 
 pub first_users : (c : Config) (me : ℕ) → UsersFact c [] me 1 no_users
-first_users c me = record { boot_is = refl; calls = refl; serials = refl; descriptors = λ process fd. refl }
+first_users c me = record { boot_is = refl; calls = refl; serials = refl; descriptors = λ process fd low. refl; ascends = tt }
 
 cond_own : {A : Type 0} (s : ℕ) (x y : A) → cond (s == s) x y ≡ x
 cond_own s x y = over (s == s) (test_own s)
@@ -67,7 +68,8 @@ booted_users c n me boot trace none = record {
   boot_is = sym (cond_own me boot (boot_of (entries trace) me));
   calls = sym (cond_own me 0 (calls_accepted (entries trace) me));
   serials = sym (cond_own me 0 (opens_asked c trace me));
-  descriptors = λ process fd. sym (none process fd);
+  descriptors = λ process fd low. sym (none process fd);
+  ascends = tt;
 }
 
 -- ---- storage sites ----

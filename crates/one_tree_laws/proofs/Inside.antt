@@ -1,5 +1,5 @@
 -- What a site does of a packet of its epoch, by the packet's kind.
-use Rattle.std.proofs.Common.{◌≡◌, ℕ, List, [], Option, Some, None, refl, sym, subst}
+use Rattle.std.proofs.Common.{◌≡◌, ℕ, ◌==◌, Bool, true, false, List, [], ◌∷◌, Option, Some, None, refl, sym, subst}
 use Rattle.locus_ids.specs.declared.config.Config.{Config}
 use Rattle.locus_ids.specs.declared.ids.Serial.{Serial}
 use Rattle.wire_messages.specs.declared.body.Body.{Body}
@@ -9,12 +9,14 @@ use Rattle.role_steps.specs.Adoption.{table_group}
 use Rattle.role_steps.specs.Looks.{LookRequest}
 use Rattle.role_steps.specs.Opens.{OpenRequest, on_opened}
 use Rattle.role_steps.specs.Reports.{on_report, on_open, on_look, on_closed, on_have}
-use Rattle.role_steps.specs.Tables.{row, first_that}
+use Rattle.role_steps.specs.Own.{Every}
+use Rattle.role_steps.specs.Tables.{row, first_that, without_row}
 use Rattle.role_steps.specs.Views.{Frame, SiteView, DiskWrite, Outcome, quiet}
 use Rattle.role_steps.specs.declared.synchronizing.SyncTable.{SyncTable}
 use Rattle.the_run.specs.Kept.{Among}
 use Rattle.the_run.specs.Steps.{at_table_of, is_opened_in, takes_inside}
 use Rattle.the_run.specs.Worlds.{Line}
+use Rattle.tree_model.specs.Packs.{has_pack}
 use Rattle.tree_laws.specs.Doing.{IsReceived, WrittenFact, NoWrite, WriteFact, TableFine}
 use Rattle.tree_laws.specs.Packets.{PacketFact}
 use Rattle.tree_laws.specs.Tables.{TableFact}
@@ -56,6 +58,16 @@ first_fine c roles n trace f v g i ready h step (Some t) e fresh =
     let m : Among t v.tables = first_among (is_opened_in i) v.tables t e in
     table_inside c roles n trace f v t (g t) ready h fresh m (step t (table_here c trace f v h t m) fresh)
 
+-- ---- a row less ----
+
+every_without : {A : Type 0} (P : A → Type 0) (key : A → ℕ) (k : ℕ) (xs : List A) → Every P xs → Every P (without_row key k xs)
+every_without P key k [] h = tt
+every_without P key k (x ∷ xs) h = over (key x == k) (every_without P key k xs h.1)
+  where
+    over : (b : Bool) → Every P (without_row key k xs) → Every P (elim b [ true ↦ xs | false ↦ x ∷ without_row key k xs ])
+    over true later = h.1
+    over false later = (h.0, later)
+
 -- ---- by kind ----
 
 pub inside_fine : (c : Config) → RolesDo c → (n : ℕ) (trace : List Line) (f : Frame) (p : Packet) (b : Body) (v : SiteView) → Ready c trace f → InsideFact c f trace v → IsReceived f p → p.body ≡ b → PacketFact c trace p → AllRest c n trace (takes_inside f p.from b v).told →
@@ -65,7 +77,7 @@ inside_fine c roles n trace f p (body.Report group copies) v ready h r q fact fr
 inside_fine c roles n trace f p (body.ReportOk group) v ready h r q fact fresh = record {
   told = tt;
   own = tt;
-  view = record { frame = h.frame; users = h.users; store = h.store; groups = h.groups; tables = h.tables; pulls = h.pulls };
+  view = record { frame = h.frame; users = h.users; store = h.store; groups = h.groups; tables = h.tables; pulls = h.pulls; reports = every_without (λ (g : ℕ). has_pack c g f.me ≡ true) (λ (g : ℕ). g) group v.reports h.reports };
   sent = tt;
   written = tt;
 }

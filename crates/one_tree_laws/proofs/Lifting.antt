@@ -60,6 +60,7 @@ users_inside c roles n trace f v o ready h fresh k = record {
     groups = h.groups;
     tables = all_facts c f (told_onto n o.told trace) v.tables tables.each;
     pulls = pulls_over c roles n f v.pulls o.told trace ready.past k.told fresh h.pulls;
+    reports = h.reports;
   };
   sent = k.sent;
   written = k.written;
@@ -84,6 +85,7 @@ store_inside c roles n trace f v o ready h fresh k = record {
     groups = h.groups;
     tables = all_facts c f (told_onto n o.told trace) v.tables tables.each;
     pulls = pulls_over c roles n f v.pulls o.told trace ready.past k.told fresh h.pulls;
+    reports = h.reports;
   };
   sent = k.sent;
   written = k.written;
@@ -123,6 +125,7 @@ table_inside c roles n trace f v t o ready h fresh m k = record {
     groups = keys_same table_group o.view v.tables rises here ∙ h.groups;
     tables = every_replaced (TableFact c (told_onto n o.told trace) f) table_group o.view v.tables rises k.view.table (subst (λ (g : ℕ). Every (λ (u : SyncTable). (u.group ≡ g → ⊥) → TableFact c (told_onto n o.told trace) f u) v.tables) (sym k.view.group_is) tables.each);
     pulls = pulls_over c roles n f v.pulls o.told trace ready.past k.told fresh h.pulls;
+    reports = h.reports;
   };
   sent = k.sent;
   written = k.written;
@@ -152,5 +155,5 @@ pub pulls_inside : (c : Config) (n : ℕ) (trace : List Line) (f : Frame) (v : S
 pulls_inside c n trace f v o h k = silent o.told k.told k.own k.view k.sent
   where
     silent : (told : List Told) → AllTold c n trace told → Every IsOfNone told → PullsFact c f (told_onto n told trace) o.view → Every (PacketFact c (told_onto n told trace)) o.sent → InsideFine c n trace f NoWrite (record { view = with_pulls v o.view; sent = o.sent; told = told; written = o.written })
-    silent [] a b view sent = record { told = tt; own = tt; view = record { frame = h.frame; users = h.users; store = h.store; groups = h.groups; tables = h.tables; pulls = view }; sent = sent; written = k.written }
+    silent [] a b view sent = record { told = tt; own = tt; view = record { frame = h.frame; users = h.users; store = h.store; groups = h.groups; tables = h.tables; pulls = view; reports = h.reports }; sent = sent; written = k.written }
     silent (x ∷ xs) a b view sent = absurd b.0

@@ -42,7 +42,7 @@ pass_holds c k w g = λ r. (let f : WorldFact c w = g r in record { followed = f
 drop_holds : (c : Config) (k : ℕ) (w : World) → Holds c w → Holds c (loses k w)
 drop_holds c k w g = λ r. (let f : WorldFact c w = g r in record { followed = f.followed; places = f.places; sent = f.sent; underway = every_without (NumberedFact c w.trace) number_of k w.underway f.underway })
 
-sent_fact : (c : Config) (w : World) (x : Numbered) → WorldFact c w → WasSent w x → PacketFact c w.trace x.packet
+pub sent_fact : (c : Config) (w : World) (x : Numbered) → WorldFact c w → WasSent w x → PacketFact c w.trace x.packet
 sent_fact c w x f (inl m) = every_among (NumberedFact c w.trace) x w.sent m f.sent
 sent_fact c w x f (inr m) = every_among (NumberedFact c w.trace) x w.underway m f.underway
 
@@ -55,7 +55,7 @@ called c lines n s process site asked words it v w fit at a b e idle here = reco
   idle = subst (λ (k : ℕ). list_any (λ (x : WaitingCall). x.process == k) v.users.waiting ≡ false) b (subst (λ (o : Option Place). is_busy asked o ≡ false) here (subst (λ (k : ℕ). is_busy asked (place_at w k) ≡ false) a idle));
 }
 
-event_fact : (c : Config) (lines : List ScheduleLine) (n s : ℕ) (l : LineWords) (e : Event) (v : SiteView) (w : World) → LinesFit c lines → IsLine lines n l → Gives w l s e → place_at w s ≡ Some (Running v) → EventFact c w.trace s v e
+pub event_fact : (c : Config) (lines : List ScheduleLine) (n s : ℕ) (l : LineWords) (e : Event) (v : SiteView) (w : World) → LinesFit c lines → IsLine lines n l → Gives w l s e → place_at w s ≡ Some (Running v) → EventFact c w.trace s v e
 event_fact c lines n s (line.Call site asked it) (Calls process words) v w fit at g here = called c lines n s process site asked words it v w fit at g.0 g.1 g.2 g.3 here
 event_fact c lines n s (line.Tick site) Ticks v w fit at g here = tt
 event_fact c lines n s (line.Part site) Parts v w fit at g here = tt
@@ -70,7 +70,7 @@ does c roles stays n s e v w here fact g = acts_holds c roles stays n s v (step 
 
 -- ---- all lines ----
 
-kept : (c : Config) (lines : List ScheduleLine) → LinesFit c lines → RolesDo c → Stays c → KeptIn c lines (λ n w. Holds c w)
+pub kept : (c : Config) (lines : List ScheduleLine) → LinesFit c lines → RolesDo c → Stays c → KeptIn c lines (λ n w. Holds c w)
 kept c lines fit roles stays = record {
   begins = λ n w le q g. g;
   ticks = λ n most s v w at here g. does c roles stays n s Ticks v w here (λ r. tt) g;
@@ -117,7 +117,7 @@ place_found c xs s p h (Some r) e k =
     let found : Among r xs × (r.site ≡ s) = row_key place_site s xs r e in
     subst (λ (q : Place). PlaceFact c s [] q) (some_place r.place p k) (subst (λ (t : ℕ). PlaceFact c t [] r.place) found.1 (every_among (λ (x : PlaceRow). PlaceFact c x.site [] x.place) r xs found.0 h))
 
-first_holds : (c : Config) → RolesDo c → Holds c (first_world c)
+pub first_holds : (c : Config) → RolesDo c → Holds c (first_world c)
 first_holds c roles r = record {
   followed = tt;
   places = λ s p e. place_found c (first_world c).places s p (first_rows c roles (filter (λ (t : ℕ). nat_lt t (c.sites + 1)) all_sites)) (row place_site s (first_world c).places) refl e;

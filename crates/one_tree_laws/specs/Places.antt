@@ -13,6 +13,7 @@ use Rattle.the_run.specs.Worlds.{World, Place, Running, Stopped, Numbered, Line,
 use Rattle.tree_model.specs.declared.accepted.Waiting.{Waiting}
 use Rattle.tree_model.specs.Calls.{waiting}
 use Rattle.tree_model.specs.Epochs.{epoch_of, is_up, members_of}
+use Rattle.tree_model.specs.Packs.{has_pack}
 use Rattle.tree_laws.specs.Doing.{AllTold, FrameFact, IsOfUsers, IsOfStore, IsAdopted, IsOfTable, IsOfSite, IsPromise, WrittenFact, UsersInside, StoreHeld, PullsFact}
 use Rattle.lawful_trace.specs.Tables.{descriptor}
 use Rattle.tree_laws.specs.Following.{IsFollowed}
@@ -45,6 +46,8 @@ pub record InsideFact (c : Config) (f : Frame) (trace : List Line) (v : SiteView
   pub groups : map table_group v.tables ≡ synced_groups f
   pub tables : Every (TableFact c trace f) v.tables
   pub pulls : PullsFact c f trace v.pulls
+  -- what it reports is of groups of which it has a pack
+  pub reports : Every (λ (g : ℕ). has_pack c g f.me ≡ true) v.reports
 
 -- ---- outside ----
 

@@ -2,16 +2,22 @@
 -- are; and the ranges of sites, processes and inode numbers.
 use Rattle.std.specs.Prelude.{ℕ, ◌≡◌, ◌<◌, ◌≤◌, true, List, [], ◌∷◌}
 use Rattle.locus_ids.specs.declared.config.Config.{Config}
+use Rattle.locus_ids.specs.declared.refusal.Refusal.TheVariants as refusal
 use Rattle.schedule_lines.specs.Ranges.{fits_call}
 use Rattle.trace_book.specs.declared.call.Call.{Call}
 use Rattle.trace_book.specs.declared.call.Call.TheVariants as call
+use Rattle.trace_book.specs.declared.operation.Op.{Op}
+use Rattle.trace_book.specs.declared.operation.Op.TheVariants as op
+use Rattle.trace_book.specs.declared.operation.Outcome.{Outcome as Result}
+use Rattle.trace_book.specs.declared.operation.Outcome.TheVariants as result
 use Rattle.trace_book.specs.declared.record.Record.{Record}
 use Rattle.trace_book.specs.declared.record.Record.TheVariants as says
 use Rattle.role_steps.specs.Views.{Told, Shown}
 use Rattle.the_run.specs.Worlds.{Line}
-use Rattle.vector_laws.specs.Written.{past_of}
-use Rattle.history_laws.specs.Commits.{IsSite, StampsAreOnce}
+use Rattle.vector_laws.specs.Written.{NumberedTold, past_of}
+use Rattle.history_laws.specs.Commits.{IsSite, SitedTold, StampsAreOnce}
 use Rattle.pack_laws.specs.Packs.{ToldPacked}
+use Rattle.kept_laws.specs.Roots.{RootTold}
 use Rattle.lawful_trace.specs.Lawful.{MayCome}
 use Rattle.tree_laws.specs.Following.{IsFollowed, MayTell}
 use Rattle.tree_laws.specs.Frames.{IsFresh}
@@ -43,14 +49,20 @@ abbrev pub RangeCall : Config → ℕ → ℕ → Call → Type 0
 RangeCall c s process (call.Mend file) = Unit {0}
 RangeCall c s process words = AskedCall c s process words
 
+-- a mend that is refused since a count is at its end
+abbrev pub IsSpentMend : Op → Result → Type 0
+IsSpentMend op.Mend (result.No refusal.Spent) = Unit {0}
+IsSpentMend o r = ⊥
+
 abbrev pub RangeRecord : Config → Record → Type 0
 RangeRecord c (says.Join s e members) = IsSite s
 RangeRecord c (says.Accept s process call words) = RangeCall c s process words
 RangeRecord c (says.Commit f s stamp parents content) = (f.ino < 65536) × (stamp.n < 4294967295)
+RangeRecord c (says.Act e inst n o r) = IsSpentMend o r → ⊥
 RangeRecord c _ = Unit {0}
 
 -- sites are those from 1 to 16, lines ask calls of processes of one byte, of which none is 0, inodes have numbers of two bytes, and
--- no counter of versions is at its end
+-- no counter of versions is at its end, nor a count of those that a mend rescues
 abbrev pub RangeTold : Config → Told → Type 0
 RangeTold c (Shown r) = RangeRecord c r
 RangeTold c _ = Unit {0}
@@ -63,6 +75,10 @@ pub record RestTold (c : Config) (older : List Line) (x : Told) : Type 0 where
   -- what is committed is a new version of its file
   pub fresh : IsFresh c older x
   pub once : StampsAreOnce (x ∷ past_of older)
+  -- a commit has the next number of its site, is at one of the sixteen, and one of a root directory has parents
+  pub numbered : NumberedTold (past_of older) x
+  pub sited : SitedTold x
+  pub rooted : RootTold x
 
 -- ---- all lines ----
 

@@ -30,7 +30,7 @@ use Rattle.order_laws.proofs.Alone.{first_of, second_of, tree_named}
 
 -- ---- numbers and boots ----
 
-all_numbers : (p : ℕ → Bool) (k n s : ℕ) → k ≤ s → s < k + n → list_all p (numbers_from k n) ≡ true → p s ≡ true
+pub all_numbers : (p : ℕ → Bool) (k n s : ℕ) → k ≤ s → s < k + n → list_all p (numbers_from k n) ≡ true → p s ≡ true
 all_numbers p k zero s low high all = absurd (omega (arith, low, high))
 all_numbers p k (suc n) s low high all = at (k == s) refl (λ l h. all_numbers p (k + 1) n s l h (second_of (p k) _ all))
   where
@@ -42,7 +42,7 @@ all_numbers p k (suc n) s low high all = at (k == s) refl (λ l h. all_numbers p
         above a z le ne = grind (arith, nat_tests)
 
 -- a boot number is 1 at least
-boot_low : (c : Config) (trace : Trace) → RowsAreLawful c trace → (site : ℕ) → 1 ≤ boot_of trace site
+pub boot_low : (c : Config) (trace : Trace) → RowsAreLawful c trace → (site : ℕ) → 1 ≤ boot_of trace site
 boot_low c [] rows site = omega arith
 boot_low c (r ∷ before) rows site = over r.what rows.0 (boot_low c before rows.1 site)
   where
@@ -143,7 +143,7 @@ started_all c (r ∷ before) rows e g s = whole_next c r.line r.what before e g 
 
 -- ---- so none comes later ----
 
-is_place : (a : ℕ) (m : Members) (site : ℕ) → boot_in m site ≡ a → 1 ≤ a → is_member m site ≡ true
+pub is_place : (a : ℕ) (m : Members) (site : ℕ) → boot_in m site ≡ a → 1 ≤ a → is_member m site ≡ true
 is_place a m site e low = above (boot_in m site) (subst (λ (n : ℕ). 1 ≤ n) (sym e) low)
   where
     above : (z : ℕ) → 1 ≤ z → nat_lt 0 z ≡ true

@@ -12,6 +12,11 @@ pub enum OrderFault {
 }
 
 impl From<NoMemory> for OrderFault {
+    ghost use Rattle.std.specs.Prelude.{◌≡◌};
+    ghost use Rattle.packet_order.specs.declared.fault.OrderFault.TheVariants.{NoMemory};
+
+    ghost from_gives = { λ _ fault. fault ≡ NoMemory };
+
     fn from(_: NoMemory) -> OrderFault {
         OrderFault::NoMemory
     }

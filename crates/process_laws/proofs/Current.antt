@@ -16,7 +16,7 @@ abbrev With : ℕ → Told → List Line → List Line
 With n x older = record { number = n; told = x } ∷ older
 
 -- the call has come so far
-abbrev Reached : List Line → CallId → ℕ → ℕ → Type 0
+abbrev pub Reached : List Line → CallId → ℕ → ℕ → Type 0
 Reached t d request times = (request < request_number t d) ⊎ ((request ≡ request_number t d) × (times ≤ tries t d))
 
 reached_told : (c : Config) (n : ℕ) (x : Told) (older : List Line) (d : CallId) (request times : ℕ) → MayTell c older x → Reached older d request times → Reached (With n x older) d request times
@@ -42,7 +42,7 @@ step_same n (Shown r) older d step = (refl, refl)
 step_same n _ older d step = absurd step
 
 -- what was answered the call has reached
-reached : (c : Config) (t : List Line) → IsFollowed c t → (d : CallId) (request times : ℕ) (a : Answer) → WasAnswered c t d request times a → Reached t d request times
+pub reached : (c : Config) (t : List Line) → IsFollowed c t → (d : CallId) (request times : ℕ) (a : Answer) → WasAnswered c t d request times a → Reached t d request times
 reached c [] h d request times a was = absurd was
 reached c (x ∷ older) h d request times a (inr was) = reached_told c x.number x.told older d request times h.0 (reached c older h.1 d request times a was)
 reached c (x ∷ older) h d request times a (inl now) = inr (sym now.request_is ∙ ap (λ (xs : List Answer). length xs + 1) (sym same.0), subst (λ (k : ℕ). times ≤ k) (sym same.1) (subst (λ (k : ℕ). times ≤ k) (sym now.times_are) (omega (arith))))
@@ -51,7 +51,7 @@ reached c (x ∷ older) h d request times a (inl now) = inr (sym now.request_is 
     same = step_same x.number x.told older d now.step
 
 -- a turn of the call makes another request current
-turned : (c : Config) (n : ℕ) (x : Told) (older : List Line) (d : CallId) (request times : ℕ) → MayTell c older x → Turns x d → Reached older d request times → request ≡ request_number (With n x older) d → times ≡ tries (With n x older) d → ⊥
+pub turned : (c : Config) (n : ℕ) (x : Told) (older : List Line) (d : CallId) (request times : ℕ) → MayTell c older x → Turns x d → Reached older d request times → request ≡ request_number (With n x older) d → times ≡ tries (With n x older) d → ⊥
 turned c n (Takes s it number k a) older d request times may turn r same again = over r (same ∙ ap (λ (b : Bool). length (cond b (log older d ++ a ∷ []) (log older d)) + 1) (subst (λ (z : CallId). same_call it z ≡ true) turn (same_call_own it)))
   where
     more : length (log older d ++ a ∷ []) ≡ length (log older d) + 1

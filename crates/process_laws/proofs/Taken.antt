@@ -59,8 +59,8 @@ none_some : {A : Type 0} (a : A) → ◌≡◌ {A = Option A} None (Some a) → 
 none_some a e = cc
 
 -- what calls that wait have, and what descriptors stand for, in the epoch that their site is in
-record AllHad (c : Config) (t : List Line) : Type 0 where
-  holds : (e : EpochId) (d : CallId) (i : Serial) → IsCallIn (entries t) e d → epoch_of (entries t) d.site ≡ Some e → IsHere t d → has_instances c t d i ≡ true → has_number (had c t d.site) i.serial ≡ true
+pub record AllHad (c : Config) (t : List Line) : Type 0 where
+  pub holds : (e : EpochId) (d : CallId) (i : Serial) → IsCallIn (entries t) e d → epoch_of (entries t) d.site ≡ Some e → IsHere t d → has_instances c t d i ≡ true → has_number (had c t d.site) i.serial ≡ true
   stands : (s process fd : ℕ) (x : Descriptor) → descriptor (entries t) s process fd ≡ Some x → epoch_of (entries t) s ≡ Some x.epoch → has_number (had c t s) x.inst.serial ≡ true
 
 apart : (a b : ℕ) → (a ≡ b → ⊥) → (a == b) ≡ false
@@ -368,7 +368,7 @@ had_told c n (Shown r) older h may k = record { holds = holds_record c n r older
 had_told c n (Takes s it request times a) older h may k = record { holds = λ e d i inside at_epoch waits has. holds_take c n s it request times a older h may k e d i (record { accepted = inside.accepted; named = inside.named; made_in = inside.made_in }) at_epoch (record { caller = waits.caller; among = waits.among; call_is = waits.call_is }) has; stands = stands_take c n s it request times a older h may k }
 had_told c n x older h may k = record { holds = λ e d i inside at_epoch waits has. k.holds e d i (record { accepted = inside.accepted; named = inside.named; made_in = inside.made_in }) at_epoch (record { caller = waits.caller; among = waits.among; call_is = waits.call_is }) (sym (has_stays c n x older h may d (inside.accepted, inside.named) refl i) ∙ has); stands = λ me process fd y stands at_epoch. k.stands me process fd y stands at_epoch }
 
-all_had : (c : Config) (t : List Line) → IsFollowed c t → AllHad c t
+pub all_had : (c : Config) (t : List Line) → IsFollowed c t → AllHad c t
 all_had c [] h = record { holds = λ e d i inside. absurd (none_some inside.accepted inside.named); stands = λ me process fd y stands. absurd (none_some y stands) }
 all_had c (x ∷ older) h = had_told c x.number x.told older h.1 h.0 (all_had c older h.1)
 

@@ -2,9 +2,9 @@ pub mod Shown
 pub mod Ranges
 pub mod Fresh
 pub mod Resting
-pub mod Known
 pub mod Premises
 pub mod Packs
 pub mod Staying
-pub mod Named
+pub mod Asked
 pub mod Roles
+pub mod Run

@@ -1,4 +1,4 @@
--- What the steps of storage sites and of synchronization sites rest on, from all that was told so far.
+-- What the steps of synchronization sites rest on, from all that was told so far.
 use Rattle.std.proofs.Common.{◌≡◌, ◌≤◌, ◌<◌, ◌^◌, ℕ, ◌&&◌, min, nat_lt, Bool, true, false, List, Option, Some, None, refl, sym, ◌∙◌, ap, subst, arith}
 use Rattle.std.proofs.lemmas.Bool.Decides.{nat_tests}
 use Rattle.std.proofs.Math.Pow.{pow_mono}
@@ -26,25 +26,14 @@ use Rattle.holding_laws.proofs.Below.{commits_new, packs_hold}
 use Rattle.holding_laws.proofs.Holding.{sites_hold, stands_on_held}
 use Rattle.mend_laws.proofs.Only.{only_had}
 use Rattle.mend_laws.proofs.Whole.{whole_kept}
-use Rattle.store_laws.specs.Rests.{StoreRests}
 use Rattle.store_laws.proofs.Said.{asked_as_said}
-use Rattle.storage_laws.proofs.Resting.{rests_hold}
 use Rattle.sync_laws.specs.Making.{MakesAreSaid}
 use Rattle.sync_laws.specs.Serving.{CallsAreKnown, FilesAreOrdered}
 use Rattle.sync_laws.proofs.TreeCalls.{call_in_is}
 use Rattle.one_tree_laws.specs.Rest.{AskedCall, Past, RangeCall}
 use Rattle.one_tree_laws.proofs.Staying.{rest_below}
 use Rattle.rest_laws.specs.Asking.{OpensAreSaid}
-use Rattle.rest_laws.proofs.Known.{inside_site, known_call, stands_narrow}
-
--- ---- storage sites ----
-
-pub store_rests : (c : Config) (t : List Line) → Past c t → StoreRests c t
-store_rests c t past = rests_hold c t past.followed (rest_below c t past.rest) (record {
-  narrow = λ f stamp stands. stands_narrow c t past.rest.each f stamp stands;
-  places = λ e site inside. ((inside_site c t past.rest.each site e inside).low, (inside_site c t past.rest.each site e inside).high);
-  sites = λ e d k. (known_call c t past.followed past.rest.each d k.accepted k.named).site.high;
-})
+use Rattle.store_step_laws.proofs.Known.{known_call}
 
 -- ---- synchronization sites ----
 

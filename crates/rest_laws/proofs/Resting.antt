@@ -1,5 +1,5 @@
 -- In every run whose lines fit, and in which no counter of versions comes to its end, other laws give the rest of each line.
-use Rattle.std.proofs.Common.{ℕ, List, [], ◌∷◌}
+use Rattle.std.proofs.Common.{ℕ, List, [], ◌∷◌, arith}
 use Rattle.locus_ids.specs.declared.config.Config.{Config}
 use Rattle.schedule_lines.specs.declared.line.ScheduleLine.{ScheduleLine}
 use Rattle.trace_book.specs.declared.record.Record.{Record}
@@ -11,19 +11,26 @@ use Rattle.the_run.specs.Worlds.{Line}
 use Rattle.tree_model.specs.Folds.{Trace}
 use Rattle.vector_laws.specs.Written.{CommitsAreNumbered, past_of}
 use Rattle.vector_laws.proofs.FactsRun.{run_numbered}
-use Rattle.history_laws.specs.Commits.{FitTold, NumbersFit, StampsAreOnce}
+use Rattle.history_laws.specs.Commits.{CommitsAreSited, FitTold, NumbersFit, StampsAreOnce}
+use Rattle.history_laws.proofs.Sited.{run_sited}
 use Rattle.instance_laws.proofs.Agree.{run_agrees}
 use Rattle.inode_laws.proofs.FitsRun.{run_fits}
 use Rattle.pack_laws.specs.Packs.{ToldPacked}
 use Rattle.pack_laws.proofs.PacksRun.{run_packs}
 use Rattle.stamp_laws.proofs.LawsRun.{run_stamps}
+use Rattle.kept_laws.specs.Roots.{RootsFollow}
+use Rattle.kept_laws.proofs.RootsRun.{run_roots}
 use Rattle.row_laws.specs.Shown.{EachRecord}
 use Rattle.row_laws.specs.Voids.{LinesFit}
 use Rattle.tree_laws.specs.Printed.{entries, onto_entries}
 use Rattle.order_laws.specs.Joining.{PacksAreOfSites}
 use Rattle.holding_laws.proofs.Below.{once_before}
 use Rattle.one_tree_laws.specs.Rest.{EachRest, IsRest, RangeTold, RowTold}
-use Rattle.rest_laws.specs.Counters.{CountersAreLow, LowTold}
+use Rattle.counter_laws.specs.Numbers.{IsLowRecord, IsLowTold, NumbersAreLow}
+use Rattle.counter_laws.proofs.Run.{run_numbers_low}
+use Rattle.spent_laws.specs.Mends.{MendedRecord, MendedTold}
+use Rattle.spent_laws.proofs.Run.{run_mended}
+use Rattle.rest_laws.specs.Counters.{CountersAreLow, LowRecord, LowTold}
 use Rattle.rest_laws.proofs.Fresh.{told_fresh}
 use Rattle.rest_laws.proofs.Ranges.{boots_begin, call_range, listed_site}
 use Rattle.rest_laws.proofs.Shown.{IsRow, run_rows}
@@ -36,13 +43,15 @@ record Gives (c : Config) (lines : List ScheduleLine) (t : List Line) : Type 0 w
   packed : Every (ToldPacked c) (past_of t)
   numbered : CommitsAreNumbered (past_of t)
   once : StampsAreOnce (past_of t)
+  sited : CommitsAreSited (past_of t)
+  rooted : RootsFollow (past_of t)
 
 rows_before : (lines : List ScheduleLine) (n : ℕ) (x : Told) (t : Trace) → EachRecord (IsRow lines) (onto_entries n x t) → EachRecord (IsRow lines) t
 rows_before lines n (Shown r) t h = h.1
 rows_before lines n _ t h = h
 
 gives_before : (c : Config) (lines : List ScheduleLine) (x : Line) (older : List Line) → Gives c lines (x ∷ older) → Gives c lines older
-gives_before c lines x older g = record { rows = rows_before lines x.number x.told (entries older) g.rows; low = g.low.1; fit = g.fit.1; packed = g.packed.1; numbered = g.numbered.1; once = once_before x older g.once }
+gives_before c lines x older g = record { rows = rows_before lines x.number x.told (entries older) g.rows; low = g.low.1; fit = g.fit.1; packed = g.packed.1; numbered = g.numbered.1; once = once_before x older g.once; sited = g.sited.1; rooted = g.rooted.1 }
 
 -- ---- one line ----
 
@@ -56,6 +65,7 @@ range_record : (c : Config) (lines : List ScheduleLine) (n : ℕ) (older : List 
 range_record c lines n older (says.Join s e members) fit rows h k low = listed_site members s _ h.member (boots_begin lines (entries older) rows s) h.short
 range_record c lines n older (says.Accept s process id words) fit rows h k low = call_range c lines n s process words fit h.asked
 range_record c lines n older (says.Commit f s stamp parents content) fit rows h k low = (k, low)
+range_record c lines n older (says.Act e i m o r) fit rows h k low = low
 range_record c lines n older _ fit rows h k low = tt
 
 row_told : (c : Config) (lines : List ScheduleLine) (n : ℕ) (older : List Line) (x : Told) → EachRecord (IsRow lines) (onto_entries n x (entries older)) → RowTold c older x
@@ -77,12 +87,31 @@ each_rest c lines fit (x ∷ older) g = (
     packed = g.packed.0;
     fresh = told_fresh c older x.told g.numbered.0 g.once;
     once = g.once;
+    numbered = g.numbered.0;
+    sited = g.sited.0;
+    rooted = g.rooted.0;
   },
   each_rest c lines fit older (gives_before c lines x older g),
 )
 
+low_told : (x : Told) → IsLowTold x → MendedTold x → LowTold x
+low_told (Shown r) low mended = by_record r low mended
+  where
+    by_record : (q : Record) → IsLowRecord q → MendedRecord q → LowRecord q
+    by_record (says.Commit f s stamp parents content) low mended = omega (arith, low)
+    by_record (says.Act e inst n o r) low mended = mended
+    by_record _ low mended = tt
+low_told _ low mended = tt
+
+all_low : (past : List Told) → NumbersAreLow past → Every MendedTold past → Every LowTold past
+all_low [] low mended = tt
+all_low (x ∷ older) low mended = (low_told x low.0 mended.0, all_low older low.1 mended.1)
+
+pub run_low : (c : Config) (lines : List ScheduleLine) → CountersAreLow (run_in c lines).trace
+run_low c lines = all_low _ (run_numbers_low c lines) (run_mended c lines)
+
 pub run_rests : (c : Config) (lines : List ScheduleLine) → LinesFit c lines → PacksAreOfSites c → CountersAreLow (run_in c lines).trace → IsRest c (run_in c lines).trace
 run_rests c lines fit packs low = record {
-  each = each_rest c lines fit (run_in c lines).trace (record { rows = run_rows c lines fit; low = low; fit = run_fits c lines; packed = (run_packs c lines).told; numbered = run_numbered c lines (run_agrees c lines); once = run_stamps c lines });
+  each = each_rest c lines fit (run_in c lines).trace (record { rows = run_rows c lines fit; low = low; fit = run_fits c lines; packed = (run_packs c lines).told; numbered = run_numbered c lines (run_agrees c lines); once = run_stamps c lines; sited = (run_sited c lines).commits; rooted = run_roots c lines });
   packs = packs;
 }

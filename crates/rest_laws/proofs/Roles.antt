@@ -1,5 +1,5 @@
 -- The steps that the laws of roles give, so that only the others are left.
-use Rattle.std.proofs.Common.{◌≡◌, ℕ, Bool, true, false, cond, List, [], ◌∷◌, refl, sym, subst}
+use Rattle.std.proofs.Common.{◌≡◌, ◌≤◌, length, ℕ, Bool, true, false, cond, List, [], ◌∷◌, refl, sym, subst}
 use Rattle.locus_ids.specs.declared.config.Config.{Config}
 use Rattle.locus_ids.specs.declared.ids.EpochId.{EpochId}
 use Rattle.locus_ids.specs.declared.ids.FileId.{FileId}
@@ -42,14 +42,35 @@ use Rattle.sync_laws.proofs.Makes.{make_fine}
 use Rattle.sync_laws.proofs.Notices.{repeats_fine}
 use Rattle.sync_laws.proofs.Opens.{open_fine}
 use Rattle.one_tree_laws.specs.Places.{UsersOf, UsersOutside}
-use Rattle.one_tree_laws.specs.Rest.{Past, more}
+use Rattle.one_tree_laws.specs.Rest.{AllRest, Past, more}
 use Rattle.one_tree_laws.specs.Roles.{Came, Ready, RolesDo, TableHere}
 use Rattle.one_tree_laws.proofs.Repeats.{every_flat}
+use Rattle.epoch_tree_laws.specs.Waiting.{RequestsDo}
+use Rattle.epoch_tree_laws.proofs.Coming.{reports_come}
 use Rattle.epoch_tree_laws.proofs.Joins.{epochs_do}
 use Rattle.rest_laws.specs.Left.{RolesLeft}
-use Rattle.rest_laws.proofs.Named.{released_low}
-use Rattle.rest_laws.proofs.Premises.{files_ordered, makes_said, store_rests}
-use Rattle.rest_laws.proofs.Staying.{opens_stay, serving}
+use Rattle.table_laws.specs.Narrow.{CallsAreNarrow}
+use Rattle.table_laws.proofs.Closing.{closes_fine as closes_fine_there}
+use Rattle.table_laws.proofs.Notes.{notes_fine}
+use Rattle.store_step_laws.proofs.Known.{known_call}
+use Rattle.made_laws.specs.Resting.{MadeRests}
+use Rattle.made_laws.proofs.Opened.{opens_answered}
+use Rattle.adoption_laws.proofs.Choosing.{adopts_fine}
+use Rattle.mend_step_laws.proofs.Starting.{mends_start}
+use Rattle.store_step_laws.proofs.First.{first_held}
+use Rattle.user_step_laws.proofs.Answering as answers
+use Rattle.user_step_laws.proofs.Calling as calling
+use Rattle.user_step_laws.proofs.Opening as opening
+use Rattle.user_step_laws.proofs.Outside.{calls_outside}
+use Rattle.rest_laws.proofs.Asked.{opens_said, user_rests}
+use Rattle.store_step_laws.specs.Steps.{MendsRest}
+use Rattle.store_step_laws.proofs.Named.{released_low}
+use Rattle.store_step_laws.proofs.Resting.{store_rests}
+use Rattle.store_step_laws.proofs.Staying.{all_stay}
+use Rattle.store_step_laws.proofs.Steps.{acts_fine, closes_fine}
+use Rattle.mend_step_laws.proofs.Working.{mends_as}
+use Rattle.rest_laws.proofs.Premises.{files_ordered, makes_said}
+use Rattle.rest_laws.proofs.Staying.{serving}
 
 -- the fact of the packet that came
 its_fact : (c : Config) (t : List Line) (f : Frame) (p : Packet) (b : Body) → Came c t f p b → BodyFact c t p b
@@ -60,7 +81,7 @@ its_fact c t f p b came = subst (BodyFact c t p) came.body_is came.fact
 leaves : (c : Config) (n : ℕ) (t : List Line) (f : Frame) (u : Users) → Ready c t f → UsersOf c f t u →
     Fine Users c n (more n (Shown (says.Leave f.me f.epoch)) t) (IsOfUsers f.me) (UsersOutside c f.me f.boot) NoWrite (users_leave f.me f.boot f.epoch u)
 leaves c n t f u ready k =
-    let l : LeavesFine c n (more n (Shown (says.Leave f.me f.epoch)) t) f u = users_leave_fine c n t f u k.apart k.inside in
+    let l : LeavesFine c n (more n (Shown (says.Leave f.me f.epoch)) t) f u = users_leave_fine c n t f u k.inside in
     record {
       told = l.told;
       own = l.own;
@@ -71,12 +92,12 @@ leaves c n t f u ready k =
 
 -- ---- the storage site ----
 
-opens : (c : Config) (n : ℕ) (t : List Line) (f : Frame) (p : Packet) (r : StoreRequest) (s : Store) → Ready c t f → StoreHeld c f t s → Came c t f p (body.OpenSs r.inst r.file r.mode r.set r.kind r.base r.vector r.parents) → StoreFine c n t f s (on_open_ss f r s)
-opens c n t f p r s ready held came =
+opens : (c : Config) (n : ℕ) (t : List Line) (f : Frame) (p : Packet) (r : StoreRequest) (s : Store) → Ready c t f → StoreHeld c f t s → Came c t f p (body.OpenSs r.inst r.file r.mode r.set r.kind r.base r.vector r.parents) → AllRest c n t (on_open_ss f r s).told → StoreFine c n t f s (on_open_ss f r s)
+opens c n t f p r s ready held came rest =
     begin_fine c n t ready.past.rest.packs ready.past.followed (store_rests c t ready.past) f ready.frame s held r.inst r.file r.mode r.set r.kind r.base r.vector r.parents
     (subst (λ (e : EpochId). OpenSsFact c t e f.me r.inst r.file r.mode r.set r.kind r.base r.vector r.parents) came.received.epoch_is
     (subst (λ (s : ℕ). OpenSsFact c t p.epoch s r.inst r.file r.mode r.set r.kind r.base r.vector r.parents) came.received.to_is (its_fact c t f p _ came)))
-    (opens_stay c n t f r s)
+    (all_stay c n (on_open_ss f r s).told t ready.past rest)
 
 ends : (c : Config) (n : ℕ) (t : List Line) (f : Frame) (p : Packet) (i : Serial) (s : Store) → Ready c t f → StoreHeld c f t s → Came c t f p (body.ClosedOk i) → StoreFine c n t f s (on_closed_ok f i s)
 ends c n t f p i s ready held came =
@@ -113,15 +134,22 @@ table_opens c n t f from tab past ready serial call process request file how.Wri
 table_opens c n t f from tab past ready serial call process request file how.Mend group_is fact = open_fine c n t f tab ready (files_ordered c t past f.epoch) from (record { serial = serial; call = call; process = process; request = request; file = file; how = how.Mend }) tt group_is fact
 table_opens c n t f from tab past ready serial call process request file (how.Resolve site) group_is fact = open_fine c n t f tab ready (files_ordered c t past f.epoch) from (record { serial = serial; call = call; process = process; request = request; file = file; how = how.Resolve site }) tt group_is fact
 
-tab_opens : (c : Config) → RolesLeft c → (n : ℕ) (t : List Line) (f : Frame) (p : Packet) (o : OpenRequest) (tab : SyncTable) → Ready c t f → TableHere c t f tab → Came c t f p (body.Open o.serial o.call o.process o.request o.file o.how) → tab.group ≡ o.file.group → TableFine c n t f o.file.group (on_open f p.from o tab)
-tab_opens c left n t f p o tab ready here came group_is = subst (λ (g : ℕ). TableFine c n t f g (on_open f p.from o tab)) group_is
-    (table_opens c n t f p.from tab ready.past (serving c n t f tab ready.past ready.frame (left.said t ready.past) here) o.serial o.call o.process o.request o.file o.how (sym group_is)
+tab_opens : (c : Config) → (n : ℕ) (t : List Line) (f : Frame) (p : Packet) (o : OpenRequest) (tab : SyncTable) → Ready c t f → TableHere c t f tab → Came c t f p (body.Open o.serial o.call o.process o.request o.file o.how) → tab.group ≡ o.file.group → TableFine c n t f o.file.group (on_open f p.from o tab)
+tab_opens c n t f p o tab ready here came group_is = subst (λ (g : ℕ). TableFine c n t f g (on_open f p.from o tab)) group_is
+    (table_opens c n t f p.from tab ready.past (serving c n t f tab ready.past ready.frame (opens_said c t ready.past) here) o.serial o.call o.process o.request o.file o.how (sym group_is)
     (subst (λ (e : EpochId). OpenFact c t e p.from o.serial o.call o.process o.request o.file o.how) came.received.epoch_is (its_fact c t f p (body.Open o.serial o.call o.process o.request o.file o.how) came)))
 
-tab_looks : (c : Config) → RolesLeft c → (n : ℕ) (t : List Line) (f : Frame) (p : Packet) (l : LookRequest) (tab : SyncTable) → Ready c t f → TableHere c t f tab → Came c t f p (body.Look l.call l.process l.request l.take l.file l.what) → tab.group ≡ l.file.group → TableFine c n t f l.file.group (on_look f p.from l tab)
-tab_looks c left n t f p l tab ready here came group_is = subst (λ (g : ℕ). TableFine c n t f g (on_look f p.from l tab)) group_is
-    (look_fine c n t f tab (serving c n t f tab ready.past ready.frame (left.said t ready.past) here) p.from l (sym group_is)
+tab_looks : (c : Config) → (n : ℕ) (t : List Line) (f : Frame) (p : Packet) (l : LookRequest) (tab : SyncTable) → Ready c t f → TableHere c t f tab → Came c t f p (body.Look l.call l.process l.request l.take l.file l.what) → tab.group ≡ l.file.group → TableFine c n t f l.file.group (on_look f p.from l tab)
+tab_looks c n t f p l tab ready here came group_is = subst (λ (g : ℕ). TableFine c n t f g (on_look f p.from l tab)) group_is
+    (look_fine c n t f tab (serving c n t f tab ready.past ready.frame (opens_said c t ready.past) here) p.from l (sym group_is)
     (subst (λ (e : EpochId). LookFact c t e p.from l.call l.process l.request l.take l.file l.what) came.received.epoch_is (its_fact c t f p (body.Look l.call l.process l.request l.take l.file l.what) came)))
+
+-- so requests are served as they come, and what waits for the start of a group is too
+requests : (c : Config) → RequestsDo c
+requests c = record {
+  opens = λ n t f p o tab ready here came is rest. tab_opens c n t f p o tab ready here came is;
+  looks = λ n t f p l tab ready here came is rest. tab_looks c n t f p l tab ready here came is;
+}
 
 -- ---- propagation ----
 
@@ -130,13 +158,14 @@ notified : (c : Config) (n : ℕ) (t : List Line) (f : Frame) (p : Packet) (pull
 notified c n t f p pull s ps ready held all empty came =
     subst (λ (b : List ℕ). PullsFine c n t f (on_notify f p.from (copy_of s pull.file) (record { file = pull.file; kind = pull.kind; set = pull.set; size = pull.size; stamp = pull.stamp; vector = pull.vector; holder = pull.holder; content = b }) ps)) (sym empty)
     (notify_fine c n t ready.past.followed (store_rests c t ready.past) f ready.frame s held.copies ps all p.from pull.file pull.kind pull.set pull.size pull.stamp pull.vector pull.holder
-    (subst (λ (e : EpochId). NotifyFact c t e pull.file pull.kind pull.set pull.size pull.stamp pull.vector) came.received.epoch_is (its_fact c t f p (body.Notify pull.file pull.kind pull.set pull.size pull.stamp pull.vector pull.holder) came)))
+    (subst (λ (me : ℕ). NotifyFact c t f.epoch me pull.file pull.kind pull.set pull.size pull.stamp pull.vector) came.received.to_is
+    (subst (λ (e : EpochId). NotifyFact c t e p.to pull.file pull.kind pull.set pull.size pull.stamp pull.vector) came.received.epoch_is (its_fact c t f p (body.Notify pull.file pull.kind pull.set pull.size pull.stamp pull.vector pull.holder) came))))
 
 paged : (c : Config) (n : ℕ) (t : List Line) (f : Frame) (p : Packet) (file : FileId) (stamp : Stamp) (page : ℕ) (bytes : List ℕ) (ps : List Pull) → Ready c t f → PullsFact c f t ps → Came c t f p (body.Page file stamp page bytes) → PullsFine c n t f (on_page f file stamp page bytes ps)
 paged c n t f p file stamp page bytes ps ready all came = page_fine c n t (store_rests c t ready.past) f ps all file stamp page bytes (its_fact c t f p (body.Page file stamp page bytes) came)
 
 -- the next page of what is pulled stands
-pull_once : (c : Config) (t : List Line) (f : Frame) (x : Pull) → PullFact c t f.epoch x → Every (PacketFact c t) (pull_packets f x)
+pull_once : (c : Config) (t : List Line) (f : Frame) (x : Pull) → PullFact c t f.epoch f.me x → Every (PacketFact c t) (pull_packets f x)
 pull_once c t f x k = over (is_complete x)
   where
     over : (b : Bool) → Every (PacketFact c t) (cond b [] (packet f x.holder (body.Pull x.file x.stamp (next_page x)) ∷ []))
@@ -149,42 +178,55 @@ pulls_again c t f (x ∷ xs) all = (pull_once c t f x all.0, pulls_again c t f x
 
 -- ---- all ----
 
-pub roles_do : (c : Config) → RolesLeft c → RolesDo c
-roles_do c left = record {
+mends_rest : (c : Config) → length c.packs ≤ 4 → MendsRest c
+mends_rest c few = record { mends = λ t f v ready inside inst low i found d here asks. mends_as c t f v ready.past inside few inst low i found d here asks }
+
+made_rests : (c : Config) → RolesLeft c → MadeRests c
+made_rests c left = record {
+  serves = λ n t f tab ready here. serving c n t f tab ready.past ready.frame (opens_said c t ready.past) here;
+  said = makes_said c;
+  lacks = left.lacks;
+}
+
+narrow : (c : Config) → CallsAreNarrow c
+narrow c = record { sites = λ t past d w named. (known_call c t past.followed past.rest.each d w named).site.high }
+
+pub roles_do : (c : Config) → length c.packs ≤ 4 → RolesLeft c → RolesDo c
+roles_do c few left = record {
   users = record {
-    calls = left.users.calls;
-    calls_outside = left.users.calls_outside;
-    opened = left.users.opened;
-    acted = left.users.acted;
-    closed = left.users.closed;
-    looked = left.users.looked;
+    calls = λ n t f process words u ready k may rest. calling.calls c (user_rests c few) n t f process words u ready k may rest;
+    calls_outside = λ n t me boot process words u past up outside k may rest. calls_outside c n t me boot process words u past up outside k may;
+    opened = λ n t f p serial a v ready k came rest. opening.opened c (user_rests c few) n t f p serial a v ready k came rest;
+    acted = λ n t f p serial k r u ready has came rest. answers.acted c (user_rests c few) n t f p serial k r u ready has came rest;
+    closed = λ n t f p serial a u ready has came rest. answers.closed c (user_rests c few) n t f p serial a u ready has came rest;
+    looked = λ n t f p call request take a u ready k came rest. answers.looked c (user_rests c few) n t f p call request take a u ready k came rest;
     leaves = λ n t f u ready k rest. leaves c n t f u ready k;
   };
   stores = record {
-    first = left.stores.first;
-    opens = λ n t f p r s ready held came rest. opens c n t f p r s ready held came;
-    acts = left.stores.acts;
-    closes = left.stores.closes;
+    first = λ me. first_held c few me;
+    opens = λ n t f p r s ready held came rest. opens c n t f p r s ready held came rest;
+    acts = λ n t f p serial k o seen v ready inside came rest. acts_fine c (mends_rest c few) n t f p serial k o seen v ready inside came rest;
+    closes = λ n t f p serial s ready held came rest. closes_fine c n t f p serial s ready held came rest;
     ends = λ n t f p i s ready held came rest. ends c n t f p i s ready held came;
     serves = λ n t f p us l stamp s ready held came rest. serves c n t f p us l stamp s ready held came;
     gives = λ n t f p file stamp page s ready held came rest. gives c n t f p file stamp page s ready held came;
     repeats = λ t f s ready held. stores_again c t f s held;
   };
   tables = record {
-    reports = left.tables.reports;
-    opens = λ n t f p o tab ready here came group_is rest. tab_opens c left n t f p o tab ready here came group_is;
-    opened = left.tables.opened;
-    closed = left.tables.closed;
-    looks = λ n t f p l tab ready here came group_is rest. tab_looks c left n t f p l tab ready here came group_is;
-    notes = left.tables.notes;
+    reports = λ n t f p group copies tab ready here came is rest. reports_come c (requests c) n t f p group copies tab ready here came is rest;
+    opens = λ n t f p o tab ready here came group_is rest. tab_opens c n t f p o tab ready here came group_is;
+    opened = λ n t f p i a tab ready here came fresh. opens_answered c (made_rests c left) n t f p i a tab ready here came fresh;
+    closed = λ n t f p i made tab ready here came rest. closes_fine_there c (narrow c) n t f p i made tab ready here came rest;
+    looks = λ n t f p l tab ready here came group_is rest. tab_looks c n t f p l tab ready here came group_is;
+    notes = λ n t f p file stamp tab ready here came same rest. notes_fine c n t f p file stamp tab ready here came same;
     repeats = λ t f tab ready here. repeats_fine c t f tab here.fact;
   };
   pulls = record {
     notified = λ n t f p pull s ps ready held all empty came. notified c n t f p pull s ps ready held all empty came;
     paged = λ n t f p file stamp page bytes ps ready all came. paged c n t f p file stamp page bytes ps ready all came;
     repeats = λ t f ps ready all. every_flat (PacketFact c t) (pull_packets f) ps (pulls_again c t f ps all);
-    adopts = left.pulls.adopts;
-    mends = left.pulls.mends;
+    adopts = λ n t f v ready inside fresh. adopts_fine c n t f v ready inside fresh;
+    mends = λ n t f v ready inside rest. mends_start c (user_rests c few) n t f v ready inside rest;
   };
   epochs = epochs_do c;
 }

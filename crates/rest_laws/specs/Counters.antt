@@ -1,4 +1,4 @@
--- The one thing that a run may do and the laws of runs don't exclude: a counter of versions comes to its end.
+-- No counter of a run comes to its end.
 use Rattle.std.specs.Prelude.{◌<◌, List}
 use Rattle.trace_book.specs.declared.record.Record.{Record}
 use Rattle.trace_book.specs.declared.record.Record.TheVariants as says
@@ -6,15 +6,17 @@ use Rattle.role_steps.specs.Own.{Every}
 use Rattle.role_steps.specs.Views.{Told, Shown}
 use Rattle.the_run.specs.Worlds.{Line}
 use Rattle.vector_laws.specs.Written.{past_of}
+use Rattle.one_tree_laws.specs.Rest.{IsSpentMend}
 
 abbrev pub LowRecord : Record → Type 0
 LowRecord (says.Commit f s stamp parents content) = stamp.n < 4294967295
+LowRecord (says.Act e inst n o r) = IsSpentMend o r → ⊥
 LowRecord _ = Unit {0}
 
 abbrev pub LowTold : Told → Type 0
 LowTold (Shown r) = LowRecord r
 LowTold _ = Unit {0}
 
--- no commit has the last number of 32 bits
+-- no commit has the last number of 32 bits, and no mend is refused for want of a number
 abbrev pub CountersAreLow : List Line → Type 0
 CountersAreLow trace = Every LowTold (past_of trace)

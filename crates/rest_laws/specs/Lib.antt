@@ -1,4 +1,3 @@
 pub mod Counters
-pub mod Known
 pub mod Asking
 pub mod Left

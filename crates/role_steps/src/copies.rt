@@ -1,4 +1,4 @@
-use locus_ids::{Bytes, FileId, ItemList, Kind, Sites, Stamp};
+use locus_ids::{Bytes, FileId, Kind, Sites, Stamp};
 use version_vector::Vector;
 
 /// What a pack holds of a file.
@@ -12,6 +12,3 @@ pub struct FileCopy {
     pub vector: Vector<16>,
     pub content: Bytes,
 }
-
-/// The copies of a site, by group and inode, ascending.
-pub type FileCopies = ItemList<FileCopy>;

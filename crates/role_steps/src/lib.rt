@@ -11,7 +11,7 @@ mod rounds;
 mod synchronizing;
 mod users;
 
-pub use copies::{FileCopies, FileCopy};
+pub use copies::FileCopy;
 pub use instances::{Instance, Instances, Stage};
 pub use pulls::{Pull, Pulls};
 pub use rounds::{InEpoch, Promise, Promises, Round};
@@ -19,7 +19,4 @@ pub use synchronizing::{
     Earlies, Early, FileRow, FileRows, Holding, Holdings, LastLook, LastLooks, OpenRow, OpenRows,
     OpenStage, SyncTable, VersionRow, VersionRows,
 };
-pub use users::{
-    Answers, Asking, Contents, DescriptorRow, DescriptorRows, UserInstance, UserInstances,
-    WaitingCall, WaitingCalls,
-};
+pub use users::{Answers, Asking, Contents, DescriptorRow, UserInstance, WaitingCall};

@@ -15,9 +15,6 @@ pub struct UserInstance {
     pub ops: u32,
 }
 
-/// By serial, ascending.
-pub type UserInstances = ItemList<UserInstance>;
-
 /// The request that a call waits for.
 #[derive(Debug, Drop)]
 pub enum Asking {
@@ -67,9 +64,6 @@ pub struct WaitingCall {
     pub brought: Contents,
 }
 
-/// By process, mends first, by group, ascending.
-pub type WaitingCalls = ItemList<WaitingCall>;
-
 /// An open descriptor of a process.
 #[derive(Clone, Copy, Debug, PartialEq, Eq)]
 pub struct DescriptorRow {
@@ -77,6 +71,3 @@ pub struct DescriptorRow {
     pub fd: u16,
     pub descriptor: Descriptor,
 }
-
-/// By process and number, ascending.
-pub type DescriptorRows = ItemList<DescriptorRow>;

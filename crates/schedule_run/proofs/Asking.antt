@@ -22,7 +22,8 @@ use Rattle.world.specs.declared.fault.WorldFault.{WorldFault}
 use Rattle.the_run.specs.Commands.{Asked, asked_lines, opening_lines, tree_lines}
 use Rattle.schedule_run.specs.Opened.{HasDone}
 use Rattle.schedule_run.specs.declared.tree.TreeRunner.{TreeRunner}
-use Rattle.schedule_run.specs.Tree.{tree_cluster, call_line, Asks, MayAsk, replies_taken, HasRun, RunsNext}
+use Rattle.the_run.specs.Asking.{tree_cluster, call_line, Asks, MayAsk}
+use Rattle.schedule_run.specs.Tree.{replies_taken, HasRun, RunsNext}
 
 -- the first byte is that of a call
 abbrev begins_call : List ℕ → Bool

@@ -13,7 +13,7 @@ use Rattle.schedule_lines.specs.declared.line.ScheduleLine.{ScheduleLine}
 use Rattle.schedule_lines.specs.declared.line.ScheduleLine.TheVariants.{Event}
 use Rattle.line_text.proofs.OneReading.{one_line}
 use Rattle.the_run.specs.Commands.{Asked, opening_lines}
-use Rattle.schedule_run.specs.Tree.{call_line, Asks}
+use Rattle.the_run.specs.Asking.{call_line, Asks}
 
 abbrev asked_of : ScheduleLine → Option Asked
 asked_of (Event (line.Call site process words)) = Some (record { site = site; process = process; words = words })

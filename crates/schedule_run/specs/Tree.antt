@@ -1,33 +1,12 @@
--- What a line of the input of a tree asks, and where its runner stands.
-use Rattle.std.specs.Prelude.{ℕ, ◌≡◌, true, List, [], ◌∷◌, ◌++◌, Option, None, Some, codes}
-use Rattle.locus_ids.specs.declared.config.Config.{Config}
-use Rattle.schedule_lines.specs.Cluster.{config_of, header_of}
-use Rattle.schedule_lines.specs.Ranges.{fits_event}
-use Rattle.schedule_lines.specs.Spelling.{event_spelling, is_passed}
-use Rattle.schedule_lines.specs.declared.line.Line.{Line}
-use Rattle.schedule_lines.specs.declared.line.Line.TheVariants as line
+-- Where the runner of a tree stands, and how it goes on.
+use Rattle.std.specs.Prelude.{ℕ, ◌≡◌, List, [], ◌∷◌, ◌++◌, Option, None, Some}
+use Rattle.schedule_lines.specs.Cluster.{header_of}
 use Rattle.run_book.specs.declared.writing.Writing.TheVariants.{Replies}
-use Rattle.the_run.specs.Commands.{Asked, opening_lines, tree_lines}
+use Rattle.the_run.specs.Asking.{tree_cluster, Asks}
+use Rattle.the_run.specs.Commands.{Asked, tree_lines}
 use Rattle.world.specs.Shown.{Taken}
 use Rattle.schedule_run.specs.Opened.{HasDone}
 use Rattle.schedule_run.specs.declared.tree.TreeRunner.{TreeRunner}
-
--- the cluster of every tree
-abbrev pub tree_cluster : Config
-tree_cluster = config_of (opening_lines 100000)
-
-abbrev pub call_line : Asked → Line
-call_line a = line.Call a.site a.process a.words
-
--- the bytes ask this call, which is spelled without its first word; or, empty or a comment, nothing
-abbrev pub Asks : List ℕ → Option Asked → Type 0
-Asks bytes None = is_passed bytes ≡ true
-Asks bytes (Some a) = (codes "call " ++ bytes ≡ event_spelling (call_line a)) × (fits_event tree_cluster.sites (call_line a) ≡ true)
-
--- the bytes ask some call
-pub record MayAsk (bytes : List ℕ) : Type 0 where
-  pub asked : Asked
-  pub asks : Asks bytes (Some asked)
 
 -- these bytes of the replies were taken
 abbrev pub replies_taken : List ℕ → Taken

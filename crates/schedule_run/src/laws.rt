@@ -7,7 +7,7 @@ ghost use Rattle.schedule_lines.specs.declared.line.ScheduleLine.TheVariants.{Ev
 ghost use Rattle.the_run.specs.Commands.{Asked};
 ghost use Rattle.the_run.specs.Worlds.{first_world};
 ghost use Rattle.the_run.specs.Runs.{act, run};
-ghost use Rattle.schedule_run.specs.Tree.{Asks};
+ghost use Rattle.the_run.specs.Asking.{Asks};
 
 /// The run of a schedule with one event line more is that line done in the run of the others.
 pub fn runs_grow()

@@ -3,7 +3,8 @@ ghost use Rattle.the_run.specs.Runs.{run};
 ghost use Rattle.the_run.specs.Commands.{Asked, tree_lines, tree_text};
 ghost use Rattle.run_book.specs.Ledgers.{limit_in};
 ghost use Rattle.world.specs.declared.fault.WorldFault.{WorldFault};
-ghost use Rattle.schedule_run.specs.Tree.{Asks, MayAsk, HasRun, RunsNext};
+ghost use Rattle.the_run.specs.Asking.{Asks, MayAsk};
+ghost use Rattle.schedule_run.specs.Tree.{HasRun, RunsNext};
 
 use crate::{OpenedRun, RunFault};
 use generated_load::load_cluster;

@@ -4,7 +4,14 @@ ghost use Rattle.locus_ids.specs.declared.ids.Serial.{Serial};
 ghost use Rattle.trace_book.specs.declared.operation.Op.{Op};
 ghost use Rattle.trace_book.specs.declared.operation.Op.TheVariants as op;
 ghost use Rattle.role_steps.specs.OperationEffects.{Mending};
+ghost use Rattle.role_steps.specs.Own.{Every};
+ghost use Rattle.call_rules.specs.declared.want.Want.TheVariants as want;
+ghost use Rattle.lawful_trace.specs.TreeRows.{IsCallIn};
+ghost use Rattle.tree_laws.specs.Calls.{Asks};
+ghost use Rattle.tree_laws.specs.Printed.{entries};
+ghost use Rattle.locus_ids.specs.declared.ids.CallId.{CallId};
 ghost use Rattle.role_steps.specs.Operations.{on_op};
+ghost use Rattle.role_steps.specs.Storage.{instance_of};
 ghost use Rattle.role_steps.specs.Views.{Frame, Store};
 ghost use Rattle.role_steps.specs.declared.instances.Instance.{Instance};
 ghost use Rattle.the_run.specs.Kept.{Among};
@@ -13,7 +20,7 @@ ghost use Rattle.tree_laws.specs.Doing.{FrameFact, StoreFine, StoreHeld};
 ghost use Rattle.tree_laws.specs.Following.{IsFollowed};
 ghost use Rattle.tree_laws.specs.Packets.{OpFact};
 ghost use Rattle.holding_laws.specs.Below.{LawsBelow};
-ghost use Rattle.store_laws.specs.Rests.{AllStays, MayWrite, MendsAs, OpRests, StoreRests};
+ghost use Rattle.store_laws.specs.Rests.{AllStays, MayWrite, MendsAs, OpRests, StoreRests, UnspentTold};
 ghost use Rattle.storage_laws.specs.Plain.{PlainRests};
 
 /// What the steps of a storage site rest on is so: a site in an epoch has there what it has now, the site whose number a file has holds
@@ -27,5 +34,6 @@ pub fn what_storage_sites_rest_on()
 pub fn operations_come_in_the_trees_room()
     ensures { (c : Config) (n : ℕ) (trace : List Line) → IsFollowed c trace → LawsBelow c trace → PlainRests c trace → OpRests c trace → (f : Frame) → FrameFact c trace f → (s : Store) → StoreHeld c f trace s →
         ((i : Instance) → Among i s.instances → MayWrite f i) → (m : Mending) (inst : Serial) → inst.us ≤ 16 → (number : ℕ) (o : Op) (seen : List ℕ) → OpFact c trace f.epoch f.me inst number o seen →
-        ((i : Instance) → Among i s.instances → i.inst ≡ inst → o ≡ op.Mend → MendsAs c trace f i.file m) → AllStays c n trace (on_op f m inst number o seen s).told → StoreFine c n trace f s (on_op f m inst number o seen s) }
+        ((i : Instance) → instance_of s inst ≡ Some i → o ≡ op.Mend → (d : CallId) → IsCallIn (entries trace) f.epoch d → Asks c trace d (want.Do inst op.Mend) → MendsAs c trace f i.file m) →
+        Every UnspentTold (on_op f m inst number o seen s).told → AllStays c n trace (on_op f m inst number o seen s).told → StoreFine c n trace f s (on_op f m inst number o seen s) }
 {}

@@ -35,7 +35,7 @@ use Rattle.tree_laws.specs.Packets.{PacketFact}
 use Rattle.tree_laws.specs.Stores.{CopiesAreHeld, InstanceFact, PullFact, copy_for}
 use Rattle.tree_laws.proofs.Boots.{every_both}
 use Rattle.tree_laws.proofs.CarriedVersions.{same_version_of}
-use Rattle.tree_laws.proofs.Kinship.{tree_group_is}
+use Rattle.tree_laws.proofs.Kinship.{started_stays, tree_group_is}
 use Rattle.tree_laws.proofs.Names.{true_false, test_same, test_own, same_epoch_own}
 use Rattle.tree_laws.proofs.Owing.{inside_is}
 use Rattle.tree_laws.proofs.Rows.{followed_rows}
@@ -61,7 +61,7 @@ none_any p (x ∷ xs) away = at (none_any p xs (λ y k. away y (inr k))) (p x) r
     at later true e = absurd (away x (inl refl) e)
     at later false e = rw e later
 
-module _ (c : Config) (n : ℕ) (trace : List Line) (few : PacksAreOfSites c) (h : IsFollowed c trace) (rests : StoreRests c trace) (f : Frame) (frame : FrameFact c trace f) (s : Store) (kept : StoreHeld c f trace s) (p : Pull) (k : PullFact c trace f.epoch p) (complete : is_complete p ≡ true) (wants : AdoptRests c trace f p) (above : is_above_own p (copy_of s p.file) ≡ true) where
+module _ (c : Config) (n : ℕ) (trace : List Line) (few : PacksAreOfSites c) (h : IsFollowed c trace) (rests : StoreRests c trace) (f : Frame) (frame : FrameFact c trace f) (s : Store) (kept : StoreHeld c f trace s) (p : Pull) (k : PullFact c trace f.epoch f.me p) (complete : is_complete p ≡ true) (wants : AdoptRests c trace f p) (above : is_above_own p (copy_of s p.file) ≡ true) where
   abbrev told : Told
   told = Shown (adopt_record f p)
 
@@ -105,7 +105,7 @@ module _ (c : Config) (n : ℕ) (trace : List Line) (few : PacksAreOfSites c) (h
       epoch = f.epoch;
       inside = frame.inside;
       known = k.known;
-      for = subst (λ (y : Sites). has y f.me ≡ true) set_same wants.wanted;
+      for = subst (λ (y : Sites). has y f.me ≡ true) set_same k.wanted;
       above = is_above_held;
       shut = none_any (is_stored_at f.me p.file) tree.instances (λ x q e. wants.open_on x q e is_above_held);
     };
@@ -133,7 +133,7 @@ module _ (c : Config) (n : ℕ) (trace : List Line) (few : PacksAreOfSites c) (h
     where
       over : (o : Option ℕ) → Every (PacketFact c after) (to_some f (body.Have p.file p.stamp) o)
       over None = tt
-      over (Some site) = (has_adopted, tt)
+      over (Some site) = (record { started = started_stays c n told trace f.epoch p.file.group k.started; has = has_adopted }, tt)
 
   -- ---- the disk ----
 

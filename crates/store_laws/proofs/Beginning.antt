@@ -218,7 +218,7 @@ pub plain_begun : (c : Config) (n : ℕ) (trace : List Line) → PacksAreOfSites
 plain_begun c n trace few h rests f frame s held r plain k new stays = record {
   told = (may, tt);
   own = (refl, tt);
-  view = with_new c n trace few h f s held i may stays.0 fact;
+  view = with_new c n trace few h f s held i may (stays may).0 fact;
   sent = opened_sent c after f i (inl (record { site_is = refl; epoch_is = refl; serial_is = refl; file_is = refl }));
   written = tt;
 }
@@ -244,7 +244,7 @@ plain_begun c n trace few h rests f frame s held r plain k new stays = record {
     may = record { inside = frame.inside; new = unbegun; may = inl (record { at = granted.at; open_at = granted.open_at; file_is = granted.file_is }) }
 
     versions : VersionsStay c trace after
-    versions = versions_stay c n (Begins f.me f.epoch r.inst r.file) trace h may stays.0.fresh stays.0.order
+    versions = versions_stay c n (Begins f.me f.epoch r.inst r.file) trace h may (stays may).0.fresh (stays may).0.order
 
     copy_is : copy_of s r.file ≡ option_map (copy_for r.file) (option_map (version_of c (entries trace) r.file) k.stamp)
     copy_is = held.copies.are r.file (rests.narrow r.file k.some.0 k.some.1) ∙ ap (λ (o : Option Stamp). option_map (copy_for r.file) (option_map (version_of c (entries trace) r.file) o)) (sym (rests.inside f.epoch f.me r.file frame.inside) ∙ granted.holds)

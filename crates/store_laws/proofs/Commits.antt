@@ -287,13 +287,13 @@ module _ (c : Config) (n : ℕ) (trace : List Line) (few : PacksAreOfSites c) (h
 
   -- ---- the file ----
 
+  pub committing_is : committing c (entries trace) i.file f.me ≡ Some x
+  committing_is = ap (committing_in c (entries trace) i.file f.me) frame.inside ∙ first_writer i.file f.me tree.instances x one writer
+
   -- the versions that stood stay, where the line leaves them
   module _ (stay : AllStay c trace after told) where
     versions : VersionsStay c trace after
     versions = versions_stay c n told trace h may_commit stay.fresh stay.order
-
-    committing_is : committing c (entries trace) i.file f.me ≡ Some x
-    committing_is = ap (committing_in c (entries trace) i.file f.me) frame.inside ∙ first_writer i.file f.me tree.instances x one writer
 
     -- the first version of a make's file is by the call that made it
     first_now : (d : CallId) → x.grant.call ≡ d → (first_call c (entries trace) i.file ≡ None) ⊎ (first_call c (entries trace) i.file ≡ Some d) → first_call c (entries after) i.file ≡ Some d

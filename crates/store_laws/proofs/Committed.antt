@@ -1,5 +1,5 @@
 -- A store whose instance has just been committed: the instance is the tree's but for its stage, and the others are.
-use Rattle.std.proofs.Common.{◌≡◌, ℕ, true, false, List, [], ◌∷◌, length, Option, Some, None, refl, inl, inr}
+use Rattle.std.proofs.Common.{◌≡◌, ℕ, true, false, List, [], ◌∷◌, length, Option, Some, None, refl, sym, ◌∙◌, ap, inl, inr}
 use Rattle.locus_ids.specs.declared.config.Config.{Config}
 use Rattle.locus_ids.specs.declared.ids.FileId.{FileId}
 use Rattle.locus_ids.specs.declared.ids.Mode.{Mode}
@@ -13,6 +13,10 @@ use Rattle.role_steps.specs.Views.{Frame, Store, Told, Shown, serial_key}
 use Rattle.role_steps.specs.declared.instances.Instance.{Instance}
 use Rattle.the_run.specs.Worlds.{Line}
 use Rattle.tree_model.specs.declared.instance.Instance.{Instance as Open}
+use Rattle.file_effects.specs.declared.work.Work.{Work}
+use Rattle.tree_model.specs.Files.{committing}
+use Rattle.lawful_trace.specs.Disks.{pages_changed}
+use Rattle.tree_laws.specs.Printed.{entries}
 use Rattle.tree_laws.specs.Doing.{FrameFact, StoreHeld, WriteFact}
 use Rattle.tree_laws.specs.Following.{MayTell, IsFollowed}
 use Rattle.tree_laws.specs.Frames.{AllStay}
@@ -21,7 +25,7 @@ use Rattle.tree_laws.specs.Stores.{AnsweredFact, CopiesAreHeld, HoldsMade, Insta
 use Rattle.order_laws.specs.Joining.{PacksAreOfSites}
 use Rattle.store_laws.specs.Rests.{StoreRests}
 use Rattle.store_laws.proofs.Closes.{lies_with}
-use Rattle.store_laws.proofs.Commits.{copies_now, has_now, joins_now, lies_after, may_commit, others_now}
+use Rattle.store_laws.proofs.Commits.{committing_is, copies_now, has_now, joins_now, lies_after, may_commit, others_now}
 use Rattle.store_laws.proofs.Shutting.{IsBegunSo, OthersHold}
 use Rattle.store_laws.proofs.Tabled.{apart_latest, every_latest, latest_has}
 
@@ -96,4 +100,7 @@ module _ (c : Config) (n : ℕ) (trace : List Line) (few : PacksAreOfSites c) (h
     unshut_after (inr p) = unshut p
 
     pub written_so : WriteFact c n trace f.me s (record { copy = copy_made i vector stamp; pages = length i.work.changed; says = commit_record f i stamp })
-    written_so = record { own = refl; may = may; held = copies_now c n trace few h rests f frame s kept i k x w unshut owes writes stay }
+    written_so = record { own = refl; may = may; held = copies_now c n trace few h rests f frame s kept i k x w unshut owes writes stay; pages = changed_pages }
+      where
+        changed_pages : length i.work.changed ≡ pages_changed (committing c (entries trace) i.file f.me)
+        changed_pages = ap (λ (y : Work). length y.changed) (sym w.work_is) ∙ ap pages_changed (sym (committing_is c n trace few h rests f frame s kept i k x w unshut owes writes))

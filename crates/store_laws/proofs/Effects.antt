@@ -23,11 +23,11 @@ use Rattle.dir_format.specs.Grammar.{dir_bytes}
 use Rattle.dir_format.specs.Effects.{DirEffect, dir_effect}
 use Rattle.dir_format.specs.declared.entry.Entry.{Entry}
 use Rattle.file_content.specs.Contents.{max_bytes}
-use Rattle.file_content.specs.Pages.{is_replaced, page_of, pages_from, pages_of, pages_replaced, pages_within, with_pages}
+use Rattle.file_content.specs.Pages.{is_replaced, page_of, pages_from, pages_of, pages_replaced, pages_within, with_pages, pages_needed}
 use Rattle.file_effects.specs.Effects.{As, Deed, Effect, Mends, Removes, cuts, directory_left, effect, in_directory, is_refusal, is_worded, mends, on_directory, puts, tells, writes}
 use Rattle.file_effects.specs.Works.{aborted, begins_owing, carried_out, counted, operated, result_in}
 use Rattle.file_effects.specs.declared.work.Work.{Work}
-use Rattle.role_steps.specs.OperationEffects.{Mending, has_several, joined_contents, mend_effect, or_spent}
+use Rattle.role_steps.specs.OperationEffects.{Mending, has_several, joined_contents}
 use Rattle.tree_model.specs.declared.instance.Instance.{Instance}
 use Rattle.tree_model.specs.Mending.{join_of_kept, joined_all, joined_content, kept_vectors}
 use Rattle.tree_model.specs.Same.{same_kind, same_outcome, same_refusal}
@@ -35,7 +35,7 @@ use Rattle.tree_model.specs.State.{TreeState, kept_of}
 use Rattle.tree_model.specs.Working.{are_several, effect_on, free_pages, in_room, operated_by, result_on, work_after}
 use Rattle.dir_reconcile.specs.declared.kept.KeptVector.{KeptVector}
 use Rattle.dir_reconcile.specs.Joins.{joined_dirs}
-use Rattle.dir_reconcile.specs.Rescues.{rescue_is_spent, rescued}
+use Rattle.dir_reconcile.specs.Rescues.{rescued}
 use Rattle.tree_laws.proofs.Names.{true_false, some_is, test_own, same_epoch_own}
 
 -- ---- outcomes are the same as themselves ----
@@ -258,18 +258,28 @@ several_same h f (a ∷ b ∷ ks) = more (length ks)
         test : (a : ℕ) → 1 < a → nat_lt 1 a ≡ true
         test a lt = grind (arith, nat_tests)
 
-unspent_same : (content : List ℕ) (several : Bool) (joined : List ℕ) → or_spent false (Some (mends content several joined)) ≡ Some (mends content several joined)
-unspent_same content several joined = over (nat_lt max_bytes (length joined))
+-- a mend's own effect has no spent count
+pub mend_unspent : (content : List ℕ) (several : Bool) (joined : List ℕ) → (mends content several joined).spent ≡ false
+mend_unspent content several joined = over (nat_lt max_bytes (length joined))
   where
-    over : (b : Bool) → or_spent false (Some (cond b (tells content (outcome.No refusal.TooLong)) (record { result = outcome.Done; content = joined; pages = pages_replaced content joined; counts = several || not (bytes_eq joined content); spent = false }))) ≡ Some (cond b (tells content (outcome.No refusal.TooLong)) (record { result = outcome.Done; content = joined; pages = pages_replaced content joined; counts = several || not (bytes_eq joined content); spent = false }))
+    over : (b : Bool) → (cond b (tells content (outcome.No refusal.TooLong)) (record { result = outcome.Done; content = joined; pages = pages_replaced content joined; counts = several || not (bytes_eq joined content); spent = false })).spent ≡ false
     over true = refl
     over false = refl
 
--- a mend here has the effect of the tree's, where it works on what the tree has kept and no count of its rescue is at its end
-pub mend_same : (h : List Version) (t : TreeState) (x : Instance) (m : Mending) (content : List ℕ) → m.contents ≡ map (content_of h x.grant.file) (kept_of h t x.grant.file) → m.kept ≡ kept_vectors h t → rescue_is_spent (joined_contents m.contents) m.kept ≡ false →
-    mend_effect (joined_contents m.contents) m content ≡ effect (Mends (are_several (kept_of h t x.grant.file)) (joined_content h t x.grant.file)) content
-mend_same h t x m content contents kept unspent = ap (λ (b : Bool). or_spent b (Some (mends content (has_several m.contents) (dir_bytes (rescued (joined_contents m.contents) m.kept))))) unspent
-    ∙ (unspent_same content (has_several m.contents) (dir_bytes (rescued (joined_contents m.contents) m.kept))
-    ∙ (ap (λ (b : Bool). Some (mends content b (dir_bytes (rescued (joined_contents m.contents) m.kept)))) (ap has_several contents ∙ several_same h x.grant.file (kept_of h t x.grant.file))
+-- an effect whose count is at its end is refused for it, or gives what it gives else
+pub spent_same : (free : ℕ) (changed : List ℕ) (e : Effect) (b : Bool) → e.spent ≡ false → (result_in free changed (record e { spent = b }) ≡ outcome.No refusal.Spent → ⊥) → result_in free changed (record e { spent = b }) ≡ result_in free changed e
+spent_same free changed e b none low = over (is_refusal e.result) (nat_lt free (pages_needed e.pages changed)) b low
+  where
+    over : (refused full b : Bool) → (cond refused e.result (cond full (outcome.No (refusal.NoSpace (pages_needed e.pages changed) free)) (cond b (outcome.No refusal.Spent) e.result)) ≡ outcome.No refusal.Spent → ⊥) →
+        cond refused e.result (cond full (outcome.No (refusal.NoSpace (pages_needed e.pages changed) free)) (cond b (outcome.No refusal.Spent) e.result)) ≡ cond refused e.result (cond full (outcome.No (refusal.NoSpace (pages_needed e.pages changed) free)) (cond e.spent (outcome.No refusal.Spent) e.result))
+    over true full b low = refl
+    over false true b low = refl
+    over false false true low = absurd (low refl)
+    over false false false low = ap (λ (y : Bool). cond y (outcome.No refusal.Spent) e.result) (sym none)
+
+-- a mend here has the effect of the tree's, where it works on what the tree has kept
+pub mend_same : (h : List Version) (t : TreeState) (x : Instance) (m : Mending) (content : List ℕ) → m.contents ≡ map (content_of h x.grant.file) (kept_of h t x.grant.file) → m.kept ≡ kept_vectors h t →
+    Some (mends content (has_several m.contents) (dir_bytes (rescued (joined_contents m.contents) m.kept))) ≡ effect (Mends (are_several (kept_of h t x.grant.file)) (joined_content h t x.grant.file)) content
+mend_same h t x m content contents kept = ap (λ (b : Bool). Some (mends content b (dir_bytes (rescued (joined_contents m.contents) m.kept)))) (ap has_several contents ∙ several_same h x.grant.file (kept_of h t x.grant.file))
     ∙ (ap (λ (ds : List Entry). Some (mends content (are_several (kept_of h t x.grant.file)) (dir_bytes (rescued ds m.kept)))) (ap joined_contents contents ∙ contents_joined h x.grant.file (kept_of h t x.grant.file))
-    ∙ ap (λ (vs : List KeptVector). Some (mends content (are_several (kept_of h t x.grant.file)) (dir_bytes (rescued (join_of_kept h t x.grant.file) vs)))) kept)))
+    ∙ ap (λ (vs : List KeptVector). Some (mends content (are_several (kept_of h t x.grant.file)) (dir_bytes (rescued (join_of_kept h t x.grant.file) vs)))) kept)

@@ -9,7 +9,7 @@ use Rattle.trace_book.specs.declared.record.Record.TheVariants as says
 use Rattle.wire_messages.specs.declared.body.CloseAnswer.TheVariants as closing
 use Rattle.role_steps.specs.Reports.{stamp_made}
 use Rattle.role_steps.specs.Storage.{closes, closes_owing, commit_record, commits, content_of, copy_key, copy_made, copy_of, instance_committed, instance_key, instance_of, is_spent, made_version, next_stamp, next_vector, on_close, on_close_at, on_close_of, shuts, shuts_again, with_copy, with_instance}
-use Rattle.role_steps.specs.Views.{Frame, Store, Told, Shown, and_then, joined_to, serial_key, Outcome}
+use Rattle.role_steps.specs.Views.{Frame, Store, Told, Shown, Shuts, and_then, joined_to, serial_key, Outcome}
 use Rattle.role_steps.specs.declared.instances.Instance.{Instance}
 use Rattle.role_steps.specs.declared.instances.Stage.{Stage}
 use Rattle.role_steps.specs.declared.instances.Stage.TheVariants as stage
@@ -33,7 +33,7 @@ use Rattle.store_laws.specs.Rests.{AllStays, MayWrite, StoreRests}
 use Rattle.store_laws.proofs.Closes.{closed_sent, done_sent, found_instance}
 use Rattle.store_laws.proofs.Committed.{begun_after, frame_after, may, others_after, unshut_after, written_so}
 use Rattle.store_laws.proofs.Commits.{content_now, stands_now, works_now, written}
-use Rattle.store_laws.proofs.Shutting.{IsToEnd, begun_so, made_so, made_stamp, may_shut, nothing_answered, others_hold, shut_sent, shut_view}
+use Rattle.store_laws.proofs.Shutting.{IsBegunSo, IsToEnd, OthersHold, begun_so, made_so, made_stamp, may_shut, nothing_answered, others_hold, shut_sent, shut_view}
 use Rattle.store_laws.proofs.Tabled.{latest_same, row_among, row_same}
 
 none_some : {A : Type 0} (x : A) → ◌≡◌ {A = Option A} None (Some x) → ⊥
@@ -56,12 +56,15 @@ module _ (c : Config) (n : ℕ) (trace : List Line) (few : PacksAreOfSites c) (h
 
   closed_clean : i.work.owes ≡ false → AllStays c n trace (shuts f i closing.Nothing s).told → StoreFine c n trace f s (shuts f i closing.Nothing s)
   closed_clean owes stays = record {
-    told = (may_shut c n trace few h f frame s i (begun_so c trace f i k) (others_hold c trace f i s kept) x _ closing.Nothing (ends_nothing owes), tt);
+    told = (shuts_now, tt);
     own = (refl, tt);
-    view = shut_view c n trace few h f frame s i (begun_so c trace f i k) (others_hold c trace f i s kept) x _ closing.Nothing (ends_nothing owes) stays.0;
-    sent = shut_sent c n trace few h f frame s i (begun_so c trace f i k) (others_hold c trace f i s kept) x _ closing.Nothing (ends_nothing owes) stays.0;
+    view = shut_view c n trace few h f frame s i (begun_so c trace f i k) (others_hold c trace f i s kept) x _ closing.Nothing (ends_nothing owes) (stays shuts_now).0;
+    sent = shut_sent c n trace few h f frame s i (begun_so c trace f i k) (others_hold c trace f i s kept) x _ closing.Nothing (ends_nothing owes) (stays shuts_now).0;
     written = tt;
   }
+    where
+      shuts_now : MayTell c trace (Shuts f.me f.epoch i.inst)
+      shuts_now = may_shut c n trace few h f frame s i (begun_so c trace f i k) (others_hold c trace f i s kept) x _ closing.Nothing (ends_nothing owes)
 
   -- ---- what owes a version ----
 
@@ -124,12 +127,30 @@ module _ (c : Config) (n : ℕ) (trace : List Line) (few : PacksAreOfSites c) (h
       where
         closes_it : AllStays c n trace (joined_to (commits f i s) (shuts f made_instance (closing.Made stamp) now)).told → StoreFine c n trace f s (joined_to (commits f i s) (shuts f made_instance (closing.Made stamp) now))
         closes_it stays = record {
-          told = (may c n trace few h rests f frame s kept i k x w unshut owes writes, (may_shut c n after few (may c n trace few h rests f frame s kept i k x w unshut owes writes, h) f (frame_after c n trace few h rests f frame s kept i k x w unshut owes writes) now made_instance (begun_after c n trace few h rests f frame s kept i k x w unshut owes writes stays.0) (others_after c n trace few h rests f frame s kept i k x w unshut owes writes stays.0) (once_committed stamp x) _ (closing.Made stamp) (ends_made stays.0), tt));
+          told = (first, (second, tt));
           own = (refl, (refl, tt));
-          view = shut_view c n after few (may c n trace few h rests f frame s kept i k x w unshut owes writes, h) f (frame_after c n trace few h rests f frame s kept i k x w unshut owes writes) now made_instance (begun_after c n trace few h rests f frame s kept i k x w unshut owes writes stays.0) (others_after c n trace few h rests f frame s kept i k x w unshut owes writes stays.0) (once_committed stamp x) _ (closing.Made stamp) (ends_made stays.0) stays.1.0;
-          sent = shut_sent c n after few (may c n trace few h rests f frame s kept i k x w unshut owes writes, h) f (frame_after c n trace few h rests f frame s kept i k x w unshut owes writes) now made_instance (begun_after c n trace few h rests f frame s kept i k x w unshut owes writes stays.0) (others_after c n trace few h rests f frame s kept i k x w unshut owes writes stays.0) (once_committed stamp x) _ (closing.Made stamp) (ends_made stays.0) stays.1.0;
-          written = written_so c n trace few h rests f frame s kept i k x w unshut owes writes stays.0;
+          view = shut_view c n after few (first, h) f (frame_after c n trace few h rests f frame s kept i k x w unshut owes writes) now made_instance begun others (once_committed stamp x) _ (closing.Made stamp) (ends_made stay) later;
+          sent = shut_sent c n after few (first, h) f (frame_after c n trace few h rests f frame s kept i k x w unshut owes writes) now made_instance begun others (once_committed stamp x) _ (closing.Made stamp) (ends_made stay) later;
+          written = written_so c n trace few h rests f frame s kept i k x w unshut owes writes stay;
         }
+          where
+            first : MayTell c trace told
+            first = may c n trace few h rests f frame s kept i k x w unshut owes writes
+
+            stay : AllStay c trace after told
+            stay = (stays first).0
+
+            begun : IsBegunSo c after f made_instance
+            begun = begun_after c n trace few h rests f frame s kept i k x w unshut owes writes stay
+
+            others : OthersHold c after f made_instance now
+            others = others_after c n trace few h rests f frame s kept i k x w unshut owes writes stay
+
+            second : MayTell c after (Shuts f.me f.epoch i.inst)
+            second = may_shut c n after few (first, h) f (frame_after c n trace few h rests f frame s kept i k x w unshut owes writes) now made_instance begun others (once_committed stamp x) _ (closing.Made stamp) (ends_made stay)
+
+            later : AllStay c after (record { number = n; told = Shuts f.me f.epoch i.inst } ∷ after) (Shuts f.me f.epoch i.inst)
+            later = ((stays first).1 second).0
 
     closed_owing : (b : Bool) → is_spent f i ≡ b → is_spent f i ≡ false →
         AllStays c n trace (elim b as (λ (z : Bool). Outcome Store) [ true ↦ shuts f i (closing.No refusal.Spent) s | false ↦ and_then (commits f i s) (λ later. shuts_again f (closing.Made (next_stamp f (next_vector f i))) (instance_of later i.inst) later) ]).told →

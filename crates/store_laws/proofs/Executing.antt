@@ -21,12 +21,15 @@ use Rattle.trace_book.specs.declared.operation.Outcome.TheVariants as result
 use Rattle.trace_book.specs.declared.record.Record.TheVariants as says
 use Rattle.call_rules.specs.declared.want.Want.TheVariants as want
 use Rattle.lawful_trace.specs.Tables.{call_of_act}
+use Rattle.lawful_trace.specs.TreeRows.{IsCallIn}
 use Rattle.tree_laws.specs.Calls.{Asks}
-use Rattle.file_effects.specs.Effects.{As, Deed, Effect, Removes, effect}
+use Rattle.dir_format.specs.Grammar.{dir_bytes}
+use Rattle.dir_reconcile.specs.Rescues.{rescue_is_spent, rescued}
+use Rattle.file_effects.specs.Effects.{As, Deed, Effect, Removes, effect, mends}
 use Rattle.file_effects.specs.Works.{aborted, commit_result, committed, counted, operated, result_in}
 use Rattle.file_effects.specs.declared.work.Work.{Work}
-use Rattle.role_steps.specs.OperationEffects.{Mending, effect_of as effect_here}
-use Rattle.role_steps.specs.Operations.{abort_op, acts, acts_committed, by_number, commits_owing, executes, executes_effect, last_committed, on_op, on_op_at, on_op_of, op_again}
+use Rattle.role_steps.specs.OperationEffects.{Mending, has_several, joined_contents, mend_effect}
+use Rattle.role_steps.specs.Operations.{abort_op, act_record, acts, acts_committed, by_number, commits_owing, executes, executes_effect, last_committed, on_op, on_op_at, on_op_of, op_again}
 use Rattle.role_steps.specs.Own.{Every}
 use Rattle.role_steps.specs.Storage.{commit_record, commits, content_of, copy_made, copy_of, free_pages, instance_committed, instance_key, instance_of, is_spent, next_stamp, next_vector, with_copy, with_instance}
 use Rattle.role_steps.specs.Views.{Frame, Store, Told, Shown, Outcome, and_then, joined_to, quiet, sends, serial_key}
@@ -36,13 +39,14 @@ use Rattle.role_steps.specs.declared.instances.Stage.TheVariants as stage
 use Rattle.the_run.specs.Kept.{Among}
 use Rattle.the_run.specs.Worlds.{Line}
 use Rattle.tree_model.specs.declared.instance.Instance.{Instance as Open}
-use Rattle.tree_model.specs.Epochs.{has_joined}
+use Rattle.tree_model.specs.Epochs.{epoch_of, has_joined}
 use Rattle.tree_model.specs.Files.{version_of}
 use Rattle.tree_model.specs.Histories.{history, held, stamped_content}
 use Rattle.tree_model.specs.State.{TreeState, is_granted_here, kept_of}
 use Rattle.tree_model.specs.Tree.{once_committed, tree_of}
 use Rattle.tree_model.specs.Working.{deed_of, effect_of, effect_on, free_pages as tree_free, is_spent as tree_spent, is_target, sees}
 use Rattle.tree_laws.specs.Printed.{entries}
+use Rattle.tree_laws.specs.Frames.{AllStay}
 use Rattle.tree_laws.specs.Doing.{FrameFact, StoreFine, StoreHeld}
 use Rattle.tree_laws.specs.Following.{MayTell, IsFollowed}
 use Rattle.tree_laws.specs.Instances.{held_in}
@@ -52,14 +56,14 @@ use Rattle.tree_laws.specs.Stores.{AnsweredFact, InstanceFact, IsSettled, RunsAs
 use Rattle.tree_laws.proofs.Grants.{open_named}
 use Rattle.tree_laws.proofs.Names.{true_false, some_is, test_same}
 use Rattle.order_laws.specs.Joining.{PacksAreOfSites}
-use Rattle.store_laws.specs.Rests.{AllStays, MayWrite, MendsAs, OpRests, StoreRests}
+use Rattle.store_laws.specs.Rests.{AllStays, IsSpentMend, MayWrite, MendsAs, OpRests, StoreRests, UnspentTold}
 use Rattle.store_laws.proofs.Closes.{found_instance}
 use Rattle.store_laws.proofs.Commits.{works_now}
-use Rattle.store_laws.proofs.Effects.{OnContent, aborted_on, clean_after, counted_on, mend_same, operated_on, result_in_tree, work_in_tree}
+use Rattle.store_laws.proofs.Effects.{OnContent, aborted_on, clean_after, counted_on, mend_same, mend_unspent, operated_on, result_in_tree, spent_same, work_in_tree}
 use Rattle.store_laws.proofs.Committed.{begun_after, may, others_after, unshut_after, written_so}
 use Rattle.store_laws.proofs.Operating.{AsksIt, IsStep, act_sent, act_view, may_act}
 use Rattle.store_laws.proofs.Runs.{found_in}
-use Rattle.store_laws.proofs.Shutting.{begun_so, others_hold}
+use Rattle.store_laws.proofs.Shutting.{IsBegunSo, OthersHold, begun_so, others_hold}
 use Rattle.store_laws.proofs.Tabled.{latest_same, row_among}
 
 none_some : {A : Type 0} (x : A) → ◌≡◌ {A = Option A} None (Some x) → ⊥
@@ -97,15 +101,18 @@ module _ (c : Config) (n : ℕ) (trace : List Line) (few : PacksAreOfSites c) (h
   -- what is a step of the tree is fine
   step_fine : (r : Result) (u : Work) → IsStep c trace f i x o r u → AllStays c n trace (acts f i o r u s).told → StoreFine c n trace f s (acts f i o r u s)
   step_fine r u step stays = record {
-    told = (may_act c n trace few h f joined s i (begun_so c trace f i k) (others_hold c trace f i s kept) x w unshut running granted o r u step asked, tt);
+    told = (acts_now, tt);
     own = ((refl, (i.file, k.begun)), tt);
-    view = act_view c n trace few h f joined s i (begun_so c trace f i k) (others_hold c trace f i s kept) x w unshut running granted o r u step asked stays.0;
-    sent = act_sent c n trace few h f joined s i (begun_so c trace f i k) (others_hold c trace f i s kept) x w unshut running granted o r u step asked stays.0;
+    view = act_view c n trace few h f joined s i (begun_so c trace f i k) (others_hold c trace f i s kept) x w unshut running granted o r u step asked (stays acts_now).0;
+    sent = act_sent c n trace few h f joined s i (begun_so c trace f i k) (others_hold c trace f i s kept) x w unshut running granted o r u step asked (stays acts_now).0;
     written = tt;
   }
     where
       asked : AsksIt c trace f.epoch i.inst u.ops o
       asked = subst (λ (m : ℕ). AsksIt c trace f.epoch i.inst m o) (sym step.goes.ops_is) q
+
+      acts_now : MayTell c trace (act_record f i u.ops o r)
+      acts_now = may_act c n trace few h f joined s i (begun_so c trace f i k) (others_hold c trace f i s kept) x w unshut running granted o r u step asked
 
   still : StoreFine c n trace f s (quiet s)
   still = record { told = tt; own = tt; view = kept; sent = tt; written = tt }
@@ -203,21 +210,30 @@ module _ (c : Config) (n : ℕ) (trace : List Line) (few : PacksAreOfSites c) (h
       where
         acts_it : AllStays c n trace (joined_to (commits f i s) (acts f made_instance op.Commit (result.Committed stamp) (counted made_instance.work) later)).told → StoreFine c n trace f s (joined_to (commits f i s) (acts f made_instance op.Commit (result.Committed stamp) (counted made_instance.work) later))
         acts_it stays = record {
-          told = (
-            may_now,
-            (
-              may_act c n after few (may_now, h) f joined later made_instance (begun_after c n trace few h rests f frame s kept i k x w unshut owes writes stays.0) (others_after c n trace few h rests f frame s kept i k x w unshut owes writes stays.0) now
-                  (works_now c n trace few h rests f frame s kept i k x w unshut owes writes) (unshut_after c n trace few h rests f frame s kept i k x w unshut owes writes stays.0) running granted op.Commit (result.Committed stamp) (counted made_instance.work) made_step asked_after,
-              tt,
-            ),
-          );
+          told = (may_now, (second, tt));
           own = (refl, ((refl, (i.file, k.begun)), tt));
-          view = act_view c n after few (may_now, h) f joined later made_instance (begun_after c n trace few h rests f frame s kept i k x w unshut owes writes stays.0) (others_after c n trace few h rests f frame s kept i k x w unshut owes writes stays.0) now
-              (works_now c n trace few h rests f frame s kept i k x w unshut owes writes) (unshut_after c n trace few h rests f frame s kept i k x w unshut owes writes stays.0) running granted op.Commit (result.Committed stamp) (counted made_instance.work) made_step asked_after stays.1.0;
-          sent = act_sent c n after few (may_now, h) f joined later made_instance (begun_after c n trace few h rests f frame s kept i k x w unshut owes writes stays.0) (others_after c n trace few h rests f frame s kept i k x w unshut owes writes stays.0) now
-              (works_now c n trace few h rests f frame s kept i k x w unshut owes writes) (unshut_after c n trace few h rests f frame s kept i k x w unshut owes writes stays.0) running granted op.Commit (result.Committed stamp) (counted made_instance.work) made_step asked_after stays.1.0;
-          written = written_so c n trace few h rests f frame s kept i k x w unshut owes writes stays.0;
+          view = act_view c n after few (may_now, h) f joined later made_instance begun others now (works_now c n trace few h rests f frame s kept i k x w unshut owes writes) unshut_there running granted op.Commit (result.Committed stamp) (counted made_instance.work) made_step asked_after last;
+          sent = act_sent c n after few (may_now, h) f joined later made_instance begun others now (works_now c n trace few h rests f frame s kept i k x w unshut owes writes) unshut_there running granted op.Commit (result.Committed stamp) (counted made_instance.work) made_step asked_after last;
+          written = written_so c n trace few h rests f frame s kept i k x w unshut owes writes stay;
         }
+          where
+            stay : AllStay c trace after (Shown (commit_record f i (next_stamp f (next_vector f i))))
+            stay = (stays may_now).0
+
+            begun : IsBegunSo c after f made_instance
+            begun = begun_after c n trace few h rests f frame s kept i k x w unshut owes writes stay
+
+            others : OthersHold c after f made_instance later
+            others = others_after c n trace few h rests f frame s kept i k x w unshut owes writes stay
+
+            unshut_there : WasShut after f.me f.epoch i.inst → ⊥
+            unshut_there = unshut_after c n trace few h rests f frame s kept i k x w unshut owes writes stay
+
+            second : MayTell c after (act_record f made_instance (counted made_instance.work).ops op.Commit (result.Committed stamp))
+            second = may_act c n after few (may_now, h) f joined later made_instance begun others now (works_now c n trace few h rests f frame s kept i k x w unshut owes writes) unshut_there running granted op.Commit (result.Committed stamp) (counted made_instance.work) made_step asked_after
+
+            last : AllStay c after (record { number = n; told = act_record f made_instance (counted made_instance.work).ops op.Commit (result.Committed stamp) } ∷ after) (act_record f made_instance (counted made_instance.work).ops op.Commit (result.Committed stamp))
+            last = ((stays may_now).1 second).0
 
     owing_fine : (b : Bool) → is_spent f i ≡ b →
         AllStays c n trace (elim b as (λ (z : Bool). Outcome Store) [ true ↦ acts f i op.Commit (result.No refusal.Spent) (counted i.work) s | false ↦ and_then (commits f i s) (λ y. acts_committed f (next_stamp f (next_vector f i)) (instance_of y i.inst) y) ]).told →
@@ -233,7 +249,7 @@ module _ (c : Config) (n : ℕ) (trace : List Line) (few : PacksAreOfSites c) (h
 
   abort_fine : o ≡ op.Abort → AllStays c n trace (abort_op f i s).told → StoreFine c n trace f s (abort_op f i s)
   abort_fine is stays = subst (λ (y : Op). AllStays c n trace (acts f i y result.Done (aborted i.mode (content_of (copy_of s i.file)) i.work) s).told → StoreFine c n trace f s (acts f i y result.Done (aborted i.mode (content_of (copy_of s i.file)) i.work) s)) is
-      (step_fine result.Done (aborted i.mode (content_of (copy_of s i.file)) i.work) (abort_step (subst (λ (y : FileId). y.ino < 65536) w.file_is (more.numbers f.epoch i.inst x w.open_at.found)) is)) stays
+      (step_fine result.Done (aborted i.mode (content_of (copy_of s i.file)) i.work) (abort_step (subst (λ (y : FileId). y.ino < 65536) w.file_is (more.numbers f.epoch i.inst x w.open_at.found (subst (λ (z : ℕ). epoch_of (entries trace) z ≡ Some f.epoch) (sym w.open_at.place) frame.inside))) is)) stays
 
   -- ---- the tree's effect is the one here ----
 
@@ -253,30 +269,54 @@ module _ (c : Config) (n : ℕ) (trace : List Line) (few : PacksAreOfSites c) (h
       target_is = subst (λ (y : CallId). find (is_target y ino) tree.instances ≡ Some t.target) call_is
           (subst (λ (g : ℕ). find (is_target q.call ino) (tree_of c f.epoch g (entries trace)).instances ≡ Some t.target) (ap (λ (y : Open). y.grant.file.group) at_is ∙ ap (λ (y : FileId). y.group) w.file_is) t.is_target)
 
-  mend_as : (m : Mending) → MendsAs c trace f i.file m → effect_here op.Mend [] m i.work.content ≡ effect_on (history c (entries trace)) tree op.Mend x
-  mend_as m y = ap (λ (xs : List ℕ). effect_here op.Mend [] m xs) content_same ∙ mend_same (history c (entries trace)) tree x m x.work.content
-      (subst (λ (g : FileId). m.contents ≡ map (version_content (history c (entries trace)) g) (kept_of (history c (entries trace)) tree g)) (sym w.file_is) y.contents) y.kept y.unspent
+  -- a mend is done as the tree does it, where no count of its rescue is at its end
+  mend_fine : (m : Mending) → o ≡ op.Mend → MendsAs c trace f i.file m → Every UnspentTold (executes_effect f i o (mend_effect (joined_contents m.contents) m i.work.content) s).told →
+      AllStays c n trace (executes_effect f i o (mend_effect (joined_contents m.contents) m i.work.content) s).told → StoreFine c n trace f s (executes_effect f i o (mend_effect (joined_contents m.contents) m i.work.content) s)
+  mend_fine m is kept_so low stays = step_fine result_here (operated (record e { spent = spent }) result_here i.work)
+      (subst (λ (r : Result). IsStep c trace f i x o r (operated e r i.work)) (sym same) (effect_step (subst OnContent (sym is) tt) e (sym the_tree))) stays
+    where
+      e : Effect
+      e = mends i.work.content (has_several m.contents) (dir_bytes (rescued (joined_contents m.contents) m.kept))
+
+      spent : Bool
+      spent = rescue_is_spent (joined_contents m.contents) m.kept
+
+      result_here : Result
+      result_here = result_in (free_pages s i.file.group) i.work.changed (record e { spent = spent })
+
+      refused : (o : Op) (r : Result) → o ≡ op.Mend → r ≡ result.No refusal.Spent → IsSpentMend o r
+      refused o r p q = subst (λ (y : Op). IsSpentMend y r) (sym p) (subst (IsSpentMend op.Mend) (sym q) tt)
+
+      same : result_here ≡ result_in (free_pages s i.file.group) i.work.changed e
+      same = spent_same (free_pages s i.file.group) i.work.changed e spent (mend_unspent i.work.content (has_several m.contents) (dir_bytes (rescued (joined_contents m.contents) m.kept))) (λ q. low.0 (refused o result_here is q))
+
+      the_tree : Some e ≡ effect_on (history c (entries trace)) tree o x
+      the_tree = subst (λ (y : Op). Some e ≡ effect_on (history c (entries trace)) tree y x) (sym is) (ap (λ (xs : List ℕ). Some (mends xs (has_several m.contents) (dir_bytes (rescued (joined_contents m.contents) m.kept)))) content_same ∙ mend_same (history c (entries trace)) tree x m x.work.content
+          (subst (λ (g : FileId). m.contents ≡ map (version_content (history c (entries trace)) g) (kept_of (history c (entries trace)) tree g)) (sym w.file_is) kept_so.contents) kept_so.kept)
 
 -- ---- by the operation ----
+
+-- a mend that is asked now works on what is kept
+abbrev MendsAsked : Config → List Line → Frame → Instance → Op → Mending → Type 0
+MendsAsked c trace f i o m = o ≡ op.Mend → (d : CallId) → IsCallIn (entries trace) f.epoch d → Asks c trace d (want.Do i.inst o) → MendsAs c trace f i.file m
 
 module _ (c : Config) (n : ℕ) (trace : List Line) (few : PacksAreOfSites c) (h : IsFollowed c trace) (rests : StoreRests c trace) (more : OpRests c trace) (f : Frame) (frame : FrameFact c trace f) (s : Store) (kept : StoreHeld c f trace s) (room : (group : ℕ) → free_pages s group ≡ tree_free (history c (entries trace)) (tree_of c f.epoch group (entries trace)) f.me)
     (i : Instance) (k : InstanceFact c trace f i) (ready : MayWrite f i) (running : i.stage ≡ stage.Running) where
   module _ (x : Open) (w : WorksAs c trace f i x) (settled : IsSettled i) (unshut : WasShut trace f.me f.epoch i.inst → ⊥) (m : Mending) where
-    executed : (o : Op) (q : AsksIt c trace f.epoch i.inst (i.work.ops + 1) o) (seen : List ℕ) → SeesFor c trace f.epoch q.call i.inst o seen → (o ≡ op.Mend → MendsAs c trace f i.file m) → AllStays c n trace (executes f m i o seen s).told → StoreFine c n trace f s (executes f m i o seen s)
-    executed op.Commit q seen t y stays = commit_fine c n trace few h rests more f frame s kept room i k x w settled unshut running ready op.Commit q i.work.owes refl refl stays
-    executed op.Abort q seen t y stays = abort_fine c n trace few h rests more f frame s kept room i k x w settled unshut running ready op.Abort q refl stays
-    executed (op.Remove name ino) q seen t y stays = content_fine c n trace few h rests more f frame s kept room i k x w settled unshut running ready (op.Remove name ino) q tt (effect (Removes name ino seen) i.work.content)
+    executed : (o : Op) (q : AsksIt c trace f.epoch i.inst (i.work.ops + 1) o) (seen : List ℕ) → SeesFor c trace f.epoch q.call i.inst o seen → MendsAsked c trace f i o m → Every UnspentTold (executes f m i o seen s).told → AllStays c n trace (executes f m i o seen s).told → StoreFine c n trace f s (executes f m i o seen s)
+    executed op.Commit q seen t y low stays = commit_fine c n trace few h rests more f frame s kept room i k x w settled unshut running ready op.Commit q i.work.owes refl refl stays
+    executed op.Abort q seen t y low stays = abort_fine c n trace few h rests more f frame s kept room i k x w settled unshut running ready op.Abort q refl stays
+    executed (op.Remove name ino) q seen t y low stays = content_fine c n trace few h rests more f frame s kept room i k x w settled unshut running ready (op.Remove name ino) q tt (effect (Removes name ino seen) i.work.content)
         (remove_same c n trace few h rests more f frame s kept room i k x w settled unshut running ready (op.Remove name ino) q name ino seen refl t) stays
-    executed op.Mend q seen t y stays = content_fine c n trace few h rests more f frame s kept room i k x w settled unshut running ready op.Mend q tt (effect_here op.Mend seen m i.work.content)
-        (mend_as c n trace few h rests more f frame s kept room i k x w settled unshut running ready op.Mend q m (y refl)) stays
-    executed (op.Probe name) q seen t y stays = content_fine c n trace few h rests more f frame s kept room i k x w settled unshut running ready (op.Probe name) q tt (effect (As (op.Probe name)) i.work.content) (ap (λ (z : Work). effect (As (op.Probe name)) z.content) (sym w.work_is)) stays
-    executed (op.Find name) q seen t y stays = content_fine c n trace few h rests more f frame s kept room i k x w settled unshut running ready (op.Find name) q tt (effect (As (op.Find name)) i.work.content) (ap (λ (z : Work). effect (As (op.Find name)) z.content) (sym w.work_is)) stays
-    executed (op.Insert name ino kd) q seen t y stays = content_fine c n trace few h rests more f frame s kept room i k x w settled unshut running ready (op.Insert name ino kd) q tt (effect (As (op.Insert name ino kd)) i.work.content) (ap (λ (z : Work). effect (As (op.Insert name ino kd)) z.content) (sym w.work_is)) stays
-    executed (op.Rename component name) q seen t y stays = content_fine c n trace few h rests more f frame s kept room i k x w settled unshut running ready (op.Rename component name) q tt (effect (As (op.Rename component name)) i.work.content) (ap (λ (z : Work). effect (As (op.Rename component name)) z.content) (sym w.work_is)) stays
-    executed op.Empty q seen t y stays = content_fine c n trace few h rests more f frame s kept room i k x w settled unshut running ready op.Empty q tt (effect (As op.Empty) i.work.content) (ap (λ (z : Work). effect (As op.Empty) z.content) (sym w.work_is)) stays
-    executed (op.Read at len) q seen t y stays = content_fine c n trace few h rests more f frame s kept room i k x w settled unshut running ready (op.Read at len) q tt (effect (As (op.Read at len)) i.work.content) (ap (λ (z : Work). effect (As (op.Read at len)) z.content) (sym w.work_is)) stays
-    executed (op.Write at bytes) q seen t y stays = content_fine c n trace few h rests more f frame s kept room i k x w settled unshut running ready (op.Write at bytes) q tt (effect (As (op.Write at bytes)) i.work.content) (ap (λ (z : Work). effect (As (op.Write at bytes)) z.content) (sym w.work_is)) stays
-    executed (op.Cut len) q seen t y stays = content_fine c n trace few h rests more f frame s kept room i k x w settled unshut running ready (op.Cut len) q tt (effect (As (op.Cut len)) i.work.content) (ap (λ (z : Work). effect (As (op.Cut len)) z.content) (sym w.work_is)) stays
+    executed op.Mend q seen t y low stays = mend_fine c n trace few h rests more f frame s kept room i k x w settled unshut running ready op.Mend q m refl (y refl q.call q.inside q.asks) low stays
+    executed (op.Probe name) q seen t y low stays = content_fine c n trace few h rests more f frame s kept room i k x w settled unshut running ready (op.Probe name) q tt (effect (As (op.Probe name)) i.work.content) (ap (λ (z : Work). effect (As (op.Probe name)) z.content) (sym w.work_is)) stays
+    executed (op.Find name) q seen t y low stays = content_fine c n trace few h rests more f frame s kept room i k x w settled unshut running ready (op.Find name) q tt (effect (As (op.Find name)) i.work.content) (ap (λ (z : Work). effect (As (op.Find name)) z.content) (sym w.work_is)) stays
+    executed (op.Insert name ino kd) q seen t y low stays = content_fine c n trace few h rests more f frame s kept room i k x w settled unshut running ready (op.Insert name ino kd) q tt (effect (As (op.Insert name ino kd)) i.work.content) (ap (λ (z : Work). effect (As (op.Insert name ino kd)) z.content) (sym w.work_is)) stays
+    executed (op.Rename component name) q seen t y low stays = content_fine c n trace few h rests more f frame s kept room i k x w settled unshut running ready (op.Rename component name) q tt (effect (As (op.Rename component name)) i.work.content) (ap (λ (z : Work). effect (As (op.Rename component name)) z.content) (sym w.work_is)) stays
+    executed op.Empty q seen t y low stays = content_fine c n trace few h rests more f frame s kept room i k x w settled unshut running ready op.Empty q tt (effect (As op.Empty) i.work.content) (ap (λ (z : Work). effect (As op.Empty) z.content) (sym w.work_is)) stays
+    executed (op.Read at len) q seen t y low stays = content_fine c n trace few h rests more f frame s kept room i k x w settled unshut running ready (op.Read at len) q tt (effect (As (op.Read at len)) i.work.content) (ap (λ (z : Work). effect (As (op.Read at len)) z.content) (sym w.work_is)) stays
+    executed (op.Write at bytes) q seen t y low stays = content_fine c n trace few h rests more f frame s kept room i k x w settled unshut running ready (op.Write at bytes) q tt (effect (As (op.Write at bytes)) i.work.content) (ap (λ (z : Work). effect (As (op.Write at bytes)) z.content) (sym w.work_is)) stays
+    executed (op.Cut len) q seen t y low stays = content_fine c n trace few h rests more f frame s kept room i k x w settled unshut running ready (op.Cut len) q tt (effect (As (op.Cut len)) i.work.content) (ap (λ (z : Work). effect (As (op.Cut len)) z.content) (sym w.work_is)) stays
 
   -- ---- by its number ----
 
@@ -287,38 +327,39 @@ module _ (c : Config) (n : ℕ) (trace : List Line) (few : PacksAreOfSites c) (h
   too_high : (a b : ℕ) → a ≡ b + 1 → a ≤ b → ⊥
   too_high a b e l = omega (arith, e, l)
 
-  next_fine : (number : ℕ) (o : Op) (seen : List ℕ) (m : Mending) → number ≡ i.work.ops + 1 → OpFact c trace f.epoch f.me i.inst number o seen → (o ≡ op.Mend → MendsAs c trace f i.file m) → StageFact c trace f i stage.Running → AllStays c n trace (executes f m i o seen s).told → StoreFine c n trace f s (executes f m i o seen s)
-  next_fine number o seen m is fact y st stays = over fact st.0
+  next_fine : (number : ℕ) (o : Op) (seen : List ℕ) (m : Mending) → number ≡ i.work.ops + 1 → OpFact c trace f.epoch f.me i.inst number o seen → MendsAsked c trace f i o m → StageFact c trace f i stage.Running → Every UnspentTold (executes f m i o seen s).told → AllStays c n trace (executes f m i o seen s).told → StoreFine c n trace f s (executes f m i o seen s)
+  next_fine number o seen m is fact y st low stays = over fact st.0
     where
       over : OpFact c trace f.epoch f.me i.inst number o seen → RunsAs c trace f i → StoreFine c n trace f s (executes f m i o seen s)
       over (inl d) (inl w) = absurd (too_high number i.work.ops is (subst (λ (z : Work). number ≤ z.ops) w.1.work_is (more.done f.epoch i.inst number o d.0 w.0 d.1 w.1.open_at.found)))
       over (inl d) (inr w) = absurd (w.unnamed (done_named c trace h f.epoch i.inst number o d.0 d.1))
       over (inr q) (inr w) = absurd (w.unnamed (open_named c trace f.epoch i.inst q.at q.open_at.found))
-      over (inr q) (inl w) = executed w.0 w.1 st.1 st.2 m o (record { call = q.call; owner = subst (λ (z : ℕ). call_of_act (entries trace) f.epoch i.inst z ≡ Some q.call) is q.owner; inside = q.inside; asks = q.asks }) seen q.sees y stays
+      over (inr q) (inl w) = executed w.0 w.1 st.1 st.2 m o (record { call = q.call; owner = subst (λ (z : ℕ). call_of_act (entries trace) f.epoch i.inst z ≡ Some q.call) is q.owner; inside = q.inside; asks = q.asks }) seen q.sees y low stays
 
-  numbered_fine : (number : ℕ) (o : Op) (seen : List ℕ) (m : Mending) → OpFact c trace f.epoch f.me i.inst number o seen → (o ≡ op.Mend → MendsAs c trace f i.file m) → StageFact c trace f i stage.Running → AllStays c n trace (by_number f m i number o seen s).told → StoreFine c n trace f s (by_number f m i number o seen s)
-  numbered_fine number o seen m fact y st stays = over (number == i.work.ops) (number == i.work.ops + 1) refl refl stays
+  numbered_fine : (number : ℕ) (o : Op) (seen : List ℕ) (m : Mending) → OpFact c trace f.epoch f.me i.inst number o seen → MendsAsked c trace f i o m → StageFact c trace f i stage.Running → Every UnspentTold (by_number f m i number o seen s).told → AllStays c n trace (by_number f m i number o seen s).told → StoreFine c n trace f s (by_number f m i number o seen s)
+  numbered_fine number o seen m fact y st low stays = over (number == i.work.ops) (number == i.work.ops + 1) refl refl low stays
     where
       over : (a b : Bool) → (number == i.work.ops) ≡ a → (number == i.work.ops + 1) ≡ b →
+          Every UnspentTold (elim a as (λ (z : Bool). Outcome Store) [ true ↦ sends (op_again f i number i.answered) s | false ↦ elim b as (λ (z : Bool). Outcome Store) [ true ↦ executes f m i o seen s | false ↦ quiet s ] ]).told →
           AllStays c n trace (elim a as (λ (z : Bool). Outcome Store) [ true ↦ sends (op_again f i number i.answered) s | false ↦ elim b as (λ (z : Bool). Outcome Store) [ true ↦ executes f m i o seen s | false ↦ quiet s ] ]).told →
           StoreFine c n trace f s (elim a as (λ (z : Bool). Outcome Store) [ true ↦ sends (op_again f i number i.answered) s | false ↦ elim b as (λ (z : Bool). Outcome Store) [ true ↦ executes f m i o seen s | false ↦ quiet s ] ])
-      over true b p q stays = record { told = tt; own = tt; view = kept; sent = again_sent number (test_same number i.work.ops p) i.answered k.answered; written = tt }
-      over false true p q stays = next_fine number o seen m (test_same number (i.work.ops + 1) q) fact y st stays
-      over false false p q stays = record { told = tt; own = tt; view = kept; sent = tt; written = tt }
+      over true b p q low stays = record { told = tt; own = tt; view = kept; sent = again_sent number (test_same number i.work.ops p) i.answered k.answered; written = tt }
+      over false true p q low stays = next_fine number o seen m (test_same number (i.work.ops + 1) q) fact y st low stays
+      over false false p q low stays = record { told = tt; own = tt; view = kept; sent = tt; written = tt }
 
 -- ---- by its stage ----
 
 pub op_fine : (c : Config) (n : ℕ) (trace : List Line) → PacksAreOfSites c → IsFollowed c trace → StoreRests c trace → OpRests c trace → (f : Frame) → FrameFact c trace f → (s : Store) → StoreHeld c f trace s → ((group : ℕ) → free_pages s group ≡ tree_free (history c (entries trace)) (tree_of c f.epoch group (entries trace)) f.me) → ((i : Instance) → Among i s.instances → MayWrite f i) →
-    (m : Mending) (inst : Serial) → inst.us ≤ 16 → (number : ℕ) (o : Op) (seen : List ℕ) → OpFact c trace f.epoch f.me inst number o seen → ((i : Instance) → Among i s.instances → i.inst ≡ inst → o ≡ op.Mend → MendsAs c trace f i.file m) →
-    AllStays c n trace (on_op f m inst number o seen s).told → StoreFine c n trace f s (on_op f m inst number o seen s)
-op_fine c n trace few h rests more f frame s kept room ready m inst low number o seen fact mends stays = over (instance_of s inst) refl stays
+    (m : Mending) (inst : Serial) → inst.us ≤ 16 → (number : ℕ) (o : Op) (seen : List ℕ) → OpFact c trace f.epoch f.me inst number o seen → ((i : Instance) → instance_of s inst ≡ Some i → o ≡ op.Mend → (d : CallId) → IsCallIn (entries trace) f.epoch d → Asks c trace d (want.Do inst op.Mend) → MendsAs c trace f i.file m) →
+    Every UnspentTold (on_op f m inst number o seen s).told → AllStays c n trace (on_op f m inst number o seen s).told → StoreFine c n trace f s (on_op f m inst number o seen s)
+op_fine c n trace few h rests more f frame s kept room ready m inst low number o seen fact mends low_told stays = over (instance_of s inst) refl low_told stays
   where
-    at : (i : Instance) → InstanceFact c trace f i → Among i s.instances → i.inst ≡ inst → OpFact c trace f.epoch f.me i.inst number o seen → (t : Stage) → i.stage ≡ t → StageFact c trace f i t → AllStays c n trace (on_op_at f m i t number o seen s).told → StoreFine c n trace f s (on_op_at f m i t number o seen s)
-    at i k among same fact stage.Running is st stays = numbered_fine c n trace few h rests more f frame s kept room i k (ready i among) is number o seen m fact (mends i among same) st stays
-    at i k among same fact (stage.Closing made a) is st stays = record { told = tt; own = tt; view = kept; sent = tt; written = tt }
-    at i k among same fact (stage.Closed a) is st stays = record { told = tt; own = tt; view = kept; sent = tt; written = tt }
+    at : (i : Instance) → InstanceFact c trace f i → Among i s.instances → instance_of s inst ≡ Some i → i.inst ≡ inst → OpFact c trace f.epoch f.me i.inst number o seen → (t : Stage) → i.stage ≡ t → StageFact c trace f i t → Every UnspentTold (on_op_at f m i t number o seen s).told → AllStays c n trace (on_op_at f m i t number o seen s).told → StoreFine c n trace f s (on_op_at f m i t number o seen s)
+    at i k among found same fact stage.Running is st low stays = numbered_fine c n trace few h rests more f frame s kept room i k (ready i among) is number o seen m fact (λ e d inside asks. mends i found e d inside (subst (λ (j : Serial). Asks c trace d (want.Do j op.Mend)) same (subst (λ (y : Op). Asks c trace d (want.Do i.inst y)) e asks))) st low stays
+    at i k among found same fact (stage.Closing made a) is st low stays = record { told = tt; own = tt; view = kept; sent = tt; written = tt }
+    at i k among found same fact (stage.Closed a) is st low stays = record { told = tt; own = tt; view = kept; sent = tt; written = tt }
 
-    over : (y : Option Instance) → instance_of s inst ≡ y → AllStays c n trace (on_op_of f m y number o seen s).told → StoreFine c n trace f s (on_op_of f m y number o seen s)
-    over None e stays = record { told = tt; own = tt; view = kept; sent = tt; written = tt }
-    over (Some i) e stays = (let k : InstanceFact c trace f i × (i.inst ≡ inst) = found_instance c trace f s kept inst low i e in
-        at i k.0 (row_among instance_key (serial_key inst) s.instances i e) k.1 (subst (λ (j : Serial). OpFact c trace f.epoch f.me j number o seen) (sym k.1) fact) i.stage refl k.0.stage stays)
+    over : (y : Option Instance) → instance_of s inst ≡ y → Every UnspentTold (on_op_of f m y number o seen s).told → AllStays c n trace (on_op_of f m y number o seen s).told → StoreFine c n trace f s (on_op_of f m y number o seen s)
+    over None e low_told stays = record { told = tt; own = tt; view = kept; sent = tt; written = tt }
+    over (Some i) e low_told stays = (let k : InstanceFact c trace f i × (i.inst ≡ inst) = found_instance c trace f s kept inst low i e in
+        at i k.0 (row_among instance_key (serial_key inst) s.instances i e) e k.1 (subst (λ (j : Serial). OpFact c trace f.epoch f.me j number o seen) (sym k.1) fact) i.stage refl k.0.stage low_told stays)

@@ -139,6 +139,7 @@ module _ (c : Config) (n : ℕ) (trace : List Line) (few : PacksAreOfSites c) (h
           user_is = now.user_is;
           group_is = now.group_is;
           started = now.started;
+          good = now.good;
           at = now.at;
           number = given file.group ino next packed;
           unused = unused file.group ino next packed;
@@ -219,7 +220,7 @@ module _ (c : Config) (n : ℕ) (trace : List Line) (few : PacksAreOfSites c) (h
           copies = record { are = held_so.copies.are; ascends = held_so.copies.ascends };
           instances = record {
             instances = every_latest instance_key i (InstanceFact c trace f) (InstanceFact c after f) s.instances
-                (λ j other k. instance_more c n reserves_it between few (may_begin, h) may_reserve stays.1.0 f j tt (instance_more c n begins_it trace few h may_begin stays.0 f j tt k)) held_so.instances.apart held_so.instances.instances fact;
+                (λ j other k. instance_more c n reserves_it between few (may_begin, h) may_reserve ((stays may_begin).1 may_reserve).0 f j tt (instance_more c n begins_it trace few h may_begin (stays may_begin).0 f j tt k)) held_so.instances.apart held_so.instances.instances fact;
             apart = apart_latest instance_key i s.instances held_so.instances.apart;
             has = has_after;
           };

@@ -45,8 +45,8 @@ use Rattle.store_laws.proofs.Tabled.{row_found}
 
 -- ---- while lines are told ----
 
-pull_stays : (c : Config) (n : ℕ) (x : Told) (older : List Line) → VersionsStay c older (More n x older) → (e : EpochId) (p : Pull) → PullFact c older e p → PullFact c (More n x older) e p
-pull_stays c n x older v e p k = record {
+pull_stays : (c : Config) (n : ℕ) (x : Told) (older : List Line) → VersionsStay c older (More n x older) → (e : EpochId) (me : ℕ) (p : Pull) → PullFact c older e me p → PullFact c (More n x older) e me p
+pull_stays c n x older v e me p k = record {
   started = started_stays c n x older e p.file.group k.started;
   known = v.known e p.file p.stamp k.known;
   single = v.single e p.file k.started k.single;
@@ -59,10 +59,11 @@ pull_stays c n x older v e p k = record {
   size_is = k.size_is;
   pages = k.pages;
   even = k.even;
+  wanted = k.wanted;
 }
 
 pub all_pulls_stay : (c : Config) (n : ℕ) (x : Told) (older : List Line) → IsFollowed c older → MayTell c older x → AllStay c older (More n x older) x → (f : Frame) (ps : List Pull) → PullsFact c f older ps → PullsFact c f (More n x older) ps
-all_pulls_stay c n x older h may stay f ps k = every_both (PullFact c older f.epoch) (PullFact c (More n x older) f.epoch) ps (pull_stays c n x older (versions_stay c n x older h may stay.fresh stay.order) f.epoch) k
+all_pulls_stay c n x older h may stay f ps k = every_both (PullFact c older f.epoch f.me) (PullFact c (More n x older) f.epoch f.me) ps (pull_stays c n x older (versions_stay c n x older h may stay.fresh stay.order) f.epoch f.me) k
 
 -- ---- lists ----
 
@@ -113,22 +114,22 @@ own_ancestor (v ∷ older) f a = over (is_version f a v) (same_stamp a a) own (o
     over true false t later = absurd (true_false (sym t))
     over false d t later = later
 
-asked_sent : (c : Config) (trace : List Line) (f : Frame) (p : Pull) → PullFact c trace f.epoch p → Every (PacketFact c trace) (pull_packets f p)
+asked_sent : (c : Config) (trace : List Line) (f : Frame) (p : Pull) → PullFact c trace f.epoch f.me p → Every (PacketFact c trace) (pull_packets f p)
 asked_sent c trace f p k = over (is_complete p)
   where
     over : (b : Bool) → Every (PacketFact c trace) (cond b [] (packet f p.holder (body.Pull p.file p.stamp (next_page p)) ∷ []))
     over true = tt
     over false = (subst (λ (s : Stamp). Stands c trace p.file s) k.stamp_is k.is_version.stands, tt)
 
-goes_fine : (c : Config) (n : ℕ) (trace : List Line) (f : Frame) (p : Pull) (ps : List Pull) → PullsFact c f trace ps → PullFact c trace f.epoch p → PullsFine c n trace f (goes_on f p ps)
-goes_fine c n trace f p ps all k = record { told = tt; own = tt; view = every_row pull_key p (PullFact c trace f.epoch) ps all k; sent = asked_sent c trace f p k; written = tt }
+goes_fine : (c : Config) (n : ℕ) (trace : List Line) (f : Frame) (p : Pull) (ps : List Pull) → PullsFact c f trace ps → PullFact c trace f.epoch f.me p → PullsFine c n trace f (goes_on f p ps)
+goes_fine c n trace f p ps all k = record { told = tt; own = tt; view = every_row pull_key p (PullFact c trace f.epoch f.me) ps all k; sent = asked_sent c trace f p k; written = tt }
 
 still : (c : Config) (n : ℕ) (trace : List Line) (f : Frame) (ps : List Pull) → PullsFact c f trace ps → PullsFine c n trace f (quiet ps)
 still c n trace f ps all = record { told = tt; own = tt; view = all; sent = tt; written = tt }
 
 -- ---- Notify ----
 
-begins_fine : (c : Config) (n : ℕ) (trace : List Line) (f : Frame) (p : Pull) (ps : List Pull) → PullsFact c f trace ps → PullFact c trace f.epoch p → PullsFine c n trace f (begins_pull f p ps)
+begins_fine : (c : Config) (n : ℕ) (trace : List Line) (f : Frame) (p : Pull) (ps : List Pull) → PullsFact c f trace ps → PullFact c trace f.epoch f.me p → PullsFine c n trace f (begins_pull f p ps)
 begins_fine c n trace f p ps all k = over (replaces_pull p (pull_of ps p.file))
   where
     over : (b : Bool) → PullsFine c n trace f (elim b [ true ↦ goes_on f p ps | false ↦ quiet ps ])
@@ -136,8 +137,8 @@ begins_fine c n trace f p ps all k = over (replaces_pull p (pull_of ps p.file))
     over false = still c n trace f ps all
 
 -- what a notice begins to pull
-noticed : (c : Config) (trace : List Line) (e : EpochId) (file : FileId) (k : Kind) (set : Sites) (size : ℕ) (stamp : Stamp) (vector : List ℕ) (holder : ℕ) → NotifyFact c trace e file k set size stamp vector → PullFact c trace e (record { file = file; kind = k; set = set; size = size; stamp = stamp; vector = vector; holder = holder; content = [] })
-noticed c trace e file k set size stamp vector holder t = record {
+noticed : (c : Config) (trace : List Line) (e : EpochId) (to : ℕ) (file : FileId) (k : Kind) (set : Sites) (size : ℕ) (stamp : Stamp) (vector : List ℕ) (holder : ℕ) → NotifyFact c trace e to file k set size stamp vector → PullFact c trace e to (record { file = file; kind = k; set = set; size = size; stamp = stamp; vector = vector; holder = holder; content = [] })
+noticed c trace e to file k set size stamp vector holder t = record {
   started = t.started;
   known = t.known;
   single = t.single;
@@ -150,10 +151,11 @@ noticed c trace e file k set size stamp vector holder t = record {
   size_is = t.size_is;
   pages = refl;
   even = inr (0, refl);
+  wanted = t.wanted;
 }
 
 pub notify_fine : (c : Config) (n : ℕ) (trace : List Line) → IsFollowed c trace → StoreRests c trace → (f : Frame) → FrameFact c trace f → (s : Store) → CopiesAreHeld c trace f.me s → (ps : List Pull) → PullsFact c f trace ps → (from : ℕ) (file : FileId) (k : Kind) (set : Sites) (size : ℕ) (stamp : Stamp) (vector : List ℕ) (holder : ℕ) →
-    NotifyFact c trace f.epoch file k set size stamp vector → PullsFine c n trace f (on_notify f from (copy_of s file) (record { file = file; kind = k; set = set; size = size; stamp = stamp; vector = vector; holder = holder; content = [] }) ps)
+    NotifyFact c trace f.epoch f.me file k set size stamp vector → PullsFine c n trace f (on_notify f from (copy_of s file) (record { file = file; kind = k; set = set; size = size; stamp = stamp; vector = vector; holder = holder; content = [] }) ps)
 notify_fine c n trace h rests f frame s copies ps all from file k set size stamp vector holder t = over (copy_of s file) (copy_is c trace h f.me s copies file narrow)
   where
     stands : Stands c trace file stamp
@@ -165,8 +167,8 @@ notify_fine c n trace h rests f frame s copies ps all from file k set size stamp
     p : Pull
     p = record { file = file; kind = k; set = set; size = size; stamp = stamp; vector = vector; holder = holder; content = [] }
 
-    fact : PullFact c trace f.epoch p
-    fact = noticed c trace f.epoch file k set size stamp vector holder t
+    fact : PullFact c trace f.epoch f.me p
+    fact = noticed c trace f.epoch f.me file k set size stamp vector holder t
 
     has : (x : FileCopy) → IsCopy c trace f.me file x → same_stamp x.stamp stamp ≡ true → HasAtLeast c trace f.epoch f.me file stamp
     has x y e = record {
@@ -180,7 +182,7 @@ notify_fine c n trace h rests f frame s copies ps all from file k set size stamp
     above x false = still c n trace f ps all
 
     known : (x : FileCopy) → IsCopy c trace f.me file x → (b : Bool) → same_stamp x.stamp stamp ≡ b → PullsFine c n trace f (elim b [ true ↦ sends (packet f from (body.Have file stamp) ∷ []) ps | false ↦ elim (is_below x.vector vector) [ true ↦ begins_pull f p ps | false ↦ quiet ps ] ])
-    known x y true e = record { told = tt; own = tt; view = all; sent = (has x y e, tt); written = tt }
+    known x y true e = record { told = tt; own = tt; view = all; sent = (record { started = t.started; has = has x y e }, tt); written = tt }
     known x y false e = above x (is_below x.vector vector)
 
     over : (o : Option FileCopy) → ((x : FileCopy) → o ≡ Some x → IsCopy c trace f.me file x) → PullsFine c n trace f (on_notify f from o p ps)
@@ -198,8 +200,8 @@ second_of true b e = e
 second_of false b e = absurd (true_false (sym e))
 
 -- the pull with the page that it waits for
-paged : (c : Config) (trace : List Line) (e : EpochId) (p : Pull) (stamp : Stamp) (page : ℕ) (bytes : List ℕ) → PullFact c trace e p → PageFact c trace p.file stamp page bytes → is_awaited p stamp page bytes ≡ true → PullFact c trace e (record p { content = p.content ++ bytes })
-paged c trace e p stamp page bytes k q awaited = record {
+paged : (c : Config) (trace : List Line) (e : EpochId) (me : ℕ) (p : Pull) (stamp : Stamp) (page : ℕ) (bytes : List ℕ) → PullFact c trace e me p → PageFact c trace p.file stamp page bytes → is_awaited p stamp page bytes ≡ true → PullFact c trace e me (record p { content = p.content ++ bytes })
+paged c trace e me p stamp page bytes k q awaited = record {
   started = k.started;
   known = k.known;
   single = k.single;
@@ -212,6 +214,7 @@ paged c trace e p stamp page bytes k q awaited = record {
   size_is = k.size_is;
   pages = joined ∙ (sym (take_own (length p.content + 1024) k.version.content) ∙ ap (λ (xs : List ℕ). take (length xs) k.version.content) (sym joined));
   even = even_now k.even;
+  wanted = k.wanted;
 }
   where
     same_version : q.version ≡ k.version
@@ -305,11 +308,11 @@ page_fine c n trace rests f ps all file stamp page bytes q = over (pull_of ps fi
     narrow : file.ino < 65536
     narrow = rests.narrow file q.version.stamp q.is_version.stands
 
-    by_test : (p : Pull) → PullFact c trace f.epoch p → p.file ≡ file → (b : Bool) → is_awaited p stamp page bytes ≡ b → PullsFine c n trace f (elim b [ true ↦ goes_on f (record p { content = p.content ++ bytes }) ps | false ↦ quiet ps ])
-    by_test p k same true e = goes_fine c n trace f (record p { content = p.content ++ bytes }) ps all (paged c trace f.epoch p stamp page bytes k (subst (λ (y : FileId). PageFact c trace y stamp page bytes) (sym same) q) e)
+    by_test : (p : Pull) → PullFact c trace f.epoch f.me p → p.file ≡ file → (b : Bool) → is_awaited p stamp page bytes ≡ b → PullsFine c n trace f (elim b [ true ↦ goes_on f (record p { content = p.content ++ bytes }) ps | false ↦ quiet ps ])
+    by_test p k same true e = goes_fine c n trace f (record p { content = p.content ++ bytes }) ps all (paged c trace f.epoch f.me p stamp page bytes k (subst (λ (y : FileId). PageFact c trace y stamp page bytes) (sym same) q) e)
     by_test p k same false e = still c n trace f ps all
 
     over : (o : Option Pull) → pull_of ps file ≡ o → PullsFine c n trace f (on_page_of f stamp page bytes o ps)
     over None e = still c n trace f ps all
-    over (Some p) e = (let k : PullFact c trace f.epoch p × (pull_key p ≡ file_key file) = row_found pull_key (file_key file) ps p (PullFact c trace f.epoch) e all in
+    over (Some p) e = (let k : PullFact c trace f.epoch f.me p × (pull_key p ≡ file_key file) = row_found pull_key (file_key file) ps p (PullFact c trace f.epoch f.me) e all in
         by_test p k.0 (file_of_key p.file file (rests.narrow p.file k.0.version.stamp k.0.is_version.stands) narrow k.1) (is_awaited p stamp page bytes) refl)

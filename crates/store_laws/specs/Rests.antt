@@ -10,10 +10,11 @@ use Rattle.locus_ids.specs.declared.ids.Mode.TheVariants as mode
 use Rattle.locus_ids.specs.declared.ids.Serial.{Serial}
 use Rattle.locus_ids.specs.declared.ids.Stamp.{Stamp}
 use Rattle.locus_ids.specs.declared.sites.Members.{Members}
+use Rattle.locus_ids.specs.declared.refusal.Refusal.TheVariants as refusal
 use Rattle.commit_graph.specs.Grants.{is_read}
 use Rattle.file_effects.specs.Works.{begun}
 use Rattle.role_steps.specs.Storage.{is_spent}
-use Rattle.role_steps.specs.Views.{Frame, Told, boot_in}
+use Rattle.role_steps.specs.Views.{Frame, Told, Shown, boot_in}
 use Rattle.role_steps.specs.declared.instances.Instance.{Instance}
 use Rattle.the_run.specs.Worlds.{Line}
 use Rattle.tree_model.specs.declared.instance.Instance.{Instance as Open}
@@ -22,11 +23,12 @@ use Rattle.commit_graph.specs.Versions.{content_of}
 use Rattle.trace_book.specs.declared.operation.Op.{Op}
 use Rattle.trace_book.specs.declared.operation.Op.TheVariants as op
 use Rattle.trace_book.specs.declared.operation.Outcome.{Outcome}
-use Rattle.dir_reconcile.specs.Rescues.{rescue_is_spent}
+use Rattle.trace_book.specs.declared.operation.Outcome.TheVariants as outcome
+use Rattle.trace_book.specs.declared.record.Record.{Record}
+use Rattle.trace_book.specs.declared.record.Record.TheVariants as says
 use Rattle.call_rules.specs.declared.want.Want.TheVariants as want
-use Rattle.role_steps.specs.OperationEffects.{Mending, joined_contents}
+use Rattle.role_steps.specs.OperationEffects.{Mending}
 use Rattle.lawful_trace.specs.Tables.{call_of_act}
-use Rattle.locus_ids.specs.Sites.{has}
 use Rattle.commit_graph.specs.Vectors.{vector_of}
 use Rattle.commit_graph.specs.Versions.{is_proper_ancestor}
 use Rattle.role_steps.specs.Versions.{is_below}
@@ -43,6 +45,7 @@ use Rattle.tree_model.specs.Histories.{history, held, stamped_content}
 use Rattle.tree_model.specs.Opening.{is_given_by}
 use Rattle.lawful_trace.specs.TreeRows.{IsCallIn}
 use Rattle.tree_laws.specs.Printed.{entries}
+use Rattle.tree_laws.specs.Following.{MayTell}
 use Rattle.tree_laws.specs.Frames.{AllStay}
 use Rattle.tree_laws.specs.Instances.{held_in, instance_now, IsOpenAt, Stands}
 use Rattle.tree_laws.specs.Past.{WasGranted, WasReleased, WasBegun}
@@ -89,10 +92,10 @@ pub record StoreRests (c : Config) (trace : List Line) : Type 0 where
   pub first : (e : EpochId) (i : Serial) (x : Open) → instance_now c trace e i ≡ Some x → x.grant.mode ≡ mode.Make → epoch_of (entries trace) x.grant.ss ≡ Some e →
       ((stamp : Stamp) → Stands c trace x.grant.file stamp → ⊥) ⊎ (first_call c (entries trace) x.grant.file ≡ Some x.grant.call)
 
--- for each line that is told packet facts stay
+-- for each line that is told, where it may be told, packet facts stay
 abbrev pub AllStays : Config → ℕ → List Line → List Told → Type 0
 AllStays c n trace [] = Unit {0}
-AllStays c n trace (x ∷ xs) = AllStay c trace (record { number = n; told = x } ∷ trace) x × AllStays c n (record { number = n; told = x } ∷ trace) xs
+AllStays c n trace (x ∷ xs) = MayTell c trace x → AllStay c trace (record { number = n; told = x } ∷ trace) x × AllStays c n (record { number = n; told = x } ∷ trace) xs
 
 -- An instance that owes a version isn't open only to read, and the counter of its site can rise.
 pub record MayWrite (f : Frame) (i : Instance) : Type 0 where
@@ -109,19 +112,31 @@ pub record OpRests (c : Config) (trace : List Line) : Type 0 where
   pub done : (e : EpochId) (i : Serial) (number : ℕ) (o : Op) (r : Outcome) (x : Open) → WasDone trace e i number o r → instance_now c trace e i ≡ Some x → number ≤ x.work.ops
   -- who removes a name is the call that opened its directory
   pub removers : (e : EpochId) (i : Serial) (x : Open) (d : CallId) (number : ℕ) (name : List ℕ) (ino : ℕ) → instance_now c trace e i ≡ Some x → call_of_act (entries trace) e i number ≡ Some d → Asks c trace d (want.Do i (op.Remove name ino)) → d ≡ x.grant.call
-  -- the inode numbers of what is open have 16 bits
-  pub numbers : (e : EpochId) (i : Serial) (x : Open) → instance_now c trace e i ≡ Some x → x.grant.file.ino < 65536
+  -- the inode numbers of what is open, at a site that is in the epoch, have 16 bits
+  pub numbers : (e : EpochId) (i : Serial) (x : Open) → instance_now c trace e i ≡ Some x → epoch_of (entries trace) x.grant.ss ≡ Some e → x.grant.file.ino < 65536
 
 -- A mend here works on what the tree has kept: the contents of the kept versions of the directory, and the vectors of all that are kept
--- in the group; and no count of its rescue is at its end.
+-- in the group.
 pub record MendsAs (c : Config) (trace : List Line) (f : Frame) (file : FileId) (m : Mending) : Type 0 where
   pub contents : m.contents ≡ map (content_of (history c (entries trace)) file) (kept_of (history c (entries trace)) (tree_of c f.epoch file.group (entries trace)) file)
   pub kept : m.kept ≡ kept_vectors (history c (entries trace)) (tree_of c f.epoch file.group (entries trace))
-  pub unspent : rescue_is_spent (joined_contents m.contents) m.kept ≡ false
 
--- What an adoption wants beside: the file is for this site; a version that has a lower vector is an ancestor; and where an instance
--- of the file is open at this site, the version isn't above what the site has.
+-- a mend is refused for a count of its rescue that is at its end
+abbrev pub IsSpentMend : Op → Outcome → Type 0
+IsSpentMend op.Mend (outcome.No refusal.Spent) = Unit {0}
+IsSpentMend o r = ⊥
+
+abbrev pub UnspentRecord : Record → Type 0
+UnspentRecord (says.Act e inst n o r) = IsSpentMend o r → ⊥
+UnspentRecord _ = Unit {0}
+
+-- no mend is told to be refused so
+abbrev pub UnspentTold : Told → Type 0
+UnspentTold (Shown r) = UnspentRecord r
+UnspentTold _ = Unit {0}
+
+-- What an adoption wants beside: a version that has a lower vector is an ancestor; and where an instance of the file is open at this
+-- site, the version isn't above what the site has.
 pub record AdoptRests (c : Config) (trace : List Line) (f : Frame) (p : Pull) : Type 0 where
-  pub wanted : has p.set f.me ≡ true
   pub below : (old : Stamp) → Stands c trace p.file old → is_below (vector_of (history c (entries trace)) p.file old) (vector_of (history c (entries trace)) p.file p.stamp) ≡ true → is_proper_ancestor (history c (entries trace)) p.file old p.stamp ≡ true
   pub open_on : (x : Open) → Among x (tree_of c f.epoch p.file.group (entries trace)).instances → is_stored_at f.me p.file x ≡ true → is_above (history c (entries trace)) p.file (held c (entries trace) f.me p.file) p.stamp ≡ true → ⊥

@@ -13,7 +13,7 @@ ghost use Rattle.trace_book.specs.declared.operation.Op.{Op};
 ghost use Rattle.trace_book.specs.declared.operation.Op.TheVariants as op;
 ghost use Rattle.role_steps.specs.OperationEffects.{Mending};
 ghost use Rattle.role_steps.specs.Operations.{on_op};
-ghost use Rattle.role_steps.specs.Storage.{commit_record, copy_made, copy_of, free_pages, is_used, next_stamp, next_vector, on_close, on_closed_ok, on_look_ss, on_open_ss, on_pull, with_copy};
+ghost use Rattle.role_steps.specs.Storage.{commit_record, copy_made, copy_of, free_pages, instance_of, is_used, next_stamp, next_vector, on_close, on_closed_ok, on_look_ss, on_open_ss, on_pull, with_copy};
 ghost use Rattle.role_steps.specs.Adoption.{adopt_record, copy_adopted, is_above_own};
 ghost use Rattle.role_steps.specs.Own.{Every};
 ghost use Rattle.role_steps.specs.Pulling.{is_complete, on_notify, on_page};
@@ -36,12 +36,15 @@ ghost use Rattle.tree_model.specs.Packs.{packs_of};
 ghost use Rattle.tree_model.specs.Histories.{history};
 ghost use Rattle.tree_model.specs.Tree.{tree_of};
 ghost use Rattle.tree_model.specs.Working.{free_pages as tree_free};
+ghost use Rattle.call_rules.specs.declared.want.Want.TheVariants as want;
+ghost use Rattle.lawful_trace.specs.TreeRows.{IsCallIn};
+ghost use Rattle.tree_laws.specs.Calls.{Asks};
 ghost use Rattle.tree_laws.specs.Printed.{entries};
 ghost use Rattle.tree_laws.specs.Instances.{AsksOpen, IsUsed, Stands};
 ghost use Rattle.tree_laws.specs.Past.{WasReleased, WasShut};
 ghost use Rattle.tree_laws.specs.Packets.{CloseFact, NotifyFact, OpFact, OpenSsFact, PacketFact, PageFact, ServeFact};
 ghost use Rattle.order_laws.specs.Joining.{PacksAreOfSites};
-ghost use Rattle.store_laws.specs.Rests.{AdoptRests, AllStays, MayWrite, MendsAs, OpRests, StoreRests};
+ghost use Rattle.store_laws.specs.Rests.{AdoptRests, AllStays, MayWrite, MendsAs, OpRests, StoreRests, UnspentTold};
 
 /// What a storage site has by the trace stays when a line is told that isn't of its storage, neither of its instances nor an adoption: its disk holds what the site holds
 /// by the trace, and each instance that it has is the one tree's.
@@ -112,30 +115,31 @@ pub fn closes_come_as_they_may()
 pub fn pulls_are_of_known_versions()
     ensures stay { (c : Config) (older : List Line) (n : ℕ) (x : Told) → IsFollowed c older → MayTell c older x → AllStay c older (record { number = n; told = x } ∷ older) x → (f : Frame) (ps : List Pull) → PullsFact c f older ps → PullsFact c f (record { number = n; told = x } ∷ older) ps }
     ensures notices { (c : Config) (n : ℕ) (trace : List Line) → IsFollowed c trace → StoreRests c trace → (f : Frame) → FrameFact c trace f → (s : Store) → CopiesAreHeld c trace f.me s → (ps : List Pull) → PullsFact c f trace ps →
-        (from : ℕ) (file : FileId) (k : Kind) (set : Sites) (size : ℕ) (stamp : Stamp) (vector : List ℕ) (holder : ℕ) → NotifyFact c trace f.epoch file k set size stamp vector →
+        (from : ℕ) (file : FileId) (k : Kind) (set : Sites) (size : ℕ) (stamp : Stamp) (vector : List ℕ) (holder : ℕ) → NotifyFact c trace f.epoch f.me file k set size stamp vector →
         PullsFine c n trace f (on_notify f from (copy_of s file) (record { file = file; kind = k; set = set; size = size; stamp = stamp; vector = vector; holder = holder; content = [] }) ps) }
     ensures pages { (c : Config) (n : ℕ) (trace : List Line) → StoreRests c trace → (f : Frame) (ps : List Pull) → PullsFact c f trace ps → (file : FileId) (stamp : Stamp) (page : ℕ) (bytes : List ℕ) → PageFact c trace file stamp page bytes →
         PullsFine c n trace f (on_page f file stamp page bytes ps) }
 {}
 
 /// An operation at its storage site comes as it may: the next one in order gives what it gives in the one tree, as long as the room
-/// on the disk is the tree's; a commit is told with the version that it makes; the last one is answered again, and all others are
-/// ignored.
+/// on the disk is the tree's, and no mend is refused for a count that is at its end; a commit is told with the version that it makes;
+/// the last one is answered again, and all others are ignored.
 pub fn operations_come_as_they_may()
     ensures { (c : Config) (n : ℕ) (trace : List Line) → PacksAreOfSites c → IsFollowed c trace → StoreRests c trace → OpRests c trace → (f : Frame) → FrameFact c trace f → (s : Store) → StoreHeld c f trace s →
         ((group : ℕ) → free_pages s group ≡ tree_free (history c (entries trace)) (tree_of c f.epoch group (entries trace)) f.me) → ((i : Instance) → Among i s.instances → MayWrite f i) →
-        (m : Mending) (inst : Serial) → inst.us ≤ 16 → (number : ℕ) (o : Op) (seen : List ℕ) → OpFact c trace f.epoch f.me inst number o seen → ((i : Instance) → Among i s.instances → i.inst ≡ inst → o ≡ op.Mend → MendsAs c trace f i.file m) →
-        AllStays c n trace (on_op f m inst number o seen s).told → StoreFine c n trace f s (on_op f m inst number o seen s) }
+        (m : Mending) (inst : Serial) → inst.us ≤ 16 → (number : ℕ) (o : Op) (seen : List ℕ) → OpFact c trace f.epoch f.me inst number o seen →
+        ((i : Instance) → instance_of s inst ≡ Some i → o ≡ op.Mend → (d : CallId) → IsCallIn (entries trace) f.epoch d → Asks c trace d (want.Do inst op.Mend) → MendsAs c trace f i.file m) →
+        Every UnspentTold (on_op f m inst number o seen s).told → AllStays c n trace (on_op f m inst number o seen s).told → StoreFine c n trace f s (on_op f m inst number o seen s) }
 {}
 
 /// An adoption comes as it may, of a pull that has all its pages and stands above the site's own copy: the copy on the disk is then
 /// what the site holds, and the synchronization site is told so.
 pub fn adoptions_come_as_they_may()
     ensures may { (c : Config) (n : ℕ) (trace : List Line) → PacksAreOfSites c → IsFollowed c trace → StoreRests c trace → (f : Frame) → FrameFact c trace f → (s : Store) → StoreHeld c f trace s →
-        (p : Pull) → PullFact c trace f.epoch p → is_complete p ≡ true → AdoptRests c trace f p → is_above_own p (copy_of s p.file) ≡ true → MayTell c trace (Shown (adopt_record f p)) }
+        (p : Pull) → PullFact c trace f.epoch f.me p → is_complete p ≡ true → AdoptRests c trace f p → is_above_own p (copy_of s p.file) ≡ true → MayTell c trace (Shown (adopt_record f p)) }
     ensures held { (c : Config) (n : ℕ) (trace : List Line) → PacksAreOfSites c → IsFollowed c trace → StoreRests c trace → (f : Frame) → FrameFact c trace f → (s : Store) → StoreHeld c f trace s →
-        (p : Pull) → PullFact c trace f.epoch p → is_complete p ≡ true → AdoptRests c trace f p → is_above_own p (copy_of s p.file) ≡ true →
+        (p : Pull) → PullFact c trace f.epoch f.me p → is_complete p ≡ true → AdoptRests c trace f p → is_above_own p (copy_of s p.file) ≡ true →
         AllStay c trace (record { number = n; told = Shown (adopt_record f p) } ∷ trace) (Shown (adopt_record f p)) → StoreHeld c f (record { number = n; told = Shown (adopt_record f p) } ∷ trace) (with_copy (copy_adopted p) s) }
     ensures sent { (c : Config) (n : ℕ) (trace : List Line) → PacksAreOfSites c → IsFollowed c trace → StoreRests c trace → (f : Frame) → FrameFact c trace f → (s : Store) → StoreHeld c f trace s →
-        (p : Pull) → PullFact c trace f.epoch p → is_complete p ≡ true → AdoptRests c trace f p → is_above_own p (copy_of s p.file) ≡ true → Every (PacketFact c (record { number = n; told = Shown (adopt_record f p) } ∷ trace)) (to_sync f p.file.group (body.Have p.file p.stamp)) }
+        (p : Pull) → PullFact c trace f.epoch f.me p → is_complete p ≡ true → AdoptRests c trace f p → is_above_own p (copy_of s p.file) ≡ true → Every (PacketFact c (record { number = n; told = Shown (adopt_record f p) } ∷ trace)) (to_sync f p.file.group (body.Have p.file p.stamp)) }
 {}

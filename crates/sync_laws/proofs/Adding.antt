@@ -3,8 +3,7 @@ use Rattle.std.proofs.Common.{◌≡◌, ℕ, ◌==◌, Bool, true, false, cond,
 use Rattle.std.specs.Option.{is_some}
 use Rattle.locus_ids.specs.declared.config.Config.{Config}
 use Rattle.locus_ids.specs.declared.ids.Serial.{Serial}
-use Rattle.commit_graph.specs.Grants.{Opener}
-use Rattle.role_steps.specs.Opens.{open_key, open_row, openers as table_openers, with_open}
+use Rattle.role_steps.specs.Opens.{open_key, open_row, with_open}
 use Rattle.role_steps.specs.Own.{Every}
 use Rattle.role_steps.proofs.Rows.{found_row, passed_row}
 use Rattle.role_steps.specs.Tables.{row, with_latest}
@@ -14,14 +13,14 @@ use Rattle.role_steps.specs.declared.synchronizing.LastLook.{LastLook}
 use Rattle.role_steps.specs.declared.synchronizing.OpenRow.{OpenRow}
 use Rattle.role_steps.specs.declared.synchronizing.SyncTable.{SyncTable}
 use Rattle.the_run.specs.Worlds.{Line}
-use Rattle.tree_model.specs.State.{openers}
 use Rattle.tree_model.specs.Tree.{tree_of}
 use Rattle.tree_laws.specs.Following.{MayTell}
 use Rattle.tree_laws.specs.Frames.{VersionsStay}
 use Rattle.tree_laws.specs.Packets.{PacketFact, file_in}
 use Rattle.tree_laws.specs.Past.{Printed, WasNamedIn, NamesHere}
 use Rattle.tree_laws.specs.Printed.{entries}
-use Rattle.tree_laws.specs.Tables.{FileFact, RowFact, TableFact, early_packet}
+use Rattle.tree_laws.specs.Stores.{AreApart}
+use Rattle.tree_laws.specs.Tables.{FileFact, RowFact, TableFact, early_packet, named_openers, tree_openers}
 use Rattle.tree_laws.proofs.Boots.{every_both}
 use Rattle.tree_laws.proofs.Carried.{packet_stays}
 use Rattle.tree_laws.proofs.CarriedLooks.{More}
@@ -85,6 +84,23 @@ latest_other key x k (y ∷ ys) h = at (key y == key x) refl (latest_other key x
     at true e later = passed_row x (row key k ys) (key x == k) h ∙ sym (passed_row y (row key k ys) (key y == k) (other e))
     at false e later = ap (λ o. elim (key y == k) [ true ↦ Some y | false ↦ o ]) later
 
+-- no key stands twice
+other_keys : {A : Type 0} (key : A → ℕ) (x : A) (k : ℕ) (xs : List A) → (key x ≡ k → ⊥) → Every (λ (z : A). key z ≡ k → ⊥) xs → Every (λ (z : A). key z ≡ k → ⊥) (with_latest key x xs)
+other_keys key x k [] ne h = (ne, tt)
+other_keys {A = A} key x k (y ∷ ys) ne h = at (other_keys key x k ys ne h.1) (key y == key x)
+  where
+    at : Every (λ (z : A). key z ≡ k → ⊥) (with_latest key x ys) → (b : Bool) → Every (λ (z : A). key z ≡ k → ⊥) (elim b [ true ↦ x ∷ ys | false ↦ y ∷ with_latest key x ys ])
+    at later true = (ne, h.1)
+    at later false = (h.0, later)
+
+pub apart_latest : {A : Type 0} (key : A → ℕ) (x : A) (xs : List A) → AreApart key xs → AreApart key (with_latest key x xs)
+apart_latest key x [] h = (tt, tt)
+apart_latest {A = A} key x (y ∷ ys) h = at (apart_latest key x ys h.1) (key y == key x) refl
+  where
+    at : AreApart key (with_latest key x ys) → (b : Bool) → (key y == key x) ≡ b → AreApart key (elim b [ true ↦ x ∷ ys | false ↦ y ∷ with_latest key x ys ])
+    at later true t = (subst (λ (k : ℕ). Every (λ (z : A). key z ≡ k → ⊥) ys) (test_same (key y) (key x) t) h.0, h.1)
+    at later false t = (other_keys key x (key y) ys (λ e. true_false (sym (subst (λ (k : ℕ). (key y == k) ≡ true) (sym e) (test_own (key y))) ∙ t)) h.0, later)
+
 -- what is found stays found
 pub latest_found : {A : Type 0} (key : A → ℕ) (k : ℕ) (x : A) (xs : List A) → is_some (row key k xs) ≡ true → is_some (row key k (with_latest key x xs)) ≡ true
 latest_found key k x xs h = at (key x == k) refl
@@ -93,7 +109,7 @@ latest_found key k x xs h = at (key x == k) refl
     at true same = ap (λ (m : ℕ). is_some (row key m (with_latest key x xs))) (sym (test_same (key x) k same)) ∙ ap is_some (latest_same key x xs)
     at false other = ap is_some (latest_other key x k xs other) ∙ h
 
-pub openers_added : {A : Type 0} (p : A → Bool) (g : A → Opener) (xs : List A) (y : A) → map g (filter p (xs ++ y ∷ [])) ≡ map g (filter p xs) ++ cond (p y) (g y ∷ []) []
+pub openers_added : {A B : Type 0} (p : A → Bool) (g : A → B) (xs : List A) (y : A) → map g (filter p (xs ++ y ∷ [])) ≡ map g (filter p xs) ++ cond (p y) (g y ∷ []) []
 openers_added p g [] y = over (p y)
   where
     over : (b : Bool) → map g (cond b (y ∷ []) []) ≡ cond b (g y ∷ []) []
@@ -131,20 +147,23 @@ module _ (c : Config) (n : ℕ) (trace : List Line) (f : Frame) (tab : SyncTable
         two [] apart k = tt
         two (q ∷ qs) apart k = (open_row_stays c n x trace sv.followed may vs f tab.group unreleased q (unnamed q apart.0) k.0, two qs apart.1 k.1)
 
-    pub put_table : Every (RowFact c (More n x trace) f.epoch tab.group) (with_latest open_key r tab.opens) → ((ino : ℕ) → (ino ≡ 0 → ⊥) → table_openers (with_open r tab) (file_in tab.group ino) ≡ openers (tree_of c f.epoch tab.group (entries (More n x trace))) (file_in tab.group ino)) → TableFact c (More n x trace) f (with_open r tab)
+    pub put_table : Every (RowFact c (More n x trace) f.epoch tab.group) (with_latest open_key r tab.opens) → ((ino : ℕ) → (ino ≡ 0 → ⊥) → named_openers (with_open r tab) (file_in tab.group ino) ≡ tree_openers (tree_of c f.epoch tab.group (entries (More n x trace))) (file_in tab.group ino)) → TableFact c (More n x trace) f (with_open r tab)
     put_table opens openers_are = record {
       started = sv.table.started ∙ sym (started_told c n trace sv.followed f tab.group x unstarted);
       early = every_both (λ (e : Early). PacketFact c trace (early_packet f e)) (λ (e : Early). PacketFact c (More n x trace) (early_packet f e)) tab.early (λ e k. packet_stays c n x trace sv.followed may stay.stay (early_packet f e) k) sv.table.early;
+      early_here = sv.table.early_here;
       early_only = sv.table.early_only;
+      all = sv.table.all;
       rows = every_both (FileFact c trace f.epoch tab.group) (FileFact c (More n x trace) f.epoch tab.group) tab.files (file_row_stays c trace (More n x trace) vs f.epoch tab.group) sv.table.rows;
       rise = sv.table.rise;
       files = files_like c (More n x trace) f tab tab.early (with_latest open_key r tab.opens) tab.looks tab.started (files_stay c n x trace sv.followed may stay f tab unreleased unadopted tab.started (sym sv.table.started) sv.table.files);
       opens = opens;
+      apart = apart_latest open_key r tab.opens sv.table.apart;
       has = has_named;
       openers_are = openers_are;
       turns = λ us process small. sv.table.turns us process small ∙ sym (turn_told_same c n trace f tab.group x unlooked us process);
       looks = every_both (λ (z : LastLook). PacketFact c trace (packet f z.to z.body)) (λ (z : LastLook). PacketFact c (More n x trace) (packet f z.to z.body)) tab.looks (λ z k. packet_stays c n x trace sv.followed may stay.stay (packet f z.to z.body) k) sv.table.looks;
     }
 
-    pub added_table : row open_key (open_key r) tab.opens ≡ None → RowFact c (More n x trace) f.epoch tab.group r → ((ino : ℕ) → (ino ≡ 0 → ⊥) → table_openers (with_open r tab) (file_in tab.group ino) ≡ openers (tree_of c f.epoch tab.group (entries (More n x trace))) (file_in tab.group ino)) → TableFact c (More n x trace) f (with_open r tab)
+    pub added_table : row open_key (open_key r) tab.opens ≡ None → RowFact c (More n x trace) f.epoch tab.group r → ((ino : ℕ) → (ino ≡ 0 → ⊥) → named_openers (with_open r tab) (file_in tab.group ino) ≡ tree_openers (tree_of c f.epoch tab.group (entries (More n x trace))) (file_in tab.group ino)) → TableFact c (More n x trace) f (with_open r tab)
     added_table none fact openers_are = put_table (every_latest (RowFact c (More n x trace) f.epoch tab.group) open_key r tab.opens fact (others none)) openers_are

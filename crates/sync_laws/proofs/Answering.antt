@@ -9,12 +9,11 @@ use Rattle.locus_ids.specs.declared.ids.Mode.TheVariants as mode
 use Rattle.locus_ids.specs.declared.ids.Serial.{Serial}
 use Rattle.locus_ids.specs.declared.ids.Stamp.{Stamp}
 use Rattle.locus_ids.specs.declared.refusal.Refusal.{Refusal}
-use Rattle.commit_graph.specs.Grants.{Opener}
 use Rattle.trace_book.specs.declared.record.Record.TheVariants as says
 use Rattle.wire_messages.specs.declared.body.OpenedAs.{OpenedAs}
 use Rattle.wire_messages.specs.declared.body.OpenedAs.TheVariants as opened
 use Rattle.wire_messages.specs.declared.body.Opening.TheVariants as how
-use Rattle.role_steps.specs.Opens.{by_stage, granted_at_last, granted_row, grants_row, grants_user, is_open_on, numbered_file, on_opened, on_opened_of, open_key, open_row, opener_of, openers as table_openers, with_open}
+use Rattle.role_steps.specs.Opens.{by_stage, granted_at_last, granted_row, grants_row, grants_user, is_open_on, numbered_file, on_opened, on_opened_of, open_key, open_row, with_open}
 use Rattle.role_steps.specs.Tables.{row, with_latest}
 use Rattle.role_steps.specs.Views.{Frame, Told, Shown, serial_key}
 use Rattle.role_steps.specs.declared.synchronizing.OpenRow.{OpenRow}
@@ -26,13 +25,13 @@ use Rattle.tree_laws.specs.Doing.{TableFine}
 use Rattle.tree_laws.specs.Following.{MayTell, IsFollowed}
 use Rattle.tree_laws.specs.Packets.{MakesNow, OpenedFact, RefusedFull, file_in}
 use Rattle.tree_laws.specs.Past.{Printed, WasGranted, WasNamed, WasRefused, NamingRecord, GrantRecord, RefusalRecord}
-use Rattle.tree_laws.specs.Tables.{AskedFact, IsGrantedNow, RowFact, StageFact, TableFact}
+use Rattle.tree_laws.specs.Tables.{AsItsFile, AskedFact, IsGrantedNow, RowFact, StageFact, TableFact, named_openers, named_row}
 use Rattle.tree_laws.proofs.CarriedOpens.{was_then}
 use Rattle.tree_laws.proofs.Names.{some_is}
 use Rattle.tree_laws.proofs.Serials.{unnamed}
 use Rattle.sync_laws.specs.Opening.{IsFileMode}
 use Rattle.sync_laws.specs.Serving.{Serving}
-use Rattle.sync_laws.proofs.Adding.{every_latest, latest_found}
+use Rattle.sync_laws.proofs.Adding.{apart_latest, every_latest, latest_found}
 use Rattle.sync_laws.proofs.Again.{again}
 use Rattle.sync_laws.proofs.Files.{files_like}
 use Rattle.sync_laws.proofs.Looks.{sends_fine}
@@ -75,19 +74,19 @@ module _ (c : Config) (e : EpochId) (i : Serial) (d other : CallId) (request num
 
 -- ---- a row in the place of another ----
 
-openers_replaced : {A : Type 0} (key : A → ℕ) (p : A → Bool) (g : A → Opener) (x r : A) (xs : List A) → row key (key x) xs ≡ Some r → p x ≡ p r → g x ≡ g r → map g (filter p (with_latest key x xs)) ≡ map g (filter p xs)
-openers_replaced {A = A} key p g x r [] e passes same = absurd (none e)
+pub openers_replaced : {A B : Type 0} (key : A → ℕ) (p : A → Bool) (g : A → B) (x r : A) (xs : List A) → row key (key x) xs ≡ Some r → p x ≡ p r → g x ≡ g r → map g (filter p (with_latest key x xs)) ≡ map g (filter p xs)
+openers_replaced {A = A} {B = B} key p g x r [] e passes same = absurd (none e)
   where
     none : ◌≡◌ {A = Option A} None (Some r) → ⊥
     none k = cc
-openers_replaced {A = A} key p g x r (y ∷ ys) e passes same = at (key y == key x) e (λ k. openers_replaced key p g x r ys k passes same)
+openers_replaced {A = A} {B = B} key p g x r (y ∷ ys) e passes same = at (key y == key x) e (λ k. openers_replaced key p g x r ys k passes same)
   where
     swap : (b : Bool) → g x ≡ g y → map g (cond b (x ∷ filter p ys) (filter p ys)) ≡ map g (cond b (y ∷ filter p ys) (filter p ys))
-    swap true k = ap (λ (o : Opener). o ∷ map g (filter p ys)) k
+    swap true k = ap (λ (o : B). o ∷ map g (filter p ys)) k
     swap false k = refl
 
     front : (b : Bool) → map g (filter p (with_latest key x ys)) ≡ map g (filter p ys) → map g (cond b (y ∷ filter p (with_latest key x ys)) (filter p (with_latest key x ys))) ≡ map g (cond b (y ∷ filter p ys) (filter p ys))
-    front true k = ap (λ (os : List Opener). g y ∷ os) k
+    front true k = ap (λ (os : List B). g y ∷ os) k
     front false k = k
 
     at : (b : Bool) → ◌≡◌ {A = Option A} (elim b [ true ↦ Some y | false ↦ row key (key x) ys ]) (Some r) → (row key (key x) ys ≡ Some r → map g (filter p (with_latest key x ys)) ≡ map g (filter p ys))
@@ -95,15 +94,18 @@ openers_replaced {A = A} key p g x r (y ∷ ys) e passes same = at (key y == key
     at true k later = ap (λ (b : Bool). map g (cond b (x ∷ filter p ys) (filter p ys))) (passes ∙ ap p (sym (some_is y r k))) ∙ swap (p y) (same ∙ ap g (sym (some_is y r k)))
     at false k later = front (p y) (later k)
 
-pub changed_table : (c : Config) (trace : List Line) (f : Frame) (t : SyncTable) (r : OpenRow) → TableFact c trace f t → RowFact c trace f.epoch t.group r → ((ino : ℕ) → (ino ≡ 0 → ⊥) → table_openers (with_open r t) (file_in t.group ino) ≡ table_openers t (file_in t.group ino)) → TableFact c trace f (with_open r t)
+pub changed_table : (c : Config) (trace : List Line) (f : Frame) (t : SyncTable) (r : OpenRow) → TableFact c trace f t → RowFact c trace f.epoch t.group r → ((ino : ℕ) → (ino ≡ 0 → ⊥) → named_openers (with_open r t) (file_in t.group ino) ≡ named_openers t (file_in t.group ino)) → TableFact c trace f (with_open r t)
 changed_table c trace f t r k fact same = record {
   started = k.started;
   early = k.early;
+  early_here = k.early_here;
   early_only = k.early_only;
+  all = k.all;
   rows = k.rows;
   rise = k.rise;
   files = files_like c trace f t t.early (with_latest open_key r t.opens) t.looks t.started k.files;
   opens = every_latest (RowFact c trace f.epoch t.group) open_key r t.opens fact k.opens;
+  apart = apart_latest open_key r t.opens k.apart;
   has = λ i w. latest_found open_key (serial_key i) r t.opens (k.has i w);
   openers_are = λ ino some. same ino some ∙ k.openers_are ino some;
   turns = k.turns;
@@ -132,6 +134,13 @@ asked_granted c trace e r d mode.Read k a = a.0
 asked_granted c trace e r d mode.Write k a = a.0
 asked_granted c trace e r d mode.Resolve k a = a.0
 asked_granted c trace e r d mode.Mend k a = a.0
+
+asked_file : (c : Config) (trace : List Line) (e : EpochId) (r : OpenRow) (d : CallId) (m : Mode) → IsFileMode m → AskedFact c trace e r d m → AsItsFile c trace r d m
+asked_file c trace e r d mode.Make k a = absurd k
+asked_file c trace e r d mode.Read k a = (a.1.some.0, a.1.some.1, a.1.set_is, a.1.kind_is)
+asked_file c trace e r d mode.Write k a = (a.1.some.0, a.1.some.1, a.1.set_is, a.1.kind_is)
+asked_file c trace e r d mode.Resolve k a = (a.1.some.0, a.1.some.1, a.1.set_is, a.1.kind_is)
+asked_file c trace e r d mode.Mend k a = (a.1.some.0, a.1.some.1, a.1.set_is, a.1.kind_is)
 
 file_numbered : (m : Mode) (file : FileId) (ino : ℕ) → IsFileMode m → numbered_file m file ino ≡ file
 file_numbered mode.Make file ino k = absurd k
@@ -164,15 +173,22 @@ module _ (c : Config) (n : ℕ) (trace : List Line) (f : Frame) (tab : SyncTable
     abbrev As : FileId → ℕ → OpenRow
     As file size = record r { stage = stage.Granted; file = file; size = size }
 
-    as_granted : IsGrantedNow trace f.epoch r fact.call → (file : FileId) (size : ℕ) → file ≡ r.file → RowFact c trace f.epoch tab.group (As file size)
-    as_granted k file size e = subst (λ (g : FileId). RowFact c trace f.epoch tab.group (As g size)) (sym e) (record {
+    as_granted : IsGrantedNow trace f.epoch r fact.call → AsItsFile c trace r fact.call r.mode → (file : FileId) (size : ℕ) → file ≡ r.file → RowFact c trace f.epoch tab.group (As file size)
+    as_granted k lies file size e = subst (λ (g : FileId). RowFact c trace f.epoch tab.group (As g size)) (sym e) (record {
       call = fact.call;
       is_call = fact.is_call;
       group_is = fact.group_is;
-      stage = record { was_granted = k.was_granted; unreleased = k.unreleased };
+      stage = (record { was_granted = k.was_granted; unreleased = k.unreleased }, same_lies r.mode lies);
       vector_is = fact.vector_is;
       sees = fact.sees;
     })
+      where
+        same_lies : (m : Mode) → AsItsFile c trace r fact.call m → AsItsFile c trace (As r.file size) fact.call m
+        same_lies mode.Make a = a
+        same_lies mode.Read a = a
+        same_lies mode.Write a = a
+        same_lies mode.Resolve a = a
+        same_lies mode.Mend a = a
 
     opened_fine : r.stage ≡ stage.Asked → (ino size : ℕ) → TableFine c n trace f tab.group (grants_row f (granted_row r ino size) tab)
     opened_fine asked ino size = subst (λ (told : List Told). TableFine c n trace f tab.group (record { view = with_open new tab; sent = grants_user f new; told = told; written = None })) (sym (nothing_told f new r.mode file_mode))
@@ -185,10 +201,10 @@ module _ (c : Config) (n : ℕ) (trace : List Line) (f : Frame) (tab : SyncTable
         file_is = file_numbered r.mode r.file ino file_mode
 
         now : RowFact c trace f.epoch tab.group new
-        now = as_granted (asked_granted c trace f.epoch r fact.call r.mode file_mode (subst (StageFact c trace f.epoch r fact.call) asked fact.stage)) (numbered_file r.mode r.file ino) size file_is
+        now = as_granted (asked_granted c trace f.epoch r fact.call r.mode file_mode (subst (StageFact c trace f.epoch r fact.call) asked fact.stage)) (asked_file c trace f.epoch r fact.call r.mode file_mode (subst (StageFact c trace f.epoch r fact.call) asked fact.stage)) (numbered_file r.mode r.file ino) size file_is
 
-        openers_same : (file : FileId) → table_openers (with_open new tab) file ≡ table_openers tab file
-        openers_same file = openers_replaced open_key (is_open_on file) opener_of new r tab.opens (ap (λ (k : ℕ). row open_key k tab.opens) key_is ∙ found)
+        openers_same : (file : FileId) → named_openers (with_open new tab) file ≡ named_openers tab file
+        openers_same file = openers_replaced open_key (is_open_on file) named_row new r tab.opens (ap (λ (k : ℕ). row open_key k tab.opens) key_is ∙ found)
             (over file_is ∙ sym (ap (λ (s : OpenStage). is_open_on file (record r { stage = s })) asked)) refl
           where
             over : numbered_file r.mode r.file ino ≡ r.file → is_open_on file new ≡ is_open_on file (record r { stage = stage.Asked })

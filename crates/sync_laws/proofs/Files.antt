@@ -1,8 +1,7 @@
 -- What a table has of files stays: which versions are known and kept, and who holds which.
-use Rattle.std.proofs.Common.{◌≡◌, ℕ, ◌==◌, Bool, true, false, List, ◌∷◌, length, map, Option, Some, None, refl, sym, ap, ◌∙◌, subst, ◌&&◌, ⊎_elim, ◌⊎◌, inl, inr}
+use Rattle.std.proofs.Common.{◌≡◌, ℕ, Bool, true, false, List, length, map, Option, Some, None, refl, sym, ap, ◌∙◌, subst, ⊎_elim, ◌⊎◌, inl, inr}
 use Rattle.std.proofs.lemmas.List.{length-map}
 use Rattle.std.specs.List.{AllByRecursion}
-use Rattle.locus_ids.specs.Sites.{has}
 use Rattle.locus_ids.specs.declared.config.Config.{Config}
 use Rattle.locus_ids.specs.declared.ids.Brought.{Brought}
 use Rattle.locus_ids.specs.declared.ids.EpochId.{EpochId}
@@ -10,7 +9,6 @@ use Rattle.locus_ids.specs.declared.ids.FileId.{FileId}
 use Rattle.locus_ids.specs.declared.ids.Stamp.{Stamp}
 use Rattle.commit_graph.specs.Versions.{kept, is_in as in_history}
 use Rattle.commit_graph.specs.declared.history.Version.{Version}
-use Rattle.trace_book.specs.Same.{same_epoch}
 use Rattle.trace_book.specs.declared.record.Record.{Record}
 use Rattle.trace_book.specs.declared.record.Record.TheVariants as says
 use Rattle.role_steps.specs.Own.{Every}
@@ -24,7 +22,6 @@ use Rattle.role_steps.specs.declared.synchronizing.SyncTable.{SyncTable}
 use Rattle.role_steps.specs.declared.synchronizing.VersionRow.{VersionRow}
 use Rattle.the_run.specs.Worlds.{Line}
 use Rattle.tree_model.specs.Epochs.{has_joined, is_in}
-use Rattle.tree_model.specs.Folds.{Trace}
 use Rattle.tree_model.specs.Histories.{history}
 use Rattle.tree_model.specs.Packs.{has_pack}
 use Rattle.tree_model.specs.State.{TreeState, held_at, is_named, stamps_of}
@@ -35,9 +32,10 @@ use Rattle.tree_laws.specs.Following.{MayTell, IsFollowed}
 use Rattle.tree_laws.specs.Frames.{IsFresh, VersionsStay}
 use Rattle.tree_laws.specs.Instances.{held_in, IsStarted}
 use Rattle.tree_laws.specs.Packets.{file_in}
-use Rattle.tree_laws.specs.Printed.{entries, onto_entries}
-use Rattle.tree_laws.specs.Tables.{VersionFact, FileFact, HoldingFact, IsAhead, IsNoted, IsStill, ExactFact, StartedFiles, ReportedFiles, FilesFact, row_stamp}
+use Rattle.tree_laws.specs.Printed.{entries}
+use Rattle.tree_laws.specs.Tables.{VersionFact, FileFact, HoldingFact, IsAhead, IsNoted, IsStill, ExactFact, StartedFiles, HasReported, HoldsJust, ReportedFiles, FilesFact, row_stamp}
 use Rattle.tree_laws.proofs.Boots.{every_both}
+use Rattle.tree_laws.proofs.Carried.{joined_stays}
 use Rattle.tree_laws.proofs.CarriedLooks.{More}
 use Rattle.tree_laws.proofs.CarriedVersions.{version_stays}
 use Rattle.tree_laws.proofs.Kinship.{tree_epoch_is, tree_group_is}
@@ -48,7 +46,7 @@ use Rattle.order_laws.specs.Joining.{PacksAreOfSites}
 use Rattle.order_laws.proofs.Joining.{no_pack_comes}
 use Rattle.order_laws.proofs.Keeping.{kept_same, all_others}
 use Rattle.order_laws.proofs.Knowing.{tree_config, rows_sound}
-use Rattle.order_laws.proofs.Standing.{KnownStands, later_true}
+use Rattle.order_laws.proofs.Standing.{KnownStands}
 use Rattle.order_laws.proofs.Started.{open_started}
 use Rattle.sync_laws.specs.Staying.{Starts, Releases, Adopts, BringsNothing, FilesStay}
 use Rattle.sync_laws.proofs.Rows.{row_key_is}
@@ -72,6 +70,7 @@ module _ (c : Config) (old new : List Line) (v : VersionsStay c old new) where
     keeps = every_both (VersionFact c old (file_in group r.ino)) (VersionFact c new (file_in group r.ino)) r.kept (version_row (file_in group r.ino)) k.keeps;
     holders = every_both (HoldingFact c old e (file_in group r.ino)) (HoldingFact c new e (file_in group r.ino)) r.holders (λ h a. v.have e h.site (file_in group r.ino) h.stamp a) k.holders;
     held = k.held;
+    orderly = k.orderly;
   }
 
 -- ---- the tree of a table ----
@@ -101,7 +100,7 @@ module _ (c : Config) (n : ℕ) (older : List Line) (h : IsFollowed c older) (f 
     known_told (Shown r) may apart = known_same (history c (entries older)) t f group (tree_epoch_is c f.epoch group (entries older)) (tree_group_is c f.epoch group (entries older)) r apart (without r may)
     known_told _ may apart = refl
 
-    candidates_told : (x : Told) → MayTell c older x → (Releases f group x → ⊥) → (ino : ℕ) → candidates c (entries (More n x older)) f.epoch (file_in group ino) ≡ candidates c (entries older) f.epoch (file_in group ino)
+    pub candidates_told : (x : Told) → MayTell c older x → (Releases f group x → ⊥) → (ino : ℕ) → candidates c (entries (More n x older)) f.epoch (file_in group ino) ≡ candidates c (entries older) f.epoch (file_in group ino)
     candidates_told x may apart ino = ap (λ (bs : List Brought). stamps_of bs ino) (known_told x may apart)
 
     kept_record : (r : Record) → MayTell c older (Shown r) → IsFresh c older (Shown r) → (Releases f group (Shown r) → ⊥) → (ino : ℕ) → kept_in c (entries (More n (Shown r) older)) f.epoch (file_in group ino) ≡ kept_in c (entries older) f.epoch (file_in group ino)
@@ -163,7 +162,7 @@ module _ (c : Config) (n : ℕ) (older : List Line) (h : IsFollowed c older) (f 
         nothing same k = subst (λ (y : EpochId). IsStarted c older y group → held_in c (entries (More n (Shown (says.Join s e m)) older)) y s (file_in group row.ino) ≡ held_in c (entries older) y s (file_in group row.ino)) same (k (file_in group row.ino)) started
     still_record r may stay apart row kept_is site still puts = absurd puts
 
-    still_told : (x : Told) → MayTell c older x → FilesStay c older (More n x older) x → (Adopts f group x → ⊥) → (row : FileRow) → map row_stamp row.kept ≡ kept_in c (entries older) f.epoch (file_in group row.ino) → (site : ℕ) → IsStill f.me row site
+    pub still_told : (x : Told) → MayTell c older x → FilesStay c older (More n x older) x → (Adopts f group x → ⊥) → (row : FileRow) → map row_stamp row.kept ≡ kept_in c (entries older) f.epoch (file_in group row.ino) → (site : ℕ) → IsStill f.me row site
         → (held_in c (entries (More n x older)) f.epoch site (file_in group row.ino) ≡ held_in c (entries older) f.epoch site (file_in group row.ino)) ⊎ IsAhead c (More n x older) f.epoch site (file_in group row.ino)
     still_told (Shown r) may stay apart row kept_is site still = over (held_moves (history c (entries older)) t r site row.ino)
       where
@@ -222,14 +221,6 @@ module _ (c : Config) (n : ℕ) (older : List Line) (h : IsFollowed c older) (f 
         over (inr moves) = absurd (there_record r may site ino joined moves)
     there_told _ may site ino joined = refl
 
-joined_record : (line : ℕ) (r : Record) (before : Trace) (site : ℕ) (e : EpochId) → has_joined before site e ≡ true → has_joined (record { line = line; what = r } ∷ before) site e ≡ true
-joined_record line (says.Join s d m) before site e k = later_true ((s == site) && same_epoch d e) (has_joined before site e) k
-joined_record line _ before site e k = k
-
-joined_told : (n : ℕ) (x : Told) (before : Trace) (site : ℕ) (e : EpochId) → has_joined before site e ≡ true → has_joined (onto_entries n x before) site e ≡ true
-joined_told n (Shown r) before site e k = joined_record n r before site e k
-joined_told n _ before site e k = k
-
 -- ---- the files of a table ----
 
 module _ (c : Config) (n : ℕ) (x : Told) (older : List Line) (h : IsFollowed c older) (may : MayTell c older x) (stay : FilesStay c older (More n x older) x) (f : Frame) (tab : SyncTable) (unreleased : Releases f tab.group x → ⊥) (apart : Adopts f tab.group x → ⊥) where
@@ -244,16 +235,20 @@ module _ (c : Config) (n : ℕ) (x : Told) (older : List Line) (h : IsFollowed c
       its ino r found = subst (λ (k : ℕ). map row_stamp r.kept ≡ kept_in c (entries older) f.epoch (file_in tab.group k)) (sym (row_key_is row_ino ino tab.files r found)) (subst (λ (o : Option FileRow). map row_stamp (kept_rows o) ≡ kept_in c (entries older) f.epoch (file_in tab.group ino)) found (s.kept_is ino))
 
   abbrev By : List Line → FileRow → VersionRow → Type 0
-  By trace r v = (site : ℕ) × (has tab.reported site ≡ true) × (held_in c (entries trace) f.epoch site (file_in tab.group r.ino) ≡ Some v.stamp)
+  By trace r v = (site : ℕ) × HasReported tab site × (held_in c (entries trace) f.epoch site (file_in tab.group r.ino) ≡ Some v.stamp)
 
   abbrev BroughtBy : List Line → FileRow → Type 0
   BroughtBy trace r = Every (By trace r) r.versions
 
+  abbrev HoldJust : List Line → FileRow → Type 0
+  HoldJust trace r = Every (HoldsJust c trace f tab r) r.holders
+
   reported_stay : (tree_of c f.epoch tab.group (entries older)).started ≡ false → ReportedFiles c older f tab → ReportedFiles c (More n x older) f tab
   reported_stay waits s = record {
-    joined = λ site k. joined_told n x (entries older) site f.epoch (s.joined site k);
+    joined = λ site k. joined_stays n x older site f.epoch (s.joined site k);
     brought = λ site ino stamp k held. s.brought site ino stamp k (sym (there_told c n older h f tab.group waits x may site ino (s.joined site k)) ∙ held);
     known = every_both (BroughtBy older) (BroughtBy (More n x older)) tab.files (λ r. every_both (By older r) (By (More n x older) r) r.versions (λ v k. (k.0, k.1, there_told c n older h f tab.group waits x may k.0 r.ino (s.joined k.0 k.1) ∙ k.2))) s.known;
+    holds = every_both (HoldJust older) (HoldJust (More n x older)) tab.files (λ r. every_both (HoldsJust c older f tab r) (HoldsJust c (More n x older) f tab r) r.holders (λ q k. (k.0, there_told c n older h f tab.group waits x may q.site r.ino (s.joined q.site k.0) ∙ k.1))) s.holds;
   }
 
   pub files_stay : (b : Bool) → (tree_of c f.epoch tab.group (entries older)).started ≡ b → FilesFact c older f tab b → FilesFact c (More n x older) f tab b
@@ -263,4 +258,4 @@ module _ (c : Config) (n : ℕ) (x : Told) (older : List Line) (h : IsFollowed c
 -- a table's files, where its requests, its opens and its looks are others
 pub files_like : (c : Config) (trace : List Line) (f : Frame) (t : SyncTable) (early : List Early) (opens : List OpenRow) (looks : List LastLook) (b : Bool) → FilesFact c trace f t b → FilesFact c trace f (record t { early = early; opens = opens; looks = looks }) b
 files_like c trace f t early opens looks true s = record { known = s.known; kept_is = s.kept_is; exact = s.exact }
-files_like c trace f t early opens looks false s = record { joined = s.joined; brought = s.brought; known = s.known }
+files_like c trace f t early opens looks false s = record { joined = s.joined; brought = s.brought; known = s.known; holds = s.holds }

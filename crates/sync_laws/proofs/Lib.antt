@@ -1,4 +1,6 @@
 pub mod Rows
+pub mod Highest
+pub mod Orderly
 pub mod Members
 pub mod Trees
 pub mod Held

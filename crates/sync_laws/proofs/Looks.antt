@@ -46,7 +46,7 @@ use Rattle.tree_laws.specs.Packets.{PacketFact, IsCallOf, LooksNow, LookFact, Lo
 use Rattle.tree_laws.specs.Past.{WasLooked}
 use Rattle.tree_laws.specs.Printed.{entries}
 use Rattle.tree_laws.specs.Processes.{IsUpTo, IsUnder}
-use Rattle.tree_laws.specs.Tables.{FileFact, RowFact, StartedFiles, FilesFact, Turn, TableFact, VersionFact, early_packet, is_look_of, last_turn, row_stamp, turn_of}
+use Rattle.tree_laws.specs.Tables.{FileFact, RowFact, StartedFiles, FilesFact, Turn, TableFact, VersionFact, early_packet, is_look_of, last_turn, row_stamp, turn_of, IsRequestIn, WaitsIn}
 use Rattle.tree_laws.proofs.Boots.{every_both}
 use Rattle.tree_laws.proofs.Carried.{packet_stays}
 use Rattle.tree_laws.proofs.CarriedLooks.{More, call_of_stays}
@@ -76,19 +76,22 @@ use Rattle.sync_laws.proofs.Served.{ServedWell, AsksKept, AllHeld, served_well}
 pub sends_fine : (c : Config) (n : ℕ) (trace : List Line) (f : Frame) (t : SyncTable) (ps : List Packet) (u : SyncTable) → u.group ≡ t.group → TableFact c trace f u → Every (PacketFact c trace) ps → TableFine c n trace f t.group (sends ps u)
 sends_fine c n trace f t ps u same k sent = record { told = tt; own = tt; view = record { group_is = same; table = k }; sent = sent; written = tt }
 
-pub early_fact : (c : Config) (trace : List Line) (f : Frame) (t : SyncTable) (us process : ℕ) (b : Body) → t.started ≡ false → PacketFact c trace (early_packet f (record { site = us; process = process; body = b })) → TableFact c trace f t → TableFact c trace f (waits_early us process b t)
-early_fact c trace f t us process b waits p k = over (list_any (is_early_of us process) t.early)
+pub early_fact : (c : Config) (trace : List Line) (f : Frame) (t : SyncTable) (us process : ℕ) (b : Body) → t.started ≡ false → IsRequestIn t.group b → PacketFact c trace (early_packet f (record { site = us; process = process; body = b })) → TableFact c trace f t → TableFact c trace f (waits_early us process b t)
+early_fact c trace f t us process b waits here p k = over (list_any (is_early_of us process) t.early)
   where
     over : (x : Bool) → TableFact c trace f (cond x t (record t { early = t.early ++ record { site = us; process = process; body = b } ∷ [] }))
     over true = k
     over false = record {
       started = k.started;
       early = every_added (λ (e : Early). PacketFact c trace (early_packet f e)) t.early (record { site = us; process = process; body = b }) k.early p;
+      early_here = every_added (WaitsIn t.group) t.early (record { site = us; process = process; body = b }) k.early_here here;
       early_only = λ s. absurd (true_false (sym s ∙ waits));
+      all = λ s. absurd (true_false (sym s ∙ waits));
       rows = k.rows;
       rise = k.rise;
       files = files_like c trace f t (t.early ++ record { site = us; process = process; body = b } ∷ []) t.opens t.looks t.started k.files;
       opens = k.opens;
+      apart = k.apart;
       has = k.has;
       openers_are = k.openers_are;
       turns = k.turns;
@@ -214,11 +217,14 @@ module _ (c : Config) (n : ℕ) (trace : List Line) (f : Frame) (tab : SyncTable
         after a p = record {
           started = sv.table.started;
           early = every_both (λ (e : Early). PacketFact c trace (early_packet f e)) (λ (e : Early). PacketFact c (More n x trace) (early_packet f e)) tab.early (λ e k. packet_stays c n x trace sv.followed may stay.stay (early_packet f e) k) sv.table.early;
+          early_here = sv.table.early_here;
           early_only = sv.table.early_only;
+          all = sv.table.all;
           rows = every_both (FileFact c trace f.epoch tab.group) (FileFact c (More n x trace) f.epoch tab.group) tab.files (file_row_stays c trace (More n x trace) vs f.epoch tab.group) sv.table.rows;
           rise = sv.table.rise;
           files = files_like c (More n x trace) f tab tab.early tab.opens (with_row look_key (last_look us l a) tab.looks) tab.started (files_stay c n x trace sv.followed may stay f tab (λ k. k) (λ k. k) tab.started (sym sv.table.started) sv.table.files);
           opens = every_both (RowFact c trace f.epoch tab.group) (RowFact c (More n x trace) f.epoch tab.group) tab.opens (λ r k. open_row_stays c n x trace sv.followed may vs f tab.group (λ z. z) r (λ z. z) k) sv.table.opens;
+          apart = sv.table.apart;
           has = λ i w. sv.table.has i (names_stay n trace f tab.group x (λ k. k) i w);
           openers_are = sv.table.openers_are;
           turns = turns a;
@@ -340,4 +346,4 @@ module _ (c : Config) (n : ℕ) (trace : List Line) (f : Frame) (tab : SyncTable
       over : (b : Bool) → tab.started ≡ b → TableFine c n trace f tab.group (elim b [ true ↦ takes_look f us l tab | false ↦ quiet (waits_early us l.process (body.Look l.call l.process l.request l.take l.file l.what) tab) ])
       over true e = takes_fine e us l group_is k.call k.is_call (subst (λ (x : CallId). ((result : Served) × WasLooked trace f.epoch x l.request l.take l.file l.what result) ⊎ LooksNow c trace x l.request l.take l.file l.what) (sym (its e us l group_is k.call k.is_call)) k.stands)
       over false e = sends_fine c n trace f tab [] (waits_early us l.process (body.Look l.call l.process l.request l.take l.file l.what) tab) (early_group us l.process (body.Look l.call l.process l.request l.take l.file l.what) tab)
-          (early_fact c trace f tab us l.process (body.Look l.call l.process l.request l.take l.file l.what) e k sv.table) tt
+          (early_fact c trace f tab us l.process (body.Look l.call l.process l.request l.take l.file l.what) e (sym group_is) k sv.table) tt

@@ -15,7 +15,7 @@ use Rattle.commit_graph.specs.Versions.{same_file}
 use Rattle.dir_format.specs.Entries.{nothing_seen}
 use Rattle.wire_messages.specs.declared.body.Body.TheVariants as body
 use Rattle.wire_messages.specs.declared.body.Opening.TheVariants as how
-use Rattle.role_steps.specs.Opens.{OpenRequest, Denies, asks_row, asks_storage, asked_row, call_id, decides, decision, is_open_on, make_at, on_open_of, open_key, open_row, opener_of, openers as table_openers, repeats_open, takes_open, with_open}
+use Rattle.role_steps.specs.Opens.{OpenRequest, Denies, asks_row, asks_storage, asked_row, call_id, decides, decision, is_open_on, make_at, on_open_of, open_key, open_row, repeats_open, takes_open, with_open}
 use Rattle.role_steps.specs.Requests.{opening_of}
 use Rattle.trace_book.specs.declared.call.OpenMode.TheVariants as words
 use Rattle.trace_book.specs.declared.call.OpenMode.{OpenMode}
@@ -38,7 +38,7 @@ use Rattle.tree_laws.specs.Instances.{AsksOpen, IsOpening}
 use Rattle.tree_laws.specs.Packets.{IsCallOf, MakesNow, OpenFact, serial_of, file_in}
 use Rattle.tree_laws.specs.Past.{WasNamedIn}
 use Rattle.tree_laws.specs.Printed.{entries}
-use Rattle.tree_laws.specs.Tables.{RowFact}
+use Rattle.tree_laws.specs.Tables.{RowFact, named_openers, named_row}
 use Rattle.call_rules.specs.declared.want.Want.{Want}
 use Rattle.call_rules.specs.declared.want.Want.TheVariants as want
 use Rattle.tree_laws.proofs.Kinship.{tree_group_is}
@@ -164,16 +164,16 @@ module _ (c : Config) (n : ℕ) (trace : List Line) (f : Frame) (tab : SyncTable
         call = d;
         is_call = its_here;
         group_is = group_is;
-        stage = record { make = now; call_is = refl; request_is = refl; file_is = refl; parents_are = refl };
+        stage = record { make = now; call_is = refl; request_is = refl; file_is = refl; parents_are = refl; stamp_is = refl };
         vector_is = (none_seen 16, refl);
         sees = tt;
       }
 
       -- a make that has no number yet opens no file
-      openers_same : (ino : ℕ) → (ino ≡ 0 → ⊥) → table_openers (with_open asked tab) (file_in tab.group ino) ≡ table_openers tab (file_in tab.group ino)
+      openers_same : (ino : ℕ) → (ino ≡ 0 → ⊥) → named_openers (with_open asked tab) (file_in tab.group ino) ≡ named_openers tab (file_in tab.group ino)
       openers_same ino some =
-          ap (λ (rs : List OpenRow). map opener_of (filter (is_open_on (file_in tab.group ino)) rs)) (latest_new open_key asked tab.opens none)
-          ∙ (openers_added (is_open_on (file_in tab.group ino)) opener_of tab.opens asked ∙ (ap (λ (b : Bool). table_openers tab (file_in tab.group ino) ++ cond (b && true) (opener_of asked ∷ []) []) apart ∙ nil_after (table_openers tab (file_in tab.group ino))))
+          ap (λ (rs : List OpenRow). map named_row (filter (is_open_on (file_in tab.group ino)) rs)) (latest_new open_key asked tab.opens none)
+          ∙ (openers_added (is_open_on (file_in tab.group ino)) named_row tab.opens asked ∙ (ap (λ (b : Bool). named_openers tab (file_in tab.group ino) ++ cond (b && true) (named_row asked ∷ []) []) apart ∙ nil_after (named_openers tab (file_in tab.group ino))))
         where
           apart : same_file file (file_in tab.group ino) ≡ false
           apart = over (same_file file (file_in tab.group ino)) refl
@@ -217,4 +217,4 @@ make_fine c n trace f tab sv makes us serial number process request file set k g
         (subst (λ (x : CallId). WasNamedIn trace f.epoch file.group (serial_of us serial) ⊎ AsksOpen c trace f.epoch x request serial file (how.Make set k)) (sym (its c n trace f tab sv e us serial number process request file group_is fact.call fact.is_call)) fact.stands)
         (open_row tab (serial_of us serial)) refl
     over false e = sends_fine c n trace f tab [] (waits_early us process (body.Open serial number process request file (how.Make set k)) tab) (early_group us process (body.Open serial number process request file (how.Make set k)) tab)
-        (early_fact c trace f tab us process (body.Open serial number process request file (how.Make set k)) e fact sv.table) tt
+        (early_fact c trace f tab us process (body.Open serial number process request file (how.Make set k)) e (sym group_is) fact sv.table) tt

@@ -1,7 +1,8 @@
 -- Whom a synchronization site notifies it tells of the only kept version, which is known in the epoch.
-use Rattle.std.proofs.Common.{◌≡◌, ℕ, ◌<◌, ◌==◌, ◌||◌, not, Bool, true, false, cond, List, [], ◌∷◌, length, map, filter, Option, Some, None, refl, sym, ap, ◌∙◌, subst, arith}
+use Rattle.std.proofs.Common.{◌≡◌, ℕ, ◌<◌, ◌==◌, ◌&&◌, ◌||◌, not, Bool, true, false, cond, List, [], ◌∷◌, length, map, filter, Option, Some, None, refl, sym, ap, ◌∙◌, subst, arith}
 use Rattle.std.proofs.lemmas.Bool.Decides.{nat_tests}
 use Rattle.std.specs.List.{flat_map}
+use Rattle.locus_ids.specs.Sites.{has}
 use Rattle.locus_ids.specs.declared.config.Config.{Config}
 use Rattle.locus_ids.specs.declared.ids.FileId.{FileId}
 use Rattle.locus_ids.specs.declared.ids.Stamp.{Stamp}
@@ -10,12 +11,12 @@ use Rattle.role_steps.specs.Notices.{lagging, notice, notices_of, notices_by, fi
 use Rattle.role_steps.specs.Own.{Every}
 use Rattle.role_steps.specs.Reports.{sync_repeats}
 use Rattle.role_steps.specs.Tables.{row}
-use Rattle.role_steps.specs.Versions.{chosen_site, file_row, holders_of, kept, row_ino}
-use Rattle.role_steps.specs.Views.{Frame}
+use Rattle.role_steps.specs.Versions.{is_among, chosen_site, file_row, holders_of, kept, row_ino}
+use Rattle.role_steps.specs.Views.{Frame, all_sites, is_member, members_of}
 use Rattle.role_steps.specs.declared.synchronizing.FileRow.{FileRow}
 use Rattle.role_steps.specs.declared.synchronizing.SyncTable.{SyncTable}
 use Rattle.role_steps.specs.declared.synchronizing.VersionRow.{VersionRow}
-use Rattle.role_steps.proofs.Sending.{every_append, every_map}
+use Rattle.role_steps.proofs.Sending.{every_append}
 use Rattle.the_run.specs.Worlds.{Line}
 use Rattle.tree_model.specs.Files.{HeldVersion}
 use Rattle.tree_model.specs.Histories.{history}
@@ -25,6 +26,7 @@ use Rattle.tree_laws.specs.Instances.{IsKnown}
 use Rattle.tree_laws.specs.Packets.{NotifyFact, PacketFact, file_in}
 use Rattle.tree_laws.specs.Printed.{entries}
 use Rattle.tree_laws.specs.Tables.{AreRising, FileFact, FilesFact, StartedFiles, TableFact, VersionFact, row_stamp}
+use Rattle.tree_laws.proofs.Boots.{every_filter, every_passes}
 use Rattle.tree_laws.proofs.Names.{test_own}
 use Rattle.sync_laws.proofs.Served.{stamp_own}
 
@@ -71,6 +73,15 @@ kept_is_known c trace f file s e = has_filtered (λ a. not (is_covered (history 
 
 -- ---- notices ----
 
+-- who lags is one of the file's sites
+lagging_wanted : (f : Frame) (r : FileRow) (holders : List ℕ) → Every (λ (s : ℕ). has r.set s ≡ true) (lagging f r holders)
+lagging_wanted f r holders = every_filter (λ (s : ℕ). has r.set s ≡ true) (λ s. not (is_among s holders)) (members_of f.members r.set)
+    (every_passes (λ (s : ℕ). has r.set s ≡ true) (λ s. has r.set s && is_member f.members s) (λ s e. first_of (has r.set s) (is_member f.members s) e) all_sites)
+  where
+    first_of : (a b : Bool) → a && b ≡ true → a ≡ true
+    first_of true b e = refl
+    first_of false b e = absurd (cc)
+
 module _ (c : Config) (trace : List Line) (f : Frame) (t : SyncTable) (k : TableFact c trace f t) (started : t.started ≡ true) where
   files : StartedFiles c trace f t
   files = subst (FilesFact c trace f t) started k.files
@@ -86,8 +97,8 @@ module _ (c : Config) (trace : List Line) (f : Frame) (t : SyncTable) (k : Table
       only : kept_in c (entries trace) f.epoch (file_in t.group r.ino) ≡ v.stamp ∷ []
       only = sym kept_are ∙ ap (λ (vs : List VersionRow). map row_stamp vs) one
 
-      notify : NotifyFact c trace f.epoch (file_in t.group r.ino) r.kind r.set v.size v.stamp v.vector
-      notify = record {
+      notify : (to : ℕ) → has r.set to ≡ true → NotifyFact c trace f.epoch to (file_in t.group r.ino) r.kind r.set v.size v.stamp v.vector
+      notify to wanted = record {
         started = sym k.started ∙ started;
         known = kept_is_known c trace f (file_in t.group r.ino) v.stamp (ap (λ (ss : List Stamp). has_stamp ss v.stamp) only ∙ ap (λ (b : Bool). b || false) (stamp_own v.stamp));
         single = ap length only;
@@ -98,11 +109,16 @@ module _ (c : Config) (trace : List Line) (f : Frame) (t : SyncTable) (k : Table
         set_is = ap (λ (x : HeldVersion). x.set) version.is_version.same ∙ sym fact.set_is;
         vector_is = sym (ap (λ (x : VersionRow). x.vector) version.same);
         size_is = sym (ap (λ (x : VersionRow). x.size) version.same);
+        wanted = wanted;
       }
 
       by_holder : (o : Option ℕ) → Every (PacketFact c trace) (notices_of f t.group r v o)
       by_holder None = tt
-      by_holder (Some holder) = every_map (PacketFact c trace) (notice f t.group r v holder) (lagging f r (holders_of r v.stamp)) (λ s. notify)
+      by_holder (Some holder) = each (lagging f r (holders_of r v.stamp)) (lagging_wanted f r (holders_of r v.stamp))
+        where
+          each : (xs : List ℕ) → Every (λ (s : ℕ). has r.set s ≡ true) xs → Every (PacketFact c trace) (map (notice f t.group r v holder) xs)
+          each [] h = tt
+          each (x ∷ xs) h = (notify x h.0, each xs h.1)
 
     by_kept : (vs : List VersionRow) → r.kept ≡ vs → Every (PacketFact c trace) (notices_by f t.group r vs)
     by_kept [] e = tt

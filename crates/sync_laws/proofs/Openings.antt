@@ -27,7 +27,7 @@ use Rattle.call_rules.specs.declared.want.Want.{Want}
 use Rattle.call_rules.specs.declared.want.Want.TheVariants as want
 use Rattle.wire_messages.specs.declared.body.Opening.{Opening}
 use Rattle.wire_messages.specs.declared.body.Opening.TheVariants as how
-use Rattle.role_steps.specs.Opens.{OpenRequest, mode_of, open_key, with_open, call_id, stamp_or_none, asks_storage, grant_record, refuse_record, refuses_row, asks_row, denied_row, asked_row, granted_at_once, is_open_on, opener_of, openers as table_openers}
+use Rattle.role_steps.specs.Opens.{OpenRequest, mode_of, open_key, with_open, call_id, stamp_or_none, asks_storage, grant_record, refuse_record, refuses_row, asks_row, denied_row, asked_row, granted_at_once, is_open_on}
 use Rattle.role_steps.specs.Requests.{opening_of}
 use Rattle.role_steps.specs.Tables.{row}
 use Rattle.role_steps.specs.Views.{Frame, Told, Outcome, boot_in, serial_key}
@@ -41,7 +41,7 @@ use Rattle.tree_model.specs.Files.{kind_of_file, set_of_file}
 use Rattle.tree_model.specs.Given.{gives_refusal}
 use Rattle.tree_model.specs.Histories.{history}
 use Rattle.tree_model.specs.Opening.{is_placed, open_refusal}
-use Rattle.tree_model.specs.State.{TreeState, is_granted, openers, opener_of as tree_opener, process_of}
+use Rattle.tree_model.specs.State.{TreeState, is_granted, process_of}
 use Rattle.tree_model.specs.Tree.{tree_of, kept_in, grant_of, opened, without_make}
 use Rattle.tree_model.specs.Working.{list_of, merges}
 use Rattle.lawful_trace.specs.Progress.{answers, wants_next}
@@ -54,7 +54,7 @@ use Rattle.tree_laws.specs.Instances.{AsksOpen, IsOpening, Stands}
 use Rattle.tree_laws.specs.Packets.{IsCallOf, JoinsParents, OpenSsFact, PlainOpenSs, SeesVersion, file_in}
 use Rattle.tree_laws.specs.Past.{Printed, WasNamed, WasReleased, WasRefused, WasGranted, NamesHere}
 use Rattle.tree_laws.specs.Printed.{entries}
-use Rattle.tree_laws.specs.Tables.{AskedFact, IsGrantedNow, RowFact}
+use Rattle.tree_laws.specs.Tables.{AskedFact, IsGrantedNow, RowFact, named_instance, named_openers, named_row, tree_openers}
 use Rattle.tree_laws.proofs.CarriedLooks.{More, call_of_stays}
 use Rattle.tree_laws.proofs.CarriedVersions.{joins_stay, sees_stay}
 use Rattle.tree_laws.proofs.Hearing.{asks_next}
@@ -86,7 +86,7 @@ asked_mode f g words.Write e = file_own f g e
 asked_mode f g (words.Resolve site) e = file_own f g e
 
 -- what a call asks is this open
-opening_asked : (c : Config) (w : Want) (f : FileId) (q : Opening) → IsOpening c w f q → is_open_of (mode_of q) f w ≡ true
+pub opening_asked : (c : Config) (w : Want) (f : FileId) (q : Opening) → IsOpening c w f q → is_open_of (mode_of q) f w ≡ true
 opening_asked c (want.Open g m) f q o = subst (λ (x : Opening). is_open_of (mode_of x) f (want.Open g m) ≡ true) (sym o.1) (asked_mode f g m o.0)
 opening_asked c (want.OpenToMend g) f q o = subst (λ (x : Opening). is_open_of (mode_of x) f (want.OpenToMend g) ≡ true) (sym o.1) (file_own f g o.0)
 opening_asked c (want.Make group k sites) f q o = subst (λ (x : Opening). is_open_of (mode_of x) f (want.Make group k sites) ≡ true) (sym o.2) (subst (λ (g : ℕ). (g == f.group) ≡ true) o.0 (test_own f.group))
@@ -221,11 +221,11 @@ module _ (c : Config) (n : ℕ) (trace : List Line) (f : Frame) (tab : SyncTable
     abbrev in_time : OpensInTime c trace f.epoch d request inst (mode_of q) file
     in_time = record { asked = file; it = q; mode_is = refl; asks = asks; user_is = refl; group_is = refl }
 
-    added_openers : (r : OpenRow) (ino : ℕ) → (ino ≡ 0 → ⊥) → open_key r ≡ serial_key inst → table_openers (with_open r tab) (file_in tab.group ino) ≡ openers tab_tree (file_in tab.group ino) ++ cond (is_open_on (file_in tab.group ino) r) (opener_of r ∷ []) []
+    added_openers : (r : OpenRow) (ino : ℕ) → (ino ≡ 0 → ⊥) → open_key r ≡ serial_key inst → named_openers (with_open r tab) (file_in tab.group ino) ≡ tree_openers tab_tree (file_in tab.group ino) ++ cond (is_open_on (file_in tab.group ino) r) (named_row r ∷ []) []
     added_openers r ino some e =
-        ap (λ (rs : List OpenRow). map opener_of (filter (is_open_on (file_in tab.group ino)) rs)) (latest_new open_key r tab.opens (ap (λ (k : ℕ). row open_key k tab.opens) e ∙ none))
-        ∙ (openers_added (is_open_on (file_in tab.group ino)) opener_of tab.opens r
-        ∙ ap (λ (os : List Opener). os ++ cond (is_open_on (file_in tab.group ino) r) (opener_of r ∷ []) []) (sv.table.openers_are ino some))
+        ap (λ (rs : List OpenRow). map named_row (filter (is_open_on (file_in tab.group ino)) rs)) (latest_new open_key r tab.opens (ap (λ (k : ℕ). row open_key k tab.opens) e ∙ none))
+        ∙ (openers_added (is_open_on (file_in tab.group ino)) named_row tab.opens r
+        ∙ ap (λ (os : List (Serial × Opener)). os ++ cond (is_open_on (file_in tab.group ino) r) (named_row r ∷ []) []) (sv.table.openers_are ino some))
 
     -- ---- it is refused ----
 
@@ -261,12 +261,12 @@ module _ (c : Config) (n : ℕ) (trace : List Line) (f : Frame) (tab : SyncTable
       names_it : (i : Serial) → Printed (NamesHere f.epoch tab.group i) trace x → i ≡ inst
       names_it i p = sym p.0.serial_is
 
-      openers_now : (ino : ℕ) → (ino ≡ 0 → ⊥) → table_openers (with_open denied tab) (file_in tab.group ino) ≡ openers (tree_of c f.epoch tab.group (entries (More n x trace))) (file_in tab.group ino)
-      openers_now ino some = added_openers denied ino some refl ∙ (closed (same_file file (file_in tab.group ino)) ∙ sym (same_if (λ (u : TreeState). openers u (file_in tab.group ino)) _ (record tab_tree { makes = without_make d tab_tree.makes }) tab_tree (λ b. refl)))
+      openers_now : (ino : ℕ) → (ino ≡ 0 → ⊥) → named_openers (with_open denied tab) (file_in tab.group ino) ≡ tree_openers (tree_of c f.epoch tab.group (entries (More n x trace))) (file_in tab.group ino)
+      openers_now ino some = added_openers denied ino some refl ∙ (closed (same_file file (file_in tab.group ino)) ∙ sym (same_if (λ (u : TreeState). tree_openers u (file_in tab.group ino)) _ (record tab_tree { makes = without_make d tab_tree.makes }) tab_tree (λ b. refl)))
         where
-          closed : (b : Bool) → openers tab_tree (file_in tab.group ino) ++ cond (b && false) (opener_of denied ∷ []) [] ≡ openers tab_tree (file_in tab.group ino)
-          closed true = nil_after (openers tab_tree (file_in tab.group ino))
-          closed false = nil_after (openers tab_tree (file_in tab.group ino))
+          closed : (b : Bool) → tree_openers tab_tree (file_in tab.group ino) ++ cond (b && false) (named_row denied ∷ []) [] ≡ tree_openers tab_tree (file_in tab.group ino)
+          closed true = nil_after (tree_openers tab_tree (file_in tab.group ino))
+          closed false = nil_after (tree_openers tab_tree (file_in tab.group ino))
 
       pub refused_as : TableFine c n trace f tab.group (refuses_row f denied why tab)
       refused_as = record {
@@ -350,10 +350,10 @@ module _ (c : Config) (n : ℕ) (trace : List Line) (f : Frame) (tab : SyncTable
       abbrev new : Instance
       new = opened (history c (entries trace)) (grant_of tab_tree d inst (mode_of q) file ss) stamp
 
-      opener_same : opener_of asked ≡ tree_opener new
-      opener_same = ap (λ (p : ℕ). record { site = us; process = p; mode = mode_of q }) (sym (ap process_of (call_in_is c f.epoch tab.group (entries trace) d ∙ ap (option_map (λ (w : Waiting). record { call = w.call; process = w.process; words = w.words })) here.named) ∙ here.process_is))
+      opener_same : named_row asked ≡ named_instance new
+      opener_same = ap (λ (p : ℕ). (inst, record { site = us; process = p; mode = mode_of q })) (sym (ap process_of (call_in_is c f.epoch tab.group (entries trace) d ∙ ap (option_map (λ (w : Waiting). record { call = w.call; process = w.process; words = w.words })) here.named) ∙ here.process_is))
 
-      openers_granted : (ino : ℕ) → (ino ≡ 0 → ⊥) → table_openers (with_open asked tab) (file_in tab.group ino) ≡ openers (tree_of c f.epoch tab.group (entries (More n y trace))) (file_in tab.group ino)
+      openers_granted : (ino : ℕ) → (ino ≡ 0 → ⊥) → named_openers (with_open asked tab) (file_in tab.group ino) ≡ tree_openers (tree_of c f.epoch tab.group (entries (More n y trace))) (file_in tab.group ino)
       openers_granted ino some = added_openers asked ino some refl ∙ (alike (same_file file (file_in tab.group ino)) ∙ sym (opens_one (same_epoch f.epoch tab_tree.epoch) epoch_own (file.group == tab_tree.group) group_own))
         where
           epoch_own : same_epoch f.epoch tab_tree.epoch ≡ true
@@ -362,13 +362,13 @@ module _ (c : Config) (n : ℕ) (trace : List Line) (f : Frame) (tab : SyncTable
           group_own : (file.group == tab_tree.group) ≡ true
           group_own = subst (λ (g : ℕ). (file.group == g) ≡ true) (group_is ∙ sym (tree_group_is c f.epoch tab.group (entries trace))) (test_own file.group)
 
-          alike : (b : Bool) → openers tab_tree (file_in tab.group ino) ++ cond (b && true) (opener_of asked ∷ []) [] ≡ openers tab_tree (file_in tab.group ino) ++ cond b (tree_opener new ∷ []) []
-          alike true = ap (λ (o : Opener). openers tab_tree (file_in tab.group ino) ++ o ∷ []) opener_same
+          alike : (b : Bool) → tree_openers tab_tree (file_in tab.group ino) ++ cond (b && true) (named_row asked ∷ []) [] ≡ tree_openers tab_tree (file_in tab.group ino) ++ cond b (named_instance new ∷ []) []
+          alike true = ap (λ (o : Serial × Opener). tree_openers tab_tree (file_in tab.group ino) ++ o ∷ []) opener_same
           alike false = refl
 
-          opens_one : (a : Bool) → a ≡ true → (b : Bool) → b ≡ true → openers (cond a (record tab_tree { grants = tab_tree.grants ++ grant_of tab_tree d inst (mode_of q) file ss ∷ []; instances = cond b (tab_tree.instances ++ new ∷ []) tab_tree.instances }) tab_tree) (file_in tab.group ino)
-              ≡ openers tab_tree (file_in tab.group ino) ++ cond (same_file file (file_in tab.group ino)) (tree_opener new ∷ []) []
-          opens_one true e true g = openers_added (λ (z : Instance). same_file z.grant.file (file_in tab.group ino)) tree_opener tab_tree.instances new
+          opens_one : (a : Bool) → a ≡ true → (b : Bool) → b ≡ true → tree_openers (cond a (record tab_tree { grants = tab_tree.grants ++ grant_of tab_tree d inst (mode_of q) file ss ∷ []; instances = cond b (tab_tree.instances ++ new ∷ []) tab_tree.instances }) tab_tree) (file_in tab.group ino)
+              ≡ tree_openers tab_tree (file_in tab.group ino) ++ cond (same_file file (file_in tab.group ino)) (named_instance new ∷ []) []
+          opens_one true e true g = openers_added (λ (z : Instance). same_file z.grant.file (file_in tab.group ino)) named_instance tab_tree.instances new
           opens_one true e false g = absurd (true_false (sym g))
           opens_one false e b g = absurd (true_false (sym e))
 

@@ -41,6 +41,7 @@ use Rattle.tree_model.specs.Same.{same_version}
 use Rattle.tree_model.specs.State.{TreeState, has_stamp, has_stamp_of, is_named, openers, words_of}
 use Rattle.tree_model.specs.Tree.{tree_of, kept_in}
 use Rattle.lawful_trace.specs.TreeRows.{granted_group}
+use Rattle.sync_laws.proofs.Trees.{openers_by_name}
 use Rattle.tree_laws.specs.Doing.{TableFine}
 use Rattle.tree_laws.specs.Instances.{AsksOpen, HasAtLeast, Stands, held_in}
 use Rattle.tree_laws.specs.Packets.{IsCallOf, JoinsParents, OpenFact, SeesVersion, file_in, serial_of}
@@ -122,7 +123,7 @@ module _ (c : Config) (n : ℕ) (trace : List Line) (f : Frame) (tab : SyncTable
 
   os_is : (file.ino ≡ 0 → ⊥) → table_openers tab file ≡ os
   os_is some =
-      ap (λ (g : FileId). table_openers tab g) (sym file_is) ∙ (sv.table.openers_are file.ino some
+      ap (λ (g : FileId). table_openers tab g) (sym file_is) ∙ (openers_by_name tab (tree_of c f.epoch tab.group (entries trace)) (file_in tab.group file.ino) (sv.table.openers_are file.ino some)
       ∙ (ap (λ (g : ℕ). openers (tree_of c f.epoch g (entries trace)) (file_in tab.group file.ino)) (sym group_is) ∙ ap (λ (g : FileId). openers t g) file_is))
 
   -- nobody is ahead of a file whom nothing excludes
@@ -390,4 +391,4 @@ open_fine c n trace f tab sv order us o plain group_is k = over tab.started refl
         (subst (λ (x : CallId). WasNamedIn trace f.epoch o.file.group (serial_of us o.serial) ⊎ AsksOpen c trace f.epoch x o.request o.serial o.file o.how) (sym (its c n trace f tab sv e us o.serial o.call o.process o.request o.file group_is k.call k.is_call)) k.stands)
         (open_row tab (serial_of us o.serial)) refl
     over false e = sends_fine c n trace f tab [] (waits_early us o.process (body.Open o.serial o.call o.process o.request o.file o.how) tab) (early_group us o.process (body.Open o.serial o.call o.process o.request o.file o.how) tab)
-        (early_fact c trace f tab us o.process (body.Open o.serial o.call o.process o.request o.file o.how) e k sv.table) tt
+        (early_fact c trace f tab us o.process (body.Open o.serial o.call o.process o.request o.file o.how) e (sym group_is) k sv.table) tt

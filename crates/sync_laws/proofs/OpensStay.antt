@@ -1,5 +1,6 @@
 -- What a table has of opens stays: who asked them, and how far they are.
 use Rattle.std.proofs.Common.{◌≡◌, ℕ, Bool, true, false, ◌&&◌, cond, List, [], ◌∷◌, Option, Some, refl, sym, ap, ◌∙◌, subst, ◌⊎◌, inl, inr}
+use Rattle.std.specs.Option.{option_map}
 use Rattle.locus_ids.specs.declared.config.Config.{Config}
 use Rattle.locus_ids.specs.declared.ids.CallId.{CallId}
 use Rattle.locus_ids.specs.declared.ids.EpochId.{EpochId}
@@ -12,6 +13,7 @@ use Rattle.locus_ids.specs.declared.ids.Stamp.{Stamp}
 use Rattle.locus_ids.specs.declared.sites.Members.{Members}
 use Rattle.locus_ids.specs.declared.sites.Sites.{Sites}
 use Rattle.trace_book.specs.Same.{same_epoch, same_serial}
+use Rattle.trace_book.specs.declared.call.Call.{Call}
 use Rattle.trace_book.specs.declared.record.Record.TheVariants as says
 use Rattle.wire_messages.specs.declared.body.Opening.TheVariants as how
 use Rattle.role_steps.specs.Opens.{stamp_or_none}
@@ -20,8 +22,12 @@ use Rattle.role_steps.specs.declared.synchronizing.OpenRow.{OpenRow}
 use Rattle.role_steps.specs.declared.synchronizing.OpenStage.{OpenStage}
 use Rattle.role_steps.specs.declared.synchronizing.OpenStage.TheVariants as stage
 use Rattle.the_run.specs.Worlds.{Line}
+use Rattle.tree_model.specs.declared.accepted.Waiting.{Waiting}
+use Rattle.tree_model.specs.Calls.{call_named}
 use Rattle.tree_model.specs.Epochs.{members_of}
-use Rattle.tree_model.specs.Packs.{is_good_set, making_site_in}
+use Rattle.tree_model.specs.Files.{kind_made, words_named}
+use Rattle.tree_model.specs.Opening.{sites_made}
+use Rattle.tree_model.specs.Packs.{is_good_set, making_site_in, packs_of}
 use Rattle.lawful_trace.specs.TreeRows.{granted_group}
 use Rattle.tree_laws.specs.Following.{MayTell, IsFollowed}
 use Rattle.tree_laws.specs.Frames.{VersionsStay}
@@ -29,13 +35,14 @@ use Rattle.tree_laws.specs.Instances.{AsksOpen}
 use Rattle.tree_laws.specs.Packets.{MakesNow, serial_of}
 use Rattle.tree_laws.specs.Past.{Printed, WasNamed, WasNamedIn, WasGranted, WasReleased, NamesHere, NamingRecord, GrantRecord, EndRecord}
 use Rattle.tree_laws.specs.Printed.{entries}
-use Rattle.tree_laws.specs.Tables.{IsGrantedNow, MakeAsked, AskedFact, StageFact, RowFact}
+use Rattle.tree_laws.specs.Tables.{AsItsFile, IsGrantedNow, MakeAsked, AskedFact, StageFact, RowFact}
 use Rattle.tree_laws.proofs.CarriedLooks.{More, call_of_stays}
 use Rattle.tree_laws.proofs.CarriedOpens.{was_then, named_of, asked_in}
 use Rattle.tree_laws.proofs.CarriedVersions.{joins_stay, sees_stay, plain_stays}
 use Rattle.tree_laws.proofs.Kinship.{started_stays}
 use Rattle.tree_laws.proofs.Making.{members_told}
 use Rattle.tree_laws.proofs.Names.{same_epoch_own, same_serial_own, same_epoch_eq, same_serial_eq}
+use Rattle.tree_laws.proofs.Scripts.{named_stays}
 use Rattle.tree_laws.proofs.Serials.{unnamed}
 use Rattle.sync_laws.specs.Staying.{Names, Releases}
 
@@ -79,17 +86,21 @@ module _ (e : EpochId) (i : Serial) where
 
 -- ---- opens of a table ----
 
-module _ (c : Config) (n : ℕ) (x : Told) (older : List Line) (h : IsFollowed c older) (may : MayTell c older x) (v : VersionsStay c older (More n x older)) (f : Frame) (group : ℕ) (unreleased_here : Releases f group x → ⊥) where
+module _ (c : Config) (n : ℕ) (x : Told) (older : List Line) (h : IsFollowed c older) (may : MayTell c older x) (v : VersionsStay c older (More n x older)) (f : Frame) (group : ℕ) where
   ends_here : (y : Told) → MayTell c older y → (i : Serial) → granted_group (entries older) f.epoch i ≡ group → Printed (EndRecord f.epoch i) older y → Releases f group y
   ends_here (Shown (says.Release at inst file last)) m i is p = (p.epoch_is, sym (subst (λ (j : Serial). granted_group (entries older) f.epoch j ≡ file.group) p.serial_is (subst (λ (y : EpochId). granted_group (entries older) y inst ≡ file.group) p.epoch_is m.in_time.group_is)) ∙ is)
   ends_here (Shown r) m i is p = absurd p
   ends_here y m i is p = absurd p
 
-  granted_stays : (r : OpenRow) (d : CallId) → r.file.group ≡ group → IsGrantedNow older f.epoch r d → IsGrantedNow (More n x older) f.epoch r d
-  granted_stays r d is k = record { was_granted = inr k.was_granted; unreleased = over }
+  -- what isn't released now stays granted
+  abbrev pub IsUnended : OpenRow → Type 0
+  IsUnended r = (d : CallId) → WasGranted older f.epoch d r.request r.inst r.mode r.file r.stamp r.ss → Printed (EndRecord f.epoch r.inst) older x → ⊥
+
+  granted_stays : (r : OpenRow) (d : CallId) → IsUnended r → IsGrantedNow older f.epoch r d → IsGrantedNow (More n x older) f.epoch r d
+  granted_stays r d unended k = record { was_granted = inr k.was_granted; unreleased = over }
     where
       over : WasReleased (More n x older) f.epoch r.inst → ⊥
-      over (inl p) = unreleased_here (ends_here x may r.inst (granted_group_is f.epoch r.inst c older h d r.request r.mode r.file r.stamp r.ss k.was_granted ∙ is) p)
+      over (inl p) = unended d k.was_granted p
       over (inr q) = k.unreleased q
 
   -- the same make
@@ -137,30 +148,46 @@ module _ (c : Config) (n : ℕ) (x : Told) (older : List Line) (h : IsFollowed c
           (λ m p q s. let z = make_stays r.ss r.inst r.set r.kind unnamed_now m in (z.0, z.1 ∙ p, z.2 ∙ q, z.3 ∙ s))
 
       over : (z : MakesNow c (More n x older) f.epoch r.ss r.inst r.file.group r.set r.kind) × (z.call ≡ d) × (z.request ≡ r.request) × (z.file ≡ r.file) → MakeAsked c (More n x older) f.epoch r d
-      over z = record { make = z.0; call_is = z.1; request_is = z.2; file_is = z.3; parents_are = k.parents_are }
+      over z = record { make = z.0; call_is = z.1; request_is = z.2; file_is = z.3; parents_are = k.parents_are; stamp_is = k.stamp_is }
 
-  asked_stays : (r : OpenRow) (d : CallId) (m : Mode) → (Printed (NamesHere f.epoch group r.inst) older x → ⊥) → r.file.group ≡ group → AskedFact c older f.epoch r d m → AskedFact c (More n x older) f.epoch r d m
-  asked_stays r d mode.Make unnamed_now is k = make_asked_stays r d unnamed_now is k
-  asked_stays r d mode.Read unnamed_now is k = (granted_stays r d is k.0, plain_stays c n x older v f.epoch r.ss r.inst r.file mode.Read r.set r.kind (stamp_or_none r.stamp) r.vector r.parents k.1)
-  asked_stays r d mode.Write unnamed_now is k = (granted_stays r d is k.0, plain_stays c n x older v f.epoch r.ss r.inst r.file mode.Write r.set r.kind (stamp_or_none r.stamp) r.vector r.parents k.1)
-  asked_stays r d mode.Resolve unnamed_now is k = (granted_stays r d is k.0, plain_stays c n x older v f.epoch r.ss r.inst r.file mode.Resolve r.set r.kind (stamp_or_none r.stamp) r.vector r.parents k.1)
-  asked_stays r d mode.Mend unnamed_now is k = (granted_stays r d is k.0, plain_stays c n x older v f.epoch r.ss r.inst r.file mode.Mend r.set r.kind (stamp_or_none r.stamp) r.vector r.parents k.1)
+  asked_stays : (r : OpenRow) (d : CallId) (m : Mode) → (Printed (NamesHere f.epoch group r.inst) older x → ⊥) → IsUnended r → r.file.group ≡ group → AskedFact c older f.epoch r d m → AskedFact c (More n x older) f.epoch r d m
+  asked_stays r d mode.Make unnamed_now unended is k = make_asked_stays r d unnamed_now is k
+  asked_stays r d mode.Read unnamed_now unended is k = (granted_stays r d unended k.0, plain_stays c n x older v f.epoch r.ss r.inst r.file mode.Read r.set r.kind (stamp_or_none r.stamp) r.vector r.parents k.1)
+  asked_stays r d mode.Write unnamed_now unended is k = (granted_stays r d unended k.0, plain_stays c n x older v f.epoch r.ss r.inst r.file mode.Write r.set r.kind (stamp_or_none r.stamp) r.vector r.parents k.1)
+  asked_stays r d mode.Resolve unnamed_now unended is k = (granted_stays r d unended k.0, plain_stays c n x older v f.epoch r.ss r.inst r.file mode.Resolve r.set r.kind (stamp_or_none r.stamp) r.vector r.parents k.1)
+  asked_stays r d mode.Mend unnamed_now unended is k = (granted_stays r d unended k.0, plain_stays c n x older v f.epoch r.ss r.inst r.file mode.Mend r.set r.kind (stamp_or_none r.stamp) r.vector r.parents k.1)
 
-  stage_stays : (r : OpenRow) (d : CallId) (s : OpenStage) → (Printed (NamesHere f.epoch group r.inst) older x → ⊥) → r.file.group ≡ group → StageFact c older f.epoch r d s → StageFact c (More n x older) f.epoch r d s
-  stage_stays r d stage.Asked unnamed_now is k = asked_stays r d r.mode unnamed_now is k
-  stage_stays r d stage.Granted unnamed_now is k = granted_stays r d is k
-  stage_stays r d (stage.Refused why) unnamed_now is k = inr k
-  stage_stays r d stage.Ended unnamed_now is k = (inr k.0, inr k.1)
+  -- its call says what it said, and its file is as it was
+  file_stays : (r : OpenRow) (d : CallId) → (w : Waiting) × (call_named (entries older) d ≡ Some w) → (m : Mode) → AsItsFile c older r d m → AsItsFile c (More n x older) r d m
+  file_stays r d named mode.Make k = (k.0 ∙ sym (ap (λ (o : Option Call). sites_made (packs_of c r.file.group) o) words), k.1 ∙ sym (ap kind_made words))
+    where
+      words : words_named (entries (More n x older)) (Some d) ≡ words_named (entries older) (Some d)
+      words = ap (option_map (λ (w : Waiting). w.words)) (named_stays c n x older d h may named)
+  file_stays r d named mode.Read k = (k.0, v.stands r.file k.0 k.1, k.2 ∙ sym (v.sets r.file k.0 k.1), k.3 ∙ sym (v.kinds r.file k.0 k.1))
+  file_stays r d named mode.Write k = (k.0, v.stands r.file k.0 k.1, k.2 ∙ sym (v.sets r.file k.0 k.1), k.3 ∙ sym (v.kinds r.file k.0 k.1))
+  file_stays r d named mode.Resolve k = (k.0, v.stands r.file k.0 k.1, k.2 ∙ sym (v.sets r.file k.0 k.1), k.3 ∙ sym (v.kinds r.file k.0 k.1))
+  file_stays r d named mode.Mend k = (k.0, v.stands r.file k.0 k.1, k.2 ∙ sym (v.sets r.file k.0 k.1), k.3 ∙ sym (v.kinds r.file k.0 k.1))
 
-  pub open_row_stays : (r : OpenRow) → (Printed (NamesHere f.epoch group r.inst) older x → ⊥) → RowFact c older f.epoch group r → RowFact c (More n x older) f.epoch group r
-  open_row_stays r unnamed_now k = record {
+  stage_stays : (r : OpenRow) (d : CallId) (w : (w : Waiting) × (call_named (entries older) d ≡ Some w)) (s : OpenStage) → (Printed (NamesHere f.epoch group r.inst) older x → ⊥) → IsUnended r → r.file.group ≡ group → StageFact c older f.epoch r d s → StageFact c (More n x older) f.epoch r d s
+  stage_stays r d named stage.Asked unnamed_now unended is k = asked_stays r d r.mode unnamed_now unended is k
+  stage_stays r d named stage.Granted unnamed_now unended is k = (granted_stays r d unended k.0, file_stays r d named r.mode k.1)
+  stage_stays r d named (stage.Refused why) unnamed_now unended is k = inr k
+  stage_stays r d named stage.Ended unnamed_now unended is k = (inr k.0, inr k.1)
+
+  -- an open stays as it is where what is told neither names nor releases it
+  pub open_row_goes_on : (r : OpenRow) → (Printed (NamesHere f.epoch group r.inst) older x → ⊥) → IsUnended r → RowFact c older f.epoch group r → RowFact c (More n x older) f.epoch group r
+  open_row_goes_on r unnamed_now unended k = record {
     call = k.call;
     is_call = call_of_stays c n x older h may f.epoch r.inst.us r.call r.process k.call k.is_call;
     group_is = k.group_is;
-    stage = stage_stays r k.call r.stage unnamed_now k.group_is k.stage;
+    stage = stage_stays r k.call (k.is_call.caller, k.is_call.named) r.stage unnamed_now unended k.group_is k.stage;
     vector_is = joins_stay c older (More n x older) v r.file r.parents r.vector k.vector_is;
     sees = sees_stay c older (More n x older) v r.file r.mode r.stamp r.vector k.sees;
   }
+
+  -- and so does each where nothing of the group is released
+  pub open_row_stays : (Releases f group x → ⊥) → (r : OpenRow) → (Printed (NamesHere f.epoch group r.inst) older x → ⊥) → RowFact c older f.epoch group r → RowFact c (More n x older) f.epoch group r
+  open_row_stays unreleased_here r unnamed_now k = open_row_goes_on r unnamed_now (λ d was p. unreleased_here (ends_here x may r.inst (granted_group_is f.epoch r.inst c older h d r.request r.mode r.file r.stamp r.ss was ∙ k.group_is) p)) k
 
 -- what names an open of the group names it for its table
 pub names_here : (older : List Line) (f : Frame) (group : ℕ) (i : Serial) (x : Told) → Printed (NamesHere f.epoch group i) older x → Names f group x

@@ -3,6 +3,7 @@ pub mod Disks
 pub mod Worlds
 pub mod Runs
 pub mod Commands
+pub mod Asking
 pub mod Kept
 pub mod Laws
 pub mod Joins

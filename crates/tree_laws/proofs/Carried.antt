@@ -1,5 +1,5 @@
 -- What each packet carries stays when a line is added that comes as it may.
-use Rattle.std.proofs.Common.{ℕ, List, [], Option, ◌⊎◌, inl, inr}
+use Rattle.std.proofs.Common.{◌≡◌, ℕ, ◌==◌, Bool, true, false, ◌&&◌, ◌||◌, List, [], ◌∷◌, Option, ◌⊎◌, inl, inr, refl}
 use Rattle.locus_ids.specs.declared.config.Config.{Config}
 use Rattle.locus_ids.specs.declared.ids.EpochId.{EpochId}
 use Rattle.locus_ids.specs.declared.ids.FileId.{FileId}
@@ -9,8 +9,11 @@ use Rattle.locus_ids.specs.declared.ids.Mode.TheVariants as mode
 use Rattle.locus_ids.specs.declared.ids.Serial.{Serial}
 use Rattle.locus_ids.specs.declared.ids.Stamp.{Stamp}
 use Rattle.locus_ids.specs.declared.sites.Sites.{Sites}
+use Rattle.trace_book.specs.Same.{same_epoch}
 use Rattle.trace_book.specs.declared.operation.Op.{Op}
 use Rattle.trace_book.specs.declared.operation.What.{What}
+use Rattle.trace_book.specs.declared.record.Record.{Record}
+use Rattle.trace_book.specs.declared.record.Record.TheVariants as says
 use Rattle.call_rules.specs.declared.answer.Answer.{Answer}
 use Rattle.wire_messages.specs.declared.body.Body.{Body}
 use Rattle.wire_messages.specs.declared.body.Body.TheVariants as body
@@ -22,21 +25,38 @@ use Rattle.wire_messages.specs.declared.body.OpenedAs.{OpenedAs}
 use Rattle.wire_messages.specs.declared.body.OpenedAs.TheVariants as opened
 use Rattle.wire_messages.specs.declared.packet.Packet.{Packet}
 use Rattle.role_steps.specs.Reports.{stamp_made}
-use Rattle.role_steps.specs.Views.{Told}
+use Rattle.role_steps.specs.Views.{Told, Shown}
 use Rattle.the_run.specs.Worlds.{Line}
+use Rattle.tree_model.specs.Epochs.{has_joined}
+use Rattle.tree_model.specs.Folds.{Trace}
 use Rattle.tree_laws.specs.Past.{WasReleasedWith}
 use Rattle.tree_laws.specs.Following.{MayTell, IsFollowed}
 use Rattle.tree_laws.specs.Frames.{VersionsStay, OwnersStay, AllStay}
+use Rattle.tree_laws.specs.Printed.{entries}
 use Rattle.tree_laws.specs.Packets.{ServeFact, LookDoneFact, OpenSsFact, OpenedFact, OpenDoneFact, OpFact, EndsNow, ClosedFact, BodyFact, PacketFact}
 use Rattle.tree_laws.proofs.CarriedActs.{op_told}
 use Rattle.tree_laws.proofs.CarriedCloses.{close_stays, ends_stay}
 use Rattle.tree_laws.proofs.CarriedLooks.{More, call_of_stays, look_stays}
 use Rattle.tree_laws.proofs.CarriedOpens.{open_stays}
+use Rattle.tree_laws.proofs.Kinship.{started_stays}
 use Rattle.tree_laws.proofs.Making.{makes_stay}
 use Rattle.tree_laws.proofs.Owing.{commits_owe}
 use Rattle.tree_laws.proofs.Seeing.{owners_stay}
 use Rattle.tree_laws.proofs.Versions.{versions_stay}
 use Rattle.tree_laws.proofs.CarriedVersions.{joins_stay, plain_stays, sees_stay, answers_stay, maybe_stays, notify_stays, page_stays}
+
+-- who has joined an epoch has joined it
+joined_record : (n : ℕ) (r : Record) (before : Trace) (site : ℕ) (e : EpochId) → has_joined before site e ≡ true → has_joined (record { line = n; what = r } ∷ before) site e ≡ true
+joined_record n (says.Join s d m) before site e k = over ((s == site) && same_epoch d e)
+  where
+    over : (b : Bool) → (b || has_joined before site e) ≡ true
+    over true = refl
+    over false = k
+joined_record n _ before site e k = k
+
+pub joined_stays : (n : ℕ) (x : Told) (older : List Line) (site : ℕ) (e : EpochId) → has_joined (entries older) site e ≡ true → has_joined (entries (More n x older)) site e ≡ true
+joined_stays n (Shown r) older site e k = joined_record n r (entries older) site e k
+joined_stays n _ older site e k = k
 
 module _ (c : Config) (n : ℕ) (x : Told) (older : List Line) (h : IsFollowed c older) (may : MayTell c older x) (stay : AllStay c older (More n x older) x) where
   versions : VersionsStay c older (More n x older)
@@ -78,7 +98,7 @@ module _ (c : Config) (n : ℕ) (x : Told) (older : List Line) (h : IsFollowed c
       over (inr now) = ends_stay c n x older h may owners (commits_owe c older x may) e ss i (stamp_made made) now
 
   body_stays : (p : Packet) (b : Body) → BodyFact c older p b → BodyFact c (More n x older) p b
-  body_stays p (body.Report group copies) k = versions.reports p.epoch p.from group copies k
+  body_stays p (body.Report group copies) k = (record { joined = joined_stays n x older p.from p.epoch k.0.joined; packed = k.0.packed }, versions.reports p.epoch p.from group copies k.1)
   body_stays p (body.Open serial call process request file it) k = open_stays c n x older h may p.epoch p.from serial call process request file it k
   body_stays p (body.OpenSs inst file m set kind base vector parents) k = open_ss_stays p.epoch p.to inst file m set kind base vector parents k
   body_stays p (body.Opened inst a) k = opened_stays p.epoch p.from inst a k
@@ -92,10 +112,10 @@ module _ (c : Config) (n : ℕ) (x : Told) (older : List Line) (h : IsFollowed c
   body_stays p (body.Look call process request times file w) k = look_stays c n x older h may p.epoch p.from call process request times file w k
   body_stays p (body.LookSs us call process request times file w serve) k = serve_stays p.epoch us call process request times file w serve k
   body_stays p (body.LookDone call request times a) k = look_done_stays p.epoch p.to p.to_boot call request times a k
-  body_stays p (body.Notify file kind set size stamp vector holder) k = notify_stays c n x older versions p.epoch file kind set size stamp vector k
+  body_stays p (body.Notify file kind set size stamp vector holder) k = notify_stays c n x older versions p.epoch p.to file kind set size stamp vector k
   body_stays p (body.Pull file stamp page) k = versions.stands file stamp k
   body_stays p (body.Page file stamp page bytes) k = page_stays c older (More n x older) versions file stamp page bytes k
-  body_stays p (body.Have file stamp) k = versions.have p.epoch p.from file stamp k
+  body_stays p (body.Have file stamp) k = record { started = started_stays c n x older p.epoch file.group k.started; has = versions.have p.epoch p.from file stamp k.has }
   body_stays p _ k = tt
 
 pub packet_stays : (c : Config) (n : ℕ) (x : Told) (older : List Line) → IsFollowed c older → MayTell c older x → AllStay c older (More n x older) x → (p : Packet) → PacketFact c older p → PacketFact c (More n x older) p

@@ -33,15 +33,15 @@ use Rattle.tree_laws.proofs.Asking.{StepRecord, not_longer, heard_record}
 use Rattle.tree_laws.proofs.Free.{free_same}
 
 -- the call asks its look again: the records have an answer more than its process has heard
-record LooksStill (c : Config) (t : List Line) (d : CallId) : Type 0 where
-  old : Answer
-  answers_are : answers c (entries t) d ≡ heard c t d ++ old ∷ []
-  heard_is : heard c t d ≡ log t d
-  file : FileId
-  what : What
-  looks : script c (entries t) d None (log t d) ≡ want.Look file what
+pub record LooksStill (c : Config) (t : List Line) (d : CallId) : Type 0 where
+  pub old : Answer
+  pub answers_are : answers c (entries t) d ≡ heard c t d ++ old ∷ []
+  pub heard_is : heard c t d ≡ log t d
+  pub file : FileId
+  pub what : What
+  pub looks : script c (entries t) d None (log t d) ≡ want.Look file what
 
-abbrev Hears : Config → List Line → CallId → Type 0
+abbrev pub Hears : Config → List Line → CallId → Type 0
 Hears c t d = (answers c (entries t) d ≡ heard c t d) ⊎ LooksStill c t d
 
 -- a call that asks something is named
@@ -171,7 +171,7 @@ hears_told c older n (Shuts s e i) d h may (inl k) = inl k
 hears_told c older n (Reserves s e i f) d h may (inl k) = inl k
 hears_told c older n x d h may (inr l) = inr (still_record c older n x d h may l refl refl refl)
 
-hears : (c : Config) (trace : List Line) (d : CallId) → IsFollowed c trace → Hears c trace d
+pub hears : (c : Config) (trace : List Line) (d : CallId) → IsFollowed c trace → Hears c trace d
 hears c [] d h = inl refl
 hears c (x ∷ older) d h = hears_told c older x.number x.told d h.1 h.0 (hears c older d h.1)
 

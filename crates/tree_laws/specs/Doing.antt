@@ -14,6 +14,8 @@ use Rattle.role_steps.specs.declared.pulls.Pull.{Pull}
 use Rattle.role_steps.specs.declared.synchronizing.SyncTable.{SyncTable}
 use Rattle.the_run.specs.Worlds.{Line, told_onto}
 use Rattle.tree_model.specs.Epochs.{boot_of, epoch_of, is_up, members_of}
+use Rattle.tree_model.specs.Folds.{Trace}
+use Rattle.lawful_trace.specs.Disks.{writing_adoption, writing_commit}
 use Rattle.tree_laws.specs.Printed.{entries}
 use Rattle.tree_laws.specs.Past.{WasBegun}
 use Rattle.tree_laws.specs.Following.{MayTell}
@@ -140,12 +142,19 @@ IsWriteOf me (says.Commit file site stamp parents content) = site ≡ me
 IsWriteOf me (says.Adopt file site stamp) = site ≡ me
 IsWriteOf me _ = ⊥
 
+-- how many pages the record writes on the disk of its site, by the records before it
+abbrev pub pages_written : Config → Trace → Record → ℕ
+pages_written c before (says.Commit file site stamp parents content) = (writing_commit c before file site).pages
+pages_written c before (says.Adopt file site stamp) = (writing_adoption c before file site stamp).pages
+pages_written c before _ = 0
+
 -- what is written may be told first of all in the event, and the copy on the disk is then what the site holds by the trace:
--- so it is left where the event is cut off after it
+-- so it is left where the event is cut off after it. It has as many pages as the record writes.
 pub record WriteFact (c : Config) (n : ℕ) (trace : List Line) (me : ℕ) (s : Store) (d : DiskWrite) : Type 0 where
   pub own : IsWriteOf me d.says
   pub may : MayTell c trace (Shown d.says)
   pub held : CopiesAreHeld c (record { number = n; told = Shown d.says } ∷ trace) me (with_copy d.copy s)
+  pub pages : d.pages ≡ pages_written c (entries trace) d.says
 
 -- ---- an outcome ----
 
@@ -187,7 +196,7 @@ TableFine c n trace f group o = Fine SyncTable c n trace (IsOfTable f group) (Ta
 
 -- its pulls
 abbrev pub PullsFact : Config → Frame → List Line → List Pull → Type 0
-PullsFact c f trace ps = Every (PullFact c trace f.epoch) ps
+PullsFact c f trace ps = Every (PullFact c trace f.epoch f.me) ps
 
 abbrev pub PullsFine : Config → ℕ → List Line → Frame → Outcome (List Pull) → Type 0
 PullsFine c n trace f o = Fine (List Pull) c n trace IsOfNone (PullsFact c f) NoWrite o

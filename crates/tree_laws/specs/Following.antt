@@ -216,6 +216,7 @@ pub record BeginsMade (c : Config) (trace : List Line) (s : ℕ) (e : EpochId) (
   pub user_is : i.us ≡ call.site
   pub group_is : asked.group ≡ f.group
   pub started : IsStarted c trace e f.group
+  pub good : is_good_set c f.group (members_of (entries trace) e) set ≡ true
   pub at : making_site_in c f.group (members_of (entries trace) e) call.site set ≡ Some s
   pub number : is_given_by s f.ino ≡ true
   pub unused : IsUsed c trace e s f → ⊥

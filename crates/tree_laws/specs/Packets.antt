@@ -2,6 +2,7 @@
 -- record is added.
 use Rattle.std.specs.Prelude.{ℕ, ◌≡◌, ◌⊎◌, ◌+◌, max, true, false, List, [], ◌∷◌, length, Option, None, Some}
 use Rattle.std.specs.List.{find}
+use Rattle.locus_ids.specs.Sites.{has}
 use Rattle.locus_ids.specs.declared.config.Config.{Config}
 use Rattle.locus_ids.specs.declared.ids.CallId.{CallId}
 use Rattle.locus_ids.specs.declared.ids.EpochId.{EpochId}
@@ -55,7 +56,7 @@ use Rattle.tree_model.specs.Calls.{call_named}
 use Rattle.tree_model.specs.Epochs.{has_joined, members_of}
 use Rattle.tree_model.specs.Files.{HeldVersion, kind_of_file, set_of_file}
 use Rattle.tree_model.specs.Histories.{history}
-use Rattle.tree_model.specs.Packs.{is_good_set, making_site_in}
+use Rattle.tree_model.specs.Packs.{has_pack, is_good_set, making_site_in}
 use Rattle.tree_model.specs.Tree.{tree_of, kept_in}
 use Rattle.tree_model.specs.Working.{is_target, list_of, merges}
 use Rattle.lawful_trace.specs.Tables.{call_of_act, call_of_release}
@@ -86,6 +87,11 @@ pub record ReportsNow (c : Config) (trace : List Line) (e : EpochId) (site group
   pub joined : has_joined (entries trace) site e ≡ true
   pub each : Every (ReportedNow c trace e site group) copies
   pub all : (ino : ℕ) (stamp : Stamp) → held_in c (entries trace) e site (file_in group ino) ≡ Some stamp → (x : ReportedCopy) × Among x copies × (x.ino ≡ ino)
+
+-- the site reports of the group: it has joined the epoch, and has a pack of the group
+pub record IsReporter (c : Config) (trace : List Line) (e : EpochId) (site group : ℕ) : Type 0 where
+  pub joined : has_joined (entries trace) site e ≡ true
+  pub packed : has_pack c group site ≡ true
 
 -- the group has started, or these are the copies that the site has
 abbrev pub ReportFact : Config → List Line → EpochId → ℕ → ℕ → List ReportedCopy → Type 0
@@ -318,8 +324,9 @@ CloseDoneFact c trace e i a = (last : Option Stamp) × WasReleasedWith c trace e
 
 -- ---- versions ----
 
--- the group has started, this version of the file is known in the epoch, and one version of the file is kept there
-pub record NotifyFact (c : Config) (trace : List Line) (e : EpochId) (f : FileId) (k : Kind) (set : Sites) (size : ℕ) (stamp : Stamp) (vector : List ℕ) : Type 0 where
+-- the group has started, this version of the file is known in the epoch, and one version of the file is kept there; who is told of it
+-- is one of the file's sites
+pub record NotifyFact (c : Config) (trace : List Line) (e : EpochId) (to : ℕ) (f : FileId) (k : Kind) (set : Sites) (size : ℕ) (stamp : Stamp) (vector : List ℕ) : Type 0 where
   pub started : IsStarted c trace e f.group
   pub known : IsKnown c trace e f stamp
   pub single : length (kept_in c (entries trace) e f) ≡ 1
@@ -330,6 +337,7 @@ pub record NotifyFact (c : Config) (trace : List Line) (e : EpochId) (f : FileId
   pub set_is : version.set ≡ set
   pub vector_is : version.vector ≡ vector
   pub size_is : length version.content ≡ size
+  pub wanted : has set to ≡ true
 
 pub record PageFact (c : Config) (trace : List Line) (f : FileId) (stamp : Stamp) (page : ℕ) (bytes : List ℕ) : Type 0 where
   pub version : HeldVersion
@@ -337,10 +345,15 @@ pub record PageFact (c : Config) (trace : List Line) (f : FileId) (stamp : Stamp
   pub stamp_is : version.stamp ≡ stamp
   pub bytes_are : bytes ≡ page_of version.content page
 
+-- the group has started, and the site has the version at least
+pub record HaveFact (c : Config) (trace : List Line) (e : EpochId) (site : ℕ) (f : FileId) (stamp : Stamp) : Type 0 where
+  pub started : IsStarted c trace e f.group
+  pub has : HasAtLeast c trace e site f stamp
+
 -- ---- every packet ----
 
 abbrev pub BodyFact : Config → List Line → Packet → Body → Type 0
-BodyFact c trace p (body.Report group copies) = ReportFact c trace p.epoch p.from group copies
+BodyFact c trace p (body.Report group copies) = IsReporter c trace p.epoch p.from group × ReportFact c trace p.epoch p.from group copies
 BodyFact c trace p (body.Open serial call process request file it) = OpenFact c trace p.epoch p.from serial call process request file it
 BodyFact c trace p (body.OpenSs inst file m set kind base vector parents) = OpenSsFact c trace p.epoch p.to inst file m set kind base vector parents
 BodyFact c trace p (body.Opened inst a) = OpenedFact c trace p.epoch p.from inst a
@@ -354,10 +367,10 @@ BodyFact c trace p (body.CloseDone serial a) = CloseDoneFact c trace p.epoch (se
 BodyFact c trace p (body.Look call process request times file w) = LookFact c trace p.epoch p.from call process request times file w
 BodyFact c trace p (body.LookSs us call process request times file w serve) = ServeFact trace p.epoch us call process request times file w serve
 BodyFact c trace p (body.LookDone call request times a) = LookDoneFact c trace p.epoch p.to p.to_boot call request times a
-BodyFact c trace p (body.Notify file kind set size stamp vector holder) = NotifyFact c trace p.epoch file kind set size stamp vector
+BodyFact c trace p (body.Notify file kind set size stamp vector holder) = NotifyFact c trace p.epoch p.to file kind set size stamp vector
 BodyFact c trace p (body.Pull file stamp page) = Stands c trace file stamp
 BodyFact c trace p (body.Page file stamp page bytes) = PageFact c trace file stamp page bytes
-BodyFact c trace p (body.Have file stamp) = HasAtLeast c trace p.epoch p.from file stamp
+BodyFact c trace p (body.Have file stamp) = HaveFact c trace p.epoch p.from file stamp
 BodyFact c trace p _ = Unit {0}
 
 abbrev pub PacketFact : Config → List Line → Packet → Type 0

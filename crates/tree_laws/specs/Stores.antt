@@ -1,6 +1,7 @@
 -- What a storage site has, by the trace alone: copies as held, instances as the one tree has them, pulls of what is known.
 use Rattle.std.specs.Prelude.{ℕ, ◌≡◌, ◌⊎◌, ◌*◌, ◌≤◌, ◌<◌, true, false, List, [], ◌∷◌, length, take, Option, None, Some}
 use Rattle.std.specs.Option.{option_map}
+use Rattle.locus_ids.specs.Sites.{has}
 use Rattle.locus_ids.specs.declared.config.Config.{Config}
 use Rattle.locus_ids.specs.declared.ids.CallId.{CallId}
 use Rattle.locus_ids.specs.declared.ids.EpochId.{EpochId}
@@ -153,8 +154,8 @@ pub record StoreFact (c : Config) (trace : List Line) (f : Frame) (s : Store) : 
 
 -- ---- pulls ----
 
--- a known version is pulled, of a file of which one version is kept, and its first pages have come, or all
-pub record PullFact (c : Config) (trace : List Line) (e : EpochId) (p : Pull) : Type 0 where
+-- a known version is pulled, of a file of this site of which one version is kept, and its first pages have come, or all
+pub record PullFact (c : Config) (trace : List Line) (e : EpochId) (me : ℕ) (p : Pull) : Type 0 where
   pub started : IsStarted c trace e p.file.group
   pub known : IsKnown c trace e p.file p.stamp
   pub single : length (kept_in c (entries trace) e p.file) ≡ 1
@@ -167,3 +168,4 @@ pub record PullFact (c : Config) (trace : List Line) (e : EpochId) (p : Pull) : 
   pub size_is : length version.content ≡ p.size
   pub pages : p.content ≡ take (length p.content) version.content
   pub even : (length p.content ≡ p.size) ⊎ ((k : ℕ) × (length p.content ≡ 1024 * k))
+  pub wanted : has p.set me ≡ true

@@ -1,6 +1,6 @@
 -- What a using site has, by the trace alone: its waiting calls as far as their processes have taken answers, and the packet of
 -- each current request with its fact; its instances; its descriptors.
-use Rattle.std.specs.Prelude.{ℕ, ◌≡◌, ◌⊎◌, ◌+◌, ◌==◌, not, cond, List, [], ◌∷◌, length, map, filter, Option, None, Some}
+use Rattle.std.specs.Prelude.{ℕ, ◌≡◌, ◌⊎◌, ◌+◌, ◌==◌, ◌<◌, not, cond, List, [], ◌∷◌, length, map, filter, Option, None, Some}
 use Rattle.std.specs.List.{find, list_any}
 use Rattle.std.specs.Option.{is_some}
 use Rattle.locus_ids.specs.declared.config.Config.{Config}
@@ -18,7 +18,7 @@ use Rattle.call_rules.specs.declared.answer.Answer.TheVariants as answer
 use Rattle.call_rules.specs.declared.want.Want.{Want}
 use Rattle.call_rules.specs.declared.want.Want.TheVariants as want
 use Rattle.role_steps.specs.Own.{Every}
-use Rattle.role_steps.specs.Requests.{user_instance, descriptors_of, request_packets}
+use Rattle.role_steps.specs.Requests.{waiting_key, instance_serial, descriptor_key, user_instance, descriptors_of, request_packets}
 use Rattle.role_steps.specs.Views.{Users, Frame, Told, Shown, Takes}
 use Rattle.role_steps.specs.declared.users.Asking.{Asking}
 use Rattle.role_steps.specs.declared.users.Asking.TheVariants as asking
@@ -40,6 +40,7 @@ use Rattle.tree_laws.specs.Serials.{asked_now, opens_asked, ops_asked, serial_as
 use Rattle.tree_laws.specs.Past.{WasGranted}
 use Rattle.tree_laws.specs.Instances.{IsOpening, Stands}
 use Rattle.tree_laws.specs.Packets.{PacketFact, SeesVersion, serial_of}
+use Rattle.tree_laws.specs.Stores.{Ascends}
 
 abbrev pub own_call : ℕ → ℕ → ℕ → CallId
 own_call me boot n = record { site = me; boot = boot; n = n }
@@ -136,6 +137,9 @@ had c (x ∷ older) me = had_told c older x.told me (had c older me)
 -- in an epoch
 pub record InsideUsers (c : Config) (trace : List Line) (f : Frame) (u : Users) : Type 0 where
   pub calls : Every (WaitingFact c trace f) u.waiting
+  -- both tables stand in ascending order
+  pub ascends : Ascends waiting_key u.waiting
+  pub numbered : Ascends instance_serial u.instances
   pub instances : Every (UserInstanceFact c trace f) u.instances
   pub has : (serial : ℕ) → is_some (user_instance u serial) ≡ has_number (had c trace f.me) serial
   -- each call of the site that waits is among them
@@ -148,4 +152,6 @@ pub record UsersFact (c : Config) (trace : List Line) (me boot : ℕ) (u : Users
   pub boot_is : boot ≡ boot_of (entries trace) me
   pub calls : u.calls ≡ calls_accepted (entries trace) me
   pub serials : u.serials ≡ opens_asked c trace me
-  pub descriptors : (process fd : ℕ) → descriptors_of u process fd ≡ descriptor (entries trace) me process fd
+  -- the table's key tells process and number apart up to the greatest number that a line can name
+  pub descriptors : (process fd : ℕ) → fd < 65536 → descriptors_of u process fd ≡ descriptor (entries trace) me process fd
+  pub ascends : Ascends descriptor_key u.descriptors

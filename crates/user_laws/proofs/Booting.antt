@@ -139,14 +139,15 @@ all_down c (x ∷ older) h s down = down_told c x.number x.told older h.0 (all_d
 -- ---- a site that has just booted ----
 
 pub first_users : (c : Config) (me : ℕ) → UsersFact c [] me 1 no_users
-first_users c me = record { boot_is = refl; calls = refl; serials = refl; descriptors = λ process fd. refl }
+first_users c me = record { boot_is = refl; calls = refl; serials = refl; descriptors = λ process fd lt. refl; ascends = tt }
 
 pub booted_users : (c : Config) (n me boot : ℕ) (older : List Line) → IsFollowed c older → MayTell c older (Shown (says.Up me boot)) → UsersFact c (record { number = n; told = Shown (says.Up me boot) } ∷ older) me boot no_users
 booted_users c n me boot older h may = record {
   boot_is = sym (ap (λ (b : Bool). cond b boot (boot_of (entries older) me)) (test_own me));
   calls = sym (ap (λ (b : Bool). cond b 0 (calls_accepted (entries older) me)) (test_own me));
   serials = sym (ap (λ (b : Bool). cond b 0 (opens_asked c older me)) (test_own me));
-  descriptors = λ process fd. sym ((all_down c older h me may.row.stopped).descriptors process fd);
+  descriptors = λ process fd lt. sym ((all_down c older h me may.row.stopped).descriptors process fd);
+  ascends = tt;
 }
 
 -- what a site in no epoch counts stays when somebody else tells a line
@@ -155,5 +156,6 @@ outside_stays c n x older me boot u away calm k = record {
   boot_is = k.boot_is ∙ sym (boots_stay n me x older calm);
   calls = k.calls ∙ sym (calls_stay n me x older away calm);
   serials = k.serials ∙ sym (opens_stay c n me x older away calm);
-  descriptors = λ process fd. k.descriptors process fd ∙ sym (descriptors_stay n me process fd x older away calm);
+  descriptors = λ process fd lt. k.descriptors process fd lt ∙ sym (descriptors_stay n me process fd x older away calm);
+  ascends = k.ascends;
 }

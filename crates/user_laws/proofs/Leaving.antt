@@ -1,5 +1,5 @@
 -- A site that has left its epoch answers each call that waited that this has changed.
-use Rattle.std.proofs.Common.{◌≡◌, ℕ, ◌==◌, Bool, true, false, not, cond, ◌&&◌, List, [], ◌∷◌, ◌++◌, Option, Some, None, refl, sym, ◌∙◌, ap}
+use Rattle.std.proofs.Common.{◌≡◌, ℕ, ◌<◌, ◌==◌, arith, Bool, true, false, not, cond, ◌&&◌, List, [], ◌∷◌, ◌++◌, Option, Some, None, refl, sym, ◌∙◌, ap}
 use Rattle.std.specs.List.{find, flat_map}
 use Rattle.locus_ids.specs.declared.config.Config.{Config}
 use Rattle.locus_ids.specs.declared.ids.CallId.{CallId}
@@ -10,13 +10,13 @@ use Rattle.trace_book.specs.declared.record.Record.TheVariants as says
 use Rattle.trace_book.specs.declared.reply.Reply.TheVariants as reply
 use Rattle.call_rules.specs.declared.want.Want.TheVariants as want
 use Rattle.role_steps.specs.Own.{Every}
-use Rattle.role_steps.specs.Requests.{request_packets, users_repeats}
+use Rattle.role_steps.specs.Requests.{waiting_key, waiting_of, request_packets, users_repeats}
 use Rattle.role_steps.specs.Using.{reply_record, changed_records}
 use Rattle.role_steps.specs.Views.{Users, Frame, Shown}
 use Rattle.role_steps.specs.declared.users.WaitingCall.{WaitingCall}
 use Rattle.the_run.specs.Worlds.{Line, told_onto}
 use Rattle.tree_model.specs.declared.accepted.Waiting.{Waiting}
-use Rattle.tree_model.specs.Calls.{waiting}
+use Rattle.tree_model.specs.Calls.{call_named, waiting}
 use Rattle.tree_model.specs.Epochs.{epoch_of, is_in}
 use Rattle.lawful_trace.specs.CallRows.{is_this}
 use Rattle.lawful_trace.specs.Progress.{now_wants, left_epoch, left_since, unless_left, wants_next}
@@ -25,8 +25,10 @@ use Rattle.tree_laws.specs.Printed.{entries}
 use Rattle.tree_laws.specs.Doing.{AllTold, IsOfUsers, UsersInside}
 use Rattle.tree_laws.specs.Following.{MayTell}
 use Rattle.tree_laws.specs.Packets.{PacketFact}
+use Rattle.tree_laws.specs.Stores.{Ascends}
 use Rattle.tree_laws.specs.Users.{own_call, WaitingFact, UsersFact}
-use Rattle.tree_laws.proofs.Names.{same_call_eq, test_own}
+use Rattle.tree_laws.proofs.Boots.{every_pair}
+use Rattle.tree_laws.proofs.Names.{some_is, same_call_eq, test_own}
 use Rattle.user_laws.specs.Leaving.{AreApart, LeavesFine}
 use Rattle.user_laws.proofs.Idle.{idle_waits, idle_has}
 use Rattle.user_laws.proofs.Staying.{With, find_kept}
@@ -75,7 +77,7 @@ all_own f (w ∷ ws) = (refl, all_own f ws)
 -- ---- what stays ----
 
 answered_stays : (c : Config) (n : ℕ) (t : List Line) (f : Frame) (w : WaitingCall) (u : Users) → UsersFact c t f.me f.boot u → UsersFact c (With n (reply_record f.me f.boot w (reply.No (refusal.Changed f.epoch))) t) f.me f.boot u
-answered_stays c n t f w u k = record { boot_is = k.boot_is; calls = k.calls; serials = k.serials; descriptors = λ process fd. k.descriptors process fd ∙ sym (either ((f.me == f.me) && (w.process == process)) (descriptor (entries t) f.me process fd)) }
+answered_stays c n t f w u k = record { boot_is = k.boot_is; calls = k.calls; serials = k.serials; descriptors = λ process fd lt. k.descriptors process fd lt ∙ sym (either ((f.me == f.me) && (w.process == process)) (descriptor (entries t) f.me process fd)); ascends = k.ascends }
   where
     either : {A : Type 0} (b : Bool) (old : A) → cond b old old ≡ old
     either true old = refl
@@ -85,17 +87,34 @@ all_answered : (c : Config) (n : ℕ) (t : List Line) (f : Frame) (ws : List Wai
 all_answered c n t f [] u k = k
 all_answered c n t f (w ∷ ws) u k = all_answered c n (With n (reply_record f.me f.boot w (reply.No (refusal.Changed f.epoch))) t) f ws u (answered_stays c n t f w u k)
 
+-- ---- no two have one number ----
+
+-- two calls with one number are one call, and so have one key
+pub one_number : (c : Config) (t : List Line) (f : Frame) (w v : WaitingCall) → WaitingFact c t f w → WaitingFact c t f v → v.call ≡ w.call → waiting_key v ≡ waiting_key w
+one_number c t f w v k l e = ap (λ (x : Waiting). waiting_of x.process x.words) (sym l.caller_is ∙ (same ∙ k.caller_is))
+  where
+    same : l.caller ≡ k.caller
+    same = some_is l.caller k.caller (sym l.named ∙ (ap (λ (m : ℕ). call_named (entries t) (own_call f.me f.boot m)) e ∙ k.named))
+
+-- so it is of all that wait
+pub all_apart : (c : Config) (t : List Line) (f : Frame) (ws : List WaitingCall) → Ascends waiting_key ws → Every (WaitingFact c t f) ws → AreApart ws
+all_apart c t f [] up k = tt
+all_apart c t f (w ∷ ws) up k = (every_pair (λ (v : WaitingCall). waiting_key w < waiting_key v) (WaitingFact c t f) (λ (v : WaitingCall). v.call ≡ w.call → ⊥) ws (λ v lt l e. less_own (waiting_key w) (waiting_key v) lt (one_number c t f w v k.0 l e)) up.0 k.1, all_apart c t f ws up.1 k.1)
+  where
+    less_own : (a b : ℕ) → a < b → b ≡ a → ⊥
+    less_own a b lt e = omega (arith, lt, e)
+
 -- ---- the site leaves ----
 
 all_left : (c : Config) (n : ℕ) (older : List Line) (f : Frame) (ws : List WaitingCall) → Every (WaitingFact c older f) ws → Every (IsLeft (With n (Shown (says.Leave f.me f.epoch)) older) f) ws
 all_left c n older f [] k = tt
 all_left c n older f (w ∷ ws) k = (record { caller = k.0.caller; site_is = ap (λ (x : Waiting). x.site) k.0.caller_is; call_is = ap (λ (x : Waiting). x.call) k.0.caller_is; epoch_is = ap (λ (x : Waiting). x.epoch) k.0.caller_is; waits = k.0.waits }, all_left c n older f ws k.1)
 
-pub users_leave_fine : (c : Config) (n : ℕ) (older : List Line) (f : Frame) (u : Users) → AreApart u.waiting → UsersInside c f older u → LeavesFine c n (With n (Shown (says.Leave f.me f.epoch)) older) f u
-users_leave_fine c n older f u apart k = record {
-  told = all_told c n (With n (Shown (says.Leave f.me f.epoch)) older) f u.waiting (ap (λ (b : Bool). cond b None (epoch_of (entries older) f.me)) (test_own f.me)) apart (all_left c n older f u.waiting k.inside.calls);
+pub users_leave_fine : (c : Config) (n : ℕ) (older : List Line) (f : Frame) (u : Users) → UsersInside c f older u → LeavesFine c n (With n (Shown (says.Leave f.me f.epoch)) older) f u
+users_leave_fine c n older f u k = record {
+  told = all_told c n (With n (Shown (says.Leave f.me f.epoch)) older) f u.waiting (ap (λ (b : Bool). cond b None (epoch_of (entries older) f.me)) (test_own f.me)) (all_apart c older f u.waiting k.inside.ascends k.inside.calls) (all_left c n older f u.waiting k.inside.calls);
   own = all_own f u.waiting;
-  always = all_answered c n (With n (Shown (says.Leave f.me f.epoch)) older) f u.waiting (record u { waiting = []; instances = []; hopeless = [] }) (record { boot_is = k.always.boot_is; calls = k.always.calls; serials = k.always.serials; descriptors = k.always.descriptors });
+  always = all_answered c n (With n (Shown (says.Leave f.me f.epoch)) older) f u.waiting (record u { waiting = []; instances = []; hopeless = [] }) (record { boot_is = k.always.boot_is; calls = k.always.calls; serials = k.always.serials; descriptors = k.always.descriptors; ascends = k.always.ascends });
   sent = refl;
   none_waits = idle_waits c n older f u k.inside;
   has_none = idle_has c n older f u;

@@ -101,7 +101,7 @@ unturned c n me (Takes s it request times a) older d may own away turn = away (s
 unturned c n me (LooksAgain s it request times) older d may own away turn = away (sym may.site_is ∙ (ap (λ (y : CallId). y.site) turn ∙ own))
 unturned c n me _ older d may own away turn = turn
 
-other_call : (it d : CallId) → (it ≡ d → ⊥) → same_call it d ≡ false
+pub other_call : (it d : CallId) → (it ≡ d → ⊥) → same_call it d ≡ false
 other_call it d ne = at (same_call it d) refl
   where
     at : (t : Bool) → same_call it d ≡ t → same_call it d ≡ false

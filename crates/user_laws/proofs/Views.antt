@@ -181,6 +181,8 @@ module _ (c : Config) (n : ℕ) (x : Told) (older : List Line) (f : Frame) (h : 
   inside_stays : (u : Users) → FrameFact c older f → InsideUsers c older f u → InsideUsers c (With n x older) f u
   inside_stays u frame k = record {
     calls = every_both (WaitingFact c older f) (WaitingFact c (With n x older) f) u.waiting waiting_stays k.calls;
+    ascends = k.ascends;
+    numbered = k.numbered;
     instances = every_both (UserInstanceFact c older f) (UserInstanceFact c (With n x older) f) u.instances instance_stays k.instances;
     has = λ serial. k.has serial ∙ ap (λ (ns : List ℕ). has_number ns serial) (sym (had_stays c n f.me x older away calm));
     all = λ d process caller found. over d process (own d process caller found) (waited_before c n f.me x older process d caller h (own d process caller found) away found);
@@ -203,7 +205,8 @@ module _ (c : Config) (n : ℕ) (x : Told) (older : List Line) (f : Frame) (h : 
     boot_is = k.boot_is ∙ sym (boots_stay n f.me x older calm);
     calls = k.calls ∙ sym (calls_stay n f.me x older away calm);
     serials = k.serials ∙ sym (opens_stay c n f.me x older away calm);
-    descriptors = λ process fd. k.descriptors process fd ∙ sym (descriptors_stay n f.me process fd x older away calm);
+    descriptors = λ process fd lt. k.descriptors process fd lt ∙ sym (descriptors_stay n f.me process fd x older away calm);
+    ascends = k.ascends;
   }
 
 -- what the using site of a site has stays when somebody else tells a line

@@ -26,7 +26,7 @@ use Rattle.tree_laws.specs.Printed.{entries, onto_entries}
 use Rattle.tree_laws.proofs.Names.{same_call_eq, true_false}
 use Rattle.order_laws.proofs.Standing.{same_file_eq}
 use Rattle.one_tree_laws.specs.Rest.{AskedCall, EachRest, RangeCall, RangeTold}
-use Rattle.rest_laws.specs.Known.{IsKnownCall}
+use Rattle.store_step_laws.specs.Known.{IsKnownCall}
 
 none_some : {A : Type 0} (x : A) → ◌≡◌ {A = Option A} None (Some x) → ⊥
 none_some x e = cc

@@ -14,9 +14,9 @@ use Rattle.tree_laws.specs.Past.{NamingRecord, Printed, WasNamed, WasReleased}
 use Rattle.tree_laws.specs.Printed.{entries}
 use Rattle.holding_laws.proofs.Released.{released_named}
 use Rattle.one_tree_laws.specs.Rest.{EachRest, Past}
-use Rattle.rest_laws.proofs.Known.{known_call}
+use Rattle.store_step_laws.proofs.Known.{known_call}
 
-named_low : (c : Config) (t : List Line) → IsFollowed c t → EachRest c t → (e : EpochId) (i : Serial) → WasNamed t e i → i.us ≤ 16
+pub named_low : (c : Config) (t : List Line) → IsFollowed c t → EachRest c t → (e : EpochId) (i : Serial) → WasNamed t e i → i.us ≤ 16
 named_low c [] h g e i k = absurd k
 named_low c (x ∷ older) h g e i (inr k) = named_low c older h.1 g.1 e i k
 named_low c (x ∷ older) h g e i (inl k) = over x.told h.0 k

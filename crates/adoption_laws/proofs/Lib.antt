@@ -1,0 +1,9 @@
+pub mod Resolving
+pub mod Having
+pub mod Mending
+pub mod Shut
+pub mod Wants
+pub mod Rows
+pub mod Noting
+pub mod Adopting
+pub mod Choosing

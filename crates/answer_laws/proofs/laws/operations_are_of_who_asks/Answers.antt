@@ -1,0 +1,10 @@
+use Rattle.answer_laws.proofs.Done.{done_low}
+use Rattle.answer_laws.proofs.Removers.{open_here, remover_opened}
+use Rattle.answer_laws.proofs.laws.operations_are_of_who_asks.Goals as goal
+
+pub returns : goal.returns
+returns c = record {
+  here = λ config trace h e group i x found. open_here config trace h e group i x found;
+  done = λ config trace h e i number o r x was found. done_low config trace h e i number o r x was found;
+  removers = λ config trace h e i x d number name ino found owner asks. remover_opened config trace h e i x d number name ino found owner asks;
+}

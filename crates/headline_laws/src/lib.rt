@@ -1,0 +1,7 @@
+//! The run of a schedule is lawful: what the laws of sites, lines, calls and of the one tree give together. Theorems about the run alone;
+//! this room has no running part.
+#![tactic(auto)]
+
+mod laws;
+
+pub use laws::{every_run_holds, runs_are_lawful};

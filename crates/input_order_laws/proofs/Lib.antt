@@ -1,0 +1,3 @@
+pub mod Order
+pub mod Trees
+pub mod Loads

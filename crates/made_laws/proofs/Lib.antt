@@ -1,0 +1,3 @@
+pub mod Placing
+pub mod Answered
+pub mod Opened

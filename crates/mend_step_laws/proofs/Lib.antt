@@ -1,0 +1,11 @@
+pub mod Lists
+pub mod KeptVectors
+pub mod Numbered
+pub mod Narrow
+pub mod Rows
+pub mod Wanted
+pub mod Beside
+pub mod Starting
+pub mod Places
+pub mod Meeting
+pub mod Working

@@ -1,0 +1,5 @@
+pub mod Others
+pub mod Scripts
+pub mod Placed
+pub mod Seen
+pub mod Removers

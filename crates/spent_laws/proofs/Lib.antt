@@ -1,0 +1,3 @@
+pub mod Rescues
+pub mod Stores
+pub mod Run

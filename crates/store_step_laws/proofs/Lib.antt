@@ -1,0 +1,11 @@
+pub mod First
+pub mod Known
+pub mod Named
+pub mod Staying
+pub mod Resting
+pub mod Counters
+pub mod Granting
+pub mod Asking
+pub mod Owing
+pub mod Writing
+pub mod Steps

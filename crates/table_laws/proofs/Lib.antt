@@ -1,0 +1,14 @@
+pub mod Noting
+pub mod Filing
+pub mod Notes
+pub mod Known
+pub mod High
+pub mod Openers
+pub mod Putting
+pub mod Releasing
+pub mod Called
+pub mod Shutting
+pub mod Publishing
+pub mod Files
+pub mod Naming
+pub mod Closing

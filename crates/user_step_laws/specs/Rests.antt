@@ -1,0 +1,16 @@
+-- What the steps of a using site take of other laws, of each trace whose lines came as they may.
+use Rattle.std.specs.Prelude.{◌≤◌, List, length}
+use Rattle.locus_ids.specs.declared.config.Config.{Config}
+use Rattle.the_run.specs.Worlds.{Line}
+use Rattle.user_laws.specs.Rests.{ActRests, CloseRests, LookRests, OpenRests, ReplyRests, RequestRests}
+use Rattle.one_tree_laws.specs.Rest.{Past}
+
+pub record UserRests (c : Config) : Type 0 where
+  -- of the cluster: it has at most four groups
+  pub few : length c.packs ≤ 4
+  pub requests : (trace : List Line) → Past c trace → RequestRests c trace
+  pub replies : (trace : List Line) → Past c trace → ReplyRests c trace
+  pub looks : (trace : List Line) → Past c trace → LookRests c trace
+  pub acts : (trace : List Line) → Past c trace → ActRests c trace
+  pub opens : (trace : List Line) → Past c trace → OpenRests c trace
+  pub closes : (trace : List Line) → Past c trace → CloseRests c trace
