@@ -4,24 +4,19 @@ use Rattle.schedule_lines.specs.Cluster.{config_of}
 use Rattle.schedule_lines.specs.declared.line.ScheduleLine.{ScheduleLine}
 use Rattle.the_run.specs.Runs.{run}
 use Rattle.lawful_trace.specs.Lawful.{IsLawful}
-use Rattle.lawful_trace.specs.Orderly.{OrderlyBlocksForm}
-use Rattle.row_laws.specs.Shown.{EachRecord, trace_of}
+use Rattle.lawful_trace.specs.Orderly.{LeavesAreOwn, OrderlyBlocksForm}
+use Rattle.row_laws.specs.Shown.{trace_of}
 use Rattle.copy_laws.specs.Hold.{VersionsAndCopiesHold}
 use Rattle.tree_laws.specs.Following.{RowsAreLawful}
-use Rattle.mend_step_laws.specs.Counting.{IsCountedRow}
-use Rattle.rest_laws.specs.Left.{RolesLeft}
-
--- what no law gives yet
-pub record IsLeft (lines : List ScheduleLine) : Type 0 where
-  pub roles : RolesLeft (config_of lines)
-  pub counted : EachRecord (IsCountedRow (config_of lines) lines) (trace_of (run lines))
 
 pub record RunHolds (lines : List ScheduleLine) : Type 0 where
   -- versions are ordered by ancestry, each that was brought to an epoch is under a kept one, and each copy is a version whole
   pub versions : VersionsAndCopiesHold (config_of lines) (run lines)
   -- each record comes as the one tree of its epoch's members has it: each reply too
-  pub rows : IsLeft lines → RowsAreLawful (config_of lines) (trace_of (run lines))
+  pub rows : RowsAreLawful (config_of lines) (trace_of (run lines))
   -- where the run passes no limit the whole trace is lawful: each record is asked for by the lines, and each line is told
-  pub lawful : (run lines).over ≡ None → IsLeft lines → IsLawful lines (trace_of (run lines))
+  pub lawful : (run lines).over ≡ None → IsLawful lines (trace_of (run lines))
   -- and, in an orderly schedule, each block of lines forms its epochs
   pub formed : (run lines).over ≡ None → OrderlyBlocksForm lines (trace_of (run lines))
+  -- and a site leaves its epoch by its own line, or where it is asked to another
+  pub leaves : (run lines).over ≡ None → LeavesAreOwn lines (trace_of (run lines))

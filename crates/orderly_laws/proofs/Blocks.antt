@@ -245,14 +245,14 @@ lines_in c n first w R (x ∷ xs) d a b h within =
 
 -- ---- before the block, and after it ----
 
-abbrev NoStarts : Starts
+abbrev pub NoStarts : Starts
 NoStarts X P = ⊥
 
 dead_ok : (first : World) (R : Starts) (at : Places) (p : Packet) (x : Body) → OnPoll (IsDead at p) x → OnPoll (IsDead at p ⊎ IsLive first R p) x
 dead_ok first R at p body.Poll h = inl h
 dead_ok first R at p _ h = tt
 
-before_block : (first : World) → Good first → NumbersAscend first → IsQuiet first → InBlock first first NoStarts
+pub before_block : (first : World) → Good first → NumbersAscend first → IsQuiet first → InBlock first first NoStarts
 before_block first good ascend q = record {
   good = good;
   ascend = ascend;
@@ -274,7 +274,7 @@ acts_over n s v o w =
     (λ ps told place a. happened_within n ps told (λ now. puts s place (arms a now)) w)
     (λ ps told d. happened_within n ps told (stops_with s d) w)
 
-round_within : (c : Config) (n : ℕ) (first : World) → RoundKept c n (λ (u : World). u.over ≡ None → first.over ≡ None)
+pub round_within : (c : Config) (n : ℕ) (first : World) → RoundKept c n (λ (u : World). u.over ≡ None → first.over ≡ None)
 round_within c n first = record {
   ticks = λ s v w here p k. p (acts_over n s v (step c s (links_of w s) v Ticks) w k);
   receives = λ x v w here a undropped p k. p (acts_over n x.packet.to v (step c x.packet.to (links_of (passed x.number w) x.packet.to) v (Receives x.packet)) (passed x.number w) k);

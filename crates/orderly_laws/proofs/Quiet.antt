@@ -100,7 +100,7 @@ abbrev EventDead : Places → ℕ → Event → Type 0
 EventDead at s (Receives p) = (p.to ≡ s) × OnPoll (IsDead at p) p.body
 EventDead at s _ = Unit {0}
 
-greater_not : (a b : EpochId) → IsAtMost b a → is_epoch_below a b ≡ true → ⊥
+pub greater_not : (a b : EpochId) → IsAtMost b a → is_epoch_below a b ≡ true → ⊥
 greater_not a b h e = true_false (sym e ∙ h)
   where
     true_false : true ≡ false → ⊥
@@ -185,7 +185,7 @@ passed_still c k w h = record { good = (good_kept c).passes k w h.good; ascend =
 steps_still : (c : Config) (n s : ℕ) (e : Event) (v : SiteView) (w : World) → place_at w s ≡ Some (Running v) → IsOwn e → BeginsNone e → EventDead (place_at w) s e → Still w → Still (acts n s v (step c s (links_of w s) v e) w)
 steps_still c n s e v w here own begins dead h = record { good = (good_kept c).steps n s e v w here own h.good; ascend = (ascend_kept c).steps n s e v w here own h.ascend; quiet = acts_quiet c n s e v w here begins dead h.good h.quiet }
 
-dead_sent : (w : World) (x : Numbered) → WasSent w x → IsQuiet w → OnPoll (IsDead (place_at w) x.packet) x.packet.body
+pub dead_sent : (w : World) (x : Numbered) → WasSent w x → IsQuiet w → OnPoll (IsDead (place_at w) x.packet) x.packet.body
 dead_sent w x (inl a) q = found_among (DeadPoll (place_at w)) x w.sent q.sent a
 dead_sent w x (inr a) q = found_among (DeadPoll (place_at w)) x w.underway q.underway a
 
@@ -203,7 +203,7 @@ told_still c n told w g a h = record { good = g; ascend = a; quiet = told_quiet 
 voids_still : (c : Config) (n : ℕ) (w : World) → Still w → Still (voids n w)
 voids_still c n w h = told_still c n (Shown says.Void ∷ []) w ((good_kept c).voiding n w h.good) ((ascend_kept c).voiding n w h.ascend) h
 
-round_still : (c : Config) (n : ℕ) → RoundKept c n Still
+pub round_still : (c : Config) (n : ℕ) → RoundKept c n Still
 round_still c n = record {
   ticks = λ s v w here h. steps_still c n s Ticks v w here tt tt tt h;
   receives = λ x v w here a undropped h. receives_still c n x v w here (inr a) h;
@@ -240,7 +240,7 @@ arrives_still c n x w sent h = by_place (place_at w x.packet.to) refl
           | false ↦ happening v e
         ]
 
-row_there : {A : Type 0} (key : A → ℕ) (k : ℕ) (xs : List A) (x : A) → row key k xs ≡ Some x → Among x xs
+pub row_there : {A : Type 0} (key : A → ℕ) (k : ℕ) (xs : List A) (x : A) → row key k xs ≡ Some x → Among x xs
 row_there key k [] x e = absurd (none_some x e)
   where
     none_some : {A : Type 0} (x : A) → ◌≡◌ {A = Option A} None (Some x) → ⊥

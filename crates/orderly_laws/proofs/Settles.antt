@@ -184,7 +184,7 @@ pub record InRound (first : World) (R : Starts) (n : ℕ) (w : World) : Type 0 w
   pub ascend : NumbersAscend w
   pub settling : Unbroken n w → Settling first R w
 
-round_kept : (c : Config) (n : ℕ) (first : World) (R : Starts) → AreApart first R → RoundKept c n (InRound first R n)
+pub round_kept : (c : Config) (n : ℕ) (first : World) (R : Starts) → AreApart first R → RoundKept c n (InRound first R n)
 round_kept c n first R apart = record {
   ticks = λ s v w here h. record {
     good = (good_kept c).steps n s Ticks v w here tt h.good;

@@ -110,7 +110,7 @@ before_any p (r ∷ older) n h =
       | false ↦ before_any p older n (or_false (p r) (list_any p older) h).1
     ]
 
-unbroken_at : (lines : List ScheduleLine) (k : ℕ) → IsWithin lines → list_any (tells_break k) (trace_of (run lines)) ≡ false → Unbroken k (at lines k)
+pub unbroken_at : (lines : List ScheduleLine) (k : ℕ) → IsWithin lines → list_any (tells_break k) (trace_of (run lines)) ≡ false → Unbroken k (at lines k)
 unbroken_at lines k within h = record {
   within = within_at lines k within;
   whole = whole_of k (at lines k).trace (ap (list_any (tells_break k)) (sym (before_at (config_of lines) lines k)) ∙ before_any (tells_break k) (trace_of (run lines)) (suc k) h);
@@ -134,7 +134,7 @@ pub record Closed (lines : List ScheduleLine) (b m : ℕ) : Type 0 where
 pub stretch : (lines : List ScheduleLine) (b m : ℕ) → EachFits lines → Closes lines b m → Inside (config_of lines) lines b m
 stretch lines b m fits h = λ i low high. stands_in lines fits i (h.inside i low high)
 
-all_apart : (lines : List ScheduleLine) (b m : ℕ) → EachFits lines → Closes lines b m → Apart (config_of lines) lines b m
+pub all_apart : (lines : List ScheduleLine) (b m : ℕ) → EachFits lines → Closes lines b m → Apart (config_of lines) lines b m
 all_apart lines b m fits h = record {
   itself = λ i X P low high r. (let s : (1 ≤ X) × ((X ≤ 16) × (X ≤ (config_of lines).sites)) = starter_site lines fits i X P (inside i low high) r in
       reaches_itself lines fits b X s.0 s.1.0 (starter_boot lines fits b m i b X P low high (omega arith) h.low inside r));
@@ -155,6 +155,12 @@ all_apart lines b m fits h = record {
 pub run_ascends : (c : Config) (lines : List ScheduleLine) → NumbersAscend (run_in c lines)
 run_ascends c lines = every_run c NumbersAscend (ascend_kept c) (first_ascends c) lines
 
+-- the world at the end of the round
+pub round_ends : (lines : List ScheduleLine) (b j most : ℕ) → line_at lines (suc (b + j)) ≡ EventLine (line.Settle most) → settles (config_of lines) (suc (b + j)) most (run_from (config_of lines) (suc b) (span lines b j) (at lines b)) ≡ at lines (suc (b + j))
+round_ends lines b j most e =
+    let c : Config = config_of lines in
+    ap (settles c (suc (b + j)) most) (span_world c lines b j) ∙ (ap (λ (x : ScheduleLine). acts_line c (suc (b + j)) x (at lines (b + j))) (sym e) ∙ sym (next_world c lines (b + j)))
+
 -- all from the first world on, by the lengths of lists
 closes_from : (lines : List ScheduleLine) (b j : ℕ) → EachFits lines → IsWithin lines → IsQuiet (at lines b) → Closes lines b (b + j) →
     ((X : ℕ) (P : Links) → starts_of (config_of lines) (suc b) (span lines b j) (at lines b) X P → Agrees (at lines b) (at lines (suc (b + j))) X P) × IsQuiet (at lines (suc (b + j)))
@@ -169,7 +175,7 @@ closes_from lines b j fits within quiet h =
     c = config_of lines
 
     ends : settles c (suc (b + j)) h.most (run_from c (suc b) (span lines b j) (at lines b)) ≡ at lines (suc (b + j))
-    ends = ap (settles c (suc (b + j)) h.most) (span_world c lines b j) ∙ (ap (λ (x : ScheduleLine). acts_line c (suc (b + j)) x (at lines (b + j))) (sym h.settles) ∙ sym (next_world c lines (b + j)))
+    ends = round_ends lines b j h.most h.settles
 
 pub closes : (lines : List ScheduleLine) (b m : ℕ) → EachFits lines → IsWithin lines → IsQuiet (at lines b) → Closes lines b m → Closed lines b m
 closes lines b m fits within quiet h = subst (λ (k : ℕ). Closes lines b k → Closed lines b k) {x = b + (m - b)} {y = m} (omega (arith, low)) by_length h

@@ -45,7 +45,7 @@ order (suc a) (suc b) = up (order a b)
     up (inr (inl e)) = inr (inl (ap suc e))
     up (inr (inr e)) = inr (inr (omega (arith, e)))
 
-is_passed : (x : ScheduleLine) → (x ≡ Passed) ⊎ (x ≡ Passed → ⊥)
+pub is_passed : (x : ScheduleLine) → (x ≡ Passed) ⊎ (x ≡ Passed → ⊥)
 is_passed Passed = inl refl
 is_passed (Header h) = inr (λ e. cc)
 is_passed (EventLine y) = inr (λ e. cc)
@@ -112,12 +112,12 @@ closes_of lines b k h = record {
 -- ---- the state before each line ----
 
 -- all was quiet before line b + 1, which starts a site, and the lines since are of its block; or all is quiet now
-record State (lines : List ScheduleLine) (k : ℕ) : Type 0 where
-  b : ℕ
-  le : b ≤ k
-  quiet : IsQuiet (at lines b)
-  inside : (i : ℕ) → b ≤ i → i < k → MayStand lines i
-  first : (b ≡ k) ⊎ ((s : ℕ) × StartsLine lines b s)
+pub record State (lines : List ScheduleLine) (k : ℕ) : Type 0 where
+  pub b : ℕ
+  pub le : b ≤ k
+  pub quiet : IsQuiet (at lines b)
+  pub inside : (i : ℕ) → b ≤ i → i < k → MayStand lines i
+  pub first : (b ≡ k) ⊎ ((s : ℕ) × StartsLine lines b s)
 
 quiet_state : (lines : List ScheduleLine) (k : ℕ) → IsQuiet (at lines k) → State lines k
 quiet_state lines k h = record { b = k; le = omega arith; quiet = h; inside = λ i low high. absurd (omega (arith, low, high)); first = inl refl }
@@ -143,8 +143,29 @@ still_next lines k none quiet =
     subst IsQuiet (sym (next_world c lines k))
     (line_still c (suc k) (line_at lines (suc k)) (at lines k) (line_starts_none c (take k lines) (line_at lines (suc k)) (sym (starts_is lines k) ∙ none)) (record { good = known.run_good c (take k lines); ascend = run_ascends c (take k lines); quiet = quiet })).quiet
 
-abbrev Orderly : List ScheduleLine → ℕ → Type 0
+abbrev pub Orderly : List ScheduleLine → ℕ → Type 0
 Orderly lines last = IsOrderly lines (trace_of (run lines)) last
+
+-- the block that the next line ends
+pub closing : (lines : List ScheduleLine) (last k : ℕ) → Orderly lines last → suc k ≤ last → (st : State lines k) → initiator lines (trace_of (run lines)) (suc k) ≡ None → (line_at lines (suc k) ≡ Passed → ⊥) → (t : ℕ) × StartsLine lines st.b t → Closes lines st.b k
+closing lines last k orderly le st none p y = closes_of lines st.b k (record {
+  low = low;
+  inside = st.inside;
+  first = y.0;
+  starts = y.1;
+  some = below (order st.b k);
+  nobody = none;
+  whole = p;
+  orderly = λ i s a z x. (let o : (settle : ℕ) × (settle ≤ last) × IsOrderlyLine lines (trace_of (run lines)) (suc i) s settle = orderly (suc i) s (omega (arith, z, le)) x in (o.0, o.2));
+})
+  where
+    low : st.b ≤ k
+    low = st.le
+
+    below : Order st.b k → st.b < k
+    below (inl less) = less
+    below (inr (inl e)) = absurd (none_some y.0 (sym (subst (λ (j : ℕ). initiator lines (trace_of (run lines)) (suc j) ≡ None) (sym e) none) ∙ y.1))
+    below (inr (inr beyond)) = absurd (omega (arith, low, beyond))
 
 next_state : (lines : List ScheduleLine) (last k : ℕ) → EachFits lines → IsWithin lines → Orderly lines last → suc k ≤ last → State lines k → State lines (suc k)
 next_state lines last k fits within orderly le st = by_starter (initiator lines (trace_of (run lines)) (suc k)) refl
@@ -159,27 +180,13 @@ next_state lines last k fits within orderly le st = by_starter (initiator lines 
     by_first : initiator lines (trace_of (run lines)) (suc k) ≡ None → (line_at lines (suc k) ≡ Passed) ⊎ (line_at lines (suc k) ≡ Passed → ⊥) → (st.b ≡ k) ⊎ ((t : ℕ) × StartsLine lines st.b t) → State lines (suc k)
     by_first none p (inl e) = quiet_state lines (suc k) (still_next lines k none (subst (λ (j : ℕ). IsQuiet (at lines j)) e st.quiet))
     by_first none (inl p) (inr y) = record { b = st.b; le = omega (arith, low); quiet = st.quiet; inside = more lines st.b k (inl p) st.inside; first = inr y }
-    by_first none (inr p) (inr y) = quiet_state lines (suc k) (closes lines st.b k fits within st.quiet (closes_of lines st.b k (record {
-      low = low;
-      inside = st.inside;
-      first = y.0;
-      starts = y.1;
-      some = below (order st.b k);
-      nobody = none;
-      whole = p;
-      orderly = λ i s a z x. (let o : (settle : ℕ) × (settle ≤ last) × IsOrderlyLine lines (trace_of (run lines)) (suc i) s settle = orderly (suc i) s (omega (arith, z, le)) x in (o.0, o.2));
-    }))).quiet
-      where
-        below : Order st.b k → st.b < k
-        below (inl less) = less
-        below (inr (inl e)) = absurd (none_some y.0 (sym (subst (λ (j : ℕ). initiator lines (trace_of (run lines)) (suc j) ≡ None) (sym e) none) ∙ y.1))
-        below (inr (inr beyond)) = absurd (omega (arith, low, beyond))
+    by_first none (inr p) (inr y) = quiet_state lines (suc k) (closes lines st.b k fits within st.quiet (closing lines last k orderly le st none p y)).quiet
 
     by_starter : (o : Option ℕ) → initiator lines (trace_of (run lines)) (suc k) ≡ o → State lines (suc k)
     by_starter (Some s) e = record { b = st.b; le = omega (arith, low); quiet = st.quiet; inside = more lines st.b k (inr (s, e)) st.inside; first = inr (started s e st.first) }
     by_starter None e = by_first e (is_passed (line_at lines (suc k))) st.first
 
-walk : (lines : List ScheduleLine) (last k : ℕ) → EachFits lines → IsWithin lines → Orderly lines last → k ≤ last → State lines k
+pub walk : (lines : List ScheduleLine) (last k : ℕ) → EachFits lines → IsWithin lines → Orderly lines last → k ≤ last → State lines k
 walk lines last zero fits within orderly le = quiet_state lines 0 (first_quiet (config_of lines))
 walk lines last (suc k) fits within orderly le = next_state lines last k fits within orderly le (walk lines last k fits within orderly (omega (arith, le)))
 

@@ -53,7 +53,7 @@ equal a b e = grind (arith, nat_tests)
 
 -- ---- who starts ----
 
-starter : (lines : List ScheduleLine) → EachFits lines → (k site : ℕ) (P : Links) → initiator lines (trace_of (run lines)) (suc k) ≡ Some site → StartsBy (line_at lines (suc k)) (at lines k) site P → Starter lines k site P
+pub starter : (lines : List ScheduleLine) → EachFits lines → (k site : ℕ) (P : Links) → initiator lines (trace_of (run lines)) (suc k) ≡ Some site → StartsBy (line_at lines (suc k)) (at lines k) site P → Starter lines k site P
 starter lines fits k site P h starts = record { inside = b.inside; starts = starts; low = place.0; high = place.1.0; runs = booted (boot_at (at lines k) site) u.1.0.boot (boot_here (at lines k) site u.1.0 u.1.1) (booted_at lines k site u.1.0 u.1.1) }
   where
     b : Begins (line_at lines (suc k)) (at lines k) site

@@ -10,3 +10,6 @@ pub mod Course
 pub mod Listed
 pub mod Polled
 pub mod Forms
+pub mod Leaving
+pub mod Leavers
+pub mod OwnLeaves

@@ -14,7 +14,7 @@ use Rattle.orderly_traces.proofs.Told.{lines_before}
 
 -- ---- lists ----
 
-take_length : {A : Type 0} (k : ℕ) (xs : List A) → length (take k xs) ≤ k
+pub take_length : {A : Type 0} (k : ℕ) (xs : List A) → length (take k xs) ≤ k
 take_length zero xs = omega arith
 take_length (suc k) [] = omega arith
 take_length (suc k) (x ∷ xs) = (let h : length (take k xs) ≤ k = take_length k xs in omega (arith, h))

@@ -2,7 +2,7 @@ ghost use Rattle.std.specs.Prelude.{List};
 ghost use Rattle.schedule_lines.specs.declared.line.ScheduleLine.{ScheduleLine};
 ghost use Rattle.schedule_lines.specs.Schedule.{AreInOrder};
 ghost use Rattle.the_run.specs.Runs.{run};
-ghost use Rattle.lawful_trace.specs.Orderly.{OrderlyBlocksForm};
+ghost use Rattle.lawful_trace.specs.Orderly.{LeavesAreOwn, OrderlyBlocksForm};
 ghost use Rattle.row_laws.specs.Shown.{trace_of};
 ghost use Rattle.orderly_traces.specs.Fits.{EachFits};
 ghost use Rattle.orderly_traces.specs.Agreeing.{IsWithin, OrderlyBlocksAgree};
@@ -19,4 +19,10 @@ pub fn orderly_blocks_agree()
 /// and the other sites asked are in none.
 pub fn orderly_blocks_form()
     ensures { (lines : List ScheduleLine) → AreInOrder lines → IsWithin lines → OrderlyBlocksForm lines (trace_of (run lines)) }
+{}
+
+/// And so it tells who leaves: in an orderly schedule whose lines are in order and whose run passes no limit, a site leaves its
+/// epoch only by its own line that has it give up, part or merge, or in the round that ends a block in which it is polled.
+pub fn leaves_are_own()
+    ensures { (lines : List ScheduleLine) → AreInOrder lines → IsWithin lines → LeavesAreOwn lines (trace_of (run lines)) }
 {}

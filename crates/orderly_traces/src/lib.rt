@@ -4,4 +4,4 @@
 
 mod laws;
 
-pub use laws::{orderly_blocks_agree, orderly_blocks_form};
+pub use laws::{leaves_are_own, orderly_blocks_agree, orderly_blocks_form};

@@ -199,6 +199,11 @@ removal_after k a xs i ino none mild same r = record {
   closes_target = r.closes_target;
 }
 
+-- of a script that is the same
+pub along_same : (P : Want → Answer → Type 0) (k l : Script) → ((ys : List Answer) → k ys ≡ l ys) → (xs : List Answer) → Along P k xs → Along P l xs
+along_same P k l same [] h = tt
+along_same P k l same (a ∷ xs) h = (subst (λ (w : Want). P w a) (same []) h.0, along_same P (λ ys. k (a ∷ ys)) (λ ys. l (a ∷ ys)) (λ ys. same (a ∷ ys)) xs h.1)
+
 -- a script that is the same
 pub removal_same : (k l : Script) → ((ys : List Answer) → k ys ≡ l ys) → (xs : List Answer) (i : Serial) (ino : ℕ) → Removal k xs i ino → Removal l xs i ino
 removal_same k l same xs i ino r = record {
@@ -212,18 +217,14 @@ removal_same k l same xs i ino r = record {
   closes_dir = λ o. sym (same (xs ++ answer.Did o ∷ [])) ∙ r.closes_dir o;
   closes_target = λ o s. sym (same (xs ++ answer.Did o ∷ answer.Ended s ∷ [])) ∙ r.closes_target o s;
 }
-  where
-    along_same : (P : Want → Answer → Type 0) (k l : Script) → ((ys : List Answer) → k ys ≡ l ys) → (xs : List Answer) → Along P k xs → Along P l xs
-    along_same P k l same [] h = tt
-    along_same P k l same (a ∷ xs) h = (subst (λ (w : Want). P w a) (same []) h.0, along_same P (λ ys. k (a ∷ ys)) (λ ys. l (a ∷ ys)) (λ ys. same (a ∷ ys)) xs h.1)
 
-abbrev goes : (FileId → Kind → Script) → Walked → Want
+abbrev pub goes : (FileId → Kind → Script) → Walked → Want
 goes after (Asks dir c) = want.Look dir (what.Name c)
 goes after (Fails why) = want.Give (reply.No why)
 goes after (There at kd rest) = after at kd rest
 goes after Strays = want.Never
 
-goes_walked : (mounts : List Mount) (path : List (List ℕ)) (after : FileId → Kind → Script) (xs : List Answer) → goes after (walk mounts path [] (root_of 0) kind.Dir xs) ≡ walked mounts path xs after
+pub goes_walked : (mounts : List Mount) (path : List (List ℕ)) (after : FileId → Kind → Script) (xs : List Answer) → goes after (walk mounts path [] (root_of 0) kind.Dir xs) ≡ walked mounts path xs after
 goes_walked mounts path after xs = over (walk mounts path [] (root_of 0) kind.Dir xs) refl
   where
     over : (w : Walked) → walk mounts path [] (root_of 0) kind.Dir xs ≡ w → goes after (walk mounts path [] (root_of 0) kind.Dir xs) ≡ walked mounts path xs after
@@ -267,7 +268,7 @@ begun_removal mounts free words (begins.Uses epoch inst) i name ino xs e = absur
 begun_removal mounts free words begins.Walks i name ino xs e = path_removal mounts free words i name ino xs e
 
 -- by whether groups have packs
-packed_is : (p : ℕ → Bool) (w : Want) → IsOr (where_packed p w) w
+pub packed_is : (p : ℕ → Bool) (w : Want) → IsOr (where_packed p w) w
 packed_is p w = over w
   where
     by_test : (b : Bool) (y : Want) → IsOr (cond b y (want.Give (reply.No refusal.NoStorage))) y
@@ -284,7 +285,7 @@ packed_is p w = over w
     over (want.Give r) = inl refl
     over want.Never = inl refl
 
-or_more : (p : ℕ → Bool) (w v : Want) → IsOr w v → IsOr (where_packed p w) v
+pub or_more : (p : ℕ → Bool) (w v : Want) → IsOr w v → IsOr (where_packed p w) v
 or_more p w v (inl e) = over (packed_is p w)
   where
     over : IsOr (where_packed p w) w → IsOr (where_packed p w) v
@@ -299,7 +300,7 @@ mild_packed p t w h = over (packed_is p w)
     over (inl q) = subst (IsMild t) (sym q) h
     over (inr q) = subst (IsMild t) (sym q) tt
 
-along_more : (P : Want → Answer → Type 0) (g : Want → Want) → ((w : Want) (a : Answer) → P w a → P (g w) a) → (k : Script) (xs : List Answer) → Along P k xs → Along P (λ ys. g (k ys)) xs
+pub along_more : (P : Want → Answer → Type 0) (g : Want → Want) → ((w : Want) (a : Answer) → P w a → P (g w) a) → (k : Script) (xs : List Answer) → Along P k xs → Along P (λ ys. g (k ys)) xs
 along_more P g each k [] h = tt
 along_more P g each k (a ∷ xs) h = (each (k []) a h.0, along_more P g each (λ ys. k (a ∷ ys)) xs h.1)
 

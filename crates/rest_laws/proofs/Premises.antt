@@ -1,5 +1,5 @@
 -- What the steps of synchronization sites rest on, from all that was told so far.
-use Rattle.std.proofs.Common.{◌≡◌, ◌≤◌, ◌<◌, ◌^◌, ℕ, ◌&&◌, min, nat_lt, Bool, true, false, List, Option, Some, None, refl, sym, ◌∙◌, ap, subst, arith}
+use Rattle.std.proofs.Common.{◌≡◌, ◌≤◌, ◌<◌, ◌^◌, ℕ, ◌&&◌, min, nat_lt, Bool, true, false, List, Option, Some, None, refl, sym, ◌∙◌, subst, arith}
 use Rattle.std.proofs.lemmas.Bool.Decides.{nat_tests}
 use Rattle.std.proofs.Math.Pow.{pow_mono}
 use Rattle.std.specs.Option.{option_map}
@@ -13,15 +13,10 @@ use Rattle.trace_book.specs.declared.call.Call.TheVariants as call
 use Rattle.the_run.specs.Worlds.{Line}
 use Rattle.tree_model.specs.declared.accepted.Waiting.{Waiting}
 use Rattle.tree_model.specs.Calls.{call_named}
-use Rattle.tree_model.specs.Files.{words_named}
-use Rattle.tree_model.specs.Opening.{making_set, sites_made}
+use Rattle.tree_model.specs.Opening.{sites_made}
 use Rattle.tree_model.specs.Packs.{packs_of}
-use Rattle.tree_model.specs.State.{call_in, words_of}
-use Rattle.tree_model.specs.Tree.{tree_of}
 use Rattle.tree_laws.specs.Printed.{entries}
-use Rattle.tree_laws.proofs.Kinship.{tree_group_is}
 use Rattle.order_laws.specs.Joining.{PacksAreOfSites}
-use Rattle.order_laws.proofs.Knowing.{tree_config}
 use Rattle.holding_laws.proofs.Below.{commits_new, packs_hold}
 use Rattle.holding_laws.proofs.Holding.{sites_hold, stands_on_held}
 use Rattle.mend_laws.proofs.Only.{only_had}
@@ -29,7 +24,7 @@ use Rattle.mend_laws.proofs.Whole.{whole_kept}
 use Rattle.store_laws.proofs.Said.{asked_as_said}
 use Rattle.sync_laws.specs.Making.{MakesAreSaid}
 use Rattle.sync_laws.specs.Serving.{CallsAreKnown, FilesAreOrdered}
-use Rattle.sync_laws.proofs.TreeCalls.{call_in_is}
+use Rattle.number_laws.proofs.Said.{making_said}
 use Rattle.one_tree_laws.specs.Rest.{AskedCall, Past, RangeCall}
 use Rattle.one_tree_laws.proofs.Staying.{rest_below}
 use Rattle.rest_laws.specs.Asking.{OpensAreSaid}
@@ -58,18 +53,6 @@ calls_known c t past said = record {
 }
 
 -- ---- makes ----
-
-words_same : (c : Config) (e : EpochId) (g : ℕ) (t : List Line) (d : CallId) → words_of (call_in (tree_of c e g (entries t)).calls d) ≡ words_named (entries t) (Some d)
-words_same c e g t d = ap words_of (call_in_is c e g (entries t) d) ∙ over (call_named (entries t) d)
-  where
-    over : (o : Option Waiting) → words_of (option_map (λ (w : Waiting). record { call = w.call; process = w.process; words = w.words }) o) ≡ option_map (λ (w : Waiting). w.words) o
-    over None = refl
-    over (Some w) = refl
-
-make_said : (c : Config) (t : List Line) (e : EpochId) (d : CallId) (g : ℕ) → making_set (tree_of c e g (entries t)) d ≡ sites_made (packs_of c g) (words_named (entries t) (Some d))
-make_said c t e d g =
-    ap (λ (k : Config). sites_made (packs_of k (tree_of c e g (entries t)).group) (words_of (call_in (tree_of c e g (entries t)).calls d))) (tree_config c e g (entries t)) ∙
-    (ap (λ (k : ℕ). sites_made (packs_of c k) (words_of (call_in (tree_of c e g (entries t)).calls d))) (tree_group_is c e g (entries t)) ∙ ap (sites_made (packs_of c g)) (words_same c e g t d))
 
 pub some_low : (n : ℕ) (set : Sites) → is_some_sites n set ≡ true → set.0 < 2 ^ 16
 some_low n set h = within (2 ^ min n 16) (2 ^ 16) (second (nat_lt 0 set.0) (nat_lt set.0 (2 ^ min n 16)) h) (pow_mono (capped n))
@@ -102,6 +85,6 @@ some_fits c t group d past (Some w) e = made_fits c group d.site w.process past.
 
 pub makes_said : (c : Config) (t : List Line) → Past c t → MakesAreSaid c t
 makes_said c t past = record {
-  said = λ e d request serial file set k asks. make_said c t e d file.group ∙ sym (asked_as_said c t e d request serial file set k asks).0;
+  said = λ e d request serial file set k asks. making_said c t e d file.group ∙ sym (asked_as_said c t e d request serial file set k asks).0;
   fits = λ e d request serial file set k asks. subst (λ (z : Sites). z.0 < 2 ^ 16) (sym (asked_as_said c t e d request serial file set k asks).0) (some_fits c t file.group d past (call_named (entries t) d) refl);
 }

@@ -1,4 +1,4 @@
--- The steps that the laws of roles give, so that only the others are left.
+-- The steps of all roles, as the laws of roles give them.
 use Rattle.std.proofs.Common.{◌≡◌, ◌≤◌, length, ℕ, Bool, true, false, cond, List, [], ◌∷◌, refl, sym, subst}
 use Rattle.locus_ids.specs.declared.config.Config.{Config}
 use Rattle.locus_ids.specs.declared.ids.EpochId.{EpochId}
@@ -44,11 +44,12 @@ use Rattle.sync_laws.proofs.Opens.{open_fine}
 use Rattle.one_tree_laws.specs.Places.{UsersOf, UsersOutside}
 use Rattle.one_tree_laws.specs.Rest.{AllRest, Past, more}
 use Rattle.one_tree_laws.specs.Roles.{Came, Ready, RolesDo, TableHere}
+use Rattle.number_laws.proofs.Lacking.{full_lacks}
 use Rattle.one_tree_laws.proofs.Repeats.{every_flat}
+use Rattle.one_tree_laws.proofs.Staying.{rest_below}
 use Rattle.epoch_tree_laws.specs.Waiting.{RequestsDo}
 use Rattle.epoch_tree_laws.proofs.Coming.{reports_come}
 use Rattle.epoch_tree_laws.proofs.Joins.{epochs_do}
-use Rattle.rest_laws.specs.Left.{RolesLeft}
 use Rattle.table_laws.specs.Narrow.{CallsAreNarrow}
 use Rattle.table_laws.proofs.Closing.{closes_fine as closes_fine_there}
 use Rattle.table_laws.proofs.Notes.{notes_fine}
@@ -181,18 +182,18 @@ pulls_again c t f (x ∷ xs) all = (pull_once c t f x all.0, pulls_again c t f x
 mends_rest : (c : Config) → length c.packs ≤ 4 → MendsRest c
 mends_rest c few = record { mends = λ t f v ready inside inst low i found d here asks. mends_as c t f v ready.past inside few inst low i found d here asks }
 
-made_rests : (c : Config) → RolesLeft c → MadeRests c
-made_rests c left = record {
+made_rests : (c : Config) → MadeRests c
+made_rests c = record {
   serves = λ n t f tab ready here. serving c n t f tab ready.past ready.frame (opens_said c t ready.past) here;
   said = makes_said c;
-  lacks = left.lacks;
+  lacks = λ trace past e ss i group set k now full. full_lacks c trace past.followed (rest_below c trace past.rest) e ss i group set k now full;
 }
 
 narrow : (c : Config) → CallsAreNarrow c
 narrow c = record { sites = λ t past d w named. (known_call c t past.followed past.rest.each d w named).site.high }
 
-pub roles_do : (c : Config) → length c.packs ≤ 4 → RolesLeft c → RolesDo c
-roles_do c few left = record {
+pub roles_do : (c : Config) → length c.packs ≤ 4 → RolesDo c
+roles_do c few = record {
   users = record {
     calls = λ n t f process words u ready k may rest. calling.calls c (user_rests c few) n t f process words u ready k may rest;
     calls_outside = λ n t me boot process words u past up outside k may rest. calls_outside c n t me boot process words u past up outside k may;
@@ -215,7 +216,7 @@ roles_do c few left = record {
   tables = record {
     reports = λ n t f p group copies tab ready here came is rest. reports_come c (requests c) n t f p group copies tab ready here came is rest;
     opens = λ n t f p o tab ready here came group_is rest. tab_opens c n t f p o tab ready here came group_is;
-    opened = λ n t f p i a tab ready here came fresh. opens_answered c (made_rests c left) n t f p i a tab ready here came fresh;
+    opened = λ n t f p i a tab ready here came fresh. opens_answered c (made_rests c) n t f p i a tab ready here came fresh;
     closed = λ n t f p i made tab ready here came rest. closes_fine_there c (narrow c) n t f p i made tab ready here came rest;
     looks = λ n t f p l tab ready here came group_is rest. tab_looks c n t f p l tab ready here came group_is;
     notes = λ n t f p file stamp tab ready here came same rest. notes_fine c n t f p file stamp tab ready here came same;

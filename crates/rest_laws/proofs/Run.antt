@@ -1,5 +1,5 @@
--- In every run each record comes as the lawful trace has it, where the steps that are left are fine.
-use Rattle.std.proofs.Common.{◌≡◌, ◌≤◌, List, length, arith}
+-- In every run each record comes as the lawful trace has it.
+use Rattle.std.proofs.Common.{◌≤◌, List, length, arith}
 use Rattle.locus_ids.specs.declared.config.Config.{Config}
 use Rattle.schedule_lines.specs.Cluster.{config_of}
 use Rattle.schedule_lines.specs.Schedule.{AreInOrder}
@@ -14,15 +14,14 @@ use Rattle.tree_laws.proofs.Rows.{followed_rows}
 use Rattle.store_step_laws.proofs.First.{four_groups}
 use Rattle.one_tree_laws.proofs.Run.{run_holds}
 use Rattle.one_tree_laws.proofs.Staying.{stays}
-use Rattle.rest_laws.specs.Left.{RolesLeft}
 use Rattle.rest_laws.proofs.Packs.{schedule_packs}
 use Rattle.rest_laws.proofs.Resting.{run_low, run_rests}
 use Rattle.rest_laws.proofs.Roles.{roles_do}
 
-pub run_followed : (c : Config) (lines : List ScheduleLine) → LinesFit c lines → PacksAreOfSites c → length c.packs ≤ 4 → RolesLeft c → IsFollowed c (run_in c lines).trace
-run_followed c lines fit packs few left = (run_holds c lines fit (roles_do c few left) (stays c) (run_rests c lines fit packs (run_low c lines))).followed
+pub run_followed : (c : Config) (lines : List ScheduleLine) → LinesFit c lines → PacksAreOfSites c → length c.packs ≤ 4 → IsFollowed c (run_in c lines).trace
+run_followed c lines fit packs few = (run_holds c lines fit (roles_do c few) (stays c) (run_rests c lines fit packs (run_low c lines))).followed
 
-pub schedule_rows : (lines : List ScheduleLine) → AreInOrder lines → RolesLeft (config_of lines) → RowsAreLawful (config_of lines) (entries (run lines).trace)
-schedule_rows lines order left =
+pub schedule_rows : (lines : List ScheduleLine) → AreInOrder lines → RowsAreLawful (config_of lines) (entries (run lines).trace)
+schedule_rows lines order =
     let few : length (config_of lines).packs ≤ 4 = omega (arith, four_groups lines) in
-    followed_rows (config_of lines) (run lines).trace (run_followed (config_of lines) lines (schedule_fits lines order) (schedule_packs lines order) few left)
+    followed_rows (config_of lines) (run lines).trace (run_followed (config_of lines) lines (schedule_fits lines order) (schedule_packs lines order) few)

@@ -14,7 +14,6 @@ ghost use Rattle.sync_laws.specs.Serving.{CallsAreKnown, FilesAreOrdered};
 ghost use Rattle.one_tree_laws.specs.Rest.{IsRest, Past};
 ghost use Rattle.rest_laws.specs.Asking.{OpensAreSaid};
 ghost use Rattle.one_tree_laws.specs.Roles.{RolesDo};
-ghost use Rattle.rest_laws.specs.Left.{RolesLeft};
 ghost use Rattle.tree_laws.specs.Following.{IsFollowed, RowsAreLawful};
 ghost use Rattle.tree_laws.specs.Printed.{entries};
 
@@ -34,17 +33,17 @@ pub fn roles_rest_on_the_past()
     ensures makes { (c : Config) (trace : List Line) → Past c trace → MakesAreSaid c trace }
 {}
 
-/// Each role does its steps as it may, where those do that no law gives yet: the laws of roles give, from what came so far, that looks
+/// Each role does its steps as it may: the laws of roles give, from what came so far, that looks
 /// are served and opens answered, granted opens begun, ended instances ended, pages sent and noted, and calls answered when a site
 /// leaves its epoch.
 pub fn roles_do_as_they_may()
-    ensures { (c : Config) → length c.packs ≤ 4 → RolesLeft c → RolesDo c }
+    ensures { (c : Config) → length c.packs ≤ 4 → RolesDo c }
 {}
 
-/// After every schedule whose lines are in range for the cluster, whatever was told came as it may, and each printed record is lawful, where the steps that are left are fine. So it is of the lines that the
+/// After every schedule whose lines are in range for the cluster, whatever was told came as it may, and each printed record is lawful. So it is of the lines that the
 /// reader of schedules accepts, in the cluster that their header makes.
 pub fn every_run_is_one_tree()
-    ensures told { (c : Config) (lines : List ScheduleLine) → LinesFit c lines → PacksAreOfSites c → length c.packs ≤ 4 → RolesLeft c → IsFollowed c (run_in c lines).trace }
-    ensures rows { (c : Config) (lines : List ScheduleLine) → LinesFit c lines → PacksAreOfSites c → length c.packs ≤ 4 → RolesLeft c → RowsAreLawful c (entries (run_in c lines).trace) }
-    ensures read { (lines : List ScheduleLine) → AreInOrder lines → RolesLeft (config_of lines) → RowsAreLawful (config_of lines) (entries (run lines).trace) }
+    ensures told { (c : Config) (lines : List ScheduleLine) → LinesFit c lines → PacksAreOfSites c → length c.packs ≤ 4 → IsFollowed c (run_in c lines).trace }
+    ensures rows { (c : Config) (lines : List ScheduleLine) → LinesFit c lines → PacksAreOfSites c → length c.packs ≤ 4 → RowsAreLawful c (entries (run_in c lines).trace) }
+    ensures read { (lines : List ScheduleLine) → AreInOrder lines → RowsAreLawful (config_of lines) (entries (run lines).trace) }
 {}

@@ -5,7 +5,7 @@ use Rattle.rest_laws.proofs.laws.every_run_is_one_tree.Goals as goal
 
 pub returns : goal.returns
 returns c = record {
-  told = λ config lines fit packs few left. run_followed config lines fit packs few left;
-  rows = λ config lines fit packs few left. followed_rows config (run_in config lines).trace (run_followed config lines fit packs few left);
-  read = λ lines order left. schedule_rows lines order left;
+  told = λ config lines fit packs few. run_followed config lines fit packs few;
+  rows = λ config lines fit packs few. followed_rows config (run_in config lines).trace (run_followed config lines fit packs few);
+  read = λ lines order. schedule_rows lines order;
 }

@@ -1,0 +1,12 @@
+pub mod Lists
+pub mod Members
+pub mod Ending
+pub mod Events
+pub mod Handing
+pub mod Keeping
+pub mod Calls
+pub mod Ends
+pub mod Rounds
+pub mod Ticks
+pub mod Deliveries
+pub mod Calm
