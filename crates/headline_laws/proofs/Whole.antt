@@ -8,6 +8,8 @@ use Rattle.lawful_trace.specs.Lawful.{IsLawful}
 use Rattle.row_laws.specs.Shown.{trace_of}
 use Rattle.call_row_laws.proofs.TreeSum.{tree_lawful}
 use Rattle.copy_laws.proofs.Hold.{run_versions_and_copies}
+use Rattle.bound_laws.proofs.RunsAsk.{requests_bounded}
+use Rattle.bound_laws.proofs.RunsSend.{deliveries_send_one}
 use Rattle.orderly_traces.proofs.Forms.{blocks_form}
 use Rattle.orderly_traces.proofs.OwnLeaves.{leaves_are_own}
 use Rattle.tree_laws.specs.Following.{RowsAreLawful}
@@ -33,4 +35,6 @@ run_holds_all lines order = record {
   lawful = λ none. run_lawful lines order none;
   formed = λ none. blocks_form lines order none;
   leaves = λ none. leaves_are_own lines order none;
+  requests = requests_bounded (config_of lines) lines;
+  deliveries = deliveries_send_one (config_of lines) lines;
 }

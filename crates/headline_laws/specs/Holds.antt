@@ -7,6 +7,8 @@ use Rattle.lawful_trace.specs.Lawful.{IsLawful}
 use Rattle.lawful_trace.specs.Orderly.{LeavesAreOwn, OrderlyBlocksForm}
 use Rattle.row_laws.specs.Shown.{trace_of}
 use Rattle.copy_laws.specs.Hold.{VersionsAndCopiesHold}
+use Rattle.bound_laws.specs.Asking.{RequestsBounded}
+use Rattle.bound_laws.specs.Deliveries.{DeliveriesSendOne}
 use Rattle.tree_laws.specs.Following.{RowsAreLawful}
 
 pub record RunHolds (lines : List ScheduleLine) : Type 0 where
@@ -20,3 +22,6 @@ pub record RunHolds (lines : List ScheduleLine) : Type 0 where
   pub formed : (run lines).over ≡ None → OrderlyBlocksForm lines (trace_of (run lines))
   -- and a site leaves its epoch by its own line, or where it is asked to another
   pub leaves : (run lines).over ≡ None → LeavesAreOwn lines (trace_of (run lines))
+  -- no call but a mend asks more than the components of its path and six, and a delivery sends at most one packet that serves a call
+  pub requests : RequestsBounded (run lines)
+  pub deliveries : DeliveriesSendOne (config_of lines) (run lines)

@@ -7,6 +7,7 @@ mod acting;
 mod fault;
 mod mending;
 mod operating;
+mod working;
 
 pub use acting::act;
 pub use fault::ActFault;

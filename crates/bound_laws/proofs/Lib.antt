@@ -1,0 +1,15 @@
+pub mod Parts
+pub mod Scripts
+pub mod Asking
+pub mod SitesAsk
+pub mod EachView
+pub mod RunsAsk
+pub mod Counting
+pub mod FewRoles
+pub mod FewUsers
+pub mod Mending
+pub mod KeptLooks
+pub mod FewSites
+pub mod RunsSend
+pub mod Waiting
+pub mod Records

@@ -1,0 +1,11 @@
+use Rattle.bound_laws.proofs.RunsAsk.{requests_first, requests_kept, requests_bounded}
+use Rattle.bound_laws.proofs.laws.requests_bounded.Goals as goal
+
+pub returns-clause-first : goal.returns-clause-first
+returns-clause-first c = λ k. requests_first k
+
+pub returns-clause-events : goal.returns-clause-events
+returns-clause-events c = λ k. requests_kept k
+
+pub returns-clause-runs : goal.returns-clause-runs
+returns-clause-runs c = λ k lines. requests_bounded k lines

@@ -1,0 +1,5 @@
+pub mod Requests
+pub mod Asking
+pub mod Deliveries
+pub mod Waiting
+pub mod Records

@@ -1,9 +1,0 @@
-use Rattle.std.proofs.Common.{◌≡◌, ◌≤◌, take}
-use Rattle.file_content.specs.Pages.{pages_needed}
-use Rattle.file_operations.proofs.working.few_needed.Given as goal
-
-abbrev pub invariant-loop-page : goal.invariant-loop-page
-invariant-loop-page l = record {
-  low : l.needed ≤ l.page-index;
-  counted : l.needed ≡ pages_needed (take l.page-index l.pages) l.changed;
-}
