@@ -74,7 +74,7 @@ row_among {A = A} key x y (z ∷ zs) h = by_order (nat_lt (key z) (key x)) (key 
 
 -- ---- what is asked next ----
 
-asks_calls : (f : Frame) (w : WaitingCall) (u : Users) → CallsAsk f u.waiting (asks f w u).view.waiting (asks f w u).sent
+pub asks_calls : (f : Frame) (w : WaitingCall) (u : Users) → CallsAsk f u.waiting (asks f w u).view.waiting (asks f w u).sent
 asks_calls f w u y m = over (row_among waiting_key w y u.waiting m)
   where
     over : (y ≡ w) ⊎ Among y u.waiting → Among y u.waiting ⊎ IsSent f y (request_packets f w w.asking)

@@ -1,42 +1,30 @@
 -- A calm round: its ticks put all requests and reports under way, each delivery hands on what it carries, and at its end nobody waits.
-use Rattle.std.proofs.Common.{◌≡◌, ℕ, zero, suc, ◌+◌, ◌-◌, ◌≤◌, ◌⊎◌, List, Option, Some, None, refl, sym, ◌∙◌, ap, subst, inl, inr, arith}
+use Rattle.std.proofs.Common.{◌≡◌, ℕ, zero, suc, ◌+◌, ◌-◌, ◌≤◌, ◌⊎◌, Option, Some, None, refl, sym, ◌∙◌, ap, subst, inl, inr, arith}
 use Rattle.locus_ids.specs.declared.config.Config.{Config}
 use Rattle.wire_messages.specs.declared.body.Body.{Body}
 use Rattle.wire_messages.specs.declared.body.Body.TheVariants as body
 use Rattle.wire_messages.specs.declared.packet.Packet.{Packet}
 use Rattle.role_steps.specs.Requests.{request_packets}
 use Rattle.role_steps.specs.Storage.{report_of}
-use Rattle.role_steps.specs.Views.{packet, to_some, sync_site, all_sites}
-use Rattle.role_steps.specs.declared.rounds.InEpoch.{InEpoch}
-use Rattle.role_steps.specs.declared.users.Asking.{Asking}
-use Rattle.role_steps.specs.declared.users.Asking.TheVariants as asking
+use Rattle.role_steps.specs.Views.{packet, sync_site, all_sites}
 use Rattle.role_steps.specs.declared.users.WaitingCall.{WaitingCall}
 use Rattle.the_run.specs.Kept.{Among}
 use Rattle.the_run.specs.Runs.{arrives, next_packet, ticks_to, run_in}
 use Rattle.the_run.specs.Worlds.{World, Numbered, place_at}
 use Rattle.lawful_trace.specs.Places.{lines_before}
-use Rattle.epoch_laws.specs.Known.{Places}
 use Rattle.epoch_laws.proofs.Run.{run_good}
 use Rattle.orderly_laws.specs.Calm.{IsInside, AreTogether, delivers_next, delivered}
-use Rattle.calm_laws.specs.Carrying.{IsMember, frame_of, look_body, open_body, Carries, HasReported, Reports, IsAllCarried}
-use Rattle.calm_laws.specs.Rounds.{after, IsInRound, GoesToMember, CalmLeft, CalmRoundsLeaveNobody}
+use Rattle.calm_laws.specs.Carrying.{IsMember, frame_of, Carries, IsCarried, HasReported, Reports, IsAllCarried}
+use Rattle.calm_laws.specs.Rounds.{after, IsInRound, CalmLeft, CalmRoundsLeaveNobody}
 use Rattle.calm_laws.proofs.Deliveries.{one_delivery}
 use Rattle.calm_laws.proofs.Ending.{nobody_waits}
 use Rattle.calm_laws.proofs.Events.{Under}
 use Rattle.calm_laws.proofs.Members.{sync_is}
-use Rattle.calm_laws.proofs.Rounds.{delivered_kept}
+use Rattle.calm_laws.proofs.Requests.{to_some_has, Requested, request_carries}
+use Rattle.calm_laws.proofs.Rounds.{delivered_kept, delivered_then, one_more}
 use Rattle.calm_laws.proofs.Ticks.{HasAsked, over_round, ticks_ask, sites_apart}
 
 -- ---- deliveries ----
-
--- first some, and then some more
-delivered_then : (c : Config) (n j i : ℕ) (w : World) → delivered c n (j + i) w ≡ delivered c n i (delivered c n j w)
-delivered_then c n zero i w = ap (λ (k : ℕ). delivered c n k w) {x = 0 + i} {y = i} (omega arith)
-delivered_then c n (suc j) i w = ap (λ (k : ℕ). delivered c n k w) {x = suc j + i} {y = suc (j + i)} (omega arith) ∙ delivered_then c n j i (delivers_next c n w (next_packet w))
-
--- the last one
-one_more : (c : Config) (n j : ℕ) (w : World) → delivered c n (suc j) w ≡ delivers_next c n (delivered c n j w) (next_packet (delivered c n j w))
-one_more c n j w = ap (λ (k : ℕ). delivered c n k w) {x = suc j} {y = j + 1} (omega arith) ∙ delivered_then c n j 1 w
 
 within_before : (c : Config) (n j k : ℕ) (w : World) → j ≤ k → (delivered c n k w).over ≡ None → (delivered c n j w).over ≡ None
 within_before c n j k w le h =
@@ -44,42 +32,16 @@ within_before c n j k w le h =
     delivered_kept c n (λ (z : World). z.over ≡ None → u.over ≡ None) (over_round c n u) (k - j) u (λ z. z)
     (ap (λ (z : World). z.over) (sym (delivered_then c n j (k - j) w) ∙ ap (λ (i : ℕ). delivered c n i w) {x = j + (k - j)} {y = k} (omega (arith, le))) ∙ h)
 
--- ---- the start ----
-
-to_some_has : (c : Config) (e : InEpoch) (s css : ℕ) (b : Body) (o : Option ℕ) → o ≡ Some css → Among (packet (frame_of c e s) css b) (to_some (frame_of c e s) b o)
-to_some_has c e s css b None h = absurd (none h)
-  where
-    none : ◌≡◌ {A = Option ℕ} None (Some css) → ⊥
-    none q = cc
-to_some_has c e s css b (Some t) h = inl (ap (λ (x : ℕ). packet (frame_of c e s) x b) (same h))
-  where
-    same : ◌≡◌ {A = Option ℕ} (Some t) (Some css) → css ≡ t
-    same q = cc
-
--- a request that is under way is carried by its packet
-request_carries : (c : Config) (e : InEpoch) (at : Places) (under : List Numbered) (s : ℕ) (x : WaitingCall) (a : Asking) → IsMember e s → GoesToMember c e a → ((p : Packet) → Among p (request_packets (frame_of c e s) x a) → Under under p) → (z : Numbered) × Among z under × Carries c e at s x a z.packet
-request_carries c e at under s x (asking.Look file w take) m g h =
-    let p : Packet = packet (frame_of c e s) g.0 (look_body x file w take) in
-    let u : Under under p = h p (to_some_has c e s g.0 (look_body x file w take) (sync_site c e.members file.group) g.1) in
-    (u.letter, u.there, (g.0, g.1, inl (record { sender = m; receiver = (sync_is c e file.group g.0 g.1).1; is = u.is })))
-request_carries c e at under s x (asking.Open serial file how) m g h =
-    let p : Packet = packet (frame_of c e s) g.0 (open_body x serial file how) in
-    let u : Under under p = h p (to_some_has c e s g.0 (open_body x serial file how) (sync_site c e.members file.group) g.1) in
-    (u.letter, u.there, (g.0, g.1, inl (record { sender = m; receiver = (sync_is c e file.group g.0 g.1).1; is = u.is })))
-request_carries c e at under s x (asking.Op serial ss n o seen) m g h =
-    let u : Under under (packet (frame_of c e s) ss (body.Op serial n o seen)) = h (packet (frame_of c e s) ss (body.Op serial n o seen)) (inl refl) in
-    (u.letter, u.there, inl (record { sender = m; receiver = g; is = u.is }))
-request_carries c e at under s x (asking.Close serial ss) m g h =
-    let u : Under under (packet (frame_of c e s) ss (body.Close serial)) = h (packet (frame_of c e s) ss (body.Close serial)) (inl refl) in
-    (u.letter, u.there, inl (record { sender = m; receiver = g; is = u.is }))
-
 -- ---- the round ----
 
 pub calm_round : (c : Config) → CalmLeft c → CalmRoundsLeaveNobody c
-calm_round c left lines n e k h = nobody_waits c e (after c lines n k) (h.each k (omega arith)) h.reach h.within h.ended (left.starts lines n (after c lines n k) (round k)) (carried k (omega arith))
+calm_round c left lines n e k h = nobody_waits c e (after c lines n k) (h.each k (omega arith)) h.reach h.within h.ended (left.starts lines n (after c lines n k) (round k (omega arith))) (carried k (omega arith))
   where
-    round : (j : ℕ) → IsInRound c lines n (after c lines n j)
-    round j = record { fit = h.fit; most = h.most; settles = h.settles; deliveries = j; is_world = refl }
+    few : (j : ℕ) → j ≤ k → k ≤ h.most → j ≤ h.most
+    few j le top = omega (arith, le, top)
+
+    round : (j : ℕ) → j ≤ k → IsInRound c lines n (after c lines n j)
+    round j le = record { fit = h.fit; packs = h.packs; groups = h.groups; few = few j le h.few; most = h.most; settles = h.settles; deliveries = j; is_world = refl }
 
     w : World
     w = run_in c (lines_before lines n)
@@ -95,13 +57,14 @@ calm_round c left lines n e k h = nobody_waits c e (after c lines n k) (h.each k
 
     start : IsAllCarried c e first
     start = record {
-      calls = λ s v x m here a. (let r : (z : Numbered) × Among z first.underway × Carries c e (place_at first) s x x.asking z.packet =
-          request_carries c e (place_at first) first.underway s x x.asking m (left.requests lines n e first (round 0) (h.each 0 (omega arith)) s v x m here a) (λ p b. (asked s m).calls v x here a p b) in
-          inl (record { letter = r.0; there = r.1; carries = r.2 }));
+      calls = λ s v x m here a. call s x (request_carries c e (place_at first) s x x.asking m (left.requests lines n e first (round 0 (omega arith)) (h.each 0 (omega arith)) s v x m here a)) (λ p b. (asked s m).calls v x here a p b);
       reports = λ group css s sync m packed. (let i : IsInside first e s = (h.each 0 (omega arith)).inside s m in
-          report group css s sync m i (left.known lines n e first (round 0) (h.each 0 (omega arith)) group css s i.view sync m packed i.here));
+          report group css s sync m i (left.known lines n e first (round 0 (omega arith)) (h.each 0 (omega arith)) group css s i.view sync m packed i.here));
     }
       where
+        call : (s : ℕ) (x : WaitingCall) (r : Requested c e (place_at first) s x x.asking) → ((p : Packet) → Among p (request_packets (frame_of c e s) x x.asking) → Under first.underway p) → IsCarried c e (place_at first) first.underway s x
+        call s x r f = (let u : Under first.underway r.letter = f r.letter r.there in inl (record { letter = u.letter; there = u.there; carries = subst (λ (q : Packet). Carries c e (place_at first) s x x.asking q) (sym u.is) r.carries }))
+
         report : (group css s : ℕ) → sync_site c e.members group ≡ Some css → IsMember e s → (i : IsInside first e s) → Among group i.view.reports ⊎ HasReported (place_at first) css group s → HasReported (place_at first) css group s ⊎ Reports c e first.underway css group s
         report group css s sync m i (inr r) = inl r
         report group css s sync m i (inl a) =
@@ -117,7 +80,7 @@ calm_round c left lines n e k h = nobody_waits c e (after c lines n k) (h.each k
         by_next (Some x) is eq =
             let now : after c lines n (suc j) ≡ arrives c n x (after c lines n j) = eq ∙ ap (delivers_next c n (after c lines n j)) is in
             subst (λ (z : World). IsAllCarried c e z) (sym now)
-            (one_delivery c left lines n e x (after c lines n j) (round j) is (h.each j (omega (arith, le))) (subst (λ (z : World). AreTogether z e) now (h.each (suc j) le)) (ap (λ (z : World). z.over) (sym now) ∙ within (suc j) le) old)
+            (one_delivery c left lines n e x (after c lines n j) (round j (omega (arith, le))) is (subst (λ (z : World). IsInRound c lines n z) now (round (suc j) le)) (h.each j (omega (arith, le))) (subst (λ (z : World). AreTogether z e) now (h.each (suc j) le)) (ap (λ (z : World). z.over) (sym now) ∙ within (suc j) le) old)
 
     carried : (j : ℕ) → j ≤ k → IsAllCarried c e (after c lines n j)
     carried zero le = start

@@ -28,6 +28,12 @@ use Rattle.calm_laws.proofs.Ending.{Way, carrier_goes}
 use Rattle.calm_laws.proofs.Events.{Moved, acts_moved, arrives_cases, others_stay}
 use Rattle.calm_laws.proofs.Keeping.{AllKeep, roles_itself, carries_kept, held_kept, reported_kept}
 use Rattle.calm_laws.proofs.Lists.{true_false}
+use Rattle.calm_laws.proofs.CloseAgreed.{close_agreed_row}
+use Rattle.calm_laws.proofs.CloseAnswer.{close_answer_row}
+use Rattle.calm_laws.proofs.LookAnswer.{look_answer_row}
+use Rattle.calm_laws.proofs.LookAtHolder.{look_at_holder}
+use Rattle.calm_laws.proofs.OpAnswer.{op_answer_row}
+use Rattle.calm_laws.proofs.OpenAnswer.{open_answer_row}
 use Rattle.calm_laws.proofs.Members.{sync_is}
 use Rattle.calm_laws.proofs.Rounds.{in_round}
 
@@ -105,7 +111,7 @@ passes_by c lines n e x w round there none drops within old = arrives_cases (λ 
     takes v here taken k =
         let o : Outcome SiteView = step c x.packet.to (links_of (passed x.number w) x.packet.to) v (Receives x.packet) in
         let u : World = acts n x.packet.to v o (passed x.number w) in
-        let moved : Moved x.packet.to o (passed x.number w) u = acts_moved n x.packet.to v o (passed x.number w) k in
+        let moved : Moved n x.packet.to o (passed x.number w) u = acts_moved n x.packet.to v o (passed x.number w) k in
         untouched c e x.packet (place_at w) (place_at u) w.underway u.underway
         (λ s m. moved.others s (λ eq. true_false (sym (drops (λ z. m (ap (boot_in e.members.boot) (sym eq) ∙ z)) v here) ∙ taken)))
         (λ y a. later u moved.stays y (stay y a)) none old
@@ -122,26 +128,26 @@ by_kind c left lines n e x w d old = over x.packet.body refl
     over (body.Open serial call process request file how) is = left.open_request lines n e x w d (subst IsOpen (sym is) tt) old
     over (body.OpenSs inst file mode set kind base vector parents) is = left.open_at_storage lines n e x w d (subst IsOpenSs (sym is) tt) old
     over (body.Opened inst answer) is = left.opened lines n e x w d (subst IsOpened (sym is) tt) old
-    over (body.OpenDone serial answer) is = left.open_answer lines n e x w d (subst IsOpenDone (sym is) tt) old
+    over (body.OpenDone serial answer) is = open_answer_row c left.requests lines n e x w d (subst IsOpenDone (sym is) tt) old
     over (body.Op serial k o seen) is = left.operation lines n e x w d (subst IsOp (sym is) tt) old
-    over (body.OpDone serial k result) is = left.operation_answer lines n e x w d (subst IsOpDone (sym is) tt) old
+    over (body.OpDone serial k result) is = op_answer_row c left.requests lines n e x w d (subst IsOpDone (sym is) tt) old
     over (body.Close serial) is = left.close_request lines n e x w d (subst IsClose (sym is) tt) old
     over (body.Closed inst made) is = left.closed lines n e x w d (subst IsClosed (sym is) tt) old
-    over (body.ClosedOk inst) is = left.close_agreed lines n e x w d (subst IsClosedOk (sym is) tt) old
-    over (body.CloseDone serial answer) is = left.close_answer lines n e x w d (subst IsCloseDone (sym is) tt) old
+    over (body.ClosedOk inst) is = close_agreed_row c left.requests lines n e x w d (subst IsClosedOk (sym is) tt) old
+    over (body.CloseDone serial answer) is = close_answer_row c left.requests lines n e x w d (subst IsCloseDone (sym is) tt) old
     over (body.Look call process request take file what) is = left.look_request lines n e x w d (subst IsLook (sym is) tt) old
-    over (body.LookSs us call process request take file what stamp) is = left.look_at_holder lines n e x w d (subst IsLookSs (sym is) tt) old
-    over (body.LookDone call request take answer) is = left.look_answer lines n e x w d (subst IsLookDone (sym is) tt) old
+    over (body.LookSs us call process request take file what stamp) is = look_at_holder c left.requests lines n e x w d (subst IsLookSs (sym is) tt) old
+    over (body.LookDone call request take answer) is = look_answer_row c left.requests lines n e x w d (subst IsLookDone (sym is) tt) old
     over _ is = left.other lines n e x w d (subst IsOther (sym is) tt) old
 
-pub one_delivery : (c : Config) → CalmLeft c → (lines : List ScheduleLine) (n : ℕ) (e : InEpoch) (x : Numbered) (w : World) → IsInRound c lines n w → next_packet w ≡ Some x → AreTogether w e → AreTogether (arrives c n x w) e → (arrives c n x w).over ≡ None → IsAllCarried c e w → IsAllCarried c e (arrives c n x w)
-one_delivery c left lines n e x w round next before after within old = by_member (boot_in e.members.boot x.packet.to) refl
+pub one_delivery : (c : Config) → CalmLeft c → (lines : List ScheduleLine) (n : ℕ) (e : InEpoch) (x : Numbered) (w : World) → IsInRound c lines n w → next_packet w ≡ Some x → IsInRound c lines n (arrives c n x w) → AreTogether w e → AreTogether (arrives c n x w) e → (arrives c n x w).over ≡ None → IsAllCarried c e w → IsAllCarried c e (arrives c n x w)
+one_delivery c left lines n e x w round next follows before after within old = by_member (boot_in e.members.boot x.packet.to) refl
   where
     there : Among x w.underway
     there = next_among w w.over x next
 
     by_taken : (m : IsMember e x.packet.to) (i : IsInside w e x.packet.to) (b : Bool) → is_dropped x.packet i.view ≡ b → IsAllCarried c e (arrives c n x w)
-    by_taken m i false taken = by_kind c left lines n e x w (record { round = round; next = next; member = m; view = i.view; here = i.here; taken = taken; before = before; after = after; within = within }) old
+    by_taken m i false taken = by_kind c left lines n e x w (record { round = round; next = next; follows = follows; member = m; view = i.view; here = i.here; taken = taken; before = before; after = after; within = within }) old
     by_taken m i true dropped = passes_by c lines n e x w round there
         (λ from to b g. true_false (sym dropped ∙ (ap (λ (p : Packet). is_dropped p i.view) g.is ∙ member_takes c e from to b i.view i.epoch (i.boot ∙ ap (boot_in e.members.boot) (ap (λ (p : Packet). p.to) g.is)))))
         (λ k v here. subst (λ (y : SiteView). is_dropped x.packet y ≡ true) (view_eq (place_at w x.packet.to) i.view v i.here here) dropped) within old

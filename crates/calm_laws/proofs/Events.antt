@@ -6,7 +6,7 @@ use Rattle.role_steps.specs.Views.{SiteView, Outcome, Receives}
 use Rattle.the_run.specs.Disks.{Disk, cut_disk}
 use Rattle.the_run.specs.Kept.{Among}
 use Rattle.the_run.specs.Steps.{is_dropped, step}
-use Rattle.the_run.specs.Worlds.{World, Limit, Place, Running, Stopped, Numbered, place_at, links_of, numbered_from, puts, arms, passed, stops_with, cut_told, runs_on, acts, happens, happens_at}
+use Rattle.the_run.specs.Worlds.{World, Limit, Place, Running, Stopped, Numbered, place_at, links_of, numbered_from, told_onto, puts, arms, passed, stops_with, cut_told, runs_on, acts, happens, happens_at}
 use Rattle.the_run.specs.Runs.{arrives_at, arrives}
 use Rattle.the_run.proofs.Boots.{acts_cases, at_each}
 use Rattle.the_run.proofs.Events.{puts_other, puts_same}
@@ -23,26 +23,27 @@ pub record Under (under : List Numbered) (p : Packet) : Type 0 where
   pub is : letter.packet ≡ p
 
 -- the site runs on, and all that it sends is under way
-pub record RunsOn (s : ℕ) (o : Outcome SiteView) (u : World) : Type 0 where
+pub record RunsOn (n s : ℕ) (o : Outcome SiteView) (w u : World) : Type 0 where
+  pub trace : u.trace ≡ told_onto n o.told w.trace
   pub here : place_at u s ≡ Some (Running o.view)
   pub sent : (p : Packet) → Among p o.sent → Under u.underway p
 
 -- the event of the site made one world of the other: it runs on, or has stopped in the event
-pub record Moved (s : ℕ) (o : Outcome SiteView) (w u : World) : Type 0 where
+pub record Moved (n s : ℕ) (o : Outcome SiteView) (w u : World) : Type 0 where
   pub within : w.over ≡ None
   pub others : (t : ℕ) → s ≢ t → place_at u t ≡ place_at w t
   pub stays : (y : Numbered) → Among y w.underway → Among y u.underway
-  pub ran : RunsOn s o u ⊎ ((d : Disk) × (place_at u s ≡ Some (Stopped d)))
+  pub ran : RunsOn n s o w u ⊎ ((d : Disk) × (place_at u s ≡ Some (Stopped d)))
 
 some_limit : (l : Limit) → ◌≡◌ {A = Option Limit} (Some l) None → ⊥
 some_limit l e = cc
 
-pub acts_moved : (n s : ℕ) (v : SiteView) (o : Outcome SiteView) (w : World) → (acts n s v o w).over ≡ None → Moved s o w (acts n s v o w)
+pub acts_moved : (n s : ℕ) (v : SiteView) (o : Outcome SiteView) (w : World) → (acts n s v o w).over ≡ None → Moved n s o w (acts n s v o w)
 acts_moved n s v o w =
-    acts_cases (λ u. u.over ≡ None → Moved s o w u) n s v o w
+    acts_cases (λ u. u.over ≡ None → Moved n s o w u) n s v o w
     (runs (λ now. now) (λ t. refl) refl)
     (λ a. runs (arms a) (λ t. refl) refl)
-    (λ d a e. happened_cases (λ u. u.over ≡ None → Moved s o w u) n [] (cut_told s d a.how a.left) (stops_with s (cut_disk v.boot v.store d a.how a.left)) w
+    (λ d a e. happened_cases (λ u. u.over ≡ None → Moved n s o w u) n [] (cut_told s d a.how a.left) (stops_with s (cut_disk v.boot v.store d a.how a.left)) w
     (λ l e k. absurd (some_limit l (sym e ∙ k)))
     (λ l k. absurd (some_limit l k))
     (λ k b t e h. record {
@@ -52,9 +53,9 @@ acts_moved n s v o w =
       ran = inr (cut_disk v.boot v.store d a.how a.left, puts_same s (Stopped (cut_disk v.boot v.store d a.how a.left)) w);
     }))
   where
-    runs : (change : World → World) → ((t : ℕ) → place_at (change w) t ≡ place_at w t) → (change w).underway ≡ w.underway → (runs_on n s o change w).over ≡ None → Moved s o w (runs_on n s o change w)
+    runs : (change : World → World) → ((t : ℕ) → place_at (change w) t ≡ place_at w t) → (change w).underway ≡ w.underway → (runs_on n s o change w).over ≡ None → Moved n s o w (runs_on n s o change w)
     runs change places under =
-        happened_cases (λ u. u.over ≡ None → Moved s o w u) n o.sent o.told (λ now. puts s (Running o.view) (change now)) w
+        happened_cases (λ u. u.over ≡ None → Moved n s o w u) n o.sent o.told (λ now. puts s (Running o.view) (change now)) w
         (λ l e k. absurd (some_limit l (sym e ∙ k)))
         (λ l k. absurd (some_limit l k))
         (λ k b t e h. record {
@@ -62,6 +63,7 @@ acts_moved n s v o w =
           others = λ x ne. puts_other s x (Running o.view) (change w) ne ∙ places x;
           stays = λ y m. among_left y (change w).underway (numbered_from (w.packets + 1) o.sent) (subst (λ (xs : List Numbered). Among y xs) (sym under) m);
           ran = inl (record {
+            trace = refl;
             here = puts_same s (Running o.view) (change w);
             sent = λ p m. (let r : (y : Numbered) × (Among y (numbered_from (w.packets + 1) o.sent)) × (y.packet ≡ p) = among_numbered p (w.packets + 1) o.sent m in record { letter = r.0; there = among_right r.0 (change w).underway (numbered_from (w.packets + 1) o.sent) r.1; is = r.2 });
           });

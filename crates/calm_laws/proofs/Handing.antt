@@ -15,8 +15,9 @@ use Rattle.orderly_laws.proofs.Places.{view_eq}
 use Rattle.calm_laws.specs.Carrying.{IsMember, Goes, Carries, IsHeld, IsUnderWay, IsCarried, HasReported, Reports, AllCarried}
 use Rattle.calm_laws.proofs.Events.{Under}
 
--- the call waits at the site before the event and after it
-pub record StillWaits (at now : Places) (s : ℕ) (y : WaitingCall) : Type 0 where
+-- the call waits at a member before the event and after it
+pub record StillWaits (e : InEpoch) (at now : Places) (s : ℕ) (y : WaitingCall) : Type 0 where
+  pub member : IsMember e s
   pub before : SiteView
   pub was : at s ≡ Some (Running before)
   pub waited : Among y before.users.waiting
@@ -33,10 +34,10 @@ pub record Hands (c : Config) (e : InEpoch) (m : ℕ) (at now : Places) (p : Pac
   -- a call that waits after it waited before, or is carried anew
   pub calls : (y : WaitingCall) → Among y u.users.waiting → Among y v.users.waiting ⊎ IsHandedOn c e now sent m y
   -- a packet that carries a call goes on to carry it, or the call is carried anew
-  pub keeps : (s : ℕ) (y : WaitingCall) (q : Packet) → StillWaits at now s y → Carries c e at s y y.asking q → Carries c e now s y y.asking q ⊎ IsHandedOn c e now sent s y
+  pub keeps : (s : ℕ) (y : WaitingCall) (q : Packet) → StillWaits e at now s y → Carries c e at s y y.asking q → Carries c e now s y y.asking q ⊎ IsHandedOn c e now sent s y
   -- what the packet carried that is taken is carried anew
-  pub takes : (s : ℕ) (y : WaitingCall) → StillWaits at now s y → Carries c e at s y y.asking p → IsHandedOn c e now sent s y
-  pub holds : (s : ℕ) (y : WaitingCall) → StillWaits at now s y → IsHeld c e at s y y.asking → IsHandedOn c e now sent s y
+  pub takes : (s : ℕ) (y : WaitingCall) → StillWaits e at now s y → Carries c e at s y y.asking p → IsHandedOn c e now sent s y
+  pub holds : (s : ℕ) (y : WaitingCall) → StillWaits e at now s y → IsHeld c e at s y y.asking → IsHandedOn c e now sent s y
   -- a report that is there stays, and one that is taken is there
   pub reported : (css group s : ℕ) → IsMember e css → HasReported at css group s → HasReported now css group s
   pub counts : (group css s : ℕ) (copies : List ReportedCopy) → sync_site c e.members group ≡ Some css → Goes c e s css (body.Report group copies) p → HasReported now css group s
@@ -52,7 +53,7 @@ all_handed c e m at now p v u sent under after h synced was here others stay sen
   reports = λ group css s sync member packed. reports group css s sync (old.reports group css s sync member packed);
 }
   where
-    letter_case : (s : ℕ) (y : WaitingCall) → StillWaits at now s y → (z : Numbered) → Carries c e at s y y.asking z.packet → Among z after ⊎ (z.packet ≡ p) → IsCarried c e now after s y
+    letter_case : (s : ℕ) (y : WaitingCall) → StillWaits e at now s y → (z : Numbered) → Carries c e at s y y.asking z.packet → Among z after ⊎ (z.packet ≡ p) → IsCarried c e now after s y
     letter_case s y k z g (inl there) = over (h.keeps s y z.packet k g)
       where
         over : Carries c e now s y y.asking z.packet ⊎ IsHandedOn c e now sent s y → IsCarried c e now after s y
@@ -60,18 +61,18 @@ all_handed c e m at now p v u sent under after h synced was here others stay sen
         over (inr g) = handed c e now sent after s y sends g
     letter_case s y k z g (inr is) = handed c e now sent after s y sends (h.takes s y k (subst (λ (q : Packet). Carries c e at s y y.asking q) is g))
 
-    on : (s : ℕ) (y : WaitingCall) → StillWaits at now s y → IsUnderWay c e at under s y ⊎ IsHeld c e at s y y.asking → IsCarried c e now after s y
+    on : (s : ℕ) (y : WaitingCall) → StillWaits e at now s y → IsUnderWay c e at under s y ⊎ IsHeld c e at s y y.asking → IsCarried c e now after s y
     on s y k (inl g) = letter_case s y k g.letter g.carries (stay g.letter g.there)
     on s y k (inr g) = handed c e now sent after s y sends (h.holds s y k g)
 
     theirs : (s : ℕ) (z : SiteView) (y : WaitingCall) → IsMember e s → m ≢ s → now s ≡ Some (Running z) → Among y z.users.waiting → IsCarried c e now after s y
-    theirs s z y member ne there a = on s y (record { before = z; was = sym (others s ne) ∙ there; waited = a; after = z; here = there; waits = a }) (old.calls s z y member (sym (others s ne) ∙ there) a)
+    theirs s z y member ne there a = on s y (record { member = member; before = z; was = sym (others s ne) ∙ there; waited = a; after = z; here = there; waits = a }) (old.calls s z y member (sym (others s ne) ∙ there) a)
 
     mine : (s : ℕ) (z : SiteView) (y : WaitingCall) → IsMember e s → m ≡ s → now s ≡ Some (Running z) → Among y z.users.waiting → IsCarried c e now after s y
     mine s z y member eq there a = over (h.calls y (subst (λ (x : SiteView). Among y x.users.waiting) (view_eq (now s) z u there (ap now (sym eq) ∙ here)) a))
       where
         over : Among y v.users.waiting ⊎ IsHandedOn c e now sent m y → IsCarried c e now after s y
-        over (inl b) = on s y (record { before = v; was = ap at (sym eq) ∙ was; waited = b; after = z; here = there; waits = a }) (old.calls s v y member (ap at (sym eq) ∙ was) b)
+        over (inl b) = on s y (record { member = member; before = v; was = ap at (sym eq) ∙ was; waited = b; after = z; here = there; waits = a }) (old.calls s v y member (ap at (sym eq) ∙ was) b)
         over (inr g) = subst (λ (t : ℕ). IsCarried c e now after t y) eq (handed c e now sent after m y sends g)
 
     reports : (group css s : ℕ) → sync_site c e.members group ≡ Some css → HasReported at css group s ⊎ Reports c e under css group s → HasReported now css group s ⊎ Reports c e after css group s

@@ -154,10 +154,10 @@ one_tick c e n s w good inside_before = by_place (place_at w s) refl
             u : World
             u = acts n s v o w
 
-            k : Moved s o w u
+            k : Moved n s o w u
             k = acts_moved n s v o w within
 
-            over : IsMember e s → RunsOn s o u ⊎ ((d : Disk) × (place_at u s ≡ Some (Stopped d))) → HasAsked c e u s
+            over : IsMember e s → RunsOn n s o w u ⊎ ((d : Disk) × (place_at u s ≡ Some (Stopped d))) → HasAsked c e u s
             over m (inr stop) = (let i : IsInside u e s = later m in absurd (stopped_running stop.0 i.view (sym stop.1 ∙ i.here)))
             over m (inl run) =
                 let i : IsInside w e s = inside_before m in

@@ -1,5 +1,5 @@
 -- Calm rounds, world by world: which deliveries they have, what carries on through each of them, and what is left to show of that.
-use Rattle.std.specs.Prelude.{ℕ, ◌≡◌, ◌≤◌, ◌⊎◌, true, false, List, take, Some, None}
+use Rattle.std.specs.Prelude.{ℕ, ◌≡◌, ◌≤◌, ◌⊎◌, true, false, List, length, take, Some, None}
 use Rattle.locus_ids.specs.Sites.{has}
 use Rattle.locus_ids.specs.declared.config.Config.{Config}
 use Rattle.schedule_lines.specs.declared.line.Line.TheVariants as line
@@ -18,6 +18,7 @@ use Rattle.the_run.specs.Steps.{is_dropped}
 use Rattle.the_run.specs.Worlds.{World, Running, Numbered, place_at}
 use Rattle.lawful_trace.specs.Places.{line_at, lines_before}
 use Rattle.row_laws.specs.Voids.{LinesFit}
+use Rattle.order_laws.specs.Joining.{PacksAreOfSites}
 use Rattle.orderly_laws.specs.Calm.{AreTogether, delivered}
 use Rattle.calm_laws.specs.Carrying.{IsMember, HasReported, IsAllCarried}
 use Rattle.calm_laws.specs.Calming.{GroupsStartInTime, ReachThemselves, NobodyWaits}
@@ -28,13 +29,16 @@ use Rattle.calm_laws.specs.Calming.{GroupsStartInTime, ReachThemselves, NobodyWa
 abbrev pub after : Config → List ScheduleLine → ℕ → ℕ → World
 after c lines n k = delivered c n k (ticks_to c n all_sites (run_in c (lines_before lines n)))
 
--- The line with this number is a round, and the world stands so in it after all ticks and some deliveries; the lines are in range for
--- the cluster.
+-- The line with this number is a round, and the world stands so in it after all ticks and some deliveries. The lines are in range for the
+-- cluster, whose packs, of four groups at most, are at some of the sixteen sites.
 pub record IsInRound (c : Config) (lines : List ScheduleLine) (n : ℕ) (w : World) : Type 0 where
   pub fit : LinesFit c lines
+  pub packs : PacksAreOfSites c
+  pub groups : length c.packs ≤ 4
   pub most : ℕ
   pub settles : line_at lines n ≡ Event (line.Settle most)
   pub deliveries : ℕ
+  pub few : deliveries ≤ most
   pub is_world : w ≡ after c lines n deliveries
 
 -- ---- what stands in each of them ----
@@ -61,6 +65,7 @@ ReportsAreKnown c e w = (group css s : ℕ) (v : SiteView) → sync_site c e.mem
 pub record Delivery (c : Config) (lines : List ScheduleLine) (n : ℕ) (e : InEpoch) (x : Numbered) (w : World) : Type 0 where
   pub round : IsInRound c lines n w
   pub next : next_packet w ≡ Some x
+  pub follows : IsInRound c lines n (arrives c n x w)
   pub member : IsMember e x.packet.to
   pub view : SiteView
   pub here : place_at w x.packet.to ≡ Some (Running view)
@@ -79,7 +84,10 @@ CarriesOn c kind = (lines : List ScheduleLine) (n : ℕ) (e : InEpoch) (x : Numb
 -- last one all members are together, no limit is passed, and no member is cut off from itself.
 pub record IsCalm (c : Config) (lines : List ScheduleLine) (n : ℕ) (e : InEpoch) (k : ℕ) : Type 0 where
   pub fit : LinesFit c lines
+  pub packs : PacksAreOfSites c
+  pub groups : length c.packs ≤ 4
   pub most : ℕ
+  pub few : k ≤ most
   pub settles : line_at lines n ≡ Event (line.Settle most)
   pub first : AreTogether (run_in c (lines_before lines n)) e
   pub each : (j : ℕ) → j ≤ k → AreTogether (after c lines n j) e
@@ -180,14 +188,8 @@ pub record CalmLeft (c : Config) : Type 0 where
   pub open_request : CarriesOn c IsOpen
   pub open_at_storage : CarriesOn c IsOpenSs
   pub opened : CarriesOn c IsOpened
-  pub open_answer : CarriesOn c IsOpenDone
   pub operation : CarriesOn c IsOp
-  pub operation_answer : CarriesOn c IsOpDone
   pub close_request : CarriesOn c IsClose
   pub closed : CarriesOn c IsClosed
-  pub close_agreed : CarriesOn c IsClosedOk
-  pub close_answer : CarriesOn c IsCloseDone
   pub look_request : CarriesOn c IsLook
-  pub look_at_holder : CarriesOn c IsLookSs
-  pub look_answer : CarriesOn c IsLookDone
   pub other : CarriesOn c IsOther

@@ -1,4 +1,12 @@
+ghost use Rattle.std.specs.Prelude.{List};
 ghost use Rattle.locus_ids.specs.declared.config.Config.{Config};
+ghost use Rattle.schedule_lines.specs.Cluster.{config_of};
+ghost use Rattle.schedule_lines.specs.Schedule.{AreInOrder};
+ghost use Rattle.schedule_lines.specs.declared.line.ScheduleLine.{ScheduleLine};
+ghost use Rattle.the_run.specs.Runs.{run};
+ghost use Rattle.lawful_trace.specs.Calm.{CalmRoundsAnswer};
+ghost use Rattle.row_laws.specs.Shown.{trace_of};
+ghost use Rattle.orderly_traces.specs.Agreeing.{IsWithin};
 ghost use Rattle.calm_laws.specs.Calming.{NobodyWaitsAtTheEnd};
 ghost use Rattle.calm_laws.specs.Rounds.{CalmLeft, CalmRoundsLeaveNobody};
 
@@ -14,4 +22,10 @@ pub fn nobody_waits_where_nothing_comes()
 /// do.
 pub fn calm_rounds_leave_nobody()
     ensures { (c : Config) → CalmLeft c → CalmRoundsLeaveNobody c }
+{}
+
+/// So do the records tell it, of a schedule whose lines are in order and whose run passes no limit: after a calm round no call of a
+/// member waits, mends included.
+pub fn calm_rounds_answer()
+    ensures { (lines : List ScheduleLine) → AreInOrder lines → IsWithin lines → CalmLeft (config_of lines) → CalmRoundsAnswer lines (trace_of (run lines)) }
 {}

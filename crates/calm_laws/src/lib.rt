@@ -4,4 +4,4 @@
 
 mod laws;
 
-pub use laws::{calm_rounds_leave_nobody, nobody_waits_where_nothing_comes};
+pub use laws::{calm_rounds_answer, calm_rounds_leave_nobody, nobody_waits_where_nothing_comes};

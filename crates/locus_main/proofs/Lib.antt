@@ -3,6 +3,7 @@ pub mod Complete
 pub mod Inputs
 pub mod Loads
 pub mod Openings
+pub mod Order
 pub mod Reading
 pub mod Runs
 pub mod Schedules

@@ -14,7 +14,8 @@ use Rattle.world.specs.declared.fault.WorldFault.TheVariants as world
 use Rattle.schedule_run.specs.declared.load_fault.LoadFault.{LoadFault}
 use Rattle.schedule_run.specs.declared.load_fault.LoadFault.TheVariants as load
 use Rattle.locus_main.specs.declared.status.Status.TheVariants as status
-use Rattle.locus_main.specs.Codes.{limited, ends_load, status_of, status_of_load}
+use Rattle.locus_main.specs.Codes.{limited, ends_load, status_of}
+use Rattle.locus_main.specs.Turns.{status_of_load}
 use Rattle.locus_main.specs.Promises.{LoadPromises}
 use Rattle.locus_main.proofs.Told.{AppendsFront-whole}
 use Rattle.locus_main.proofs.Runs.{none_of}

@@ -4,10 +4,6 @@ use Rattle.locus_io.specs.declared.traits.WriteFault.{WriteFault}
 use Rattle.locus_io.specs.declared.traits.WriteFault.TheVariants as write
 use Rattle.the_run.specs.Worlds.{Limit}
 use Rattle.the_run.specs.Worlds as world
-use Rattle.world.specs.declared.fault.WorldFault.TheVariants as fault
-use Rattle.run_book.specs.Ledgers.{limit_named}
-use Rattle.schedule_run.specs.declared.load_fault.LoadFault.{LoadFault}
-use Rattle.schedule_run.specs.declared.load_fault.LoadFault.TheVariants as load
 use Rattle.locus_main.specs.declared.status.Status.{Status}
 use Rattle.locus_main.specs.declared.status.Status.TheVariants as status
 use Rattle.locus_main.specs.declared.status.Limited.{Limited}
@@ -66,10 +62,3 @@ limited world.Trace = Trace
 abbrev pub status_of : WriteFault → Status
 status_of write.Failed = status.WriteFault
 status_of write.NoMemory = status.NoMemory
-
--- what a load comes to where it was not run to its end
-abbrev pub status_of_load : LoadFault → Status
-status_of_load (load.Limit passed) = status.Limit (limited (limit_named passed))
-status_of_load load.NoMemory = status.NoMemory
-status_of_load (load.World fault.NoMemory) = status.NoMemory
-status_of_load (load.World _) = status.WorldFault

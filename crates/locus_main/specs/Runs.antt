@@ -6,10 +6,9 @@ use Rattle.std.specs.Io.KnownBytes.{Appends, Keeps}
 use Rattle.locus_io.specs.Causes.{AppendsFront}
 use Rattle.line_reader.specs.Reading.{whole_lines}
 use Rattle.schedule_lines.specs.declared.line.ScheduleLine.{ScheduleLine}
-use Rattle.schedule_lines.specs.Cluster.{config_of}
 use Rattle.the_run.specs.Worlds.{Limit}
 use Rattle.the_run.specs.Runs.{run}
-use Rattle.copy_laws.specs.Hold.{VersionsAndCopiesHold}
+use Rattle.headline_laws.specs.Holds.{RunHolds}
 use Rattle.locus_main.specs.Inputs.{Input, StandsFor, MayEndAfter, opening_of, output_of}
 
 -- there are at most 1,000,000 lines, of at most 16,384 bytes each
@@ -17,11 +16,11 @@ pub record IsWithinLimits (lines : List (List ℕ)) : Type 0 where
   pub few : length lines ≤ 1000000
   pub short : AllByRecursion (λ line. length line ≤ 16384) lines
 
--- the run of these lines passes no limit, its output is written, and its versions are as they should be
+-- the run of these lines passes no limit, its output is written, and it is as it should be
 pub record Writes (input : Input) (lines : List ScheduleLine) (before after : Option (List ℕ)) : Type 0 where
   pub within : (run lines).over ≡ None
   pub written : Appends before after (output_of input lines)
-  pub versions : VersionsAndCopiesHold (config_of lines) (run lines)
+  pub holds : RunHolds lines
 
 -- the lines of bytes are those of the input, and their run is written
 pub record AreRun (input : Input) (all : List (List ℕ)) (before after : Option (List ℕ)) : Type 0 where
@@ -96,7 +95,7 @@ pub record StopsAtFault (input : Input) (bytes left : List ℕ) (before after : 
 pub record PassesInOpening (input : Input) (limit : Limit) (before after : Option (List ℕ)) : Type 0 where
   pub passes : (run (opening_of input)).over ≡ Some limit
   pub written : Appends before after (output_of input (opening_of input))
-  pub versions : VersionsAndCopiesHold (config_of (opening_of input)) (run (opening_of input))
+  pub holds : RunHolds (opening_of input)
 
 -- The run passes the limit in this line and not before. Its output is written: it has the events before the one that passes the
 -- limit.
@@ -113,7 +112,7 @@ pub record PassesAtLine (input : Input) (all : List (List ℕ)) (limit : Limit) 
   pub next : StandsFor input (earlier ++ bytes ∷ []) longer
   pub passes : (run longer).over ≡ Some limit
   pub written : Appends before after (output_of input longer)
-  pub versions : VersionsAndCopiesHold (config_of longer) (run longer)
+  pub holds : RunHolds longer
 
 -- the program stops where the run passes this limit
 abbrev pub StopsAtLimit : Input → List (List ℕ) → Limit → Option (List ℕ) → Option (List ℕ) → Type 0
@@ -147,4 +146,4 @@ pub record WritesFront (input : Input) (all : List (List ℕ)) (before after : O
   pub lines : List ScheduleLine
   pub stands : StandsFor input earlier lines
   pub written : AppendsFront before after (output_of input lines)
-  pub versions : VersionsAndCopiesHold (config_of lines) (run lines)
+  pub holds : RunHolds lines

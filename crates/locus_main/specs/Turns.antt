@@ -9,9 +9,13 @@ use Rattle.the_run.specs.Runs.{run}
 use Rattle.world.specs.declared.fault.WorldFault.TheVariants as world
 use Rattle.schedule_run.specs.declared.fault.RunFault.{RunFault}
 use Rattle.schedule_run.specs.declared.fault.RunFault.TheVariants.{Bad, NoMemory, World}
+use Rattle.schedule_run.specs.declared.load_fault.LoadFault.{LoadFault}
+use Rattle.schedule_run.specs.declared.load_fault.LoadFault.TheVariants as load
+use Rattle.run_book.specs.Ledgers.{limit_named}
 use Rattle.locus_main.specs.declared.status.Status.{Status}
 use Rattle.locus_main.specs.declared.status.Status.TheVariants as status
 use Rattle.locus_main.specs.declared.status.Limited.TheVariants.{Line, Lines}
+use Rattle.locus_main.specs.Codes.{limited}
 use Rattle.locus_main.specs.Inputs.{Input, StandsFor, output_of}
 
 -- what a run comes to where the line of this number is not done
@@ -20,6 +24,13 @@ status_of_line Bad number = status.BadLine number
 status_of_line NoMemory number = status.NoMemory
 status_of_line (World world.NoMemory) number = status.NoMemory
 status_of_line (World _) number = status.WorldFault
+
+-- what a load comes to where it was not run to its end
+abbrev pub status_of_load : LoadFault → Status
+status_of_load (load.Limit passed) = status.Limit (limited (limit_named passed))
+status_of_load load.NoMemory = status.NoMemory
+status_of_load (load.World world.NoMemory) = status.NoMemory
+status_of_load (load.World _) = status.WorldFault
 
 -- a turn may end a run so
 abbrev pub ends_turn : Status → Bool

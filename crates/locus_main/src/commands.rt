@@ -3,9 +3,10 @@ ghost use Rattle.locus_io.specs.Causes.{Rose};
 ghost use Rattle.the_run.specs.Runs.{run as run_of};
 ghost use Rattle.the_run.specs.Commands.{load_lines, load_text};
 ghost use Rattle.generated_load.specs.Draws.{draws_of};
-ghost use Rattle.locus_main.specs.Codes.{ends_written, status_of_load as load_status};
+ghost use Rattle.locus_main.specs.Codes.{ends_written};
 ghost use Rattle.locus_main.specs.Inputs.Input.{Schedule, Calls};
 ghost use Rattle.locus_main.specs.Promises.{LinePromises, LoadPromises};
+ghost use Rattle.locus_main.specs.Turns.{status_of_load as load_status};
 
 use crate::input::run_lines;
 use crate::status::{Limited, Status};

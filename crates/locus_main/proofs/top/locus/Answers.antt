@@ -1,8 +1,8 @@
 use Rattle.std.proofs.Common.{ℕ, Err, ap, refl, ◌∙◌, inl, inr}
 use Rattle.std.proofs.lemmas.Bool.{false≢true}
 use Rattle.the_run.specs.Runs.{run}
-use Rattle.schedule_lines.specs.Cluster.{config_of}
-use Rattle.copy_laws.proofs.Hold.{run_versions_and_copies}
+use Rattle.headline_laws.proofs.Whole.{run_holds_all}
+use Rattle.input_order_laws.proofs.Loads.{generated_in_order}
 use Rattle.the_run.specs.Commands.{load_lines, load_text}
 use Rattle.generated_load.specs.Draws.{draws_of}
 use Rattle.command_words.specs.declared.command.Command.TheVariants.{Run, Tree, Make}
@@ -25,8 +25,8 @@ returns-in-Ok-Run-clause-tree g c = λ is. not_another c.args.words.now Run Tree
 pub returns-in-Ok-Run-clause-make : goal.returns-in-Ok-Run-clause-make
 returns-in-Ok-Run-clause-make g c = λ number events is. not_another c.args.words.now Run (Make number events) (run_is_no_load number events) (read_as c.args.words.now _ Run c.in-Ok-Run.field-0-is c.in-Ok-Run.ensures.command) is
 
-pub returns-in-Ok-Run-clause-load_versions : goal.returns-in-Ok-Run-clause-load_versions
-returns-in-Ok-Run-clause-load_versions g c = λ number events is. run_versions_and_copies (config_of (load_lines (draws_of number events))) (load_lines (draws_of number events))
+pub returns-in-Ok-Run-clause-load_holds : goal.returns-in-Ok-Run-clause-load_holds
+returns-in-Ok-Run-clause-load_holds g c = λ number events is. run_holds_all (load_lines (draws_of number events)) (generated_in_order number events)
 
 pub returns-in-Ok-Run-clause-asks_nothing : goal.returns-in-Ok-Run-clause-asks_nothing
 returns-in-Ok-Run-clause-asks_nothing g c = λ number events is. not_another c.args.words.now Run (Make number events) (run_is_no_load number events) (read_as c.args.words.now _ Run c.in-Ok-Run.field-0-is c.in-Ok-Run.ensures.command) is
@@ -63,8 +63,8 @@ returns-in-Ok-Tree-clause-tree g c = λ is. c.tree.ensures.promises
 pub returns-in-Ok-Tree-clause-make : goal.returns-in-Ok-Tree-clause-make
 returns-in-Ok-Tree-clause-make g c = λ number events is. not_another c.args.words.now Tree (Make number events) (tree_is_no_load number events) (read_as c.args.words.now _ Tree c.in-Ok-Tree.field-0-is c.in-Ok-Tree.ensures.command) is
 
-pub returns-in-Ok-Tree-clause-load_versions : goal.returns-in-Ok-Tree-clause-load_versions
-returns-in-Ok-Tree-clause-load_versions g c = λ number events is. run_versions_and_copies (config_of (load_lines (draws_of number events))) (load_lines (draws_of number events))
+pub returns-in-Ok-Tree-clause-load_holds : goal.returns-in-Ok-Tree-clause-load_holds
+returns-in-Ok-Tree-clause-load_holds g c = λ number events is. run_holds_all (load_lines (draws_of number events)) (generated_in_order number events)
 
 pub returns-in-Ok-Tree-clause-asks_nothing : goal.returns-in-Ok-Tree-clause-asks_nothing
 returns-in-Ok-Tree-clause-asks_nothing g c = λ number events is. not_another c.args.words.now Tree (Make number events) (tree_is_no_load number events) (read_as c.args.words.now _ Tree c.in-Ok-Tree.field-0-is c.in-Ok-Tree.ensures.command) is
@@ -106,8 +106,8 @@ returns-in-Ok-Make-clause-make g c = λ number events is.
     for_load (λ (n e : ℕ). LoadPromises (run (load_lines (draws_of n e))).over (load_text (draws_of n e)) c.make.result (g.K.Sink.taken c.args.sink.now) (g.K.Sink.taken c.make.new.sink))
     _ _ number events (one_command c.args.words.now (Make c.in-Ok-Make.number c.in-Ok-Make.events) (Make number events) (read_as c.args.words.now _ (Make c.in-Ok-Make.number c.in-Ok-Make.events) c.in-Ok-Make.field-0-is c.in-Ok-Make.ensures.command) is) c.make.ensures.promises
 
-pub returns-in-Ok-Make-clause-load_versions : goal.returns-in-Ok-Make-clause-load_versions
-returns-in-Ok-Make-clause-load_versions g c = λ number events is. run_versions_and_copies (config_of (load_lines (draws_of number events))) (load_lines (draws_of number events))
+pub returns-in-Ok-Make-clause-load_holds : goal.returns-in-Ok-Make-clause-load_holds
+returns-in-Ok-Make-clause-load_holds g c = λ number events is. run_holds_all (load_lines (draws_of number events)) (generated_in_order number events)
 
 pub returns-in-Ok-Make-clause-asks_nothing : goal.returns-in-Ok-Make-clause-asks_nothing
 returns-in-Ok-Make-clause-asks_nothing g c = λ number events is. refl
@@ -144,8 +144,8 @@ returns-in-Err-Bad-clause-tree g c = λ is. absurd (c.read_words.ensures.bad (c.
 pub returns-in-Err-Bad-clause-make : goal.returns-in-Err-Bad-clause-make
 returns-in-Err-Bad-clause-make g c = λ number events is. absurd (c.read_words.ensures.bad (c.in-Err-Bad.is ∙ ap Err c.in-Err-Bad.field-0-is) (Make number events) is)
 
-pub returns-in-Err-Bad-clause-load_versions : goal.returns-in-Err-Bad-clause-load_versions
-returns-in-Err-Bad-clause-load_versions g c = λ number events is. run_versions_and_copies (config_of (load_lines (draws_of number events))) (load_lines (draws_of number events))
+pub returns-in-Err-Bad-clause-load_holds : goal.returns-in-Err-Bad-clause-load_holds
+returns-in-Err-Bad-clause-load_holds g c = λ number events is. run_holds_all (load_lines (draws_of number events)) (generated_in_order number events)
 
 pub returns-in-Err-Bad-clause-asks_nothing : goal.returns-in-Err-Bad-clause-asks_nothing
 returns-in-Err-Bad-clause-asks_nothing g c = λ number events is. absurd (c.read_words.ensures.bad (c.in-Err-Bad.is ∙ ap Err c.in-Err-Bad.field-0-is) (Make number events) is)
@@ -182,8 +182,8 @@ returns-in-Err-NoMemory-clause-tree g c = λ is. for_memory Calls _ _ _ _ (Nothi
 pub returns-in-Err-NoMemory-clause-make : goal.returns-in-Err-NoMemory-clause-make
 returns-in-Err-NoMemory-clause-make g c = λ number events is. no_load _ _ _
 
-pub returns-in-Err-NoMemory-clause-load_versions : goal.returns-in-Err-NoMemory-clause-load_versions
-returns-in-Err-NoMemory-clause-load_versions g c = λ number events is. run_versions_and_copies (config_of (load_lines (draws_of number events))) (load_lines (draws_of number events))
+pub returns-in-Err-NoMemory-clause-load_holds : goal.returns-in-Err-NoMemory-clause-load_holds
+returns-in-Err-NoMemory-clause-load_holds g c = λ number events is. run_holds_all (load_lines (draws_of number events)) (generated_in_order number events)
 
 pub returns-in-Err-NoMemory-clause-asks_nothing : goal.returns-in-Err-NoMemory-clause-asks_nothing
 returns-in-Err-NoMemory-clause-asks_nothing g c = λ number events is. refl

@@ -1,0 +1,193 @@
+-- The result of an operation that comes to its using site: the call that asks it takes it.
+use Rattle.std.proofs.Common.{◌≡◌, ℕ, ◌==◌, ◌⊎◌, Bool, true, false, ◌&&◌, List, Option, Some, None, refl, sym, ◌∙◌, ap, subst, inl, inr}
+use Rattle.locus_ids.specs.declared.config.Config.{Config}
+use Rattle.locus_ids.specs.declared.ids.CallId.{CallId}
+use Rattle.trace_book.specs.declared.operation.Op.{Op}
+use Rattle.trace_book.specs.declared.operation.Outcome.{Outcome as Result}
+use Rattle.call_rules.specs.declared.want.Want.TheVariants as want
+use Rattle.wire_messages.specs.declared.body.Body.{Body}
+use Rattle.wire_messages.specs.declared.body.Body.TheVariants as body
+use Rattle.wire_messages.specs.declared.packet.Packet.{Packet}
+use Rattle.role_steps.specs.Epochs.{frame_in}
+use Rattle.role_steps.specs.Tables.{first_that}
+use Rattle.role_steps.specs.Using.{answers_op, asks_op_number, op_answer, on_op_done, on_op_done_of}
+use Rattle.role_steps.specs.Views.{Frame, Users, SiteView}
+use Rattle.role_steps.specs.declared.rounds.InEpoch.{InEpoch}
+use Rattle.role_steps.specs.declared.users.Asking.{Asking}
+use Rattle.role_steps.specs.declared.users.Asking.TheVariants as asking
+use Rattle.role_steps.specs.declared.users.WaitingCall.{WaitingCall}
+use Rattle.the_run.specs.Kept.{Among}
+use Rattle.the_run.specs.Steps.{takes_inside}
+use Rattle.the_run.specs.Worlds.{Line}
+use Rattle.epoch_laws.specs.Forming.{FormsNone}
+use Rattle.epoch_laws.specs.Known.{Places}
+use Rattle.tree_laws.specs.Calls.{is_request}
+use Rattle.tree_laws.specs.Packets.{serial_of}
+use Rattle.tree_laws.specs.Serials.{asked_now}
+use Rattle.tree_laws.specs.Following.{IsFollowed}
+use Rattle.tree_laws.specs.Users.{own_call, AskingIs, WaitingFact}
+use Rattle.answer_laws.proofs.Askers.{op_had, one_has}
+use Rattle.calm_laws.specs.Carrying.{frame_of, CarriesOp, AnswersOp, Carries}
+use Rattle.calm_laws.specs.Rounds.{CarriesOn, IsOpDone}
+use Rattle.calm_laws.proofs.AnswerRows.{HasTaken, AnswerHandler, answer_row, waiting_fact}
+use Rattle.calm_laws.proofs.Calls.{CallsAsk, IsSent}
+use Rattle.calm_laws.proofs.Carriers.{of_kind, MayCarry, carrier_kind}
+use Rattle.calm_laws.proofs.Ends.{handles}
+use Rattle.calm_laws.proofs.Facts.{RoundFacts}
+use Rattle.calm_laws.proofs.Rows.{AllGoToMembers, TriesNone, Taker, taker}
+use Rattle.calm_laws.proofs.UserParts.{UserHandler, users_handle, answer_calls, answer_handler, Found, first_found, call_inside, asked_is, op_asked, number_of_call, equal, same_true}
+
+-- ---- which calls it carries ----
+
+abbrev pub IsOpAsking : Asking → Type 0
+IsOpAsking (asking.Op serial ss n o seen) = Unit {0}
+IsOpAsking _ = ⊥
+
+only_ops : (a : Asking) (b : Body) → IsOpDone b → MayCarry a b → IsOpAsking a
+only_ops (asking.Op serial ss n o seen) b k h = tt
+only_ops (asking.Look file w take) (body.OpDone serial n result) k h = h
+only_ops (asking.Look file w take) _ k h = absurd k
+only_ops (asking.Open serial file how) (body.OpDone number n result) k h = h
+only_ops (asking.Open serial file how) _ k h = absurd k
+only_ops (asking.Close serial ss) (body.OpDone number n result) k h = h
+only_ops (asking.Close serial ss) _ k h = absurd k
+
+answers_op_of : (c : Config) (e : InEpoch) (s serial ss n : ℕ) (o : Op) (seen : List ℕ) (p : Packet) → IsOpDone p.body → CarriesOp c e s serial ss n o seen p → AnswersOp c e s serial ss n o p
+answers_op_of c e s serial ss n o seen p k (inl g) = absurd (of_kind IsOpDone c e s ss (body.Op serial n o seen) p k g)
+answers_op_of c e s serial ss n o seen p k (inr h) = h
+
+-- the operation that the call asks, and the answer to it
+record Asked (c : Config) (e : InEpoch) (s : ℕ) (y : WaitingCall) (p : Packet) : Type 0 where
+  serial : ℕ
+  ss : ℕ
+  n : ℕ
+  op : Op
+  seen : List ℕ
+  is : y.asking ≡ asking.Op serial ss n op seen
+  answers : AnswersOp c e s serial ss n op p
+
+asked : (c : Config) (e : InEpoch) (at : Places) (s : ℕ) (y : WaitingCall) (p : Packet) (a : Asking) → y.asking ≡ a → IsOpDone p.body → Carries c e at s y a p → Asked c e s y p
+asked c e at s y p (asking.Op serial ss n o seen) is kind k = record { serial = serial; ss = ss; n = n; op = o; seen = seen; is = is; answers = answers_op_of c e s serial ss n o seen p kind k }
+asked c e at s y p (asking.Look file w take) is kind k = absurd (only_ops (asking.Look file w take) p.body kind (carrier_kind c e at s y (asking.Look file w take) p k))
+asked c e at s y p (asking.Open serial file how) is kind k = absurd (only_ops (asking.Open serial file how) p.body kind (carrier_kind c e at s y (asking.Open serial file how) p k))
+asked c e at s y p (asking.Close serial ss) is kind k = absurd (only_ops (asking.Close serial ss) p.body kind (carrier_kind c e at s y (asking.Close serial ss) p k))
+
+-- ---- the handler ----
+
+done_calls : (f : Frame) (r : Result) (o : Option WaitingCall) (u : Users) → CallsAsk f u.waiting (on_op_done_of f r o u).view.waiting (on_op_done_of f r o u).sent
+done_calls f r None u y a = inl a
+done_calls f r (Some w) u y a = answer_calls f w (op_answer r) u y a
+
+handler_of : (f : Frame) (from : ℕ) (b : Body) (v : SiteView) → IsOpDone b → UserHandler f v (takes_inside f from b v)
+handler_of f from (body.OpDone serial n result) v k = users_handle f v (on_op_done f serial n result) (done_calls f result (first_that (asks_op_number serial n result) v.users.waiting) v.users)
+handler_of f from _ v k = absurd k
+
+forms : (b : Body) → IsOpDone b → FormsNone b × TriesNone b
+forms (body.OpDone serial n result) k = (tt, tt)
+forms _ k = absurd k
+
+-- ---- who asks it ----
+
+abbrev test_of : Asking → ℕ → ℕ → Result → Bool
+test_of (asking.Op s ss number o seen) serial n r = (s == serial) && ((number == n) && answers_op o r)
+test_of _ serial n r = false
+
+test_is : (serial n : ℕ) (r : Result) (y : WaitingCall) → asks_op_number serial n r y ≡ test_of y.asking serial n r
+test_is serial n r y = by_asking y.asking
+  where
+    by_asking : (a : Asking) → asks_op_number serial n r (record y { asking = a }) ≡ test_of a serial n r
+    by_asking (asking.Op s ss number o seen) = refl
+    by_asking _ = refl
+
+and_true : (a b d : Bool) → a ≡ true → b ≡ true → d ≡ true → (a && (b && d)) ≡ true
+and_true a b d p q r = ap (λ (x : Bool). x && (b && d)) p ∙ (ap (λ (x : Bool). x && d) q ∙ r)
+
+first_true : (a b : Bool) → (a && b) ≡ true → a ≡ true
+first_true true b h = refl
+first_true false b h = absurd (false_true h)
+  where
+    false_true : false ≡ true → ⊥
+    false_true e = cc
+
+-- two calls of the site that ask an operation of one instance are one
+one_asks : (c : Config) (t : List Line) (f : Frame) (y z : WaitingCall) (serial : ℕ) → (h : WaitingFact c t f y) (g : WaitingFact c t f z) → IsFollowed c t → (o q : Op) → h.wanted ≡ want.Do (serial_of f.me serial) o → g.wanted ≡ want.Do (serial_of f.me serial) q → y.call ≡ z.call
+one_asks c t f y z serial h g followed o q yo zo =
+    let dy : CallId = own_call f.me f.boot y.call in
+    let dz : CallId = own_call f.me f.boot z.call in
+    let ay : asked_now c t dy ≡ want.Do (serial_of f.me serial) o = asked_is c t f y h ∙ yo in
+    let az : asked_now c t dz ≡ want.Do (serial_of f.me serial) q = asked_is c t f z g ∙ zo in
+    number_of_call f.me f.boot y.call z.call (one_has c t f.epoch (serial_of f.me serial) dy dz followed (call_inside c t f y h) (call_inside c t f z g) (ap is_request ay) (ap is_request az)
+    (op_had c t dy (serial_of f.me serial) o followed (h.caller, h.named) ay) (op_had c t dz (serial_of f.me serial) q followed (g.caller, g.named) az))
+
+asking_op : (a : Asking) (serial n : ℕ) (r : Result) → test_of a serial n r ≡ true → (ss : ℕ) × (number : ℕ) × (o : Op) × (seen : List ℕ) × (a ≡ asking.Op serial ss number o seen)
+asking_op (asking.Op s ss number o seen) serial n r h = (ss, number, o, seen, ap (λ (k : ℕ). asking.Op k ss number o seen) (equal s serial (first_true (s == serial) ((number == n) && answers_op o r) h)))
+asking_op (asking.Look file w take) serial n r h = absurd (false_true h)
+  where
+    false_true : false ≡ true → ⊥
+    false_true e = cc
+asking_op (asking.Open s file how) serial n r h = absurd (false_true h)
+  where
+    false_true : false ≡ true → ⊥
+    false_true e = cc
+asking_op (asking.Close s ss) serial n r h = absurd (false_true h)
+  where
+    false_true : false ≡ true → ⊥
+    false_true e = cc
+
+-- ---- the row ----
+
+pub op_answer_row : (c : Config) → AllGoToMembers c → CarriesOn c IsOpDone
+op_answer_row c members lines n e x w d kind old = answer_row c members lines n e x w d (forms x.packet.body kind).0 (forms x.packet.body kind).1 handler old
+  where
+    m : ℕ
+    m = x.packet.to
+
+    p : Packet
+    p = x.packet
+
+    v : SiteView
+    v = d.view
+
+    t : Taker c e m v
+    t = taker c lines n e x w d
+
+    handler : RoundFacts c w → AnswerHandler c e m p v
+    handler facts = answer_handler c e m p v (handler_of (frame_of c e m) p.from p.body v kind) (λ from to group copies g. of_kind IsOpDone c e from to (body.Report group copies) p kind g) mine takes
+      where
+        mine : (at : Places) (s : ℕ) (y : WaitingCall) → Carries c e at s y y.asking p → s ≡ m
+        mine at s y k = (let a : Asked c e s y p = asked c e at s y p y.asking refl kind k in sym (ap (λ (q : Packet). q.to) a.answers.goes.is))
+
+        fact : (y : WaitingCall) → Among y v.users.waiting → WaitingFact c w.trace (frame_in c m v.boot e) y
+        fact y a = waiting_fact c w m v e y facts.fact d.here t.epoch a
+
+        takes : (at : Places) (y : WaitingCall) → Among y v.users.waiting → Carries c e at m y y.asking p → HasTaken (own_call m v.boot y.call) (handles c e m p v).told ⊎ (Among y (handles c e m p v).view.users.waiting → IsSent (frame_of c e m) y (handles c e m p v).sent)
+        takes at y there k = inl (subst (λ (b : Body). HasTaken (own_call m v.boot y.call) (takes_inside (frame_of c e m) p.from b v).told) (sym (ap (λ (q : Packet). q.body) a.answers.goes.is)) told)
+          where
+            a : Asked c e m y p
+            a = asked c e at m y p y.asking refl kind k
+
+            test : WaitingCall → Bool
+            test = asks_op_number a.serial a.n a.answers.result
+
+            passes : test y ≡ true
+            passes = test_is a.serial a.n a.answers.result y ∙ (ap (λ (z : Asking). test_of z a.serial a.n a.answers.result) a.is ∙ and_true (a.serial == a.serial) (a.n == a.n) (answers_op a.op a.answers.result) (same_true a.serial a.serial refl) (same_true a.n a.n refl) a.answers.fits)
+
+            first : Found test v.users.waiting
+            first = first_found test v.users.waiting y there passes
+
+            theirs : (ss : ℕ) × (number : ℕ) × (o : Op) × (seen : List ℕ) × (first.it.asking ≡ asking.Op a.serial ss number o seen)
+            theirs = asking_op first.it.asking a.serial a.n a.answers.result (sym (test_is a.serial a.n a.answers.result first.it) ∙ first.passes)
+
+            hy : WaitingFact c w.trace (frame_in c m v.boot e) y
+            hy = fact y there
+
+            hz : WaitingFact c w.trace (frame_in c m v.boot e) first.it
+            hz = fact first.it first.there
+
+            same : y.call ≡ first.it.call
+            same = one_asks c w.trace (frame_in c m v.boot e) y first.it a.serial hy hz facts.fact.followed a.op theirs.2
+                (op_asked c w.trace m (own_call m v.boot y.call) hy.wanted a.serial a.ss a.n a.op a.seen (subst (λ (z : Asking). AskingIs c w.trace m (own_call m v.boot y.call) hy.wanted z) a.is hy.asking_is))
+                (op_asked c w.trace m (own_call m v.boot first.it.call) hz.wanted a.serial theirs.0 theirs.1 theirs.2 theirs.3 (subst (λ (z : Asking). AskingIs c w.trace m (own_call m v.boot first.it.call) hz.wanted z) theirs.4 hz.asking_is))
+
+            told : HasTaken (own_call m v.boot y.call) (on_op_done (frame_of c e m) a.serial a.n a.answers.result v.users).told
+            told = subst (λ (o : Option WaitingCall). HasTaken (own_call m v.boot y.call) (on_op_done_of (frame_of c e m) a.answers.result o v.users).told) (sym first.found) (inl (λ i. own_call m (sym t.boot i) (sym same i)))

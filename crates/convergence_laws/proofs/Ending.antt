@@ -1,0 +1,89 @@
+-- The end of a round: no notice is under way to a member any more, so no version is due there, and the one that was on its way is held.
+use Rattle.std.proofs.Common.{◌≡◌, ℕ, ◌≤◌, ◌==◌, Bool, true, false, ◌&&◌, List, [], ◌∷◌, ◌++◌, length, Option, None, refl, sym, ◌∙◌, ap, subst, inl, inr, arith}
+use Rattle.std.proofs.lemmas.Bool.Decides.{nat_tests}
+use Rattle.locus_ids.specs.Sites.{has}
+use Rattle.locus_ids.specs.declared.config.Config.{Config}
+use Rattle.locus_ids.specs.declared.ids.FileId.{FileId}
+use Rattle.locus_ids.specs.declared.sites.Sites.{Sites}
+use Rattle.trace_book.specs.Same.{same_epoch}
+use Rattle.role_steps.specs.Own.{Every}
+use Rattle.role_steps.specs.Views.{boot_in}
+use Rattle.role_steps.specs.declared.rounds.InEpoch.{InEpoch}
+use Rattle.role_steps.specs.declared.synchronizing.VersionRow.{VersionRow}
+use Rattle.the_run.specs.Kept.{Among}
+use Rattle.the_run.specs.Runs.{can_come, next_packet_of, next_packet}
+use Rattle.the_run.specs.Worlds.{World, Limit, Numbered, place_at, is_cut, is_up}
+use Rattle.the_run.proofs.Boots.{at_each}
+use Rattle.make_laws.specs.Made.{IsSender, NumberedSender}
+use Rattle.orderly_laws.specs.Calm.{AreTogether}
+use Rattle.orderly_laws.proofs.Places.{is_up_linked}
+use Rattle.calm_laws.specs.Carrying.{IsMember}
+use Rattle.calm_laws.specs.Calming.{ReachThemselves}
+use Rattle.calm_laws.proofs.Lists.{both_true, every_among, none_passes}
+use Rattle.calm_laws.proofs.Members.{member_runs}
+use Rattle.convergence_laws.specs.Copies.{IsOnlyKept, HoldsTheOnly}
+use Rattle.convergence_laws.specs.Offers.{Offer, is_for, names_to, named, IsDue, IsOnItsWay}
+
+-- ---- no packet for a member is under way ----
+
+nothing_can : (w : World) → w.over ≡ None → next_packet w ≡ None → (y : Numbered) → Among y w.underway → can_come w y ≡ true → ⊥
+nothing_can w within nothing = none_passes (can_come w) w.underway (ap (λ (o : Option Limit). next_packet_of w o) (sym within) ∙ nothing)
+
+equal : (i j : ℕ) → (i == j) ≡ true → i ≡ j
+equal i j h = grind (arith, nat_tests)
+
+-- a packet that is for a member comes from a member
+pub from_member : (e : InEpoch) (s : ℕ) (x : Numbered) → IsSender x.packet → is_for e s x.packet ≡ true → (x.packet.to ≡ s) × IsMember e x.packet.from
+from_member e s x sender h =
+    let a : ((x.packet.to == s) ≡ true) × _ = both_true (x.packet.to == s) _ h in
+    let b : _ × ((same_epoch e.id x.packet.epoch && (boot_in e.members.boot x.packet.from == x.packet.from_boot)) ≡ true) = both_true (x.packet.to_boot == boot_in e.members.boot s) _ a.1 in
+    let d : _ × ((boot_in e.members.boot x.packet.from == x.packet.from_boot) ≡ true) = both_true (same_epoch e.id x.packet.epoch) _ b.1 in
+    (equal x.packet.to s a.0, λ z. low x.packet.from_boot sender.boot (sym (equal (boot_in e.members.boot x.packet.from) x.packet.from_boot d.1) ∙ z))
+  where
+    low : (n : ℕ) → 1 ≤ n → n ≡ 0 → ⊥
+    low n le z = omega (arith, le, z)
+
+for_none : (c : Config) (e : InEpoch) (w : World) (s : ℕ) → AreTogether w e → ReachThemselves e w → w.over ≡ None → next_packet w ≡ None → Every NumberedSender w.underway → IsMember e s → (x : Numbered) → Among x w.underway → is_for e s x.packet ≡ true → ⊥
+for_none c e w s together reach within nothing senders m x there h = nothing_can w within nothing x there comes
+  where
+    k : (x.packet.to ≡ s) × IsMember e x.packet.from
+    k = from_member e s x (every_among NumberedSender x w.underway there senders) h
+
+    uncut : is_cut w x.packet.from s ≡ false
+    uncut = at_each x.packet.from s (is_cut w x.packet.from s ≡ false) (λ eq. subst (λ (t : ℕ). is_cut w x.packet.from t ≡ false) eq (reach x.packet.from k.1)) (λ ne. together.connected x.packet.from s k.1 m ne)
+
+    comes : can_come w x ≡ true
+    comes = ap (λ (t : ℕ). is_up w x.packet.from t) k.0 ∙ is_up_linked w x.packet.from s (member_runs e w x.packet.from together k.1) (member_runs e w s together m) uncut
+
+none_named : (e : InEpoch) (s : ℕ) (xs : List Numbered) → ((x : Numbered) → Among x xs → is_for e s x.packet ≡ true → ⊥) → named e s xs ≡ []
+none_named e s [] h = refl
+none_named e s (x ∷ xs) h = over (is_for e s x.packet) refl (none_named e s xs (λ y a. h y (inr a)))
+  where
+    over : (b : Bool) → is_for e s x.packet ≡ b → named e s xs ≡ [] → names_to b x.packet.body ++ named e s xs ≡ []
+    over true k n = absurd (h x (inl refl) k)
+    over false k n = n
+
+-- ---- what was on its way is held ----
+
+nothing_due : (xs : List Offer) (d : Offer) → length xs ≤ 0 → Among d xs → ⊥
+nothing_due [] d le a = a
+nothing_due (x ∷ xs) d le a = omega (arith, le)
+
+pub held_at_the_end : (c : Config) (e : InEpoch) (w : World) (s : ℕ) (file : FileId) (v : VersionRow) (set : Sites) → AreTogether w e → ReachThemselves e w → w.over ≡ None → next_packet w ≡ None → Every NumberedSender w.underway →
+    IsOnlyKept c e (place_at w) file v set → IsMember e s → has set s ≡ true → IsOnItsWay c e (place_at w) w.underway s file v → HoldsTheOnly (place_at w) s file v
+held_at_the_end c e w s file v set together reach within nothing senders kept m in_set (inl k) = k
+held_at_the_end c e w s file v set together reach within nothing senders kept m in_set (inr k) = absurd (nothing_due k.1.offers d few (k.1.each d due))
+  where
+    d : Offer
+    d = record { file = file; stamp = v.stamp; vector = v.vector }
+
+    few : length k.1.offers ≤ 0
+    few = subst (λ (l : List Offer). length k.1.offers ≤ length l) (none_named e s w.underway (for_none c e w s together reach within nothing senders m)) k.1.notices
+
+    due : IsDue c e (place_at w) w.underway s d
+    due = record {
+      view = k.0.view;
+      here = k.0.here;
+      above = k.0.above;
+      why = inl (record { file_known = kept.file_known; known = kept.known; version = v; only = kept.only; stamp = refl; vector = refl; in_set = ap (λ (x : Sites). has x s) kept.sites ∙ in_set });
+    }

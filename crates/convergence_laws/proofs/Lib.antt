@@ -1,0 +1,13 @@
+pub mod Lists
+pub mod Named
+pub mod Files
+pub mod Events
+pub mod Ending
+pub mod Enough
+pub mod Adopting
+pub mod Taking
+pub mod Ways
+pub mod Trying
+pub mod Coming
+pub mod Copying
+pub mod Convergence

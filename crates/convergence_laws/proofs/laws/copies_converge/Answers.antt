@@ -1,0 +1,5 @@
+use Rattle.convergence_laws.proofs.Convergence.{converge}
+use Rattle.convergence_laws.proofs.laws.copies_converge.Goals as goal
+
+pub returns : goal.returns
+returns c = λ config left. converge config left

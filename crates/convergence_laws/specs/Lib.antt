@@ -1,0 +1,4 @@
+pub mod Copies
+pub mod Rounds
+pub mod Offers
+pub mod Converging

@@ -1,0 +1,9 @@
+pub mod Numbers
+pub mod Tables
+pub mod Opens
+pub mod Versions
+pub mod PageLists
+pub mod Effects
+pub mod Working
+pub mod Sets
+pub mod Slots

@@ -1,0 +1,4 @@
+pub mod Inodes
+pub mod Opens
+pub mod Working
+pub mod Versions
