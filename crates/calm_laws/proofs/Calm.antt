@@ -22,6 +22,8 @@ use Rattle.calm_laws.proofs.Events.{Under}
 use Rattle.calm_laws.proofs.Members.{sync_is}
 use Rattle.calm_laws.proofs.Requests.{to_some_has, Requested, request_carries}
 use Rattle.calm_laws.proofs.Rounds.{delivered_kept, delivered_then, one_more}
+use Rattle.calm_laws.proofs.Packed.{all_go}
+use Rattle.calm_laws.proofs.StartsRun.{groups_start}
 use Rattle.calm_laws.proofs.Ticks.{HasAsked, over_round, ticks_ask, sites_apart}
 
 -- ---- deliveries ----
@@ -35,7 +37,7 @@ within_before c n j k w le h =
 -- ---- the round ----
 
 pub calm_round : (c : Config) → CalmLeft c → CalmRoundsLeaveNobody c
-calm_round c left lines n e k h = nobody_waits c e (after c lines n k) (h.each k (omega arith)) h.reach h.within h.ended (left.starts lines n (after c lines n k) (round k (omega arith))) (carried k (omega arith))
+calm_round c left lines n e k h = nobody_waits c e (after c lines n k) (h.each k (omega arith)) h.reach h.within h.ended (groups_start c lines n (after c lines n k) (round k (omega arith))) (carried k (omega arith))
   where
     few : (j : ℕ) → j ≤ k → k ≤ h.most → j ≤ h.most
     few j le top = omega (arith, le, top)
@@ -57,7 +59,7 @@ calm_round c left lines n e k h = nobody_waits c e (after c lines n k) (h.each k
 
     start : IsAllCarried c e first
     start = record {
-      calls = λ s v x m here a. call s x (request_carries c e (place_at first) s x x.asking m (left.requests lines n e first (round 0 (omega arith)) (h.each 0 (omega arith)) s v x m here a)) (λ p b. (asked s m).calls v x here a p b);
+      calls = λ s v x m here a. call s x (request_carries c e (place_at first) s x x.asking m ((all_go c) lines n e first (round 0 (omega arith)) (h.each 0 (omega arith)) s v x m here a)) (λ p b. (asked s m).calls v x here a p b);
       reports = λ group css s sync m packed. (let i : IsInside first e s = (h.each 0 (omega arith)).inside s m in
           report group css s sync m i (left.known lines n e first (round 0 (omega arith)) (h.each 0 (omega arith)) group css s i.view sync m packed i.here));
     }

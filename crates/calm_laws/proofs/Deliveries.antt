@@ -31,10 +31,19 @@ use Rattle.calm_laws.proofs.Lists.{true_false}
 use Rattle.calm_laws.proofs.CloseAgreed.{close_agreed_row}
 use Rattle.calm_laws.proofs.CloseAnswer.{close_answer_row}
 use Rattle.calm_laws.proofs.LookAnswer.{look_answer_row}
+use Rattle.calm_laws.proofs.Lawful.{operations_done}
 use Rattle.calm_laws.proofs.LookAtHolder.{look_at_holder}
+use Rattle.calm_laws.proofs.LookRequests.{look_row}
+use Rattle.calm_laws.proofs.Others.{other_row}
 use Rattle.calm_laws.proofs.OpAnswer.{op_answer_row}
+use Rattle.calm_laws.proofs.Operation.{operation_row}
 use Rattle.calm_laws.proofs.OpenAnswer.{open_answer_row}
 use Rattle.calm_laws.proofs.Members.{sync_is}
+use Rattle.calm_laws.proofs.CloseRequest.{close_request_row}
+use Rattle.calm_laws.proofs.Closed.{closed_row}
+use Rattle.calm_laws.proofs.OpenAtStorage.{open_at_storage_row}
+use Rattle.calm_laws.proofs.Opened.{opened_row}
+use Rattle.calm_laws.proofs.Packed.{all_go}
 use Rattle.calm_laws.proofs.Rounds.{in_round}
 
 -- ---- a packet that nobody of the epoch takes ----
@@ -126,19 +135,19 @@ by_kind c left lines n e x w d old = over x.packet.body refl
     over : (b : Body) → x.packet.body ≡ b → IsAllCarried c e (arrives c n x w)
     over (body.Report group copies) is = left.report lines n e x w d (subst IsReport (sym is) tt) old
     over (body.Open serial call process request file how) is = left.open_request lines n e x w d (subst IsOpen (sym is) tt) old
-    over (body.OpenSs inst file mode set kind base vector parents) is = left.open_at_storage lines n e x w d (subst IsOpenSs (sym is) tt) old
-    over (body.Opened inst answer) is = left.opened lines n e x w d (subst IsOpened (sym is) tt) old
-    over (body.OpenDone serial answer) is = open_answer_row c left.requests lines n e x w d (subst IsOpenDone (sym is) tt) old
-    over (body.Op serial k o seen) is = left.operation lines n e x w d (subst IsOp (sym is) tt) old
-    over (body.OpDone serial k result) is = op_answer_row c left.requests lines n e x w d (subst IsOpDone (sym is) tt) old
-    over (body.Close serial) is = left.close_request lines n e x w d (subst IsClose (sym is) tt) old
-    over (body.Closed inst made) is = left.closed lines n e x w d (subst IsClosed (sym is) tt) old
-    over (body.ClosedOk inst) is = close_agreed_row c left.requests lines n e x w d (subst IsClosedOk (sym is) tt) old
-    over (body.CloseDone serial answer) is = close_answer_row c left.requests lines n e x w d (subst IsCloseDone (sym is) tt) old
-    over (body.Look call process request take file what) is = left.look_request lines n e x w d (subst IsLook (sym is) tt) old
-    over (body.LookSs us call process request take file what stamp) is = look_at_holder c left.requests lines n e x w d (subst IsLookSs (sym is) tt) old
-    over (body.LookDone call request take answer) is = look_answer_row c left.requests lines n e x w d (subst IsLookDone (sym is) tt) old
-    over _ is = left.other lines n e x w d (subst IsOther (sym is) tt) old
+    over (body.OpenSs inst file mode set kind base vector parents) is = open_at_storage_row c (all_go c) lines n e x w d (subst IsOpenSs (sym is) tt) old
+    over (body.Opened inst answer) is = opened_row c (all_go c) lines n e x w d (subst IsOpened (sym is) tt) old
+    over (body.OpenDone serial answer) is = open_answer_row c (all_go c) lines n e x w d (subst IsOpenDone (sym is) tt) old
+    over (body.Op serial k o seen) is = operation_row c (all_go c) (λ lines n e w round together. operations_done c lines n e w round (left.operations lines n e w round together)) lines n e x w d (subst IsOp (sym is) tt) old
+    over (body.OpDone serial k result) is = op_answer_row c (all_go c) lines n e x w d (subst IsOpDone (sym is) tt) old
+    over (body.Close serial) is = close_request_row c (all_go c) lines n e x w d (subst IsClose (sym is) tt) old
+    over (body.Closed inst made) is = closed_row c (all_go c) left.granted lines n e x w d (subst IsClosed (sym is) tt) old
+    over (body.ClosedOk inst) is = close_agreed_row c (all_go c) lines n e x w d (subst IsClosedOk (sym is) tt) old
+    over (body.CloseDone serial answer) is = close_answer_row c (all_go c) lines n e x w d (subst IsCloseDone (sym is) tt) old
+    over (body.Look call process request take file what) is = look_row c (all_go c) left.looks lines n e x w d (subst IsLook (sym is) tt) old
+    over (body.LookSs us call process request take file what stamp) is = look_at_holder c (all_go c) lines n e x w d (subst IsLookSs (sym is) tt) old
+    over (body.LookDone call request take answer) is = look_answer_row c (all_go c) lines n e x w d (subst IsLookDone (sym is) tt) old
+    over _ is = other_row c (all_go c) lines n e x w d (subst IsOther (sym is) tt) old
 
 pub one_delivery : (c : Config) → CalmLeft c → (lines : List ScheduleLine) (n : ℕ) (e : InEpoch) (x : Numbered) (w : World) → IsInRound c lines n w → next_packet w ≡ Some x → IsInRound c lines n (arrives c n x w) → AreTogether w e → AreTogether (arrives c n x w) e → (arrives c n x w).over ≡ None → IsAllCarried c e w → IsAllCarried c e (arrives c n x w)
 one_delivery c left lines n e x w round next follows before after within old = by_member (boot_in e.members.boot x.packet.to) refl

@@ -39,7 +39,7 @@ use Rattle.calm_laws.proofs.Members.{sync_is}
 pub record KeepsTable (t n : SyncTable) : Type 0 where
   pub group : n.group ≡ t.group
   pub started : n.started ≡ t.started
-  pub early : n.early ≡ t.early
+  pub early : (x : Early) → Among x t.early → Among x n.early
   pub opens : n.opens ≡ t.opens
   pub reported : n.reported ≡ t.reported
 
@@ -51,14 +51,14 @@ KeepsAll (t ∷ ts) [] = ⊥
 KeepsAll (t ∷ ts) (n ∷ ns) = KeepsTable t n × KeepsAll ts ns
 
 pub table_itself : (t : SyncTable) → KeepsTable t t
-table_itself t = record { group = refl; started = refl; early = refl; opens = refl; reported = refl }
+table_itself t = record { group = refl; started = refl; early = λ x a. a; opens = refl; reported = refl }
 
 pub all_itself : (ts : List SyncTable) → KeepsAll ts ts
 all_itself [] = tt
 all_itself (t ∷ ts) = (table_itself t, all_itself ts)
 
 pub table_then : (t n k : SyncTable) → KeepsTable t n → KeepsTable n k → KeepsTable t k
-table_then t n k a b = record { group = b.group ∙ a.group; started = b.started ∙ a.started; early = b.early ∙ a.early; opens = b.opens ∙ a.opens; reported = b.reported ∙ a.reported }
+table_then t n k a b = record { group = b.group ∙ a.group; started = b.started ∙ a.started; early = λ x m. b.early x (a.early x m); opens = b.opens ∙ a.opens; reported = b.reported ∙ a.reported }
 
 pub all_then : (ts ns ks : List SyncTable) → KeepsAll ts ns → KeepsAll ns ks → KeepsAll ts ks
 all_then [] [] [] a b = tt
@@ -148,7 +148,7 @@ pub holds_kept : (e : InEpoch) (at now : Places) (css group site process : ℕ) 
 holds_kept e at now css group site process b keep m h =
     let k : KeptAt now css h.view = keep css h.view m h.here in
     let r : RowKept group k.view.tables h.table = row_kept group h.view.tables k.view.tables k.keeps.tables h.table h.found in
-    record { view = k.view; here = k.here; table = r.table; found = r.found; unstarted = r.keeps.started ∙ h.unstarted; held = subst (λ (xs : List Early). Among (held_request site process b) xs) (sym r.keeps.early) h.held }
+    record { view = k.view; here = k.here; table = r.table; found = r.found; unstarted = r.keeps.started ∙ h.unstarted; held = r.keeps.early (held_request site process b) h.held }
 
 pub asked_kept : (e : InEpoch) (at now : Places) (css : ℕ) (inst : Serial) (o : OpenRow) → AllKeep e at now → IsMember e css → IsAsked at css inst o → IsAsked now css inst o
 asked_kept e at now css inst o keep m h =

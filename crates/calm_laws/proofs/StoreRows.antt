@@ -16,7 +16,6 @@ use Rattle.role_steps.specs.Tables.{row}
 use Rattle.role_steps.specs.Views.{Store, SiteView, Outcome, packet, serial_key}
 use Rattle.role_steps.specs.declared.instances.Instance.{Instance}
 use Rattle.role_steps.specs.declared.rounds.InEpoch.{InEpoch}
-use Rattle.role_steps.specs.declared.synchronizing.Early.{Early}
 use Rattle.role_steps.specs.declared.synchronizing.OpenRow.{OpenRow}
 use Rattle.role_steps.specs.declared.users.Asking.{Asking}
 use Rattle.role_steps.specs.declared.users.Asking.TheVariants as asking
@@ -50,25 +49,25 @@ pub record TablesAt (now : Places) (s : ℕ) (v : SiteView) : Type 0 where
 abbrev pub AllTables : InEpoch → Places → Places → Type 0
 AllTables e at now = (s : ℕ) (v : SiteView) → IsMember e s → at s ≡ Some (Running v) → TablesAt now s v
 
-holds_on : (e : InEpoch) (at now : Places) (css group site process : ℕ) (b : Body) → AllTables e at now → IsMember e css → Holds at css group site process b → Holds now css group site process b
+pub holds_on : (e : InEpoch) (at now : Places) (css group site process : ℕ) (b : Body) → AllTables e at now → IsMember e css → Holds at css group site process b → Holds now css group site process b
 holds_on e at now css group site process b keep m h =
     let k : TablesAt now css h.view = keep css h.view m h.here in
     let r : RowKept group k.view.tables h.table = row_kept group h.view.tables k.view.tables k.keeps h.table h.found in
-    record { view = k.view; here = k.here; table = r.table; found = r.found; unstarted = r.keeps.started ∙ h.unstarted; held = subst (λ (xs : List Early). Among (held_request site process b) xs) (sym r.keeps.early) h.held }
+    record { view = k.view; here = k.here; table = r.table; found = r.found; unstarted = r.keeps.started ∙ h.unstarted; held = r.keeps.early (held_request site process b) h.held }
 
-asked_on : (e : InEpoch) (at now : Places) (css : ℕ) (inst : Serial) (o : OpenRow) → AllTables e at now → IsMember e css → IsAsked at css inst o → IsAsked now css inst o
+pub asked_on : (e : InEpoch) (at now : Places) (css : ℕ) (inst : Serial) (o : OpenRow) → AllTables e at now → IsMember e css → IsAsked at css inst o → IsAsked now css inst o
 asked_on e at now css inst o keep m h =
     let k : TablesAt now css h.view = keep css h.view m h.here in
     let r : FirstKept (is_opened_in inst) k.view.tables h.table = opened_kept inst h.view.tables k.view.tables k.keeps h.table h.found in
     record { view = k.view; here = k.here; table = r.table; found = r.found; is_row = ap (λ (rs : List OpenRow). row open_key (serial_key inst) rs) r.keeps.opens ∙ h.is_row; asked = h.asked }
 
-reported_on : (e : InEpoch) (at now : Places) (css group site : ℕ) → AllTables e at now → IsMember e css → HasReported at css group site → HasReported now css group site
+pub reported_on : (e : InEpoch) (at now : Places) (css group site : ℕ) → AllTables e at now → IsMember e css → HasReported at css group site → HasReported now css group site
 reported_on e at now css group site keep m h =
     let k : TablesAt now css h.view = keep css h.view m h.here in
     let r : RowKept group k.view.tables h.table = row_kept group h.view.tables k.view.tables k.keeps h.table h.found in
     record { view = k.view; here = k.here; table = r.table; found = r.found; reported = ap (λ (x : Sites). has x site) r.keeps.reported ∙ h.reported }
 
-held_on : (c : Config) (e : InEpoch) (at now : Places) (s : ℕ) (x : WaitingCall) (a : Asking) → AllTables e at now → IsHeld c e at s x a → IsHeld c e now s x a
+pub held_on : (c : Config) (e : InEpoch) (at now : Places) (s : ℕ) (x : WaitingCall) (a : Asking) → AllTables e at now → IsHeld c e at s x a → IsHeld c e now s x a
 held_on c e at now s x (asking.Look file w take) keep k = (k.0, k.1, holds_on e at now k.0 file.group s x.process (look_body x file w take) keep (sync_is c e file.group k.0 k.1).1 k.2)
 held_on c e at now s x (asking.Open serial file how) keep k = (k.0, k.1, holds_on e at now k.0 file.group s x.process (open_body x serial file how) keep (sync_is c e file.group k.0 k.1).1 k.2)
 held_on c e at now s x _ keep k = absurd k
@@ -89,12 +88,13 @@ IsCloseSent c e m sent inst = (a : CloseAnswer) × Among (packet (frame_of c e m
 abbrev pub InstancesGoOn : Config → InEpoch → ℕ → Store → Outcome Store → Type 0
 InstancesGoOn c e m s o = (inst : Serial) → IsMember e inst.us → StoreHas s inst → StoreHas o.view inst ⊎ IsCloseSent c e m o.sent inst
 
-pub store_row : (c : Config) → AllGoToMembers c → (lines : List ScheduleLine) (n : ℕ) (e : InEpoch) (x : Numbered) (w : World) (d : Delivery c lines n e x w) → FormsNone x.packet.body → TriesNone x.packet.body → (g : Store → Outcome Store) → handles c e x.packet.to x.packet d.view ≡ at_store g d.view →
+-- what the packet carries is carried anew: by an instance that the store has then, or by an open that the synchronization site has asked
+pub store_row_with : (c : Config) → AllGoToMembers c → (lines : List ScheduleLine) (n : ℕ) (e : InEpoch) (x : Numbered) (w : World) (d : Delivery c lines n e x w) → FormsNone x.packet.body → TriesNone x.packet.body → (g : Store → Outcome Store) → handles c e x.packet.to x.packet d.view ≡ at_store g d.view →
     InstancesGoOn c e x.packet.to d.view.store (g d.view.store) →
-    ((now : Places) → ((inst : Serial) → StoreHas (g d.view.store).view inst → HasUnended now x.packet.to inst) → (s : ℕ) (y : WaitingCall) → StillWaits e (place_at w) now s y → Carries c e (place_at w) s y y.asking x.packet →
+    ((now : Places) → ((inst : Serial) → StoreHas (g d.view.store).view inst → HasUnended now x.packet.to inst) → ((css : ℕ) (inst : Serial) (o : OpenRow) → IsMember e css → IsAsked (place_at w) css inst o → IsAsked now css inst o) → (s : ℕ) (y : WaitingCall) → StillWaits e (place_at w) now s y → Carries c e (place_at w) s y y.asking x.packet →
     (q : Packet) × Among q (g d.view.store).sent × Carries c e now s y y.asking q) →
     ((from to group : ℕ) (copies : List ReportedCopy) → Goes c e from to (body.Report group copies) x.packet → ⊥) → IsAllCarried c e w → IsAllCarried c e (arrives c n x w)
-store_row c members lines n e x w d forms tries g is ends takes none old = event_row c e n m x.packet d.view o w u d.here t hands old
+store_row_with c members lines n e x w d forms tries g is ends takes none old = event_row c e n m x.packet d.view o w u d.here t hands old
   where
     m : ℕ
     m = x.packet.to
@@ -170,7 +170,7 @@ store_row c members lines n e x w d forms tries g is ends takes none old = event
     hands = record {
       calls = all_calls;
       keeps = λ s y q k h. over s y q (keeps s y y.asking q k.member h);
-      takes = λ s y k h. (let r : (q : Packet) × Among q (g d.view.store).sent × Carries c e (place_at u) s y y.asking q = takes (place_at u) has_now s y k h in inl (r.0, sent r.0 r.1, r.2));
+      takes = λ s y k h. (let r : (q : Packet) × Among q (g d.view.store).sent × Carries c e (place_at u) s y y.asking q = takes (place_at u) has_now (λ css inst o. asked_on e (place_at w) (place_at u) css inst o keep) s y k h in inl (r.0, sent r.0 r.1, r.2));
       holds = λ s y k h. inr (held_on c e (place_at w) (place_at u) s y y.asking keep h);
       reported = λ css group s i k. reported_on e (place_at w) (place_at u) css group s keep i k;
       counts = λ group css s copies sync h. absurd (none s css group copies h);
@@ -179,3 +179,10 @@ store_row c members lines n e x w d forms tries g is ends takes none old = event
         over : (s : ℕ) (y : WaitingCall) (q : Packet) → Carries c e (place_at u) s y y.asking q ⊎ ((z : Packet) × Among z t.end.sent × Carries c e (place_at u) s y y.asking z) → Carries c e (place_at u) s y y.asking q ⊎ IsHandedOn c e (place_at u) t.end.sent s y
         over s y q (inl k) = inl k
         over s y q (inr k) = inr (inl k)
+
+pub store_row : (c : Config) → AllGoToMembers c → (lines : List ScheduleLine) (n : ℕ) (e : InEpoch) (x : Numbered) (w : World) (d : Delivery c lines n e x w) → FormsNone x.packet.body → TriesNone x.packet.body → (g : Store → Outcome Store) → handles c e x.packet.to x.packet d.view ≡ at_store g d.view →
+    InstancesGoOn c e x.packet.to d.view.store (g d.view.store) →
+    ((now : Places) → ((inst : Serial) → StoreHas (g d.view.store).view inst → HasUnended now x.packet.to inst) → (s : ℕ) (y : WaitingCall) → StillWaits e (place_at w) now s y → Carries c e (place_at w) s y y.asking x.packet →
+    (q : Packet) × Among q (g d.view.store).sent × Carries c e now s y y.asking q) →
+    ((from to group : ℕ) (copies : List ReportedCopy) → Goes c e from to (body.Report group copies) x.packet → ⊥) → IsAllCarried c e w → IsAllCarried c e (arrives c n x w)
+store_row c members lines n e x w d forms tries g is ends takes none old = store_row_with c members lines n e x w d forms tries g is ends (λ now has asked. takes now has) none old

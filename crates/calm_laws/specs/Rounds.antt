@@ -1,5 +1,5 @@
 -- Calm rounds, world by world: which deliveries they have, what carries on through each of them, and what is left to show of that.
-use Rattle.std.specs.Prelude.{ℕ, ◌≡◌, ◌≤◌, ◌⊎◌, true, false, List, length, take, Some, None}
+use Rattle.std.specs.Prelude.{ℕ, ◌≡◌, ◌≤◌, ◌⊎◌, true, false, List, length, take, Option, Some, None, ◌+◌}
 use Rattle.locus_ids.specs.Sites.{has}
 use Rattle.locus_ids.specs.declared.config.Config.{Config}
 use Rattle.schedule_lines.specs.declared.line.Line.TheVariants as line
@@ -7,21 +7,51 @@ use Rattle.schedule_lines.specs.declared.line.ScheduleLine.{ScheduleLine}
 use Rattle.schedule_lines.specs.declared.line.ScheduleLine.TheVariants.{Event}
 use Rattle.wire_messages.specs.declared.body.Body.{Body}
 use Rattle.wire_messages.specs.declared.body.Body.TheVariants as body
-use Rattle.role_steps.specs.Views.{SiteView, pack_sites, sync_site, all_sites}
+use Rattle.role_steps.specs.Views.{SiteView, pack_sites, sync_site, all_sites, packet, process_key}
 use Rattle.role_steps.specs.declared.rounds.InEpoch.{InEpoch}
 use Rattle.role_steps.specs.declared.users.Asking.{Asking}
 use Rattle.role_steps.specs.declared.users.Asking.TheVariants as asking
 use Rattle.role_steps.specs.declared.users.WaitingCall.{WaitingCall}
 use Rattle.the_run.specs.Kept.{Among}
 use Rattle.the_run.specs.Runs.{arrives, next_packet, ticks_to, run_in}
-use Rattle.the_run.specs.Steps.{is_dropped}
+use Rattle.the_run.specs.Steps.{is_dropped, is_opened_in}
 use Rattle.the_run.specs.Worlds.{World, Running, Numbered, place_at}
 use Rattle.lawful_trace.specs.Places.{line_at, lines_before}
 use Rattle.row_laws.specs.Voids.{LinesFit}
 use Rattle.order_laws.specs.Joining.{PacksAreOfSites}
 use Rattle.orderly_laws.specs.Calm.{AreTogether, delivered}
-use Rattle.calm_laws.specs.Carrying.{IsMember, HasReported, IsAllCarried}
-use Rattle.calm_laws.specs.Calming.{GroupsStartInTime, ReachThemselves, NobodyWaits}
+use Rattle.calm_laws.specs.Carrying.{IsMember, HasReported, IsAllCarried, Goes, own_serial, frame_of, look_body, held_request, PassesLook, AnswersLook}
+use Rattle.calm_laws.specs.Calming.{ReachThemselves, NobodyWaits}
+use Rattle.locus_ids.specs.declared.ids.Serial.{Serial}
+use Rattle.wire_messages.specs.declared.body.MadeVersion.{MadeVersion}
+use Rattle.role_steps.specs.Opens.{open_row}
+use Rattle.role_steps.specs.Tables.{first_that, row}
+use Rattle.role_steps.specs.declared.synchronizing.OpenRow.{OpenRow}
+use Rattle.role_steps.specs.declared.synchronizing.OpenStage.{OpenStage}
+use Rattle.role_steps.specs.declared.synchronizing.OpenStage.TheVariants as stage
+use Rattle.role_steps.specs.declared.synchronizing.SyncTable.{SyncTable}
+use Rattle.epoch_laws.specs.Known.{Places}
+use Rattle.locus_ids.specs.declared.ids.FileId.{FileId}
+use Rattle.trace_book.specs.declared.operation.What.{What}
+use Rattle.role_steps.specs.Adoption.{table_group}
+use Rattle.role_steps.specs.Looks.{LookRequest, look_key, is_look_before, is_same_look}
+use Rattle.role_steps.specs.Own.{Every}
+use Rattle.role_steps.specs.Reports.{is_early_of}
+use Rattle.role_steps.specs.Versions.{file_row}
+use Rattle.role_steps.specs.declared.synchronizing.Early.{Early}
+use Rattle.role_steps.specs.declared.synchronizing.FileRow.{FileRow}
+use Rattle.role_steps.specs.declared.synchronizing.Holding.{Holding}
+use Rattle.role_steps.specs.declared.synchronizing.LastLook.{LastLook}
+use Rattle.trace_book.specs.declared.operation.Op.{Op}
+use Rattle.role_steps.specs.Mends.{mending}
+use Rattle.role_steps.specs.Storage.{instance_of}
+use Rattle.role_steps.specs.declared.instances.Instance.{Instance}
+use Rattle.role_steps.specs.declared.instances.Stage.TheVariants as running
+use Rattle.tree_laws.specs.Packets.{OpsNow}
+use Rattle.trace_book.specs.declared.operation.Op.TheVariants as op
+use Rattle.file_effects.specs.Effects.{Effect}
+use Rattle.role_steps.specs.OperationEffects.{Mending, effect_of}
+use Rattle.locus_ids.specs.declared.ids.Stamp.{Stamp}
 
 -- ---- the worlds of a round ----
 
@@ -58,6 +88,69 @@ RequestsGoToMembers c e w = (s : ℕ) (v : SiteView) (x : WaitingCall) → IsMem
 abbrev pub ReportsAreKnown : Config → InEpoch → World → Type 0
 ReportsAreKnown c e w = (group css s : ℕ) (v : SiteView) → sync_site c e.members group ≡ Some css → IsMember e s → has (pack_sites c group) s ≡ true → place_at w s ≡ Some (Running v) →
     Among group v.reports ⊎ HasReported (place_at w) css group s
+
+-- what a waiting call of a member has open is stored at a member
+abbrev pub IsStoredAtMember : InEpoch → Asking → Type 0
+IsStoredAtMember e (asking.Op serial ss n o seen) = IsMember e ss
+IsStoredAtMember e (asking.Close serial ss) = IsMember e ss
+IsStoredAtMember e _ = Unit {0}
+
+abbrev pub StorageIsMember : InEpoch → World → Type 0
+StorageIsMember e w = (s : ℕ) (v : SiteView) (x : WaitingCall) → IsMember e s → place_at w s ≡ Some (Running v) → Among x v.users.waiting → IsStoredAtMember e x.asking
+
+-- the open was granted, where it may be over
+abbrev pub IsGrantedStage : OpenStage → Type 0
+IsGrantedStage stage.Granted = Unit {0}
+IsGrantedStage stage.Ended = Unit {0}
+IsGrantedStage _ = ⊥
+
+-- the site has granted the instance: it has heard that its storage site has opened it
+pub record HasGranted (at : Places) (css : ℕ) (inst : Serial) : Type 0 where
+  pub view : SiteView
+  pub here : at css ≡ Some (Running view)
+  pub table : SyncTable
+  pub found : first_that (is_opened_in inst) view.tables ≡ Some table
+  pub row : OpenRow
+  pub is_row : open_row table inst ≡ Some row
+  pub heard : IsGrantedStage row.stage
+
+-- a Closed that is under way for what a call asks to close comes to a site that has granted it
+abbrev pub ClosesAreGranted : Config → InEpoch → World → Type 0
+ClosesAreGranted c e w = (x : Numbered) (s serial ss css : ℕ) (made : Option MadeVersion) (v : SiteView) (y : WaitingCall) → Among x w.underway → Goes c e ss css (body.Closed (own_serial s serial) made) x.packet → IsMember e s → place_at w s ≡ Some (Running v) → Among y v.users.waiting → y.asking ≡ asking.Close serial ss →
+    HasGranted (place_at w) css (own_serial s serial)
+
+-- ---- looks at a synchronization site ----
+
+abbrev pub look_of : WaitingCall → FileId → What → ℕ → LookRequest
+look_of y file w take = record { call = y.call; process = y.process; request = y.request; take = take; file = file; what = w }
+
+-- what the site has kept to send again answers the look, or asks a member that holds the version
+abbrev pub AnswersAgain : Config → InEpoch → ℕ → ℕ → WaitingCall → FileId → What → ℕ → LastLook → Type 0
+AnswersAgain c e css s y file w take l = PassesLook c e s y file w take (packet (frame_of c e css) l.to l.body) ⊎ AnswersLook c e s y w take (packet (frame_of c e css) l.to l.body)
+
+-- The table knows no later look of the process, and this one by its answer; holders are members; and where a request of the process is
+-- held, it is this one.
+pub record KnowsLook (c : Config) (e : InEpoch) (css s : ℕ) (y : WaitingCall) (file : FileId) (w : What) (take : ℕ) (t : SyncTable) : Type 0 where
+  pub last : (l : LastLook) → row look_key (process_key s y.process) t.looks ≡ Some l → (is_look_before (look_of y file w take) l ≡ false) × (is_same_look (look_of y file w take) l ≡ true → AnswersAgain c e css s y file w take l)
+  pub holders : (r : FileRow) → file_row t file.ino ≡ Some r → Every (λ (h : Holding). IsMember e h.site) r.holders
+  pub held : (x : Early) → Among x t.early → is_early_of s y.process x ≡ true → x ≡ held_request s y.process (look_body y file w take)
+
+-- so does the table for each look that a waiting call of a member asks
+abbrev pub LooksAreKnown : Config → InEpoch → World → Type 0
+LooksAreKnown c e w = (s css : ℕ) (v u : SiteView) (y : WaitingCall) (file : FileId) (what : What) (take : ℕ) → IsMember e s → place_at w s ≡ Some (Running v) → Among y v.users.waiting → y.asking ≡ asking.Look file what take → sync_site c e.members file.group ≡ Some css → place_at w css ≡ Some (Running u) →
+    (t : SyncTable) → row table_group file.group u.tables ≡ Some t → KnowsLook c e css s y file what take t
+
+-- ---- operations at a storage site ----
+
+-- a commit that owes nothing has a version to answer, and any other operation has an effect on the content
+abbrev pub IsLawful : Mending → Instance → Op → List ℕ → Type 0
+IsLawful m i op.Commit seen = i.work.owes ≡ false → (stamp : Stamp) × (i.work.last ≡ Some stamp)
+IsLawful m i op.Abort seen = Unit {0}
+IsLawful m i o seen = (e : Effect) × (effect_of o seen m i.work.content ≡ Some e)
+
+-- so it is of what a call asks of a running instance of a member as its next operation
+abbrev pub OperationsAreLawful : Config → InEpoch → World → Type 0
+OperationsAreLawful c e w = (m : ℕ) (v : SiteView) → IsMember e m → place_at w m ≡ Some (Running v) → (i : Instance) → instance_of v.store i.inst ≡ Some i → i.stage ≡ running.Running → (n : ℕ) (o : Op) (seen : List ℕ) → OpsNow c w.trace e.id m i.inst n o seen → n ≡ i.work.ops + 1 → IsLawful (mending v i.file.group) i o seen
 
 -- ---- a delivery ----
 
@@ -180,16 +273,10 @@ IsOther _ = Unit {0}
 
 pub record CalmLeft (c : Config) : Type 0 where
   -- what stands in each world of a round in which all members are together
-  pub starts : (lines : List ScheduleLine) (n : ℕ) (w : World) → IsInRound c lines n w → GroupsStartInTime c w
-  pub requests : (lines : List ScheduleLine) (n : ℕ) (e : InEpoch) (w : World) → IsInRound c lines n w → AreTogether w e → RequestsGoToMembers c e w
   pub known : (lines : List ScheduleLine) (n : ℕ) (e : InEpoch) (w : World) → IsInRound c lines n w → AreTogether w e → ReportsAreKnown c e w
+  pub granted : (lines : List ScheduleLine) (n : ℕ) (e : InEpoch) (w : World) → IsInRound c lines n w → AreTogether w e → ClosesAreGranted c e w
+  pub looks : (lines : List ScheduleLine) (n : ℕ) (e : InEpoch) (w : World) → IsInRound c lines n w → AreTogether w e → LooksAreKnown c e w
+  pub operations : (lines : List ScheduleLine) (n : ℕ) (e : InEpoch) (w : World) → IsInRound c lines n w → AreTogether w e → OperationsAreLawful c e w
   -- each kind of packet that comes hands on what it carries
   pub report : CarriesOn c IsReport
   pub open_request : CarriesOn c IsOpen
-  pub open_at_storage : CarriesOn c IsOpenSs
-  pub opened : CarriesOn c IsOpened
-  pub operation : CarriesOn c IsOp
-  pub close_request : CarriesOn c IsClose
-  pub closed : CarriesOn c IsClosed
-  pub look_request : CarriesOn c IsLook
-  pub other : CarriesOn c IsOther

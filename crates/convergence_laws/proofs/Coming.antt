@@ -14,7 +14,7 @@ use Rattle.the_run.specs.Disks.{Disk}
 use Rattle.the_run.specs.Kept.{Among}
 use Rattle.the_run.specs.Runs.{arrives}
 use Rattle.the_run.specs.Steps.{is_framed, is_forming, is_dropped, takes_inside, tries_at, ends_event, whole, step}
-use Rattle.the_run.specs.Worlds.{World, Place, Running, Stopped, Numbered, number_of, place_at, links_of, passed, acts}
+use Rattle.the_run.specs.Worlds.{World, Place, Running, Stopped, Numbered, number_of, place_at, links_of, numbered_from, passed, acts}
 use Rattle.epoch_laws.specs.Forming.{FormsNone}
 use Rattle.epoch_laws.specs.Known.{Good}
 use Rattle.epoch_laws.proofs.Run.{good_kept, first_good}
@@ -90,9 +90,56 @@ inside_view e w s v i here = (let is : i.view ≡ v = view_eq (place_at w s) i.v
 abbrev pub taken_whole : Config → InEpoch → Links → Packet → SiteView → Body → Outcome SiteView
 taken_whole c e links p v b = whole c p.to links (takes_inside (frame_of c e p.to) p.from b v) (tries_at c p.to b)
 
-pub comes : (c : Config) (lines : List ScheduleLine) (n : ℕ) (e : InEpoch) (x : Numbered) (w : World) (b : Body) → (d : Delivery c lines n e x w) → x.packet.body ≡ b → FormsNone b →
-    Comes c n x w (taken_whole c e (links_of (passed x.number w) x.packet.to) x.packet d.view b).view
-comes c lines n e x w b d is forms = arrives_cases (λ u. u ≡ arrives c n x w → Comes c n x w o.view) c n x w takes drops refl
+-- with all that the event sends
+pub record Came (c : Config) (n : ℕ) (x : Numbered) (w : World) (o : Outcome SiteView) : Type 0 where
+  pub comes : Comes c n x w o.view
+  pub number : ℕ
+  pub sends : comes.more ≡ numbered_from number o.sent
+
+pub came_step : (c : Config) (lines : List ScheduleLine) (n : ℕ) (e : InEpoch) (x : Numbered) (w : World) → (d : Delivery c lines n e x w) → Came c n x w (step c x.packet.to (links_of (passed x.number w) x.packet.to) d.view (Receives x.packet))
+came_step c lines n e x w d = arrives_cases (λ u. u ≡ arrives c n x w → Came c n x w (after d.view)) c n x w takes drops refl
+  where
+    p : Packet
+    p = x.packet
+
+    after : SiteView → Outcome SiteView
+    after v = step c p.to (links_of (passed x.number w) p.to) v (Receives p)
+
+    takes : (v : SiteView) → place_at w p.to ≡ Some (Running v) → is_dropped p v ≡ false → acts n p.to v (after v) (passed x.number w) ≡ arrives c n x w → Came c n x w (after d.view)
+    takes v here undropped eq = subst (λ (y : SiteView). Came c n x w (after y)) (view_eq (place_at w p.to) v d.view here d.here) (record {
+      comes = record {
+        here = ap (λ (u : World). place_at u p.to) (sym eq) ∙ runs.here;
+        others = λ t ne. ap (λ (u : World). place_at u t) (sym eq) ∙ moved.others t ne;
+        more = moved.more;
+        underway = ap (λ (u : World). u.underway) (sym eq) ∙ moved.underway;
+      };
+      number = runs.number;
+      sends = runs.sends;
+    })
+      where
+        u : World
+        u = acts n p.to v (after v) (passed x.number w)
+
+        moved : Moved p.to (after v) (passed x.number w) u
+        moved = acts_moved n p.to v (after v) (passed x.number w) (ap (λ (y : World). y.over) eq ∙ d.within)
+
+        by_ran : RunsOn p.to (after v) u moved.more ⊎ ((k : Disk) × (place_at u p.to ≡ Some (Stopped k))) → RunsOn p.to (after v) u moved.more
+        by_ran (inl r) = r
+        by_ran (inr stop) = (let i : IsInside (arrives c n x w) e p.to = d.after.inside p.to d.member in absurd (stopped_running stop.0 i.view (sym stop.1 ∙ (ap (λ (y : World). place_at y p.to) eq ∙ i.here))))
+
+        runs : RunsOn p.to (after v) u moved.more
+        runs = by_ran moved.ran
+
+    drops : ((v : SiteView) → place_at w p.to ≡ Some (Running v) → is_dropped p v ≡ true) → passed x.number w ≡ arrives c n x w → Came c n x w (after d.view)
+    drops h eq = absurd (true_false (sym (h d.view d.here) ∙ d.taken))
+
+pub comes_step : (c : Config) (lines : List ScheduleLine) (n : ℕ) (e : InEpoch) (x : Numbered) (w : World) → (d : Delivery c lines n e x w) → Comes c n x w (step c x.packet.to (links_of (passed x.number w) x.packet.to) d.view (Receives x.packet)).view
+comes_step c lines n e x w d = (came_step c lines n e x w d).comes
+
+-- of a packet that forms no epoch
+pub came : (c : Config) (lines : List ScheduleLine) (n : ℕ) (e : InEpoch) (x : Numbered) (w : World) (b : Body) → (d : Delivery c lines n e x w) → x.packet.body ≡ b → FormsNone b →
+    Came c n x w (taken_whole c e (links_of (passed x.number w) x.packet.to) x.packet d.view b)
+came c lines n e x w b d is forms = subst (λ (o : Outcome SiteView). Came c n x w o) is_step (came_step c lines n e x w d)
   where
     p : Packet
     p = x.packet
@@ -100,37 +147,15 @@ comes c lines n e x w b d is forms = arrives_cases (λ u. u ≡ arrives c n x w 
     links : Links
     links = links_of (passed x.number w) p.to
 
-    o : Outcome SiteView
-    o = taken_whole c e links p d.view b
-
     inside : (d.view.epoch ≡ Some e) × (d.view.boot ≡ boot_in e.members.boot p.to)
     inside = inside_view e w p.to d.view (d.before.inside p.to d.member) d.here
 
-    is_step : (v : SiteView) → place_at w p.to ≡ Some (Running v) → step c p.to links v (Receives p) ≡ o
-    is_step v here =
-        ap (λ (y : SiteView). step c p.to links y (Receives p)) (view_eq (place_at w p.to) v d.view here d.here)
-        ∙ (step_is c e p.to links p d.view (subst FormsNone (sym is) forms) inside.0 inside.1 d.taken ∙ ap (taken_whole c e links p d.view) is)
+    is_step : step c p.to links d.view (Receives p) ≡ taken_whole c e links p d.view b
+    is_step = step_is c e p.to links p d.view (subst FormsNone (sym is) forms) inside.0 inside.1 d.taken ∙ ap (taken_whole c e links p d.view) is
 
-    takes : (v : SiteView) → place_at w p.to ≡ Some (Running v) → is_dropped p v ≡ false → acts n p.to v (step c p.to links v (Receives p)) (passed x.number w) ≡ arrives c n x w → Comes c n x w o.view
-    takes v here undropped eq = record {
-      here = ap (λ (u : World). place_at u p.to) (sym eq) ∙ (by_ran moved.ran ∙ ap (λ (y : Outcome SiteView). Some (Running y.view)) (is_step v here));
-      others = λ t ne. ap (λ (u : World). place_at u t) (sym eq) ∙ moved.others t ne;
-      more = moved.more;
-      underway = ap (λ (u : World). u.underway) (sym eq) ∙ moved.underway;
-    }
-      where
-        u : World
-        u = acts n p.to v (step c p.to links v (Receives p)) (passed x.number w)
-
-        moved : Moved p.to (step c p.to links v (Receives p)) (passed x.number w) u
-        moved = acts_moved n p.to v (step c p.to links v (Receives p)) (passed x.number w) (ap (λ (y : World). y.over) eq ∙ d.within)
-
-        by_ran : RunsOn p.to (step c p.to links v (Receives p)) u moved.more ⊎ ((k : Disk) × (place_at u p.to ≡ Some (Stopped k))) → place_at u p.to ≡ Some (Running (step c p.to links v (Receives p)).view)
-        by_ran (inl r) = r.here
-        by_ran (inr stop) = (let i : IsInside (arrives c n x w) e p.to = d.after.inside p.to d.member in absurd (stopped_running stop.0 i.view (sym stop.1 ∙ (ap (λ (y : World). place_at y p.to) eq ∙ i.here))))
-
-    drops : ((v : SiteView) → place_at w p.to ≡ Some (Running v) → is_dropped p v ≡ true) → passed x.number w ≡ arrives c n x w → Comes c n x w o.view
-    drops h eq = absurd (true_false (sym (h d.view d.here) ∙ d.taken))
+pub comes : (c : Config) (lines : List ScheduleLine) (n : ℕ) (e : InEpoch) (x : Numbered) (w : World) (b : Body) → (d : Delivery c lines n e x w) → x.packet.body ≡ b → FormsNone b →
+    Comes c n x w (taken_whole c e (links_of (passed x.number w) x.packet.to) x.packet d.view b).view
+comes c lines n e x w b d is forms = (came c lines n e x w b d is forms).comes
 
 -- ---- the end of an event ----
 

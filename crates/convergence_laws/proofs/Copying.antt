@@ -44,10 +44,10 @@ use Rattle.convergence_laws.proofs.Ways.{SameSite, way_stays}
 
 -- ---- packets that name nothing to the site ----
 
-abbrev IsStill : SiteView → SiteView → Type 0
+abbrev pub IsStill : SiteView → SiteView → Type 0
 IsStill v u = (u.store.copies ≡ v.store.copies) × (u.pulls ≡ v.pulls)
 
-names_nothing : (e : InEpoch) (s : ℕ) (p : Packet) (b : Body) → p.body ≡ b → notice_in b ≡ [] → length (names e s p) ≤ 0
+pub names_nothing : (e : InEpoch) (s : ℕ) (p : Packet) (b : Body) → p.body ≡ b → notice_in b ≡ [] → length (names e s p) ≤ 0
 names_nothing e s p b is none = over (is_for e s p)
   where
     empty : notice_in p.body ≡ []
@@ -57,7 +57,7 @@ names_nothing e s p b is none = over (is_for e s p)
     over true = subst (λ (l : List Offer). length l ≤ 0) (sym empty) (omega arith)
     over false = omega arith
 
-names_elsewhere : (e : InEpoch) (s : ℕ) (p : Packet) → p.to ≢ s → length (names e s p) ≤ 0
+pub names_elsewhere : (e : InEpoch) (s : ℕ) (p : Packet) → p.to ≢ s → length (names e s p) ≤ 0
 names_elsewhere e s p ne = subst (λ (l : List Offer). length l ≤ 0) (sym none) (omega arith)
   where
     none : names e s p ≡ []
@@ -84,10 +84,10 @@ stays_on c lines n e x w s file v u d k m files still none old = way_stays c e (
 
 -- ---- packets that let the member try ----
 
-abbrev the_links : Numbered → World → Links
+abbrev pub the_links : Numbered → World → Links
 the_links x w = links_of (passed x.number w) x.packet.to
 
-abbrev view_then : Config → InEpoch → Numbered → World → SiteView → Body → SiteView
+abbrev pub view_then : Config → InEpoch → Numbered → World → SiteView → Body → SiteView
 view_then c e x w v b = (taken_whole c e (the_links x w) x.packet v b).view
 
 -- the packet leaves these pulls, and then an adoption is tried
@@ -178,7 +178,7 @@ tries_on c lines n e x w b s file v d is forms unforming t m = at_each x.packet.
 -- ---- Notify and Page ----
 
 pub notify_goes_on : (c : Config) → GoesOn c IsNotify
-notify_goes_on c lines n e x w s file v d kind m none free old = over x.packet.body refl kind
+notify_goes_on c lines n e x w s file v d kind m started none free old = over x.packet.body refl kind
   where
     over : (b : Body) → x.packet.body ≡ b → IsNotify b → IsOnItsWay c e (place_at (arrives c n x w)) (arrives c n x w).underway s file v
     over (body.Notify about what set size stamp vector holder) is k =
@@ -188,7 +188,7 @@ notify_goes_on c lines n e x w s file v d kind m none free old = over x.packet.b
     over _ is k = absurd k
 
 pub page_goes_on : (c : Config) → GoesOn c IsPage
-page_goes_on c lines n e x w s file v d kind m none free old = over x.packet.body refl kind
+page_goes_on c lines n e x w s file v d kind m started none free old = over x.packet.body refl kind
   where
     over : (b : Body) → x.packet.body ≡ b → IsPage b → IsOnItsWay c e (place_at (arrives c n x w)) (arrives c n x w).underway s file v
     over (body.Page about stamp page bytes) is k =
@@ -231,14 +231,14 @@ keeps_on c lines n e x w b s file v d is forms none h quiet_try m old = stays_on
     ends = ends_keep c x.packet.to (the_links x w) a e (ap (λ (y : SiteView). y.round) tried ∙ (h.round ∙ roundless c lines n e x w d)) (ap (λ (y : SiteView). y.epoch) tried ∙ (h.epoch ∙ inside))
 
 pub pull_goes_on : (c : Config) → GoesOn c IsPull
-pull_goes_on c lines n e x w s file v d kind m none free old = over x.packet.body refl kind
+pull_goes_on c lines n e x w s file v d kind m started none free old = over x.packet.body refl kind
   where
     over : (b : Body) → x.packet.body ≡ b → IsPull b → IsOnItsWay c e (place_at (arrives c n x w)) (arrives c n x w).underway s file v
     over (body.Pull about stamp page) is k = keeps_on c lines n e x w (body.Pull about stamp page) s file v d is tt refl (record { copies = refl; pulls = refl; files = files_itself d.view.tables; round = refl; epoch = refl }) (λ y. refl) m old
     over _ is k = absurd k
 
 pub have_goes_on : (c : Config) → GoesOn c IsHave
-have_goes_on c lines n e x w s file v d kind m none free old = over x.packet.body refl kind
+have_goes_on c lines n e x w s file v d kind m started none free old = over x.packet.body refl kind
   where
     over : (b : Body) → x.packet.body ≡ b → IsHave b → IsOnItsWay c e (place_at (arrives c n x w)) (arrives c n x w).underway s file v
     over (body.Have about stamp) is k = keeps_on c lines n e x w (body.Have about stamp) s file v d is tt refl (by_table (row table_group about.group d.view.tables) refl) (λ y. refl) m old

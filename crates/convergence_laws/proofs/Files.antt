@@ -66,7 +66,7 @@ files_then a b d h g group n e =
 number_same : (n : ℕ) → (n == n) ≡ true
 number_same n = grind (arith, nat_tests)
 
-differ : (a b : ℕ) → (a ≡ b → ⊥) → (a == b) ≡ false
+pub differ : (a b : ℕ) → (a ≡ b → ⊥) → (a == b) ≡ false
 differ a b ne = by_test (a == b) refl
   where
     equal : (a == b) ≡ true → a ≡ b
@@ -94,12 +94,12 @@ table_put t n group ts found same keeps g m e = at_each n.group g (SameTable ts 
 -- ---- what a member tells that it holds ----
 
 -- its kept versions and its set stay
-record SameRow (r n : FileRow) : Type 0 where
-  ino : n.ino ≡ r.ino
-  kept : n.kept ≡ r.kept
-  set : n.set ≡ r.set
+pub record SameRow (r n : FileRow) : Type 0 where
+  pub ino : n.ino ≡ r.ino
+  pub kept : n.kept ≡ r.kept
+  pub set : n.set ≡ r.set
 
-noted_same : (site : ℕ) (stamp : Stamp) (r : FileRow) → SameRow r (noted site stamp r)
+pub noted_same : (site : ℕ) (stamp : Stamp) (r : FileRow) → SameRow r (noted site stamp r)
 noted_same site stamp r = by_version (version_of r stamp)
   where
     itself : SameRow r r

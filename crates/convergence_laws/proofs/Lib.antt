@@ -10,4 +10,13 @@ pub mod Ways
 pub mod Trying
 pub mod Coming
 pub mod Copying
+pub mod Plain
+pub mod Tabled
+pub mod Forming
+pub mod Noticing
+pub mod Telling
+pub mod Publishing
+pub mod Committing
+pub mod Starting
+pub mod Ticking
 pub mod Convergence

@@ -41,7 +41,7 @@ never_below v = over (all_le v v)
     over true = refl
     over false = refl
 
-above_is : (p : Pull) (o : Option FileCopy) → is_above_own p o ≡ is_above p.vector o
+pub above_is : (p : Pull) (o : Option FileCopy) → is_above_own p o ≡ is_above p.vector o
 above_is p None = refl
 above_is p (Some own) = refl
 
@@ -61,10 +61,10 @@ number_test a b = over (a == b)
 equal : (i j : ℕ) → (i == j) ≡ true → i ≡ j
 equal i j h = grind (arith, nat_tests)
 
-copy_mine : (p : Pull) (s : Store) (file : FileId) → file_key p.file ≡ file_key file → copy_of (with_copy (copy_adopted p) s) file ≡ Some (copy_adopted p)
+pub copy_mine : (p : Pull) (s : Store) (file : FileId) → file_key p.file ≡ file_key file → copy_of (with_copy (copy_adopted p) s) file ≡ Some (copy_adopted p)
 copy_mine p s file eq = subst (λ (k : ℕ). row copy_key k (with_copy (copy_adopted p) s).copies ≡ Some (copy_adopted p)) eq (row_same copy_key (copy_adopted p) s.copies)
 
-copy_other : (p : Pull) (s : Store) (file : FileId) → (file_key p.file == file_key file) ≡ false → copy_of (with_copy (copy_adopted p) s) file ≡ copy_of s file
+pub copy_other : (p : Pull) (s : Store) (file : FileId) → (file_key p.file == file_key file) ≡ false → copy_of (with_copy (copy_adopted p) s) file ≡ copy_of s file
 copy_other p s file ne = row_other copy_key (copy_adopted p) (file_key file) s.copies ne
 
 copy_alike : (s : Store) (a b : FileId) → file_key a ≡ file_key b → copy_of s a ≡ copy_of s b
@@ -141,7 +141,7 @@ held_tried e f at now under s file ver news v u t there none h = record {
     low : (p : Pull) → Among p t.taken → file_key p.file ≡ file_key file → is_above_own p (copy_of v.store file) ≡ false
     low p a eq = ap (is_above_own p) found ∙ (ap (λ (x : List ℕ). is_below x p.vector) h.vector ∙ low_taken e at under s file ver news v t.taken t.was t.takes there none p a eq)
 
-all_true : (a b x y : Bool) → a ≡ true → b ≡ true → x ≡ false → y ≡ false → (a && (b && not (x || y))) ≡ true
+pub all_true : (a b x y : Bool) → a ≡ true → b ≡ true → x ≡ false → y ≡ false → (a && (b && not (x || y))) ≡ true
 all_true true true false false p q r t = refl
 all_true true true false true p q r t = absurd (true_false t)
 all_true true true true y p q r t = absurd (true_false r)

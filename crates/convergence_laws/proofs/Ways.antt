@@ -36,9 +36,12 @@ pub record NamesMore (e : InEpoch) (under after : List Numbered) (s : ℕ) (more
 copy_same : (v u : SiteView) (file : FileId) → u.store.copies ≡ v.store.copies → copy_of u.store file ≡ copy_of v.store file
 copy_same v u file same = ap (λ (xs : List FileCopy). row copy_key (file_key file) xs) same
 
--- what is due after it was due before, or is named by more notices
-pub due_before : (c : Config) (e : InEpoch) (at now : Places) (under after : List Numbered) (s : ℕ) (more : List Offer) → SameSite at now s → ((d : Offer) → IsToHold c e now s d → IsToHold c e at s d) → ((d : Offer) → Among d (named e s after) → Among d (named e s under) ⊎ Among d more) →
-    (d : Offer) → IsDue c e now after s d → IsDue c e at under s d ⊎ Among d more
+-- what is due after it was due before, or is named by more notices, where whatever the site is to hold then is so
+abbrev pub HeldOrNamed : Config → InEpoch → Places → Places → List Numbered → ℕ → List Offer → Type 0
+HeldOrNamed c e at now after s more = (d : Offer) → IsDue c e now after s d → IsToHold c e now s d → IsToHold c e at s d ⊎ Among d more
+
+due_before : (c : Config) (e : InEpoch) (at now : Places) (under after : List Numbered) (s : ℕ) (more : List Offer) → SameSite at now s → HeldOrNamed c e at now after s more → ((d : Offer) → Among d (named e s after) → Among d (named e s under) ⊎ Among d more) → (d : Offer) → IsDue c e now after s d →
+    IsDue c e at under s d ⊎ Among d more
 due_before c e at now under after s more k hold names d h = by_why h.why
   where
     is : h.view ≡ k.after
@@ -50,12 +53,16 @@ due_before c e at now under after s more k hold names d h = by_why h.why
     due : IsToHold c e at s d ⊎ (IsPulled k.before d ⊎ Among d (named e s under)) → IsDue c e at under s d
     due why = record { view = k.before; here = k.was; above = above; why = why }
 
+    held_before : IsToHold c e at s d ⊎ Among d more → IsDue c e at under s d ⊎ Among d more
+    held_before (inl a) = inl (due (inl a))
+    held_before (inr a) = inr a
+
     named_before : Among d (named e s under) ⊎ Among d more → IsDue c e at under s d ⊎ Among d more
     named_before (inl a) = inl (due (inr (inr a)))
     named_before (inr a) = inr a
 
     by_why : IsToHold c e now s d ⊎ (IsPulled h.view d ⊎ Among d (named e s after)) → IsDue c e at under s d ⊎ Among d more
-    by_why (inl a) = inl (due (inl (hold d a)))
+    by_why (inl a) = held_before (hold d h a)
     by_why (inr (inl a)) = inl (due (inr (inl (a.0, subst (λ (xs : List Pull). Among a.0 xs) (ap (λ (x : SiteView). x.pulls) is ∙ k.pulls) a.1, a.2))))
     by_why (inr (inr a)) = named_before (names d a)
 
@@ -83,7 +90,11 @@ pulled_same at now s file v k h = (let is : h.view ≡ k.before = view_eq (at s)
   above = ap (is_above v.vector) (copy_same k.before k.after file k.copies ∙ ap (λ (x : SiteView). copy_of x.store file) (sym is)) ∙ h.above;
 })
 
+pub way_stays_more : (c : Config) (e : InEpoch) (at now : Places) (under after : List Numbered) (s : ℕ) (file : FileId) (v : VersionRow) (more : List Offer) → SameSite at now s → HeldOrNamed c e at now after s more → NamesMore e under after s more → IsOnItsWay c e at under s file v →
+    IsOnItsWay c e now after s file v
+way_stays_more c e at now under after s file v more k hold names (inl h) = inl (holds_same at now s file v k h)
+way_stays_more c e at now under after s file v more k hold names (inr h) = inr (pulled_same at now s file v k h.0, enough_stays c e at now under after s more (due_before c e at now under after s more k hold names.each) names.count h.1)
+
 pub way_stays : (c : Config) (e : InEpoch) (at now : Places) (under after : List Numbered) (s : ℕ) (file : FileId) (v : VersionRow) (more : List Offer) → SameSite at now s → ((d : Offer) → IsToHold c e now s d → IsToHold c e at s d) → NamesMore e under after s more →
     IsOnItsWay c e at under s file v → IsOnItsWay c e now after s file v
-way_stays c e at now under after s file v more k hold names (inl h) = inl (holds_same at now s file v k h)
-way_stays c e at now under after s file v more k hold names (inr h) = inr (pulled_same at now s file v k h.0, enough_stays c e at now under after s more (due_before c e at now under after s more k hold names.each) names.count h.1)
+way_stays c e at now under after s file v more k hold names old = way_stays_more c e at now under after s file v more k (λ d i h. inl (hold d h)) names old

@@ -1,5 +1,5 @@
 -- One delivery after another of a round: which of them leave a version on its way, and what is left to show of that.
-use Rattle.std.specs.Prelude.{ℕ, ◌≡◌, ◌≤◌, ◌⊎◌, true, false, List, Some}
+use Rattle.std.specs.Prelude.{ℕ, ◌≡◌, ◌≢◌, ◌≤◌, ◌⊎◌, true, false, List, [], ◌∷◌, Some}
 use Rattle.locus_ids.specs.Sites.{has}
 use Rattle.locus_ids.specs.declared.config.Config.{Config}
 use Rattle.locus_ids.specs.declared.ids.FileId.{FileId}
@@ -7,10 +7,15 @@ use Rattle.locus_ids.specs.declared.sites.Sites.{Sites}
 use Rattle.schedule_lines.specs.declared.line.ScheduleLine.{ScheduleLine}
 use Rattle.wire_messages.specs.declared.body.Body.{Body}
 use Rattle.wire_messages.specs.declared.body.Body.TheVariants as body
-use Rattle.role_steps.specs.Versions.{is_below}
+use Rattle.role_steps.specs.Adoption.{table_group}
+use Rattle.role_steps.specs.Storage.{copy_of}
+use Rattle.role_steps.specs.Tables.{row}
+use Rattle.role_steps.specs.Versions.{is_below, holders_of, is_among}
 use Rattle.role_steps.specs.Views.{SiteView, file_key}
 use Rattle.role_steps.specs.declared.pulls.Pull.{Pull}
 use Rattle.role_steps.specs.declared.rounds.InEpoch.{InEpoch}
+use Rattle.role_steps.specs.declared.synchronizing.FileRow.{FileRow}
+use Rattle.role_steps.specs.declared.synchronizing.SyncTable.{SyncTable}
 use Rattle.role_steps.specs.declared.synchronizing.VersionRow.{VersionRow}
 use Rattle.the_run.specs.Kept.{Among}
 use Rattle.the_run.specs.Runs.{arrives}
@@ -18,19 +23,14 @@ use Rattle.the_run.specs.Worlds.{World, Running, Numbered, place_at}
 use Rattle.epoch_laws.specs.Known.{Places}
 use Rattle.calm_laws.specs.Carrying.{IsMember}
 use Rattle.calm_laws.specs.Rounds.{after, Delivery}
-use Rattle.convergence_laws.specs.Copies.{HasNoRoom}
-use Rattle.convergence_laws.specs.Rounds.{LackedRoom, IsAtRest}
-use Rattle.convergence_laws.specs.Offers.{Offer, named, IsFree, IsOnItsWay}
+use Rattle.convergence_laws.specs.Copies.{Knows, HoldsTheOnly, HasNoRoom}
+use Rattle.convergence_laws.specs.Rounds.{IsMoment, AreCalmRounds, IsAtRest}
+use Rattle.convergence_laws.specs.Offers.{Offer, named, is_above, offer_of, IsToHold, HasPulled, IsFree, IsOnItsWay}
 
 -- no version of the file above this one is named by a notice under way to the site, or is pulled there
 pub record NoneAbove (e : InEpoch) (at : Places) (under : List Numbered) (s : ℕ) (file : FileId) (v : VersionRow) : Type 0 where
   pub notices : (d : Offer) → Among d (named e s under) → file_key d.file ≡ file_key file → is_below v.vector d.vector ≡ false
   pub pulls : (view : SiteView) (p : Pull) → at s ≡ Some (Running view) → Among p view.pulls → file_key p.file ≡ file_key file → is_below v.vector p.vector ≡ false
-
--- where a packet of this kind comes, a version that is on its way to a member, which could adopt it at once, stays so
-abbrev pub GoesOn : Config → (Body → Type 0) → Type 0
-GoesOn c kind = (lines : List ScheduleLine) (n : ℕ) (e : InEpoch) (x : Numbered) (w : World) (s : ℕ) (file : FileId) (v : VersionRow) → Delivery c lines n e x w → kind x.packet.body → IsMember e s → NoneAbove e (place_at w) w.underway s file v → IsFree (place_at w) s file v →
-    IsOnItsWay c e (place_at w) w.underway s file v → IsOnItsWay c e (place_at (arrives c n x w)) (arrives c n x w).underway s file v
 
 -- ---- kinds of packets about copies ----
 
@@ -50,24 +50,90 @@ abbrev pub IsHave : Body → Type 0
 IsHave (body.Have file stamp) = Unit {0}
 IsHave _ = ⊥
 
--- none of these
-abbrev pub IsOther : Body → Type 0
-IsOther (body.Notify file kind set size stamp vector holder) = ⊥
-IsOther (body.Page file stamp page bytes) = ⊥
-IsOther (body.Pull file stamp page) = ⊥
-IsOther (body.Have file stamp) = ⊥
-IsOther _ = Unit {0}
+-- it leaves copies, pulls and what is known of files: a look, an open, an answer
+abbrev pub IsPlain : Body → Type 0
+IsPlain (body.ReportOk group) = Unit {0}
+IsPlain (body.Open serial call process request file how) = Unit {0}
+IsPlain (body.OpenSs inst file mode set kind base vector parents) = Unit {0}
+IsPlain (body.OpenDone serial answer) = Unit {0}
+IsPlain (body.OpDone serial n result) = Unit {0}
+IsPlain (body.ClosedOk inst) = Unit {0}
+IsPlain (body.CloseDone serial answer) = Unit {0}
+IsPlain (body.Look call process request take file what) = Unit {0}
+IsPlain (body.LookSs us call process request take file what stamp) = Unit {0}
+IsPlain (body.LookDone call request take answer) = Unit {0}
+IsPlain _ = ⊥
+
+abbrev pub IsReport : Body → Type 0
+IsReport (body.Report group copies) = Unit {0}
+IsReport _ = ⊥
+
+abbrev pub IsOpened : Body → Type 0
+IsOpened (body.Opened inst answer) = Unit {0}
+IsOpened _ = ⊥
+
+-- its storage site may commit
+abbrev pub MayCommit : Body → Type 0
+MayCommit (body.Op serial n o seen) = Unit {0}
+MayCommit (body.Close serial) = Unit {0}
+MayCommit _ = ⊥
+
+-- its synchronization site may publish
+abbrev pub MayPublish : Body → Type 0
+MayPublish (body.Closed inst made) = Unit {0}
+MayPublish _ = ⊥
+
+abbrev pub FormsEpochs : Body → Type 0
+FormsEpochs body.Poll = Unit {0}
+FormsEpochs (body.Promise reach) = Unit {0}
+FormsEpochs (body.Refuse promised) = Unit {0}
+FormsEpochs (body.Install members) = Unit {0}
+FormsEpochs body.Joined = Unit {0}
+FormsEpochs _ = ⊥
+
+-- ---- what stands in a round after another one ----
+
+-- what a member pulls above its copy is the only kept version of its file, and the member is to hold it
+abbrev pub PullsAreCurrent : Config → InEpoch → Places → Type 0
+PullsAreCurrent c e at = (s : ℕ) (v : SiteView) (p : Pull) → IsMember e s → at s ≡ Some (Running v) → Among p v.pulls → is_above p.vector (copy_of v.store p.file) ≡ true → IsToHold c e at s (offer_of p)
+
+-- each group that a member synchronizes has started
+abbrev pub GroupsHaveStarted : InEpoch → Places → Type 0
+GroupsHaveStarted e at = (s group : ℕ) (v : SiteView) (t : SyncTable) → IsMember e s → at s ≡ Some (Running v) → row table_group group v.tables ≡ Some t → t.started ≡ true
+
+-- Where a packet of this kind comes once each group has started, a version that is on its way to a member, which could adopt it at once,
+-- stays so.
+abbrev pub GoesOn : Config → (Body → Type 0) → Type 0
+GoesOn c kind = (lines : List ScheduleLine) (n : ℕ) (e : InEpoch) (x : Numbered) (w : World) (s : ℕ) (file : FileId) (v : VersionRow) → Delivery c lines n e x w → kind x.packet.body → IsMember e s → GroupsHaveStarted e (place_at w) → NoneAbove e (place_at w) w.underway s file v → IsFree (place_at w) s file v →
+    IsOnItsWay c e (place_at w) w.underway s file v → IsOnItsWay c e (place_at (arrives c n x w)) (arrives c n x w).underway s file v
+
+-- so it is where the member itself takes the packet
+abbrev pub GoesOnHere : Config → (Body → Type 0) → Type 0
+GoesOnHere c kind = (lines : List ScheduleLine) (n : ℕ) (e : InEpoch) (x : Numbered) (w : World) (s : ℕ) (file : FileId) (v : VersionRow) → Delivery c lines n e x w → kind x.packet.body → x.packet.to ≡ s → IsMember e s → GroupsHaveStarted e (place_at w) → NoneAbove e (place_at w) w.underway s file v → IsFree (place_at w) s file v →
+    IsOnItsWay c e (place_at w) w.underway s file v → IsOnItsWay c e (place_at (arrives c n x w)) (arrives c n x w).underway s file v
+
+-- the table of a file with one kept version names a holder of it, and no member whose copy is below it
+pub record TellsHolders (e : InEpoch) (at : Places) (file : FileId) (r : FileRow) (v : VersionRow) : Type 0 where
+  pub some_holder : holders_of r v.stamp ≢ []
+  pub hold : (s : ℕ) (view : SiteView) → IsMember e s → is_among s (holders_of r v.stamp) ≡ true → at s ≡ Some (Running view) → is_above v.vector (copy_of view.store file) ≡ false
+
+abbrev pub TablesTell : Config → InEpoch → Places → Type 0
+TablesTell c e at = (file : FileId) (r : FileRow) (v : VersionRow) → Knows c e at file r → r.kept ≡ v ∷ [] → TellsHolders e at file r v
 
 -- ---- what no law gives yet ----
 
 pub record ConvergenceLeft (c : Config) : Type 0 where
-  -- After the ticks of the second round the version is on its way to each member of its set: the member has pulled it whole in the first
-  -- round, and each version that it lags behind in any file was notified to it in these ticks.
-  pub starts : (lines : List ScheduleLine) (n m : ℕ) (e : InEpoch) (k l : ℕ) (file : FileId) (v : VersionRow) (set : Sites) (s : ℕ) → IsAtRest c lines n m e k l file v set → IsMember e s → has set s ≡ true →
-      LackedRoom c lines m l s file v ⊎ IsOnItsWay c e (place_at (after c lines m 0)) (after c lines m 0).underway s file v
+  -- After the first round each member of the set holds the version, or has pulled it whole.
+  pub pulled : (lines : List ScheduleLine) (n m : ℕ) (e : InEpoch) (k l : ℕ) (file : FileId) (v : VersionRow) (set : Sites) (s : ℕ) → IsAtRest c lines n m e k l file v set → IsMember e s → has set s ≡ true →
+      HoldsTheOnly (place_at (after c lines n k)) s file v ⊎ HasPulled (place_at (after c lines n k)) s file v
+  -- After the ticks of a round that stands directly after another one what a member pulls above its copy is the only kept version of its
+  -- file; and each group has started, from then on.
+  pub current : (lines : List ScheduleLine) (n m : ℕ) (e : InEpoch) (k l : ℕ) → AreCalmRounds c lines n m e k l → PullsAreCurrent c e (place_at (after c lines m 0))
+  pub started : (lines : List ScheduleLine) (n m : ℕ) (e : InEpoch) (k l j : ℕ) → AreCalmRounds c lines n m e k l → j ≤ l → GroupsHaveStarted e (place_at (after c lines m j))
   -- What an undisturbed file has no instance of, its members have no instance of; nobody is mending it; and no later version of it is
   -- known: so wherever there is room, the member could adopt the version at once.
-  pub free : (lines : List ScheduleLine) (n m : ℕ) (e : InEpoch) (k l : ℕ) (file : FileId) (v : VersionRow) (set : Sites) (s j : ℕ) → IsAtRest c lines n m e k l file v set → IsMember e s → has set s ≡ true → j ≤ l →
-      HasNoRoom (place_at (after c lines m j)) s file v ⊎ (IsFree (place_at (after c lines m j)) s file v × NoneAbove e (place_at (after c lines m j)) (after c lines m j).underway s file v)
-  -- any other kind of packet that comes leaves it on its way
-  pub other : GoesOn c IsOther
+  pub free : (lines : List ScheduleLine) (n m : ℕ) (e : InEpoch) (k l : ℕ) (file : FileId) (v : VersionRow) (set : Sites) (s : ℕ) (w : World) → IsAtRest c lines n m e k l file v set → IsMember e s → has set s ≡ true → IsMoment c lines m l w →
+      HasNoRoom (place_at w) s file v ⊎ (IsFree (place_at w) s file v × NoneAbove e (place_at w) w.underway s file v)
+  -- An Op or a Close that the member takes leaves the version on its way to it: what the member commits is above its copy, and of another
+  -- file.
+  pub commits : GoesOnHere c MayCommit

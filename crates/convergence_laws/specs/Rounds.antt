@@ -33,15 +33,12 @@ LackedRoom c lines n k s file v = (w : World) × IsMoment c lines n k w × HasNo
 
 -- ---- two of them ----
 
--- Two calm rounds of an epoch, each of which ends within its budget. The second stands directly after the first: between them are only
--- comments and empty lines.
+-- Two calm rounds of an epoch. The second stands directly after the first: between them are only comments and empty lines.
 pub record AreCalmRounds (c : Config) (lines : List ScheduleLine) (n m : ℕ) (e : InEpoch) (k l : ℕ) : Type 0 where
   pub first : IsCalm c lines n e k
   pub second : IsCalm c lines m e l
   pub order : n < m
   pub directly : (j : ℕ) → n < j → j < m → line_at lines j ≡ Passed
-  pub first_ends : k ≤ first.most
-  pub second_ends : l ≤ second.most
 
 -- a file that is undisturbed in both, and at whose end has one kept version
 pub record IsAtRest (c : Config) (lines : List ScheduleLine) (n m : ℕ) (e : InEpoch) (k l : ℕ) (file : FileId) (v : VersionRow) (set : Sites) : Type 0 where
@@ -57,4 +54,18 @@ pub record IsAtRest (c : Config) (lines : List ScheduleLine) (n m : ℕ) (e : In
 -- last two stand so.)
 abbrev pub CopiesConverge : Config → Type 0
 CopiesConverge c = (lines : List ScheduleLine) (n m : ℕ) (e : InEpoch) (k l : ℕ) (file : FileId) (v : VersionRow) (set : Sites) → IsAtRest c lines n m e k l file v set → (s : ℕ) → IsMember e s → has set s ≡ true →
+    HoldsTheOnly (place_at (after c lines m l)) s file v ⊎ LackedRoom c lines m l s file v
+
+-- ---- three rounds ----
+
+-- three calm rounds, of which the last two stand directly one after another, in all of which the file is undisturbed
+pub record IsAtRestInThree (c : Config) (lines : List ScheduleLine) (o n m : ℕ) (e : InEpoch) (j k l : ℕ) (file : FileId) (v : VersionRow) (set : Sites) : Type 0 where
+  pub before : IsCalm c lines o e j
+  pub order : o < n
+  pub in_before : IsUndisturbed c lines o e j file
+  pub rest : IsAtRest c lines n m e k l file v set
+
+-- after three of them, of which the last two stand directly one after another, it is so too
+abbrev pub CopiesConvergeInThree : Config → Type 0
+CopiesConvergeInThree c = (lines : List ScheduleLine) (o n m : ℕ) (e : InEpoch) (j k l : ℕ) (file : FileId) (v : VersionRow) (set : Sites) → IsAtRestInThree c lines o n m e j k l file v set → (s : ℕ) → IsMember e s → has set s ≡ true →
     HoldsTheOnly (place_at (after c lines m l)) s file v ⊎ LackedRoom c lines m l s file v

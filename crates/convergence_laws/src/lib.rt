@@ -4,4 +4,4 @@
 
 mod laws;
 
-pub use laws::copies_converge;
+pub use laws::{copies_converge, copies_converge_in_three_rounds};

@@ -1,5 +1,5 @@
 -- What effects do to pages: each page that is another one after an effect is named by it.
-use Rattle.std.proofs.Common.{◌≡◌, ◌≤◌, ◌<◌, ℕ, zero, suc, ◌+◌, ◌-◌, ◌*◌, ◌/◌, ◌==◌, min, nat_lt, Bool, true, false, not, cond, List, [], ◌∷◌, ◌++◌, length, take, drop, replicate, filter, Option, None, Some, refl, sym, ◌∙◌, ap, subst, arith}
+use Rattle.std.proofs.Common.{◌≡◌, ◌≤◌, ◌<◌, ℕ, ◌+◌, ◌-◌, ◌*◌, ◌/◌, min, nat_lt, Bool, true, false, not, cond, List, [], ◌++◌, length, take, drop, replicate, Option, None, Some, refl, sym, ◌∙◌, ap, subst, arith}
 use Rattle.std.specs.Prelude.{nat_le}
 use Rattle.std.specs.Str.{bytes_eq}
 use Rattle.std.proofs.lemmas.Bool.Decides.{nat_tests}
@@ -16,8 +16,8 @@ use Rattle.trace_book.specs.declared.operation.Outcome.TheVariants as outcome
 use Rattle.dir_format.specs.Contents.{entries_of, is_dir}
 use Rattle.dir_format.specs.Grammar.{dir_bytes}
 use Rattle.dir_format.specs.Effects.{DirEffect, dir_effect}
-use Rattle.file_content.specs.Contents.{max_bytes, written}
-use Rattle.file_content.specs.Pages.{has_page, is_replaced, page_of, pages_between, pages_from, pages_of, pages_replaced, pages_within, pages_written}
+use Rattle.file_content.specs.Contents.{max_bytes}
+use Rattle.file_content.specs.Pages.{has_page, is_replaced, page_of, pages_from, pages_of, pages_replaced, pages_within, pages_written}
 use Rattle.file_effects.specs.Effects.{As, Deed, Effect, Mends, Removes, cuts, directory_left, effect, in_directory, is_worded, mends, on_directory, puts, tells, writes}
 use Rattle.file_effects.specs.Works.{changed_after}
 use Rattle.operation_effects.specs.Settling.{AreBounded, IsBounded}

@@ -7,3 +7,10 @@ pub mod Effects
 pub mod Working
 pub mod Sets
 pub mod Slots
+pub mod Storing
+pub mod RoomRun
+pub mod Running
+pub mod Pulling
+pub mod Totals
+pub mod RoomStore
+pub mod RoomSites

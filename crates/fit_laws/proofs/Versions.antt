@@ -1,5 +1,5 @@
 -- The stamp and the vector of each version that stands may stand in a slot.
-use Rattle.std.proofs.Common.{◌≡◌, ◌≤◌, ◌<◌, ◌^◌, nat_lt, ℕ, zero, suc, ◌+◌, ◌-◌, ◌==◌, Bool, true, false, ◌&&◌, ◌||◌, cond, List, [], ◌∷◌, length, refl, sym, ◌∙◌, ap, subst, arith, inl, inr}
+use Rattle.std.proofs.Common.{◌≡◌, ◌≤◌, ◌<◌, ◌^◌, nat_lt, ℕ, zero, suc, ◌+◌, ◌-◌, ◌==◌, Bool, true, false, ◌||◌, cond, List, [], ◌∷◌, length, refl, sym, ◌∙◌, ap, subst, arith, inl, inr}
 use Rattle.std.proofs.lemmas.Bool.Decides.{nat_tests}
 use Rattle.locus_ids.specs.declared.config.Config.{Config}
 use Rattle.locus_ids.specs.declared.ids.FileId.{FileId}
@@ -8,14 +8,13 @@ use Rattle.locus_ids.specs.declared.sites.Sites.{Sites}
 use Rattle.version_vector.specs.Counters.{part}
 use Rattle.commit_graph.specs.Counters.{counter, greatest, next_number}
 use Rattle.commit_graph.specs.Vectors.{vector_of}
-use Rattle.commit_graph.specs.Versions.{is_in, is_version, same_file, same_stamp}
+use Rattle.commit_graph.specs.Versions.{is_in, is_version, same_file}
 use Rattle.commit_graph.specs.declared.history.Version.{Version}
 use Rattle.pack_layout.specs.Layout.{AgreesWith, IsStamp}
 use Rattle.trace_book.specs.declared.record.Record.{Record}
 use Rattle.trace_book.specs.declared.record.Record.TheVariants as says
 use Rattle.role_steps.specs.Views.{Told, Shown}
 use Rattle.the_run.specs.Worlds.{Line}
-use Rattle.vector_laws.specs.Written.{past_of}
 use Rattle.history_laws.specs.Commits.{IsSite}
 use Rattle.tree_model.specs.Histories.{format_stamp, format_version, format_versions, history, history_after}
 use Rattle.tree_laws.specs.Following.{IsFollowed, MayTell}
@@ -147,7 +146,7 @@ module _ (c : Config) (f : FileId) (b : Stamp) where
 
 -- ---- vectors ----
 
-beyond : (v : List ℕ) (i : ℕ) → length v ≤ i → part v i ≡ 0
+pub beyond : (v : List ℕ) (i : ℕ) → length v ≤ i → part v i ≡ 0
 beyond [] i le = refl
 beyond (x ∷ v) zero le = absurd (omega (arith, le))
 beyond (x ∷ v) (suc i) le = beyond v i (omega (arith, le))

@@ -1,5 +1,5 @@
 -- Along the trace: each version is no longer than a file may be, and each open instance works over the version on which it stands.
-use Rattle.std.proofs.Common.{◌≡◌, ◌≤◌, ℕ, ◌+◌, ◌==◌, Bool, true, false, ◌&&◌, ◌||◌, cond, List, [], ◌∷◌, ◌++◌, length, filter, Option, None, Some, refl, sym, ◌∙◌, ap, subst, arith}
+use Rattle.std.proofs.Common.{◌≡◌, ◌≤◌, ℕ, ◌+◌, ◌==◌, Bool, true, false, ◌&&◌, cond, List, [], ◌∷◌, ◌++◌, length, filter, Option, None, Some, refl, sym, ◌∙◌, ap, subst, arith}
 use Rattle.std.specs.List.{AllByRecursion}
 use Rattle.locus_ids.specs.declared.config.Config.{Config}
 use Rattle.locus_ids.specs.declared.ids.CallId.{CallId}
@@ -17,13 +17,13 @@ use Rattle.trace_book.specs.declared.operation.Op.TheVariants as op
 use Rattle.trace_book.specs.declared.operation.Outcome.{Outcome}
 use Rattle.trace_book.specs.declared.record.Record.{Record}
 use Rattle.trace_book.specs.declared.record.Record.TheVariants as says
-use Rattle.file_effects.specs.Effects.{Deed, Effect, effect, is_refusal}
+use Rattle.file_effects.specs.Effects.{Deed, Effect, is_refusal}
 use Rattle.file_effects.specs.Works.{carried_out, counted}
 use Rattle.file_effects.specs.declared.work.Work.{Work}
 use Rattle.role_steps.specs.Views.{Told, Shown}
 use Rattle.the_run.specs.Worlds.{Line}
 use Rattle.tree_model.specs.declared.instance.Instance.{Instance}
-use Rattle.tree_model.specs.Epochs.{epoch_of, is_in as is_at}
+use Rattle.tree_model.specs.Epochs.{is_in as is_at}
 use Rattle.tree_model.specs.Folds.{Trace}
 use Rattle.tree_model.specs.Histories.{format_version, format_versions, history, history_after, stamped_content}
 use Rattle.tree_model.specs.Lists.{change_first}
@@ -37,8 +37,7 @@ use Rattle.tree_laws.specs.Printed.{entries, onto_entries}
 use Rattle.tree_laws.proofs.Names.{same_epoch_eq, test_own, test_same, true_false}
 use Rattle.tree_laws.proofs.Owing.{inside_is, writer_writes}
 use Rattle.tree_laws.proofs.Rows.{followed_rows}
-use Rattle.order_laws.specs.Standing.{VersionsStand}
-use Rattle.order_laws.proofs.Alone.{first_of, second_of, tree_is, tree_named}
+use Rattle.order_laws.proofs.Alone.{first_of, second_of, tree_is}
 use Rattle.order_laws.proofs.Knowing.{versions_stand}
 use Rattle.order_laws.proofs.Lists.{all_filtered, all_more, all_then, all_without}
 use Rattle.order_laws.proofs.Standing.{same_file_eq, same_stamp_eq}

@@ -1,5 +1,5 @@
 -- Versions that may stand in a slot of a pack.
-use Rattle.std.specs.Prelude.{List, ℕ, length}
+use Rattle.std.specs.Prelude.{length}
 use Rattle.locus_ids.specs.declared.ids.FileId.{FileId}
 use Rattle.inode_pack.specs.Committing.{IsVersion}
 use Rattle.inode_pack.specs.declared.new_version.NewVersion.{NewVersion}

@@ -2,19 +2,29 @@ ghost use Rattle.std.specs.Prelude.{ℕ, ◌≡◌, ◌≤◌, List, length, Som
 ghost use Rattle.locus_ids.specs.declared.config.Config.{Config};
 ghost use Rattle.locus_ids.specs.declared.ids.FileId.{FileId};
 ghost use Rattle.locus_ids.specs.declared.ids.Stamp.{Stamp};
+ghost use Rattle.locus_ids.specs.declared.sites.Links.{Links};
 ghost use Rattle.schedule_lines.specs.declared.line.ScheduleLine.{ScheduleLine};
 ghost use Rattle.role_steps.specs.Own.{Every};
-ghost use Rattle.role_steps.specs.Views.{SiteView};
+ghost use Rattle.role_steps.specs.Epochs.{frame_in};
+ghost use Rattle.role_steps.specs.Views.{Event, Frame, SiteView, Store};
+ghost use Rattle.role_steps.specs.declared.rounds.InEpoch.{InEpoch};
 ghost use Rattle.the_run.specs.Runs.{run_in};
 ghost use Rattle.the_run.specs.Kept.{WasSent};
-ghost use Rattle.the_run.specs.Worlds.{Numbered, Running, place_at};
+ghost use Rattle.the_run.specs.Steps.{step};
+ghost use Rattle.the_run.specs.Worlds.{Line, Numbered, Running, place_at};
 ghost use Rattle.row_laws.specs.Voids.{LinesFit};
 ghost use Rattle.order_laws.specs.Joining.{PacksAreOfSites};
 ghost use Rattle.tree_model.specs.Files.{version_of};
+ghost use Rattle.tree_laws.specs.Doing.{FrameFact, StoreHeld};
 ghost use Rattle.tree_laws.specs.Instances.{Stands};
 ghost use Rattle.tree_laws.specs.Printed.{entries};
+ghost use Rattle.one_tree_laws.specs.Places.{SiteFact};
+ghost use Rattle.one_tree_laws.specs.Rest.{Past};
 ghost use Rattle.fit_laws.specs.Inodes.{AreInodes, IsInodeNumber};
 ghost use Rattle.fit_laws.specs.Opens.{OpensForSite};
+ghost use Rattle.fit_laws.specs.Pulling.{FitsPull, NoticeFits};
+ghost use Rattle.fit_laws.specs.Room.{RoomFits};
+ghost use Rattle.fit_laws.specs.Storing.{AreStorable};
 ghost use Rattle.fit_laws.specs.Versions.{FitsSlot};
 
 /// After every schedule each file that stands has the number of an inode: a root 1, any other one of the 64 numbers of one of the sixteen
@@ -37,4 +47,36 @@ pub fn opens_are_of_sites()
 /// content is no longer than a file may be, and its stamp and vector have 32 bits and agree.
 pub fn versions_fit_slots()
     ensures { (c : Config) (lines : List ScheduleLine) → LinesFit c lines → PacksAreOfSites c → length c.packs ≤ 4 → (f : FileId) (stamp : Stamp) → Stands c (run_in c lines).trace f stamp → FitsSlot f (version_of c (entries (run_in c lines).trace) f stamp) }
+{}
+
+/// After every schedule each instance that runs at a running site may be stored as its next version: the site has a pack of its group, its
+/// number, set, stamp and vector may stand in a slot, its content is no longer than a file may be, the changed pages are pages of it, each
+/// once, and have room in the pack, and each other page is that of the site's copy.
+pub fn what_runs_may_be_stored()
+    ensures { (c : Config) (lines : List ScheduleLine) → LinesFit c lines → PacksAreOfSites c → length c.packs ≤ 4 → (s : ℕ) (v : SiteView) (e : InEpoch) → place_at (run_in c lines) s ≡ Some (Running v) → v.epoch ≡ Some e → AreStorable c (frame_in c s v.boot e) v.store }
+{}
+
+/// After every schedule, in each group the copies of a running site and the changed pages of its open instances take no more pages than a
+/// pack has.
+pub fn packs_have_room()
+    ensures { (c : Config) (lines : List ScheduleLine) → LinesFit c lines → PacksAreOfSites c → length c.packs ≤ 4 → (s : ℕ) (v : SiteView) → place_at (run_in c lines) s ≡ Some (Running v) → RoomFits v.store }
+{}
+
+/// After every schedule, what a running site pulls may be adopted there once it is complete: the site has a pack of its group, and its version
+/// may stand in a slot. (A pull is adopted where its pages have room beside those that open instances have changed.)
+pub fn what_is_pulled_may_be_adopted()
+    ensures { (c : Config) (lines : List ScheduleLine) → LinesFit c lines → PacksAreOfSites c → length c.packs ≤ 4 → (s : ℕ) (v : SiteView) (e : InEpoch) → place_at (run_in c lines) s ≡ Some (Running v) → v.epoch ≡ Some e → Every (FitsPull c s) v.pulls }
+{}
+
+/// After every schedule each notice is of a version that may stand in a slot, no longer than a file may be, and goes to a site that has a pack
+/// of its group.
+pub fn notices_are_of_versions()
+    ensures { (c : Config) (lines : List ScheduleLine) → LinesFit c lines → PacksAreOfSites c → length c.packs ≤ 4 → (x : Numbered) → WasSent (run_in c lines) x → NoticeFits c x.packet.to x.packet.body }
+{}
+
+/// Whatever comes next at a site that is as it may be, and whether or not a limit is passed then: where its packs have room they have room
+/// after it; and where they have, each instance that runs may be stored as its next version.
+pub fn sites_keep_their_room()
+    ensures room { (c : Config) (trace : List Line) (me : ℕ) (links : Links) (v : SiteView) (e : Event) → Past c trace → SiteFact c me trace v → RoomFits v.store → RoomFits (step c me links v e).view.store }
+    ensures storable { (c : Config) (trace : List Line) (f : Frame) (s : Store) → Past c trace → FrameFact c trace f → StoreHeld c f trace s → RoomFits s → AreStorable c f s }
 {}

@@ -4,4 +4,8 @@
 
 mod laws;
 
-pub use laws::{files_have_inodes, opens_are_of_sites, tables_are_of_inodes, versions_fit_slots};
+pub use laws::{
+    files_have_inodes, notices_are_of_versions, opens_are_of_sites, packs_have_room,
+    sites_keep_their_room, tables_are_of_inodes, versions_fit_slots, what_is_pulled_may_be_adopted,
+    what_runs_may_be_stored,
+};

@@ -1,5 +1,5 @@
 -- The rows of the tree and all other rows, together; and all that holds of a run.
-use Rattle.std.proofs.Common.{◌≡◌, List, None, sym, subst}
+use Rattle.std.proofs.Common.{◌≡◌, ◌++◌, List, None, sym, subst}
 use Rattle.schedule_lines.specs.Cluster.{config_of}
 use Rattle.schedule_lines.specs.Schedule.{AreInOrder}
 use Rattle.schedule_lines.specs.declared.line.ScheduleLine.{ScheduleLine}
@@ -17,7 +17,12 @@ use Rattle.mend_step_laws.proofs.Meeting.{rows_meet}
 use Rattle.rest_laws.proofs.Run.{schedule_rows}
 use Rattle.rest_laws.proofs.Shown.{shown_entries}
 use Rattle.cut_laws.proofs.Run.{schedule_counted}
-use Rattle.headline_laws.specs.Holds.{RunHolds}
+use Rattle.row_laws.proofs.ArmsKept.{run_keeps_calls}
+use Rattle.input_order_laws.proofs.Order.{first_in_order}
+use Rattle.whole_run_laws.proofs.Disks.{disks_hold}
+use Rattle.whole_run_laws.proofs.Rounds.{large_rounds}
+use Rattle.headline_laws.specs.Holds.{RunHolds, RunHoldsThroughout}
+use Rattle.headline_laws.proofs.Texts.{printed_told}
 
 shown_rows : (lines : List ScheduleLine) → AreInOrder lines → RowsAreLawful (config_of lines) (trace_of (run lines))
 shown_rows lines order = subst (RowsAreLawful (config_of lines)) (sym (shown_entries (run lines).trace)) (schedule_rows lines order)
@@ -30,6 +35,10 @@ run_lawful lines order none = tree_lawful lines none (record {
 
 pub run_holds_all : (lines : List ScheduleLine) → AreInOrder lines → RunHolds lines
 run_holds_all lines order = record {
+  text = printed_told (run lines);
+  calls = run_keeps_calls (config_of lines) lines;
+  disks = disks_hold lines order;
+  rounds = large_rounds (config_of lines) lines;
   versions = run_versions_and_copies (config_of lines) lines;
   rows = shown_rows lines order;
   lawful = λ none. run_lawful lines order none;
@@ -38,3 +47,6 @@ run_holds_all lines order = record {
   requests = requests_bounded (config_of lines) lines;
   deliveries = deliveries_send_one (config_of lines) lines;
 }
+
+pub run_holds_throughout : (lines : List ScheduleLine) → AreInOrder lines → RunHoldsThroughout lines
+run_holds_throughout lines order first later split = run_holds_all first (first_in_order first later (subst AreInOrder split order))

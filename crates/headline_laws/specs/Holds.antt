@@ -1,27 +1,43 @@
 -- What holds of the run of every schedule that the program reads, from its first line to its last.
-use Rattle.std.specs.Prelude.{◌≡◌, List, None}
+use Rattle.std.specs.Prelude.{◌≡◌, ◌++◌, true, List, None}
 use Rattle.schedule_lines.specs.Cluster.{config_of}
 use Rattle.schedule_lines.specs.declared.line.ScheduleLine.{ScheduleLine}
-use Rattle.the_run.specs.Runs.{run}
+use Rattle.the_run.specs.Runs.{run, printed}
+use Rattle.tree_model.specs.Folds.{told}
+use Rattle.lawful_trace.specs.Disks.{keeps_calls}
 use Rattle.lawful_trace.specs.Lawful.{IsLawful}
 use Rattle.lawful_trace.specs.Orderly.{LeavesAreOwn, OrderlyBlocksForm}
 use Rattle.row_laws.specs.Shown.{trace_of}
 use Rattle.copy_laws.specs.Hold.{VersionsAndCopiesHold}
 use Rattle.bound_laws.specs.Asking.{RequestsBounded}
 use Rattle.bound_laws.specs.Deliveries.{DeliveriesSendOne}
+use Rattle.whole_run_laws.specs.Disks.{DisksHold}
+use Rattle.whole_run_laws.specs.Rounds.{LargeRoundsEnd}
 use Rattle.tree_laws.specs.Following.{RowsAreLawful}
 
 pub record RunHolds (lines : List ScheduleLine) : Type 0 where
+  -- what is written of it is the text of this trace
+  pub text : printed (run lines) ≡ told (trace_of (run lines))
   -- versions are ordered by ancestry, each that was brought to an epoch is under a kept one, and each copy is a version whole
   pub versions : VersionsAndCopiesHold (config_of lines) (run lines)
+  -- each disk holds of each file just the version that its site has by the trace, whole: kind, sites, stamp, vector and bytes
+  pub disks : DisksHold (config_of lines) (run lines)
   -- each record comes as the one tree of its epoch's members has it: each reply too
   pub rows : RowsAreLawful (config_of lines) (trace_of (run lines))
+  -- an armed disk that stops nothing isn't written more than its calls allow
+  pub calls : keeps_calls (config_of lines) lines (trace_of (run lines)) ≡ true
   -- where the run passes no limit the whole trace is lawful: each record is asked for by the lines, and each line is told
   pub lawful : (run lines).over ≡ None → IsLawful lines (trace_of (run lines))
   -- and, in an orderly schedule, each block of lines forms its epochs
   pub formed : (run lines).over ≡ None → OrderlyBlocksForm lines (trace_of (run lines))
   -- and a site leaves its epoch by its own line, or where it is asked to another
   pub leaves : (run lines).over ≡ None → LeavesAreOwn lines (trace_of (run lines))
+  -- a round whose budget is no less than the packets that there may be doesn't end by it
+  pub rounds : LargeRoundsEnd lines (trace_of (run lines))
   -- no call but a mend asks more than the components of its path and six, and a delivery sends at most one packet that serves a call
   pub requests : RequestsBounded (run lines)
   pub deliveries : DeliveriesSendOne (config_of lines) (run lines)
+
+-- so it is after each of the lines
+abbrev pub RunHoldsThroughout : List ScheduleLine → Type 0
+RunHoldsThroughout lines = (first later : List ScheduleLine) → lines ≡ first ++ later → RunHolds first

@@ -8,8 +8,8 @@ use Rattle.locus_io.specs.Causes.{AppendsFront}
 use Rattle.schedule_lines.specs.declared.line.ScheduleLine.{ScheduleLine}
 use Rattle.the_run.specs.Worlds.{Limit}
 use Rattle.the_run.specs.Runs.{run}
-use Rattle.headline_laws.specs.Holds.{RunHolds}
-use Rattle.headline_laws.proofs.Whole.{run_holds_all}
+use Rattle.headline_laws.specs.Holds.{RunHoldsThroughout}
+use Rattle.headline_laws.proofs.Whole.{run_holds_throughout}
 use Rattle.line_reader.specs.Reading.{lines_of, has_feed, to_read, Between, ReadsLine, EndsInFeed, IsLong, first_line, after_line}
 use Rattle.locus_main.specs.Inputs.{Input, StandsFor, MayEndAfter, opening_of, output_of}
 use Rattle.locus_main.specs.Runs.{IsWithinLimits, Writes, AreRun, IsWholeRun, Refuses, StopsAtBad, StopsAtLong, StopsAtCount, StopsAtFault, StopsAtLimit, StopsAtWorld, WritesFront}
@@ -21,10 +21,10 @@ use Rattle.locus_main.proofs.Told.{ReadsLines, Appends-nothing, Appends-then, Ap
 use Rattle.locus_main.proofs.Whole.{AreWhole, Between-whole-none, Between-whole-line, wholly_read}
 
 -- what holds of the run of lines for which an input stands
-run_holds : (input : Input) (bytes : List (List ℕ)) (lines : List ScheduleLine) → StandsFor input bytes lines → RunHolds lines
-run_holds input bytes lines stands = run_holds_all lines (stands_in_order input bytes lines stands)
+run_holds : (input : Input) (bytes : List (List ℕ)) (lines : List ScheduleLine) → StandsFor input bytes lines → RunHoldsThroughout lines
+run_holds input bytes lines stands = run_holds_throughout lines (stands_in_order input bytes lines stands)
 
-opening_holds : (input : Input) → RunHolds (opening_of input)
+opening_holds : (input : Input) → RunHoldsThroughout (opening_of input)
 opening_holds input = run_holds input [] (opening_of input) (stands_first input)
 
 -- the lines so far, of which the run is written
@@ -208,6 +208,7 @@ Ends-limit stands input r r' n m d line limit a b c t u v s e few short reads tu
       lines = s.lines;
       stands = s.reads;
       within = s.writes.within;
+      earlier_holds = run_holds input s.bytes s.lines s.reads;
       longer = goes.longer;
       next = goes.next;
       passes = goes.tells.passes;

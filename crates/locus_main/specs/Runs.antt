@@ -8,7 +8,7 @@ use Rattle.line_reader.specs.Reading.{whole_lines}
 use Rattle.schedule_lines.specs.declared.line.ScheduleLine.{ScheduleLine}
 use Rattle.the_run.specs.Worlds.{Limit}
 use Rattle.the_run.specs.Runs.{run}
-use Rattle.headline_laws.specs.Holds.{RunHolds}
+use Rattle.headline_laws.specs.Holds.{RunHoldsThroughout}
 use Rattle.locus_main.specs.Inputs.{Input, StandsFor, MayEndAfter, opening_of, output_of}
 
 -- there are at most 1,000,000 lines, of at most 16,384 bytes each
@@ -20,7 +20,7 @@ pub record IsWithinLimits (lines : List (List ℕ)) : Type 0 where
 pub record Writes (input : Input) (lines : List ScheduleLine) (before after : Option (List ℕ)) : Type 0 where
   pub within : (run lines).over ≡ None
   pub written : Appends before after (output_of input lines)
-  pub holds : RunHolds lines
+  pub holds : RunHoldsThroughout lines
 
 -- the lines of bytes are those of the input, and their run is written
 pub record AreRun (input : Input) (all : List (List ℕ)) (before after : Option (List ℕ)) : Type 0 where
@@ -95,7 +95,7 @@ pub record StopsAtFault (input : Input) (bytes left : List ℕ) (before after : 
 pub record PassesInOpening (input : Input) (limit : Limit) (before after : Option (List ℕ)) : Type 0 where
   pub passes : (run (opening_of input)).over ≡ Some limit
   pub written : Appends before after (output_of input (opening_of input))
-  pub holds : RunHolds (opening_of input)
+  pub holds : RunHoldsThroughout (opening_of input)
 
 -- The run passes the limit in this line and not before. Its output is written: it has the events before the one that passes the
 -- limit.
@@ -108,11 +108,12 @@ pub record PassesAtLine (input : Input) (all : List (List ℕ)) (limit : Limit) 
   pub lines : List ScheduleLine
   pub stands : StandsFor input earlier lines
   pub within : (run lines).over ≡ None
+  pub earlier_holds : RunHoldsThroughout lines
   pub longer : List ScheduleLine
   pub next : StandsFor input (earlier ++ bytes ∷ []) longer
   pub passes : (run longer).over ≡ Some limit
   pub written : Appends before after (output_of input longer)
-  pub holds : RunHolds longer
+  pub holds : RunHoldsThroughout longer
 
 -- the program stops where the run passes this limit
 abbrev pub StopsAtLimit : Input → List (List ℕ) → Limit → Option (List ℕ) → Option (List ℕ) → Type 0
@@ -146,4 +147,4 @@ pub record WritesFront (input : Input) (all : List (List ℕ)) (before after : O
   pub lines : List ScheduleLine
   pub stands : StandsFor input earlier lines
   pub written : AppendsFront before after (output_of input lines)
-  pub holds : RunHolds lines
+  pub holds : RunHoldsThroughout lines

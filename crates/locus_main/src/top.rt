@@ -4,7 +4,7 @@ ghost use Rattle.the_run.specs.Runs.{run as run_of};
 ghost use Rattle.the_run.specs.Commands.{load_lines, load_text};
 ghost use Rattle.generated_load.specs.Draws.{draws_of};
 ghost use Rattle.command_words.specs.Words.{IsCommand};
-ghost use Rattle.headline_laws.specs.Holds.{RunHolds};
+ghost use Rattle.headline_laws.specs.Holds.{RunHoldsThroughout};
 ghost use Rattle.locus_main.specs.Codes.{ends_written};
 ghost use Rattle.locus_main.specs.Inputs.Input.{Schedule, Calls};
 ghost use Rattle.locus_main.specs.Promises.{LinePromises, LoadPromises};
@@ -30,7 +30,7 @@ pub fn locus<S: Source, K: Sink>(
     ensures run { IsCommand words.now Command.Run → LinePromises Schedule result (S.left source.old) (S.left source.new) (K.taken sink.old) (K.taken sink.new) }
     ensures tree { IsCommand words.now Command.Tree → LinePromises Calls result (S.left source.old) (S.left source.new) (K.taken sink.old) (K.taken sink.new) }
     ensures make { (number events : ℕ) → IsCommand words.now (Command.Make number events) → LoadPromises (run_of (load_lines (draws_of number events))).over (load_text (draws_of number events)) result (K.taken sink.old) (K.taken sink.new) }
-    ensures load_holds { (number events : ℕ) → IsCommand words.now (Command.Make number events) → RunHolds (load_lines (draws_of number events)) }
+    ensures load_holds { (number events : ℕ) → IsCommand words.now (Command.Make number events) → RunHoldsThroughout (load_lines (draws_of number events)) }
     ensures asks_nothing { (number events : ℕ) → IsCommand words.now (Command.Make number events) → source.new ≡ source.old }
 
     // Words that are no command touch nothing.

@@ -62,7 +62,7 @@ armed_most a (suc (suc left)) (x ∷ xs) d =
     let rest : booted_number (boots_armed a left xs (written x d)) ≤ (written x d).label.boot + opened_halves xs = armed_most a left xs (written x d) in
     omega (arith, rest, written_most x xs d)
 
-boots_most : (o : Option Armed) (d : Disk) → booted_number (boots o d) ≤ d.label.boot + 1
+pub boots_most : (o : Option Armed) (d : Disk) → booted_number (boots o d) ≤ d.label.boot + 1
 boots_most None d = let k : (boots_freely (boot_writes d) d).label.boot ≤ d.label.boot + opened_halves (boot_writes d) = freely_most (boot_writes d) d in omega (arith, k, opens_one d.label.both_open d.both_open)
 boots_most (Some a) d = let k : booted_number (boots_armed a a.left (boot_writes d) d) ≤ d.label.boot + opened_halves (boot_writes d) = armed_most a a.left (boot_writes d) d in omega (arith, k, opens_one d.label.both_open d.both_open)
 
@@ -80,9 +80,9 @@ some_text n q =
 -- ---- the world ----
 
 -- no boot number is greater than the bytes of text and one
-record Low (w : World) : Type 0 where
-  boots : (s : ℕ) → boot_number w s ≤ w.text + 1
-  room : w.text ≤ 134217728
+pub record Low (w : World) : Type 0 where
+  pub boots : (s : ℕ) → boot_number w s ≤ w.text + 1
+  pub room : w.text ≤ 134217728
 
 within : (packets bytes text : ℕ) → limit_passed packets bytes text ≡ None → text ≤ 134217728
 within packets bytes text none = grind (arith, nat_tests)
@@ -151,7 +151,7 @@ boots_low n s d (CutOff x how) w here most h = booted_low n s d _ (Stopped x) _ 
 same_boot : (c : Config) (s : ℕ) (v : SiteView) (o : Outcome SiteView) → Sends s v.boot o → o.view.boot ≡ v.boot
 same_boot c s v o own = own.view
 
-low_kept : (c : Config) → Kept c Low
+pub low_kept : (c : Config) → Kept c Low
 low_kept c = record {
   steps = λ n s e v w here own h. acts_low n s v (step c s (links_of w s) v e) w here (same_boot c s v (step c s (links_of w s) v e) (step_sends c s v.boot (links_of w s) v e refl)) h;
   receives = λ n x v w here sent h. acts_low n x.packet.to v (step c x.packet.to (links_of (passed x.number w) x.packet.to) v (Receives x.packet)) (passed x.number w) here (same_boot c x.packet.to v (step c x.packet.to (links_of (passed x.number w) x.packet.to) v (Receives x.packet)) (step_sends c x.packet.to v.boot (links_of (passed x.number w) x.packet.to) v (Receives x.packet) refl)) (record { boots = h.boots; room = h.room });
@@ -176,8 +176,11 @@ first_boots c (t ∷ ss) s =
       | false ↦ first_boots c ss s
     ]
 
-run_low : (c : Config) (lines : List ScheduleLine) → Low (run_in c lines)
-run_low c lines = every_run c Low (low_kept c) (record { boots = λ s. (let k : boot_number (first_world c) s ≤ 1 = first_boots c (filter (λ (t : ℕ). nat_lt t (c.sites + 1)) all_sites) s in omega (arith, k)); room = omega arith }) lines
+pub first_low : (c : Config) → Low (first_world c)
+first_low c = record { boots = λ s. (let k : boot_number (first_world c) s ≤ 1 = first_boots c (filter (λ (t : ℕ). nat_lt t (c.sites + 1)) all_sites) s in omega (arith, k)); room = omega arith }
+
+pub run_low : (c : Config) (lines : List ScheduleLine) → Low (run_in c lines)
+run_low c lines = every_run c Low (low_kept c) (first_low c) lines
 
 pub run_boots_low : (c : Config) (lines : List ScheduleLine) → BootsAreLow (run_in c lines)
 run_boots_low c lines s =

@@ -1,1 +1,14 @@
 pub mod Boots
+pub mod Installs
+pub mod Meeting
+pub mod SyncMeets
+pub mod RolesMeet
+pub mod SitesMeet
+pub mod Lists
+pub mod Places
+pub mod Forming
+pub mod Costs
+pub mod Epochs
+pub mod FormingRun
+pub mod Counts
+pub mod CountsRun

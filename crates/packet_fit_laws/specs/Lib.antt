@@ -1,1 +1,4 @@
 pub mod Boots
+pub mod Epochs
+pub mod Fields
+pub mod Counts

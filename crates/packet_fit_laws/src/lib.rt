@@ -4,4 +4,4 @@
 
 mod laws;
 
-pub use laws::boots_stay_low;
+pub use laws::{boots_stay_low, counts_stay_low, epoch_numbers_stay_low, packets_fit_in_part};

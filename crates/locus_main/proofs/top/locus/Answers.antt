@@ -1,7 +1,7 @@
 use Rattle.std.proofs.Common.{ℕ, Err, ap, refl, ◌∙◌, inl, inr}
 use Rattle.std.proofs.lemmas.Bool.{false≢true}
 use Rattle.the_run.specs.Runs.{run}
-use Rattle.headline_laws.proofs.Whole.{run_holds_all}
+use Rattle.headline_laws.proofs.Whole.{run_holds_throughout}
 use Rattle.input_order_laws.proofs.Loads.{generated_in_order}
 use Rattle.the_run.specs.Commands.{load_lines, load_text}
 use Rattle.generated_load.specs.Draws.{draws_of}
@@ -26,7 +26,7 @@ pub returns-in-Ok-Run-clause-make : goal.returns-in-Ok-Run-clause-make
 returns-in-Ok-Run-clause-make g c = λ number events is. not_another c.args.words.now Run (Make number events) (run_is_no_load number events) (read_as c.args.words.now _ Run c.in-Ok-Run.field-0-is c.in-Ok-Run.ensures.command) is
 
 pub returns-in-Ok-Run-clause-load_holds : goal.returns-in-Ok-Run-clause-load_holds
-returns-in-Ok-Run-clause-load_holds g c = λ number events is. run_holds_all (load_lines (draws_of number events)) (generated_in_order number events)
+returns-in-Ok-Run-clause-load_holds g c = λ number events is. run_holds_throughout (load_lines (draws_of number events)) (generated_in_order number events)
 
 pub returns-in-Ok-Run-clause-asks_nothing : goal.returns-in-Ok-Run-clause-asks_nothing
 returns-in-Ok-Run-clause-asks_nothing g c = λ number events is. not_another c.args.words.now Run (Make number events) (run_is_no_load number events) (read_as c.args.words.now _ Run c.in-Ok-Run.field-0-is c.in-Ok-Run.ensures.command) is
@@ -64,7 +64,7 @@ pub returns-in-Ok-Tree-clause-make : goal.returns-in-Ok-Tree-clause-make
 returns-in-Ok-Tree-clause-make g c = λ number events is. not_another c.args.words.now Tree (Make number events) (tree_is_no_load number events) (read_as c.args.words.now _ Tree c.in-Ok-Tree.field-0-is c.in-Ok-Tree.ensures.command) is
 
 pub returns-in-Ok-Tree-clause-load_holds : goal.returns-in-Ok-Tree-clause-load_holds
-returns-in-Ok-Tree-clause-load_holds g c = λ number events is. run_holds_all (load_lines (draws_of number events)) (generated_in_order number events)
+returns-in-Ok-Tree-clause-load_holds g c = λ number events is. run_holds_throughout (load_lines (draws_of number events)) (generated_in_order number events)
 
 pub returns-in-Ok-Tree-clause-asks_nothing : goal.returns-in-Ok-Tree-clause-asks_nothing
 returns-in-Ok-Tree-clause-asks_nothing g c = λ number events is. not_another c.args.words.now Tree (Make number events) (tree_is_no_load number events) (read_as c.args.words.now _ Tree c.in-Ok-Tree.field-0-is c.in-Ok-Tree.ensures.command) is
@@ -107,7 +107,7 @@ returns-in-Ok-Make-clause-make g c = λ number events is.
     _ _ number events (one_command c.args.words.now (Make c.in-Ok-Make.number c.in-Ok-Make.events) (Make number events) (read_as c.args.words.now _ (Make c.in-Ok-Make.number c.in-Ok-Make.events) c.in-Ok-Make.field-0-is c.in-Ok-Make.ensures.command) is) c.make.ensures.promises
 
 pub returns-in-Ok-Make-clause-load_holds : goal.returns-in-Ok-Make-clause-load_holds
-returns-in-Ok-Make-clause-load_holds g c = λ number events is. run_holds_all (load_lines (draws_of number events)) (generated_in_order number events)
+returns-in-Ok-Make-clause-load_holds g c = λ number events is. run_holds_throughout (load_lines (draws_of number events)) (generated_in_order number events)
 
 pub returns-in-Ok-Make-clause-asks_nothing : goal.returns-in-Ok-Make-clause-asks_nothing
 returns-in-Ok-Make-clause-asks_nothing g c = λ number events is. refl
@@ -145,7 +145,7 @@ pub returns-in-Err-Bad-clause-make : goal.returns-in-Err-Bad-clause-make
 returns-in-Err-Bad-clause-make g c = λ number events is. absurd (c.read_words.ensures.bad (c.in-Err-Bad.is ∙ ap Err c.in-Err-Bad.field-0-is) (Make number events) is)
 
 pub returns-in-Err-Bad-clause-load_holds : goal.returns-in-Err-Bad-clause-load_holds
-returns-in-Err-Bad-clause-load_holds g c = λ number events is. run_holds_all (load_lines (draws_of number events)) (generated_in_order number events)
+returns-in-Err-Bad-clause-load_holds g c = λ number events is. run_holds_throughout (load_lines (draws_of number events)) (generated_in_order number events)
 
 pub returns-in-Err-Bad-clause-asks_nothing : goal.returns-in-Err-Bad-clause-asks_nothing
 returns-in-Err-Bad-clause-asks_nothing g c = λ number events is. absurd (c.read_words.ensures.bad (c.in-Err-Bad.is ∙ ap Err c.in-Err-Bad.field-0-is) (Make number events) is)
@@ -183,7 +183,7 @@ pub returns-in-Err-NoMemory-clause-make : goal.returns-in-Err-NoMemory-clause-ma
 returns-in-Err-NoMemory-clause-make g c = λ number events is. no_load _ _ _
 
 pub returns-in-Err-NoMemory-clause-load_holds : goal.returns-in-Err-NoMemory-clause-load_holds
-returns-in-Err-NoMemory-clause-load_holds g c = λ number events is. run_holds_all (load_lines (draws_of number events)) (generated_in_order number events)
+returns-in-Err-NoMemory-clause-load_holds g c = λ number events is. run_holds_throughout (load_lines (draws_of number events)) (generated_in_order number events)
 
 pub returns-in-Err-NoMemory-clause-asks_nothing : goal.returns-in-Err-NoMemory-clause-asks_nothing
 returns-in-Err-NoMemory-clause-asks_nothing g c = λ number events is. refl

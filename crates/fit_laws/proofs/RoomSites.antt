@@ -1,0 +1,290 @@
+-- What each event of a site does in the room of its packs.
+use Rattle.std.proofs.Common.{◌≡◌, ◌≤◌, ℕ, ◌+◌, ◌-◌, ◌==◌, length, Bool, true, false, cond, ◌&&◌, not, List, [], ◌∷◌, Option, Some, None, refl, sym, ap, subst, arith}
+use Rattle.locus_ids.specs.declared.ids.EpochId.{EpochId}
+use Rattle.locus_ids.specs.declared.sites.Links.{Links}
+use Rattle.locus_ids.specs.declared.sites.Members.{Members}
+use Rattle.locus_ids.specs.declared.sites.Sites.{Sites}
+use Rattle.locus_ids.specs.declared.config.Config.{Config}
+use Rattle.trace_book.specs.Same.{same_epoch}
+use Rattle.trace_book.specs.declared.call.Call.TheVariants as call
+use Rattle.file_content.specs.Pages.{pages_of}
+use Rattle.wire_messages.specs.declared.packet.Packet.{Packet}
+use Rattle.wire_messages.specs.declared.body.Body.{Body}
+use Rattle.wire_messages.specs.declared.body.Body.TheVariants as body
+use Rattle.role_steps.specs.Tables.{row, without_row, first_that}
+use Rattle.role_steps.specs.Views.{Frame, Store, SiteView, Promises, DiskWrite, Outcome, Event, Calls, Receives, Ticks, Parts, Merges, GivesUp, quiet, sends, tells, and_then, first_written}
+use Rattle.role_steps.specs.Reports.{on_report, on_open, on_look, on_closed, on_have}
+use Rattle.role_steps.specs.Opens.{on_opened}
+use Rattle.role_steps.specs.Storage.{copy_of, instance_of, on_open_ss, with_copy}
+use Rattle.role_steps.specs.Epochs.{is_epoch_below, frame_in, leaves_of, leaves, promises, promised_view, reached, polls, round_id, begins_round, starts_merge, boots_where, merge_boot, part_boot, starts_part_of, starts_part, promise_packet, refuse_packet, on_poll, on_promise_of, on_refuse_of, joins, may_install, is_in, joined_packet, on_install, on_joined, passed_over, unanswered, chosen_members, chosen_set, installs_all, decides_if, passes_over_of, passes_over}
+use Rattle.role_steps.specs.Adoption.{notes_own_at, copy_adopted, table_group, with_store, without_pull, is_ready, is_above_own, adopts_pull, adopts_first}
+use Rattle.role_steps.specs.Mends.{mending, kept_stamps, has_mend_in, wants_mend, starts_mend_of, starts_mend, starts_mends_in, row_file}
+use Rattle.role_steps.specs.declared.pulls.Pull.{Pull}
+use Rattle.role_steps.specs.declared.rounds.InEpoch.{InEpoch}
+use Rattle.role_steps.specs.declared.rounds.Round.{Round}
+use Rattle.role_steps.specs.declared.synchronizing.SyncTable.{SyncTable}
+use Rattle.role_steps.specs.declared.synchronizing.FileRow.{FileRow}
+use Rattle.the_run.specs.Steps.{from_user, group_of, at_table_of, is_opened_in, takes_inside, is_dropped, takes_framed, takes, adopts_of, adopts_in, tries_at, starts_mends_of, ends_event, whole, ticks_after, call_frame, epoch_id, takes_call, step}
+use Rattle.run_laws.specs.Words.{Talks}
+use Rattle.run_laws.proofs.SyncTells.{on_opened_talks, on_open_talks, on_look_talks, on_report_talks, on_closed_talks, on_have_talks}
+use Rattle.run_laws.proofs.RolesTell.{on_notify_talks, on_page_talks, on_call_talks, on_open_done_talks, on_op_done_talks, on_close_done_talks, on_look_done_talks}
+use Rattle.std.specs.Prelude.{nat_le}
+use Rattle.std.proofs.lemmas.Bool.Decides.{nat_tests}
+use Rattle.role_steps.specs.Adoption.{has_room}
+use Rattle.role_steps.specs.Pulling.{is_complete}
+use Rattle.role_steps.specs.Storage.{changed_pages, copy_key, copy_pages, free_pages, pack_pages}
+use Rattle.role_steps.specs.Tables.{total, with_row}
+use Rattle.tree_laws.proofs.Names.{test_same}
+use Rattle.order_laws.proofs.Alone.{first_of, second_of}
+use Rattle.fit_laws.specs.Room.{RoomFits}
+use Rattle.fit_laws.proofs.RoomStore.{Calm, Rooms, StoreGood, calm_rooms, calm_same, calm_then, on_close_room, on_closed_ok_calm, on_op_room, on_open_ss_calm, rooms_then, then_rooms}
+use Rattle.fit_laws.proofs.Totals.{row_more}
+
+abbrev pub Keeps : SiteView → Outcome SiteView → Type 0
+Keeps v o = Calm v.store o.view.store o.written
+
+abbrev pub SiteRooms : SiteView → Outcome SiteView → Type 0
+SiteRooms v o = Rooms v.store o.view.store o.written
+
+still : (v : SiteView) (o : Outcome SiteView) → o.view.store ≡ v.store → o.written ≡ None → Keeps v o
+still v o e none = calm_same v.store o.view.store o.written e none
+
+quiet_keeps : (v : SiteView) → Keeps v (quiet v)
+quiet_keeps v = still v (quiet v) refl refl
+
+quietly : (s : Store) (written : Option DiskWrite) → written ≡ None → Calm s s written
+quietly s written none = calm_same s s written refl none
+
+rooming : {old new : Store} {written : Option DiskWrite} → Calm old new written → Rooms old new written
+rooming {old} {new} {written} k = calm_rooms old new written k
+
+then_keeps : (v : SiteView) (o : Outcome SiteView) (g : SiteView → Outcome SiteView) → Keeps v o → Keeps o.view (g o.view) → Keeps v (and_then o g)
+then_keeps v o g h k = calm_then v.store o.view.store (g o.view).view.store o.written (g o.view).written h k
+
+-- ---- packets inside the epoch ----
+
+table_keeps : (g : SyncTable → Outcome SyncTable) (o : Option SyncTable) (v : SiteView) → ((t : SyncTable) → Talks (g t)) → Keeps v (at_table_of g o v)
+table_keeps g None v h = quiet_keeps v
+table_keeps g (Some t) v h = still v (at_table_of g (Some t) v) refl (h t).1
+
+inside_room : (f : Frame) (from : ℕ) (x : Body) (v : SiteView) → StoreGood v.store → SiteRooms v (takes_inside f from x v)
+inside_room f from (body.Report group copies) v good = rooming (table_keeps (on_report f from copies) (row table_group group v.tables) v (on_report_talks f from copies))
+inside_room f from (body.ReportOk group) v good = rooming (quietly v.store None refl)
+inside_room f from (body.Open serial call process request file how) v good = rooming (table_keeps (on_open f from (record { serial = serial; call = call; process = process; request = request; file = file; how = how })) (row table_group file.group v.tables) v (on_open_talks f from (record { serial = serial; call = call; process = process; request = request; file = file; how = how })))
+inside_room f from (body.OpenSs inst file mode set kind base vector parents) v good = (let k : Calm v.store (on_open_ss f (record { inst = inst; file = file; mode = mode; set = set; kind = kind; base = base; vector = vector; parents = parents }) v.store).view (on_open_ss f (record { inst = inst; file = file; mode = mode; set = set; kind = kind; base = base; vector = vector; parents = parents }) v.store).written = on_open_ss_calm f (record { inst = inst; file = file; mode = mode; set = set; kind = kind; base = base; vector = vector; parents = parents }) v.store in calm_rooms v.store _ _ k)
+inside_room f from (body.Opened inst answer) v good = rooming (table_keeps (on_opened f inst answer) (first_that (is_opened_in inst) v.tables) v (on_opened_talks f inst answer))
+inside_room f from (body.OpenDone serial answer) v good = rooming (quietly v.store _ (on_open_done_talks f (kept_stamps v) serial answer v.users).1)
+inside_room f from (body.Op serial n o seen) v good = on_op_room f (mending v (group_of (instance_of v.store (from_user from serial)))) (from_user from serial) n o seen v.store good
+inside_room f from (body.OpDone serial n result) v good = rooming (quietly v.store _ (on_op_done_talks f serial n result v.users).1)
+inside_room f from (body.Close serial) v good = on_close_room f (from_user from serial) v.store good
+inside_room f from (body.Closed inst made) v good = rooming (table_keeps (on_closed f from inst made) (first_that (is_opened_in inst) v.tables) v (on_closed_talks f from inst made))
+inside_room f from (body.ClosedOk inst) v good = calm_rooms v.store _ _ (on_closed_ok_calm f inst v.store)
+inside_room f from (body.CloseDone serial answer) v good = rooming (quietly v.store _ (on_close_done_talks f serial answer v.users).1)
+inside_room f from (body.Look call process request take file what) v good = rooming (table_keeps (on_look f from (record { call = call; process = process; request = request; take = take; file = file; what = what })) (row table_group file.group v.tables) v (on_look_talks f from (record { call = call; process = process; request = request; take = take; file = file; what = what })))
+inside_room f from (body.LookSs us call process request take file what serve) v good = rooming (quietly v.store None refl)
+inside_room f from (body.LookDone call request take answer) v good = rooming (quietly v.store _ (on_look_done_talks f call request take answer v.users).1)
+inside_room f from (body.Notify file kind set size stamp vector holder) v good = rooming (quietly v.store _ (on_notify_talks f from (copy_of v.store file) (record { file = file; kind = kind; set = set; size = size; stamp = stamp; vector = vector; holder = holder; content = [] }) v.pulls).1)
+inside_room f from (body.Pull file stamp page) v good = rooming (quietly v.store None refl)
+inside_room f from (body.Page file stamp page bytes) v good = rooming (quietly v.store _ (on_page_talks f file stamp page bytes v.pulls).1)
+inside_room f from (body.Have file stamp) v good = rooming (table_keeps (on_have from file stamp) (row table_group file.group v.tables) v (on_have_talks from file stamp))
+inside_room f from body.Poll v good = rooming (quiet_keeps v)
+inside_room f from (body.Promise reach) v good = rooming (quiet_keeps v)
+inside_room f from (body.Refuse promised) v good = rooming (quiet_keeps v)
+inside_room f from (body.Install members) v good = rooming (quiet_keeps v)
+inside_room f from body.Joined v good = rooming (quiet_keeps v)
+
+framed_room : (c : Config) (me : ℕ) (p : Packet) (e : Option InEpoch) (v : SiteView) → StoreGood v.store → SiteRooms v (takes_framed c me p e v)
+framed_room c me p None v good = rooming (quiet_keeps v)
+framed_room c me p (Some e) v good = inside_room (frame_in c me v.boot e) p.from p.body v good
+
+-- ---- adoptions and mends ----
+
+noted_store : (f : Frame) (p : Pull) (o : Option SyncTable) (v : SiteView) → (notes_own_at f p o v).store ≡ v.store
+noted_store f p None v = refl
+noted_store f p (Some t) v = refl
+
+-- a ready pull has room
+pub ready_room : (v : SiteView) (p : Pull) → is_ready v p ≡ true → (pages_of (length p.content) ≤ free_pages v.store p.file.group)
+ready_room v p h = subst (λ (n : ℕ). pages_of n ≤ free_pages v.store p.file.group) (sym whole) (low (first_of (has_room v.store p) _ (second_of (is_complete p) _ h)))
+  where
+    whole : length p.content ≡ p.size
+    whole = test_same (length p.content) p.size (first_of (is_complete p) _ h)
+
+    low : nat_le (pages_of p.size) (free_pages v.store p.file.group) ≡ true → pages_of p.size ≤ free_pages v.store p.file.group
+    low e = grind (arith, nat_tests)
+
+adopted_fits : (v : SiteView) (p : Pull) → is_ready v p ≡ true → RoomFits v.store → (g : ℕ) → (total (copy_pages g) (with_row copy_key (copy_adopted p) v.store.copies) + total (changed_pages g) v.store.instances ≤ pack_pages)
+adopted_fits v p ready h g = over (p.file.group == g) refl
+  where
+    more : total (copy_pages g) (with_row copy_key (copy_adopted p) v.store.copies) ≤ total (copy_pages g) v.store.copies + copy_pages g (copy_adopted p)
+    more = row_more (copy_pages g) copy_key (copy_adopted p) v.store.copies
+
+    free_is : p.file.group ≡ g → pages_of (length p.content) ≤ 3072 - (total (copy_pages g) v.store.copies + total (changed_pages g) v.store.instances)
+    free_is e = subst (λ (n : ℕ). pages_of (length p.content) ≤ 3072 - (total (copy_pages n) v.store.copies + total (changed_pages n) v.store.instances)) e (ready_room v p ready)
+
+    here : (a b x y z : ℕ) → a ≤ b + x → x ≡ z → z ≤ 3072 - (b + y) → b + y ≤ 3072 → a + y ≤ 3072
+    here a b x y z l e m n = omega (arith, l, e, m, n)
+
+    other : (a b x y : ℕ) → a ≤ b + x → x ≡ 0 → b + y ≤ 3072 → a + y ≤ 3072
+    other a b x y l e n = omega (arith, l, e, n)
+
+    over : (b : Bool) → (p.file.group == g) ≡ b → total (copy_pages g) (with_row copy_key (copy_adopted p) v.store.copies) + total (changed_pages g) v.store.instances ≤ 3072
+    over true e = here (total (copy_pages g) (with_row copy_key (copy_adopted p) v.store.copies)) (total (copy_pages g) v.store.copies) (copy_pages g (copy_adopted p)) (total (changed_pages g) v.store.instances) (pages_of (length p.content)) more (ap (λ (x : Bool). cond x (pages_of (length p.content)) 0) e) (free_is (test_same p.file.group g e)) (h g)
+    over false e = other (total (copy_pages g) (with_row copy_key (copy_adopted p) v.store.copies)) (total (copy_pages g) v.store.copies) (copy_pages g (copy_adopted p)) (total (changed_pages g) v.store.instances) more (ap (λ (x : Bool). cond x (pages_of (length p.content)) 0) e) (h g)
+
+adopts_pull_room : (f : Frame) (p : Pull) (v : SiteView) → is_ready v p ≡ true → SiteRooms v (adopts_pull f p v)
+adopts_pull_room f p v ready = record {
+  view = λ h. subst RoomFits (sym (noted_store f p (row table_group p.file.group v.tables) (without_pull p (with_store v (with_copy (copy_adopted p) v.store))))) (adopted_fits v p ready h);
+  disk = λ h g. less (total (copy_pages g) (with_row copy_key (copy_adopted p) v.store.copies)) (total (changed_pages g) v.store.instances) (adopted_fits v p ready h g);
+}
+  where
+    less : (a b : ℕ) → a + b ≤ 3072 → a ≤ 3072
+    less a b l = omega (arith, l)
+
+adopts_first_room : (f : Frame) (ps : List Pull) (v : SiteView) → SiteRooms v (adopts_first f ps v)
+adopts_first_room f [] v = rooming (quiet_keeps v)
+adopts_first_room f (p ∷ ps) v =
+    (elim (is_ready v p) as (λ t. is_ready v p ≡ t → SiteRooms v (elim t [ true ↦ elim (is_above_own p (copy_of v.store p.file)) [ true ↦ adopts_pull f p v | false ↦ adopts_first f ps (without_pull p v) ] | false ↦ adopts_first f ps v ])) [
+      | true ↦ λ e. (elim (is_above_own p (copy_of v.store p.file)) as (λ t. SiteRooms v (elim t [ true ↦ adopts_pull f p v | false ↦ adopts_first f ps (without_pull p v) ])) [
+        | true ↦ adopts_pull_room f p v e
+        | false ↦ adopts_first_room f ps (without_pull p v)
+      ])
+      | false ↦ λ e. adopts_first_room f ps v
+    ]) refl
+
+adopts_of_room : (c : Config) (me : ℕ) (e : Option InEpoch) (v : SiteView) → SiteRooms v (adopts_of c me e v)
+adopts_of_room c me None v = rooming (quiet_keeps v)
+adopts_of_room c me (Some e) v = adopts_first_room (frame_in c me v.boot e) v.pulls v
+
+starts_mend_of_keeps : (f : Frame) (t : SyncTable) (o : Option FileRow) (v : SiteView) → Keeps v (starts_mend_of f t o v)
+starts_mend_of_keeps f t None v = quiet_keeps v
+starts_mend_of_keeps f t (Some r) v = quietly v.store _ (on_call_talks f (Some f.epoch) 0 (call.Mend (row_file t r)) v.users).1
+
+starts_mend_keeps : (f : Frame) (t : SyncTable) (v : SiteView) → Keeps v (starts_mend f t v)
+starts_mend_keeps f t v =
+    elim (t.started && not (has_mend_in v.users t.group)) as (λ x. Keeps v (elim x [ true ↦ starts_mend_of f t (first_that (wants_mend v t) t.files) v | false ↦ quiet v ])) [
+      | true ↦ starts_mend_of_keeps f t (first_that (wants_mend v t) t.files) v
+      | false ↦ quiet_keeps v
+    ]
+
+starts_mends_keeps : (f : Frame) (ts : List SyncTable) (v : SiteView) → Keeps v (starts_mends_in f ts v)
+starts_mends_keeps f [] v = quiet_keeps v
+starts_mends_keeps f (t ∷ ts) v = then_keeps v (starts_mend f t v) (starts_mends_in f ts) (starts_mend_keeps f t v) (starts_mends_keeps f ts (starts_mend f t v).view)
+
+mends_of_keeps : (c : Config) (me : ℕ) (e : Option InEpoch) (v : SiteView) → Keeps v (starts_mends_of c me e v)
+mends_of_keeps c me None v = quiet_keeps v
+mends_of_keeps c me (Some e) v = starts_mends_keeps (frame_in c me v.boot e) v.tables v
+
+-- ---- how an epoch is formed ----
+
+leaves_of_keeps : (me : ℕ) (e : Option InEpoch) (v : SiteView) → Keeps v (leaves_of me e v)
+leaves_of_keeps me None v = quiet_keeps v
+leaves_of_keeps me (Some e) v = record { copies = refl; changed = λ g. nothing (total (changed_pages g) v.store.instances); none = refl }
+  where
+    nothing : (n : ℕ) → 0 ≤ n
+    nothing n = omega arith
+
+promises_keeps : (me : ℕ) (id : EpochId) (reach : Sites) (v : SiteView) → Keeps v (promises me id reach v)
+promises_keeps me id reach v = then_keeps v (leaves me v) (λ now. tells (Promises me id reach ∷ []) (promised_view id now)) (leaves_of_keeps me v.epoch v) (quietly _ None refl)
+
+begins_keeps : (me : ℕ) (links : Links) (number : ℕ) (polled : Links) (v : SiteView) → Keeps v (begins_round me links number polled v)
+begins_keeps me links number polled v = then_keeps v (promises me (round_id me number v) (reached links) v) (polls me (round_id me number v) polled) (promises_keeps me (round_id me number v) (reached links) v) (quietly _ None refl)
+
+starts_part_keeps : (me : ℕ) (links : Links) (e : Option InEpoch) (v : SiteView) → Keeps v (starts_part_of me links e v)
+starts_part_keeps me links None v = quiet_keeps v
+starts_part_keeps me links (Some e) v = begins_keeps me links (v.promised.number + 1) (boots_where (part_boot me links e.members)) v
+
+on_poll_keeps : (me : ℕ) (links : Links) (from from_boot : ℕ) (id : EpochId) (v : SiteView) → Keeps v (on_poll me links from from_boot id v)
+on_poll_keeps me links from from_boot id v =
+    elim (is_epoch_below v.promised id) as (λ t. Keeps v (elim t [ true ↦ and_then (promises me id (reached links) v) (λ now. sends (promise_packet me links from from_boot id now) now) | false ↦ sends (cond (same_epoch id v.promised && not v.installed) (promise_packet me links from from_boot id v) (refuse_packet me from from_boot id v)) v ])) [
+      | true ↦ then_keeps v (promises me id (reached links) v) (λ now. sends (promise_packet me links from from_boot id now) now) (promises_keeps me id (reached links) v) (quietly _ None refl)
+      | false ↦ quietly _ None refl
+    ]
+
+on_promise_keeps : (from from_boot : ℕ) (id : EpochId) (reach : Sites) (o : Option Round) (v : SiteView) → Keeps v (on_promise_of from from_boot id reach o v)
+on_promise_keeps from from_boot id reach None v = quiet_keeps v
+on_promise_keeps from from_boot id reach (Some r) v = quietly v.store None refl
+
+on_refuse_keeps : (me : ℕ) (links : Links) (id theirs : EpochId) (o : Option Round) (v : SiteView) → Keeps v (on_refuse_of me links id theirs o v)
+on_refuse_keeps me links id theirs None v = quiet_keeps v
+on_refuse_keeps me links id theirs (Some r) v =
+    elim (same_epoch r.id id) as (λ t. Keeps v (elim t [ true ↦ begins_round me links (theirs.number + 1) r.polled v | false ↦ quiet v ])) [
+      | true ↦ begins_keeps me links (theirs.number + 1) r.polled v
+      | false ↦ quiet_keeps v
+    ]
+
+joins_keeps : (c : Config) (me : ℕ) (id : EpochId) (m : Members) (v : SiteView) → Keeps v (joins c me id m v)
+joins_keeps c me id m v = quietly v.store None refl
+
+on_install_keeps : (c : Config) (me from from_boot : ℕ) (id : EpochId) (m : Members) (v : SiteView) → Keeps v (on_install c me from from_boot id m v)
+on_install_keeps c me from from_boot id m v =
+    elim (may_install me id m v) as (λ t. Keeps v (elim t [ true ↦ and_then (joins c me id m v) (λ now. sends (joined_packet me from from_boot id now) now) | false ↦ sends (cond (is_in id v.epoch) (joined_packet me from from_boot id v) []) v ])) [
+      | true ↦ then_keeps v (joins c me id m v) (λ now. sends (joined_packet me from from_boot id now) now) (joins_keeps c me id m v) (quietly _ None refl)
+      | false ↦ quietly _ None refl
+    ]
+
+on_joined_keeps : (from : ℕ) (id : EpochId) (v : SiteView) → Keeps v (on_joined from id v)
+on_joined_keeps from id v =
+    elim (is_in id v.epoch) as (λ b. Keeps v (quiet (cond b (record v { installs = without_row (λ s. s) from v.installs }) v))) [ true ↦ quietly _ None refl | false ↦ quiet_keeps v ]
+
+decides_if_keeps : (c : Config) (me : ℕ) (links : Links) (r : Round) (xs : List ℕ) (v : SiteView) → Keeps v (decides_if c me links r xs v)
+decides_if_keeps c me links r [] v =
+    let m : Members = chosen_members me v.boot r (chosen_set me links r) in
+    then_keeps v (joins c me r.id m v) (installs_all me r.id m) (joins_keeps c me r.id m v) (quietly _ None refl)
+decides_if_keeps c me links r (x ∷ xs) v = quietly v.store None refl
+
+passes_over_keeps : (c : Config) (me : ℕ) (links : Links) (o : Option Round) (v : SiteView) → Keeps v (passes_over_of c me links o v)
+passes_over_keeps c me links None v = quiet_keeps v
+passes_over_keeps c me links (Some r) v = decides_if_keeps c me links (passed_over links r) (unanswered (passed_over links r)) v
+
+ends_keeps : (c : Config) (me : ℕ) (links : Links) (v : SiteView) → Keeps v (ends_event c me links v)
+ends_keeps c me links v = then_keeps v (passes_over c me links v) (λ now. starts_mends_of c me now.epoch now) (passes_over_keeps c me links v.round v) (mends_of_keeps c me (passes_over c me links v).view.epoch (passes_over c me links v).view)
+
+-- ---- the step ----
+
+-- where the event itself may write, no adoption is tried
+writes_room : (c : Config) (me : ℕ) (links : Links) (v : SiteView) (o : Outcome SiteView) → SiteRooms v o → SiteRooms v (whole c me links o quiet)
+writes_room c me links v o h = rooms_then v.store o.view.store (ends_event c me links o.view).view.store o.written (ends_event c me links o.view).written h (ends_keeps c me links o.view)
+
+-- an adoption that is tried; the event itself writes nothing then
+tried_room : (c : Config) (me : ℕ) (links : Links) (v : SiteView) (o : Outcome SiteView) → Keeps v o → SiteRooms v (whole c me links o (adopts_in c me))
+tried_room c me links v o h =
+    let a : Outcome SiteView = adopts_in c me o.view in
+    let last : Outcome SiteView = ends_event c me links a.view in
+    rooms_then v.store a.view.store last.view.store a.written (first_written o.written last.written)
+    (then_rooms v.store o.view.store a.view.store o.written a.written h (adopts_of_room c me o.view.epoch o.view))
+    (calm_then a.view.store a.view.store last.view.store o.written last.written (calm_same a.view.store a.view.store o.written refl h.none) (ends_keeps c me links a.view))
+
+received_room : (c : Config) (me : ℕ) (links : Links) (p : Packet) (x : Body) (v : SiteView) → p.body ≡ x → StoreGood v.store → SiteRooms v (whole c me links (takes c me links p x v) (tries_at c me x))
+received_room c me links p body.Poll v e good = writes_room c me links v (takes c me links p body.Poll v) (rooming (on_poll_keeps me links p.from p.from_boot p.epoch v))
+received_room c me links p (body.Promise reach) v e good = writes_room c me links v (takes c me links p (body.Promise reach) v) (rooming (on_promise_keeps p.from p.from_boot p.epoch reach v.round v))
+received_room c me links p (body.Refuse promised) v e good = writes_room c me links v (takes c me links p (body.Refuse promised) v) (rooming (on_refuse_keeps me links p.epoch promised v.round v))
+received_room c me links p (body.Install members) v e good = writes_room c me links v (takes c me links p (body.Install members) v) (rooming (on_install_keeps c me p.from p.from_boot p.epoch members v))
+received_room c me links p body.Joined v e good = writes_room c me links v (takes c me links p body.Joined v) (rooming (on_joined_keeps p.from p.epoch v))
+received_room c me links p (body.Notify file kind set size stamp vector holder) v e good = tried_room c me links v (takes_framed c me p v.epoch v) (notify_keeps v.epoch)
+  where
+    notify_keeps : (o : Option InEpoch) → Keeps v (takes_framed c me p o v)
+    notify_keeps None = quiet_keeps v
+    notify_keeps (Some i) = subst (λ (y : Body). Keeps v (takes_inside (frame_in c me v.boot i) p.from y v)) (sym e)
+        (quietly v.store _ (on_notify_talks (frame_in c me v.boot i) p.from (copy_of v.store file) (record { file = file; kind = kind; set = set; size = size; stamp = stamp; vector = vector; holder = holder; content = [] }) v.pulls).1)
+received_room c me links p (body.Page file stamp page bytes) v e good = tried_room c me links v (takes_framed c me p v.epoch v) (page_keeps v.epoch)
+  where
+    page_keeps : (o : Option InEpoch) → Keeps v (takes_framed c me p o v)
+    page_keeps None = quiet_keeps v
+    page_keeps (Some i) = subst (λ (y : Body). Keeps v (takes_inside (frame_in c me v.boot i) p.from y v)) (sym e) (quietly v.store _ (on_page_talks (frame_in c me v.boot i) file stamp page bytes v.pulls).1)
+received_room c me links p _ v e good = writes_room c me links v (takes_framed c me p v.epoch v) (framed_room c me p v.epoch v good)
+
+ticks_room : (c : Config) (me : ℕ) (links : Links) (v : SiteView) → SiteRooms v (ticks_after c me links (adopts_in c me v))
+ticks_room c me links v = (let a : Outcome SiteView = adopts_in c me v in rooms_then v.store a.view.store (ends_event c me links a.view).view.store a.written (ends_event c me links a.view).written (adopts_of_room c me v.epoch v) (ends_keeps c me links a.view))
+
+pub step_room : (c : Config) (me : ℕ) (links : Links) (v : SiteView) (e : Event) → StoreGood v.store → SiteRooms v (step c me links v e)
+step_room c me links v (Calls process words) good = writes_room c me links v (takes_call c me process words v) (rooming (quietly v.store _ (on_call_talks (call_frame c me v.boot v.epoch) (epoch_id v.epoch) process words v.users).1))
+step_room c me links v (Receives p) good =
+    elim (is_dropped p v) as (λ t. SiteRooms v (elim t [ true ↦ quiet v | false ↦ whole c me links (takes c me links p p.body v) (tries_at c me p.body) ])) [
+      | true ↦ rooming (quiet_keeps v)
+      | false ↦ received_room c me links p p.body v refl good
+    ]
+step_room c me links v Ticks good = ticks_room c me links v
+step_room c me links v Parts good = writes_room c me links v (starts_part me links v) (rooming (starts_part_keeps me links v.epoch v))
+step_room c me links v Merges good = writes_room c me links v (starts_merge me links v) (rooming (begins_keeps me links (v.promised.number + 1) (boots_where (merge_boot me links)) v))
+step_room c me links v GivesUp good = writes_room c me links v (leaves me v) (rooming (leaves_of_keeps me v.epoch v))

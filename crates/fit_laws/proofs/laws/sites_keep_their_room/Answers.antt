@@ -1,0 +1,9 @@
+use Rattle.fit_laws.proofs.RoomRun.{next_room}
+use Rattle.fit_laws.proofs.Storing.{store_fits}
+use Rattle.fit_laws.proofs.laws.sites_keep_their_room.Goals as goal
+
+pub returns : goal.returns
+returns c = record {
+  room = λ config trace me links v e past fact h. next_room config trace me links v e past fact h;
+  storable = λ config trace f s past frame store h. store_fits config trace past f frame s store h;
+}
