@@ -22,6 +22,7 @@ use Rattle.input_order_laws.proofs.Order.{first_in_order}
 use Rattle.whole_run_laws.proofs.Disks.{disks_hold}
 use Rattle.whole_run_laws.proofs.Rounds.{large_rounds}
 use Rattle.headline_laws.specs.Holds.{RunHolds, RunHoldsThroughout}
+use Rattle.headline_laws.proofs.Comes.{run_comes}
 use Rattle.headline_laws.proofs.Texts.{printed_told}
 
 shown_rows : (lines : List ScheduleLine) → AreInOrder lines → RowsAreLawful (config_of lines) (trace_of (run lines))
@@ -41,6 +42,7 @@ run_holds_all lines order = record {
   rounds = large_rounds (config_of lines) lines;
   versions = run_versions_and_copies (config_of lines) lines;
   rows = shown_rows lines order;
+  comes = run_comes lines order (shown_rows lines order);
   lawful = λ none. run_lawful lines order none;
   formed = λ none. blocks_form lines order none;
   leaves = λ none. leaves_are_own lines order none;

@@ -5,7 +5,7 @@ use Rattle.schedule_lines.specs.declared.line.ScheduleLine.{ScheduleLine}
 use Rattle.the_run.specs.Runs.{run, printed}
 use Rattle.tree_model.specs.Folds.{told}
 use Rattle.lawful_trace.specs.Disks.{keeps_calls}
-use Rattle.lawful_trace.specs.Lawful.{IsLawful}
+use Rattle.lawful_trace.specs.Lawful.{EachComes, IsLawful}
 use Rattle.lawful_trace.specs.Orderly.{LeavesAreOwn, OrderlyBlocksForm}
 use Rattle.row_laws.specs.Shown.{trace_of}
 use Rattle.copy_laws.specs.Hold.{VersionsAndCopiesHold}
@@ -24,9 +24,11 @@ pub record RunHolds (lines : List ScheduleLine) : Type 0 where
   pub disks : DisksHold (config_of lines) (run lines)
   -- each record comes as the one tree of its epoch's members has it: each reply too
   pub rows : RowsAreLawful (config_of lines) (trace_of (run lines))
+  -- and is asked for by its line, which is one of these; their numbers ascend
+  pub comes : EachComes (config_of lines) lines (trace_of (run lines))
   -- an armed disk that stops nothing isn't written more than its calls allow
   pub calls : keeps_calls (config_of lines) lines (trace_of (run lines)) ≡ true
-  -- where the run passes no limit the whole trace is lawful: each record is asked for by the lines, and each line is told
+  -- where the run passes no limit the whole trace is lawful: besides, each line is told
   pub lawful : (run lines).over ≡ None → IsLawful lines (trace_of (run lines))
   -- and, in an orderly schedule, each block of lines forms its epochs
   pub formed : (run lines).over ≡ None → OrderlyBlocksForm lines (trace_of (run lines))
