@@ -1,6 +1,6 @@
 //! Which copies of a file are in conflict, and a table of copies of one file with its history, on which vectors and
-//! ancestry are proved to say the same. The synchronization site asks it which versions are kept. It knows nothing of
-//! packets, disks or contents.
+//! ancestry are proved to say the same. The laws of versions in every run stand on its definitions, and nothing runs it but
+//! tests. It knows nothing of packets, disks or contents.
 #![tactic(auto)]
 
 mod events;

@@ -1,5 +1,6 @@
-//! The records of a trace, their exact text, and the scripts of calls: what a call asks next, and what it is answered.
-//! Whoever writes or reads a trace stands on this room. It knows nothing of who may print which record when.
+//! The records of a trace and their exact text, with the calls, operations and replies that they name.
+//! Whoever writes or reads a trace stands on this room. It knows nothing of who may print which record when, or of what a
+//! call asks next.
 #![tactic(auto)]
 
 mod answers;
