@@ -38,12 +38,12 @@ use Rattle.orderly_traces.proofs.Circuits.{take_fits, self_uncut}
 use Rattle.orderly_traces.proofs.Forms.{order_fits}
 use Rattle.orderly_traces.proofs.Placed.{place_within}
 use Rattle.orderly_traces.proofs.Spans.{world, next_world, one_more, before_at}
-use Rattle.mend_step_laws.proofs.Rows.{HasRow, has_row}
+use Rattle.rest_laws.proofs.MendStepRows.{HasRow, has_row}
 use Rattle.one_tree_laws.specs.Places.{InsideFact, SiteFact, SiteIn, WorldFact}
 use Rattle.one_tree_laws.specs.Roles.{RolesDo}
 use Rattle.one_tree_laws.proofs.Run.{run_holds}
 use Rattle.one_tree_laws.proofs.Staying.{stays}
-use Rattle.store_step_laws.proofs.First.{four_groups}
+use Rattle.rest_laws.proofs.StoreStepFirst.{four_groups}
 use Rattle.rest_laws.proofs.Packs.{schedule_packs}
 use Rattle.rest_laws.proofs.Resting.{run_low, run_rests}
 use Rattle.rest_laws.proofs.Roles.{roles_do}

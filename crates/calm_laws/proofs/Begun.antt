@@ -32,8 +32,8 @@ use Rattle.store_laws.specs.Rests.{IsAsGranted}
 use Rattle.store_laws.proofs.Begun.{granted_named}
 use Rattle.store_laws.proofs.Numbers.{serial_key_eq}
 use Rattle.store_laws.proofs.Places.{plain_place}
-use Rattle.store_step_laws.proofs.Named.{named_low}
-use Rattle.store_step_laws.proofs.Resting.{store_rests}
+use Rattle.rest_laws.proofs.StoreStepNamed.{named_low}
+use Rattle.rest_laws.proofs.StoreStepResting.{store_rests}
 use Rattle.one_tree_laws.specs.Rest.{EachRest, Past}
 use Rattle.orderly_laws.proofs.Choosing.{among_sites}
 use Rattle.calm_laws.specs.Carrying.{IsMember, own_serial}
@@ -70,12 +70,12 @@ granted_of (x ∷ older) e key ss (inl h) = over x.told h
     over (Shown r) k = of r k
     over z k = absurd k
 
-record Begun (trace : List Line) (e : EpochId) (key at : ℕ) (file : FileId) : Type 0 where
-  inst : Serial
-  key_is : serial_key inst ≡ key
-  was : WasBegun trace at e inst file
+pub record Begun (trace : List Line) (e : EpochId) (key at : ℕ) (file : FileId) : Type 0 where
+  pub inst : Serial
+  pub key_is : serial_key inst ≡ key
+  pub was : WasBegun trace at e inst file
 
-begun_of : (trace : List Line) (e : EpochId) (key at : ℕ) (file : FileId) → WasBegunAt (past_of trace) at e key file → Begun trace e key at file
+pub begun_of : (trace : List Line) (e : EpochId) (key at : ℕ) (file : FileId) → WasBegunAt (past_of trace) at e key file → Begun trace e key at file
 begun_of [] e key at file h = absurd h
 begun_of (x ∷ older) e key at file (inr h) = (let g : Begun older e key at file = begun_of older e key at file h in record { inst = g.inst; key_is = g.key_is; was = inr g.was })
 begun_of (x ∷ older) e key at file (inl h) = over x.told h
@@ -85,7 +85,7 @@ begun_of (x ∷ older) e key at file (inl h) = over x.told h
     over z k = absurd k
 
 -- who begins an instance begins one of a site 1 to 16
-begun_low : (c : Config) (trace : List Line) → Past c trace → (s : ℕ) (e : EpochId) (i : Serial) (f : FileId) → WasBegun trace s e i f → i.us ≤ 16
+pub begun_low : (c : Config) (trace : List Line) → Past c trace → (s : ℕ) (e : EpochId) (i : Serial) (f : FileId) → WasBegun trace s e i f → i.us ≤ 16
 begun_low c trace past s e i f b = over (begun_asked c trace past.followed e s i f b)
   where
     over : WasNamed trace e i ⊎ IsAskedAt c trace e s i f → i.us ≤ 16

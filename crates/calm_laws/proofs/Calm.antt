@@ -1,12 +1,14 @@
 -- A calm round: its ticks put all requests and reports under way, each delivery hands on what it carries, and at its end nobody waits.
-use Rattle.std.proofs.Common.{◌≡◌, ℕ, zero, suc, ◌+◌, ◌-◌, ◌≤◌, ◌⊎◌, Option, Some, None, refl, sym, ◌∙◌, ap, subst, inl, inr, arith}
+use Rattle.std.proofs.Common.{◌≡◌, ℕ, zero, suc, ◌+◌, ◌-◌, ◌≤◌, ◌⊎◌, List, Option, Some, None, refl, sym, ◌∙◌, ap, subst, inl, inr, arith}
 use Rattle.locus_ids.specs.declared.config.Config.{Config}
+use Rattle.schedule_lines.specs.declared.line.ScheduleLine.{ScheduleLine}
 use Rattle.wire_messages.specs.declared.body.Body.{Body}
 use Rattle.wire_messages.specs.declared.body.Body.TheVariants as body
 use Rattle.wire_messages.specs.declared.packet.Packet.{Packet}
 use Rattle.role_steps.specs.Requests.{request_packets}
 use Rattle.role_steps.specs.Storage.{report_of}
 use Rattle.role_steps.specs.Views.{packet, sync_site, all_sites}
+use Rattle.role_steps.specs.declared.rounds.InEpoch.{InEpoch}
 use Rattle.role_steps.specs.declared.users.WaitingCall.{WaitingCall}
 use Rattle.the_run.specs.Kept.{Among}
 use Rattle.the_run.specs.Runs.{arrives, next_packet, ticks_to, run_in}
@@ -15,7 +17,7 @@ use Rattle.lawful_trace.specs.Places.{lines_before}
 use Rattle.epoch_laws.proofs.Run.{run_good}
 use Rattle.orderly_laws.specs.Calm.{IsInside, AreTogether, delivers_next, delivered}
 use Rattle.calm_laws.specs.Carrying.{IsMember, frame_of, Carries, IsCarried, HasReported, Reports, IsAllCarried}
-use Rattle.calm_laws.specs.Rounds.{after, IsInRound, CalmLeft, CalmRoundsLeaveNobody}
+use Rattle.calm_laws.specs.Rounds.{after, IsInRound, IsCalm, CalmLeft, CalmRoundsLeaveNobody}
 use Rattle.calm_laws.proofs.Deliveries.{one_delivery}
 use Rattle.calm_laws.proofs.Ending.{nobody_waits}
 use Rattle.calm_laws.proofs.Events.{Under}
@@ -25,6 +27,7 @@ use Rattle.calm_laws.proofs.Rounds.{delivered_kept, delivered_then, one_more}
 use Rattle.calm_laws.proofs.Packed.{all_go}
 use Rattle.calm_laws.proofs.StartsRun.{groups_start}
 use Rattle.calm_laws.proofs.Ticks.{HasAsked, over_round, ticks_ask, sites_apart}
+use Rattle.calm_laws.proofs.SentFacts.{known}
 
 -- ---- deliveries ----
 
@@ -36,14 +39,19 @@ within_before c n j k w le h =
 
 -- ---- the round ----
 
-pub calm_round : (c : Config) → CalmLeft c → CalmRoundsLeaveNobody c
-calm_round c left lines n e k h = nobody_waits c e (after c lines n k) (h.each k (omega arith)) h.reach h.within h.ended (groups_start c lines n (after c lines n k) (round k (omega arith))) (carried k (omega arith))
+-- after each of its deliveries the world is in it
+pub calm_in_round : (c : Config) (lines : List ScheduleLine) (n : ℕ) (e : InEpoch) (k j : ℕ) → IsCalm c lines n e k → j ≤ k → IsInRound c lines n (after c lines n j)
+calm_in_round c lines n e k j h le = record { fit = h.fit; packs = h.packs; groups = h.groups; few = few h.few; most = h.most; settles = h.settles; deliveries = j; is_world = refl }
   where
-    few : (j : ℕ) → j ≤ k → k ≤ h.most → j ≤ h.most
-    few j le top = omega (arith, le, top)
+    few : k ≤ h.most → j ≤ h.most
+    few top = omega (arith, le, top)
 
+-- and all that waits is carried
+pub round_carries : (c : Config) → CalmLeft c → (lines : List ScheduleLine) (n : ℕ) (e : InEpoch) (k j : ℕ) → IsCalm c lines n e k → j ≤ k → IsAllCarried c e (after c lines n j)
+round_carries c left lines n e k j h low = carried j low
+  where
     round : (j : ℕ) → j ≤ k → IsInRound c lines n (after c lines n j)
-    round j le = record { fit = h.fit; packs = h.packs; groups = h.groups; few = few j le h.few; most = h.most; settles = h.settles; deliveries = j; is_world = refl }
+    round j le = calm_in_round c lines n e k j h le
 
     w : World
     w = run_in c (lines_before lines n)
@@ -61,7 +69,7 @@ calm_round c left lines n e k h = nobody_waits c e (after c lines n k) (h.each k
     start = record {
       calls = λ s v x m here a. call s x (request_carries c e (place_at first) s x x.asking m ((all_go c) lines n e first (round 0 (omega arith)) (h.each 0 (omega arith)) s v x m here a)) (λ p b. (asked s m).calls v x here a p b);
       reports = λ group css s sync m packed. (let i : IsInside first e s = (h.each 0 (omega arith)).inside s m in
-          report group css s sync m i (left.known lines n e first (round 0 (omega arith)) (h.each 0 (omega arith)) group css s i.view sync m packed i.here));
+          report group css s sync m i (known c lines n e first (round 0 (omega arith)) (h.each 0 (omega arith)) group css s i.view sync m packed i.here));
     }
       where
         call : (s : ℕ) (x : WaitingCall) (r : Requested c e (place_at first) s x x.asking) → ((p : Packet) → Among p (request_packets (frame_of c e s) x x.asking) → Under first.underway p) → IsCarried c e (place_at first) first.underway s x
@@ -87,3 +95,6 @@ calm_round c left lines n e k h = nobody_waits c e (after c lines n k) (h.each k
     carried : (j : ℕ) → j ≤ k → IsAllCarried c e (after c lines n j)
     carried zero le = start
     carried (suc j) le = carried_on j le (carried j (omega (arith, le)))
+
+pub calm_round : (c : Config) → CalmLeft c → CalmRoundsLeaveNobody c
+calm_round c left lines n e k h = nobody_waits c e (after c lines n k) (h.each k (omega arith)) h.reach h.within h.ended (groups_start c lines n (after c lines n k) (calm_in_round c lines n e k k h (omega arith))) (round_carries c left lines n e k k h (omega arith))

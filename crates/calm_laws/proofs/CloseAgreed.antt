@@ -28,7 +28,7 @@ use Rattle.tree_laws.specs.Stores.{InstanceFact, RunsAs, StageFact}
 use Rattle.holding_laws.proofs.Released.{released_named, released_shut}
 use Rattle.store_laws.proofs.Numbers.{serial_key_eq}
 use Rattle.store_laws.proofs.Tabled.{latest_other, row_found}
-use Rattle.store_step_laws.proofs.Resting.{store_rests}
+use Rattle.rest_laws.proofs.StoreStepResting.{store_rests}
 use Rattle.one_tree_laws.specs.Places.{InsideFact, NumberedFact}
 use Rattle.one_tree_laws.specs.Rest.{Past}
 use Rattle.epoch_laws.specs.Forming.{FormsNone}

@@ -27,7 +27,7 @@ use Rattle.tree_laws.specs.Packets.{serial_of}
 use Rattle.tree_laws.specs.Serials.{asked_now}
 use Rattle.tree_laws.specs.Following.{IsFollowed}
 use Rattle.tree_laws.specs.Users.{own_call, AskingIs, WaitingFact}
-use Rattle.answer_laws.proofs.Askers.{close_had, one_has}
+use Rattle.store_laws.proofs.AnswerAskers.{close_had, one_has}
 use Rattle.calm_laws.specs.Carrying.{frame_of, own_serial, Goes, CarriesClose, AnswersClose, Carries}
 use Rattle.calm_laws.specs.Rounds.{CarriesOn, IsCloseDone}
 use Rattle.calm_laws.proofs.AnswerRows.{HasTaken, AnswerHandler, answer_row, waiting_fact}

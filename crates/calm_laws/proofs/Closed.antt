@@ -27,7 +27,7 @@ use Rattle.the_run.specs.Steps.{at_table_of, at_table_with, is_opened_in, takes_
 use Rattle.the_run.specs.Worlds.{World, place_at}
 use Rattle.tree_laws.specs.Tables.{RowFact}
 use Rattle.store_laws.proofs.Numbers.{serial_key_eq}
-use Rattle.store_step_laws.proofs.Resting.{store_rests}
+use Rattle.rest_laws.proofs.StoreStepResting.{store_rests}
 use Rattle.one_tree_laws.specs.Places.{InsideFact}
 use Rattle.one_tree_laws.proofs.Inside.{table_here}
 use Rattle.one_tree_laws.proofs.Parts.{tables_rise}
@@ -109,7 +109,7 @@ tables_to S f ss inst made v rise = over (first_that (is_opened_in inst) v.table
     over (Some t) q = put_to S v.tables t (on_closed f ss inst made t).view rise (first_among (is_opened_in inst) v.tables t q) (closed_to S f ss inst made t)
 
 -- the storage site is told
-told : (f : Frame) (ss : ℕ) (r : OpenRow) (made : Option MadeVersion) (z : OpenStage) (t : SyncTable) → IsGrantedStage z → Among (packet f ss (body.ClosedOk r.inst)) (closes_at f ss r made z t).sent
+pub told : (f : Frame) (ss : ℕ) (r : OpenRow) (made : Option MadeVersion) (z : OpenStage) (t : SyncTable) → IsGrantedStage z → Among (packet f ss (body.ClosedOk r.inst)) (closes_at f ss r made z t).sent
 told f ss r made stage.Granted t k = among_right (packet f ss (body.ClosedOk r.inst)) (published_notices f r made (published ss r made (with_open (record r { stage = stage.Ended }) t))) (closed_ok f ss r.inst) (inl refl)
 told f ss r made stage.Ended t k = inl refl
 told f ss r made stage.Asked t k = absurd k

@@ -45,6 +45,7 @@ use Rattle.calm_laws.proofs.OpenAtStorage.{open_at_storage_row}
 use Rattle.calm_laws.proofs.Opened.{opened_row}
 use Rattle.calm_laws.proofs.Packed.{all_go}
 use Rattle.calm_laws.proofs.Rounds.{in_round}
+use Rattle.calm_laws.proofs.SentFacts.{granted}
 
 -- ---- a packet that nobody of the epoch takes ----
 
@@ -141,7 +142,7 @@ by_kind c left lines n e x w d old = over x.packet.body refl
     over (body.Op serial k o seen) is = operation_row c (all_go c) (λ lines n e w round together. operations_done c lines n e w round (left.operations lines n e w round together)) lines n e x w d (subst IsOp (sym is) tt) old
     over (body.OpDone serial k result) is = op_answer_row c (all_go c) lines n e x w d (subst IsOpDone (sym is) tt) old
     over (body.Close serial) is = close_request_row c (all_go c) lines n e x w d (subst IsClose (sym is) tt) old
-    over (body.Closed inst made) is = closed_row c (all_go c) left.granted lines n e x w d (subst IsClosed (sym is) tt) old
+    over (body.Closed inst made) is = closed_row c (all_go c) (granted c) lines n e x w d (subst IsClosed (sym is) tt) old
     over (body.ClosedOk inst) is = close_agreed_row c (all_go c) lines n e x w d (subst IsClosedOk (sym is) tt) old
     over (body.CloseDone serial answer) is = close_answer_row c (all_go c) lines n e x w d (subst IsCloseDone (sym is) tt) old
     over (body.Look call process request take file what) is = look_row c (all_go c) left.looks lines n e x w d (subst IsLook (sym is) tt) old

@@ -42,7 +42,7 @@ use Rattle.lawful_trace.specs.TreeRows.{granted_group}
 use Rattle.tree_laws.specs.Following.{IsFollowed, MayTell}
 use Rattle.tree_laws.specs.Past.{ActRecord, Printed, WasDone}
 use Rattle.tree_laws.specs.Printed.{entries}
-use Rattle.answer_laws.proofs.Done.{act_next, done_low}
+use Rattle.store_laws.proofs.AnswerDone.{act_next, done_low}
 use Rattle.calm_laws.proofs.Operation.{OperationsAreDone}
 use Rattle.one_tree_laws.specs.Rest.{Past}
 use Rattle.calm_laws.specs.Carrying.{frame_of}

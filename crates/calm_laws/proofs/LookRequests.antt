@@ -175,7 +175,7 @@ module _ (c : Config) (e : InEpoch) (css s : ℕ) (y : WaitingCall) (file : File
   On o = LooksOn c e css s y file w take o.sent
 
   -- in a group that has started
-  taken : (t : SyncTable) → KnowsLook c e css s y file w take t → On (takes_look f s l t)
+  pub taken : (t : SyncTable) → KnowsLook c e css s y file w take t → On (takes_look f s l t)
   taken t k = by_last (row look_key (process_key s y.process) t.looks) refl
     where
       by_last : (o : Option LastLook) → row look_key (process_key s y.process) t.looks ≡ o → On (after_last f s l o t)

@@ -26,7 +26,7 @@ use Rattle.tree_laws.specs.Packets.{serial_of}
 use Rattle.tree_laws.specs.Serials.{asked_now}
 use Rattle.tree_laws.specs.Following.{IsFollowed}
 use Rattle.tree_laws.specs.Users.{own_call, AskingIs, WaitingFact}
-use Rattle.answer_laws.proofs.Askers.{op_had, one_has}
+use Rattle.store_laws.proofs.AnswerAskers.{op_had, one_has}
 use Rattle.calm_laws.specs.Carrying.{frame_of, CarriesOp, AnswersOp, Carries}
 use Rattle.calm_laws.specs.Rounds.{CarriesOn, IsOpDone}
 use Rattle.calm_laws.proofs.AnswerRows.{HasTaken, AnswerHandler, answer_row, waiting_fact}

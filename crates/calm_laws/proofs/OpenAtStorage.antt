@@ -52,8 +52,8 @@ use Rattle.store_laws.proofs.Begun.{granted_named}
 use Rattle.store_laws.proofs.Numbers.{serial_key_eq}
 use Rattle.store_laws.proofs.Places.{open_is}
 use Rattle.store_laws.proofs.Tabled.{row_found}
-use Rattle.store_step_laws.proofs.Resting.{store_rests}
-use Rattle.table_laws.proofs.Shutting.{shut_file}
+use Rattle.rest_laws.proofs.StoreStepResting.{store_rests}
+use Rattle.rest_laws.proofs.TableShutting.{shut_file}
 use Rattle.one_tree_laws.specs.Places.{InsideFact}
 use Rattle.one_tree_laws.specs.Rest.{Past}
 use Rattle.one_tree_laws.specs.Roles.{TableHere}

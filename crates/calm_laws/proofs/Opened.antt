@@ -30,7 +30,7 @@ use Rattle.the_run.specs.Steps.{at_table_of, at_table_with, is_opened_in, takes_
 use Rattle.the_run.specs.Worlds.{place_at}
 use Rattle.tree_laws.specs.Tables.{RowFact}
 use Rattle.store_laws.proofs.Numbers.{serial_key_eq}
-use Rattle.store_step_laws.proofs.Resting.{store_rests}
+use Rattle.rest_laws.proofs.StoreStepResting.{store_rests}
 use Rattle.one_tree_laws.specs.Places.{InsideFact}
 use Rattle.one_tree_laws.specs.Rest.{Past}
 use Rattle.one_tree_laws.proofs.Inside.{table_here}

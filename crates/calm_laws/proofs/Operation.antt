@@ -70,13 +70,13 @@ use Rattle.tree_laws.proofs.Alone.{asking as asking_now}
 use Rattle.tree_laws.proofs.Awaiting.{IsHeldBy, all_have, held_named}
 use Rattle.tree_laws.proofs.Grants.{open_named}
 use Rattle.tree_laws.proofs.OneBoot.{boot_where_inside, one_boot}
-use Rattle.process_laws.specs.Operations.{OpsAre}
-use Rattle.process_laws.proofs.Granting.{GrantIs, granted_is, held_us}
-use Rattle.process_laws.proofs.OperationsRun.{operations_counted}
-use Rattle.process_laws.proofs.Taken.{back_in}
-use Rattle.process_laws.proofs.Unreleased.{unreleased}
-use Rattle.answer_laws.proofs.Askers.{Rests, close_had, one_has, op_had, rests_or_clear}
-use Rattle.answer_laws.proofs.Done.{act_next, done_low, done_named}
+use Rattle.order_laws.specs.ProcessOperations.{OpsAre}
+use Rattle.order_laws.proofs.ProcessGranting.{GrantIs, granted_is, held_us}
+use Rattle.order_laws.proofs.ProcessOperationsRun.{operations_counted}
+use Rattle.order_laws.proofs.ProcessTaken.{back_in}
+use Rattle.order_laws.proofs.ProcessUnreleased.{unreleased}
+use Rattle.store_laws.proofs.AnswerAskers.{Rests, close_had, one_has, op_had, rests_or_clear}
+use Rattle.store_laws.proofs.AnswerDone.{act_next, done_low, done_named}
 use Rattle.holding_laws.proofs.Released.{released_shut}
 use Rattle.begun_laws.specs.Asked.{AskedBegun}
 use Rattle.orderly_laws.specs.Calm.{IsInside, AreTogether}

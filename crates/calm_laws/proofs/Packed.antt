@@ -27,7 +27,7 @@ use Rattle.tree_laws.specs.Doing.{FrameFact}
 use Rattle.tree_laws.specs.Instances.{IsOpening}
 use Rattle.tree_laws.specs.Printed.{entries}
 use Rattle.tree_laws.specs.Users.{own_call, AskingIs, WaitingFact}
-use Rattle.process_laws.proofs.Synchronizing.{sync_same}
+use Rattle.order_laws.proofs.ProcessSynchronizing.{sync_same}
 use Rattle.orderly_laws.specs.Calm.{IsInside}
 use Rattle.orderly_laws.proofs.Places.{view_eq}
 use Rattle.calm_laws.specs.Rounds.{GoesToMember, IsStoredAtMember}
@@ -81,7 +81,7 @@ some_site : (o : Option ℕ) → is_some o ≡ true → (s : ℕ) × (o ≡ Some
 some_site None e = absurd (true_false (sym e))
 some_site (Some s) e = (s, refl)
 
-sync_of : (c : Config) (t : List Line) (f : Frame) (group : ℕ) → FrameFact c t f → is_packed_in c (entries t) (Some f.epoch) group ≡ true → (css : ℕ) × (sync_site c f.members group ≡ Some css)
+pub sync_of : (c : Config) (t : List Line) (f : Frame) (group : ℕ) → FrameFact c t f → is_packed_in c (entries t) (Some f.epoch) group ≡ true → (css : ℕ) × (sync_site c f.members group ≡ Some css)
 sync_of c t f group frame e = some_site (sync_site c f.members group) (ap is_some (sync_same c f.members group) ∙ (ap (λ (m : Option Members). is_some (tree.sync_site c group m)) (sym frame.members_are) ∙ e))
 
 look_goes : (c : Config) (t : List Line) (me : ℕ) (d : CallId) (p : ℕ → Bool) (w : Want) (file : FileId) (what : _) (take : ℕ) → IsPacked p w → AskingIs c t me d w (asking.Look file what take) → p file.group ≡ true

@@ -12,13 +12,13 @@ use Rattle.role_steps.specs.declared.users.Asking.{Asking}
 use Rattle.role_steps.specs.declared.users.Asking.TheVariants as asking
 use Rattle.the_run.specs.Worlds.{World, place_at}
 use Rattle.tree_model.specs.Packs as tree
-use Rattle.epoch_tree_laws.proofs.Starting.{member_same}
+use Rattle.rest_laws.proofs.EpochTreeStarting.{member_same}
 use Rattle.tree_laws.specs.Doing.{FrameFact}
 use Rattle.tree_laws.specs.Past.{WasBegun}
 use Rattle.tree_laws.specs.Printed.{entries}
 use Rattle.begun_laws.specs.Asked.{AskedBegun, IsBegun}
-use Rattle.epoch_tree_laws.proofs.Members.{Joined, joined_as}
-use Rattle.epoch_tree_laws.proofs.Started.{begun_joined}
+use Rattle.rest_laws.proofs.EpochTreeMembers.{Joined, joined_as}
+use Rattle.rest_laws.proofs.EpochTreeStarted.{begun_joined}
 use Rattle.one_tree_laws.specs.Rest.{Past}
 use Rattle.orderly_laws.specs.Calm.{IsInside, AreTogether}
 use Rattle.orderly_laws.proofs.Places.{view_eq}

@@ -20,7 +20,7 @@ use Rattle.calm_laws.proofs.Members.{sync_is}
 
 -- ---- lists ----
 
-left_in : (p : ℕ → Bool) (k : ℕ) (xs : List ℕ) → Among k xs → p k ≡ true → Among k (filter p xs)
+pub left_in : (p : ℕ → Bool) (k : ℕ) (xs : List ℕ) → Among k xs → p k ≡ true → Among k (filter p xs)
 left_in p k [] a h = a
 left_in p k (x ∷ xs) a h = over (p x) refl a (λ b. left_in p k xs b h)
   where
@@ -61,14 +61,14 @@ below_or (suc a) (suc b) = over (below_or a b)
     over (inl h) = inl (omega (arith, h))
     over (inr h) = inr (omega (arith, h))
 
-packed_low : (c : Config) (group s : ℕ) → has (pack_sites c group) s ≡ true → group < length c.packs
+pub packed_low : (c : Config) (group s : ℕ) → has (pack_sites c group) s ≡ true → group < length c.packs
 packed_low c group s h = over (below_or group (length c.packs))
   where
     over : (group < length c.packs) ⊎ (length c.packs ≤ group) → group < length c.packs
     over (inl k) = k
     over (inr k) = absurd (true_false (sym h ∙ (ap (λ (x : Sites). has x s) (beyond c.packs group (record { 0 = 0 }) k) ∙ none_has s)))
 
-listed : (group : ℕ) → group < 4 → Among group all_groups
+pub listed : (group : ℕ) → group < 4 → Among group all_groups
 listed zero h = inl refl
 listed (suc zero) h = inr (inl refl)
 listed (suc (suc zero)) h = inr (inr (inl refl))

@@ -269,12 +269,10 @@ IsOther (body.LookSs us call process request take file what stamp) = ⊥
 IsOther (body.LookDone call request take answer) = ⊥
 IsOther _ = Unit {0}
 
--- ---- what no law gives yet ----
+-- ---- what is so in every round: proofs/CalmAnswerAnswered has it (calm_left) ----
 
 pub record CalmLeft (c : Config) : Type 0 where
   -- what stands in each world of a round in which all members are together
-  pub known : (lines : List ScheduleLine) (n : ℕ) (e : InEpoch) (w : World) → IsInRound c lines n w → AreTogether w e → ReportsAreKnown c e w
-  pub granted : (lines : List ScheduleLine) (n : ℕ) (e : InEpoch) (w : World) → IsInRound c lines n w → AreTogether w e → ClosesAreGranted c e w
   pub looks : (lines : List ScheduleLine) (n : ℕ) (e : InEpoch) (w : World) → IsInRound c lines n w → AreTogether w e → LooksAreKnown c e w
   pub operations : (lines : List ScheduleLine) (n : ℕ) (e : InEpoch) (w : World) → IsInRound c lines n w → AreTogether w e → OperationsAreLawful c e w
   -- each kind of packet that comes hands on what it carries

@@ -1,3 +1,1 @@
-pub mod FlatWalks
-pub mod Places
 pub mod PlainWords

@@ -1,6 +1,5 @@
 -- The words of a command are plain, and which lists of words are none.
 use Rattle.std.proofs.Common.{◌≡◌, ◌≤◌, ◌<◌, ◌^◌, ◌⊎◌, ◌==◌, ℕ, zero, suc, true, not, List, [], ◌∷◌, Some, get_or, length, codes, refl, sym, subst, arith, ⊎_elim}
-use Rattle.std.specs.Prelude.{slice_get}
 use Rattle.std.specs.Char.{encode_utf8}
 use Rattle.std.specs.Fmt.{decimal}
 use Rattle.std.specs.List.{All}
@@ -12,7 +11,7 @@ use Rattle.std.proofs.lemmas.Str.{IsUtf8-from_ascii}
 use Rattle.std.proofs.lemmas.Str.Parse.{IsNumeralModel, not_in_digits, numerals_by_value, tells_digits}
 use Rattle.command_words.specs.declared.command.Command.{Command}
 use Rattle.command_words.specs.declared.command.Command.TheVariants.{Make, Run, Tree}
-use Rattle.command_words.specs.FlatCommand.{IsPlain, begins_plainly}
+use Rattle.given_words.specs.Plain.{IsPlain, begins_plainly}
 use Rattle.command_words.specs.Words.{IsCommand}
 
 own : IsNumeralModel (AllDigits 10) (digits_value 10)
@@ -67,12 +66,3 @@ out_of_range a b count small e out (Make n m) h =
     let low : m < 2 ^ 64 = omega (arith, h.3) in
     let same : count ≡ m = decimal_injective count m small low text in
     ⊎_elim (λ (l : count < 1). omega (arith, h.2)) (λ (g : (1 ≤ count) × (2000 < count)). omega (arith, h.3, g.1)) out
-
--- three words that are found are all
-pub three_words : (words : List (List ℕ)) (a b c : List ℕ) → slice_get words 0 ≡ Some a → slice_get words 1 ≡ Some b → slice_get words 2 ≡ Some c
-    → length words ≤ 3 → a ∷ b ∷ c ∷ [] ≡ words
-three_words [] a b c e f g few = cc
-three_words (x ∷ []) a b c e f g few = cc
-three_words (x ∷ y ∷ []) a b c e f g few = cc
-three_words (x ∷ y ∷ z ∷ []) a b c e f g few = cc
-three_words (x ∷ y ∷ z ∷ w ∷ rest) a b c e f g few = absurd (omega arith)

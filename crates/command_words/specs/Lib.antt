@@ -1,2 +1,1 @@
-pub mod FlatCommand
 pub mod Words

@@ -1,10 +1,11 @@
 ghost use Rattle.std.specs.Prelude.{◌≡◌, ◌∷◌, [], codes, Err, IfOk};
-ghost use Rattle.command_words.specs.FlatCommand.{words_given};
+ghost use Rattle.given_words.specs.Plain.{words_given};
 ghost use Rattle.command_words.specs.Words.{IsCommand};
 
-use crate::flat_command::{Given, given_by};
 use crate::numbers::number_in;
 use crate::plain_words::plain_words;
+use flat_words::given_by;
+use given_words::{Given, GivenFault};
 use locus_ids::{Names, NoMemory};
 use std::alloc::{AllocError, AllocFailed, Global};
 use thiserror::Error;
@@ -35,8 +36,11 @@ pub fn read_words(alloc: Global, words: &Names) -> Result<Command, WordsFault>
     ensures bad { result ≡ Err WordsFault.Bad → (c : Command) → IsCommand words.now c → ⊥ }
 {
     let texts = plain_words(alloc, words)?;
-    let given = given_by(alloc, texts.as_slice())?;
-    command_given(alloc, &given)
+    match given_by(alloc, texts.as_slice()) {
+        Ok(given) => command_given(alloc, &given),
+        Err(GivenFault::Count) => Err(WordsFault::Bad),
+        Err(GivenFault::NoMemory) => Err(WordsFault::NoMemory),
+    }
 }
 
 fn command_given(alloc: Global, given: &Given) -> Result<Command, WordsFault>

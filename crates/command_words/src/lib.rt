@@ -3,7 +3,6 @@
 #![tactic(auto)]
 
 mod command;
-mod flat_command;
 mod numbers;
 mod plain_words;
 

@@ -1,7 +1,7 @@
 ghost use Rattle.std.specs.Prelude.{◌≡◌, Err, IfNone, IfOk, IfSome};
 ghost use Rattle.std.specs.List.{All};
-ghost use Rattle.clap.specs.Walk.{texts};
-ghost use Rattle.command_words.specs.FlatCommand.{IsPlain};
+ghost use Rattle.given_words.specs.Plain.{texts};
+ghost use Rattle.given_words.specs.Plain.{IsPlain};
 
 use crate::command::WordsFault;
 use locus_ids::Names;

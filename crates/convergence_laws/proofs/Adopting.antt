@@ -15,12 +15,12 @@ use Rattle.convergence_laws.proofs.Lists.{row_without}
 
 -- ---- what the adopting site notes ----
 
-record Notes (v : SiteView) (n : SiteView) : Type 0 where
-  store : n.store ≡ v.store
-  pulls : n.pulls ≡ v.pulls
-  files : KeepsFiles v.tables n.tables
+pub record Notes (v : SiteView) (n : SiteView) : Type 0 where
+  pub store : n.store ≡ v.store
+  pub pulls : n.pulls ≡ v.pulls
+  pub files : KeepsFiles v.tables n.tables
 
-notes : (f : Frame) (p : Pull) (v : SiteView) → Notes v (notes_own f p v)
+pub notes : (f : Frame) (p : Pull) (v : SiteView) → Notes v (notes_own f p v)
 notes f p v = by_table (row table_group p.file.group v.tables) refl
   where
     by_table : (o : Option SyncTable) → row table_group p.file.group v.tables ≡ o → Notes v (notes_own_at f p o v)

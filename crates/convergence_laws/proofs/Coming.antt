@@ -180,7 +180,7 @@ roundless c lines n e x w d = no_round w x.packet.to d.view e (good_in c lines n
 
 -- ---- what notices name then ----
 
-ascends_in : (c : Config) (lines : List ScheduleLine) (n : ℕ) (w : World) → IsInRound c lines n w → NumbersAscend w
+pub ascends_in : (c : Config) (lines : List ScheduleLine) (n : ℕ) (w : World) → IsInRound c lines n w → NumbersAscend w
 ascends_in c lines n w h = in_round c NumbersAscend (ascend_kept c) (first_ascends c) lines n w h
 
 pub record Names (e : InEpoch) (s : ℕ) (x : Numbered) (under after more : List Numbered) : Type 0 where

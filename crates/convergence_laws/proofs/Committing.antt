@@ -1,19 +1,25 @@
--- An Op or a Close comes to a storage site, which may commit: a version that is on its way to another member stays so.
-use Rattle.std.proofs.Common.{◌≡◌, List, Some, refl, sym, ◌∙◌, ap, subst}
+-- An Op or a Close comes to a storage site, which may commit: a version that is on its way to a member stays so.
+use Rattle.std.proofs.Common.{◌≡◌, ℕ, ◌<◌, List, Some, refl, sym, ◌∙◌, ap, subst}
 use Rattle.locus_ids.specs.declared.config.Config.{Config}
+use Rattle.locus_ids.specs.declared.ids.FileId.{FileId}
+use Rattle.schedule_lines.specs.declared.line.ScheduleLine.{ScheduleLine}
 use Rattle.wire_messages.specs.declared.body.Body.{Body}
 use Rattle.wire_messages.specs.declared.body.Body.TheVariants as body
 use Rattle.role_steps.specs.Views.{SiteView}
+use Rattle.role_steps.specs.declared.rounds.InEpoch.{InEpoch}
 use Rattle.role_steps.specs.declared.synchronizing.SyncTable.{SyncTable}
+use Rattle.role_steps.specs.declared.synchronizing.VersionRow.{VersionRow}
 use Rattle.the_run.specs.Runs.{arrives}
 use Rattle.the_run.specs.Steps.{takes_inside, ends_event, tries_at}
-use Rattle.the_run.specs.Worlds.{place_at}
+use Rattle.the_run.specs.Worlds.{World, Numbered, place_at}
 use Rattle.the_run.proofs.Boots.{at_each}
 use Rattle.epoch_laws.specs.Forming.{FormsNone}
-use Rattle.calm_laws.specs.Carrying.{frame_of}
-use Rattle.convergence_laws.specs.Converging.{GoesOn, GoesOnHere, MayCommit}
-use Rattle.convergence_laws.specs.Offers.{IsOnItsWay}
+use Rattle.calm_laws.specs.Carrying.{IsMember, frame_of}
+use Rattle.calm_laws.specs.Rounds.{Delivery}
+use Rattle.convergence_laws.specs.Converging.{MayCommit}
+use Rattle.convergence_laws.specs.Offers.{IsFree, IsOnItsWay}
 use Rattle.convergence_laws.proofs.Coming.{comes, Ends, ends_keep, inside_view, roundless}
+use Rattle.convergence_laws.proofs.CommitsHere.{commits_here}
 use Rattle.convergence_laws.proofs.Copying.{the_links, view_then, names_elsewhere, stays_on}
 use Rattle.convergence_laws.proofs.Files.{KeepsFiles, files_itself}
 
@@ -23,8 +29,9 @@ record KeepsTables (v u : SiteView) : Type 0 where
   round : u.round ≡ v.round
   epoch : u.epoch ≡ v.epoch
 
-pub committing_goes_on : (c : Config) → GoesOnHere c MayCommit → GoesOn c MayCommit
-committing_goes_on c here lines n e x w s file v d kind m started none free old = at_each x.packet.to s Way (λ eq. here lines n e x w s file v d kind eq m started none free old) (λ ne. by_body ne x.packet.body refl kind)
+pub committing_goes_on : (c : Config) (lines : List ScheduleLine) (n : ℕ) (e : InEpoch) (x : Numbered) (w : World) (s : ℕ) (file : FileId) (v : VersionRow) → Delivery c lines n e x w → MayCommit x.packet.body → IsMember e s → file.ino < 65536 → IsFree (place_at w) s file v →
+    IsOnItsWay c e (place_at w) w.underway s file v → IsOnItsWay c e (place_at (arrives c n x w)) (arrives c n x w).underway s file v
+committing_goes_on c lines n e x w s file v d kind m narrow free old = at_each x.packet.to s Way (λ eq. commits_here c lines n e x w s file v d kind eq narrow free old) (λ ne. by_body ne x.packet.body refl kind)
   where
     Way : Type 0
     Way = IsOnItsWay c e (place_at (arrives c n x w)) (arrives c n x w).underway s file v

@@ -91,13 +91,13 @@ abbrev pub view_then : Config → InEpoch → Numbered → World → SiteView �
 view_then c e x w v b = (taken_whole c e (the_links x w) x.packet v b).view
 
 -- the packet leaves these pulls, and then an adoption is tried
-record LetsTry (c : Config) (e : InEpoch) (x : Numbered) (v : SiteView) (b : Body) : Type 0 where
-  taken : List Pull
-  takes : Takes (notice_in b) v.pulls taken
-  is_view : (takes_inside (frame_of c e x.packet.to) x.packet.from b v).view ≡ with_pulls v taken
-  is_try : (y : SiteView) → tries_at c x.packet.to b y ≡ adopts_in c x.packet.to y
+pub record LetsTry (c : Config) (e : InEpoch) (x : Numbered) (v : SiteView) (b : Body) : Type 0 where
+  pub taken : List Pull
+  pub takes : Takes (notice_in b) v.pulls taken
+  pub is_view : (takes_inside (frame_of c e x.packet.to) x.packet.from b v).view ≡ with_pulls v taken
+  pub is_try : (y : SiteView) → tries_at c x.packet.to b y ≡ adopts_in c x.packet.to y
 
-tries_made : (c : Config) (lines : List ScheduleLine) (n : ℕ) (e : InEpoch) (x : Numbered) (w : World) (b : Body) → (d : Delivery c lines n e x w) → x.packet.body ≡ b → FormsNone b → LetsTry c e x d.view b →
+pub tries_made : (c : Config) (lines : List ScheduleLine) (n : ℕ) (e : InEpoch) (x : Numbered) (w : World) (b : Body) → (d : Delivery c lines n e x w) → x.packet.body ≡ b → FormsNone b → LetsTry c e x d.view b →
     Tries (frame_in c x.packet.to d.view.boot e) (place_at w) (place_at (arrives c n x w)) x.packet.to (notice_in b) d.view (view_then c e x w d.view b)
 tries_made c lines n e x w b d is forms t = record {
   was = d.here;
@@ -174,6 +174,11 @@ tries_on c lines n e x w b s file v d is forms unforming t m = at_each x.packet.
     theirs ne none free old = stays_on c lines n e x w s file v u d k m
         (subst (λ (ts : List SyncTable). KeepsFiles d.view.tables ts) (sym r.tables) (tries_files (frame_in c x.packet.to d.view.boot e) r.taken (with_pulls d.view r.taken)))
         (λ eq. absurd (ne eq)) (names_elsewhere e s x.packet ne) old
+
+-- what was taken there
+pub tries_taken : (c : Config) (lines : List ScheduleLine) (n : ℕ) (e : InEpoch) (x : Numbered) (w : World) (b : Body) → (d : Delivery c lines n e x w) → (is : x.packet.body ≡ b) → (forms : FormsNone b) → (t : LetsTry c e x d.view b) → (tries_made c lines n e x w b d is forms t).taken ≡ t.taken
+unfolding tries_made
+tries_taken c lines n e x w b d is forms t = refl
 
 -- ---- Notify and Page ----
 

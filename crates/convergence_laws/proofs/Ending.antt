@@ -43,7 +43,7 @@ from_member e s x sender h =
     low : (n : ℕ) → 1 ≤ n → n ≡ 0 → ⊥
     low n le z = omega (arith, le, z)
 
-for_none : (c : Config) (e : InEpoch) (w : World) (s : ℕ) → AreTogether w e → ReachThemselves e w → w.over ≡ None → next_packet w ≡ None → Every NumberedSender w.underway → IsMember e s → (x : Numbered) → Among x w.underway → is_for e s x.packet ≡ true → ⊥
+pub for_none : (c : Config) (e : InEpoch) (w : World) (s : ℕ) → AreTogether w e → ReachThemselves e w → w.over ≡ None → next_packet w ≡ None → Every NumberedSender w.underway → IsMember e s → (x : Numbered) → Among x w.underway → is_for e s x.packet ≡ true → ⊥
 for_none c e w s together reach within nothing senders m x there h = nothing_can w within nothing x there comes
   where
     k : (x.packet.to ≡ s) × IsMember e x.packet.from
@@ -55,7 +55,7 @@ for_none c e w s together reach within nothing senders m x there h = nothing_can
     comes : can_come w x ≡ true
     comes = ap (λ (t : ℕ). is_up w x.packet.from t) k.0 ∙ is_up_linked w x.packet.from s (member_runs e w x.packet.from together k.1) (member_runs e w s together m) uncut
 
-none_named : (e : InEpoch) (s : ℕ) (xs : List Numbered) → ((x : Numbered) → Among x xs → is_for e s x.packet ≡ true → ⊥) → named e s xs ≡ []
+pub none_named : (e : InEpoch) (s : ℕ) (xs : List Numbered) → ((x : Numbered) → Among x xs → is_for e s x.packet ≡ true → ⊥) → named e s xs ≡ []
 none_named e s [] h = refl
 none_named e s (x ∷ xs) h = over (is_for e s x.packet) refl (none_named e s xs (λ y a. h y (inr a)))
   where

@@ -5,6 +5,7 @@ use Rattle.locus_ids.specs.declared.ids.EpochId.{EpochId}
 use Rattle.locus_ids.specs.declared.sites.Links.{Links}
 use Rattle.locus_ids.specs.declared.sites.Members.{Members}
 use Rattle.locus_ids.specs.declared.sites.Sites.{Sites}
+use Rattle.schedule_lines.specs.declared.line.ScheduleLine.{ScheduleLine}
 use Rattle.trace_book.specs.Same.{same_epoch}
 use Rattle.wire_messages.specs.declared.body.Body.{Body}
 use Rattle.wire_messages.specs.declared.body.Body.TheVariants as body
@@ -18,13 +19,14 @@ use Rattle.role_steps.specs.declared.synchronizing.SyncTable.{SyncTable}
 use Rattle.role_steps.specs.Views.{Store}
 use Rattle.the_run.specs.Runs.{arrives}
 use Rattle.the_run.specs.Steps.{is_dropped, takes, tries_at, starts_mends_of, ends_event, whole, step}
-use Rattle.the_run.specs.Worlds.{place_at, links_of, passed}
+use Rattle.the_run.specs.Worlds.{World, Numbered, place_at, links_of, passed}
 use Rattle.epoch_laws.proofs.Handlers.{leaves_of_epoch}
 use Rattle.orderly_laws.specs.Calm.{IsInside}
 use Rattle.orderly_laws.proofs.Places.{view_eq}
+use Rattle.calm_laws.specs.Rounds.{Delivery}
 use Rattle.calm_laws.proofs.Lists.{true_false, none_some}
 use Rattle.convergence_laws.specs.Converging.{GoesOn, FormsEpochs}
-use Rattle.convergence_laws.specs.Offers.{notice_in, IsOnItsWay}
+use Rattle.convergence_laws.specs.Offers.{notice_in}
 use Rattle.convergence_laws.proofs.Coming.{Comes, comes_step, Ends, ends_keep, inside_view, good_in, roundless}
 use Rattle.convergence_laws.proofs.Copying.{names_nothing, stays_on}
 use Rattle.convergence_laws.proofs.Files.{KeepsFiles, files_itself}
@@ -41,9 +43,10 @@ record Leaves (v u : SiteView) : Type 0 where
   store : u.store ≡ v.store
   pulls : u.pulls ≡ v.pulls
   tables : u.tables ≡ v.tables
+  users : u.users ≡ v.users
 
 leaves_itself : (v : SiteView) → Leaves v v
-leaves_itself v = record { round = refl; epoch = refl; store = refl; pulls = refl; tables = refl }
+leaves_itself v = record { round = refl; epoch = refl; store = refl; pulls = refl; tables = refl; users = refl }
 
 abbrev LeavesBy : SiteView → Outcome SiteView → Type 0
 LeavesBy v o = Leaves v o.view
@@ -87,7 +90,7 @@ install_leaves c m from boot id members v h = by_may (may_install m id members v
 
 joined_leaves : (from : ℕ) (id : EpochId) (v : SiteView) → Leaves v (on_joined from id v).view
 joined_leaves from id v = elim (is_in id v.epoch) as (λ b. Leaves v (cond b (record v { installs = without_row (λ (s : ℕ). s) from v.installs }) v)) [
-  | true ↦ record { round = refl; epoch = refl; store = refl; pulls = refl; tables = refl }
+  | true ↦ record { round = refl; epoch = refl; store = refl; pulls = refl; tables = refl; users = refl }
   | false ↦ leaves_itself v
 ]
 
@@ -107,7 +110,7 @@ tries_none c m (body.Install members) y k = refl
 tries_none c m body.Joined y k = refl
 tries_none c m _ y k = absurd k
 
-names_none : (b : Body) → FormsEpochs b → notice_in b ≡ []
+pub names_none : (b : Body) → FormsEpochs b → notice_in b ≡ []
 names_none body.Poll k = refl
 names_none (body.Promise reach) k = refl
 names_none (body.Refuse theirs) k = refl
@@ -129,8 +132,24 @@ ends_outside c m links v none outside = by_round v.round none
 
 -- ---- the row ----
 
-pub forming_goes_on : (c : Config) → GoesOn c FormsEpochs
-forming_goes_on c lines n e x w s file v d kind m started none free old = by_leaves (takes_leaves c x.packet.to links x.packet x.packet.body d.view (roundless c lines n e x w d) installed kind)
+-- the member that takes the packet keeps its store, pulls and tables
+pub record StaysSo (c : Config) (n : ℕ) (x : Numbered) (w : World) (v : SiteView) : Type 0 where
+  pub view : SiteView
+  pub comes : Comes c n x w view
+  pub store : view.store ≡ v.store
+  pub pulls : view.pulls ≡ v.pulls
+  pub tables : view.tables ≡ v.tables
+  -- what the handler left, and the end of the event
+  pub handled : SiteView
+  pub links : Links
+  pub ended : view ≡ (ends_event c x.packet.to links handled).view
+  pub users : handled.users ≡ v.users
+  pub stored : handled.store ≡ v.store
+  pub round : handled.round ≡ v.round
+  pub epoch : handled.epoch ≡ v.epoch
+
+pub forming_stays : (c : Config) (lines : List ScheduleLine) (n : ℕ) (e : InEpoch) (x : Numbered) (w : World) → (d : Delivery c lines n e x w) → FormsEpochs x.packet.body → StaysSo c n x w d.view
+forming_stays c lines n e x w d kind = by_leaves (takes_leaves c x.packet.to links x.packet x.packet.body d.view (roundless c lines n e x w d) installed kind)
   where
     links : Links
     links = links_of (passed x.number w) x.packet.to
@@ -157,15 +176,34 @@ forming_goes_on c lines n e x w s file v d kind m started none free old = by_lea
     is_end : u ≡ (ends_event c x.packet.to links o.view).view
     is_end = by_test (is_dropped x.packet d.view) d.taken
 
-    by_leaves : LeavesOr d.view o → IsOnItsWay c e (place_at (arrives c n x w)) (arrives c n x w).underway s file v
+    by_leaves : LeavesOr d.view o → StaysSo c n x w d.view
     by_leaves (inr gone) =
         let i : IsInside (arrives c n x w) e x.packet.to = d.after.inside x.packet.to d.member in
         let is_u : i.view ≡ u = view_eq (place_at (arrives c n x w) x.packet.to) i.view u i.here comes.here in
         absurd (none_some e (sym (ends_outside c x.packet.to links o.view gone.0 gone.1) ∙ (ap (λ (y : SiteView). y.epoch) (sym is_end) ∙ (ap (λ (y : SiteView). y.epoch) (sym is_u) ∙ i.epoch))))
-    by_leaves (inl k) = stays_on c lines n e x w s file v u d comes m
-        (subst (λ (ts : List SyncTable). KeepsFiles d.view.tables ts) (sym (ap (λ (y : SiteView). y.tables) is_end ∙ (ends.tables ∙ k.tables))) (files_itself d.view.tables))
-        (λ eq. (ap (λ (y : Store). y.copies) (ap (λ (y : SiteView). y.store) is_end ∙ (ends.store ∙ k.store)), ap (λ (y : SiteView). y.pulls) is_end ∙ (ends.pulls ∙ k.pulls)))
-        (names_nothing e s x.packet x.packet.body refl (names_none x.packet.body kind)) old
+    by_leaves (inl k) = record {
+      view = u;
+      comes = comes;
+      store = ap (λ (y : SiteView). y.store) is_end ∙ (ends.store ∙ k.store);
+      pulls = ap (λ (y : SiteView). y.pulls) is_end ∙ (ends.pulls ∙ k.pulls);
+      tables = ap (λ (y : SiteView). y.tables) is_end ∙ (ends.tables ∙ k.tables);
+      handled = o.view;
+      links = links;
+      ended = is_end;
+      users = k.users;
+      stored = k.store;
+      round = k.round;
+      epoch = k.epoch;
+    }
       where
         ends : Ends o.view (ends_event c x.packet.to links o.view).view
         ends = ends_keep c x.packet.to links o.view e (k.round ∙ roundless c lines n e x w d) (k.epoch ∙ inside)
+
+pub forming_goes_on : (c : Config) → GoesOn c FormsEpochs
+forming_goes_on c lines n e x w s file v d kind m started none free old = stays_on c lines n e x w s file v k.view d k.comes m
+    (subst (λ (ts : List SyncTable). KeepsFiles d.view.tables ts) (sym k.tables) (files_itself d.view.tables))
+    (λ eq. (ap (λ (y : Store). y.copies) k.store, k.pulls))
+    (names_nothing e s x.packet x.packet.body refl (names_none x.packet.body kind)) old
+  where
+    k : StaysSo c n x w d.view
+    k = forming_stays c lines n e x w d kind

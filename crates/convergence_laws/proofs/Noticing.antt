@@ -17,7 +17,7 @@ use Rattle.role_steps.specs.Reports.{sync_repeats}
 use Rattle.role_steps.specs.Requests.{users_repeats}
 use Rattle.role_steps.specs.Storage.{store_repeats}
 use Rattle.role_steps.specs.Versions.{row_ino, holders_of, is_among, chosen_site}
-use Rattle.role_steps.specs.Views.{Frame, SiteView, Outcome, Ticks, boot_in, is_member, members_of, first_site, all_sites}
+use Rattle.role_steps.specs.Views.{Frame, SiteView, Store, Outcome, Ticks, boot_in, is_member, members_of, first_site, all_sites}
 use Rattle.role_steps.specs.declared.rounds.InEpoch.{InEpoch}
 use Rattle.role_steps.specs.declared.synchronizing.FileRow.{FileRow}
 use Rattle.role_steps.specs.declared.synchronizing.SyncTable.{SyncTable}
@@ -45,25 +45,37 @@ use Rattle.calm_laws.proofs.Rounds.{round_kept}
 use Rattle.calm_laws.proofs.Ticks.{AreApart, no_round, over_round}
 use Rattle.convergence_laws.specs.Offers.{Offer, is_for, names_to, names, named, IsToHold}
 use Rattle.convergence_laws.proofs.Coming.{Ends, ends_keep}
+use Rattle.convergence_laws.proofs.Lists.{among_either}
 use Rattle.convergence_laws.proofs.Named.{named_there}
 
 -- ---- one tick ----
 
-among_flat : {A B : Type 0} (g : A → List B) (x : A) (y : B) (xs : List A) → Among x xs → Among y (g x) → Among y (flat_map g xs)
+pub among_flat : {A B : Type 0} (g : A → List B) (x : A) (y : B) (xs : List A) → Among x xs → Among y (g x) → Among y (flat_map g xs)
 among_flat g x y [] a b = absurd a
 among_flat {B = B} g x y (z ∷ zs) (inl e) b = among_left y (g z) (flat_map g zs) (subst (λ (t : _). Among {A = B} y (g t)) e b)
 among_flat g x y (z ∷ zs) (inr a) b = among_right y (g z) (flat_map g zs) (among_flat g x y zs a b)
 
 -- the notices of all tables of a site
-abbrev table_notices : Frame → SiteView → List Packet
+abbrev pub table_notices : Frame → SiteView → List Packet
 table_notices f v = flat_map (sync_repeats f) v.tables
 
--- a member sends them again at its tick
-repeated : (c : Config) (e : InEpoch) (s : ℕ) (a : SiteView) (q : Packet) → a.epoch ≡ Some e → a.boot ≡ boot_in e.members.boot s → Among q (table_notices (frame_of c e s) a) → Among q (repeats c s a)
+-- what a site tells of the closes that aren't answered, and of its tables
+abbrev pub told_again : Frame → SiteView → List Packet
+told_again f v = store_repeats f v.store ++ table_notices f v
+
+-- a member sends it again at its tick
+repeated : (c : Config) (e : InEpoch) (s : ℕ) (a : SiteView) (q : Packet) → a.epoch ≡ Some e → a.boot ≡ boot_in e.members.boot s → Among q (told_again (frame_of c e s) a) → Among q (repeats c s a)
 repeated c e s a q inside boot h = by_epoch a.epoch inside
   where
-    in_frame : (f : Frame) → Among q (table_notices f a) → Among q (repeats_inside f e a)
-    in_frame f k = among_right q (in_order (all_reports f a)) _ (among_right q (users_repeats f a.users) _ (among_right q (in_order (store_repeats f a.store)) _ (among_right q (in_order (pull_repeats f a.pulls)) _ (order_has q (table_notices f a) k))))
+    in_frame : (f : Frame) → Among q (told_again f a) → Among q (repeats_inside f e a)
+    in_frame f k = among_right q (in_order (all_reports f a)) _ (among_right q (users_repeats f a.users) _ (over (among_either q (store_repeats f a.store) (table_notices f a) k)))
+      where
+        rest : List Packet
+        rest = in_order (pull_repeats f a.pulls) ++ in_order (table_notices f a)
+
+        over : Among q (store_repeats f a.store) ⊎ Among q (table_notices f a) → Among q (in_order (store_repeats f a.store) ++ rest)
+        over (inl h) = among_left q (in_order (store_repeats f a.store)) rest (order_has q (store_repeats f a.store) h)
+        over (inr h) = among_right q (in_order (store_repeats f a.store)) rest (among_right q (in_order (pull_repeats f a.pulls)) (in_order (table_notices f a)) (order_has q (table_notices f a) h))
 
     by_epoch : (o : Option InEpoch) → o ≡ Some e → Among q (repeats_of c s o a)
     by_epoch None k = absurd (none_some e k)
@@ -72,8 +84,8 @@ repeated c e s a q inside boot h = by_epoch a.epoch inside
         (among_right q (in_order (poll_repeats s a a.round ++ install_repeats s a e)) (repeats_inside (frame_in c s a.boot e) e a)
         (subst (λ (b : ℕ). Among q (repeats_inside (frame_in c s b e) e a)) (sym boot) (in_frame (frame_of c e s) h)))
 
-tick_notices : (c : Config) (e : InEpoch) (s : ℕ) (links : Links) (v : SiteView) → Every TableFormless v.tables → v.round ≡ None → v.epoch ≡ Some e → v.boot ≡ boot_in e.members.boot s → (q : Packet) → Among q (table_notices (frame_of c e s) (step c s links v Ticks).view) → Among q (step c s links v Ticks).sent
-tick_notices c e s links v formless none inside boot q h = among_right q a.sent _ (among_left q (repeats c s a.view) (in_order last.sent) (repeated c e s a.view q (formed.epoch ∙ inside) (formed.boot ∙ boot) (subst (λ (ts : List SyncTable). Among q (flat_map (sync_repeats (frame_of c e s)) ts)) ends.tables h)))
+tick_notices : (c : Config) (e : InEpoch) (s : ℕ) (links : Links) (v : SiteView) → Every TableFormless v.tables → v.round ≡ None → v.epoch ≡ Some e → v.boot ≡ boot_in e.members.boot s → (q : Packet) → Among q (told_again (frame_of c e s) (step c s links v Ticks).view) → Among q (step c s links v Ticks).sent
+tick_notices c e s links v formless none inside boot q h = among_right q a.sent _ (among_left q (repeats c s a.view) (in_order last.sent) (repeated c e s a.view q (formed.epoch ∙ inside) (formed.boot ∙ boot) (subst (λ (st : Store). Among q (store_repeats (frame_of c e s) st ++ table_notices (frame_of c e s) a.view)) ends.store (subst (λ (ts : List SyncTable). Among q (store_repeats (frame_of c e s) last.view.store ++ flat_map (sync_repeats (frame_of c e s)) ts)) ends.tables h))))
   where
     a : Outcome SiteView
     a = adopts_in c s v
@@ -89,9 +101,9 @@ tick_notices c e s links v formless none inside boot q h = among_right q a.sent 
 
 -- ---- in the world ----
 
--- all notices of the site's tables are under way
+-- all of it is under way
 abbrev pub HasNotified : Config → InEpoch → World → ℕ → Type 0
-HasNotified c e w s = (v : SiteView) → place_at w s ≡ Some (Running v) → (q : Packet) → Among q (table_notices (frame_of c e s) v) → Under w.underway q
+HasNotified c e w s = (v : SiteView) → place_at w s ≡ Some (Running v) → (q : Packet) → Among q (told_again (frame_of c e s) v) → Under w.underway q
 
 under_later : (w u : World) (q : Packet) → ((y : Numbered) → Among y w.underway → Among y u.underway) → Under w.underway q → Under u.underway q
 under_later w u q stays h = record { letter = h.letter; there = stays h.letter h.there; is = h.is }
@@ -140,7 +152,7 @@ one_tick c e n s w good inside_before = by_place (place_at w s) refl
                 let is_v : i.view ≡ v = view_eq (place_at w s) i.view v i.here here in
                 let inside : v.epoch ≡ Some e = ap (λ (x : SiteView). x.epoch) (sym is_v) ∙ i.epoch in
                 run.sent q (tick_notices c e s (links_of w s) v (good.views s v here).tables (no_round w s v e good here inside) inside (ap (λ (x : SiteView). x.boot) (sym is_v) ∙ i.boot) q
-                (subst (λ (x : SiteView). Among q (table_notices (frame_of c e s) x)) (view_eq (place_at u s) z o.view there run.here) a))
+                (subst (λ (x : SiteView). Among q (told_again (frame_of c e s) x)) (view_eq (place_at u s) z o.view there run.here) a))
 
 -- ---- all ticks ----
 
@@ -301,4 +313,4 @@ named_to_hold c e w s d h m there notified started some lags = named_there e s d
     sent = among_flat (sync_repeats f) t letter h.known.view.tables at_table.0 (subst (λ (b : Bool). Among letter (cond b (notices f t) [])) (sym started) (among_flat (file_notices f t.group) r letter t.files at_row.0 n.1))
 
     z : Under w.underway letter
-    z = notified h.known.view h.known.here letter sent
+    z = notified h.known.view h.known.here letter (among_right letter (store_repeats f h.known.view.store) (table_notices f h.known.view) sent)

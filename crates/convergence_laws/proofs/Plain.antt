@@ -57,47 +57,49 @@ closed_ok_same f (Some i) s = ends_same f i i.stage s
 
 -- ---- at a synchronization site ----
 
-record SameFiles (t : SyncTable) (o : Outcome SyncTable) : Type 0 where
-  files : o.view.files ≡ t.files
-  group : o.view.group ≡ t.group
+-- a table keeps its files, and whether it has started
+pub record SameFiles (t : SyncTable) (o : Outcome SyncTable) : Type 0 where
+  pub files : o.view.files ≡ t.files
+  pub group : o.view.group ≡ t.group
+  pub started : o.view.started ≡ t.started
 
 early_same : (site process : ℕ) (b : Body) (t : SyncTable) → SameFiles t (quiet (waits_early site process b t))
 early_same site process b t = over (list_any (is_early_of site process) t.early)
   where
     over : (q : Bool) → SameFiles t (quiet (cond q t (record t { early = t.early ++ record { site = site; process = process; body = b } ∷ [] })))
-    over true = record { files = refl; group = refl }
-    over false = record { files = refl; group = refl }
+    over true = record { files = refl; group = refl; started = refl }
+    over false = record { files = refl; group = refl; started = refl }
 
 decides_same : (f : Frame) (t : SyncTable) (us : ℕ) (o : OpenRequest) (d : Decision) → SameFiles t (decides f t us o d)
-decides_same f t us o (Denies why) = record { files = refl; group = refl }
-decides_same f t us o (Grants ss stamp vector parents set k) = record { files = refl; group = refl }
+decides_same f t us o (Denies why) = record { files = refl; group = refl; started = refl }
+decides_same f t us o (Grants ss stamp vector parents set k) = record { files = refl; group = refl; started = refl }
 
-takes_open_same : (f : Frame) (us : ℕ) (o : OpenRequest) (r : Option OpenRow) (t : SyncTable) → SameFiles t (on_open_of f t us o r)
+pub takes_open_same : (f : Frame) (us : ℕ) (o : OpenRequest) (r : Option OpenRow) (t : SyncTable) → SameFiles t (on_open_of f t us o r)
 takes_open_same f us o None t = decides_same f t us o (decision f t us o o.how)
-takes_open_same f us o (Some r) t = record { files = refl; group = refl }
+takes_open_same f us o (Some r) t = record { files = refl; group = refl; started = refl }
 
-open_same : (f : Frame) (us : ℕ) (o : OpenRequest) (t : SyncTable) → SameFiles t (on_open f us o t)
+pub open_same : (f : Frame) (us : ℕ) (o : OpenRequest) (t : SyncTable) → SameFiles t (on_open f us o t)
 open_same f us o t = elim t.started as (λ b. SameFiles t (elim b [ true ↦ takes_open f us o t | false ↦ quiet (waits_early us o.process (body.Open o.serial o.call o.process o.request o.file o.how) t) ])) [
   | true ↦ takes_open_same f us o (open_row t (record { us = us; serial = o.serial })) t
   | false ↦ early_same us o.process (body.Open o.serial o.call o.process o.request o.file o.how) t
 ]
 
-takes_look_same : (f : Frame) (us : ℕ) (l : LookRequest) (o : Option LastLook) (t : SyncTable) → SameFiles t (after_last f us l o t)
-takes_look_same f us l None t = record { files = refl; group = refl }
+pub takes_look_same : (f : Frame) (us : ℕ) (l : LookRequest) (o : Option LastLook) (t : SyncTable) → SameFiles t (after_last f us l o t)
+takes_look_same f us l None t = record { files = refl; group = refl; started = refl }
 takes_look_same f us l (Some last) t = over (is_look_before l last) (is_same_look l last)
   where
     over : (a b : Bool) → SameFiles t (elim a [ true ↦ quiet t | false ↦ elim b [ true ↦ sends (packet f last.to last.body ∷ []) t | false ↦ new_look f us l (file_row t l.file.ino) t ] ])
-    over true b = record { files = refl; group = refl }
-    over false true = record { files = refl; group = refl }
-    over false false = record { files = refl; group = refl }
+    over true b = record { files = refl; group = refl; started = refl }
+    over false true = record { files = refl; group = refl; started = refl }
+    over false false = record { files = refl; group = refl; started = refl }
 
-look_same : (f : Frame) (us : ℕ) (l : LookRequest) (t : SyncTable) → SameFiles t (on_look f us l t)
+pub look_same : (f : Frame) (us : ℕ) (l : LookRequest) (t : SyncTable) → SameFiles t (on_look f us l t)
 look_same f us l t = elim t.started as (λ b. SameFiles t (elim b [ true ↦ takes_look f us l t | false ↦ quiet (waits_early us l.process (body.Look l.call l.process l.request l.take l.file l.what) t) ])) [
   | true ↦ takes_look_same f us l (row look_key (process_key us l.process) t.looks) t
   | false ↦ early_same us l.process (body.Look l.call l.process l.request l.take l.file l.what) t
 ]
 
-rows_same : (t n : SyncTable) → n.files ≡ t.files → KeepsRows t n
+pub rows_same : (t n : SyncTable) → n.files ≡ t.files → KeepsRows t n
 rows_same t n same ino r e = record { file_known = r; found = ap (λ (rs : List FileRow). row row_ino ino rs) (sym same) ∙ e; kept = refl; set = refl }
 
 at_table_same : (g : SyncTable → Outcome SyncTable) (group : ℕ) (v : SiteView) (o : Option SyncTable) → row table_group group v.tables ≡ o → ((t : SyncTable) → SameFiles t (g t)) → KeepsCopies v (at_table_of g o v).view

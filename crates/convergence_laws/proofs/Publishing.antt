@@ -54,25 +54,41 @@ use Rattle.convergence_laws.proofs.Copying.{the_links, names_nothing, keeps_on}
 use Rattle.convergence_laws.proofs.Files.{SameFile, noted_same, differ}
 use Rattle.convergence_laws.proofs.Named.{named_there}
 use Rattle.convergence_laws.proofs.Noticing.{member_passes, notice_there, notice_names}
-use Rattle.convergence_laws.proofs.Tabled.{SameFiles, table_keeps, rising_found, first_there}
+use Rattle.convergence_laws.proofs.Plain.{SameFiles}
+use Rattle.convergence_laws.proofs.Tabled.{table_keeps, rising_found, first_there}
 use Rattle.convergence_laws.proofs.Telling.{tables_tell}
 use Rattle.convergence_laws.proofs.Ways.{SameSite, HeldOrNamed, way_stays_more}
 
 -- ---- what a Closed does at a table ----
 
--- One file has a new row, and the notices of it are sent; all others stay.
-record Publishes (f : Frame) (t : SyncTable) (o : Outcome SyncTable) : Type 0 where
-  new : FileRow
-  files : (ino : ℕ) (r : FileRow) → file_row o.view ino ≡ Some r → (r ≡ new) ⊎ SameFile t ino r
-  group : o.view.group ≡ t.group
-  sent : (z : Packet) → Among z (file_notices f t.group new) → Among z o.sent
+-- One file has a new row, that of an instance which was granted, and the notices of it are sent; all others stay.
+pub record Publishes (f : Frame) (t : SyncTable) (closing : Option OpenRow) (o : Outcome SyncTable) : Type 0 where
+  pub row : OpenRow
+  pub is_row : closing ≡ Some row
+  pub granted : row.stage ≡ stage.Granted
+  pub new : FileRow
+  pub ino : new.ino ≡ row.file.ino
+  pub files : (ino : ℕ) (r : FileRow) → file_row o.view ino ≡ Some r → (r ≡ new) ⊎ SameFile t ino r
+  pub group : o.view.group ≡ t.group
+  pub started : o.view.started ≡ t.started
+  pub sent : (z : Packet) → Among z (file_notices f t.group new) → Among z o.sent
 
-abbrev StaysOr : Frame → SyncTable → Outcome SyncTable → Type 0
-StaysOr f t o = SameFiles t o ⊎ Publishes f t o
+abbrev pub StaysOr : Frame → SyncTable → Option OpenRow → Outcome SyncTable → Type 0
+StaysOr f t closing o = SameFiles t o ⊎ Publishes f t closing o
 
-released : (f : Frame) (ss : ℕ) (r : OpenRow) (made : Option MadeVersion) (t : SyncTable) → StaysOr f t (releases f ss r made t)
-released f ss r None t = inl (record { files = refl; group = refl })
-released f ss r (Some v) t = inr (record { new = new; files = files; group = refl; sent = λ z a. among_left z (row_notices f t.group (file_row after r.file.ino)) (closed_ok f ss r.inst) (subst (λ (o : Option FileRow). Among z (row_notices f t.group o)) (sym found) a) })
+released : (f : Frame) (ss : ℕ) (r : OpenRow) (made : Option MadeVersion) (t : SyncTable) → r.stage ≡ stage.Granted → StaysOr f t (Some r) (releases f ss r made t)
+released f ss r None t granted = inl (record { files = refl; group = refl; started = refl })
+released f ss r (Some v) t granted = inr (record {
+  row = r;
+  is_row = refl;
+  granted = granted;
+  new = new;
+  ino = is_ino;
+  files = files;
+  group = refl;
+  started = refl;
+  sent = λ z a. among_left z (row_notices f t.group (file_row after r.file.ino)) (closed_ok f ss r.inst) (subst (λ (o : Option FileRow). Among z (row_notices f t.group o)) (sym found) a);
+})
   where
     ended : SyncTable
     ended = with_open (record r { stage = stage.Ended }) t
@@ -101,19 +117,19 @@ released f ss r (Some v) t = inr (record { new = new; files = files; group = ref
         (λ eq. inl (sym (some_is new q (sym (row_same row_ino new t.files) ∙ (ap (λ (i : ℕ). row row_ino i (with_row row_ino new t.files)) eq ∙ e)))))
         (λ ne. inr (record { file_known = q; found = sym (row_other row_ino new ino t.files (differ new.ino ino ne)) ∙ e; kept = refl; set = refl }))
 
-closed_at : (f : Frame) (ss : ℕ) (r : OpenRow) (made : Option MadeVersion) (g : OpenStage) (t : SyncTable) → StaysOr f t (closes_at f ss r made g t)
-closed_at f ss r made stage.Granted t = released f ss r made t
-closed_at f ss r made stage.Ended t = inl (record { files = refl; group = refl })
-closed_at f ss r made _ t = inl (record { files = refl; group = refl })
+closed_at : (f : Frame) (ss : ℕ) (r : OpenRow) (made : Option MadeVersion) (g : OpenStage) (t : SyncTable) → r.stage ≡ g → StaysOr f t (Some r) (closes_at f ss r made g t)
+closed_at f ss r made stage.Granted t is = released f ss r made t is
+closed_at f ss r made stage.Ended t is = inl (record { files = refl; group = refl; started = refl })
+closed_at f ss r made _ t is = inl (record { files = refl; group = refl; started = refl })
 
-closed_of : (f : Frame) (ss : ℕ) (made : Option MadeVersion) (o : Option OpenRow) (t : SyncTable) → StaysOr f t (on_closed_of f ss made o t)
-closed_of f ss made None t = inl (record { files = refl; group = refl })
-closed_of f ss made (Some r) t = closed_at f ss r made r.stage t
+pub closed_of : (f : Frame) (ss : ℕ) (made : Option MadeVersion) (o : Option OpenRow) (t : SyncTable) → StaysOr f t o (on_closed_of f ss made o t)
+closed_of f ss made None t = inl (record { files = refl; group = refl; started = refl })
+closed_of f ss made (Some r) t = closed_at f ss r made r.stage t refl
 
 -- ---- in the world ----
 
 publishes_on : (c : Config) (lines : List ScheduleLine) (n : ℕ) (e : InEpoch) (x : Numbered) (w : World) (s : ℕ) (file : FileId) (v : VersionRow) (inst : Serial) (made : Option MadeVersion) (t : SyncTable) → (d : Delivery c lines n e x w) → x.packet.body ≡ body.Closed inst made → IsMember e s →
-    first_that (is_opened_in inst) d.view.tables ≡ Some t → Publishes (frame_of c e x.packet.to) t (on_closed (frame_of c e x.packet.to) x.packet.from inst made t) → IsOnItsWay c e (place_at w) w.underway s file v → IsOnItsWay c e (place_at (arrives c n x w)) (arrives c n x w).underway s file v
+    first_that (is_opened_in inst) d.view.tables ≡ Some t → Publishes (frame_of c e x.packet.to) t (open_row t inst) (on_closed (frame_of c e x.packet.to) x.packet.from inst made t) → IsOnItsWay c e (place_at w) w.underway s file v → IsOnItsWay c e (place_at (arrives c n x w)) (arrives c n x w).underway s file v
 publishes_on c lines n e x w s file v inst made t d is m found p old =
     way_stays_more c e (place_at w) (place_at after) w.underway after.underway s file v (named e s k.comes.more) same hold (record { each = g.each; count = (let q : length (named e s w.underway) + length (named e s k.comes.more) ≤ length (names e s x.packet) + length (named e s after.underway) = g.count in omega (arith, q, none)) }) old
   where
@@ -261,7 +277,7 @@ publishing_goes_on c lines n e x w s file v d kind m started none free old = by_
         stays same = keeps_on c lines n e x w (body.Closed inst made) s file v d is tt refl
             (table_keeps (on_closed (frame_of c e x.packet.to) x.packet.from inst made) 0 d.view (first_that (is_opened_in inst) d.view.tables) (λ t found. rising_found d.view.tables t rise (first_there (is_opened_in inst) d.view.tables t found)) same) (λ y. refl) m old
 
-        by_case : (t : SyncTable) → first_that (is_opened_in inst) d.view.tables ≡ Some t → StaysOr (frame_of c e x.packet.to) t (on_closed (frame_of c e x.packet.to) x.packet.from inst made t) → IsOnItsWay c e (place_at (arrives c n x w)) (arrives c n x w).underway s file v
+        by_case : (t : SyncTable) → first_that (is_opened_in inst) d.view.tables ≡ Some t → StaysOr (frame_of c e x.packet.to) t (open_row t inst) (on_closed (frame_of c e x.packet.to) x.packet.from inst made t) → IsOnItsWay c e (place_at (arrives c n x w)) (arrives c n x w).underway s file v
         by_case t found (inr p) = publishes_on c lines n e x w s file v inst made t d is m found p old
         by_case t found (inl h) = stays (λ z q. subst (λ (y : SyncTable). SameFiles y (on_closed (frame_of c e x.packet.to) x.packet.from inst made y)) (some_is t z (sym found ∙ q)) h)
 

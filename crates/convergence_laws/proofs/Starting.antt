@@ -19,6 +19,7 @@ use Rattle.orderly_laws.specs.Calm.{delivers_next, delivered}
 use Rattle.orderly_laws.proofs.Rounds.{ticks_kept}
 use Rattle.orderly_traces.proofs.Spans.{world, next_world}
 use Rattle.calm_laws.specs.Rounds.{after, IsCalm}
+use Rattle.calm_laws.proofs.Rounds.{delivered_kept, delivered_then}
 use Rattle.calm_laws.proofs.Ticks.{AreApart, over_round}
 use Rattle.convergence_laws.specs.Rounds.{AreCalmRounds}
 use Rattle.convergence_laws.proofs.Events.{RunsOn, Moved, acts_moved}
@@ -112,3 +113,15 @@ ticks_leave c n (t ∷ ts) w s v u apart a here there within = at_each t s (HasT
         later : Among s (t ∷ ts) → Among s ts
         later (inl eq) = absurd (ne (sym eq))
         later (inr b) = b
+
+-- ---- limits ----
+
+within_before : (c : Config) (n j k : ℕ) (w : World) → j ≤ k → (delivered c n k w).over ≡ None → (delivered c n j w).over ≡ None
+within_before c n j k w le h =
+    let u : World = delivered c n j w in
+    delivered_kept c n (λ (z : World). z.over ≡ None → u.over ≡ None) (over_round c n u) (k - j) u (λ z. z)
+    (ap (λ (z : World). z.over) (sym (delivered_then c n j (k - j) w) ∙ ap (λ (i : ℕ). delivered c n i w) {x = j + (k - j)} {y = k} (omega (arith, le))) ∙ h)
+
+-- no limit is passed in a calm round
+pub within_after : (c : Config) (lines : List ScheduleLine) (n : ℕ) (e : InEpoch) (k : ℕ) → IsCalm c lines n e k → (j : ℕ) → j ≤ k → (after c lines n j).over ≡ None
+within_after c lines n e k calm j le = within_before c n j k (ticks_to c n all_sites (run_in c (lines_before lines n))) le calm.within

@@ -4,6 +4,7 @@ use Rattle.std.proofs.lemmas.Bool.Decides.{nat_tests}
 use Rattle.std.specs.List.{list_all}
 use Rattle.locus_ids.specs.Sites.{has}
 use Rattle.locus_ids.specs.declared.config.Config.{Config}
+use Rattle.schedule_lines.specs.declared.line.ScheduleLine.{ScheduleLine}
 use Rattle.wire_messages.specs.Bodies.{kind_number}
 use Rattle.wire_messages.specs.declared.body.Body.{Body}
 use Rattle.wire_messages.specs.declared.body.Body.TheVariants as body
@@ -14,9 +15,8 @@ use Rattle.role_steps.specs.Adoption.{table_group}
 use Rattle.role_steps.specs.Opens.{by_stage, on_opened_of, on_opened, open_row}
 use Rattle.role_steps.specs.Reports.{with_report, starts_if, on_report}
 use Rattle.role_steps.specs.Tables.{row, first_that}
-use Rattle.role_steps.specs.Versions.{row_ino}
 use Rattle.role_steps.specs.Views.{Frame, SiteView, Outcome, quiet, sends, joined_to, packet, is_member, pack_sites, all_sites, boot_in}
-use Rattle.role_steps.specs.declared.synchronizing.FileRow.{FileRow}
+use Rattle.role_steps.specs.declared.rounds.InEpoch.{InEpoch}
 use Rattle.role_steps.specs.declared.synchronizing.OpenRow.{OpenRow}
 use Rattle.role_steps.specs.declared.synchronizing.OpenStage.{OpenStage}
 use Rattle.role_steps.specs.declared.synchronizing.OpenStage.TheVariants as stage
@@ -24,7 +24,7 @@ use Rattle.role_steps.specs.declared.synchronizing.SyncTable.{SyncTable}
 use Rattle.the_run.specs.Kept.{Among}
 use Rattle.the_run.specs.Runs.{arrives}
 use Rattle.the_run.specs.Steps.{is_opened_in, at_table_of}
-use Rattle.the_run.specs.Worlds.{place_at}
+use Rattle.the_run.specs.Worlds.{World, Numbered, place_at}
 use Rattle.tree_laws.specs.Packets.{BodyFact}
 use Rattle.tree_laws.specs.Tables.{TableFact}
 use Rattle.make_laws.specs.Made.{IsSender, NumberedSender, WorldSent}
@@ -38,21 +38,16 @@ use Rattle.calm_laws.proofs.Delivered.{inside_fact}
 use Rattle.calm_laws.proofs.Facts.{RoundFacts, round_facts}
 use Rattle.calm_laws.proofs.Lists.{true_false, both_true, none_some, some_is, every_among, row_key}
 use Rattle.calm_laws.proofs.Rounds.{in_round}
+use Rattle.calm_laws.specs.Rounds.{Delivery}
 use Rattle.convergence_laws.specs.Converging.{GoesOn, IsReport, IsOpened}
 use Rattle.convergence_laws.specs.Offers.{IsOnItsWay}
 use Rattle.convergence_laws.proofs.Coming.{inside_view, taken_for}
 use Rattle.convergence_laws.proofs.Copying.{KeepsCopies, keeps_on}
 use Rattle.convergence_laws.proofs.Ending.{from_member}
-use Rattle.convergence_laws.proofs.Files.{KeepsRows, files_itself, table_put}
+use Rattle.convergence_laws.proofs.Files.{files_itself, table_put}
+use Rattle.convergence_laws.proofs.Plain.{SameFiles, rows_same}
 
 -- ---- a table whose files stay ----
-
-pub record SameFiles (t : SyncTable) (o : Outcome SyncTable) : Type 0 where
-  pub files : o.view.files ≡ t.files
-  pub group : o.view.group ≡ t.group
-
-pub rows_same : (t n : SyncTable) → n.files ≡ t.files → KeepsRows t n
-rows_same t n same ino r e = record { file_known = r; found = ap (λ (rs : List FileRow). row row_ino ino rs) (sym same) ∙ e; kept = refl; set = refl }
 
 pub table_keeps : (g : SyncTable → Outcome SyncTable) (group : ℕ) (v : SiteView) (o : Option SyncTable) → ((t : SyncTable) → o ≡ Some t → row table_group t.group v.tables ≡ Some t) → ((t : SyncTable) → o ≡ Some t → SameFiles t (g t)) → KeepsCopies v (at_table_of g o v).view
 table_keeps g group v None found same = record { copies = refl; pulls = refl; files = files_itself v.tables; round = refl; epoch = refl }
@@ -60,7 +55,7 @@ table_keeps g group v (Some t) found same = (let k : SameFiles t (g t) = same t 
 
 -- ---- Report ----
 
-all_of : (test through : ℕ → Bool) (xs : List ℕ) (x : ℕ) → list_all test (filter through xs) ≡ true → Among x xs → through x ≡ true → test x ≡ true
+pub all_of : (test through : ℕ → Bool) (xs : List ℕ) (x : ℕ) → list_all test (filter through xs) ≡ true → Among x xs → through x ≡ true → test x ≡ true
 all_of test through [] x h a t = absurd a
 all_of test through (y ∷ ys) x h a t = over (through y) refl a (λ k m. all_of test through ys x k m t) h
   where
@@ -74,54 +69,63 @@ report_same : (f : Frame) (from : ℕ) (xs : List ReportedCopy) (t : SyncTable) 
 report_same f from xs t h = over (has t.reported from) h
   where
     over : (b : Bool) → b ≡ true → SameFiles t (joined_to (sends (packet f from (body.ReportOk t.group) ∷ []) t) (elim b [ true ↦ quiet t | false ↦ starts_if f (with_report from xs t) ]))
-    over true e = record { files = refl; group = refl }
+    over true e = record { files = refl; group = refl; started = refl }
     over false e = absurd (true_false (sym e))
+
+-- where it comes to a group that has started, its sender has reported before
+pub reported_before : (c : Config) (lines : List ScheduleLine) (n : ℕ) (e : InEpoch) (x : Numbered) (w : World) → (d : Delivery c lines n e x w) → (group : ℕ) (copies : List ReportedCopy) → x.packet.body ≡ body.Report group copies →
+    (t : SyncTable) → row table_group group d.view.tables ≡ Some t → t.started ≡ true → has t.reported x.packet.from ≡ true
+reported_before c lines n e x w d group copies is t found started =
+    all_of (has t.reported) (λ z. has (pack_sites c t.group) z && is_member e.members z) all_sites x.packet.from (k.all started) sender.site
+    (both (has (pack_sites c t.group) x.packet.from) (is_member e.members x.packet.from) (ap (λ (g : ℕ). has (pack_sites c g) x.packet.from) at.1 ∙ of.0.packed) member)
+  where
+    facts : RoundFacts c w
+    facts = round_facts c lines n w d.round
+
+    there : Among x w.underway
+    there = next_among w w.over x d.next
+
+    of : BodyFact c w.trace x.packet (body.Report group copies)
+    of = subst (λ (b : Body). BodyFact c w.trace x.packet b) is (every_among (NumberedFact c w.trace) x w.underway there facts.fact.underway)
+
+    sender : IsSender x.packet
+    sender = every_among NumberedSender x w.underway there (in_round c WorldSent (sent_kept c) (first_sent c) lines n w d.round).underway
+
+    inside : (d.view.epoch ≡ Some e) × (d.view.boot ≡ boot_in e.members.boot x.packet.to)
+    inside = inside_view e w x.packet.to d.view (d.before.inside x.packet.to d.member) d.here
+
+    from : IsMember e x.packet.from
+    from = (from_member e x.packet.to x sender (taken_for e x.packet d.view inside.0 inside.1 (ap (λ (b : Body). nat_lt (kind_number b) 6) is) d.taken)).1
+
+    member : is_member e.members x.packet.from ≡ true
+    member = by_test (boot_in e.members.boot x.packet.from == 0) refl
+      where
+        equal : (i : ℕ) → (i == 0) ≡ true → i ≡ 0
+        equal i q = grind (arith, nat_tests)
+
+        by_test : (b : Bool) → (boot_in e.members.boot x.packet.from == 0) ≡ b → not b ≡ true
+        by_test true q = absurd (from (equal (boot_in e.members.boot x.packet.from) q))
+        by_test false q = refl
+
+    at : Among t d.view.tables × (t.group ≡ group)
+    at = row_key table_group group d.view.tables t found
+
+    i : InsideFact c (frame_of c e x.packet.to) w.trace d.view
+    i = inside_fact c e w x.packet.to d.view facts.fact d.before d.member d.here
+
+    k : TableFact c w.trace (frame_of c e x.packet.to) t
+    k = every_among (TableFact c w.trace (frame_of c e x.packet.to)) t d.view.tables at.0 i.tables
+
+    both : (a b : Bool) → a ≡ true → b ≡ true → (a && b) ≡ true
+    both a b p q = ap (λ (z : Bool). z && b) p ∙ q
 
 pub report_goes_on : (c : Config) → GoesOn c IsReport
 report_goes_on c lines n e x w s file v d kind m started none free old = by_body x.packet.body refl kind
   where
     by_body : (b : Body) → x.packet.body ≡ b → IsReport b → IsOnItsWay c e (place_at (arrives c n x w)) (arrives c n x w).underway s file v
     by_body (body.Report group copies) is k = keeps_on c lines n e x w (body.Report group copies) s file v d is tt refl
-        (table_keeps (on_report (frame_of c e x.packet.to) x.packet.from copies) group d.view (row table_group group d.view.tables) (λ t found. subst (λ (g : ℕ). row table_group g d.view.tables ≡ Some t) (sym (row_key table_group group d.view.tables t found).1) found) (λ t found. report_same (frame_of c e x.packet.to) x.packet.from copies t (has_it t found))) (λ y. refl) m old
-      where
-        facts : RoundFacts c w
-        facts = round_facts c lines n w d.round
-
-        there : Among x w.underway
-        there = next_among w w.over x d.next
-
-        of : BodyFact c w.trace x.packet (body.Report group copies)
-        of = subst (λ (b : Body). BodyFact c w.trace x.packet b) is (every_among (NumberedFact c w.trace) x w.underway there facts.fact.underway)
-
-        sender : IsSender x.packet
-        sender = every_among NumberedSender x w.underway there (in_round c WorldSent (sent_kept c) (first_sent c) lines n w d.round).underway
-
-        inside : (d.view.epoch ≡ Some e) × (d.view.boot ≡ boot_in e.members.boot x.packet.to)
-        inside = inside_view e w x.packet.to d.view (d.before.inside x.packet.to d.member) d.here
-
-        from : IsMember e x.packet.from
-        from = (from_member e x.packet.to x sender (taken_for e x.packet d.view inside.0 inside.1 (ap (λ (b : Body). nat_lt (kind_number b) 6) is) d.taken)).1
-
-        member : is_member e.members x.packet.from ≡ true
-        member = by_test (boot_in e.members.boot x.packet.from == 0) refl
-          where
-            equal : (i : ℕ) → (i == 0) ≡ true → i ≡ 0
-            equal i q = grind (arith, nat_tests)
-
-            by_test : (b : Bool) → (boot_in e.members.boot x.packet.from == 0) ≡ b → not b ≡ true
-            by_test true q = absurd (from (equal (boot_in e.members.boot x.packet.from) q))
-            by_test false q = refl
-
-        has_it : (t : SyncTable) → row table_group group d.view.tables ≡ Some t → has t.reported x.packet.from ≡ true
-        has_it t found =
-            let at : Among t d.view.tables × (t.group ≡ group) = row_key table_group group d.view.tables t found in
-            let i : InsideFact c (frame_of c e x.packet.to) w.trace d.view = inside_fact c e w x.packet.to d.view facts.fact d.before d.member d.here in
-            let k : TableFact c w.trace (frame_of c e x.packet.to) t = every_among (TableFact c w.trace (frame_of c e x.packet.to)) t d.view.tables at.0 i.tables in
-            all_of (has t.reported) (λ z. has (pack_sites c t.group) z && is_member e.members z) all_sites x.packet.from (k.all (started x.packet.to group d.view t d.member d.here found)) sender.site
-            (both (has (pack_sites c t.group) x.packet.from) (is_member e.members x.packet.from) (ap (λ (g : ℕ). has (pack_sites c g) x.packet.from) at.1 ∙ of.0.packed) member)
-          where
-            both : (a b : Bool) → a ≡ true → b ≡ true → (a && b) ≡ true
-            both a b p q = ap (λ (z : Bool). z && b) p ∙ q
+        (table_keeps (on_report (frame_of c e x.packet.to) x.packet.from copies) group d.view (row table_group group d.view.tables) (λ t found. subst (λ (g : ℕ). row table_group g d.view.tables ≡ Some t) (sym (row_key table_group group d.view.tables t found).1) found)
+        (λ t found. report_same (frame_of c e x.packet.to) x.packet.from copies t (reported_before c lines n e x w d group copies is t found (started x.packet.to group d.view t d.member d.here found)))) (λ y. refl) m old
     by_body _ is k = absurd k
 
 -- ---- Opened ----
@@ -159,12 +163,12 @@ first_there test (x ∷ xs) t e = over (test x) (first_there test xs t) e
     over false f q = inr (f q)
 
 stage_same : (f : Frame) (r : OpenRow) (a : OpenedAs) (g : OpenStage) (t : SyncTable) → SameFiles t (by_stage f r a g t)
-stage_same f r (opened.Open ino size) stage.Asked t = record { files = refl; group = refl }
-stage_same f r (opened.No why) stage.Asked t = record { files = refl; group = refl }
-stage_same f r a _ t = record { files = refl; group = refl }
+stage_same f r (opened.Open ino size) stage.Asked t = record { files = refl; group = refl; started = refl }
+stage_same f r (opened.No why) stage.Asked t = record { files = refl; group = refl; started = refl }
+stage_same f r a _ t = record { files = refl; group = refl; started = refl }
 
-opened_same : (f : Frame) (a : OpenedAs) (o : Option OpenRow) (t : SyncTable) → SameFiles t (on_opened_of f a o t)
-opened_same f a None t = record { files = refl; group = refl }
+pub opened_same : (f : Frame) (a : OpenedAs) (o : Option OpenRow) (t : SyncTable) → SameFiles t (on_opened_of f a o t)
+opened_same f a None t = record { files = refl; group = refl; started = refl }
 opened_same f a (Some r) t = stage_same f r a r.stage t
 
 pub opened_goes_on : (c : Config) → GoesOn c IsOpened

@@ -37,9 +37,9 @@ use Rattle.sync_laws.proofs.Versions.{row_vector}
 use Rattle.one_tree_laws.specs.Places.{InsideFact}
 use Rattle.one_tree_laws.specs.Rest.{Past}
 use Rattle.one_tree_laws.proofs.Staying.{rest_below}
-use Rattle.told_vector_laws.proofs.Only.{row_stands}
-use Rattle.told_vector_laws.proofs.Telling.{vectors_tell_newer}
-use Rattle.store_step_laws.proofs.Known.{stands_narrow}
+use Rattle.one_tree_laws.proofs.ToldVectorOnly.{row_stands}
+use Rattle.one_tree_laws.proofs.ToldVectorTelling.{vectors_tell_newer}
+use Rattle.rest_laws.proofs.StoreStepKnown.{stands_narrow}
 use Rattle.orderly_laws.specs.Calm.{AreTogether}
 use Rattle.calm_laws.specs.Carrying.{IsMember, frame_of}
 use Rattle.calm_laws.specs.Rounds.{IsInRound}

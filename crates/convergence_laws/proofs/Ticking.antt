@@ -30,14 +30,16 @@ use Rattle.convergence_laws.proofs.Starting.{HasTicked}
 use Rattle.convergence_laws.proofs.Trying.{above_is, copy_mine, copy_other, copy_stays, all_true}
 
 -- the site has tried an adoption, and its calls alone have changed besides
-record HasTried (f : Frame) (v u : SiteView) : Type 0 where
-  store : u.store ≡ (adopts_first f v.pulls v).view.store
-  pulls : u.pulls ≡ (adopts_first f v.pulls v).view.pulls
+pub record HasTried (f : Frame) (v u : SiteView) : Type 0 where
+  pub store : u.store ≡ (adopts_first f v.pulls v).view.store
+  pub pulls : u.pulls ≡ (adopts_first f v.pulls v).view.pulls
+  pub tables : u.tables ≡ (adopts_first f v.pulls v).view.tables
 
-has_tried : (c : Config) (e : InEpoch) (s : ℕ) (v u : SiteView) → Every TableFormless v.tables → v.round ≡ None → v.epoch ≡ Some e → HasTicked c s v u → HasTried (frame_in c s v.boot e) v u
+pub has_tried : (c : Config) (e : InEpoch) (s : ℕ) (v u : SiteView) → Every TableFormless v.tables → v.round ≡ None → v.epoch ≡ Some e → HasTicked c s v u → HasTried (frame_in c s v.boot e) v u
 has_tried c e s v u formless none inside h = record {
   store = ap (λ (y : SiteView). y.store) h.left ∙ (ends.store ∙ ap (λ (y : SiteView). y.store) is);
   pulls = ap (λ (y : SiteView). y.pulls) h.left ∙ (ends.pulls ∙ ap (λ (y : SiteView). y.pulls) is);
+  tables = ap (λ (y : SiteView). y.tables) h.left ∙ (ends.tables ∙ ap (λ (y : SiteView). y.tables) is);
 }
   where
     a : Outcome SiteView

@@ -34,7 +34,7 @@ use Rattle.convergence_laws.proofs.Taking.{WasPulled, Takes}
 
 -- ---- vectors ----
 
-never_below : (v : List ℕ) → is_below v v ≡ false
+pub never_below : (v : List ℕ) → is_below v v ≡ false
 never_below v = over (all_le v v)
   where
     over : (b : Bool) → b && not b ≡ false
@@ -45,7 +45,7 @@ pub above_is : (p : Pull) (o : Option FileCopy) → is_above_own p o ≡ is_abov
 above_is p None = refl
 above_is p (Some own) = refl
 
-above_through : (a b : List ℕ) (o : Option FileCopy) → is_above a o ≡ true → is_below a b ≡ true → is_above b o ≡ true
+pub above_through : (a b : List ℕ) (o : Option FileCopy) → is_above a o ≡ true → is_below a b ≡ true → is_above b o ≡ true
 above_through a b None h k = refl
 above_through a b (Some own) h k = below_through own.vector a b h k
 

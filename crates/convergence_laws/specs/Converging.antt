@@ -1,9 +1,7 @@
 -- One delivery after another of a round: which of them leave a version on its way, and what is left to show of that.
-use Rattle.std.specs.Prelude.{ℕ, ◌≡◌, ◌≢◌, ◌≤◌, ◌⊎◌, true, false, List, [], ◌∷◌, Some}
-use Rattle.locus_ids.specs.Sites.{has}
+use Rattle.std.specs.Prelude.{ℕ, ◌≡◌, ◌≢◌, true, false, List, [], ◌∷◌, Some}
 use Rattle.locus_ids.specs.declared.config.Config.{Config}
 use Rattle.locus_ids.specs.declared.ids.FileId.{FileId}
-use Rattle.locus_ids.specs.declared.sites.Sites.{Sites}
 use Rattle.schedule_lines.specs.declared.line.ScheduleLine.{ScheduleLine}
 use Rattle.wire_messages.specs.declared.body.Body.{Body}
 use Rattle.wire_messages.specs.declared.body.Body.TheVariants as body
@@ -12,6 +10,9 @@ use Rattle.role_steps.specs.Storage.{copy_of}
 use Rattle.role_steps.specs.Tables.{row}
 use Rattle.role_steps.specs.Versions.{is_below, holders_of, is_among}
 use Rattle.role_steps.specs.Views.{SiteView, file_key}
+use Rattle.role_steps.specs.declared.instances.Instance.{Instance}
+use Rattle.role_steps.specs.declared.instances.Stage.{Stage}
+use Rattle.role_steps.specs.declared.instances.Stage.TheVariants as stage
 use Rattle.role_steps.specs.declared.pulls.Pull.{Pull}
 use Rattle.role_steps.specs.declared.rounds.InEpoch.{InEpoch}
 use Rattle.role_steps.specs.declared.synchronizing.FileRow.{FileRow}
@@ -22,10 +23,9 @@ use Rattle.the_run.specs.Runs.{arrives}
 use Rattle.the_run.specs.Worlds.{World, Running, Numbered, place_at}
 use Rattle.epoch_laws.specs.Known.{Places}
 use Rattle.calm_laws.specs.Carrying.{IsMember}
-use Rattle.calm_laws.specs.Rounds.{after, Delivery}
-use Rattle.convergence_laws.specs.Copies.{Knows, HoldsTheOnly, HasNoRoom}
-use Rattle.convergence_laws.specs.Rounds.{IsMoment, AreCalmRounds, IsAtRest}
-use Rattle.convergence_laws.specs.Offers.{Offer, named, is_above, offer_of, IsToHold, HasPulled, IsFree, IsOnItsWay}
+use Rattle.calm_laws.specs.Rounds.{Delivery}
+use Rattle.convergence_laws.specs.Copies.{Knows}
+use Rattle.convergence_laws.specs.Offers.{Offer, named, is_above, offer_of, IsToHold, IsFree, IsOnItsWay}
 
 -- no version of the file above this one is named by a notice under way to the site, or is pulled there
 pub record NoneAbove (e : InEpoch) (at : Places) (under : List Numbered) (s : ℕ) (file : FileId) (v : VersionRow) : Type 0 where
@@ -107,11 +107,6 @@ abbrev pub GoesOn : Config → (Body → Type 0) → Type 0
 GoesOn c kind = (lines : List ScheduleLine) (n : ℕ) (e : InEpoch) (x : Numbered) (w : World) (s : ℕ) (file : FileId) (v : VersionRow) → Delivery c lines n e x w → kind x.packet.body → IsMember e s → GroupsHaveStarted e (place_at w) → NoneAbove e (place_at w) w.underway s file v → IsFree (place_at w) s file v →
     IsOnItsWay c e (place_at w) w.underway s file v → IsOnItsWay c e (place_at (arrives c n x w)) (arrives c n x w).underway s file v
 
--- so it is where the member itself takes the packet
-abbrev pub GoesOnHere : Config → (Body → Type 0) → Type 0
-GoesOnHere c kind = (lines : List ScheduleLine) (n : ℕ) (e : InEpoch) (x : Numbered) (w : World) (s : ℕ) (file : FileId) (v : VersionRow) → Delivery c lines n e x w → kind x.packet.body → x.packet.to ≡ s → IsMember e s → GroupsHaveStarted e (place_at w) → NoneAbove e (place_at w) w.underway s file v → IsFree (place_at w) s file v →
-    IsOnItsWay c e (place_at w) w.underway s file v → IsOnItsWay c e (place_at (arrives c n x w)) (arrives c n x w).underway s file v
-
 -- the table of a file with one kept version names a holder of it, and no member whose copy is below it
 pub record TellsHolders (e : InEpoch) (at : Places) (file : FileId) (r : FileRow) (v : VersionRow) : Type 0 where
   pub some_holder : holders_of r v.stamp ≢ []
@@ -120,20 +115,14 @@ pub record TellsHolders (e : InEpoch) (at : Places) (file : FileId) (r : FileRow
 abbrev pub TablesTell : Config → InEpoch → Places → Type 0
 TablesTell c e at = (file : FileId) (r : FileRow) (v : VersionRow) → Knows c e at file r → r.kept ≡ v ∷ [] → TellsHolders e at file r v
 
--- ---- what no law gives yet ----
+-- ---- instances that are closing ----
 
-pub record ConvergenceLeft (c : Config) : Type 0 where
-  -- After the first round each member of the set holds the version, or has pulled it whole.
-  pub pulled : (lines : List ScheduleLine) (n m : ℕ) (e : InEpoch) (k l : ℕ) (file : FileId) (v : VersionRow) (set : Sites) (s : ℕ) → IsAtRest c lines n m e k l file v set → IsMember e s → has set s ≡ true →
-      HoldsTheOnly (place_at (after c lines n k)) s file v ⊎ HasPulled (place_at (after c lines n k)) s file v
-  -- After the ticks of a round that stands directly after another one what a member pulls above its copy is the only kept version of its
-  -- file; and each group has started, from then on.
-  pub current : (lines : List ScheduleLine) (n m : ℕ) (e : InEpoch) (k l : ℕ) → AreCalmRounds c lines n m e k l → PullsAreCurrent c e (place_at (after c lines m 0))
-  pub started : (lines : List ScheduleLine) (n m : ℕ) (e : InEpoch) (k l j : ℕ) → AreCalmRounds c lines n m e k l → j ≤ l → GroupsHaveStarted e (place_at (after c lines m j))
-  -- What an undisturbed file has no instance of, its members have no instance of; nobody is mending it; and no later version of it is
-  -- known: so wherever there is room, the member could adopt the version at once.
-  pub free : (lines : List ScheduleLine) (n m : ℕ) (e : InEpoch) (k l : ℕ) (file : FileId) (v : VersionRow) (set : Sites) (s : ℕ) (w : World) → IsAtRest c lines n m e k l file v set → IsMember e s → has set s ≡ true → IsMoment c lines m l w →
-      HasNoRoom (place_at w) s file v ⊎ (IsFree (place_at w) s file v × NoneAbove e (place_at w) w.underway s file v)
-  -- An Op or a Close that the member takes leaves the version on its way to it: what the member commits is above its copy, and of another
-  -- file.
-  pub commits : GoesOnHere c MayCommit
+-- the close of the instance has begun, and its synchronization site hasn't answered
+abbrev pub IsClosing : Stage → Type 0
+IsClosing stage.Running = ⊥
+IsClosing (stage.Closing made a) = Unit {0}
+IsClosing (stage.Closed a) = ⊥
+
+-- the site is closing no instance of the file
+abbrev pub NoneCloses : Places → ℕ → FileId → Type 0
+NoneCloses at s file = (v : SiteView) (i : Instance) → at s ≡ Some (Running v) → Among i v.store.instances → i.file ≡ file → IsClosing i.stage → ⊥

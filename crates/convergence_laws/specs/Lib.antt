@@ -2,3 +2,8 @@ pub mod Copies
 pub mod Rounds
 pub mod Offers
 pub mod Converging
+pub mod Directories
+pub mod TraceCopies
+pub mod TraceDirectories
+pub mod Rested
+pub mod Wanting

@@ -40,6 +40,10 @@ pub record AreCalmRounds (c : Config) (lines : List ScheduleLine) (n m : ℕ) (e
   pub order : n < m
   pub directly : (j : ℕ) → n < j → j < m → line_at lines j ≡ Passed
 
+-- a late world of them: the end of the first, or the second after all ticks and some deliveries
+abbrev pub IsLate : Config → List ScheduleLine → ℕ → ℕ → ℕ → ℕ → World → Type 0
+IsLate c lines n m k l w = (w ≡ after c lines n k) ⊎ ((j : ℕ) × (j ≤ l) × (w ≡ after c lines m j))
+
 -- a file that is undisturbed in both, and at whose end has one kept version
 pub record IsAtRest (c : Config) (lines : List ScheduleLine) (n m : ℕ) (e : InEpoch) (k l : ℕ) (file : FileId) (v : VersionRow) (set : Sites) : Type 0 where
   pub rounds : AreCalmRounds c lines n m e k l

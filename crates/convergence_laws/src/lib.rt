@@ -4,4 +4,9 @@
 
 mod laws;
 
-pub use laws::{copies_converge, copies_converge_in_three_rounds};
+pub use laws::{
+    copies_converge, copies_converge_in_three_rounds, copies_converge_in_traces,
+    no_directory_is_flagged, no_directory_is_flagged_in_traces, no_rescue_is_wanted,
+    no_rescue_is_wanted_in_traces, some_directories_want_a_rescue, some_files_are_at_rest,
+    undisturbed_directories_want_no_rescue, undisturbed_directories_want_no_rescue_in_traces,
+};

@@ -40,16 +40,16 @@ use Rattle.vector_laws.proofs.FactsRun.{past_onto}
 use Rattle.vector_laws.proofs.Held.{KeepsCopies, boots_copies}
 use Rattle.vector_laws.proofs.SiteFacts.{inside_of as versions_of}
 use Rattle.lock_laws.proofs.Facts.{Later, onto_later}
-use Rattle.running_laws.proofs.StandRun.{Orderly}
+use Rattle.make_laws.proofs.RunningStandRun.{Orderly}
 use Rattle.lock_laws.specs.Going.{IsGranted}
 use Rattle.make_laws.proofs.Happening.{taken_epoch}
-use Rattle.stamp_laws.specs.Laws.{Laws}
-use Rattle.stamp_laws.proofs.Told.{laws_before}
-use Rattle.stamp_laws.proofs.Earlier.{orderly_before}
-use Rattle.stamp_laws.proofs.StoreCovers.{Knows, may_commit}
-use Rattle.stamp_laws.proofs.SiteCovers.{stored_of}
-use Rattle.stamp_laws.proofs.StepCovers.{Arrives}
-use Rattle.stamp_laws.proofs.CoversRun.{PlaceCovers, WorldCovers}
+use Rattle.kept_laws.specs.StampLaws.{Laws}
+use Rattle.kept_laws.proofs.StampTold.{laws_before}
+use Rattle.kept_laws.proofs.StampEarlier.{orderly_before}
+use Rattle.kept_laws.proofs.StampStoreCovers.{Knows, may_commit}
+use Rattle.kept_laws.proofs.StampSiteCovers.{stored_of}
+use Rattle.kept_laws.proofs.StampStepCovers.{Arrives}
+use Rattle.kept_laws.proofs.StampCoversRun.{PlaceCovers, WorldCovers}
 use Rattle.copy_laws.specs.Facts.{PacketFact, CopyFact, InstanceFact, LastBy, ViewFact, DiskFact, NumberedFact, WorldFact}
 use Rattle.copy_laws.proofs.Facts.{body_later, copies_later, view_later}
 use Rattle.copy_laws.proofs.StoreFacts.{MayClose}

@@ -18,13 +18,13 @@ use Rattle.role_steps.specs.declared.instances.Stage.TheVariants as stage
 use Rattle.the_run.proofs.InsideSync.{Found, row_found}
 use Rattle.vector_laws.specs.Written.{WasTold, WrittenAs, NumberedTold, CommitsAreNumbered}
 use Rattle.vector_laws.specs.Facts.{CopyFact as Written, InstanceFact as Versions, LastMade as Made}
-use Rattle.history_laws.specs.Commits.{commits_of}
-use Rattle.history_laws.proofs.History.{Stands, Sound, sound}
+use Rattle.vector_laws.specs.HistoryCommits.{commits_of}
+use Rattle.vector_laws.proofs.HistoryHistory.{Stands, Sound, sound}
 use Rattle.lock_laws.specs.Going.{WasReleased}
-use Rattle.stamp_laws.specs.Commits.{MadeAt, WasMade, Counts}
-use Rattle.stamp_laws.specs.Laws.{Laws}
-use Rattle.stamp_laws.specs.Covering.{CopyCounts}
-use Rattle.stamp_laws.proofs.StoreCovers.{Stored, MayCommit, unreleased}
+use Rattle.kept_laws.specs.StampCommits.{MadeAt, WasMade, Counts}
+use Rattle.kept_laws.specs.StampLaws.{Laws}
+use Rattle.kept_laws.specs.StampCovering.{CopyCounts}
+use Rattle.kept_laws.proofs.StampStoreCovers.{Stored, MayCommit, unreleased}
 use Rattle.copy_laws.specs.Contents.{MadeWithRecord, MadeWith, HasContent, IsVersionOf}
 use Rattle.copy_laws.specs.Facts.{CopyFact, ClosingFact, LastMade, InstanceFact, IsLast, LastBy}
 use Rattle.copy_laws.proofs.Pages.{Histories, has_fits}

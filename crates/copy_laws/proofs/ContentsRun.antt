@@ -10,24 +10,24 @@ use Rattle.the_run.specs.Worlds.{Line, World}
 use Rattle.the_run.specs.Runs.{run_in}
 use Rattle.the_run.proofs.OneList.{one_list}
 use Rattle.vector_laws.specs.Written.{past_of}
-use Rattle.history_laws.proofs.Sited.{run_sited}
-use Rattle.instance_laws.proofs.Agree.{run_agrees}
-use Rattle.inode_laws.proofs.FitsRun.{run_fits}
+use Rattle.vector_laws.proofs.HistorySited.{run_sited}
+use Rattle.pack_laws.proofs.InstanceAgree.{run_agrees}
+use Rattle.pack_laws.proofs.InodeFitsRun.{run_fits}
 use Rattle.lock_laws.specs.Joins.{WasJoined}
 use Rattle.lock_laws.proofs.JoinsRun.{run_joins_once}
 use Rattle.lock_laws.proofs.FactsRun.{run_goes}
 use Rattle.pack_laws.proofs.PacksRun.{run_packs}
-use Rattle.running_laws.proofs.OneSite.{run_one_site}
-use Rattle.running_laws.proofs.Orders.{run_orderly}
-use Rattle.running_laws.proofs.Refusals.{run_plain_grants}
+use Rattle.make_laws.proofs.RunningOneSite.{run_one_site}
+use Rattle.make_laws.proofs.RunningOrders.{run_orderly}
+use Rattle.make_laws.proofs.RunningRefusals.{run_plain_grants}
 use Rattle.make_laws.proofs.FreshRun.{run_fresh}
 use Rattle.make_laws.proofs.Modes.{run_reserved, run_modes}
 use Rattle.make_laws.proofs.LockedRun.{run_locked}
-use Rattle.stamp_laws.specs.Laws.{Laws}
+use Rattle.kept_laws.specs.StampLaws.{Laws}
 use Rattle.role_steps.specs.declared.copies.FileCopy.{FileCopy}
 use Rattle.the_run.proofs.Boots.{every_weaker}
 use Rattle.vector_laws.specs.Held.{copies_on}
-use Rattle.stamp_laws.proofs.CoversRun.{WorldCovers}
+use Rattle.kept_laws.proofs.StampCoversRun.{WorldCovers}
 use Rattle.copy_laws.specs.Contents.{HasItsContent, CopiesHaveContents}
 use Rattle.copy_laws.specs.Facts.{CopyFact, WorldFact}
 use Rattle.copy_laws.proofs.Pages.{Histories, content_is}

@@ -33,21 +33,21 @@ use Rattle.vector_laws.proofs.SiteDisks.{step_disk}
 use Rattle.vector_laws.proofs.StepFacts.{EventFact, step_fact}
 use Rattle.vector_laws.proofs.SyncFacts.{FoundAt, row_at, seen_none}
 use Rattle.vector_laws.proofs.Held.{boots_copies}
-use Rattle.history_laws.specs.Commits.{IsSite}
+use Rattle.vector_laws.specs.HistoryCommits.{IsSite}
 use Rattle.lock_laws.specs.Facts.{NumberedFact as LockNumbered, WorldFact as LockWorld}
-use Rattle.running_laws.specs.Stores.{InstanceSo, Stands}
-use Rattle.running_laws.proofs.StandRun.{Orderly, Standing, standing_kept, first_standing, stores_stand}
-use Rattle.stamp_laws.specs.Commits.{stood, Here}
-use Rattle.stamp_laws.specs.Laws.{Laws}
-use Rattle.stamp_laws.specs.Covering.{CopyCounts}
-use Rattle.stamp_laws.proofs.Outcomes.{Idle}
-use Rattle.stamp_laws.proofs.StoreCovers.{Knows}
-use Rattle.stamp_laws.proofs.CommitCovers.{key_file}
-use Rattle.stamp_laws.proofs.TableCovers.{From, all_from}
-use Rattle.stamp_laws.proofs.StepCovers.{Known, Arrives, EventArrives, step_fine}
-use Rattle.stamp_laws.proofs.WriteSteps.{step_owes}
-use Rattle.stamp_laws.proofs.Stamps.{Commits, joins_low, one_vector}
-use Rattle.stamp_laws.proofs.CoversRun.{PlaceCovers, NumberedBoth, WorldCovers, Where, running_place, stops_covers, told_covers, Does, acts_covers, as_covers}
+use Rattle.make_laws.specs.RunningStores.{InstanceSo, Stands}
+use Rattle.make_laws.proofs.RunningStandRun.{Orderly, Standing, standing_kept, first_standing, stores_stand}
+use Rattle.kept_laws.specs.StampCommits.{stood, Here}
+use Rattle.kept_laws.specs.StampLaws.{Laws}
+use Rattle.kept_laws.specs.StampCovering.{CopyCounts}
+use Rattle.kept_laws.proofs.StampOutcomes.{Idle}
+use Rattle.kept_laws.proofs.StampStoreCovers.{Knows}
+use Rattle.kept_laws.proofs.StampCommitCovers.{key_file}
+use Rattle.kept_laws.proofs.StampTableCovers.{From, all_from}
+use Rattle.kept_laws.proofs.StampStepCovers.{Known, Arrives, EventArrives, step_fine}
+use Rattle.kept_laws.proofs.StampWriteSteps.{step_owes}
+use Rattle.kept_laws.proofs.StampStamps.{Commits, joins_low, one_vector}
+use Rattle.kept_laws.proofs.StampCoversRun.{PlaceCovers, NumberedBoth, WorldCovers, Where, running_place, stops_covers, told_covers, Does, acts_covers, as_covers}
 
 -- ---- what is known of a site when an event comes ----
 

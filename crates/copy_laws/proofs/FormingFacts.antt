@@ -39,9 +39,9 @@ use Rattle.run_laws.specs.Naming.{Deeds, ViewOk}
 use Rattle.run_laws.proofs.RolesTell.{on_call_talks}
 use Rattle.role_steps.proofs.Rows.{row_other}
 use Rattle.lock_laws.proofs.GrantTold.{test_same}
-use Rattle.history_laws.specs.Commits.{NumbersFit}
-use Rattle.history_laws.proofs.History.{same_file_refl}
-use Rattle.stamp_laws.proofs.CommitCovers.{key_file}
+use Rattle.vector_laws.specs.HistoryCommits.{NumbersFit}
+use Rattle.vector_laws.proofs.HistoryHistory.{same_file_refl}
+use Rattle.kept_laws.proofs.StampCommitCovers.{key_file}
 use Rattle.copy_laws.specs.Contents.{HasContent, IsVersionOf, IsSized}
 use Rattle.copy_laws.proofs.Pages.{whole_front, has_fits}
 use Rattle.vector_laws.specs.Facts.{onto}

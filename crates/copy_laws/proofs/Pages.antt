@@ -16,8 +16,8 @@ use Rattle.trace_book.specs.declared.record.Record.{Record}
 use Rattle.trace_book.specs.declared.record.Record.TheVariants as says
 use Rattle.role_steps.specs.Views.{Told, Shown}
 use Rattle.vector_laws.specs.Written.{WasTold, CommitsAreNumbered}
-use Rattle.history_laws.specs.Commits.{commits_of, with_record, with_told, CommitsAreSited, StampsAreOnce, FitRecord, FitTold, NumbersFit}
-use Rattle.history_laws.proofs.History.{Sound, sound, once_older, same_file_eq, same_file_refl, version_made}
+use Rattle.vector_laws.specs.HistoryCommits.{commits_of, with_record, with_told, CommitsAreSited, StampsAreOnce, FitRecord, FitTold, NumbersFit}
+use Rattle.vector_laws.proofs.HistoryHistory.{Sound, sound, once_older, same_file_eq, same_file_refl, version_made}
 use Rattle.copy_laws.specs.Contents.{MadeWithRecord, MadeWith, HasContent}
 
 -- ---- a front of pages ----

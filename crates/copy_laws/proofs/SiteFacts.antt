@@ -45,7 +45,7 @@ use Rattle.role_steps.proofs.Sending.{every_cond}
 use Rattle.vector_laws.proofs.SyncFacts.{FoundAt, row_at}
 use Rattle.vector_laws.proofs.SiteFacts.{talk_none}
 use Rattle.lock_laws.proofs.StepFacts.{notify_silent, page_silent}
-use Rattle.stamp_laws.proofs.CommitCovers.{key_file}
+use Rattle.kept_laws.proofs.StampCommitCovers.{key_file}
 use Rattle.copy_laws.specs.Contents.{HasContent, IsPageOf}
 use Rattle.copy_laws.proofs.Pages.{Histories, whole_pages, front_length, next_front, one_content, has_fits}
 

@@ -29,7 +29,7 @@ use Rattle.run_laws.proofs.Moves.{inner_view, inner_fine}
 use Rattle.run_laws.proofs.InsideSteps.{adopts_of_inner, call_inner}
 use Rattle.run_laws.proofs.Steps.{EventNames, takes_fine, starts_part_fine, begins_fine, leaves_of_fine}
 use Rattle.run_laws.proofs.RolesTell.{on_call_talks}
-use Rattle.history_laws.specs.Commits.{NumbersFit}
+use Rattle.vector_laws.specs.HistoryCommits.{NumbersFit}
 use Rattle.vector_laws.proofs.SyncFacts.{every_flat}
 use Rattle.vector_laws.proofs.SiteFacts.{talk_none}
 use Rattle.vector_laws.proofs.FormingFacts.{both_true}

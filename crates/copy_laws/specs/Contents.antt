@@ -12,7 +12,7 @@ use Rattle.role_steps.specs.declared.copies.FileCopy.{FileCopy}
 use Rattle.the_run.specs.Worlds.{World, Place, place_at}
 use Rattle.vector_laws.specs.Held.{copies_on}
 use Rattle.vector_laws.specs.Written.{past_of, WasTold}
-use Rattle.history_laws.specs.Commits.{commits_of}
+use Rattle.vector_laws.specs.HistoryCommits.{commits_of}
 
 -- ---- the content of a version ----
 

@@ -3,7 +3,7 @@ use Rattle.locus_ids.specs.declared.config.Config.{Config}
 use Rattle.the_run.specs.Worlds.{World}
 use Rattle.vector_laws.specs.Held.{CopiesAreTold}
 use Rattle.vector_laws.specs.Written.{past_of, CommitsAreNumbered}
-use Rattle.history_laws.specs.Commits.{NumbersFit}
+use Rattle.vector_laws.specs.HistoryCommits.{NumbersFit}
 use Rattle.kept_laws.specs.Known.{NamesAreVersions}
 use Rattle.kept_laws.specs.Roots.{RootsFollow}
 use Rattle.kept_laws.specs.Kept.{KeptVersionsHold}

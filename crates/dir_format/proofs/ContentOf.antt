@@ -96,7 +96,7 @@ one_kind_told [] h = refl
 one_kind_told (d ∷ ds) h =
     both_back (list_all (λ e. not (e.ino == d.ino) || (kind_byte e.kind == kind_byte d.kind)) ds) (has_one_kind ds) (kinds_told d.ino d.kind ds h.0) (one_kind_told ds h.1)
 
-dir_tells : (ds : List Entry) → is_dir ds ≡ true → IsDir ds
+pub dir_tells : (ds : List Entry) → is_dir ds ≡ true → IsDir ds
 dir_tells ds h =
     let a = both (list_all is_entry ds) (ascends ds && has_one_kind ds) h in
     let b = both (ascends ds) (has_one_kind ds) a.1 in

@@ -1,4 +1,5 @@
 pub mod Spans
+pub mod SparseBytes
 pub mod Images
 pub mod Cuts
 pub mod Record

@@ -9,3 +9,4 @@ pub mod Script
 pub mod ScriptLaws
 pub mod ScriptDisk
 pub mod Store
+pub mod SparseBytes

@@ -17,11 +17,11 @@ use Rattle.disk_model.specs.Store.{left_in, with_room, durable_with_room}
 
 -- what a read gives
 abbrev pub seen : ScriptDisk → List ℕ
-seen disk = disk.store.seen.items
+seen disk = disk.store.seen
 
 -- what was on the disk when it was last synced, or has been made durable since
 abbrev pub durable : ScriptDisk → List ℕ
-durable disk = disk.store.durable.items
+durable disk = disk.store.durable
 
 -- the ranges written since then, the oldest first
 abbrev pub unsynced : ScriptDisk → List Span

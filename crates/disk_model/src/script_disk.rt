@@ -101,7 +101,7 @@ impl Disk for ScriptDisk {
     ghost only_now = { λ disk image is. is };
 
     fn len(&self) -> u32 {
-        self.store.seen.len() as u32
+        self.store.seen.len()
     }
 
     fn read(&mut self, at: u32, buf: &mut [u8]) -> Result<(), DiskFault>
@@ -118,8 +118,7 @@ impl Disk for ScriptDisk {
     {
         match self.script.next_read() {
             Turn::Passes => {
-                let from = at as usize;
-                buf.copy_from_slice(&self.store.seen[from..from + buf.len()]);
+                self.store.seen.read(at, buf);
                 Ok(())
             }
             _ => Err(DiskFault::Failed),

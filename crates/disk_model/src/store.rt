@@ -5,6 +5,7 @@ ghost use Rattle.disk_model.specs.Images.{overwritten, covers};
 ghost use Rattle.disk_model.specs.Store.{AreInRange, SameOutside, left_in, with_room, durable_with_room};
 
 use crate::Leave;
+use crate::sparse_bytes::SparseBytes;
 use locus_ids::NoMemory;
 use std::alloc::Global;
 
@@ -20,14 +21,14 @@ pub struct Span {
 
 #[derive(Drop)]
 pub(crate) struct Store {
-    pub(crate) seen: Vec<u8>,
-    pub(crate) durable: Vec<u8>,
+    pub(crate) seen: SparseBytes,
+    pub(crate) durable: SparseBytes,
     pub(crate) unsynced: Vec<Span>,
-    ghost same_length: { length durable.items ≡ length seen.items },
-    ghost short: { length seen.items < 2 ^ 32 },
+    ghost same_length: { length durable ≡ length seen },
+    ghost short: { length seen < 2 ^ 32 },
     ghost room: { 1024 ≤ vec_capacity unsynced },
-    ghost in_range: { AreInRange unsynced.items (length seen.items) },
-    ghost synced: { SameOutside unsynced.items durable.items seen.items },
+    ghost in_range: { AreInRange unsynced.items (length seen) },
+    ghost synced: { SameOutside unsynced.items durable seen },
 }
 
 impl Store {
@@ -35,12 +36,10 @@ impl Store {
 
     /// Zeros, all of them durable.
     pub(crate) fn new(alloc: Global, len: u32) -> Result<Store, NoMemory>
-        ensures { IfOk result (λ store. (store.seen.items ≡ replicate len 0) × (store.durable.items ≡ replicate len 0) × (store.unsynced.items ≡ [])) }
+        ensures { IfOk result (λ store. (store.seen ≡ replicate len 0) × (store.durable ≡ replicate len 0) × (store.unsynced.items ≡ [])) }
     {
-        let mut seen = Vec::new(alloc);
-        seen.resize(len as usize, 0)?;
-        let mut durable = Vec::new(alloc);
-        durable.resize(len as usize, 0)?;
+        let seen = SparseBytes::new(alloc, len)?;
+        let durable = SparseBytes::new(alloc, len)?;
         let unsynced = Vec::with_capacity(alloc, ROOM)?;
         Ok(Store {
             seen,
@@ -51,8 +50,8 @@ impl Store {
 
     /// Makes durable what a read gives.
     pub(crate) fn sync(&mut self)
-        ensures seen { self.new.seen.items ≡ self.old.seen.items }
-        ensures durable { self.new.durable.items ≡ self.old.seen.items }
+        ensures seen { self.new.seen ≡ self.old.seen }
+        ensures durable { self.new.durable ≡ self.old.seen }
         ensures unsynced { self.new.unsynced.items ≡ [] }
     {
         copy_spans(&self.seen, &mut self.durable, &self.unsynced);
@@ -61,8 +60,8 @@ impl Store {
 
     /// Reads again what is durable.
     pub(crate) fn revert(&mut self)
-        ensures seen { self.new.seen.items ≡ self.old.durable.items }
-        ensures durable { self.new.durable.items ≡ self.old.durable.items }
+        ensures seen { self.new.seen ≡ self.old.durable }
+        ensures durable { self.new.durable ≡ self.old.durable }
         ensures unsynced { self.new.unsynced.items ≡ [] }
     {
         copy_spans(&self.durable, &mut self.seen, &self.unsynced);
@@ -71,9 +70,9 @@ impl Store {
 
     /// Writes this byte to the ranges that aren't synced, and makes all durable.
     pub(crate) fn spoil(&mut self, byte: u8)
-        ensures length { length self.new.seen.items ≡ length self.old.seen.items }
-        ensures seen { (k : ℕ) → slice_index self.new.seen.items k ≡ cond (covers self.old.unsynced.items k) byte (slice_index self.old.seen.items k) }
-        ensures durable { self.new.durable.items ≡ self.new.seen.items }
+        ensures length { length self.new.seen ≡ length self.old.seen }
+        ensures seen { (k : ℕ) → slice_index self.new.seen k ≡ cond (covers self.old.unsynced.items k) byte (slice_index self.old.seen k) }
+        ensures durable { self.new.durable ≡ self.new.seen }
         ensures unsynced { self.new.unsynced.items ≡ [] }
     {
         fill_spans(&mut self.seen, &self.unsynced, byte);
@@ -82,9 +81,9 @@ impl Store {
 
     /// Notes that a range is no longer durable. Where there is no room for a further one, all is made durable first.
     pub(crate) fn mark(&mut self, span: Span)
-        requires { span.at + span.len ≤ length self.old.seen.items }
-        ensures seen { self.new.seen.items ≡ self.old.seen.items }
-        ensures durable { self.new.durable.items ≡ durable_with_room self.old.unsynced.items self.old.durable.items self.old.seen.items }
+        requires { span.at + span.len ≤ length self.old.seen }
+        ensures seen { self.new.seen ≡ self.old.seen }
+        ensures durable { self.new.durable ≡ durable_with_room self.old.unsynced.items self.old.durable self.old.seen }
         ensures unsynced { self.new.unsynced.items ≡ with_room self.old.unsynced.items ++ span ∷ [] }
     {
         self.make_room();
@@ -92,8 +91,8 @@ impl Store {
     }
 
     fn make_room(&mut self)
-        ensures seen { self.new.seen.items ≡ self.old.seen.items }
-        ensures durable { self.new.durable.items ≡ durable_with_room self.old.unsynced.items self.old.durable.items self.old.seen.items }
+        ensures seen { self.new.seen ≡ self.old.seen }
+        ensures durable { self.new.durable ≡ durable_with_room self.old.unsynced.items self.old.durable self.old.seen }
         ensures unsynced { self.new.unsynced.items ≡ with_room self.old.unsynced.items }
         ensures room { length self.new.unsynced.items < 1024 }
     {
@@ -105,9 +104,9 @@ impl Store {
     /// Writes bytes at a place, which stay unsynced.
     #[inline]
     pub(crate) fn write(&mut self, at: u32, bytes: &[u8])
-        requires { at + length bytes.now ≤ length self.old.seen.items }
-        ensures seen { self.new.seen.items ≡ overwritten self.old.seen.items at bytes.now }
-        ensures durable { self.new.durable.items ≡ durable_with_room self.old.unsynced.items self.old.durable.items self.old.seen.items }
+        requires { at + length bytes.now ≤ length self.old.seen }
+        ensures seen { self.new.seen ≡ overwritten self.old.seen at bytes.now }
+        ensures durable { self.new.durable ≡ durable_with_room self.old.unsynced.items self.old.durable self.old.seen }
         ensures unsynced { self.new.unsynced.items ≡ with_room self.old.unsynced.items ++ record { at = at; len = length bytes.now } ∷ [] }
     {
         if self.unsynced.len() < ROOM {
@@ -121,9 +120,9 @@ impl Store {
     #[inline]
     fn write_in_room(&mut self, at: u32, bytes: &[u8])
         requires room { length self.old.unsynced.items < 1024 }
-        requires inside { at + length bytes.now ≤ length self.old.seen.items }
-        ensures seen { self.new.seen.items ≡ overwritten self.old.seen.items at bytes.now }
-        ensures durable { self.new.durable.items ≡ self.old.durable.items }
+        requires inside { at + length bytes.now ≤ length self.old.seen }
+        ensures seen { self.new.seen ≡ overwritten self.old.seen at bytes.now }
+        ensures durable { self.new.durable ≡ self.old.durable }
         ensures unsynced { self.new.unsynced.items ≡ self.old.unsynced.items ++ record { at = at; len = length bytes.now } ∷ [] }
     {
         let _seen = self.seen.len();
@@ -131,16 +130,16 @@ impl Store {
             at,
             len: bytes.len() as u32,
         });
-        put(&mut self.seen, at as usize, bytes);
+        self.seen.write(at, bytes);
     }
 
     /// Makes all durable, and then writes bytes at a place.
     #[cold]
     #[inline(never)]
     fn write_synced(&mut self, at: u32, bytes: &[u8])
-        requires { at + length bytes.now ≤ length self.old.seen.items }
-        ensures seen { self.new.seen.items ≡ overwritten self.old.seen.items at bytes.now }
-        ensures durable { self.new.durable.items ≡ self.old.seen.items }
+        requires { at + length bytes.now ≤ length self.old.seen }
+        ensures seen { self.new.seen ≡ overwritten self.old.seen at bytes.now }
+        ensures durable { self.new.durable ≡ self.old.seen }
         ensures unsynced { self.new.unsynced.items ≡ record { at = at; len = length bytes.now } ∷ [] }
     {
         self.sync();
@@ -149,22 +148,22 @@ impl Store {
 
     /// Writes a byte over a range, which stays unsynced.
     pub(crate) fn fill(&mut self, span: Span, byte: u8)
-        requires { span.at + span.len ≤ length self.old.seen.items }
-        ensures seen { self.new.seen.items ≡ overwritten self.old.seen.items span.at (replicate span.len byte) }
-        ensures durable { self.new.durable.items ≡ durable_with_room self.old.unsynced.items self.old.durable.items self.old.seen.items }
+        requires { span.at + span.len ≤ length self.old.seen }
+        ensures seen { self.new.seen ≡ overwritten self.old.seen span.at (replicate span.len byte) }
+        ensures durable { self.new.durable ≡ durable_with_room self.old.unsynced.items self.old.durable self.old.seen }
         ensures unsynced { self.new.unsynced.items ≡ with_room self.old.unsynced.items ++ span ∷ [] }
     {
         self.mark(span);
-        fill_span(&mut self.seen, span, byte);
+        self.seen.fill(span, byte);
     }
 
     /// Does what a stopped write leaves.
     #[cold]
     #[inline(never)]
     pub(crate) fn stop_write(&mut self, at: u32, bytes: &[u8], leave: Leave)
-        requires { at + length bytes.now ≤ length self.old.seen.items }
-        ensures seen { self.new.seen.items ≡ left_in leave self.old.seen.items at bytes.now }
-        ensures durable { self.new.durable.items ≡ durable_with_room self.old.unsynced.items self.old.durable.items self.old.seen.items }
+        requires { at + length bytes.now ≤ length self.old.seen }
+        ensures seen { self.new.seen ≡ left_in leave self.old.seen at bytes.now }
+        ensures durable { self.new.durable ≡ durable_with_room self.old.unsynced.items self.old.durable self.old.seen }
         ensures unsynced { self.new.unsynced.items ≡ with_room self.old.unsynced.items ++ record { at = at; len = length bytes.now } ∷ [] }
     {
         let _seen = self.seen.len();
@@ -202,35 +201,25 @@ fn put_many(to: &mut [u8], at: usize, bytes: &[u8])
     to[at..end].copy_from_slice(bytes);
 }
 
-fn fill_span(to: &mut [u8], span: Span, byte: u8)
-    requires { span.at + span.len ≤ length to.old }
-    ensures { to.new ≡ overwritten to.old span.at (replicate span.len byte) }
-{
-    let at = span.at as usize;
-    let end = at + span.len as usize;
-    to[at..end].fill(byte);
-}
-
 /// Copies these ranges, outside which the bytes are the same already.
-fn copy_spans(from: &[u8], to: &mut [u8], spans: &[Span])
+fn copy_spans(from: &SparseBytes, to: &mut SparseBytes, spans: &[Span])
     requires long { length to.old ≡ length from.now }
     requires in_range { AreInRange spans.now (length from.now) }
     requires outside { SameOutside spans.now to.old from.now }
     ensures { to.new ≡ from.now }
 {
     for span in spans {
-        let at = span.at as usize;
-        let end = at + span.len as usize;
-        put(to, at, &from[at..end]);
+        to.copy(from, *span);
     }
 }
 
 /// Writes this byte to these ranges.
-fn fill_spans(to: &mut [u8], spans: &[Span], byte: u8)
+fn fill_spans(to: &mut SparseBytes, spans: &[Span], byte: u8)
     requires in_range { AreInRange spans.now (length to.old) }
-    ensures { (k : ℕ) → slice_index to.new k ≡ cond (covers spans.now k) byte (slice_index to.old k) }
+    ensures long { length to.new ≡ length to.old }
+    ensures bytes { (k : ℕ) → slice_index to.new k ≡ cond (covers spans.now k) byte (slice_index to.old k) }
 {
     for span in spans {
-        fill_span(to, *span, byte);
+        to.fill(*span, byte);
     }
 }

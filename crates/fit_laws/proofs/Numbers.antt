@@ -10,7 +10,7 @@ use Rattle.trace_book.specs.declared.record.Record.TheVariants as says
 use Rattle.role_steps.specs.Views.{Told, Shown}
 use Rattle.the_run.specs.Worlds.{Line}
 use Rattle.vector_laws.specs.Written.{IsCommitOf, IsWrittenBy, JoinsAll, WrittenAs, past_of}
-use Rattle.history_laws.specs.Commits.{IsSite, SitedTold}
+use Rattle.vector_laws.specs.HistoryCommits.{IsSite, SitedTold}
 use Rattle.pack_laws.specs.Making.{IsOwnNumber, NotEmpty, Originates}
 use Rattle.pack_laws.specs.Packs.{ToldPacked}
 use Rattle.tree_model.specs.Histories.{format_version, format_versions, history}

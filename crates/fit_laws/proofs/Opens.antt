@@ -14,7 +14,7 @@ use Rattle.trace_book.specs.declared.record.Record.{Record}
 use Rattle.trace_book.specs.declared.record.Record.TheVariants as says
 use Rattle.role_steps.specs.Views.{Told, Shown, Begins}
 use Rattle.the_run.specs.Worlds.{Line}
-use Rattle.history_laws.specs.Commits.{IsSite}
+use Rattle.vector_laws.specs.HistoryCommits.{IsSite}
 use Rattle.lawful_trace.specs.TreeRows.{IsCallIn}
 use Rattle.tree_laws.specs.Following.{IsFollowed, MayTell, MayBegin, BeginsGranted, BeginsMade}
 use Rattle.tree_laws.specs.Packets.{MakeOpenSs, OpenSsFact, PlainOpenSs}
@@ -22,7 +22,7 @@ use Rattle.tree_laws.specs.Past.{BeginsIt, NamingRecord, Printed, WasBegun, WasG
 use Rattle.tree_laws.specs.Printed.{entries}
 use Rattle.tree_laws.proofs.Grants.{open_named}
 use Rattle.one_tree_laws.specs.Rest.{EachRest, Past}
-use Rattle.store_step_laws.proofs.Known.{known_call}
+use Rattle.rest_laws.proofs.StoreStepKnown.{known_call}
 use Rattle.schedule_lines.specs.declared.line.ScheduleLine.{ScheduleLine}
 use Rattle.wire_messages.specs.declared.body.Body.{Body}
 use Rattle.wire_messages.specs.declared.body.Body.TheVariants as body
@@ -123,7 +123,7 @@ opens_sited c t past e ss i f mode.Write set k base vector parents h = plain_sit
 opens_sited c t past e ss i f mode.Resolve set k base vector parents h = plain_sited c t past e ss i f mode.Resolve set k base vector parents h
 opens_sited c t past e ss i f mode.Mend set k base vector parents h = plain_sited c t past e ss i f mode.Mend set k base vector parents h
 
-body_opens : (c : Config) (t : List Line) → Past c t → (p : Packet) (b : Body) → BodyFact c t p b → OpensForSite b
+pub body_opens : (c : Config) (t : List Line) → Past c t → (p : Packet) (b : Body) → BodyFact c t p b → OpensForSite b
 body_opens c t past p (body.OpenSs inst file m set kind base vector parents) h = opens_sited c t past p.epoch p.to inst file m set kind base vector parents h
 body_opens c t past p _ h = tt
 

@@ -21,7 +21,7 @@ use Rattle.the_run.specs.Runs.{run_in}
 use Rattle.the_run.specs.Worlds.{Line, Numbered, Running, place_at}
 use Rattle.the_run.proofs.Runs.{every_run}
 use Rattle.row_laws.specs.Voids.{LinesFit}
-use Rattle.instance_laws.proofs.Agree.{run_agrees}
+use Rattle.pack_laws.proofs.InstanceAgree.{run_agrees}
 use Rattle.pack_laws.specs.Packed.{BodyPacked, PullPacked, WorldPacked}
 use Rattle.pack_laws.proofs.PacksRun.{all_kept, first_all, sent_packed}
 use Rattle.tree_model.specs.Files.{HeldVersion}
@@ -56,7 +56,7 @@ pull_fits c t past e me p k packed =
     let slot : FitsSlot p.file k.version = held_slot c t past p.file k.version k.is_version in
     record { packed = packed.here; number = slot.number; version = told_version k.version p.kind p.set p.stamp p.vector p.size k.kind_is k.set_is k.stamp_is k.vector_is k.size_is slot.version }
 
-pulls_fit : (c : Config) (t : List Line) → Past c t → (e : EpochId) (me : ℕ) (ps : List Pull) → Every (PullFact c t e me) ps → Every (PullPacked c me) ps → Every (FitsPull c me) ps
+pub pulls_fit : (c : Config) (t : List Line) → Past c t → (e : EpochId) (me : ℕ) (ps : List Pull) → Every (PullFact c t e me) ps → Every (PullPacked c me) ps → Every (FitsPull c me) ps
 pulls_fit c t past e me [] h k = tt
 pulls_fit c t past e me (p ∷ ps) h k = (pull_fits c t past e me p h.0 k.0, pulls_fit c t past e me ps h.1 k.1)
 
@@ -68,7 +68,7 @@ run_pulls c lines fit packs few s v e here inside =
     let fact : InsideFact c (frame_in c s v.boot e) (run_in c lines).trace v = run_inside c lines fit packs few s v e here inside in
     pulls_fit c (run_in c lines).trace (past_of_run c lines fit packs few) e.id s v.pulls fact.pulls ((world_packed c lines).views s v here).pulls
 
-notice_fits : (c : Config) (t : List Line) → Past c t → (p : Packet) (b : Body) → BodyFact c t p b → BodyPacked c p.from p.to b → NoticeFits c p.to b
+pub notice_fits : (c : Config) (t : List Line) → Past c t → (p : Packet) (b : Body) → BodyFact c t p b → BodyPacked c p.from p.to b → NoticeFits c p.to b
 notice_fits c t past p (body.Notify file kind set size stamp vector holder) k packed =
     let slot : FitsSlot file k.version = held_slot c t past file k.version k.is_version in
     (packed.here, slot.number, told_version k.version kind set stamp vector size k.kind_is k.set_is k.stamp_is k.vector_is k.size_is slot.version)

@@ -72,14 +72,14 @@ next_room c t me links v e past fact h = (step_room c me links v e (site_good c 
 
 -- ---- the world ----
 
-abbrev PlaceRoom : Place → Type 0
+abbrev pub PlaceRoom : Place → Type 0
 PlaceRoom (Running v) = RoomFits v.store
 PlaceRoom (Stopped d) = RoomFits (record { copies = d.copies; instances = [] })
 
-abbrev RoomWorld : World → Type 0
+abbrev pub RoomWorld : World → Type 0
 RoomWorld w = (s : ℕ) (p : Place) → place_at w s ≡ Some p → PlaceRoom p
 
-abbrev Roomy : Config → World → Type 0
+abbrev pub Roomy : Config → World → Type 0
 Roomy c w = IsRest c w.trace → RoomWorld w
 
 some_place : (p q : Place) → ◌≡◌ {A = Option Place} (Some p) (Some q) → p ≡ q
@@ -141,10 +141,10 @@ booted c n s d (CutOff x how) w here same g = stops c n s _ x w (λ f. subst (λ
 
 -- ---- all lines ----
 
-abbrev Both : Config → World → Type 0
+abbrev pub Both : Config → World → Type 0
 Both c w = Holds c w × Roomy c w
 
-kept_room : (c : Config) (lines : List ScheduleLine) → LinesFit c lines → RolesDo c → KeptIn c lines (λ n w. Both c w)
+pub kept_room : (c : Config) (lines : List ScheduleLine) → LinesFit c lines → RolesDo c → KeptIn c lines (λ n w. Both c w)
 kept_room c lines fit roles = record {
   begins = λ n w le q g. g;
   ticks = λ n most s v w at here g. (one.ticks n most s v w at here g.0, does c n s Ticks v w here g.0 g.1);
@@ -192,7 +192,7 @@ place_found : (xs : List PlaceRow) (s : ℕ) (p : Place) → Every (λ (r : Plac
 place_found xs s p h None e k = absurd (none_place p k)
 place_found xs s p h (Some r) e k = subst PlaceRoom (some_place r.place p k) (every_among (λ (x : PlaceRow). PlaceRoom x.place) r xs (row_key place_site s xs r e).0 h)
 
-first_room : (c : Config) → Roomy c (first_world c)
+pub first_room : (c : Config) → Roomy c (first_world c)
 first_room c r s p e = place_found (first_world c).places s p (first_rows c (filter (λ (t : ℕ). nat_lt t (c.sites + 1)) all_sites)) (row place_site s (first_world c).places) refl e
 
 -- ---- every run ----

@@ -31,8 +31,8 @@ use Rattle.tree_laws.proofs.Names.{true_false}
 use Rattle.order_laws.proofs.Alone.{first_of, second_of}
 use Rattle.order_laws.proofs.Standing.{same_file_eq}
 use Rattle.one_tree_laws.specs.Rest.{EachRest, Past, RangeCall}
-use Rattle.store_step_laws.specs.Known.{IsKnownCall}
-use Rattle.store_step_laws.proofs.Known.{known_call}
+use Rattle.rest_laws.specs.StoreStepKnown.{IsKnownCall}
+use Rattle.rest_laws.proofs.StoreStepKnown.{known_call}
 
 -- ---- packs of a group ----
 

@@ -22,7 +22,7 @@ use Rattle.role_steps.specs.declared.instances.Instance.{Instance}
 use Rattle.role_steps.specs.declared.instances.Stage.{Stage}
 use Rattle.role_steps.specs.declared.instances.Stage.TheVariants as stage
 use Rattle.the_run.specs.Worlds.{Line}
-use Rattle.history_laws.specs.Commits.{IsSite}
+use Rattle.vector_laws.specs.HistoryCommits.{IsSite}
 use Rattle.pack_laws.specs.Making.{IsOwnNumber}
 use Rattle.pack_laws.specs.Packs.{HasPack, ToldPacked}
 use Rattle.tree_model.specs.declared.instance.Instance.{Instance as Open}
@@ -42,9 +42,9 @@ use Rattle.tree_laws.proofs.Names.{some_is}
 use Rattle.order_laws.proofs.Lists.{all_found}
 use Rattle.store_laws.specs.Rests.{StandsOnHeld, StoreRests}
 use Rattle.store_laws.proofs.Raising.{joins_greatest, length_raised, raised_other, raised_same, sixteen}
-use Rattle.store_step_laws.proofs.Counters.{counter_low}
-use Rattle.store_step_laws.proofs.Known.{inside_site}
-use Rattle.store_step_laws.proofs.Resting.{store_rests}
+use Rattle.rest_laws.proofs.StoreStepCounters.{counter_low}
+use Rattle.rest_laws.proofs.StoreStepKnown.{inside_site}
+use Rattle.rest_laws.proofs.StoreStepResting.{store_rests}
 use Rattle.one_tree_laws.specs.Rest.{EachRest, Past}
 use Rattle.fit_laws.specs.Inodes.{IsInodeNumber}
 use Rattle.fit_laws.specs.Room.{RoomFits}

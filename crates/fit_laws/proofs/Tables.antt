@@ -46,7 +46,7 @@ tables_are : (c : Config) (trace : List Line) (f : Frame) → EachRest c trace �
 tables_are c trace f rest [] h = tt
 tables_are c trace f rest (t ∷ ts) h = (rows_are c trace f.epoch t.group rest t.files h.0.rows, tables_are c trace f rest ts h.1)
 
-site_tables : (c : Config) (s : ℕ) (trace : List Line) (v : SiteView) (o : Option InEpoch) → EachRest c trace → SiteIn c s trace v o → Every AreInodes v.tables
+pub site_tables : (c : Config) (s : ℕ) (trace : List Line) (v : SiteView) (o : Option InEpoch) → EachRest c trace → SiteIn c s trace v o → Every AreInodes v.tables
 site_tables c s trace v None rest h = subst (Every AreInodes) (sym h.tables) tt
 site_tables c s trace v (Some e) rest h = tables_are c trace (frame_in c s v.boot e) rest v.tables h.tables
 

@@ -15,7 +15,7 @@ use Rattle.trace_book.specs.declared.record.Record.{Record}
 use Rattle.trace_book.specs.declared.record.Record.TheVariants as says
 use Rattle.role_steps.specs.Views.{Told, Shown}
 use Rattle.the_run.specs.Worlds.{Line}
-use Rattle.history_laws.specs.Commits.{IsSite}
+use Rattle.vector_laws.specs.HistoryCommits.{IsSite}
 use Rattle.tree_model.specs.Histories.{format_stamp, format_version, format_versions, history, history_after}
 use Rattle.tree_laws.specs.Following.{IsFollowed, MayTell}
 use Rattle.tree_laws.specs.Instances.{Stands}
@@ -25,8 +25,8 @@ use Rattle.order_laws.proofs.Alone.{first_of, second_of}
 use Rattle.order_laws.proofs.Standing.{same_file_eq, same_stamp_eq}
 use Rattle.one_tree_laws.specs.Rest.{EachRest, Past, RestTold}
 use Rattle.store_laws.proofs.Raising.{part_written}
-use Rattle.store_step_laws.proofs.Counters.{counter_low}
-use Rattle.store_step_laws.proofs.First.{counts_none}
+use Rattle.rest_laws.proofs.StoreStepCounters.{counter_low}
+use Rattle.rest_laws.proofs.StoreStepFirst.{counts_none}
 
 -- ---- stamps, and the counters of their sites ----
 

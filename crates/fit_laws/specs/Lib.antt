@@ -1,3 +1,4 @@
+pub mod EntryEntries
 pub mod Inodes
 pub mod Opens
 pub mod Working
@@ -5,3 +6,4 @@ pub mod Versions
 pub mod Storing
 pub mod Room
 pub mod Pulling
+pub mod CalmAskingAsked

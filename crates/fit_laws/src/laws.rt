@@ -1,3 +1,5 @@
+//! What every run asks of disks, tables and packets has room and is in range: none of the causes for which a role refuses a value as
+//! unfit comes in any run.
 ghost use Rattle.std.specs.Prelude.{ℕ, ◌≡◌, ◌≤◌, List, length, Some};
 ghost use Rattle.locus_ids.specs.declared.config.Config.{Config};
 ghost use Rattle.locus_ids.specs.declared.ids.FileId.{FileId};

@@ -25,8 +25,8 @@ use Rattle.row_laws.proofs.Voids.{run_voids}
 use Rattle.call_row_laws.specs.Lines.{VoidCall, IsVoidCall}
 use Rattle.call_row_laws.proofs.CallTales.{run_void_calls}
 use Rattle.tree_laws.specs.Following.{RowsAreLawful}
-use Rattle.mend_step_laws.specs.Counting.{CountedRecord, IsCountedRow}
-use Rattle.cut_laws.proofs.Run.{schedule_counted}
+use Rattle.rest_laws.specs.MendStepCounting.{CountedRecord, IsCountedRow}
+use Rattle.whole_run_laws.proofs.CutRun.{schedule_counted}
 
 stop_line : (c : Config) (lines : List ScheduleLine) (n : ℕ) (before : Trace) (site : ℕ) (why : StopCause) → StopAsked lines n before site why → ArmedStop c lines n before site why → IsCounted c lines n before site why → StopLine c lines n before site why
 stop_line c lines n before site cause.Asked a k r = a

@@ -10,16 +10,22 @@ use Rattle.call_row_laws.proofs.TreeSum.{tree_lawful}
 use Rattle.copy_laws.proofs.Hold.{run_versions_and_copies}
 use Rattle.bound_laws.proofs.RunsAsk.{requests_bounded}
 use Rattle.bound_laws.proofs.RunsSend.{deliveries_send_one}
+use Rattle.orderly_laws.proofs.CalmRounds.{rounds_stay_calm}
 use Rattle.orderly_traces.proofs.Forms.{blocks_form}
 use Rattle.orderly_traces.proofs.OwnLeaves.{leaves_are_own}
 use Rattle.tree_laws.specs.Following.{RowsAreLawful}
-use Rattle.mend_step_laws.proofs.Meeting.{rows_meet}
+use Rattle.rest_laws.proofs.MendStepMeeting.{rows_meet}
 use Rattle.rest_laws.proofs.Run.{schedule_rows}
 use Rattle.rest_laws.proofs.Shown.{shown_entries}
-use Rattle.cut_laws.proofs.Run.{schedule_counted}
+use Rattle.whole_run_laws.proofs.CutRun.{schedule_counted}
 use Rattle.row_laws.proofs.ArmsKept.{run_keeps_calls}
 use Rattle.input_order_laws.proofs.Order.{first_in_order}
 use Rattle.whole_run_laws.proofs.Disks.{disks_hold}
+use Rattle.calm_laws.proofs.CalmAnswerAnswered.{calm_left, rounds_answer}
+use Rattle.convergence_laws.proofs.DirectoriesRescued.{rescued, rescued_in_three}
+use Rattle.convergence_laws.proofs.TraceConverging.{converging}
+use Rattle.convergence_laws.proofs.TraceFlagged.{none_flagged}
+use Rattle.convergence_laws.proofs.TraceRescued.{undisturbed_by_trace, rescue_by_trace}
 use Rattle.whole_run_laws.proofs.Rounds.{large_rounds}
 use Rattle.headline_laws.specs.Holds.{RunHolds, RunHoldsThroughout}
 use Rattle.headline_laws.proofs.Comes.{run_comes}
@@ -46,6 +52,12 @@ run_holds_all lines order = record {
   lawful = λ none. run_lawful lines order none;
   formed = λ none. blocks_form lines order none;
   leaves = λ none. leaves_are_own lines order none;
+  answers = λ none. rounds_answer lines order none;
+  steady = rounds_stay_calm (config_of lines);
+  converge = λ none. converging lines order none (calm_left (config_of lines));
+  mended = λ none. none_flagged lines order none (calm_left (config_of lines));
+  shut_rescued = λ none. undisturbed_by_trace lines order none (calm_left (config_of lines)) (rescued (config_of lines) (calm_left (config_of lines)));
+  rescued = λ none. rescue_by_trace lines order none (calm_left (config_of lines)) (rescued_in_three (config_of lines) (calm_left (config_of lines)));
   requests = requests_bounded (config_of lines) lines;
   deliveries = deliveries_send_one (config_of lines) lines;
 }

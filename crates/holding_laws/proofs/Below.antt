@@ -15,7 +15,7 @@ use Rattle.role_steps.specs.Own.{Every}
 use Rattle.role_steps.specs.Views.{Told, Shown}
 use Rattle.the_run.specs.Worlds.{Line}
 use Rattle.vector_laws.specs.Written.{past_of}
-use Rattle.history_laws.specs.Commits.{StampsAreOnce, commits_of, real_parents, with_record, with_told}
+use Rattle.vector_laws.specs.HistoryCommits.{StampsAreOnce, commits_of, real_parents, with_record, with_told}
 use Rattle.pack_laws.specs.Packs.{RecordPacked, ToldPacked}
 use Rattle.tree_model.specs.Histories.{format_stamp, format_version, format_versions, history}
 use Rattle.lawful_trace.specs.TreeRows.{MayCommit}

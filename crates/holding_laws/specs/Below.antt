@@ -4,7 +4,7 @@ use Rattle.locus_ids.specs.declared.config.Config.{Config}
 use Rattle.role_steps.specs.Own.{Every}
 use Rattle.the_run.specs.Worlds.{Line}
 use Rattle.vector_laws.specs.Written.{past_of}
-use Rattle.history_laws.specs.Commits.{StampsAreOnce}
+use Rattle.vector_laws.specs.HistoryCommits.{StampsAreOnce}
 use Rattle.pack_laws.specs.Packs.{ToldPacked}
 use Rattle.order_laws.specs.Joining.{PacksAreOfSites}
 

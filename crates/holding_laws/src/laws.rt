@@ -1,3 +1,5 @@
+//! Laws of the one tree about what sites hold: which version a site has of a file in an epoch, that it only rises, and how open
+//! instances stand on it.
 ghost use Rattle.std.specs.Prelude.{ℕ, ◌≡◌, ◌⊎◌, List, ◌∷◌, Option, Some};
 ghost use Rattle.locus_ids.specs.declared.config.Config.{Config};
 ghost use Rattle.locus_ids.specs.declared.ids.CallId.{CallId};

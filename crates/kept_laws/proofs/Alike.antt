@@ -18,8 +18,8 @@ use Rattle.tree_model.specs.Histories.{format_version, format_versions, history}
 use Rattle.role_steps.specs.Views.{Told, Shown}
 use Rattle.the_run.specs.Worlds.{Line}
 use Rattle.vector_laws.specs.Written.{past_of, CommitsAreNumbered}
-use Rattle.history_laws.specs.Commits.{real_parents, with_told, commits_of, CommitsAreSited}
-use Rattle.history_laws.proofs.History.{Sound, sound, once_older, version_made}
+use Rattle.vector_laws.specs.HistoryCommits.{real_parents, with_told, commits_of, CommitsAreSited}
+use Rattle.vector_laws.proofs.HistoryHistory.{Sound, sound, once_older, version_made}
 use Rattle.kept_laws.specs.Printed.{onto_printed, printed}
 use Rattle.kept_laws.proofs.Ordered.{is_not}
 

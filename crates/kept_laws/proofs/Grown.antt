@@ -15,8 +15,8 @@ use Rattle.tree_model.specs.Histories.{format_stamp, format_version, format_vers
 use Rattle.role_steps.specs.Views.{Told, Shown}
 use Rattle.the_run.specs.Worlds.{Line}
 use Rattle.vector_laws.specs.Written.{past_of, JoinsAll, WrittenAs, IsNumbered, NumberedTold, CommitsAreNumbered}
-use Rattle.history_laws.specs.Commits.{with_told, commits_of, IsSite, SitedTold, CommitsAreSited, IsFormatStamp}
-use Rattle.history_laws.proofs.History.{Stands, Sound, sound, same_file_eq, once_older, version_made}
+use Rattle.vector_laws.specs.HistoryCommits.{with_told, commits_of, IsSite, SitedTold, CommitsAreSited, IsFormatStamp}
+use Rattle.vector_laws.proofs.HistoryHistory.{Stands, Sound, sound, same_file_eq, once_older, version_made}
 use Rattle.kept_laws.specs.Printed.{onto_printed, printed}
 use Rattle.kept_laws.proofs.Ordered.{IsNext, Grows, is_not}
 

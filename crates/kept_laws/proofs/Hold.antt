@@ -3,7 +3,7 @@ use Rattle.std.specs.Prelude.{List}
 use Rattle.locus_ids.specs.declared.config.Config.{Config}
 use Rattle.schedule_lines.specs.declared.line.ScheduleLine.{ScheduleLine}
 use Rattle.the_run.specs.Runs.{run_in}
-use Rattle.version_laws.proofs.Hold.{run_versions_hold}
+use Rattle.kept_laws.proofs.VersionHold.{run_versions_hold}
 use Rattle.kept_laws.specs.Kept.{KeptVersionsHold}
 use Rattle.kept_laws.proofs.KeptRun.{run_ordered, run_kept}
 use Rattle.kept_laws.proofs.VectorsKeep.{run_vectors_keep}

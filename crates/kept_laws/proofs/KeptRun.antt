@@ -5,10 +5,10 @@ use Rattle.schedule_lines.specs.declared.line.ScheduleLine.{ScheduleLine}
 use Rattle.the_run.specs.Worlds.{World}
 use Rattle.the_run.specs.Runs.{run_in}
 use Rattle.vector_laws.proofs.FactsRun.{run_numbered}
-use Rattle.history_laws.specs.Commits.{SitesAreKnown}
-use Rattle.history_laws.proofs.Sited.{run_sited}
-use Rattle.instance_laws.proofs.Agree.{run_agrees}
-use Rattle.stamp_laws.proofs.LawsRun.{run_stamps}
+use Rattle.vector_laws.specs.HistoryCommits.{SitesAreKnown}
+use Rattle.vector_laws.proofs.HistorySited.{run_sited}
+use Rattle.pack_laws.proofs.InstanceAgree.{run_agrees}
+use Rattle.kept_laws.proofs.StampLawsRun.{run_stamps}
 use Rattle.kept_laws.specs.Printed.{versions_of, known_in}
 use Rattle.kept_laws.specs.Keeping.{VersionsAreOrdered, CommitsAreKept}
 use Rattle.kept_laws.proofs.Ordered.{ordered}

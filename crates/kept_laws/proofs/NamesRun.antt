@@ -29,7 +29,7 @@ use Rattle.vector_laws.proofs.FactsRun.{past_onto}
 use Rattle.vector_laws.proofs.SiteDisks.{SiteDisk, step_disk}
 use Rattle.vector_laws.proofs.SiteFacts.{SiteFine, inside_of}
 use Rattle.vector_laws.proofs.StepFacts.{EventFact, step_fact}
-use Rattle.instance_laws.proofs.Agree.{run_agrees}
+use Rattle.pack_laws.proofs.InstanceAgree.{run_agrees}
 use Rattle.make_laws.proofs.Happening.{taken_epoch}
 use Rattle.make_laws.proofs.VectorsKept.{Both, sent_fact, both_kept, first_vectors}
 use Rattle.kept_laws.specs.Known.{NamesAreVersions}

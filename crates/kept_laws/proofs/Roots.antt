@@ -36,8 +36,8 @@ use Rattle.vector_laws.proofs.SyncFacts.{every_latest}
 use Rattle.pack_laws.specs.Making.{NotEmpty}
 use Rattle.pack_laws.specs.Packed.{Follows}
 use Rattle.make_laws.specs.Holding.{WasReserved}
-use Rattle.running_laws.proofs.Spine.{AllOwed, DiskOwed, owed_append}
-use Rattle.running_laws.proofs.SpineParts.{Here}
+use Rattle.make_laws.proofs.RunningSpine.{AllOwed, DiskOwed, owed_append}
+use Rattle.make_laws.proofs.RunningSpineParts.{Here}
 
 -- ---- instances, and what is told ----
 

@@ -21,13 +21,13 @@ use Rattle.the_run.specs.Runs.{run_in}
 use Rattle.the_run.proofs.Runs.{every_run}
 use Rattle.run_laws.proofs.Run.{found_among}
 use Rattle.vector_laws.specs.Written.{past_of, InstancesAgree}
-use Rattle.instance_laws.proofs.Agree.{run_agrees}
+use Rattle.pack_laws.proofs.InstanceAgree.{run_agrees}
 use Rattle.pack_laws.specs.Packed.{BodyPacked, NumberedPacked, WorldPacked}
 use Rattle.pack_laws.proofs.PacksRun.{All, all_kept, first_all}
 use Rattle.lock_laws.proofs.JoinsRun.{run_joins_once}
-use Rattle.running_laws.proofs.Spine.{FreeRecord, Free, InSite, in_epoch}
-use Rattle.running_laws.proofs.SpineParts.{takes_store}
-use Rattle.running_laws.proofs.SpineRun.{SentFacts, SentOwed, Premise, Spines, Stores, EachOwed, Where, where_kept, first_where}
+use Rattle.make_laws.proofs.RunningSpine.{FreeRecord, Free, InSite, in_epoch}
+use Rattle.make_laws.proofs.RunningSpineParts.{takes_store}
+use Rattle.make_laws.proofs.RunningSpineRun.{SentFacts, SentOwed, Premise, Spines, Stores, EachOwed, Where, where_kept, first_where}
 use Rattle.make_laws.specs.Fresh.{FreshTold, NumbersAreFresh}
 use Rattle.make_laws.specs.Holding.{ReservedAt, WasReserved}
 use Rattle.make_laws.proofs.FreshRun.{run_fresh}

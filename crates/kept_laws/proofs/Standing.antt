@@ -14,8 +14,8 @@ use Rattle.tree_model.specs.Histories.{format_stamp, history}
 use Rattle.role_steps.specs.Views.{Told, Shown}
 use Rattle.the_run.specs.Worlds.{Line}
 use Rattle.vector_laws.specs.Written.{past_of, WrittenAs, IsWrittenBy, IsCommitOf, JoinsAll, IsNumbered, NumberedTold, CommitsAreNumbered}
-use Rattle.history_laws.specs.Commits.{with_record, with_told, commits_of, IsFormatStamp}
-use Rattle.history_laws.proofs.History.{same_file_eq, same_file_refl, version_made}
+use Rattle.vector_laws.specs.HistoryCommits.{with_record, with_told, commits_of, IsFormatStamp}
+use Rattle.vector_laws.proofs.HistoryHistory.{same_file_eq, same_file_refl, version_made}
 use Rattle.pack_laws.specs.Making.{NotEmpty}
 use Rattle.kept_laws.specs.Printed.{onto_printed, printed}
 use Rattle.kept_laws.specs.Roots.{RootTold, RootsFollow}

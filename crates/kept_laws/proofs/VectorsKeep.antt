@@ -23,11 +23,11 @@ use Rattle.the_run.proofs.Boots.{every_weaker}
 use Rattle.the_run.specs.Runs.{run_in}
 use Rattle.vector_laws.specs.Written.{past_of, CommitsAreNumbered}
 use Rattle.vector_laws.proofs.FactsRun.{run_numbered}
-use Rattle.history_laws.specs.Commits.{commits_of, SitesAreKnown, IsFormatStamp, VectorsTell}
-use Rattle.history_laws.proofs.History.{Sound, sound, all_own, vectors_tell}
-use Rattle.history_laws.proofs.Sited.{run_sited}
-use Rattle.instance_laws.proofs.Agree.{run_agrees}
-use Rattle.stamp_laws.proofs.LawsRun.{run_stamps}
+use Rattle.vector_laws.specs.HistoryCommits.{commits_of, SitesAreKnown, IsFormatStamp, VectorsTell}
+use Rattle.vector_laws.proofs.HistoryHistory.{Sound, sound, all_own, vectors_tell}
+use Rattle.vector_laws.proofs.HistorySited.{run_sited}
+use Rattle.pack_laws.proofs.InstanceAgree.{run_agrees}
+use Rattle.kept_laws.proofs.StampLawsRun.{run_stamps}
 use Rattle.kept_laws.specs.Printed.{printed, known_in}
 use Rattle.kept_laws.specs.Keeping.{AreOrdered}
 use Rattle.kept_laws.specs.Known.{IsVersion}

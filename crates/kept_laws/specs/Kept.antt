@@ -1,7 +1,7 @@
 -- What holds of the versions of files in a run, and of what each epoch keeps of them.
 use Rattle.locus_ids.specs.declared.config.Config.{Config}
 use Rattle.the_run.specs.Worlds.{World}
-use Rattle.version_laws.specs.Versions.{VersionsHold}
+use Rattle.kept_laws.specs.VersionVersions.{VersionsHold}
 use Rattle.kept_laws.specs.Keeping.{VersionsAreOrdered, CommitsAreKept}
 use Rattle.kept_laws.specs.Vectors.{VectorsKeepTheSame}
 

@@ -1,3 +1,7 @@
+pub mod StampCommits
+pub mod StampLaws
+pub mod StampCovering
+pub mod VersionVersions
 pub mod Printed
 pub mod Keeping
 pub mod Known

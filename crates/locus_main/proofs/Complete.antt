@@ -1,5 +1,5 @@
 -- What a command that reads lines promises comes from how its loop ends.
-use Rattle.std.proofs.Common.{◌≡◌, ℕ, List, Option, Some, None, refl, subst, inl, inr, ◌⊎◌}
+use Rattle.std.proofs.Common.{◌≡◌, ℕ, List, Option, Some, None, refl, subst, inl, inr}
 use Rattle.std.specs.Prelude.{IfSome}
 use Rattle.std.specs.Io.KnownBytes.{IsAtEnd}
 use Rattle.schedule_lines.specs.declared.line.ScheduleLine.{ScheduleLine}
@@ -13,7 +13,7 @@ use Rattle.locus_main.specs.declared.status.Limited.TheVariants.{Packets, Bytes,
 use Rattle.locus_main.specs.Codes.{limited}
 use Rattle.locus_main.specs.Inputs.{Input}
 use Rattle.locus_main.specs.Promises.{ComesThrough, LinePromises}
-use Rattle.locus_main.specs.Runs.{IsAccepted, IsWholeRun, StopsAtBad, StopsAtLong, StopsAtCount, StopsAtFault, StopsAtLimit, StopsAtWorld, WritesFront, FailsInOpening}
+use Rattle.locus_main.specs.Runs.{IsAccepted, IsWholeRun, StopsAtBad, StopsAtLong, StopsAtCount, StopsAtFault, StopsAtLimit, WritesFront}
 use Rattle.locus_main.proofs.Reading.{no_bad, no_long, no_more, no_limit}
 
 at_some : {X : Type 0} (o : Option X) (x : X) (P : X → Type 0) → o ≡ Some x → IfSome o P → P x
@@ -28,7 +28,7 @@ pub record Ends (input : Input) (result : Status) (source left before after : Op
   pub long_line : result ≡ status.Limit Line → IfSome source (λ bytes. StopsAtLong input (lines_of bytes) before after)
   pub many_lines : result ≡ status.Limit Lines → IfSome source (λ bytes. StopsAtCount input (lines_of bytes) before after)
   pub limit : (l : Limit) → result ≡ status.Limit (limited l) → IfSome source (λ bytes. StopsAtLimit input (lines_of bytes) l before after)
-  pub world_fault : result ≡ status.WorldFault → IfSome source (λ bytes. StopsAtWorld input (lines_of bytes) before after)
+  pub world : result ≡ status.WorldFault → ⊥
   pub front : IfSome source (λ bytes. WritesFront input (lines_of bytes) before after)
 
 -- an accepted input whose run passes no limit passes none
@@ -46,7 +46,7 @@ comes_through input (status.BadLine line) source left before after bytes lines c
     absurd (no_bad input (lines_of bytes) lines line before after ok (at_some source bytes _ told (c.bad_line line refl)))
 comes_through input status.ReadFault source left before after bytes lines c told ok free r w = absurd (r refl)
 comes_through input status.WriteFault source left before after bytes lines c told ok free r w = absurd (w refl)
-comes_through input status.NoMemory source left before after bytes lines c told ok free r w = inr (inl refl)
+comes_through input status.NoMemory source left before after bytes lines c told ok free r w = inr refl
 comes_through input (status.Limit Packets) source left before after bytes lines c told ok free r w = passes_none input _ source left before after bytes lines bound.Packets c told ok free refl
 comes_through input (status.Limit Bytes) source left before after bytes lines c told ok free r w = passes_none input _ source left before after bytes lines bound.Bytes c told ok free refl
 comes_through input (status.Limit Trace) source left before after bytes lines c told ok free r w = passes_none input _ source left before after bytes lines bound.Trace c told ok free refl
@@ -56,7 +56,7 @@ comes_through input (status.Limit Line) source left before after bytes lines c t
 comes_through input (status.Limit Lines) source left before after bytes lines c told ok free r w =
     let stop = at_some source bytes _ told (c.many_lines refl) in
     absurd (no_more (lines_of bytes) stop.earlier stop.later ok.within stop.split stop.full stop.more)
-comes_through input status.WorldFault source left before after bytes lines c told ok free r w = inr (inr refl)
+comes_through input status.WorldFault source left before after bytes lines c told ok free r w = absurd (c.world refl)
 
 pub keeps_promises : (input : Input) (result : Status) (source left before after : Option (List ℕ)) → Ends input result source left before after → LinePromises input result source left before after
 keeps_promises input result source left before after c = record {
@@ -66,7 +66,6 @@ keeps_promises input result source left before after c = record {
   long_line = c.long_line;
   many_lines = c.many_lines;
   limit = c.limit;
-  world_fault = c.world_fault;
   front = c.front;
   complete = λ bytes lines told ok free r w. comes_through input result source left before after bytes lines c told ok free r w;
 }
@@ -86,26 +85,6 @@ for_memory input source left before after front = keeps_promises input status.No
   long_line = λ e. absurd (cc);
   many_lines = λ e. absurd (cc);
   limit = λ l e. absurd (no_limit_is l e);
-  world_fault = λ e. absurd (cc);
-  front = front;
-})
-
-world_no_limit : (l : Limit) → status.WorldFault ≡ status.Limit (limited l) → ⊥
-world_no_limit l e = cc
-
-in_opening : (input : Input) (source before after : Option (List ℕ)) → FailsInOpening input before after → IfSome source (λ bytes. StopsAtWorld input (lines_of bytes) before after)
-in_opening input None before after fails = tt
-in_opening input (Some x) before after fails = inl fails
-
-pub for_world : (input : Input) (source left before after : Option (List ℕ)) → FailsInOpening input before after → IfSome source (λ bytes. WritesFront input (lines_of bytes) before after) → LinePromises input status.WorldFault source left before after
-for_world input source left before after fails front = keeps_promises input status.WorldFault source left before after (record {
-  words = λ e. cc;
-  whole = λ e. absurd (cc);
-  bad_line = λ line e. absurd (cc);
-  cut_off = λ e. absurd (cc);
-  long_line = λ e. absurd (cc);
-  many_lines = λ e. absurd (cc);
-  limit = λ l e. absurd (world_no_limit l e);
-  world_fault = λ e. in_opening input source before after fails;
+  world = λ e. cc;
   front = front;
 })

@@ -1,5 +1,5 @@
 -- What holds of the lines of each input.
-use Rattle.std.proofs.Common.{◌≡◌, ℕ, ◌+◌, List, [], ◌∷◌, ◌++◌, length, Option, Some, refl, ap, sym, ◌∙◌, subst, append_assoc}
+use Rattle.std.proofs.Common.{◌≡◌, ℕ, ◌+◌, List, [], ◌∷◌, ◌++◌, length, Some, refl, ap, sym, ◌∙◌, subst, append_assoc}
 use Rattle.std.proofs.lemmas.List.{append-nil}
 use Rattle.std.specs.List.{flat_map}
 use Rattle.schedule_lines.specs.Cluster.{config_of}
@@ -7,7 +7,6 @@ use Rattle.schedule_lines.specs.declared.line.Line.{Line}
 use Rattle.schedule_lines.specs.declared.line.Line.TheVariants as line
 use Rattle.schedule_lines.specs.declared.line.ScheduleLine.{ScheduleLine}
 use Rattle.schedule_lines.specs.declared.line.ScheduleLine.TheVariants.{Event}
-use Rattle.schedule_lines.specs.Schedule.{IsSchedule, ReadsAfter}
 use Rattle.the_run.specs.Worlds.{World, Limit}
 use Rattle.the_run.specs.Runs.{run}
 use Rattle.the_run.specs.Commands.{Asked, asked_lines, opening_lines, tree_lines}
@@ -16,7 +15,7 @@ use Rattle.line_text.proofs.OneReading.{one_schedule}
 use Rattle.schedule_run.proofs.Growing.{config_more, run_more}
 use Rattle.schedule_run.proofs.Ending.{over_lasts}
 use Rattle.std.proofs.lemmas.Grind.{flat_map-append}
-use Rattle.locus_main.specs.Inputs.{Input, AskAll, AreCalls, StandsFor, opening_of}
+use Rattle.locus_main.specs.Inputs.{Input, StandsFor, opening_of}
 use Rattle.locus_main.specs.Inputs.Input.{Schedule, Calls}
 use Rattle.locus_main.proofs.Calls.{ask_cut, ask_once}
 use Rattle.locus_main.proofs.Schedules.{cut_at}

@@ -10,6 +10,7 @@ use Rattle.the_run.specs.Worlds.{Limit}
 use Rattle.the_run.specs.Worlds as bound
 use Rattle.run_book.specs.Ledgers.{limit_named}
 use Rattle.run_book.specs.declared.fault.Passed.{Passed}
+use Rattle.world.specs.declared.fault.WorldFault.{WorldFault}
 use Rattle.world.specs.declared.fault.WorldFault.TheVariants as world
 use Rattle.schedule_run.specs.declared.load_fault.LoadFault.{LoadFault}
 use Rattle.schedule_run.specs.declared.load_fault.LoadFault.TheVariants as load
@@ -48,7 +49,6 @@ load_whole over text t u free written = record {
   whole = λ e. written;
   limit = λ l e. absurd (ok_no_limit l e);
   stops = λ l e. absurd (over_both over l free e);
-  world_fault = λ e. absurd (cc);
   only = refl;
   front = AppendsFront-whole t u text written;
   complete = λ f n. inl refl;
@@ -61,7 +61,6 @@ load_unwritten over text write.Failed t u free front = record {
   whole = λ e. absurd (cc);
   limit = λ l e. absurd (write_no_limit l e);
   stops = λ l e. absurd (over_both over l free e);
-  world_fault = λ e. absurd (cc);
   only = refl;
   front = front;
   complete = λ f n. absurd (n refl);
@@ -71,10 +70,9 @@ load_unwritten over text write.NoMemory t u free front = record {
   whole = λ e. absurd (cc);
   limit = λ l e. absurd (memory_no_limit l e);
   stops = λ l e. absurd (over_both over l free e);
-  world_fault = λ e. absurd (cc);
   only = refl;
   front = front;
-  complete = λ f n. inr (inl refl);
+  complete = λ f n. inr refl;
 }
 
 pub no_load : (over : Option Limit) (text : List ℕ) (t : Option (List ℕ)) → LoadPromises over text status.NoMemory t t
@@ -83,10 +81,9 @@ no_load over text t = record {
   whole = λ e. absurd (cc);
   limit = λ l e. absurd (memory_no_limit l e);
   stops = λ l e. keeps_same t;
-  world_fault = λ e. absurd (cc);
   only = refl;
   front = none_of t text;
-  complete = λ f n. inr (inl refl);
+  complete = λ f n. inr refl;
 }
 
 for_limit : (over : Option Limit) (text : List ℕ) (t : Option (List ℕ)) (m : Limit) → over ≡ Some m → LoadPromises over text (status.Limit (limited m)) t t
@@ -95,30 +92,17 @@ for_limit over text t m passes = record {
   whole = λ e. absurd (ok_no_limit m (sym e));
   limit = λ l e. passes ∙ ap (λ (x : Limit). Some x) (limited_once m l e);
   stops = λ l e. keeps_same t;
-  world_fault = λ e. absurd (world_no_limit m (sym e));
   only = limits_end m;
   front = none_of t text;
   complete = λ f n. absurd (over_both over m f passes);
 }
 
-for_world : (over : Option Limit) (text : List ℕ) (t : Option (List ℕ)) → LoadPromises over text status.WorldFault t t
-for_world over text t = record {
-  within = λ e. absurd (cc);
-  whole = λ e. absurd (cc);
-  limit = λ l e. absurd (world_no_limit l e);
-  stops = λ l e. keeps_same t;
-  world_fault = λ e. keeps_same t;
-  only = refl;
-  front = none_of t text;
-  complete = λ f n. inr (inr refl);
-}
-
 -- the load was not run to its end
-pub load_undone : (over : Option Limit) (text : List ℕ) (fault : LoadFault) (t : Option (List ℕ)) → ((p : Passed) → fault ≡ load.Limit p → over ≡ Some (limit_named p)) → LoadPromises over text (status_of_load fault) t t
-load_undone over text (load.Limit p) t passes = for_limit over text t (limit_named p) (passes p refl)
-load_undone over text load.NoMemory t passes = no_load over text t
-load_undone over text (load.World world.NoMemory) t passes = no_load over text t
-load_undone over text (load.World _) t passes = for_world over text t
+pub load_undone : (over : Option Limit) (text : List ℕ) (fault : LoadFault) (t : Option (List ℕ)) → ((p : Passed) → fault ≡ load.Limit p → over ≡ Some (limit_named p)) → (status_of_load fault ≡ status.WorldFault → ⊥) → LoadPromises over text (status_of_load fault) t t
+load_undone over text (load.Limit p) t passes able = for_limit over text t (limit_named p) (passes p refl)
+load_undone over text load.NoMemory t passes able = no_load over text t
+load_undone over text (load.World world.NoMemory) t passes able = no_load over text t
+load_undone over text (load.World _) t passes able = absurd (able refl)
 
 limit_not_written : (l : Limit) → status.Limit (limited l) ≡ status.WriteFault → ⊥
 limit_not_written l e = cc
@@ -153,3 +137,16 @@ write_not_ok write.NoMemory e = cc
 -- a load doesn't end otherwise
 pub load_not : (s t : Status) → ends_load s ≡ true → ends_load t ≡ false → s ≡ t → ⊥
 load_not s t h f e = false≢true (sym f ∙ (ap ends_load (sym e) ∙ h))
+
+-- ---- no fault of the world ----
+
+pub world_of_load : (f : LoadFault) → status_of_load f ≡ status.WorldFault → (x : WorldFault) × (f ≡ load.World x)
+world_of_load (load.Limit p) e = absurd (world_no_limit (limit_named p) (sym e))
+world_of_load load.NoMemory e = absurd (cc)
+world_of_load (load.World x) e = (x, refl)
+
+-- where memory alone is wanting, no load ends as a fault of the world
+pub memory_no_load : (f : LoadFault) (x : WorldFault) → f ≡ load.World x → x ≡ world.NoMemory → status_of_load f ≡ status.WorldFault → ⊥
+memory_no_load f x e m h =
+    let k : status_of_load f ≡ status.NoMemory = ap status_of_load (e ∙ ap (λ (y : WorldFault). load.World y) m) in
+    let z : status.NoMemory ≡ status.WorldFault = sym k ∙ h in cc

@@ -13,11 +13,9 @@ use Rattle.locus_main.specs.Inputs.{opening_of}
 use Rattle.locus_main.specs.Inputs.Input.{Schedule, Calls}
 use Rattle.locus_main.specs.Promises.{LinePromises}
 use Rattle.locus_main.specs.Runners.{ScheduleStands, TreeStands}
-use Rattle.locus_main.specs.Runs.{FailsInOpening}
 use Rattle.locus_main.specs.Turns.{status_of_line}
-use Rattle.locus_main.proofs.Complete.{for_memory, for_world}
+use Rattle.locus_main.proofs.Complete.{for_memory}
 use Rattle.locus_main.proofs.Runs.{Nothing-front}
-use Rattle.locus_main.proofs.Turns.{keeps_same}
 
 pub schedule_opens : (r : ScheduleRunner) → HasRun [] [] r → ScheduleStands [] (opening_of Schedule) [] r
 unfolding opening_of
@@ -27,19 +25,12 @@ pub tree_opens : (r : TreeRunner) → HasAsked [] [] r → TreeStands [] (openin
 unfolding opening_of
 tree_opens r h = record { calls = []; asked = tt; run = refl; ran = h }
 
-tree_has_opening : opening_of Calls ≡ [] → ⊥
-unfolding opening_of
-tree_has_opening e = cc
-
-fails_in_opening : (t : Option (List ℕ)) → FailsInOpening Calls t t
-fails_in_opening t = record { opens = tree_has_opening; kept = keeps_same t }
-
 -- the opening of a tree was not done
-pub not_opened : (fault : RunFault) (n : ℕ) (source left t : Option (List ℕ)) → (fault ≡ Bad → ⊥) → LinePromises Calls (status_of_line fault n) source left t t
-not_opened Bad n source left t good = absurd (good refl)
-not_opened NoMemory n source left t good = for_memory Calls source left t t (Nothing-front Calls source t)
-not_opened (World world.NoMemory) n source left t good = for_memory Calls source left t t (Nothing-front Calls source t)
-not_opened (World _) n source left t good = for_world Calls source left t t (fails_in_opening t) (Nothing-front Calls source t)
+pub not_opened : (fault : RunFault) (n : ℕ) (source left t : Option (List ℕ)) → (fault ≡ Bad → ⊥) → (status_of_line fault n ≡ status.WorldFault → ⊥) → LinePromises Calls (status_of_line fault n) source left t t
+not_opened Bad n source left t good able = absurd (good refl)
+not_opened NoMemory n source left t good able = for_memory Calls source left t t (Nothing-front Calls source t)
+not_opened (World world.NoMemory) n source left t good able = for_memory Calls source left t t (Nothing-front Calls source t)
+not_opened (World _) n source left t good able = absurd (able refl)
 
 -- such an end is none of a reader, a write or bad words
 pub no_other : (fault : RunFault) (n : ℕ) → (fault ≡ Bad → ⊥) → (status_of_line fault n ≡ status.NoMemory) ⊎ (status_of_line fault n ≡ status.WorldFault)

@@ -1,5 +1,5 @@
 -- The lines of each input stand as those of a schedule may.
-use Rattle.std.proofs.Common.{◌≡◌, ℕ, List, [], ◌∷◌, Option, None, Some, refl, sym, subst}
+use Rattle.std.proofs.Common.{ℕ, List, [], ◌∷◌, Option, None, Some, refl, sym, subst}
 use Rattle.std.specs.List.{AllByRecursion}
 use Rattle.schedule_lines.specs.Schedule.{AreInOrder}
 use Rattle.schedule_lines.specs.declared.line.ScheduleLine.{ScheduleLine}
@@ -16,7 +16,7 @@ before_on_cluster bytes None later asks all = all
 before_on_cluster bytes (Some a) later asks all = (asks.1, all)
 
 -- each call that lines ask is in range for the cluster
-asked_on_cluster : (bytes : List (List ℕ)) (calls : List Asked) → AskAll bytes calls → AllByRecursion IsOnCluster calls
+pub asked_on_cluster : (bytes : List (List ℕ)) (calls : List Asked) → AskAll bytes calls → AllByRecursion IsOnCluster calls
 asked_on_cluster [] [] h = tt
 asked_on_cluster [] (a ∷ calls) h = absurd h
 asked_on_cluster (b ∷ bs) calls h = subst (AllByRecursion IsOnCluster) (sym h.4) (before_on_cluster b h.0 h.1 h.2 (asked_on_cluster bs h.1 h.3))

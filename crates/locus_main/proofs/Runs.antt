@@ -7,13 +7,12 @@ use Rattle.std.specs.Io.KnownBytes.{Appends, Keeps, IsAtEnd}
 use Rattle.locus_io.specs.Causes.{AppendsFront}
 use Rattle.schedule_lines.specs.declared.line.ScheduleLine.{ScheduleLine}
 use Rattle.the_run.specs.Worlds.{Limit}
-use Rattle.the_run.specs.Runs.{run}
 use Rattle.headline_laws.specs.Holds.{RunHoldsThroughout}
 use Rattle.headline_laws.proofs.Whole.{run_holds_throughout}
 use Rattle.line_reader.specs.Reading.{lines_of, has_feed, to_read, Between, ReadsLine, EndsInFeed, IsLong, first_line, after_line}
 use Rattle.locus_main.specs.Inputs.{Input, StandsFor, MayEndAfter, opening_of, output_of}
-use Rattle.locus_main.specs.Runs.{IsWithinLimits, Writes, AreRun, IsWholeRun, Refuses, StopsAtBad, StopsAtLong, StopsAtCount, StopsAtFault, StopsAtLimit, StopsAtWorld, WritesFront}
-use Rattle.locus_main.specs.Turns.{Standing, HasTold, Tells, TellsFront, Goes, IsCutShort, MayStand}
+use Rattle.locus_main.specs.Runs.{IsWithinLimits, Writes, AreRun, IsWholeRun, Refuses, StopsAtBad, StopsAtLong, StopsAtCount, StopsAtFault, StopsAtLimit, WritesFront}
+use Rattle.locus_main.specs.Turns.{Standing, HasTold, Tells, TellsFront, Goes, IsCutShort}
 use Rattle.locus_main.proofs.Inputs.{stands_first}
 use Rattle.locus_main.proofs.Order.{stands_in_order}
 use Rattle.locus_main.proofs.Schedules.{IsWithinLimits-push}
@@ -214,22 +213,6 @@ Ends-limit stands input r r' n m d line limit a b c t u v s e few short reads tu
       passes = goes.tells.passes;
       written = longer _ _ goes.tells.fresh t u v s.writes.written goes.tells.written goes.tells.rest;
       holds = run_holds input (s.bytes ++ line ∷ []) goes.longer goes.next;
-    }))
-
--- A line that the world could not do.
-pub Ends-world : {R : Type 0} (stands : Standing R) (input : Input) (r : R) (n : ℕ) (m : ℕ) (d : Bool) (line : List ℕ) (a b c t u : Option (List ℕ)) →
-    SoFar stands input r n d a b t u → m ≡ n + 1 → m ≤ 1000000 → length line ≤ 16384 → Between b c (ReadsLine line) → ((all : List (List ℕ)) (lines : List ScheduleLine) → HasTold stands input all lines r → MayStand input all line) → IfSome a (λ bytes. StopsAtWorld input (lines_of bytes) t u)
-Ends-world stands input r n m d line a b c t u s e few short reads may = if_some a _ _ (Between-rest a b c s.bytes (ReadsLine line) s.read reads) (λ bytes h.
-    let next = may s.bytes s.lines s.told in
-    inr (record {
-      earlier = s.bytes;
-      bytes = line;
-      later = lines_of h.1;
-      split = h.2 ∙ ap (λ ls. s.bytes ++ ls) h.3.lines;
-      longer = next.longer;
-      next = next.next;
-      small = IsWithinLimits-push s.bytes line m s.within (omega (arith, s.counted, e)) few short;
-      runs = are_run stands input r n d a b t u s;
     }))
 
 -- Whatever comes in a turn, a front is written.

@@ -1,23 +1,21 @@
 -- The two runners after one line more.
-use Rattle.std.proofs.Common.{◌≡◌, ℕ, ◌+◌, List, [], ◌∷◌, ◌++◌, Option, None, Some, length, Result, Ok, Err, refl, sym, ap, ◌∙◌, subst, arith}
-use Rattle.std.specs.Prelude.{OnOk}
+use Rattle.std.proofs.Common.{◌≡◌, ℕ, ◌+◌, List, [], ◌∷◌, ◌++◌, Option, length, refl, sym, ap, ◌∙◌, subst, arith}
 use Rattle.schedule_lines.specs.declared.line.ScheduleLine.{ScheduleLine}
-use Rattle.schedule_lines.specs.Schedule.{Reads, MayEnd}
+use Rattle.schedule_lines.specs.Schedule.{Reads}
 use Rattle.the_run.specs.Worlds.{Limit}
-use Rattle.the_run.specs.Runs.{run, printed}
+use Rattle.the_run.specs.Runs.{run}
 use Rattle.the_run.specs.Commands.{Asked, tree_lines, tree_text}
 use Rattle.schedule_run.specs.declared.runner.ScheduleRunner.{ScheduleRunner}
-use Rattle.schedule_run.specs.Standing.{HasRun, RunsNext}
-use Rattle.schedule_run.specs.Standing as schedule
+use Rattle.schedule_run.specs.Standing.{RunsNext}
 use Rattle.schedule_run.specs.declared.tree.TreeRunner.{TreeRunner}
-use Rattle.the_run.specs.Asking.{Asks, MayAsk}
+use Rattle.the_run.specs.Asking.{Asks}
 use Rattle.schedule_run.specs.Tree.{with_asked}
 use Rattle.schedule_run.specs.Tree as tree
-use Rattle.locus_main.specs.Inputs.{AreCalls, StandsFor, replies_of}
+use Rattle.locus_main.specs.Inputs.{replies_of}
 use Rattle.locus_main.specs.Inputs.Input.{Schedule, Calls}
 use Rattle.locus_main.specs.Runners.{ScheduleStands, TreeStands}
 use Rattle.locus_main.specs.Runs.{Refuses}
-use Rattle.locus_main.specs.Turns.{RunsOn, MayStand}
+use Rattle.locus_main.specs.Turns.{RunsOn}
 use Rattle.line_text.proofs.OneReading.{one_schedule}
 use Rattle.locus_main.proofs.Calls.{ask_more, ask_last}
 use Rattle.locus_main.proofs.Schedules.{IsSchedule-push, IsSchedule-length, cut_at, read_one}
@@ -38,9 +36,6 @@ schedule_refuses all lines bytes taken r s bad = λ longer h.
     let last = read_one cut.first bytes cut.later cut.goes_on in
     bad last.0 (subst (λ (ls : List ScheduleLine). Reads ls bytes last.0) (one_schedule all cut.first lines cut.reads s.schedule) last.1)
 
-pub schedule_may_stand : (all : List (List ℕ)) (lines : List ScheduleLine) (bytes taken : List ℕ) (r : ScheduleRunner) → ScheduleStands all lines taken r → schedule.MayStand lines bytes → MayStand Schedule all bytes
-schedule_may_stand all lines bytes taken r s may = record { longer = lines ++ may.line ∷ []; next = IsSchedule-push all lines bytes may.line s.schedule may.reads }
-
 -- ---- calls ----
 
 pub tree_on : (all : List (List ℕ)) (lines : List ScheduleLine) (bytes taken : List ℕ) (r new : TreeRunner) → (s : TreeStands all lines taken r) → tree.RunsNext s.calls bytes taken new → RunsOn TreeStands Calls all bytes taken new
@@ -55,11 +50,6 @@ tree_on all lines bytes taken r new s next =
 
 pub tree_refuses : (all : List (List ℕ)) (bytes : List ℕ) → ((asked : Option Asked) → Asks bytes asked → ⊥) → Refuses Calls all bytes
 tree_refuses all bytes bad = λ longer h. let last = ask_last all bytes h.calls h.asked in bad last.0 last.1
-
-pub tree_may_stand : (all : List (List ℕ)) (lines : List ScheduleLine) (bytes taken : List ℕ) (r : TreeRunner) → TreeStands all lines taken r → MayAsk bytes → MayStand Calls all bytes
-tree_may_stand all lines bytes taken r s may =
-    let calls : List Asked = with_asked s.calls (Some may.asked) in
-    record { longer = tree_lines calls; next = record { calls = calls; asked = ask_more all s.calls bytes (Some may.asked) s.asked may.asks; run = refl } }
 
 -- what is said of the calls is said of the lines of their run
 pub tree_output : (lines : List ScheduleLine) (calls : List Asked) (taken fresh : List ℕ) → lines ≡ tree_lines calls → tree_text calls ≡ taken ++ fresh → replies_of lines ≡ taken ++ fresh

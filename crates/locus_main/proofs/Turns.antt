@@ -1,5 +1,5 @@
 -- Which turns end a run, and how.
-use Rattle.std.proofs.Common.{◌≡◌, ℕ, ◌≤◌, arith, ⊎_elim, Bool, true, false, List, [], ◌∷◌, ◌++◌, Option, None, Some, Result, Ok, Err, ◌⊎◌, ap, sym, subst, ◌∙◌, refl, inr}
+use Rattle.std.proofs.Common.{◌≡◌, ℕ, ◌≤◌, arith, ⊎_elim, Bool, true, false, List, Option, None, Some, Result, Ok, Err, ◌⊎◌, ap, sym, subst, ◌∙◌, refl}
 use Rattle.std.specs.Prelude.{OnOk, OnErr, IfErr, IsErrAnd}
 use Rattle.std.specs.Io.KnownBytes.{Keeps}
 use Rattle.std.proofs.lemmas.Bool.{false≢true}
@@ -52,6 +52,12 @@ pub world_is : (f : RunFault) (n : ℕ) → status_of_line f n ≡ status.WorldF
 world_is Bad n e = absurd (cc)
 world_is NoMemory n e = absurd (cc)
 world_is (World x) n e = (x, refl)
+
+-- where memory alone is wanting, nothing ends as a fault of the world
+pub memory_no_world : (f : RunFault) (n : ℕ) (x : WorldFault) → f ≡ World x → x ≡ world.NoMemory → status_of_line f n ≡ status.WorldFault → ⊥
+memory_no_world f n x e m h =
+    let k : status_of_line f n ≡ status.NoMemory = ap (λ (g : RunFault). status_of_line g n) (e ∙ ap (λ (y : WorldFault). World y) m) in
+    let z : status.NoMemory ≡ status.WorldFault = sym k ∙ h in cc
 
 -- the limits of a run end a turn
 pub limits_end : (l : Limit) → ends_telling (status.Limit (limited l)) ≡ true

@@ -12,11 +12,11 @@ use Rattle.locus_main.specs.declared.status.Status.TheVariants as status
 use Rattle.locus_main.specs.declared.status.Limited.TheVariants.{Line, Lines}
 use Rattle.locus_main.specs.Codes.{limited, ends_load}
 use Rattle.locus_main.specs.Inputs.{Input}
-use Rattle.locus_main.specs.Runs.{IsAccepted, IsWholeRun, StopsAtBad, StopsAtLong, StopsAtCount, StopsAtFault, StopsAtLimit, StopsAtWorld, WritesFront}
+use Rattle.locus_main.specs.Runs.{IsAccepted, IsWholeRun, StopsAtBad, StopsAtLong, StopsAtCount, StopsAtFault, StopsAtLimit, WritesFront}
 
--- a command came to its end, found no memory, or the world could not do a line (that this never comes is not proved)
+-- a command came to its end, or found no memory
 abbrev pub ComesThrough : Status → Type 0
-ComesThrough result = (result ≡ status.Ok) ⊎ (result ≡ status.NoMemory) ⊎ (result ≡ status.WorldFault)
+ComesThrough result = (result ≡ status.Ok) ⊎ (result ≡ status.NoMemory)
 
 -- What a command that reads lines promises of its status, of the bytes of its source before and after, and of those that its sink
 -- has taken before and after.
@@ -29,7 +29,6 @@ pub record LinePromises (input : Input) (result : Status) (source left before af
   pub long_line : result ≡ status.Limit Line → IfSome source (λ bytes. StopsAtLong input (lines_of bytes) before after)
   pub many_lines : result ≡ status.Limit Lines → IfSome source (λ bytes. StopsAtCount input (lines_of bytes) before after)
   pub limit : (l : Limit) → result ≡ status.Limit (limited l) → IfSome source (λ bytes. StopsAtLimit input (lines_of bytes) l before after)
-  pub world_fault : result ≡ status.WorldFault → IfSome source (λ bytes. StopsAtWorld input (lines_of bytes) before after)
   -- whatever comes, a front of the output of some first lines is written
   pub front : IfSome source (λ bytes. WritesFront input (lines_of bytes) before after)
   -- an accepted input within the limits is run to its end where nothing fails
@@ -44,9 +43,8 @@ pub record LoadPromises (over : Option Limit) (text : List ℕ) (result : Status
   pub whole : result ≡ status.Ok → Appends before after text
   -- a limit is answered where the run passes it
   pub limit : (l : Limit) → result ≡ status.Limit (limited l) → over ≡ Some l
-  -- nothing is written where a limit is passed, or where the world could not do a line
+  -- nothing is written where a limit is passed
   pub stops : (l : Limit) → over ≡ Some l → Keeps before after
-  pub world_fault : result ≡ status.WorldFault → Keeps before after
   -- no status comes that a reader or bad words have, and whatever comes, a front of the counts is written
   pub only : ends_load result ≡ true
   pub front : AppendsFront before after text

@@ -1,8 +1,8 @@
 -- What the run of an input has written when it ends, and where it ends.
-use Rattle.std.specs.Prelude.{ℕ, ◌≡◌, ◌≢◌, ◌<◌, ◌≤◌, ◌+◌, ◌⊎◌, List, [], ◌∷◌, ◌++◌, length, take, None, Some}
+use Rattle.std.specs.Prelude.{ℕ, ◌≡◌, ◌<◌, ◌≤◌, ◌+◌, ◌⊎◌, List, [], ◌∷◌, ◌++◌, length, take, None, Some}
 use Rattle.std.specs.declared.option.Option.{Option}
 use Rattle.std.specs.List.{AllByRecursion}
-use Rattle.std.specs.Io.KnownBytes.{Appends, Keeps}
+use Rattle.std.specs.Io.KnownBytes.{Appends}
 use Rattle.locus_io.specs.Causes.{AppendsFront}
 use Rattle.line_reader.specs.Reading.{whole_lines}
 use Rattle.schedule_lines.specs.declared.line.ScheduleLine.{ScheduleLine}
@@ -118,26 +118,6 @@ pub record PassesAtLine (input : Input) (all : List (List ℕ)) (limit : Limit) 
 -- the program stops where the run passes this limit
 abbrev pub StopsAtLimit : Input → List (List ℕ) → Limit → Option (List ℕ) → Option (List ℕ) → Type 0
 StopsAtLimit input all limit before after = PassesInOpening input limit before after ⊎ PassesAtLine input all limit before after
-
--- the world could not do a line of the opening, and nothing is written
-pub record FailsInOpening (input : Input) (before after : Option (List ℕ)) : Type 0 where
-  pub opens : opening_of input ≢ []
-  pub kept : Keeps before after
-
--- The world could not do this line, though it may stand there. The run of the lines before it is written.
-pub record FailsAtLine (input : Input) (all : List (List ℕ)) (before after : Option (List ℕ)) : Type 0 where
-  pub earlier : List (List ℕ)
-  pub bytes : List ℕ
-  pub later : List (List ℕ)
-  pub split : all ≡ earlier ++ bytes ∷ later
-  pub longer : List ScheduleLine
-  pub next : StandsFor input (earlier ++ bytes ∷ []) longer
-  pub small : IsWithinLimits (earlier ++ bytes ∷ [])
-  pub runs : AreRun input earlier before after
-
--- the program stops where the world could not do a line
-abbrev pub StopsAtWorld : Input → List (List ℕ) → Option (List ℕ) → Option (List ℕ) → Type 0
-StopsAtWorld input all before after = FailsInOpening input before after ⊎ FailsAtLine input all before after
 
 -- a front of the output of the run of some first lines is written
 pub record WritesFront (input : Input) (all : List (List ℕ)) (before after : Option (List ℕ)) : Type 0 where

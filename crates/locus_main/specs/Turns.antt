@@ -94,8 +94,3 @@ pub record GoesInPart (input : Input) (all : List (List ℕ)) (lines : List Sche
 -- nothing is written, or a front of the rest of the output
 abbrev pub IsCutShort : Input → List (List ℕ) → List ScheduleLine → List ℕ → Option (List ℕ) → Option (List ℕ) → Type 0
 IsCutShort input all lines bytes before after = Keeps before after ⊎ GoesInPart input all lines bytes before after
-
--- these bytes may be the next line
-pub record MayStand (input : Input) (all : List (List ℕ)) (bytes : List ℕ) : Type 0 where
-  pub longer : List ScheduleLine
-  pub next : StandsFor input (all ++ bytes ∷ []) longer

@@ -24,6 +24,7 @@ use world::WorldFault;
 pub fn run<S: Source, K: Sink>(alloc: Global, source: &mut S, sink: &mut K) -> Status
     ensures promises { LinePromises Schedule result (S.left source.old) (S.left source.new) (K.taken sink.old) (K.taken sink.new) }
     ensures words { result ≢ Status.BadWords }
+    ensures complete { result ≢ Status.WorldFault }
     ensures flushed { result ≡ Status.Ok → K.flushed sink.new ≡ K.taken sink.new }
     ensures nothing_held { ends_written result ≡ true → (sink.new ≡ sink.old) ⊎ (K.flushed sink.new ≡ K.taken sink.new) }
     ensures read_fault { result ≡ Status.ReadFault → Rose (S.faults source.old) (S.faults source.new) }
@@ -43,6 +44,7 @@ pub fn run<S: Source, K: Sink>(alloc: Global, source: &mut S, sink: &mut K) -> S
 pub fn tree<S: Source, K: Sink>(alloc: Global, source: &mut S, sink: &mut K) -> Status
     ensures promises { LinePromises Calls result (S.left source.old) (S.left source.new) (K.taken sink.old) (K.taken sink.new) }
     ensures words { result ≢ Status.BadWords }
+    ensures complete { result ≢ Status.WorldFault }
     ensures flushed { result ≡ Status.Ok → K.flushed sink.new ≡ K.taken sink.new }
     ensures nothing_held { ends_written result ≡ true → (sink.new ≡ sink.old) ⊎ (K.flushed sink.new ≡ K.taken sink.new) }
     ensures read_fault { result ≡ Status.ReadFault → Rose (S.faults source.old) (S.faults source.new) }
@@ -64,6 +66,7 @@ pub fn make<K: Sink>(alloc: Global, number: u64, events: u32, sink: &mut K) -> S
     requires { events ≤ 2000 }
     ensures promises { LoadPromises (run_of (load_lines (draws_of number events))).over (load_text (draws_of number events)) result (K.taken sink.old) (K.taken sink.new) }
     ensures words { result ≢ Status.BadWords }
+    ensures complete { result ≢ Status.WorldFault }
     ensures reads { result ≢ Status.ReadFault }
     ensures flushed { result ≡ Status.Ok → K.flushed sink.new ≡ K.taken sink.new }
     ensures nothing_held { ends_written result ≡ true → (sink.new ≡ sink.old) ⊎ (K.flushed sink.new ≡ K.taken sink.new) }

@@ -5,7 +5,7 @@ ghost use Rattle.run_book.specs.Ledgers.{limit_in};
 ghost use Rattle.world.specs.declared.fault.WorldFault.{WorldFault};
 ghost use Rattle.locus_main.specs.Inputs.{Input, MayEndAfter, output_of};
 ghost use Rattle.locus_main.specs.Runs.{Refuses};
-ghost use Rattle.locus_main.specs.Turns.{RunsOn, MayStand};
+ghost use Rattle.locus_main.specs.Turns.{RunsOn};
 
 use run_book::Passed;
 use schedule_run::{RunFault, ScheduleRunner, TreeRunner};
@@ -22,7 +22,7 @@ pub trait LineRunner {
     fn run_next(&mut self, number: u32, bytes: &[u8]) -> Result<(), RunFault>
         ensures ran { (all : List (List ℕ)) (lines : List ScheduleLine) (taken : List ℕ) → number ≡ length all + 1 → stands all lines taken self.old → OnOk result (RunsOn stands input all bytes.now taken self.new) }
         ensures bad { (all : List (List ℕ)) (lines : List ScheduleLine) (taken : List ℕ) → stands all lines taken self.old → result ≡ Err RunFault.Bad → Refuses input all bytes.now }
-        ensures world { (all : List (List ℕ)) (lines : List ScheduleLine) (taken : List ℕ) (fault : WorldFault) → stands all lines taken self.old → result ≡ Err (RunFault.World fault) → MayStand input all bytes.now };
+        ensures complete { (all : List (List ℕ)) (lines : List ScheduleLine) (taken : List ℕ) (fault : WorldFault) → number ≡ length all + 1 → stands all lines taken self.old → result ≡ Err (RunFault.World fault) → fault ≡ WorldFault.NoMemory };
 
     /// The input may end here.
     fn may_end_here(&self) -> bool

@@ -19,7 +19,7 @@ pub enum Status {
     NoMemory,
     /// A further step would pass a limit.
     Limit { what: Limited },
-    /// The world of the run could not do a line. That this never comes is not proved.
+    /// The world of the run could not do a line. This never comes.
     WorldFault,
 }
 

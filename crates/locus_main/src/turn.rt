@@ -6,7 +6,7 @@ ghost use Rattle.the_run.specs.Worlds.{Limit};
 ghost use Rattle.run_book.specs.Ledgers.{limit_in};
 ghost use Rattle.locus_main.specs.Codes.{ends_written, limited};
 ghost use Rattle.locus_main.specs.Runs.{Refuses};
-ghost use Rattle.locus_main.specs.Turns.{status_of_line, ends_turn, ends_telling, HasTold, Tells, TellsFront, Goes, IsCutShort, MayStand};
+ghost use Rattle.locus_main.specs.Turns.{status_of_line, ends_turn, ends_telling, HasTold, Tells, TellsFront, Goes, IsCutShort};
 
 use crate::runners::LineRunner;
 use crate::status::{Limited, Status};
@@ -83,7 +83,7 @@ pub fn take_turn<R: LineRunner, K: Sink>(
     ensures limit { (all : List (List ℕ)) (lines : List ScheduleLine) (limit : Limit) → number ≡ length all + 1 → HasTold R.stands R.input all lines runner.old → result ≡ Err (Status.Limit (limited limit)) → Goes R.stands R.input all lines bytes.now (Some limit) runner.new (K.taken sink.old) (K.taken sink.new) }
     ensures flushed { OnOk result (K.flushed sink.new ≡ K.taken sink.new) }
     ensures bad { (all : List (List ℕ)) (lines : List ScheduleLine) (line : ℕ) → HasTold R.stands R.input all lines runner.old → result ≡ Err (Status.BadLine line) → (line ≡ number) × Refuses R.input all bytes.now × (sink.new ≡ sink.old) }
-    ensures world { (all : List (List ℕ)) (lines : List ScheduleLine) → HasTold R.stands R.input all lines runner.old → result ≡ Err Status.WorldFault → MayStand R.input all bytes.now × (sink.new ≡ sink.old) }
+    ensures complete { (all : List (List ℕ)) (lines : List ScheduleLine) → number ≡ length all + 1 → HasTold R.stands R.input all lines runner.old → result ≡ Err Status.WorldFault → ⊥ }
     ensures err { (all : List (List ℕ)) (lines : List ScheduleLine) → number ≡ length all + 1 → HasTold R.stands R.input all lines runner.old → OnErr result (IsCutShort R.input all lines bytes.now (K.taken sink.old) (K.taken sink.new)) }
     ensures failed { result ≡ Err Status.WriteFault → Rose (K.faults sink.old) (K.faults sink.new) }
     ensures only { IfErr result (λ status. ends_turn status ≡ true) }

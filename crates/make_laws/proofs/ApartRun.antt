@@ -37,13 +37,13 @@ use Rattle.vector_laws.proofs.SyncFacts.{FoundAt, row_at}
 use Rattle.vector_laws.proofs.FactsRun.{past_onto}
 use Rattle.lock_laws.specs.Going.{WasBegunAt, WasReleased}
 use Rattle.lock_laws.specs.Facts as locks
-use Rattle.writer_laws.proofs.AsksRun.{Leads, newest_leads}
+use Rattle.pack_laws.proofs.WriterAsksRun.{Leads, newest_leads}
 use Rattle.pack_laws.specs.Making.{IsOwnNumber, FilesAreMadeAtHome}
-use Rattle.running_laws.specs.Stores.{HasOn, AsksIn, IsAsked, InstanceSo, Stands}
-use Rattle.running_laws.proofs.Spine.{order_before}
-use Rattle.running_laws.proofs.Stand.{ChangesAreOfWriters, stand_spines}
-use Rattle.running_laws.proofs.StandRun.{Orderly, Standing, standing_kept, first_standing, stores_stand}
-use Rattle.running_laws.proofs.Orders.{run_orderly}
+use Rattle.make_laws.specs.RunningStores.{HasOn, AsksIn, IsAsked, InstanceSo, Stands}
+use Rattle.make_laws.proofs.RunningSpine.{order_before}
+use Rattle.make_laws.proofs.RunningStand.{ChangesAreOfWriters, stand_spines}
+use Rattle.make_laws.proofs.RunningStandRun.{Orderly, Standing, standing_kept, first_standing, stores_stand}
+use Rattle.make_laws.proofs.RunningOrders.{run_orderly}
 use Rattle.lock_laws.specs.Joins.{JoinsAreOnce}
 use Rattle.make_laws.specs.Holding.{ReservedAt, WasReserved, ApartTold, ReservesAreApart}
 use Rattle.make_laws.specs.Made.{AsksSo, IsAskedThere, Lawful, WorldMade}

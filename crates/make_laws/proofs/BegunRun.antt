@@ -30,7 +30,7 @@ use Rattle.vector_laws.proofs.FactsRun.{past_onto}
 use Rattle.lock_laws.specs.Going.{BegunAt}
 use Rattle.lock_laws.specs.Locks.{IsOfAFile}
 use Rattle.lock_laws.proofs.Facts.{onto_later}
-use Rattle.writer_laws.proofs.AsksRun.{Leads, newest_leads, newest_has}
+use Rattle.pack_laws.proofs.WriterAsksRun.{Leads, newest_leads, newest_has}
 use Rattle.make_laws.specs.Holding.{ReservedAt, WasReserved}
 use Rattle.make_laws.specs.Made.{AsksSo, IsAskedThere, IsBegunSo, AllBegunSo, IsNoBegin, AlwaysBegunSo, WorldMade}
 use Rattle.make_laws.proofs.Telling.{AnyGroup, Plain}

@@ -12,7 +12,7 @@ use Rattle.role_steps.specs.Storage.{copy_key}
 use Rattle.role_steps.specs.declared.copies.FileCopy.{FileCopy}
 use Rattle.vector_laws.specs.Held.{IsOf, StillRecord, Still, Writes, OnDisk}
 use Rattle.vector_laws.specs.Facts.{onto}
-use Rattle.history_laws.specs.Commits.{FitRecord, FitTold, NumbersFit}
+use Rattle.vector_laws.specs.HistoryCommits.{FitRecord, FitTold, NumbersFit}
 use Rattle.pack_laws.specs.Making.{CommitsRecordAt, CommitsAt, WasCommittedAt}
 use Rattle.make_laws.specs.Made.{HasCopy, IsOwned, DiskHas}
 use Rattle.make_laws.proofs.Happening.{TellsOne, told_now, none_told, one_append}

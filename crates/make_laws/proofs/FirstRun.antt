@@ -14,9 +14,9 @@ use Rattle.vector_laws.specs.Written.{past_of}
 use Rattle.lock_laws.specs.Grants.{GrantedAs, WasGrantedAs}
 use Rattle.lock_laws.specs.Locks.{IsOfAFile}
 use Rattle.pack_laws.specs.Making.{WasCommitted}
-use Rattle.running_laws.specs.Running.{IsRunning, RecordRuns, ToldRuns, InstancesRun, BegunAtOneSite}
-use Rattle.running_laws.proofs.OneSite.{run_one_site}
-use Rattle.running_laws.proofs.RunTold.{run_instances}
+use Rattle.make_laws.specs.RunningRunning.{IsRunning, RecordRuns, ToldRuns, InstancesRun, BegunAtOneSite}
+use Rattle.make_laws.proofs.RunningOneSite.{run_one_site}
+use Rattle.make_laws.proofs.RunningRunTold.{run_instances}
 use Rattle.make_laws.specs.Holding.{WasReserved, ReservedRecord, ReservedTold, MakesAreReserved, ReservesAreApart}
 use Rattle.make_laws.specs.Tables.{IsKnown, PlainGrantsAreFree}
 use Rattle.make_laws.specs.First.{IsMadeAt, FirstRecord, FirstTold, MakesCommitFirst}

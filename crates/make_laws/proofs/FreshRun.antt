@@ -30,7 +30,7 @@ use Rattle.vector_laws.specs.Facts.{onto}
 use Rattle.vector_laws.proofs.SiteDisks.{SiteDisk, step_disk}
 use Rattle.vector_laws.proofs.FactsRun.{past_onto}
 use Rattle.vector_laws.proofs.Held.{KeepsCopies, boots_copies}
-use Rattle.inode_laws.proofs.FitsRun.{run_fits}
+use Rattle.pack_laws.proofs.InodeFitsRun.{run_fits}
 use Rattle.lock_laws.proofs.FactsRun.{run_goes}
 use Rattle.pack_laws.specs.Packs.{HasPack}
 use Rattle.pack_laws.specs.Making.{IsOwnNumber, WasCommitted, WasCommittedAt, HomesCommitFirst}

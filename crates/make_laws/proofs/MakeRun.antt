@@ -44,11 +44,11 @@ use Rattle.vector_laws.specs.Written.{InstancesAgree, WasGranted}
 use Rattle.locus_ids.specs.declared.sites.Links.{Links}
 use Rattle.vector_laws.specs.Facts as vectors
 use Rattle.vector_laws.proofs.SyncFacts.{FoundAt, row_at}
-use Rattle.instance_laws.proofs.Agree.{run_agrees}
+use Rattle.pack_laws.proofs.InstanceAgree.{run_agrees}
 use Rattle.lock_laws.specs.Facts as locks
 use Rattle.lock_laws.proofs.JoinsRun.{run_joins_once}
 use Rattle.lock_laws.proofs.FactsRun.{run_goes}
-use Rattle.writer_laws.proofs.Granting.{run_alike}
+use Rattle.pack_laws.proofs.WriterGranting.{run_alike}
 use Rattle.pack_laws.specs.Packs.{HasPack}
 use Rattle.pack_laws.specs.Packed.{BodyPacked}
 use Rattle.make_laws.specs.Made.{IsSender, NumberedSender, WorldSent}

@@ -19,15 +19,15 @@ use Rattle.the_run.specs.Worlds.{World, Numbered}
 use Rattle.the_run.specs.Runs.{run_in}
 use Rattle.run_laws.proofs.Run.{found_among}
 use Rattle.vector_laws.specs.Written.{past_of, WasTold, Begun, WasBegun, WasGranted, InstancesAgree}
-use Rattle.instance_laws.specs.Book.{Book, AskedBy, Sound}
-use Rattle.instance_laws.specs.Facts.{BodyFact, OpenSsFact, GrantFact, NumberedFact, WorldFact, Booked}
-use Rattle.instance_laws.proofs.Agree.{run_agrees}
-use Rattle.instance_laws.proofs.Books.{asked_once}
-use Rattle.instance_laws.proofs.InstancesRun.{run_booked}
+use Rattle.pack_laws.specs.InstanceBook.{Book, AskedBy, Sound}
+use Rattle.pack_laws.specs.InstanceFacts.{BodyFact, OpenSsFact, GrantFact, NumberedFact, WorldFact, Booked}
+use Rattle.pack_laws.proofs.InstanceAgree.{run_agrees}
+use Rattle.pack_laws.proofs.InstanceBooks.{asked_once}
+use Rattle.pack_laws.proofs.InstanceInstancesRun.{run_booked}
 use Rattle.lock_laws.specs.Going.{BegunAt, WasBegunAt, IsNumberedBy, InstanceGoesOn, InstancesGoOn}
 use Rattle.lock_laws.specs.Grants.{WasGrantedAs}
 use Rattle.lock_laws.proofs.FactsRun.{run_goes}
-use Rattle.writer_laws.proofs.Granting.{GrantNoted, grant_noted}
+use Rattle.pack_laws.proofs.WriterGranting.{GrantNoted, grant_noted}
 use Rattle.make_laws.specs.Holding.{WasReserved, ReservedRecord, ReservedTold, MakesAreReserved, ReservesAreOfMakes}
 use Rattle.make_laws.specs.Made.{AsksSo, IsAskedThere, IsBegunSo, AllBegunSo, IsNoBegin, AlwaysBegunSo, WorldMade}
 use Rattle.make_laws.proofs.FreshRun.{run_making}

@@ -10,11 +10,11 @@ use Rattle.the_run.specs.Kept.{Among}
 use Rattle.the_run.specs.Worlds.{World}
 use Rattle.the_run.specs.Runs.{run_in}
 use Rattle.vector_laws.specs.Written.{past_of}
-use Rattle.instance_laws.specs.Book.{Book, Placed}
-use Rattle.instance_laws.specs.Facts.{WasPlaced, RecordFact, ToldFact, WorldFact, Booked}
-use Rattle.instance_laws.proofs.InstancesRun.{run_booked}
-use Rattle.writer_laws.proofs.Granting.{told_found}
-use Rattle.running_laws.proofs.OneSite.{KeyPlaced, begun_placed, placed_once}
+use Rattle.pack_laws.specs.InstanceBook.{Book, Placed}
+use Rattle.pack_laws.specs.InstanceFacts.{WasPlaced, RecordFact, ToldFact, WorldFact, Booked}
+use Rattle.pack_laws.proofs.InstanceInstancesRun.{run_booked}
+use Rattle.pack_laws.proofs.WriterGranting.{told_found}
+use Rattle.make_laws.proofs.RunningOneSite.{KeyPlaced, begun_placed, placed_once}
 use Rattle.make_laws.specs.Naming.{GrantedAtRecord, GrantedAt, GrantsNameWhoBegins}
 
 record_placed : (book : Book) (e : EpochId) (key ss : ℕ) (r : Record) → RecordFact book r → GrantedAtRecord e key ss r → KeyPlaced book e key ss

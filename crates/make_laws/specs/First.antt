@@ -7,7 +7,7 @@ use Rattle.trace_book.specs.declared.record.Record.{Record}
 use Rattle.trace_book.specs.declared.record.Record.TheVariants as says
 use Rattle.role_steps.specs.Views.{Told, Shown}
 use Rattle.pack_laws.specs.Making.{WasCommitted}
-use Rattle.running_laws.specs.Running.{IsRunning}
+use Rattle.make_laws.specs.RunningRunning.{IsRunning}
 use Rattle.make_laws.specs.Holding.{WasReserved}
 
 -- this site runs a make of the file, for which it has reserved the number

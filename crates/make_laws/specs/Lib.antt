@@ -1,3 +1,5 @@
+pub mod RunningStores
+pub mod RunningRunning
 pub mod Fresh
 pub mod Holding
 pub mod Made

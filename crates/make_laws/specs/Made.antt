@@ -19,7 +19,7 @@ use Rattle.the_run.specs.Laws.{boot_on}
 use Rattle.the_run.specs.Worlds.{World, Place, Running, Numbered, place_at}
 use Rattle.vector_laws.specs.Held.{copies_on}
 use Rattle.vector_laws.specs.Written.{past_of}
-use Rattle.history_laws.specs.Commits.{NumbersFit}
+use Rattle.vector_laws.specs.HistoryCommits.{NumbersFit}
 use Rattle.lock_laws.specs.Going.{WasBegunAt, InstancesGoOn}
 use Rattle.pack_laws.specs.Packs.{HasPack, ToldPacked}
 use Rattle.pack_laws.specs.Making.{WasCommittedAt, FilesAreMadeAtHome, HomesCommitFirst}

@@ -25,7 +25,7 @@ use Rattle.lock_laws.specs.Going.{WasReleased, WasStarted, InstancesGoOn}
 use Rattle.lock_laws.specs.Grants.{WasGrantedAs}
 use Rattle.lock_laws.specs.Locks.{IsOfAFile}
 use Rattle.lock_laws.proofs.GrantSites.{Orderly}
-use Rattle.writer_laws.specs.Granting.{GrantsAreAlike}
+use Rattle.pack_laws.specs.WriterGranting.{GrantsAreAlike}
 use Rattle.pack_laws.specs.Making.{NotEmpty, WasCommitted}
 use Rattle.make_laws.specs.Fresh.{NumbersAreFresh}
 use Rattle.make_laws.specs.Holding.{WasReserved, MakesAreReserved, ReservesAreApart}

@@ -1,3 +1,5 @@
+//! Laws of every run about files that are being made: a number is reserved for a file of which there is no version yet, and a file that
+//! is being made is nobody else's.
 ghost use Rattle.std.specs.Prelude.{List};
 ghost use Rattle.locus_ids.specs.declared.config.Config.{Config};
 ghost use Rattle.schedule_lines.specs.declared.line.ScheduleLine.{ScheduleLine};

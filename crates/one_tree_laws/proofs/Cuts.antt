@@ -27,13 +27,12 @@ use Rattle.role_steps.specs.declared.synchronizing.SyncTable.{SyncTable}
 use Rattle.the_run.specs.Steps.{at_table_of, from_user, group_of, is_opened_in, is_dropped, takes_inside, takes_framed, takes, tries_at, adopts_in, ends_event, whole, call_frame, epoch_id, takes_call, step}
 use Rattle.the_run.specs.Worlds.{Line, told_onto}
 use Rattle.vector_laws.specs.Written.{past_of}
-use Rattle.history_laws.specs.Commits.{StampsAreOnce}
+use Rattle.vector_laws.specs.HistoryCommits.{StampsAreOnce}
 use Rattle.run_laws.specs.Words.{Talks}
 use Rattle.run_laws.proofs.RolesTell.{on_open_ss_talks, on_closed_ok_talks, on_notify_talks, on_page_talks, on_call_talks, on_open_done_talks, on_op_done_talks, on_close_done_talks, on_look_done_talks}
 use Rattle.run_laws.proofs.SyncTells.{on_opened_talks, on_open_talks, on_look_talks, on_report_talks, on_closed_talks, on_have_talks}
 use Rattle.vector_laws.proofs.SiteDisks.{ends_keeps}
 use Rattle.lock_laws.proofs.StepFacts.{SiteSilent, notify_silent, page_silent, framed_notify}
-use Rattle.make_laws.proofs.Happening.{taken_epoch, taken_boot}
 use Rattle.role_steps.specs.Mends.{kept_stamps, mending}
 use Rattle.role_steps.specs.OperationEffects.{Mending}
 use Rattle.role_steps.specs.Operations.{on_op}
@@ -48,6 +47,7 @@ use Rattle.one_tree_laws.specs.Roles.{EventFact, Ready, RolesDo}
 use Rattle.one_tree_laws.proofs.Forming.{adopts_fine}
 use Rattle.one_tree_laws.proofs.Deeds.{IsPlainRecord, IsPlain, IsShaped, on_close_shaped, on_op_shaped, adopts_shaped}
 use Rattle.one_tree_laws.proofs.Steps.{framed, same_store, to_boot}
+use Rattle.one_tree_laws.proofs.Taken.{taken_boot, taken_epoch}
 
 -- ---- what other laws give of plain lines ----
 

@@ -5,11 +5,11 @@ use Rattle.role_steps.specs.Own.{Every}
 use Rattle.role_steps.specs.Views.{Told}
 use Rattle.the_run.specs.Worlds.{Line}
 use Rattle.vector_laws.specs.Written.{past_of}
-use Rattle.history_laws.specs.Commits.{StampsAreOnce}
+use Rattle.vector_laws.specs.HistoryCommits.{StampsAreOnce}
 use Rattle.pack_laws.specs.Packs.{ToldPacked}
 use Rattle.tree_laws.specs.Frames.{AllStay}
 use Rattle.holding_laws.specs.Below.{LawsBelow}
-use Rattle.one_version_laws.proofs.Order.{order_stays}
+use Rattle.holding_laws.proofs.OneVersionOrder.{order_stays}
 use Rattle.one_tree_laws.specs.Rest.{EachRest, IsRest, Comes, more}
 
 pub record Stays (c : Config) : Type 0 where

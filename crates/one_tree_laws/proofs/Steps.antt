@@ -20,7 +20,6 @@ use Rattle.the_run.specs.Worlds.{Line, told_onto}
 use Rattle.the_run.proofs.StepSends.{order_sent}
 use Rattle.vector_laws.proofs.FormingFacts.{both_true}
 use Rattle.lock_laws.proofs.StepFacts.{SiteSilent, notify_silent, page_silent, framed_notify}
-use Rattle.make_laws.proofs.Happening.{taken_epoch, taken_boot}
 use Rattle.tree_laws.specs.Doing.{NoWrite, WriteFact}
 use Rattle.tree_laws.specs.Packets.{PacketFact}
 use Rattle.tree_laws.proofs.Names.{test_same}
@@ -34,6 +33,7 @@ use Rattle.one_tree_laws.proofs.Inside.{writes_nothing, inside_fine, Stands, ins
 use Rattle.one_tree_laws.proofs.Leaving.{Gone, gone_site, out_over, leaves_fine}
 use Rattle.one_tree_laws.proofs.Lifting.{InsideFine, users_inside}
 use Rattle.one_tree_laws.proofs.Repeats.{repeats_fine}
+use Rattle.one_tree_laws.proofs.Taken.{taken_boot, taken_epoch}
 
 abbrev pub DoesWith : Config → ℕ → List Line → ℕ → (DiskWrite → Type 0) → Outcome SiteView → Type 0
 DoesWith c n trace me W o = SiteFine c n trace me (SiteFact c me) W o

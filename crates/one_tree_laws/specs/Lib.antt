@@ -1,3 +1,7 @@
 pub mod Rest
 pub mod Places
 pub mod Roles
+pub mod SpentMends
+pub mod ToldVectorTelling
+pub mod MakeCallMade
+pub mod UserStepRests

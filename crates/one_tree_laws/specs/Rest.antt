@@ -15,9 +15,9 @@ use Rattle.trace_book.specs.declared.record.Record.TheVariants as says
 use Rattle.role_steps.specs.Views.{Told, Shown}
 use Rattle.the_run.specs.Worlds.{Line}
 use Rattle.vector_laws.specs.Written.{NumberedTold, past_of}
-use Rattle.history_laws.specs.Commits.{IsSite, SitedTold, StampsAreOnce}
+use Rattle.vector_laws.specs.HistoryCommits.{IsSite, SitedTold, StampsAreOnce}
 use Rattle.pack_laws.specs.Packs.{ToldPacked}
-use Rattle.kept_laws.specs.Roots.{RootTold}
+use Rattle.pack_laws.specs.Making.{NotEmpty}
 use Rattle.lawful_trace.specs.Lawful.{MayCome}
 use Rattle.tree_laws.specs.Following.{IsFollowed, MayTell}
 use Rattle.tree_laws.specs.Frames.{IsFresh}
@@ -66,6 +66,15 @@ RangeRecord c _ = Unit {0}
 abbrev pub RangeTold : Config → Told → Type 0
 RangeTold c (Shown r) = RangeRecord c r
 RangeTold c _ = Unit {0}
+
+abbrev pub RootRecord : Record → Type 0
+RootRecord (says.Commit file s stamp parents content) = file.ino ≡ 1 → NotEmpty parents
+RootRecord _ = Unit {0}
+
+-- a commit of a root directory has parents
+abbrev pub RootTold : Told → Type 0
+RootTold (Shown r) = RootRecord r
+RootTold _ = Unit {0}
 
 pub record RestTold (c : Config) (older : List Line) (x : Told) : Type 0 where
   pub row : RowTold c older x

@@ -1,3 +1,5 @@
+//! The one tree in every run: where each role does its step as it may, whatever a run tells comes as it may, so that each printed record
+//! is lawful.
 ghost use Rattle.std.specs.Prelude.{ℕ, List};
 ghost use Rattle.locus_ids.specs.declared.config.Config.{Config};
 ghost use Rattle.locus_ids.specs.declared.sites.Links.{Links};

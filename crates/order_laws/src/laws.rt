@@ -1,3 +1,4 @@
+//! Laws of the one tree about files and the order of their versions, of every trace whose records come as the lawful trace has them.
 ghost use Rattle.std.specs.Prelude.{ℕ, List, ◌∷◌};
 ghost use Rattle.locus_ids.specs.declared.config.Config.{Config};
 ghost use Rattle.locus_ids.specs.declared.ids.EpochId.{EpochId};

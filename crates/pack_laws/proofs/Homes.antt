@@ -8,8 +8,8 @@ use Rattle.trace_book.specs.declared.record.Record.TheVariants as says
 use Rattle.role_steps.specs.Views.{Told, Shown}
 use Rattle.the_run.specs.Runs.{run_in}
 use Rattle.vector_laws.specs.Written.{past_of}
-use Rattle.history_laws.specs.Commits.{SitedRecord, SitedTold, CommitsAreSited, SitesAreKnown}
-use Rattle.history_laws.proofs.Sited.{run_sited}
+use Rattle.vector_laws.specs.HistoryCommits.{SitedRecord, SitedTold, CommitsAreSited, SitesAreKnown}
+use Rattle.vector_laws.proofs.HistorySited.{run_sited}
 use Rattle.pack_laws.specs.Making.{IsOwnNumber, CommitsRecord, CommitsFile, WasCommitted, MadeRecord, MadeTold, FilesAreMadeAtHome, WasCommittedAt, HomesCommitFirst}
 use Rattle.pack_laws.proofs.Making.{run_made}
 

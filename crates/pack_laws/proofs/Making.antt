@@ -11,7 +11,7 @@ use Rattle.role_steps.specs.Views.{Told, Shown, Reserves}
 use Rattle.the_run.specs.Runs.{run_in}
 use Rattle.vector_laws.specs.Written.{past_of, WrittenAs, IsWrittenBy, IsCommitOf, JoinsAll, IsNumbered, NumberedRecord, NumberedTold, CommitsAreNumbered}
 use Rattle.vector_laws.proofs.FactsRun.{run_numbered}
-use Rattle.instance_laws.proofs.Agree.{run_agrees}
+use Rattle.pack_laws.proofs.InstanceAgree.{run_agrees}
 use Rattle.pack_laws.specs.Making.{Originates, CommitsRecord, CommitsFile, WasCommitted, MadeRecord, MadeTold, FilesAreMadeAtHome}
 use Rattle.pack_laws.specs.Packs.{RecordPacked, ToldPacked, FilesLieInPacks}
 use Rattle.pack_laws.proofs.PacksRun.{run_packs}

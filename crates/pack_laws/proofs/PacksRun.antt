@@ -24,7 +24,7 @@ use Rattle.vector_laws.specs.Held.{OnDisk, copies_on}
 use Rattle.vector_laws.specs.Written.{past_of, Begun, WasBegun, WasGranted, InstancesAgree}
 use Rattle.vector_laws.proofs.SiteDisks.{SiteDisk, step_disk}
 use Rattle.vector_laws.proofs.FormingFacts.{both_true}
-use Rattle.instance_laws.proofs.Agree.{run_agrees}
+use Rattle.pack_laws.proofs.InstanceAgree.{run_agrees}
 use Rattle.lock_laws.specs.Going.{WasBegunAt, BegunAt, WasShutAt, ShutAt, InstanceGoesOn, InstancesGoOn}
 use Rattle.lock_laws.specs.Facts.{BodyFact, RowFact, OpenFact, TableFact, InEpochFact, ViewFact, NumberedFact, WorldFact}
 use Rattle.lock_laws.proofs.Facts.{onto_later}

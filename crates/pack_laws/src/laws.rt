@@ -1,3 +1,5 @@
+//! Laws of every run about where files are: a file's versions are begun, made and adopted at sites that have a pack of its group, and
+//! the first of them at the site whose number it has.
 ghost use Rattle.std.specs.Prelude.{List};
 ghost use Rattle.locus_ids.specs.declared.config.Config.{Config};
 ghost use Rattle.schedule_lines.specs.declared.line.ScheduleLine.{ScheduleLine};

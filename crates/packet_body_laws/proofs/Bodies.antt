@@ -22,7 +22,7 @@ use Rattle.tree_laws.specs.Packets.{PacketFact, BodyFact, MaybeMade}
 use Rattle.tree_laws.specs.Printed.{entries}
 use Rattle.locus_ids.specs.declared.ids.EpochId.{EpochId}
 use Rattle.vector_laws.specs.Written.{past_of}
-use Rattle.history_laws.specs.Commits.{StampsAreOnce}
+use Rattle.vector_laws.specs.HistoryCommits.{StampsAreOnce}
 use Rattle.tree_model.specs.Histories.{history}
 use Rattle.tree_laws.specs.Following.{IsFollowed, RowsAreLawful}
 use Rattle.tree_laws.proofs.Rows.{followed_rows}

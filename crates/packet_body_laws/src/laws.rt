@@ -3,7 +3,7 @@ ghost use Rattle.locus_ids.specs.declared.config.Config.{Config};
 ghost use Rattle.wire_messages.specs.declared.packet.Packet.{Packet};
 ghost use Rattle.the_run.specs.Worlds.{Line};
 ghost use Rattle.vector_laws.specs.Written.{past_of};
-ghost use Rattle.history_laws.specs.Commits.{StampsAreOnce};
+ghost use Rattle.vector_laws.specs.HistoryCommits.{StampsAreOnce};
 ghost use Rattle.tree_laws.specs.Following.{IsFollowed};
 ghost use Rattle.tree_laws.specs.Packets.{PacketFact};
 ghost use Rattle.packet_body_laws.specs.Versions.{VersionsFit, FitsAsVersion};

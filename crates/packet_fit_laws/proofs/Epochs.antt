@@ -19,7 +19,7 @@ use Rattle.role_steps.proofs.Sending.{every_append}
 use Rattle.the_run.specs.Disks.{Disk, Booted, Whole, CutOff, boots, cut_disk}
 use Rattle.the_run.specs.Kept.{WasSent, IsOwn, Kept}
 use Rattle.the_run.specs.Steps.{is_dropped, step}
-use Rattle.the_run.specs.Worlds.{World, Place, Running, Stopped, Limit, Numbered, number_of, no_epoch, place_at, place_in, place_site, links_of, script_of, happened, happened_of, unless_over, limit_passed, numbered_from, told_size, packet_size, disk_of, puts, arms, passed, stops_with, cut_told, acts, fresh, formatted, first_place}
+use Rattle.the_run.specs.Worlds.{first_world, World, Place, Running, Stopped, Limit, Numbered, number_of, no_epoch, place_at, place_in, place_site, links_of, script_of, happened, happened_of, unless_over, limit_passed, numbered_from, told_size, packet_size, disk_of, puts, arms, passed, stops_with, cut_told, acts, fresh, formatted, first_place}
 use Rattle.the_run.specs.Runs.{boots_as, run_in}
 use Rattle.the_run.proofs.Boots.{at_each, acts_cases, every_newest, every_numbered, every_weaker}
 use Rattle.the_run.proofs.Events.{puts_other}
@@ -232,7 +232,7 @@ boots_counted n s (Whole x None) w g k = happened_counted n [] _ _ w (fresh_view
 boots_counted n s (Whole x (Some a)) w g k = happened_counted n [] _ _ w (fresh_views s x w _ (omega arith) g) refl refl tt g k
 boots_counted n s (CutOff x how) w g k = stops_counted n s x _ w g k
 
-counted_kept : (c : Config) → Kept c Counted
+pub counted_kept : (c : Config) → Kept c Counted
 counted_kept c = record {
   steps = λ n s e v w here own g. steps_counted c n s e v w here (own_comes (size w) e own) g ((placed_kept c).steps n s e v w here own g.placed);
   receives = λ n x v w here sent g. steps_counted c n x.packet.to (Receives x.packet) v (passed x.number w) here (sent_named w x sent g) (passed_counted c x.number w g) ((placed_kept c).receives n x v w here sent g.placed);
@@ -257,8 +257,11 @@ first_views c (t ∷ ts) s v e =
       | false ↦ λ f. first_views c ts s v f
     ]) e
 
+pub first_counted : (c : Config) → Counted (first_world c)
+first_counted c = record { placed = first_placed c; sent = tt; underway = tt; views = λ s v e. first_views c _ s v e; room = omega arith }
+
 pub run_counted : (c : Config) (lines : List ScheduleLine) → Counted (run_in c lines)
-run_counted c lines = every_run c Counted (counted_kept c) (record { placed = first_placed c; sent = tt; underway = tt; views = λ s v e. first_views c _ s v e; room = omega arith }) lines
+run_counted c lines = every_run c Counted (counted_kept c) (first_counted c) lines
 
 -- ---- the laws ----
 
@@ -269,14 +272,19 @@ packet_is m p h = (h.0.0, by_body p.body h.1)
     by_body (body.Refuse theirs) k = k.0
     by_body _ k = tt
 
-pub run_epochs_low : (c : Config) (lines : List ScheduleLine) → EpochsAreLow (run_in c lines)
-run_epochs_low c lines =
-    let w : World = run_in c lines in
-    let g : Counted w = run_counted c lines in
+pub epochs_low : (w : World) → Counted w → EpochsAreLow w
+epochs_low w g =
     record {
       packets = every_weaker (Numbers (size w)) (NumberedIsUpTo 134479872) w.sent (λ x k. packet_is 134479872 x.packet (packet_more (size w) 134479872 g.room x.packet k)) g.sent;
       promised = λ s v here. (let k : v.promised.number ≤ size w = promised_most (size w) v (g.views s v here) in omega (arith, k, g.room));
     }
+
+-- of each packet under way as well
+pub named_low : (w : World) → Counted w → (x : Numbered) → WasSent w x → NumberedIsUpTo 134479872 x
+named_low w g x sent = packet_is 134479872 x.packet (packet_more (size w) 134479872 g.room x.packet (sent_named w x sent g))
+
+pub run_epochs_low : (c : Config) (lines : List ScheduleLine) → EpochsAreLow (run_in c lines)
+run_epochs_low c lines = epochs_low (run_in c lines) (run_counted c lines)
 
 pub come_named : (w : World) (e : Event) → Counted w → MayCome w e → Comes (size w) e
 come_named w (Receives p) g m = subst (Named (IdFits (size w))) m.2 (sent_named w m.0 m.1 g)

@@ -19,7 +19,7 @@ use Rattle.the_run.specs.Disks.{Disk, Booted, Whole, CutOff, boots, cut_disk}
 use Rattle.the_run.specs.Laws.{boot_on, boot_number}
 use Rattle.the_run.specs.Kept.{WasSent, IsOwn, Kept}
 use Rattle.the_run.specs.Steps.{step}
-use Rattle.the_run.specs.Worlds.{World, Place, Running, Stopped, Numbered, number_of, place_at, place_in, place_site, links_of, script_of, happened, numbered_from, disk_of, puts, arms, passed, stops_with, cut_told, acts, fresh, formatted, first_place}
+use Rattle.the_run.specs.Worlds.{first_world, World, Place, Running, Stopped, Numbered, number_of, place_at, place_in, place_site, links_of, script_of, happened, numbered_from, disk_of, puts, arms, passed, stops_with, cut_told, acts, fresh, formatted, first_place}
 use Rattle.the_run.specs.Runs.{boots_as, run_in}
 use Rattle.the_run.proofs.Boots.{Reached, boots_reached, at_each, acts_cases, every_newest, every_numbered}
 use Rattle.the_run.proofs.Events.{happened_keeps, puts_other}
@@ -99,14 +99,14 @@ packet_fits p h n =
 
 -- ---- the world ----
 
-abbrev SentComes : Numbered → Type 0
+abbrev pub SentComes : Numbered → Type 0
 SentComes x = PacketComes x.packet
 
-record Good (w : World) : Type 0 where
-  placed : Placed w
-  sent : Every SentComes w.sent
-  underway : Every SentComes w.underway
-  views : (s : ℕ) (v : SiteView) → place_at w s ≡ Some (Running v) → Site v
+pub record Good (w : World) : Type 0 where
+  pub placed : Placed w
+  pub sent : Every SentComes w.sent
+  pub underway : Every SentComes w.underway
+  pub views : (s : ℕ) (v : SiteView) → place_at w s ≡ Some (Running v) → Site v
 
 -- what an event leaves of them, beside its places
 record Rest (w : World) : Type 0 where
@@ -172,7 +172,7 @@ own_event Parts h = tt
 own_event Merges h = tt
 own_event GivesUp h = tt
 
-sent_comes : (w : World) (x : Numbered) → WasSent w x → Good w → PacketComes x.packet
+pub sent_comes : (w : World) (x : Numbered) → WasSent w x → Good w → PacketComes x.packet
 sent_comes w x (inl a) g = found_among SentComes x w.sent g.sent a
 sent_comes w x (inr a) g = found_among SentComes x w.underway g.underway a
 
@@ -200,7 +200,7 @@ boots_rest n s d (Whole x None) w here low high g = happened_rest n [] _ _ w (fr
 boots_rest n s d (Whole x (Some a)) w here low high g = happened_rest n [] _ _ w (fresh_views s x w (fresh_boot s d x w here low high g) g) refl refl tt g
 boots_rest n s d (CutOff x how) w here low high g = stops_rest n s x _ w g
 
-good_kept : (c : Config) → Kept c Good
+pub good_kept : (c : Config) → Kept c Good
 good_kept c = record {
   steps = λ n s e v w here own g. all_good _ ((placed_kept c).steps n s e v w here own g.placed) (steps_rest c n s e v w here (own_event e own) g);
   receives = λ n x v w here sent g. all_good _ ((placed_kept c).receives n x v w here sent g.placed) (steps_rest c n x.packet.to (Receives x.packet) v (passed x.number w) here (sent_comes w x sent g) (passed_good c x.number w g));
@@ -225,8 +225,11 @@ first_views c (t ∷ ts) s v e =
       | false ↦ λ f. first_views c ts s v f
     ]) e
 
+pub first_good : (c : Config) → Good (first_world c)
+first_good c = record { placed = first_placed c; sent = tt; underway = tt; views = λ s v e. first_views c _ s v e }
+
 run_good : (c : Config) (lines : List ScheduleLine) → Good (run_in c lines)
-run_good c lines = every_run c Good (good_kept c) (record { placed = first_placed c; sent = tt; underway = tt; views = λ s v e. first_views c _ s v e }) lines
+run_good c lines = every_run c Good (good_kept c) (first_good c) lines
 
 -- ---- the laws ----
 
@@ -237,7 +240,7 @@ run_fit_in_part c lines =
     let k : Counted w = run_counted c lines in
     every_both SentComes (Numbers (size w)) (λ (x : Numbered). FitsInPart x.packet) w.sent (λ x h n. packet_fits x.packet h (packet_more (size w) 134479873 (omega (arith, k.room)) x.packet n)) g.sent k.sent
 
-come_event : (w : World) (e : Event) → Good w → MayCome w e → Comes e
+pub come_event : (w : World) (e : Event) → Good w → MayCome w e → Comes e
 come_event w (Receives p) g m = subst PacketComes m.2 (sent_comes w m.0 m.1 g)
 come_event w (Calls process words) g m = tt
 come_event w Ticks g m = tt
@@ -245,11 +248,11 @@ come_event w Parts g m = tt
 come_event w Merges g m = tt
 come_event w GivesUp g m = tt
 
-pub run_next_fit : (c : Config) (lines : List ScheduleLine) → NextPacketsFit c (run_in c lines)
-run_next_fit c lines s v e here may =
-    let w : World = run_in c lines in
-    let g : Good w = run_good c lines in
-    let k : Counted w = run_counted c lines in
+pub next_fit : (c : Config) (w : World) → Good w → Counted w → (s : ℕ) (v : SiteView) (e : Event) → place_at w s ≡ Some (Running v) → MayCome w e → Every FitsInPart (step c s (links_of w s) v e).sent
+next_fit c w g k s v e here may =
     let f : Fine (step c s (links_of w s) v e) × Every PacketComes (step c s (links_of w s) v e).sent = step_comes c s e v w here (come_event w e g may) g in
     let n : NamesFine (IdFits 134479873) (step c s (links_of w s) v e) = step_up_to c (size w) 134479873 s (links_of w s) v e (own_place w s v here g.placed) (omega (arith, k.room)) (k.views s v here) (come_named w e k may) (one_room (size w) 134479873 s v e (omega (arith, k.room))) in
     every_both PacketComes (Named (IdFits 134479873)) FitsInPart (step c s (links_of w s) v e).sent (λ p h m. packet_fits p h m) f.1 n.sent
+
+pub run_next_fit : (c : Config) (lines : List ScheduleLine) → NextPacketsFit c (run_in c lines)
+run_next_fit c lines s v e here may = next_fit c (run_in c lines) (run_good c lines) (run_counted c lines) s v e here may

@@ -85,7 +85,7 @@ all_length : (f : ℕ → ℕ) → length (map f all_sites) ≡ 16
 all_length f = refl
 
 -- a list that is made of boots
-made_boots : (f : ℕ → ℕ) → ((t : ℕ) → f t ≤ 134217730) → AreBoots (map f all_sites)
+pub made_boots : (f : ℕ → ℕ) → ((t : ℕ) → f t ≤ 134217730) → AreBoots (map f all_sites)
 made_boots f h = (all_length f, boots_bounded f (λ t. 134217730) h)
 
 keeping : {A : Type 0} (P : A → Type 0) (b : Bool) (x : A) (ys : List A) → P x → Every P ys → Every P (cond b (x ∷ ys) ys)
@@ -165,11 +165,11 @@ formless_formed : (ps : List Packet) → Every Formless ps → Every Meets ps �
 formless_formed ps h k = every_both Formless Meets Formed ps (λ p a b. forms_none p p.body a b) h k
 
 -- the members of the epoch that a site is in
-fits_in : (v : SiteView) (o : Option InEpoch) → v.epoch ≡ o → Site v → FitsIn o
+pub fits_in : (v : SiteView) (o : Option InEpoch) → v.epoch ≡ o → Site v → FitsIn o
 fits_in v None here h = tt
 fits_in v (Some e) here h = (h.inside e here).0
 
-inner_fine : (v : SiteView) (o : Outcome SiteView) → FormlessSite v o → Awaits v o → MeetingSite v o → Site v → Fine o
+pub inner_fine : (v : SiteView) (o : Outcome SiteView) → FormlessSite v o → Awaits v o → MeetingSite v o → Site v → Fine o
 inner_fine v o f i m h = record {
   view = record {
     own = subst IsBoot (sym f.boot) h.own;
@@ -183,7 +183,7 @@ inner_fine v o f i m h = record {
 
 -- ---- leaving, promising, polling ----
 
-leaves_fine : (me : ℕ) (e : Option InEpoch) (v : SiteView) → Site v → Fine (leaves_of me e v)
+pub leaves_fine : (me : ℕ) (e : Option InEpoch) (v : SiteView) → Site v → Fine (leaves_of me e v)
 leaves_fine me None v h = quiet_fine v h
 leaves_fine me (Some e) v h = record { view = record { own = h.own; round = h.round; inside = λ x k. absurd (none_is x k); tables = tt; meets = tt }; sent = tt }
 
@@ -198,7 +198,7 @@ promises_fine me id reach v h =
 poll_formed : (me boot : ℕ) (id : EpochId) (polled : Links) (ss : List ℕ) → AreBoots polled.boot → Every (IsListed polled.boot) ss → Every Formed (map (poll_packet me boot id polled) ss)
 poll_formed me boot id polled ss fit h = map_every (IsListed polled.boot) Formed (poll_packet me boot id polled) ss (λ s k. listed_site polled.boot s fit k) h
 
-begins_fine : (me : ℕ) (links : Links) (number : ℕ) (polled : Links) (v : SiteView) → AreBoots polled.boot → Site v → Fine (begins_round me links number polled v)
+pub begins_fine : (me : ℕ) (links : Links) (number : ℕ) (polled : Links) (v : SiteView) → AreBoots polled.boot → Site v → Fine (begins_round me links number polled v)
 begins_fine me links number polled v fit h =
     let id : EpochId = round_id me number v in
     let o : Outcome SiteView = promises me id (reached links) v in
@@ -207,7 +207,7 @@ begins_fine me links number polled v fit h =
     (record { own = g.own; round = λ r e. subst (λ (x : Round). AreBoots x.polled.boot) (some_is (new_round id polled) r e) fit; inside = g.inside; tables = g.tables; meets = g.meets })
     (poll_formed me o.view.boot id polled (polled_sites polled) fit (polled_listed polled)))
 
-starts_part_fine : (me : ℕ) (links : Links) (e : Option InEpoch) (v : SiteView) → v.epoch ≡ e → Site v → Fine (starts_part_of me links e v)
+pub starts_part_fine : (me : ℕ) (links : Links) (e : Option InEpoch) (v : SiteView) → v.epoch ≡ e → Site v → Fine (starts_part_of me links e v)
 starts_part_fine me links None v here h = quiet_fine v h
 starts_part_fine me links (Some e) v here h = begins_fine me links (v.promised.number + 1) (boots_where (part_boot me links e.members)) v (made_boots (part_boot me links e.members) (λ t. cond_at_most ((t == me) || not (boot_in links.boot t == boot_in e.members.boot t)) 0 (boot_in e.members.boot t) 134217730 (omega arith) ((h.inside e here).0.1 t))) h
 
@@ -300,17 +300,17 @@ decides_fine me c id m v own fit =
     (record { own = g.own; round = g.round; inside = λ e here. subst (λ (y : InEpoch). AreBoots y.members.boot × Every (IsListed y.members.boot) (others_of me m)) (some_is (record { id = id; members = m }) e here) (fit, others_listed me m); tables = g.tables; meets = g.meets })
     (installs_formed me (joins c me id m v).view.boot id m (others_of me m) fit (others_listed me m)))
 
-chosen_boots : (me boot : ℕ) (q : Round) (set : Sites) → IsBoot boot → AreBoots q.polled.boot → AreBoots (chosen_members me boot q set).boot
+pub chosen_boots : (me boot : ℕ) (q : Round) (set : Sites) → IsBoot boot → AreBoots q.polled.boot → AreBoots (chosen_members me boot q set).boot
 chosen_boots me boot q set own fit = made_boots (member_boot me boot q set) (λ t. cond_at_most (has set t) (polled_boot me boot q t) 0 134217730 (cond_at_most (t == me) boot (boot_in q.polled.boot t) 134217730 own.1 (fit.1 t)) (omega arith))
 
 passed_fine : (me : ℕ) (c : Config) (links : Links) (q : Round) (xs : List ℕ) (v : SiteView) → AreBoots q.polled.boot → Site v → Fine (decides_if c me links q xs v)
 passed_fine me c links q [] v fit h = decides_fine me c q.id (chosen_members me v.boot q (chosen_set me links q)) v h.own (chosen_boots me v.boot q (chosen_set me links q) h.own fit)
 passed_fine me c links q (x ∷ xs) v fit h = goes_on_round q v fit h
 
-left_boots : (links polled : Links) → AreBoots polled.boot → AreBoots (boots_where (left_boot links polled)).boot
+pub left_boots : (links polled : Links) → AreBoots polled.boot → AreBoots (boots_where (left_boot links polled)).boot
 left_boots links polled fit = made_boots (left_boot links polled) (λ t. cond_at_most (boot_in links.boot t == boot_in polled.boot t) (boot_in polled.boot t) 0 134217730 (fit.1 t) (omega arith))
 
-passes_over_fine : (me : ℕ) (c : Config) (links : Links) (o : Option Round) (v : SiteView) → Site v → v.round ≡ o → Fine (passes_over_of c me links o v)
+pub passes_over_fine : (me : ℕ) (c : Config) (links : Links) (o : Option Round) (v : SiteView) → Site v → v.round ≡ o → Fine (passes_over_of c me links o v)
 passes_over_fine me c links None v h here = quiet_fine v h
 passes_over_fine me c links (Some r) v h here = passed_fine me c links (passed_over links r) (unanswered (passed_over links r)) v (left_boots links r.polled (h.round r here)) h
 
@@ -327,7 +327,7 @@ abbrev pub PacketComes : Packet → Type 0
 PacketComes p = IsSite p.from × IsBoot p.from_boot × Formed p
 
 -- a packet that forms no epoch is from a member
-abbrev IsAsked : Body → Option InEpoch → ℕ → Type 0
+abbrev pub IsAsked : Body → Option InEpoch → ℕ → Type 0
 IsAsked body.Poll e from = Unit {0}
 IsAsked (body.Promise reach) e from = Unit {0}
 IsAsked (body.Refuse theirs) e from = Unit {0}
@@ -351,10 +351,10 @@ not_false : (a : Bool) → not a ≡ false → a ≡ true
 not_false true h = refl
 not_false false h = absurd (cc)
 
-is_asked : (p : Packet) (v : SiteView) → is_dropped p v ≡ false → IsBoot p.from_boot → IsAsked p.body v.epoch p.from
+pub is_asked : (p : Packet) (v : SiteView) → is_dropped p v ≡ false → IsBoot p.from_boot → IsAsked p.body v.epoch p.from
 is_asked p v kept own = asked_of p.body v.epoch p.from (is_framed p v.epoch) (both_true (p.to_boot == v.boot) (is_forming p || is_framed p v.epoch) (not_false ((p.to_boot == v.boot) && (is_forming p || is_framed p v.epoch)) kept)).1 (λ h. from_member p v.epoch h own)
 
-takes_fine : (me : ℕ) (c : Config) (links : Links) (p : Packet) (x : Body) (v : SiteView) → IsSite p.from → IsBoot p.from_boot → Forms p x → IsAsked x v.epoch p.from → Site v → Fine (takes c me links p x v)
+pub takes_fine : (me : ℕ) (c : Config) (links : Links) (p : Packet) (x : Body) (v : SiteView) → IsSite p.from → IsBoot p.from_boot → Forms p x → IsAsked x v.epoch p.from → Site v → Fine (takes c me links p x v)
 takes_fine me c links p body.Poll v site boot k asked h = on_poll_fine me links p.from p.from_boot p.epoch v site boot h
 takes_fine me c links p (body.Promise reach) v site boot k asked h = on_promise_fine p.from p.from_boot p.epoch reach v.round v h refl
 takes_fine me c links p (body.Refuse promised) v site boot k asked h = on_refuse_fine me links p.epoch promised v.round v h refl

@@ -1,6 +1,6 @@
 ghost use Rattle.std.specs.Prelude.{◌≡◌, [], map, Err, OnOk};
 ghost use Rattle.std.specs.List.{AllByRecursion};
-ghost use Rattle.wire_messages.specs.Packets.{FitsPacket};
+ghost use Rattle.packet_order.specs.Counts.{FitsIfCounted};
 ghost use Rattle.packet_order.specs.Orders.{behind, sorted_out, together, unsent};
 
 use crate::{OrderFault, Part};
@@ -54,7 +54,7 @@ impl Dispatch {
     /// Adds what an outbox gave, its packets in order. `Unfit` only where there are several packets and one isn't of the format.
     pub fn add_in_order(&mut self, outbox: Outbox) -> Result<(), OrderFault>
         ensures order { OnOk result (self.new ≡ behind self.old (sorted_out outbox)) }
-        ensures unfit { result ≡ Err OrderFault.Unfit → AllByRecursion (λ p. FitsPacket p) outbox.packets → ⊥ }
+        ensures unfit { result ≡ Err OrderFault.Unfit → AllByRecursion (λ p. FitsIfCounted p) outbox.packets → ⊥ }
     {
         let part = Part::in_order(*self.parts.allocator(), outbox)?;
         match self.push(part) {

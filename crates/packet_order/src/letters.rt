@@ -4,15 +4,17 @@ ghost use Rattle.std.specs.List.{AllByRecursion};
 ghost use Rattle.std.specs.Ordering.{is_lt};
 ghost use Rattle.std.specs.Cmp.Lexicographic.{slice_cmp};
 ghost use Rattle.wire_messages.specs.Packets.{FitsPacket, packet_bytes};
+ghost use Rattle.packet_order.specs.Counts.{FitsIfCounted};
 ghost use Rattle.wire_messages.specs.declared.packet.Packet.{Packet};
 ghost use Rattle.the_run.specs.Steps.{is_before};
 
 use crate::OrderFault;
+use crate::counts::count;
 use locus_ids::{Bytes, ItemList};
 use packet_fit::fits;
 use std::alloc::Global;
 use std::cmp::Ordering;
-use wire_messages::{Packet, encode};
+use wire_messages::{Encoder, Packet};
 
 /// Where the number of the kind, the receiver and the body stand.
 const KIND_AT: usize = 1;
@@ -24,11 +26,12 @@ const BODY_AT: usize = 25;
 /// The bytes of each packet in turn, if all are of the format.
 pub(crate) fn letters_of(alloc: Global, packets: &[Packet]) -> Result<ItemList<Bytes>, OrderFault>
     ensures letters { IfOk result (λ made. made ≡ map packet_bytes packets.now) }
-    ensures unfit { result ≡ Err OrderFault.Unfit → AllByRecursion (λ p. FitsPacket p) packets.now → ⊥ }
+    ensures unfit { result ≡ Err OrderFault.Unfit → AllByRecursion (λ p. FitsIfCounted p) packets.now → ⊥ }
 {
+    let mut encoder = Encoder::new(alloc)?;
     let mut made = ItemList::new(alloc);
     for packet in packets {
-        match made.push(letter_of(alloc, packet)?) {
+        match made.push(letter_of(alloc, packet, &mut encoder)?) {
             Ok(()) => {}
             Err(_) => return Err(OrderFault::NoMemory),
         }
@@ -37,16 +40,17 @@ pub(crate) fn letters_of(alloc: Global, packets: &[Packet]) -> Result<ItemList<B
 }
 
 /// The bytes of a packet, if it is one of the format.
-pub fn letter_of(alloc: Global, packet: &Packet) -> Result<Bytes, OrderFault>
+pub fn letter_of(alloc: Global, packet: &Packet, encoder: &mut Encoder) -> Result<Bytes, OrderFault>
     ensures letter { IfOk result (λ made. made ≡ packet_bytes packet.now) }
     ensures fits { OnOk result (FitsPacket packet.now) }
-    ensures unfit { result ≡ Err OrderFault.Unfit → FitsPacket packet.now → ⊥ }
+    ensures unfit { result ≡ Err OrderFault.Unfit → FitsIfCounted packet.now → ⊥ }
 {
     if !fits(packet) {
+        count(&packet.body);
         return Err(OrderFault::Unfit);
     }
     let mut letter = Bytes::new(alloc);
-    match encode(packet, &mut letter) {
+    match encoder.encode(packet, &mut letter) {
         Ok(()) => Ok(letter),
         Err(_) => Err(OrderFault::NoMemory),
     }

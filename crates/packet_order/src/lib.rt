@@ -2,6 +2,7 @@
 //! the other; and which packets a site drops unread. It knows nothing of what a packet is for.
 #![tactic(auto)]
 
+mod counts;
 mod dispatch;
 mod fault;
 mod framing;

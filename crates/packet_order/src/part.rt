@@ -1,7 +1,7 @@
 ghost use Rattle.std.specs.Prelude.{◌≡◌, length, slice_get, Err, IfOk};
 ghost use Rattle.std.specs.List.{AllByRecursion};
 ghost use Rattle.std.specs.Option.{option_copied};
-ghost use Rattle.wire_messages.specs.Packets.{FitsPacket};
+ghost use Rattle.packet_order.specs.Counts.{FitsIfCounted};
 ghost use Rattle.packet_order.specs.Orders.{sorted_out, unsent};
 
 use crate::OrderFault;
@@ -50,7 +50,7 @@ impl Part {
     /// An outbox with its packets in order. `Unfit` only where a packet isn't one of the format.
     pub(crate) fn in_order(alloc: Global, outbox: Outbox) -> Result<Part, OrderFault>
         ensures order { IfOk result (λ part. part ≡ sorted_out outbox) }
-        ensures unfit { result ≡ Err OrderFault.Unfit → AllByRecursion (λ p. FitsPacket p) outbox.packets → ⊥ }
+        ensures unfit { result ≡ Err OrderFault.Unfit → AllByRecursion (λ p. FitsIfCounted p) outbox.packets → ⊥ }
     {
         let (packets, records) = outbox.into_parts();
         if are_ascending(packets.as_slice()) {

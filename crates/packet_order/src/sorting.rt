@@ -1,7 +1,8 @@
 // Packets are brought into their order.
 ghost use Rattle.std.specs.Prelude.{◌≡◌, ◌<◌, length, map, Some, Err, slice_get, IfOk};
 ghost use Rattle.std.specs.List.{AllByRecursion};
-ghost use Rattle.wire_messages.specs.Packets.{FitsPacket, packet_bytes};
+ghost use Rattle.wire_messages.specs.Packets.{packet_bytes};
+ghost use Rattle.packet_order.specs.Counts.{FitsIfCounted};
 ghost use Rattle.wire_messages.specs.declared.packet.Packet.{Packet};
 ghost use Rattle.the_run.specs.Steps.{in_order, is_before};
 ghost use Rattle.packet_order.specs.Orders.{picked, place_before, ArePlaces};
@@ -16,7 +17,7 @@ use wire_messages::Packet;
 pub(crate) fn order_of(alloc: Global, packets: &[Packet]) -> Result<ItemList<usize>, OrderFault>
     ensures order { IfOk result (λ places. picked packets.now places ≡ in_order packets.now) }
     ensures within { IfOk result (λ places. ArePlaces (length packets.now) places) }
-    ensures unfit { result ≡ Err OrderFault.Unfit → AllByRecursion (λ p. FitsPacket p) packets.now → ⊥ }
+    ensures unfit { result ≡ Err OrderFault.Unfit → AllByRecursion (λ p. FitsIfCounted p) packets.now → ⊥ }
 {
     let letters = letters_of(alloc, packets)?;
     let mut places = ItemList::new(alloc);

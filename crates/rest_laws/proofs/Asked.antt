@@ -6,17 +6,17 @@ use Rattle.the_run.specs.Worlds.{Line}
 use Rattle.tree_laws.specs.Packets.{serial_of}
 use Rattle.tree_laws.specs.Serials.{serial_asked}
 use Rattle.user_laws.specs.Rests.{ActRests, CloseRests, LookRests, OpenRests, ReplyRests, RequestRests}
-use Rattle.script_laws.proofs.Opened.{opened_as}
-use Rattle.script_laws.proofs.Replies.{gives_unchanged, strays_never}
-use Rattle.script_laws.proofs.Said.{open_numbered, resolution_said}
-use Rattle.script_laws.proofs.Wholes.{whole_served, wholes_brought}
+use Rattle.store_laws.proofs.ScriptOpened.{opened_as}
+use Rattle.store_laws.proofs.ScriptReplies.{gives_unchanged, strays_never}
+use Rattle.store_laws.proofs.ScriptSaid.{open_numbered, resolution_said}
+use Rattle.store_laws.proofs.ScriptWholes.{whole_served, wholes_brought}
 use Rattle.store_laws.proofs.Serving.{looked_stands}
-use Rattle.answer_laws.proofs.Answering.{act_waits, close_waits}
-use Rattle.answer_laws.proofs.Mending.{mend_waits}
-use Rattle.answer_laws.proofs.Owning.{owner_numbered}
-use Rattle.answer_laws.proofs.Unasked.{opens_unasked}
-use Rattle.remove_laws.proofs.Removers.{sees_target}
-use Rattle.user_step_laws.specs.Rests.{UserRests}
+use Rattle.store_laws.proofs.AnswerAnswering.{act_waits, close_waits}
+use Rattle.store_laws.proofs.AnswerMending.{mend_waits}
+use Rattle.store_laws.proofs.AnswerOwning.{owner_numbered}
+use Rattle.store_laws.proofs.AnswerUnasked.{opens_unasked}
+use Rattle.one_tree_laws.proofs.RemoveRemovers.{sees_target}
+use Rattle.one_tree_laws.specs.UserStepRests.{UserRests}
 use Rattle.one_tree_laws.specs.Rest.{Past}
 use Rattle.one_tree_laws.proofs.Staying.{rest_below}
 use Rattle.rest_laws.specs.Asking.{OpensAreSaid}

@@ -13,7 +13,7 @@ use Rattle.trace_book.specs.declared.record.Record.TheVariants as says
 use Rattle.role_steps.specs.Views.{Told, Shown}
 use Rattle.the_run.specs.Worlds.{Line}
 use Rattle.vector_laws.specs.Written.{IsNumbered, NumberedTold, past_of}
-use Rattle.history_laws.specs.Commits.{StampsAreOnce, commits_of, real_parents}
+use Rattle.vector_laws.specs.HistoryCommits.{StampsAreOnce, commits_of, real_parents}
 use Rattle.tree_model.specs.Histories.{history}
 use Rattle.tree_laws.specs.Frames.{IsFresh}
 use Rattle.tree_laws.specs.Printed.{entries}

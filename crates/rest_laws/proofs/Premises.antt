@@ -19,16 +19,16 @@ use Rattle.tree_laws.specs.Printed.{entries}
 use Rattle.order_laws.specs.Joining.{PacksAreOfSites}
 use Rattle.holding_laws.proofs.Below.{commits_new, packs_hold}
 use Rattle.holding_laws.proofs.Holding.{sites_hold, stands_on_held}
-use Rattle.mend_laws.proofs.Only.{only_had}
-use Rattle.mend_laws.proofs.Whole.{whole_kept}
+use Rattle.holding_laws.proofs.MendOnly.{only_had}
+use Rattle.holding_laws.proofs.MendWhole.{whole_kept}
 use Rattle.store_laws.proofs.Said.{asked_as_said}
 use Rattle.sync_laws.specs.Making.{MakesAreSaid}
 use Rattle.sync_laws.specs.Serving.{CallsAreKnown, FilesAreOrdered}
-use Rattle.number_laws.proofs.Said.{making_said}
+use Rattle.one_tree_laws.proofs.NumberSaid.{making_said}
 use Rattle.one_tree_laws.specs.Rest.{AskedCall, Past, RangeCall}
 use Rattle.one_tree_laws.proofs.Staying.{rest_below}
 use Rattle.rest_laws.specs.Asking.{OpensAreSaid}
-use Rattle.store_step_laws.proofs.Known.{known_call}
+use Rattle.rest_laws.proofs.StoreStepKnown.{known_call}
 
 -- ---- synchronization sites ----
 

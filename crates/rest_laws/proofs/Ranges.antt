@@ -14,7 +14,7 @@ use Rattle.tree_model.specs.Folds.{Trace}
 use Rattle.tree_model.specs.Epochs.{boot_after, boot_of}
 use Rattle.tree_model.specs.Packs.{boot_in}
 use Rattle.lawful_trace.specs.CallRows.{CallLine, IsCallAsked}
-use Rattle.history_laws.specs.Commits.{IsSite}
+use Rattle.vector_laws.specs.HistoryCommits.{IsSite}
 use Rattle.row_laws.specs.Events.{IsShort}
 use Rattle.row_laws.specs.Rows.{SiteRecordRow}
 use Rattle.row_laws.specs.Shown.{EachRecord}

@@ -11,25 +11,25 @@ use Rattle.the_run.specs.Worlds.{Line}
 use Rattle.tree_model.specs.Folds.{Trace}
 use Rattle.vector_laws.specs.Written.{CommitsAreNumbered, past_of}
 use Rattle.vector_laws.proofs.FactsRun.{run_numbered}
-use Rattle.history_laws.specs.Commits.{CommitsAreSited, FitTold, NumbersFit, StampsAreOnce}
-use Rattle.history_laws.proofs.Sited.{run_sited}
-use Rattle.instance_laws.proofs.Agree.{run_agrees}
-use Rattle.inode_laws.proofs.FitsRun.{run_fits}
+use Rattle.vector_laws.specs.HistoryCommits.{CommitsAreSited, FitTold, NumbersFit, StampsAreOnce}
+use Rattle.vector_laws.proofs.HistorySited.{run_sited}
+use Rattle.pack_laws.proofs.InstanceAgree.{run_agrees}
+use Rattle.pack_laws.proofs.InodeFitsRun.{run_fits}
 use Rattle.pack_laws.specs.Packs.{ToldPacked}
 use Rattle.pack_laws.proofs.PacksRun.{run_packs}
-use Rattle.stamp_laws.proofs.LawsRun.{run_stamps}
-use Rattle.kept_laws.specs.Roots.{RootsFollow}
+use Rattle.kept_laws.proofs.StampLawsRun.{run_stamps}
+use Rattle.kept_laws.specs.Roots.{RootRecord as KeptRecord, RootTold as KeptTold, RootsFollow}
 use Rattle.kept_laws.proofs.RootsRun.{run_roots}
 use Rattle.row_laws.specs.Shown.{EachRecord}
 use Rattle.row_laws.specs.Voids.{LinesFit}
 use Rattle.tree_laws.specs.Printed.{entries, onto_entries}
 use Rattle.order_laws.specs.Joining.{PacksAreOfSites}
 use Rattle.holding_laws.proofs.Below.{once_before}
-use Rattle.one_tree_laws.specs.Rest.{EachRest, IsRest, RangeTold, RowTold}
-use Rattle.counter_laws.specs.Numbers.{IsLowRecord, IsLowTold, NumbersAreLow}
-use Rattle.counter_laws.proofs.Run.{run_numbers_low}
-use Rattle.spent_laws.specs.Mends.{MendedRecord, MendedTold}
-use Rattle.spent_laws.proofs.Run.{run_mended}
+use Rattle.one_tree_laws.specs.Rest.{EachRest, IsRest, RangeTold, RootRecord, RootTold, RowTold}
+use Rattle.pack_laws.specs.CounterNumbers.{IsLowRecord, IsLowTold, NumbersAreLow}
+use Rattle.pack_laws.proofs.CounterRun.{run_numbers_low}
+use Rattle.one_tree_laws.specs.SpentMends.{MendedRecord, MendedTold}
+use Rattle.one_tree_laws.proofs.SpentRun.{run_mended}
 use Rattle.rest_laws.specs.Counters.{CountersAreLow, LowRecord, LowTold}
 use Rattle.rest_laws.proofs.Fresh.{told_fresh}
 use Rattle.rest_laws.proofs.Ranges.{boots_begin, call_range, listed_site}
@@ -78,6 +78,14 @@ range_told c lines n older _ fit h k low = tt
 
 -- ---- all lines ----
 
+own_record : (r : Record) → KeptRecord r → RootRecord r
+own_record (says.Commit f s stamp parents content) h = h
+own_record _ h = tt
+
+own_told : (x : Told) → KeptTold x → RootTold x
+own_told (Shown r) h = own_record r h
+own_told _ h = tt
+
 each_rest : (c : Config) (lines : List ScheduleLine) → LinesFit c lines → (t : List Line) → Gives c lines t → EachRest c t
 each_rest c lines fit [] g = tt
 each_rest c lines fit (x ∷ older) g = (
@@ -89,7 +97,7 @@ each_rest c lines fit (x ∷ older) g = (
     once = g.once;
     numbered = g.numbered.0;
     sited = g.sited.0;
-    rooted = g.rooted.0;
+    rooted = own_told x.told g.rooted.0;
   },
   each_rest c lines fit older (gives_before c lines x older g),
 )

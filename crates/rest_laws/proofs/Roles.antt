@@ -44,32 +44,32 @@ use Rattle.sync_laws.proofs.Opens.{open_fine}
 use Rattle.one_tree_laws.specs.Places.{UsersOf, UsersOutside}
 use Rattle.one_tree_laws.specs.Rest.{AllRest, Past, more}
 use Rattle.one_tree_laws.specs.Roles.{Came, Ready, RolesDo, TableHere}
-use Rattle.number_laws.proofs.Lacking.{full_lacks}
+use Rattle.one_tree_laws.proofs.NumberLacking.{full_lacks}
 use Rattle.one_tree_laws.proofs.Repeats.{every_flat}
 use Rattle.one_tree_laws.proofs.Staying.{rest_below}
-use Rattle.epoch_tree_laws.specs.Waiting.{RequestsDo}
-use Rattle.epoch_tree_laws.proofs.Coming.{reports_come}
-use Rattle.epoch_tree_laws.proofs.Joins.{epochs_do}
-use Rattle.table_laws.specs.Narrow.{CallsAreNarrow}
-use Rattle.table_laws.proofs.Closing.{closes_fine as closes_fine_there}
-use Rattle.table_laws.proofs.Notes.{notes_fine}
-use Rattle.store_step_laws.proofs.Known.{known_call}
-use Rattle.made_laws.specs.Resting.{MadeRests}
-use Rattle.made_laws.proofs.Opened.{opens_answered}
-use Rattle.adoption_laws.proofs.Choosing.{adopts_fine}
-use Rattle.mend_step_laws.proofs.Starting.{mends_start}
-use Rattle.store_step_laws.proofs.First.{first_held}
-use Rattle.user_step_laws.proofs.Answering as answers
-use Rattle.user_step_laws.proofs.Calling as calling
-use Rattle.user_step_laws.proofs.Opening as opening
-use Rattle.user_step_laws.proofs.Outside.{calls_outside}
+use Rattle.rest_laws.specs.EpochTreeWaiting.{RequestsDo}
+use Rattle.rest_laws.proofs.EpochTreeComing.{reports_come}
+use Rattle.rest_laws.proofs.EpochTreeJoins.{epochs_do}
+use Rattle.rest_laws.specs.TableNarrow.{CallsAreNarrow}
+use Rattle.rest_laws.proofs.TableClosing.{closes_fine as closes_fine_there}
+use Rattle.rest_laws.proofs.TableNotes.{notes_fine}
+use Rattle.rest_laws.proofs.StoreStepKnown.{known_call}
+use Rattle.rest_laws.specs.MadeResting.{MadeRests}
+use Rattle.rest_laws.proofs.MadeOpened.{opens_answered}
+use Rattle.rest_laws.proofs.AdoptionChoosing.{adopts_fine}
+use Rattle.rest_laws.proofs.MendStepStarting.{mends_start}
+use Rattle.rest_laws.proofs.StoreStepFirst.{first_held}
+use Rattle.one_tree_laws.proofs.UserStepAnswering as answers
+use Rattle.one_tree_laws.proofs.UserStepCalling as calling
+use Rattle.one_tree_laws.proofs.UserStepOpening as opening
+use Rattle.one_tree_laws.proofs.UserStepOutside.{calls_outside}
 use Rattle.rest_laws.proofs.Asked.{opens_said, user_rests}
-use Rattle.store_step_laws.specs.Steps.{MendsRest}
-use Rattle.store_step_laws.proofs.Named.{released_low}
-use Rattle.store_step_laws.proofs.Resting.{store_rests}
-use Rattle.store_step_laws.proofs.Staying.{all_stay}
-use Rattle.store_step_laws.proofs.Steps.{acts_fine, closes_fine}
-use Rattle.mend_step_laws.proofs.Working.{mends_as}
+use Rattle.rest_laws.specs.StoreStepSteps.{MendsRest}
+use Rattle.rest_laws.proofs.StoreStepNamed.{released_low}
+use Rattle.rest_laws.proofs.StoreStepResting.{store_rests}
+use Rattle.rest_laws.proofs.StoreStepStaying.{all_stay}
+use Rattle.rest_laws.proofs.StoreStepSteps.{acts_fine, closes_fine}
+use Rattle.rest_laws.proofs.MendStepWorking.{mends_as}
 use Rattle.rest_laws.proofs.Premises.{files_ordered, makes_said}
 use Rattle.rest_laws.proofs.Staying.{serving}
 
@@ -159,8 +159,8 @@ notified : (c : Config) (n : ℕ) (t : List Line) (f : Frame) (p : Packet) (pull
 notified c n t f p pull s ps ready held all empty came =
     subst (λ (b : List ℕ). PullsFine c n t f (on_notify f p.from (copy_of s pull.file) (record { file = pull.file; kind = pull.kind; set = pull.set; size = pull.size; stamp = pull.stamp; vector = pull.vector; holder = pull.holder; content = b }) ps)) (sym empty)
     (notify_fine c n t ready.past.followed (store_rests c t ready.past) f ready.frame s held.copies ps all p.from pull.file pull.kind pull.set pull.size pull.stamp pull.vector pull.holder
-    (subst (λ (me : ℕ). NotifyFact c t f.epoch me pull.file pull.kind pull.set pull.size pull.stamp pull.vector) came.received.to_is
-    (subst (λ (e : EpochId). NotifyFact c t e p.to pull.file pull.kind pull.set pull.size pull.stamp pull.vector) came.received.epoch_is (its_fact c t f p (body.Notify pull.file pull.kind pull.set pull.size pull.stamp pull.vector pull.holder) came))))
+    (subst (λ (me : ℕ). NotifyFact c t f.epoch me pull.file pull.kind pull.set pull.size pull.stamp pull.vector pull.holder) came.received.to_is
+    (subst (λ (e : EpochId). NotifyFact c t e p.to pull.file pull.kind pull.set pull.size pull.stamp pull.vector pull.holder) came.received.epoch_is (its_fact c t f p (body.Notify pull.file pull.kind pull.set pull.size pull.stamp pull.vector pull.holder) came))))
 
 paged : (c : Config) (n : ℕ) (t : List Line) (f : Frame) (p : Packet) (file : FileId) (stamp : Stamp) (page : ℕ) (bytes : List ℕ) (ps : List Pull) → Ready c t f → PullsFact c f t ps → Came c t f p (body.Page file stamp page bytes) → PullsFine c n t f (on_page f file stamp page bytes ps)
 paged c n t f p file stamp page bytes ps ready all came = page_fine c n t (store_rests c t ready.past) f ps all file stamp page bytes (its_fact c t f p (body.Page file stamp page bytes) came)

@@ -11,7 +11,7 @@ use Rattle.order_laws.specs.Joining.{PacksAreOfSites}
 use Rattle.tree_laws.specs.Following.{IsFollowed, RowsAreLawful}
 use Rattle.tree_laws.specs.Printed.{entries}
 use Rattle.tree_laws.proofs.Rows.{followed_rows}
-use Rattle.store_step_laws.proofs.First.{four_groups}
+use Rattle.rest_laws.proofs.StoreStepFirst.{four_groups}
 use Rattle.one_tree_laws.proofs.Run.{run_holds}
 use Rattle.one_tree_laws.proofs.Staying.{stays}
 use Rattle.rest_laws.proofs.Packs.{schedule_packs}

@@ -8,7 +8,7 @@ use Rattle.role_steps.specs.Views as role
 use Rattle.role_steps.specs.declared.synchronizing.SyncTable.{SyncTable}
 use Rattle.the_run.specs.Worlds.{Line}
 use Rattle.vector_laws.specs.Written.{past_of}
-use Rattle.history_laws.specs.Commits.{StampsAreOnce}
+use Rattle.vector_laws.specs.HistoryCommits.{StampsAreOnce}
 use Rattle.tree_laws.specs.Doing.{FrameFact, IsOfTable}
 use Rattle.tree_laws.specs.Following.{MayTell}
 use Rattle.tree_laws.specs.Frames.{IsFresh, OrderStays}
@@ -18,8 +18,8 @@ use Rattle.holding_laws.proofs.Kept.{kept_stays}
 use Rattle.holding_laws.proofs.Made.{CommitsAreNew}
 use Rattle.holding_laws.proofs.Reports.{report_stays}
 use Rattle.holding_laws.proofs.Rising.{held_rises}
-use Rattle.one_version_laws.proofs.Single.{single_stays}
-use Rattle.process_laws.proofs.Synchronizing.{sync_same}
+use Rattle.holding_laws.proofs.OneVersionSingle.{single_stays}
+use Rattle.order_laws.proofs.ProcessSynchronizing.{sync_same}
 use Rattle.sync_laws.specs.Serving.{Serving}
 use Rattle.sync_laws.specs.Staying.{BringsNothing, FilesStay}
 use Rattle.one_tree_laws.specs.Rest.{Past, more}

@@ -1,2 +1,12 @@
+pub mod EpochTreeWaiting
+pub mod EpochTreeStarting
+pub mod EpochTreeReporting
+pub mod EpochTreeCounting
+pub mod TableNarrow
+pub mod MadeResting
+pub mod MendStepCounting
+pub mod StoreStepKnown
+pub mod StoreStepSteps
+pub mod AdoptionMending
 pub mod Counters
 pub mod Asking

@@ -1,3 +1,5 @@
+//! What the one tree rests on of every run and of every trace whose lines come as they may: rows of sites, ranges, packs and stamps; and
+//! from these what the steps of the roles rest on.
 ghost use Rattle.std.specs.Prelude.{◌≤◌, List, length};
 ghost use Rattle.locus_ids.specs.declared.config.Config.{Config};
 ghost use Rattle.schedule_lines.specs.declared.line.ScheduleLine.{ScheduleLine};

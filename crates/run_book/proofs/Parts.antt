@@ -10,6 +10,7 @@ use Rattle.trace_book.specs.Text.{entry_text}
 use Rattle.trace_book.specs.declared.record.Record.{Record}
 use Rattle.wire_messages.specs.declared.packet.Packet.{Packet}
 use Rattle.wire_messages.specs.Packets.{FitsPacket}
+use Rattle.packet_order.specs.Counts.{FitsIfCounted}
 use Rattle.role_steps.specs.Tables.{total}
 use Rattle.the_run.specs.Worlds.{packet_size, numbered_from, newest_onto}
 use Rattle.packet_mail.specs.Posts.{Post, posts}
@@ -122,10 +123,10 @@ record_counted rs i r c d whole l is e h =
     ∙ (ap (counts_after c) (sym (left_from rs i r (ap (λ x. Some x) is ∙ sym (slice_get-get_or rs i r l)))) ∙ h)
 
 -- the packets of one part are of the format where all are
-pub part_fits : (parts : List Outgoing) (i : ℕ) (part : Outgoing) → i < length parts → part ≡ get_or parts i part → AllByRecursion (λ (p : Packet). FitsPacket p) (together parts).packets → AllByRecursion (λ (p : Packet). FitsPacket p) part.packets
+pub part_fits : (parts : List Outgoing) (i : ℕ) (part : Outgoing) → i < length parts → part ≡ get_or parts i part → AllByRecursion (λ (p : Packet). FitsIfCounted p) (together parts).packets → AllByRecursion (λ (p : Packet). FitsIfCounted p) part.packets
 part_fits [] i part l e h = absurd (omega arith)
-part_fits (q ∷ qs) zero part l e h = subst (λ (z : Outgoing). AllByRecursion (λ (p : Packet). FitsPacket p) z.packets) (sym e) (all_front (λ (p : Packet). FitsPacket p) q.packets (together qs).packets h)
-part_fits (q ∷ qs) (suc i) part l e h = part_fits qs i part (omega arith) e (all_behind (λ (p : Packet). FitsPacket p) q.packets (together qs).packets h)
+part_fits (q ∷ qs) zero part l e h = subst (λ (z : Outgoing). AllByRecursion (λ (p : Packet). FitsIfCounted p) z.packets) (sym e) (all_front (λ (p : Packet). FitsIfCounted p) q.packets (together qs).packets h)
+part_fits (q ∷ qs) (suc i) part l e h = part_fits qs i part (omega arith) e (all_behind (λ (p : Packet). FitsIfCounted p) q.packets (together qs).packets h)
 
 -- those of the next part, and those after it
 pub part_next : (parts : List Outgoing) (i : ℕ) (part : Outgoing) → i < length parts → part ≡ get_or parts i part → AllByRecursion (λ (p : Packet). FitsPacket p) (together (drop i parts)).packets → AllByRecursion (λ (p : Packet). FitsPacket p) part.packets × AllByRecursion (λ (p : Packet). FitsPacket p) (together (drop (i + 1) parts)).packets

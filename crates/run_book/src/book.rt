@@ -1,6 +1,7 @@
 ghost use Rattle.std.specs.Prelude.{◌≡◌, ℕ, ◌+◌, ◌≤◌, [], map, true, length, Err, IfOk, OnOk};
 ghost use Rattle.std.specs.List.{AllByRecursion};
 ghost use Rattle.wire_messages.specs.Packets.{FitsPacket, packet_bytes};
+ghost use Rattle.packet_order.specs.Counts.{FitsIfCounted};
 ghost use Rattle.packet_order.specs.Orders.{together};
 ghost use Rattle.packet_mail.specs.Posts.{passes, loses, is_sent, next_number, IsKnown};
 ghost use Rattle.run_book.specs.Ledgers.{no_ledger, limit_in, lines_text, with_event, with_event_unless, limit_of_sizes, books};
@@ -15,6 +16,7 @@ use packet_mail::{MOST_BYTES, MOST_PACKETS, Mail};
 use packet_order::{Dispatch, Part};
 use std::alloc::Global;
 use std::marker::Model;
+use wire_messages::Encoder;
 
 /// The bytes of text that the records of a run may have, written or not.
 pub const MOST_TEXT: usize = 134_217_728;
@@ -23,6 +25,7 @@ pub const MOST_TEXT: usize = 134_217_728;
 #[derive(Drop)]
 pub struct RunBook {
     mail: Mail,
+    encoder: Encoder,
     writing: Writing,
     fresh: Bytes,
     counts: RunCounts,
@@ -51,6 +54,7 @@ impl RunBook {
     {
         Ok(RunBook {
             mail: Mail::new(alloc)?,
+            encoder: Encoder::new(alloc)?,
             writing,
             fresh: Bytes::new(alloc),
             counts: RunCounts::new(),
@@ -177,12 +181,13 @@ impl RunBook {
     /// An event of a line sends packets and tells records: all of them where it passes no limit, and none where it does.
     pub fn happened(&mut self, line: u32, out: &Dispatch) -> Result<(), BookFault>
         ensures ok { OnOk result (self.new ≡ books line out.now.packets out.now.records self.old) }
-        ensures unfit { result ≡ Err BookFault.Unfit → AllByRecursion (λ p. FitsPacket p) out.now.packets → ⊥ }
+        ensures unfit { result ≡ Err BookFault.Unfit → AllByRecursion (λ p. FitsIfCounted p) out.now.packets → ⊥ }
     {
         if self.passed().is_some() {
             return Ok(());
         }
-        let event = match sizes_of(self.allocator(), line, out) {
+        let alloc = self.allocator();
+        let event = match sizes_of(alloc, line, out, &mut self.encoder) {
             Ok(event) => event,
             Err(fault) => return Err(fault),
         };

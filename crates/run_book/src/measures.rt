@@ -2,6 +2,7 @@ ghost use Rattle.std.specs.Prelude.{◌≡◌, ℕ, ◌+◌, ◌≤◌, [], ◌�
 ghost use Rattle.std.specs.List.{AllByRecursion};
 ghost use Rattle.role_steps.specs.Tables.{total};
 ghost use Rattle.wire_messages.specs.Packets.{FitsPacket, IsPacket, packet_bytes};
+ghost use Rattle.packet_order.specs.Counts.{FitsIfCounted};
 ghost use Rattle.wire_messages.specs.declared.packet.Packet.{Packet};
 ghost use Rattle.the_run.specs.Worlds.{packet_size};
 ghost use Rattle.packet_order.specs.Orders.{together};
@@ -14,7 +15,7 @@ use packet_mail::Mail;
 use packet_order::{Dispatch, OrderFault, Part, letter_at, letter_of};
 use std::alloc::Global;
 use trace_book::{Record, render};
-use wire_messages::Packet;
+use wire_messages::{Encoder, Packet};
 
 /// The bytes of packets, each alone.
 type Letters = ItemList<Bytes>;
@@ -28,12 +29,17 @@ pub fn is_past(limit: usize, count: usize, more: usize) -> bool
 }
 
 /// Adds the bytes of a packet, if it is one of the format.
-fn add_letter(alloc: Global, packet: &Packet, letters: &mut Letters) -> Result<(), BookFault>
+fn add_letter(
+    alloc: Global,
+    packet: &Packet,
+    encoder: &mut Encoder,
+    letters: &mut Letters,
+) -> Result<(), BookFault>
     ensures letter { OnOk result (letters.new ≡ letters.old ++ packet_bytes packet.now ∷ []) }
     ensures fits { OnOk result (FitsPacket packet.now) }
-    ensures unfit { result ≡ Err BookFault.Unfit → FitsPacket packet.now → ⊥ }
+    ensures unfit { result ≡ Err BookFault.Unfit → FitsIfCounted packet.now → ⊥ }
 {
-    let letter = match letter_of(alloc, packet) {
+    let letter = match letter_of(alloc, packet, encoder) {
         Ok(letter) => letter,
         Err(OrderFault::Unfit) => return Err(BookFault::Unfit),
         Err(OrderFault::NoMemory) => return Err(BookFault::NoMemory),
@@ -45,14 +51,19 @@ fn add_letter(alloc: Global, packet: &Packet, letters: &mut Letters) -> Result<(
 }
 
 /// Adds the bytes of each packet of a part, if they are of the format.
-fn add_letters(alloc: Global, part: &Part, letters: &mut Letters) -> Result<(), BookFault>
+fn add_letters(
+    alloc: Global,
+    part: &Part,
+    encoder: &mut Encoder,
+    letters: &mut Letters,
+) -> Result<(), BookFault>
     ensures letters { OnOk result (letters.new ≡ letters.old ++ map packet_bytes part.now.packets) }
     ensures fits { OnOk result (AllByRecursion (λ p. FitsPacket p) part.now.packets) }
-    ensures unfit { result ≡ Err BookFault.Unfit → AllByRecursion (λ p. FitsPacket p) part.now.packets → ⊥ }
+    ensures unfit { result ≡ Err BookFault.Unfit → AllByRecursion (λ p. FitsIfCounted p) part.now.packets → ⊥ }
 {
     for i in 0..part.len() {
         match part.packet(i) {
-            Some(packet) => add_letter(alloc, packet, letters)?,
+            Some(packet) => add_letter(alloc, packet, encoder, letters)?,
             None => return Err(BookFault::NoMemory),
         }
     }
@@ -60,14 +71,18 @@ fn add_letters(alloc: Global, part: &Part, letters: &mut Letters) -> Result<(), 
 }
 
 /// The bytes of each packet in turn, if all are of the format.
-fn letters_of_all(alloc: Global, parts: &[Part]) -> Result<Letters, BookFault>
+fn letters_of_all(
+    alloc: Global,
+    parts: &[Part],
+    encoder: &mut Encoder,
+) -> Result<Letters, BookFault>
     ensures letters { IfOk result (λ made. made ≡ map packet_bytes (together parts.now).packets) }
     ensures fits { OnOk result (AllByRecursion (λ p. FitsPacket p) (together parts.now).packets) }
-    ensures unfit { result ≡ Err BookFault.Unfit → AllByRecursion (λ p. FitsPacket p) (together parts.now).packets → ⊥ }
+    ensures unfit { result ≡ Err BookFault.Unfit → AllByRecursion (λ p. FitsIfCounted p) (together parts.now).packets → ⊥ }
 {
     let mut letters = Letters::new(alloc);
     for part in parts {
-        match add_letters(alloc, part, &mut letters) {
+        match add_letters(alloc, part, encoder, &mut letters) {
             Ok(()) => {}
             Err(fault) => return Err(fault),
         }
@@ -164,15 +179,20 @@ pub struct Measured {
 }
 
 /// Measures what an event of a line sends and tells. `Unfit` only where a packet isn't one of the format.
-pub fn sizes_of(alloc: Global, line: u32, out: &Dispatch) -> Result<Measured, BookFault>
+pub fn sizes_of(
+    alloc: Global,
+    line: u32,
+    out: &Dispatch,
+    encoder: &mut Encoder,
+) -> Result<Measured, BookFault>
     ensures letters { IfOk result (λ event. event.letters ≡ map packet_bytes out.now.packets) }
     ensures bytes { IfOk result (λ event. event.bytes ≡ total packet_size out.now.packets) }
     ensures text { IfOk result (λ event. event.text ≡ lines_text line out.now.records) }
     ensures fits { OnOk result (AllByRecursion (λ p. FitsPacket p) out.now.packets) }
-    ensures unfit { result ≡ Err BookFault.Unfit → AllByRecursion (λ p. FitsPacket p) out.now.packets → ⊥ }
+    ensures unfit { result ≡ Err BookFault.Unfit → AllByRecursion (λ p. FitsIfCounted p) out.now.packets → ⊥ }
 {
     let parts = out.parts();
-    let letters = match letters_of_all(alloc, parts) {
+    let letters = match letters_of_all(alloc, parts, encoder) {
         Ok(letters) => letters,
         Err(fault) => return Err(fault),
     };

@@ -1,11 +1,12 @@
 -- What a line of a tree asks, and the lines of the run with one call more.
 use Rattle.std.proofs.Common.{◌≡◌, ℕ, ◌==◌, true, false, Bool, List, [], ◌∷◌, ◌++◌, Option, None, Some, Result, Err, codes, refl, sym, ap, subst, ◌∙◌, append_assoc}
-use Rattle.std.specs.List.{flat_map}
+use Rattle.std.specs.List.{AllByRecursion, flat_map}
 use Rattle.std.proofs.lemmas.Grind.{flat_map-append}
 use Rattle.std.proofs.lemmas.Bool.{false≢true}
 use Rattle.locus_ids.specs.declared.config.Config.{Config}
 use Rattle.schedule_lines.specs.Cluster.{header_of}
 use Rattle.schedule_lines.specs.Ranges.{fits_event}
+use Rattle.schedule_lines.specs.Schedule.{AreInOrder}
 use Rattle.schedule_lines.specs.Spelling.{event_spelling, is_passed}
 use Rattle.schedule_lines.specs.declared.header.Header.{Header}
 use Rattle.schedule_lines.specs.declared.line.Line.{Line}
@@ -23,6 +24,8 @@ use Rattle.the_run.specs.Commands.{Asked, asked_lines, opening_lines, tree_lines
 use Rattle.schedule_run.specs.Opened.{HasDone}
 use Rattle.schedule_run.specs.declared.tree.TreeRunner.{TreeRunner}
 use Rattle.the_run.specs.Asking.{tree_cluster, call_line, Asks, MayAsk}
+use Rattle.input_order_laws.specs.Inputs.{IsOnCluster}
+use Rattle.input_order_laws.proofs.Trees.{tree_in_order}
 use Rattle.schedule_run.specs.Tree.{replies_taken, HasRun, RunsNext}
 
 -- the first byte is that of a call
@@ -105,3 +108,17 @@ bad_is {A} fault result h e = (subst (λ (r : Result A RunFault). IsErrAnd r (Is
 -- no fault of a line is one of the world
 pub no_world_is : {A : Type 0} (fault : LineFault) (result : Result A RunFault) (f : WorldFault) → IsErrAnd result (IsMadeOf fault) → result ≡ Err (run.World f) → ⊥
 no_world_is {A} fault result f h e = (subst (λ (r : Result A RunFault). IsErrAnd r (IsMadeOf fault)) e h).1 f refl
+
+-- the calls on the cluster, and one that was read
+pub asked_order : (calls : List Asked) (bytes taken : List ℕ) (e : Line) (r : TreeRunner) → HasRun calls taken r → AllByRecursion IsOnCluster calls → IsLineOf r.header (codes "call " ++ bytes) e
+    → AreInOrder ((tree_lines calls ++ Event e ∷ []) ++ Event (line.Settle 100000) ∷ [])
+asked_order calls bytes taken e r h on is =
+    let k = is_call bytes e is.0 in
+    let fits : fits_event tree_cluster.sites e ≡ true = subst (λ (x : Header). fits_event x.config.sites e ≡ true) h.header is.2 in
+    let one : IsOnCluster k.0 = subst (λ (x : Line). fits_event tree_cluster.sites x ≡ true) k.1 fits in
+    subst (λ (x : Line). AreInOrder ((tree_lines calls ++ Event x ∷ []) ++ Event (line.Settle 100000) ∷ [])) (sym k.1)
+    (subst AreInOrder (sym (lines_more calls k.0)) (tree_in_order (calls ++ k.0 ∷ []) (with_one calls k.0 on one)))
+  where
+    with_one : (xs : List Asked) (a : Asked) → AllByRecursion IsOnCluster xs → IsOnCluster a → AllByRecursion IsOnCluster (xs ++ a ∷ [])
+    with_one [] a all one = (one, tt)
+    with_one (x ∷ xs) a all one = (all.0, with_one xs a all.1 one)

@@ -36,7 +36,7 @@ Does events old new = (lines : List ScheduleLine) (taken : Taken) → HasDone li
 pub does_none : (r : OpenedRun) → Does [] r r
 does_none r lines taken h = subst (λ (ls : List ScheduleLine). HasDone ls taken r) (sym (append-nil lines)) h
 
-events_more : (lines : List ScheduleLine) (es : List Line) (e : Line) → (lines ++ events_of es) ++ Event e ∷ [] ≡ lines ++ events_of (es ++ e ∷ [])
+pub events_more : (lines : List ScheduleLine) (es : List Line) (e : Line) → (lines ++ events_of es) ++ Event e ∷ [] ≡ lines ++ events_of (es ++ e ∷ [])
 events_more lines es e = append_assoc lines (events_of es) (Event e ∷ []) ∙ ap (λ (ls : List ScheduleLine). lines ++ ls) (pushed es)
   where
     pushed : (xs : List Line) → events_of xs ++ Event e ∷ [] ≡ events_of (xs ++ e ∷ [])

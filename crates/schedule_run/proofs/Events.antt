@@ -12,7 +12,7 @@ use Rattle.world.specs.Shown.{Taken}
 use Rattle.schedule_run.specs.declared.opened.OpenedRun.{OpenedRun}
 use Rattle.schedule_run.specs.Opened.{HasDone}
 
-left_next : (event left : ℕ) (g : Lcg) → 1 ≤ left → lines_left (record { event = event; left = left; generator = g }) ≡ next_lines (record { event = event; left = left; generator = g }) ++ lines_left (moved (record { event = event; left = left; generator = g }))
+pub left_next : (event left : ℕ) (g : Lcg) → 1 ≤ left → lines_left (record { event = event; left = left; generator = g }) ≡ next_lines (record { event = event; left = left; generator = g }) ++ lines_left (moved (record { event = event; left = left; generator = g }))
 left_next event zero g h = absurd (omega arith)
 left_next event (suc k) g h = let e : k ≡ suc k - 1 = omega arith in ap (λ j. lines_of event (draw g).0 ++ load_events (event + 1) (draws_from j (draw g).1)) e
 

@@ -5,3 +5,4 @@ pub mod Doing
 pub mod Asking
 pub mod OneAsking
 pub mod Events
+pub mod Complete

@@ -1,4 +1,5 @@
-ghost use Rattle.std.specs.Prelude.{◌≡◌, ℕ, ◌++◌, ◌∷◌, [], List, length, IfOk, OnOk};
+ghost use Rattle.std.specs.Prelude.{◌≡◌, ℕ, ◌++◌, ◌∷◌, [], List, length, IfErr, IfOk, OnOk};
+ghost use Rattle.schedule_lines.specs.Schedule.{AreInOrder};
 ghost use Rattle.schedule_lines.specs.declared.line.ScheduleLine.{ScheduleLine};
 ghost use Rattle.schedule_lines.specs.declared.line.ScheduleLine.TheVariants.{Event};
 ghost use Rattle.the_run.specs.Runs.{run, entries_of_run};
@@ -7,6 +8,7 @@ ghost use Rattle.generated_load.specs.Pieces.{events_of};
 ghost use Rattle.run_book.specs.Ledgers.{limit_in};
 ghost use Rattle.run_book.specs.Writings.{written_of, counts_in};
 ghost use Rattle.world.specs.Shown.{Taken, nothing_taken, all_taken};
+ghost use Rattle.input_order_laws.specs.Inputs.{IsSettled};
 ghost use Rattle.schedule_run.specs.Opened.{HasDone};
 
 use generated_load::{HEADER_LINES, load_cluster, opening_lines};
@@ -24,9 +26,11 @@ pub struct OpenedRun {
 }
 
 impl OpenedRun {
-    /// The opening is run, which settles with so many deliveries at most. Of the records of the run this is written.
+    /// The opening is run, which settles with so many deliveries at most. Of the records of the run this is written. Nothing but memory
+    /// can be wanting.
     pub fn new(alloc: Global, most: u32, writing: Writing) -> Result<OpenedRun, WorldFault>
-        ensures { IfOk result (HasDone (opening_of most) (nothing_taken writing)) }
+        ensures done { IfOk result (HasDone (opening_of most) (nothing_taken writing)) }
+        ensures complete { IsSettled most → IfErr result (λ fault. fault ≡ WorldFault.NoMemory) }
     {
         let config = load_cluster(alloc)?;
         let world = World::new(alloc, config, writing)?;
@@ -41,7 +45,8 @@ impl OpenedRun {
 
     /// Does the next line.
     pub fn happen(&mut self, line: Line) -> Result<(), WorldFault>
-        ensures { (lines : List ScheduleLine) (taken : Taken) → HasDone lines taken self.old → OnOk result (HasDone (lines ++ Event line ∷ []) taken self.new) }
+        ensures done { (lines : List ScheduleLine) (taken : Taken) → HasDone lines taken self.old → OnOk result (HasDone (lines ++ Event line ∷ []) taken self.new) }
+        ensures complete { (lines : List ScheduleLine) (taken : Taken) → AreInOrder (lines ++ Event line ∷ []) → HasDone lines taken self.old → IfErr result (λ fault. fault ≡ WorldFault.NoMemory) }
     {
         let Some(number) = self.lines.checked_add(1) else {
             return Err(WorldFault::NoMemory);
@@ -53,7 +58,8 @@ impl OpenedRun {
 
     /// Does the next lines.
     pub fn happen_all(&mut self, next: Vec<Line>) -> Result<(), WorldFault>
-        ensures { (lines : List ScheduleLine) (taken : Taken) → HasDone lines taken self.old → OnOk result (HasDone (lines ++ events_of next.items) taken self.new) }
+        ensures done { (lines : List ScheduleLine) (taken : Taken) → HasDone lines taken self.old → OnOk result (HasDone (lines ++ events_of next.items) taken self.new) }
+        ensures complete { (lines : List ScheduleLine) (taken : Taken) → AreInOrder (lines ++ events_of next.items) → HasDone lines taken self.old → IfErr result (λ fault. fault ≡ WorldFault.NoMemory) }
     {
         for line in next {
             self.happen(line)?;

@@ -1,6 +1,6 @@
 ghost use Rattle.std.specs.Prelude.{◌≡◌, ℕ, ◌+◌, List, [], ◌∷◌, ◌++◌, Err, length, IfOk, OnOk};
 ghost use Rattle.schedule_lines.specs.Cluster.{config_of, is_whole};
-ghost use Rattle.schedule_lines.specs.Schedule.{Reads};
+ghost use Rattle.schedule_lines.specs.Schedule.{AreInOrder, Reads};
 ghost use Rattle.schedule_lines.specs.declared.line.ScheduleLine.{ScheduleLine};
 ghost use Rattle.schedule_lines.specs.declared.line.ScheduleLine.TheVariants.{Event};
 ghost use Rattle.the_run.specs.Worlds.{first_world};
@@ -31,6 +31,7 @@ pub struct ScheduleRunner {
 fn first_world(alloc: Global, config: &Config) -> Result<World, RunFault>
     ensures made { IfOk result (λ made. Shows config.now (nothing_taken Writing.Trace) (first_world config.now) (state_of made)) }
     ensures good { result ≡ Err RunFault.Bad → ⊥ }
+    ensures complete { (fault : WorldFault) → result ≡ Err (RunFault.World fault) → ⊥ }
 {
     let config = config.copy()?;
     let world = World::new(alloc, config, Writing::Trace)?;
@@ -50,12 +51,14 @@ impl ScheduleRunner {
     }
 
     /// Runs the next line, with its number from 1. Then what the trace tells of the lines so far is what was taken before, and the
-    /// fresh text. A line that may not stand there changes nothing. The world can't go on at a line alone that may stand there.
+    /// fresh text. A line that may not stand there changes nothing. The world can't go on at a line alone that may stand there, and
+    /// there nothing but memory can be wanting.
     pub fn run_line(&mut self, number: u32, bytes: &[u8]) -> Result<(), RunFault>
         ensures ran { (lines : List ScheduleLine) (taken : List ℕ) → number ≡ length lines + 1 → HasRun lines taken self.old → OnOk result (RunsNext lines bytes.now taken self.new) }
         ensures bad { (lines : List ScheduleLine) (taken : List ℕ) → HasRun lines taken self.old → result ≡ Err RunFault.Bad → (l : ScheduleLine) → Reads lines bytes.now l → ⊥ }
         ensures kept { result ≡ Err RunFault.Bad → self.new ≡ self.old }
         ensures world { (lines : List ScheduleLine) (taken : List ℕ) (fault : WorldFault) → HasRun lines taken self.old → result ≡ Err (RunFault.World fault) → MayStand lines bytes.now }
+        ensures complete { (lines : List ScheduleLine) (taken : List ℕ) (fault : WorldFault) → number ≡ length lines + 1 → AreInOrder lines → HasRun lines taken self.old → result ≡ Err (RunFault.World fault) → fault ≡ WorldFault.NoMemory }
     {
         match self.reader.read(self.alloc, bytes)? {
             LineRead::Passed => Ok(()),
@@ -69,6 +72,7 @@ impl ScheduleRunner {
         ensures reader { OnOk result (self.new.reader ≡ self.old.reader) }
         ensures world { (lines : List ScheduleLine) (taken : List ℕ) → self.old.reader.header.config ≡ config_of lines → StandsAs lines taken self.old.world → OnOk result (ShowsRun lines taken self.new.world) }
         ensures good { result ≡ Err RunFault.Bad → ⊥ }
+        ensures complete { (fault : WorldFault) → result ≡ Err (RunFault.World fault) → ⊥ }
     {
         if self.world.is_none() {
             self.world = Some(first_world(self.alloc, &self.reader.header.config)?);
@@ -81,6 +85,7 @@ impl ScheduleRunner {
         ensures reader { OnOk result (self.new.reader ≡ self.old.reader) }
         ensures world { (lines : List ScheduleLine) (taken : List ℕ) → number ≡ length lines + 1 → ShowsRun lines taken self.old.world → OnOk result (StandsAs (lines ++ Event line ∷ []) taken self.new.world) }
         ensures good { result ≡ Err RunFault.Bad → ⊥ }
+        ensures complete { (lines : List ScheduleLine) (taken : List ℕ) (fault : WorldFault) → number ≡ length lines + 1 → AreInOrder (lines ++ Event line ∷ []) → ShowsRun lines taken self.old.world → result ≡ Err (RunFault.World fault) → fault ≡ WorldFault.NoMemory }
     {
         match &mut self.world {
             Some(world) => {
@@ -96,6 +101,7 @@ impl ScheduleRunner {
         ensures reader { OnOk result (self.new.reader ≡ self.old.reader) }
         ensures world { (lines : List ScheduleLine) (taken : List ℕ) → number ≡ length lines + 1 → self.old.reader.header.config ≡ config_of lines → StandsAs lines taken self.old.world → OnOk result (StandsAs (lines ++ Event line ∷ []) taken self.new.world) }
         ensures good { result ≡ Err RunFault.Bad → ⊥ }
+        ensures complete { (lines : List ScheduleLine) (taken : List ℕ) (fault : WorldFault) → number ≡ length lines + 1 → self.old.reader.header.config ≡ config_of lines → AreInOrder (lines ++ Event line ∷ []) → StandsAs lines taken self.old.world → result ≡ Err (RunFault.World fault) → fault ≡ WorldFault.NoMemory }
     {
         self.begin()?;
         self.act(number, line)

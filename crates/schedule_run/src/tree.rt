@@ -1,6 +1,8 @@
 ghost use Rattle.std.specs.Prelude.{◌≡◌, ℕ, [], ◌++◌, Err, List, Option, IfOk, OnOk};
+ghost use Rattle.std.specs.List.{AllByRecursion};
 ghost use Rattle.the_run.specs.Runs.{run};
 ghost use Rattle.the_run.specs.Commands.{Asked, tree_lines, tree_text};
+ghost use Rattle.input_order_laws.specs.Inputs.{IsOnCluster};
 ghost use Rattle.run_book.specs.Ledgers.{limit_in};
 ghost use Rattle.world.specs.declared.fault.WorldFault.{WorldFault};
 ghost use Rattle.the_run.specs.Asking.{Asks, MayAsk};
@@ -29,6 +31,7 @@ impl TreeRunner {
     pub fn new(alloc: Global) -> Result<TreeRunner, RunFault>
         ensures opened { IfOk result (HasRun [] []) }
         ensures good { result ≡ Err RunFault.Bad → ⊥ }
+        ensures complete { (fault : WorldFault) → result ≡ Err (RunFault.World fault) → fault ≡ WorldFault.NoMemory }
     {
         let config = load_cluster(alloc)?;
         let run = OpenedRun::new(alloc, MOST, Writing::Replies)?;
@@ -43,12 +46,14 @@ impl TreeRunner {
     }
 
     /// Runs the call that the next line asks, and a settle. Then the replies so far are what was taken before, and the fresh text.
-    /// An empty line or a comment asks nothing, and a bad line changes nothing. The world can't go on at a line alone that asks a call.
+    /// An empty line or a comment asks nothing, and a bad line changes nothing. The world can't go on at a line alone that asks a call,
+    /// and there nothing but memory can be wanting.
     pub fn run_line(&mut self, bytes: &[u8]) -> Result<(), RunFault>
         ensures ran { (calls : List Asked) (taken : List ℕ) → HasRun calls taken self.old → OnOk result (RunsNext calls bytes.now taken self.new) }
         ensures bad { (calls : List Asked) (taken : List ℕ) → HasRun calls taken self.old → result ≡ Err RunFault.Bad → (asked : Option Asked) → Asks bytes.now asked → ⊥ }
         ensures kept { result ≡ Err RunFault.Bad → self.new ≡ self.old }
         ensures world { (calls : List Asked) (taken : List ℕ) (fault : WorldFault) → HasRun calls taken self.old → result ≡ Err (RunFault.World fault) → MayAsk bytes.now }
+        ensures complete { (calls : List Asked) (taken : List ℕ) (fault : WorldFault) → AllByRecursion IsOnCluster calls → HasRun calls taken self.old → result ≡ Err (RunFault.World fault) → fault ≡ WorldFault.NoMemory }
     {
         if is_passed(bytes) {
             return Ok(());

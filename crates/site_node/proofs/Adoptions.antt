@@ -162,7 +162,7 @@ chosen_by ready above x p xs pulls h k true true e c = subst (λ (q : Pull). rea
 chosen_by ready above x p xs pulls h k true false e c = h c
 chosen_by ready above x p xs pulls h k false b e c = k c
 
-chosen_ready : (ready above : Pull → Bool) (ps pulls : List Pull) (p : Pull) → ◌≡◌ {A = Option Pull} (Some p) (chooses ready above ps pulls).chosen → ready p ≡ true
+pub chosen_ready : (ready above : Pull → Bool) (ps pulls : List Pull) (p : Pull) → ◌≡◌ {A = Option Pull} (Some p) (chooses ready above ps pulls).chosen → ready p ≡ true
 chosen_ready ready above [] pulls p e = no_pull p e
 chosen_ready ready above (x ∷ xs) pulls p e = chosen_by ready above x p xs pulls (chosen_ready ready above xs (without_row pull_key (pull_key x) pulls) p) (chosen_ready ready above xs pulls p) (ready x) (above x) refl e
 

@@ -33,7 +33,7 @@ two_told : (xs ys : List Told) → printed (xs ++ ys) ≡ printed xs ++ printed 
 two_told xs ys = printed_append xs ys
 
 -- the event's own part and its end, in one outbox
-own_packets : (o last : Outcome SiteView) (v w : SiteView) (a b c : Outgoing) → IsEmpty a → Gives o v a b → Gives last w b c → c.packets ≡ o.sent ++ last.sent
+pub own_packets : (o last : Outcome SiteView) (v w : SiteView) (a b c : Outgoing) → IsEmpty a → Gives o v a b → Gives last w b c → c.packets ≡ o.sent ++ last.sent
 own_packets o last v w a b c e g h = h.packets ∙ ap (λ xs. xs ++ last.sent) (given_packets o v a b e g)
 
 own_records : (o last : Outcome SiteView) (v w : SiteView) (a b c : Outgoing) → IsEmpty a → Gives o v a b → Gives last w b c → c.records ≡ printed (o.told ++ last.told)

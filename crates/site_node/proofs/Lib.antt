@@ -14,3 +14,6 @@ pub mod Receives
 pub mod Unwritten
 pub mod Together
 pub mod Received
+pub mod Fitted
+pub mod Ticked
+pub mod Again

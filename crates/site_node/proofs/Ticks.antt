@@ -72,12 +72,18 @@ polls_alone : (me : ℕ) (o : Option Round) (n : SiteNode) (image : List ℕ) �
 polls_alone me None n image = refl
 polls_alone me (Some r) n image = refl
 
+-- the outbox has what forms an epoch
+pub forming_packets : (m me : ℕ) (e : Option InEpoch) (n : SiteNode) (image : List ℕ) (a b c : Outgoing) → m ≡ me → a.packets ≡ [] → b.packets ≡ a.packets ++ poll_repeats m (alone n.epochs) n.epochs.round
+    → c.packets ≡ installs_again me (view_of n image) e b.packets → c.packets ≡ forming_repeats me (view_of n image) e
+forming_packets m me e n image a b c k p h t =
+    let q : b.packets ≡ a.packets ++ poll_repeats me (alone n.epochs) n.epochs.round = subst (λ (i : ℕ). b.packets ≡ a.packets ++ poll_repeats i (alone n.epochs) n.epochs.round) k h in
+    let polls : b.packets ≡ poll_repeats me (view_of n image) n.epochs.round = q ∙ (ap (λ (ps : List Packet). ps ++ poll_repeats me (alone n.epochs) n.epochs.round) p ∙ polls_alone me n.epochs.round n image) in
+    t ∙ ap (λ (ps : List Packet). installs_again me (view_of n image) e ps) polls
+
 pub forming_adds : (m me : ℕ) (e : Option InEpoch) (n : SiteNode) (image : List ℕ) (a b c out now : Outgoing) → m ≡ me → a.packets ≡ [] → a.records ≡ [] → b.packets ≡ a.packets ++ poll_repeats m (alone n.epochs) n.epochs.round → b.records ≡ a.records
     → c.packets ≡ installs_again me (view_of n image) e b.packets → c.records ≡ b.records → now ≡ behind out (sorted_out c) → Adds (in_order (forming_repeats me (view_of n image) e)) out now
 forming_adds m me e n image a b c out now k p r h s t u x =
-    let q : b.packets ≡ a.packets ++ poll_repeats me (alone n.epochs) n.epochs.round = subst (λ (i : ℕ). b.packets ≡ a.packets ++ poll_repeats i (alone n.epochs) n.epochs.round) k h in
-    let polls : b.packets ≡ poll_repeats me (view_of n image) n.epochs.round = q ∙ (ap (λ (ps : List Packet). ps ++ poll_repeats me (alone n.epochs) n.epochs.round) p ∙ polls_alone me n.epochs.round n image) in
-    let all : c.packets ≡ forming_repeats me (view_of n image) e = t ∙ ap (λ (ps : List Packet). installs_again me (view_of n image) e ps) polls in
+    let all : c.packets ≡ forming_repeats me (view_of n image) e = forming_packets m me e n image a b c k p h t in
     adds_sorted (forming_repeats me (view_of n image) e) a c out now p r (all ∙ ap (λ (ps : List Packet). ps ++ forming_repeats me (view_of n image) e) (sym p)) (u ∙ s) x
 
 repeats_as : (c : Config) (me : ℕ) (e : Option InEpoch) (n : SiteNode) (image : List ℕ) → e ≡ n.epochs.epoch → repeats c me (view_of n image) ≡ repeats_of c me e (view_of n image)

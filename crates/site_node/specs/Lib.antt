@@ -5,3 +5,4 @@ pub mod Adopting
 pub mod Mending
 pub mod Repeats
 pub mod Writing
+pub mod Fitting

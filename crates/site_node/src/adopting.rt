@@ -1,13 +1,14 @@
 // An adoption is tried.
-ghost use Rattle.std.specs.Prelude.{◌≡◌, ◌≢◌, true, IfErr, OnOk};
-ghost use Rattle.site_packs.specs.Packs.{Stand};
+ghost use Rattle.std.specs.Prelude.{◌≡◌, ◌≢◌, true, Err, IfErr, OnOk};
+ghost use Rattle.site_packs.specs.Packs.{Stand, groups_of};
 ghost use Rattle.the_run.specs.Steps.{adopts_in, tries_at};
 ghost use Rattle.role_steps.specs.Pulling.{is_complete};
 ghost use Rattle.site_node.specs.Views.{Moves, view_of};
 ghost use Rattle.site_node.specs.Writing.{EventWrites};
 ghost use Rattle.site_node.specs.Adopting.{adopted_now};
+ghost use Rattle.site_node.specs.Fitting.{CanAdopt, CanKeep};
 ghost use Rattle.site_node.specs.Taking.{is_tried};
-ghost use Rattle.site_parts.specs.declared.fault.NodeFault.TheVariants.{NoNumber};
+ghost use Rattle.site_parts.specs.declared.fault.NodeFault.TheVariants.{NoNumber, Unfit};
 ghost use Rattle.wire_messages.specs.declared.body.Body.{Body};
 
 use crate::SiteNode;
@@ -31,6 +32,7 @@ impl SiteNode {
         ensures step { (body : Body) → tries ≡ is_tried body → OnOk result (Moves (tries_at self.old.frame.config self.old.frame.me body) self.old (D.moment disk.old) self.new (D.moment disk.new) out.old out.new) }
         ensures disk { (body : Body) → tries ≡ is_tried body → EventWrites (tries_at self.old.frame.config self.old.frame.me body (view_of self.old (D.moment disk.old).seen)).written self.old.packs (D.moment disk.old) (D.moment disk.new) out.old out.new result }
         ensures numbered { IfErr result (λ fault. fault ≢ NoNumber) }
+        ensures unfit { result ≡ Err Unfit → (tries ≡ true → CanAdopt (groups_of self.old.packs) (view_of self.old (D.moment disk.old).seen)) → ⊥ }
     {
         if !tries {
             return Ok(());
@@ -44,6 +46,7 @@ impl SiteNode {
         ensures step { OnOk result (Moves (adopts_in self.old.frame.config self.old.frame.me) self.old (D.moment disk.old) self.new (D.moment disk.new) out.old out.new) }
         ensures disk { EventWrites (adopts_in self.old.frame.config self.old.frame.me (view_of self.old (D.moment disk.old).seen)).written self.old.packs (D.moment disk.old) (D.moment disk.new) out.old out.new result }
         ensures numbered { IfErr result (λ fault. fault ≢ NoNumber) }
+        ensures unfit { result ≡ Err Unfit → CanAdopt (groups_of self.old.packs) (view_of self.old (D.moment disk.old).seen) → ⊥ }
     {
         let Some(epoch) = self.epochs.epoch() else {
             return Ok(());
@@ -66,6 +69,7 @@ impl SiteNode {
         ensures step { OnOk result (Moves (adopted_now self.old.frame pull.now) self.old (D.moment disk.old) self.new (D.moment disk.new) out.old out.new) }
         ensures disk { is_complete pull.now ≡ true → EventWrites (adopted_now self.old.frame pull.now (view_of self.old (D.moment disk.old).seen)).written self.old.packs (D.moment disk.old) (D.moment disk.new) out.old out.new result }
         ensures numbered { IfErr result (λ fault. fault ≢ NoNumber) }
+        ensures unfit { result ≡ Err Unfit → CanKeep (groups_of self.old.packs) (view_of self.old (D.moment disk.old).seen).store pull.now → ⊥ }
     {
         let me = self.site();
         let file = pull.file;

@@ -1,12 +1,13 @@
 // The events of a site. Each is the run's step.
-ghost use Rattle.std.specs.Prelude.{◌≡◌, ◌≢◌, ◌⊎◌, IfErr, OnOk};
+ghost use Rattle.std.specs.Prelude.{◌≡◌, ◌≢◌, ◌⊎◌, Err, IfErr, OnOk};
 ghost use Rattle.role_steps.specs.Views.{Calls, Receives, Ticks, Parts, Merges, GivesUp};
-ghost use Rattle.site_packs.specs.Packs.{Stand};
+ghost use Rattle.site_packs.specs.Packs.{Stand, groups_of};
 ghost use Rattle.site_packs.specs.declared.faults.WriteSize.{WriteSize};
 ghost use Rattle.packet_order.specs.Orders.{behind};
 ghost use Rattle.site_node.specs.Views.{Moves, steps_at, view_of};
 ghost use Rattle.site_node.specs.Writing.{EventWrites};
-ghost use Rattle.site_parts.specs.declared.fault.NodeFault.TheVariants.{Cut, NoMemory, NoNumber};
+ghost use Rattle.site_parts.specs.declared.fault.NodeFault.TheVariants.{Cut, NoMemory, NoNumber, Unfit};
+ghost use Rattle.site_node.specs.Fitting.{CanAct};
 ghost use Rattle.site_node.specs.Taking.{IsSpent, is_tried};
 
 use crate::SiteNode;
@@ -31,6 +32,7 @@ impl SiteNode {
         ensures step { OnOk result (Moves (steps_at self.old links.now (Calls process words)) self.old (D.moment disk.old) self.new (D.moment disk.new) out.old out.new) }
         ensures disk { EventWrites (steps_at self.old links.now (Calls process words) (view_of self.old (D.moment disk.old).seen)).written self.old.packs (D.moment disk.old) (D.moment disk.new) out.old out.new result }
         ensures numbered { IfErr result (λ fault. fault ≢ NoNumber) }
+        ensures unfit { result ≡ Err Unfit → CanAct self.old.frame.config self.old.frame.me (groups_of self.old.packs) self.old.packs.site links.now (view_of self.old (D.moment disk.old).seen) (Calls process words) → ⊥ }
     {
         let mut own = Outbox::new(self.alloc);
         self.take_call(process, words, &mut own)?;
@@ -51,6 +53,7 @@ impl SiteNode {
         ensures step { OnOk result (Moves (steps_at self.old links.now (Receives packet)) self.old (D.moment disk.old) self.new (D.moment disk.new) out.old out.new) }
         ensures disk { EventWrites (steps_at self.old links.now (Receives packet) (view_of self.old (D.moment disk.old).seen)).written self.old.packs (D.moment disk.old) (D.moment disk.new) out.old out.new result }
         ensures spent { IfErr result (λ fault. fault ≡ NoNumber → IsSpent packet.body) }
+        ensures unfit { result ≡ Err Unfit → CanAct self.old.frame.config self.old.frame.me (groups_of self.old.packs) self.old.packs.site links.now (view_of self.old (D.moment disk.old).seen) (Receives packet) → ⊥ }
     {
         if self.is_dropped(&packet) {
             return Ok(());
@@ -81,6 +84,7 @@ impl SiteNode {
         ensures step { OnOk result (Moves (steps_at self.old links.now Ticks) self.old (D.moment disk.old) self.new (D.moment disk.new) out.old out.new) }
         ensures disk { EventWrites (steps_at self.old links.now Ticks (view_of self.old (D.moment disk.old).seen)).written self.old.packs (D.moment disk.old) (D.moment disk.new) out.old out.new result }
         ensures numbered { IfErr result (λ fault. fault ≢ NoNumber) }
+        ensures unfit { result ≡ Err Unfit → CanAct self.old.frame.config self.old.frame.me (groups_of self.old.packs) self.old.packs.site links.now (view_of self.old (D.moment disk.old).seen) Ticks → ⊥ }
     {
         let mut adopted = Outbox::new(self.alloc);
         if let Err(fault) = self.adopt(disk, &mut adopted) {
@@ -105,6 +109,7 @@ impl SiteNode {
         ensures step { OnOk result (Moves (steps_at self.old links.now Parts) self.old (D.moment disk.old) self.new (D.moment disk.new) out.old out.new) }
         ensures disk { EventWrites (steps_at self.old links.now Parts (view_of self.old (D.moment disk.old).seen)).written self.old.packs (D.moment disk.old) (D.moment disk.new) out.old out.new result }
         ensures spent { IfErr result (λ fault. fault ≡ NoNumber → self.old.epochs.promised.number ≡ 4294967295) }
+        ensures unfit { result ≡ Err Unfit → CanAct self.old.frame.config self.old.frame.me (groups_of self.old.packs) self.old.packs.site links.now (view_of self.old (D.moment disk.old).seen) Parts → ⊥ }
     {
         let mut own = Outbox::new(self.alloc);
         self.start_part(links, &mut own)?;
@@ -124,6 +129,7 @@ impl SiteNode {
         ensures step { OnOk result (Moves (steps_at self.old links.now Merges) self.old (D.moment disk.old) self.new (D.moment disk.new) out.old out.new) }
         ensures disk { EventWrites (steps_at self.old links.now Merges (view_of self.old (D.moment disk.old).seen)).written self.old.packs (D.moment disk.old) (D.moment disk.new) out.old out.new result }
         ensures spent { IfErr result (λ fault. fault ≡ NoNumber → self.old.epochs.promised.number ≡ 4294967295) }
+        ensures unfit { result ≡ Err Unfit → CanAct self.old.frame.config self.old.frame.me (groups_of self.old.packs) self.old.packs.site links.now (view_of self.old (D.moment disk.old).seen) Merges → ⊥ }
     {
         let mut own = Outbox::new(self.alloc);
         self.start_merge(links, &mut own)?;
@@ -143,6 +149,7 @@ impl SiteNode {
         ensures step { OnOk result (Moves (steps_at self.old links.now GivesUp) self.old (D.moment disk.old) self.new (D.moment disk.new) out.old out.new) }
         ensures disk { EventWrites (steps_at self.old links.now GivesUp (view_of self.old (D.moment disk.old).seen)).written self.old.packs (D.moment disk.old) (D.moment disk.new) out.old out.new result }
         ensures numbered { IfErr result (λ fault. fault ≢ NoNumber) }
+        ensures unfit { result ≡ Err Unfit → CanAct self.old.frame.config self.old.frame.me (groups_of self.old.packs) self.old.packs.site links.now (view_of self.old (D.moment disk.old).seen) GivesUp → ⊥ }
     {
         let mut own = Outbox::new(self.alloc);
         self.leave(&mut own)?;

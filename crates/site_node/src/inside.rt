@@ -1,11 +1,14 @@
 // A packet of the site's epoch, by the role that takes it.
-ghost use Rattle.std.specs.Prelude.{◌≡◌, ◌≢◌, IfErr, OnOk};
-ghost use Rattle.site_packs.specs.Packs.{Stand};
+ghost use Rattle.std.specs.Prelude.{◌≡◌, ◌≢◌, Err, IfErr, OnOk};
+ghost use Rattle.site_packs.specs.Packs.{Stand, groups_of};
 ghost use Rattle.the_run.specs.Steps.{takes_inside};
 ghost use Rattle.site_node.specs.Views.{Moves, Works, view_of};
 ghost use Rattle.site_node.specs.Writing.{EventWrites};
+ghost use Rattle.site_node.specs.Fitting.{CanTakeInside};
 ghost use Rattle.site_node.specs.Roles.{answered, role_takes};
-ghost use Rattle.site_parts.specs.declared.fault.NodeFault.TheVariants.{NoNumber};
+ghost use Rattle.site_parts.specs.Fitting.{CanTakeAtStore};
+ghost use Rattle.site_parts.specs.Roles.{mending_by};
+ghost use Rattle.site_parts.specs.declared.fault.NodeFault.TheVariants.{NoNumber, Unfit};
 ghost use Rattle.site_parts.specs.declared.roles.Role.TheVariants as role;
 
 use crate::SiteNode;
@@ -28,6 +31,7 @@ impl SiteNode {
         ensures step { OnOk result (Moves (takes_inside self.old.frame from body) self.old (D.moment disk.old) self.new (D.moment disk.new) out.old out.new) }
         ensures disk { EventWrites (takes_inside self.old.frame from body (view_of self.old (D.moment disk.old).seen)).written self.old.packs (D.moment disk.old) (D.moment disk.new) out.old out.new result }
         ensures numbered { IfErr result (λ fault. fault ≢ NoNumber) }
+        ensures unfit { result ≡ Err Unfit → CanTakeInside self.old.frame (groups_of self.old.packs) self.old.packs.site from body (view_of self.old (D.moment disk.old).seen) → ⊥ }
     {
         match role_of(&body) {
             Role::Tables => {
@@ -71,6 +75,7 @@ impl SiteNode {
         ensures step { OnOk result (Moves (role_takes role.Store self.old.frame from body) self.old (D.moment disk.old) self.new (D.moment disk.new) out.old out.new) }
         ensures disk { EventWrites (role_takes role.Store self.old.frame from body (view_of self.old (D.moment disk.old).seen)).written self.old.packs (D.moment disk.old) (D.moment disk.new) out.old out.new result }
         ensures numbered { IfErr result (λ fault. fault ≢ NoNumber) }
+        ensures unfit { result ≡ Err Unfit → CanTakeAtStore self.old.frame (mending_by self.old.tables self.old.users (view_of self.old (D.moment disk.old).seen).store) self.old.tables (groups_of self.old.packs) self.old.packs.site from body (view_of self.old (D.moment disk.old).seen).store → ⊥ }
     {
         take_at_store(
             self.alloc,

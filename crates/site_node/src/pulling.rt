@@ -1,10 +1,12 @@
 // What comes to the site that pulls versions.
-ghost use Rattle.std.specs.Prelude.{◌≡◌, ℕ, List, IfErr, OnOk};
+ghost use Rattle.std.specs.Prelude.{◌≡◌, ℕ, List, Err, IfErr, OnOk};
 ghost use Rattle.propagation.specs.Sized.{head_of};
 ghost use Rattle.site_packs.specs.Packs.{AreShown, copy_at};
 ghost use Rattle.site_node.specs.Views.{Works};
 ghost use Rattle.site_parts.specs.Faults.{IsOwn};
+ghost use Rattle.site_node.specs.Fitting.{IsShort};
 ghost use Rattle.site_node.specs.Roles.{role_takes};
+ghost use Rattle.site_parts.specs.declared.fault.NodeFault.TheVariants.{Unfit};
 ghost use Rattle.site_parts.specs.declared.roles.Role.TheVariants as role;
 
 use crate::SiteNode;
@@ -26,6 +28,7 @@ impl SiteNode {
     ) -> Result<(), NodeFault>
         ensures works { OnOk result (Works (role_takes role.Pulls self.old.frame from body) self.old self.new out.old out.new) }
         ensures own { IfErr result IsOwn }
+        ensures unfit { result ≡ Err Unfit → IsShort body → ⊥ }
     {
         self.take_pulled(from, &body, out)
     }
@@ -33,6 +36,7 @@ impl SiteNode {
     fn take_pulled(&mut self, from: SiteId, body: &Body, out: &mut Outbox) -> Result<(), NodeFault>
         ensures works { OnOk result (Works (role_takes role.Pulls self.old.frame from body.now) self.old self.new out.old out.new) }
         ensures own { IfErr result IsOwn }
+        ensures unfit { result ≡ Err Unfit → IsShort body.now → ⊥ }
     {
         match body {
             Body::Notify {

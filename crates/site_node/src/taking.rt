@@ -1,10 +1,11 @@
 // A packet that the site's frame lets through.
-ghost use Rattle.std.specs.Prelude.{◌≡◌, ◌≢◌, IfErr, OnOk};
-ghost use Rattle.site_packs.specs.Packs.{Stand};
+ghost use Rattle.std.specs.Prelude.{◌≡◌, ◌≢◌, Err, IfErr, OnOk};
+ghost use Rattle.site_packs.specs.Packs.{Stand, groups_of};
 ghost use Rattle.site_node.specs.Views.{Moves, view_of};
+ghost use Rattle.site_node.specs.Fitting.{CanTakeIn};
 ghost use Rattle.site_node.specs.Taking.{IsSpent, in_epoch_takes, taken};
 ghost use Rattle.site_node.specs.Writing.{EventWrites};
-ghost use Rattle.site_parts.specs.declared.fault.NodeFault.TheVariants.{NoNumber};
+ghost use Rattle.site_parts.specs.declared.fault.NodeFault.TheVariants.{NoNumber, Unfit};
 
 use crate::SiteNode;
 use disk_model::Disk;
@@ -26,6 +27,7 @@ impl SiteNode {
         ensures step { OnOk result (Moves (taken self.old.frame.config self.old.frame.me links.now packet) self.old (D.moment disk.old) self.new (D.moment disk.new) out.old out.new) }
         ensures disk { EventWrites (taken self.old.frame.config self.old.frame.me links.now packet (view_of self.old (D.moment disk.old).seen)).written self.old.packs (D.moment disk.old) (D.moment disk.new) out.old out.new result }
         ensures spent { IfErr result (λ fault. fault ≡ NoNumber → IsSpent packet.body) }
+        ensures unfit { result ≡ Err Unfit → CanTakeIn self.old.frame.config self.old.frame.me (groups_of self.old.packs) self.old.packs.site packet.from packet.body (view_of self.old (D.moment disk.old).seen) self.old.epochs.epoch → ⊥ }
     {
         let from = packet.from;
         let header = FormingHeader {
@@ -70,6 +72,7 @@ impl SiteNode {
         ensures step { OnOk result (Moves (in_epoch_takes self.old.frame.config self.old.frame.me from body) self.old (D.moment disk.old) self.new (D.moment disk.new) out.old out.new) }
         ensures disk { EventWrites (in_epoch_takes self.old.frame.config self.old.frame.me from body (view_of self.old (D.moment disk.old).seen)).written self.old.packs (D.moment disk.old) (D.moment disk.new) out.old out.new result }
         ensures numbered { IfErr result (λ fault. fault ≢ NoNumber) }
+        ensures unfit { result ≡ Err Unfit → CanTakeIn self.old.frame.config self.old.frame.me (groups_of self.old.packs) self.old.packs.site from body (view_of self.old (D.moment disk.old).seen) self.old.epochs.epoch → ⊥ }
     {
         let Some(epoch) = self.epochs.epoch() else {
             return Ok(());

@@ -1,6 +1,7 @@
 // What a site sends again at a tick, class by class.
-ghost use Rattle.std.specs.Prelude.{◌≡◌, ℕ, List, OnOk};
-ghost use Rattle.std.specs.List.{flat_map};
+ghost use Rattle.std.specs.Prelude.{◌≡◌, ◌≢◌, ℕ, List, Err, OnOk};
+ghost use Rattle.std.specs.List.{AllByRecursion, flat_map};
+ghost use Rattle.packet_order.specs.Counts.{FitsIfCounted};
 ghost use Rattle.role_steps.specs.Epochs.{all_reports};
 ghost use Rattle.role_steps.specs.declared.rounds.InEpoch.{InEpoch};
 ghost use Rattle.role_steps.specs.Pulling.{pull_repeats};
@@ -8,7 +9,7 @@ ghost use Rattle.role_steps.specs.Reports.{sync_repeats};
 ghost use Rattle.role_steps.specs.Requests.{users_repeats};
 ghost use Rattle.role_steps.specs.Storage.{store_repeats};
 ghost use Rattle.site_packs.specs.Packs.{AreShown};
-ghost use Rattle.the_run.specs.Steps.{in_order, repeats_inside};
+ghost use Rattle.the_run.specs.Steps.{in_order, repeats, repeats_inside};
 ghost use Rattle.site_node.specs.Views.{view_of};
 ghost use Rattle.site_node.specs.Repeats.{Adds, Repeats, forming_repeats, installs_again};
 
@@ -23,7 +24,8 @@ use wire_messages::Outbox;
 impl SiteNode {
     /// Sends again what isn't answered.
     pub(crate) fn repeat(&mut self, out: &mut Dispatch) -> Result<(), OrderFault>
-        ensures { OnOk result (Repeats self.old self.new out.old out.new) }
+        ensures adds { OnOk result (Repeats self.old self.new out.old out.new) }
+        ensures unfit { result ≡ Err OrderFault.Unfit → (image : List ℕ) → AreShown self.old.packs.packs image → AllByRecursion FitsIfCounted (repeats self.old.frame.config self.old.frame.me (view_of self.old image)) → ⊥ }
     {
         let epoch = self.epochs.epoch();
         self.repeat_forming(&epoch, out)?;
@@ -37,7 +39,8 @@ impl SiteNode {
 
     /// Polls and installs.
     fn repeat_forming(&self, epoch: &Option<InEpoch>, out: &mut Dispatch) -> Result<(), OrderFault>
-        ensures { OnOk result ((image : List ℕ) → Adds (in_order (forming_repeats self.now.frame.me (view_of self.now image) epoch.now)) out.old out.new) }
+        ensures adds { OnOk result ((image : List ℕ) → Adds (in_order (forming_repeats self.now.frame.me (view_of self.now image) epoch.now)) out.old out.new) }
+        ensures unfit { result ≡ Err OrderFault.Unfit → (image : List ℕ) → AllByRecursion FitsIfCounted (forming_repeats self.now.frame.me (view_of self.now image) epoch.now) → ⊥ }
     {
         let mut forming = Outbox::new(self.alloc);
         let me = self.site();
@@ -63,7 +66,8 @@ impl SiteNode {
 
     /// What is sent again in the epoch of the frame.
     fn repeat_inside(&self, out: &mut Dispatch) -> Result<(), OrderFault>
-        ensures { OnOk result ((image : List ℕ) (e : InEpoch) → AreShown self.now.packs.packs image → Adds (repeats_inside self.now.frame e (view_of self.now image)) out.old out.new) }
+        ensures adds { OnOk result ((image : List ℕ) (e : InEpoch) → AreShown self.now.packs.packs image → Adds (repeats_inside self.now.frame e (view_of self.now image)) out.old out.new) }
+        ensures unfit { result ≡ Err OrderFault.Unfit → (image : List ℕ) (e : InEpoch) → AreShown self.now.packs.packs image → AllByRecursion FitsIfCounted (repeats_inside self.now.frame e (view_of self.now image)) → ⊥ }
     {
         self.repeat_reports(out)?;
         self.repeat_requests(out)?;
@@ -74,7 +78,8 @@ impl SiteNode {
     }
 
     fn repeat_reports(&self, out: &mut Dispatch) -> Result<(), OrderFault>
-        ensures { OnOk result ((image : List ℕ) → AreShown self.now.packs.packs image → Adds (in_order (all_reports self.now.frame (view_of self.now image))) out.old out.new) }
+        ensures adds { OnOk result ((image : List ℕ) → AreShown self.now.packs.packs image → Adds (in_order (all_reports self.now.frame (view_of self.now image))) out.old out.new) }
+        ensures unfit { result ≡ Err OrderFault.Unfit → (image : List ℕ) → AreShown self.now.packs.packs image → AllByRecursion FitsIfCounted (all_reports self.now.frame (view_of self.now image)) → ⊥ }
     {
         let mut reports = Outbox::new(self.alloc);
         self.report_all(&mut reports)?;
@@ -83,7 +88,8 @@ impl SiteNode {
     }
 
     fn repeat_requests(&self, out: &mut Dispatch) -> Result<(), OrderFault>
-        ensures { OnOk result (Adds (users_repeats self.now.frame self.now.users) out.old out.new) }
+        ensures adds { OnOk result (Adds (users_repeats self.now.frame self.now.users) out.old out.new) }
+        ensures fit { result ≢ Err OrderFault.Unfit }
     {
         let mut requests = Outbox::new(self.alloc);
         self.users.repeats(&self.frame, &mut requests)?;
@@ -92,7 +98,8 @@ impl SiteNode {
     }
 
     fn repeat_closes(&self, out: &mut Dispatch) -> Result<(), OrderFault>
-        ensures { OnOk result ((image : List ℕ) → Adds (in_order (store_repeats self.now.frame (view_of self.now image).store)) out.old out.new) }
+        ensures adds { OnOk result ((image : List ℕ) → Adds (in_order (store_repeats self.now.frame (view_of self.now image).store)) out.old out.new) }
+        ensures unfit { result ≡ Err OrderFault.Unfit → (image : List ℕ) → AllByRecursion FitsIfCounted (store_repeats self.now.frame (view_of self.now image).store) → ⊥ }
     {
         let mut closes = Outbox::new(self.alloc);
         self.store.repeats(&self.frame, &mut closes)?;
@@ -101,7 +108,8 @@ impl SiteNode {
     }
 
     fn repeat_pulls(&self, out: &mut Dispatch) -> Result<(), OrderFault>
-        ensures { OnOk result (Adds (in_order (pull_repeats self.now.frame self.now.pulls)) out.old out.new) }
+        ensures adds { OnOk result (Adds (in_order (pull_repeats self.now.frame self.now.pulls)) out.old out.new) }
+        ensures unfit { result ≡ Err OrderFault.Unfit → AllByRecursion FitsIfCounted (pull_repeats self.now.frame self.now.pulls) → ⊥ }
     {
         let mut pulls = Outbox::new(self.alloc);
         self.pulls.repeats(&self.frame, &mut pulls)?;
@@ -110,7 +118,8 @@ impl SiteNode {
     }
 
     fn repeat_notices(&self, out: &mut Dispatch) -> Result<(), OrderFault>
-        ensures { OnOk result (Adds (in_order (flat_map (sync_repeats self.now.frame) self.now.tables)) out.old out.new) }
+        ensures adds { OnOk result (Adds (in_order (flat_map (sync_repeats self.now.frame) self.now.tables)) out.old out.new) }
+        ensures unfit { result ≡ Err OrderFault.Unfit → AllByRecursion FitsIfCounted (flat_map (sync_repeats self.now.frame) self.now.tables) → ⊥ }
     {
         let mut notices = Outbox::new(self.alloc);
         repeat_notices(self.tables.as_slice(), &self.frame, &mut notices)?;

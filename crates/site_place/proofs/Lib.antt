@@ -9,3 +9,4 @@ pub mod Stopping
 pub mod Booting
 pub mod Starting
 pub mod Refusing
+pub mod Needing

@@ -3,3 +3,4 @@ pub mod Counts
 pub mod Views
 pub mod Standing
 pub mod Starts
+pub mod Fitting

@@ -22,6 +22,11 @@ pub enum StartFault {
 }
 
 impl From<NoMemory> for PlaceFault {
+    ghost use Rattle.std.specs.Prelude.{◌≡◌};
+    ghost use Rattle.site_place.specs.declared.fault.PlaceFault.TheVariants.{NoMemory};
+
+    ghost from_gives = { λ _ fault. fault ≡ NoMemory };
+
     fn from(_: NoMemory) -> PlaceFault {
         PlaceFault::NoMemory
     }

@@ -1,6 +1,7 @@
-ghost use Rattle.std.specs.Prelude.{◌≡◌, true, Some, None, Err, IfOk};
+ghost use Rattle.std.specs.Prelude.{◌≡◌, true, Some, None, Err, IfErr, IfOk};
 ghost use Rattle.the_run.specs.Worlds.{Running, fresh, formatted, boot_of};
 ghost use Rattle.the_run.specs.Runs.{is_stopped, is_in_no_epoch, is_busy};
+ghost use Rattle.site_place.specs.Fitting.{CanHappenIn, IsOfDisk};
 ghost use Rattle.site_place.specs.Starts.{IsOfWhole};
 ghost use Rattle.site_place.specs.Places.{PlaceState, Gives, event_of, armed_by, happens_in, stops_in, boots_in, disk_boot, drops};
 
@@ -120,9 +121,10 @@ impl SitePlace {
     }
 
     /// An event of the site, where it runs: all of it, or, where the armed script cuts its disk write off, what a stop leaves. It
-    /// gives what the event sends and tells.
+    /// gives what the event sends and tells. Where the event finds what it needs, only memory may be wanting.
     pub fn happen(&mut self, links: &Links, event: SiteEvent) -> Result<Dispatch, PlaceFault>
-        ensures { IfOk result (λ out. Gives (happens_in links.now (event_of event) self.old) self.old self.new out) }
+        ensures gives { IfOk result (λ out. Gives (happens_in links.now (event_of event) self.old) self.old self.new out) }
+        ensures fit { IfErr result (λ fault. CanHappenIn links.now (event_of event) self.old → fault ≡ PlaceFault.NoMemory) }
     {
         let mut out = Dispatch::new(self.alloc);
         let Some(node) = &mut self.node else {
@@ -218,7 +220,8 @@ impl SitePlace {
 /// The size of the write that was cut off, or why the event didn't happen otherwise.
 fn size_of(fault: NodeFault) -> Result<WriteSize, PlaceFault>
     requires { fault ≡ NodeFault.Disk → ⊥ }
-    ensures { IfOk result (λ size. fault ≡ NodeFault.Cut size) }
+    ensures size { IfOk result (λ size. fault ≡ NodeFault.Cut size) }
+    ensures fit { IfErr result (λ refusal. IsOfDisk fault → refusal ≡ PlaceFault.NoMemory) }
 {
     match fault {
         NodeFault::Cut(size) => Ok(size),

@@ -60,6 +60,7 @@ pull_stays c n x older v e me p k = record {
   pages = k.pages;
   even = k.even;
   wanted = k.wanted;
+  holds = v.have e p.holder p.file p.stamp k.holds;
 }
 
 pub all_pulls_stay : (c : Config) (n : ℕ) (x : Told) (older : List Line) → IsFollowed c older → MayTell c older x → AllStay c older (More n x older) x → (f : Frame) (ps : List Pull) → PullsFact c f older ps → PullsFact c f (More n x older) ps
@@ -137,7 +138,7 @@ begins_fine c n trace f p ps all k = over (replaces_pull p (pull_of ps p.file))
     over false = still c n trace f ps all
 
 -- what a notice begins to pull
-noticed : (c : Config) (trace : List Line) (e : EpochId) (to : ℕ) (file : FileId) (k : Kind) (set : Sites) (size : ℕ) (stamp : Stamp) (vector : List ℕ) (holder : ℕ) → NotifyFact c trace e to file k set size stamp vector → PullFact c trace e to (record { file = file; kind = k; set = set; size = size; stamp = stamp; vector = vector; holder = holder; content = [] })
+noticed : (c : Config) (trace : List Line) (e : EpochId) (to : ℕ) (file : FileId) (k : Kind) (set : Sites) (size : ℕ) (stamp : Stamp) (vector : List ℕ) (holder : ℕ) → NotifyFact c trace e to file k set size stamp vector holder → PullFact c trace e to (record { file = file; kind = k; set = set; size = size; stamp = stamp; vector = vector; holder = holder; content = [] })
 noticed c trace e to file k set size stamp vector holder t = record {
   started = t.started;
   known = t.known;
@@ -152,10 +153,11 @@ noticed c trace e to file k set size stamp vector holder t = record {
   pages = refl;
   even = inr (0, refl);
   wanted = t.wanted;
+  holds = t.holds;
 }
 
 pub notify_fine : (c : Config) (n : ℕ) (trace : List Line) → IsFollowed c trace → StoreRests c trace → (f : Frame) → FrameFact c trace f → (s : Store) → CopiesAreHeld c trace f.me s → (ps : List Pull) → PullsFact c f trace ps → (from : ℕ) (file : FileId) (k : Kind) (set : Sites) (size : ℕ) (stamp : Stamp) (vector : List ℕ) (holder : ℕ) →
-    NotifyFact c trace f.epoch f.me file k set size stamp vector → PullsFine c n trace f (on_notify f from (copy_of s file) (record { file = file; kind = k; set = set; size = size; stamp = stamp; vector = vector; holder = holder; content = [] }) ps)
+    NotifyFact c trace f.epoch f.me file k set size stamp vector holder → PullsFine c n trace f (on_notify f from (copy_of s file) (record { file = file; kind = k; set = set; size = size; stamp = stamp; vector = vector; holder = holder; content = [] }) ps)
 notify_fine c n trace h rests f frame s copies ps all from file k set size stamp vector holder t = over (copy_of s file) (copy_is c trace h f.me s copies file narrow)
   where
     stands : Stands c trace file stamp
@@ -215,6 +217,7 @@ paged c trace e me p stamp page bytes k q awaited = record {
   pages = joined ∙ (sym (take_own (length p.content + 1024) k.version.content) ∙ ap (λ (xs : List ℕ). take (length xs) k.version.content) (sym joined));
   even = even_now k.even;
   wanted = k.wanted;
+  holds = k.holds;
 }
   where
     same_version : q.version ≡ k.version

@@ -1,3 +1,5 @@
+//! The storage site's steps in the one tree: what a storage site has by the trace alone stays while others tell, and what each of its
+//! functions tells comes as it may.
 ghost use Rattle.std.specs.Prelude.{ℕ, ◌≡◌, ◌<◌, ◌≤◌, true, false, List, [], ◌∷◌, Some};
 ghost use Rattle.locus_ids.specs.declared.config.Config.{Config};
 ghost use Rattle.locus_ids.specs.declared.ids.CallId.{CallId};
@@ -115,7 +117,7 @@ pub fn closes_come_as_they_may()
 pub fn pulls_are_of_known_versions()
     ensures stay { (c : Config) (older : List Line) (n : ℕ) (x : Told) → IsFollowed c older → MayTell c older x → AllStay c older (record { number = n; told = x } ∷ older) x → (f : Frame) (ps : List Pull) → PullsFact c f older ps → PullsFact c f (record { number = n; told = x } ∷ older) ps }
     ensures notices { (c : Config) (n : ℕ) (trace : List Line) → IsFollowed c trace → StoreRests c trace → (f : Frame) → FrameFact c trace f → (s : Store) → CopiesAreHeld c trace f.me s → (ps : List Pull) → PullsFact c f trace ps →
-        (from : ℕ) (file : FileId) (k : Kind) (set : Sites) (size : ℕ) (stamp : Stamp) (vector : List ℕ) (holder : ℕ) → NotifyFact c trace f.epoch f.me file k set size stamp vector →
+        (from : ℕ) (file : FileId) (k : Kind) (set : Sites) (size : ℕ) (stamp : Stamp) (vector : List ℕ) (holder : ℕ) → NotifyFact c trace f.epoch f.me file k set size stamp vector holder →
         PullsFine c n trace f (on_notify f from (copy_of s file) (record { file = file; kind = k; set = set; size = size; stamp = stamp; vector = vector; holder = holder; content = [] }) ps) }
     ensures pages { (c : Config) (n : ℕ) (trace : List Line) → StoreRests c trace → (f : Frame) (ps : List Pull) → PullsFact c f trace ps → (file : FileId) (stamp : Stamp) (page : ℕ) (bytes : List ℕ) → PageFact c trace file stamp page bytes →
         PullsFine c n trace f (on_page f file stamp page bytes ps) }

@@ -17,18 +17,20 @@ use Rattle.role_steps.specs.declared.synchronizing.FileRow.{FileRow}
 use Rattle.role_steps.specs.declared.synchronizing.SyncTable.{SyncTable}
 use Rattle.role_steps.specs.declared.synchronizing.VersionRow.{VersionRow}
 use Rattle.role_steps.proofs.Sending.{every_append}
+use Rattle.the_run.specs.Kept.{Among}
 use Rattle.the_run.specs.Worlds.{Line}
 use Rattle.tree_model.specs.Files.{HeldVersion}
 use Rattle.tree_model.specs.Histories.{history}
 use Rattle.tree_model.specs.State.{has_stamp}
 use Rattle.tree_model.specs.Tree.{candidates, kept_in}
-use Rattle.tree_laws.specs.Instances.{IsKnown}
+use Rattle.tree_laws.specs.Instances.{HasAtLeast, IsKnown}
 use Rattle.tree_laws.specs.Packets.{NotifyFact, PacketFact, file_in}
 use Rattle.tree_laws.specs.Printed.{entries}
-use Rattle.tree_laws.specs.Tables.{AreRising, FileFact, FilesFact, StartedFiles, TableFact, VersionFact, row_stamp}
+use Rattle.tree_laws.specs.Tables.{AreRising, FileFact, FilesFact, HoldingFact, StartedFiles, TableFact, VersionFact, row_stamp}
 use Rattle.tree_laws.proofs.Boots.{every_filter, every_passes}
 use Rattle.tree_laws.proofs.Names.{test_own}
-use Rattle.sync_laws.proofs.Served.{stamp_own}
+use Rattle.sync_laws.proofs.Rows.{every_among}
+use Rattle.sync_laws.proofs.Served.{IsHolder, chosen_among, holder_is, stamp_own}
 
 -- ---- rows that ascend are found ----
 
@@ -97,8 +99,14 @@ module _ (c : Config) (trace : List Line) (f : Frame) (t : SyncTable) (k : Table
       only : kept_in c (entries trace) f.epoch (file_in t.group r.ino) ≡ v.stamp ∷ []
       only = sym kept_are ∙ ap (λ (vs : List VersionRow). map row_stamp vs) one
 
-      notify : (to : ℕ) → has r.set to ≡ true → NotifyFact c trace f.epoch to (file_in t.group r.ino) r.kind r.set v.size v.stamp v.vector
-      notify to wanted = record {
+      -- a holder has the version at least
+      holder_has : (holder : ℕ) → Among holder (holders_of r v.stamp) → HasAtLeast c trace f.epoch holder (file_in t.group r.ino) v.stamp
+      holder_has holder a =
+          let it : IsHolder r v.stamp holder = holder_is r v.stamp holder a in
+          subst (λ (s : ℕ). HasAtLeast c trace f.epoch s (file_in t.group r.ino) v.stamp) it.site_is (subst (λ (s : Stamp). HasAtLeast c trace f.epoch it.holding.site (file_in t.group r.ino) s) it.stamp_is (every_among (HoldingFact c trace f.epoch (file_in t.group r.ino)) r.holders it.holding fact.holders it.there))
+
+      notify : (to holder : ℕ) → has r.set to ≡ true → HasAtLeast c trace f.epoch holder (file_in t.group r.ino) v.stamp → NotifyFact c trace f.epoch to (file_in t.group r.ino) r.kind r.set v.size v.stamp v.vector holder
+      notify to holder wanted holds = record {
         started = sym k.started ∙ started;
         known = kept_is_known c trace f (file_in t.group r.ino) v.stamp (ap (λ (ss : List Stamp). has_stamp ss v.stamp) only ∙ ap (λ (b : Bool). b || false) (stamp_own v.stamp));
         single = ap length only;
@@ -110,19 +118,20 @@ module _ (c : Config) (trace : List Line) (f : Frame) (t : SyncTable) (k : Table
         vector_is = sym (ap (λ (x : VersionRow). x.vector) version.same);
         size_is = sym (ap (λ (x : VersionRow). x.size) version.same);
         wanted = wanted;
+        holds = holds;
       }
 
-      by_holder : (o : Option ℕ) → Every (PacketFact c trace) (notices_of f t.group r v o)
-      by_holder None = tt
-      by_holder (Some holder) = each (lagging f r (holders_of r v.stamp)) (lagging_wanted f r (holders_of r v.stamp))
+      by_holder : (o : Option ℕ) → chosen_site f.me f.me (holders_of r v.stamp) ≡ o → Every (PacketFact c trace) (notices_of f t.group r v o)
+      by_holder None e = tt
+      by_holder (Some holder) e = each (lagging f r (holders_of r v.stamp)) (lagging_wanted f r (holders_of r v.stamp))
         where
           each : (xs : List ℕ) → Every (λ (s : ℕ). has r.set s ≡ true) xs → Every (PacketFact c trace) (map (notice f t.group r v holder) xs)
           each [] h = tt
-          each (x ∷ xs) h = (notify x h.0, each xs h.1)
+          each (x ∷ xs) h = (notify x holder h.0 (holder_has holder (chosen_among f.me f.me (holders_of r v.stamp) holder e)), each xs h.1)
 
     by_kept : (vs : List VersionRow) → r.kept ≡ vs → Every (PacketFact c trace) (notices_by f t.group r vs)
     by_kept [] e = tt
-    by_kept (v ∷ []) e = by_holder v e (chosen_site f.me f.me (holders_of r v.stamp))
+    by_kept (v ∷ []) e = by_holder v e (chosen_site f.me f.me (holders_of r v.stamp)) refl
     by_kept (v ∷ w ∷ others) e = tt
 
     pub row_notices_fine : Every (PacketFact c trace) (file_notices f t.group r)

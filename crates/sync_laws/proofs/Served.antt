@@ -20,7 +20,7 @@ use Rattle.tree_model.specs.Given.{only_kept, served_by}
 use Rattle.tree_model.specs.Same.{is_served}
 use Rattle.tree_model.specs.State.{has_stamp}
 use Rattle.tree_laws.specs.Tables.{HasHolder, row_stamp}
-use Rattle.tree_laws.proofs.Names.{true_false, test_own, test_same}
+use Rattle.tree_laws.proofs.Names.{some_is, true_false, test_own, test_same}
 use Rattle.order_laws.proofs.Standing.{same_stamp_eq}
 
 pub stamp_own : (s : Stamp) → same_stamp s s ≡ true
@@ -59,6 +59,16 @@ holder_chosen us css s (h ∷ hs) a = over (is_among us (h ∷ hs)) (is_among cs
     over true y e k = record { site = us; chosen = ap (λ (b : Bool). cond b (Some us) (cond (is_among css (h ∷ hs)) (Some css) (Some h))) e; among = among_is us (h ∷ hs) e }
     over false true e k = record { site = css; chosen = ap (λ (b : Bool). cond b (Some us) (cond (is_among css (h ∷ hs)) (Some css) (Some h))) e ∙ ap (λ (b : Bool). cond b (Some css) (Some h)) k; among = among_is css (h ∷ hs) k }
     over false false e k = record { site = h; chosen = ap (λ (b : Bool). cond b (Some us) (cond (is_among css (h ∷ hs)) (Some css) (Some h))) e ∙ ap (λ (b : Bool). cond b (Some css) (Some h)) k; among = inl refl }
+
+none_is : (s : ℕ) → ◌≡◌ {A = Option ℕ} None (Some s) → ⊥
+none_is s e = cc
+
+-- who is chosen is a holder
+pub chosen_among : (us css : ℕ) (holders : List ℕ) (s : ℕ) → chosen_site us css holders ≡ Some s → Among s holders
+chosen_among us css [] s e = absurd (none_is s e)
+chosen_among us css (h ∷ hs) s e =
+    let one : IsChosen us css (h ∷ hs) = holder_chosen us css h (h ∷ hs) (inl refl) in
+    subst (λ (x : ℕ). Among x (h ∷ hs)) (some_is one.site s (sym one.chosen ∙ e)) one.among
 
 among_filter : {A : Type 0} (p : A → Bool) (x : A) (xs : List A) → Among x xs → p x ≡ true → Among x (filter p xs)
 among_filter p x [] a k = absurd a

@@ -112,7 +112,7 @@ module _ (c : Config) (n : ℕ) (x : Told) (older : List Line) (h : IsFollowed c
   body_stays p (body.Look call process request times file w) k = look_stays c n x older h may p.epoch p.from call process request times file w k
   body_stays p (body.LookSs us call process request times file w serve) k = serve_stays p.epoch us call process request times file w serve k
   body_stays p (body.LookDone call request times a) k = look_done_stays p.epoch p.to p.to_boot call request times a k
-  body_stays p (body.Notify file kind set size stamp vector holder) k = notify_stays c n x older versions p.epoch p.to file kind set size stamp vector k
+  body_stays p (body.Notify file kind set size stamp vector holder) k = notify_stays c n x older versions p.epoch p.to file kind set size stamp vector holder k
   body_stays p (body.Pull file stamp page) k = versions.stands file stamp k
   body_stays p (body.Page file stamp page bytes) k = page_stays c older (More n x older) versions file stamp page bytes k
   body_stays p (body.Have file stamp) k = record { started = started_stays c n x older p.epoch file.group k.started; has = versions.have p.epoch p.from file stamp k.has }

@@ -95,9 +95,9 @@ plain_stays c n x older stay e ss i f m set k base vector parents h = record {
     over (inl b) = inl (b.0, inr b.1)
     over (inr p) = stay.kept e h.call h.request i m f h.stamp ss parents h.was_granted p
 
-pub notify_stays : (c : Config) (n : ℕ) (x : Told) (older : List Line) → VersionsStay c older (More n x older) → (e : EpochId) (to : ℕ) (f : FileId) (k : Kind) (set : Sites) (size : ℕ) (stamp : Stamp) (vector : List ℕ) →
-    NotifyFact c older e to f k set size stamp vector → NotifyFact c (More n x older) e to f k set size stamp vector
-notify_stays c n x older stay e to f k set size stamp vector h = record {
+pub notify_stays : (c : Config) (n : ℕ) (x : Told) (older : List Line) → VersionsStay c older (More n x older) → (e : EpochId) (to : ℕ) (f : FileId) (k : Kind) (set : Sites) (size : ℕ) (stamp : Stamp) (vector : List ℕ) (holder : ℕ) →
+    NotifyFact c older e to f k set size stamp vector holder → NotifyFact c (More n x older) e to f k set size stamp vector holder
+notify_stays c n x older stay e to f k set size stamp vector holder h = record {
   started = started_stays c n x older e f.group h.started;
   known = stay.known e f stamp h.known;
   single = stay.single e f h.started h.single;
@@ -109,6 +109,7 @@ notify_stays c n x older stay e to f k set size stamp vector h = record {
   vector_is = h.vector_is;
   size_is = h.size_is;
   wanted = h.wanted;
+  holds = stay.have e holder f stamp h.holds;
 }
 
 pub page_stays : (c : Config) (old new : List Line) → VersionsStay c old new → (f : FileId) (stamp : Stamp) (page : ℕ) (bytes : List ℕ) → PageFact c old f stamp page bytes → PageFact c new f stamp page bytes

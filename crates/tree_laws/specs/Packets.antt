@@ -326,7 +326,7 @@ CloseDoneFact c trace e i a = (last : Option Stamp) × WasReleasedWith c trace e
 
 -- the group has started, this version of the file is known in the epoch, and one version of the file is kept there; who is told of it
 -- is one of the file's sites
-pub record NotifyFact (c : Config) (trace : List Line) (e : EpochId) (to : ℕ) (f : FileId) (k : Kind) (set : Sites) (size : ℕ) (stamp : Stamp) (vector : List ℕ) : Type 0 where
+pub record NotifyFact (c : Config) (trace : List Line) (e : EpochId) (to : ℕ) (f : FileId) (k : Kind) (set : Sites) (size : ℕ) (stamp : Stamp) (vector : List ℕ) (holder : ℕ) : Type 0 where
   pub started : IsStarted c trace e f.group
   pub known : IsKnown c trace e f stamp
   pub single : length (kept_in c (entries trace) e f) ≡ 1
@@ -338,6 +338,7 @@ pub record NotifyFact (c : Config) (trace : List Line) (e : EpochId) (to : ℕ) 
   pub vector_is : version.vector ≡ vector
   pub size_is : length version.content ≡ size
   pub wanted : has set to ≡ true
+  pub holds : HasAtLeast c trace e holder f stamp
 
 pub record PageFact (c : Config) (trace : List Line) (f : FileId) (stamp : Stamp) (page : ℕ) (bytes : List ℕ) : Type 0 where
   pub version : HeldVersion
@@ -367,7 +368,7 @@ BodyFact c trace p (body.CloseDone serial a) = CloseDoneFact c trace p.epoch (se
 BodyFact c trace p (body.Look call process request times file w) = LookFact c trace p.epoch p.from call process request times file w
 BodyFact c trace p (body.LookSs us call process request times file w serve) = ServeFact trace p.epoch us call process request times file w serve
 BodyFact c trace p (body.LookDone call request times a) = LookDoneFact c trace p.epoch p.to p.to_boot call request times a
-BodyFact c trace p (body.Notify file kind set size stamp vector holder) = NotifyFact c trace p.epoch p.to file kind set size stamp vector
+BodyFact c trace p (body.Notify file kind set size stamp vector holder) = NotifyFact c trace p.epoch p.to file kind set size stamp vector holder
 BodyFact c trace p (body.Pull file stamp page) = Stands c trace file stamp
 BodyFact c trace p (body.Page file stamp page bytes) = PageFact c trace file stamp page bytes
 BodyFact c trace p (body.Have file stamp) = HaveFact c trace p.epoch p.from file stamp

@@ -169,3 +169,4 @@ pub record PullFact (c : Config) (trace : List Line) (e : EpochId) (me : ℕ) (p
   pub pages : p.content ≡ take (length p.content) version.content
   pub even : (length p.content ≡ p.size) ⊎ ((k : ℕ) × (length p.content ≡ 1024 * k))
   pub wanted : has p.set me ≡ true
+  pub holds : HasAtLeast c trace e p.holder p.file p.stamp

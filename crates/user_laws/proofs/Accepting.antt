@@ -44,7 +44,7 @@ use Rattle.tree_laws.proofs.Descriptors.{FromDescriptor, uses_from}
 use Rattle.tree_laws.proofs.Fresh.{IsNamed, calls_are_low, next_is_new, numbered}
 use Rattle.tree_laws.proofs.Having.{Untaken, named_or_untaken, waiting_named}
 use Rattle.tree_laws.proofs.Names.{same_call_eq, same_call_own, test_own, test_same, true_false}
-use Rattle.process_laws.proofs.OneDescriptor.{unclosed}
+use Rattle.order_laws.proofs.ProcessOneDescriptor.{unclosed}
 use Rattle.user_laws.specs.Rests.{Follows, Staying}
 use Rattle.user_laws.specs.Turning.{it, CallTurns, InstanceTurns, IsNumbered, Others, Turning}
 use Rattle.user_laws.proofs.Beside.{TurnsOne, instance_turns, waiting_same}

@@ -37,8 +37,8 @@ use Rattle.tree_laws.proofs.Scripts.{begun_stays, named_stays, script_stays}
 use Rattle.tree_laws.proofs.Stepping.{answered_stays}
 use Rattle.tree_laws.proofs.Versions.{versions_stay}
 use Rattle.tree_laws.proofs.Waiting.{found_among}
-use Rattle.process_laws.proofs.Had.{IsHere, holders_one}
-use Rattle.process_laws.proofs.Operations.{op_is}
+use Rattle.order_laws.proofs.ProcessHad.{IsHere, holders_one}
+use Rattle.order_laws.proofs.ProcessOperations.{op_is}
 use Rattle.user_laws.specs.Turning.{it, InstanceTurns}
 use Rattle.user_laws.proofs.Staying.{With, log_stays, tries_stay}
 

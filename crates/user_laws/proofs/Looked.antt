@@ -30,8 +30,8 @@ use Rattle.tree_laws.proofs.Awaiting.{by_own}
 use Rattle.tree_laws.proofs.Hearing.{asking_named, take_own}
 use Rattle.tree_laws.proofs.Scripts.{script_stays}
 use Rattle.tree_laws.proofs.Versions.{versions_stay}
-use Rattle.process_laws.specs.Answered.{WasAnswered}
-use Rattle.process_laws.proofs.Current.{reached, same_or_turns, turned}
+use Rattle.order_laws.specs.ProcessAnswered.{WasAnswered}
+use Rattle.order_laws.proofs.ProcessCurrent.{reached, same_or_turns, turned}
 use Rattle.user_laws.specs.Rests.{LooksStand, Steady}
 use Rattle.user_laws.proofs.Staying.{With}
 

@@ -49,7 +49,7 @@ use Rattle.tree_laws.specs.Serials.{asked_now, is_open_want, ops_asked, serial_a
 use Rattle.tree_laws.specs.Users.{had, had_by, without_closed, AskingIs, UserInstanceFact, WaitingFact}
 use Rattle.tree_laws.proofs.Mending.{mends_at_sync}
 use Rattle.tree_laws.proofs.Names.{some_is, true_false, test_own, test_same}
-use Rattle.process_laws.proofs.CurrentOpens.{granted_waits, refused_waits}
+use Rattle.order_laws.proofs.ProcessCurrentOpens.{granted_waits, refused_waits}
 use Rattle.user_laws.specs.Rests.{Follows, IsKeptBy, OpenRests, Staying}
 use Rattle.user_laws.specs.Turning.{it, InstanceTurns, Turning}
 use Rattle.user_laws.proofs.Going.{goes_fine}

@@ -40,7 +40,7 @@ use Rattle.tree_laws.specs.Processes.{IsMend}
 use Rattle.tree_laws.proofs.Kinship.{started_stays}
 use Rattle.tree_laws.proofs.Names.{true_false}
 use Rattle.tree_laws.proofs.Scripts.{named_stays}
-use Rattle.mend_laws.proofs.Mends.{mend_opened}
+use Rattle.holding_laws.proofs.MendMends.{mend_opened}
 
 abbrev With : ℕ → Told → List Line → List Line
 With n x older = record { number = n; told = x } ∷ older

@@ -25,7 +25,7 @@ use Rattle.tree_laws.proofs.Names.{same_call_eq}
 use Rattle.tree_laws.proofs.OneBoot.{one_boot}
 use Rattle.tree_laws.proofs.Scripts.{in_stays}
 use Rattle.tree_laws.proofs.Serials.{asks_opens, in_named}
-use Rattle.process_laws.proofs.Once.{Counts, counts_up}
+use Rattle.order_laws.proofs.ProcessOnce.{Counts, counts_up}
 
 abbrev With : ℕ → Told → List Line → List Line
 With n x older = record { number = n; told = x } ∷ older

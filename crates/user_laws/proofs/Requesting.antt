@@ -50,13 +50,13 @@ use Rattle.tree_laws.proofs.Boots.{every_both}
 use Rattle.tree_laws.proofs.Names.{true_false, test_same, same_serial_eq, same_serial_own}
 use Rattle.tree_laws.proofs.OfOwn.{asks_of_own}
 use Rattle.tree_laws.proofs.OneBoot.{boot_where_inside}
-use Rattle.process_laws.specs.Asked.{AsksOf, IsOpenOf}
-use Rattle.process_laws.specs.Operations.{OpsAre}
-use Rattle.process_laws.proofs.Granting.{GrantIs, granted_is}
-use Rattle.process_laws.proofs.Open.{OpenAs, asked_open, granted_open}
-use Rattle.process_laws.proofs.OperationsRun.{operations_counted}
-use Rattle.process_laws.proofs.Owner.{owner_release}
-use Rattle.process_laws.proofs.Taken.{asked_had}
+use Rattle.order_laws.specs.ProcessAsked.{AsksOf, IsOpenOf}
+use Rattle.order_laws.specs.ProcessOperations.{OpsAre}
+use Rattle.order_laws.proofs.ProcessGranting.{GrantIs, granted_is}
+use Rattle.order_laws.proofs.ProcessOpen.{OpenAs, asked_open, granted_open}
+use Rattle.order_laws.proofs.ProcessOperationsRun.{operations_counted}
+use Rattle.order_laws.proofs.ProcessOwner.{owner_release}
+use Rattle.order_laws.proofs.ProcessTaken.{asked_had}
 use Rattle.user_laws.specs.Rests.{RequestRests}
 use Rattle.user_laws.specs.Turning.{it, CallTurns, InstanceTurns, Turning, Counted}
 use Rattle.user_laws.proofs.Tabled.{every_with, ascends_with, among_with, among_kept, every_among, row_found}

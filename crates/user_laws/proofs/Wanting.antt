@@ -42,7 +42,7 @@ use Rattle.tree_laws.specs.Doing.{FrameFact}
 use Rattle.tree_laws.specs.Serials.{asked_now}
 use Rattle.tree_laws.proofs.Free.{AsksSame}
 use Rattle.tree_laws.proofs.Names.{true_false}
-use Rattle.process_laws.proofs.Synchronizing.{sync_same}
+use Rattle.order_laws.proofs.ProcessSynchronizing.{sync_same}
 use Rattle.user_laws.specs.Turning.{it, CallTurns}
 
 -- ---- a request is asked whatever descriptor is free ----

@@ -11,3 +11,7 @@ pub mod SiteFacts
 pub mod FormingFacts
 pub mod StepFacts
 pub mod FactsRun
+pub mod HistoryNumbers
+pub mod HistoryHistory
+pub mod HistorySited
+pub mod HistoryCovers

@@ -1,3 +1,4 @@
+//! Laws of every run about versions: what the disks hold, by the trace.
 ghost use Rattle.std.specs.Prelude.{List};
 ghost use Rattle.locus_ids.specs.declared.config.Config.{Config};
 ghost use Rattle.schedule_lines.specs.declared.line.ScheduleLine.{ScheduleLine};

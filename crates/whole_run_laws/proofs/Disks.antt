@@ -20,7 +20,7 @@ use Rattle.row_laws.proofs.Fitting.{schedule_fits}
 use Rattle.order_laws.specs.Joining.{PacksAreOfSites}
 use Rattle.tree_laws.specs.Printed.{entries}
 use Rattle.tree_laws.specs.Stores.{copy_for}
-use Rattle.store_step_laws.proofs.First.{four_groups}
+use Rattle.rest_laws.proofs.StoreStepFirst.{four_groups}
 use Rattle.one_tree_laws.specs.Places.{PlaceFact, SiteIn, WorldFact}
 use Rattle.one_tree_laws.proofs.Run.{run_holds}
 use Rattle.one_tree_laws.proofs.Staying.{stays}

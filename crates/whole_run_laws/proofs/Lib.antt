@@ -1,2 +1,11 @@
 pub mod Disks
 pub mod Rounds
+pub mod CutGates
+pub mod CutBoots
+pub mod CutWrites
+pub mod CutPlaced
+pub mod CutShaped
+pub mod CutTraced
+pub mod CutEvents
+pub mod CutCourse
+pub mod CutRun

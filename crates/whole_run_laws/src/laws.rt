@@ -1,3 +1,4 @@
+//! What holds of every run as a whole: of its disks by its trace, and of its rounds.
 ghost use Rattle.std.specs.Prelude.{List};
 ghost use Rattle.locus_ids.specs.declared.config.Config.{Config};
 ghost use Rattle.schedule_lines.specs.Cluster.{config_of};

@@ -15,6 +15,8 @@ const HEADING_BYTES: usize = 25;
 /// A body with a whole page has so many bytes, and most others have fewer.
 const BODY_ROOM: usize = 1_035;
 
+const WHOLE_ROOM: usize = HEADING_BYTES + BODY_ROOM;
+
 /// What stands before the length of the body.
 fn put_header(out: &mut Bytes, p: &Packet) -> Result<(), NoMemory>
     ensures { OnOk result (out.new ≡ out.old ++ headers.spell (header_of p.now)) }
@@ -43,6 +45,36 @@ fn with_room(alloc: Global, room: &[u8]) -> Result<Bytes, NoMemory>
     let mut bytes = Bytes::from_slice(alloc, room)?;
     bytes.clear();
     Ok(bytes)
+}
+
+/// Buffers in which packets are put together. Their memory is kept from one packet to the next.
+#[derive(Drop)]
+pub struct Encoder {
+    body: Bytes,
+    whole: Bytes,
+}
+
+impl Encoder {
+    /// Takes the memory that most packets need at once.
+    pub fn new(alloc: Global) -> Result<Encoder, NoMemory> {
+        let body = with_room(alloc, &[0; BODY_ROOM])?;
+        let whole = with_room(alloc, &[0; WHOLE_ROOM])?;
+        Ok(Encoder { body, whole })
+    }
+
+    /// Adds the bytes of a packet at the end, all or, after `NoMemory`, none.
+    pub fn encode(&mut self, p: &Packet, out: &mut Bytes) -> Result<(), NoMemory>
+        requires { FitsPacket p.now }
+        ensures ok { OnOk result (out.new ≡ out.old ++ packet_bytes p.now) }
+        ensures err { OnErr result (out.new ≡ out.old) }
+    {
+        self.body.clear();
+        put_body(&mut self.body, &p.body)?;
+        self.whole.clear();
+        put_heading(&mut self.whole, p, self.body.len() as u32)?;
+        self.whole.append(self.body.as_slice())?;
+        out.append(self.whole.as_slice())
+    }
 }
 
 /// Adds two rows of bytes, both or, after `NoMemory`, none.

@@ -17,7 +17,7 @@ pub use body::{
     Body, CloseAnswer, Granted, LookAnswer, MadeVersion, OpenedAs, Opening, ReportedCopies,
     ReportedCopy,
 };
-pub use encoder::encode;
+pub use encoder::{Encoder, encode};
 pub use laws::no_packet_begins_another;
 pub use outbox::{Outbox, Records};
 pub use packet::{Packet, Packets};

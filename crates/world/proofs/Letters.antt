@@ -20,6 +20,11 @@ use Rattle.world.specs.Listed.{comes_if, may_come, stays_if, may_be_lost, next_n
 use Rattle.world.proofs.Tables.{key_found, same_rest}
 use Rattle.world.proofs.Events.{own_along}
 use Rattle.world.proofs.Asking.{up_is, unless_yes, unless_no}
+use Rattle.complete_laws.specs.Lines.{CanHappen}
+use Rattle.world.specs.Faults.{WantsMemory, WantsMemoryWithin}
+use Rattle.world.specs.declared.fault.WorldFault.{WorldFault}
+use Rattle.world.specs.declared.fault.WorldFault.TheVariants.{NoMemory}
+use Rattle.complete_laws.specs.MomentEvents.{WherePacket}
 
 -- ---- packets by number ----
 
@@ -203,6 +208,15 @@ arrive_shown n k p x y z is ec ep ek eb h u c taken w o e sh =
     let step : Shows c taken (arrives_at c n u.packet (place_at w u.packet.to) (passed k w)) z = subst (λ (q : Packet). Shows c taken (arrives_at c n q (place_at w q.to) (passed k w)) z) packet got in
     subst (λ (j : ℕ). Shows c taken (arrives_at c n u.packet (place_at w u.packet.to) (passed j w)) z) (sym number) step
 
+-- the fault of a packet that arrives
+pub arrive_wants : (k : ℕ) (p : Packet) (x y : WorldState) (fault : WorldFault) → Some p ≡ packet_in (sent_at k x.book.post) → y.config ≡ x.config → y.places ≡ x.places → y.circuits ≡ x.circuits → y.book ≡ record x.book { post = passes k x.book.post } → WantsMemory (λ c w. CanHappen c p.to (Receives p) w) y fault
+    → (u : Numbered) → WantsMemoryWithin (λ c w. (packet_at w k ≡ Some u) × CanHappen c u.packet.to (Receives u.packet) w) x fault
+arrive_wants k p x y fault is ec ep ek eb h u c taken w o sh need =
+    let there : sent_at k x.book.post ≡ Some u = sym (packet_same c taken w x o sh k) ∙ need.0 in
+    let same : Some p ≡ Some u.packet = is ∙ ap packet_in there in
+    let packet : p ≡ u.packet = cc in
+    h c taken (passed k w) (pass_shown c taken w x y k o sh ec ep ek eb) (subst (λ (q : Packet). CanHappen c q.to (Receives q) w) (sym packet) need.1)
+
 -- nothing was sent with the number
 pub arrive_none : (n k : ℕ) (x z : WorldState) → None ≡ packet_in (sent_at k x.book.post) → (u : Numbered) (c : Config) (taken : Taken) (w : World) → w.over ≡ None → packet_at w k ≡ Some u → Shows c taken w x → Shows c taken (arrives c n u w) z
 arrive_none n k x z is u c taken w o e sh =
@@ -220,6 +234,12 @@ deliver_yes n k x y b h t g c taken w o sh = at (packet_at w k) refl (h c taken 
     untrue : (d : Bool) → not d ≡ true → d ≡ false
     untrue true r = absurd (cc)
     untrue false r = refl
+
+pub deliver_wants_one : (k : ℕ) (x : WorldState) (fault : WorldFault) (b : Bool) → Answers (may_come k) x b → b ≡ true → ((u : Numbered) → WantsMemoryWithin (λ c w. (packet_at w k ≡ Some u) × CanHappen c u.packet.to (Receives u.packet) w) x fault) → WantsMemoryWithin (λ c w. WherePacket (CanHappen c) (packet_at w k) w) x fault
+deliver_wants_one k x fault b h t wants c taken w o sh need = at (packet_at w k) refl (h c taken w o sh ∙ t) need where
+  at : (q : Option Numbered) → packet_at w k ≡ q → comes_if w q ≡ true → WherePacket (CanHappen c) q w → fault ≡ NoMemory
+  at None e f n = absurd (cc)
+  at (Some u) e f n = wants u c taken w o sh (e, n)
 
 pub deliver_no : (n k : ℕ) (x y : WorldState) (b : Bool) → Answers (may_come k) x b → b ≡ false → Follows (λ c w. voids n w) x y → FollowsWithin (λ c w. delivers_line c n (packet_at w k) w) x y
 deliver_no n k x y b h t g c taken w o sh = at (packet_at w k) (h c taken w o sh ∙ t) where

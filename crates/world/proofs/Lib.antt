@@ -11,3 +11,4 @@ pub mod LineLaws
 pub mod Reading
 pub mod Pending
 pub mod Versions
+pub mod Wanting

@@ -59,11 +59,11 @@ tick_more n at s x y z l e h g c taken w sh =
 
 -- ---- deliveries ----
 
-within_limits : (v : World) (u : Numbered) (o : Option Limit) → next_packet_of v o ≡ Some u → o ≡ None
+pub within_limits : (v : World) (u : Numbered) (o : Option Limit) → next_packet_of v o ≡ Some u → o ≡ None
 within_limits v u (Some l) e = absurd (cc)
 within_limits v u None e = refl
 
-found : (q : Option Numbered) (k : ℕ) → number_in q ≡ Some k → (u : Numbered) × ((q ≡ Some u) × (u.number ≡ k))
+pub found : (q : Option Numbered) (k : ℕ) → number_in q ≡ Some k → (u : Numbered) × ((q ≡ Some u) × (u.number ≡ k))
 found None k e = absurd (cc)
 found (Some u) k e = (u, (refl, cc))
 

@@ -31,6 +31,11 @@ impl From<NoMemory> for WorldFault {
 }
 
 impl From<BookFault> for WorldFault {
+    ghost use Rattle.world.specs.Faults.{fault_of_book};
+    ghost use Rattle.std.specs.Prelude.{◌≡◌};
+
+    ghost from_gives = { λ refused fault. fault ≡ fault_of_book refused };
+
     fn from(fault: BookFault) -> WorldFault {
         match fault {
             BookFault::NoMemory => WorldFault::NoMemory,
@@ -40,6 +45,11 @@ impl From<BookFault> for WorldFault {
 }
 
 impl From<PlaceFault> for WorldFault {
+    ghost use Rattle.world.specs.Faults.{fault_of_place};
+    ghost use Rattle.std.specs.Prelude.{◌≡◌};
+
+    ghost from_gives = { λ refused fault. fault ≡ fault_of_place refused };
+
     fn from(fault: PlaceFault) -> WorldFault {
         match fault {
             PlaceFault::NoMemory => WorldFault::NoMemory,

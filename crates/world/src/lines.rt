@@ -1,11 +1,13 @@
-ghost use Rattle.std.specs.Prelude.{not, OnOk, IfErr};
+ghost use Rattle.std.specs.Prelude.{◌≡◌, not, false, None, Err, OnOk, IfErr};
+ghost use Rattle.locus_ids.specs.declared.config.Config.{Config};
 ghost use Rattle.role_steps.specs.Views.{Calls};
-ghost use Rattle.the_run.specs.Worlds.{place_at, is_cut, arms, happens};
+ghost use Rattle.the_run.specs.Worlds.{World as RunWorld, place_at, is_cut, arms, happens};
 ghost use Rattle.the_run.specs.Runs.{is_stopped, is_in_no_epoch, is_busy, unless_void, stops_line, boots_line, cuts_circuit, mends_circuit, act};
 ghost use Rattle.site_place.specs.Places.{event_of, armed_by};
 ghost use Rattle.world.specs.States.{state_of};
-ghost use Rattle.world.specs.Shown.{FollowsWithin};
-ghost use Rattle.world.specs.Faults.{MayCome};
+ghost use Rattle.world.specs.Shown.{Taken, Shows, FollowsWithin};
+ghost use Rattle.world.specs.Faults.{MayCome, WantsMemory, WantsMemoryWithin};
+ghost use Rattle.complete_laws.specs.Lines.{CanBoot, CanDo, CanHappen};
 
 use crate::{World, WorldFault};
 use locus_ids::{NoMemory, SiteId};
@@ -16,7 +18,8 @@ use trace_book::Call;
 impl World {
     /// A call of a process, void where the process is busy.
     fn call(&mut self, line: u32, site: SiteId, process: u8, call: Call) -> Result<(), WorldFault>
-        ensures { OnOk result (FollowsWithin (λ c w. unless_void line (is_busy process (place_at w site)) (happens c line site (Calls process call)) w) (state_of self.old) (state_of self.new)) }
+        ensures step { OnOk result (FollowsWithin (λ c w. unless_void line (is_busy process (place_at w site)) (happens c line site (Calls process call)) w) (state_of self.old) (state_of self.new)) }
+        ensures fit { IfErr result (WantsMemoryWithin (λ c w. is_busy process (place_at w site) ≡ false → CanHappen c site (Calls process call) w) (state_of self.old)) }
     {
         let is_void = self.is_busy(site, process);
         self.happen_unless(line, is_void, site, SiteEvent::Call { process, call })?;
@@ -25,7 +28,8 @@ impl World {
 
     /// A tick or a merge, void where the site doesn't run.
     fn stir(&mut self, line: u32, site: SiteId, event: SiteEvent) -> Result<(), WorldFault>
-        ensures { OnOk result (FollowsWithin (λ c w. unless_void line (is_stopped (place_at w site)) (happens c line site (event_of event)) w) (state_of self.old) (state_of self.new)) }
+        ensures step { OnOk result (FollowsWithin (λ c w. unless_void line (is_stopped (place_at w site)) (happens c line site (event_of event)) w) (state_of self.old) (state_of self.new)) }
+        ensures fit { IfErr result (WantsMemory (λ c w. CanHappen c site (event_of event) w) (state_of self.old)) }
     {
         let is_void = self.is_stopped(site);
         self.happen_unless(line, is_void, site, event)?;
@@ -34,7 +38,8 @@ impl World {
 
     /// A parting or a giving up, void where the site is in no epoch.
     fn leave(&mut self, line: u32, site: SiteId, event: SiteEvent) -> Result<(), WorldFault>
-        ensures { OnOk result (FollowsWithin (λ c w. unless_void line (is_in_no_epoch (place_at w site)) (happens c line site (event_of event)) w) (state_of self.old) (state_of self.new)) }
+        ensures step { OnOk result (FollowsWithin (λ c w. unless_void line (is_in_no_epoch (place_at w site)) (happens c line site (event_of event)) w) (state_of self.old) (state_of self.new)) }
+        ensures fit { IfErr result (WantsMemoryWithin (λ c w. is_in_no_epoch (place_at w site) ≡ false → CanHappen c site (event_of event) w) (state_of self.old)) }
     {
         let is_void = self.is_in_no_epoch(site);
         self.happen_unless(line, is_void, site, event)?;
@@ -61,7 +66,8 @@ impl World {
 
     /// The site boots, void where it runs or isn't there.
     fn boot(&mut self, line: u32, site: SiteId) -> Result<(), StartFault>
-        ensures { OnOk result (FollowsWithin (λ c w. boots_line line site (place_at w site) w) (state_of self.old) (state_of self.new)) }
+        ensures step { OnOk result (FollowsWithin (λ c w. boots_line line site (place_at w site) w) (state_of self.old) (state_of self.new)) }
+        ensures spent { result ≡ Err StartFault.Spent → (c : Config) (taken : Taken) (w : RunWorld) → w.over ≡ None → Shows c taken w (state_of self.old) → CanBoot (Line.Boot site) w → ⊥ }
     {
         let at = usize::from(site.get()) - 1;
         if at >= self.places.len() {
@@ -115,6 +121,7 @@ impl World {
     pub(crate) fn act(&mut self, number: u32, line: Line) -> Result<(), WorldFault>
         ensures step { OnOk result (FollowsWithin (λ c w. act c number line w) (state_of self.old) (state_of self.new)) }
         ensures fault { IfErr result (MayCome line) }
+        ensures fit { IfErr result (WantsMemoryWithin (λ c w. CanDo c number line w) (state_of self.old)) }
     {
         match line {
             Line::Call {

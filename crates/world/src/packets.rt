@@ -1,4 +1,4 @@
-ghost use Rattle.std.specs.Prelude.{◌≡◌, ℕ, List, [], map, Some, None, true, IfSome, IfOk, OnOk};
+ghost use Rattle.std.specs.Prelude.{◌≡◌, ℕ, List, [], map, Some, None, true, IfErr, IfSome, IfOk, OnOk};
 ghost use Rattle.locus_ids.specs.declared.config.Config.{Config};
 ghost use Rattle.role_steps.specs.Views.{Receives};
 ghost use Rattle.the_run.specs.Worlds.{World as RunWorld, Numbered, place_at, happens};
@@ -6,6 +6,9 @@ ghost use Rattle.the_run.specs.Runs.{packet_at, next_packet, arrives, arrives_at
 ghost use Rattle.packet_mail.specs.Posts.{is_sent};
 ghost use Rattle.world.specs.States.{state_of, state_at};
 ghost use Rattle.world.specs.Shown.{Taken, Shows, Follows, FollowsWithin, Answers};
+ghost use Rattle.world.specs.Faults.{WantsMemory, WantsMemoryWithin};
+ghost use Rattle.complete_laws.specs.Lines.{CanHappen};
+ghost use Rattle.complete_laws.specs.MomentEvents.{WherePacket};
 ghost use Rattle.world.specs.Listed.{may_come, may_be_lost, next_number, listed, is_taken};
 
 use crate::{World, WorldFault};
@@ -95,7 +98,8 @@ impl World {
 
     /// The packet comes to the site that it names.
     fn receive(&mut self, line: u32, packet: Packet) -> Result<(), WorldFault>
-        ensures { OnOk result (Follows (λ c w. happens c line packet.to (Receives packet) w) (state_of self.old) (state_of self.new)) }
+        ensures step { OnOk result (Follows (λ c w. happens c line packet.to (Receives packet) w) (state_of self.old) (state_of self.new)) }
+        ensures fit { IfErr result (WantsMemory (λ c w. CanHappen c packet.to (Receives packet) w) (state_of self.old)) }
     {
         let to = packet.to;
         self.happen(line, to, SiteEvent::Receive { packet })?;
@@ -104,7 +108,8 @@ impl World {
 
     /// The packet has come to the site that it names, where that runs and doesn't drop it.
     fn hand_over(&mut self, line: u32, packet: Packet) -> Result<(), WorldFault>
-        ensures { OnOk result (FollowsWithin (λ c w. arrives_at c line packet (place_at w packet.to) w) (state_of self.old) (state_of self.new)) }
+        ensures step { OnOk result (FollowsWithin (λ c w. arrives_at c line packet (place_at w packet.to) w) (state_of self.old) (state_of self.new)) }
+        ensures fit { IfErr result (WantsMemory (λ c w. CanHappen c packet.to (Receives packet) w) (state_of self.old)) }
     {
         if !self.is_taken(&packet) {
             drop(packet);
@@ -116,7 +121,8 @@ impl World {
 
     /// A packet arrives, for the first time or again.
     pub(crate) fn arrive(&mut self, line: u32, number: u32) -> Result<(), WorldFault>
-        ensures { OnOk result ((x : Numbered) (c : Config) (taken : Taken) (w : RunWorld) → w.over ≡ None → packet_at w number ≡ Some x → Shows c taken w (state_of self.old) → Shows c taken (arrives c line x w) (state_of self.new)) }
+        ensures step { OnOk result ((x : Numbered) (c : Config) (taken : Taken) (w : RunWorld) → w.over ≡ None → packet_at w number ≡ Some x → Shows c taken w (state_of self.old) → Shows c taken (arrives c line x w) (state_of self.new)) }
+        ensures fit { IfErr result (λ fault. (x : Numbered) → WantsMemoryWithin (λ c w. (packet_at w number ≡ Some x) × CanHappen c x.packet.to (Receives x.packet) w) (state_of self.old) fault) }
     {
         let found = self.book.mail().packet(self.alloc, number)?;
         let Some(packet) = found else {
@@ -129,7 +135,8 @@ impl World {
 
     /// The packet is delivered, void where it wasn't sent, is lost or can't come.
     pub(crate) fn deliver(&mut self, line: u32, number: u32) -> Result<(), WorldFault>
-        ensures { OnOk result (FollowsWithin (λ c w. delivers_line c line (packet_at w number) w) (state_of self.old) (state_of self.new)) }
+        ensures step { OnOk result (FollowsWithin (λ c w. delivers_line c line (packet_at w number) w) (state_of self.old) (state_of self.new)) }
+        ensures fit { IfErr result (WantsMemoryWithin (λ c w. WherePacket (CanHappen c) (packet_at w number) w) (state_of self.old)) }
     {
         if self.may_come(number) {
             self.arrive(line, number)?;

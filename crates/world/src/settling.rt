@@ -1,8 +1,11 @@
-ghost use Rattle.std.specs.Prelude.{OnOk};
+ghost use Rattle.std.specs.Prelude.{IfErr, OnOk};
 ghost use Rattle.role_steps.specs.Views.{all_sites};
 ghost use Rattle.the_run.specs.Runs.{ticks_to, delivers, settles};
 ghost use Rattle.world.specs.States.{state_of};
 ghost use Rattle.world.specs.Shown.{Follows, FollowsWithin};
+ghost use Rattle.world.specs.Faults.{WantsMemory};
+ghost use Rattle.complete_laws.specs.Lines.{CanHappen};
+ghost use Rattle.complete_laws.specs.MomentEvents.{WhereDelivered, WhereTicks};
 
 use crate::{World, WorldFault};
 use epoch_rules::site_at;
@@ -12,7 +15,8 @@ use trace_book::Record;
 impl World {
     /// Each running site ticks, in ascending order.
     fn tick_all(&mut self, line: u32) -> Result<(), WorldFault>
-        ensures { OnOk result (Follows (λ c w. ticks_to c line all_sites w) (state_of self.old) (state_of self.new)) }
+        ensures step { OnOk result (Follows (λ c w. ticks_to c line all_sites w) (state_of self.old) (state_of self.new)) }
+        ensures fit { IfErr result (WantsMemory (λ c w. WhereTicks (CanHappen c) c line all_sites w) (state_of self.old)) }
     {
         for at in 0..16 {
             self.happen(line, site_at(at), SiteEvent::Tick)?;
@@ -22,7 +26,8 @@ impl World {
 
     /// Packets are delivered, the lowest-numbered first, so often at most as the budget says.
     fn deliver_all(&mut self, line: u32, budget: u32) -> Result<(), WorldFault>
-        ensures { OnOk result (Follows (λ c w. delivers c line budget w) (state_of self.old) (state_of self.new)) }
+        ensures step { OnOk result (Follows (λ c w. delivers c line budget w) (state_of self.old) (state_of self.new)) }
+        ensures fit { IfErr result (WantsMemory (λ c w. WhereDelivered (CanHappen c) c line budget w) (state_of self.old)) }
     {
         let mut left = budget;
         while left > 0 {
@@ -41,7 +46,8 @@ impl World {
 
     /// A round: each running site ticks, and then packets are delivered.
     pub(crate) fn settle(&mut self, line: u32, budget: u32) -> Result<(), WorldFault>
-        ensures { OnOk result (FollowsWithin (λ c w. settles c line budget w) (state_of self.old) (state_of self.new)) }
+        ensures step { OnOk result (FollowsWithin (λ c w. settles c line budget w) (state_of self.old) (state_of self.new)) }
+        ensures fit { IfErr result (WantsMemory (λ c w. WhereTicks (CanHappen c) c line all_sites w × WhereDelivered (CanHappen c) c line budget (ticks_to c line all_sites w)) (state_of self.old)) }
     {
         self.tick_all(line)?;
         self.deliver_all(line, budget)?;

@@ -1,9 +1,11 @@
-ghost use Rattle.std.specs.Prelude.{◌≡◌, ◌≤◌, ◌==◌, ◌&&◌, not, [], ◌∷◌, IfOk, OnOk};
+ghost use Rattle.std.specs.Prelude.{◌≡◌, ◌≤◌, ◌==◌, ◌&&◌, not, false, [], ◌∷◌, IfErr, IfOk, OnOk};
 ghost use Rattle.the_run.specs.Worlds.{place_at, boot_of, links_of, is_up, happens, voids, says_only};
 ghost use Rattle.the_run.specs.Runs.{is_stopped, is_in_no_epoch, is_busy, unless_void};
 ghost use Rattle.site_place.specs.Places.{event_of};
 ghost use Rattle.world.specs.States.{state_of, boot_at, boots_of};
 ghost use Rattle.world.specs.Shown.{Follows, Answers};
+ghost use Rattle.world.specs.Faults.{WantsMemory};
+ghost use Rattle.complete_laws.specs.Lines.{CanHappen};
 
 use crate::{World, WorldFault};
 use locus_ids::{Links, NoMemory, SiteId};
@@ -134,17 +136,22 @@ impl World {
         self.tell(line, Record::Void)
     }
 
-    /// An event of a site, where it runs.
+    /// An event of a site, where it runs and no limit was passed.
     pub(crate) fn happen(
         &mut self,
         line: u32,
         site: SiteId,
         event: SiteEvent,
     ) -> Result<(), WorldFault>
-        ensures { OnOk result (Follows (λ c w. happens c line site (event_of event) w) (state_of self.old) (state_of self.new)) }
+        ensures step { OnOk result (Follows (λ c w. happens c line site (event_of event) w) (state_of self.old) (state_of self.new)) }
+        ensures fit { IfErr result (WantsMemory (λ c w. CanHappen c site (event_of event) w) (state_of self.old)) }
     {
-        let at = usize::from(site.get()) - 1;
         // An event that doesn't happen is dropped by a call, so that no proof here has a case for each kind of event.
+        if self.book.passed().is_some() {
+            drop(event);
+            return Ok(());
+        }
+        let at = usize::from(site.get()) - 1;
         if at >= self.places.len() {
             drop(event);
             return Ok(());
@@ -167,7 +174,8 @@ impl World {
         site: SiteId,
         event: SiteEvent,
     ) -> Result<(), WorldFault>
-        ensures { OnOk result (Follows (λ c w. unless_void line is_void (happens c line site (event_of event)) w) (state_of self.old) (state_of self.new)) }
+        ensures step { OnOk result (Follows (λ c w. unless_void line is_void (happens c line site (event_of event)) w) (state_of self.old) (state_of self.new)) }
+        ensures fit { IfErr result (WantsMemory (λ c w. is_void ≡ false → CanHappen c site (event_of event) w) (state_of self.old)) }
     {
         if is_void {
             drop(event);

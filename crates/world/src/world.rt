@@ -1,4 +1,4 @@
-ghost use Rattle.std.specs.Prelude.{◌≡◌, ℕ, ◌+◌, List, [], ◌∷◌, ◌++◌, length, IfOk, IfErr, OnOk, min};
+ghost use Rattle.std.specs.Prelude.{◌≡◌, ◌≤◌, ℕ, ◌+◌, List, [], ◌∷◌, ◌++◌, length, IfOk, IfErr, OnOk, min};
 ghost use Rattle.locus_ids.specs.declared.config.Config.{Config};
 ghost use Rattle.schedule_lines.specs.declared.line.ScheduleLine.{ScheduleLine};
 ghost use Rattle.schedule_lines.specs.declared.line.ScheduleLine.TheVariants.{Event};
@@ -9,6 +9,10 @@ ghost use Rattle.run_book.specs.Writings.{written_of, counts_in};
 ghost use Rattle.run_book.specs.Ledgers.{limit_in, books};
 ghost use Rattle.world.specs.States.{state_of, AreFirst};
 ghost use Rattle.world.specs.Shown.{Taken, nothing_taken, all_taken, Shows, Follows};
+ghost use Rattle.std.specs.List.{AllByRecursion};
+ghost use Rattle.packet_order.specs.Counts.{FitsIfCounted};
+ghost use Rattle.row_laws.specs.Voids.{LinesFit};
+ghost use Rattle.order_laws.specs.Joining.{PacksAreOfSites};
 ghost use Rattle.world.specs.Faults.{MayCome};
 ghost use Rattle.copy_laws.specs.Hold.{VersionsAndCopiesHold};
 
@@ -96,6 +100,7 @@ impl World {
         ensures places { OnOk result (self.new.places.items ≡ self.old.places.items) }
         ensures cuts { OnOk result (self.new.cuts ≡ self.old.cuts) }
         ensures book { OnOk result (self.new.book ≡ books line out.now.packets out.now.records self.old.book) }
+        ensures fit { IfErr result (λ fault. AllByRecursion FitsIfCounted out.now.packets → fault ≡ WorldFault.NoMemory) }
     {
         self.book.happened(line, out)?;
         Ok(())
@@ -119,11 +124,12 @@ impl World {
 
     /// Does a line of a schedule as the run says, with its number. Whatever world of the run is shown before, after it that world
     /// is shown as the line leaves it. Where that is the run of some lines, it's then that of these lines with this one, and of its
-    /// versions holds what does of every run's.
+    /// versions holds what does of every run's; and where these lines and this one are in range, nothing but memory may be wanting.
     pub fn step(&mut self, number: u32, line: Line) -> Result<(), WorldFault>
         ensures step { OnOk result (Follows (λ c w. act c number line w) (state_of self.old) (state_of self.new)) }
         ensures versions { (c : Config) (lines : List ScheduleLine) (taken : Taken) → number ≡ length lines + 1 → Shows c taken (run_in c lines) (state_of self.old) → OnOk result (Shows c taken (run_in c (lines ++ Event line ∷ [])) (state_of self.new) × VersionsAndCopiesHold c (run_in c (lines ++ Event line ∷ []))) }
         ensures fault { IfErr result (MayCome line) }
+        ensures complete { (c : Config) (lines : List ScheduleLine) (taken : Taken) → number ≡ length lines + 1 → LinesFit c (lines ++ Event line ∷ []) → PacksAreOfSites c → length c.packs ≤ 4 → Shows c taken (run_in c lines) (state_of self.old) → IfErr result (λ fault. fault ≡ WorldFault.NoMemory) }
     {
         if self.book.passed().is_some() {
             return Ok(());

@@ -1,7 +1,7 @@
 use Rattle.std.proofs.Common.{◌≡◌, ◌∙◌, ap, sym, subst, rules}
 use Rattle.std.specs.List.{All}
-use Rattle.clap.specs.Walk.{texts}
-use Rattle.command_words.specs.FlatCommand.{IsPlain}
+use Rattle.given_words.specs.Plain.{texts}
+use Rattle.given_words.specs.Plain.{IsPlain}
 use Rattle.command_words.proofs.PlainWords.{command_plain}
 use Rattle.command_words.proofs.command.read_words.Goals as goal
 

@@ -2,8 +2,8 @@ use Rattle.std.proofs.Common.{◌≡◌, ◌∙◌, ◌++◌, [], ◌∷◌, ap,
 use Rattle.std.specs.List.{All}
 use Rattle.std.proofs.lemmas.List.{map-append, take_all, take_more}
 use Rattle.std.proofs.lemmas.List.Elements.{All-push}
-use Rattle.clap.specs.Walk.{texts}
-use Rattle.command_words.specs.FlatCommand.{IsPlain}
+use Rattle.given_words.specs.Plain.{texts}
+use Rattle.given_words.specs.Plain.{IsPlain}
 use Rattle.command_words.proofs.plain_words.plain_words.Goals as goal
 
 pub loop-word-preserved : goal.loop-word-preserved

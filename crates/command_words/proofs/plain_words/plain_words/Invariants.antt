@@ -1,7 +1,7 @@
 use Rattle.std.proofs.Common.{◌≡◌, take}
 use Rattle.std.specs.List.{All}
-use Rattle.clap.specs.Walk.{texts}
-use Rattle.command_words.specs.FlatCommand.{IsPlain}
+use Rattle.given_words.specs.Plain.{texts}
+use Rattle.given_words.specs.Plain.{IsPlain}
 use Rattle.command_words.proofs.plain_words.plain_words.Given as goal
 
 abbrev pub invariant-loop-word : goal.invariant-loop-word

@@ -1,4 +1,4 @@
-use Rattle.std.proofs.Common.{◌≡◌, Err, ap, sym, subst, ◌∙◌, inl, inr, refl}
+use Rattle.std.proofs.Common.{Err, ap, sym, subst, ◌∙◌, inl, inr, refl}
 use Rattle.std.proofs.lemmas.Bool.{false≢true}
 use Rattle.locus_main.specs.declared.status.Status.{Status}
 use Rattle.locus_main.specs.declared.status.Status.TheVariants as status
@@ -8,6 +8,7 @@ use Rattle.locus_main.specs.Promises.{LinePromises}
 use Rattle.locus_main.proofs.Complete.{for_memory}
 use Rattle.locus_main.proofs.Openings.{tree_opens, not_opened, no_other, memory_or_world}
 use Rattle.locus_main.proofs.Runs.{Nothing-front}
+use Rattle.locus_main.proofs.Turns.{memory_no_world, world_is}
 use Rattle.locus_main.proofs.commands.tree.Goals as goal
 
 pub run_lines-requires-clause-opened : goal.run_lines-requires-clause-opened
@@ -41,7 +42,10 @@ returns-in-Ok-new-clause-write_fault g c = c.run_lines.ensures.write_fault
 pub returns-in-Err-clause-promises : goal.returns-in-Err-clause-promises
 returns-in-Err-clause-promises g c =
     let P : Status → Type 0 = λ s. LinePromises Calls s (g.S.Source.left c.args.source.now) (g.S.Source.left c.args.source.now) (g.K.Sink.taken c.args.sink.now) (g.K.Sink.taken c.args.sink.now) in
-    subst P (sym c.status_of.ensures) (not_opened c.in-Err.fault 0 _ _ _ (λ e. c.new.ensures.good (c.in-Err.is ∙ ap Err e)))
+    subst P (sym c.status_of.ensures) (not_opened c.in-Err.fault 0 _ _ _ (λ e. c.new.ensures.good (c.in-Err.is ∙ ap Err e))
+    (λ s.
+    let w = world_is c.in-Err.fault 0 s in
+    memory_no_world c.in-Err.fault 0 w.0 w.1 (c.new.ensures.complete w.0 (c.in-Err.is ∙ ap Err w.1)) s))
 
 pub returns-in-Err-clause-words : goal.returns-in-Err-clause-words
 returns-in-Err-clause-words g c = λ e. memory_or_world _ status.BadWords (no_other c.in-Err.fault 0 (λ f. c.new.ensures.good (c.in-Err.is ∙ ap Err f))) (λ x. cc) (λ x. cc) (sym c.status_of.ensures ∙ e)
@@ -77,3 +81,17 @@ returns-clause-read_fault g c = λ e. absurd (cc)
 
 pub returns-clause-write_fault : goal.returns-clause-write_fault
 returns-clause-write_fault g c = λ e. absurd (cc)
+
+-- ---- no fault of the world ----
+
+pub returns-in-Ok-new-clause-complete : goal.returns-in-Ok-new-clause-complete
+returns-in-Ok-new-clause-complete g c = c.run_lines.ensures.complete
+
+pub returns-in-Err-clause-complete : goal.returns-in-Err-clause-complete
+returns-in-Err-clause-complete g c = λ e.
+    let s = sym c.status_of.ensures ∙ e in
+    let w = world_is c.in-Err.fault 0 s in
+    memory_no_world c.in-Err.fault 0 w.0 w.1 (c.new.ensures.complete w.0 (c.in-Err.is ∙ ap Err w.1)) s
+
+pub returns-clause-complete : goal.returns-clause-complete
+returns-clause-complete g c = λ e. cc

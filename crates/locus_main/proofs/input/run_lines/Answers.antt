@@ -1,4 +1,4 @@
-use Rattle.std.proofs.Common.{Bool, true, false, cond, ◌≡◌, ◌+◌, ◌≤◌, List, [], ℕ, None, Some, Ok, Err, ap, sym, ◌∙◌, subst, arith, refl, inl, inr, length, ⊎_elim}
+use Rattle.std.proofs.Common.{Bool, true, false, cond, ◌≡◌, ◌+◌, ◌≤◌, List, [], ℕ, None, Ok, Err, ap, sym, ◌∙◌, subst, arith, refl, length}
 use Rattle.std.proofs.lemmas.Bool.{false≢true}
 use Rattle.std.specs.Io.KnownBytes.{Keeps, IsAtEnd}
 use Rattle.line_reader.specs.Reading.{to_read, ReadsLine, EndsInFeed}
@@ -9,7 +9,7 @@ use Rattle.locus_main.specs.declared.status.Status.TheVariants as status
 use Rattle.locus_main.specs.declared.status.Limited.TheVariants as what
 use Rattle.locus_main.proofs.Complete.{keeps_promises}
 use Rattle.locus_main.proofs.Told.{end_by, since_then}
-use Rattle.locus_main.proofs.Runs.{SoFar, Turns, SoFar-start, SoFar-next, Ends-whole, Ends-short, Ends-bad, Ends-long, Ends-many, Ends-fault, Ends-front, Ends-limit, Ends-world, Ends-cut, Opens-front, Opens-limit}
+use Rattle.locus_main.proofs.Runs.{SoFar, Turns, SoFar-start, SoFar-next, Ends-whole, Ends-short, Ends-bad, Ends-long, Ends-many, Ends-fault, Ends-front, Ends-limit, Ends-cut, Opens-front, Opens-limit}
 use Rattle.locus_main.proofs.Turns.{ends_not, telling_not, reads_end, reads_not, no_read_limit, rose_since}
 use Rattle.locus_main.proofs.input.run_lines.Goals as goal
 
@@ -24,7 +24,7 @@ returns-in-Err-clause-promises g c = keeps_promises g.R.LineRunner.input _ _ _ _
   long_line = λ e. absurd (telling_not _ (status.Limit what.Line) c.in-Err.ensures.only refl e);
   many_lines = λ e. absurd (telling_not _ (status.Limit what.Lines) c.in-Err.ensures.only refl e);
   limit = λ l e. Opens-limit g.R.LineRunner.stands _ _ l _ _ _ (c.in-Err.ensures.limit [] (opening_of g.R.LineRunner.input) [] l c.requires.opened (ap Err e));
-  world_fault = λ e. absurd (telling_not _ status.WorldFault c.in-Err.ensures.only refl e);
+  world = λ e. telling_not _ status.WorldFault c.in-Err.ensures.only refl e;
   front = Opens-front _ _ _ _ (c.in-Err.ensures.err [] (opening_of g.R.LineRunner.input) [] c.requires.opened);
 })
 
@@ -68,7 +68,7 @@ returns-then-may_end_here-clause-promises g c =
       long_line = λ e. absurd (cc);
       many_lines = λ e. absurd (cc);
       limit = λ l e. absurd (cc);
-      world_fault = λ e. absurd (cc);
+      world = λ e. cc;
       front = Ends-front _ _ _ _ _ _ _ _ _ c.loop-runner.invariant.so_far;
     })
 
@@ -102,7 +102,7 @@ returns-in-Ok-false-clause-promises g c =
       long_line = λ e. absurd (cc);
       many_lines = λ e. absurd (cc);
       limit = λ l e. absurd (cc);
-      world_fault = λ e. absurd (cc);
+      world = λ e. cc;
       front = Ends-front _ _ _ _ _ _ _ _ _ c.loop-runner.invariant.so_far;
     })
 
@@ -138,7 +138,7 @@ returns-in-Err-next_line-clause-promises g c = keeps_promises g.R.LineRunner.inp
   long_line = λ e. Ends-long _ _ _ _ _ _ _ _ _ _ _ c.loop-runner.invariant.so_far (c.in-Err-next_line.ensures.long (ap Err e)) c.loop-runner.invariant.limit (c.in-Err-next_line.ensures.early (ap Err e));
   many_lines = λ e. Ends-many _ _ _ _ _ _ _ _ _ _ c.loop-runner.invariant.so_far (c.in-Err-next_line.ensures.many (ap Err e)) (c.in-Err-next_line.ensures.full (ap Err e));
   limit = λ l e. absurd (reads_not _ (status.Limit (limited l)) (reads_end _ c.in-Err-next_line.ensures.only) (no_read_limit l) e);
-  world_fault = λ e. absurd (reads_not _ status.WorldFault (reads_end _ c.in-Err-next_line.ensures.only) refl e);
+  world = λ e. reads_not _ status.WorldFault (reads_end _ c.in-Err-next_line.ensures.only) refl e;
   front = Ends-front _ _ _ _ _ _ _ _ _ c.loop-runner.invariant.so_far;
 })
 
@@ -210,10 +210,7 @@ returns-in-Err-take_turn-clause-promises g c =
       many_lines = λ e. absurd (ends_not _ (status.Limit what.Lines) c.in-Err-take_turn.ensures.only refl e);
       limit = λ l e. Ends-limit _ _ _ _ _ _ _ _ l _ _ _ _ _ _ s (c.number-in-loop-runner.ensures ∙ counted) few (subst Short (sym c.bytes.ensures) short) reads
           (λ all lines counts told. c.in-Err-take_turn.ensures.limit all lines l counts told (ap Err e));
-      world_fault = λ e.
-          let w = c.in-Err-take_turn.ensures.world s.bytes s.lines s.told (ap Err e) in
-          rw w.1 (Ends-world _ _ _ _ _ _ _ _ _ _ _ _ s (c.number-in-loop-runner.ensures ∙ counted) few (subst Short (sym c.bytes.ensures) short) reads
-          (λ all lines told. (c.in-Err-take_turn.ensures.world all lines told (ap Err e)).0));
+      world = λ e. c.in-Err-take_turn.ensures.complete s.bytes s.lines (c.number-in-loop-runner.ensures ∙ (counted ∙ ap (λ (n : ℕ). n + 1) (sym s.counted))) s.told (ap Err e);
       front = Ends-cut _ _ _ _ _ _ _ _ _ _ _ _ _ s (c.number-in-loop-runner.ensures ∙ counted) reads (λ all lines counts told. c.in-Err-take_turn.ensures.err all lines counts told);
     })
 
@@ -228,3 +225,23 @@ returns-in-Err-take_turn-clause-read_fault g c = λ e. absurd (ends_not _ status
 
 pub returns-in-Err-take_turn-clause-write_fault : goal.returns-in-Err-take_turn-clause-write_fault
 returns-in-Err-take_turn-clause-write_fault g c = λ e. rose_since _ _ _ c.loop-runner.invariant.sink (c.in-Err-take_turn.ensures.failed (ap Err e))
+
+-- ---- no fault of the world ----
+
+pub returns-in-Err-clause-complete : goal.returns-in-Err-clause-complete
+returns-in-Err-clause-complete g c = λ e. telling_not _ status.WorldFault c.in-Err.ensures.only refl e
+
+pub returns-then-may_end_here-clause-complete : goal.returns-then-may_end_here-clause-complete
+returns-then-may_end_here-clause-complete g c = λ e. cc
+
+pub returns-in-Ok-false-clause-complete : goal.returns-in-Ok-false-clause-complete
+returns-in-Ok-false-clause-complete g c = λ e. cc
+
+pub returns-in-Err-next_line-clause-complete : goal.returns-in-Err-next_line-clause-complete
+returns-in-Err-next_line-clause-complete g c = λ e. reads_not _ status.WorldFault (reads_end _ c.in-Err-next_line.ensures.only) refl e
+
+pub returns-in-Err-take_turn-clause-complete : goal.returns-in-Err-take_turn-clause-complete
+returns-in-Err-take_turn-clause-complete g c = λ e.
+    let s = c.loop-runner.invariant.so_far in
+    let counted : c.next_line.new.reader.number ≡ c.loop-runner.reader.number + 1 = c.in-Ok-true.ensures.counted (ap Ok c.in-Ok-true.field-0-test) in
+    c.in-Err-take_turn.ensures.complete s.bytes s.lines (c.number-in-loop-runner.ensures ∙ (counted ∙ ap (λ (n : ℕ). n + 1) (sym s.counted))) s.told (ap Err e)

@@ -1,8 +1,8 @@
-use Rattle.std.proofs.Common.{◌≡◌, Err, ◌++◌, ◌∷◌, [], true, ap, sym, ◌∙◌, inl, inr, refl, arith}
+use Rattle.std.proofs.Common.{◌≡◌, Err, true, ap, sym, ◌∙◌, inl, inr, refl, arith}
 use Rattle.locus_main.specs.Codes.{limited}
 use Rattle.locus_main.specs.declared.status.Status.TheVariants as status
 use Rattle.locus_main.specs.Turns.{ends_telling}
-use Rattle.locus_main.proofs.Turns.{world_is, line_is_bad, faults_end, no_limit_is, no_write_is, keeps_same, same_err, then_ok, then_err, then_on_err, at_err, telling_ends, telling_not}
+use Rattle.locus_main.proofs.Turns.{memory_no_world, world_is, line_is_bad, faults_end, no_limit_is, no_write_is, keeps_same, same_err, then_ok, then_err, then_on_err, at_err, telling_ends, telling_not}
 use Rattle.locus_main.proofs.turn.take_turn.Goals as goal
 
 -- ---- the line was not done ----
@@ -14,11 +14,6 @@ pub returns-in-Err-clause-bad : goal.returns-in-Err-clause-bad
 returns-in-Err-clause-bad g c = λ all lines line told e.
     let b = line_is_bad c.in-Err.fault c.args.number line (sym c.status_of.ensures ∙ same_err _ _ e) in
     (b.1, c.run_next.ensures.bad all lines _ told (c.in-Err.is ∙ ap Err b.0), refl)
-
-pub returns-in-Err-clause-world : goal.returns-in-Err-clause-world
-returns-in-Err-clause-world g c = λ all lines told e.
-    let w = world_is c.in-Err.fault c.args.number (sym c.status_of.ensures ∙ same_err _ _ e) in
-    (c.run_next.ensures.world all lines _ w.0 told (c.in-Err.is ∙ ap Err w.1), refl)
 
 pub returns-in-Err-clause-err : goal.returns-in-Err-clause-err
 returns-in-Err-clause-err g c = λ all lines counts told. inl (keeps_same _)
@@ -53,9 +48,6 @@ returns-clause-flushed g c = c.tell.ensures.flushed
 pub returns-clause-bad : goal.returns-clause-bad
 returns-clause-bad g c = λ all lines line told e. absurd (telling_not _ (status.BadLine line) (at_err (λ s. ends_telling s ≡ true) c.tell.result _ c.tell.ensures.only e) refl refl)
 
-pub returns-clause-world : goal.returns-clause-world
-returns-clause-world g c = λ all lines told e. absurd (telling_not _ status.WorldFault (at_err (λ s. ends_telling s ≡ true) c.tell.result _ c.tell.ensures.only e) refl refl)
-
 pub returns-clause-err : goal.returns-clause-err
 returns-clause-err g c = λ all lines counts told.
     let n = c.in-Ok.ensures.ran all lines _ counts told in
@@ -72,3 +64,14 @@ returns-clause-held g c = c.tell.ensures.held
 
 pub returns-clause-later : goal.returns-clause-later
 returns-clause-later g c = c.tell.ensures.later
+
+-- ---- no fault of the world ----
+
+pub returns-in-Err-clause-complete : goal.returns-in-Err-clause-complete
+returns-in-Err-clause-complete g c = λ all lines counts told e.
+    let s = sym c.status_of.ensures ∙ same_err _ _ e in
+    let w = world_is c.in-Err.fault c.args.number s in
+    memory_no_world c.in-Err.fault c.args.number w.0 w.1 (c.run_next.ensures.complete all lines _ w.0 counts told (c.in-Err.is ∙ ap Err w.1)) s
+
+pub returns-clause-complete : goal.returns-clause-complete
+returns-clause-complete g c = λ all lines counts told e. telling_not _ status.WorldFault (at_err (λ s. ends_telling s ≡ true) c.tell.result _ c.tell.ensures.only e) refl refl

@@ -1,4 +1,4 @@
-use Rattle.std.proofs.Common.{◌≡◌, Err, Some, None, ap, sym, ◌∙◌, refl}
+use Rattle.std.proofs.Common.{◌≡◌, Err, Some, ap, sym, ◌∙◌, refl}
 use Rattle.run_book.specs.Ledgers.{limit_in}
 use Rattle.locus_main.specs.Codes.{limited}
 use Rattle.locus_main.proofs.Told.{AppendsFront-whole}

@@ -1,5 +1,5 @@
 use Rattle.rest_laws.proofs.Premises.{calls_known, files_ordered, makes_said}
-use Rattle.store_step_laws.proofs.Resting.{store_rests}
+use Rattle.rest_laws.proofs.StoreStepResting.{store_rests}
 use Rattle.rest_laws.proofs.laws.roles_rest_on_the_past.Goals as goal
 
 pub returns : goal.returns

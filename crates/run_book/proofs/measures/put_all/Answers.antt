@@ -1,5 +1,5 @@
 use Rattle.run_book.proofs.Parts.{part_next, part_posts}
-use Rattle.run_book.proofs.PartLetters.{PartLetters, letters_here, letters_behind}
+use Rattle.run_book.proofs.PartLetters.{letters_here, letters_behind}
 use Rattle.run_book.proofs.measures.put_all.Goals as goal
 
 pub put_part-requires-clause-packets : goal.put_part-requires-clause-packets

@@ -9,14 +9,14 @@ returns-in-Passes-clause-crash c =
     let old = c.args.self.now in
     let bytes = c.args.bytes.now in
     let n = length bytes in
-    let torn : Torn c.args.at n old.store.seen.items c.write.new.self.seen.items = subst (λ (l : List ℕ). Torn c.args.at n old.store.seen.items l) (sym c.write.ensures.seen) (torn_overwritten old.store.seen.items c.args.at bytes c.requires) in
+    let torn : Torn c.args.at n old.store.seen c.write.new.self.seen = subst (λ (l : List ℕ). Torn c.args.at n old.store.seen l) (sym c.write.ensures.seen) (torn_overwritten old.store.seen c.args.at bytes c.requires) in
     write_goes old (record { store = c.write.new.self; script = c.next_write.new.self }) c.args.at n c.requires torn c.write.ensures.unsynced
 
 pub returns-in-Stops-clause-failed : goal.returns-in-Stops-clause-failed
 returns-in-Stops-clause-failed c =
     let old = c.args.self.now in
     let bytes = c.args.bytes.now in
-    subst (λ (l : List ℕ). Torn c.args.at (length bytes) old.store.seen.items l) (sym c.stop_write.ensures.seen) (torn_left c.in-Stops.leave old.store.seen.items c.args.at bytes c.requires)
+    subst (λ (l : List ℕ). Torn c.args.at (length bytes) old.store.seen l) (sym c.stop_write.ensures.seen) (torn_left c.in-Stops.leave old.store.seen c.args.at bytes c.requires)
 
 pub returns-in-Stops-clause-crash : goal.returns-in-Stops-clause-crash
 returns-in-Stops-clause-crash c =

@@ -1,4 +1,5 @@
-use Rattle.locus_main.proofs.Standing.{schedule_number, schedule_on, schedule_refuses, schedule_may_stand}
+use Rattle.input_order_laws.proofs.Order.{read_in_order}
+use Rattle.locus_main.proofs.Standing.{schedule_number, schedule_on, schedule_refuses}
 use Rattle.locus_main.proofs.Turns.{then_ok}
 use Rattle.locus_main.proofs.runners.ScheduleRunnerLineRunner.run_next.Goals as goal
 
@@ -9,5 +10,7 @@ returns-clause-ran c = λ all lines taken number s.
 pub returns-clause-bad : goal.returns-clause-bad
 returns-clause-bad c = λ all lines taken s e. schedule_refuses all lines _ taken _ s (c.run_line.ensures.bad lines taken s.ran e)
 
-pub returns-clause-world : goal.returns-clause-world
-returns-clause-world c = λ all lines taken fault s e. schedule_may_stand all lines _ taken _ s (c.run_line.ensures.world lines taken fault s.ran e)
+pub returns-clause-complete : goal.returns-clause-complete
+returns-clause-complete c = λ all lines taken fault number s e.
+    let o = read_in_order all lines s.schedule in
+    c.run_line.ensures.complete lines taken fault (schedule_number all lines taken _ _ s number) o s.ran e

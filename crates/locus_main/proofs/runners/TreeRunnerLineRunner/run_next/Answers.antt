@@ -1,4 +1,5 @@
-use Rattle.locus_main.proofs.Standing.{tree_on, tree_refuses, tree_may_stand}
+use Rattle.locus_main.proofs.Order.{asked_on_cluster}
+use Rattle.locus_main.proofs.Standing.{tree_on, tree_refuses}
 use Rattle.locus_main.proofs.Turns.{then_ok}
 use Rattle.locus_main.proofs.runners.TreeRunnerLineRunner.run_next.Goals as goal
 
@@ -8,5 +9,7 @@ returns-clause-ran c = λ all lines taken number s. then_ok c.run_line.result (c
 pub returns-clause-bad : goal.returns-clause-bad
 returns-clause-bad c = λ all lines taken s e. tree_refuses all _ (c.run_line.ensures.bad s.calls taken s.ran e)
 
-pub returns-clause-world : goal.returns-clause-world
-returns-clause-world c = λ all lines taken fault s e. tree_may_stand all lines _ taken _ s (c.run_line.ensures.world s.calls taken fault s.ran e)
+pub returns-clause-complete : goal.returns-clause-complete
+returns-clause-complete c = λ all lines taken fault number s e.
+    let on = asked_on_cluster all s.calls s.asked in
+    c.run_line.ensures.complete s.calls taken fault on s.ran e

@@ -1,4 +1,4 @@
-use Rattle.std.proofs.Common.{◌≡◌, sym, ap, ◌∙◌}
+use Rattle.std.proofs.Common.{ap, ◌∙◌}
 use Rattle.packet_order.specs.Orders.{together, unsent}
 use Rattle.packet_order.proofs.Parts.{together_unsent}
 use Rattle.packet_order.proofs.dispatch.Dispatch.drop_packets.Goals as goal

@@ -1,7 +1,7 @@
 use Rattle.std.proofs.Common.{◌≡◌, ℕ, List, length, sym, ap, ◌∙◌}
 use Rattle.wire_messages.specs.Outboxes.{Outgoing}
 use Rattle.packet_order.specs.Orders.{together}
-use Rattle.run_book.specs.Ledgers.{limit_of_sizes, lines_text, with_event_unless}
+use Rattle.run_book.specs.Ledgers.{Ledger, limit_of_sizes, lines_text, with_event_unless}
 use Rattle.run_book.proofs.Kept.{books_within}
 use Rattle.run_book.proofs.PartLetters.{as_many}
 use Rattle.run_book.proofs.book.RunBook.happened.Goals as goal
@@ -14,4 +14,6 @@ returns-clause-ok c =
     let text : event.text ≡ lines_text n (together c.parts.result.now).records = c.in-Ok.ensures.text ∙ ap (λ (o : Outgoing). lines_text n o.records) c.parts.ensures in
     books_within n c.args.out.now.packets c.args.out.now.records b c.enter.new.self c.passed.result (length event.letters) event.bytes event.text
     c.passed.ensures (sym c.is_some.ensures ∙ c.if-is_some.false) (ap (λ (ls : List (List ℕ)). length ls) c.in-Ok.ensures.letters ∙ as_many c.args.out.now.packets) c.in-Ok.ensures.bytes c.in-Ok.ensures.text
-    (c.in_ok-enter.ensures.ok n text ∙ ap (λ (o : Outgoing). with_event_unless (limit_of_sizes (length event.letters) event.bytes (length event.text) b) n o.packets o.records b) (sym c.parts.ensures))
+    (c.in_ok-enter.ensures.ok n text
+    ∙ ap (λ (l : Ledger). with_event_unless (limit_of_sizes (length event.letters) event.bytes (length event.text) l) n (together c.parts.result.now).packets (together c.parts.result.now).records l) c.self.view_is
+    ∙ ap (λ (o : Outgoing). with_event_unless (limit_of_sizes (length event.letters) event.bytes (length event.text) b) n o.packets o.records b) (sym c.parts.ensures))

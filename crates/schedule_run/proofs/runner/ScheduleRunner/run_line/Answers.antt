@@ -1,6 +1,7 @@
 use Rattle.std.proofs.Common.{refl, subst}
 use Rattle.line_text.specs.ReadSoFar.{ReadsNext}
 use Rattle.line_text.specs.declared.schedule_reader.LineRead.{LineRead}
+use Rattle.schedule_run.proofs.Complete.{event_config, event_order}
 use Rattle.schedule_run.proofs.Lasting.{passed_next, event_next}
 use Rattle.schedule_run.proofs.runner.ScheduleRunner.run_line.Goals as goal
 
@@ -19,3 +20,8 @@ pub returns-in-Event-clause-world : goal.returns-in-Event-clause-world
 returns-in-Event-clause-world c = λ lines taken fault h e.
     let n = c.in_ok-read.ensures.read lines h.reader in
     record { line = n.line; reads = n.reads }
+
+pub returns-in-Event-clause-complete : goal.returns-in-Event-clause-complete
+returns-in-Event-clause-complete c = λ lines taken fault en o h e.
+    let n = subst (λ (x : LineRead). ReadsNext lines c.args.bytes.now x c.read.new.self) c.in-Event.is (c.in_ok-read.ensures.read lines h.reader) in
+    c.happen.ensures.complete lines taken fault en (event_config lines c.args.bytes.now c.in-Event.line c.read.new.self n) (event_order lines c.args.bytes.now c.in-Event.line c.read.new.self o n) h.world e

@@ -6,6 +6,12 @@ use Rattle.site_node.proofs.Adoptions.{adopted_moves}
 use Rattle.site_parts.proofs.Cuts.{failed_still, pull_err, pull_failed, pull_ok, unread_adopt}
 use Rattle.site_parts.specs.Faults.{fault_of_commit}
 use Rattle.site_parts.proofs.Numbers.{commit_numbered, if_err, memory_numbered}
+use Rattle.site_parts.proofs.Fits.{memory_fit}
+use Rattle.site_node.proofs.Fitted.{commit_unfit, fault_at}
+use Rattle.site_packs.specs.Packs.{groups_of}
+use Rattle.site_node.specs.Fitting.{CanKeep}
+use Rattle.site_node.specs.Views.{view_of}
+use Rattle.site_node.proofs.Ticked.{has_room, keeps_whole}
 use Rattle.site_node.proofs.node.SiteNode.adopt_pull.Goals as goal
 
 pub returns-clause-step : goal.returns-clause-step
@@ -39,3 +45,18 @@ returns-in_err-notes_own-clause-numbered g c = if_err c.from_residual-in_err-not
 
 pub returns-in_err-send_to_sync-clause-numbered : goal.returns-in_err-send_to_sync-clause-numbered
 returns-in_err-send_to_sync-clause-numbered g c = if_err c.from_residual-in_err-send_to_sync.result NoMemory (λ f. f ≢ NoNumber) c.from_residual-in_err-send_to_sync.ensures.1 memory_numbered
+
+pub returns-in_err-note-clause-unfit : goal.returns-in_err-note-clause-unfit
+returns-in_err-note-clause-unfit g c so can = memory_fit c.from_residual.result c.from_residual.ensures.1 so
+
+pub returns-in_err-adopt-clause-unfit : goal.returns-in_err-adopt-clause-unfit
+returns-in_err-adopt-clause-unfit g c = fault_at (CanKeep (groups_of c.args.self.now.packs) (view_of c.args.self.now (g.D.Disk.moment c.args.disk.now).seen).store c.args.pull.now) c.from_residual-in_err-adopt.result (fault_of_commit c.in_err-adopt.field-0.0) c.from_residual-in_err-adopt.ensures.1
+    (commit_unfit {S = Unit {0}} (CanKeep (groups_of c.args.self.now.packs) (view_of c.args.self.now (g.D.Disk.moment c.args.disk.now).seen).store c.args.pull.now) c.in_err-adopt.field-0.0
+    (λ so can. c.in_err-adopt.ensures.unfit so (keeps_whole c.args.self.now (g.D.Disk.moment c.args.disk.now).seen c.args.pull.now c.as_slice.result.now c.as_slice.ensures can))
+    (λ so can. has_room c.args.self.now (g.D.Disk.moment c.args.disk.now).seen c.args.pull.now c.as_slice.result.now c.as_slice.ensures can (c.in_err-adopt.ensures.no_space.0 so)))
+
+pub returns-in_err-notes_own-clause-unfit : goal.returns-in_err-notes_own-clause-unfit
+returns-in_err-notes_own-clause-unfit g c so can = memory_fit c.from_residual-in_err-notes_own.result c.from_residual-in_err-notes_own.ensures.1 so
+
+pub returns-in_err-send_to_sync-clause-unfit : goal.returns-in_err-send_to_sync-clause-unfit
+returns-in_err-send_to_sync-clause-unfit g c so can = memory_fit c.from_residual-in_err-send_to_sync.result c.from_residual-in_err-send_to_sync.ensures.1 so

@@ -8,6 +8,8 @@ use Rattle.site_parts.proofs.Cuts.{failed_still, none_at}
 use Rattle.site_node.proofs.Moving.{moves_from, moves_then, moves_work}
 use Rattle.std.proofs.Common.{◌≡◌}
 use Rattle.site_parts.proofs.Numbers.{if_err, memory_numbered}
+use Rattle.site_parts.proofs.Fits.{memory_fit}
+use Rattle.site_node.proofs.Fitted.{tables_of}
 use Rattle.site_node.proofs.node.SiteNode.end_event.Goals as goal
 
 pub start_mends-requires : goal.start_mends-requires
@@ -28,3 +30,11 @@ returns-in_err-pass_over-clause-disk g c = failed_still _ c.args.self.now.packs 
 
 pub returns-in_err-pass_over-clause-numbered : goal.returns-in_err-pass_over-clause-numbered
 returns-in_err-pass_over-clause-numbered g c = if_err c.from_residual.result NoMemory (λ f. f ≡ NoNumber → ⊥) c.from_residual.ensures.1 memory_numbered
+
+pub returns-clause-unfit : goal.returns-clause-unfit
+returns-clause-unfit g c so can = c.start_mends.ensures.unfit so
+    (tables_of (passes_over c.args.self.now.frame.config c.args.self.now.frame.me c.args.links.now) c.args.self.now c.pass_over.new.self (g.D.Disk.moment c.args.disk.now) (g.D.Disk.moment c.args.disk.now) c.args.out.now c.pass_over.new.out
+    (moves_work (passes_over c.args.self.now.frame.config c.args.self.now.frame.me c.args.links.now) c.args.self.now c.pass_over.new.self (g.D.Disk.moment c.args.disk.now) c.args.out.now c.pass_over.new.out c.requires c.in_ok-pass_over.ensures) can)
+
+pub returns-in_err-pass_over-clause-unfit : goal.returns-in_err-pass_over-clause-unfit
+returns-in_err-pass_over-clause-unfit g c so can = memory_fit c.from_residual.result c.from_residual.ensures.1 so

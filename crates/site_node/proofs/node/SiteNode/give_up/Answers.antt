@@ -9,6 +9,12 @@ use Rattle.site_node.proofs.Unwritten.{leave_step}
 use Rattle.site_node.proofs.Endings.{event_alone}
 use Rattle.site_node.proofs.Moving.{moves_from, moves_work}
 use Rattle.site_parts.proofs.Numbers.{if_err, memory_numbered, order_numbered}
+use Rattle.site_parts.proofs.Fits.{memory_fit}
+use Rattle.site_parts.proofs.Fits.{unfit_at}
+use Rattle.site_node.proofs.Fitted.{fault_at, order_unfit, own_fit, tables_then}
+use Rattle.site_packs.specs.Packs.{groups_of}
+use Rattle.site_node.specs.Fitting.{CanAct}
+use Rattle.role_steps.specs.Views.{GivesUp}
 use Rattle.site_node.proofs.node.SiteNode.give_up.Goals as goal
 
 pub end_event-requires : goal.end_event-requires
@@ -40,3 +46,18 @@ returns-in_err-end_event-clause-numbered g c = if_err c.from_residual-in_err-end
 
 pub returns-in_err-add_in_order-clause-numbered : goal.returns-in_err-add_in_order-clause-numbered
 returns-in_err-add_in_order-clause-numbered g c = if_err c.from_residual-in_err-add_in_order.result (fault_of_order c.in_err-add_in_order.field-0.0) (λ f. f ≢ NoNumber) c.from_residual-in_err-add_in_order.ensures.1 (order_numbered c.in_err-add_in_order.field-0.0)
+
+pub returns-in_err-leave-clause-unfit : goal.returns-in_err-leave-clause-unfit
+returns-in_err-leave-clause-unfit g c so can = memory_fit c.from_residual.result c.from_residual.ensures.1 so
+
+pub returns-in_err-end_event-clause-unfit : goal.returns-in_err-end_event-clause-unfit
+returns-in_err-end_event-clause-unfit g c = unfit_at {S = Unit {0}} (CanAct c.args.self.now.frame.config c.args.self.now.frame.me (groups_of c.args.self.now.packs) c.args.self.now.packs.site c.args.links.now (view_of c.args.self.now (g.D.Disk.moment c.args.disk.now).seen) GivesUp) c.from_residual-in_err-end_event.result c.in_err-end_event.field-0.0 c.from_residual-in_err-end_event.ensures.1
+    (λ so can. c.in_err-end_event.ensures.unfit so (tables_then (leaves c.args.self.now.frame.me) c.args.links.now c.args.self.now c.leave.new.self (g.D.Disk.moment c.args.disk.now) (g.D.Disk.moment c.args.disk.now) c.new-own.result c.leave.new.out (moves_work (leaves c.args.self.now.frame.me) c.args.self.now c.leave.new.self (g.D.Disk.moment c.args.disk.now) c.new-own.result c.leave.new.out c.requires c.in_ok-leave.ensures) can.mending))
+
+pub returns-in_err-add_in_order-clause-unfit : goal.returns-in_err-add_in_order-clause-unfit
+returns-in_err-add_in_order-clause-unfit g c = fault_at (CanAct c.args.self.now.frame.config c.args.self.now.frame.me (groups_of c.args.self.now.packs) c.args.self.now.packs.site c.args.links.now (view_of c.args.self.now (g.D.Disk.moment c.args.disk.now).seen) GivesUp) c.from_residual-in_err-add_in_order.result (fault_of_order c.in_err-add_in_order.field-0.0) c.from_residual-in_err-add_in_order.ensures.1
+    (order_unfit {S = Unit {0}} (CanAct c.args.self.now.frame.config c.args.self.now.frame.me (groups_of c.args.self.now.packs) c.args.self.now.packs.site c.args.links.now (view_of c.args.self.now (g.D.Disk.moment c.args.disk.now).seen) GivesUp) c.in_err-add_in_order.field-0.0 (λ so can. c.in_err-add_in_order.ensures.unfit so
+    (own_fit (leaves c.args.self.now.frame.me) (ends_event c.args.self.now.frame.config c.args.self.now.frame.me c.args.links.now) c.args.self.now c.leave.new.self c.end_event.new.self (g.D.Disk.moment c.args.disk.now) (g.D.Disk.moment c.args.disk.now) (g.D.Disk.moment c.end_event.new.disk) c.new-own.result c.leave.new.out c.end_event.new.out c.new-own.ensures.packets c.new-own.ensures.records
+    (moves_work (leaves c.args.self.now.frame.me) c.args.self.now c.leave.new.self (g.D.Disk.moment c.args.disk.now) c.new-own.result c.leave.new.out c.requires c.in_ok-leave.ensures)
+    (moves_from (λ k me. ends_event k me c.args.links.now) c.args.self.now c.leave.new.self c.end_event.new.self (g.D.Disk.moment c.args.disk.now) (g.D.Disk.moment c.end_event.new.disk) c.leave.new.out c.end_event.new.out c.in_ok-leave.ensures.config c.in_ok-leave.ensures.me c.in_ok-end_event.ensures.step)
+    can.sending)))

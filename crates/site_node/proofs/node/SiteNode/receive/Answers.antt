@@ -12,6 +12,12 @@ use Rattle.site_node.proofs.Together.{cut_told, then_reads}
 use Rattle.site_node.proofs.Receives.{receives, receives_none}
 use Rattle.site_node.proofs.Together.{handed_numbered, handed_spent}
 use Rattle.site_parts.proofs.Numbers.{if_err, memory_numbered, order_numbered}
+use Rattle.site_parts.proofs.Fits.{memory_fit}
+use Rattle.site_parts.proofs.Fits.{unfit_at}
+use Rattle.site_node.proofs.Fitted.{fault_at, handed_unfit, order_unfit}
+use Rattle.site_packs.specs.Packs.{groups_of}
+use Rattle.site_node.specs.Fitting.{CanAct}
+use Rattle.site_node.proofs.Ticked.{came_fit, came_tables, tried_fit}
 use Rattle.site_node.proofs.node.SiteNode.receive.Goals as goal
 
 pub returns-then-is_dropped-clause-step : goal.returns-then-is_dropped-clause-step
@@ -72,3 +78,22 @@ returns-in_err-add-clause-spent g c = if_err c.from_residual-in_err-add.result N
 
 pub returns-in_err-add_in_order-clause-spent : goal.returns-in_err-add_in_order-clause-spent
 returns-in_err-add_in_order-clause-spent g c = if_err c.from_residual-in_err-add_in_order.result (fault_of_order c.in_err-add_in_order.field-0.0) (λ f. f ≡ NoNumber → IsSpent c.args.packet.body) c.from_residual-in_err-add_in_order.ensures.1 (λ h. absurd (order_numbered c.in_err-add_in_order.field-0.0 h))
+
+pub returns-in-Err-clause-unfit : goal.returns-in-Err-clause-unfit
+returns-in-Err-clause-unfit g c = handed_unfit {T = Unit {0}} {S = Unit {0}} (CanAct c.args.self.now.frame.config c.args.self.now.frame.me (groups_of c.args.self.now.packs) c.args.self.now.packs.site c.args.links.now (view_of c.args.self.now (g.D.Disk.moment c.args.disk.now).seen) (Receives c.args.packet)) c.in-Err.fault c.cut_off.result c.cut_off.ensures.fault (λ so can. c.in-Err.ensures.unfit so (can.taking (sym (c.is_dropped.ensures (g.D.Disk.moment c.args.disk.now).seen) ∙ c.if-is_dropped.false)))
+
+pub returns-in-Err-try_adoption-clause-unfit : goal.returns-in-Err-try_adoption-clause-unfit
+returns-in-Err-try_adoption-clause-unfit g c = handed_unfit {T = Unit {0}} {S = Unit {0}} (CanAct c.args.self.now.frame.config c.args.self.now.frame.me (groups_of c.args.self.now.packs) c.args.self.now.packs.site c.args.links.now (view_of c.args.self.now (g.D.Disk.moment c.args.disk.now).seen) (Receives c.args.packet)) c.in-Err-try_adoption.fault c.cut_off-in-Err-try_adoption.result c.cut_off-in-Err-try_adoption.ensures.fault
+    (λ so can. c.in-Err-try_adoption.ensures.unfit so (λ tries. tried_fit (taken c.args.self.now.frame.config c.args.self.now.frame.me c.args.links.now c.args.packet) c.args.self.now c.take.new.self (g.D.Disk.moment c.args.disk.now) (g.D.Disk.moment c.take.new.disk) c.new-own.result c.take.new.out c.in_default.ensures.step (can.adopting (sym (c.is_dropped.ensures (g.D.Disk.moment c.args.disk.now).seen) ∙ c.if-is_dropped.false) (sym c.tries_at-tries.ensures ∙ tries))))
+
+pub returns-in_err-end_event-clause-unfit : goal.returns-in_err-end_event-clause-unfit
+returns-in_err-end_event-clause-unfit g c = unfit_at {S = Unit {0}} (CanAct c.args.self.now.frame.config c.args.self.now.frame.me (groups_of c.args.self.now.packs) c.args.self.now.packs.site c.args.links.now (view_of c.args.self.now (g.D.Disk.moment c.args.disk.now).seen) (Receives c.args.packet)) c.from_residual.result c.in_err-end_event.field-0.0 c.from_residual.ensures.1
+    (λ so can. c.in_err-end_event.ensures.unfit so (came_tables c.args.links.now c.args.packet c.args.self.now c.take.new.self c.try_adoption.new.self (g.D.Disk.moment c.args.disk.now) (g.D.Disk.moment c.take.new.disk) (g.D.Disk.moment c.try_adoption.new.disk) c.new-own.result c.take.new.out c.new-adopted.result c.try_adoption.new.out c.in_default.ensures.step (c.in_default-try_adoption.ensures.step c.args.packet.body c.tries_at-tries.ensures) (can.mending (sym (c.is_dropped.ensures (g.D.Disk.moment c.args.disk.now).seen) ∙ c.if-is_dropped.false))))
+
+pub returns-in_err-add-clause-unfit : goal.returns-in_err-add-clause-unfit
+returns-in_err-add-clause-unfit g c so can = memory_fit c.from_residual-in_err-add.result c.from_residual-in_err-add.ensures.1 so
+
+pub returns-in_err-add_in_order-clause-unfit : goal.returns-in_err-add_in_order-clause-unfit
+returns-in_err-add_in_order-clause-unfit g c = fault_at (CanAct c.args.self.now.frame.config c.args.self.now.frame.me (groups_of c.args.self.now.packs) c.args.self.now.packs.site c.args.links.now (view_of c.args.self.now (g.D.Disk.moment c.args.disk.now).seen) (Receives c.args.packet)) c.from_residual-in_err-add_in_order.result (fault_of_order c.in_err-add_in_order.field-0.0) c.from_residual-in_err-add_in_order.ensures.1
+    (order_unfit {S = Unit {0}} (CanAct c.args.self.now.frame.config c.args.self.now.frame.me (groups_of c.args.self.now.packs) c.args.self.now.packs.site c.args.links.now (view_of c.args.self.now (g.D.Disk.moment c.args.disk.now).seen) (Receives c.args.packet)) c.in_err-add_in_order.field-0.0 (λ so can. c.in_err-add_in_order.ensures.unfit so
+    (came_fit c.args.links.now c.args.packet c.args.self.now c.take.new.self c.try_adoption.new.self c.end_event.new.self (g.D.Disk.moment c.args.disk.now) (g.D.Disk.moment c.take.new.disk) (g.D.Disk.moment c.try_adoption.new.disk) (g.D.Disk.moment c.end_event.new.disk) c.new-own.result c.take.new.out c.new-adopted.result c.try_adoption.new.out c.end_event.new.out c.new-own.ensures.packets c.new-own.ensures.records (sym (c.is_dropped.ensures (g.D.Disk.moment c.args.disk.now).seen) ∙ c.if-is_dropped.false) c.in_default.ensures.step (c.in_default-try_adoption.ensures.step c.args.packet.body c.tries_at-tries.ensures) c.in_ok-end_event.ensures.step can.sending)))

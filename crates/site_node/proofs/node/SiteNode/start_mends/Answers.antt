@@ -1,4 +1,4 @@
-use Rattle.std.proofs.Common.{◌≡◌, List, refl, subst}
+use Rattle.std.proofs.Common.{◌≡◌, List, refl, subst, sym}
 use Rattle.role_steps.specs.Epochs.{with_users}
 use Rattle.role_steps.specs.Mends.{starts_mends_in}
 use Rattle.role_steps.specs.Views.{SiteView}
@@ -10,6 +10,8 @@ use Rattle.site_node.proofs.Starts.{entered_frame, mends_inside, mends_outside}
 use Rattle.site_parts.specs.Faults.{fault_of_mend}
 use Rattle.site_parts.specs.declared.fault.NodeFault.TheVariants.{NoNumber}
 use Rattle.site_parts.proofs.Numbers.{if_err, mend_numbered}
+use Rattle.site_node.proofs.Fitted.{fault_at, mend_unfit}
+use Rattle.site_node.specs.Fitting.{HasInodes}
 use Rattle.site_node.proofs.node.SiteNode.start_mends.Goals as goal
 
 pub returns-in_default-clause-step : goal.returns-in_default-clause-step
@@ -31,3 +33,7 @@ returns-in_err-start_mends-clause-disk g c = mends_ill g.D.Disk.moment {T = Unit
 
 pub returns-in_err-start_mends-clause-numbered : goal.returns-in_err-start_mends-clause-numbered
 returns-in_err-start_mends-clause-numbered g c = if_err c.from_residual.result (fault_of_mend c.in_err-start_mends.field-0.0) (λ f. f ≡ NoNumber → ⊥) c.from_residual.ensures.1 (mend_numbered c.in_err-start_mends.field-0.0)
+
+pub returns-in_err-start_mends-clause-unfit : goal.returns-in_err-start_mends-clause-unfit
+returns-in_err-start_mends-clause-unfit g c = fault_at (HasInodes c.args.self.now.tables) c.from_residual.result (fault_of_mend c.in_err-start_mends.field-0.0) c.from_residual.ensures.1
+    (mend_unfit {S = Unit {0}} (HasInodes c.args.self.now.tables) c.in_err-start_mends.field-0.0 (λ so can. c.in_err-start_mends.ensures.unfit so (subst HasInodes (sym c.as_slice.ensures.rows) can)))

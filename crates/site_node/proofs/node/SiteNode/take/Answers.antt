@@ -12,6 +12,10 @@ use Rattle.role_steps.specs.Epochs.{on_install, on_joined, on_poll, on_promise, 
 use Rattle.wire_messages.specs.declared.body.Body.TheVariants as body
 use Rattle.site_node.proofs.Takes.{never_spent}
 use Rattle.site_parts.proofs.Numbers.{if_err, memory_numbered, spent_at}
+use Rattle.site_parts.proofs.Fits.{memory_fit}
+use Rattle.site_node.proofs.Fitted.{epoch_fit, fault_at}
+use Rattle.site_packs.specs.Packs.{groups_of}
+use Rattle.site_node.specs.Fitting.{CanTakeIn}
 use Rattle.site_node.proofs.node.SiteNode.take.Goals as goal
 
 pub returns-in_ok-take_poll-in-Poll-clause-step : goal.returns-in_ok-take_poll-in-Poll-clause-step
@@ -77,3 +81,15 @@ returns-in_err-take_refuse-in-Refuse-clause-spent g c = if_err c.from_residual-i
 
 pub returns-in_err-take_install-in-Install-clause-spent : goal.returns-in_err-take_install-in-Install-clause-spent
 returns-in_err-take_install-in-Install-clause-spent g c = if_err c.from_residual-in_err-take_install-in-Install.result NoMemory (λ f. f ≡ NoNumber → IsSpent c.args.packet.body) c.from_residual-in_err-take_install-in-Install.ensures.1 (λ h. absurd (memory_numbered h))
+
+pub returns-in_default-clause-unfit : goal.returns-in_default-clause-unfit
+returns-in_default-clause-unfit g c = c.take_in_epoch.ensures.unfit
+
+pub returns-in_err-take_poll-in-Poll-clause-unfit : goal.returns-in_err-take_poll-in-Poll-clause-unfit
+returns-in_err-take_poll-in-Poll-clause-unfit g c so can = memory_fit c.from_residual.result c.from_residual.ensures.1 so
+
+pub returns-in_err-take_refuse-in-Refuse-clause-unfit : goal.returns-in_err-take_refuse-in-Refuse-clause-unfit
+returns-in_err-take_refuse-in-Refuse-clause-unfit g c = fault_at (CanTakeIn c.args.self.now.frame.config c.args.self.now.frame.me (groups_of c.args.self.now.packs) c.args.self.now.packs.site c.args.packet.from c.args.packet.body (view_of c.args.self.now (g.D.Disk.moment c.args.disk.now).seen) c.args.self.now.epochs.epoch) c.from_residual-in_err-take_refuse-in-Refuse.result (fault_of_epoch c.in_err-take_refuse-in-Refuse.field-0.0) c.from_residual-in_err-take_refuse-in-Refuse.ensures.1 (λ so can. epoch_fit c.in_err-take_refuse-in-Refuse.field-0.0 so)
+
+pub returns-in_err-take_install-in-Install-clause-unfit : goal.returns-in_err-take_install-in-Install-clause-unfit
+returns-in_err-take_install-in-Install-clause-unfit g c so can = memory_fit c.from_residual-in_err-take_install-in-Install.result c.from_residual-in_err-take_install-in-Install.ensures.1 so

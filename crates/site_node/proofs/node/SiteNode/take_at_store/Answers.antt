@@ -6,3 +6,6 @@ returns-clause-step g c = store_taken c.take_at_store.result c.args.from c.args.
 
 pub returns-clause-disk : goal.returns-clause-disk
 returns-clause-disk g c = c.take_at_store.ensures.disk
+
+pub returns-clause-unfit : goal.returns-clause-unfit
+returns-clause-unfit g c = c.take_at_store.ensures.unfit

@@ -5,6 +5,7 @@ use Rattle.site_node.specs.Views.{Moves, view_of}
 use Rattle.site_parts.proofs.Cuts.{untouched, written_as}
 use Rattle.site_node.proofs.Starts.{entered_frame}
 use Rattle.site_node.proofs.Takes.{entered_written, outside_written, takes_entered, takes_outside}
+use Rattle.site_node.proofs.Ticked.{entered_taken}
 use Rattle.site_node.proofs.node.SiteNode.take_in_epoch.Goals as goal
 
 pub returns-in_default-clause-step : goal.returns-in_default-clause-step
@@ -20,3 +21,6 @@ returns-clause-step g c = on_ok c.take_inside.result (Moves (takes_inside c.ente
 
 pub returns-clause-disk : goal.returns-clause-disk
 returns-clause-disk g c = written_as _ _ _ _ _ _ _ _ (entered_written c.args.self.now.frame.config c.args.self.now.frame.me c.args.from c.args.body c.in-Some.epoch c.enter.new.frame (view_of c.args.self.now (g.D.Disk.moment c.args.disk.now).seen) c.in-Some.ensures (entered_frame c.args.self.now c.enter.new.frame c.boot.result c.in-Some.epoch c.enter.ensures c.boot.ensures)) c.take_inside.ensures.disk
+
+pub returns-clause-unfit : goal.returns-clause-unfit
+returns-clause-unfit g c = λ so can. c.take_inside.ensures.unfit so (entered_taken c.args.self.now c.enter.new.frame c.in-Some.epoch (g.D.Disk.moment c.args.disk.now).seen c.args.from c.args.body c.in-Some.ensures (entered_frame c.args.self.now c.enter.new.frame c.boot.result c.in-Some.epoch c.enter.ensures c.boot.ensures) can)

@@ -11,6 +11,10 @@ use Rattle.site_node.proofs.Unwritten.{unwritten_by}
 use Rattle.site_node.proofs.ByRole.{reports_work, takes_by_role}
 use Rattle.site_node.proofs.Moving.{moves_as, moves_none, moves_work}
 use Rattle.site_parts.proofs.Numbers.{if_err, memory_numbered, own_numbered, own_off}
+use Rattle.site_parts.proofs.Fits.{memory_fit}
+use Rattle.site_parts.proofs.Fits.{unfit_at}
+use Rattle.site_packs.specs.Packs.{groups_of}
+use Rattle.site_node.specs.Fitting.{CanTakeInside}
 use Rattle.site_node.proofs.node.SiteNode.take_inside.Goals as goal
 
 pub returns-in_ok-take_at_tables-in-Tables-clause-step : goal.returns-in_ok-take_at_tables-in-Tables-clause-step
@@ -81,3 +85,15 @@ returns-in_err-take_at_users-in-Users-clause-numbered g c = if_err c.from_residu
 
 pub returns-in_err-take_at_pulls-in-Pulls-clause-numbered : goal.returns-in_err-take_at_pulls-in-Pulls-clause-numbered
 returns-in_err-take_at_pulls-in-Pulls-clause-numbered g c = if_err c.from_residual-in_err-take_at_pulls-in-Pulls.result c.in_err-take_at_pulls-in-Pulls.field-0.0 (λ f. f ≢ NoNumber) c.from_residual-in_err-take_at_pulls-in-Pulls.ensures.1 (own_numbered c.in_err-take_at_pulls-in-Pulls.field-0.0 c.in_err-take_at_pulls-in-Pulls.ensures.own)
+
+pub returns-in-Store-clause-unfit : goal.returns-in-Store-clause-unfit
+returns-in-Store-clause-unfit g c so can = c.take_at_store.ensures.unfit so can.stores
+
+pub returns-in_err-take_at_tables-in-Tables-clause-unfit : goal.returns-in_err-take_at_tables-in-Tables-clause-unfit
+returns-in_err-take_at_tables-in-Tables-clause-unfit g c so can = memory_fit c.from_residual.result c.from_residual.ensures.1 so
+
+pub returns-in_err-take_at_users-in-Users-clause-unfit : goal.returns-in_err-take_at_users-in-Users-clause-unfit
+returns-in_err-take_at_users-in-Users-clause-unfit g c so can = memory_fit c.from_residual-in_err-take_at_users-in-Users.result c.from_residual-in_err-take_at_users-in-Users.ensures.1 so
+
+pub returns-in_err-take_at_pulls-in-Pulls-clause-unfit : goal.returns-in_err-take_at_pulls-in-Pulls-clause-unfit
+returns-in_err-take_at_pulls-in-Pulls-clause-unfit g c = unfit_at {S = Unit {0}} (CanTakeInside c.args.self.now.frame (groups_of c.args.self.now.packs) c.args.self.now.packs.site c.args.from c.args.body (view_of c.args.self.now (g.D.Disk.moment c.args.disk.now).seen)) c.from_residual-in_err-take_at_pulls-in-Pulls.result c.in_err-take_at_pulls-in-Pulls.field-0.0 c.from_residual-in_err-take_at_pulls-in-Pulls.ensures.1 (λ so can. c.in_err-take_at_pulls-in-Pulls.ensures.unfit so can.pulls)

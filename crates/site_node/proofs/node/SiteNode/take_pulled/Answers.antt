@@ -1,5 +1,8 @@
 use Rattle.std.proofs.Common.{◌≤◌, arith}
 use Rattle.site_node.proofs.Parts.{notified_works, paged_works}
+use Rattle.site_parts.proofs.Fits.{memory_fit}
+use Rattle.site_node.specs.Fitting.{IsShort}
+use Rattle.std.proofs.Common.{subst}
 use Rattle.site_node.proofs.node.SiteNode.take_pulled.Goals as goal
 
 pub returns-in_ok-on_notify-in-Notify-clause-works : goal.returns-in_ok-on_notify-in-Notify-clause-works
@@ -10,3 +13,12 @@ returns-in_ok-on_notify-in-Notify-clause-works c =
 
 pub returns-in_ok-on_page-in-Page-clause-works : goal.returns-in_ok-on_page-in-Page-clause-works
 returns-in_ok-on_page-in-Page-clause-works c = rw c.in-Page.is (paged_works c.in-Page.file c.in-Page.stamp c.in-Page.page c.as_slice.result.now c.in-Page.bytes c.args.self.now c.on_page.new.self c.args.out.now c.on_page.new.out c.as_slice.ensures c.in_ok-on_page-in-Page.ensures.view c.in_ok-on_page-in-Page.ensures.packets c.in_ok-on_page-in-Page.ensures.records)
+
+pub returns-then-size-gt-MAX_BYTES-clause-unfit : goal.returns-then-size-gt-MAX_BYTES-clause-unfit
+returns-then-size-gt-MAX_BYTES-clause-unfit c so can = (let short : c.in-Notify.size ≤ 65536 = subst IsShort c.in-Notify.is can in omega (arith, short, c.if-size-gt-MAX_BYTES.true))
+
+pub returns-in_err-on_notify-in-Notify-clause-unfit : goal.returns-in_err-on_notify-in-Notify-clause-unfit
+returns-in_err-on_notify-in-Notify-clause-unfit c so can = memory_fit c.from_residual.result c.from_residual.ensures.1 so
+
+pub returns-in_err-on_page-in-Page-clause-unfit : goal.returns-in_err-on_page-in-Page-clause-unfit
+returns-in_err-on_page-in-Page-clause-unfit c so can = memory_fit c.from_residual-in_err-on_page-in-Page.result c.from_residual-in_err-on_page-in-Page.ensures.1 so

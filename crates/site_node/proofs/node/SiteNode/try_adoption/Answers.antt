@@ -21,3 +21,6 @@ returns-clause-step g c = λ body e. on_ok c.adopt.result (Moves (adopts_in c.ar
 
 pub returns-clause-disk : goal.returns-clause-disk
 returns-clause-disk g c = λ body e. written_as _ _ _ _ _ _ _ _ (ap (λ (o : Outcome SiteView). o.written) (tried c.args.self.now.frame.config c.args.self.now.frame.me body (view_of c.args.self.now (g.D.Disk.moment c.args.disk.now).seen) (sym c.if-not-tries.false ∙ e))) c.adopt.ensures.disk
+
+pub returns-clause-unfit : goal.returns-clause-unfit
+returns-clause-unfit g c so can = c.adopt.ensures.unfit so (can c.if-not-tries.false)

@@ -22,13 +22,16 @@ use Rattle.site_place.proofs.Refusing.{no_disk_fault, uncut_unarmed}
 use Rattle.site_place.proofs.Running.{runs_on}
 use Rattle.site_place.proofs.Scripts.{with_count, how_is}
 use Rattle.site_place.proofs.Starting.{count_is, armed_same}
+use Rattle.site_place.specs.Fitting.{CanHappenIn}
+use Rattle.site_place.specs.declared.fault.PlaceFault.TheVariants.{NoMemory}
+use Rattle.site_place.proofs.Needing.{acts_here, given_memory}
 use Rattle.site_place.proofs.place.SitePlace.happen.Goals as goal
 
 pub invariant_of-self : goal.invariant_of-self
 invariant_of-self c = c.self.invariant
 
-pub returns-in_default : goal.returns-in_default
-returns-in_default c =
+pub returns-in_default-clause-gives : goal.returns-in_default-clause-gives
+returns-in_default-clause-gives c =
     let p = c.self.inside in
     event_nothing (groups_at p.config p.me) p.config p.me c.args.links.now (event_of c.args.event) p.node (seen p.disk.disk) (armed_in p.armed) c.args.self.now c.new-out.result c.self.view_is c.in_default.is c.new-out.ensures
 
@@ -65,8 +68,8 @@ invariant_of-self-in-Ok c =
       node = runs_on p.config p.me n c.act.new.node links e (moment old) (moment now) c.new-out.result c.act.new.out runs made.step there.label;
     }
 
-pub returns-in-Ok : goal.returns-in-Ok
-returns-in-Ok c =
+pub returns-in-Ok-clause-gives : goal.returns-in-Ok-clause-gives
+returns-in-Ok-clause-gives c =
     let p = c.self.inside in
     let is = c.self.invariant in
     let old = p.disk.disk in
@@ -103,7 +106,7 @@ unreachable-requires c =
     let old = p.disk.disk in
     let n = c.in-Some.node in
     let w = (steps_at n c.args.links.now (event_of c.args.event) (view_of n (seen old))).written in
-    uncut_unarmed n w old c.act.new.disk.disk c.new-out.result c.act.new.out c.in-Err.fault c.in-Ok-size_of.size (armed_same old.script p.armed None c.self.invariant.script c.in_default-armed.is) c.in-Ok-size_of.ensures c.in-Err.ensures.disk
+    uncut_unarmed n w old c.act.new.disk.disk c.new-out.result c.act.new.out c.in-Err.fault c.in-Ok-size_of.size (armed_same old.script p.armed None c.self.invariant.script c.in_default-armed.is) c.in-Ok-size_of.ensures.size c.in-Err.ensures.disk
 
 pub invariant_of-self-in-Err-size_of : goal.invariant_of-self-in-Err-size_of
 invariant_of-self-in-Err-size_of c =
@@ -169,8 +172,8 @@ invariant_of-self-in-Err c =
       node = stays_stopped p.config p.me c.leave.new.node (moment now) c.leave.ensures;
     }
 
-pub returns-in_ok-told-in-Err : goal.returns-in_ok-told-in-Err
-returns-in_ok-told-in-Err c =
+pub returns-in_ok-told-in-Err-clause-gives : goal.returns-in_ok-told-in-Err-clause-gives
+returns-in_ok-told-in-Err-clause-gives c =
     let p = c.self.inside in
     let is = c.self.invariant in
     let old = p.disk.disk in
@@ -190,8 +193,20 @@ returns-in_ok-told-in-Err c =
     let before = λ (armed : Option DiskScript). state_at p.config p.me (Running (view_of n (seen old))) (armed_in armed) in
     let later = λ (k : Option SiteNode). state_at p.config p.me (place_in gs k (seen now)) None in
     let writes = subst (λ (o : Outgoing). EventWrites {T = Unit {0}} w n.packs (moment old) (moment fault) o own (Err (Cut size))) c.new-out.ensures
-    (subst (λ (f : NodeFault). EventWrites {T = Unit {0}} w n.packs (moment old) (moment fault) c.new-out.result own (Err f)) c.in-Ok-size_of.ensures c.in-Err.ensures.disk) in
+    (subst (λ (f : NodeFault). EventWrites {T = Unit {0}} w n.packs (moment old) (moment fault) c.new-out.result own (Err f)) c.in-Ok-size_of.ensures.size c.in-Err.ensures.disk) in
     let cut = event_cut p.config p.me n links e old fault now x old.script.faults size own out runs is.whole script writes c.crash.ensures.left c.in_ok-told-in-Err.ensures in
     given_at (happens_in links e) gs p.config p.me p.node (Some n) (seen old) (armed_in p.armed) c.args.self.now (later c.leave.new.node) out c.self.view_is c.in-Some.is
     (subst (λ (k : Option SiteNode). Gives (happens_in links e (before p.armed)) (before p.armed) (later k) out) (sym c.leave.ensures)
     (subst (λ (k : Option DiskScript). Gives (happens_in links e (before k)) (before k) (later None) out) (sym c.in-Some-armed.is) cut))
+
+pub returns-in-Err-size_of-clause-fit : goal.returns-in-Err-size_of-clause-fit
+returns-in-Err-size_of-clause-fit c = λ can.
+    let p = c.self.inside in
+    let is = c.self.invariant in
+    let old = p.disk.disk in
+    let n = c.in-Some.node in
+    let runs : IsRunning p.config p.me n (moment old) = subst (λ (k : Option SiteNode). MayRun p.config p.me k (moment old)) c.in-Some.is is.node in
+    c.in-Err-size_of.ensures.fit (c.in-Err.ensures.fit (acts_here p.config p.me p.node n (seen old) (armed_in p.armed) c.args.links.now (event_of c.args.event) c.args.self.now c.self.view_is c.in-Some.is runs.groups runs.home runs.cluster runs.own can))
+
+pub returns-in_err-told-in-Err-clause-fit : goal.returns-in_err-told-in-Err-clause-fit
+returns-in_err-told-in-Err-clause-fit c = given_memory (CanHappenIn c.args.links.now (event_of c.args.event) c.args.self.now) c.from_residual.result c.from_residual.ensures.1

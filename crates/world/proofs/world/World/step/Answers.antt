@@ -3,6 +3,12 @@ use Rattle.the_run.specs.Runs.{act}
 use Rattle.world.specs.States.{state_of}
 use Rattle.world.proofs.LineLaws.{step_over, step_within, if_given}
 use Rattle.world.proofs.Versions.{holds_after}
+use Rattle.std.proofs.Common.{◌≡◌}
+use Rattle.std.specs.Prelude.{IfErr}
+use Rattle.world.specs.Faults.{WantsMemoryWithin}
+use Rattle.world.proofs.Wanting.{given_on, not_over}
+use Rattle.world.proofs.Versions.{can_do_line}
+use Rattle.world.specs.declared.fault.WorldFault.TheVariants.{NoMemory}
 use Rattle.world.proofs.world.World.step.Goals as goal
 
 pub returns-then-is_some-clause-step : goal.returns-then-is_some-clause-step
@@ -19,3 +25,7 @@ returns-clause-versions c = holds_after c.args.number c.args.line (state_of c.ar
 
 pub returns-in_err-act-clause-fault : goal.returns-in_err-act-clause-fault
 returns-in_err-act-clause-fault c = if_given c.from_residual.result c.in_err-act.field-0.0 c.args.line c.args.line refl c.from_residual.ensures c.in_err-act.ensures.fault
+
+pub returns-in_err-act-clause-complete : goal.returns-in_err-act-clause-complete
+returns-in_err-act-clause-complete c = λ k lines taken n fit packs few sh. given_on (λ fault. fault ≡ NoMemory) c.from_residual.result c.in_err-act.field-0.0 c.from_residual.ensures
+    (c.in_err-act.ensures.fit k taken _ (not_over (state_of c.args.self.now) c.passed.result c.passed.ensures (sym c.is_some.ensures ∙ c.if-is_some.false) k taken _ sh) sh (can_do_line k lines c.args.number c.args.line n fit packs few))

@@ -1,9 +1,0 @@
-pub mod Resolving
-pub mod Having
-pub mod Mending
-pub mod Shut
-pub mod Wants
-pub mod Rows
-pub mod Noting
-pub mod Adopting
-pub mod Choosing

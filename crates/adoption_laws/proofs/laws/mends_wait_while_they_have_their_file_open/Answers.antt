@@ -1,5 +1,0 @@
-use Rattle.adoption_laws.proofs.Mending.{mend_waits}
-use Rattle.adoption_laws.proofs.laws.mends_wait_while_they_have_their_file_open.Goals as goal
-
-pub returns : goal.returns
-returns c = λ config trace followed e i x now is inside. mend_waits config trace followed e i x now is inside

@@ -1,5 +1,0 @@
-use Rattle.answer_laws.proofs.Owning.{owner_numbered}
-use Rattle.answer_laws.proofs.laws.operations_are_numbered_by_who_asks.Goals as goal
-
-pub returns : goal.returns
-returns c = λ config trace h e d i o inside there asks. owner_numbered config trace h e d i o inside there asks

@@ -1,0 +1,301 @@
+-- What the using site and a site that pulls send answers no report and no open, and closes no instance; nor does what the storage site
+-- sends, but as it closes one.
+use Rattle.std.proofs.Common.{ℕ, ◌+◌, ◌==◌, true, false, List, [], ◌∷◌, ◌++◌, Option, Some, None}
+use Rattle.call_rules.specs.Descriptors.{beginning}
+use Rattle.call_rules.specs.declared.answer.Answer.{Answer}
+use Rattle.call_rules.specs.declared.want.Want.TheVariants as want
+use Rattle.call_rules.specs.declared.want.Want.{Want}
+use Rattle.commit_graph.specs.Versions.{same_stamp}
+use Rattle.file_effects.specs.Effects.{Effect}
+use Rattle.file_effects.specs.Works.{counted}
+use Rattle.locus_ids.specs.declared.ids.EpochId.{EpochId}
+use Rattle.locus_ids.specs.declared.ids.FileId.{FileId}
+use Rattle.locus_ids.specs.declared.ids.Mode.TheVariants as mode
+use Rattle.locus_ids.specs.declared.ids.Mode.{Mode}
+use Rattle.locus_ids.specs.declared.ids.Serial.{Serial}
+use Rattle.locus_ids.specs.declared.ids.Stamp.{Stamp}
+use Rattle.locus_ids.specs.declared.refusal.Refusal.TheVariants as refusal
+use Rattle.role_steps.proofs.Sending.{every_cond, every_flat_map}
+use Rattle.role_steps.specs.Looks.{LookRequest}
+use Rattle.role_steps.specs.OperationEffects.{Mending, effect_of}
+use Rattle.role_steps.specs.Operations.{acts, acts_committed, commits_owing, last_committed, commit_op, executes_effect, executes, op_again, by_number, on_op_at, on_op_of, on_op}
+use Rattle.role_steps.specs.Own.{Every}
+use Rattle.role_steps.specs.Pulling.{pull_of, pull_packets, is_complete, goes_on as pulls_on, replaces_pull, begins_pull, on_notify, is_awaited, on_page_of, on_page, pull_repeats}
+use Rattle.role_steps.specs.Requests.{descriptors_of, request_packets, asks, asks_op_of, asks_close_of, user_instance, users_repeats}
+use Rattle.role_steps.specs.Storage.{StoreRequest, copy_of, instance_of, is_open, opened_packets, own_ino, opens, opens_made, on_open_ss_of, on_open_ss, is_spent, commits, next_stamp, next_vector, ends_at, on_closed_ok_of, on_closed_ok, on_look_ss, has_page, pulled_page, on_pull}
+use Rattle.role_steps.specs.Tables.{first_that}
+use Rattle.role_steps.specs.Using as using
+use Rattle.role_steps.specs.Using.{accepted, frees, with_brought, content_answer, asks_want, next_want, goes_on, on_call, takes_answer, with_answer, takes_open, on_open_done_of, on_open_done, on_op_done_of, on_op_done, on_close_done_of, on_close_done, looks_again, takes_look, on_look_done_of, on_look_done, asks_open_of, asks_op_number, asks_take}
+use Rattle.role_steps.specs.Versions.{is_below}
+use Rattle.role_steps.specs.Views.{Frame, Store, Users, Outcome, quiet, sends, and_then, packet, to_some, to_sync, sync_site}
+use Rattle.role_steps.specs.declared.copies.FileCopy.{FileCopy}
+use Rattle.role_steps.specs.declared.instances.Instance.{Instance}
+use Rattle.role_steps.specs.declared.instances.Stage.TheVariants as stage
+use Rattle.role_steps.specs.declared.instances.Stage.{Stage}
+use Rattle.role_steps.specs.declared.pulls.Pull.{Pull}
+use Rattle.role_steps.specs.declared.users.Asking.TheVariants as asking
+use Rattle.role_steps.specs.declared.users.Asking.{Asking}
+use Rattle.role_steps.specs.declared.users.UserInstance.{UserInstance}
+use Rattle.role_steps.specs.declared.users.WaitingCall.{WaitingCall}
+use Rattle.trace_book.specs.declared.call.Call.{Call}
+use Rattle.trace_book.specs.declared.operation.Op.TheVariants as op
+use Rattle.trace_book.specs.declared.operation.Op.{Op}
+use Rattle.trace_book.specs.declared.operation.Outcome.TheVariants as result
+use Rattle.trace_book.specs.declared.operation.Outcome.{Outcome as Result}
+use Rattle.wire_messages.specs.declared.body.Body.{Body}
+use Rattle.wire_messages.specs.declared.body.Body.TheVariants as body
+use Rattle.wire_messages.specs.declared.body.CloseAnswer.{CloseAnswer}
+use Rattle.wire_messages.specs.declared.body.Granted.TheVariants as granted
+use Rattle.wire_messages.specs.declared.body.Granted.{Granted}
+use Rattle.wire_messages.specs.declared.body.LookAnswer.TheVariants as looked
+use Rattle.wire_messages.specs.declared.body.LookAnswer.{LookAnswer}
+use Rattle.wire_messages.specs.declared.packet.Packet.{Packet}
+
+-- the body answers neither a report nor an open, and closes no instance
+abbrev pub AnswersNone : Body → Type 0
+AnswersNone (body.ReportOk group) = ⊥
+AnswersNone (body.OpenDone serial answer) = ⊥
+AnswersNone (body.Closed inst made) = ⊥
+AnswersNone _ = Unit {0}
+
+abbrev pub Answerless : Packet → Type 0
+Answerless p = AnswersNone p.body
+
+abbrev pub AllAnswerless : {V : Type 0} → Outcome V → Type 0
+AllAnswerless o = Every Answerless o.sent
+
+pub some_answerless : (f : Frame) (b : Body) (o : Option ℕ) → AnswersNone b → Every Answerless (to_some f b o)
+some_answerless f b None h = tt
+some_answerless f b (Some to) h = (h, tt)
+
+pub sync_answerless : (f : Frame) (group : ℕ) (b : Body) → AnswersNone b → Every Answerless (to_sync f group b)
+sync_answerless f group b h = some_answerless f b (sync_site f.config f.members group) h
+
+-- ---- opens ----
+
+opens_made_answerless : (f : Frame) (r : StoreRequest) (o : Option ℕ) (s : Store) → AllAnswerless (opens_made f r o s)
+opens_made_answerless f r None s = sync_answerless f r.file.group _ tt
+opens_made_answerless f r (Some ino) s = sync_answerless f r.file.group _ tt
+
+opens_answerless : (f : Frame) (r : StoreRequest) (m : Mode) (s : Store) → AllAnswerless (opens f r m s)
+opens_answerless f r mode.Make s = opens_made_answerless f r (own_ino s r.file.group f.me) s
+opens_answerless f r mode.Read s = sync_answerless f r.file.group _ tt
+opens_answerless f r mode.Write s = sync_answerless f r.file.group _ tt
+opens_answerless f r mode.Resolve s = sync_answerless f r.file.group _ tt
+opens_answerless f r mode.Mend s = sync_answerless f r.file.group _ tt
+
+on_open_ss_of_answerless : (f : Frame) (r : StoreRequest) (o : Option Instance) (s : Store) → AllAnswerless (on_open_ss_of f r o s)
+on_open_ss_of_answerless f r None s = opens_answerless f r r.mode s
+on_open_ss_of_answerless f r (Some i) s = every_cond Answerless (is_open i.stage) (opened_packets f i) [] (sync_answerless f i.file.group _ tt) tt
+
+pub on_open_ss_answerless : (f : Frame) (r : StoreRequest) (s : Store) → AllAnswerless (on_open_ss f r s)
+on_open_ss_answerless f r s = on_open_ss_of_answerless f r (instance_of s r.inst) s
+
+-- ---- the ends of closes ----
+
+ends_at_answerless : (f : Frame) (i : Instance) (g : Stage) (s : Store) → AllAnswerless (ends_at f i g s)
+ends_at_answerless f i stage.Running s = tt
+ends_at_answerless f i (stage.Closing made a) s = (tt, tt)
+ends_at_answerless f i (stage.Closed a) s = tt
+
+on_closed_ok_of_answerless : (f : Frame) (o : Option Instance) (s : Store) → AllAnswerless (on_closed_ok_of f o s)
+on_closed_ok_of_answerless f None s = tt
+on_closed_ok_of_answerless f (Some i) s = ends_at_answerless f i i.stage s
+
+pub on_closed_ok_answerless : (f : Frame) (inst : Serial) (s : Store) → AllAnswerless (on_closed_ok f inst s)
+on_closed_ok_answerless f inst s = on_closed_ok_of_answerless f (instance_of s inst) s
+
+-- ---- looks and pulls ----
+
+pub on_look_ss_answerless : (f : Frame) (us : ℕ) (l : LookRequest) (stamp : Stamp) (s : Store) → AllAnswerless (on_look_ss f us l stamp s)
+on_look_ss_answerless f us l stamp s = (tt, tt)
+
+pulled_page_answerless : (f : Frame) (from : ℕ) (file : FileId) (stamp : Stamp) (page : ℕ) (o : Option FileCopy) → Every Answerless (pulled_page f from file stamp page o)
+pulled_page_answerless f from file stamp page None = tt
+pulled_page_answerless f from file stamp page (Some x) = every_cond Answerless (has_page stamp page x) _ [] (tt, tt) tt
+
+pub on_pull_answerless : (f : Frame) (from : ℕ) (file : FileId) (stamp : Stamp) (page : ℕ) (s : Store) → AllAnswerless (on_pull f from file stamp page s)
+on_pull_answerless f from file stamp page s = pulled_page_answerless f from file stamp page (copy_of s file)
+
+-- ---- operations ----
+
+executes_effect_answerless : (f : Frame) (i : Instance) (o : Op) (e : Option Effect) (s : Store) → AllAnswerless (executes_effect f i o e s)
+executes_effect_answerless f i o None s = tt
+executes_effect_answerless f i o (Some e) s = (tt, tt)
+
+acts_committed_answerless : (f : Frame) (stamp : Stamp) (o : Option Instance) (s : Store) → AllAnswerless (acts_committed f stamp o s)
+acts_committed_answerless f stamp None s = tt
+acts_committed_answerless f stamp (Some i) s = (tt, tt)
+
+commits_owing_answerless : (f : Frame) (i : Instance) (s : Store) → AllAnswerless (commits_owing f i s)
+commits_owing_answerless f i s =
+    elim (is_spent f i) as (λ b. AllAnswerless (elim b [ true ↦ acts f i op.Commit (result.No refusal.Spent) (counted i.work) s | false ↦ and_then (commits f i s) (λ now. acts_committed f (next_stamp f (next_vector f i)) (instance_of now i.inst) now) ])) [
+      | true ↦ (tt, tt)
+      | false ↦ acts_committed_answerless f (next_stamp f (next_vector f i)) (instance_of (commits f i s).view i.inst) (commits f i s).view
+    ]
+
+last_committed_answerless : (f : Frame) (i : Instance) (o : Option Stamp) (s : Store) → AllAnswerless (last_committed f i o s)
+last_committed_answerless f i None s = tt
+last_committed_answerless f i (Some stamp) s = (tt, tt)
+
+commit_op_answerless : (f : Frame) (i : Instance) (s : Store) → AllAnswerless (commit_op f i s)
+commit_op_answerless f i s =
+    elim i.work.owes as (λ b. AllAnswerless (elim b [ true ↦ commits_owing f i s | false ↦ last_committed f i i.work.last s ])) [
+      | true ↦ commits_owing_answerless f i s
+      | false ↦ last_committed_answerless f i i.work.last s
+    ]
+
+executes_answerless : (f : Frame) (m : Mending) (i : Instance) (o : Op) (seen : List ℕ) (s : Store) → AllAnswerless (executes f m i o seen s)
+executes_answerless f m i op.Commit seen s = commit_op_answerless f i s
+executes_answerless f m i op.Abort seen s = (tt, tt)
+executes_answerless f m i (op.Probe name) seen s = executes_effect_answerless f i (op.Probe name) (effect_of (op.Probe name) seen m i.work.content) s
+executes_answerless f m i (op.Find component) seen s = executes_effect_answerless f i (op.Find component) (effect_of (op.Find component) seen m i.work.content) s
+executes_answerless f m i (op.Insert name ino kind) seen s = executes_effect_answerless f i (op.Insert name ino kind) (effect_of (op.Insert name ino kind) seen m i.work.content) s
+executes_answerless f m i (op.Remove name ino) seen s = executes_effect_answerless f i (op.Remove name ino) (effect_of (op.Remove name ino) seen m i.work.content) s
+executes_answerless f m i (op.Rename component name) seen s = executes_effect_answerless f i (op.Rename component name) (effect_of (op.Rename component name) seen m i.work.content) s
+executes_answerless f m i op.Empty seen s = executes_effect_answerless f i op.Empty (effect_of op.Empty seen m i.work.content) s
+executes_answerless f m i (op.Read at len) seen s = executes_effect_answerless f i (op.Read at len) (effect_of (op.Read at len) seen m i.work.content) s
+executes_answerless f m i (op.Write at bytes) seen s = executes_effect_answerless f i (op.Write at bytes) (effect_of (op.Write at bytes) seen m i.work.content) s
+executes_answerless f m i (op.Cut len) seen s = executes_effect_answerless f i (op.Cut len) (effect_of (op.Cut len) seen m i.work.content) s
+executes_answerless f m i op.Mend seen s = executes_effect_answerless f i op.Mend (effect_of op.Mend seen m i.work.content) s
+
+op_again_answerless : (f : Frame) (i : Instance) (n : ℕ) (o : Option Result) → Every Answerless (op_again f i n o)
+op_again_answerless f i n None = tt
+op_again_answerless f i n (Some r) = (tt, tt)
+
+by_number_answerless : (f : Frame) (m : Mending) (i : Instance) (n : ℕ) (o : Op) (seen : List ℕ) (s : Store) → AllAnswerless (by_number f m i n o seen s)
+by_number_answerless f m i n o seen s =
+    elim (n == i.work.ops) as (λ b. AllAnswerless (elim b [ true ↦ sends (op_again f i n i.answered) s | false ↦ elim (n == i.work.ops + 1) [ true ↦ executes f m i o seen s | false ↦ quiet s ] ])) [
+      | true ↦ op_again_answerless f i n i.answered
+      | false ↦ elim (n == i.work.ops + 1) as (λ b. AllAnswerless (elim b [ true ↦ executes f m i o seen s | false ↦ quiet s ])) [
+        | true ↦ executes_answerless f m i o seen s
+        | false ↦ tt
+      ]
+    ]
+
+on_op_at_answerless : (f : Frame) (m : Mending) (i : Instance) (g : Stage) (n : ℕ) (o : Op) (seen : List ℕ) (s : Store) → AllAnswerless (on_op_at f m i g n o seen s)
+on_op_at_answerless f m i stage.Running n o seen s = by_number_answerless f m i n o seen s
+on_op_at_answerless f m i (stage.Closing made a) n o seen s = tt
+on_op_at_answerless f m i (stage.Closed a) n o seen s = tt
+
+on_op_of_answerless : (f : Frame) (m : Mending) (i : Option Instance) (n : ℕ) (o : Op) (seen : List ℕ) (s : Store) → AllAnswerless (on_op_of f m i n o seen s)
+on_op_of_answerless f m None n o seen s = tt
+on_op_of_answerless f m (Some i) n o seen s = on_op_at_answerless f m i i.stage n o seen s
+
+pub on_op_answerless : (f : Frame) (m : Mending) (inst : Serial) (n : ℕ) (o : Op) (seen : List ℕ) (s : Store) → AllAnswerless (on_op f m inst n o seen s)
+on_op_answerless f m inst n o seen s = on_op_of_answerless f m (instance_of s inst) n o seen s
+
+-- ---- pulls ----
+
+pull_answerless : (f : Frame) (p : Pull) → Every Answerless (pull_packets f p)
+pull_answerless f p = every_cond Answerless (is_complete p) [] _ tt (tt, tt)
+
+begins_pull_answerless : (f : Frame) (p : Pull) (ps : List Pull) → AllAnswerless (begins_pull f p ps)
+begins_pull_answerless f p ps =
+    elim (replaces_pull p (pull_of ps p.file)) as (λ b. AllAnswerless (elim b [ true ↦ pulls_on f p ps | false ↦ quiet ps ])) [ true ↦ pull_answerless f p | false ↦ tt ]
+
+pub on_notify_answerless : (f : Frame) (from : ℕ) (o : Option FileCopy) (p : Pull) (ps : List Pull) → AllAnswerless (on_notify f from o p ps)
+on_notify_answerless f from None p ps = begins_pull_answerless f p ps
+on_notify_answerless f from (Some own) p ps =
+    elim (same_stamp own.stamp p.stamp) as (λ b. AllAnswerless (elim b [ true ↦ sends (packet f from (body.Have p.file p.stamp) ∷ []) ps | false ↦ elim (is_below own.vector p.vector) [ true ↦ begins_pull f p ps | false ↦ quiet ps ] ])) [
+      | true ↦ (tt, tt)
+      | false ↦ elim (is_below own.vector p.vector) as (λ b. AllAnswerless (elim b [ true ↦ begins_pull f p ps | false ↦ quiet ps ])) [ true ↦ begins_pull_answerless f p ps | false ↦ tt ]
+    ]
+
+on_page_of_answerless : (f : Frame) (stamp : Stamp) (page : ℕ) (bytes : List ℕ) (o : Option Pull) (ps : List Pull) → AllAnswerless (on_page_of f stamp page bytes o ps)
+on_page_of_answerless f stamp page bytes None ps = tt
+on_page_of_answerless f stamp page bytes (Some p) ps =
+    elim (is_awaited p stamp page bytes) as (λ b. AllAnswerless (elim b [ true ↦ pulls_on f (record p { content = p.content ++ bytes }) ps | false ↦ quiet ps ])) [ true ↦ pull_answerless f (record p { content = p.content ++ bytes }) | false ↦ tt ]
+
+pub on_page_answerless : (f : Frame) (file : FileId) (stamp : Stamp) (page : ℕ) (bytes : List ℕ) (ps : List Pull) → AllAnswerless (on_page f file stamp page bytes ps)
+on_page_answerless f file stamp page bytes ps = on_page_of_answerless f stamp page bytes (pull_of ps file) ps
+
+pub pull_repeats_answerless : (f : Frame) (ps : List Pull) → Every Answerless (pull_repeats f ps)
+pull_repeats_answerless f ps = every_flat_map Answerless (pull_packets f) ps (pull_answerless f)
+
+-- ---- the using site ----
+
+request_answerless : (f : Frame) (w : WaitingCall) (a : Asking) → Every Answerless (request_packets f w a)
+request_answerless f w (asking.Look file what take) = sync_answerless f file.group _ tt
+request_answerless f w (asking.Open serial file how) = sync_answerless f file.group _ tt
+request_answerless f w (asking.Op serial ss number o seen) = (tt, tt)
+request_answerless f w (asking.Close serial ss) = (tt, tt)
+
+pub users_repeats_answerless : (f : Frame) (u : Users) → Every Answerless (users_repeats f u)
+users_repeats_answerless f u = every_flat_map Answerless (λ (w : WaitingCall). request_packets f w w.asking) u.waiting (λ w. request_answerless f w w.asking)
+
+asks_answerless : (f : Frame) (w : WaitingCall) (u : Users) → AllAnswerless (asks f w u)
+asks_answerless f w u = request_answerless f w w.asking
+
+asks_op_answerless : (f : Frame) (w : WaitingCall) (o : Op) (i : Option UserInstance) (u : Users) → AllAnswerless (asks_op_of f w o i u)
+asks_op_answerless f w o None u = tt
+asks_op_answerless f w o (Some i) u = (tt, tt)
+
+asks_close_answerless : (f : Frame) (w : WaitingCall) (i : Option UserInstance) (u : Users) → AllAnswerless (asks_close_of f w i u)
+asks_close_answerless f w None u = tt
+asks_close_answerless f w (Some i) u = (tt, tt)
+
+asks_want_answerless : (f : Frame) (w : WaitingCall) (x : Want) (u : Users) → AllAnswerless (asks_want f w x u)
+asks_want_answerless f w (want.Look file what) u = sync_answerless f file.group _ tt
+asks_want_answerless f w (want.Open file m) u = sync_answerless f file.group _ tt
+asks_want_answerless f w (want.OpenToMend file) u = sync_answerless f file.group _ tt
+asks_want_answerless f w (want.Make group kind sites) u = sync_answerless f group _ tt
+asks_want_answerless f w (want.Do inst o) u = asks_op_answerless f w o (user_instance u inst.serial) u
+asks_want_answerless f w (want.Close inst) u = asks_close_answerless f w (user_instance u inst.serial) u
+asks_want_answerless f w (want.Give r) u = tt
+asks_want_answerless f w want.Never u = tt
+
+goes_on_answerless : (f : Frame) (w : WaitingCall) (u : Users) → AllAnswerless (goes_on f w u)
+goes_on_answerless f w u = asks_want_answerless f w (next_want f w u) u
+
+pub on_call_answerless : (f : Frame) (now : Option EpochId) (process : ℕ) (words : Call) (u : Users) → AllAnswerless (on_call f now process words u)
+on_call_answerless f now process words u =
+    goes_on_answerless f (accepted process (u.calls + 1) words (beginning (descriptors_of u process) now words)) (frees process words (record u { calls = u.calls + 1 }))
+
+takes_answer_answerless : (f : Frame) (w : WaitingCall) (a : Answer) (u : Users) → AllAnswerless (takes_answer f w a u)
+takes_answer_answerless f w a u = goes_on_answerless f (with_answer w a) u
+
+takes_open_answerless : (f : Frame) (kept : FileId → List Stamp) (serial : ℕ) (w : WaitingCall) (a : Granted) (u : Users) → AllAnswerless (takes_open f kept serial w a u)
+takes_open_answerless f kept serial w (granted.Open ss ino size stamp vector) u = takes_answer_answerless f w _ _
+takes_open_answerless f kept serial w (granted.No why) u = takes_answer_answerless f w _ u
+
+on_open_done_of_answerless : (f : Frame) (kept : FileId → List Stamp) (serial : ℕ) (a : Granted) (o : Option WaitingCall) (u : Users) → AllAnswerless (on_open_done_of f kept serial a o u)
+on_open_done_of_answerless f kept serial a None u = tt
+on_open_done_of_answerless f kept serial a (Some w) u = takes_open_answerless f kept serial w a u
+
+pub on_open_done_answerless : (f : Frame) (kept : FileId → List Stamp) (serial : ℕ) (a : Granted) (u : Users) → AllAnswerless (on_open_done f kept serial a u)
+on_open_done_answerless f kept serial a u = on_open_done_of_answerless f kept serial a (first_that (asks_open_of serial) u.waiting) u
+
+on_op_done_of_answerless : (f : Frame) (r : Result) (o : Option WaitingCall) (u : Users) → AllAnswerless (on_op_done_of f r o u)
+on_op_done_of_answerless f r None u = tt
+on_op_done_of_answerless f r (Some w) u = takes_answer_answerless f w _ u
+
+pub on_op_done_answerless : (f : Frame) (serial n : ℕ) (r : Result) (u : Users) → AllAnswerless (on_op_done f serial n r u)
+on_op_done_answerless f serial n r u = on_op_done_of_answerless f r (first_that (asks_op_number serial n r) u.waiting) u
+
+on_close_done_of_answerless : (f : Frame) (serial : ℕ) (a : CloseAnswer) (o : Option WaitingCall) (u : Users) → AllAnswerless (on_close_done_of f serial a o u)
+on_close_done_of_answerless f serial a None u = tt
+on_close_done_of_answerless f serial a (Some w) u = takes_answer_answerless f w _ _
+
+pub on_close_done_answerless : (f : Frame) (serial : ℕ) (a : CloseAnswer) (u : Users) → AllAnswerless (on_close_done f serial a u)
+on_close_done_answerless f serial a u = on_close_done_of_answerless f serial a (first_that (using.asks_close_of serial) u.waiting) u
+
+looks_again_answerless : (f : Frame) (w : WaitingCall) (a : Asking) (u : Users) → AllAnswerless (looks_again f w a u)
+looks_again_answerless f w (asking.Look file what take) u = sync_answerless f file.group _ tt
+looks_again_answerless f w (asking.Open serial file how) u = tt
+looks_again_answerless f w (asking.Op serial ss number o seen) u = tt
+looks_again_answerless f w (asking.Close serial ss) u = tt
+
+takes_look_answerless : (f : Frame) (w : WaitingCall) (a : LookAnswer) (u : Users) → AllAnswerless (takes_look f w a u)
+takes_look_answerless f w (looked.Found ino kind) u = takes_answer_answerless f w _ u
+takes_look_answerless f w (looked.Content bytes) u = takes_answer_answerless f (with_brought w.asking bytes w) (content_answer w.asking bytes) u
+takes_look_answerless f w (looked.Stat kind size stamp) u = takes_answer_answerless f w _ u
+takes_look_answerless f w looked.Moved u = looks_again_answerless f w w.asking u
+takes_look_answerless f w (looked.No why) u = takes_answer_answerless f w _ u
+
+on_look_done_of_answerless : (f : Frame) (a : LookAnswer) (o : Option WaitingCall) (u : Users) → AllAnswerless (on_look_done_of f a o u)
+on_look_done_of_answerless f a None u = tt
+on_look_done_of_answerless f a (Some w) u = takes_look_answerless f w a u
+
+pub on_look_done_answerless : (f : Frame) (n request take : ℕ) (a : LookAnswer) (u : Users) → AllAnswerless (on_look_done f n request take a u)
+on_look_done_answerless f n request take a u = on_look_done_of_answerless f a (first_that (asks_take n request take a) u.waiting) u

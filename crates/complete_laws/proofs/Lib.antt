@@ -1,0 +1,13 @@
+pub mod FitCallTaking
+pub mod FitCallAdopting
+pub mod FitCallJoining
+pub mod FitCallAgreeing
+pub mod MomentCourse
+pub mod MomentRest
+pub mod MomentMoments
+pub mod MomentRows
+pub mod MomentTables
+pub mod MomentPulls
+pub mod Acting
+pub mod Sending
+pub mod Lines

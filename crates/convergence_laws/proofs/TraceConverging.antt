@@ -1,0 +1,119 @@
+-- Copies converge: as the lines of a schedule and the records of its run tell it.
+use Rattle.std.proofs.Common.{◌≡◌, ℕ, zero, suc, ◌==◌, not, Bool, true, ◌&&◌, ◌⊎◌, List, [], ◌∷◌, Option, Some, None, refl, sym, ◌∙◌, ap, inl, inr, arith}
+use Rattle.std.proofs.lemmas.Bool.Decides.{nat_tests}
+use Rattle.std.specs.Option.{option_map}
+use Rattle.locus_ids.specs.Sites.{has}
+use Rattle.locus_ids.specs.declared.config.Config.{Config}
+use Rattle.locus_ids.specs.declared.ids.EpochId.{EpochId}
+use Rattle.locus_ids.specs.declared.ids.FileId.{FileId}
+use Rattle.locus_ids.specs.declared.ids.Stamp.{Stamp}
+use Rattle.locus_ids.specs.declared.sites.Members.{Members}
+use Rattle.locus_ids.specs.declared.sites.Sites.{Sites}
+use Rattle.schedule_lines.specs.Cluster.{config_of}
+use Rattle.schedule_lines.specs.Schedule.{AreInOrder}
+use Rattle.schedule_lines.specs.declared.line.ScheduleLine.{ScheduleLine}
+use Rattle.role_steps.specs.Views.{all_sites, boot_in, is_member, first_site, members_of, pack_sites, sync_site}
+use Rattle.role_steps.specs.declared.copies.FileCopy.{FileCopy}
+use Rattle.role_steps.specs.declared.rounds.InEpoch.{InEpoch}
+use Rattle.the_run.specs.Kept.{Among}
+use Rattle.the_run.specs.Runs.{run}
+use Rattle.the_run.specs.Worlds.{World, place_at}
+use Rattle.tree_model.specs.Files.{set_of_file, version_of}
+use Rattle.tree_model.specs.Folds.{Trace}
+use Rattle.tree_model.specs.Histories.{held}
+use Rattle.tree_model.specs.Packs as tree
+use Rattle.lawful_trace.specs.Places.{through_line}
+use Rattle.row_laws.specs.Shown.{trace_of}
+use Rattle.tree_laws.specs.Printed.{entries}
+use Rattle.tree_laws.specs.Stores.{copy_for}
+use Rattle.order_laws.proofs.ProcessSynchronizing.{sync_same}
+use Rattle.one_tree_laws.specs.Places.{InsideFact}
+use Rattle.orderly_traces.specs.Agreeing.{IsWithin}
+use Rattle.calm_laws.specs.Carrying.{IsMember, frame_of}
+use Rattle.calm_laws.specs.Rounds.{CalmLeft, after}
+use Rattle.calm_laws.proofs.Delivered.{inside_fact}
+use Rattle.calm_laws.proofs.Lists.{none_some, some_is}
+use Rattle.convergence_laws.specs.Copies.{HoldsTheOnly}
+use Rattle.convergence_laws.specs.Rounds as rounds
+use Rattle.convergence_laws.proofs.Convergence.{converge}
+use Rattle.convergence_laws.specs.TraceCopies.{IsAtRest, LackedRoom, CopiesConverge}
+use Rattle.convergence_laws.proofs.TraceKnown.{HasTable, HasOne, has_table, has_one, known_row}
+use Rattle.convergence_laws.proofs.TraceMoments.{IsMidway, at_end, quiet, lacked}
+use Rattle.convergence_laws.proofs.TracePlayed.{IsPlayed, member_of_list, played}
+use Rattle.convergence_laws.proofs.TraceUndisturbed.{among_passing}
+
+-- ---- rows ----
+
+first_of : (xs : List ℕ) (x : ℕ) → Among x xs → (y : ℕ) × (first_site xs ≡ Some y)
+first_of [] x a = absurd a
+first_of (y ∷ ys) x a = (y, refl)
+
+some_boot : (b : ℕ) → (b ≡ 0 → ⊥) → not (b == 0) ≡ true
+some_boot zero h = absurd (h refl)
+some_boot (suc b) h = grind (arith, nat_tests)
+
+-- ---- the promise ----
+
+module _ (lines : List ScheduleLine) (order : AreInOrder lines) (within : IsWithin lines) (calm : CalmLeft (config_of lines)) (n m : ℕ) (id : EpochId) (members : Members) (f : FileId) (stamp : Stamp) (h : IsAtRest (config_of lines) lines (trace_of (run lines)) n m id members f stamp) (s : ℕ) (listed : tree.is_member members s ≡ true)
+    (packed : tree.has_pack (config_of lines) f.group s ≡ true) (in_set : has (set_of_file (config_of lines) (through_line (trace_of (run lines)) m) f) s ≡ true) where
+  abbrev c : Config
+  c = config_of lines
+
+  abbrev e : InEpoch
+  e = record { id = id; members = members }
+
+  abbrev trace : Trace
+  trace = trace_of (run lines)
+
+  first : IsPlayed lines n e
+  first = played lines order within n id members h.rounds.first
+
+  second : IsPlayed lines m e
+  second = played lines order within m id members h.rounds.second
+
+  abbrev end : World
+  end = after c lines m second.deliveries
+
+  member : IsMember e s
+  member = member_of_list id members s listed
+
+  -- the site has a pack and is a member, so some site synchronizes the group
+  css : (css : ℕ) × (sync_site c members f.group ≡ Some css)
+  css = first_of (members_of members (pack_sites c f.group)) s (among_passing (λ (t : ℕ). has (pack_sites c f.group) t && is_member members t) s all_sites (second.calm.sites s member) (ap (λ (b : Bool). b && is_member members s) packed ∙ some_boot (boot_in members.boot s) member))
+
+  t : HasTable lines m e second f.group css.0
+  t = has_table lines calm m e second f.group css.0 (sym (sync_same c members f.group) ∙ css.1)
+
+  q : HasOne lines m e second f css.0 t stamp
+  q = has_one lines m e second f css.0 t stamp h.kept
+
+  rest : rounds.IsAtRest c lines n m e first.deliveries second.deliveries f q.version q.row.set
+  rest = record {
+    rounds = record { first = first.calm; second = second.calm; order = h.rounds.order; directly = h.rounds.directly };
+    in_first = quiet lines n e first f q.numbered h.in_first;
+    in_second = quiet lines m e second f q.numbered h.in_second;
+    kept = record { file_known = q.row; known = known_row lines m e second f css.0 t q.row q.is_row.found; only = q.only; sites = refl };
+  }
+
+  on_disk : HoldsTheOnly (place_at end) s f q.version → held c (through_line trace m) s f ≡ Some stamp
+  on_disk x = ap (λ (tr : Trace). held c tr s f) t.told ∙ (by_held (held c (entries end.trace) s f) (sym x.found ∙ mine.store.copies.are f q.narrow) ∙ ap Some (x.stamp ∙ q.stamp_is))
+    where
+      now : IsMidway c e end
+      now = at_end lines m e second
+
+      mine : InsideFact c (frame_of c e s) end.trace x.view
+      mine = inside_fact c e end s x.view now.fact now.together member x.here
+
+      by_held : (o : Option Stamp) → Some x.copy ≡ option_map (copy_for f) (option_map (version_of c (entries end.trace) f) o) → o ≡ Some x.copy.stamp
+      by_held None k = absurd (none_some x.copy (sym k))
+      by_held (Some now) k = ap Some (sym (ap (λ (y : FileCopy). y.stamp) (some_is x.copy (copy_for f (version_of c (entries end.trace) f now)) k)))
+
+  converged : (held c (through_line trace m) s f ≡ Some stamp) ⊎ LackedRoom c trace m id s f stamp
+  converged = over (converge c calm lines n m e first.deliveries second.deliveries f q.version q.row.set rest s member (ap (λ (x : Sites). has x s) q.is_row.set_is ∙ in_set))
+    where
+      over : HoldsTheOnly (place_at end) s f q.version ⊎ rounds.LackedRoom c lines m second.deliveries s f q.version → (held c (through_line trace m) s f ≡ Some stamp) ⊎ LackedRoom c trace m id s f stamp
+      over (inl x) = inl (on_disk x)
+      over (inr x) = inr (lacked lines m e second s member f stamp q.version q.size_is x)
+
+pub converging : (lines : List ScheduleLine) → AreInOrder lines → IsWithin lines → CalmLeft (config_of lines) → CopiesConverge lines (trace_of (run lines))
+converging lines order within calm n m e members f stamp h s listed packed in_set = converged lines order within calm n m e members f stamp h s listed packed in_set

@@ -1,0 +1,118 @@
+-- Between two ticks of a round: its facts stand there too, and members that the records show together are so.
+use Rattle.std.proofs.Common.{◌≡◌, ◌≢◌, ℕ, zero, suc, true, List, [], ◌∷◌, ◌++◌, Option, Some, None, refl, sym, ◌∙◌, ap, subst, arith}
+use Rattle.std.proofs.lemmas.Bool.Decides.{nat_tests}
+use Rattle.std.specs.List.{list_any}
+use Rattle.locus_ids.specs.declared.config.Config.{Config}
+use Rattle.locus_ids.specs.declared.ids.EpochId.{EpochId}
+use Rattle.locus_ids.specs.declared.sites.Members.{Members}
+use Rattle.schedule_lines.specs.declared.line.ScheduleLine.{ScheduleLine}
+use Rattle.role_steps.specs.Views.{SiteView, Event, Shown, Ticks, Receives, all_sites}
+use Rattle.role_steps.specs.declared.rounds.InEpoch.{InEpoch}
+use Rattle.tree_model.specs.Epochs.{is_up, epoch_of, members_of}
+use Rattle.tree_model.specs.Packs.{boot_in, is_member}
+use Rattle.the_run.specs.Runs.{ticks_to}
+use Rattle.the_run.specs.Steps.{step}
+use Rattle.the_run.specs.Worlds.{World, Place, Running, Stopped, Line, CutCircuit, number_of, place_at, links_of, passed, acts, is_between}
+use Rattle.row_laws.specs.Shown.{trace_of}
+use Rattle.row_laws.proofs.Causes.{epoch_standing}
+use Rattle.tree_laws.specs.Following.{IsFollowed}
+use Rattle.tree_laws.specs.Printed.{entries}
+use Rattle.tree_laws.proofs.Mending.{members_stay}
+use Rattle.one_tree_laws.specs.Places.{NumberedFact, SiteIn, WorldFact}
+use Rattle.one_tree_laws.specs.Rest.{EachRest, IsRest}
+use Rattle.rest_laws.proofs.Shown.{shown_entries}
+use Rattle.orderly_laws.specs.Calm.{IsInside, AreTogether}
+use Rattle.calm_laws.specs.Carrying.{IsMember}
+use Rattle.calm_laws.proofs.Lists.{true_false, some_is, none_some, every_among}
+use Rattle.calm_laws.proofs.Moments.{GoesOn}
+use Rattle.calm_laws.proofs.Placed.{Stands}
+use Rattle.the_run.proofs.InsideSync.{every_without}
+use Rattle.orderly_laws.proofs.Rounds.{RoundKept}
+use Rattle.one_tree_laws.specs.Roles.{EventFact, RolesDo}
+use Rattle.one_tree_laws.proofs.Cuts.{step_writes}
+use Rattle.one_tree_laws.proofs.Staying.{Stays, stays}
+use Rattle.one_tree_laws.proofs.Steps.{step_fine}
+use Rattle.one_tree_laws.proofs.Worlds.{Holds, acts_holds, says_holds}
+use Rattle.trace_book.specs.declared.record.Record.TheVariants as says
+use Rattle.role_steps.specs.Views as views
+use Rattle.lawful_trace.specs.Calm as traced
+
+-- ---- a round's ticks ----
+
+pub ticks_then : (c : Config) (n : ℕ) (xs ys : List ℕ) (w : World) → ticks_to c n (xs ++ ys) w ≡ ticks_to c n ys (ticks_to c n xs w)
+ticks_then c n [] ys w = refl
+ticks_then c n (x ∷ xs) ys w = ticks_then c n xs ys _
+
+pub rest_earlier : (c : Config) (new old : List Line) → EachRest c (new ++ old) → EachRest c old
+rest_earlier c [] old h = h
+rest_earlier c (x ∷ xs) old h = rest_earlier c xs old h.1
+
+-- what is shown of the run stands after each tick and each delivery
+pass_holds : (c : Config) (k : ℕ) (w : World) → Holds c w → Holds c (passed k w)
+pass_holds c k w g = λ r. (let f : WorldFact c w = g r in record { followed = f.followed; places = f.places; sent = f.sent; underway = every_without (NumberedFact c w.trace) number_of k w.underway f.underway })
+
+does : (c : Config) → RolesDo c → Stays c → (n s : ℕ) (e : Event) (v : SiteView) (w : World) → place_at w s ≡ Some (Running v) → (IsRest c w.trace → EventFact c w.trace s v e) → Holds c w → Holds c (acts n s v (step c s (links_of w s) v e) w)
+does c roles stays n s e v w here fact g = acts_holds c roles stays n s v (step c s (links_of w s) v e) w here
+    (λ old r f. step_fine c roles stays n s (links_of w s) w.trace v e old (f.places s (Running v) here) (fact old.rest) r)
+    (λ old f. step_writes c roles n s (links_of w s) w.trace v e old (f.places s (Running v) here) (fact old.rest)) g
+
+pub holds_round : (c : Config) (n : ℕ) → RolesDo c → RoundKept c n (Holds c)
+holds_round c n roles = record {
+  ticks = λ s v w here g. does c roles (stays c) n s Ticks v w here (λ r. tt) g;
+  receives = λ x v w here a undropped g. does c roles (stays c) n x.packet.to (Receives x.packet) v (passed x.number w) here (λ r. (refl, every_among (NumberedFact c w.trace) x w.underway a (g r).underway)) (pass_holds c x.number w g);
+  drops = λ x w a dropped g. pass_holds c x.number w g;
+  budgets = λ w g. says_holds c roles (stays c) n (Shown says.Budget ∷ []) w (tt, tt) g;
+}
+
+-- ---- members that are together ----
+
+members_later : (c : Config) (new old : List Line) → IsFollowed c (new ++ old) → (id : EpochId) (m : Members) → members_of (entries old) id ≡ Some m → members_of (entries (new ++ old)) id ≡ Some m
+members_later c [] old h id m e = e
+members_later c (x ∷ xs) old h id m e = (let r : members_of (entries (xs ++ old)) id ≡ Some m = members_later c xs old h.1 id m e in members_stay c x.number x.told (xs ++ old) id h.0 (m, r) ∙ r)
+
+member_is : (members : Members) (s : ℕ) → boot_in members s ≢ 0 → is_member members s ≡ true
+member_is members s h = grind (arith, nat_tests)
+
+boots_same : (members : Members) (s : ℕ) → views.boot_in members.boot s ≡ boot_in members s
+boots_same members zero = refl
+boots_same members (suc p) = refl
+
+pub together_by : (c : Config) (lines : List ScheduleLine) (id : EpochId) (members : Members) (first w : World) → WorldFact c w → Stands w → GoesOn first w → AreTogether first (record { id = id; members = members }) → members_of (trace_of first) id ≡ Some members → traced.AreTogether lines (trace_of w) id members →
+    AreTogether w (record { id = id; members = members })
+together_by c lines id members first w fact stands goes start listed h = record { inside = inside; connected = λ s t m k ne. ap (λ (xs : List CutCircuit). list_any (is_between s t) xs) goes.circuits ∙ start.connected s t m k ne }
+  where
+    e : InEpoch
+    e = record { id = id; members = members }
+
+    now : members_of (entries w.trace) id ≡ Some members
+    now = subst (λ (t : List Line). members_of (entries t) id ≡ Some members) (sym goes.trace)
+        (members_later c goes.lines first.trace (subst (λ (t : List Line). IsFollowed c t) goes.trace fact.followed) id members (ap (λ t. members_of t id) (sym (shown_entries first.trace)) ∙ listed))
+
+    inside : (s : ℕ) → IsMember (record { id = id; members = members }) s → IsInside w (record { id = id; members = members }) s
+    inside s m = by_place (place_at w s) refl
+      where
+        listed_s : is_member members s ≡ true
+        listed_s = member_is members s (λ z. m (boots_same members s ∙ z))
+
+        up : is_up (entries w.trace) s ≡ true
+        up = ap (λ t. is_up t s) (sym (shown_entries w.trace)) ∙ h.up s listed_s
+
+        in_epoch : epoch_of (entries w.trace) s ≡ Some id
+        in_epoch = ap (λ t. epoch_of t s) (sym (shown_entries w.trace)) ∙ h.inside s listed_s
+
+        by_epoch : (v : SiteView) → place_at w s ≡ Some (Running v) → (o : Option InEpoch) → v.epoch ≡ o → SiteIn c s w.trace v o → IsInside w (record { id = id; members = members }) s
+        by_epoch v here None is f = absurd (none_some id (sym f.outside ∙ in_epoch))
+        by_epoch v here (Some d) is f =
+            let same : d.id ≡ id = some_is d.id id (sym f.frame.inside ∙ in_epoch) in
+            let list : d.members ≡ members = some_is d.members members (sym f.frame.members_are ∙ (ap (members_of (entries w.trace)) same ∙ now)) in
+            record {
+              view = v;
+              here = here;
+              boot = sym f.frame.is_member ∙ ap (λ (x : Members). views.boot_in x.boot s) list;
+              epoch = is ∙ (λ i. Some (record { id = same i; members = list i }));
+            }
+
+        by_place : (o : Option Place) → place_at w s ≡ o → IsInside w (record { id = id; members = members }) s
+        by_place None k = absurd (none_some id (sym (stands.only s k) ∙ (sym (epoch_standing s w.trace (h.up s listed_s)) ∙ h.inside s listed_s)))
+        by_place (Some (Stopped d)) k = absurd (true_false (sym up ∙ (fact.places s (Stopped d) k).stopped))
+        by_place (Some (Running v)) k = by_epoch v k v.epoch refl (fact.places s (Running v) k)

@@ -1,3 +1,0 @@
-pub mod Counting
-pub mod Text
-pub mod Run

@@ -1,9 +1,0 @@
-pub mod Gates
-pub mod Boots
-pub mod Writes
-pub mod Placed
-pub mod Shaped
-pub mod Traced
-pub mod Events
-pub mod Course
-pub mod Run

@@ -1,5 +1,0 @@
-use Rattle.epoch_tree_laws.proofs.Starting.{starts_fine}
-use Rattle.epoch_tree_laws.proofs.laws.groups_start_when_all_have_reported.Goals as goal
-
-pub returns : goal.returns
-returns c = λ config n trace f t does ready here waits reported files groups fresh. starts_fine config n trace f t does ready here waits reported files groups fresh

@@ -1,5 +1,0 @@
-use Rattle.epoch_tree_laws.proofs.Coming.{reports_come}
-use Rattle.epoch_tree_laws.proofs.laws.reports_come_as_they_may.Goals as goal
-
-pub returns : goal.returns
-returns c = λ config does n trace f p group copies t ready here came is fresh. reports_come config does n trace f p group copies t ready here came is fresh

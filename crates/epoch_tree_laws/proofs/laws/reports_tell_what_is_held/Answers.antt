@@ -1,5 +1,0 @@
-use Rattle.epoch_tree_laws.proofs.Reports.{reports_sent}
-use Rattle.epoch_tree_laws.proofs.laws.reports_tell_what_is_held.Goals as goal
-
-pub returns : goal.returns
-returns c = λ config trace f v ready inside. reports_sent config trace f v ready.past ready.frame inside.store.copies inside.reports

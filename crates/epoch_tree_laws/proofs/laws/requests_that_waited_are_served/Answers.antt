@@ -1,5 +1,0 @@
-use Rattle.epoch_tree_laws.proofs.Waiting.{all_fine}
-use Rattle.epoch_tree_laws.proofs.laws.requests_that_waited_are_served.Goals as goal
-
-pub returns : goal.returns
-returns c = λ config n trace f es t does ready here started facts groups fresh. all_fine config does n f es trace t ready here started facts groups fresh

@@ -1,4 +1,0 @@
-pub mod Waiting
-pub mod Starting
-pub mod Reporting
-pub mod Counting

@@ -1,0 +1,3 @@
+pub mod FlatWalks
+pub mod Places
+pub mod Three

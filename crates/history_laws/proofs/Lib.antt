@@ -1,4 +1,0 @@
-pub mod Numbers
-pub mod History
-pub mod Sited
-pub mod Covers

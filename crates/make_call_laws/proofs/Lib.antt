@@ -1,5 +1,0 @@
-pub mod Others
-pub mod Scripts
-pub mod Once
-pub mod Probing
-pub mod Probed

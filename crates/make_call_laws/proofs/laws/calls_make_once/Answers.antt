@@ -1,8 +1,0 @@
-use Rattle.make_call_laws.proofs.Once.{calls_make_once, one_make}
-use Rattle.make_call_laws.proofs.laws.calls_make_once.Goals as goal
-
-pub returns : goal.returns
-returns c = record {
-  asked = λ config trace h e d i j group set was asks. one_make config trace h e d i j group set was asks;
-  begun = λ config trace h e d i j a b. calls_make_once config trace h e d i j a b;
-}

@@ -1,7 +1,0 @@
-use Rattle.tree_laws.specs.Printed.{entries}
-use Rattle.tree_laws.proofs.Rows.{followed_rows}
-use Rattle.mend_step_laws.proofs.Numbered.{files_numbered}
-use Rattle.mend_step_laws.proofs.laws.files_are_numbered.Goals as goal
-
-pub returns : goal.returns
-returns c = λ config trace followed f stamp stands. (files_numbered config (entries trace) (followed_rows config trace followed)).stand f stamp stands

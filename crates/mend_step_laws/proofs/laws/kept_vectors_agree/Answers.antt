@@ -1,7 +1,0 @@
-use Rattle.std.proofs.Common.{Bool, subst}
-use Rattle.tree_laws.specs.Tables.{FilesFact}
-use Rattle.mend_step_laws.proofs.KeptVectors.{vectors_agree}
-use Rattle.mend_step_laws.proofs.laws.kept_vectors_agree.Goals as goal
-
-pub returns : goal.returns
-returns c = λ config trace f t fact on. vectors_agree config trace f t fact (subst (λ (b : Bool). FilesFact config trace f t b) on fact.files)

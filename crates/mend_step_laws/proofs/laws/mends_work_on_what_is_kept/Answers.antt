@@ -1,5 +1,0 @@
-use Rattle.mend_step_laws.proofs.Working.{mends_as}
-use Rattle.mend_step_laws.proofs.laws.mends_work_on_what_is_kept.Goals as goal
-
-pub returns : goal.returns
-returns c = λ config trace f v past inside few inst small i found d accepted asks. mends_as config trace f v past inside few inst small i found d accepted asks

@@ -1,7 +1,0 @@
-use Rattle.tree_laws.specs.Printed.{entries}
-use Rattle.tree_laws.proofs.Rows.{followed_rows}
-use Rattle.one_version_laws.proofs.Homes.{home_holds}
-use Rattle.one_version_laws.proofs.laws.homes_hold_their_files.Goals as goal
-
-pub returns : goal.returns
-returns c = λ config trace followed f stamp home given stands. home_holds config (entries trace) (followed_rows config trace followed) f stamp home given stands

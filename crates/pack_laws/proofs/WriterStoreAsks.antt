@@ -1,0 +1,223 @@
+-- What the storage site and a site that pulls send in an epoch asks no open and no operation.
+use Rattle.std.proofs.Common.{ℕ, ◌+◌, ◌==◌, true, false, List, [], ◌∷◌, ◌++◌, Option, Some, None}
+use Rattle.locus_ids.specs.declared.ids.FileId.{FileId}
+use Rattle.locus_ids.specs.declared.ids.Serial.{Serial}
+use Rattle.locus_ids.specs.declared.ids.Stamp.{Stamp}
+use Rattle.locus_ids.specs.declared.ids.Mode.{Mode}
+use Rattle.locus_ids.specs.declared.ids.Mode.TheVariants as mode
+use Rattle.locus_ids.specs.declared.refusal.Refusal.TheVariants as refusal
+use Rattle.commit_graph.specs.Versions.{same_stamp}
+use Rattle.trace_book.specs.declared.operation.Op.{Op}
+use Rattle.trace_book.specs.declared.operation.Op.TheVariants as op
+use Rattle.trace_book.specs.declared.operation.Outcome.{Outcome as Result}
+use Rattle.trace_book.specs.declared.operation.Outcome.TheVariants as result
+use Rattle.file_effects.specs.Effects.{Effect}
+use Rattle.file_effects.specs.Works.{counted}
+use Rattle.wire_messages.specs.declared.body.Body.TheVariants as body
+use Rattle.wire_messages.specs.declared.body.CloseAnswer.{CloseAnswer}
+use Rattle.wire_messages.specs.declared.body.CloseAnswer.TheVariants as closing
+use Rattle.role_steps.specs.Own.{Every}
+use Rattle.role_steps.specs.Views.{Frame, Store, quiet, sends, and_then, packet}
+use Rattle.role_steps.specs.Versions.{is_below}
+use Rattle.role_steps.specs.Looks.{LookRequest}
+use Rattle.role_steps.specs.Storage.{StoreRequest, copy_of, instance_of, is_open, opened_packets, own_ino, opens, opens_made, on_open_ss_of, on_open_ss, is_spent, commits, next_stamp, next_vector, shuts, shuts_again, closes_owing, closes, on_close_at, on_close_of, on_close, ends_at, on_closed_ok_of, on_closed_ok, on_look_ss, has_page, pulled_page, on_pull, closed_again, store_repeats}
+use Rattle.role_steps.specs.Operations.{acts, acts_committed, commits_owing, last_committed, commit_op, executes_effect, executes, op_again, by_number, on_op_at, on_op_of, on_op}
+use Rattle.role_steps.specs.OperationEffects.{Mending, effect_of}
+use Rattle.role_steps.specs.Pulling.{pull_of, pull_packets, is_complete, goes_on as pulls_on, begins_pull, replaces_pull, on_notify, is_awaited, on_page_of, on_page, pull_repeats}
+use Rattle.role_steps.specs.declared.copies.FileCopy.{FileCopy}
+use Rattle.role_steps.specs.declared.instances.Instance.{Instance}
+use Rattle.role_steps.specs.declared.instances.Stage.{Stage}
+use Rattle.role_steps.specs.declared.instances.Stage.TheVariants as stage
+use Rattle.role_steps.specs.declared.pulls.Pull.{Pull}
+use Rattle.role_steps.proofs.Sending.{every_cond, every_flat_map}
+use Rattle.pack_laws.specs.WriterAsking.{Askless, Still}
+use Rattle.pack_laws.proofs.WriterSyncAsks.{sync_plain}
+
+-- ---- opens ----
+
+opens_made_still : (f : Frame) (r : StoreRequest) (o : Option ℕ) (s : Store) → Still (opens_made f r o s)
+opens_made_still f r None s = (sync_plain f r.file.group _ tt, tt, tt)
+opens_made_still f r (Some ino) s = (sync_plain f r.file.group _ tt, (tt, (tt, tt)), tt)
+
+opens_still : (f : Frame) (r : StoreRequest) (m : Mode) (s : Store) → Still (opens f r m s)
+opens_still f r mode.Make s = opens_made_still f r (own_ino s r.file.group f.me) s
+opens_still f r mode.Read s = (sync_plain f r.file.group _ tt, (tt, tt), tt)
+opens_still f r mode.Write s = (sync_plain f r.file.group _ tt, (tt, tt), tt)
+opens_still f r mode.Resolve s = (sync_plain f r.file.group _ tt, (tt, tt), tt)
+opens_still f r mode.Mend s = (sync_plain f r.file.group _ tt, (tt, tt), tt)
+
+on_open_ss_of_still : (f : Frame) (r : StoreRequest) (o : Option Instance) (s : Store) → Still (on_open_ss_of f r o s)
+on_open_ss_of_still f r None s = opens_still f r r.mode s
+on_open_ss_of_still f r (Some i) s = (every_cond Askless (is_open i.stage) (opened_packets f i) [] (sync_plain f i.file.group _ tt) tt, tt, tt)
+
+pub on_open_ss_still : (f : Frame) (r : StoreRequest) (s : Store) → Still (on_open_ss f r s)
+on_open_ss_still f r s = on_open_ss_of_still f r (instance_of s r.inst) s
+
+-- ---- closes ----
+
+shuts_still : (f : Frame) (i : Instance) (a : CloseAnswer) (s : Store) → Still (shuts f i a s)
+shuts_still f i a s = (sync_plain f i.file.group _ tt, (tt, tt), tt)
+
+shuts_again_still : (f : Frame) (a : CloseAnswer) (o : Option Instance) (s : Store) → Still (shuts_again f a o s)
+shuts_again_still f a None s = (tt, tt, tt)
+shuts_again_still f a (Some i) s = shuts_still f i a s
+
+closes_owing_still : (f : Frame) (i : Instance) (s : Store) → Still (closes_owing f i s)
+closes_owing_still f i s =
+    let a : CloseAnswer = closing.Made (next_stamp f (next_vector f i)) in
+    let now : Store = (commits f i s).view in
+    let e : Still (shuts_again f a (instance_of now i.inst) now) = shuts_again_still f a (instance_of now i.inst) now in
+    elim (is_spent f i) as (λ b. Still (elim b [ true ↦ shuts f i (closing.No refusal.Spent) s | false ↦ and_then (commits f i s) (λ now. shuts_again f (closing.Made (next_stamp f (next_vector f i))) (instance_of now i.inst) now) ])) [
+      | true ↦ shuts_still f i (closing.No refusal.Spent) s
+      | false ↦ (e.0, (tt, e.1), tt)
+    ]
+
+closes_still : (f : Frame) (i : Instance) (s : Store) → Still (closes f i s)
+closes_still f i s =
+    elim i.work.owes as (λ b. Still (elim b [ true ↦ closes_owing f i s | false ↦ shuts f i closing.Nothing s ])) [
+      | true ↦ closes_owing_still f i s
+      | false ↦ shuts_still f i closing.Nothing s
+    ]
+
+on_close_at_still : (f : Frame) (i : Instance) (g : Stage) (s : Store) → Still (on_close_at f i g s)
+on_close_at_still f i stage.Running s = closes_still f i s
+on_close_at_still f i (stage.Closing made a) s = (sync_plain f i.file.group _ tt, tt, tt)
+on_close_at_still f i (stage.Closed a) s = ((tt, tt), tt, tt)
+
+on_close_of_still : (f : Frame) (o : Option Instance) (s : Store) → Still (on_close_of f o s)
+on_close_of_still f None s = (tt, tt, tt)
+on_close_of_still f (Some i) s = on_close_at_still f i i.stage s
+
+pub on_close_still : (f : Frame) (inst : Serial) (s : Store) → Still (on_close f inst s)
+on_close_still f inst s = on_close_of_still f (instance_of s inst) s
+
+ends_at_still : (f : Frame) (i : Instance) (g : Stage) (s : Store) → Still (ends_at f i g s)
+ends_at_still f i stage.Running s = (tt, tt, tt)
+ends_at_still f i (stage.Closing made a) s = ((tt, tt), tt, tt)
+ends_at_still f i (stage.Closed a) s = (tt, tt, tt)
+
+on_closed_ok_of_still : (f : Frame) (o : Option Instance) (s : Store) → Still (on_closed_ok_of f o s)
+on_closed_ok_of_still f None s = (tt, tt, tt)
+on_closed_ok_of_still f (Some i) s = ends_at_still f i i.stage s
+
+pub on_closed_ok_still : (f : Frame) (inst : Serial) (s : Store) → Still (on_closed_ok f inst s)
+on_closed_ok_still f inst s = on_closed_ok_of_still f (instance_of s inst) s
+
+-- ---- looks and pulls ----
+
+pub on_look_ss_still : (f : Frame) (us : ℕ) (l : LookRequest) (stamp : Stamp) (s : Store) → Still (on_look_ss f us l stamp s)
+on_look_ss_still f us l stamp s = ((tt, tt), tt, tt)
+
+pulled_page_plain : (f : Frame) (from : ℕ) (file : FileId) (stamp : Stamp) (page : ℕ) (o : Option FileCopy) → Every Askless (pulled_page f from file stamp page o)
+pulled_page_plain f from file stamp page None = tt
+pulled_page_plain f from file stamp page (Some x) = every_cond Askless (has_page stamp page x) _ [] (tt, tt) tt
+
+pub on_pull_still : (f : Frame) (from : ℕ) (file : FileId) (stamp : Stamp) (page : ℕ) (s : Store) → Still (on_pull f from file stamp page s)
+on_pull_still f from file stamp page s = (pulled_page_plain f from file stamp page (copy_of s file), tt, tt)
+
+closed_again_plain : (f : Frame) (i : Instance) (g : Stage) → Every Askless (closed_again f i g)
+closed_again_plain f i stage.Running = tt
+closed_again_plain f i (stage.Closing made a) = sync_plain f i.file.group _ tt
+closed_again_plain f i (stage.Closed a) = tt
+
+pub store_repeats_plain : (f : Frame) (s : Store) → Every Askless (store_repeats f s)
+store_repeats_plain f s = every_flat_map Askless (λ (i : Instance). closed_again f i i.stage) s.instances (λ i. closed_again_plain f i i.stage)
+
+-- ---- operations ----
+
+executes_effect_still : (f : Frame) (i : Instance) (o : Op) (e : Option Effect) (s : Store) → Still (executes_effect f i o e s)
+executes_effect_still f i o None s = (tt, tt, tt)
+executes_effect_still f i o (Some e) s = ((tt, tt), (tt, tt), tt)
+
+acts_committed_still : (f : Frame) (stamp : Stamp) (o : Option Instance) (s : Store) → Still (acts_committed f stamp o s)
+acts_committed_still f stamp None s = (tt, tt, tt)
+acts_committed_still f stamp (Some i) s = ((tt, tt), (tt, tt), tt)
+
+commits_owing_still : (f : Frame) (i : Instance) (s : Store) → Still (commits_owing f i s)
+commits_owing_still f i s =
+    let stamp : Stamp = next_stamp f (next_vector f i) in
+    let now : Store = (commits f i s).view in
+    let e : Still (acts_committed f stamp (instance_of now i.inst) now) = acts_committed_still f stamp (instance_of now i.inst) now in
+    elim (is_spent f i) as (λ b. Still (elim b [ true ↦ acts f i op.Commit (result.No refusal.Spent) (counted i.work) s | false ↦ and_then (commits f i s) (λ now. acts_committed f (next_stamp f (next_vector f i)) (instance_of now i.inst) now) ])) [
+      | true ↦ ((tt, tt), (tt, tt), tt)
+      | false ↦ (e.0, (tt, e.1), tt)
+    ]
+
+last_committed_still : (f : Frame) (i : Instance) (o : Option Stamp) (s : Store) → Still (last_committed f i o s)
+last_committed_still f i None s = (tt, tt, tt)
+last_committed_still f i (Some stamp) s = ((tt, tt), (tt, tt), tt)
+
+commit_op_still : (f : Frame) (i : Instance) (s : Store) → Still (commit_op f i s)
+commit_op_still f i s =
+    elim i.work.owes as (λ b. Still (elim b [ true ↦ commits_owing f i s | false ↦ last_committed f i i.work.last s ])) [
+      | true ↦ commits_owing_still f i s
+      | false ↦ last_committed_still f i i.work.last s
+    ]
+
+executes_still : (f : Frame) (m : Mending) (i : Instance) (o : Op) (seen : List ℕ) (s : Store) → Still (executes f m i o seen s)
+executes_still f m i op.Commit seen s = commit_op_still f i s
+executes_still f m i op.Abort seen s = ((tt, tt), (tt, tt), tt)
+executes_still f m i (op.Probe name) seen s = executes_effect_still f i (op.Probe name) (effect_of (op.Probe name) seen m i.work.content) s
+executes_still f m i (op.Find component) seen s = executes_effect_still f i (op.Find component) (effect_of (op.Find component) seen m i.work.content) s
+executes_still f m i (op.Insert name ino kind) seen s = executes_effect_still f i (op.Insert name ino kind) (effect_of (op.Insert name ino kind) seen m i.work.content) s
+executes_still f m i (op.Remove name ino) seen s = executes_effect_still f i (op.Remove name ino) (effect_of (op.Remove name ino) seen m i.work.content) s
+executes_still f m i (op.Rename component name) seen s = executes_effect_still f i (op.Rename component name) (effect_of (op.Rename component name) seen m i.work.content) s
+executes_still f m i op.Empty seen s = executes_effect_still f i op.Empty (effect_of op.Empty seen m i.work.content) s
+executes_still f m i (op.Read at len) seen s = executes_effect_still f i (op.Read at len) (effect_of (op.Read at len) seen m i.work.content) s
+executes_still f m i (op.Write at bytes) seen s = executes_effect_still f i (op.Write at bytes) (effect_of (op.Write at bytes) seen m i.work.content) s
+executes_still f m i (op.Cut len) seen s = executes_effect_still f i (op.Cut len) (effect_of (op.Cut len) seen m i.work.content) s
+executes_still f m i op.Mend seen s = executes_effect_still f i op.Mend (effect_of op.Mend seen m i.work.content) s
+
+op_again_plain : (f : Frame) (i : Instance) (n : ℕ) (o : Option Result) → Every Askless (op_again f i n o)
+op_again_plain f i n None = tt
+op_again_plain f i n (Some r) = (tt, tt)
+
+by_number_still : (f : Frame) (m : Mending) (i : Instance) (n : ℕ) (o : Op) (seen : List ℕ) (s : Store) → Still (by_number f m i n o seen s)
+by_number_still f m i n o seen s =
+    elim (n == i.work.ops) as (λ b. Still (elim b [ true ↦ sends (op_again f i n i.answered) s | false ↦ elim (n == i.work.ops + 1) [ true ↦ executes f m i o seen s | false ↦ quiet s ] ])) [
+      | true ↦ (op_again_plain f i n i.answered, tt, tt)
+      | false ↦ elim (n == i.work.ops + 1) as (λ b. Still (elim b [ true ↦ executes f m i o seen s | false ↦ quiet s ])) [
+        | true ↦ executes_still f m i o seen s
+        | false ↦ (tt, tt, tt)
+      ]
+    ]
+
+on_op_at_still : (f : Frame) (m : Mending) (i : Instance) (g : Stage) (n : ℕ) (o : Op) (seen : List ℕ) (s : Store) → Still (on_op_at f m i g n o seen s)
+on_op_at_still f m i stage.Running n o seen s = by_number_still f m i n o seen s
+on_op_at_still f m i (stage.Closing made a) n o seen s = (tt, tt, tt)
+on_op_at_still f m i (stage.Closed a) n o seen s = (tt, tt, tt)
+
+on_op_of_still : (f : Frame) (m : Mending) (i : Option Instance) (n : ℕ) (o : Op) (seen : List ℕ) (s : Store) → Still (on_op_of f m i n o seen s)
+on_op_of_still f m None n o seen s = (tt, tt, tt)
+on_op_of_still f m (Some i) n o seen s = on_op_at_still f m i i.stage n o seen s
+
+pub on_op_still : (f : Frame) (m : Mending) (inst : Serial) (n : ℕ) (o : Op) (seen : List ℕ) (s : Store) → Still (on_op f m inst n o seen s)
+on_op_still f m inst n o seen s = on_op_of_still f m (instance_of s inst) n o seen s
+
+-- ---- pulls ----
+
+pull_plain : (f : Frame) (p : Pull) → Every Askless (pull_packets f p)
+pull_plain f p = every_cond Askless (is_complete p) [] _ tt (tt, tt)
+
+begins_pull_still : (f : Frame) (p : Pull) (ps : List Pull) → Still (begins_pull f p ps)
+begins_pull_still f p ps =
+    elim (replaces_pull p (pull_of ps p.file)) as (λ b. Still (elim b [ true ↦ pulls_on f p ps | false ↦ quiet ps ])) [ true ↦ (pull_plain f p, tt, tt) | false ↦ (tt, tt, tt) ]
+
+pub on_notify_still : (f : Frame) (from : ℕ) (o : Option FileCopy) (p : Pull) (ps : List Pull) → Still (on_notify f from o p ps)
+on_notify_still f from None p ps = begins_pull_still f p ps
+on_notify_still f from (Some own) p ps =
+    elim (same_stamp own.stamp p.stamp) as (λ b. Still (elim b [ true ↦ sends (packet f from (body.Have p.file p.stamp) ∷ []) ps | false ↦ elim (is_below own.vector p.vector) [ true ↦ begins_pull f p ps | false ↦ quiet ps ] ])) [
+      | true ↦ ((tt, tt), tt, tt)
+      | false ↦ elim (is_below own.vector p.vector) as (λ b. Still (elim b [ true ↦ begins_pull f p ps | false ↦ quiet ps ])) [ true ↦ begins_pull_still f p ps | false ↦ (tt, tt, tt) ]
+    ]
+
+on_page_of_still : (f : Frame) (stamp : Stamp) (page : ℕ) (bytes : List ℕ) (o : Option Pull) (ps : List Pull) → Still (on_page_of f stamp page bytes o ps)
+on_page_of_still f stamp page bytes None ps = (tt, tt, tt)
+on_page_of_still f stamp page bytes (Some p) ps =
+    elim (is_awaited p stamp page bytes) as (λ b. Still (elim b [ true ↦ pulls_on f (record p { content = p.content ++ bytes }) ps | false ↦ quiet ps ])) [ true ↦ (pull_plain f (record p { content = p.content ++ bytes }), tt, tt) | false ↦ (tt, tt, tt) ]
+
+pub on_page_still : (f : Frame) (file : FileId) (stamp : Stamp) (page : ℕ) (bytes : List ℕ) (ps : List Pull) → Still (on_page f file stamp page bytes ps)
+on_page_still f file stamp page bytes ps = on_page_of_still f stamp page bytes (pull_of ps file) ps
+
+pub pull_repeats_plain : (f : Frame) (ps : List Pull) → Every Askless (pull_repeats f ps)
+pull_repeats_plain f ps = every_flat_map Askless (pull_packets f) ps (pull_plain f)

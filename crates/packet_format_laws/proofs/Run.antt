@@ -1,0 +1,348 @@
+-- In every run, all that sites have and have sent is of the format.
+use Rattle.std.proofs.Common.{◌≡◌, ◌≤◌, ◌<◌, ◌^◌, ◌⊎◌, ℕ, ◌+◌, ◌*◌, ◌-◌, ◌==◌, nat_lt, Bool, true, false, cond, not, List, [], ◌∷◌, ◌++◌, length, map, filter, Option, None, Some, refl, sym, ◌∙◌, ap, subst, arith, inl, inr}
+use Rattle.std.proofs.lemmas.Bool.Decides.{nat_tests}
+use Rattle.std.proofs.lemmas.Nat.Bits.{bit_at-zero}
+use Rattle.locus_ids.specs.Sites.{has}
+use Rattle.locus_ids.specs.declared.config.Config.{Config}
+use Rattle.locus_ids.specs.declared.ids.EpochId.{EpochId}
+use Rattle.locus_ids.specs.declared.sites.Members.{Members}
+use Rattle.schedule_lines.specs.declared.line.ScheduleLine.{ScheduleLine}
+use Rattle.schedule_lines.specs.declared.line.Line.{Line as LineWords}
+use Rattle.schedule_lines.specs.declared.line.Line.TheVariants as line
+use Rattle.locus_ids.specs.declared.sites.Sites.{Sites}
+use Rattle.trace_book.specs.declared.record.Record.TheVariants as says
+use Rattle.wire_fields.specs.Parts.{some_set}
+use Rattle.wire_fields.proofs.Members.{in_range}
+use Rattle.wire_messages.specs.declared.packet.Packet.{Packet}
+use Rattle.role_steps.specs.Own.{Every}
+use Rattle.role_steps.specs.Storage.{copy_key}
+use Rattle.role_steps.specs.Tables.{row, with_row}
+use Rattle.role_steps.specs.Views.{Calls, DiskWrite, Event, GivesUp, Merges, Outcome, Parts, Receives, Shown, SiteView, Ticks, Told, all_groups, all_sites, pack_sites}
+use Rattle.role_steps.specs.declared.copies.FileCopy.{FileCopy}
+use Rattle.role_steps.specs.declared.rounds.InEpoch.{InEpoch}
+use Rattle.role_steps.proofs.Sending.{every_append}
+use Rattle.the_run.specs.Disks.{Armed, Booted, CutOff, Disk, Whole, boots, cut_disk, is_on_disk}
+use Rattle.the_run.specs.Kept.{IsOwn}
+use Rattle.the_run.specs.Runs.{boots_as, packet_record, rearms, run_in}
+use Rattle.the_run.specs.Steps.{step}
+use Rattle.the_run.specs.Worlds.{CutCircuit, Line, Numbered, Place, PlaceRow, Running, Stopped, World, acts, arms, cut_told, disk_of, first_place, first_world, formatted, fresh, happened, links_of, is_between, loses, newest_onto, number_of, numbered_from, passed, place_at, place_in, place_site, puts, root_copy, script_of, stops_with, told_onto}
+use Rattle.the_run.proofs.Boots.{acts_cases, at_each, every_newest, every_numbered, every_weaker}
+use Rattle.the_run.proofs.Events.{happened_keeps, puts_other, puts_same}
+use Rattle.the_run.proofs.InsideSync.{every_without}
+use Rattle.run_laws.specs.Naming.{MayCome}
+use Rattle.row_laws.specs.ByLine.{Gives, KeptIn}
+use Rattle.row_laws.specs.Voids.{LinesFit}
+use Rattle.row_laws.proofs.ByLine.{every_line}
+use Rattle.vector_laws.specs.Held.{OnDisk}
+use Rattle.vector_laws.proofs.Held.{KeepsCopies, boots_copies}
+use Rattle.vector_laws.proofs.SiteDisks.{step_disk}
+use Rattle.tree_model.specs.Epochs.{members_of}
+use Rattle.tree_laws.specs.Following.{IsFollowed}
+use Rattle.tree_laws.specs.Printed.{entries}
+use Rattle.tree_laws.proofs.Mending.{members_stay}
+use Rattle.tree_laws.proofs.Names.{true_false}
+use Rattle.order_laws.specs.Joining.{PacksAreOfSites}
+use Rattle.one_tree_laws.specs.Places.{SiteIn, WorldFact}
+use Rattle.one_tree_laws.specs.Rest.{IsRest, Past}
+use Rattle.one_tree_laws.specs.Roles.{EventFact, RolesDo}
+use Rattle.one_tree_laws.proofs.Composing.{rest_before}
+use Rattle.one_tree_laws.proofs.Rising.{every_among, row_key}
+use Rattle.one_tree_laws.proofs.Run.{event_fact, first_holds, kept, sent_fact}
+use Rattle.one_tree_laws.proofs.Staying.{stays}
+use Rattle.one_tree_laws.proofs.Worlds.{Holds}
+use Rattle.rest_laws.proofs.Resting.{run_low, run_rests}
+use Rattle.rest_laws.proofs.Roles.{roles_do}
+use Rattle.packet_fit_laws.proofs.Epochs.{Counted, counted_kept, first_counted}
+use Rattle.packet_fit_laws.proofs.FormingRun.{Good, first_good, good_kept, sent_comes}
+use Rattle.packet_fit_laws.proofs.Lists.{Comes, every_kept}
+use Rattle.packet_fit_laws.proofs.Meeting.{every_passing}
+use Rattle.epoch_laws.proofs.Parts.{every_both}
+use Rattle.packet_order.specs.Counts.{FitsIfCounted}
+use Rattle.packet_value_laws.specs.Bodies.{NamesNone}
+use Rattle.packet_value_laws.specs.Values.{CopiesFit, CopyFits, RisesFrom, SiteValues}
+use Rattle.packet_value_laws.proofs.Fields.{every_some, ino_fits, none_fits, nothing_fits, size_fits}
+use Rattle.packet_value_laws.proofs.Steps.{Done, NamesIn, Sent}
+use Rattle.packet_format_laws.proofs.Standing.{EventStands, NamesKnown, NumberedStands, PacketStands, PlaceStands, ValuesStand, next_done, next_packets, sent_stands}
+
+-- ---- the members of an epoch stay known ----
+
+followed_down : (c : Config) (n : ℕ) (xs : List Told) (t : List Line) → IsFollowed c (told_onto n xs t) → IsFollowed c t
+followed_down c n [] t h = h
+followed_down c n (x ∷ xs) t h = (followed_down c n xs (record { number = n; told = x } ∷ t) h).1
+
+members_onto : (c : Config) (n : ℕ) (xs : List Told) (t : List Line) (e : EpochId) (m : Members) → IsFollowed c (told_onto n xs t) → members_of (entries t) e ≡ Some m → members_of (entries (told_onto n xs t)) e ≡ Some m
+members_onto c n [] t e m h k = k
+members_onto c n (x ∷ xs) t e m h k = members_onto c n xs (record { number = n; told = x } ∷ t) e m h (members_stay c n x t e (followed_down c n xs (record { number = n; told = x } ∷ t) h).0 (m, k) ∙ k)
+
+stands_onto : (c : Config) (n : ℕ) (xs : List Told) (t : List Line) (p : Packet) → IsFollowed c (told_onto n xs t) → PacketStands t p → PacketStands (told_onto n xs t) p
+stands_onto c n xs t p h k = record { body = k.body; names = over k.names }
+  where
+    over : NamesNone p.body ⊎ NamesKnown t p → NamesNone p.body ⊎ NamesKnown (told_onto n xs t) p
+    over (inl none) = inl none
+    over (inr q) = inr (q.0, members_onto c n xs t p.epoch q.0 h q.1, q.2)
+
+-- ---- the world ----
+
+-- where the world is as it may be by its trace, all in it is of the format
+abbrev pub Fitting : Config → World → Type 0
+Fitting c w = IsRest c w.trace → IsFollowed c w.trace → ValuesStand c w
+
+pub record PacketsStand (c : Config) (w : World) : Type 0 where
+  pub holds : Holds c w
+  pub good : Good w
+  pub counts : Counted w
+  pub values : Fitting c w
+
+some_place : (p q : Place) → ◌≡◌ {A = Option Place} (Some p) (Some q) → p ≡ q
+some_place p q e = cc
+
+-- one site becomes this place
+placed : (c : Config) (s : ℕ) (new : Place) (w : World) → PlaceStands c new → ((t : ℕ) (p : Place) → place_at w t ≡ Some p → PlaceStands c p) → (t : ℕ) (p : Place) → place_at (puts s new w) t ≡ Some p → PlaceStands c p
+placed c s new w fact f t p here = at_each s t (PlaceStands c p)
+    (λ e. subst (PlaceStands c) (some_place new p (sym (puts_same s new w) ∙ (ap (place_at (puts s new w)) e ∙ here))) fact)
+    (λ ne. f t p (sym (puts_other s t new w ne) ∙ here))
+
+happened_fits : (c : Config) (n : ℕ) (ps : List Packet) (told : List Told) (change : World → World) (w : World) → (change w).sent ≡ w.sent → (change w).underway ≡ w.underway →
+    (IsRest c w.trace → ValuesStand c w → ((t : ℕ) (p : Place) → place_at (change w) t ≡ Some p → PlaceStands c p) × Every (PacketStands w.trace) ps) → Holds c w → Fitting c w → Fitting c (happened n ps told change w)
+happened_fits c n ps told change w same under gives holds g =
+    happened_keeps (Fitting c) n ps told change w g (λ l r fo. g r fo) (λ k b t r fo. after (rest_before c n told w.trace r) fo)
+  where
+    old_values : IsRest c w.trace → ValuesStand c w
+    old_values r = g r (holds r).followed
+
+    lifted : IsFollowed c (told_onto n told w.trace) → (xs : List Numbered) → Every (NumberedStands w.trace) xs → Every (NumberedStands (told_onto n told w.trace)) xs
+    lifted fo xs h = every_weaker (NumberedStands w.trace) (NumberedStands (told_onto n told w.trace)) xs (λ x k. stands_onto c n told w.trace x.packet fo k) h
+
+    fresh_ones : IsFollowed c (told_onto n told w.trace) → Every (PacketStands w.trace) ps → Every (NumberedStands (told_onto n told w.trace)) (numbered_from (w.packets + 1) ps)
+    fresh_ones fo h = every_numbered (PacketStands (told_onto n told w.trace)) (w.packets + 1) ps (every_weaker (PacketStands w.trace) (PacketStands (told_onto n told w.trace)) ps (λ p k. stands_onto c n told w.trace p fo k) h)
+
+    after : IsRest c w.trace → IsFollowed c (told_onto n told w.trace) → ((t : ℕ) (p : Place) → place_at (change w) t ≡ Some p → PlaceStands c p) × Every (NumberedStands (told_onto n told w.trace)) (newest_onto (numbered_from (w.packets + 1) ps) (change w).sent) × Every (NumberedStands (told_onto n told w.trace)) ((change w).underway ++ numbered_from (w.packets + 1) ps)
+    after r fo = (
+      (gives r (old_values r)).0,
+      every_newest (NumberedStands (told_onto n told w.trace)) (numbered_from (w.packets + 1) ps) (change w).sent (fresh_ones fo (gives r (old_values r)).1) (subst (Every (NumberedStands (told_onto n told w.trace))) (sym same) (lifted fo w.sent (old_values r).1)),
+      every_append (NumberedStands (told_onto n told w.trace)) (change w).underway (numbered_from (w.packets + 1) ps) (subst (Every (NumberedStands (told_onto n told w.trace))) (sym under) (lifted fo w.underway (old_values r).2)) (fresh_ones fo (gives r (old_values r)).1),
+    )
+
+-- nothing but a told line
+still_fits : (c : Config) (n : ℕ) (told : List Told) (w : World) → Holds c w → Fitting c w → Fitting c (happened n [] told (λ now. now) w)
+still_fits c n told w holds g = happened_fits c n [] told (λ now. now) w refl refl (λ r k. (k.0, tt)) holds g
+
+stops_fit : (c : Config) (n s : ℕ) (told : List Told) (d : Disk) (w : World) → (IsRest c w.trace → ValuesStand c w → CopiesFit d.copies) → Holds c w → Fitting c w → Fitting c (happened n [] told (stops_with s d) w)
+stops_fit c n s told d w copies holds g = happened_fits c n [] told (stops_with s d) w refl refl (λ r k. (placed c s (Stopped d) w (copies r k) k.0, tt)) holds g
+
+-- ---- an event of a site ----
+
+-- what a step sends stands by the trace before it
+step_stands : (c : Config) (w : World) (fact : WorldFact c w) (s : ℕ) (v : SiteView) → place_at w s ≡ Some (Running v) → (p : Packet) → Sent v.epoch p → PacketStands w.trace p
+step_stands c w fact s v here p k = record { body = k.body; names = over v.epoch refl (fact.places s (Running v) here) k.names }
+  where
+    over : (o : Option InEpoch) → v.epoch ≡ o → SiteIn c s w.trace v o → NamesNone p.body ⊎ NamesIn o p → NamesNone p.body ⊎ NamesKnown w.trace p
+    over o at h (inl none) = inl none
+    over None at h (inr q) = absurd q
+    over (Some e) at h (inr q) = inr (e.members, ap (members_of (entries w.trace)) q.0 ∙ h.frame.members_are, q.1)
+
+-- what a cut write leaves
+cut_copies : (s : ℕ) (v : SiteView) (o : Outcome SiteView) (d : DiskWrite) → o.written ≡ Some d → OnDisk s v.store.copies o.view.store.copies o.told o.written → CopiesFit v.store.copies → CopiesFit o.view.store.copies → (b : Bool) → CopiesFit (cond b (with_row copy_key d.copy v.store.copies) v.store.copies)
+cut_copies s v o d e disk old new false = old
+cut_copies s v o d e disk old new true = over disk
+  where
+    none_some : (x : DiskWrite) → ◌≡◌ {A = Option DiskWrite} None (Some x) → ⊥
+    none_some x q = cc
+
+    write_is : (x y : DiskWrite) → ◌≡◌ {A = Option DiskWrite} (Some x) (Some y) → x ≡ y
+    write_is x y q = cc
+
+    over : OnDisk s v.store.copies o.view.store.copies o.told o.written → CopiesFit (with_row copy_key d.copy v.store.copies)
+    over (inl u) = absurd (none_some d (sym u.none ∙ e))
+    over (inr u) = subst (λ (x : DiskWrite). CopiesFit (with_row copy_key x.copy v.store.copies)) (write_is u.0 d (sym u.1.is_written ∙ e)) (subst CopiesFit u.1.copies new)
+
+does : (c : Config) → length c.packs ≤ 4 → (n s : ℕ) (e : Event) (v : SiteView) (w : World) → place_at w s ≡ Some (Running v) → Comes e → (IsRest c w.trace → EventStands w.trace e × EventFact c w.trace s v e) → Holds c w → Good w → Fitting c w → Fitting c (acts n s v (step c s (links_of w s) v e) w)
+does c few n s e v w here comes fact holds good g = acts_cases (Fitting c) n s v o w
+    (happened_fits c n o.sent o.told (λ now. puts s (Running o.view) now) w refl refl (λ r k. (placed c s (Running o.view) w (done r k).view k.0, packets r k)) holds g)
+    (λ a. happened_fits c n o.sent o.told (λ now. puts s (Running o.view) (arms a now)) w refl refl (λ r k. (placed c s (Running o.view) (arms a w) (done r k).view k.0, packets r k)) holds g)
+    (λ d a q. stops_fit c n s (cut_told s d a.how a.left) (cut_disk v.boot v.store d a.how a.left) w (λ r k. cut_copies s v o d q (step_disk c s (links_of w s) v e) (k.0 s (Running v) here).store.copies (done r k).view.store.copies (is_on_disk d a.how a.left)) holds g)
+  where
+    o : Outcome SiteView
+    o = step c s (links_of w s) v e
+
+    done : IsRest c w.trace → ValuesStand c w → Done c v.epoch o
+    done r k = next_done c w (record { followed = (holds r).followed; rest = r }) few (holds r) good k s v here e comes (fact r).0 (fact r).1
+
+    packets : IsRest c w.trace → ValuesStand c w → Every (PacketStands w.trace) o.sent
+    packets r k = every_weaker (Sent v.epoch) (PacketStands w.trace) o.sent (λ p q. step_stands c w (holds r) s v here p q) (done r k).sent
+
+-- ---- boots ----
+
+fresh_values : (c : Config) (boot : ℕ) (copies : List FileCopy) → CopiesFit copies → SiteValues c [] (fresh boot copies)
+fresh_values c boot copies h = record { store = record { copies = h; instances = tt }; users = record { waiting = tt; instances = tt }; tables = tt; pulls = tt; reports = tt }
+
+boot_places : (a : Option Armed) (s : ℕ) (p : Place) (w : World) (t : ℕ) → place_at (rearms s a (puts s p w)) t ≡ place_at (puts s p w) t
+boot_places None s p w t = refl
+boot_places (Some a) s p w t = refl
+
+boot_sent : (a : Option Armed) (s : ℕ) (p : Place) (w : World) → (rearms s a (puts s p w)).sent ≡ w.sent
+boot_sent None s p w = refl
+boot_sent (Some a) s p w = refl
+
+boot_underway : (a : Option Armed) (s : ℕ) (p : Place) (w : World) → (rearms s a (puts s p w)).underway ≡ w.underway
+boot_underway None s p w = refl
+boot_underway (Some a) s p w = refl
+
+booted : (c : Config) (n s : ℕ) (d : Disk) (b : Booted) (w : World) → place_at w s ≡ Some (Stopped d) → KeepsCopies d.copies b → Holds c w → Fitting c w → Fitting c (boots_as n s b w)
+booted c n s d (Whole x a) w here same holds g =
+    let new : Place = Running (fresh x.label.boot x.copies) in
+    happened_fits c n [] (Shown (says.Up s x.label.boot) ∷ []) (λ now. rearms s a (puts s new now)) w (boot_sent a s new w) (boot_underway a s new w)
+    (λ r k. ((λ t p e. placed c s new w (fresh_values c x.label.boot x.copies (subst CopiesFit (sym same) (k.0 s (Stopped d) here))) k.0 t p (sym (boot_places a s new w t) ∙ e)), tt)) holds g
+booted c n s d (CutOff x how) w here same holds g = stops_fit c n s _ x w (λ r k. subst CopiesFit (sym same) (k.0 s (Stopped d) here)) holds g
+
+-- ---- packets that pass ----
+
+pass_fits : (c : Config) (k : ℕ) (w : World) → Fitting c w → Fitting c (passed k w)
+pass_fits c k w g r fo = (let h : ValuesStand c w = g r fo in (h.0, h.1, every_without (NumberedStands w.trace) number_of k w.underway h.2))
+
+drop_fits : (c : Config) (k : ℕ) (w : World) → Fitting c w → Fitting c (loses k w)
+drop_fits c k w g r fo = (let h : ValuesStand c w = g r fo in (h.0, h.1, every_without (NumberedStands w.trace) number_of k w.underway h.2))
+
+-- ---- all lines ----
+
+own_of : (w : World) (l : LineWords) (s : ℕ) (e : Event) → Gives w l s e → IsOwn e
+own_of w (line.Call site process words) s (Calls p x) g = tt
+own_of w (line.Tick site) s Ticks g = tt
+own_of w (line.Part site) s Parts g = tt
+own_of w (line.Merge site) s Merges g = tt
+own_of w (line.GiveUp site) s GivesUp g = tt
+own_of w _ s _ g = absurd g
+
+comes_own : (e : Event) → IsOwn e → Comes e
+comes_own (Receives p) h = absurd h
+comes_own (Calls process words) h = tt
+comes_own Ticks h = tt
+comes_own Parts h = tt
+comes_own Merges h = tt
+comes_own GivesUp h = tt
+
+stands_own : (w : World) (e : Event) → IsOwn e → EventStands w.trace e
+stands_own w (Receives p) h = absurd h
+stands_own w (Calls process words) h = tt
+stands_own w Ticks h = tt
+stands_own w Parts h = tt
+stands_own w Merges h = tt
+stands_own w GivesUp h = tt
+
+pub kept_stand : (c : Config) (lines : List ScheduleLine) → LinesFit c lines → RolesDo c → length c.packs ≤ 4 → KeptIn c lines (λ n w. PacketsStand c w)
+kept_stand c lines fit roles few = record {
+  begins = λ n w le q g. g;
+  ticks = λ n most s v w at here g. record { holds = one.ticks n most s v w at here g.holds; good = (good_kept c).steps n s Ticks v w here tt g.good; counts = (counted_kept c).steps n s Ticks v w here tt g.counts; values = does c few n s Ticks v w here tt (λ r. (tt, tt)) g.holds g.good g.values };
+  receives = λ n l x v w at d here sent g. record {
+    holds = one.receives n l x v w at d here sent g.holds;
+    good = (good_kept c).receives n x v w here sent g.good;
+    counts = (counted_kept c).receives n x v w here sent g.counts;
+    values = does c few n x.packet.to (Receives x.packet) v (passed x.number w) here (sent_comes w x sent g.good) (λ r. (sent_stands c w (g.values r (g.holds r).followed) x sent, (refl, sent_fact c w x (g.holds r) sent))) (one.passes n x.number w g.holds) ((good_kept c).passes x.number w g.good) (pass_fits c x.number w g.values);
+  };
+  passes = λ n k w g. record { holds = one.passes n k w g.holds; good = (good_kept c).passes k w g.good; counts = (counted_kept c).passes k w g.counts; values = pass_fits c k w g.values };
+  drops = λ n k w g. record { holds = one.drops n k w g.holds; good = (good_kept c).drops k w g.good; counts = (counted_kept c).drops k w g.counts; values = drop_fits c k w g.values };
+  budgets = λ n most w at g. record { holds = one.budgets n most w at g.holds; good = (good_kept c).budgets n w g.good; counts = (counted_kept c).budgets n w g.counts; values = still_fits c n (Shown says.Budget ∷ []) w g.holds g.values };
+  voiding = λ n l w le at void g. record { holds = one.voiding n l w le at void g.holds; good = (good_kept c).voiding (n + 1) w g.good; counts = (counted_kept c).voiding (n + 1) w g.counts; values = still_fits c (n + 1) (Shown says.Void ∷ []) w g.holds g.values };
+  steps = λ n s l e v w le at gives here g. record {
+    holds = one.steps n s l e v w le at gives here g.holds;
+    good = (good_kept c).steps (n + 1) s e v w here (own_of w l s e gives) g.good;
+    counts = (counted_kept c).steps (n + 1) s e v w here (own_of w l s e gives) g.counts;
+    values = does c few (n + 1) s e v w here (comes_own e (own_of w l s e gives)) (λ r. (stands_own w e (own_of w l s e gives), event_fact c lines (n + 1) s l e v w fit at gives here)) g.holds g.good g.values;
+  };
+  cutting = λ n a b w le at cut g. record { holds = one.cutting n a b w le at cut g.holds; good = (good_kept c).recuts (record { one = a; other = b } ∷ w.circuits) w g.good; counts = (counted_kept c).recuts (record { one = a; other = b } ∷ w.circuits) w g.counts; values = g.values };
+  mending = λ n a b w le at cut g. record { holds = one.mending n a b w le at cut g.holds; good = (good_kept c).recuts (filter (λ (x : CutCircuit). not (is_between a b x)) w.circuits) w g.good; counts = (counted_kept c).recuts (filter (λ (x : CutCircuit). not (is_between a b x)) w.circuits) w g.counts; values = g.values };
+  arming = λ n l a w le at it g. record { holds = one.arming n l a w le at it g.holds; good = (good_kept c).arming a w g.good; counts = (counted_kept c).arming a w g.counts; values = g.values };
+  pending = λ n w le at g. record { holds = one.pending n w le at g.holds; good = (good_kept c).pending (n + 1) w g.good; counts = (counted_kept c).pending (n + 1) w g.counts; values = still_fits c (n + 1) (map packet_record w.underway) w g.holds g.values };
+  stopping = λ n s v w le at here g. record { holds = one.stopping n s v w le at here g.holds; good = (good_kept c).stopping (n + 1) s v w here g.good; counts = (counted_kept c).stopping (n + 1) s v w here g.counts; values = stops_fit c (n + 1) s _ (disk_of v) w (λ r k. (k.0 s (Running v) here).store.copies) g.holds g.values };
+  booting = λ n s d w le at here g. record { holds = one.booting n s d w le at here g.holds; good = (good_kept c).booting (n + 1) s d w here g.good; counts = (counted_kept c).booting (n + 1) s d w here g.counts; values = booted c (n + 1) s d (boots (script_of w s) d) w here (boots_copies (script_of w s) d) g.holds g.values };
+}
+  where
+    one : KeptIn c lines (λ n w. Holds c w)
+    one = kept c lines fit roles (stays c)
+
+-- ---- the first world ----
+
+rises_less : (a b : ℕ) (xs : List FileCopy) → a ≤ b → RisesFrom b xs → RisesFrom a xs
+rises_less a b [] le h = tt
+rises_less a b (x ∷ xs) le h = (omega (arith, le, h.0), h.1)
+
+root_rises : (c : Config) (b : Bool) (group least : ℕ) (gs : List ℕ) → least ≤ group * 65536 + 1 → RisesFrom (group * 65536 + 1 + 1) (map (root_copy c) gs) → RisesFrom least (map (root_copy c) (cond b (group ∷ gs) gs))
+root_rises c true group least gs le h = (le, h)
+root_rises c false group least gs le h = rises_less least (group * 65536 + 1 + 1) (map (root_copy c) gs) (omega (arith, le)) h
+
+has_some : (set : Sites) (s : ℕ) → has set s ≡ true → 1 ≤ set.0
+has_some set s e = over (set.0 == 0) refl
+  where
+    none : (set.0 == 0) ≡ true → set.0 ≡ 0
+    none q = grind (arith, nat_tests)
+
+    some : (set.0 == 0) ≡ false → 1 ≤ set.0
+    some q = grind (arith, nat_tests)
+
+    none_has : has (record { 0 = 0 }) s ≡ false
+    none_has = rw (bit_at-zero (s - 1)) refl
+
+    over : (b : Bool) → (set.0 == 0) ≡ b → 1 ≤ set.0
+    over true q = absurd (true_false (sym (subst (λ (n : ℕ). has (record { 0 = n }) s ≡ true) (none q) e) ∙ none_has))
+    over false q = some q
+
+root_fits : (c : Config) → PacksAreOfSites c → (s group : ℕ) → group < 2 ^ 8 → has (pack_sites c group) s ≡ true → CopyFits (root_copy c group)
+root_fits c packs s group low e = record {
+  file = (low, ino_fits 1 (omega arith) (omega arith));
+  set = set_is (has_some (pack_sites c group) s e) (packs group);
+  size = size_fits 0 (omega arith);
+  version = (none_fits, (refl, nothing_fits));
+}
+  where
+    set_is : 1 ≤ (pack_sites c group).0 → (pack_sites c group).0 < 2 ^ 16 → some_set.Fits (pack_sites c group)
+    set_is a b = (in_range 1 65535 (pack_sites c group).0 a (omega (arith, b)), b)
+
+formatted_fits : (c : Config) → PacksAreOfSites c → (s : ℕ) → CopiesFit (formatted c s)
+formatted_fits c packs s = record {
+  each = every_some (λ (g : ℕ). (g < 2 ^ 8) × (has (pack_sites c g) s ≡ true)) CopyFits (root_copy c) (filter test all_groups) (λ g k. root_fits c packs s g k.0 k.1)
+      (every_both (λ (g : ℕ). g < 2 ^ 8) (λ (g : ℕ). test g ≡ true) (λ (g : ℕ). (g < 2 ^ 8) × (has (pack_sites c g) s ≡ true)) (filter test all_groups) (λ g a b. (a, b)) (every_kept (λ (g : ℕ). g < 2 ^ 8) test all_groups (omega arith, (omega arith, (omega arith, (omega arith, tt))))) (every_passing test all_groups));
+  rise = root_rises c (test 0) 0 0 _ (omega arith) (root_rises c (test 1) 1 2 _ (omega arith) (root_rises c (test 2) 2 65538 _ (omega arith) (root_rises c (test 3) 3 131074 [] (omega arith) tt)));
+}
+  where
+    test : ℕ → Bool
+    test g = has (pack_sites c g) s
+
+first_rows : (c : Config) → PacksAreOfSites c → (ss : List ℕ) → Every (λ (r : PlaceRow). PlaceStands c r.place) (map (first_place c) ss)
+first_rows c packs [] = tt
+first_rows c packs (s ∷ ss) = (fresh_values c 1 (formatted c s) (formatted_fits c packs s), first_rows c packs ss)
+
+none_place : (p : Place) → ◌≡◌ {A = Option Place} None (Some p) → ⊥
+none_place p e = cc
+
+place_found : (c : Config) (xs : List PlaceRow) (s : ℕ) (p : Place) → Every (λ (r : PlaceRow). PlaceStands c r.place) xs → (o : Option PlaceRow) → row place_site s xs ≡ o → place_in o ≡ Some p → PlaceStands c p
+place_found c xs s p h None e k = absurd (none_place p k)
+place_found c xs s p h (Some r) e k = subst (PlaceStands c) (some_place r.place p k) (every_among (λ (x : PlaceRow). PlaceStands c x.place) r xs (row_key place_site s xs r e).0 h)
+
+pub first_stand : (c : Config) → RolesDo c → PacketsStand c (first_world c)
+first_stand c roles = record {
+  holds = first_holds c roles;
+  good = first_good c;
+  counts = first_counted c;
+  values = λ r fo. ((λ s p e. place_found c (first_world c).places s p (first_rows c r.packs (filter (λ (t : ℕ). nat_lt t (c.sites + 1)) all_sites)) (row place_site s (first_world c).places) refl e), tt, tt);
+}
+
+-- ---- every run, and every moment ----
+
+-- at any moment of a run what the next event of a running site sends is of the format, where each count has a number of its size
+pub packets_fit_now : (c : Config) (w : World) → Past c w.trace → length c.packs ≤ 4 → WorldFact c w → PacketsStand c w → (s : ℕ) (v : SiteView) (e : Event) → place_at w s ≡ Some (Running v) → MayCome w e → EventFact c w.trace s v e → Every FitsIfCounted (step c s (links_of w s) v e).sent
+packets_fit_now c w past few fact stand s v e here may k = next_packets c w past few fact stand.good (stand.values past.rest past.followed) s v here stand.counts e may k
+
+pub run_stands : (c : Config) (lines : List ScheduleLine) → LinesFit c lines → length c.packs ≤ 4 → PacketsStand c (run_in c lines)
+run_stands c lines fit few = every_line c lines (λ n w. PacketsStand c w) (kept_stand c lines fit (roles_do c few) few) (first_stand c (roles_do c few))
+
+pub run_packets : (c : Config) (lines : List ScheduleLine) → LinesFit c lines → PacksAreOfSites c → length c.packs ≤ 4 → (s : ℕ) (v : SiteView) (e : Event) → place_at (run_in c lines) s ≡ Some (Running v) → MayCome (run_in c lines) e → EventFact c (run_in c lines).trace s v e → Every FitsIfCounted (step c s (links_of (run_in c lines) s) v e).sent
+run_packets c lines fit packs few s v e here may k = packets_fit_now c (run_in c lines) (record { followed = fact.followed; rest = rest }) few fact stand s v e here may k
+  where
+    rest : IsRest c (run_in c lines).trace
+    rest = run_rests c lines fit packs (run_low c lines)
+
+    stand : PacketsStand c (run_in c lines)
+    stand = run_stands c lines fit few
+
+    fact : WorldFact c (run_in c lines)
+    fact = stand.holds rest

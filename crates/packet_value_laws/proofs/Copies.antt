@@ -1,0 +1,100 @@
+-- Copies of files, as they are stored and reported.
+use Rattle.std.proofs.Common.{◌≡◌, ◌≤◌, ◌<◌, ◌^◌, ℕ, ◌+◌, ◌*◌, ◌==◌, nat_lt, Bool, true, false, cond, List, [], ◌∷◌, length, Option, None, Some, refl, sym, subst, arith}
+use Rattle.std.proofs.lemmas.Bool.Decides.{nat_tests}
+use Rattle.field_codec.specs.Lists.{AllFit}
+use Rattle.wire_fields.specs.Parts.{sizes}
+use Rattle.wire_fields.proofs.Members.{in_range, range}
+use Rattle.wire_messages.specs.Answers.{copies_from, reported_copies}
+use Rattle.wire_messages.specs.declared.body.ReportedCopy.{ReportedCopy}
+use Rattle.role_steps.specs.Own.{Every}
+use Rattle.role_steps.specs.Storage.{content_of, copy_key, report_of, reported}
+use Rattle.role_steps.specs.Tables.{row, with_row}
+use Rattle.role_steps.specs.Views.{Store}
+use Rattle.role_steps.specs.declared.copies.FileCopy.{FileCopy}
+use Rattle.the_run.proofs.InsideSync.{Found, every_row, row_found}
+use Rattle.packet_value_laws.specs.Values.{CopiesFit, CopyFits, RisesFrom}
+use Rattle.packet_value_laws.proofs.Fields.{ino_range, kind_fits}
+
+-- ---- one more copy ----
+
+rises_row : (least : ℕ) (x : FileCopy) (xs : List FileCopy) → least ≤ copy_key x → RisesFrom least xs → RisesFrom least (with_row copy_key x xs)
+rises_row least x [] le h = (le, tt)
+rises_row least x (y ∷ ys) le h = over (λ k. rises_row (copy_key y + 1) x ys k h.1) (nat_lt (copy_key y) (copy_key x)) refl (copy_key y == copy_key x) refl
+  where
+    below : nat_lt (copy_key y) (copy_key x) ≡ true → copy_key y + 1 ≤ copy_key x
+    below e = grind (arith, nat_tests)
+
+    same : (copy_key y == copy_key x) ≡ true → copy_key y ≡ copy_key x
+    same e = grind (arith, nat_tests)
+
+    above : nat_lt (copy_key y) (copy_key x) ≡ false → (copy_key y == copy_key x) ≡ false → copy_key x + 1 ≤ copy_key y
+    above e g = grind (arith, nat_tests)
+
+    over : (copy_key y + 1 ≤ copy_key x → RisesFrom (copy_key y + 1) (with_row copy_key x ys)) → (a : Bool) → nat_lt (copy_key y) (copy_key x) ≡ a → (b : Bool) → (copy_key y == copy_key x) ≡ b →
+        RisesFrom least (elim a as (λ (t : Bool). List FileCopy) [ true ↦ y ∷ with_row copy_key x ys | false ↦ elim b as (λ (t : Bool). List FileCopy) [ true ↦ x ∷ ys | false ↦ x ∷ y ∷ ys ] ])
+    over rest true e b g = (h.0, rest (below e))
+    over rest false e true g = (le, subst (λ (k : ℕ). RisesFrom (k + 1) ys) (same g) h.1)
+    over rest false e false g = (le, (above e g, h.1))
+
+pub with_copy_fits : (x : FileCopy) (xs : List FileCopy) → CopyFits x → CopiesFit xs → CopiesFit (with_row copy_key x xs)
+with_copy_fits x xs k h = record { each = every_row CopyFits copy_key x xs k h.each; rise = rises_row 0 x xs (omega arith) h.rise }
+
+-- ---- the copy of a file ----
+
+pub found_copy : (s : Store) (key : ℕ) → CopiesFit s.copies → Found CopyFits (row copy_key key s.copies)
+found_copy s key h = row_found CopyFits copy_key key s.copies h.each
+
+pub content_fits : (o : Option FileCopy) → Found CopyFits o → sizes.Fits (length (content_of o))
+content_fits None h = (in_range 0 65536 0 (omega arith) (omega arith), omega arith)
+content_fits (Some x) h = h.size
+
+-- ---- the report of a group ----
+
+abbrev Reported : ℕ → List ReportedCopy → Type 0
+Reported least xs = AllFit copies_from (λ _ (copy : ReportedCopy). copy.ino + 1) least xs
+
+one_reported : (least : ℕ) (x : FileCopy) → CopyFits x → least ≤ x.file.ino → (copies_from least).Fits (reported x)
+one_reported least x h le = ((in_range least 1024 x.file.ino le (ino_range x.file.ino h.file.1).1, h.file.1.1), (kind_fits x.kind, (h.set, (h.size, h.version))))
+
+-- each copy of the group from this key on has a number from this one on
+abbrev AreFrom : ℕ → ℕ → ℕ → Type 0
+AreFrom group least k = (n : ℕ) → 1 ≤ n → k ≤ group * 65536 + n → least ≤ n
+
+all_reported : (group least k : ℕ) (xs : List FileCopy) → AreFrom group least k → Every CopyFits xs → RisesFrom k xs → Reported least (report_of group xs)
+all_reported group least k [] low h r = tt
+all_reported group least k (x ∷ xs) low h r = over (λ n from. all_reported group n (copy_key x + 1) xs from h.1 r.1) (x.file.group == group) refl
+  where
+    key : ℕ
+    key = x.file.group * 65536 + x.file.ino
+
+    same : (x.file.group == group) ≡ true → x.file.group ≡ group
+    same e = grind (arith, nat_tests)
+
+    from_here : x.file.group ≡ group → least ≤ x.file.ino
+    from_here e = low x.file.ino (ino_range x.file.ino h.0.file.1).0 (subst (λ (y : ℕ). k ≤ y * 65536 + x.file.ino) e r.0)
+
+    on : x.file.group ≡ group → AreFrom group (x.file.ino + 1) (key + 1)
+    on e n some le = let g : x.file.group * 65536 + x.file.ino + 1 ≤ x.file.group * 65536 + n = subst (λ (y : ℕ). key + 1 ≤ y * 65536 + n) (sym e) le in omega (arith, g)
+
+    past : AreFrom group least (key + 1)
+    past n some le = low n some (let at : k ≤ key = r.0 in omega (arith, at, le))
+
+    over : ((n : ℕ) → AreFrom group n (key + 1) → Reported n (report_of group xs)) → (b : Bool) → (x.file.group == group) ≡ b → Reported least (cond b (reported x ∷ report_of group xs) (report_of group xs))
+    over rest true e = (one_reported least x h.0 (from_here (same e)), rest (x.file.ino + 1) (on (same e)))
+    over rest false e = rest least past
+
+few_reported : (least : ℕ) (xs : List ReportedCopy) → least ≤ 1025 → Reported least xs → length xs + least ≤ 1025
+few_reported least [] le h = omega (arith, le)
+few_reported least (x ∷ xs) le h =
+    let r : (least ≤ x.ino) × (x.ino ≤ 1024) = range least 1024 x.ino h.0.0.0 in
+    let k : length xs + (x.ino + 1) ≤ 1025 = few_reported (x.ino + 1) xs (omega (arith, r.1)) h.1 in
+    omega (arith, k, r.0)
+
+pub report_fits : (group : ℕ) (xs : List FileCopy) → CopiesFit xs → reported_copies.Fits (report_of group xs)
+report_fits group xs h = (few (few_reported 1 (report_of group xs) (omega arith) all), all)
+  where
+    all : Reported 1 (report_of group xs)
+    all = all_reported group 1 0 xs (λ n some le. some) h.each h.rise
+
+    few : length (report_of group xs) + 1 ≤ 1025 → length (report_of group xs) < 2 ^ 16
+    few le = omega (arith, le)

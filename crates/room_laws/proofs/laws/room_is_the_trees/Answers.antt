@@ -1,5 +1,0 @@
-use Rattle.room_laws.proofs.Room.{room_same}
-use Rattle.room_laws.proofs.laws.room_is_the_trees.Goals as goal
-
-pub returns : goal.returns
-returns c = λ config trace f s followed rests frame store group. room_same config trace f s followed rests frame store group

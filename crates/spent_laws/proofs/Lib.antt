@@ -1,3 +1,0 @@
-pub mod Rescues
-pub mod Stores
-pub mod Run

@@ -1,0 +1,224 @@
+-- Who was granted something walks; and who is answered by a descriptor, and was granted something, opens.
+use Rattle.std.proofs.Common.{◌≡◌, ℕ, Bool, true, false, cond, List, [], ◌∷◌, Option, Some, None, refl, sym, ◌∙◌, ap, subst}
+use Rattle.locus_ids.specs.declared.config.Config.{Config}
+use Rattle.locus_ids.specs.declared.config.Mount.{Mount}
+use Rattle.locus_ids.specs.declared.ids.CallId.{CallId}
+use Rattle.locus_ids.specs.declared.ids.Serial.{Serial}
+use Rattle.locus_ids.specs.declared.refusal.Refusal.TheVariants as refusal
+use Rattle.trace_book.specs.Same.{same_call}
+use Rattle.trace_book.specs.declared.call.Call.{Call}
+use Rattle.trace_book.specs.declared.call.Call.TheVariants as call
+use Rattle.trace_book.specs.declared.call.OpenMode.{OpenMode}
+use Rattle.trace_book.specs.declared.descriptor.Beginning.{Beginning}
+use Rattle.trace_book.specs.declared.descriptor.Beginning.TheVariants as begins
+use Rattle.trace_book.specs.declared.descriptor.Descriptor.{Descriptor}
+use Rattle.trace_book.specs.declared.operation.Op.{Op}
+use Rattle.trace_book.specs.declared.operation.Op.TheVariants as op
+use Rattle.trace_book.specs.declared.record.Record.TheVariants as says
+use Rattle.trace_book.specs.declared.reply.Reply.TheVariants as reply
+use Rattle.call_rules.specs.declared.answer.Answer.{Answer}
+use Rattle.call_rules.specs.declared.answer.Answer.TheVariants as answer
+use Rattle.call_rules.specs.declared.want.Want.{Want}
+use Rattle.call_rules.specs.declared.want.Want.TheVariants as want
+use Rattle.call_rules.specs.Descriptors.{beginning}
+use Rattle.call_rules.specs.Opening.{close_wants, op_wants, uses_wants}
+use Rattle.call_rules.specs.Scripts.{named_wants, where_packed, wants}
+use Rattle.call_rules.specs.Words.{is_badly_named}
+use Rattle.role_steps.specs.Views.{Told, Shown}
+use Rattle.the_run.specs.Worlds.{Line}
+use Rattle.tree_model.specs.declared.accepted.Waiting.{Waiting}
+use Rattle.tree_model.specs.Calls.{call_named, opening_of}
+use Rattle.lawful_trace.specs.Progress.{is_packed_in}
+use Rattle.lawful_trace.specs.Tables.{begun}
+use Rattle.tree_laws.specs.Calls.{is_request, log, script, script_as}
+use Rattle.tree_laws.specs.Following.{IsFollowed, MayTell, RepliesOpened}
+use Rattle.tree_laws.specs.Holding.{begun_with, with_begun}
+use Rattle.locus_ids.specs.declared.ids.FileId.{FileId}
+use Rattle.wire_messages.specs.declared.body.Opening.{Opening}
+use Rattle.tree_laws.specs.Instances.{AsksOpen, IsOpening}
+use Rattle.tree_laws.specs.Printed.{entries}
+use Rattle.tree_laws.specs.Serials.{asked_now, is_open_want}
+use Rattle.tree_laws.proofs.Names.{same_call_eq, true_false}
+use Rattle.tree_laws.proofs.Scripts.{begun_stays, named_stays}
+use Rattle.store_laws.proofs.ScriptEnding.{GivesNone}
+use Rattle.store_laws.proofs.ScriptEndingCalls.{NotOpen, has_by, wants_end}
+use Rattle.store_laws.proofs.ScriptFitted.{Began, began, began_right, fit_same, log_fits, script_sound}
+use Rattle.store_laws.proofs.ScriptFitting.{IsSound, Script}
+use Rattle.store_laws.proofs.ScriptHad.{by_same, has_log}
+use Rattle.store_laws.proofs.ScriptSoundCalls.{HasFree}
+
+abbrev With : ℕ → Told → List Line → List Line
+With n x older = record { number = n; told = x } ∷ older
+
+none_some : {A : Type 0} (a : A) → ◌≡◌ {A = Option A} None (Some a) → ⊥
+none_some a e = cc
+
+-- ---- who opens walks ----
+
+op_opens : (i : Serial) (o : Op) (xs : List Answer) → is_open_want (op_wants i o xs) ≡ false
+op_opens i o [] = refl
+op_opens i o (answer.Did result ∷ []) = refl
+op_opens i o (answer.Did result ∷ (a ∷ xs)) = refl
+op_opens i o (answer.Refused why ∷ []) = refl
+op_opens i o (answer.Refused why ∷ (a ∷ xs)) = refl
+op_opens i o (_ ∷ xs) = refl
+
+close_opens : (i : Serial) (xs : List Answer) → is_open_want (close_wants i xs) ≡ false
+close_opens i [] = refl
+close_opens i (answer.Ended stamp ∷ []) = refl
+close_opens i (answer.Ended stamp ∷ (a ∷ xs)) = refl
+close_opens i (answer.Refused why ∷ []) = refl
+close_opens i (answer.Refused why ∷ (a ∷ xs)) = refl
+close_opens i (_ ∷ xs) = refl
+
+uses_opens : (words : Call) (i : Serial) (xs : List Answer) → is_open_want (uses_wants words i xs) ≡ false
+uses_opens (call.Read fd at len) i xs = op_opens i (op.Read at len) xs
+uses_opens (call.Write fd at bytes) i xs = op_opens i (op.Write at bytes) xs
+uses_opens (call.Cut fd len) i xs = op_opens i (op.Cut len) xs
+uses_opens (call.Commit fd) i xs = op_opens i op.Commit xs
+uses_opens (call.Abort fd) i xs = op_opens i op.Abort xs
+uses_opens (call.Close fd) i xs = close_opens i xs
+uses_opens _ i xs = refl
+
+packed_opens : (pk : ℕ → Bool) (w : Want) → is_open_want w ≡ false → is_open_want (where_packed pk w) ≡ false
+packed_opens pk w h = over w h
+  where
+    by_test : (x : Bool) (y : Want) → is_open_want y ≡ false → is_open_want (cond x y (want.Give (reply.No refusal.NoStorage))) ≡ false
+    by_test true y k = k
+    by_test false y k = refl
+
+    over : (y : Want) → is_open_want y ≡ false → is_open_want (where_packed pk y) ≡ false
+    over (want.Look f w) k = by_test (pk f.group) (want.Look f w) k
+    over (want.Open f m) k = by_test (pk f.group) (want.Open f m) k
+    over (want.OpenToMend f) k = by_test (pk f.group) (want.OpenToMend f) k
+    over (want.Make g kind sites) k = by_test (pk g) (want.Make g kind sites) k
+    over (want.Do i o) k = k
+    over (want.Close i) k = k
+    over (want.Give r) k = k
+    over want.Never k = k
+
+opener_walks : (mounts : List Mount) (pk : ℕ → Bool) (free : Option ℕ) (words : Call) (b : Beginning) (xs : List Answer) → is_open_want (wants mounts pk free words b xs) ≡ true → b ≡ begins.Walks
+opener_walks mounts pk free words begins.Walks xs e = refl
+opener_walks mounts pk free words (begins.Denied why) xs e = absurd (true_false (sym e ∙ packed_opens pk (named_wants mounts free words (begins.Denied why) xs) (over (is_badly_named mounts words))))
+  where
+    over : (x : Bool) → is_open_want (cond x (want.Give (reply.No refusal.BadName)) (want.Give (reply.No why))) ≡ false
+    over true = refl
+    over false = refl
+opener_walks mounts pk free words (begins.Uses at i) xs e = absurd (true_false (sym e ∙ packed_opens pk (named_wants mounts free words (begins.Uses at i) xs) (over (is_badly_named mounts words))))
+  where
+    over : (x : Bool) → is_open_want (cond x (want.Give (reply.No refusal.BadName)) (uses_wants words i xs)) ≡ false
+    over true = refl
+    over false = uses_opens words i xs
+
+-- the script of a call that was accepted, by its words and where it began
+pub script_by : (c : Config) (t : List Line) (d : CallId) (w : Waiting) (b : Beginning) (free : Option ℕ) (xs : List Answer) → call_named (entries t) d ≡ Some w → begun (entries t) d ≡ Some b → script c (entries t) d free xs ≡ wants c.mounts (is_packed_in c (entries t) w.epoch) free w.words b xs
+script_by c t d w b free xs named starts = ap (λ (o : Option Waiting). script_as c (entries t) o (begun (entries t) d) free xs) named ∙ ap (λ (o : Option Beginning). script_as c (entries t) (Some w) o free xs) starts
+
+-- a call that asks an open walks
+pub asks_walks : (c : Config) (t : List Line) (d : CallId) (w : Waiting) → call_named (entries t) d ≡ Some w → is_open_want (asked_now c t d) ≡ true → begun (entries t) d ≡ Some begins.Walks
+asks_walks c t d w named opens = k.begun_is ∙ ap Some (opener_walks c.mounts (is_packed_in c (entries t) w.epoch) None w.words (beginning k.table w.epoch w.words) (log t d)
+    (ap is_open_want (sym (script_by c t d w (beginning k.table w.epoch w.words) None (log t d) named k.begun_is)) ∙ opens))
+  where
+    k : Began t d w
+    k = began t d w named
+
+-- ---- who was granted something walks ----
+
+pub record WalksSo (t : List Line) (d : CallId) : Type 0 where
+  pub caller : Waiting
+  pub named : call_named (entries t) d ≡ Some caller
+  pub walks : begun (entries t) d ≡ Some begins.Walks
+
+walks_stay : (c : Config) (n : ℕ) (x : Told) (older : List Line) (d : CallId) → IsFollowed c older → MayTell c older x → WalksSo older d → WalksSo (With n x older) d
+walks_stay c n x older d h may k = record {
+  caller = k.caller;
+  named = named_stays c n x older d h may (k.caller, k.named) ∙ k.named;
+  walks = begun_stays c n x older d h may (k.caller, k.named) ∙ k.walks;
+}
+
+abbrev OpenersWalk : List Line → Type 0
+OpenersWalk t = (d : CallId) (x : Descriptor) → opening_of (entries t) d ≡ Some x → WalksSo t d
+
+pub opening_is_open : (c : Config) (w : Want) (f : FileId) (it : Opening) → IsOpening c w f it → is_open_want w ≡ true
+opening_is_open c (want.Open file m) f it o = refl
+opening_is_open c (want.OpenToMend file) f it o = refl
+opening_is_open c (want.Make group kind sites) f it o = refl
+opening_is_open c (want.Look file w) f it o = absurd o
+opening_is_open c (want.Do i p) f it o = absurd o
+opening_is_open c (want.Close i) f it o = absurd o
+opening_is_open c (want.Give r) f it o = absurd o
+opening_is_open c want.Never f it o = absurd o
+
+walk_told : (c : Config) (n : ℕ) (y : Told) (older : List Line) → IsFollowed c older → MayTell c older y → OpenersWalk older → OpenersWalk (With n y older)
+walk_told c n (Shown (says.Grant e it request i m f stamp ss)) older h may k d x is = over (same_call it d) refl is
+  where
+    asks : AsksOpen c older e it request i.serial may.in_time.opens.asked may.in_time.opens.it
+    asks = may.in_time.opens.asks
+
+    now : WalksSo older it
+    now = record { caller = asks.inside.accepted; named = asks.inside.named; walks = asks_walks c older it asks.inside.accepted asks.inside.named (ap is_open_want asks.asks.asked ∙ opening_is_open c asks.wanted may.in_time.opens.asked may.in_time.opens.it asks.opening_is) }
+
+    over : (b : Bool) → same_call it d ≡ b → cond b (Some (record { mode = m; epoch = e; inst = i })) (opening_of (entries older) d) ≡ Some x → WalksSo (With n (Shown (says.Grant e it request i m f stamp ss)) older) d
+    over true p q = walks_stay c n (Shown (says.Grant e it request i m f stamp ss)) older d h may (subst (WalksSo older) (same_call_eq it d p) now)
+    over false p q = walks_stay c n (Shown (says.Grant e it request i m f stamp ss)) older d h may (k d x q)
+walk_told c n (Shown r) older h may k d x is = walks_stay c n (Shown r) older d h may (k d x is)
+walk_told c n y older h may k d x is = walks_stay c n y older d h may (k d x is)
+
+-- who was granted something walks
+pub openers_walk : (c : Config) (t : List Line) → IsFollowed c t → (d : CallId) (x : Descriptor) → opening_of (entries t) d ≡ Some x → WalksSo t d
+openers_walk c [] h d x is = absurd (none_some x is)
+openers_walk c (y ∷ older) h d x is = walk_told c y.number y.told older h.1 h.0 (openers_walk c older h.1) d x is
+
+-- ---- who is answered by a descriptor ----
+
+none_held : (c : Config) (t : List Line) (d : CallId) (x : Descriptor) (w : Waiting) → IsFollowed c t → RepliesOpened c t d → opening_of (entries t) d ≡ Some x → call_named (entries t) d ≡ Some w → begun (entries t) d ≡ Some begins.Walks → NotOpen w.words → ⊥
+none_held c t d x w h replies is named walks other = ended (s (log t d)) refl
+  where
+    pk : ℕ → Bool
+    pk = is_packed_in c (entries t) w.epoch
+
+    s : Script
+    s = wants c.mounts pk None w.words begins.Walks
+
+    same : (ys : List Answer) → script c (entries t) d None ys ≡ s ys
+    same ys = script_by c t d w begins.Walks None ys named walks
+
+    no_free : (words : Call) → NotOpen words → HasFree None begins.Walks words
+    no_free (call.Open path m) n = absurd n
+    no_free words n = tt
+
+    sound : IsSound w.words None (s (log t d))
+    sound = subst (IsSound w.words None) (same (log t d)) (script_sound c t d w begins.Walks None h named walks (no_free w.words other))
+
+    end : GivesNone (s (log t d)) (has_by s (begun_with begins.Walks) (log t d))
+    end = wants_end c.mounts pk None w.words (begun_with begins.Walks) (λ i e. true_false (sym e)) (began_right t d w begins.Walks named walks) other (log t d) (fit_same (script c (entries t) d None) s (log t d) same (log_fits c t d h (w, named)))
+
+    has : has_by s (begun_with begins.Walks) (log t d) x.inst ≡ true
+    has = sym (has_log c t h d (w, named) x.inst ∙ (by_same (script c (entries t) d None) s (with_begun (begun (entries t) d)) (log t d) x.inst same ∙ ap (λ (o : Option Beginning). has_by s (with_begun o) (log t d) x.inst) walks)) ∙ replies.held x is
+
+    nothing : is_request (s (log t d)) ≡ false
+    nothing = ap is_request (sym (same (log t d))) ∙ replies.replies.nothing_asked
+
+    ended : (v : Want) → s (log t d) ≡ v → ⊥
+    ended (want.Give r) e = subst (λ (y : Want). GivesNone y (has_by s (begun_with begins.Walks) (log t d))) e end x.inst has
+    ended want.Never e = subst (IsSound w.words None) e sound
+    ended (want.Look f v) e = true_false (ap is_request (sym e) ∙ nothing)
+    ended (want.Open f m) e = true_false (ap is_request (sym e) ∙ nothing)
+    ended (want.OpenToMend f) e = true_false (ap is_request (sym e) ∙ nothing)
+    ended (want.Make g kind sites) e = true_false (ap is_request (sym e) ∙ nothing)
+    ended (want.Do i o) e = true_false (ap is_request (sym e) ∙ nothing)
+    ended (want.Close i) e = true_false (ap is_request (sym e) ∙ nothing)
+
+-- the call opens
+pub record Opens (words : Call) : Type 0 where
+  pub path : List ℕ
+  pub how : OpenMode
+  pub words_are : words ≡ call.Open path how
+
+open_words : (words : Call) → (NotOpen words → ⊥) → Opens words
+open_words (call.Open path m) h = record { path = path; how = m; words_are = refl }
+open_words words h = absurd (h tt)
+
+-- a call that is answered by a descriptor, and was granted something, opens
+pub named_opens : (c : Config) (t : List Line) (d : CallId) (x : Descriptor) (w : Waiting) → IsFollowed c t → RepliesOpened c t d → opening_of (entries t) d ≡ Some x → call_named (entries t) d ≡ Some w → Opens w.words
+named_opens c t d x w h replies is named = (let k : WalksSo t d = openers_walk c t h d x is in open_words w.words (none_held c t d x w h replies is named k.walks))

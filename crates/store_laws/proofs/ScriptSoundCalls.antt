@@ -1,0 +1,235 @@
+-- Whole scripts are sound, by the words of their calls and where these began.
+use Rattle.std.proofs.Common.{◌≡◌, ℕ, ◌≤◌, Bool, true, false, cond, List, [], ◌∷◌, Option, Some, None, refl, sym, subst, arith}
+use Rattle.locus_ids.specs.declared.config.Mount.{Mount}
+use Rattle.locus_ids.specs.declared.ids.EpochId.{EpochId}
+use Rattle.locus_ids.specs.declared.ids.FileId.{FileId}
+use Rattle.locus_ids.specs.declared.ids.Kind.{Kind}
+use Rattle.locus_ids.specs.declared.ids.Kind.TheVariants as kind
+use Rattle.locus_ids.specs.declared.ids.Serial.{Serial}
+use Rattle.locus_ids.specs.declared.refusal.Refusal.TheVariants as refusal
+use Rattle.trace_book.specs.Names.{but_last, components, last_of}
+use Rattle.commit_graph.specs.Grants.{is_read}
+use Rattle.trace_book.specs.declared.call.Call.{Call}
+use Rattle.trace_book.specs.declared.call.Call.TheVariants as call
+use Rattle.trace_book.specs.declared.call.OpenMode.{OpenMode}
+use Rattle.trace_book.specs.declared.call.OpenMode.TheVariants as opens
+use Rattle.trace_book.specs.declared.descriptor.Beginning.{Beginning}
+use Rattle.trace_book.specs.declared.descriptor.Beginning.TheVariants as begins
+use Rattle.trace_book.specs.declared.descriptor.Descriptor.{Descriptor}
+use Rattle.trace_book.specs.declared.operation.Op.TheVariants as op
+use Rattle.trace_book.specs.declared.operation.What.TheVariants as what
+use Rattle.trace_book.specs.declared.reply.Reply.TheVariants as reply
+use Rattle.call_rules.specs.declared.answer.Answer.{Answer}
+use Rattle.call_rules.specs.declared.answer.Answer.TheVariants as answer
+use Rattle.call_rules.specs.declared.want.Want.{Want}
+use Rattle.call_rules.specs.declared.want.Want.TheVariants as want
+use Rattle.call_rules.specs.Descriptors.{beginning, begins_on, begins_walk, begins_open, is_in, lowest_free}
+use Rattle.call_rules.specs.Making.{changes_dir, opens_dir, probes}
+use Rattle.call_rules.specs.Naming.{renames}
+use Rattle.call_rules.specs.Removing.{finds}
+use Rattle.call_rules.specs.Opening.{opens_file, uses_wants, lists, describes}
+use Rattle.call_rules.specs.Scripts.{path_wants, begun_wants, named_wants, where_packed, wants}
+use Rattle.call_rules.specs.Walks.{Walked, Asks, Fails, There, Strays, walk, walked, root_of, passes, mounted_in}
+use Rattle.call_rules.specs.Words.{is_badly_named, is_too_long}
+use Rattle.store_laws.proofs.ScriptFitting.{NotChanged, Fits, OpensAs, IsSound, Script, Sound}
+use Rattle.store_laws.proofs.ScriptSound.{sound_same, give_sound, probes_sound, opens_dir_sound, finds_sound, renames_sound, close_sound, mend_sound, opens_file_sound, lists_sound, describes_sound, op_sound}
+
+-- ---- walks ----
+
+-- where a walk has come, and what comes after it
+abbrev pub goes : (FileId → Kind → Script) → Walked → Want
+goes after (Asks dir name) = want.Look dir (what.Name name)
+goes after (Fails why) = want.Give (reply.No why)
+goes after (There at k rest) = after at k rest
+goes after Strays = want.Never
+
+pub goes_walked : (mounts : List Mount) (path : List (List ℕ)) (after : FileId → Kind → Script) (xs : List Answer) → goes after (walk mounts path [] (root_of 0) kind.Dir xs) ≡ walked mounts path xs after
+goes_walked mounts path after xs = over (walk mounts path [] (root_of 0) kind.Dir xs) refl
+  where
+    over : (w : Walked) → walk mounts path [] (root_of 0) kind.Dir xs ≡ w → goes after w ≡ walked mounts path xs after
+    over (Asks dir name) e = rw e refl
+    over (Fails why) e = rw e refl
+    over (There at k rest) e = rw e refl
+    over Strays e = rw e refl
+
+one : 1 ≤ 1
+one = omega arith
+
+module _ (words : Call) (free : Option ℕ) where
+  walk_sound : (mounts : List Mount) (path : List (List ℕ)) (reached : List ℕ) (at : FileId) → 1 ≤ at.ino → (k : Kind) (after : FileId → Kind → Script) → ((there : FileId) (found : Kind) → 1 ≤ there.ino → (ys : List Answer) → Sound words free (after there found) ys) → (xs : List Answer) →
+      Sound words free (λ ys. goes after (walk mounts path reached at k ys)) xs
+  walk_sound mounts [] reached at num k after h xs = h at k num xs
+  walk_sound mounts (name ∷ path) reached at num kind.File after h xs = give_sound words free (reply.No (refusal.NotDir reached)) tt xs
+  walk_sound mounts (name ∷ path) reached at num kind.Dir after h xs = over (λ next found n ys. walk_sound mounts path name next n found after h ys) (mounted_in mounts at name) xs
+    where
+      over : ((next : FileId) (found : Kind) → 1 ≤ next.ino → (ys : List Answer) → Sound words free (λ zs. goes after (walk mounts path name next found zs)) ys) → (o : Option ℕ) (ys : List Answer) → Sound words free (λ zs. goes after (passes (walk mounts path name) at name o zs)) ys
+      over further (Some group) ys = further (root_of group) kind.Dir one ys
+      over further None [] = tt
+      over further None (answer.Entered ino found ∷ ys) = λ fit. further (record { group = at.group; ino = ino }) found fit ys
+      over further None (answer.Refused why ∷ ys) = λ fit. give_sound words free (reply.No why) fit ys
+      over further None (a ∷ ys) = λ fit. absurd fit
+
+  walked_sound : (mounts : List Mount) (path : List (List ℕ)) (after : FileId → Kind → Script) → ((there : FileId) (found : Kind) → 1 ≤ there.ino → (ys : List Answer) → Sound words free (after there found) ys) → (xs : List Answer) → Sound words free (λ ys. walked mounts path ys after) xs
+  walked_sound mounts path after h xs = sound_same words free (λ ys. goes after (walk mounts path [] (root_of 0) kind.Dir ys)) (λ ys. walked mounts path ys after) xs (goes_walked mounts path after) (walk_sound mounts path [] (root_of 0) one kind.Dir after h xs)
+
+-- ---- by the words ----
+
+-- the call walks a path, or mends
+abbrev pub WalksWords : Call → Type 0
+WalksWords (call.Create path sites) = Unit {0}
+WalksWords (call.MakeDir path) = Unit {0}
+WalksWords (call.Unlink path) = Unit {0}
+WalksWords (call.RemoveDir path) = Unit {0}
+WalksWords (call.Rename path name) = Unit {0}
+WalksWords (call.List path) = Unit {0}
+WalksWords (call.Stat path) = Unit {0}
+WalksWords (call.Open path m) = Unit {0}
+WalksWords (call.Mend file) = Unit {0}
+WalksWords _ = ⊥
+
+-- or it is on a descriptor
+abbrev pub UsesWords : Call → Type 0
+UsesWords (call.Read fd at len) = Unit {0}
+UsesWords (call.Write fd at bytes) = Unit {0}
+UsesWords (call.Cut fd len) = Unit {0}
+UsesWords (call.Commit fd) = Unit {0}
+UsesWords (call.Abort fd) = Unit {0}
+UsesWords (call.Close fd) = Unit {0}
+UsesWords _ = ⊥
+
+-- where a call may begin that has these words
+abbrev pub BeginsRight : Call → Beginning → Type 0
+BeginsRight words (begins.Denied why) = NotChanged why
+BeginsRight words (begins.Uses e i) = UsesWords words
+BeginsRight words begins.Walks = WalksWords words
+
+-- an open that walks finds a free descriptor
+abbrev pub HasFree : Option ℕ → Beginning → Call → Type 0
+HasFree free begins.Walks (call.Open path m) = (fd : ℕ) × (free ≡ Some fd)
+HasFree free _ _ = Unit {0}
+
+walk_right : (words : Call) (now : Option EpochId) → WalksWords words → BeginsRight words (begins_walk now)
+walk_right words None h = tt
+walk_right words (Some e) h = h
+
+on_right : (words : Call) (changes : Bool) (now : Option EpochId) (o : Option Descriptor) → UsesWords words → BeginsRight words (begins_on changes now o)
+on_right words changes now None h = tt
+on_right words changes now (Some d) h = over changes (is_in now d.epoch) (is_read d.mode) refl refl
+  where
+    over : (c a b : Bool) → is_in now d.epoch ≡ a → is_read d.mode ≡ b → BeginsRight words (begins_on c now (Some d))
+    over true true true p q = rw p (rw q tt)
+    over true true false p q = rw p (rw q h)
+    over false true b p q = rw p h
+    over c false b p q = rw p tt
+
+pub begins_right : (table : ℕ → Option Descriptor) (now : Option EpochId) (words : Call) → BeginsRight words (beginning table now words)
+begins_right table now (call.Open path m) = over (lowest_free table)
+  where
+    over : (o : Option ℕ) → BeginsRight (call.Open path m) (begins_open now o)
+    over None = tt
+    over (Some fd) = walk_right (call.Open path m) now tt
+begins_right table now (call.Read fd at len) = on_right (call.Read fd at len) false now (table fd) tt
+begins_right table now (call.Write fd at bytes) = over (is_too_long (call.Write fd at bytes))
+  where
+    over : (b : Bool) → BeginsRight (call.Write fd at bytes) (cond b (begins.Denied refusal.TooLong) (begins_on true now (table fd)))
+    over true = tt
+    over false = on_right (call.Write fd at bytes) true now (table fd) tt
+begins_right table now (call.Cut fd len) = on_right (call.Cut fd len) true now (table fd) tt
+begins_right table now (call.Commit fd) = on_right (call.Commit fd) true now (table fd) tt
+begins_right table now (call.Abort fd) = on_right (call.Abort fd) true now (table fd) tt
+begins_right table now (call.Close fd) = on_right (call.Close fd) false now (table fd) tt
+begins_right table now (call.Create path sites) = walk_right (call.Create path sites) now tt
+begins_right table now (call.MakeDir path) = walk_right (call.MakeDir path) now tt
+begins_right table now (call.Unlink path) = walk_right (call.Unlink path) now tt
+begins_right table now (call.RemoveDir path) = walk_right (call.RemoveDir path) now tt
+begins_right table now (call.Rename path name) = walk_right (call.Rename path name) now tt
+begins_right table now (call.List path) = walk_right (call.List path) now tt
+begins_right table now (call.Stat path) = walk_right (call.Stat path) now tt
+begins_right table now (call.Mend file) = walk_right (call.Mend file) now tt
+
+uses_sound : (words : Call) (free : Option ℕ) (i : Serial) → UsesWords words → (xs : List Answer) → Sound words free (uses_wants words i) xs
+uses_sound (call.Read fd at len) free i h xs = op_sound (call.Read fd at len) free i (op.Read at len) xs
+uses_sound (call.Write fd at bytes) free i h xs = op_sound (call.Write fd at bytes) free i (op.Write at bytes) xs
+uses_sound (call.Cut fd len) free i h xs = op_sound (call.Cut fd len) free i (op.Cut len) xs
+uses_sound (call.Commit fd) free i h xs = op_sound (call.Commit fd) free i op.Commit xs
+uses_sound (call.Abort fd) free i h xs = op_sound (call.Abort fd) free i op.Abort xs
+uses_sound (call.Close fd) free i h xs = close_sound (call.Close fd) free i xs
+uses_sound _ free i h xs = absurd h
+
+open_as : (path : List ℕ) (m : OpenMode) → OpensAs (call.Open path m) m
+open_as path opens.Read = tt
+open_as path opens.Write = tt
+open_as path (opens.Resolve site) = refl
+
+changes_sound : (words : Call) (free : Option ℕ) (mounts : List Mount) (path : List ℕ) (next : ℕ → Serial → Script) → ((g : ℕ) (p : Serial) (ys : List Answer) → Sound words free (next g p) ys) → (xs : List Answer) → Sound words free (changes_dir mounts path next) xs
+changes_sound words free mounts path next h xs = walked_sound words free mounts (but_last (components path)) (λ dir k rest. opens_dir (last_of (but_last (components path))) (next dir.group) dir k rest)
+    (λ dir k num rest. opens_dir_sound words free (last_of (but_last (components path))) (next dir.group) (h dir.group) dir num k rest) xs
+
+path_sound : (mounts : List Mount) (free : Option ℕ) (words : Call) → WalksWords words → HasFree free begins.Walks words → (xs : List Answer) → Sound words free (path_wants mounts free words) xs
+path_sound mounts free (call.Create path sites) w h xs = changes_sound (call.Create path sites) free mounts path (λ g p rest. probes p g (last_of (components path)) kind.File sites rest) (λ g p ys. probes_sound (call.Create path sites) free p g (last_of (components path)) kind.File sites ys) xs
+path_sound mounts free (call.MakeDir path) w h xs = changes_sound (call.MakeDir path) free mounts path (λ g p rest. probes p g (last_of (components path)) kind.Dir None rest) (λ g p ys. probes_sound (call.MakeDir path) free p g (last_of (components path)) kind.Dir None ys) xs
+path_sound mounts free (call.Unlink path) w h xs = changes_sound (call.Unlink path) free mounts path (λ g p rest. finds kind.File p g (last_of (components path)) rest) (λ g p ys. finds_sound (call.Unlink path) free kind.File p g (last_of (components path)) ys) xs
+path_sound mounts free (call.RemoveDir path) w h xs = changes_sound (call.RemoveDir path) free mounts path (λ g p rest. finds kind.Dir p g (last_of (components path)) rest) (λ g p ys. finds_sound (call.RemoveDir path) free kind.Dir p g (last_of (components path)) ys) xs
+path_sound mounts free (call.Rename path name) w h xs = changes_sound (call.Rename path name) free mounts path (λ g p rest. renames p (last_of (components path)) name rest) (λ g p ys. renames_sound (call.Rename path name) free p (last_of (components path)) name ys) xs
+path_sound mounts free (call.List path) w h xs = walked_sound (call.List path) free mounts (components path) (lists mounts (last_of (components path))) (λ f k num rest. lists_sound (call.List path) free mounts (last_of (components path)) f k rest) xs
+path_sound mounts free (call.Stat path) w h xs = walked_sound (call.Stat path) free mounts (components path) describes (λ f k num rest. describes_sound (call.Stat path) free f k rest) xs
+path_sound mounts free (call.Open path m) w h xs = subst (λ (o : Option ℕ). Sound (call.Open path m) free (λ ys. path_wants mounts o (call.Open path m) ys) xs) (sym h.1)
+    (walked_sound (call.Open path m) free mounts (components path) (opens_file m (Some h.0)) (λ f k num rest. opens_file_sound (call.Open path m) free m h.0 h.1 tt (open_as path m) f num k rest) xs)
+path_sound mounts free (call.Mend file) w h xs = mend_sound (call.Mend file) free file refl xs
+path_sound mounts free _ w h xs = absurd w
+
+begun_sound : (mounts : List Mount) (free : Option ℕ) (words : Call) (b : Beginning) → BeginsRight words b → HasFree free b words → (xs : List Answer) → Sound words free (begun_wants mounts free words b) xs
+begun_sound mounts free words (begins.Denied why) r h xs = give_sound words free (reply.No why) r xs
+begun_sound mounts free words (begins.Uses e i) r h xs = uses_sound words free i r xs
+begun_sound mounts free words begins.Walks r h xs = path_sound mounts free words r h xs
+
+named_sound : (mounts : List Mount) (free : Option ℕ) (words : Call) (b : Beginning) → BeginsRight words b → HasFree free b words → (xs : List Answer) → Sound words free (named_wants mounts free words b) xs
+named_sound mounts free words b r h xs = over (is_badly_named mounts words)
+  where
+    over : (x : Bool) → Sound words free (λ ys. cond x (want.Give (reply.No refusal.BadName)) (begun_wants mounts free words b ys)) xs
+    over true = give_sound words free (reply.No refusal.BadName) tt xs
+    over false = begun_sound mounts free words b r h xs
+
+-- ---- where no member has a pack ----
+
+packed_want : (p : ℕ → Bool) (words : Call) (free : Option ℕ) (w : Want) → IsSound words free w → IsSound words free (where_packed p w)
+packed_want p words free w h = over w h
+  where
+    by_test : (x : Bool) (y : Want) → IsSound words free y → IsSound words free (cond x y (want.Give (reply.No refusal.NoStorage)))
+    by_test true y k = k
+    by_test false y k = tt
+
+    over : (y : Want) → IsSound words free y → IsSound words free (where_packed p y)
+    over (want.Look f what) k = by_test (p f.group) (want.Look f what) k
+    over (want.Open f how) k = by_test (p f.group) (want.Open f how) k
+    over (want.OpenToMend f) k = by_test (p f.group) (want.OpenToMend f) k
+    over (want.Make g kind sites) k = by_test (p g) (want.Make g kind sites) k
+    over (want.Do i o) k = k
+    over (want.Close i) k = k
+    over (want.Give r) k = k
+    over want.Never k = k
+
+packed_fits : (p : ℕ → Bool) (w : Want) (a : Answer) → Fits (where_packed p w) a → Fits w a
+packed_fits p w a fit = over w fit
+  where
+    by_test : (x : Bool) (y : Want) → Fits (cond x y (want.Give (reply.No refusal.NoStorage))) a → Fits y a
+    by_test true y k = k
+    by_test false y k = absurd k
+
+    over : (y : Want) → Fits (where_packed p y) a → Fits y a
+    over (want.Look f what) k = by_test (p f.group) (want.Look f what) k
+    over (want.Open f how) k = by_test (p f.group) (want.Open f how) k
+    over (want.OpenToMend f) k = by_test (p f.group) (want.OpenToMend f) k
+    over (want.Make g kind sites) k = by_test (p g) (want.Make g kind sites) k
+    over (want.Do i o) k = k
+    over (want.Close i) k = k
+    over (want.Give r) k = k
+    over want.Never k = k
+
+packed_sound : (p : ℕ → Bool) (words : Call) (free : Option ℕ) (k : Script) (xs : List Answer) → Sound words free k xs → Sound words free (λ ys. where_packed p (k ys)) xs
+packed_sound p words free k [] s = packed_want p words free (k []) s
+packed_sound p words free k (a ∷ xs) s = λ fit. packed_sound p words free (λ ys. k (a ∷ ys)) xs (s (packed_fits p (k []) a fit))
+
+-- the whole script of a call is sound
+pub wants_sound : (mounts : List Mount) (p : ℕ → Bool) (free : Option ℕ) (words : Call) (b : Beginning) → BeginsRight words b → HasFree free b words → (xs : List Answer) → Sound words free (wants mounts p free words b) xs
+wants_sound mounts p free words b r h xs = packed_sound p words free (named_wants mounts free words b) xs (named_sound mounts free words b r h xs)

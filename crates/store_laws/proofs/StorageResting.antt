@@ -1,0 +1,57 @@
+-- What the steps of a storage site rest on is so: put together from the laws of the one tree.
+use Rattle.std.proofs.Common.{ℕ, ◌≡◌, List, Option, ◌∙◌, ◌⊎◌, inl, inr}
+use Rattle.locus_ids.specs.declared.config.Config.{Config}
+use Rattle.locus_ids.specs.declared.ids.EpochId.{EpochId}
+use Rattle.locus_ids.specs.declared.ids.FileId.{FileId}
+use Rattle.locus_ids.specs.declared.ids.Mode.{Mode}
+use Rattle.locus_ids.specs.declared.ids.Serial.{Serial}
+use Rattle.locus_ids.specs.declared.ids.Stamp.{Stamp}
+use Rattle.role_steps.specs.Storage.{free_pages}
+use Rattle.role_steps.specs.Views.{Frame, Store}
+use Rattle.the_run.specs.Worlds.{Line}
+use Rattle.tree_model.specs.declared.instance.Instance.{Instance}
+use Rattle.tree_model.specs.Histories.{history}
+use Rattle.tree_model.specs.Tree.{tree_of}
+use Rattle.tree_model.specs.Working.{free_pages as tree_free}
+use Rattle.tree_laws.specs.Printed.{entries}
+use Rattle.tree_laws.specs.Doing.{FrameFact, StoreHeld}
+use Rattle.tree_laws.specs.Following.{IsFollowed}
+use Rattle.tree_laws.specs.Past.{WasBegun}
+use Rattle.tree_laws.proofs.Rows.{followed_rows}
+use Rattle.holding_laws.specs.Below.{LawsBelow}
+use Rattle.holding_laws.specs.Granted.{IsAsGranted as WaitsSo}
+use Rattle.holding_laws.specs.Held.{StandsOnHeld as StandsSo}
+use Rattle.holding_laws.proofs.Begun.{waits_as_granted}
+use Rattle.holding_laws.proofs.Below.{commits_new, packs_hold}
+use Rattle.holding_laws.proofs.OneVersionFirsts.{open_make_first}
+use Rattle.holding_laws.proofs.Holding.{sites_hold, stands_on_held}
+use Rattle.holding_laws.proofs.OneVersionHomes.{home_holds}
+use Rattle.holding_laws.proofs.Released.{released_shut}
+use Rattle.holding_laws.proofs.RoomRoom.{room_same}
+use Rattle.sync_laws.proofs.Members.{members_name_boots, table_boot}
+use Rattle.store_laws.specs.Rests.{IsAsGranted, StandsOnHeld, StoreRests}
+use Rattle.store_laws.specs.StoragePlain.{PlainRests}
+
+as_granted : (c : Config) (trace : List Line) (e : EpochId) (i : Serial) (m : Mode) (f : FileId) (stamp : Option Stamp) (ss : ℕ) → WasBegun trace ss e i f ⊎ WaitsSo c trace e i m f stamp ss → WasBegun trace ss e i f ⊎ IsAsGranted c trace e i m f stamp ss
+as_granted c trace e i m f stamp ss (inl k) = inl k
+as_granted c trace e i m f stamp ss (inr k) = inr (record { at = k.at; open_at = k.open_at; file_is = k.file_is; mode_is = k.mode_is; work_is = k.work_is; holds = k.held_is })
+
+stands_so : (c : Config) (trace : List Line) (e : EpochId) (x : Instance) → StandsSo c (entries trace) e x → StandsOnHeld c trace e x
+stands_so c trace e x k = record { last_is = k.last_is; made = k.made }
+
+pub rests_hold : (c : Config) (trace : List Line) → IsFollowed c trace → LawsBelow c trace → PlainRests c trace → StoreRests c trace
+rests_hold c trace h laws plain = record {
+  narrow = plain.narrow;
+  places = plain.places;
+  sites = plain.sites;
+  boots = λ e d members k are. table_boot members d.site ∙ members_name_boots c trace h e d members k are;
+  inside = (sites_hold c (entries trace) (packs_hold c trace laws.packed)).now;
+  homes = λ site f stamp stands given. home_holds c (entries trace) (followed_rows c trace h) f stamp site given stands;
+  granted = λ e d request i m f stamp ss k. as_granted c trace e i m f stamp ss (waits_as_granted c trace h (commits_new c trace h laws.once) e d request i m f stamp ss k);
+  released = λ e i x k found. released_shut c trace h e i x k found;
+  stands = λ e i x found. stands_so c trace e x (stands_on_held c trace h e i x found);
+  first = λ e i x found make inside. open_make_first c trace laws.packs h e i x found make inside;
+}
+
+pub room_is : (c : Config) (trace : List Line) → IsFollowed c trace → LawsBelow c trace → PlainRests c trace → (f : Frame) → FrameFact c trace f → (s : Store) → StoreHeld c f trace s → (group : ℕ) → free_pages s group ≡ tree_free (history c (entries trace)) (tree_of c f.epoch group (entries trace)) f.me
+room_is c trace h laws plain f frame s kept group = room_same c trace f s h (record { laws = laws; narrow = plain.narrow; sites = plain.sites }) frame kept group

@@ -1,5 +1,0 @@
-use Rattle.store_step_laws.proofs.Steps.{acts_fine}
-use Rattle.store_step_laws.proofs.laws.operations_are_steps.Goals as goal
-
-pub returns : goal.returns
-returns c = λ config left n trace f p serial k o seen v ready inside came rest. acts_fine config left n trace f p serial k o seen v ready inside came rest

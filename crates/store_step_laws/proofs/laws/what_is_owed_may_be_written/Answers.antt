@@ -1,5 +1,0 @@
-use Rattle.store_step_laws.proofs.Writing.{may_write}
-use Rattle.store_step_laws.proofs.laws.what_is_owed_may_be_written.Goals as goal
-
-pub returns : goal.returns
-returns c = λ config trace past f frame s held i among. may_write config trace past f frame s held i among

@@ -1,0 +1,195 @@
+-- In every run each commit is of one of the sixteen sites; and so vectors tell ancestors, where no stamp is given twice.
+use Rattle.std.proofs.Common.{◌≡◌, ℕ, ◌+◌, ◌==◌, ◌≤◌, ◌&&◌, nat_le, nat_lt, Bool, true, false, cond, List, [], ◌∷◌, filter, map, Option, Some, None, refl, sym, ◌∙◌, subst, inl, inr, arith}
+use Rattle.std.proofs.lemmas.Bool.Decides.{nat_tests}
+use Rattle.locus_ids.specs.declared.ids.FileId.{FileId}
+use Rattle.locus_ids.specs.declared.config.Config.{Config}
+use Rattle.schedule_lines.specs.declared.line.ScheduleLine.{ScheduleLine}
+use Rattle.conflict_flags.proofs.Vectors.{vector-written}
+use Rattle.trace_book.specs.declared.record.Record.{Record}
+use Rattle.trace_book.specs.declared.record.Record.TheVariants as says
+use Rattle.trace_book.specs.declared.record.StopCause.{StopCause}
+use Rattle.trace_book.specs.declared.record.StopCause.TheVariants as cause
+use Rattle.wire_messages.specs.declared.packet.Packet.{Packet}
+use Rattle.role_steps.specs.Own.{Every}
+use Rattle.role_steps.specs.Tables.{row}
+use Rattle.role_steps.specs.Views.{SiteView, Told, Shown, DiskWrite, Outcome, Receives, all_sites}
+use Rattle.role_steps.specs.declared.copies.FileCopy.{FileCopy}
+use Rattle.role_steps.proofs.Sending.{every_append, every_map}
+use Rattle.the_run.specs.Disks.{Disk, Booted, Whole, CutOff, boots, cut_disk, is_on_disk}
+use Rattle.the_run.specs.Steps.{step}
+use Rattle.the_run.specs.Worlds.{World, Place, Running, Stopped, links_of, place_at, place_in, place_site, script_of, happened, disk_of, puts, arms, passed, stops_with, cut_told, cause_of, acts, fresh, first_place, first_world}
+use Rattle.the_run.specs.Runs.{boots_as, packet_record, run_in}
+use Rattle.the_run.specs.Kept.{Kept}
+use Rattle.the_run.proofs.Boots.{at_each, acts_cases, every_weaker}
+use Rattle.the_run.proofs.Events.{happened_keeps, puts_other}
+use Rattle.the_run.proofs.Runs.{every_run, some_eq}
+use Rattle.vector_laws.specs.Held.{IsOf, StillRecord, Still, OnDisk, copies_on}
+use Rattle.vector_laws.specs.Written.{past_of, InstancesAgree}
+use Rattle.vector_laws.specs.Facts.{CopyFact, onto}
+use Rattle.vector_laws.proofs.FactsRun.{past_onto, run_vectors, run_numbered}
+use Rattle.vector_laws.proofs.SiteDisks.{SiteDisk, step_disk}
+use Rattle.vector_laws.specs.HistoryCommits.{commits_of, StampsAreOnce, IsSite, SitedRecord, SitedTold, CommitsAreSited, SitesAreKnown, VectorsTell, IsTrueCopy, CopiesAreTrue}
+use Rattle.vector_laws.proofs.HistoryHistory.{Stands, Sound, sound, all_own, vectors_tell}
+
+-- ---- what is told ----
+
+still_record : (r : Record) → StillRecord r → SitedRecord r
+still_record (says.Commit g s stamp parents content) h = absurd h
+still_record _ h = tt
+
+still_told : (x : Told) → Still x → SitedTold x
+still_told (Shown r) h = still_record r h
+still_told _ h = tt
+
+still_sited : (xs : List Told) → Every Still xs → Every SitedTold xs
+still_sited xs h = every_weaker Still SitedTold xs still_told h
+
+own_sited : (s : ℕ) (r : Record) (x : FileCopy) → IsSite s → IsOf s r x → SitedTold (Shown r)
+own_sited s (says.Commit g t stamp parents content) x site h = subst IsSite (sym h.0) site
+own_sited s (says.Adopt g t stamp) x site h = tt
+own_sited s _ x site h = absurd h
+
+disk_sited : (s : ℕ) (old new : List FileCopy) (told : List Told) (w : Option DiskWrite) → IsSite s → OnDisk s old new told w → Every SitedTold told
+disk_sited s old new told w site (inl h) = still_sited told h.still
+disk_sited s old new told w site (inr h) = subst (Every SitedTold) (sym h.1.told_is) (every_append SitedTold h.1.before (Shown h.0.says ∷ h.1.after) (still_sited h.1.before h.1.still_before) (own_sited s h.0.says h.0.copy site h.1.says_so, still_sited h.1.after h.1.still_after))
+
+onto_sited : (told past : List Told) → Every SitedTold told → Every SitedTold past → Every SitedTold (onto told past)
+onto_sited [] past h g = g
+onto_sited (x ∷ xs) past h g = onto_sited xs (x ∷ past) h.1 (h.0, g)
+
+-- ---- one event ----
+
+sited_event : (n : ℕ) (ps : List Packet) (told : List Told) (change : World → World) (w : World) → ((t : ℕ) (p : Place) → place_at (change w) t ≡ Some p → IsSite t) → Every SitedTold told → SitesAreKnown w → SitesAreKnown (happened n ps told change w)
+sited_event n ps told change w places new g =
+    happened_keeps SitesAreKnown n ps told change w g (λ l. record { places = g.places; commits = g.commits })
+    (λ k b t. record { places = places; commits = subst CommitsAreSited (sym (past_onto n told w.trace)) (onto_sited told (past_of w.trace) new g.commits) })
+
+puts_sited : (s : ℕ) (new : Place) (w : World) → IsSite s → SitesAreKnown w → (t : ℕ) (p : Place) → place_at (puts s new w) t ≡ Some p → IsSite t
+puts_sited s new w site g t p here = at_each s t (IsSite t) (λ e. subst IsSite e site) (λ ne. g.places t p (sym (puts_other s t new w ne) ∙ here))
+
+no_write : (d : DiskWrite) → ◌≡◌ {A = Option DiskWrite} None (Some d) → ⊥
+no_write d e = cc
+
+write_sited : (s : ℕ) (v : SiteView) (o : Outcome SiteView) (d : DiskWrite) → o.written ≡ Some d → IsSite s → SiteDisk s v o → SitedTold (Shown d.says)
+write_sited s v o d e site (inl h) = absurd (no_write d (sym h.none ∙ e))
+write_sited s v o d e site (inr h) = subst (λ (x : DiskWrite). SitedTold (Shown x.says)) (some_eq h.0 d (sym h.1.is_written ∙ e)) (own_sited s h.0.says h.0.copy site h.1.says_so)
+
+cut_sited : (s : ℕ) (b : Bool) (d : DiskWrite) (how : StopCause) → SitedTold (Shown d.says) → Every SitedTold (cond b (Shown d.says ∷ Shown (says.Stopped s how) ∷ []) (Shown (says.Stopped s how) ∷ []))
+cut_sited s true d how h = (h, (tt, tt))
+cut_sited s false d how h = (tt, tt)
+
+acts_sited : (n s : ℕ) (v : SiteView) (o : Outcome SiteView) (w : World) → place_at w s ≡ Some (Running v) → SiteDisk s v o → SitesAreKnown w → SitesAreKnown (acts n s v o w)
+acts_sited n s v o w here disk g =
+    acts_cases SitesAreKnown n s v o w
+    (sited_event n o.sent o.told (λ now. puts s (Running o.view) now) w (puts_sited s (Running o.view) w site g) told g)
+    (λ a. sited_event n o.sent o.told (λ now. puts s (Running o.view) (arms a now)) w (puts_sited s (Running o.view) w site g) told g)
+    (λ d a e. sited_event n [] (cut_told s d a.how a.left) (stops_with s (cut_disk v.boot v.store d a.how a.left)) w (puts_sited s (Stopped (cut_disk v.boot v.store d a.how a.left)) w site g) (cut_sited s (is_on_disk d a.how a.left) d (cause_of a.how) (write_sited s v o d e site disk)) g)
+  where
+    site : IsSite s
+    site = g.places s (Running v) here
+
+    told : Every SitedTold o.told
+    told = disk_sited s v.store.copies o.view.store.copies o.told o.written site disk
+
+as_sited : (n s : ℕ) (d : Disk) (b : Booted) (w : World) → place_at w s ≡ Some (Stopped d) → SitesAreKnown w → SitesAreKnown (boots_as n s b w)
+as_sited n s d (Whole x None) w here g = sited_event n [] (Shown (says.Up s x.label.boot) ∷ []) _ w (puts_sited s (Running (fresh x.label.boot x.copies)) w (g.places s (Stopped d) here) g) (tt, tt) g
+as_sited n s d (Whole x (Some a)) w here g = sited_event n [] (Shown (says.Up s x.label.boot) ∷ []) _ w (puts_sited s (Running (fresh x.label.boot x.copies)) w (g.places s (Stopped d) here) g) (tt, tt) g
+as_sited n s d (CutOff x how) w here g = sited_event n [] (Shown (says.Stopped s (cause_of how)) ∷ []) _ w (puts_sited s (Stopped x) w (g.places s (Stopped d) here) g) (tt, tt) g
+
+sited_kept : (c : Config) → Kept c SitesAreKnown
+sited_kept c = record {
+  steps = λ n s e v w here own g. acts_sited n s v (step c s (links_of w s) v e) w here (step_disk c s (links_of w s) v e) g;
+  receives = λ n x v w here sent g. acts_sited n x.packet.to v (step c x.packet.to (links_of (passed x.number w) x.packet.to) v (Receives x.packet)) (passed x.number w) here (step_disk c x.packet.to (links_of (passed x.number w) x.packet.to) v (Receives x.packet)) (record { places = g.places; commits = g.commits });
+  passes = λ k w g. record { places = g.places; commits = g.commits };
+  drops = λ k w g. record { places = g.places; commits = g.commits };
+  recuts = λ xs w g. record { places = g.places; commits = g.commits };
+  arming = λ a w g. record { places = g.places; commits = g.commits };
+  voiding = λ n w g. sited_event n [] (Shown says.Void ∷ []) (λ now. now) w g.places (tt, tt) g;
+  budgets = λ n w g. sited_event n [] (Shown says.Budget ∷ []) (λ now. now) w g.places (tt, tt) g;
+  pending = λ n w g. sited_event n [] (map packet_record w.underway) (λ now. now) w g.places (every_map SitedTold packet_record w.underway (λ x. tt)) g;
+  stopping = λ n s v w here g. sited_event n [] (Shown (says.Stopped s cause.Asked) ∷ []) (stops_with s (disk_of v)) w (puts_sited s (Stopped (disk_of v)) w (g.places s (Running v) here) g) (tt, tt) g;
+  booting = λ n s d w here g. as_sited n s d (boots (script_of w s) d) w here g;
+}
+
+-- ---- the first world ----
+
+none_place : (p : Place) → ◌≡◌ {A = Option Place} None (Some p) → ⊥
+none_place p e = cc
+
+cons_if : {A : Type 0} (P : A → Type 0) (b : Bool) (x : A) (xs : List A) → P x → Every P xs → Every P (cond b (x ∷ xs) xs)
+cons_if P true x xs p h = (p, h)
+cons_if P false x xs p h = h
+
+every_filter : {A : Type 0} (P : A → Type 0) (test : A → Bool) (xs : List A) → Every P xs → Every P (filter test xs)
+every_filter P test [] h = tt
+every_filter P test (x ∷ xs) h = cons_if P (test x) x (filter test xs) h.0 (every_filter P test xs h.1)
+
+test_same : (a b : ℕ) → (a == b) ≡ true → a ≡ b
+test_same a b e = grind (arith, nat_tests)
+
+first_sited : (c : Config) (ss : List ℕ) → Every IsSite ss → (s : ℕ) (p : Place) → place_in (row place_site s (map (first_place c) ss)) ≡ Some p → IsSite s
+first_sited c [] h s p e = absurd (none_place p e)
+first_sited c (t ∷ ts) h s p e =
+    (elim (t == s) as (λ b. (t == s) ≡ b → place_in (elim b [ true ↦ Some (first_place c t) | false ↦ row place_site s (map (first_place c) ts) ]) ≡ Some p → IsSite s) [
+      | true ↦ λ q f. subst IsSite (test_same t s q) h.0
+      | false ↦ λ q f. first_sited c ts h.1 s p f
+    ]) refl e
+
+abbrev in_range : ℕ → Bool
+in_range s = nat_le 1 s && nat_le s 16
+
+abbrev all_in_range : List ℕ → Bool
+all_in_range [] = true
+all_in_range (s ∷ ss) = in_range s && all_in_range ss
+
+both_true : (a b : Bool) → (a && b) ≡ true → (a ≡ true) × (b ≡ true)
+both_true true true h = (refl, refl)
+both_true true false h = absurd (cc)
+both_true false true h = absurd (cc)
+both_true false false h = absurd (cc)
+
+site_in : (s : ℕ) → in_range s ≡ true → IsSite s
+site_in s h = record { low = low_of (both_true (nat_le 1 s) (nat_le s 16) h).0; high = high_of (both_true (nat_le 1 s) (nat_le s 16) h).1 }
+  where
+    low_of : nat_le 1 s ≡ true → 1 ≤ s
+    low_of e = grind (arith, nat_tests)
+
+    high_of : nat_le s 16 ≡ true → s ≤ 16
+    high_of e = grind (arith, nat_tests)
+
+all_sited : (ss : List ℕ) → all_in_range ss ≡ true → Every IsSite ss
+all_sited [] h = tt
+all_sited (s ∷ ss) h = let k : (in_range s ≡ true) × (all_in_range ss ≡ true) = both_true (in_range s) (all_in_range ss) h in (site_in s k.0, all_sited ss k.1)
+
+sixteen : Every IsSite all_sites
+sixteen = all_sited all_sites refl
+
+first_known : (c : Config) → SitesAreKnown (first_world c)
+first_known c = record { places = λ s p here. first_sited c _ (every_filter IsSite (λ s. nat_lt s (c.sites + 1)) all_sites sixteen) s p here; commits = tt }
+
+pub run_sited : (c : Config) (lines : List ScheduleLine) → SitesAreKnown (run_in c lines)
+run_sited c lines = every_run c SitesAreKnown (sited_kept c) (first_known c) lines
+
+-- ---- the laws ----
+
+pub run_vectors_tell : (c : Config) (lines : List ScheduleLine) → InstancesAgree (past_of (run_in c lines).trace) → StampsAreOnce (past_of (run_in c lines).trace) → (file : FileId) → VectorsTell file (commits_of file (past_of (run_in c lines).trace))
+run_vectors_tell c lines agree once file = let s : SitesAreKnown (run_in c lines) = run_sited c lines in vectors_tell file (past_of (run_in c lines).trace) (run_numbered c lines agree) s.commits (once file)
+
+true_copy : (c : Config) (lines : List ScheduleLine) → InstancesAgree (past_of (run_in c lines).trace) → StampsAreOnce (past_of (run_in c lines).trace) → (x : FileCopy) → CopyFact (past_of (run_in c lines).trace) x → IsTrueCopy (past_of (run_in c lines).trace) x
+true_copy c lines agree once x h = by_case (k.stands x.stamp x.vector h)
+  where
+    past : List Told
+    past = past_of (run_in c lines).trace
+
+    s : SitesAreKnown (run_in c lines)
+    s = run_sited c lines
+
+    k : Sound x.file past
+    k = sound x.file past (run_numbered c lines agree) s.commits (once x.file)
+
+    by_case : Stands x.file (commits_of x.file past) x.stamp x.vector → IsTrueCopy past x
+    by_case (inl f) = inl f
+    by_case (inr f) = inr (f.0, λ t. f.1 t ∙ vector-written x.file (commits_of x.file past) k.counted (all_own x.file past (run_numbered c lines agree) s.commits) x.stamp t)
+
+pub run_true_copies : (c : Config) (lines : List ScheduleLine) → InstancesAgree (past_of (run_in c lines).trace) → StampsAreOnce (past_of (run_in c lines).trace) → CopiesAreTrue (run_in c lines)
+run_true_copies c lines agree once s p here = every_weaker (CopyFact (past_of (run_in c lines).trace)) (IsTrueCopy (past_of (run_in c lines).trace)) (copies_on p) (true_copy c lines agree once) (run_vectors c lines agree s p here)
