@@ -28,7 +28,6 @@ pub record Ends (input : Input) (result : Status) (source left before after : Op
   pub long_line : result ≡ status.Limit Line → IfSome source (λ bytes. StopsAtLong input (lines_of bytes) before after)
   pub many_lines : result ≡ status.Limit Lines → IfSome source (λ bytes. StopsAtCount input (lines_of bytes) before after)
   pub limit : (l : Limit) → result ≡ status.Limit (limited l) → IfSome source (λ bytes. StopsAtLimit input (lines_of bytes) l before after)
-  pub world : result ≡ status.WorldFault → ⊥
   pub front : IfSome source (λ bytes. WritesFront input (lines_of bytes) before after)
 
 -- an accepted input whose run passes no limit passes none
@@ -56,7 +55,6 @@ comes_through input (status.Limit Line) source left before after bytes lines c t
 comes_through input (status.Limit Lines) source left before after bytes lines c told ok free r w =
     let stop = at_some source bytes _ told (c.many_lines refl) in
     absurd (no_more (lines_of bytes) stop.earlier stop.later ok.within stop.split stop.full stop.more)
-comes_through input status.WorldFault source left before after bytes lines c told ok free r w = absurd (c.world refl)
 
 pub keeps_promises : (input : Input) (result : Status) (source left before after : Option (List ℕ)) → Ends input result source left before after → LinePromises input result source left before after
 keeps_promises input result source left before after c = record {
@@ -85,6 +83,5 @@ for_memory input source left before after front = keeps_promises input status.No
   long_line = λ e. absurd (cc);
   many_lines = λ e. absurd (cc);
   limit = λ l e. absurd (no_limit_is l e);
-  world = λ e. cc;
   front = front;
 })

@@ -10,8 +10,6 @@ use Rattle.the_run.specs.Worlds.{Limit}
 use Rattle.the_run.specs.Worlds as bound
 use Rattle.run_book.specs.Ledgers.{limit_named}
 use Rattle.run_book.specs.declared.fault.Passed.{Passed}
-use Rattle.world.specs.declared.fault.WorldFault.{WorldFault}
-use Rattle.world.specs.declared.fault.WorldFault.TheVariants as world
 use Rattle.schedule_run.specs.declared.load_fault.LoadFault.{LoadFault}
 use Rattle.schedule_run.specs.declared.load_fault.LoadFault.TheVariants as load
 use Rattle.locus_main.specs.declared.status.Status.TheVariants as status
@@ -38,9 +36,6 @@ memory_no_limit m e = cc
 
 write_no_limit : (m : Limit) → status.WriteFault ≡ status.Limit (limited m) → ⊥
 write_no_limit m e = cc
-
-world_no_limit : (m : Limit) → status.WorldFault ≡ status.Limit (limited m) → ⊥
-world_no_limit m e = cc
 
 -- the counts are written
 pub load_whole : (over : Option Limit) (text : List ℕ) (t u : Option (List ℕ)) → over ≡ None → Appends t u text → LoadPromises over text status.Ok t u
@@ -98,11 +93,10 @@ for_limit over text t m passes = record {
 }
 
 -- the load was not run to its end
-pub load_undone : (over : Option Limit) (text : List ℕ) (fault : LoadFault) (t : Option (List ℕ)) → ((p : Passed) → fault ≡ load.Limit p → over ≡ Some (limit_named p)) → (status_of_load fault ≡ status.WorldFault → ⊥) → LoadPromises over text (status_of_load fault) t t
-load_undone over text (load.Limit p) t passes able = for_limit over text t (limit_named p) (passes p refl)
-load_undone over text load.NoMemory t passes able = no_load over text t
-load_undone over text (load.World world.NoMemory) t passes able = no_load over text t
-load_undone over text (load.World _) t passes able = absurd (able refl)
+pub load_undone : (over : Option Limit) (text : List ℕ) (fault : LoadFault) (t : Option (List ℕ)) → ((p : Passed) → fault ≡ load.Limit p → over ≡ Some (limit_named p)) → LoadPromises over text (status_of_load fault) t t
+load_undone over text (load.Limit p) t passes = for_limit over text t (limit_named p) (passes p refl)
+load_undone over text load.NoMemory t passes = no_load over text t
+load_undone over text (load.World cause) t passes = no_load over text t
 
 limit_not_written : (l : Limit) → status.Limit (limited l) ≡ status.WriteFault → ⊥
 limit_not_written l e = cc
@@ -111,20 +105,17 @@ limit_not_written l e = cc
 pub undone_no_write : (fault : LoadFault) → status_of_load fault ≡ status.WriteFault → ⊥
 undone_no_write (load.Limit p) e = limit_not_written (limit_named p) e
 undone_no_write load.NoMemory e = cc
-undone_no_write (load.World world.NoMemory) e = cc
-undone_no_write (load.World _) e = cc
+undone_no_write (load.World cause) e = cc
 
 pub undone_not_ok : (fault : LoadFault) → status_of_load fault ≡ status.Ok → ⊥
 undone_not_ok (load.Limit p) e = ok_no_limit (limit_named p) (sym e)
 undone_not_ok load.NoMemory e = cc
-undone_not_ok (load.World world.NoMemory) e = cc
-undone_not_ok (load.World _) e = cc
+undone_not_ok (load.World cause) e = cc
 
 pub undone_ends : (fault : LoadFault) → ends_load (status_of_load fault) ≡ true
 undone_ends (load.Limit p) = limits_end (limit_named p)
 undone_ends load.NoMemory = refl
-undone_ends (load.World world.NoMemory) = refl
-undone_ends (load.World _) = refl
+undone_ends (load.World cause) = refl
 
 pub write_ends_load : (fault : WriteFault) → ends_load (status_of fault) ≡ true
 write_ends_load write.Failed = refl
@@ -137,16 +128,3 @@ write_not_ok write.NoMemory e = cc
 -- a load doesn't end otherwise
 pub load_not : (s t : Status) → ends_load s ≡ true → ends_load t ≡ false → s ≡ t → ⊥
 load_not s t h f e = false≢true (sym f ∙ (ap ends_load (sym e) ∙ h))
-
--- ---- no fault of the world ----
-
-pub world_of_load : (f : LoadFault) → status_of_load f ≡ status.WorldFault → (x : WorldFault) × (f ≡ load.World x)
-world_of_load (load.Limit p) e = absurd (world_no_limit (limit_named p) (sym e))
-world_of_load load.NoMemory e = absurd (cc)
-world_of_load (load.World x) e = (x, refl)
-
--- where memory alone is wanting, no load ends as a fault of the world
-pub memory_no_load : (f : LoadFault) (x : WorldFault) → f ≡ load.World x → x ≡ world.NoMemory → status_of_load f ≡ status.WorldFault → ⊥
-memory_no_load f x e m h =
-    let k : status_of_load f ≡ status.NoMemory = ap status_of_load (e ∙ ap (λ (y : WorldFault). load.World y) m) in
-    let z : status.NoMemory ≡ status.WorldFault = sym k ∙ h in cc

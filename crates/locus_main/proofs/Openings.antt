@@ -1,6 +1,5 @@
 -- Where the runners stand before the first line, and how a command ends there.
 use Rattle.std.proofs.Common.{◌≡◌, ℕ, List, [], Option, refl, sym, ◌∙◌, ◌⊎◌, inl, inr, ⊎_elim}
-use Rattle.world.specs.declared.fault.WorldFault.TheVariants as world
 use Rattle.schedule_run.specs.declared.fault.RunFault.{RunFault}
 use Rattle.schedule_run.specs.declared.fault.RunFault.TheVariants.{Bad, NoMemory, World}
 use Rattle.schedule_run.specs.declared.runner.ScheduleRunner.{ScheduleRunner}
@@ -26,18 +25,16 @@ unfolding opening_of
 tree_opens r h = record { calls = []; asked = tt; run = refl; ran = h }
 
 -- the opening of a tree was not done
-pub not_opened : (fault : RunFault) (n : ℕ) (source left t : Option (List ℕ)) → (fault ≡ Bad → ⊥) → (status_of_line fault n ≡ status.WorldFault → ⊥) → LinePromises Calls (status_of_line fault n) source left t t
-not_opened Bad n source left t good able = absurd (good refl)
-not_opened NoMemory n source left t good able = for_memory Calls source left t t (Nothing-front Calls source t)
-not_opened (World world.NoMemory) n source left t good able = for_memory Calls source left t t (Nothing-front Calls source t)
-not_opened (World _) n source left t good able = absurd (able refl)
+pub not_opened : (fault : RunFault) (n : ℕ) (source left t : Option (List ℕ)) → (fault ≡ Bad → ⊥) → LinePromises Calls (status_of_line fault n) source left t t
+not_opened Bad n source left t good = absurd (good refl)
+not_opened NoMemory n source left t good = for_memory Calls source left t t (Nothing-front Calls source t)
+not_opened (World cause) n source left t good = for_memory Calls source left t t (Nothing-front Calls source t)
 
--- such an end is none of a reader, a write or bad words
-pub no_other : (fault : RunFault) (n : ℕ) → (fault ≡ Bad → ⊥) → (status_of_line fault n ≡ status.NoMemory) ⊎ (status_of_line fault n ≡ status.WorldFault)
+-- it ends for want of memory
+pub no_other : (fault : RunFault) (n : ℕ) → (fault ≡ Bad → ⊥) → status_of_line fault n ≡ status.NoMemory
 no_other Bad n good = absurd (good refl)
-no_other NoMemory n good = inl refl
-no_other (World world.NoMemory) n good = inl refl
-no_other (World _) n good = inr refl
+no_other NoMemory n good = refl
+no_other (World cause) n good = refl
 
-pub memory_or_world : (s t : Status) → (s ≡ status.NoMemory) ⊎ (s ≡ status.WorldFault) → (status.NoMemory ≡ t → ⊥) → (status.WorldFault ≡ t → ⊥) → s ≡ t → ⊥
-memory_or_world s t h m w e = ⊎_elim (λ a. m (sym a ∙ e)) (λ b. w (sym b ∙ e)) h
+pub only_memory : (s t : Status) → s ≡ status.NoMemory → (status.NoMemory ≡ t → ⊥) → s ≡ t → ⊥
+only_memory s t h m e = m (sym h ∙ e)

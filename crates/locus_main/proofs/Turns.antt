@@ -8,8 +8,6 @@ use Rattle.locus_io.specs.declared.traits.WriteFault.{WriteFault}
 use Rattle.locus_io.specs.declared.traits.WriteFault.TheVariants as write
 use Rattle.the_run.specs.Worlds.{Limit}
 use Rattle.the_run.specs.Worlds as bound
-use Rattle.world.specs.declared.fault.WorldFault.{WorldFault}
-use Rattle.world.specs.declared.fault.WorldFault.TheVariants as world
 use Rattle.schedule_run.specs.declared.fault.RunFault.{RunFault}
 use Rattle.schedule_run.specs.declared.fault.RunFault.TheVariants.{Bad, NoMemory, World}
 use Rattle.locus_main.specs.Codes.{ends_written, limited, status_of}
@@ -23,41 +21,25 @@ use Rattle.locus_main.specs.declared.status.Limited.TheVariants as what
 pub line_is_bad : (f : RunFault) (n line : ℕ) → status_of_line f n ≡ status.BadLine line → (f ≡ Bad) × (line ≡ n)
 line_is_bad Bad n line e = (refl, cc)
 line_is_bad NoMemory n line e = absurd (cc)
-line_is_bad (World world.NoMemory) n line e = absurd (cc)
-line_is_bad (World _) n line e = absurd (cc)
+line_is_bad (World x) n line e = absurd (cc)
 
 -- a fault ends a turn
 pub faults_end : (f : RunFault) (n : ℕ) → ends_turn (status_of_line f n) ≡ true
 faults_end Bad n = refl
 faults_end NoMemory n = refl
-faults_end (World world.NoMemory) n = refl
-faults_end (World _) n = refl
+faults_end (World x) n = refl
 
 -- and is no limit
 pub no_limit_is : (f : RunFault) (n : ℕ) (what : Limited) → status_of_line f n ≡ status.Limit what → ⊥
 no_limit_is Bad n what e = cc
 no_limit_is NoMemory n what e = cc
-no_limit_is (World world.NoMemory) n what e = cc
-no_limit_is (World _) n what e = cc
+no_limit_is (World x) n what e = cc
 
 -- nor a fault of a write
 pub no_write_is : (f : RunFault) (n : ℕ) → status_of_line f n ≡ status.WriteFault → ⊥
 no_write_is Bad n e = cc
 no_write_is NoMemory n e = cc
-no_write_is (World world.NoMemory) n e = cc
-no_write_is (World _) n e = cc
-
--- only a fault of the world ends a run as one
-pub world_is : (f : RunFault) (n : ℕ) → status_of_line f n ≡ status.WorldFault → (x : WorldFault) × (f ≡ World x)
-world_is Bad n e = absurd (cc)
-world_is NoMemory n e = absurd (cc)
-world_is (World x) n e = (x, refl)
-
--- where memory alone is wanting, nothing ends as a fault of the world
-pub memory_no_world : (f : RunFault) (n : ℕ) (x : WorldFault) → f ≡ World x → x ≡ world.NoMemory → status_of_line f n ≡ status.WorldFault → ⊥
-memory_no_world f n x e m h =
-    let k : status_of_line f n ≡ status.NoMemory = ap (λ (g : RunFault). status_of_line g n) (e ∙ ap (λ (y : WorldFault). World y) m) in
-    let z : status.NoMemory ≡ status.WorldFault = sym k ∙ h in cc
+no_write_is (World x) n e = cc
 
 -- the limits of a run end a turn
 pub limits_end : (l : Limit) → ends_telling (status.Limit (limited l)) ≡ true
@@ -93,7 +75,6 @@ telling_ends (status.Limit what.Bytes) h = h
 telling_ends (status.Limit what.Trace) h = h
 telling_ends (status.Limit what.Line) h = h
 telling_ends (status.Limit what.Lines) h = h
-telling_ends status.WorldFault h = refl
 
 -- telling doesn't end a run otherwise
 pub telling_not : (s t : Status) → ends_telling s ≡ true → ends_telling t ≡ false → s ≡ t → ⊥
@@ -127,10 +108,6 @@ pub write_no_line : (f : WriteFault) (line : ℕ) → status_of f ≡ status.Bad
 write_no_line write.Failed line e = cc
 write_no_line write.NoMemory line e = cc
 
-pub write_no_world : (f : WriteFault) → status_of f ≡ status.WorldFault → ⊥
-write_no_world write.Failed e = cc
-write_no_world write.NoMemory e = cc
-
 pub write_no_limit : (f : WriteFault) (what : Limited) → status_of f ≡ status.Limit what → ⊥
 write_no_limit write.Failed what e = cc
 write_no_limit write.NoMemory what e = cc
@@ -156,12 +133,6 @@ stopped_no_line o s line h e = no_line_is (limited h.0) line (sym h.2 ∙ e)
 
 pub stopped_no_write : (o : Option Limit) (s : Status) → Stopped o s → s ≡ status.WriteFault → ⊥
 stopped_no_write o s h e = no_write_limit (limited h.0) (sym h.2 ∙ e)
-
-no_world_limit : (what : Limited) → status.Limit what ≡ status.WorldFault → ⊥
-no_world_limit what e = cc
-
-pub stopped_no_world : (o : Option Limit) (s : Status) → Stopped o s → s ≡ status.WorldFault → ⊥
-stopped_no_world o s h e = no_world_limit (limited h.0) (sym h.2 ∙ e)
 
 -- ---- answers ----
 

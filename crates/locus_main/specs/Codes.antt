@@ -18,7 +18,6 @@ code_of status.ReadFault = 4
 code_of status.WriteFault = 5
 code_of status.NoMemory = 6
 code_of (status.Limit what) = 7
-code_of status.WorldFault = 8
 
 -- a run that ends so was not cut short while it wrote
 abbrev pub ends_written : Status → Bool
@@ -29,7 +28,6 @@ ends_written status.ReadFault = true
 ends_written status.WriteFault = false
 ends_written status.NoMemory = false
 ends_written (status.Limit what) = true
-ends_written status.WorldFault = true
 
 -- a load may end so
 abbrev pub ends_load : Status → Bool
@@ -42,7 +40,6 @@ ends_load status.NoMemory = true
 ends_load (status.Limit Line) = false
 ends_load (status.Limit Lines) = false
 ends_load (status.Limit _) = true
-ends_load status.WorldFault = true
 
 -- a limit's name in a message
 abbrev pub limit_word : Limited → List ℕ

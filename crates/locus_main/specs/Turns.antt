@@ -6,7 +6,6 @@ use Rattle.locus_io.specs.Causes.{AppendsFront}
 use Rattle.schedule_lines.specs.declared.line.ScheduleLine.{ScheduleLine}
 use Rattle.the_run.specs.Worlds.{Limit}
 use Rattle.the_run.specs.Runs.{run}
-use Rattle.world.specs.declared.fault.WorldFault.TheVariants as world
 use Rattle.schedule_run.specs.declared.fault.RunFault.{RunFault}
 use Rattle.schedule_run.specs.declared.fault.RunFault.TheVariants.{Bad, NoMemory, World}
 use Rattle.schedule_run.specs.declared.load_fault.LoadFault.{LoadFault}
@@ -22,15 +21,13 @@ use Rattle.locus_main.specs.Inputs.{Input, StandsFor, output_of}
 abbrev pub status_of_line : RunFault → ℕ → Status
 status_of_line Bad number = status.BadLine number
 status_of_line NoMemory number = status.NoMemory
-status_of_line (World world.NoMemory) number = status.NoMemory
-status_of_line (World _) number = status.WorldFault
+status_of_line (World cause) number = status.NoMemory
 
 -- what a load comes to where it was not run to its end
 abbrev pub status_of_load : LoadFault → Status
 status_of_load (load.Limit passed) = status.Limit (limited (limit_named passed))
 status_of_load load.NoMemory = status.NoMemory
-status_of_load (load.World world.NoMemory) = status.NoMemory
-status_of_load (load.World _) = status.WorldFault
+status_of_load (load.World cause) = status.NoMemory
 
 -- a turn may end a run so
 abbrev pub ends_turn : Status → Bool
@@ -43,12 +40,10 @@ ends_turn status.NoMemory = true
 ends_turn (status.Limit Line) = false
 ends_turn (status.Limit Lines) = false
 ends_turn (status.Limit _) = true
-ends_turn status.WorldFault = true
 
 -- telling what is fresh may end a run so
 abbrev pub ends_telling : Status → Bool
 ends_telling (status.BadLine line) = false
-ends_telling status.WorldFault = false
 ends_telling s = ends_turn s
 
 -- What runs lines: after these lines of bytes, which stand for these lines of a run, and with these bytes of the output taken.

@@ -24,7 +24,6 @@ use world::WorldFault;
 pub fn run<S: Source, K: Sink>(alloc: Global, source: &mut S, sink: &mut K) -> Status
     ensures promises { LinePromises Schedule result (S.left source.old) (S.left source.new) (K.taken sink.old) (K.taken sink.new) }
     ensures words { result ≢ Status.BadWords }
-    ensures complete { result ≢ Status.WorldFault }
     ensures flushed { result ≡ Status.Ok → K.flushed sink.new ≡ K.taken sink.new }
     ensures nothing_held { ends_written result ≡ true → (sink.new ≡ sink.old) ⊎ (K.flushed sink.new ≡ K.taken sink.new) }
     ensures read_fault { result ≡ Status.ReadFault → Rose (S.faults source.old) (S.faults source.new) }
@@ -44,7 +43,6 @@ pub fn run<S: Source, K: Sink>(alloc: Global, source: &mut S, sink: &mut K) -> S
 pub fn tree<S: Source, K: Sink>(alloc: Global, source: &mut S, sink: &mut K) -> Status
     ensures promises { LinePromises Calls result (S.left source.old) (S.left source.new) (K.taken sink.old) (K.taken sink.new) }
     ensures words { result ≢ Status.BadWords }
-    ensures complete { result ≢ Status.WorldFault }
     ensures flushed { result ≡ Status.Ok → K.flushed sink.new ≡ K.taken sink.new }
     ensures nothing_held { ends_written result ≡ true → (sink.new ≡ sink.old) ⊎ (K.flushed sink.new ≡ K.taken sink.new) }
     ensures read_fault { result ≡ Status.ReadFault → Rose (S.faults source.old) (S.faults source.new) }
@@ -66,7 +64,6 @@ pub fn make<K: Sink>(alloc: Global, number: u64, events: u32, sink: &mut K) -> S
     requires { events ≤ 2000 }
     ensures promises { LoadPromises (run_of (load_lines (draws_of number events))).over (load_text (draws_of number events)) result (K.taken sink.old) (K.taken sink.new) }
     ensures words { result ≢ Status.BadWords }
-    ensures complete { result ≢ Status.WorldFault }
     ensures reads { result ≢ Status.ReadFault }
     ensures flushed { result ≡ Status.Ok → K.flushed sink.new ≡ K.taken sink.new }
     ensures nothing_held { ends_written result ≡ true → (sink.new ≡ sink.old) ⊎ (K.flushed sink.new ≡ K.taken sink.new) }
@@ -82,8 +79,9 @@ pub fn make<K: Sink>(alloc: Global, number: u64, events: u32, sink: &mut K) -> S
     }
 }
 
-/// What a load comes to where it was not run to its end.
+/// What a load comes to where it was not run to its end. Nothing is wanting then but memory.
 fn status_of_load(fault: LoadFault) -> Status
+    requires { (cause : WorldFault) → fault ≡ LoadFault.World cause → cause ≡ WorldFault.NoMemory }
     ensures { result ≡ load_status fault }
 {
     match fault {
@@ -98,6 +96,6 @@ fn status_of_load(fault: LoadFault) -> Status
         },
         LoadFault::NoMemory => Status::NoMemory,
         LoadFault::World(WorldFault::NoMemory) => Status::NoMemory,
-        LoadFault::World(_) => Status::WorldFault,
+        LoadFault::World(_) => unreachable!(),
     }
 }

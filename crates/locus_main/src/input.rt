@@ -24,7 +24,6 @@ pub fn run_lines<R: LineRunner, S: Source, K: Sink>(
     requires unread { reader.old ≡ record { ahead = []; line = []; number = 0; limit = 16384; ended = false } }
     ensures promises { LinePromises R.input result (S.left source.old) (S.left source.new) (K.taken sink.old) (K.taken sink.new) }
     ensures words { result ≢ Status.BadWords }
-    ensures complete { result ≢ Status.WorldFault }
     ensures held { ends_written result ≡ true → K.flushed sink.new ≡ K.taken sink.new }
     ensures read_fault { result ≡ Status.ReadFault → Rose (S.faults source.old) (S.faults source.new) }
     ensures write_fault { result ≡ Status.WriteFault → Rose (K.faults sink.old) (K.faults sink.new) }

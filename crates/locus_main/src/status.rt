@@ -19,8 +19,6 @@ pub enum Status {
     NoMemory,
     /// A further step would pass a limit.
     Limit { what: Limited },
-    /// The world of the run could not do a line. This never comes.
-    WorldFault,
 }
 
 /// What has a limit.
@@ -51,7 +49,6 @@ impl Status {
             Status::WriteFault => 5,
             Status::NoMemory => 6,
             Status::Limit { what: _ } => 7,
-            Status::WorldFault => 8,
         }
     }
 
@@ -68,7 +65,6 @@ impl Status {
                 let word = what.word();
                 eprintln!(rt; "locus: limit {word}")
             }
-            Status::WorldFault => eprintln!(rt; "locus: world fault"),
         }
     }
 }

@@ -155,7 +155,6 @@ fn each_status_has_its_code(rt: HostRuntime) -> Result<(), Fail> {
         (Status::WriteFault, 5),
         (Status::NoMemory, 6),
         (limit, 7),
-        (Status::WorldFault, 8),
     ];
     for (status, code) in codes {
         assert_eq!(rt; status.code(), code);

@@ -1,4 +1,4 @@
-ghost use Rattle.std.specs.Prelude.{◌≡◌, ◌≢◌, ℕ, ◌⊎◌, true};
+ghost use Rattle.std.specs.Prelude.{◌≡◌, ℕ, ◌⊎◌, true};
 ghost use Rattle.locus_io.specs.Causes.{Rose};
 ghost use Rattle.the_run.specs.Runs.{run as run_of};
 ghost use Rattle.the_run.specs.Commands.{load_lines, load_text};
@@ -42,9 +42,6 @@ pub fn locus<S: Source, K: Sink>(
     // flushed.
     ensures flushed { result ≡ Status.Ok → K.flushed sink.new ≡ K.taken sink.new }
     ensures nothing_held { ends_written result ≡ true → (sink.new ≡ sink.old) ⊎ (K.flushed sink.new ≡ K.taken sink.new) }
-
-    // The world can do each line.
-    ensures complete { result ≢ Status.WorldFault }
 
     // A fault of a read or a write is the source's or the sink's own.
     ensures read_fault { result ≡ Status.ReadFault → Rose (S.faults source.old) (S.faults source.new) }

@@ -15,15 +15,16 @@ use run_book::Passed;
 use schedule_run::RunFault;
 use world::WorldFault;
 
-/// What a run comes to where a line was not done.
+/// What a run comes to where a line was not done. In the world of a run nothing is ever wanting but memory.
 pub fn status_of(fault: RunFault, number: u32) -> Status
+    requires { (cause : WorldFault) → fault ≡ RunFault.World cause → cause ≡ WorldFault.NoMemory }
     ensures { result ≡ status_of_line fault number }
 {
     match fault {
         RunFault::Bad => Status::BadLine { line: number },
         RunFault::NoMemory => Status::NoMemory,
         RunFault::World(WorldFault::NoMemory) => Status::NoMemory,
-        RunFault::World(_) => Status::WorldFault,
+        RunFault::World(_) => unreachable!(),
     }
 }
 
@@ -79,11 +80,11 @@ pub fn take_turn<R: LineRunner, K: Sink>(
     sink: &mut K,
 ) -> Result<(), Status>
     requires flushed { K.flushed sink.old ≡ K.taken sink.old }
+    requires told { (all : List (List ℕ)) × (lines : List ScheduleLine) × (number ≡ length all + 1) × HasTold R.stands R.input all lines runner.old }
     ensures ok { (all : List (List ℕ)) (lines : List ScheduleLine) → number ≡ length all + 1 → HasTold R.stands R.input all lines runner.old → OnOk result (Goes R.stands R.input all lines bytes.now None runner.new (K.taken sink.old) (K.taken sink.new)) }
     ensures limit { (all : List (List ℕ)) (lines : List ScheduleLine) (limit : Limit) → number ≡ length all + 1 → HasTold R.stands R.input all lines runner.old → result ≡ Err (Status.Limit (limited limit)) → Goes R.stands R.input all lines bytes.now (Some limit) runner.new (K.taken sink.old) (K.taken sink.new) }
     ensures flushed { OnOk result (K.flushed sink.new ≡ K.taken sink.new) }
     ensures bad { (all : List (List ℕ)) (lines : List ScheduleLine) (line : ℕ) → HasTold R.stands R.input all lines runner.old → result ≡ Err (Status.BadLine line) → (line ≡ number) × Refuses R.input all bytes.now × (sink.new ≡ sink.old) }
-    ensures complete { (all : List (List ℕ)) (lines : List ScheduleLine) → number ≡ length all + 1 → HasTold R.stands R.input all lines runner.old → result ≡ Err Status.WorldFault → ⊥ }
     ensures err { (all : List (List ℕ)) (lines : List ScheduleLine) → number ≡ length all + 1 → HasTold R.stands R.input all lines runner.old → OnErr result (IsCutShort R.input all lines bytes.now (K.taken sink.old) (K.taken sink.new)) }
     ensures failed { result ≡ Err Status.WriteFault → Rose (K.faults sink.old) (K.faults sink.new) }
     ensures only { IfErr result (λ status. ends_turn status ≡ true) }

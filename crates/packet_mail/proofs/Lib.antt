@@ -3,3 +3,4 @@ pub mod Sent
 pub mod Calls
 pub mod Listing
 pub mod Known
+mod Spans

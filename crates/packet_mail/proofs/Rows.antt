@@ -114,10 +114,10 @@ pub packet_is : (bytes : List ℕ) (p : Packet) → IsPacket bytes p → packet_
 unfolding packet_of_bytes
 packet_is bytes p is = ap packet_or_none (ap (whole packets) is.0 ∙ whole_again packets_laws p is.1)
 
-part_stays : (log more : List ℕ) (i j : ℕ) → i ≤ j → j ≤ length log → slice_range (log ++ more) i j ≡ slice_range log i j
+pub part_stays : (log more : List ℕ) (i j : ℕ) → i ≤ j → j ≤ length log → slice_range (log ++ more) i j ≡ slice_range log i j
 part_stays log more i j l m = ap (take (j - i)) (drop-append-le i log more (omega arith)) ∙ take-append-le (j - i) (drop i log) more (omega (arith, length-drop i log))
 
-part_new : (log more : List ℕ) → slice_range (log ++ more) (length log) (length (log ++ more)) ≡ more
+pub part_new : (log more : List ℕ) → slice_range (log ++ more) (length log) (length (log ++ more)) ≡ more
 part_new log more = ap (take (length (log ++ more) - length log)) (drop-append_seam log more) ∙ take_all (length (log ++ more) - length log) more (omega (arith, length-append log more))
 
 -- a letter from before is as it was

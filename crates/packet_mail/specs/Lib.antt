@@ -1,3 +1,4 @@
 pub mod Posts
 pub mod Letters
 pub mod Kinds
+pub mod Spans

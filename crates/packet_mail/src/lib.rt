@@ -4,8 +4,10 @@
 
 mod fault;
 mod kinds;
+mod letter_row;
 mod letters;
 mod mail;
 
 pub use fault::MailFault;
+pub use letter_row::Letters;
 pub use mail::{MOST_BYTES, MOST_PACKETS, Mail, Pending, PendingPacket};

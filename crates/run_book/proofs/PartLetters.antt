@@ -86,3 +86,9 @@ letters_here parts i part letters first l is few e =
 -- after the part
 pub letters_behind : (part : Outgoing) (more : List Packet) (letters : List (List ℕ)) (first n : ℕ) → n ≡ length part.packets → PartLetters part more letters first → (first + n ≤ length letters) × (drop (first + n) letters ≡ map packet_bytes more)
 letters_behind part more letters first n e here = (let room = here.room in omega arith, ap (λ (k : ℕ). drop (first + k) letters) e ∙ here.rest)
+
+-- the size with one letter more
+pub size_more : (xs : List (List ℕ)) (i size more whole : ℕ) (x : List ℕ) → Some x ≡ slice_get xs i → more ≡ size + length x → size + total (λ (y : List ℕ). length y) (drop i xs) ≡ whole → more + total (λ (y : List ℕ). length y) (drop (i + 1) xs) ≡ whole
+size_more xs i size more whole x at e h =
+    let f : total (λ (y : List ℕ). length y) (drop i xs) ≡ length x + total (λ (y : List ℕ). length y) (drop (i + 1) xs) = ap (λ (ys : List (List ℕ)). total (λ (y : List ℕ). length y) ys) (left_from xs i x at) in
+    omega arith

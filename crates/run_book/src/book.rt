@@ -12,10 +12,11 @@ use crate::measures::{Measured, is_past, put_all, sizes_of};
 use crate::writing::add_written;
 use crate::{BookFault, Passed, RunCounts, Writing};
 use locus_ids::{Bytes, NoMemory};
-use packet_mail::{MOST_BYTES, MOST_PACKETS, Mail};
+use packet_mail::{Letters, MOST_BYTES, MOST_PACKETS, Mail};
 use packet_order::{Dispatch, Part};
 use std::alloc::Global;
 use std::marker::Model;
+use std::mem::replace;
 use wire_messages::Encoder;
 
 /// The bytes of text that the records of a run may have, written or not.
@@ -26,6 +27,7 @@ pub const MOST_TEXT: usize = 134_217_728;
 pub struct RunBook {
     mail: Mail,
     encoder: Encoder,
+    letters: Letters,
     writing: Writing,
     fresh: Bytes,
     counts: RunCounts,
@@ -55,6 +57,7 @@ impl RunBook {
         Ok(RunBook {
             mail: Mail::new(alloc)?,
             encoder: Encoder::new(alloc)?,
+            letters: Letters::new(alloc),
             writing,
             fresh: Bytes::new(alloc),
             counts: RunCounts::new(),
@@ -150,7 +153,7 @@ impl RunBook {
         ensures ok { (n : ℕ) → event.now.text ≡ lines_text n (together parts.now).records → OnOk result (self.new ≡ with_event n (together parts.now).packets (together parts.now).records self.old) }
         ensures unfit { result ≡ Err BookFault.Unfit → ⊥ }
     {
-        put_all(&mut self.mail, parts, event.letters.as_slice())?;
+        put_all(&mut self.mail, parts, &event.letters)?;
         let Ok(counts) = with_parts(self.counts, parts) else {
             return Err(BookFault::NoMemory);
         };
@@ -187,11 +190,13 @@ impl RunBook {
             return Ok(());
         }
         let alloc = self.allocator();
-        let event = match sizes_of(alloc, line, out, &mut self.encoder) {
+        let before = replace(&mut self.letters, Letters::new(alloc));
+        let event = match sizes_of(alloc, line, out, &mut self.encoder, before) {
             Ok(event) => event,
             Err(fault) => return Err(fault),
         };
         self.enter(out.parts(), &event)?;
+        self.letters = event.letters;
         Ok(())
     }
 }

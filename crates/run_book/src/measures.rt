@@ -10,15 +10,13 @@ ghost use Rattle.packet_mail.specs.Posts.{posts};
 ghost use Rattle.run_book.specs.Ledgers.{lines_text};
 
 use crate::BookFault;
-use locus_ids::{Bytes, ItemList, NoMemory};
-use packet_mail::Mail;
-use packet_order::{Dispatch, OrderFault, Part, letter_at, letter_of};
+use locus_ids::{Bytes, NoMemory};
+use packet_fit::fits;
+use packet_mail::{Letters, Mail};
+use packet_order::{Dispatch, OrderFault, Part, letter_of};
 use std::alloc::Global;
 use trace_book::{Record, render};
 use wire_messages::{Encoder, Packet};
-
-/// The bytes of packets, each alone.
-type Letters = ItemList<Bytes>;
 
 /// So many more are past the limit.
 pub fn is_past(limit: usize, count: usize, more: usize) -> bool
@@ -39,12 +37,14 @@ fn add_letter(
     ensures fits { OnOk result (FitsPacket packet.now) }
     ensures unfit { result ≡ Err BookFault.Unfit → FitsIfCounted packet.now → ⊥ }
 {
-    let letter = match letter_of(alloc, packet, encoder) {
-        Ok(letter) => letter,
-        Err(OrderFault::Unfit) => return Err(BookFault::Unfit),
-        Err(OrderFault::NoMemory) => return Err(BookFault::NoMemory),
-    };
-    match letters.push(letter) {
+    if !fits(packet) {
+        return match letter_of(alloc, packet, encoder) {
+            Err(OrderFault::Unfit) => Err(BookFault::Unfit),
+            Err(OrderFault::NoMemory) => Err(BookFault::NoMemory),
+            Ok(_) => unreachable!(),
+        };
+    }
+    match letters.add(packet, encoder) {
         Ok(()) => Ok(()),
         Err(_) => Err(BookFault::NoMemory),
     }
@@ -70,17 +70,19 @@ fn add_letters(
     Ok(())
 }
 
-/// The bytes of each packet in turn, if all are of the format.
+/// The bytes of each packet in turn, if all are of the format. They take the memory of letters of before.
 fn letters_of_all(
     alloc: Global,
     parts: &[Part],
     encoder: &mut Encoder,
+    before: Letters,
 ) -> Result<Letters, BookFault>
     ensures letters { IfOk result (λ made. made ≡ map packet_bytes (together parts.now).packets) }
     ensures fits { OnOk result (AllByRecursion (λ p. FitsPacket p) (together parts.now).packets) }
     ensures unfit { result ≡ Err BookFault.Unfit → AllByRecursion (λ p. FitsIfCounted p) (together parts.now).packets → ⊥ }
 {
-    let mut letters = Letters::new(alloc);
+    let mut letters = before;
+    letters.clear();
     for part in parts {
         match add_letters(alloc, part, encoder, &mut letters) {
             Ok(()) => {}
@@ -91,12 +93,12 @@ fn letters_of_all(
 }
 
 /// The number of bytes of all letters together.
-fn size_of_all(letters: &[Bytes]) -> Result<usize, NoMemory>
+fn size_of_all(letters: &Letters) -> Result<usize, NoMemory>
     ensures { IfOk result (λ size. size ≡ total length letters.now) }
 {
     let mut size: usize = 0;
-    for letter in letters {
-        let Some(more) = size.checked_add(letter.len()) else {
+    for i in 0..letters.len() {
+        let Some(more) = size.checked_add(letters.letter(i).len()) else {
             return Err(NoMemory);
         };
         size = more;
@@ -138,16 +140,17 @@ fn put_one(mail: &mut Mail, packet: &Packet, letter: &[u8]) -> Result<(), BookFa
 }
 
 /// Sends the packets of a part, whose bytes stand among these from a place on.
-fn put_part(mail: &mut Mail, part: &Part, letters: &[Bytes], first: usize) -> Result<(), BookFault>
+fn put_part(mail: &mut Mail, part: &Part, letters: &Letters, first: usize) -> Result<(), BookFault>
     requires packets { AllByRecursion (λ p. FitsPacket p) part.now.packets }
     requires room { first + length part.now.packets ≤ length letters.now }
     requires letters { (i : ℕ) (p : Packet) → slice_get part.now.packets i ≡ Some p → slice_get letters.now (first + i) ≡ Some (packet_bytes p) }
     ensures ok { OnOk result (mail.new ≡ posts part.now.packets mail.old) }
     ensures fits { result ≡ Err BookFault.Unfit → ⊥ }
 {
+    let _count = letters.len();
     for i in 0..part.len() {
         match part.packet(i) {
-            Some(packet) => put_one(mail, packet, letter_at(letters, first + i))?,
+            Some(packet) => put_one(mail, packet, letters.letter(first + i))?,
             None => return Err(BookFault::NoMemory),
         }
     }
@@ -155,12 +158,13 @@ fn put_part(mail: &mut Mail, part: &Part, letters: &[Bytes], first: usize) -> Re
 }
 
 /// Sends all packets, whose bytes these are.
-pub fn put_all(mail: &mut Mail, parts: &[Part], letters: &[Bytes]) -> Result<(), BookFault>
+pub fn put_all(mail: &mut Mail, parts: &[Part], letters: &Letters) -> Result<(), BookFault>
     requires packets { AllByRecursion (λ p. FitsPacket p) (together parts.now).packets }
     requires letters { letters.now ≡ map packet_bytes (together parts.now).packets }
     ensures ok { OnOk result (mail.new ≡ posts (together parts.now).packets mail.old) }
     ensures fits { result ≡ Err BookFault.Unfit → ⊥ }
 {
+    let _count = letters.len();
     let mut first = 0;
     for part in parts {
         put_part(mail, part, letters, first)?;
@@ -178,12 +182,14 @@ pub struct Measured {
     pub text: Bytes,
 }
 
-/// Measures what an event of a line sends and tells. `Unfit` only where a packet isn't one of the format.
+/// Measures what an event of a line sends and tells, in the memory of letters of before. `Unfit` only where a packet isn't one of
+/// the format.
 pub fn sizes_of(
     alloc: Global,
     line: u32,
     out: &Dispatch,
     encoder: &mut Encoder,
+    before: Letters,
 ) -> Result<Measured, BookFault>
     ensures letters { IfOk result (λ event. event.letters ≡ map packet_bytes out.now.packets) }
     ensures bytes { IfOk result (λ event. event.bytes ≡ total packet_size out.now.packets) }
@@ -192,11 +198,11 @@ pub fn sizes_of(
     ensures unfit { result ≡ Err BookFault.Unfit → AllByRecursion (λ p. FitsIfCounted p) out.now.packets → ⊥ }
 {
     let parts = out.parts();
-    let letters = match letters_of_all(alloc, parts, encoder) {
+    let letters = match letters_of_all(alloc, parts, encoder, before) {
         Ok(letters) => letters,
         Err(fault) => return Err(fault),
     };
-    let bytes = match size_of_all(letters.as_slice()) {
+    let bytes = match size_of_all(&letters) {
         Ok(bytes) => bytes,
         Err(_) => return Err(BookFault::NoMemory),
     };

@@ -222,6 +222,7 @@ fn size_of(fault: NodeFault) -> Result<WriteSize, PlaceFault>
     requires { fault ≡ NodeFault.Disk → ⊥ }
     ensures size { IfOk result (λ size. fault ≡ NodeFault.Cut size) }
     ensures fit { IfErr result (λ refusal. IsOfDisk fault → refusal ≡ PlaceFault.NoMemory) }
+    ensures honest { result ≡ Err PlaceFault.NoMemory → fault ≡ NodeFault.NoMemory }
 {
     match fault {
         NodeFault::Cut(size) => Ok(size),
@@ -236,6 +237,7 @@ fn why_not(fault: BootFault) -> Option<StartFault>
     requires { IsOfWhole fault }
     ensures failed { result ≡ None → fault ≡ BootFault.Disk }
     ensures spent { result ≡ Some StartFault.Spent → fault ≡ BootFault.Spent }
+    ensures honest { result ≡ Some StartFault.NoMemory → fault ≡ BootFault.NoMemory }
 {
     match fault {
         BootFault::Disk => None,

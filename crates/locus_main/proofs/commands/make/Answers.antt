@@ -9,8 +9,8 @@ use Rattle.locus_main.specs.declared.status.Status.{Status}
 use Rattle.locus_main.specs.declared.status.Status.TheVariants as status
 use Rattle.locus_main.specs.Codes.{ends_written}
 use Rattle.locus_main.specs.Promises.{LoadPromises}
-use Rattle.locus_main.proofs.Loads.{memory_no_load, world_of_load, load_whole, load_unwritten, load_undone, undone_no_write, undone_not_ok, undone_ends, write_ends_load, write_not_ok, load_not}
-use Rattle.locus_main.proofs.Turns.{write_no_world, write_failed, write_holds}
+use Rattle.locus_main.proofs.Loads.{load_whole, load_unwritten, load_undone, undone_no_write, undone_not_ok, undone_ends, write_ends_load, write_not_ok, load_not}
+use Rattle.locus_main.proofs.Turns.{write_failed, write_holds}
 use Rattle.locus_main.proofs.commands.make.Goals as goal
 
 pub run_load-requires : goal.run_load-requires
@@ -18,13 +18,13 @@ run_load-requires g c = c.requires
 
 -- ---- the load was not run to its end ----
 
+pub status_of_load-requires : goal.status_of_load-requires
+status_of_load-requires g c = λ cause e. c.run_load.ensures.complete cause (c.in-Err.is ∙ ap Err e)
+
 pub returns-in-Err-clause-promises : goal.returns-in-Err-clause-promises
 returns-in-Err-clause-promises g c =
     let P : Status → Type 0 = λ s. LoadPromises (run (load_lines (draws_of c.args.number c.args.events))).over (load_text (draws_of c.args.number c.args.events)) s (g.K.Sink.taken c.args.sink.now) (g.K.Sink.taken c.args.sink.now) in
-    subst P (sym c.status_of_load.ensures) (load_undone _ _ c.in-Err.fault _ (λ p e. c.run_load.ensures.limit p (c.in-Err.is ∙ ap Err e))
-    (λ s.
-    let w = world_of_load c.in-Err.fault s in
-    memory_no_load c.in-Err.fault w.0 w.1 (c.run_load.ensures.complete w.0 (c.in-Err.is ∙ ap Err w.1)) s))
+    subst P (sym c.status_of_load.ensures) (load_undone _ _ c.in-Err.fault _ (λ p e. c.run_load.ensures.limit p (c.in-Err.is ∙ ap Err e)))
 
 pub returns-in-Err-clause-words : goal.returns-in-Err-clause-words
 returns-in-Err-clause-words g c = λ e. load_not _ status.BadWords (undone_ends c.in-Err.fault) refl (sym c.status_of_load.ensures ∙ e)
@@ -85,17 +85,3 @@ returns-clause-nothing_held g c = λ e. absurd (false≢true (sym (write_holds c
 
 pub returns-clause-write_fault : goal.returns-clause-write_fault
 returns-clause-write_fault g c = λ e. c.send.ensures.failed (c.in-Err-send.is ∙ ap Err (write_failed c.in-Err-send.fault (sym c.from.ensures ∙ e)))
-
--- ---- no fault of the world ----
-
-pub returns-in-Err-clause-complete : goal.returns-in-Err-clause-complete
-returns-in-Err-clause-complete g c = λ e.
-    let s = sym c.status_of_load.ensures ∙ e in
-    let w = world_of_load c.in-Err.fault s in
-    memory_no_load c.in-Err.fault w.0 w.1 (c.run_load.ensures.complete w.0 (c.in-Err.is ∙ ap Err w.1)) s
-
-pub returns-in-Ok-send-clause-complete : goal.returns-in-Ok-send-clause-complete
-returns-in-Ok-send-clause-complete g c = λ e. cc
-
-pub returns-clause-complete : goal.returns-clause-complete
-returns-clause-complete g c = λ e. write_no_world c.in-Err-send.fault (sym c.from.ensures ∙ e)

@@ -48,11 +48,3 @@ returns-in-Err-clause-read_fault g c = λ e. absurd (cc)
 
 pub returns-in-Err-clause-write_fault : goal.returns-in-Err-clause-write_fault
 returns-in-Err-clause-write_fault g c = λ e. absurd (cc)
-
--- ---- no fault of the world ----
-
-pub returns-in-Ok-clause-complete : goal.returns-in-Ok-clause-complete
-returns-in-Ok-clause-complete g c = c.run_lines.ensures.complete
-
-pub returns-in-Err-clause-complete : goal.returns-in-Err-clause-complete
-returns-in-Err-clause-complete g c = λ e. cc

@@ -6,9 +6,8 @@ use Rattle.locus_main.specs.Codes.{ends_written}
 use Rattle.locus_main.specs.Inputs.Input.{Calls}
 use Rattle.locus_main.specs.Promises.{LinePromises}
 use Rattle.locus_main.proofs.Complete.{for_memory}
-use Rattle.locus_main.proofs.Openings.{tree_opens, not_opened, no_other, memory_or_world}
+use Rattle.locus_main.proofs.Openings.{tree_opens, not_opened, no_other, only_memory}
 use Rattle.locus_main.proofs.Runs.{Nothing-front}
-use Rattle.locus_main.proofs.Turns.{memory_no_world, world_is}
 use Rattle.locus_main.proofs.commands.tree.Goals as goal
 
 pub run_lines-requires-clause-opened : goal.run_lines-requires-clause-opened
@@ -39,28 +38,28 @@ returns-in-Ok-new-clause-write_fault g c = c.run_lines.ensures.write_fault
 
 -- ---- the opening was not done ----
 
+pub status_of-requires : goal.status_of-requires
+status_of-requires g c = λ cause e. c.new.ensures.complete cause (c.in-Err.is ∙ ap Err e)
+
 pub returns-in-Err-clause-promises : goal.returns-in-Err-clause-promises
 returns-in-Err-clause-promises g c =
     let P : Status → Type 0 = λ s. LinePromises Calls s (g.S.Source.left c.args.source.now) (g.S.Source.left c.args.source.now) (g.K.Sink.taken c.args.sink.now) (g.K.Sink.taken c.args.sink.now) in
-    subst P (sym c.status_of.ensures) (not_opened c.in-Err.fault 0 _ _ _ (λ e. c.new.ensures.good (c.in-Err.is ∙ ap Err e))
-    (λ s.
-    let w = world_is c.in-Err.fault 0 s in
-    memory_no_world c.in-Err.fault 0 w.0 w.1 (c.new.ensures.complete w.0 (c.in-Err.is ∙ ap Err w.1)) s))
+    subst P (sym c.status_of.ensures) (not_opened c.in-Err.fault 0 _ _ _ (λ e. c.new.ensures.good (c.in-Err.is ∙ ap Err e)))
 
 pub returns-in-Err-clause-words : goal.returns-in-Err-clause-words
-returns-in-Err-clause-words g c = λ e. memory_or_world _ status.BadWords (no_other c.in-Err.fault 0 (λ f. c.new.ensures.good (c.in-Err.is ∙ ap Err f))) (λ x. cc) (λ x. cc) (sym c.status_of.ensures ∙ e)
+returns-in-Err-clause-words g c = λ e. only_memory _ status.BadWords (no_other c.in-Err.fault 0 (λ f. c.new.ensures.good (c.in-Err.is ∙ ap Err f))) (λ x. cc) (sym c.status_of.ensures ∙ e)
 
 pub returns-in-Err-clause-flushed : goal.returns-in-Err-clause-flushed
-returns-in-Err-clause-flushed g c = λ e. absurd (memory_or_world _ status.Ok (no_other c.in-Err.fault 0 (λ f. c.new.ensures.good (c.in-Err.is ∙ ap Err f))) (λ x. cc) (λ x. cc) (sym c.status_of.ensures ∙ e))
+returns-in-Err-clause-flushed g c = λ e. absurd (only_memory _ status.Ok (no_other c.in-Err.fault 0 (λ f. c.new.ensures.good (c.in-Err.is ∙ ap Err f))) (λ x. cc) (sym c.status_of.ensures ∙ e))
 
 pub returns-in-Err-clause-nothing_held : goal.returns-in-Err-clause-nothing_held
 returns-in-Err-clause-nothing_held g c = λ e. inl refl
 
 pub returns-in-Err-clause-read_fault : goal.returns-in-Err-clause-read_fault
-returns-in-Err-clause-read_fault g c = λ e. absurd (memory_or_world _ status.ReadFault (no_other c.in-Err.fault 0 (λ f. c.new.ensures.good (c.in-Err.is ∙ ap Err f))) (λ x. cc) (λ x. cc) (sym c.status_of.ensures ∙ e))
+returns-in-Err-clause-read_fault g c = λ e. absurd (only_memory _ status.ReadFault (no_other c.in-Err.fault 0 (λ f. c.new.ensures.good (c.in-Err.is ∙ ap Err f))) (λ x. cc) (sym c.status_of.ensures ∙ e))
 
 pub returns-in-Err-clause-write_fault : goal.returns-in-Err-clause-write_fault
-returns-in-Err-clause-write_fault g c = λ e. absurd (memory_or_world _ status.WriteFault (no_other c.in-Err.fault 0 (λ f. c.new.ensures.good (c.in-Err.is ∙ ap Err f))) (λ x. cc) (λ x. cc) (sym c.status_of.ensures ∙ e))
+returns-in-Err-clause-write_fault g c = λ e. absurd (only_memory _ status.WriteFault (no_other c.in-Err.fault 0 (λ f. c.new.ensures.good (c.in-Err.is ∙ ap Err f))) (λ x. cc) (sym c.status_of.ensures ∙ e))
 
 -- ---- no memory for the reader ----
 
@@ -81,17 +80,3 @@ returns-clause-read_fault g c = λ e. absurd (cc)
 
 pub returns-clause-write_fault : goal.returns-clause-write_fault
 returns-clause-write_fault g c = λ e. absurd (cc)
-
--- ---- no fault of the world ----
-
-pub returns-in-Ok-new-clause-complete : goal.returns-in-Ok-new-clause-complete
-returns-in-Ok-new-clause-complete g c = c.run_lines.ensures.complete
-
-pub returns-in-Err-clause-complete : goal.returns-in-Err-clause-complete
-returns-in-Err-clause-complete g c = λ e.
-    let s = sym c.status_of.ensures ∙ e in
-    let w = world_is c.in-Err.fault 0 s in
-    memory_no_world c.in-Err.fault 0 w.0 w.1 (c.new.ensures.complete w.0 (c.in-Err.is ∙ ap Err w.1)) s
-
-pub returns-clause-complete : goal.returns-clause-complete
-returns-clause-complete g c = λ e. cc

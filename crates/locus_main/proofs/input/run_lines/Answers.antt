@@ -24,7 +24,6 @@ returns-in-Err-clause-promises g c = keeps_promises g.R.LineRunner.input _ _ _ _
   long_line = λ e. absurd (telling_not _ (status.Limit what.Line) c.in-Err.ensures.only refl e);
   many_lines = λ e. absurd (telling_not _ (status.Limit what.Lines) c.in-Err.ensures.only refl e);
   limit = λ l e. Opens-limit g.R.LineRunner.stands _ _ l _ _ _ (c.in-Err.ensures.limit [] (opening_of g.R.LineRunner.input) [] l c.requires.opened (ap Err e));
-  world = λ e. telling_not _ status.WorldFault c.in-Err.ensures.only refl e;
   front = Opens-front _ _ _ _ (c.in-Err.ensures.err [] (opening_of g.R.LineRunner.input) [] c.requires.opened);
 })
 
@@ -68,7 +67,6 @@ returns-then-may_end_here-clause-promises g c =
       long_line = λ e. absurd (cc);
       many_lines = λ e. absurd (cc);
       limit = λ l e. absurd (cc);
-      world = λ e. cc;
       front = Ends-front _ _ _ _ _ _ _ _ _ c.loop-runner.invariant.so_far;
     })
 
@@ -102,7 +100,6 @@ returns-in-Ok-false-clause-promises g c =
       long_line = λ e. absurd (cc);
       many_lines = λ e. absurd (cc);
       limit = λ l e. absurd (cc);
-      world = λ e. cc;
       front = Ends-front _ _ _ _ _ _ _ _ _ c.loop-runner.invariant.so_far;
     })
 
@@ -138,7 +135,6 @@ returns-in-Err-next_line-clause-promises g c = keeps_promises g.R.LineRunner.inp
   long_line = λ e. Ends-long _ _ _ _ _ _ _ _ _ _ _ c.loop-runner.invariant.so_far (c.in-Err-next_line.ensures.long (ap Err e)) c.loop-runner.invariant.limit (c.in-Err-next_line.ensures.early (ap Err e));
   many_lines = λ e. Ends-many _ _ _ _ _ _ _ _ _ _ c.loop-runner.invariant.so_far (c.in-Err-next_line.ensures.many (ap Err e)) (c.in-Err-next_line.ensures.full (ap Err e));
   limit = λ l e. absurd (reads_not _ (status.Limit (limited l)) (reads_end _ c.in-Err-next_line.ensures.only) (no_read_limit l) e);
-  world = λ e. reads_not _ status.WorldFault (reads_end _ c.in-Err-next_line.ensures.only) refl e;
   front = Ends-front _ _ _ _ _ _ _ _ _ c.loop-runner.invariant.so_far;
 })
 
@@ -157,7 +153,10 @@ returns-in-Err-next_line-clause-write_fault g c = λ e. absurd (reads_not _ stat
 -- ---- a turn ----
 
 pub take_turn-requires : goal.take_turn-requires
-take_turn-requires g c = record { flushed = c.loop-runner.invariant.flushed }
+take_turn-requires g c =
+    let s = c.loop-runner.invariant.so_far in
+    let counted : c.next_line.new.reader.number ≡ c.loop-runner.reader.number + 1 = c.in-Ok-true.ensures.counted (ap Ok c.in-Ok-true.field-0-test) in
+    record { flushed = c.loop-runner.invariant.flushed; told = (s.bytes, s.lines, c.number-in-loop-runner.ensures ∙ (counted ∙ ap (λ (n : ℕ). n + 1) (sym s.counted)), s.told) }
 
 pub loop-runner-smaller : goal.loop-runner-smaller
 loop-runner-smaller g c =
@@ -210,7 +209,6 @@ returns-in-Err-take_turn-clause-promises g c =
       many_lines = λ e. absurd (ends_not _ (status.Limit what.Lines) c.in-Err-take_turn.ensures.only refl e);
       limit = λ l e. Ends-limit _ _ _ _ _ _ _ _ l _ _ _ _ _ _ s (c.number-in-loop-runner.ensures ∙ counted) few (subst Short (sym c.bytes.ensures) short) reads
           (λ all lines counts told. c.in-Err-take_turn.ensures.limit all lines l counts told (ap Err e));
-      world = λ e. c.in-Err-take_turn.ensures.complete s.bytes s.lines (c.number-in-loop-runner.ensures ∙ (counted ∙ ap (λ (n : ℕ). n + 1) (sym s.counted))) s.told (ap Err e);
       front = Ends-cut _ _ _ _ _ _ _ _ _ _ _ _ _ s (c.number-in-loop-runner.ensures ∙ counted) reads (λ all lines counts told. c.in-Err-take_turn.ensures.err all lines counts told);
     })
 
@@ -225,23 +223,3 @@ returns-in-Err-take_turn-clause-read_fault g c = λ e. absurd (ends_not _ status
 
 pub returns-in-Err-take_turn-clause-write_fault : goal.returns-in-Err-take_turn-clause-write_fault
 returns-in-Err-take_turn-clause-write_fault g c = λ e. rose_since _ _ _ c.loop-runner.invariant.sink (c.in-Err-take_turn.ensures.failed (ap Err e))
-
--- ---- no fault of the world ----
-
-pub returns-in-Err-clause-complete : goal.returns-in-Err-clause-complete
-returns-in-Err-clause-complete g c = λ e. telling_not _ status.WorldFault c.in-Err.ensures.only refl e
-
-pub returns-then-may_end_here-clause-complete : goal.returns-then-may_end_here-clause-complete
-returns-then-may_end_here-clause-complete g c = λ e. cc
-
-pub returns-in-Ok-false-clause-complete : goal.returns-in-Ok-false-clause-complete
-returns-in-Ok-false-clause-complete g c = λ e. cc
-
-pub returns-in-Err-next_line-clause-complete : goal.returns-in-Err-next_line-clause-complete
-returns-in-Err-next_line-clause-complete g c = λ e. reads_not _ status.WorldFault (reads_end _ c.in-Err-next_line.ensures.only) refl e
-
-pub returns-in-Err-take_turn-clause-complete : goal.returns-in-Err-take_turn-clause-complete
-returns-in-Err-take_turn-clause-complete g c = λ e.
-    let s = c.loop-runner.invariant.so_far in
-    let counted : c.next_line.new.reader.number ≡ c.loop-runner.reader.number + 1 = c.in-Ok-true.ensures.counted (ap Ok c.in-Ok-true.field-0-test) in
-    c.in-Err-take_turn.ensures.complete s.bytes s.lines (c.number-in-loop-runner.ensures ∙ (counted ∙ ap (λ (n : ℕ). n + 1) (sym s.counted))) s.told (ap Err e)

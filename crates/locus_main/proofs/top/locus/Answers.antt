@@ -208,20 +208,3 @@ returns-in-Err-NoMemory-clause-read_fault g c = λ e. absurd (cc)
 
 pub returns-in-Err-NoMemory-clause-write_fault : goal.returns-in-Err-NoMemory-clause-write_fault
 returns-in-Err-NoMemory-clause-write_fault g c = λ e. absurd (cc)
-
--- ---- no fault of the world ----
-
-pub returns-in-Ok-Run-clause-complete : goal.returns-in-Ok-Run-clause-complete
-returns-in-Ok-Run-clause-complete g c = c.run.ensures.complete
-
-pub returns-in-Ok-Tree-clause-complete : goal.returns-in-Ok-Tree-clause-complete
-returns-in-Ok-Tree-clause-complete g c = c.tree.ensures.complete
-
-pub returns-in-Ok-Make-clause-complete : goal.returns-in-Ok-Make-clause-complete
-returns-in-Ok-Make-clause-complete g c = c.make.ensures.complete
-
-pub returns-in-Err-Bad-clause-complete : goal.returns-in-Err-Bad-clause-complete
-returns-in-Err-Bad-clause-complete g c = λ e. cc
-
-pub returns-in-Err-NoMemory-clause-complete : goal.returns-in-Err-NoMemory-clause-complete
-returns-in-Err-NoMemory-clause-complete g c = λ e. cc

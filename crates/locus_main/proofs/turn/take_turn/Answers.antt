@@ -2,10 +2,15 @@ use Rattle.std.proofs.Common.{◌≡◌, Err, true, ap, sym, ◌∙◌, inl, inr
 use Rattle.locus_main.specs.Codes.{limited}
 use Rattle.locus_main.specs.declared.status.Status.TheVariants as status
 use Rattle.locus_main.specs.Turns.{ends_telling}
-use Rattle.locus_main.proofs.Turns.{memory_no_world, world_is, line_is_bad, faults_end, no_limit_is, no_write_is, keeps_same, same_err, then_ok, then_err, then_on_err, at_err, telling_ends, telling_not}
+use Rattle.locus_main.proofs.Turns.{line_is_bad, faults_end, no_limit_is, no_write_is, keeps_same, same_err, then_ok, then_err, then_on_err, at_err, telling_ends, telling_not}
 use Rattle.locus_main.proofs.turn.take_turn.Goals as goal
 
 -- ---- the line was not done ----
+
+pub status_of-requires : goal.status_of-requires
+status_of-requires g c = λ cause e.
+    let told = c.requires.told in
+    c.run_next.ensures.complete told.0 told.1 _ cause told.2 told.3 (c.in-Err.is ∙ ap Err e)
 
 pub returns-in-Err-clause-limit : goal.returns-in-Err-clause-limit
 returns-in-Err-clause-limit g c = λ all lines limit counts told e. absurd (no_limit_is c.in-Err.fault c.args.number (limited limit) (sym c.status_of.ensures ∙ same_err _ _ e))
@@ -64,14 +69,3 @@ returns-clause-held g c = c.tell.ensures.held
 
 pub returns-clause-later : goal.returns-clause-later
 returns-clause-later g c = c.tell.ensures.later
-
--- ---- no fault of the world ----
-
-pub returns-in-Err-clause-complete : goal.returns-in-Err-clause-complete
-returns-in-Err-clause-complete g c = λ all lines counts told e.
-    let s = sym c.status_of.ensures ∙ same_err _ _ e in
-    let w = world_is c.in-Err.fault c.args.number s in
-    memory_no_world c.in-Err.fault c.args.number w.0 w.1 (c.run_next.ensures.complete all lines _ w.0 counts told (c.in-Err.is ∙ ap Err w.1)) s
-
-pub returns-clause-complete : goal.returns-clause-complete
-returns-clause-complete g c = λ all lines counts told e. telling_not _ status.WorldFault (at_err (λ s. ends_telling s ≡ true) c.tell.result _ c.tell.ensures.only e) refl refl

@@ -7,7 +7,7 @@ use Rattle.run_book.proofs.measures.put_part.Goals as goal
 
 pub put_one-requires : goal.put_one-requires
 put_one-requires c = (
-  same_letter _ _ _ c.letter_at.ensures (c.requires.letters c.loop-i.i c.in-Some.packet.now (sym c.in-Some.ensures)),
+  same_letter _ _ _ c.letter.ensures (c.requires.letters c.loop-i.i c.in-Some.packet.now (sym c.in-Some.ensures)),
   (next_has (λ (p : Packet). FitsPacket p) c.args.part.now.packets c.loop-i.i c.in-Some.packet.now c.in-Some.ensures c.loop-i.invariant.fits).0,
 )
 

@@ -9,5 +9,5 @@ use Rattle.run_book.proofs.measures.sizes_of.Goals as goal
 pub returns-clause-bytes : goal.returns-clause-bytes
 returns-clause-bytes c =
     c.in-Ok-size_of_all.ensures
-    ∙ (ap (λ (xs : List (List ℕ)). total (λ (x : List ℕ). length x) xs) (c.as_slice.ensures ∙ c.in-Ok.ensures.letters)
+    ∙ (ap (λ (xs : List (List ℕ)). total (λ (x : List ℕ). length x) xs) c.in-Ok.ensures.letters
     ∙ (sizes_are (together c.parts-parts.result.now).packets ∙ ap (λ (o : Outgoing). total packet_size o.packets) (sym c.parts-parts.ensures)))

@@ -12,7 +12,8 @@ returns-clause-ok c =
     let n = c.args.line in
     let event = c.in-Ok.event in
     let text : event.text ≡ lines_text n (together c.parts.result.now).records = c.in-Ok.ensures.text ∙ ap (λ (o : Outgoing). lines_text n o.records) c.parts.ensures in
-    books_within n c.args.out.now.packets c.args.out.now.records b c.enter.new.self c.passed.result (length event.letters) event.bytes event.text
+    c.self-2.view_is
+    ∙ books_within n c.args.out.now.packets c.args.out.now.records b c.enter.new.self c.passed.result (length event.letters) event.bytes event.text
     c.passed.ensures (sym c.is_some.ensures ∙ c.if-is_some.false) (ap (λ (ls : List (List ℕ)). length ls) c.in-Ok.ensures.letters ∙ as_many c.args.out.now.packets) c.in-Ok.ensures.bytes c.in-Ok.ensures.text
     (c.in_ok-enter.ensures.ok n text
     ∙ ap (λ (l : Ledger). with_event_unless (limit_of_sizes (length event.letters) event.bytes (length event.text) l) n (together c.parts.result.now).packets (together c.parts.result.now).records l) c.self.view_is
