@@ -21,6 +21,7 @@ use Rattle.whole_run_laws.proofs.CutRun.{schedule_counted}
 use Rattle.row_laws.proofs.ArmsKept.{run_keeps_calls}
 use Rattle.input_order_laws.proofs.Order.{first_in_order}
 use Rattle.whole_run_laws.proofs.Disks.{disks_hold}
+use Rattle.calm_laws.proofs.Calm.{round_carries}
 use Rattle.calm_laws.proofs.CalmAnswerAnswered.{calm_left, rounds_answer}
 use Rattle.convergence_laws.proofs.DirectoriesRescued.{rescued, rescued_in_three}
 use Rattle.convergence_laws.proofs.TraceConverging.{converging}
@@ -54,6 +55,7 @@ run_holds_all lines order = record {
   leaves = λ none. leaves_are_own lines order none;
   answers = λ none. rounds_answer lines order none;
   steady = rounds_stay_calm (config_of lines);
+  carried = round_carries (config_of lines) (calm_left (config_of lines));
   converge = λ none. converging lines order none (calm_left (config_of lines));
   mended = λ none. none_flagged lines order none (calm_left (config_of lines));
   shut_rescued = λ none. undisturbed_by_trace lines order none (calm_left (config_of lines)) (rescued (config_of lines) (calm_left (config_of lines)));

@@ -18,6 +18,7 @@ use Rattle.convergence_laws.specs.TraceDirectories.{NoDirectoryIsFlagged, Undist
 use Rattle.whole_run_laws.specs.Disks.{DisksHold}
 use Rattle.whole_run_laws.specs.Rounds.{LargeRoundsEnd}
 use Rattle.tree_laws.specs.Following.{RowsAreLawful}
+use Rattle.headline_laws.specs.Carried.{CalmRoundsCarry}
 
 pub record RunHolds (lines : List ScheduleLine) : Type 0 where
   -- what is written of it is the text of this trace
@@ -40,6 +41,8 @@ pub record RunHolds (lines : List ScheduleLine) : Type 0 where
   pub leaves : (run lines).over ≡ None → LeavesAreOwn lines (trace_of (run lines))
   -- and after a round that is calm by the trace no call of a member waits, mends included
   pub answers : (run lines).over ≡ None → CalmRoundsAnswer lines (trace_of (run lines))
+  -- all the while in such a round the reports of all members and the request of each waiting call of a member are carried
+  pub carried : CalmRoundsCarry (config_of lines)
   -- a round whose budget is no less than the packets that there may be doesn't end by it
   pub rounds : LargeRoundsEnd lines (trace_of (run lines))
   -- a round with such a budget is calm where it starts so: all members of an epoch are together, nobody has an undecided round, no poll of a
