@@ -1,5 +1,6 @@
 -- What a site sends in the event of one packet that comes.
 use Rattle.std.proofs.Common.{◌≡◌, ℕ, ◌+◌, ◌≤◌, Bool, true, false, cond, ◌&&◌, not, List, [], ◌∷◌, ◌++◌, Option, Some, None, refl, arith}
+use Rattle.role_steps.proofs.of_plain_facts.Tests.{true_false}
 use Rattle.locus_ids.specs.declared.ids.EpochId.{EpochId}
 use Rattle.locus_ids.specs.declared.sites.Sites.{Sites}
 use Rattle.locus_ids.specs.declared.sites.Members.{Members}
@@ -119,9 +120,6 @@ table_few g (Some t) v k found = k t found
 plain_few : (g : SyncTable → Outcome SyncTable) (o : Option SyncTable) (v : SiteView) → ((t : SyncTable) → SendsFew (g t)) → SendsFew (at_table_of g o v)
 plain_few g None v k = few_none
 plain_few g (Some t) v k = k t
-
-true_false : true ≡ false → ⊥
-true_false e = cc
 
 inside_few : (f : Frame) (from : ℕ) (x : Body) (v : SiteView) → is_report x ≡ false → TablesFine v → SendsFew (takes_inside f from x v)
 inside_few f from (body.Report group copies) v n h = absurd (true_false n)

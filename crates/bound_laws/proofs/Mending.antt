@@ -2,6 +2,8 @@
 use Rattle.std.proofs.Common.{◌≡◌, ℕ, ◌+◌, ◌≤◌, ◌==◌, nat_lt, Bool, true, false, not, ◌&&◌, ◌||◌, cond, List, [], ◌∷◌, ◌++◌, Option, Some, None, refl, sym, ◌∙◌, ap, arith}
 use Rattle.std.proofs.lemmas.Bool.Decides.{nat_tests}
 use Rattle.std.specs.List.{list_any}
+use Rattle.role_steps.proofs.of_plain_facts.Numbers.{apart, equal, equal_test}
+use Rattle.role_steps.proofs.of_plain_facts.Tests.{or_first, or_second, true_false}
 use Rattle.locus_ids.specs.declared.ids.FileId.{FileId}
 use Rattle.locus_ids.specs.declared.refusal.Refusal.TheVariants.{NoStorage}
 use Rattle.locus_ids.specs.declared.config.Config.{Config}
@@ -30,18 +32,6 @@ use Rattle.bound_laws.proofs.Counting.{count_append}
 
 -- ---- calls that wait ----
 
-true_false : true ≡ false → ⊥
-true_false e = cc
-
-equal : (a b : ℕ) → (a == b) ≡ true → a ≡ b
-equal a b e = grind (arith, nat_tests)
-
-is_equal : (a b : ℕ) → a ≡ b → (a == b) ≡ true
-is_equal a b e = grind (arith, nat_tests)
-
-differ : (a b : ℕ) → (a == b) ≡ false → a ≡ b → ⊥
-differ a b e f = true_false (sym (is_equal a b f) ∙ e)
-
 least : (n : ℕ) → 0 ≤ n
 least n = omega arith
 
@@ -50,21 +40,13 @@ mend_key : (g process : ℕ) (words : Call) → mends_in g words ≡ true → wa
 mend_key g process (call.Mend file) h = equal file.group g h
 mend_key g process _ h = absurd (true_false (sym h))
 
-or_right : (a b : Bool) → b ≡ true → (a || b) ≡ true
-or_right true b h = refl
-or_right false b h = h
-
-or_left : (a b : Bool) → a ≡ true → (a || b) ≡ true
-or_left true b h = refl
-or_left false b h = absurd (true_false (sym h))
-
 -- a row that is put in is there
 put_any : (test : WaitingCall → Bool) (x : WaitingCall) (ws : List WaitingCall) → test x ≡ true → list_any test (with_row waiting_key x ws) ≡ true
-put_any test x [] h = or_left (test x) false h
+put_any test x [] h = or_first (test x) false h
 put_any test x (y ∷ ys) h =
     elim (nat_lt (waiting_key y) (waiting_key x)) as (λ b. list_any test (elim b [ true ↦ y ∷ with_row waiting_key x ys | false ↦ elim (waiting_key y == waiting_key x) [ true ↦ x ∷ ys | false ↦ x ∷ y ∷ ys ] ]) ≡ true) [
-      | true ↦ or_right (test y) (list_any test (with_row waiting_key x ys)) (put_any test x ys h)
-      | false ↦ elim (waiting_key y == waiting_key x) as (λ b. list_any test (elim b [ true ↦ x ∷ ys | false ↦ x ∷ y ∷ ys ]) ≡ true) [ true ↦ or_left (test x) (list_any test ys) h | false ↦ or_left (test x) (list_any test (y ∷ ys)) h ]
+      | true ↦ or_second (test y) (list_any test (with_row waiting_key x ys)) (put_any test x ys h)
+      | false ↦ elim (waiting_key y == waiting_key x) as (λ b. list_any test (elim b [ true ↦ x ∷ ys | false ↦ x ∷ y ∷ ys ]) ≡ true) [ true ↦ or_first (test x) (list_any test ys) h | false ↦ or_first (test x) (list_any test (y ∷ ys)) h ]
     ]
 
 -- of one of two a test is so
@@ -78,11 +60,11 @@ kept_put g x [] ne h = absurd (true_false (sym h))
 kept_put g x (y ∷ ys) ne h =
     elim (nat_lt (waiting_key y) (waiting_key x)) as (λ b. list_any (is_mend_in g) (elim b [ true ↦ y ∷ with_row waiting_key x ys | false ↦ elim (waiting_key y == waiting_key x) [ true ↦ x ∷ ys | false ↦ x ∷ y ∷ ys ] ]) ≡ true) [
       | true ↦ one_of (is_mend_in g y) (list_any (is_mend_in g) ys) _ h
-          (λ m. or_left (is_mend_in g y) (list_any (is_mend_in g) (with_row waiting_key x ys)) m)
-          (λ m. or_right (is_mend_in g y) (list_any (is_mend_in g) (with_row waiting_key x ys)) (kept_put g x ys ne m))
+          (λ m. or_first (is_mend_in g y) (list_any (is_mend_in g) (with_row waiting_key x ys)) m)
+          (λ m. or_second (is_mend_in g y) (list_any (is_mend_in g) (with_row waiting_key x ys)) (kept_put g x ys ne m))
       | false ↦ (elim (waiting_key y == waiting_key x) as (λ b. (waiting_key y == waiting_key x) ≡ b → list_any (is_mend_in g) (elim b [ true ↦ x ∷ ys | false ↦ x ∷ y ∷ ys ]) ≡ true) [
-        | true ↦ λ e. or_right (is_mend_in g x) (list_any (is_mend_in g) ys) (one_of (is_mend_in g y) (list_any (is_mend_in g) ys) _ h (λ m. absurd (ne (sym (equal (waiting_key y) (waiting_key x) e) ∙ mend_key g y.process y.words m))) (λ m. m))
-        | false ↦ λ e. or_right (is_mend_in g x) (list_any (is_mend_in g) (y ∷ ys)) h
+        | true ↦ λ e. or_second (is_mend_in g x) (list_any (is_mend_in g) ys) (one_of (is_mend_in g y) (list_any (is_mend_in g) ys) _ h (λ m. absurd (ne (sym (equal (waiting_key y) (waiting_key x) e) ∙ mend_key g y.process y.words m))) (λ m. m))
+        | false ↦ λ e. or_second (is_mend_in g x) (list_any (is_mend_in g) (y ∷ ys)) h
       ]) refl
     ]
 
@@ -92,8 +74,8 @@ kept_without g k (y ∷ ys) ne h =
     (elim (waiting_key y == k) as (λ b. (waiting_key y == k) ≡ b → list_any (is_mend_in g) (elim b [ true ↦ ys | false ↦ y ∷ without_row waiting_key k ys ]) ≡ true) [
       | true ↦ λ e. one_of (is_mend_in g y) (list_any (is_mend_in g) ys) _ h (λ m. absurd (ne (sym (equal (waiting_key y) k e) ∙ mend_key g y.process y.words m))) (λ m. m)
       | false ↦ λ e. one_of (is_mend_in g y) (list_any (is_mend_in g) ys) _ h
-          (λ m. or_left (is_mend_in g y) (list_any (is_mend_in g) (without_row waiting_key k ys)) m)
-          (λ m. or_right (is_mend_in g y) (list_any (is_mend_in g) (without_row waiting_key k ys)) (kept_without g k ys ne m))
+          (λ m. or_first (is_mend_in g y) (list_any (is_mend_in g) (without_row waiting_key k ys)) m)
+          (λ m. or_second (is_mend_in g y) (list_any (is_mend_in g) (without_row waiting_key k ys)) (kept_without g k ys ne m))
     ]) refl
 
 -- ---- what is sent, and what waits then ----
@@ -156,7 +138,7 @@ mend_starts f file u none = by_pack (is_packed f file.group)
     by_group now g n le same other =
         (elim (file.group == g) as (λ t. (file.group == g) ≡ t → n ≤ cond t 1 0 → n + waits u g ≤ waits now g) [
           | true ↦ λ e l. (let s : file.group ≡ g = equal file.group g e in let k : n + 0 ≤ waits now g = same s in let z : waits u g ≡ 0 = ap (λ (b : Bool). cond b 1 0) (ap (has_mend_in u) (sym s) ∙ none) in omega (arith, k, z))
-          | false ↦ λ e l. (let k : waits u g ≤ waits now g = still_waits u now g (other (differ file.group g e)) in let none_sent : n ≤ 0 = l in omega (arith, k, none_sent))
+          | false ↦ λ e l. (let k : waits u g ≤ waits now g = still_waits u now g (other (apart file.group g e)) in let none_sent : n ≤ 0 = l in omega (arith, k, none_sent))
         ]) refl le
 
     -- the call that waits for its directory to be opened
@@ -169,7 +151,7 @@ mend_starts f file u none = by_pack (is_packed f file.group)
       mends = λ g. by_group (asked true).view g (count (opens_mend_in g) (asked true).sent) (open_counts f g (u.serials + 1) (u.calls + 1) 0 1 file (sync_site f.config f.members file.group))
           (λ s. (let l : count (opens_mend_in g) (asked true).sent ≤ cond (file.group == g) 1 0 = open_counts f g (u.serials + 1) (u.calls + 1) 0 1 file (sync_site f.config f.members file.group) in
           let m : cond (file.group == g) 1 0 ≤ 1 = at_most_one (file.group == g) in
-          let k : waits (asked true).view g ≡ 1 = ap (λ (b : Bool). cond b 1 0) (put_any (is_mend_in g) opening u.waiting (is_equal file.group g s)) in
+          let k : waits (asked true).view g ≡ 1 = ap (λ (b : Bool). cond b 1 0) (put_any (is_mend_in g) opening u.waiting (equal_test file.group g s)) in
           omega (arith, l, m, k)))
           (λ ne h. kept_put g opening u.waiting ne h);
     }

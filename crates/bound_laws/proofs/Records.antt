@@ -1,6 +1,7 @@
 -- In a consistent trace each record that answers a request answers one within the bound of its call.
 use Rattle.std.proofs.Common.{◌≡◌, ℕ, zero, suc, ◌+◌, ◌-◌, ◌≤◌, true, false, List, [], ◌∷◌, length, take, Option, Some, None, refl, sym, ◌∙◌, subst, arith}
 use Rattle.std.proofs.lemmas.Bool.Decides.{nat_tests}
+use Rattle.role_steps.proofs.of_plain_facts.Tests.{false_true}
 use Rattle.locus_ids.specs.declared.config.Config.{Config}
 use Rattle.locus_ids.specs.declared.ids.CallId.{CallId}
 use Rattle.locus_ids.specs.declared.ids.EpochId.{EpochId}
@@ -50,22 +51,19 @@ look_within c before e call request f w result h a named usual =
 
 -- ---- opens ----
 
-never : false ≡ true → ⊥
-never e = cc
-
 gives_none : (m : Mode) (f : FileId) (r : Reply) → is_open_of m f (want.Give r) ≡ true → ⊥
-gives_none mode.Read f r h = never h
-gives_none mode.Write f r h = never h
-gives_none mode.Resolve f r h = never h
-gives_none mode.Mend f r h = never h
-gives_none mode.Make f r h = never h
+gives_none mode.Read f r h = false_true h
+gives_none mode.Write f r h = false_true h
+gives_none mode.Resolve f r h = false_true h
+gives_none mode.Mend f r h = false_true h
+gives_none mode.Make f r h = false_true h
 
 never_opens : (m : Mode) (f : FileId) → is_open_of m f want.Never ≡ true → ⊥
-never_opens mode.Read f h = never h
-never_opens mode.Write f h = never h
-never_opens mode.Resolve f h = never h
-never_opens mode.Mend f h = never h
-never_opens mode.Make f h = never h
+never_opens mode.Read f h = false_true h
+never_opens mode.Write f h = false_true h
+never_opens mode.Resolve f h = false_true h
+never_opens mode.Mend f h = false_true h
+never_opens mode.Make f h = false_true h
 
 open_asks : (m : Mode) (f : FileId) (w : Want) → is_open_of m f w ≡ true → IsRequest w
 open_asks m f (want.Give r) h = absurd (gives_none m f r h)

@@ -1,6 +1,7 @@
 -- Each script ends: a call makes no more requests than its path has components and six.
 use Rattle.std.proofs.Common.{◌≡◌, ℕ, suc, ◌+◌, ◌≤◌, nat_lt, Bool, true, false, cond, not, ◌&&◌, List, [], ◌∷◌, length, Option, Some, None, refl, arith}
 use Rattle.std.proofs.lemmas.Bool.Decides.{nat_tests}
+use Rattle.role_steps.proofs.of_plain_facts.Tests.{and_first, and_second, not_false}
 use Rattle.locus_ids.specs.declared.ids.FileId.{FileId}
 use Rattle.locus_ids.specs.declared.ids.Serial.{Serial}
 use Rattle.locus_ids.specs.declared.ids.Stamp.{Stamp}
@@ -84,23 +85,11 @@ one_less [] h = absurd (omega (arith, h))
 one_less (x ∷ []) h = refl
 one_less (x ∷ y ∷ ys) h = (let e : length (but_last (y ∷ ys)) + 1 ≡ length (y ∷ ys) = one_less (y ∷ ys) (omega arith) in omega (arith, e))
 
-first_true : (a b : Bool) → (a && b) ≡ true → a ≡ true
-first_true true b h = refl
-first_true false b h = h
-
-second_true : (a b : Bool) → (a && b) ≡ true → b ≡ true
-second_true true b h = h
-second_true false b h = absurd (cc)
-
-not_false : (b : Bool) → not b ≡ false → b ≡ true
-not_false true h = refl
-not_false false h = absurd (cc)
-
 is_some : (n : ℕ) → nat_lt 0 n ≡ true → 1 ≤ n
 is_some n h = grind (arith, nat_tests)
 
 some_component : (mounts : List Mount) (path : List ℕ) → names_entry mounts path ≡ true → 1 ≤ length (components path)
-some_component mounts path h = is_some (length (components path)) (first_true (nat_lt 0 (length (components path))) _ (second_true (is_path path) _ h))
+some_component mounts path h = is_some (length (components path)) (and_first (nat_lt 0 (length (components path))) _ (and_second (is_path path) _ h))
 
 -- a path whose last component may be an entry's has one; the directory is reached by all but that one
 entry_most : (n : ℕ) (mounts : List Mount) (path : List ℕ) (f : List Answer → Want) → names_entry mounts path ≡ true → n ≤ 6 → AtMost (length (but_last (components path)) + (n + 1)) f → AtMost (length (components path) + 6) f
@@ -109,10 +98,10 @@ entry_most n mounts path f h le g answers =
     lift (length (but_last (components path)) + (n + 1)) (length (components path) + 6) (length answers) (length answers) (f answers) (omega (arith, e, le)) (g answers)
 
 new_entry : (mounts : List Mount) (path : List ℕ) → not (names_new mounts path) ≡ false → names_entry mounts path ≡ true
-new_entry mounts path h = first_true (names_entry mounts path) _ (not_false (names_new mounts path) h)
+new_entry mounts path h = and_first (names_entry mounts path) _ (not_false (names_new mounts path) h)
 
 renamed_entry : (mounts : List Mount) (path : List ℕ) (b : Bool) → not (names_entry mounts path && b) ≡ false → names_entry mounts path ≡ true
-renamed_entry mounts path b h = first_true (names_entry mounts path) b (not_false (names_entry mounts path && b) h)
+renamed_entry mounts path b h = and_first (names_entry mounts path) b (not_false (names_entry mounts path && b) h)
 
 -- one request after the walk
 single_most : (n : ℕ) (f : List Answer → Want) → AtMost (n + 1) f → AtMost (n + 6) f

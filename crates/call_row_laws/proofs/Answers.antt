@@ -1,5 +1,7 @@
 -- What answers open, and what a call holds by them.
 use Rattle.std.proofs.Common.{◌≡◌, ℕ, ◌⊎◌, true, false, List, [], ◌∷◌, ◌++◌, refl, inl, inr}
+use Rattle.role_steps.proofs.of_plain_facts.Numbers.{equal}
+use Rattle.role_steps.proofs.of_plain_facts.Tests.{false_true}
 use Rattle.locus_ids.specs.declared.ids.Serial.{Serial}
 use Rattle.locus_ids.specs.declared.ids.Stamp.{Stamp}
 use Rattle.trace_book.specs.declared.call.Call.{Call}
@@ -23,10 +25,6 @@ use Rattle.role_steps.specs.declared.users.WaitingCall.{WaitingCall}
 use Rattle.call_row_laws.specs.Scripts.{OwnAnswer, BeginsOwn, IsOpened, EndsOpened}
 use Rattle.call_row_laws.specs.Serials.{AsksUnder, Opens, OpenedBy, Frees}
 use Rattle.call_row_laws.specs.Waiting.{SameCall}
-use Rattle.call_row_laws.proofs.Rising.{test_same}
-
-false_true : false ≡ true → ⊥
-false_true e = cc
 
 -- ---- the last answer ----
 
@@ -140,7 +138,7 @@ brought_stage (asking.Close serial ss) bytes w = stage_self w
 -- ---- whose answer it is ----
 
 open_test : (serial : ℕ) (w : WaitingCall) (a : Asking) → asks_open_of serial (record w { asking = a }) ≡ true → AsksUnder serial a
-open_test serial w (asking.Open s file how) h = test_same s serial h
+open_test serial w (asking.Open s file how) h = equal s serial h
 open_test serial w (asking.Look file x take) h = absurd (false_true h)
 open_test serial w (asking.Op s ss n o seen) h = absurd (false_true h)
 open_test serial w (asking.Close s ss) h = absurd (false_true h)
@@ -149,7 +147,7 @@ pub open_under : (serial : ℕ) (w : WaitingCall) → asks_open_of serial w ≡ 
 open_under serial w h = open_test serial w w.asking h
 
 close_test : (serial : ℕ) (w : WaitingCall) (a : Asking) → using.asks_close_of serial (record w { asking = a }) ≡ true → AsksUnder serial a
-close_test serial w (asking.Close s ss) h = test_same s serial h
+close_test serial w (asking.Close s ss) h = equal s serial h
 close_test serial w (asking.Look file x take) h = absurd (false_true h)
 close_test serial w (asking.Op s ss n o seen) h = absurd (false_true h)
 close_test serial w (asking.Open s file how) h = absurd (false_true h)

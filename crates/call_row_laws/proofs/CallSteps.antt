@@ -1,5 +1,6 @@
 -- A using site accepts a call, and leaves an epoch.
 use Rattle.std.proofs.Common.{◌≡◌, ◌≤◌, ◌<◌, ℕ, ◌+◌, ◌*◌, true, false, List, [], ◌∷◌, Option, Some, None, refl, sym, ◌∙◌, ap, subst, inl, inr, arith}
+use Rattle.role_steps.proofs.of_plain_facts.Options.{none_some, some_same}
 use Rattle.locus_ids.specs.declared.ids.EpochId.{EpochId}
 use Rattle.locus_ids.specs.declared.ids.Serial.{Serial}
 use Rattle.trace_book.specs.declared.call.Call.{Call}
@@ -14,7 +15,7 @@ use Rattle.call_rules.specs.declared.want.Want.TheVariants as want
 use Rattle.role_steps.specs.Own.{Every}
 use Rattle.role_steps.specs.Tables.{row}
 use Rattle.role_steps.specs.Views.{Frame, Users, Shown}
-use Rattle.role_steps.specs.Requests.{waiting_of, waiting_key, instance_serial, user_instance, fd_key, descriptor_key, descriptor_in, descriptors_of, without_descriptor}
+use Rattle.role_steps.specs.Requests.{waiting_of, waiting_key, instance_serial, user_instance, fd_key, descriptor_key, descriptor_in, descriptors_of, without_descriptor, waiting_span}
 use Rattle.role_steps.specs.Using.{own_call, is_packed, next_want, goes_on, frees, accepted, on_call, changed_records, users_leave}
 use Rattle.role_steps.specs.declared.users.WaitingCall.{WaitingCall}
 use Rattle.role_steps.specs.declared.users.DescriptorRow.{DescriptorRow}
@@ -25,7 +26,7 @@ use Rattle.call_row_laws.specs.Scripts.{BeginsWith, Starts, OnDescriptor}
 use Rattle.call_row_laws.specs.Serials.{BeginsOn, Frees, Own, Holds, serial_of, IsOpenIn, HasInstance, Owned}
 use Rattle.call_row_laws.specs.Waiting.{after, AllAccepted, OfSite, KeyedAs, Waits, Goes}
 use Rattle.call_row_laws.specs.Standing.{UsersDo}
-use Rattle.call_row_laws.proofs.Rising.{none_some, some_same, row_found, row_there}
+use Rattle.call_row_laws.proofs.Rising.{row_found, row_there}
 use Rattle.call_row_laws.proofs.Starts.{wants_starts, begins_on_there, begins_there}
 use Rattle.call_row_laws.proofs.Going.{Idle, accept_goes, accept_row, leave_waits}
 use Rattle.call_row_laws.proofs.Owning.{counts_owned, leave_owned, freed_old, freed_owned}
@@ -164,7 +165,7 @@ plain_keyed : (process : ℕ) (words : Call) → IsPlain words → 1 ≤ process
 plain_keyed process (call.Mend file) p one = absurd p
 plain_keyed process _ p one = one
 
-plain_key : (process : ℕ) (words : Call) → IsPlain words → waiting_of process words ≡ 16 * process
+plain_key : (process : ℕ) (words : Call) → IsPlain words → waiting_of process words ≡ waiting_span * process
 plain_key process (call.Mend file) p = absurd p
 plain_key process _ p = refl
 
@@ -173,8 +174,8 @@ plain_idle process (call.Mend file) rows idle = tt
 plain_idle process _ rows idle = idle
 
 -- a mend's key is its group, any other's is 16 times its process
-apart_keys : (process other : ℕ) (words : Call) → KeyedAs other words → 1 ≤ process → (other ≡ process → ⊥) → waiting_of other words ≡ 16 * process → ⊥
-apart_keys process other (call.Mend file) k one ne e = (let low : file.group < 16 = k in omega (arith, low, e, one))
+apart_keys : (process other : ℕ) (words : Call) → KeyedAs other words → 1 ≤ process → (other ≡ process → ⊥) → waiting_of other words ≡ waiting_span * process → ⊥
+apart_keys process other (call.Mend file) k one ne e = (let low : file.group < waiting_span = k in omega (arith, low, e, one))
 apart_keys process other _ k one ne e = ne (omega (arith, e))
 
 -- a process that waits for nothing makes a call

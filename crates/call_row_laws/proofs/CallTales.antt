@@ -2,6 +2,7 @@
 use Rattle.std.proofs.Common.{◌≡◌, ℕ, ◌+◌, ◌==◌, ◌⊎◌, Bool, true, false, ◌||◌, ◌&&◌, not, List, [], ◌∷◌, ◌++◌, length, map, take, Option, Some, None, refl, sym, ◌∙◌, ap, subst, inl, inr, arith}
 use Rattle.std.proofs.lemmas.Bool.Decides.{nat_tests}
 use Rattle.std.specs.Option.{is_some}
+use Rattle.role_steps.proofs.of_plain_facts.Tests.{false_true}
 use Rattle.locus_ids.specs.declared.config.Config.{Config}
 use Rattle.locus_ids.specs.declared.ids.EpochId.{EpochId}
 use Rattle.locus_ids.specs.declared.sites.Links.{Links}
@@ -33,11 +34,11 @@ use Rattle.the_run.specs.Steps.{at_users, call_frame, epoch_id, ends_event, whol
 use Rattle.the_run.specs.Worlds.{World, Running, Numbered, place_at, links_of, script_of, passed, told_onto, puts, stops_with, acts_of, acts, disk_of}
 use Rattle.the_run.specs.Runs.{packet_record, run_in}
 use Rattle.the_run.proofs.Boots.{every_weaker}
-use Rattle.run_laws.specs.Naming.{DeedsOf}
-use Rattle.vector_laws.specs.Held.{Untouched}
-use Rattle.vector_laws.proofs.SiteDisks.{ends_keeps}
-use Rattle.lawful_trace.specs.Places.{line_at}
-use Rattle.lawful_trace.specs.LineRows.{may_be_void, has_no_effect, is_told, tale, is_mend}
+use Rattle.row_laws.specs.of_run_laws.Naming.{DeedsOf}
+use Rattle.row_laws.specs.of_vector_laws.Held.{Untouched}
+use Rattle.row_laws.proofs.of_vector_laws.SiteDisks.{ends_keeps}
+use Rattle.row_laws.specs.of_lawful_trace.Places.{line_at}
+use Rattle.row_laws.specs.of_lawful_trace.LineRows.{may_be_void, has_no_effect, is_told, tale, is_mend}
 use Rattle.row_laws.specs.Inward.{RoleRecord, RoleTold, IsMend, Inwardly}
 use Rattle.row_laws.specs.Shown.{shown, trace_of, EachRecord}
 use Rattle.row_laws.specs.ByLine.{IsLine, IsVoidIn, Gives, KeptIn}
@@ -47,7 +48,7 @@ use Rattle.row_laws.specs.Voids.{LinesFit, HasPlaces, is_call}
 use Rattle.row_laws.proofs.AskedRun.{own_given}
 use Rattle.row_laws.proofs.ByLine.{every_line}
 use Rattle.row_laws.proofs.Causes.{comes_own, sent_polls}
-use Rattle.row_laws.proofs.RolesInward.{on_call_rest}
+use Rattle.row_laws.proofs.Walks.{on_call_rest}
 use Rattle.row_laws.proofs.SitesGoOn.{run_sites}
 use Rattle.row_laws.proofs.SitesPlaced.{first_has, places_kept}
 use Rattle.row_laws.proofs.StepForms.{step_forms, ends_forms}
@@ -61,7 +62,7 @@ use Rattle.call_row_laws.proofs.CallSteps.{IsPlain}
 use Rattle.call_row_laws.proofs.StepStands.{MayCall}
 use Rattle.call_row_laws.proofs.CallsRun.{Calling, calling_kept, first_calling, line_may}
 use Rattle.call_row_laws.proofs.Telling.{ToldGo, earlier, next, other_next, course, happened_calls, acts_calls, boots_calls, quiet_other, delivers_other, arms_other, line_other}
-use Rattle.call_row_laws.proofs.VoidCalls.{never, VoidsGo, happened_voids, free_voids, acts_voids, boots_voids, void_effect}
+use Rattle.call_row_laws.proofs.VoidCalls.{VoidsGo, happened_voids, free_voids, acts_voids, boots_voids, void_effect}
 
 -- ---- a call that is accepted ----
 
@@ -241,7 +242,7 @@ void_told c lines n l w fit is void p order call = void_effect c lines n l w (fi
 
 lines_kept : (c : Config) (lines : List ScheduleLine) → LinesFit c lines → KeptIn c lines (CallLines c lines)
 lines_kept c lines fit = record {
-  begins = λ n w there quiet p. record { calling = kept.begins n w there quiet p.calling; places = p.places; voids = p.voids; told = λ none order. next lines n (trace_of w) (p.told none order) (λ call. absurd (never (sym (quiet_other (line_at lines (n + 1)) quiet) ∙ call))) };
+  begins = λ n w there quiet p. record { calling = kept.begins n w there quiet p.calling; places = p.places; voids = p.voids; told = λ none order. next lines n (trace_of w) (p.told none order) (λ call. absurd (false_true (sym (quiet_other (line_at lines (n + 1)) quiet) ∙ call))) };
   ticks = λ n most s v w is here p. record {
     calling = kept.ticks n most s v w is here p.calling;
     places = has.steps n s Ticks v w here tt p.places;

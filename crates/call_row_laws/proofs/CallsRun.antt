@@ -2,6 +2,8 @@
 use Rattle.std.proofs.Common.{◌≡◌, ◌≢◌, ◌≤◌, ℕ, ◌+◌, ◌==◌, ◌⊎◌, Bool, true, false, cond, ◌||◌, ◌&&◌, List, [], ◌∷◌, length, map, Option, Some, None, refl, sym, ◌∙◌, ap, subst, inl, inr, arith}
 use Rattle.std.proofs.lemmas.Bool.Decides.{nat_tests}
 use Rattle.std.specs.List.{list_any}
+use Rattle.role_steps.proofs.of_plain_facts.Numbers.{equal_test}
+use Rattle.role_steps.proofs.of_plain_facts.Options.{some_same}
 use Rattle.locus_ids.specs.declared.config.Config.{Config}
 use Rattle.schedule_lines.specs.Ranges.{is_site, is_between, fits_call, fits_event}
 use Rattle.schedule_lines.specs.declared.line.Line.{Line as LineWords}
@@ -26,8 +28,7 @@ use Rattle.the_run.specs.Worlds.{World, Place, Running, Stopped, Numbered, Line,
 use Rattle.the_run.specs.Runs.{is_busy, boots_as, packet_record, run_in}
 use Rattle.the_run.proofs.Boots.{at_each, acts_cases}
 use Rattle.the_run.proofs.Events.{happened_keeps, puts_other, puts_same}
-use Rattle.the_run.proofs.Runs.{some_eq}
-use Rattle.run_laws.specs.Naming.{DeedsOf}
+use Rattle.row_laws.specs.of_run_laws.Naming.{DeedsOf}
 use Rattle.row_laws.specs.Inward.{RoleWrite, ServedRecord}
 use Rattle.row_laws.specs.Shown.{with_told, shown, trace_of, EachRecord}
 use Rattle.row_laws.specs.Rows.{SiteRecordRow, IsSiteRow}
@@ -41,7 +42,6 @@ use Rattle.row_laws.proofs.SitesGoOn.{run_sites}
 use Rattle.call_row_laws.specs.Accepting.{IsAcceptRow}
 use Rattle.call_row_laws.specs.Waiting.{after, AcceptTold, AllAccepted, OfSite, NoneWaits, CallFree}
 use Rattle.call_row_laws.specs.Standing.{Stands, NewTold, AllNew, SiteDone, SiteDoes, PlaceStands, CallsStand}
-use Rattle.call_row_laws.proofs.Rising.{same_test}
 use Rattle.call_row_laws.proofs.Keeping.{all_other, all_none, all_free_none, stop_none, stop_other, stop_other_none, boot_waits, boot_other, boot_other_none}
 use Rattle.call_row_laws.proofs.CallSteps.{IsPlain}
 use Rattle.call_row_laws.proofs.Sites.{after_owned, after_inside, served_free, free_rows, all_free_own, free_stands}
@@ -111,7 +111,7 @@ happened_go m ps told change w comes f =
 -- one place is changed
 one_place : (s : ℕ) (new : Place) (now : Trace) (w : World) → PlaceStands s now new → ((t : ℕ) (p : Place) → s ≢ t → place_at w t ≡ Some p → PlaceStands t now p) → (t : ℕ) (p : Place) → place_at (puts s new w) t ≡ Some p → PlaceStands t now p
 one_place s new now w mine others t p here = at_each s t (PlaceStands t now p)
-    (λ e. subst (λ (u : ℕ). PlaceStands u now p) e (subst (PlaceStands s now) (some_eq new p (sym (puts_same s new w) ∙ (ap (place_at (puts s new w)) e ∙ here))) mine))
+    (λ e. subst (λ (u : ℕ). PlaceStands u now p) e (subst (PlaceStands s now) (some_same new p (sym (puts_same s new w) ∙ (ap (place_at (puts s new w)) e ∙ here))) mine))
     (λ ne. others t p ne (sym (puts_other s t new w ne) ∙ here))
 
 -- ---- other sites ----
@@ -163,7 +163,7 @@ acts_go m s v o w here written does f =
     acts_cases CallsGo m s v o w
     (happened_go m o.sent o.told (λ now. puts s (Running o.view) now) w (run_comes s m v o (λ now. now) w here (λ t p e. e) does) f)
     (λ a. happened_go m o.sent o.told (λ now. puts s (Running o.view) (arms a now)) w (run_comes s m v o (arms a) w here (λ t p e. e) does) f)
-    (λ d a e. happened_go m [] (cut_told s d a.how a.left) (stops_with s (cut_disk v.boot v.store d a.how a.left)) w (λ order g. cut_comes s m d.says a.how (cut_disk v.boot v.store d a.how a.left) (is_on_disk d a.how a.left) w (subst RoleWrite e written) g) f)
+    (λ d a e. happened_go m [] (cut_told s v.store d a.how a.left) (stops_with s (cut_disk v.boot v.store d a.how a.left)) w (λ order g. cut_comes s m d.says a.how (cut_disk v.boot v.store d a.how a.left) (is_on_disk v.store d a.how a.left) w (subst RoleWrite e written) g) f)
 
 -- ---- boots ----
 
@@ -235,7 +235,7 @@ none_busy process (x ∷ xs) h r a e = by_place a (parts (x.process == process) 
     true_false e = cc
 
     by_place : {B : Type 0} → (r ≡ x) ⊎ B → ((x.process == process) ≡ false) × (list_any (λ (y : WaitingCall). y.process == process) xs ≡ false) → (list_any (λ (y : WaitingCall). y.process == process) xs ≡ false → B → ⊥) → ⊥
-    by_place (inl same) k go = true_false (sym (same_test x.process process (ap (λ (y : WaitingCall). y.process) (sym same) ∙ e)) ∙ k.0)
+    by_place (inl same) k go = true_false (sym (equal_test x.process process (ap (λ (y : WaitingCall). y.process) (sym same) ∙ e)) ∙ k.0)
     by_place (inr b) k go = go k.1 b
 
 call_may : (c : Config) (lines : List ScheduleLine) (n s process : ℕ) (words : Call) (v : SiteView) (w : World) → LinesFit c lines → IsLine lines n (line.Call s process words) → is_busy process (place_at w s) ≡ false → place_at w s ≡ Some (Running v) → MayCall v (Calls process words)
@@ -320,7 +320,7 @@ first_places : (c : Config) (ss : List ℕ) (s : ℕ) (p : Place) → place_in (
 first_places c [] s p e = absurd (none_place p e)
 first_places c (t ∷ ts) s p e =
     (elim (t == s) as (λ b. place_in (elim b [ true ↦ Some (first_place c t) | false ↦ row place_site s (map (first_place c) ts) ]) ≡ Some p → PlaceStands s [] p) [
-      | true ↦ λ f. subst (PlaceStands s []) (some_eq (Running (fresh 1 (formatted c t))) p f) (fresh_one s t)
+      | true ↦ λ f. subst (PlaceStands s []) (some_same (Running (fresh 1 (formatted c t))) p f) (fresh_one s t)
       | false ↦ λ f. first_places c ts s p f
     ]) e
   where

@@ -1,6 +1,8 @@
 -- What leaving, promising, polling and joining leave of the calls of a site.
 use Rattle.std.proofs.Common.{◌≡◌, ℕ, ◌+◌, ◌==◌, Bool, true, false, cond, ◌||◌, ◌&&◌, not, List, [], ◌∷◌, Option, Some, None, refl, sym, ◌∙◌, ap, subst, arith}
 use Rattle.std.proofs.lemmas.Bool.Decides.{nat_tests}
+use Rattle.role_steps.proofs.of_plain_facts.Numbers.{equal_self}
+use Rattle.role_steps.proofs.of_plain_facts.Tests.{true_false}
 use Rattle.locus_ids.specs.declared.ids.EpochId.{EpochId}
 use Rattle.locus_ids.specs.declared.sites.Sites.{Sites}
 use Rattle.locus_ids.specs.declared.sites.Members.{Members}
@@ -109,9 +111,6 @@ refuse_does s m t links id theirs (Some r) v h =
 
 -- ---- joining ----
 
-same_test : (a : ℕ) → (a == a) ≡ true
-same_test a = grind (arith, nat_tests)
-
 epoch_self : (id : EpochId) → same_epoch id id ≡ true
 epoch_self id = grind (arith, nat_tests)
 
@@ -121,11 +120,8 @@ epoch_same a b h = id_eq (grind (arith, nat_tests)) (grind (arith, nat_tests)) (
     id_eq : a.number ≡ b.number → a.site ≡ b.site → a.boot ≡ b.boot → a ≡ b
     id_eq e f g = λ i. record { number = e i; site = f i; boot = g i }
 
-true_false : true ≡ false → ⊥
-true_false e = cc
-
 joined_now : (s : ℕ) (id : EpochId) (old : Bool) → (((s == s) && same_epoch id id) || old) ≡ true
-joined_now s id old = ap (λ (b : Bool). (b && same_epoch id id) || old) (same_test s) ∙ ap (λ (b : Bool). b || old) (epoch_self id)
+joined_now s id old = ap (λ (b : Bool). (b && same_epoch id id) || old) (equal_self s) ∙ ap (λ (b : Bool). b || old) (epoch_self id)
 
 joins_does : (c : Config) (s m : ℕ) (t : Trace) (id : EpochId) (members : Members) (v : SiteView) → Stands s t v → SiteDoes s m t (joins c s id members v)
 joins_does c s m t id members v h new = record {

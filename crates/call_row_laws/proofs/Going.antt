@@ -2,6 +2,8 @@
 use Rattle.std.proofs.Common.{◌≡◌, ◌≤◌, ℕ, ◌+◌, ◌==◌, ◌⊎◌, Bool, true, false, cond, ◌&&◌, List, [], ◌∷◌, Some, None, refl, sym, ◌∙◌, ap, subst, inl, inr, arith}
 use Rattle.std.proofs.lemmas.Bool.Decides.{nat_tests}
 use Rattle.std.specs.List.{find}
+use Rattle.role_steps.proofs.of_plain_facts.Numbers.{equal_test}
+use Rattle.role_steps.proofs.of_plain_facts.Tests.{true_false}
 use Rattle.locus_ids.specs.declared.ids.CallId.{CallId}
 use Rattle.locus_ids.specs.declared.ids.EpochId.{EpochId}
 use Rattle.locus_ids.specs.declared.refusal.Refusal.TheVariants as refusal
@@ -21,17 +23,14 @@ use Rattle.tree_model.specs.Folds.{Trace}
 use Rattle.tree_model.specs.Epochs.{is_up, boot_of, calls_accepted}
 use Rattle.tree_model.specs.Calls.{waiting, is_of}
 use Rattle.tree_model.specs.Calls as tree
-use Rattle.lawful_trace.specs.CallRows.{next_call}
+use Rattle.row_laws.specs.of_lawful_trace.CallRows.{next_call}
 use Rattle.the_run.specs.Kept.{Among}
 use Rattle.row_laws.specs.Shown.{with_told}
 use Rattle.call_row_laws.specs.Accepting.{AcceptedAs}
 use Rattle.call_row_laws.specs.Serials.{Rises}
 use Rattle.call_row_laws.specs.Waiting.{after, Matches, IsWaiting, HasRow, KeyedAs, Keyed, Waits, IsOther, Goes, SameCall}
-use Rattle.call_row_laws.proofs.Rising.{same_test, key_case, one_row, put_there, put_keeps, put_old, taken_keeps, taken_old}
+use Rattle.call_row_laws.proofs.Rising.{key_case, one_row, put_there, put_keeps, put_old, taken_keeps, taken_old}
 use Rattle.call_row_laws.proofs.Keeping.{call_test, answered_old, answered_keeps, key_same, keyed_same, matches_same, waiting_same}
-
-true_false : true ≡ false → ⊥
-true_false e = cc
 
 -- ---- the row is put ----
 
@@ -141,7 +140,7 @@ pub accept_goes : (s boot m calls process : ℕ) (now : Trace) (rows : List Wait
 accept_goes s boot m calls process now rows words b rises alone keyed h = record {
   up = h.up;
   boot_is = h.boot_is;
-  counted = ap (λ (t : Bool). cond t (calls_accepted now s + 1) (calls_accepted now s)) (same_test s s refl) ∙ ap (λ (n : ℕ). n + 1) h.counted;
+  counted = ap (λ (t : Bool). cond t (calls_accepted now s + 1) (calls_accepted now s)) (equal_test s s refl) ∙ ap (λ (n : ℕ). n + 1) h.counted;
   rises = rises;
   there = by_place;
   back = λ r a ne. (let k : IsWaiting s boot now r = h.back r a in (k.0, (inr k.1.0, k.1.1)));

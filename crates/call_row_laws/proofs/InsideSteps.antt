@@ -2,6 +2,7 @@
 use Rattle.std.proofs.Common.{◌≡◌, ◌<◌, ℕ, ◌==◌, ◌⊎◌, Bool, true, false, ◌||◌, ◌&&◌, not, List, [], ◌∷◌, Option, Some, None, refl, sym, ◌∙◌, ap, subst, inl, inr, arith}
 use Rattle.std.proofs.lemmas.Bool.Decides.{nat_tests}
 use Rattle.std.specs.List.{list_any}
+use Rattle.role_steps.proofs.of_plain_facts.Tests.{both_true, not_true}
 use Rattle.locus_ids.specs.declared.config.Config.{Config}
 use Rattle.trace_book.specs.declared.call.Call.{Call}
 use Rattle.trace_book.specs.declared.call.Call.TheVariants as call
@@ -19,7 +20,7 @@ use Rattle.role_steps.specs.Opens.{OpenRequest, on_opened}
 use Rattle.role_steps.specs.Operations.{on_op}
 use Rattle.role_steps.specs.Pulling.{on_notify, on_page}
 use Rattle.role_steps.specs.Reports.{on_report, on_open, on_look, on_closed, on_have}
-use Rattle.role_steps.specs.Requests.{waiting_of}
+use Rattle.role_steps.specs.Requests.{waiting_of, waiting_span}
 use Rattle.role_steps.specs.Storage.{copy_of, with_copy, instance_of, on_open_ss, on_close, on_closed_ok, on_look_ss, on_pull}
 use Rattle.role_steps.specs.Using.{on_call, on_open_done, on_op_done, on_close_done, on_look_done}
 use Rattle.role_steps.specs.Versions.{file_row}
@@ -32,8 +33,7 @@ use Rattle.the_run.specs.Kept.{Among}
 use Rattle.the_run.specs.Steps.{from_user, group_of, at_store, at_users, at_pulls, at_table_of, is_opened_in, takes_inside, takes_framed, adopts_of, tries_at, starts_mends_of, epoch_id}
 use Rattle.the_run.proofs.InsideSync.{Found, every_row, row_found, first_found}
 use Rattle.row_laws.specs.Inward.{AllServed, LooksInward, TableInwardly}
-use Rattle.row_laws.proofs.SyncInward.{on_opened_inward, on_open_inward, on_look_inward, on_report_inward, on_closed_inward, have_ok, on_have_inward}
-use Rattle.row_laws.proofs.RolesInward.{on_open_ss_serves, on_close_serves, on_closed_ok_serves, on_look_ss_serves, on_pull_serves, on_op_serves, on_notify_serves, on_page_serves}
+use Rattle.row_laws.proofs.Walks.{on_opened_inward, on_open_inward, on_look_inward, on_report_inward, on_closed_inward, have_ok, on_have_inward, on_open_ss_serves, on_close_serves, on_closed_ok_serves, on_look_ss_serves, on_pull_serves, on_op_serves, on_notify_serves, on_page_serves}
 use Rattle.call_row_laws.specs.Serials.{Owned}
 use Rattle.call_row_laws.specs.Waiting.{after, KeyedAs, CallFree}
 use Rattle.call_row_laws.specs.Standing.{UsersDo, WasIn, IsInside, Stands, SiteDone, SiteDoes}
@@ -172,7 +172,7 @@ none_other p (y ∷ ys) h x a = by_place a (parts (p y) (list_any p ys) h) (λ k
     by_place (inr b) k go = go k.1 b
 
 -- a row that is no mend of the group has another key
-mend_alone : (process group : ℕ) (words : Call) → KeyedAs process words → group < 16 → mends_in group words ≡ false → waiting_of process words ≡ group → ⊥
+mend_alone : (process group : ℕ) (words : Call) → KeyedAs process words → group < waiting_span → mends_in group words ≡ false → waiting_of process words ≡ group → ⊥
 mend_alone process group (call.Mend file) k low none e = differs file.group group none e
   where
     differs : (a b : ℕ) → (a == b) ≡ false → a ≡ b → ⊥
@@ -186,18 +186,10 @@ mend_done c s m t x (Some r) v e here ok none h =
     (λ k o. on_call_do (WasIn s t) (frame_in c s v.boot e) (Some e.id) m 0 t (call.Mend (row_file x r)) v.users
     (λ q a f. mend_alone q.process x.group q.words (h.waits.keyed q a) ok.1 (none_other (is_mend_in x.group) v.users.waiting none q a) f) ok.1 tt h.waits o) h
 
-not_true : (b : Bool) → not b ≡ true → b ≡ false
-not_true true h = absurd (cc)
-not_true false h = refl
-
-both_parts : (a b : Bool) → (a && b) ≡ true → (a ≡ true) × (b ≡ true)
-both_parts true b h = (refl, h)
-both_parts false b h = absurd (cc)
-
 starts_done : (c : Config) (s m : ℕ) (t : Trace) (x : SyncTable) (v : SiteView) (e : InEpoch) → v.epoch ≡ Some e → LooksInward x → Stands s t v → SiteDone s m t (starts_mend (frame_in c s v.boot e) x v)
 starts_done c s m t x v e here ok h =
     (elim (x.started && not (has_mend_in v.users x.group)) as (λ b. (x.started && not (has_mend_in v.users x.group)) ≡ b → SiteDone s m t (elim b [ true ↦ starts_mend_of (frame_in c s v.boot e) x (first_that (wants_mend v x) x.files) v | false ↦ quiet v ])) [
-      | true ↦ λ k. mend_done c s m t x (first_that (wants_mend v x) x.files) v e here ok (not_true (has_mend_in v.users x.group) (both_parts x.started (not (has_mend_in v.users x.group)) k).1) h
+      | true ↦ λ k. mend_done c s m t x (first_that (wants_mend v x) x.files) v e here ok (not_true (has_mend_in v.users x.group) (both_true x.started (not (has_mend_in v.users x.group)) k).1) h
       | false ↦ λ k. quiet_done s m t v h
     ]) refl
 

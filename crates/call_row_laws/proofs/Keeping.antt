@@ -1,6 +1,8 @@
 -- How waiting calls stand as records come: what tells of no call, or of another site's, leaves them.
 use Rattle.std.proofs.Common.{◌≡◌, ℕ, ◌+◌, ◌==◌, ◌⊎◌, Bool, true, false, cond, ◌||◌, ◌&&◌, not, List, [], ◌∷◌, filter, refl, sym, ◌∙◌, ap, subst, inl, inr, arith}
 use Rattle.std.proofs.lemmas.Bool.Decides.{nat_tests}
+use Rattle.role_steps.proofs.of_plain_facts.Numbers.{apart_test, equal_test}
+use Rattle.role_steps.proofs.of_plain_facts.Tests.{not_true, true_false}
 use Rattle.locus_ids.specs.declared.ids.CallId.{CallId}
 use Rattle.trace_book.specs.Same.{same_call}
 use Rattle.trace_book.specs.declared.record.Record.{Record}
@@ -18,7 +20,6 @@ use Rattle.tree_model.specs.Calls.{waiting}
 use Rattle.the_run.specs.Kept.{Among}
 use Rattle.row_laws.specs.Shown.{with_told}
 use Rattle.call_row_laws.specs.Waiting.{after, OfSiteRecord, OfSite, Matches, IsWaiting, HasRow, KeyedAs, Keyed, Waits, NoneWaits, SameCall, CallFreeRecord, CallFree}
-use Rattle.call_row_laws.proofs.Rising.{test_same, same_test}
 
 -- ---- names of calls ----
 
@@ -36,16 +37,6 @@ call_test a b e = subst (λ (x : CallId). same_call a x ≡ true) e (same_self a
 
 pub call_differs : (a b : CallId) → (a ≡ b → ⊥) → same_call a b ≡ false
 call_differs a b ne = (elim (same_call a b) as (λ t. same_call a b ≡ t → t ≡ false) [ true ↦ λ e. absurd (ne (call_same a b e)) | false ↦ λ e. refl ]) refl
-
-true_false : true ≡ false → ⊥
-true_false e = cc
-
-pub test_other : (a b : ℕ) → (a ≡ b → ⊥) → (a == b) ≡ false
-test_other a b ne = (elim (a == b) as (λ t. (a == b) ≡ t → t ≡ false) [ true ↦ λ e. absurd (ne (test_same a b e)) | false ↦ λ e. refl ]) refl
-
-not_true : (b : Bool) → not b ≡ true → b ≡ false
-not_true true h = absurd (cc)
-not_true false h = refl
 
 -- ---- lists that are filtered ----
 
@@ -142,7 +133,7 @@ record_other : (s t boot m calls : ℕ) (r : Record) (now : Trace) (rows : List 
 record_other s t boot m calls (says.Up site b) now rows ne o h = absurd o
 record_other s t boot m calls (says.Stopped site why) now rows ne o h = absurd o
 record_other s t boot m calls (says.Accept site process id words) now rows ne o h =
-    let test : (site == t) ≡ false = test_other site t (λ e. ne (sym o ∙ e)) in
+    let test : (site == t) ≡ false = apart_test site t (λ e. ne (sym o ∙ e)) in
     record {
       up = h.up;
       boot_is = h.boot_is;
@@ -203,15 +194,15 @@ stopped_old s now x a = let k : Among x (waiting now) × (not (x.site == s) ≡ 
 
 -- at a site that stops nothing waits
 pub stop_none : (s m : ℕ) (why : StopCause) (now : Trace) → NoneWaits s (record { line = m; what = says.Stopped s why } ∷ now)
-stop_none s m why now x a e = true_false (sym (same_test x.site s e) ∙ (stopped_old s now x a).1)
+stop_none s m why now x a e = true_false (sym (equal_test x.site s e) ∙ (stopped_old s now x a).1)
 
 pub stop_other : (s t boot m calls : ℕ) (why : StopCause) (now : Trace) (rows : List WaitingCall) → (s ≡ t → ⊥) → Waits t boot now calls rows → Waits t boot (record { line = m; what = says.Stopped s why } ∷ now) calls rows
 stop_other s t boot m calls why now rows ne h = record {
-  up = ap (λ (b : Bool). not b && is_up now t) (test_other s t ne) ∙ h.up;
+  up = ap (λ (b : Bool). not b && is_up now t) (apart_test s t ne) ∙ h.up;
   boot_is = h.boot_is;
   counted = h.counted;
   there = λ x a e. h.there x (stopped_old s now x a).0 e;
-  back = λ r a. (let k : IsWaiting t boot now r = h.back r a in (k.0, (filter_keeps (λ (w : Waiting). not (w.site == s)) (waiting now) k.0 k.1.0 (ap not (test_other k.0.site s (λ e. ne (sym e ∙ k.1.1.0)))), k.1.1)));
+  back = λ r a. (let k : IsWaiting t boot now r = h.back r a in (k.0, (filter_keeps (λ (w : Waiting). not (w.site == s)) (waiting now) k.0 k.1.0 (ap not (apart_test k.0.site s (λ e. ne (sym e ∙ k.1.1.0)))), k.1.1)));
   low = h.low;
   apart = h.apart;
   keyed = h.keyed;
@@ -222,9 +213,9 @@ stop_other_none s t m why now h x a e = h x (stopped_old s now x a).0 e
 
 pub boot_waits : (s boot m : ℕ) (now : Trace) → NoneWaits s now → Waits s boot (record { line = m; what = says.Up s boot } ∷ now) 0 []
 boot_waits s boot m now none = record {
-  up = ap (λ (b : Bool). b || is_up now s) (same_test s s refl);
-  boot_is = ap (λ (b : Bool). cond b boot (boot_of now s)) (same_test s s refl);
-  counted = ap (λ (b : Bool). cond b 0 (calls_accepted now s)) (same_test s s refl);
+  up = ap (λ (b : Bool). b || is_up now s) (equal_test s s refl);
+  boot_is = ap (λ (b : Bool). cond b boot (boot_of now s)) (equal_test s s refl);
+  counted = ap (λ (b : Bool). cond b 0 (calls_accepted now s)) (equal_test s s refl);
   there = λ x a e. absurd (none x a e);
   back = λ r a. absurd a;
   low = λ r a. absurd a;
@@ -234,9 +225,9 @@ boot_waits s boot m now none = record {
 
 pub boot_other : (s t boot b m calls : ℕ) (now : Trace) (rows : List WaitingCall) → (s ≡ t → ⊥) → Waits t boot now calls rows → Waits t boot (record { line = m; what = says.Up s b } ∷ now) calls rows
 boot_other s t boot b m calls now rows ne h = record {
-  up = ap (λ (x : Bool). x || is_up now t) (test_other s t ne) ∙ h.up;
-  boot_is = ap (λ (x : Bool). cond x b (boot_of now t)) (test_other s t ne) ∙ h.boot_is;
-  counted = ap (λ (x : Bool). cond x 0 (calls_accepted now t)) (test_other s t ne) ∙ h.counted;
+  up = ap (λ (x : Bool). x || is_up now t) (apart_test s t ne) ∙ h.up;
+  boot_is = ap (λ (x : Bool). cond x b (boot_of now t)) (apart_test s t ne) ∙ h.boot_is;
+  counted = ap (λ (x : Bool). cond x 0 (calls_accepted now t)) (apart_test s t ne) ∙ h.counted;
   there = h.there;
   back = h.back;
   low = h.low;

@@ -16,3 +16,6 @@ pub mod VoidCalls
 pub mod Telling
 pub mod CallTales
 pub mod TreeSum
+pub use Rattle.row_laws.proofs as of_row_laws
+pub use Rattle.row_laws.proofs.of_lock_laws as of_lock_laws
+pub use Rattle.row_laws.proofs.of_run_laws as of_run_laws

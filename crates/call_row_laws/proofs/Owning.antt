@@ -1,5 +1,7 @@
 -- How serial numbers stay owned: as rows are put, answered, opened, freed and closed.
 use Rattle.std.proofs.Common.{◌≡◌, ◌≤◌, ℕ, ◌⊎◌, true, false, List, [], Option, None, sym, ◌∙◌, ap, subst, inl, inr, arith}
+use Rattle.role_steps.proofs.of_plain_facts.Numbers.{at_most_of}
+use Rattle.role_steps.proofs.of_plain_facts.Tests.{false_true}
 use Rattle.locus_ids.specs.declared.ids.EpochId.{EpochId}
 use Rattle.locus_ids.specs.declared.ids.FileId.{FileId}
 use Rattle.role_steps.specs.Views.{Users}
@@ -10,12 +12,6 @@ use Rattle.role_steps.specs.declared.users.UserInstance.{UserInstance}
 use Rattle.the_run.specs.Kept.{Among}
 use Rattle.call_row_laws.specs.Serials.{Holds, serial_of, IsOpenIn, HasInstance, Owned}
 use Rattle.call_row_laws.proofs.Rising.{key_case, put_rises, put_there, put_keeps, put_old, taken_rises, taken_keeps, taken_old}
-
-false_true : false ≡ true → ⊥
-false_true e = cc
-
-at_least : (a b c : ℕ) → a ≤ b → b ≤ c → a ≤ c
-at_least a b c h g = omega (arith, h, g)
 
 zero_least : (n : ℕ) → 0 ≤ n
 zero_least n = omega arith
@@ -70,7 +66,7 @@ put_owned K now n w u le within alone apart h = record {
   descriptors = h.descriptors;
   held_low = λ x s a k. by_low x s (old x a) k;
   one_call = λ x y s a b k l. by_call x y s (old x a) (old y b) k l;
-  low = λ d a. at_least (serial_of d) u.serials n (h.low d a) le;
+  low = λ d a. at_most_of (serial_of d) u.serials n (h.low d a) le;
   no_call = λ d x a o b k. by_apart d x a o (old x b) k;
   one_descriptor = h.one_descriptor;
   there = h.there;
@@ -85,7 +81,7 @@ put_owned K now n w u le within alone apart h = record {
 
     by_low : (x : WaitingCall) (s : ℕ) → Old x → Holds s x → s ≤ n
     by_low x s (inl e) k = within s (subst (Holds s) e k)
-    by_low x s (inr o) k = at_least s u.serials n (h.held_low x s o.0 k) le
+    by_low x s (inr o) k = at_most_of s u.serials n (h.held_low x s o.0 k) le
 
     by_call : (x y : WaitingCall) (s : ℕ) → Old x → Old y → Holds s x → Holds s y → waiting_key x ≡ waiting_key y
     by_call x y s (inl e) (inl f) k l = ap waiting_key (e ∙ sym f)

@@ -1,20 +1,13 @@
 -- Tables whose keys ascend: what is in them once a row is put or taken away.
 use Rattle.std.proofs.Common.{◌≡◌, ◌≤◌, ℕ, ◌+◌, ◌==◌, ◌⊎◌, nat_lt, Bool, true, false, List, [], ◌∷◌, Option, Some, None, refl, sym, ◌∙◌, ap, subst, inl, inr, arith}
 use Rattle.std.proofs.lemmas.Bool.Decides.{nat_tests}
+use Rattle.role_steps.proofs.of_plain_facts.Numbers.{apart, equal}
+use Rattle.role_steps.proofs.of_plain_facts.Options.{none_some, some_same}
 use Rattle.role_steps.specs.Tables.{row, with_row, without_row, first_that}
 use Rattle.the_run.specs.Kept.{Among}
 use Rattle.call_row_laws.specs.Serials.{Rises}
 
 -- ---- tests ----
-
-pub test_same : (a b : ℕ) → (a == b) ≡ true → a ≡ b
-test_same a b e = grind (arith, nat_tests)
-
-pub same_test : (a b : ℕ) → a ≡ b → (a == b) ≡ true
-same_test a b e = grind (arith, nat_tests)
-
-pub not_same : (a b : ℕ) → (a == b) ≡ false → a ≡ b → ⊥
-not_same a b e f = grind (arith, nat_tests)
 
 below : (a b : ℕ) → nat_lt a b ≡ true → a + 1 ≤ b
 below a b e = grind (arith, nat_tests)
@@ -25,15 +18,9 @@ below_other a b e f = grind (arith, nat_tests)
 above : (a b : ℕ) → nat_lt a b ≡ false → (a == b) ≡ false → b + 1 ≤ a
 above a b e f = grind (arith, nat_tests)
 
-pub none_some : {A : Type 0} (x : A) → ◌≡◌ {A = Option A} None (Some x) → ⊥
-none_some x e = cc
-
-pub some_same : {A : Type 0} (x y : A) → ◌≡◌ {A = Option A} (Some x) (Some y) → x ≡ y
-some_same x y e = cc
-
 -- two keys are one, or they aren't
 pub key_case : (P : Type 0) (a b : ℕ) → (a ≡ b → P) → ((a ≡ b → ⊥) → P) → P
-key_case P a b same other = (elim (a == b) as (λ t. (a == b) ≡ t → P) [ true ↦ λ e. same (test_same a b e) | false ↦ λ e. other (not_same a b e) ]) refl
+key_case P a b same other = (elim (a == b) as (λ t. (a == b) ≡ t → P) [ true ↦ λ e. same (equal a b e) | false ↦ λ e. other (apart a b e) ]) refl
 
 -- ---- rows that are found ----
 
@@ -41,7 +28,7 @@ pub row_found : {A : Type 0} (key : A → ℕ) (k : ℕ) (xs : List A) (x : A) �
 row_found key k [] x e = absurd (none_some x e)
 row_found key k (y ∷ ys) x e =
     (elim (key y == k) as (λ b. (key y == k) ≡ b → elim b [ true ↦ Some y | false ↦ row key k ys ] ≡ Some x → Among x (y ∷ ys) × (key x ≡ k)) [
-      | true ↦ λ t f. (let same : y ≡ x = some_same y x f in (inl (sym same), ap key (sym same) ∙ test_same (key y) k t))
+      | true ↦ λ t f. (let same : y ≡ x = some_same y x f in (inl (sym same), ap key (sym same) ∙ equal (key y) k t))
       | false ↦ λ t f. later (row_found key k ys x f)
     ]) refl e
   where
@@ -57,7 +44,7 @@ row_there {A} key k (y ∷ ys) x a e f =
     ]) refl f
   where
     by_place : (x ≡ y) ⊎ Among x ys → (key y == k) ≡ false → (Among x ys → ⊥) → ⊥
-    by_place (inl same) t go = not_same (key y) k t (ap key (sym same) ∙ e)
+    by_place (inl same) t go = apart (key y) k t (ap key (sym same) ∙ e)
     by_place (inr b) t go = go b
 
 pub first_found : {A : Type 0} (test : A → Bool) (xs : List A) (x : A) → first_that test xs ≡ Some x → Among x xs × (test x ≡ true)
@@ -98,7 +85,7 @@ put_rises key x n (y ∷ ys) le h =
     (elim (nat_lt (key y) (key x)) as (λ b. nat_lt (key y) (key x) ≡ b → Rises key n (elim b [ true ↦ y ∷ with_row key x ys | false ↦ elim (key y == key x) [ true ↦ x ∷ ys | false ↦ x ∷ y ∷ ys ] ])) [
       | true ↦ λ e. (h.0, put_rises key x (key y + 1) ys (below (key y) (key x) e) h.1)
       | false ↦ λ e. (elim (key y == key x) as (λ b. (key y == key x) ≡ b → Rises key n (elim b [ true ↦ x ∷ ys | false ↦ x ∷ y ∷ ys ])) [
-        | true ↦ λ f. (le, subst (λ (m : ℕ). Rises key (m + 1) ys) (test_same (key y) (key x) f) h.1)
+        | true ↦ λ f. (le, subst (λ (m : ℕ). Rises key (m + 1) ys) (equal (key y) (key x) f) h.1)
         | false ↦ λ f. (le, (above (key y) (key x) e f, h.1))
       ]) refl
     ]) refl
@@ -128,7 +115,7 @@ put_keeps key x (y ∷ ys) z a ne =
     by_place (inr b) go = inr (go b)
 
     replaced : (z ≡ y) ⊎ Among z ys → (key y == key x) ≡ true → (z ≡ x) ⊎ Among z ys
-    replaced (inl e) f = absurd (ne (ap key e ∙ test_same (key y) (key x) f))
+    replaced (inl e) f = absurd (ne (ap key e ∙ equal (key y) (key x) f))
     replaced (inr b) f = inr b
 
 -- what is there is the row, or an old one of another key
@@ -157,11 +144,11 @@ put_old key x n (y ∷ ys) h z a =
 
     in_place : (key y == key x) ≡ true → (z ≡ x) ⊎ Among z ys → (z ≡ x) ⊎ (Among z (y ∷ ys) × (key z ≡ key x → ⊥))
     in_place f (inl p) = inl p
-    in_place f (inr b) = inr (inr b, later b (let s : key y ≡ key x = test_same (key y) (key x) f in omega (arith, s)))
+    in_place f (inr b) = inr (inr b, later b (let s : key y ≡ key x = equal (key y) (key x) f in omega (arith, s)))
 
     before : nat_lt (key y) (key x) ≡ false → (key y == key x) ≡ false → (z ≡ x) ⊎ ((z ≡ y) ⊎ Among z ys) → (z ≡ x) ⊎ (Among z (y ∷ ys) × (key z ≡ key x → ⊥))
     before e f (inl p) = inl p
-    before e f (inr (inl p)) = inr (inl p, λ same. not_same (key y) (key x) f (ap key (sym p) ∙ same))
+    before e f (inr (inl p)) = inr (inl p, λ same. apart (key y) (key x) f (ap key (sym p) ∙ same))
     before e f (inr (inr b)) = inr (inr b, later b (let m : key x + 1 ≤ key y = above (key y) (key x) e f in omega (arith, m)))
 
 -- ---- a row is taken away ----
@@ -183,7 +170,7 @@ taken_keeps key k (y ∷ ys) z a ne =
     ]) refl
   where
     gone : (z ≡ y) ⊎ Among z ys → (key y == k) ≡ true → Among z ys
-    gone (inl e) t = absurd (ne (ap key e ∙ test_same (key y) k t))
+    gone (inl e) t = absurd (ne (ap key e ∙ equal (key y) k t))
     gone (inr b) t = b
 
     by_place : {B : Type 0} → (z ≡ y) ⊎ B → (B → Among z (without_row key k ys)) → (z ≡ y) ⊎ Among z (without_row key k ys)
@@ -195,7 +182,7 @@ pub taken_old : {A : Type 0} (key : A → ℕ) (k n : ℕ) (xs : List A) → Ris
 taken_old key k n [] h z a = absurd a
 taken_old key k n (y ∷ ys) h z a =
     (elim (key y == k) as (λ b. (key y == k) ≡ b → Among z (elim b [ true ↦ ys | false ↦ y ∷ without_row key k ys ]) → Among z (y ∷ ys) × (key z ≡ k → ⊥)) [
-      | true ↦ λ t c. (inr c, later c (test_same (key y) k t))
+      | true ↦ λ t c. (inr c, later c (equal (key y) k t))
       | false ↦ λ t c. by_place t (taken_old key k (key y + 1) ys h.1 z) c
     ]) refl a
   where
@@ -203,5 +190,5 @@ taken_old key k n (y ∷ ys) h z a =
     later b s same = (let m : key y + 1 ≤ key z = rises_above key (key y + 1) ys h.1 z b in omega (arith, m, s, same))
 
     by_place : (key y == k) ≡ false → (Among z (without_row key k ys) → Among z ys × (key z ≡ k → ⊥)) → (z ≡ y) ⊎ Among z (without_row key k ys) → Among z (y ∷ ys) × (key z ≡ k → ⊥)
-    by_place t rest (inl e) = (inl e, λ same. not_same (key y) k t (ap key (sym e) ∙ same))
+    by_place t rest (inl e) = (inl e, λ same. apart (key y) k t (ap key (sym e) ∙ same))
     by_place t rest (inr b) = (let r : Among z ys × (key z ≡ k → ⊥) = rest b in (inr r.0, r.1))

@@ -1,5 +1,6 @@
 -- Parts of a site's event, and how its calls stand after them.
 use Rattle.std.proofs.Common.{◌≡◌, ℕ, ◌==◌, Bool, true, false, ◌||◌, ◌&&◌, List, [], ◌∷◌, ◌++◌, Option, Some, None, refl, sym, ◌∙◌, ap, subst}
+use Rattle.role_steps.proofs.of_plain_facts.Tests.{or_true}
 use Rattle.locus_ids.specs.declared.ids.EpochId.{EpochId}
 use Rattle.trace_book.specs.Same.{same_epoch}
 use Rattle.trace_book.specs.declared.record.Record.{Record}
@@ -34,10 +35,6 @@ new_split m [] b t h = (tt, h)
 new_split m (x ∷ xs) b t h = let k : AllNew m xs (with_told m x t) × AllNew m b (after m xs (with_told m x t)) = new_split m xs b (with_told m x t) h.1 in ((h.0, k.0), k.1)
 
 -- ---- epochs stay known ----
-
-or_true : (b : Bool) → (b || true) ≡ true
-or_true true = refl
-or_true false = refl
 
 record_was : (s m : ℕ) (r : Record) (t : Trace) (e : EpochId) → WasIn s t e → WasIn s (record { line = m; what = r } ∷ t) e
 record_was s m (says.Join site id members) t e h = ap (λ (b : Bool). ((site == s) && same_epoch id e) || b) h ∙ or_true ((site == s) && same_epoch id e)

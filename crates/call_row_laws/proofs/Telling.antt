@@ -1,6 +1,7 @@
 -- What is told of calls as a run goes on: each call line that was begun is told.
 use Rattle.std.proofs.Common.{◌≡◌, ◌≤◌, ◌<◌, ℕ, zero, suc, ◌+◌, ◌==◌, true, false, List, [], ◌∷◌, Some, None, refl, sym, ◌∙◌, ap, subst, arith}
 use Rattle.std.proofs.lemmas.Bool.Decides.{nat_tests}
+use Rattle.role_steps.proofs.of_plain_facts.Tests.{false_true}
 use Rattle.schedule_lines.specs.declared.line.Line.{Line as LineWords}
 use Rattle.schedule_lines.specs.declared.line.Line.TheVariants as line
 use Rattle.schedule_lines.specs.declared.line.ScheduleLine.{ScheduleLine}
@@ -13,15 +14,15 @@ use Rattle.the_run.specs.Disks.{Armed, Booted, Whole, CutOff, cut_disk}
 use Rattle.the_run.specs.Worlds.{World, Running, Line, told_onto, happened, puts, arms, stops_with, cause_of, cut_told, acts}
 use Rattle.the_run.specs.Runs.{boots_as}
 use Rattle.the_run.proofs.Boots.{acts_cases}
-use Rattle.lawful_trace.specs.Places.{line_at}
-use Rattle.lawful_trace.specs.LineRows.{is_told}
+use Rattle.row_laws.specs.of_lawful_trace.Places.{line_at}
+use Rattle.row_laws.specs.of_lawful_trace.LineRows.{is_told}
 use Rattle.row_laws.specs.Shown.{shown, trace_of, EachRecord}
 use Rattle.row_laws.specs.ByLine.{IsLine, begins_quietly, Delivers, ArmsAs}
 use Rattle.row_laws.specs.Rows.{IsSiteRow}
 use Rattle.row_laws.specs.Voids.{is_call}
 use Rattle.row_laws.proofs.Tales.{onto_told, happened_none}
 use Rattle.call_row_laws.specs.Lines.{CallsTold}
-use Rattle.call_row_laws.proofs.VoidCalls.{never, order_before}
+use Rattle.call_row_laws.proofs.VoidCalls.{order_before}
 
 -- ---- what is told of calls ----
 
@@ -51,7 +52,7 @@ next lines n now t here m low high call = number_case (is_told lines now m ≡ t
 
 -- a line that is no call tells what it may
 pub other_next : (lines : List ScheduleLine) (n : ℕ) (told : List Told) (trace : List Line) → is_call (line_at lines (n + 1)) ≡ false → CallsTold lines n (shown trace) → CallsTold lines (n + 1) (shown (told_onto (n + 1) told trace))
-other_next lines n told trace none t = next lines n (shown (told_onto (n + 1) told trace)) (earlier lines n (n + 1) told trace (omega arith) t) (λ call. absurd (never (sym none ∙ call)))
+other_next lines n told trace none t = next lines n (shown (told_onto (n + 1) told trace)) (earlier lines n (n + 1) told trace (omega arith) t) (λ call. absurd (false_true (sym none ∙ call)))
 
 -- in the course of a line that is no call
 pub course : (lines : List ScheduleLine) (n : ℕ) (told : List Told) (trace : List Line) → is_call (line_at lines n) ≡ false → CallsTold lines n (shown trace) → CallsTold lines n (shown (told_onto n told trace))
@@ -59,7 +60,7 @@ course lines zero told trace none t m low high call = absurd (omega (arith, low,
 course lines (suc n) told trace none t m low high call =
     number_case (is_told lines (shown (told_onto (suc n) told trace)) m ≡ true) m n (upper high)
     (λ h. earlier lines n (suc n) told trace (less n) (λ k a b q. t k a (within k b) q) m low h call)
-    (λ e. absurd (never (sym none ∙ subst (λ (k : ℕ). is_call (line_at lines k) ≡ true) (e ∙ suc_is n) call)))
+    (λ e. absurd (false_true (sym none ∙ subst (λ (k : ℕ). is_call (line_at lines k) ≡ true) (e ∙ suc_is n) call)))
   where
     upper : m ≤ suc n → m ≤ n + 1
     upper h = omega (arith, h)
@@ -82,7 +83,7 @@ acts_calls lines m s v o w h =
     acts_cases (ToldGo lines m) m s v o w
     (happened_calls lines m o.sent o.told (λ now. puts s (Running o.view) now) w (h o.told))
     (λ a. happened_calls lines m o.sent o.told (λ now. puts s (Running o.view) (arms a now)) w (h o.told))
-    (λ d a e. happened_calls lines m [] (cut_told s d a.how a.left) (stops_with s (cut_disk v.boot v.store d a.how a.left)) w (h (cut_told s d a.how a.left)))
+    (λ d a e. happened_calls lines m [] (cut_told s v.store d a.how a.left) (stops_with s (cut_disk v.boot v.store d a.how a.left)) w (h (cut_told s v.store d a.how a.left)))
 
 pub boots_calls : (lines : List ScheduleLine) (m s : ℕ) (b : Booted) (w : World) → ((told : List Told) → w.over ≡ None → EachRecord IsSiteRow (trace_of w) → CallsTold lines m (shown (told_onto m told w.trace))) → ToldGo lines m (boots_as m s b w)
 boots_calls lines m s (Whole d None) w h = happened_calls lines m [] (Shown (says.Up s d.label.boot) ∷ []) _ w (h (Shown (says.Up s d.label.boot) ∷ []))
@@ -92,7 +93,7 @@ boots_calls lines m s (CutOff d how) w h = happened_calls lines m [] (Shown (say
 -- ---- lines that are no calls ----
 
 pub quiet_other : (l : ScheduleLine) → begins_quietly l ≡ true → is_call l ≡ false
-quiet_other (EventLine (line.Call site process words)) q = absurd (never q)
+quiet_other (EventLine (line.Call site process words)) q = absurd (false_true q)
 quiet_other _ q = refl
 
 pub delivers_other : (l : LineWords) → Delivers l → is_call (EventLine l) ≡ false

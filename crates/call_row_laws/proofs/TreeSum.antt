@@ -1,6 +1,7 @@
 -- A run whose records come as the tree has them is lawful.
 use Rattle.std.proofs.Common.{◌≡◌, ◌≤◌, ℕ, zero, suc, nat_le, Bool, true, false, List, [], ◌∷◌, length, slice_index_or, None, refl, sym, ◌∙◌, ap, arith}
 use Rattle.std.proofs.lemmas.Bool.Decides.{nat_tests}
+use Rattle.role_steps.proofs.of_plain_facts.Tests.{false_true}
 use Rattle.locus_ids.specs.declared.config.Config.{Config}
 use Rattle.locus_ids.specs.declared.ids.CallId.{CallId}
 use Rattle.trace_book.specs.declared.call.Call.{Call}
@@ -12,10 +13,10 @@ use Rattle.schedule_lines.specs.declared.line.ScheduleLine.TheVariants.{Passed}
 use Rattle.schedule_lines.specs.Cluster.{config_of}
 use Rattle.tree_model.specs.Folds.{Trace}
 use Rattle.the_run.specs.Runs.{run}
-use Rattle.lawful_trace.specs.Places.{line_at}
-use Rattle.lawful_trace.specs.CallRows.{CallRow}
-use Rattle.lawful_trace.specs.LineRows.{is_told}
-use Rattle.lawful_trace.specs.Lawful.{IsLawful}
+use Rattle.row_laws.specs.of_lawful_trace.Places.{line_at}
+use Rattle.row_laws.specs.of_lawful_trace.CallRows.{CallRow}
+use Rattle.row_laws.specs.of_lawful_trace.LineRows.{is_told}
+use Rattle.row_laws.specs.of_lawful_trace.Lawful.{IsLawful}
 use Rattle.row_laws.specs.Shown.{trace_of, EachRecord}
 use Rattle.row_laws.specs.Rest.{RestRecord, IsRestRow}
 use Rattle.row_laws.specs.Voids.{is_call}
@@ -25,7 +26,6 @@ use Rattle.call_row_laws.specs.Accepting.{AcceptedAs, AcceptRecord, IsAcceptRow}
 use Rattle.call_row_laws.specs.Lines.{VoidCall, IsVoidCall, CallsTold}
 use Rattle.call_row_laws.specs.Tree.{AcceptTree, TreeRecord, IsTreeRow, MeetsTheTree}
 use Rattle.call_row_laws.proofs.CallsRun.{run_accepts}
-use Rattle.call_row_laws.proofs.VoidCalls.{never}
 use Rattle.call_row_laws.proofs.CallTales.{run_void_calls, run_calls_told}
 
 accept_row : (c : Config) (before : Trace) (site process : ℕ) (id : CallId) (words : Call) → AcceptedAs before site process id words → AcceptTree c before site process id words → CallRow c before site process id words
@@ -76,12 +76,12 @@ beyond (x ∷ xs) zero h = absurd (omega (arith, h))
 beyond (x ∷ xs) (suc k) h = beyond xs k (omega (arith, h))
 
 call_within : (lines : List ScheduleLine) (n : ℕ) → is_call (line_at lines n) ≡ true → (1 ≤ n) × (n ≤ length lines)
-call_within lines zero h = absurd (never h)
+call_within lines zero h = absurd (false_true h)
 call_within lines (suc k) h = (omega arith, within (nat_le (suc k) (length lines)) refl)
   where
     within : (b : Bool) → nat_le (suc k) (length lines) ≡ b → suc k ≤ length lines
     within true e = grind (arith, nat_tests)
-    within false e = absurd (never (sym (ap is_call (beyond lines k (high (length lines) e))) ∙ h))
+    within false e = absurd (false_true (sym (ap is_call (beyond lines k (high (length lines) e))) ∙ h))
       where
         high : (n : ℕ) → nat_le (suc k) n ≡ false → n ≤ k
         high n e = grind (arith, nat_tests)

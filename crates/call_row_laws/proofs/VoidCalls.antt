@@ -3,6 +3,8 @@ use Rattle.std.proofs.Common.{◌≡◌, ℕ, ◌==◌, ◌⊎◌, Bool, true, f
 use Rattle.std.proofs.lemmas.Bool.Decides.{nat_tests}
 use Rattle.std.specs.List.{list_any, find}
 use Rattle.std.specs.Option.{is_some}
+use Rattle.role_steps.proofs.of_plain_facts.Numbers.{equal}
+use Rattle.role_steps.proofs.of_plain_facts.Tests.{both_true, false_true, or_true}
 use Rattle.locus_ids.specs.declared.config.Config.{Config}
 use Rattle.schedule_lines.specs.Ranges.{is_site, is_between, fits_call, fits_event}
 use Rattle.schedule_lines.specs.declared.line.Line.{Line as LineWords}
@@ -25,7 +27,7 @@ use Rattle.the_run.specs.Worlds.{World, Place, Running, Stopped, Line, place_at,
 use Rattle.the_run.specs.Runs.{is_busy, boots_as}
 use Rattle.the_run.proofs.Boots.{acts_cases}
 use Rattle.the_run.proofs.Events.{happened_keeps}
-use Rattle.lawful_trace.specs.LineRows.{may_be_void, has_no_effect}
+use Rattle.row_laws.specs.of_lawful_trace.LineRows.{may_be_void, has_no_effect}
 use Rattle.row_laws.specs.Inward.{RoleWrite}
 use Rattle.row_laws.specs.Shown.{with_told, shown, trace_of, EachRecord}
 use Rattle.row_laws.specs.ByLine.{IsVoidIn}
@@ -34,16 +36,12 @@ use Rattle.row_laws.specs.Course.{StandsAs, InCourse}
 use Rattle.row_laws.specs.Rows.{IsSiteRow}
 use Rattle.row_laws.specs.Voids.{HasPlaces, is_call}
 use Rattle.row_laws.proofs.Forming.{role_told}
-use Rattle.row_laws.proofs.SyncInward.{served_role}
+use Rattle.row_laws.proofs.Walks.{served_role}
 use Rattle.row_laws.proofs.Voids.{NoVoid, site_told, site_all}
 use Rattle.call_row_laws.specs.Lines.{IsVoidCall}
 use Rattle.call_row_laws.specs.Standing.{CallsStand}
 use Rattle.call_row_laws.specs.Waiting.{IsWaiting, Waits}
-use Rattle.call_row_laws.proofs.Rising.{test_same}
 use Rattle.call_row_laws.proofs.CallsRun.{after_shown, each_before}
-
-pub never : false ≡ true → ⊥
-never e = cc
 
 -- ---- what is told of void lines ----
 
@@ -88,7 +86,7 @@ acts_voids lines m s k v o w h f =
     acts_cases (VoidsGo lines) m s v o w
     (free_voids lines m o.sent o.told (λ now. puts s (Running o.view) now) w (site_all s k o.told h.told) f)
     (λ a. free_voids lines m o.sent o.told (λ now. puts s (Running o.view) (arms a now)) w (site_all s k o.told h.told) f)
-    (λ d a e. free_voids lines m [] (cut_told s d a.how a.left) (stops_with s (cut_disk v.boot v.store d a.how a.left)) w (cut_none s d a.how (is_on_disk d a.how a.left) (site_told s k (Shown d.says) (role_told s k (Shown d.says) (served_role d.says (subst RoleWrite e h.written))))) f)
+    (λ d a e. free_voids lines m [] (cut_told s v.store d a.how a.left) (stops_with s (cut_disk v.boot v.store d a.how a.left)) w (cut_none s d a.how (is_on_disk v.store d a.how a.left) (site_told s k (Shown d.says) (role_told s k (Shown d.says) (served_role d.says (subst RoleWrite e h.written))))) f)
 
 pub boots_voids : (lines : List ScheduleLine) (m s : ℕ) (b : Booted) (w : World) → VoidsGo lines w → VoidsGo lines (boots_as m s b w)
 boots_voids lines m s (Whole d None) w f = free_voids lines m [] (Shown (says.Up s d.label.boot) ∷ []) _ w (tt, tt) f
@@ -98,10 +96,10 @@ boots_voids lines m s (CutOff d how) w f = free_voids lines m [] (Shown (says.St
 -- ---- a void call ----
 
 any_row : (process : ℕ) (rows : List WaitingCall) → list_any (λ (x : WaitingCall). x.process == process) rows ≡ true → (r : WaitingCall) × (Among r rows × (r.process ≡ process))
-any_row process [] h = absurd (never h)
+any_row process [] h = absurd (false_true h)
 any_row process (x ∷ xs) h =
     (elim (x.process == process) as (λ b. (x.process == process) ≡ b → (b || list_any (λ (y : WaitingCall). y.process == process) xs) ≡ true → (r : WaitingCall) × (Among r (x ∷ xs) × (r.process ≡ process))) [
-      | true ↦ λ e g. (x, (inl refl, test_same x.process process e))
+      | true ↦ λ e g. (x, (inl refl, equal x.process process e))
       | false ↦ λ e g. later (any_row process xs g)
     ]) refl h
   where
@@ -132,10 +130,6 @@ busy_waits s boot calls process now rows busy h =
     let x : IsWaiting s boot now k.0 = h.back k.0 k.1.0 in
     some_found (is_of s process) (waiting now) x.0 x.1.0 (both_test x.0.site s x.0.process process x.1.1.0 (x.1.1.1.0 ∙ k.1.1))
 
-or_true : (b : Bool) → (b || true) ≡ true
-or_true true = refl
-or_true false = refl
-
 -- the site is stopped, or its process waits
 void_place : (s process : ℕ) (w : World) (p : Place) → place_at w s ≡ Some p → is_busy process (Some p) ≡ true → StandsAs (trace_of w) s p → CallsStand w → (not (is_up (trace_of w) s) || is_some (waiting_of s process (waiting (trace_of w)))) ≡ true
 void_place s process w (Stopped d) here busy stands g = ap (λ (b : Bool). not b || is_some (waiting_of s process (waiting (trace_of w)))) stands.0
@@ -147,11 +141,7 @@ void_call c lines n s process words w fit busy has f g =
     let r : (p : Place) × (place_at w s ≡ Some p) = has s fit in
     void_place s process w r.0 r.1 (sym (ap (is_busy process) r.1) ∙ busy) (f.places s r.0 r.1) g
 
-both_parts : (a b : Bool) → (a && b) ≡ true → (a ≡ true) × (b ≡ true)
-both_parts true b h = (refl, h)
-both_parts false b h = absurd (never h)
-
 -- of a void line that is a call
 pub void_effect : (c : Config) (lines : List ScheduleLine) (n : ℕ) (l : LineWords) (w : World) → fits_event c.sites l ≡ true → is_call (EventLine l) ≡ true → IsVoidIn w l → HasPlaces c w → InCourse lines n w → CallsStand w → may_be_void (has_no_effect (take n lines) (trace_of w) l) ≡ true
-void_effect c lines n (line.Call site process words) w fit call void has f g = void_call c lines n site process words w (both_parts (is_site c.sites site) (is_between 1 8 process) (both_parts (is_site c.sites site && is_between 1 8 process) (fits_call c.sites words) fit).0).0 void has f g
-void_effect c lines n _ w fit call void has f g = absurd (never call)
+void_effect c lines n (line.Call site process words) w fit call void has f g = void_call c lines n site process words w (both_true (is_site c.sites site) (is_between 1 8 process) (both_true (is_site c.sites site && is_between 1 8 process) (fits_call c.sites words) fit).0).0 void has f g
+void_effect c lines n _ w fit call void has f g = absurd (false_true call)

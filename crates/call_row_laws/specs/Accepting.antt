@@ -1,13 +1,13 @@
 -- A call comes as the lawful trace has it: its site runs, its process waits for nothing, and it is the next one of its site.
 use Rattle.std.specs.Prelude.{ℕ, ◌≡◌}
 use Rattle.locus_ids.specs.declared.ids.CallId.{CallId}
-use Rattle.trace_book.specs.declared.book.Entry.{Entry}
+use Rattle.trace_book.specs.declared.entry.Entry.{Entry}
 use Rattle.trace_book.specs.declared.call.Call.{Call}
 use Rattle.trace_book.specs.declared.call.Call.TheVariants as call
 use Rattle.trace_book.specs.declared.record.Record.{Record}
 use Rattle.trace_book.specs.declared.record.Record.TheVariants as says
 use Rattle.tree_model.specs.Folds.{Trace}
-use Rattle.lawful_trace.specs.CallRows.{next_call, MayAccept}
+use Rattle.row_laws.specs.of_lawful_trace.CallRows.{next_call, MayAccept}
 
 -- a mend is the next call of its site, too; what else it must meet speaks of the tree
 abbrev pub AcceptedAs : Trace → ℕ → ℕ → CallId → Call → Type 0

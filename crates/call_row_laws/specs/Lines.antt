@@ -1,12 +1,12 @@
 -- Call lines: which of them are void, and what the others tell.
 use Rattle.std.specs.Prelude.{ℕ, ◌≡◌, ◌≤◌, true, List}
-use Rattle.trace_book.specs.declared.book.Entry.{Entry}
+use Rattle.trace_book.specs.declared.entry.Entry.{Entry}
 use Rattle.trace_book.specs.declared.record.Record.{Record}
 use Rattle.trace_book.specs.declared.record.Record.TheVariants as says
 use Rattle.schedule_lines.specs.declared.line.ScheduleLine.{ScheduleLine}
 use Rattle.tree_model.specs.Folds.{Trace}
-use Rattle.lawful_trace.specs.Places.{line_at}
-use Rattle.lawful_trace.specs.LineRows.{IsVoidAsked, is_told}
+use Rattle.row_laws.specs.of_lawful_trace.Places.{line_at}
+use Rattle.row_laws.specs.of_lawful_trace.LineRows.{IsVoidAsked, is_told}
 use Rattle.row_laws.specs.Voids.{is_call}
 
 abbrev pub VoidCall : List ScheduleLine → ℕ → Trace → Record → Type 0

@@ -2,7 +2,7 @@
 use Rattle.std.specs.Prelude.{ℕ, List}
 use Rattle.locus_ids.specs.declared.config.Config.{Config}
 use Rattle.locus_ids.specs.declared.ids.CallId.{CallId}
-use Rattle.trace_book.specs.declared.book.Entry.{Entry}
+use Rattle.trace_book.specs.declared.entry.Entry.{Entry}
 use Rattle.trace_book.specs.declared.call.Call.{Call}
 use Rattle.trace_book.specs.declared.call.Call.TheVariants as call
 use Rattle.trace_book.specs.declared.record.Record.{Record}
@@ -11,8 +11,8 @@ use Rattle.schedule_lines.specs.declared.line.ScheduleLine.{ScheduleLine}
 use Rattle.schedule_lines.specs.Cluster.{config_of}
 use Rattle.schedule_lines.specs.Schedule.{AreInOrder}
 use Rattle.tree_model.specs.Folds.{Trace}
-use Rattle.lawful_trace.specs.CallRows.{MayMend}
-use Rattle.lawful_trace.specs.Lawful.{MayCome}
+use Rattle.row_laws.specs.of_lawful_trace.CallRows.{MayMend}
+use Rattle.row_laws.specs.of_lawful_trace.Lawful.{MayCome}
 use Rattle.row_laws.specs.Shown.{EachRecord}
 use Rattle.row_laws.specs.Rest.{IsCounted}
 

@@ -5,7 +5,7 @@ use Rattle.trace_book.specs.declared.call.Call.TheVariants as call
 use Rattle.trace_book.specs.declared.record.Record.{Record}
 use Rattle.trace_book.specs.declared.record.Record.TheVariants as says
 use Rattle.role_steps.specs.Views.{Told, Shown}
-use Rattle.role_steps.specs.Requests.{waiting_key}
+use Rattle.role_steps.specs.Requests.{waiting_key, waiting_span}
 use Rattle.role_steps.specs.Using.{own_call}
 use Rattle.role_steps.specs.declared.users.WaitingCall.{WaitingCall}
 use Rattle.tree_model.specs.declared.accepted.Waiting.{Waiting}
@@ -61,7 +61,7 @@ HasRow s boot x rows = (r : WaitingCall) × (Among r rows × Matches s boot x r)
 
 -- mends are of groups below 16, and no other call is of process 0: their keys are apart
 abbrev pub KeyedAs : ℕ → Call → Type 0
-KeyedAs process (call.Mend file) = file.group < 16
+KeyedAs process (call.Mend file) = file.group < waiting_span
 KeyedAs process _ = 1 ≤ process
 
 abbrev pub Keyed : WaitingCall → Type 0

@@ -2,6 +2,7 @@
 use Rattle.std.specs.Prelude.{ℕ, zero, suc, ◌+◌, Bool, true, false, cond, Option, None, Some}
 use Rattle.locus_ids.specs.declared.ids.EpochId.{EpochId}
 use Rattle.locus_ids.specs.declared.refusal.Refusal.TheVariants.{BadDescriptor, Stale, ReadOnly, NoDescriptor, NoPartition, TooLong}
+use Rattle.locus_ids.specs.Sizes.{descriptors_max}
 use Rattle.commit_graph.specs.Grants.{is_read}
 use Rattle.trace_book.specs.Same.{same_epoch}
 use Rattle.trace_book.specs.declared.call.Call.{Call}
@@ -20,9 +21,9 @@ abbrev pub lowest_free_from : (ℕ → Option Descriptor) → ℕ → ℕ → Op
 lowest_free_from table n zero = None
 lowest_free_from table n (suc left) = free_or n (lowest_free_from table (n + 1) left) (table n)
 
--- the lowest free of the 16 numbers
+-- the lowest free number
 abbrev pub lowest_free : (ℕ → Option Descriptor) → Option ℕ
-lowest_free table = lowest_free_from table 0 16
+lowest_free table = lowest_free_from table 0 descriptors_max
 
 abbrev pub is_in : Option EpochId → EpochId → Bool
 is_in None e = false

@@ -10,3 +10,4 @@ pub mod Opening
 pub mod Mending
 pub mod Scripts
 pub mod Samples
+pub use Rattle.commit_graph.specs as of_commit_graph

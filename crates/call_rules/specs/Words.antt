@@ -4,6 +4,7 @@ use Rattle.std.specs.Option.{is_some}
 use Rattle.locus_ids.specs.declared.config.Mount.{Mount}
 use Rattle.locus_ids.specs.declared.refusal.Refusal.{Refusal}
 use Rattle.locus_ids.specs.declared.refusal.Refusal.TheVariants.{BadName, TooLong}
+use Rattle.locus_ids.specs.Sizes.{file_bytes_max}
 use Rattle.trace_book.specs.Names.{is_name, components, last_of}
 use Rattle.trace_book.specs.declared.call.Call.{Call}
 use Rattle.trace_book.specs.declared.call.Call.TheVariants as call
@@ -38,13 +39,9 @@ is_badly_named mounts (call.Stat path) = not (is_path path)
 is_badly_named mounts (call.Open path mode) = not (is_path path)
 is_badly_named mounts _ = false
 
--- the greatest size of a file or a directory, in bytes
-abbrev pub greatest_size : ℕ
-greatest_size = 65536
-
 -- a write would end past the greatest size
 abbrev pub is_too_long : Call → Bool
-is_too_long (call.Write fd at bytes) = nat_lt greatest_size (at + length bytes)
+is_too_long (call.Write fd at bytes) = nat_lt file_bytes_max (at + length bytes)
 is_too_long _ = false
 
 -- what the words alone refuse

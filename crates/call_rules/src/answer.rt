@@ -2,7 +2,7 @@ use locus_ids::{Kind, Names, Refusal, Serial, Stamp, Stamps};
 use trace_book::Outcome;
 
 /// What a request of a call was answered.
-#[derive(Debug, Drop)]
+#[derive(Drop)]
 pub enum Answer {
     /// A look at a component: the entry that it finds.
     Entered { ino: u16, kind: Kind },

@@ -1,9 +1,10 @@
-ghost use Rattle.std.specs.Prelude.{◌≡◌, ℕ, Bool, true, false, List, [], ◌∷◌, Option, None, Some, codes, replicate};
+ghost use Rattle.std.specs.Prelude.{◌≡◌, ℕ, Bool, true, false, List, [], ◌∷◌, Option, None, Some, codes, replicate, ◌-◌};
 ghost use Rattle.locus_ids.specs.declared.ids.EpochId.{EpochId};
 ghost use Rattle.locus_ids.specs.declared.ids.Kind.TheVariants as kind;
 ghost use Rattle.locus_ids.specs.declared.config.Mount.{Mount};
 ghost use Rattle.locus_ids.specs.declared.refusal.Refusal.{Refusal};
 ghost use Rattle.locus_ids.specs.declared.refusal.Refusal.TheVariants as refusal;
+ghost use Rattle.locus_ids.specs.Sizes.{file_bytes_max};
 ghost use Rattle.trace_book.specs.declared.call.Call.{Call};
 ghost use Rattle.trace_book.specs.declared.call.Call.TheVariants as words;
 ghost use Rattle.trace_book.specs.declared.call.OpenMode.TheVariants as how;
@@ -50,8 +51,8 @@ pub fn words_by_sample()
     ensures numbered_old { is_badly_named usr (words.Rename (codes "/a@2") (codes "b")) ≡ false }
     ensures made_root { is_badly_named usr (words.MakeDir (codes "/")) ≡ true }
     ensures listed_root { is_badly_named usr (words.List (codes "/")) ≡ false }
-    ensures long { refused_by_words usr (words.Write 9 65536 (0 ∷ [])) ≡ Some refusal.TooLong }
-    ensures just_fits { refused_by_words usr (words.Write 9 65535 (0 ∷ [])) ≡ None }
+    ensures long { refused_by_words usr (words.Write 9 file_bytes_max (0 ∷ [])) ≡ Some refusal.TooLong }
+    ensures just_fits { refused_by_words usr (words.Write 9 (file_bytes_max - 1) (0 ∷ [])) ≡ None }
 {}
 
 /// What some calls ask, where group 1 stands on `usr`.

@@ -2,7 +2,7 @@ use locus_ids::{FileId, Kind, Serial, Sites};
 use trace_book::{Op, OpenMode, Reply, What};
 
 /// What a call asks next, or the reply that it is given.
-#[derive(Debug, Drop)]
+#[derive(Drop)]
 pub enum Want {
     Look {
         file: FileId,

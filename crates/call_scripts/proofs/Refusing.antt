@@ -1,5 +1,5 @@
 -- Once the close of an instance is refused, the others are closed as after any refusal.
-use Rattle.std.proofs.Common.{◌≡◌, ◌≤◌, List, [], ◌∷◌, length, drop, get_or, map, refl, arith}
+use Rattle.std.proofs.Common.{◌≡◌, List, [], ◌∷◌, map, refl}
 use Rattle.locus_ids.specs.declared.ids.Serial.{Serial}
 use Rattle.locus_ids.specs.declared.refusal.Refusal.{Refusal}
 use Rattle.trace_book.specs.declared.reply.Reply.{Reply}
@@ -19,8 +19,3 @@ refused_close i (j ∷ own) r why (Brought ∷ rest) = refl
 refused_close i (j ∷ own) r why (Opened inst ino ∷ rest) = refl
 refused_close i (j ∷ own) r why (Merging inst kept ∷ rest) = refl
 refused_close i (j ∷ own) r why (Did result ∷ rest) = refl
-
-pub refused_close_at : (own : List Serial) (answers : List Answer) (r : Reply) (why : Refusal) (d : Answer) → 1 ≤ length own → 1 ≤ length answers → get_or answers 0 d ≡ Refused why → close_all own r answers ≡ give_up (map Unchanged (drop 1 own)) why (drop 1 answers)
-refused_close_at [] answers r why d l m e = absurd (omega arith)
-refused_close_at (i ∷ own) [] r why d l m e = absurd (omega arith)
-refused_close_at (i ∷ own) (a ∷ rest) r why d l m e = rw e (refused_close i own r why rest)

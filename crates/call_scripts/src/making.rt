@@ -8,7 +8,7 @@ use std::alloc::Global;
 use trace_book::{Op, Reply};
 
 /// A file or directory that a call makes: its group, its name, its kind, and the sites that it is for.
-#[derive(Clone, Copy, Debug)]
+#[derive(Clone, Copy)]
 pub(crate) struct NewFile<'a> {
     pub(crate) group: u8,
     pub(crate) name: &'a [u8],

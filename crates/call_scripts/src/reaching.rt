@@ -16,7 +16,7 @@ use std::alloc::Global;
 use trace_book::{OpenMode, Reply, What};
 
 /// What a walk asks, or the file that it has led to with the answers that are left.
-#[derive(Debug, Drop)]
+#[derive(Drop)]
 pub(crate) enum Reached<'a> {
     Wants {
         want: Want,
@@ -29,7 +29,7 @@ pub(crate) enum Reached<'a> {
 }
 
 /// What a walk and the open of the directory ask, or the open directory with the answers that are left.
-#[derive(Debug, Drop)]
+#[derive(Drop)]
 pub(crate) enum Opened<'a> {
     Wants {
         want: Want,

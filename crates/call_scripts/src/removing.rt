@@ -10,7 +10,7 @@ use std::alloc::Global;
 use trace_book::{Op, OpenMode, Outcome, Reply};
 
 /// An entry that a call removes: the open directory, its group, and the component that names the entry.
-#[derive(Clone, Copy, Debug)]
+#[derive(Clone, Copy)]
 pub(crate) struct Entry<'a> {
     pub(crate) dir: Serial,
     pub(crate) group: u8,

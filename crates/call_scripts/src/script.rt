@@ -17,7 +17,7 @@ use trace_book::{Beginning, Call, Reply};
 
 /// The script of one call: its words, where it began, and what its requests were answered so far, the earliest answer
 /// first. The components of its path are kept beside them.
-#[derive(Debug, Drop)]
+#[derive(Drop)]
 pub struct Script {
     words: Call,
     begins: Beginning,

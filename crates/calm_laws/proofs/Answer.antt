@@ -2,9 +2,11 @@
 use Rattle.std.proofs.Common.{◌≡◌, ◌≢◌, ℕ, zero, suc, ◌+◌, ◌-◌, ◌≤◌, nat_lt, Bool, true, false, List, [], ◌∷◌, length, take, Option, Some, None, refl, sym, ◌∙◌, ap, subst, inl, inr, arith}
 use Rattle.std.proofs.lemmas.Bool.Decides.{nat_tests}
 use Rattle.std.specs.List.{list_any, AllByRecursion}
+use Rattle.role_steps.proofs.of_plain_facts.Tests.{false_unless, true_false}
 use Rattle.locus_ids.specs.declared.config.Config.{Config}
 use Rattle.locus_ids.specs.declared.ids.EpochId.{EpochId}
 use Rattle.locus_ids.specs.declared.sites.Members.{Members}
+use Rattle.locus_ids.specs.Sizes.{sites_max}
 use Rattle.schedule_lines.specs.Cluster.{config_of}
 use Rattle.schedule_lines.specs.Schedule.{AreInOrder}
 use Rattle.schedule_lines.specs.declared.line.Line.{Line as LineWords}
@@ -27,8 +29,8 @@ use Rattle.the_run.specs.Kept.{Among}
 use Rattle.the_run.specs.Runs.{next_packet, delivers, ticks_to, acts_line, run_in, run}
 use Rattle.the_run.proofs.Runs.{every_run}
 use Rattle.the_run.specs.Worlds.{World, Running, CutCircuit, place_at, is_between}
-use Rattle.row_laws.specs.Shown.{trace_of}
-use Rattle.row_laws.proofs.Fitting.{schedule_fits, schedule_few}
+use Rattle.orderly_traces.specs.of_row_laws.Shown.{trace_of}
+use Rattle.orderly_traces.proofs.of_row_laws.Fitting.{schedule_fits, schedule_few}
 use Rattle.orderly_laws.specs.Calm.{IsInside, AreTogether, delivered}
 use Rattle.orderly_laws.proofs.Choosing.{among_sites}
 use Rattle.orderly_laws.proofs.Rounds.{ticks_kept}
@@ -38,22 +40,21 @@ use Rattle.orderly_traces.proofs.Circuits.{take_fits, self_uncut}
 use Rattle.orderly_traces.proofs.Forms.{order_fits}
 use Rattle.orderly_traces.proofs.Placed.{place_within}
 use Rattle.orderly_traces.proofs.Spans.{world, next_world, one_more, before_at}
-use Rattle.rest_laws.proofs.MendStepRows.{HasRow, has_row}
-use Rattle.one_tree_laws.specs.Places.{InsideFact, SiteFact, SiteIn, WorldFact}
-use Rattle.one_tree_laws.specs.Roles.{RolesDo}
-use Rattle.one_tree_laws.proofs.Run.{run_holds}
-use Rattle.one_tree_laws.proofs.Staying.{stays}
-use Rattle.rest_laws.proofs.StoreStepFirst.{four_groups}
-use Rattle.rest_laws.proofs.Packs.{schedule_packs}
-use Rattle.rest_laws.proofs.Resting.{run_low, run_rests}
-use Rattle.rest_laws.proofs.Roles.{roles_do}
-use Rattle.rest_laws.proofs.Shown.{shown_entries}
+use Rattle.fit_laws.proofs.of_rest_laws.MendStepRows.{HasRow, has_row}
+use Rattle.calm_sent_laws.specs.of_one_tree_laws.Places.{InsideFact, SiteFact, SiteIn, WorldFact}
+use Rattle.calm_sent_laws.specs.of_one_tree_laws.Roles.{RolesDo}
+use Rattle.calm_sent_laws.proofs.of_one_tree_laws.Run.{run_holds}
+use Rattle.calm_sent_laws.proofs.of_one_tree_laws.Staying.{stays}
+use Rattle.fit_laws.proofs.of_rest_laws.StoreStepFirst.{four_groups}
+use Rattle.fit_laws.proofs.of_rest_laws.Packs.{schedule_packs}
+use Rattle.fit_laws.proofs.of_rest_laws.Resting.{run_low, run_rests}
+use Rattle.fit_laws.proofs.of_rest_laws.Roles.{roles_do}
+use Rattle.fit_laws.proofs.of_rest_laws.Shown.{shown_entries}
 use Rattle.calm_laws.specs.Carrying.{IsMember}
 use Rattle.calm_laws.specs.Calming.{NobodyWaits}
 use Rattle.calm_laws.specs.Rounds.{after, IsInRound, IsCalm, CalmLeft}
 use Rattle.calm_laws.proofs.Calm.{calm_round}
 use Rattle.calm_laws.proofs.Limits.{world_within, line_there, take_length, take_fit, before_any}
-use Rattle.calm_laws.proofs.Lists.{true_false}
 use Rattle.calm_laws.proofs.Moments.{GoesOn, goes_itself, goes_round_kept, moment_of, TellsNoBudget, no_budget, RunsOut, runs_out}
 use Rattle.calm_laws.proofs.Placed.{Stands, stands_kept, first_stands}
 use Rattle.calm_laws.proofs.Rounds.{in_round, delivered_kept, delivered_then}
@@ -69,10 +70,6 @@ all_recursive P (x ∷ xs) h = (h x (inl refl), all_recursive P xs (λ y a. h y 
 
 passed_event : (l : LineWords) → Passed ≡ EventLine l → ⊥
 passed_event l e = cc
-
-false_unless : (b : Bool) → (b ≡ true → ⊥) → b ≡ false
-false_unless true h = absurd (h refl)
-false_unless false h = refl
 
 low_member : (e : InEpoch) (s : ℕ) → IsMember e s → 1 ≤ s
 low_member e zero m = absurd (m refl)
@@ -177,7 +174,7 @@ calm_rounds_answer lines order within left (suc k) id members h = subst (λ (t :
     sited : (s : ℕ) → IsMember e s → Among s all_sites
     sited s m = (let i : IsInside first e s = start.inside s m in
         let low : s ≤ c.sites = place_within c first_lines s (Running i.view) i.here in
-        let few : c.sites ≤ 16 = schedule_few lines order in among_sites s (low_member e s m) (omega (arith, low, few)))
+        let few : c.sites ≤ sites_max = schedule_few lines order in among_sites s (low_member e s m) (omega (arith, low, few)))
 
     calm : IsCalm c lines (suc k) e out.deliveries
     calm = record {

@@ -22,7 +22,7 @@ use Rattle.epoch_laws.specs.Known.{Places}
 use Rattle.lawful_trace.specs.Progress.{Answers}
 use Rattle.tree_laws.specs.Calls.{log_after, log}
 use Rattle.tree_laws.specs.Users.{own_call, WaitingFact}
-use Rattle.one_tree_laws.specs.Places.{InsideFact, SiteIn, WorldFact}
+use Rattle.calm_sent_laws.specs.of_one_tree_laws.Places.{InsideFact, SiteIn, WorldFact}
 use Rattle.calm_laws.specs.Carrying.{frame_of, Goes, Carries, IsAllCarried}
 use Rattle.calm_laws.specs.Rounds.{Delivery}
 use Rattle.calm_laws.proofs.Calls.{CallsAsk, IsSent}

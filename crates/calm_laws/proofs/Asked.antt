@@ -18,7 +18,7 @@ use Rattle.tree_laws.specs.Packets.{serial_of}
 use Rattle.tree_laws.specs.Printed.{entries}
 use Rattle.tree_laws.specs.Serials.{asked_now, ops_asked}
 use Rattle.tree_laws.specs.Users.{own_call, AskingIs, WaitingFact}
-use Rattle.store_laws.proofs.AnswerAskers.{close_had, one_has, op_had}
+use Rattle.calm_sent_laws.proofs.of_store_laws.AnswerAskers.{op_had}
 
 -- the call asks something of this instance
 pub record Uses (c : Config) (trace : List Line) (f : Frame) (y : WaitingCall) (i : Serial) : Type 0 where
@@ -31,13 +31,6 @@ call_in c t f y fact = record { accepted = fact.caller; named = fact.named; made
 
 now_wanted : (c : Config) (t : List Line) (f : Frame) (y : WaitingCall) (fact : WaitingFact c t f y) → asked_now c t (own_call f.me f.boot y.call) ≡ fact.wanted
 now_wanted c t f y fact = ap (script c (entries t) (own_call f.me f.boot y.call) None) (sym fact.answers_are) ∙ fact.script_is
-
-pub close_wanted : (c : Config) (t : List Line) (f : Frame) (y : WaitingCall) (serial ss : ℕ) → WaitingFact c t f y → y.asking ≡ asking.Close serial ss → asked_now c t (own_call f.me f.boot y.call) ≡ want.Close (serial_of f.me serial)
-close_wanted c t f y serial ss fact is = now_wanted c t f y fact ∙ by_want fact.wanted (subst (AskingIs c t f.me (own_call f.me f.boot y.call) fact.wanted) is fact.asking_is)
-  where
-    by_want : (w : Want) → AskingIs c t f.me (own_call f.me f.boot y.call) w (asking.Close serial ss) → w ≡ want.Close (serial_of f.me serial)
-    by_want (want.Close inst) z = ap want.Close (sym z)
-    by_want _ z = absurd z
 
 pub op_wanted : (c : Config) (t : List Line) (f : Frame) (y : WaitingCall) (serial ss n : ℕ) (o : Op) (seen : List ℕ) → WaitingFact c t f y → y.asking ≡ asking.Op serial ss n o seen → asked_now c t (own_call f.me f.boot y.call) ≡ want.Do (serial_of f.me serial) o
 op_wanted c t f y serial ss n o seen fact is = now_wanted c t f y fact ∙ by_want fact.wanted (subst (AskingIs c t f.me (own_call f.me f.boot y.call) fact.wanted) is fact.asking_is)
@@ -54,16 +47,7 @@ op_number c t f y serial ss n o seen fact is = by_want fact.wanted (subst (Askin
     by_want (want.Do inst it) z = z.2 ∙ ap (ops_asked c t) (sym z.0)
     by_want _ z = absurd z
 
-pub uses_close : (c : Config) (t : List Line) (f : Frame) (y : WaitingCall) (serial ss : ℕ) → IsFollowed c t → WaitingFact c t f y → y.asking ≡ asking.Close serial ss → Uses c t f y (serial_of f.me serial)
-uses_close c t f y serial ss h fact is =
-    let k : asked_now c t (own_call f.me f.boot y.call) ≡ want.Close (serial_of f.me serial) = close_wanted c t f y serial ss fact is in
-    record { inside = call_in c t f y fact; asks = ap is_request k; has = close_had c t (own_call f.me f.boot y.call) (serial_of f.me serial) h (fact.caller, fact.named) k }
-
 pub uses_op : (c : Config) (t : List Line) (f : Frame) (y : WaitingCall) (serial ss n : ℕ) (o : Op) (seen : List ℕ) → IsFollowed c t → WaitingFact c t f y → y.asking ≡ asking.Op serial ss n o seen → Uses c t f y (serial_of f.me serial)
 uses_op c t f y serial ss n o seen h fact is =
     let k : asked_now c t (own_call f.me f.boot y.call) ≡ want.Do (serial_of f.me serial) o = op_wanted c t f y serial ss n o seen fact is in
     record { inside = call_in c t f y fact; asks = ap is_request k; has = op_had c t (own_call f.me f.boot y.call) (serial_of f.me serial) o h (fact.caller, fact.named) k }
-
--- one call at a time does so
-pub one_user : (c : Config) (t : List Line) (f : Frame) (y w : WaitingCall) (i : Serial) → IsFollowed c t → Uses c t f y i → Uses c t f w i → own_call f.me f.boot y.call ≡ own_call f.me f.boot w.call
-one_user c t f y w i h a b = one_has c t f.epoch i (own_call f.me f.boot y.call) (own_call f.me f.boot w.call) h a.inside b.inside a.asks b.asks a.has b.has

@@ -1,6 +1,7 @@
 -- A storage site has the instance that a call asks it to work on or to close: it has begun it.
 use Rattle.std.proofs.Common.{◌≡◌, ℕ, zero, suc, ◌≤◌, ◌⊎◌, Bool, true, false, cond, ◌&&◌, List, [], ◌∷◌, filter, Option, Some, refl, sym, ◌∙◌, ap, subst, inl, inr, arith}
 use Rattle.std.proofs.lemmas.Bool.Decides.{nat_tests}
+use Rattle.role_steps.proofs.of_plain_facts.Tests.{and_true, true_false}
 use Rattle.locus_ids.specs.Sites.{has}
 use Rattle.locus_ids.specs.declared.config.Config.{Config}
 use Rattle.locus_ids.specs.declared.ids.CallId.{CallId}
@@ -10,6 +11,7 @@ use Rattle.locus_ids.specs.declared.ids.Mode.{Mode}
 use Rattle.locus_ids.specs.declared.ids.Mode.TheVariants as mode
 use Rattle.locus_ids.specs.declared.ids.Serial.{Serial}
 use Rattle.locus_ids.specs.declared.ids.Stamp.{Stamp}
+use Rattle.locus_ids.specs.Sizes.{sites_max}
 use Rattle.schedule_lines.specs.declared.line.ScheduleLine.{ScheduleLine}
 use Rattle.trace_book.specs.declared.record.Record.{Record}
 use Rattle.trace_book.specs.declared.record.Record.TheVariants as says
@@ -17,28 +19,27 @@ use Rattle.role_steps.specs.Views.{Told, Shown, Begins, all_sites, first_site, i
 use Rattle.role_steps.specs.declared.rounds.InEpoch.{InEpoch}
 use Rattle.the_run.specs.Kept.{Among}
 use Rattle.the_run.specs.Worlds.{World, Line}
-use Rattle.vector_laws.specs.Written.{WasTold, past_of}
-use Rattle.pack_laws.specs.Packs.{ToldPacked}
-use Rattle.lock_laws.specs.Going.{BegunAt, WasBegunAt}
-use Rattle.begun_laws.specs.Asked.{IsBegun, WhatIsAskedIsBegun}
-use Rattle.begun_laws.specs.Facts.{GrantedAt}
-use Rattle.begun_laws.proofs.Asked.{asked_begun}
-use Rattle.begun_laws.proofs.FactsRun.{Both, both_kept, first_world_fact}
+use Rattle.calm_table_laws.specs.of_vector_laws.Written.{WasTold, past_of}
+use Rattle.calm_table_laws.specs.of_pack_laws.Packs.{ToldPacked}
+use Rattle.calm_table_laws.specs.of_lock_laws.Going.{BegunAt, WasBegunAt}
+use Rattle.calm_table_laws.specs.of_lock_laws.Asked.{IsBegun, WhatIsAskedIsBegun}
+use Rattle.calm_table_laws.specs.of_lock_laws.Facts.{GrantedAt}
+use Rattle.calm_table_laws.proofs.of_lock_laws.Asked.{asked_begun}
+use Rattle.calm_table_laws.proofs.of_lock_laws.FactsRun.{Both, both_kept, first_world_fact}
 use Rattle.run_laws.proofs.Run.{first_good}
 use Rattle.tree_laws.specs.Following.{IsFollowed, MakesInTime, MayTell}
 use Rattle.tree_laws.specs.Past.{BeginsIt, GrantRecord, Printed, WasBegun, WasGranted, WasNamed}
 use Rattle.tree_laws.proofs.Making.{IsAskedAt, begun_asked}
-use Rattle.store_laws.specs.Rests.{IsAsGranted}
-use Rattle.store_laws.proofs.Begun.{granted_named}
-use Rattle.store_laws.proofs.Numbers.{serial_key_eq}
-use Rattle.store_laws.proofs.Places.{plain_place}
-use Rattle.rest_laws.proofs.StoreStepNamed.{named_low}
-use Rattle.rest_laws.proofs.StoreStepResting.{store_rests}
-use Rattle.one_tree_laws.specs.Rest.{EachRest, Past}
+use Rattle.calm_sent_laws.specs.of_store_laws.Rests.{IsAsGranted}
+use Rattle.calm_sent_laws.proofs.of_store_laws.Begun.{granted_named}
+use Rattle.calm_sent_laws.proofs.of_store_laws.Numbers.{serial_key_eq}
+use Rattle.calm_sent_laws.proofs.of_store_laws.Places.{plain_place}
+use Rattle.fit_laws.proofs.of_rest_laws.StoreStepNamed.{named_low}
+use Rattle.fit_laws.proofs.of_rest_laws.StoreStepResting.{store_rests}
+use Rattle.calm_sent_laws.specs.of_one_tree_laws.Rest.{EachRest, Past}
 use Rattle.orderly_laws.proofs.Choosing.{among_sites}
 use Rattle.calm_laws.specs.Carrying.{IsMember, own_serial}
 use Rattle.calm_laws.specs.Rounds.{IsInRound}
-use Rattle.calm_laws.proofs.Lists.{true_false}
 use Rattle.calm_laws.proofs.Rounds.{in_round}
 
 -- in each world of a round
@@ -85,12 +86,12 @@ begun_of (x ∷ older) e key at file (inl h) = over x.told h
     over z k = absurd k
 
 -- who begins an instance begins one of a site 1 to 16
-pub begun_low : (c : Config) (trace : List Line) → Past c trace → (s : ℕ) (e : EpochId) (i : Serial) (f : FileId) → WasBegun trace s e i f → i.us ≤ 16
+pub begun_low : (c : Config) (trace : List Line) → Past c trace → (s : ℕ) (e : EpochId) (i : Serial) (f : FileId) → WasBegun trace s e i f → i.us ≤ sites_max
 begun_low c trace past s e i f b = over (begun_asked c trace past.followed e s i f b)
   where
-    over : WasNamed trace e i ⊎ IsAskedAt c trace e s i f → i.us ≤ 16
+    over : WasNamed trace e i ⊎ IsAskedAt c trace e s i f → i.us ≤ sites_max
     over (inl named) = named_low c trace past.followed past.rest.each e i named
-    over (inr k) = subst (λ (n : ℕ). n ≤ 16) (sym k.user_is) ((store_rests c trace past).sites e k.call k.asks.inside)
+    over (inr k) = subst (λ (n : ℕ). n ≤ sites_max) (sym k.user_is) ((store_rests c trace past).sites e k.call k.asks.inside)
 
 -- a make is begun where its grant says
 make_begun : (c : Config) (trace : List Line) → IsFollowed c trace → (e : EpochId) (d : CallId) (request : ℕ) (i : Serial) (f : FileId) (stamp : Option Stamp) (ss : ℕ) → WasGranted trace e d request i mode.Make f stamp ss → WasBegun trace ss e i f
@@ -110,7 +111,7 @@ make_begun c (x ∷ older) h e d request i f stamp ss (inl k) = inr (over x.told
 
 -- ---- the storage site that is asked has begun it ----
 
-pub asked_here : (c : Config) (trace : List Line) → Past c trace → (e : EpochId) (us serial ss : ℕ) → us ≤ 16 → IsBegun trace e us serial ss → (f : FileId) × WasBegun trace ss e (own_serial us serial) f
+pub asked_here : (c : Config) (trace : List Line) → Past c trace → (e : EpochId) (us serial ss : ℕ) → us ≤ sites_max → IsBegun trace e us serial ss → (f : FileId) × WasBegun trace ss e (own_serial us serial) f
 asked_here c trace past e us serial ss low h = over ((store_rests c trace past).granted e g.call g.request i g.how g.file g.stamp ss was)
   where
     i : Serial
@@ -174,9 +175,6 @@ first_there test (x ∷ xs) s a k = over (test x) refl (λ b. first_there test x
     over false e later (inl same) = absurd (true_false (sym k ∙ (ap test same ∙ e)))
     over false e later (inr h) = later h
 
-both_are : (a b : Bool) → a ≡ true → b ≡ true → (a && b) ≡ true
-both_are a b e f = ap (λ (x : Bool). x && b) e ∙ f
-
 member_test : (e : InEpoch) (s : ℕ) → IsMember e s → is_member e.members s ≡ true
 member_test e s h = grind (arith, nat_tests)
 
@@ -185,5 +183,5 @@ low_member e zero m = absurd (m refl)
 low_member e (suc s) m = omega arith
 
 -- a member with a pack of the group: so some member synchronizes it
-pub sync_there : (c : Config) (e : InEpoch) (group s : ℕ) → IsMember e s → s ≤ 16 → has (pack_sites c group) s ≡ true → (css : ℕ) × (sync_site c e.members group ≡ Some css)
-sync_there c e group s member low packed = first_there (λ t. has (pack_sites c group) t && is_member e.members t) all_sites s (among_sites s (low_member e s member) low) (both_are (has (pack_sites c group) s) (is_member e.members s) packed (member_test e s member))
+pub sync_there : (c : Config) (e : InEpoch) (group s : ℕ) → IsMember e s → s ≤ sites_max → has (pack_sites c group) s ≡ true → (css : ℕ) × (sync_site c e.members group ≡ Some css)
+sync_there c e group s member low packed = first_there (λ t. has (pack_sites c group) t && is_member e.members t) all_sites s (among_sites s (low_member e s member) low) (and_true (has (pack_sites c group) s) (is_member e.members s) packed (member_test e s member))

@@ -1,13 +1,13 @@
 -- A packet that a member takes in its epoch is of that epoch.
 use Rattle.std.proofs.Common.{◌≡◌, ◌≢◌, ℕ, ◌==◌, Bool, true, false, ◌&&◌, ◌||◌, not, Some, refl, sym, ◌∙◌, ap, arith}
 use Rattle.std.proofs.lemmas.Bool.Decides.{nat_tests}
+use Rattle.role_steps.proofs.of_plain_facts.Tests.{both_true, true_false}
 use Rattle.trace_book.specs.Same.{same_epoch}
 use Rattle.wire_messages.specs.declared.packet.Packet.{Packet}
 use Rattle.role_steps.specs.Views.{SiteView, boot_in}
 use Rattle.role_steps.specs.declared.rounds.InEpoch.{InEpoch}
 use Rattle.the_run.specs.Steps.{is_dropped, is_forming, is_framed}
 use Rattle.tree_laws.proofs.Names.{same_epoch_eq}
-use Rattle.calm_laws.proofs.Lists.{true_false, both_true}
 
 framed : (p : Packet) (v : SiteView) → is_forming p ≡ false → is_dropped p v ≡ false → is_framed p v.epoch ≡ true
 framed p v forms taken = undropped (p.to_boot == v.boot) (is_forming p) (is_framed p v.epoch) forms taken

@@ -2,6 +2,9 @@
 use Rattle.std.proofs.Common.{◌≡◌, ℕ, ◌<◌, ◌≤◌, ◌==◌, Bool, true, false, ◌&&◌, List, [], ◌∷◌, ◌++◌, Option, Some, None, refl, sym, ◌∙◌, ap, subst, inl, inr}
 use Rattle.std.specs.List.{list_any}
 use Rattle.std.specs.Option.{is_some}
+use Rattle.role_steps.proofs.of_plain_facts.Numbers.{apart_test, equal_test}
+use Rattle.role_steps.proofs.of_plain_facts.Options.{some_same}
+use Rattle.role_steps.proofs.of_plain_facts.Tests.{true_false}
 use Rattle.locus_ids.specs.Sites.{has}
 use Rattle.locus_ids.specs.declared.config.Config.{Config}
 use Rattle.locus_ids.specs.declared.ids.EpochId.{EpochId}
@@ -9,6 +12,7 @@ use Rattle.locus_ids.specs.declared.ids.FileId.{FileId}
 use Rattle.locus_ids.specs.declared.ids.Serial.{Serial}
 use Rattle.locus_ids.specs.declared.refusal.Refusal.{Refusal}
 use Rattle.locus_ids.specs.declared.sites.Sites.{Sites}
+use Rattle.locus_ids.specs.Sizes.{sites_max}
 use Rattle.trace_book.specs.Same.{same_serial}
 use Rattle.trace_book.specs.declared.operation.What.{What}
 use Rattle.trace_book.specs.declared.record.Record.{Record}
@@ -32,20 +36,19 @@ use Rattle.role_steps.specs.declared.synchronizing.OpenRow.{OpenRow}
 use Rattle.role_steps.specs.declared.synchronizing.OpenStage.TheVariants as stage
 use Rattle.role_steps.specs.declared.synchronizing.SyncTable.{SyncTable}
 use Rattle.role_steps.specs.declared.users.WaitingCall.{WaitingCall}
-use Rattle.role_steps.proofs.Rows.{differ, row_other}
+use Rattle.role_steps.proofs.Rows.{row_other}
 use Rattle.the_run.specs.Kept.{Among}
 use Rattle.the_run.proofs.Boots.{at_each}
-use Rattle.store_laws.proofs.Numbers.{serial_key_eq}
-use Rattle.store_laws.proofs.Tabled.{latest_other}
-use Rattle.sync_laws.proofs.Adding.{latest_found, latest_same}
+use Rattle.calm_sent_laws.proofs.of_store_laws.Numbers.{serial_key_eq}
+use Rattle.calm_sent_laws.proofs.of_store_laws.Tabled.{latest_other}
+use Rattle.calm_sent_laws.proofs.of_sync_laws.Adding.{latest_found, latest_same}
 use Rattle.orderly_laws.proofs.Formed.{among_left, among_right}
 use Rattle.calm_table_laws.specs.Shapes.{HoldsListed, IsRequest, IsRequestOf, TableShape}
 use Rattle.calm_table_laws.proofs.Shaping.{TellsRecord, TellsNamed, early_keeps}
 use Rattle.calm_laws.specs.Carrying.{IsMember, frame_of, held_request, look_body, open_body, own_serial}
 use Rattle.calm_laws.specs.Rounds.{AnswersAgain, look_of}
-use Rattle.calm_laws.proofs.Lists.{true_false, some_is, every_among, row_key}
+use Rattle.calm_laws.proofs.Lists.{every_among, row_key}
 use Rattle.calm_laws.proofs.LookRequests.{LooksOn, taken}
-use Rattle.calm_laws.proofs.UserParts.{same_true}
 use Rattle.calm_laws.proofs.CalmAnswerLooksKnown.{key_process, key_site}
 use Rattle.calm_laws.proofs.CalmAnswerOpenTaken.{OpensOn, grows_itself, grows_then, open_grows, open_started, open_taken, opens_later}
 use Rattle.calm_laws.proofs.CalmAnswerTurning.{Grows}
@@ -219,7 +222,7 @@ module _ (c : Config) (e : InEpoch) (css : ℕ) (came : EpochId → ℕ → Body
 
   -- the request of the process among those that wait
   own_test : (s process : ℕ) (b : Body) → is_early_of s process (held_request s process b) ≡ true
-  own_test s process b = both (s == s) (process == process) (same_true s s refl) (same_true process process refl)
+  own_test s process b = both (s == s) (process == process) (equal_test s s refl) (equal_test process process refl)
     where
       both : (i j : Bool) → i ≡ true → j ≡ true → (i && j) ≡ true
       both i j p q = ap (λ (z : Bool). z && j) p ∙ q
@@ -238,7 +241,7 @@ module _ (c : Config) (e : InEpoch) (css : ℕ) (came : EpochId → ℕ → Body
     Ours es = (x : Early) → Among x es → is_early_of s y.process x ≡ true → x ≡ held_request s y.process (look_body y file w take)
 
     other_key : (x : Early) → x.process < 256 → is_early_of s y.process x ≡ false → (process_key x.site x.process == process_key s y.process) ≡ false
-    other_key x low h = differ (process_key x.site x.process) (process_key s y.process) (λ z. true_false (sym (both (same_true x.site s (key_site x.site x.process s y.process low small z)) (same_true x.process y.process (key_process x.site x.process s y.process low small z))) ∙ h))
+    other_key x low h = apart_test (process_key x.site x.process) (process_key s y.process) (λ z. true_false (sym (both (equal_test x.site s (key_site x.site x.process s y.process low small z)) (equal_test x.process y.process (key_process x.site x.process s y.process low small z))) ∙ h))
       where
         both : {i j : Bool} → i ≡ true → j ≡ true → (i && j) ≡ true
         both {i} {j} p q = ap (λ (z : Bool). z && j) p ∙ q
@@ -266,7 +269,7 @@ module _ (c : Config) (e : InEpoch) (css : ℕ) (came : EpochId → ℕ → Body
 
   -- ---- an open ----
 
-  module _ (s : ℕ) (y : WaitingCall) (serial : ℕ) (file : FileId) (q : Opening) (own : IsMember e css) (member : IsMember e s) (low_site : s ≤ 16) (known : Serial → Type 0) (hand : Early → Type 0) where
+  module _ (s : ℕ) (y : WaitingCall) (serial : ℕ) (file : FileId) (q : Opening) (own : IsMember e css) (member : IsMember e s) (low_site : s ≤ sites_max) (known : Serial → Type 0) (hand : Early → Type 0) where
     abbrev inst : Serial
     inst = own_serial s serial
 
@@ -277,15 +280,15 @@ module _ (c : Config) (e : InEpoch) (css : ℕ) (came : EpochId → ℕ → Body
     OursOpen es = (x : Early) → Among x es → is_early_of s y.process x ≡ true → x ≡ held_request s y.process (open_body y serial file q)
 
     -- a new row is of the instance where it has its key
-    new_well : (r : OpenRow) (t : SyncTable) → r.inst.us ≤ 16 → (r.stage ≡ stage.Ended → ⊥) → Well t → Well (with_open r t)
+    new_well : (r : OpenRow) (t : SyncTable) → r.inst.us ≤ sites_max → (r.stage ≡ stage.Ended → ⊥) → Well t → Well (with_open r t)
     new_well r t low past well z found = at_each (open_key r) (serial_key (own_serial s serial)) ((z.inst ≡ own_serial s serial) × (z.stage ≡ stage.Ended → ⊥))
-        (λ eq. its (some_is r z (sym (latest_same open_key r t.opens) ∙ (ap (λ (k : ℕ). row open_key k (with_open r t).opens) eq ∙ found))) eq)
+        (λ eq. its (some_same r z (sym (latest_same open_key r t.opens) ∙ (ap (λ (k : ℕ). row open_key k (with_open r t).opens) eq ∙ found))) eq)
         (λ ne. well z (sym (latest_other open_key r (serial_key (own_serial s serial)) t.opens ne) ∙ found))
       where
         its : r ≡ z → open_key r ≡ serial_key (own_serial s serial) → (z.inst ≡ own_serial s serial) × (z.stage ≡ stage.Ended → ⊥)
         its same eq = (ap (λ (k : OpenRow). k.inst) (sym same) ∙ serial_key_eq r.inst (own_serial s serial) low low_site eq, λ g. past (ap (λ (k : OpenRow). k.stage) same ∙ g))
 
-    open_well : (us : ℕ) (o : OpenRequest) (t : SyncTable) → us ≤ 16 → Well t → Well (takes_open f us o t).view
+    open_well : (us : ℕ) (o : OpenRequest) (t : SyncTable) → us ≤ sites_max → Well t → Well (takes_open f us o t).view
     open_well us o t low well = by_row (open_row t (own_serial us o.serial))
       where
         refused_ended : (why : Refusal) → stage.Refused why ≡ stage.Ended → ⊥
@@ -302,7 +305,7 @@ module _ (c : Config) (e : InEpoch) (css : ℕ) (came : EpochId → ℕ → Body
         by_row None = by_decision (decision f t us o o.how)
         by_row (Some r) = well
 
-    early_well : (us : ℕ) (b : Body) (t : SyncTable) → us ≤ 16 → Well t → Well (takes_early f us b t).view
+    early_well : (us : ℕ) (b : Body) (t : SyncTable) → us ≤ sites_max → Well t → Well (takes_early f us b t).view
     early_well us (body.Open number call who request g way) t low well = open_well us (record { serial = number; call = call; process = who; request = request; file = g; how = way }) t low well
     early_well us (body.Look call who request times g what) t low well = λ r found. well r (ap (λ (xs : List OpenRow). row open_key (serial_key (own_serial s serial)) xs) (sym (look_same f us (record { call = call; process = who; request = request; take = times; file = g; what = what }) t).opens) ∙ found)
     early_well us _ t low well = well
@@ -310,7 +313,7 @@ module _ (c : Config) (e : InEpoch) (css : ℕ) (came : EpochId → ℕ → Body
     abbrev its_open : OpenRequest
     its_open = record { serial = serial; call = y.call; process = y.process; request = y.request; file = file; how = q }
 
-    pub open_handed : (es : List Early) (t : SyncTable) → t.started ≡ true → Shape t → Well t → AllRequests t.group es → Every (λ (x : Early). x.site ≤ 16) es → Every (λ (x : Early). OpensKnown known t x.site x.body) es → OursOpen es → Among (held_request s y.process (open_body y serial file q)) es →
+    pub open_handed : (es : List Early) (t : SyncTable) → t.started ≡ true → Shape t → Well t → AllRequests t.group es → Every (λ (x : Early). x.site ≤ sites_max) es → Every (λ (x : Early). OpensKnown known t x.site x.body) es → OursOpen es → Among (held_request s y.process (open_body y serial file q)) es →
         OpensOn c e css s serial (takes_all_early f es t).view (takes_all_early f es t).sent
     open_handed [] t started shape well all low fresh ours a = absurd a
     open_handed (x ∷ xs) t started shape well all low fresh ours a = by_test (is_early_of s y.process x) refl (λ z. open_handed xs (takes_early f x.site x.body t).view (early_started f x.site x.body t ∙ started) (shape_on x t all.0 shape) (early_well x.site x.body t low.0 well)

@@ -1,6 +1,9 @@
 -- The last look of a process in a group is that of a call that has come so far; so it is no later than what the process asks now.
 use Rattle.std.proofs.Common.{◌≡◌, ℕ, ◌+◌, ◌-◌, ◌<◌, ◌≤◌, ◌==◌, Bool, true, false, ◌&&◌, cond, List, [], ◌∷◌, ◌++◌, length, take, Option, Some, None, refl, sym, ◌∙◌, ap, subst, ◌⊎◌, inl, inr, arith}
 use Rattle.std.proofs.lemmas.Bool.Decides.{nat_tests}
+use Rattle.role_steps.proofs.of_plain_facts.Numbers.{equal}
+use Rattle.role_steps.proofs.of_plain_facts.Options.{none_some, some_same}
+use Rattle.role_steps.proofs.of_plain_facts.Tests.{and_first, and_second, true_false}
 use Rattle.locus_ids.specs.declared.config.Config.{Config}
 use Rattle.locus_ids.specs.declared.ids.CallId.{CallId}
 use Rattle.locus_ids.specs.declared.ids.EpochId.{EpochId}
@@ -29,19 +32,15 @@ use Rattle.tree_laws.proofs.Alone.{compare, call_is}
 use Rattle.tree_laws.proofs.Awaiting.{by_own}
 use Rattle.tree_laws.proofs.Hearing.{take_own}
 use Rattle.tree_laws.proofs.Looking.{mend_asks}
-use Rattle.tree_laws.proofs.Names.{some_is, test_same, true_false, same_epoch_eq}
+use Rattle.tree_laws.proofs.Names.{same_epoch_eq}
 use Rattle.tree_laws.proofs.OneBoot.{one_boot}
 use Rattle.tree_laws.proofs.Scripts.{named_stays}
-use Rattle.order_laws.proofs.Alone.{first_of, second_of}
-use Rattle.order_laws.specs.ProcessAnswered.{WasAnswered}
-use Rattle.order_laws.proofs.ProcessCurrent.{Reached, reached}
+use Rattle.fit_laws.specs.of_order_laws.ProcessAnswered.{WasAnswered}
+use Rattle.fit_laws.proofs.of_order_laws.ProcessCurrent.{Reached, reached}
 use Rattle.calm_laws.proofs.CalmAnswerOneCall.{LooksIn, IsCaller, earlier_idle}
 
 abbrev With : ℕ → Told → List Line → List Line
 With n x older = record { number = n; told = x } ∷ older
-
-none_some : {A : Type 0} (a : A) → ◌≡◌ {A = Option A} None (Some a) → ⊥
-none_some a e = cc
 
 -- ---- whose look was the last ----
 
@@ -101,18 +100,18 @@ module _ (c : Config) (n : ℕ) (older : List Line) (at : EpochId) (it : CallId)
     where
       over : (same_epoch at e && ((file.group == group) && ((it.site == us) && (caller.process == process)))) ≡ true → IsLookedBy c (With n x older) e group us process (turn_by it number (tries older it))
       over y =
-          let a : ((file.group == group) && ((it.site == us) && (caller.process == process))) ≡ true = second_of (same_epoch at e) _ y in
-          let b : ((it.site == us) && (caller.process == process)) ≡ true = second_of (file.group == group) _ a in
-          subst (λ (p : ℕ). IsLookedBy c (With n x older) e group us p (turn_by it number (tries older it))) (test_same caller.process process (second_of (it.site == us) _ b))
-          (subst (λ (m : ℕ). IsLookedBy c (With n x older) e group m caller.process (turn_by it number (tries older it))) (test_same it.site us (first_of (it.site == us) _ b))
-          (subst (λ (g : ℕ). IsLookedBy c (With n x older) e g it.site caller.process (turn_by it number (tries older it))) (test_same file.group group (first_of (file.group == group) _ a))
-          (subst (λ (i : EpochId). IsLookedBy c (With n x older) i file.group it.site caller.process (turn_by it number (tries older it))) (same_epoch_eq at e (first_of (same_epoch at e) _ y)) own)))
+          let a : ((file.group == group) && ((it.site == us) && (caller.process == process))) ≡ true = and_second (same_epoch at e) _ y in
+          let b : ((it.site == us) && (caller.process == process)) ≡ true = and_second (file.group == group) _ a in
+          subst (λ (p : ℕ). IsLookedBy c (With n x older) e group us p (turn_by it number (tries older it))) (equal caller.process process (and_second (it.site == us) _ b))
+          (subst (λ (m : ℕ). IsLookedBy c (With n x older) e group m caller.process (turn_by it number (tries older it))) (equal it.site us (and_first (it.site == us) _ b))
+          (subst (λ (g : ℕ). IsLookedBy c (With n x older) e g it.site caller.process (turn_by it number (tries older it))) (equal file.group group (and_first (file.group == group) _ a))
+          (subst (λ (i : EpochId). IsLookedBy c (With n x older) i file.group it.site caller.process (turn_by it number (tries older it))) (same_epoch_eq at e (and_first (same_epoch at e) _ y)) own)))
 
   look_looked : (e : EpochId) (group us process : ℕ) (u : Turn) → (last_turn older e group us process ≡ Some u → IsLookedBy c (With n x older) e group us process u) → last_turn (With n x older) e group us process ≡ Some u → IsLookedBy c (With n x older) e group us process u
   look_looked e group us process u later l = over (is_look_of older e group us at it file (call_named (entries older) it) process) refl l
     where
       over : (b : Bool) → is_look_of older e group us at it file (call_named (entries older) it) process ≡ b → cond b (Some (turn_by it number (tries older it))) (last_turn older e group us process) ≡ Some u → IsLookedBy c (With n x older) e group us process u
-      over true test k = subst (IsLookedBy c (With n x older) e group us process) (some_is (turn_by it number (tries older it)) u k) (its e group us process test)
+      over true test k = subst (IsLookedBy c (With n x older) e group us process) (some_same (turn_by it number (tries older it)) u k) (its e group us process test)
       over false test k = later k
 
 record_looked : (c : Config) (n : ℕ) (r : Record) (older : List Line) (e : EpochId) (group us process : ℕ) (u : Turn) → IsFollowed c older → MayTell c older (Shown r) → (last_turn older e group us process ≡ Some u → IsLookedBy c (With n (Shown r) older) e group us process u) → turn_record older e group us process r (last_turn older e group us process) ≡ Some u → IsLookedBy c (With n (Shown r) older) e group us process u

@@ -1,6 +1,9 @@
 -- In each world of a round in which all members are together the tables know the looks that are asked: none later, this one by its
 -- answer, and where a request of the process is held, it is this one.
 use Rattle.std.proofs.Common.{◌≡◌, ℕ, ◌+◌, ◌<◌, ◌≤◌, ◌==◌, true, false, ◌&&◌, List, [], ◌∷◌, length, Some, refl, sym, ◌∙◌, ap, subst, ◌⊎◌, inl, inr, arith}
+use Rattle.role_steps.proofs.of_plain_facts.Numbers.{equal}
+use Rattle.role_steps.proofs.of_plain_facts.Options.{some_same}
+use Rattle.role_steps.proofs.of_plain_facts.Tests.{both_true}
 use Rattle.locus_ids.specs.declared.config.Config.{Config}
 use Rattle.locus_ids.specs.declared.ids.CallId.{CallId}
 use Rattle.locus_ids.specs.declared.ids.EpochId.{EpochId}
@@ -51,24 +54,24 @@ use Rattle.tree_laws.specs.Users.{own_call, AskingIs, WaitingFact}
 use Rattle.tree_laws.proofs.Alone.{call_is}
 use Rattle.tree_laws.proofs.Looking.{looked_low}
 use Rattle.tree_laws.proofs.OneBoot.{one_boot}
-use Rattle.user_laws.proofs.Looked.{looks_so}
-use Rattle.one_tree_laws.proofs.UserStepResting.{steady}
-use Rattle.rest_laws.proofs.StoreStepKnown.{known_call}
-use Rattle.rest_laws.proofs.EpochTreeStarted.{looked_started, named_started}
-use Rattle.one_tree_laws.specs.Places.{InsideFact, NumberedFact}
-use Rattle.one_tree_laws.specs.Rest.{Past}
-use Rattle.one_tree_laws.proofs.Inside.{table_here}
-use Rattle.rest_laws.proofs.Asked.{user_rests}
+use Rattle.calm_sent_laws.proofs.of_user_laws.Looked.{looks_so}
+use Rattle.calm_sent_laws.proofs.of_one_tree_laws.UserStepResting.{steady}
+use Rattle.fit_laws.proofs.of_rest_laws.StoreStepKnown.{known_call}
+use Rattle.fit_laws.proofs.of_rest_laws.EpochTreeStarted.{looked_started, named_started}
+use Rattle.calm_sent_laws.specs.of_one_tree_laws.Places.{InsideFact, NumberedFact}
+use Rattle.calm_sent_laws.specs.of_one_tree_laws.Rest.{Past}
+use Rattle.calm_sent_laws.proofs.of_one_tree_laws.Inside.{table_here}
+use Rattle.fit_laws.proofs.of_rest_laws.Asked.{user_rests}
 use Rattle.calm_table_laws.specs.Shapes.{AnswersLast, CameIn, HoldsListed, IsAnswered, IsNamedIn, IsOwnAnswer, IsRequest, IsRequestOf, IsStat, TableShape}
 use Rattle.calm_laws.specs.Carrying.{IsMember, frame_of, held_request, look_body, IsServedByHolders}
 use Rattle.calm_laws.specs.Rounds.{AnswersAgain, KnowsLook, look_of}
 use Rattle.calm_laws.proofs.CloseAgreed.{past_of}
 use Rattle.calm_laws.proofs.Delivered.{inside_fact}
 use Rattle.calm_laws.proofs.Facts.{RoundFacts, round_facts}
-use Rattle.calm_laws.proofs.Lists.{both_true, every_among, row_key, some_is}
+use Rattle.calm_laws.proofs.Lists.{every_among, row_key}
 use Rattle.calm_laws.proofs.LookRequests.{AllLooksAreKnown}
 use Rattle.calm_laws.proofs.Members.{sync_is}
-use Rattle.calm_laws.proofs.UserParts.{asked_is, equal}
+use Rattle.calm_laws.proofs.UserParts.{asked_is}
 use Rattle.calm_laws.proofs.CalmAnswerOneCall.{LooksIn, IsCaller, look_in, one_caller, open_in}
 use Rattle.calm_laws.proofs.CalmAnswerLastTurn.{last_low, not_before}
 use Rattle.calm_laws.proofs.CalmAnswerShapes.{shape_of}
@@ -152,7 +155,7 @@ module _ (c : Config) (t : List Line) (past : Past c t) (e : InEpoch) (s css : �
 
   -- the call of a packet
   pub packet_caller : (n process group : ℕ) (other : CallId) → (i : IsCallOf t e.id s n process other) → process ≡ y.process → LooksIn group i.inside.accepted.words → IsCaller c t e.id group other s y.process
-  packet_caller n process group other i same mends = record { inside = i.inside; site_is = i.site_is; process_is = ap (λ (z : Waiting). z.process) (some_is i.inside.accepted i.caller (sym i.inside.named ∙ i.named)) ∙ (i.process_is ∙ same); mends = mends }
+  packet_caller n process group other i same mends = record { inside = i.inside; site_is = i.site_is; process_is = ap (λ (z : Waiting). z.process) (some_same i.inside.accepted i.caller (sym i.inside.named ∙ i.named)) ∙ (i.process_is ∙ same); mends = mends }
 
   -- a call of the site with this number is it
   pub call_same : (other : CallId) → IsCallIn (entries t) e.id other → other.site ≡ s → other.n ≡ y.call → other ≡ d

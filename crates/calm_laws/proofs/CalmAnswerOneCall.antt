@@ -1,6 +1,8 @@
 -- Of two calls of a process that ask something in an epoch each is the other, mends of one group among them.
 use Rattle.std.proofs.Common.{◌≡◌, ℕ, ◌<◌, ◌==◌, Bool, true, false, cond, List, [], ◌∷◌, Option, Some, None, refl, sym, ◌∙◌, ap, subst, ◌⊎◌, inl, inr, arith}
 use Rattle.std.proofs.lemmas.Bool.Decides.{nat_tests}
+use Rattle.role_steps.proofs.of_plain_facts.Options.{none_some, some_same}
+use Rattle.role_steps.proofs.of_plain_facts.Tests.{true_false}
 use Rattle.locus_ids.specs.declared.config.Config.{Config}
 use Rattle.locus_ids.specs.declared.ids.CallId.{CallId}
 use Rattle.locus_ids.specs.declared.ids.EpochId.{EpochId}
@@ -42,11 +44,7 @@ use Rattle.tree_laws.specs.Processes.{IsMend, OnlyMends, WaitsFor}
 use Rattle.tree_laws.specs.Serials.{asked_now}
 use Rattle.tree_laws.proofs.Alone.{compare, call_is}
 use Rattle.tree_laws.proofs.Later.{earlier_is_over}
-use Rattle.tree_laws.proofs.Names.{some_is, true_false}
 use Rattle.tree_laws.proofs.OneBoot.{one_boot}
-
-none_some : {A : Type 0} (a : A) → ◌≡◌ {A = Option A} None (Some a) → ⊥
-none_some a e = cc
 
 -- ---- a mend wants of files its own directory alone ----
 
@@ -157,12 +155,12 @@ system_accept : (c : Config) (n s process : ℕ) (new : CallId) (words : Call) (
 system_accept c n s process new (call.Mend file) older may k d w named is = over (same_call new d) named
   where
     over : (b : Bool) → cond b (Some (accepted_as (entries older) s process new (call.Mend file))) (call_named (entries older) d) ≡ Some w → w.process ≡ 0
-    over true e = sym (ap (λ (x : Waiting). x.process) (some_is (accepted_as (entries older) s process new (call.Mend file)) w e)) ∙ may.row.system
+    over true e = sym (ap (λ (x : Waiting). x.process) (some_same (accepted_as (entries older) s process new (call.Mend file)) w e)) ∙ may.row.system
     over false e = k d w e is
 system_accept c n s process new words older may k d w named is = over (same_call new d) named
   where
     over : (b : Bool) → cond b (Some (accepted_as (entries older) s process new words)) (call_named (entries older) d) ≡ Some w → w.process ≡ 0
-    over true e = absurd (subst (λ (x : Waiting). IsMend x.words) (sym (some_is (accepted_as (entries older) s process new words) w e)) is)
+    over true e = absurd (subst (λ (x : Waiting). IsMend x.words) (sym (some_same (accepted_as (entries older) s process new words) w e)) is)
     over false e = k d w e is
 
 system_record : (c : Config) (n : ℕ) (r : Record) (older : List Line) → MayTell c older (Shown r) → MendsAreSystem older → MendsAreSystem (record { number = n; told = Shown r } ∷ older)

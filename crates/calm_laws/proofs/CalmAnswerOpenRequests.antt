@@ -3,10 +3,12 @@
 use Rattle.std.proofs.Common.{◌≡◌, ℕ, ◌≤◌, ◌⊎◌, Bool, true, false, ◌||◌, cond, nat_lt, List, [], ◌∷◌, ◌++◌, map, Option, Some, None, refl, sym, ◌∙◌, ap, subst, inl, inr}
 use Rattle.std.specs.List.{list_any}
 use Rattle.std.specs.Option.{is_some}
+use Rattle.role_steps.proofs.of_plain_facts.Tests.{true_false}
 use Rattle.locus_ids.specs.declared.config.Config.{Config}
 use Rattle.locus_ids.specs.declared.ids.EpochId.{EpochId}
 use Rattle.locus_ids.specs.declared.ids.FileId.{FileId}
 use Rattle.locus_ids.specs.declared.ids.Serial.{Serial}
+use Rattle.locus_ids.specs.Sizes.{sites_max}
 use Rattle.schedule_lines.specs.declared.line.ScheduleLine.{ScheduleLine}
 use Rattle.wire_messages.specs.Bodies.{kind_number}
 use Rattle.wire_messages.specs.declared.body.Body.{Body}
@@ -35,11 +37,11 @@ use Rattle.epoch_laws.specs.Forming.{FormsNone}
 use Rattle.epoch_laws.specs.Known.{Places}
 use Rattle.tree_laws.specs.Packets.{BodyFact, OpenFact, PacketFact}
 use Rattle.tree_laws.specs.Users.{WaitingFact}
-use Rattle.one_tree_laws.specs.Places.{InsideFact}
-use Rattle.one_tree_laws.specs.Rest.{Past}
-use Rattle.one_tree_laws.proofs.Inside.{table_here}
-use Rattle.one_tree_laws.proofs.Parts.{tables_rise}
-use Rattle.one_tree_laws.proofs.Rising.{Rising}
+use Rattle.calm_sent_laws.specs.of_one_tree_laws.Places.{InsideFact}
+use Rattle.calm_sent_laws.specs.of_one_tree_laws.Rest.{Past}
+use Rattle.calm_sent_laws.proofs.of_one_tree_laws.Inside.{table_here}
+use Rattle.calm_sent_laws.proofs.of_one_tree_laws.Parts.{tables_rise}
+use Rattle.calm_sent_laws.proofs.of_one_tree_laws.Rising.{Rising}
 use Rattle.orderly_laws.specs.Calm.{AreTogether}
 use Rattle.orderly_laws.proofs.Formed.{among_right}
 use Rattle.orderly_laws.proofs.Rounds.{next_among}
@@ -53,7 +55,7 @@ use Rattle.calm_laws.proofs.Ends.{handles}
 use Rattle.calm_laws.proofs.Facts.{RoundFacts, round_facts}
 use Rattle.calm_laws.proofs.Handing.{StillWaits, IsHandedOn}
 use Rattle.calm_laws.proofs.Keeping.{AllKeep, one_keeps, roles_itself, carries_kept, held_kept, reported_kept}
-use Rattle.calm_laws.proofs.Lists.{true_false, every_among, row_key}
+use Rattle.calm_laws.proofs.Lists.{every_among, row_key}
 use Rattle.calm_laws.proofs.Rows.{AllGoToMembers, TriesNone, taker, placed, placed_here, placed_other, handler_row}
 use Rattle.calm_laws.proofs.TableThere.{table_there}
 use Rattle.calm_laws.proofs.CalmAnswerCameIn.{came_in}
@@ -148,7 +150,7 @@ opens_lift c e css now s y serial file q n sent sync there h = (h.letter, h.ther
 
 -- ---- at the view of the synchronization site ----
 
-module _ (c : Config) (w : World) (past : Past c w.trace) (e : InEpoch) (v : SiteView) (s css : ℕ) (y : WaitingCall) (serial : ℕ) (file : FileId) (q : Opening) (was : place_at w css ≡ Some (Running v)) (own : IsMember e css) (member : IsMember e s) (low : s ≤ 16) (sync : sync_site c e.members file.group ≡ Some css) (is : y.asking ≡ asking.Open serial file q) (k : WaitingFact c w.trace (frame_of c e s) y) (rise : Rising (map table_group v.tables)) (tables : (t : SyncTable) → Among t v.tables → IsTable c w.trace past e css w.sent t) (t : SyncTable) (found : row table_group file.group v.tables ≡ Some t) where
+module _ (c : Config) (w : World) (past : Past c w.trace) (e : InEpoch) (v : SiteView) (s css : ℕ) (y : WaitingCall) (serial : ℕ) (file : FileId) (q : Opening) (was : place_at w css ≡ Some (Running v)) (own : IsMember e css) (member : IsMember e s) (low : s ≤ sites_max) (sync : sync_site c e.members file.group ≡ Some css) (is : y.asking ≡ asking.Open serial file q) (k : WaitingFact c w.trace (frame_of c e s) y) (rise : Rising (map table_group v.tables)) (tables : (t : SyncTable) → Among t v.tables → IsTable c w.trace past e css w.sent t) (t : SyncTable) (found : row table_group file.group v.tables ≡ Some t) where
   abbrev f : Frame
   f = frame_of c e css
 

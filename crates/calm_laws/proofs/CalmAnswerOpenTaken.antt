@@ -2,6 +2,9 @@
 use Rattle.std.proofs.Common.{◌≡◌, ℕ, ◌==◌, ◌⊎◌, Bool, true, false, ◌||◌, cond, List, [], ◌∷◌, ◌++◌, Option, Some, None, refl, sym, ◌∙◌, ap, subst, inl, inr}
 use Rattle.std.specs.List.{list_any}
 use Rattle.std.specs.Option.{is_some}
+use Rattle.role_steps.proofs.of_plain_facts.Numbers.{equal_test}
+use Rattle.role_steps.proofs.of_plain_facts.Options.{none_some}
+use Rattle.role_steps.proofs.of_plain_facts.Tests.{true_false}
 use Rattle.locus_ids.specs.declared.config.Config.{Config}
 use Rattle.locus_ids.specs.declared.ids.EpochId.{EpochId}
 use Rattle.locus_ids.specs.declared.ids.Serial.{Serial}
@@ -24,14 +27,13 @@ use Rattle.role_steps.specs.declared.synchronizing.SyncTable.{SyncTable}
 use Rattle.the_run.specs.Kept.{Among}
 use Rattle.the_run.proofs.Boots.{at_each}
 use Rattle.tree_laws.proofs.Names.{same_serial_eq, same_serial_own}
-use Rattle.store_laws.proofs.Tabled.{latest_other}
-use Rattle.sync_laws.proofs.Adding.{latest_same}
+use Rattle.calm_sent_laws.proofs.of_store_laws.Tabled.{latest_other}
+use Rattle.calm_sent_laws.proofs.of_sync_laws.Adding.{latest_same}
 use Rattle.orderly_laws.proofs.Formed.{among_left}
 use Rattle.calm_table_laws.specs.Shapes.{RowShape, TableShape}
 use Rattle.calm_table_laws.proofs.Shaping.{Placed, decision_placed}
 use Rattle.calm_laws.specs.Carrying.{IsMember, frame_of, Goes, own_serial, opening_body, AnswersOpen}
-use Rattle.calm_laws.proofs.Lists.{true_false, none_some, every_among, row_key}
-use Rattle.calm_laws.proofs.UserParts.{same_true}
+use Rattle.calm_laws.proofs.Lists.{every_among, row_key}
 use Rattle.calm_laws.proofs.CalmAnswerTurning.{Grows}
 
 -- ---- rows ----
@@ -42,7 +44,7 @@ row_some key r [] a e = absurd a
 row_some key r (x ∷ xs) a e = over (open_key x == key) refl (row_some key r xs) a
   where
     test : (i j : ℕ) → i ≡ j → (i == j) ≡ false → ⊥
-    test i j same q = true_false (sym (same_true i j same) ∙ q)
+    test i j same q = true_false (sym (equal_test i j same) ∙ q)
 
     over : (b : Bool) → (open_key x == key) ≡ b → (Among r xs → open_key r ≡ key → is_some (row open_key key xs) ≡ true) → Among r (x ∷ xs) → is_some (elim b as (λ (z : Bool). Option OpenRow) [ true ↦ Some x | false ↦ row open_key key xs ]) ≡ true
     over true q later b = refl

@@ -2,12 +2,16 @@
 -- a request of the process is held, it is this one.
 use Rattle.std.proofs.Common.{◌≡◌, ℕ, ◌≤◌, ◌==◌, Bool, true, false, ◌||◌, List, [], ◌∷◌, Option, Some, None, refl, sym, ◌∙◌, ap, subst, ◌⊎◌, inl, inr}
 use Rattle.std.specs.List.{list_any}
+use Rattle.role_steps.proofs.of_plain_facts.Numbers.{equal}
+use Rattle.role_steps.proofs.of_plain_facts.Options.{none_some}
+use Rattle.role_steps.proofs.of_plain_facts.Tests.{both_true, true_false}
 use Rattle.locus_ids.specs.declared.config.Config.{Config}
 use Rattle.locus_ids.specs.declared.ids.CallId.{CallId}
 use Rattle.locus_ids.specs.declared.ids.EpochId.{EpochId}
 use Rattle.locus_ids.specs.declared.ids.FileId.{FileId}
 use Rattle.locus_ids.specs.declared.ids.Mode.{Mode}
 use Rattle.locus_ids.specs.declared.ids.Serial.{Serial}
+use Rattle.locus_ids.specs.Sizes.{sites_max}
 use Rattle.trace_book.specs.Same.{same_serial}
 use Rattle.trace_book.specs.declared.operation.Served.{Served}
 use Rattle.trace_book.specs.declared.operation.What.{What}
@@ -52,15 +56,15 @@ use Rattle.tree_laws.proofs.Counting.{Opens}
 use Rattle.tree_laws.proofs.Looking.{looked_low}
 use Rattle.tree_laws.proofs.Names.{same_serial_eq}
 use Rattle.tree_laws.proofs.Serials.{one_open, unnamed}
-use Rattle.store_laws.proofs.Numbers.{serial_key_eq}
-use Rattle.rest_laws.proofs.StoreStepResting.{store_rests}
-use Rattle.rest_laws.proofs.EpochTreeStarted.{looked_started, named_started}
-use Rattle.one_tree_laws.specs.Rest.{Past}
+use Rattle.calm_sent_laws.proofs.of_store_laws.Numbers.{serial_key_eq}
+use Rattle.fit_laws.proofs.of_rest_laws.StoreStepResting.{store_rests}
+use Rattle.fit_laws.proofs.of_rest_laws.EpochTreeStarted.{looked_started, named_started}
+use Rattle.calm_sent_laws.specs.of_one_tree_laws.Rest.{Past}
 use Rattle.calm_table_laws.specs.Shapes.{CameIn, IsMaking, IsNamedIn, IsRequest, IsRequestOf, NamesRecord, NamesTold, RowShape, TableShape}
 use Rattle.calm_laws.specs.Carrying.{frame_of, held_request, open_body, own_serial}
-use Rattle.calm_laws.proofs.Lists.{both_true, every_among, none_some, row_key, true_false}
-use Rattle.calm_laws.proofs.UserParts.{asked_is, equal, open_asked}
-use Rattle.store_laws.proofs.AnswerUnasked.{opens_request}
+use Rattle.calm_laws.proofs.Lists.{every_among, row_key}
+use Rattle.calm_laws.proofs.UserParts.{asked_is, open_asked}
+use Rattle.calm_sent_laws.proofs.of_store_laws.AnswerUnasked.{opens_request}
 use Rattle.calm_laws.proofs.CalmAnswerOneCall.{LooksIn, IsCaller, look_in, one_caller, open_in}
 use Rattle.calm_laws.proofs.CalmAnswerLooksKnown.{caller_of, only_mends, packet_caller, request_is}
 use Rattle.calm_laws.proofs.CalmAnswerOpensUnended.{open_unreleased}
@@ -226,11 +230,11 @@ module _ (c : Config) (t : List Line) (past : Past c t) (e : InEpoch) (css : ℕ
 
   -- ---- rows are of sites 1 to 16 ----
 
-  pub row_low : (sent : List Numbered) (tab : SyncTable) → IsTable sent tab → (r : OpenRow) → Among r tab.opens → r.inst.us ≤ 16
-  row_low sent tab it r there = (let k : RowFact c t e.id tab.group r = every_among (RowFact c t e.id tab.group) r tab.opens there it.fact.opens in subst (λ (z : ℕ). z ≤ 16) k.is_call.site_is ((store_rests c t past).sites e.id k.call k.is_call.inside))
+  pub row_low : (sent : List Numbered) (tab : SyncTable) → IsTable sent tab → (r : OpenRow) → Among r tab.opens → r.inst.us ≤ sites_max
+  row_low sent tab it r there = (let k : RowFact c t e.id tab.group r = every_among (RowFact c t e.id tab.group) r tab.opens there it.fact.opens in subst (λ (z : ℕ). z ≤ sites_max) k.is_call.site_is ((store_rests c t past).sites e.id k.call k.is_call.inside))
 
-  pub caller_low : (us n process : ℕ) (d : CallId) → IsCallOf t e.id us n process d → us ≤ 16
-  caller_low us n process d k = subst (λ (z : ℕ). z ≤ 16) k.site_is ((store_rests c t past).sites e.id d k.inside)
+  pub caller_low : (us n process : ℕ) (d : CallId) → IsCallOf t e.id us n process d → us ≤ sites_max
+  caller_low us n process d k = subst (λ (z : ℕ). z ≤ sites_max) k.site_is ((store_rests c t past).sites e.id d k.inside)
 
   -- ---- a call that asks an open ----
 
@@ -281,7 +285,7 @@ module _ (c : Config) (t : List Line) (past : Past c t) (e : InEpoch) (css : ℕ
         over (Some to) z h = h.0
 
     -- its row is of this instance, and isn't over
-    pub row_well : s ≤ 16 → (sent : List Numbered) (tab : SyncTable) → IsTable sent tab → (r : OpenRow) → open_row tab own ≡ Some r → (r.inst ≡ own) × (r.stage ≡ stage.Ended → ⊥)
+    pub row_well : s ≤ sites_max → (sent : List Numbered) (tab : SyncTable) → IsTable sent tab → (r : OpenRow) → open_row tab own ≡ Some r → (r.inst ≡ own) × (r.stage ≡ stage.Ended → ⊥)
     row_well low sent tab has r found = (name, λ z. open_unreleased c t past.followed e.id d own its_call opens (sym number.1) refl (subst (λ (j : Serial). WasReleased t e.id j) name (ended z)))
       where
         at : Among r tab.opens × (open_key r ≡ serial_key own)

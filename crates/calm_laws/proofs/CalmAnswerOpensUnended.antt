@@ -1,5 +1,6 @@
 -- While a call asks an open, whether its answer waits or not, the instance isn't released: nobody has taken it.
 use Rattle.std.proofs.Common.{◌≡◌, ℕ, Bool, true, false, List, [], ◌∷◌, Option, Some, refl, sym, ◌∙◌, ap, subst, ◌⊎◌, inl, inr}
+use Rattle.role_steps.proofs.of_plain_facts.Tests.{true_false}
 use Rattle.locus_ids.specs.declared.config.Config.{Config}
 use Rattle.locus_ids.specs.declared.ids.CallId.{CallId}
 use Rattle.locus_ids.specs.declared.ids.EpochId.{EpochId}
@@ -30,18 +31,18 @@ use Rattle.tree_laws.proofs.Answered.{asker_unnamed}
 use Rattle.tree_laws.proofs.Counting.{asked_same, Opens}
 use Rattle.tree_laws.proofs.Descriptors.{IsUser}
 use Rattle.tree_laws.proofs.Fresh.{IsNamed}
-use Rattle.tree_laws.proofs.Names.{true_false, same_call_eq}
+use Rattle.tree_laws.proofs.Names.{same_call_eq}
 use Rattle.tree_laws.proofs.Serials.{unnamed}
-use Rattle.order_laws.proofs.ProcessBegun.{comes_from, Comes}
-use Rattle.order_laws.proofs.ProcessGranting.{GrantIs, granted_is, released_named}
-use Rattle.order_laws.proofs.ProcessHad.{begun_user}
-use Rattle.order_laws.proofs.ProcessOperations.{accept_turn, IsTurn, take_turn}
-use Rattle.order_laws.proofs.ProcessTaken.{back_in}
-use Rattle.order_laws.proofs.ProcessUnreleased.{close_opens_none}
-use Rattle.user_laws.proofs.OpenOnce.{AnsweredRecord, WasOpenAnswered, open_once}
-use Rattle.store_laws.proofs.AnswerAnswering.{releaser_in}
-use Rattle.store_laws.proofs.AnswerAskers.{close_had}
-use Rattle.store_laws.proofs.AnswerUnasked.{opens_request}
+use Rattle.fit_laws.proofs.of_order_laws.ProcessBegun.{comes_from, Comes}
+use Rattle.fit_laws.proofs.of_order_laws.ProcessGranting.{GrantIs, granted_is, released_named}
+use Rattle.fit_laws.proofs.of_order_laws.ProcessHad.{begun_user}
+use Rattle.fit_laws.proofs.of_order_laws.ProcessOperations.{accept_turn, IsTurn, take_turn}
+use Rattle.fit_laws.proofs.of_order_laws.ProcessTaken.{back_in}
+use Rattle.fit_laws.proofs.of_order_laws.ProcessUnreleased.{close_opens_none}
+use Rattle.calm_sent_laws.proofs.of_user_laws.OpenOnce.{AnsweredRecord, WasOpenAnswered, open_once}
+use Rattle.calm_sent_laws.proofs.of_store_laws.AnswerAnswering.{releaser_in}
+use Rattle.calm_sent_laws.proofs.of_store_laws.AnswerAskers.{close_had}
+use Rattle.calm_sent_laws.proofs.of_store_laws.AnswerUnasked.{opens_request}
 
 abbrev With : ℕ → Told → List Line → List Line
 With n x older = record { number = n; told = x } ∷ older

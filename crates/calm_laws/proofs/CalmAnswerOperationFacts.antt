@@ -1,5 +1,6 @@
 -- What is asked of a running instance of a member as its next operation can be done.
 use Rattle.std.proofs.Common.{◌≡◌, ℕ, List, Some, refl, sym, ◌∙◌, ap, subst, inl, inr, ◌⊎◌}
+use Rattle.role_steps.proofs.of_plain_facts.Options.{some_same}
 use Rattle.locus_ids.specs.declared.config.Config.{Config}
 use Rattle.schedule_lines.specs.declared.line.ScheduleLine.{ScheduleLine}
 use Rattle.trace_book.specs.declared.operation.Op.{Op}
@@ -18,10 +19,9 @@ use Rattle.tree_model.specs.declared.instance.Instance.{Instance as Open}
 use Rattle.tree_laws.specs.Packets.{OpsNow}
 use Rattle.tree_laws.specs.Stores.{InstanceFact, RunsAs, StageFact, WorksAs}
 use Rattle.tree_laws.proofs.Grants.{open_named}
-use Rattle.tree_laws.proofs.Names.{some_is}
-use Rattle.store_laws.proofs.Tabled.{row_found}
-use Rattle.one_tree_laws.specs.Places.{InsideFact}
-use Rattle.one_tree_laws.specs.Rest.{Past}
+use Rattle.calm_sent_laws.proofs.of_store_laws.Tabled.{row_found}
+use Rattle.calm_sent_laws.specs.of_one_tree_laws.Places.{InsideFact}
+use Rattle.calm_sent_laws.specs.of_one_tree_laws.Rest.{Past}
 use Rattle.orderly_laws.specs.Calm.{AreTogether}
 use Rattle.fit_laws.specs.CalmAskingAsked.{IsDoable}
 use Rattle.fit_laws.proofs.CalmAskingDoing.{doable}
@@ -62,4 +62,4 @@ operations_lawful c lines number e w round together m v member here i found runs
         over (inr k) = absurd (k.unnamed (open_named c w.trace e.id i.inst asked.at asked.open_at.found))
 
     same : asked.at ≡ works.0
-    same = some_is asked.at works.0 (sym asked.open_at.found ∙ works.1.open_at.found)
+    same = some_same asked.at works.0 (sym asked.open_at.found ∙ works.1.open_at.found)

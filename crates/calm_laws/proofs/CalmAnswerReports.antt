@@ -4,12 +4,14 @@ use Rattle.std.proofs.Common.{◌≡◌, ℕ, zero, suc, ◌<◌, ◌≤◌, ◌
 use Rattle.std.proofs.lemmas.Bool.Decides.{nat_tests}
 use Rattle.std.specs.List.{list_any}
 use Rattle.std.specs.Option.{is_some}
+use Rattle.role_steps.proofs.of_plain_facts.Tests.{true_false}
 use Rattle.locus_ids.specs.Sites.{has, with_site}
 use Rattle.locus_ids.proofs.Sets.{has-with}
 use Rattle.locus_ids.specs.declared.config.Config.{Config}
 use Rattle.locus_ids.specs.declared.ids.EpochId.{EpochId}
 use Rattle.locus_ids.specs.declared.ids.Serial.{Serial}
 use Rattle.locus_ids.specs.declared.sites.Sites.{Sites}
+use Rattle.locus_ids.specs.Sizes.{sites_max}
 use Rattle.trace_book.specs.Same.{same_serial}
 use Rattle.wire_messages.specs.Bodies.{kind_number}
 use Rattle.wire_messages.specs.declared.body.Body.{Body}
@@ -41,14 +43,14 @@ use Rattle.epoch_laws.specs.Forming.{FormsNone}
 use Rattle.tree_laws.specs.Packets.{BodyFact, OpenFact, PacketFact}
 use Rattle.tree_laws.specs.Tables.{early_packet}
 use Rattle.tree_laws.specs.Users.{WaitingFact}
-use Rattle.rest_laws.proofs.StoreStepKnown.{known_call}
-use Rattle.one_tree_laws.specs.Places.{InsideFact}
-use Rattle.one_tree_laws.specs.Rest.{Past}
-use Rattle.one_tree_laws.proofs.Parts.{tables_rise}
-use Rattle.one_tree_laws.proofs.Rising.{Rising}
+use Rattle.fit_laws.proofs.of_rest_laws.StoreStepKnown.{known_call}
+use Rattle.calm_sent_laws.specs.of_one_tree_laws.Places.{InsideFact}
+use Rattle.calm_sent_laws.specs.of_one_tree_laws.Rest.{Past}
+use Rattle.calm_sent_laws.proofs.of_one_tree_laws.Parts.{tables_rise}
+use Rattle.calm_sent_laws.proofs.of_one_tree_laws.Rising.{Rising}
 use Rattle.orderly_laws.proofs.Formed.{among_right}
 use Rattle.orderly_laws.proofs.Rounds.{next_among}
-use Rattle.make_laws.specs.Made.{IsSender, NumberedSender}
+use Rattle.calm_table_laws.specs.of_make_laws.Made.{IsSender, NumberedSender}
 use Rattle.calm_table_laws.specs.Shapes.{CameIn, IsNamedIn, IsRequest, IsRequestOf, RowShape, TableShape}
 use Rattle.calm_table_laws.proofs.Shaping.{report_shape}
 use Rattle.calm_laws.specs.Carrying.{IsMember, frame_of, Goes, held_request, look_body, open_body, own_serial, Carries, IsHeld, HasReported}
@@ -59,7 +61,7 @@ use Rattle.calm_laws.proofs.Delivered.{inside_fact}
 use Rattle.calm_laws.proofs.Ends.{handles}
 use Rattle.calm_laws.proofs.Facts.{RoundFacts, round_facts}
 use Rattle.calm_laws.proofs.Handing.{StillWaits}
-use Rattle.calm_laws.proofs.Lists.{true_false, every_among, row_key}
+use Rattle.calm_laws.proofs.Lists.{every_among, row_key}
 use Rattle.calm_laws.proofs.LookRequests.{LooksOn}
 use Rattle.calm_laws.proofs.Rows.{AllGoToMembers, HandlerHands, TriesNone, taker, placed, placed_here, handler_row}
 use Rattle.calm_laws.proofs.TableThere.{table_there}
@@ -249,7 +251,7 @@ every_of P (x ∷ xs) f = (f x (inl refl), every_of P xs (λ y a. f y (inr a)))
 
 module _ (c : Config) (w : World) (past : Past c w.trace) (e : InEpoch) (m : ℕ) (v : SiteView) (rise : Rising (map table_group v.tables)) (tables : (t : SyncTable) → Among t v.tables → IsTable c w.trace past e m w.sent t) (t : SyncTable) (there : Among t v.tables) where
   abbrev Waits : Early → Type 0
-  Waits x = (x.process < 256) × (x.site ≤ 16) × OpensKnown (IsIn v.tables) t x.site x.body
+  Waits x = (x.process < 256) × (x.site ≤ sites_max) × OpensKnown (IsIn v.tables) t x.site x.body
 
   waits_so : (x : Early) → (b : Body) → x.body ≡ b → IsRequestOf t.group x.process b → BodyFact c w.trace (early_packet (frame_of c e m) x) b → Waits x
   waits_so x (body.Open serial call who request file q) is of k = (
@@ -270,8 +272,8 @@ module _ (c : Config) (w : World) (past : Past c w.trace) (e : InEpoch) (m : ℕ
   pub all_fresh : Every (λ (x : Early). OpensKnown (IsIn v.tables) t x.site x.body) t.early
   all_fresh = every_of (λ (x : Early). OpensKnown (IsIn v.tables) t x.site x.body) t.early (λ x a. (early_waits x a).2)
 
-  pub all_low : Every (λ (x : Early). x.site ≤ 16) t.early
-  all_low = every_of (λ (x : Early). x.site ≤ 16) t.early (λ x a. (early_waits x a).1)
+  pub all_low : Every (λ (x : Early). x.site ≤ sites_max) t.early
+  all_low = every_of (λ (x : Early). x.site ≤ sites_max) t.early (λ x a. (early_waits x a).1)
 
   pub all_small : Every (λ (x : Early). x.process < 256) t.early
   all_small = every_of (λ (x : Early). x.process < 256) t.early (λ x a. (early_waits x a).0)
@@ -423,8 +425,8 @@ report_row c members lines n e x w d kind old = handler_row c members lines n e 
             small_ones : Every (λ (i : Early). i.process < 256) es
             small_ones = like (λ (k : List Early). Every (λ (i : Early). i.process < 256) k) (all_small c w past e m d.view rise tables t there)
 
-            low_ones : Every (λ (i : Early). i.site ≤ 16) es
-            low_ones = like (λ (k : List Early). Every (λ (i : Early). i.site ≤ 16) k) (all_low c w past e m d.view rise tables t there)
+            low_ones : Every (λ (i : Early). i.site ≤ sites_max) es
+            low_ones = like (λ (k : List Early). Every (λ (i : Early). i.site ≤ sites_max) k) (all_low c w past e m d.view rise tables t there)
 
             waited : (s : ℕ) (y : WaitingCall) (i : Early) → StillWaits e (place_at w) (placed (place_at w) m (handles c e m x.packet d.view).view) s y → Starting f from copies t i → (a : Asking) → y.asking ≡ a → IsRequestBy c e m t.group i s y a → Handed (at_table_of g (Some t) d.view) s y a
             waited s y i still h (asking.Look file what take) asks by = inl (on.letter, on.there, (m, by.1, inr on.carries))
@@ -458,7 +460,7 @@ report_row c members lines n e x w d kind old = handler_row c members lines n e 
                 fact : OpenFact c w.trace e.id s serial y.call y.process y.request file how
                 fact = its_fact c w.trace past e m s y k serial file how asks by.1
 
-                low : s ≤ 16
+                low : s ≤ sites_max
                 low = member_low c e w s facts d.before still.member
 
                 well : (r : OpenRow) → open_row begun (own_serial s serial) ≡ Some r → (r.inst ≡ own_serial s serial) × (r.stage ≡ stage.Ended → ⊥)

@@ -2,6 +2,9 @@
 -- request goes on to carry it.
 use Rattle.std.proofs.Common.{◌≡◌, ℕ, ◌<◌, ◌==◌, nat_lt, ◌⊎◌, Bool, true, false, cond, List, [], ◌∷◌, map, Option, Some, refl, sym, ◌∙◌, ap, subst, inl, inr, arith}
 use Rattle.std.proofs.lemmas.Bool.Decides.{nat_tests}
+use Rattle.role_steps.proofs.of_plain_facts.Numbers.{above_apart, apart_test, equal as equal_test, less_test}
+use Rattle.role_steps.proofs.of_plain_facts.Options.{none_some, some_same}
+use Rattle.role_steps.proofs.of_plain_facts.Tests.{true_false}
 use Rattle.locus_ids.specs.Sites.{has}
 use Rattle.locus_ids.specs.declared.config.Config.{Config}
 use Rattle.locus_ids.specs.declared.ids.Serial.{Serial}
@@ -23,36 +26,27 @@ use Rattle.role_steps.specs.declared.synchronizing.SyncTable.{SyncTable}
 use Rattle.role_steps.specs.declared.users.Asking.{Asking}
 use Rattle.role_steps.specs.declared.users.Asking.TheVariants as asking
 use Rattle.role_steps.specs.declared.users.WaitingCall.{WaitingCall}
-use Rattle.role_steps.proofs.Rows.{differ, row_other, row_same}
+use Rattle.role_steps.proofs.Rows.{row_other, row_same}
 use Rattle.the_run.specs.Kept.{Among}
 use Rattle.the_run.specs.Steps.{at_table_of, is_opened_in}
 use Rattle.the_run.specs.Worlds.{Running}
 use Rattle.the_run.proofs.Boots.{at_each}
 use Rattle.epoch_laws.specs.Known.{Places}
-use Rattle.one_tree_laws.proofs.Rising.{Rising}
+use Rattle.calm_sent_laws.proofs.of_one_tree_laws.Rising.{Rising}
 use Rattle.orderly_laws.proofs.Places.{view_eq}
 use Rattle.calm_laws.specs.Carrying.{IsMember, Goes, Holds, IsAsked, HasUnended, held_request, look_body, open_body, own_serial, CarriesOpen, CarriesClose, Carries, IsHeld, HasReported}
 use Rattle.calm_laws.proofs.Ends.{handles}
 use Rattle.calm_laws.proofs.Handing.{StillWaits, IsHandedOn}
-use Rattle.calm_laws.proofs.Lists.{true_false, none_some, some_is, every_among, row_key}
+use Rattle.calm_laws.proofs.Lists.{every_among, row_key}
 use Rattle.calm_laws.proofs.Rows.{HandlerHands, placed, placed_here, placed_other}
 
 -- ---- tables ----
-
-below_test : (a b : ℕ) → a < b → nat_lt a b ≡ true
-below_test a b h = grind (arith, nat_tests)
-
-above_same : (a b : ℕ) → a < b → (b == a) ≡ false
-above_same a b h = grind (arith, nat_tests)
 
 below_same : (a b : ℕ) → a < b → (a == b) ≡ false
 below_same a b h = grind (arith, nat_tests)
 
 same_test : (a : ℕ) → (nat_lt a a ≡ false) × ((a == a) ≡ true)
 same_test a = (grind (arith, nat_tests), grind (arith, nat_tests))
-
-equal_test : (a b : ℕ) → (a == b) ≡ true → a ≡ b
-equal_test a b h = grind (arith, nat_tests)
 
 among_group : (t : SyncTable) (ts : List SyncTable) → Among t ts → Among t.group (map table_group ts)
 among_group t [] a = a
@@ -79,7 +73,7 @@ swaps t n x = cond (x.group == t.group) n x
 
 above_stay : (t n : SyncTable) (xs : List SyncTable) → Every (λ (g : ℕ). t.group < g) (map table_group xs) → map (swaps t n) xs ≡ xs
 above_stay t n [] h = refl
-above_stay t n (x ∷ xs) h = (λ i. cond (above_same t.group x.group h.0 i) n x ∷ above_stay t n xs h.1 i)
+above_stay t n (x ∷ xs) h = (λ i. cond (above_apart t.group x.group h.0 i) n x ∷ above_stay t n xs h.1 i)
 
 pub put_is : (ts : List SyncTable) (t n : SyncTable) → Rising (map table_group ts) → Among t ts → n.group ≡ t.group → with_row table_group n ts ≡ map (swaps t n) ts
 put_is [] t n r a e = absurd a
@@ -107,7 +101,7 @@ put_is (x ∷ xs) t n r (inr a) e =
     below = above_head x t xs r.0 a
 
     less : nat_lt x.group n.group ≡ true
-    less = below_test x.group n.group (subst (λ (g : ℕ). x.group < g) (sym e) below)
+    less = less_test x.group n.group (subst (λ (g : ℕ). x.group < g) (sym e) below)
 
 -- ---- the first that passes ----
 
@@ -116,7 +110,7 @@ first_passes test [] k e = absurd (none_some k e)
 first_passes test (x ∷ xs) k e = over (test x) refl (first_passes test xs k) e
   where
     over : (b : Bool) → test x ≡ b → (first_that test xs ≡ Some k → Among k xs × (test k ≡ true)) → ◌≡◌ {A = Option SyncTable} (elim b [ true ↦ Some x | false ↦ first_that test xs ]) (Some k) → Among k (x ∷ xs) × (test k ≡ true)
-    over true q f z = (inl (sym (some_is x k z)), ap test (sym (some_is x k z)) ∙ q)
+    over true q f z = (inl (sym (some_same x k z)), ap test (sym (some_same x k z)) ∙ q)
     over false q f z = (let r : Among k xs × (test k ≡ true) = f z in (inr r.0, r.1))
 
 first_swapped : (test : SyncTable → Bool) (g : SyncTable → SyncTable) (ts : List SyncTable) (k : SyncTable) → ((x : SyncTable) → Among x ts → test (g x) ≡ test x) → first_that test ts ≡ Some k → first_that test (map g ts) ≡ Some (g k)
@@ -132,7 +126,7 @@ first_swapped test g (x ∷ xs) k same e = over (test x) refl (first_swapped tes
     later false q h = h
 
     over : (b : Bool) → test x ≡ b → (first_that test xs ≡ Some k → first_that test (map g xs) ≡ Some (g k)) → ◌≡◌ {A = Option SyncTable} (elim b [ true ↦ Some x | false ↦ first_that test xs ]) (Some k) → first_that test (g x ∷ map g xs) ≡ Some (g k)
-    over true q f z = here (test (g x)) (same x (inl refl) ∙ q) ∙ ap (λ (y : SyncTable). Some (g y)) (some_is x k z)
+    over true q f z = here (test (g x)) (same x (inl refl) ∙ q) ∙ ap (λ (y : SyncTable). Some (g y)) (some_same x k z)
     over false q f z = later (test (g x)) (same x (inl refl) ∙ q) (f z)
 
 -- the only one that passes is found
@@ -260,7 +254,7 @@ module _ (c : Config) (e : InEpoch) (m : ℕ) (at : Places) (v : SiteView) (was 
   row_now : (group : ℕ) (k : SyncTable) → row table_group group v.tables ≡ Some k → ((k ≡ t) × (row table_group group u.tables ≡ Some n)) ⊎ (row table_group group u.tables ≡ Some k)
   row_now group k found = at_each t.group group (((k ≡ t) × (row table_group group u.tables ≡ Some n)) ⊎ (row table_group group u.tables ≡ Some k))
       (λ eq. inl (one_table v.tables k t rise k_at.0 there (k_at.1 ∙ sym eq), ap (λ (j : ℕ). row table_group j u.tables) (sym (grows.group ∙ eq)) ∙ row_same table_group n v.tables))
-      (λ ne. inr (row_other table_group n group v.tables (subst (λ (j : ℕ). (j == group) ≡ false) (sym grows.group) (differ t.group group ne)) ∙ found))
+      (λ ne. inr (row_other table_group n group v.tables (subst (λ (j : ℕ). (j == group) ≡ false) (sym grows.group) (apart_test t.group group ne)) ∙ found))
     where
       k_at : Among k v.tables × (table_group k ≡ group)
       k_at = row_key table_group group v.tables k found

@@ -2,6 +2,7 @@
 use Rattle.std.proofs.Common.{◌≡◌, ℕ, ◌≤◌, ◌⊎◌, List, Option, Some, None, refl, sym, ◌∙◌, ap, subst, inl, inr}
 use Rattle.locus_ids.specs.declared.config.Config.{Config}
 use Rattle.locus_ids.specs.declared.ids.Serial.{Serial}
+use Rattle.locus_ids.specs.Sizes.{sites_max}
 use Rattle.wire_messages.specs.declared.body.Body.{Body}
 use Rattle.wire_messages.specs.declared.body.Body.TheVariants as body
 use Rattle.wire_messages.specs.declared.body.MadeVersion.{MadeVersion}
@@ -25,12 +26,12 @@ use Rattle.tree_laws.specs.Packets.{PacketFact}
 use Rattle.tree_laws.specs.Past.{WasReleased}
 use Rattle.tree_laws.specs.Doing.{StoreHeld}
 use Rattle.tree_laws.specs.Stores.{InstanceFact, RunsAs, StageFact}
-use Rattle.holding_laws.proofs.Released.{released_named, released_shut}
-use Rattle.store_laws.proofs.Numbers.{serial_key_eq}
-use Rattle.store_laws.proofs.Tabled.{latest_other, row_found}
-use Rattle.rest_laws.proofs.StoreStepResting.{store_rests}
-use Rattle.one_tree_laws.specs.Places.{InsideFact, NumberedFact}
-use Rattle.one_tree_laws.specs.Rest.{Past}
+use Rattle.calm_sent_laws.proofs.of_holding_laws.Released.{released_named, released_shut}
+use Rattle.calm_sent_laws.proofs.of_store_laws.Numbers.{serial_key_eq}
+use Rattle.calm_sent_laws.proofs.of_store_laws.Tabled.{latest_other, row_found}
+use Rattle.fit_laws.proofs.of_rest_laws.StoreStepResting.{store_rests}
+use Rattle.calm_sent_laws.specs.of_one_tree_laws.Places.{InsideFact, NumberedFact}
+use Rattle.calm_sent_laws.specs.of_one_tree_laws.Rest.{Past}
 use Rattle.epoch_laws.specs.Forming.{FormsNone}
 use Rattle.epoch_laws.specs.Known.{Places}
 use Rattle.orderly_laws.proofs.Places.{view_eq}
@@ -51,7 +52,7 @@ use Rattle.calm_laws.proofs.StoreRows.{StoreHas, IsCloseSent, InstancesGoOn, sto
 pub past_of : (c : Config) (w : World) → RoundFacts c w → Past c w.trace
 past_of c w r = record { followed = r.fact.followed; rest = r.rest }
 
-pub member_low : (c : Config) (e : InEpoch) (w : World) (s : ℕ) → RoundFacts c w → AreTogether w e → IsMember e s → s ≤ 16
+pub member_low : (c : Config) (e : InEpoch) (w : World) (s : ℕ) → RoundFacts c w → AreTogether w e → IsMember e s → s ≤ sites_max
 member_low c e w s r together member = (let i : IsInside w e s = together.inside s member in
     let f : InsideFact c (frame_of c e s) w.trace i.view = inside_fact c e w s i.view r.fact together member i.here in
     ((store_rests c w.trace (past_of c w r)).places e.id s f.frame.inside).1)
@@ -92,7 +93,7 @@ module _ (c : Config) (e : InEpoch) (m : ℕ) (trace : List Line) (s : Store) (k
   f = frame_of c e m
 
   -- an instance of the store, and the serial number of a site under its key
-  pub same_instance : (i : Instance) (named inst : Serial) → instance_of s named ≡ Some i → inst.us ≤ 16 → serial_key i.inst ≡ serial_key inst → i.inst ≡ inst
+  pub same_instance : (i : Instance) (named inst : Serial) → instance_of s named ≡ Some i → inst.us ≤ sites_max → serial_key i.inst ≡ serial_key inst → i.inst ≡ inst
   same_instance i named inst found low same = serial_key_eq i.inst inst (row_found instance_key (serial_key named) s.instances i (InstanceFact c trace f) found kept.instances.instances).0.user low same
 
   ends_stage : (i : Instance) (z : Stage) (inst : Serial) → StoreHas s inst → StoreHas (ends_at f i z s).view inst ⊎ ((serial_key i.inst ≡ serial_key inst) × IsCloseSent c e m (ends_at f i z s).sent i.inst)
@@ -104,7 +105,7 @@ module _ (c : Config) (e : InEpoch) (m : ℕ) (trace : List Line) (s : Store) (k
       over (inl same) = inr (same, (a, inl refl))
       over (inr ne) = inl (other_stays s (record i { stage = stage.Closed a }) inst ne h)
 
-  goes_on : (named inst : Serial) → inst.us ≤ 16 → StoreHas s inst → StoreHas (on_closed_ok f named s).view inst ⊎ IsCloseSent c e m (on_closed_ok f named s).sent inst
+  goes_on : (named inst : Serial) → inst.us ≤ sites_max → StoreHas s inst → StoreHas (on_closed_ok f named s).view inst ⊎ IsCloseSent c e m (on_closed_ok f named s).sent inst
   goes_on named inst low h = over (instance_of s named) refl
     where
       over : (o : Option Instance) → instance_of s named ≡ o → StoreHas (on_closed_ok_of f o s).view inst ⊎ IsCloseSent c e m (on_closed_ok_of f o s).sent inst
@@ -133,7 +134,7 @@ module _ (c : Config) (e : InEpoch) (m : ℕ) (trace : List Line) (s : Store) (k
       over (inr x) = x.unnamed (released_named c trace followed e.id i.inst was)
 
   -- the close is answered
-  answers : IsFollowed c trace → (us serial : ℕ) → us ≤ 16 → StoreHas s (own_serial us serial) → WasReleased trace e.id (own_serial us serial) → IsCloseSent c e m (on_closed_ok f (own_serial us serial) s).sent (own_serial us serial)
+  answers : IsFollowed c trace → (us serial : ℕ) → us ≤ sites_max → StoreHas s (own_serial us serial) → WasReleased trace e.id (own_serial us serial) → IsCloseSent c e m (on_closed_ok f (own_serial us serial) s).sent (own_serial us serial)
   answers followed us serial low h released = subst (λ (o : Option Instance). IsCloseSent c e m (on_closed_ok_of f o s).sent (own_serial us serial)) (sym h.found) (by_stage h.instance.stage refl h.unended)
     where
       same : h.instance.inst ≡ own_serial us serial

@@ -1,5 +1,7 @@
 -- The answer to a close that comes to its using site: the call that asks it takes it.
 use Rattle.std.proofs.Common.{◌≡◌, ℕ, ◌==◌, ◌⊎◌, Bool, true, false, List, Option, Some, None, refl, sym, ◌∙◌, ap, subst, inl, inr}
+use Rattle.role_steps.proofs.of_plain_facts.Numbers.{equal, equal_test}
+use Rattle.role_steps.proofs.of_plain_facts.Tests.{false_true}
 use Rattle.locus_ids.specs.declared.config.Config.{Config}
 use Rattle.locus_ids.specs.declared.ids.CallId.{CallId}
 use Rattle.call_rules.specs.declared.want.Want.TheVariants as want
@@ -27,7 +29,7 @@ use Rattle.tree_laws.specs.Packets.{serial_of}
 use Rattle.tree_laws.specs.Serials.{asked_now}
 use Rattle.tree_laws.specs.Following.{IsFollowed}
 use Rattle.tree_laws.specs.Users.{own_call, AskingIs, WaitingFact}
-use Rattle.store_laws.proofs.AnswerAskers.{close_had, one_has}
+use Rattle.calm_sent_laws.proofs.of_store_laws.AnswerAskers.{close_had, one_has}
 use Rattle.calm_laws.specs.Carrying.{frame_of, own_serial, Goes, CarriesClose, AnswersClose, Carries}
 use Rattle.calm_laws.specs.Rounds.{CarriesOn, IsCloseDone}
 use Rattle.calm_laws.proofs.AnswerRows.{HasTaken, AnswerHandler, answer_row, waiting_fact}
@@ -36,7 +38,7 @@ use Rattle.calm_laws.proofs.Carriers.{of_kind, MayCarry, carrier_kind}
 use Rattle.calm_laws.proofs.Ends.{handles}
 use Rattle.calm_laws.proofs.Facts.{RoundFacts}
 use Rattle.calm_laws.proofs.Rows.{AllGoToMembers, TriesNone, Taker, taker}
-use Rattle.calm_laws.proofs.UserParts.{UserHandler, users_handle, answer_calls, answer_handler, Found, first_found, call_inside, asked_is, close_asked, number_of_call, equal, same_true}
+use Rattle.calm_laws.proofs.UserParts.{UserHandler, users_handle, answer_calls, answer_handler, Found, first_found, call_inside, asked_is, close_asked, number_of_call}
 
 -- ---- which calls it carries ----
 
@@ -112,9 +114,6 @@ one_asks c t f y z serial h g followed yo zo =
     number_of_call f.me f.boot y.call z.call (one_has c t f.epoch (serial_of f.me serial) dy dz followed (call_inside c t f y h) (call_inside c t f z g) (ap is_request ay) (ap is_request az)
     (close_had c t dy (serial_of f.me serial) followed (h.caller, h.named) ay) (close_had c t dz (serial_of f.me serial) followed (g.caller, g.named) az))
 
-false_true : false ≡ true → ⊥
-false_true e = cc
-
 asking_close : (a : Asking) (serial : ℕ) → test_of a serial ≡ true → (ss : ℕ) × (a ≡ asking.Close serial ss)
 asking_close (asking.Close s ss) serial h = (ss, ap (λ (k : ℕ). asking.Close k ss) (equal s serial h))
 asking_close (asking.Look file w take) serial h = absurd (false_true h)
@@ -154,7 +153,7 @@ close_answer_row c members lines n e x w d kind old = answer_row c members lines
             a = asked c e at m y p y.asking refl kind k
 
             passes : asks_close_of a.serial y ≡ true
-            passes = test_is a.serial y ∙ (ap (λ (z : Asking). test_of z a.serial) a.is ∙ same_true a.serial a.serial refl)
+            passes = test_is a.serial y ∙ (ap (λ (z : Asking). test_of z a.serial) a.is ∙ equal_test a.serial a.serial refl)
 
             first : Found (asks_close_of a.serial) v.users.waiting
             first = first_found (asks_close_of a.serial) v.users.waiting y there passes

@@ -5,6 +5,7 @@ use Rattle.locus_ids.specs.declared.config.Config.{Config}
 use Rattle.locus_ids.specs.declared.ids.FileId.{FileId}
 use Rattle.locus_ids.specs.declared.ids.Serial.{Serial}
 use Rattle.locus_ids.specs.declared.refusal.Refusal.TheVariants as refusal
+use Rattle.locus_ids.specs.Sizes.{sites_max}
 use Rattle.wire_messages.specs.declared.body.Body.{Body}
 use Rattle.wire_messages.specs.declared.body.Body.TheVariants as body
 use Rattle.wire_messages.specs.declared.body.CloseAnswer.{CloseAnswer}
@@ -28,10 +29,10 @@ use Rattle.the_run.specs.Worlds.{place_at}
 use Rattle.tree_laws.specs.Doing.{StoreHeld}
 use Rattle.tree_laws.specs.Past.{WasBegun}
 use Rattle.tree_laws.specs.Stores.{InstanceFact}
-use Rattle.store_laws.proofs.Tabled.{latest_same, row_found}
+use Rattle.calm_sent_laws.proofs.of_store_laws.Tabled.{latest_same, row_found}
 use Rattle.epoch_laws.specs.Forming.{FormsNone}
 use Rattle.epoch_laws.specs.Known.{Places}
-use Rattle.begun_laws.specs.Asked.{AskedBegun, IsBegun}
+use Rattle.calm_table_laws.specs.of_lock_laws.Asked.{AskedBegun, IsBegun}
 use Rattle.orderly_laws.specs.Calm.{IsInside}
 use Rattle.orderly_laws.proofs.Places.{view_eq}
 use Rattle.calm_laws.specs.Carrying.{frame_of, Goes, IsUnended, HasUnended, own_serial, CarriesClose, Carries}
@@ -239,7 +240,7 @@ close_request_row c members lines n e x w d kind old =
         same : m ≡ ss
         same = ap (λ (q : Packet). q.to) g.is
 
-        low : s ≤ 16
+        low : s ≤ sites_max
         low = member_low c e w s r d.before k.member
 
         inst : Serial

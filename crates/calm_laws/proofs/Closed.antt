@@ -3,6 +3,7 @@
 use Rattle.std.proofs.Common.{◌≡◌, ℕ, ◌≤◌, ◌⊎◌, List, map, Option, Some, None, refl, sym, ◌∙◌, ap, subst, inl, inr}
 use Rattle.locus_ids.specs.declared.config.Config.{Config}
 use Rattle.locus_ids.specs.declared.ids.Serial.{Serial}
+use Rattle.locus_ids.specs.Sizes.{sites_max}
 use Rattle.schedule_lines.specs.declared.line.ScheduleLine.{ScheduleLine}
 use Rattle.wire_messages.specs.declared.body.Body.{Body}
 use Rattle.wire_messages.specs.declared.body.Body.TheVariants as body
@@ -26,20 +27,21 @@ use Rattle.the_run.specs.Kept.{Among}
 use Rattle.the_run.specs.Steps.{at_table_of, at_table_with, is_opened_in, takes_inside}
 use Rattle.the_run.specs.Worlds.{World, place_at}
 use Rattle.tree_laws.specs.Tables.{RowFact}
-use Rattle.store_laws.proofs.Numbers.{serial_key_eq}
-use Rattle.rest_laws.proofs.StoreStepResting.{store_rests}
-use Rattle.one_tree_laws.specs.Places.{InsideFact}
-use Rattle.one_tree_laws.proofs.Inside.{table_here}
-use Rattle.one_tree_laws.proofs.Parts.{tables_rise}
-use Rattle.one_tree_laws.proofs.Rising.{Rising, first_among}
+use Rattle.calm_sent_laws.proofs.of_store_laws.Numbers.{serial_key_eq}
+use Rattle.fit_laws.proofs.of_rest_laws.StoreStepResting.{store_rests}
+use Rattle.calm_sent_laws.specs.of_one_tree_laws.Places.{InsideFact}
+use Rattle.calm_sent_laws.proofs.of_one_tree_laws.Inside.{table_here}
+use Rattle.calm_sent_laws.proofs.of_one_tree_laws.Parts.{tables_rise}
+use Rattle.calm_sent_laws.proofs.of_one_tree_laws.Rising.{Rising, first_among}
 use Rattle.epoch_laws.specs.Forming.{FormsNone}
 use Rattle.epoch_laws.specs.Known.{Places}
 use Rattle.orderly_laws.specs.Calm.{AreTogether}
 use Rattle.orderly_laws.proofs.Formed.{among_right}
 use Rattle.orderly_laws.proofs.Places.{view_eq}
 use Rattle.orderly_laws.proofs.Rounds.{next_among}
+use Rattle.calm_sent_laws.specs.Standing.{IsGrantedStage}
 use Rattle.calm_laws.specs.Carrying.{frame_of, Goes, HasUnended, own_serial, CarriesClose, Carries}
-use Rattle.calm_laws.specs.Rounds.{CarriesOn, ClosesAreGranted, HasGranted, IsClosed, IsGrantedStage, IsInRound}
+use Rattle.calm_laws.specs.Rounds.{CarriesOn, ClosesAreGranted, HasGranted, IsClosed, IsInRound}
 use Rattle.calm_laws.proofs.Carriers.{of_kind, MayCarry, carrier_kind}
 use Rattle.calm_laws.proofs.CloseAgreed.{member_low, past_of}
 use Rattle.calm_laws.proofs.Delivered.{inside_fact}
@@ -177,9 +179,9 @@ closed_row c members heard lines n e x w d kind old =
     to S (body.Closed inst made) k = tables_to S f x.packet.from inst made d.view (tables_rise f d.view.tables inside.groups)
     to S _ k = absurd k
 
-    low : (t : SyncTable) (q : OpenRow) → Among t d.view.tables → Among q t.opens → q.inst.us ≤ 16
+    low : (t : SyncTable) (q : OpenRow) → Among t d.view.tables → Among q t.opens → q.inst.us ≤ sites_max
     low t q there a = (let k : RowFact c w.trace e.id t.group q = every_among (RowFact c w.trace e.id t.group) q t.opens a (table_here c w.trace f d.view inside t there).fact.opens in
-        subst (λ (z : ℕ). z ≤ 16) k.is_call.site_is ((store_rests c w.trace (past_of c w r)).sites e.id k.call k.is_call.inside))
+        subst (λ (z : ℕ). z ≤ sites_max) k.is_call.site_is ((store_rests c w.trace (past_of c w r)).sites e.id k.call k.is_call.inside))
 
     takes : (now : Places) → ((ss : ℕ) (inst : Serial) → HasUnended (place_at w) ss inst → HasUnended now ss inst) → (s : ℕ) (y : WaitingCall) → StillWaits e (place_at w) now s y → (a : Asking) → y.asking ≡ a → Carries c e (place_at w) s y a x.packet →
         (q : Packet) × Among q (handles c e m x.packet d.view).sent × Carries c e now s y a q

@@ -1,5 +1,6 @@
 -- A delivery as one event: what its site has then, what it sends and what is told of it; and what a member has by the one tree.
 use Rattle.std.proofs.Common.{◌≡◌, ◌≢◌, ℕ, ◌⊎◌, false, List, [], ◌++◌, Option, Some, None, refl, sym, ◌∙◌, ap, subst, inl, inr}
+use Rattle.role_steps.proofs.of_plain_facts.Tests.{true_false}
 use Rattle.locus_ids.specs.declared.config.Config.{Config}
 use Rattle.locus_ids.specs.declared.sites.Links.{Links}
 use Rattle.schedule_lines.specs.declared.line.ScheduleLine.{ScheduleLine}
@@ -19,7 +20,7 @@ use Rattle.the_run.proofs.Events.{puts_same}
 use Rattle.epoch_laws.specs.Forming.{FormsNone}
 use Rattle.epoch_laws.specs.Known.{Good}
 use Rattle.epoch_laws.proofs.Run.{good_kept, first_good}
-use Rattle.one_tree_laws.specs.Places.{WorldFact, InsideFact, SiteIn}
+use Rattle.calm_sent_laws.specs.of_one_tree_laws.Places.{WorldFact, InsideFact, SiteIn}
 use Rattle.orderly_laws.specs.Calm.{IsInside, AreTogether}
 use Rattle.orderly_laws.specs.Numbers.{NumbersAscend}
 use Rattle.orderly_laws.proofs.Formed.{among_left, among_right}
@@ -32,7 +33,6 @@ use Rattle.calm_laws.proofs.Ends.{After, whole_after, handles, step_is}
 use Rattle.calm_laws.proofs.Events.{RunsOn, Moved, Under, acts_moved, arrives_cases, others_stay}
 use Rattle.calm_laws.proofs.Handing.{Hands, all_handed}
 use Rattle.calm_laws.proofs.Keeping.{KeepsRoles, roles_itself}
-use Rattle.calm_laws.proofs.Lists.{true_false}
 use Rattle.calm_laws.proofs.Members.{sync_is}
 use Rattle.calm_laws.proofs.Rounds.{in_round}
 use Rattle.calm_laws.proofs.Rows.{TriesNone}
@@ -49,7 +49,7 @@ acts_told n s v o w =
     acts_cases (λ u. u.over ≡ None → (u.trace ≡ told_onto n o.told w.trace) ⊎ ((d : Disk) × (place_at u s ≡ Some (Stopped d)))) n s v o w
     (runs (λ now. now))
     (λ a. runs (arms a))
-    (λ d a e. happened_cases (λ u. u.over ≡ None → (u.trace ≡ told_onto n o.told w.trace) ⊎ ((d : Disk) × (place_at u s ≡ Some (Stopped d)))) n [] (cut_told s d a.how a.left) (stops_with s (cut_disk v.boot v.store d a.how a.left)) w
+    (λ d a e. happened_cases (λ u. u.over ≡ None → (u.trace ≡ told_onto n o.told w.trace) ⊎ ((d : Disk) × (place_at u s ≡ Some (Stopped d)))) n [] (cut_told s v.store d a.how a.left) (stops_with s (cut_disk v.boot v.store d a.how a.left)) w
     (λ l e k. absurd (some_limit l (sym e ∙ k)))
     (λ l k. absurd (some_limit l k))
     (λ k b t e h. inr (cut_disk v.boot v.store d a.how a.left, puts_same s (Stopped (cut_disk v.boot v.store d a.how a.left)) w)))

@@ -1,6 +1,8 @@
 -- Deliveries of a calm round, one after another: where each kind of packet hands on what it carries, all stays carried.
-use Rattle.std.proofs.Common.{◌≡◌, ℕ, zero, suc, ◌==◌, ◌⊎◌, Bool, true, false, not, ◌&&◌, ◌||◌, List, Option, Some, None, refl, sym, ◌∙◌, ap, subst, inl, inr, arith}
+use Rattle.std.proofs.Common.{◌≡◌, ℕ, zero, suc, ◌==◌, ◌⊎◌, Bool, true, false, not, ◌&&◌, ◌||◌, List, Some, None, refl, sym, ◌∙◌, ap, subst, inl, inr, arith}
 use Rattle.std.proofs.lemmas.Bool.Decides.{nat_tests}
+use Rattle.role_steps.proofs.of_plain_facts.Numbers.{equal_self}
+use Rattle.role_steps.proofs.of_plain_facts.Tests.{true_false}
 use Rattle.locus_ids.specs.declared.config.Config.{Config}
 use Rattle.locus_ids.specs.declared.ids.EpochId.{EpochId}
 use Rattle.trace_book.specs.Same.{same_epoch}
@@ -11,11 +13,10 @@ use Rattle.wire_messages.specs.declared.packet.Packet.{Packet}
 use Rattle.role_steps.specs.Views.{SiteView, Outcome, Receives, boot_in, packet, sync_site}
 use Rattle.role_steps.specs.declared.rounds.InEpoch.{InEpoch}
 use Rattle.role_steps.specs.declared.users.WaitingCall.{WaitingCall}
-use Rattle.the_run.specs.Disks.{Disk}
 use Rattle.the_run.specs.Kept.{Among}
 use Rattle.the_run.specs.Runs.{arrives, next_packet}
 use Rattle.the_run.specs.Steps.{is_forming, is_framed, is_dropped, step}
-use Rattle.the_run.specs.Worlds.{World, Place, Running, Stopped, Numbered, place_at, links_of, passed, acts}
+use Rattle.the_run.specs.Worlds.{World, Running, Numbered, place_at, links_of, passed, acts}
 use Rattle.epoch_laws.specs.Known.{Places}
 use Rattle.orderly_laws.specs.Calm.{IsInside, AreTogether}
 use Rattle.orderly_laws.specs.Numbers.{NumbersAscend}
@@ -27,7 +28,6 @@ use Rattle.calm_laws.specs.Rounds.{IsInRound, Delivery, CalmLeft, IsReport, IsOp
 use Rattle.calm_laws.proofs.Ending.{Way, carrier_goes}
 use Rattle.calm_laws.proofs.Events.{Moved, acts_moved, arrives_cases, others_stay}
 use Rattle.calm_laws.proofs.Keeping.{AllKeep, roles_itself, carries_kept, held_kept, reported_kept}
-use Rattle.calm_laws.proofs.Lists.{true_false}
 use Rattle.calm_laws.proofs.CloseAgreed.{close_agreed_row}
 use Rattle.calm_laws.proofs.CloseAnswer.{close_answer_row}
 use Rattle.calm_laws.proofs.LookAnswer.{look_answer_row}
@@ -77,9 +77,6 @@ untouched c e p at now under after same stay none old = record {
 
 -- ---- a packet between members is taken ----
 
-number_same : (n : ℕ) → (n == n) ≡ true
-number_same n = grind (arith, nat_tests)
-
 pub epoch_same : (a : EpochId) → same_epoch a a ≡ true
 epoch_same a = grind (arith, nat_tests)
 
@@ -91,16 +88,13 @@ kept_through false b f p q = absurd (true_false (sym p))
 
 pub member_takes : (c : Config) (e : InEpoch) (from to : ℕ) (b : Body) (v : SiteView) → v.epoch ≡ Some e → v.boot ≡ boot_in e.members.boot to → is_dropped (packet (frame_of c e from) to b) v ≡ false
 member_takes c e from to b v inside boot = kept_through (boot_in e.members.boot to == v.boot) (is_framed (packet (frame_of c e from) to b) v.epoch) (is_forming (packet (frame_of c e from) to b))
-    (ap (λ (n : ℕ). boot_in e.members.boot to == n) boot ∙ number_same (boot_in e.members.boot to))
-    (ap (is_framed (packet (frame_of c e from) to b)) inside ∙ both (same_epoch e.id e.id) (boot_in e.members.boot from == boot_in e.members.boot from) (epoch_same e.id) (number_same (boot_in e.members.boot from)))
+    (ap (λ (n : ℕ). boot_in e.members.boot to == n) boot ∙ equal_self (boot_in e.members.boot to))
+    (ap (is_framed (packet (frame_of c e from) to b)) inside ∙ both (same_epoch e.id e.id) (boot_in e.members.boot from == boot_in e.members.boot from) (epoch_same e.id) (equal_self (boot_in e.members.boot from)))
   where
     both : (x y : Bool) → x ≡ true → y ≡ true → (x && y) ≡ true
     both x y p q = ap (λ (z : Bool). z && y) p ∙ q
 
 -- ---- one delivery ----
-
-stopped_running : (d : Disk) (v : SiteView) → ◌≡◌ {A = Option Place} (Some (Stopped d)) (Some (Running v)) → ⊥
-stopped_running d v e = cc
 
 ascends_in : (c : Config) (lines : List ScheduleLine) (n : ℕ) (w : World) → IsInRound c lines n w → NumbersAscend w
 ascends_in c lines n w h = in_round c NumbersAscend (ascend_kept c) (first_ascends c) lines n w h

@@ -1,5 +1,7 @@
 -- The end of a calm round: nothing is under way between members any more, so no group waits for a report, and no call waits.
 use Rattle.std.proofs.Common.{◌≡◌, ℕ, ◌⊎◌, true, false, ◌&&◌, List, Some, sym, ◌∙◌, ap, inl, inr}
+use Rattle.role_steps.proofs.of_plain_facts.Options.{some_same}
+use Rattle.role_steps.proofs.of_plain_facts.Tests.{both_true, true_false}
 use Rattle.locus_ids.specs.Sites.{has}
 use Rattle.locus_ids.specs.declared.config.Config.{Config}
 use Rattle.locus_ids.specs.declared.ids.FileId.{FileId}
@@ -26,7 +28,7 @@ use Rattle.orderly_laws.specs.Calm.{IsInside}
 use Rattle.orderly_laws.proofs.Places.{view_eq}
 use Rattle.calm_laws.specs.Carrying.{IsMember, Goes, Holds, look_body, open_body, opening_body, own_serial, CarriesLook, CarriesOpen, CarriesOp, CarriesClose, Carries, IsHeld, IsUnderWay, HasReported, Reports}
 use Rattle.calm_laws.specs.Calming.{StartsInTime, NobodyWaitsAtTheEnd}
-use Rattle.calm_laws.proofs.Lists.{true_false, some_is, both_true, no_element, all_pass, every_among, row_key}
+use Rattle.calm_laws.proofs.Lists.{no_element, all_pass, every_among, row_key}
 use Rattle.calm_laws.proofs.Members.{member_of, sync_is, nothing_goes}
 
 -- ---- whatever carries goes from a member to a member ----
@@ -118,7 +120,7 @@ nobody_waits c e w together reach within nothing starts carried s v m here = no_
         lacks = every_among (StartsInTime (frame_in c css h.view.boot e)) h.table h.view.tables table.0 (starts css h.view e h.here (ap (λ (y : SiteView). y.epoch) (sym is_view) ∙ inside.epoch)) h.unstarted
 
         same : (k : SiteView) (t : SyncTable) → h.view ≡ k → row table_group group k.tables ≡ Some t → h.table ≡ t
-        same k t eq found = some_is h.table t (sym h.found ∙ (ap (λ (y : SiteView). row table_group group y.tables) eq ∙ found))
+        same k t eq found = some_same h.table t (sym h.found ∙ (ap (λ (y : SiteView). row table_group group y.tables) eq ∙ found))
 
         has_it : (t : ℕ) → HasReported (place_at w) css group t → has h.table.reported t ≡ true
         has_it t k = ap (λ (y : SyncTable). has y.reported t) (same k.view k.table (view_eq (place_at w css) h.view k.view h.here k.here) k.found) ∙ k.reported

@@ -1,5 +1,7 @@
 -- What an event of a member does after its handler: an adoption, and mends that start, leave all that carries requests.
 use Rattle.std.proofs.Common.{◌≡◌, ℕ, Bool, true, false, List, ◌++◌, Option, Some, None, refl, sym, ◌∙◌, ap, subst}
+use Rattle.role_steps.proofs.of_plain_facts.Options.{none_some, some_same}
+use Rattle.role_steps.proofs.of_plain_facts.Tests.{true_false}
 use Rattle.locus_ids.specs.declared.config.Config.{Config}
 use Rattle.locus_ids.specs.declared.sites.Links.{Links}
 use Rattle.wire_messages.specs.declared.body.Body.{Body}
@@ -17,7 +19,6 @@ use Rattle.orderly_laws.proofs.Formed.{among_left, among_right, order_has}
 use Rattle.calm_laws.specs.Carrying.{frame_of}
 use Rattle.calm_laws.proofs.Calls.{CallsAsk, OnlyCalls, mends_calls, calls_wider}
 use Rattle.calm_laws.proofs.Keeping.{KeepsRoles, all_itself, roles_then}
-use Rattle.calm_laws.proofs.Lists.{true_false, none_some, some_is}
 
 some_none : (r : Round) → ◌≡◌ {A = Option Round} (Some r) None → ⊥
 some_none r e = cc
@@ -32,7 +33,7 @@ ends_calls c me links v e none inside = by_round v.round none
     by_epoch None h = absurd (none_some e h)
     by_epoch (Some d) h =
         let k : OnlyCalls (frame_in c me v.boot d) v (starts_mends_of c me (Some d) v) = mends_calls (frame_in c me v.boot d) v in
-        subst (λ (i : InEpoch). OnlyCalls (frame_in c me v.boot i) v (joined_to (quiet v) (starts_mends_of c me (Some d) v))) (some_is d e h) (record { same = k.same; calls = k.calls })
+        subst (λ (i : InEpoch). OnlyCalls (frame_in c me v.boot i) v (joined_to (quiet v) (starts_mends_of c me (Some d) v))) (some_same d e h) (record { same = k.same; calls = k.calls })
 
     by_round : (r : Option Round) → r ≡ None → OnlyCalls (frame_in c me v.boot e) v (and_then (passes_over_of c me links r v) (λ now. starts_mends_of c me now.epoch now))
     by_round None h = by_epoch v.epoch inside

@@ -43,7 +43,7 @@ acts_moved n s v o w =
     acts_cases (λ u. u.over ≡ None → Moved n s o w u) n s v o w
     (runs (λ now. now) (λ t. refl) refl)
     (λ a. runs (arms a) (λ t. refl) refl)
-    (λ d a e. happened_cases (λ u. u.over ≡ None → Moved n s o w u) n [] (cut_told s d a.how a.left) (stops_with s (cut_disk v.boot v.store d a.how a.left)) w
+    (λ d a e. happened_cases (λ u. u.over ≡ None → Moved n s o w u) n [] (cut_told s v.store d a.how a.left) (stops_with s (cut_disk v.boot v.store d a.how a.left)) w
     (λ l e k. absurd (some_limit l (sym e ∙ k)))
     (λ l k. absurd (some_limit l k))
     (λ k b t e h. record {

@@ -1,5 +1,5 @@
 -- The one-tree invariant in each world of a round: what each site has and each packet carries is so by the trace.
-use Rattle.std.proofs.Common.{◌≡◌, ℕ, zero, suc, ◌+◌, ◌-◌, ◌≤◌, Bool, true, false, ◌&&◌, List, [], ◌∷◌, ◌++◌, length, take, Some, refl, sym, ◌∙◌, ap, subst, inl, inr, slice_index_or, arith}
+use Rattle.std.proofs.Common.{◌≡◌, ℕ, zero, suc, ◌+◌, ◌-◌, ◌≤◌, true, List, [], ◌∷◌, ◌++◌, length, take, Some, refl, sym, ◌∙◌, ap, subst, inl, inr, slice_index_or, arith}
 use Rattle.std.proofs.lemmas.Bool.Decides.{nat_tests}
 use Rattle.locus_ids.specs.declared.config.Config.{Config}
 use Rattle.schedule_lines.specs.Ranges.{fits_event}
@@ -14,19 +14,19 @@ use Rattle.the_run.specs.Runs.{delivers, ticks_to, run_in}
 use Rattle.the_run.specs.Steps.{step}
 use Rattle.the_run.specs.Worlds.{World, Running, Line, number_of, place_at, links_of, passed, acts}
 use Rattle.the_run.proofs.InsideSync.{every_without}
-use Rattle.row_laws.specs.Voids.{LinesFit}
+use Rattle.orderly_traces.specs.of_row_laws.Voids.{LinesFit}
 use Rattle.orderly_laws.specs.Calm.{delivered}
 use Rattle.orderly_laws.proofs.Rounds.{RoundKept, ticks_kept}
-use Rattle.one_tree_laws.specs.Places.{NumberedFact, WorldFact}
-use Rattle.one_tree_laws.specs.Rest.{EachRest, IsRest}
-use Rattle.one_tree_laws.specs.Roles.{EventFact, RolesDo}
-use Rattle.one_tree_laws.proofs.Cuts.{step_writes}
-use Rattle.one_tree_laws.proofs.Run.{run_holds}
-use Rattle.one_tree_laws.proofs.Staying.{Stays, stays}
-use Rattle.one_tree_laws.proofs.Steps.{step_fine}
-use Rattle.one_tree_laws.proofs.Worlds.{Holds, acts_holds, says_holds}
-use Rattle.rest_laws.proofs.Resting.{run_low, run_rests}
-use Rattle.rest_laws.proofs.Roles.{roles_do}
+use Rattle.calm_sent_laws.specs.of_one_tree_laws.Places.{NumberedFact, WorldFact}
+use Rattle.calm_sent_laws.specs.of_one_tree_laws.Rest.{EachRest, IsRest}
+use Rattle.calm_sent_laws.specs.of_one_tree_laws.Roles.{EventFact, RolesDo}
+use Rattle.calm_sent_laws.proofs.of_one_tree_laws.Cuts.{step_writes}
+use Rattle.calm_sent_laws.proofs.of_one_tree_laws.Run.{run_holds}
+use Rattle.calm_sent_laws.proofs.of_one_tree_laws.Staying.{Stays, stays}
+use Rattle.calm_sent_laws.proofs.of_one_tree_laws.Steps.{step_fine}
+use Rattle.calm_sent_laws.proofs.of_one_tree_laws.Worlds.{Holds, acts_holds, says_holds}
+use Rattle.fit_laws.proofs.of_rest_laws.Resting.{run_low, run_rests}
+use Rattle.fit_laws.proofs.of_rest_laws.Roles.{roles_do}
 use Rattle.calm_laws.specs.Rounds.{IsInRound}
 use Rattle.calm_laws.proofs.Limits.{line_there, take_length, take_fit}
 use Rattle.calm_laws.proofs.Lists.{every_among}
@@ -53,13 +53,6 @@ holds_round c n roles = record {
 }
 
 -- ---- a schedule with a round ----
-
-and_parts : (a b : Bool) → (a && b) ≡ true → b ≡ true
-and_parts true b h = h
-and_parts false b h = absurd (false_true h)
-  where
-    false_true : false ≡ true → ⊥
-    false_true e = cc
 
 round_low : (sites most : ℕ) → fits_event sites (line.Settle most) ≡ true → most ≤ 1000000
 round_low sites most h = grind (arith, nat_tests)

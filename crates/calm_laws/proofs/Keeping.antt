@@ -2,6 +2,8 @@
 -- request goes on to carry it.
 use Rattle.std.proofs.Common.{◌≡◌, ◌≢◌, ℕ, ◌==◌, ◌⊎◌, Bool, true, false, List, [], ◌∷◌, Option, Some, refl, sym, ◌∙◌, ap, subst, inl, inr}
 use Rattle.std.specs.List.{list_any}
+use Rattle.role_steps.proofs.of_plain_facts.Options.{none_some}
+use Rattle.role_steps.proofs.of_plain_facts.Tests.{true_false}
 use Rattle.locus_ids.specs.Sites.{has}
 use Rattle.locus_ids.specs.declared.config.Config.{Config}
 use Rattle.locus_ids.specs.declared.ids.Serial.{Serial}
@@ -31,7 +33,6 @@ use Rattle.the_run.proofs.Boots.{at_each}
 use Rattle.epoch_laws.specs.Known.{Places}
 use Rattle.orderly_laws.proofs.Places.{view_eq}
 use Rattle.calm_laws.specs.Carrying.{IsMember, Goes, Holds, IsAsked, HasUnended, look_body, open_body, own_serial, held_request, CarriesOpen, CarriesClose, ClosesIt, Carries, IsHeld, HasReported}
-use Rattle.calm_laws.proofs.Lists.{true_false, none_some}
 use Rattle.calm_laws.proofs.Members.{sync_is}
 
 -- ---- what is kept of a table ----

@@ -1,6 +1,8 @@
 -- What is left of operations follows, where what scripts ask is lawful on what their instances have.
 use Rattle.std.proofs.Common.{◌≡◌, ℕ, ◌+◌, ◌≤◌, ◌==◌, Bool, true, false, cond, ◌&&◌, List, [], ◌∷◌, Option, Some, None, refl, sym, ◌∙◌, ap, subst, inl, inr, arith}
 use Rattle.std.specs.List.{find}
+use Rattle.role_steps.proofs.of_plain_facts.Options.{none_some, some_same}
+use Rattle.role_steps.proofs.of_plain_facts.Tests.{and_second, false_true}
 use Rattle.locus_ids.specs.declared.config.Config.{Config}
 use Rattle.locus_ids.specs.declared.ids.EpochId.{EpochId}
 use Rattle.locus_ids.specs.declared.ids.Serial.{Serial}
@@ -27,7 +29,7 @@ use Rattle.role_steps.specs.declared.instances.Instance.{Instance}
 use Rattle.role_steps.specs.declared.rounds.InEpoch.{InEpoch}
 use Rattle.the_run.specs.Kept.{Among}
 use Rattle.the_run.specs.Worlds.{Line, World}
-use Rattle.store_laws.proofs.Tabled.{latest_same}
+use Rattle.calm_sent_laws.proofs.of_store_laws.Tabled.{latest_same}
 use Rattle.locus_ids.specs.declared.ids.Kind.{Kind}
 use Rattle.commit_graph.specs.declared.history.Version.{Version}
 use Rattle.tree_model.specs.declared.instance.Instance.{Instance as Open}
@@ -42,11 +44,11 @@ use Rattle.lawful_trace.specs.TreeRows.{granted_group}
 use Rattle.tree_laws.specs.Following.{IsFollowed, MayTell}
 use Rattle.tree_laws.specs.Past.{ActRecord, Printed, WasDone}
 use Rattle.tree_laws.specs.Printed.{entries}
-use Rattle.store_laws.proofs.AnswerDone.{act_next, done_low}
+use Rattle.calm_sent_laws.proofs.of_store_laws.AnswerDone.{act_next, done_low}
 use Rattle.calm_laws.proofs.Operation.{OperationsAreDone}
-use Rattle.one_tree_laws.specs.Rest.{Past}
+use Rattle.calm_sent_laws.specs.of_one_tree_laws.Rest.{Past}
 use Rattle.calm_laws.specs.Carrying.{frame_of}
-use Rattle.calm_laws.proofs.Sorts.{effect_sort, no_answers, none_some, op_of, result_sort, some_is}
+use Rattle.calm_laws.proofs.Sorts.{effect_sort, no_answers, op_of, result_sort}
 use Rattle.schedule_lines.specs.declared.line.ScheduleLine.{ScheduleLine}
 use Rattle.calm_laws.specs.Rounds.{IsInRound, IsLawful, OperationsAreLawful}
 use Rattle.calm_laws.proofs.CloseAgreed.{past_of}
@@ -60,7 +62,7 @@ effect_is op.Mend seen m content e k = over (effect (Mends (has_several m.conten
   where
     over : (x : Option Effect) → effect (Mends (has_several m.contents) (dir_bytes (rescued (joined_contents m.contents) m.kept))) content ≡ x → or_spent (rescue_is_spent (joined_contents m.contents) m.kept) x ≡ Some e → answers_op op.Mend e.result ≡ true
     over None q z = absurd (none_some e z)
-    over (Some y) q z = subst (λ (t : Effect). answers_op op.Mend t.result ≡ true) (some_is _ e z) (effect_sort (Mends (has_several m.contents) (dir_bytes (rescued (joined_contents m.contents) m.kept))) content y q)
+    over (Some y) q z = subst (λ (t : Effect). answers_op op.Mend t.result ≡ true) (some_same _ e z) (effect_sort (Mends (has_several m.contents) (dir_bytes (rescued (joined_contents m.contents) m.kept))) content y q)
 effect_is o seen m content e k = effect_sort (As o) content e k
 
 operated_ops : (e : Effect) (r : Result) (w : Work) → (operated e r w).ops ≡ w.ops + 1
@@ -149,9 +151,6 @@ stamp_answers (op.Read at len) a b = refl
 stamp_answers op.Commit a b = refl
 stamp_answers _ a b = refl
 
-false_true : false ≡ true → ⊥
-false_true e = cc
-
 same_sort : (o : Op) (z r : Result) → same_outcome z r ≡ true → answers_op o z ≡ true → answers_op o r ≡ true
 same_sort o z (result.No why) e h = no_answers o why
 same_sort o result.Done result.Done e h = h
@@ -171,10 +170,10 @@ commit_sort spent w z e = over w.owes w.last e
     over true l k = refused spent k
       where
         refused : (b : Bool) → ◌≡◌ {A = Option Result} (cond b (Some (result.No refusal.Spent)) None) (Some z) → answers_op op.Commit z ≡ true
-        refused true q = subst (λ (y : Result). answers_op op.Commit y ≡ true) (some_is _ z q) refl
+        refused true q = subst (λ (y : Result). answers_op op.Commit y ≡ true) (some_same _ z q) refl
         refused false q = absurd (none_some z q)
     over false None k = absurd (none_some z k)
-    over false (Some s) k = subst (λ (y : Result). answers_op op.Commit y ≡ true) (some_is (result.Committed s) z k) refl
+    over false (Some s) k = subst (λ (y : Result). answers_op op.Commit y ≡ true) (some_same (result.Committed s) z k) refl
 
 -- a deed is of its operation
 deed_sort : (h : List Version) (t : TreeState) (o : Op) (x : Open) (d : Deed) → deed_of h t o x ≡ Some d → op_of d ≡ o
@@ -182,13 +181,13 @@ deed_sort h t (op.Remove name ino) x d e = over (find (is_target x.grant.call in
   where
     seen : (y : Open) (l : Option Stamp) → sees h name ino (Some (record y { work = record y.work { last = l } })) ≡ Some d → op_of d ≡ op.Remove name ino
     seen y None k = absurd (none_some d k)
-    seen y (Some s) k = sym (ap op_of (some_is _ d k))
+    seen y (Some s) k = sym (ap op_of (some_same _ d k))
 
     over : (z : Option Open) → sees h name ino z ≡ Some d → op_of d ≡ op.Remove name ino
     over None k = absurd (none_some d k)
     over (Some y) k = seen y y.work.last k
-deed_sort h t op.Mend x d e = sym (ap op_of (some_is _ d e))
-deed_sort h t o x d e = sym (ap op_of (some_is (As o) d e))
+deed_sort h t op.Mend x d e = sym (ap op_of (some_same _ d e))
+deed_sort h t o x d e = sym (ap op_of (some_same (As o) d e))
 
 room_sort : (o : Op) (free : ℕ) (changed : List ℕ) (q : Option Deed) (content : List ℕ) (z : Result) → ((d : Deed) → q ≡ Some d → op_of d ≡ o) → tree.in_room free changed (tree.effect_of q content) ≡ Some z → answers_op o z ≡ true
 room_sort o free changed None content z h e = absurd (none_some z e)
@@ -196,19 +195,15 @@ room_sort o free changed (Some d) content z h e = over (effect d content) refl e
   where
     over : (y : Option Effect) → effect d content ≡ y → tree.in_room free changed y ≡ Some z → answers_op o z ≡ true
     over None k q = absurd (none_some z q)
-    over (Some f) k q = subst (λ (r : Result). answers_op o r ≡ true) (some_is _ z q) (result_sort o free changed f (subst (λ (p : Op). answers_op p f.result ≡ true) (h d refl) (effect_sort d content f k)))
+    over (Some f) k q = subst (λ (r : Result). answers_op o r ≡ true) (some_same _ z q) (result_sort o free changed f (subst (λ (p : Op). answers_op p f.result ≡ true) (h d refl) (effect_sort d content f k)))
 
 on_sort : (h : List Version) (t : TreeState) (o : Op) (x : Open) (z : Result) → result_on h t o x ≡ Some z → answers_op o z ≡ true
 on_sort h t op.Commit x z e = commit_sort (tree.is_spent h t x) x.work z e
-on_sort h t op.Abort x z e = subst (λ (y : Result). answers_op op.Abort y ≡ true) (some_is _ z e) refl
+on_sort h t op.Abort x z e = subst (λ (y : Result). answers_op op.Abort y ≡ true) (some_same _ z e) refl
 on_sort h t o x z e = room_sort o (tree.free_pages h t x.grant.ss) x.work.changed (deed_of h t o x) x.work.content z (deed_sort h t o x) e
 
-second_true : (a b : Bool) → (a && b) ≡ true → b ≡ true
-second_true true b e = e
-second_true false b e = absurd (false_true e)
-
 act_sort : (h : List Version) (t : TreeState) (i : Serial) (n : ℕ) (o : Op) (r : Result) (x : Open) → instance_in t i ≡ Some x → gives_act h t i n o r ≡ true → answers_op o r ≡ true
-act_sort h t i n o r x found g = given_sort o (result_on h t o x) r (on_sort h t o x) (second_true (n == x.work.ops + 1) (is_given (result_on h t o x) r) (subst (λ (z : Option Open). instance_gives h t n o r z ≡ true) found g))
+act_sort h t i n o r x found g = given_sort o (result_on h t o x) r (on_sort h t o x) (and_second (n == x.work.ops + 1) (is_given (result_on h t o x) r) (subst (λ (z : Option Open). instance_gives h t n o r z ≡ true) found g))
 
 done_sort : (c : Config) (t : List Line) → IsFollowed c t → (e : EpochId) (i : Serial) (n : ℕ) (o : Op) (r : Result) → WasDone t e i n o r → answers_op o r ≡ true
 done_sort c [] h e i n o r a = absurd a

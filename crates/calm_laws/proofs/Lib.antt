@@ -62,3 +62,7 @@ pub mod CalmAnswerEarlyTaken
 pub mod CalmAnswerReports
 pub mod CalmAnswerAnswered
 pub mod CalmAnswerOperationFacts
+pub use Rattle.fit_laws.proofs as of_fit_laws
+pub use Rattle.fit_laws.proofs.of_rest_laws as of_rest_laws
+pub use Rattle.orderly_laws.proofs as of_orderly_laws
+pub use Rattle.orderly_traces.proofs as of_orderly_traces

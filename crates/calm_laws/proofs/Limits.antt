@@ -1,11 +1,12 @@
 -- A run that passes no limit passes none by any of its lines; and what lines and records have of their first ones.
 use Rattle.std.proofs.Common.{◌≡◌, ℕ, zero, suc, ◌≤◌, nat_lt, Bool, true, false, cond, ◌||◌, List, [], ◌∷◌, length, take, Some, None, refl, ◌∙◌, ap, slice_index_or, arith}
 use Rattle.std.specs.List.{list_any}
+use Rattle.role_steps.proofs.of_plain_facts.Tests.{or_neither}
 use Rattle.locus_ids.specs.declared.config.Config.{Config}
 use Rattle.schedule_lines.specs.declared.line.Line.{Line as LineWords}
 use Rattle.schedule_lines.specs.declared.line.ScheduleLine.{ScheduleLine}
 use Rattle.schedule_lines.specs.declared.line.ScheduleLine.TheVariants.{Passed, Event as EventLine}
-use Rattle.trace_book.specs.declared.book.Entry.{Entry}
+use Rattle.trace_book.specs.declared.entry.Entry.{Entry}
 use Rattle.role_steps.specs.Views.{SiteView, Outcome}
 use Rattle.tree_model.specs.Folds.{Trace, before_line}
 use Rattle.the_run.specs.Disks.{Booted, Whole, CutOff, boots}
@@ -15,10 +16,9 @@ use Rattle.the_run.specs.Steps.{step}
 use Rattle.the_run.specs.Worlds.{World, links_of, script_of, puts, arms, passed, stops_with, disk_of, acts}
 use Rattle.the_run.proofs.Events.{acts_keeps}
 use Rattle.the_run.proofs.Runs.{run_from_keeps}
-use Rattle.row_laws.specs.Voids.{LinesFit}
+use Rattle.orderly_traces.specs.of_row_laws.Voids.{LinesFit}
 use Rattle.orderly_laws.proofs.Blocks.{happened_within}
 use Rattle.orderly_traces.proofs.Spans.{world, span, whole_run}
-use Rattle.calm_laws.proofs.Lists.{true_false}
 
 -- ---- limits ----
 
@@ -79,15 +79,11 @@ take_fit c lines m h (suc k) l e = h (suc k) l (take_line m k lines l e)
 
 -- ---- the first records ----
 
-or_false : (a b : Bool) → (a || b) ≡ false → (a ≡ false) × (b ≡ false)
-or_false true b h = absurd (true_false h)
-or_false false b h = (refl, h)
-
 -- records before a line are some of all
 pub before_any : (p : Entry → Bool) (trace : Trace) (n : ℕ) → list_any p trace ≡ false → list_any p (before_line trace n) ≡ false
 before_any p [] n h = refl
 before_any p (r ∷ older) n h =
     elim (nat_lt r.line n) as (λ b. list_any p (cond b (r ∷ older) (before_line older n)) ≡ false) [
       | true ↦ h
-      | false ↦ before_any p older n (or_false (p r) (list_any p older) h).1
+      | false ↦ before_any p older n (or_neither (p r) (list_any p older) h).1
     ]

@@ -2,23 +2,12 @@
 use Rattle.std.proofs.Common.{◌≡◌, ℕ, ◌==◌, Bool, true, false, cond, ◌&&◌, List, [], ◌∷◌, filter, Option, Some, None, refl, sym, ◌∙◌, ap, subst, inl, inr, arith}
 use Rattle.std.proofs.lemmas.Bool.Decides.{nat_tests}
 use Rattle.std.specs.List.{list_all}
+use Rattle.role_steps.proofs.of_plain_facts.Options.{none_some, some_same}
+use Rattle.role_steps.proofs.of_plain_facts.Tests.{true_false}
 use Rattle.role_steps.specs.Own.{Every}
 use Rattle.role_steps.specs.Tables.{row, first_that}
 use Rattle.role_steps.specs.Views.{first_site}
 use Rattle.the_run.specs.Kept.{Among}
-
-pub true_false : true ≡ false → ⊥
-true_false e = cc
-
-pub some_is : {A : Type 0} (x y : A) → ◌≡◌ {A = Option A} (Some x) (Some y) → x ≡ y
-some_is x y e = cc
-
-pub none_some : {A : Type 0} (x : A) → ◌≡◌ {A = Option A} None (Some x) → ⊥
-none_some x e = cc
-
-pub both_true : (a b : Bool) → (a && b) ≡ true → (a ≡ true) × (b ≡ true)
-both_true true b e = (refl, e)
-both_true false b e = absurd (true_false (sym e))
 
 pub no_element : {A : Type 0} (xs : List A) → ((x : A) → Among x xs → ⊥) → xs ≡ []
 no_element [] h = refl
@@ -52,7 +41,7 @@ first_passes test [] s e = absurd (none_some s e)
 first_passes test (x ∷ xs) s e = over (test x) refl (first_passes test xs s) e
   where
     over : (b : Bool) → test x ≡ b → (first_site (filter test xs) ≡ Some s → test s ≡ true) → first_site (cond b (x ∷ filter test xs) (filter test xs)) ≡ Some s → test s ≡ true
-    over true t k f = ap test (sym (some_is x s f)) ∙ t
+    over true t k f = ap test (sym (some_same x s f)) ∙ t
     over false t k f = k f
 
 pub every_among : {A : Type 0} (P : A → Type 0) (x : A) (xs : List A) → Among x xs → Every P xs → P x
@@ -65,7 +54,7 @@ pub row_key : {A : Type 0} (key : A → ℕ) (k : ℕ) (xs : List A) (x : A) →
 row_key key k [] x e = absurd (none_some x e)
 row_key {A = A} key k (y ∷ ys) x e =
     (elim (key y == k) as (λ b. (key y == k) ≡ b → ◌≡◌ {A = Option A} (elim b [ true ↦ Some y | false ↦ row key k ys ]) (Some x) → Among x (y ∷ ys) × (key x ≡ k)) [
-      | true ↦ λ t f. (inl (sym (some_is y x f)), ap key (sym (some_is y x f)) ∙ equal (key y) k t)
+      | true ↦ λ t f. (inl (sym (some_same y x f)), ap key (sym (some_same y x f)) ∙ equal (key y) k t)
       | false ↦ λ t f. (let r : Among x ys × (key x ≡ k) = row_key key k ys x f in (inr r.0, r.1))
     ]) refl e
   where

@@ -16,9 +16,11 @@ use Rattle.wire_messages.specs.declared.body.LookAnswer.TheVariants as looked
 use Rattle.role_steps.specs.Requests.{waiting_key, request_packets}
 use Rattle.role_steps.specs.Using.{answers_what, asks_take, content_answer, with_brought, looks_again, takes_look, on_look_done, on_look_done_of}
 use Rattle.tree_laws.specs.Stores.{Ascends}
-use Rattle.user_laws.specs.Leaving.{AreApart}
+use Rattle.calm_sent_laws.specs.of_user_laws.Leaving.{AreApart}
 use Rattle.std.proofs.lemmas.Bool.Decides.{nat_tests}
-use Rattle.one_tree_laws.specs.Places.{InsideFact}
+use Rattle.role_steps.proofs.of_plain_facts.Numbers.{apart, equal, equal_test}
+use Rattle.role_steps.proofs.of_plain_facts.Tests.{both_true}
+use Rattle.calm_sent_laws.specs.of_one_tree_laws.Places.{InsideFact}
 use Rattle.role_steps.specs.Views.{Frame, Users, SiteView}
 use Rattle.role_steps.specs.declared.rounds.InEpoch.{InEpoch}
 use Rattle.role_steps.specs.declared.users.Asking.{Asking}
@@ -37,8 +39,8 @@ use Rattle.calm_laws.proofs.Carriers.{of_kind, MayCarry, IsLookAsking, carrier_k
 use Rattle.calm_laws.proofs.Ends.{handles}
 use Rattle.calm_laws.proofs.Facts.{RoundFacts}
 use Rattle.calm_laws.proofs.Rows.{AllGoToMembers, TriesNone, Taker, taker}
-use Rattle.calm_laws.proofs.Lists.{every_among, both_true}
-use Rattle.calm_laws.proofs.UserParts.{UserHandler, users_handle, answer_calls, answer_handler, Found, first_found, equal, same_true}
+use Rattle.calm_laws.proofs.Lists.{every_among}
+use Rattle.calm_laws.proofs.UserParts.{UserHandler, users_handle, answer_calls, answer_handler, Found, first_found}
 
 -- ---- which calls it carries ----
 
@@ -97,17 +99,11 @@ forms _ k = absurd k
 
 -- ---- a look that is asked again ----
 
-above : (a b d : ℕ) → a < b → b < d → a ≡ d → ⊥
-above a b d h k e = omega (arith, h, k, e)
-
 below_not : (a b : ℕ) → nat_lt a b ≡ true → a ≡ b → ⊥
 below_not a b h e = grind (arith, nat_tests)
 
 equal_below : (a b d : ℕ) → (a == b) ≡ true → a < d → d ≡ b → ⊥
 equal_below a b d h k e = grind (arith, nat_tests)
-
-not_equal : (a b : ℕ) → (a == b) ≡ false → a ≡ b → ⊥
-not_equal a b h e = grind (arith, nat_tests)
 
 beyond : (a b d : ℕ) → nat_lt a b ≡ false → a < d → d ≡ b → ⊥
 beyond a b d h k e = grind (arith, nat_tests)
@@ -127,7 +123,7 @@ row_strict {A = A} key x y (z ∷ zs) h m = by_order (nat_lt (key z) (key x)) (k
     by_order false true p q f (inl e) = inl e
     by_order false true p q f (inr k) = inr (λ r. equal_below (key z) (key x) (key y) q (higher y k) r)
     by_order false false p q f (inl e) = inl e
-    by_order false false p q f (inr (inl e)) = inr (λ k. not_equal (key z) (key x) q (ap key (sym e) ∙ k))
+    by_order false false p q f (inr (inl e)) = inr (λ k. apart (key z) (key x) q (ap key (sym e) ∙ k))
     by_order false false p q f (inr (inr k)) = inr (λ r. beyond (key z) (key x) (key y) p (higher y k) r)
 
 asked_again : (f : Frame) (y : WaitingCall) (a : Asking) (file : FileId) (w : What) (take : ℕ) (u : Users) → a ≡ asking.Look file w take → Ascends waiting_key u.waiting → Among y (looks_again f y a u).view.waiting → IsSent f y (looks_again f y a u).sent
@@ -212,8 +208,8 @@ look_answer_row c members lines n e x w d kind old = answer_row c members lines 
             test = asks_take y.call y.request a.take a.answers.answer
 
             passes : test y ≡ true
-            passes = test_is y.call y.request a.take a.answers.answer y ∙ all_true (y.call == y.call) (y.request == y.request) (test_of y.asking a.take a.answers.answer) (same_true y.call y.call refl) (same_true y.request y.request refl)
-                (ap (λ (z : Asking). test_of z a.take a.answers.answer) a.is ∙ (ap (λ (b : Bool). b && answers_what a.what a.answers.answer) (same_true a.take a.take refl) ∙ a.answers.fits))
+            passes = test_is y.call y.request a.take a.answers.answer y ∙ all_true (y.call == y.call) (y.request == y.request) (test_of y.asking a.take a.answers.answer) (equal_test y.call y.call refl) (equal_test y.request y.request refl)
+                (ap (λ (z : Asking). test_of z a.take a.answers.answer) a.is ∙ (ap (λ (b : Bool). b && answers_what a.what a.answers.answer) (equal_test a.take a.take refl) ∙ a.answers.fits))
 
             first : Found test v.users.waiting
             first = first_found test v.users.waiting y there passes

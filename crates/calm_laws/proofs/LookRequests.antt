@@ -2,6 +2,7 @@
 -- version once it has, where the tables know the looks that are asked.
 use Rattle.std.proofs.Common.{◌≡◌, ℕ, ◌⊎◌, ◌||◌, Bool, true, false, cond, List, [], ◌∷◌, ◌++◌, map, filter, Option, Some, None, refl, sym, ◌∙◌, ap, subst, inl, inr}
 use Rattle.std.specs.List.{list_any}
+use Rattle.role_steps.proofs.of_plain_facts.Tests.{true_false}
 use Rattle.locus_ids.specs.declared.config.Config.{Config}
 use Rattle.locus_ids.specs.declared.ids.FileId.{FileId}
 use Rattle.locus_ids.specs.declared.ids.Stamp.{Stamp}
@@ -39,12 +40,12 @@ use Rattle.the_run.specs.Kept.{Among}
 use Rattle.the_run.specs.Steps.{at_table_of, takes_inside}
 use Rattle.the_run.specs.Worlds.{World, Running, place_at}
 use Rattle.the_run.proofs.InsideSync.{Found}
-use Rattle.pack_laws.proofs.Sets.{chosen}
+use Rattle.calm_table_laws.proofs.of_pack_laws.Sets.{chosen}
 use Rattle.epoch_laws.specs.Forming.{FormsNone}
 use Rattle.epoch_laws.specs.Known.{Places}
-use Rattle.one_tree_laws.specs.Places.{InsideFact}
-use Rattle.one_tree_laws.proofs.Parts.{tables_rise}
-use Rattle.one_tree_laws.proofs.Rising.{Rising, row_key}
+use Rattle.calm_sent_laws.specs.of_one_tree_laws.Places.{InsideFact}
+use Rattle.calm_sent_laws.proofs.of_one_tree_laws.Parts.{tables_rise}
+use Rattle.calm_sent_laws.proofs.of_one_tree_laws.Rising.{Rising, row_key}
 use Rattle.orderly_laws.specs.Calm.{AreTogether}
 use Rattle.orderly_laws.proofs.Formed.{among_left, among_right}
 use Rattle.role_steps.specs.Epochs.{frame_in}
@@ -56,7 +57,6 @@ use Rattle.calm_laws.proofs.Ends.{handles}
 use Rattle.calm_laws.proofs.Facts.{round_facts}
 use Rattle.calm_laws.proofs.Handing.{StillWaits, IsHandedOn}
 use Rattle.calm_laws.proofs.Keeping.{KeepsTable, all_itself}
-use Rattle.calm_laws.proofs.Lists.{true_false}
 use Rattle.calm_laws.proofs.Others.{Leaves, put_kept}
 use Rattle.calm_laws.proofs.TableThere.{table_there}
 use Rattle.calm_laws.proofs.Rows.{AllGoToMembers, TriesNone, Taker, taker, placed, placed_here, keeping_hands, handler_row}

@@ -1,6 +1,7 @@
 -- Members of an epoch that are together: they run, and packets come from each to each.
 use Rattle.std.proofs.Common.{◌≡◌, ◌≢◌, ℕ, true, false, ◌&&◌, Option, Some, None, sym, ◌∙◌, ap, subst, arith}
 use Rattle.std.proofs.lemmas.Bool.Decides.{nat_tests}
+use Rattle.role_steps.proofs.of_plain_facts.Tests.{both_true}
 use Rattle.locus_ids.specs.Sites.{has}
 use Rattle.locus_ids.specs.declared.config.Config.{Config}
 use Rattle.wire_messages.specs.declared.body.Body.{Body}
@@ -17,7 +18,7 @@ use Rattle.orderly_laws.specs.Settling.{boot_at}
 use Rattle.orderly_laws.proofs.Places.{is_up_linked}
 use Rattle.calm_laws.specs.Carrying.{IsMember, Goes}
 use Rattle.calm_laws.specs.Calming.{ReachThemselves}
-use Rattle.calm_laws.proofs.Lists.{both_true, none_passes, first_passes}
+use Rattle.calm_laws.proofs.Lists.{none_passes, first_passes}
 
 -- who is in the list by the test is a member
 pub member_of : (e : InEpoch) (s : ℕ) → is_member e.members s ≡ true → IsMember e s

@@ -2,6 +2,8 @@
 use Rattle.std.proofs.Common.{◌≤◌, ◌≡◌, ℕ, zero, suc, ◌+◌, ◌==◌, Bool, true, false, ◌||◌, List, [], ◌∷◌, ◌++◌, Option, Some, None, refl, sym, ◌∙◌, ap, append_assoc, arith}
 use Rattle.std.proofs.lemmas.Bool.Decides.{nat_tests}
 use Rattle.std.specs.List.{list_any}
+use Rattle.role_steps.proofs.of_plain_facts.Numbers.{equal_test}
+use Rattle.role_steps.proofs.of_plain_facts.Tests.{false_true, or_neither}
 use Rattle.locus_ids.specs.declared.config.Config.{Config}
 use Rattle.trace_book.specs.declared.record.Record.{Record}
 use Rattle.trace_book.specs.declared.record.Record.TheVariants as says
@@ -13,10 +15,9 @@ use Rattle.lawful_trace.specs.Calm.{IsMoment, tells_budget}
 use Rattle.the_run.specs.Runs.{arrives, next_packet, goes_round, budget_ends, ends_round, delivers}
 use Rattle.the_run.specs.Worlds.{World, Limit, Numbered, Line, told_onto, happened, puts, arms, passed, stops_with, acts}
 use Rattle.the_run.proofs.Events.{happened_keeps, acts_keeps, onto_front}
-use Rattle.row_laws.specs.Shown.{shown, with_told, trace_of}
+use Rattle.orderly_traces.specs.of_row_laws.Shown.{shown, with_told, trace_of}
 use Rattle.orderly_laws.specs.Calm.{delivers_next, delivered}
 use Rattle.orderly_laws.proofs.Rounds.{RoundKept, happened_cases}
-use Rattle.calm_laws.proofs.Lists.{true_false}
 
 -- ---- what a round leaves ----
 
@@ -84,20 +85,10 @@ IsBudgetTold _ = ⊥
 abbrev pub TellsNoBudget : ℕ → Line → Type 0
 TellsNoBudget n x = x.number ≡ n → IsBudgetTold x.told → ⊥
 
-or_false : (a b : Bool) → (a || b) ≡ false → (a ≡ false) × (b ≡ false)
-or_false true b h = absurd (true_false h)
-or_false false b h = (refl, h)
-
-false_true : false ≡ true → ⊥
-false_true e = cc
-
-test_own : (a b : ℕ) → a ≡ b → (a == b) ≡ true
-test_own a b e = grind (arith, nat_tests)
-
 record_case : (n k : ℕ) (r : Record) (older : Trace) → list_any (tells_budget n) (record { line = k; what = r } ∷ older) ≡ false → (k ≡ n → IsBudgetTold (Shown r) → ⊥) × (list_any (tells_budget n) older ≡ false)
 record_case n k says.Budget older h =
-    let g : (tells_budget n (record { line = k; what = says.Budget }) ≡ false) × (list_any (tells_budget n) older ≡ false) = or_false (tells_budget n (record { line = k; what = says.Budget })) (list_any (tells_budget n) older) h in
-    (λ e b. false_true (sym g.0 ∙ test_own k n e), g.1)
+    let g : (tells_budget n (record { line = k; what = says.Budget }) ≡ false) × (list_any (tells_budget n) older ≡ false) = or_neither (tells_budget n (record { line = k; what = says.Budget })) (list_any (tells_budget n) older) h in
+    (λ e b. false_true (sym g.0 ∙ equal_test k n e), g.1)
 record_case n k _ older h = (λ e b. b, h)
 
 pub no_budget : (n : ℕ) (trace : List Line) → list_any (tells_budget n) (shown trace) ≡ false → Every (TellsNoBudget n) trace

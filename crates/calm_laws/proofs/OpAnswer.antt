@@ -1,5 +1,7 @@
 -- The result of an operation that comes to its using site: the call that asks it takes it.
 use Rattle.std.proofs.Common.{◌≡◌, ℕ, ◌==◌, ◌⊎◌, Bool, true, false, ◌&&◌, List, Option, Some, None, refl, sym, ◌∙◌, ap, subst, inl, inr}
+use Rattle.role_steps.proofs.of_plain_facts.Numbers.{equal, equal_test}
+use Rattle.role_steps.proofs.of_plain_facts.Tests.{and_first}
 use Rattle.locus_ids.specs.declared.config.Config.{Config}
 use Rattle.locus_ids.specs.declared.ids.CallId.{CallId}
 use Rattle.trace_book.specs.declared.operation.Op.{Op}
@@ -26,7 +28,7 @@ use Rattle.tree_laws.specs.Packets.{serial_of}
 use Rattle.tree_laws.specs.Serials.{asked_now}
 use Rattle.tree_laws.specs.Following.{IsFollowed}
 use Rattle.tree_laws.specs.Users.{own_call, AskingIs, WaitingFact}
-use Rattle.store_laws.proofs.AnswerAskers.{op_had, one_has}
+use Rattle.calm_sent_laws.proofs.of_store_laws.AnswerAskers.{op_had, one_has}
 use Rattle.calm_laws.specs.Carrying.{frame_of, CarriesOp, AnswersOp, Carries}
 use Rattle.calm_laws.specs.Rounds.{CarriesOn, IsOpDone}
 use Rattle.calm_laws.proofs.AnswerRows.{HasTaken, AnswerHandler, answer_row, waiting_fact}
@@ -35,7 +37,7 @@ use Rattle.calm_laws.proofs.Carriers.{of_kind, MayCarry, carrier_kind}
 use Rattle.calm_laws.proofs.Ends.{handles}
 use Rattle.calm_laws.proofs.Facts.{RoundFacts}
 use Rattle.calm_laws.proofs.Rows.{AllGoToMembers, TriesNone, Taker, taker}
-use Rattle.calm_laws.proofs.UserParts.{UserHandler, users_handle, answer_calls, answer_handler, Found, first_found, call_inside, asked_is, op_asked, number_of_call, equal, same_true}
+use Rattle.calm_laws.proofs.UserParts.{UserHandler, users_handle, answer_calls, answer_handler, Found, first_found, call_inside, asked_is, op_asked, number_of_call}
 
 -- ---- which calls it carries ----
 
@@ -102,13 +104,6 @@ test_is serial n r y = by_asking y.asking
 and_true : (a b d : Bool) → a ≡ true → b ≡ true → d ≡ true → (a && (b && d)) ≡ true
 and_true a b d p q r = ap (λ (x : Bool). x && (b && d)) p ∙ (ap (λ (x : Bool). x && d) q ∙ r)
 
-first_true : (a b : Bool) → (a && b) ≡ true → a ≡ true
-first_true true b h = refl
-first_true false b h = absurd (false_true h)
-  where
-    false_true : false ≡ true → ⊥
-    false_true e = cc
-
 -- two calls of the site that ask an operation of one instance are one
 one_asks : (c : Config) (t : List Line) (f : Frame) (y z : WaitingCall) (serial : ℕ) → (h : WaitingFact c t f y) (g : WaitingFact c t f z) → IsFollowed c t → (o q : Op) → h.wanted ≡ want.Do (serial_of f.me serial) o → g.wanted ≡ want.Do (serial_of f.me serial) q → y.call ≡ z.call
 one_asks c t f y z serial h g followed o q yo zo =
@@ -120,7 +115,7 @@ one_asks c t f y z serial h g followed o q yo zo =
     (op_had c t dy (serial_of f.me serial) o followed (h.caller, h.named) ay) (op_had c t dz (serial_of f.me serial) q followed (g.caller, g.named) az))
 
 asking_op : (a : Asking) (serial n : ℕ) (r : Result) → test_of a serial n r ≡ true → (ss : ℕ) × (number : ℕ) × (o : Op) × (seen : List ℕ) × (a ≡ asking.Op serial ss number o seen)
-asking_op (asking.Op s ss number o seen) serial n r h = (ss, number, o, seen, ap (λ (k : ℕ). asking.Op k ss number o seen) (equal s serial (first_true (s == serial) ((number == n) && answers_op o r) h)))
+asking_op (asking.Op s ss number o seen) serial n r h = (ss, number, o, seen, ap (λ (k : ℕ). asking.Op k ss number o seen) (equal s serial (and_first (s == serial) ((number == n) && answers_op o r) h)))
 asking_op (asking.Look file w take) serial n r h = absurd (false_true h)
   where
     false_true : false ≡ true → ⊥
@@ -170,7 +165,7 @@ op_answer_row c members lines n e x w d kind old = answer_row c members lines n 
             test = asks_op_number a.serial a.n a.answers.result
 
             passes : test y ≡ true
-            passes = test_is a.serial a.n a.answers.result y ∙ (ap (λ (z : Asking). test_of z a.serial a.n a.answers.result) a.is ∙ and_true (a.serial == a.serial) (a.n == a.n) (answers_op a.op a.answers.result) (same_true a.serial a.serial refl) (same_true a.n a.n refl) a.answers.fits)
+            passes = test_is a.serial a.n a.answers.result y ∙ (ap (λ (z : Asking). test_of z a.serial a.n a.answers.result) a.is ∙ and_true (a.serial == a.serial) (a.n == a.n) (answers_op a.op a.answers.result) (equal_test a.serial a.serial refl) (equal_test a.n a.n refl) a.answers.fits)
 
             first : Found test v.users.waiting
             first = first_found test v.users.waiting y there passes

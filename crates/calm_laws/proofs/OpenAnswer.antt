@@ -1,5 +1,7 @@
 -- The answer to an open that comes to its using site: the call that asks it takes it.
 use Rattle.std.proofs.Common.{◌≡◌, ℕ, ◌==◌, ◌⊎◌, Bool, true, false, List, Option, Some, None, refl, sym, ◌∙◌, ap, subst, inl, inr}
+use Rattle.role_steps.proofs.of_plain_facts.Numbers.{equal, equal_test}
+use Rattle.role_steps.proofs.of_plain_facts.Tests.{false_true}
 use Rattle.locus_ids.specs.declared.config.Config.{Config}
 use Rattle.locus_ids.specs.declared.ids.CallId.{CallId}
 use Rattle.locus_ids.specs.declared.ids.FileId.{FileId}
@@ -40,7 +42,7 @@ use Rattle.calm_laws.proofs.Carriers.{of_kind, MayCarry, carrier_kind}
 use Rattle.calm_laws.proofs.Ends.{handles}
 use Rattle.calm_laws.proofs.Facts.{RoundFacts}
 use Rattle.calm_laws.proofs.Rows.{AllGoToMembers, TriesNone, Taker, taker}
-use Rattle.calm_laws.proofs.UserParts.{UserHandler, users_handle, answer_calls, answer_handler, Found, first_found, call_inside, asked_is, open_asked, number_of_call, equal, same_true}
+use Rattle.calm_laws.proofs.UserParts.{UserHandler, users_handle, answer_calls, answer_handler, Found, first_found, call_inside, asked_is, open_asked, number_of_call}
 
 -- ---- which calls it carries ----
 
@@ -121,9 +123,6 @@ one_asks : (c : Config) (t : List Line) (f : Frame) (y z : WaitingCall) (serial 
 one_asks c t f y z serial h g followed yo zo =
     number_of_call f.me f.boot y.call z.call (one_asker c t f.epoch (own_call f.me f.boot y.call) (own_call f.me f.boot z.call) followed (call_inside c t f y h) (call_inside c t f z g) refl (ap is_open_want (asked_is c t f y h) ∙ yo.0) (ap is_open_want (asked_is c t f z g) ∙ zo.0) (sym yo.1 ∙ zo.1))
 
-false_true : false ≡ true → ⊥
-false_true e = cc
-
 asking_open : (a : Asking) (serial : ℕ) → test_of a serial ≡ true → (file : FileId) × (how : Opening) × (a ≡ asking.Open serial file how)
 asking_open (asking.Open s file how) serial h = (file, how, ap (λ (k : ℕ). asking.Open k file how) (equal s serial h))
 asking_open (asking.Look file w take) serial h = absurd (false_true h)
@@ -163,7 +162,7 @@ open_answer_row c members lines n e x w d kind old = answer_row c members lines 
             a = asked c e at m y p y.asking refl kind k
 
             passes : asks_open_of a.serial y ≡ true
-            passes = test_is a.serial y ∙ (ap (λ (z : Asking). test_of z a.serial) a.is ∙ same_true a.serial a.serial refl)
+            passes = test_is a.serial y ∙ (ap (λ (z : Asking). test_of z a.serial) a.is ∙ equal_test a.serial a.serial refl)
 
             first : Found (asks_open_of a.serial) v.users.waiting
             first = first_found (asks_open_of a.serial) v.users.waiting y there passes

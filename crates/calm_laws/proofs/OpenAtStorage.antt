@@ -9,6 +9,7 @@ use Rattle.locus_ids.specs.declared.ids.EpochId.{EpochId}
 use Rattle.locus_ids.specs.declared.ids.Serial.{Serial}
 use Rattle.locus_ids.specs.declared.ids.Stamp.{Stamp}
 use Rattle.locus_ids.specs.declared.refusal.Refusal.TheVariants as refusal
+use Rattle.locus_ids.specs.Sizes.{sites_max}
 use Rattle.trace_book.specs.declared.record.Record.{Record}
 use Rattle.trace_book.specs.declared.record.Record.TheVariants as says
 use Rattle.call_rules.specs.declared.answer.Answer.{Answer}
@@ -47,18 +48,18 @@ use Rattle.tree_laws.specs.Tables as tables
 use Rattle.tree_laws.proofs.CarriedLooks.{one_want}
 use Rattle.tree_laws.proofs.Making.{IsAskedAt, begun_asked, one_group}
 use Rattle.tree_laws.proofs.Serials.{one_open, unnamed}
-use Rattle.holding_laws.proofs.Released.{released_named}
-use Rattle.store_laws.proofs.Begun.{granted_named}
-use Rattle.store_laws.proofs.Numbers.{serial_key_eq}
-use Rattle.store_laws.proofs.Places.{open_is}
-use Rattle.store_laws.proofs.Tabled.{row_found}
-use Rattle.rest_laws.proofs.StoreStepResting.{store_rests}
-use Rattle.rest_laws.proofs.TableShutting.{shut_file}
-use Rattle.one_tree_laws.specs.Places.{InsideFact}
-use Rattle.one_tree_laws.specs.Rest.{Past}
-use Rattle.one_tree_laws.specs.Roles.{TableHere}
-use Rattle.one_tree_laws.proofs.Inside.{table_here}
-use Rattle.one_tree_laws.proofs.Rising.{first_among}
+use Rattle.calm_sent_laws.proofs.of_holding_laws.Released.{released_named}
+use Rattle.calm_sent_laws.proofs.of_store_laws.Begun.{granted_named}
+use Rattle.calm_sent_laws.proofs.of_store_laws.Numbers.{serial_key_eq}
+use Rattle.calm_sent_laws.proofs.of_store_laws.Places.{open_is}
+use Rattle.calm_sent_laws.proofs.of_store_laws.Tabled.{row_found}
+use Rattle.fit_laws.proofs.of_rest_laws.StoreStepResting.{store_rests}
+use Rattle.fit_laws.proofs.of_rest_laws.TableShutting.{shut_file}
+use Rattle.calm_sent_laws.specs.of_one_tree_laws.Places.{InsideFact}
+use Rattle.calm_sent_laws.specs.of_one_tree_laws.Rest.{Past}
+use Rattle.calm_sent_laws.specs.of_one_tree_laws.Roles.{TableHere}
+use Rattle.calm_sent_laws.proofs.of_one_tree_laws.Inside.{table_here}
+use Rattle.calm_sent_laws.proofs.of_one_tree_laws.Rising.{first_among}
 use Rattle.epoch_laws.specs.Forming.{FormsNone}
 use Rattle.epoch_laws.specs.Known.{Places}
 use Rattle.calm_laws.specs.Carrying.{IsMember, frame_of, Goes, IsAsked, own_serial, opening_body, open_body, CarriesOpen, Carries}
@@ -174,9 +175,9 @@ record AskedRow (c : Config) (trace : List Line) (e : InEpoch) (css : ℕ) (r : 
   call : CallId
   asked : AskedFact c trace e.id r call r.mode
 
-asked_row : (c : Config) (e : InEpoch) (w : World) (css : ℕ) (r : OpenRow) (inst : Serial) → RoundFacts c w → Past c w.trace → ((v : SiteView) → place_at w css ≡ Some (Running v) → InsideFact c (frame_of c e css) w.trace v) → inst.us ≤ 16 → IsAsked (place_at w) css inst r → AskedRow c w.trace e css r inst
+asked_row : (c : Config) (e : InEpoch) (w : World) (css : ℕ) (r : OpenRow) (inst : Serial) → RoundFacts c w → Past c w.trace → ((v : SiteView) → place_at w css ≡ Some (Running v) → InsideFact c (frame_of c e css) w.trace v) → inst.us ≤ sites_max → IsAsked (place_at w) css inst r → AskedRow c w.trace e css r inst
 asked_row c e w css r inst facts past inside low h = record {
-  name = serial_key_eq r.inst inst (subst (λ (n : ℕ). n ≤ 16) fact.is_call.site_is ((store_rests c w.trace past).sites e.id fact.call fact.is_call.inside)) low found.1;
+  name = serial_key_eq r.inst inst (subst (λ (n : ℕ). n ≤ sites_max) fact.is_call.site_is ((store_rests c w.trace past).sites e.id fact.call fact.is_call.inside)) low found.1;
   sync = ap (λ (g : ℕ). sync_site c e.members g) fact.group_is ∙ here.synced;
   call = fact.call;
   asked = subst (tables.StageFact c w.trace e.id r fact.call) h.asked fact.stage;
@@ -337,7 +338,7 @@ open_at_storage_row c members lines n e x w d kind old =
         css : IsMember e h.0
         css = (sync_is c e file.group h.0 h.1).1
 
-        low : s ≤ 16
+        low : s ≤ sites_max
         low = member_low c e w s r d.before k.member
 
         g : AsksStorage c e (place_at w) h.0 inst x.packet
@@ -356,7 +357,7 @@ open_at_storage_row c members lines n e x w d kind old =
             fact = row_found instance_key (serial_key g.row.inst) d.view.store.instances i (InstanceFact c w.trace f) found store.instances.instances
 
             name : i.inst ≡ g.row.inst
-            name = same_instance c e m w.trace d.view.store store i g.row.inst g.row.inst found (subst (λ (j : Serial). j.us ≤ 16) (sym row.name) low) fact.1
+            name = same_instance c e m w.trace d.view.store store i g.row.inst g.row.inst found (subst (λ (j : Serial). j.us ≤ sites_max) (sym row.name) low) fact.1
 
             is_there : (is_open i.stage ≡ true) × (i.file.group ≡ g.row.file.group)
             is_there = asked_there c e m w.trace past i fact.0 g.row row.call g.row.mode row.asked name

@@ -4,6 +4,7 @@ use Rattle.std.proofs.Common.{◌≡◌, ℕ, ◌≤◌, ◌⊎◌, List, [], ma
 use Rattle.locus_ids.specs.declared.config.Config.{Config}
 use Rattle.locus_ids.specs.declared.ids.FileId.{FileId}
 use Rattle.locus_ids.specs.declared.ids.Serial.{Serial}
+use Rattle.locus_ids.specs.Sizes.{sites_max}
 use Rattle.wire_messages.specs.declared.body.Body.{Body}
 use Rattle.wire_messages.specs.declared.body.Body.TheVariants as body
 use Rattle.wire_messages.specs.declared.body.Granted.{Granted}
@@ -29,13 +30,13 @@ use Rattle.the_run.specs.Kept.{Among}
 use Rattle.the_run.specs.Steps.{at_table_of, at_table_with, is_opened_in, takes_inside}
 use Rattle.the_run.specs.Worlds.{place_at}
 use Rattle.tree_laws.specs.Tables.{RowFact}
-use Rattle.store_laws.proofs.Numbers.{serial_key_eq}
-use Rattle.rest_laws.proofs.StoreStepResting.{store_rests}
-use Rattle.one_tree_laws.specs.Places.{InsideFact}
-use Rattle.one_tree_laws.specs.Rest.{Past}
-use Rattle.one_tree_laws.proofs.Inside.{table_here}
-use Rattle.one_tree_laws.proofs.Parts.{tables_rise}
-use Rattle.one_tree_laws.proofs.Rising.{Rising, first_among}
+use Rattle.calm_sent_laws.proofs.of_store_laws.Numbers.{serial_key_eq}
+use Rattle.fit_laws.proofs.of_rest_laws.StoreStepResting.{store_rests}
+use Rattle.calm_sent_laws.specs.of_one_tree_laws.Places.{InsideFact}
+use Rattle.calm_sent_laws.specs.of_one_tree_laws.Rest.{Past}
+use Rattle.calm_sent_laws.proofs.of_one_tree_laws.Inside.{table_here}
+use Rattle.calm_sent_laws.proofs.of_one_tree_laws.Parts.{tables_rise}
+use Rattle.calm_sent_laws.proofs.of_one_tree_laws.Rising.{Rising, first_among}
 use Rattle.epoch_laws.specs.Forming.{FormsNone}
 use Rattle.epoch_laws.specs.Known.{Places}
 use Rattle.orderly_laws.proofs.Places.{view_eq}
@@ -88,8 +89,8 @@ module _ (c : Config) (e : InEpoch) (m : ℕ) where
   told_row r (opened.No why) t = (granted.No why, inl refl)
 
   -- a row is known by the key of the instance of a site 1 to 16
-  module _ (t : SyncTable) (low : (r : OpenRow) → Among r t.opens → r.inst.us ≤ 16) (member : (s : ℕ) → IsMember e s → s ≤ 16) where
-    row_name : (r : OpenRow) (i : Serial) → Among r t.opens → i.us ≤ 16 → serial_key r.inst ≡ serial_key i → r.inst ≡ i
+  module _ (t : SyncTable) (low : (r : OpenRow) → Among r t.opens → r.inst.us ≤ sites_max) (member : (s : ℕ) → IsMember e s → s ≤ sites_max) where
+    row_name : (r : OpenRow) (i : Serial) → Among r t.opens → i.us ≤ sites_max → serial_key r.inst ≡ serial_key i → r.inst ≡ i
     row_name r i there k same = serial_key_eq r.inst i (low r there) k same
 
     answers_to : (r : OpenRow) (a : OpenedAs) → Among r t.opens → row open_key (open_key r) t.opens ≡ Some r → TableTo (IsOpenAnswered c e m (answers_open f r a t).sent) t (answers_open f r a t).view
@@ -111,7 +112,7 @@ module _ (c : Config) (e : InEpoch) (m : ℕ) where
         over None q = to_itself (IsOpenAnswered c e m []) t
         over (Some r) q = (let k : Among r t.opens × (open_key r ≡ serial_key inst) = row_key open_key (serial_key inst) t.opens r q in stage_to r a r.stage k.0 (ap (λ (key : ℕ). row open_key key t.opens) k.1 ∙ q))
 
-  tables_to : (v : SiteView) (inst : Serial) (a : OpenedAs) → Rising (map table_group v.tables) → ((t : SyncTable) (r : OpenRow) → Among t v.tables → Among r t.opens → r.inst.us ≤ 16) → ((s : ℕ) → IsMember e s → s ≤ 16) →
+  tables_to : (v : SiteView) (inst : Serial) (a : OpenedAs) → Rising (map table_group v.tables) → ((t : SyncTable) (r : OpenRow) → Among t v.tables → Among r t.opens → r.inst.us ≤ sites_max) → ((s : ℕ) → IsMember e s → s ≤ sites_max) →
       AllTo (IsOpenAnswered c e m (on_answer f (body.Opened inst a) v).sent) v.tables (on_answer f (body.Opened inst a) v).view.tables
   tables_to v inst a rise low member = over (first_that (is_opened_in inst) v.tables) refl
     where
@@ -184,8 +185,8 @@ opened_row c members lines n e x w d kind old =
     row_fact : (t : SyncTable) (q : OpenRow) → Among t d.view.tables → Among q t.opens → RowFact c w.trace e.id t.group q
     row_fact t q there a = every_among (RowFact c w.trace e.id t.group) q t.opens a (table_here c w.trace f d.view inside t there).fact.opens
 
-    low : (t : SyncTable) (q : OpenRow) → Among t d.view.tables → Among q t.opens → q.inst.us ≤ 16
-    low t q there a = (let k : RowFact c w.trace e.id t.group q = row_fact t q there a in subst (λ (z : ℕ). z ≤ 16) k.is_call.site_is ((store_rests c w.trace past).sites e.id k.call k.is_call.inside))
+    low : (t : SyncTable) (q : OpenRow) → Among t d.view.tables → Among q t.opens → q.inst.us ≤ sites_max
+    low t q there a = (let k : RowFact c w.trace e.id t.group q = row_fact t q there a in subst (λ (z : ℕ). z ≤ sites_max) k.is_call.site_is ((store_rests c w.trace past).sites e.id k.call k.is_call.inside))
 
     to : (b : Body) → IsOpened b → AllTo (IsOpenAnswered c e m (on_answer f b d.view).sent) d.view.tables (on_answer f b d.view).view.tables
     to (body.Opened inst a) k = tables_to c e m d.view inst a (tables_rise f d.view.tables inside.groups) low (λ s member. member_low c e w s r d.before member)

@@ -1,6 +1,8 @@
 -- An operation comes to the storage site that runs its instance: it is done, or answered again.
 use Rattle.std.proofs.Common.{◌≡◌, ℕ, ◌+◌, ◌==◌, ◌≤◌, ◌⊎◌, Bool, true, false, List, [], ◌∷◌, Option, Some, None, refl, sym, ◌∙◌, ap, subst, inl, inr, arith}
 use Rattle.std.proofs.lemmas.Bool.Decides.{nat_tests}
+use Rattle.role_steps.proofs.of_plain_facts.Numbers.{equal_test}
+use Rattle.role_steps.proofs.of_plain_facts.Options.{some_same}
 use Rattle.locus_ids.specs.declared.config.Config.{Config}
 use Rattle.locus_ids.specs.declared.ids.CallId.{CallId}
 use Rattle.locus_ids.specs.declared.ids.EpochId.{EpochId}
@@ -8,6 +10,7 @@ use Rattle.locus_ids.specs.declared.ids.FileId.{FileId}
 use Rattle.locus_ids.specs.declared.ids.Serial.{Serial}
 use Rattle.locus_ids.specs.declared.ids.Stamp.{Stamp}
 use Rattle.locus_ids.specs.declared.refusal.Refusal.TheVariants as refusal
+use Rattle.locus_ids.specs.Sizes.{sites_max}
 use Rattle.trace_book.specs.declared.operation.Op.{Op}
 use Rattle.trace_book.specs.declared.operation.Op.TheVariants as op
 use Rattle.trace_book.specs.declared.operation.Outcome.{Outcome as Result}
@@ -39,11 +42,11 @@ use Rattle.the_run.specs.Steps.{at_store, from_user, group_of, takes_inside}
 use Rattle.the_run.specs.Worlds.{Line, place_at, World, Running}
 use Rattle.epoch_laws.specs.Forming.{FormsNone}
 use Rattle.epoch_laws.specs.Known.{Places}
-use Rattle.store_laws.proofs.Tabled.{latest_same, row_found}
+use Rattle.calm_sent_laws.proofs.of_store_laws.Tabled.{latest_same, row_found}
 use Rattle.tree_laws.specs.Packets.{OpFact, OpsNow, PacketFact, serial_of}
 use Rattle.tree_laws.specs.Past.{ActRecord, EndRecord, Printed, WasBegun, WasDone, WasNamed, WasReleased, WasReleasedWith}
-use Rattle.one_tree_laws.specs.Places.{InsideFact}
-use Rattle.one_tree_laws.specs.Rest.{Past}
+use Rattle.calm_sent_laws.specs.of_one_tree_laws.Places.{InsideFact}
+use Rattle.calm_sent_laws.specs.of_one_tree_laws.Rest.{Past}
 use Rattle.calm_laws.specs.Carrying.{frame_of, Goes, IsUnended, own_serial, CarriesOp, Carries, IsMember}
 use Rattle.calm_laws.specs.Rounds.{CarriesOn, IsOp, IsInRound}
 use Rattle.role_steps.specs.Own.{Every}
@@ -70,15 +73,15 @@ use Rattle.tree_laws.proofs.Alone.{asking as asking_now}
 use Rattle.tree_laws.proofs.Awaiting.{IsHeldBy, all_have, held_named}
 use Rattle.tree_laws.proofs.Grants.{open_named}
 use Rattle.tree_laws.proofs.OneBoot.{boot_where_inside, one_boot}
-use Rattle.order_laws.specs.ProcessOperations.{OpsAre}
-use Rattle.order_laws.proofs.ProcessGranting.{GrantIs, granted_is, held_us}
-use Rattle.order_laws.proofs.ProcessOperationsRun.{operations_counted}
-use Rattle.order_laws.proofs.ProcessTaken.{back_in}
-use Rattle.order_laws.proofs.ProcessUnreleased.{unreleased}
-use Rattle.store_laws.proofs.AnswerAskers.{Rests, close_had, one_has, op_had, rests_or_clear}
-use Rattle.store_laws.proofs.AnswerDone.{act_next, done_low, done_named}
-use Rattle.holding_laws.proofs.Released.{released_shut}
-use Rattle.begun_laws.specs.Asked.{AskedBegun}
+use Rattle.fit_laws.specs.of_order_laws.ProcessOperations.{OpsAre}
+use Rattle.fit_laws.proofs.of_order_laws.ProcessGranting.{GrantIs, granted_is, held_us}
+use Rattle.fit_laws.proofs.of_order_laws.ProcessOperationsRun.{operations_counted}
+use Rattle.fit_laws.proofs.of_order_laws.ProcessTaken.{back_in}
+use Rattle.fit_laws.proofs.of_order_laws.ProcessUnreleased.{unreleased}
+use Rattle.calm_sent_laws.proofs.of_store_laws.AnswerAskers.{Rests, close_had, one_has, op_had, rests_or_clear}
+use Rattle.calm_sent_laws.proofs.of_store_laws.AnswerDone.{act_next, done_low, done_named}
+use Rattle.calm_sent_laws.proofs.of_holding_laws.Released.{released_shut}
+use Rattle.calm_table_laws.specs.of_lock_laws.Asked.{AskedBegun}
 use Rattle.orderly_laws.specs.Calm.{IsInside, AreTogether}
 use Rattle.orderly_laws.proofs.Places.{view_eq}
 use Rattle.calm_laws.proofs.Asked.{Uses, op_number, op_wanted, uses_op}
@@ -87,7 +90,7 @@ use Rattle.calm_laws.proofs.CloseAgreed.{member_low, past_of, same_instance}
 use Rattle.calm_laws.proofs.Delivered.{inside_fact}
 use Rattle.calm_laws.proofs.Facts.{RoundFacts, round_facts}
 use Rattle.calm_laws.proofs.Handing.{StillWaits}
-use Rattle.calm_laws.proofs.Lists.{every_among, some_is}
+use Rattle.calm_laws.proofs.Lists.{every_among}
 use Rattle.calm_laws.proofs.OpenAtStorage.{release_of}
 use Rattle.calm_laws.proofs.Rows.{AllGoToMembers, TriesNone}
 use Rattle.calm_laws.proofs.Carriers.{of_kind, MayCarry, carrier_kind}
@@ -175,7 +178,7 @@ released_by : (c : Config) (older : List Line) (e : EpochId) (i : Serial) (f : F
 released_by c older e i f s h may d inside asks has = one_has c older e i d may.in_time.call h inside it asks (asking_now c older may.in_time.call (want.Close i) may.in_time.asks) has (close_had c older may.in_time.call i h (it.accepted, it.named) may.in_time.asks.asked)
   where
     it : IsCallIn (entries older) e may.in_time.call
-    it = subst (IsCallIn (entries older) e) (some_is may.row.step.call may.in_time.call (sym may.row.step.owned ∙ may.in_time.owner)) may.row.step.step
+    it = subst (IsCallIn (entries older) e) (some_same may.row.step.call may.in_time.call (sym may.row.step.owned ∙ may.in_time.owner)) may.row.step.step
 
 asked_unreleased : (c : Config) (t : List Line) → IsFollowed c t → (e : EpochId) (d : CallId) (i : Serial) (o : Op) → IsCallIn (entries t) e d → asked_now c t d ≡ want.Do i o → WasReleased t e i → ⊥
 asked_unreleased c [] h e d i o inside asked was = was
@@ -249,9 +252,6 @@ counted_now c t f y serial n o h frame fact asked count x found low = over (oper
     over (inr k) = absurd (never n x.work.ops low (count ∙ k.count))
 
 -- ---- the answer ----
-
-same_number : (a b : ℕ) → a ≡ b → (a == b) ≡ true
-same_number a b e = grind (arith, nat_tests)
 
 next_number : (a b : ℕ) → a ≡ b + 1 → ((a == b) ≡ false) × ((a == b + 1) ≡ true)
 next_number a b e = (grind (arith, nat_tests), grind (arith, nat_tests))
@@ -350,7 +350,7 @@ operation_row c members left lines n e x w d kind old =
         same : m ≡ ss
         same = ap (λ (q : Packet). q.to) g.is
 
-        low : s ≤ 16
+        low : s ≤ sites_max
         low = member_low c e w s r d.before k.member
 
         user : IsInside w e s
@@ -431,7 +431,7 @@ operation_row c members left lines n e x w d kind old =
 
         by_fact : OpFact c w.trace e.id m inst number o seen → IsDoneSent c e m i.inst number o (by_number f (mending d.view i.file.group) i number o seen d.view.store)
         by_fact (inl q) = subst (λ (b : Bool). IsDoneSent c e m i.inst number o (elim b as (λ (z : Bool). Outcome Store) [ true ↦ record { view = d.view.store; sent = op_again f i number i.answered; told = []; written = None } | false ↦ elim (number == i.work.ops + 1) as (λ (z : Bool). Outcome Store) [ true ↦ executes f (mending d.view i.file.group) i o seen d.view.store | false ↦ quiet d.view.store ] ]))
-            (sym (same_number number i.work.ops last)) (again_sent c w e (left lines n e w d.round d.before) past m i number o q.0 d.view.store (subst (λ (t : Serial). WasDone w.trace e.id t number o q.0) (sym name) q.1) last i.answered known.0.answered)
+            (sym (equal_test number i.work.ops last)) (again_sent c w e (left lines n e w d.round d.before) past m i number o q.0 d.view.store (subst (λ (t : Serial). WasDone w.trace e.id t number o q.0) (sym name) q.1) last i.answered known.0.answered)
           where
             last : number ≡ i.work.ops
             last = counted_now c w.trace (frame_of c e s) y serial number o past.followed theirs.frame fact asked count j at_now (done_low c w.trace past.followed e.id inst number o q.0 j q.1 at_now) ∙ ops_are
@@ -441,7 +441,7 @@ operation_row c members left lines n e x w d kind old =
             ((left lines n e w d.round d.before).done m d.view d.member d.here i (subst (λ (t : Serial). instance_of d.view.store t ≡ Some i) (sym name) found.1) running.0 number o seen (subst (λ (t : Serial). OpsNow c w.trace e.id m t number o seen) (sym name) q) next))
           where
             next : number ≡ i.work.ops + 1
-            next = q.next ∙ ap (λ (k : ℕ). k + 1) (ap (λ (z : Open). z.work.ops) (some_is q.at j (sym q.open_at.found ∙ at_now)) ∙ ops_are)
+            next = q.next ∙ ap (λ (k : ℕ). k + 1) (ap (λ (z : Open). z.work.ops) (some_same q.at j (sym q.open_at.found ∙ at_now)) ∙ ops_are)
 
         sent : IsDoneSent c e m inst number o (on_asked f s (body.Op serial number o seen) d.view d.view.store)
         sent = subst (λ (z : Option Instance). IsDoneSent c e m inst number o (on_op_of f (mending d.view (group_of z)) z number o seen d.view.store)) (sym found.1)

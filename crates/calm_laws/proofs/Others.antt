@@ -1,6 +1,8 @@
 -- A packet that forms an epoch, answers a report or is about copies carries no request, and leaves all that does.
 use Rattle.std.proofs.Common.{◌≡◌, ℕ, ◌==◌, nat_lt, ◌<◌, Bool, true, false, not, ◌&&◌, cond, ◌⊎◌, List, [], ◌∷◌, map, Option, Some, None, refl, sym, ◌∙◌, ap, subst, inl, inr, arith}
 use Rattle.std.proofs.lemmas.Bool.Decides.{nat_tests}
+use Rattle.role_steps.proofs.of_plain_facts.Options.{none_some, some_same}
+use Rattle.role_steps.proofs.of_plain_facts.Tests.{true_false}
 use Rattle.locus_ids.specs.declared.config.Config.{Config}
 use Rattle.locus_ids.specs.declared.ids.EpochId.{EpochId}
 use Rattle.locus_ids.specs.declared.ids.Stamp.{Stamp}
@@ -29,14 +31,13 @@ use Rattle.role_steps.specs.declared.users.WaitingCall.{WaitingCall}
 use Rattle.the_run.specs.Kept.{Among}
 use Rattle.the_run.specs.Steps.{is_dropped, at_table_of, adopts_of, takes, takes_framed, takes_inside, tries_at, starts_mends_of, ends_event, whole, step}
 use Rattle.the_run.specs.Worlds.{World, place_at}
-use Rattle.tree_laws.proofs.Names.{some_is}
 use Rattle.epoch_laws.specs.Forming.{FormsNone}
 use Rattle.epoch_laws.specs.Known.{Good, ViewFact}
 use Rattle.epoch_laws.proofs.Handlers.{leaves_of_epoch}
 use Rattle.epoch_laws.proofs.Run.{good_kept, first_good}
-use Rattle.one_tree_laws.specs.Places.{InsideFact}
-use Rattle.one_tree_laws.proofs.Parts.{tables_rise}
-use Rattle.one_tree_laws.proofs.Rising.{Rising, row_key, among_map, every_among}
+use Rattle.calm_sent_laws.specs.of_one_tree_laws.Places.{InsideFact}
+use Rattle.calm_sent_laws.proofs.of_one_tree_laws.Parts.{tables_rise}
+use Rattle.calm_sent_laws.proofs.of_one_tree_laws.Rising.{Rising, row_key, among_map, every_among}
 use Rattle.orderly_laws.specs.Calm.{IsInside}
 use Rattle.orderly_laws.proofs.Places.{view_eq}
 use Rattle.calm_laws.specs.Carrying.{frame_of}
@@ -48,15 +49,11 @@ use Rattle.calm_laws.proofs.Ends.{After, whole_after}
 use Rattle.calm_laws.proofs.Facts.{round_facts}
 use Rattle.calm_laws.proofs.Handing.{Hands}
 use Rattle.calm_laws.proofs.Keeping.{KeepsTable, KeepsAll, KeepsRoles, all_itself, roles_itself, roles_then}
-use Rattle.calm_laws.proofs.Lists.{true_false}
 use Rattle.calm_laws.proofs.Requests.{request_carries}
 use Rattle.calm_laws.proofs.Rounds.{in_round}
 use Rattle.calm_laws.proofs.Rows.{AllGoToMembers, Taker, taker, Event, event_row, keeping_hands, hands_then}
 
 -- ---- a table in place of one of its group ----
-
-none_some : {A : Type 0} (x : A) → ◌≡◌ {A = Option A} None (Some x) → ⊥
-none_some x k = cc
 
 lies_below : (a b k : ℕ) → a < k → k ≡ b → nat_lt a b ≡ false → ⊥
 lies_below a b k h e t = grind (arith, nat_tests)
@@ -75,7 +72,7 @@ put_kept (x ∷ xs) t n r f k = over (nat_lt x.group n.group) (x.group == n.grou
         KeepsAll (x ∷ xs) (elim a [ true ↦ x ∷ with_row table_group n xs | false ↦ elim b [ true ↦ n ∷ xs | false ↦ n ∷ x ∷ xs ] ])
     over true true less same rest g = absurd (apart_below x.group n.group less same)
     over true false less same rest g = (itself, rest g)
-    over false true less same rest g = (subst (λ (z : SyncTable). KeepsTable z n) (sym (some_is x t g)) k, all_itself xs)
+    over false true less same rest g = (subst (λ (z : SyncTable). KeepsTable z n) (sym (some_same x t g)) k, all_itself xs)
     over false false less same rest g = (let m : Among t xs × (t.group ≡ n.group) = row_key table_group n.group xs t g in
         absurd (lies_below x.group n.group t.group (every_among (λ (y : ℕ). x.group < y) t.group (map table_group xs) (among_map table_group t xs m.0) r.0) m.1 less))
 

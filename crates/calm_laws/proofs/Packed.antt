@@ -1,6 +1,7 @@
 -- The current request of a waiting call goes to a member: what a call looks at or opens is in a group of which a member has a pack.
 use Rattle.std.proofs.Common.{◌≡◌, ℕ, Bool, true, false, cond, List, Option, Some, None, refl, sym, ◌∙◌, ap, subst}
 use Rattle.std.specs.Option.{is_some}
+use Rattle.role_steps.proofs.of_plain_facts.Tests.{true_false}
 use Rattle.locus_ids.specs.declared.config.Config.{Config}
 use Rattle.locus_ids.specs.declared.ids.CallId.{CallId}
 use Rattle.locus_ids.specs.declared.ids.FileId.{FileId}
@@ -27,13 +28,12 @@ use Rattle.tree_laws.specs.Doing.{FrameFact}
 use Rattle.tree_laws.specs.Instances.{IsOpening}
 use Rattle.tree_laws.specs.Printed.{entries}
 use Rattle.tree_laws.specs.Users.{own_call, AskingIs, WaitingFact}
-use Rattle.order_laws.proofs.ProcessSynchronizing.{sync_same}
+use Rattle.fit_laws.proofs.of_order_laws.ProcessSynchronizing.{sync_same}
 use Rattle.orderly_laws.specs.Calm.{IsInside}
 use Rattle.orderly_laws.proofs.Places.{view_eq}
 use Rattle.calm_laws.specs.Rounds.{GoesToMember, IsStoredAtMember}
 use Rattle.calm_laws.proofs.AnswerRows.{inside_fact, waiting_fact}
 use Rattle.calm_laws.proofs.Facts.{RoundFacts, round_facts}
-use Rattle.calm_laws.proofs.Lists.{true_false}
 use Rattle.calm_laws.proofs.Rows.{AllGoToMembers}
 use Rattle.calm_laws.proofs.Stored.{all_stored}
 

@@ -85,7 +85,7 @@ acts_only K n s v o w f g =
     acts_cases OnlyPlaced n s v o w
     (happened_only s n (standing_of v) o.sent o.told (λ now. puts s (Running o.view) now) w f.law (puts_none s (Running o.view) w w (λ t. refl)) g)
     (λ a. happened_only s n (standing_of v) o.sent o.told (λ now. puts s (Running o.view) (arms a now)) w f.law (puts_none s (Running o.view) w (arms a w) (λ t. refl)) g)
-    (λ d a e. happened_only s n nowhere [] (cut_told s d a.how a.left) (stops_with s (cut_disk v.boot v.store d a.how a.left)) w (cut_law s nowhere (is_on_disk d a.how a.left) d.says (cause_of a.how) (written_law o.written d e f.written))
+    (λ d a e. happened_only s n nowhere [] (cut_told s v.store d a.how a.left) (stops_with s (cut_disk v.boot v.store d a.how a.left)) w (cut_law s nowhere (is_on_disk v.store d a.how a.left) d.says (cause_of a.how) (written_law o.written d e f.written))
     (puts_none s (Stopped (cut_disk v.boot v.store d a.how a.left)) w w (λ t. refl)) g)
 
 -- what the world itself tells moves no site

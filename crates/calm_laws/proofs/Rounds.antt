@@ -1,10 +1,10 @@
 -- What every run keeps stands in each world of a round.
-use Rattle.std.proofs.Common.{◌≡◌, ℕ, zero, suc, ◌+◌, ◌≤◌, List, Option, Some, None, refl, sym, ◌∙◌, ap, subst, inr, arith}
+use Rattle.std.proofs.Common.{◌≡◌, ℕ, zero, suc, ◌+◌, List, Option, Some, None, refl, sym, ◌∙◌, ap, subst, inr, arith}
 use Rattle.locus_ids.specs.declared.config.Config.{Config}
 use Rattle.schedule_lines.specs.declared.line.ScheduleLine.{ScheduleLine}
 use Rattle.role_steps.specs.Views.{Ticks, all_sites}
 use Rattle.the_run.specs.Kept.{Kept}
-use Rattle.the_run.specs.Runs.{arrives, next_packet, ticks_to, run_in}
+use Rattle.the_run.specs.Runs.{next_packet, ticks_to, run_in}
 use Rattle.the_run.specs.Worlds.{World, Numbered, first_world}
 use Rattle.the_run.proofs.Runs.{every_run}
 use Rattle.lawful_trace.specs.Places.{lines_before}
@@ -43,16 +43,3 @@ delivered_then c n (suc j) i w = ap (λ (k : ℕ). delivered c n k w) {x = suc j
 -- the last one
 pub one_more : (c : Config) (n j : ℕ) (w : World) → delivered c n (suc j) w ≡ delivers_next c n (delivered c n j w) (next_packet (delivered c n j w))
 one_more c n j w = ap (λ (k : ℕ). delivered c n k w) {x = suc j} {y = j + 1} (omega arith) ∙ delivered_then c n j 1 w
-
--- after one more the world is in the round still
-pub next_in_round : (c : Config) (lines : List ScheduleLine) (n : ℕ) (x : Numbered) (w : World) → (h : IsInRound c lines n w) → next_packet w ≡ Some x → suc h.deliveries ≤ h.most → IsInRound c lines n (arrives c n x w)
-next_in_round c lines n x w h is few = record {
-  fit = h.fit;
-  packs = h.packs;
-  groups = h.groups;
-  most = h.most;
-  settles = h.settles;
-  deliveries = suc h.deliveries;
-  few = few;
-  is_world = ap (λ (o : Option Numbered). delivers_next c n w o) (sym is) ∙ (ap (λ (u : World). delivers_next c n u (next_packet u)) h.is_world ∙ sym (one_more c n h.deliveries (ticks_to c n all_sites (run_in c (lines_before lines n)))));
-}

@@ -1,6 +1,7 @@
 -- A row: where the handler of a packet hands on what was carried, so does its whole event in the world.
 use Rattle.std.proofs.Common.{◌≡◌, ◌≢◌, ℕ, ◌==◌, ◌⊎◌, Bool, true, false, cond, List, Option, Some, None, refl, sym, ◌∙◌, ap, subst, inl, inr, arith}
 use Rattle.std.proofs.lemmas.Bool.Decides.{nat_tests}
+use Rattle.role_steps.proofs.of_plain_facts.Tests.{true_false}
 use Rattle.locus_ids.specs.declared.config.Config.{Config}
 use Rattle.locus_ids.specs.declared.sites.Links.{Links}
 use Rattle.schedule_lines.specs.declared.line.ScheduleLine.{ScheduleLine}
@@ -33,7 +34,6 @@ use Rattle.calm_laws.proofs.Ends.{After, whole_after, handles, step_is}
 use Rattle.calm_laws.proofs.Events.{RunsOn, Moved, acts_moved, arrives_cases, others_stay}
 use Rattle.calm_laws.proofs.Handing.{StillWaits, IsHandedOn, Hands, all_handed}
 use Rattle.calm_laws.proofs.Keeping.{KeepsRoles, AllKeep, one_keeps, roles_itself, carries_kept, held_kept, reported_kept}
-use Rattle.calm_laws.proofs.Lists.{true_false}
 use Rattle.calm_laws.proofs.Members.{sync_is}
 use Rattle.calm_laws.proofs.Requests.{Requested, request_carries}
 use Rattle.calm_laws.proofs.Rounds.{in_round}

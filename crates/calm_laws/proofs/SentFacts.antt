@@ -2,6 +2,8 @@
 -- Closed under way closes was granted where it goes.
 use Rattle.std.proofs.Common.{◌≡◌, ℕ, ◌<◌, ◌≤◌, ◌⊎◌, Bool, true, false, ◌||◌, List, [], ◌∷◌, length, map, Option, Some, refl, sym, ◌∙◌, ap, subst, inl, inr, arith}
 use Rattle.std.specs.List.{list_any}
+use Rattle.role_steps.proofs.of_plain_facts.Options.{some_same}
+use Rattle.role_steps.proofs.of_plain_facts.Tests.{or_either, or_first, or_second}
 use Rattle.locus_ids.specs.Sites.{has}
 use Rattle.locus_ids.specs.declared.config.Config.{Config}
 use Rattle.locus_ids.specs.declared.ids.CallId.{CallId}
@@ -11,6 +13,7 @@ use Rattle.locus_ids.specs.declared.ids.Mode.{Mode}
 use Rattle.locus_ids.specs.declared.ids.Mode.TheVariants as mode
 use Rattle.locus_ids.specs.declared.ids.Serial.{Serial}
 use Rattle.locus_ids.specs.declared.ids.Stamp.{Stamp}
+use Rattle.locus_ids.specs.Sizes.{sites_max}
 use Rattle.schedule_lines.specs.declared.line.ScheduleLine.{ScheduleLine}
 use Rattle.trace_book.specs.Same.{same_serial}
 use Rattle.trace_book.specs.declared.record.Record.{Record}
@@ -38,24 +41,23 @@ use Rattle.tree_laws.specs.Past.{EndRecord, Printed, ShutsIt, WasBegun, WasGrant
 use Rattle.tree_laws.specs.Tables.{AskedFact, RowFact, StageFact}
 use Rattle.tree_laws.proofs.Names.{same_serial_eq, same_serial_own}
 use Rattle.tree_laws.proofs.Serials.{unnamed}
-use Rattle.store_laws.proofs.Begun.{begun_one, granted_named}
-use Rattle.store_laws.proofs.Numbers.{serial_key_eq}
-use Rattle.store_laws.proofs.Places.{GrantedSo, granted_once, instance_granted}
-use Rattle.sync_laws.proofs.Answering.{one_answer}
-use Rattle.rest_laws.proofs.StoreStepResting.{store_rests}
-use Rattle.one_tree_laws.specs.Places.{InsideFact}
-use Rattle.one_tree_laws.specs.Rest.{Past}
-use Rattle.one_tree_laws.proofs.Inside.{table_here}
-use Rattle.one_tree_laws.proofs.Parts.{synced_one, tables_rise}
-use Rattle.one_tree_laws.proofs.Rising.{Rising, row_key, every_among}
+use Rattle.calm_sent_laws.proofs.of_store_laws.Begun.{begun_one, granted_named}
+use Rattle.calm_sent_laws.proofs.of_store_laws.Numbers.{serial_key_eq}
+use Rattle.calm_sent_laws.proofs.of_store_laws.Places.{GrantedSo, granted_once, instance_granted}
+use Rattle.calm_sent_laws.proofs.of_sync_laws.Answering.{one_answer}
+use Rattle.fit_laws.proofs.of_rest_laws.StoreStepResting.{store_rests}
+use Rattle.calm_sent_laws.specs.of_one_tree_laws.Places.{InsideFact}
+use Rattle.calm_sent_laws.specs.of_one_tree_laws.Rest.{Past}
+use Rattle.calm_sent_laws.proofs.of_one_tree_laws.Inside.{table_here}
+use Rattle.calm_sent_laws.proofs.of_one_tree_laws.Parts.{synced_one, tables_rise}
+use Rattle.calm_sent_laws.proofs.of_one_tree_laws.Rising.{Rising, row_key, every_among}
 use Rattle.orderly_laws.specs.Calm.{AreTogether, IsInside}
 use Rattle.orderly_laws.proofs.Places.{view_eq}
-use Rattle.calm_sent_laws.specs.Standing.{AskedStands, BodyStands, ClosesThere, HasGrant, HasReport, IsGranted, IsReported}
-use Rattle.calm_sent_laws.specs.Standing as standing
+use Rattle.calm_sent_laws.specs.Standing.{AskedStands, BodyStands, ClosesThere, HasGrant, HasReport, IsGranted, IsGrantedStage, IsReported}
 use Rattle.calm_sent_laws.proofs.Run.{Both, both_kept, first_both, instances_stand_in, packets_stand_in, reports_stand_in}
 use Rattle.calm_sent_laws.proofs.Views.{rising_found}
 use Rattle.calm_laws.specs.Carrying.{IsMember, HasReported, frame_of, own_serial}
-use Rattle.calm_laws.specs.Rounds.{ClosesAreGranted, IsGrantedStage, IsInRound, ReportsAreKnown}
+use Rattle.calm_laws.specs.Rounds.{ClosesAreGranted, IsInRound, ReportsAreKnown}
 use Rattle.calm_laws.proofs.Begun.{Begun, begun_of, begun_low}
 use Rattle.calm_laws.proofs.CloseAgreed.{came_fact, member_low, past_of}
 use Rattle.calm_laws.proofs.Delivered.{inside_fact}
@@ -64,9 +66,6 @@ use Rattle.calm_laws.proofs.OpenAtStorage.{release_of}
 use Rattle.calm_laws.proofs.Rounds.{in_round}
 use Rattle.calm_laws.proofs.TableThere.{left_in, listed, packed_low}
 use Rattle.calm_laws.proofs.UserParts.{Found, first_found}
-
-some_is : {A : Type 0} (x y : A) → ◌≡◌ {A = Option A} (Some x) (Some y) → x ≡ y
-some_is x y e = cc
 
 -- ---- what is closed was begun on the file on which it was granted ----
 
@@ -158,23 +157,12 @@ module _ (c : Config) (trace : List Line) (followed : IsFollowed c trace) (e : E
 abbrev is_of : Serial → OpenRow → Bool
 is_of i r = same_serial r.inst i
 
-or_cases : (a b : Bool) → (a || b) ≡ true → (a ≡ true) ⊎ (b ≡ true)
-or_cases true b e = inl refl
-or_cases false b e = inr e
-
-or_left : (a b : Bool) → a ≡ true → (a || b) ≡ true
-or_left a b e = ap (λ (x : Bool). x || b) e
-
-or_right : (a b : Bool) → b ≡ true → (a || b) ≡ true
-or_right true b e = refl
-or_right false b e = e
-
 any_row : (i : Serial) (rs : List OpenRow) → list_any (is_of i) rs ≡ true → (r : OpenRow) × Among r rs × (r.inst ≡ i)
 any_row i [] e = absurd (false_true e)
   where
     false_true : false ≡ true → ⊥
     false_true q = cc
-any_row i (r ∷ rs) e = over (λ h. any_row i rs h) (or_cases (is_of i r) (list_any (is_of i) rs) e)
+any_row i (r ∷ rs) e = over (λ h. any_row i rs h) (or_either (is_of i r) (list_any (is_of i) rs) e)
   where
     over : (list_any (is_of i) rs ≡ true → (q : OpenRow) × Among q rs × (q.inst ≡ i)) → (is_of i r ≡ true) ⊎ (list_any (is_of i) rs ≡ true) → (q : OpenRow) × Among q (r ∷ rs) × (q.inst ≡ i)
     over later (inl h) = (r, inl refl, same_serial_eq r.inst i h)
@@ -182,8 +170,8 @@ any_row i (r ∷ rs) e = over (λ h. any_row i rs h) (or_cases (is_of i r) (list
 
 any_there : (i : Serial) (rs : List OpenRow) (r : OpenRow) → Among r rs → r.inst ≡ i → list_any (is_of i) rs ≡ true
 any_there i [] r a e = absurd a
-any_there i (x ∷ xs) r (inl same) e = or_left (is_of i x) (list_any (is_of i) xs) (subst (λ (j : Serial). same_serial j i ≡ true) (sym (ap (λ (z : OpenRow). z.inst) (sym same) ∙ e)) (same_serial_own i))
-any_there i (x ∷ xs) r (inr a) e = or_right (is_of i x) (list_any (is_of i) xs) (any_there i xs r a e)
+any_there i (x ∷ xs) r (inl same) e = or_first (is_of i x) (list_any (is_of i) xs) (subst (λ (j : Serial). same_serial j i ≡ true) (sym (ap (λ (z : OpenRow). z.inst) (sym same) ∙ e)) (same_serial_own i))
+any_there i (x ∷ xs) r (inr a) e = or_second (is_of i x) (list_any (is_of i) xs) (any_there i xs r a e)
 
 -- ---- the worlds of a round ----
 
@@ -229,7 +217,7 @@ module _ (c : Config) (lines : List ScheduleLine) (n : ℕ) (e : InEpoch) (w : W
           h = k.stands t.view e t.here t.boot t.epoch refl
 
           same : css ≡ k.to
-          same = some_is css k.to (sym sync ∙ synced k.to k.member group h.table h.found)
+          same = some_same css k.to (sym sync ∙ synced k.to k.member group h.table h.found)
 
       over : Among group v.reports ⊎ IsReported (place_at w) e s group → Among group v.reports ⊎ HasReported (place_at w) css group s
       over (inl m) = inl m
@@ -248,19 +236,13 @@ module _ (c : Config) (lines : List ScheduleLine) (n : ℕ) (e : InEpoch) (w : W
     was : WasGranted w.trace e.id call open_row.request (own_serial s serial) open_row.mode open_row.file open_row.stamp open_row.ss
     synced_by : sync_site c e.members open_row.file.group ≡ Some by
 
-  heard_stage : (z : OpenStage) → standing.IsGrantedStage z → IsGrantedStage z
-  heard_stage stage.Granted g = tt
-  heard_stage stage.Ended g = tt
-  heard_stage stage.Asked g = absurd g
-  heard_stage (stage.Refused why) g = absurd g
-
   there : (s serial by group : ℕ) → IsMember e s → (member : IsMember e by) → HasGrant group (from_user s serial) (together.inside by member).view.tables → IsThere s serial by (together.inside by member).view
   there s serial by group user member h = record {
     table = h.table;
     found = subst (λ (t : SyncTable). first_that (is_opened_in i) v.tables ≡ Some t) one first.found;
     open_row = r;
     is_row = h.grant.found;
-    granted = heard_stage r.stage h.grant.granted;
+    granted = h.grant.granted;
     call = rf.call;
     was = was;
     synced_by = subst (λ (g : ℕ). sync_site c e.members g ≡ Some by) (sym (rf.group_is ∙ at.1)) (synced by member group h.table h.found);
@@ -290,14 +272,14 @@ module _ (c : Config) (lines : List ScheduleLine) (n : ℕ) (e : InEpoch) (w : W
       rf : RowFact c w.trace e.id h.table.group r
       rf = row_fact h.table r at.0 in_opens.0
 
-      low : r.inst.us ≤ 16
-      low = subst (λ (z : ℕ). z ≤ 16) rf.is_call.site_is ((store_rests c w.trace past).sites e.id rf.call rf.is_call.inside)
+      low : r.inst.us ≤ sites_max
+      low = subst (λ (z : ℕ). z ≤ sites_max) rf.is_call.site_is ((store_rests c w.trace past).sites e.id rf.call rf.is_call.inside)
 
       name : r.inst ≡ i
       name = serial_key_eq r.inst i low (member_low c e w s facts together user) in_opens.1
 
       was : WasGranted w.trace e.id rf.call r.request i r.mode r.file r.stamp r.ss
-      was = subst (λ (j : Serial). WasGranted w.trace e.id rf.call r.request j r.mode r.file r.stamp r.ss) name (granted_row c w.trace followed e.id i r rf.call r.stage rf.stage (heard_stage r.stage h.grant.granted))
+      was = subst (λ (j : Serial). WasGranted w.trace e.id rf.call r.request j r.mode r.file r.stamp r.ss) name (granted_row c w.trace followed e.id i r rf.call r.stage rf.stage h.grant.granted)
 
       first : Found (is_opened_in i) v.tables
       first = first_found (is_opened_in i) v.tables h.table at.0 (any_there i h.table.opens r in_opens.0 name)
@@ -315,7 +297,7 @@ module _ (c : Config) (lines : List ScheduleLine) (n : ℕ) (e : InEpoch) (w : W
       rise = tables_rise (frame_of c e by) v.tables inside.groups
 
       one : first.it ≡ h.table
-      one = some_is first.it h.table (sym (rising_found first.it v.tables rise first.there) ∙ (ap (λ (g : ℕ). row table_group g v.tables) same_group ∙ rising_found h.table v.tables rise at.0))
+      one = some_same first.it h.table (sym (rising_found first.it v.tables rise first.there) ∙ (ap (λ (g : ℕ). row table_group g v.tables) same_group ∙ rising_found h.table v.tables rise at.0))
 
   pub closes_granted : ClosesAreGranted c e w
   closes_granted x s serial ss css made v y under goes user here waits asks = record {
@@ -366,7 +348,7 @@ module _ (c : Config) (lines : List ScheduleLine) (n : ℕ) (e : InEpoch) (w : W
           ∙ (granted_once c w.trace followed e.id on.call o.call on.request o.open_row.request i on.how o.open_row.mode on.file o.open_row.file on.stamp o.open_row.stamp on.place o.open_row.ss on.granted o.was).file_is
 
       same : css ≡ k.by
-      same = some_is css k.by (sym synced_css ∙ (ap (λ (f : FileId). sync_site c e.members f.group) one_file_is ∙ o.synced_by))
+      same = some_same css k.by (sym synced_css ∙ (ap (λ (f : FileId). sync_site c e.members f.group) one_file_is ∙ o.synced_by))
 
 -- ---- what CalmLeft asks ----
 

@@ -39,10 +39,10 @@ use Rattle.role_steps.specs.declared.synchronizing.OpenStage.TheVariants as stag
 use Rattle.role_steps.specs.declared.synchronizing.LastLook.{LastLook}
 use Rattle.role_steps.specs.declared.synchronizing.Early.{Early}
 use Rattle.std.specs.List.{list_any, list_all}
-use Rattle.calm_laws.proofs.Lists.{true_false}
 use Rattle.std.proofs.lemmas.Nat.Bits.{bit_at-zero}
 use Rattle.std.proofs.Common.{◌-◌}
-use Rattle.lock_laws.proofs.GrantSites.{is_synced}
+use Rattle.role_steps.proofs.of_plain_facts.Tests.{true_false}
+use Rattle.calm_table_laws.proofs.of_lock_laws.GrantSites.{is_synced}
 use Rattle.role_steps.specs.Reports.{on_report}
 
 -- ---- a table keeps what it waits for ----

@@ -1,5 +1,6 @@
 -- In each world of a round the groups start in time.
 use Rattle.std.proofs.Common.{◌≡◌, ℕ, ◌==◌, Bool, true, false, List, [], ◌∷◌, map, Option, Some, None, sym, ◌∙◌, ap, subst}
+use Rattle.role_steps.proofs.of_plain_facts.Options.{some_same}
 use Rattle.locus_ids.specs.declared.config.Config.{Config}
 use Rattle.schedule_lines.specs.declared.line.ScheduleLine.{ScheduleLine}
 use Rattle.trace_book.specs.declared.record.Record.TheVariants as says
@@ -15,7 +16,6 @@ use Rattle.the_run.specs.Steps.{step}
 use Rattle.the_run.specs.Worlds.{World, Place, Running, Stopped, links_of, place_at, place_in, place_site, script_of, happened, disk_of, puts, arms, passed, cut_told, stops_with, cause_of, acts, fresh, formatted, first_place, first_world}
 use Rattle.the_run.proofs.Boots.{at_each, acts_cases}
 use Rattle.the_run.proofs.Events.{happened_keeps, puts_other, puts_same}
-use Rattle.the_run.proofs.Runs.{some_eq}
 use Rattle.calm_laws.specs.Calming.{GroupsStartInTime}
 use Rattle.calm_laws.specs.Rounds.{IsInRound}
 use Rattle.calm_laws.proofs.Rounds.{in_round}
@@ -37,12 +37,12 @@ stopped_never d v e = cc
 
 puts_running : (c : Config) (s : ℕ) (new : SiteView) (w : World) → InTime c new.epoch new.tables → ViewsStart c w → ViewsStart c (puts s (Running new) w)
 puts_running c s new w h g t v here = at_each s t (InTime c v.epoch v.tables)
-    (λ e. subst (λ (u : SiteView). InTime c u.epoch u.tables) (running_view new v (some_eq (Running new) (Running v) (sym (puts_same s (Running new) w) ∙ (ap (place_at (puts s (Running new) w)) e ∙ here)))) h)
+    (λ e. subst (λ (u : SiteView). InTime c u.epoch u.tables) (running_view new v (some_same (Running new) (Running v) (sym (puts_same s (Running new) w) ∙ (ap (place_at (puts s (Running new) w)) e ∙ here)))) h)
     (λ ne. g t v (sym (puts_other s t (Running new) w ne) ∙ here))
 
 puts_stopped : (c : Config) (s : ℕ) (d : Disk) (w : World) → ViewsStart c w → ViewsStart c (puts s (Stopped d) w)
 puts_stopped c s d w g t v here = at_each s t (InTime c v.epoch v.tables)
-    (λ e. absurd (stopped_never d v (some_eq (Stopped d) (Running v) (sym (puts_same s (Stopped d) w) ∙ (ap (place_at (puts s (Stopped d) w)) e ∙ here)))))
+    (λ e. absurd (stopped_never d v (some_same (Stopped d) (Running v) (sym (puts_same s (Stopped d) w) ∙ (ap (place_at (puts s (Stopped d) w)) e ∙ here)))))
     (λ ne. g t v (sym (puts_other s t (Stopped d) w ne) ∙ here))
 
 acts_start : (c : Config) (n s : ℕ) (v : SiteView) (o : Outcome SiteView) (w : World) → InTime c o.view.epoch o.view.tables → ViewsStart c w → ViewsStart c (acts n s v o w)
@@ -50,7 +50,7 @@ acts_start c n s v o w h g =
     acts_cases (ViewsStart c) n s v o w
     (happens c n o.sent o.told (λ now. puts s (Running o.view) now) w (puts_running c s o.view w h g) g)
     (λ a. happens c n o.sent o.told (λ now. puts s (Running o.view) (arms a now)) w (puts_running c s o.view w h g) g)
-    (λ d a e. happens c n [] (cut_told s d a.how a.left) (stops_with s (cut_disk v.boot v.store d a.how a.left)) w (puts_stopped c s (cut_disk v.boot v.store d a.how a.left) w g) g)
+    (λ d a e. happens c n [] (cut_told s v.store d a.how a.left) (stops_with s (cut_disk v.boot v.store d a.how a.left)) w (puts_stopped c s (cut_disk v.boot v.store d a.how a.left) w g) g)
 
 boots_start : (c : Config) (n s : ℕ) (b : Booted) (w : World) → ViewsStart c w → ViewsStart c (boots_as n s b w)
 boots_start c n s (Whole x None) w g = happens c n [] (Shown (says.Up s x.label.boot) ∷ []) _ w (λ t v at. puts_running c s (fresh x.label.boot x.copies) w tt g t v at) g
@@ -82,7 +82,7 @@ first_view c [] s v e = absurd (none_place (Running v) e)
 first_view c (t ∷ ts) s v e = over (t == s) (first_view c ts s v) e
   where
     over : (b : Bool) → (place_in (row place_site s (map (first_place c) ts)) ≡ Some (Running v) → InTime c v.epoch v.tables) → place_in (elim b [ true ↦ Some (first_place c t) | false ↦ row place_site s (map (first_place c) ts) ]) ≡ Some (Running v) → InTime c v.epoch v.tables
-    over true k f = subst (λ (u : SiteView). InTime c u.epoch u.tables) (running_view (fresh 1 (formatted c t)) v (some_eq (Running (fresh 1 (formatted c t))) (Running v) f)) tt
+    over true k f = subst (λ (u : SiteView). InTime c u.epoch u.tables) (running_view (fresh 1 (formatted c t)) v (some_same (Running (fresh 1 (formatted c t))) (Running v) f)) tt
     over false k f = k f
 
 first_start : (c : Config) → ViewsStart c (first_world c)

@@ -4,6 +4,7 @@ use Rattle.std.proofs.lemmas.Bool.Decides.{nat_tests}
 use Rattle.locus_ids.specs.declared.config.Config.{Config}
 use Rattle.locus_ids.specs.declared.ids.FileId.{FileId}
 use Rattle.locus_ids.specs.declared.sites.Members.{Members}
+use Rattle.locus_ids.specs.Sizes.{sites_max}
 use Rattle.schedule_lines.specs.declared.line.ScheduleLine.{ScheduleLine}
 use Rattle.role_steps.specs.Epochs.{frame_in}
 use Rattle.role_steps.specs.Views.{SiteView, is_member, boot_in}
@@ -12,14 +13,14 @@ use Rattle.role_steps.specs.declared.users.Asking.{Asking}
 use Rattle.role_steps.specs.declared.users.Asking.TheVariants as asking
 use Rattle.the_run.specs.Worlds.{World, place_at}
 use Rattle.tree_model.specs.Packs as tree
-use Rattle.rest_laws.proofs.EpochTreeStarting.{member_same}
+use Rattle.fit_laws.proofs.of_rest_laws.EpochTreeStarting.{member_same}
 use Rattle.tree_laws.specs.Doing.{FrameFact}
 use Rattle.tree_laws.specs.Past.{WasBegun}
 use Rattle.tree_laws.specs.Printed.{entries}
-use Rattle.begun_laws.specs.Asked.{AskedBegun, IsBegun}
-use Rattle.rest_laws.proofs.EpochTreeMembers.{Joined, joined_as}
-use Rattle.rest_laws.proofs.EpochTreeStarted.{begun_joined}
-use Rattle.one_tree_laws.specs.Rest.{Past}
+use Rattle.calm_table_laws.specs.of_lock_laws.Asked.{AskedBegun, IsBegun}
+use Rattle.fit_laws.proofs.of_rest_laws.EpochTreeMembers.{Joined, joined_as}
+use Rattle.fit_laws.proofs.of_rest_laws.EpochTreeStarted.{begun_joined}
+use Rattle.calm_sent_laws.specs.of_one_tree_laws.Rest.{Past}
 use Rattle.orderly_laws.specs.Calm.{IsInside, AreTogether}
 use Rattle.orderly_laws.proofs.Places.{view_eq}
 use Rattle.calm_laws.specs.Carrying.{IsMember, own_serial}
@@ -35,7 +36,7 @@ some_is a b e = cc
 in_list : (m : Members) (s : ℕ) → is_member m s ≡ true → boot_in m.boot s ≡ 0 → ⊥
 in_list m s h z = grind (arith, nat_tests)
 
-stored_here : (c : Config) (w : World) (e : InEpoch) (s boot serial ss : ℕ) → RoundFacts c w → FrameFact c w.trace (frame_in c s boot e) → s ≤ 16 → IsBegun w.trace e.id s serial ss → IsMember e ss
+stored_here : (c : Config) (w : World) (e : InEpoch) (s boot serial ss : ℕ) → RoundFacts c w → FrameFact c w.trace (frame_in c s boot e) → s ≤ sites_max → IsBegun w.trace e.id s serial ss → IsMember e ss
 stored_here c w e s boot serial ss facts frame low h = in_list e.members ss (member_same e.members ss ∙ subst (λ (m : Members). tree.is_member m ss ≡ true) (some_is j.members e.members (sym j.are ∙ frame.members_are)) j.is_member)
   where
     past : Past c w.trace
@@ -47,7 +48,7 @@ stored_here c w e s boot serial ss facts frame low h = in_list e.members ss (mem
     j : Joined (entries w.trace) ss e.id
     j = joined_as c w.trace past.followed past.rest.each ss e.id (begun_joined c ss e.id (own_serial s serial) begun.0 w.trace past.followed begun.1)
 
-stored : (c : Config) (w : World) (e : InEpoch) (s boot : ℕ) (a : Asking) → RoundFacts c w → FrameFact c w.trace (frame_in c s boot e) → s ≤ 16 → AskedBegun w.trace e.id s a → IsStoredAtMember e a
+stored : (c : Config) (w : World) (e : InEpoch) (s boot : ℕ) (a : Asking) → RoundFacts c w → FrameFact c w.trace (frame_in c s boot e) → s ≤ sites_max → AskedBegun w.trace e.id s a → IsStoredAtMember e a
 stored c w e s boot (asking.Op serial ss n o seen) facts frame low h = stored_here c w e s boot serial ss facts frame low h
 stored c w e s boot (asking.Close serial ss) facts frame low h = stored_here c w e s boot serial ss facts frame low h
 stored c w e s boot (asking.Look file what take) facts frame low h = tt

@@ -2,6 +2,9 @@
 use Rattle.std.proofs.Common.{◌≡◌, ◌≢◌, ℕ, ◌<◌, ◌==◌, nat_lt, ◌⊎◌, Bool, true, false, ◌||◌, List, [], ◌∷◌, map, Option, Some, refl, sym, ◌∙◌, ap, subst, inl, inr, arith}
 use Rattle.std.proofs.lemmas.Bool.Decides.{nat_tests}
 use Rattle.std.specs.List.{list_any}
+use Rattle.role_steps.proofs.of_plain_facts.Numbers.{less_test}
+use Rattle.role_steps.proofs.of_plain_facts.Options.{none_some, some_same}
+use Rattle.role_steps.proofs.of_plain_facts.Tests.{true_false}
 use Rattle.locus_ids.specs.Sites.{has}
 use Rattle.locus_ids.specs.declared.config.Config.{Config}
 use Rattle.locus_ids.specs.declared.ids.Serial.{Serial}
@@ -32,8 +35,8 @@ use Rattle.the_run.specs.Runs.{arrives}
 use Rattle.the_run.specs.Steps.{is_opened_in}
 use Rattle.the_run.specs.Worlds.{World, Running, Numbered, place_at}
 use Rattle.the_run.proofs.Boots.{at_each}
-use Rattle.store_laws.proofs.Tabled.{latest_other}
-use Rattle.one_tree_laws.proofs.Rising.{Rising}
+use Rattle.calm_sent_laws.proofs.of_store_laws.Tabled.{latest_other}
+use Rattle.calm_sent_laws.proofs.of_one_tree_laws.Rising.{Rising}
 use Rattle.epoch_laws.specs.Forming.{FormsNone}
 use Rattle.epoch_laws.specs.Known.{Places}
 use Rattle.orderly_laws.proofs.Places.{view_eq}
@@ -44,7 +47,7 @@ use Rattle.calm_laws.proofs.Delivered.{Takes, LeavesSite, takes_event, event_row
 use Rattle.calm_laws.proofs.Ends.{handles}
 use Rattle.calm_laws.proofs.Handing.{StillWaits, IsHandedOn, Hands}
 use Rattle.calm_laws.proofs.Keeping.{KeepsAll, all_itself}
-use Rattle.calm_laws.proofs.Lists.{true_false, none_some, some_is, every_among}
+use Rattle.calm_laws.proofs.Lists.{every_among}
 use Rattle.calm_laws.proofs.Members.{sync_is}
 use Rattle.calm_laws.proofs.Requests.{Requested, request_carries}
 use Rattle.calm_laws.proofs.Rows.{AllGoToMembers, TriesNone, placed, placed_here, placed_other}
@@ -71,7 +74,7 @@ any_latest q r i (x ∷ xs) same e = over (open_key x == open_key q) (λ g. any_
   where
     over : (b : Bool) → (row open_key (open_key q) xs ≡ Some r → list_any (λ (y : OpenRow). same_serial y.inst i) (with_latest open_key q xs) ≡ list_any (λ (y : OpenRow). same_serial y.inst i) xs) → ◌≡◌ {A = Option OpenRow} (elim b [ true ↦ Some x | false ↦ row open_key (open_key q) xs ]) (Some r) →
         list_any (λ (y : OpenRow). same_serial y.inst i) (elim b [ true ↦ q ∷ xs | false ↦ x ∷ with_latest open_key q xs ]) ≡ list_any (λ (y : OpenRow). same_serial y.inst i) (x ∷ xs)
-    over true later g = ap (λ (s : Serial). same_serial s i || list_any (λ (y : OpenRow). same_serial y.inst i) xs) (same ∙ sym (ap (λ (y : OpenRow). y.inst) (some_is x r g)))
+    over true later g = ap (λ (s : Serial). same_serial s i || list_any (λ (y : OpenRow). same_serial y.inst i) xs) (same ∙ sym (ap (λ (y : OpenRow). y.inst) (some_same x r g)))
     over false later g = ap (λ (b : Bool). same_serial x.inst i || b) (later g)
 
 pub open_to : (S : Serial → Type 0) (t : SyncTable) (q r : OpenRow) → q.inst ≡ r.inst → row open_key (open_key q) t.opens ≡ Some r → ((i : Serial) → open_key q ≡ serial_key i → S i) → TableTo S t (with_open q t)
@@ -93,7 +96,7 @@ row_to_later S t q r same found past = record {
   reported = refl;
   opened = λ i. any_latest q r i t.opens same found;
   rows = λ i k e a. at_each (open_key q) (serial_key i) ((open_row (with_open q t) i ≡ Some k) ⊎ S i)
-      (λ eq. absurd (past (ap (λ (z : OpenRow). z.stage) (some_is r k (sym found ∙ (ap (λ (key : ℕ). row open_key key t.opens) eq ∙ e))) ∙ a)))
+      (λ eq. absurd (past (ap (λ (z : OpenRow). z.stage) (some_same r k (sym found ∙ (ap (λ (key : ℕ). row open_key key t.opens) eq ∙ e))) ∙ a)))
       (λ ne. inl (latest_other open_key q (serial_key i) t.opens ne ∙ e));
 }
 
@@ -124,9 +127,6 @@ pub all_to_itself : (S : Serial → Type 0) (ts : List SyncTable) → AllTo S ts
 all_to_itself S [] = tt
 all_to_itself S (t ∷ ts) = (to_itself S t, all_to_itself S ts)
 
-below_test : (a b : ℕ) → a < b → nat_lt a b ≡ true
-below_test a b h = grind (arith, nat_tests)
-
 same_test : (a : ℕ) → (nat_lt a a ≡ false) × ((a == a) ≡ true)
 same_test a = (grind (arith, nat_tests), grind (arith, nat_tests))
 
@@ -151,7 +151,7 @@ put_to S (x ∷ xs) t n r (inl e) k = subst (λ (b : Bool). AllTo S (x ∷ xs) (
 put_to S (x ∷ xs) t n r (inr a) k = subst (λ (b : Bool). AllTo S (x ∷ xs) (elim b [ true ↦ x ∷ with_row table_group n xs | false ↦ elim (x.group == n.group) [ true ↦ n ∷ xs | false ↦ n ∷ x ∷ xs ] ])) (sym less) (to_itself S x, put_to S xs t n r.1 a k)
   where
     less : nat_lt x.group n.group ≡ true
-    less = below_test x.group n.group (subst (λ (g : ℕ). x.group < g) (sym k.group) (every_among (λ (y : ℕ). x.group < y) t.group (map table_group xs) (among_map t xs a) r.0))
+    less = less_test x.group n.group (subst (λ (g : ℕ). x.group < g) (sym k.group) (every_among (λ (y : ℕ). x.group < y) t.group (map table_group xs) (among_map t xs a) r.0))
 
 pub record FirstTo (S : Serial → Type 0) (test : SyncTable → Bool) (ns : List SyncTable) (t : SyncTable) : Type 0 where
   pub table : SyncTable
@@ -172,7 +172,7 @@ first_to S test same (x ∷ xs) (y ∷ ys) k t e = over (test x) (test y) refl (
     found_later false d h = h
 
     over : (a b : Bool) → test y ≡ b → b ≡ a → (first_that test xs ≡ Some t → FirstTo S test ys t) → ◌≡◌ {A = Option SyncTable} (elim a [ true ↦ Some x | false ↦ first_that test xs ]) (Some t) → FirstTo S test (y ∷ ys) t
-    over true true q z f g = record { table = y; found = found_here (test y) q; to = subst (λ (n : SyncTable). TableTo S n y) (some_is x t g) k.0 }
+    over true true q z f g = record { table = y; found = found_here (test y) q; to = subst (λ (n : SyncTable). TableTo S n y) (some_same x t g) k.0 }
     over true false q z f g = absurd (true_false (sym z))
     over false true q z f g = absurd (true_false z)
     over false false q z f g = (let r : FirstTo S test ys t = f g in record { table = r.table; found = found_later (test y) q r.found; to = r.to })

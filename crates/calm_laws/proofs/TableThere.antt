@@ -3,6 +3,7 @@ use Rattle.std.proofs.Common.{◌≡◌, ℕ, zero, suc, ◌-◌, ◌==◌, ◌<
 use Rattle.std.proofs.lemmas.Bool.Decides.{nat_tests}
 use Rattle.std.proofs.lemmas.Nat.Bits.{bit_at-zero}
 use Rattle.std.specs.List.{slice_index_or}
+use Rattle.role_steps.proofs.of_plain_facts.Tests.{true_false}
 use Rattle.locus_ids.specs.Sites.{has}
 use Rattle.locus_ids.specs.declared.config.Config.{Config}
 use Rattle.locus_ids.specs.declared.sites.Sites.{Sites}
@@ -14,8 +15,7 @@ use Rattle.role_steps.specs.declared.rounds.InEpoch.{InEpoch}
 use Rattle.role_steps.specs.declared.synchronizing.SyncTable.{SyncTable}
 use Rattle.the_run.specs.Kept.{Among}
 use Rattle.the_run.specs.Worlds.{Line}
-use Rattle.one_tree_laws.specs.Places.{InsideFact}
-use Rattle.calm_laws.proofs.Lists.{true_false}
+use Rattle.calm_sent_laws.specs.of_one_tree_laws.Places.{InsideFact}
 use Rattle.calm_laws.proofs.Members.{sync_is}
 
 -- ---- lists ----

@@ -2,6 +2,8 @@
 use Rattle.std.proofs.Common.{◌≡◌, ◌≢◌, ℕ, ◌==◌, ◌⊎◌, Bool, true, false, not, ◌&&◌, List, [], ◌∷◌, ◌++◌, Option, Some, None, refl, sym, ◌∙◌, ap, subst, inl, inr, arith}
 use Rattle.std.proofs.lemmas.Bool.Decides.{nat_tests}
 use Rattle.std.specs.List.{flat_map}
+use Rattle.role_steps.proofs.of_plain_facts.Options.{none_some, some_same}
+use Rattle.role_steps.proofs.of_plain_facts.Tests.{both_true, true_false}
 use Rattle.locus_ids.specs.declared.config.Config.{Config}
 use Rattle.locus_ids.specs.declared.sites.Links.{Links}
 use Rattle.wire_messages.specs.declared.packet.Packet.{Packet}
@@ -21,7 +23,7 @@ use Rattle.the_run.proofs.Growing.{acts_touches}
 use Rattle.epoch_laws.specs.Forming.{TableFormless, FormlessSite}
 use Rattle.epoch_laws.specs.Known.{Good}
 use Rattle.epoch_laws.proofs.Run.{good_kept}
-use Rattle.epoch_laws.proofs.SitesForm.{adopts_of_formless}
+use Rattle.epoch_laws.proofs.Forms.{adopts_of_formless}
 use Rattle.orderly_laws.specs.Calm.{IsInside}
 use Rattle.orderly_laws.proofs.Blocks.{happened_within}
 use Rattle.orderly_laws.proofs.Formed.{among_left, among_right, order_has}
@@ -32,7 +34,6 @@ use Rattle.calm_laws.specs.Carrying.{IsMember, frame_of}
 use Rattle.calm_laws.proofs.Calls.{IsSent, OnlyCalls}
 use Rattle.calm_laws.proofs.Ends.{ends_calls}
 use Rattle.calm_laws.proofs.Events.{Under, RunsOn, Moved, acts_moved}
-use Rattle.calm_laws.proofs.Lists.{true_false, both_true, none_some, some_is}
 use Rattle.calm_laws.proofs.Rounds.{round_kept}
 
 -- ---- one tick ----
@@ -58,7 +59,7 @@ repeated c e s a q inside boot h = by_epoch a.epoch inside
     by_epoch : (o : Option InEpoch) → o ≡ Some e → Among q (repeats_of c s o a)
     by_epoch None k = absurd (none_some e k)
     by_epoch (Some d) k =
-        subst (λ (i : InEpoch). Among q (repeats_of c s (Some i) a)) (sym (some_is d e k))
+        subst (λ (i : InEpoch). Among q (repeats_of c s (Some i) a)) (sym (some_same d e k))
         (among_right q (in_order (poll_repeats s a a.round ++ install_repeats s a e)) (repeats_inside (frame_in c s a.boot e) e a)
         (subst (λ (b : ℕ). Among q (repeats_inside (frame_in c s b e) e a)) (sym boot) (in_frame (frame_of c e s) h)))
 

@@ -18,20 +18,21 @@ use Rattle.the_run.specs.Joins.{Joined}
 use Rattle.the_run.specs.Runs.{run_in}
 use Rattle.the_run.specs.Steps.{epoch_id}
 use Rattle.std.specs.List.{list_any}
+use Rattle.role_steps.proofs.of_plain_facts.Options.{none_some, some_same}
+use Rattle.role_steps.proofs.of_plain_facts.Tests.{false_true, true_false}
 use Rattle.the_run.specs.Worlds.{World, Place, Running, Stopped, Line, CutCircuit, place_at, is_between}
 use Rattle.the_run.proofs.Growing.{run_grows}
 use Rattle.the_run.proofs.OneList.{one_list, epochs_joined}
 use Rattle.run_laws.specs.Standing.{Standing, standing}
-use Rattle.row_laws.specs.Shown.{trace_of}
-use Rattle.row_laws.proofs.AskedRun.{run_courses}
-use Rattle.row_laws.proofs.Causes.{epoch_standing}
-use Rattle.row_laws.proofs.SitesGoOn.{listed_before}
+use Rattle.orderly_traces.specs.of_row_laws.Shown.{trace_of}
+use Rattle.orderly_traces.proofs.of_row_laws.AskedRun.{run_courses}
+use Rattle.orderly_traces.proofs.of_row_laws.Causes.{epoch_standing}
+use Rattle.orderly_traces.proofs.of_row_laws.SitesGoOn.{listed_before}
 use Rattle.orderly_laws.specs.Calm.{IsInside, AreTogether}
 use Rattle.orderly_traces.specs.Fits.{FitsCluster}
 use Rattle.orderly_traces.proofs.Circuits.{cut_is}
 use Rattle.orderly_traces.proofs.Reached.{running_boot}
 use Rattle.calm_laws.specs.Carrying.{IsMember}
-use Rattle.calm_laws.proofs.Lists.{true_false, some_is, none_some}
 use Rattle.calm_laws.proofs.Placed.{Stands}
 use Rattle.calm_laws.proofs.Twins.{Twin}
 
@@ -51,9 +52,6 @@ list_is c lines more id members s v d listed here inside same =
 
 -- ---- a member ----
 
-false_true : false ≡ true → ⊥
-false_true e = cc
-
 site_inside : (c : Config) (lines more : List ScheduleLine) (w : World) (id : EpochId) (members : Members) (s : ℕ) → Twin c lines more w → Stands w → members_of (trace_of (run_in c lines)) id ≡ Some members → is_up (trace_of w) s ≡ true → boot_of (trace_of w) s ≡ boot_in members s → epoch_of (trace_of w) s ≡ Some id →
     IsInside w (record { id = id; members = members }) s
 site_inside c lines more w id members s twin stands listed up boot inside = by_place (place_at w s) refl
@@ -65,7 +63,7 @@ site_inside c lines more w id members s twin stands listed up boot inside = by_p
     by_epoch v here None e h = absurd (none_some id h)
     by_epoch v here (Some d) e h =
         let there : place_at (run_in c (lines ++ more)) s ≡ Some (Running v) = twin.places s ∙ here in
-        let same : d.id ≡ id = some_is d.id id h in
+        let same : d.id ≡ id = some_same d.id id h in
         let list : d.members ≡ members = list_is c lines more id members s v d listed there e same in
         record {
           view = v;

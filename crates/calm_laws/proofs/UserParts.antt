@@ -1,6 +1,7 @@
 -- What the handlers of answers at a using site have in common: which call takes an answer, and that it goes on.
 use Rattle.std.proofs.Common.{◌≡◌, ℕ, ◌==◌, ◌⊎◌, Bool, true, false, List, [], ◌∷◌, Option, Some, None, refl, sym, ◌∙◌, ap, inl, inr, arith}
 use Rattle.std.proofs.lemmas.Bool.Decides.{nat_tests}
+use Rattle.role_steps.proofs.of_plain_facts.Tests.{true_false}
 use Rattle.locus_ids.specs.declared.config.Config.{Config}
 use Rattle.locus_ids.specs.declared.ids.CallId.{CallId}
 use Rattle.locus_ids.specs.declared.ids.FileId.{FileId}
@@ -33,7 +34,6 @@ use Rattle.calm_laws.proofs.AnswerRows.{HasTaken, AnswerHandler}
 use Rattle.calm_laws.proofs.Calls.{CallsAsk, IsSent, goes_calls}
 use Rattle.calm_laws.proofs.Ends.{handles}
 use Rattle.calm_laws.proofs.Keeping.{KeepsRoles, all_itself}
-use Rattle.calm_laws.proofs.Lists.{true_false}
 use Rattle.epoch_laws.specs.Known.{Places}
 
 -- ---- an outcome of the using site ----
@@ -108,9 +108,3 @@ open_asked c t me d _ serial f it k = absurd k.0
 
 pub number_of_call : (s b m n : ℕ) → own_call s b m ≡ own_call s b n → m ≡ n
 number_of_call s b m n e = ap (λ (d : CallId). d.n) e
-
-pub equal : (a b : ℕ) → (a == b) ≡ true → a ≡ b
-equal a b e = grind (arith, nat_tests)
-
-pub same_true : (a b : ℕ) → a ≡ b → (a == b) ≡ true
-same_true a b e = grind (arith, nat_tests)

@@ -17,9 +17,10 @@ use Rattle.the_run.specs.Runs.{arrives, next_packet, ticks_to, run_in}
 use Rattle.the_run.specs.Steps.{is_dropped, is_opened_in}
 use Rattle.the_run.specs.Worlds.{World, Running, Numbered, place_at}
 use Rattle.lawful_trace.specs.Places.{line_at, lines_before}
-use Rattle.row_laws.specs.Voids.{LinesFit}
-use Rattle.order_laws.specs.Joining.{PacksAreOfSites}
+use Rattle.orderly_traces.specs.of_row_laws.Voids.{LinesFit}
+use Rattle.fit_laws.specs.of_order_laws.Joining.{PacksAreOfSites}
 use Rattle.orderly_laws.specs.Calm.{AreTogether, delivered}
+use Rattle.calm_sent_laws.specs.Standing.{IsGrantedStage}
 use Rattle.calm_laws.specs.Carrying.{IsMember, HasReported, IsAllCarried, Goes, own_serial, frame_of, look_body, held_request, PassesLook, AnswersLook}
 use Rattle.calm_laws.specs.Calming.{ReachThemselves, NobodyWaits}
 use Rattle.locus_ids.specs.declared.ids.Serial.{Serial}
@@ -27,7 +28,6 @@ use Rattle.wire_messages.specs.declared.body.MadeVersion.{MadeVersion}
 use Rattle.role_steps.specs.Opens.{open_row}
 use Rattle.role_steps.specs.Tables.{first_that, row}
 use Rattle.role_steps.specs.declared.synchronizing.OpenRow.{OpenRow}
-use Rattle.role_steps.specs.declared.synchronizing.OpenStage.{OpenStage}
 use Rattle.role_steps.specs.declared.synchronizing.OpenStage.TheVariants as stage
 use Rattle.role_steps.specs.declared.synchronizing.SyncTable.{SyncTable}
 use Rattle.epoch_laws.specs.Known.{Places}
@@ -97,12 +97,6 @@ IsStoredAtMember e _ = Unit {0}
 
 abbrev pub StorageIsMember : InEpoch → World → Type 0
 StorageIsMember e w = (s : ℕ) (v : SiteView) (x : WaitingCall) → IsMember e s → place_at w s ≡ Some (Running v) → Among x v.users.waiting → IsStoredAtMember e x.asking
-
--- the open was granted, where it may be over
-abbrev pub IsGrantedStage : OpenStage → Type 0
-IsGrantedStage stage.Granted = Unit {0}
-IsGrantedStage stage.Ended = Unit {0}
-IsGrantedStage _ = ⊥
 
 -- the site has granted the instance: it has heard that its storage site has opened it
 pub record HasGranted (at : Places) (css : ℕ) (inst : Serial) : Type 0 where

@@ -1,55 +1,44 @@
--- What the using site and a site that pulls send answers no report and no open, and closes no instance; nor does what the storage site
--- sends, but as it closes one.
-use Rattle.std.proofs.Common.{ℕ, ◌+◌, ◌==◌, true, false, List, [], ◌∷◌, ◌++◌, Option, Some, None}
-use Rattle.call_rules.specs.Descriptors.{beginning}
-use Rattle.call_rules.specs.declared.answer.Answer.{Answer}
-use Rattle.call_rules.specs.declared.want.Want.TheVariants as want
-use Rattle.call_rules.specs.declared.want.Want.{Want}
-use Rattle.commit_graph.specs.Versions.{same_stamp}
-use Rattle.file_effects.specs.Effects.{Effect}
-use Rattle.file_effects.specs.Works.{counted}
+-- What the using site and a site that pulls send answers no report and no open, and closes no instance: a law by kinds; nor does what
+-- the storage site sends, but as it closes one.
+use Rattle.std.proofs.Common.{ℕ, ◌+◌, ◌==◌, true, false, List, [], Option, Some, None}
 use Rattle.locus_ids.specs.declared.ids.EpochId.{EpochId}
 use Rattle.locus_ids.specs.declared.ids.FileId.{FileId}
-use Rattle.locus_ids.specs.declared.ids.Mode.TheVariants as mode
 use Rattle.locus_ids.specs.declared.ids.Mode.{Mode}
 use Rattle.locus_ids.specs.declared.ids.Serial.{Serial}
 use Rattle.locus_ids.specs.declared.ids.Stamp.{Stamp}
+use Rattle.locus_ids.specs.declared.ids.Mode.TheVariants as mode
 use Rattle.locus_ids.specs.declared.refusal.Refusal.TheVariants as refusal
-use Rattle.role_steps.proofs.Sending.{every_cond, every_flat_map}
+use Rattle.trace_book.specs.declared.call.Call.{Call}
+use Rattle.trace_book.specs.declared.operation.Op.{Op}
+use Rattle.trace_book.specs.declared.operation.Outcome.{Outcome as Result}
+use Rattle.trace_book.specs.declared.operation.Op.TheVariants as op
+use Rattle.trace_book.specs.declared.operation.Outcome.TheVariants as result
+use Rattle.file_effects.specs.Effects.{Effect}
+use Rattle.file_effects.specs.Works.{counted}
+use Rattle.wire_messages.specs.declared.body.Body.{Body}
+use Rattle.wire_messages.specs.declared.body.CloseAnswer.{CloseAnswer}
+use Rattle.wire_messages.specs.declared.body.Granted.{Granted}
+use Rattle.wire_messages.specs.declared.body.LookAnswer.{LookAnswer}
+use Rattle.wire_messages.specs.declared.packet.Packet.{Packet}
+use Rattle.wire_messages.specs.declared.body.Body.TheVariants as body
 use Rattle.role_steps.specs.Looks.{LookRequest}
 use Rattle.role_steps.specs.OperationEffects.{Mending, effect_of}
 use Rattle.role_steps.specs.Operations.{acts, acts_committed, commits_owing, last_committed, commit_op, executes_effect, executes, op_again, by_number, on_op_at, on_op_of, on_op}
 use Rattle.role_steps.specs.Own.{Every}
-use Rattle.role_steps.specs.Pulling.{pull_of, pull_packets, is_complete, goes_on as pulls_on, replaces_pull, begins_pull, on_notify, is_awaited, on_page_of, on_page, pull_repeats}
-use Rattle.role_steps.specs.Requests.{descriptors_of, request_packets, asks, asks_op_of, asks_close_of, user_instance, users_repeats}
-use Rattle.role_steps.specs.Storage.{StoreRequest, copy_of, instance_of, is_open, opened_packets, own_ino, opens, opens_made, on_open_ss_of, on_open_ss, is_spent, commits, next_stamp, next_vector, ends_at, on_closed_ok_of, on_closed_ok, on_look_ss, has_page, pulled_page, on_pull}
-use Rattle.role_steps.specs.Tables.{first_that}
-use Rattle.role_steps.specs.Using as using
-use Rattle.role_steps.specs.Using.{accepted, frees, with_brought, content_answer, asks_want, next_want, goes_on, on_call, takes_answer, with_answer, takes_open, on_open_done_of, on_open_done, on_op_done_of, on_op_done, on_close_done_of, on_close_done, looks_again, takes_look, on_look_done_of, on_look_done, asks_open_of, asks_op_number, asks_take}
-use Rattle.role_steps.specs.Versions.{is_below}
-use Rattle.role_steps.specs.Views.{Frame, Store, Users, Outcome, quiet, sends, and_then, packet, to_some, to_sync, sync_site}
+use Rattle.role_steps.specs.Pulling.{on_notify, on_page, pull_repeats}
+use Rattle.role_steps.specs.Requests.{users_repeats}
+use Rattle.role_steps.specs.Storage.{StoreRequest, instance_of, is_open, opened_packets, own_ino, opens, opens_made, on_open_ss_of, on_open_ss, is_spent, commits, next_stamp, next_vector, ends_at, on_closed_ok_of, on_closed_ok, on_look_ss, on_pull}
+use Rattle.role_steps.specs.Using.{on_call, on_open_done, on_op_done, on_close_done, on_look_done}
+use Rattle.role_steps.specs.Views.{Frame, Store, Users, Outcome, quiet, sends, and_then, to_some, to_sync, sync_site}
 use Rattle.role_steps.specs.declared.copies.FileCopy.{FileCopy}
 use Rattle.role_steps.specs.declared.instances.Instance.{Instance}
-use Rattle.role_steps.specs.declared.instances.Stage.TheVariants as stage
 use Rattle.role_steps.specs.declared.instances.Stage.{Stage}
 use Rattle.role_steps.specs.declared.pulls.Pull.{Pull}
-use Rattle.role_steps.specs.declared.users.Asking.TheVariants as asking
-use Rattle.role_steps.specs.declared.users.Asking.{Asking}
-use Rattle.role_steps.specs.declared.users.UserInstance.{UserInstance}
-use Rattle.role_steps.specs.declared.users.WaitingCall.{WaitingCall}
-use Rattle.trace_book.specs.declared.call.Call.{Call}
-use Rattle.trace_book.specs.declared.operation.Op.TheVariants as op
-use Rattle.trace_book.specs.declared.operation.Op.{Op}
-use Rattle.trace_book.specs.declared.operation.Outcome.TheVariants as result
-use Rattle.trace_book.specs.declared.operation.Outcome.{Outcome as Result}
-use Rattle.wire_messages.specs.declared.body.Body.{Body}
-use Rattle.wire_messages.specs.declared.body.Body.TheVariants as body
-use Rattle.wire_messages.specs.declared.body.CloseAnswer.{CloseAnswer}
-use Rattle.wire_messages.specs.declared.body.Granted.TheVariants as granted
-use Rattle.wire_messages.specs.declared.body.Granted.{Granted}
-use Rattle.wire_messages.specs.declared.body.LookAnswer.TheVariants as looked
-use Rattle.wire_messages.specs.declared.body.LookAnswer.{LookAnswer}
-use Rattle.wire_messages.specs.declared.packet.Packet.{Packet}
+use Rattle.role_steps.specs.declared.instances.Stage.TheVariants as stage
+use Rattle.role_steps.proofs.Sending.{every_cond}
+use Rattle.epoch_laws.specs.of_law_walks.Kinds.{IsOfReader, IsUserRequest, IsOfUser}
+use Rattle.epoch_laws.specs.of_law_walks.Laws.{Law, body_law, ReadersKeep, UsersKeep}
+use Rattle.epoch_laws.proofs.of_law_walks.RoleWalks.{on_look_ss_walk, on_pull_walk, on_notify_walk, on_page_walk, pull_repeats_walk, users_repeats_walk, on_call_walk, on_open_done_walk, on_op_done_walk, on_close_done_walk, on_look_done_walk}
 
 -- the body answers neither a report nor an open, and closes no instance
 abbrev pub AnswersNone : Body → Type 0
@@ -104,18 +93,6 @@ on_closed_ok_of_answerless f (Some i) s = ends_at_answerless f i i.stage s
 
 pub on_closed_ok_answerless : (f : Frame) (inst : Serial) (s : Store) → AllAnswerless (on_closed_ok f inst s)
 on_closed_ok_answerless f inst s = on_closed_ok_of_answerless f (instance_of s inst) s
-
--- ---- looks and pulls ----
-
-pub on_look_ss_answerless : (f : Frame) (us : ℕ) (l : LookRequest) (stamp : Stamp) (s : Store) → AllAnswerless (on_look_ss f us l stamp s)
-on_look_ss_answerless f us l stamp s = (tt, tt)
-
-pulled_page_answerless : (f : Frame) (from : ℕ) (file : FileId) (stamp : Stamp) (page : ℕ) (o : Option FileCopy) → Every Answerless (pulled_page f from file stamp page o)
-pulled_page_answerless f from file stamp page None = tt
-pulled_page_answerless f from file stamp page (Some x) = every_cond Answerless (has_page stamp page x) _ [] (tt, tt) tt
-
-pub on_pull_answerless : (f : Frame) (from : ℕ) (file : FileId) (stamp : Stamp) (page : ℕ) (s : Store) → AllAnswerless (on_pull f from file stamp page s)
-on_pull_answerless f from file stamp page s = pulled_page_answerless f from file stamp page (copy_of s file)
 
 -- ---- operations ----
 
@@ -185,117 +162,65 @@ on_op_of_answerless f m (Some i) n o seen s = on_op_at_answerless f m i i.stage 
 pub on_op_answerless : (f : Frame) (m : Mending) (inst : Serial) (n : ℕ) (o : Op) (seen : List ℕ) (s : Store) → AllAnswerless (on_op f m inst n o seen s)
 on_op_answerless f m inst n o seen s = on_op_of_answerless f m (instance_of s inst) n o seen s
 
--- ---- pulls ----
+-- ---- the law of the other roles, kind by kind ----
 
-pull_answerless : (f : Frame) (p : Pull) → Every Answerless (pull_packets f p)
-pull_answerless f p = every_cond Answerless (is_complete p) [] _ tt (tt, tt)
+request_answers_none : (b : Body) → IsUserRequest b → AnswersNone b
+request_answers_none (body.Open serial call process request file how) h = tt
+request_answers_none (body.Look call process request take file what) h = tt
+request_answers_none _ h = absurd h
 
-begins_pull_answerless : (f : Frame) (p : Pull) (ps : List Pull) → AllAnswerless (begins_pull f p ps)
-begins_pull_answerless f p ps =
-    elim (replaces_pull p (pull_of ps p.file)) as (λ b. AllAnswerless (elim b [ true ↦ pulls_on f p ps | false ↦ quiet ps ])) [ true ↦ pull_answerless f p | false ↦ tt ]
+user_answers_none : (b : Body) → IsOfUser b → AnswersNone b
+user_answers_none (body.Op serial n o seen) h = tt
+user_answers_none (body.Close serial) h = tt
+user_answers_none _ h = absurd h
+
+reader_answers_none : (b : Body) → IsOfReader b → AnswersNone b
+reader_answers_none (body.LookDone call request take answer) h = tt
+reader_answers_none (body.Pull file stamp page) h = tt
+reader_answers_none _ h = absurd h
+
+abbrev answering : Law
+answering = body_law AnswersNone (λ t. Unit {0}) (λ w. Unit {0})
+
+users : (f : Frame) → UsersKeep answering f
+users f = record { asks = λ group to b h e. request_answers_none b h; sends = λ to b h. user_answers_none b h; tells = λ t h. tt; unwritten = tt }
+
+readers : (f : Frame) → ReadersKeep answering f
+readers f = record { sends = λ to b h. reader_answers_none b h; unwritten = tt }
+
+-- ---- looks and pulls ----
+
+pub on_look_ss_answerless : (f : Frame) (us : ℕ) (l : LookRequest) (stamp : Stamp) (s : Store) → AllAnswerless (on_look_ss f us l stamp s)
+on_look_ss_answerless f us l stamp s = (on_look_ss_walk answering f (readers f) us l stamp s).0
+
+pub on_pull_answerless : (f : Frame) (from : ℕ) (file : FileId) (stamp : Stamp) (page : ℕ) (s : Store) → AllAnswerless (on_pull f from file stamp page s)
+on_pull_answerless f from file stamp page s = (on_pull_walk answering f (readers f) from file stamp page (λ bytes. tt) s).0
 
 pub on_notify_answerless : (f : Frame) (from : ℕ) (o : Option FileCopy) (p : Pull) (ps : List Pull) → AllAnswerless (on_notify f from o p ps)
-on_notify_answerless f from None p ps = begins_pull_answerless f p ps
-on_notify_answerless f from (Some own) p ps =
-    elim (same_stamp own.stamp p.stamp) as (λ b. AllAnswerless (elim b [ true ↦ sends (packet f from (body.Have p.file p.stamp) ∷ []) ps | false ↦ elim (is_below own.vector p.vector) [ true ↦ begins_pull f p ps | false ↦ quiet ps ] ])) [
-      | true ↦ (tt, tt)
-      | false ↦ elim (is_below own.vector p.vector) as (λ b. AllAnswerless (elim b [ true ↦ begins_pull f p ps | false ↦ quiet ps ])) [ true ↦ begins_pull_answerless f p ps | false ↦ tt ]
-    ]
-
-on_page_of_answerless : (f : Frame) (stamp : Stamp) (page : ℕ) (bytes : List ℕ) (o : Option Pull) (ps : List Pull) → AllAnswerless (on_page_of f stamp page bytes o ps)
-on_page_of_answerless f stamp page bytes None ps = tt
-on_page_of_answerless f stamp page bytes (Some p) ps =
-    elim (is_awaited p stamp page bytes) as (λ b. AllAnswerless (elim b [ true ↦ pulls_on f (record p { content = p.content ++ bytes }) ps | false ↦ quiet ps ])) [ true ↦ pull_answerless f (record p { content = p.content ++ bytes }) | false ↦ tt ]
+on_notify_answerless f from o p ps = (on_notify_walk answering f (readers f) from o p tt ps).0
 
 pub on_page_answerless : (f : Frame) (file : FileId) (stamp : Stamp) (page : ℕ) (bytes : List ℕ) (ps : List Pull) → AllAnswerless (on_page f file stamp page bytes ps)
-on_page_answerless f file stamp page bytes ps = on_page_of_answerless f stamp page bytes (pull_of ps file) ps
+on_page_answerless f file stamp page bytes ps = (on_page_walk answering f (readers f) file stamp page bytes ps).0
 
 pub pull_repeats_answerless : (f : Frame) (ps : List Pull) → Every Answerless (pull_repeats f ps)
-pull_repeats_answerless f ps = every_flat_map Answerless (pull_packets f) ps (pull_answerless f)
+pull_repeats_answerless f ps = pull_repeats_walk answering f (readers f) ps
 
 -- ---- the using site ----
 
-request_answerless : (f : Frame) (w : WaitingCall) (a : Asking) → Every Answerless (request_packets f w a)
-request_answerless f w (asking.Look file what take) = sync_answerless f file.group _ tt
-request_answerless f w (asking.Open serial file how) = sync_answerless f file.group _ tt
-request_answerless f w (asking.Op serial ss number o seen) = (tt, tt)
-request_answerless f w (asking.Close serial ss) = (tt, tt)
-
 pub users_repeats_answerless : (f : Frame) (u : Users) → Every Answerless (users_repeats f u)
-users_repeats_answerless f u = every_flat_map Answerless (λ (w : WaitingCall). request_packets f w w.asking) u.waiting (λ w. request_answerless f w w.asking)
-
-asks_answerless : (f : Frame) (w : WaitingCall) (u : Users) → AllAnswerless (asks f w u)
-asks_answerless f w u = request_answerless f w w.asking
-
-asks_op_answerless : (f : Frame) (w : WaitingCall) (o : Op) (i : Option UserInstance) (u : Users) → AllAnswerless (asks_op_of f w o i u)
-asks_op_answerless f w o None u = tt
-asks_op_answerless f w o (Some i) u = (tt, tt)
-
-asks_close_answerless : (f : Frame) (w : WaitingCall) (i : Option UserInstance) (u : Users) → AllAnswerless (asks_close_of f w i u)
-asks_close_answerless f w None u = tt
-asks_close_answerless f w (Some i) u = (tt, tt)
-
-asks_want_answerless : (f : Frame) (w : WaitingCall) (x : Want) (u : Users) → AllAnswerless (asks_want f w x u)
-asks_want_answerless f w (want.Look file what) u = sync_answerless f file.group _ tt
-asks_want_answerless f w (want.Open file m) u = sync_answerless f file.group _ tt
-asks_want_answerless f w (want.OpenToMend file) u = sync_answerless f file.group _ tt
-asks_want_answerless f w (want.Make group kind sites) u = sync_answerless f group _ tt
-asks_want_answerless f w (want.Do inst o) u = asks_op_answerless f w o (user_instance u inst.serial) u
-asks_want_answerless f w (want.Close inst) u = asks_close_answerless f w (user_instance u inst.serial) u
-asks_want_answerless f w (want.Give r) u = tt
-asks_want_answerless f w want.Never u = tt
-
-goes_on_answerless : (f : Frame) (w : WaitingCall) (u : Users) → AllAnswerless (goes_on f w u)
-goes_on_answerless f w u = asks_want_answerless f w (next_want f w u) u
+users_repeats_answerless f u = users_repeats_walk answering f (users f) u
 
 pub on_call_answerless : (f : Frame) (now : Option EpochId) (process : ℕ) (words : Call) (u : Users) → AllAnswerless (on_call f now process words u)
-on_call_answerless f now process words u =
-    goes_on_answerless f (accepted process (u.calls + 1) words (beginning (descriptors_of u process) now words)) (frees process words (record u { calls = u.calls + 1 }))
-
-takes_answer_answerless : (f : Frame) (w : WaitingCall) (a : Answer) (u : Users) → AllAnswerless (takes_answer f w a u)
-takes_answer_answerless f w a u = goes_on_answerless f (with_answer w a) u
-
-takes_open_answerless : (f : Frame) (kept : FileId → List Stamp) (serial : ℕ) (w : WaitingCall) (a : Granted) (u : Users) → AllAnswerless (takes_open f kept serial w a u)
-takes_open_answerless f kept serial w (granted.Open ss ino size stamp vector) u = takes_answer_answerless f w _ _
-takes_open_answerless f kept serial w (granted.No why) u = takes_answer_answerless f w _ u
-
-on_open_done_of_answerless : (f : Frame) (kept : FileId → List Stamp) (serial : ℕ) (a : Granted) (o : Option WaitingCall) (u : Users) → AllAnswerless (on_open_done_of f kept serial a o u)
-on_open_done_of_answerless f kept serial a None u = tt
-on_open_done_of_answerless f kept serial a (Some w) u = takes_open_answerless f kept serial w a u
+on_call_answerless f now process words u = (on_call_walk answering f (users f) now process words u (λ n. tt)).0
 
 pub on_open_done_answerless : (f : Frame) (kept : FileId → List Stamp) (serial : ℕ) (a : Granted) (u : Users) → AllAnswerless (on_open_done f kept serial a u)
-on_open_done_answerless f kept serial a u = on_open_done_of_answerless f kept serial a (first_that (asks_open_of serial) u.waiting) u
-
-on_op_done_of_answerless : (f : Frame) (r : Result) (o : Option WaitingCall) (u : Users) → AllAnswerless (on_op_done_of f r o u)
-on_op_done_of_answerless f r None u = tt
-on_op_done_of_answerless f r (Some w) u = takes_answer_answerless f w _ u
+on_open_done_answerless f kept serial a u = (on_open_done_walk answering f (users f) kept serial a u).0
 
 pub on_op_done_answerless : (f : Frame) (serial n : ℕ) (r : Result) (u : Users) → AllAnswerless (on_op_done f serial n r u)
-on_op_done_answerless f serial n r u = on_op_done_of_answerless f r (first_that (asks_op_number serial n r) u.waiting) u
-
-on_close_done_of_answerless : (f : Frame) (serial : ℕ) (a : CloseAnswer) (o : Option WaitingCall) (u : Users) → AllAnswerless (on_close_done_of f serial a o u)
-on_close_done_of_answerless f serial a None u = tt
-on_close_done_of_answerless f serial a (Some w) u = takes_answer_answerless f w _ _
+on_op_done_answerless f serial n r u = (on_op_done_walk answering f (users f) serial n r u).0
 
 pub on_close_done_answerless : (f : Frame) (serial : ℕ) (a : CloseAnswer) (u : Users) → AllAnswerless (on_close_done f serial a u)
-on_close_done_answerless f serial a u = on_close_done_of_answerless f serial a (first_that (using.asks_close_of serial) u.waiting) u
-
-looks_again_answerless : (f : Frame) (w : WaitingCall) (a : Asking) (u : Users) → AllAnswerless (looks_again f w a u)
-looks_again_answerless f w (asking.Look file what take) u = sync_answerless f file.group _ tt
-looks_again_answerless f w (asking.Open serial file how) u = tt
-looks_again_answerless f w (asking.Op serial ss number o seen) u = tt
-looks_again_answerless f w (asking.Close serial ss) u = tt
-
-takes_look_answerless : (f : Frame) (w : WaitingCall) (a : LookAnswer) (u : Users) → AllAnswerless (takes_look f w a u)
-takes_look_answerless f w (looked.Found ino kind) u = takes_answer_answerless f w _ u
-takes_look_answerless f w (looked.Content bytes) u = takes_answer_answerless f (with_brought w.asking bytes w) (content_answer w.asking bytes) u
-takes_look_answerless f w (looked.Stat kind size stamp) u = takes_answer_answerless f w _ u
-takes_look_answerless f w looked.Moved u = looks_again_answerless f w w.asking u
-takes_look_answerless f w (looked.No why) u = takes_answer_answerless f w _ u
-
-on_look_done_of_answerless : (f : Frame) (a : LookAnswer) (o : Option WaitingCall) (u : Users) → AllAnswerless (on_look_done_of f a o u)
-on_look_done_of_answerless f a None u = tt
-on_look_done_of_answerless f a (Some w) u = takes_look_answerless f w a u
+on_close_done_answerless f serial a u = (on_close_done_walk answering f (users f) serial a u).0
 
 pub on_look_done_answerless : (f : Frame) (n request take : ℕ) (a : LookAnswer) (u : Users) → AllAnswerless (on_look_done f n request take a u)
-on_look_done_answerless f n request take a u = on_look_done_of_answerless f a (first_that (asks_take n request take a) u.waiting) u
+on_look_done_answerless f n request take a u = (on_look_done_walk answering f (users f) n request take a u).0

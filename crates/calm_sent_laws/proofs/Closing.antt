@@ -17,7 +17,7 @@ use Rattle.role_steps.specs.declared.instances.Instance.{Instance}
 use Rattle.role_steps.specs.declared.instances.Stage.{Stage}
 use Rattle.role_steps.specs.declared.instances.Stage.TheVariants as stage
 use Rattle.the_run.proofs.InsideSync.{Found, row_found}
-use Rattle.vector_laws.proofs.SyncFacts.{every_flat, every_latest}
+use Rattle.one_tree_laws.proofs.of_vector_laws.SyncFacts.{every_flat, every_latest}
 use Rattle.calm_sent_laws.proofs.Answerless.{AnswersNone}
 
 -- which instances a storage site has begun in an epoch, on which files

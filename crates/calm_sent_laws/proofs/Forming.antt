@@ -1,6 +1,8 @@
 -- What a site does to form epochs: it promises greater ids alone, and joins one that it hadn't joined, with nothing reported and no instance.
 use Rattle.std.proofs.Common.{◌≡◌, ℕ, ◌+◌, ◌≤◌, Bool, true, false, cond, ◌&&◌, not, List, [], ◌∷◌, map, filter, Option, Some, None, refl, sym, ◌∙◌, ap, subst, inl, arith}
 use Rattle.std.proofs.lemmas.Bool.Decides.{nat_tests}
+use Rattle.role_steps.proofs.of_plain_facts.Options.{none_some, some_same}
+use Rattle.role_steps.proofs.of_plain_facts.Tests.{both_true, not_true, true_false}
 use Rattle.locus_ids.specs.declared.config.Config.{Config}
 use Rattle.locus_ids.specs.declared.ids.EpochId.{EpochId}
 use Rattle.locus_ids.specs.declared.sites.Links.{Links}
@@ -19,7 +21,7 @@ use Rattle.role_steps.specs.declared.rounds.Round.{Round}
 use Rattle.role_steps.proofs.Sending.{every_cond, every_flat_map, every_map}
 use Rattle.the_run.specs.Joins.{IsAtMost}
 use Rattle.epoch_laws.proofs.Boots.{at_most_trans, below_at_most_itself}
-use Rattle.epoch_laws.proofs.Handlers.{some_is, none_is, both_true, not_true, same_epoch_eq, leaves_of_epoch, leaves_of_promised}
+use Rattle.epoch_laws.proofs.Handlers.{same_epoch_eq, leaves_of_epoch, leaves_of_promised}
 use Rattle.one_tree_laws.proofs.Parts.{groups_rise}
 use Rattle.one_tree_laws.proofs.Rising.{Rising}
 use Rattle.calm_sent_laws.proofs.Answerless.{Answerless, sync_answerless}
@@ -27,9 +29,6 @@ use Rattle.calm_sent_laws.proofs.Closing.{Begun}
 use Rattle.calm_sent_laws.proofs.Tables.{LooksAnswerless}
 use Rattle.calm_sent_laws.proofs.Users.{AllHeld, held_leads}
 use Rattle.calm_sent_laws.proofs.Views.{Known, In, Spent, Orderly, Heard, Fine, quiet_fine, then_fine, part_fine, all_stand, goes_itself}
-
-true_false : true ≡ false → ⊥
-true_false e = cc
 
 -- ---- ids ----
 
@@ -63,19 +62,19 @@ module _ (R S : Known) (B : Begun) (c : Config) (me : ℕ) where
   leaves_fine : (e : Option InEpoch) (v : SiteView) → Orderly v → Heard R S c me v → Fine R S B c me v (leaves_of me e v)
   leaves_fine None v h k = quiet_fine R S B c me v h k
   leaves_fine (Some e) v h k = record {
-    orderly = record { round = h.round; inside = λ x here. absurd (none_is x here); rising = tt; looks = tt };
+    orderly = record { round = h.round; inside = λ x here. absurd (none_some x here); rising = tt; looks = tt };
     heard = record { reports = tt; instances = record { instances = tt; waiting = tt } };
-    goes = record { spent = λ id s. s; stays = λ x here s. absurd (none_is x here) };
+    goes = record { spent = λ id s. s; stays = λ x here s. absurd (none_some x here) };
     sent = tt;
   }
 
   promised_fine : (id : EpochId) (reach : Sites) (v : SiteView) → is_epoch_below v.promised id ≡ true → v.epoch ≡ None → Orderly v → Heard R S c me v → Fine R S B c me v (tells (Promises me id reach ∷ []) (promised_view id v))
   promised_fine id reach v below gone h k = record {
-    orderly = record { round = λ r here. absurd (none_is r here); inside = λ x here. absurd (none_is x (sym gone ∙ here)); rising = h.rising; looks = h.looks };
+    orderly = record { round = λ r here. absurd (none_some r here); inside = λ x here. absurd (none_some x (sym gone ∙ here)); rising = h.rising; looks = h.looks };
     heard = record { reports = k.reports; instances = k.instances };
     goes = record {
       spent = λ other s. (let b : IsAtMost other id × (other ≡ id → ⊥) = spent_below v id other below s in (b.0, λ same. absurd (b.1 same)));
-      stays = λ x here s. absurd (none_is x (sym gone ∙ here));
+      stays = λ x here s. absurd (none_some x (sym gone ∙ here));
     };
     sent = tt;
   }
@@ -90,7 +89,7 @@ module _ (R S : Known) (B : Begun) (c : Config) (me : ℕ) where
   polls_fine : (id : EpochId) (polled : Links) (v : SiteView) → id ≡ v.promised → v.installed ≡ false → Orderly v → Heard R S c me v → Fine R S B c me v (polls me id polled v)
   polls_fine id polled v last waits h k = record {
     orderly = record {
-      round = λ r here. (subst (λ (x : Round). x.id ≡ v.promised) (some_is (new_round id polled) r here) last, waits);
+      round = λ r here. (subst (λ (x : Round). x.id ≡ v.promised) (some_same (new_round id polled) r here) last, waits);
       inside = h.inside;
       rising = h.rising;
       looks = h.looks;
@@ -132,7 +131,7 @@ module _ (R S : Known) (B : Begun) (c : Config) (me : ℕ) where
   round_fine : (r q : Round) (v : SiteView) → v.round ≡ Some r → q.id ≡ r.id → Orderly v → Heard R S c me v → Fine R S B c me v (quiet (record v { round = Some q }))
   round_fine r q v here same h k = record {
     orderly = record {
-      round = λ x e. (let l : (r.id ≡ v.promised) × (v.installed ≡ false) = h.round r here in (subst (λ (y : Round). y.id ≡ v.promised) (some_is q x e) (same ∙ l.0), l.1));
+      round = λ x e. (let l : (r.id ≡ v.promised) × (v.installed ≡ false) = h.round r here in (subst (λ (y : Round). y.id ≡ v.promised) (some_same q x e) (same ∙ l.0), l.1));
       inside = h.inside;
       rising = h.rising;
       looks = h.looks;
@@ -163,15 +162,15 @@ module _ (R S : Known) (B : Begun) (c : Config) (me : ℕ) where
   joins_fine : (id : EpochId) (m : Members) (v : SiteView) → id ≡ v.promised → v.installed ≡ false → Orderly v → Heard R S c me v → Fine R S B c me v (joins c me id m v)
   joins_fine id m v last waits h k = record {
     orderly = record {
-      round = λ r here. absurd (none_is r here);
-      inside = λ x here. (subst (λ (y : InEpoch). y.id ≡ v.promised) (some_is e x here) last, refl);
+      round = λ r here. absurd (none_some r here);
+      inside = λ x here. (subst (λ (y : InEpoch). y.id ≡ v.promised) (some_same e x here) last, refl);
       rising = subst Rising (sym (groups_of (filter (is_sync_site c me m) (own_groups c me)))) (groups_rise (frame_in c me v.boot e));
       looks = every_map LooksAnswerless new_table (filter (is_sync_site c me m) (own_groups c me)) (λ g. tt);
     };
     heard = record { reports = λ g a. inl a; instances = held_leads (In S None) (In S (Some e)) v.users (λ n k. absurd k) (subst (λ (o : Option InEpoch). AllHeld (In S o) v.users) (outside v h waits) k.instances) };
     goes = record {
       spent = λ other s. (s.0, λ same. refl);
-      stays = λ x here s. absurd (true_false (sym (s.1 (subst (λ (y : InEpoch). y.id ≡ v.promised) (some_is e x here) last)) ∙ waits));
+      stays = λ x here s. absurd (true_false (sym (s.1 (subst (λ (y : InEpoch). y.id ≡ v.promised) (some_same e x here) last)) ∙ waits));
     };
     sent = all_stand B c (joins c me id m v).view (all_reports (frame_in c me v.boot e) (joined_view c me id m v)) (reports_answerless (frame_in c me v.boot e) (joined_view c me id m v));
   }

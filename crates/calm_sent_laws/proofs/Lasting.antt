@@ -17,8 +17,8 @@ use Rattle.the_run.specs.Kept.{Among}
 use Rattle.the_run.specs.Steps.{from_user}
 use Rattle.the_run.specs.Worlds.{World, Running, Numbered, Line, told_onto, place_at}
 use Rattle.the_run.proofs.Boots.{every_weaker}
-use Rattle.vector_laws.specs.Written.{WasTold, past_of}
-use Rattle.lock_laws.specs.Going.{BegunAt, WasBegunAt}
+use Rattle.one_tree_laws.specs.of_vector_laws.Written.{WasTold, past_of}
+use Rattle.one_tree_laws.specs.of_lock_laws.Going.{BegunAt, WasBegunAt}
 use Rattle.epoch_laws.specs.Known.{Places, boots_on}
 use Rattle.calm_sent_laws.specs.Standing.{IsSyncedBy, WithGrant, WithReport}
 use Rattle.calm_sent_laws.proofs.Users.{held_leads}

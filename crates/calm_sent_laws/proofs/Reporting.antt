@@ -2,6 +2,7 @@
 use Rattle.std.proofs.Common.{◌≡◌, ℕ, zero, suc, ◌==◌, Bool, true, false, cond, ◌||◌, List, [], ◌∷◌, ◌++◌, Option, Some, None, refl, sym, ◌∙◌, ap, arith}
 use Rattle.std.proofs.lemmas.Bool.Decides.{nat_tests}
 use Rattle.std.specs.List.{list_any}
+use Rattle.role_steps.proofs.of_plain_facts.Tests.{or_first, or_second}
 use Rattle.locus_ids.specs.Sites.{has, with_site}
 use Rattle.locus_ids.specs.declared.ids.FileId.{FileId}
 use Rattle.locus_ids.specs.declared.ids.Serial.{Serial}
@@ -84,16 +85,8 @@ starts_stands f t h =
 starts_if_stands : (f : Frame) (t : SyncTable) → LooksAnswerless t → TableStands f t (starts_if f t)
 starts_if_stands f t h = elim (have_all_reported f t) as (λ b. TableStands f t (elim b [ true ↦ starts f t | false ↦ quiet t ])) [ true ↦ starts_stands f t h | false ↦ still f t h ]
 
--- a site more has reported: whoever had has still, and this one has
-or_left : (a b : Bool) → a ≡ true → (a || b) ≡ true
-or_left a b e = ap (λ (x : Bool). x || b) e
-
-or_right : (a b : Bool) → b ≡ true → (a || b) ≡ true
-or_right true b e = refl
-or_right false b e = e
-
 old_low : (set : Sites) (k s : ℕ) → has set (suc s) ≡ true → has (with_site set (suc k)) (suc s) ≡ true
-old_low set k s e = has-with set (suc k) (suc s) (omega arith) (omega arith) ∙ or_left (has set (suc s)) (suc s == suc k) e
+old_low set k s e = has-with set (suc k) (suc s) (omega arith) (omega arith) ∙ or_first (has set (suc s)) (suc s == suc k) e
 
 old_has : (set : Sites) (from s : ℕ) → has set s ≡ true → has (with_site set from) s ≡ true
 old_has set zero zero e = old_low set zero zero e
@@ -102,7 +95,7 @@ old_has set (suc k) zero e = old_low set k zero e
 old_has set (suc k) (suc s) e = old_low set k s e
 
 new_low : (set : Sites) (k : ℕ) → has (with_site set (suc k)) (suc k) ≡ true
-new_low set k = has-with set (suc k) (suc k) (omega arith) (omega arith) ∙ or_right (has set (suc k)) (suc k == suc k) (same (suc k))
+new_low set k = has-with set (suc k) (suc k) (omega arith) (omega arith) ∙ or_second (has set (suc k)) (suc k == suc k) (same (suc k))
   where
     same : (n : ℕ) → (n == n) ≡ true
     same n = grind (arith, nat_tests)

@@ -1,6 +1,8 @@
 -- In every run what a synchronization site has answered stands in its tables, as long as it is in the epoch.
 use Rattle.std.proofs.Common.{◌≡◌, ◌≢◌, ℕ, ◌+◌, ◌≤◌, ◌==◌, nat_lt, ◌⊎◌, Bool, true, false, ◌||◌, ◌&&◌, not, List, [], ◌∷◌, map, Option, Some, None, refl, sym, ◌∙◌, ap, subst, inl, inr, arith}
 use Rattle.std.proofs.lemmas.Bool.Decides.{nat_tests}
+use Rattle.role_steps.proofs.of_plain_facts.Options.{none_some, some_same}
+use Rattle.role_steps.proofs.of_plain_facts.Tests.{both_true, not_false}
 use Rattle.locus_ids.specs.declared.config.Config.{Config}
 use Rattle.locus_ids.specs.declared.ids.EpochId.{EpochId}
 use Rattle.locus_ids.specs.declared.ids.FileId.{FileId}
@@ -35,15 +37,15 @@ use Rattle.the_run.specs.Worlds.{World, Place, Running, Stopped, Numbered, Line,
 use Rattle.the_run.proofs.Boots.{at_each, puts_rises, Reached, boots_reached, acts_cases, every_newest, every_numbered, every_weaker}
 use Rattle.the_run.proofs.Events.{happened_keeps, puts_other, puts_same}
 use Rattle.the_run.proofs.InsideSync.{every_without}
-use Rattle.the_run.proofs.Runs.{every_run, some_eq}
+use Rattle.the_run.proofs.Runs.{every_run}
 use Rattle.the_run.proofs.StepSends.{step_sends}
-use Rattle.run_laws.proofs.Run.{first_good, found_among}
-use Rattle.vector_laws.specs.Written.{past_of}
-use Rattle.lock_laws.specs.Going.{BegunAt, WasBegunAt}
-use Rattle.begun_laws.specs.Facts.{InEpochFact, InstanceFact}
-use Rattle.begun_laws.proofs.FactsRun as begins
+use Rattle.epoch_laws.proofs.of_run_laws.Run.{first_good, found_among}
+use Rattle.one_tree_laws.specs.of_vector_laws.Written.{past_of}
+use Rattle.one_tree_laws.specs.of_lock_laws.Going.{BegunAt, WasBegunAt}
+use Rattle.one_tree_laws.specs.of_lock_laws.Facts.{InEpochFact, InstanceFact}
+use Rattle.one_tree_laws.proofs.of_lock_laws.FactsRun as begins
 use Rattle.epoch_laws.specs.Known.{Places, boots_on, FormFact, Good}
-use Rattle.epoch_laws.proofs.Handlers.{both_true, none_is, same_epoch_eq}
+use Rattle.epoch_laws.proofs.Handlers.{same_epoch_eq}
 use Rattle.epoch_laws.proofs.Run as epochs
 use Rattle.one_tree_laws.proofs.Rising.{Rising, every_among}
 use Rattle.calm_sent_laws.specs.Standing.{AskedStands, BodyStands, GrantStands, IsGranted, IsReported, IsSyncedBy, InstancesStand, PacketsStand, ReportsStand, StandsAt, WithGrant, WithReport}
@@ -92,7 +94,7 @@ none_never : (v : SiteView) → ◌≡◌ {A = Option Place} None (Some (Running
 none_never v e = cc
 
 place_there : (s : ℕ) (new : Place) (w : World) (u : SiteView) → place_at (puts s new w) s ≡ Some (Running u) → new ≡ Running u
-place_there s new w u h = some_eq new (Running u) (sym (puts_same s new w) ∙ h)
+place_there s new w u h = some_same new (Running u) (sym (puts_same s new w) ∙ h)
 
 puts_later : (s : ℕ) (old new : Place) (w : World) → place_at w s ≡ Some old → boot_on (Some old) ≤ boot_on (Some new) → ((v : SiteView) → new ≡ Running v → WentOn (place_at w) s v) → Later (place_at w) (place_at (puts s new w))
 puts_later s old new w here le went = record {
@@ -126,7 +128,7 @@ module _ (c : Config) (s boot : ℕ) (v : SiteView) (old new : List Line) (more 
   stands_here F p own k = subst (λ (t : ℕ). EverAt now t p.from_boot F p.epoch) (sym own.site) (subst (λ (b : ℕ). EverAt now s b F p.epoch) (sym own.number) (record {
     some = some;
     had = (let a : boots_on now s ≡ v.boot = ap boot_on here in omega (arith, a, is));
-    ever = λ u there same. subst (λ (y : SiteView). Ever F p.epoch y) (running_view v u (some_eq (Running v) (Running u) (sym here ∙ there))) k;
+    ever = λ u there same. subst (λ (y : SiteView). Ever F p.epoch y) (running_view v u (some_same (Running v) (Running u) (sym here ∙ there))) k;
   }))
 
   grant_here : (p : Packet) (serial : ℕ) (a : Granted) → IsOwnPacket s boot p → GrantSent v p serial a → GrantFact now p serial a
@@ -152,7 +154,7 @@ acts_stand c n s v o w here f boot_is own some g =
     acts_cases (Stand c) n s v o w
     (happened_stand c n o.sent o.told (λ now. puts s (Running o.view) now) w later views refl refl sent g)
     (λ a. happened_stand c n o.sent o.told (λ now. puts s (Running o.view) (arms a now)) w later views refl refl sent g)
-    (λ d a e. stops_stand c n s (Running v) (cut_disk v.boot v.store d a.how a.left) (cut_told s d a.how a.left) w here (omega arith) g)
+    (λ d a e. stops_stand c n s (Running v) (cut_disk v.boot v.store d a.how a.left) (cut_told s v.store d a.how a.left) w here (omega arith) g)
   where
     now : Places
     now = place_at (puts s (Running o.view) w)
@@ -173,8 +175,8 @@ acts_stand c n s v o w here f boot_is own some g =
 fresh_fact : (c : Config) (at : Places) (s : ℕ) (v : SiteView) → v.round ≡ None → v.epoch ≡ None → v.tables ≡ [] → v.users.instances ≡ [] → v.users.waiting ≡ [] → ViewFact c at s v
 fresh_fact c at s v r e t i u = record {
   orderly = record {
-    round = λ q h. absurd (none_is q (sym r ∙ h));
-    inside = λ x h. absurd (none_is x (sym e ∙ h));
+    round = λ q h. absurd (none_some q (sym r ∙ h));
+    inside = λ x h. absurd (none_some x (sym e ∙ h));
     rising = subst (λ (ts : List SyncTable). Rising (map table_group ts)) (sym t) tt;
     looks = subst (λ (ts : List SyncTable). Every LooksAnswerless ts) (sym t) tt;
   };
@@ -208,13 +210,6 @@ as_stand c n s d (Whole x (Some a)) w here r g = boots_stand c n s d x _ w here 
 as_stand c n s d (CutOff x how) w here r g = stops_stand c n s (Stopped d) x (Shown (says.Stopped s (cause_of how)) ∷ []) w here r g
 
 -- ---- the packet of an event ----
-
-not_false : (a : Bool) → not a ≡ false → a ≡ true
-not_false true h = refl
-not_false false h = absurd (false_true (sym h))
-  where
-    false_true : false ≡ true → ⊥
-    false_true e = cc
 
 framed : (p : Packet) (v : SiteView) (e : InEpoch) → is_dropped p v ≡ false → is_forming p ≡ false → v.epoch ≡ Some e → (e.id ≡ p.epoch) × (boot_in e.members.boot p.from ≡ p.from_boot)
 framed p v e h forming here =
@@ -310,7 +305,7 @@ first_views : (c : Config) (at : Places) (ss : List ℕ) (s : ℕ) (v : SiteView
 first_views c at [] s v e = absurd (none_never v e)
 first_views c at (t ∷ ts) s v e =
     (elim (t == s) as (λ b. place_in (elim b [ true ↦ Some (first_place c t) | false ↦ row place_site s (map (first_place c) ts) ]) ≡ Some (Running v) → ViewFact c at s v) [
-      | true ↦ λ f. subst (λ (y : SiteView). ViewFact c at s y) (running_view (fresh 1 (formatted c t)) v (some_eq (Running (fresh 1 (formatted c t))) (Running v) f)) (fresh_fact c at s (fresh 1 (formatted c t)) refl refl refl refl refl)
+      | true ↦ λ f. subst (λ (y : SiteView). ViewFact c at s y) (running_view (fresh 1 (formatted c t)) v (some_same (Running (fresh 1 (formatted c t))) (Running v) f)) (fresh_fact c at s (fresh 1 (formatted c t)) refl refl refl refl refl)
       | false ↦ λ f. first_views c at ts s v f
     ]) e
 

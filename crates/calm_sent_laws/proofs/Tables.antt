@@ -1,5 +1,6 @@
 -- What a synchronization site does at a table: reports that have come and opens that were granted stay, and each answer that it sends stands.
 use Rattle.std.proofs.Common.{◌≡◌, ℕ, true, false, List, [], ◌∷◌, Option, Some, None, refl, sym, ◌∙◌, ap, subst}
+use Rattle.role_steps.proofs.of_plain_facts.Options.{none_some, some_same}
 use Rattle.locus_ids.specs.Sites.{has}
 use Rattle.locus_ids.specs.declared.ids.EpochId.{EpochId}
 use Rattle.locus_ids.specs.declared.ids.Serial.{Serial}
@@ -32,7 +33,7 @@ use Rattle.role_steps.proofs.Sending.{every_cond, every_map, every_flat_map}
 use Rattle.the_run.specs.Steps.{from_user}
 use Rattle.the_run.proofs.Boots.{at_each, every_weaker}
 use Rattle.the_run.proofs.InsideSync.{Found, every_row, row_found}
-use Rattle.store_laws.proofs.Tabled.{latest_other, latest_same}
+use Rattle.one_tree_laws.proofs.of_store_laws.Tabled.{latest_other, latest_same}
 use Rattle.one_tree_laws.proofs.Rising.{row_key}
 use Rattle.calm_sent_laws.specs.Standing.{IsGrantedIn, IsGrantedStage}
 use Rattle.calm_sent_laws.proofs.Answerless.{AnswersNone, Answerless}
@@ -50,12 +51,6 @@ grows_itself t = record { group = refl; reported = λ s h. h; granted = λ i g. 
 
 pub grows_then : (t n k : SyncTable) → TableGrows t n → TableGrows n k → TableGrows t k
 grows_then t n k a b = record { group = b.group ∙ a.group; reported = λ s h. b.reported s (a.reported s h); granted = λ i g. b.granted i (a.granted i g) }
-
-some_is : {A : Type 0} (x y : A) → ◌≡◌ {A = Option A} (Some x) (Some y) → x ≡ y
-some_is x y e = cc
-
-none_some : {A : Type 0} (x : A) → ◌≡◌ {A = Option A} None (Some x) → ⊥
-none_some x e = cc
 
 -- an open is put in its place: where one was granted that had it, so is this one
 pub open_grows : (t : SyncTable) (q : OpenRow) → ((r : OpenRow) → row open_key (open_key q) t.opens ≡ Some r → IsGrantedStage r.stage → IsGrantedStage q.stage) → TableGrows t (with_open q t)
@@ -203,7 +198,7 @@ answers_stands f r (opened.Open ino size) t asked found h = record {
   sent = ((refl, granted_here (granted_row r ino size) (with_latest open_key (granted_row r ino size) t.opens) (latest_same open_key (granted_row r ino size) t.opens) tt), tt);
 }
 answers_stands f r (opened.No why) t asked found h = record {
-  grows = open_grows t (record r { stage = stage.Refused why }) (λ q e g. asked_granted q.stage (ap (λ (x : OpenRow). x.stage) (some_is q r (sym e ∙ found)) ∙ asked) g);
+  grows = open_grows t (record r { stage = stage.Refused why }) (λ q e g. asked_granted q.stage (ap (λ (x : OpenRow). x.stage) (some_same q r (sym e ∙ found)) ∙ asked) g);
   looks = h;
   sent = (tt, tt);
 }

@@ -2,6 +2,8 @@
 -- kept their reports and grants.
 use Rattle.std.proofs.Common.{◌≡◌, ℕ, ◌<◌, ◌==◌, ◌⊎◌, Bool, true, false, List, [], ◌∷◌, map, Option, Some, None, sym, ◌∙◌, ap, subst, inl, inr, arith}
 use Rattle.std.proofs.lemmas.Bool.Decides.{nat_tests}
+use Rattle.role_steps.proofs.of_plain_facts.Numbers.{apart_test, equal_self}
+use Rattle.role_steps.proofs.of_plain_facts.Tests.{true_false}
 use Rattle.locus_ids.specs.declared.config.Config.{Config}
 use Rattle.locus_ids.specs.declared.ids.EpochId.{EpochId}
 use Rattle.locus_ids.specs.declared.ids.FileId.{FileId}
@@ -19,7 +21,7 @@ use Rattle.role_steps.specs.Views.{Frame, SiteView, Outcome, quiet, and_then, wi
 use Rattle.role_steps.specs.declared.rounds.InEpoch.{InEpoch}
 use Rattle.role_steps.specs.declared.rounds.Round.{Round}
 use Rattle.role_steps.specs.declared.synchronizing.SyncTable.{SyncTable}
-use Rattle.role_steps.proofs.Rows.{differ, row_other, row_same, same}
+use Rattle.role_steps.proofs.Rows.{row_other, row_same}
 use Rattle.role_steps.proofs.Sending.{every_append}
 use Rattle.the_run.specs.Joins.{IsAtMost}
 use Rattle.the_run.specs.Kept.{Among}
@@ -91,7 +93,7 @@ pub record Ever (F : InEpoch → List SyncTable → Type 0) (id : EpochId) (v : 
 pub ever_goes : (F : InEpoch → List SyncTable → Type 0) (id : EpochId) (v u : SiteView) → Lasts F → Goes v u → Ever F id v → Ever F id u
 ever_goes F id v u lasts g h = record {
   spent = g.spent id h.spent;
-  holds = λ e here same. (let k : (v.epoch ≡ Some e) × Grows v.tables u.tables = g.stays e here (subst (Spent v) (sym same) h.spent) in lasts e v.tables u.tables k.1 (h.holds e k.0 same));
+  holds = λ e here equal_self. (let k : (v.epoch ≡ Some e) × Grows v.tables u.tables = g.stays e here (subst (Spent v) (sym equal_self) h.spent) in lasts e v.tables u.tables k.1 (h.holds e k.0 equal_self));
 }
 
 -- ---- what is sent ----
@@ -178,7 +180,7 @@ body_closes B c me v e p (body.Closed inst made) h here k = record {
   begun = subst (λ (id : EpochId). B id inst k.file) (sym k.epoch) k.begun;
   to = record {
     spent = subst (Spent v) (sym k.epoch) (inside_spent v e h here);
-    holds = λ d there same. subst (λ (x : InEpoch). sync_site c x.members k.file.group ≡ Some p.to) (some_epoch e d (sym here ∙ there)) k.to;
+    holds = λ d there equal_self. subst (λ (x : InEpoch). sync_site c x.members k.file.group ≡ Some p.to) (some_epoch e d (sym here ∙ there)) k.to;
   };
 }
 body_closes B c me v e p (body.ReportOk group) h here k = absurd k
@@ -236,13 +238,10 @@ module _ (R S : Known) (B : Begun) (c : Config) (me : ℕ) where
 
 -- ---- one table of a site ----
 
-true_false : true ≡ false → ⊥
-true_false e = cc
-
 -- a table of the site is the one of its group
 pub rising_found : (t : SyncTable) (ts : List SyncTable) → Rising (map table_group ts) → Among t ts → row table_group t.group ts ≡ Some t
 rising_found t [] r a = absurd a
-rising_found t (x ∷ xs) r (inl e) = found (x.group == t.group) (subst (λ (z : SyncTable). (z.group == t.group) ≡ true) e (same t.group))
+rising_found t (x ∷ xs) r (inl e) = found (x.group == t.group) (subst (λ (z : SyncTable). (z.group == t.group) ≡ true) e (equal_self t.group))
   where
     found : (b : Bool) → b ≡ true → ◌≡◌ {A = Option SyncTable} (elim b [ true ↦ Some x | false ↦ row table_group t.group xs ]) (Some t)
     found true q = ap Some (sym e)
@@ -262,8 +261,8 @@ some_eq t n e = cc
 -- a table takes the place of the one of its group
 pub put_grows : (ts : List SyncTable) (t n : SyncTable) → row table_group t.group ts ≡ Some t → TableGrows t n → Grows ts (with_row table_group n ts)
 put_grows ts t n found g group x e = at_each n.group group ((m : SyncTable) × (row table_group group (with_row table_group n ts) ≡ Some m) × TableGrows x m)
-    (λ same. (n, subst (λ (k : ℕ). row table_group k (with_row table_group n ts) ≡ Some n) same (row_same table_group n ts), subst (λ (y : SyncTable). TableGrows y n) (some_eq t x (sym found ∙ (ap (λ (k : ℕ). row table_group k ts) (sym g.group ∙ same) ∙ e))) g))
-    (λ ne. (x, row_other table_group n group ts (differ n.group group ne) ∙ e, grows_itself x))
+    (λ equal_self. (n, subst (λ (k : ℕ). row table_group k (with_row table_group n ts) ≡ Some n) equal_self (row_same table_group n ts), subst (λ (y : SyncTable). TableGrows y n) (some_eq t x (sym found ∙ (ap (λ (k : ℕ). row table_group k ts) (sym g.group ∙ equal_self) ∙ e))) g))
+    (λ ne. (x, row_other table_group n group ts (apart_test n.group group ne) ∙ e, grows_itself x))
 
 pub put_orderly : (v : SiteView) (t n : SyncTable) → row table_group t.group v.tables ≡ Some t → TableGrows t n → LooksAnswerless n → Orderly v → Orderly (with_table n v)
 put_orderly v t n found g looks h = record {
@@ -280,13 +279,13 @@ put_goes v t n found g = record { spent = λ id s. s; stays = λ e here s. (here
 
 -- what is so at a table of the site stands there
 open_sent : (v : SiteView) (id : EpochId) (n : SyncTable) (p : Packet) (serial : ℕ) (a : Granted) → Spent v id → row table_group n.group v.tables ≡ Some n → OpenBacked id n p serial a → GrantSent v p serial a
-open_sent v id n p serial (granted.Open ss ino size stamp vector) s found h = (n.group, record { spent = subst (Spent v) (sym h.0) s; holds = λ e here same. record { table = n; found = found; grant = h.1 } })
+open_sent v id n p serial (granted.Open ss ino size stamp vector) s found h = (n.group, record { spent = subst (Spent v) (sym h.0) s; holds = λ e here equal_self. record { table = n; found = found; grant = h.1 } })
 open_sent v id n p serial (granted.No why) s found h = tt
 
 table_sent : (B : Begun) (c : Config) (v : SiteView) (id : EpochId) (n : SyncTable) (p : Packet) (b : Body) → Spent v id → row table_group n.group v.tables ≡ Some n → BodyBacked id n p b → BodySent B c v p b
 table_sent B c v id n p (body.ReportOk group) s found h = record {
   spent = subst (Spent v) (sym h.0) s;
-  holds = λ e here same. record { table = n; found = subst (λ (k : ℕ). row table_group k v.tables ≡ Some n) (sym h.1) found; reported = h.2 };
+  holds = λ e here equal_self. record { table = n; found = subst (λ (k : ℕ). row table_group k v.tables ≡ Some n) (sym h.1) found; reported = h.2 };
 }
 table_sent B c v id n p (body.OpenDone serial answer) s found h = open_sent v id n p serial answer s found h
 table_sent B c v id n p (body.Closed inst made) s found h = absurd h
@@ -296,10 +295,10 @@ module _ (R S : Known) (B : Begun) (c : Config) (me : ℕ) where
   -- a table of the site in its epoch does a step
   pub table_fine : (f : Frame) (v : SiteView) (e : InEpoch) (t : SyncTable) (o : Outcome SyncTable) → f.epoch ≡ e.id → v.epoch ≡ Some e → row table_group t.group v.tables ≡ Some t → TableStands f t o → Orderly v → Heard R S c me v →
       Fine R S B c me v (within (λ (now : SyncTable). with_table now v) o)
-  table_fine f v e t o same here found k h g = record {
+  table_fine f v e t o equal_self here found k h g = record {
     orderly = put_orderly v t o.view found k.grows k.looks h;
     heard = record { reports = g.reports; instances = g.instances };
     goes = put_goes v t o.view found k.grows;
     sent = every_weaker (Backed f.epoch o.view) (SentStands B c (with_table o.view v)) o.sent
-        (λ p b. table_sent B c (with_table o.view v) f.epoch o.view p p.body (subst (Spent v) (sym same) (inside_spent v e h here)) (row_same table_group o.view v.tables) b) k.sent;
+        (λ p b. table_sent B c (with_table o.view v) f.epoch o.view p p.body (subst (Spent v) (sym equal_self) (inside_spent v e h here)) (row_same table_group o.view v.tables) b) k.sent;
   }

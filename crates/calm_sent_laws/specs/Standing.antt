@@ -29,8 +29,8 @@ use Rattle.role_steps.specs.declared.users.WaitingCall.{WaitingCall}
 use Rattle.the_run.specs.Kept.{Among, WasSent}
 use Rattle.the_run.specs.Steps.{from_user}
 use Rattle.the_run.specs.Worlds.{World, Running, Numbered, place_at}
-use Rattle.vector_laws.specs.Written.{past_of}
-use Rattle.lock_laws.specs.Going.{WasBegunAt}
+use Rattle.one_tree_laws.specs.of_vector_laws.Written.{past_of}
+use Rattle.one_tree_laws.specs.of_lock_laws.Going.{WasBegunAt}
 use Rattle.epoch_laws.specs.Known.{Places}
 
 -- ---- tables ----

@@ -1,6 +1,9 @@
 -- Each event of a site keeps the shape of its tables, where a packet that comes is of a boot and what the event tells is named.
 use Rattle.std.proofs.Common.{◌≡◌, ◌≢◌, ℕ, ◌+◌, ◌==◌, ◌||◌, Bool, true, false, ◌&&◌, not, cond, List, [], ◌∷◌, ◌++◌, map, filter, Option, Some, None, refl, sym, ◌∙◌, ap, subst, nat_lt, arith}
 use Rattle.std.proofs.lemmas.Bool.Decides.{nat_tests}
+use Rattle.role_steps.proofs.of_plain_facts.Numbers.{equal}
+use Rattle.role_steps.proofs.of_plain_facts.Options.{none_some, some_same}
+use Rattle.role_steps.proofs.of_plain_facts.Tests.{true_false}
 use Rattle.locus_ids.specs.Sites.{has}
 use Rattle.locus_ids.specs.declared.config.Config.{Config}
 use Rattle.locus_ids.specs.declared.ids.EpochId.{EpochId}
@@ -31,21 +34,9 @@ use Rattle.role_steps.specs.declared.synchronizing.FileRow.{FileRow}
 use Rattle.role_steps.specs.declared.synchronizing.SyncTable.{SyncTable}
 use Rattle.the_run.specs.Steps.{at_table_of, is_dropped, is_framed, is_forming, takes_framed, takes, takes_inside, adopts_in, adopts_of, tries_at, whole, takes_call, step, starts_mends_of, ends_event, is_opened_in}
 use Rattle.the_run.proofs.InsideSync.{Found, every_row, row_found, first_found}
-use Rattle.lock_laws.proofs.GrantSites.{is_synced}
+use Rattle.make_laws.proofs.of_lock_laws.GrantSites.{is_synced}
 use Rattle.calm_table_laws.specs.Shapes.{IsListed, TableShape, ShapeIn, AreShaped}
 use Rattle.calm_table_laws.proofs.Shaping.{TellsNamed, every_left, every_right, member_listed, on_report_shape, open_keeps, look_keeps, opened_keeps, closed_keeps, have_shape}
-
-true_false : true ≡ false → ⊥
-true_false e = cc
-
-none_some : {A : Type 0} (x : A) → ◌≡◌ {A = Option A} None (Some x) → ⊥
-none_some x e = cc
-
-some_is : {A : Type 0} (x y : A) → ◌≡◌ {A = Option A} (Some x) (Some y) → x ≡ y
-some_is x y e = cc
-
-test_same : (a b : ℕ) → (a == b) ≡ true → a ≡ b
-test_same a b e = grind (arith, nat_tests)
 
 -- a row that is found has its key
 row_key : {A : Type 0} (key : A → ℕ) (k : ℕ) (xs : List A) (x : A) → row key k xs ≡ Some x → key x ≡ k
@@ -53,7 +44,7 @@ row_key key k [] x e = absurd (none_some x e)
 row_key {A = A} key k (y ∷ ys) x e = over (key y == k) refl (row_key key k ys x) e
   where
     over : (b : Bool) → (key y == k) ≡ b → (row key k ys ≡ Some x → key x ≡ k) → ◌≡◌ {A = Option A} (elim b [ true ↦ Some y | false ↦ row key k ys ]) (Some x) → key x ≡ k
-    over true t later f = ap key (sym (some_is y x f)) ∙ test_same (key y) k t
+    over true t later f = ap key (sym (some_same y x f)) ∙ equal (key y) k t
     over false t later f = later f
 
 module _ (c : Config) (me : ℕ) (named : EpochId → ℕ → Serial → Type 0) (came : EpochId → ℕ → Body → Type 0) where
@@ -184,7 +175,7 @@ module _ (c : Config) (me : ℕ) (named : EpochId → ℕ → Serial → Type 0)
 
   first_passes : (test : ℕ → Bool) (xs : List ℕ) (s : ℕ) → Every (λ (x : ℕ). test x ≡ true) xs → first_site xs ≡ Some s → test s ≡ true
   first_passes test [] s h e = absurd (none_some s e)
-  first_passes test (x ∷ xs) s h e = subst (λ (y : ℕ). test y ≡ true) (some_is x s e) h.0
+  first_passes test (x ∷ xs) s h e = subst (λ (y : ℕ). test y ≡ true) (some_same x s e) h.0
 
   second_of : (a b : Bool) → (a && b) ≡ true → b ≡ true
   second_of true b h = h
@@ -237,7 +228,7 @@ module _ (c : Config) (me : ℕ) (named : EpochId → ℕ → Serial → Type 0)
   -- a packet of the epoch comes from a member
   framed_listed : (p : Packet) (e : InEpoch) (v : SiteView) → p.from_boot ≢ 0 → is_forming p ≡ false → is_dropped p v ≡ false → v.epoch ≡ Some e → IsListed e p.from × (e.id ≡ p.epoch)
   framed_listed p e v sent forms taken inside = (
-    λ z. sent (sym (test_same (boot_in e.members.boot p.from) p.from_boot (second_of (same_epoch e.id p.epoch) (boot_in e.members.boot p.from == p.from_boot) framed)) ∙ z),
+    λ z. sent (sym (equal (boot_in e.members.boot p.from) p.from_boot (second_of (same_epoch e.id p.epoch) (boot_in e.members.boot p.from == p.from_boot) framed)) ∙ z),
     epoch_eq e.id p.epoch (first_of (same_epoch e.id p.epoch) (boot_in e.members.boot p.from == p.from_boot) framed),
   )
     where
@@ -270,9 +261,6 @@ module _ (c : Config) (me : ℕ) (named : EpochId → ℕ → Serial → Type 0)
     where
       member : IsListed e p.from × (e.id ≡ p.epoch)
       member = framed_listed p e v sent.0 forms taken inside
-
-  abbrev Formless : Body → Type 0
-  Formless x = nat_lt (kind_number x) 6 ≡ false
 
   takes_keeps : (links : Links) (p : Packet) (x : Body) (v : SiteView) → p.body ≡ x → WasSent p → is_dropped p v ≡ false → Keeps v (takes c me links p x v)
   takes_keeps links p body.Poll v is sent taken = λ told. poll_stays links p.from p.from_boot p.epoch v

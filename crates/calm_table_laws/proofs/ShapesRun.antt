@@ -1,5 +1,6 @@
 -- In every run the tables of each site have their shape.
 use Rattle.std.proofs.Common.{◌≡◌, ◌≢◌, ◌≤◌, ℕ, ◌+◌, ◌==◌, Bool, true, false, List, [], ◌∷◌, map, Option, Some, None, refl, sym, ◌∙◌, ap, subst, ◌⊎◌, inl, inr, arith}
+use Rattle.role_steps.proofs.of_plain_facts.Options.{some_same}
 use Rattle.locus_ids.specs.declared.config.Config.{Config}
 use Rattle.locus_ids.specs.declared.ids.EpochId.{EpochId}
 use Rattle.locus_ids.specs.declared.ids.Serial.{Serial}
@@ -24,8 +25,8 @@ use Rattle.the_run.specs.Steps.{step}
 use Rattle.the_run.specs.Worlds.{World, Place, Running, Stopped, Numbered, Line, links_of, place_at, place_in, place_site, script_of, happened, told_onto, numbered_from, newest_onto, disk_of, puts, arms, passed, cut_told, stops_with, cause_of, acts, fresh, formatted, first_place, first_world}
 use Rattle.the_run.proofs.Boots.{at_each, acts_cases, every_weaker}
 use Rattle.the_run.proofs.Events.{happened_keeps, puts_other, puts_same}
-use Rattle.the_run.proofs.Runs.{some_eq, every_run}
-use Rattle.pack_laws.proofs.WriterAsksRun.{newest_leads}
+use Rattle.the_run.proofs.Runs.{every_run}
+use Rattle.make_laws.proofs.of_pack_laws.WriterAsksRun.{newest_leads}
 use Rattle.make_laws.proofs.RunningUnderway.{UnderwaySent, sent_among, underway_kept, first_underway}
 use Rattle.make_laws.specs.Made.{IsSender, NumberedSender, WorldSent}
 use Rattle.make_laws.proofs.SendersRun.{sent_kept, first_sent}
@@ -135,12 +136,12 @@ stopped_never d v e = cc
 puts_running : (c : Config) (trace : List Line) (sent : List Numbered) (s : ℕ) (new : SiteView) (w : World) → AreShaped c s (IsNamedIn trace) (CameIn sent) new.epoch new.tables → ShapedBy c trace sent w → ShapedBy c trace sent (puts s (Running new) w)
 puts_running c trace sent s new w h g t v here = at_each s t (AreShaped c t (IsNamedIn trace) (CameIn sent) v.epoch v.tables)
     (λ e. subst (λ (n : ℕ). AreShaped c n (IsNamedIn trace) (CameIn sent) v.epoch v.tables) e
-    (subst (λ (u : SiteView). AreShaped c s (IsNamedIn trace) (CameIn sent) u.epoch u.tables) (running_view new v (some_eq (Running new) (Running v) (sym (puts_same s (Running new) w) ∙ (ap (place_at (puts s (Running new) w)) e ∙ here)))) h))
+    (subst (λ (u : SiteView). AreShaped c s (IsNamedIn trace) (CameIn sent) u.epoch u.tables) (running_view new v (some_same (Running new) (Running v) (sym (puts_same s (Running new) w) ∙ (ap (place_at (puts s (Running new) w)) e ∙ here)))) h))
     (λ ne. g t v (sym (puts_other s t (Running new) w ne) ∙ here))
 
 puts_stopped : (c : Config) (trace : List Line) (sent : List Numbered) (s : ℕ) (d : Disk) (w : World) → ShapedBy c trace sent w → ShapedBy c trace sent (puts s (Stopped d) w)
 puts_stopped c trace sent s d w g t v here = at_each s t (AreShaped c t (IsNamedIn trace) (CameIn sent) v.epoch v.tables)
-    (λ e. absurd (stopped_never d v (some_eq (Stopped d) (Running v) (sym (puts_same s (Stopped d) w) ∙ (ap (place_at (puts s (Stopped d) w)) e ∙ here)))))
+    (λ e. absurd (stopped_never d v (some_same (Stopped d) (Running v) (sym (puts_same s (Stopped d) w) ∙ (ap (place_at (puts s (Stopped d) w)) e ∙ here)))))
     (λ ne. g t v (sym (puts_other s t (Stopped d) w ne) ∙ here))
 
 -- a site stops
@@ -152,7 +153,7 @@ acts_shaped c n s v o w h g =
     acts_cases (TablesAreShaped c) n s v o w
     (happens c n o.sent o.told (λ now. puts s (Running o.view) now) w refl (puts_running c new sent s o.view w h later) g)
     (λ a. happens c n o.sent o.told (λ now. puts s (Running o.view) (arms a now)) w refl (puts_running c new sent s o.view w h later) g)
-    (λ d a e. stops c n s (cut_disk v.boot v.store d a.how a.left) (cut_told s d a.how a.left) w g)
+    (λ d a e. stops c n s (cut_disk v.boot v.store d a.how a.left) (cut_told s v.store d a.how a.left) w g)
   where
     new : List Line
     new = told_onto n o.told w.trace
@@ -251,7 +252,7 @@ first_view c [] s v e = absurd (none_place (Running v) e)
 first_view c (t ∷ ts) s v e = over (t == s) (first_view c ts s v) e
   where
     over : (b : Bool) → (place_in (row place_site s (map (first_place c) ts)) ≡ Some (Running v) → AreShaped c s (IsNamedIn []) (CameIn []) v.epoch v.tables) → place_in (elim b [ true ↦ Some (first_place c t) | false ↦ row place_site s (map (first_place c) ts) ]) ≡ Some (Running v) → AreShaped c s (IsNamedIn []) (CameIn []) v.epoch v.tables
-    over true k f = subst (λ (u : SiteView). AreShaped c s (IsNamedIn []) (CameIn []) u.epoch u.tables) (running_view (fresh 1 (formatted c t)) v (some_eq (Running (fresh 1 (formatted c t))) (Running v) f)) tt
+    over true k f = subst (λ (u : SiteView). AreShaped c s (IsNamedIn []) (CameIn []) u.epoch u.tables) (running_view (fresh 1 (formatted c t)) v (some_same (Running (fresh 1 (formatted c t))) (Running v) f)) tt
     over false k f = k f
 
 pub first_shaped : (c : Config) → Shaped c (first_world c)

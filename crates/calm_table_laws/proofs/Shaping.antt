@@ -2,6 +2,7 @@
 use Rattle.std.proofs.Common.{◌≡◌, ℕ, ◌==◌, ◌⊎◌, Bool, true, false, ◌&&◌, cond, List, [], ◌∷◌, ◌++◌, map, filter, Option, Some, None, refl, sym, ◌∙◌, subst, inl, inr, arith}
 use Rattle.std.proofs.lemmas.Bool.Decides.{nat_tests}
 use Rattle.std.specs.List.{list_any}
+use Rattle.role_steps.proofs.of_plain_facts.Tests.{and_second}
 use Rattle.locus_ids.specs.Sites.{has, both}
 use Rattle.locus_ids.specs.declared.config.Config.{Config}
 use Rattle.locus_ids.specs.declared.ids.EpochId.{EpochId}
@@ -47,8 +48,8 @@ use Rattle.role_steps.specs.declared.synchronizing.SyncTable.{SyncTable}
 use Rattle.role_steps.specs.declared.synchronizing.VersionRow.{VersionRow}
 use Rattle.role_steps.proofs.Sending.{every_append}
 use Rattle.the_run.proofs.InsideSync.{Found, every_row, row_found}
-use Rattle.vector_laws.proofs.SyncFacts.{every_latest}
-use Rattle.pack_laws.proofs.Sets.{chosen, every_filter, passing}
+use Rattle.make_laws.proofs.of_vector_laws.SyncFacts.{every_latest}
+use Rattle.make_laws.proofs.of_pack_laws.Sets.{chosen, every_filter, passing}
 use Rattle.calm_table_laws.specs.Shapes.{IsListed, IsRequestOf, IsRequest, IsStat, AnswersLast, IsAnswered, HoldsListed, FileListed, IsMaking, RowShape, TableShape}
 
 -- ---- what is told is named ----
@@ -69,13 +70,6 @@ every_left P (x ∷ xs) ys h = (h.0, every_left P xs ys h.1)
 pub every_right : {A : Type 0} (P : A → Type 0) (xs ys : List A) → Every P (xs ++ ys) → Every P ys
 every_right P [] ys h = h
 every_right P (x ∷ xs) ys h = every_right P xs ys h.1
-
-false_true : false ≡ true → ⊥
-false_true e = cc
-
-second_of : (a b : Bool) → (a && b) ≡ true → b ≡ true
-second_of true b h = h
-second_of false b h = absurd (false_true h)
 
 refused_asked : (why : Refusal) → stage.Refused why ≡ stage.Asked → ⊥
 refused_asked why e = cc
@@ -124,7 +118,7 @@ module _ (c : Config) (me boot : ℕ) (e : InEpoch) (named : EpochId → ℕ →
   holders_listed r stamp h = holder_sites (filter (λ (x : Holding). same_stamp x.stamp stamp) r.holders) (every_filter (HoldsListed e) (λ (x : Holding). same_stamp x.stamp stamp) r.holders h)
 
   members_listed : (set : Sites) → Every (IsListed e) (members_of e.members set)
-  members_listed set = passing (IsListed e) (λ s. has set s && is_member e.members s) all_sites (λ s h. member_listed e s (second_of (has set s) (is_member e.members s) h))
+  members_listed set = passing (IsListed e) (λ s. has set s && is_member e.members s) all_sites (λ s h. member_listed e s (and_second (has set s) (is_member e.members s) h))
 
   -- ---- a decision ----
 

@@ -3,15 +3,17 @@ use Rattle.std.proofs.Common.{◌≡◌, ◌≢◌, ℕ, zero, suc, ◌+◌, ◌
 use Rattle.std.proofs.lemmas.Bool.Decides.{nat_tests}
 use Rattle.std.proofs.lemmas.List.{get_or-replicate, get_or-set_same, get_or-set_other, length-set, length-replicate, reverse-append, append-nil, ext_get_or}
 use Rattle.std.proofs.lemmas.List.Elements.{filter-append}
-use Rattle.role_steps.specs.Views.{all_sites}
+use Rattle.locus_ids.specs.Sizes.{sites_max}
+use Rattle.the_run.specs.of_role_steps.Views.{all_sites}
+use Rattle.the_run.proofs.of_role_steps.Numbers.{site_found}
 use Rattle.the_run.specs.Worlds.{CutCircuit, is_between}
 use Rattle.circuits.specs.Circuits.{circuit_of, sender_on, receiver_on, is_cut_among, both_marked, is_up_among, TellsCuts, TellsUp}
 
 -- the number of a circuit tells both of its sites
-pub first_site : (a b : ℕ) → 1 ≤ a → 1 ≤ b → b ≤ 16 → sender_on (circuit_of a b) ≡ a
+pub first_site : (a b : ℕ) → 1 ≤ a → 1 ≤ b → b ≤ sites_max → sender_on (circuit_of a b) ≡ a
 first_site a b l m n = omega arith
 
-pub second_site : (a b : ℕ) → 1 ≤ b → b ≤ 16 → receiver_on (circuit_of a b) ≡ b
+pub second_site : (a b : ℕ) → 1 ≤ b → b ≤ sites_max → receiver_on (circuit_of a b) ≡ b
 second_site a b m n = omega arith
 
 pub none_cut : (table : List Bool) → table ≡ replicate 256 false → TellsCuts table []
@@ -59,7 +61,7 @@ split {P = P} a b f g = elim (nat_eq a b) as (λ t. nat_eq a b ≡ t → P) [ tr
 put : {A : Type 0} (xs : List A) (i j : ℕ) (v d : A) → i < length xs → j ≡ i → get_or (set xs i v) j d ≡ v
 put xs i j v d l e = ap (λ y. get_or (set xs i v) y d) e ∙ get_or-set_same xs i v d l
 
-pub mend_tells : (a b : ℕ) (table : List Bool) (cuts : List CutCircuit) → 1 ≤ a → a ≤ 16 → 1 ≤ b → b ≤ 16 → TellsCuts table cuts → TellsCuts (both_marked table a b false) (filter (λ c. not (is_between a b c)) cuts)
+pub mend_tells : (a b : ℕ) (table : List Bool) (cuts : List CutCircuit) → 1 ≤ a → a ≤ sites_max → 1 ≤ b → b ≤ sites_max → TellsCuts table cuts → TellsCuts (both_marked table a b false) (filter (λ c. not (is_between a b c)) cuts)
 mend_tells a b table cuts la ha lb hb t = record {
   room = length-set (set table i false) j false ∙ (length-set table i false ∙ t.room);
   each = λ x y lx hx ly hy. split (circuit_of x y) j
@@ -80,7 +82,7 @@ mend_tells a b table cuts la ha lb hb t = record {
   long : circuit_of b a < length (set table (circuit_of a b) false)
   long = let r : length table ≡ 256 = t.room in omega (arith, length-set table (circuit_of a b) false)
 
-pub mend_is : (a b : ℕ) (table table' : List Bool) (items items' : List CutCircuit) → 1 ≤ a → a ≤ 16 → 1 ≤ b → b ≤ 16 → table' ≡ both_marked table a b false → items' ≡ filter (λ c. not (is_between a b c)) items → TellsCuts table (reverse items) → TellsCuts table' (reverse items')
+pub mend_is : (a b : ℕ) (table table' : List Bool) (items items' : List CutCircuit) → 1 ≤ a → a ≤ sites_max → 1 ≤ b → b ≤ sites_max → table' ≡ both_marked table a b false → items' ≡ filter (λ c. not (is_between a b c)) items → TellsCuts table (reverse items) → TellsCuts table' (reverse items')
 mend_is a b table table' items items' la ha lb hb e f t =
     subst (λ y. TellsCuts y (reverse items')) (sym e) (subst (λ y. TellsCuts (both_marked table a b false) y) (filter_reversed (λ c. not (is_between a b c)) items ∙ ap reverse (sym f)) (mend_tells a b table (reverse items) la ha lb hb t))
 
@@ -94,24 +96,10 @@ tells_up cuts boots table room h = record {
   each = λ a b la ha lb hb. h (circuit_of a b) (omega arith) ∙ (ap (λ x. is_up_among cuts boots x (receiver_on (circuit_of a b))) (first_site a b la lb hb) ∙ ap (λ x. is_up_among cuts boots a x) (second_site a b lb hb));
 }
 
--- sixteen numbers that are those of all sites
-pub of_all_sites : (f : ℕ → ℕ) (boot : List ℕ) → length boot ≡ 16 → ((t : ℕ) → 1 ≤ t → t < 17 → get_or boot (t - 1) 0 ≡ f t) → boot ≡ map f all_sites
+-- a number for each site, which is that of its site
+pub of_all_sites : (f : ℕ → ℕ) (boot : List ℕ) → length boot ≡ sites_max → ((t : ℕ) → 1 ≤ t → t < sites_max + 1 → get_or boot (t - 1) 0 ≡ f t) → boot ≡ map f all_sites
 of_all_sites f boot room h = ext_get_or 0 boot (map f all_sites) room at where
   at : (i : ℕ) → i < length boot → get_or boot i 0 ≡ get_or (map f all_sites) i 0
-  at zero l = h 1 (omega arith) (omega arith)
-  at (suc zero) l = h 2 (omega arith) (omega arith)
-  at (suc (suc zero)) l = h 3 (omega arith) (omega arith)
-  at (suc (suc (suc zero))) l = h 4 (omega arith) (omega arith)
-  at (suc (suc (suc (suc zero)))) l = h 5 (omega arith) (omega arith)
-  at (suc (suc (suc (suc (suc zero))))) l = h 6 (omega arith) (omega arith)
-  at (suc (suc (suc (suc (suc (suc zero)))))) l = h 7 (omega arith) (omega arith)
-  at (suc (suc (suc (suc (suc (suc (suc zero))))))) l = h 8 (omega arith) (omega arith)
-  at (suc (suc (suc (suc (suc (suc (suc (suc zero)))))))) l = h 9 (omega arith) (omega arith)
-  at (suc (suc (suc (suc (suc (suc (suc (suc (suc zero))))))))) l = h 10 (omega arith) (omega arith)
-  at (suc (suc (suc (suc (suc (suc (suc (suc (suc (suc zero)))))))))) l = h 11 (omega arith) (omega arith)
-  at (suc (suc (suc (suc (suc (suc (suc (suc (suc (suc (suc zero))))))))))) l = h 12 (omega arith) (omega arith)
-  at (suc (suc (suc (suc (suc (suc (suc (suc (suc (suc (suc (suc zero)))))))))))) l = h 13 (omega arith) (omega arith)
-  at (suc (suc (suc (suc (suc (suc (suc (suc (suc (suc (suc (suc (suc zero))))))))))))) l = h 14 (omega arith) (omega arith)
-  at (suc (suc (suc (suc (suc (suc (suc (suc (suc (suc (suc (suc (suc (suc zero)))))))))))))) l = h 15 (omega arith) (omega arith)
-  at (suc (suc (suc (suc (suc (suc (suc (suc (suc (suc (suc (suc (suc (suc (suc zero))))))))))))))) l = h 16 (omega arith) (omega arith)
-  at (suc (suc (suc (suc (suc (suc (suc (suc (suc (suc (suc (suc (suc (suc (suc (suc i)))))))))))))))) l = absurd (omega arith)
+  at i l =
+      let e : (i + 1) - 1 ≡ i = omega arith in
+      subst (λ (k : ℕ). get_or boot k 0 ≡ get_or (map f all_sites) k 0) e (h (i + 1) (omega arith) (omega (arith, room)) ∙ sym (site_found f (i + 1) (omega arith) (omega (arith, room))))

@@ -1,19 +1,20 @@
 -- Circuits by number, and which are up.
 use Rattle.std.specs.Prelude.{ℕ, ◌≡◌, ◌+◌, ◌-◌, ◌*◌, ◌/◌, ◌%◌, ◌≤◌, ◌==◌, Bool, false, not, ◌&&◌, cond, List, map, length, slice_index, slice_index_or, slice_set}
 use Rattle.std.specs.List.{list_any}
+use Rattle.locus_ids.specs.Sizes.{sites_max}
 use Rattle.locus_ids.specs.declared.sites.Links.{Links}
-use Rattle.role_steps.specs.Views.{all_sites}
+use Rattle.the_run.specs.of_role_steps.Views.{all_sites}
 use Rattle.the_run.specs.Worlds.{CutCircuit, is_between}
 
 -- the number of the circuit from one site to another, each from 1 to 16
 abbrev pub circuit_of : ℕ → ℕ → ℕ
-circuit_of from to = 16 * (from - 1) + (to - 1)
+circuit_of from to = sites_max * (from - 1) + (to - 1)
 
 abbrev pub sender_on : ℕ → ℕ
-sender_on circuit = circuit / 16 + 1
+sender_on circuit = circuit / sites_max + 1
 
 abbrev pub receiver_on : ℕ → ℕ
-receiver_on circuit = circuit % 16 + 1
+receiver_on circuit = circuit % sites_max + 1
 
 -- the circuit between two sites is among those that are cut
 abbrev pub is_cut_among : List CutCircuit → ℕ → ℕ → Bool
@@ -22,7 +23,7 @@ is_cut_among cuts a b = list_any (is_between a b) cuts
 -- a table that tells of each circuit whether it is cut
 pub record TellsCuts (table : List Bool) (cuts : List CutCircuit) : Type 0 where
   pub room : length table ≡ 256
-  pub each : (a b : ℕ) → 1 ≤ a → a ≤ 16 → 1 ≤ b → b ≤ 16 → slice_index_or table (circuit_of a b) false ≡ is_cut_among cuts a b
+  pub each : (a b : ℕ) → 1 ≤ a → a ≤ sites_max → 1 ≤ b → b ≤ sites_max → slice_index_or table (circuit_of a b) false ≡ is_cut_among cuts a b
 
 -- the boot number of a site that is reached from another, by the boots of those that run, site 1 first; else 0
 abbrev pub reached_boot : List CutCircuit → List ℕ → ℕ → ℕ → ℕ
@@ -41,7 +42,7 @@ is_up_among cuts boots a b = not (boot_in boots a == 0) && (not (boot_in boots b
 -- a table that tells of each circuit whether it is up
 pub record TellsUp (table : List Bool) (cuts : List CutCircuit) (boots : List ℕ) : Type 0 where
   pub room : length table ≡ 256
-  pub each : (a b : ℕ) → 1 ≤ a → a ≤ 16 → 1 ≤ b → b ≤ 16 → slice_index_or table (circuit_of a b) false ≡ is_up_among cuts boots a b
+  pub each : (a b : ℕ) → 1 ≤ a → a ≤ sites_max → 1 ≤ b → b ≤ sites_max → slice_index_or table (circuit_of a b) false ≡ is_up_among cuts boots a b
 
 -- a table with the circuits of both directions marked
 abbrev pub both_marked : List Bool → ℕ → ℕ → Bool → List Bool

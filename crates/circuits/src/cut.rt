@@ -1,14 +1,16 @@
 ghost use Rattle.std.specs.Prelude.{◌≡◌, ℕ, ◌≤◌, ◌∷◌, [], not, Bool, cond, false, replicate, filter, slice_index, slice_index_or, OnOk};
+ghost use Rattle.locus_ids.specs.Sizes.{sites_max};
 ghost use Rattle.the_run.specs.Worlds.{CutCircuit, is_between};
 ghost use Rattle.circuits.specs.Circuits.{circuit_of, sender_on, receiver_on, is_cut_among, both_marked, reached_boot, reached_boots, is_up_among, TellsUp};
 
 use crate::numbers::circuit_of;
+use locus_ids::sizes::SITES;
 use locus_ids::{Links, NoMemory, SiteId};
 use std::alloc::Global;
 use std::marker::Model;
 
 /// A circuit between two sites, whichever of them sends.
-#[derive(Clone, Copy, Debug, PartialEq, Eq)]
+#[derive(Clone, Copy, PartialEq, Eq)]
 pub struct Circuit {
     pub one: SiteId,
     pub other: SiteId,
@@ -25,7 +27,7 @@ impl Model for Circuit {
 }
 
 /// The circuits that are cut, the last one that was cut first. A table by number tells of each at once.
-#[derive(Debug, Drop)]
+#[derive(Drop)]
 pub struct CutCircuits {
     cuts: Vec<Circuit>,
     table: [bool; 256],
@@ -109,9 +111,9 @@ impl CutCircuits {
     }
 
     /// The boot number of a site that is reached from another, given the boots of the sites that run, site 1 first; else 0.
-    fn reached_boot(&self, boots: &[u32; 16], from: SiteId, to: u8) -> u32
+    fn reached_boot(&self, boots: &[u32; SITES], from: SiteId, to: u8) -> u32
         requires low { 1 ≤ to }
-        requires high { to ≤ 16 }
+        requires high { to ≤ sites_max }
         ensures { result ≡ reached_boot self.now boots.now from to }
     {
         match SiteId::new(to) {
@@ -122,27 +124,27 @@ impl CutCircuits {
 
     /// The boot number of each site that is reached from this one, given the boots of the sites that run, site 1 first, with 0
     /// for one that doesn't run.
-    pub fn links_of(&self, boots: &[u32; 16], from: SiteId) -> Links
+    pub fn links_of(&self, boots: &[u32; SITES], from: SiteId) -> Links
         ensures { result ≡ reached_boots self.now boots.now from }
     {
-        let mut boot = [0; 16];
-        for to in 1..17 {
+        let mut boot = [0; SITES];
+        for to in 1..SITES as u8 + 1 {
             boot[usize::from(to) - 1] = self.reached_boot(boots, from, to);
         }
         Links { boot }
     }
 
     /// The circuit of this number is up: both sites run and it isn't cut.
-    fn is_number_up(&self, boots: &[u32; 16], circuit: u8) -> bool
+    fn is_number_up(&self, boots: &[u32; SITES], circuit: u8) -> bool
         ensures { result ≡ is_up_among self.now boots.now (sender_on circuit) (receiver_on circuit) }
     {
-        boots[usize::from(circuit / 16)] != 0
-            && boots[usize::from(circuit % 16)] != 0
+        boots[usize::from(circuit / SITES as u8)] != 0
+            && boots[usize::from(circuit % SITES as u8)] != 0
             && !self.table[usize::from(circuit)]
     }
 
     /// Tells of each circuit, by its number, whether it is up.
-    pub fn up_table(&self, boots: &[u32; 16]) -> [bool; 256]
+    pub fn up_table(&self, boots: &[u32; SITES]) -> [bool; 256]
         ensures { TellsUp result self.now boots.now }
     {
         let mut up = no_marks();

@@ -29,11 +29,6 @@ abbrev pub has : Version → List Stamp → Bool
 has v ps = list_any (λ s. same_stamp s v.stamp) ps
 
 module _ (v : Version) (older : List Version) (file : FileId) (a : Stamp) where
-  -- the newest version is of another file
-  pub any_elsewhere : (ps : List Stamp) → same_file v.file file ≡ false → list_any (is_ancestor (v ∷ older) file a) ps ≡ list_any (is_ancestor older file a) ps
-  any_elsewhere [] e = refl
-  any_elsewhere (p ∷ ps) e = rw (e, any_elsewhere ps e) refl
-
   -- what the wanted stamps say of the newest version, which is of the file, and of the older ones
   pub any_split : (ps : List Stamp) → same_file v.file file ≡ true →
       list_any (is_ancestor (v ∷ older) file a) ps ≡ ((has v ps && (same_stamp a v.stamp || list_any (is_ancestor older file a) v.parents)) || list_any (is_ancestor older file a) (others v ps))
@@ -72,11 +67,6 @@ module _ (v : Version) (older : List Version) (file : FileId) (a : Stamp) where
   -- the newest version is wanted and isn't it: its parents are wanted in its place
   pub any_wanted : (ps : List Stamp) → same_file v.file file ≡ true → has v ps ≡ true → same_stamp a v.stamp ≡ false → list_any (is_ancestor (v ∷ older) file a) ps ≡ list_any (is_ancestor older file a) (others v ps ++ v.parents)
   any_wanted ps mine e f = any_split ps mine ∙ rw (e, f) (or_comm (list_any (is_ancestor older file a) v.parents) (list_any (is_ancestor older file a) (others v ps)) ∙ sym (list_any-append (is_ancestor older file a) (others v ps) v.parents))
-
--- there is nothing left
-pub any_of_nothing : (file : FileId) (a : Stamp) (ps : List Stamp) → list_any (is_ancestor [] file a) ps ≡ list_any (λ s. same_stamp s a) ps
-any_of_nothing file a [] = refl
-any_of_nothing file a (p ∷ ps) = rw (same_stamp_sym a p, any_of_nothing file a ps) refl
 
 -- the newest of one version more
 pub newest_of : (vs : List Version) (left i : ℕ) (v : Version) → left ≡ i + 1 → i < length vs → v ≡ get_or vs i v → reverse (take left vs) ≡ v ∷ reverse (take i vs)

@@ -30,10 +30,6 @@ is_ancestor (v ∷ older) file a b = cond (is_version file b v)
 abbrev pub is_proper_ancestor : List Version → FileId → Stamp → Stamp → Bool
 is_proper_ancestor history file a b = not (same_stamp a b) && is_ancestor history file a b
 
--- neither is an ancestor of the other
-abbrev pub are_concurrent : List Version → FileId → Stamp → Stamp → Bool
-are_concurrent history file a b = not (is_ancestor history file a b) && not (is_ancestor history file b a)
-
 -- the stamp is a proper ancestor of one of these
 abbrev pub is_covered : List Version → FileId → List Stamp → Stamp → Bool
 is_covered history file brought a = list_any (is_proper_ancestor history file a) brought

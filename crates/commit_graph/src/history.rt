@@ -6,7 +6,7 @@ use std::alloc::Global;
 use std::marker::Model;
 
 /// One committed state of a file.
-#[derive(Debug, Drop)]
+#[derive(Drop)]
 pub struct Version {
     pub file: FileId,
     /// The site that committed it.
@@ -33,7 +33,7 @@ impl Version {
 }
 
 /// The versions of all files, the newest first.
-#[derive(Debug, Drop)]
+#[derive(Drop)]
 pub struct History {
     oldest_first: Vec<Version>,
 }

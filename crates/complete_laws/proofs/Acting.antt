@@ -1,12 +1,14 @@
 -- At each moment of a run each event that may come finds what it needs.
 use Rattle.std.proofs.Common.{◌≡◌, ◌≢◌, ◌≤◌, ◌<◌, ℕ, zero, suc, ◌==◌, nat_lt, Bool, true, false, cond, ◌||◌, List, [], ◌∷◌, filter, length, Option, None, Some, refl, sym, ◌∙◌, ap, subst, arith}
 use Rattle.std.specs.List.{AllByRecursion, list_any}
+use Rattle.role_steps.proofs.of_plain_facts.Numbers.{equal}
+use Rattle.role_steps.proofs.of_plain_facts.Tests.{and_first, false_true, or_first, or_other, or_second}
 use Rattle.locus_ids.specs.Sites.{has}
 use Rattle.locus_ids.specs.declared.config.Config.{Config}
 use Rattle.locus_ids.specs.declared.ids.Serial.{Serial}
 use Rattle.locus_ids.specs.declared.sites.Links.{Links}
 use Rattle.wire_messages.specs.Bodies.{kind_number}
-use Rattle.packet_order.specs.Counts.{FitsIfCounted}
+use Rattle.site_node.specs.of_packet_order.Counts.{FitsIfCounted}
 use Rattle.wire_messages.specs.declared.body.Body.{Body}
 use Rattle.wire_messages.specs.declared.body.Body.TheVariants as body
 use Rattle.wire_messages.specs.declared.packet.Packet.{Packet}
@@ -19,31 +21,29 @@ use Rattle.role_steps.specs.declared.rounds.InEpoch.{InEpoch}
 use Rattle.role_steps.specs.declared.synchronizing.SyncTable.{SyncTable}
 use Rattle.the_run.specs.Steps.{is_dropped, step, takes}
 use Rattle.the_run.specs.Worlds.{World, Running, links_of, place_at}
-use Rattle.make_laws.proofs.Happening.{taken_boot, taken_epoch}
-use Rattle.pack_laws.specs.Packed.{BodyPacked, PacketPacked, PullPacked}
-use Rattle.pack_laws.proofs.PacksRun.{sent_packed}
+use Rattle.packet_format_laws.proofs.of_make_laws.Happening.{taken_boot, taken_epoch}
+use Rattle.packet_format_laws.specs.of_pack_laws.Packed.{BodyPacked, PacketPacked, PullPacked}
+use Rattle.packet_format_laws.proofs.of_pack_laws.PacksRun.{sent_packed}
 use Rattle.tree_laws.specs.Doing.{IsReceived}
 use Rattle.tree_laws.specs.Packets.{PacketFact}
-use Rattle.tree_laws.proofs.Names.{test_same}
-use Rattle.order_laws.proofs.Alone.{first_of}
-use Rattle.one_tree_laws.specs.Places.{InsideFact, SiteFact, SiteIn}
-use Rattle.one_tree_laws.proofs.Rising.{every_among}
-use Rattle.one_tree_laws.proofs.Run.{sent_fact}
-use Rattle.one_tree_laws.proofs.Steps.{to_boot}
-use Rattle.one_tree_laws.proofs.UserStepGroups.{packed_low}
-use Rattle.inode_pack.specs.Committing.{IsVersion}
-use Rattle.site_packs.specs.Packs.{groups_at}
-use Rattle.site_parts.specs.Fitting.{CanTakeAtStore}
-use Rattle.site_parts.specs.Roles.{mending_by}
-use Rattle.site_tables.specs.Inodes.{AreInodes}
+use Rattle.packet_format_laws.specs.of_one_tree_laws.Places.{InsideFact, SiteFact, SiteIn}
+use Rattle.packet_format_laws.proofs.of_one_tree_laws.Rising.{every_among}
+use Rattle.packet_format_laws.proofs.of_one_tree_laws.Run.{sent_fact}
+use Rattle.packet_format_laws.proofs.of_one_tree_laws.Steps.{to_boot}
+use Rattle.packet_format_laws.proofs.of_one_tree_laws.UserStepGroups.{packed_low}
+use Rattle.stored_versions.specs.Versions.{IsVersion}
+use Rattle.site_node.specs.of_site_packs.Packs.{groups_at}
+use Rattle.site_node.specs.of_site_parts.Fitting.{CanTakeAtStore}
+use Rattle.site_node.specs.of_site_parts.Roles.{mending_by}
+use Rattle.site_node.specs.of_site_tables.Inodes.{AreInodes}
 use Rattle.site_node.specs.Fitting.{CanAct, CanAdopt, CanTakeIn, HasInodes, IsShort, acted}
 use Rattle.site_node.specs.Taking.{IsSpent, is_tried}
-use Rattle.packet_fit_laws.specs.Epochs.{NamesUpTo}
-use Rattle.fit_laws.specs.Pulling.{FitsPull, NoticeFits}
-use Rattle.fit_laws.proofs.Opens.{body_opens}
-use Rattle.fit_laws.proofs.Pulling.{notice_fits}
-use Rattle.fit_laws.proofs.Storing.{store_fits}
-use Rattle.fit_laws.proofs.Tables.{site_tables}
+use Rattle.packet_format_laws.specs.of_packet_fit_laws.Epochs.{NamesUpTo}
+use Rattle.calm_laws.specs.of_fit_laws.Pulling.{FitsPull, NoticeFits}
+use Rattle.calm_laws.proofs.of_fit_laws.Opens.{body_opens}
+use Rattle.calm_laws.proofs.of_fit_laws.Pulling.{notice_fits}
+use Rattle.calm_laws.proofs.of_fit_laws.Storing.{store_fits}
+use Rattle.calm_laws.proofs.of_fit_laws.Tables.{site_tables}
 use Rattle.complete_laws.specs.FitCallJoining.{HasGroups, pulled}
 use Rattle.complete_laws.proofs.FitCallAdopting.{room}
 use Rattle.complete_laws.proofs.FitCallAgreeing.{kinds_now}
@@ -55,27 +55,15 @@ use Rattle.complete_laws.proofs.MomentTables.{OfInodes, adopts_keep, leaves_keep
 
 -- ---- the packs of a site ----
 
-any_first : (a b : Bool) → a ≡ true → a || b ≡ true
-any_first true b e = refl
-any_first false b e = absurd (let f : false ≡ true = e in cc)
-
-any_last : (a b : Bool) → b ≡ true → a || b ≡ true
-any_last true b e = refl
-any_last false b e = e
-
-any_other : (a b : Bool) → a ≡ false → a || b ≡ true → b ≡ true
-any_other true b e h = absurd (let f : true ≡ false = e in cc)
-any_other false b e h = h
-
 filter_has : (p : ℕ → Bool) (g : ℕ) (gs : List ℕ) → p g ≡ true → list_any (λ one. one == g) gs ≡ true → list_any (λ one. one == g) (filter p gs) ≡ true
 filter_has p g [] h k = k
 filter_has p g (x ∷ xs) h k = over (p x) refl (x == g) refl (filter_has p g xs h)
   where
     over : (a : Bool) → p x ≡ a → (b : Bool) → (x == g) ≡ b → (list_any (λ one. one == g) xs ≡ true → list_any (λ one. one == g) (filter p xs) ≡ true) → list_any (λ one. one == g) (cond a (x ∷ filter p xs) (filter p xs)) ≡ true
-    over true e true q rest = any_first (x == g) _ q
-    over true e false q rest = any_last (x == g) _ (rest (any_other (x == g) _ q k))
-    over false e true q rest = absurd (let f : true ≡ false = sym h ∙ (ap p (sym (test_same x g q)) ∙ e) in cc)
-    over false e false q rest = rest (any_other (x == g) _ q k)
+    over true e true q rest = or_first (x == g) _ q
+    over true e false q rest = or_second (x == g) _ (rest (or_other (x == g) _ q k))
+    over false e true q rest = absurd (let f : true ≡ false = sym h ∙ (ap p (sym (equal x g q)) ∙ e) in cc)
+    over false e false q rest = rest (or_other (x == g) _ q k)
 
 listed : (g : ℕ) → g < 4 → list_any (λ one. one == g) all_groups ≡ true
 listed zero h = refl
@@ -103,7 +91,7 @@ inodes_of v h = all_of AreInodes v.tables h
 can_adopt : (c : Config) → length c.packs ≤ 4 → (s : ℕ) (v : SiteView) → Every (FitsPull c s) v.pulls → CanAdopt (groups_at c s) v
 can_adopt c few s v fit p among ready =
     let k : FitsPull c s p = every_among (FitsPull c s) p v.pulls among fit in
-    let whole : length p.content ≡ p.size = test_same (length p.content) p.size (first_of (is_complete p) _ ready) in
+    let whole : length p.content ≡ p.size = equal (length p.content) p.size (and_first (is_complete p) _ ready) in
     record { group = has_groups c few s p.file.group k.packed; low = k.number.0; high = k.number.1; version = subst (IsVersion (pulled p)) (sym whole) k.version; room = room v p ready }
 
 -- ---- a packet ----
@@ -125,9 +113,6 @@ spent_never (body.Refuse promised) k e = over promised.number k.1 e
     over : (n : ℕ) → n ≤ 134479872 → n ≡ 4294967295 → ⊥
     over n l e = omega (arith, l, e)
 spent_never _ k e = absurd e
-
-not_tried : false ≡ true → ⊥
-not_tried e = cc
 
 module _ (c : Config) (few : length c.packs ≤ 4) (w : World) (moment : IsMoment c w) (p : Packet) (v : SiteView) (here : place_at w p.to ≡ Some (Running v)) (it : PacketFact c w.trace p) (packed : BodyPacked c p.from p.to p.body) (taken : is_dropped p v ≡ false) where
   fact : SiteFact c p.to w.trace v
@@ -160,7 +145,7 @@ module _ (c : Config) (few : length c.packs ≤ 4) (w : World) (moment : IsMomen
   tried_pulls : (links : Links) (b : Body) → p.body ≡ b → is_tried b ≡ true → Every (FitsPull c p.to) (takes c p.to links p b v).view.pulls
   tried_pulls links (body.Notify file kind set size stamp vector holder) is e = noticed_pulls c w.trace moment.past links p v fact it packed view_packed file kind set size stamp vector holder is v.epoch
   tried_pulls links (body.Page file stamp page bytes) is e = paged_pulls c w.trace moment.past links p v fact it packed view_packed file stamp page bytes is v.epoch
-  tried_pulls links _ is e = absurd (not_tried e)
+  tried_pulls links _ is e = absurd (false_true e)
 
   pub packet_tried : (links : Links) → is_tried p.body ≡ true → CanAdopt (groups_at c p.to) (takes c p.to links p p.body v).view
   packet_tried links tried = can_adopt c few p.to (takes c p.to links p p.body v).view (tried_pulls links p.body refl tried)

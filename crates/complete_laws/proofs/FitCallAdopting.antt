@@ -1,12 +1,15 @@
 -- What is adopted may be kept.
 use Rattle.std.proofs.Common.{◌≡◌, ◌≤◌, ℕ, ◌+◌, ◌-◌, true, List, length, Some, subst, sym, arith}
+use Rattle.role_steps.proofs.of_plain_facts.Numbers.{equal}
+use Rattle.role_steps.proofs.of_plain_facts.Tests.{and_first}
 use Rattle.locus_ids.specs.declared.config.Config.{Config}
+use Rattle.locus_ids.specs.Sizes.{pack_pages}
 use Rattle.schedule_lines.specs.declared.line.ScheduleLine.{ScheduleLine}
 use Rattle.file_content.specs.Pages.{pages_of}
-use Rattle.inode_pack.specs.Committing.{IsVersion}
+use Rattle.stored_versions.specs.Versions.{IsVersion}
 use Rattle.role_steps.specs.Adoption.{is_ready}
 use Rattle.role_steps.specs.Pulling.{is_complete}
-use Rattle.role_steps.specs.Storage.{changed_pages, copy_pages, pack_pages}
+use Rattle.role_steps.specs.Storage.{changed_pages, copy_pages}
 use Rattle.role_steps.specs.Tables.{total}
 use Rattle.role_steps.specs.Views.{SiteView}
 use Rattle.role_steps.specs.declared.pulls.Pull.{Pull}
@@ -14,27 +17,25 @@ use Rattle.role_steps.specs.declared.rounds.InEpoch.{InEpoch}
 use Rattle.the_run.specs.Kept.{Among}
 use Rattle.the_run.specs.Runs.{run_in}
 use Rattle.the_run.specs.Worlds.{Running, place_at}
-use Rattle.row_laws.specs.Voids.{LinesFit}
-use Rattle.order_laws.specs.Joining.{PacksAreOfSites}
-use Rattle.order_laws.proofs.Alone.{first_of}
-use Rattle.tree_laws.proofs.Names.{test_same}
-use Rattle.one_tree_laws.proofs.Rising.{every_among}
-use Rattle.site_packs.specs.Committing.{IsWholeFit}
-use Rattle.site_packs.specs.Packs.{PacksState, groups_of}
-use Rattle.fit_laws.specs.Pulling.{FitsPull}
-use Rattle.fit_laws.proofs.Pulling.{run_pulls}
-use Rattle.fit_laws.proofs.RoomSites.{ready_room}
+use Rattle.packet_format_laws.specs.of_row_laws.Voids.{LinesFit}
+use Rattle.packet_format_laws.specs.of_order_laws.Joining.{PacksAreOfSites}
+use Rattle.packet_format_laws.proofs.of_one_tree_laws.Rising.{every_among}
+use Rattle.site_node.specs.of_site_packs.Committing.{IsWholeFit}
+use Rattle.site_node.specs.of_site_packs.Packs.{PacksState, groups_of}
+use Rattle.calm_laws.specs.of_fit_laws.Pulling.{FitsPull}
+use Rattle.calm_laws.proofs.of_fit_laws.Pulling.{run_pulls}
+use Rattle.calm_laws.proofs.of_fit_laws.RoomSites.{ready_room}
 use Rattle.complete_laws.specs.FitCallJoining.{HasGroups, pulled}
 
 pub room : (v : SiteView) (p : Pull) → is_ready v p ≡ true → pages_of (length p.content) ≤ pack_pages - total (copy_pages p.file.group) v.store.copies
 room v p ready = less (pages_of (length p.content)) (total (copy_pages p.file.group) v.store.copies) (total (changed_pages p.file.group) v.store.instances) (ready_room v p ready)
   where
-    less : (n a b : ℕ) → n ≤ 3072 - (a + b) → n ≤ 3072 - a
+    less : (n a b : ℕ) → n ≤ pack_pages - (a + b) → n ≤ pack_pages - a
     less n a b l = omega (arith, l)
 
 pub run_adopts : (c : Config) (lines : List ScheduleLine) → LinesFit c lines → PacksAreOfSites c → length c.packs ≤ 4 → (s : ℕ) (v : SiteView) (e : InEpoch) → place_at (run_in c lines) s ≡ Some (Running v) → v.epoch ≡ Some e → (p : Pull) → Among p v.pulls → is_ready v p ≡ true →
     (packs : PacksState) → HasGroups c s (groups_of packs) → IsWholeFit packs p.file (pulled p) (length p.content) × (pages_of (length p.content) ≤ pack_pages - total (copy_pages p.file.group) v.store.copies)
 run_adopts c lines fit few_packs few s v e here inside p among ready packs has =
     let k : FitsPull c s p = every_among (FitsPull c s) p v.pulls among (run_pulls c lines fit few_packs few s v e here inside) in
-    let whole : length p.content ≡ p.size = test_same (length p.content) p.size (first_of (is_complete p) _ ready) in
+    let whole : length p.content ≡ p.size = equal (length p.content) p.size (and_first (is_complete p) _ ready) in
     (record { group = has p.file.group k.packed; low = k.number.0; high = k.number.1; version = subst (IsVersion (pulled p)) (sym whole) k.version }, room v p ready)

@@ -13,7 +13,7 @@ use Rattle.trace_book.specs.declared.operation.Outcome.{Outcome}
 use Rattle.wire_messages.specs.declared.body.Body.{Body}
 use Rattle.wire_messages.specs.declared.body.Body.TheVariants as body
 use Rattle.wire_messages.specs.declared.packet.Packet.{Packet}
-use Rattle.operation_effects.specs.Joinable.{AreJoinable}
+use Rattle.packet_format_laws.specs.of_operation_effects.Joinable.{AreJoinable}
 use Rattle.role_steps.specs.Epochs.{frame_in}
 use Rattle.role_steps.specs.Mends.{mending}
 use Rattle.role_steps.specs.OperationEffects.{Mending}
@@ -26,7 +26,7 @@ use Rattle.the_run.specs.Kept.{WasSent}
 use Rattle.the_run.specs.Runs.{run_in}
 use Rattle.the_run.specs.Steps.{from_user, group_of}
 use Rattle.the_run.specs.Worlds.{Line, Numbered, Running, place_at}
-use Rattle.row_laws.specs.Voids.{LinesFit}
+use Rattle.packet_format_laws.specs.of_row_laws.Voids.{LinesFit}
 use Rattle.tree_model.specs.Histories.{history}
 use Rattle.tree_model.specs.State.{kept_of}
 use Rattle.tree_model.specs.Tree.{tree_of}
@@ -34,22 +34,23 @@ use Rattle.tree_laws.specs.Packets.{BodyFact, OpFact}
 use Rattle.tree_laws.specs.Past.{WasDone}
 use Rattle.tree_laws.specs.Printed.{entries}
 use Rattle.tree_laws.specs.Stores.{InstanceFact, RunsAs, StageFact}
-use Rattle.order_laws.specs.Joining.{PacksAreOfSites}
-use Rattle.store_laws.proofs.AnswerDone.{done_named}
+use Rattle.packet_format_laws.specs.of_order_laws.Joining.{PacksAreOfSites}
+use Rattle.packet_format_laws.proofs.of_store_laws.AnswerDone.{done_named}
 use Rattle.tree_laws.proofs.Grants.{open_named}
 use Rattle.locus_ids.specs.declared.ids.EpochId.{EpochId}
-use Rattle.store_laws.specs.Rests.{MendsAs}
-use Rattle.store_laws.proofs.Closes.{found_instance}
-use Rattle.one_tree_laws.specs.Places.{InsideFact}
-use Rattle.one_tree_laws.specs.Rest.{Past}
-use Rattle.one_tree_laws.proofs.Run.{sent_fact}
-use Rattle.rest_laws.proofs.MendStepWorking.{mends_as}
-use Rattle.rest_laws.proofs.StoreStepResting.{op_rests}
-use Rattle.site_parts.specs.Fitting.{CanTakeAtStore}
-use Rattle.fit_laws.proofs.Opens.{named_sited, run_opens}
-use Rattle.fit_laws.proofs.Running.{run_inside, run_storable}
-use Rattle.fit_laws.proofs.Tables.{past_of_run, run_tables, world_of}
-use Rattle.fit_laws.proofs.Working.{AreSized, trace_works}
+use Rattle.locus_ids.specs.Sizes.{content_bytes_max, sites_max}
+use Rattle.packet_format_laws.specs.of_store_laws.Rests.{MendsAs}
+use Rattle.packet_format_laws.proofs.of_store_laws.Closes.{found_instance}
+use Rattle.packet_format_laws.specs.of_one_tree_laws.Places.{InsideFact}
+use Rattle.packet_format_laws.specs.of_one_tree_laws.Rest.{Past}
+use Rattle.packet_format_laws.proofs.of_one_tree_laws.Run.{sent_fact}
+use Rattle.packet_format_laws.proofs.of_rest_laws.MendStepWorking.{mends_as}
+use Rattle.packet_format_laws.proofs.of_rest_laws.StoreStepResting.{op_rests}
+use Rattle.site_node.specs.of_site_parts.Fitting.{CanTakeAtStore}
+use Rattle.calm_laws.proofs.of_fit_laws.Opens.{named_sited, run_opens}
+use Rattle.calm_laws.proofs.of_fit_laws.Running.{run_inside, run_storable}
+use Rattle.calm_laws.proofs.of_fit_laws.Tables.{past_of_run, run_tables, world_of}
+use Rattle.calm_laws.proofs.of_fit_laws.Working.{AreSized, trace_works}
 use Rattle.complete_laws.specs.FitCallJoining.{HasGroups, KindsAgree, KindsIf, KindsIfMend}
 use Rattle.complete_laws.proofs.FitCallTaking.{JoinsBody, JoinsNext, takes_at}
 
@@ -57,10 +58,10 @@ joinable : (h : List Version) → AreSized h → (f : FileId) (ss : List Stamp) 
 joinable h sized f [] k = tt
 joinable h sized f (s ∷ ss) k = ((wide (length (content_of h f s)) (sized f s), k.0), joinable h sized f ss k.1)
   where
-    wide : (n : ℕ) → n ≤ 65536 → n < 2 ^ 32
+    wide : (n : ℕ) → n ≤ content_bytes_max → n < 2 ^ 32
     wide n l = omega (arith, l)
 
-module _ (c : Config) (t : List Line) (past : Past c t) (few : length c.packs ≤ 4) (f : Frame) (v : SiteView) (inside : InsideFact c f t v) (inst : Serial) (small : inst.us ≤ 16) where
+module _ (c : Config) (t : List Line) (past : Past c t) (few : length c.packs ≤ 4) (f : Frame) (v : SiteView) (inside : InsideFact c f t v) (inst : Serial) (small : inst.us ≤ sites_max) where
   abbrev m : Mending
   m = mending v (group_of (instance_of v.store inst))
 
@@ -97,7 +98,7 @@ module _ (c : Config) (t : List Line) (past : Past c t) (few : length c.packs �
   joins_next n (op.Cut len) seen fact kinds = λ i e q next. tt
 
 -- whose operation is asked or done is one of the sixteen sites
-asked_low : (c : Config) (t : List Line) → Past c t → (e : EpochId) (ss : ℕ) (i : Serial) (n : ℕ) (o : Op) (seen : List ℕ) → OpFact c t e ss i n o seen → i.us ≤ 16
+asked_low : (c : Config) (t : List Line) → Past c t → (e : EpochId) (ss : ℕ) (i : Serial) (n : ℕ) (o : Op) (seen : List ℕ) → OpFact c t e ss i n o seen → i.us ≤ sites_max
 asked_low c t past e ss i n o seen (inl (r, done)) = (named_sited c t past.followed past.rest.each e i (done_named c t past.followed e i n o r done)).high
 asked_low c t past e ss i n o seen (inr now) = (named_sited c t past.followed past.rest.each e i (open_named c t e i now.at now.open_at.found)).high
 

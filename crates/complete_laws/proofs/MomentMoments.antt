@@ -7,27 +7,26 @@ use Rattle.schedule_lines.specs.declared.line.Line.TheVariants as line
 use Rattle.schedule_lines.specs.declared.line.ScheduleLine.{ScheduleLine}
 use Rattle.schedule_lines.specs.declared.line.ScheduleLine.TheVariants.{Event as EventLine}
 use Rattle.role_steps.specs.Views.{Event}
-use Rattle.the_run.specs.Kept.{Kept}
 use Rattle.the_run.specs.Runs.{run_in}
-use Rattle.the_run.specs.Worlds.{World, Running, first_world}
+use Rattle.the_run.specs.Worlds.{World, Running}
 use Rattle.the_run.proofs.Runs.{every_run}
-use Rattle.vector_laws.specs.Written.{InstancesAgree, past_of}
-use Rattle.pack_laws.proofs.InstanceAgree.{run_agrees}
-use Rattle.pack_laws.proofs.PacksRun.{All, all_kept, first_all}
-use Rattle.row_laws.specs.ByLine.{IsLine}
-use Rattle.row_laws.specs.Voids.{LinesFit}
-use Rattle.row_laws.proofs.ByLine.{every_line}
-use Rattle.order_laws.specs.Joining.{PacksAreOfSites}
-use Rattle.orderly_laws.proofs.Rounds.{RoundKept}
+use Rattle.packet_format_laws.specs.of_vector_laws.Written.{InstancesAgree, past_of}
+use Rattle.packet_format_laws.proofs.of_pack_laws.InstanceAgree.{run_agrees}
+use Rattle.packet_format_laws.proofs.of_pack_laws.PacksRun.{All, all_kept, first_all}
+use Rattle.packet_format_laws.specs.of_row_laws.ByLine.{IsLine}
+use Rattle.packet_format_laws.specs.of_row_laws.Voids.{LinesFit}
+use Rattle.packet_format_laws.proofs.of_row_laws.ByLine.{every_line}
+use Rattle.packet_format_laws.specs.of_order_laws.Joining.{PacksAreOfSites}
+use Rattle.calm_laws.proofs.of_orderly_laws.Rounds.{RoundKept}
 use Rattle.calm_laws.proofs.Rounds.{round_kept}
-use Rattle.one_tree_laws.specs.Places.{WorldFact}
-use Rattle.one_tree_laws.specs.Rest.{IsRest}
-use Rattle.one_tree_laws.specs.Roles.{RolesDo}
-use Rattle.one_tree_laws.proofs.Run.{first_holds}
-use Rattle.rest_laws.proofs.Roles.{roles_do}
-use Rattle.packet_fit_laws.proofs.Epochs.{Counted, counted_kept, epochs_low, first_counted, named_low}
-use Rattle.fit_laws.proofs.RoomRun.{Both, first_room, kept_room}
-use Rattle.fit_laws.proofs.Tables.{rest_of}
+use Rattle.packet_format_laws.specs.of_one_tree_laws.Places.{WorldFact}
+use Rattle.packet_format_laws.specs.of_one_tree_laws.Rest.{IsRest}
+use Rattle.packet_format_laws.specs.of_one_tree_laws.Roles.{RolesDo}
+use Rattle.packet_format_laws.proofs.of_one_tree_laws.Run.{first_holds}
+use Rattle.packet_format_laws.proofs.of_rest_laws.Roles.{roles_do}
+use Rattle.packet_format_laws.proofs.of_packet_fit_laws.Epochs.{Counted, counted_kept, epochs_low, first_counted, named_low}
+use Rattle.calm_laws.proofs.of_fit_laws.RoomRun.{Both, first_room, kept_room}
+use Rattle.calm_laws.proofs.of_fit_laws.Tables.{rest_of}
 use Rattle.complete_laws.specs.MomentEvents.{EachEvent}
 use Rattle.complete_laws.specs.MomentMoments.{ComesInTime, MayCome}
 use Rattle.complete_laws.proofs.MomentCourse.{IsBefore, each_event, last_line, round_both, round_of_line}
@@ -36,10 +35,6 @@ use Rattle.complete_laws.proofs.MomentRest.{agree_earlier, first_fit, rest_earli
 -- the next line is in range
 line_fits : (c : Config) (lines : List ScheduleLine) (l : LineWords) → LinesFit c (lines ++ EventLine l ∷ []) → fits_event c.sites l ≡ true
 line_fits c lines l fit = fit (length lines + 1) l (last_line lines l)
-
--- what each event keeps stands at each event
-pub each_kept : (c : Config) (P : World → Type 0) → Kept c P → P (first_world c) → (lines : List ScheduleLine) (l : LineWords) → fits_event c.sites l ≡ true → EachEvent (λ s e w. P w) c (length lines + 1) l (run_in c lines)
-each_kept c P k first lines l fit = each_event c P (λ s e w. P w) lines l fit (every_run c P k first lines) (λ most is. round_kept c (length lines + 1) P k) (λ s e w may p before. p)
 
 -- ---- the moments ----
 

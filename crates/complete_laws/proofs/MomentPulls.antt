@@ -20,13 +20,13 @@ use Rattle.role_steps.specs.declared.rounds.InEpoch.{InEpoch}
 use Rattle.the_run.specs.Steps.{takes_framed, takes_inside}
 use Rattle.the_run.specs.Worlds.{Line}
 use Rattle.the_run.proofs.InsideSync.{every_row}
-use Rattle.pack_laws.specs.Packed.{BodyPacked, PullPacked}
+use Rattle.packet_format_laws.specs.of_pack_laws.Packed.{BodyPacked, PullPacked}
 use Rattle.tree_laws.specs.Packets.{PacketFact}
-use Rattle.one_tree_laws.specs.Places.{SiteFact, SiteIn}
-use Rattle.one_tree_laws.specs.Rest.{Past}
-use Rattle.one_tree_laws.proofs.Rising.{every_among, row_key}
-use Rattle.fit_laws.specs.Pulling.{FitsPull, NoticeFits}
-use Rattle.fit_laws.proofs.Pulling.{notice_fits, pulls_fit}
+use Rattle.packet_format_laws.specs.of_one_tree_laws.Places.{SiteFact, SiteIn}
+use Rattle.packet_format_laws.specs.of_one_tree_laws.Rest.{Past}
+use Rattle.packet_format_laws.proofs.of_one_tree_laws.Rising.{every_among, row_key}
+use Rattle.calm_laws.specs.of_fit_laws.Pulling.{FitsPull, NoticeFits}
+use Rattle.calm_laws.proofs.of_fit_laws.Pulling.{notice_fits, pulls_fit}
 
 module _ (P : Pull → Type 0) where
   begins : (f : Frame) (p : Pull) (ps : List Pull) → P p → Every P ps → Every P (begins_pull f p ps).view

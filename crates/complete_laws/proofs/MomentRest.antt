@@ -6,11 +6,11 @@ use Rattle.locus_ids.specs.declared.ids.FileId.{FileId}
 use Rattle.schedule_lines.specs.declared.line.Line.{Line as LineWords}
 use Rattle.schedule_lines.specs.declared.line.ScheduleLine.{ScheduleLine}
 use Rattle.schedule_lines.specs.declared.line.ScheduleLine.TheVariants.{Passed, Event as EventLine}
-use Rattle.lawful_trace.proofs.Extends.{line_kept}
+use Rattle.tree_laws.proofs.of_lawful_trace.Extends.{line_kept}
 use Rattle.the_run.specs.Worlds.{Line}
-use Rattle.vector_laws.specs.Written.{InstancesAgree, WasBegun, WasGranted, past_of}
-use Rattle.row_laws.specs.Voids.{LinesFit}
-use Rattle.one_tree_laws.specs.Rest.{EachRest, IsRest}
+use Rattle.packet_format_laws.specs.of_vector_laws.Written.{InstancesAgree, WasBegun, WasGranted, past_of}
+use Rattle.packet_format_laws.specs.of_row_laws.Voids.{LinesFit}
+use Rattle.packet_format_laws.specs.of_one_tree_laws.Rest.{EachRest, IsRest}
 use Rattle.calm_laws.proofs.Limits.{line_there}
 
 rest_first : (c : Config) (new old : List Line) → EachRest c (new ++ old) → EachRest c old

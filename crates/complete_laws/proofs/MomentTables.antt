@@ -1,5 +1,7 @@
 -- Whatever comes to a site, the numbers in its tables are those of inodes before mends start.
 use Rattle.std.proofs.Common.{◌≡◌, ℕ, ◌+◌, nat_lt, Bool, true, false, ◌&&◌, not, cond, List, [], ◌∷◌, map, filter, Option, None, Some, refl, sym, ◌∙◌, ap, subst, inl, inr, ◌⊎◌}
+use Rattle.role_steps.proofs.of_plain_facts.Options.{none_some, some_same}
+use Rattle.role_steps.proofs.of_plain_facts.Tests.{true_false}
 use Rattle.locus_ids.specs.Sites.{has}
 use Rattle.locus_ids.specs.declared.config.Config.{Config}
 use Rattle.locus_ids.specs.declared.ids.EpochId.{EpochId}
@@ -36,22 +38,21 @@ use Rattle.the_run.specs.Kept.{Among}
 use Rattle.the_run.specs.Steps.{adopts_in, adopts_of, at_table_of, is_dropped, is_opened_in, takes, takes_framed, takes_inside, tries_at}
 use Rattle.the_run.specs.Worlds.{Line}
 use Rattle.the_run.proofs.InsideSync.{every_row}
-use Rattle.vector_laws.specs.Written as written
-use Rattle.vector_laws.specs.Written.{InstancesAgree, past_of}
-use Rattle.make_laws.proofs.Happening.{taken_epoch}
+use Rattle.packet_format_laws.specs.of_vector_laws.Written as written
+use Rattle.packet_format_laws.specs.of_vector_laws.Written.{InstancesAgree, past_of}
+use Rattle.packet_format_laws.proofs.of_make_laws.Happening.{taken_epoch}
 use Rattle.tree_laws.specs.Doing.{FrameFact}
 use Rattle.tree_laws.specs.Instances.{IsStarted}
 use Rattle.tree_laws.specs.Packets.{BodyFact, ClosedFact, IsReporter, MadeFact, MaybeMade, PacketFact, ReportFact, ReportedNow, ReportsNow, file_in}
 use Rattle.tree_laws.specs.Past.{BeginsIt, GrantRecord, Printed, WasBegun, WasGranted}
 use Rattle.tree_laws.specs.Tables.{IsGrantedNow, RowFact, StageFact, TableFact}
-use Rattle.tree_laws.proofs.Names.{true_false}
-use Rattle.rest_laws.proofs.EpochTreeMembers.{reporter_counts}
-use Rattle.one_tree_laws.specs.Places.{InsideFact, SiteFact, SiteIn}
-use Rattle.one_tree_laws.specs.Rest.{Past}
-use Rattle.one_tree_laws.proofs.Rising.{every_among, row_key}
-use Rattle.fit_laws.specs.Inodes.{AreInodes, IsInodeNumber}
-use Rattle.fit_laws.proofs.Numbers.{stands_inode}
-use Rattle.fit_laws.proofs.Tables.{site_tables}
+use Rattle.packet_format_laws.proofs.of_rest_laws.EpochTreeMembers.{reporter_counts}
+use Rattle.packet_format_laws.specs.of_one_tree_laws.Places.{InsideFact, SiteFact, SiteIn}
+use Rattle.packet_format_laws.specs.of_one_tree_laws.Rest.{Past}
+use Rattle.packet_format_laws.proofs.of_one_tree_laws.Rising.{every_among, row_key}
+use Rattle.calm_laws.specs.of_fit_laws.Inodes.{AreInodes, IsInodeNumber}
+use Rattle.calm_laws.proofs.of_fit_laws.Numbers.{stands_inode}
+use Rattle.calm_laws.proofs.of_fit_laws.Tables.{site_tables}
 use Rattle.complete_laws.proofs.MomentRows.{Rows, close_rows, have_rows, on_look_files, on_open_files, on_opened_files, report_rows, rows_in, rows_out, same_rows}
 
 abbrev pub OfInodes : SiteView → Type 0
@@ -109,18 +110,12 @@ module _ (c : Config) (t : List Line) (past : Past c t) (agree : InstancesAgree 
 
 -- ---- a packet in the epoch ----
 
-none_some : {A : Type 0} (x : A) → ◌≡◌ {A = Option A} None (Some x) → ⊥
-none_some x e = cc
-
-some_eq : {A : Type 0} (x y : A) → ◌≡◌ {A = Option A} (Some x) (Some y) → x ≡ y
-some_eq x y e = cc
-
 first_among : {A : Type 0} (test : A → Bool) (xs : List A) (x : A) → first_that test xs ≡ Some x → Among x xs
 first_among {A} test [] x e = absurd (none_some x e)
 first_among {A} test (y ∷ ys) x e = over (test y) e (first_among test ys x)
   where
     over : (b : Bool) → elim b as (λ (z : Bool). Option A) [ true ↦ Some y | false ↦ first_that test ys ] ≡ Some x → (first_that test ys ≡ Some x → Among x ys) → Among x (y ∷ ys)
-    over true e later = inl (sym (some_eq y x e))
+    over true e later = inl (sym (some_same y x e))
     over false e later = inr (later e)
 
 at_table_keeps : (g : SyncTable → Outcome SyncTable) (o : Option SyncTable) (v : SiteView) → ((tab : SyncTable) → o ≡ Some tab → Rows (g tab).view) → OfInodes v → OfInodes (at_table_of g o v).view

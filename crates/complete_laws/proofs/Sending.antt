@@ -10,16 +10,16 @@ use Rattle.role_steps.specs.Own.{Every}
 use Rattle.role_steps.specs.Views.{Calls, Event, GivesUp, Merges, Parts, Receives, SiteView, Ticks}
 use Rattle.the_run.specs.Runs.{is_busy, run_in}
 use Rattle.the_run.specs.Worlds.{Place, World, Running, place_at}
-use Rattle.run_laws.specs.Naming.{MayCome as MayComeIn}
-use Rattle.row_laws.specs.ByLine.{IsLine}
-use Rattle.row_laws.specs.Voids.{LinesFit}
-use Rattle.order_laws.specs.Joining.{PacksAreOfSites}
-use Rattle.one_tree_laws.specs.Roles.{EventFact}
-use Rattle.one_tree_laws.proofs.Run.{sent_fact}
+use Rattle.calm_laws.specs.of_run_laws.Naming.{MayCome as MayComeIn}
+use Rattle.packet_format_laws.specs.of_row_laws.ByLine.{IsLine}
+use Rattle.packet_format_laws.specs.of_row_laws.Voids.{LinesFit}
+use Rattle.packet_format_laws.specs.of_order_laws.Joining.{PacksAreOfSites}
+use Rattle.packet_format_laws.specs.of_one_tree_laws.Roles.{EventFact}
+use Rattle.packet_format_laws.proofs.of_one_tree_laws.Run.{sent_fact}
 use Rattle.tree_laws.specs.Packets.{PacketFact}
-use Rattle.rest_laws.proofs.Roles.{roles_do}
+use Rattle.packet_format_laws.proofs.of_rest_laws.Roles.{roles_do}
 use Rattle.packet_format_laws.proofs.Run.{PacketsStand, kept_stand, packets_fit_now, run_stands}
-use Rattle.packet_order.specs.Counts.{FitsIfCounted}
+use Rattle.site_node.specs.of_packet_order.Counts.{FitsIfCounted}
 use Rattle.complete_laws.specs.MomentEvents.{EachEvent}
 use Rattle.complete_laws.specs.MomentMoments.{ComesInTime, MayCome}
 use Rattle.complete_laws.proofs.MomentCourse.{each_both, each_event, last_line, round_of_line}

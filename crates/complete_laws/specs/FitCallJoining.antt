@@ -6,8 +6,8 @@ use Rattle.trace_book.specs.declared.operation.Op.{Op}
 use Rattle.trace_book.specs.declared.operation.Op.TheVariants as op
 use Rattle.wire_messages.specs.declared.body.Body.{Body}
 use Rattle.wire_messages.specs.declared.body.Body.TheVariants as body
-use Rattle.inode_pack.specs.declared.new_version.NewVersion.{NewVersion}
-use Rattle.operation_effects.specs.Joinable.{AreJoinable}
+use Rattle.stored_versions.specs.declared.new_version.NewVersion.{NewVersion}
+use Rattle.packet_format_laws.specs.of_operation_effects.Joinable.{AreJoinable}
 use Rattle.dir_format.specs.Contents.{entries_of}
 use Rattle.dir_reconcile.specs.Joins.{AgreeOnKinds}
 use Rattle.role_steps.specs.Mends.{mending}
@@ -16,8 +16,8 @@ use Rattle.role_steps.specs.Storage.{instance_of}
 use Rattle.role_steps.specs.Views.{SiteView}
 use Rattle.role_steps.specs.declared.pulls.Pull.{Pull}
 use Rattle.the_run.specs.Steps.{from_user, group_of}
-use Rattle.pack_laws.specs.Packs.{HasPack}
-use Rattle.site_packs.specs.Packs.{has_group}
+use Rattle.packet_format_laws.specs.of_pack_laws.Packs.{HasPack}
+use Rattle.site_node.specs.of_site_packs.Packs.{has_group}
 
 -- the site has the packs that the cluster gives it
 abbrev pub HasGroups : Config → ℕ → List ℕ → Type 0

@@ -6,7 +6,7 @@ use Rattle.schedule_lines.specs.declared.line.Line.TheVariants as line
 use Rattle.role_steps.specs.Views.{SiteView, Event}
 use Rattle.the_run.specs.Disks.{Disk}
 use Rattle.the_run.specs.Worlds.{World, Running, Stopped, links_of, place_at}
-use Rattle.site_packs.specs.Packs.{groups_at}
+use Rattle.site_node.specs.of_site_packs.Packs.{groups_at}
 use Rattle.site_node.specs.Fitting.{CanAct}
 use Rattle.complete_laws.specs.MomentEvents.{EachEvent}
 

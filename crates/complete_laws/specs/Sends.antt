@@ -5,7 +5,7 @@ use Rattle.locus_ids.specs.declared.config.Config.{Config}
 use Rattle.role_steps.specs.Views.{Event, SiteView}
 use Rattle.the_run.specs.Steps.{step}
 use Rattle.the_run.specs.Worlds.{World, Running, links_of, place_at}
-use Rattle.packet_order.specs.Counts.{FitsIfCounted}
+use Rattle.site_node.specs.of_packet_order.Counts.{FitsIfCounted}
 
 -- all that the event sends is of the format, where its counts are of their sizes
 abbrev pub SendsFit : Config → ℕ → Event → World → Type 0

@@ -3,6 +3,7 @@ use Rattle.std.proofs.Common.{◌≡◌, ◌≢◌, ℕ, zero, suc, ◌+◌, ◌
 use Rattle.std.proofs.lemmas.Bool.Decides.{nat_tests}
 use Rattle.std.proofs.lemmas.Bool.{cases_lt, cases_eq}
 use Rattle.std.specs.List.{list_any}
+use Rattle.locus_ids.specs.Sizes.{sites_max}
 use Rattle.locus_ids.specs.declared.ids.FileId.{FileId}
 use Rattle.locus_ids.specs.declared.ids.Stamp.{Stamp}
 use Rattle.version_vector.specs.Counters.{part, AllLe, raised}
@@ -92,7 +93,7 @@ any_joined P f g n t each (x ∷ xs) k h =
     (true_or_false (f x))
 
 pub joined_any : {X : Type 0} (f : X → Bool) (g : X → List ℕ) (n t : ℕ) → 0 < n → ((x : X) → n ≤ part (g x) t → f x ≡ true) → (xs : List X) → n ≤ part (joined_all g xs) t → list_any f xs ≡ true
-joined_any f g n t pos each [] h = absurd (omega (arith, part-zeros 16 t))
+joined_any f g n t pos each [] h = absurd (omega (arith, part-zeros sites_max t))
 joined_any f g n t pos each (x ∷ xs) h =
     ⊎_elim
     (λ (e : part (g x) t < n). let there : n ≤ part (joined_all g xs) t = omega (arith, part-joined (g x) (joined_all g xs) t) in rw (joined_any f g n t pos each xs there) (or_true (f x)))
@@ -117,7 +118,7 @@ raised_step J a v low_a low k isnt le =
     (cases_eq a.site v.site)
 
 pub ancestor-within : (file : FileId) (h : List Version) → Counted file h → (a b : Stamp) → 1 ≤ a.site → 0 < a.n → a.n ≤ part (written h file b) (place a) → is_ancestor h file a b ≡ true
-ancestor-within file [] k a b low pos e = absurd (omega (arith, part-zeros 16 (place a)))
+ancestor-within file [] k a b low pos e = absurd (omega (arith, part-zeros sites_max (place a)))
 ancestor-within file (v ∷ older) k a b low pos e =
     ⊎_elim
     (λ (vb : same_stamp v.stamp b ≡ true). ancestor_here file v older a b k.0.mine vb ∙

@@ -4,6 +4,7 @@ use Rattle.std.proofs.lemmas.Bool.{cases_eq, cases_lt}
 use Rattle.std.proofs.lemmas.Bool.Decides.{nat_tests}
 use Rattle.std.specs.List.{filter}
 use Rattle.std.specs.Result.{IfOk, result_unwrap_or}
+use Rattle.locus_ids.specs.Sizes.{sites_max}
 use Rattle.locus_ids.specs.declared.ids.Stamp.{Stamp}
 use Rattle.version_vector.specs.Counters.{part, raised, all_le}
 use Rattle.version_vector.proofs.Counting.{part-joined, part-raised_same, part-raised_other, raised_up, AllLe-from_test}
@@ -95,7 +96,7 @@ module _ (h : List Version) where
       (cases_eq (place a) at)
 
 -- a new version on parents whose written vectors join to v keeps it all, where v covers the site's own commits
-grown_good : (w : Table) (site : ℕ) (parents : List Stamp) (v : List ℕ) → 1 ≤ site → site ≤ 16 → Good w →
+grown_good : (w : Table) (site : ℕ) (parents : List Stamp) (v : List ℕ) → 1 ≤ site → site ≤ sites_max → Good w →
     Each (λ p. is_in w.history the_file p ≡ true) parents →
     ((t : ℕ) → part v t ≡ part (joined_all (written w.history the_file) parents) t) →
     ((a : Stamp) → is_in w.history the_file a ≡ true → place a ≡ site - 1 → a.n ≤ part v (site - 1)) →
@@ -146,7 +147,7 @@ either false x y f g = g
 site_low : (site : ℕ) → is_site site ≡ true → 1 ≤ site
 site_low site h = grind (arith, nat_tests)
 
-site_high : (site : ℕ) → is_site site ≡ true → site ≤ 16
+site_high : (site : ℕ) → is_site site ≡ true → site ≤ sites_max
 site_high site h = grind (arith, nat_tests)
 
 counted_good : (w : Table) (site : ℕ) (parents : List Stamp) (v : List ℕ) → Good w →
@@ -174,7 +175,7 @@ committed_good : (w : Table) (site : ℕ) (o : Option Held) → copy_of w site �
 committed_good w site None e good = first_good w site w.history refl good
 committed_good w site (Some c) e good = counted_good w site (c.stamp ∷ []) c.vector good
     ((good.copies (site - 1) c e).there, tt)
-    (λ t. let k : part c.vector t ≡ part (written w.history the_file c.stamp) t = (good.copies (site - 1) c e).vector t in omega (arith, part-joined (written w.history the_file c.stamp) zeros t, part-zeros 16 t))
+    (λ t. let k : part c.vector t ≡ part (written w.history the_file c.stamp) t = (good.copies (site - 1) c e).vector t in omega (arith, part-joined (written w.history the_file c.stamp) zeros t, part-zeros sites_max t))
     (own_covers w (site - 1) c good e)
 
 takes_covers : (c : Held) (o : Option Held) (d : Held) → o ≡ Some d → takes c o ≡ true → (t : ℕ) → part d.vector t ≤ part c.vector t
@@ -321,7 +322,7 @@ start_good = record {
   once = tt;
   numbers = tt;
   own = tt;
-  copies = λ s c e. absurd (no_copies 16 s c e);
+  copies = λ s c e. absurd (no_copies sites_max s c e);
   last = λ a e. absurd (cc);
 }
 

@@ -3,6 +3,7 @@ use Rattle.std.proofs.Common.{◌≡◌, ◌≢◌, ℕ, ◌+◌, ◌-◌, ◌�
 use Rattle.std.proofs.lemmas.Bool.{cases_lt, cases_eq}
 use Rattle.std.proofs.lemmas.Bool.Decides.{nat_tests}
 use Rattle.std.specs.List.{filter}
+use Rattle.locus_ids.specs.Sizes.{sites_max}
 use Rattle.locus_ids.specs.declared.ids.FileId.{FileId}
 use Rattle.locus_ids.specs.declared.ids.Stamp.{Stamp}
 use Rattle.version_vector.specs.Counters.{part, raised}
@@ -33,12 +34,12 @@ number : (file : FileId) (v : Version) (older : List Version) → v.file ≡ fil
 number file v older e k = subst (λ (f : FileId). v.stamp.n ≡ made_at older f v.stamp.site + 1) e k.0
 
 pub joined_bound : {X : Type 0} (g : X → List ℕ) (n t : ℕ) → ((x : X) → part (g x) t ≤ n) → (xs : List X) → part (joined_all g xs) t ≤ n
-joined_bound g n t each [] = omega (arith, part-zeros 16 t)
+joined_bound g n t each [] = omega (arith, part-zeros sites_max t)
 joined_bound g n t each (x ∷ xs) = omega (arith, part-joined (g x) (joined_all g xs) t, each x, joined_bound g n t each xs)
 
 -- a written vector counts no more than the site committed
 pub written_low : (file : FileId) (h : List Version) → Counted file h → (b : Stamp) (site : ℕ) → 1 ≤ site → part (written h file b) (site - 1) ≤ made_at h file site
-written_low file [] k b site low = omega (arith, part-zeros 16 (site - 1))
+written_low file [] k b site low = omega (arith, part-zeros sites_max (site - 1))
 written_low file (v ∷ older) k b site low =
     let parents : part (base file v older) (site - 1) ≤ made_at older file site = joined_bound (written older file) (made_at older file site) (site - 1) (λ p. written_low file older k.1 p site low) v.parents in
     let before : part (written older file b) (site - 1) ≤ made_at older file site = written_low file older k.1 b site low in

@@ -3,6 +3,7 @@ use Rattle.std.proofs.Common.{Ok, Err, ℕ, zero, suc, ◌+◌, ◌-◌, ◌<◌
 use Rattle.std.proofs.lemmas.List.{take_more, take_more_set}
 use Rattle.std.proofs.lemmas.Bool.{lt-ltb}
 use Rattle.std.proofs.lemmas.Bool.Decides.{nat_tests}
+use Rattle.locus_ids.specs.Sizes.{sites_max}
 use Rattle.locus_ids.specs.declared.ids.Stamp.{Stamp}
 use Rattle.version_vector.specs.Counters.{part, raised}
 use Rattle.version_vector.proofs.Counting.{part-raised_same}
@@ -22,7 +23,7 @@ set-put [] i c h = absurd (omega arith)
 set-put (d ∷ cs) zero c h = refl
 set-put (d ∷ cs) (suc i) c h = ap (λ ds. d ∷ ds) (set-put cs i c (omega arith))
 
-pub site_test : (site : ℕ) → 1 ≤ site → site ≤ 16 → is_site site ≡ true
+pub site_test : (site : ℕ) → 1 ≤ site → site ≤ sites_max → is_site site ≡ true
 site_test site low high = grind (arith, nat_tests)
 
 -- a counter that was raised was not spent
@@ -31,10 +32,10 @@ room v vector at n e k h =
     let grew : part vector at ≡ part v at + 1 = ap (λ (u : List ℕ). part u at) e ∙ part-raised_same v at in
     omega arith
 
-pub counted_ok : (w : Table) (site : ℕ) (parents : List Stamp) (v : List ℕ) → 1 ≤ site → site ≤ 16 → part v (site - 1) < 4294967295 → counted w site parents v ≡ Ok (grown w site parents v)
+pub counted_ok : (w : Table) (site : ℕ) (parents : List Stamp) (v : List ℕ) → 1 ≤ site → site ≤ sites_max → part v (site - 1) < 4294967295 → counted w site parents v ≡ Ok (grown w site parents v)
 counted_ok w site parents v low high h = rw (site_test site low high, lt-ltb (part v (site - 1)) 4294967295 h) refl
 
-pub lacks_memory : (w : Table) (site : ℕ) (parents : List Stamp) (v : List ℕ) → 1 ≤ site → site ≤ 16 → part v (site - 1) < 4294967295 → Does {X = Stamp} w (counted w site parents v) (Err faults.NoMemory) w
+pub lacks_memory : (w : Table) (site : ℕ) (parents : List Stamp) (v : List ℕ) → 1 ≤ site → site ≤ sites_max → part v (site - 1) < 4294967295 → Does {X = Stamp} w (counted w site parents v) (Err faults.NoMemory) w
 lacks_memory w site parents v low high h = rw (counted_ok w site parents v low high h) refl
 
 pub table_eq : (a b : List Version) (c d : List (Option Held)) → a ≡ b → c ≡ d → let u : Table = record { history = a; copies = c } in let w : Table = record { history = b; copies = d } in u ≡ w
@@ -42,7 +43,7 @@ table_eq a b c d e f = cc
 
 -- what the table has after a new version
 pub does_grow : (w : Table) (site at : ℕ) (parents : List Stamp) (v vector : List ℕ) (s : Stamp) (ps : List Stamp) (content : List ℕ) (history new : List Version) (copies : List (Option Held)) →
-    1 ≤ site → site ≤ 16 → part v (site - 1) < 4294967295 → at ≡ site - 1 →
+    1 ≤ site → site ≤ sites_max → part v (site - 1) < 4294967295 → at ≡ site - 1 →
     history ≡ w.history → copies ≡ w.copies → vector ≡ raised v (site - 1) → s.site ≡ site → s.n ≡ part vector (site - 1) → ps ≡ parents → content ≡ [] →
     (let x : Version = record { file = the_file; site = s.site; stamp = s; parents = ps; content = content } in new ≡ x ∷ history) → at < length copies →
     (let t : Table = record { history = new; copies = set copies at (Some (record { site = s.site; stamp = s; vector = vector })) } in Does {X = Stamp} w (counted w site parents v) (Ok s) t)

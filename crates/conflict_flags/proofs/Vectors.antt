@@ -1,6 +1,7 @@
 -- The written vector that is joined from those of the parents is the vector of counters that the history alone gives.
 use Rattle.std.proofs.Common.{◌≡◌, ◌≢◌, ℕ, zero, suc, ◌+◌, ◌-◌, ◌≤◌, ◌<◌, cond, true, false, ◌==◌, List, [], ◌∷◌, map, refl, sym, ◌∙◌, ap, arith, ⊎_elim}
 use Rattle.std.proofs.lemmas.Bool.{cases_lt, cases_eq}
+use Rattle.locus_ids.specs.Sizes.{sites_max}
 use Rattle.locus_ids.specs.declared.ids.FileId.{FileId}
 use Rattle.locus_ids.specs.declared.ids.Stamp.{Stamp}
 use Rattle.version_vector.specs.Counters.{part, AllLe, raised}
@@ -16,10 +17,10 @@ use Rattle.conflict_flags.proofs.Numbers.{joined_bound, eq_true, eq_false}
 -- the stamp names the site that committed the version, which is one of the sixteen
 pub record IsOwn (v : Version) : Type 0 where
   pub same : v.site ≡ v.stamp.site
-  pub most : v.stamp.site ≤ 16
+  pub most : v.stamp.site ≤ sites_max
 
 greatest-joined : (f : Stamp → ℕ) (g : Stamp → List ℕ) (t : ℕ) → ((p : Stamp) → f p ≡ part (g p) t) → (ps : List Stamp) → greatest f ps ≡ part (joined_all g ps) t
-greatest-joined f g t same [] = sym (part-zeros 16 t)
+greatest-joined f g t same [] = sym (part-zeros sites_max t)
 greatest-joined f g t same (p ∷ ps) = omega (arith, same p, greatest-joined f g t same ps, part-joined (g p) (joined_all g ps) t)
 
 counter-here : (file : FileId) (v : Version) (older : List Version) (b : Stamp) (site : ℕ) → v.file ≡ file → same_stamp v.stamp b ≡ true →
@@ -37,7 +38,7 @@ none-if a b e = rw (eq_false a b e) refl
 
 -- a counter by the history is that of the joined vector
 counter-written : (file : FileId) (h : List Version) → Counted file h → Each IsOwn h → (b : Stamp) (site : ℕ) → 1 ≤ site → counter h file b site ≡ part (written h file b) (site - 1)
-counter-written file [] k own b site low = sym (part-zeros 16 (site - 1))
+counter-written file [] k own b site low = sym (part-zeros sites_max (site - 1))
 counter-written file (v ∷ older) k own b site low = ⊎_elim
     (λ (vb : same_stamp v.stamp b ≡ true).
     let parents : greatest (λ p. counter older file p site) v.parents ≡ part (base file v older) (site - 1) =
@@ -61,11 +62,11 @@ counter-written file (v ∷ older) k own b site low = ⊎_elim
     (true_or_false (same_stamp v.stamp b))
 
 -- no seventeenth site has a counter
-written-past : (file : FileId) (h : List Version) → Counted file h → Each IsOwn h → (t : ℕ) → 16 ≤ t → (b : Stamp) → part (written h file b) t ≤ 0
-written-past file [] k own t past b = omega (arith, part-zeros 16 t)
+written-past : (file : FileId) (h : List Version) → Counted file h → Each IsOwn h → (t : ℕ) → sites_max ≤ t → (b : Stamp) → part (written h file b) t ≤ 0
+written-past file [] k own t past b = omega (arith, part-zeros sites_max t)
 written-past file (v ∷ older) k own t past b = ⊎_elim
     (λ (vb : same_stamp v.stamp b ≡ true).
-    let most : v.stamp.site ≤ 16 = own.0.most in
+    let most : v.stamp.site ≤ sites_max = own.0.most in
     let apart : t ≢ place v.stamp = (λ e. absurd (omega arith)) in
     let here : part (written (v ∷ older) file b) t ≡ part (base file v older) t =
     ap (λ (u : List ℕ). part u t) (written_here file v older b k.0 vb) ∙ part-raised_other (base file v older) (place v.stamp) t apart in
@@ -87,11 +88,11 @@ past-numbers f (suc n) first (suc i) h = past-numbers f n (first + 1) i (omega a
 -- the two are one vector, counter by counter
 pub vector-written : (file : FileId) (h : List Version) → Counted file h → Each IsOwn h → (b : Stamp) (t : ℕ) → part (written h file b) t ≡ part (vector_of h file b) t
 vector-written file h k own b t = ⊎_elim
-    (λ (lt : t < 16).
+    (λ (lt : t < sites_max).
     let same : t ≡ (1 + t) - 1 = omega arith in
-    ap (λ (i : ℕ). part (written h file b) i) same ∙ (sym (counter-written file h k own b (1 + t) (omega arith)) ∙ sym (part-numbers (counter h file b) 16 1 t lt)))
-    (λ (le : 16 ≤ t). omega (arith, written-past file h k own t le b, past-numbers (counter h file b) 16 1 t le))
-    (cases_lt t 16)
+    ap (λ (i : ℕ). part (written h file b) i) same ∙ (sym (counter-written file h k own b (1 + t) (omega arith)) ∙ sym (part-numbers (counter h file b) sites_max 1 t lt)))
+    (λ (le : sites_max ≤ t). omega (arith, written-past file h k own t le b, past-numbers (counter h file b) sites_max 1 t le))
+    (cases_lt t sites_max)
 
 -- vectors that are alike stand alike
 pub alike_le : (a b c d : List ℕ) → ((t : ℕ) → part a t ≡ part c t) → ((t : ℕ) → part b t ≡ part d t) → AllLe a b → AllLe c d

@@ -1,6 +1,7 @@
 -- The copies of one file by site, its history, and what each event does.
 use Rattle.std.specs.Prelude.{◌≡◌, ℕ, zero, suc, ◌+◌, ◌-◌, Bool, true, cond, ◌&&◌, nat_lt, nat_le, List, [], ◌∷◌, Option, Some, None, replicate, Result, Ok, Err}
 use Rattle.std.specs.Result.{result_unwrap_or}
+use Rattle.locus_ids.specs.Sizes.{sites_max}
 use Rattle.locus_ids.specs.declared.ids.FileId.{FileId}
 use Rattle.locus_ids.specs.declared.ids.Stamp.{Stamp}
 use Rattle.locus_ids.specs.declared.memory.NoMemory.{NoMemory}
@@ -53,7 +54,7 @@ grown t site parents v =
     }
 
 abbrev pub is_site : ℕ → Bool
-is_site site = nat_le 1 site && nat_le site 16
+is_site site = nat_le 1 site && nat_le site sites_max
 
 -- the same while the counter isn't spent; what is no site makes no version
 abbrev pub counted : Table → ℕ → List Stamp → List ℕ → Result Table TableFault
@@ -109,7 +110,7 @@ Does old (Err f) (Err g) new = (g ≡ f) × (new ≡ old)
 
 -- a table of no versions
 abbrev pub start : Table
-start = record { history = []; copies = replicate 16 None }
+start = record { history = []; copies = replicate sites_max None }
 
 -- a whole list of events
 abbrev pub run : List Event → Table → Table

@@ -2,6 +2,7 @@
 -- counters as the written vector of the history alone. A history is a list of versions, the newest first. The counter of
 -- site s stands at place s - 1.
 use Rattle.std.specs.Prelude.{◌+◌, length, filter, ◌≡◌, ℕ, ◌-◌, ◌==◌, Bool, false, cond, ◌&&◌, List, [], ◌∷◌, replicate}
+use Rattle.locus_ids.specs.Sizes.{sites_max}
 use Rattle.locus_ids.specs.declared.ids.FileId.{FileId}
 use Rattle.locus_ids.specs.declared.ids.Stamp.{Stamp}
 use Rattle.version_vector.specs.Counters.{joined, raised}
@@ -10,7 +11,7 @@ use Rattle.commit_graph.specs.Versions.{same_file, is_version, is_in, is_ancesto
 
 -- no commits
 abbrev pub zeros : List ℕ
-zeros = replicate 16 0
+zeros = replicate sites_max 0
 
 -- the join of what each has
 abbrev pub joined_all : {X : Type 0} → (X → List ℕ) → List X → List ℕ

@@ -11,7 +11,7 @@ use locus_ids::{NoMemory, SiteId};
 use std::alloc::Global;
 
 /// What may happen to a table of copies.
-#[derive(Clone, Copy, Debug)]
+#[derive(Clone, Copy)]
 pub enum Event {
     Commit(SiteId),
     /// The first site takes the copy of the second.

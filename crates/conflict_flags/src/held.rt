@@ -4,16 +4,17 @@ ghost use Rattle.locus_ids.specs.declared.ids.Stamp.{Stamp};
 ghost use Rattle.commit_graph.specs.Versions.{same_stamp, is_stamp_below, with_stamp};
 ghost use Rattle.conflict_flags.specs.Copies.{is_below, is_maximal, tops, with_held, maxima, two_beside, least_of, stamps_of};
 
+use locus_ids::sizes::SITES;
 use locus_ids::{ItemList, NoMemory, Stamp};
 use std::alloc::Global;
 use version_vector::{Ordering4, Vector};
 
 /// The copy of one file that a site holds.
-#[derive(Clone, Copy, Debug, PartialEq, Eq)]
+#[derive(Clone, Copy, PartialEq, Eq)]
 pub struct Held {
     pub site: u8,
     pub stamp: Stamp,
-    pub vector: Vector<16>,
+    pub vector: Vector<SITES>,
 }
 
 /// Copies of one file.
@@ -39,7 +40,7 @@ pub fn two_beside(l: &HeldList) -> Option<(Stamp, Stamp)>
 }
 
 /// What an ascending list of stamps begins with.
-#[derive(Clone, Copy, Debug)]
+#[derive(Clone, Copy)]
 enum Least {
     Nothing,
     One(Stamp),
@@ -140,7 +141,7 @@ fn is_above(other: &Held, held: &Held) -> bool
     is_below(&held.vector, &other.vector)
 }
 
-pub(crate) fn is_below(low: &Vector<16>, high: &Vector<16>) -> bool
+pub(crate) fn is_below(low: &Vector<SITES>, high: &Vector<SITES>) -> bool
     ensures { result ≡ is_below low.now high.now }
 {
     low.compare(high) == Ordering4::Below

@@ -1,5 +1,6 @@
 ghost use Rattle.std.specs.Prelude.{◌≡◌, ◌+◌, ◌-◌, ◌<◌, ◌≤◌, ◌↔◌, List, [], ◌∷◌, length, take, true, IfOk, OnOk, OnErr, map, Option};
 ghost use Rattle.std.specs.Option.{option_copied};
+ghost use Rattle.locus_ids.specs.Sizes.{sites_max};
 ghost use Rattle.version_vector.specs.Counters.{part, raised};
 ghost use Rattle.conflict_flags.specs.declared.held.Held.{Held};
 ghost use Rattle.conflict_flags.specs.Written.{joined_all};
@@ -9,6 +10,7 @@ ghost use Rattle.conflict_flags.specs.Table.{Table, start, happens, stepped, Doe
 use crate::Event;
 use crate::held::{Held, is_below, is_maximal, maxima_of};
 use commit_graph::{History, Version};
+use locus_ids::sizes::SITES;
 use locus_ids::{Bytes, FileId, NoMemory, SiteId, Stamp, Stamps};
 use std::alloc::Global;
 use std::marker::Model;
@@ -18,7 +20,7 @@ use version_vector::Vector;
 pub const TABLE_FILE: FileId = FileId { group: 0, ino: 2 };
 
 /// Why a call of a table is refused.
-#[derive(Clone, Copy, Debug, PartialEq, Eq)]
+#[derive(Clone, Copy, PartialEq, Eq)]
 pub enum TableFault {
     /// A site commits without a copy, and not the first version of all; the site to adopt from has no copy; or the
     /// copy of a site that resolves is not one of the maxima.
@@ -33,18 +35,19 @@ pub enum TableFault {
 pub struct CopyTable {
     alloc: Global,
     history: History,
-    copies: [Option<Held>; 16],
+    copies: [Option<Held>; SITES],
 }
 
 impl Model for CopyTable {
     ghost use Rattle.std.specs.Prelude.{◌≡◌, length};
+    ghost use Rattle.locus_ids.specs.Sizes.{sites_max};
     ghost use Rattle.conflict_flags.specs.Table.{Table};
 
     ghost Value = { Table };
 
     ghost view = { λ t. record { history = t.history; copies = t.copies } };
 
-    ghost invariant = { λ t. length t.copies ≡ 16 };
+    ghost invariant = { λ t. length t.copies ≡ sites_max };
 }
 
 impl CopyTable {
@@ -55,7 +58,7 @@ impl CopyTable {
         CopyTable {
             alloc,
             history: History::new(alloc),
-            copies: [None; 16],
+            copies: [None; SITES],
         }
     }
 
@@ -152,7 +155,12 @@ impl CopyTable {
     }
 
     /// A new version of the site on top of these copies.
-    fn grow(&mut self, site: SiteId, tops: &[Held], joined: Vector<16>) -> Result<Stamp, TableFault>
+    fn grow(
+        &mut self,
+        site: SiteId,
+        tops: &[Held],
+        joined: Vector<SITES>,
+    ) -> Result<Stamp, TableFault>
         ensures does { Does self.old (counted self.old site (stamps_of tops.now) joined) result self.new }
         ensures stamp { IfOk result (IsNewest self.new) }
     {
@@ -189,7 +197,7 @@ impl CopyTable {
 fn place_of(site: SiteId) -> usize
     ensures value { result ≡ site - 1 }
     ensures low { 1 ≤ site }
-    ensures high { site ≤ 16 }
+    ensures high { site ≤ sites_max }
 {
     (site.get() - 1) as usize
 }
@@ -218,23 +226,24 @@ fn is_wanted(copy: &Held, own: Option<Held>) -> bool
 /// The copies that there are.
 #[derive(Drop)]
 struct Present {
-    items: [Held; 16],
+    items: [Held; SITES],
     len: usize,
 }
 
 impl Model for Present {
     ghost use Rattle.std.specs.Prelude.{List, take, ◌≤◌};
+    ghost use Rattle.locus_ids.specs.Sizes.{sites_max};
     ghost use Rattle.conflict_flags.specs.declared.held.Held.{Held};
 
     ghost Value = { List Held };
 
     ghost view = { λ p. take p.len p.items };
 
-    ghost invariant = { λ p. p.len ≤ 16 };
+    ghost invariant = { λ p. p.len ≤ sites_max };
 }
 
 impl Present {
-    fn of(copies: &[Option<Held>; 16]) -> Present
+    fn of(copies: &[Option<Held>; SITES]) -> Present
         ensures { result ≡ present copies.now }
     {
         let nothing = Held {
@@ -242,9 +251,9 @@ impl Present {
             stamp: Stamp { site: 0, n: 0 },
             vector: Vector::zero(),
         };
-        let mut items = [nothing; 16];
+        let mut items = [nothing; SITES];
         let mut len = 0;
-        for i in 0..16 {
+        for i in 0..SITES {
             if let Some(held) = copies[i] {
                 items[len] = held;
                 len += 1;
@@ -261,7 +270,7 @@ impl Present {
 }
 
 /// The join of the vectors of the maximal copies.
-fn join_of_tops(all: &[Held]) -> Vector<16>
+fn join_of_tops(all: &[Held]) -> Vector<SITES>
     ensures { result ≡ joined_all (λ held. held.vector) (tops all.now) }
 {
     let mut joined = Vector::zero();

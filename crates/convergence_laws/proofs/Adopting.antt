@@ -1,5 +1,7 @@
 -- A try of adoption where one pull could be adopted: it adopts that or another one, and leaves what is pulled of the first.
 use Rattle.std.proofs.Common.{◌≡◌, ℕ, ◌==◌, ◌⊎◌, Bool, true, false, List, [], ◌∷◌, Option, Some, None, refl, sym, ◌∙◌, ap, subst, inl, inr}
+use Rattle.role_steps.proofs.of_plain_facts.Options.{none_some, some_same}
+use Rattle.role_steps.proofs.of_plain_facts.Tests.{true_false}
 use Rattle.role_steps.specs.Adoption.{table_group, copy_adopted, is_ready, is_above_own, notes_own_at, notes_own, without_pull, with_store, adopts_pull, adopts_first}
 use Rattle.role_steps.specs.Pulling.{pull_key}
 use Rattle.role_steps.specs.Storage.{copy_of, with_copy}
@@ -9,7 +11,6 @@ use Rattle.role_steps.specs.declared.pulls.Pull.{Pull}
 use Rattle.role_steps.specs.declared.synchronizing.SyncTable.{SyncTable}
 use Rattle.the_run.specs.Kept.{Among}
 use Rattle.orderly_laws.proofs.Numbers.{left_without}
-use Rattle.calm_laws.proofs.Lists.{true_false, some_is, none_some}
 use Rattle.convergence_laws.proofs.Files.{KeepsFiles, files_itself, have_files}
 use Rattle.convergence_laws.proofs.Lists.{row_without}
 
@@ -92,7 +93,7 @@ tried f all (p ∷ ps) v k could among pulls first there ready above =
     mine is true true r e = adopted_one f all p v k could (among p (inl refl)) e pulls (inl is)
 
     by_key : (b : Bool) → (pull_key p == k) ≡ b → ◌≡◌ {A = Option Pull} (elim b [ true ↦ Some p | false ↦ row pull_key k ps ]) (Some could) → Later → Dropped → Adopts all v k could (adopts_first f (p ∷ ps) v)
-    by_key true e h on off = mine (some_is p could h) (is_ready v p) (is_above_own p (copy_of v.store p.file)) refl refl
+    by_key true e h on off = mine (some_same p could h) (is_ready v p) (is_above_own p (copy_of v.store p.file)) refl refl
     by_key false e h on off = later e h on off (is_ready v p)
 
 -- ---- what any try keeps ----

@@ -1,6 +1,8 @@
 -- A packet comes to a member of an epoch that takes it: what that makes of the world, and what notices name then.
 use Rattle.std.proofs.Common.{◌≡◌, ◌≢◌, ℕ, ◌+◌, ◌≤◌, ◌==◌, ◌⊎◌, Bool, true, false, not, ◌&&◌, ◌||◌, List, ◌++◌, length, Option, Some, None, refl, sym, ◌∙◌, ap, subst, inl, inr, arith, length-append}
 use Rattle.std.proofs.lemmas.Bool.Decides.{nat_tests}
+use Rattle.role_steps.proofs.of_plain_facts.Numbers.{equal_self}
+use Rattle.role_steps.proofs.of_plain_facts.Tests.{and_true, both_true, true_false}
 use Rattle.locus_ids.specs.declared.config.Config.{Config}
 use Rattle.locus_ids.specs.declared.sites.Links.{Links}
 use Rattle.schedule_lines.specs.declared.line.ScheduleLine.{ScheduleLine}
@@ -27,7 +29,6 @@ use Rattle.calm_laws.specs.Rounds.{IsInRound, Delivery}
 use Rattle.calm_laws.proofs.Calls.{OnlyCalls}
 use Rattle.calm_laws.proofs.Ends.{ends_calls, step_is}
 use Rattle.calm_laws.proofs.Events.{arrives_cases}
-use Rattle.calm_laws.proofs.Lists.{true_false, both_true}
 use Rattle.calm_laws.proofs.Rounds.{in_round}
 use Rattle.calm_laws.proofs.Ticks.{no_round}
 use Rattle.convergence_laws.specs.Offers.{Offer, is_for, names, named}
@@ -37,20 +38,11 @@ use Rattle.convergence_laws.proofs.Named.{named_both, named_less, named_rest}
 
 -- ---- whom a packet is for ----
 
-equal : (i j : ℕ) → (i == j) ≡ true → i ≡ j
-equal i j h = grind (arith, nat_tests)
-
-number_same : (n : ℕ) → (n == n) ≡ true
-number_same n = grind (arith, nat_tests)
-
 kept_through : (a b f : Bool) → a ≡ true → b ≡ true → not (a && (f || b)) ≡ false
 kept_through true true true p q = refl
 kept_through true true false p q = refl
 kept_through true false f p q = absurd (true_false (sym q))
 kept_through false b f p q = absurd (true_false (sym p))
-
-both : (x y : Bool) → x ≡ true → y ≡ true → (x && y) ≡ true
-both x y p q = ap (λ (z : Bool). z && y) p ∙ q
 
 -- a packet for a member is taken there
 pub for_taken : (e : InEpoch) (s : ℕ) (p : Packet) (v : SiteView) → v.epoch ≡ Some e → v.boot ≡ boot_in e.members.boot s → is_for e s p ≡ true → is_dropped p v ≡ false
@@ -63,7 +55,7 @@ for_taken e s p v inside boot h =
 pub taken_for : (e : InEpoch) (p : Packet) (v : SiteView) → v.epoch ≡ Some e → v.boot ≡ boot_in e.members.boot p.to → is_forming p ≡ false → is_dropped p v ≡ false → is_for e p.to p ≡ true
 taken_for e p v inside boot forms taken =
     let k : ((p.to_boot == v.boot) ≡ true) × (is_framed p v.epoch ≡ true) = undropped (p.to_boot == v.boot) (is_forming p) (is_framed p v.epoch) forms taken in
-    both (p.to == p.to) _ (number_same p.to) (both (p.to_boot == boot_in e.members.boot p.to) (is_framed p (Some e)) (ap (λ (n : ℕ). p.to_boot == n) (sym boot) ∙ k.0) (ap (is_framed p) (sym inside) ∙ k.1))
+    and_true (p.to == p.to) _ (equal_self p.to) (and_true (p.to_boot == boot_in e.members.boot p.to) (is_framed p (Some e)) (ap (λ (n : ℕ). p.to_boot == n) (sym boot) ∙ k.0) (ap (is_framed p) (sym inside) ∙ k.1))
   where
     undropped : (a f b : Bool) → f ≡ false → not (a && (f || b)) ≡ false → (a ≡ true) × (b ≡ true)
     undropped true false true q h = (refl, refl)

@@ -3,8 +3,11 @@
 use Rattle.std.proofs.Common.{◌≡◌, ℕ, ◌≤◌, ◌<◌, ◌==◌, ◌⊎◌, Bool, true, false, ◌&&◌, ◌||◌, List, [], ◌∷◌, ◌++◌, length, Some, refl, sym, ◌∙◌, ap, subst, inl, inr, arith}
 use Rattle.std.proofs.lemmas.Bool.Decides.{nat_tests}
 use Rattle.std.specs.List.{list_any}
+use Rattle.role_steps.proofs.of_plain_facts.Numbers.{equal}
+use Rattle.role_steps.proofs.of_plain_facts.Tests.{true_false}
 use Rattle.locus_ids.specs.declared.config.Config.{Config}
 use Rattle.locus_ids.specs.declared.ids.FileId.{FileId}
+use Rattle.locus_ids.specs.Sizes.{inode_span}
 use Rattle.schedule_lines.specs.declared.line.ScheduleLine.{ScheduleLine}
 use Rattle.commit_graph.specs.Versions.{same_file}
 use Rattle.wire_messages.specs.declared.body.Body.{Body}
@@ -29,8 +32,8 @@ use Rattle.the_run.specs.Steps.{from_user, group_of, takes_inside, tries_at, end
 use Rattle.the_run.specs.Worlds.{World, Numbered, Line, place_at, told_onto}
 use Rattle.the_run.proofs.Events.{onto_front}
 use Rattle.epoch_laws.specs.Forming.{FormsNone}
-use Rattle.store_laws.proofs.Commits.{keys_same}
-use Rattle.one_tree_laws.specs.Rest.{EachRest, RangeTold}
+use Rattle.pull_laws.proofs.of_store_laws.Commits.{keys_same}
+use Rattle.pull_laws.specs.of_one_tree_laws.Rest.{EachRest, RangeTold}
 use Rattle.orderly_laws.proofs.Places.{view_eq}
 use Rattle.orderly_laws.proofs.Rounds.{arrives_kept, next_among}
 use Rattle.calm_laws.specs.Carrying.{frame_of}
@@ -38,7 +41,6 @@ use Rattle.calm_laws.specs.Rounds.{Delivery}
 use Rattle.calm_laws.proofs.Delivered.{Takes, LeavesSite, takes_event}
 use Rattle.calm_laws.proofs.Ends.{handles}
 use Rattle.calm_laws.proofs.Facts.{RoundFacts, round_facts}
-use Rattle.calm_laws.proofs.Lists.{true_false}
 use Rattle.calm_laws.proofs.Moments.{GoesOn as LaterWorld, goes_itself, goes_round_kept}
 use Rattle.calm_laws.proofs.Rows.{TriesNone}
 use Rattle.convergence_laws.specs.Converging.{MayCommit}
@@ -81,11 +83,8 @@ number_test a b = over (a == b)
     over true = inl refl
     over false = inr refl
 
-equal : (i j : ℕ) → (i == j) ≡ true → i ≡ j
-equal i j h = grind (arith, nat_tests)
-
 -- a running instance is of another file than one that nobody has open here
-other_file : (s : Store) (i : Instance) (file : FileId) → Among i s.instances → i.stage ≡ running.Running → has_open s file ≡ false → i.file.ino < 65536 → file.ino < 65536 → (file_key i.file == file_key file) ≡ false
+other_file : (s : Store) (i : Instance) (file : FileId) → Among i s.instances → i.stage ≡ running.Running → has_open s file ≡ false → i.file.ino < inode_span → file.ino < inode_span → (file_key i.file == file_key file) ≡ false
 other_file s i file there runs closed low narrow = by_key (number_test (file_key i.file) (file_key file))
   where
     by_key : ((file_key i.file == file_key file) ≡ true) ⊎ ((file_key i.file == file_key file) ≡ false) → (file_key i.file == file_key file) ≡ false
@@ -126,7 +125,7 @@ lets_commit c e x v (body.Close serial) k = record {
 }
 lets_commit c e x v _ k = absurd k
 
-committed_here : (c : Config) (lines : List ScheduleLine) (n : ℕ) (e : InEpoch) (x : Numbered) (w : World) (file : FileId) (v : VersionRow) (b : Body) → (d : Delivery c lines n e x w) → x.packet.body ≡ b → LetsCommit c e x d.view b → file.ino < 65536 → IsFree (place_at w) x.packet.to file v →
+committed_here : (c : Config) (lines : List ScheduleLine) (n : ℕ) (e : InEpoch) (x : Numbered) (w : World) (file : FileId) (v : VersionRow) (b : Body) → (d : Delivery c lines n e x w) → x.packet.body ≡ b → LetsCommit c e x d.view b → file.ino < inode_span → IsFree (place_at w) x.packet.to file v →
     IsOnItsWay c e (place_at w) w.underway x.packet.to file v → IsOnItsWay c e (place_at (arrives c n x w)) (arrives c n x w).underway x.packet.to file v
 committed_here c lines n e x w file v b d is t narrow free old = by_commit t.commits
   where
@@ -197,7 +196,7 @@ committed_here c lines n e x w file v b d is t narrow free old = by_commit t.com
         told = takes.told (Shown (commit_record f i (next_stamp f (next_vector f i))))
             (subst (λ (o : Outcome SiteView). Among (Shown (commit_record f i (next_stamp f (next_vector f i)))) o.told) (sym (ap (λ (z : Body). takes_inside f x.packet.from z d.view) is ∙ t.is_store)) h.told)
 
-        low : i.file.ino < 65536
+        low : i.file.ino < inode_span
         low = (range_of c n takes.end.told w.trace (Shown (commit_record f i (next_stamp f (next_vector f i)))) told (subst (EachRest c) takes.trace later.rest.each)).0
 
         is_free : free.view ≡ d.view
@@ -233,7 +232,7 @@ committed_here c lines n e x w file v b d is t narrow free old = by_commit t.com
         g : Names e m x w.underway after.underway k.more
         g = names_then c lines n e m x w after.underway k.more d.round (next_among w w.over x d.next) k.underway
 
-pub commits_here : (c : Config) (lines : List ScheduleLine) (n : ℕ) (e : InEpoch) (x : Numbered) (w : World) (s : ℕ) (file : FileId) (v : VersionRow) → Delivery c lines n e x w → MayCommit x.packet.body → x.packet.to ≡ s → file.ino < 65536 → IsFree (place_at w) s file v →
+pub commits_here : (c : Config) (lines : List ScheduleLine) (n : ℕ) (e : InEpoch) (x : Numbered) (w : World) (s : ℕ) (file : FileId) (v : VersionRow) → Delivery c lines n e x w → MayCommit x.packet.body → x.packet.to ≡ s → file.ino < inode_span → IsFree (place_at w) s file v →
     IsOnItsWay c e (place_at w) w.underway s file v → IsOnItsWay c e (place_at (arrives c n x w)) (arrives c n x w).underway s file v
 commits_here c lines n e x w s file v d kind eq narrow free old = subst Goes eq mine free old
   where

@@ -5,6 +5,7 @@ use Rattle.locus_ids.specs.declared.config.Config.{Config}
 use Rattle.locus_ids.specs.declared.ids.EpochId.{EpochId}
 use Rattle.locus_ids.specs.declared.ids.FileId.{FileId}
 use Rattle.locus_ids.specs.declared.ids.Stamp.{Stamp}
+use Rattle.locus_ids.specs.Sizes.{inode_span}
 use Rattle.commit_graph.specs.Vectors.{vector_of}
 use Rattle.commit_graph.specs.Versions.{same_stamp, is_ancestor}
 use Rattle.commit_graph.proofs.Names.{same_stamp_eq}
@@ -27,10 +28,10 @@ use Rattle.holding_laws.proofs.Below.{commits_new, packs_hold}
 use Rattle.holding_laws.proofs.Holding.{sites_hold}
 use Rattle.holding_laws.proofs.Made.{held_stand}
 use Rattle.holding_laws.proofs.Rising.{held_rises}
-use Rattle.one_tree_laws.specs.Places.{InsideFact}
-use Rattle.one_tree_laws.specs.Rest.{IsRest, Past}
-use Rattle.one_tree_laws.proofs.Staying.{rest_below}
-use Rattle.one_tree_laws.proofs.ToldVectorTelling.{vectors_tell_newer}
+use Rattle.pull_laws.specs.of_one_tree_laws.Places.{InsideFact}
+use Rattle.pull_laws.specs.of_one_tree_laws.Rest.{IsRest, Past}
+use Rattle.pull_laws.proofs.of_one_tree_laws.Staying.{rest_below}
+use Rattle.pull_laws.proofs.of_one_tree_laws.ToldVectorTelling.{vectors_tell_newer}
 use Rattle.orderly_laws.specs.Calm.{AreTogether}
 use Rattle.calm_laws.specs.Carrying.{IsMember, frame_of}
 use Rattle.calm_laws.proofs.Delivered.{inside_fact}
@@ -65,7 +66,7 @@ past_in : (c : Config) (w : World) → RoundFacts c w → Past c w.trace
 past_in c w facts = record { followed = facts.fact.followed; rest = facts.rest }
 
 -- what a member has, by the trace
-pub copy_held : (c : Config) (e : InEpoch) (w : World) (s : ℕ) (v : SiteView) (f : FileId) → RoundFacts c w → AreTogether w e → IsMember e s → place_at w s ≡ Some (Running v) → f.ino < 65536 →
+pub copy_held : (c : Config) (e : InEpoch) (w : World) (s : ℕ) (v : SiteView) (f : FileId) → RoundFacts c w → AreTogether w e → IsMember e s → place_at w s ≡ Some (Running v) → f.ino < inode_span →
     copy_of v.store f ≡ option_map (copy_for f) (option_map (version_of c (entries w.trace) f) (held_in c (entries w.trace) e.id s f))
 copy_held c e w s v f facts together m here low = inside.store.copies.are f low ∙ ap (λ (o : Option Stamp). option_map (copy_for f) (option_map (version_of c (entries w.trace) f) o)) (sym now)
   where
@@ -76,7 +77,7 @@ copy_held c e w s v f facts together m here low = inside.store.copies.are f low 
     now = (sites_hold c (entries w.trace) (packs_hold c w.trace (rest_below c w.trace facts.rest).packed)).now e.id s f inside.frame.inside
 
 pub copies_rise : (c : Config) (e : InEpoch) (w u : World) (lines : List Line) (s : ℕ) (v y : SiteView) (f : FileId) → RoundFacts c w → RoundFacts c u → u.trace ≡ lines ++ w.trace → AreTogether w e → AreTogether u e → IsMember e s →
-    place_at w s ≡ Some (Running v) → place_at u s ≡ Some (Running y) → f.ino < 65536 → RisesTo (copy_of v.store f) (copy_of y.store f)
+    place_at w s ≡ Some (Running v) → place_at u s ≡ Some (Running y) → f.ino < inode_span → RisesTo (copy_of v.store f) (copy_of y.store f)
 copies_rise c e w u lines s v y f old new goes before after m was here low = by_held (held_in c (entries w.trace) e.id s f) refl
   where
     past : Past c u.trace

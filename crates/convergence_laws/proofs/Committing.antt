@@ -2,6 +2,7 @@
 use Rattle.std.proofs.Common.{◌≡◌, ℕ, ◌<◌, List, Some, refl, sym, ◌∙◌, ap, subst}
 use Rattle.locus_ids.specs.declared.config.Config.{Config}
 use Rattle.locus_ids.specs.declared.ids.FileId.{FileId}
+use Rattle.locus_ids.specs.Sizes.{inode_span}
 use Rattle.schedule_lines.specs.declared.line.ScheduleLine.{ScheduleLine}
 use Rattle.wire_messages.specs.declared.body.Body.{Body}
 use Rattle.wire_messages.specs.declared.body.Body.TheVariants as body
@@ -29,7 +30,7 @@ record KeepsTables (v u : SiteView) : Type 0 where
   round : u.round ≡ v.round
   epoch : u.epoch ≡ v.epoch
 
-pub committing_goes_on : (c : Config) (lines : List ScheduleLine) (n : ℕ) (e : InEpoch) (x : Numbered) (w : World) (s : ℕ) (file : FileId) (v : VersionRow) → Delivery c lines n e x w → MayCommit x.packet.body → IsMember e s → file.ino < 65536 → IsFree (place_at w) s file v →
+pub committing_goes_on : (c : Config) (lines : List ScheduleLine) (n : ℕ) (e : InEpoch) (x : Numbered) (w : World) (s : ℕ) (file : FileId) (v : VersionRow) → Delivery c lines n e x w → MayCommit x.packet.body → IsMember e s → file.ino < inode_span → IsFree (place_at w) s file v →
     IsOnItsWay c e (place_at w) w.underway s file v → IsOnItsWay c e (place_at (arrives c n x w)) (arrives c n x w).underway s file v
 committing_goes_on c lines n e x w s file v d kind m narrow free old = at_each x.packet.to s Way (λ eq. commits_here c lines n e x w s file v d kind eq narrow free old) (λ ne. by_body ne x.packet.body refl kind)
   where

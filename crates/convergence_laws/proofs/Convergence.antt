@@ -1,8 +1,10 @@
 -- Two calm rounds, of which the second stands directly after the first: a version that is on its way after the second's ticks stays so
 -- through each delivery, and at its end it is held.
 use Rattle.std.proofs.Common.{◌≡◌, ℕ, zero, suc, ◌≤◌, ◌<◌, nat_le, ◌⊎◌, Bool, true, false, List, length, Option, Some, None, refl, sym, ◌∙◌, ap, subst, inl, inr, arith}
+use Rattle.role_steps.proofs.of_plain_facts.Tests.{true_false}
 use Rattle.locus_ids.specs.declared.config.Config.{Config}
 use Rattle.locus_ids.specs.declared.ids.FileId.{FileId}
+use Rattle.locus_ids.specs.Sizes.{inode_span}
 use Rattle.schedule_lines.specs.declared.line.ScheduleLine.{ScheduleLine}
 use Rattle.file_content.specs.Pages.{pages_of}
 use Rattle.wire_messages.specs.declared.body.Body.{Body}
@@ -27,7 +29,6 @@ use Rattle.orderly_laws.proofs.Rounds.{next_among}
 use Rattle.calm_laws.specs.Carrying.{IsMember}
 use Rattle.calm_laws.specs.Rounds.{after, IsInRound, Delivery, IsCalm, CalmLeft}
 use Rattle.calm_laws.proofs.Calm.{calm_in_round}
-use Rattle.calm_laws.proofs.Lists.{true_false}
 use Rattle.calm_laws.proofs.Members.{sync_is}
 use Rattle.calm_laws.proofs.Rounds.{in_round, one_more}
 use Rattle.calm_laws.proofs.Ticks.{no_round, sites_apart}
@@ -95,7 +96,7 @@ passes_on c lines n e x w s file v round next together m not_for k old = way_sta
 
 -- ---- one delivery ----
 
-by_kind : (c : Config) (lines : List ScheduleLine) (n : ℕ) (e : InEpoch) (x : Numbered) (w : World) (s : ℕ) (file : FileId) (v : VersionRow) → file.ino < 65536 → Delivery c lines n e x w → IsMember e s → GroupsHaveStarted e (place_at w) → NoneAbove e (place_at w) w.underway s file v → IsFree (place_at w) s file v →
+by_kind : (c : Config) (lines : List ScheduleLine) (n : ℕ) (e : InEpoch) (x : Numbered) (w : World) (s : ℕ) (file : FileId) (v : VersionRow) → file.ino < inode_span → Delivery c lines n e x w → IsMember e s → GroupsHaveStarted e (place_at w) → NoneAbove e (place_at w) w.underway s file v → IsFree (place_at w) s file v →
     IsOnItsWay c e (place_at w) w.underway s file v → IsOnItsWay c e (place_at (arrives c n x w)) (arrives c n x w).underway s file v
 by_kind c lines n e x w s file v narrow d m started none free old = over x.packet.body refl
   where
@@ -125,7 +126,7 @@ by_kind c lines n e x w s file v narrow d m started none free old = over x.packe
     over (body.Install members) is = forming_goes_on c lines n e x w s file v d (subst FormsEpochs (sym is) tt) m started none free old
     over body.Joined is = forming_goes_on c lines n e x w s file v d (subst FormsEpochs (sym is) tt) m started none free old
 
-one_delivery : (c : Config) (lines : List ScheduleLine) (n : ℕ) (e : InEpoch) (x : Numbered) (w : World) (s : ℕ) (file : FileId) (v : VersionRow) → file.ino < 65536 → IsInRound c lines n w → next_packet w ≡ Some x → IsInRound c lines n (arrives c n x w) → AreTogether w e → AreTogether (arrives c n x w) e → (arrives c n x w).over ≡ None → IsMember e s →
+one_delivery : (c : Config) (lines : List ScheduleLine) (n : ℕ) (e : InEpoch) (x : Numbered) (w : World) (s : ℕ) (file : FileId) (v : VersionRow) → file.ino < inode_span → IsInRound c lines n w → next_packet w ≡ Some x → IsInRound c lines n (arrives c n x w) → AreTogether w e → AreTogether (arrives c n x w) e → (arrives c n x w).over ≡ None → IsMember e s →
     GroupsHaveStarted e (place_at w) → NoneAbove e (place_at w) w.underway s file v → IsFree (place_at w) s file v → IsOnItsWay c e (place_at w) w.underway s file v → IsOnItsWay c e (place_at (arrives c n x w)) (arrives c n x w).underway s file v
 one_delivery c lines n e x w s file v narrow round next follows before later within m started none free old = over (taken_or_passed c lines n e x w round next follows before later within)
   where
@@ -150,7 +151,7 @@ converge c calm_left lines n m e k l file v set rest s member in_set = at_the_en
     round : (j : ℕ) → j ≤ l → IsInRound c lines m (after c lines m j)
     round j le = calm_in_round c lines m e l j calm le
 
-    narrow : file.ino < 65536
+    narrow : file.ino < inode_span
     narrow = only_narrow c lines m e (after c lines m l) (round l (omega arith)) (calm.each l (omega arith)) file rest.kept.file_known v rest.kept.known rest.kept.only
 
     within : (j : ℕ) → j ≤ l → (after c lines m j).over ≡ None

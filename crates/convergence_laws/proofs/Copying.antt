@@ -1,5 +1,6 @@
 -- A Notify, a Page, a Pull or a Have comes: a version that is on its way to a member stays so.
 use Rattle.std.proofs.Common.{◌≡◌, ◌≢◌, ℕ, ◌+◌, ◌≤◌, ◌==◌, nat_lt, Bool, true, false, ◌&&◌, List, [], length, Option, Some, None, refl, sym, ◌∙◌, ap, subst, arith}
+use Rattle.role_steps.proofs.of_plain_facts.Numbers.{apart_test}
 use Rattle.locus_ids.specs.declared.config.Config.{Config}
 use Rattle.locus_ids.specs.declared.ids.FileId.{FileId}
 use Rattle.locus_ids.specs.declared.sites.Links.{Links}
@@ -20,14 +21,13 @@ use Rattle.role_steps.specs.declared.pulls.Pull.{Pull}
 use Rattle.role_steps.specs.declared.rounds.InEpoch.{InEpoch}
 use Rattle.role_steps.specs.declared.synchronizing.SyncTable.{SyncTable}
 use Rattle.role_steps.specs.declared.synchronizing.VersionRow.{VersionRow}
-use Rattle.role_steps.proofs.Rows.{differ}
 use Rattle.the_run.specs.Kept.{Among}
 use Rattle.the_run.specs.Runs.{arrives}
 use Rattle.the_run.specs.Steps.{is_framed, is_forming, with_pulls, takes_inside, tries_at, adopts_of, adopts_in, at_table_of, ends_event}
 use Rattle.the_run.specs.Worlds.{World, Numbered, place_at, links_of, passed}
 use Rattle.the_run.proofs.Boots.{at_each}
 use Rattle.epoch_laws.specs.Forming.{FormsNone, TableFormless, FormlessSite}
-use Rattle.epoch_laws.proofs.SitesForm.{tries_formless}
+use Rattle.epoch_laws.proofs.Forms.{tries_formless}
 use Rattle.orderly_laws.specs.Calm.{IsInside}
 use Rattle.orderly_laws.proofs.Rounds.{next_among}
 use Rattle.calm_laws.specs.Carrying.{IsMember, frame_of}
@@ -61,7 +61,7 @@ pub names_elsewhere : (e : InEpoch) (s : ℕ) (p : Packet) → p.to ≢ s → le
 names_elsewhere e s p ne = subst (λ (l : List Offer). length l ≤ 0) (sym none) (omega arith)
   where
     none : names e s p ≡ []
-    none = ap (λ (t : Bool). names_to (t && ((p.to_boot == boot_in e.members.boot s) && is_framed p (Some e))) p.body) (differ p.to s ne)
+    none = ap (λ (t : Bool). names_to (t && ((p.to_boot == boot_in e.members.boot s) && is_framed p (Some e))) p.body) (apart_test p.to s ne)
 
 -- The member that takes the packet keeps what it knows of files. The site is another one, or keeps its copies and pulls.
 pub stays_on : (c : Config) (lines : List ScheduleLine) (n : ℕ) (e : InEpoch) (x : Numbered) (w : World) (s : ℕ) (file : FileId) (v : VersionRow) (u : SiteView) → (d : Delivery c lines n e x w) → Comes c n x w u → IsMember e s → KeepsFiles d.view.tables u.tables →

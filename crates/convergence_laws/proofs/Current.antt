@@ -1,6 +1,7 @@
 -- After a calm round whatever a member pulls above its copy is the only kept version of its file: each notice of that version has come. So
 -- it is still after the ticks of a round that stands directly after it.
 use Rattle.std.proofs.Common.{◌≡◌, ℕ, zero, suc, ◌≤◌, Bool, true, false, cond, ◌⊎◌, List, [], ◌∷◌, map, length, Option, Some, None, refl, sym, ◌∙◌, ap, subst, inl, inr, arith}
+use Rattle.role_steps.proofs.of_plain_facts.Tests.{true_false}
 use Rattle.locus_ids.specs.Sites.{has}
 use Rattle.locus_ids.specs.declared.config.Config.{Config}
 use Rattle.locus_ids.specs.declared.ids.FileId.{FileId}
@@ -33,8 +34,8 @@ use Rattle.tree_laws.specs.Stores.{Ascends, PullFact}
 use Rattle.tree_laws.specs.Tables.{FileFact, StartedFiles, FilesFact, TableFact, row_stamp}
 use Rattle.make_laws.specs.Made.{NumberedSender, WorldSent}
 use Rattle.make_laws.proofs.SendersRun.{sent_kept, first_sent}
-use Rattle.user_laws.proofs.Tabled.{one_row}
-use Rattle.one_tree_laws.specs.Places.{InsideFact}
+use Rattle.pull_laws.proofs.of_user_laws.Tabled.{one_row}
+use Rattle.pull_laws.specs.of_one_tree_laws.Places.{InsideFact}
 use Rattle.pull_laws.specs.Pulls.{PullsAscend}
 use Rattle.pull_laws.proofs.Ascending.{ascend_kept, first_ascend}
 use Rattle.pull_laws.proofs.Served.{started_packed}
@@ -51,7 +52,7 @@ use Rattle.calm_laws.proofs.Calm.{calm_in_round}
 use Rattle.calm_laws.proofs.Delivered.{inside_fact}
 use Rattle.calm_laws.proofs.Events.{Under, others_stay}
 use Rattle.calm_laws.proofs.Facts.{RoundFacts, round_facts}
-use Rattle.calm_laws.proofs.Lists.{true_false, every_among, row_key}
+use Rattle.calm_laws.proofs.Lists.{every_among, row_key}
 use Rattle.calm_laws.proofs.Members.{sync_is}
 use Rattle.calm_laws.proofs.Moments.{GoesOn}
 use Rattle.calm_laws.proofs.Packed.{sync_of}

@@ -2,6 +2,9 @@
 use Rattle.std.proofs.Common.{◌≡◌, ◌≢◌, ℕ, ◌+◌, ◌*◌, ◌==◌, ◌<◌, nat_lt, Bool, true, false, ◌⊎◌, List, [], ◌∷◌, ◌++◌, map, Option, Some, None, refl, sym, ◌∙◌, ap, subst, inl, inr, arith}
 use Rattle.std.proofs.lemmas.Bool.Decides.{nat_tests}
 use Rattle.std.specs.Option.{option_map}
+use Rattle.role_steps.proofs.of_plain_facts.Numbers.{equal}
+use Rattle.role_steps.proofs.of_plain_facts.Options.{none_some, some_same}
+use Rattle.role_steps.proofs.of_plain_facts.Tests.{both_true, true_false}
 use Rattle.locus_ids.specs.Sites.{has}
 use Rattle.locus_ids.specs.declared.config.Config.{Config}
 use Rattle.locus_ids.specs.declared.ids.EpochId.{EpochId}
@@ -9,6 +12,7 @@ use Rattle.locus_ids.specs.declared.ids.FileId.{FileId}
 use Rattle.locus_ids.specs.declared.ids.Kind.{Kind}
 use Rattle.locus_ids.specs.declared.ids.Stamp.{Stamp}
 use Rattle.locus_ids.specs.declared.sites.Sites.{Sites}
+use Rattle.locus_ids.specs.Sizes.{inode_span}
 use Rattle.schedule_lines.specs.declared.line.ScheduleLine.{ScheduleLine}
 use Rattle.commit_graph.specs.Versions.{same_stamp}
 use Rattle.commit_graph.proofs.Names.{same_stamp_eq}
@@ -46,11 +50,11 @@ use Rattle.tree_laws.proofs.Names.{same_epoch_eq}
 use Rattle.make_laws.specs.Made.{WorldSent}
 use Rattle.make_laws.proofs.SendersRun.{sent_kept, first_sent}
 use Rattle.sync_laws.proofs.Orderly.{below_through}
-use Rattle.one_tree_laws.specs.Places.{NumberedFact}
-use Rattle.one_tree_laws.specs.Rest.{Past}
-use Rattle.one_tree_laws.proofs.Parts.{tables_rise}
-use Rattle.one_tree_laws.proofs.Rising.{Rising}
-use Rattle.rest_laws.proofs.StoreStepKnown.{stands_narrow}
+use Rattle.pull_laws.specs.of_one_tree_laws.Places.{NumberedFact}
+use Rattle.pull_laws.specs.of_one_tree_laws.Rest.{Past}
+use Rattle.pull_laws.proofs.of_one_tree_laws.Parts.{tables_rise}
+use Rattle.pull_laws.proofs.of_one_tree_laws.Rising.{Rising}
+use Rattle.calm_laws.proofs.of_rest_laws.StoreStepKnown.{stands_narrow}
 use Rattle.pull_laws.specs.Known.{written}
 use Rattle.pull_laws.specs.Pulls.{PullsAscend}
 use Rattle.pull_laws.proofs.Ascending.{ascend_kept, first_ascend, notify_keeps, page_keeps}
@@ -65,7 +69,7 @@ use Rattle.calm_laws.specs.Rounds.{Delivery}
 use Rattle.calm_laws.proofs.Delivered.{inside_fact}
 use Rattle.calm_laws.proofs.Events.{Under, others_stay}
 use Rattle.calm_laws.proofs.Facts.{RoundFacts, round_facts}
-use Rattle.calm_laws.proofs.Lists.{true_false, none_some, some_is, both_true, every_among}
+use Rattle.calm_laws.proofs.Lists.{every_among}
 use Rattle.calm_laws.proofs.Moments.{GoesOn, goes_itself, goes_round_kept}
 use Rattle.calm_laws.proofs.Rounds.{in_round}
 use Rattle.convergence_laws.specs.Converging.{FormsEpochs}
@@ -92,9 +96,6 @@ named_by e s d (x ∷ xs) a = over (among_either d (names e s x.packet) (named e
     over : Among d (names e s x.packet) ⊎ Among d (named e s xs) → (Among d (named e s xs) → (y : Numbered) × Among y xs × Among d (names e s y.packet)) → (y : Numbered) × Among y (x ∷ xs) × Among d (names e s y.packet)
     over (inl k) later = (x, inl refl, k)
     over (inr k) later = (let r : (y : Numbered) × Among y xs × Among d (names e s y.packet) = later k in (r.0, inr r.1, r.2))
-
-equal : (i j : ℕ) → (i == j) ≡ true → i ≡ j
-equal i j h = grind (arith, nat_tests)
 
 -- a packet that names a version to a member is for it, and a notice of the version
 pub names_for : (e : InEpoch) (s : ℕ) (d : Offer) (p : Packet) → Among d (names e s p) → (p.to ≡ s) × Among d (notice_in p.body) × (is_for e s p ≡ true)
@@ -316,10 +317,10 @@ quietly c lines n e x w b d is forms none counted keeps quiet_try = record {
 
 -- ---- Notify and Page ----
 
-pub file_of_key : (a b : FileId) → a.ino < 65536 → b.ino < 65536 → file_key a ≡ file_key b → a ≡ b
+pub file_of_key : (a b : FileId) → a.ino < inode_span → b.ino < inode_span → file_key a ≡ file_key b → a ≡ b
 file_of_key a b low high e = λ i. record { group = group_is i; ino = ino_is i }
   where
-    keys : a.group * 65536 + a.ino ≡ b.group * 65536 + b.ino
+    keys : a.group * inode_span + a.ino ≡ b.group * inode_span + b.ino
     keys = e
 
     group_is : a.group ≡ b.group
@@ -359,7 +360,7 @@ module _ (c : Config) (t : List Line) (past : Past c t) (e : InEpoch) (o : Offer
 pub pull_written : (c : Config) (t : List Line) (e : EpochId) (m : ℕ) (p : Pull) → PullFact c t e m p → p.vector ≡ written c t p.file p.stamp
 pull_written c t e m p f = sym f.vector_is ∙ (ap (λ (v : HeldVersion). v.vector) f.is_version.same ∙ ap (written c t p.file) f.stamp_is)
 
-pub pull_narrow : (c : Config) (t : List Line) → Past c t → (e : EpochId) (m : ℕ) (p : Pull) → PullFact c t e m p → p.file.ino < 65536
+pub pull_narrow : (c : Config) (t : List Line) → Past c t → (e : EpochId) (m : ℕ) (p : Pull) → PullFact c t e m p → p.file.ino < inode_span
 pull_narrow c t past e m p f = stands_narrow c t past.rest.each p.file f.version.stamp f.is_version.stands
 
 -- the member has taken the packet: it pulls the version, or its copy isn't below it
@@ -480,7 +481,7 @@ module _ (c : Config) (lines : List ScheduleLine) (n : ℕ) (e : InEpoch) (x : N
   is_written : vector ≡ written c t about stamp
   is_written = sym named_so.vector_is ∙ (ap (λ (v : HeldVersion). v.vector) named_so.is_version.same ∙ ap (written c t about) named_so.stamp_is)
 
-  narrow : about.ino < 65536
+  narrow : about.ino < inode_span
   narrow = stands_narrow c t past.rest.each about named_so.version.stamp named_so.is_version.stands
 
   pull_fact : (z : Pull) → Among z d.view.pulls → PullFact c t e.id m z
@@ -523,7 +524,7 @@ module _ (c : Config) (lines : List ScheduleLine) (n : ℕ) (e : InEpoch) (x : N
 
       by_held : (o : Option Stamp) → Written (option_map (copy_for about) (option_map (version_of c (entries t) about) o))
       by_held None x q = absurd (none_some x q)
-      by_held (Some now) x q = subst (λ (z : FileCopy). z.vector ≡ written c t about z.stamp) (some_is (copy_for about (version_of c (entries t) about now)) x q) refl
+      by_held (Some now) x q = subst (λ (z : FileCopy). z.vector ≡ written c t about z.stamp) (some_same (copy_for about (version_of c (entries t) about now)) x q) refl
 
       is_so : y.copy.vector ≡ written c t about y.copy.stamp
       is_so = by_held (held_in c (entries t) e.id m about) y.copy (sym (copy_is c e w facts d.before m d.member d.view d.here about narrow) ∙ y.is_own)

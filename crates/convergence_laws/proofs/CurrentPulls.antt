@@ -15,8 +15,8 @@ use Rattle.role_steps.specs.declared.pulls.Pull.{Pull}
 use Rattle.the_run.specs.Kept.{Among}
 use Rattle.the_run.proofs.Boots.{at_each}
 use Rattle.tree_laws.specs.Stores.{Ascends}
-use Rattle.rest_laws.proofs.TableNoting.{ascends_found}
-use Rattle.user_laws.proofs.Tabled.{among_with, among_kept, ascends_without, among_without, one_row}
+use Rattle.calm_laws.proofs.of_rest_laws.TableNoting.{ascends_found}
+use Rattle.pull_laws.proofs.of_user_laws.Tabled.{among_with, among_kept, ascends_without, among_without, one_row}
 use Rattle.calm_laws.proofs.Lists.{every_among, row_key}
 use Rattle.convergence_laws.specs.Offers.{is_above, offer_of}
 use Rattle.convergence_laws.proofs.Adopting.{Notes, notes}

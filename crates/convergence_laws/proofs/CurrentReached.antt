@@ -2,9 +2,11 @@
 -- synchronization site that notifies its members sees to that.
 use Rattle.std.proofs.Common.{◌≡◌, ℕ, ◌<◌, Bool, true, false, ◌⊎◌, List, [], ◌∷◌, ◌++◌, map, Option, Some, None, refl, sym, ◌∙◌, ap, subst, inl, inr}
 use Rattle.std.specs.Option.{option_map}
+use Rattle.role_steps.proofs.of_plain_facts.Tests.{true_false}
 use Rattle.locus_ids.specs.declared.config.Config.{Config}
 use Rattle.locus_ids.specs.declared.ids.FileId.{FileId}
 use Rattle.locus_ids.specs.declared.ids.Stamp.{Stamp}
+use Rattle.locus_ids.specs.Sizes.{inode_span}
 use Rattle.schedule_lines.specs.declared.line.ScheduleLine.{ScheduleLine}
 use Rattle.wire_messages.specs.declared.packet.Packet.{Packet}
 use Rattle.role_steps.specs.Adoption.{table_group}
@@ -29,9 +31,9 @@ use Rattle.holding_laws.proofs.Below.{packs_hold}
 use Rattle.holding_laws.proofs.Holding.{sites_hold}
 use Rattle.sync_laws.proofs.Orderly.{below_through}
 use Rattle.sync_laws.proofs.Versions.{row_vector, row_stands}
-use Rattle.one_tree_laws.specs.Places.{InsideFact}
-use Rattle.one_tree_laws.specs.Rest.{Past}
-use Rattle.one_tree_laws.proofs.Staying.{rest_below}
+use Rattle.pull_laws.specs.of_one_tree_laws.Places.{InsideFact}
+use Rattle.pull_laws.specs.of_one_tree_laws.Rest.{Past}
+use Rattle.pull_laws.proofs.of_one_tree_laws.Staying.{rest_below}
 use Rattle.pull_laws.specs.Held.{HasNoLower}
 use Rattle.pull_laws.specs.Known.{written}
 use Rattle.pull_laws.proofs.Falling.{never_falls}
@@ -41,7 +43,7 @@ use Rattle.calm_laws.specs.Rounds.{IsInRound}
 use Rattle.calm_laws.proofs.Delivered.{inside_fact}
 use Rattle.calm_laws.proofs.Events.{Under}
 use Rattle.calm_laws.proofs.Facts.{RoundFacts, round_facts}
-use Rattle.calm_laws.proofs.Lists.{true_false, every_among, row_key}
+use Rattle.calm_laws.proofs.Lists.{every_among, row_key}
 use Rattle.calm_laws.proofs.Members.{sync_is}
 use Rattle.calm_laws.proofs.Moments.{GoesOn}
 use Rattle.convergence_laws.specs.Converging.{TellsHolders}
@@ -156,7 +158,7 @@ told_of c lines n e w round together s d m site h under = by_holder (is_among s 
 -- ---- copies never fall ----
 
 -- the site's copy of the file, as the one tree has it
-pub copy_is : (c : Config) (e : InEpoch) (w : World) → RoundFacts c w → AreTogether w e → (s : ℕ) → IsMember e s → (v : SiteView) → place_at w s ≡ Some (Running v) → (file : FileId) → file.ino < 65536 →
+pub copy_is : (c : Config) (e : InEpoch) (w : World) → RoundFacts c w → AreTogether w e → (s : ℕ) → IsMember e s → (v : SiteView) → place_at w s ≡ Some (Running v) → (file : FileId) → file.ino < inode_span →
     copy_of v.store file ≡ option_map (copy_for file) (option_map (version_of c (entries w.trace) file) (held_in c (entries w.trace) e.id s file))
 copy_is c e w facts together s m v here file narrow =
     let i : InsideFact c (frame_of c e s) w.trace v = inside_fact c e w s v facts.fact together m here in
@@ -166,7 +168,7 @@ copy_is c e w facts together s m v here file narrow =
 none_false : (x : List ℕ) → is_above x None ≡ false → ⊥
 none_false x e = true_false e
 
-pub low_stays : (c : Config) (e : InEpoch) (w u : World) → RoundFacts c w → AreTogether w e → RoundFacts c u → AreTogether u e → GoesOn w u → (s : ℕ) → IsMember e s → (v z : SiteView) → place_at w s ≡ Some (Running v) → place_at u s ≡ Some (Running z) → (file : FileId) → file.ino < 65536 → (x : List ℕ) →
+pub low_stays : (c : Config) (e : InEpoch) (w u : World) → RoundFacts c w → AreTogether w e → RoundFacts c u → AreTogether u e → GoesOn w u → (s : ℕ) → IsMember e s → (v z : SiteView) → place_at w s ≡ Some (Running v) → place_at u s ≡ Some (Running z) → (file : FileId) → file.ino < inode_span → (x : List ℕ) →
     is_above x (copy_of v.store file) ≡ false → is_above x (copy_of z.store file) ≡ false
 low_stays c e w u facts_w together_w facts_u together_u goes s m v z here there file narrow x low = by_held (held_in c (entries w.trace) e.id s file) refl (sym (ap (is_above x) (copy_is c e w facts_w together_w s m v here file narrow)) ∙ low)
   where

@@ -1,6 +1,9 @@
 -- What an event leaves of a synchronization site's tables: a kept version that is known then was known before, or all members that lag
 -- behind it are notified of it in that event.
 use Rattle.std.proofs.Common.{◌≡◌, ℕ, Bool, true, false, ◌⊎◌, List, [], ◌∷◌, ◌++◌, map, Option, Some, None, refl, sym, ◌∙◌, ap, subst, inl, inr}
+use Rattle.role_steps.proofs.of_plain_facts.Numbers.{apart_test}
+use Rattle.role_steps.proofs.of_plain_facts.Options.{some_same}
+use Rattle.role_steps.proofs.of_plain_facts.Tests.{true_false}
 use Rattle.locus_ids.specs.Sites.{has, with_site}
 use Rattle.locus_ids.specs.declared.ids.Serial.{Serial}
 use Rattle.locus_ids.specs.declared.ids.Stamp.{Stamp}
@@ -27,10 +30,10 @@ use Rattle.role_steps.proofs.Rows.{row_other, row_same}
 use Rattle.the_run.specs.Kept.{Among}
 use Rattle.the_run.specs.Steps.{is_opened_in, at_table_of, takes_inside}
 use Rattle.the_run.proofs.Boots.{at_each}
-use Rattle.one_tree_laws.proofs.Rising.{Rising}
+use Rattle.pull_laws.proofs.of_one_tree_laws.Rising.{Rising}
 use Rattle.orderly_laws.proofs.Formed.{among_left, among_right}
-use Rattle.calm_laws.proofs.Lists.{true_false, some_is, row_key}
-use Rattle.convergence_laws.proofs.Files.{SameFile, differ, have_keeps}
+use Rattle.calm_laws.proofs.Lists.{row_key}
+use Rattle.convergence_laws.proofs.Files.{SameFile, have_keeps}
 use Rattle.convergence_laws.proofs.Noticing.{among_flat}
 use Rattle.convergence_laws.proofs.Plain.{SameFiles, takes_open_same, takes_look_same, open_same, look_same, rows_same}
 use Rattle.convergence_laws.proofs.Publishing.{StaysOr, closed_of}
@@ -164,13 +167,13 @@ put_tells : (f : Frame) (t : SyncTable) (o : Outcome SyncTable) (ts : List SyncT
 put_tells f t o ts found k group n there s ino r e = at_each o.view.group group (WasSo ts group ino r ⊎ (AllSent f group r o.sent × Changed ts group ino)) mine theirs
   where
     theirs : (o.view.group ≡ group → ⊥) → WasSo ts group ino r ⊎ (AllSent f group r o.sent × Changed ts group ino)
-    theirs ne = inl (record { table = n; found = sym (row_other table_group o.view group ts (differ o.view.group group ne)) ∙ there; started = s; file_is = file_itself n ino r e })
+    theirs ne = inl (record { table = n; found = sym (row_other table_group o.view group ts (apart_test o.view.group group ne)) ∙ there; started = s; file_is = file_itself n ino r e })
 
     mine : o.view.group ≡ group → WasSo ts group ino r ⊎ (AllSent f group r o.sent × Changed ts group ino)
     mine eq = over (k.files ino r (ap (λ (y : SyncTable). file_row y ino) is ∙ e) (ap (λ (y : SyncTable). y.started) is ∙ s))
       where
         is : o.view ≡ n
-        is = some_is o.view n (sym (row_same table_group o.view ts) ∙ (ap (λ (g : ℕ). row table_group g (with_row table_group o.view ts)) eq ∙ there))
+        is = some_same o.view n (sym (row_same table_group o.view ts) ∙ (ap (λ (g : ℕ). row table_group g (with_row table_group o.view ts)) eq ∙ there))
 
         is_group : t.group ≡ group
         is_group = sym k.group ∙ eq
@@ -228,11 +231,11 @@ have_stays from stamp ino t ts found group n there s i r e = at_each m.group gro
     same = have_group from stamp (file_row t ino) t
 
     theirs : (m.group ≡ group → ⊥) → WasSo ts group i r
-    theirs ne = record { table = n; found = sym (row_other table_group m group ts (differ m.group group ne)) ∙ there; started = s; file_is = file_itself n i r e }
+    theirs ne = record { table = n; found = sym (row_other table_group m group ts (apart_test m.group group ne)) ∙ there; started = s; file_is = file_itself n i r e }
 
     mine : m.group ≡ group → WasSo ts group i r
     mine eq =
-        let is : m ≡ n = some_is m n (sym (row_same table_group m ts) ∙ (ap (λ (g : ℕ). row table_group g (with_row table_group m ts)) eq ∙ there)) in
+        let is : m ≡ n = some_same m n (sym (row_same table_group m ts) ∙ (ap (λ (g : ℕ). row table_group g (with_row table_group m ts)) eq ∙ there)) in
         record {
           table = t;
           found = subst (λ (g : ℕ). row table_group g ts ≡ Some t) (sym same ∙ eq) found;

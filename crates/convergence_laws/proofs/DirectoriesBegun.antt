@@ -1,5 +1,7 @@
 -- Since a moment at which no call of the epoch waits: once a mend of the directory has begun, its synchronization site has at least what is known.
 use Rattle.std.proofs.Common.{◌≡◌, ℕ, ◌==◌, Bool, true, false, cond, not, filter, ◌&&◌, ◌||◌, ◌⊎◌, List, [], ◌∷◌, ◌++◌, length, Option, Some, None, refl, sym, ◌∙◌, ap, subst, inl, inr, arith}
+use Rattle.role_steps.proofs.of_plain_facts.Options.{some_same}
+use Rattle.role_steps.proofs.of_plain_facts.Tests.{and_second, or_either, or_second, true_false}
 use Rattle.locus_ids.specs.declared.config.Config.{Config}
 use Rattle.locus_ids.specs.declared.ids.CallId.{CallId}
 use Rattle.locus_ids.specs.declared.ids.EpochId.{EpochId}
@@ -35,7 +37,6 @@ use Rattle.tree_laws.specs.Instances.{HasAtLeast, IsStarted, held_in}
 use Rattle.tree_laws.specs.Past.{WasGranted}
 use Rattle.tree_laws.specs.Printed.{entries, onto_entries}
 use Rattle.tree_laws.proofs.Kinship.{started_stays}
-use Rattle.tree_laws.proofs.Names.{some_is, true_false}
 use Rattle.tree_laws.proofs.OneBoot.{joined_where_made}
 use Rattle.tree_laws.proofs.Origins.{kind_same}
 use Rattle.tree_laws.proofs.Histories.{stands_more}
@@ -46,9 +47,9 @@ use Rattle.holding_laws.specs.Held.{IsBelowKept}
 use Rattle.holding_laws.proofs.Below.{commits_new}
 use Rattle.holding_laws.proofs.Holding.{below_kept}
 use Rattle.holding_laws.proofs.OneVersionSingle.{single_stays}
-use Rattle.one_tree_laws.specs.Rest.{Past}
-use Rattle.one_tree_laws.proofs.Staying.{rest_below}
-use Rattle.fit_laws.proofs.EntryFacts.{IsPlain}
+use Rattle.pull_laws.specs.of_one_tree_laws.Rest.{Past}
+use Rattle.pull_laws.proofs.of_one_tree_laws.Staying.{rest_below}
+use Rattle.calm_laws.proofs.of_fit_laws.EntryFacts.{IsPlain}
 use Rattle.holding_laws.proofs.MendMends.{IsMendCall}
 use Rattle.calm_laws.proofs.Lists.{every_among}
 use Rattle.convergence_laws.proofs.DirectoriesKept.{HasKnown, OnlyMends, known_on}
@@ -66,12 +67,8 @@ filtered {A = A} p y (x ∷ xs) a = over (p x) a (filtered p y xs)
 
 -- ---- a mend that was refused for good ----
 
-or_later : (a b : Bool) → b ≡ true → (a || b) ≡ true
-or_later true b h = refl
-or_later false b h = h
-
 lost_record : (e : EpochId) (f : FileId) (n : ℕ) (r : Record) (now : Trace) → has_lost_mend now e f ≡ true → has_lost_mend (record { line = n; what = r } ∷ now) e f ≡ true
-lost_record e f n (says.Answer s process id reply) now h = or_later (is_lost_mend e f reply (call_named now id)) (has_lost_mend now e f) h
+lost_record e f n (says.Answer s process id reply) now h = or_second (is_lost_mend e f reply (call_named now id)) (has_lost_mend now e f) h
 lost_record e f n r now h = h
 
 lost_told : (e : EpochId) (f : FileId) (n : ℕ) (x : Told) (now : Trace) → has_lost_mend now e f ≡ true → has_lost_mend (onto_entries n x now) e f ≡ true
@@ -79,14 +76,6 @@ lost_told e f n (Shown r) now h = lost_record e f n r now h
 lost_told e f n x now h = h
 
 -- ---- a mend begins ----
-
-or_either : (a b : Bool) → (a || b) ≡ true → (a ≡ true) ⊎ (b ≡ true)
-or_either true b h = inl refl
-or_either false b h = inr h
-
-and_second : (a b : Bool) → (a && b) ≡ true → b ≡ true
-and_second true b h = h
-and_second false b h = absurd (true_false (sym h))
 
 not_several : (ks : List Stamp) → length ks ≡ 1 → are_several ks ≡ true → ⊥
 not_several [] one h = absurd (true_false (sym h))
@@ -205,7 +194,7 @@ module _ (c : Config) (old : List Line) (e : EpochId) (f : FileId) (css : ℕ) w
       may = row.row
 
       is_epoch : may.epoch ≡ e
-      is_epoch = some_is may.epoch e (sym may.inside ∙ inside)
+      is_epoch = some_same may.epoch e (sym may.inside ∙ inside)
 
       by_fit : MayHaveBegun → HasKnown c t e f s
       by_fit (inl single) = wanted_known c t e f s (since_before x xs g).past (single_since xs (since_before x xs g) single) (subst (λ (y : EpochId). is_mend_wanted (history c (entries t)) (tree_of c y f.group (entries t)) s f ≡ true) is_epoch may.wanted)

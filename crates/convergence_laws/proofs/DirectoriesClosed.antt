@@ -2,6 +2,8 @@
 use Rattle.std.proofs.Common.{◌≡◌, ℕ, ◌==◌, ◌≤◌, ◌⊎◌, Bool, true, false, ◌&&◌, ◌||◌, List, [], ◌∷◌, Option, Some, refl, sym, ◌∙◌, subst, inl, inr, arith}
 use Rattle.std.proofs.lemmas.Bool.Decides.{nat_tests}
 use Rattle.std.specs.List.{list_any, find}
+use Rattle.role_steps.proofs.of_plain_facts.Numbers.{equal_self}
+use Rattle.role_steps.proofs.of_plain_facts.Tests.{both_true, true_false}
 use Rattle.locus_ids.specs.declared.config.Config.{Config}
 use Rattle.locus_ids.specs.declared.ids.CallId.{CallId}
 use Rattle.locus_ids.specs.declared.ids.FileId.{FileId}
@@ -35,20 +37,20 @@ use Rattle.tree_laws.specs.Past.{WasGranted, WasReleased}
 use Rattle.tree_laws.specs.Printed.{entries}
 use Rattle.tree_laws.specs.Tables.{AskedFact, IsGrantedNow, MakeAsked, RowFact, StageFact}
 use Rattle.tree_laws.proofs.Alone.{asking}
-use Rattle.tree_laws.proofs.Names.{same_call_own, true_false}
+use Rattle.tree_laws.proofs.Names.{same_call_own}
 use Rattle.tree_laws.proofs.Waiting.{IsIt, accepted, asking_waits}
 use Rattle.order_laws.proofs.Standing.{same_file_eq}
 use Rattle.sync_laws.proofs.Members.{members_name_boots, table_boot}
-use Rattle.one_tree_laws.proofs.RemoveSeen.{found_some}
-use Rattle.fit_laws.proofs.EntryFacts.{IsPlain}
-use Rattle.one_tree_laws.specs.Places.{InsideFact}
+use Rattle.pull_laws.proofs.of_one_tree_laws.RemoveSeen.{found_some}
+use Rattle.calm_laws.proofs.of_fit_laws.EntryFacts.{IsPlain}
+use Rattle.pull_laws.specs.of_one_tree_laws.Places.{InsideFact}
 use Rattle.orderly_laws.specs.Calm.{IsInside, AreTogether}
 use Rattle.calm_laws.specs.Carrying.{IsMember, frame_of}
 use Rattle.calm_laws.specs.Rounds.{after, IsInRound, IsCalm, CalmLeft}
 use Rattle.calm_laws.proofs.Calm.{calm_in_round, calm_round}
 use Rattle.calm_laws.proofs.Delivered.{inside_fact}
 use Rattle.calm_laws.proofs.Facts.{RoundFacts, round_facts}
-use Rattle.calm_laws.proofs.Lists.{both_true, every_among}
+use Rattle.calm_laws.proofs.Lists.{every_among}
 use Rattle.convergence_laws.specs.Copies.{Knows}
 use Rattle.convergence_laws.proofs.DirectoriesOpeners.{booted, grantee, waits_or_plain}
 use Rattle.convergence_laws.proofs.Knowing.{Known, knows}
@@ -67,9 +69,6 @@ dir_is kind.File h = absurd (true_false (sym h))
 
 dir_file : kind.Dir ≡ kind.File → ⊥
 dir_file e = cc
-
-itself : (n : ℕ) → (n == n) ≡ true
-itself n = grind (arith, nat_tests)
 
 both : (a b d : Bool) → a ≡ true → b ≡ true → d ≡ true → ((a && b) && d) ≡ true
 both true true true p q r = refl
@@ -116,7 +115,7 @@ module _ (c : Config) (left : CalmLeft c) (lines : List ScheduleLine) (n : ℕ) 
         no_one i.view.users.waiting (mine.users.inside.inside.all d caller.process found.0 found.1).0 (calm_round c left lines n e k h s i.view member i.here) (mine.users.inside.inside.all d caller.process found.0 found.1).1)
       where
         passes : is_this s caller.process d caller ≡ true
-        passes = both (caller.site == s) (caller.process == caller.process) (same_call caller.call d) (subst (λ (j : ℕ). (caller.site == j) ≡ true) site_is (itself caller.site)) (itself caller.process) (subst (λ (j : CallId). same_call caller.call j ≡ true) call_is (same_call_own caller.call))
+        passes = both (caller.site == s) (caller.process == caller.process) (same_call caller.call d) (subst (λ (j : ℕ). (caller.site == j) ≡ true) site_is (equal_self caller.site)) (equal_self caller.process) (subst (λ (j : CallId). same_call caller.call j ≡ true) call_is (same_call_own caller.call))
 
   -- a call of the epoch is of a member
   module _ (d : CallId) (q : IsCallIn (entries t) e.id d) (css : ℕ) (known : IsMember e css) where

@@ -1,6 +1,7 @@
 -- At the end of a calm round nothing is known of a directory, or one version of it is kept, or a mend of it was refused for good: so a mend of
 -- it that begins later begins where its site has the only kept version.
 use Rattle.std.proofs.Common.{◌≡◌, ℕ, ◌⊎◌, true, List, [], ◌∷◌, map, length, Option, Some, None, refl, sym, ◌∙◌, ap, subst, inl, inr, arith}
+use Rattle.role_steps.proofs.of_plain_facts.Tests.{true_false}
 use Rattle.locus_ids.specs.declared.config.Config.{Config}
 use Rattle.locus_ids.specs.declared.ids.FileId.{FileId}
 use Rattle.locus_ids.specs.declared.ids.Kind.{Kind}
@@ -33,15 +34,15 @@ use Rattle.order_laws.proofs.ProcessSynchronizing.{sync_same}
 use Rattle.holding_laws.specs.Held.{IsBelowKept}
 use Rattle.holding_laws.proofs.Below.{commits_new}
 use Rattle.holding_laws.proofs.Holding.{below_kept}
-use Rattle.one_tree_laws.specs.Places.{InsideFact}
-use Rattle.one_tree_laws.proofs.Staying.{rest_below}
-use Rattle.fit_laws.proofs.EntryFacts.{IsPlain}
+use Rattle.pull_laws.specs.of_one_tree_laws.Places.{InsideFact}
+use Rattle.pull_laws.proofs.of_one_tree_laws.Staying.{rest_below}
+use Rattle.calm_laws.proofs.of_fit_laws.EntryFacts.{IsPlain}
 use Rattle.orderly_laws.specs.Calm.{IsInside, AreTogether}
 use Rattle.calm_laws.specs.Carrying.{IsMember, frame_of}
 use Rattle.calm_laws.specs.Rounds.{after, IsInRound, IsCalm, CalmLeft}
 use Rattle.calm_laws.proofs.Delivered.{inside_fact}
 use Rattle.calm_laws.proofs.Facts.{RoundFacts, round_facts}
-use Rattle.calm_laws.proofs.Lists.{true_false, every_among, row_key}
+use Rattle.calm_laws.proofs.Lists.{every_among, row_key}
 use Rattle.calm_laws.proofs.Members.{sync_is}
 use Rattle.calm_laws.proofs.TableThere.{table_there}
 use Rattle.convergence_laws.specs.Copies.{Knows}

@@ -25,8 +25,8 @@ use Rattle.tree_laws.specs.Tables.{IsAhead, VersionFact}
 use Rattle.sync_laws.proofs.Notices.{kept_is_known}
 use Rattle.holding_laws.proofs.MendOnly.{only_had}
 use Rattle.holding_laws.proofs.Released.{released_shut}
-use Rattle.store_laws.proofs.Places.{GrantedSo, instance_granted}
-use Rattle.one_tree_laws.proofs.Staying.{rest_below}
+use Rattle.pull_laws.proofs.of_store_laws.Places.{GrantedSo, instance_granted}
+use Rattle.pull_laws.proofs.of_one_tree_laws.Staying.{rest_below}
 use Rattle.orderly_laws.specs.Calm.{AreTogether}
 use Rattle.calm_laws.specs.Carrying.{frame_of}
 use Rattle.calm_laws.specs.Rounds.{after, IsInRound, IsCalm, CalmLeft}

@@ -2,6 +2,8 @@
 -- on: a mend begins where that site has the only kept version, and all that is published then was committed there.
 use Rattle.std.proofs.Common.{◌≡◌, ℕ, ◌==◌, Bool, true, false, cond, ◌&&◌, ◌||◌, ◌⊎◌, List, [], ◌∷◌, map, filter, Option, Some, None, refl, sym, ◌∙◌, ap, subst, inl, inr, arith}
 use Rattle.std.proofs.lemmas.Bool.Decides.{nat_tests}
+use Rattle.role_steps.proofs.of_plain_facts.Numbers.{equal}
+use Rattle.role_steps.proofs.of_plain_facts.Tests.{or_either, or_second, true_false}
 use Rattle.locus_ids.specs.declared.config.Config.{Config}
 use Rattle.locus_ids.specs.declared.ids.Brought.{Brought}
 use Rattle.locus_ids.specs.declared.ids.CallId.{CallId}
@@ -32,7 +34,6 @@ use Rattle.tree_laws.specs.Following.{MayTell}
 use Rattle.tree_laws.specs.Instances.{HasAtLeast, IsKnown, IsStarted, held_in, instance_now}
 use Rattle.tree_laws.specs.Past.{WasGranted}
 use Rattle.tree_laws.specs.Printed.{entries, onto_entries}
-use Rattle.tree_laws.proofs.Names.{test_same, true_false}
 use Rattle.tree_laws.proofs.Rows.{followed_rows}
 use Rattle.order_laws.proofs.Keeping.{EndsIn, ends_in, file_eq, known_same, published_same}
 use Rattle.holding_laws.specs.Held.{StandsOnHeld}
@@ -43,19 +44,15 @@ use Rattle.holding_laws.proofs.Holding.{stands_on_held}
 use Rattle.holding_laws.proofs.Released.{released_shut}
 use Rattle.holding_laws.proofs.Rising.{held_rises}
 use Rattle.holding_laws.proofs.Seats.{same_version_is}
-use Rattle.store_laws.proofs.Places.{GrantedSo, instance_granted}
-use Rattle.one_tree_laws.specs.Rest.{Past}
-use Rattle.one_tree_laws.proofs.Staying.{rest_below}
-use Rattle.fit_laws.proofs.EntryFacts.{IsPlain}
+use Rattle.pull_laws.proofs.of_store_laws.Places.{GrantedSo, instance_granted}
+use Rattle.pull_laws.specs.of_one_tree_laws.Rest.{Past}
+use Rattle.pull_laws.proofs.of_one_tree_laws.Staying.{rest_below}
+use Rattle.calm_laws.proofs.of_fit_laws.EntryFacts.{IsPlain}
 use Rattle.holding_laws.proofs.MendMends.{IsMendCall}
 use Rattle.convergence_laws.proofs.DirectoriesMode.{IsToMend, mend_mode}
 use Rattle.convergence_laws.proofs.DirectoriesOpeners.{grantee, waits_or_plain}
 
 -- ---- what is published ----
-
-or_left : (a b : Bool) → (a || b) ≡ true → (a ≡ true) ⊎ (b ≡ true)
-or_left true b h = inl refl
-or_left false b h = inr h
 
 abbrev Has : List Brought → ℕ → Stamp → Type 0
 Has bs ino v = has_stamp (stamps_of bs ino) v ≡ true
@@ -68,18 +65,14 @@ first_or ino b bs v k = at (b.ino == ino) k
     either (inr h) = inr h
 
     at : (y : Bool) → has_stamp (map (λ (z : Brought). z.stamp) (cond y (b ∷ filter (λ (z : Brought). z.ino == ino) bs) (filter (λ (z : Brought). z.ino == ino) bs))) v ≡ true → (b.stamp ≡ v) ⊎ Has bs ino v
-    at true q = either (or_left (same_stamp b.stamp v) (has_stamp (stamps_of bs ino) v) q)
+    at true q = either (or_either (same_stamp b.stamp v) (has_stamp (stamps_of bs ino) v) q)
     at false q = inr q
-
-or_right : (a b : Bool) → b ≡ true → (a || b) ≡ true
-or_right true b h = refl
-or_right false b h = h
 
 later_has : (ino : ℕ) (b : Brought) (bs : List Brought) (v : Stamp) → Has bs ino v → Has (b ∷ bs) ino v
 later_has ino b bs v k = at (b.ino == ino)
   where
     at : (y : Bool) → has_stamp (map (λ (z : Brought). z.stamp) (cond y (b ∷ filter (λ (z : Brought). z.ino == ino) bs) (filter (λ (z : Brought). z.ino == ino) bs))) v ≡ true
-    at true = or_right (same_stamp b.stamp v) (has_stamp (stamps_of bs ino) v) k
+    at true = or_second (same_stamp b.stamp v) (has_stamp (stamps_of bs ino) v) k
     at false = k
 
 same_first : (ino : ℕ) (b : Brought) (bs cs : List Brought) (v : Stamp) → (Has cs ino v → Has bs ino v ⊎ ⊥) → Has (b ∷ cs) ino v → Has (b ∷ bs) ino v
@@ -198,7 +191,7 @@ module _ (c : Config) (t : List Line) (e : EpochId) (f : FileId) (css : ℕ) (m 
             w = ends_in c (entries t) e f d j q stamp may.row.gives p
 
             by_new : (s ≡ v) ⊎ Has tree.known f.ino v → HasAtLeast c t e css f v
-            by_new (inl is) = has_published d j q v (subst (EndsIn c (entries t) e f d j q) (k ∙ ap Some is) w) (file_eq q f w.group_is (test_same q.ino f.ino l))
+            by_new (inl is) = has_published d j q v (subst (EndsIn c (entries t) e f d j q) (k ∙ ap Some is) w) (file_eq q f w.group_is (equal q.ino f.ino l))
             by_new (inr z) = old v z
 
     record_has : (n : ℕ) (r : Record) → MayTell c t (Shown r) → (v : Stamp) → has_stamp (candidates c (record { line = n; what = r } ∷ entries t) e f) v ≡ true → HasAtLeast c t e css f v

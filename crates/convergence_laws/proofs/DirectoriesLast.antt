@@ -1,6 +1,7 @@
 -- Over two calm rounds that stand directly after a third: where somebody has a directory open in them its synchronization site has the only kept
 -- version at their end, since it was opened to mend.
 use Rattle.std.proofs.Common.{◌≡◌, ℕ, ◌⊎◌, true, List, ◌++◌, Option, Some, sym, ◌∙◌, ap, subst, inl, inr, arith}
+use Rattle.role_steps.proofs.of_plain_facts.Options.{some_same}
 use Rattle.locus_ids.specs.declared.config.Config.{Config}
 use Rattle.locus_ids.specs.declared.ids.CallId.{CallId}
 use Rattle.locus_ids.specs.declared.ids.FileId.{FileId}
@@ -36,11 +37,11 @@ use Rattle.tree_laws.proofs.Mending.{mends_at_sync}
 use Rattle.tree_laws.proofs.Rows.{followed_rows}
 use Rattle.order_laws.proofs.Standing.{same_file_eq}
 use Rattle.order_laws.proofs.ProcessSynchronizing.{sync_same}
-use Rattle.fit_laws.proofs.EntryFacts.{IsPlain}
-use Rattle.rest_laws.proofs.MendStepNumbered.{files_numbered}
-use Rattle.rest_laws.proofs.MendStepPlaces.{mend_place}
-use Rattle.one_tree_laws.specs.Places.{InsideFact}
-use Rattle.one_tree_laws.specs.Rest.{Past}
+use Rattle.calm_laws.proofs.of_fit_laws.EntryFacts.{IsPlain}
+use Rattle.calm_laws.proofs.of_rest_laws.MendStepNumbered.{files_numbered}
+use Rattle.calm_laws.proofs.of_rest_laws.MendStepPlaces.{mend_place}
+use Rattle.pull_laws.specs.of_one_tree_laws.Places.{InsideFact}
+use Rattle.pull_laws.specs.of_one_tree_laws.Rest.{Past}
 use Rattle.orderly_laws.specs.Calm.{AreTogether}
 use Rattle.calm_laws.specs.Carrying.{IsMember, frame_of}
 use Rattle.calm_laws.specs.Rounds.{after, IsInRound, IsCalm, CalmLeft}
@@ -57,9 +58,6 @@ use Rattle.convergence_laws.proofs.DirectoriesOpeners.{grantee, waits_or_plain}
 use Rattle.convergence_laws.proofs.DirectoriesTold.{MendsSince}
 use Rattle.convergence_laws.proofs.DirectoriesUnflagged.{calm_world}
 use Rattle.convergence_laws.proofs.Knowing.{Known, knows}
-
-one_site : (a b : ℕ) → ◌≡◌ {A = Option ℕ} (Some a) (Some b) → a ≡ b
-one_site a b q = cc
 
 dir_file : kind.Dir ≡ kind.File → ⊥
 dir_file e = cc
@@ -119,8 +117,8 @@ module _ (c : Config) (left : CalmLeft c) (lines : List ScheduleLine) (o m : ℕ
     idle = λ a q x. waits_none c left lines o e j calm_first a q d.css known.member x;
     inside = λ a q. subst (λ (t : List Line). epoch_of (entries t) a.site ≡ Some e.id) g.trace (inside_call a (subst (λ (t : List Line). IsCallIn (entries t) e.id a) (sym g.trace) q));
     no_plain = λ p. dir_file (sym is_dir_now ∙ (subst (λ (t : List Line). IsPlain c t file) (sym g.trace) p).kind_is);
-    mend_site = λ a y named made words. one_site y.site d.css (sym (mends_at_sync c end.trace facts.fact.followed a y e.id file (subst (λ (t : List Line). call_named (entries t) a ≡ Some y) (sym g.trace) named) made words) ∙ sync_end);
-    at_sync = λ a request i stamp ss was. one_site ss d.css (sym (mend_place c end.trace facts.fact.followed e.id a request i file stamp ss (subst (λ (t : List Line). WasGranted t e.id a request i mode.Mend file stamp ss) (sym g.trace) was)) ∙ sync_end);
+    mend_site = λ a y named made words. some_same y.site d.css (sym (mends_at_sync c end.trace facts.fact.followed a y e.id file (subst (λ (t : List Line). call_named (entries t) a ≡ Some y) (sym g.trace) named) made words) ∙ sync_end);
+    at_sync = λ a request i stamp ss was. some_same ss d.css (sym (mend_place c end.trace facts.fact.followed e.id a request i file stamp ss (subst (λ (t : List Line). WasGranted t e.id a request i mode.Mend file stamp ss) (sym g.trace) was)) ∙ sync_end);
   }
     where
       inside_call : (a : CallId) → IsCallIn (entries end.trace) e.id a → epoch_of (entries end.trace) a.site ≡ Some e.id

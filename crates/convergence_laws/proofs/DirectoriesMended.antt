@@ -3,6 +3,9 @@
 use Rattle.std.proofs.Common.{◌≡◌, ℕ, ◌+◌, ◌==◌, nat_lt, Bool, true, false, cond, not, ◌&&◌, ◌||◌, List, [], ◌∷◌, Option, Some, None, refl, sym, ◌∙◌, ap, subst, inl, inr, arith}
 use Rattle.std.proofs.lemmas.Bool.Decides.{nat_tests}
 use Rattle.std.specs.List.{list_any}
+use Rattle.role_steps.proofs.of_plain_facts.Numbers.{equal, equal_self}
+use Rattle.role_steps.proofs.of_plain_facts.Options.{none_some, some_same}
+use Rattle.role_steps.proofs.of_plain_facts.Tests.{true_false}
 use Rattle.locus_ids.specs.declared.config.Config.{Config}
 use Rattle.locus_ids.specs.declared.ids.FileId.{FileId}
 use Rattle.locus_ids.specs.declared.refusal.Refusal.TheVariants as refusal
@@ -27,12 +30,12 @@ use Rattle.wire_messages.specs.declared.body.Opening.TheVariants as how
 use Rattle.schedule_lines.specs.declared.line.ScheduleLine.{ScheduleLine}
 use Rattle.the_run.specs.Kept.{Among}
 use Rattle.the_run.specs.Worlds.{World}
-use Rattle.bound_laws.proofs.EachView.{EachView, KeepsViews, views_kept, views_first}
+use Rattle.pull_laws.proofs.of_bound_laws.EachView.{EachView, KeepsViews, views_kept, views_first}
 use Rattle.calm_laws.specs.Rounds.{IsInRound}
 use Rattle.calm_laws.proofs.Rounds.{in_round}
 use Rattle.the_run.specs.Steps.{is_dropped, takes, takes_call, adopts_in, tries_at, starts_mends_of, ends_event, whole, step}
 use Rattle.calm_laws.proofs.Calls.{mends_calls}
-use Rattle.calm_laws.proofs.Lists.{true_false, none_some, some_is, none_passes}
+use Rattle.calm_laws.proofs.Lists.{none_passes}
 
 -- ---- one group ----
 
@@ -102,12 +105,6 @@ put_any {A = A} test key x (y ∷ ys) h = by_order (nat_lt (key y) (key x)) (key
 
 -- ---- a mend that starts ----
 
-equal : (i j : ℕ) → (i == j) ≡ true → i ≡ j
-equal i j h = grind (arith, nat_tests)
-
-number_same : (n : ℕ) → (n == n) ≡ true
-number_same n = grind (arith, nat_tests)
-
 -- mends have their groups as keys
 mend_key : (g process : ℕ) (words : Call) → mends_in g words ≡ true → waiting_of process words ≡ g
 mend_key g process (call.Mend file) h = equal file.group g h
@@ -130,13 +127,13 @@ mend_waits f t r u packed = by_packed (is_packed f t.group) packed
 
     by_packed : (b : Bool) → b ≡ true → Waits t.group u (asks_want f w (cond b (want.OpenToMend (row_file t r)) (want.Give (reply.No refusal.NoStorage))) counted).view
     by_packed false e = absurd (true_false (sym e))
-    by_packed true e = record { hopeless = refl; waits = λ g h. stays_any (is_mend_in g) waiting_key asked u.waiting (same g) h; mine = put_any (is_mend_in t.group) waiting_key asked u.waiting (number_same t.group) }
+    by_packed true e = record { hopeless = refl; waits = λ g h. stays_any (is_mend_in g) waiting_key asked u.waiting (same g) h; mine = put_any (is_mend_in t.group) waiting_key asked u.waiting (equal_self t.group) }
       where
         asked : WaitingCall
         asked = next_request w (asking.Open (u.serials + 1) (row_file t r) how.Mend)
 
         same : (g : ℕ) (y : WaitingCall) → is_mend_in g y ≡ true → (waiting_key y == waiting_key asked) ≡ true → is_mend_in g asked ≡ true
-        same g y h k = subst (λ (i : ℕ). (t.group == i) ≡ true) (sym (equal (waiting_key y) t.group k) ∙ mend_key g y.process y.words h) (number_same t.group)
+        same g y h k = subst (λ (i : ℕ). (t.group == i) ≡ true) (sym (equal (waiting_key y) t.group k) ∙ mend_key g y.process y.words h) (equal_self t.group)
 
 -- ---- what starts in a group ----
 
@@ -212,7 +209,7 @@ abbrev pub MendsHaveStarted : Config → SiteView → Type 0
 MendsHaveStarted c v = (e : InEpoch) → v.epoch ≡ Some e → ArePacked (frame_in c 0 0 e) v.tables → (t : SyncTable) → Among t v.tables → HasMended (frame_in c 0 0 e) v t
 
 mends_started : (c : Config) (me : ℕ) (v : SiteView) (d : InEpoch) → v.epoch ≡ Some d → MendsHaveStarted c (starts_mends (frame_in c me v.boot d) v).view
-mends_started c me v d inside = subst (λ (x : SiteView). MendsHaveStarted c x) (sym same) (λ e is packed t a. over e (some_is d e (sym inside ∙ is)) packed t a)
+mends_started c me v d inside = subst (λ (x : SiteView). MendsHaveStarted c x) (sym same) (λ e is packed t a. over e (some_same d e (sym inside ∙ is)) packed t a)
   where
     u : SiteView
     u = (starts_mends (frame_in c me v.boot d) v).view

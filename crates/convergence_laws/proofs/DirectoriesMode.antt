@@ -1,5 +1,6 @@
 -- What a mend is granted is granted to mend its directory: its script asks no other open.
 use Rattle.std.proofs.Common.{◌≡◌, ℕ, Bool, true, false, cond, List, [], ◌∷◌, Option, Some, None, refl, sym, ◌∙◌, ap, subst}
+use Rattle.role_steps.proofs.of_plain_facts.Tests.{true_false}
 use Rattle.locus_ids.specs.declared.config.Config.{Config}
 use Rattle.locus_ids.specs.declared.ids.CallId.{CallId}
 use Rattle.locus_ids.specs.declared.ids.EpochId.{EpochId}
@@ -31,10 +32,9 @@ use Rattle.lawful_trace.specs.TreeRows.{IsCallIn, is_open_of}
 use Rattle.tree_laws.specs.Following.{IsFollowed}
 use Rattle.tree_laws.specs.Past.{WasGranted}
 use Rattle.tree_laws.specs.Printed.{entries}
-use Rattle.tree_laws.proofs.Names.{true_false}
 use Rattle.order_laws.proofs.Standing.{same_file_eq}
-use Rattle.store_laws.proofs.ScriptNaming.{WalksSo, openers_walk, script_by}
-use Rattle.one_tree_laws.proofs.RemovePlaced.{GrantedSo, Placed, granted_placed}
+use Rattle.pull_laws.proofs.of_store_laws.ScriptNaming.{WalksSo, openers_walk, script_by}
+use Rattle.pull_laws.proofs.of_one_tree_laws.RemovePlaced.{GrantedSo, Placed, granted_placed}
 use Rattle.holding_laws.proofs.MendMends.{IsMendCall}
 use Rattle.order_laws.specs.Joining.{PacksAreOfSites}
 use Rattle.convergence_laws.proofs.DirectoriesOpeners.{opening_there}

@@ -1,5 +1,7 @@
 -- Who has an instance in an epoch: a call that waits, or an open call, whose instance is of a file that is no directory.
 use Rattle.std.proofs.Common.{◌≡◌, ℕ, ◌⊎◌, ◌≤◌, Bool, true, false, cond, List, [], ◌∷◌, ◌++◌, append-nil, Option, Some, None, refl, sym, ◌∙◌, ap, subst, inl, inr}
+use Rattle.role_steps.proofs.of_plain_facts.Options.{none_some}
+use Rattle.role_steps.proofs.of_plain_facts.Tests.{true_false}
 use Rattle.locus_ids.specs.declared.config.Config.{Config}
 use Rattle.locus_ids.specs.declared.ids.CallId.{CallId}
 use Rattle.locus_ids.specs.declared.ids.EpochId.{EpochId}
@@ -39,30 +41,27 @@ use Rattle.tree_laws.specs.Printed.{entries, onto_entries}
 use Rattle.tree_laws.specs.Serials.{asked_now}
 use Rattle.tree_laws.proofs.Awaiting.{all_have}
 use Rattle.tree_laws.proofs.Fresh.{numbered}
-use Rattle.tree_laws.proofs.Names.{same_call_eq, same_call_own, true_false}
+use Rattle.tree_laws.proofs.Names.{same_call_eq, same_call_own}
 use Rattle.tree_laws.proofs.Rows.{followed_rows}
 use Rattle.tree_laws.proofs.Waiting.{asking_waits}
 use Rattle.order_laws.specs.Joining.{PacksAreOfSites}
 use Rattle.order_laws.proofs.Joining.{boot_low}
 use Rattle.order_laws.proofs.Standing.{same_file_eq}
-use Rattle.store_laws.proofs.Begun.{granted_in}
-use Rattle.store_laws.proofs.ScriptEnding.{GivesNone}
-use Rattle.store_laws.proofs.ScriptEndingCalls.{NotOpen, has_by, wants_end}
-use Rattle.store_laws.proofs.ScriptFitted.{began_right, fit_same, log_fits, script_sound}
-use Rattle.store_laws.proofs.ScriptFitting.{IsSound}
-use Rattle.store_laws.proofs.ScriptHad.{by_same, has_log}
-use Rattle.store_laws.proofs.ScriptNaming.{Opens, WalksSo, openers_walk, script_by}
-use Rattle.store_laws.proofs.ScriptSoundCalls.{HasFree}
-use Rattle.one_tree_laws.proofs.RemovePlaced.{GrantedSo, IsPlaced, Placed, granted_placed}
-use Rattle.one_tree_laws.proofs.RemoveScripts.{Along, along_same}
-use Rattle.rest_laws.proofs.AdoptionHaving.{HasOrWaits, granted_had}
-use Rattle.fit_laws.proofs.EntryFacts.{IsAnswered, IsKnown, IsPlain, named_known, roots_known}
-use Rattle.fit_laws.proofs.EntryHeard.{Heard}
-use Rattle.fit_laws.proofs.EntryNamed.{trace_named}
-use Rattle.fit_laws.proofs.EntryWalking.{WalkerAsks, wants_so}
-
-none_some : {A : Type 0} (a : A) → ◌≡◌ {A = Option A} None (Some a) → ⊥
-none_some a e = cc
+use Rattle.pull_laws.proofs.of_store_laws.Begun.{granted_in}
+use Rattle.pull_laws.proofs.of_store_laws.ScriptEnding.{GivesNone}
+use Rattle.pull_laws.proofs.of_store_laws.ScriptEndingCalls.{NotOpen, has_by, wants_end}
+use Rattle.pull_laws.proofs.of_store_laws.ScriptFitted.{began_right, fit_same, log_fits, script_sound}
+use Rattle.pull_laws.proofs.of_store_laws.ScriptFitting.{IsSound}
+use Rattle.pull_laws.proofs.of_store_laws.ScriptHad.{by_same, has_log}
+use Rattle.pull_laws.proofs.of_store_laws.ScriptNaming.{Opens, WalksSo, openers_walk, script_by}
+use Rattle.pull_laws.proofs.of_store_laws.ScriptSoundCalls.{HasFree}
+use Rattle.pull_laws.proofs.of_one_tree_laws.RemovePlaced.{GrantedSo, IsPlaced, Placed, granted_placed}
+use Rattle.pull_laws.proofs.of_one_tree_laws.RemoveScripts.{Along, along_same}
+use Rattle.calm_laws.proofs.of_rest_laws.AdoptionHaving.{HasOrWaits, granted_had}
+use Rattle.calm_laws.proofs.of_fit_laws.EntryFacts.{IsAnswered, IsKnown, IsPlain, named_known, roots_known}
+use Rattle.calm_laws.proofs.of_fit_laws.EntryHeard.{Heard}
+use Rattle.calm_laws.proofs.of_fit_laws.EntryNamed.{trace_named}
+use Rattle.calm_laws.proofs.of_fit_laws.EntryWalking.{WalkerAsks, wants_so}
 
 -- ---- calls have boots ----
 

@@ -3,6 +3,8 @@
 use Rattle.std.proofs.Common.{◌≡◌, ℕ, ◌==◌, ◌⊎◌, Bool, true, false, cond, List, [], ◌∷◌, Option, Some, None, refl, sym, ◌∙◌, ap, inl, inr, arith}
 use Rattle.std.proofs.lemmas.Bool.Decides.{nat_tests}
 use Rattle.std.specs.Option.{option_map}
+use Rattle.role_steps.proofs.of_plain_facts.Options.{none_some, some_same}
+use Rattle.role_steps.proofs.of_plain_facts.Tests.{true_false}
 use Rattle.locus_ids.specs.Sites.{has}
 use Rattle.locus_ids.specs.declared.config.Config.{Config}
 use Rattle.role_steps.specs.declared.synchronizing.FileRow.{FileRow}
@@ -33,7 +35,6 @@ use Rattle.orderly_laws.specs.Calm.{AreTogether}
 use Rattle.orderly_laws.proofs.Places.{view_eq}
 use Rattle.calm_laws.specs.Rounds.{after, IsInRound, CalmLeft}
 use Rattle.calm_laws.proofs.Facts.{RoundFacts, round_facts}
-use Rattle.calm_laws.proofs.Lists.{true_false, none_some, some_is}
 use Rattle.calm_laws.proofs.Members.{sync_is}
 use Rattle.convergence_laws.specs.Copies.{Knows, HoldsTheOnly}
 use Rattle.convergence_laws.specs.Rounds.{LackedRoom, AreCalmRounds, IsUndisturbed}
@@ -82,7 +83,7 @@ rescued_or_undisturbed c calm lines n m e k l file r v rounds d dir only undistu
       where
         by_held : (h : Option Stamp) → Some x ≡ option_map (copy_for file) (option_map (version_of c (entries w.trace) file) h) → x ≡ copy_for file (version_of c (entries w.trace) file x.stamp)
         by_held None q = absurd (none_some x (sym q))
-        by_held (Some stamp) q = (let eq : x ≡ copy_for file (version_of c (entries w.trace) file stamp) = some_is x (copy_for file (version_of c (entries w.trace) file stamp)) q in
+        by_held (Some stamp) q = (let eq : x ≡ copy_for file (version_of c (entries w.trace) file stamp) = some_same x (copy_for file (version_of c (entries w.trace) file stamp)) q in
             eq ∙ ap (λ (y : Stamp). copy_for file (version_of c (entries w.trace) file y)) (sym (ap (λ (y : FileCopy). y.stamp) eq)))
 
     held : (x : FileCopy) → copy_of d.view.store file ≡ Some x → x.stamp ≡ v.stamp → Result
@@ -115,7 +116,7 @@ rescued_or_undisturbed c calm lines n m e k l file r v rounds d dir only undistu
       where
         by_stamp : (b : Bool) → same_stamp x.stamp v.stamp ≡ b → Result
         by_stamp true q = held x is (same_stamp_eq x.stamp v.stamp q)
-        by_stamp false q = lacks (λ h. (let eq : x ≡ h.copy = some_is x h.copy (sym is ∙ (ap (λ (y : SiteView). copy_of y.store file) (view_eq (place_at w d.css) d.view h.view d.here h.here) ∙ h.found)) in
+        by_stamp false q = lacks (λ h. (let eq : x ≡ h.copy = some_same x h.copy (sym is ∙ (ap (λ (y : SiteView). copy_of y.store file) (view_eq (place_at w d.css) d.view h.view d.here h.here) ∙ h.found)) in
             true_false (sym (ap (λ (y : Stamp). same_stamp y v.stamp) (ap (λ (y : FileCopy). y.stamp) eq ∙ h.stamp) ∙ stamp_itself v.stamp) ∙ q)))
 
 pub rescued : (c : Config) → CalmLeft c → UndisturbedWantNoRescue c

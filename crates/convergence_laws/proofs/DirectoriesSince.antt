@@ -2,6 +2,8 @@
 -- waits then waited before, or it is a mend.
 use Rattle.std.proofs.Common.{◌≡◌, ℕ, ◌==◌, Bool, true, false, cond, not, ◌⊎◌, List, [], ◌∷◌, ◌++◌, filter, Option, Some, None, refl, sym, ◌∙◌, ap, subst, inl, inr, arith}
 use Rattle.std.proofs.lemmas.Bool.Decides.{nat_tests}
+use Rattle.role_steps.proofs.of_plain_facts.Options.{none_some, some_same}
+use Rattle.role_steps.proofs.of_plain_facts.Tests.{true_false}
 use Rattle.locus_ids.specs.declared.config.Config.{Config}
 use Rattle.locus_ids.specs.declared.ids.EpochId.{EpochId}
 use Rattle.trace_book.specs.Same.{same_call}
@@ -15,23 +17,12 @@ use Rattle.tree_model.specs.declared.accepted.Waiting.{Waiting}
 use Rattle.tree_model.specs.Calls.{waiting}
 use Rattle.tree_model.specs.Epochs.{epoch_of, has_joined}
 use Rattle.tree_model.specs.Folds.{Trace}
-use Rattle.tree_laws.specs.Following.{IsFollowed, MayTell}
+use Rattle.tree_laws.specs.Following.{MayTell}
 use Rattle.tree_laws.specs.Printed.{entries, onto_entries}
-use Rattle.tree_laws.proofs.Names.{some_is}
-use Rattle.holding_laws.proofs.Copies.{joined_more}
 use Rattle.holding_laws.proofs.MendMends.{IsMendCall}
-use Rattle.calm_laws.proofs.Lists.{true_false, none_some}
 use Rattle.convergence_laws.proofs.DirectoriesTold.{AcceptsMends, RecordMends, ToldMends}
 
 -- ---- epochs ----
-
-joined_still : (x : Told) (n : ℕ) (older : List Line) (s : ℕ) (e : EpochId) → has_joined (entries older) s e ≡ true → has_joined (onto_entries n x (entries older)) s e ≡ true
-joined_still (Shown r) n older s e h = joined_more r n (entries older) s e h
-joined_still _ n older s e h = h
-
-joined_since : (new old : List Line) (s : ℕ) (e : EpochId) → has_joined (entries old) s e ≡ true → has_joined (entries (new ++ old)) s e ≡ true
-joined_since [] old s e h = h
-joined_since (x ∷ xs) old s e h = joined_still x.told x.number (xs ++ old) s e (joined_since xs old s e h)
 
 gone : (b : Bool) (o : Option EpochId) (e : EpochId) → cond b None o ≡ Some e → o ≡ Some e
 gone true o e k = absurd (none_some e k)
@@ -45,7 +36,7 @@ inside_record c n (says.Join z d members) older s e may joined k = over (z == s)
     equal i j h = grind (arith, nat_tests)
 
     over : (b : Bool) → (z == s) ≡ b → cond b (Some d) (epoch_of (entries older) s) ≡ Some e → epoch_of (entries older) s ≡ Some e
-    over true q is = absurd (true_false (sym joined ∙ (ap (λ (i : ℕ). has_joined (entries older) i e) (sym (equal z s q)) ∙ (ap (has_joined (entries older) z) (sym (some_is d e is)) ∙ may.row.new))))
+    over true q is = absurd (true_false (sym joined ∙ (ap (λ (i : ℕ). has_joined (entries older) i e) (sym (equal z s q)) ∙ (ap (has_joined (entries older) z) (sym (some_same d e is)) ∙ may.row.new))))
     over false q is = is
 inside_record c n (says.Leave z d) older s e may joined k = gone (z == s) (epoch_of (entries older) s) e k
 inside_record c n (says.Stopped z cause) older s e may joined k = gone (z == s) (epoch_of (entries older) s) e k
@@ -55,10 +46,6 @@ inside_record c n r older s e may joined k = k
 pub inside_told : (c : Config) (n : ℕ) (x : Told) (older : List Line) (s : ℕ) (e : EpochId) → MayTell c older x → has_joined (entries older) s e ≡ true → epoch_of (onto_entries n x (entries older)) s ≡ Some e → epoch_of (entries older) s ≡ Some e
 inside_told c n (Shown r) older s e may joined k = inside_record c n r older s e may joined k
 inside_told c n _ older s e may joined k = k
-
--- one line before
-pub inside_before : (c : Config) (x : Line) (xs old : List Line) (s : ℕ) (e : EpochId) → IsFollowed c (x ∷ xs ++ old) → has_joined (entries old) s e ≡ true → epoch_of (entries (x ∷ xs ++ old)) s ≡ Some e → epoch_of (entries (xs ++ old)) s ≡ Some e
-inside_before c x xs old s e h joined k = inside_told c x.number x.told (xs ++ old) s e h.0 (joined_since xs old s e joined) k
 
 -- ---- calls ----
 

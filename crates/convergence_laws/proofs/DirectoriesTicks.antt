@@ -13,7 +13,7 @@ use Rattle.orderly_laws.specs.Calm.{ticked}
 use Rattle.orderly_laws.proofs.Formed.{among_left}
 use Rattle.calm_laws.proofs.Ticks.{AreApart, sites_apart}
 use Rattle.convergence_laws.specs.Copies.{NobodyHasOpen}
-use Rattle.convergence_laws.proofs.Noticing.{tick_touches, ticks_touch}
+use Rattle.convergence_laws.proofs.Repeating.{tick_touches, ticks_touch}
 
 abbrev IsAsEither : ℕ → World → World → World → Type 0
 IsAsEither s first last w = (place_at w s ≡ place_at first s) ⊎ (place_at w s ≡ place_at last s)

@@ -2,6 +2,7 @@
 -- synchronization site holds, has had its mend refused.
 use Rattle.std.proofs.Common.{◌≡◌, ℕ, Bool, true, false, not, ◌||◌, List, Some, refl, sym, ◌∙◌, ap, subst, arith}
 use Rattle.std.specs.List.{list_any}
+use Rattle.role_steps.proofs.of_plain_facts.Tests.{true_false}
 use Rattle.locus_ids.specs.declared.config.Config.{Config}
 use Rattle.locus_ids.specs.declared.ids.FileId.{FileId}
 use Rattle.schedule_lines.specs.declared.line.ScheduleLine.{ScheduleLine}
@@ -19,14 +20,14 @@ use Rattle.role_steps.specs.declared.synchronizing.VersionRow.{VersionRow}
 use Rattle.role_steps.specs.declared.users.WaitingCall.{WaitingCall}
 use Rattle.the_run.specs.Kept.{Among}
 use Rattle.the_run.specs.Worlds.{World, place_at}
-use Rattle.one_tree_laws.specs.Places.{InsideFact}
-use Rattle.one_tree_laws.proofs.Parts.{synced_one}
+use Rattle.pull_laws.specs.of_one_tree_laws.Places.{InsideFact}
+use Rattle.pull_laws.proofs.of_one_tree_laws.Parts.{synced_one}
 use Rattle.calm_laws.specs.Carrying.{frame_of}
 use Rattle.calm_laws.specs.Rounds.{after, IsInRound, CalmLeft, IsCalm}
 use Rattle.calm_laws.proofs.Calm.{calm_round}
 use Rattle.calm_laws.proofs.Delivered.{inside_fact}
 use Rattle.calm_laws.proofs.Facts.{round_facts}
-use Rattle.calm_laws.proofs.Lists.{true_false, row_key}
+use Rattle.calm_laws.proofs.Lists.{row_key}
 use Rattle.convergence_laws.specs.Copies.{Knows}
 use Rattle.convergence_laws.specs.Directories.{WasRefused, NoDirectoryIsFlagged}
 use Rattle.convergence_laws.proofs.Coming.{inside_view}

@@ -1,6 +1,8 @@
 -- The end of a round: no notice is under way to a member any more, so no version is due there, and the one that was on its way is held.
 use Rattle.std.proofs.Common.{◌≡◌, ℕ, ◌≤◌, ◌==◌, Bool, true, false, ◌&&◌, List, [], ◌∷◌, ◌++◌, length, Option, None, refl, sym, ◌∙◌, ap, subst, inl, inr, arith}
 use Rattle.std.proofs.lemmas.Bool.Decides.{nat_tests}
+use Rattle.role_steps.proofs.of_plain_facts.Numbers.{equal}
+use Rattle.role_steps.proofs.of_plain_facts.Tests.{both_true}
 use Rattle.locus_ids.specs.Sites.{has}
 use Rattle.locus_ids.specs.declared.config.Config.{Config}
 use Rattle.locus_ids.specs.declared.ids.FileId.{FileId}
@@ -19,7 +21,7 @@ use Rattle.orderly_laws.specs.Calm.{AreTogether}
 use Rattle.orderly_laws.proofs.Places.{is_up_linked}
 use Rattle.calm_laws.specs.Carrying.{IsMember}
 use Rattle.calm_laws.specs.Calming.{ReachThemselves}
-use Rattle.calm_laws.proofs.Lists.{both_true, every_among, none_passes}
+use Rattle.calm_laws.proofs.Lists.{every_among, none_passes}
 use Rattle.calm_laws.proofs.Members.{member_runs}
 use Rattle.convergence_laws.specs.Copies.{IsOnlyKept, HoldsTheOnly}
 use Rattle.convergence_laws.specs.Offers.{Offer, is_for, names_to, named, IsDue, IsOnItsWay}
@@ -28,9 +30,6 @@ use Rattle.convergence_laws.specs.Offers.{Offer, is_for, names_to, named, IsDue,
 
 nothing_can : (w : World) → w.over ≡ None → next_packet w ≡ None → (y : Numbered) → Among y w.underway → can_come w y ≡ true → ⊥
 nothing_can w within nothing = none_passes (can_come w) w.underway (ap (λ (o : Option Limit). next_packet_of w o) (sym within) ∙ nothing)
-
-equal : (i j : ℕ) → (i == j) ≡ true → i ≡ j
-equal i j h = grind (arith, nat_tests)
 
 -- a packet that is for a member comes from a member
 pub from_member : (e : InEpoch) (s : ℕ) (x : Numbered) → IsSender x.packet → is_for e s x.packet ≡ true → (x.packet.to ≡ s) × IsMember e x.packet.from

@@ -2,6 +2,8 @@
 -- to hold before.
 use Rattle.std.proofs.Common.{◌≡◌, ◌≢◌, ℕ, ◌==◌, Bool, true, false, cond, List, Option, Some, None, refl, sym, ◌∙◌, ap, subst, arith}
 use Rattle.std.proofs.lemmas.Bool.Decides.{nat_tests}
+use Rattle.role_steps.proofs.of_plain_facts.Numbers.{apart_test}
+use Rattle.role_steps.proofs.of_plain_facts.Options.{some_same}
 use Rattle.locus_ids.specs.Sites.{has}
 use Rattle.locus_ids.specs.declared.config.Config.{Config}
 use Rattle.locus_ids.specs.declared.ids.Stamp.{Stamp}
@@ -21,7 +23,7 @@ use Rattle.the_run.specs.Worlds.{Running}
 use Rattle.the_run.proofs.Boots.{at_each}
 use Rattle.epoch_laws.specs.Known.{Places}
 use Rattle.orderly_laws.proofs.Places.{view_eq}
-use Rattle.calm_laws.proofs.Lists.{some_is, row_key}
+use Rattle.calm_laws.proofs.Lists.{row_key}
 use Rattle.convergence_laws.specs.Offers.{Offer, IsToHold}
 
 -- ---- rows and tables ----
@@ -51,31 +53,6 @@ rows_itself t ino r e = record { file_known = r; found = e; kept = refl; set = r
 pub files_itself : (ts : List SyncTable) → KeepsFiles ts ts
 files_itself ts group n e = record { table = n; found = e; keeps = rows_itself n }
 
-pub files_then : (a b d : List SyncTable) → KeepsFiles a b → KeepsFiles b d → KeepsFiles a d
-files_then a b d h g group n e =
-    let k : SameTable b group n = g group n e in
-    let m : SameTable a group k.table = h group k.table k.found in
-    record {
-      table = m.table;
-      found = m.found;
-      keeps = λ ino r f. (let x : SameFile k.table ino r = k.keeps ino r f in
-          let y : SameFile m.table ino x.file_known = m.keeps ino x.file_known x.found in
-          record { file_known = y.file_known; found = y.found; kept = x.kept ∙ y.kept; set = x.set ∙ y.set });
-    }
-
-number_same : (n : ℕ) → (n == n) ≡ true
-number_same n = grind (arith, nat_tests)
-
-pub differ : (a b : ℕ) → (a ≡ b → ⊥) → (a == b) ≡ false
-differ a b ne = by_test (a == b) refl
-  where
-    equal : (a == b) ≡ true → a ≡ b
-    equal h = grind (arith, nat_tests)
-
-    by_test : (t : Bool) → (a == b) ≡ t → t ≡ false
-    by_test true h = absurd (ne (equal h))
-    by_test false h = refl
-
 -- a table in the place of one of its group
 pub table_put : (t n : SyncTable) (group : ℕ) (ts : List SyncTable) → row table_group group ts ≡ Some t → n.group ≡ t.group → KeepsRows t n → KeepsFiles ts (with_row table_group n ts)
 table_put t n group ts found same keeps g m e = at_each n.group g (SameTable ts g m) mine theirs
@@ -85,11 +62,11 @@ table_put t n group ts found same keeps g m e = at_each n.group g (SameTable ts 
 
     mine : n.group ≡ g → SameTable ts g m
     mine eq =
-        let is : n ≡ m = some_is n m (sym (row_same table_group n ts) ∙ (ap (λ (k : ℕ). row table_group k (with_row table_group n ts)) eq ∙ e)) in
+        let is : n ≡ m = some_same n m (sym (row_same table_group n ts) ∙ (ap (λ (k : ℕ). row table_group k (with_row table_group n ts)) eq ∙ e)) in
         record { table = t; found = subst (λ (k : ℕ). row table_group k ts ≡ Some t) (sym is_group ∙ eq) found; keeps = subst (λ (x : SyncTable). KeepsRows t x) is keeps }
 
     theirs : (n.group ≡ g → ⊥) → SameTable ts g m
-    theirs ne = record { table = m; found = sym (row_other table_group n g ts (differ n.group g ne)) ∙ e; keeps = rows_itself m }
+    theirs ne = record { table = m; found = sym (row_other table_group n g ts (apart_test n.group g ne)) ∙ e; keeps = rows_itself m }
 
 -- ---- what a member tells that it holds ----
 
@@ -135,11 +112,11 @@ have_keeps from stamp ino t = by_row (file_row t ino) refl
 
         mine : n.ino ≡ i → SameFile t i q
         mine eq =
-            let is : n ≡ q = some_is n q (sym (row_same row_ino n t.files) ∙ (ap (λ (x : ℕ). row row_ino x (with_row row_ino n t.files)) eq ∙ f)) in
+            let is : n ≡ q = some_same n q (sym (row_same row_ino n t.files) ∙ (ap (λ (x : ℕ). row row_ino x (with_row row_ino n t.files)) eq ∙ f)) in
             record { file_known = r; found = subst (λ (x : ℕ). file_row t x ≡ Some r) (sym is_ino ∙ eq) e; kept = ap (λ (x : FileRow). x.kept) (sym is) ∙ k.kept; set = ap (λ (x : FileRow). x.set) (sym is) ∙ k.set }
 
         theirs : (n.ino ≡ i → ⊥) → SameFile t i q
-        theirs ne = record { file_known = q; found = sym (row_other row_ino n i t.files (differ n.ino i ne)) ∙ f; kept = refl; set = refl }
+        theirs ne = record { file_known = q; found = sym (row_other row_ino n i t.files (apart_test n.ino i ne)) ∙ f; kept = refl; set = refl }
 
 have_group : (from : ℕ) (stamp : Stamp) (o : Option FileRow) (t : SyncTable) → (on_have_of from stamp o t).group ≡ t.group
 have_group from stamp None t = refl

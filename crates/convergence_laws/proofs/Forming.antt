@@ -1,5 +1,7 @@
 -- A packet that forms an epoch comes to a member that stays in its own: it leaves copies, pulls and tables.
 use Rattle.std.proofs.Common.{◌≡◌, ℕ, ◌==◌, ◌⊎◌, Bool, true, false, cond, not, ◌&&◌, List, [], Option, Some, None, refl, sym, ◌∙◌, ap, subst, inl, inr}
+use Rattle.role_steps.proofs.of_plain_facts.Options.{none_some}
+use Rattle.role_steps.proofs.of_plain_facts.Tests.{true_false}
 use Rattle.locus_ids.specs.declared.config.Config.{Config}
 use Rattle.locus_ids.specs.declared.ids.EpochId.{EpochId}
 use Rattle.locus_ids.specs.declared.sites.Links.{Links}
@@ -24,7 +26,6 @@ use Rattle.epoch_laws.proofs.Handlers.{leaves_of_epoch}
 use Rattle.orderly_laws.specs.Calm.{IsInside}
 use Rattle.orderly_laws.proofs.Places.{view_eq}
 use Rattle.calm_laws.specs.Rounds.{Delivery}
-use Rattle.calm_laws.proofs.Lists.{true_false, none_some}
 use Rattle.convergence_laws.specs.Converging.{GoesOn, FormsEpochs}
 use Rattle.convergence_laws.specs.Offers.{notice_in}
 use Rattle.convergence_laws.proofs.Coming.{Comes, comes_step, Ends, ends_keep, inside_view, good_in, roundless}

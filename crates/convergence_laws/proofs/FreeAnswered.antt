@@ -3,6 +3,7 @@
 use Rattle.std.proofs.Common.{◌≡◌, ℕ, ◌≤◌, true, false, List, map, Option, Some, None, refl, sym, ◌∙◌, ap, subst, arith}
 use Rattle.std.proofs.lemmas.Bool.Decides.{nat_tests}
 use Rattle.std.specs.Option.{is_some}
+use Rattle.role_steps.proofs.of_plain_facts.Options.{some_same}
 use Rattle.locus_ids.specs.declared.config.Config.{Config}
 use Rattle.locus_ids.specs.declared.ids.CallId.{CallId}
 use Rattle.locus_ids.specs.declared.ids.EpochId.{EpochId}
@@ -10,6 +11,7 @@ use Rattle.locus_ids.specs.declared.ids.FileId.{FileId}
 use Rattle.locus_ids.specs.declared.ids.Mode.{Mode}
 use Rattle.locus_ids.specs.declared.ids.Serial.{Serial}
 use Rattle.locus_ids.specs.declared.ids.Stamp.{Stamp}
+use Rattle.locus_ids.specs.Sizes.{sites_max}
 use Rattle.schedule_lines.specs.declared.line.ScheduleLine.{ScheduleLine}
 use Rattle.trace_book.specs.declared.record.Record.TheVariants as says
 use Rattle.wire_messages.specs.declared.body.Body.TheVariants as body
@@ -36,22 +38,23 @@ use Rattle.tree_laws.specs.Stores as stores
 use Rattle.tree_laws.specs.Stores.{InstanceFact}
 use Rattle.tree_laws.specs.Tables.{RowFact, StageFact}
 use Rattle.tree_laws.proofs.CarriedOpens.{was_then}
-use Rattle.store_laws.proofs.Numbers.{serial_key_eq}
-use Rattle.rest_laws.proofs.StoreStepResting.{store_rests}
-use Rattle.rest_laws.proofs.TableShutting.{shut_file}
+use Rattle.pull_laws.proofs.of_store_laws.Numbers.{serial_key_eq}
+use Rattle.calm_laws.proofs.of_rest_laws.StoreStepResting.{store_rests}
+use Rattle.calm_laws.proofs.of_rest_laws.TableShutting.{shut_file}
 use Rattle.sync_laws.proofs.Answering.{one_answer}
-use Rattle.one_tree_laws.specs.Places.{InsideFact}
-use Rattle.one_tree_laws.specs.Rest.{Past}
-use Rattle.one_tree_laws.proofs.Inside.{table_here}
-use Rattle.one_tree_laws.proofs.Parts.{tables_rise}
-use Rattle.one_tree_laws.proofs.Rising.{Rising}
+use Rattle.pull_laws.specs.of_one_tree_laws.Places.{InsideFact}
+use Rattle.pull_laws.specs.of_one_tree_laws.Rest.{Past}
+use Rattle.pull_laws.proofs.of_one_tree_laws.Inside.{table_here}
+use Rattle.pull_laws.proofs.of_one_tree_laws.Parts.{tables_rise}
+use Rattle.pull_laws.proofs.of_one_tree_laws.Rising.{Rising}
 use Rattle.orderly_laws.specs.Calm.{AreTogether}
 use Rattle.calm_laws.specs.Carrying.{IsMember, frame_of}
-use Rattle.calm_laws.specs.Rounds.{IsInRound, IsGrantedStage}
+use Rattle.calm_laws.specs.Rounds.{IsInRound}
+use Rattle.calm_laws.specs.Standing.{IsGrantedStage}
 use Rattle.calm_laws.proofs.Closed.{told}
 use Rattle.calm_laws.proofs.Delivered.{inside_fact}
 use Rattle.calm_laws.proofs.Facts.{RoundFacts, round_facts}
-use Rattle.calm_laws.proofs.Lists.{some_is, every_among, row_key}
+use Rattle.calm_laws.proofs.Lists.{every_among, row_key}
 use Rattle.calm_laws.proofs.Members.{sync_is}
 use Rattle.calm_laws.proofs.TableThere.{table_there}
 use Rattle.calm_laws.proofs.UserParts.{Found, first_found}
@@ -136,7 +139,7 @@ module _ (c : Config) (lines : List ScheduleLine) (n : ℕ) (e : InEpoch) (w : W
     of_row = row_fact table.0 found.0 at_table.0 at_row.0
 
     name : found.0.inst ≡ i.inst
-    name = serial_key_eq found.0.inst i.inst (subst (λ (z : ℕ). z ≤ 16) of_row.is_call.site_is ((store_rests c w.trace past).sites e.id of_row.call of_row.is_call.inside)) fact.user at_row.1
+    name = serial_key_eq found.0.inst i.inst (subst (λ (z : ℕ). z ≤ sites_max) of_row.is_call.site_is ((store_rests c w.trace past).sites e.id of_row.call of_row.is_call.inside)) fact.user at_row.1
 
     of_file : (q : OpenRow) (d : CallId) (z : OpenStage) → q.inst ≡ i.inst → StageFact c w.trace e.id q d z → q.file ≡ on.file
     of_file q d z same k = row_file c w.trace past.followed e.id i.inst on.call on.request on.how on.file on.stamp on.place on.granted q d z same k
@@ -169,7 +172,7 @@ module _ (c : Config) (lines : List ScheduleLine) (n : ℕ) (e : InEpoch) (w : W
     rise = tables_rise (frame_of c e css) v.tables mine.groups
 
     one : first.it ≡ table.0
-    one = some_is first.it table.0 (sym (rising_found v.tables first.it rise first.there) ∙ (ap (λ (g : ℕ). row table_group g v.tables) same_group ∙ rising_found v.tables table.0 rise at_table.0))
+    one = some_same first.it table.0 (sym (rising_found v.tables first.it rise first.there) ∙ (ap (λ (g : ℕ). row table_group g v.tables) same_group ∙ rising_found v.tables table.0 rise at_table.0))
 
     pub is_over : IsOver v i.inst
     is_over = record {

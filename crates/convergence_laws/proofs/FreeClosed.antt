@@ -3,6 +3,7 @@
 use Rattle.std.proofs.Common.{◌≡◌, ℕ, zero, suc, ◌≤◌, Bool, true, false, ◌&&◌, ◌||◌, ◌⊎◌, List, [], ◌∷◌, Option, Some, None, refl, sym, ◌∙◌, ap, subst, inl, inr, arith}
 use Rattle.std.proofs.lemmas.Bool.Decides.{nat_tests}
 use Rattle.std.specs.List.{list_any}
+use Rattle.role_steps.proofs.of_plain_facts.Tests.{true_false}
 use Rattle.locus_ids.specs.Sites.{has}
 use Rattle.locus_ids.specs.declared.config.Config.{Config}
 use Rattle.locus_ids.specs.declared.ids.FileId.{FileId}
@@ -28,11 +29,10 @@ use Rattle.tree_model.specs.State.{has_stamp}
 use Rattle.tree_laws.specs.Instances.{IsKnown}
 use Rattle.tree_laws.specs.Past.{WasNamed}
 use Rattle.tree_laws.specs.Stores.{RunsAs, StageFact, InstanceFact}
-use Rattle.tree_laws.proofs.Names.{true_false}
 use Rattle.order_laws.proofs.Standing.{same_file_eq}
 use Rattle.holding_laws.proofs.OneVersionMakes.{Free, free_or_named}
 use Rattle.sync_laws.proofs.Notices.{kept_is_known}
-use Rattle.one_tree_laws.specs.Places.{InsideFact}
+use Rattle.pull_laws.specs.of_one_tree_laws.Places.{InsideFact}
 use Rattle.orderly_laws.specs.Calm.{IsInside, AreTogether, delivers_next}
 use Rattle.orderly_laws.proofs.Places.{view_eq}
 use Rattle.calm_laws.specs.Carrying.{IsMember, frame_of}

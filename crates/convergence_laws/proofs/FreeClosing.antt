@@ -1,5 +1,6 @@
 -- An instance that a storage site is closing after an event was open there before it, with the same file: what an event adds runs.
 use Rattle.std.proofs.Common.{◌≡◌, ℕ, ◌+◌, ◌==◌, Bool, true, false, ◌⊎◌, List, [], ◌∷◌, Option, Some, None, refl, sym, ◌∙◌, ap, subst, inl, inr}
+use Rattle.role_steps.proofs.of_plain_facts.Options.{none_some, some_same}
 use Rattle.locus_ids.specs.declared.config.Config.{Config}
 use Rattle.locus_ids.specs.declared.ids.FileId.{FileId}
 use Rattle.locus_ids.specs.declared.ids.Mode.{Mode}
@@ -38,9 +39,9 @@ use Rattle.role_steps.specs.declared.rounds.InEpoch.{InEpoch}
 use Rattle.role_steps.specs.declared.synchronizing.SyncTable.{SyncTable}
 use Rattle.the_run.specs.Kept.{Among}
 use Rattle.the_run.specs.Steps.{at_table_of, is_opened_in, from_user, group_of, takes_inside, adopts_of, tries_at}
-use Rattle.store_laws.proofs.Tabled.{latest_same}
+use Rattle.pull_laws.proofs.of_store_laws.Tabled.{latest_same}
 use Rattle.convergence_laws.specs.Converging.{IsClosing}
-use Rattle.calm_laws.proofs.Lists.{none_some, some_is, row_key}
+use Rattle.calm_laws.proofs.Lists.{row_key}
 
 -- ---- instances ----
 
@@ -131,7 +132,7 @@ owing_stays f i s is = over (is_spent f i)
 
     again : (o : Option Instance) → o ≡ Some made → ClosingStays s (acts_committed f (next_stamp f (next_vector f i)) o now).view
     again None e = absurd (none_some made e)
-    again (Some j) e = acts_stays f j op.Commit (result.Committed (next_stamp f (next_vector f i))) (counted j.work) s now (ap (λ (z : Instance). z.stage) (some_is j made e) ∙ is) (commits_stays f i s is)
+    again (Some j) e = acts_stays f j op.Commit (result.Committed (next_stamp f (next_vector f i))) (counted j.work) s now (ap (λ (z : Instance). z.stage) (some_same j made e) ∙ is) (commits_stays f i s is)
 
     over : (b : Bool) → StaysIn s (elim b [
       | true ↦ acts f i op.Commit (result.No refusal.Spent) (counted i.work) s
@@ -196,7 +197,7 @@ closes_was f i s a is = over i.work.owes
 
     again : (o : Option Instance) → o ≡ Some made → ClosingWas s (shuts_again f (closing.Made (next_stamp f (next_vector f i))) o now)
     again None e = absurd (none_some made e)
-    again (Some j) e = shuts_was f j (closing.Made (next_stamp f (next_vector f i))) s now (subst (λ (z : Instance). WasOpen s z.file) (sym (some_is j made e)) was) (commits_stays f i s is)
+    again (Some j) e = shuts_was f j (closing.Made (next_stamp f (next_vector f i))) s now (subst (λ (z : Instance). WasOpen s z.file) (sym (some_same j made e)) was) (commits_stays f i s is)
 
     spent : (b : Bool) → ClosingWas s (elim b [
       | true ↦ shuts f i (closing.No refusal.Spent) s

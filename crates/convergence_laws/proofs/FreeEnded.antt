@@ -2,6 +2,7 @@
 -- one, the Closed to its synchronization site or the answer to that is under way.
 use Rattle.std.proofs.Common.{◌≡◌, ◌≢◌, ℕ, zero, suc, ◌==◌, ◌≤◌, Bool, true, false, ◌⊎◌, List, ◌∷◌, ◌++◌, Option, Some, None, refl, sym, ◌∙◌, ap, subst, inl, inr, arith, []}
 use Rattle.std.proofs.lemmas.Bool.Decides.{nat_tests}
+use Rattle.role_steps.proofs.of_plain_facts.Options.{some_same}
 use Rattle.locus_ids.specs.declared.config.Config.{Config}
 use Rattle.locus_ids.specs.declared.ids.FileId.{FileId}
 use Rattle.schedule_lines.specs.declared.line.ScheduleLine.{ScheduleLine}
@@ -27,7 +28,7 @@ use Rattle.the_run.specs.Worlds.{World, Running, Numbered, place_at, passed}
 use Rattle.the_run.proofs.Boots.{at_each}
 use Rattle.lawful_trace.specs.Places.{lines_before}
 use Rattle.tree_laws.specs.Stores.{AreApart}
-use Rattle.store_laws.proofs.Tabled.{apart_latest, latest_same}
+use Rattle.pull_laws.proofs.of_store_laws.Tabled.{apart_latest, latest_same}
 use Rattle.orderly_laws.specs.Calm.{AreTogether, delivers_next}
 use Rattle.orderly_laws.proofs.Formed.{among_left}
 use Rattle.orderly_laws.proofs.Places.{view_eq}
@@ -38,7 +39,6 @@ use Rattle.calm_laws.proofs.Calm.{calm_in_round}
 use Rattle.calm_laws.proofs.Delivered.{inside_fact}
 use Rattle.calm_laws.proofs.Events.{Under, others_stay}
 use Rattle.calm_laws.proofs.Facts.{round_facts}
-use Rattle.calm_laws.proofs.Lists.{some_is}
 use Rattle.calm_laws.proofs.Members.{sync_is, nothing_goes}
 use Rattle.calm_laws.proofs.Requests.{to_some_has}
 use Rattle.calm_laws.proofs.Rounds.{one_more}
@@ -99,7 +99,7 @@ closed_gone f s i apart a closes b = at i.stage refl closes (subst (λ (o : Opti
         new = record i { stage = stage.Closed r }
 
         same : i ≡ record i { stage = stage.Closed r }
-        same = some_is i (record i { stage = stage.Closed r }) (sym (apart_found instance_key i (with_latest instance_key (record i { stage = stage.Closed r }) s.instances) (apart_latest instance_key (record i { stage = stage.Closed r }) s.instances apart) m) ∙ latest_same instance_key (record i { stage = stage.Closed r }) s.instances)
+        same = some_same i (record i { stage = stage.Closed r }) (sym (apart_found instance_key i (with_latest instance_key (record i { stage = stage.Closed r }) s.instances) (apart_latest instance_key (record i { stage = stage.Closed r }) s.instances apart) m) ∙ latest_same instance_key (record i { stage = stage.Closed r }) s.instances)
 
 -- ---- packets ----
 

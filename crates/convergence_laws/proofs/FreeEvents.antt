@@ -12,7 +12,7 @@ use Rattle.role_steps.specs.declared.rounds.InEpoch.{InEpoch}
 use Rattle.the_run.specs.Steps.{takes_inside, tries_at, ends_event}
 use Rattle.the_run.specs.Worlds.{World, Numbered}
 use Rattle.epoch_laws.specs.Forming.{FormsNone, TableFormless, FormlessSite}
-use Rattle.epoch_laws.proofs.SitesForm.{tries_formless, framed_formless}
+use Rattle.epoch_laws.proofs.Forms.{tries_formless, framed_formless}
 use Rattle.calm_laws.specs.Carrying.{frame_of}
 use Rattle.calm_laws.specs.Rounds.{Delivery}
 use Rattle.convergence_laws.specs.Converging.{FormsEpochs}

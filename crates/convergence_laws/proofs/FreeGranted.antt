@@ -2,6 +2,7 @@
 -- file.
 use Rattle.std.proofs.Common.{◌≡◌, ℕ, ◌⊎◌, Bool, true, false, ◌||◌, List, [], ◌∷◌, Option, refl, sym, ◌∙◌, ap, subst, inl, inr}
 use Rattle.std.specs.List.{list_any}
+use Rattle.role_steps.proofs.of_plain_facts.Tests.{or_either, or_first, or_second}
 use Rattle.locus_ids.specs.declared.config.Config.{Config}
 use Rattle.locus_ids.specs.declared.ids.CallId.{CallId}
 use Rattle.locus_ids.specs.declared.ids.EpochId.{EpochId}
@@ -22,10 +23,9 @@ use Rattle.tree_laws.specs.Past.{ShutsIt, WasBegun, WasGranted, WasNamed, WasRef
 use Rattle.tree_laws.specs.Tables.{AskedFact, StageFact}
 use Rattle.tree_laws.proofs.Names.{same_serial_eq, same_serial_own}
 use Rattle.tree_laws.proofs.Serials.{unnamed}
-use Rattle.store_laws.proofs.Begun.{granted_named}
-use Rattle.store_laws.proofs.Places.{GrantedSo, granted_once, instance_granted}
+use Rattle.pull_laws.proofs.of_store_laws.Begun.{granted_named}
+use Rattle.pull_laws.proofs.of_store_laws.Places.{GrantedSo, granted_once, instance_granted}
 use Rattle.sync_laws.proofs.Answering.{one_answer}
-use Rattle.calm_laws.specs.Rounds.{IsGrantedStage}
 
 -- ---- what is closed was begun on the file on which it was granted ----
 
@@ -66,12 +66,6 @@ shut_on c (x ∷ older) h s e i (inl k) = on_later x older e i (now x.told h.0 k
 -- ---- rows ----
 
 module _ (c : Config) (trace : List Line) (followed : IsFollowed c trace) (e : EpochId) (i : Serial) where
-  granted_row : (r : OpenRow) (d : CallId) (z : OpenStage) → StageFact c trace e r d z → IsGrantedStage z → WasGranted trace e d r.request r.inst r.mode r.file r.stamp r.ss
-  granted_row r d stage.Granted k g = k.0.was_granted
-  granted_row r d stage.Ended k g = k.0
-  granted_row r d stage.Asked k g = absurd g
-  granted_row r d (stage.Refused why) k g = absurd g
-
   module _ (b : CallId) (request : ℕ) (how : Mode) (file : FileId) (stamp : Option Stamp) (place : ℕ) (granted : WasGranted trace e b request i how file stamp place) where
     one_file : (r : OpenRow) (d : CallId) → r.inst ≡ i → WasGranted trace e d r.request r.inst r.mode r.file r.stamp r.ss → r.file ≡ file
     one_file r d same k = (granted_once c trace followed e d b r.request request i r.mode how r.file file r.stamp stamp r.ss place (subst (λ (j : Serial). WasGranted trace e d r.request j r.mode r.file r.stamp r.ss) same k) granted).file_is
@@ -96,23 +90,12 @@ module _ (c : Config) (trace : List Line) (followed : IsFollowed c trace) (e : E
 abbrev is_of : Serial → OpenRow → Bool
 is_of i r = same_serial r.inst i
 
-or_cases : (a b : Bool) → (a || b) ≡ true → (a ≡ true) ⊎ (b ≡ true)
-or_cases true b e = inl refl
-or_cases false b e = inr e
-
-or_left : (a b : Bool) → a ≡ true → (a || b) ≡ true
-or_left a b e = ap (λ (x : Bool). x || b) e
-
-or_right : (a b : Bool) → b ≡ true → (a || b) ≡ true
-or_right true b e = refl
-or_right false b e = e
-
 pub any_row : (i : Serial) (rs : List OpenRow) → list_any (is_of i) rs ≡ true → (r : OpenRow) × Among r rs × (r.inst ≡ i)
 any_row i [] e = absurd (false_true e)
   where
     false_true : false ≡ true → ⊥
     false_true q = cc
-any_row i (r ∷ rs) e = over (λ h. any_row i rs h) (or_cases (is_of i r) (list_any (is_of i) rs) e)
+any_row i (r ∷ rs) e = over (λ h. any_row i rs h) (or_either (is_of i r) (list_any (is_of i) rs) e)
   where
     over : (list_any (is_of i) rs ≡ true → (q : OpenRow) × Among q rs × (q.inst ≡ i)) → (is_of i r ≡ true) ⊎ (list_any (is_of i) rs ≡ true) → (q : OpenRow) × Among q (r ∷ rs) × (q.inst ≡ i)
     over later (inl h) = (r, inl refl, same_serial_eq r.inst i h)
@@ -120,5 +103,5 @@ any_row i (r ∷ rs) e = over (λ h. any_row i rs h) (or_cases (is_of i r) (list
 
 pub any_there : (i : Serial) (rs : List OpenRow) (r : OpenRow) → Among r rs → r.inst ≡ i → list_any (is_of i) rs ≡ true
 any_there i [] r a e = absurd a
-any_there i (x ∷ xs) r (inl same) e = or_left (is_of i x) (list_any (is_of i) xs) (subst (λ (j : Serial). same_serial j i ≡ true) (sym (ap (λ (z : OpenRow). z.inst) (sym same) ∙ e)) (same_serial_own i))
-any_there i (x ∷ xs) r (inr a) e = or_right (is_of i x) (list_any (is_of i) xs) (any_there i xs r a e)
+any_there i (x ∷ xs) r (inl same) e = or_first (is_of i x) (list_any (is_of i) xs) (subst (λ (j : Serial). same_serial j i ≡ true) (sym (ap (λ (z : OpenRow). z.inst) (sym same) ∙ e)) (same_serial_own i))
+any_there i (x ∷ xs) r (inr a) e = or_second (is_of i x) (list_any (is_of i) xs) (any_there i xs r a e)

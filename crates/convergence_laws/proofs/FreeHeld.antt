@@ -3,12 +3,15 @@ use Rattle.std.proofs.Common.{◌≡◌, ℕ, zero, suc, ◌+◌, ◌-◌, ◌�
 use Rattle.std.proofs.lemmas.Bool.Decides.{nat_tests}
 use Rattle.std.specs.List.{find}
 use Rattle.std.specs.Option.{option_map}
+use Rattle.role_steps.proofs.of_plain_facts.Options.{none_some, some_same}
+use Rattle.role_steps.proofs.of_plain_facts.Tests.{both_true, true_false}
 use Rattle.locus_ids.specs.Sites.{has}
 use Rattle.locus_ids.specs.declared.config.Config.{Config}
 use Rattle.locus_ids.specs.declared.ids.FileId.{FileId}
 use Rattle.locus_ids.specs.declared.ids.Serial.{Serial}
 use Rattle.locus_ids.specs.declared.ids.Stamp.{Stamp}
 use Rattle.locus_ids.specs.declared.sites.Sites.{Sites}
+use Rattle.locus_ids.specs.Sizes.{inode_span}
 use Rattle.schedule_lines.specs.declared.line.ScheduleLine.{ScheduleLine}
 use Rattle.commit_graph.specs.Grants.{Opener}
 use Rattle.commit_graph.specs.Versions.{same_file}
@@ -40,16 +43,15 @@ use Rattle.tree_laws.specs.Packets.{file_in}
 use Rattle.tree_laws.specs.Printed.{entries}
 use Rattle.tree_laws.specs.Stores.{copy_for}
 use Rattle.tree_laws.specs.Tables.{RowFact, TableFact, named_row, named_openers, named_instance, tree_openers}
-use Rattle.tree_laws.proofs.Names.{true_false}
 use Rattle.tree_laws.proofs.Rows.{followed_rows}
 use Rattle.holding_laws.specs.Held.{IsKnownOrAhead}
 use Rattle.holding_laws.proofs.Begun.{open_in_group}
 use Rattle.holding_laws.proofs.Below.{packs_hold}
 use Rattle.holding_laws.proofs.Holding.{known_or_ahead}
-use Rattle.rest_laws.proofs.MendStepNumbered.{files_numbered}
-use Rattle.one_tree_laws.specs.Places.{InsideFact}
-use Rattle.one_tree_laws.specs.Rest.{Past}
-use Rattle.one_tree_laws.proofs.Staying.{rest_below}
+use Rattle.calm_laws.proofs.of_rest_laws.MendStepNumbered.{files_numbered}
+use Rattle.pull_laws.specs.of_one_tree_laws.Places.{InsideFact}
+use Rattle.pull_laws.specs.of_one_tree_laws.Rest.{Past}
+use Rattle.pull_laws.proofs.of_one_tree_laws.Staying.{rest_below}
 use Rattle.pull_laws.specs.Known.{written}
 use Rattle.orderly_laws.specs.Calm.{IsInside, AreTogether, delivers_next}
 use Rattle.calm_laws.specs.Carrying.{IsMember, frame_of}
@@ -57,7 +59,7 @@ use Rattle.calm_laws.specs.Rounds.{after, IsInRound, CalmLeft, Delivery}
 use Rattle.calm_laws.proofs.Calm.{calm_in_round}
 use Rattle.calm_laws.proofs.Delivered.{inside_fact}
 use Rattle.calm_laws.proofs.Facts.{RoundFacts, round_facts}
-use Rattle.calm_laws.proofs.Lists.{none_some, some_is, every_among, row_key}
+use Rattle.calm_laws.proofs.Lists.{every_among, row_key}
 use Rattle.calm_laws.proofs.Members.{sync_is}
 use Rattle.calm_laws.proofs.Rounds.{one_more}
 use Rattle.convergence_laws.specs.Converging.{GroupsHaveStarted}
@@ -81,7 +83,7 @@ found_among p [] x e = absurd (none_some x e)
 found_among {A = A} p (y ∷ ys) x e = over (p y) e (found_among p ys x)
   where
     over : (b : Bool) → ◌≡◌ {A = Option A} (cond b (Some y) (find p ys)) (Some x) → (find p ys ≡ Some x → Among x ys) → Among x (y ∷ ys)
-    over true k f = inl (sym (some_is y x k))
+    over true k f = inl (sym (some_same y x k))
     over false k f = inr (f k)
 
 among_passing : {A : Type 0} (p : A → Bool) (x : A) (xs : List A) → Among x xs → p x ≡ true → Among x (filter p xs)
@@ -124,12 +126,8 @@ open_still stage.Granted h = tt
 open_still (stage.Refused why) h = absurd (true_false (sym h))
 open_still stage.Ended h = absurd (true_false (sym h))
 
-both_of : (a b : Bool) → (a && b) ≡ true → (a ≡ true) × (b ≡ true)
-both_of true b h = (refl, h)
-both_of false b h = absurd (true_false (sym h))
-
 pub none_open : (c : Config) (lines : List ScheduleLine) (n : ℕ) (e : InEpoch) (w : World) → IsInRound c lines n w → AreTogether w e → (s : ℕ) (d : Offer) → IsDueTo c e w s d → NobodyHasOpen c e (place_at w) d.file → (i : Serial) (x : Instance) → instance_now c w.trace e.id i ≡ Some x → x.grant.file ≡ d.file → ⊥
-none_open c lines n e w round together s d due nobody i x now is_file = nobody h.known.css h.known.view t q.0 h.known.synced h.known.here h.known.found q.1.0 (both_of (same_file q.0.file d.file) (is_open_stage q.0.stage) q.1.1).0 (open_still q.0.stage (both_of (same_file q.0.file d.file) (is_open_stage q.0.stage) q.1.1).1)
+none_open c lines n e w round together s d due nobody i x now is_file = nobody h.known.css h.known.view t q.0 h.known.synced h.known.here h.known.found q.1.0 (both_true (same_file q.0.file d.file) (is_open_stage q.0.stage) q.1.1).0 (open_still q.0.stage (both_true (same_file q.0.file d.file) (is_open_stage q.0.stage) q.1.1).1)
   where
     facts : RoundFacts c w
     facts = round_facts c lines n w round
@@ -272,7 +270,7 @@ module _ (c : Config) (left : CalmLeft c) (lines : List ScheduleLine) (n m : ℕ
       past : Past c end.trace
       past = past_of_round c end facts
 
-      narrow : file.ino < 65536
+      narrow : file.ino < inode_span
       narrow = narrow_file c left lines n m e k l file v set s rest member in_set
 
       kept : IsKeptOnly c end.trace e d

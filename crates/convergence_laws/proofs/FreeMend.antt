@@ -2,12 +2,15 @@
 -- site's own pack has that version.
 use Rattle.std.proofs.Common.{◌≡◌, ℕ, zero, suc, ◌≤◌, ◌<◌, Bool, true, false, ◌⊎◌, List, [], ◌∷◌, Option, Some, None, refl, sym, ◌∙◌, ap, subst, inl, inr, arith}
 use Rattle.std.specs.Option.{option_map}
+use Rattle.role_steps.proofs.of_plain_facts.Options.{none_some, some_same}
+use Rattle.role_steps.proofs.of_plain_facts.Tests.{true_false}
 use Rattle.locus_ids.specs.Sites.{has}
 use Rattle.locus_ids.specs.declared.config.Config.{Config}
 use Rattle.locus_ids.specs.declared.ids.FileId.{FileId}
 use Rattle.locus_ids.specs.declared.ids.Stamp.{Stamp}
 use Rattle.locus_ids.specs.declared.sites.Links.{Links}
 use Rattle.locus_ids.specs.declared.sites.Sites.{Sites}
+use Rattle.locus_ids.specs.Sizes.{inode_span}
 use Rattle.schedule_lines.specs.declared.line.ScheduleLine.{ScheduleLine}
 use Rattle.commit_graph.specs.Versions.{same_stamp}
 use Rattle.commit_graph.proofs.Names.{same_stamp_eq}
@@ -31,17 +34,16 @@ use Rattle.the_run.proofs.Boots.{at_each}
 use Rattle.lawful_trace.specs.Places.{lines_before}
 use Rattle.epoch_laws.specs.Forming.{FormlessSite}
 use Rattle.epoch_laws.specs.Known.{Good}
-use Rattle.epoch_laws.proofs.SitesForm.{adopts_of_formless}
+use Rattle.epoch_laws.proofs.Forms.{adopts_of_formless}
 use Rattle.tree_model.specs.Files.{version_of}
 use Rattle.tree_laws.specs.Instances.{held_in}
 use Rattle.tree_laws.specs.Printed.{entries}
 use Rattle.tree_laws.specs.Stores.{copy_for}
 use Rattle.tree_laws.specs.Tables.{TableFact}
-use Rattle.tree_laws.proofs.Names.{true_false}
 use Rattle.order_laws.proofs.Standing.{same_file_eq}
 use Rattle.sync_laws.proofs.Notices.{rows_found}
-use Rattle.one_tree_laws.specs.Places.{InsideFact}
-use Rattle.one_tree_laws.proofs.Parts.{tables_rise, synced_one}
+use Rattle.pull_laws.specs.of_one_tree_laws.Places.{InsideFact}
+use Rattle.pull_laws.proofs.of_one_tree_laws.Parts.{tables_rise, synced_one}
 use Rattle.pull_laws.specs.Known.{written}
 use Rattle.orderly_laws.specs.Calm.{IsInside, AreTogether, delivers_next}
 use Rattle.orderly_laws.proofs.Places.{view_eq}
@@ -50,7 +52,7 @@ use Rattle.calm_laws.specs.Rounds.{after, IsInRound, CalmLeft, Delivery}
 use Rattle.calm_laws.proofs.Calm.{calm_in_round, calm_round}
 use Rattle.calm_laws.proofs.Delivered.{inside_fact}
 use Rattle.calm_laws.proofs.Facts.{RoundFacts, round_facts}
-use Rattle.calm_laws.proofs.Lists.{none_some, some_is, every_among}
+use Rattle.calm_laws.proofs.Lists.{every_among}
 use Rattle.calm_laws.proofs.Moments.{GoesOn}
 use Rattle.calm_laws.proofs.Rounds.{one_more}
 use Rattle.calm_laws.proofs.Ticks.{no_round}
@@ -71,7 +73,7 @@ use Rattle.convergence_laws.proofs.Trying.{never_below}
 
 -- ---- where a mend is wanted ----
 
-pub wanted_has : (c : Config) (lines : List ScheduleLine) (n : ℕ) (e : InEpoch) (w : World) → IsInRound c lines n w → AreTogether w e → (s : ℕ) → IsMember e s → (d : Offer) → d.file.ino < 65536 → IsDueTo c e w s d → (u : SiteView) → place_at w s ≡ Some (Running u) → IsWanted u u.tables d.file → is_above d.vector (copy_of u.store d.file) ≡ false
+pub wanted_has : (c : Config) (lines : List ScheduleLine) (n : ℕ) (e : InEpoch) (w : World) → IsInRound c lines n w → AreTogether w e → (s : ℕ) → IsMember e s → (d : Offer) → d.file.ino < inode_span → IsDueTo c e w s d → (u : SiteView) → place_at w s ≡ Some (Running u) → IsWanted u u.tables d.file → is_above d.vector (copy_of u.store d.file) ≡ false
 wanted_has c lines n e w round together s member d narrow due u here want = by_copy (copy_of u.store d.file) refl rescue
   where
     facts : RoundFacts c w
@@ -102,7 +104,7 @@ wanted_has c lines n e w round together s member d narrow due u here want = by_c
     is_view = view_eq (place_at w h.known.css) h.known.view u h.known.here (ap (place_at w) (sym is_css) ∙ here)
 
     is_table : h.known.table ≡ t
-    is_table = some_is h.known.table t (sym (ap (λ (y : SiteView). row table_group d.file.group y.tables) (sym is_view) ∙ h.known.found) ∙ (ap (λ (g : ℕ). row table_group g u.tables) (sym (ap (λ (f : FileId). f.group) is_file)) ∙ rising_found u.tables t (tables_rise (frame_of c e s) u.tables inside.groups) want.there))
+    is_table = some_same h.known.table t (sym (ap (λ (y : SiteView). row table_group d.file.group y.tables) (sym is_view) ∙ h.known.found) ∙ (ap (λ (g : ℕ). row table_group g u.tables) (sym (ap (λ (f : FileId). f.group) is_file)) ∙ rising_found u.tables t (tables_rise (frame_of c e s) u.tables inside.groups) want.there))
 
     table : TableFact c w.trace (frame_of c e s) t
     table = every_among (TableFact c w.trace (frame_of c e s)) t u.tables want.there inside.tables
@@ -111,7 +113,7 @@ wanted_has c lines n e w round together s member d narrow due u here want = by_c
     found = every_among (λ (q : FileRow). row row_ino q.ino t.files ≡ Some q) r t.files want.is_row (rows_found t.files table.rise)
 
     is_row : h.file_known ≡ r
-    is_row = some_is h.file_known r (sym h.known.is_row ∙ (ap (λ (y : SyncTable). file_row y d.file.ino) is_table ∙ (ap (λ (i : ℕ). file_row t i) (sym (ap (λ (f : FileId). f.ino) is_file)) ∙ found)))
+    is_row = some_same h.file_known r (sym h.known.is_row ∙ (ap (λ (y : SyncTable). file_row y d.file.ino) is_table ∙ (ap (λ (i : ℕ). file_row t i) (sym (ap (λ (f : FileId). f.ino) is_file)) ∙ found)))
 
     only : r.kept ≡ h.version ∷ []
     only = ap (λ (q : FileRow). q.kept) (sym is_row) ∙ h.only
@@ -127,7 +129,7 @@ wanted_has c lines n e w round together s member d narrow due u here want = by_c
 
     by_held : (o : Option Stamp) → Written (option_map (copy_for d.file) (option_map (version_of c (entries w.trace) d.file) o))
     by_held None x q = absurd (none_some x q)
-    by_held (Some now) x q = subst (λ (z : FileCopy). z.vector ≡ written c w.trace d.file z.stamp) (some_is (copy_for d.file (version_of c (entries w.trace) d.file now)) x q) refl
+    by_held (Some now) x q = subst (λ (z : FileCopy). z.vector ≡ written c w.trace d.file z.stamp) (some_same (copy_for d.file (version_of c (entries w.trace) d.file now)) x q) refl
 
     by_copy : (o : Option FileCopy) → copy_of u.store d.file ≡ o → wants_rescue_of t h.version.stamp o ≡ true → is_above d.vector o ≡ false
     by_copy None eq k = absurd (true_false (sym k))
@@ -161,7 +163,7 @@ module _ (c : Config) (left : CalmLeft c) (lines : List ScheduleLine) (n m : ℕ
   together : (j : ℕ) → j ≤ l → AreTogether (at j) e
   together j le = rest.rounds.second.each j le
 
-  narrow : file.ino < 65536
+  narrow : file.ino < inode_span
   narrow = narrow_file c left lines n m e k l file v set s rest member in_set
 
   -- at the end of the first round no call waits

@@ -1,11 +1,13 @@
 -- Wherever a file is at rest no version above the one that is kept at the end is known: so none is named by a notice, or pulled.
 use Rattle.std.proofs.Common.{◌≡◌, ℕ, ◌+◌, ◌-◌, ◌<◌, ◌==◌, true, false, List, [], ◌∷◌, ◌++◌, Some, refl, sym, ◌∙◌, ap, subst, inl, inr, arith}
+use Rattle.role_steps.proofs.of_plain_facts.Tests.{both_true}
 use Rattle.locus_ids.specs.Sites.{has}
 use Rattle.locus_ids.specs.declared.config.Config.{Config}
 use Rattle.locus_ids.specs.declared.ids.EpochId.{EpochId}
 use Rattle.locus_ids.specs.declared.ids.FileId.{FileId}
 use Rattle.locus_ids.specs.declared.ids.Stamp.{Stamp}
 use Rattle.locus_ids.specs.declared.sites.Sites.{Sites}
+use Rattle.locus_ids.specs.Sizes.{inode_span}
 use Rattle.schedule_lines.specs.declared.line.ScheduleLine.{ScheduleLine}
 use Rattle.trace_book.specs.Same.{same_epoch}
 use Rattle.wire_messages.specs.declared.body.Body.{Body}
@@ -26,9 +28,9 @@ use Rattle.tree_laws.specs.Packets.{BodyFact}
 use Rattle.tree_laws.specs.Stores.{PullFact}
 use Rattle.tree_laws.proofs.Knowing.{known_stays}
 use Rattle.tree_laws.proofs.Names.{same_epoch_eq}
-use Rattle.one_tree_laws.specs.Places.{NumberedFact}
-use Rattle.one_tree_laws.specs.Rest.{Past}
-use Rattle.rest_laws.proofs.StoreStepKnown.{stands_narrow}
+use Rattle.pull_laws.specs.of_one_tree_laws.Places.{NumberedFact}
+use Rattle.pull_laws.specs.of_one_tree_laws.Rest.{Past}
+use Rattle.calm_laws.proofs.of_rest_laws.StoreStepKnown.{stands_narrow}
 use Rattle.pull_laws.specs.Known.{written}
 use Rattle.pull_laws.proofs.Falling.{written_later}
 use Rattle.orderly_laws.specs.Calm.{AreTogether, delivered}
@@ -37,7 +39,7 @@ use Rattle.calm_laws.specs.Rounds.{after, IsInRound, CalmLeft}
 use Rattle.calm_laws.proofs.Calm.{calm_in_round}
 use Rattle.calm_laws.proofs.Delivered.{inside_fact}
 use Rattle.calm_laws.proofs.Facts.{RoundFacts, round_facts}
-use Rattle.calm_laws.proofs.Lists.{both_true, every_among}
+use Rattle.calm_laws.proofs.Lists.{every_among}
 use Rattle.calm_laws.proofs.Members.{sync_is}
 use Rattle.calm_laws.proofs.Moments.{GoesOn, goes_itself, goes_round_kept}
 use Rattle.calm_laws.proofs.Rounds.{delivered_kept, delivered_then}
@@ -104,14 +106,14 @@ module _ (c : Config) (left : CalmLeft c) (lines : List ScheduleLine) (n m : ℕ
   pub kept_at_end : IsKeptOnly c end.trace e (last_offer file v)
   kept_at_end = due_kept c lines m e end round_end together_end s (last_offer file v) due_at_end
 
-  pub narrow_file : file.ino < 65536
+  pub narrow_file : file.ino < inode_span
   narrow_file = stands_narrow c end.trace past_end.rest.each file v.stamp kept_at_end.stands
 
   module _ (w : World) (late : LateWorld c lines m e l w) where
     facts : RoundFacts c w
     facts = round_facts c lines late.line w late.round
 
-    not_above : (f : FileId) (q : Stamp) (vector : List ℕ) → f.ino < 65536 → file_key f ≡ file_key file → IsKnown c w.trace e.id f q → Stands c w.trace f q → vector ≡ written c w.trace f q → is_below v.vector vector ≡ false
+    not_above : (f : FileId) (q : Stamp) (vector : List ℕ) → f.ino < inode_span → file_key f ≡ file_key file → IsKnown c w.trace e.id f q → Stands c w.trace f q → vector ≡ written c w.trace f q → is_below v.vector vector ≡ false
     not_above f q vector narrow key known stands is = not_over c end.trace past_end e (last_offer file v) kept_at_end q vector (subst (λ (i : FileId). IsKnown c end.trace e.id i q) same known_end) (subst (λ (i : FileId). vector ≡ written c end.trace i q) same (is ∙ sym written_end))
       where
         same : f ≡ file

@@ -1,6 +1,8 @@
 -- Which mends wait at a site after an event: those that waited before it, and those that start at its end.
 use Rattle.std.proofs.Common.{◌≡◌, ℕ, ◌+◌, Bool, true, false, cond, not, ◌&&◌, ◌||◌, ◌⊎◌, List, [], ◌∷◌, ◌++◌, Option, Some, None, refl, sym, ◌∙◌, ap, inl, inr}
 use Rattle.std.specs.List.{list_any}
+use Rattle.role_steps.proofs.of_plain_facts.Options.{none_some}
+use Rattle.role_steps.proofs.of_plain_facts.Tests.{true_false}
 use Rattle.locus_ids.specs.declared.config.Config.{Config}
 use Rattle.locus_ids.specs.declared.ids.FileId.{FileId}
 use Rattle.locus_ids.specs.declared.ids.Stamp.{Stamp}
@@ -50,8 +52,7 @@ use Rattle.role_steps.specs.declared.users.WaitingCall.{WaitingCall}
 use Rattle.the_run.specs.Kept.{Among}
 use Rattle.the_run.specs.Steps.{at_table_of, is_opened_in, takes_inside, adopts_of, adopts_in, tries_at, starts_mends_of, ends_event}
 use Rattle.orderly_laws.proofs.Numbers.{left_without}
-use Rattle.user_laws.proofs.Tabled.{first_found}
-use Rattle.calm_laws.proofs.Lists.{true_false, none_some}
+use Rattle.pull_laws.proofs.of_user_laws.Tabled.{first_found}
 use Rattle.convergence_laws.proofs.Lists.{among_row}
 
 -- a mend of the file is among these calls

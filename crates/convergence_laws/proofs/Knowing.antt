@@ -2,6 +2,7 @@
 use Rattle.std.proofs.Common.{◌≡◌, ℕ, ◌<◌, List, [], ◌∷◌, refl, sym, ap, subst, inl}
 use Rattle.locus_ids.specs.declared.config.Config.{Config}
 use Rattle.locus_ids.specs.declared.ids.FileId.{FileId}
+use Rattle.locus_ids.specs.Sizes.{inode_span}
 use Rattle.schedule_lines.specs.declared.line.ScheduleLine.{ScheduleLine}
 use Rattle.role_steps.specs.Adoption.{table_group}
 use Rattle.role_steps.specs.Versions.{row_ino}
@@ -13,9 +14,9 @@ use Rattle.the_run.specs.Kept.{Among}
 use Rattle.the_run.specs.Worlds.{World, place_at}
 use Rattle.tree_laws.specs.Packets.{file_in}
 use Rattle.tree_laws.specs.Tables.{VersionFact, FileFact, TableFact}
-use Rattle.one_tree_laws.specs.Places.{InsideFact}
-use Rattle.rest_laws.proofs.StoreStepKnown.{stands_narrow}
-use Rattle.one_tree_laws.proofs.ToldVectorOnly.{row_stands}
+use Rattle.pull_laws.specs.of_one_tree_laws.Places.{InsideFact}
+use Rattle.calm_laws.proofs.of_rest_laws.StoreStepKnown.{stands_narrow}
+use Rattle.pull_laws.proofs.of_one_tree_laws.ToldVectorOnly.{row_stands}
 use Rattle.orderly_laws.specs.Calm.{AreTogether}
 use Rattle.calm_laws.specs.Carrying.{IsMember, frame_of}
 use Rattle.calm_laws.specs.Rounds.{IsInRound}
@@ -68,5 +69,5 @@ pub only_fact : (c : Config) (e : InEpoch) (w : World) (css : ℕ) (table : Sync
 only_fact c e w css table file r v k only = subst (λ (f : FileId). VersionFact c w.trace f v) k.is_file (every_among (VersionFact c w.trace (file_in file.group r.ino)) v r.kept (subst (λ (vs : List VersionRow). Among v vs) (sym only) (inl refl)) k.file_fact.keeps)
 
 -- the file has a number of 16 bits
-pub only_narrow : (c : Config) (lines : List ScheduleLine) (n : ℕ) (e : InEpoch) (w : World) → IsInRound c lines n w → AreTogether w e → (file : FileId) (r : FileRow) (v : VersionRow) → Knows c e (place_at w) file r → r.kept ≡ v ∷ [] → file.ino < 65536
+pub only_narrow : (c : Config) (lines : List ScheduleLine) (n : ℕ) (e : InEpoch) (w : World) → IsInRound c lines n w → AreTogether w e → (file : FileId) (r : FileRow) (v : VersionRow) → Knows c e (place_at w) file r → r.kept ≡ v ∷ [] → file.ino < inode_span
 only_narrow c lines n e w round together file r v k only = stands_narrow c w.trace (round_facts c lines n w round).rest.each file v.stamp (row_stands c w.trace file v (only_fact c e w k.css k.table file r v (knows c lines n e w round together file r k) only))

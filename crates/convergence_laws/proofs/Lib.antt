@@ -14,6 +14,7 @@ pub mod Copying
 pub mod Plain
 pub mod Tabled
 pub mod Forming
+pub mod Repeating
 pub mod Noticing
 pub mod Telling
 pub mod Publishing
@@ -71,3 +72,5 @@ pub mod TraceKnown
 pub mod TraceRescued
 pub mod Rested
 pub mod Wanting
+pub use Rattle.calm_laws.proofs as of_calm_laws
+pub use Rattle.orderly_laws.proofs as of_orderly_laws

@@ -1,11 +1,9 @@
 -- Elements of lists and of tables: one that is taken out, one that is put in, and the rest.
 use Rattle.std.proofs.Common.{◌≡◌, ℕ, suc, ◌==◌, nat_lt, ◌⊎◌, Bool, true, false, List, [], ◌∷◌, ◌++◌, length, Option, Some, refl, sym, ◌∙◌, ap, inl, inr, arith}
 use Rattle.std.proofs.lemmas.Bool.Decides.{nat_tests}
+use Rattle.role_steps.proofs.of_plain_facts.Tests.{true_false}
 use Rattle.role_steps.specs.Tables.{row, with_row, without_row}
 use Rattle.the_run.specs.Kept.{Among}
-
-true_false : true ≡ false → ⊥
-true_false e = cc
 
 -- ---- lists ----
 

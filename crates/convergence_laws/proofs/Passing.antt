@@ -1,6 +1,7 @@
 -- A packet comes in a round: a member takes it, or it is gone, members stay as they are, and it was for none of them.
 use Rattle.std.proofs.Common.{◌≡◌, ℕ, zero, suc, ◌==◌, ◌⊎◌, Bool, true, false, List, [], ◌∷◌, ◌++◌, Some, None, refl, sym, ◌∙◌, ap, subst, inl, inr, arith}
 use Rattle.std.proofs.lemmas.Bool.Decides.{nat_tests}
+use Rattle.role_steps.proofs.of_plain_facts.Tests.{both_true, true_false}
 use Rattle.locus_ids.specs.declared.config.Config.{Config}
 use Rattle.schedule_lines.specs.declared.line.ScheduleLine.{ScheduleLine}
 use Rattle.role_steps.specs.Tables.{without_row}
@@ -14,7 +15,6 @@ use Rattle.orderly_laws.proofs.Places.{view_eq}
 use Rattle.calm_laws.specs.Carrying.{IsMember}
 use Rattle.calm_laws.specs.Rounds.{IsInRound, Delivery}
 use Rattle.calm_laws.proofs.Events.{arrives_cases}
-use Rattle.calm_laws.proofs.Lists.{true_false, both_true}
 use Rattle.convergence_laws.specs.Offers.{is_for}
 use Rattle.convergence_laws.proofs.Coming.{for_taken}
 use Rattle.convergence_laws.proofs.Events.{Moved, acts_moved}

@@ -1,6 +1,9 @@
 -- A Closed comes to a synchronization site, which may publish a version: whoever is to hold it is notified of it in that event, so what
 -- is on its way stays so.
 use Rattle.std.proofs.Common.{◌≡◌, ℕ, ◌+◌, ◌≤◌, ◌⊎◌, Bool, true, false, List, ◌++◌, length, map, Option, Some, None, refl, sym, ◌∙◌, ap, subst, inl, inr, arith}
+use Rattle.role_steps.proofs.of_plain_facts.Numbers.{apart_test}
+use Rattle.role_steps.proofs.of_plain_facts.Options.{none_some, some_same}
+use Rattle.role_steps.proofs.of_plain_facts.Tests.{true_false}
 use Rattle.locus_ids.specs.Sites.{has}
 use Rattle.locus_ids.specs.declared.config.Config.{Config}
 use Rattle.locus_ids.specs.declared.sites.Sites.{Sites}
@@ -34,8 +37,8 @@ use Rattle.the_run.specs.Worlds.{World, Running, Numbered, place_at, numbered_fr
 use Rattle.the_run.proofs.Boots.{at_each}
 use Rattle.make_laws.specs.Made.{WorldSent}
 use Rattle.make_laws.proofs.SendersRun.{sent_kept, first_sent}
-use Rattle.one_tree_laws.proofs.Parts.{tables_rise}
-use Rattle.one_tree_laws.proofs.Rising.{Rising}
+use Rattle.pull_laws.proofs.of_one_tree_laws.Parts.{tables_rise}
+use Rattle.pull_laws.proofs.of_one_tree_laws.Rising.{Rising}
 use Rattle.orderly_laws.specs.Calm.{IsInside}
 use Rattle.orderly_laws.proofs.Formed.{among_left, order_has}
 use Rattle.orderly_laws.proofs.Places.{view_eq}
@@ -45,13 +48,13 @@ use Rattle.calm_laws.specs.Carrying.{IsMember, frame_of}
 use Rattle.calm_laws.specs.Rounds.{Delivery}
 use Rattle.calm_laws.proofs.Delivered.{inside_fact}
 use Rattle.calm_laws.proofs.Facts.{round_facts}
-use Rattle.calm_laws.proofs.Lists.{true_false, none_some, some_is, row_key}
+use Rattle.calm_laws.proofs.Lists.{row_key}
 use Rattle.calm_laws.proofs.Rounds.{in_round}
 use Rattle.convergence_laws.specs.Converging.{TellsHolders, GoesOn, MayPublish}
 use Rattle.convergence_laws.specs.Offers.{Offer, names, named, is_above, IsToHold, IsOnItsWay}
 use Rattle.convergence_laws.proofs.Coming.{Came, came, Ends, ends_keep, Names, names_then, taken_whole, inside_view, roundless}
 use Rattle.convergence_laws.proofs.Copying.{the_links, names_nothing, keeps_on}
-use Rattle.convergence_laws.proofs.Files.{SameFile, noted_same, differ}
+use Rattle.convergence_laws.proofs.Files.{SameFile, noted_same}
 use Rattle.convergence_laws.proofs.Named.{named_there}
 use Rattle.convergence_laws.proofs.Noticing.{member_passes, notice_there, notice_names}
 use Rattle.convergence_laws.proofs.Plain.{SameFiles}
@@ -114,8 +117,8 @@ released f ss r (Some v) t granted = inr (record {
 
     files : (ino : ℕ) (q : FileRow) → file_row after ino ≡ Some q → (q ≡ new) ⊎ SameFile t ino q
     files ino q e = at_each new.ino ino ((q ≡ new) ⊎ SameFile t ino q)
-        (λ eq. inl (sym (some_is new q (sym (row_same row_ino new t.files) ∙ (ap (λ (i : ℕ). row row_ino i (with_row row_ino new t.files)) eq ∙ e)))))
-        (λ ne. inr (record { file_known = q; found = sym (row_other row_ino new ino t.files (differ new.ino ino ne)) ∙ e; kept = refl; set = refl }))
+        (λ eq. inl (sym (some_same new q (sym (row_same row_ino new t.files) ∙ (ap (λ (i : ℕ). row row_ino i (with_row row_ino new t.files)) eq ∙ e)))))
+        (λ ne. inr (record { file_known = q; found = sym (row_other row_ino new ino t.files (apart_test new.ino ino ne)) ∙ e; kept = refl; set = refl }))
 
 closed_at : (f : Frame) (ss : ℕ) (r : OpenRow) (made : Option MadeVersion) (g : OpenStage) (t : SyncTable) → r.stage ≡ g → StaysOr f t (Some r) (closes_at f ss r made g t)
 closed_at f ss r made stage.Granted t is = released f ss r made t is
@@ -233,13 +236,13 @@ publishes_on c lines n e x w s file v inst made t d is m found p old =
             }
 
             other : (o.view.group ≡ a.file.group → ⊥) → IsToHold c e (place_at w) s a ⊎ Among a (named e s k.comes.more)
-            other ne = inl (before h.known.table (sym (row_other table_group o.view a.file.group d.view.tables (differ o.view.group a.file.group ne)) ∙ now_found) (record { file_known = h.file_known; found = h.known.is_row; kept = refl; set = refl }))
+            other ne = inl (before h.known.table (sym (row_other table_group o.view a.file.group d.view.tables (apart_test o.view.group a.file.group ne)) ∙ now_found) (record { file_known = h.file_known; found = h.known.is_row; kept = refl; set = refl }))
 
             this : o.view.group ≡ a.file.group → IsToHold c e (place_at w) s a ⊎ Among a (named e s k.comes.more)
             this same_group = by_row (p.files a.file.ino h.file_known (ap (λ (y : SyncTable). file_row y a.file.ino) is_table ∙ h.known.is_row))
               where
                 is_table : o.view ≡ h.known.table
-                is_table = some_is o.view h.known.table (sym (row_same table_group o.view d.view.tables) ∙ (ap (λ (i : ℕ). row table_group i (with_row table_group o.view d.view.tables)) same_group ∙ now_found))
+                is_table = some_same o.view h.known.table (sym (row_same table_group o.view d.view.tables) ∙ (ap (λ (i : ℕ). row table_group i (with_row table_group o.view d.view.tables)) same_group ∙ now_found))
 
                 is_group : t.group ≡ a.file.group
                 is_group = sym p.group ∙ same_group
@@ -279,7 +282,7 @@ publishing_goes_on c lines n e x w s file v d kind m started none free old = by_
 
         by_case : (t : SyncTable) → first_that (is_opened_in inst) d.view.tables ≡ Some t → StaysOr (frame_of c e x.packet.to) t (open_row t inst) (on_closed (frame_of c e x.packet.to) x.packet.from inst made t) → IsOnItsWay c e (place_at (arrives c n x w)) (arrives c n x w).underway s file v
         by_case t found (inr p) = publishes_on c lines n e x w s file v inst made t d is m found p old
-        by_case t found (inl h) = stays (λ z q. subst (λ (y : SyncTable). SameFiles y (on_closed (frame_of c e x.packet.to) x.packet.from inst made y)) (some_is t z (sym found ∙ q)) h)
+        by_case t found (inl h) = stays (λ z q. subst (λ (y : SyncTable). SameFiles y (on_closed (frame_of c e x.packet.to) x.packet.from inst made y)) (some_same t z (sym found ∙ q)) h)
 
         by_table : (q : Option SyncTable) → first_that (is_opened_in inst) d.view.tables ≡ q → IsOnItsWay c e (place_at (arrives c n x w)) (arrives c n x w).underway s file v
         by_table None h = stays (λ z q. absurd (none_some z (sym h ∙ q)))

@@ -18,8 +18,8 @@ use Rattle.tree_laws.specs.Printed.{entries}
 use Rattle.tree_laws.specs.Tables.{VersionFact}
 use Rattle.tree_laws.proofs.Histories.{content_same}
 use Rattle.sync_laws.proofs.Versions.{row_size}
-use Rattle.one_tree_laws.proofs.ToldVectorOnly.{row_stands}
-use Rattle.one_tree_laws.specs.Rest.{Past}
+use Rattle.pull_laws.proofs.of_one_tree_laws.ToldVectorOnly.{row_stands}
+use Rattle.pull_laws.specs.of_one_tree_laws.Rest.{Past}
 use Rattle.pull_laws.proofs.Falling.{past_earlier, stands_later}
 use Rattle.orderly_laws.specs.Calm.{AreTogether}
 use Rattle.calm_laws.specs.Carrying.{IsMember}

@@ -2,11 +2,15 @@
 -- Page is under way. Each delivery keeps that.
 use Rattle.std.proofs.Common.{◌≡◌, ◌≢◌, ℕ, ◌-◌, ◌*◌, ◌<◌, ◌≤◌, ◌==◌, nat_lt, min, ◌⊎◌, Bool, true, false, cond, not, ◌&&◌, List, [], ◌∷◌, ◌++◌, length, take, drop, Option, Some, None, refl, sym, ◌∙◌, ap, subst, inl, inr, arith, length-take, length-drop}
 use Rattle.std.proofs.lemmas.Bool.Decides.{nat_tests}
+use Rattle.role_steps.proofs.of_plain_facts.Numbers.{equal_self}
+use Rattle.role_steps.proofs.of_plain_facts.Options.{none_some, some_same}
+use Rattle.role_steps.proofs.of_plain_facts.Tests.{true_false}
 use Rattle.locus_ids.specs.declared.config.Config.{Config}
 use Rattle.locus_ids.specs.declared.ids.FileId.{FileId}
 use Rattle.locus_ids.specs.declared.ids.Kind.{Kind}
 use Rattle.locus_ids.specs.declared.ids.Stamp.{Stamp}
 use Rattle.locus_ids.specs.declared.sites.Sites.{Sites}
+use Rattle.locus_ids.specs.Sizes.{page_bytes}
 use Rattle.schedule_lines.specs.declared.line.ScheduleLine.{ScheduleLine}
 use Rattle.commit_graph.specs.Versions.{same_stamp}
 use Rattle.file_content.specs.Pages.{pages_of, page_of}
@@ -35,13 +39,13 @@ use Rattle.the_run.specs.Steps.{in_order, is_opened_in, at_table_of, with_pulls,
 use Rattle.the_run.specs.Worlds.{World, Running, Numbered, Line, number_of, numbered_from, place_at, passed}
 use Rattle.the_run.proofs.Boots.{at_each}
 use Rattle.epoch_laws.specs.Forming.{FormsNone}
-use Rattle.store_laws.proofs.Tabled.{ascends_row}
-use Rattle.rest_laws.proofs.TableNoting.{ascends_found}
-use Rattle.user_laws.proofs.Tabled.{among_with, one_row}
+use Rattle.pull_laws.proofs.of_store_laws.Tabled.{ascends_row}
+use Rattle.calm_laws.proofs.of_rest_laws.TableNoting.{ascends_found}
+use Rattle.pull_laws.proofs.of_user_laws.Tabled.{among_with, one_row}
 use Rattle.tree_laws.specs.Instances.{HasAtLeast, IsKnown, Stands}
 use Rattle.tree_laws.specs.Printed.{entries}
 use Rattle.tree_laws.specs.Stores.{Ascends, PullFact, copy_for}
-use Rattle.one_tree_laws.specs.Rest.{Past}
+use Rattle.pull_laws.specs.of_one_tree_laws.Rest.{Past}
 use Rattle.pull_laws.specs.Pulls.{PullsAscend}
 use Rattle.pull_laws.proofs.Ascending.{ascend_kept, first_ascend}
 use Rattle.orderly_laws.specs.Calm.{AreTogether}
@@ -56,7 +60,7 @@ use Rattle.calm_laws.specs.Rounds.{IsInRound, Delivery}
 use Rattle.calm_laws.proofs.Delivered.{inside_fact}
 use Rattle.calm_laws.proofs.Events.{Under, others_stay}
 use Rattle.calm_laws.proofs.Facts.{RoundFacts, round_facts}
-use Rattle.calm_laws.proofs.Lists.{true_false, none_some, some_is, every_among}
+use Rattle.calm_laws.proofs.Lists.{every_among}
 use Rattle.calm_laws.proofs.Members.{nothing_goes}
 use Rattle.calm_laws.proofs.Moments.{GoesOn, goes_itself, goes_round_kept}
 use Rattle.calm_laws.proofs.Rounds.{in_round}
@@ -84,7 +88,7 @@ pub record BringsPage (c : Config) (e : InEpoch) (s : ℕ) (p : Pull) (q : Packe
   pub from : ℕ
   pub member : IsMember e from
   pub bytes : List ℕ
-  pub many : length bytes ≡ min 1024 (p.size - 1024 * next_page p)
+  pub many : length bytes ≡ min page_bytes (p.size - page_bytes * next_page p)
   pub is : q ≡ packet (frame_of c e from) s (body.Page p.file p.stamp (next_page p) bytes)
 
 abbrev pub CarriesPage : Config → InEpoch → ℕ → Pull → Packet → Type 0
@@ -105,10 +109,7 @@ AllGo c e w file = (s : ℕ) (y : SiteView) (p : Pull) → IsMember e s → plac
 
 -- ---- numbers of pages ----
 
-whole_pages : (k : ℕ) → pages_of (1024 * k) ≡ k
-whole_pages k = omega arith
-
-next_there : (n size k : ℕ) → n ≡ 1024 * k → n ≤ size → (n ≡ size → ⊥) → nat_lt (pages_of n) (pages_of size) ≡ true
+next_there : (n size k : ℕ) → n ≡ page_bytes * k → n ≤ size → (n ≡ size → ⊥) → nat_lt (pages_of n) (pages_of size) ≡ true
 next_there n size k is le ne = by_test (nat_lt (pages_of n) (pages_of size)) refl
   where
     low : n < size
@@ -134,14 +135,11 @@ next_there n size k is le ne = by_test (nat_lt (pages_of n) (pages_of size)) ref
     by_test true q = refl
     by_test false q = absurd (not_less (pages_of n) (pages_of size) pages q)
 
-page_length : (content : List ℕ) (page : ℕ) → length (page_of content page) ≡ min 1024 (length content - 1024 * page)
-page_length content page = length-take 1024 (drop (1024 * page) content) ∙ ap (min 1024) (length-drop (1024 * page) content)
+page_length : (content : List ℕ) (page : ℕ) → length (page_of content page) ≡ min page_bytes (length content - page_bytes * page)
+page_length content page = length-take page_bytes (drop (page_bytes * page) content) ∙ ap (min page_bytes) (length-drop (page_bytes * page) content)
 
 stamp_itself : (a : Stamp) → same_stamp a a ≡ true
 stamp_itself a = grind (arith, nat_tests)
-
-number_same : (n : ℕ) → (n == n) ≡ true
-number_same n = grind (arith, nat_tests)
 
 -- ---- a packet that comes ----
 
@@ -224,7 +222,7 @@ page_new f about stamp page bytes ps p = by_pull (pull_of ps about)
     by_pull (Some z) = by_test z (is_awaited z stamp page bytes)
 
 -- the page that a pull awaits makes it longer, and the next one is asked
-page_taken : (f : Frame) (p : Pull) (bytes : List ℕ) (ps : List Pull) → Ascends pull_key ps → Among p ps → is_complete p ≡ false → length bytes ≡ min 1024 (p.size - 1024 * next_page p) → Among p (on_page f p.file p.stamp (next_page p) bytes ps).view →
+page_taken : (f : Frame) (p : Pull) (bytes : List ℕ) (ps : List Pull) → Ascends pull_key ps → Among p ps → is_complete p ≡ false → length bytes ≡ min page_bytes (p.size - page_bytes * next_page p) → Among p (on_page f p.file p.stamp (next_page p) bytes ps).view →
     (q : Packet) → Among q (pull_packets f p) → Among q (on_page f p.file p.stamp (next_page p) bytes ps).sent
 page_taken f p bytes ps up a unfinished many there = by_pull (pull_of ps p.file) (ascends_found pull_key ps p up a) there
   where
@@ -235,8 +233,8 @@ page_taken f p bytes ps up a unfinished many there = by_pull (pull_of ps p.file)
     more = record p { content = p.content ++ bytes }
 
     awaited : is_awaited p p.stamp (next_page p) bytes ≡ true
-    awaited = all (same_stamp p.stamp p.stamp) (is_complete p) (next_page p == next_page p) (length bytes == min 1024 (p.size - 1024 * next_page p)) (stamp_itself p.stamp) unfinished (number_same (next_page p))
-        (ap (λ (m : ℕ). m == min 1024 (p.size - 1024 * next_page p)) many ∙ number_same (min 1024 (p.size - 1024 * next_page p)))
+    awaited = all (same_stamp p.stamp p.stamp) (is_complete p) (next_page p == next_page p) (length bytes == min page_bytes (p.size - page_bytes * next_page p)) (stamp_itself p.stamp) unfinished (equal_self (next_page p))
+        (ap (λ (m : ℕ). m == min page_bytes (p.size - page_bytes * next_page p)) many ∙ equal_self (min page_bytes (p.size - page_bytes * next_page p)))
       where
         all : (i j k l : Bool) → i ≡ true → j ≡ false → k ≡ true → l ≡ true → (i && (not j && (k && l))) ≡ true
         all true false true true a b d g = refl
@@ -251,7 +249,7 @@ page_taken f p bytes ps up a unfinished many there = by_pull (pull_of ps p.file)
 
     by_pull : (o : Option Pull) → o ≡ Some p → Sent (on_page_of f p.stamp (next_page p) bytes o ps)
     by_pull None e = absurd (none_some p e)
-    by_pull (Some z) e = subst (λ (y : Pull). Sent (on_page_of f p.stamp (next_page p) bytes (Some y) ps)) (sym (some_is z p e)) (by_test (is_awaited p p.stamp (next_page p) bytes) awaited)
+    by_pull (Some z) e = subst (λ (y : Pull). Sent (on_page_of f p.stamp (next_page p) bytes (Some y) ps)) (sym (some_same z p e)) (by_test (is_awaited p p.stamp (next_page p) bytes) awaited)
 
 -- what is pulled after a try was pulled before it
 less_by_try : (f : Frame) (ps : List Pull) (v : SiteView) (y : Pull) → Among y (adopts_first f ps v).view.pulls → Among y v.pulls
@@ -273,7 +271,7 @@ less_by_try f (q ∷ qs) v y a = by_ready (is_ready v q) (less_by_try f qs v y) 
 
 -- a packet between members is for its receiver
 goes_for : (c : Config) (e : InEpoch) (from to : ℕ) (b : Body) → is_for e to (packet (frame_of c e from) to b) ≡ true
-goes_for c e from to b = all (to == to) (boot_in e.members.boot to == boot_in e.members.boot to) (same_epoch e.id e.id) (boot_in e.members.boot from == boot_in e.members.boot from) (number_same to) (number_same (boot_in e.members.boot to)) epoch_itself (number_same (boot_in e.members.boot from))
+goes_for c e from to b = all (to == to) (boot_in e.members.boot to == boot_in e.members.boot to) (same_epoch e.id e.id) (boot_in e.members.boot from == boot_in e.members.boot from) (equal_self to) (equal_self (boot_in e.members.boot to)) epoch_itself (equal_self (boot_in e.members.boot from))
   where
     epoch_itself : same_epoch e.id e.id ≡ true
     epoch_itself = grind (arith, nat_tests)
@@ -313,7 +311,7 @@ settled_at c lines n e w u new file css s y p round follows goes together sync n
 
 answered : (c : Config) (lines : List ScheduleLine) (n : ℕ) (e : InEpoch) (x : Numbered) (w : World) (file : FileId) (s : ℕ) (y : SiteView) (p : Pull) → (d : Delivery c lines n e x w) → Settled c lines n e w file p.stamp → IsMember e s → place_at w s ≡ Some (Running y) → Among p y.pulls → p.file ≡ file → is_complete p ≡ false →
     AsksPage c e s p x.packet → PageOnWay c e (arrives c n x w) s p
-answered c lines n e x w file s y p d k m here a is unfinished asks = record { letter = u.letter; there = u.there; carries = inr (record { from = to; member = d.member; bytes = bytes; many = page_length content (next_page p) ∙ ap (λ (z : ℕ). min 1024 (z - 1024 * next_page p)) size; is = u.is ∙ ap (λ (g : FileId). packet (frame_of c e to) s (body.Page g p.stamp (next_page p) bytes)) (sym is) }) }
+answered c lines n e x w file s y p d k m here a is unfinished asks = record { letter = u.letter; there = u.there; carries = inr (record { from = to; member = d.member; bytes = bytes; many = page_length content (next_page p) ∙ ap (λ (z : ℕ). min page_bytes (z - page_bytes * next_page p)) size; is = u.is ∙ ap (λ (g : FileId). packet (frame_of c e to) s (body.Page g p.stamp (next_page p) bytes)) (sym is) }) }
   where
     to : ℕ
     to = x.packet.to
@@ -353,7 +351,7 @@ answered c lines n e x w file s y p d k m here a is unfinished asks = record { l
 
     -- the pull has whole pages, and lacks some
     short : length p.content ≡ p.size → ⊥
-    short q = true_false (sym (ap (λ (z : ℕ). z == p.size) q ∙ number_same p.size) ∙ unfinished)
+    short q = true_false (sym (ap (λ (z : ℕ). z == p.size) q ∙ equal_self p.size) ∙ unfinished)
 
     within : length p.content ≤ p.size
     within = (let few : length p.content ≤ length fact.version.content = taken_less p.content fact.version.content fact.pages in let same : length fact.version.content ≡ p.size = fact.size_is in omega (arith, few, same))
@@ -369,7 +367,7 @@ answered c lines n e x w file s y p d k m here a is unfinished asks = record { l
         both true false a b = absurd (true_false (sym b))
         both false j a b = absurd (true_false (sym a))
 
-        by_even : (length p.content ≡ p.size) ⊎ ((j : ℕ) × (length p.content ≡ 1024 * j)) → nat_lt (next_page p) (pages_of p.size) ≡ true
+        by_even : (length p.content ≡ p.size) ⊎ ((j : ℕ) × (length p.content ≡ page_bytes * j)) → nat_lt (next_page p) (pages_of p.size) ≡ true
         by_even (inl q) = absurd (short q)
         by_even (inr q) = next_there (length p.content) p.size q.0 q.1 within short
 

@@ -4,11 +4,14 @@ use Rattle.std.proofs.Common.{◌≡◌, ℕ, zero, suc, ◌<◌, nat_lt, ◌⊎
 use Rattle.std.proofs.lemmas.Bool.Decides.{nat_tests}
 use Rattle.std.specs.List.{find}
 use Rattle.std.specs.Option.{option_map}
+use Rattle.role_steps.proofs.of_plain_facts.Options.{none_some, some_same}
+use Rattle.role_steps.proofs.of_plain_facts.Tests.{both_true, true_false}
 use Rattle.locus_ids.specs.declared.config.Config.{Config}
 use Rattle.locus_ids.specs.declared.ids.EpochId.{EpochId}
 use Rattle.locus_ids.specs.declared.ids.FileId.{FileId}
 use Rattle.locus_ids.specs.declared.ids.Stamp.{Stamp}
 use Rattle.locus_ids.specs.declared.sites.Members.{Members}
+use Rattle.locus_ids.specs.Sizes.{inode_span}
 use Rattle.schedule_lines.specs.declared.line.ScheduleLine.{ScheduleLine}
 use Rattle.commit_graph.specs.Versions.{same_file}
 use Rattle.tree_model.specs.declared.instance.Instance.{Instance}
@@ -47,12 +50,12 @@ use Rattle.holding_laws.proofs.Below.{packs_hold}
 use Rattle.holding_laws.proofs.Holding.{known_or_ahead, sites_hold}
 use Rattle.holding_laws.proofs.Rising.{known_stands}
 use Rattle.holding_laws.proofs.MendOnly.{only_had}
-use Rattle.rest_laws.proofs.MendStepNumbered.{files_numbered}
-use Rattle.rest_laws.proofs.EpochTreeMembers.{Joined, joined_as}
-use Rattle.one_tree_laws.specs.Places.{InsideFact}
-use Rattle.one_tree_laws.specs.Rest.{Past}
-use Rattle.one_tree_laws.proofs.Staying.{rest_below}
-use Rattle.rest_laws.proofs.StoreStepKnown.{stands_narrow}
+use Rattle.calm_laws.proofs.of_rest_laws.MendStepNumbered.{files_numbered}
+use Rattle.calm_laws.proofs.of_rest_laws.EpochTreeMembers.{Joined, joined_as}
+use Rattle.pull_laws.specs.of_one_tree_laws.Places.{InsideFact}
+use Rattle.pull_laws.specs.of_one_tree_laws.Rest.{Past}
+use Rattle.pull_laws.proofs.of_one_tree_laws.Staying.{rest_below}
+use Rattle.calm_laws.proofs.of_rest_laws.StoreStepKnown.{stands_narrow}
 use Rattle.pull_laws.specs.Known.{written}
 use Rattle.pull_laws.proofs.Falling.{past_earlier, written_later}
 use Rattle.pull_laws.proofs.Under.{known_under}
@@ -61,7 +64,7 @@ use Rattle.calm_laws.specs.Carrying.{IsMember, frame_of}
 use Rattle.calm_laws.specs.Rounds.{IsInRound}
 use Rattle.calm_laws.proofs.Delivered.{inside_fact}
 use Rattle.calm_laws.proofs.Facts.{RoundFacts, round_facts}
-use Rattle.calm_laws.proofs.Lists.{true_false, both_true, none_some, some_is, every_among, row_key}
+use Rattle.calm_laws.proofs.Lists.{every_among, row_key}
 use Rattle.calm_laws.proofs.Members.{sync_is}
 use Rattle.calm_laws.proofs.TableThere.{table_there}
 use Rattle.convergence_laws.specs.Copies.{HoldsTheOnly, IsOpenStill, NobodyHasOpen}
@@ -100,7 +103,7 @@ found_left {A = A} through test (y ∷ ys) x e t none = over (through y) (test y
   where
     over : (a b : Bool) → test y ≡ b → ◌≡◌ {A = Option A} (cond a (Some y) (find through ys)) (Some x) → ◌≡◌ {A = List A} (cond b (y ∷ filter test ys) (filter test ys)) [] → (find through ys ≡ Some x → filter test ys ≡ [] → ⊥) → ⊥
     over a true q k m rest = cons_nil y (filter test ys) m
-    over true false q k m rest = true_false (sym t ∙ (ap test (sym (some_is y x k)) ∙ q))
+    over true false q k m rest = true_false (sym t ∙ (ap test (sym (some_same y x k)) ∙ q))
     over false false q k m rest = rest k m
 
 map_nil : {A B : Type 0} (g : A → B) (xs : List A) → map g xs ≡ [] → xs ≡ []
@@ -188,7 +191,7 @@ module _ (c : Config) (lines : List ScheduleLine) (n : ℕ) (e : InEpoch) (w : W
   laws : LawsBelow c t
   laws = rest_below c t facts.rest
 
-  narrow : file.ino < 65536
+  narrow : file.ino < inode_span
   narrow = stands_narrow c t facts.rest.each file stamp k.stands
 
   none_ahead : (site : ℕ) → IsAhead c t e.id site file → ⊥
@@ -206,7 +209,7 @@ module _ (c : Config) (lines : List ScheduleLine) (n : ℕ) (e : InEpoch) (w : W
 
   -- who has something in the epoch is a member
   pub holder_member : (some site : ℕ) (now : Stamp) → IsMember e some → held_in c (entries t) e.id site file ≡ Some now → IsMember e site
-  holder_member some site now m held = member_in e site (subst (λ (y : Members). tree.is_member y site ≡ true) (some_is j.members e.members (sym j.are ∙ inside.frame.members_are)) j.is_member)
+  holder_member some site now m held = member_in e site (subst (λ (y : Members). tree.is_member y site ≡ true) (some_same j.members e.members (sym j.are ∙ inside.frame.members_are)) j.is_member)
     where
       j : Joined (entries t) site e.id
       j = joined_as c t past.followed facts.rest.each site e.id ((sites_hold c (entries t) (packs_hold c t laws.packed)).joined e.id site file now held)

@@ -1,6 +1,7 @@
 -- After a calm round in which nobody has the file open each member that is to hold its only kept version holds it, or has pulled it whole,
 -- where the version has reached it.
 use Rattle.std.proofs.Common.{◌≡◌, ℕ, zero, suc, ◌≤◌, ◌⊎◌, Bool, true, false, cond, List, [], ◌∷◌, length, Option, Some, None, refl, sym, ◌∙◌, ap, subst, inl, inr, arith}
+use Rattle.role_steps.proofs.of_plain_facts.Tests.{true_false}
 use Rattle.locus_ids.specs.declared.config.Config.{Config}
 use Rattle.locus_ids.specs.declared.ids.FileId.{FileId}
 use Rattle.locus_ids.specs.declared.ids.Stamp.{Stamp}
@@ -24,13 +25,13 @@ use Rattle.the_run.specs.Worlds.{World, Running, Numbered, place_at}
 use Rattle.lawful_trace.specs.Places.{lines_before}
 use Rattle.epoch_laws.proofs.Run.{run_good}
 use Rattle.sync_laws.proofs.Versions.{row_vector, row_size}
-use Rattle.rest_laws.proofs.TableNoting.{ascends_found}
+use Rattle.calm_laws.proofs.of_rest_laws.TableNoting.{ascends_found}
 use Rattle.make_laws.specs.Made.{NumberedSender, WorldSent}
 use Rattle.make_laws.proofs.SendersRun.{sent_kept, first_sent}
 use Rattle.tree_laws.specs.Printed.{entries}
 use Rattle.tree_laws.specs.Stores.{PullFact}
 use Rattle.tree_laws.specs.Tables.{VersionFact}
-use Rattle.one_tree_laws.proofs.ToldVectorOnly.{row_stands}
+use Rattle.pull_laws.proofs.of_one_tree_laws.ToldVectorOnly.{row_stands}
 use Rattle.pull_laws.specs.Pulls.{PullsAscend}
 use Rattle.pull_laws.proofs.Ascending.{ascend_kept, first_ascend}
 use Rattle.orderly_laws.specs.Calm.{AreTogether, delivers_next}
@@ -38,7 +39,6 @@ use Rattle.calm_laws.specs.Carrying.{IsMember, frame_of}
 use Rattle.calm_laws.specs.Rounds.{after, IsInRound, Delivery, IsCalm}
 use Rattle.calm_laws.proofs.Calm.{calm_in_round}
 use Rattle.calm_laws.proofs.Events.{Under}
-use Rattle.calm_laws.proofs.Lists.{true_false}
 use Rattle.calm_laws.proofs.Rounds.{in_round, one_more}
 use Rattle.calm_laws.proofs.Ticks.{sites_apart}
 use Rattle.convergence_laws.specs.Copies.{IsOnlyKept, HoldsTheOnly}

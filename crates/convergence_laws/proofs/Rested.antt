@@ -3,10 +3,11 @@ use Rattle.std.proofs.Common.{◌≡◌, ℕ, zero, suc, ◌+◌, ◌≤◌, ◌
 use Rattle.std.proofs.lemmas.Bool.Decides.{nat_tests}
 use Rattle.std.specs.Fmt.{digits}
 use Rattle.std.specs.Prelude.{slice_index_or}
+use Rattle.role_steps.proofs.of_plain_facts.Tests.{true_false}
 use Rattle.hex.specs.Hex.{encode_with}
 use Rattle.locus_ids.specs.declared.ids.EpochId.{EpochId}
 use Rattle.locus_ids.specs.declared.sites.Members.{Members}
-use Rattle.trace_book.specs.declared.book.Entry.{Entry}
+use Rattle.trace_book.specs.declared.entry.Entry.{Entry}
 use Rattle.schedule_lines.specs.Cluster.{config_of}
 use Rattle.schedule_lines.specs.Schedule.{AreInOrder}
 use Rattle.schedule_lines.specs.declared.line.ScheduleLine.{ScheduleLine}
@@ -21,7 +22,6 @@ use Rattle.lawful_trace.specs.Calm.{IsMoment, AreTogether, IsCalmRound}
 use Rattle.lawful_trace.specs.Places.{is_cut, line_at, lines_before, through_line}
 use Rattle.lawful_trace.specs.Samples.{epoch, file, members}
 use Rattle.row_laws.specs.Shown.{trace_of}
-use Rattle.calm_laws.proofs.Lists.{true_false}
 use Rattle.convergence_laws.specs.Rested.{rested_lines, rested_trace, IsRested}
 use Rattle.convergence_laws.specs.TraceCopies.{AreCalmRounds, IsUndisturbed}
 

@@ -1,6 +1,7 @@
 -- Once a calm round has ended, each group that a member synchronizes has started: nothing of the group is under way any more, so all of
 -- its members have reported. And in the epoch a group that has started stays so.
 use Rattle.std.proofs.Common.{◌≡◌, ℕ, ◌≤◌, Bool, true, false, ◌&&◌, ◌⊎◌, List, [], ◌∷◌, ◌++◌, map, Some, refl, sym, ◌∙◌, ap, subst, inl, inr, arith}
+use Rattle.role_steps.proofs.of_plain_facts.Tests.{both_true, true_false}
 use Rattle.locus_ids.specs.Sites.{has}
 use Rattle.locus_ids.specs.declared.config.Config.{Config}
 use Rattle.locus_ids.specs.declared.ids.EpochId.{EpochId}
@@ -22,10 +23,10 @@ use Rattle.tree_laws.specs.Printed.{entries}
 use Rattle.tree_laws.specs.Tables.{TableFact}
 use Rattle.tree_laws.proofs.Kinship.{started_stays}
 use Rattle.tree_model.specs.Tree.{tree_of}
-use Rattle.one_tree_laws.specs.Places.{InsideFact}
-use Rattle.one_tree_laws.proofs.Parts.{synced_one}
-use Rattle.one_tree_laws.proofs.Rising.{among_map}
-use Rattle.one_tree_laws.proofs.UserStepGroups.{among_row}
+use Rattle.pull_laws.specs.of_one_tree_laws.Places.{InsideFact}
+use Rattle.pull_laws.proofs.of_one_tree_laws.Parts.{synced_one}
+use Rattle.pull_laws.proofs.of_one_tree_laws.Rising.{among_map}
+use Rattle.pull_laws.proofs.of_one_tree_laws.UserStepGroups.{among_row}
 use Rattle.orderly_laws.specs.Calm.{IsInside, AreTogether}
 use Rattle.orderly_laws.proofs.Places.{view_eq}
 use Rattle.orderly_laws.proofs.Rounds.{ticks_kept}
@@ -35,7 +36,7 @@ use Rattle.calm_laws.specs.Rounds.{after, IsInRound, IsCalm, CalmLeft}
 use Rattle.calm_laws.proofs.Calm.{calm_in_round, round_carries}
 use Rattle.calm_laws.proofs.Delivered.{inside_fact}
 use Rattle.calm_laws.proofs.Facts.{round_facts}
-use Rattle.calm_laws.proofs.Lists.{true_false, both_true, all_pass, every_among, row_key}
+use Rattle.calm_laws.proofs.Lists.{all_pass, every_among, row_key}
 use Rattle.calm_laws.proofs.Members.{member_of, nothing_goes}
 use Rattle.calm_laws.proofs.Moments.{GoesOn, goes_itself, goes_round_kept}
 use Rattle.calm_laws.proofs.Rounds.{delivered_kept}

@@ -17,13 +17,13 @@ use Rattle.the_run.proofs.Boots.{at_each}
 use Rattle.lawful_trace.specs.Places.{lines_before}
 use Rattle.orderly_laws.specs.Calm.{delivers_next, delivered}
 use Rattle.orderly_laws.proofs.Rounds.{ticks_kept}
-use Rattle.orderly_traces.proofs.Spans.{world, next_world}
+use Rattle.calm_laws.proofs.of_orderly_traces.Spans.{world, next_world}
 use Rattle.calm_laws.specs.Rounds.{after, IsCalm}
 use Rattle.calm_laws.proofs.Rounds.{delivered_kept, delivered_then}
 use Rattle.calm_laws.proofs.Ticks.{AreApart, over_round}
 use Rattle.convergence_laws.specs.Rounds.{AreCalmRounds}
 use Rattle.convergence_laws.proofs.Events.{RunsOn, Moved, acts_moved}
-use Rattle.convergence_laws.proofs.Noticing.{ticks_touch, tick_touches}
+use Rattle.convergence_laws.proofs.Repeating.{ticks_touch, tick_touches}
 
 -- ---- where the second round begins ----
 

@@ -2,6 +2,8 @@
 use Rattle.std.proofs.Common.{◌≡◌, ℕ, ◌==◌, ◌<◌, Bool, true, false, cond, not, ◌&&◌, List, [], ◌∷◌, map, filter, nat_lt, Option, Some, None, refl, sym, ◌∙◌, ap, subst, inl, inr, arith}
 use Rattle.std.proofs.lemmas.Bool.Decides.{nat_tests}
 use Rattle.std.specs.List.{list_all}
+use Rattle.role_steps.proofs.of_plain_facts.Options.{none_some, some_same}
+use Rattle.role_steps.proofs.of_plain_facts.Tests.{both_true, true_false}
 use Rattle.locus_ids.specs.Sites.{has}
 use Rattle.locus_ids.specs.declared.config.Config.{Config}
 use Rattle.schedule_lines.specs.declared.line.ScheduleLine.{ScheduleLine}
@@ -29,14 +31,14 @@ use Rattle.tree_laws.specs.Packets.{BodyFact}
 use Rattle.tree_laws.specs.Tables.{TableFact}
 use Rattle.make_laws.specs.Made.{IsSender, NumberedSender, WorldSent}
 use Rattle.make_laws.proofs.SendersRun.{sent_kept, first_sent}
-use Rattle.one_tree_laws.specs.Places.{NumberedFact, InsideFact}
-use Rattle.one_tree_laws.proofs.Parts.{tables_rise}
-use Rattle.one_tree_laws.proofs.Rising.{Rising}
+use Rattle.pull_laws.specs.of_one_tree_laws.Places.{NumberedFact, InsideFact}
+use Rattle.pull_laws.proofs.of_one_tree_laws.Parts.{tables_rise}
+use Rattle.pull_laws.proofs.of_one_tree_laws.Rising.{Rising}
 use Rattle.orderly_laws.proofs.Rounds.{next_among}
 use Rattle.calm_laws.specs.Carrying.{IsMember, frame_of}
 use Rattle.calm_laws.proofs.Delivered.{inside_fact}
 use Rattle.calm_laws.proofs.Facts.{RoundFacts, round_facts}
-use Rattle.calm_laws.proofs.Lists.{true_false, both_true, none_some, some_is, every_among, row_key}
+use Rattle.calm_laws.proofs.Lists.{every_among, row_key}
 use Rattle.calm_laws.proofs.Rounds.{in_round}
 use Rattle.calm_laws.specs.Rounds.{Delivery}
 use Rattle.convergence_laws.specs.Converging.{GoesOn, IsReport, IsOpened}
@@ -159,7 +161,7 @@ first_there test [] t e = absurd (none_some t e)
 first_there test (x ∷ xs) t e = over (test x) (first_there test xs t) e
   where
     over : (b : Bool) → (first_that test xs ≡ Some t → Among t xs) → ◌≡◌ {A = Option SyncTable} (elim b [ true ↦ Some x | false ↦ first_that test xs ]) (Some t) → Among t (x ∷ xs)
-    over true f q = inl (sym (some_is x t q))
+    over true f q = inl (sym (some_same x t q))
     over false f q = inr (f q)
 
 stage_same : (f : Frame) (r : OpenRow) (a : OpenedAs) (g : OpenStage) (t : SyncTable) → SameFiles t (by_stage f r a g t)

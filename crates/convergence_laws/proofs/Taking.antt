@@ -2,6 +2,9 @@
 -- pulled was pulled before, or is named.
 use Rattle.std.proofs.Common.{◌≡◌, ℕ, ◌==◌, ◌⊎◌, Bool, true, false, not, List, [], ◌∷◌, ◌++◌, Option, Some, None, refl, sym, ◌∙◌, ap, subst, inl, inr, arith}
 use Rattle.std.proofs.lemmas.Bool.Decides.{nat_tests}
+use Rattle.role_steps.proofs.of_plain_facts.Numbers.{equal}
+use Rattle.role_steps.proofs.of_plain_facts.Options.{some_same}
+use Rattle.role_steps.proofs.of_plain_facts.Tests.{both_true, false_unless, true_false}
 use Rattle.locus_ids.specs.declared.ids.FileId.{FileId}
 use Rattle.locus_ids.specs.declared.ids.Stamp.{Stamp}
 use Rattle.commit_graph.specs.Versions.{same_stamp}
@@ -14,7 +17,7 @@ use Rattle.role_steps.specs.declared.copies.FileCopy.{FileCopy}
 use Rattle.role_steps.specs.declared.pulls.Pull.{Pull}
 use Rattle.role_steps.proofs.Rows.{row_other}
 use Rattle.the_run.specs.Kept.{Among}
-use Rattle.calm_laws.proofs.Lists.{true_false, both_true, some_is, row_key}
+use Rattle.calm_laws.proofs.Lists.{row_key}
 use Rattle.convergence_laws.specs.Offers.{Offer, offer_of}
 use Rattle.convergence_laws.proofs.Lists.{among_row}
 
@@ -47,20 +50,13 @@ takes_row news p ps was other = record { pulled = λ y a. over y (among_row pull
     over y (inl e) = subst (λ (x : Pull). WasPulled news ps x) (sym e) was
     over y (inr a) = inl (y, a, refl)
 
-equal : (i j : ℕ) → (i == j) ≡ true → i ≡ j
-equal i j h = grind (arith, nat_tests)
-
-not_true : (b : Bool) → (b ≡ true → ⊥) → b ≡ false
-not_true true h = absurd (h refl)
-not_true false h = refl
-
 -- ---- Notify ----
 
 begins_takes : (f : Frame) (p : Pull) (ps : List Pull) → Takes (offer_of p ∷ []) ps (begins_pull f p ps).view
 begins_takes f p ps = by_test (replaces_pull p (pull_of ps p.file)) refl
   where
     other : replaces_pull p (pull_of ps p.file) ≡ true → (k : ℕ) (whole : Pull) → row pull_key k ps ≡ Some whole → is_complete whole ≡ true → NamesNoneAbove (offer_of p ∷ []) k whole → (pull_key p == k) ≡ false
-    other r k whole there complete low = not_true (pull_key p == k) (λ e. (let is : file_key p.file ≡ k = equal (pull_key p) k e in
+    other r k whole there complete low = false_unless (pull_key p == k) (λ e. (let is : file_key p.file ≡ k = equal (pull_key p) k e in
         true_false (sym (ap (replaces_pull p) (sym (ap (λ (i : ℕ). row pull_key i ps) is ∙ there)) ∙ r) ∙ low (offer_of p) (inl refl) is)))
 
     by_test : (b : Bool) → replaces_pull p (pull_of ps p.file) ≡ b → TakesBy (offer_of p ∷ []) ps (elim b [ true ↦ goes_on f p ps | false ↦ quiet ps ])
@@ -102,7 +98,7 @@ page_takes f file stamp page bytes ps = by_pull (pull_of ps file) refl
         more = record p { content = p.content ++ bytes }
 
         other : is_awaited p stamp page bytes ≡ true → (k : ℕ) (whole : Pull) → row pull_key k ps ≡ Some whole → is_complete whole ≡ true → NamesNoneAbove [] k whole → (pull_key more == k) ≡ false
-        other h k whole there complete low = not_true (pull_key more == k) (λ q. (let is : p ≡ whole = some_is p whole (sym e ∙ (ap (λ (i : ℕ). row pull_key i ps) (sym at.1 ∙ equal (pull_key p) k q) ∙ there)) in
+        other h k whole there complete low = false_unless (pull_key more == k) (λ q. (let is : p ≡ whole = some_same p whole (sym e ∙ (ap (λ (i : ℕ). row pull_key i ps) (sym at.1 ∙ equal (pull_key p) k q) ∙ there)) in
             not_both (is_complete p) (ap is_complete is ∙ complete) (unfinished p h)))
 
         by_test : (b : Bool) → is_awaited p stamp page bytes ≡ b → TakesBy [] ps (elim b [ true ↦ goes_on f more ps | false ↦ quiet ps ])

@@ -3,6 +3,8 @@
 use Rattle.std.proofs.Common.{◌≡◌, ◌≢◌, ℕ, ◌==◌, Bool, true, false, cond, not, ◌&&◌, ◌||◌, List, [], ◌∷◌, map, filter, Option, Some, refl, sym, ◌∙◌, ap, subst, inl, inr, arith}
 use Rattle.std.proofs.lemmas.Bool.Decides.{nat_tests}
 use Rattle.std.specs.Option.{option_map}
+use Rattle.role_steps.proofs.of_plain_facts.Numbers.{equal}
+use Rattle.role_steps.proofs.of_plain_facts.Tests.{true_false}
 use Rattle.locus_ids.specs.declared.config.Config.{Config}
 use Rattle.locus_ids.specs.declared.ids.FileId.{FileId}
 use Rattle.locus_ids.specs.declared.ids.Stamp.{Stamp}
@@ -34,18 +36,18 @@ use Rattle.holding_laws.proofs.Below.{commits_new, packs_hold}
 use Rattle.holding_laws.proofs.Holding.{sites_hold}
 use Rattle.holding_laws.proofs.Made.{held_stand, rows_made}
 use Rattle.sync_laws.proofs.Versions.{row_vector}
-use Rattle.one_tree_laws.specs.Places.{InsideFact}
-use Rattle.one_tree_laws.specs.Rest.{Past}
-use Rattle.one_tree_laws.proofs.Staying.{rest_below}
-use Rattle.one_tree_laws.proofs.ToldVectorOnly.{row_stands}
-use Rattle.one_tree_laws.proofs.ToldVectorTelling.{vectors_tell_newer}
-use Rattle.rest_laws.proofs.StoreStepKnown.{stands_narrow}
+use Rattle.pull_laws.specs.of_one_tree_laws.Places.{InsideFact}
+use Rattle.pull_laws.specs.of_one_tree_laws.Rest.{Past}
+use Rattle.pull_laws.proofs.of_one_tree_laws.Staying.{rest_below}
+use Rattle.pull_laws.proofs.of_one_tree_laws.ToldVectorOnly.{row_stands}
+use Rattle.pull_laws.proofs.of_one_tree_laws.ToldVectorTelling.{vectors_tell_newer}
+use Rattle.calm_laws.proofs.of_rest_laws.StoreStepKnown.{stands_narrow}
 use Rattle.orderly_laws.specs.Calm.{AreTogether}
 use Rattle.calm_laws.specs.Carrying.{IsMember, frame_of}
 use Rattle.calm_laws.specs.Rounds.{IsInRound}
 use Rattle.calm_laws.proofs.Delivered.{inside_fact}
 use Rattle.calm_laws.proofs.Facts.{RoundFacts, round_facts}
-use Rattle.calm_laws.proofs.Lists.{true_false, every_among, row_key}
+use Rattle.calm_laws.proofs.Lists.{every_among, row_key}
 use Rattle.calm_laws.proofs.Members.{sync_is}
 use Rattle.convergence_laws.specs.Converging.{TablesTell}
 use Rattle.convergence_laws.specs.Offers.{is_above}
@@ -54,9 +56,6 @@ use Rattle.convergence_laws.specs.Offers.{is_above}
 
 abbrev holds_this : Stamp → Holding → Bool
 holds_this stamp h = same_stamp h.stamp stamp
-
-equal : (i j : ℕ) → (i == j) ≡ true → i ≡ j
-equal i j h = grind (arith, nat_tests)
 
 stamp_itself : (a : Stamp) → same_stamp a a ≡ true
 stamp_itself a = grind (arith, nat_tests)

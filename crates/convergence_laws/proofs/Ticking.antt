@@ -19,7 +19,7 @@ use Rattle.the_run.specs.Steps.{adopts_of, adopts_in, ends_event}
 use Rattle.the_run.specs.Worlds.{Running, Numbered}
 use Rattle.epoch_laws.specs.Forming.{TableFormless, FormlessSite}
 use Rattle.epoch_laws.specs.Known.{Places}
-use Rattle.epoch_laws.proofs.SitesForm.{adopts_of_formless}
+use Rattle.epoch_laws.proofs.Forms.{adopts_of_formless}
 use Rattle.orderly_laws.proofs.Places.{view_eq}
 use Rattle.convergence_laws.specs.Converging.{NoneAbove}
 use Rattle.convergence_laws.specs.Copies.{HoldsTheOnly}

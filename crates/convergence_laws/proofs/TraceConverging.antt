@@ -2,6 +2,7 @@
 use Rattle.std.proofs.Common.{◌≡◌, ℕ, zero, suc, ◌==◌, not, Bool, true, ◌&&◌, ◌⊎◌, List, [], ◌∷◌, Option, Some, None, refl, sym, ◌∙◌, ap, inl, inr, arith}
 use Rattle.std.proofs.lemmas.Bool.Decides.{nat_tests}
 use Rattle.std.specs.Option.{option_map}
+use Rattle.role_steps.proofs.of_plain_facts.Options.{none_some, some_same}
 use Rattle.locus_ids.specs.Sites.{has}
 use Rattle.locus_ids.specs.declared.config.Config.{Config}
 use Rattle.locus_ids.specs.declared.ids.EpochId.{EpochId}
@@ -27,12 +28,11 @@ use Rattle.row_laws.specs.Shown.{trace_of}
 use Rattle.tree_laws.specs.Printed.{entries}
 use Rattle.tree_laws.specs.Stores.{copy_for}
 use Rattle.order_laws.proofs.ProcessSynchronizing.{sync_same}
-use Rattle.one_tree_laws.specs.Places.{InsideFact}
-use Rattle.orderly_traces.specs.Agreeing.{IsWithin}
+use Rattle.pull_laws.specs.of_one_tree_laws.Places.{InsideFact}
+use Rattle.calm_laws.specs.of_orderly_traces.Agreeing.{IsWithin}
 use Rattle.calm_laws.specs.Carrying.{IsMember, frame_of}
 use Rattle.calm_laws.specs.Rounds.{CalmLeft, after}
 use Rattle.calm_laws.proofs.Delivered.{inside_fact}
-use Rattle.calm_laws.proofs.Lists.{none_some, some_is}
 use Rattle.convergence_laws.specs.Copies.{HoldsTheOnly}
 use Rattle.convergence_laws.specs.Rounds as rounds
 use Rattle.convergence_laws.proofs.Convergence.{converge}
@@ -106,7 +106,7 @@ module _ (lines : List ScheduleLine) (order : AreInOrder lines) (within : IsWith
 
       by_held : (o : Option Stamp) → Some x.copy ≡ option_map (copy_for f) (option_map (version_of c (entries end.trace) f) o) → o ≡ Some x.copy.stamp
       by_held None k = absurd (none_some x.copy (sym k))
-      by_held (Some now) k = ap Some (sym (ap (λ (y : FileCopy). y.stamp) (some_is x.copy (copy_for f (version_of c (entries end.trace) f now)) k)))
+      by_held (Some now) k = ap Some (sym (ap (λ (y : FileCopy). y.stamp) (some_same x.copy (copy_for f (version_of c (entries end.trace) f now)) k)))
 
   converged : (held c (through_line trace m) s f ≡ Some stamp) ⊎ LackedRoom c trace m id s f stamp
   converged = over (converge c calm lines n m e first.deliveries second.deliveries f q.version q.row.set rest s member (ap (λ (x : Sites). has x s) q.is_row.set_is ∙ in_set))

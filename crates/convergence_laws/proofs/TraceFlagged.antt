@@ -2,6 +2,7 @@
 use Rattle.std.proofs.Common.{◌≡◌, ℕ, nat_lt, true, false, List, [], ◌∷◌, map, Option, Some, None, refl, sym, ◌∙◌, ap, arith}
 use Rattle.std.proofs.lemmas.Bool.Decides.{nat_tests}
 use Rattle.std.specs.Option.{is_some}
+use Rattle.role_steps.proofs.of_plain_facts.Tests.{true_false}
 use Rattle.schedule_lines.specs.Cluster.{config_of}
 use Rattle.schedule_lines.specs.Schedule.{AreInOrder}
 use Rattle.schedule_lines.specs.declared.line.ScheduleLine.{ScheduleLine}
@@ -16,9 +17,8 @@ use Rattle.tree_model.specs.Packs.{sync_site}
 use Rattle.tree_model.specs.Working.{are_several}
 use Rattle.row_laws.specs.Shown.{trace_of}
 use Rattle.tree_laws.specs.Tables.{row_stamp}
-use Rattle.orderly_traces.specs.Agreeing.{IsWithin}
+use Rattle.calm_laws.specs.of_orderly_traces.Agreeing.{IsWithin}
 use Rattle.calm_laws.specs.Rounds.{CalmLeft}
-use Rattle.calm_laws.proofs.Lists.{true_false}
 use Rattle.convergence_laws.specs.Directories.{IsFlagged}
 use Rattle.convergence_laws.proofs.DirectoriesUnflagged.{unflagged}
 use Rattle.convergence_laws.specs.TraceDirectories.{NoDirectoryIsFlagged}

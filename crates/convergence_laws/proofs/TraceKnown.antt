@@ -4,6 +4,7 @@ use Rattle.locus_ids.specs.declared.config.Config.{Config}
 use Rattle.locus_ids.specs.declared.ids.FileId.{FileId}
 use Rattle.locus_ids.specs.declared.ids.Stamp.{Stamp}
 use Rattle.locus_ids.specs.declared.sites.Members.{Members}
+use Rattle.locus_ids.specs.Sizes.{inode_span}
 use Rattle.commit_graph.specs.Versions.{content_of}
 use Rattle.schedule_lines.specs.Cluster.{config_of}
 use Rattle.schedule_lines.specs.declared.line.ScheduleLine.{ScheduleLine}
@@ -33,11 +34,11 @@ use Rattle.tree_laws.specs.Printed.{entries}
 use Rattle.tree_laws.specs.Tables.{FileFact, FilesFact, StartedFiles, TableFact, VersionFact, row_stamp}
 use Rattle.tree_laws.proofs.Rows.{followed_rows}
 use Rattle.order_laws.proofs.ProcessSynchronizing.{sync_same}
-use Rattle.one_tree_laws.specs.Places.{InsideFact}
-use Rattle.one_tree_laws.specs.Rest.{Past}
-use Rattle.rest_laws.proofs.MendStepNumbered.{files_numbered}
-use Rattle.rest_laws.proofs.Shown.{shown_entries}
-use Rattle.rest_laws.proofs.StoreStepKnown.{stands_narrow}
+use Rattle.pull_laws.specs.of_one_tree_laws.Places.{InsideFact}
+use Rattle.pull_laws.specs.of_one_tree_laws.Rest.{Past}
+use Rattle.calm_laws.proofs.of_rest_laws.MendStepNumbered.{files_numbered}
+use Rattle.calm_laws.proofs.of_rest_laws.Shown.{shown_entries}
+use Rattle.calm_laws.proofs.of_rest_laws.StoreStepKnown.{stands_narrow}
 use Rattle.orderly_laws.specs.Calm.{IsInside}
 use Rattle.calm_laws.specs.Carrying.{IsMember, frame_of}
 use Rattle.calm_laws.specs.Rounds.{CalmLeft, after}
@@ -205,7 +206,7 @@ pub record HasOne (lines : List ScheduleLine) (n : ℕ) (e : InEpoch) (p : IsPla
   pub only : row.kept ≡ version ∷ []
   pub stamp_is : version.stamp ≡ stamp
   pub size_is : version.size ≡ length (content_of (history (config_of lines) (through_line (trace_of (run lines)) n)) f stamp)
-  pub narrow : f.ino < 65536
+  pub narrow : f.ino < inode_span
   pub numbered : f.ino ≡ 0 → ⊥
 
 pub has_one : (lines : List ScheduleLine) (n : ℕ) (e : InEpoch) (p : IsPlayed lines n e) (f : FileId) (css : ℕ) (t : HasTable lines n e p f.group css) (stamp : Stamp) → kept_in (config_of lines) (through_line (trace_of (run lines)) n) e.id f ≡ stamp ∷ [] → HasOne lines n e p f css t stamp

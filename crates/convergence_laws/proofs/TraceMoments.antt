@@ -21,12 +21,12 @@ use Rattle.lawful_trace.specs.Calm as traced
 use Rattle.lawful_trace.specs.Places.{through_line}
 use Rattle.row_laws.specs.Shown.{trace_of}
 use Rattle.tree_laws.specs.Printed.{entries}
-use Rattle.store_laws.proofs.StorageResting.{room_is}
-use Rattle.one_tree_laws.specs.Places.{InsideFact, WorldFact}
-use Rattle.one_tree_laws.specs.Rest.{Past}
-use Rattle.one_tree_laws.proofs.Staying.{rest_below}
-use Rattle.rest_laws.proofs.Shown.{shown_entries}
-use Rattle.rest_laws.proofs.StoreStepResting.{plain_rests}
+use Rattle.pull_laws.proofs.of_store_laws.StorageResting.{room_is}
+use Rattle.pull_laws.specs.of_one_tree_laws.Places.{InsideFact, WorldFact}
+use Rattle.pull_laws.specs.of_one_tree_laws.Rest.{Past}
+use Rattle.pull_laws.proofs.of_one_tree_laws.Staying.{rest_below}
+use Rattle.calm_laws.proofs.of_rest_laws.Shown.{shown_entries}
+use Rattle.calm_laws.proofs.of_rest_laws.StoreStepResting.{plain_rests}
 use Rattle.orderly_laws.specs.Calm.{AreTogether}
 use Rattle.calm_laws.specs.Carrying.{IsMember, frame_of}
 use Rattle.calm_laws.specs.Rounds.{after}

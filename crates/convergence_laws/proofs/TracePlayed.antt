@@ -1,18 +1,20 @@
 -- A round that the records of a run show as calm is so in the run, and its moments are moments of its line.
-use Rattle.std.proofs.Common.{◌≡◌, ◌≢◌, ℕ, zero, suc, ◌+◌, ◌-◌, ◌≤◌, nat_lt, Bool, true, false, List, [], ◌∷◌, length, take, Some, None, refl, sym, ◌∙◌, ap, subst, arith, drop}
+use Rattle.std.proofs.Common.{◌≡◌, ◌≢◌, ℕ, zero, suc, ◌+◌, ◌-◌, ◌≤◌, nat_lt, true, List, [], ◌∷◌, length, take, Some, None, refl, sym, ◌∙◌, ap, subst, arith, drop}
 use Rattle.std.proofs.lemmas.Bool.Decides.{nat_tests}
 use Rattle.std.specs.List.{list_any}
 use Rattle.locus_ids.specs.declared.config.Config.{Config}
 use Rattle.locus_ids.specs.declared.ids.EpochId.{EpochId}
 use Rattle.locus_ids.specs.declared.sites.Members.{Members}
+use Rattle.locus_ids.specs.Sizes.{sites_max}
 use Rattle.schedule_lines.specs.Cluster.{config_of}
 use Rattle.schedule_lines.specs.Schedule.{AreInOrder}
 use Rattle.schedule_lines.specs.declared.line.Line.{Line as LineWords}
 use Rattle.schedule_lines.specs.declared.line.Line.TheVariants as line
 use Rattle.schedule_lines.specs.declared.line.ScheduleLine.{ScheduleLine}
 use Rattle.schedule_lines.specs.declared.line.ScheduleLine.TheVariants.{Passed, Event as EventLine}
-use Rattle.one_tree_laws.proofs.Worlds.{Holds}
+use Rattle.pull_laws.proofs.of_one_tree_laws.Worlds.{Holds}
 use Rattle.std.proofs.lemmas.List.{take-append-drop}
+use Rattle.role_steps.proofs.of_plain_facts.Tests.{true_false}
 use Rattle.role_steps.specs.Own.{Every}
 use Rattle.role_steps.specs.Views.{all_sites}
 use Rattle.role_steps.specs.declared.rounds.InEpoch.{InEpoch}
@@ -31,24 +33,23 @@ use Rattle.row_laws.proofs.Fitting.{schedule_fits, schedule_few}
 use Rattle.orderly_laws.specs.Calm.{IsInside, AreTogether, delivered, ticked}
 use Rattle.orderly_laws.proofs.Choosing.{among_sites}
 use Rattle.orderly_laws.proofs.Rounds.{ticks_kept}
-use Rattle.orderly_traces.specs.Agreeing.{IsWithin}
-use Rattle.orderly_traces.specs.Fits.{FitsCluster}
-use Rattle.orderly_traces.proofs.Circuits.{take_fits, self_uncut}
-use Rattle.orderly_traces.proofs.Forms.{order_fits}
-use Rattle.orderly_traces.proofs.Placed.{place_within}
-use Rattle.orderly_traces.proofs.Spans.{world, next_world, one_more, before_at}
-use Rattle.one_tree_laws.specs.Places.{WorldFact}
-use Rattle.one_tree_laws.specs.Rest.{IsRest, EachRest}
-use Rattle.one_tree_laws.specs.Roles.{RolesDo}
-use Rattle.one_tree_laws.proofs.Run.{run_holds}
-use Rattle.one_tree_laws.proofs.Staying.{stays}
-use Rattle.rest_laws.proofs.StoreStepFirst.{four_groups}
-use Rattle.rest_laws.proofs.Packs.{schedule_packs}
-use Rattle.rest_laws.proofs.Roles.{roles_do}
+use Rattle.calm_laws.specs.of_orderly_traces.Agreeing.{IsWithin}
+use Rattle.calm_laws.specs.of_orderly_traces.Fits.{FitsCluster}
+use Rattle.calm_laws.proofs.of_orderly_traces.Circuits.{take_fits, self_uncut}
+use Rattle.calm_laws.proofs.of_orderly_traces.Forms.{order_fits}
+use Rattle.calm_laws.proofs.of_orderly_traces.Placed.{place_within}
+use Rattle.calm_laws.proofs.of_orderly_traces.Spans.{world, next_world, one_more, before_at}
+use Rattle.pull_laws.specs.of_one_tree_laws.Places.{WorldFact}
+use Rattle.pull_laws.specs.of_one_tree_laws.Rest.{IsRest, EachRest}
+use Rattle.pull_laws.specs.of_one_tree_laws.Roles.{RolesDo}
+use Rattle.pull_laws.proofs.of_one_tree_laws.Run.{run_holds}
+use Rattle.pull_laws.proofs.of_one_tree_laws.Staying.{stays}
+use Rattle.calm_laws.proofs.of_rest_laws.StoreStepFirst.{four_groups}
+use Rattle.calm_laws.proofs.of_rest_laws.Packs.{schedule_packs}
+use Rattle.calm_laws.proofs.of_rest_laws.Roles.{roles_do}
 use Rattle.calm_laws.specs.Carrying.{IsMember}
 use Rattle.calm_laws.specs.Rounds.{after, IsInRound, IsCalm}
 use Rattle.calm_laws.proofs.Limits.{world_within, line_there, take_length, take_fit, before_any}
-use Rattle.calm_laws.proofs.Lists.{true_false}
 use Rattle.calm_laws.proofs.Moments.{GoesOn, goes_itself, goes_round_kept, moment_of, TellsNoBudget, no_budget, RunsOut, runs_out}
 use Rattle.calm_laws.proofs.Placed.{Stands, stands_kept, first_stands}
 use Rattle.calm_laws.proofs.Facts.{round_facts}
@@ -59,10 +60,6 @@ use Rattle.calm_laws.proofs.Twins.{twin, first_twin}
 
 passed_event : (l : LineWords) → Passed ≡ EventLine l → ⊥
 passed_event l e = cc
-
-false_unless : (b : Bool) → (b ≡ true → ⊥) → b ≡ false
-false_unless true h = absurd (h refl)
-false_unless false h = refl
 
 low_member : (e : InEpoch) (s : ℕ) → IsMember e s → 1 ≤ s
 low_member e zero m = absurd (m refl)
@@ -188,7 +185,7 @@ played lines order within (suc k) id members h = record {
     sited : (s : ℕ) → IsMember e s → Among s all_sites
     sited s m = (let i : IsInside first e s = start.inside s m in
         let low : s ≤ c.sites = place_within c first_lines s (Running i.view) i.here in
-        let few : c.sites ≤ 16 = schedule_few lines order in among_sites s (low_member e s m) (omega (arith, low, few)))
+        let few : c.sites ≤ sites_max = schedule_few lines order in among_sites s (low_member e s m) (omega (arith, low, few)))
 
     calm : IsCalm c lines (suc k) e out.deliveries
     calm = record {

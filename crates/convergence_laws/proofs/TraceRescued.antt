@@ -2,6 +2,7 @@
 use Rattle.std.proofs.Common.{◌≡◌, ℕ, Bool, true, false, not, cond, ◌&&◌, ◌||◌, ◌⊎◌, List, [], ◌∷◌, length, map, refl, sym, ◌∙◌, ap, inl, inr}
 use Rattle.std.specs.List.{list_all, list_any}
 use Rattle.std.specs.Str.{bytes_eq}
+use Rattle.role_steps.proofs.of_plain_facts.Tests.{true_false}
 use Rattle.locus_ids.specs.declared.config.Config.{Config}
 use Rattle.locus_ids.specs.declared.ids.FileId.{FileId}
 use Rattle.locus_ids.specs.declared.ids.Stamp.{Stamp}
@@ -10,7 +11,6 @@ use Rattle.dir_format.specs.declared.entry.Entry.{Entry}
 use Rattle.dir_format.specs.Contents.{entries_from, entries_of, is_dir}
 use Rattle.dir_format.specs.Entries.{is_live}
 use Rattle.dir_format.specs.Grammar.{dir_bytes}
-use Rattle.dir_reconcile.specs.Joins.{joined_dirs}
 use Rattle.dir_reconcile.specs.Rescues.{rescue_wanted, wants_rescue}
 use Rattle.schedule_lines.specs.Cluster.{config_of}
 use Rattle.schedule_lines.specs.Schedule.{AreInOrder}
@@ -27,11 +27,11 @@ use Rattle.tree_model.specs.Tree.{tree_of}
 use Rattle.lawful_trace.specs.Places.{through_line}
 use Rattle.row_laws.specs.Shown.{trace_of}
 use Rattle.tree_laws.specs.Printed.{entries}
-use Rattle.rest_laws.proofs.MendStepKeptVectors.{vectors_agree}
-use Rattle.orderly_traces.specs.Agreeing.{IsWithin}
+use Rattle.calm_laws.proofs.of_rest_laws.MendStepKeptVectors.{vectors_agree}
+use Rattle.calm_laws.proofs.of_rest_laws.MendStepWanted.{joined_none}
+use Rattle.calm_laws.specs.of_orderly_traces.Agreeing.{IsWithin}
 use Rattle.calm_laws.specs.Carrying.{frame_of}
 use Rattle.calm_laws.specs.Rounds.{CalmLeft, after}
-use Rattle.calm_laws.proofs.Lists.{true_false}
 use Rattle.convergence_laws.specs.Directories as worlds
 use Rattle.convergence_laws.specs.Rounds as rounds
 use Rattle.convergence_laws.specs.TraceCopies.{AreCalmRounds}
@@ -41,10 +41,6 @@ use Rattle.convergence_laws.proofs.TraceMoments.{quiet, lacked}
 use Rattle.convergence_laws.proofs.TracePlayed.{IsPlayed, played}
 
 -- ---- entries ----
-
-joined_none : (ds : List Entry) → joined_dirs ds [] ≡ ds
-joined_none [] = refl
-joined_none (d ∷ ds) = ap (λ (es : List Entry). d ∷ es) (joined_none ds)
 
 -- where all entries are live, none is removed
 all_live : (p : ℕ → Bool) (ds : List Entry) → list_all is_live ds ≡ true → list_any (λ (d : Entry). not (is_live d) && p d.ino) ds ≡ false

@@ -2,6 +2,8 @@
 use Rattle.std.proofs.Common.{◌≡◌, ◌≢◌, ℕ, zero, suc, true, List, [], ◌∷◌, ◌++◌, Option, Some, None, refl, sym, ◌∙◌, ap, subst, arith}
 use Rattle.std.proofs.lemmas.Bool.Decides.{nat_tests}
 use Rattle.std.specs.List.{list_any}
+use Rattle.role_steps.proofs.of_plain_facts.Options.{none_some, some_same}
+use Rattle.role_steps.proofs.of_plain_facts.Tests.{true_false}
 use Rattle.locus_ids.specs.declared.config.Config.{Config}
 use Rattle.locus_ids.specs.declared.ids.EpochId.{EpochId}
 use Rattle.locus_ids.specs.declared.sites.Members.{Members}
@@ -18,21 +20,21 @@ use Rattle.row_laws.proofs.Causes.{epoch_standing}
 use Rattle.tree_laws.specs.Following.{IsFollowed}
 use Rattle.tree_laws.specs.Printed.{entries}
 use Rattle.tree_laws.proofs.Mending.{members_stay}
-use Rattle.one_tree_laws.specs.Places.{NumberedFact, SiteIn, WorldFact}
-use Rattle.one_tree_laws.specs.Rest.{EachRest, IsRest}
-use Rattle.rest_laws.proofs.Shown.{shown_entries}
+use Rattle.pull_laws.specs.of_one_tree_laws.Places.{NumberedFact, SiteIn, WorldFact}
+use Rattle.pull_laws.specs.of_one_tree_laws.Rest.{EachRest, IsRest}
+use Rattle.calm_laws.proofs.of_rest_laws.Shown.{shown_entries}
 use Rattle.orderly_laws.specs.Calm.{IsInside, AreTogether}
 use Rattle.calm_laws.specs.Carrying.{IsMember}
-use Rattle.calm_laws.proofs.Lists.{true_false, some_is, none_some, every_among}
+use Rattle.calm_laws.proofs.Lists.{every_among}
 use Rattle.calm_laws.proofs.Moments.{GoesOn}
 use Rattle.calm_laws.proofs.Placed.{Stands}
 use Rattle.the_run.proofs.InsideSync.{every_without}
 use Rattle.orderly_laws.proofs.Rounds.{RoundKept}
-use Rattle.one_tree_laws.specs.Roles.{EventFact, RolesDo}
-use Rattle.one_tree_laws.proofs.Cuts.{step_writes}
-use Rattle.one_tree_laws.proofs.Staying.{Stays, stays}
-use Rattle.one_tree_laws.proofs.Steps.{step_fine}
-use Rattle.one_tree_laws.proofs.Worlds.{Holds, acts_holds, says_holds}
+use Rattle.pull_laws.specs.of_one_tree_laws.Roles.{EventFact, RolesDo}
+use Rattle.pull_laws.proofs.of_one_tree_laws.Cuts.{step_writes}
+use Rattle.pull_laws.proofs.of_one_tree_laws.Staying.{Stays, stays}
+use Rattle.pull_laws.proofs.of_one_tree_laws.Steps.{step_fine}
+use Rattle.pull_laws.proofs.of_one_tree_laws.Worlds.{Holds, acts_holds, says_holds}
 use Rattle.trace_book.specs.declared.record.Record.TheVariants as says
 use Rattle.role_steps.specs.Views as views
 use Rattle.lawful_trace.specs.Calm as traced
@@ -103,8 +105,8 @@ together_by c lines id members first w fact stands goes start listed h = record 
         by_epoch : (v : SiteView) → place_at w s ≡ Some (Running v) → (o : Option InEpoch) → v.epoch ≡ o → SiteIn c s w.trace v o → IsInside w (record { id = id; members = members }) s
         by_epoch v here None is f = absurd (none_some id (sym f.outside ∙ in_epoch))
         by_epoch v here (Some d) is f =
-            let same : d.id ≡ id = some_is d.id id (sym f.frame.inside ∙ in_epoch) in
-            let list : d.members ≡ members = some_is d.members members (sym f.frame.members_are ∙ (ap (members_of (entries w.trace)) same ∙ now)) in
+            let same : d.id ≡ id = some_same d.id id (sym f.frame.inside ∙ in_epoch) in
+            let list : d.members ≡ members = some_same d.members members (sym f.frame.members_are ∙ (ap (members_of (entries w.trace)) same ∙ now)) in
             record {
               view = v;
               here = here;

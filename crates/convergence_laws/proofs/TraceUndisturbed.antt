@@ -1,5 +1,6 @@
 -- Where nobody has a file open in the one tree of an epoch, so it is at the synchronization site of its group.
 use Rattle.std.proofs.Common.{◌≡◌, ℕ, Bool, true, false, cond, ◌&&◌, List, [], ◌∷◌, map, filter, refl, sym, ◌∙◌, ap, subst, inl, inr}
+use Rattle.role_steps.proofs.of_plain_facts.Tests.{true_false}
 use Rattle.locus_ids.specs.declared.config.Config.{Config}
 use Rattle.locus_ids.specs.declared.ids.FileId.{FileId}
 use Rattle.locus_ids.specs.declared.ids.Serial.{Serial}
@@ -18,11 +19,11 @@ use Rattle.tree_model.specs.declared.instance.Instance.{Instance}
 use Rattle.tree_laws.specs.Packets.{file_in}
 use Rattle.tree_laws.specs.Printed.{entries}
 use Rattle.tree_laws.specs.Tables.{TableFact, named_row, named_openers, named_instance, tree_openers}
-use Rattle.one_tree_laws.specs.Places.{WorldFact}
+use Rattle.pull_laws.specs.of_one_tree_laws.Places.{WorldFact}
 use Rattle.orderly_laws.specs.Calm.{AreTogether}
 use Rattle.calm_laws.specs.Carrying.{frame_of}
 use Rattle.calm_laws.proofs.Delivered.{inside_fact}
-use Rattle.calm_laws.proofs.Lists.{true_false, every_among, row_key}
+use Rattle.calm_laws.proofs.Lists.{every_among, row_key}
 use Rattle.calm_laws.proofs.Members.{sync_is}
 use Rattle.convergence_laws.specs.Copies.{IsOpenStill, NobodyHasOpen}
 

@@ -1,6 +1,8 @@
 -- A member that tries an adoption as a Notify or a Page comes: a version that is on its way to it stays so, or is adopted.
 use Rattle.std.proofs.Common.{◌≡◌, ◌≢◌, ℕ, suc, ◌+◌, ◌≤◌, ◌==◌, nat_le, ◌⊎◌, Bool, true, false, not, ◌&&◌, ◌||◌, List, [], ◌∷◌, length, Option, Some, None, refl, sym, ◌∙◌, ap, subst, inl, inr, arith}
 use Rattle.std.proofs.lemmas.Bool.Decides.{nat_tests}
+use Rattle.role_steps.proofs.of_plain_facts.Numbers.{equal}
+use Rattle.role_steps.proofs.of_plain_facts.Tests.{true_false}
 use Rattle.version_vector.specs.Counters.{all_le}
 use Rattle.locus_ids.specs.declared.config.Config.{Config}
 use Rattle.locus_ids.specs.declared.ids.FileId.{FileId}
@@ -23,7 +25,6 @@ use Rattle.the_run.specs.Steps.{with_pulls}
 use Rattle.the_run.specs.Worlds.{Running, Numbered}
 use Rattle.epoch_laws.specs.Known.{Places}
 use Rattle.orderly_laws.proofs.Places.{view_eq}
-use Rattle.calm_laws.proofs.Lists.{true_false}
 use Rattle.convergence_laws.specs.Copies.{HoldsTheOnly}
 use Rattle.convergence_laws.specs.Offers.{Offer, named, is_above, offer_of, IsToHold, IsPulled, IsDue, HasEnough, HasPulled, IsFree, IsOnItsWay}
 use Rattle.convergence_laws.specs.Converging.{NoneAbove}
@@ -57,9 +58,6 @@ number_test a b = over (a == b)
     over : (t : Bool) → (t ≡ true) ⊎ (t ≡ false)
     over true = inl refl
     over false = inr refl
-
-equal : (i j : ℕ) → (i == j) ≡ true → i ≡ j
-equal i j h = grind (arith, nat_tests)
 
 pub copy_mine : (p : Pull) (s : Store) (file : FileId) → file_key p.file ≡ file_key file → copy_of (with_copy (copy_adopted p) s) file ≡ Some (copy_adopted p)
 copy_mine p s file eq = subst (λ (k : ℕ). row copy_key k (with_copy (copy_adopted p) s).copies ≡ Some (copy_adopted p)) eq (row_same copy_key (copy_adopted p) s.copies)

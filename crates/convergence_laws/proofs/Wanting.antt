@@ -5,7 +5,7 @@ use Rattle.hex.specs.Hex.{encode_with}
 use Rattle.schedule_lines.specs.Schedule.{AreInOrder}
 use Rattle.the_run.specs.Runs.{run}
 use Rattle.row_laws.specs.Shown.{trace_of}
-use Rattle.orderly_traces.specs.Agreeing.{IsWithin}
+use Rattle.calm_laws.specs.of_orderly_traces.Agreeing.{IsWithin}
 use Rattle.convergence_laws.specs.Wanting.{wanting_lines, wanting_trace, IsWanting}
 
 pub wanting_in_order : AreInOrder wanting_lines

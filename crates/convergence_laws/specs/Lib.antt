@@ -7,3 +7,5 @@ pub mod TraceCopies
 pub mod TraceDirectories
 pub mod Rested
 pub mod Wanting
+pub use Rattle.calm_laws.specs as of_calm_laws
+pub use Rattle.orderly_laws.specs as of_orderly_laws

@@ -4,7 +4,7 @@ ghost use Rattle.schedule_lines.specs.Schedule.{AreInOrder};
 ghost use Rattle.schedule_lines.specs.declared.line.ScheduleLine.{ScheduleLine};
 ghost use Rattle.the_run.specs.Runs.{run};
 ghost use Rattle.row_laws.specs.Shown.{trace_of};
-ghost use Rattle.orderly_traces.specs.Agreeing.{IsWithin};
+ghost use Rattle.calm_laws.specs.of_orderly_traces.Agreeing.{IsWithin};
 ghost use Rattle.convergence_laws.specs.TraceCopies.{CopiesConverge as CopiesConvergeInTrace};
 ghost use Rattle.convergence_laws.specs.Rested.{rested_lines, IsRested};
 ghost use Rattle.convergence_laws.specs.Wanting.{wanting_lines, IsWanting};

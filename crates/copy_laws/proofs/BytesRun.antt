@@ -1,6 +1,6 @@
 -- In every run each copy has the bytes that its version was committed with.
-use Rattle.std.proofs.Common.{◌≡◌, ℕ, ◌+◌, ◌==◌, Bool, arith, true, false, cond, List, [], ◌∷◌, map, Option, Some, None, refl, sym, ◌∙◌, ap, subst, inl, inr}
-use Rattle.std.proofs.lemmas.Bool.Decides.{nat_tests}
+use Rattle.std.proofs.Common.{◌≡◌, ℕ, ◌+◌, ◌==◌, Bool, true, false, cond, List, [], ◌∷◌, map, Option, Some, None, refl, sym, ◌∙◌, ap, subst, inl, inr}
+use Rattle.role_steps.proofs.of_plain_facts.Options.{some_same}
 use Rattle.schedule_lines.specs.declared.line.ScheduleLine.{ScheduleLine}
 use Rattle.locus_ids.specs.declared.ids.EpochId.{EpochId}
 use Rattle.locus_ids.specs.declared.ids.Serial.{Serial}
@@ -29,7 +29,7 @@ use Rattle.the_run.specs.Kept.{WasSent, IsOwn, Kept}
 use Rattle.the_run.proofs.Boots.{at_each, acts_cases, every_newest, every_numbered, every_weaker}
 use Rattle.the_run.proofs.Events.{happened_keeps, puts_other, puts_same}
 use Rattle.the_run.proofs.InsideSync.{every_row, every_without, Found, row_found}
-use Rattle.the_run.proofs.Runs.{every_run, some_eq}
+use Rattle.the_run.proofs.Runs.{every_run}
 use Rattle.run_laws.specs.Naming.{Deeds, DeedsOf}
 use Rattle.run_laws.proofs.Run.{found_among, was_sent}
 use Rattle.run_laws.proofs.Steps.{EventNames}
@@ -39,10 +39,10 @@ use Rattle.vector_laws.specs.Facts.{onto, InstanceFact as Versions}
 use Rattle.vector_laws.proofs.FactsRun.{past_onto}
 use Rattle.vector_laws.proofs.Held.{KeepsCopies, boots_copies}
 use Rattle.vector_laws.proofs.SiteFacts.{inside_of as versions_of}
-use Rattle.lock_laws.proofs.Facts.{Later, onto_later}
-use Rattle.make_laws.proofs.RunningStandRun.{Orderly}
-use Rattle.lock_laws.specs.Going.{IsGranted}
-use Rattle.make_laws.proofs.Happening.{taken_epoch}
+use Rattle.kept_laws.proofs.of_lock_laws.Facts.{Later, onto_later}
+use Rattle.kept_laws.proofs.of_make_laws.RunningStandRun.{Orderly}
+use Rattle.kept_laws.specs.of_lock_laws.Going.{IsGranted}
+use Rattle.kept_laws.proofs.of_make_laws.Happening.{taken_epoch}
 use Rattle.kept_laws.specs.StampLaws.{Laws}
 use Rattle.kept_laws.proofs.StampTold.{laws_before}
 use Rattle.kept_laws.proofs.StampEarlier.{orderly_before}
@@ -127,7 +127,7 @@ old_place told w f t p here = record {
 
 places_of : (s : ℕ) (new : Place) (told : List Told) (w : World) → WorldFact w → PlaceFact (onto told (past_of w.trace)) s new → (t : ℕ) (p : Place) → place_at (puts s new w) t ≡ Some p → PlaceFact (onto told (past_of w.trace)) t p
 places_of s new told w f fine t p here = at_each s t (PlaceFact (onto told (past_of w.trace)) t p)
-    (λ e. subst (λ (n : ℕ). PlaceFact (onto told (past_of w.trace)) n p) e (subst (PlaceFact (onto told (past_of w.trace)) s) (some_eq new p (sym (puts_same s new w) ∙ (ap (place_at (puts s new w)) e ∙ here))) fine))
+    (λ e. subst (λ (n : ℕ). PlaceFact (onto told (past_of w.trace)) n p) e (subst (PlaceFact (onto told (past_of w.trace)) s) (some_same new p (sym (puts_same s new w) ∙ (ap (place_at (puts s new w)) e ∙ here))) fine))
     (λ ne. old_place told w f t p (sym (puts_other s t new w ne) ∙ here))
 
 -- a stop that leaves the disk as it is
@@ -163,7 +163,7 @@ acts_fact c n s v o w here fine g =
     acts_cases (WhereBytes c) n s v o w
     (happened_fact c n o.sent o.told (λ now. puts s (Running o.view) now) w owed refl refl g)
     (λ a. happened_fact c n o.sent o.told (λ now. puts s (Running o.view) (arms a now)) w (λ l b f. (let r : Owed o.told o.sent (λ now. puts s (Running o.view) now) w = owed l b f in record { sent = r.sent; places = r.places })) refl refl g)
-    (λ d a e. cut_fact c n s v d (cut_disk v.boot v.store d a.how a.left) (cause_of a.how) (is_on_disk d a.how a.left) w here refl (λ l b f. (let k : SiteFine s (past_of w.trace) o = fine l b f in subst (DiskFact (past_of w.trace)) e k.disk)) g)
+    (λ d a e. cut_fact c n s v d (cut_disk v.boot v.store d a.how a.left) (cause_of a.how) (is_on_disk v.store d a.how a.left) w here refl (λ l b f. (let k : SiteFine s (past_of w.trace) o = fine l b f in subst (DiskFact (past_of w.trace)) e k.disk)) g)
   where
     owed : Laws c (past_of w.trace) → Orderly w → WorldFact w → Owed o.told o.sent (λ now. puts s (Running o.view) now) w
     owed l b f = let k : SiteFine s (past_of w.trace) o = fine l b f in record { sent = k.sent; places = places_of s (Running o.view) o.told w f (running_fact (onto o.told (past_of w.trace)) s o.view k.view) }
@@ -271,7 +271,7 @@ closes_at : (c : Config) (w : World) (x : Numbered) (v : SiteView) (e : InEpoch)
 closes_at c w x v e (body.Op serial n o seen) q taken l f g here at a = may_write (past_of w.trace) (frame_in c x.packet.to v.boot e) v (from_user x.packet.from serial) (instance_of v.store (from_user x.packet.from serial)) (a.knows e at) refl
 closes_at c w x v e (body.Close serial) q taken l f g here at a =
     closes_found c w x.packet.to v e (from_user x.packet.from serial) (instance_of v.store (from_user x.packet.from serial)) l f g here at (a.knows e at)
-    (subst (λ (id : EpochId). IsGranted (past_of w.trace) id (serial_key (from_user x.packet.from serial))) (taken_epoch x.packet (body.Close serial) v e q refl taken at) a.lock) refl
+    (subst (λ (id : EpochId). IsGranted (past_of w.trace) id (serial_key (from_user x.packet.from serial))) (taken_epoch x.packet (body.Close serial) v e q refl taken at) a.lock.granted) refl
 closes_at c w x v e _ q taken l f g here at a = tt
 
 -- ---- every event and change ----
@@ -322,9 +322,6 @@ bytes_kept c = record {
 none_place : (p : Place) → ◌≡◌ {A = Option Place} None (Some p) → ⊥
 none_place p e = cc
 
-test_same : (a b : ℕ) → (a == b) ≡ true → a ≡ b
-test_same a b e = grind (arith, nat_tests)
-
 formatted_fact : (c : Config) (s : ℕ) → Every (CopyFact []) (formatted c s)
 formatted_fact c s = every_map (CopyFact []) (root_copy c) _ (λ g. inl (record { root = refl; site = refl; number = refl; empty = refl }))
 
@@ -332,7 +329,7 @@ first_fact : (c : Config) (ss : List ℕ) (s : ℕ) (p : Place) → place_in (ro
 first_fact c [] s p e = absurd (none_place p e)
 first_fact c (t ∷ ts) s p e =
     (elim (t == s) as (λ b. (t == s) ≡ b → place_in (elim b [ true ↦ Some (first_place c t) | false ↦ row place_site s (map (first_place c) ts) ]) ≡ Some p → PlaceFact [] s p) [
-      | true ↦ λ q f. subst (PlaceFact [] s) (some_eq (Running (fresh 1 (formatted c t))) p f) (running_fact [] s (fresh 1 (formatted c t)) (record { copies = formatted_fact c t; last = λ key. tt; pulls = tt; inside = refl }))
+      | true ↦ λ q f. subst (PlaceFact [] s) (some_same (Running (fresh 1 (formatted c t))) p f) (running_fact [] s (fresh 1 (formatted c t)) (record { copies = formatted_fact c t; last = λ key. tt; pulls = tt; inside = refl }))
       | false ↦ λ q f. first_fact c ts s p f
     ]) refl e
 

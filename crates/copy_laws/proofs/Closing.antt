@@ -20,7 +20,7 @@ use Rattle.vector_laws.specs.Written.{WasTold, WrittenAs, NumberedTold, CommitsA
 use Rattle.vector_laws.specs.Facts.{CopyFact as Written, InstanceFact as Versions, LastMade as Made}
 use Rattle.vector_laws.specs.HistoryCommits.{commits_of}
 use Rattle.vector_laws.proofs.HistoryHistory.{Stands, Sound, sound}
-use Rattle.lock_laws.specs.Going.{WasReleased}
+use Rattle.kept_laws.specs.of_lock_laws.Going.{WasReleased}
 use Rattle.kept_laws.specs.StampCommits.{MadeAt, WasMade, Counts}
 use Rattle.kept_laws.specs.StampLaws.{Laws}
 use Rattle.kept_laws.specs.StampCovering.{CopyCounts}

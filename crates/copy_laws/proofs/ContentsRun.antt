@@ -11,18 +11,18 @@ use Rattle.the_run.specs.Runs.{run_in}
 use Rattle.the_run.proofs.OneList.{one_list}
 use Rattle.vector_laws.specs.Written.{past_of}
 use Rattle.vector_laws.proofs.HistorySited.{run_sited}
-use Rattle.pack_laws.proofs.InstanceAgree.{run_agrees}
-use Rattle.pack_laws.proofs.InodeFitsRun.{run_fits}
-use Rattle.lock_laws.specs.Joins.{WasJoined}
-use Rattle.lock_laws.proofs.JoinsRun.{run_joins_once}
-use Rattle.lock_laws.proofs.FactsRun.{run_goes}
-use Rattle.pack_laws.proofs.PacksRun.{run_packs}
-use Rattle.make_laws.proofs.RunningOneSite.{run_one_site}
-use Rattle.make_laws.proofs.RunningOrders.{run_orderly}
-use Rattle.make_laws.proofs.RunningRefusals.{run_plain_grants}
-use Rattle.make_laws.proofs.FreshRun.{run_fresh}
-use Rattle.make_laws.proofs.Modes.{run_reserved, run_modes}
-use Rattle.make_laws.proofs.LockedRun.{run_locked}
+use Rattle.kept_laws.proofs.of_pack_laws.InstanceAgree.{run_agrees}
+use Rattle.kept_laws.proofs.of_pack_laws.InodeFitsRun.{run_fits}
+use Rattle.kept_laws.specs.of_lock_laws.Joins.{WasJoined}
+use Rattle.kept_laws.proofs.of_lock_laws.JoinsRun.{run_joins_once}
+use Rattle.kept_laws.proofs.of_lock_laws.FactsRun.{run_goes}
+use Rattle.kept_laws.proofs.of_pack_laws.PacksRun.{run_packs}
+use Rattle.kept_laws.proofs.of_make_laws.RunningOneSite.{run_one_site}
+use Rattle.kept_laws.proofs.of_make_laws.RunningOrders.{run_orderly}
+use Rattle.kept_laws.proofs.of_make_laws.RunningRefusals.{run_plain_grants}
+use Rattle.kept_laws.proofs.of_make_laws.FreshRun.{run_fresh}
+use Rattle.kept_laws.proofs.of_make_laws.Modes.{run_reserved, run_modes}
+use Rattle.kept_laws.proofs.of_make_laws.LockedRun.{run_locked}
 use Rattle.kept_laws.specs.StampLaws.{Laws}
 use Rattle.role_steps.specs.declared.copies.FileCopy.{FileCopy}
 use Rattle.the_run.proofs.Boots.{every_weaker}

@@ -27,7 +27,7 @@ use Rattle.role_steps.proofs.Sending.{every_append}
 use Rattle.the_run.proofs.Boots.{every_weaker}
 use Rattle.vector_laws.specs.Facts.{file_in, onto}
 use Rattle.vector_laws.proofs.Facts.{onto_append}
-use Rattle.lock_laws.proofs.Facts.{Later, onto_later}
+use Rattle.kept_laws.proofs.of_lock_laws.Facts.{Later, onto_later}
 use Rattle.copy_laws.specs.Contents.{HasContent, IsSized, IsPageOf}
 use Rattle.copy_laws.specs.Facts.{ReportedFact, MaybeMade, BodyFact, PacketFact, NoFact, Factless, CopyFact, PullFact, ClosingFact, StageFact, LastMade, InstanceFact, VersionFact, RowFact, GrantFact, OpenFact, TableFact, InEpochFact, ViewFact, DiskFact, Fine}
 

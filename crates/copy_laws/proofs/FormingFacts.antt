@@ -2,6 +2,8 @@
 use Rattle.std.proofs.Common.{◌≡◌, ℕ, ◌+◌, ◌==◌, Bool, true, false, cond, ◌&&◌, ◌||◌, ◌*◌, ◌<◌, ◌∙◌, ap, length, not, List, [], ◌∷◌, Option, Some, None, refl, sym, subst, arith}
 use Rattle.std.proofs.lemmas.Bool.Decides.{nat_tests}
 use Rattle.std.specs.List.{list_any}
+use Rattle.role_steps.proofs.of_plain_facts.Numbers.{equal}
+use Rattle.role_steps.proofs.of_plain_facts.Tests.{both_true as both_so, both_true, not_true}
 use Rattle.commit_graph.specs.Versions.{same_file}
 use Rattle.locus_ids.specs.declared.ids.EpochId.{EpochId}
 use Rattle.locus_ids.specs.declared.ids.FileId.{FileId}
@@ -36,9 +38,8 @@ use Rattle.role_steps.proofs.Sending.{every_cond, every_map, every_flat_map}
 use Rattle.the_run.specs.Steps.{adopts_of, starts_mends_of, ends_event}
 use Rattle.the_run.proofs.InsideSync.{every_row, every_without, Found, row_found}
 use Rattle.run_laws.specs.Naming.{Deeds, ViewOk}
-use Rattle.run_laws.proofs.RolesTell.{on_call_talks}
+use Rattle.run_laws.proofs.Telling.{on_call_talks}
 use Rattle.role_steps.proofs.Rows.{row_other}
-use Rattle.lock_laws.proofs.GrantTold.{test_same}
 use Rattle.vector_laws.specs.HistoryCommits.{NumbersFit}
 use Rattle.vector_laws.proofs.HistoryHistory.{same_file_refl}
 use Rattle.kept_laws.proofs.StampCommitCovers.{key_file}
@@ -46,11 +47,12 @@ use Rattle.copy_laws.specs.Contents.{HasContent, IsVersionOf, IsSized}
 use Rattle.copy_laws.proofs.Pages.{whole_front, has_fits}
 use Rattle.vector_laws.specs.Facts.{onto}
 use Rattle.copy_laws.specs.Facts.{ReportedFact, PacketFact, Factless, CopyFact, PullFact, LastMade, InstanceFact, IsLast, LastBy, RowFact, TableFact, InEpochFact, ViewFact}
-use Rattle.lock_laws.proofs.Facts.{Later, one_later, onto_later}
+use Rattle.kept_laws.proofs.of_lock_laws.Facts.{Later, one_later, onto_later}
 use Rattle.copy_laws.proofs.Facts.{content_later, copies_later, pulls_later, instances_later, tables_later, then_fine}
 use Rattle.vector_laws.proofs.SyncFacts.{file_eq}
 use Rattle.vector_laws.proofs.SiteFacts.{talk_none}
 use Rattle.locus_ids.specs.declared.ids.Stamp.{Stamp}
+use Rattle.locus_ids.specs.Sizes.{inode_span, page_bytes}
 use Rattle.copy_laws.proofs.SyncEvents.{have_fact}
 use Rattle.copy_laws.proofs.StoreFacts.{sync_fact}
 use Rattle.copy_laws.proofs.RolesSend.{on_call_factless}
@@ -58,9 +60,6 @@ use Rattle.vector_laws.proofs.SiteDisks.{starts_mends_keeps}
 use Rattle.copy_laws.proofs.SiteFacts.{SiteFine, inside_alike, plain_fine, quiet_fact, inside_of}
 
 -- ---- adoptions ----
-
-none_some : {A : Type 0} (x : A) → ◌≡◌ {A = Option A} None (Some x) → ⊥
-none_some x e = cc
 
 noted_fact : (me : ℕ) → (f : Frame) (past : List Told) (p : Pull) (e : InEpoch) (o : Option SyncTable) (v : SiteView) → f.epoch ≡ e.id → v.epoch ≡ Some e → Found (TableFact past e.id) o → ViewFact me past v → ViewFact me past (notes_own_at f p o v)
 noted_fact me f past p e None v at here k h = h
@@ -70,12 +69,6 @@ noted_fact me f past p e (Some t) v at here k h =
     let w : SiteView = notes_own_at f p (Some t) v in
     let i : Every (InstanceFact past e.id) v.store.instances × Every (TableFact past e.id) v.tables = inside_of me past v e here h in
     record { copies = h.copies; last = h.last; pulls = h.pulls; inside = subst (InEpochFact past w) (sym here) (i.0, every_row (TableFact past e.id) table_group (on_have_of f.me p.stamp (file_row t p.file.ino) t) v.tables (subst (λ (n : EpochId). TableFact past n (on_have_of f.me p.stamp (file_row t p.file.ino) t)) at q) i.1) }
-
-both_so : (a b : Bool) → (a && b) ≡ true → (a ≡ true) × (b ≡ true)
-both_so true true h = (refl, refl)
-both_so true false h = absurd (cc)
-both_so false true h = absurd (cc)
-both_so false false h = absurd (cc)
 
 neither : (a b : Bool) → not (a || b) ≡ true → a ≡ false
 neither true b h = absurd (cc)
@@ -90,11 +83,11 @@ none_any f (x ∷ xs) h = let k : _ × _ = or_none (f x) (list_any f xs) h in (k
     or_none false b h = (refl, h)
 
 -- of a running instance that has committed a file nothing is adopted
-not_adopted : (past : List Told) (e : EpochId) (file : FileId) (i : Instance) (stamp : Stamp) → NumbersFit past → file.ino < 65536 → InstanceFact past e i → is_open_of file i ≡ false → i.stage ≡ stage.Running → i.work.committed ≡ Some stamp → (file_key file == file_key i.file) ≡ false
+not_adopted : (past : List Told) (e : EpochId) (file : FileId) (i : Instance) (stamp : Stamp) → NumbersFit past → file.ino < inode_span → InstanceFact past e i → is_open_of file i ≡ false → i.stage ≡ stage.Running → i.work.committed ≡ Some stamp → (file_key file == file_key i.file) ≡ false
 not_adopted past e file i stamp fit small k shut runs made = is_not (file_key file == file_key i.file) (λ q.
     (let version : IsVersionOf past i.file stamp = subst (LastMade past i.file) made k.made in
-    let mine : i.file.ino < 65536 = has_fits past i.file stamp version.0 fit version.1 in
-    let same : file ≡ i.file = key_file file i.file small mine (test_same (file_key file) (file_key i.file) q) in
+    let mine : i.file.ino < inode_span = has_fits past i.file stamp version.0 fit version.1 in
+    let same : file ≡ i.file = key_file file i.file small mine (equal (file_key file) (file_key i.file) q) in
     false_true (subst (λ (s : Stage). (is_open s && same_file i.file file) ≡ false) runs shut) (same_file_refl i.file file (sym same))))
   where
     is_not : (b : Bool) → (b ≡ true → ⊥) → b ≡ false
@@ -104,7 +97,7 @@ not_adopted past e file i stamp fit small k shut runs made = is_not (file_key fi
     false_true : {b : Bool} → b ≡ false → b ≡ true → ⊥
     false_true e f = absurd (cc)
 
-last_adopted : (me : ℕ) (past : List Told) (e : EpochId) (x : FileCopy) (copies : List FileCopy) (o : Option Instance) → NumbersFit past → x.file.ino < 65536 → Found (InstanceFact past e) o → Found (λ (i : Instance). is_open_of x.file i ≡ false) o → LastBy me copies o → LastBy me (with_row copy_key x copies) o
+last_adopted : (me : ℕ) (past : List Told) (e : EpochId) (x : FileCopy) (copies : List FileCopy) (o : Option Instance) → NumbersFit past → x.file.ino < inode_span → Found (InstanceFact past e) o → Found (λ (i : Instance). is_open_of x.file i ≡ false) o → LastBy me copies o → LastBy me (with_row copy_key x copies) o
 last_adopted me past e x copies None fit small k shut h = tt
 last_adopted me past e x copies (Some i) fit small k shut h = λ stamp runs made. (let old : IsLast me copies i stamp = h stamp runs made in
     record { site = old.site; writes = old.writes; by = record { copy = old.by.copy; found = row_other copy_key x (file_key i.file) copies (not_adopted past e x.file i stamp fit small k shut runs made) ∙ old.by.found; site = old.by.site } })
@@ -118,10 +111,10 @@ adopts_pull_fact me f past p e v fit at here ready k h =
     let r : _ × _ = both_so (is_complete p) (has_room v.store p && not (has_open v.store p.file || has_mend v.users p.file)) ready in
     let q : _ × _ = both_so (has_room v.store p) (not (has_open v.store p.file || has_mend v.users p.file)) r.1 in
     let shut : has_open v.store p.file ≡ false = neither (has_open v.store p.file) (has_mend v.users p.file) q.1 in
-    let all : p.content ≡ k.content = k.first ∙ whole_front k.content (1024 * k.pages) (sym (ap length k.first) ∙ (test_same (length p.content) p.size r.0 ∙ k.size_is)) in
+    let all : p.content ≡ k.content = k.first ∙ whole_front k.content (page_bytes * k.pages) (sym (ap length k.first) ∙ (equal (length p.content) p.size r.0 ∙ k.size_is)) in
     let c : CopyFact now (copy_adopted p) = content_later past now later p.file p.stamp p.content (subst (HasContent past p.file p.stamp) (sym all) k.has) in
     let i : Every (InstanceFact past e.id) v.store.instances × Every (TableFact past e.id) v.tables = inside_of me past v e here h in
-    let small : p.file.ino < 65536 = has_fits past p.file p.stamp k.content fit k.has in
+    let small : p.file.ino < inode_span = has_fits past p.file p.stamp k.content fit k.has in
     let g : ViewFact me now w = record {
       copies = every_row (CopyFact now) copy_key (copy_adopted p) v.store.copies c (copies_later past now later v.store.copies h.copies);
       last = λ key. last_adopted me past e.id (copy_adopted p) v.store.copies (row instance_key key v.store.instances) fit small (row_found (InstanceFact past e.id) instance_key key v.store.instances i.0) (row_found (λ (j : Instance). is_open_of p.file j ≡ false) instance_key key v.store.instances (none_any (is_open_of p.file) v.store.instances shut)) (h.last key);
@@ -263,16 +256,6 @@ joins_fact c me past id m v gone h =
       sent = all_reports_fact now (frame_in c me v.boot (record { id = id; members = m })) (joined_view c me id m v) copies;
       disk = tt;
     }
-
-pub both_true : (a b : Bool) → (a && b) ≡ true → (a ≡ true) × (b ≡ true)
-both_true true true h = (refl, refl)
-both_true true false h = absurd (cc)
-both_true false true h = absurd (cc)
-both_true false false h = absurd (cc)
-
-not_true : (a : Bool) → not a ≡ true → a ≡ false
-not_true true h = absurd (cc)
-not_true false h = refl
 
 pub on_install_fact : (K : Deeds) (c : Config) (me : ℕ) (past : List Told) (from from_boot : ℕ) (id : EpochId) (m : Members) (v : SiteView) → ViewOk K v → ViewFact me past v → SiteFine me past (on_install c me from from_boot id m v)
 on_install_fact K c me past from from_boot id m v ok h =

@@ -5,8 +5,8 @@ use Rattle.schedule_lines.specs.declared.line.ScheduleLine.{ScheduleLine}
 use Rattle.the_run.specs.Runs.{run_in}
 use Rattle.vector_laws.proofs.Held.{run_copies}
 use Rattle.vector_laws.proofs.FactsRun.{run_numbered}
-use Rattle.pack_laws.proofs.InstanceAgree.{run_agrees}
-use Rattle.pack_laws.proofs.InodeFitsRun.{run_fits}
+use Rattle.kept_laws.proofs.of_pack_laws.InstanceAgree.{run_agrees}
+use Rattle.kept_laws.proofs.of_pack_laws.InodeFitsRun.{run_fits}
 use Rattle.kept_laws.proofs.RootsRun.{run_roots}
 use Rattle.kept_laws.proofs.NamesRun.{run_named}
 use Rattle.kept_laws.proofs.Hold.{run_kept_hold}

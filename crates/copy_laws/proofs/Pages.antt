@@ -1,11 +1,12 @@
 -- The bytes of a version in pages: a front of whole pages, one page more, and all of them. Two contents of one version are one.
-use Rattle.std.proofs.Common.{◌≡◌, ℕ, ◌+◌, ◌*◌, ◌/◌, ◌≤◌, ◌<◌, min, Bool, true, false, ◌&&◌, ◌||◌, cond, List, [], ◌∷◌, ◌++◌, length, take, refl, sym, ◌∙◌, ap, subst, arith, ◌⊎◌, inl, inr}
+use Rattle.std.proofs.Common.{◌≡◌, ℕ, ◌+◌, ◌*◌, ◌/◌, ◌≤◌, ◌<◌, min, Bool, true, false, ◌&&◌, ◌||◌, cond, List, [], ◌∷◌, ◌++◌, length, take, refl, sym, ◌∙◌, ap, subst, arith, ◌⊎◌, inl, inr, ◌-◌}
 use Rattle.std.proofs.lemmas.Bool.{cases_lt}
 use Rattle.std.proofs.lemmas.Nat.{div-mul-add}
 use Rattle.std.proofs.lemmas.List.{take_all, length-take}
 use Rattle.std.proofs.Math.Seq.{take-add}
 use Rattle.locus_ids.specs.declared.ids.FileId.{FileId}
 use Rattle.locus_ids.specs.declared.ids.Stamp.{Stamp}
+use Rattle.locus_ids.specs.Sizes.{inode_span, page_bytes}
 use Rattle.commit_graph.specs.declared.history.Version.{Version}
 use Rattle.commit_graph.specs.Versions.{same_file, same_stamp, is_version, is_in, content_of}
 use Rattle.commit_graph.proofs.Names.{same_stamp_refl, same_stamp_eq}
@@ -23,25 +24,25 @@ use Rattle.copy_laws.specs.Contents.{MadeWithRecord, MadeWith, HasContent}
 -- ---- a front of pages ----
 
 -- so many whole pages take no more pages
-pub whole_pages : (pages : ℕ) → pages_of (1024 * pages) ≡ pages
-whole_pages pages = ap (λ (n : ℕ). (n + 1023) / 1024) turned ∙ div-mul-add pages 1024 1023 (omega arith)
+pub whole_pages : (pages : ℕ) → pages_of (page_bytes * pages) ≡ pages
+whole_pages pages = ap (λ (n : ℕ). (n + (page_bytes - 1)) / page_bytes) turned ∙ div-mul-add pages page_bytes (page_bytes - 1) (omega arith)
   where
-    turned : 1024 * pages ≡ pages * 1024
+    turned : page_bytes * pages ≡ pages * page_bytes
     turned = omega arith
 
 -- a front that isn't all of the content has whole pages alone
-pub front_length : (content : List ℕ) (pages : ℕ) → (length (take (1024 * pages) content) ≡ length content → ⊥) → length (take (1024 * pages) content) ≡ 1024 * pages
-front_length content pages ne = by_case (cases_lt (length content) (1024 * pages))
+pub front_length : (content : List ℕ) (pages : ℕ) → (length (take (page_bytes * pages) content) ≡ length content → ⊥) → length (take (page_bytes * pages) content) ≡ page_bytes * pages
+front_length content pages ne = by_case (cases_lt (length content) (page_bytes * pages))
   where
-    by_case : (length content < 1024 * pages) ⊎ (1024 * pages ≤ length content) → length (take (1024 * pages) content) ≡ 1024 * pages
-    by_case (inl h) = absurd (ne (ap length (take_all (1024 * pages) content (omega (arith, h)))))
-    by_case (inr h) = (let e : length (take (1024 * pages) content) ≡ min (1024 * pages) (length content) = length-take (1024 * pages) content in omega (arith, e, h))
+    by_case : (length content < page_bytes * pages) ⊎ (page_bytes * pages ≤ length content) → length (take (page_bytes * pages) content) ≡ page_bytes * pages
+    by_case (inl h) = absurd (ne (ap length (take_all (page_bytes * pages) content (omega (arith, h)))))
+    by_case (inr h) = (let e : length (take (page_bytes * pages) content) ≡ min (page_bytes * pages) (length content) = length-take (page_bytes * pages) content in omega (arith, e, h))
 
 -- with the next page it's a front of one page more
-pub next_front : (content : List ℕ) (pages : ℕ) → take (1024 * pages) content ++ page_of content pages ≡ take (1024 * (pages + 1)) content
-next_front content pages = sym (take-add (1024 * pages) 1024 content) ∙ ap (λ (n : ℕ). take n content) more
+pub next_front : (content : List ℕ) (pages : ℕ) → take (page_bytes * pages) content ++ page_of content pages ≡ take (page_bytes * (pages + 1)) content
+next_front content pages = sym (take-add (page_bytes * pages) page_bytes content) ∙ ap (λ (n : ℕ). take n content) more
   where
-    more : 1024 * pages + 1024 ≡ 1024 * (pages + 1)
+    more : page_bytes * pages + page_bytes ≡ page_bytes * (pages + 1)
     more = omega arith
 
 -- a front of as many bytes as the content is all of it
@@ -160,20 +161,20 @@ one_content past file stamp a b l h g = sym (content_is past file stamp a l h) �
 
 -- ---- inode numbers ----
 
-fits_told : (file : FileId) (stamp : Stamp) (content : List ℕ) (x : Told) → FitTold x → MadeWith file stamp content x → file.ino < 65536
+fits_told : (file : FileId) (stamp : Stamp) (content : List ℕ) (x : Told) → FitTold x → MadeWith file stamp content x → file.ino < inode_span
 fits_told file stamp content (Shown r) f m = by_record r f m
   where
-    by_record : (r : Record) → FitRecord r → MadeWithRecord file stamp content r → file.ino < 65536
-    by_record (says.Commit g s made parents bytes) f m = subst (λ (x : FileId). x.ino < 65536) m.0 f
+    by_record : (r : Record) → FitRecord r → MadeWithRecord file stamp content r → file.ino < inode_span
+    by_record (says.Commit g s made parents bytes) f m = subst (λ (x : FileId). x.ino < inode_span) m.0 f
     by_record _ f m = absurd m
 fits_told file stamp content _ f m = absurd m
 
-fits_past : (file : FileId) (stamp : Stamp) (content : List ℕ) (past : List Told) → NumbersFit past → WasTold (MadeWith file stamp content) past → file.ino < 65536
+fits_past : (file : FileId) (stamp : Stamp) (content : List ℕ) (past : List Told) → NumbersFit past → WasTold (MadeWith file stamp content) past → file.ino < inode_span
 fits_past file stamp content [] f h = absurd h
 fits_past file stamp content (x ∷ older) f (inl h) = fits_told file stamp content x f.0 h
 fits_past file stamp content (x ∷ older) f (inr h) = fits_past file stamp content older f.1 h
 
 -- a file that has a version has a number of 16 bits
-pub has_fits : (past : List Told) (file : FileId) (stamp : Stamp) (content : List ℕ) → NumbersFit past → HasContent past file stamp content → file.ino < 65536
+pub has_fits : (past : List Told) (file : FileId) (stamp : Stamp) (content : List ℕ) → NumbersFit past → HasContent past file stamp content → file.ino < inode_span
 has_fits past file stamp content f (inl h) = let e : file.ino ≡ 1 = h.root in omega (arith, e)
 has_fits past file stamp content f (inr h) = fits_past file stamp content past f h

@@ -1,11 +1,14 @@
 -- What a site keeps and sends of versions is as it was told: in its epoch, and where it forms one.
 use Rattle.std.proofs.Common.{◌≡◌, ℕ, Bool, true, false, List, [], ◌∷◌, ◌++◌, Option, Some, None, refl, sym, ◌∙◌, subst, ap, ◌+◌, ◌*◌, ◌-◌, ◌==◌, ◌<◌, ◌&&◌, not, min, length, take, arith}
 use Rattle.std.proofs.lemmas.Bool.Decides.{nat_tests}
+use Rattle.role_steps.proofs.of_plain_facts.Numbers.{equal}
+use Rattle.role_steps.proofs.of_plain_facts.Tests.{both_true}
 use Rattle.locus_ids.specs.declared.ids.FileId.{FileId}
 use Rattle.commit_graph.proofs.Names.{same_stamp_eq}
 use Rattle.file_content.specs.Pages.{pages_of, page_of}
 use Rattle.locus_ids.specs.declared.ids.Stamp.{Stamp}
 use Rattle.locus_ids.specs.declared.config.Config.{Config}
+use Rattle.locus_ids.specs.Sizes.{inode_span, page_bytes}
 use Rattle.wire_messages.specs.declared.body.Body.{Body}
 use Rattle.wire_messages.specs.declared.body.Body.TheVariants as body
 use Rattle.role_steps.specs.Own.{Every}
@@ -29,12 +32,11 @@ use Rattle.role_steps.specs.declared.synchronizing.SyncTable.{SyncTable}
 use Rattle.the_run.specs.Steps.{from_user, group_of, at_table_of, is_opened_in, takes_inside, with_pulls}
 use Rattle.the_run.proofs.InsideSync.{every_row, Found, first_found}
 use Rattle.run_laws.specs.Words.{Talks}
-use Rattle.run_laws.proofs.SyncTells.{on_opened_talks, on_open_talks, on_look_talks, on_report_talks, on_closed_talks, on_have_talks}
-use Rattle.run_laws.proofs.RolesTell.{on_open_done_talks, on_op_done_talks, on_close_done_talks, on_look_done_talks}
+use Rattle.run_laws.proofs.Telling.{on_opened_talks, on_open_talks, on_look_talks, on_report_talks, on_closed_talks, on_have_talks, on_open_done_talks, on_op_done_talks, on_close_done_talks, on_look_done_talks}
 use Rattle.vector_laws.specs.Written.{InstancesAgree}
 use Rattle.vector_laws.specs.Facts.{NotCommit, onto}
 use Rattle.copy_laws.specs.Facts.{ReportedFact, BodyFact, PacketFact, Factless, CopyFact, PullFact, InstanceFact, LastsBy, StoreFact, TableFact, InEpochFact, ViewFact, DiskFact, Fine}
-use Rattle.lock_laws.proofs.Facts.{onto_later}
+use Rattle.kept_laws.proofs.of_lock_laws.Facts.{onto_later}
 use Rattle.copy_laws.proofs.Facts.{factless, pulls_later, tables_later, view_later}
 use Rattle.copy_laws.proofs.SyncFacts.{TableFine, on_opened_fact}
 use Rattle.copy_laws.proofs.SyncEvents.{on_open_fact, on_look_fact, on_report_fact, on_closed_fact, on_have_fact}
@@ -44,7 +46,7 @@ use Rattle.copy_laws.proofs.RolesSend.{on_open_done_factless, on_op_done_factles
 use Rattle.role_steps.proofs.Sending.{every_cond}
 use Rattle.vector_laws.proofs.SyncFacts.{FoundAt, row_at}
 use Rattle.vector_laws.proofs.SiteFacts.{talk_none}
-use Rattle.lock_laws.proofs.StepFacts.{notify_silent, page_silent}
+use Rattle.kept_laws.proofs.of_lock_laws.StepFacts.{notify_silent, page_silent}
 use Rattle.kept_laws.proofs.StampCommitCovers.{key_file}
 use Rattle.copy_laws.specs.Contents.{HasContent, IsPageOf}
 use Rattle.copy_laws.proofs.Pages.{Histories, whole_pages, front_length, next_front, one_content, has_fits}
@@ -171,38 +173,29 @@ on_notify_fact past f from (Some own) p ps k h =
       | false ↦ elim (is_below own.vector p.vector) as (λ b. PullsFine past (elim b [ true ↦ begins_pull f p ps | false ↦ quiet ps ])) [ true ↦ begins_pull_fact past f p ps k h | false ↦ (h, tt) ]
     ]
 
-both_true : (a b : Bool) → (a && b) ≡ true → (a ≡ true) × (b ≡ true)
-both_true true true e = (refl, refl)
-both_true true false e = absurd (cc)
-both_true false true e = absurd (cc)
-both_true false false e = absurd (cc)
-
 not_equal : (a b : ℕ) → not (a == b) ≡ true → a ≡ b → ⊥
 not_equal a b e f = differs (subst (λ (n : ℕ). not (n == b) ≡ true) f e)
   where
     differs : not (b == b) ≡ true → ⊥
     differs g = absurd (grind (arith, nat_tests))
 
-is_equal : (a b : ℕ) → (a == b) ≡ true → a ≡ b
-is_equal a b e = grind (arith, nat_tests)
-
 -- the next page of the version that is pulled makes its front longer
 longer_pull : (past : List Told) (file : FileId) (stamp : Stamp) (page : ℕ) (bytes : List ℕ) (p : Pull) → Histories past → p.file ≡ file → IsPageOf past file stamp page bytes → is_awaited p stamp page bytes ≡ true → PullFact past p → PullFact past (record p { content = p.content ++ bytes })
 longer_pull past file stamp page bytes p l of g e k =
-    let a : _ × _ = both_true (same_stamp p.stamp stamp) (not (is_complete p) && ((page == next_page p) && (length bytes == min 1024 (p.size - 1024 * page)))) e in
-    let b : _ × _ = both_true (not (is_complete p)) ((page == next_page p) && (length bytes == min 1024 (p.size - 1024 * page))) a.1 in
-    let d : _ × _ = both_true (page == next_page p) (length bytes == min 1024 (p.size - 1024 * page)) b.1 in
+    let a : _ × _ = both_true (same_stamp p.stamp stamp) (not (is_complete p) && ((page == next_page p) && (length bytes == min page_bytes (p.size - page_bytes * page)))) e in
+    let b : _ × _ = both_true (not (is_complete p)) ((page == next_page p) && (length bytes == min page_bytes (p.size - page_bytes * page))) a.1 in
+    let d : _ × _ = both_true (page == next_page p) (length bytes == min page_bytes (p.size - page_bytes * page)) b.1 in
     let same : g.content ≡ k.content = one_content past p.file p.stamp g.content k.content l (subst (λ (s : Stamp). HasContent past p.file s g.content) (sym (same_stamp_eq p.stamp stamp a.0)) (subst (λ (f : FileId). HasContent past f stamp g.content) (sym of) g.has)) k.has in
-    let short : length (take (1024 * k.pages) k.content) ≡ length k.content → ⊥ = (λ q. not_equal (length p.content) p.size b.0 (ap length k.first ∙ (q ∙ sym k.size_is))) in
-    let whole : length p.content ≡ 1024 * k.pages = ap length k.first ∙ front_length k.content k.pages short in
-    let next : page ≡ k.pages = is_equal page (next_page p) d.0 ∙ (ap pages_of whole ∙ whole_pages k.pages) in
+    let short : length (take (page_bytes * k.pages) k.content) ≡ length k.content → ⊥ = (λ q. not_equal (length p.content) p.size b.0 (ap length k.first ∙ (q ∙ sym k.size_is))) in
+    let whole : length p.content ≡ page_bytes * k.pages = ap length k.first ∙ front_length k.content k.pages short in
+    let next : page ≡ k.pages = equal page (next_page p) d.0 ∙ (ap pages_of whole ∙ whole_pages k.pages) in
     let more : bytes ≡ page_of k.content k.pages = g.bytes_are ∙ (ap (λ (c : List ℕ). page_of c page) same ∙ ap (page_of k.content) next) in
     record {
       content = k.content;
       has = k.has;
       size_is = k.size_is;
       pages = k.pages + 1;
-      first = ap (λ (front : List ℕ). front ++ bytes) k.first ∙ (ap (λ (rest : List ℕ). take (1024 * k.pages) k.content ++ rest) more ∙ next_front k.content k.pages);
+      first = ap (λ (front : List ℕ). front ++ bytes) k.first ∙ (ap (λ (rest : List ℕ). take (page_bytes * k.pages) k.content ++ rest) more ∙ next_front k.content k.pages);
     }
 
 on_page_of_fact : (past : List Told) (f : Frame) (file : FileId) (stamp : Stamp) (page : ℕ) (bytes : List ℕ) (o : Option Pull) (ps : List Pull) → Histories past → IsPageOf past file stamp page bytes → Found (λ (p : Pull). (p.file ≡ file) × PullFact past p) o → Every (PullFact past) ps → PullsFine past (on_page_of f stamp page bytes o ps)
@@ -214,7 +207,7 @@ on_page_of_fact past f file stamp page bytes (Some p) ps l g k h =
     ]) refl
 
 -- what is found under the key of a file of 16 bits is of the file
-found_of : {A : Type 0} (P : A → Type 0) (file_of : A → FileId) (key : A → ℕ) (file : FileId) (o : Option A) → ((x : A) → key x ≡ file_key (file_of x)) → file.ino < 65536 → ((x : A) → P x → (file_of x).ino < 65536) → FoundAt P key (file_key file) o → Found (λ (x : A). (file_of x ≡ file) × P x) o
+found_of : {A : Type 0} (P : A → Type 0) (file_of : A → FileId) (key : A → ℕ) (file : FileId) (o : Option A) → ((x : A) → key x ≡ file_key (file_of x)) → file.ino < inode_span → ((x : A) → P x → (file_of x).ino < inode_span) → FoundAt P key (file_key file) o → Found (λ (x : A). (file_of x ≡ file) × P x) o
 found_of P file_of key file None is small fits h = tt
 found_of P file_of key file (Some x) is small fits h = (key_file (file_of x) file (fits x h.1) small (sym (is x) ∙ h.0), h.1)
 
@@ -252,11 +245,11 @@ inside_fact c me boot past from v e (body.Notify file kind set size stamp vector
     let g : PullFact past p = record { content = k.content; has = k.has; size_is = k.size_is; pages = 0; first = refl } in
     pulls_part me past v (on_notify (frame_in c me boot e) from (copy_of v.store file) p v.pulls) h (notify_silent (frame_in c me boot e) from (copy_of v.store file) p v.pulls) (on_notify_fact past (frame_in c me boot e) from (copy_of v.store file) p v.pulls g h.pulls)
 inside_fact c me boot past from v e (body.Pull file stamp page) here agree q k h =
-    let small : file.ino < 65536 = has_fits past file stamp k.0 agree.histories.fit k.1 in
+    let small : file.ino < inode_span = has_fits past file stamp k.0 agree.histories.fit k.1 in
     let found : Found (λ (x : FileCopy). (x.file ≡ file) × CopyFact past x) (copy_of v.store file) = found_of (CopyFact past) (λ (x : FileCopy). x.file) copy_key file (copy_of v.store file) (λ x. refl) small (λ x g. has_fits past x.file x.stamp x.content agree.histories.fit g) (row_at (CopyFact past) copy_key (file_key file) v.store.copies h.copies) in
     record { view = h; sent = page_of_fact past (frame_in c me boot e) from file stamp page (copy_of v.store file) found; disk = tt }
 inside_fact c me boot past from v e (body.Page file stamp page bytes) here agree q k h =
-    let small : file.ino < 65536 = has_fits past file stamp k.content agree.histories.fit k.has in
+    let small : file.ino < inode_span = has_fits past file stamp k.content agree.histories.fit k.has in
     let found : Found (λ (p : Pull). (p.file ≡ file) × PullFact past p) (pull_of v.pulls file) = found_of (PullFact past) (λ (p : Pull). p.file) pull_key file (pull_of v.pulls file) (λ p. refl) small (λ p g. has_fits past p.file p.stamp g.content agree.histories.fit g.has) (row_at (PullFact past) pull_key (file_key file) v.pulls h.pulls) in
     pulls_part me past v (on_page (frame_in c me boot e) file stamp page bytes v.pulls) h (page_silent (frame_in c me boot e) stamp page bytes (pull_of v.pulls file) v.pulls) (on_page_of_fact past (frame_in c me boot e) file stamp page bytes (pull_of v.pulls file) v.pulls agree.histories k found h.pulls)
 inside_fact c me boot past from v e (body.Have file stamp) here agree q k h = group_part me past (on_have from file stamp) v e file.group here h (on_have_talks from file stamp) (λ t z g. on_have_fact past (frame_in c me boot e) from file stamp t g)

@@ -2,6 +2,7 @@
 use Rattle.std.proofs.Common.{◌≡◌, ℕ, ◌+◌, ◌==◌, nat_lt, Bool, true, false, ◌&&◌, ◌||◌, not, List, [], ◌++◌, Option, Some, None, refl, sym, subst, arith}
 use Rattle.std.proofs.lemmas.Bool.Decides.{nat_tests}
 use Rattle.std.specs.List.{flat_map}
+use Rattle.role_steps.proofs.of_plain_facts.Tests.{both_true, not_false, or_other}
 use Rattle.locus_ids.specs.declared.ids.EpochId.{EpochId}
 use Rattle.locus_ids.specs.declared.sites.Links.{Links}
 use Rattle.locus_ids.specs.declared.config.Config.{Config}
@@ -28,15 +29,14 @@ use Rattle.run_laws.specs.Naming.{Deeds, Now, ViewOk, Fine as EpochFine}
 use Rattle.run_laws.proofs.Moves.{inner_view, inner_fine}
 use Rattle.run_laws.proofs.InsideSteps.{adopts_of_inner, call_inner}
 use Rattle.run_laws.proofs.Steps.{EventNames, takes_fine, starts_part_fine, begins_fine, leaves_of_fine}
-use Rattle.run_laws.proofs.RolesTell.{on_call_talks}
+use Rattle.run_laws.proofs.Telling.{on_call_talks}
 use Rattle.vector_laws.specs.HistoryCommits.{NumbersFit}
 use Rattle.vector_laws.proofs.SyncFacts.{every_flat}
 use Rattle.vector_laws.proofs.SiteFacts.{talk_none}
-use Rattle.vector_laws.proofs.FormingFacts.{both_true}
-use Rattle.lock_laws.proofs.StepFacts.{SiteSilent, notify_silent, page_silent, framed_notify}
+use Rattle.kept_laws.proofs.of_lock_laws.StepFacts.{SiteSilent, notify_silent, page_silent, framed_notify}
 use Rattle.vector_laws.specs.Facts.{onto}
 use Rattle.copy_laws.specs.Facts.{BodyFact, PacketFact, Factless, PullFact, TableFact, ViewFact, Fine}
-use Rattle.lock_laws.proofs.Facts.{Later, onto_later, then_later}
+use Rattle.kept_laws.proofs.of_lock_laws.Facts.{Later, onto_later, then_later}
 use Rattle.vector_laws.proofs.Facts.{onto_append}
 use Rattle.copy_laws.proofs.Facts.{packets_later, factless, then_fine}
 use Rattle.copy_laws.proofs.SyncFacts.{sync_repeats_fact}
@@ -79,24 +79,16 @@ tried_fact K c me past links o silent none ok fit h =
 
 -- ---- a packet ----
 
--- a packet inside the epoch names the epoch of the site
-not_false : (a : Bool) → not a ≡ false → a ≡ true
-not_false true h = refl
-not_false false h = absurd (cc)
-
 same_epoch_eq : (a b : EpochId) → same_epoch a b ≡ true → a ≡ b
 same_epoch_eq a b h = id_eq (grind (arith, nat_tests)) (grind (arith, nat_tests)) (grind (arith, nat_tests))
   where
     id_eq : a.number ≡ b.number → a.site ≡ b.site → a.boot ≡ b.boot → a ≡ b
     id_eq e f g = λ i. record { number = e i; site = f i; boot = g i }
 
-or_right : (a b : Bool) → a ≡ false → (a || b) ≡ true → b ≡ true
-or_right a b e h = subst (λ (x : Bool). (x || b) ≡ true) e h
-
 framed_epoch : (p : Packet) (v : SiteView) (e : InEpoch) → is_dropped p v ≡ false → is_forming p ≡ false → v.epoch ≡ Some e → e.id ≡ p.epoch
 framed_epoch p v e h inside here =
     let a : ((p.to_boot == v.boot) ≡ true) × ((is_forming p || is_framed p v.epoch) ≡ true) = both_true (p.to_boot == v.boot) (is_forming p || is_framed p v.epoch) (not_false ((p.to_boot == v.boot) && (is_forming p || is_framed p v.epoch)) h) in
-    let b : is_framed p (Some e) ≡ true = subst (λ (o : Option InEpoch). is_framed p o ≡ true) here (or_right (is_forming p) (is_framed p v.epoch) inside a.1) in
+    let b : is_framed p (Some e) ≡ true = subst (λ (o : Option InEpoch). is_framed p o ≡ true) here (or_other (is_forming p) (is_framed p v.epoch) inside a.1) in
     same_epoch_eq e.id p.epoch (both_true (same_epoch e.id p.epoch) (boot_in e.members.boot p.from == p.from_boot) b).0
 
 -- so it is with what a packet would close, in the epoch of the site

@@ -1,5 +1,6 @@
 -- What the storage site keeps, writes and sends of the bytes of versions is as it was told.
 use Rattle.std.proofs.Common.{◌≡◌, ℕ, ◌==◌, true, false, List, [], ◌∷◌, Option, Some, None, refl, sym, ◌∙◌, ap, length, subst, inl, inr}
+use Rattle.role_steps.proofs.of_plain_facts.Numbers.{equal}
 use Rattle.commit_graph.specs.Grants.{is_read}
 use Rattle.role_steps.specs.Tables.{row, with_row, with_latest}
 use Rattle.locus_ids.specs.declared.ids.FileId.{FileId}
@@ -25,12 +26,12 @@ use Rattle.role_steps.proofs.Sending.{every_cond}
 use Rattle.the_run.proofs.InsideSync.{every_row, Found, row_found}
 use Rattle.vector_laws.specs.Written.{WasBegun}
 use Rattle.vector_laws.proofs.SyncFacts.{every_flat, every_latest}
-use Rattle.lock_laws.proofs.GrantTold.{latest_other, latest_same, test_same}
+use Rattle.kept_laws.proofs.of_lock_laws.GrantTold.{latest_other, latest_same}
 use Rattle.role_steps.proofs.Rows.{row_other, row_same}
 use Rattle.copy_laws.specs.Contents.{HasContent}
 use Rattle.vector_laws.specs.Facts.{onto}
 use Rattle.copy_laws.specs.Facts.{MaybeMade, BodyFact, PacketFact, CopyFact, ClosingFact, StageFact, InstanceFact, IsBy, IsLast, LastBy, LastsBy, StoreFact, Fine}
-use Rattle.lock_laws.proofs.Facts.{Later, one_later}
+use Rattle.kept_laws.proofs.of_lock_laws.Facts.{Later, one_later}
 use Rattle.copy_laws.proofs.Facts.{sized_later, copies_later, instances_later, instance_later, stage_later, then_fine}
 
 abbrev pub InStore : Frame → List Told → Store → Type 0
@@ -50,14 +51,11 @@ sync_fact past f group b h = some_fact past f b (sync_site f.config f.members gr
 
 -- ---- the copies of what has committed here ----
 
-some_same : (x y : Instance) → ◌≡◌ {A = Option Instance} (Some x) (Some y) → x ≡ y
-some_same x y e = cc
-
 -- the table with an instance in place of its own
 lasts_put : (me : ℕ) (copies : List FileCopy) (is : List Instance) (i : Instance) → LastBy me copies (Some i) → LastsBy me copies is → LastsBy me copies (with_latest instance_key i is)
 lasts_put me copies is i k h key =
     (elim (instance_key i == key) as (λ b. (instance_key i == key) ≡ b → LastBy me copies (row instance_key key (with_latest instance_key i is))) [
-      | true ↦ λ e. subst (λ (n : ℕ). LastBy me copies (row instance_key n (with_latest instance_key i is))) (test_same (instance_key i) key e) (subst (LastBy me copies) (sym (latest_same instance_key i is)) k)
+      | true ↦ λ e. subst (λ (n : ℕ). LastBy me copies (row instance_key n (with_latest instance_key i is))) (equal (instance_key i) key e) (subst (LastBy me copies) (sym (latest_same instance_key i is)) k)
       | false ↦ λ e. subst (LastBy me copies) (sym (latest_other instance_key i key is e)) (h key)
     ]) refl
 
@@ -65,7 +63,7 @@ lasts_put me copies is i k h key =
 by_put : (me : ℕ) (x : FileCopy) (copies : List FileCopy) (file : FileId) → x.stamp.site ≡ me → IsBy me copies file → IsBy me (with_row copy_key x copies) file
 by_put me x copies file mine h =
     (elim (copy_key x == file_key file) as (λ b. (copy_key x == file_key file) ≡ b → IsBy me (with_row copy_key x copies) file) [
-      | true ↦ λ e. record { copy = x; found = subst (λ (n : ℕ). row copy_key n (with_row copy_key x copies) ≡ Some x) (test_same (copy_key x) (file_key file) e) (row_same copy_key x copies); site = mine }
+      | true ↦ λ e. record { copy = x; found = subst (λ (n : ℕ). row copy_key n (with_row copy_key x copies) ≡ Some x) (equal (copy_key x) (file_key file) e) (row_same copy_key x copies); site = mine }
       | false ↦ λ e. record { copy = h.copy; found = row_other copy_key x (file_key file) copies e ∙ h.found; site = h.site }
     ]) refl
 

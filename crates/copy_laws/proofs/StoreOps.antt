@@ -1,6 +1,8 @@
 -- What the storage site does of an operation, and the pages that it sends, keep what was told of the bytes of versions.
 use Rattle.std.proofs.Common.{◌≡◌, ℕ, ◌+◌, ◌==◌, Bool, true, false, cond, List, [], ◌∷◌, Option, Some, None, refl, sym, ◌∙◌, length, subst, arith, ◌<◌, ◌&&◌, nat_lt}
 use Rattle.std.proofs.lemmas.Bool.Decides.{nat_tests}
+use Rattle.role_steps.proofs.of_plain_facts.Numbers.{less}
+use Rattle.role_steps.proofs.of_plain_facts.Tests.{both_true}
 use Rattle.commit_graph.specs.Versions.{same_stamp}
 use Rattle.commit_graph.specs.Grants.{is_read}
 use Rattle.commit_graph.proofs.Names.{same_stamp_eq}
@@ -30,7 +32,7 @@ use Rattle.the_run.proofs.InsideSync.{Found}
 use Rattle.copy_laws.specs.Contents.{HasContent}
 use Rattle.vector_laws.specs.Facts.{onto}
 use Rattle.copy_laws.specs.Facts.{PacketFact, CopyFact, LastMade, InstanceFact, IsLast, StoreFact}
-use Rattle.lock_laws.proofs.Facts.{one_later}
+use Rattle.kept_laws.proofs.of_lock_laws.Facts.{one_later}
 use Rattle.copy_laws.proofs.Facts.{instance_later, then_fine}
 use Rattle.copy_laws.proofs.StoreFacts.{sends_fact, commits_fact, puts_instance, here_found, InStore, StoreFine, Here, Writes}
 
@@ -128,18 +130,9 @@ on_op_fact f past m inst n o seen s w h = on_op_of_fact f past m (instance_of s 
 
 -- ---- pulls of pages ----
 
-page_there : (a b : Bool) → (a && b) ≡ true → (a ≡ true) × (b ≡ true)
-page_there true true e = (refl, refl)
-page_there true false e = absurd (cc)
-page_there false true e = absurd (cc)
-page_there false false e = absurd (cc)
-
-less : (a b : ℕ) → nat_lt a b ≡ true → a < b
-less a b e = grind (arith, nat_tests)
-
 pulled_fact : (past : List Told) (f : Frame) (from : ℕ) (file : FileId) (stamp : Stamp) (page : ℕ) (x : FileCopy) → x.file ≡ file → CopyFact past x → (b : Bool) → has_page stamp page x ≡ b → Every (PacketFact past) (cond b (packet f from (body.Page file stamp page (page_of x.content page)) ∷ []) [])
 pulled_fact past f from file stamp page x is h true e =
-    let k : _ × _ = page_there (same_stamp x.stamp stamp) (nat_lt page (pages_of (length x.content))) e in
+    let k : _ × _ = both_true (same_stamp x.stamp stamp) (nat_lt page (pages_of (length x.content))) e in
     let same : x.stamp ≡ stamp = same_stamp_eq x.stamp stamp k.0 in
     (record { content = x.content; has = subst (λ (g : FileId). HasContent past g stamp x.content) is (subst (λ (p : Stamp). HasContent past x.file p x.content) same h); bytes_are = refl; there = less page (pages_of (length x.content)) k.1 }, tt)
 pulled_fact past f from file stamp page x is h false e = tt

@@ -34,7 +34,7 @@ use Rattle.vector_laws.specs.Facts.{file_in, onto}
 use Rattle.vector_laws.proofs.SyncFacts.{FoundAt, row_at, file_eq}
 use Rattle.copy_laws.specs.Contents.{IsSized}
 use Rattle.copy_laws.specs.Facts.{ReportedFact, MadeFact, MaybeMade, PacketFact, RowFact, GrantFact, OpenFact, WaitingFact, EarlyFact, TableFact}
-use Rattle.lock_laws.proofs.Facts.{Later, one_later, onto_later}
+use Rattle.kept_laws.proofs.of_lock_laws.Facts.{Later, one_later, onto_later}
 use Rattle.copy_laws.proofs.Facts.{table_later, packets_later}
 use Rattle.copy_laws.proofs.SyncFacts.{TableFine, table_then, version_row, noted_row, known_row, table_row, table_open, notices_fact, row_notices_fact, takes_open_fact, takes_look_fact, ended_grant}
 
@@ -163,10 +163,6 @@ published_fact past f ss inst r (Some v) t agree key group granted made h =
     let k : (known.ino ≡ r.file.ino) × RowFact past t.group known = known_row past t.group r.file.ino r.kind r.set (file_row t r.file.ino) (row_at (RowFact past t.group) row_ino r.file.ino t.files h.files) in
     let w : IsSized past (file_in t.group known.ino) v.stamp v.size = subst (λ (ino : ℕ). IsSized past (file_in t.group ino) v.stamp v.size) (sym k.0) (made_here past f inst t r v agree key group granted made) in
     table_row past f.epoch t (published_row ss r v (file_row t r.file.ino)) (noted_row past t.group ss v.stamp _ (version_row past t.group (record { stamp = v.stamp; vector = v.vector; size = v.size }) known w k.1)) h
-
-published_group : (ss : ℕ) (r : OpenRow) (made : Option MadeVersion) (t : SyncTable) → (published ss r made t).group ≡ t.group
-published_group ss r None t = refl
-published_group ss r (Some v) t = refl
 
 published_sent : (past : List Told) (f : Frame) (r : OpenRow) (made : Option MadeVersion) (t : SyncTable) → TableFact past f.epoch t → Every (PacketFact past) (published_notices f r made t)
 published_sent past f r None t h = tt

@@ -34,7 +34,7 @@ use Rattle.the_run.proofs.InsideSync.{every_row, Found, row_found}
 use Rattle.vector_laws.specs.Facts.{file_in, onto}
 use Rattle.vector_laws.proofs.SyncFacts.{FoundAt, every_latest, every_flat}
 use Rattle.copy_laws.specs.Facts.{PacketFact, NoFact, VersionFact, RowFact, GrantFact, OpenFact, LookFact, TableFact}
-use Rattle.lock_laws.proofs.Facts.{one_later, onto_later}
+use Rattle.kept_laws.proofs.of_lock_laws.Facts.{one_later, onto_later}
 use Rattle.vector_laws.proofs.Facts.{onto_append}
 use Rattle.copy_laws.proofs.Facts.{packets_later, table_later, no_fact}
 

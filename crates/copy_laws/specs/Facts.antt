@@ -5,6 +5,7 @@ use Rattle.locus_ids.specs.declared.ids.FileId.{FileId}
 use Rattle.locus_ids.specs.declared.ids.Stamp.{Stamp}
 use Rattle.locus_ids.specs.declared.ids.Mode.{Mode}
 use Rattle.locus_ids.specs.declared.ids.Mode.TheVariants as mode
+use Rattle.locus_ids.specs.Sizes.{page_bytes}
 use Rattle.commit_graph.specs.Grants.{is_read}
 use Rattle.wire_messages.specs.declared.packet.Packet.{Packet}
 use Rattle.wire_messages.specs.declared.body.Body.{Body}
@@ -84,7 +85,7 @@ pub record PullFact (past : List Told) (p : Pull) : Type 0 where
   pub has : HasContent past p.file p.stamp content
   pub size_is : p.size ≡ length content
   pub pages : ℕ
-  pub first : p.content ≡ take (1024 * pages) content
+  pub first : p.content ≡ take (page_bytes * pages) content
 
 abbrev pub ClosingFact : List Told → FileId → Option MadeVersion → Type 0
 ClosingFact past file None = Unit {0}

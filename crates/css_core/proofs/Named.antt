@@ -2,6 +2,8 @@
 use Rattle.std.proofs.Common.{◌≡◌, ℕ, ◌<◌, Bool, true, false, ◌||◌, List, [], ◌∷◌, Option, Some, None, refl, ap, ◌∙◌, sym, subst, nat_eq, arith}
 use Rattle.std.specs.List.{list_any}
 use Rattle.std.proofs.lemmas.Bool.Decides.{nat_tests}
+use Rattle.role_steps.proofs.of_plain_facts.Numbers.{same as key_is}
+use Rattle.role_steps.proofs.of_plain_facts.Tests.{or_second}
 use Rattle.locus_ids.specs.declared.ids.Serial.{Serial}
 use Rattle.trace_book.specs.Same.{same_serial}
 use Rattle.role_steps.specs.Tables.{row}
@@ -14,13 +16,6 @@ is_named inst r = same_serial r.inst inst
 
 key_other : (a b : Serial) → nat_eq (serial_key a) (serial_key b) ≡ false → same_serial a b ≡ false
 key_other a b e = grind (arith, nat_tests)
-
-key_is : (a b : ℕ) → nat_eq a b ≡ true → a ≡ b
-key_is a b e = grind (arith, nat_tests)
-
-or_true : (b c : Bool) → c ≡ true → (b || c) ≡ true
-or_true true c e = refl
-or_true false c e = e
 
 pub none_named : (inst : Serial) (rows : List OpenRow) → row open_key (serial_key inst) rows ≡ None → list_any (is_named inst) rows ≡ false
 none_named inst [] e = refl
@@ -41,5 +36,5 @@ pub some_named : (inst : Serial) (rows : List OpenRow) (r : OpenRow) → same_se
 some_named inst [] r n e = absurd (cc)
 some_named inst (x ∷ xs) r n e = elim (nat_eq (open_key x) (serial_key inst)) as (λ b. ◌≡◌ {A = Option OpenRow} (elim b [ true ↦ Some x | false ↦ row open_key (serial_key inst) xs ]) (Some r) → list_any (is_named inst) (x ∷ xs) ≡ true) [
   | true ↦ λ f. (let same : r ≡ x = cc in ap (λ b. b || list_any (is_named inst) xs) (subst (λ (z : OpenRow). same_serial z.inst inst ≡ true) same n))
-  | false ↦ λ f. or_true (is_named inst x) (list_any (is_named inst) xs) (some_named inst xs r n f)
+  | false ↦ λ f. or_second (is_named inst x) (list_any (is_named inst) xs) (some_named inst xs r n f)
 ] e

@@ -18,7 +18,7 @@ use std::alloc::Global;
 use std::marker::Model;
 
 /// The synchronization site of a group, seen as its table.
-#[derive(Debug, Drop)]
+#[derive(Drop)]
 pub struct Css {
     pub(crate) group: u8,
     pub(crate) reported: Sites,

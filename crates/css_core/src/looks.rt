@@ -18,7 +18,7 @@ use trace_book::{Record, Served, What};
 use wire_messages::{Body, LookAnswer, Outbox};
 
 /// How a look was answered.
-#[derive(Debug, Drop)]
+#[derive(Drop)]
 pub enum Letter {
     /// What the file is. Size in bytes.
     Stat {
@@ -39,7 +39,7 @@ pub enum Letter {
 }
 
 /// The last look of a process, and how it was answered.
-#[derive(Debug, Drop)]
+#[derive(Drop)]
 pub struct LookRow {
     site: SiteId,
     process: u8,
@@ -70,7 +70,7 @@ impl Keyed for LookRow {
 }
 
 /// How a look stands to the last one of its process.
-#[derive(Clone, Copy, Debug, PartialEq, Eq)]
+#[derive(Clone, Copy, PartialEq, Eq)]
 pub enum Turn {
     Lower,
     Same,

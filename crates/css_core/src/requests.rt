@@ -3,7 +3,7 @@ use std::marker::Model;
 use trace_book::What;
 
 /// What a Look asks.
-#[derive(Debug, Drop)]
+#[derive(Drop)]
 pub struct LookRequest {
     pub call: u32,
     pub process: u8,

@@ -12,7 +12,7 @@ use site_frame::SiteFrame;
 use trace_book::What;
 
 /// What a look is served.
-#[derive(Debug, Drop)]
+#[derive(Drop)]
 pub enum Service {
     Denied { why: Refusal },
     /// This version, which this site has.

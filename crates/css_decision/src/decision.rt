@@ -9,6 +9,7 @@ use crate::grants::mode_of;
 use css_notices::members_of;
 use css_opens::{OpenEntry, Progress};
 use css_versions::{KnownFile, choose, has_stamp, joined_vectors, stamps_of};
+use locus_ids::sizes::SITES;
 use locus_ids::{Kind, NoMemory, Refusal, SiteId, Sites, Stamp, Stamps};
 use site_frame::SiteFrame;
 use std::alloc::Global;
@@ -17,18 +18,18 @@ use wire_messages::Opening;
 
 /// Where an open is granted: the stamp to begin from, the vector and the parents of its first version, and the set and kind of
 /// the file.
-#[derive(Debug, Drop)]
+#[derive(Drop)]
 pub struct Grant {
     pub ss: SiteId,
     pub stamp: Option<Stamp>,
-    pub vector: Vector<16>,
+    pub vector: Vector<SITES>,
     pub parents: Stamps,
     pub set: Sites,
     pub kind: Kind,
 }
 
 /// What is decided of an open.
-#[derive(Debug, Drop)]
+#[derive(Drop)]
 pub enum Decision {
     Denied { why: Refusal },
     Granted { grant: Grant },

@@ -3,7 +3,7 @@ use std::marker::Model;
 use wire_messages::Opening;
 
 /// What an Open asks.
-#[derive(Debug, Drop)]
+#[derive(Drop)]
 pub struct OpenRequest {
     pub serial: u32,
     pub call: u32,

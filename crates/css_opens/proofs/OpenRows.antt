@@ -2,11 +2,12 @@
 use Rattle.std.proofs.Common.{◌≡◌, ℕ, zero, suc, ◌+◌, ◌<◌, ◌&&◌, ◌||◌, Bool, true, false, cond, nat_eq, nat_lt, List, [], ◌∷◌, ◌++◌, map, filter, length, set, get_or, Option, Some, None, slice_get, refl, sym, ap, ◌∙◌, subst, arith}
 use Rattle.std.specs.List.{list_any}
 use Rattle.std.proofs.lemmas.Bool.Decides.{nat_tests}
+use Rattle.keyed_tables.proofs.of_plain_facts.Numbers.{less_test}
 use Rattle.locus_ids.specs.declared.ids.FileId.{FileId}
 use Rattle.commit_graph.specs.Versions.{same_file}
-use Rattle.role_steps.specs.Tables.{row, with_row, without_row, with_latest}
-use Rattle.role_steps.specs.Opens.{open_key, is_open_stage, is_open_on, opener_of}
-use Rattle.role_steps.specs.declared.synchronizing.OpenRow.{OpenRow}
+use Rattle.keyed_tables.specs.of_role_steps.Tables.{row, with_row, without_row, with_latest}
+use Rattle.keyed_tables.specs.of_role_steps.Opens.{open_key, is_open_stage, is_open_on, opener_of}
+use Rattle.keyed_tables.specs.of_role_steps.declared.synchronizing.OpenRow.{OpenRow}
 use Rattle.css_opens.specs.OpenIndex.{now_place, opener_now, is_now_on, open_now, open_from, now_of, with_now, with_open_now, settled_now, settled_open}
 use Rattle.css_opens.specs.Settled.{is_open_some, settled_row, settled_rows}
 use Rattle.css_opens.specs.Indexed.{Indexed}
@@ -46,9 +47,6 @@ now_no n r e = rw (e, now_of) refl
 
 -- ---- a row behind others ----
 
-less : (n m : ℕ) → n < m → nat_lt n m ≡ true
-less n m l = grind (arith, nat_tests)
-
 unlike : (n m : ℕ) → n < m → nat_eq n m ≡ false
 unlike n m l = grind (arith, nat_tests)
 
@@ -59,7 +57,7 @@ not_less : (n : ℕ) → nat_lt n n ≡ false
 not_less n = grind (arith, nat_tests)
 
 pass_row : (o y : OpenNow) (ys : List OpenNow) → now_place y < now_place o → with_row now_place o (y ∷ ys) ≡ y ∷ with_row now_place o ys
-pass_row o y ys l = rw (less (now_place y) (now_place o) l, with_row) refl
+pass_row o y ys l = rw (less_test (now_place y) (now_place o) l, with_row) refl
 
 pass_without : (p : ℕ) (y : OpenNow) (ys : List OpenNow) → now_place y < p → without_row now_place p (y ∷ ys) ≡ y ∷ without_row now_place p ys
 pass_without p y ys l = rw (unlike (now_place y) p l, without_row) refl

@@ -1,6 +1,6 @@
 -- An open instance has a storage site.
 use Rattle.std.proofs.Common.{◌≡◌, ℕ, true, refl}
-use Rattle.role_steps.specs.Opens.{is_open_stage}
+use Rattle.keyed_tables.specs.of_role_steps.Opens.{is_open_stage}
 use Rattle.css_opens.specs.declared.entry.Progress.{Progress}
 use Rattle.css_opens.specs.declared.entry.Progress.TheVariants.{Denied, Asked, Granted, Refused, Ended}
 use Rattle.css_opens.specs.Opened.{stage_of, storage_site}

@@ -1,7 +1,7 @@
 -- What the parts of a table of opens have to do with each other.
 use Rattle.std.specs.Prelude.{◌≡◌, ℕ, List, map}
-use Rattle.role_steps.specs.Opens.{open_key}
-use Rattle.role_steps.specs.declared.synchronizing.OpenRow.{OpenRow}
+use Rattle.keyed_tables.specs.of_role_steps.Opens.{open_key}
+use Rattle.keyed_tables.specs.of_role_steps.declared.synchronizing.OpenRow.{OpenRow}
 use Rattle.css_opens.specs.OpenIndex.{open_from}
 use Rattle.css_opens.specs.declared.now.OpenNow.{OpenNow}
 

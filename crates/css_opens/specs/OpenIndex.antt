@@ -5,9 +5,9 @@ use Rattle.locus_ids.specs.declared.refusal.Refusal.{Refusal}
 use Rattle.locus_ids.specs.declared.refusal.Refusal.TheVariants.{Busy}
 use Rattle.commit_graph.specs.Versions.{same_file}
 use Rattle.commit_graph.specs.Grants.{Opener}
-use Rattle.role_steps.specs.Tables.{with_row, without_row}
-use Rattle.role_steps.specs.Opens.{is_open_stage}
-use Rattle.role_steps.specs.declared.synchronizing.OpenRow.{OpenRow}
+use Rattle.keyed_tables.specs.of_role_steps.Tables.{with_row, without_row}
+use Rattle.keyed_tables.specs.of_role_steps.Opens.{is_open_stage}
+use Rattle.keyed_tables.specs.of_role_steps.declared.synchronizing.OpenRow.{OpenRow}
 use Rattle.css_opens.specs.declared.now.OpenNow.{OpenNow}
 
 abbrev pub now_place : OpenNow → ℕ

@@ -1,8 +1,8 @@
 -- How an entry of the table of opens is seen.
 use Rattle.std.specs.Prelude.{ℕ}
-use Rattle.role_steps.specs.declared.synchronizing.OpenRow.{OpenRow}
-use Rattle.role_steps.specs.declared.synchronizing.OpenStage.{OpenStage}
-use Rattle.role_steps.specs.declared.synchronizing.OpenStage.TheVariants as stage
+use Rattle.keyed_tables.specs.of_role_steps.declared.synchronizing.OpenRow.{OpenRow}
+use Rattle.keyed_tables.specs.of_role_steps.declared.synchronizing.OpenStage.{OpenStage}
+use Rattle.keyed_tables.specs.of_role_steps.declared.synchronizing.OpenStage.TheVariants as stage
 use Rattle.css_opens.specs.declared.entry.Progress.{Progress}
 use Rattle.css_opens.specs.declared.entry.Progress.TheVariants.{Denied, Asked, Granted, Refused, Ended}
 use Rattle.css_opens.specs.declared.entry.OpenEntry.TheInside.{Inside}

@@ -2,12 +2,12 @@
 use Rattle.std.specs.Prelude.{ℕ, Bool, true, false, List, [], ◌∷◌, Option, Some, None}
 use Rattle.wire_messages.specs.declared.packet.Packet.{Packet}
 use Rattle.wire_messages.specs.declared.body.Granted.TheVariants as granted
-use Rattle.role_steps.specs.Tables.{with_latest}
-use Rattle.role_steps.specs.Views.{Frame, Told}
-use Rattle.role_steps.specs.Opens.{open_key, is_open_stage, granted_row, tells_user, grants_user, granted_at_last, refuse_record}
-use Rattle.role_steps.specs.declared.synchronizing.OpenRow.{OpenRow}
-use Rattle.role_steps.specs.declared.synchronizing.OpenStage.{OpenStage}
-use Rattle.role_steps.specs.declared.synchronizing.OpenStage.TheVariants as stage
+use Rattle.keyed_tables.specs.of_role_steps.Tables.{with_latest}
+use Rattle.keyed_tables.specs.of_role_steps.Views.{Frame, Told}
+use Rattle.keyed_tables.specs.of_role_steps.Opens.{open_key, is_open_stage, granted_row, tells_user, grants_user, granted_at_last, refuse_record}
+use Rattle.keyed_tables.specs.of_role_steps.declared.synchronizing.OpenRow.{OpenRow}
+use Rattle.keyed_tables.specs.of_role_steps.declared.synchronizing.OpenStage.{OpenStage}
+use Rattle.keyed_tables.specs.of_role_steps.declared.synchronizing.OpenStage.TheVariants as stage
 use Rattle.css_opens.specs.declared.entry.Closing.{Closing}
 use Rattle.css_opens.specs.declared.entry.Closing.TheVariants.{Unknown, Again, Released}
 use Rattle.css_opens.specs.declared.entry.Settling.{Settling}

@@ -2,11 +2,12 @@ ghost use Rattle.std.specs.Prelude.{◌≡◌, [], ◌∷◌, ◌++◌, Some, tr
 ghost use Rattle.css_opens.specs.OpenIndex.{now_of};
 ghost use Rattle.css_opens.specs.Settled.{closing_of, settled_row, answer_sent, answer_told};
 ghost use Rattle.site_frame.specs.Printed.{printed};
-ghost use Rattle.role_steps.specs.Opens.{asks_storage, tells_user, grants_user, repeats_open, grant_record, refuse_record, call_id, stamp_or_none, is_open_stage, numbered_file, granted_at_once};
+ghost use Rattle.keyed_tables.specs.of_role_steps.Opens.{asks_storage, tells_user, grants_user, repeats_open, grant_record, refuse_record, call_id, stamp_or_none, is_open_stage, numbered_file, granted_at_once};
 ghost use Rattle.wire_messages.specs.declared.body.Granted.TheVariants.{No};
 
 use crate::OpenNow;
 use keyed_tables::{Keyed, serial_key};
+use locus_ids::sizes::SITES;
 use locus_ids::{
     CallId, FileId, Kind, Mode, NoMemory, Refusal, Serial, SiteId, Sites, Stamp, Stamps,
 };
@@ -17,7 +18,7 @@ use version_vector::Vector;
 use wire_messages::{Body, Granted, Outbox};
 
 /// How far an open is.
-#[derive(Debug, Drop)]
+#[derive(Drop)]
 pub enum Progress {
     /// Refused at once: no storage site was asked.
     Denied { why: Refusal },
@@ -31,7 +32,7 @@ pub enum Progress {
 }
 
 /// What becomes of an open instance.
-#[derive(Debug, Drop)]
+#[derive(Drop)]
 pub enum Settling {
     /// The storage site has opened it: its inode, and its size in bytes.
     Grant { ino: u16, size: u32 },
@@ -42,7 +43,7 @@ pub enum Settling {
 }
 
 /// What a close of an instance is.
-#[derive(Clone, Copy, Debug, PartialEq, Eq)]
+#[derive(Clone, Copy, PartialEq, Eq)]
 pub enum Closing {
     /// No instance of this name was granted.
     Unknown,
@@ -60,7 +61,7 @@ pub enum Closing {
 }
 
 /// An open that a using site asked for, seen as a row of the table of opens.
-#[derive(Debug, Drop)]
+#[derive(Drop)]
 pub struct OpenEntry {
     pub us: SiteId,
     pub serial: u32,
@@ -73,7 +74,7 @@ pub struct OpenEntry {
     /// The storage site that was asked; where none was, any site.
     pub ss: SiteId,
     pub stamp: Option<Stamp>,
-    pub vector: Vector<16>,
+    pub vector: Vector<SITES>,
     pub parents: Stamps,
     pub set: Sites,
     pub kind: Kind,
@@ -81,7 +82,7 @@ pub struct OpenEntry {
 }
 
 impl Model for OpenEntry {
-    ghost use Rattle.role_steps.specs.declared.synchronizing.OpenRow.{OpenRow};
+    ghost use Rattle.keyed_tables.specs.of_role_steps.declared.synchronizing.OpenRow.{OpenRow};
 
     ghost Value = { OpenRow };
 
@@ -91,7 +92,7 @@ impl Model for OpenEntry {
 }
 
 impl Keyed for OpenEntry {
-    ghost use Rattle.role_steps.specs.Opens.{open_key};
+    ghost use Rattle.keyed_tables.specs.of_role_steps.Opens.{open_key};
 
     ghost key = { open_key };
 

@@ -2,10 +2,10 @@ ghost use Rattle.std.specs.Prelude.{◌≡◌, ◌<◌, ◌∷◌, [], ◌++◌,
 ghost use Rattle.std.specs.Option.{option_copied, option_map};
 ghost use Rattle.std.specs.List.{list_any};
 ghost use Rattle.commit_graph.specs.Grants.{excluder};
-ghost use Rattle.role_steps.specs.Tables.{row, with_latest};
-ghost use Rattle.role_steps.specs.Views.{serial_key};
-ghost use Rattle.role_steps.specs.Opens.{open_key, is_open_on, is_open_stage, opener_of};
-ghost use Rattle.role_steps.specs.declared.synchronizing.OpenRow.{OpenRow};
+ghost use Rattle.keyed_tables.specs.of_role_steps.Tables.{row, with_latest};
+ghost use Rattle.keyed_tables.specs.of_role_steps.Views.{serial_key};
+ghost use Rattle.keyed_tables.specs.of_role_steps.Opens.{open_key, is_open_on, is_open_stage, opener_of};
+ghost use Rattle.keyed_tables.specs.of_role_steps.declared.synchronizing.OpenRow.{OpenRow};
 ghost use Rattle.css_opens.specs.OpenIndex.{busy, with_open_now, settled_open};
 ghost use Rattle.css_opens.specs.Settled.{closing_of, is_asked, is_open_some, settled_row, settled_rows};
 
@@ -18,7 +18,7 @@ use std::marker::Model;
 
 /// The opens of a group in the order in which they came. An open is found by halving, and those that are open now are kept
 /// beside it, so that ended ones cost nothing.
-#[derive(Debug, Drop)]
+#[derive(Drop)]
 pub struct Opens {
     rows: Vec<OpenEntry>,
     index: KeyIndex,
@@ -27,7 +27,7 @@ pub struct Opens {
 
 impl Model for Opens {
     ghost use Rattle.std.specs.Prelude.{List};
-    ghost use Rattle.role_steps.specs.declared.synchronizing.OpenRow.{OpenRow};
+    ghost use Rattle.keyed_tables.specs.of_role_steps.declared.synchronizing.OpenRow.{OpenRow};
 
     ghost Value = { List OpenRow };
 

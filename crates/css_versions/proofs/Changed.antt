@@ -1,18 +1,9 @@
 -- A row that is changed at its place, and a new row at its place, make the table with that row.
-use Rattle.std.proofs.Common.{◌≡◌, ℕ, ◌<◌, List, [], ◌∷◌, length, set, get_or, Option, Some, None, slice_get, true, false, nat_eq, refl, sym, ap, ◌∙◌, subst, arith}
+use Rattle.std.proofs.Common.{◌≡◌, ℕ, ◌<◌, List, length, set, get_or, Option, Some, None, slice_get, sym, ap, ◌∙◌, subst}
 use Rattle.std.specs.List.{insert}
-use Rattle.std.proofs.lemmas.Bool.Decides.{nat_tests}
 use Rattle.role_steps.specs.Tables.{row, with_row}
 use Rattle.keyed_tables.specs.Rising.{Rising}
 use Rattle.keyed_tables.proofs.Searched.{get_some, put_over, put_rising, rising_along}
-
--- the row of a key has that key
-pub row_key : {A : Type 0} (key : A → ℕ) (k : ℕ) (xs : List A) (a : A) → row key k xs ≡ Some a → key a ≡ k
-row_key key k [] a e = absurd (cc)
-row_key {A = A} key k (x ∷ xs) a e = elim (nat_eq (key x) k) as (λ b. nat_eq (key x) k ≡ b → ◌≡◌ {A = Option A} (elim b [ true ↦ Some x | false ↦ row key k xs ]) (Some a) → key a ≡ k) [
-  | true ↦ λ t f. (let same : x ≡ a = cc in let h : key x ≡ k = (grind (arith, nat_tests)) in ap key (sym same) ∙ h)
-  | false ↦ λ t f. row_key key k xs a f
-] refl e
 
 -- a place of a table, as a search finds it
 pub record Placed {A : Type 0} (key : A → ℕ) (k : ℕ) (xs : List A) (i : ℕ) (old : A) : Type 0 where

@@ -14,7 +14,7 @@ use std::marker::Model;
 use wire_messages::{MadeVersion, ReportedCopy};
 
 /// What is known of a file of the group.
-#[derive(Debug, Drop)]
+#[derive(Drop)]
 pub struct KnownFile {
     ino: u16,
     kind: Kind,

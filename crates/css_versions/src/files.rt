@@ -14,7 +14,7 @@ use std::marker::Model;
 use wire_messages::{MadeVersion, ReportedCopy};
 
 /// The files of a group that are known, by inode, ascending.
-#[derive(Debug, Drop)]
+#[derive(Drop)]
 pub struct Files {
     rows: Vec<KnownFile>,
 }

@@ -1,5 +1,5 @@
 ghost use Rattle.std.specs.Prelude.{◌≡◌, IfOk, map, filter};
-ghost use Rattle.commit_graph.specs.Versions.{same_stamp};
+ghost use Rattle.role_steps.specs.of_commit_graph.Versions.{same_stamp};
 ghost use Rattle.role_steps.specs.Versions.{chosen_site, is_among, holding_site};
 ghost use Rattle.role_steps.specs.declared.synchronizing.Holding.{Holding};
 

@@ -3,13 +3,14 @@ ghost use Rattle.role_steps.specs.Versions.{is_below, is_below_some, not_below, 
 ghost use Rattle.role_steps.specs.Opens.{is_stamp_among};
 
 use keyed_tables::put_first;
+use locus_ids::sizes::SITES;
 use locus_ids::{NoMemory, Stamp, Stamps};
 use role_steps::VersionRow;
 use std::alloc::Global;
 use version_vector::{Ordering4, Vector};
 
 /// The vector is below the other: each counter is at most the other's, and they differ.
-fn is_below(a: &Vector<16>, b: &Vector<16>) -> bool
+fn is_below(a: &Vector<SITES>, b: &Vector<SITES>) -> bool
     ensures { result ≡ is_below a.now b.now }
 {
     matches!(a.compare(b), Ordering4::Below)
@@ -87,7 +88,7 @@ pub fn has_stamp(versions: &[VersionRow], stamp: Stamp) -> bool
 }
 
 /// Counter by counter the greatest of all vectors.
-pub fn joined_vectors(versions: &[VersionRow]) -> Vector<16>
+pub fn joined_vectors(versions: &[VersionRow]) -> Vector<SITES>
     ensures { result ≡ joined_vectors versions.now }
 {
     match versions {

@@ -1,5 +1,5 @@
 -- The entries of a content, computed, are those that are read.
-use Rattle.std.proofs.Common.{◌≡◌, ℕ, zero, suc, ◌+◌, ◌^◌, ◌<◌, ◌≤◌, ◌==◌, leb, Bool, true, false, not, ◌&&◌, ◌||◌, cond, List, [], ◌∷◌, ◌++◌, length, take, drop, get_or, refl, sym, ap, ◌∙◌, append_assoc, Err, arith}
+use Rattle.std.proofs.Common.{◌≡◌, ℕ, zero, suc, ◌+◌, ◌^◌, ◌<◌, ◌≤◌, ◌==◌, leb, Bool, true, false, not, ◌&&◌, ◌||◌, cond, List, [], ◌∷◌, ◌++◌, length, take, drop, get_or, refl, sym, ap, ◌∙◌, append_assoc, Err, arith, ◌*◌}
 use Rattle.std.proofs.lemmas.Bool.{false≢true}
 use Rattle.std.proofs.lemmas.Bool.Decides.{nat_tests}
 use Rattle.std.proofs.lemmas.List.{take_at, drop_at, drop-drop, get_or-drop}
@@ -11,6 +11,7 @@ use Rattle.std.specs.Ordering.{is_lt}
 use Rattle.std.specs.Str.{bytes_eq}
 use Rattle.std.specs.declared.cmp.Ordering.{Ordering}
 use Rattle.std.specs.declared.cmp.Ordering.TheVariants.{Less, Equal, Greater}
+use Rattle.locus_ids.specs.Sizes.{sites_max, inodes_max}
 use Rattle.locus_ids.specs.declared.ids.Kind.{Kind}
 use Rattle.locus_ids.specs.declared.ids.Kind.TheVariants.{File, Dir}
 use Rattle.field_codec.specs.declared.faults.FieldFault.{FieldFault}
@@ -25,22 +26,22 @@ use Rattle.dir_format.proofs.Whole.{no_fault, some_bytes}
 
 -- the tests tell
 
-vector_tells : (v : List ℕ) → ((length v == 16) && list_all (λ n. leb n max_count) v) ≡ true → IsVector v
+vector_tells : (v : List ℕ) → ((length v == sites_max) && list_all (λ n. leb n max_count) v) ≡ true → IsVector v
 vector_tells v h =
-    let two = both (length v == 16) (list_all (λ n. leb n max_count) v) h in
-    let sites : length v ≡ 16 = grind (arith, nat_tests, two.0) in
+    let two = both (length v == sites_max) (list_all (λ n. leb n max_count) v) h in
+    let sites : length v ≡ sites_max = grind (arith, nat_tests, two.0) in
     record { sites = sites; counters = all_tell (λ (n : ℕ). leb n max_count) (λ (n : ℕ). n < 2 ^ 32) small v two.1 } where
       small : (n : ℕ) → leb n max_count ≡ true → n < 2 ^ 32
       small n k = grind (arith, nat_tests)
 
-vector_told : (v : List ℕ) → IsVector v → ((length v == 16) && list_all (λ n. leb n max_count) v) ≡ true
+vector_told : (v : List ℕ) → IsVector v → ((length v == sites_max) && list_all (λ n. leb n max_count) v) ≡ true
 vector_told v h =
-    let sites : (length v == 16) ≡ true = sixteen (length v) h.sites in
-    both_back (length v == 16) (list_all (λ n. leb n max_count) v) sites (all_told (λ (n : ℕ). leb n max_count) (λ (n : ℕ). n < 2 ^ 32) small v h.counters) where
+    let sites : (length v == sites_max) ≡ true = sixteen (length v) h.sites in
+    both_back (length v == sites_max) (list_all (λ n. leb n max_count) v) sites (all_told (λ (n : ℕ). leb n max_count) (λ (n : ℕ). n < 2 ^ 32) small v h.counters) where
       small : (n : ℕ) → n < 2 ^ 32 → leb n max_count ≡ true
       small n k = grind (arith, nat_tests)
 
-      sixteen : (n : ℕ) → n ≡ 16 → (n == 16) ≡ true
+      sixteen : (n : ℕ) → n ≡ sites_max → (n == sites_max) ≡ true
       sixteen n k = grind (arith, nat_tests)
 
 entry_tells : (d : Entry) → is_entry d ≡ true → IsEntry d
@@ -48,11 +49,11 @@ entry_tells d h =
     let a = both _ _ h in
     let b = both _ _ a.1 in
     let c = both _ _ b.1 in
-    let e = both ((length d.seen == 16) && list_all (λ n. leb n max_count) d.seen) (not (is_live d) || bytes_eq d.seen nothing_seen) c.1 in
+    let e = both ((length d.seen == sites_max) && list_all (λ n. leb n max_count) d.seen) (not (is_live d) || bytes_eq d.seen nothing_seen) c.1 in
     let count = in_range 1 max_count d.count c.0 in
     record {
       name = a.0;
-      ino = in_range 1 1024 d.ino b.0;
+      ino = in_range 1 inodes_max d.ino b.0;
       count = (count.0, omega (arith, count.1));
       seen = vector_tells d.seen e.0;
       live = λ l. (bytes_eq-Decides d.seen nothing_seen).0 (or_other (is_live d) (bytes_eq d.seen nothing_seen) e.1 l);
@@ -65,7 +66,7 @@ live_told false seen h = refl
 entry_told : (d : Entry) → IsEntry d → is_entry d ≡ true
 entry_told d h =
     both_back _ _ h.name
-    (both_back _ _ (in_range_back 1 1024 d.ino h.ino.0 h.ino.1)
+    (both_back _ _ (in_range_back 1 inodes_max d.ino h.ino.0 h.ino.1)
     (both_back _ _ (in_range_back 1 max_count d.count h.count.0 (omega (arith, h.count.1)))
     (both_back _ _ (vector_told d.seen h.seen) (live_told (is_live d) d.seen h.live))))
 
@@ -121,9 +122,9 @@ seen_back : (b : Bool) (seen rest : List ℕ) → IsVector seen → (b ≡ true 
 seen_back true seen rest h live = sym (live refl)
 seen_back false seen rest h live = ap (λ (n : ℕ). counters n (vector_bytes seen ++ rest)) (sym h.sites) ∙ counters-back seen rest h.counters
 
-seen_past : (b : Bool) (seen rest : List ℕ) → IsVector seen → drop (cond b 0 64) (seen_bytes b seen ++ rest) ≡ rest
+seen_past : (b : Bool) (seen rest : List ℕ) → IsVector seen → drop (cond b 0 (4 * sites_max)) (seen_bytes b seen ++ rest) ≡ rest
 seen_past true seen rest h = refl
-seen_past false seen rest h = drop_at (vector_bytes seen) rest 64 (omega (arith, seen_long seen, h.sites))
+seen_past false seen rest h = drop_at (vector_bytes seen) rest (4 * sites_max) (omega (arith, seen_long seen, h.sites))
 
 module _ (d : Entry) (rest : List ℕ) (h : IsEntry d) where
   abbrev text : List ℕ
@@ -161,9 +162,9 @@ module _ (d : Entry) (rest : List ℕ) (h : IsEntry d) where
 
   past_is : drop (width_at (length d.name) all) all ≡ rest
   past_is =
-      ap (λ (n : ℕ). drop (length d.name + (7 + cond (is_odd n) 0 64)) all) count_is
-      ∙ dropped_more (7 + cond (is_live d) 0 64)
-      ∙ sym (drop-drop (cond (is_live d) 0 64) 7 (text ++ rest))
+      ap (λ (n : ℕ). drop (length d.name + (7 + cond (is_odd n) 0 (4 * sites_max))) all) count_is
+      ∙ dropped_more (7 + cond (is_live d) 0 (4 * sites_max))
+      ∙ sym (drop-drop (cond (is_live d) 0 (4 * sites_max)) 7 (text ++ rest))
       ∙ seen_past (is_live d) d.seen rest h.seen
 
 entries_back : (ds : List Entry) (most : ℕ) → AllByRecursion IsEntry ds → length (dir_bytes ds) ≤ most → entries_from most (dir_bytes ds) ≡ ds

@@ -1,6 +1,7 @@
 -- The laws of the fields of an entry: what is read is spelled so, and what is spelled so is read.
 use Rattle.std.proofs.Common.{◌≡◌, ℕ, zero, suc, ◌+◌, ◌^◌, ◌<◌, ◌≤◌, Bool, true, false, List, [], ◌∷◌, ◌++◌, length, Ok, refl, sym, ap, subst, add-zero, arith}
 use Rattle.std.specs.Int.{to_be_bytes, w32}
+use Rattle.locus_ids.specs.Sizes.{sites_max, inodes_max}
 use Rattle.locus_ids.specs.declared.ids.Kind.{Kind}
 use Rattle.locus_ids.specs.declared.ids.Kind.TheVariants.{File, Dir}
 use Rattle.field_codec.specs.Codec.{Unread, AreBytes, u8, u8_in, u16_in, u16, u32, from_to, slice}
@@ -62,7 +63,7 @@ given_laws {A} y = record { takes = takes; again = again } where
   again x at rest h = rw h (ap (λ (n : ℕ). Ok (y, rest_at n rest)) (sym (add-zero at)))
 
 pub vector_laws : Lawful vector
-vector_laws = list_laws (given_laws 16) u32_laws
+vector_laws = list_laws (given_laws sites_max) u32_laws
 
 pub seen_field_laws : (b : Bool) → Lawful (seen_field b)
 seen_field_laws true = given_laws nothing_seen
@@ -72,7 +73,7 @@ pub entry_laws : (before : List Entry) → Lawful (entry_after before)
 entry_laws before =
     made_laws entry_of parts_of (λ _. refl) (λ _. refl)
     (followed_by_laws _ _ (within_laws (name_follows before) sized sized_laws) (λ name.
-    followed_by_laws _ _ (within_laws (ino_follows before name) (u16_in 1 1024) (within_laws (from_to 1 1024) u16 u16_laws)) (λ ino.
+    followed_by_laws _ _ (within_laws (ino_follows before name) (u16_in 1 inodes_max) (within_laws (from_to 1 inodes_max) u16 u16_laws)) (λ ino.
     followed_by_laws _ _ (within_laws (kind_follows before ino) kind_field kind_field_laws) (λ _.
     followed_by_laws _ _ (within_laws (from_to 1 4294967295) u32 u32_laws) (λ count. seen_field_laws _)))))
 

@@ -1,11 +1,12 @@
 -- What a loop over entries has found.
-use Rattle.std.proofs.Common.{◌≡◌, ℕ, ◌+◌, ◌<◌, ◌≤◌, ◌==◌, Bool, true, false, cond, ltb, List, [], ◌∷◌, ◌++◌, length, take, drop, get_or, refl, sym, ap, ◌∙◌, arith}
+use Rattle.std.proofs.Common.{◌≡◌, ℕ, ◌+◌, ◌<◌, ◌≤◌, ◌==◌, Bool, true, false, cond, ltb, List, [], ◌∷◌, ◌++◌, length, take, drop, get_or, refl, sym, ap, ◌∙◌, arith, ◌*◌}
 use Rattle.std.proofs.lemmas.Bool.Decides.{nat_tests}
 use Rattle.std.proofs.lemmas.List.{drop_more, take-append-drop, append-nil, length-append}
 use Rattle.std.proofs.lemmas.List.Elements.{filter-append, filter_more}
 use Rattle.std.proofs.lemmas.List.Concat.{flat_map-append}
 use Rattle.std.specs.Prelude.{filter}
 use Rattle.std.specs.Int.{to_be_bytes, w16, w32}
+use Rattle.locus_ids.specs.Sizes.{sites_max, directory_bytes_max}
 use Rattle.dir_format.specs.declared.entry.Entry.{Entry}
 use Rattle.dir_format.specs.Entries.{is_live, IsEntry}
 use Rattle.dir_format.specs.Grammar.{kind_byte, vector_bytes, seen_bytes, entry_bytes, dir_bytes}
@@ -20,10 +21,6 @@ module _ {X : Type 0} (p : X → Bool) where
   parts xs i x lt is passes =
       let one : filter p (x ∷ drop (i + 1) xs) ≡ x ∷ filter p (drop (i + 1) xs) = rw passes refl in
       ap (filter p) (around xs i x lt is) ∙ filter-append p (take i xs) (x ∷ drop (i + 1) xs) ∙ ap (λ l. filter p (take i xs) ++ l) one
-
-  -- the first that passes
-  pub first_found : (xs : List X) (i : ℕ) (x : X) → i < length xs → filter p (take i xs) ≡ [] → x ≡ get_or xs i x → p x ≡ true → filter p xs ≡ x ∷ filter p (drop (i + 1) xs)
-  first_found xs i x lt none is passes = parts xs i x lt is passes ∙ ap (λ l. l ++ x ∷ filter p (drop (i + 1) xs)) none
 
   pub one_more : (xs : List X) (i : ℕ) (x : X) → i < length xs → x ≡ get_or xs i x → filter p (take (i + 1) xs) ≡ filter p (take i xs) ++ cond (p x) (x ∷ []) []
   one_more xs i x lt is = filter_more p xs i x lt ∙ ap (λ y. filter p (take i xs) ++ cond (p y) (y ∷ []) []) (sym is)
@@ -55,18 +52,18 @@ size-around ds i x lt is =
     ap dir_bytes (around ds i x lt is) ∙ flat_map-append entry_bytes (take i ds) (x ∷ drop (i + 1) ds) in
     omega (arith, ap length whole, length-append (dir_bytes (take i ds)) (entry_bytes x ++ dir_bytes (drop (i + 1) ds)), length-append (entry_bytes x) (dir_bytes (drop (i + 1) ds)))
 
-pub passes_max : (ds : List Entry) (i : ℕ) (x : Entry) (size more : ℕ) → i < length ds → x ≡ get_or ds i x → size ≡ length (dir_bytes (take i ds)) + more → 65536 < size + length (entry_bytes x) → true ≡ ltb 65536 (length (dir_bytes ds) + more)
+pub passes_max : (ds : List Entry) (i : ℕ) (x : Entry) (size more : ℕ) → i < length ds → x ≡ get_or ds i x → size ≡ length (dir_bytes (take i ds)) + more → directory_bytes_max < size + length (entry_bytes x) → true ≡ ltb directory_bytes_max (length (dir_bytes ds) + more)
 passes_max ds i x size more lt is sum over =
     let le = size-around ds i x lt is in
-    let long : 65536 < length (dir_bytes ds) + more = omega (arith, le, sum, over) in
+    let long : directory_bytes_max < length (dir_bytes ds) + more = omega (arith, le, sum, over) in
     grind (arith, nat_tests, long)
 
 pub seen_long : (v : List ℕ) → length (vector_bytes v) ≡ length v + (length v + (length v + length v))
 seen_long [] = refl
 seen_long (n ∷ v) = omega (arith, seen_long v)
 
-long_by : (b : Bool) (d : Entry) (seen : List ℕ) → IsEntry d → (b ≡ false → length seen ≡ 16)
-    → length ((length d.name ∷ d.name) ++ (to_be_bytes w16 d.ino ++ (kind_byte d.kind ∷ [] ++ (to_be_bytes w32 d.count ++ seen_bytes b seen)))) ≡ length d.name + 8 + cond b 0 64
+long_by : (b : Bool) (d : Entry) (seen : List ℕ) → IsEntry d → (b ≡ false → length seen ≡ sites_max)
+    → length ((length d.name ∷ d.name) ++ (to_be_bytes w16 d.ino ++ (kind_byte d.kind ∷ [] ++ (to_be_bytes w32 d.count ++ seen_bytes b seen)))) ≡ length d.name + 8 + cond b 0 (4 * sites_max)
 long_by true d seen h sites = omega (arith, length-append d.name (to_be_bytes w16 d.ino ++ (kind_byte d.kind ∷ [] ++ (to_be_bytes w32 d.count ++ []))))
 long_by false d seen h sites =
     omega (arith, length-append d.name (to_be_bytes w16 d.ino ++ (kind_byte d.kind ∷ [] ++ (to_be_bytes w32 d.count ++ vector_bytes seen))), seen_long seen, sites refl)
@@ -74,7 +71,7 @@ long_by false d seen h sites =
 pub live_long : (d : Entry) → IsEntry d → is_live d ≡ true → length d.name + 8 ≡ length (entry_bytes d)
 live_long d h e = let long = long_by true d d.seen h (λ _. h.seen.sites) in sym (rw e (omega (arith, long)))
 
-pub removed_long : (d : Entry) → IsEntry d → is_live d ≡ false → length d.name + 8 + 64 ≡ length (entry_bytes d)
+pub removed_long : (d : Entry) → IsEntry d → is_live d ≡ false → length d.name + 8 + 4 * sites_max ≡ length (entry_bytes d)
 removed_long d h e = let long = long_by false d d.seen h (λ _. h.seen.sites) in sym (rw e (omega (arith, long)))
 
 pub one_from : (b : Bool) (n : ℕ) → b ≡ (n == 1) → b ≡ true → n ≡ 1

@@ -8,6 +8,7 @@ use Rattle.std.specs.Str.{bytes_eq}
 use Rattle.std.specs.Ordering.{nat_cmp, is_lt}
 use Rattle.std.specs.Cmp.Lexicographic.{slice_cmp}
 use Rattle.std.specs.declared.cmp.Ordering.TheVariants.{Less}
+use Rattle.locus_ids.specs.Sizes.{sites_max, inodes_max}
 use Rattle.locus_ids.specs.declared.ids.Kind.{Kind}
 use Rattle.locus_ids.specs.declared.ids.Kind.TheVariants.{File, Dir}
 use Rattle.field_codec.specs.Codec.{AreBytes, u32}
@@ -43,7 +44,7 @@ are_bytes (c ∷ cs) h (suc i) = are_bytes cs (both (is_name_byte c) (list_all i
 
 -- what may stand after a count
 pub vector_of_nothing : IsVector nothing_seen
-vector_of_nothing = record { sites = refl; counters = zeros 16 } where
+vector_of_nothing = record { sites = refl; counters = zeros sites_max } where
   zeros : (n : ℕ) → AllByRecursion (λ (k : ℕ). k < 2 ^ 32) (replicate n 0)
   zeros zero = tt
   zeros (suc n) = (omega arith, zeros n)
@@ -82,7 +83,7 @@ follows_from_fits before d h =
     record {
       entry = record {
         name = name_of_follows before d.name h.0.0;
-        ino = in_range 1 1024 d.ino h.1.0.1.0;
+        ino = in_range 1 inodes_max d.ino h.1.0.1.0;
         count = (counted.0, omega (arith, counted.1));
         seen = seen.0;
         live = seen.1;
@@ -97,7 +98,7 @@ fits_from_follows before d f =
     let e = f.entry in (
       (f.name, ((name_some d.name e.name, name_short d.name e.name), are_bytes d.name (name_bytes d.name e.name))),
       (
-        (f.ino, (in_range_back 1 1024 d.ino e.ino.0 e.ino.1, omega (arith, e.ino.1))),
+        (f.ino, (in_range_back 1 inodes_max d.ino e.ino.0 e.ino.1, omega (arith, e.ino.1))),
         (
           (f.kind, tt),
           (
@@ -166,9 +167,6 @@ pub dir_from_follow : (ds : List Entry) → AllFollow [] ds → IsDir ds
 dir_from_follow ds h = record { entries = each_entry [] ds h; order = in_order [] ds h; kinds = one_kind [] ds h }
 
 -- From the whole to the fields.
-
-not_eq : (a b : ℕ) → (a ≡ b → ⊥) → (a == b) ≡ false
-not_eq a b h = grind (arith, nat_tests)
 
 kind_test : (d e : Entry) → (e.ino ≡ d.ino → e.kind ≡ d.kind) → (not (d.ino == e.ino) || (kind_byte d.kind == kind_byte e.kind)) ≡ true
 kind_test d e h = by (d.ino == e.ino) refl where

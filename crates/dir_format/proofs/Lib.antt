@@ -1,10 +1,5 @@
-pub mod Samples
 pub mod Tests
 pub mod Fields
-pub mod OneByOne
-pub mod KindTable
-pub mod Digits
-pub mod Numbered
 pub mod Orders
 pub mod Filtering
 pub mod Placing

@@ -1,9 +1,10 @@
 -- The entries of a directory's content, computed.
-use Rattle.std.specs.Prelude.{ℕ, zero, suc, ◌+◌, ◌%◌, ◌==◌, Bool, true, false, not, ◌&&◌, ◌||◌, cond, nat_le, List, [], ◌∷◌, length, take, drop, slice_index}
+use Rattle.std.specs.Prelude.{ℕ, zero, suc, ◌+◌, ◌%◌, ◌==◌, Bool, true, false, not, ◌&&◌, ◌||◌, cond, nat_le, List, [], ◌∷◌, length, take, drop, slice_index, ◌*◌}
 use Rattle.std.specs.Int.{from_be_bytes, w16, w32}
 use Rattle.std.specs.List.{list_all}
 use Rattle.std.specs.Ordering.{is_lt}
 use Rattle.std.specs.Str.{bytes_eq}
+use Rattle.locus_ids.specs.Sizes.{sites_max, inodes_max}
 use Rattle.trace_book.specs.Names.{is_name}
 use Rattle.dir_format.specs.declared.entry.Entry.{Entry}
 use Rattle.dir_format.specs.Entries.{is_live, nothing_seen, max_count, entry_cmp}
@@ -17,7 +18,7 @@ counters (suc n) bytes = from_be_bytes w32 (take 4 bytes) ∷ counters n (drop 4
 -- the vector that stands after the count of a removed entry
 abbrev pub seen_at : Bool → List ℕ → List ℕ
 seen_at true bytes = nothing_seen
-seen_at false bytes = counters 16 bytes
+seen_at false bytes = counters sites_max bytes
 
 abbrev pub count_at : ℕ → List ℕ → ℕ
 count_at n bytes = from_be_bytes w32 (take 4 (drop (n + 3) bytes))
@@ -37,7 +38,7 @@ entry_at n bytes = record {
 
 -- the bytes of that entry after its length
 abbrev pub width_at : ℕ → List ℕ → ℕ
-width_at n bytes = n + (7 + cond (is_odd (count_at n bytes)) 0 64)
+width_at n bytes = n + (7 + cond (is_odd (count_at n bytes)) 0 (4 * sites_max))
 
 -- at most so many entries of any bytes
 abbrev pub entries_from : ℕ → List ℕ → List Entry
@@ -49,9 +50,9 @@ entries_from (suc most) (n ∷ bytes) = entry_at n bytes ∷ entries_from most (
 abbrev pub is_entry : Entry → Bool
 is_entry d =
     is_name d.name
-    && ((nat_le 1 d.ino && nat_le d.ino 1024)
+    && ((nat_le 1 d.ino && nat_le d.ino inodes_max)
     && ((nat_le 1 d.count && nat_le d.count max_count)
-    && (((length d.seen == 16) && list_all (λ n. nat_le n max_count) d.seen)
+    && (((length d.seen == sites_max) && list_all (λ n. nat_le n max_count) d.seen)
     && (not (is_live d) || bytes_eq d.seen nothing_seen))))
 
 -- each entry stands before all that follow it

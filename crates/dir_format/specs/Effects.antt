@@ -1,6 +1,7 @@
 -- What each operation on a directory gives, and the entries after it, where there is room.
 use Rattle.std.specs.Prelude.{ℕ, suc, ◌+◌, ◌==◌, Bool, true, false, cond, List, [], ◌∷◌, length, nat_lt, Option, None, Some}
 use Rattle.std.specs.List.{find}
+use Rattle.locus_ids.specs.Sizes.{directory_bytes_max}
 use Rattle.locus_ids.specs.declared.ids.Kind.{Kind}
 use Rattle.locus_ids.specs.declared.refusal.Refusal.{Refusal}
 use Rattle.locus_ids.specs.declared.refusal.Refusal.TheVariants as refusal
@@ -11,7 +12,6 @@ use Rattle.trace_book.specs.declared.operation.Outcome.TheVariants.{Done, Found,
 use Rattle.dir_format.specs.declared.entry.Entry.{Entry}
 use Rattle.dir_format.specs.declared.looking.LookResult.{LookResult}
 use Rattle.dir_format.specs.declared.looking.LookResult.TheVariants as look
-use Rattle.dir_format.specs.declared.answer.DirAnswer.{DirAnswer}
 use Rattle.dir_format.specs.Entries.{is_live, nothing_seen, max_count, pair_in, with_entry}
 use Rattle.dir_format.specs.Grammar.{dir_bytes}
 use Rattle.dir_format.specs.Lookups.{has_name, is_meant, lookup, shown_names}
@@ -31,16 +31,12 @@ answers outcome ds = record { outcome = outcome; entries = ds; counts = false; s
 abbrev pub refuses : Refusal → List Entry → DirEffect
 refuses why ds = answers (No why) ds
 
--- the greatest size of a directory's content
-abbrev pub max_size : ℕ
-max_size = 65536
-
 abbrev pub size_of : List Entry → ℕ
 size_of ds = length (dir_bytes ds)
 
 -- the directory becomes this one, unless that is too long
 abbrev pub becomes : List Entry → List Entry → Bool → DirEffect
-becomes ds after spent = cond (nat_lt max_size (size_of after)) (refuses refusal.TooLong ds) (record { outcome = Done; entries = after; counts = true; spent = spent })
+becomes ds after spent = cond (nat_lt directory_bytes_max (size_of after)) (refuses refusal.TooLong ds) (record { outcome = Done; entries = after; counts = true; spent = spent })
 
 -- a live entry of this count
 abbrev pub live_entry : List ℕ → ℕ → Kind → ℕ → Entry
@@ -56,7 +52,7 @@ removed d seen = cond (is_spent d) d (record { name = d.name; ino = d.ino; kind 
 
 -- probe: the name has no live entry, and an entry of it fits
 abbrev pub probe_beside : List ℕ → List Entry → Option Entry → DirEffect
-probe_beside name ds None = cond (nat_lt max_size (size_of ds + (length name + 8))) (refuses refusal.TooLong ds) (answers Done ds)
+probe_beside name ds None = cond (nat_lt directory_bytes_max (size_of ds + (length name + 8))) (refuses refusal.TooLong ds) (answers Done ds)
 probe_beside name ds (Some d) = refuses (refusal.Exists d.ino) ds
 
 abbrev pub probe_effect : List ℕ → List Entry → DirEffect
@@ -131,12 +127,3 @@ dir_effect (op.Remove name ino) seen ds = remove_effect name ino seen ds
 dir_effect (op.Rename component name) seen ds = Some (rename_effect component name ds)
 dir_effect op.Empty seen ds = Some (empty_effect ds)
 dir_effect _ seen ds = None
-
--- an answer with the entries after it
-abbrev pub effect_of : DirAnswer → List Entry → DirEffect
-effect_of a ds = record { outcome = a.outcome; entries = ds; counts = a.counts; spent = a.spent }
-
--- where it is lawful
-abbrev pub effect_of_some : Option DirAnswer → List Entry → Option DirEffect
-effect_of_some None ds = None
-effect_of_some (Some a) ds = Some (effect_of a ds)

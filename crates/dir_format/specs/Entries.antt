@@ -6,6 +6,7 @@ use Rattle.std.specs.Ordering.{nat_cmp, ordering_then}
 use Rattle.std.specs.Cmp.Lexicographic.{slice_cmp}
 use Rattle.std.specs.declared.cmp.Ordering.{Ordering}
 use Rattle.std.specs.declared.cmp.Ordering.TheVariants.{Less, Equal, Greater}
+use Rattle.locus_ids.specs.Sizes.{sites_max, inodes_max}
 use Rattle.locus_ids.specs.declared.ids.Kind.{Kind}
 use Rattle.trace_book.specs.Names.{is_name}
 use Rattle.dir_format.specs.declared.entry.Entry.{Entry}
@@ -16,7 +17,7 @@ is_live d = (d.count % 2) == 1
 
 -- the vector of a file of which nothing was seen
 abbrev pub nothing_seen : List ℕ
-nothing_seen = replicate 16 0
+nothing_seen = replicate sites_max 0
 
 -- the greatest count
 abbrev pub max_count : ℕ
@@ -46,13 +47,13 @@ with_entry d (e ∷ es) = placed (entry_cmp d e) d e es (with_entry d es)
 
 -- sixteen counters of four bytes each
 pub record IsVector (v : List ℕ) : Type 0 where
-  pub sites : length v ≡ 16
+  pub sites : length v ≡ sites_max
   pub counters : AllByRecursion (λ n. n < 2 ^ 32) v
 
 -- what can stand in a directory
 pub record IsEntry (d : Entry) : Type 0 where
   pub name : is_name d.name ≡ true
-  pub ino : (1 ≤ d.ino) × (d.ino ≤ 1024)
+  pub ino : (1 ≤ d.ino) × (d.ino ≤ inodes_max)
   pub count : (1 ≤ d.count) × (d.count < 2 ^ 32)
   pub seen : IsVector d.seen
   pub live : is_live d ≡ true → d.seen ≡ nothing_seen

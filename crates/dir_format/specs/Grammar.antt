@@ -5,6 +5,7 @@ use Rattle.std.specs.List.{flat_map, list_all}
 use Rattle.std.specs.Ordering.{nat_cmp, is_lt}
 use Rattle.std.specs.Cmp.Lexicographic.{slice_cmp}
 use Rattle.std.specs.Str.{bytes_eq}
+use Rattle.locus_ids.specs.Sizes.{sites_max, inodes_max}
 use Rattle.locus_ids.specs.declared.ids.Kind.{Kind}
 use Rattle.locus_ids.specs.declared.ids.Kind.TheVariants.{File, Dir}
 use Rattle.field_codec.specs.declared.faults.FieldFault.{FieldFault}
@@ -66,7 +67,7 @@ abbrev pub given : {A : Type 0} → A → Codec A
 given x = record { Fits = λ y. y ≡ x; spell = λ _. []; read = λ u. Ok (x, u) }
 
 abbrev pub vector : Codec (List ℕ)
-vector = list (given 16) u32
+vector = list (given sites_max) u32
 
 abbrev pub seen_field : Bool → Codec (List ℕ)
 seen_field true = given nothing_seen
@@ -100,7 +101,7 @@ abbrev pub entry_after : List Entry → Codec Entry
 entry_after before =
     made entry_of parts_of
     (followed_by (within (name_follows before) sized) (λ name.
-    followed_by (within (ino_follows before name) (u16_in 1 1024)) (λ ino.
+    followed_by (within (ino_follows before name) (u16_in 1 inodes_max)) (λ ino.
     followed_by (within (kind_follows before ino) kind_field) (λ _.
     followed_by (u32_in 1 4294967295) (λ count. seen_field ((count % 2) == 1))))))
 

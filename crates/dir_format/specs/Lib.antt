@@ -1,8 +1,7 @@
 pub mod Entries
 pub mod Places
 pub mod Grammar
-pub mod Kinds
 pub mod Contents
-pub mod Decoded
 pub mod Lookups
 pub mod Effects
+pub use Rattle.trace_book.specs as of_trace_book

@@ -1,13 +1,14 @@
 ghost use Rattle.std.specs.Prelude.{◌≡◌};
 ghost use Rattle.dir_format.specs.Entries.{entry_cmp, is_live};
 
+use locus_ids::sizes::SITES;
 use locus_ids::{Bytes, Ino, Kind};
 use std::cmp::Ordering;
 use version_vector::Vector;
 
 /// A name of a file in a directory. It is live where its count is odd, and where it is even it stands as removed, with the
 /// vector of the file's version that the removal saw. The name and the inode together tell it apart from all others.
-#[derive(Clone, Debug, Drop)]
+#[derive(Clone, Drop)]
 pub struct Entry {
     pub name: Bytes,
     pub ino: Ino,
@@ -15,7 +16,7 @@ pub struct Entry {
     /// How often the pair of name and inode was made or removed.
     pub count: u32,
     /// Zero where the entry is live.
-    pub seen: Vector<16>,
+    pub seen: Vector<SITES>,
 }
 
 /// How an entry stands to another in the order of a directory: by the bytes of the name, then by inode.
@@ -29,7 +30,7 @@ pub fn entry_cmp(a: &Entry, b: &Entry) -> Ordering
 }
 
 /// Whether the entry is live.
-pub(crate) fn is_live(d: &Entry) -> bool
+pub fn is_live(d: &Entry) -> bool
     ensures { result ≡ is_live d.now }
 {
     d.count % 2 == 1

@@ -13,9 +13,6 @@ use Rattle.dir_reconcile.specs.Rescues.{revived, is_to_rescue, entry_after_rescu
 even : (n : ℕ) → ((n % 2) == 1) ≡ false → n < 2 ^ 32 → suc n < 2 ^ 32
 even n h k = grind (arith, nat_tests)
 
-odd : (n : ℕ) → ((n % 2) == 1) ≡ false → ((suc n % 2) == 1) ≡ true
-odd n h = grind (arith, nat_tests)
-
 -- a removed entry made live
 fits : (d : Entry) → IsEntry d → is_live d ≡ false → IsEntry (revived d)
 fits d h removed = record {

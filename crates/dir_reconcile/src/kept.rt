@@ -1,11 +1,12 @@
+use locus_ids::sizes::SITES;
 use locus_ids::{Ino, ItemList};
 use version_vector::Vector;
 
 /// The vector of a version of a file that is kept.
-#[derive(Clone, Copy, Debug, PartialEq, Eq)]
+#[derive(Clone, Copy, PartialEq, Eq)]
 pub struct KeptVector {
     pub ino: Ino,
-    pub vector: Vector<16>,
+    pub vector: Vector<SITES>,
 }
 
 /// The vectors of the versions that are kept, of any files of a group.

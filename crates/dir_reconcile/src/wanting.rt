@@ -10,6 +10,7 @@ ghost use Rattle.dir_reconcile.specs.Rescues.{all_seen, chosen, has_live, is_of,
 use crate::{KeptVector, KeptVectors};
 use dir_format::{Dir, Entry};
 use locus_ids::Ino;
+use locus_ids::sizes::SITES;
 use version_vector::{Ordering4, Vector};
 
 /// Whether some inode of a directory wants a rescue: none of its entries is live, and one of the kept versions was seen by
@@ -47,19 +48,19 @@ fn has_live(entries: &[Entry], ino: Ino) -> bool
         .any(|entry| is_of(entry, ino) && is_live(entry))
 }
 
-fn is_any_unseen(kept: &[KeptVector], ino: Ino, seen: &Vector<16>) -> bool
+fn is_any_unseen(kept: &[KeptVector], ino: Ino, seen: &Vector<SITES>) -> bool
     ensures { result ≡ list_any (is_unseen ino seen.now) kept.now }
 {
     kept.iter().any(|version| is_unseen(version, ino, seen))
 }
 
-fn is_unseen(version: &KeptVector, ino: Ino, seen: &Vector<16>) -> bool
+fn is_unseen(version: &KeptVector, ino: Ino, seen: &Vector<SITES>) -> bool
     ensures { result ≡ is_unseen ino seen.now version.now }
 {
     version.ino.get() == ino.get() && !is_at_most(&version.vector, seen)
 }
 
-fn is_at_most(v: &Vector<16>, w: &Vector<16>) -> bool
+fn is_at_most(v: &Vector<SITES>, w: &Vector<SITES>) -> bool
     ensures { result ≡ all_le v.now w.now }
 {
     match v.compare(w) {
@@ -69,7 +70,7 @@ fn is_at_most(v: &Vector<16>, w: &Vector<16>) -> bool
 }
 
 /// Counter by counter the greatest of what the removals of an inode's entries saw.
-fn all_seen(entries: &[Entry], ino: Ino) -> Vector<16>
+fn all_seen(entries: &[Entry], ino: Ino) -> Vector<SITES>
     ensures { result ≡ all_seen ino entries.now }
 {
     let mut seen = Vector::zero();
@@ -79,7 +80,7 @@ fn all_seen(entries: &[Entry], ino: Ino) -> Vector<16>
     seen
 }
 
-fn seen_with(seen: &Vector<16>, entry: &Entry, ino: Ino) -> Vector<16>
+fn seen_with(seen: &Vector<SITES>, entry: &Entry, ino: Ino) -> Vector<SITES>
     ensures { result ≡ seen_with ino seen.now entry.now }
 {
     if is_of(entry, ino) {
@@ -154,6 +155,6 @@ fn saw_something(entry: &Entry) -> bool
     ensures { result ≡ saw_something entry.now }
 {
     let counters = entry.seen.parts();
-    let nothing = [0; 16];
+    let nothing = [0; SITES];
     counters.as_slice() != nothing.as_slice()
 }

@@ -19,7 +19,7 @@ use Rattle.disk_model.specs.declared.script_disk.ScriptDisk.{ScriptDisk}
 use Rattle.disk_model.specs.Cut.{Cut, Stops, Fails, left_by, left_in_write}
 use Rattle.disk_model.specs.Disk.{Only, Passing, Untold, All, Exactly, CutsWrite}
 use Rattle.disk_model.specs.Images.{overwritten, is_within, covers, Torn, IsImage}
-use Rattle.disk_model.specs.Store.{SameOutside, left_in, with_room, durable_with_room}
+use Rattle.disk_model.specs.Store.{unsynced_max, SameOutside, left_in, with_room, durable_with_room}
 use Rattle.disk_model.specs.Script.{turn_at, turn_of, passing_at, how_at, how_of, writes_after, after_write}
 use Rattle.disk_model.specs.ScriptDisk.{seen, unsynced, durable, spoiled_from, crashed, crashed_by, moment}
 use Rattle.disk_model.specs.ScriptLaws.{length-spoiled}
@@ -131,7 +131,7 @@ module _ (spans : List Span) (read : List ℕ) (only : Only read (IsImage spans 
       get_or_default kept k d 0 lt ∙ same k (none_waits k (omega (arith, long))) ∙ get_or_default read k 0 d (omega (arith, long)))
 
   pub durable_in_room : (kept : List ℕ) → length kept ≡ length read → SameOutside spans kept read → durable_with_room spans kept read ≡ read
-  durable_in_room kept long same = ap (λ (l : List ℕ). cond (ltb (length spans) 1024) l read) (all_durable kept long same) ∙ by (ltb (length spans) 1024)
+  durable_in_room kept long same = ap (λ (l : List ℕ). cond (ltb (length spans) unsynced_max) l read) (all_durable kept long same) ∙ by (ltb (length spans) unsynced_max)
     where
       by : (b : Bool) → cond b read read ≡ read
       by true = refl

@@ -5,7 +5,7 @@ use Rattle.std.proofs.lemmas.List.{same_lists, get_or_default, get_or-take, get_
 use Rattle.disk_model.specs.declared.store.Span.{Span}
 use Rattle.disk_model.specs.Images.{overwritten, is_within, covers, Torn, IsImage}
 use Rattle.disk_model.specs.Disk.{IsAfter, Goes, Only}
-use Rattle.disk_model.specs.Store.{with_room, left_in}
+use Rattle.disk_model.specs.Store.{unsynced_max, with_room, left_in}
 use Rattle.disk_model.specs.ScriptDisk.{seen, unsynced, images, moment}
 use Rattle.disk_model.specs.declared.script.Leave.{Leave}
 use Rattle.disk_model.specs.declared.script.Leave.TheVariants.{Old, New, Byte}
@@ -26,7 +26,7 @@ torn_overwritten xs at ys fits = record {
 }
 
 pub room_none : (unsynced : List Span) (k : ℕ) → covers unsynced k ≡ false → covers (with_room unsynced) k ≡ false
-room_none unsynced k none = by (ltb (length unsynced) 1024)
+room_none unsynced k none = by (ltb (length unsynced) unsynced_max)
   where
     by : (b : Bool) → covers (cond b unsynced []) k ≡ false
     by true = none

@@ -48,12 +48,6 @@ reads_alone (Exactly calls) q tells = record {
 pub reads_exact : {T : Type 0} (x : T) (p q : Passing) (passed : ℕ) → TellsRead {T = T} {E = DiskFault} p q (Ok x) → p ≡ Exactly passed → q ≡ Exactly passed
 reads_exact {T} x p q passed tells is = (subst (λ (k : Passing). TellsRead {T = T} {E = DiskFault} k q (Ok x)) is tells).1
 
--- a read fails only where the disk doesn't tell
-pub reads_failed : (n : ℕ) (p q : Passing) → TellsRead {T = Unit {0}} {E = DiskFault} p q (Err Failed) → TellsMany {T = Unit {0}} {E = DiskFault} n p q (Err Failed)
-reads_failed n Untold q tells = tt
-reads_failed n All q tells = absurd (false≢true tells.0)
-reads_failed n (Exactly calls) q tells = absurd (false≢true tells.0)
-
 -- a run that failed within a longer one, whatever the fault is called
 pub tells_failed : (n m : ℕ) (p q : Passing) (result : Answer) (fault : DiskFault) → IsErr result → n ≤ m → TellsMany {T = Unit {0}} {E = DiskFault} n p q (Err fault) → TellsMany m p q result
 tells_failed n m p q (Ok x) fault err le tells = absurd (false≢true err)
@@ -62,10 +56,6 @@ tells_failed n m p q (Err Failed) Failed err le tells = tells_longer n m p q Fai
 module _ {D : Type 0} (moment : D → Moment) where
   pub goes_same : (old mid new : D) → Goes Same (moment old) (moment mid) → Goes Same (moment mid) (moment new) → Goes Same (moment old) (moment new)
   goes_same old mid new first then = goes_more moment Same Same old mid new (λ a b same. same) (λ a b c one two. two ∙ one) first then
-
-  -- after reads a crash leaves what it left before
-  pub same_only : (old new : D) (seen : List ℕ) → Only seen (moment old).may_leave → Goes Same (moment old) (moment new) → Only seen (moment new).may_leave
-  same_only old new seen only goes c is = let from = goes.images c is in from.2 ∙ only from.0 from.1
 
   pub leaves_same : (old new : D) (seen : List ℕ) (P : List ℕ → Type 0) → Only seen (moment old).may_leave → ((c : List ℕ) → (moment old).may_have_left (moment old).now c → (moment old).may_leave c) → Goes Same (moment old) (moment new) → P seen → LeavesOnly (moment old) (moment new) P
   leaves_same old new seen P only now_only goes here = record {

@@ -2,7 +2,7 @@
 use Rattle.std.proofs.Common.{◌≡◌, ◌⊎◌, inl, inr, ⊎_elim, ℕ, ◌+◌, ◌-◌, ◌≤◌, ◌<◌, Bool, true, false, cond, ◌||◌, List, [], ◌∷◌, ◌++◌, length, take, drop, get_or, replicate, refl, sym, ◌∙◌, ap, arith, length-append, length-take, length-drop}
 use Rattle.std.proofs.lemmas.Bool.{cases_Bool, true≢false}
 use Rattle.std.proofs.lemmas.Bool.Decides.{nat_tests}
-use Rattle.std.proofs.lemmas.List.{places, drop_more, take_more, same_lists, get_or-replicate, length-replicate, drop-drop, drop_all, get_or_default, get_or-take, get_or-drop}
+use Rattle.std.proofs.lemmas.List.{places, drop_more, take_more, same_lists, get_or-replicate, length-replicate, drop_all, get_or_default, get_or-take, get_or-drop}
 use Rattle.std.proofs.lemmas.Grind.{common_steps}
 use borrow.Rule.Slice.PartMut.{put_mid}
 use Rattle.disk_model.specs.declared.store.Span.{Span}
@@ -30,10 +30,6 @@ put_within a xs ys k fits is =
 
 pub put_outside : (a : ℕ) (xs ys : List ℕ) (k : ℕ) → a + length ys ≤ length xs → is_within a (length ys) k ≡ false → get_or (overwritten xs a ys) k 0 ≡ get_or xs k 0
 put_outside a xs ys k fits is = ⊎_elim (λ below. grind (arith, places)) (λ above. grind (arith, places)) (outside_bounds a (length ys) k is)
-
--- the two forms of what a write to a part leaves
-pub put_mid_is : (a n : ℕ) (xs ys : List ℕ) → length ys ≡ n → put_mid a n xs ys ≡ overwritten xs a ys
-put_mid_is a n xs ys long = ap (λ (l : List ℕ). take a xs ++ (ys ++ l)) (drop-drop n a xs ∙ ap (λ (m : ℕ). drop (a + m) xs) (sym long))
 
 pub covers-append : (xs ys : List Span) (k : ℕ) → covers (xs ++ ys) k ≡ (covers xs k || covers ys k)
 covers-append [] ys k = refl

@@ -244,11 +244,3 @@ put_places old bytes at k fits =
     (λ within. put_within at old bytes k fits within ∙ sym (ap (λ (b : Bool). cond b (get_or bytes (k - at) 0) (get_or old k 0)) within))
     (λ outside. put_outside at old bytes k fits outside ∙ sym (ap (λ (b : Bool). cond b (get_or bytes (k - at) 0) (get_or old k 0)) outside))
     (cases_Bool (is_within at (length bytes) k))
-
--- zeros behind what is kept change nothing
-pub zeros_behind : (old bytes : List ℕ) (at k : ℕ) → length old ≤ at → ((j : ℕ) → get_or bytes j 0 ≡ 0) → get_or old k 0 ≡ cond (is_within at (length bytes) k) (get_or bytes (k - at) 0) (get_or old k 0)
-zeros_behind old bytes at k behind zeros =
-    ⊎_elim
-    (λ within. get_or_past old k 0 (omega (arith, behind, (within_bounds at (length bytes) k within).0)) ∙ sym (ap (λ (b : Bool). cond b (get_or bytes (k - at) 0) (get_or old k 0)) within ∙ zeros (k - at)))
-    (λ outside. sym (ap (λ (b : Bool). cond b (get_or bytes (k - at) 0) (get_or old k 0)) outside))
-    (cases_Bool (is_within at (length bytes) k))

@@ -6,6 +6,10 @@ use Rattle.disk_model.specs.declared.script.Leave.{Leave}
 use Rattle.disk_model.specs.declared.script.Leave.TheVariants.{Old, New, Byte}
 use Rattle.disk_model.specs.Images.{covers, overwritten}
 
+-- so many ranges may wait for a sync
+abbrev pub unsynced_max : ℕ
+unsynced_max = 1024
+
 -- each of these ranges ends within so many bytes
 abbrev pub AreInRange : List Span → ℕ → Type 0
 AreInRange spans n = All (λ span. span.at + span.len ≤ n) spans
@@ -16,11 +20,11 @@ SameOutside spans a b = (k : ℕ) → covers spans k ≡ false → slice_index a
 
 -- the ranges that wait once there is room for a further one
 abbrev pub with_room : List Span → List Span
-with_room unsynced = cond (nat_lt (length unsynced) 1024) unsynced []
+with_room unsynced = cond (nat_lt (length unsynced) unsynced_max) unsynced []
 
 -- what is durable once there is room for a further range
 abbrev pub durable_with_room : List Span → List ℕ → List ℕ → List ℕ
-durable_with_room unsynced durable seen = cond (nat_lt (length unsynced) 1024) durable seen
+durable_with_room unsynced durable seen = cond (nat_lt (length unsynced) unsynced_max) durable seen
 
 -- what a read gives where a stopped write was to write these bytes
 abbrev pub left_in : Leave → List ℕ → ℕ → List ℕ → List ℕ

@@ -3,7 +3,7 @@ ghost use Rattle.std.specs.Prelude.{◌≡◌};
 ghost use Rattle.disk_model.specs.Disk.{HasCause, Tells, TellsRead};
 
 /// What a crash makes of the bytes that aren't durable.
-#[derive(Clone, Copy, Debug, PartialEq, Eq)]
+#[derive(Clone, Copy, PartialEq, Eq)]
 pub enum Leave {
     /// The bytes that were durable.
     Old,
@@ -14,7 +14,7 @@ pub enum Leave {
 }
 
 /// What an armed script has done.
-#[derive(Clone, Copy, Debug, PartialEq, Eq)]
+#[derive(Clone, Copy, PartialEq, Eq)]
 pub enum Fired {
     No,
     Stop,
@@ -22,7 +22,7 @@ pub enum Fired {
 }
 
 /// What the next writes and syncs meet: so many pass, and then one stops or fails.
-#[derive(Clone, Copy, Debug, PartialEq, Eq)]
+#[derive(Clone, Copy, PartialEq, Eq)]
 pub(crate) enum Armed {
     Nothing,
     StopAfter(u32, Leave),
@@ -30,7 +30,7 @@ pub(crate) enum Armed {
 }
 
 /// What one call meets.
-#[derive(Clone, Copy, Debug, PartialEq, Eq)]
+#[derive(Clone, Copy, PartialEq, Eq)]
 pub(crate) enum Turn {
     Passes,
     Stops(Leave),

@@ -2,7 +2,7 @@
 // so that a sync copies these alone.
 ghost use Rattle.std.specs.Prelude.{◌≡◌, ◌≤◌, ◌<◌, ◌+◌, ◌^◌, ℕ, [], ◌∷◌, ◌++◌, length, replicate, slice_index, IfOk, false, cond, nat_lt, vec_capacity};
 ghost use Rattle.disk_model.specs.Images.{overwritten, covers};
-ghost use Rattle.disk_model.specs.Store.{AreInRange, SameOutside, left_in, with_room, durable_with_room};
+ghost use Rattle.disk_model.specs.Store.{unsynced_max, AreInRange, SameOutside, left_in, with_room, durable_with_room};
 
 use crate::Leave;
 use crate::sparse_bytes::SparseBytes;
@@ -13,7 +13,7 @@ use std::alloc::Global;
 pub(crate) const ROOM: usize = 1_024;
 
 /// A range of bytes of a disk.
-#[derive(Clone, Copy, Debug, PartialEq, Eq)]
+#[derive(Clone, Copy, PartialEq, Eq)]
 pub struct Span {
     pub at: u32,
     pub len: u32,
@@ -26,7 +26,7 @@ pub(crate) struct Store {
     pub(crate) unsynced: Vec<Span>,
     ghost same_length: { length durable ≡ length seen },
     ghost short: { length seen < 2 ^ 32 },
-    ghost room: { 1024 ≤ vec_capacity unsynced },
+    ghost room: { unsynced_max ≤ vec_capacity unsynced },
     ghost in_range: { AreInRange unsynced.items (length seen) },
     ghost synced: { SameOutside unsynced.items durable seen },
 }
@@ -94,7 +94,7 @@ impl Store {
         ensures seen { self.new.seen ≡ self.old.seen }
         ensures durable { self.new.durable ≡ durable_with_room self.old.unsynced.items self.old.durable self.old.seen }
         ensures unsynced { self.new.unsynced.items ≡ with_room self.old.unsynced.items }
-        ensures room { length self.new.unsynced.items < 1024 }
+        ensures room { length self.new.unsynced.items < unsynced_max }
     {
         if self.unsynced.len() >= ROOM {
             self.sync();
@@ -119,7 +119,7 @@ impl Store {
     /// Writes bytes at a place where there is room for a further range.
     #[inline]
     fn write_in_room(&mut self, at: u32, bytes: &[u8])
-        requires room { length self.old.unsynced.items < 1024 }
+        requires room { length self.old.unsynced.items < unsynced_max }
         requires inside { at + length bytes.now ≤ length self.old.seen }
         ensures seen { self.new.seen ≡ overwritten self.old.seen at bytes.now }
         ensures durable { self.new.durable ≡ self.old.durable }

@@ -40,8 +40,8 @@ fn a_crash_leaves_what_it_is_told(rt: HostRuntime) -> Result<(), Fail> {
     ] {
         let mut disk = written(rt.alloc())?;
         disk.crash(leave);
-        assert_eq!(rt; bytes_of(&mut disk)?, Some(wanted));
-        assert_eq!(rt; disk.fired(), Fired::No);
+        assert!(rt; bytes_of(&mut disk)? == Some(wanted));
+        assert!(rt; disk.fired() == Fired::No);
     }
     Ok(())
 }
@@ -66,14 +66,11 @@ fn an_armed_call_stops_the_disk_until_the_crash(rt: HostRuntime) -> Result<(), F
     ] {
         let mut disk = ScriptDisk::new(rt.alloc(), 8)?;
         disk.arm_stop(passing, leave);
-        assert_eq!(rt; three_calls(&mut disk)?, calls);
-        assert_eq!(rt; disk.fired(), Fired::Stop);
+        assert!(rt; three_calls(&mut disk)? == calls);
+        assert!(rt; disk.fired() == Fired::Stop);
         disk.crash(leave);
         let [first, second] = wanted;
-        assert_eq!(rt;
-            bytes_of(&mut disk)?,
-            Some([0, 0, 0, 0, first, second, 0, 0])
-        );
+        assert!(rt; bytes_of(&mut disk)? == Some([0, 0, 0, 0, first, second, 0, 0]));
     }
     Ok(())
 }
@@ -87,13 +84,10 @@ fn an_armed_call_that_fails_writes_nothing(rt: HostRuntime) -> Result<(), Fail> 
     ] {
         let mut disk = ScriptDisk::new(rt.alloc(), 8)?;
         disk.arm_fail(passing);
-        assert_eq!(rt; three_calls(&mut disk)?, calls);
-        assert_eq!(rt; disk.fired(), fired);
+        assert!(rt; three_calls(&mut disk)? == calls);
+        assert!(rt; disk.fired() == fired);
         disk.crash(Leave::New);
-        assert_eq!(rt;
-            bytes_of(&mut disk)?,
-            Some([0, 0, 0, 0, wanted, wanted, 0, 0])
-        );
+        assert!(rt; bytes_of(&mut disk)? == Some([0, 0, 0, 0, wanted, wanted, 0, 0]));
     }
     Ok(())
 }
@@ -102,9 +96,9 @@ fn an_armed_call_that_fails_writes_nothing(rt: HostRuntime) -> Result<(), Fail> 
 fn a_read_that_is_to_fail_fails_each_later_call(rt: HostRuntime) -> Result<(), Fail> {
     let mut disk = ScriptDisk::new(rt.alloc(), 8)?;
     disk.fail_read(1);
-    assert_eq!(rt; bytes_of(&mut disk)?, Some([0; 8]));
-    assert_eq!(rt; bytes_of(&mut disk)?, None);
-    assert_eq!(rt; three_calls(&mut disk)?, [false, false, false]);
+    assert!(rt; bytes_of(&mut disk)? == Some([0; 8]));
+    assert!(rt; bytes_of(&mut disk)? == None);
+    assert!(rt; three_calls(&mut disk)? == [false, false, false]);
     Ok(())
 }
 
@@ -115,8 +109,8 @@ fn a_record_is_replayed_call_by_call(rt: HostRuntime) -> Result<(), Fail> {
     record.sync()?;
     write(&mut record, 1, &[3, 4])??;
     // No room for a call more.
-    assert_eq!(rt; record.sync(), Err(DiskFault::Failed));
-    assert_eq!(rt; record.calls(), 3);
+    assert!(rt; record.sync() == Err(DiskFault::Failed));
+    assert!(rt; record.calls() == 3);
     for (calls, wanted) in [
         (0, [0, 0, 0]),
         (1, [1, 2, 0]),
@@ -129,10 +123,7 @@ fn a_record_is_replayed_call_by_call(rt: HostRuntime) -> Result<(), Fail> {
         }
         record.replay(calls, &mut disk)?;
         let [first, second, third] = wanted;
-        assert_eq!(rt;
-            bytes_of(&mut disk)?,
-            Some([first, second, third, 0, 0, 0, 0, 0])
-        );
+        assert!(rt; bytes_of(&mut disk)? == Some([first, second, third, 0, 0, 0, 0, 0]));
     }
     Ok(())
 }
@@ -141,7 +132,7 @@ fn a_record_is_replayed_call_by_call(rt: HostRuntime) -> Result<(), Fail> {
 fn a_record_has_room_for_its_bytes_alone(rt: HostRuntime) -> Result<(), Fail> {
     let mut record = RecordDisk::new(rt.alloc(), 8, 9, 3)?;
     write(&mut record, 0, &[1, 2])??;
-    assert_eq!(rt; write(&mut record, 4, &[3, 4])?, Err(DiskFault::Failed));
-    assert_eq!(rt; bytes_of(&mut record)?, Some([1, 2, 0, 0, 0, 0, 0, 0]));
+    assert!(rt; write(&mut record, 4, &[3, 4])? == Err(DiskFault::Failed));
+    assert!(rt; bytes_of(&mut record)? == Some([1, 2, 0, 0, 0, 0, 0, 0]));
     Ok(())
 }

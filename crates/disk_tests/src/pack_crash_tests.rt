@@ -101,7 +101,7 @@ fn a_crash_within_a_first_adoption_leaves_nothing_or_all(rt: HostRuntime) -> Res
         [1, 1, 1],
     ];
     let found = versions(rt.alloc(), &record, first, second)?;
-    assert_eq!(rt; found.as_slice(), wanted.as_flattened());
+    assert!(rt; found.as_slice() == wanted.as_flattened());
     Ok(())
 }
 
@@ -124,7 +124,7 @@ fn a_crash_within_an_adoption_leaves_the_older_version_or_the_adopted_one(
         [2, 2, 2],
     ];
     let found = versions(rt.alloc(), &record, second, end)?;
-    assert_eq!(rt; found.as_slice(), wanted.as_flattened());
+    assert!(rt; found.as_slice() == wanted.as_flattened());
     Ok(())
 }
 
@@ -146,7 +146,7 @@ fn a_crash_within_a_commit_leaves_the_older_version_or_the_committed_one(
         [3, 3, 3],
     ];
     let found = versions(rt.alloc(), &record, middle, end)?;
-    assert_eq!(rt; found.as_slice(), wanted.as_flattened());
+    assert!(rt; found.as_slice() == wanted.as_flattened());
     Ok(())
 }
 
@@ -172,7 +172,7 @@ fn pages_are_written_ascending_and_the_slot_behind_them(rt: HostRuntime) -> Resu
             byte_at(&mut disk, slot_at(BASE, second_inode()?, Half::First) + 2)?,
             byte_at(&mut disk, slot_at(BASE, second_inode()?, Half::First))?,
         ];
-        assert_eq!(rt; found, want);
+        assert!(rt; found == want);
     }
     Ok(())
 }
@@ -205,7 +205,7 @@ fn an_adoption_leaves_the_pages_of_the_older_version_and_closes_it_last(
             byte_at(&mut disk, slot_at(BASE, ino, Half::Second))?,
             byte_at(&mut disk, slot_at(BASE, ino, Half::First))?,
         ];
-        assert_eq!(rt; found, want);
+        assert!(rt; found == want);
     }
     Ok(())
 }
@@ -227,7 +227,7 @@ fn mount_within(alloc: Global, reads: u32) -> Result<Option<MountFault>, Fail> {
 #[test]
 fn a_mount_reads_each_slot_once(rt: HostRuntime) -> Result<(), Fail> {
     // The bytes that name the pack, and two slots of each of 1,024 inodes.
-    assert_eq!(rt; mount_within(rt.alloc(), 2_049)?, None);
-    assert_eq!(rt; mount_within(rt.alloc(), 2_048)?, Some(MountFault::Disk));
+    assert!(rt; mount_within(rt.alloc(), 2_049)? == None);
+    assert!(rt; mount_within(rt.alloc(), 2_048)? == Some(MountFault::Disk));
     Ok(())
 }

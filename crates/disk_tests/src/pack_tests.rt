@@ -31,10 +31,10 @@ fn a_pack_has_what_was_adopted_and_committed(rt: HostRuntime) -> Result<(), Fail
     let ino = second_inode()?;
     let mut disk = ScriptDisk::new(rt.alloc(), disk_length())?;
     let mut pack = new_pack(rt.alloc(), &mut disk)?;
-    assert_eq!(rt; [pack.free_pages(), u16::from(pack.group())], [3_072, 0]);
+    assert!(rt; [pack.free_pages(), u16::from(pack.group())] == [3_072, 0]);
     adopt(&mut pack, &mut disk, ino, &page_and_half(rt.alloc(), 7)?)?;
-    assert_eq!(rt; pages_of(&pack, ino), [0, 1, 0xFFFF]);
-    assert_eq!(rt; pack.free_pages(), 3_070);
+    assert!(rt; pages_of(&pack, ino) == [0, 1, 0xFFFF]);
+    assert!(rt; pack.free_pages() == 3_070);
     commit_first_page(
         &mut pack,
         &mut disk,
@@ -42,8 +42,8 @@ fn a_pack_has_what_was_adopted_and_committed(rt: HostRuntime) -> Result<(), Fail
         page_and_half(rt.alloc(), 9)?.as_slice(),
     )?;
     // The first page is the least free one; the other one stays.
-    assert_eq!(rt; pages_of(&pack, ino), [2, 1, 0xFFFF]);
-    assert_eq!(rt; pack.free_pages(), 3_070);
+    assert!(rt; pages_of(&pack, ino) == [2, 1, 0xFFFF]);
+    assert!(rt; pack.free_pages() == 3_070);
     Ok(())
 }
 
@@ -61,8 +61,8 @@ fn a_new_inode_is_neither_in_a_slot_nor_held(rt: HostRuntime) -> Result<(), Fail
     let pack = new_pack(rt.alloc(), &mut disk)?;
     let mut held = ItemList::new(rt.alloc());
     // Inode 1 is the root.
-    assert_eq!(rt; pack.next_ino(&held), Ino::new(2));
+    assert!(rt; pack.next_ino(&held) == Ino::new(2));
     held.push(second_inode()?)?;
-    assert_eq!(rt; pack.next_ino(&held), Ino::new(3));
+    assert!(rt; pack.next_ino(&held) == Ino::new(3));
     Ok(())
 }

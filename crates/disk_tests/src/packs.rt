@@ -1,10 +1,11 @@
 // What the tests of packs make and look at.
 ghost use Rattle.std.specs.Prelude.{ℕ, ◌≤◌, ◌<◌, ◌+◌, ◌^◌, length, OnOk, IfOk};
+ghost use Rattle.locus_ids.specs.Sizes.{content_bytes_max};
 ghost use Rattle.disk_model.specs.Disk.{IsSettled};
 ghost use Rattle.disk_model.specs.ScriptDisk.{seen, moment};
 ghost use Rattle.pack_layout.specs.Layout.{area_length};
 ghost use Rattle.inode_pack.specs.Pack.{Stands};
-ghost use Rattle.inode_pack.specs.Committing.{IsVersion};
+ghost use Rattle.stored_versions.specs.Versions.{IsVersion};
 
 use disk_model::{Disk, Leave, RecordDisk, ScriptDisk};
 use inode_pack::{NewVersion, Pack};
@@ -33,7 +34,7 @@ pub fn second_inode() -> Result<Ino, &'static str> {
 pub fn unchanged_file(set: Sites) -> NewVersion
     requires some { 1 ≤ set.0 }
     requires sites { set.0 < 2 ^ 16 }
-    ensures { (n : ℕ) → n ≤ 65536 → IsVersion result n }
+    ensures { (n : ℕ) → n ≤ content_bytes_max → IsVersion result n }
 {
     NewVersion {
         kind: Kind::File,
@@ -46,7 +47,7 @@ pub fn unchanged_file(set: Sites) -> NewVersion
 /// Adopts a version of an inode.
 pub fn adopt<D: Disk>(pack: &mut Pack, disk: &mut D, ino: Ino, content: &Bytes) -> Result<(), Fail>
     requires stands { Stands pack.old (D.moment disk.old) }
-    requires size { length content.now ≤ 65536 }
+    requires size { length content.now ≤ content_bytes_max }
     ensures stands { OnOk result (Stands pack.new (D.moment disk.new)) }
 {
     pack.adopt(disk, ino, &unchanged_file(Sites(1)), content)?;
@@ -55,7 +56,7 @@ pub fn adopt<D: Disk>(pack: &mut Pack, disk: &mut D, ino: Ino, content: &Bytes) 
 
 /// A content of a page and a half, and the same byte everywhere.
 pub fn page_and_half(alloc: Global, byte: u8) -> Result<Bytes, Fail>
-    ensures { IfOk result (λ content. length content ≤ 65536) }
+    ensures { IfOk result (λ content. length content ≤ content_bytes_max) }
 {
     Ok(Bytes::from_slice(alloc, &[byte; 1_536])?)
 }
@@ -68,7 +69,7 @@ pub fn commit_first_page<D: Disk>(
     content: &[u8],
 ) -> Result<(), Fail>
     requires stands { Stands pack.old (D.moment disk.old) }
-    requires size { length content.now ≤ 65536 }
+    requires size { length content.now ≤ content_bytes_max }
     ensures stands { OnOk result (Stands pack.new (D.moment disk.new)) }
 {
     let Some(slot) = pack.copy(ino.get()) else {

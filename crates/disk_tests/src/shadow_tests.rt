@@ -56,14 +56,14 @@ fn shape(shadow: &Shadow) -> [u32; 4] {
 fn a_write_changes_the_pages_that_it_meets(rt: HostRuntime) -> Result<(), Fail> {
     let base = ten_bytes(rt.alloc())?;
     let mut shadow = Shadow::new(rt.alloc(), 10)?;
-    assert_eq!(rt; shape(&shadow), [10, 0, 0, 0]);
-    assert_eq!(rt; part(&shadow, 0, 0), None);
+    assert!(rt; shape(&shadow) == [10, 0, 0, 0]);
+    assert!(rt; part(&shadow, 0, 0) == None);
     write(&mut shadow, 8, &[9, 8, 6], &base, 1)??;
-    assert_eq!(rt; shape(&shadow), [11, 1, 0, 1]);
-    assert_eq!(rt; part(&shadow, 0, 6), Some([7, 7, 9, 8]));
-    assert_eq!(rt; part(&shadow, 0, 9), Some([8, 6, 0, 0]));
+    assert!(rt; shape(&shadow) == [11, 1, 0, 1]);
+    assert!(rt; part(&shadow, 0, 6) == Some([7, 7, 9, 8]));
+    assert!(rt; part(&shadow, 0, 9) == Some([8, 6, 0, 0]));
     shadow.drop_all(5);
-    assert_eq!(rt; shape(&shadow), [5, 0, 0, 0]);
+    assert!(rt; shape(&shadow) == [5, 0, 0, 0]);
     Ok(())
 }
 
@@ -71,21 +71,20 @@ fn a_write_changes_the_pages_that_it_meets(rt: HostRuntime) -> Result<(), Fail> 
 fn a_gap_is_filled_with_zeros_and_changes_the_last_page(rt: HostRuntime) -> Result<(), Fail> {
     let base = ten_bytes(rt.alloc())?;
     let mut shadow = Shadow::new(rt.alloc(), 10)?;
-    assert_eq!(rt;
+    assert!(rt;
         [
             shadow.needed(2_000, 1),
             shadow.needed(3, 4),
             shadow.needed(1_020, 9)
-        ],
-        [2, 1, 2]
+        ] == [2, 1, 2]
     );
     let refused = write(&mut shadow, 1_500, &[9, 8, 6], &base, 1)?;
-    assert_eq!(rt; refused, Err(ShadowFault::NoSpace { needed: 2, free: 1 }));
-    assert_eq!(rt; shape(&shadow), [10, 0, 0, 0]);
+    assert!(rt; refused == Err(ShadowFault::NoSpace { needed: 2, free: 1 }));
+    assert!(rt; shape(&shadow) == [10, 0, 0, 0]);
     write(&mut shadow, 1_500, &[9, 8, 6], &base, 2)??;
-    assert_eq!(rt; shape(&shadow), [1_503, 2, 0, 2]);
-    assert_eq!(rt; part(&shadow, 0, 8), Some([7, 7, 0, 0]));
-    assert_eq!(rt; part(&shadow, 1, 475), Some([0, 9, 8, 6]));
+    assert!(rt; shape(&shadow) == [1_503, 2, 0, 2]);
+    assert!(rt; part(&shadow, 0, 8) == Some([7, 7, 0, 0]));
+    assert!(rt; part(&shadow, 1, 475) == Some([0, 9, 8, 6]));
     Ok(())
 }
 
@@ -95,14 +94,11 @@ fn what_a_cut_took_is_zeros_once_the_content_grows_again(rt: HostRuntime) -> Res
     let mut shadow = Shadow::new(rt.alloc(), 10)?;
     write(&mut shadow, 1_022, &[9, 8, 6], &base, 2)??;
     shadow.cut(1_023);
-    assert_eq!(rt; shadow.size(), 1_023);
-    assert_eq!(rt;
-        [part(&shadow, 0, 1_020), part(&shadow, 1, 0)],
-        [Some([0, 0, 9, 0]), None]
-    );
+    assert!(rt; shadow.size() == 1_023);
+    assert!(rt; [part(&shadow, 0, 1_020), part(&shadow, 1, 0)] == [Some([0, 0, 9, 0]), None]);
     shadow.cut(4);
     write(&mut shadow, 6, &[1, 1, 1], &base, 0)??;
-    assert_eq!(rt; part(&shadow, 0, 2), Some([7, 7, 0, 0]));
-    assert_eq!(rt; part(&shadow, 0, 6), Some([1, 1, 1, 0]));
+    assert!(rt; part(&shadow, 0, 2) == Some([7, 7, 0, 0]));
+    assert!(rt; part(&shadow, 0, 6) == Some([1, 1, 1, 0]));
     Ok(())
 }

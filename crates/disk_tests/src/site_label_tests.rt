@@ -69,7 +69,7 @@ fn a_crash_leaves_the_number_or_the_raised_one(rt: HostRuntime) -> Result<(), Fa
         [2, 2, 2],
         [2, 2, 2],
     ];
-    assert_eq!(rt; found.as_slice(), wanted.as_flattened());
+    assert!(rt; found.as_slice() == wanted.as_flattened());
     Ok(())
 }
 
@@ -95,9 +95,9 @@ fn a_boot_makes_six_calls_and_two_more_where_both_halves_are_open(
 ) -> Result<(), Fail> {
     let mut bytes = [0; 1_024];
     bytes[..14].copy_from_slice(b"\xA5LOCUSLB1\x03\0\0\0\x07");
-    assert_eq!(rt; calls_of_boot(rt.alloc(), &bytes)?, 6);
+    assert!(rt; calls_of_boot(rt.alloc(), &bytes)? == 6);
     bytes[512..526].copy_from_slice(b"\xA5LOCUSLB1\x03\0\0\0\x09");
-    assert_eq!(rt; calls_of_boot(rt.alloc(), &bytes)?, 8);
+    assert!(rt; calls_of_boot(rt.alloc(), &bytes)? == 8);
     Ok(())
 }
 
@@ -120,21 +120,21 @@ fn other_bytes_are_no_label(rt: HostRuntime) -> Result<(), Fail> {
     let mut half = [0; 512];
     half[..14].copy_from_slice(b"\xA5LOCUSLB1\x03\0\0\0\x07");
     let mut bytes = [0; 1_024];
-    assert_eq!(rt; boot_of(rt.alloc(), &bytes)?, Err(LabelFault::NotALabel));
+    assert!(rt; boot_of(rt.alloc(), &bytes)? == Err(LabelFault::NotALabel));
     bytes[..512].copy_from_slice(&half);
-    assert_eq!(rt; boot_of(rt.alloc(), &bytes)?, Ok(8));
+    assert!(rt; boot_of(rt.alloc(), &bytes)? == Ok(8));
     bytes[512..].copy_from_slice(&half);
-    assert_eq!(rt; boot_of(rt.alloc(), &bytes)?, Err(LabelFault::NotALabel));
+    assert!(rt; boot_of(rt.alloc(), &bytes)? == Err(LabelFault::NotALabel));
     bytes[525] = 9;
-    assert_eq!(rt; boot_of(rt.alloc(), &bytes)?, Ok(10));
+    assert!(rt; boot_of(rt.alloc(), &bytes)? == Ok(10));
     bytes[1_023] = 1;
-    assert_eq!(rt; boot_of(rt.alloc(), &bytes)?, Err(LabelFault::NotALabel));
+    assert!(rt; boot_of(rt.alloc(), &bytes)? == Err(LabelFault::NotALabel));
     bytes[512] = 0;
-    assert_eq!(rt; boot_of(rt.alloc(), &bytes)?, Ok(8));
+    assert!(rt; boot_of(rt.alloc(), &bytes)? == Ok(8));
     bytes[9] = 4;
-    assert_eq!(rt; boot_of(rt.alloc(), &bytes)?, Err(LabelFault::NotALabel));
+    assert!(rt; boot_of(rt.alloc(), &bytes)? == Err(LabelFault::NotALabel));
     bytes[9] = 3;
     bytes[10..14].copy_from_slice(&[0xFF; 4]);
-    assert_eq!(rt; boot_of(rt.alloc(), &bytes)?, Err(LabelFault::Spent));
+    assert!(rt; boot_of(rt.alloc(), &bytes)? == Err(LabelFault::Spent));
     Ok(())
 }

@@ -1,10 +1,12 @@
 -- Lists of boot numbers by site, and ids in their order.
-use Rattle.std.proofs.Common.{◌≡◌, ℕ, zero, suc, ◌+◌, ◌≤◌, ◌==◌, ◌⊎◌, Bool, true, false, cond, List, [], ◌∷◌, length, map, get_or, nat_le, refl, ◌∙◌, ap, subst, inl, inr, arith}
+use Rattle.std.proofs.Common.{◌≡◌, ℕ, zero, suc, ◌+◌, ◌≤◌, ◌==◌, ◌⊎◌, Bool, true, false, cond, List, [], ◌∷◌, length, map, get_or, nat_le, refl, ◌∙◌, ap, subst, inl, inr, arith, ◌<◌}
 use Rattle.std.proofs.lemmas.Bool.Decides.{nat_tests}
 use Rattle.locus_ids.specs.declared.ids.EpochId.{EpochId}
+use Rattle.locus_ids.specs.Sizes.{sites_max}
 use Rattle.role_steps.specs.Views.{boot_in, all_sites}
 use Rattle.role_steps.specs.Epochs.{is_epoch_below}
-use Rattle.the_run.specs.Joins.{IsAtMost}
+use Rattle.role_steps.proofs.Counted.{CountsFrom, sites_count}
+use Rattle.run_laws.specs.of_the_run.Joins.{IsAtMost}
 
 -- ---- ids ----
 
@@ -15,13 +17,6 @@ pub below_at_most_itself : (a b : EpochId) → is_epoch_below a b ≡ true → I
 below_at_most_itself a b h = grind (arith, nat_tests)
 
 -- ---- boot numbers by site ----
-
-abbrev CountsFrom : ℕ → List ℕ → Type 0
-CountsFrom n [] = Unit {0}
-CountsFrom n (x ∷ xs) = (x ≡ n) × CountsFrom (n + 1) xs
-
-sixteen : CountsFrom 1 all_sites
-sixteen = (refl, (refl, (refl, (refl, (refl, (refl, (refl, (refl, (refl, (refl, (refl, (refl, (refl, (refl, (refl, (refl, tt))))))))))))))))
 
 plus_none : (n : ℕ) → n ≡ n + 0
 plus_none n = omega arith
@@ -43,27 +38,27 @@ one_next : (n : ℕ) → 1 + n ≡ suc n
 one_next n = omega arith
 
 -- one of sites 1 to 16 has the boot number that the list was made with
-pub boot_there : (f : ℕ → ℕ) (t : ℕ) → 1 ≤ t → t ≤ 16 → boot_in (map f all_sites) t ≡ f t
+pub boot_there : (f : ℕ → ℕ) (t : ℕ) → 1 ≤ t → t ≤ sites_max → boot_in (map f all_sites) t ≡ f t
 boot_there f zero low high = absurd (omega (arith, low))
-boot_there f (suc place) low high = subst (λ (k : ℕ). boot_in (map f all_sites) (suc place) ≡ f k) (one_next place) (placed f 1 place all_sites sixteen (omega (arith, high)))
+boot_there f (suc place) low high = subst (λ (k : ℕ). boot_in (map f all_sites) (suc place) ≡ f k) (one_next place) (placed f 1 place all_sites sites_count (omega (arith, high)))
 
 -- any other number has none
-pub boot_nowhere : (f : ℕ → ℕ) (t : ℕ) → 17 ≤ t → boot_in (map f all_sites) t ≡ 0
+pub boot_nowhere : (f : ℕ → ℕ) (t : ℕ) → sites_max < t → boot_in (map f all_sites) t ≡ 0
 boot_nowhere f zero h = refl
 boot_nowhere f (suc place) h = beyond f place all_sites (omega (arith, h))
 
 pub boot_or_none : (f : ℕ → ℕ) (t : ℕ) → (boot_in (map f all_sites) t ≡ f t) ⊎ (boot_in (map f all_sites) t ≡ 0)
 boot_or_none f zero = inr refl
 boot_or_none f (suc place) =
-    (elim (nat_le (suc place) 16) as (λ b. nat_le (suc place) 16 ≡ b → (boot_in (map f all_sites) (suc place) ≡ f (suc place)) ⊎ (boot_in (map f all_sites) (suc place) ≡ 0)) [
+    (elim (nat_le (suc place) sites_max) as (λ b. nat_le (suc place) sites_max ≡ b → (boot_in (map f all_sites) (suc place) ≡ f (suc place)) ⊎ (boot_in (map f all_sites) (suc place) ≡ 0)) [
       | true ↦ λ e. inl (boot_there f (suc place) (omega arith) (is_low place e))
       | false ↦ λ e. inr (boot_nowhere f (suc place) (is_high place e))
     ]) refl
   where
-    is_low : (place : ℕ) → nat_le (suc place) 16 ≡ true → suc place ≤ 16
+    is_low : (place : ℕ) → nat_le (suc place) sites_max ≡ true → suc place ≤ sites_max
     is_low place e = grind (arith, nat_tests)
 
-    is_high : (place : ℕ) → nat_le (suc place) 16 ≡ false → 17 ≤ suc place
+    is_high : (place : ℕ) → nat_le (suc place) sites_max ≡ false → sites_max < suc place
     is_high place e = grind (arith, nat_tests)
 
 -- what bounds each boot number that a list is made with bounds the list
@@ -83,12 +78,6 @@ boots_without f t h = by_case (boot_or_none f t)
     by_case (inr e) = e
 
 -- ---- tests ----
-
-pub same_test : (a : ℕ) → (a == a) ≡ true
-same_test a = grind (arith, nat_tests)
-
-pub test_same : (a b : ℕ) → (a == b) ≡ true → a ≡ b
-test_same a b e = grind (arith, nat_tests)
 
 pub cond_at_most : (b : Bool) (x y n : ℕ) → x ≤ n → y ≤ n → cond b x y ≤ n
 cond_at_most true x y n h g = h

@@ -1,6 +1,9 @@
 -- Each handler of a site names known ids, and its rounds are its own.
 use Rattle.std.proofs.Common.{◌≡◌, ℕ, ◌+◌, ◌≤◌, ◌==◌, Bool, true, false, cond, ◌&&◌, ◌||◌, not, List, [], ◌∷◌, map, Option, Some, None, refl, sym, ◌∙◌, ap, subst, inl, inr, arith}
 use Rattle.std.proofs.lemmas.Bool.Decides.{nat_tests}
+use Rattle.role_steps.proofs.of_plain_facts.Numbers.{equal_self}
+use Rattle.role_steps.proofs.of_plain_facts.Options.{none_some, some_same}
+use Rattle.role_steps.proofs.of_plain_facts.Tests.{both_true}
 use Rattle.locus_ids.specs.declared.ids.EpochId.{EpochId}
 use Rattle.locus_ids.specs.declared.sites.Sites.{Sites}
 use Rattle.locus_ids.specs.declared.sites.Members.{Members}
@@ -19,26 +22,16 @@ use Rattle.role_steps.specs.Epochs.{is_epoch_below, frame_in, leaves_of, leaves,
 use Rattle.role_steps.specs.declared.rounds.InEpoch.{InEpoch}
 use Rattle.role_steps.specs.declared.rounds.Round.{Round}
 use Rattle.role_steps.proofs.Sending.{every_cond, every_map, every_flat_map}
-use Rattle.the_run.specs.Steps.{takes_framed, takes, starts_mends_of, ends_event}
-use Rattle.the_run.proofs.Joining.{same_at_most}
+use Rattle.run_laws.specs.of_the_run.Steps.{takes_framed, takes, starts_mends_of, ends_event}
+use Rattle.run_laws.proofs.of_the_run.Joining.{same_at_most}
 use Rattle.run_laws.proofs.InsideSteps.{framed_inner, mends_of_inner}
 use Rattle.epoch_laws.specs.Forming.{TableFormless}
 use Rattle.epoch_laws.specs.Known.{IsOwnRound, FormFact}
-use Rattle.epoch_laws.proofs.Boots.{below_at_most_itself, boots_bounded, boots_without, same_test, cond_at_most}
-use Rattle.epoch_laws.proofs.SitesForm.{framed_formless, mends_of_formless}
+use Rattle.epoch_laws.proofs.Boots.{below_at_most_itself, boots_bounded, boots_without, cond_at_most}
+use Rattle.epoch_laws.proofs.Forms.{framed_formless, mends_of_formless}
 use Rattle.epoch_laws.proofs.Parts.{Ids, Now, SentFact, Site, Fine, then_fine, sends_fine, quiet_fine, inner_fine}
 
 -- ---- tests ----
-
-pub both_true : (a b : Bool) → (a && b) ≡ true → (a ≡ true) × (b ≡ true)
-both_true true true h = (refl, refl)
-both_true true false h = absurd (cc)
-both_true false true h = absurd (cc)
-both_true false false h = absurd (cc)
-
-pub not_true : (a : Bool) → not a ≡ true → a ≡ false
-not_true true h = absurd (cc)
-not_true false h = refl
 
 pub same_epoch_eq : (a b : EpochId) → same_epoch a b ≡ true → a ≡ b
 same_epoch_eq a b h = id_eq (grind (arith, nat_tests)) (grind (arith, nat_tests)) (grind (arith, nat_tests))
@@ -52,18 +45,12 @@ not_below_number a b h = grind (arith, nat_tests)
 above : (a b : EpochId) → a.number + 1 ≤ b.number → is_epoch_below a b ≡ true
 above a b h = grind (arith, nat_tests)
 
-pub some_is : {A : Type 0} (x y : A) → ◌≡◌ {A = Option A} (Some x) (Some y) → x ≡ y
-some_is x y e = cc
-
-pub none_is : {A : Type 0} (x : A) → ◌≡◌ {A = Option A} None (Some x) → ⊥
-none_is x e = cc
-
 -- ---- leaving and promising ----
 
 pub leaves_of_fine : (K : Ids) (boots : ℕ → ℕ) (me boot : ℕ) (e : Option InEpoch) (v : SiteView) → Site K boots me boot v → Fine K boots me boot v.promised (leaves_of me e v)
 leaves_of_fine K boots me boot None v h = quiet_fine K boots me boot v h
 leaves_of_fine K boots me boot (Some e) v h = record {
-  view = record { boot_is = h.boot_is; known = h.known; round = λ r k. (let o : IsOwnRound boots me v r = h.round r k in record { promised = o.promised; site = o.site; boot = o.boot; joins_later = o.joins_later; others = o.others; had = o.had }); inside = λ x k. absurd (none_is x k); tables = tt };
+  view = record { boot_is = h.boot_is; known = h.known; round = λ r k. (let o : IsOwnRound boots me v r = h.round r k in record { promised = o.promised; site = o.site; boot = o.boot; joins_later = o.joins_later; others = o.others; had = o.had }); inside = λ x k. absurd (none_some x k); tables = tt };
   rises = same_at_most v.promised;
   sent = tt;
 }
@@ -78,7 +65,7 @@ leaves_of_epoch me (Some e) v h = refl
 
 promised_fine : (K : Ids) (boots : ℕ → ℕ) (me boot : ℕ) (id : EpochId) (reach : Sites) (v : SiteView) → Site K boots me boot v → Now K me boot id id → is_epoch_below v.promised id ≡ true → v.epoch ≡ None → Fine K boots me boot v.promised (tells (Promises me id reach ∷ []) (promised_view id v))
 promised_fine K boots me boot id reach v h known below gone = record {
-  view = record { boot_is = h.boot_is; known = known; round = λ r e. absurd (none_is r e); inside = λ e here. absurd (none_is e (sym gone ∙ here)); tables = h.tables };
+  view = record { boot_is = h.boot_is; known = known; round = λ r e. absurd (none_some r e); inside = λ e here. absurd (none_some e (sym gone ∙ here)); tables = h.tables };
   rises = below_at_most_itself v.promised id below;
   sent = tt;
 }
@@ -98,7 +85,7 @@ polls_fine K boots me boot id polled v h is_last site number waits others had =
     (record {
       boot_is = h.boot_is;
       known = h.known;
-      round = λ r e. subst (λ (x : Round). IsOwnRound boots me (record v { round = Some (new_round id polled) }) x) (some_is (new_round id polled) r e) (record { promised = is_last; site = site; boot = number; joins_later = waits; others = others; had = had });
+      round = λ r e. subst (λ (x : Round). IsOwnRound boots me (record v { round = Some (new_round id polled) }) x) (some_same (new_round id polled) r e) (record { promised = is_last; site = site; boot = number; joins_later = waits; others = others; had = had });
       inside = h.inside;
       tables = h.tables;
     })
@@ -113,10 +100,10 @@ begins_fine K boots me boot links number polled v h le others had =
     (λ g. polls_fine K boots me boot id polled o.view g refl refl (h.boot_is ∙ sym g.boot_is) refl others had)
 
 merge_others : (me : ℕ) (links : Links) → boot_in (boots_where (merge_boot me links)).boot me ≡ 0
-merge_others me links = boots_without (merge_boot me links) me (subst (λ (b : Bool). cond b 0 (boot_in links.boot me) ≡ 0) (sym (same_test me)) refl)
+merge_others me links = boots_without (merge_boot me links) me (subst (λ (b : Bool). cond b 0 (boot_in links.boot me) ≡ 0) (sym (equal_self me)) refl)
 
 part_others : (me : ℕ) (links : Links) (m : Members) → boot_in (boots_where (part_boot me links m)).boot me ≡ 0
-part_others me links m = boots_without (part_boot me links m) me (subst (λ (b : Bool). cond (b || not (boot_in links.boot me == boot_in m.boot me)) 0 (boot_in m.boot me) ≡ 0) (sym (same_test me)) refl)
+part_others me links m = boots_without (part_boot me links m) me (subst (λ (b : Bool). cond (b || not (boot_in links.boot me == boot_in m.boot me)) 0 (boot_in m.boot me) ≡ 0) (sym (equal_self me)) refl)
 
 part_had : (boots : ℕ → ℕ) (me : ℕ) (links : Links) (m : Members) → ((t : ℕ) → boot_in links.boot t ≤ boots t) → (t : ℕ) → part_boot me links m t ≤ boots t
 part_had boots me links m h t = by_test (t == me) (boot_in links.boot t == boot_in m.boot t) refl
@@ -157,7 +144,7 @@ goes_on_round K boots me boot r q v h here same others had =
     sends_fine K boots me boot [] (record v { round = Some q }) (record {
       boot_is = h.boot_is;
       known = h.known;
-      round = λ x e. subst (λ (y : Round). IsOwnRound boots me (record v { round = Some q }) y) (some_is q x e) (record { promised = same ∙ o.promised; site = ap (λ (i : EpochId). i.site) same ∙ o.site; boot = ap (λ (i : EpochId). i.boot) same ∙ o.boot; joins_later = o.joins_later; others = others; had = had });
+      round = λ x e. subst (λ (y : Round). IsOwnRound boots me (record v { round = Some q }) y) (some_same q x e) (record { promised = same ∙ o.promised; site = ap (λ (i : EpochId). i.site) same ∙ o.site; boot = ap (λ (i : EpochId). i.boot) same ∙ o.boot; joins_later = o.joins_later; others = others; had = had });
       inside = h.inside;
       tables = h.tables;
     }) tt
@@ -194,8 +181,8 @@ joins_fine K boots me boot c id m v h is_last =
       view = record {
         boot_is = h.boot_is;
         known = h.known;
-        round = λ r f. absurd (none_is r f);
-        inside = λ x f. subst (λ (y : InEpoch). (y.id ≡ v.promised) × (true ≡ true)) (some_is e x f) (is_last, refl);
+        round = λ r f. absurd (none_some r f);
+        inside = λ x f. subst (λ (y : InEpoch). (y.id ≡ v.promised) × (true ≡ true)) (some_same e x f) (is_last, refl);
         tables = every_map TableFormless new_table _ (λ g. tt);
       };
       rises = same_at_most v.promised;

@@ -9,9 +9,9 @@ use Rattle.role_steps.specs.Views.{SiteView, Outcome, quiet, sends, joined_to, a
 use Rattle.role_steps.specs.declared.rounds.InEpoch.{InEpoch}
 use Rattle.role_steps.specs.declared.rounds.Round.{Round}
 use Rattle.role_steps.proofs.Sending.{every_append}
-use Rattle.the_run.specs.Joins.{IsAtMost}
-use Rattle.the_run.proofs.Boots.{every_weaker}
-use Rattle.the_run.proofs.Joining.{same_at_most}
+use Rattle.run_laws.specs.of_the_run.Joins.{IsAtMost}
+use Rattle.run_laws.proofs.of_the_run.Boots.{every_weaker}
+use Rattle.run_laws.proofs.of_the_run.Joining.{same_at_most}
 use Rattle.run_laws.specs.Naming.{IsInEpoch, Inner}
 use Rattle.epoch_laws.specs.Forming.{FormsNone, Formless, TableFormless, FormlessSite}
 use Rattle.epoch_laws.specs.Known.{IsOwnRound, FormFact}

@@ -1,6 +1,8 @@
 -- In every run ids are known, rounds wait, and polls name their receiver.
 use Rattle.std.proofs.lemmas.Bool.Decides.{nat_tests}
 use Rattle.std.proofs.Common.{◌≡◌, ℕ, ◌+◌, ◌≤◌, ◌==◌, ◌⊎◌, Bool, true, false, List, [], ◌∷◌, map, Option, Some, None, refl, sym, ◌∙◌, ap, subst, inl, inr, arith}
+use Rattle.role_steps.proofs.of_plain_facts.Options.{none_some, some_same}
+use Rattle.role_steps.proofs.of_plain_facts.Tests.{true_false}
 use Rattle.locus_ids.specs.declared.ids.EpochId.{EpochId}
 use Rattle.locus_ids.specs.declared.config.Config.{Config}
 use Rattle.schedule_lines.specs.declared.line.ScheduleLine.{ScheduleLine}
@@ -15,23 +17,22 @@ use Rattle.role_steps.specs.declared.rounds.InEpoch.{InEpoch}
 use Rattle.role_steps.specs.declared.rounds.Round.{Round}
 use Rattle.role_steps.specs.declared.synchronizing.SyncTable.{SyncTable}
 use Rattle.role_steps.proofs.Sending.{every_append}
-use Rattle.the_run.specs.Disks.{Disk, Booted, Whole, CutOff, boots, cut_disk}
-use Rattle.the_run.specs.Joins.{IsAtMost}
-use Rattle.the_run.specs.Kept.{WasSent, IsOwn, Kept}
-use Rattle.the_run.specs.Laws.{boot_on}
-use Rattle.the_run.specs.Steps.{step}
-use Rattle.the_run.specs.Worlds.{World, Place, Running, Stopped, Numbered, number_of, place_at, place_in, place_site, boot_of, is_cut, link_of, links_of, script_of, happened, numbered_from, disk_of, puts, arms, passed, stops_with, cut_told, cause_of, acts, fresh, first_place, formatted, first_world, no_epoch}
-use Rattle.the_run.specs.Runs.{boots_as, packet_record, run_in}
-use Rattle.the_run.proofs.Boots.{at_each, puts_rises, Reached, boots_reached, acts_cases, every_newest, every_numbered, every_weaker}
-use Rattle.the_run.proofs.Events.{happened_keeps, puts_other, puts_same}
-use Rattle.the_run.proofs.InsideSync.{every_without}
-use Rattle.the_run.proofs.Joining.{same_at_most}
-use Rattle.the_run.proofs.Runs.{every_run, some_eq}
+use Rattle.run_laws.specs.of_the_run.Disks.{Disk, Booted, Whole, CutOff, boots, cut_disk}
+use Rattle.run_laws.specs.of_the_run.Joins.{IsAtMost}
+use Rattle.run_laws.specs.of_the_run.Kept.{WasSent, IsOwn, Kept}
+use Rattle.run_laws.specs.of_the_run.Laws.{boot_on}
+use Rattle.run_laws.specs.of_the_run.Steps.{step}
+use Rattle.run_laws.specs.of_the_run.Worlds.{World, Place, Running, Stopped, Numbered, number_of, place_at, place_in, place_site, boot_of, is_cut, link_of, links_of, script_of, happened, numbered_from, disk_of, puts, arms, passed, stops_with, cut_told, cause_of, acts, fresh, first_place, formatted, first_world, no_epoch}
+use Rattle.run_laws.specs.of_the_run.Runs.{boots_as, packet_record, run_in}
+use Rattle.run_laws.proofs.of_the_run.Boots.{at_each, puts_rises, Reached, boots_reached, acts_cases, every_newest, every_numbered, every_weaker}
+use Rattle.run_laws.proofs.of_the_run.Events.{happened_keeps, puts_other, puts_same}
+use Rattle.run_laws.proofs.of_the_run.InsideSync.{every_without}
+use Rattle.run_laws.proofs.of_the_run.Joining.{same_at_most}
+use Rattle.run_laws.proofs.of_the_run.Runs.{every_run}
 use Rattle.run_laws.proofs.Run.{found_among}
 use Rattle.epoch_laws.specs.Forming.{TableFormless}
 use Rattle.epoch_laws.specs.Known.{Places, boots_on, IsKnown, NamesKnown, IdsAreKnown, IsOwnRound, RoundsWait, NamesReceiver, PollsNameTheirReceiver, FormFact, PacketFact, NumberedFact, ViewFact, Good}
 use Rattle.epoch_laws.proofs.Boots.{at_most_trans, boots_bounded, cond_at_most}
-use Rattle.epoch_laws.proofs.Handlers.{none_is}
 use Rattle.epoch_laws.proofs.Parts.{Ids, Now, SentFact, Site, Fine}
 use Rattle.epoch_laws.proofs.Steps.{EventFact, Missing, step_fine, step_missing}
 
@@ -107,7 +108,7 @@ pub none_never : (v : SiteView) → ◌≡◌ {A = Option Place} None (Some (Run
 none_never v e = cc
 
 pub place_there : (s : ℕ) (new : Place) (w : World) (u : SiteView) → place_at (puts s new w) s ≡ Some (Running u) → new ≡ Running u
-place_there s new w u h = some_eq new (Running u) (sym (puts_same s new w) ∙ h)
+place_there s new w u h = some_same new (Running u) (sym (puts_same s new w) ∙ h)
 
 -- one place changed, and how its site went on
 pub puts_later : (s : ℕ) (old new : Place) (w : World) → place_at w s ≡ Some old → boot_on (Some old) ≤ boot_on (Some new) → ((v : SiteView) → new ≡ Running v → WentOn (place_at w) s v) → Later (place_at w) (place_at (puts s new w))
@@ -137,7 +138,7 @@ acts_good n s v o w here f missing g =
     acts_cases Good n s v o w
     (happened_good n o.sent o.told (λ now. puts s (Running o.view) now) w later views refl refl sent g)
     (λ a. happened_good n o.sent o.told (λ now. puts s (Running o.view) (arms a now)) w later views refl refl sent g)
-    (λ d a e. stops_good n s (Running v) (cut_disk v.boot v.store d a.how a.left) (cut_told s d a.how a.left) w here (omega arith) g)
+    (λ d a e. stops_good n s (Running v) (cut_disk v.boot v.store d a.how a.left) (cut_told s v.store d a.how a.left) w here (omega arith) g)
   where
     now : Places
     now = place_at (puts s (Running o.view) w)
@@ -182,9 +183,9 @@ at_most_first id = grind (arith, nat_tests)
 fresh_fact : (at : Places) (s : ℕ) (v : SiteView) → v.promised ≡ no_epoch → v.round ≡ None → v.epoch ≡ None → v.tables ≡ [] → 1 ≤ v.boot → ViewFact at s v
 fresh_fact at s v p r e t b = record {
   known = subst (λ (id : EpochId). IsKnown at id) (sym p) (record { had = omega arith; risen = λ u h same. at_most_first u.promised });
-  round = λ q h. absurd (none_is q (sym r ∙ h));
-  missing = λ q h none. absurd (none_is q (sym r ∙ h));
-  inside = λ x h. absurd (none_is x (sym e ∙ h));
+  round = λ q h. absurd (none_some q (sym r ∙ h));
+  missing = λ q h none. absurd (none_some q (sym r ∙ h));
+  inside = λ x h. absurd (none_some x (sym e ∙ h));
   tables = subst (λ (ts : List SyncTable). Every TableFormless ts) (sym t) tt;
   booted = b;
 }
@@ -267,7 +268,7 @@ first_views : (c : Config) (at : Places) (ss : List ℕ) (s : ℕ) (v : SiteView
 first_views c at [] s v e = absurd (none_never v e)
 first_views c at (t ∷ ts) s v e =
     (elim (t == s) as (λ b. place_in (elim b [ true ↦ Some (first_place c t) | false ↦ row place_site s (map (first_place c) ts) ]) ≡ Some (Running v) → ViewFact at s v) [
-      | true ↦ λ f. subst (λ (y : SiteView). ViewFact at s y) (running_view (fresh 1 (formatted c t)) v (some_eq (Running (fresh 1 (formatted c t))) (Running v) f)) (fresh_fact at s (fresh 1 (formatted c t)) refl refl refl refl (omega arith))
+      | true ↦ λ f. subst (λ (y : SiteView). ViewFact at s y) (running_view (fresh 1 (formatted c t)) v (some_same (Running (fresh 1 (formatted c t))) (Running v) f)) (fresh_fact at s (fresh 1 (formatted c t)) refl refl refl refl (omega arith))
       | false ↦ λ f. first_views c at ts s v f
     ]) e
 
@@ -284,9 +285,6 @@ run_known c lines = let g : Good (run_in c lines) = run_good c lines in record {
 
 pub run_names_receiver : (c : Config) (lines : List ScheduleLine) → PollsNameTheirReceiver (run_in c lines)
 run_names_receiver c lines = let g : Good (run_in c lines) = run_good c lines in every_weaker (NumberedFact (place_at (run_in c lines))) (NamesReceiver (run_in c lines)) (run_in c lines).sent (λ x k. k.1) g.packets
-
-true_false : true ≡ false → ⊥
-true_false e = cc
 
 is_outside : (o : Option InEpoch) (installed : Bool) → installed ≡ false → ((e : InEpoch) → o ≡ Some e → installed ≡ true) → o ≡ None
 is_outside None installed h k = refl

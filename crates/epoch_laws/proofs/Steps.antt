@@ -1,32 +1,27 @@
 -- The step of a site names known ids, and leaves a round in which an answer is missing.
 use Rattle.std.proofs.Common.{◌≡◌, ℕ, ◌≤◌, true, false, List, [], ◌∷◌, ◌++◌, Option, Some, None, refl, sym, ◌∙◌, subst}
-use Rattle.std.specs.List.{flat_map}
+use Rattle.role_steps.proofs.of_plain_facts.Options.{none_some, some_same}
 use Rattle.locus_ids.specs.declared.ids.EpochId.{EpochId}
 use Rattle.locus_ids.specs.declared.sites.Links.{Links}
 use Rattle.locus_ids.specs.declared.config.Config.{Config}
 use Rattle.wire_messages.specs.declared.packet.Packet.{Packet}
 use Rattle.role_steps.specs.Own.{Every}
-use Rattle.role_steps.specs.Views.{Frame, SiteView, Outcome, Event, Calls, Receives, Ticks, Parts, Merges, GivesUp, quiet, boot_in}
-use Rattle.role_steps.specs.Reports.{sync_repeats, new_table}
-use Rattle.role_steps.specs.Storage.{store_repeats}
-use Rattle.role_steps.specs.Pulling.{pull_repeats}
-use Rattle.role_steps.specs.Epochs.{frame_in, leaves, starts_merge, starts_part, poll_packet, install_packet, report_packets, all_reports, unanswered, decides_if, passed_over, passes_over_of, passes_over, poll_repeats, install_repeats}
+use Rattle.role_steps.specs.Views.{SiteView, Outcome, Event, Calls, Receives, Ticks, Parts, Merges, GivesUp, quiet, boot_in}
+use Rattle.role_steps.specs.Reports.{new_table}
+use Rattle.role_steps.specs.Epochs.{frame_in, leaves, starts_merge, starts_part, poll_packet, install_packet, unanswered, decides_if, passed_over, passes_over_of, passes_over, poll_repeats, install_repeats}
 use Rattle.role_steps.specs.declared.rounds.InEpoch.{InEpoch}
 use Rattle.role_steps.specs.declared.rounds.Round.{Round}
-use Rattle.role_steps.proofs.Sending.{every_append, every_map, every_flat_map}
-use Rattle.the_run.specs.Steps.{in_order, is_dropped, takes, tries_at, adopts_in, ends_event, whole, repeats_inside, repeats_of, repeats, ticks_after, call_frame, epoch_id, takes_call, step}
-use Rattle.the_run.proofs.StepSends.{order_sent}
+use Rattle.role_steps.proofs.Sending.{every_append, every_map}
+use Rattle.run_laws.specs.of_the_run.Steps.{in_order, is_dropped, takes, tries_at, adopts_in, ends_event, whole, repeats_inside, repeats_of, repeats, ticks_after, call_frame, epoch_id, takes_call, step}
+use Rattle.run_laws.proofs.of_the_run.StepSends.{order_sent}
 use Rattle.run_laws.specs.Naming.{IsInEpoch, Inner}
 use Rattle.run_laws.proofs.InsideSteps.{quiet_inner, adopts_of_inner, tries_inner, call_inner, repeats_in_epoch}
-use Rattle.epoch_laws.specs.Forming.{Formless, TableFormless, FormlessSite}
+use Rattle.epoch_laws.specs.Forming.{TableFormless, FormlessSite}
 use Rattle.epoch_laws.specs.Known.{IsOwnRound, FormFact}
 use Rattle.epoch_laws.proofs.Boots.{at_most_trans}
-use Rattle.epoch_laws.proofs.SyncForms.{sync_formless, sync_repeats_formless}
-use Rattle.epoch_laws.proofs.RolesForm.{store_repeats_formless, pull_repeats_formless, users_repeats_formless, on_call_forms}
-use Rattle.epoch_laws.proofs.SitesForm.{formless_quiet, adopts_of_formless, tries_formless, mends_of_formless}
+use Rattle.epoch_laws.proofs.Forms.{on_call_forms, inside_formless, formless_quiet, adopts_of_formless, tries_formless, mends_of_formless}
 use Rattle.epoch_laws.proofs.Parts.{Ids, Now, SentFact, Site, Fine, sent_higher, quiet_fine, inner_sent, inner_fine}
-use Rattle.epoch_laws.proofs.Handlers.{some_is, none_is, leaves_of_fine, starts_part_fine, starts_merge_fine, ends_fine, takes_fine}
-use Rattle.role_steps.specs.Requests.{users_repeats}
+use Rattle.epoch_laws.proofs.Handlers.{leaves_of_fine, starts_part_fine, starts_merge_fine, ends_fine, takes_fine}
 
 -- ---- an event and its end ----
 
@@ -54,14 +49,6 @@ polls_known K boots me boot v (Some r) here h =
     let k : IsOwnRound boots me v r = h.round r here in
     every_map (SentFact K boots me boot v.promised) (poll_packet me v.boot r.id r.polled) (unanswered r)
     (λ t. (subst (λ (i : EpochId). Now K me boot v.promised i) (sym k.promised) h.known, record { site = k.site; boot = k.boot; had = k.had t }))
-
-pub inside_formless : (f : Frame) (e : InEpoch) (v : SiteView) → Every Formless (repeats_inside f e v)
-inside_formless f e v =
-    every_append Formless (in_order (all_reports f v)) _ (order_sent Formless (all_reports f v) (every_flat_map Formless (report_packets f v) v.reports (λ g. sync_formless f g _ tt)))
-    (every_append Formless (users_repeats f v.users) _ (users_repeats_formless f v.users)
-    (every_append Formless (in_order (store_repeats f v.store)) _ (order_sent Formless (store_repeats f v.store) (store_repeats_formless f v.store))
-    (every_append Formless (in_order (pull_repeats f v.pulls)) _ (order_sent Formless (pull_repeats f v.pulls) (pull_repeats_formless f v.pulls))
-    (order_sent Formless (flat_map (sync_repeats f) v.tables) (every_flat_map Formless (sync_repeats f) v.tables (sync_repeats_formless f))))))
 
 repeats_known : (K : Ids) (boots : ℕ → ℕ) (me boot : ℕ) (c : Config) (o : Option InEpoch) (v : SiteView) → v.epoch ≡ o → Site K boots me boot v → Every (SentFact K boots me boot v.promised) (repeats_of c me o v)
 repeats_known K boots me boot c None v here h = order_sent (SentFact K boots me boot v.promised) (poll_repeats me v v.round) (polls_known K boots me boot v v.round refl h)
@@ -115,14 +102,14 @@ abbrev pub Missing : SiteView → Type 0
 Missing v = (r : Round) → v.round ≡ Some r → unanswered r ≡ [] → ⊥
 
 none_missing : (v : SiteView) → v.round ≡ None → Missing v
-none_missing v e r here = absurd (none_is r (sym e ∙ here))
+none_missing v e r here = absurd (none_some r (sym e ∙ here))
 
 some_missing : (x : ℕ) (xs : List ℕ) → ◌≡◌ {A = List ℕ} (x ∷ xs) [] → ⊥
 some_missing x xs e = cc
 
 decides_missing : (c : Config) (me : ℕ) (links : Links) (q : Round) (xs : List ℕ) (v : SiteView) → unanswered q ≡ xs → Missing (decides_if c me links q xs v).view
-decides_missing c me links q [] v e r here none = absurd (none_is r here)
-decides_missing c me links q (x ∷ xs) v e r here none = some_missing x xs (sym e ∙ subst (λ (y : Round). unanswered y ≡ []) (sym (some_is q r here)) none)
+decides_missing c me links q [] v e r here none = absurd (none_some r here)
+decides_missing c me links q (x ∷ xs) v e r here none = some_missing x xs (sym e ∙ subst (λ (y : Round). unanswered y ≡ []) (sym (some_same q r here)) none)
 
 passes_missing : (c : Config) (me : ℕ) (links : Links) (o : Option Round) (v : SiteView) → v.round ≡ o → Missing (passes_over_of c me links o v).view
 passes_missing c me links None v here = none_missing v here

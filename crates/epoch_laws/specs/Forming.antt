@@ -7,7 +7,7 @@ use Rattle.role_steps.specs.Own.{Every}
 use Rattle.role_steps.specs.Views.{SiteView, Outcome}
 use Rattle.role_steps.specs.declared.synchronizing.SyncTable.{SyncTable}
 use Rattle.role_steps.specs.declared.synchronizing.LastLook.{LastLook}
-use Rattle.the_run.specs.Joins.{NoJoin, NoWrite}
+use Rattle.run_laws.specs.of_the_run.Joins.{NoJoin, NoWrite}
 
 -- the body is none of those by which sites agree on an epoch
 abbrev pub FormsNone : Body → Type 0

@@ -9,9 +9,9 @@ use Rattle.role_steps.specs.Views.{SiteView, boot_in}
 use Rattle.role_steps.specs.Epochs.{unanswered}
 use Rattle.role_steps.specs.declared.rounds.InEpoch.{InEpoch}
 use Rattle.role_steps.specs.declared.rounds.Round.{Round}
-use Rattle.the_run.specs.Joins.{IsAtMost}
-use Rattle.the_run.specs.Laws.{boot_on}
-use Rattle.the_run.specs.Worlds.{World, Place, Running, Numbered, place_at}
+use Rattle.run_laws.specs.of_the_run.Joins.{IsAtMost}
+use Rattle.run_laws.specs.of_the_run.Laws.{boot_on}
+use Rattle.run_laws.specs.of_the_run.Worlds.{World, Place, Running, Numbered, place_at}
 use Rattle.epoch_laws.specs.Forming.{TableFormless}
 
 -- ---- ids ----

@@ -1,7 +1,7 @@
 ghost use Rattle.std.specs.Prelude.{List};
 ghost use Rattle.locus_ids.specs.declared.config.Config.{Config};
 ghost use Rattle.schedule_lines.specs.declared.line.ScheduleLine.{ScheduleLine};
-ghost use Rattle.the_run.specs.Runs.{run_in};
+ghost use Rattle.run_laws.specs.of_the_run.Runs.{run_in};
 ghost use Rattle.epoch_laws.specs.Known.{IdsAreKnown, PollsNameTheirReceiver, RoundsWait};
 
 /// After every schedule each id of an epoch that a packet names, or that a running site has promised last, is of a boot that

@@ -1,2 +1,3 @@
 pub mod Answers
 pub mod Places
+pub use Rattle.role_steps.specs as of_role_steps

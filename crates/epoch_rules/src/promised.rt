@@ -6,7 +6,7 @@ use crate::{is_epoch_below, same_epoch};
 use locus_ids::EpochId;
 
 /// The greatest id that a site has promised, and whether it has joined that epoch.
-#[derive(Clone, Copy, Debug, PartialEq, Eq)]
+#[derive(Clone, Copy, PartialEq, Eq)]
 pub struct Promised {
     pub id: EpochId,
     /// The promised epoch is joined, or nothing was promised yet.
@@ -14,7 +14,7 @@ pub struct Promised {
 }
 
 /// What a poll is answered.
-#[derive(Clone, Copy, Debug, PartialEq, Eq)]
+#[derive(Clone, Copy, PartialEq, Eq)]
 pub enum PollAnswer {
     /// The id is greater than the promised one: it is promised now.
     Promise,

@@ -2,6 +2,5 @@ pub mod Laws
 pub mod Lists
 pub mod Sums
 pub mod Loop
-pub mod Whole
 pub mod Zeros
 pub mod Shapes

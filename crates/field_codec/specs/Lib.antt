@@ -4,3 +4,4 @@ pub mod Sums
 pub mod Lists
 pub mod Reads
 pub mod Shapes
+pub use Rattle.locus_ids.specs as of_locus_ids

@@ -1,10 +1,6 @@
 -- What the content of a file is: a list of bytes.
 use Rattle.std.specs.Prelude.{ℕ, ◌+◌, ◌-◌, List, ◌++◌, length, take, drop, replicate}
 
--- the greatest size of a content
-abbrev pub max_bytes : ℕ
-max_bytes = 65536
-
 -- the content with these bytes from the place on; a gap before them is filled with zeros
 abbrev pub written : List ℕ → ℕ → List ℕ → List ℕ
 written content at bytes = take at (content ++ replicate (at - length content) 0) ++ bytes ++ drop (at + length bytes) content

@@ -1,16 +1,17 @@
 -- The pages of a content, of 1,024 bytes each, numbered from 0. The last one may be shorter.
-use Rattle.std.specs.Prelude.{ℕ, zero, suc, ◌+◌, ◌-◌, ◌*◌, ◌/◌, ◌==◌, min, Bool, not, cond, nat_lt, List, [], ◌∷◌, ◌++◌, length, filter}
+use Rattle.std.specs.Prelude.{ℕ, zero, suc, ◌+◌, ◌-◌, ◌*◌, ◌/◌, ◌==◌, min, Bool, true, false, not, cond, nat_lt, nat_le, List, [], ◌∷◌, ◌++◌, length, filter}
 use Rattle.std.specs.List.{list_any}
 use Rattle.std.specs.Str.{bytes_eq}
+use Rattle.locus_ids.specs.Sizes.{page_bytes}
 use Rattle.file_content.specs.Contents.{part}
 
 -- how many pages so many bytes take
 abbrev pub pages_of : ℕ → ℕ
-pages_of size = (size + 1023) / 1024
+pages_of size = (size + (page_bytes - 1)) / page_bytes
 
 -- the bytes of a page, and none of a page past the end
 abbrev pub page_of : List ℕ → ℕ → List ℕ
-page_of content page = part content (1024 * page) 1024
+page_of content page = part content (page_bytes * page) page_bytes
 
 -- so many page numbers, from this one on
 abbrev pub pages_from : ℕ → ℕ → List ℕ
@@ -19,7 +20,7 @@ pages_from first (suc more) = first ∷ pages_from (first + 1) more
 
 -- the pages that meet the bytes from this place up to that end
 abbrev pub pages_between : ℕ → ℕ → List ℕ
-pages_between from end = cond (nat_lt from end) (pages_from (from / 1024) (pages_of end - from / 1024)) []
+pages_between from end = cond (nat_lt from end) (pages_from (from / page_bytes) (pages_of end - from / page_bytes)) []
 
 -- the pages that a write changes: those from its place, or from the old end where that is less, up to its own end, also
 -- where the bytes are the same
@@ -50,8 +51,25 @@ with_pages (page ∷ more) changed = with_pages more (with_page page changed)
 
 -- those of the changed pages that begin before the end of a content of this size
 abbrev pub pages_within : ℕ → List ℕ → List ℕ
-pages_within size changed = filter (λ page. nat_lt (1024 * page) size) changed
+pages_within size changed = filter (λ page. nat_lt (page_bytes * page) size) changed
 
 -- how many of the pages weren't changed before: so many free pages are needed to change them all
 abbrev pub pages_needed : List ℕ → List ℕ → ℕ
 pages_needed pages changed = length (filter (λ page. not (has_page changed page)) pages)
+
+-- What a version writes.
+
+-- an ascending list of pages, with this one at its place
+abbrev pub placed : ℕ → List ℕ → List ℕ
+placed page [] = page ∷ []
+placed page (p ∷ ps) = elim (nat_le page p) [ true ↦ page ∷ p ∷ ps | false ↦ p ∷ placed page ps ]
+
+-- the pages, ascending
+abbrev pub ascending : List ℕ → List ℕ
+ascending [] = []
+ascending (page ∷ pages) = placed page (ascending pages)
+
+-- The tables of page numbers that a version writes, where the version before it had so many pages (0 where there is none), it
+-- has so many itself, and these of them are written. There is none: the page numbers of the longest content fit its slot.
+abbrev pub tables_written : (before now : ℕ) → List ℕ → List ℕ
+tables_written before now pages = []

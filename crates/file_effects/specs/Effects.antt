@@ -2,15 +2,16 @@
 use Rattle.std.specs.Prelude.{ℕ, ◌+◌, Bool, true, false, not, ◌&&◌, ◌||◌, cond, nat_le, nat_lt, List, [], length, Option, None, Some}
 use Rattle.std.specs.Str.{bytes_eq}
 use Rattle.locus_ids.specs.declared.refusal.Refusal.TheVariants.{TooLong}
-use Rattle.trace_book.specs.declared.operation.Op.{Op}
-use Rattle.trace_book.specs.declared.operation.Op.TheVariants as op
-use Rattle.trace_book.specs.declared.operation.Outcome.{Outcome}
-use Rattle.trace_book.specs.declared.operation.Outcome.TheVariants as outcome
+use Rattle.dir_format.specs.of_trace_book.declared.operation.Op.{Op}
+use Rattle.dir_format.specs.of_trace_book.declared.operation.Op.TheVariants as op
+use Rattle.dir_format.specs.of_trace_book.declared.operation.Outcome.{Outcome}
+use Rattle.dir_format.specs.of_trace_book.declared.operation.Outcome.TheVariants as outcome
 use Rattle.dir_format.specs.Grammar.{dir_bytes}
-use Rattle.trace_book.specs.Names.{is_name}
+use Rattle.dir_format.specs.of_trace_book.Names.{is_name}
 use Rattle.dir_format.specs.Contents.{entries_of, is_dir}
 use Rattle.dir_format.specs.Effects.{DirEffect, dir_effect}
-use Rattle.file_content.specs.Contents.{max_bytes, written, part, cut}
+use Rattle.locus_ids.specs.Sizes.{directory_bytes_max, file_bytes_max, inodes_max}
+use Rattle.file_content.specs.Contents.{written, part, cut}
 use Rattle.file_content.specs.Pages.{pages_written, pages_replaced}
 
 -- An operation with what must be added to its words to tell what it gives.
@@ -47,7 +48,7 @@ tells content result = record { result = result; content = content; pages = []; 
 
 -- a new content takes the place of the old one, unless it is too long
 abbrev pub puts : List ℕ → List ℕ → Bool → Effect
-puts old new counts = cond (nat_lt max_bytes (length new)) (tells old (outcome.No TooLong)) (record { result = outcome.Done; content = new; pages = pages_replaced old new; counts = counts; spent = false })
+puts old new counts = cond (nat_lt directory_bytes_max (length new)) (tells old (outcome.No TooLong)) (record { result = outcome.Done; content = new; pages = pages_replaced old new; counts = counts; spent = false })
 
 -- a write changes its pages, and counts as a change, also where the bytes are the same
 abbrev pub writes : List ℕ → ℕ → List ℕ → Effect
@@ -83,7 +84,7 @@ in_directory content (Some d) = cond (is_dir d.entries) (Some (on_directory cont
 -- the new names of an operation are names, and its inode is one
 abbrev pub is_worded : Op → Bool
 is_worded (op.Probe name) = is_name name
-is_worded (op.Insert name ino kind) = is_name name && (nat_le 1 ino && nat_le ino 1024)
+is_worded (op.Insert name ino kind) = is_name name && (nat_le 1 ino && nat_le ino inodes_max)
 is_worded (op.Rename component name) = is_name name
 is_worded _ = true
 
@@ -92,7 +93,7 @@ is_worded _ = true
 -- words alone do nothing, and a commit and an abort are no operations on the content.
 abbrev pub effect : Deed → List ℕ → Option Effect
 effect (As (op.Read at len)) content = Some (tells content (outcome.Data (part content at len)))
-effect (As (op.Write at bytes)) content = cond (nat_le (at + length bytes) max_bytes) (Some (writes content at bytes)) None
+effect (As (op.Write at bytes)) content = cond (nat_le (at + length bytes) file_bytes_max) (Some (writes content at bytes)) None
 effect (As (op.Cut len)) content = Some (cuts content len)
 effect (As (op.Remove name ino)) content = None
 effect (As op.Mend) content = None

@@ -1,2 +1,3 @@
 pub mod Effects
 pub mod Works
+pub use Rattle.file_content.specs as of_file_content

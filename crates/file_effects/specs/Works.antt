@@ -5,8 +5,8 @@ use Rattle.locus_ids.specs.declared.ids.Stamp.{Stamp}
 use Rattle.locus_ids.specs.declared.ids.Mode.{Mode}
 use Rattle.locus_ids.specs.declared.ids.Mode.TheVariants as mode
 use Rattle.locus_ids.specs.declared.refusal.Refusal.TheVariants.{NoSpace, Spent}
-use Rattle.trace_book.specs.declared.operation.Outcome.{Outcome}
-use Rattle.trace_book.specs.declared.operation.Outcome.TheVariants as outcome
+use Rattle.dir_format.specs.of_trace_book.declared.operation.Outcome.{Outcome}
+use Rattle.dir_format.specs.of_trace_book.declared.operation.Outcome.TheVariants as outcome
 use Rattle.file_content.specs.Pages.{pages_within, with_pages, pages_needed}
 use Rattle.file_effects.specs.Effects.{Effect, is_refusal}
 use Rattle.file_effects.specs.declared.work.Work.{Work}

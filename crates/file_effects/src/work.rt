@@ -1,7 +1,7 @@
 use locus_ids::{Bytes, ItemList, Stamp};
 
 /// What has become of an open instance since it was granted.
-#[derive(Debug, Drop)]
+#[derive(Drop)]
 pub struct Work {
     /// Operations done.
     pub ops: u32,

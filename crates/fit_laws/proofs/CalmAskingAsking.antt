@@ -1,5 +1,6 @@
 -- What a call asks of an instance: by a descriptor, by which it began, or as a step of a walk, of what was granted to it.
 use Rattle.std.proofs.Common.{◌≡◌, ℕ, ◌+◌, ◌≤◌, ◌<◌, ◌^◌, suc, zero, Bool, true, false, cond, nat_lt, List, [], ◌∷◌, ◌++◌, length, map, Option, Some, None, refl, sym, ◌∙◌, ap, subst, ◌⊎◌, inl, inr, arith}
+use Rattle.role_steps.proofs.of_plain_facts.Options.{some_same}
 use Rattle.locus_ids.specs.declared.config.Config.{Config}
 use Rattle.locus_ids.specs.declared.config.Mount.{Mount}
 use Rattle.locus_ids.specs.declared.ids.CallId.{CallId}
@@ -30,10 +31,9 @@ use Rattle.tree_laws.specs.Following.{IsFollowed}
 use Rattle.tree_laws.specs.Instances.{instance_now}
 use Rattle.tree_laws.specs.Printed.{entries}
 use Rattle.tree_laws.proofs.Descriptors.{uses_from}
-use Rattle.tree_laws.proofs.Names.{some_is}
 use Rattle.order_laws.proofs.ProcessBegun.{comes_from}
-use Rattle.store_laws.proofs.ScriptFitted.{Began, began}
-use Rattle.store_laws.proofs.AnswerAskers.{op_had}
+use Rattle.rest_laws.proofs.of_store_laws.ScriptFitted.{Began, began}
+use Rattle.rest_laws.proofs.of_store_laws.AnswerAskers.{op_had}
 use Rattle.fit_laws.proofs.CalmAskingInserting.{unpacked}
 use Rattle.fit_laws.proofs.CalmAskingWords.{IsUse, Uses, WalkAsks, named_so, use_so}
 
@@ -98,7 +98,7 @@ module _ (c : Config) (t : List Line) (h : IsFollowed c t) (e : EpochId) (d : Ca
 
   -- what it uses by a descriptor is of its epoch
   pub uses_here : (u : Uses w.words b i o) → begun (entries t) d ≡ Some (begins.Uses e i)
-  uses_here u = starts.begun_is ∙ ap Some (u.begins_so ∙ ap (λ (z : EpochId). begins.Uses z i) (some_is u.epoch e (sym (uses_from starts.table w.epoch w.words u.epoch i u.begins_so).inside ∙ inside.made_in)))
+  uses_here u = starts.begun_is ∙ ap Some (u.begins_so ∙ ap (λ (z : EpochId). begins.Uses z i) (some_same u.epoch e (sym (uses_from starts.table w.epoch w.words u.epoch i u.begins_so).inside ∙ inside.made_in)))
 
   -- a call that walks has the instance as it was granted to it
   pub own : (UseOp o → ⊥) → granted_to (entries t) e i ≡ Some d
@@ -106,7 +106,7 @@ module _ (c : Config) (t : List Line) (h : IsFollowed c t) (e : EpochId) (d : Ca
     where
       uses : begun (entries t) d ≡ Some (begins.Uses e i) → WalkAsks w.words (want.Do i o) ⊎ Uses w.words b i o → ⊥
       uses k (inr u) = other (use_op w.words o u.is_use)
-      uses k (inl walks) = other (used_so c.mounts None w.words e i (log t d) i o (subst (λ (z : Beginning). named_wants c.mounts None w.words z (log t d) ≡ want.Do i o) (some_is b (begins.Uses e i) (sym starts.begun_is ∙ k)) wanted))
+      uses k (inl walks) = other (used_so c.mounts None w.words e i (log t d) i o (subst (λ (z : Beginning). named_wants c.mounts None w.words z (log t d) ≡ want.Do i o) (some_same b (begins.Uses e i) (sym starts.begun_is ∙ k)) wanted))
 
       over : (granted_to (entries t) e i ≡ Some d) ⊎ (begun (entries t) d ≡ Some (begins.Uses e i)) → granted_to (entries t) e i ≡ Some d
       over (inl k) = k

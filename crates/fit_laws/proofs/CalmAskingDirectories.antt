@@ -1,17 +1,19 @@
 -- What an operation on a directory leaves is a directory.
-use Rattle.std.proofs.Common.{◌≡◌, ℕ, suc, ◌+◌, ◌%◌, ◌==◌, ◌<◌, ◌≤◌, ◌^◌, Bool, true, false, not, ◌&&◌, ◌||◌, cond, nat_lt, List, [], ◌∷◌, ◌++◌, length, filter, Option, Some, None, refl, sym, ◌∙◌, ap, subst, inl, inr, ◌⊎◌, arith}
+use Rattle.std.proofs.Common.{◌≡◌, ℕ, suc, ◌+◌, ◌%◌, ◌==◌, ◌<◌, ◌≤◌, ◌^◌, Bool, true, false, ◌&&◌, cond, nat_lt, List, [], ◌∷◌, length, Option, Some, None, refl, sym, ap, subst, arith}
 use Rattle.std.proofs.lemmas.Bool.Decides.{nat_tests}
 use Rattle.std.specs.List.{find, AllByRecursion}
 use Rattle.std.specs.Str.{bytes_eq}
+use Rattle.role_steps.proofs.of_plain_facts.Numbers.{equal}
 use Rattle.locus_ids.specs.declared.ids.Kind.{Kind}
 use Rattle.locus_ids.specs.declared.refusal.Refusal.TheVariants as refusal
+use Rattle.locus_ids.specs.Sizes.{directory_bytes_max, inodes_max}
 use Rattle.trace_book.specs.Names.{is_name}
 use Rattle.trace_book.specs.declared.operation.Outcome.TheVariants as outcome
 use Rattle.dir_format.specs.declared.entry.Entry.{Entry}
 use Rattle.dir_format.specs.declared.looking.LookResult.{LookResult}
 use Rattle.dir_format.specs.declared.looking.LookResult.TheVariants as look
 use Rattle.dir_format.specs.Contents.{entries_from, entries_of, is_dir}
-use Rattle.dir_format.specs.Effects.{DirEffect, becomes, find_by, find_effect, empty_among, empty_effect, insert_beside, insert_effect, is_spent, live_entry, max_size, moved, probe_beside, probe_effect, removed, rename_beside, rename_by, rename_effect, rename_entry, size_of}
+use Rattle.dir_format.specs.Effects.{DirEffect, becomes, find_by, find_effect, empty_among, empty_effect, insert_beside, insert_effect, is_spent, live_entry, moved, probe_beside, probe_effect, removed, rename_beside, rename_by, rename_effect, rename_entry, size_of}
 use Rattle.dir_format.specs.Entries.{HasKind, HasKindOf, IsDir, IsEntry, IsVector, is_live, is_pair, max_count, nothing_seen, pair_in, with_entry}
 use Rattle.dir_format.specs.Grammar.{dir_bytes}
 use Rattle.dir_format.specs.Lookups.{has_name, is_meant, lookup, shown_names}
@@ -43,7 +45,7 @@ entries_dir bytes = dir_tells (entries_of bytes) (entries_pass bytes)
 
 probe_same : (name : List ℕ) (ds : List Entry) (o : Option Entry) → (probe_beside name ds o).entries ≡ ds
 probe_same name ds (Some d) = refl
-probe_same name ds None = over (nat_lt max_size (size_of ds + (length name + 8)))
+probe_same name ds None = over (nat_lt directory_bytes_max (size_of ds + (length name + 8)))
   where
     over : (b : Bool) → (cond {A = DirEffect} b (record { outcome = outcome.No refusal.TooLong; entries = ds; counts = false; spent = false }) (record { outcome = outcome.Done; entries = ds; counts = false; spent = false })).entries ≡ ds
     over true = refl
@@ -73,7 +75,7 @@ empty_leaves ds h = passes_as ds (empty_effect ds).entries (empty_same ds (shown
 -- ---- one entry more, or another ----
 
 pub becomes_passes : (ds after : List Entry) (spent : Bool) → IsDir ds → IsDir after → is_dir (becomes ds after spent).entries ≡ true
-becomes_passes ds after spent h k = over (nat_lt max_size (size_of after))
+becomes_passes ds after spent h k = over (nat_lt directory_bytes_max (size_of after))
   where
     over : (b : Bool) → is_dir (cond {A = DirEffect} b (record { outcome = outcome.No refusal.TooLong; entries = ds; counts = false; spent = false }) (record { outcome = outcome.Done; entries = after; counts = true; spent = spent })).entries ≡ true
     over true = dir_told ds h
@@ -111,7 +113,7 @@ remove_passes d seen ds h fits live kinds v = becomes_passes ds (with_entry (rem
 
 -- ---- insert ----
 
-new_entry : (name : List ℕ) (ino : ℕ) (kind : Kind) → is_name name ≡ true → 1 ≤ ino → ino ≤ 1024 → IsEntry (live_entry name ino kind 1)
+new_entry : (name : List ℕ) (ino : ℕ) (kind : Kind) → is_name name ≡ true → 1 ≤ ino → ino ≤ inodes_max → IsEntry (live_entry name ino kind 1)
 new_entry name ino kind h low high = record { name = h; ino = (low, high); count = (omega arith, omega arith); seen = vector_of_nothing; live = λ _. refl }
 
 -- no entry is of this number
@@ -122,18 +124,15 @@ lacks_kind : (ino : ℕ) (kind : Kind) (ds : List Entry) → Lacks ino ds → Ha
 lacks_kind ino kind [] h = tt
 lacks_kind ino kind (d ∷ ds) h = ((λ same. absurd (h.0 same)), lacks_kind ino kind ds h.1)
 
-number_of : (a b : ℕ) → (a == b) ≡ true → a ≡ b
-number_of a b h = grind (arith, nat_tests)
-
 lacks_pair : (name : List ℕ) (ino : ℕ) (ds : List Entry) → Lacks ino ds → pair_in name ino ds ≡ None
 lacks_pair name ino [] h = refl
 lacks_pair name ino (d ∷ ds) h = over (lacks_pair name ino ds h.1) (is_pair name ino d) refl
   where
     over : pair_in name ino ds ≡ None → (b : Bool) → is_pair name ino d ≡ b → cond b (Some d) (pair_in name ino ds) ≡ None
-    over later true e = absurd (h.0 (number_of d.ino ino (both (bytes_eq d.name name) (d.ino == ino) e).1))
+    over later true e = absurd (h.0 (equal d.ino ino (both (bytes_eq d.name name) (d.ino == ino) e).1))
     over later false e = later
 
-pub insert_passes : (name : List ℕ) (ino : ℕ) (kind : Kind) (ds : List Entry) → IsDir ds → is_name name ≡ true → 1 ≤ ino → ino ≤ 1024 → Lacks ino ds → (d : DirEffect) × (insert_effect name ino kind ds ≡ Some d) × (is_dir d.entries ≡ true)
+pub insert_passes : (name : List ℕ) (ino : ℕ) (kind : Kind) (ds : List Entry) → IsDir ds → is_name name ≡ true → 1 ≤ ino → ino ≤ inodes_max → Lacks ino ds → (d : DirEffect) × (insert_effect name ino kind ds ≡ Some d) × (is_dir d.entries ≡ true)
 insert_passes name ino kind ds h named low high lacks = (
   becomes ds (with_entry (live_entry name ino kind 1) ds) false,
   ap (insert_beside name ino kind ds) (lacks_pair name ino ds lacks),
@@ -141,9 +140,6 @@ insert_passes name ino kind ds h named low high lacks = (
 )
 
 -- ---- rename ----
-
-even_then : (n : ℕ) → ((n % 2) == 1) ≡ false → ((suc n % 2) == 1) ≡ true
-even_then n h = grind (arith, nat_tests)
 
 even_below : (n : ℕ) → ((n % 2) == 1) ≡ false → n < 2 ^ 32 → suc n < 2 ^ 32
 even_below n h k = grind (arith, nat_tests)

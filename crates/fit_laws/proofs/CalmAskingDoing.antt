@@ -12,6 +12,7 @@ use Rattle.locus_ids.specs.declared.ids.Serial.{Serial}
 use Rattle.locus_ids.specs.declared.ids.Stamp.{Stamp}
 use Rattle.locus_ids.specs.declared.refusal.Refusal.{Refusal}
 use Rattle.locus_ids.specs.declared.refusal.Refusal.TheVariants as refusal
+use Rattle.locus_ids.specs.Sizes.{file_bytes_max, sites_max}
 use Rattle.commit_graph.specs.Counters.{counter}
 use Rattle.commit_graph.specs.Vectors.{numbers_from, vector_of}
 use Rattle.commit_graph.specs.declared.history.Version.{Version}
@@ -55,11 +56,11 @@ use Rattle.tree_laws.proofs.CarriedLooks.{one_epoch}
 use Rattle.tree_laws.proofs.Holding.{Script}
 use Rattle.order_laws.specs.Joining.{PacksAreOfSites}
 use Rattle.order_laws.proofs.Lists.{all_then}
-use Rattle.store_laws.proofs.Places.{open_is}
+use Rattle.rest_laws.proofs.of_store_laws.Places.{open_is}
 use Rattle.rest_laws.proofs.StoreStepCounters.{counter_low}
-use Rattle.store_laws.proofs.AnswerDone.{done_named}
-use Rattle.one_tree_laws.proofs.RemovePlaced.{DoneSo, Taken, done_placed, taken_so}
-use Rattle.one_tree_laws.proofs.RemoveScripts.{Along, IsOr, along_at, along_same}
+use Rattle.rest_laws.proofs.of_store_laws.AnswerDone.{done_named}
+use Rattle.rest_laws.proofs.of_one_tree_laws.RemovePlaced.{DoneSo, Taken, done_placed, taken_so}
+use Rattle.rest_laws.proofs.of_one_tree_laws.RemoveScripts.{Along, IsOr, along_at, along_same}
 use Rattle.fit_laws.specs.Inodes.{IsInodeNumber}
 use Rattle.fit_laws.proofs.Numbers.{stands_inode}
 use Rattle.fit_laws.specs.EntryEntries.{IsEntered, NamesFile, WasInserted}
@@ -67,7 +68,7 @@ use Rattle.fit_laws.proofs.EntryActing.{inserted_named}
 use Rattle.fit_laws.proofs.EntryFacts.{IsAnswered, IsKnown, named_known, roots_known}
 use Rattle.fit_laws.proofs.EntryNamed.{trace_named}
 use Rattle.fit_laws.proofs.EntryOpen.{instances_name}
-use Rattle.one_tree_laws.specs.Rest.{Past}
+use Rattle.rest_laws.specs.of_one_tree_laws.Rest.{Past}
 use Rattle.fit_laws.specs.CalmAskingAsked.{IsDoable}
 use Rattle.fit_laws.proofs.CalmAskingAsking.{b, by_words, own, starts, used, uses_here, w, walked}
 use Rattle.fit_laws.proofs.CalmAskingDirectories.{Lacks, entries_dir}
@@ -94,7 +95,7 @@ wide n l = omega (arith, l)
 
 module _ (c : Config) (t : List Line) (past : Past c t) where
   written_fits : (f : FileId) (s : Stamp) → IsVector (vector_of (history c (entries t)) f s)
-  written_fits f s = record { sites = refl; counters = vector_fits (history c (entries t)) f s (λ site low. wide (counter (history c (entries t)) f s site) (counter_low c t past.followed past.rest.each f site low s)) 1 16 (omega arith) }
+  written_fits f s = record { sites = refl; counters = vector_fits (history c (entries t)) f s (λ site low. wide (counter (history c (entries t)) f s site) (counter_low c t past.followed past.rest.each f site low s)) 1 sites_max (omega arith) }
 
 -- ---- writes ----
 
@@ -104,12 +105,12 @@ write_place a b x y e = (cc, cc)
 denied_uses : (why : Refusal) (e : EpochId) (i : Serial) → begins.Denied why ≡ begins.Uses e i → ⊥
 denied_uses why e i k = cc
 
-short : (n : ℕ) → nat_lt 65536 n ≡ false → n ≤ 65536
+short : (n : ℕ) → nat_lt file_bytes_max n ≡ false → n ≤ file_bytes_max
 short n e = grind (arith, nat_tests)
 
 -- a write ends within the greatest size
-write_short : (table : ℕ → Option Descriptor) (now : Option EpochId) (words : Call) (e : EpochId) (i : Serial) (at : ℕ) (bytes : List ℕ) → beginning table now words ≡ begins.Uses e i → IsUse words (op.Write at bytes) → at + length bytes ≤ 65536
-write_short table now (call.Write fd a x) e i at bytes k u = subst (λ (n : ℕ). n + length bytes ≤ 65536) (sym (write_place at a bytes x u).0) (subst (λ (ys : List ℕ). a + length ys ≤ 65536) (sym (write_place at a bytes x u).1) (short (a + length x) (over (is_too_long (call.Write fd a x)) refl k)))
+write_short : (table : ℕ → Option Descriptor) (now : Option EpochId) (words : Call) (e : EpochId) (i : Serial) (at : ℕ) (bytes : List ℕ) → beginning table now words ≡ begins.Uses e i → IsUse words (op.Write at bytes) → at + length bytes ≤ file_bytes_max
+write_short table now (call.Write fd a x) e i at bytes k u = subst (λ (n : ℕ). n + length bytes ≤ file_bytes_max) (sym (write_place at a bytes x u).0) (subst (λ (ys : List ℕ). a + length ys ≤ file_bytes_max) (sym (write_place at a bytes x u).1) (short (a + length x) (over (is_too_long (call.Write fd a x)) refl k)))
   where
     over : (b : Bool) → is_too_long (call.Write fd a x) ≡ b → cond b (begins.Denied refusal.TooLong) (begins_on true now (table fd)) ≡ begins.Uses e i → is_too_long (call.Write fd a x) ≡ false
     over true is q = absurd (denied_uses refusal.TooLong e i q)
@@ -228,7 +229,7 @@ module _ (c : Config) (t : List Line) (past : Past c t) (e : EpochId) (ss : ℕ)
       u : Uses q.inside.accepted.words (b c t past.followed e q.call q.inside i (op.Write at bytes) q.asks q.at q.open_at.found) i (op.Write at bytes)
       u = used c t past.followed e q.call q.inside i (op.Write at bytes) q.asks q.at q.open_at.found tt
 
-      low : at + length bytes ≤ 65536
+      low : at + length bytes ≤ file_bytes_max
       low = write_short (starts c t past.followed e q.call q.inside i (op.Write at bytes) q.asks q.at q.open_at.found).table q.inside.accepted.epoch q.inside.accepted.words u.epoch i at bytes u.begins_so u.is_use
   doable (op.Probe name) seen q = as_is (op.Probe name) seen q.at.work.content (probe_acts name q.at.work.content (walked c t past.followed e q.call q.inside i (op.Probe name) q.asks q.at q.open_at.found (λ k. k))) (λ m. refl)
   doable (op.Find component) seen q = as_is (op.Find component) seen q.at.work.content (find_acts component q.at.work.content) (λ m. refl)

@@ -2,13 +2,13 @@
 use Rattle.std.proofs.Common.{◌≡◌, ℕ, ◌+◌, ◌≤◌, Bool, true, false, ◌&&◌, cond, nat_le, List, [], ◌∷◌, length, Option, Some, None, refl, sym, ◌∙◌, ap, subst, arith}
 use Rattle.std.proofs.lemmas.Bool.Decides.{nat_tests}
 use Rattle.locus_ids.specs.declared.ids.Kind.{Kind}
+use Rattle.locus_ids.specs.Sizes.{file_bytes_max, inodes_max}
 use Rattle.trace_book.specs.Names.{is_name}
 use Rattle.trace_book.specs.declared.operation.Op.TheVariants as op
 use Rattle.dir_format.specs.Contents.{entries_of, is_dir}
 use Rattle.dir_format.specs.Effects.{DirEffect, empty_effect, find_effect, insert_effect, probe_effect, remove_effect, rename_effect}
 use Rattle.dir_format.specs.Entries.{IsVector}
 use Rattle.dir_format.proofs.Tests.{both_back, in_range_back}
-use Rattle.file_content.specs.Contents.{max_bytes}
 use Rattle.file_effects.specs.Effects.{As, Deed, Effect, Removes, effect, in_directory, on_directory, writes}
 use Rattle.fit_laws.proofs.CalmAskingDirectories.{Lacks, empty_leaves, entries_dir, find_leaves, insert_passes, probe_passes, rename_passes}
 use Rattle.fit_laws.proofs.CalmAskingFound.{IsLivePair, remove_leaves}
@@ -23,10 +23,10 @@ in_dir content d h = (on_directory content d, ap (λ (b : Bool). cond b (Some (o
 worded : (b : Bool) (o : Option Effect) (e : Effect) → b ≡ true → o ≡ Some e → cond b o None ≡ Some e
 worded b o e h k = ap (λ (x : Bool). cond x o None) h ∙ k
 
-pub write_acts : (at : ℕ) (bytes content : List ℕ) → at + length bytes ≤ 65536 → Acts (As (op.Write at bytes)) content
+pub write_acts : (at : ℕ) (bytes content : List ℕ) → at + length bytes ≤ file_bytes_max → Acts (As (op.Write at bytes)) content
 write_acts at bytes content h = (writes content at bytes, ap (λ (b : Bool). cond b (Some (writes content at bytes)) None) (within (at + length bytes) h))
   where
-    within : (n : ℕ) → n ≤ 65536 → nat_le n max_bytes ≡ true
+    within : (n : ℕ) → n ≤ file_bytes_max → nat_le n file_bytes_max ≡ true
     within n le = grind (arith, nat_tests)
 
 pub probe_acts : (name content : List ℕ) → is_name name ≡ true → Acts (As (op.Probe name)) content
@@ -41,10 +41,10 @@ empty_acts content = in_dir content (empty_effect (entries_of content)) (empty_l
 pub rename_acts : (component name content : List ℕ) → is_name name ≡ true → Acts (As (op.Rename component name)) content
 rename_acts component name content h = (let k = in_dir content (rename_effect component name (entries_of content)) (rename_passes component name (entries_of content) (entries_dir content) h) in (k.0, worded (is_name name) (in_directory content (Some (rename_effect component name (entries_of content)))) k.0 h k.1))
 
-pub insert_acts : (name : List ℕ) (ino : ℕ) (kind : Kind) (content : List ℕ) → is_name name ≡ true → 1 ≤ ino → ino ≤ 1024 → Lacks ino (entries_of content) → Acts (As (op.Insert name ino kind)) content
+pub insert_acts : (name : List ℕ) (ino : ℕ) (kind : Kind) (content : List ℕ) → is_name name ≡ true → 1 ≤ ino → ino ≤ inodes_max → Lacks ino (entries_of content) → Acts (As (op.Insert name ino kind)) content
 insert_acts name ino kind content named low high lacks = (
   k.0,
-  worded (is_name name && (nat_le 1 ino && nat_le ino 1024)) (in_directory content (insert_effect name ino kind (entries_of content))) k.0 (both_back (is_name name) (nat_le 1 ino && nat_le ino 1024) named (in_range_back 1 1024 ino low high)) (ap (in_directory content) left.1 ∙ k.1),
+  worded (is_name name && (nat_le 1 ino && nat_le ino inodes_max)) (in_directory content (insert_effect name ino kind (entries_of content))) k.0 (both_back (is_name name) (nat_le 1 ino && nat_le ino inodes_max) named (in_range_back 1 inodes_max ino low high)) (ap (in_directory content) left.1 ∙ k.1),
 )
   where
     left : (d : DirEffect) × (insert_effect name ino kind (entries_of content) ≡ Some d) × (is_dir d.entries ≡ true)

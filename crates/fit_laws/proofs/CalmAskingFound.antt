@@ -9,6 +9,8 @@ use Rattle.std.specs.Fmt.{decimal}
 use Rattle.std.specs.List.{list_all, AllByRecursion}
 use Rattle.std.specs.Str.{bytes_eq}
 use Rattle.std.specs.declared.cmp.Ordering.TheVariants.{Less, Equal}
+use Rattle.role_steps.proofs.of_plain_facts.Numbers.{equal, equal_self}
+use Rattle.role_steps.proofs.of_plain_facts.Tests.{or_either}
 use Rattle.locus_ids.specs.declared.ids.Kind.{Kind}
 use Rattle.trace_book.specs.Names.{is_name, is_name_byte, plain_name}
 use Rattle.dir_format.specs.declared.entry.Entry.{Entry}
@@ -63,12 +65,8 @@ joined (c ∷ cs) digits = ap (λ (s : List ℕ). c ∷ s) (joined cs digits)
 plain_numbered : (d : Entry) → is_name d.name ≡ true → plain_name (numbered_name d) ≡ d.name
 plain_numbered d h = ap plain_name (joined d.name (decimal d.ino)) ∙ (plain_before d.name (64 ∷ decimal d.ino) (name_bytes d.name h) ∙ nothing_after d.name)
 
-either : (a b : Bool) → (a || b) ≡ true → (a ≡ true) ⊎ (b ≡ true)
-either true b h = inl refl
-either false b h = inr h
-
 meant_plain : (component : List ℕ) (d : Entry) → is_name d.name ≡ true → is_meant component d ≡ true → plain_name component ≡ d.name
-meant_plain component d named h = over (either (bytes_eq d.name component) (bytes_eq (numbered_name d) component) (both (is_live d) _ h).1)
+meant_plain component d named h = over (or_either (bytes_eq d.name component) (bytes_eq (numbered_name d) component) (both (is_live d) _ h).1)
   where
     over : (bytes_eq d.name component ≡ true) ⊎ (bytes_eq (numbered_name d) component ≡ true) → plain_name component ≡ d.name
     over (inl e) = ap plain_name (sym ((bytes_eq-Decides d.name component).0 e)) ∙ plain_itself d.name named
@@ -95,21 +93,15 @@ filtered_in p d (e ∷ es) m = over (filtered_in p d es) (p e) refl m
     over later true k (inr m) = (inr (later m).0, (later m).1)
     over later false k m = (inr (later m).0, (later m).1)
 
-number_of : (a b : ℕ) → (a == b) ≡ true → a ≡ b
-number_of a b h = grind (arith, nat_tests)
-
-same_number : (a : ℕ) → (a == a) ≡ true
-same_number a = grind (arith, nat_tests)
-
 less_equal : Equal ≡ Less → ⊥
 less_equal e = cc
 
 own_pair : (d : Entry) → is_pair d.name d.ino d ≡ true
-own_pair d = ap (λ (b : Bool). b && (d.ino == d.ino)) ((bytes_eq-Decides d.name d.name).1 refl) ∙ same_number d.ino
+own_pair d = ap (λ (b : Bool). b && (d.ino == d.ino)) ((bytes_eq-Decides d.name d.name).1 refl) ∙ equal_self d.ino
 
 pair_cmp : (d e : Entry) → is_pair d.name d.ino e ≡ true → entry_cmp e d ≡ Equal
 pair_cmp d e h = subst (λ (name : List ℕ). entry_cmp (record e { name = name }) d ≡ Equal) (sym ((bytes_eq-Decides e.name d.name).0 two.0))
-    (subst (λ (ino : ℕ). entry_cmp (record e { name = d.name; ino = ino }) d ≡ Equal) (sym (number_of e.ino d.ino two.1)) (tied_itself entry_total d))
+    (subst (λ (ino : ℕ). entry_cmp (record e { name = d.name; ino = ino }) d ≡ Equal) (sym (equal e.ino d.ino two.1)) (tied_itself entry_total d))
   where
     two : (bytes_eq e.name d.name ≡ true) × ((e.ino == d.ino) ≡ true)
     two = both (bytes_eq e.name d.name) (e.ino == d.ino) h

@@ -1,6 +1,7 @@
 -- The number that a call inserts was inserted by nobody before.
 use Rattle.std.proofs.Common.{◌≡◌, ℕ, ◌==◌, Bool, true, false, cond, List, [], ◌∷◌, ◌++◌, Option, Some, None, refl, sym, ◌∙◌, ap, subst, ◌⊎◌, inl, inr}
 use Rattle.std.specs.Option.{option_map, option_or}
+use Rattle.role_steps.proofs.of_plain_facts.Options.{some_same}
 use Rattle.locus_ids.specs.declared.config.Config.{Config}
 use Rattle.locus_ids.specs.declared.ids.CallId.{CallId}
 use Rattle.locus_ids.specs.declared.ids.EpochId.{EpochId}
@@ -30,13 +31,12 @@ use Rattle.tree_laws.specs.Past.{Printed, WasDone}
 use Rattle.tree_laws.specs.Printed.{entries, onto_entries}
 use Rattle.tree_laws.proofs.Alone.{asking}
 use Rattle.tree_laws.proofs.Answered.{asker_unnamed}
-use Rattle.tree_laws.proofs.Names.{some_is}
 use Rattle.tree_laws.proofs.Owing.{InGroup, found_every, in_group}
 use Rattle.tree_laws.proofs.Owners.{granted_same}
 use Rattle.order_laws.specs.Joining.{PacksAreOfSites}
-use Rattle.store_laws.proofs.AnswerAnswering.{acter_in}
-use Rattle.store_laws.proofs.AnswerDone.{done_named}
-use Rattle.one_tree_laws.proofs.RemovePlaced.{DoneSo, Taken, done_placed, taken_so}
+use Rattle.rest_laws.proofs.of_store_laws.AnswerAnswering.{acter_in}
+use Rattle.rest_laws.proofs.of_store_laws.AnswerDone.{done_named}
+use Rattle.rest_laws.proofs.of_one_tree_laws.RemovePlaced.{DoneSo, Taken, done_placed, taken_so}
 use Rattle.fit_laws.specs.EntryEntries.{InsertRecord, WasInserted}
 use Rattle.fit_laws.proofs.EntryActing.{inserted_first}
 use Rattle.fit_laws.proofs.EntryNamed.{trace_named}
@@ -127,7 +127,7 @@ not_inserted c packs t h e d inside i name ino kd asks x found was = again (subs
     by = inserted_by c packs t h x.grant.file.group ino was
 
     same : by.call ≡ d
-    same = some_is by.call d (sym by.first ∙ inserted_first c t h (trace_named c packs t h).calls packs e d inside i name ino kd asks x found)
+    same = some_same by.call d (sym by.first ∙ inserted_first c t h (trace_named c packs t h).calls packs e d inside i name ino kd asks x found)
 
     taken : Taken c t d (DoneSo by.inst (op.Insert by.name ino by.kind))
     taken = taken_so c t d (DoneSo by.inst (op.Insert by.name ino by.kind)) asks.nothing_waits (done_placed c t h (λ older k at j m p z q. done_named c older k at j m p z q) by.epoch d by.inst by.number (op.Insert by.name ino by.kind) by.result

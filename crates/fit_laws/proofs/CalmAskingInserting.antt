@@ -36,7 +36,7 @@ use Rattle.tree_model.specs.declared.accepted.Waiting.{Waiting}
 use Rattle.lawful_trace.specs.Progress.{is_packed_in}
 use Rattle.tree_laws.specs.Calls.{script_as}
 use Rattle.tree_laws.proofs.Holding.{Script}
-use Rattle.one_tree_laws.proofs.RemoveScripts.{Along, IsOr, along_same, goes, goes_walked, or_more, packed_is}
+use Rattle.rest_laws.proofs.of_one_tree_laws.RemoveScripts.{Along, IsOr, along_same, goes, goes_walked, or_more, packed_is}
 use Rattle.fit_laws.proofs.CalmAskingWords.{IsUse, Makes, WalkAsks, close_all_so, give_up_one, path_so, use_so}
 
 -- it inserts no entry

@@ -1,5 +1,7 @@
 -- What each line keeps of an open instance holds of it: it is granted, and goes on by its own operations and commits.
 use Rattle.std.proofs.Common.{◌≡◌, ℕ, Bool, true, false, List, [], ◌∷◌, Option, Some, None, refl, sym, ◌∙◌, ap, subst, ◌⊎◌, inl, inr}
+use Rattle.role_steps.proofs.of_plain_facts.Options.{none_some, some_same}
+use Rattle.role_steps.proofs.of_plain_facts.Tests.{true_false}
 use Rattle.locus_ids.specs.declared.config.Config.{Config}
 use Rattle.locus_ids.specs.declared.ids.CallId.{CallId}
 use Rattle.locus_ids.specs.declared.ids.EpochId.{EpochId}
@@ -25,19 +27,16 @@ use Rattle.tree_laws.specs.Past.{EndRecord, Printed}
 use Rattle.tree_laws.specs.Printed.{entries}
 use Rattle.tree_laws.proofs.Grants.{Had, before_record, open_named}
 use Rattle.tree_laws.proofs.Kinship.{Ends, GoesOnTold, StaysOpen, open_stays, tree_epoch_is}
-use Rattle.tree_laws.proofs.Names.{same_epoch_eq, same_serial_eq, same_epoch_own, same_serial_own, some_is, true_false}
+use Rattle.tree_laws.proofs.Names.{same_epoch_eq, same_serial_eq, same_epoch_own, same_serial_own}
 use Rattle.tree_laws.proofs.Opened.{ActsOn, CommitsOn, GrantsIt}
 use Rattle.order_laws.proofs.ProcessCounted.{acts_now}
 use Rattle.order_laws.proofs.ProcessOpen.{granted_begins}
-use Rattle.holding_laws.proofs.Distinct.{open_now}
-use Rattle.holding_laws.proofs.Released.{released_shut}
-use Rattle.store_laws.proofs.AnswerDone.{open_grant}
+use Rattle.rest_laws.proofs.of_holding_laws.Distinct.{open_now}
+use Rattle.rest_laws.proofs.of_holding_laws.Released.{released_shut}
+use Rattle.rest_laws.proofs.of_store_laws.AnswerDone.{open_grant}
 
 abbrev With : ℕ → Told → List Line → List Line
 With n x older = record { number = n; told = x } ∷ older
-
-none_some : {A : Type 0} (a : A) → ◌≡◌ {A = Option A} None (Some a) → ⊥
-none_some a e = cc
 
 -- the record names the instance of the epoch by an operation or a grant
 abbrev pub IsApart : EpochId → Serial → Record → Type 0
@@ -87,7 +86,7 @@ module _ (c : Config) (e : EpochId) (i : Serial) (Q : List Line → Instance →
     from y may apart x found old is = over (open_stays c older n y e i old may (open_named c older e i old is) is)
       where
         over : StaysOpen c older n y e i old ⊎ Ends e i y → Q (With n y older) x
-        over (inl s) = subst (Q (With n y older)) (some_is s.new x (sym s.found ∙ found)) (goes y may apart old s.new is s.goes)
+        over (inl s) = subst (Q (With n y older)) (some_same s.new x (sym s.found ∙ found)) (goes y may apart old s.new is s.goes)
         over (inr end) = absurd (released_shut c (With n y older) (may, h) e i x (inl (ended y end)) found)
 
     -- where the line doesn't grant it, it was open
@@ -116,7 +115,7 @@ module _ (c : Config) (e : EpochId) (i : Serial) (Q : List Line → Instance →
         r = says.Grant at d request inst m f stamp ss
 
         over : (a b : Bool) → same_epoch at e ≡ a → same_serial inst i ≡ b → Q (With n (Shown (says.Grant at d request inst m f stamp ss)) older) x
-        over true true p q = subst (Q (With n (Shown r) older)) (some_is _ x (sym began ∙ found)) (k.grants n older at d request inst m f stamp ss h may (same_epoch_eq at e p) (same_serial_eq inst i q))
+        over true true p q = subst (Q (With n (Shown r) older)) (some_same _ x (sym began ∙ found)) (k.grants n older at d request inst m f stamp ss h may (same_epoch_eq at e p) (same_serial_eq inst i q))
           where
             began : instance_now c (With n (Shown r) older) e i ≡ Some (opened (history c (entries older)) (grant_of (tree_of c at f.group (entries older)) d inst m f ss) stamp)
             began = subst (λ (w : EpochId). instance_now c (With n (Shown r) older) w i ≡ Some (opened (history c (entries older)) (grant_of (tree_of c at f.group (entries older)) d inst m f ss) stamp)) (same_epoch_eq at e p)
@@ -132,7 +131,7 @@ module _ (c : Config) (e : EpochId) (i : Serial) (Q : List Line → Instance →
         old = may.in_time.at
 
         over : (a b : Bool) → same_epoch at e ≡ a → same_serial inst i ≡ b → Q (With n (Shown (says.Act at inst number o result)) older) x
-        over true true p q = subst (Q (With n (Shown r) older)) (some_is _ x (sym there ∙ found)) (k.acts n older at inst number o result old h may is same here (before old here))
+        over true true p q = subst (Q (With n (Shown r) older)) (some_same _ x (sym there ∙ found)) (k.acts n older at inst number o result old h may is same here (before old here))
           where
             is : at ≡ e
             is = same_epoch_eq at e p

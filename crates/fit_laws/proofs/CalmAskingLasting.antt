@@ -1,6 +1,7 @@
 -- An open instance that owes nothing stands on a version, but for that of a mend.
 use Rattle.std.proofs.Common.{◌≡◌, ℕ, ◌==◌, Bool, true, false, not, cond, ◌&&◌, ◌||◌, List, [], ◌∷◌, Option, Some, None, refl, sym, ◌∙◌, ap, subst, ◌⊎◌, inl, inr}
 use Rattle.std.specs.Option.{is_none}
+use Rattle.role_steps.proofs.of_plain_facts.Tests.{and_first, and_second, or_first, true_false}
 use Rattle.locus_ids.specs.declared.config.Config.{Config}
 use Rattle.locus_ids.specs.declared.ids.CallId.{CallId}
 use Rattle.locus_ids.specs.declared.ids.EpochId.{EpochId}
@@ -27,9 +28,8 @@ use Rattle.tree_model.specs.Working.{effect_on, operated_by, work_after}
 use Rattle.tree_laws.specs.Following.{IsFollowed}
 use Rattle.tree_laws.specs.Instances.{instance_now}
 use Rattle.tree_laws.specs.Printed.{entries}
-use Rattle.tree_laws.proofs.Names.{true_false}
 use Rattle.order_laws.proofs.Standing.{acted_keeps}
-use Rattle.holding_laws.proofs.Turning.{acted_last}
+use Rattle.rest_laws.proofs.of_holding_laws.Turning.{acted_last}
 use Rattle.fit_laws.proofs.CalmAskingInstances.{Keeps, keeps}
 
 -- it is a mend's, or is owed from its beginning
@@ -39,14 +39,6 @@ Begins x = (x.grant.mode ≡ mode.Mend) ⊎ ((begins_owing x.grant.mode ≡ true
 abbrev Lasts : List Line → Instance → Type 0
 Lasts t x = x.work.last ≡ None → Begins x
 
-second : (a b : Bool) → (a && b) ≡ true → b ≡ true
-second true b e = e
-second false b e = absurd (true_false (sym e))
-
-first : (a b : Bool) → (a && b) ≡ true → a ≡ true
-first true b e = refl
-first false b e = e
-
 -- ---- as it is granted ----
 
 none_only : (kept : List Stamp) → is_only kept None ≡ true → ⊥
@@ -55,17 +47,13 @@ none_only (a ∷ []) e = true_false (sym e)
 none_only (a ∷ b ∷ others) e = true_false (sym e)
 
 placed : (h : List Version) (t : TreeState) (call : CallId) (m : Mode) (f : FileId) (ss : ℕ) → is_placed h t call m f None ss ≡ true → (m ≡ mode.Mend) ⊎ (begins_owing m ≡ true)
-placed h t call mode.Read f ss e = absurd (none_only (kept_of h t f) (first (is_only (kept_of h t f) None) (same_version (held_at t ss f.ino) None) e))
-placed h t call mode.Write f ss e = absurd (none_only (kept_of h t f) (first (is_only (kept_of h t f) None) (same_version (held_at t ss f.ino) None) e))
+placed h t call mode.Read f ss e = absurd (none_only (kept_of h t f) (and_first (is_only (kept_of h t f) None) (same_version (held_at t ss f.ino) None) e))
+placed h t call mode.Write f ss e = absurd (none_only (kept_of h t f) (and_first (is_only (kept_of h t f) None) (same_version (held_at t ss f.ino) None) e))
 placed h t call mode.Resolve f ss e = inr refl
 placed h t call mode.Mend f ss e = inl refl
 placed h t call mode.Make f ss e = inr refl
 
 -- ---- by an operation ----
-
-or_true : (a b : Bool) → a ≡ true → (a || b) ≡ true
-or_true true b e = refl
-or_true false b e = absurd (true_false (sym e))
 
 owes_still : (result : Outcome) (o : Option Effect) (w : Work) → w.owes ≡ true → (operated_by result o w).owes ≡ true
 owes_still result None w e = e
@@ -73,7 +61,7 @@ owes_still result (Some x) w e = over (is_refusal result)
   where
     over : (b : Bool) → (cond b (counted w) (carried_out x w)).owes ≡ true
     over true = e
-    over false = or_true w.owes x.counts e
+    over false = or_first w.owes x.counts e
 
 aborted_owes : (m : Mode) (o : Option Stamp) → begins_owing m ≡ true → o ≡ None → (begins_owing m && is_none o) ≡ true
 aborted_owes m o e k = ap (λ (z : Option Stamp). begins_owing m && is_none z) k ∙ ap (λ (b : Bool). b && true) e
@@ -112,7 +100,7 @@ lasts c e i = record {
     begun : (t : TreeState) (h : List Version) (d : CallId) (inst : Serial) (m : Mode) (f : FileId) (stamp : Option Stamp) (ss : ℕ) → (t.started && (is_none (open_refusal h t m d f) && ((inst.us == d.site) && (not (is_granted t inst) && is_placed h t d m f stamp ss)))) ≡ true → stamp ≡ None →
         (m ≡ mode.Mend) ⊎ ((begins_owing m ≡ true) × ((begins_owing m ≡ true) × (◌≡◌ {A = Option Stamp} None None)))
     begun t h d inst m f stamp ss gives none = over (placed h t d m f ss (subst (λ (o : Option Stamp). is_placed h t d m f o ss ≡ true) none
-        (second (not (is_granted t inst)) (is_placed h t d m f stamp ss) (second (inst.us == d.site) _ (second (is_none (open_refusal h t m d f)) _ (second t.started _ gives))))))
+        (and_second (not (is_granted t inst)) (is_placed h t d m f stamp ss) (and_second (inst.us == d.site) _ (and_second (is_none (open_refusal h t m d f)) _ (and_second t.started _ gives))))))
       where
         over : (m ≡ mode.Mend) ⊎ (begins_owing m ≡ true) → (m ≡ mode.Mend) ⊎ ((begins_owing m ≡ true) × ((begins_owing m ≡ true) × (◌≡◌ {A = Option Stamp} None None)))
         over (inl k) = inl k

@@ -1,5 +1,6 @@
 -- An instance that a descriptor names isn't a mend's.
 use Rattle.std.proofs.Common.{◌≡◌, ℕ, Bool, true, false, cond, List, [], ◌∷◌, Option, Some, None, refl, sym, ◌∙◌, ap, subst, ◌⊎◌, inl, inr}
+use Rattle.role_steps.proofs.of_plain_facts.Tests.{true_false}
 use Rattle.locus_ids.specs.declared.config.Config.{Config}
 use Rattle.locus_ids.specs.declared.config.Mount.{Mount}
 use Rattle.locus_ids.specs.declared.ids.CallId.{CallId}
@@ -30,14 +31,13 @@ use Rattle.tree_laws.specs.Following.{IsFollowed}
 use Rattle.tree_laws.specs.Instances.{instance_now}
 use Rattle.tree_laws.specs.Printed.{entries}
 use Rattle.tree_laws.proofs.Descriptors.{IsUser}
-use Rattle.tree_laws.proofs.Names.{true_false}
 use Rattle.order_laws.proofs.ProcessGranting.{GrantIs, granted_is}
 use Rattle.order_laws.proofs.ProcessHad.{begun_user}
-use Rattle.store_laws.proofs.Places.{open_is}
-use Rattle.store_laws.proofs.ScriptFitted.{Began, began}
-use Rattle.store_laws.proofs.ScriptLasting.{OpensSo, open_so}
-use Rattle.store_laws.proofs.ScriptNaming.{Opens, script_by}
-use Rattle.one_tree_laws.proofs.RemovePlaced.{GrantedSo, Placed, granted_placed}
+use Rattle.rest_laws.proofs.of_store_laws.Places.{open_is}
+use Rattle.rest_laws.proofs.of_store_laws.ScriptFitted.{Began, began}
+use Rattle.rest_laws.proofs.of_store_laws.ScriptLasting.{OpensSo, open_so}
+use Rattle.rest_laws.proofs.of_store_laws.ScriptNaming.{Opens, script_by}
+use Rattle.rest_laws.proofs.of_one_tree_laws.RemovePlaced.{GrantedSo, Placed, granted_placed}
 use Rattle.fit_laws.proofs.EntryNamers.{named_opened}
 
 -- an open asks its own open alone, wherever it began

@@ -32,8 +32,8 @@ use Rattle.tree_model.specs.declared.accepted.Waiting.{Waiting}
 use Rattle.lawful_trace.specs.Progress.{is_packed_in}
 use Rattle.tree_laws.specs.Calls.{script_as}
 use Rattle.tree_laws.proofs.Holding.{Script}
-use Rattle.one_tree_laws.proofs.RemoveOthers.{NotRemove, close_all_none, give_up_one, give_up_two, others_none, uses_none}
-use Rattle.one_tree_laws.proofs.RemoveScripts.{Along, IsOr, along_more, along_same, goes, goes_walked, packed_is}
+use Rattle.rest_laws.proofs.of_one_tree_laws.RemoveOthers.{NotRemove, close_all_none, give_up_one, give_up_two, others_none, uses_none}
+use Rattle.rest_laws.proofs.of_one_tree_laws.RemoveScripts.{Along, IsOr, along_more, along_same, goes, goes_walked, packed_is}
 
 -- it leaves the content of a directory
 abbrev pub Leaves : Op → Type 0

@@ -1,6 +1,7 @@
 -- What a call was answered was told: each answer that it has heard comes of a record that was a step of it.
 use Rattle.std.proofs.Common.{◌≡◌, ℕ, ◌+◌, ◌-◌, Bool, true, false, cond, List, [], ◌∷◌, ◌++◌, length, take, drop, Option, Some, None, refl, sym, ◌∙◌, ap, subst, ◌⊎◌, inl, inr, append_assoc}
 use Rattle.std.proofs.lemmas.List.{take-append-drop}
+use Rattle.role_steps.proofs.of_plain_facts.Options.{some_same}
 use Rattle.locus_ids.specs.declared.config.Config.{Config}
 use Rattle.locus_ids.specs.declared.ids.CallId.{CallId}
 use Rattle.locus_ids.specs.declared.ids.EpochId.{EpochId}
@@ -26,7 +27,6 @@ use Rattle.tree_laws.proofs.Asking.{StepRecord, heard_record}
 use Rattle.tree_laws.proofs.Awaiting.{by_own, by_owner}
 use Rattle.tree_laws.proofs.Fresh.{IsNamed}
 use Rattle.tree_laws.proofs.Hearing.{asking_named, take_own}
-use Rattle.tree_laws.proofs.Names.{some_is}
 use Rattle.tree_laws.proofs.Scripts.{in_stays, named_stays, script_stays}
 
 abbrev With : ℕ → Told → List Line → List Line
@@ -97,8 +97,8 @@ pub step_asks : (c : Config) (older : List Line) (r : Record) (d : CallId) → M
 step_asks c older (says.Look e call request f w result) d may step = (want.Look f w, subst (λ (y : CallId). Asks c older y (want.Look f w)) step may.in_time.asks)
 step_asks c older (says.Grant e call request i m f stamp ss) d may step = (may.in_time.opens.asks.wanted, subst (λ (y : CallId). Asks c older y may.in_time.opens.asks.wanted) step may.in_time.opens.asks.asks)
 step_asks c older (says.Refuse e call request i m f why) d may step = (may.in_time.opens.asks.wanted, subst (λ (y : CallId). Asks c older y may.in_time.opens.asks.wanted) step may.in_time.opens.asks.asks)
-step_asks c older (says.Act e i n o result) d may step = (want.Do i o, subst (λ (y : CallId). Asks c older y (want.Do i o)) (some_is may.in_time.call d (sym may.in_time.owner ∙ step)) may.in_time.asks)
-step_asks c older (says.Release e i f stamp) d may step = (want.Close i, subst (λ (y : CallId). Asks c older y (want.Close i)) (some_is may.in_time.call d (sym may.in_time.owner ∙ step)) may.in_time.asks)
+step_asks c older (says.Act e i n o result) d may step = (want.Do i o, subst (λ (y : CallId). Asks c older y (want.Do i o)) (some_same may.in_time.call d (sym may.in_time.owner ∙ step)) may.in_time.asks)
+step_asks c older (says.Release e i f stamp) d may step = (want.Close i, subst (λ (y : CallId). Asks c older y (want.Close i)) (some_same may.in_time.call d (sym may.in_time.owner ∙ step)) may.in_time.asks)
 step_asks c older _ d may step = absurd step
 
 -- it hears one answer more

@@ -1,5 +1,8 @@
 -- What an instance has found stands in its content, while nothing is done on it that changes the content.
 use Rattle.std.proofs.Common.{◌≡◌, ℕ, ◌+◌, ◌==◌, nat_lt, Bool, true, false, cond, ◌&&◌, List, [], ◌∷◌, length, Option, Some, None, refl, sym, ◌∙◌, ap, subst, ◌⊎◌, inl, inr}
+use Rattle.role_steps.proofs.of_plain_facts.Numbers.{equal}
+use Rattle.role_steps.proofs.of_plain_facts.Options.{some_same}
+use Rattle.role_steps.proofs.of_plain_facts.Tests.{and_first, and_second, true_false}
 use Rattle.locus_ids.specs.declared.config.Config.{Config}
 use Rattle.locus_ids.specs.declared.ids.EpochId.{EpochId}
 use Rattle.locus_ids.specs.declared.ids.Kind.{Kind}
@@ -36,21 +39,12 @@ use Rattle.tree_laws.specs.Following.{IsFollowed, MayTell}
 use Rattle.tree_laws.specs.Instances.{instance_now}
 use Rattle.tree_laws.specs.Past.{ActRecord, Printed, WasDone, WasNamed}
 use Rattle.tree_laws.specs.Printed.{entries}
-use Rattle.tree_laws.proofs.Names.{some_is, test_same, true_false}
-use Rattle.store_laws.proofs.AnswerDone.{done_named}
+use Rattle.rest_laws.proofs.of_store_laws.AnswerDone.{done_named}
 use Rattle.fit_laws.proofs.CalmAskingInstances.{IsApartTold, Keeps, keeps}
 use Rattle.fit_laws.proofs.CalmAskingRemoving.{Leaves}
 
 abbrev With : ℕ → Told → List Line → List Line
 With n x older = record { number = n; told = x } ∷ older
-
-first : (a b : Bool) → (a && b) ≡ true → a ≡ true
-first true b e = refl
-first false b e = e
-
-second : (a b : Bool) → (a && b) ≡ true → b ≡ true
-second true b e = e
-second false b e = absurd (true_false (sym e))
 
 no_effect : (e : Effect) → ◌≡◌ {A = Option Effect} None (Some e) → ⊥
 no_effect e k = cc
@@ -70,7 +64,7 @@ uncounted_same : (content : List ℕ) (d : DirEffect) (e : Effect) → d.counts 
 uncounted_same content d e same k = over (is_dir d.entries) k
   where
     over : (b : Bool) → cond b (Some (on_directory content d)) None ≡ Some e → e.content ≡ content
-    over true q = ap (λ (x : Effect). x.content) (sym (some_is (on_directory content d) e q)) ∙ ap (λ (b : Bool). cond b (dir_bytes d.entries) content) same
+    over true q = ap (λ (x : Effect). x.content) (sym (some_same (on_directory content d) e q)) ∙ ap (λ (b : Bool). cond b (dir_bytes d.entries) content) same
     over false q = absurd (no_effect e q)
 
 operated_same : (result : Outcome) (o : Option Effect) (w : Work) → ((e : Effect) → o ≡ Some e → e.content ≡ w.content) → (operated_by result o w).content ≡ w.content
@@ -105,7 +99,7 @@ roomed free changed e ino k h = over (is_refusal e.result) (nat_lt free (pages_n
     over false false false q = q
 
 found_is : (component content : List ℕ) (r : LookResult) (ino : ℕ) (k : Kind) → same_outcome (find_by component (entries_of content) r).outcome (outcome.Found ino k) ≡ true → r ≡ look.Found ino k
-found_is component content (look.Found i l) ino k h = ap (λ (n : ℕ). look.Found n l) (test_same i ino (first (i == ino) (same_kind l k) h)) ∙ ap (look.Found ino) (kind_same l k (second (i == ino) (same_kind l k) h))
+found_is component content (look.Found i l) ino k h = ap (λ (n : ℕ). look.Found n l) (equal i ino (and_first (i == ino) (same_kind l k) h)) ∙ ap (look.Found ino) (kind_same l k (and_second (i == ino) (same_kind l k) h))
 found_is component content look.Absent ino k h = absurd (true_false (sym h))
 found_is component content (look.Ambiguous a b) ino k h = absurd (true_false (sym h))
 
@@ -149,7 +143,7 @@ module _ (c : Config) (e : EpochId) (i : Serial) where
       here = subst (λ (w : EpochId). instance_now c older w inst ≡ Some old) (sym is) (subst (λ (j : Serial). instance_now c older e j ≡ Some old) (sym same) found)
 
       gave : is_given (result_on h t o old) result ≡ true
-      gave = second (number == old.work.ops + 1) (is_given (result_on h t o old) result) (subst (λ (z : Option Instance). instance_gives h t number o result z ≡ true) here may.row.gives)
+      gave = and_second (number == old.work.ops + 1) (is_given (result_on h t o old) result) (subst (λ (z : Option Instance). instance_gives h t number o result z ≡ true) here may.row.gives)
 
       over : Printed (ActRecord e i m (op.Find component) (outcome.Found ino kd)) older (Shown (says.Act at inst number o result)) ⊎ WasDone older e i m (op.Find component) (outcome.Found ino kd) → lookup (entries_of old.work.content) component ≡ look.Found ino kd
       over (inl p) = given_found (free_pages h t old.grant.ss) old.work.changed component old.work.content ino kd

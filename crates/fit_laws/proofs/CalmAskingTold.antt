@@ -1,5 +1,7 @@
 -- What told an answer: the result of an operation was done so, and an open to write was granted so.
 use Rattle.std.proofs.Common.{◌≡◌, ℕ, Bool, true, false, cond, List, [], ◌∷◌, ◌++◌, Option, Some, None, refl, sym, ◌∙◌, ap, subst, ◌⊎◌, inl, inr}
+use Rattle.role_steps.proofs.of_plain_facts.Options.{some_same}
+use Rattle.role_steps.proofs.of_plain_facts.Tests.{true_false}
 use Rattle.locus_ids.specs.declared.config.Config.{Config}
 use Rattle.locus_ids.specs.declared.ids.CallId.{CallId}
 use Rattle.locus_ids.specs.declared.ids.EpochId.{EpochId}
@@ -34,9 +36,8 @@ use Rattle.tree_laws.specs.Printed.{entries}
 use Rattle.tree_laws.proofs.Asking.{StepRecord}
 use Rattle.tree_laws.proofs.Awaiting.{by_own, by_owner, last_same}
 use Rattle.tree_laws.proofs.Hearing.{Hears, hears, wants_as_asked}
-use Rattle.tree_laws.proofs.Names.{some_is, true_false}
 use Rattle.order_laws.proofs.Standing.{same_file_eq}
-use Rattle.store_laws.proofs.AnswerAnswering.{acter_in}
+use Rattle.rest_laws.proofs.of_store_laws.AnswerAnswering.{acter_in}
 use Rattle.fit_laws.proofs.CalmAskingSources.{Source, stands}
 
 abbrev With : ℕ → Told → List Line → List Line
@@ -84,7 +85,7 @@ module _ (c : Config) (n : ℕ) (older : List Line) (d : CallId) (ys : Answers) 
   }
     where
       owner : may.in_time.call ≡ d
-      owner = some_is may.in_time.call d (sym may.in_time.owner ∙ step)
+      owner = some_same may.in_time.call d (sym may.in_time.owner ∙ step)
 
       asks : Asks c older d (want.Do i q)
       asks = subst (λ (y : CallId). Asks c older y (want.Do i q)) owner may.in_time.asks
@@ -96,7 +97,7 @@ module _ (c : Config) (n : ℕ) (older : List Line) (d : CallId) (ys : Answers) 
       (sym (asked may.in_time.opens.asks.wanted (subst (λ (y : CallId). Asks c older y may.in_time.opens.asks.wanted) step may.in_time.opens.asks.asks)) ∙ q))
   act_told (says.Refuse e call request i m f why) may step new p o q = absurd (opens_do c may.in_time.opens.asks.wanted may.in_time.opens.asked may.in_time.opens.it p o may.in_time.opens.asks.opening_is
       (sym (asked may.in_time.opens.asks.wanted (subst (λ (y : CallId). Asks c older y may.in_time.opens.asks.wanted) step may.in_time.opens.asks.asks)) ∙ q))
-  act_told (says.Release e i f stamp) may step new p o q = absurd (close_do i p o (sym (asked (want.Close i) (subst (λ (y : CallId). Asks c older y (want.Close i)) (some_is may.in_time.call d (sym may.in_time.owner ∙ step)) may.in_time.asks)) ∙ q))
+  act_told (says.Release e i f stamp) may step new p o q = absurd (close_do i p o (sym (asked (want.Close i) (subst (λ (y : CallId). Asks c older y (want.Close i)) (some_same may.in_time.call d (sym may.in_time.owner ∙ step)) may.in_time.asks)) ∙ q))
   act_told _ may step new p o q = absurd step
 
 -- the operation was done, and its result is the answer
@@ -189,9 +190,9 @@ module _ (c : Config) (n : ℕ) (older : List Line) (h : IsFollowed c older) (d 
     where
       asks : Asks c older d may.in_time.opens.asks.wanted
       asks = subst (λ (y : CallId). Asks c older y may.in_time.opens.asks.wanted) step may.in_time.opens.asks.asks
-  open_told (says.Act at i number q result) may step new = absurd (do_open i q f how.Write (wants (want.Do i q) (subst (λ (y : CallId). Asks c older y (want.Do i q)) (some_is may.in_time.call d (sym may.in_time.owner ∙ step)) may.in_time.asks)))
+  open_told (says.Act at i number q result) may step new = absurd (do_open i q f how.Write (wants (want.Do i q) (subst (λ (y : CallId). Asks c older y (want.Do i q)) (some_same may.in_time.call d (sym may.in_time.owner ∙ step)) may.in_time.asks)))
   open_told (says.Look at call request g w result) may step new = absurd (look_open g w f how.Write (wants (want.Look g w) (subst (λ (y : CallId). Asks c older y (want.Look g w)) step may.in_time.asks)))
-  open_told (says.Release at i g stamp) may step new = absurd (close_open i f how.Write (wants (want.Close i) (subst (λ (y : CallId). Asks c older y (want.Close i)) (some_is may.in_time.call d (sym may.in_time.owner ∙ step)) may.in_time.asks)))
+  open_told (says.Release at i g stamp) may step new = absurd (close_open i f how.Write (wants (want.Close i) (subst (λ (y : CallId). Asks c older y (want.Close i)) (some_same may.in_time.call d (sym may.in_time.owner ∙ step)) may.in_time.asks)))
   open_told _ may step new = absurd step
 
 -- the open of the file was granted to the call

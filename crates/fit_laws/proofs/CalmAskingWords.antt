@@ -1,5 +1,6 @@
 -- What scripts ask of instances: names that may be given, and writes that end within the greatest size.
 use Rattle.std.proofs.Common.{◌≡◌, ℕ, ◌+◌, ◌≤◌, Bool, true, false, not, ◌&&◌, cond, nat_lt, List, [], ◌∷◌, length, Option, Some, None, refl, sym, ◌∙◌, ap, subst, ◌⊎◌, inl, inr, arith}
+use Rattle.role_steps.proofs.of_plain_facts.Tests.{and_first, and_second, not_false}
 use Rattle.locus_ids.specs.declared.config.Mount.{Mount}
 use Rattle.locus_ids.specs.declared.ids.EpochId.{EpochId}
 use Rattle.locus_ids.specs.declared.ids.FileId.{FileId}
@@ -226,27 +227,12 @@ module _ (words : Call) where
 
 -- ---- all calls that walk ----
 
-first : (a b : Bool) → (a && b) ≡ true → a ≡ true
-first true b e = refl
-first false b e = e
-
-second : (a b : Bool) → (a && b) ≡ true → b ≡ true
-second true b e = e
-second false b e = absurd (apart e)
-  where
-    apart : false ≡ true → ⊥
-    apart e = cc
-
-allowed : (a : Bool) → not a ≡ false → a ≡ true
-allowed true e = refl
-allowed false e = sym e
-
 pub path_so : (mounts : List Mount) (free : Option ℕ) (words : Call) → is_badly_named mounts words ≡ false → (xs : List Answer) → WalkAsks words (path_wants mounts free words xs)
-path_so mounts free (call.Create path sites) h xs = changes_so (call.Create path sites) mounts path _ (λ g p rest. probes_so (call.Create path sites) p (last_of (components path)) kind.File (second (names_entry mounts path) (is_name (last_of (components path))) (allowed (names_new mounts path) h)) tt g sites rest) xs
-path_so mounts free (call.MakeDir path) h xs = changes_so (call.MakeDir path) mounts path _ (λ g p rest. probes_so (call.MakeDir path) p (last_of (components path)) kind.Dir (second (names_entry mounts path) (is_name (last_of (components path))) (allowed (names_new mounts path) h)) tt g None rest) xs
+path_so mounts free (call.Create path sites) h xs = changes_so (call.Create path sites) mounts path _ (λ g p rest. probes_so (call.Create path sites) p (last_of (components path)) kind.File (and_second (names_entry mounts path) (is_name (last_of (components path))) (not_false (names_new mounts path) h)) tt g sites rest) xs
+path_so mounts free (call.MakeDir path) h xs = changes_so (call.MakeDir path) mounts path _ (λ g p rest. probes_so (call.MakeDir path) p (last_of (components path)) kind.Dir (and_second (names_entry mounts path) (is_name (last_of (components path))) (not_false (names_new mounts path) h)) tt g None rest) xs
 path_so mounts free (call.Unlink path) h xs = changes_so (call.Unlink path) mounts path _ (λ g p rest. finds_so (call.Unlink path) kind.File p g _ rest) xs
 path_so mounts free (call.RemoveDir path) h xs = changes_so (call.RemoveDir path) mounts path _ (λ g p rest. finds_so (call.RemoveDir path) kind.Dir p g _ rest) xs
-path_so mounts free (call.Rename path name) h xs = changes_so (call.Rename path name) mounts path _ (λ g p rest. renames_so (call.Rename path name) p _ name (first (is_name name) (not (is_mount_name mounts path name)) (second (names_entry mounts path) (is_name name && not (is_mount_name mounts path name)) (allowed (names_entry mounts path && (is_name name && not (is_mount_name mounts path name))) h))) rest) xs
+path_so mounts free (call.Rename path name) h xs = changes_so (call.Rename path name) mounts path _ (λ g p rest. renames_so (call.Rename path name) p _ name (and_first (is_name name) (not (is_mount_name mounts path name)) (and_second (names_entry mounts path) (is_name name && not (is_mount_name mounts path name)) (not_false (names_entry mounts path && (is_name name && not (is_mount_name mounts path name))) h))) rest) xs
 path_so mounts free (call.List path) h xs = go_so (call.List path) mounts (components path) xs _ (λ f k rest. lists_so (call.List path) mounts _ f k rest)
 path_so mounts free (call.Stat path) h xs = go_so (call.Stat path) mounts (components path) xs _ (λ f k rest. describes_so (call.Stat path) f k rest)
 path_so mounts free (call.Open path how) h xs = go_so (call.Open path how) mounts (components path) xs _ (λ f k rest. opens_file_so (call.Open path how) how free f k rest)

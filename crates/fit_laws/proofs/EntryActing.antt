@@ -1,5 +1,8 @@
 -- An insert names a file that stands, of the directory's group, and its kind; and what is written or cut is a file that is no directory.
 use Rattle.std.proofs.Common.{◌≡◌, ℕ, ◌==◌, Bool, true, false, cond, List, [], ◌∷◌, ◌++◌, append-nil, append_assoc, Option, Some, None, refl, sym, ◌∙◌, ap, subst, ◌⊎◌, inl, inr}
+use Rattle.role_steps.proofs.of_plain_facts.Numbers.{equal}
+use Rattle.role_steps.proofs.of_plain_facts.Options.{some_same}
+use Rattle.role_steps.proofs.of_plain_facts.Tests.{true_false}
 use Rattle.locus_ids.specs.declared.config.Config.{Config}
 use Rattle.locus_ids.specs.declared.ids.CallId.{CallId}
 use Rattle.locus_ids.specs.declared.ids.EpochId.{EpochId}
@@ -46,19 +49,18 @@ use Rattle.tree_laws.proofs.Answered.{asker_unnamed}
 use Rattle.tree_laws.proofs.Descriptors.{IsUser, are_users}
 use Rattle.tree_laws.proofs.Fresh.{IsNamed}
 use Rattle.tree_laws.proofs.Holding.{Script}
-use Rattle.tree_laws.proofs.Names.{some_is, test_same, true_false}
 use Rattle.order_laws.specs.Joining.{PacksAreOfSites}
 use Rattle.order_laws.proofs.Standing.{same_file_eq}
 use Rattle.order_laws.proofs.ProcessBegun.{comes_from}
 use Rattle.order_laws.proofs.ProcessGranting.{GrantIs, granted_is}
-use Rattle.store_laws.proofs.ScriptFitted.{Began, began}
-use Rattle.store_laws.proofs.ScriptNaming.{Opens, script_by}
-use Rattle.store_laws.proofs.Places.{GrantedSo as IsGrantedSo, instance_granted}
-use Rattle.store_laws.proofs.AnswerAnswering.{acter_in}
-use Rattle.store_laws.proofs.AnswerAskers.{op_had}
-use Rattle.store_laws.proofs.AnswerDone.{open_grant}
-use Rattle.one_tree_laws.proofs.RemovePlaced.{GrantedSo, IsPlaced, Placed, Taken, granted_placed, taken_so}
-use Rattle.one_tree_laws.proofs.RemoveScripts.{Along, IsOr, along_at, along_same}
+use Rattle.rest_laws.proofs.of_store_laws.ScriptFitted.{Began, began}
+use Rattle.rest_laws.proofs.of_store_laws.ScriptNaming.{Opens, script_by}
+use Rattle.rest_laws.proofs.of_store_laws.Places.{GrantedSo as IsGrantedSo, instance_granted}
+use Rattle.rest_laws.proofs.of_store_laws.AnswerAnswering.{acter_in}
+use Rattle.rest_laws.proofs.of_store_laws.AnswerAskers.{op_had}
+use Rattle.rest_laws.proofs.of_store_laws.AnswerDone.{open_grant}
+use Rattle.rest_laws.proofs.of_one_tree_laws.RemovePlaced.{GrantedSo, IsPlaced, Placed, Taken, granted_placed, taken_so}
+use Rattle.rest_laws.proofs.of_one_tree_laws.RemoveScripts.{Along, IsOr, along_at, along_same}
 use Rattle.fit_laws.specs.EntryEntries.{NamesFile}
 use Rattle.fit_laws.proofs.EntryFacts.{CloseAnswered, IsAnswered, IsKnown, IsPlain, MakeAnswered, WasEnded, WasMade, named_known, roots_known}
 use Rattle.fit_laws.proofs.EntryHeard.{Heard}
@@ -109,7 +111,7 @@ opens_group group mode.Resolve f (want.Open g (how.Resolve site)) e k = ap (λ (
 opens_group group mode.Resolve f _ e k = absurd (true_false (sym e))
 opens_group group mode.Mend f (want.OpenToMend g) e k = ap (λ (x : FileId). x.group) (sym (same_file_eq g f e)) ∙ k
 opens_group group mode.Mend f _ e k = absurd (true_false (sym e))
-opens_group group mode.Make f (want.Make g kd sites) e k = sym (test_same g f.group e) ∙ k
+opens_group group mode.Make f (want.Make g kd sites) e k = sym (equal g f.group e) ∙ k
 opens_group group mode.Make f _ e k = absurd (true_false (sym e))
 
 -- what an open call opens is a file
@@ -200,14 +202,14 @@ module _ (c : Config) (t : List Line) (h : IsFollowed c t) (heard : (d : CallId)
     acter_is n d o owner asks = over (has_named (entries t) g) refl
       where
         used : has_named (entries t) g ≡ true → IsUser (entries t) e i d → (granted_to (entries t) e i ≡ Some d) ⊎ (begun (entries t) d ≡ Some (begins.Uses e i)) → (begun (entries t) d ≡ Some (begins.Uses e i)) × IsPlain c t y.grant.file
-        used has u (inl own) = absurd (true_false (sym (subst (λ (z : CallId). has_named (entries t) z ≡ true) (some_is u.for.granted d (sym u.for.is_granted ∙ own)) u.for.answered) ∙ asker_unnamed c t d h (asking c t d (want.Do i o) asks)))
+        used has u (inl own) = absurd (true_false (sym (subst (λ (z : CallId). has_named (entries t) z ≡ true) (some_same u.for.granted d (sym u.for.is_granted ∙ own)) u.for.answered) ∙ asker_unnamed c t d h (asking c t d (want.Do i o) asks)))
         used has u (inr b) = (b, named_plain has)
 
         over : (b : Bool) → has_named (entries t) g ≡ b → ((d ≡ g) × (begun (entries t) d ≡ Some begins.Walks)) ⊎ ((begun (entries t) d ≡ Some (begins.Uses e i)) × IsPlain c t y.grant.file)
         over false k = inl (sym same, subst (λ (z : CallId). begun (entries t) z ≡ Some begins.Walks) same grantee_walks)
           where
             same : g ≡ d
-            same = some_is g d (owned n d owner false k)
+            same = some_same g d (owned n d owner false k)
         over true k = (let u : IsUser (entries t) e i d = numbered_every (IsUser (entries t) e i) (uses_of (entries t) e i) n d (are_users c t h e i).uses (owned n d owner true k) in
             inr (used k u (comes_from c t h e d i u.inside (op_had c t d i o h (u.inside.accepted, u.inside.named) asks.asked))))
 
@@ -241,7 +243,7 @@ module _ (c : Config) (t : List Line) (h : IsFollowed c t) (heard : (d : CallId)
         over (inr q) = absurd (asks_now d inside.accepted (begins.Uses e i) inside.named q (want.Do i (op.Insert name ino k)) asks.asked)
 
     opener : y.grant.call ≡ d
-    opener = some_is y.grant.call d (sym (granted e i y found) ∙ owned_by)
+    opener = some_same y.grant.call d (sym (granted e i y found) ∙ owned_by)
 
     began_so : Began t d inside.accepted
     began_so = began t d inside.accepted inside.named

@@ -6,8 +6,10 @@ use Rattle.std.specs.Prelude.{nat_le, nat_lt}
 use Rattle.std.specs.Str.{bytes_eq}
 use Rattle.std.specs.declared.cmp.Ordering.{Ordering}
 use Rattle.std.specs.declared.cmp.Ordering.TheVariants.{Less, Equal, Greater}
+use Rattle.role_steps.proofs.of_plain_facts.Options.{none_some, some_same}
 use Rattle.locus_ids.specs.declared.ids.Kind.{Kind}
 use Rattle.locus_ids.specs.declared.refusal.Refusal.TheVariants as refusal
+use Rattle.locus_ids.specs.Sizes.{directory_bytes_max}
 use Rattle.trace_book.specs.declared.operation.Op.{Op}
 use Rattle.trace_book.specs.declared.operation.Op.TheVariants as op
 use Rattle.trace_book.specs.declared.operation.Outcome.{Outcome}
@@ -16,7 +18,7 @@ use Rattle.dir_format.specs.declared.entry.Entry.{Entry}
 use Rattle.dir_format.specs.declared.looking.LookResult.{LookResult}
 use Rattle.dir_format.specs.declared.looking.LookResult.TheVariants as look
 use Rattle.dir_format.specs.Contents.{entries_from, entries_of, is_dir}
-use Rattle.dir_format.specs.Effects.{DirEffect, dir_effect, becomes, empty_among, find_by, insert_beside, is_spent, live_entry, live_one, max_size, moved, probe_beside, remove_entry, removed, rename_beside, rename_by, rename_entry, size_of}
+use Rattle.dir_format.specs.Effects.{DirEffect, dir_effect, becomes, empty_among, find_by, insert_beside, is_spent, live_entry, live_one, moved, probe_beside, remove_entry, removed, rename_beside, rename_by, rename_entry, size_of}
 use Rattle.dir_format.specs.Entries.{IsDir, is_live, max_count, nothing_seen, pair_in, is_pair, with_entry}
 use Rattle.dir_format.specs.Grammar.{IsDirectory, dir_bytes}
 use Rattle.dir_format.specs.Lookups.{has_name, is_meant, lookup, shown_names}
@@ -27,10 +29,8 @@ use Rattle.dir_reconcile.specs.Rescues.{entry_after_rescue, is_to_rescue, rescue
 use Rattle.dir_reconcile.specs.declared.kept.KeptVector.{KeptVector}
 use Rattle.dir_reconcile.proofs.Directories.{all_joined, dir_joined}
 use Rattle.dir_reconcile.proofs.Revived.{dir_rescued}
-use Rattle.file_content.specs.Contents.{max_bytes}
 use Rattle.file_content.specs.Pages.{pages_replaced}
 use Rattle.file_effects.specs.Effects.{As, Deed, Effect, Mends, Removes, effect, in_directory, is_worded, on_directory, puts, tells}
-use Rattle.tree_laws.proofs.Names.{some_is, true_false}
 use Rattle.order_laws.proofs.Lists.{all_found}
 
 -- each entry has a number and a kind of this sort
@@ -40,9 +40,6 @@ AllNamed N ds = AllByRecursion (λ (d : Entry). N d.ino d.kind) ds
 -- each entry of the content
 abbrev pub ContentNames : (ℕ → Kind → Type 0) → List ℕ → Type 0
 ContentNames N content = AllNamed N (entries_of content)
-
-none_some : {A : Type 0} (a : A) → ◌≡◌ {A = Option A} None (Some a) → ⊥
-none_some a e = cc
 
 -- ---- the entries of a content ----
 
@@ -82,7 +79,7 @@ module _ (N : ℕ → Kind → Type 0) (ds : List Entry) (k : AllNamed N ds) whe
   Named d = N d.ino d.kind
 
   becomes_named : (after : List Entry) (spent : Bool) → AllNamed N after → AllNamed N (becomes ds after spent).entries
-  becomes_named after spent new = over (nat_lt max_size (size_of after))
+  becomes_named after spent new = over (nat_lt directory_bytes_max (size_of after))
     where
       over : (b : Bool) → AllNamed N (cond {A = DirEffect} b (record { outcome = outcome.No refusal.TooLong; entries = ds; counts = false; spent = false }) (record { outcome = outcome.Done; entries = after; counts = true; spent = spent })).entries
       over true = k
@@ -100,7 +97,7 @@ module _ (N : ℕ → Kind → Type 0) (ds : List Entry) (k : AllNamed N ds) whe
   moved_named d name (Some e) n = n
 
   probe_named : (name : List ℕ) (o : Option Entry) → AllNamed N (probe_beside name ds o).entries
-  probe_named name None = over (nat_lt max_size (size_of ds + (length name + 8)))
+  probe_named name None = over (nat_lt directory_bytes_max (size_of ds + (length name + 8)))
     where
       over : (b : Bool) → AllNamed N (cond {A = DirEffect} b (record { outcome = outcome.No refusal.TooLong; entries = ds; counts = false; spent = false }) (record { outcome = outcome.Done; entries = ds; counts = false; spent = false })).entries
       over true = k
@@ -179,7 +176,7 @@ module _ (N : ℕ → Kind → Type 0) (content : List ℕ) (k : ContentNames N 
       left dir false = k
 
       over : (b : Bool) → is_dir d.entries ≡ b → cond b (Some (on_directory content d)) None ≡ Some e → ContentNames N e.content
-      over true dir q = subst (λ (x : Effect). ContentNames N x.content) (some_is (on_directory content d) e q) (left dir d.counts)
+      over true dir q = subst (λ (x : Effect). ContentNames N x.content) (some_same (on_directory content d) e q) (left dir d.counts)
       over false dir q = absurd (none_some e q)
 
   worded_named : (o : Op) → AddsNamed N o → (e : Effect) → cond (is_worded o) (in_directory content (dir_effect o [] (entries_of content))) None ≡ Some e → ContentNames N e.content
@@ -190,14 +187,14 @@ module _ (N : ℕ → Kind → Type 0) (content : List ℕ) (k : ContentNames N 
       over false q = absurd (none_some e q)
 
   puts_named : (new : List ℕ) (counts : Bool) → ContentNames N new → ContentNames N (puts content new counts).content
-  puts_named new counts n = over (nat_lt max_bytes (length new))
+  puts_named new counts n = over (nat_lt directory_bytes_max (length new))
     where
       over : (b : Bool) → ContentNames N (cond b (tells content (outcome.No refusal.TooLong)) (record { result = outcome.Done; content = new; pages = pages_replaced content new; counts = counts; spent = false })).content
       over true = k
       over false = n
 
   pub effect_named : (d : Deed) → MayDo N d → (e : Effect) → effect d content ≡ Some e → ContentNames N e.content
-  effect_named (As (op.Read at len)) n e q = subst (λ (x : Effect). ContentNames N x.content) (some_is _ e q) k
+  effect_named (As (op.Read at len)) n e q = subst (λ (x : Effect). ContentNames N x.content) (some_same _ e q) k
   effect_named (As (op.Write at bytes)) n e q = absurd n
   effect_named (As (op.Cut len)) n e q = absurd n
   effect_named (As (op.Remove name ino)) n e q = absurd (none_some e q)
@@ -210,7 +207,7 @@ module _ (N : ℕ → Kind → Type 0) (content : List ℕ) (k : ContentNames N 
   effect_named (As (op.Rename component name)) n e q = worded_named (op.Rename component name) tt e q
   effect_named (As op.Empty) n e q = worded_named op.Empty tt e q
   effect_named (Removes name ino seen) n e q = in_named (dir_effect (op.Remove name ino) seen (entries_of content)) (dir_named N (entries_of content) k (op.Remove name ino) seen tt) e q
-  effect_named (Mends several joined) n e q = subst (λ (x : Effect). ContentNames N x.content) (some_is _ e q) (puts_named joined _ n)
+  effect_named (Mends several joined) n e q = subst (λ (x : Effect). ContentNames N x.content) (some_same _ e q) (puts_named joined _ n)
 
 -- ---- a mend ----
 

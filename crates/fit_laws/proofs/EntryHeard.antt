@@ -22,7 +22,7 @@ use Rattle.tree_laws.proofs.Having.{Untaken, named_or_untaken}
 use Rattle.tree_laws.proofs.Holding.{Script}
 use Rattle.tree_laws.proofs.Names.{same_call_own}
 use Rattle.tree_laws.proofs.Scripts.{script_stays}
-use Rattle.one_tree_laws.proofs.RemoveScripts.{Along, along_same}
+use Rattle.rest_laws.proofs.of_one_tree_laws.RemoveScripts.{Along, along_same}
 use Rattle.fit_laws.proofs.EntryFacts.{IsAnswered, With, answered_stays}
 
 -- ---- lists of answers ----

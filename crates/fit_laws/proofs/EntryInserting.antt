@@ -30,8 +30,8 @@ use Rattle.call_rules.specs.declared.want.Want.{Want}
 use Rattle.call_rules.specs.declared.want.Want.TheVariants as want
 use Rattle.tree_model.specs.Files.{kind_made}
 use Rattle.tree_laws.proofs.Holding.{Script}
-use Rattle.store_laws.proofs.AnswerScripting.{walked_so}
-use Rattle.one_tree_laws.proofs.RemoveScripts.{Along, IsOr, along_more, along_same, goes, goes_walked, or_more, packed_is}
+use Rattle.rest_laws.proofs.of_store_laws.AnswerScripting.{walked_so}
+use Rattle.rest_laws.proofs.of_one_tree_laws.RemoveScripts.{Along, IsOr, along_more, along_same, goes, goes_walked, or_more, packed_is}
 use Rattle.fit_laws.proofs.EntryAsked.{IsOfDirs, IsOfFiles, Parts, UserParts, close_all_so, describes_so, finds_so, give_up_one, lists_so, mend_so, opens_dir_so, renames_so, uses_so}
 
 -- what is opened or made is of the group

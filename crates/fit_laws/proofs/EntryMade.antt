@@ -14,6 +14,8 @@ use Rattle.trace_book.specs.declared.call.Call.{Call}
 use Rattle.trace_book.specs.declared.record.Record.{Record}
 use Rattle.trace_book.specs.declared.record.Record.TheVariants as says
 use Rattle.std.specs.Option.{option_map, option_or}
+use Rattle.role_steps.proofs.of_plain_facts.Numbers.{equal}
+use Rattle.role_steps.proofs.of_plain_facts.Tests.{true_false}
 use Rattle.role_steps.specs.Views.{Told, Shown}
 use Rattle.the_run.specs.Worlds.{Line}
 use Rattle.tree_model.specs.declared.accepted.Waiting.{Waiting}
@@ -31,18 +33,17 @@ use Rattle.tree_laws.specs.Past.{EndRecord, GrantRecord, Printed, WasGranted, Wa
 use Rattle.tree_laws.specs.Printed.{entries, onto_entries}
 use Rattle.tree_laws.proofs.CarriedLooks.{one_epoch}
 use Rattle.tree_laws.proofs.Histories.{stands_more}
-use Rattle.tree_laws.proofs.Names.{test_same, true_false}
 use Rattle.tree_laws.proofs.Rows.{followed_rows}
 use Rattle.order_laws.specs.Joining.{PacksAreOfSites}
 use Rattle.order_laws.proofs.Knowing.{versions_stand}
 use Rattle.order_laws.proofs.Lists.{all_found}
-use Rattle.holding_laws.specs.Held.{StandsOnHeld}
-use Rattle.holding_laws.proofs.Holding.{stands_on_held}
+use Rattle.rest_laws.specs.of_holding_laws.Held.{StandsOnHeld}
+use Rattle.rest_laws.proofs.of_holding_laws.Holding.{stands_on_held}
 use Rattle.order_laws.proofs.ProcessGranting.{released_named}
-use Rattle.holding_laws.proofs.OneVersionFirsts.{MakesFirst, makes_first}
-use Rattle.holding_laws.proofs.OneVersionHomes.{no_root}
-use Rattle.store_laws.proofs.Places.{open_is}
-use Rattle.one_tree_laws.proofs.NumberOwed.{IsOwed, all_owed}
+use Rattle.rest_laws.proofs.of_holding_laws.OneVersionFirsts.{MakesFirst, makes_first}
+use Rattle.rest_laws.proofs.of_holding_laws.OneVersionHomes.{no_root}
+use Rattle.rest_laws.proofs.of_store_laws.Places.{open_is}
+use Rattle.rest_laws.proofs.of_one_tree_laws.NumberOwed.{IsOwed, all_owed}
 use Rattle.rest_laws.proofs.TableCalled.{open_make_called}
 use Rattle.fit_laws.specs.EntryEntries.{NamesFile}
 use Rattle.fit_laws.proofs.EntryFacts.{WasEnded, WasMade, With}
@@ -73,7 +74,7 @@ module _ (c : Config) (packs : PacksAreOfSites c) (older : List Line) (h : IsFol
 
   other : (b : Bool) → (at.grant.file.ino == 1) ≡ b → (at.grant.file.ino == 1) ≡ false
   other false k = k
-  other true k = absurd (no_root at.grant.ss at.grant.file.ino given (test_same at.grant.file.ino 1 k))
+  other true k = absurd (no_root at.grant.ss at.grant.file.ino given (equal at.grant.file.ino 1 k))
 
   committed : (o : Option Stamp) → at.work.committed ≡ o → MadeSo c older at.grant.file at.grant.call
   committed None k = absurd (true_false (sym (all_found IsOwed (is_named i) (tree_of c e (granted_group (entries older) e i) (entries older)).instances at (all_owed c e (granted_group (entries older) e i) (entries older)) found make k) ∙ owes))

@@ -1,6 +1,7 @@
 -- What mends have brought: contents of versions of directories, whose entries name files that stand.
 use Rattle.std.proofs.Common.{◌≡◌, ℕ, ◌==◌, Bool, true, false, cond, List, [], ◌∷◌, map, Option, None, Some, refl, sym, ◌∙◌, ap, subst}
 use Rattle.std.specs.Option.{option_map, option_or}
+use Rattle.role_steps.proofs.of_plain_facts.Options.{none_some, some_same}
 use Rattle.locus_ids.specs.declared.config.Config.{Config}
 use Rattle.locus_ids.specs.declared.ids.CallId.{CallId}
 use Rattle.locus_ids.specs.declared.ids.FileId.{FileId}
@@ -30,17 +31,13 @@ use Rattle.tree_laws.specs.Following.{IsFollowed, MayTell}
 use Rattle.tree_laws.specs.Printed.{entries, onto_entries}
 use Rattle.tree_laws.specs.Users.{BringsFor, WaitingFact, own_call, taken_whole}
 use Rattle.tree_laws.specs.Calls.{log}
-use Rattle.tree_laws.proofs.Names.{some_is}
 use Rattle.tree_laws.proofs.Scripts.{named_stays}
 use Rattle.order_laws.specs.Joining.{PacksAreOfSites}
-use Rattle.one_tree_laws.specs.Places.{InsideFact}
+use Rattle.rest_laws.specs.of_one_tree_laws.Places.{InsideFact}
 use Rattle.fit_laws.specs.EntryEntries.{EntriesName}
 use Rattle.fit_laws.proofs.EntryFacts.{With}
 use Rattle.fit_laws.proofs.EntryMade.{first_more}
 use Rattle.fit_laws.proofs.EntryOpen.{versions_name}
-
-none_some : {A : Type 0} (a : A) → ◌≡◌ {A = Option A} None (Some a) → ⊥
-none_some a e = cc
 
 file_dir : kind.File ≡ kind.Dir → ⊥
 file_dir e = cc
@@ -92,7 +89,7 @@ mends_dirs c (x ∷ older) h d w named = mends_stay c x.number x.told older h.1 
     over (Shown (says.Accept s process new words)) may q later = at (same_call new d) q
       where
         at : (b : Bool) → cond b (Some (accepted_as (entries older) s process new words)) (call_named (entries older) d) ≡ Some w → MendsDir c older w.words
-        at true k = subst (λ (v : Waiting). MendsDir c older v.words) (some_is (accepted_as (entries older) s process new words) w k) (accepted_dir c older s process new words may)
+        at true k = subst (λ (v : Waiting). MendsDir c older v.words) (some_same (accepted_as (entries older) s process new words) w k) (accepted_dir c older s process new words may)
         at false k = later k
     over (Shown r) may q later = later q
     over _ may q later = later q

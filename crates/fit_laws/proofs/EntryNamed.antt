@@ -1,6 +1,8 @@
 -- Along the trace: each content of a directory, of a version and of an open instance, names files that stand.
 use Rattle.std.proofs.Common.{◌≡◌, ℕ, ◌+◌, ◌-◌, ◌==◌, Bool, true, false, ◌&&◌, cond, List, [], ◌∷◌, ◌++◌, filter, map, take, Option, None, Some, refl, sym, ◌∙◌, ap, subst, ◌⊎◌, inl, inr}
 use Rattle.std.specs.List.{AllByRecursion, find}
+use Rattle.role_steps.proofs.of_plain_facts.Options.{none_some, some_same}
+use Rattle.role_steps.proofs.of_plain_facts.Tests.{and_first}
 use Rattle.locus_ids.specs.declared.config.Config.{Config}
 use Rattle.locus_ids.specs.declared.ids.CallId.{CallId}
 use Rattle.locus_ids.specs.declared.ids.EpochId.{EpochId}
@@ -74,26 +76,22 @@ use Rattle.tree_laws.proofs.Boots.{every_passes}
 use Rattle.tree_laws.proofs.Fresh.{IsNamed}
 use Rattle.tree_laws.proofs.Kinship.{tree_epoch_is}
 use Rattle.tree_laws.proofs.Owing.{InGroup, found_every, in_group}
-use Rattle.tree_laws.proofs.Names.{same_epoch_eq, some_is, true_false}
+use Rattle.tree_laws.proofs.Names.{same_epoch_eq}
 use Rattle.tree_laws.proofs.Scripts.{in_stays}
 use Rattle.order_laws.specs.Joining.{PacksAreOfSites}
-use Rattle.order_laws.proofs.Alone.{first_of}
 use Rattle.order_laws.proofs.Keeping.{file_eq}
 use Rattle.order_laws.proofs.Lists.{all_filtered, all_more, all_then, all_without}
 use Rattle.order_laws.proofs.Standing.{same_file_eq}
-use Rattle.holding_laws.proofs.Distinct.{open_now}
-use Rattle.holding_laws.proofs.Turning.{all_passing}
-use Rattle.store_laws.proofs.AnswerAnswering.{acter_in, releaser_in}
-use Rattle.store_laws.proofs.ScriptFitted.{Began, began}
+use Rattle.rest_laws.proofs.of_holding_laws.Distinct.{open_now}
+use Rattle.rest_laws.proofs.of_holding_laws.Turning.{all_passing}
+use Rattle.rest_laws.proofs.of_store_laws.AnswerAnswering.{acter_in, releaser_in}
+use Rattle.rest_laws.proofs.of_store_laws.ScriptFitted.{Began, began}
 use Rattle.fit_laws.specs.EntryEntries.{EntriesName, IsEntered, NamesFile}
 use Rattle.fit_laws.proofs.EntryActing.{asks_now, changed_plain, inserted_named}
 use Rattle.fit_laws.proofs.EntryContents.{AllNamed, ContentNames, MayDo, agree, content_dir, effect_named, joined_two, rescued_written}
 use Rattle.fit_laws.proofs.EntryFacts.{IsAnswered, IsKnown, IsPlain, IsSound, LookAnswered, MakeAnswered, WasEnded, With, dir_sound, named_stays, plain_stays, sound_stays}
 use Rattle.fit_laws.proofs.EntryHeard.{Heard, told_heard}
 use Rattle.fit_laws.proofs.EntryWalking.{AsksBy, WalkerAsks}
-
-none_some : {A : Type 0} (a : A) → ◌≡◌ {A = Option A} None (Some a) → ⊥
-none_some a e = cc
 
 -- ---- what holds of a trace ----
 
@@ -153,7 +151,7 @@ module _ (c : Config) (t : List Line) (h : List Version) (versions : (f : FileId
 
     -- a deed on what names files that stand
     deed_named : EntriesName c t x.grant.file.group x.work.content → (o : Op) → ActsRightly c t x.grant.file o → IsPlain c t x.grant.file ⊎ ((d : Deed) → deed_of h u o x ≡ Some d → MayDo ByName d)
-    deed_named k (op.Insert name ino kd) right = inr (λ d q. subst (MayDo ByName) (some_is _ d q) right)
+    deed_named k (op.Insert name ino kd) right = inr (λ d q. subst (MayDo ByName) (some_same _ d q) right)
     deed_named k (op.Write at bytes) right = inl right
     deed_named k (op.Cut len) right = inl right
     deed_named k (op.Remove name ino) right = inr (λ d q. removes (find (is_target x.grant.call ino) u.instances) d q)
@@ -164,13 +162,13 @@ module _ (c : Config) (t : List Line) (h : List Version) (versions : (f : FileId
           where
             last : (s : Option Stamp) → sees h name ino (Some (record y { work = record y.work { last = s } })) ≡ Some d → MayDo ByName d
             last None e = absurd (none_some d e)
-            last (Some s) e = subst (MayDo ByName) (some_is _ d e) tt
+            last (Some s) e = subst (MayDo ByName) (some_same _ d e) tt
     deed_named k op.Mend right = over (joined_sound c t h x.grant.file (versions x.grant.file) u)
       where
         over : IsSound c t x.grant.file (joined_content h u x.grant.file) → IsPlain c t x.grant.file ⊎ ((d : Deed) → deed_of h u op.Mend x ≡ Some d → MayDo ByName d)
         over (inl p) = inl p
-        over (inr n) = inr (λ d q. subst (MayDo ByName) (some_is (Mends (are_several (kept_of h u x.grant.file)) (joined_content h u x.grant.file)) d q) n)
-    deed_named k _ right = inr (λ d q. subst (MayDo ByName) (some_is _ d q) tt)
+        over (inr n) = inr (λ d q. subst (MayDo ByName) (some_same (Mends (are_several (kept_of h u x.grant.file)) (joined_content h u x.grant.file)) d q) n)
+    deed_named k _ right = inr (λ d q. subst (MayDo ByName) (some_same _ d q) tt)
 
     operated_sound : (result : Outcome) (o : Option Effect) → ((e : Effect) → o ≡ Some e → EntriesName c t x.grant.file.group e.content) → EntriesName c t x.grant.file.group x.work.content → EntriesName c t x.grant.file.group (operated_by result o x.work).content
     operated_sound result None each k = k
@@ -268,7 +266,7 @@ module _ (c : Config) (packs : PacksAreOfSites c) (older : List Line) (followed 
     writes = (subst (Every (λ (x : Instance). is_writing f x ≡ true)) row.one (every_passes (λ (x : Instance). is_writing f x ≡ true) (is_writing f) (λ x e. e) (tree_of c row.epoch f.group before).instances)).0
 
     file_is : row.instance.grant.file ≡ f
-    file_is = same_file_eq row.instance.grant.file f (first_of (same_file row.instance.grant.file f) _ writes)
+    file_is = same_file_eq row.instance.grant.file f (and_first (same_file row.instance.grant.file f) _ writes)
 
     made_sound : IsSound c (With n (Shown r) older) f content
     made_sound = sound_stays c n (Shown r) older followed may f content (subst (λ (xs : List ℕ). IsSound c older f xs) (sym row.same) (subst (λ (g : FileId). IsSound c older g row.instance.work.content) file_is its))
@@ -277,7 +275,7 @@ module _ (c : Config) (packs : PacksAreOfSites c) (older : List Line) (followed 
     new_version g s = over (is_version g s (record { file = f; site = z; stamp = stamp; parents = parents; content = content })) refl
       where
         over : (b : Bool) → is_version g s (record { file = f; site = z; stamp = stamp; parents = parents; content = content }) ≡ b → IsSound c (With n (Shown r) older) g (cond b content (content_of past g s))
-        over true q = subst (λ (y : FileId). IsSound c (With n (Shown r) older) y content) (same_file_eq f g (first_of (same_file f g) _ q)) made_sound
+        over true q = subst (λ (y : FileId). IsSound c (With n (Shown r) older) y content) (same_file_eq f g (and_first (same_file f g) _ q)) made_sound
         over false q = old_versions r may g s
 
   next_versions : (r : Record) → MayTell c older (Shown r) → (f : FileId) (s : Stamp) → IsSound c (With n (Shown r) older) f (content_of (history_after r past) f s)
@@ -330,7 +328,7 @@ module _ (c : Config) (packs : PacksAreOfSites c) (older : List Line) (followed 
         r = says.Act d i k o result
 
         same : d ≡ e
-        same = same_epoch_eq d t.epoch (first_of (same_epoch d t.epoch) _ q) ∙ tree_epoch_is c e g before
+        same = same_epoch_eq d t.epoch (and_first (same_epoch d t.epoch) _ q) ∙ tree_epoch_is c e g before
     acts d i k o result may false q = stay (says.Act d i k o result) may
 
     next_instances : (r : Record) → MayTell c older (Shown r) → AllByRecursion (New r) (next past r t).instances
@@ -488,13 +486,13 @@ module _ (c : Config) (packs : PacksAreOfSites c) (older : List Line) (followed 
         (subst (λ (y : CallId). asked_now c older y ≡ may.in_time.opens.asks.wanted) step may.in_time.opens.asks.asks.asked)
         (refused_so (With n (Shown (says.Refuse e call request i m f why)) older) why may.in_time.opens.asks.wanted may.in_time.opens.asked may.in_time.opens.it may.in_time.opens.asks.opening_is) waits
     step_so (says.Act e i number o result) may step a waits = told_so (says.Act e i number o result) a (outcome_answer result) (want.Do i o) (heard c older d) (by_owner (call_of_act before e i number) d _ (heard c older d) step)
-        (subst (λ (y : CallId). asked_now c older y ≡ want.Do i o) (some_is may.in_time.call d (sym may.in_time.owner ∙ step)) may.in_time.asks.asked) tt waits
+        (subst (λ (y : CallId). asked_now c older y ≡ want.Do i o) (some_same may.in_time.call d (sym may.in_time.owner ∙ step)) may.in_time.asks.asked) tt waits
     step_so (says.Release e i f stamp) may step a waits = told_so (says.Release e i f stamp) a (close_answer stamp (instance_in (tree_of c e f.group before) i)) (want.Close i) (heard c older d) (by_owner (call_of_release before e i) d _ (heard c older d) step)
         (subst (λ (y : CallId). asked_now c older y ≡ want.Close i) same may.in_time.asks.asked)
         (closed_so (With n (Shown (says.Release e i f stamp)) older) i stamp (instance_in (tree_of c e f.group before) i) (ended_so e i f stamp may same)) waits
       where
         same : may.in_time.call ≡ d
-        same = some_is may.in_time.call d (sym may.in_time.owner ∙ step)
+        same = some_same may.in_time.call d (sym may.in_time.owner ∙ step)
     step_so _ may step a waits = absurd step
 
   -- ---- a told line ----

@@ -1,5 +1,7 @@
 -- Who is answered by a descriptor, and was granted something, opens a file.
 use Rattle.std.proofs.Common.{◌≡◌, ℕ, Bool, true, false, cond, ◌&&◌, ◌||◌, List, [], ◌∷◌, Option, Some, None, refl, sym, ◌∙◌, ap, subst}
+use Rattle.role_steps.proofs.of_plain_facts.Options.{none_some, some_same}
+use Rattle.role_steps.proofs.of_plain_facts.Tests.{true_false}
 use Rattle.locus_ids.specs.declared.config.Config.{Config}
 use Rattle.locus_ids.specs.declared.ids.CallId.{CallId}
 use Rattle.locus_ids.specs.declared.ids.EpochId.{EpochId}
@@ -20,15 +22,12 @@ use Rattle.tree_laws.specs.Following.{AnswersInTime, IsFollowed, MayTell, Replie
 use Rattle.tree_laws.specs.Printed.{entries, onto_entries}
 use Rattle.tree_laws.specs.Serials.{asked_now}
 use Rattle.tree_laws.proofs.Answered.{IsDone, all_done, asker_unnamed}
-use Rattle.tree_laws.proofs.Names.{same_call_eq, same_call_own, some_is, true_false}
+use Rattle.tree_laws.proofs.Names.{same_call_eq, same_call_own}
 use Rattle.tree_laws.proofs.Scripts.{named_stays}
 use Rattle.tree_laws.proofs.Serials.{asks_opens}
-use Rattle.store_laws.proofs.ScriptNaming.{Opens, named_opens}
-use Rattle.store_laws.proofs.AnswerUnasked.{opens_request}
+use Rattle.rest_laws.proofs.of_store_laws.ScriptNaming.{Opens, named_opens}
+use Rattle.rest_laws.proofs.of_store_laws.AnswerUnasked.{opens_request}
 use Rattle.fit_laws.proofs.EntryFacts.{With}
-
-none_some : {A : Type 0} (a : A) → ◌≡◌ {A = Option A} None (Some a) → ⊥
-none_some a e = cc
 
 -- what was granted to a call is its opening
 granted_opening : (c : Config) (t : List Line) → (e : EpochId) (i : Serial) (g : CallId) → granted_to (entries t) e i ≡ Some g → (x : Descriptor) × (opening_of (entries t) g ≡ Some x)
@@ -46,7 +45,7 @@ granted_opening c (y ∷ older) e i g k = over y.told (λ z. granted_opening c o
         more false z = z
 
         here : (b : Bool) → cond b (Some d) (granted_to (entries older) e i) ≡ Some g → (z : Descriptor) × (cond (same_call d g) (Some now) (opening_of (entries older) g) ≡ Some z)
-        here true z = (now, ap (λ (a : Bool). cond a (Some now) (opening_of (entries older) g)) (subst (λ (w : CallId). same_call d w ≡ true) (some_is d g z) (same_call_own d)))
+        here true z = (now, ap (λ (a : Bool). cond a (Some now) (opening_of (entries older) g)) (subst (λ (w : CallId). same_call d w ≡ true) (some_same d g z) (same_call_own d)))
         here false z = more (same_call d g) (later z)
     over (Shown r) later k = later k
     over _ later k = later k

@@ -9,6 +9,7 @@ use Rattle.locus_ids.specs.declared.ids.Kind.{Kind}
 use Rattle.locus_ids.specs.declared.ids.Kind.TheVariants.{Dir}
 use Rattle.locus_ids.specs.declared.ids.Serial.{Serial}
 use Rattle.locus_ids.specs.declared.ids.Stamp.{Stamp}
+use Rattle.locus_ids.specs.Sizes.{inodes_max}
 use Rattle.commit_graph.specs.Versions.{content_of}
 use Rattle.trace_book.specs.declared.operation.Op.TheVariants as op
 use Rattle.dir_format.specs.declared.entry.Entry.{Entry}
@@ -44,8 +45,8 @@ instances_name c trace packs h e i x found dir = dir_sound c trace x.grant.file 
     (all_found (λ (y : Instance). IsSound c trace y.grant.file y.work.content) (is_named i) (tree_of c e (granted_group (entries trace) e i) (entries trace)).instances x ((trace_named c packs trace h).instances e (granted_group (entries trace) e i)) found)
 
 -- each entry of a content has the number of an inode
-pub entries_numbered : (content : List ℕ) → AllByRecursion (λ (d : Entry). (1 ≤ d.ino) × (d.ino ≤ 1024)) (entries_of content)
-entries_numbered content = all_then IsEntry (λ (d : Entry). (1 ≤ d.ino) × (d.ino ≤ 1024)) (λ d k. k.ino) (entries_of content) (content_dir content).entries
+pub entries_numbered : (content : List ℕ) → AllByRecursion (λ (d : Entry). (1 ≤ d.ino) × (d.ino ≤ inodes_max)) (entries_of content)
+entries_numbered content = all_then IsEntry (λ (d : Entry). (1 ≤ d.ino) × (d.ino ≤ inodes_max)) (λ d k. k.ino) (entries_of content) (content_dir content).entries
 
 pub inserter_made : (c : Config) (trace : List Line) → PacksAreOfSites c → IsFollowed c trace → (e : EpochId) (d : CallId) → IsCallIn (entries trace) e d → (i : Serial) (name : List ℕ) (ino : ℕ) (kind : Kind) → Asks c trace d (want.Do i (op.Insert name ino kind)) → (x : Instance) → instance_now c trace e i ≡ Some x →
     NamesFile c trace x.grant.file.group ino kind × (first_call c (entries trace) (record { group = x.grant.file.group; ino = ino }) ≡ Some d)

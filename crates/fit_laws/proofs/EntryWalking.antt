@@ -31,7 +31,7 @@ use Rattle.call_rules.specs.declared.answer.Answer.TheVariants as answer
 use Rattle.call_rules.specs.declared.want.Want.{Want}
 use Rattle.call_rules.specs.declared.want.Want.TheVariants as want
 use Rattle.tree_laws.proofs.Holding.{Script}
-use Rattle.one_tree_laws.proofs.RemoveScripts.{Along, IsOr, along_same, goes, goes_walked, packed_is}
+use Rattle.rest_laws.proofs.of_one_tree_laws.RemoveScripts.{Along, IsOr, along_same, goes, goes_walked, packed_is}
 use Rattle.fit_laws.proofs.EntryAsked.{IsOfDirs, IsOfFiles, IsWhole, Parts, describes_so, finds_so, lists_so, mend_so, opens_dir_so, probes_so, renames_so, uses_so}
 
 -- ---- what is asked ----

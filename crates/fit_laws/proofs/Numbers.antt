@@ -1,5 +1,6 @@
 -- Files that stand have numbers of inodes.
 use Rattle.std.proofs.Common.{◌≡◌, ℕ, ◌+◌, ◌==◌, Bool, true, false, ◌&&◌, ◌||◌, cond, List, [], ◌∷◌, refl, sym, subst, arith, inl, inr}
+use Rattle.role_steps.proofs.of_plain_facts.Tests.{and_first, true_false}
 use Rattle.locus_ids.specs.declared.config.Config.{Config}
 use Rattle.locus_ids.specs.declared.ids.FileId.{FileId}
 use Rattle.locus_ids.specs.declared.ids.Stamp.{Stamp}
@@ -9,16 +10,14 @@ use Rattle.trace_book.specs.declared.record.Record.{Record}
 use Rattle.trace_book.specs.declared.record.Record.TheVariants as says
 use Rattle.role_steps.specs.Views.{Told, Shown}
 use Rattle.the_run.specs.Worlds.{Line}
-use Rattle.vector_laws.specs.Written.{IsCommitOf, IsWrittenBy, JoinsAll, WrittenAs, past_of}
-use Rattle.vector_laws.specs.HistoryCommits.{IsSite, SitedTold}
-use Rattle.pack_laws.specs.Making.{IsOwnNumber, NotEmpty, Originates}
-use Rattle.pack_laws.specs.Packs.{ToldPacked}
+use Rattle.rest_laws.specs.of_vector_laws.Written.{IsCommitOf, IsWrittenBy, JoinsAll, WrittenAs, past_of}
+use Rattle.rest_laws.specs.of_vector_laws.HistoryCommits.{IsSite, SitedTold}
+use Rattle.rest_laws.specs.of_pack_laws.Making.{IsOwnNumber, NotEmpty, Originates}
+use Rattle.rest_laws.specs.of_pack_laws.Packs.{ToldPacked}
 use Rattle.tree_model.specs.Histories.{format_version, format_versions, history}
 use Rattle.tree_laws.specs.Printed.{entries, onto_entries}
-use Rattle.tree_laws.proofs.Names.{true_false}
-use Rattle.order_laws.proofs.Alone.{first_of}
 use Rattle.order_laws.proofs.Standing.{same_file_eq}
-use Rattle.one_tree_laws.specs.Rest.{EachRest, RestTold}
+use Rattle.rest_laws.specs.of_one_tree_laws.Rest.{EachRest, RestTold}
 use Rattle.fit_laws.specs.Inodes.{IsInodeNumber}
 
 -- a site's own number is one
@@ -62,7 +61,7 @@ module _ (c : Config) (f : FileId) (stamp : Stamp) where
   formats k (p ∷ ps) e = at (p.0 == 0) (formats (k + 1) ps) e
     where
       root : (b : Bool) → is_version f stamp (format_version k) ≡ b → (is_in (format_versions (k + 1) ps) f stamp ≡ true → IsInodeNumber f.ino) → b || is_in (format_versions (k + 1) ps) f stamp ≡ true → IsInodeNumber f.ino
-      root true is later e = subst (λ (g : FileId). IsInodeNumber g.ino) (same_file_eq (format_version k).file f (first_of (same_file (format_version k).file f) _ is)) (root_inode 1 refl)
+      root true is later e = subst (λ (g : FileId). IsInodeNumber g.ino) (same_file_eq (format_version k).file f (and_first (same_file (format_version k).file f) _ is)) (root_inode 1 refl)
       root false is later e = later e
 
       at : (b : Bool) → (is_in (format_versions (k + 1) ps) f stamp ≡ true → IsInodeNumber f.ino) → is_in (cond b (format_versions (k + 1) ps) (format_version k ∷ format_versions (k + 1) ps)) f stamp ≡ true → IsInodeNumber f.ino
@@ -76,7 +75,7 @@ module _ (c : Config) (f : FileId) (stamp : Stamp) where
       its = originates (WrittenAs (past_of older) g) s g.ino parents told.numbered.base told.sited told.packed.1 told.numbered.joins (λ stamp vector v. written_inode c older rest g stamp vector v)
 
       at : (b : Bool) → (same_file g f && same_stamp made stamp) ≡ b → b || is_in (history c (entries older)) f stamp ≡ true → IsInodeNumber f.ino
-      at true is e = subst (λ (h : FileId). IsInodeNumber h.ino) (same_file_eq g f (first_of (same_file g f) _ is)) its
+      at true is e = subst (λ (h : FileId). IsInodeNumber h.ino) (same_file_eq g f (and_first (same_file g f) _ is)) its
       at false is e = later e
   record_inode n _ older rest told later e = later e
 

@@ -14,14 +14,14 @@ use Rattle.trace_book.specs.declared.record.Record.{Record}
 use Rattle.trace_book.specs.declared.record.Record.TheVariants as says
 use Rattle.role_steps.specs.Views.{Told, Shown, Begins}
 use Rattle.the_run.specs.Worlds.{Line}
-use Rattle.vector_laws.specs.HistoryCommits.{IsSite}
+use Rattle.rest_laws.specs.of_vector_laws.HistoryCommits.{IsSite}
 use Rattle.lawful_trace.specs.TreeRows.{IsCallIn}
 use Rattle.tree_laws.specs.Following.{IsFollowed, MayTell, MayBegin, BeginsGranted, BeginsMade}
 use Rattle.tree_laws.specs.Packets.{MakeOpenSs, OpenSsFact, PlainOpenSs}
 use Rattle.tree_laws.specs.Past.{BeginsIt, NamingRecord, Printed, WasBegun, WasGranted, WasNamed, WasRefused, GrantRecord, RefusalRecord}
 use Rattle.tree_laws.specs.Printed.{entries}
 use Rattle.tree_laws.proofs.Grants.{open_named}
-use Rattle.one_tree_laws.specs.Rest.{EachRest, Past}
+use Rattle.rest_laws.specs.of_one_tree_laws.Rest.{EachRest, Past}
 use Rattle.rest_laws.proofs.StoreStepKnown.{known_call}
 use Rattle.schedule_lines.specs.declared.line.ScheduleLine.{ScheduleLine}
 use Rattle.wire_messages.specs.declared.body.Body.{Body}
@@ -30,10 +30,10 @@ use Rattle.wire_messages.specs.declared.packet.Packet.{Packet}
 use Rattle.the_run.specs.Kept.{WasSent}
 use Rattle.the_run.specs.Runs.{run_in}
 use Rattle.the_run.specs.Worlds.{Numbered}
-use Rattle.row_laws.specs.Voids.{LinesFit}
+use Rattle.rest_laws.specs.of_row_laws.Voids.{LinesFit}
 use Rattle.order_laws.specs.Joining.{PacksAreOfSites}
 use Rattle.tree_laws.specs.Packets.{BodyFact}
-use Rattle.one_tree_laws.proofs.Run.{sent_fact}
+use Rattle.rest_laws.proofs.of_one_tree_laws.Run.{sent_fact}
 use Rattle.fit_laws.specs.Opens.{OpensForSite}
 use Rattle.fit_laws.proofs.Tables.{past_of_run, world_of}
 

@@ -3,9 +3,11 @@ use Rattle.std.proofs.Common.{◌≡◌, ◌≢◌, ◌≤◌, ◌<◌, ℕ, zer
 use Rattle.std.specs.Prelude.{slice_index}
 use Rattle.std.proofs.lemmas.Bool.Decides.{nat_tests}
 use Rattle.std.proofs.lemmas.List.{length-drop, length-take, take_min}
+use Rattle.role_steps.proofs.of_plain_facts.Numbers.{equal, equal_self}
+use Rattle.role_steps.proofs.of_plain_facts.Tests.{true_false}
+use Rattle.locus_ids.specs.Sizes.{page_bytes}
 use Rattle.file_content.specs.Pages.{has_page, page_of, pages_from, pages_of, pages_within, with_page, with_pages}
-use Rattle.site_packs.specs.Committing.{ArePages, IsKept}
-use Rattle.tree_laws.proofs.Names.{test_own, test_same, true_false}
+use Rattle.stored_versions.specs.Changes.{ArePages, IsKept}
 use Rattle.fit_laws.specs.Working.{AreBelow, AreOnce}
 
 -- ---- fronts and rests of lists ----
@@ -59,13 +61,13 @@ drop_more (suc a) b (x ∷ xs) = ap (λ (m : ℕ). drop m (x ∷ xs)) more ∙ d
 
 -- ---- pages ----
 
-pub page_length : (content : List ℕ) (page : ℕ) → length (page_of content page) ≡ min 1024 (length content - 1024 * page)
-page_length content page = length-take 1024 (drop (1024 * page) content) ∙ ap (min 1024) (length-drop (1024 * page) content)
+pub page_length : (content : List ℕ) (page : ℕ) → length (page_of content page) ≡ min page_bytes (length content - page_bytes * page)
+page_length content page = length-take page_bytes (drop (page_bytes * page) content) ∙ ap (min page_bytes) (length-drop (page_bytes * page) content)
 
-pub page_there : (n page : ℕ) → page < pages_of n → 1024 * page < n
+pub page_there : (n page : ℕ) → page < pages_of n → page_bytes * page < n
 page_there n page h = omega (arith, h)
 
-pub there_page : (n page : ℕ) → 1024 * page < n → page < pages_of n
+pub there_page : (n page : ℕ) → page_bytes * page < n → page < pages_of n
 there_page n page h = omega (arith, h)
 
 same_kept : (old new : List ℕ) (page : ℕ) → page_of old page ≡ page_of new page → IsKept old new page
@@ -92,20 +94,20 @@ kept_through a b d page first then =
 
 -- a page that is kept was there
 pub kept_there : (old new : List ℕ) (page : ℕ) → page < pages_of (length new) → IsKept old new page → page < pages_of (length old)
-kept_there old new page inside k = there_page (length old) page (longer (length old) (length new) (1024 * page) (page_there (length new) page inside) lengths)
+kept_there old new page inside k = there_page (length old) page (longer (length old) (length new) (page_bytes * page) (page_there (length new) page inside) lengths)
   where
-    lengths : min 1024 (length new - 1024 * page) ≤ min 1024 (length old - 1024 * page)
-    lengths = subst (λ (n : ℕ). n ≤ min 1024 (length old - 1024 * page)) (page_length new page) (subst (λ (n : ℕ). length (page_of new page) ≤ n) (page_length old page) (kept_length old new page k))
+    lengths : min page_bytes (length new - page_bytes * page) ≤ min page_bytes (length old - page_bytes * page)
+    lengths = subst (λ (n : ℕ). n ≤ min page_bytes (length old - page_bytes * page)) (page_length new page) (subst (λ (n : ℕ). length (page_of new page) ≤ n) (page_length old page) (kept_length old new page k))
 
-    longer : (o n k : ℕ) → k < n → min 1024 (n - k) ≤ min 1024 (o - k) → k < o
+    longer : (o n k : ℕ) → k < n → min page_bytes (n - k) ≤ min page_bytes (o - k) → k < o
     longer o n k a b = omega (arith, a, b)
 
 -- a cut keeps the pages that it leaves
 pub cut_kept : (content : List ℕ) (len page : ℕ) → IsKept content (take len content) page
-cut_kept content len page = subst (λ (ys : List ℕ). take (length ys) (page_of content page) ≡ ys) (sym it) (front (len - 1024 * page) (page_of content page))
+cut_kept content len page = subst (λ (ys : List ℕ). take (length ys) (page_of content page) ≡ ys) (sym it) (front (len - page_bytes * page) (page_of content page))
   where
-    it : page_of (take len content) page ≡ take (len - 1024 * page) (page_of content page)
-    it = ap (take 1024) (drop_front (1024 * page) len content) ∙ take_swap 1024 (len - 1024 * page) (drop (1024 * page) content)
+    it : page_of (take len content) page ≡ take (len - page_bytes * page) (page_of content page)
+    it = ap (take page_bytes) (drop_front (page_bytes * page) len content) ∙ take_swap page_bytes (len - page_bytes * page) (drop (page_bytes * page) content)
 
     front : (m : ℕ) (xs : List ℕ) → take (length (take m xs)) xs ≡ take m xs
     front m xs = ap (λ (n : ℕ). take n xs) (length-take m xs) ∙ take_min m xs
@@ -145,7 +147,7 @@ passed_over f (p ∷ ps) page h k = over (p == page) refl h k (passed_over f ps 
         second true k = absurd (true_false k)
 
     over : (a : Bool) → (p == page) ≡ a → a || has_page ps page ≡ true → has_page (filter f (p ∷ ps)) page ≡ false → (has_page ps page ≡ true → has_page (filter f ps) page ≡ false → f page ≡ false) → f page ≡ false
-    over true e h k rest = subst (λ (q : ℕ). f q ≡ false) (test_same p page e) (here (f p) e k)
+    over true e h k rest = subst (λ (q : ℕ). f q ≡ false) (equal p page e) (here (f p) e k)
     over false e h k rest = rest h (later (f p) k)
 
 pub filter_below : (top : ℕ) (f : ℕ → Bool) (pages : List ℕ) → AreBelow top pages → AreBelow top (filter f pages)
@@ -176,12 +178,12 @@ filter_once f (p ∷ ps) h = over (f p) (filter_once f ps h.1)
 -- the pages that a content of this size still has are pages of it
 pub within_below : (size : ℕ) (changed : List ℕ) → AreBelow (pages_of size) (pages_within size changed)
 within_below size [] = tt
-within_below size (p ∷ ps) = over (nat_lt (1024 * p) size) refl (within_below size ps)
+within_below size (p ∷ ps) = over (nat_lt (page_bytes * p) size) refl (within_below size ps)
   where
-    low : nat_lt (1024 * p) size ≡ true → 1024 * p < size
+    low : nat_lt (page_bytes * p) size ≡ true → page_bytes * p < size
     low e = grind (arith, nat_tests)
 
-    over : (b : Bool) → nat_lt (1024 * p) size ≡ b → AreBelow (pages_of size) (pages_within size ps) → AreBelow (pages_of size) (cond b (p ∷ pages_within size ps) (pages_within size ps))
+    over : (b : Bool) → nat_lt (page_bytes * p) size ≡ b → AreBelow (pages_of size) (pages_within size ps) → AreBelow (pages_of size) (cond b (p ∷ pages_within size ps) (pages_within size ps))
     over true e later = (there_page size p (low e), later)
     over false e later = later
 
@@ -189,12 +191,12 @@ within_below size (p ∷ ps) = over (nat_lt (1024 * p) size) refl (within_below 
 pub within_lacks : (size : ℕ) (changed : List ℕ) (page : ℕ) → page < pages_of size → has_page (pages_within size changed) page ≡ false → has_page changed page ≡ false
 within_lacks size changed page inside k = over (has_page changed page) refl
   where
-    clash : nat_lt (1024 * page) size ≡ false → ⊥
-    clash e = (let low : 1024 * page < size = page_there size page inside in grind (arith, nat_tests))
+    clash : nat_lt (page_bytes * page) size ≡ false → ⊥
+    clash e = (let low : page_bytes * page < size = page_there size page inside in grind (arith, nat_tests))
 
     over : (b : Bool) → has_page changed page ≡ b → b ≡ false
     over false e = refl
-    over true e = absurd (clash (passed_over (λ (p : ℕ). nat_lt (1024 * p) size) changed page e k))
+    over true e = absurd (clash (passed_over (λ (p : ℕ). nat_lt (page_bytes * p) size) changed page e k))
 
 -- ---- with more pages ----
 
@@ -215,7 +217,7 @@ with_lacks page ys x h = over (has_page ys page) refl h
   where
     apart : has_page ys page ≡ true → has_page ys x ≡ false → (b : Bool) → (page == x) ≡ b → b ≡ false
     apart has lacks false e = refl
-    apart has lacks true e = absurd (true_false (sym has ∙ subst (λ (q : ℕ). has_page ys q ≡ false) (sym (test_same page x e)) lacks))
+    apart has lacks true e = absurd (true_false (sym has ∙ subst (λ (q : ℕ). has_page ys q ≡ false) (sym (equal page x e)) lacks))
 
     over : (b : Bool) → has_page ys page ≡ b → has_page (cond b ys (ys ++ page ∷ [])) x ≡ false → (has_page ys x ≡ false) × ((page == x) ≡ false)
     over true e h = (h, apart e h (page == x) refl)
@@ -276,7 +278,7 @@ below_at top (p ∷ ps) h (suc i) le = below_at top ps h.1 i (omega (arith, le))
 
 lacks_at : (pages : List ℕ) (page i : ℕ) → has_page pages page ≡ false → i < length pages → slice_index pages i ≡ page → ⊥
 lacks_at [] page i h le e = absurd (omega (arith, le))
-lacks_at (p ∷ ps) page zero h le e = true_false (sym (subst (λ (q : ℕ). (p == q) || has_page ps q ≡ true) e (ap (λ (b : Bool). b || has_page ps p) (test_own p))) ∙ h)
+lacks_at (p ∷ ps) page zero h le e = true_false (sym (subst (λ (q : ℕ). (p == q) || has_page ps q ≡ true) e (ap (λ (b : Bool). b || has_page ps p) (equal_self p))) ∙ h)
 lacks_at (p ∷ ps) page (suc i) h le e = over (p == page) h (λ k. lacks_at ps page i k (omega (arith, le)) e)
   where
     over : (b : Bool) → b || has_page ps page ≡ false → (has_page ps page ≡ false → ⊥) → ⊥

@@ -7,7 +7,7 @@ use Rattle.locus_ids.specs.declared.ids.Kind.{Kind}
 use Rattle.locus_ids.specs.declared.ids.Stamp.{Stamp}
 use Rattle.locus_ids.specs.declared.sites.Sites.{Sites}
 use Rattle.schedule_lines.specs.declared.line.ScheduleLine.{ScheduleLine}
-use Rattle.inode_pack.specs.Committing.{IsVersion}
+use Rattle.stored_versions.specs.Versions.{IsVersion}
 use Rattle.wire_messages.specs.declared.body.Body.{Body}
 use Rattle.wire_messages.specs.declared.body.Body.TheVariants as body
 use Rattle.wire_messages.specs.declared.packet.Packet.{Packet}
@@ -20,18 +20,18 @@ use Rattle.the_run.specs.Kept.{WasSent}
 use Rattle.the_run.specs.Runs.{run_in}
 use Rattle.the_run.specs.Worlds.{Line, Numbered, Running, place_at}
 use Rattle.the_run.proofs.Runs.{every_run}
-use Rattle.row_laws.specs.Voids.{LinesFit}
-use Rattle.pack_laws.proofs.InstanceAgree.{run_agrees}
-use Rattle.pack_laws.specs.Packed.{BodyPacked, PullPacked, WorldPacked}
-use Rattle.pack_laws.proofs.PacksRun.{all_kept, first_all, sent_packed}
+use Rattle.rest_laws.specs.of_row_laws.Voids.{LinesFit}
+use Rattle.rest_laws.proofs.of_pack_laws.InstanceAgree.{run_agrees}
+use Rattle.rest_laws.specs.of_pack_laws.Packed.{BodyPacked, PullPacked, WorldPacked}
+use Rattle.rest_laws.proofs.of_pack_laws.PacksRun.{all_kept, first_all, sent_packed}
 use Rattle.tree_model.specs.Files.{HeldVersion}
 use Rattle.tree_laws.specs.Instances.{IsVersion as IsOfFile}
 use Rattle.tree_laws.specs.Packets.{BodyFact}
 use Rattle.tree_laws.specs.Stores.{PullFact}
 use Rattle.order_laws.specs.Joining.{PacksAreOfSites}
-use Rattle.one_tree_laws.specs.Places.{InsideFact}
-use Rattle.one_tree_laws.specs.Rest.{Past}
-use Rattle.one_tree_laws.proofs.Run.{sent_fact}
+use Rattle.rest_laws.specs.of_one_tree_laws.Places.{InsideFact}
+use Rattle.rest_laws.specs.of_one_tree_laws.Rest.{Past}
+use Rattle.rest_laws.proofs.of_one_tree_laws.Run.{sent_fact}
 use Rattle.fit_laws.specs.Pulling.{FitsPull, NoticeFits}
 use Rattle.fit_laws.specs.Versions.{FitsSlot, given}
 use Rattle.fit_laws.proofs.Running.{run_inside}

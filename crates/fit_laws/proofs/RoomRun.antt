@@ -3,6 +3,7 @@ use Rattle.std.proofs.Common.{◌≡◌, ◌≤◌, ℕ, ◌+◌, ◌==◌, nat_
 use Rattle.locus_ids.specs.declared.config.Config.{Config}
 use Rattle.locus_ids.specs.declared.ids.Serial.{Serial}
 use Rattle.locus_ids.specs.declared.sites.Links.{Links}
+use Rattle.locus_ids.specs.Sizes.{pack_pages}
 use Rattle.schedule_lines.specs.declared.line.ScheduleLine.{ScheduleLine}
 use Rattle.trace_book.specs.declared.record.Record.TheVariants as says
 use Rattle.wire_messages.specs.declared.packet.Packet.{Packet}
@@ -21,21 +22,21 @@ use Rattle.the_run.specs.Steps.{step}
 use Rattle.the_run.specs.Worlds.{Line, Place, PlaceRow, Running, Stopped, World, acts, arms, cut_told, disk_of, first_place, first_world, formatted, fresh, happened, links_of, place_at, place_in, place_site, puts, root_copy, script_of, stops_with}
 use Rattle.the_run.proofs.Boots.{acts_cases, at_each}
 use Rattle.the_run.proofs.Events.{happened_keeps, puts_other, puts_same}
-use Rattle.row_laws.specs.ByLine.{KeptIn}
-use Rattle.row_laws.specs.Voids.{LinesFit}
-use Rattle.row_laws.proofs.ByLine.{every_line}
-use Rattle.vector_laws.proofs.Held.{KeepsCopies, boots_copies}
+use Rattle.rest_laws.specs.of_row_laws.ByLine.{KeptIn}
+use Rattle.rest_laws.specs.of_row_laws.Voids.{LinesFit}
+use Rattle.rest_laws.proofs.of_row_laws.ByLine.{every_line}
+use Rattle.rest_laws.proofs.of_vector_laws.Held.{KeepsCopies, boots_copies}
 use Rattle.order_laws.specs.Joining.{PacksAreOfSites}
 use Rattle.tree_laws.specs.Doing.{FrameFact, StoreHeld}
 use Rattle.tree_laws.specs.Stores.{Ascends, InstanceFact, StageFact}
-use Rattle.one_tree_laws.specs.Places.{SiteFact, SiteIn, WorldFact}
-use Rattle.one_tree_laws.specs.Rest.{IsRest, Past}
-use Rattle.one_tree_laws.specs.Roles.{RolesDo}
-use Rattle.one_tree_laws.proofs.Composing.{rest_before}
-use Rattle.one_tree_laws.proofs.Rising.{every_among, row_key}
-use Rattle.one_tree_laws.proofs.Run.{first_holds, kept}
-use Rattle.one_tree_laws.proofs.Staying.{stays}
-use Rattle.one_tree_laws.proofs.Worlds.{Holds}
+use Rattle.rest_laws.specs.of_one_tree_laws.Places.{SiteFact, SiteIn, WorldFact}
+use Rattle.rest_laws.specs.of_one_tree_laws.Rest.{IsRest, Past}
+use Rattle.rest_laws.specs.of_one_tree_laws.Roles.{RolesDo}
+use Rattle.rest_laws.proofs.of_one_tree_laws.Composing.{rest_before}
+use Rattle.rest_laws.proofs.of_one_tree_laws.Rising.{every_among, row_key}
+use Rattle.rest_laws.proofs.of_one_tree_laws.Run.{first_holds, kept}
+use Rattle.rest_laws.proofs.of_one_tree_laws.Staying.{stays}
+use Rattle.rest_laws.proofs.of_one_tree_laws.Worlds.{Holds}
 use Rattle.rest_laws.proofs.Roles.{roles_do}
 use Rattle.fit_laws.specs.Room.{RoomFits}
 use Rattle.fit_laws.proofs.RoomSites.{SiteRooms, step_room}
@@ -98,7 +99,7 @@ happened_room c n ps told change w places g =
 without_instances : (s : Store) → RoomFits s → RoomFits (record { copies = s.copies; instances = [] })
 without_instances s h g = less (total (copy_pages g) s.copies) (total (changed_pages g) s.instances) (h g)
   where
-    less : (a b : ℕ) → a + b ≤ 3072 → a + 0 ≤ 3072
+    less : (a b : ℕ) → a + b ≤ pack_pages → a + 0 ≤ pack_pages
     less a b l = omega (arith, l)
 
 -- what a cut write leaves
@@ -109,15 +110,15 @@ cut_room v written d e write h true = λ g. more (total (copy_pages g) (with_row
     its : WriteRoom v.store (Some d)
     its = subst (WriteRoom v.store) e write
 
-    more : (a : ℕ) → a ≤ 3072 → a + 0 ≤ 3072
+    more : (a : ℕ) → a ≤ pack_pages → a + 0 ≤ pack_pages
     more a l = omega (arith, l)
 
 does : (c : Config) (n s : ℕ) (e : Event) (v : SiteView) (w : World) → place_at w s ≡ Some (Running v) → Holds c w → Roomy c w → Roomy c (acts n s v (step c s (links_of w s) v e) w)
 does c n s e v w here holds g = acts_cases (Roomy c) n s v o w
     (happened_room c n o.sent o.told (λ now. puts s (Running o.view) now) w (λ r f t p. placed s (Running o.view) w ((rooms r).view (f s (Running v) here)) f t p) g)
     (λ a. happened_room c n o.sent o.told (λ now. puts s (Running o.view) (arms a now)) w (λ r f t p. placed s (Running o.view) (arms a w) ((rooms r).view (f s (Running v) here)) f t p) g)
-    (λ d a q. happened_room c n [] (cut_told s d a.how a.left) (stops_with s (cut_disk v.boot v.store d a.how a.left)) w
-    (λ r f t p. placed s (Stopped (cut_disk v.boot v.store d a.how a.left)) w (cut_room v o.written d q ((rooms r).disk (f s (Running v) here)) (f s (Running v) here) (is_on_disk d a.how a.left)) f t p) g)
+    (λ d a q. happened_room c n [] (cut_told s v.store d a.how a.left) (stops_with s (cut_disk v.boot v.store d a.how a.left)) w
+    (λ r f t p. placed s (Stopped (cut_disk v.boot v.store d a.how a.left)) w (cut_room v o.written d q ((rooms r).disk (f s (Running v) here)) (f s (Running v) here) (is_on_disk v.store d a.how a.left)) f t p) g)
   where
     o : Outcome SiteView
     o = step c s (links_of w s) v e
@@ -178,7 +179,7 @@ root_pages c g (k ∷ ks) = over (k == g) (root_pages c g ks)
 formatted_fits : (c : Config) (s : ℕ) → RoomFits (record { copies = formatted c s; instances = [] })
 formatted_fits c s g = nothing (total (copy_pages g) (formatted c s)) (root_pages c g _)
   where
-    nothing : (n : ℕ) → n ≡ 0 → n + 0 ≤ 3072
+    nothing : (n : ℕ) → n ≡ 0 → n + 0 ≤ pack_pages
     nothing n e = omega (arith, e)
 
 first_rows : (c : Config) (ss : List ℕ) → Every (λ (r : PlaceRow). PlaceRoom r.place) (map (first_place c) ss)

@@ -5,19 +5,20 @@ use Rattle.locus_ids.specs.declared.sites.Links.{Links}
 use Rattle.locus_ids.specs.declared.sites.Members.{Members}
 use Rattle.locus_ids.specs.declared.sites.Sites.{Sites}
 use Rattle.locus_ids.specs.declared.config.Config.{Config}
+use Rattle.locus_ids.specs.Sizes.{pack_pages}
 use Rattle.trace_book.specs.Same.{same_epoch}
 use Rattle.trace_book.specs.declared.call.Call.TheVariants as call
 use Rattle.file_content.specs.Pages.{pages_of}
 use Rattle.wire_messages.specs.declared.packet.Packet.{Packet}
 use Rattle.wire_messages.specs.declared.body.Body.{Body}
 use Rattle.wire_messages.specs.declared.body.Body.TheVariants as body
-use Rattle.role_steps.specs.Tables.{row, without_row, first_that}
+use Rattle.role_steps.specs.Tables.{row, without_row, first_that, total, with_row}
 use Rattle.role_steps.specs.Views.{Frame, Store, SiteView, Promises, DiskWrite, Outcome, Event, Calls, Receives, Ticks, Parts, Merges, GivesUp, quiet, sends, tells, and_then, first_written}
 use Rattle.role_steps.specs.Reports.{on_report, on_open, on_look, on_closed, on_have}
 use Rattle.role_steps.specs.Opens.{on_opened}
-use Rattle.role_steps.specs.Storage.{copy_of, instance_of, on_open_ss, with_copy}
+use Rattle.role_steps.specs.Storage.{copy_of, instance_of, on_open_ss, with_copy, changed_pages, copy_key, copy_pages, free_pages}
 use Rattle.role_steps.specs.Epochs.{is_epoch_below, frame_in, leaves_of, leaves, promises, promised_view, reached, polls, round_id, begins_round, starts_merge, boots_where, merge_boot, part_boot, starts_part_of, starts_part, promise_packet, refuse_packet, on_poll, on_promise_of, on_refuse_of, joins, may_install, is_in, joined_packet, on_install, on_joined, passed_over, unanswered, chosen_members, chosen_set, installs_all, decides_if, passes_over_of, passes_over}
-use Rattle.role_steps.specs.Adoption.{notes_own_at, copy_adopted, table_group, with_store, without_pull, is_ready, is_above_own, adopts_pull, adopts_first}
+use Rattle.role_steps.specs.Adoption.{notes_own_at, copy_adopted, table_group, with_store, without_pull, is_ready, is_above_own, adopts_pull, adopts_first, has_room}
 use Rattle.role_steps.specs.Mends.{mending, kept_stamps, has_mend_in, wants_mend, starts_mend_of, starts_mend, starts_mends_in, row_file}
 use Rattle.role_steps.specs.declared.pulls.Pull.{Pull}
 use Rattle.role_steps.specs.declared.rounds.InEpoch.{InEpoch}
@@ -25,17 +26,13 @@ use Rattle.role_steps.specs.declared.rounds.Round.{Round}
 use Rattle.role_steps.specs.declared.synchronizing.SyncTable.{SyncTable}
 use Rattle.role_steps.specs.declared.synchronizing.FileRow.{FileRow}
 use Rattle.the_run.specs.Steps.{from_user, group_of, at_table_of, is_opened_in, takes_inside, is_dropped, takes_framed, takes, adopts_of, adopts_in, tries_at, starts_mends_of, ends_event, whole, ticks_after, call_frame, epoch_id, takes_call, step}
-use Rattle.run_laws.specs.Words.{Talks}
-use Rattle.run_laws.proofs.SyncTells.{on_opened_talks, on_open_talks, on_look_talks, on_report_talks, on_closed_talks, on_have_talks}
-use Rattle.run_laws.proofs.RolesTell.{on_notify_talks, on_page_talks, on_call_talks, on_open_done_talks, on_op_done_talks, on_close_done_talks, on_look_done_talks}
+use Rattle.rest_laws.specs.of_run_laws.Words.{Talks}
+use Rattle.rest_laws.proofs.of_run_laws.Telling.{on_opened_talks, on_open_talks, on_look_talks, on_report_talks, on_closed_talks, on_have_talks, on_notify_talks, on_page_talks, on_call_talks, on_open_done_talks, on_op_done_talks, on_close_done_talks, on_look_done_talks}
 use Rattle.std.specs.Prelude.{nat_le}
 use Rattle.std.proofs.lemmas.Bool.Decides.{nat_tests}
-use Rattle.role_steps.specs.Adoption.{has_room}
+use Rattle.role_steps.proofs.of_plain_facts.Numbers.{equal}
+use Rattle.role_steps.proofs.of_plain_facts.Tests.{and_first, and_second}
 use Rattle.role_steps.specs.Pulling.{is_complete}
-use Rattle.role_steps.specs.Storage.{changed_pages, copy_key, copy_pages, free_pages, pack_pages}
-use Rattle.role_steps.specs.Tables.{total, with_row}
-use Rattle.tree_laws.proofs.Names.{test_same}
-use Rattle.order_laws.proofs.Alone.{first_of, second_of}
 use Rattle.fit_laws.specs.Room.{RoomFits}
 use Rattle.fit_laws.proofs.RoomStore.{Calm, Rooms, StoreGood, calm_rooms, calm_same, calm_then, on_close_room, on_closed_ok_calm, on_op_room, on_open_ss_calm, rooms_then, then_rooms}
 use Rattle.fit_laws.proofs.Totals.{row_more}
@@ -105,10 +102,10 @@ noted_store f p (Some t) v = refl
 
 -- a ready pull has room
 pub ready_room : (v : SiteView) (p : Pull) → is_ready v p ≡ true → (pages_of (length p.content) ≤ free_pages v.store p.file.group)
-ready_room v p h = subst (λ (n : ℕ). pages_of n ≤ free_pages v.store p.file.group) (sym whole) (low (first_of (has_room v.store p) _ (second_of (is_complete p) _ h)))
+ready_room v p h = subst (λ (n : ℕ). pages_of n ≤ free_pages v.store p.file.group) (sym whole) (low (and_first (has_room v.store p) _ (and_second (is_complete p) _ h)))
   where
     whole : length p.content ≡ p.size
-    whole = test_same (length p.content) p.size (first_of (is_complete p) _ h)
+    whole = equal (length p.content) p.size (and_first (is_complete p) _ h)
 
     low : nat_le (pages_of p.size) (free_pages v.store p.file.group) ≡ true → pages_of p.size ≤ free_pages v.store p.file.group
     low e = grind (arith, nat_tests)
@@ -119,17 +116,17 @@ adopted_fits v p ready h g = over (p.file.group == g) refl
     more : total (copy_pages g) (with_row copy_key (copy_adopted p) v.store.copies) ≤ total (copy_pages g) v.store.copies + copy_pages g (copy_adopted p)
     more = row_more (copy_pages g) copy_key (copy_adopted p) v.store.copies
 
-    free_is : p.file.group ≡ g → pages_of (length p.content) ≤ 3072 - (total (copy_pages g) v.store.copies + total (changed_pages g) v.store.instances)
-    free_is e = subst (λ (n : ℕ). pages_of (length p.content) ≤ 3072 - (total (copy_pages n) v.store.copies + total (changed_pages n) v.store.instances)) e (ready_room v p ready)
+    free_is : p.file.group ≡ g → pages_of (length p.content) ≤ pack_pages - (total (copy_pages g) v.store.copies + total (changed_pages g) v.store.instances)
+    free_is e = subst (λ (n : ℕ). pages_of (length p.content) ≤ pack_pages - (total (copy_pages n) v.store.copies + total (changed_pages n) v.store.instances)) e (ready_room v p ready)
 
-    here : (a b x y z : ℕ) → a ≤ b + x → x ≡ z → z ≤ 3072 - (b + y) → b + y ≤ 3072 → a + y ≤ 3072
+    here : (a b x y z : ℕ) → a ≤ b + x → x ≡ z → z ≤ pack_pages - (b + y) → b + y ≤ pack_pages → a + y ≤ pack_pages
     here a b x y z l e m n = omega (arith, l, e, m, n)
 
-    other : (a b x y : ℕ) → a ≤ b + x → x ≡ 0 → b + y ≤ 3072 → a + y ≤ 3072
+    other : (a b x y : ℕ) → a ≤ b + x → x ≡ 0 → b + y ≤ pack_pages → a + y ≤ pack_pages
     other a b x y l e n = omega (arith, l, e, n)
 
-    over : (b : Bool) → (p.file.group == g) ≡ b → total (copy_pages g) (with_row copy_key (copy_adopted p) v.store.copies) + total (changed_pages g) v.store.instances ≤ 3072
-    over true e = here (total (copy_pages g) (with_row copy_key (copy_adopted p) v.store.copies)) (total (copy_pages g) v.store.copies) (copy_pages g (copy_adopted p)) (total (changed_pages g) v.store.instances) (pages_of (length p.content)) more (ap (λ (x : Bool). cond x (pages_of (length p.content)) 0) e) (free_is (test_same p.file.group g e)) (h g)
+    over : (b : Bool) → (p.file.group == g) ≡ b → total (copy_pages g) (with_row copy_key (copy_adopted p) v.store.copies) + total (changed_pages g) v.store.instances ≤ pack_pages
+    over true e = here (total (copy_pages g) (with_row copy_key (copy_adopted p) v.store.copies)) (total (copy_pages g) v.store.copies) (copy_pages g (copy_adopted p)) (total (changed_pages g) v.store.instances) (pages_of (length p.content)) more (ap (λ (x : Bool). cond x (pages_of (length p.content)) 0) e) (free_is (equal p.file.group g e)) (h g)
     over false e = other (total (copy_pages g) (with_row copy_key (copy_adopted p) v.store.copies)) (total (copy_pages g) v.store.copies) (copy_pages g (copy_adopted p)) (total (changed_pages g) v.store.instances) more (ap (λ (x : Bool). cond x (pages_of (length p.content)) 0) e) (h g)
 
 adopts_pull_room : (f : Frame) (p : Pull) (v : SiteView) → is_ready v p ≡ true → SiteRooms v (adopts_pull f p v)
@@ -138,7 +135,7 @@ adopts_pull_room f p v ready = record {
   disk = λ h g. less (total (copy_pages g) (with_row copy_key (copy_adopted p) v.store.copies)) (total (changed_pages g) v.store.instances) (adopted_fits v p ready h g);
 }
   where
-    less : (a b : ℕ) → a + b ≤ 3072 → a ≤ 3072
+    less : (a b : ℕ) → a + b ≤ pack_pages → a ≤ pack_pages
     less a b l = omega (arith, l)
 
 adopts_first_room : (f : Frame) (ps : List Pull) (v : SiteView) → SiteRooms v (adopts_first f ps v)

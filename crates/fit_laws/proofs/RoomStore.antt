@@ -1,11 +1,15 @@
 -- What storage sites do in the room of their packs.
 use Rattle.std.proofs.Common.{◌≡◌, ◌≤◌, ℕ, ◌+◌, ◌-◌, ◌==◌, nat_lt, Bool, true, false, ◌&&◌, cond, List, [], length, Option, None, Some, refl, sym, ◌∙◌, ap, subst, arith}
 use Rattle.std.proofs.lemmas.Bool.Decides.{nat_tests}
+use Rattle.role_steps.proofs.of_plain_facts.Numbers.{equal}
+use Rattle.role_steps.proofs.of_plain_facts.Options.{some_same}
+use Rattle.role_steps.proofs.of_plain_facts.Tests.{true_false}
 use Rattle.locus_ids.specs.declared.ids.Mode.{Mode}
 use Rattle.locus_ids.specs.declared.ids.Mode.TheVariants as mode
 use Rattle.locus_ids.specs.declared.ids.Serial.{Serial}
 use Rattle.locus_ids.specs.declared.ids.Stamp.{Stamp}
 use Rattle.locus_ids.specs.declared.refusal.Refusal.TheVariants as refusal
+use Rattle.locus_ids.specs.Sizes.{content_bytes_max, pack_pages}
 use Rattle.trace_book.specs.declared.operation.Op.{Op}
 use Rattle.trace_book.specs.declared.operation.Op.TheVariants as op
 use Rattle.trace_book.specs.declared.operation.Outcome.{Outcome as Result}
@@ -20,7 +24,7 @@ use Rattle.wire_messages.specs.declared.body.CloseAnswer.TheVariants as closing
 use Rattle.dir_format.specs.declared.entry.Entry.{Entry}
 use Rattle.dir_format.specs.Grammar.{dir_bytes}
 use Rattle.dir_reconcile.specs.Rescues.{rescue_is_spent, rescued}
-use Rattle.role_steps.specs.Storage.{StoreRequest, begun_instance, changed_pages, closes_owing, commits, content_of, copy_key, copy_made, copy_of, copy_pages, ends_at, free_pages, instance_committed, instance_key, instance_of, is_open, is_open_in, is_spent, made_version, next_stamp, next_vector, on_close, on_close_at, on_close_of, on_closed_ok, on_closed_ok_of, on_open_ss, on_open_ss_of, opens, opens_made, own_ino, pack_pages, shut, shuts, shuts_again, with_instance}
+use Rattle.role_steps.specs.Storage.{StoreRequest, begun_instance, changed_pages, closes_owing, commits, content_of, copy_key, copy_made, copy_of, copy_pages, ends_at, free_pages, instance_committed, instance_key, instance_of, is_open, is_open_in, is_spent, made_version, next_stamp, next_vector, on_close, on_close_at, on_close_of, on_closed_ok, on_closed_ok_of, on_open_ss, on_open_ss_of, opens, opens_made, own_ino, shut, shuts, shuts_again, with_instance}
 use Rattle.role_steps.specs.Operations.{by_number, op_again, acts, acts_committed, commits_owing, executes, executes_effect, last_committed, on_op, on_op_at, on_op_of}
 use Rattle.role_steps.specs.OperationEffects.{Mending, effect_of, has_several, joined_contents, or_spent}
 use Rattle.role_steps.specs.Tables.{row, total, with_latest, with_row}
@@ -30,8 +34,7 @@ use Rattle.role_steps.specs.declared.instances.Instance.{Instance}
 use Rattle.role_steps.specs.declared.instances.Stage.{Stage}
 use Rattle.role_steps.specs.declared.instances.Stage.TheVariants as stage
 use Rattle.tree_laws.specs.Stores.{Ascends}
-use Rattle.tree_laws.proofs.Names.{some_is, test_same, true_false}
-use Rattle.one_tree_laws.proofs.Rising.{row_key}
+use Rattle.rest_laws.proofs.of_one_tree_laws.Rising.{row_key}
 use Rattle.fit_laws.specs.Room.{RoomFits}
 use Rattle.fit_laws.specs.Working.{ChangesPages, FitsOver}
 use Rattle.fit_laws.proofs.Effects.{effect_so}
@@ -63,7 +66,7 @@ calm_same old new written e none = record { copies = ap (λ (s : Store). s.copie
 calm_fits : (old new : Store) (written : Option DiskWrite) → Calm old new written → RoomFits old → RoomFits new
 calm_fits old new written k h g = sum (total (copy_pages g) new.copies) (total (copy_pages g) old.copies) (total (changed_pages g) new.instances) (total (changed_pages g) old.instances) (ap (λ (xs : List FileCopy). total (copy_pages g) xs) k.copies) (k.changed g) (h g)
   where
-    sum : (a b x y : ℕ) → a ≡ b → x ≤ y → b + y ≤ 3072 → a + x ≤ 3072
+    sum : (a b x y : ℕ) → a ≡ b → x ≤ y → b + y ≤ pack_pages → a + x ≤ pack_pages
     sum a b x y e l m = omega (arith, e, l, m)
 
 pub calm_rooms : (old new : Store) (written : Option DiskWrite) → Calm old new written → Rooms old new written
@@ -169,8 +172,8 @@ module _ (f : Frame) (s : Store) (good : Ascends copy_key s.copies) (i : Instanc
   old_pages g q (Some y) e = ap (λ (x : Bool). cond x (pages_of (length y.content)) 0) (subst (λ (n : ℕ). (n == g) ≡ true) (sym (here.own y e)) q)
 
   -- what the copies and the changed pages of a group come to
-  counts : (g : ℕ) (b : Bool) → (i.file.group == g) ≡ b → (total (copy_pages g) s.copies + total (changed_pages g) s.instances ≤ 3072) →
-      (total (copy_pages g) (with_row copy_key new_copy s.copies) + total (changed_pages g) (with_latest instance_key next s.instances) ≤ 3072) × (total (copy_pages g) (with_row copy_key new_copy s.copies) ≤ 3072)
+  counts : (g : ℕ) (b : Bool) → (i.file.group == g) ≡ b → (total (copy_pages g) s.copies + total (changed_pages g) s.instances ≤ pack_pages) →
+      (total (copy_pages g) (with_row copy_key new_copy s.copies) + total (changed_pages g) (with_latest instance_key next s.instances) ≤ pack_pages) × (total (copy_pages g) (with_row copy_key new_copy s.copies) ≤ pack_pages)
   counts g true q h =
       let copies : total (copy_pages g) (with_row copy_key new_copy s.copies) + measured (copy_pages g) (copy_of s i.file) ≡ total (copy_pages g) s.copies + copy_pages g new_copy = row_total (copy_pages g) copy_key new_copy s.copies good in
       let changed : total (changed_pages g) (with_latest instance_key next s.instances) + changed_pages g i ≡ total (changed_pages g) s.instances + changed_pages g next = exchanged s i next found refl g in
@@ -180,7 +183,7 @@ module _ (f : Frame) (s : Store) (good : Ascends copy_key s.copies) (i : Instanc
       (pages_of (length i.work.content)) (pages_of (length (content_of (copy_of s i.file)))) (length i.work.changed)
       copies changed pages (made_pages g true q) (old_pages g q (copy_of s i.file) refl) (was_changed g q) (zero_changed g) h
     where
-      sum : (tc' po tc pm ti' mi ti mj pc pb lc : ℕ) → tc' + po ≡ tc + pm → ti' + mi ≡ ti + mj → pc ≤ pb + lc → pm ≡ pc → po ≡ pb → mi ≡ lc → mj ≡ 0 → tc + ti ≤ 3072 → (tc' + ti' ≤ 3072) × (tc' ≤ 3072)
+      sum : (tc' po tc pm ti' mi ti mj pc pb lc : ℕ) → tc' + po ≡ tc + pm → ti' + mi ≡ ti + mj → pc ≤ pb + lc → pm ≡ pc → po ≡ pb → mi ≡ lc → mj ≡ 0 → tc + ti ≤ pack_pages → (tc' + ti' ≤ pack_pages) × (tc' ≤ pack_pages)
       sum tc' po tc pm ti' mi ti mj pc pb lc a b d e f g h k = (omega (arith, a, b, d, e, f, g, h, k), omega (arith, a, b, d, e, f, g, h, k))
   counts g false q h =
       let copies : total (copy_pages g) (with_row copy_key new_copy s.copies) + measured (copy_pages g) (copy_of s i.file) ≡ total (copy_pages g) s.copies + copy_pages g new_copy = row_total (copy_pages g) copy_key new_copy s.copies good in
@@ -189,7 +192,7 @@ module _ (f : Frame) (s : Store) (good : Ascends copy_key s.copies) (i : Instanc
       (total (changed_pages g) (with_latest instance_key next s.instances)) (changed_pages g i) (total (changed_pages g) s.instances) (changed_pages g next)
       copies changed (made_pages g false q) (zero_changed g) h
     where
-      sum : (tc' po tc pm ti' mi ti mj : ℕ) → tc' + po ≡ tc + pm → ti' + mi ≡ ti + mj → pm ≡ 0 → mj ≡ 0 → tc + ti ≤ 3072 → (tc' + ti' ≤ 3072) × (tc' ≤ 3072)
+      sum : (tc' po tc pm ti' mi ti mj : ℕ) → tc' + po ≡ tc + pm → ti' + mi ≡ ti + mj → pm ≡ 0 → mj ≡ 0 → tc + ti ≤ pack_pages → (tc' + ti' ≤ pack_pages) × (tc' ≤ pack_pages)
       sum tc' po tc pm ti' mi ti mj a b d e h = (omega (arith, a, b, d, e, h), omega (arith, a, b, d, e, h))
 
   pub commits_room : Rooms s (commits f i s).view (commits f i s).written
@@ -247,7 +250,7 @@ module _ (f : Frame) (s : Store) (i : Instance) (found : row instance_key (insta
       next w = record i { work = w; answered = Some r }
 
       -- the group has room for the pages that an operation changes
-      grows : is_refusal r ≡ false → RoomFits s → (g : ℕ) (b : Bool) → is_open_in g i ≡ b → total (copy_pages g) s.copies + total (changed_pages g) (with_latest instance_key (next (carried_out e i.work)) s.instances) ≤ 3072
+      grows : is_refusal r ≡ false → RoomFits s → (g : ℕ) (b : Bool) → is_open_in g i ≡ b → total (copy_pages g) s.copies + total (changed_pages g) (with_latest instance_key (next (carried_out e i.work)) s.instances) ≤ pack_pages
       grows q h g b here =
           let k : total (changed_pages g) (with_latest instance_key (next (carried_out e i.work)) s.instances) + changed_pages g i ≡ total (changed_pages g) s.instances + changed_pages g (next (carried_out e i.work)) = exchanged s i (next (carried_out e i.work)) found refl g in
           by b here k (h g)
@@ -257,18 +260,18 @@ module _ (f : Frame) (s : Store) (i : Instance) (found : row instance_key (insta
           group_is false y k = absurd (true_false (sym k))
 
           same_group : is_open_in g i ≡ true → i.file.group ≡ g
-          same_group p = test_same i.file.group g (group_is (is_open i.stage) (i.file.group == g) p)
+          same_group p = equal i.file.group g (group_is (is_open i.stage) (i.file.group == g) p)
 
-          closed : (tc ti' mi ti mj : ℕ) → ti' + mi ≡ ti + mj → mi ≡ 0 → mj ≡ 0 → tc + ti ≤ 3072 → tc + ti' ≤ 3072
+          closed : (tc ti' mi ti mj : ℕ) → ti' + mi ≡ ti + mj → mi ≡ 0 → mj ≡ 0 → tc + ti ≤ pack_pages → tc + ti' ≤ pack_pages
           closed tc ti' mi ti mj a b d e = omega (arith, a, b, d, e)
 
-          opened : (tc ti' mi ti mj lc la free : ℕ) → ti' + mi ≡ ti + mj → mi ≡ lc → mj ≡ la → la ≤ lc + free → free ≡ 3072 - (tc + ti) → tc + ti ≤ 3072 → tc + ti' ≤ 3072
+          opened : (tc ti' mi ti mj lc la free : ℕ) → ti' + mi ≡ ti + mj → mi ≡ lc → mj ≡ la → la ≤ lc + free → free ≡ pack_pages - (tc + ti) → tc + ti ≤ pack_pages → tc + ti' ≤ pack_pages
           opened tc ti' mi ti mj lc la free a b d e f g = omega (arith, a, b, d, e, f, g)
 
-          free_is : i.file.group ≡ g → free_pages s i.file.group ≡ 3072 - (total (copy_pages g) s.copies + total (changed_pages g) s.instances)
-          free_is p = ap (λ (n : ℕ). 3072 - (total (copy_pages n) s.copies + total (changed_pages n) s.instances)) p
+          free_is : i.file.group ≡ g → free_pages s i.file.group ≡ pack_pages - (total (copy_pages g) s.copies + total (changed_pages g) s.instances)
+          free_is p = ap (λ (n : ℕ). pack_pages - (total (copy_pages n) s.copies + total (changed_pages n) s.instances)) p
 
-          by : (b : Bool) → is_open_in g i ≡ b → total (changed_pages g) (with_latest instance_key (next (carried_out e i.work)) s.instances) + changed_pages g i ≡ total (changed_pages g) s.instances + changed_pages g (next (carried_out e i.work)) → total (copy_pages g) s.copies + total (changed_pages g) s.instances ≤ 3072 → total (copy_pages g) s.copies + total (changed_pages g) (with_latest instance_key (next (carried_out e i.work)) s.instances) ≤ 3072
+          by : (b : Bool) → is_open_in g i ≡ b → total (changed_pages g) (with_latest instance_key (next (carried_out e i.work)) s.instances) + changed_pages g i ≡ total (changed_pages g) s.instances + changed_pages g (next (carried_out e i.work)) → total (copy_pages g) s.copies + total (changed_pages g) s.instances ≤ pack_pages → total (copy_pages g) s.copies + total (changed_pages g) (with_latest instance_key (next (carried_out e i.work)) s.instances) ≤ pack_pages
           by true p k m = opened (total (copy_pages g) s.copies) (total (changed_pages g) (with_latest instance_key (next (carried_out e i.work)) s.instances)) (changed_pages g i) (total (changed_pages g) s.instances) (changed_pages g (next (carried_out e i.work))) (length i.work.changed) (length after) (free_pages s i.file.group)
               k (ap (λ (x : Bool). cond x (length i.work.changed) 0) p) (ap (λ (x : Bool). cond x (length after) 0) p) (longer q) (free_is (same_group p)) m
           by false p k m = closed (total (copy_pages g) s.copies) (total (changed_pages g) (with_latest instance_key (next (carried_out e i.work)) s.instances)) (changed_pages g i) (total (changed_pages g) s.instances) (changed_pages g (next (carried_out e i.work)))
@@ -287,10 +290,10 @@ spent_so content spent None made e k = absurd (none k)
   where
     none : ◌≡◌ {A = Option Effect} None (Some e) → ⊥
     none k = cc
-spent_so content spent (Some x) made e k = subst (ChangesPages content) (some_is (record x { spent = spent }) e k) (record { size = (made x refl).size; below = (made x refl).below; kept = (made x refl).kept })
+spent_so content spent (Some x) made e k = subst (ChangesPages content) (some_same (record x { spent = spent }) e k) (record { size = (made x refl).size; below = (made x refl).below; kept = (made x refl).kept })
 
 -- what an operation does at the storage site names the pages that it changes
-here_so : (o : Op) (seen : List ℕ) (m : Mending) (content : List ℕ) → length content ≤ 65536 → (e : Effect) → effect_of o seen m content ≡ Some e → ChangesPages content e
+here_so : (o : Op) (seen : List ℕ) (m : Mending) (content : List ℕ) → length content ≤ content_bytes_max → (e : Effect) → effect_of o seen m content ≡ Some e → ChangesPages content e
 here_so (op.Remove name ino) seen m content small e k = effect_so content small (Removes name ino seen) e k
 here_so op.Mend seen m content small e k = spent_so content (rescue_is_spent ds m.kept) (effect (Mends (has_several m.contents) (dir_bytes (rescued ds m.kept))) content) (λ x p. effect_so content small (Mends (has_several m.contents) (dir_bytes (rescued ds m.kept))) x p) e k
   where

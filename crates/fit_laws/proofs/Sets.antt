@@ -4,6 +4,7 @@ use Rattle.std.proofs.lemmas.Bool.Decides.{nat_tests}
 use Rattle.std.proofs.lemmas.Nat.Bits.{bit_at-zero}
 use Rattle.std.specs.Int.{bit_at}
 use Rattle.std.specs.Option.{option_map}
+use Rattle.role_steps.proofs.of_plain_facts.Tests.{and_first, and_second, true_false}
 use Rattle.locus_ids.specs.Sites.{has}
 use Rattle.locus_ids.specs.declared.config.Config.{Config}
 use Rattle.locus_ids.specs.declared.ids.CallId.{CallId}
@@ -18,7 +19,7 @@ use Rattle.trace_book.specs.declared.record.Record.{Record}
 use Rattle.trace_book.specs.declared.record.Record.TheVariants as says
 use Rattle.role_steps.specs.Views.{Told, Shown}
 use Rattle.the_run.specs.Worlds.{Line}
-use Rattle.pack_laws.specs.Packs.{ToldPacked}
+use Rattle.rest_laws.specs.of_pack_laws.Packs.{ToldPacked}
 use Rattle.tree_model.specs.declared.accepted.Waiting.{Waiting}
 use Rattle.tree_model.specs.Calls.{call_named}
 use Rattle.tree_model.specs.Files.{first_call, making_words, set_of_file, words_named}
@@ -27,10 +28,8 @@ use Rattle.tree_model.specs.Opening.{sites_made}
 use Rattle.tree_model.specs.Packs.{no_sites, packs_of}
 use Rattle.tree_laws.specs.Instances.{Stands}
 use Rattle.tree_laws.specs.Printed.{entries, onto_entries}
-use Rattle.tree_laws.proofs.Names.{true_false}
-use Rattle.order_laws.proofs.Alone.{first_of, second_of}
 use Rattle.order_laws.proofs.Standing.{same_file_eq}
-use Rattle.one_tree_laws.specs.Rest.{EachRest, Past, RangeCall}
+use Rattle.rest_laws.specs.of_one_tree_laws.Rest.{EachRest, Past, RangeCall}
 use Rattle.rest_laws.specs.StoreStepKnown.{IsKnownCall}
 use Rattle.rest_laws.proofs.StoreStepKnown.{known_call}
 
@@ -76,7 +75,7 @@ format_packed k (p ∷ ps) f s e = at (p.0 == 0) refl (format_packed (k + 1) ps 
     none = omega arith
 
     root : (p.0 == 0) ≡ false → (b : Bool) → is_version f s (format_version k) ≡ b → (is_in (format_versions (k + 1) ps) f s ≡ true → Later) → b || is_in (format_versions (k + 1) ps) f s ≡ true → Here
-    root q true is later e = (0, ap (λ (g : FileId). g.group) (sym (same_file_eq (format_version k).file f (first_of (same_file (format_version k).file f) _ is))) ∙ none, nonzero p q)
+    root q true is later e = (0, ap (λ (g : FileId). g.group) (sym (same_file_eq (format_version k).file f (and_first (same_file (format_version k).file f) _ is))) ∙ none, nonzero p q)
     root q false is later e = more (later e)
 
     at : (b : Bool) → (p.0 == 0) ≡ b → (is_in (format_versions (k + 1) ps) f s ≡ true → Later) → is_in (cond b (format_versions (k + 1) ps) (format_version k ∷ format_versions (k + 1) ps)) f s ≡ true → Here
@@ -98,7 +97,7 @@ stands_packed c (x ∷ older) h f s e = over x.told h.0.packed (stands_packed c 
     printed (says.Commit g z stamp parents content) packed later e = at (same_file g f && same_stamp stamp s) refl e
       where
         at : (b : Bool) → (same_file g f && same_stamp stamp s) ≡ b → b || is_in (history c (entries older)) f s ≡ true → 1 ≤ (packs_of c f.group).0
-        at true is e = subst (λ (y : FileId). 1 ≤ (packs_of c y.group).0) (same_file_eq g f (first_of (same_file g f) _ is)) (has_some (packs_of c g.group) z packed.0)
+        at true is e = subst (λ (y : FileId). 1 ≤ (packs_of c y.group).0) (same_file_eq g f (and_first (same_file g f) _ is)) (has_some (packs_of c g.group) z packed.0)
         at false is e = later e
     printed _ packed later e = later e
 
@@ -112,7 +111,7 @@ call_some : (c : Config) (d : CallId) (w : Waiting) → IsKnownCall c d w → (p
 call_some c d w known packs some = over w.words known.range
   where
     asked : (n : ℕ) (path : List ℕ) (set : Sites) → is_word path && is_some_sites n set ≡ true → 1 ≤ set.0
-    asked n path set e = low (first_of (nat_lt 0 set.0) _ (second_of (is_word path) _ e))
+    asked n path set e = low (and_first (nat_lt 0 set.0) _ (and_second (is_word path) _ e))
       where
         low : nat_lt 0 set.0 ≡ true → 1 ≤ set.0
         low e = grind (arith, nat_tests)

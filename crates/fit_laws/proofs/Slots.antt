@@ -7,7 +7,7 @@ use Rattle.the_run.specs.Worlds.{Line}
 use Rattle.tree_model.specs.Files.{version_of}
 use Rattle.tree_laws.specs.Instances.{Stands}
 use Rattle.tree_laws.specs.Printed.{entries}
-use Rattle.one_tree_laws.specs.Rest.{Past}
+use Rattle.rest_laws.specs.of_one_tree_laws.Rest.{Past}
 use Rattle.fit_laws.specs.Versions.{FitsSlot}
 use Rattle.fit_laws.proofs.Numbers.{stands_inode}
 use Rattle.fit_laws.proofs.Sets.{set_some}

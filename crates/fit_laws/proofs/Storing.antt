@@ -2,6 +2,7 @@
 use Rattle.std.proofs.Common.{◌≡◌, ◌≤◌, ◌<◌, ◌^◌, ℕ, ◌+◌, ◌-◌, ◌==◌, max, nat_lt, ◌&&◌, cond, Bool, true, false, List, [], ◌∷◌, length, Option, None, Some, refl, sym, ◌∙◌, ap, subst, arith, inl, inr}
 use Rattle.std.specs.Option.{option_map}
 use Rattle.std.proofs.lemmas.Bool.Decides.{nat_tests}
+use Rattle.role_steps.proofs.of_plain_facts.Options.{some_same}
 use Rattle.locus_ids.specs.declared.config.Config.{Config}
 use Rattle.locus_ids.specs.declared.ids.EpochId.{EpochId}
 use Rattle.locus_ids.specs.declared.ids.FileId.{FileId}
@@ -9,12 +10,13 @@ use Rattle.locus_ids.specs.declared.ids.Mode.{Mode}
 use Rattle.locus_ids.specs.declared.ids.Mode.TheVariants as mode
 use Rattle.locus_ids.specs.declared.ids.Serial.{Serial}
 use Rattle.locus_ids.specs.declared.ids.Stamp.{Stamp}
+use Rattle.locus_ids.specs.Sizes.{inode_span, inodes_max, pack_pages, sites_max}
 use Rattle.version_vector.specs.Counters.{part, raised}
 use Rattle.commit_graph.specs.Counters.{counter, greatest}
 use Rattle.file_content.specs.Pages.{pages_of}
-use Rattle.pack_layout.specs.Layout.{AgreesWith, IsStamp}
+use Rattle.stored_versions.specs.Versions.{AgreesWith, IsStamp}
 use Rattle.role_steps.specs.Own.{Every}
-use Rattle.role_steps.specs.Storage.{changed_pages, content_of, copy_of, copy_pages, is_open, pack_pages}
+use Rattle.role_steps.specs.Storage.{changed_pages, content_of, copy_of, copy_pages, is_open}
 use Rattle.role_steps.specs.Tables.{total}
 use Rattle.role_steps.specs.Views.{Frame, Store, Told, Begins, Reserves}
 use Rattle.role_steps.specs.declared.copies.FileCopy.{FileCopy}
@@ -22,9 +24,9 @@ use Rattle.role_steps.specs.declared.instances.Instance.{Instance}
 use Rattle.role_steps.specs.declared.instances.Stage.{Stage}
 use Rattle.role_steps.specs.declared.instances.Stage.TheVariants as stage
 use Rattle.the_run.specs.Worlds.{Line}
-use Rattle.vector_laws.specs.HistoryCommits.{IsSite}
-use Rattle.pack_laws.specs.Making.{IsOwnNumber}
-use Rattle.pack_laws.specs.Packs.{HasPack, ToldPacked}
+use Rattle.rest_laws.specs.of_vector_laws.HistoryCommits.{IsSite}
+use Rattle.rest_laws.specs.of_pack_laws.Making.{IsOwnNumber}
+use Rattle.rest_laws.specs.of_pack_laws.Packs.{HasPack, ToldPacked}
 use Rattle.tree_model.specs.declared.instance.Instance.{Instance as Open}
 use Rattle.tree_model.specs.Files.{HeldVersion, held_version, version_of}
 use Rattle.tree_model.specs.Histories.{held, history, stamped_content}
@@ -38,14 +40,13 @@ use Rattle.tree_laws.specs.Past.{BeginsIt, ReservesIt, WasBegun, WasReserved}
 use Rattle.tree_laws.specs.Instances.{held_in}
 use Rattle.tree_laws.specs.Printed.{entries}
 use Rattle.tree_laws.specs.Stores.{InstanceFact, LiesAs, RunsAs, StageFact, WorksAs, copy_for}
-use Rattle.tree_laws.proofs.Names.{some_is}
 use Rattle.order_laws.proofs.Lists.{all_found}
-use Rattle.store_laws.specs.Rests.{StandsOnHeld, StoreRests}
-use Rattle.store_laws.proofs.Raising.{joins_greatest, length_raised, raised_other, raised_same, sixteen}
+use Rattle.rest_laws.specs.of_store_laws.Rests.{StandsOnHeld, StoreRests}
+use Rattle.rest_laws.proofs.of_store_laws.Raising.{joins_greatest, length_raised, raised_other, raised_same, sixteen}
 use Rattle.rest_laws.proofs.StoreStepCounters.{counter_low}
 use Rattle.rest_laws.proofs.StoreStepKnown.{inside_site}
 use Rattle.rest_laws.proofs.StoreStepResting.{store_rests}
-use Rattle.one_tree_laws.specs.Rest.{EachRest, Past}
+use Rattle.rest_laws.specs.of_one_tree_laws.Rest.{EachRest, Past}
 use Rattle.fit_laws.specs.Inodes.{IsInodeNumber}
 use Rattle.fit_laws.specs.Room.{RoomFits}
 use Rattle.fit_laws.specs.Storing.{AreStorable, MayStore, RunsStorable}
@@ -87,18 +88,18 @@ greatest_low g low (p ∷ ps) = both (g p) (greatest g ps) (low p) (greatest_low
 
 module _ (c : Config) (t : List Line) (past : Past c t) (file : FileId) (parents : List Stamp) (v : List ℕ) (joins : JoinsParents c t file parents v) where
   part_low : (k : ℕ) → part v k < 4294967295
-  part_low k = over (nat_lt k 16) refl
+  part_low k = over (nat_lt k sites_max) refl
     where
-      within : nat_lt k 16 ≡ true → k < 16
+      within : nat_lt k sites_max ≡ true → k < sites_max
       within q = grind (arith, nat_tests)
 
-      outside : nat_lt k 16 ≡ false → length v ≤ k
-      outside q = (let e : length v ≡ 16 = sixteen c t file parents v joins in let le : 16 ≤ k = grind (arith, nat_tests) in omega (arith, e, le))
+      outside : nat_lt k sites_max ≡ false → length v ≤ k
+      outside q = (let e : length v ≡ sites_max = sixteen c t file parents v joins in let le : sites_max ≤ k = grind (arith, nat_tests) in omega (arith, e, le))
 
       nothing : (n : ℕ) → n ≡ 0 → n < 4294967295
       nothing n e = omega (arith, e)
 
-      over : (b : Bool) → nat_lt k 16 ≡ b → part v k < 4294967295
+      over : (b : Bool) → nat_lt k sites_max ≡ b → part v k < 4294967295
       over true q = subst (λ (n : ℕ). n < 4294967295) (sym (joins_greatest c t file parents v joins k (within q)))
           (greatest_low (λ p. counter (history c (entries t)) file p (1 + k)) (counter_low c t past.followed past.rest.each file (1 + k) (omega arith)) parents)
       over false q = nothing (part v k) (beyond v k (outside q))
@@ -139,7 +140,7 @@ module _ (c : Config) (t : List Line) (past : Past c t) (file : FileId) (parents
     }
       where
         inside : me - 1 < length v
-        inside = (let e : length v ≡ 16 = sixteen c t file parents v joins in let low : 1 ≤ me = site.low in let high : me ≤ 16 = site.high in omega (arith, e, low, high))
+        inside = (let e : length v ≡ sites_max = sixteen c t file parents v joins in let low : 1 ≤ me = site.low in let high : me ≤ sites_max = site.high in omega (arith, e, low, high))
 
         never : (z : ℕ) → 1 ≤ z → z ≡ 0 → ⊥
         never z low e = omega (arith, low, e)
@@ -170,8 +171,8 @@ module _ (c : Config) (t : List Line) (past : Past c t) (f : Frame) (frame : Fra
   set_is mode.Resolve l = subst (λ (x : _). 1 ≤ x.0) (sym l.set_is) (set_some c t past i.file l.stamp l.stands)
   set_is mode.Mend l = subst (λ (x : _). 1 ≤ x.0) (sym l.set_is) (set_some c t past i.file l.stamp l.stands)
 
-  narrow : (n : ℕ) → IsInodeNumber n → n < 65536
-  narrow n k = (let high : n ≤ 1024 = k.1 in omega (arith, high))
+  narrow : (n : ℕ) → IsInodeNumber n → n < inode_span
+  narrow n k = (let high : n ≤ inodes_max = k.1 in omega (arith, high))
 
   -- the content of the site's copy is that of what it holds
   copy_is : content_of (copy_of s i.file) ≡ stamped_content (history c (entries t)) i.file (held c (entries t) f.me i.file)
@@ -238,7 +239,7 @@ module _ (c : Config) (t : List Line) (past : Past c t) (f : Frame) (frame : Fra
         where
           none : ◌≡◌ {A = Option FileCopy} None (Some y) → ⊥
           none e = cc
-      over (Some v) e = sym (ap (λ (x : FileCopy). x.file.group) (some_is (copy_for i.file v) y e))
+      over (Some v) e = sym (ap (λ (x : FileCopy). x.file.group) (some_same (copy_for i.file v) y e))
 
   pub runs_fit : (g : Stage) → i.stage ≡ g → changed_pages i.file.group i ≤ total (changed_pages i.file.group) s.instances → RoomFits s → StageFact c t f i g → RunsStorable c f s i g
   runs_fit stage.Running q le room k = may_store (left (length i.work.changed) (total (copy_pages i.file.group) s.copies) (total (changed_pages i.file.group) s.instances) (changed_pages i.file.group i) changed_is le (room i.file.group)) (runs_over k.0)
@@ -249,7 +250,7 @@ module _ (c : Config) (t : List Line) (past : Past c t) (f : Frame) (frame : Fra
       changed_is : changed_pages i.file.group i ≡ length i.work.changed
       changed_is = ap (λ (b : Bool). cond b (length i.work.changed) 0) (ap (λ (x : Stage). is_open x && (i.file.group == i.file.group)) q ∙ own i.file.group)
 
-      left : (lc tc ti mi : ℕ) → mi ≡ lc → mi ≤ ti → tc + ti ≤ 3072 → lc ≤ 3072 - tc
+      left : (lc tc ti mi : ℕ) → mi ≡ lc → mi ≤ ti → tc + ti ≤ pack_pages → lc ≤ pack_pages - tc
       left lc tc ti mi e a b = omega (arith, e, a, b)
   runs_fit (stage.Closing made a) q le room k = tt
   runs_fit (stage.Closed a) q le room k = tt

@@ -12,14 +12,14 @@ use Rattle.role_steps.specs.declared.synchronizing.FileRow.{FileRow}
 use Rattle.role_steps.specs.declared.synchronizing.SyncTable.{SyncTable}
 use Rattle.the_run.specs.Runs.{run_in}
 use Rattle.the_run.specs.Worlds.{Line, Running, place_at}
-use Rattle.row_laws.specs.Voids.{LinesFit}
+use Rattle.rest_laws.specs.of_row_laws.Voids.{LinesFit}
 use Rattle.order_laws.specs.Joining.{PacksAreOfSites}
 use Rattle.tree_laws.specs.Packets.{file_in}
 use Rattle.tree_laws.specs.Tables.{FileFact, TableFact}
-use Rattle.one_tree_laws.specs.Places.{SiteIn, WorldFact}
-use Rattle.one_tree_laws.specs.Rest.{EachRest, IsRest, Past}
-use Rattle.one_tree_laws.proofs.Run.{run_holds}
-use Rattle.one_tree_laws.proofs.Staying.{stays}
+use Rattle.rest_laws.specs.of_one_tree_laws.Places.{SiteIn, WorldFact}
+use Rattle.rest_laws.specs.of_one_tree_laws.Rest.{EachRest, IsRest, Past}
+use Rattle.rest_laws.proofs.of_one_tree_laws.Run.{run_holds}
+use Rattle.rest_laws.proofs.of_one_tree_laws.Staying.{stays}
 use Rattle.rest_laws.proofs.Resting.{run_low, run_rests}
 use Rattle.rest_laws.proofs.Roles.{roles_do}
 use Rattle.fit_laws.specs.Inodes.{AreInodes, IsInodeNumber}

@@ -3,11 +3,12 @@ use Rattle.std.proofs.Common.{◌≡◌, ◌≤◌, ◌<◌, ℕ, zero, suc, ◌
 use Rattle.std.specs.List.{AllByRecursion}
 use Rattle.std.proofs.Common.{length-append}
 use Rattle.std.proofs.lemmas.Bool.Decides.{nat_tests}
+use Rattle.role_steps.proofs.of_plain_facts.Tests.{true_false}
+use Rattle.locus_ids.specs.Sizes.{page_bytes}
 use Rattle.file_content.specs.Pages.{has_page, pages_needed, pages_of, pages_within, with_page, with_pages}
 use Rattle.role_steps.specs.Own.{Every}
 use Rattle.role_steps.specs.Tables.{row, total, with_latest, with_row}
 use Rattle.tree_laws.specs.Stores.{Ascends}
-use Rattle.tree_laws.proofs.Names.{true_false}
 use Rattle.fit_laws.specs.Working.{AreBelow, FitsOver}
 use Rattle.fit_laws.proofs.PageLists.{kept_there, page_there, passed_over}
 
@@ -202,12 +203,12 @@ needed_more changed ys (p ∷ ps) h = over (has_page changed p) refl (needed_mor
 within_has : (size : ℕ) (changed : List ℕ) (p : ℕ) → p < pages_of size → has_page changed p ≡ true → has_page (pages_within size changed) p ≡ true
 within_has size changed p inside h = over (has_page (pages_within size changed) p) refl
   where
-    clash : nat_lt (1024 * p) size ≡ false → ⊥
-    clash e = (let low : 1024 * p < size = page_there size p inside in grind (arith, nat_tests))
+    clash : nat_lt (page_bytes * p) size ≡ false → ⊥
+    clash e = (let low : page_bytes * p < size = page_there size p inside in grind (arith, nat_tests))
 
     over : (b : Bool) → has_page (pages_within size changed) p ≡ b → b ≡ true
     over true e = refl
-    over false e = absurd (clash (passed_over (λ (q : ℕ). nat_lt (1024 * q) size) changed p h e))
+    over false e = absurd (clash (passed_over (λ (q : ℕ). nat_lt (page_bytes * q) size) changed p h e))
 
 all_there : (size : ℕ) (changed pages : List ℕ) → AreBelow (pages_of size) pages → AreThere changed (pages_within size changed) pages
 all_there size changed [] h = tt
@@ -217,5 +218,5 @@ all_there size changed (p ∷ ps) h = ((λ k. within_has size changed p h.0 k), 
 pub after_length : (size : ℕ) (changed pages : List ℕ) → AreBelow (pages_of size) pages → length (with_pages pages (pages_within size changed)) ≤ length changed + pages_needed pages changed
 after_length size changed pages below =
     let a : length (with_pages pages (pages_within size changed)) ≤ length (pages_within size changed) + pages_needed pages changed = needed_more changed (pages_within size changed) pages (all_there size changed pages below) in
-    let b : length (pages_within size changed) ≤ length changed = filter_length (λ (q : ℕ). nat_lt (1024 * q) size) changed in
+    let b : length (pages_within size changed) ≤ length changed = filter_length (λ (q : ℕ). nat_lt (page_bytes * q) size) changed in
     omega (arith, a, b)

@@ -1,30 +1,30 @@
 -- The stamp and the vector of each version that stands may stand in a slot.
 use Rattle.std.proofs.Common.{◌≡◌, ◌≤◌, ◌<◌, ◌^◌, nat_lt, ℕ, zero, suc, ◌+◌, ◌-◌, ◌==◌, Bool, true, false, ◌||◌, cond, List, [], ◌∷◌, length, refl, sym, ◌∙◌, ap, subst, arith, inl, inr}
 use Rattle.std.proofs.lemmas.Bool.Decides.{nat_tests}
+use Rattle.role_steps.proofs.of_plain_facts.Tests.{and_first, and_second, true_false}
 use Rattle.locus_ids.specs.declared.config.Config.{Config}
 use Rattle.locus_ids.specs.declared.ids.FileId.{FileId}
 use Rattle.locus_ids.specs.declared.ids.Stamp.{Stamp}
 use Rattle.locus_ids.specs.declared.sites.Sites.{Sites}
+use Rattle.locus_ids.specs.Sizes.{sites_max}
 use Rattle.version_vector.specs.Counters.{part}
 use Rattle.commit_graph.specs.Counters.{counter, greatest, next_number}
 use Rattle.commit_graph.specs.Vectors.{vector_of}
 use Rattle.commit_graph.specs.Versions.{is_in, is_version, same_file}
 use Rattle.commit_graph.specs.declared.history.Version.{Version}
-use Rattle.pack_layout.specs.Layout.{AgreesWith, IsStamp}
+use Rattle.stored_versions.specs.Versions.{AgreesWith, IsStamp}
 use Rattle.trace_book.specs.declared.record.Record.{Record}
 use Rattle.trace_book.specs.declared.record.Record.TheVariants as says
 use Rattle.role_steps.specs.Views.{Told, Shown}
 use Rattle.the_run.specs.Worlds.{Line}
-use Rattle.vector_laws.specs.HistoryCommits.{IsSite}
+use Rattle.rest_laws.specs.of_vector_laws.HistoryCommits.{IsSite}
 use Rattle.tree_model.specs.Histories.{format_stamp, format_version, format_versions, history, history_after}
 use Rattle.tree_laws.specs.Following.{IsFollowed, MayTell}
 use Rattle.tree_laws.specs.Instances.{Stands}
 use Rattle.tree_laws.specs.Printed.{entries, onto_entries}
-use Rattle.tree_laws.proofs.Names.{true_false}
-use Rattle.order_laws.proofs.Alone.{first_of, second_of}
 use Rattle.order_laws.proofs.Standing.{same_file_eq, same_stamp_eq}
-use Rattle.one_tree_laws.specs.Rest.{EachRest, Past, RestTold}
-use Rattle.store_laws.proofs.Raising.{part_written}
+use Rattle.rest_laws.specs.of_one_tree_laws.Rest.{EachRest, Past, RestTold}
+use Rattle.rest_laws.proofs.of_store_laws.Raising.{part_written}
 use Rattle.rest_laws.proofs.StoreStepCounters.{counter_low}
 use Rattle.rest_laws.proofs.StoreStepFirst.{counts_none}
 
@@ -54,7 +54,7 @@ is_format_stamp k [] f stamp e = absurd (true_false (sym e))
 is_format_stamp k (p ∷ ps) f stamp e = at (p.0 == 0) (is_format_stamp (k + 1) ps f stamp) e
   where
     root : (b : Bool) → is_version f stamp (format_version k) ≡ b → (is_in (format_versions (k + 1) ps) f stamp ≡ true → format_stamp ≡ stamp) → b || is_in (format_versions (k + 1) ps) f stamp ≡ true → format_stamp ≡ stamp
-    root true is later e = same_stamp_eq format_stamp stamp (second_of (same_file (format_version k).file f) _ is)
+    root true is later e = same_stamp_eq format_stamp stamp (and_second (same_file (format_version k).file f) _ is)
     root false is later e = later e
 
     at : (b : Bool) → (is_in (format_versions (k + 1) ps) f stamp ≡ true → format_stamp ≡ stamp) → is_in (cond b (format_versions (k + 1) ps) (format_version k ∷ format_versions (k + 1) ps)) f stamp ≡ true → format_stamp ≡ stamp
@@ -84,7 +84,7 @@ commit_named h f g b stamp s parents content site low numbered before e = over (
     low_site : (z : ℕ) → z ≡ s → 1 ≤ z
     low_site z e = omega (arith, e, site.low)
 
-    high_site : (z : ℕ) → z ≡ s → z ≤ 16
+    high_site : (z : ℕ) → z ≡ s → z ≤ sites_max
     high_site z e = omega (arith, e, site.high)
 
     no_zero : (z : ℕ) → z ≡ s → z ≡ 0 → ⊥
@@ -97,10 +97,10 @@ commit_named h f g b stamp s parents content site low numbered before e = over (
     own_site z e = subst (λ (y : ℕ). (s == y) ≡ true) (sym e) same_own
 
     new_is : is_version f b made ≡ true → stamp ≡ b
-    new_is q = same_stamp_eq stamp b (second_of (same_file g f) _ q)
+    new_is q = same_stamp_eq stamp b (and_second (same_file g f) _ q)
 
     file_is : is_version f b made ≡ true → g ≡ f
-    file_is q = same_file_eq g f (first_of (same_file g f) _ q)
+    file_is q = same_file_eq g f (and_first (same_file g f) _ q)
 
     sum_is : (a : Bool) → a ≡ true → (n : ℕ) → n + cond a 1 0 ≡ n + 1
     sum_is true e n = refl
@@ -153,19 +153,19 @@ beyond (x ∷ v) (suc i) le = beyond v i (omega (arith, le))
 
 -- what holds of all counters of a written vector and of 0 holds of its parts
 each_part : (P : ℕ → Type 0) (h : List Version) (f : FileId) (s : Stamp) → P 0 → ((site : ℕ) → 1 ≤ site → P (counter h f s site)) → (i : ℕ) → P (part (vector_of h f s) i)
-each_part P h f s z each i = over (nat_lt i 16) refl
+each_part P h f s z each i = over (nat_lt i sites_max) refl
   where
-    within : nat_lt i 16 ≡ true → i < 16
+    within : nat_lt i sites_max ≡ true → i < sites_max
     within q = grind (arith, nat_tests)
 
-    outside : nat_lt i 16 ≡ false → 16 ≤ i
+    outside : nat_lt i sites_max ≡ false → sites_max ≤ i
     outside q = grind (arith, nat_tests)
 
-    over : (a : Bool) → nat_lt i 16 ≡ a → P (part (vector_of h f s) i)
+    over : (a : Bool) → nat_lt i sites_max ≡ a → P (part (vector_of h f s) i)
     over true q = subst P (sym (part_written h f s i (within q))) (each (1 + i) (omega arith))
     over false q = subst P (sym (beyond (vector_of h f s) i (outside q))) z
 
-most : {s : Stamp} → IsStamp s → s.site ≤ 16
+most : {s : Stamp} → IsStamp s → s.site ≤ sites_max
 most (inl k) = omega (arith, k.0)
 most (inr k) = omega (arith, k.1)
 
@@ -192,11 +192,11 @@ vector_slot c t past f s stands = record {
     place : 1 ≤ s.site → 1 + (s.site - 1) ≡ s.site
     place low = omega (arith, low)
 
-    high : s.site ≤ 16
+    high : s.site ≤ sites_max
     high = most named.is
 
-    inside : 1 ≤ s.site → s.site - 1 < 16
+    inside : 1 ≤ s.site → s.site - 1 < sites_max
     inside low = below s.site low high
       where
-        below : (z : ℕ) → 1 ≤ z → z ≤ 16 → z - 1 < 16
+        below : (z : ℕ) → 1 ≤ z → z ≤ sites_max → z - 1 < sites_max
         below z a b = omega (arith, a, b)

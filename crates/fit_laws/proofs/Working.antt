@@ -1,6 +1,8 @@
 -- Along the trace: each version is no longer than a file may be, and each open instance works over the version on which it stands.
 use Rattle.std.proofs.Common.{◌≡◌, ◌≤◌, ℕ, ◌+◌, ◌==◌, Bool, true, false, ◌&&◌, cond, List, [], ◌∷◌, ◌++◌, length, filter, Option, None, Some, refl, sym, ◌∙◌, ap, subst, arith}
 use Rattle.std.specs.List.{AllByRecursion}
+use Rattle.role_steps.proofs.of_plain_facts.Numbers.{equal, equal_self}
+use Rattle.role_steps.proofs.of_plain_facts.Tests.{and_first, and_second, true_false}
 use Rattle.locus_ids.specs.declared.config.Config.{Config}
 use Rattle.locus_ids.specs.declared.ids.CallId.{CallId}
 use Rattle.locus_ids.specs.declared.ids.EpochId.{EpochId}
@@ -9,6 +11,7 @@ use Rattle.locus_ids.specs.declared.ids.Mode.{Mode}
 use Rattle.locus_ids.specs.declared.ids.Serial.{Serial}
 use Rattle.locus_ids.specs.declared.ids.Stamp.{Stamp}
 use Rattle.locus_ids.specs.declared.sites.Sites.{Sites}
+use Rattle.locus_ids.specs.Sizes.{content_bytes_max}
 use Rattle.commit_graph.specs.Versions.{content_of, is_in, is_version, same_file, same_stamp}
 use Rattle.commit_graph.specs.declared.history.Version.{Version}
 use Rattle.trace_book.specs.Same.{same_epoch}
@@ -34,16 +37,16 @@ use Rattle.lawful_trace.specs.TreeRows.{MayCommit, is_writing}
 use Rattle.tree_laws.specs.Following.{IsFollowed, MayTell, RowsAreLawful}
 use Rattle.tree_laws.specs.Frames.{IsFresh}
 use Rattle.tree_laws.specs.Printed.{entries, onto_entries}
-use Rattle.tree_laws.proofs.Names.{same_epoch_eq, test_own, test_same, true_false}
+use Rattle.tree_laws.proofs.Names.{same_epoch_eq}
 use Rattle.tree_laws.proofs.Owing.{inside_is, writer_writes}
 use Rattle.tree_laws.proofs.Rows.{followed_rows}
-use Rattle.order_laws.proofs.Alone.{first_of, second_of, tree_is}
+use Rattle.order_laws.proofs.Alone.{tree_is}
 use Rattle.order_laws.proofs.Knowing.{versions_stand}
 use Rattle.order_laws.proofs.Lists.{all_filtered, all_more, all_then, all_without}
 use Rattle.order_laws.proofs.Standing.{same_file_eq, same_stamp_eq}
-use Rattle.holding_laws.proofs.Seats.{Seat, rows_seated}
-use Rattle.holding_laws.proofs.Turning.{acted_last, all_passing}
-use Rattle.one_tree_laws.specs.Rest.{EachRest}
+use Rattle.rest_laws.proofs.of_holding_laws.Seats.{Seat, rows_seated}
+use Rattle.rest_laws.proofs.of_holding_laws.Turning.{acted_last, all_passing}
+use Rattle.rest_laws.specs.of_one_tree_laws.Rest.{EachRest}
 use Rattle.fit_laws.specs.Working.{FitsOver}
 use Rattle.fit_laws.proofs.Effects.{begins_fit, changed_fits, effect_so}
 
@@ -83,7 +86,7 @@ all_both P Q (x ∷ xs) a b = ((a.0, b.0), all_both P Q xs a.1 b.1)
 
 -- no version is longer than a file may be
 abbrev pub AreSized : List Version → Type 0
-AreSized h = (f : FileId) (s : Stamp) → length (content_of h f s) ≤ 65536
+AreSized h = (f : FileId) (s : Stamp) → length (content_of h f s) ≤ content_bytes_max
 
 abbrev pub Works : List Version → Instance → Type 0
 Works h x = FitsOver (stamped_content h x.grant.file x.work.last) x.work.content x.work.changed
@@ -91,7 +94,7 @@ Works h x = FitsOver (stamped_content h x.grant.file x.work.last) x.work.content
 abbrev LastStands : List Version → Instance → Type 0
 LastStands h x = (s : Stamp) → x.work.last ≡ Some s → is_in h x.grant.file s ≡ true
 
-sized_at : (h : List Version) → AreSized h → (f : FileId) (o : Option Stamp) → length (stamped_content h f o) ≤ 65536
+sized_at : (h : List Version) → AreSized h → (f : FileId) (o : Option Stamp) → length (stamped_content h f o) ≤ content_bytes_max
 sized_at h sized f None = omega arith
 sized_at h sized f (Some s) = sized f s
 
@@ -157,13 +160,13 @@ module _ (c : Config) (older : List Line) (followed : IsFollowed c older) (sized
     its_works : Works h may.instance
     its_works = (subst (AllByRecursion (Works h)) may.one (all_filtered (Works h) (is_writing f) (tree_of c may.epoch f.group before).instances (works may.epoch f.group))).0
 
-    short : length content ≤ 65536
-    short = subst (λ (xs : List ℕ). length xs ≤ 65536) (sym may.same) its_works.size
+    short : length content ≤ content_bytes_max
+    short = subst (λ (xs : List ℕ). length xs ≤ content_bytes_max) (sym may.same) its_works.size
 
     commit_sized : AreSized (made ∷ h)
     commit_sized g s = over (is_version g s made)
       where
-        over : (b : Bool) → length (cond b content (content_of h g s)) ≤ 65536
+        over : (b : Bool) → length (cond b content (content_of h g s)) ≤ content_bytes_max
         over true = short
         over false = sized g s
 
@@ -173,8 +176,8 @@ module _ (c : Config) (older : List Line) (followed : IsFollowed c older) (sized
     stays x stands (Some s) e = over (is_version x.grant.file s made) refl
       where
         it : is_version x.grant.file s made ≡ true → is_in h f stamp ≡ true
-        it q = subst (λ (g : FileId). is_in h g stamp ≡ true) (sym (same_file_eq f x.grant.file (first_of (same_file f x.grant.file) _ q)))
-            (subst (λ (y : Stamp). is_in h x.grant.file y ≡ true) (sym (same_stamp_eq stamp s (second_of (same_file f x.grant.file) _ q))) (stands s e))
+        it q = subst (λ (g : FileId). is_in h g stamp ≡ true) (sym (same_file_eq f x.grant.file (and_first (same_file f x.grant.file) _ q)))
+            (subst (λ (y : Stamp). is_in h x.grant.file y ≡ true) (sym (same_stamp_eq stamp s (and_second (same_file f x.grant.file) _ q))) (stands s e))
 
         over : (b : Bool) → is_version x.grant.file s made ≡ b → cond b content (content_of h x.grant.file s) ≡ content_of h x.grant.file s
         over true q = absurd (fresh (it q))
@@ -187,21 +190,21 @@ module _ (c : Config) (older : List Line) (followed : IsFollowed c older) (sized
     turns x writes is k = subst (λ (base : List ℕ). FitsOver base x.work.content []) (sym base_is) (begins_fit x.work.content k.size)
       where
         own_file : (g : FileId) → same_file g g ≡ true
-        own_file g = both (g.group == g.group) (g.ino == g.ino) (test_own g.group) (test_own g.ino)
+        own_file g = both (g.group == g.group) (g.ino == g.ino) (equal_self g.group) (equal_self g.ino)
           where
             both : (a b : Bool) → a ≡ true → b ≡ true → a && b ≡ true
             both true b p q = q
             both false b p q = absurd (true_false (sym p))
 
         own_stamp : (s : Stamp) → same_stamp s s ≡ true
-        own_stamp s = both (s.site == s.site) (s.n == s.n) (test_own s.site) (test_own s.n)
+        own_stamp s = both (s.site == s.site) (s.n == s.n) (equal_self s.site) (equal_self s.n)
           where
             both : (a b : Bool) → a ≡ true → b ≡ true → a && b ≡ true
             both true b p q = q
             both false b p q = absurd (true_false (sym p))
 
         file_is : x.grant.file ≡ f
-        file_is = same_file_eq x.grant.file f (first_of (same_file x.grant.file f) _ writes)
+        file_is = same_file_eq x.grant.file f (and_first (same_file x.grant.file f) _ writes)
 
         named : is_version x.grant.file stamp made ≡ true
         named = ap (λ (b : Bool). b && same_stamp stamp stamp) (subst (λ (g : FileId). same_file f g ≡ true) (sym file_is) (own_file f)) ∙ own_stamp stamp
@@ -227,10 +230,10 @@ module _ (c : Config) (older : List Line) (followed : IsFollowed c older) (sized
           epoch_is = same_epoch_eq may.epoch e (sym (ap (λ (o : Option EpochId). is_at o e) may.inside) ∙ (sym (inside_is c before e g z) ∙ inside))
 
           strange : (f.group == g) ≡ false → (x : Instance) → Seat e g before t x → is_writing f x ≡ true → x ≡ may.instance
-          strange q x seat k = absurd (true_false (sym (subst (λ (n : ℕ). (f.group == n) ≡ true) (ap (λ (y : FileId). y.group) (sym (same_file_eq x.grant.file f (first_of (same_file x.grant.file f) _ k))) ∙ seat.group_is) (test_own f.group)) ∙ q))
+          strange q x seat k = absurd (true_false (sym (subst (λ (n : ℕ). (f.group == n) ≡ true) (ap (λ (y : FileId). y.group) (sym (same_file_eq x.grant.file f (and_first (same_file x.grant.file f) _ k))) ∙ seat.group_is) (equal_self f.group)) ∙ q))
 
           over : (b : Bool) → (f.group == g) ≡ b → AllByRecursion (λ (x : Instance). is_writing f x ≡ true → x ≡ may.instance) t.instances
-          over true q = one_passes (is_writing f) may.instance t.instances (subst (λ (u : TreeState). filter (is_writing f) u.instances ≡ may.instance ∷ []) (tree_is c e may.epoch g f.group before epoch_is (test_same f.group g q)) may.one)
+          over true q = one_passes (is_writing f) may.instance t.instances (subst (λ (u : TreeState). filter (is_writing f) u.instances ≡ may.instance ∷ []) (tree_is c e may.epoch g f.group before epoch_is (equal f.group g q)) may.one)
           over false q = all_then (Seat e g before t) (λ (x : Instance). is_writing f x ≡ true → x ≡ may.instance) (strange q) t.instances (rows_seated c before rows e g)
 
       commit_works : AllByRecursion (Works (made ∷ h)) (cond (is_inside t z) (change_first (is_writer f z) (once_committed stamp) t.instances) t.instances)
@@ -292,11 +295,11 @@ formats_sized : (k : ℕ) (packs : List Sites) → AreSized (format_versions k p
 formats_sized k [] f s = omega arith
 formats_sized k (p ∷ ps) f s = at (p.0 == 0) (formats_sized (k + 1) ps f s)
   where
-    over : (b : Bool) → length (content_of (format_versions (k + 1) ps) f s) ≤ 65536 → length (cond b [] (content_of (format_versions (k + 1) ps) f s)) ≤ 65536
+    over : (b : Bool) → length (content_of (format_versions (k + 1) ps) f s) ≤ content_bytes_max → length (cond b [] (content_of (format_versions (k + 1) ps) f s)) ≤ content_bytes_max
     over true later = omega arith
     over false later = later
 
-    at : (a : Bool) → length (content_of (format_versions (k + 1) ps) f s) ≤ 65536 → length (content_of (cond a (format_versions (k + 1) ps) (format_version k ∷ format_versions (k + 1) ps)) f s) ≤ 65536
+    at : (a : Bool) → length (content_of (format_versions (k + 1) ps) f s) ≤ content_bytes_max → length (content_of (cond a (format_versions (k + 1) ps) (format_version k ∷ format_versions (k + 1) ps)) f s) ≤ content_bytes_max
     at true later = later
     at false later = over (is_version f s (format_version k)) later
 

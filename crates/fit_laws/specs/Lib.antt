@@ -7,3 +7,4 @@ pub mod Storing
 pub mod Room
 pub mod Pulling
 pub mod CalmAskingAsked
+pub use Rattle.order_laws.specs as of_order_laws

@@ -1,7 +1,7 @@
 -- What a storage site is asked to open.
 use Rattle.wire_messages.specs.declared.body.Body.{Body}
 use Rattle.wire_messages.specs.declared.body.Body.TheVariants as body
-use Rattle.vector_laws.specs.HistoryCommits.{IsSite}
+use Rattle.rest_laws.specs.of_vector_laws.HistoryCommits.{IsSite}
 
 -- an instance that a storage site is asked to open is of one of the sixteen sites
 abbrev pub OpensForSite : Body → Type 0

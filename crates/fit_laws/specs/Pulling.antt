@@ -3,9 +3,9 @@ use Rattle.std.specs.Prelude.{ℕ}
 use Rattle.locus_ids.specs.declared.config.Config.{Config}
 use Rattle.wire_messages.specs.declared.body.Body.{Body}
 use Rattle.wire_messages.specs.declared.body.Body.TheVariants as body
-use Rattle.inode_pack.specs.Committing.{IsVersion}
+use Rattle.stored_versions.specs.Versions.{IsVersion}
 use Rattle.role_steps.specs.declared.pulls.Pull.{Pull}
-use Rattle.pack_laws.specs.Packs.{HasPack}
+use Rattle.rest_laws.specs.of_pack_laws.Packs.{HasPack}
 use Rattle.fit_laws.specs.Inodes.{IsInodeNumber}
 
 -- what is pulled may be adopted here once it is complete: the site has a pack of the group, and a slot may say the version

@@ -1,6 +1,7 @@
 -- The room of packs.
 use Rattle.std.specs.Prelude.{ℕ, ◌+◌, ◌≤◌}
-use Rattle.role_steps.specs.Storage.{changed_pages, copy_pages, pack_pages}
+use Rattle.locus_ids.specs.Sizes.{pack_pages}
+use Rattle.role_steps.specs.Storage.{changed_pages, copy_pages}
 use Rattle.role_steps.specs.Tables.{total}
 use Rattle.role_steps.specs.Views.{Store}
 

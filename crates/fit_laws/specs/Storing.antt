@@ -2,18 +2,19 @@
 use Rattle.std.specs.Prelude.{ℕ, ◌≡◌, ◌-◌, ◌<◌, ◌≤◌, false, List, length}
 use Rattle.locus_ids.specs.declared.config.Config.{Config}
 use Rattle.locus_ids.specs.declared.ids.Stamp.{Stamp}
+use Rattle.locus_ids.specs.Sizes.{pack_pages}
 use Rattle.file_content.specs.Pages.{has_page, pages_of}
-use Rattle.inode_pack.specs.Committing.{IsVersion}
-use Rattle.inode_pack.specs.declared.new_version.NewVersion.{NewVersion}
+use Rattle.stored_versions.specs.Versions.{IsVersion}
+use Rattle.stored_versions.specs.declared.new_version.NewVersion.{NewVersion}
 use Rattle.role_steps.specs.Own.{Every}
-use Rattle.role_steps.specs.Storage.{content_of, copy_of, copy_pages, next_stamp, next_vector, pack_pages}
+use Rattle.role_steps.specs.Storage.{content_of, copy_of, copy_pages, next_stamp, next_vector}
 use Rattle.role_steps.specs.Tables.{total}
 use Rattle.role_steps.specs.Views.{Frame, Store}
 use Rattle.role_steps.specs.declared.instances.Instance.{Instance}
 use Rattle.role_steps.specs.declared.instances.Stage.{Stage}
 use Rattle.role_steps.specs.declared.instances.Stage.TheVariants as stage
-use Rattle.site_packs.specs.Committing.{ArePages, IsKept}
-use Rattle.pack_laws.specs.Packs.{HasPack}
+use Rattle.stored_versions.specs.Changes.{ArePages, IsKept}
+use Rattle.rest_laws.specs.of_pack_laws.Packs.{HasPack}
 use Rattle.fit_laws.specs.Inodes.{IsInodeNumber}
 
 -- the version that a commit of the instance makes, of this vector and stamp

@@ -1,8 +1,8 @@
 -- Versions that may stand in a slot of a pack.
 use Rattle.std.specs.Prelude.{length}
 use Rattle.locus_ids.specs.declared.ids.FileId.{FileId}
-use Rattle.inode_pack.specs.Committing.{IsVersion}
-use Rattle.inode_pack.specs.declared.new_version.NewVersion.{NewVersion}
+use Rattle.stored_versions.specs.Versions.{IsVersion}
+use Rattle.stored_versions.specs.declared.new_version.NewVersion.{NewVersion}
 use Rattle.tree_model.specs.Files.{HeldVersion}
 use Rattle.fit_laws.specs.Inodes.{IsInodeNumber}
 

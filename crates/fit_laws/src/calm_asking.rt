@@ -17,7 +17,7 @@ ghost use Rattle.tree_laws.specs.Instances.{instance_now};
 ghost use Rattle.tree_laws.specs.Packets.{OpsNow};
 ghost use Rattle.tree_laws.specs.Printed.{entries};
 ghost use Rattle.order_laws.specs.Joining.{PacksAreOfSites};
-ghost use Rattle.one_tree_laws.specs.Rest.{Past};
+ghost use Rattle.rest_laws.specs.of_one_tree_laws.Rest.{Past};
 ghost use Rattle.fit_laws.specs.EntryEntries.{WasInserted};
 ghost use Rattle.fit_laws.specs.CalmAskingAsked.{IsDoable};
 

@@ -9,6 +9,7 @@ ghost use Rattle.locus_ids.specs.declared.ids.Kind.{Kind};
 ghost use Rattle.locus_ids.specs.declared.ids.Kind.TheVariants.{Dir};
 ghost use Rattle.locus_ids.specs.declared.ids.Serial.{Serial};
 ghost use Rattle.locus_ids.specs.declared.ids.Stamp.{Stamp};
+ghost use Rattle.locus_ids.specs.Sizes.{inodes_max};
 ghost use Rattle.commit_graph.specs.Versions.{content_of};
 ghost use Rattle.trace_book.specs.declared.operation.Op.TheVariants as op;
 ghost use Rattle.dir_format.specs.declared.entry.Entry.{Entry};
@@ -31,7 +32,7 @@ ghost use Rattle.fit_laws.specs.EntryEntries.{EntriesName, NamesFile};
 pub fn directories_name_files()
     ensures versions { (c : Config) (trace : List Line) → PacksAreOfSites c → IsFollowed c trace → (f : FileId) (stamp : Stamp) → kind_of_file c (entries trace) f ≡ Dir → EntriesName c trace f.group (content_of (history c (entries trace)) f stamp) }
     ensures instances { (c : Config) (trace : List Line) → PacksAreOfSites c → IsFollowed c trace → (e : EpochId) (i : Serial) (x : Instance) → instance_now c trace e i ≡ Some x → kind_of_file c (entries trace) x.grant.file ≡ Dir → EntriesName c trace x.grant.file.group x.work.content }
-    ensures numbers { (content : List ℕ) → AllByRecursion (λ (d : Entry). (1 ≤ d.ino) × (d.ino ≤ 1024)) (entries_of content) }
+    ensures numbers { (content : List ℕ) → AllByRecursion (λ (d : Entry). (1 ≤ d.ino) × (d.ino ≤ inodes_max)) (entries_of content) }
 {}
 
 /// A call that asks to insert an entry has made the file that the entry names: it stands, in the group of the directory, of the entry's kind, and

@@ -1,4 +1,5 @@
-use dir_format::{Dir, decode_dir, encode_dir, shown_names};
+use dir_format::Dir;
+use dir_operations::{decode_dir, encode_dir, shown_names};
 use dir_reconcile::{KeptVector, KeptVectors, agree_on_kinds, join_dirs, rescue, rescue_wanted};
 use locus_ids::{Bytes, Ino, NoMemory};
 use std::alloc::Global;
@@ -51,7 +52,7 @@ fn the_greater_count_is_taken(rt: HostRuntime) -> Result<(), Fail> {
     let alloc = rt.alloc();
     let removed = gone(alloc)?;
     let d = joined(alloc, &LIVE, removed.as_slice())?;
-    assert_eq!(rt; encoded(alloc, &d)?.as_slice(), removed.as_slice());
+    assert!(rt; encoded(alloc, &d)?.as_slice() == removed.as_slice());
     Ok(())
 }
 
@@ -61,13 +62,10 @@ fn two_files_of_one_name_stay(rt: HostRuntime) -> Result<(), Fail> {
     let other = b"\x01n\x00\x81\x01\x00\x00\x00\x01";
     let d = joined(alloc, other, &LIVE)?;
     let wanted = b"\x01n\x00\x02\x01\x00\x00\x00\x01\x01n\x00\x81\x01\x00\x00\x00\x01";
-    assert_eq!(rt; encoded(alloc, &d)?.as_slice(), wanted.as_slice());
+    assert!(rt; encoded(alloc, &d)?.as_slice() == wanted.as_slice());
     let names = shown_names(alloc, &d)?;
-    assert_eq!(rt; names.get(0).ok_or("first")?.as_slice(), b"n@2".as_slice());
-    assert_eq!(rt;
-        names.get(1).ok_or("second")?.as_slice(),
-        b"n@129".as_slice()
-    );
+    assert!(rt; names.get(0).ok_or("first")?.as_slice() == b"n@2".as_slice());
+    assert!(rt; names.get(1).ok_or("second")?.as_slice() == b"n@129".as_slice());
     Ok(())
 }
 
@@ -79,9 +77,9 @@ fn a_version_that_no_removal_saw_is_rescued(rt: HostRuntime) -> Result<(), Fail>
     assert!(rt; !rescue_wanted(&d, &kept(alloc, 1)?));
     assert!(rt; rescue_wanted(&d, &kept(alloc, 2)?));
     let same = rescue(alloc, &d, &kept(alloc, 1)?)?;
-    assert_eq!(rt; encoded(alloc, &same)?.as_slice(), removed.as_slice());
+    assert!(rt; encoded(alloc, &same)?.as_slice() == removed.as_slice());
     let back = rescue(alloc, &d, &kept(alloc, 2)?)?;
     let wanted = b"\x01n\x00\x02\x01\x00\x00\x00\x03";
-    assert_eq!(rt; encoded(alloc, &back)?.as_slice(), wanted.as_slice());
+    assert!(rt; encoded(alloc, &back)?.as_slice() == wanted.as_slice());
     Ok(())
 }

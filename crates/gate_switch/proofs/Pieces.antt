@@ -1,8 +1,8 @@
 -- Bytes after some pieces are written, and bytes that are torn where the pieces are.
-use Rattle.std.proofs.Common.{◌≡◌, ◌⊎◌, ⊎_elim, ℕ, zero, suc, ◌+◌, ◌≤◌, ◌<◌, Bool, true, false, ◌||◌, List, [], ◌∷◌, ◌++◌, length, take, drop, get_or, refl, sym, ◌∙◌, ap, subst, arith, length-append, length-take, length-drop}
+use Rattle.std.proofs.Common.{◌≡◌, ◌⊎◌, ⊎_elim, ℕ, ◌+◌, ◌≤◌, ◌<◌, Bool, true, false, ◌||◌, List, [], ◌∷◌, ◌++◌, length, take, drop, get_or, refl, sym, ◌∙◌, subst, arith, length-append, length-take, length-drop}
 use Rattle.std.proofs.lemmas.Bool.{true≢false}
 use Rattle.std.proofs.lemmas.Bool.Decides.{nat_tests}
-use Rattle.std.proofs.lemmas.List.{take_more, places, get_or_at}
+use Rattle.std.proofs.lemmas.List.{places, get_or_at}
 use Rattle.std.proofs.lemmas.List.Elements.{All-head, All-tail}
 use Rattle.disk_model.specs.Images.{overwritten, is_within, Torn}
 use Rattle.gate_switch.specs.Switch.{Piece}
@@ -15,34 +15,15 @@ pub written-append : (bytes : List ℕ) (xs ys : List Piece) → written bytes (
 written-append bytes [] ys = refl
 written-append bytes (x ∷ xs) ys = written-append (overwritten bytes x.at x.bytes) xs ys
 
--- one piece more
-pub written_more : (old : List ℕ) (pieces : List Piece) (i : ℕ) (x : Piece) (bytes : List ℕ) → i < length pieces → x ≡ get_or pieces i x → bytes ≡ x.bytes → overwritten (written old (take i pieces)) x.at bytes ≡ written old (take (i + 1) pieces)
-written_more old pieces i x bytes lt is same =
-    ap (λ (l : List ℕ). overwritten (written old (take i pieces)) x.at l) same
-    ∙ ap (λ (p : Piece). overwritten (written old (take i pieces)) p.at p.bytes) is
-    ∙ sym (ap (λ (l : List Piece). written old l) (take_more pieces i x lt) ∙ written-append old (take i pieces) (get_or pieces i x ∷ []))
-
 pub or_parts : (a b : Bool) → (a || b) ≡ false → (a ≡ false) × (b ≡ false)
 or_parts true b none = absurd (true≢false none)
 or_parts false b none = (refl, none)
-
--- a place outside all pieces is outside each
-pub outside_each : (pieces : List Piece) (i : ℕ) (d : Piece) (k : ℕ) → i < length pieces → touches pieces k ≡ false → is_within (get_or pieces i d).at (length (get_or pieces i d).bytes) k ≡ false
-outside_each [] i d k lt none = absurd (omega arith)
-outside_each (piece ∷ pieces) zero d k lt none = (or_parts (is_within piece.at (length piece.bytes) k) (touches pieces k) none).0
-outside_each (piece ∷ pieces) (suc i) d k lt none = outside_each pieces i d k (omega arith) (or_parts (is_within piece.at (length piece.bytes) k) (touches pieces k) none).1
 
 pub torn_stays : (pieces : List Piece) (c : List ℕ) → TornIn pieces c c
 torn_stays pieces c = record { long = refl; outside = λ k none. refl }
 
 pub torn_joins : (pieces : List Piece) (a b c : List ℕ) → TornIn pieces a b → TornIn pieces b c → TornIn pieces a c
 torn_joins pieces a b c first then = record { long = then.long ∙ first.long; outside = λ k none. then.outside k none ∙ first.outside k none }
-
--- a write of one piece that is torn
-pub torn_widens : (pieces : List Piece) (i : ℕ) (x : Piece) (bytes : List ℕ) → i < length pieces → x ≡ get_or pieces i x → bytes ≡ x.bytes → (a b : List ℕ) → Torn x.at (length bytes) a b → TornIn pieces a b
-torn_widens pieces i x bytes lt is same a b torn =
-    let piece = subst (λ (p : Piece). Torn p.at (length p.bytes) a b) is (subst (λ (l : List ℕ). Torn x.at (length l) a b) same torn) in
-    record { long = piece.long; outside = λ k none. piece.outside k (outside_each pieces i x k lt none) }
 
 outside_bounds : (a n k : ℕ) → is_within a n k ≡ false → (k < a) ⊎ (a + n ≤ k)
 outside_bounds a n k is = grind (arith, nat_tests)

@@ -1,4 +1,5 @@
 ghost use Rattle.std.specs.Prelude.{◌≡◌, ◌≤◌, ◌<◌, ◌+◌, ◌%◌};
+ghost use Rattle.locus_ids.specs.Sizes.{sites_max};
 ghost use Rattle.generated_load.specs.Draws.{draw, drawn_of};
 
 use locus_ids::SiteId;
@@ -6,7 +7,7 @@ use rand_core::utils::NextWord;
 use rand_pcg::Pcg32;
 
 /// What an event of the load is drawn from.
-#[derive(Clone, Copy, Debug)]
+#[derive(Clone, Copy)]
 pub(crate) struct Draw {
     /// The kind of event, of 16.
     pub what: u8,
@@ -41,7 +42,7 @@ pub(crate) fn site_of(number: u32) -> SiteId
 /// The site of this number.
 pub(crate) fn numbered(number: u8) -> SiteId
     requires low { 1 ≤ number }
-    requires high { number ≤ 16 }
+    requires high { number ≤ sites_max }
     ensures { result ≡ number }
 {
     SiteId::new(number).unwrap()

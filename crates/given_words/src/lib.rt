@@ -5,7 +5,7 @@
 use thiserror::Error;
 
 /// The words of a command line, which has one or three.
-#[derive(Clone, Copy, Debug)]
+#[derive(Clone, Copy)]
 pub enum Given<'a> {
     One(&'a str),
     Three(&'a str, &'a str, &'a str),

@@ -1,7 +1,7 @@
 -- Each record of a run comes as it may and is asked for by its line, also where the run passes a limit.
 use Rattle.std.proofs.Common.{◌≡◌, ℕ, Bool, true, false, [], ◌∷◌, List, refl}
 use Rattle.locus_ids.specs.declared.config.Config.{Config}
-use Rattle.trace_book.specs.declared.book.Entry.{Entry}
+use Rattle.trace_book.specs.declared.entry.Entry.{Entry}
 use Rattle.trace_book.specs.declared.record.Record.{Record}
 use Rattle.trace_book.specs.declared.record.Record.TheVariants as says
 use Rattle.trace_book.specs.declared.record.StopCause.{StopCause}
@@ -22,10 +22,10 @@ use Rattle.row_laws.proofs.ArmsKept.{run_armed_for}
 use Rattle.row_laws.proofs.AskedRun.{run_placed, run_asked}
 use Rattle.row_laws.proofs.Fitting.{schedule_fits}
 use Rattle.row_laws.proofs.Voids.{run_voids}
-use Rattle.call_row_laws.specs.Lines.{VoidCall, IsVoidCall}
-use Rattle.call_row_laws.proofs.CallTales.{run_void_calls}
+use Rattle.whole_run_laws.specs.of_call_row_laws.Lines.{VoidCall, IsVoidCall}
+use Rattle.whole_run_laws.proofs.of_call_row_laws.CallTales.{run_void_calls}
 use Rattle.tree_laws.specs.Following.{RowsAreLawful}
-use Rattle.rest_laws.specs.MendStepCounting.{CountedRecord, IsCountedRow}
+use Rattle.whole_run_laws.specs.of_rest_laws.MendStepCounting.{CountedRecord, IsCountedRow}
 use Rattle.whole_run_laws.proofs.CutRun.{schedule_counted}
 
 stop_line : (c : Config) (lines : List ScheduleLine) (n : ℕ) (before : Trace) (site : ℕ) (why : StopCause) → StopAsked lines n before site why → ArmedStop c lines n before site why → IsCounted c lines n before site why → StopLine c lines n before site why

@@ -6,23 +6,23 @@ use Rattle.schedule_lines.specs.declared.line.ScheduleLine.{ScheduleLine}
 use Rattle.the_run.specs.Runs.{run}
 use Rattle.lawful_trace.specs.Lawful.{IsLawful}
 use Rattle.row_laws.specs.Shown.{trace_of}
-use Rattle.call_row_laws.proofs.TreeSum.{tree_lawful}
+use Rattle.whole_run_laws.proofs.of_call_row_laws.TreeSum.{tree_lawful}
 use Rattle.copy_laws.proofs.Hold.{run_versions_and_copies}
 use Rattle.bound_laws.proofs.RunsAsk.{requests_bounded}
 use Rattle.bound_laws.proofs.RunsSend.{deliveries_send_one}
-use Rattle.orderly_laws.proofs.CalmRounds.{rounds_stay_calm}
-use Rattle.orderly_traces.proofs.Forms.{blocks_form}
-use Rattle.orderly_traces.proofs.OwnLeaves.{leaves_are_own}
+use Rattle.convergence_laws.proofs.of_orderly_laws.CalmRounds.{rounds_stay_calm}
+use Rattle.whole_run_laws.proofs.of_orderly_traces.Forms.{blocks_form}
+use Rattle.whole_run_laws.proofs.of_orderly_traces.OwnLeaves.{leaves_are_own}
 use Rattle.tree_laws.specs.Following.{RowsAreLawful}
-use Rattle.rest_laws.proofs.MendStepMeeting.{rows_meet}
-use Rattle.rest_laws.proofs.Run.{schedule_rows}
-use Rattle.rest_laws.proofs.Shown.{shown_entries}
+use Rattle.whole_run_laws.proofs.of_rest_laws.MendStepMeeting.{rows_meet}
+use Rattle.whole_run_laws.proofs.of_rest_laws.Run.{schedule_rows}
+use Rattle.whole_run_laws.proofs.of_rest_laws.Shown.{shown_entries}
 use Rattle.whole_run_laws.proofs.CutRun.{schedule_counted}
 use Rattle.row_laws.proofs.ArmsKept.{run_keeps_calls}
 use Rattle.input_order_laws.proofs.Order.{first_in_order}
 use Rattle.whole_run_laws.proofs.Disks.{disks_hold}
-use Rattle.calm_laws.proofs.Calm.{round_carries}
-use Rattle.calm_laws.proofs.CalmAnswerAnswered.{calm_left, rounds_answer}
+use Rattle.convergence_laws.proofs.of_calm_laws.Calm.{round_carries}
+use Rattle.convergence_laws.proofs.of_calm_laws.CalmAnswerAnswered.{calm_left, rounds_answer}
 use Rattle.convergence_laws.proofs.DirectoriesRescued.{rescued, rescued_in_three}
 use Rattle.convergence_laws.proofs.TraceConverging.{converging}
 use Rattle.convergence_laws.proofs.TraceFlagged.{none_flagged}

@@ -9,7 +9,7 @@ use Rattle.lawful_trace.specs.Disks.{keeps_calls}
 use Rattle.lawful_trace.specs.Lawful.{EachComes, IsLawful}
 use Rattle.lawful_trace.specs.Orderly.{LeavesAreOwn, OrderlyBlocksForm}
 use Rattle.row_laws.specs.Shown.{trace_of}
-use Rattle.orderly_laws.specs.Calm.{RoundsStayCalm}
+use Rattle.convergence_laws.specs.of_orderly_laws.Calm.{RoundsStayCalm}
 use Rattle.copy_laws.specs.Hold.{VersionsAndCopiesHold}
 use Rattle.bound_laws.specs.Asking.{RequestsBounded}
 use Rattle.bound_laws.specs.Deliveries.{DeliveriesSendOne}

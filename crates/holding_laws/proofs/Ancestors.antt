@@ -2,23 +2,18 @@
 -- list stands one that none of the list is above.
 use Rattle.std.proofs.Common.{◌≡◌, Bool, true, false, not, ◌&&◌, ◌||◌, cond, List, [], ◌∷◌, filter, refl, sym, ap, ◌∙◌, subst, ◌⊎◌, inl, inr}
 use Rattle.std.specs.List.{AllByRecursion, list_any}
+use Rattle.role_steps.proofs.of_plain_facts.Tests.{and_first, or_either, or_second, true_false}
 use Rattle.locus_ids.specs.declared.ids.FileId.{FileId}
 use Rattle.locus_ids.specs.declared.ids.Stamp.{Stamp}
 use Rattle.commit_graph.specs.declared.history.Version.{Version}
 use Rattle.commit_graph.specs.Versions.{is_ancestor, is_covered, is_in, is_proper_ancestor, is_version, kept, same_file, same_stamp}
 use Rattle.commit_graph.proofs.Names.{same_stamp_refl, same_stamp_eq}
 use Rattle.tree_model.specs.State.{has_stamp}
-use Rattle.tree_laws.proofs.Names.{true_false}
-use Rattle.order_laws.proofs.Alone.{first_of}
 use Rattle.order_laws.proofs.Keeping.{others_stand}
-use Rattle.order_laws.proofs.Standing.{later_true, same_file_eq}
+use Rattle.order_laws.proofs.Standing.{same_file_eq}
 use Rattle.holding_laws.specs.Order.{AncestorsAreAnOrder, IsWellMade}
 
 -- ---- some of a list ----
-
-either : (a b : Bool) → a || b ≡ true → (a ≡ true) ⊎ (b ≡ true)
-either true b h = inl refl
-either false b h = inr h
 
 -- some passes, of which this is so too
 pub record Passing {X : Type 0} (p : X → Bool) (P : X → Type 0) : Type 0 where
@@ -28,7 +23,7 @@ pub record Passing {X : Type 0} (p : X → Bool) (P : X → Type 0) : Type 0 whe
 
 pub some_of : {X : Type 0} (p : X → Bool) (P : X → Type 0) (xs : List X) → list_any p xs ≡ true → AllByRecursion P xs → Passing p P
 some_of p P [] h all = absurd (true_false (sym h))
-some_of p P (x ∷ xs) h all = over (λ k. some_of p P xs k all.1) (either (p x) (list_any p xs) h)
+some_of p P (x ∷ xs) h all = over (λ k. some_of p P xs k all.1) (or_either (p x) (list_any p xs) h)
   where
     over : (list_any p xs ≡ true → Passing p P) → (p x ≡ true) ⊎ (list_any p xs ≡ true) → Passing p P
     over later (inl k) = record { one = x; passes = k; is_so = all.0 }
@@ -36,7 +31,7 @@ some_of p P (x ∷ xs) h all = over (λ k. some_of p P xs k all.1) (either (p x)
 
 pub any_then : {X : Type 0} (p q : X → Bool) (P : X → Type 0) → ((x : X) → P x → p x ≡ true → q x ≡ true) → (xs : List X) → AllByRecursion P xs → list_any p xs ≡ true → list_any q xs ≡ true
 any_then p q P then [] all h = absurd (true_false (sym h))
-any_then p q P then (x ∷ xs) all h = over (any_then p q P then xs all.1) (either (p x) (list_any p xs) h)
+any_then p q P then (x ∷ xs) all h = over (any_then p q P then xs all.1) (or_either (p x) (list_any p xs) h)
   where
     first : (a b : Bool) → a ≡ true → a || b ≡ true
     first true b k = refl
@@ -44,11 +39,11 @@ any_then p q P then (x ∷ xs) all h = over (any_then p q P then xs all.1) (eith
 
     over : (list_any p xs ≡ true → list_any q xs ≡ true) → (p x ≡ true) ⊎ (list_any p xs ≡ true) → list_any q (x ∷ xs) ≡ true
     over later (inl k) = first (q x) (list_any q xs) (then x all.0 k)
-    over later (inr k) = later_true (q x) (list_any q xs) (later k)
+    over later (inr k) = or_second (q x) (list_any q xs) (later k)
 
 pub any_kept : {X : Type 0} (q p : X → Bool) → ((x : X) → q x ≡ true → p x ≡ true) → (xs : List X) → list_any q xs ≡ true → list_any q (filter p xs) ≡ true
 any_kept q p then [] h = absurd (true_false (sym h))
-any_kept q p then (x ∷ xs) h = at (p x) refl (any_kept q p then xs) (either (q x) (list_any q xs) h)
+any_kept q p then (x ∷ xs) h = at (p x) refl (any_kept q p then xs) (or_either (q x) (list_any q xs) h)
   where
     first : (a b : Bool) → a ≡ true → a || b ≡ true
     first true b k = refl
@@ -56,7 +51,7 @@ any_kept q p then (x ∷ xs) h = at (p x) refl (any_kept q p then xs) (either (q
 
     at : (b : Bool) → p x ≡ b → (list_any q xs ≡ true → list_any q (filter p xs) ≡ true) → (q x ≡ true) ⊎ (list_any q xs ≡ true) → list_any q (cond b (x ∷ filter p xs) (filter p xs)) ≡ true
     at true e later (inl k) = first (q x) (list_any q (filter p xs)) k
-    at true e later (inr k) = later_true (q x) (list_any q (filter p xs)) (later k)
+    at true e later (inr k) = or_second (q x) (list_any q (filter p xs)) (later k)
     at false e later (inl k) = absurd (true_false (sym (then x k) ∙ e))
     at false e later (inr k) = later k
 
@@ -80,7 +75,7 @@ in_apart : (v : Version) (older : List Version) (f : FileId) (b : Stamp) → is_
 in_apart v older f b e h = rw e at h
 
 parents_stand : (v : Version) (older : List Version) (f : FileId) (b : Stamp) → IsWellMade (v ∷ older) → is_version f b v ≡ true → AllByRecursion (λ (p : Stamp). is_in older f p ≡ true) v.parents
-parents_stand v older f b made e = subst (λ (g : FileId). AllByRecursion (λ (p : Stamp). is_in older g p ≡ true) v.parents) (same_file_eq v.file f (first_of (same_file v.file f) _ e)) made.1
+parents_stand v older f b made e = subst (λ (g : FileId). AllByRecursion (λ (p : Stamp). is_in older g p ≡ true) v.parents) (same_file_eq v.file f (and_first (same_file v.file f) _ e)) made.1
 
 pub ancestor_own : (h : List Version) (f : FileId) (a : Stamp) → is_ancestor h f a a ≡ true
 ancestor_own [] f a = same_stamp_refl a
@@ -104,15 +99,15 @@ ancestors_stand [] made f a b stands k = absurd (true_false (sym stands))
 ancestors_stand (v ∷ older) made f a b stands k = at (λ d. ancestors_stand older made.2 f a d) (is_version f b v) refl
   where
     from_parent : LaterStands older f a → Passing (is_ancestor older f a) (λ (p : Stamp). is_in older f p ≡ true) → is_in (v ∷ older) f a ≡ true
-    from_parent later p = later_true (is_version f a v) (is_in older f a) (later p.one p.is_so p.passes)
+    from_parent later p = or_second (is_version f a v) (is_in older f a) (later p.one p.is_so p.passes)
 
     over : LaterStands older f a → is_version f b v ≡ true → (same_stamp a b ≡ true) ⊎ (list_any (is_ancestor older f a) v.parents ≡ true) → is_in (v ∷ older) f a ≡ true
     over later e (inl same) = subst (λ (s : Stamp). is_in (v ∷ older) f s ≡ true) (sym (same_stamp_eq a b same)) stands
     over later e (inr any) = from_parent later (some_of (is_ancestor older f a) (λ (p : Stamp). is_in older f p ≡ true) v.parents any (parents_stand v older f b made e))
 
     at : LaterStands older f a → (x : Bool) → is_version f b v ≡ x → is_in (v ∷ older) f a ≡ true
-    at later true e = over later e (either (same_stamp a b) _ (sym (ancestor_newest v older f a b e) ∙ k))
-    at later false e = later_true (is_version f a v) (is_in older f a) (later b (in_apart v older f b e stands) (sym (ancestor_apart v older f a b e) ∙ k))
+    at later true e = over later e (or_either (same_stamp a b) _ (sym (ancestor_newest v older f a b e) ∙ k))
+    at later false e = or_second (is_version f a v) (is_in older f a) (later b (in_apart v older f b e stands) (sym (ancestor_apart v older f a b e) ∙ k))
 
 -- the same of an older history
 abbrev LaterThrough : List Version → FileId → Stamp → Stamp → Type 0
@@ -130,10 +125,10 @@ ancestor_through (v ∷ older) made f a b d stands k l = at (λ p. ancestor_thro
     over : LaterThrough older f a b → is_version f d v ≡ true → (same_stamp b d ≡ true) ⊎ (list_any (is_ancestor older f b) v.parents ≡ true) → is_ancestor (v ∷ older) f a d ≡ true
     over later e (inl same) = subst (λ (s : Stamp). is_ancestor (v ∷ older) f a s ≡ true) (same_stamp_eq b d same) k
     over later e (inr any) = ancestor_newest v older f a d e
-        ∙ later_true (same_stamp a d) (list_any (is_ancestor older f a) v.parents) (any_then (is_ancestor older f b) (is_ancestor older f a) (λ (p : Stamp). is_in older f p ≡ true) (step later) v.parents (parents_stand v older f d made e) any)
+        ∙ or_second (same_stamp a d) (list_any (is_ancestor older f a) v.parents) (any_then (is_ancestor older f b) (is_ancestor older f a) (λ (p : Stamp). is_in older f p ≡ true) (step later) v.parents (parents_stand v older f d made e) any)
 
     at : LaterThrough older f a b → (x : Bool) → is_version f d v ≡ x → is_ancestor (v ∷ older) f a d ≡ true
-    at later true e = over later e (either (same_stamp b d) _ (sym (ancestor_newest v older f b d e) ∙ l))
+    at later true e = over later e (or_either (same_stamp b d) _ (sym (ancestor_newest v older f b d e) ∙ l))
     at later false e = ancestor_apart v older f a d e ∙ step later d (in_apart v older f d e stands) (sym (ancestor_apart v older f b d e) ∙ l)
 
 -- the same of an older history
@@ -160,7 +155,7 @@ ancestors_one (v ∷ older) made f a b stands k l = at (ancestors_one older made
         later there m (sym (ancestor_before v older f b a made.0 low) ∙ l))
 
     at : LaterOne older f a b → (x : Bool) → is_version f b v ≡ x → a ≡ b
-    at later true e = over e (either (same_stamp a b) _ (sym (ancestor_newest v older f a b e) ∙ k))
+    at later true e = over e (or_either (same_stamp a b) _ (sym (ancestor_newest v older f a b e) ∙ k))
     at later false e = before later e (in_apart v older f b e stands) (sym (ancestor_apart v older f a b e) ∙ k)
 
 pub ancestors_ordered : (h : List Version) → IsWellMade h → AncestorsAreAnOrder h
@@ -211,7 +206,7 @@ module _ (h : List Version) (made : IsWellMade h) (f : FileId) where
     where
       more : (m : Stamp) → (m ≡ k) ⊎ (has_stamp ts m ≡ true) → (m ≡ k) ⊎ (has_stamp (t ∷ ts) m ≡ true)
       more m (inl e) = inl e
-      more m (inr e) = inr (later_true (same_stamp t m) (has_stamp ts m) e)
+      more m (inr e) = inr (or_second (same_stamp t m) (has_stamp ts m) e)
 
       none : (m : Top ts k) → below m.top t ≡ true → (b : Bool) → list_any (below t) ts ≡ b → b ≡ false
       none m e true any = absurd (true_false (sym (any_then (below t) (below m.top) (λ (s : Stamp). is_in h f s ≡ true) (λ u there l. below_through m.top t u all.0 there e l) ts all.1 any) ∙ m.free))

@@ -1,6 +1,9 @@
 -- What was granted is begun by its storage site, or it is open as it was granted.
 use Rattle.std.proofs.Common.{◌≡◌, ℕ, ◌==◌, Bool, true, false, not, ◌&&◌, cond, List, [], ◌∷◌, ◌++◌, Option, Some, None, refl, sym, ap, ◌∙◌, subst, ◌⊎◌, inl, inr}
 use Rattle.std.specs.List.{find}
+use Rattle.role_steps.proofs.of_plain_facts.Numbers.{equal, equal_self}
+use Rattle.role_steps.proofs.of_plain_facts.Options.{none_some, some_same}
+use Rattle.role_steps.proofs.of_plain_facts.Tests.{and_first, and_second, true_false}
 use Rattle.locus_ids.specs.declared.config.Config.{Config}
 use Rattle.locus_ids.specs.declared.ids.CallId.{CallId}
 use Rattle.locus_ids.specs.declared.ids.EpochId.{EpochId}
@@ -17,7 +20,7 @@ use Rattle.trace_book.specs.declared.record.Record.TheVariants as says
 use Rattle.file_effects.specs.Works.{begun}
 use Rattle.file_effects.specs.declared.work.Work.{Work}
 use Rattle.role_steps.specs.Views.{Told, Shown, Shuts}
-use Rattle.the_run.specs.Worlds.{Line}
+use Rattle.tree_laws.specs.of_the_run.Worlds.{Line}
 use Rattle.tree_model.specs.declared.instance.Instance.{Instance}
 use Rattle.tree_model.specs.Epochs.{is_in}
 use Rattle.tree_model.specs.Folds.{Trace}
@@ -33,17 +36,16 @@ use Rattle.tree_laws.specs.Printed.{entries, onto_entries}
 use Rattle.tree_laws.proofs.Grants.{in_tree_named, open_named}
 use Rattle.tree_laws.proofs.Histories.{content_same}
 use Rattle.tree_laws.proofs.Kinship.{StaysOpen, open_stays}
-use Rattle.tree_laws.proofs.Names.{same_epoch_eq, same_epoch_own, same_serial_eq, same_serial_own, some_is, test_own, test_same, true_false}
+use Rattle.tree_laws.proofs.Names.{same_epoch_eq, same_epoch_own, same_serial_eq, same_serial_own}
 use Rattle.tree_laws.proofs.Opened.{ActsOn, CommitsOn, EndsIt, GoesOn}
 use Rattle.tree_laws.proofs.Owing.{inside_is}
 use Rattle.tree_laws.proofs.Rows.{followed_rows}
-use Rattle.order_laws.proofs.Alone.{first_of, rows_apart, second_of, tree_named}
+use Rattle.order_laws.proofs.Alone.{rows_apart, tree_named}
 use Rattle.order_laws.proofs.Keeping.{changes_alone}
 use Rattle.order_laws.proofs.Lists.{all_found}
 use Rattle.order_laws.proofs.Standing.{same_file_eq}
 use Rattle.holding_laws.specs.Granted.{IsAsGranted}
 use Rattle.holding_laws.proofs.Below.{line_fresh}
-use Rattle.holding_laws.proofs.Copies.{none_some}
 use Rattle.holding_laws.proofs.Made.{CommitsAreNew, held_stand}
 use Rattle.holding_laws.proofs.Seats.{Seat, rows_seated}
 
@@ -115,7 +117,7 @@ module _ (c : Config) (older : List Line) (n : ℕ) (followed : IsFollowed c old
   group_is = ap (λ (b : Bool). cond (b && same_serial inst inst) file.group (granted_group before at inst)) (same_epoch_own at) ∙ ap (λ (b : Bool). cond b file.group (granted_group before at inst)) (same_serial_own inst)
 
   found : instance_in (tree_of c at file.group (entries now)) inst ≡ Some y
-  found = over (same_epoch at t.epoch) (same_epoch_is at named.0) (file.group == t.group) (subst (λ (g : ℕ). (file.group == g) ≡ true) (sym named.1) (test_own file.group))
+  found = over (same_epoch at t.epoch) (same_epoch_is at named.0) (file.group == t.group) (subst (λ (g : ℕ). (file.group == g) ≡ true) (sym named.1) (equal_self file.group))
     where
       same_epoch_is : (d : EpochId) → t.epoch ≡ d → same_epoch d t.epoch ≡ true
       same_epoch_is d k = subst (λ (z : EpochId). same_epoch d z ≡ true) (sym k) (same_epoch_own d)
@@ -155,7 +157,7 @@ module _ (c : Config) (older : List Line) (n : ℕ) (x : Told) (followed : IsFol
 
   -- an instance under the name is this one
   same_open : (z : Instance) → instance_now c older e i ≡ Some z → z ≡ u.at
-  same_open z k = some_is z u.at (sym k ∙ u.open_at.found)
+  same_open z k = some_same z u.at (sym k ∙ u.open_at.found)
 
   begun_same : (z : Instance) → instance_now c older e i ≡ Some z → WasBegun older z.grant.ss e i z.grant.file → WasBegun older ss e i f
   begun_same z k w = subst (λ (g : FileId). WasBegun older ss e i g) (ap (λ (v : Instance). v.grant.file) (same_open z k) ∙ u.file_is) (subst (λ (q : ℕ). WasBegun older q e i z.grant.file) (ap (λ (v : Instance). v.grant.ss) (same_open z k) ∙ u.open_at.place) w)
@@ -190,10 +192,10 @@ commit_begins c older followed e i m f stamp ss u g z w inside writes =
     subst (λ (q : ℕ). WasBegun older q e i f) site_is (subst (λ (q : FileId). WasBegun older z e i q) (sym mine ∙ u.file_is) (subst (λ (q : Serial). WasBegun older z e q g) inst_is (subst (λ (q : EpochId). WasBegun older z q w.inst g) epoch_is w.runs.begun)))
   where
     mine : u.at.grant.file ≡ g
-    mine = same_file_eq u.at.grant.file g (first_of (same_file u.at.grant.file g) _ writes)
+    mine = same_file_eq u.at.grant.file g (and_first (same_file u.at.grant.file g) _ writes)
 
     site_is : z ≡ ss
-    site_is = sym (test_same u.at.grant.ss z (first_of (u.at.grant.ss == z) _ (second_of (same_file u.at.grant.file g) _ writes))) ∙ u.open_at.place
+    site_is = sym (equal u.at.grant.ss z (and_first (u.at.grant.ss == z) _ (and_second (same_file u.at.grant.file g) _ writes))) ∙ u.open_at.place
 
     epoch_is : w.epoch ≡ e
     epoch_is = same_epoch_eq w.epoch e (sym (ap (λ (o : Option EpochId). is_in o e) w.inside) ∙ (sym (inside_is c (entries older) e (granted_group (entries older) e i) z) ∙ inside))
@@ -213,7 +215,7 @@ commit_begins c older followed e i m f stamp ss u g z w inside writes =
 
     inst_is : w.inst ≡ i
     inst_is = changes_alone (tree_of c e g.group (entries older)).instances i w.inst u.at w.at (rows_apart c (entries older) (followed_rows c older followed) e g.group).alone mine_in its_in (mine ∙ sym w.file_is)
-        (unread (is_read u.at.grant.mode) (second_of (u.at.grant.ss == z) _ (second_of (same_file u.at.grant.file g) _ writes)))
+        (unread (is_read u.at.grant.mode) (and_second (u.at.grant.ss == z) _ (and_second (same_file u.at.grant.file g) _ writes)))
 
 -- a printed record
 record_begins : (c : Config) (older : List Line) (n : ℕ) (r : Record) (followed : IsFollowed c older) (may : MayTell c older (Shown r)) (fresh : IsFresh c older (Shown r)) (e : EpochId) (i : Serial) (m : Mode) (f : FileId) (stamp : Option Stamp) (ss : ℕ) →

@@ -1,6 +1,7 @@
 -- What the laws of every run give of the records of a followed trace: commits are of new stamps, and versions lie in packs.
 use Rattle.std.proofs.Common.{◌≡◌, ℕ, ◌+◌, ◌==◌, Bool, true, false, ◌&&◌, ◌||◌, cond, List, [], ◌∷◌, refl, sym, ap, ◌∙◌, subst, arith, ◌⊎◌, inl, inr}
 use Rattle.std.proofs.lemmas.Bool.Decides.{nat_tests}
+use Rattle.role_steps.proofs.of_plain_facts.Tests.{and_second, or_either, or_first, or_second, true_false}
 use Rattle.locus_ids.specs.declared.config.Config.{Config}
 use Rattle.locus_ids.specs.declared.ids.FileId.{FileId}
 use Rattle.locus_ids.specs.declared.ids.Stamp.{Stamp}
@@ -13,19 +14,17 @@ use Rattle.trace_book.specs.declared.record.Record.{Record}
 use Rattle.trace_book.specs.declared.record.Record.TheVariants as says
 use Rattle.role_steps.specs.Own.{Every}
 use Rattle.role_steps.specs.Views.{Told, Shown}
-use Rattle.the_run.specs.Worlds.{Line}
-use Rattle.vector_laws.specs.Written.{past_of}
-use Rattle.vector_laws.specs.HistoryCommits.{StampsAreOnce, commits_of, real_parents, with_record, with_told}
+use Rattle.tree_laws.specs.of_the_run.Worlds.{Line}
+use Rattle.pack_laws.specs.of_vector_laws.Written.{past_of}
+use Rattle.pack_laws.specs.of_vector_laws.HistoryCommits.{StampsAreOnce, commits_of, real_parents, with_record, with_told}
 use Rattle.pack_laws.specs.Packs.{RecordPacked, ToldPacked}
 use Rattle.tree_model.specs.Histories.{format_stamp, format_version, format_versions, history}
 use Rattle.lawful_trace.specs.TreeRows.{MayCommit}
 use Rattle.tree_laws.specs.Following.{IsFollowed, MayTell}
 use Rattle.tree_laws.specs.Frames.{IsFresh}
 use Rattle.tree_laws.specs.Printed.{entries, onto_entries}
-use Rattle.tree_laws.proofs.Names.{true_false}
-use Rattle.order_laws.proofs.Alone.{second_of}
 use Rattle.order_laws.proofs.Keeping.{IsNew}
-use Rattle.order_laws.proofs.Standing.{later_true, same_stamp_eq}
+use Rattle.order_laws.proofs.Standing.{same_stamp_eq}
 use Rattle.holding_laws.specs.Below.{LawsBelow}
 use Rattle.holding_laws.proofs.Made.{CommitsAreNew}
 use Rattle.holding_laws.proofs.Packed.{IsPacked, PacksHold}
@@ -47,26 +46,18 @@ packs_hold c (x ∷ older) p = over x.told p.0 (packs_hold c older p.1)
 
 -- ---- stamps ----
 
-either : (a b : Bool) → a || b ≡ true → (a ≡ true) ⊎ (b ≡ true)
-either true b h = inl refl
-either false b h = inr h
-
-first_true : (a b : Bool) → a ≡ true → a || b ≡ true
-first_true true b k = refl
-first_true false b k = absurd (true_false (sym k))
-
 -- the stamp of a format's version has no number
 format_number : (k : ℕ) (packs : List Sites) (f : FileId) (s : Stamp) → is_in (format_versions k packs) f s ≡ true → s.n ≡ 0
 format_number k [] f s h = absurd (true_false (sym h))
 format_number k (p ∷ ps) f s h = at (p.0 == 0) h (format_number (k + 1) ps f s)
   where
     over : (is_version f s (format_version k) ≡ true) ⊎ (is_in (format_versions (k + 1) ps) f s ≡ true) → (is_in (format_versions (k + 1) ps) f s ≡ true → s.n ≡ 0) → s.n ≡ 0
-    over (inl e) later = ap (λ (y : Stamp). y.n) (sym (same_stamp_eq format_stamp s (second_of (same_file (format_version k).file f) (same_stamp format_stamp s) e)))
+    over (inl e) later = ap (λ (y : Stamp). y.n) (sym (same_stamp_eq format_stamp s (and_second (same_file (format_version k).file f) (same_stamp format_stamp s) e)))
     over (inr e) later = later e
 
     at : (b : Bool) → is_in (cond b (format_versions (k + 1) ps) (format_version k ∷ format_versions (k + 1) ps)) f s ≡ true → (is_in (format_versions (k + 1) ps) f s ≡ true → s.n ≡ 0) → s.n ≡ 0
     at true h later = later h
-    at false h later = over (either (is_version f s (format_version k)) (is_in (format_versions (k + 1) ps) f s) h) later
+    at false h later = over (or_either (is_version f s (format_version k)) (is_in (format_versions (k + 1) ps) f s) h) later
 
 -- what stands was committed, or is of the format
 pub in_commits : (c : Config) (trace : List Line) (f : FileId) (s : Stamp) → is_in (history c (entries trace)) f s ≡ true → (is_in (commits_of f (past_of trace)) f s ≡ true) ⊎ (s.n ≡ 0)
@@ -75,17 +66,17 @@ in_commits c (x ∷ older) f s h = over x.told h (in_commits c older f s)
   where
     committed : (g : FileId) (z : ℕ) (stamp : Stamp) (parents : List Stamp) (content : List ℕ) (b : Bool) → same_file g f ≡ b → (b && same_stamp stamp s ≡ true) ⊎ (is_in (history c (entries older)) f s ≡ true) → (is_in (history c (entries older)) f s ≡ true → (is_in (commits_of f (past_of older)) f s ≡ true) ⊎ (s.n ≡ 0))
         → (is_in (cond b (record { file = g; site = z; stamp = stamp; parents = real_parents parents; content = content } ∷ commits_of f (past_of older)) (commits_of f (past_of older))) f s ≡ true) ⊎ (s.n ≡ 0)
-    committed g z stamp parents content true e (inl k) later = inl (first_true (same_file g f && same_stamp stamp s) _ (ap (λ (a : Bool). a && same_stamp stamp s) e ∙ k))
+    committed g z stamp parents content true e (inl k) later = inl (or_first (same_file g f && same_stamp stamp s) _ (ap (λ (a : Bool). a && same_stamp stamp s) e ∙ k))
     committed g z stamp parents content false e (inl k) later = absurd (true_false (sym k))
     committed g z stamp parents content b e (inr k) later = more b (later k)
       where
         more : (b : Bool) → (is_in (commits_of f (past_of older)) f s ≡ true) ⊎ (s.n ≡ 0) → (is_in (cond b (record { file = g; site = z; stamp = stamp; parents = real_parents parents; content = content } ∷ commits_of f (past_of older)) (commits_of f (past_of older))) f s ≡ true) ⊎ (s.n ≡ 0)
         more b (inr n) = inr n
-        more true (inl m) = inl (later_true (same_file g f && same_stamp stamp s) _ m)
+        more true (inl m) = inl (or_second (same_file g f && same_stamp stamp s) _ m)
         more false (inl m) = inl m
 
     told : (r : Record) → is_in (history c (record { line = x.number; what = r } ∷ entries older)) f s ≡ true → (is_in (history c (entries older)) f s ≡ true → (is_in (commits_of f (past_of older)) f s ≡ true) ⊎ (s.n ≡ 0)) → (is_in (with_record f r (commits_of f (past_of older))) f s ≡ true) ⊎ (s.n ≡ 0)
-    told (says.Commit g z stamp parents content) h later = committed g z stamp parents content (same_file g f) refl (either (same_file g f && same_stamp stamp s) _ h) later
+    told (says.Commit g z stamp parents content) h later = committed g z stamp parents content (same_file g f) refl (or_either (same_file g f && same_stamp stamp s) _ h) later
     told r h later = later h
 
     over : (y : Told) → is_in (history c (onto_entries x.number y (entries older))) f s ≡ true → (is_in (history c (entries older)) f s ≡ true → (is_in (commits_of f (past_of older)) f s ≡ true) ⊎ (s.n ≡ 0)) → (is_in (with_told f y (commits_of f (past_of older))) f s ≡ true) ⊎ (s.n ≡ 0)

@@ -1,6 +1,9 @@
 -- What a site has of a file in an epoch: while it is inside, what it has now; and a site that has something there has joined.
 use Rattle.std.proofs.Common.{◌≡◌, ℕ, ◌==◌, Bool, true, false, ◌&&◌, ◌||◌, cond, List, [], ◌∷◌, ◌++◌, map, Option, Some, None, refl, sym, ap, ◌∙◌, subst}
 use Rattle.std.specs.Option.{is_none, option_map, option_or}
+use Rattle.role_steps.proofs.of_plain_facts.Numbers.{equal, equal_self}
+use Rattle.role_steps.proofs.of_plain_facts.Options.{none_some, some_same}
+use Rattle.role_steps.proofs.of_plain_facts.Tests.{and_first, and_second, or_second, true_false}
 use Rattle.locus_ids.specs.declared.config.Config.{Config}
 use Rattle.locus_ids.specs.declared.ids.EpochId.{EpochId}
 use Rattle.locus_ids.specs.declared.ids.FileId.{FileId}
@@ -19,14 +22,11 @@ use Rattle.tree_model.specs.Lists.{put_first}
 use Rattle.tree_model.specs.Packs.{has_pack}
 use Rattle.tree_model.specs.State.{TreeState, copy_of, held_at, held_of, is_copy_of, is_granted_here, is_inside, is_make, with_copy}
 use Rattle.tree_model.specs.Tree.{acted, copy_now, entered, grant_of, granted, has_now, joined, left, next, released, tree_of, with_root, without_make}
-use Rattle.tree_laws.proofs.Names.{same_epoch_eq, same_epoch_own, some_is, test_own, test_same, true_false}
+use Rattle.tree_laws.proofs.Names.{same_epoch_eq, same_epoch_own}
 use Rattle.tree_laws.proofs.Owing.{inside_is}
-use Rattle.order_laws.proofs.Alone.{first_of, second_of, tree_named}
+use Rattle.order_laws.proofs.Alone.{tree_named}
 use Rattle.order_laws.proofs.Knowing.{tree_config}
-use Rattle.order_laws.proofs.Standing.{At, later_true}
-
-pub none_some : {A : Type 0} (a : A) → ◌≡◌ {A = Option A} None (Some a) → ⊥
-none_some a e = cc
+use Rattle.order_laws.proofs.Standing.{At}
 
 -- the version of a copy that is now at its site
 abbrev pub now_of : Option HeldCopy → Option Stamp
@@ -40,12 +40,12 @@ copy_put new [] s i = refl
 copy_put new (x ∷ xs) s i = at (is_copy_of new.site new.ino x) refl (copy_put new xs s i)
   where
     alike : is_copy_of new.site new.ino x ≡ true → is_copy_of s i x ≡ is_copy_of s i new
-    alike q = ap (λ (n : ℕ). (n == s) && (x.ino == i)) (test_same x.site new.site (first_of (x.site == new.site) _ q)) ∙ ap (λ (n : ℕ). (new.site == s) && (n == i)) (test_same x.ino new.ino (second_of (x.site == new.site) _ q))
+    alike q = ap (λ (n : ℕ). (n == s) && (x.ino == i)) (equal x.site new.site (and_first (x.site == new.site) _ q)) ∙ ap (λ (n : ℕ). (new.site == s) && (n == i)) (equal x.ino new.ino (and_second (x.site == new.site) _ q))
 
     -- both are of this site and inode
     both : is_copy_of s i new ≡ true → is_copy_of s i x ≡ true → is_copy_of new.site new.ino x ≡ true
-    both p q = subst (λ (n : ℕ). (x.site == n) && (x.ino == new.ino) ≡ true) (sym (test_same new.site s (first_of (new.site == s) _ p)))
-        (subst (λ (n : ℕ). (x.site == s) && (x.ino == n) ≡ true) (sym (test_same new.ino i (second_of (new.site == s) _ p))) q)
+    both p q = subst (λ (n : ℕ). (x.site == n) && (x.ino == new.ino) ≡ true) (sym (equal new.site s (and_first (new.site == s) _ p)))
+        (subst (λ (n : ℕ). (x.site == s) && (x.ino == n) ≡ true) (sym (equal new.ino i (and_second (new.site == s) _ p))) q)
 
     hit : (p q : Bool) → (q ≡ p) → cond p (Some new) (copy_of xs s i) ≡ cond p (Some new) (cond q (Some x) (copy_of xs s i))
     hit true q e = refl
@@ -92,7 +92,7 @@ copy_found [] s i x e = absurd (none_some x e)
 copy_found (y ∷ ys) s i x e = at (is_copy_of s i y) refl e (copy_found ys s i x)
   where
     at : (b : Bool) → is_copy_of s i y ≡ b → cond b (Some y) (copy_of ys s i) ≡ Some x → (copy_of ys s i ≡ Some x → is_copy_of s i x ≡ true) → is_copy_of s i x ≡ true
-    at true k e later = subst (λ (z : HeldCopy). is_copy_of s i z ≡ true) (some_is y x e) k
+    at true k e later = subst (λ (z : HeldCopy). is_copy_of s i z ≡ true) (some_same y x e) k
     at false k e later = later e
 
 -- ---- what a record does to a copy ----
@@ -151,7 +151,7 @@ root_copy c t z i is = subst (λ (d : Config). now_of (copy_of (with_root t z) z
     one n = at (1 == n) (n == 1) refl refl
       where
         back : (a b : ℕ) → (a == b) ≡ true → (b == a) ≡ true
-        back a b e = subst (λ (k : ℕ). (k == a) ≡ true) (test_same a b e) (test_own a)
+        back a b e = subst (λ (k : ℕ). (k == a) ≡ true) (equal a b e) (equal_self a)
 
         at : (x y : Bool) → (1 == n) ≡ x → (n == 1) ≡ y → x ≡ y
         at true true e f = refl
@@ -161,7 +161,7 @@ root_copy c t z i is = subst (λ (d : Config). now_of (copy_of (with_root t z) z
 
     -- what is there of the root is found at its inode
     there : (x : HeldCopy) → copy_of t.copies z 1 ≡ Some x → (b : Bool) → (i == 1) ≡ b → now_of (copy_of t.copies z i) ≡ option_or (now_of (copy_of t.copies z i)) (cond (b && true) (Some format_stamp) None)
-    there x e true k = subst (λ (n : ℕ). now_of (copy_of t.copies z n) ≡ option_or (now_of (copy_of t.copies z n)) (Some format_stamp)) (sym (test_same i 1 k)) (subst (λ (o : Option HeldCopy). now_of o ≡ option_or (now_of o) (Some format_stamp)) (sym e) refl)
+    there x e true k = subst (λ (n : ℕ). now_of (copy_of t.copies z n) ≡ option_or (now_of (copy_of t.copies z n)) (Some format_stamp)) (sym (equal i 1 k)) (subst (λ (o : Option HeldCopy). now_of o ≡ option_or (now_of o) (Some format_stamp)) (sym e) refl)
     there x e false k = or_none (now_of (copy_of t.copies z i))
 
     no_pack : (b : Bool) → now_of (copy_of t.copies z i) ≡ option_or (now_of (copy_of t.copies z i)) (cond (b && false) (Some format_stamp) None)
@@ -170,7 +170,7 @@ root_copy c t z i is = subst (λ (d : Config). now_of (copy_of (with_root t z) z
 
     over : (p : Bool) (o : Option HeldCopy) → copy_of t.copies z 1 ≡ o → now_of (copy_of (cond (p && is_none o) (t.copies ++ root ∷ []) t.copies) z i) ≡ option_or (now_of (copy_of t.copies z i)) (cond ((i == 1) && p) (Some format_stamp) None)
     over true None e = ap now_of (copy_added t.copies root z i)
-        ∙ (ap (λ (b : Bool). now_of (option_or (copy_of t.copies z i) (cond (b && (1 == i)) (Some root) None))) (test_own z)
+        ∙ (ap (λ (b : Bool). now_of (option_or (copy_of t.copies z i) (cond (b && (1 == i)) (Some root) None))) (equal_self z)
         ∙ (ap (λ (b : Bool). now_of (option_or (copy_of t.copies z i) (cond b (Some root) None))) (one i)
         ∙ (now_or (copy_of t.copies z i) (i == 1) ∙ and_true (i == 1))))
       where
@@ -196,7 +196,7 @@ join_other t z s i other = ap (option_map (entered z)) (rooted (has_pack t.confi
     rooted false = refl
 
     apart : (x : HeldCopy) → is_copy_of s i x ≡ true → (b : Bool) → (x.site == z) ≡ b → b ≡ false
-    apart x k true e = absurd (true_false (sym (subst (λ (n : ℕ). (n == s) ≡ true) (test_same x.site z e) (first_of (x.site == s) _ k)) ∙ other))
+    apart x k true e = absurd (true_false (sym (subst (λ (n : ℕ). (n == s) ≡ true) (equal x.site z e) (and_first (x.site == s) _ k)) ∙ other))
     apart x k false e = refl
 
     same : (o : Option HeldCopy) → copy_of t.copies s i ≡ o → option_map (entered z) o ≡ o
@@ -209,7 +209,7 @@ join_own t z i = same (copy_of (with_root t z) z i) refl
   where
     same : (o : Option HeldCopy) → copy_of (with_root t z) z i ≡ o → held_of (option_map (entered z) o) ≡ now_of o
     same None e = refl
-    same (Some x) e = ap (λ (b : Bool). (cond b (record x { held = Some x.now }) x).held) (first_of (x.site == z) _ (copy_found (with_root t z) z i x e))
+    same (Some x) e = ap (λ (b : Bool). (cond b (record x { held = Some x.now }) x).held) (and_first (x.site == z) _ (copy_found (with_root t z) z i x e))
 
 now_entered : (z : ℕ) (o : Option HeldCopy) → now_of (option_map (entered z) o) ≡ now_of o
 now_entered z None = refl
@@ -230,7 +230,7 @@ epoch_joined (r ∷ before) s e k = step r.what k (epoch_joined before s e)
     gone false k = k
 
     came : (z : ℕ) (d : EpochId) (b : Bool) → cond b (Some d) (epoch_of before s) ≡ Some e → (epoch_of before s ≡ Some e → has_joined before s e ≡ true) → (b && same_epoch d e) || has_joined before s e ≡ true
-    came z d true k later = ap (λ (b : Bool). b || has_joined before s e) (subst (λ (y : EpochId). same_epoch d y ≡ true) (some_is d e k) (same_epoch_own d))
+    came z d true k later = ap (λ (b : Bool). b || has_joined before s e) (subst (λ (y : EpochId). same_epoch d y ≡ true) (some_same d e k) (same_epoch_own d))
     came z d false k later = later k
 
     step : (r : Record) → epoch_of (record { line = 0; what = r } ∷ before) s ≡ Some e → (epoch_of before s ≡ Some e → has_joined before s e ≡ true) → has_joined (record { line = 0; what = r } ∷ before) s e ≡ true
@@ -241,7 +241,7 @@ epoch_joined (r ∷ before) s e k = step r.what k (epoch_joined before s e)
     step r k later = later k
 
 pub joined_more : (r : Record) (line : ℕ) (before : Trace) (s : ℕ) (e : EpochId) → has_joined before s e ≡ true → has_joined (record { line = line; what = r } ∷ before) s e ≡ true
-joined_more (says.Join z d m) line before s e k = later_true ((z == s) && same_epoch d e) (has_joined before s e) k
+joined_more (says.Join z d m) line before s e k = or_second ((z == s) && same_epoch d e) (has_joined before s e) k
 joined_more r line before s e k = k
 
 -- the copy of a site in a tree is what the site has, and in the epoch what it has while it is there
@@ -269,7 +269,7 @@ module _ (c : Config) (e : EpochId) (g : ℕ) (before : Trace) (s i : ℕ) (old 
   written_is f z stamp true true true k l = (refl, ((λ inside. here inside), (λ v h. there (is_inside t z) refl v h)))
     where
       site_is : z ≡ s
-      site_is = test_same z s l
+      site_is = equal z s l
 
       here : epoch_of before s ≡ Some e → cond (is_inside t z) (Some stamp) (held_at t z f.ino) ≡ Some stamp
       here inside = ap (λ (b : Bool). cond b (Some stamp) (held_at t z f.ino)) (inside_is c before e g z ∙ (ap (λ (n : ℕ). is_in (epoch_of before n) e) site_is ∙ (ap (λ (o : Option EpochId). is_in o e) inside ∙ same_epoch_own e)))
@@ -280,7 +280,7 @@ module _ (c : Config) (e : EpochId) (g : ℕ) (before : Trace) (s i : ℕ) (old 
 
       there : (b : Bool) → is_inside t z ≡ b → (v : Stamp) → cond b (Some stamp) (held_at t z f.ino) ≡ Some v → has_joined before s e ≡ true
       there true q v h = in_epoch (epoch_of before s) refl (sym (ap (λ (n : ℕ). is_in (epoch_of before n) e) site_is) ∙ (sym (inside_is c before e g z) ∙ q))
-      there false q v h = old.joined v (sym (ap (λ (n : ℕ). held_at t n f.ino) site_is ∙ ap (λ (n : ℕ). held_at t s n) (test_same f.ino i k)) ∙ h)
+      there false q v h = old.joined v (sym (ap (λ (n : ℕ). held_at t n f.ino) site_is ∙ ap (λ (n : ℕ). held_at t s n) (equal f.ino i k)) ∙ h)
   written_is f z stamp true true false k l = (old.now_is, (old.held_is, old.joined))
   written_is f z stamp true false true k l = (old.now_is, (old.held_is, old.joined))
   written_is f z stamp true false false k l = (old.now_is, (old.held_is, old.joined))
@@ -308,11 +308,11 @@ module _ (c : Config) (e : EpochId) (g : ℕ) (before : Trace) (s i : ℕ) (old 
       twice (Some x) p = refl
 
       now : now_of (copy_of (with_root t z) s i) ≡ option_or (now_of (copy_of t.copies s i)) (formatted c s (At g i))
-      now = subst (λ (n : ℕ). now_of (copy_of (with_root t z) n i) ≡ option_or (now_of (copy_of t.copies n i)) (formatted c n (At g i))) (test_same z s l)
+      now = subst (λ (n : ℕ). now_of (copy_of (with_root t z) n i) ≡ option_or (now_of (copy_of t.copies n i)) (formatted c n (At g i))) (equal z s l)
           (subst (λ (n : ℕ). now_of (copy_of (with_root t z) z i) ≡ option_or (now_of (copy_of t.copies z i)) (formatted c z (At n i))) (tree_named c e g before).1 (root_copy c t z i (tree_config c e g before)))
 
       own : held_of (option_map (entered z) (copy_of (with_root t z) s i)) ≡ now_of (copy_of (with_root t z) s i)
-      own = subst (λ (n : ℕ). held_of (option_map (entered z) (copy_of (with_root t z) n i)) ≡ now_of (copy_of (with_root t z) n i)) (test_same z s l) (join_own t z i)
+      own = subst (λ (n : ℕ). held_of (option_map (entered z) (copy_of (with_root t z) n i)) ≡ now_of (copy_of (with_root t z) n i)) (equal z s l) (join_own t z i)
   joins z d m true false k l = subst (Then (says.Join z d m)) (sym (join_other t z s i l)) (record {
     now_is = old.now_is;
     held_is = λ inside. old.held_is (sym (ap (λ (b : Bool). cond b (Some d) (epoch_of before s)) l) ∙ inside);
@@ -325,7 +325,7 @@ module _ (c : Config) (e : EpochId) (g : ℕ) (before : Trace) (s i : ℕ) (old 
   }
     where
       other : (b : Bool) → cond (z == s) (Some d) (epoch_of before s) ≡ Some e → (z == s) ≡ b → epoch_of before s ≡ Some e
-      other true inside l = absurd (true_false (sym (subst (λ (y : EpochId). same_epoch d y ≡ true) (some_is d e (sym (ap (λ (x : Bool). cond x (Some d) (epoch_of before s)) l) ∙ inside)) (same_epoch_own d)) ∙ k))
+      other true inside l = absurd (true_false (sym (subst (λ (y : EpochId). same_epoch d y ≡ true) (some_same d e (sym (ap (λ (x : Bool). cond x (Some d) (epoch_of before s)) l) ∙ inside)) (same_epoch_own d)) ∙ k))
       other false inside l = sym (ap (λ (x : Bool). cond x (Some d) (epoch_of before s)) l) ∙ inside
 
   after : (r : Record) → Then r (copy_after r t s i)

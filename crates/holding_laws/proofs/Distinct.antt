@@ -2,6 +2,9 @@
 use Rattle.std.proofs.Common.{◌≡◌, ℕ, ◌==◌, Bool, true, false, not, ◌&&◌, cond, List, [], ◌∷◌, ◌++◌, Option, Some, None, refl, sym, ap, ◌∙◌, subst, ◌⊎◌, inl, inr}
 use Rattle.std.specs.List.{AllByRecursion, find, list_any}
 use Rattle.std.specs.Option.{is_none}
+use Rattle.role_steps.proofs.of_plain_facts.Numbers.{equal}
+use Rattle.role_steps.proofs.of_plain_facts.Options.{none_some, some_same}
+use Rattle.role_steps.proofs.of_plain_facts.Tests.{and_first, and_second, true_false}
 use Rattle.locus_ids.specs.declared.config.Config.{Config}
 use Rattle.locus_ids.specs.declared.ids.CallId.{CallId}
 use Rattle.locus_ids.specs.declared.ids.EpochId.{EpochId}
@@ -14,7 +17,7 @@ use Rattle.trace_book.specs.Same.{same_epoch, same_serial}
 use Rattle.trace_book.specs.declared.record.Record.{Record}
 use Rattle.trace_book.specs.declared.record.Record.TheVariants as says
 use Rattle.role_steps.specs.Views.{Told, Shown}
-use Rattle.the_run.specs.Worlds.{Line}
+use Rattle.tree_laws.specs.of_the_run.Worlds.{Line}
 use Rattle.tree_model.specs.declared.instance.Granted.{Granted}
 use Rattle.tree_model.specs.declared.instance.Instance.{Instance}
 use Rattle.tree_model.specs.Folds.{Trace}
@@ -31,11 +34,10 @@ use Rattle.tree_laws.specs.Instances.{instance_now}
 use Rattle.tree_laws.specs.Past.{WasNamed}
 use Rattle.tree_laws.specs.Printed.{entries, onto_entries}
 use Rattle.tree_laws.proofs.Grants.{Had, before_record, in_tree_named}
-use Rattle.tree_laws.proofs.Names.{same_epoch_eq, same_epoch_own, same_serial_eq, same_serial_own, some_is, test_same, true_false}
+use Rattle.tree_laws.proofs.Names.{same_epoch_eq, same_epoch_own, same_serial_eq, same_serial_own}
 use Rattle.tree_laws.proofs.Opened.{GrantsIt}
-use Rattle.order_laws.proofs.Alone.{first_of, second_of, tree_is, tree_named}
+use Rattle.order_laws.proofs.Alone.{tree_is, tree_named}
 use Rattle.order_laws.proofs.Lists.{all_changed, all_found, all_more, all_then, all_without, any_last, any_more}
-use Rattle.holding_laws.proofs.Copies.{none_some}
 
 -- ---- lists whose instances have different names ----
 
@@ -80,7 +82,7 @@ found_own p (y ∷ ys) x apart e = at (p y) e (found_own p ys x apart.1)
     other f false k later = later
 
     at : (b : Bool) → cond b (Some y) (find p ys) ≡ Some x → (find p ys ≡ Some x → find (is_named x.grant.inst) ys ≡ Some x) → find (is_named x.grant.inst) (y ∷ ys) ≡ Some x
-    at true e later = mine (some_is y x e) (is_named x.grant.inst y) refl
+    at true e later = mine (some_same y x e) (is_named x.grant.inst y) refl
     at false e later = other e (is_named x.grant.inst y) refl (later e)
 
 -- and once it is taken out none of its name is found
@@ -159,14 +161,14 @@ module _ (c : Config) (e : EpochId) (group : ℕ) (before : Trace) where
   h = history c before
 
   new_name : (d : EpochId) (call : CallId) (i : Serial) (m : Mode) (f : FileId) (stamp : Option Stamp) (ss : ℕ) → gives_grant h (tree_of c d f.group before) call i m f stamp ss ≡ true → same_epoch d t.epoch ≡ true → (f.group == t.group) ≡ true → is_granted t i ≡ false
-  new_name d call i m f stamp ss gives same in_group = un (is_granted t i) (first_of (not (is_granted t i)) _ (second_of (i.us == call.site) _ (second_of (is_none (open_refusal h t m call f)) _ (second_of t.started _ here))))
+  new_name d call i m f stamp ss gives same in_group = un (is_granted t i) (and_first (not (is_granted t i)) _ (and_second (i.us == call.site) _ (and_second (is_none (open_refusal h t m call f)) _ (and_second t.started _ here))))
     where
       un : (b : Bool) → not b ≡ true → b ≡ false
       un true k = absurd (true_false (sym k))
       un false k = refl
 
       here : gives_grant h t call i m f stamp ss ≡ true
-      here = subst (λ (u : TreeState). gives_grant h u call i m f stamp ss ≡ true) (tree_is c e d group f.group before (same_epoch_eq d t.epoch same ∙ (tree_named c e group before).0) (test_same f.group t.group in_group ∙ (tree_named c e group before).1)) gives
+      here = subst (λ (u : TreeState). gives_grant h u call i m f stamp ss ≡ true) (tree_is c e d group f.group before (same_epoch_eq d t.epoch same ∙ (tree_named c e group before).0) (equal f.group t.group in_group ∙ (tree_named c e group before).1)) gives
 
   next_single : (r : Record) → MayCome c before r → Single t → Single (next h r t)
   next_single (says.Grant d call request i m f stamp ss) may a = over (same_epoch d t.epoch) refl
@@ -204,7 +206,7 @@ module _ (c : Config) (older : List Line) (n : ℕ) (e : EpochId) (group : ℕ) 
     where
       -- a grant of the name is in this group, for what it opens is found here
       mine : same_epoch at e ≡ true → same_serial inst i ≡ true → (b : Bool) → (f.group == tree.group) ≡ b → (a : Bool) → same_epoch at tree.epoch ≡ a → find (is_named i) (cond a (record tree { grants = tree.grants ++ grant_of tree call inst m f ss ∷ []; instances = cond b (tree.instances ++ opened (history c (entries older)) (grant_of tree call inst m f ss) stamp ∷ []) tree.instances }) tree).instances ≡ Some x → f.group ≡ group
-      mine p q true l a w k = test_same f.group tree.group l ∙ (tree_named c e group (entries older)).1
+      mine p q true l a w k = equal f.group tree.group l ∙ (tree_named c e group (entries older)).1
       mine p q false l true w k = absurd (may.in_time.new (subst (λ (y : EpochId). WasNamed older y inst) (sym (same_epoch_eq at e p)) (subst (λ (j : Serial). WasNamed older e j) (sym (same_serial_eq inst i q)) (in_tree_named c e group i older x k))))
       mine p q false l false w k = absurd (may.in_time.new (subst (λ (y : EpochId). WasNamed older y inst) (sym (same_epoch_eq at e p)) (subst (λ (j : Serial). WasNamed older e j) (sym (same_serial_eq inst i q)) (in_tree_named c e group i older x k))))
 

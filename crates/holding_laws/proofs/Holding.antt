@@ -2,6 +2,8 @@
 use Rattle.std.proofs.Common.{◌≡◌, ℕ, ◌==◌, Bool, true, false, ◌&&◌, ◌||◌, cond, List, [], ◌∷◌, ◌++◌, Option, Some, None, refl, sym, ap, ◌∙◌, subst, ◌⊎◌, inl, inr}
 use Rattle.std.specs.List.{find, list_any}
 use Rattle.std.specs.Option.{is_none, option_map}
+use Rattle.role_steps.proofs.of_plain_facts.Numbers.{equal}
+use Rattle.role_steps.proofs.of_plain_facts.Tests.{and_first, and_second, true_false}
 use Rattle.locus_ids.specs.declared.config.Config.{Config}
 use Rattle.locus_ids.specs.declared.ids.EpochId.{EpochId}
 use Rattle.locus_ids.specs.declared.ids.FileId.{FileId}
@@ -10,7 +12,7 @@ use Rattle.locus_ids.specs.declared.ids.Stamp.{Stamp}
 use Rattle.locus_ids.specs.declared.sites.Members.{Members}
 use Rattle.trace_book.specs.Same.{same_epoch}
 use Rattle.trace_book.specs.declared.record.Record.TheVariants as says
-use Rattle.the_run.specs.Worlds.{Line}
+use Rattle.tree_laws.specs.of_the_run.Worlds.{Line}
 use Rattle.tree_model.specs.declared.copy.HeldCopy.{HeldCopy}
 use Rattle.tree_model.specs.declared.instance.Instance.{Instance}
 use Rattle.tree_model.specs.Folds.{Trace}
@@ -25,10 +27,9 @@ use Rattle.tree_laws.specs.Following.{IsFollowed, RowsAreLawful}
 use Rattle.tree_laws.specs.Instances.{IsKnown, held_in, instance_now}
 use Rattle.tree_laws.specs.Printed.{entries}
 use Rattle.tree_laws.specs.Tables.{IsAhead}
-use Rattle.tree_laws.proofs.Names.{test_same, true_false}
 use Rattle.tree_laws.proofs.Rows.{followed_rows}
 use Rattle.order_laws.specs.Joining.{PacksAreOfSites}
-use Rattle.order_laws.proofs.Alone.{first_of, second_of, tree_named}
+use Rattle.order_laws.proofs.Alone.{tree_named}
 use Rattle.order_laws.proofs.Knowing.{tree_config}
 use Rattle.order_laws.proofs.Joining.{no_pack_comes}
 use Rattle.holding_laws.specs.Held.{IsBelowKept, IsKnownOrAhead, SitesHold, StandsOnHeld}
@@ -83,13 +84,13 @@ ahead_open c trace followed e site f k = (let w = some_found (is_ahead site f.in
     is x found passes = record {
       inst = x.grant.inst;
       at = x;
-      open_at = record { found = now; place = test_same x.grant.ss site (first_of (x.grant.ss == site) _ place) };
-      file_is = (λ q. record { group = group_is q; ino = test_same x.grant.file.ino f.ino (second_of (x.grant.ss == site) _ place) q });
-      committed = second_of ((x.grant.ss == site) && (x.grant.file.ino == f.ino)) _ passes;
+      open_at = record { found = now; place = equal x.grant.ss site (and_first (x.grant.ss == site) _ place) };
+      file_is = (λ q. record { group = group_is q; ino = equal x.grant.file.ino f.ino (and_second (x.grant.ss == site) _ place) q });
+      committed = and_second ((x.grant.ss == site) && (x.grant.file.ino == f.ino)) _ passes;
     }
       where
         place : (x.grant.ss == site) && (x.grant.file.ino == f.ino) ≡ true
-        place = first_of ((x.grant.ss == site) && (x.grant.file.ino == f.ino)) _ passes
+        place = and_first ((x.grant.ss == site) && (x.grant.file.ino == f.ino)) _ passes
 
         named : instance_in (tree_of c e f.group (entries trace)) x.grant.inst ≡ Some x
         named = found_own (is_ahead site f.ino) (tree_of c e f.group (entries trace)).instances x (rows_names_apart c (entries trace) (followed_rows c trace followed) e f.group) found

@@ -1,6 +1,7 @@
 -- While an instance isn't begun, what is kept of its file is what was kept at its grant.
 use Rattle.std.proofs.Common.{◌≡◌, ℕ, ◌==◌, Bool, true, false, List, ◌∷◌, Option, Some, None, refl, sym, ap, ◌∙◌, subst, ◌⊎◌, inl, inr, arith}
 use Rattle.std.proofs.lemmas.Bool.Decides.{nat_tests}
+use Rattle.role_steps.proofs.of_plain_facts.Numbers.{equal}
 use Rattle.locus_ids.specs.declared.config.Config.{Config}
 use Rattle.locus_ids.specs.declared.ids.CallId.{CallId}
 use Rattle.locus_ids.specs.declared.ids.EpochId.{EpochId}
@@ -13,7 +14,7 @@ use Rattle.commit_graph.specs.Versions.{same_file}
 use Rattle.trace_book.specs.declared.record.Record.{Record}
 use Rattle.trace_book.specs.declared.record.Record.TheVariants as says
 use Rattle.role_steps.specs.Views.{Told, Shown}
-use Rattle.the_run.specs.Worlds.{Line}
+use Rattle.tree_laws.specs.of_the_run.Worlds.{Line}
 use Rattle.tree_model.specs.declared.instance.Instance.{Instance}
 use Rattle.tree_model.specs.Folds.{Trace}
 use Rattle.tree_model.specs.State.{instance_in, is_named, stamps_of}
@@ -22,7 +23,6 @@ use Rattle.lawful_trace.specs.Lawful.{MayCome}
 use Rattle.tree_laws.specs.Following.{IsFollowed, MayTell, RowsAreLawful}
 use Rattle.tree_laws.specs.Past.{WasBegun, WasGranted, WasShut}
 use Rattle.tree_laws.specs.Printed.{entries, onto_entries}
-use Rattle.tree_laws.proofs.Names.{test_same}
 use Rattle.tree_laws.proofs.Rows.{followed_rows}
 use Rattle.order_laws.specs.Alone.{MayStandBy}
 use Rattle.order_laws.specs.Joining.{PacksAreOfSites}
@@ -55,7 +55,7 @@ reading_publishes_nothing c before rows e f i x found file_is reads d j g stamp 
 
     at : EndsIn c before e f d j g stamp → (b : Bool) → (g.ino == f.ino) ≡ b → stamps_of (published g stamp (tree_of c e f.group before).known) f.ino ≡ stamps_of (tree_of c e f.group before).known f.ino
     at w false k = published_same g stamp f.ino (tree_of c e f.group before).known k
-    at w true k = ap (λ (o : Option Stamp). stamps_of (published g o (tree_of c e f.group before).known) f.ino) (nothing w (file_eq g f w.group_is (test_same g.ino f.ino k)))
+    at w true k = ap (λ (o : Option Stamp). stamps_of (published g o (tree_of c e f.group before).known) f.ino) (nothing w (file_eq g f w.group_is (equal g.ino f.ino k)))
 
 -- so while any instance of the file is open what is kept of it stays, but for its own release
 pub open_keeps : (c : Config) (before : Trace) → PacksAreOfSites c → RowsAreLawful c before → (e : EpochId) (f : FileId) (i : Serial) (x : Instance) → instance_in (tree_of c e f.group before) i ≡ Some x → x.grant.file ≡ f →

@@ -2,6 +2,9 @@
 use Rattle.std.proofs.Common.{◌≡◌, ℕ, ◌==◌, Bool, true, false, ◌&&◌, cond, List, [], ◌∷◌, ◌++◌, filter, Option, Some, None, refl, sym, ap, ◌∙◌, subst, ◌⊎◌, inl, inr}
 use Rattle.std.specs.List.{list_any}
 use Rattle.std.specs.Option.{is_some, option_map}
+use Rattle.role_steps.proofs.of_plain_facts.Numbers.{equal, equal_self}
+use Rattle.role_steps.proofs.of_plain_facts.Options.{none_some, some_same}
+use Rattle.role_steps.proofs.of_plain_facts.Tests.{and_first, and_second, true_false}
 use Rattle.locus_ids.specs.declared.config.Config.{Config}
 use Rattle.locus_ids.specs.declared.ids.EpochId.{EpochId}
 use Rattle.locus_ids.specs.declared.ids.FileId.{FileId}
@@ -14,7 +17,7 @@ use Rattle.trace_book.specs.Same.{same_epoch}
 use Rattle.trace_book.specs.declared.record.Record.{Record}
 use Rattle.trace_book.specs.declared.record.Record.TheVariants as says
 use Rattle.role_steps.specs.Views.{Told, Shown}
-use Rattle.the_run.specs.Worlds.{Line}
+use Rattle.tree_laws.specs.of_the_run.Worlds.{Line}
 use Rattle.tree_model.specs.declared.copy.HeldCopy.{HeldCopy}
 use Rattle.tree_model.specs.declared.instance.Instance.{Instance}
 use Rattle.tree_model.specs.Epochs.{epoch_of, is_in}
@@ -32,14 +35,14 @@ use Rattle.tree_laws.specs.Following.{IsFollowed, MayTell, RowsAreLawful}
 use Rattle.tree_laws.specs.Instances.{IsKnown, held_in}
 use Rattle.tree_laws.specs.Printed.{entries, onto_entries}
 use Rattle.tree_laws.proofs.Knowing.{Knows, known_stays}
-use Rattle.tree_laws.proofs.Names.{same_epoch_eq, some_is, test_own, test_same, true_false}
+use Rattle.tree_laws.proofs.Names.{same_epoch_eq}
 use Rattle.tree_laws.proofs.Owing.{inside_is}
 use Rattle.tree_laws.proofs.Rows.{followed_rows}
-use Rattle.order_laws.proofs.Alone.{first_of, second_of, tree_is, tree_named}
+use Rattle.order_laws.proofs.Alone.{tree_is, tree_named}
 use Rattle.order_laws.proofs.Knowing.{tree_config}
 use Rattle.order_laws.proofs.Lists.{all_found, any_more}
 use Rattle.order_laws.proofs.Standing.{acted_keeps, same_file_eq}
-use Rattle.holding_laws.proofs.Copies.{copies_are, copy_after, copy_found, copy_next, join_other, none_some}
+use Rattle.holding_laws.proofs.Copies.{copies_are, copy_after, copy_found, copy_next, join_other}
 use Rattle.holding_laws.proofs.Packed.{PacksHold, holder_packed}
 use Rattle.holding_laws.proofs.Seats.{Seat, held_written, rows_seated, same_version_is}
 use Rattle.holding_laws.proofs.Bringing.{Taken, any_changed, any_turned, any_without, copy_known, knows_new, one_writes}
@@ -96,7 +99,7 @@ module _ (c : Config) (older : List Line) (n : ℕ) (rows : RowsAreLawful c (ent
   epoch_named z d inside at = same_epoch_eq d e (sym (ap (λ (o : Option EpochId). is_in o e) at) ∙ (sym (inside_is c before e f.group z) ∙ inside))
 
   file_is : (g : FileId) → (g.group == t.group) ≡ true → (g.ino == f.ino) ≡ true → g ≡ f
-  file_is g a b = (λ i. record { group = (test_same g.group t.group a ∙ named.1) i; ino = test_same g.ino f.ino b i })
+  file_is g a b = (λ i. record { group = (equal g.group t.group a ∙ named.1) i; ino = equal g.ino f.ino b i })
 
   -- ---- joins ----
 
@@ -105,7 +108,7 @@ module _ (c : Config) (older : List Line) (n : ℕ) (rows : RowsAreLawful c (ent
     where
       brings : same_epoch d t.epoch ≡ true → (z == s) ≡ true → (o : Option HeldCopy) → copy_of (with_root t s) s f.ino ≡ o → held_of (option_map (entered s) o) ≡ Some v → has_pack c f.group s ≡ true → (b : Bool) → has_pack t.config t.group s ≡ b → Knows f.ino v (cond b (with_all (filter (λ (y : HeldCopy). y.site == s) (with_root t s)) t.known) t.known)
       brings q p None w holds pack b l = absurd (none_some v holds)
-      brings q p (Some x) w holds pack true l = subst (λ (y : Stamp). Knows f.ino y (with_all (filter (λ (y : HeldCopy). y.site == s) (with_root t s)) t.known)) (some_is x.now v (sym (ap (λ (b : Bool). (cond b (record x { held = Some x.now }) x).held) (first_of (x.site == s) _ (copy_found (with_root t s) s f.ino x w))) ∙ holds))
+      brings q p (Some x) w holds pack true l = subst (λ (y : Stamp). Knows f.ino y (with_all (filter (λ (y : HeldCopy). y.site == s) (with_root t s)) t.known)) (some_same x.now v (sym (ap (λ (b : Bool). (cond b (record x { held = Some x.now }) x).held) (and_first (x.site == s) _ (copy_found (with_root t s) s f.ino x w))) ∙ holds))
           (copy_known (with_root t s) s f.ino x t.known w)
       brings q p (Some x) w holds pack false l = absurd (true_false (sym pack ∙ (ap (λ (g : ℕ). has_pack c g s) (sym named.1) ∙ (ap (λ (y : Config). has_pack y t.group s) (sym (tree_config c e f.group before)) ∙ l))))
 
@@ -117,7 +120,7 @@ module _ (c : Config) (older : List Line) (n : ℕ) (rows : RowsAreLawful c (ent
       knows : same_epoch d t.epoch ≡ true → (z == s) ≡ true → Knows f.ino v (joined s m t).known
       knows q p = brings q p (copy_of (with_root t s) s f.ino) refl
           (sym (ap (λ (b : Bool). held_of (cond b (option_map (entered s) (copy_of (with_root t s) s f.ino)) (copy_of t.copies s f.ino))) q)
-          ∙ (ap (λ (y : ℕ). held_of (cond (same_epoch d t.epoch) (option_map (entered y) (copy_of (with_root t y) s f.ino)) (copy_of t.copies s f.ino))) (sym (test_same z s p))
+          ∙ (ap (λ (y : ℕ). held_of (cond (same_epoch d t.epoch) (option_map (entered y) (copy_of (with_root t y) s f.ino)) (copy_of t.copies s f.ino))) (sym (equal z s p))
           ∙ (sym (ap held_of (copy_next h t (says.Join z d m) s f.ino)) ∙ k))) (pack q p) (has_pack t.config t.group s) refl
 
       same : (b : Bool) → AheadAt t s f.ino → list_any (is_ahead s f.ino) (cond b (joined z m t) (left z t)).instances ≡ true
@@ -125,7 +128,7 @@ module _ (c : Config) (older : List Line) (n : ℕ) (rows : RowsAreLawful c (ent
       same false a = a
 
       over : (a : Bool) → same_epoch d t.epoch ≡ a → (b : Bool) → (z == s) ≡ b → IsKnown c (record { number = n; told = Shown (says.Join z d m) } ∷ older) e f v ⊎ AheadAt (next h (says.Join z d m) t) s f.ino
-      over true q true p = inl (rw q (subst (λ (y : ℕ). Knows f.ino v (joined y m t).known) (sym (test_same z s p)) (knows q p)))
+      over true q true p = inl (rw q (subst (λ (y : ℕ). Knows f.ino v (joined y m t).known) (sym (equal z s p)) (knows q p)))
       over true q false p = stays (says.Join z d m) (ap (λ (b : Bool). cond b (option_map (entered z) (copy_of (with_root t z) s f.ino)) (copy_of t.copies s f.ino)) q ∙ join_other t z s f.ino p) (same (same_epoch d t.epoch)) v k
       over false q b p = stays (says.Join z d m) (ap (λ (b : Bool). cond b (option_map (entered z) (copy_of (with_root t z) s f.ino)) (copy_of t.copies s f.ino)) q) (same (same_epoch d t.epoch)) v k
 
@@ -153,7 +156,7 @@ module _ (c : Config) (older : List Line) (n : ℕ) (rows : RowsAreLawful c (ent
 
       -- the one that commits is ahead from then on
       writer : is_inside t z ≡ true → (g.group == t.group) ≡ true → list_any (is_writer g z) t.instances ≡ true
-      writer inside same = one_writes g z may.instance may.at t.instances (subst (λ (u : TreeState). filter (is_writing g) u.instances ≡ may.instance ∷ []) (tree_is c e may.epoch f.group g.group before (epoch_named z may.epoch inside may.inside) (test_same g.group t.group same ∙ named.1)) may.one)
+      writer inside same = one_writes g z may.instance may.at t.instances (subst (λ (u : TreeState). filter (is_writing g) u.instances ≡ may.instance ∷ []) (tree_is c e may.epoch f.group g.group before (epoch_named z may.epoch inside may.inside) (equal g.group t.group same ∙ named.1)) may.one)
 
       hit : is_inside t z ≡ true → (g.group == t.group) ≡ true → (z == s) ≡ true → (g.ino == f.ino) ≡ true → AheadAt (next h (says.Commit g z stamp parents content) t) s f.ino
       hit inside same at ino = rw inside (any_turned (is_ahead s f.ino) (is_writer g z) (once_committed stamp) turned t.instances (writer inside same))
@@ -165,8 +168,8 @@ module _ (c : Config) (older : List Line) (n : ℕ) (rows : RowsAreLawful c (ent
 
           turned : (x : Instance) → is_writer g z x ≡ true → is_ahead s f.ino (once_committed stamp x) ≡ true
           turned x w = both (x.grant.ss == s) (x.grant.file.ino == f.ino)
-              (subst (λ (m : ℕ). (x.grant.ss == m) ≡ true) (test_same x.grant.ss z (first_of (x.grant.ss == z) _ (second_of (same_file x.grant.file g) _ w)) ∙ test_same z s at) (test_own x.grant.ss))
-              (subst (λ (m : ℕ). (x.grant.file.ino == m) ≡ true) (ap (λ (y : FileId). y.ino) (same_file_eq x.grant.file g (first_of (same_file x.grant.file g) _ w)) ∙ test_same g.ino f.ino ino) (test_own x.grant.file.ino))
+              (subst (λ (m : ℕ). (x.grant.ss == m) ≡ true) (equal x.grant.ss z (and_first (x.grant.ss == z) _ (and_second (same_file x.grant.file g) _ w)) ∙ equal z s at) (equal_self x.grant.ss))
+              (subst (λ (m : ℕ). (x.grant.file.ino == m) ≡ true) (ap (λ (y : FileId). y.ino) (same_file_eq x.grant.file g (and_first (same_file x.grant.file g) _ w)) ∙ equal g.ino f.ino ino) (equal_self x.grant.file.ino))
 
       pick : (i a d b : Bool) → is_inside t z ≡ i → (g.group == t.group) ≡ a → (z == s) ≡ d → (g.ino == f.ino) ≡ b → held_at (next h (says.Commit g z stamp parents content) t) s f.ino ≡ (Cases t s f.ino stamp i a d b)
       pick i a d b p q l m = held_is ∙ (ap (λ (x : Bool). (Cases t s f.ino stamp x (g.group == t.group) (z == s) (g.ino == f.ino))) p ∙ (ap (λ (x : Bool). (Cases t s f.ino stamp i x (z == s) (g.ino == f.ino))) q ∙ (ap (λ (x : Bool). (Cases t s f.ino stamp i a x (g.ino == f.ino))) l ∙ ap (λ (x : Bool). (Cases t s f.ino stamp i a d x)) m)))
@@ -192,7 +195,7 @@ module _ (c : Config) (older : List Line) (n : ℕ) (rows : RowsAreLawful c (ent
       known p q m is = subst (λ (y : Stamp). IsKnown c older e f y) is (subst (λ (y : EpochId). IsKnown c older y f stamp) (epoch_named z may.epoch p may.inside) (subst (λ (y : FileId). IsKnown c older may.epoch y stamp) (file_is g q m) may.known))
 
       over : (i : Bool) → is_inside t z ≡ i → (a : Bool) → (g.group == t.group) ≡ a → (d : Bool) → (z == s) ≡ d → (b : Bool) → (g.ino == f.ino) ≡ b → IsKnown c (record { number = n; told = Shown (says.Adopt g z stamp) } ∷ older) e f v ⊎ AheadAt (next h (says.Adopt g z stamp) t) s f.ino
-      over true p true q true l true m = inl (known_stays c n (Shown (says.Adopt g z stamp)) older e f v (known p q m (some_is stamp v (sym (pick true true true true p q l m) ∙ k))))
+      over true p true q true l true m = inl (known_stays c n (Shown (says.Adopt g z stamp)) older e f v (known p q m (some_same stamp v (sym (pick true true true true p q l m) ∙ k))))
       over true p true q true l false m = held_stays (says.Adopt g z stamp) (pick true true true false p q l m) (λ a. a) v k
       over true p true q false l b m = held_stays (says.Adopt g z stamp) (pick true true false b p q l m) (λ a. a) v k
       over true p false q d l b m = held_stays (says.Adopt g z stamp) (pick true false d b p q l m) (λ a. a) v k
@@ -207,11 +210,11 @@ module _ (c : Config) (older : List Line) (n : ℕ) (rows : RowsAreLawful c (ent
       held_is = sym (ap held_of (copy_next h t (says.Release d i g stamp) s f.ino)) ∙ k
 
       ends : same_epoch d t.epoch && (g.group == t.group) ≡ true → gives_release h t i g stamp ≡ true
-      ends b = subst (λ (u : TreeState). gives_release h u i g stamp ≡ true) (tree_is c e d f.group g.group before (same_epoch_eq d t.epoch (first_of (same_epoch d t.epoch) _ b) ∙ named.0) (test_same g.group t.group (second_of (same_epoch d t.epoch) _ b) ∙ named.1)) may.gives
+      ends b = subst (λ (u : TreeState). gives_release h u i g stamp ≡ true) (tree_is c e d f.group g.group before (same_epoch_eq d t.epoch (and_first (same_epoch d t.epoch) _ b) ∙ named.0) (equal g.group t.group (and_second (same_epoch d t.epoch) _ b) ∙ named.1)) may.gives
 
       -- who was ahead and is released has published what the site holds
       published_is : (b : same_epoch d t.epoch && (g.group == t.group) ≡ true) → Taken (is_ahead s f.ino) (is_named i) t.instances → Knows f.ino v (published g stamp t.known)
-      published_is b w = at stamp (same_version_is stamp w.one.work.committed (first_of (same_version stamp w.one.work.committed) _ (second_of (same_file w.one.grant.file g) _ ending)))
+      published_is b w = at stamp (same_version_is stamp w.one.work.committed (and_first (same_version stamp w.one.work.committed) _ (and_second (same_file w.one.grant.file g) _ ending)))
         where
           ending : instance_ends h t g stamp (Some w.one) ≡ true
           ending = subst (λ (o : Option Instance). instance_ends h t g stamp o ≡ true) w.found (ends b)
@@ -220,24 +223,24 @@ module _ (c : Config) (older : List Line) (n : ℕ) (rows : RowsAreLawful c (ent
           seat = all_found (Seat e f.group before t) (is_named i) t.instances w.one (rows_seated c before rows e f.group) w.found
 
           place : (w.one.grant.ss == s) && (w.one.grant.file.ino == f.ino) ≡ true
-          place = first_of ((w.one.grant.ss == s) && (w.one.grant.file.ino == f.ino)) _ w.passes
+          place = and_first ((w.one.grant.ss == s) && (w.one.grant.file.ino == f.ino)) _ w.passes
 
           last_is : w.one.work.last ≡ Some v
-          last_is = seat.last_is ∙ (ap (λ (m : ℕ). held_at t m w.one.grant.file.ino) (test_same w.one.grant.ss s (first_of (w.one.grant.ss == s) _ place)) ∙ (ap (λ (m : ℕ). held_at t s m) (test_same w.one.grant.file.ino f.ino (second_of (w.one.grant.ss == s) _ place)) ∙ held_is))
+          last_is = seat.last_is ∙ (ap (λ (m : ℕ). held_at t m w.one.grant.file.ino) (equal w.one.grant.ss s (and_first (w.one.grant.ss == s) _ place)) ∙ (ap (λ (m : ℕ). held_at t s m) (equal w.one.grant.file.ino f.ino (and_second (w.one.grant.ss == s) _ place)) ∙ held_is))
 
           some_made : (o : Option Stamp) → w.one.work.committed ≡ o → is_some o ≡ true → w.one.work.committed ≡ Some v
           some_made None q l = absurd (true_false (sym l))
           some_made (Some y) q l = q ∙ (sym (seat.made y q) ∙ last_is)
 
           made : w.one.work.committed ≡ Some v
-          made = some_made w.one.work.committed refl (second_of ((w.one.grant.ss == s) && (w.one.grant.file.ino == f.ino)) _ w.passes)
+          made = some_made w.one.work.committed refl (and_second ((w.one.grant.ss == s) && (w.one.grant.file.ino == f.ino)) _ w.passes)
 
           ino_is : g.ino ≡ f.ino
-          ino_is = ap (λ (y : FileId). y.ino) (sym (same_file_eq w.one.grant.file g (first_of (same_file w.one.grant.file g) _ ending))) ∙ test_same w.one.grant.file.ino f.ino (second_of (w.one.grant.ss == s) _ place)
+          ino_is = ap (λ (y : FileId). y.ino) (sym (same_file_eq w.one.grant.file g (and_first (same_file w.one.grant.file g) _ ending))) ∙ equal w.one.grant.file.ino f.ino (and_second (w.one.grant.ss == s) _ place)
 
           at : (o : Option Stamp) → o ≡ w.one.work.committed → Knows f.ino v (published g o t.known)
           at None q = absurd (none_some v (q ∙ made))
-          at (Some y) q = subst (λ (m : ℕ). Knows f.ino v (with_brought (record { ino = m; stamp = y }) t.known)) (sym ino_is) (subst (λ (x : Stamp). Knows f.ino v (with_brought (record { ino = f.ino; stamp = x }) t.known)) (sym (some_is y v (q ∙ made))) (knows_new f.ino v t.known))
+          at (Some y) q = subst (λ (m : ℕ). Knows f.ino v (with_brought (record { ino = m; stamp = y }) t.known)) (sym ino_is) (subst (λ (x : Stamp). Knows f.ino v (with_brought (record { ino = f.ino; stamp = x }) t.known)) (sym (some_same y v (q ∙ made))) (knows_new f.ino v t.known))
 
       gone : (b : same_epoch d t.epoch && (g.group == t.group) ≡ true) → (list_any (is_ahead s f.ino) (without_first (is_named i) t.instances) ≡ true) ⊎ Taken (is_ahead s f.ino) (is_named i) t.instances → IsKnown c (record { number = n; told = Shown (says.Release d i g stamp) } ∷ older) e f v ⊎ AheadAt (next h (says.Release d i g stamp) t) s f.ino
       gone b (inl a) = inr (rw b a)

@@ -37,3 +37,4 @@ pub mod RoomOpenGranted
 pub mod RoomRoomInstances
 pub mod RoomRoom
 pub mod RoomNarrow
+pub use Rattle.order_laws.proofs as of_order_laws

@@ -3,6 +3,8 @@
 use Rattle.std.proofs.Common.{◌≡◌, ℕ, ◌+◌, ◌==◌, ◌<◌, Bool, true, false, not, ◌&&◌, cond, List, [], ◌∷◌, filter, map, Option, Some, None, refl, sym, ap, ◌∙◌, subst, arith}
 use Rattle.std.specs.List.{AllByRecursion}
 use Rattle.std.specs.Option.{is_none}
+use Rattle.role_steps.proofs.of_plain_facts.Numbers.{equal}
+use Rattle.role_steps.proofs.of_plain_facts.Tests.{and_first}
 use Rattle.locus_ids.specs.declared.config.Config.{Config}
 use Rattle.locus_ids.specs.declared.ids.Brought.{Brought}
 use Rattle.locus_ids.specs.declared.ids.EpochId.{EpochId}
@@ -22,8 +24,7 @@ use Rattle.tree_model.specs.Working.{list_of, merges}
 use Rattle.lawful_trace.specs.Lawful.{MayCome}
 use Rattle.lawful_trace.specs.TreeRows.{MayCommit, is_writing}
 use Rattle.tree_laws.specs.Following.{RowsAreLawful}
-use Rattle.tree_laws.proofs.Names.{test_same}
-use Rattle.order_laws.proofs.Alone.{first_of, tree_named}
+use Rattle.order_laws.proofs.Alone.{tree_named}
 use Rattle.order_laws.proofs.Keeping.{IsNew}
 use Rattle.order_laws.proofs.Knowing.{rows_sound}
 use Rattle.order_laws.proofs.Lists.{all_filtered}
@@ -42,7 +43,7 @@ not_equal : (a b : ℕ) → b < a → (a == b) ≡ false
 not_equal a b low = at (a == b) refl
   where
     at : (x : Bool) → (a == b) ≡ x → x ≡ false
-    at true e = (let same : a ≡ b = test_same a b e in absurd (omega (arith, same, low)))
+    at true e = (let same : a ≡ b = equal a b e in absurd (omega (arith, same, low)))
     at false e = refl
 
 later_formats : (k j : ℕ) (packs : List Sites) → j < k → is_in (format_versions k packs) (At j 1) format_stamp ≡ false
@@ -72,7 +73,7 @@ known_all h g ino (b ∷ bs) all = at (b.ino == ino) refl (known_all h g ino bs 
   where
     at : (k : Bool) → (b.ino == ino) ≡ k → AllByRecursion (λ (s : Stamp). is_in h (At g ino) s ≡ true) (stamps_of bs ino)
         → AllByRecursion (λ (s : Stamp). is_in h (At g ino) s ≡ true) (map (λ (y : Brought). y.stamp) (cond k (b ∷ filter (λ (y : Brought). y.ino == ino) bs) (filter (λ (y : Brought). y.ino == ino) bs)))
-    at true e later = (subst (λ (n : ℕ). is_in h (At g n) b.stamp ≡ true) (test_same b.ino ino e) all.0, later)
+    at true e later = (subst (λ (n : ℕ). is_in h (At g n) b.stamp ≡ true) (equal b.ino ino e) all.0, later)
     at false e later = later
 
 -- each version that the tree knows of a file stands
@@ -113,7 +114,7 @@ module _ (c : Config) (before : Trace) (rows : RowsAreLawful c before) (f : File
   x = may.instance
 
   pub committed_file : x.grant.file ≡ f
-  committed_file = same_file_eq x.grant.file f (first_of (same_file x.grant.file f) _ (filter_passes (is_writing f) t.instances x may.one))
+  committed_file = same_file_eq x.grant.file f (and_first (same_file x.grant.file f) _ (filter_passes (is_writing f) t.instances x may.one))
 
   pub committed_seat : Seat may.epoch f.group before t x
   committed_seat = filter_one (Seat may.epoch f.group before t) (is_writing f) t.instances x may.one (rows_seated c before rows may.epoch f.group)

@@ -1,5 +1,6 @@
 -- While a mend's instance isn't released, what its open was answered is what is kept of its file.
 use Rattle.std.proofs.Common.{◌≡◌, ℕ, ◌-◌, Bool, true, false, cond, List, [], ◌∷◌, ◌++◌, take, Option, Some, zero, suc, refl, sym, ◌∙◌, ap, subst, ◌⊎◌, inl, inr}
+use Rattle.role_steps.proofs.of_plain_facts.Tests.{and_first}
 use Rattle.locus_ids.specs.declared.config.Config.{Config}
 use Rattle.locus_ids.specs.declared.ids.CallId.{CallId}
 use Rattle.locus_ids.specs.declared.ids.EpochId.{EpochId}
@@ -15,7 +16,7 @@ use Rattle.trace_book.specs.declared.record.Record.TheVariants as says
 use Rattle.call_rules.specs.declared.answer.Answer.{Answer}
 use Rattle.call_rules.specs.declared.answer.Answer.TheVariants as answer
 use Rattle.role_steps.specs.Views.{Told, Shown, LooksAgain}
-use Rattle.the_run.specs.Worlds.{Line}
+use Rattle.tree_laws.specs.of_the_run.Worlds.{Line}
 use Rattle.tree_model.specs.declared.accepted.Waiting.{Waiting}
 use Rattle.tree_model.specs.Calls.{call_named}
 use Rattle.tree_model.specs.Folds.{Trace}
@@ -33,7 +34,6 @@ use Rattle.tree_laws.proofs.Names.{same_call_eq}
 use Rattle.tree_laws.proofs.Rows.{followed_rows}
 use Rattle.tree_laws.proofs.Scripts.{named_stays}
 use Rattle.order_laws.specs.Joining.{PacksAreOfSites}
-use Rattle.order_laws.proofs.Alone.{first_of}
 use Rattle.order_laws.specs.Keeping.{PassesBy}
 use Rattle.order_laws.proofs.Keeping.{IsNew, kept_by}
 use Rattle.order_laws.proofs.ProcessOpen.{OpenAs, granted_open}
@@ -194,7 +194,7 @@ granted_mend c older n (Shown (says.Grant e call request inst m f stamp ss)) few
     inside = subst (IsCallIn (entries older) e) g.call_is may.row.opens.step
 
     started : (tree_of c e f.group (entries older)).started ≡ true
-    started = first_of (tree_of c e f.group (entries older)).started _ may.row.gives
+    started = and_first (tree_of c e f.group (entries older)).started _ may.row.gives
 granted_mend c older n x few h may d i kept g = absurd g
 
 later_mend : (c : Config) (older : List Line) (n : ℕ) (x : Told) → PacksAreOfSites c → IsFollowed c older → MayTell c older x → CommitsAreNew c (onto_entries n x (entries older)) → (d : CallId) (i : Serial) (kept : List Stamp) → MendOf c older d i kept → MendOf c (With n x older) d i kept

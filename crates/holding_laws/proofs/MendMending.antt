@@ -1,5 +1,6 @@
 -- A call that asks to mend is a mend, has brought all that its open told, and these are what is kept of its file.
 use Rattle.std.proofs.Common.{◌≡◌, ℕ, Bool, List, [], ◌∷◌, Option, Some, None, refl, sym, ◌∙◌, ap, subst, ◌⊎◌, inl, inr}
+use Rattle.role_steps.proofs.of_plain_facts.Options.{some_same}
 use Rattle.locus_ids.specs.declared.config.Config.{Config}
 use Rattle.locus_ids.specs.declared.config.Mount.{Mount}
 use Rattle.locus_ids.specs.declared.ids.CallId.{CallId}
@@ -23,7 +24,7 @@ use Rattle.call_rules.specs.declared.want.Want.TheVariants as want
 use Rattle.call_rules.specs.Closing.{Unchanged}
 use Rattle.call_rules.specs.Mending.{brings, mend_wants}
 use Rattle.call_rules.specs.Scripts.{wants, where_packed}
-use Rattle.the_run.specs.Worlds.{Line}
+use Rattle.tree_laws.specs.of_the_run.Worlds.{Line}
 use Rattle.tree_model.specs.declared.accepted.Waiting.{Waiting}
 use Rattle.tree_model.specs.Folds.{Trace}
 use Rattle.tree_model.specs.Tree.{kept_in}
@@ -35,7 +36,6 @@ use Rattle.tree_laws.specs.Following.{IsFollowed}
 use Rattle.tree_laws.specs.Past.{WasGranted, WasReleased}
 use Rattle.tree_laws.specs.Printed.{entries}
 use Rattle.tree_laws.specs.Users.{brought_of, taken_whole}
-use Rattle.tree_laws.proofs.Names.{some_is}
 use Rattle.order_laws.specs.Joining.{PacksAreOfSites}
 use Rattle.order_laws.specs.ProcessAsked.{IsOpenOf}
 use Rattle.order_laws.proofs.ProcessOpen.{asked_open}
@@ -155,9 +155,6 @@ mends_then c before w (Some b) log i e = over (asked_by_mend c.mounts p None w.w
         asks = unpacked p (mend_wants file log) i
             (subst (λ (y : Beginning). wants c.mounts p None (call.Mend file) y log ≡ want.Do i op.Mend) m.walks (subst (λ (y : Call). wants c.mounts p None y b log ≡ want.Do i op.Mend) m.words_are e))
 
-same_mend : (f g : FileId) → call.Mend f ≡ call.Mend g → f ≡ g
-same_mend f g e = cc
-
 pub mends_now : (c : Config) (t : List Line) (e : EpochId) (d : CallId) (i : Serial) → PacksAreOfSites c → IsFollowed c t → CommitsAreNew c (entries t) → IsCallIn (entries t) e d → Asks c t d (want.Do i op.Mend) → MendsNow c t e d i
 mends_now c t e d i few h new inside asks = record {
   caller = w;
@@ -182,10 +179,10 @@ mends_now c t e d i few h new inside asks = record {
     m = all_mends c t few h new d i k.after.kept k.after.rest (asks.nothing_waits ∙ k.after.log_is)
 
     one : m.caller ≡ w
-    one = some_is m.caller w (sym m.named ∙ inside.named)
+    one = some_same m.caller w (sym m.named ∙ inside.named)
 
     epoch_is : m.epoch ≡ e
-    epoch_is = some_is m.epoch e (sym m.made_in ∙ (ap (λ (y : Waiting). y.epoch) one ∙ inside.made_in))
+    epoch_is = some_same m.epoch e (sym m.made_in ∙ (ap (λ (y : Waiting). y.epoch) one ∙ inside.made_in))
 
     open_of : IsOpenOf c t e i d.site
     open_of = asked_open c t e d i h inside (inl (op.Mend, asks))

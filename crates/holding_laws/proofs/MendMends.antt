@@ -1,6 +1,7 @@
 -- A call that opens to mend, or looks at whole contents, is a mend; and what it looks at is kept, as its open was answered.
 use Rattle.std.proofs.Common.{◌≡◌, ℕ, Bool, true, false, cond, ◌||◌, List, [], ◌∷◌, ◌++◌, Option, Some, None, refl, sym, ◌∙◌, ap, subst, ◌⊎◌, inl, inr, arith}
 use Rattle.std.proofs.lemmas.Bool.Decides.{nat_tests}
+use Rattle.role_steps.proofs.of_plain_facts.Tests.{true_false}
 use Rattle.locus_ids.specs.declared.config.Config.{Config}
 use Rattle.locus_ids.specs.declared.config.Mount.{Mount}
 use Rattle.locus_ids.specs.declared.ids.FileId.{FileId}
@@ -33,7 +34,6 @@ use Rattle.lawful_trace.specs.TreeRows.{is_open_of}
 use Rattle.tree_laws.specs.Calls.{script_as}
 use Rattle.tree_laws.specs.Holding.{Instances, IsOf, closed_by, had_after}
 use Rattle.tree_laws.proofs.Holding.{Safe, Script}
-use Rattle.tree_laws.proofs.Names.{true_false}
 use Rattle.order_laws.proofs.Standing.{same_file_eq}
 use Rattle.holding_laws.proofs.MendWants.{IsPlainLook, after_mend_so, give_up_so, mend_so, wants_so}
 

@@ -296,8 +296,5 @@ module _ (P : Want → Type 0) (looking : (f : FileId) (w : What) → IsPlainLoo
   pub mend_so : (f : FileId) → ((s : Stamp) → P (want.Look f (what.Whole s))) → P (want.OpenToMend f) → (xs : List Answer) → P (mend_wants f xs)
   mend_so f whole opens xs = mend_by P looking opening making (λ i o plain. doing i o) closing giving never f whole opens (λ i. doing i op.Mend) xs
 
-  pub packed_so : (is_packed : ℕ → Bool) (w : Want) → P w → P (where_packed is_packed w)
-  packed_so is_packed w h = packed_by P looking opening making (λ i o plain. doing i o) closing giving never is_packed w h
-
   pub wants_so : (mounts : List Mount) (is_packed : ℕ → Bool) (free : Option ℕ) (words : Call) → ((f : FileId) → words ≡ call.Mend f → ⊥) → (b : Beginning) (xs : List Answer) → P (wants mounts is_packed free words b xs)
   wants_so mounts is_packed free words other b xs = wants_by P looking opening making (λ i o plain. doing i o) closing giving never mounts is_packed free words other b xs

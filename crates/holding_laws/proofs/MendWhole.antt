@@ -1,5 +1,6 @@
 -- Whole contents are asked of kept versions alone.
 use Rattle.std.proofs.Common.{◌≡◌, ℕ, Bool, true, false, cond, List, [], ◌∷◌, ◌++◌, Option, Some, None, refl, sym, ◌∙◌, ap, subst}
+use Rattle.role_steps.proofs.of_plain_facts.Options.{some_same}
 use Rattle.locus_ids.specs.declared.config.Config.{Config}
 use Rattle.locus_ids.specs.declared.ids.CallId.{CallId}
 use Rattle.locus_ids.specs.declared.ids.EpochId.{EpochId}
@@ -19,7 +20,7 @@ use Rattle.call_rules.specs.declared.want.Want.TheVariants as want
 use Rattle.call_rules.specs.Mending.{brings}
 use Rattle.call_rules.specs.Scripts.{wants, where_packed}
 use Rattle.role_steps.specs.Views.{Told, Shown, Takes}
-use Rattle.the_run.specs.Worlds.{Line}
+use Rattle.tree_laws.specs.of_the_run.Worlds.{Line}
 use Rattle.tree_model.specs.declared.accepted.Waiting.{Waiting}
 use Rattle.tree_model.specs.State.{has_stamp}
 use Rattle.tree_model.specs.Tree.{kept_in}
@@ -35,7 +36,7 @@ use Rattle.tree_laws.proofs.Awaiting.{OpensIt, all_have, named_before}
 use Rattle.tree_laws.proofs.Fresh.{IsNamed}
 use Rattle.tree_laws.proofs.Having.{IsSafe, safe_accept, safe_still, safe_take}
 use Rattle.tree_laws.proofs.Holding.{IsNew}
-use Rattle.tree_laws.proofs.Names.{same_call_eq, some_is}
+use Rattle.tree_laws.proofs.Names.{same_call_eq}
 use Rattle.order_laws.specs.Joining.{PacksAreOfSites}
 use Rattle.order_laws.proofs.ProcessUnreleased.{unreleased}
 use Rattle.holding_laws.proofs.Made.{CommitsAreNew}
@@ -98,10 +99,10 @@ whole_kept c t e d f stamp few h new inside asks = subst (λ (ks : List Stamp). 
     m = all_mends c t few h new d b.inst b.kept b.rest (asks.nothing_waits ∙ b.log_is)
 
     one : m.caller ≡ w
-    one = some_is m.caller w (sym m.named ∙ inside.named)
+    one = some_same m.caller w (sym m.named ∙ inside.named)
 
     epoch_is : m.epoch ≡ e
-    epoch_is = some_is m.epoch e (sym m.made_in ∙ (ap (λ (y : Waiting). y.epoch) one ∙ inside.made_in))
+    epoch_is = some_same m.epoch e (sym m.made_in ∙ (ap (λ (y : Waiting). y.epoch) one ∙ inside.made_in))
 
     file_is : m.file ≡ f
     file_is = same_mend m.file f (sym m.words_are ∙ (ap (λ (y : Waiting). y.words) one ∙ looks.words_are))

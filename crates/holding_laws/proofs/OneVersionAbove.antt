@@ -4,6 +4,9 @@ use Rattle.std.proofs.Common.{◌≡◌, ℕ, ◌==◌, Bool, true, false, not, 
 use Rattle.std.proofs.lemmas.Bool.Decides.{nat_tests}
 use Rattle.std.specs.List.{AllByRecursion, find, list_any}
 use Rattle.std.specs.Option.{is_none}
+use Rattle.role_steps.proofs.of_plain_facts.Numbers.{equal, equal_self}
+use Rattle.role_steps.proofs.of_plain_facts.Options.{none_some, some_same}
+use Rattle.role_steps.proofs.of_plain_facts.Tests.{and_first, or_second, true_false}
 use Rattle.locus_ids.specs.declared.config.Config.{Config}
 use Rattle.locus_ids.specs.declared.ids.CallId.{CallId}
 use Rattle.locus_ids.specs.declared.ids.EpochId.{EpochId}
@@ -20,7 +23,7 @@ use Rattle.trace_book.specs.Same.{same_epoch}
 use Rattle.trace_book.specs.declared.record.Record.{Record}
 use Rattle.trace_book.specs.declared.record.Record.TheVariants as says
 use Rattle.role_steps.specs.Views.{Told, Shown}
-use Rattle.the_run.specs.Worlds.{Line}
+use Rattle.tree_laws.specs.of_the_run.Worlds.{Line}
 use Rattle.tree_model.specs.declared.instance.Instance.{Instance}
 use Rattle.tree_model.specs.Epochs.{is_in as is_at}
 use Rattle.tree_model.specs.Folds.{Trace}
@@ -34,18 +37,17 @@ use Rattle.tree_model.specs.Working.{list_of, merges, parents_of}
 use Rattle.lawful_trace.specs.TreeRows.{is_writing}
 use Rattle.tree_laws.specs.Following.{IsFollowed, MakesInTime, MayTell, RowsAreLawful}
 use Rattle.tree_laws.specs.Printed.{entries, onto_entries}
-use Rattle.tree_laws.proofs.Names.{same_epoch_eq, some_is, test_own, test_same, true_false}
+use Rattle.tree_laws.proofs.Names.{same_epoch_eq}
 use Rattle.tree_laws.proofs.Owing.{inside_is}
 use Rattle.tree_laws.proofs.Rows.{followed_rows}
 use Rattle.order_laws.specs.Alone.{MayStandBy}
 use Rattle.order_laws.specs.Joining.{PacksAreOfSites}
-use Rattle.order_laws.proofs.Alone.{first_of, rows_apart, tree_is, tree_named}
+use Rattle.order_laws.proofs.Alone.{rows_apart, tree_is, tree_named}
 use Rattle.order_laws.proofs.Keeping.{EndsIn, IsNew, PublishesNone, ends_in, file_eq, kept_by, published_same}
 use Rattle.order_laws.proofs.Lists.{all_changed, all_found, all_more, all_then, all_without}
-use Rattle.order_laws.proofs.Standing.{acted_keeps, later_true, same_file_eq}
+use Rattle.order_laws.proofs.Standing.{acted_keeps, same_file_eq}
 use Rattle.order_laws.proofs.Started.{rows_started}
 use Rattle.holding_laws.proofs.Ancestors.{ancestor_before, ancestor_newest, ancestor_own, any_then}
-use Rattle.holding_laws.proofs.Copies.{none_some}
 use Rattle.holding_laws.proofs.Made.{CommitsAreNew, held_stand}
 use Rattle.holding_laws.proofs.OneVersionMakes.{Free, free_or_named}
 use Rattle.holding_laws.proofs.Seats.{Seat, granted_placed, rows_seated, same_version_is}
@@ -130,7 +132,7 @@ module _ (c : Config) (few : PacksAreOfSites c) (older : List Line) (n : ℕ) (f
     epoch_is inside = same_epoch_eq may.row.epoch e (sym (ap (λ (o : Option EpochId). is_at o e) may.row.inside) ∙ (sym (inside_is c before e g z) ∙ inside))
 
     tree_same : is_inside t z ≡ true → (f.group == t.group) ≡ true → tree_of c may.row.epoch f.group before ≡ t
-    tree_same inside same = tree_is c e may.row.epoch g f.group before (epoch_is inside) (test_same f.group t.group same ∙ named.1)
+    tree_same inside same = tree_is c e may.row.epoch g f.group before (epoch_is inside) (equal f.group t.group same ∙ named.1)
 
     one : is_inside t z ≡ true → (f.group == t.group) ≡ true → filter (is_writing f) t.instances ≡ may.row.instance ∷ []
     one inside same = subst (λ (u : TreeState). filter (is_writing f) u.instances ≡ may.row.instance ∷ []) (tree_same inside same) may.row.one
@@ -140,7 +142,7 @@ module _ (c : Config) (few : PacksAreOfSites c) (older : List Line) (n : ℕ) (f
     turn inside same x writes p = inr (subst (AllByRecursion (BelowLast (history c (record { line = n; what = r } ∷ before)) x.grant.file (Some stamp))) (sym (kept_same r may fresh x.grant.file p.1.0.group_is p.0 tt)) (above (merges x.grant.mode && is_none x.work.committed) refl))
       where
         mine : x.grant.file ≡ f
-        mine = same_file_eq x.grant.file f (first_of (same_file x.grant.file f) _ writes)
+        mine = same_file_eq x.grant.file f (and_first (same_file x.grant.file f) _ writes)
 
         writing : is_writing f x ≡ true
         writing = drop (same_file x.grant.file f) (x.grant.ss == z) (not (is_read x.grant.mode)) writes
@@ -160,7 +162,7 @@ module _ (c : Config) (few : PacksAreOfSites c) (older : List Line) (n : ℕ) (f
         newest = ap (λ (y : FileId). same_file f y && same_stamp stamp stamp) mine ∙ (ap (λ (b : Bool). b && same_stamp stamp stamp) (own f) ∙ same_stamp_refl stamp)
 
         step : (k : Stamp) → list_any (is_ancestor h x.grant.file k) parents ≡ true → BelowLast (w ∷ h) x.grant.file (Some stamp) k
-        step k any = record { top = stamp; last_is = refl; below = ancestor_newest w h x.grant.file k stamp newest ∙ later_true (same_stamp k stamp) _ any }
+        step k any = record { top = stamp; last_is = refl; below = ancestor_newest w h x.grant.file k stamp newest ∙ or_second (same_stamp k stamp) _ any }
 
         among : (k : Stamp) → has_stamp (kept_of h t x.grant.file) k ≡ true → list_any (is_ancestor h x.grant.file k) (kept_of h t x.grant.file) ≡ true
         among k m = any_then (λ a. same_stamp a k) (is_ancestor h x.grant.file k) (λ (a : Stamp). Unit {0}) (λ a u q. subst (λ (y : Stamp). is_ancestor h x.grant.file k y ≡ true) (sym (same_stamp_eq a k q)) (ancestor_own h x.grant.file k)) (kept_of h t x.grant.file) (all_unit (kept_of h t x.grant.file)) m
@@ -202,7 +204,7 @@ module _ (c : Config) (few : PacksAreOfSites c) (older : List Line) (n : ℕ) (f
     strange apart (x ∷ xs) seats all = at (is_writer f z x) refl (strange apart xs seats.1 all.1)
       where
         at : (b : Bool) → is_writer f z x ≡ b → AllByRecursion (After r) (change_first (is_writer f z) (once_committed stamp) xs) → AllByRecursion (After r) (cond b (once_committed stamp x ∷ xs) (x ∷ change_first (is_writer f z) (once_committed stamp) xs))
-        at true q later = absurd (true_false (sym (subst (λ (m : ℕ). (f.group == m) ≡ true) (ap (λ (y : FileId). y.group) (sym (same_file_eq x.grant.file f (first_of (same_file x.grant.file f) _ q))) ∙ (seats.0.group_is ∙ sym named.1)) (test_own f.group)) ∙ apart))
+        at true q later = absurd (true_false (sym (subst (λ (m : ℕ). (f.group == m) ≡ true) (ap (λ (y : FileId). y.group) (sym (same_file_eq x.grant.file f (and_first (same_file x.grant.file f) _ q))) ∙ (seats.0.group_is ∙ sym named.1)) (equal_self f.group)) ∙ apart))
         at false q later = (all.0, later)
 
     commit_above : AllByRecursion (After r) (next h r t).instances
@@ -236,7 +238,7 @@ module _ (c : Config) (few : PacksAreOfSites c) (older : List Line) (n : ℕ) (f
         at : EndsIn c before e x.grant.file d j q stamp → (b : Bool) → (q.ino == x.grant.file.ino) ≡ b → stamps_of (published q stamp (tree_of c e x.grant.file.group before).known) x.grant.file.ino ≡ stamps_of (tree_of c e x.grant.file.group before).known x.grant.file.ino
         at w false k = published_same q stamp x.grant.file.ino (tree_of c e x.grant.file.group before).known k
         at w true k = ap (λ (o : Option Stamp). stamps_of (published q o (tree_of c e x.grant.file.group before).known) x.grant.file.ino)
-            (same_version_is stamp w.ended.work.committed w.made ∙ beside_none w.ended found x (by w.ended found) (sym (w.file_is ∙ file_eq q x.grant.file w.group_is (test_same q.ino x.grant.file.ino k))))
+            (same_version_is stamp w.ended.work.committed w.made ∙ beside_none w.ended found x (by w.ended found) (sym (w.file_is ∙ file_eq q x.grant.file w.group_is (equal q.ino x.grant.file.ino k))))
           where
             found : find (is_named j) t.instances ≡ Some w.ended
             found = subst (λ (m : ℕ). find (is_named j) (tree_of c e m before).instances ≡ Some w.ended) group_is w.found
@@ -251,7 +253,7 @@ module _ (c : Config) (few : PacksAreOfSites c) (older : List Line) (n : ℕ) (f
         anything : (xs : List Instance) → AllByRecursion (λ (x : Instance). (y : Instance) → find (is_named j) t.instances ≡ Some y → MayStandBy x y ⊎ MayStandBy y x) xs
         anything [] = tt
         anything (x ∷ xs) = ((λ y l. absurd (none_some y (sym k ∙ l))), anything xs)
-    left_beside (Some y) k = all_then (λ (x : Instance). MayStandBy x y ⊎ MayStandBy y x) (λ (x : Instance). (w : Instance) → find (is_named j) t.instances ≡ Some w → MayStandBy x w ⊎ MayStandBy w x) (λ x p w l. subst (λ (v : Instance). MayStandBy x v ⊎ MayStandBy v x) (some_is y w (sym k ∙ l)) p)
+    left_beside (Some y) k = all_then (λ (x : Instance). MayStandBy x y ⊎ MayStandBy y x) (λ (x : Instance). (w : Instance) → find (is_named j) t.instances ≡ Some w → MayStandBy x w ⊎ MayStandBy w x) (λ x p w l. subst (λ (v : Instance). MayStandBy x v ⊎ MayStandBy v x) (some_same y w (sym k ∙ l)) p)
         (without_first (is_named j) t.instances) (beside_found (is_named j) t.instances y (rows_apart c before rows e g).alone k)
 
     abbrev Base : Instance → Type 0
@@ -281,7 +283,7 @@ module _ (c : Config) (few : PacksAreOfSites c) (older : List Line) (n : ℕ) (f
       others = calm (says.Grant d call request i m f stamp ss) may tt (λ y. tt) (λ y k l b. b)
 
       given : same_epoch d t.epoch ≡ true → (f.group == t.group) ≡ true → gives_grant h t call i m f stamp ss ≡ true
-      given p q = subst (λ (u : TreeState). gives_grant h u call i m f stamp ss ≡ true) (tree_is c e d g f.group before (same_epoch_eq d t.epoch p ∙ named.0) (test_same f.group t.group q ∙ named.1)) may.row.gives
+      given p q = subst (λ (u : TreeState). gives_grant h u call i m f stamp ss ≡ true) (tree_is c e d g f.group before (same_epoch_eq d t.epoch p ∙ named.0) (equal f.group t.group q ∙ named.1)) may.row.gives
 
       kept_is : (u : TreeState) → u.known ≡ t.known → kept_of h u f ≡ kept_of h t f
       kept_is u k = ap (λ bs. kept h f (stamps_of bs f.ino)) k
@@ -305,12 +307,12 @@ module _ (c : Config) (few : PacksAreOfSites c) (older : List Line) (n : ℕ) (f
       above : (m : Mode) → MakesInTime older d i f ss m → gives_grant h t call i m f stamp ss ≡ true → d ≡ e → f.group ≡ g → ((merges m ≡ true) × (◌≡◌ {A = Option Stamp} None None)) ⊎ AllByRecursion (BelowLast h f stamp) (kept_of h t f)
       above mode.Resolve makes k p q = inl (refl, refl)
       above mode.Mend makes k p q = inl (refl, refl)
-      above mode.Read makes k p q = inr (on_only (kept_of h t f) stamp (first_of (is_only (kept_of h t f) stamp) _ (granted_placed h t call i mode.Read f stamp ss k)))
-      above mode.Write makes k p q = inr (on_only (kept_of h t f) stamp (first_of (is_only (kept_of h t f) stamp) _ (granted_placed h t call i mode.Write f stamp ss k)))
+      above mode.Read makes k p q = inr (on_only (kept_of h t f) stamp (and_first (is_only (kept_of h t f) stamp) _ (granted_placed h t call i mode.Read f stamp ss k)))
+      above mode.Write makes k p q = inr (on_only (kept_of h t f) stamp (and_first (is_only (kept_of h t f) stamp) _ (granted_placed h t call i mode.Write f stamp ss k)))
       above mode.Make makes k p q = inr (subst (AllByRecursion (BelowLast h f stamp)) (sym (make_none p q (free_or_named c older few followed ss e i f (subst (λ (y : EpochId). WasBegun older ss y i f) p makes)))) tt)
 
       new : (a : Bool) → same_epoch d t.epoch ≡ true → (f.group == t.group) ≡ true → IsAbove h (cond a (granted h (grant_of t call i m f ss) stamp t) t) (opened h (grant_of t call i m f ss) stamp)
-      new a p q = at (above m may.in_time.makes (given p q) (same_epoch_eq d t.epoch p ∙ named.0) (test_same f.group t.group q ∙ named.1))
+      new a p q = at (above m may.in_time.makes (given p q) (same_epoch_eq d t.epoch p ∙ named.0) (equal f.group t.group q ∙ named.1))
         where
           at : ((merges m ≡ true) × (◌≡◌ {A = Option Stamp} None None)) ⊎ AllByRecursion (BelowLast h f stamp) (kept_of h t f) → IsAbove h (cond a (granted h (grant_of t call i m f ss) stamp t) t) (opened h (grant_of t call i m f ss) stamp)
           at (inl k) = inl (k.0, refl)

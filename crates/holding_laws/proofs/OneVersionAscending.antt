@@ -2,6 +2,8 @@
 use Rattle.std.proofs.Common.{◌≡◌, ℕ, ◌==◌, ◌<◌, Bool, true, false, ◌&&◌, ◌||◌, cond, nat_lt, List, [], ◌∷◌, filter, map, Option, Some, None, refl, sym, ap, ◌∙◌, subst, arith, ◌⊎◌, inl, inr}
 use Rattle.std.proofs.lemmas.Bool.Decides.{nat_tests}
 use Rattle.std.specs.List.{AllByRecursion}
+use Rattle.role_steps.proofs.of_plain_facts.Numbers.{equal, equal_test, less, less_test}
+use Rattle.role_steps.proofs.of_plain_facts.Tests.{and_first, and_second, and_true, or_either, or_first, or_second, true_false}
 use Rattle.locus_ids.specs.declared.config.Config.{Config}
 use Rattle.locus_ids.specs.declared.ids.Brought.{Brought}
 use Rattle.locus_ids.specs.declared.ids.EpochId.{EpochId}
@@ -19,59 +21,36 @@ use Rattle.tree_model.specs.Packs.{has_pack}
 use Rattle.tree_model.specs.Same.{same_brought}
 use Rattle.tree_model.specs.State.{TreeState, is_brought_below, is_granted_here, is_make, stamps_of, with_all, with_brought}
 use Rattle.tree_model.specs.Tree.{acted, grant_of, granted, joined, left, next, published, released, tree_of, with_root, without_make}
-use Rattle.tree_laws.proofs.Names.{test_own, test_same, true_false}
-use Rattle.order_laws.proofs.Alone.{first_of, second_of}
 use Rattle.order_laws.proofs.Lists.{all_then}
-use Rattle.order_laws.proofs.Standing.{later_true, same_stamp_eq}
+use Rattle.order_laws.proofs.Standing.{same_stamp_eq}
 
 -- ---- order ----
-
-lt_true : (m n : ℕ) → m < n → nat_lt m n ≡ true
-lt_true m n k = grind (arith, nat_tests)
-
-true_lt : (m n : ℕ) → nat_lt m n ≡ true → m < n
-true_lt m n k = grind (arith, nat_tests)
 
 -- below by inode, then site, then number
 record Below (a b : Brought) : Type 0 where
   ino : (a.ino < b.ino) ⊎ ((a.ino ≡ b.ino) × ((a.stamp.site < b.stamp.site) ⊎ ((a.stamp.site ≡ b.stamp.site) × (a.stamp.n < b.stamp.n))))
 
-either : (a b : Bool) → a || b ≡ true → (a ≡ true) ⊎ (b ≡ true)
-either true b h = inl refl
-either false b h = inr h
-
 below_is : (a b : Brought) → is_brought_below a b ≡ true → Below a b
-below_is a b k = record { ino = outer (either (nat_lt a.ino b.ino) _ k) }
+below_is a b k = record { ino = outer (or_either (nat_lt a.ino b.ino) _ k) }
   where
     inner : (nat_lt a.stamp.site b.stamp.site ≡ true) ⊎ ((a.stamp.site == b.stamp.site) && nat_lt a.stamp.n b.stamp.n ≡ true) → (a.stamp.site < b.stamp.site) ⊎ ((a.stamp.site ≡ b.stamp.site) × (a.stamp.n < b.stamp.n))
-    inner (inl e) = inl (true_lt a.stamp.site b.stamp.site e)
-    inner (inr e) = inr (test_same a.stamp.site b.stamp.site (first_of (a.stamp.site == b.stamp.site) _ e), true_lt a.stamp.n b.stamp.n (second_of (a.stamp.site == b.stamp.site) _ e))
+    inner (inl e) = inl (less a.stamp.site b.stamp.site e)
+    inner (inr e) = inr (equal a.stamp.site b.stamp.site (and_first (a.stamp.site == b.stamp.site) _ e), less a.stamp.n b.stamp.n (and_second (a.stamp.site == b.stamp.site) _ e))
 
     outer : (nat_lt a.ino b.ino ≡ true) ⊎ ((a.ino == b.ino) && is_stamp_below a.stamp b.stamp ≡ true) → (a.ino < b.ino) ⊎ ((a.ino ≡ b.ino) × ((a.stamp.site < b.stamp.site) ⊎ ((a.stamp.site ≡ b.stamp.site) × (a.stamp.n < b.stamp.n))))
-    outer (inl e) = inl (true_lt a.ino b.ino e)
-    outer (inr e) = inr (test_same a.ino b.ino (first_of (a.ino == b.ino) _ e), inner (either (nat_lt a.stamp.site b.stamp.site) _ (second_of (a.ino == b.ino) _ e)))
-
-equal : (m n : ℕ) → m ≡ n → (m == n) ≡ true
-equal m n e = subst (λ (k : ℕ). (m == k) ≡ true) e (test_own m)
-
-first_true : (a b : Bool) → a ≡ true → a || b ≡ true
-first_true true b k = refl
-first_true false b k = absurd (true_false (sym k))
-
-both : (a b : Bool) → a ≡ true → b ≡ true → a && b ≡ true
-both true b p q = q
-both false b p q = absurd (true_false (sym p))
+    outer (inl e) = inl (less a.ino b.ino e)
+    outer (inr e) = inr (equal a.ino b.ino (and_first (a.ino == b.ino) _ e), inner (or_either (nat_lt a.stamp.site b.stamp.site) _ (and_second (a.ino == b.ino) _ e)))
 
 is_below : (a b : Brought) → Below a b → is_brought_below a b ≡ true
 is_below a b k = outer k.ino
   where
     inner : (a.stamp.site < b.stamp.site) ⊎ ((a.stamp.site ≡ b.stamp.site) × (a.stamp.n < b.stamp.n)) → is_stamp_below a.stamp b.stamp ≡ true
-    inner (inl e) = first_true (nat_lt a.stamp.site b.stamp.site) _ (lt_true a.stamp.site b.stamp.site e)
-    inner (inr e) = later_true (nat_lt a.stamp.site b.stamp.site) _ (both (a.stamp.site == b.stamp.site) (nat_lt a.stamp.n b.stamp.n) (equal a.stamp.site b.stamp.site e.0) (lt_true a.stamp.n b.stamp.n e.1))
+    inner (inl e) = or_first (nat_lt a.stamp.site b.stamp.site) _ (less_test a.stamp.site b.stamp.site e)
+    inner (inr e) = or_second (nat_lt a.stamp.site b.stamp.site) _ (and_true (a.stamp.site == b.stamp.site) (nat_lt a.stamp.n b.stamp.n) (equal_test a.stamp.site b.stamp.site e.0) (less_test a.stamp.n b.stamp.n e.1))
 
     outer : (a.ino < b.ino) ⊎ ((a.ino ≡ b.ino) × ((a.stamp.site < b.stamp.site) ⊎ ((a.stamp.site ≡ b.stamp.site) × (a.stamp.n < b.stamp.n)))) → is_brought_below a b ≡ true
-    outer (inl e) = first_true (nat_lt a.ino b.ino) _ (lt_true a.ino b.ino e)
-    outer (inr e) = later_true (nat_lt a.ino b.ino) _ (both (a.ino == b.ino) (is_stamp_below a.stamp b.stamp) (equal a.ino b.ino e.0) (inner e.1))
+    outer (inl e) = or_first (nat_lt a.ino b.ino) _ (less_test a.ino b.ino e)
+    outer (inr e) = or_second (nat_lt a.ino b.ino) _ (and_true (a.ino == b.ino) (is_stamp_below a.stamp b.stamp) (equal_test a.ino b.ino e.0) (inner e.1))
 
 through : (a b d : Brought) → Below a b → Below b d → Below a d
 through a b d k l = record { ino = outer k.ino l.ino }
@@ -97,8 +76,8 @@ order m n = at (nat_lt m n) (nat_lt n m) refl refl
     same m n p q = grind (arith, nat_tests)
 
     at : (a b : Bool) → nat_lt m n ≡ a → nat_lt n m ≡ b → (m < n) ⊎ ((n < m) ⊎ (m ≡ n))
-    at true b p q = inl (true_lt m n p)
-    at false true p q = inr (inl (true_lt n m q))
+    at true b p q = inl (less m n p)
+    at false true p q = inr (inl (less n m q))
     at false false p q = inr (inr (same m n p q))
 
 either_below : (a b : Brought) → is_brought_below a b ≡ false → same_brought a b ≡ false → is_brought_below b a ≡ true
@@ -107,7 +86,7 @@ either_below a b p q = outer (order a.ino b.ino)
     numbers : a.ino ≡ b.ino → a.stamp.site ≡ b.stamp.site → (a.stamp.n < b.stamp.n) ⊎ ((b.stamp.n < a.stamp.n) ⊎ (a.stamp.n ≡ b.stamp.n)) → is_brought_below b a ≡ true
     numbers e f (inl k) = absurd (true_false (sym (is_below a b (record { ino = inr (e, inr (f, k)) })) ∙ p))
     numbers e f (inr (inl k)) = is_below b a (record { ino = inr (sym e, inr (sym f, k)) })
-    numbers e f (inr (inr k)) = absurd (true_false (sym (both (a.ino == b.ino) (same_stamp a.stamp b.stamp) (equal a.ino b.ino e) (both (a.stamp.site == b.stamp.site) (a.stamp.n == b.stamp.n) (equal a.stamp.site b.stamp.site f) (equal a.stamp.n b.stamp.n k))) ∙ q))
+    numbers e f (inr (inr k)) = absurd (true_false (sym (and_true (a.ino == b.ino) (same_stamp a.stamp b.stamp) (equal_test a.ino b.ino e) (and_true (a.stamp.site == b.stamp.site) (a.stamp.n == b.stamp.n) (equal_test a.stamp.site b.stamp.site f) (equal_test a.stamp.n b.stamp.n k))) ∙ q))
 
     sites : a.ino ≡ b.ino → (a.stamp.site < b.stamp.site) ⊎ ((b.stamp.site < a.stamp.site) ⊎ (a.stamp.site ≡ b.stamp.site)) → is_brought_below b a ≡ true
     sites e (inl k) = absurd (true_false (sym (is_below a b (record { ino = inr (e, inl k) })) ∙ p))
@@ -198,9 +177,9 @@ stamps_differ ino (b ∷ bs) k = at (b.ino == ino) refl (stamps_differ ino bs k.
     apart e (d ∷ ds) all = over (d.ino == ino) refl (apart e ds all.1)
       where
         over : (x : Bool) → (d.ino == ino) ≡ x → AllByRecursion (λ (u : Stamp). same_stamp b.stamp u ≡ false) (stamps_of ds ino) → AllByRecursion (λ (u : Stamp). same_stamp b.stamp u ≡ false) (map (λ (y : Brought). y.stamp) (cond x (d ∷ filter (λ (y : Brought). y.ino == ino) ds) (filter (λ (y : Brought). y.ino == ino) ds)))
-        over true p later = (below_differs b d (e ∙ sym (test_same d.ino ino p)) all.0 (same_stamp b.stamp d.stamp) refl, later)
+        over true p later = (below_differs b d (e ∙ sym (equal d.ino ino p)) all.0 (same_stamp b.stamp d.stamp) refl, later)
         over false p later = later
 
     at : (x : Bool) → (b.ino == ino) ≡ x → Differ (stamps_of bs ino) → Differ (map (λ (y : Brought). y.stamp) (cond x (b ∷ filter (λ (y : Brought). y.ino == ino) bs) (filter (λ (y : Brought). y.ino == ino) bs)))
-    at true e later = (apart (test_same b.ino ino e) bs k.0, later)
+    at true e later = (apart (equal b.ino ino e) bs k.0, later)
     at false e later = later

@@ -3,6 +3,9 @@ use Rattle.std.proofs.Common.{◌≡◌, ℕ, ◌==◌, Bool, true, false, not, 
 use Rattle.std.proofs.lemmas.Bool.Decides.{nat_tests}
 use Rattle.std.specs.List.{AllByRecursion, find, list_any}
 use Rattle.std.specs.Option.{option_map, option_or}
+use Rattle.role_steps.proofs.of_plain_facts.Numbers.{equal}
+use Rattle.role_steps.proofs.of_plain_facts.Options.{none_some, some_same}
+use Rattle.role_steps.proofs.of_plain_facts.Tests.{and_first, or_second, true_false}
 use Rattle.locus_ids.specs.declared.config.Config.{Config}
 use Rattle.locus_ids.specs.declared.ids.CallId.{CallId}
 use Rattle.locus_ids.specs.declared.ids.EpochId.{EpochId}
@@ -19,7 +22,7 @@ use Rattle.trace_book.specs.Same.{same_epoch}
 use Rattle.trace_book.specs.declared.record.Record.{Record}
 use Rattle.trace_book.specs.declared.record.Record.TheVariants as says
 use Rattle.role_steps.specs.Views.{Told, Shown}
-use Rattle.the_run.specs.Worlds.{Line}
+use Rattle.tree_laws.specs.of_the_run.Worlds.{Line}
 use Rattle.tree_model.specs.declared.instance.Instance.{Instance}
 use Rattle.tree_model.specs.Epochs.{epoch_of, has_joined}
 use Rattle.tree_model.specs.Files.{committing, committing_in, first_call}
@@ -34,14 +37,13 @@ use Rattle.tree_laws.specs.Following.{IsFollowed, MakesInTime, MayTell, RowsAreL
 use Rattle.tree_laws.specs.Instances.{instance_now}
 use Rattle.tree_laws.specs.Past.{WasBegun, WasNamed}
 use Rattle.tree_laws.specs.Printed.{entries, onto_entries}
-use Rattle.tree_laws.proofs.Names.{same_epoch_eq, some_is, test_same, true_false}
+use Rattle.tree_laws.proofs.Names.{same_epoch_eq}
 use Rattle.tree_laws.proofs.Rows.{followed_rows}
 use Rattle.order_laws.specs.Joining.{PacksAreOfSites}
-use Rattle.order_laws.proofs.Alone.{first_of, tree_is, tree_named}
+use Rattle.order_laws.proofs.Alone.{tree_is, tree_named}
 use Rattle.order_laws.proofs.Lists.{all_changed, all_found, all_more, all_then, all_without}
-use Rattle.order_laws.proofs.Standing.{later_true, same_file_eq}
+use Rattle.order_laws.proofs.Standing.{same_file_eq}
 use Rattle.holding_laws.proofs.OneVersionLists.{all_both, only_one}
-use Rattle.holding_laws.proofs.Copies.{none_some}
 use Rattle.holding_laws.proofs.OneVersionHomes.{IsRooted, one_home, rows_rooted}
 use Rattle.holding_laws.proofs.Holding.{some_found}
 use Rattle.holding_laws.proofs.Bringing.{one_writes}
@@ -51,17 +53,13 @@ use Rattle.holding_laws.proofs.Seats.{Seat, rows_seated}
 
 -- ---- a file that has a first call stands ----
 
-in_older : (c : Config) (r : Record) (before : Trace) (f : FileId) (v : Stamp) → is_in (history c before) f v ≡ true → is_in (history c (record { line = 0; what = r } ∷ before)) f v ≡ true
-in_older c (says.Commit g z stamp parents content) before f v k = later_true (is_version f v (record { file = g; site = z; stamp = stamp; parents = parents; content = content })) (is_in (history c before) f v) k
-in_older c r before f v k = k
-
 called_stands : (c : Config) (before : Trace) (f : FileId) (d : CallId) → first_call c before f ≡ Some d → (v : Stamp) × (is_in (history c before) f v ≡ true)
 called_stands c [] f d k = absurd (none_some d k)
 called_stands c (r ∷ before) f d k = step r.what k (called_stands c before f d)
   where
     here : (g : FileId) (z : ℕ) (stamp : Stamp) (parents : List Stamp) (content : List ℕ) (b : Bool) → same_file g f ≡ b → (o : Option CallId) → first_call c before f ≡ o → option_or o (cond b (option_map (λ (x : Instance). x.grant.call) (committing c before f z)) None) ≡ Some d →
         (first_call c before f ≡ Some d → (v : Stamp) × (is_in (history c before) f v ≡ true)) → (v : Stamp) × (is_version f v (record { file = g; site = z; stamp = stamp; parents = parents; content = content }) || is_in (history c before) f v ≡ true)
-    here g z stamp parents content b q (Some y) l k later = (let w = later (l ∙ k) in (w.0, later_true (is_version f w.0 (record { file = g; site = z; stamp = stamp; parents = parents; content = content })) (is_in (history c before) f w.0) w.1))
+    here g z stamp parents content b q (Some y) l k later = (let w = later (l ∙ k) in (w.0, or_second (is_version f w.0 (record { file = g; site = z; stamp = stamp; parents = parents; content = content })) (is_in (history c before) f w.0) w.1))
     here g z stamp parents content true q None l k later = (stamp, ap (λ (a : Bool). (a && same_stamp stamp stamp) || is_in (history c before) f stamp) q ∙ ap (λ (a : Bool). a || is_in (history c before) f stamp) (same_stamp_refl stamp))
     here g z stamp parents content false q None l k later = absurd (none_some d k)
 
@@ -112,7 +110,7 @@ module _ (c : Config) (few : PacksAreOfSites c) (older : List Line) (n : ℕ) (f
   join_inside z d new x seat k = over (z == x.grant.ss) refl k
     where
       over : (b : Bool) → (z == x.grant.ss) ≡ b → cond b (Some d) (epoch_of before x.grant.ss) ≡ Some e → epoch_of before x.grant.ss ≡ Some e
-      over true q l = absurd (true_false (sym seat.joined ∙ (ap (λ (y : ℕ). has_joined before y e) (sym (test_same z x.grant.ss q)) ∙ (ap (λ (y : EpochId). has_joined before z y) (sym (some_is d e l)) ∙ new))))
+      over true q l = absurd (true_false (sym seat.joined ∙ (ap (λ (y : ℕ). has_joined before y e) (sym (equal z x.grant.ss q)) ∙ (ap (λ (y : EpochId). has_joined before z y) (sym (some_same d e l)) ∙ new))))
       over false q l = l
 
   -- ---- commits ----
@@ -136,7 +134,7 @@ module _ (c : Config) (few : PacksAreOfSites c) (older : List Line) (n : ℕ) (f
     other y call apart (inl none) = inl (λ v k. over v (either (is_version y v w) (is_in h y v) k))
       where
         over : (v : Stamp) → (is_version y v w ≡ true) ⊎ (is_in h y v ≡ true) → ⊥
-        over v (inl q) = true_false (sym (first_of (same_file f y) (same_stamp stamp v) q) ∙ apart)
+        over v (inl q) = true_false (sym (and_first (same_file f y) (same_stamp stamp v) q) ∙ apart)
         over v (inr q) = none v q
     other y call apart (inr is) = inr (ap (λ (o : Option CallId). option_or o (cond (same_file f y) (option_map (λ (x : Instance). x.grant.call) (committing c before y z)) None)) is)
 
@@ -162,7 +160,7 @@ module _ (c : Config) (few : PacksAreOfSites c) (older : List Line) (n : ℕ) (f
             site_is = sym may.at ∙ one_home may.instance.grant.ss x.grant.ss x.grant.file.ino (subst (λ (y : FileId). is_given_by may.instance.grant.ss y.ino ≡ true) (file_of ∙ sym mine) k) given
 
             epoch_is : may.epoch ≡ e
-            epoch_is = some_is may.epoch e (sym may.inside ∙ (ap (λ (y : ℕ). epoch_of before y) site_is ∙ inside))
+            epoch_is = some_same may.epoch e (sym may.inside ∙ (ap (λ (y : ℕ). epoch_of before y) site_is ∙ inside))
 
             group_is : f.group ≡ g
             group_is = ap (λ (y : FileId). y.group) (sym mine) ∙ seat.group_is

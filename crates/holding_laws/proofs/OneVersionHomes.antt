@@ -3,6 +3,9 @@ use Rattle.std.proofs.Common.{◌≡◌, ℕ, ◌+◌, ◌*◌, ◌==◌, ◌<�
 use Rattle.std.proofs.lemmas.Bool.Decides.{nat_tests}
 use Rattle.std.specs.List.{AllByRecursion, list_any}
 use Rattle.std.specs.Option.{is_none, option_or}
+use Rattle.role_steps.proofs.of_plain_facts.Numbers.{equal_self}
+use Rattle.role_steps.proofs.of_plain_facts.Options.{none_some}
+use Rattle.role_steps.proofs.of_plain_facts.Tests.{and_first, and_second, or_second, true_false}
 use Rattle.locus_ids.specs.declared.config.Config.{Config}
 use Rattle.locus_ids.specs.declared.ids.CallId.{CallId}
 use Rattle.locus_ids.specs.declared.ids.EpochId.{EpochId}
@@ -12,6 +15,7 @@ use Rattle.locus_ids.specs.declared.ids.Mode.TheVariants as mode
 use Rattle.locus_ids.specs.declared.ids.Serial.{Serial}
 use Rattle.locus_ids.specs.declared.ids.Stamp.{Stamp}
 use Rattle.locus_ids.specs.declared.sites.Sites.{Sites}
+use Rattle.locus_ids.specs.Sizes.{site_inodes}
 use Rattle.commit_graph.specs.declared.history.Version.{Version}
 use Rattle.commit_graph.specs.Grants.{excluder, grant_refusal, kept_refusal}
 use Rattle.commit_graph.specs.Versions.{is_covered, is_in, is_version, same_file, same_stamp}
@@ -30,11 +34,9 @@ use Rattle.tree_model.specs.Tree.{acted, grant_of, joined, left, next, once_acte
 use Rattle.lawful_trace.specs.Lawful.{MayCome}
 use Rattle.lawful_trace.specs.TreeRows.{MayCommit, is_writing}
 use Rattle.tree_laws.specs.Following.{RowsAreLawful}
-use Rattle.tree_laws.proofs.Names.{test_own, true_false}
-use Rattle.order_laws.proofs.Alone.{first_none, first_of, second_of, tree_named, unrefused}
+use Rattle.order_laws.proofs.Alone.{first_none, unrefused}
 use Rattle.order_laws.proofs.Lists.{all_changed, all_more, all_then, all_without}
-use Rattle.order_laws.proofs.Standing.{At, later_true, same_file_eq}
-use Rattle.holding_laws.proofs.Copies.{none_some}
+use Rattle.order_laws.proofs.Standing.{At, same_file_eq}
 use Rattle.holding_laws.proofs.Made.{candidates_stand, committed_file, filter_one}
 use Rattle.holding_laws.proofs.Rising.{member_stands}
 
@@ -50,12 +52,12 @@ one_home a b ino k l = (let p = bounds a ino k in let q = bounds b ino l in omeg
     le : (m n : ℕ) → nat_le m n ≡ true → m ≤ n
     le m n e = grind (arith, nat_tests)
 
-    bounds : (s ino : ℕ) → is_given_by s ino ≡ true → (64 * s < ino + 64) × (ino ≤ 64 * s)
-    bounds s ino e = (lt (64 * s) (ino + 64) (first_of (nat_lt (64 * s) (ino + 64)) _ e), le ino (64 * s) (first_of (nat_le ino (64 * s)) _ (second_of (nat_lt (64 * s) (ino + 64)) _ e)))
+    bounds : (s ino : ℕ) → is_given_by s ino ≡ true → (site_inodes * s < ino + site_inodes) × (ino ≤ site_inodes * s)
+    bounds s ino e = (lt (site_inodes * s) (ino + site_inodes) (and_first (nat_lt (site_inodes * s) (ino + site_inodes)) _ e), le ino (site_inodes * s) (and_first (nat_le ino (site_inodes * s)) _ (and_second (nat_lt (site_inodes * s) (ino + site_inodes)) _ e)))
 
 -- no site gives a root's
 pub no_root : (s ino : ℕ) → is_given_by s ino ≡ true → ino ≡ 1 → ⊥
-no_root s ino e is = true_false (sym (subst (λ (n : ℕ). nat_lt 1 n ≡ true) is (second_of (nat_le ino (64 * s)) _ (second_of (nat_lt (64 * s) (ino + 64)) _ e))))
+no_root s ino e is = true_false (sym (subst (λ (n : ℕ). nat_lt 1 n ≡ true) is (and_second (nat_le ino (site_inodes * s)) _ (and_second (nat_lt (site_inodes * s) (ino + site_inodes)) _ e))))
 
 -- ---- what a grant rests on ----
 
@@ -77,7 +79,7 @@ unfiltered q p (x ∷ xs) k = at (p x) k (unfiltered q p xs)
 
     at : (b : Bool) → list_any q (cond b (x ∷ filter p xs) (filter p xs)) ≡ true → (list_any q (filter p xs) ≡ true → list_any q xs ≡ true) → q x || list_any q xs ≡ true
     at true l later = more (q x) later l
-    at false l later = later_true (q x) (list_any q xs) (later l)
+    at false l later = or_second (q x) (list_any q xs) (later l)
 
 -- a make of a number of its storage site, or a version of the file is known
 abbrev pub OnGround : TreeState → Mode → FileId → ℕ → Type 0
@@ -95,13 +97,13 @@ plain_known h t m f call plain none = (let k = some_kept m (kept_of h t f) plain
 pub grants_on_ground : (h : List Version) (t : TreeState) (call : CallId) (i : Serial) (m : Mode) (f : FileId) (stamp : Option Stamp) (ss : ℕ) → gives_grant h t call i m f stamp ss ≡ true → OnGround t m f ss
 grants_on_ground h t call i mode.Make f stamp ss k = inl (
   refl,
-  first_of (is_given_by ss f.ino) _ (second_of (is_site (making_site t call) ss) _ (first_of (is_new_file t call f ss) (is_none stamp)
-      (second_of _ _ (second_of _ _ (second_of (is_none (open_refusal h t mode.Make call f)) _ (second_of t.started _ k)))))),
+  and_first (is_given_by ss f.ino) _ (and_second (is_site (making_site t call) ss) _ (and_first (is_new_file t call f ss) (is_none stamp)
+      (and_second _ _ (and_second _ _ (and_second (is_none (open_refusal h t mode.Make call f)) _ (and_second t.started _ k)))))),
 )
-grants_on_ground h t call i mode.Read f stamp ss k = inr (plain_known h t mode.Read f call (λ e. cc) (first_of (is_none (open_refusal h t mode.Read call f)) _ (second_of t.started _ k)))
-grants_on_ground h t call i mode.Write f stamp ss k = inr (plain_known h t mode.Write f call (λ e. cc) (first_of (is_none (open_refusal h t mode.Write call f)) _ (second_of t.started _ k)))
-grants_on_ground h t call i mode.Resolve f stamp ss k = inr (plain_known h t mode.Resolve f call (λ e. cc) (first_of (is_none (open_refusal h t mode.Resolve call f)) _ (second_of t.started _ k)))
-grants_on_ground h t call i mode.Mend f stamp ss k = inr (plain_known h t mode.Mend f call (λ e. cc) (first_of (is_none (open_refusal h t mode.Mend call f)) _ (second_of t.started _ k)))
+grants_on_ground h t call i mode.Read f stamp ss k = inr (plain_known h t mode.Read f call (λ e. cc) (and_first (is_none (open_refusal h t mode.Read call f)) _ (and_second t.started _ k)))
+grants_on_ground h t call i mode.Write f stamp ss k = inr (plain_known h t mode.Write f call (λ e. cc) (and_first (is_none (open_refusal h t mode.Write call f)) _ (and_second t.started _ k)))
+grants_on_ground h t call i mode.Resolve f stamp ss k = inr (plain_known h t mode.Resolve f call (λ e. cc) (and_first (is_none (open_refusal h t mode.Resolve call f)) _ (and_second t.started _ k)))
+grants_on_ground h t call i mode.Mend f stamp ss k = inr (plain_known h t mode.Mend f call (λ e. cc) (and_first (is_none (open_refusal h t mode.Mend call f)) _ (and_second t.started _ k)))
 
 -- ---- open instances ----
 
@@ -117,7 +119,7 @@ more_rooted h k more x (inl w) = inl (w.0, more x.grant.file w.0 w.1)
 more_rooted h k more x (inr w) = inr w
 
 in_more : (h : List Version) (r : Record) (f : FileId) (s : Stamp) → is_in h f s ≡ true → is_in (history_after r h) f s ≡ true
-in_more h (says.Commit g site stamp parents content) f s x = later_true (is_version f s (record { file = g; site = site; stamp = stamp; parents = parents; content = content })) (is_in h f s) x
+in_more h (says.Commit g site stamp parents content) f s x = or_second (is_version f s (record { file = g; site = site; stamp = stamp; parents = parents; content = content })) (is_in h f s) x
 in_more h _ f s x = x
 
 module _ (c : Config) (e : EpochId) (g : ℕ) (before : Trace) (rows : RowsAreLawful c before) (old : AreRooted (history c before) (tree_of c e g before)) where
@@ -126,9 +128,6 @@ module _ (c : Config) (e : EpochId) (g : ℕ) (before : Trace) (rows : RowsAreLa
 
   abbrev h : List Version
   h = history c before
-
-  named : (t.epoch ≡ e) × (t.group ≡ g)
-  named = tree_named c e g before
 
   if_rooted : (b : Bool) (u : TreeState) → AreRooted h u → AreRooted h (cond b u t)
   if_rooted true u k = k
@@ -181,7 +180,7 @@ format_root k (p ∷ ps) f s h = at (p.0 == 0) h (format_root (k + 1) ps f s)
     either false b h = inr h
 
     over : (is_version f s (format_version k) ≡ true) ⊎ (is_in (format_versions (k + 1) ps) f s ≡ true) → (is_in (format_versions (k + 1) ps) f s ≡ true → f.ino ≡ 1) → f.ino ≡ 1
-    over (inl e) later = sym (ap (λ (y : FileId). y.ino) (same_file_eq (At k 1) f (first_of (same_file (At k 1) f) (same_stamp format_stamp s) e)))
+    over (inl e) later = sym (ap (λ (y : FileId). y.ino) (same_file_eq (At k 1) f (and_first (same_file (At k 1) f) (same_stamp format_stamp s) e)))
     over (inr e) later = later e
 
     at : (b : Bool) → is_in (cond b (format_versions (k + 1) ps) (format_version k ∷ format_versions (k + 1) ps)) f s ≡ true → (is_in (format_versions (k + 1) ps) f s ≡ true → f.ino ≡ 1) → f.ino ≡ 1
@@ -228,14 +227,14 @@ home_holds c (r ∷ before) rows f s z given k = step r.what rows.0 k (λ a. hom
         both false b p q = absurd (true_false (sym p))
 
         here : same_file g f && (y == z) ≡ true
-        here = both (same_file g f) (y == z) (subst (λ (q : FileId). same_file g q ≡ true) is (own g)) (subst (λ (q : ℕ). (y == q) ≡ true) site_is (test_own y))
+        here = both (same_file g f) (y == z) (subst (λ (q : FileId). same_file g q ≡ true) is (own g)) (subst (λ (q : ℕ). (y == q) ≡ true) site_is (equal_self y))
 
     rooted : (g : FileId) (y : ℕ) (stamp : Stamp) (parents : List Stamp) (content : List ℕ) (may : MayCommit c before g y stamp parents content) → IsRooted (history c before) may.instance
     rooted g y stamp parents content may = filter_one (IsRooted (history c before)) (is_writing g) (tree_of c may.epoch g.group before).instances may.instance may.one (rows_rooted c before rows.1 may.epoch g.group)
 
     newest : (g : FileId) (y : ℕ) (stamp : Stamp) (parents : List Stamp) (content : List ℕ) (may : MayCommit c before g y stamp parents content) → (is_version f s (record { file = g; site = y; stamp = stamp; parents = parents; content = content }) ≡ true) ⊎ (is_in (history c before) f s ≡ true) →
         ((a : Stamp) → is_in (history c before) f a ≡ true → HoldsSome c before z f) → HoldsSome c (record { line = 0; what = says.Commit g y stamp parents content } ∷ before) z f
-    newest g y stamp parents content may (inl e) later = committed g y stamp parents content may (same_file_eq g f (first_of (same_file g f) (same_stamp stamp s) e)) (rooted g y stamp parents content may) later
+    newest g y stamp parents content may (inl e) later = committed g y stamp parents content may (same_file_eq g f (and_first (same_file g f) (same_stamp stamp s) e)) (rooted g y stamp parents content may) later
     newest g y stamp parents content may (inr e) later = held_more c (says.Commit g y stamp parents content) before z f (later s e)
 
     step : (r : Record) → MayCome c before r → is_in (history c (record { line = 0; what = r } ∷ before)) f s ≡ true → ((a : Stamp) → is_in (history c before) f a ≡ true → HoldsSome c before z f) → HoldsSome c (record { line = 0; what = r } ∷ before) z f

@@ -1,6 +1,8 @@
 -- Lists of instances and of stamps, of which something is so of all.
 use Rattle.std.proofs.Common.{◌≡◌, Bool, true, false, ◌||◌, cond, List, [], ◌∷◌, filter, Some, refl, sym, ap, ◌∙◌, subst, ◌⊎◌, inl, inr}
 use Rattle.std.specs.List.{AllByRecursion, find}
+use Rattle.role_steps.proofs.of_plain_facts.Options.{none_some, some_same}
+use Rattle.role_steps.proofs.of_plain_facts.Tests.{or_second, true_false}
 use Rattle.locus_ids.specs.declared.ids.FileId.{FileId}
 use Rattle.locus_ids.specs.declared.ids.Stamp.{Stamp}
 use Rattle.commit_graph.specs.declared.history.Version.{Version}
@@ -9,11 +11,8 @@ use Rattle.commit_graph.proofs.Names.{same_stamp_refl}
 use Rattle.tree_model.specs.declared.instance.Instance.{Instance}
 use Rattle.tree_model.specs.Lists.{without_first}
 use Rattle.tree_model.specs.State.{has_stamp}
-use Rattle.tree_laws.proofs.Names.{some_is, true_false}
 use Rattle.order_laws.specs.Alone.{AreAlone, MayStandBy}
 use Rattle.order_laws.proofs.Lists.{all_found, all_then}
-use Rattle.order_laws.proofs.Standing.{later_true}
-use Rattle.holding_laws.proofs.Copies.{none_some}
 
 -- ---- lists ----
 
@@ -27,7 +26,7 @@ beside_found q [] y alone e = absurd (none_some y e)
 beside_found q (x ∷ xs) y alone e = at (q x) e (beside_found q xs y alone.1)
   where
     at : (b : Bool) → cond b (Some x) (find q xs) ≡ Some y → (find q xs ≡ Some y → AllByRecursion (λ (w : Instance). MayStandBy w y ⊎ MayStandBy y w) (without_first q xs)) → AllByRecursion (λ (w : Instance). MayStandBy w y ⊎ MayStandBy y w) (cond b xs (x ∷ without_first q xs))
-    at true e later = all_then (MayStandBy x) (λ (w : Instance). MayStandBy w y ⊎ MayStandBy y w) (λ w k. inr (subst (λ (z : Instance). MayStandBy z w) (some_is x y e) k)) xs alone.0
+    at true e later = all_then (MayStandBy x) (λ (w : Instance). MayStandBy w y ⊎ MayStandBy y w) (λ w k. inr (subst (λ (z : Instance). MayStandBy z w) (some_same x y e) k)) xs alone.0
     at false e later = (inl (all_found (MayStandBy x) q xs y alone.0 e), later e)
 
 -- who passes is the one of the filter
@@ -59,7 +58,7 @@ only_one {X} q (x ∷ xs) y e = at (q x) refl e (only_one q xs y)
 -- each of a list is among it
 pub all_among : (xs : List Stamp) → AllByRecursion (λ (s : Stamp). has_stamp xs s ≡ true) xs
 all_among [] = tt
-all_among (x ∷ xs) = (ap (λ (b : Bool). b || has_stamp xs x) (same_stamp_refl x), all_then (λ (s : Stamp). has_stamp xs s ≡ true) (λ (s : Stamp). has_stamp (x ∷ xs) s ≡ true) (λ s k. later_true (same_stamp x s) (has_stamp xs s) k) xs (all_among xs))
+all_among (x ∷ xs) = (ap (λ (b : Bool). b || has_stamp xs x) (same_stamp_refl x), all_then (λ (s : Stamp). has_stamp xs s ≡ true) (λ (s : Stamp). has_stamp (x ∷ xs) s ≡ true) (λ s k. or_second (same_stamp x s) (has_stamp xs s) k) xs (all_among xs))
 
 pub all_unit : (xs : List Stamp) → AllByRecursion (λ (a : Stamp). Unit {0}) xs
 all_unit [] = tt

@@ -2,6 +2,9 @@
 use Rattle.std.proofs.Common.{◌≡◌, ℕ, ◌==◌, Bool, true, false, ◌&&◌, ◌||◌, cond, List, [], ◌∷◌, ◌++◌, filter, Option, Some, None, refl, sym, ap, ◌∙◌, subst, arith, ◌⊎◌, inl, inr}
 use Rattle.std.proofs.lemmas.Bool.Decides.{nat_tests}
 use Rattle.std.specs.List.{list_any}
+use Rattle.role_steps.proofs.of_plain_facts.Numbers.{equal}
+use Rattle.role_steps.proofs.of_plain_facts.Options.{none_some, some_same}
+use Rattle.role_steps.proofs.of_plain_facts.Tests.{and_first, true_false}
 use Rattle.locus_ids.specs.declared.config.Config.{Config}
 use Rattle.locus_ids.specs.declared.ids.EpochId.{EpochId}
 use Rattle.locus_ids.specs.declared.ids.FileId.{FileId}
@@ -15,7 +18,7 @@ use Rattle.trace_book.specs.Same.{same_epoch}
 use Rattle.trace_book.specs.declared.record.Record.{Record}
 use Rattle.trace_book.specs.declared.record.Record.TheVariants as says
 use Rattle.role_steps.specs.Views.{Told, Shown, Begins}
-use Rattle.the_run.specs.Worlds.{Line}
+use Rattle.tree_laws.specs.of_the_run.Worlds.{Line}
 use Rattle.tree_model.specs.declared.instance.Granted.{Granted}
 use Rattle.tree_model.specs.declared.instance.Instance.{Instance}
 use Rattle.tree_model.specs.Epochs.{epoch_of, has_joined, is_in as is_at}
@@ -30,17 +33,17 @@ use Rattle.tree_laws.specs.Instances.{IsKnown, IsStarted, held_in}
 use Rattle.tree_laws.specs.Past.{BeginsIt, WasBegun, WasNamed}
 use Rattle.tree_laws.specs.Printed.{entries}
 use Rattle.tree_laws.proofs.Kinship.{started_stays}
-use Rattle.tree_laws.proofs.Names.{same_epoch_eq, some_is, test_same, true_false}
+use Rattle.tree_laws.proofs.Names.{same_epoch_eq}
 use Rattle.tree_laws.proofs.Owing.{inside_is}
 use Rattle.tree_laws.proofs.Rows.{followed_rows}
 use Rattle.order_laws.specs.Joining.{PacksAreOfSites}
-use Rattle.order_laws.proofs.Alone.{IsTakenIn, first_of, rows_apart, tree_is, tree_named}
+use Rattle.order_laws.proofs.Alone.{IsTakenIn, rows_apart, tree_is, tree_named}
 use Rattle.order_laws.proofs.Keeping.{EndsIn, PublishesNone, ends_in, file_eq, known_same, published_same}
 use Rattle.order_laws.proofs.Lists.{all_found}
 use Rattle.order_laws.proofs.Standing.{same_file_eq}
 use Rattle.holding_laws.specs.OneVersionNumbers.{IsFreeNumber}
 use Rattle.holding_laws.proofs.Ancestors.{some_of}
-use Rattle.holding_laws.proofs.Copies.{copies_are, copy_after, copy_next, epoch_joined, joined_more, none_some}
+use Rattle.holding_laws.proofs.Copies.{copies_are, copy_after, copy_next, epoch_joined, joined_more}
 use Rattle.holding_laws.proofs.OneVersionHomes.{IsRooted, OnGround, grants_on_ground, home_holds, one_home, rows_rooted}
 use Rattle.holding_laws.proofs.Made.{committed_file, filter_one}
 use Rattle.holding_laws.proofs.OneVersionNaming.{named_or_not}
@@ -123,7 +126,7 @@ module _ (c : Config) (few : PacksAreOfSites c) (older : List Line) (n : ℕ) (f
     where
       at : EndsIn c (entries older) e f d j g stamp → (b : Bool) → (g.ino == f.ino) ≡ b → stamps_of (published g stamp tree.known) f.ino ≡ stamps_of tree.known f.ino
       at w false k = published_same g stamp f.ino tree.known k
-      at w true k = absurd (none_open w.ended (w.file_is ∙ file_eq g f w.group_is (test_same g.ino f.ino k)) (all_found (IsTakenIn tree.grants) (is_named j) tree.instances w.ended (rows_apart c (entries older) (followed_rows c older followed) e f.group).taken w.found))
+      at w true k = absurd (none_open w.ended (w.file_is ∙ file_eq g f w.group_is (equal g.ino f.ino k)) (all_found (IsTakenIn tree.grants) (is_named j) tree.instances w.ended (rows_apart c (entries older) (followed_rows c older followed) e f.group).taken w.found))
   publishes_none r may = tt
 
   still_unknown : (r : Record) → MayCome c (entries older) r → (v : Stamp) → has_stamp (stamps_of (next past r tree).known f.ino) v ≡ true → ⊥
@@ -139,11 +142,11 @@ module _ (c : Config) (few : PacksAreOfSites c) (older : List Line) (n : ℕ) (f
   still_none (says.Commit g z stamp parents content) may v k = over (written_or tree g z stamp s f.ino)
     where
       file_is : Hit tree g z s f.ino → g ≡ f
-      file_is hit = file_eq g f (test_same g.group tree.group hit.group_is ∙ which.1) hit.ino_is
+      file_is hit = file_eq g f (equal g.group tree.group hit.group_is ∙ which.1) hit.ino_is
 
       open_one : (hit : Hit tree g z s f.ino) → IsTakenIn tree.grants may.instance
       open_one hit = filter_one (IsTakenIn tree.grants) (is_writing g) tree.instances may.instance
-          (subst (λ (u : TreeState). filter (is_writing g) u.instances ≡ may.instance ∷ []) (tree_is c e may.epoch f.group g.group (entries older) (epoch_named z may.epoch hit.inside may.inside) (test_same g.group tree.group hit.group_is ∙ which.1)) may.one)
+          (subst (λ (u : TreeState). filter (is_writing g) u.instances ≡ may.instance ∷ []) (tree_is c e may.epoch f.group g.group (entries older) (epoch_named z may.epoch hit.inside may.inside) (equal g.group tree.group hit.group_is ∙ which.1)) may.one)
           (rows_apart c (entries older) (followed_rows c older followed) e f.group).taken
 
       over : (held_of (copy_after (says.Commit g z stamp parents content) tree s f.ino) ≡ held_at tree s f.ino) ⊎ (Hit tree g z s f.ino × (held_of (copy_after (says.Commit g z stamp parents content) tree s f.ino) ≡ Some stamp)) → ⊥
@@ -152,7 +155,7 @@ module _ (c : Config) (few : PacksAreOfSites c) (older : List Line) (n : ℕ) (f
   still_none (says.Adopt g z stamp) may v k = over (written_or tree g z stamp s f.ino)
     where
       file_is : Hit tree g z s f.ino → g ≡ f
-      file_is hit = file_eq g f (test_same g.group tree.group hit.group_is ∙ which.1) hit.ino_is
+      file_is hit = file_eq g f (equal g.group tree.group hit.group_is ∙ which.1) hit.ino_is
 
       over : (held_of (copy_after (says.Adopt g z stamp) tree s f.ino) ≡ held_at tree s f.ino) ⊎ (Hit tree g z s f.ino × (held_of (copy_after (says.Adopt g z stamp) tree s f.ino) ≡ Some stamp)) → ⊥
       over (inl same) = old.held v (sym same ∙ (sym (ap held_of (copy_next past tree (says.Adopt g z stamp) s f.ino)) ∙ k))
@@ -238,15 +241,15 @@ module _ (c : Config) (few : PacksAreOfSites c) (older : List Line) (n : ℕ) (f
           site_is = sym may.at ∙ one_home may.instance.grant.ss s f.ino (subst (λ (y : FileId). is_given_by may.instance.grant.ss y.ino ≡ true) (committed_file c (entries older) (followed_rows c older followed) g z stamp parents content may ∙ is) w) old.given
 
           epoch_is : may.epoch ≡ e
-          epoch_is = some_is may.epoch e (sym may.inside ∙ (ap (λ (y : ℕ). epoch_of (entries older) y) site_is ∙ inside))
+          epoch_is = some_same may.epoch e (sym may.inside ∙ (ap (λ (y : ℕ). epoch_of (entries older) y) site_is ∙ inside))
 
       over : (is_version f v (record { file = g; site = z; stamp = stamp; parents = parents; content = content }) ≡ true) ⊎ (is_in past f v ≡ true) → ⊥
       over (inr q) = old.unmade inside v q
-      over (inl q) = made_here (same_file_eq g f (first_of (same_file g f) (same_stamp stamp v) q)) (filter_one (IsRooted past) (is_writing g) (tree_of c may.epoch g.group (entries older)).instances may.instance may.one (rows_rooted c (entries older) (followed_rows c older followed) may.epoch g.group))
+      over (inl q) = made_here (same_file_eq g f (and_first (same_file g f) (same_stamp stamp v) q)) (filter_one (IsRooted past) (is_writing g) (tree_of c may.epoch g.group (entries older)).instances may.instance may.one (rows_rooted c (entries older) (followed_rows c older followed) may.epoch g.group))
   still_unmade (says.Join z d m) may inside v k = over (z == s) refl inside
     where
       over : (b : Bool) → (z == s) ≡ b → cond b (Some d) (epoch_of (entries older) s) ≡ Some e → ⊥
-      over true q l = true_false (sym old.joined ∙ (ap (λ (y : ℕ). has_joined (entries older) y e) (sym (test_same z s q)) ∙ (ap (λ (y : EpochId). has_joined (entries older) z y) (sym (some_is d e l)) ∙ may.new)))
+      over true q l = true_false (sym old.joined ∙ (ap (λ (y : ℕ). has_joined (entries older) y e) (sym (equal z s q)) ∙ (ap (λ (y : EpochId). has_joined (entries older) z y) (sym (some_same d e l)) ∙ may.new)))
       over false q l = old.unmade l v k
   still_unmade (says.Leave z d) may inside v k = old.unmade (still_there (epoch_of (entries older) s) e (z == s) inside) v k
   still_unmade (says.Stopped z cause) may inside v k = old.unmade (still_there (epoch_of (entries older) s) e (z == s) inside) v k

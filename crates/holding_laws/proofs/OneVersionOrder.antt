@@ -2,7 +2,7 @@
 use Rattle.std.proofs.Common.{ℕ, List, ◌∷◌}
 use Rattle.locus_ids.specs.declared.config.Config.{Config}
 use Rattle.role_steps.specs.Views.{Told}
-use Rattle.the_run.specs.Worlds.{Line}
+use Rattle.tree_laws.specs.of_the_run.Worlds.{Line}
 use Rattle.tree_laws.specs.Following.{IsFollowed, MayTell}
 use Rattle.tree_laws.specs.Frames.{OrderStays}
 use Rattle.tree_laws.specs.Printed.{entries, onto_entries}

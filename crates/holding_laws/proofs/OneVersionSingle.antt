@@ -1,6 +1,9 @@
 -- Where one version of a file is kept in an epoch that has started, one is kept from then on.
-use Rattle.std.proofs.Common.{◌≡◌, ℕ, ◌==◌, Bool, true, false, not, ◌&&◌, ◌||◌, cond, List, [], ◌∷◌, filter, length, map, Option, Some, None, refl, sym, ap, ◌∙◌, subst, arith, ◌⊎◌, inl, inr}
+use Rattle.std.proofs.Common.{◌≡◌, ℕ, ◌==◌, Bool, true, false, not, ◌&&◌, ◌||◌, cond, List, [], ◌∷◌, filter, length, map, Option, Some, None, refl, sym, ap, ◌∙◌, subst, ◌⊎◌, inl, inr}
 use Rattle.std.specs.List.{AllByRecursion, list_any}
+use Rattle.role_steps.proofs.of_plain_facts.Numbers.{equal_self, equal as test_same}
+use Rattle.role_steps.proofs.of_plain_facts.Options.{none_some, some_same}
+use Rattle.role_steps.proofs.of_plain_facts.Tests.{or_second, true_false}
 use Rattle.locus_ids.specs.declared.config.Config.{Config}
 use Rattle.locus_ids.specs.declared.ids.Brought.{Brought}
 use Rattle.locus_ids.specs.declared.ids.EpochId.{EpochId}
@@ -14,7 +17,7 @@ use Rattle.trace_book.specs.Same.{same_epoch}
 use Rattle.trace_book.specs.declared.record.Record.{Record}
 use Rattle.trace_book.specs.declared.record.Record.TheVariants as says
 use Rattle.role_steps.specs.Views.{Told, Shown}
-use Rattle.the_run.specs.Worlds.{Line}
+use Rattle.tree_laws.specs.of_the_run.Worlds.{Line}
 use Rattle.tree_model.specs.Folds.{Trace}
 use Rattle.tree_model.specs.Histories.{history}
 use Rattle.tree_model.specs.State.{TreeState, has_stamp, held_at, is_named, kept_of, stamps_of, with_brought}
@@ -22,17 +25,14 @@ use Rattle.tree_model.specs.Tree.{candidates, kept_in, published, released, tree
 use Rattle.tree_laws.specs.Following.{IsFollowed, MayTell, RowsAreLawful}
 use Rattle.tree_laws.specs.Instances.{IsStarted}
 use Rattle.tree_laws.specs.Printed.{entries, onto_entries}
-use Rattle.tree_laws.proofs.Names.{some_is, test_own, test_same, true_false}
 use Rattle.tree_laws.proofs.Rows.{followed_rows}
 use Rattle.order_laws.specs.Joining.{PacksAreOfSites}
 use Rattle.order_laws.proofs.Keeping.{EndsIn, IsNew, PublishesNone, ends_in, file_eq, kept_by, published_same}
 use Rattle.order_laws.proofs.Lists.{all_found, all_then}
-use Rattle.order_laws.proofs.Standing.{later_true}
 use Rattle.holding_laws.specs.Order.{IsWellMade}
 use Rattle.holding_laws.proofs.OneVersionAbove.{BelowLast, IsAbove, open_above}
 use Rattle.holding_laws.proofs.Ancestors.{ancestor_own, ancestor_through, ancestors_one, any_then}
 use Rattle.holding_laws.proofs.OneVersionAscending.{Differ, all_brought, known_ascends, published_ascends, stamps_differ}
-use Rattle.holding_laws.proofs.Copies.{none_some}
 use Rattle.holding_laws.proofs.Holding.{below_kept}
 use Rattle.holding_laws.proofs.Bringing.{knows_new}
 use Rattle.holding_laws.proofs.Made.{CommitsAreNew, held_stand, rows_made}
@@ -129,7 +129,7 @@ known_under P ino [] all = tt
 known_under P ino (b ∷ bs) all = at (b.ino == ino) refl all (known_under P ino bs)
   where
     equal : (m n : ℕ) → m ≡ n → (m == n) ≡ true
-    equal m n e = subst (λ (k : ℕ). (m == k) ≡ true) e (test_own m)
+    equal m n e = subst (λ (k : ℕ). (m == k) ≡ true) e (equal_self m)
 
     at : (x : Bool) → (b.ino == ino) ≡ x → AllByRecursion P (map (λ (y : Brought). y.stamp) (cond x (b ∷ filter (λ (y : Brought). y.ino == ino) bs) (filter (λ (y : Brought). y.ino == ino) bs))) → (AllByRecursion P (stamps_of bs ino) → AllByRecursion (λ (d : Brought). d.ino ≡ ino → P d.stamp) bs) →
         (b.ino ≡ ino → P b.stamp) × AllByRecursion (λ (d : Brought). d.ino ≡ ino → P d.stamp) bs
@@ -139,20 +139,7 @@ known_under P ino (b ∷ bs) all = at (b.ino == ino) refl all (known_under P ino
 -- each is below the only kept one
 all_under : (P : Stamp → Type 0) (ss : List Stamp) → ((s : Stamp) → has_stamp ss s ≡ true → P s) → AllByRecursion P ss
 all_under P [] each = tt
-all_under P (s ∷ ss) each = (each s (ap (λ (b : Bool). b || has_stamp ss s) (same_stamp_refl s)), all_under P ss (λ u k. each u (later_true (same_stamp s u) (has_stamp ss u) k)))
-
--- the one of a list of one
-only_member : (ks : List Stamp) → length ks ≡ 1 → (a b : Stamp) → has_stamp ks a ≡ true → has_stamp ks b ≡ true → a ≡ b
-only_member [] one a b p q = absurd (true_false (sym p))
-only_member (k ∷ []) one a b p q = sym (same_stamp_eq k a (first p)) ∙ same_stamp_eq k b (first q)
-  where
-    first : {x : Bool} → x || false ≡ true → x ≡ true
-    first {x} h = at x h
-      where
-        at : (y : Bool) → y || false ≡ true → y ≡ true
-        at true h = refl
-        at false h = absurd (true_false (sym h))
-only_member (k ∷ l ∷ ks) one a b p q = absurd (omega (arith, one))
+all_under P (s ∷ ss) each = (each s (ap (λ (b : Bool). b || has_stamp ss s) (same_stamp_refl s)), all_under P ss (λ u k. each u (or_second (same_stamp s u) (has_stamp ss u) k)))
 
 module _ (c : Config) (few : PacksAreOfSites c) (older : List Line) (n : ℕ) (followed : IsFollowed c older) (new : CommitsAreNew c (entries older)) (e : EpochId) (f : FileId) (started : (tree_of c e f.group (entries older)).started ≡ true) (single : length (kept_in c (entries older) e f) ≡ 1) where
   abbrev before : Trace
@@ -188,7 +175,7 @@ module _ (c : Config) (few : PacksAreOfSites c) (older : List Line) (n : ℕ) (f
     kept_below = over (all_found (IsAbove h t) (is_named j) t.instances w.ended (open_above c older few followed new e f.group) w.found)
       where
         of : (k : Stamp) → BelowLast h w.ended.grant.file w.ended.work.last k → is_ancestor h f k v ≡ true
-        of k b = subst (λ (y : FileId). is_ancestor h y k v ≡ true) file_is (subst (λ (y : Stamp). is_ancestor h w.ended.grant.file k y ≡ true) (some_is b.top v (sym b.last_is ∙ last_is)) b.below)
+        of k b = subst (λ (y : FileId). is_ancestor h y k v ≡ true) file_is (subst (λ (y : Stamp). is_ancestor h w.ended.grant.file k y ≡ true) (some_same b.top v (sym b.last_is ∙ last_is)) b.below)
 
         over : IsAbove h t w.ended → AllByRecursion (λ (k : Stamp). is_ancestor h f k v ≡ true) (kept_in c before e f)
         over (inl p) = absurd (none_some v (sym p.1 ∙ made_is))

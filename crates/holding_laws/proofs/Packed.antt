@@ -1,6 +1,9 @@
 -- Who holds a version of a file has a pack of its group.
 use Rattle.std.proofs.Common.{◌≡◌, ℕ, ◌==◌, Bool, true, false, ◌&&◌, cond, [], ◌∷◌, Option, Some, None, refl, sym, ap, ◌∙◌, subst}
 use Rattle.std.specs.Option.{option_or}
+use Rattle.role_steps.proofs.of_plain_facts.Numbers.{equal}
+use Rattle.role_steps.proofs.of_plain_facts.Options.{none_some}
+use Rattle.role_steps.proofs.of_plain_facts.Tests.{and_first, and_second}
 use Rattle.locus_ids.specs.declared.config.Config.{Config}
 use Rattle.locus_ids.specs.declared.ids.EpochId.{EpochId}
 use Rattle.locus_ids.specs.declared.ids.FileId.{FileId}
@@ -14,10 +17,8 @@ use Rattle.tree_model.specs.Histories.{format_stamp, formatted, held}
 use Rattle.tree_model.specs.Packs.{has_pack}
 use Rattle.tree_model.specs.State.{copy_of, held_of}
 use Rattle.tree_model.specs.Tree.{tree_of}
-use Rattle.tree_laws.proofs.Names.{test_same}
-use Rattle.order_laws.proofs.Alone.{first_of, second_of}
 use Rattle.order_laws.proofs.Standing.{same_file_eq}
-use Rattle.holding_laws.proofs.Copies.{copies_are, none_some, now_of}
+use Rattle.holding_laws.proofs.Copies.{copies_are, now_of}
 
 -- a version is written where a pack is
 abbrev pub IsPacked : Config → Record → Type 0
@@ -39,7 +40,7 @@ holder_packed c [] packs s f v k = root (f.ino == 1) (has_pack c f.group s) refl
 holder_packed c (r ∷ before) packs s f v k = step r.what packs.0 k (holder_packed c before packs.1 s f v)
   where
     here : (g : FileId) (z : ℕ) (stamp : Stamp) → has_pack c g.group z ≡ true → (b : Bool) → same_file g f && (z == s) ≡ b → cond b (Some stamp) (held c before s f) ≡ Some v → (held c before s f ≡ Some v → has_pack c f.group s ≡ true) → has_pack c f.group s ≡ true
-    here g z stamp p true e k later = subst (λ (y : FileId). has_pack c y.group s ≡ true) (same_file_eq g f (first_of (same_file g f) _ e)) (subst (λ (n : ℕ). has_pack c g.group n ≡ true) (test_same z s (second_of (same_file g f) _ e)) p)
+    here g z stamp p true e k later = subst (λ (y : FileId). has_pack c y.group s ≡ true) (same_file_eq g f (and_first (same_file g f) _ e)) (subst (λ (n : ℕ). has_pack c g.group n ≡ true) (equal z s (and_second (same_file g f) _ e)) p)
     here g z stamp p false e k later = later k
 
     step : (r : Record) → IsPacked c r → held c (record { line = 0; what = r } ∷ before) s f ≡ Some v → (held c before s f ≡ Some v → has_pack c f.group s ≡ true) → has_pack c f.group s ≡ true

@@ -1,6 +1,9 @@
 -- What was released isn't open any more.
 use Rattle.std.proofs.Common.{◌≡◌, ℕ, ◌==◌, Bool, true, false, ◌&&◌, cond, List, [], ◌∷◌, Option, Some, None, sym, ◌∙◌, subst, ◌⊎◌, inl, inr}
 use Rattle.std.specs.List.{find}
+use Rattle.role_steps.proofs.of_plain_facts.Numbers.{equal_self}
+use Rattle.role_steps.proofs.of_plain_facts.Options.{none_some}
+use Rattle.role_steps.proofs.of_plain_facts.Tests.{true_false}
 use Rattle.locus_ids.specs.declared.config.Config.{Config}
 use Rattle.locus_ids.specs.declared.ids.EpochId.{EpochId}
 use Rattle.locus_ids.specs.declared.ids.FileId.{FileId}
@@ -10,7 +13,7 @@ use Rattle.trace_book.specs.Same.{same_epoch}
 use Rattle.trace_book.specs.declared.record.Record.{Record}
 use Rattle.trace_book.specs.declared.record.Record.TheVariants as says
 use Rattle.role_steps.specs.Views.{Told, Shown}
-use Rattle.the_run.specs.Worlds.{Line}
+use Rattle.tree_laws.specs.of_the_run.Worlds.{Line}
 use Rattle.tree_model.specs.declared.instance.Instance.{Instance}
 use Rattle.tree_model.specs.Histories.{history}
 use Rattle.tree_model.specs.State.{instance_in, is_named}
@@ -21,11 +24,10 @@ use Rattle.tree_laws.specs.Instances.{instance_now}
 use Rattle.tree_laws.specs.Past.{EndRecord, Printed, WasNamed, WasReleased}
 use Rattle.tree_laws.specs.Printed.{entries}
 use Rattle.tree_laws.proofs.Grants.{Had, before_record, open_named}
-use Rattle.tree_laws.proofs.Names.{same_epoch_own, test_own, true_false}
+use Rattle.tree_laws.proofs.Names.{same_epoch_own}
 use Rattle.tree_laws.proofs.Opened.{GrantsIt}
 use Rattle.tree_laws.proofs.Rows.{followed_rows}
 use Rattle.order_laws.proofs.Alone.{tree_named}
-use Rattle.holding_laws.proofs.Copies.{none_some}
 use Rattle.holding_laws.proofs.Distinct.{none_left, open_now, rows_names_apart}
 
 pub released_named : (c : Config) (trace : List Line) → IsFollowed c trace → (e : EpochId) (i : Serial) → WasReleased trace e i → WasNamed trace e i
@@ -53,7 +55,7 @@ ends_now c older n at inst file last followed may x k = none_some x (sym gone �
     same = subst (λ (z : EpochId). same_epoch at z ≡ true) (sym (tree_named c at file.group (entries older)).0) (same_epoch_own at)
 
     in_group : (file.group == (tree_of c at file.group (entries older)).group) ≡ true
-    in_group = subst (λ (g : ℕ). (file.group == g) ≡ true) (sym (tree_named c at file.group (entries older)).1) (test_own file.group)
+    in_group = subst (λ (g : ℕ). (file.group == g) ≡ true) (sym (tree_named c at file.group (entries older)).1) (equal_self file.group)
 
     over : (a b : Bool) → a ≡ true → b ≡ true → find (is_named inst) (cond (a && b) (released inst file last (tree_of c at file.group (entries older))) (tree_of c at file.group (entries older))).instances ≡ None
     over true true p q = none_left inst (tree_of c at file.group (entries older)).instances (rows_names_apart c (entries older) (followed_rows c older followed) at file.group)

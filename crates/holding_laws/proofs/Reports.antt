@@ -1,15 +1,17 @@
 -- What a site reports it has until its group starts in the epoch; and what stands is what it was.
 use Rattle.std.proofs.Common.{◌≡◌, ℕ, Bool, true, false, List, [], ◌∷◌, filter, Option, Some, refl, sym, ap, ◌∙◌, subst, ◌⊎◌, inl, inr}
+use Rattle.role_steps.proofs.of_plain_facts.Numbers.{equal}
+use Rattle.role_steps.proofs.of_plain_facts.Tests.{true_false}
 use Rattle.locus_ids.specs.declared.config.Config.{Config}
 use Rattle.locus_ids.specs.declared.ids.EpochId.{EpochId}
 use Rattle.locus_ids.specs.declared.ids.FileId.{FileId}
 use Rattle.locus_ids.specs.declared.ids.Stamp.{Stamp}
 use Rattle.trace_book.specs.declared.record.Record.{Record}
 use Rattle.trace_book.specs.declared.record.Record.TheVariants as says
-use Rattle.wire_messages.specs.declared.body.ReportedCopy.{ReportedCopy}
+use Rattle.role_steps.specs.of_wire_messages.declared.body.ReportedCopy.{ReportedCopy}
 use Rattle.role_steps.specs.Own.{Every}
 use Rattle.role_steps.specs.Views.{Told, Shown}
-use Rattle.the_run.specs.Worlds.{Line}
+use Rattle.tree_laws.specs.of_the_run.Worlds.{Line}
 use Rattle.tree_model.specs.declared.instance.Instance.{Instance}
 use Rattle.tree_model.specs.Epochs.{epoch_of, has_joined, is_in}
 use Rattle.tree_model.specs.Files.{HeldVersion, version_of}
@@ -25,7 +27,7 @@ use Rattle.tree_laws.specs.Packets.{ReportFact, ReportedNow, file_in}
 use Rattle.tree_laws.specs.Printed.{entries, onto_entries}
 use Rattle.tree_laws.proofs.Histories.{content_same, stands_more, vector_same}
 use Rattle.tree_laws.proofs.Kinship.{started_stays}
-use Rattle.tree_laws.proofs.Names.{same_epoch_eq, test_same, true_false}
+use Rattle.tree_laws.proofs.Names.{same_epoch_eq}
 use Rattle.tree_laws.proofs.Origins.{kind_same, set_same}
 use Rattle.tree_laws.proofs.Owing.{inside_is}
 use Rattle.tree_laws.proofs.Rows.{followed_rows}
@@ -73,7 +75,7 @@ module _ (c : Config) (older : List Line) (n : ℕ) (followed : IsFollowed c old
     where
       started : Hit t f z site ino → t.started ≡ true
       started hit = filter_one (λ (x : Instance). t.started ≡ true) (is_writing f) t.instances may.row.instance
-          (subst (λ (u : TreeState). filter (is_writing f) u.instances ≡ may.row.instance ∷ []) (tree_is c e may.row.epoch group f.group before (epoch_named z may.row.epoch hit.inside may.row.inside) (test_same f.group t.group hit.group_is ∙ named.1)) may.row.one)
+          (subst (λ (u : TreeState). filter (is_writing f) u.instances ≡ may.row.instance ∷ []) (tree_is c e may.row.epoch group f.group before (epoch_named z may.row.epoch hit.inside may.row.inside) (equal f.group t.group hit.group_is ∙ named.1)) may.row.one)
           (rows_started c before (followed_rows c older followed) e group)
 
       over : (held_of (copy_after (says.Commit f z stamp parents content) t site ino) ≡ held_at t site ino) ⊎ (Hit t f z site ino × (held_of (copy_after (says.Commit f z stamp parents content) t site ino) ≡ Some stamp)) → held_of (copy_after (says.Commit f z stamp parents content) t site ino) ≡ held_at t site ino
@@ -82,7 +84,7 @@ module _ (c : Config) (older : List Line) (n : ℕ) (followed : IsFollowed c old
   nothing_written (says.Adopt f z stamp) may ino = ap held_of (copy_next (history c before) t (says.Adopt f z stamp) site ino) ∙ over (written_or t f z stamp site ino)
     where
       started : Hit t f z site ino → t.started ≡ true
-      started hit = subst (λ (g : ℕ). (tree_of c e g before).started ≡ true) (test_same f.group t.group hit.group_is ∙ named.1) (subst (λ (y : EpochId). (tree_of c y f.group before).started ≡ true) (epoch_named z may.in_time.epoch hit.inside may.in_time.inside) may.in_time.started)
+      started hit = subst (λ (g : ℕ). (tree_of c e g before).started ≡ true) (equal f.group t.group hit.group_is ∙ named.1) (subst (λ (y : EpochId). (tree_of c y f.group before).started ≡ true) (epoch_named z may.in_time.epoch hit.inside may.in_time.inside) may.in_time.started)
 
       over : (held_of (copy_after (says.Adopt f z stamp) t site ino) ≡ held_at t site ino) ⊎ (Hit t f z site ino × (held_of (copy_after (says.Adopt f z stamp) t site ino) ≡ Some stamp)) → held_of (copy_after (says.Adopt f z stamp) t site ino) ≡ held_at t site ino
       over (inl same) = same

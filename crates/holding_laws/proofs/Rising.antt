@@ -2,6 +2,8 @@
 use Rattle.std.proofs.Common.{◌≡◌, ℕ, ◌==◌, Bool, true, false, not, ◌&&◌, ◌||◌, cond, List, [], ◌∷◌, filter, Option, Some, None, refl, sym, ap, ◌∙◌, subst, ◌⊎◌, inl, inr}
 use Rattle.std.specs.List.{AllByRecursion, list_any}
 use Rattle.std.specs.Option.{is_none, is_some, option_map}
+use Rattle.role_steps.proofs.of_plain_facts.Numbers.{equal, equal_self}
+use Rattle.role_steps.proofs.of_plain_facts.Tests.{and_first, and_second, or_second, true_false}
 use Rattle.locus_ids.specs.declared.config.Config.{Config}
 use Rattle.locus_ids.specs.declared.ids.EpochId.{EpochId}
 use Rattle.locus_ids.specs.declared.ids.FileId.{FileId}
@@ -15,7 +17,7 @@ use Rattle.trace_book.specs.Same.{same_epoch}
 use Rattle.trace_book.specs.declared.record.Record.{Record}
 use Rattle.trace_book.specs.declared.record.Record.TheVariants as says
 use Rattle.role_steps.specs.Views.{Told, Shown}
-use Rattle.the_run.specs.Worlds.{Line}
+use Rattle.tree_laws.specs.of_the_run.Worlds.{Line}
 use Rattle.tree_model.specs.declared.instance.Instance.{Instance}
 use Rattle.tree_model.specs.Epochs.{epoch_of, has_joined, is_in as is_at}
 use Rattle.tree_model.specs.Folds.{Trace}
@@ -28,12 +30,11 @@ use Rattle.lawful_trace.specs.TreeRows.{MayAdopt, MayCommit, is_above, is_writin
 use Rattle.tree_laws.specs.Following.{IsFollowed, MayTell, RowsAreLawful}
 use Rattle.tree_laws.specs.Instances.{HasAtLeast, IsKnown}
 use Rattle.tree_laws.specs.Printed.{entries, onto_entries}
-use Rattle.tree_laws.proofs.Names.{same_epoch_eq, test_own, test_same, true_false}
+use Rattle.tree_laws.proofs.Names.{same_epoch_eq}
 use Rattle.tree_laws.proofs.Owing.{inside_is}
 use Rattle.tree_laws.proofs.Rows.{followed_rows}
-use Rattle.order_laws.proofs.Alone.{first_of, second_of, tree_is, tree_named}
+use Rattle.order_laws.proofs.Alone.{tree_is, tree_named}
 use Rattle.order_laws.proofs.Keeping.{IsNew}
-use Rattle.order_laws.proofs.Standing.{later_true}
 use Rattle.holding_laws.specs.Order.{IsWellMade}
 use Rattle.holding_laws.proofs.Ancestors.{KeptAbove, ancestor_before, ancestor_newest, ancestor_through, any_then, kept_above, some_of}
 use Rattle.holding_laws.proofs.Copies.{copies_are, copy_after, copy_next, join_other}
@@ -72,8 +73,8 @@ written_or t f z stamp s i = over (is_inside t z) refl (f.group == t.group) refl
     over : (n : Bool) → is_inside t z ≡ n → (a : Bool) → (f.group == t.group) ≡ a → (d : Bool) → (z == s) ≡ d → (b : Bool) → (f.ino == i) ≡ b →
         (held_of (cond a (cond (d && b) (Some (record { site = z; ino = f.ino; now = stamp; held = cond n (Some stamp) (held_at t z f.ino) })) (copy_of t.copies s i)) (copy_of t.copies s i)) ≡ held_at t s i)
         ⊎ (Hit t f z s i × (held_of (cond a (cond (d && b) (Some (record { site = z; ino = f.ino; now = stamp; held = cond n (Some stamp) (held_at t z f.ino) })) (copy_of t.copies s i)) (copy_of t.copies s i)) ≡ Some stamp))
-    over true p true q true l true m = inr (record { inside = p; group_is = q; site_is = test_same z s l; ino_is = test_same f.ino i m }, refl)
-    over false p true q true l true m = inl (ap (λ (n : ℕ). held_at t n f.ino) (test_same z s l) ∙ ap (λ (n : ℕ). held_at t s n) (test_same f.ino i m))
+    over true p true q true l true m = inr (record { inside = p; group_is = q; site_is = equal z s l; ino_is = equal f.ino i m }, refl)
+    over false p true q true l true m = inl (ap (λ (n : ℕ). held_at t n f.ino) (equal z s l) ∙ ap (λ (n : ℕ). held_at t s n) (equal f.ino i m))
     over n p true q true l false m = inl refl
     over n p true q false l b m = inl refl
     over n p false q d l b m = inl refl
@@ -82,7 +83,7 @@ pub joined_or : (t : TreeState) (d : EpochId) (z s i : ℕ) → (held_of (cond (
 joined_or t d z s i = over (same_epoch d t.epoch) refl (z == s) refl
   where
     over : (a : Bool) → same_epoch d t.epoch ≡ a → (b : Bool) → (z == s) ≡ b → (held_of (cond a (option_map (entered z) (copy_of (with_root t z) s i)) (copy_of t.copies s i)) ≡ held_at t s i) ⊎ ((d ≡ t.epoch) × (z ≡ s))
-    over true p true q = inr (same_epoch_eq d t.epoch p, test_same z s q)
+    over true p true q = inr (same_epoch_eq d t.epoch p, equal z s q)
     over true p false q = inl (ap held_of (join_other t z s i q))
     over false p b q = inl refl
 
@@ -102,7 +103,7 @@ any_kept_all q p P then (x ∷ xs) all h = at (p x) refl (either (q x) (list_any
 
     at : (b : Bool) → p x ≡ b → (q x ≡ true) ⊎ (list_any q xs ≡ true) → (list_any q xs ≡ true → list_any q (filter p xs) ≡ true) → list_any q (cond b (x ∷ filter p xs) (filter p xs)) ≡ true
     at true e (inl k) later = first (q x) (list_any q (filter p xs)) k
-    at true e (inr k) later = later_true (q x) (list_any q (filter p xs)) (later k)
+    at true e (inr k) later = or_second (q x) (list_any q (filter p xs)) (later k)
     at false e (inl k) later = absurd (true_false (sym (then x all.0 k) ∙ e))
     at false e (inr k) later = later k
 
@@ -132,7 +133,7 @@ module _ (c : Config) (older : List Line) (n : ℕ) (followed : IsFollowed c old
   in_epoch z d inside at = at ∙ ap (λ (y : EpochId). Some y) (epoch_named z d inside at)
 
   file_is : (g : FileId) (z : ℕ) → Hit t g z s f.ino → g ≡ f
-  file_is g z k = (λ i. record { group = (test_same g.group t.group k.group_is ∙ named.1) i; ino = k.ino_is i })
+  file_is g z k = (λ i. record { group = (equal g.group t.group k.group_is ∙ named.1) i; ino = k.ino_is i })
 
   -- what is below a version that is known is below a kept one
   below_kept : (v now : Stamp) → is_ancestor h f v now ≡ true → IsKnown c older e f now → list_any (is_ancestor h f v) (kept_of h t f) ≡ true
@@ -161,7 +162,7 @@ module _ (c : Config) (older : List Line) (n : ℕ) (followed : IsFollowed c old
                           more : (b : Bool) → b || list_any q (filter p xs) ≡ true → b || list_any q xs ≡ true
                           more true l = refl
                           more false l = later l
-                      at false l later = later_true (q x) (list_any q xs) (later l)
+                      at false l later = or_second (q x) (list_any q xs) (later l)
 
           top : is_ancestor h f v k.top ≡ true
           top = ancestor_through h made f v now k.top kept_stands above k.above
@@ -175,17 +176,17 @@ module _ (c : Config) (older : List Line) (n : ℕ) (followed : IsFollowed c old
       of_one k = at (is_ahead s f.ino x) refl k
         where
           at : (b : Bool) → is_ahead s f.ino x ≡ b → b || false ≡ true → is_some x.work.committed ≡ true
-          at true q k = second_of ((x.grant.ss == s) && (x.grant.file.ino == f.ino)) _ q
+          at true q k = and_second ((x.grant.ss == s) && (x.grant.file.ino == f.ino)) _ q
           at false q k = absurd (true_false (sym k))
 
       writes : (y : Instance) → Seat e f.group before t y → is_ahead s f.ino y ≡ true → is_writing f y ≡ true
       writes y seat k = both (y.grant.file.group == f.group) (y.grant.file.ino == f.ino) (is_read y.grant.mode)
-          (subst (λ (m : ℕ). (y.grant.file.group == m) ≡ true) seat.group_is (test_own y.grant.file.group))
-          (second_of (y.grant.ss == s) _ (first_of ((y.grant.ss == s) && (y.grant.file.ino == f.ino)) _ k))
+          (subst (λ (m : ℕ). (y.grant.file.group == m) ≡ true) seat.group_is (equal_self y.grant.file.group))
+          (and_second (y.grant.ss == s) _ (and_first ((y.grant.ss == s) && (y.grant.file.ino == f.ino)) _ k))
           (reads (is_read y.grant.mode) refl)
         where
           reads : (b : Bool) → is_read y.grant.mode ≡ b → b ≡ false
-          reads true q = absurd (true_false (sym (second_of ((y.grant.ss == s) && (y.grant.file.ino == f.ino)) _ k) ∙ ap (λ (o : Option Stamp). is_some o) (seat.reads q)))
+          reads true q = absurd (true_false (sym (and_second ((y.grant.ss == s) && (y.grant.file.ino == f.ino)) _ k) ∙ ap (λ (o : Option Stamp). is_some o) (seat.reads q)))
           reads false q = refl
 
           both : (a b d : Bool) → a ≡ true → b ≡ true → d ≡ false → (a && b) && not d ≡ true
@@ -212,7 +213,7 @@ module _ (c : Config) (older : List Line) (n : ℕ) (followed : IsFollowed c old
         w = record { file = g; site = z; stamp = stamp; parents = parents; content = content }
 
         tree_same : Hit t g z s f.ino → tree_of c may.epoch g.group before ≡ t
-        tree_same hit = tree_is c e may.epoch f.group g.group before (epoch_named z may.epoch hit.inside may.inside) (test_same g.group t.group hit.group_is ∙ named.1)
+        tree_same hit = tree_is c e may.epoch f.group g.group before (epoch_named z may.epoch hit.inside may.inside) (equal g.group t.group hit.group_is ∙ named.1)
 
         one : Hit t g z s f.ino → filter (is_writing f) t.instances ≡ may.instance ∷ []
         one hit = subst (λ (y : FileId). filter (is_writing y) t.instances ≡ may.instance ∷ []) (file_is g z hit) (subst (λ (u : TreeState). filter (is_writing g) u.instances ≡ may.instance ∷ []) (tree_same hit) may.one)
@@ -245,21 +246,21 @@ module _ (c : Config) (older : List Line) (n : ℕ) (followed : IsFollowed c old
 
             at : (b : Bool) → merges may.instance.grant.mode && is_none may.instance.work.committed ≡ b → list_any (is_ancestor h f v) (cond b (kept_of h (tree_of c may.epoch g.group before) may.instance.grant.file) (list_of may.instance.work.last)) ≡ true
             at true q = subst (λ (ps : List Stamp). list_any (is_ancestor h f v) ps ≡ true) (sym (kept_same hit))
-                (below_kept v k.now k.above (known hit (second_of (merges may.instance.grant.mode) _ q) (held_known c older followed packs e s f k.now k.held)))
+                (below_kept v k.now k.above (known hit (and_second (merges may.instance.grant.mode) _ q) (held_known c older followed packs e s f k.now k.held)))
             at false q = subst (λ (o : Option Stamp). list_any (is_ancestor h f v) (list_of o) ≡ true) (sym (last_now hit)) (alone (is_ancestor h f v k.now) false k.above)
 
         own : Hit t g z s f.ino → is_version f stamp w ≡ true
         own hit = ap (λ (y : FileId). same_file g y && same_stamp stamp stamp) (sym (file_is g z hit)) ∙ (ap (λ (b : Bool). b && same_stamp stamp stamp) (same g) ∙ same_stamp_refl stamp)
           where
             same : (y : FileId) → same_file y y ≡ true
-            same y = ap (λ (b : Bool). b && (y.ino == y.ino)) (test_own y.group) ∙ test_own y.ino
+            same y = ap (λ (b : Bool). b && (y.ino == y.ino)) (equal_self y.group) ∙ equal_self y.ino
 
         over : (held_of (copy_after (says.Commit g z stamp parents content) t s f.ino) ≡ held_at t s f.ino) ⊎ (Hit t g z s f.ino × (held_of (copy_after (says.Commit g z stamp parents content) t s f.ino) ≡ Some stamp)) → Then (says.Commit g z stamp parents content)
         over (inl same) = stays (says.Commit g z stamp parents content) (ap held_of (copy_next h t (says.Commit g z stamp parents content) s f.ino) ∙ same) (ancestor_before w h f v k.now fresh now_stands)
         over (inr hit) = record {
           now = stamp;
           held = ap held_of (copy_next h t (says.Commit g z stamp parents content) s f.ino) ∙ hit.1;
-          above = ancestor_newest w h f v stamp (own hit.0) ∙ later_true (same_stamp v stamp) (list_any (is_ancestor h f v) parents) (below_parent hit.0);
+          above = ancestor_newest w h f v stamp (own hit.0) ∙ or_second (same_stamp v stamp) (list_any (is_ancestor h f v) parents) (below_parent hit.0);
         }
 
     adopt_rises : (g : FileId) (z : ℕ) (stamp : Stamp) → MayAdopt c before g z stamp → Then (says.Adopt g z stamp)

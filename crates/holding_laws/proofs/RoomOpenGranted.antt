@@ -1,5 +1,6 @@
 -- What is open was granted so, to a call.
 use Rattle.std.proofs.Common.{◌≡◌, ℕ, ◌<◌, ◌≤◌, List, [], ◌∷◌, Option, Some, refl, sym, ap, ◌∙◌, subst, arith, ◌⊎◌, inl, inr}
+use Rattle.role_steps.proofs.of_plain_facts.Options.{none_some, some_same}
 use Rattle.locus_ids.specs.declared.config.Config.{Config}
 use Rattle.locus_ids.specs.declared.ids.CallId.{CallId}
 use Rattle.locus_ids.specs.declared.ids.EpochId.{EpochId}
@@ -7,10 +8,11 @@ use Rattle.locus_ids.specs.declared.ids.FileId.{FileId}
 use Rattle.locus_ids.specs.declared.ids.Mode.{Mode}
 use Rattle.locus_ids.specs.declared.ids.Serial.{Serial}
 use Rattle.locus_ids.specs.declared.ids.Stamp.{Stamp}
+use Rattle.locus_ids.specs.Sizes.{sites_max}
 use Rattle.trace_book.specs.declared.record.Record.{Record}
 use Rattle.trace_book.specs.declared.record.Record.TheVariants as says
 use Rattle.role_steps.specs.Views.{Told, Shown}
-use Rattle.the_run.specs.Worlds.{Line}
+use Rattle.tree_laws.specs.of_the_run.Worlds.{Line}
 use Rattle.tree_model.specs.declared.instance.Granted.{Granted}
 use Rattle.tree_model.specs.declared.instance.Instance.{Instance}
 use Rattle.tree_model.specs.Histories.{history}
@@ -22,12 +24,10 @@ use Rattle.tree_laws.specs.Instances.{instance_now}
 use Rattle.tree_laws.specs.Past.{EndRecord, GrantRecord, Printed, WasGranted}
 use Rattle.tree_laws.specs.Printed.{entries, onto_entries}
 use Rattle.tree_laws.proofs.Grants.{Had, before_record}
-use Rattle.tree_laws.proofs.Names.{some_is}
 use Rattle.tree_laws.proofs.Opened.{EndsIt, Found, GrantsIt, next_found}
 use Rattle.tree_laws.proofs.Scripts.{in_stays}
 use Rattle.order_laws.proofs.Alone.{tree_named}
 use Rattle.holding_laws.proofs.Begun.{Untouched, granted_open}
-use Rattle.holding_laws.proofs.Copies.{none_some}
 use Rattle.holding_laws.proofs.Distinct.{open_now}
 use Rattle.holding_laws.proofs.Released.{released_shut}
 
@@ -59,7 +59,7 @@ module _ (c : Config) (older : List Line) (n : ℕ) (r : Record) (followed : IsF
   so_before old had = over (next_found (history c (entries older)) (tree_of c e group (entries older)) i had.0 r had.1)
     where
       over : Found (history c (entries older)) (tree_of c e group (entries older)) i had.0 r ⊎ EndsIt (tree_of c e group (entries older)).epoch i r → GrantedSo (record { number = n; told = Shown r } ∷ older) e i x.grant
-      over (inl f) = subst (λ (g : Granted). GrantedSo (record { number = n; told = Shown r } ∷ older) e i g) (sym f.grant_same ∙ ap (λ (y : Instance). y.grant) (some_is f.new x (sym f.found ∙ now)))
+      over (inl f) = subst (λ (g : Granted). GrantedSo (record { number = n; told = Shown r } ∷ older) e i g) (sym f.grant_same ∙ ap (λ (y : Instance). y.grant) (some_same f.new x (sym f.found ∙ now)))
           (later_so (record { number = n; told = Shown r }) older e i had.0.grant (old had.0 had.1))
       over (inr k) = absurd (unreleased k)
 
@@ -90,7 +90,7 @@ module _ (c : Config) (older : List Line) (n : ℕ) (r : Record) (followed : IsF
           u = granted_open c older n followed at call number inst how file on place (subst (λ (y : Record). MayTell c older (Shown y)) is may)
 
           same : u.at ≡ x
-          same = some_is u.at x (sym u.open_at.found ∙ subst (λ (y : Record). instance_now c (record { number = n; told = Shown y } ∷ older) at inst ≡ Some x) is
+          same = some_same u.at x (sym u.open_at.found ∙ subst (λ (y : Record). instance_now c (record { number = n; told = Shown y } ∷ older) at inst ≡ Some x) is
               (subst (λ (z : EpochId). instance_now c (record { number = n; told = Shown r } ∷ older) z inst ≡ Some x) (sym epoch_is) (subst (λ (z : Serial). instance_now c (record { number = n; told = Shown r } ∷ older) e z ≡ Some x) (sym k.1) open_so)))
       of _ is k = absurd k
 
@@ -123,7 +123,7 @@ granted_user c (x ∷ older) followed e d request i m f stamp ss (inl k) = over 
     over (Shown r) may k = of r may k
     over _ may k = absurd k
 
-pub open_user : (c : Config) (trace : List Line) → IsFollowed c trace → ((e : EpochId) (d : CallId) → IsCallIn (entries trace) e d → d.site ≤ 16) → (e : EpochId) (group : ℕ) (i : Serial) (x : Instance) → instance_in (tree_of c e group (entries trace)) i ≡ Some x → i.us < 256
+pub open_user : (c : Config) (trace : List Line) → IsFollowed c trace → ((e : EpochId) (d : CallId) → IsCallIn (entries trace) e d → d.site ≤ sites_max) → (e : EpochId) (group : ℕ) (i : Serial) (x : Instance) → instance_in (tree_of c e group (entries trace)) i ≡ Some x → i.us < 256
 open_user c trace followed sites e group i x k = low i.us so.call.site user.0 (sites e so.call user.1)
   where
     so : GrantedSo trace e i x.grant
@@ -132,5 +132,5 @@ open_user c trace followed sites e group i x k = low i.us so.call.site user.0 (s
     user : (i.us ≡ so.call.site) × IsCallIn (entries trace) e so.call
     user = granted_user c trace followed e so.call so.request i x.grant.mode x.grant.file so.stamp x.grant.ss so.was
 
-    low : (m n : ℕ) → m ≡ n → n ≤ 16 → m < 256
+    low : (m n : ℕ) → m ≡ n → n ≤ sites_max → m < 256
     low m n p q = omega (arith, p, q)

@@ -2,11 +2,15 @@
 use Rattle.std.proofs.Common.{◌≡◌, ℕ, ◌+◌, ◌*◌, ◌==◌, ◌<◌, ◌≤◌, Bool, true, false, ◌&&◌, cond, List, [], ◌∷◌, filter, length, Option, Some, None, refl, sym, ap, ◌∙◌, subst, arith, ◌⊎◌, inl, inr}
 use Rattle.std.proofs.lemmas.List.Sums.{sum_by-cons}
 use Rattle.std.specs.List.{AllByRecursion, find, sum_by}
+use Rattle.role_steps.proofs.of_plain_facts.Numbers.{equal, equal_self}
+use Rattle.role_steps.proofs.of_plain_facts.Options.{none_some, some_same}
+use Rattle.role_steps.proofs.of_plain_facts.Tests.{true_false}
 use Rattle.locus_ids.specs.declared.config.Config.{Config}
 use Rattle.locus_ids.specs.declared.ids.EpochId.{EpochId}
 use Rattle.locus_ids.specs.declared.ids.FileId.{FileId}
 use Rattle.locus_ids.specs.declared.ids.Serial.{Serial}
 use Rattle.locus_ids.specs.declared.ids.Stamp.{Stamp}
+use Rattle.locus_ids.specs.Sizes.{sites_max}
 use Rattle.trace_book.specs.Same.{same_serial}
 use Rattle.trace_book.specs.declared.record.Record.{Record}
 use Rattle.trace_book.specs.declared.record.Record.TheVariants as says
@@ -21,7 +25,7 @@ use Rattle.role_steps.specs.Views.{Frame, Store, Told, Shown, serial_key}
 use Rattle.role_steps.specs.declared.instances.Instance.{Instance}
 use Rattle.role_steps.specs.declared.instances.Stage.{Stage}
 use Rattle.role_steps.specs.declared.instances.Stage.TheVariants as stage
-use Rattle.the_run.specs.Worlds.{Line}
+use Rattle.tree_laws.specs.of_the_run.Worlds.{Line}
 use Rattle.tree_model.specs.declared.instance.Instance.{Instance as Open}
 use Rattle.tree_model.specs.State.{TreeState, instance_in, is_named}
 use Rattle.tree_model.specs.Tree.{tree_of}
@@ -32,12 +36,11 @@ use Rattle.tree_laws.specs.Past.{EndRecord, Printed, ReleaseRecord, WasBegun, Wa
 use Rattle.tree_laws.specs.Printed.{entries}
 use Rattle.tree_laws.specs.Stores.{AreApart, EndsAs, InstanceFact, RunsAs, StageFact, StoreFact}
 use Rattle.tree_laws.proofs.Grants.{open_named}
-use Rattle.tree_laws.proofs.Names.{same_serial_eq, same_serial_own, some_is, test_own, test_same, true_false}
+use Rattle.tree_laws.proofs.Names.{same_serial_eq, same_serial_own}
 use Rattle.tree_laws.proofs.Rows.{followed_rows}
 use Rattle.holding_laws.specs.Granted.{IsAsGranted}
 use Rattle.holding_laws.proofs.Begun.{open_in_group, open_seat, waits_as_granted}
 use Rattle.holding_laws.proofs.Below.{commits_new}
-use Rattle.holding_laws.proofs.Copies.{none_some}
 use Rattle.holding_laws.proofs.Distinct.{NamesApart, open_group, open_now, rows_names_apart}
 use Rattle.holding_laws.proofs.Released.{released_shut}
 use Rattle.holding_laws.specs.RoomRests.{RoomRests}
@@ -198,7 +201,7 @@ module _ (c : Config) (trace : List Line) (f : Frame) (s : Store) (followed : Is
 
       at : (o : Option Open) → instance_in t i ≡ o → changed_by f.me o ≡ 0
       at None k = refl
-      at (Some y) k = zero_if (y.grant.ss == f.me) (length y.work.changed) (ap (λ (z : Open). length z.work.changed) (some_is y x (sym (open_now c trace followed f.epoch g i y k) ∙ now)) ∙ ap length none)
+      at (Some y) k = zero_if (y.grant.ss == f.me) (length y.work.changed) (ap (λ (z : Open). length z.work.changed) (some_same y x (sym (open_now c trace followed f.epoch g i y k) ∙ now)) ∙ ap length none)
 
   released_of : (i : Serial) → WasReleased trace f.epoch i → (x : Open) → instance_now c trace f.epoch i ≡ Some x → ⊥
   released_of i was x now = released_shut c trace followed f.epoch i x was now
@@ -210,10 +213,10 @@ module _ (c : Config) (trace : List Line) (f : Frame) (s : Store) (followed : Is
       over (inl (x, w)) = ap length (ap (λ (y : Work). y.changed) (sym w.work_is)) ∙ sym (ap (changed_by f.me) here ∙ ap (λ (b : Bool). cond b (length x.work.changed) 0) place)
         where
           here : instance_in t i.inst ≡ Some x
-          here = subst (λ (m : ℕ). instance_in (tree_of c f.epoch m (entries trace)) i.inst ≡ Some x) (ap (λ (y : FileId). y.group) w.file_is ∙ test_same i.file.group g open_here) (open_in_group c trace followed f.epoch i.inst x w.open_at.found)
+          here = subst (λ (m : ℕ). instance_in (tree_of c f.epoch m (entries trace)) i.inst ≡ Some x) (ap (λ (y : FileId). y.group) w.file_is ∙ equal i.file.group g open_here) (open_in_group c trace followed f.epoch i.inst x w.open_at.found)
 
           place : (x.grant.ss == f.me) ≡ true
-          place = subst (λ (m : ℕ). (x.grant.ss == m) ≡ true) w.open_at.place (test_own x.grant.ss)
+          place = subst (λ (m : ℕ). (x.grant.ss == m) ≡ true) w.open_at.place (equal_self x.grant.ss)
       over (inr w) = ap (λ (y : Work). length y.changed) w.fresh ∙ sym (not_open i.inst (λ x now. w.unnamed (open_named c trace f.epoch i.inst x now)))
   by_stage i k (stage.Closing made a) (closes, clean, shut) open_here = ap length clean.changed ∙ sym (over closes.ends)
     where
@@ -250,7 +253,7 @@ module _ (c : Config) (trace : List Line) (f : Frame) (s : Store) (followed : Is
   row_found k (i ∷ is) y P Q e all others = at (instance_key i == k) refl e (λ l. row_found k is y P Q l all.1 others.1)
     where
       at : (b : Bool) → (instance_key i == k) ≡ b → (elim b as (λ (z : Bool). Option Instance) [ true ↦ Some i | false ↦ row instance_key k is ]) ≡ Some y → (row instance_key k is ≡ Some y → (instance_key y ≡ k) × (P y × Q y)) → (instance_key y ≡ k) × (P y × Q y)
-      at true p l later = subst (λ (z : Instance). (instance_key z ≡ k) × (P z × Q z)) (some_is i y l) (test_same (instance_key i) k p, (all.0, others.0))
+      at true p l later = subst (λ (z : Instance). (instance_key z ≡ k) × (P z × Q z)) (some_same i y l) (equal (instance_key i) k p, (all.0, others.0))
       at false p l later = later l
 
   -- an instance that the tree has here, and the view hasn't open, has changed nothing
@@ -265,19 +268,19 @@ module _ (c : Config) (trace : List Line) (f : Frame) (s : Store) (followed : Is
         over (inl (z, w)) = absurd (shut same open_here)
           where
             one : z ≡ x
-            one = some_is z x (sym w.open_at.found ∙ subst (λ (j : Serial). instance_now c trace f.epoch j ≡ Some x) (sym same) now)
+            one = some_same z x (sym w.open_at.found ∙ subst (λ (j : Serial). instance_now c trace f.epoch j ≡ Some x) (sym same) now)
 
             group_is : y.file.group ≡ g
             group_is = ap (λ (q : FileId). q.group) (sym w.file_is) ∙ (ap (λ (q : Open). q.grant.file.group) one ∙ ((open_seat c trace followed f.epoch k x now).group_is ∙ open_group c trace followed f.epoch g k x found))
 
             open_here : is_open y.stage && (y.file.group == g) ≡ true
-            open_here = subst (λ (q : Stage). is_open q && (y.file.group == g) ≡ true) is (subst (λ (m : ℕ). (y.file.group == m) ≡ true) group_is (test_own y.file.group))
+            open_here = subst (λ (q : Stage). is_open q && (y.file.group == g) ≡ true) is (subst (λ (m : ℕ). (y.file.group == m) ≡ true) group_is (equal_self y.file.group))
         over (inr w) = absurd (w.unnamed (subst (λ (j : Serial). WasNamed trace f.epoch j) (sym same) (open_named c trace f.epoch k x now)))
     none_by_stage y same shut (stage.Closing made a) is (closes, clean, was) = over closes.ends
       where
         over : WasReleasedWith c trace f.epoch y.inst (stamp_made made) (close_answer a) ⊎ EndsAs c trace f y made a → x.work.changed ≡ []
         over (inl w) = absurd (released_of k (subst (λ (j : Serial). WasReleased trace f.epoch j) same (with_released c trace f.epoch y.inst (stamp_made made) (close_answer a) w)) x now)
-        over (inr w) = ap (λ (q : Open). q.work.changed) (some_is x w.now.at (sym now ∙ subst (λ (j : Serial). instance_now c trace f.epoch j ≡ Some w.now.at) same w.now.closes.open_at.found)) ∙ w.unchanged
+        over (inr w) = ap (λ (q : Open). q.work.changed) (some_same x w.now.at (sym now ∙ subst (λ (j : Serial). instance_now c trace f.epoch j ≡ Some w.now.at) same w.now.closes.open_at.found)) ∙ w.unchanged
     none_by_stage y same shut (stage.Closed a) is (ended, clean, was) = absurd (released_of k (subst (λ (j : Serial). WasReleased trace f.epoch j) same (with_released c trace f.epoch y.inst ended.0 (close_answer a) ended.1)) x now)
 
     granted_unchanged : ((file : FileId) → WasBegun trace f.me f.epoch k file → ⊥) → x.work.changed ≡ []
@@ -288,7 +291,7 @@ module _ (c : Config) (trace : List Line) (f : Frame) (s : Store) (followed : Is
 
         over : WasBegun trace x.grant.ss f.epoch k x.grant.file ⊎ IsAsGranted c trace f.epoch k x.grant.mode x.grant.file so.stamp x.grant.ss → x.work.changed ≡ []
         over (inl w) = absurd (unbegun x.grant.file (subst (λ (m : ℕ). WasBegun trace m f.epoch k x.grant.file) here w))
-        over (inr w) = ap (λ (q : Open). q.work.changed) (some_is x w.at (sym now ∙ w.open_at.found)) ∙ ap (λ (q : Work). q.changed) w.work_is
+        over (inr w) = ap (λ (q : Open). q.work.changed) (some_same x w.at (sym now ∙ w.open_at.found)) ∙ ap (λ (q : Work). q.changed) w.work_is
 
     nothing_changed : x.work.changed ≡ []
     nothing_changed = at (instance_of s k) refl
@@ -296,7 +299,7 @@ module _ (c : Config) (trace : List Line) (f : Frame) (s : Store) (followed : Is
         of_row : (y : Instance) → instance_of s k ≡ Some y → (instance_key y ≡ serial_key k) × (InstanceFact c trace f y × Closed k y) → x.work.changed ≡ []
         of_row y e w = none_by_stage y (same_key y.inst k (low y.inst.us w.1.0.user) (open_user c trace followed rests.sites f.epoch g k x found) w.0) w.1.1 y.stage refl w.1.0.stage
           where
-            low : (n : ℕ) → n ≤ 16 → n < 256
+            low : (n : ℕ) → n ≤ sites_max → n < 256
             low n p = omega (arith, p)
 
         at : (o : Option Instance) → instance_of s k ≡ o → x.work.changed ≡ []
@@ -314,7 +317,7 @@ module _ (c : Config) (trace : List Line) (f : Frame) (s : Store) (followed : Is
       zero closed (Some x) e = at (x.grant.ss == f.me) refl
         where
           at : (b : Bool) → (x.grant.ss == f.me) ≡ b → cond b (length x.work.changed) 0 ≡ 0
-          at true p = ap length (nothing_changed k x e (test_same x.grant.ss f.me p) closed)
+          at true p = ap length (nothing_changed k x e (equal x.grant.ss f.me p) closed)
           at false p = refl
 
       over : (amount_at same_serial serials_tell k (view_amounts g s.instances) ≡ changed_by f.me (instance_in t k)) ⊎ (AllByRecursion (Closed k) s.instances × (amount_at same_serial serials_tell k (view_amounts g s.instances) ≡ 0)) → amount_at same_serial serials_tell k (view_amounts g s.instances) ≡ changed_by f.me (instance_in t k)

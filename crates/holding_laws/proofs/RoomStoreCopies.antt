@@ -3,47 +3,49 @@ use Rattle.std.proofs.Common.{◌≡◌, ℕ, ◌+◌, ◌*◌, ◌/◌, ◌%◌
 use Rattle.std.proofs.lemmas.Nat.{div-add-mod'}
 use Rattle.std.specs.List.{AllByRecursion}
 use Rattle.std.specs.Option.{option_map}
+use Rattle.role_steps.proofs.of_plain_facts.Numbers.{equal_self, equal as test_same}
+use Rattle.role_steps.proofs.of_plain_facts.Options.{none_some, some_same}
+use Rattle.role_steps.proofs.of_plain_facts.Tests.{true_false}
 use Rattle.locus_ids.specs.declared.config.Config.{Config}
 use Rattle.locus_ids.specs.declared.ids.FileId.{FileId}
+use Rattle.locus_ids.specs.Sizes.{inode_span}
 use Rattle.file_content.specs.Pages.{pages_of}
 use Rattle.role_steps.specs.Own.{Every}
 use Rattle.role_steps.specs.Storage.{content_of, copy_key, copy_of, copy_pages}
 use Rattle.role_steps.specs.Tables.{row, total}
 use Rattle.role_steps.specs.Views.{Store, file_key}
 use Rattle.role_steps.specs.declared.copies.FileCopy.{FileCopy}
-use Rattle.the_run.specs.Worlds.{Line}
+use Rattle.tree_laws.specs.of_the_run.Worlds.{Line}
 use Rattle.tree_model.specs.Files.{HeldVersion, held_version}
 use Rattle.tree_laws.specs.Printed.{entries}
 use Rattle.tree_laws.specs.Stores.{Ascends, CopiesAreHeld, copy_for}
-use Rattle.tree_laws.proofs.Names.{some_is, test_own, test_same, true_false}
 use Rattle.order_laws.proofs.Standing.{At}
-use Rattle.holding_laws.proofs.Copies.{none_some}
 use Rattle.holding_laws.proofs.RoomSums.{Amount, AreSingle, amount_at, sum_of}
 use Rattle.holding_laws.proofs.RoomTreeCopies.{numbers_tell, same_number}
 
 -- ---- keys ----
 
 abbrev IsNarrow : FileCopy → Type 0
-IsNarrow x = x.file.ino < 65536
+IsNarrow x = x.file.ino < inode_span
 
 -- the files of 16 bits have keys of their own
-one_group : (a b i j : ℕ) → i < 65536 → j < 65536 → a * 65536 + i ≡ b * 65536 + j → a ≡ b
+one_group : (a b i j : ℕ) → i < inode_span → j < inode_span → a * inode_span + i ≡ b * inode_span + j → a ≡ b
 one_group a b i j p q e = omega (arith, p, q, e)
 
-one_ino : (a b i j : ℕ) → i < 65536 → j < 65536 → a * 65536 + i ≡ b * 65536 + j → i ≡ j
+one_ino : (a b i j : ℕ) → i < inode_span → j < inode_span → a * inode_span + i ≡ b * inode_span + j → i ≡ j
 one_ino a b i j p q e = omega (arith, p, q, e)
 
-key_test : (x : FileCopy) (g i : ℕ) → IsNarrow x → i < 65536 → (copy_key x == file_key (At g i)) ≡ ((x.file.group == g) && (x.file.ino == i))
+key_test : (x : FileCopy) (g i : ℕ) → IsNarrow x → i < inode_span → (copy_key x == file_key (At g i)) ≡ ((x.file.group == g) && (x.file.ino == i))
 key_test x g i narrow small = over (copy_key x == file_key (At g i)) (x.file.group == g) (x.file.ino == i) refl refl refl
   where
     equal : (m n : ℕ) → m ≡ n → (m == n) ≡ true
-    equal m n e = subst (λ (k : ℕ). (m == k) ≡ true) e (test_own m)
+    equal m n e = subst (λ (k : ℕ). (m == k) ≡ true) e (equal_self m)
 
     over : (k a b : Bool) → (copy_key x == file_key (At g i)) ≡ k → (x.file.group == g) ≡ a → (x.file.ino == i) ≡ b → k ≡ (a && b)
     over true true true e p q = refl
     over true true false e p q = absurd (true_false (sym (equal x.file.ino i (one_ino x.file.group g x.file.ino i narrow small (test_same (copy_key x) (file_key (At g i)) e))) ∙ q))
     over true false b e p q = absurd (true_false (sym (equal x.file.group g (one_group x.file.group g x.file.ino i narrow small (test_same (copy_key x) (file_key (At g i)) e))) ∙ p))
-    over false true true e p q = absurd (true_false (sym (equal (copy_key x) (file_key (At g i)) (ap (λ (n : ℕ). n * 65536 + x.file.ino) (test_same x.file.group g p) ∙ ap (λ (n : ℕ). g * 65536 + n) (test_same x.file.ino i q))) ∙ e))
+    over false true true e p q = absurd (true_false (sym (equal (copy_key x) (file_key (At g i)) (ap (λ (n : ℕ). n * inode_span + x.file.ino) (test_same x.file.group g p) ∙ ap (λ (n : ℕ). g * inode_span + n) (test_same x.file.ino i q))) ∙ e))
     over false true false e p q = refl
     over false false b e p q = refl
 
@@ -58,7 +60,7 @@ row_next k x xs b e = subst (λ (a : Bool). row copy_key k (x ∷ xs) ≡ cond a
 
 each_found : (xs : List FileCopy) → Ascends copy_key xs → AllByRecursion (λ (x : FileCopy). row copy_key (copy_key x) xs ≡ Some x) xs
 each_found [] k = tt
-each_found (y ∷ ys) k = (row_next (copy_key y) y ys true (test_own (copy_key y)), later ys k.0 (each_found ys k.1))
+each_found (y ∷ ys) k = (row_next (copy_key y) y ys true (equal_self (copy_key y)), later ys k.0 (each_found ys k.1))
   where
     above : (a b : ℕ) → a < b → (x : Bool) → (a == b) ≡ x → x ≡ false
     above a b p false e = refl
@@ -74,20 +76,20 @@ module _ (c : Config) (trace : List Line) (me : ℕ) (s : Store) (held : CopiesA
   narrow_one x found = over (held_version c (entries trace) me file) (held.are file small)
     where
       file : FileId
-      file = At (copy_key x / 65536) (copy_key x % 65536)
+      file = At (copy_key x / inode_span) (copy_key x % inode_span)
 
-      small : (copy_key x % 65536) < 65536
+      small : (copy_key x % inode_span) < inode_span
       small = omega arith
 
-      key_is : file_key (At (copy_key x / 65536) (copy_key x % 65536)) ≡ copy_key x
-      key_is = div-add-mod' (copy_key x) 65536
+      key_is : file_key (At (copy_key x / inode_span) (copy_key x % inode_span)) ≡ copy_key x
+      key_is = div-add-mod' (copy_key x) inode_span
 
-      there : copy_of s (At (copy_key x / 65536) (copy_key x % 65536)) ≡ Some x
+      there : copy_of s (At (copy_key x / inode_span) (copy_key x % inode_span)) ≡ Some x
       there = ap (λ (k : ℕ). row copy_key k s.copies) key_is ∙ found
 
-      over : (o : Option HeldVersion) → copy_of s (At (copy_key x / 65536) (copy_key x % 65536)) ≡ option_map (copy_for (At (copy_key x / 65536) (copy_key x % 65536))) o → IsNarrow x
+      over : (o : Option HeldVersion) → copy_of s (At (copy_key x / inode_span) (copy_key x % inode_span)) ≡ option_map (copy_for (At (copy_key x / inode_span) (copy_key x % inode_span))) o → IsNarrow x
       over None e = absurd (none_some x (sym e ∙ there))
-      over (Some v) e = subst (λ (f : FileId). f.ino < 65536) (ap (λ (y : FileCopy). y.file) (some_is (copy_for (At (copy_key x / 65536) (copy_key x % 65536)) v) x (sym e ∙ there))) small
+      over (Some v) e = subst (λ (f : FileId). f.ino < inode_span) (ap (λ (y : FileCopy). y.file) (some_same (copy_for (At (copy_key x / inode_span) (copy_key x % inode_span)) v) x (sym e ∙ there))) small
 
   all_narrow : (xs : List FileCopy) → AllByRecursion (λ (x : FileCopy). row copy_key (copy_key x) s.copies ≡ Some x) xs → AllByRecursion IsNarrow xs
   all_narrow [] all = tt
@@ -123,7 +125,7 @@ store_single g (x ∷ xs) k = at (x.file.group == g) refl (store_single g xs k.1
       where
         unlike : y.file.group ≡ g → (b : Bool) → (x.file.ino == y.file.ino) ≡ b → b ≡ false
         unlike p false q = refl
-        unlike p true q = absurd (clash (copy_key x) (copy_key y) all.0 (ap (λ (n : ℕ). n * 65536 + x.file.ino) (e ∙ sym p) ∙ ap (λ (n : ℕ). y.file.group * 65536 + n) (test_same x.file.ino y.file.ino q)))
+        unlike p true q = absurd (clash (copy_key x) (copy_key y) all.0 (ap (λ (n : ℕ). n * inode_span + x.file.ino) (e ∙ sym p) ∙ ap (λ (n : ℕ). y.file.group * inode_span + n) (test_same x.file.ino y.file.ino q)))
           where
             clash : (a b : ℕ) → a < b → a ≡ b → ⊥
             clash a b p q = omega (arith, p, q)
@@ -137,7 +139,7 @@ store_single g (x ∷ xs) k = at (x.file.group == g) refl (store_single g xs k.1
     at false e later = later
 
 -- a number of 16 bits has the pages of its copy
-pub store_at_key : (g i : ℕ) (xs : List FileCopy) → AllByRecursion IsNarrow xs → i < 65536 → amount_at same_number numbers_tell i (store_amounts g xs) ≡ pages_of (length (content_of (row copy_key (file_key (At g i)) xs)))
+pub store_at_key : (g i : ℕ) (xs : List FileCopy) → AllByRecursion IsNarrow xs → i < inode_span → amount_at same_number numbers_tell i (store_amounts g xs) ≡ pages_of (length (content_of (row copy_key (file_key (At g i)) xs)))
 store_at_key g i [] narrow small = refl
 store_at_key g i (x ∷ xs) narrow small = at (x.file.group == g) refl (x.file.ino == i) refl (store_at_key g i xs narrow.1 small)
   where
@@ -151,11 +153,11 @@ store_at_key g i (x ∷ xs) narrow small = at (x.file.group == g) refl (x.file.i
     at false p b q later = later ∙ sym (abbreviated false (key_test x g i narrow.0 small ∙ ap (λ (y : Bool). y && (x.file.ino == i)) p))
 
 -- a greater one has none
-pub none_wide : (g i : ℕ) (xs : List FileCopy) → AllByRecursion IsNarrow xs → (i < 65536 → ⊥) → amount_at same_number numbers_tell i (store_amounts g xs) ≡ 0
+pub none_wide : (g i : ℕ) (xs : List FileCopy) → AllByRecursion IsNarrow xs → (i < inode_span → ⊥) → amount_at same_number numbers_tell i (store_amounts g xs) ≡ 0
 none_wide g i [] narrow wide = refl
 none_wide g i (x ∷ xs) narrow wide = at (x.file.group == g) (x.file.ino == i) refl (none_wide g i xs narrow.1 wide)
   where
     at : (a b : Bool) → (x.file.ino == i) ≡ b → amount_at same_number numbers_tell i (store_amounts g xs) ≡ 0 → amount_at same_number numbers_tell i (cond a (record { key = x.file.ino; amount = pages_of (length x.content) } ∷ store_amounts g xs) (store_amounts g xs)) ≡ 0
-    at true true e later = absurd (wide (subst (λ (n : ℕ). n < 65536) (test_same x.file.ino i e) narrow.0))
+    at true true e later = absurd (wide (subst (λ (n : ℕ). n < inode_span) (test_same x.file.ino i e) narrow.0))
     at true false e later = ap (λ (y : Bool). cond y (pages_of (length x.content)) (amount_at same_number numbers_tell i (store_amounts g xs))) e ∙ later
     at false b e later = later

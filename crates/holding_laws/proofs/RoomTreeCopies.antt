@@ -3,6 +3,9 @@ use Rattle.std.proofs.Common.{◌≡◌, ℕ, ◌+◌, ◌==◌, Bool, true, fal
 use Rattle.std.proofs.lemmas.List.Sums.{sum_by-cons}
 use Rattle.std.specs.List.{AllByRecursion, sum_by}
 use Rattle.std.specs.Option.{is_none}
+use Rattle.role_steps.proofs.of_plain_facts.Numbers.{equal, equal_self}
+use Rattle.role_steps.proofs.of_plain_facts.Options.{none_some}
+use Rattle.role_steps.proofs.of_plain_facts.Tests.{and_first, and_second, and_true, true_false}
 use Rattle.locus_ids.specs.declared.config.Config.{Config}
 use Rattle.locus_ids.specs.declared.ids.EpochId.{EpochId}
 use Rattle.locus_ids.specs.declared.ids.FileId.{FileId}
@@ -20,11 +23,8 @@ use Rattle.tree_model.specs.Packs.{has_pack}
 use Rattle.tree_model.specs.State.{TreeState, copy_of, held_of, is_copy_of, is_granted_here, is_make, with_copy}
 use Rattle.tree_model.specs.Tree.{acted, copy_now, entered, grant_of, granted, has_now, joined, left, next, released, tree_of, with_root, without_make}
 use Rattle.tree_model.specs.Working.{pages_of_copy}
-use Rattle.tree_laws.proofs.Names.{test_own, test_same, true_false}
-use Rattle.order_laws.proofs.Alone.{first_of, second_of}
 use Rattle.order_laws.proofs.Lists.{all_mapped, all_more, all_put, all_then}
 use Rattle.order_laws.proofs.Standing.{At}
-use Rattle.holding_laws.proofs.Copies.{none_some}
 use Rattle.holding_laws.proofs.RoomSums.{Amount, AreSingle, TellsKeys, amount_at, sum_of}
 
 -- ---- one copy for each site and inode ----
@@ -36,24 +36,20 @@ abbrev pub CopiesApart : List HeldCopy → Type 0
 CopiesApart [] = Unit {0}
 CopiesApart (x ∷ xs) = AllByRecursion (IsOther x) xs × CopiesApart xs
 
-both : (a b : Bool) → a ≡ true → b ≡ true → a && b ≡ true
-both true b p q = q
-both false b p q = absurd (true_false (sym p))
-
 back : (m n : ℕ) → (m == n) ≡ true → (n == m) ≡ true
-back m n e = subst (λ (k : ℕ). (k == m) ≡ true) (test_same m n e) (test_own m)
+back m n e = subst (λ (k : ℕ). (k == m) ≡ true) (equal m n e) (equal_self m)
 
 -- the other way round
 turned : (x y : HeldCopy) → IsOther x y → IsOther y x
 turned x y k = over (is_copy_of y.site y.ino x) refl
   where
     over : (b : Bool) → is_copy_of y.site y.ino x ≡ b → b ≡ false
-    over true e = absurd (true_false (sym (both (y.site == x.site) (y.ino == x.ino) (back x.site y.site (first_of (x.site == y.site) _ e)) (back x.ino y.ino (second_of (x.site == y.site) _ e))) ∙ k))
+    over true e = absurd (true_false (sym (and_true (y.site == x.site) (y.ino == x.ino) (back x.site y.site (and_first (x.site == y.site) _ e)) (back x.ino y.ino (and_second (x.site == y.site) _ e))) ∙ k))
     over false e = refl
 
 -- of the same site and inode
 same_place : (x new y : HeldCopy) → is_copy_of new.site new.ino x ≡ true → IsOther x y → IsOther new y
-same_place x new y e k = subst (λ (n : ℕ). (y.site == n) && (y.ino == new.ino) ≡ false) (test_same x.site new.site (first_of (x.site == new.site) _ e)) (subst (λ (n : ℕ). (y.site == x.site) && (y.ino == n) ≡ false) (test_same x.ino new.ino (second_of (x.site == new.site) _ e)) k)
+same_place x new y e k = subst (λ (n : ℕ). (y.site == n) && (y.ino == new.ino) ≡ false) (equal x.site new.site (and_first (x.site == new.site) _ e)) (subst (λ (n : ℕ). (y.site == x.site) && (y.ino == n) ≡ false) (equal x.ino new.ino (and_second (x.site == new.site) _ e)) k)
 
 put_apart : (new : HeldCopy) (cs : List HeldCopy) → CopiesApart cs → CopiesApart (with_copy new cs)
 put_apart new [] k = (tt, tt)
@@ -126,7 +122,7 @@ abbrev pub same_number : ℕ → ℕ → Bool
 same_number a b = a == b
 
 pub numbers_tell : TellsKeys same_number
-numbers_tell = record { is = λ a b e. test_same a b e; own = λ a. test_own a }
+numbers_tell = record { is = λ a b e. equal a b e; own = λ a. equal_self a }
 
 -- the pages that the site has of each inode
 abbrev pub held_amounts : List Version → ℕ → ℕ → List HeldCopy → List (Amount ℕ)
@@ -152,7 +148,7 @@ held_single h g site (x ∷ xs) k = at (x.site == site) refl (held_single h g si
       where
         unlike : (y.site == site) ≡ true → (b : Bool) → (x.ino == y.ino) ≡ b → b ≡ false
         unlike p false q = refl
-        unlike p true q = absurd (true_false (sym (both (y.site == x.site) (y.ino == x.ino) (subst (λ (n : ℕ). (y.site == n) ≡ true) (sym (test_same x.site site e)) p) (back x.ino y.ino q)) ∙ all.0))
+        unlike p true q = absurd (true_false (sym (and_true (y.site == x.site) (y.ino == x.ino) (subst (λ (n : ℕ). (y.site == n) ≡ true) (sym (equal x.site site e)) p) (back x.ino y.ino q)) ∙ all.0))
 
         over : (b : Bool) → (y.site == site) ≡ b → AllByRecursion (λ (q : Amount ℕ). (x.ino == q.key) ≡ false) (held_amounts h g site ys) → AllByRecursion (λ (q : Amount ℕ). (x.ino == q.key) ≡ false) (cond b (record { key = y.ino; amount = pages_of_copy h g y } ∷ held_amounts h g site ys) (held_amounts h g site ys))
         over true p later = (unlike p (x.ino == y.ino) refl, later)
@@ -169,6 +165,6 @@ held_at_key h g site i (x ∷ xs) = at (x.site == site) (x.ino == i) refl (held_
   where
     at : (a b : Bool) → (x.ino == i) ≡ b → amount_at same_number numbers_tell i (held_amounts h g site xs) ≡ pages_of (length (stamped_content h (At g i) (held_of (copy_of xs site i)))) →
         amount_at same_number numbers_tell i (cond a (record { key = x.ino; amount = pages_of_copy h g x } ∷ held_amounts h g site xs) (held_amounts h g site xs)) ≡ pages_of (length (stamped_content h (At g i) (held_of (cond (a && b) (Some x) (copy_of xs site i)))))
-    at true true e later = ap (λ (q : Bool). cond q (pages_of_copy h g x) (amount_at same_number numbers_tell i (held_amounts h g site xs))) e ∙ ap (λ (n : ℕ). pages_of (length (stamped_content h (At g n) x.held))) (test_same x.ino i e)
+    at true true e later = ap (λ (q : Bool). cond q (pages_of_copy h g x) (amount_at same_number numbers_tell i (held_amounts h g site xs))) e ∙ ap (λ (n : ℕ). pages_of (length (stamped_content h (At g n) x.held))) (equal x.ino i e)
     at true false e later = ap (λ (q : Bool). cond q (pages_of_copy h g x) (amount_at same_number numbers_tell i (held_amounts h g site xs))) e ∙ later
     at false b e later = later

@@ -2,6 +2,9 @@
 use Rattle.std.proofs.Common.{◌≡◌, ℕ, ◌==◌, Bool, true, false, not, ◌&&◌, ◌||◌, cond, List, [], ◌∷◌, ◌++◌, filter, Option, Some, None, refl, sym, ap, ◌∙◌, subst}
 use Rattle.std.specs.List.{AllByRecursion, list_any}
 use Rattle.std.specs.Option.{is_none, option_map}
+use Rattle.role_steps.proofs.of_plain_facts.Numbers.{equal, equal_self}
+use Rattle.role_steps.proofs.of_plain_facts.Options.{none_some}
+use Rattle.role_steps.proofs.of_plain_facts.Tests.{and_first, and_second, true_false}
 use Rattle.locus_ids.specs.declared.config.Config.{Config}
 use Rattle.locus_ids.specs.declared.ids.CallId.{CallId}
 use Rattle.locus_ids.specs.declared.ids.EpochId.{EpochId}
@@ -32,12 +35,12 @@ use Rattle.lawful_trace.specs.Lawful.{MayCome}
 use Rattle.lawful_trace.specs.SiteRows.{MayJoin}
 use Rattle.lawful_trace.specs.TreeRows.{MayAdopt, MayCommit, MayGrant, is_stored_at, is_writing}
 use Rattle.tree_laws.specs.Following.{RowsAreLawful}
-use Rattle.tree_laws.proofs.Names.{same_epoch_eq, test_own, test_same, true_false}
+use Rattle.tree_laws.proofs.Names.{same_epoch_eq}
 use Rattle.tree_laws.proofs.Owing.{inside_is}
-use Rattle.order_laws.proofs.Alone.{first_of, rows_apart, second_of, tree_is, tree_named}
+use Rattle.order_laws.proofs.Alone.{rows_apart, tree_is, tree_named}
 use Rattle.order_laws.proofs.Lists.{all_more, all_then, all_without}
 use Rattle.order_laws.proofs.Standing.{acted_keeps, same_file_eq, same_stamp_eq}
-use Rattle.holding_laws.proofs.Copies.{copy_after, copy_next, join_other, joined_more, none_some}
+use Rattle.holding_laws.proofs.Copies.{copy_after, copy_next, join_other, joined_more}
 use Rattle.holding_laws.proofs.Turning.{acted_last, all_passing, all_turned}
 
 -- ---- where an instance is granted ----
@@ -53,17 +56,17 @@ none_is None k = refl
 none_is (Some a) k = absurd (true_false (sym k))
 
 placed_on : (h : List Version) (t : TreeState) (call : CallId) (m : Mode) (f : FileId) (stamp : Option Stamp) (ss : ℕ) → is_placed h t call m f stamp ss ≡ true → stamp ≡ held_at t ss f.ino
-placed_on h t call mode.Read f stamp ss k = sym (same_version_is (held_at t ss f.ino) stamp (second_of (is_only (kept_of h t f) stamp) _ k))
-placed_on h t call mode.Write f stamp ss k = sym (same_version_is (held_at t ss f.ino) stamp (second_of (is_only (kept_of h t f) stamp) _ k))
-placed_on h t call mode.Resolve f stamp ss k = sym (same_version_is (held_at t ss f.ino) stamp (second_of (is_site (resolving_site t call) ss) _ k))
-placed_on h t call mode.Mend f stamp ss k = sym (same_version_is (held_at t ss f.ino) stamp (second_of (is_site (sync_site t.config t.group t.members) ss) _ k))
+placed_on h t call mode.Read f stamp ss k = sym (same_version_is (held_at t ss f.ino) stamp (and_second (is_only (kept_of h t f) stamp) _ k))
+placed_on h t call mode.Write f stamp ss k = sym (same_version_is (held_at t ss f.ino) stamp (and_second (is_only (kept_of h t f) stamp) _ k))
+placed_on h t call mode.Resolve f stamp ss k = sym (same_version_is (held_at t ss f.ino) stamp (and_second (is_site (resolving_site t call) ss) _ k))
+placed_on h t call mode.Mend f stamp ss k = sym (same_version_is (held_at t ss f.ino) stamp (and_second (is_site (sync_site t.config t.group t.members) ss) _ k))
 placed_on h t call mode.Make f stamp ss k =
-    none_is stamp (second_of (is_new_file t call f ss) (is_none stamp) k)
-    ∙ sym (none_is (held_at t ss f.ino) (first_of (is_none (held_at t ss f.ino)) (not (is_taken t f)) (second_of (is_given_by ss f.ino) _ (second_of (is_site (making_site t call) ss) _ (first_of (is_new_file t call f ss) (is_none stamp) k)))))
+    none_is stamp (and_second (is_new_file t call f ss) (is_none stamp) k)
+    ∙ sym (none_is (held_at t ss f.ino) (and_first (is_none (held_at t ss f.ino)) (not (is_taken t f)) (and_second (is_given_by ss f.ino) _ (and_second (is_site (making_site t call) ss) _ (and_first (is_new_file t call f ss) (is_none stamp) k)))))
 
 -- what is granted is placed as the tree says
 pub granted_placed : (h : List Version) (t : TreeState) (call : CallId) (i : Serial) (m : Mode) (f : FileId) (stamp : Option Stamp) (ss : ℕ) → gives_grant h t call i m f stamp ss ≡ true → is_placed h t call m f stamp ss ≡ true
-granted_placed h t call i m f stamp ss k = second_of _ _ (second_of _ _ (second_of (is_none (open_refusal h t m call f)) _ (second_of t.started _ k)))
+granted_placed h t call i m f stamp ss k = and_second _ _ (and_second _ _ (and_second (is_none (open_refusal h t m call f)) _ (and_second t.started _ k)))
 
 pub granted_on : (h : List Version) (t : TreeState) (call : CallId) (i : Serial) (m : Mode) (f : FileId) (stamp : Option Stamp) (ss : ℕ) → gives_grant h t call i m f stamp ss ≡ true → stamp ≡ held_at t ss f.ino
 granted_on h t call i m f stamp ss k = placed_on h t call m f stamp ss (granted_placed h t call i m f stamp ss k)
@@ -92,7 +95,7 @@ held_written t f z stamp s i = over (is_inside t z) (f.group == t.group) (z == s
     over true true true false k l = refl
     over true true false b k l = refl
     over true false d b k l = refl
-    over false true true true k l = ap (λ (n : ℕ). held_at t n f.ino) (test_same z s k) ∙ ap (λ (n : ℕ). held_at t s n) (test_same f.ino i l)
+    over false true true true k l = ap (λ (n : ℕ). held_at t n f.ino) (equal z s k) ∙ ap (λ (n : ℕ). held_at t s n) (equal f.ino i l)
     over false true true false k l = refl
     over false true false b k l = refl
     over false false d b k l = refl
@@ -146,7 +149,7 @@ module _ (c : Config) (e : EpochId) (g : ℕ) (before : Trace) (rows : RowsAreLa
 
     -- it is the one writer of its file
     one : is_inside t z ≡ true → (f.group == t.group) ≡ true → filter (is_writing f) t.instances ≡ may.instance ∷ []
-    one inside same = subst (λ (u : TreeState). filter (is_writing f) u.instances ≡ may.instance ∷ []) (tree_is c e may.epoch g f.group before (epoch_named z may.epoch inside may.inside) (test_same f.group t.group same ∙ named.1)) may.one
+    one inside same = subst (λ (u : TreeState). filter (is_writing f) u.instances ≡ may.instance ∷ []) (tree_is c e may.epoch g f.group before (epoch_named z may.epoch inside may.inside) (equal f.group t.group same ∙ named.1)) may.one
 
     other_ino : (x : Instance) → (f.group == t.group) ≡ true → x.grant.file.group ≡ g → same_file x.grant.file f ≡ false → (b : Bool) → (f.ino == x.grant.file.ino) ≡ b → b ≡ false
     other_ino x same mine unlike false k = refl
@@ -157,10 +160,10 @@ module _ (c : Config) (e : EpochId) (g : ℕ) (before : Trace) (rows : RowsAreLa
         both false b p q = absurd (true_false (sym p))
 
         group_is : (x.grant.file.group == f.group) ≡ true
-        group_is = subst (λ (n : ℕ). (x.grant.file.group == n) ≡ true) (mine ∙ (sym named.1 ∙ sym (test_same f.group t.group same))) (test_own x.grant.file.group)
+        group_is = subst (λ (n : ℕ). (x.grant.file.group == n) ≡ true) (mine ∙ (sym named.1 ∙ sym (equal f.group t.group same))) (equal_self x.grant.file.group)
 
         ino_is : (x.grant.file.ino == f.ino) ≡ true
-        ino_is = subst (λ (n : ℕ). (n == f.ino) ≡ true) (test_same f.ino x.grant.file.ino k) (test_own f.ino)
+        ino_is = subst (λ (n : ℕ). (n == f.ino) ≡ true) (equal f.ino x.grant.file.ino k) (equal_self f.ino)
 
     keeps : (inside : is_inside t z ≡ true) (same : (f.group == t.group) ≡ true) (x : Instance) → same_file x.grant.file f ≡ false → Seat e g before t x → After r x
     keeps inside same x unlike k = moves r x (within inside same x.grant.ss x.grant.file.ino
@@ -177,7 +180,7 @@ module _ (c : Config) (e : EpochId) (g : ℕ) (before : Trace) (rows : RowsAreLa
       joined = k.joined;
       last_is = sym (within inside same x.grant.ss x.grant.file.ino ∙ ap (λ (b : Bool). cond b (Some stamp) (held_at t x.grant.ss x.grant.file.ino)) here);
       made = λ s q. q;
-      reads = λ q. absurd (true_false (sym q ∙ un (is_read x.grant.mode) (second_of (x.grant.ss == z) _ (second_of (same_file x.grant.file f) _ writes))));
+      reads = λ q. absurd (true_false (sym q ∙ un (is_read x.grant.mode) (and_second (x.grant.ss == z) _ (and_second (same_file x.grant.file f) _ writes))));
     }
       where
         un : (b : Bool) → not b ≡ true → b ≡ false
@@ -190,14 +193,14 @@ module _ (c : Config) (e : EpochId) (g : ℕ) (before : Trace) (rows : RowsAreLa
 
         here : (z == x.grant.ss) && (f.ino == x.grant.file.ino) ≡ true
         here = both (z == x.grant.ss) (f.ino == x.grant.file.ino)
-            (subst (λ (n : ℕ). (z == n) ≡ true) (sym (test_same x.grant.ss z (first_of (x.grant.ss == z) _ (second_of (same_file x.grant.file f) _ writes)))) (test_own z))
-            (subst (λ (y : FileId). (f.ino == y.ino) ≡ true) (sym (same_file_eq x.grant.file f (first_of (same_file x.grant.file f) _ writes))) (test_own f.ino))
+            (subst (λ (n : ℕ). (z == n) ≡ true) (sym (equal x.grant.ss z (and_first (x.grant.ss == z) _ (and_second (same_file x.grant.file f) _ writes)))) (equal_self z))
+            (subst (λ (y : FileId). (f.ino == y.ino) ≡ true) (sym (same_file_eq x.grant.file f (and_first (same_file x.grant.file f) _ writes))) (equal_self f.ino))
 
     commit_seats : AllByRecursion (After r) (cond (is_inside t z) (change_first (is_writer f z) (once_committed stamp) t.instances) t.instances)
     commit_seats = over (is_inside t z) refl (f.group == t.group) refl
       where
         strange : (f.group == t.group) ≡ false → (x : Instance) → is_writer f z x ≡ true → Seat e g before t x → After r (once_committed stamp x)
-        strange unlike x writes k = absurd (true_false (sym (subst (λ (n : ℕ). (f.group == n) ≡ true) (ap (λ (y : FileId). y.group) (sym (same_file_eq x.grant.file f (first_of (same_file x.grant.file f) _ writes))) ∙ (k.group_is ∙ sym named.1)) (test_own f.group)) ∙ unlike))
+        strange unlike x writes k = absurd (true_false (sym (subst (λ (n : ℕ). (f.group == n) ≡ true) (ap (λ (y : FileId). y.group) (sym (same_file_eq x.grant.file f (and_first (same_file x.grant.file f) _ writes))) ∙ (k.group_is ∙ sym named.1)) (equal_self f.group)) ∙ unlike))
 
         over : (n : Bool) → is_inside t z ≡ n → (a : Bool) → (f.group == t.group) ≡ a → AllByRecursion (After r) (cond n (change_first (is_writer f z) (once_committed stamp) t.instances) t.instances)
         over true inside true same = all_turned f z may.instance (once_committed stamp) (Seat e g before t) (After r) (keeps inside same) (turns inside same) may.at t.instances (rows_apart c before rows e g).alone (one inside same) old
@@ -224,9 +227,9 @@ module _ (c : Config) (e : EpochId) (g : ℕ) (before : Trace) (rows : RowsAreLa
 
         hit : (same : (f.group == t.group) ≡ true) → (z == x.grant.ss) ≡ true → (f.ino == x.grant.file.ino) ≡ true → is_stored_at z f x ≡ true
         hit same at ino = both (x.grant.ss == z) (x.grant.file.group == f.group) (x.grant.file.ino == f.ino)
-            (subst (λ (n : ℕ). (n == z) ≡ true) (test_same z x.grant.ss at) (test_own z))
-            (subst (λ (n : ℕ). (x.grant.file.group == n) ≡ true) (all.0.group_is ∙ (sym named.1 ∙ sym (test_same f.group t.group same))) (test_own x.grant.file.group))
-            (subst (λ (n : ℕ). (n == f.ino) ≡ true) (test_same f.ino x.grant.file.ino ino) (test_own f.ino))
+            (subst (λ (n : ℕ). (n == z) ≡ true) (equal z x.grant.ss at) (equal_self z))
+            (subst (λ (n : ℕ). (x.grant.file.group == n) ≡ true) (all.0.group_is ∙ (sym named.1 ∙ sym (equal f.group t.group same))) (equal_self x.grant.file.group))
+            (subst (λ (n : ℕ). (n == f.ino) ≡ true) (equal f.ino x.grant.file.ino ino) (equal_self f.ino))
           where
             both : (a b d : Bool) → a ≡ true → b ≡ true → d ≡ true → a && (b && d) ≡ true
             both true true d p q s = s
@@ -246,7 +249,7 @@ module _ (c : Config) (e : EpochId) (g : ℕ) (before : Trace) (rows : RowsAreLa
         over false inside a same d at b ino = refl
 
     adopt_seats : AllByRecursion (After adoption) t.instances
-    adopt_seats = adopts t.instances (λ inside same. subst (λ (u : TreeState). list_any (is_stored_at z f) u.instances ≡ false) (tree_is c e may.epoch g f.group before (epoch_named z may.epoch inside may.inside) (test_same f.group t.group same ∙ named.1)) may.shut) old
+    adopt_seats = adopts t.instances (λ inside same. subst (λ (u : TreeState). list_any (is_stored_at z f) u.instances ≡ false) (tree_is c e may.epoch g f.group before (epoch_named z may.epoch inside may.inside) (equal f.group t.group same ∙ named.1)) may.shut) old
 
   -- ---- joins and grants ----
 
@@ -260,7 +263,7 @@ module _ (c : Config) (e : EpochId) (g : ℕ) (before : Trace) (rows : RowsAreLa
       -- who has joined is another one
       apart : (x : Instance) → Seat e g before t x → same_epoch d t.epoch ≡ true → (b : Bool) → (z == x.grant.ss) ≡ b → b ≡ false
       apart x k q false p = refl
-      apart x k q true p = absurd (true_false (sym k.joined ∙ (ap (λ (n : ℕ). has_joined before n e) (sym (test_same z x.grant.ss p)) ∙ (ap (λ (y : EpochId). has_joined before z y) (sym (same_epoch_eq d t.epoch q ∙ named.0)) ∙ may.new))))
+      apart x k q true p = absurd (true_false (sym k.joined ∙ (ap (λ (n : ℕ). has_joined before n e) (sym (equal z x.grant.ss p)) ∙ (ap (λ (y : EpochId). has_joined before z y) (sym (same_epoch_eq d t.epoch q ∙ named.0)) ∙ may.new))))
 
       over : (x : Instance) → Seat e g before t x → (b : Bool) → same_epoch d t.epoch ≡ b → held_of (cond b (option_map (entered z) (copy_of (with_root t z) x.grant.ss x.grant.file.ino)) (copy_of t.copies x.grant.ss x.grant.file.ino)) ≡ held_at t x.grant.ss x.grant.file.ino
       over x k true q = ap held_of (join_other t z x.grant.ss x.grant.file.ino (apart x k q (z == x.grant.ss) refl))
@@ -273,11 +276,11 @@ module _ (c : Config) (e : EpochId) (g : ℕ) (before : Trace) (rows : RowsAreLa
       moved = all_then (Seat e g before t) (After (says.Grant d call request i m f stamp ss)) (λ x k. moves (says.Grant d call request i m f stamp ss) x (held_next (says.Grant d call request i m f stamp ss) x.grant.ss x.grant.file.ino) k) t.instances old
 
       given : same_epoch d t.epoch ≡ true → (f.group == t.group) ≡ true → gives_grant h t call i m f stamp ss ≡ true
-      given q p = subst (λ (u : TreeState). gives_grant h u call i m f stamp ss ≡ true) (tree_is c e d g f.group before (same_epoch_eq d t.epoch q ∙ named.0) (test_same f.group t.group p ∙ named.1)) may.gives
+      given q p = subst (λ (u : TreeState). gives_grant h u call i m f stamp ss ≡ true) (tree_is c e d g f.group before (same_epoch_eq d t.epoch q ∙ named.0) (equal f.group t.group p ∙ named.1)) may.gives
 
       new : same_epoch d t.epoch ≡ true → (f.group == t.group) ≡ true → After (says.Grant d call request i m f stamp ss) (opened h (grant_of t call i m f ss) stamp)
       new q p = record {
-        group_is = test_same f.group t.group p ∙ named.1;
+        group_is = equal f.group t.group p ∙ named.1;
         joined = subst (λ (y : EpochId). has_joined before ss y ≡ true) (same_epoch_eq d t.epoch q ∙ named.0) may.there;
         last_is = granted_on h t call i m f stamp ss (given q p) ∙ sym (held_next (says.Grant d call request i m f stamp ss) ss f.ino);
         made = λ s k. absurd (none_some s k);

@@ -2,6 +2,8 @@
 use Rattle.std.proofs.Common.{◌≡◌, ℕ, ◌==◌, Bool, true, false, not, ◌&&◌, cond, List, [], ◌∷◌, filter, Option, Some, None, refl, sym, ap, ◌∙◌, subst, arith}
 use Rattle.std.proofs.lemmas.Bool.Decides.{nat_tests}
 use Rattle.std.specs.List.{AllByRecursion}
+use Rattle.role_steps.proofs.of_plain_facts.Numbers.{equal_self}
+use Rattle.role_steps.proofs.of_plain_facts.Tests.{and_first, and_second, true_false}
 use Rattle.locus_ids.specs.declared.ids.FileId.{FileId}
 use Rattle.commit_graph.specs.declared.history.Version.{Version}
 use Rattle.commit_graph.specs.Grants.{is_read}
@@ -17,9 +19,7 @@ use Rattle.tree_model.specs.Lists.{change_first}
 use Rattle.tree_model.specs.State.{TreeState, is_writer}
 use Rattle.tree_model.specs.Working.{effect_on, operated_by, work_after}
 use Rattle.lawful_trace.specs.TreeRows.{is_writing}
-use Rattle.tree_laws.proofs.Names.{test_own, true_false}
 use Rattle.order_laws.specs.Alone.{AreAlone, MayStandBy}
-use Rattle.order_laws.proofs.Alone.{first_of, second_of}
 use Rattle.order_laws.proofs.Lists.{all_then}
 use Rattle.order_laws.proofs.Standing.{same_file_eq}
 
@@ -37,7 +37,7 @@ all_passing P Q q change keep turn (x ∷ xs) all = at (q x) refl (all_passing P
 -- the one that writes a file is changed, and no other of the file is open
 module _ (f : FileId) (z : ℕ) (y : Instance) (change : Instance → Instance) (P Q : Instance → Type 0) (keep : (x : Instance) → same_file x.grant.file f ≡ false → P x → Q x) (turn : (x : Instance) → is_writer f z x ≡ true → P x → Q (change x)) (at_site : y.grant.ss ≡ z) where
   writes_of : (x : Instance) → is_writer f z x ≡ true → (same_file x.grant.file f ≡ true) × (is_read x.grant.mode ≡ false)
-  writes_of x e = (first_of (same_file x.grant.file f) _ e, un (is_read x.grant.mode) (second_of (x.grant.ss == z) _ (second_of (same_file x.grant.file f) _ e)))
+  writes_of x e = (and_first (same_file x.grant.file f) _ e, un (is_read x.grant.mode) (and_second (x.grant.ss == z) _ (and_second (same_file x.grant.file f) _ e)))
     where
       un : (b : Bool) → not b ≡ true → b ≡ false
       un true e = absurd (true_false (sym e))
@@ -58,21 +58,6 @@ module _ (f : FileId) (z : ℕ) (y : Instance) (change : Instance → Instance) 
   rest_apart x [] e by all = tt
   rest_apart x (w ∷ ws) e by all = (keep w (beside x w e by.0 (same_file w.grant.file f) refl) all.0, rest_apart x ws e by.1 all.1)
 
-  -- the one of a filter is of the list
-  one_passes : (xs : List Instance) → filter (is_writing f) xs ≡ y ∷ [] → is_writing f y ≡ true
-  one_passes [] e = absurd (empty e)
-    where
-      empty : ◌≡◌ {A = List Instance} [] (y ∷ []) → ⊥
-      empty e = cc
-  one_passes (x ∷ xs) e = at (is_writing f x) refl e (one_passes xs)
-    where
-      head : ◌≡◌ {A = List Instance} (x ∷ filter (is_writing f) xs) (y ∷ []) → x ≡ y
-      head e = cc
-
-      at : (b : Bool) → is_writing f x ≡ b → cond b (x ∷ filter (is_writing f) xs) (filter (is_writing f) xs) ≡ y ∷ [] → (filter (is_writing f) xs ≡ y ∷ [] → is_writing f y ≡ true) → is_writing f y ≡ true
-      at true k e later = subst (λ (w : Instance). is_writing f w ≡ true) (head e) k
-      at false k e later = later e
-
   -- what stands by the one isn't of the file, if it doesn't write it
   stands_off : (x : Instance) (xs : List Instance) → AllByRecursion (MayStandBy x) xs → filter (is_writing f) xs ≡ y ∷ [] → same_file x.grant.file f ≡ true → ⊥
   stands_off x [] by e same = empty e
@@ -89,8 +74,8 @@ module _ (f : FileId) (z : ℕ) (y : Instance) (change : Instance → Instance) 
       un false e k = true_false (sym k)
 
       at : (b : Bool) → is_writing f w ≡ b → cond b (w ∷ filter (is_writing f) ws) (filter (is_writing f) ws) ≡ y ∷ [] → (filter (is_writing f) ws ≡ y ∷ [] → ⊥) → ⊥
-      at true k e later = un (is_read w.grant.mode) (second_of (same_file w.grant.file f) _ k)
-          (by.0 (subst (λ (g : FileId). same_file x.grant.file g ≡ true) (same_file_eq x.grant.file f same ∙ sym (same_file_eq w.grant.file f (first_of (same_file w.grant.file f) _ k))) (own x.grant.file))).1
+      at true k e later = un (is_read w.grant.mode) (and_second (same_file w.grant.file f) _ k)
+          (by.0 (subst (λ (g : FileId). same_file x.grant.file g ≡ true) (same_file_eq x.grant.file f same ∙ sym (same_file_eq w.grant.file f (and_first (same_file w.grant.file f) _ k))) (own x.grant.file))).1
       at false k e later = later e
 
   pub all_turned : (xs : List Instance) → AreAlone xs → filter (is_writing f) xs ≡ y ∷ [] → AllByRecursion P xs → AllByRecursion Q (change_first (is_writer f z) change xs)
@@ -102,7 +87,7 @@ module _ (f : FileId) (z : ℕ) (y : Instance) (change : Instance → Instance) 
 
       -- who writes the file writes it at the site
       writes : is_writing f x ≡ true → x ≡ y → is_writer f z x ≡ true
-      writes k is = both (same_file x.grant.file f) (x.grant.ss == z) (not (is_read x.grant.mode)) k (subst (λ (n : ℕ). (x.grant.ss == n) ≡ true) (ap (λ (w : Instance). w.grant.ss) is ∙ at_site) (test_own x.grant.ss))
+      writes k is = both (same_file x.grant.file f) (x.grant.ss == z) (not (is_read x.grant.mode)) k (subst (λ (n : ℕ). (x.grant.ss == n) ≡ true) (ap (λ (w : Instance). w.grant.ss) is ∙ at_site) (equal_self x.grant.ss))
         where
           both : (a b d : Bool) → a && d ≡ true → b ≡ true → a && (b && d) ≡ true
           both true true d k l = k

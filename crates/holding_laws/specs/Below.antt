@@ -2,9 +2,9 @@
 use Rattle.std.specs.Prelude.{List}
 use Rattle.locus_ids.specs.declared.config.Config.{Config}
 use Rattle.role_steps.specs.Own.{Every}
-use Rattle.the_run.specs.Worlds.{Line}
-use Rattle.vector_laws.specs.Written.{past_of}
-use Rattle.vector_laws.specs.HistoryCommits.{StampsAreOnce}
+use Rattle.tree_laws.specs.of_the_run.Worlds.{Line}
+use Rattle.pack_laws.specs.of_vector_laws.Written.{past_of}
+use Rattle.pack_laws.specs.of_vector_laws.HistoryCommits.{StampsAreOnce}
 use Rattle.pack_laws.specs.Packs.{ToldPacked}
 use Rattle.order_laws.specs.Joining.{PacksAreOfSites}
 

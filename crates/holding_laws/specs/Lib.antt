@@ -5,3 +5,4 @@ pub mod Held
 pub mod OneVersionNumbers
 pub mod MendWorking
 pub mod RoomRests
+pub use Rattle.order_laws.specs as of_order_laws

@@ -5,7 +5,8 @@ use Rattle.locus_ids.specs.declared.ids.CallId.{CallId}
 use Rattle.locus_ids.specs.declared.ids.EpochId.{EpochId}
 use Rattle.locus_ids.specs.declared.ids.FileId.{FileId}
 use Rattle.locus_ids.specs.declared.ids.Stamp.{Stamp}
-use Rattle.the_run.specs.Worlds.{Line}
+use Rattle.locus_ids.specs.Sizes.{inode_span, sites_max}
+use Rattle.tree_laws.specs.of_the_run.Worlds.{Line}
 use Rattle.lawful_trace.specs.TreeRows.{IsCallIn}
 use Rattle.tree_laws.specs.Instances.{Stands}
 use Rattle.tree_laws.specs.Printed.{entries}
@@ -14,6 +15,6 @@ use Rattle.holding_laws.specs.Below.{LawsBelow}
 pub record RoomRests (c : Config) (trace : List Line) : Type 0 where
   pub laws : LawsBelow c trace
   -- the inode numbers of files have 16 bits
-  pub narrow : (f : FileId) (stamp : Stamp) → Stands c trace f stamp → f.ino < 65536
+  pub narrow : (f : FileId) (stamp : Stamp) → Stands c trace f stamp → f.ino < inode_span
   -- calls are of the sixteen sites
-  pub sites : (e : EpochId) (d : CallId) → IsCallIn (entries trace) e d → d.site ≤ 16
+  pub sites : (e : EpochId) (d : CallId) → IsCallIn (entries trace) e d → d.site ≤ sites_max

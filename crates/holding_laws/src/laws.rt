@@ -11,7 +11,7 @@ ghost use Rattle.locus_ids.specs.declared.ids.Stamp.{Stamp};
 ghost use Rattle.locus_ids.specs.declared.sites.Members.{Members};
 ghost use Rattle.trace_book.specs.declared.record.Record.TheVariants as says;
 ghost use Rattle.role_steps.specs.Views.{Shown};
-ghost use Rattle.the_run.specs.Worlds.{Line};
+ghost use Rattle.tree_laws.specs.of_the_run.Worlds.{Line};
 ghost use Rattle.tree_model.specs.declared.instance.Instance.{Instance};
 ghost use Rattle.tree_model.specs.Histories.{history};
 ghost use Rattle.tree_model.specs.State.{instance_in};

@@ -10,7 +10,7 @@ ghost use Rattle.locus_ids.specs.declared.ids.Serial.{Serial};
 ghost use Rattle.trace_book.specs.declared.operation.Op.TheVariants as op;
 ghost use Rattle.trace_book.specs.declared.operation.What.TheVariants as what;
 ghost use Rattle.call_rules.specs.declared.want.Want.TheVariants as want;
-ghost use Rattle.the_run.specs.Worlds.{Line};
+ghost use Rattle.tree_laws.specs.of_the_run.Worlds.{Line};
 ghost use Rattle.tree_model.specs.State.{has_stamp};
 ghost use Rattle.tree_model.specs.Tree.{kept_in};
 ghost use Rattle.lawful_trace.specs.TreeRows.{IsCallIn};

@@ -4,11 +4,12 @@ ghost use Rattle.std.specs.Prelude.{ℕ, ◌≡◌, ◌<◌, List};
 ghost use Rattle.locus_ids.specs.declared.config.Config.{Config};
 ghost use Rattle.locus_ids.specs.declared.ids.FileId.{FileId};
 ghost use Rattle.locus_ids.specs.declared.ids.Stamp.{Stamp};
+ghost use Rattle.locus_ids.specs.Sizes.{inode_span};
 ghost use Rattle.role_steps.specs.Storage.{free_pages};
 ghost use Rattle.role_steps.specs.Views.{Frame, Store};
-ghost use Rattle.the_run.specs.Worlds.{Line};
-ghost use Rattle.vector_laws.specs.Written.{past_of};
-ghost use Rattle.vector_laws.specs.HistoryCommits.{NumbersFit};
+ghost use Rattle.tree_laws.specs.of_the_run.Worlds.{Line};
+ghost use Rattle.pack_laws.specs.of_vector_laws.Written.{past_of};
+ghost use Rattle.pack_laws.specs.of_vector_laws.HistoryCommits.{NumbersFit};
 ghost use Rattle.tree_model.specs.Histories.{history};
 ghost use Rattle.tree_model.specs.Tree.{tree_of};
 ghost use Rattle.tree_model.specs.Working.{free_pages as tree_free};
@@ -27,5 +28,5 @@ pub fn room_is_the_trees()
 
 /// Where the inode numbers of what is committed and adopted have 16 bits, those of all files that stand have.
 pub fn numbers_of_files_are_small()
-    ensures { (c : Config) (trace : List Line) (f : FileId) (stamp : Stamp) → NumbersFit (past_of trace) → Stands c trace f stamp → f.ino < 65536 }
+    ensures { (c : Config) (trace : List Line) (f : FileId) (stamp : Stamp) → NumbersFit (past_of trace) → Stands c trace f stamp → f.ino < inode_span }
 {}

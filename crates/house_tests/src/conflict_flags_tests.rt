@@ -28,27 +28,24 @@ fn copies(alloc: Global, held: &[Held]) -> Result<HeldList, NoMemory> {
 fn a_conflict_is_resolved(rt: HostRuntime) -> Result<(), Fail> {
     let (one, two, three) = (site(1)?, site(2)?, site(3)?);
     let mut table = CopyTable::new(rt.alloc());
-    assert_eq!(rt; table.commit(one), Ok(stamp(1, 1)));
-    assert_eq!(rt; table.adopt(three, one), Ok(true));
-    assert_eq!(rt; table.commit(one), Ok(stamp(1, 2)));
-    assert_eq!(rt; table.commit(three), Ok(stamp(3, 1)));
-    assert_eq!(rt; table.adopt(three, one), Ok(false));
-    assert_eq!(rt; table.resolve(three), Ok(stamp(3, 2)));
+    assert!(rt; table.commit(one) == Ok(stamp(1, 1)));
+    assert!(rt; table.adopt(three, one) == Ok(true));
+    assert!(rt; table.commit(one) == Ok(stamp(1, 2)));
+    assert!(rt; table.commit(three) == Ok(stamp(3, 1)));
+    assert!(rt; table.adopt(three, one) == Ok(false));
+    assert!(rt; table.resolve(three) == Ok(stamp(3, 2)));
     let merged = Held {
         site: 3,
         stamp: stamp(3, 2),
         vector: vector(2, 0, 2),
     };
-    assert_eq!(rt; table.held(three), Some(&merged));
+    assert!(rt; table.held(three) == Some(&merged));
     let last = table.history().get(3).ok_or("no version")?;
-    assert_eq!(rt;
-        last.parents.as_slice(),
-        [stamp(1, 2), stamp(3, 1)].as_slice()
-    );
-    assert_eq!(rt; table.adopt(one, three), Ok(true));
-    assert_eq!(rt; table.commit(two), Err(TableFault::NoCopy));
-    assert_eq!(rt; table.resolve(two), Err(TableFault::NoCopy));
-    assert_eq!(rt; table.history().len(), 4);
+    assert!(rt; last.parents.as_slice() == [stamp(1, 2), stamp(3, 1)].as_slice());
+    assert!(rt; table.adopt(one, three) == Ok(true));
+    assert!(rt; table.commit(two) == Err(TableFault::NoCopy));
+    assert!(rt; table.resolve(two) == Err(TableFault::NoCopy));
+    assert!(rt; table.history().len() == 4);
     Ok(())
 }
 
@@ -70,11 +67,11 @@ fn maxima_are_in_conflict(rt: HostRuntime) -> Result<(), Fail> {
         vector: vector(1, 0, 1),
     };
     let all = copies(rt.alloc(), &[other, new, old])?;
-    assert_eq!(rt; maxima(&all)?.as_slice(), [new, other].as_slice());
-    assert_eq!(rt; two_beside(&all), Some((stamp(1, 2), stamp(3, 1))));
+    assert!(rt; maxima(&all)?.as_slice() == [new, other].as_slice());
+    assert!(rt; two_beside(&all) == Some((stamp(1, 2), stamp(3, 1))));
     let line = copies(rt.alloc(), &[new, old])?;
-    assert_eq!(rt; maxima(&line)?.as_slice(), [new].as_slice());
-    assert_eq!(rt; two_beside(&line), None);
+    assert!(rt; maxima(&line)?.as_slice() == [new].as_slice());
+    assert!(rt; two_beside(&line) == None);
     Ok(())
 }
 
@@ -89,6 +86,6 @@ fn events_are_played(rt: HostRuntime) -> Result<(), Fail> {
         Event::Resolve(two),
     ];
     let table = play(rt.alloc(), &events)?;
-    assert_eq!(rt; table.held(two).map(|held| held.stamp), Some(stamp(2, 2)));
+    assert!(rt; table.held(two).map(|held| held.stamp) == Some(stamp(2, 2)));
     Ok(())
 }

@@ -15,10 +15,6 @@ mod locus_ids_tests;
 #[cfg(test)]
 mod locus_io_tests;
 #[cfg(test)]
-mod printing;
-#[cfg(test)]
-mod trace_answers_tests;
-#[cfg(test)]
-mod trace_records_tests;
+mod trace_book_tests;
 #[cfg(test)]
 mod version_vector_tests;

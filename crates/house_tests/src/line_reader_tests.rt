@@ -11,14 +11,14 @@ fn lines_end_with_a_line_feed(rt: HostRuntime) -> Result<(), Fail> {
     let mut reader = LineReader::new(alloc, 6)?;
     let lines = [b"ab".as_slice(), b"", b"#c d", b"abcdef", b"x"];
     for (i, line) in lines.iter().enumerate() {
-        assert_eq!(rt; reader.next(&mut source), Ok(Next::Line));
-        assert_eq!(rt; reader.bytes(), *line);
-        assert_eq!(rt; reader.number() as usize, i + 1);
+        assert!(rt; reader.next(&mut source) == Ok(Next::Line));
+        assert!(rt; reader.bytes() == *line);
+        assert!(rt; reader.number() as usize == i + 1);
     }
-    assert_eq!(rt; reader.next(&mut source), Ok(Next::End));
-    assert_eq!(rt; reader.next(&mut source), Ok(Next::End));
-    assert_eq!(rt; reader.bytes(), b"".as_slice());
-    assert_eq!(rt; reader.number(), 5);
+    assert!(rt; reader.next(&mut source) == Ok(Next::End));
+    assert!(rt; reader.next(&mut source) == Ok(Next::End));
+    assert!(rt; reader.bytes() == b"".as_slice());
+    assert!(rt; reader.number() == 5);
     Ok(())
 }
 
@@ -28,10 +28,10 @@ fn a_line_past_the_limit_stays(rt: HostRuntime) -> Result<(), Fail> {
     for text in [b"a\nabcd\nb\n".as_slice(), b"a\nabcd", b"a\nabcdefgh\n"] {
         let mut source = SureSource::new(Bytes::from_slice(alloc, text)?);
         let mut reader = LineReader::new(alloc, 3)?;
-        assert_eq!(rt; reader.next(&mut source), Ok(Next::Line));
-        assert_eq!(rt; reader.next(&mut source), Ok(Next::LongLine));
-        assert_eq!(rt; reader.next(&mut source), Ok(Next::LongLine));
-        assert_eq!(rt; reader.number(), 1);
+        assert!(rt; reader.next(&mut source) == Ok(Next::Line));
+        assert!(rt; reader.next(&mut source) == Ok(Next::LongLine));
+        assert!(rt; reader.next(&mut source) == Ok(Next::LongLine));
+        assert!(rt; reader.number() == 1);
     }
     Ok(())
 }
@@ -43,13 +43,13 @@ fn nothing_is_lost_by_a_fault(rt: HostRuntime) -> Result<(), Fail> {
     let fails = Bytes::from_slice(alloc, &[1, 3])?;
     let mut source = MemSource::new(text, fails);
     let mut reader = LineReader::new(alloc, 3)?;
-    assert_eq!(rt; reader.next(&mut source), Err(ReadFault::Failed));
-    assert_eq!(rt; reader.next(&mut source), Ok(Next::Line));
-    assert_eq!(rt; reader.bytes(), b"a".as_slice());
-    assert_eq!(rt; reader.next(&mut source), Err(ReadFault::Failed));
-    assert_eq!(rt; reader.next(&mut source), Ok(Next::Line));
-    assert_eq!(rt; reader.bytes(), b"b".as_slice());
-    assert_eq!(rt; reader.next(&mut source), Ok(Next::End));
+    assert!(rt; reader.next(&mut source) == Err(ReadFault::Failed));
+    assert!(rt; reader.next(&mut source) == Ok(Next::Line));
+    assert!(rt; reader.bytes() == b"a".as_slice());
+    assert!(rt; reader.next(&mut source) == Err(ReadFault::Failed));
+    assert!(rt; reader.next(&mut source) == Ok(Next::Line));
+    assert!(rt; reader.bytes() == b"b".as_slice());
+    assert!(rt; reader.next(&mut source) == Ok(Next::End));
     Ok(())
 }
 
@@ -60,12 +60,12 @@ fn a_source_is_asked_no_more_past_its_end(rt: HostRuntime) -> Result<(), Fail> {
     let fails = Bytes::from_slice(alloc, &[3])?;
     let mut source = MemSource::new(text, fails);
     let mut reader = LineReader::new(alloc, 3)?;
-    assert_eq!(rt; reader.next(&mut source), Ok(Next::Line));
-    assert_eq!(rt; reader.next(&mut source), Ok(Next::Line));
-    assert_eq!(rt; reader.bytes(), b"b".as_slice());
-    assert_eq!(rt; reader.next(&mut source), Ok(Next::End));
-    assert_eq!(rt; reader.next(&mut source), Ok(Next::End));
-    assert_eq!(rt; reader.number(), 2);
+    assert!(rt; reader.next(&mut source) == Ok(Next::Line));
+    assert!(rt; reader.next(&mut source) == Ok(Next::Line));
+    assert!(rt; reader.bytes() == b"b".as_slice());
+    assert!(rt; reader.next(&mut source) == Ok(Next::End));
+    assert!(rt; reader.next(&mut source) == Ok(Next::End));
+    assert!(rt; reader.number() == 2);
     Ok(())
 }
 
@@ -76,9 +76,9 @@ fn a_last_line_is_not_read_at_a_fault(rt: HostRuntime) -> Result<(), Fail> {
     let fails = Bytes::from_slice(alloc, &[2])?;
     let mut source = MemSource::new(text, fails);
     let mut reader = LineReader::new(alloc, 3)?;
-    assert_eq!(rt; reader.next(&mut source), Ok(Next::Line));
-    assert_eq!(rt; reader.next(&mut source), Err(ReadFault::Failed));
-    assert_eq!(rt; reader.number(), 1);
+    assert!(rt; reader.next(&mut source) == Ok(Next::Line));
+    assert!(rt; reader.next(&mut source) == Err(ReadFault::Failed));
+    assert!(rt; reader.number() == 1);
     Ok(())
 }
 
@@ -93,10 +93,10 @@ fn a_million_lines_may_be_read(rt: HostRuntime) -> Result<(), Fail> {
     let mut source = SureSource::new(text);
     let mut reader = LineReader::new(alloc, 16_384)?;
     for _ in 0..1_000_000u32 {
-        assert_eq!(rt; reader.next(&mut source), Ok(Next::Line));
+        assert!(rt; reader.next(&mut source) == Ok(Next::Line));
     }
-    assert_eq!(rt; reader.bytes(), b"# a comment of some length".as_slice());
-    assert_eq!(rt; reader.next(&mut source), Ok(Next::TooMany));
-    assert_eq!(rt; reader.number(), 1_000_000);
+    assert!(rt; reader.bytes() == b"# a comment of some length".as_slice());
+    assert!(rt; reader.next(&mut source) == Ok(Next::TooMany));
+    assert!(rt; reader.number() == 1_000_000);
     Ok(())
 }

@@ -28,23 +28,23 @@ fn same_names(names: &Names) -> Result<Names, NoMemory>
 #[test]
 fn sites_are_a_set(rt: HostRuntime) -> Result<(), Fail> {
     for n in [0, 17, 255] {
-        assert_eq!(rt; SiteId::new(n), None, "at {n}");
+        assert!(rt; SiteId::new(n) == None, "at {n}");
     }
     for n in [0, 1_025, 65_535] {
-        assert_eq!(rt; Ino::new(n), None, "at {n}");
+        assert!(rt; Ino::new(n) == None, "at {n}");
     }
-    assert_eq!(rt; Ino::new(1), Some(Ino::root()));
-    assert_eq!(rt; Ino::new(1_024).map(Ino::get), Some(1_024));
+    assert!(rt; Ino::new(1) == Some(Ino::root()));
+    assert!(rt; Ino::new(1_024).map(Ino::get) == Some(1_024));
     let set = Sites(0).with(site(16)?).with(site(3)?).with(site(3)?);
-    assert_eq!(rt; set, Sites(0x8004));
-    assert_eq!(rt; set.count(), 2);
-    assert_eq!(rt; set.least(), Some(site(3)?));
-    assert_eq!(rt; set.without(site(3)?), Sites(0x8000));
-    assert_eq!(rt; set.without(site(4)?), set);
-    assert_eq!(rt; set.meet(Sites(7)), Sites(4));
+    assert!(rt; set == Sites(0x8004));
+    assert!(rt; set.count() == 2);
+    assert!(rt; set.least() == Some(site(3)?));
+    assert!(rt; set.without(site(3)?) == Sites(0x8000));
+    assert!(rt; set.without(site(4)?) == set);
+    assert!(rt; set.meet(Sites(7)) == Sites(4));
     assert!(rt; set.has(site(16)?) && !set.has(site(1)?));
-    assert_eq!(rt; Sites(0).least(), None);
-    assert_eq!(rt; Sites(0xffff).count(), 16);
+    assert!(rt; Sites(0).least() == None);
+    assert!(rt; Sites(0xffff).count() == 16);
     Ok(())
 }
 
@@ -55,22 +55,22 @@ fn lists_are_copied(rt: HostRuntime) -> Result<(), Fail> {
     let copy = bytes.copy()?;
     bytes.append(b"cd")?;
     bytes.push(b'e')?;
-    assert_eq!(rt; bytes.as_slice(), b"abcde".as_slice());
+    assert!(rt; bytes.as_slice() == b"abcde".as_slice());
     bytes.truncate(3);
-    assert_eq!(rt; bytes.get(2), Some(&b'c'));
-    assert_eq!(rt; bytes.get(3), None);
-    assert_eq!(rt; copy.as_slice(), b"ab".as_slice());
+    assert!(rt; bytes.get(2) == Some(&b'c'));
+    assert!(rt; bytes.get(3) == None);
+    assert!(rt; copy.as_slice() == b"ab".as_slice());
     let mut stamps = Stamps::new(alloc);
     stamps.push(Stamp { site: 1, n: 2 })?;
     stamps.insert(0, Stamp { site: 3, n: 1 })?;
     let others = same_stamps(&stamps)?;
     stamps.clear();
     assert!(rt; stamps.is_empty());
-    assert_eq!(rt; others.get(0), Some(&Stamp { site: 3, n: 1 }));
-    assert_eq!(rt; others.len(), 2);
+    assert!(rt; others.get(0) == Some(&Stamp { site: 3, n: 1 }));
+    assert!(rt; others.len() == 2);
     let mut names = Names::new(alloc);
     names.push(copy)?;
-    assert_eq!(rt; same_names(&names)?.len(), 1);
+    assert!(rt; same_names(&names)?.len() == 1);
     Ok(())
 }
 
@@ -86,10 +86,10 @@ fn clusters_and_refusals_are_copied(rt: HostRuntime) -> Result<(), Fail> {
         mounts,
     };
     let copy = config.copy()?;
-    assert_eq!(rt; copy.packs[1], Sites(6));
-    assert_eq!(rt; copy.mounts.len(), 1);
+    assert!(rt; copy.packs[1] == Sites(6));
+    assert!(rt; copy.mounts.len() == 1);
     match (Refusal::NoSpace { needed: 1, free: 0 }).copy()? {
-        Refusal::NoSpace { needed, free } => assert_eq!(rt; (needed, free), (1, 0)),
+        Refusal::NoSpace { needed, free } => assert!(rt; (needed, free) == (1, 0)),
         _ => return Err(Fail::from("another refusal")),
     }
     Ok(())
@@ -122,11 +122,8 @@ fn names_of_things_are_ordered_by_their_fields(rt: HostRuntime) -> Result<(), Fa
     );
     let mut boot = [0; 16];
     boot[2] = 4;
-    assert_eq!(rt; Members { boot }.boot_of(site(3)?), 4);
-    assert_eq!(rt; Links { boot }.boot_of(site(4)?), 0);
-    assert_eq!(rt;
-        PACK_BYTES as usize,
-        1_024 + 1_024 * 2 * 512 + 3_072 * PAGE_BYTES
-    );
+    assert!(rt; Members { boot }.boot_of(site(3)?) == 4);
+    assert!(rt; Links { boot }.boot_of(site(4)?) == 0);
+    assert!(rt; PACK_BYTES as usize == 1_024 + 1_024 * 2 * 512 + 3_072 * PAGE_BYTES);
     Ok(())
 }

@@ -15,13 +15,13 @@ fn listed_reads_fail(rt: HostRuntime) -> Result<(), Fail> {
     let fails = Bytes::from_slice(alloc, &[2, 4])?;
     let mut source = MemSource::new(bytes, fails);
     let mut buf = [0; 2];
-    assert_eq!(rt; source.take(&mut buf), Ok(2));
-    assert_eq!(rt; buf, [b'a', b'b']);
-    assert_eq!(rt; source.take(&mut buf), Err(ReadFault::Failed));
-    assert_eq!(rt; source.take(&mut buf), Ok(1));
-    assert_eq!(rt; buf, [b'c', b'b']);
-    assert_eq!(rt; source.take(&mut buf), Err(ReadFault::Failed));
-    assert_eq!(rt; source.take(&mut buf), Ok(0));
+    assert!(rt; source.take(&mut buf) == Ok(2));
+    assert!(rt; buf == [b'a', b'b']);
+    assert!(rt; source.take(&mut buf) == Err(ReadFault::Failed));
+    assert!(rt; source.take(&mut buf) == Ok(1));
+    assert!(rt; buf == [b'c', b'b']);
+    assert!(rt; source.take(&mut buf) == Err(ReadFault::Failed));
+    assert!(rt; source.take(&mut buf) == Ok(0));
     Ok(())
 }
 
@@ -34,11 +34,11 @@ fn a_block_is_read_at_once(rt: HostRuntime) -> Result<(), Fail> {
     }
     let mut source = SureSource::new(bytes);
     let mut buf = vec![in alloc; 0; 65_536]?;
-    assert_eq!(rt; source.take(&mut buf), Ok(65_536));
-    assert_eq!(rt; buf.get(65_535), Some(&24));
-    assert_eq!(rt; source.take(&mut buf), Ok(34_464));
-    assert_eq!(rt; source.take(&mut []), Ok(0));
-    assert_eq!(rt; source.take(&mut buf), Ok(0));
+    assert!(rt; source.take(&mut buf) == Ok(65_536));
+    assert!(rt; buf.get(65_535) == Some(&24));
+    assert!(rt; source.take(&mut buf) == Ok(34_464));
+    assert!(rt; source.take(&mut []) == Ok(0));
+    assert!(rt; source.take(&mut buf) == Ok(0));
     Ok(())
 }
 
@@ -46,17 +46,17 @@ fn a_block_is_read_at_once(rt: HostRuntime) -> Result<(), Fail> {
 fn listed_writes_fail(rt: HostRuntime) -> Result<(), Fail> {
     let alloc = rt.alloc();
     let mut sink = MemSink::new(alloc, Bytes::from_slice(alloc, &[2, 3])?);
-    assert_eq!(rt; sink.give(b"ab"), Ok(2));
-    assert_eq!(rt; sink.flush(), Err(WriteFault::Failed));
-    assert_eq!(rt; sink.give(b"x"), Err(WriteFault::Failed));
-    assert_eq!(rt; give_all(&mut sink, b"cd"), Ok(()));
-    assert_eq!(rt; sink.flush(), Ok(()));
-    assert_eq!(rt; sink.bytes(), b"abcd".as_slice());
+    assert!(rt; sink.give(b"ab") == Ok(2));
+    assert!(rt; sink.flush() == Err(WriteFault::Failed));
+    assert!(rt; sink.give(b"x") == Err(WriteFault::Failed));
+    assert!(rt; give_all(&mut sink, b"cd") == Ok(()));
+    assert!(rt; sink.flush() == Ok(()));
+    assert!(rt; sink.bytes() == b"abcd".as_slice());
     let mut sure = SureSink::new(alloc);
-    assert_eq!(rt; give_all(&mut sure, b""), Ok(()));
-    assert_eq!(rt; give_all(&mut sure, b"xyz"), Ok(()));
-    assert_eq!(rt; sure.flush(), Ok(()));
-    assert_eq!(rt; sure.bytes(), b"xyz".as_slice());
+    assert!(rt; give_all(&mut sure, b"") == Ok(()));
+    assert!(rt; give_all(&mut sure, b"xyz") == Ok(()));
+    assert!(rt; sure.flush() == Ok(()));
+    assert!(rt; sure.bytes() == b"xyz".as_slice());
     Ok(())
 }
 
@@ -74,14 +74,11 @@ impl Read for Broken {
 fn readers_of_std_are_sources(rt: HostRuntime) -> Result<(), Fail> {
     let mut source = StdSource::new(b"abc".as_slice());
     let mut buf = [0; 2];
-    assert_eq!(rt; source.take(&mut buf), Ok(2));
-    assert_eq!(rt; source.take(&mut buf), Ok(1));
-    assert_eq!(rt; buf, [b'c', b'b']);
-    assert_eq!(rt; source.take(&mut buf), Ok(0));
-    assert_eq!(rt;
-        StdSource::new(Broken).take(&mut buf),
-        Err(ReadFault::Failed)
-    );
+    assert!(rt; source.take(&mut buf) == Ok(2));
+    assert!(rt; source.take(&mut buf) == Ok(1));
+    assert!(rt; buf == [b'c', b'b']);
+    assert!(rt; source.take(&mut buf) == Ok(0));
+    assert!(rt; StdSource::new(Broken).take(&mut buf) == Err(ReadFault::Failed));
     Ok(())
 }
 
@@ -91,17 +88,17 @@ fn writers_of_std_are_sinks(rt: HostRuntime) -> Result<(), Fail> {
     let mut kept = Vec::new(alloc);
     {
         let mut sink = StdSink::new(&mut kept);
-        assert_eq!(rt; give_all(&mut sink, b"abc"), Ok(()));
-        assert_eq!(rt; sink.flush(), Ok(()));
+        assert!(rt; give_all(&mut sink, b"abc") == Ok(()));
+        assert!(rt; sink.flush() == Ok(()));
     }
-    assert_eq!(rt; kept.as_slice(), b"abc".as_slice());
+    assert!(rt; kept.as_slice() == b"abc".as_slice());
     let mut narrow = [0u8; 2];
     {
         let mut sink = StdSink::new(narrow.as_mut_slice());
-        assert_eq!(rt; give_all(&mut sink, b"xyz"), Err(WriteFault::Failed));
-        assert_eq!(rt; sink.give(b""), Ok(0));
+        assert!(rt; give_all(&mut sink, b"xyz") == Err(WriteFault::Failed));
+        assert!(rt; sink.give(b"") == Ok(0));
     }
-    assert_eq!(rt; narrow, [b'x', b'y']);
+    assert!(rt; narrow == [b'x', b'y']);
     Ok(())
 }
 
@@ -144,10 +141,10 @@ fn a_flush_passes_on_what_a_writer_holds_back(rt: HostRuntime) -> Result<(), Fai
         };
         {
             let mut sink = StdSink::new(&mut writer);
-            assert_eq!(rt; give_all(&mut sink, b"abc"), Ok(()));
-            assert_eq!(rt; sink.flush(), answer);
+            assert!(rt; give_all(&mut sink, b"abc") == Ok(()));
+            assert!(rt; sink.flush() == answer);
         }
-        assert_eq!(rt; writer.out.as_slice(), out, "at {fails}");
+        assert!(rt; writer.out.as_slice() == out, "at {fails}");
     }
     Ok(())
 }

@@ -2,6 +2,7 @@
 use Rattle.std.proofs.Common.{◌≡◌, ℕ, zero, suc, ◌+◌, ◌<◌, Bool, true, false, inl, inr, List, [], ◌∷◌, ◌++◌, length, drop, get_or, Option, None, Some, refl, sym, ap, subst, ◌∙◌, arith, length-append}
 use Rattle.std.specs.Prelude.{◌↔◌, Result, Ok, Err, IsErr, IsErrAnd, is_some, if◌then◌else◌}
 use Rattle.std.proofs.lemmas.Bool.{false≢true}
+use Rattle.locus_ids.specs.Sizes.{page_bytes}
 use Rattle.file_content.specs.Pages.{pages_of}
 use Rattle.pack_layout.specs.declared.half.Half.{Half}
 use Rattle.pack_layout.specs.Layout.{slot_at, page_at, slot_bytes, other_half}
@@ -22,7 +23,7 @@ use Rattle.gate_switch.proofs.Pieces.{torn_same, torn_overwritten}
 use Rattle.gate_switch.proofs.Tearing.{bytes_are, is_outside}
 use Rattle.inode_pack.proofs.NewCopies.{own_copy}
 use Rattle.pack_slots.specs.declared.inode_copy.InodeCopy.{InodeCopy}
-use Rattle.inode_pack.specs.declared.new_version.NewVersion.{NewVersion}
+use Rattle.stored_versions.specs.declared.new_version.NewVersion.{NewVersion}
 use Rattle.inode_pack.specs.declared.pack_fault.PackFault.{PackFault}
 use Rattle.inode_pack.specs.declared.pack_fault.PackFault.TheVariants.{Disk, NoSpace}
 use Rattle.inode_pack.specs.Pack.{PackState, number_in, Shows}
@@ -118,7 +119,7 @@ module _ (pack : PackState) (ino : ℕ) (w : Working) (made : InodeCopy) (s : Se
 
   -- a changed page stands at its data page, whole
   pub page_stands : (i : ℕ) (page : List ℕ) → i < pages_of w.size → shadow_page w.pages i ≡ Some page
-      → bytes_at (switched (pieces pack ino w made s) gate (closing pack.base ino made.half old) old) (page_at pack.base (number_in (copy_of (with_copy pack ino made).copies ino) i)) 1024 ≡ page
+      → bytes_at (switched (pieces pack ino w made s) gate (closing pack.base ino made.half old) old) (page_at pack.base (number_in (copy_of (with_copy pack ino made).copies ino) i)) page_bytes ≡ page
   page_stands i page lt known =
       let is = own_copy pack.copies ino (Some made) s.low (let count = s.are.count in let high = s.high in omega arith) in
       let n = get_or made.slot.pages i 0 in
@@ -128,7 +129,7 @@ module _ (pack : PackState) (ino : ℕ) (w : Working) (made : InodeCopy) (s : Se
       let more = long_new in
       let area = shows.area in
       let below = number_below pack ino w made s i lt in
-      ap (λ (o : Option InodeCopy). bytes_at (switched (pieces pack ino w made s) gate (closing pack.base ino made.half old) old) (page_at pack.base (number_in o i)) 1024) is
+      ap (λ (o : Option InodeCopy). bytes_at (switched (pieces pack ino w made s) gate (closing pack.base ino made.half old) old) (page_at pack.base (number_in o i)) page_bytes) is
       ∙ ap (λ (m : ℕ). bytes_at (switched (pieces pack ino w made s) gate (closing pack.base ino made.half old) old) (page_at pack.base n) m) (sym full)
       ∙ bytes_are (switched (pieces pack ino w made s) gate (closing pack.base ino made.half old) old) page (page_at pack.base n) (omega arith)
       (λ k less. after_close b n k ∙ changed_byte pack ino w made s old shows i k page lt known (omega arith))
@@ -167,8 +168,8 @@ module _ (pack : PackState) (ino : ℕ) (w : Working) (made : InodeCopy) (s : Se
   -- its changed pages stand where they are named
   pub given_pages : (read : List ℕ) → read ≡ switched given (slot_at base ino made.half) (closing base ino made.half old) old → HoldsPages (with_copy pack ino made) ino w read
   given_pages read is i page lt known =
-      subst (λ (l : List ℕ). bytes_at l (page_at pack.base (number_in (copy_of (with_copy pack ino made).copies ino) i)) 1024 ≡ page) (sym is)
-      (moved (λ b l. bytes_at (switched l (slot_at b ino made.half) (closing b ino made.half old) old) (page_at pack.base (number_in (copy_of (with_copy pack ino made).copies ino) i)) 1024 ≡ page)
+      subst (λ (l : List ℕ). bytes_at l (page_at pack.base (number_in (copy_of (with_copy pack ino made).copies ino) i)) page_bytes ≡ page) (sym is)
+      (moved (λ b l. bytes_at (switched l (slot_at b ino made.half) (closing b ino made.half old) old) (page_at pack.base (number_in (copy_of (with_copy pack ino made).copies ino) i)) page_bytes ≡ page)
       (page_stands pack ino w made s old shows i page lt known))
 
   pub given_replaced : (version : NewVersion) → Makes (is_free pack.copies) (copy_of pack.copies ino) ino version w made

@@ -1,6 +1,7 @@
 -- What a commit leaves that was cut off, from what the switch of its inode leaves.
 use Rattle.std.proofs.Common.{◌≡◌, ℕ, ◌≤◌, Bool, true, false, cond, List, [], ◌∷◌, refl, sym, ◌∙◌, ap, arith}
 use Rattle.std.specs.Prelude.{is_some, ◌&&◌}
+use Rattle.locus_ids.specs.Sizes.{inodes_max}
 use Rattle.disk_model.specs.Cut.{Cut}
 use Rattle.pack_layout.specs.declared.half.Half.{Half}
 use Rattle.pack_layout.specs.declared.half.Half.TheVariants.{First, Second}
@@ -18,11 +19,11 @@ use Rattle.pack_slots.proofs.Gates.{found_gates}
 use Rattle.pack_slots.proofs.LosingLists.{losing_alone, losing_nowhere}
 
 -- a pack that is shown has no two open gates of an inode
-pub shows_none : (pack : PackState) (image : List ℕ) → AreCopies pack.copies → Shows pack image → (ino : ℕ) → 1 ≤ ino → ino ≤ 1024 → has_losing_gate pack.base ino image ≡ false
+pub shows_none : (pack : PackState) (image : List ℕ) → AreCopies pack.copies → Shows pack image → (ino : ℕ) → 1 ≤ ino → ino ≤ inodes_max → has_losing_gate pack.base ino image ≡ false
 shows_none pack image are shows ino low high = found_gates pack.base ino image (copy_of pack.copies ino) false (record { says = shows.copies ino low high; own = are.own ino })
 
 pub shows_no_losing : (pack : PackState) (image : List ℕ) → AreCopies pack.copies → Shows pack image → losing_inodes pack.base image ≡ []
-shows_no_losing pack image are shows = losing_nowhere pack.base image 1 1024 (λ i low high. shows_none pack image are shows i low (omega arith))
+shows_no_losing pack image are shows = losing_nowhere pack.base image 1 inodes_max (λ i low high. shows_none pack image are shows i low (omega arith))
 
 shuffle : (a b c : Bool) → (a && (b && c)) ≡ (b && (a && c))
 shuffle true true c = refl
@@ -41,7 +42,7 @@ both_gates : (base ino : ℕ) (half : Half) (image : List ℕ) (a b : Bool) → 
 both_gates base ino First image a b mine other = (λ i. mine i && other i)
 both_gates base ino Second image a b mine other = (λ i. other i && mine i) ∙ turned b a
 
-module _ (pack : PackState) (ino : ℕ) (half : Half) (pieces : List Piece) (pages : ℕ) (how : Cut) (passed : ℕ) (old new : List ℕ) (are : AreCopies pack.copies) (shows : Shows pack old) (low : 1 ≤ ino) (high : ino ≤ 1024)
+module _ (pack : PackState) (ino : ℕ) (half : Half) (pieces : List Piece) (pages : ℕ) (how : Cut) (passed : ℕ) (old new : List ℕ) (are : AreCopies pack.copies) (shows : Shows pack old) (low : 1 ≤ ino) (high : ino ≤ inodes_max)
     (was : is_some (copy_of pack.copies ino) ≡ is_open old (slot_at pack.base ino (other_half half))) (cut : IsCutReplacing pack.base ino half pieces pages how passed old new) where
   own : has_losing_gate pack.base ino new ≡ are_both_open (is_some (copy_of pack.copies ino)) pages how passed
   own =
@@ -49,7 +50,7 @@ module _ (pack : PackState) (ino : ℕ) (half : Half) (pieces : List Piece) (pag
       ∙ shuffle (new_gate pages how passed) (is_open old (slot_at pack.base ino (other_half half))) (old_gate pages how passed)
       ∙ ap (λ (b : Bool). are_both_open b pages how passed) (sym was)
 
-  others : (i : ℕ) → 1 ≤ i → i ≤ 1024 → (i ≡ ino → ⊥) → has_losing_gate pack.base i new ≡ false
+  others : (i : ℕ) → 1 ≤ i → i ≤ inodes_max → (i ≡ ino → ⊥) → has_losing_gate pack.base i new ≡ false
   others i from to ne =
       (λ j. cut.rest i First from to ne j && cut.rest i Second from to ne j)
       ∙ shows_none pack old are shows i from to

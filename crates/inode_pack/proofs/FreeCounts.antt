@@ -2,6 +2,7 @@
 use Rattle.std.proofs.Common.{◌≡◌, ◌≢◌, ℕ, zero, suc, ◌+◌, ◌<◌, ◌≤◌, Bool, true, false, List, [], ◌∷◌, length, get_or, ⊎_elim, refl, sym, ap, ◌∙◌, arith, add-one, add-zero}
 use Rattle.std.specs.Prelude.{◌==◌, if◌then◌else◌}
 use Rattle.std.proofs.lemmas.Bool.{cases_lt, cases_eq, eq-eqb, ne_eqb}
+use Rattle.locus_ids.specs.Sizes.{pack_pages}
 use Rattle.shadow_pages.specs.Working.{count_below}
 use Rattle.pack_slots.specs.Copies.{times}
 use Rattle.pack_slots.proofs.PageTimes.{times_own, times_other}
@@ -41,7 +42,7 @@ module _ (f : ℕ → Bool) where
       (cases_lt m (suc n))
 
 -- where no unused page is left from a number on, the others are all there are
-pub none_left : (uses : List ℕ) (from p : ℕ) → length uses ≡ 3072 → 3072 ≤ p → ((k : ℕ) → from ≤ k → k < p → get_or uses k 0 ≢ 0)
+pub none_left : (uses : List ℕ) (from p : ℕ) → length uses ≡ pack_pages → pack_pages ≤ p → ((k : ℕ) → from ≤ k → k < p → get_or uses k 0 ≢ 0)
     → count_below (λ k. get_or uses k 0 == 0) from < count_below (λ k. get_or uses k 0 == 0) (length uses) → ⊥
 none_left uses from p long end none more = ⊎_elim
     (λ (lt : from < length uses). let gap = count_gap (λ (k : ℕ). get_or uses k 0 == 0) from (length uses) (omega arith) (λ k low high. ne_eqb (get_or uses k 0) 0 (none k low (omega arith))) in absurd (omega arith))

@@ -2,6 +2,7 @@
 use Rattle.std.proofs.Common.{◌≡◌, ◌≢◌, ℕ, ◌+◌, ◌%◌, ◌<◌, ◌≤◌, Bool, true, false, inl, inr, ⊎_elim, List, [], ◌∷◌, length, get_or, Option, None, Some, refl, sym, ap, subst, ◌∙◌, arith}
 use Rattle.std.specs.Prelude.{◌==◌, if◌then◌else◌}
 use Rattle.std.proofs.lemmas.Bool.{cases_eq, cases_Bool, cases_lt, eqb-true}
+use Rattle.locus_ids.specs.Sizes.{inodes_max, page_bytes}
 use Rattle.disk_model.specs.Images.{bytes_at, overwritten, is_within, Torn}
 use Rattle.pack_layout.specs.declared.half.Half.{Half}
 use Rattle.pack_layout.specs.Layout.{slot_at, slot_bytes, half_number, other_half}
@@ -60,15 +61,15 @@ module _ (pack : PackState) (ino : ℕ) (w : Working) (made : InodeCopy) (s : Se
   sum = half_sum made.half
 
   -- the bytes of a slot but that which is written, and the first one of that too
-  spared : (i : ℕ) (half : Half) (k : ℕ) → k < 512 → 1 ≤ i → i ≤ 1024 → slot_at pack.base i half ≢ gate → touches all (slot_at pack.base i half + k) ≡ false
+  spared : (i : ℕ) (half : Half) (k : ℕ) → k < 512 → 1 ≤ i → i ≤ inodes_max → slot_at pack.base i half ≢ gate → touches all (slot_at pack.base i half + k) ≡ false
   spared i half k lt low high apart = let most = half_most half in spared_slot pack ino w made s (slot_at pack.base i half + k) (omega arith) (apart_slots pack.base i half ino made.half k lt low s.low (inr apart))
 
   -- an image where at most the pieces and the two gates changed
   module _ (c : List ℕ) (long : length c ≡ length old) (each : (k : ℕ) → touches all k ≡ false → k ≢ gate → k ≢ other → get_or c k 0 ≡ get_or old k 0) where
     pub named_still : IsPackOf pack.base pack.group pack.site c
-    named_still = same_bytes old c pack.base 1024 long (λ k lt. each (pack.base + k) (spared_slot pack ino w made s (pack.base + k) (omega arith) (is_outside (gate + 1) 511 (pack.base + k) (inl (omega arith)))) (λ e. omega arith) (λ e. omega arith)) ∙ shows.named
+    named_still = same_bytes old c pack.base page_bytes long (λ k lt. each (pack.base + k) (spared_slot pack ino w made s (pack.base + k) (omega arith) (is_outside (gate + 1) 511 (pack.base + k) (inl (omega arith)))) (λ e. omega arith) (λ e. omega arith)) ∙ shows.named
 
-    others_still : (i : ℕ) → 1 ≤ i → i ≤ 1024 → i ≢ ino → ShowsCopy pack.base i c (copy_of pack.copies i)
+    others_still : (i : ℕ) → 1 ≤ i → i ≤ inodes_max → i ≢ ino → ShowsCopy pack.base i c (copy_of pack.copies i)
     others_still i low high ne = shows_same pack.base i old c (copy_of pack.copies i) long
         (λ half k lt. let l = s.low in let p = small in let q = sum in let most = half_most half in each (slot_at pack.base i half + k) (spared i half k lt low high (λ e. ne (omega arith))) (λ e. ne (omega arith)) (λ e. ne (omega arith)))
         (shows.copies i low high)
@@ -166,7 +167,7 @@ module _ (pack : PackState) (ino : ℕ) (w : Working) (made : InodeCopy) (s : Se
     other_is : (i : ℕ) → i ≢ ino → copy_of after.copies i ≡ copy_of pack.copies i
     other_is i ne = other_copy pack.copies ino i (Some made) s.low ne
 
-    others_show : (i : ℕ) → 1 ≤ i → i ≤ 1024 → i ≢ ino → ShowsCopy pack.base i c (copy_of after.copies i)
+    others_show : (i : ℕ) → 1 ≤ i → i ≤ inodes_max → i ≢ ino → ShowsCopy pack.base i c (copy_of after.copies i)
     others_show i low high ne = subst (λ (o : Option InodeCopy). ShowsCopy pack.base i c o) (sym (other_is i ne)) (others_still c long_old as_old i low high ne)
 
     now_found : AllFound pack.base c after.copies

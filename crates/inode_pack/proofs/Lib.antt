@@ -11,8 +11,8 @@ pub mod NewCopies
 pub mod Passing
 pub mod Placing
 pub mod PutPages
-pub mod Runs
 pub mod Setup
 pub mod Streaming
 pub mod Taking
 pub mod Whole
+pub use Rattle.shadow_pages.proofs as of_shadow_pages

@@ -7,6 +7,7 @@ use Rattle.std.proofs.lemmas.Bool.{cases_lt, eqb-true, true≢false}
 use Rattle.std.proofs.lemmas.Bool.Decides.{nat_tests}
 use Rattle.std.proofs.lemmas.List.{same_lists, get_or-take, get_or-drop, get_or_default}
 use Rattle.std.proofs.lemmas.List.Elements.{All-append, All-nil, All-cons}
+use Rattle.locus_ids.specs.Sizes.{inodes_max, page_bytes, pack_pages}
 use Rattle.disk_model.specs.Images.{overwritten, bytes_at, is_within, Torn}
 use Rattle.pack_layout.specs.declared.slot.Slot.{Slot}
 use Rattle.file_content.specs.Pages.{pages_of}
@@ -87,10 +88,10 @@ module _ (pack : PackState) (ino : ℕ) (w : Working) (made : InodeCopy) (s : Se
   abbrev pub pieces : List Piece
   pieces = pages ++ body ∷ []
 
-  inside : (i : ℕ) → i < pages_of w.size → get_or made.slot.pages i 0 < 3072
+  inside : (i : ℕ) → i < pages_of w.size → get_or made.slot.pages i 0 < pack_pages
   inside = number_inside pack.copies ino w made.slot.pages s.are s.rests s.takes
 
-  pub number_below : (i : ℕ) → i < pages_of w.size → get_or made.slot.pages i 0 < 3072
+  pub number_below : (i : ℕ) → i < pages_of w.size → get_or made.slot.pages i 0 < pack_pages
   number_below = inside
 
   long_body : length body.bytes ≡ 511
@@ -102,21 +103,21 @@ module _ (pack : PackState) (ino : ℕ) (w : Working) (made : InodeCopy) (s : Se
   -- a place among the slots, or in a page that is named
   pub spared_slot : (k : ℕ) → k < pack.base + 1049600 → is_within (gate + 1) 511 k ≡ false → touches pieces k ≡ false
   spared_slot k lt out = touches_none pages (body ∷ []) k
-      (spared_pages pack.base made.slot.pages w count s.whole inside count k (omega arith) (λ i page less is. is_outside (page_at pack.base (get_or made.slot.pages i 0)) 1024 k (inl (omega arith))))
+      (spared_pages pack.base made.slot.pages w count s.whole inside count k (omega arith) (λ i page less is. is_outside (page_at pack.base (get_or made.slot.pages i 0)) page_bytes k (inl (omega arith))))
       (spared_body k out)
 
   changed_of : (i : ℕ) (page : List ℕ) → shadow_page w.pages i ≡ Some page → is_changed w i ≡ true
   changed_of i page is = ap (λ (o : Option (List ℕ)). is_some o) is
 
-  pub spared_named : (p k : ℕ) → k < 1024 → 1 ≤ times p (named_pages pack.copies) → touches pieces (page_at pack.base p + k) ≡ false
+  pub spared_named : (p k : ℕ) → k < page_bytes → 1 ≤ times p (named_pages pack.copies) → touches pieces (page_at pack.base p + k) ≡ false
   spared_named p k lt named = touches_none pages (body ∷ []) (page_at pack.base p + k)
       (spared_pages pack.base made.slot.pages w count s.whole inside count (page_at pack.base p + k) (omega arith) (λ i page less is.
       let free = eqb-true (times (get_or made.slot.pages i 0) (named_pages pack.copies)) 0 (s.takes.free i less (changed_of i page is)) in
-      is_outside (page_at pack.base (get_or made.slot.pages i 0)) 1024 (page_at pack.base p + k)
+      is_outside (page_at pack.base (get_or made.slot.pages i 0)) page_bytes (page_at pack.base p + k)
       (beside p (get_or made.slot.pages i 0) k lt (λ e. let f = ap (λ (q : ℕ). times q (named_pages pack.copies)) e in absurd (omega arith)))))
       (spared_body (page_at pack.base p + k) (let high = s.high in let low = s.low in let most = half_most made.half in is_outside (gate + 1) 511 (page_at pack.base p + k) (inr (omega arith))))
     where
-      beside : (p q k : ℕ) → k < 1024 → p ≢ q → (page_at pack.base p + k < page_at pack.base q) ⊎ (page_at pack.base q + 1024 ≤ page_at pack.base p + k)
+      beside : (p q k : ℕ) → k < page_bytes → p ≢ q → (page_at pack.base p + k < page_at pack.base q) ⊎ (page_at pack.base q + page_bytes ≤ page_at pack.base p + k)
       beside p q k lt ne = ⊎_elim (λ (less : p < q). inl (omega arith)) (λ (ge : q ≤ p). inr (omega arith)) (cases_lt p q)
 
   module _ (old : List ℕ) (shows : Shows pack old) where
@@ -126,7 +127,7 @@ module _ (pack : PackState) (ino : ℕ) (w : Working) (made : InodeCopy) (s : Se
     pub shut : is_open old gate ≡ false
     shut = ap (λ (half : Half). is_open old (slot_at pack.base ino half)) s.place ∙ shut_of pack.base ino old (copy_of pack.copies ino) own_shows
 
-    pub open_copy : (i : ℕ) (half : Half) → 1 ≤ i → i ≤ 1024 → is_open old (slot_at pack.base i half) ≡ true
+    pub open_copy : (i : ℕ) (half : Half) → 1 ≤ i → i ≤ inodes_max → is_open old (slot_at pack.base i half) ≡ true
         → (copy : InodeCopy) × (copy_of pack.copies i ≡ Some copy) × (copy.half ≡ half) × Holds old (slot_at pack.base i half) copy.slot
     open_copy i half low high is = open_of pack.base i half old (copy_of pack.copies i) (shows.copies i low high) is
 
@@ -209,7 +210,7 @@ module _ (pack : PackState) (ino : ℕ) (w : Working) (made : InodeCopy) (s : Se
       within = All-append (λ (piece : Piece). piece.at + length piece.bytes ≤ length old) pages (body ∷ []) (within_pages pack.base made.slot.pages w count s.whole inside old shows.area count (omega arith))
           (All-cons (λ (piece : Piece). piece.at + length piece.bytes ≤ length old) body [] (let fits = body_fits in let b = long_before in omega arith) (All-nil (λ (piece : Piece). piece.at + length piece.bytes ≤ length old)));
       inside = λ k out. touches_none pages (body ∷ []) k
-          (spared_pages pack.base made.slot.pages w count s.whole inside count k (omega arith) (λ i page less is. let number = inside i less in within_area pack.base (page_at pack.base (get_or made.slot.pages i 0)) 1024 k (omega arith) (omega arith) out))
+          (spared_pages pack.base made.slot.pages w count s.whole inside count k (omega arith) (λ i page less is. let number = inside i less in within_area pack.base (page_at pack.base (get_or made.slot.pages i 0)) page_bytes k (omega arith) (omega arith) out))
           (spared_body k (let high = s.high in let low = s.low in let p = half_most made.half in within_area pack.base (gate + 1) 511 k (omega arith) (omega arith) out));
       low = s.low;
       high = s.high;
@@ -249,11 +250,11 @@ module _ (pack : PackState) (ino : ℕ) (w : Working) (made : InodeCopy) (s : Se
     gate_spares p k = let high = s.high in let low = s.low in let q = half_most made.half in gate_torn.outside (page_at pack.base p + k) (is_outside gate 1 (page_at pack.base p + k) (inr (omega arith)))
 
     -- a page that is named stays
-    pub kept_byte : (p k : ℕ) → k < 1024 → 1 ≤ times p (named_pages pack.copies) → get_or new (page_at pack.base p + k) 0 ≡ get_or old (page_at pack.base p + k) 0
+    pub kept_byte : (p k : ℕ) → k < page_bytes → 1 ≤ times p (named_pages pack.copies) → get_or new (page_at pack.base p + k) 0 ≡ get_or old (page_at pack.base p + k) 0
     kept_byte p k lt named = gate_spares p k ∙ (torn_written pieces old may_replace.within).outside (page_at pack.base p + k) (spared_named p k lt named)
 
     -- a changed one has its new bytes
-    pub changed_byte : (i k : ℕ) (page : List ℕ) → i < pages_of w.size → shadow_page w.pages i ≡ Some page → k < 1024 → get_or new (page_at pack.base (get_or made.slot.pages i 0) + k) 0 ≡ get_or page k 0
+    pub changed_byte : (i k : ℕ) (page : List ℕ) → i < pages_of w.size → shadow_page w.pages i ≡ Some page → k < page_bytes → get_or new (page_at pack.base (get_or made.slot.pages i 0) + k) 0 ≡ get_or page k 0
     changed_byte i k page lt is small =
         let at = page_at pack.base (get_or made.slot.pages i 0) + k in
         let high = s.high in let low = s.low in let q = half_most made.half in let long = long_body in

@@ -1,8 +1,9 @@
 -- The pages of a content of which some are marked.
-use Rattle.std.proofs.Common.{◌≡◌, ⊎_elim, ℕ, zero, suc, ◌+◌, ◌*◌, ◌<◌, ◌≤◌, Bool, true, false, ltb, List, [], ◌∷◌, length, get_or, Option, None, Some, refl, sym, ◌∙◌, ap, arith, length-append}
-use Rattle.std.specs.Prelude.{is_some, ◌&&◌, if◌then◌else◌}
-use Rattle.std.proofs.lemmas.Bool.{cases_lt, lt-ltb, le-ltb, true≢false}
+use Rattle.std.proofs.Common.{◌≡◌, ⊎_elim, ℕ, zero, suc, ◌+◌, ◌*◌, ◌<◌, ◌≤◌, Bool, true, false, List, [], ◌∷◌, length, get_or, Option, None, Some, refl, sym, ◌∙◌, ap, arith, length-append}
+use Rattle.std.specs.Prelude.{is_some, if◌then◌else◌}
+use Rattle.std.proofs.lemmas.Bool.{cases_lt, true≢false}
 use Rattle.std.proofs.lemmas.List.{get_or_past, get_or_append_left, get_or_at}
+use Rattle.locus_ids.specs.Sizes.{page_bytes}
 use Rattle.file_content.specs.Pages.{pages_of}
 use Rattle.shadow_pages.specs.Working.{page_at as shadow_page, count_below}
 use Rattle.inode_pack.specs.Whole.{full_page}
@@ -37,25 +38,14 @@ some_if : (b : Bool) (page : List ℕ) → is_some (page_if b page) ≡ b
 some_if true page = refl
 some_if false page = refl
 
-and_true : (b : Bool) → (true && b) ≡ b
-and_true true = refl
-and_true false = refl
-
 pub changed_here : (bytes : List ℕ) (marks : List Bool) (i : ℕ) → i < pages_of (length bytes) → is_changed (marked bytes marks) i ≡ is_marked marks i
 changed_here bytes marks i lt = ap (λ (o : Option (List ℕ)). is_some o) (page_here bytes marks i lt) ∙ some_if (is_marked marks i) (full_page bytes i)
-
--- whether a page is changed
-pub marked_is : (bytes : List ℕ) (marks : List Bool) (i n : ℕ) → n ≡ pages_of (length bytes) → (ltb i n && is_marked marks i) ≡ is_changed (marked bytes marks) i
-marked_is bytes marks i n e = ⊎_elim
-    (λ (lt : i < n). ap (λ (b : Bool). b && is_marked marks i) (lt-ltb i n lt) ∙ and_true (is_marked marks i) ∙ sym (changed_here bytes marks i (omega arith)))
-    (λ (le : n ≤ i). ap (λ (b : Bool). b && is_marked marks i) (le-ltb i n le) ∙ sym (ap (λ (o : Option (List ℕ)). is_some o) (page_past bytes marks i (omega arith))))
-    (cases_lt i n)
 
 page_of_if : (b : Bool) (made page : List ℕ) → page_if b made ≡ Some page → (b ≡ true) × (made ≡ page)
 page_of_if true made page is = (refl, cc)
 page_of_if false made page is = absurd (let e : None ≡ Some page = is in cc)
 
-pub marked_long : (bytes : List ℕ) (marks : List Bool) (i : ℕ) (page : List ℕ) → shadow_page (marked bytes marks).pages i ≡ Some page → length page ≡ 1024
+pub marked_long : (bytes : List ℕ) (marks : List Bool) (i : ℕ) (page : List ℕ) → shadow_page (marked bytes marks).pages i ≡ Some page → length page ≡ page_bytes
 marked_long bytes marks i page is =
     let n = pages_of (length bytes) in
     ⊎_elim
@@ -78,13 +68,13 @@ page_unchanged bytes marks i is = none_if (shadow_page (marked bytes marks).page
     none_if (Some x) e = absurd (cc)
 
 -- a page past the end, and one without a mark, isn't changed
-pub past_end : (bytes : List ℕ) (marks : List Bool) (i at : ℕ) → at ≡ i → length bytes ≤ 1024 * at → false ≡ is_changed (marked bytes marks) i
+pub past_end : (bytes : List ℕ) (marks : List Bool) (i at : ℕ) → at ≡ i → length bytes ≤ page_bytes * at → false ≡ is_changed (marked bytes marks) i
 past_end bytes marks i at e le = sym (ap (λ (o : Option (List ℕ)). is_some o) (page_past bytes marks i (omega arith)))
 
-pub is_mark : (bytes : List ℕ) (marks : List Bool) (i at : ℕ) → at ≡ i → 1024 * at < length bytes → get_or marks at false ≡ is_changed (marked bytes marks) i
+pub is_mark : (bytes : List ℕ) (marks : List Bool) (i at : ℕ) → at ≡ i → page_bytes * at < length bytes → get_or marks at false ≡ is_changed (marked bytes marks) i
 is_mark bytes marks i at e lt = ap (λ (n : ℕ). get_or marks n false) e ∙ sym (changed_here bytes marks i (omega arith))
 
-pub no_mark : (bytes : List ℕ) (marks : List Bool) (i at : ℕ) → at ≡ i → 1024 * at < length bytes → length marks ≤ at → false ≡ is_changed (marked bytes marks) i
+pub no_mark : (bytes : List ℕ) (marks : List Bool) (i at : ℕ) → at ≡ i → page_bytes * at < length bytes → length marks ≤ at → false ≡ is_changed (marked bytes marks) i
 no_mark bytes marks i at e lt le = sym (get_or_past marks at false le) ∙ is_mark bytes marks i at e lt
 
 -- so many of the first pages are changed as are marked
@@ -108,7 +98,7 @@ needed_row bytes marks first stop n has ordered inside is =
     let behind = count_gap (is_changed w) stop end inside (λ p low high. unchanged w first stop p has high (λ out. omega (arith, out.1, low))) in
     omega (arith, is, before, behind, counts bytes marks first (omega arith), counts bytes marks stop inside)
 
-pub new_page : (bytes : List ℕ) (marks : List Bool) (i : ℕ) → is_changed (marked bytes marks) i ≡ true → 1024 * i < length bytes → shadow_page (marked bytes marks).pages i ≡ Some (full_page bytes i)
+pub new_page : (bytes : List ℕ) (marks : List Bool) (i : ℕ) → is_changed (marked bytes marks) i ≡ true → page_bytes * i < length bytes → shadow_page (marked bytes marks).pages i ≡ Some (full_page bytes i)
 new_page bytes marks i is lt = page_changed bytes marks i (omega arith) (sym (changed_here bytes marks i (omega arith)) ∙ is)
 
 -- pages in a row are all that are changed, where no other one is marked
@@ -118,7 +108,3 @@ row_has bytes marks first stop end e before behind i lt is =
       ⊎_elim (λ (less : i < first). absurd (true≢false (sym mark ∙ before i less))) (λ (le : first ≤ i). le) (cases_lt i first),
       ⊎_elim (λ (less : i < stop). less) (λ (le : stop ≤ i). absurd (true≢false (sym mark ∙ behind i le (omega arith)))) (cases_lt i stop),
     )
-
--- a mark as the code reads it
-pub mark_at : (marks : List Bool) (i at : ℕ) → at ≡ i → get_or marks at false ≡ false → is_marked marks i ≡ false
-mark_at marks i at e is = ap (λ (n : ℕ). get_or marks n false) (sym e) ∙ is

@@ -1,6 +1,7 @@
 -- A mount leaves a pack as it was.
 use Rattle.std.proofs.Common.{◌≡◌, ◌≤◌, ◌+◌, ◌∙◌, subst, sym, List, ℕ, Bool, length, refl, arith}
 use Rattle.std.specs.Prelude.{Option, Result, Ok, Err, IfErr, IsErrAnd}
+use Rattle.locus_ids.specs.Sizes.{inodes_max}
 use Rattle.pack_layout.specs.Layout.{area_length}
 use Rattle.pack_slots.specs.declared.inode_copy.InodeCopy.{InodeCopy}
 use Rattle.pack_slots.specs.declared.mount_fault.MountFault.{MountFault}
@@ -33,7 +34,7 @@ mounted pack old new area named kept shows =
     let long = kept.slots.long in
     record { area = omega arith; named = named_still pack.base pack.group pack.site pack.copies old new kept named; copies = shows }
 
-pub recovered : (base : ℕ) (image : List ℕ) (copies : List (Option InodeCopy)) (losing : List Bool) → AreFound base 1024 image copies losing → Recovers base image copies
+pub recovered : (base : ℕ) (image : List ℕ) (copies : List (Option InodeCopy)) (losing : List Bool) → AreFound base inodes_max image copies losing → Recovers base image copies
 recovered base image copies losing found ino low high = found_counts base ino image (copy_of copies ino) (is_losing losing ino) (found ino low high)
 
 -- a sound image gives no cause

@@ -3,6 +3,7 @@ use Rattle.std.proofs.Common.{◌≡◌, ℕ, ◌+◌, ◌*◌, ◌/◌, ◌%◌
 use Rattle.std.specs.Prelude.{is_some}
 use Rattle.std.proofs.lemmas.Bool.{lt-ltb}
 use Rattle.std.proofs.lemmas.List.{same_lists, get_or_default}
+use Rattle.locus_ids.specs.Sizes.{page_bytes}
 use Rattle.pack_layout.specs.Layout.{slot_at, page_at}
 use Rattle.shadow_pages.specs.Working.{Working, page_at as shadow_page, byte_in, byte_at, content}
 use Rattle.shadow_pages.proofs.Bytes.{length_below, below_at}
@@ -11,7 +12,7 @@ use Rattle.inode_switch.specs.View.{Version, version, version_in, view}
 use Rattle.inode_switch.specs.Replace.{made_version, made_bytes}
 use Rattle.inode_switch.proofs.VersionBytes.{content_length, content_byte}
 use Rattle.pack_slots.specs.declared.inode_copy.InodeCopy.{InodeCopy}
-use Rattle.inode_pack.specs.declared.new_version.NewVersion.{NewVersion}
+use Rattle.stored_versions.specs.declared.new_version.NewVersion.{NewVersion}
 use Rattle.inode_pack.specs.Pack.{PackState, number_in, Shows}
 use Rattle.pack_slots.specs.Copies.{copy_of, ShowsCopy}
 use Rattle.pack_slots.specs.Slots.{IsFound}
@@ -42,16 +43,16 @@ module _ (pack : PackState) (ino : ℕ) (w : Working) (made : InodeCopy) (s : Se
   new_length : length (version new pack.base gate).content ≡ w.size
   new_length = content_length new pack.base gate made.slot s.slot (new_says pack ino w made s old shows) (new_area pack ino w made s old shows) ∙ s.size
 
-  new_byte : (k : ℕ) → k < w.size → get_or (version new pack.base gate).content k 0 ≡ get_or new (page_at pack.base (get_or made.slot.pages (k / 1024) 0) + k % 1024) 0
+  new_byte : (k : ℕ) → k < w.size → get_or (version new pack.base gate).content k 0 ≡ get_or new (page_at pack.base (get_or made.slot.pages (k / page_bytes) 0) + k % page_bytes) 0
   new_byte k lt = let e = s.size in content_byte new pack.base gate made.slot s.slot (new_says pack ino w made s old shows) (new_area pack ino w made s old shows) k (omega arith)
 
   -- the byte that the shadow has
-  right : (k : ℕ) → k < w.size → (o : Option (List ℕ)) → o ≡ shadow_page w.pages (k / 1024) → get_or new (page_at pack.base (get_or made.slot.pages (k / 1024) 0) + k % 1024) 0 ≡ byte_in o (k % 1024) (get_or base_content k 0)
-  right k lt (Some page) is = changed_byte pack ino w made s old shows (k / 1024) (k % 1024) page (omega arith) (sym is) (omega arith)
+  right : (k : ℕ) → k < w.size → (o : Option (List ℕ)) → o ≡ shadow_page w.pages (k / page_bytes) → get_or new (page_at pack.base (get_or made.slot.pages (k / page_bytes) 0) + k % page_bytes) 0 ≡ byte_in o (k % page_bytes) (get_or base_content k 0)
+  right k lt (Some page) is = changed_byte pack ino w made s old shows (k / page_bytes) (k % page_bytes) page (omega arith) (sym is) (omega arith)
   right k lt None is =
-      let i = k / 1024 in
-      let r = k % 1024 in
-      let parts : k ≡ 1024 * (k / 1024) + k % 1024 = omega arith in
+      let i = k / page_bytes in
+      let r = k % page_bytes in
+      let parts : k ≡ page_bytes * (k / page_bytes) + k % page_bytes = omega arith in
       let small : k < size_of (copy_of pack.copies ino) = s.rests k lt (sym is) in
       let h = held_page (copy_of pack.copies ino) i (omega arith) in
       let copy = h.0 in
@@ -71,7 +72,7 @@ module _ (pack : PackState) (ino : ℕ) (w : Working) (made : InodeCopy) (s : Se
       same_lists (version new pack.base gate).content (content base_content w) count (λ k d lt.
       let less : k < w.size = omega arith in
       get_or_default (version new pack.base gate).content k d 0 lt
-      ∙ new_byte k less ∙ right k less (shadow_page w.pages (k / 1024)) refl
+      ∙ new_byte k less ∙ right k less (shadow_page w.pages (k / page_bytes)) refl
       ∙ sym (below_at (byte_at base_content w) w.size k ∙ ap (λ (b : Bool). cond b (byte_at base_content w k) 0) (lt-ltb k w.size less))
       ∙ get_or_default (content base_content w) k 0 d (omega arith))
 

@@ -3,12 +3,13 @@ use Rattle.std.proofs.Common.{◌≡◌, ◌≢◌, ◌⊎◌, ℕ, zero, suc, �
 use Rattle.std.specs.Prelude.{◌==◌, IfSome}
 use Rattle.std.proofs.lemmas.Bool.{cases_eq, cases_Bool, eqb-true}
 use Rattle.std.proofs.lemmas.List.{get_or-set_same, get_or-set_other, get_or_default}
+use Rattle.locus_ids.specs.Sizes.{inodes_max, pack_pages}
 use Rattle.shadow_pages.proofs.Counts.{count_below_same}
 use Rattle.file_content.specs.Pages.{pages_of}
 use Rattle.pack_layout.specs.Layout.{IsSlot}
 use Rattle.shadow_pages.specs.Working.{Working, count_below}
 use Rattle.pack_slots.specs.declared.inode_copy.InodeCopy.{InodeCopy}
-use Rattle.inode_pack.specs.declared.new_version.NewVersion.{NewVersion}
+use Rattle.stored_versions.specs.declared.new_version.NewVersion.{NewVersion}
 use Rattle.inode_pack.specs.Pack.{PackState, number_in}
 use Rattle.pack_slots.specs.Copies.{copy_of, pages_in, named_pages, times, IsCopy, AreCopies, AreUses}
 use Rattle.inode_pack.specs.Committing.{is_changed, is_free, Makes}
@@ -53,17 +54,17 @@ held_at copies zero low = absurd (omega arith)
 held_at copies (suc i) low = let e : suc i - 1 ≡ i = omega arith in ap (λ (k : ℕ). get_or copies k None) e
 
 -- the pages of slots are below the end of the area
-all_below : (copies : List (Option InodeCopy)) → ((i : ℕ) → IfSome (get_or copies i None) (λ copy. IsSlot copy.slot)) → AreBelow 3072 (named_pages copies)
+all_below : (copies : List (Option InodeCopy)) → ((i : ℕ) → IfSome (get_or copies i None) (λ copy. IsSlot copy.slot)) → AreBelow pack_pages (named_pages copies)
 all_below [] own = tt
 all_below (None ∷ copies) own = all_below copies (λ i. own (suc i))
-all_below (Some copy ∷ copies) own = below-append 3072 (take (pages_of copy.slot.size) copy.slot.pages) (named_pages copies) (below_take 3072 (pages_of copy.slot.size) copy.slot.pages (own 0).pages.inside) (all_below copies (λ i. own (suc i)))
+all_below (Some copy ∷ copies) own = below-append pack_pages (take (pages_of copy.slot.size) copy.slot.pages) (named_pages copies) (below_take pack_pages (pages_of copy.slot.size) copy.slot.pages (own 0).pages.inside) (all_below copies (λ i. own (suc i)))
 
 slot_of_copy : (ino : ℕ) (o : Option InodeCopy) → IfSome o (λ copy. IsCopy ino copy) → IfSome o (λ copy. IsSlot copy.slot)
 slot_of_copy ino None h = tt
 slot_of_copy ino (Some copy) h = h.slot
 
 -- the data pages that copies don't name
-pub free_pages : (copies : List (Option InodeCopy)) (n : ℕ) → n ≡ 3072 → AreCopies copies → count_below (λ p. times p (named_pages copies) == 0) n + length (named_pages copies) ≡ n
+pub free_pages : (copies : List (Option InodeCopy)) (n : ℕ) → n ≡ pack_pages → AreCopies copies → count_below (λ p. times p (named_pages copies) == 0) n + length (named_pages copies) ≡ n
 free_pages copies n e are =
     unnamed n (named_pages copies) (subst (λ (m : ℕ). AreBelow m (named_pages copies)) (sym e) (all_below copies (λ i. slot_of_copy (suc i) (get_or copies i None) (are.own (suc i))))) are.apart
 
@@ -140,18 +141,18 @@ module _ (pack : PackState) (ino : ℕ) (w : Working) (made : InodeCopy) (s : Se
 pub low_of : (got ino : ℕ) → got ≡ ino → 1 ≤ got → 1 ≤ ino
 low_of got ino e low = omega arith
 
-pub high_of : (got ino : ℕ) → got ≡ ino → got ≤ 1024 → ino ≤ 1024
+pub high_of : (got ino : ℕ) → got ≡ ino → got ≤ inodes_max → ino ≤ inodes_max
 high_of got ino e high = omega arith
 
 -- the copy of an inode, and how the data pages are named
 module _ (copies : List (Option InodeCopy)) (uses : List ℕ) (free : ℕ) (are : AreCopies copies) (used : AreUses copies uses free) where
-  pub copy_at : (ino k : ℕ) (o : Option InodeCopy) → 1 ≤ ino → ino ≤ 1024 → k ≡ ino → o ≡ get_or copies (k - 1) o → o ≡ copy_of copies ino
+  pub copy_at : (ino k : ℕ) (o : Option InodeCopy) → 1 ≤ ino → ino ≤ inodes_max → k ≡ ino → o ≡ get_or copies (k - 1) o → o ≡ copy_of copies ino
   copy_at ino k o low high e at =
       let count = are.count in
       at ∙ ap (λ (j : ℕ). get_or copies (j - 1) o) e ∙ get_or_default copies (ino - 1) o None (omega arith) ∙ held_at copies ino low
 
   -- the table of names says which pages are free
-  pub free_alike : (p : ℕ) → p < 3072 → (get_or uses p 0 == 0) ≡ (times p (named_pages copies) == 0)
+  pub free_alike : (p : ℕ) → p < pack_pages → (get_or uses p 0 == 0) ≡ (times p (named_pages copies) == 0)
   free_alike p lt = ap (λ (n : ℕ). n == 0) (used.each p lt)
 
   pub room_for : (needed : ℕ) → needed ≤ free → needed ≤ count_below (λ p. get_or uses p 0 == 0) (length uses)
@@ -163,20 +164,20 @@ module _ (copies : List (Option InodeCopy)) (uses : List ℕ) (free : ℕ) (are 
       omega arith
 
   -- with another copy in its place
-  module _ (ino : ℕ) (made : InodeCopy) (low : 1 ≤ ino) (high : ino ≤ 1024) (next : AreCopies (set copies (ino - 1) (Some made))) where
+  module _ (ino : ℕ) (made : InodeCopy) (low : 1 ≤ ino) (high : ino ≤ inodes_max) (next : AreCopies (set copies (ino - 1) (Some made))) where
     in_list : ino ≤ length copies
     in_list = let count = are.count in omega arith
 
     pub made_slot : IsSlot made.slot
     made_slot = (subst (λ (o : Option InodeCopy). IfSome o (λ copy. IsCopy ino copy)) (own_copy copies ino (Some made) low in_list) (next.own ino)).slot
 
-    few_next : length (named_pages (set copies (ino - 1) (Some made))) ≤ 3072
+    few_next : length (named_pages (set copies (ino - 1) (Some made))) ≤ pack_pages
     few_next = let all = free_pages (set copies (ino - 1) (Some made)) (length uses) used.count next in let count = used.count in omega arith
 
     pub enough : (old new : ℕ) → old ≡ length (pages_in (copy_of copies ino)) → new ≡ length (pages_in (Some made)) → new ≤ free + old
     enough old new e f = let l = length_set copies ino (Some made) low in_list in let few = few_next in let g = used.rest in omega arith
 
-    pub named_once : (p : ℕ) → p < 3072 → get_or uses p 0 + times p (pages_in (Some made)) < 2 ^ 32
+    pub named_once : (p : ℕ) → p < pack_pages → get_or uses p 0 + times p (pages_in (Some made)) < 2 ^ 32
     named_once p lt =
         let before = are.apart p in
         let one = times_set copies ino (Some made) low in_list p in
@@ -185,10 +186,10 @@ module _ (copies : List (Option InodeCopy)) (uses : List ℕ) (free : ℕ) (are 
         let old = part_of copies ino p in
         omega arith
 
-    pub released_once : (p : ℕ) → p < 3072 → times p (pages_in (copy_of copies ino)) ≤ get_or uses p 0
+    pub released_once : (p : ℕ) → p < pack_pages → times p (pages_in (copy_of copies ino)) ≤ get_or uses p 0
     released_once p lt = let u = used.each p lt in let old = part_of copies ino p in omega arith
 
-    pub uses_next : (after : List ℕ) (old new left : ℕ) → length after ≡ 3072 → ((p : ℕ) → p < 3072 → get_or after p 0 + times p (pages_in (copy_of copies ino)) ≡ get_or uses p 0 + times p (pages_in (Some made)))
+    pub uses_next : (after : List ℕ) (old new left : ℕ) → length after ≡ pack_pages → ((p : ℕ) → p < pack_pages → get_or after p 0 + times p (pages_in (copy_of copies ino)) ≡ get_or uses p 0 + times p (pages_in (Some made)))
         → old ≡ length (pages_in (copy_of copies ino)) → new ≡ length (pages_in (Some made)) → left ≡ free + old - new → AreUses (set copies (ino - 1) (Some made)) after left
     uses_next after old new left long named e f r = record {
       count = long;

@@ -2,6 +2,7 @@
 use Rattle.std.proofs.Common.{◌≡◌, ◌⊎◌, ⊎_elim, ℕ, ◌<◌, ◌≤◌, Bool, List, sym, ◌∙◌, arith}
 use Rattle.std.specs.Prelude.{Some}
 use Rattle.std.proofs.lemmas.Bool.{cases_lt}
+use Rattle.locus_ids.specs.Sizes.{content_pages_max}
 use Rattle.file_content.specs.Pages.{pages_of}
 use Rattle.pack_layout.specs.Layout.{IsSlot}
 use Rattle.shadow_pages.specs.Working.{Working}
@@ -12,7 +13,7 @@ use Rattle.inode_pack.proofs.Taking.{unchanged}
 
 -- a content that isn't shorter than the one before has the same data pages but for the row of the changed ones
 pub same_but_for : (unused : ℕ → Bool) (copy : InodeCopy) (w : Working) (made : List ℕ) (first stop n m : ℕ) → IsSlot copy.slot → TakesPages unused (Some copy) w made → HasChanged first stop w
-    → ((n ≡ 0) × (m ≡ 64)) ⊎ ((n ≡ first) × (m ≡ stop) × (pages_of copy.slot.size ≤ pages_of w.size)) → SameButFor n m copy.slot.pages made
+    → ((n ≡ 0) × (m ≡ content_pages_max)) ⊎ ((n ≡ first) × (m ≡ stop) × (pages_of copy.slot.size ≤ pages_of w.size)) → SameButFor n m copy.slot.pages made
 same_but_for unused copy w made first stop n m slot takes has row i small out = ⊎_elim
     (λ all. absurd (out (omega (arith, all.0), omega (arith, all.1))))
     (λ some. ⊎_elim

@@ -3,6 +3,7 @@ use Rattle.std.proofs.Common.{◌≡◌, ◌≢◌, ℕ, zero, suc, ◌+◌, ◌
 use Rattle.std.proofs.lemmas.Bool.{cases_lt}
 use Rattle.std.proofs.lemmas.Bool.Decides.{nat_tests}
 use Rattle.std.proofs.lemmas.List.Elements.{All-append, All-nil, All-cons}
+use Rattle.locus_ids.specs.Sizes.{page_bytes, pack_pages}
 use Rattle.disk_model.specs.Images.{is_within}
 use Rattle.pack_layout.specs.Layout.{page_at}
 use Rattle.shadow_pages.specs.Working.{Working, page_at as shadow_page}
@@ -40,9 +41,9 @@ within_piece : (at m : ℕ) (o : Option (List ℕ)) → ((page : List ℕ) → o
 within_piece at m None h = All-nil (λ (piece : Piece). piece.at + length piece.bytes ≤ m)
 within_piece at m (Some page) h = All-cons (λ (piece : Piece). piece.at + length piece.bytes ≤ m) (record { at = at; bytes = page }) [] (h page refl) (All-nil (λ (piece : Piece). piece.at + length piece.bytes ≤ m))
 
-module _ (base : ℕ) (numbers : List ℕ) (w : Working) (limit : ℕ) (whole : AreWhole w limit) (inside : (i : ℕ) → i < limit → get_or numbers i 0 < 3072) where
+module _ (base : ℕ) (numbers : List ℕ) (w : Working) (limit : ℕ) (whole : AreWhole w limit) (inside : (i : ℕ) → i < limit → get_or numbers i 0 < pack_pages) where
   -- places outside the pages that are written
-  pub spared_pages : (n k : ℕ) → n ≤ limit → ((i : ℕ) (page : List ℕ) → i < n → shadow_page w.pages i ≡ Some page → is_within (page_at base (get_or numbers i 0)) 1024 k ≡ false) → touches (page_pieces base numbers w n) k ≡ false
+  pub spared_pages : (n k : ℕ) → n ≤ limit → ((i : ℕ) (page : List ℕ) → i < n → shadow_page w.pages i ≡ Some page → is_within (page_at base (get_or numbers i 0)) page_bytes k ≡ false) → touches (page_pieces base numbers w n) k ≡ false
   spared_pages zero k le h = refl
   spared_pages (suc n) k le h =
       touches_none (page_pieces base numbers w n) (piece_at (page_at base (get_or numbers n 0)) (shadow_page w.pages n)) k
@@ -70,7 +71,7 @@ module _ (base : ℕ) (numbers : List ℕ) (w : Working) (limit : ℕ) (whole : 
         (within_piece (page_at base (get_or numbers n 0)) (length old) (shadow_page w.pages n) (λ page is. fits_page n (length old) page (omega arith) refl is))
 
     -- a page that is written has its bytes
-    pub written_page : ((i j : ℕ) → i < j → j < limit → get_or numbers i 0 ≢ get_or numbers j 0) → (n i k : ℕ) (page : List ℕ) → n ≤ limit → i < n → shadow_page w.pages i ≡ Some page → k < 1024
+    pub written_page : ((i j : ℕ) → i < j → j < limit → get_or numbers i 0 ≢ get_or numbers j 0) → (n i k : ℕ) (page : List ℕ) → n ≤ limit → i < n → shadow_page w.pages i ≡ Some page → k < page_bytes
         → get_or (written old (page_pieces base numbers w n)) (page_at base (get_or numbers i 0) + k) 0 ≡ get_or page k 0
     written_page apart zero i k page le lt is small = absurd (omega arith)
     written_page apart (suc n) i k page le lt is small =
@@ -93,5 +94,5 @@ module _ (base : ℕ) (numbers : List ℕ) (w : Working) (limit : ℕ) (whole : 
         ∙ inside_piece at k xs page (shadow_page w.pages n) own (fits_page n (length xs) page (omega arith) long own) (let bytes = whole n page (omega arith) own in omega arith))
         (cases_lt i n)
       where
-        beside : (p q m : ℕ) → m ≡ 1024 → p ≢ q → (page_at base p + k < page_at base q) ⊎ (page_at base q + m ≤ page_at base p + k)
+        beside : (p q m : ℕ) → m ≡ page_bytes → p ≢ q → (page_at base p + k < page_at base q) ⊎ (page_at base q + m ≤ page_at base p + k)
         beside p q m e ne = ⊎_elim (λ (less : p < q). inl (omega arith)) (λ (ge : q ≤ p). inr (omega arith)) (cases_lt p q)

@@ -1,16 +1,18 @@
 -- What a commit knows of the pack and of the copy that it makes.
-use Rattle.std.proofs.Common.{◌≡◌, ◌≢◌, ℕ, zero, suc, ◌*◌, ◌/◌, ◌^◌, ◌<◌, ◌≤◌, true, false, ⊎_elim, List, length, get_or, Option, None, Some, refl, sym, ap, subst, ◌∙◌, arith}
+use Rattle.std.proofs.Common.{◌≡◌, ◌≢◌, ℕ, zero, suc, ◌*◌, ◌/◌, ◌<◌, ◌≤◌, true, false, ⊎_elim, List, length, get_or, Option, None, Some, refl, sym, ap, subst, ◌∙◌, arith}
 use Rattle.std.specs.Prelude.{is_some, IfSome}
 use Rattle.std.proofs.lemmas.Bool.{cases_Bool, eqb-true, true≢false}
+use Rattle.locus_ids.specs.Sizes.{inodes_max, page_bytes, content_pages_max, pack_pages, set_span}
 use Rattle.pack_layout.specs.declared.slot.Slot.{Slot}
 use Rattle.file_content.specs.Pages.{pages_of}
 use Rattle.pack_layout.specs.Layout.{IsSlot, NamePages}
 use Rattle.shadow_pages.specs.Working.{Working, page_at as shadow_page}
 use Rattle.pack_slots.specs.declared.inode_copy.InodeCopy.{InodeCopy}
-use Rattle.inode_pack.specs.declared.new_version.NewVersion.{NewVersion}
+use Rattle.stored_versions.specs.declared.new_version.NewVersion.{NewVersion}
 use Rattle.inode_pack.specs.Pack.{PackState, number_in}
 use Rattle.pack_slots.specs.Copies.{copy_of, pages_in, named_pages, times, IsCopy, AreCopies}
-use Rattle.inode_pack.specs.Committing.{IsVersion, RestsOn, size_of, is_changed, is_free, TakesPages, Makes, next_half, next_turn}
+use Rattle.inode_pack.specs.Committing.{RestsOn, size_of, is_changed, is_free, TakesPages, Makes, next_half, next_turn}
+use Rattle.stored_versions.specs.Versions.{IsVersion}
 use Rattle.inode_pack.specs.PagePieces.{AreWhole}
 use Rattle.pack_slots.proofs.PageTimes.{named_here}
 use Rattle.pack_slots.proofs.NamedPages.{named_part}
@@ -18,7 +20,7 @@ use Rattle.pack_slots.proofs.NamedPages.{named_part}
 pub record Setup (pack : PackState) (ino : ℕ) (w : Working) (made : InodeCopy) : Type 0 where
   pub are : AreCopies pack.copies
   pub low : 1 ≤ ino
-  pub high : ino ≤ 1024
+  pub high : ino ≤ inodes_max
   pub slot : IsSlot made.slot
   pub own : made.slot.ino ≡ ino
   pub size : made.slot.size ≡ w.size
@@ -51,16 +53,16 @@ page_named copies ino i copy are held lt =
     omega arith
 
 -- a place below the size of a copy's content is one of a copy
-pub held_page : (o : Option InodeCopy) (i : ℕ) → 1024 * i < size_of o → (copy : InodeCopy) × (o ≡ Some copy) × (i < pages_of copy.slot.size)
+pub held_page : (o : Option InodeCopy) (i : ℕ) → page_bytes * i < size_of o → (copy : InodeCopy) × (o ≡ Some copy) × (i < pages_of copy.slot.size)
 held_page None i lt = absurd (omega arith)
 held_page (Some copy) i lt = (copy, refl, omega arith)
 
 -- an unchanged page of a new content is one of the copy's
 pub kept_page : (o : Option InodeCopy) (w : Working) (i : ℕ) → RestsOn (size_of o) w → i < pages_of w.size → is_changed w i ≡ false → (copy : InodeCopy) × (o ≡ Some copy) × (i < pages_of copy.slot.size)
 kept_page o w i rests lt unchanged =
-    let e : 1024 * i / 1024 ≡ i = omega arith in
+    let e : page_bytes * i / page_bytes ≡ i = omega arith in
     let none = none_of (shadow_page w.pages i) unchanged in
-    held_page o i (rests (1024 * i) (omega arith) (ap (λ (n : ℕ). shadow_page w.pages n) e ∙ none))
+    held_page o i (rests (page_bytes * i) (omega arith) (ap (λ (n : ℕ). shadow_page w.pages n) e ∙ none))
 
 -- the new copy is a slot that may stand on a disk
 module _ (copies : List (Option InodeCopy)) (ino : ℕ) (w : Working) (numbers : List ℕ) (are : AreCopies copies) (rests : RestsOn (size_of (copy_of copies ino)) w)
@@ -81,7 +83,7 @@ module _ (copies : List (Option InodeCopy)) (ino : ℕ) (w : Working) (numbers :
   taken_unnamed : (i : ℕ) → i < pages_of w.size → is_changed w i ≡ true → times (get_or numbers i 0) (named_pages copies) ≡ 0
   taken_unnamed i lt changed = eqb-true _ 0 (takes.free i lt changed)
 
-  pub number_inside : (i : ℕ) → i < pages_of w.size → get_or numbers i 0 < 3072
+  pub number_inside : (i : ℕ) → i < pages_of w.size → get_or numbers i 0 < pack_pages
   number_inside i lt = ⊎_elim
       (λ (changed : is_changed w i ≡ true). takes.inside i lt changed)
       (λ (unchanged : is_changed w i ≡ false).
@@ -113,7 +115,7 @@ module _ (copies : List (Option InodeCopy)) (ino : ℕ) (w : Working) (numbers :
       (cases_Bool (is_changed w j)))
       (cases_Bool (is_changed w i))
 
-  pub names_pages : length numbers ≡ 64 → NamePages (pages_of w.size) numbers
+  pub names_pages : length numbers ≡ content_pages_max → NamePages (pages_of w.size) numbers
   names_pages long = record { count = long; inside = number_inside; distinct = numbers_distinct; rest = takes.rest }
 
 -- the turns go round
@@ -122,7 +124,7 @@ next_small None = omega arith
 next_small (Some copy) = omega arith
 
 pub set_up : (pack : PackState) (ino : ℕ) (version : NewVersion) (w : Working) (made : InodeCopy)
-    → 1 ≤ ino → ino ≤ 1024 → AreCopies pack.copies → IsVersion version w.size → version.set.0 < 2 ^ 16 → RestsOn (size_of (copy_of pack.copies ino)) w → AreWhole w (pages_of w.size) → length made.slot.pages ≡ 64
+    → 1 ≤ ino → ino ≤ inodes_max → AreCopies pack.copies → IsVersion version w.size → version.set.0 < set_span → RestsOn (size_of (copy_of pack.copies ino)) w → AreWhole w (pages_of w.size) → length made.slot.pages ≡ content_pages_max
     → Makes (is_free pack.copies) (copy_of pack.copies ino) ino version w made → Setup pack ino w made
 set_up pack ino version w made low high are is fits rests whole long makes =
     let says = makes.says in

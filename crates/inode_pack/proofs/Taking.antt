@@ -3,6 +3,7 @@ use Rattle.std.proofs.Common.{◌≡◌, ◌≢◌, ℕ, zero, suc, ◌+◌, ◌
 use Rattle.std.specs.Prelude.{Option, Some, is_some}
 use Rattle.std.proofs.lemmas.Bool.{cases_lt, true≢false}
 use Rattle.std.proofs.lemmas.List.{get_or-set_same, get_or-set_other}
+use Rattle.locus_ids.specs.Sizes.{page_bytes, content_pages_max, pack_pages}
 use Rattle.file_content.specs.Pages.{pages_of}
 use Rattle.shadow_pages.specs.Working.{Working, count_below, page_at as shadow_page}
 use Rattle.inode_pack.specs.PagePieces.{AreWhole}
@@ -14,15 +15,15 @@ use Rattle.inode_pack.proofs.FreeCounts.{count_true, count_false, count_gap, cou
 
 -- the first n pages have their numbers, the others those from before, and every unused data page below `from` is taken
 pub record TakesSoFar (unused : ℕ → Bool) (old : Option InodeCopy) (w : Working) (n from : ℕ) (numbers : List ℕ) : Type 0 where
-  pub long : length numbers ≡ 64
-  pub small : from ≤ 3072
+  pub long : length numbers ≡ content_pages_max
+  pub small : from ≤ pack_pages
   pub count : count_below unused from ≡ count_below (is_changed w) n
   pub stays : (i : ℕ) → i < n → is_changed w i ≡ false → get_or numbers i 0 ≡ number_in old i
   pub below : (i : ℕ) → i < n → is_changed w i ≡ true → get_or numbers i 0 < from
   pub free : (i : ℕ) → i < n → is_changed w i ≡ true → unused (get_or numbers i 0) ≡ true
   pub ascend : (i j : ℕ) → i < j → j < n → is_changed w i ≡ true → is_changed w j ≡ true → get_or numbers i 0 < get_or numbers j 0
   pub taken : (page : ℕ) → page < from → unused page ≡ true → (j : ℕ) × (j < n) × (is_changed w j ≡ true) × (get_or numbers j 0 ≡ page)
-  pub later : (i : ℕ) → n ≤ i → i < 64 → get_or numbers i 0 ≡ number_in old i
+  pub later : (i : ℕ) → n ≤ i → i < content_pages_max → get_or numbers i 0 ≡ number_in old i
 
 not_true : (b : Bool) → (b ≡ true → ⊥) → b ≡ false
 not_true true never = absurd (never refl)
@@ -39,7 +40,7 @@ whole_skip w n m before none = λ i page lt is. ⊎_elim
     (λ (ge : n ≤ i). absurd (true≢false (sym (ap (λ (o : Option (List ℕ)). is_some o) is) ∙ none i ge lt)))
     (cases_lt i n)
 
-pub whole_more : (w : Working) (n : ℕ) → AreWhole w n → ((page : List ℕ) → shadow_page w.pages n ≡ Some page → length page ≡ 1024) → AreWhole w (n + 1)
+pub whole_more : (w : Working) (n : ℕ) → AreWhole w n → ((page : List ℕ) → shadow_page w.pages n ≡ Some page → length page ≡ page_bytes) → AreWhole w (n + 1)
 whole_more w n before here = λ i page lt is. ⊎_elim
     (λ (less : i < n). before i page less is)
     (λ (ge : n ≤ i). let e : i ≡ n = omega arith in here page (ap (λ (j : ℕ). shadow_page w.pages j) (sym e) ∙ is))
@@ -47,7 +48,7 @@ whole_more w n before here = λ i page lt is. ⊎_elim
 
 module _ (unused : ℕ → Bool) (old : Option InodeCopy) (w : Working) where
   -- where no data page below one is free, the search begins there
-  pub takes_start : (numbers : List ℕ) (least : ℕ) → length numbers ≡ 64 → least ≤ 3072 → ((page : ℕ) → page < least → unused page ≡ false) → ((i : ℕ) → i < 64 → get_or numbers i 0 ≡ number_in old i) → TakesSoFar unused old w 0 least numbers
+  pub takes_start : (numbers : List ℕ) (least : ℕ) → length numbers ≡ content_pages_max → least ≤ pack_pages → ((page : ℕ) → page < least → unused page ≡ false) → ((i : ℕ) → i < content_pages_max → get_or numbers i 0 ≡ number_in old i) → TakesSoFar unused old w 0 least numbers
   takes_start numbers least long small none before = record {
     long = long;
     small = small;
@@ -60,7 +61,7 @@ module _ (unused : ℕ → Bool) (old : Option InodeCopy) (w : Working) where
     later = λ i le lt. before i lt;
   }
 
-  module _ (n from : ℕ) (numbers : List ℕ) (so_far : TakesSoFar unused old w n from numbers) (fits : n < 64) where
+  module _ (n from : ℕ) (numbers : List ℕ) (so_far : TakesSoFar unused old w n from numbers) (fits : n < content_pages_max) where
     same : (x i : ℕ) → i ≢ n → get_or (set numbers n x) i 0 ≡ get_or numbers i 0
     same x i ne = get_or-set_other numbers n i x 0 ne
 
@@ -85,7 +86,7 @@ module _ (unused : ℕ → Bool) (old : Option InodeCopy) (w : Working) where
       later = λ i le lt. so_far.later i (omega arith) lt;
     }
 
-    pub takes_one : (found : ℕ) → is_changed w n ≡ true → from ≤ found → found < 3072 → unused found ≡ true → ((p : ℕ) → from ≤ p → p < found → unused p ≡ false) → TakesSoFar unused old w (n + 1) (found + 1) (set numbers n found)
+    pub takes_one : (found : ℕ) → is_changed w n ≡ true → from ≤ found → found < pack_pages → unused found ≡ true → ((p : ℕ) → from ≤ p → p < found → unused p ≡ false) → TakesSoFar unused old w (n + 1) (found + 1) (set numbers n found)
     takes_one found changed low high is_free gap = record {
       long = length-set numbers n found ∙ so_far.long;
       small = omega arith;
@@ -112,7 +113,7 @@ module _ (unused : ℕ → Bool) (old : Option InodeCopy) (w : Working) where
       (subst (λ (m : ℕ). TakesSoFar unused old w (n + 1) m (set numbers n x)) (sym e) h)
 
   -- pages that aren't changed are passed over
-  pub takes_skip : (n d m from : ℕ) (numbers : List ℕ) → n + d ≡ m → TakesSoFar unused old w n from numbers → m ≤ 64 → ((i : ℕ) → n ≤ i → i < m → is_changed w i ≡ false) → TakesSoFar unused old w m from numbers
+  pub takes_skip : (n d m from : ℕ) (numbers : List ℕ) → n + d ≡ m → TakesSoFar unused old w n from numbers → m ≤ content_pages_max → ((i : ℕ) → n ≤ i → i < m → is_changed w i ≡ false) → TakesSoFar unused old w m from numbers
   takes_skip n zero m from numbers e so_far fits none = (let f : n ≡ m = omega arith in subst (λ (k : ℕ). TakesSoFar unused old w k from numbers) f so_far)
   takes_skip n (suc d) m from numbers e so_far fits none =
       let before = takes_skip n d (n + d) from numbers refl so_far (omega arith) (λ i low high. none i low (omega arith)) in
@@ -130,7 +131,7 @@ module _ (unused : ℕ → Bool) (old : Option InodeCopy) (w : Working) where
 
   -- from the end of the content on no data page is named
   pub takes_done : (n from : ℕ) (numbers ended : List ℕ) → n ≡ pages_of w.size → TakesSoFar unused old w n from numbers
-      → ((i : ℕ) → i < n → get_or ended i 0 ≡ get_or numbers i 0) → ((i : ℕ) → n ≤ i → i < 64 → get_or ended i 0 ≡ 65535) → TakesPages unused old w ended
+      → ((i : ℕ) → i < n → get_or ended i 0 ≡ get_or numbers i 0) → ((i : ℕ) → n ≤ i → i < content_pages_max → get_or ended i 0 ≡ 65535) → TakesPages unused old w ended
   takes_done n from numbers ended e so_far before rest = record {
     stays = λ i lt no. before i (omega arith) ∙ so_far.stays i (omega arith) no;
     inside = λ i lt yes. let h = so_far.below i (omega arith) yes in let s = so_far.small in let b = before i (omega arith) in omega arith;

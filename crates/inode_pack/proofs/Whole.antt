@@ -3,11 +3,12 @@ use Rattle.std.proofs.Common.{◌≡◌, ⊎_elim, ℕ, zero, suc, ◌+◌, ◌-
 use Rattle.std.specs.Prelude.{is_some, if◌then◌else◌}
 use Rattle.std.proofs.lemmas.Bool.{cases_lt, lt-ltb, le-ltb}
 use Rattle.std.proofs.lemmas.List.{same_lists, get_or_default, get_or-take, get_or-drop, get_or_past, get_or_append_left, get_or_at, take_all, append-nil}
+use Rattle.locus_ids.specs.Sizes.{page_bytes}
 use Rattle.file_content.specs.Pages.{pages_of, page_of}
 use Rattle.shadow_pages.specs.Working.{page_at as shadow_page, byte_in, byte_at, content, count_below, padded}
 use Rattle.shadow_pages.proofs.Bytes.{padded_at, length_padded, length_below, below_at}
 use Rattle.inode_switch.specs.View.{view}
-use Rattle.inode_pack.specs.declared.new_version.NewVersion.{NewVersion}
+use Rattle.stored_versions.specs.declared.new_version.NewVersion.{NewVersion}
 use Rattle.inode_pack.specs.Whole.{full_page, full_pages, whole}
 use Rattle.inode_pack.specs.Committing.{is_changed, needed, RestsOn, content_of, new_version, adopted_version}
 
@@ -27,11 +28,11 @@ page_in bytes (suc n) i lt = ⊎_elim
 pub page_past : (bytes : List ℕ) (n i : ℕ) → n ≤ i → get_or (full_pages bytes n) i None ≡ None
 page_past bytes n i le = get_or_past (full_pages bytes n) i None (omega (arith, length_full bytes n))
 
-pub long_page : (bytes : List ℕ) (i : ℕ) → length (full_page bytes i) ≡ 1024
-long_page bytes i = omega (arith, length_padded 1024 (page_of bytes i), length-take 1024 (drop (1024 * i) bytes))
+pub long_page : (bytes : List ℕ) (i : ℕ) → length (full_page bytes i) ≡ page_bytes
+long_page bytes i = omega (arith, length_padded page_bytes (page_of bytes i), length-take page_bytes (drop (page_bytes * i) bytes))
 
-pub page_byte : (bytes : List ℕ) (i k : ℕ) → k < 1024 → get_or (full_page bytes i) k 0 ≡ get_or bytes (1024 * i + k) 0
-page_byte bytes i k lt = padded_at 1024 (page_of bytes i) k ∙ get_or-take 1024 (drop (1024 * i) bytes) k 0 lt ∙ get_or-drop (1024 * i) bytes k 0
+pub page_byte : (bytes : List ℕ) (i k : ℕ) → k < page_bytes → get_or (full_page bytes i) k 0 ≡ get_or bytes (page_bytes * i + k) 0
+page_byte bytes i k lt = padded_at page_bytes (page_of bytes i) k ∙ get_or-take page_bytes (drop (page_bytes * i) bytes) k 0 lt ∙ get_or-drop (page_bytes * i) bytes k 0
 
 -- each page is changed
 pub all_changed : (bytes : List ℕ) (i : ℕ) → i < pages_of (length bytes) → is_changed (whole bytes) i ≡ true
@@ -50,8 +51,8 @@ needed_all bytes = count_all (is_changed (whole bytes)) (pages_of (length bytes)
 -- none of it stands in the content before
 pub rests_whole : (size : ℕ) (bytes : List ℕ) → RestsOn size (whole bytes)
 rests_whole size bytes k lt none =
-    let here = page_in bytes (pages_of (length bytes)) (k / 1024) (omega arith) in
-    let apart : None ≡ Some (full_page bytes (k / 1024)) = sym none ∙ here in
+    let here = page_in bytes (pages_of (length bytes)) (k / page_bytes) (omega arith) in
+    let apart : None ≡ Some (full_page bytes (k / page_bytes)) = sym none ∙ here in
     absurd cc
 
 -- it is the content, whatever was there before
@@ -62,12 +63,12 @@ content_whole old bytes =
     let long = length_below (byte_at old w) n in
     same_lists (content old w) bytes long (λ k d lt.
     let less : k < n = omega (arith, long) in
-    let here = page_in bytes (pages_of n) (k / 1024) (omega arith) in
-    let parts : 1024 * (k / 1024) + k % 1024 ≡ k = omega arith in
+    let here = page_in bytes (pages_of n) (k / page_bytes) (omega arith) in
+    let parts : page_bytes * (k / page_bytes) + k % page_bytes ≡ k = omega arith in
     get_or_default (content old w) k d 0 lt
     ∙ below_at (byte_at old w) n k ∙ ap (λ (b : Bool). cond b (byte_at old w k) 0) (lt-ltb k n less)
-    ∙ ap (λ (o : Option (List ℕ)). byte_in o (k % 1024) (get_or old k 0)) here
-    ∙ page_byte bytes (k / 1024) (k % 1024) (omega arith) ∙ ap (λ (m : ℕ). get_or bytes m 0) parts
+    ∙ ap (λ (o : Option (List ℕ)). byte_in o (k % page_bytes) (get_or old k 0)) here
+    ∙ page_byte bytes (k / page_bytes) (k % page_bytes) (omega arith) ∙ ap (λ (m : ℕ). get_or bytes m 0) parts
     ∙ get_or_default bytes k 0 d less)
 
 -- the version that is made has just this content
@@ -81,7 +82,7 @@ changed_is bytes i n e = ⊎_elim
     (λ (le : n ≤ i). le-ltb i n le ∙ sym (ap (λ (o : Option (List ℕ)). is_some o) (page_past bytes (pages_of (length bytes)) i (omega arith))))
     (cases_lt i n)
 
-pub whole_long : (bytes : List ℕ) (i : ℕ) (page : List ℕ) → shadow_page (whole bytes).pages i ≡ Some page → length page ≡ 1024
+pub whole_long : (bytes : List ℕ) (i : ℕ) (page : List ℕ) → shadow_page (whole bytes).pages i ≡ Some page → length page ≡ page_bytes
 whole_long bytes i page is =
     let n = pages_of (length bytes) in
     ⊎_elim
@@ -93,19 +94,19 @@ whole_long bytes i page is =
     (cases_lt i n)
 
 -- no page past the end
-pub page_none : (bytes : List ℕ) (i : ℕ) → length bytes ≤ 1024 * i → shadow_page (whole bytes).pages i ≡ None
+pub page_none : (bytes : List ℕ) (i : ℕ) → length bytes ≤ page_bytes * i → shadow_page (whole bytes).pages i ≡ None
 page_none bytes i le = page_past bytes (pages_of (length bytes)) i (omega arith)
 
 -- the last page is what is left, with zeros behind it
-pub page_last : (bytes : List ℕ) (i : ℕ) → 1024 * i < length bytes → length bytes < 1024 * i + 1024 → shadow_page (whole bytes).pages i ≡ Some (padded 1024 (drop (1024 * i) bytes))
+pub page_last : (bytes : List ℕ) (i : ℕ) → page_bytes * i < length bytes → length bytes < page_bytes * i + page_bytes → shadow_page (whole bytes).pages i ≡ Some (padded page_bytes (drop (page_bytes * i) bytes))
 page_last bytes i lt less =
     page_in bytes (pages_of (length bytes)) i (omega arith)
-    ∙ ap (λ (l : List ℕ). Some (padded 1024 l)) (take_all 1024 (drop (1024 * i) bytes) (omega (arith, length-drop (1024 * i) bytes)))
+    ∙ ap (λ (l : List ℕ). Some (padded page_bytes l)) (take_all page_bytes (drop (page_bytes * i) bytes) (omega (arith, length-drop (page_bytes * i) bytes)))
 
 -- another page is full
-pub page_full : (bytes : List ℕ) (i : ℕ) → 1024 * i + 1024 ≤ length bytes → shadow_page (whole bytes).pages i ≡ Some (take 1024 (drop (1024 * i) bytes))
+pub page_full : (bytes : List ℕ) (i : ℕ) → page_bytes * i + page_bytes ≤ length bytes → shadow_page (whole bytes).pages i ≡ Some (take page_bytes (drop (page_bytes * i) bytes))
 page_full bytes i le =
-    let xs = take 1024 (drop (1024 * i) bytes) in
-    let none : 1024 - length xs ≡ 0 = omega (arith, length-take 1024 (drop (1024 * i) bytes), length-drop (1024 * i) bytes) in
+    let xs = take page_bytes (drop (page_bytes * i) bytes) in
+    let none : page_bytes - length xs ≡ 0 = omega (arith, length-take page_bytes (drop (page_bytes * i) bytes), length-drop (page_bytes * i) bytes) in
     page_in bytes (pages_of (length bytes)) i (omega arith)
     ∙ ap (λ (l : List ℕ). Some l) (ap (λ (n : ℕ). xs ++ replicate n 0) none ∙ append-nil xs)

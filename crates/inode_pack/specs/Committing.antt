@@ -1,29 +1,23 @@
 -- The version that a commit makes, the data pages that this takes, and what a crash within the commit leaves.
 use Rattle.std.specs.Prelude.{◌≡◌, ℕ, ◌+◌, ◌-◌, ◌/◌, ◌%◌, ◌<◌, ◌≤◌, ◌==◌, Bool, true, false, List, [], length, slice_index, slice_set, Option, None, Some, is_some, Result, Ok, Err, if◌then◌else◌}
+use Rattle.locus_ids.specs.Sizes.{page_bytes, content_pages_max, pack_pages}
 use Rattle.disk_model.specs.declared.disk.DiskFault.{DiskFault}
 use Rattle.disk_model.specs.declared.disk.DiskFault.TheVariants.{Failed}
 use Rattle.disk_model.specs.Images.{Torn, bytes_at}
 use Rattle.file_content.specs.Pages.{pages_of}
 use Rattle.pack_layout.specs.declared.half.Half.{Half}
 use Rattle.pack_layout.specs.declared.half.Half.TheVariants.{First}
-use Rattle.pack_layout.specs.Layout.{area_length, page_at, IsStamp, AgreesWith, other_half}
+use Rattle.pack_layout.specs.Layout.{area_length, page_at, other_half}
 use Rattle.shadow_pages.specs.Working.{Working, page_at as shadow_page, content, count_below}
 use Rattle.inode_switch.specs.View.{Version, view, IsOldOrNew}
 use Rattle.inode_switch.specs.Slots.{field_bytes}
 use Rattle.pack_slots.specs.declared.inode_copy.InodeCopy.{InodeCopy}
-use Rattle.inode_pack.specs.declared.new_version.NewVersion.{NewVersion}
+use Rattle.stored_versions.specs.declared.new_version.NewVersion.{NewVersion}
 use Rattle.inode_pack.specs.declared.pack_fault.PackFault.{PackFault}
 use Rattle.inode_pack.specs.declared.pack_fault.PackFault.TheVariants.{Disk, NoSpace}
 use Rattle.inode_pack.specs.Pack.{PackState, number_in}
 use Rattle.pack_slots.specs.Copies.{copy_of, named_pages, times}
 use Rattle.pack_slots.specs.Mounting.{IsSound}
-
--- what a slot may say of a new version with so many bytes: a set that isn't empty, and a stamp with its vector
-pub record IsVersion (version : NewVersion) (bytes : ℕ) : Type 0 where
-  pub some : 1 ≤ version.set.0
-  pub most : bytes ≤ 65536
-  pub named : IsStamp version.stamp
-  pub agrees : AgreesWith version.stamp version.vector
 
 -- the size of a copy's content
 abbrev pub size_of : Option InodeCopy → ℕ
@@ -32,7 +26,7 @@ size_of (Some copy) = copy.slot.size
 
 -- each byte that a shadow leaves unchanged is one of a content of so many bytes
 abbrev pub RestsOn : ℕ → Working → Type 0
-RestsOn size w = (k : ℕ) → k < w.size → shadow_page w.pages (k / 1024) ≡ None → k < size
+RestsOn size w = (k : ℕ) → k < w.size → shadow_page w.pages (k / page_bytes) ≡ None → k < size
 
 -- page i of the shadow is changed
 abbrev pub is_changed : Working → ℕ → Bool
@@ -50,11 +44,11 @@ is_free copies page = times page (named_pages copies) == 0
 -- data pages that are free.
 pub record TakesPages (unused : ℕ → Bool) (old : Option InodeCopy) (w : Working) (numbers : List ℕ) : Type 0 where
   pub stays : (i : ℕ) → i < pages_of w.size → is_changed w i ≡ false → slice_index numbers i ≡ number_in old i
-  pub inside : (i : ℕ) → i < pages_of w.size → is_changed w i ≡ true → slice_index numbers i < 3072
+  pub inside : (i : ℕ) → i < pages_of w.size → is_changed w i ≡ true → slice_index numbers i < pack_pages
   pub free : (i : ℕ) → i < pages_of w.size → is_changed w i ≡ true → unused (slice_index numbers i) ≡ true
   pub ascend : (i j : ℕ) → i < j → j < pages_of w.size → is_changed w i ≡ true → is_changed w j ≡ true → slice_index numbers i < slice_index numbers j
   pub least : (i page : ℕ) → i < pages_of w.size → is_changed w i ≡ true → page < slice_index numbers i → unused page ≡ true → (j : ℕ) × (j < i) × (is_changed w j ≡ true) × (slice_index numbers j ≡ page)
-  pub rest : (i : ℕ) → pages_of w.size ≤ i → i < 64 → slice_index numbers i ≡ 65535
+  pub rest : (i : ℕ) → pages_of w.size ≤ i → i < content_pages_max → slice_index numbers i ≡ 65535
 
 -- the first version of an inode goes to its first slot, another one to the slot that isn't open
 abbrev pub next_half : Option InodeCopy → Half
@@ -104,7 +98,7 @@ adopted_version ino version bytes = record {
 
 -- each changed page of a content stands at its data page, with the zeros behind its end
 abbrev pub HoldsPages : PackState → ℕ → Working → List ℕ → Type 0
-HoldsPages pack ino w image = (i : ℕ) (page : List ℕ) → i < pages_of w.size → shadow_page w.pages i ≡ Some page → bytes_at image (page_at pack.base (number_in (copy_of pack.copies ino) i)) 1024 ≡ page
+HoldsPages pack ino w image = (i : ℕ) (page : List ℕ) → i < pages_of w.size → shadow_page w.pages i ≡ Some page → bytes_at image (page_at pack.base (number_in (copy_of pack.copies ino) i)) page_bytes ≡ page
 
 -- what a crash within a commit leaves: wholly the old view or the new one, in a sound pack; outside the area all is as before
 pub record MayBeLeft (pack : PackState) (ino : ℕ) (made : Version) (old new : List ℕ) : Type 0 where

@@ -6,3 +6,4 @@ pub mod Pack
 pub mod PagePieces
 pub mod Rows
 pub mod Whole
+pub use Rattle.shadow_pages.specs as of_shadow_pages

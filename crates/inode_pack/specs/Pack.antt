@@ -1,5 +1,6 @@
 -- What a pack knows of its area, and which disks it stands on.
 use Rattle.std.specs.Prelude.{◌≡◌, ℕ, ◌+◌, ◌*◌, ◌<◌, ◌≤◌, List, length, slice_index, Option, None, Some}
+use Rattle.locus_ids.specs.Sizes.{page_bytes}
 use Rattle.disk_model.specs.Disk.{Moment, IsSettled}
 use Rattle.file_content.specs.Pages.{pages_of}
 use Rattle.pack_layout.specs.Layout.{area_length}
@@ -37,4 +38,4 @@ number_in (Some copy) i = slice_index copy.slot.pages i
 
 -- so many bytes of a page are those of the content there
 abbrev pub IsPageOf : List ℕ → ℕ → List ℕ → Type 0
-IsPageOf content page bytes = (k : ℕ) → k < 1024 → 1024 * page + k < length content → slice_index content (1024 * page + k) ≡ slice_index bytes k
+IsPageOf content page bytes = (k : ℕ) → k < page_bytes → page_bytes * page + k < length content → slice_index content (page_bytes * page + k) ≡ slice_index bytes k

@@ -1,5 +1,6 @@
 -- The bytes that a commit writes: its changed pages, each at its data page, and the slot behind its gate.
 use Rattle.std.specs.Prelude.{◌≡◌, ℕ, zero, suc, ◌+◌, ◌<◌, List, [], ◌∷◌, ◌++◌, length, drop, slice_index, Option, None, Some}
+use Rattle.locus_ids.specs.Sizes.{page_bytes}
 use Rattle.file_content.specs.Pages.{pages_of}
 use Rattle.pack_layout.specs.Layout.{slot_at, page_at, slot_bytes}
 use Rattle.shadow_pages.specs.Working.{Working, page_at as shadow_page}
@@ -24,4 +25,4 @@ pieces_of base made w = page_pieces base made.slot.pages w (pages_of w.size) ++ 
 
 -- each changed one of the first n pages has 1,024 bytes
 abbrev pub AreWhole : Working → ℕ → Type 0
-AreWhole w n = (i : ℕ) (page : List ℕ) → i < n → shadow_page w.pages i ≡ Some page → length page ≡ 1024
+AreWhole w n = (i : ℕ) (page : List ℕ) → i < n → shadow_page w.pages i ≡ Some page → length page ≡ page_bytes

@@ -1,5 +1,6 @@
 // A version is committed, wholly or not at all.
 ghost use Rattle.std.specs.Prelude.{◌≡◌, ◌↔◌, ◌≤◌, ◌<◌, ◌+◌, ◌-◌, ◌^◌, ℕ, List, length, slice_index, slice_set, Option, Some, Err, is_some, OnOk, OnErr, IfOk, IfErr};
+ghost use Rattle.locus_ids.specs.Sizes.{inodes_max, content_bytes_max, content_pages_max, pack_pages};
 ghost use Rattle.disk_model.specs.Disk.{HasCause, Exactly};
 ghost use Rattle.file_content.specs.Pages.{pages_of};
 ghost use Rattle.pack_layout.specs.Layout.{area_length};
@@ -11,7 +12,8 @@ ghost use Rattle.inode_pack.specs.declared.pack_fault.PackFault.TheVariants.{NoS
 ghost use Rattle.pack_slots.specs.declared.inode_copy.InodeCopy.{InodeCopy};
 ghost use Rattle.inode_pack.specs.Rows.{HasChanged, SameButFor};
 ghost use Rattle.inode_pack.specs.PagePieces.{AreWhole};
-ghost use Rattle.inode_pack.specs.Committing.{IsVersion, RestsOn, size_of, needed, is_free, Makes, Commits, HoldsPages, with_copy, new_version, adopted_version, MayBeLeft, commit_calls, commit_answer, IsEarly};
+ghost use Rattle.inode_pack.specs.Committing.{RestsOn, size_of, needed, is_free, Makes, Commits, HoldsPages, with_copy, new_version, adopted_version, MayBeLeft, commit_calls, commit_answer, IsEarly};
+ghost use Rattle.stored_versions.specs.Versions.{IsVersion};
 ghost use Rattle.inode_pack.specs.Cutting.{IsCutCommit};
 ghost use Rattle.inode_pack.specs.Whole.{whole};
 ghost use Rattle.inode_pack.specs.Marked.{marked};
@@ -23,6 +25,7 @@ use crate::usage::row_to_pass;
 use crate::{NewVersion, Pack, PackFault};
 use disk_model::Disk;
 use inode_switch::replace_inode;
+use locus_ids::sizes::CONTENT_PAGES;
 use locus_ids::{Bytes, Ino};
 use pack_slots::InodeCopy;
 
@@ -61,7 +64,7 @@ impl Pack {
         ensures pages { OnOk result (HoldsPages self.new ino (whole content.now) (D.moment disk.new).seen) }
 
         ensures kept { OnErr result (self.new ≡ self.old) }
-        ensures no_space { (pages free : ℕ) → (result ≡ Err (NoSpace pages free)) ↔ ((free < pages) × (pages ≡ pages_of (length content.now)) × (free + length (named_pages self.old.copies) ≡ 3072)) }
+        ensures no_space { (pages free : ℕ) → (result ≡ Err (NoSpace pages free)) ↔ ((free < pages) × (pages ≡ pages_of (length content.now)) × (free + length (named_pages self.old.copies) ≡ pack_pages)) }
         ensures early { IfErr result (λ fault. IsEarly fault → disk.new ≡ disk.old) }
 
         // The disk fails only where its count rose, and where it tells how many calls pass, exactly where they are too few.
@@ -85,7 +88,7 @@ impl Pack {
         ino: Ino,
         version: &NewVersion,
         content: &[u8],
-        marks: &[bool; 64],
+        marks: &[bool; CONTENT_PAGES],
     ) -> Result<(), PackFault>
         requires stands { Stands self.old (D.moment disk.old) }
         requires version { IsVersion version.now (length content.now) }
@@ -103,7 +106,7 @@ impl Pack {
         ensures pages { OnOk result (HoldsPages self.new ino (marked content.now marks.now) (D.moment disk.new).seen) }
 
         ensures kept { OnErr result (self.new ≡ self.old) }
-        ensures no_space { (pages free : ℕ) → (result ≡ Err (NoSpace pages free)) ↔ ((free < pages) × (pages ≡ needed (marked content.now marks.now)) × (free + length (named_pages self.old.copies) ≡ 3072)) }
+        ensures no_space { (pages free : ℕ) → (result ≡ Err (NoSpace pages free)) ↔ ((free < pages) × (pages ≡ needed (marked content.now marks.now)) × (free + length (named_pages self.old.copies) ≡ pack_pages)) }
         ensures early { IfErr result (λ fault. IsEarly fault → disk.new ≡ disk.old) }
 
         // The disk fails only where its count rose, and where it tells how many calls pass, exactly where they are too few.
@@ -137,7 +140,7 @@ impl Pack {
         ensures replaced { OnOk result (Replaced self.old.base ino (new_version self.old.base ino version (C.working content.now) (D.moment disk.old).seen) (D.moment disk.old).seen (D.moment disk.new).seen) }
         ensures pages { OnOk result (HoldsPages self.new ino (C.working content.now) (D.moment disk.new).seen) }
         ensures kept { OnErr result (self.new ≡ self.old) }
-        ensures no_space { (pages free : ℕ) → (result ≡ Err (NoSpace pages free)) ↔ ((free < pages) × (pages ≡ needed (C.working content.now)) × (free + length (named_pages self.old.copies) ≡ 3072)) }
+        ensures no_space { (pages free : ℕ) → (result ≡ Err (NoSpace pages free)) ↔ ((free < pages) × (pages ≡ needed (C.working content.now)) × (free + length (named_pages self.old.copies) ≡ pack_pages)) }
         ensures early { IfErr result (λ fault. IsEarly fault → disk.new ≡ disk.old) }
         ensures cause { HasCause (D.moment disk.old).faults (D.moment disk.new).faults (commit_answer result) }
         ensures tells { TellsMany (commit_calls (needed (C.working content.now)) (copy_of self.old.copies ino) result) (D.moment disk.old).passing (D.moment disk.new).passing (commit_answer result) }
@@ -172,13 +175,13 @@ impl Pack {
 
     /// Whether there is room for the changed pages.
     fn room_for<C: NewContent>(&self, content: &C, row: Row) -> Result<(), PackFault>
-        requires size { (C.working content.now).size ≤ 65536 }
+        requires size { (C.working content.now).size ≤ content_bytes_max }
         requires changed { HasChanged row.first row.stop (C.working content.now) }
         requires ordered { row.first ≤ row.stop }
         requires inside { row.stop ≤ pages_of (C.working content.now).size }
         ensures copies { AreCopies self.now.copies }
-        ensures room { OnOk result (needed (C.working content.now) + length (named_pages self.now.copies) ≤ 3072) }
-        ensures no_space { (pages free : ℕ) → (result ≡ Err (NoSpace pages free)) ↔ ((free < pages) × (pages ≡ needed (C.working content.now)) × (free + length (named_pages self.now.copies) ≡ 3072)) }
+        ensures room { OnOk result (needed (C.working content.now) + length (named_pages self.now.copies) ≤ pack_pages) }
+        ensures no_space { (pages free : ℕ) → (result ≡ Err (NoSpace pages free)) ↔ ((free < pages) × (pages ≡ needed (C.working content.now)) × (free + length (named_pages self.now.copies) ≡ pack_pages)) }
         ensures early { IfErr result (λ fault. IsEarly fault) }
     {
         let needed = content.count(row);
@@ -203,16 +206,16 @@ impl Pack {
         requires changed { HasChanged row.first row.stop (C.working content.now) }
         requires ordered { row.first ≤ row.stop }
         requires inside { row.stop ≤ pages_of (C.working content.now).size }
-        requires room { needed (C.working content.now) + length (named_pages self.now.copies) ≤ 3072 }
+        requires room { needed (C.working content.now) + length (named_pages self.now.copies) ≤ pack_pages }
         ensures makes { Makes (is_free self.now.copies) (copy_of self.now.copies ino) ino version.now (C.working content.now) result.made }
-        ensures numbers { length result.made.slot.pages ≡ 64 }
+        ensures numbers { length result.made.slot.pages ≡ content_pages_max }
         ensures own { result.made.slot.ino ≡ ino }
         ensures low { 1 ≤ ino }
-        ensures high { ino ≤ 1024 }
-        ensures inside { (i : ℕ) → i < pages_of (C.working content.now).size → slice_index result.made.slot.pages i < 3072 }
+        ensures high { ino ≤ inodes_max }
+        ensures inside { (i : ℕ) → i < pages_of (C.working content.now).size → slice_index result.made.slot.pages i < pack_pages }
         ensures whole { AreWhole (C.working content.now) (pages_of (C.working content.now).size) }
         ensures passed_ordered { result.passed.first ≤ result.passed.stop }
-        ensures passed_inside { result.passed.stop ≤ 64 }
+        ensures passed_inside { result.passed.stop ≤ content_pages_max }
         ensures same { (one : InodeCopy) → copy_of self.now.copies ino ≡ Some one → SameButFor result.passed.first result.passed.stop one.slot.pages result.made.slot.pages }
         ensures closes { result.closes ≡ is_some (copy_of self.now.copies ino) }
         ensures copies { AreCopies self.now.copies }
@@ -231,7 +234,7 @@ impl Pack {
     fn put(&mut self, ino: Ino, made: &InodeCopy, row: Row)
         requires copies { AreCopies (with_copy self.old ino made.now).copies }
         requires ordered { row.first ≤ row.stop }
-        requires inside { row.stop ≤ 64 }
+        requires inside { row.stop ≤ content_pages_max }
         requires same { (one : InodeCopy) → copy_of self.old.copies ino ≡ Some one → SameButFor row.first row.stop one.slot.pages made.now.slot.pages }
         ensures { self.new ≡ with_copy self.old ino made.now }
     {

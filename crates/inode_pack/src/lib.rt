@@ -7,7 +7,6 @@ mod data_pages;
 mod mount;
 mod new_content;
 mod new_pages;
-mod new_version;
 mod next_ino;
 mod pack;
 mod pack_fault;
@@ -16,7 +15,7 @@ mod pieces;
 mod plan;
 mod usage;
 
-pub use new_version::NewVersion;
 pub use next_ino::Inos;
 pub use pack::Pack;
 pub use pack_fault::PackFault;
+pub use stored_versions::NewVersion;

@@ -4,6 +4,7 @@ ghost use Rattle.std.specs.List.{list_any};
 ghost use Rattle.inode_pack.specs.NextIno.{is_unused, IsNewIno};
 
 use crate::Pack;
+use locus_ids::sizes::SITE_INODES;
 use locus_ids::{Ino, ItemList};
 
 /// Numbers of inodes.
@@ -17,8 +18,8 @@ impl Pack {
         ensures least { IfSome result (λ ino. (lower : ℕ) → lower < ino → IsNewIno self.now held.now lower → ⊥) }
         ensures none { IfNone result ((ino : ℕ) → IsNewIno self.now held.now ino → ⊥) }
     {
-        let first = 64 * (u16::from(self.site.get()) - 1) + 1;
-        for n in first..first + 64 {
+        let first = SITE_INODES * (u16::from(self.site.get()) - 1) + 1;
+        for n in first..first + SITE_INODES {
             if self.is_unused(held, n) {
                 return Ino::new(n);
             }

@@ -1,5 +1,6 @@
 ghost use Rattle.std.specs.Prelude.{◌≡◌, ◌+◌, length, IfSome};
 ghost use Rattle.std.specs.Option.{option_copied, option_map};
+ghost use Rattle.locus_ids.specs.Sizes.{pack_pages};
 ghost use Rattle.pack_slots.specs.Copies.{copy_of, named_pages, IsCopy};
 
 use crate::data_pages::DataPages;
@@ -56,7 +57,7 @@ impl Pack {
 
     /// The number of data pages that no version here names.
     pub fn free_pages(&self) -> u16
-        ensures { result + length (named_pages self.now.copies) ≡ 3072 }
+        ensures { result + length (named_pages self.now.copies) ≡ pack_pages }
     {
         self.pages.free()
     }

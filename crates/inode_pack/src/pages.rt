@@ -1,5 +1,6 @@
 // The data pages of a pack.
 ghost use Rattle.std.specs.Prelude.{◌≡◌, ◌<◌, ℕ, List, Some, OnOk};
+ghost use Rattle.locus_ids.specs.Sizes.{page_bytes, pack_pages};
 ghost use Rattle.disk_model.specs.Disk.{Goes, HasCause, TellsRead};
 ghost use Rattle.disk_model.specs.Images.{bytes_at, Same};
 ghost use Rattle.pack_layout.specs.Layout.{page_at};
@@ -9,6 +10,7 @@ ghost use Rattle.inode_pack.specs.Pack.{Stands, HasPage, number_in, IsPageOf};
 
 use crate::Pack;
 use disk_model::{Disk, DiskFault};
+use locus_ids::sizes::PAGE_BYTES;
 use pack_layout::page_at;
 
 impl Pack {
@@ -18,11 +20,11 @@ impl Pack {
         disk: &mut D,
         ino: u16,
         page: u16,
-        buf: &mut [u8; 1024],
+        buf: &mut [u8; PAGE_BYTES],
     ) -> Result<(), DiskFault>
         requires stands { Stands self.now (D.moment disk.old) }
         requires page { HasPage self.now ino page }
-        ensures bytes { OnOk result (buf.new ≡ bytes_at (D.moment disk.old).seen (page_at self.now.base (number_in (copy_of self.now.copies ino) page)) 1024) }
+        ensures bytes { OnOk result (buf.new ≡ bytes_at (D.moment disk.old).seen (page_at self.now.base (number_in (copy_of self.now.copies ino) page)) page_bytes) }
         ensures content { OnOk result ((version : Version) → view (D.moment disk.old).seen self.now.base ino ≡ Some version → IsPageOf version.content page buf.new) }
         ensures seen { (D.moment disk.new).seen ≡ (D.moment disk.old).seen }
         ensures stands { Stands self.now (D.moment disk.new) }
@@ -40,7 +42,7 @@ impl Pack {
     fn number_of(&self, ino: u16, page: u16) -> u16
         requires { HasPage self.now ino page }
         ensures number { result ≡ number_in (copy_of self.now.copies ino) page }
-        ensures inside { result < 3072 }
+        ensures inside { result < pack_pages }
     {
         match self.copy(ino) {
             Some(slot) => slot.pages[usize::from(page)],

@@ -1,5 +1,6 @@
 // The bytes that a commit writes before it opens the gate. None of them is copied: each goes to the disk from where it stands.
 ghost use Rattle.std.specs.Prelude.{◌≡◌, ◌≤◌, ◌<◌, ◌+◌, ◌^◌, ℕ, List, [], ◌∷◌, ◌++◌, length, slice_index, OnOk};
+ghost use Rattle.locus_ids.specs.Sizes.{content_bytes_max, content_pages_max, pack_pages};
 ghost use Rattle.disk_model.specs.Disk.{Goes, HasCause};
 ghost use Rattle.file_content.specs.Pages.{pages_of};
 ghost use Rattle.pack_layout.specs.Layout.{area_length, page_at};
@@ -14,6 +15,7 @@ use crate::plan::Row;
 use disk_model::{Disk, DiskFault};
 use gate_switch::PieceSource;
 use locus_ids::Ino;
+use locus_ids::sizes::CONTENT_PAGES;
 use pack_layout::{page_at, slot_at, write_fields};
 use pack_slots::InodeCopy;
 
@@ -27,9 +29,9 @@ pub(crate) struct CommitPieces<'a, C: NewContent> {
     pub row: Row,
     pub content: &'a C,
     ghost area: { base + area_length < 2 ^ 32 },
-    ghost size: { (C.working content.now).size ≤ 65536 },
+    ghost size: { (C.working content.now).size ≤ content_bytes_max },
     ghost own: { made.now.slot.ino ≡ ino },
-    ghost numbers: { (i : ℕ) → i < pages_of (C.working content.now).size → slice_index made.now.slot.pages i < 3072 },
+    ghost numbers: { (i : ℕ) → i < pages_of (C.working content.now).size → slice_index made.now.slot.pages i < pack_pages },
     ghost changed: { HasChanged row.first row.stop (C.working content.now) },
     ghost ordered: { row.first ≤ row.stop },
     ghost inside: { row.stop ≤ pages_of (C.working content.now).size },
@@ -54,13 +56,13 @@ impl<C: NewContent> PieceSource for CommitPieces<'_, C> {
 fn write_page<D: Disk, C: NewContent>(
     disk: &mut D,
     base: u32,
-    numbers: &[u16; 64],
+    numbers: &[u16; CONTENT_PAGES],
     content: &C,
     i: u16,
 ) -> Result<(), DiskFault>
     requires area { base + area_length < 2 ^ 32 }
-    requires few { i < 64 }
-    requires number { slice_index numbers.now i < 3072 }
+    requires few { i < content_pages_max }
+    requires number { slice_index numbers.now i < pack_pages }
     requires within { AreWithin (piece_at (page_at base (slice_index numbers.now i)) (shadow_page (C.working content.now).pages i)) (length (D.moment disk.old).seen) }
     ensures written { OnOk result ((D.moment disk.new).seen ≡ written (D.moment disk.old).seen (piece_at (page_at base (slice_index numbers.now i)) (shadow_page (C.working content.now).pages i))) }
     ensures crash { Goes (TornIn (piece_at (page_at base (slice_index numbers.now i)) (shadow_page (C.working content.now).pages i))) (D.moment disk.old) (D.moment disk.new) }
@@ -76,13 +78,13 @@ fn write_page<D: Disk, C: NewContent>(
 fn write_pages<D: Disk, C: NewContent>(
     disk: &mut D,
     base: u32,
-    numbers: &[u16; 64],
+    numbers: &[u16; CONTENT_PAGES],
     row: Row,
     content: &C,
 ) -> Result<(), DiskFault>
     requires area { base + area_length < 2 ^ 32 }
-    requires size { (C.working content.now).size ≤ 65536 }
-    requires numbers { (i : ℕ) → i < pages_of (C.working content.now).size → slice_index numbers.now i < 3072 }
+    requires size { (C.working content.now).size ≤ content_bytes_max }
+    requires numbers { (i : ℕ) → i < pages_of (C.working content.now).size → slice_index numbers.now i < pack_pages }
     requires changed { HasChanged row.first row.stop (C.working content.now) }
     requires ordered { row.first ≤ row.stop }
     requires inside { row.stop ≤ pages_of (C.working content.now).size }

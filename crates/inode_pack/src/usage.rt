@@ -1,5 +1,6 @@
 // How often each data page is named.
 ghost use Rattle.std.specs.Prelude.{◌≡◌, ◌⊎◌, ◌≤◌, ◌<◌, ◌+◌, ◌==◌, ◌^◌, ℕ, length, slice_index, Option, Some, if◌then◌else◌};
+ghost use Rattle.locus_ids.specs.Sizes.{content_pages_max, pack_pages};
 ghost use Rattle.file_content.specs.Pages.{pages_of};
 ghost use Rattle.pack_layout.specs.Layout.{IsSlot};
 ghost use Rattle.pack_slots.specs.declared.inode_copy.InodeCopy.{InodeCopy};
@@ -7,16 +8,17 @@ ghost use Rattle.pack_slots.specs.Copies.{pages_in, times};
 ghost use Rattle.inode_pack.specs.Rows.{SameButFor, NoneBelow};
 
 use crate::plan::{Row, page_count};
+use locus_ids::sizes::{CONTENT_PAGES, PACK_PAGES};
 use pack_slots::InodeCopy;
 
 /// A number is named once less, where it is a data page.
 fn release(uses: &mut Vec<u32>, page: u16)
-    requires count { length uses.old.items ≡ 3072 }
-    requires once { page < 3072 → 1 ≤ slice_index uses.old.items page }
-    ensures long { length uses.new.items ≡ 3072 }
-    ensures named { (p : ℕ) → p < 3072 → slice_index uses.new.items p + (if page == p then 1 else 0) ≡ slice_index uses.old.items p }
+    requires count { length uses.old.items ≡ pack_pages }
+    requires once { page < pack_pages → 1 ≤ slice_index uses.old.items page }
+    ensures long { length uses.new.items ≡ pack_pages }
+    ensures named { (p : ℕ) → p < pack_pages → slice_index uses.new.items p + (if page == p then 1 else 0) ≡ slice_index uses.old.items p }
 {
-    if page >= 3_072 {
+    if page >= PACK_PAGES {
         return;
     }
     uses[usize::from(page)] -= 1;
@@ -24,12 +26,12 @@ fn release(uses: &mut Vec<u32>, page: u16)
 
 /// A number is named once more, where it is a data page.
 fn claim(uses: &mut Vec<u32>, page: u16)
-    requires count { length uses.old.items ≡ 3072 }
-    requires few { page < 3072 → slice_index uses.old.items page + 1 < 2 ^ 32 }
-    ensures long { length uses.new.items ≡ 3072 }
-    ensures named { (p : ℕ) → p < 3072 → slice_index uses.new.items p ≡ slice_index uses.old.items p + (if page == p then 1 else 0) }
+    requires count { length uses.old.items ≡ pack_pages }
+    requires few { page < pack_pages → slice_index uses.old.items page + 1 < 2 ^ 32 }
+    ensures long { length uses.new.items ≡ pack_pages }
+    ensures named { (p : ℕ) → p < pack_pages → slice_index uses.new.items p ≡ slice_index uses.old.items p + (if page == p then 1 else 0) }
 {
-    if page >= 3_072 {
+    if page >= PACK_PAGES {
         return;
     }
     uses[usize::from(page)] += 1;
@@ -38,12 +40,12 @@ fn claim(uses: &mut Vec<u32>, page: u16)
 /// One number is named in the place of another one. Where both are the same, nothing is done. It gives a number below which
 /// no data page is free then, as none is below `least` before.
 fn pass_page(uses: &mut Vec<u32>, old: u16, made: u16, least: u16) -> u16
-    requires count { length uses.old.items ≡ 3072 }
-    requires once { old < 3072 → 1 ≤ slice_index uses.old.items old }
-    requires few { made < 3072 → slice_index uses.old.items made + 1 < 2 ^ 32 }
+    requires count { length uses.old.items ≡ pack_pages }
+    requires once { old < pack_pages → 1 ≤ slice_index uses.old.items old }
+    requires few { made < pack_pages → slice_index uses.old.items made + 1 < 2 ^ 32 }
     requires least { NoneBelow least uses.old.items }
-    ensures long { length uses.new.items ≡ 3072 }
-    ensures named { (p : ℕ) → p < 3072 → slice_index uses.new.items p + (if old == p then 1 else 0) ≡ slice_index uses.old.items p + (if made == p then 1 else 0) }
+    ensures long { length uses.new.items ≡ pack_pages }
+    ensures named { (p : ℕ) → p < pack_pages → slice_index uses.new.items p + (if old == p then 1 else 0) ≡ slice_index uses.old.items p + (if made == p then 1 else 0) }
     ensures least { NoneBelow result uses.new.items }
 {
     if old == made {
@@ -55,16 +57,22 @@ fn pass_page(uses: &mut Vec<u32>, old: u16, made: u16, least: u16) -> u16
 }
 
 /// The numbers of one content are named in the place of those of another one, which are the same but for a row.
-fn pass_all(uses: &mut Vec<u32>, old: &[u16; 64], made: &[u16; 64], row: Row, least: u16) -> u16
-    requires count { length uses.old.items ≡ 3072 }
-    requires once { (p : ℕ) → p < 3072 → times p old.now ≤ slice_index uses.old.items p }
-    requires few { (p : ℕ) → p < 3072 → slice_index uses.old.items p + times p made.now < 2 ^ 32 }
+fn pass_all(
+    uses: &mut Vec<u32>,
+    old: &[u16; CONTENT_PAGES],
+    made: &[u16; CONTENT_PAGES],
+    row: Row,
+    least: u16,
+) -> u16
+    requires count { length uses.old.items ≡ pack_pages }
+    requires once { (p : ℕ) → p < pack_pages → times p old.now ≤ slice_index uses.old.items p }
+    requires few { (p : ℕ) → p < pack_pages → slice_index uses.old.items p + times p made.now < 2 ^ 32 }
     requires least { NoneBelow least uses.old.items }
     requires ordered { row.first ≤ row.stop }
-    requires inside { row.stop ≤ 64 }
+    requires inside { row.stop ≤ content_pages_max }
     requires same { SameButFor row.first row.stop old.now made.now }
-    ensures long { length uses.new.items ≡ 3072 }
-    ensures named { (p : ℕ) → p < 3072 → slice_index uses.new.items p + times p old.now ≡ slice_index uses.old.items p + times p made.now }
+    ensures long { length uses.new.items ≡ pack_pages }
+    ensures named { (p : ℕ) → p < pack_pages → slice_index uses.new.items p + times p old.now ≡ slice_index uses.old.items p + times p made.now }
     ensures least { NoneBelow result uses.new.items }
 {
     let mut least = least;
@@ -76,16 +84,16 @@ fn pass_all(uses: &mut Vec<u32>, old: &[u16; 64], made: &[u16; 64], row: Row, le
 
 /// The first number from one on whose data page is free. None below that one is.
 pub fn first_free(uses: &[u32], from: u16) -> u16
-    requires count { length uses.now ≡ 3072 }
+    requires count { length uses.now ≡ pack_pages }
     requires least { NoneBelow from uses.now }
     ensures { NoneBelow result uses.now }
 {
-    for page in from..3_072 {
+    for page in from..PACK_PAGES {
         if uses[usize::from(page)] == 0 {
             return page;
         }
     }
-    3_072
+    PACK_PAGES
 }
 
 /// A row in which the data pages of an inode's copy so far differ from those of its next one, whose content has `end` pages
@@ -93,15 +101,18 @@ pub fn first_free(uses: &[u32], from: u16) -> u16
 pub fn row_to_pass(old: &Option<InodeCopy>, row: Row, end: u16) -> Row
     requires slot { (one : InodeCopy) → old.now ≡ Some one → IsSlot one.slot }
     requires ordered { row.first ≤ row.stop }
-    requires inside { row.stop ≤ 64 }
+    requires inside { row.stop ≤ content_pages_max }
     ensures ordered { result.first ≤ result.stop }
-    ensures inside { result.stop ≤ 64 }
-    ensures covers { (one : InodeCopy) → old.now ≡ Some one → ((result.first ≡ 0) × (result.stop ≡ 64)) ⊎ ((result.first ≡ row.first) × (result.stop ≡ row.stop) × (pages_of one.slot.size ≤ end)) }
+    ensures inside { result.stop ≤ content_pages_max }
+    ensures covers { (one : InodeCopy) → old.now ≡ Some one → ((result.first ≡ 0) × (result.stop ≡ content_pages_max)) ⊎ ((result.first ≡ row.first) × (result.stop ≡ row.stop) × (pages_of one.slot.size ≤ end)) }
 {
     if pages_named(old) <= end {
         row
     } else {
-        Row { first: 0, stop: 64 }
+        Row {
+            first: 0,
+            stop: CONTENT_PAGES as u16,
+        }
     }
 }
 
@@ -109,7 +120,7 @@ pub fn row_to_pass(old: &Option<InodeCopy>, row: Row, end: u16) -> Row
 pub fn pages_named(copy: &Option<InodeCopy>) -> u16
     requires { (one : InodeCopy) → copy.now ≡ Some one → IsSlot one.slot }
     ensures number { result ≡ length (pages_in copy.now) }
-    ensures most { result ≤ 64 }
+    ensures most { result ≤ content_pages_max }
 {
     match copy {
         Some(one) => page_count(one.slot.size),
@@ -126,26 +137,29 @@ pub fn pass_pages(
     row: Row,
     least: u16,
 ) -> u16
-    requires count { length uses.old.items ≡ 3072 }
+    requires count { length uses.old.items ≡ pack_pages }
     requires slot { (one : InodeCopy) → old.now ≡ Some one → IsSlot one.slot }
-    requires once { (p : ℕ) → p < 3072 → times p (pages_in old.now) ≤ slice_index uses.old.items p }
+    requires once { (p : ℕ) → p < pack_pages → times p (pages_in old.now) ≤ slice_index uses.old.items p }
     requires made { IsSlot made.now.slot }
-    requires few { (p : ℕ) → p < 3072 → slice_index uses.old.items p + times p (pages_in (Some made.now)) < 2 ^ 32 }
+    requires few { (p : ℕ) → p < pack_pages → slice_index uses.old.items p + times p (pages_in (Some made.now)) < 2 ^ 32 }
     requires least { NoneBelow least uses.old.items }
     requires ordered { row.first ≤ row.stop }
-    requires inside { row.stop ≤ 64 }
+    requires inside { row.stop ≤ content_pages_max }
     requires same { (one : InodeCopy) → old.now ≡ Some one → SameButFor row.first row.stop one.slot.pages made.now.slot.pages }
-    ensures long { length uses.new.items ≡ 3072 }
-    ensures named { (p : ℕ) → p < 3072 → slice_index uses.new.items p + times p (pages_in old.now) ≡ slice_index uses.old.items p + times p (pages_in (Some made.now)) }
+    ensures long { length uses.new.items ≡ pack_pages }
+    ensures named { (p : ℕ) → p < pack_pages → slice_index uses.new.items p + times p (pages_in old.now) ≡ slice_index uses.old.items p + times p (pages_in (Some made.now)) }
     ensures least { NoneBelow result uses.new.items }
 {
     match old {
         Some(one) => pass_all(uses, &one.slot.pages, &made.slot.pages, row, least),
         None => pass_all(
             uses,
-            &[0xFFFF; 64],
+            &[0xFFFF; CONTENT_PAGES],
             &made.slot.pages,
-            Row { first: 0, stop: 64 },
+            Row {
+                first: 0,
+                stop: CONTENT_PAGES as u16,
+            },
             least,
         ),
     }

@@ -2,6 +2,7 @@
 use Rattle.std.proofs.Common.{◌≡◌, ◌≢◌, ⊎_elim, ℕ, ◌+◌, ◌≤◌, ◌<◌, Bool, true, false, List, [], ◌∷◌, length, refl, sym, ◌∙◌, ap, subst, arith}
 use Rattle.std.specs.Prelude.{Option, ◌==◌, ◌&&◌}
 use Rattle.std.proofs.lemmas.Bool.{cases_eq, cases_Bool, cases_lt}
+use Rattle.locus_ids.specs.Sizes.{inodes_max}
 use Rattle.disk_model.specs.Cut.{Cut, left_by, left_in_write}
 use Rattle.disk_model.specs.Images.{Torn}
 use Rattle.gate_switch.specs.Switch.{Piece, TornIn, written, calls_of}
@@ -38,7 +39,7 @@ module _ (base ino : ℕ) (half : Half) (pieces : List Piece) (old : List ℕ) (
   Left c = IsCutReplacing base ino half pieces pages how passed old c
 
   -- the pieces touch no gate
-  mid_open : (i : ℕ) (each : Half) → 1 ≤ i → i ≤ 1024 → (c : List ℕ) → TornIn pieces old c → is_open c (slot_at base i each) ≡ is_open old (slot_at base i each)
+  mid_open : (i : ℕ) (each : Half) → 1 ≤ i → i ≤ inodes_max → (c : List ℕ) → TornIn pieces old c → is_open c (slot_at base i each) ≡ is_open old (slot_at base i each)
   mid_open i each low high c torn = ap (λ (n : ℕ). n == 165) (torn.outside (slot_at base i each) (may.gates i each low high))
 
   -- the gate of a place that isn't the one that is torn

@@ -5,3 +5,4 @@ pub mod Losing
 pub mod Outside
 pub mod VersionBytes
 pub mod Cutting
+pub use Rattle.gate_switch.proofs as of_gate_switch

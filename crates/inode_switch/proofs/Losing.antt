@@ -3,6 +3,7 @@ use Rattle.std.proofs.Common.{◌≡◌, ◌≢◌, inl, inr, ⊎_elim, ℕ, ◌
 use Rattle.std.specs.Prelude.{Some, ◌==◌}
 use Rattle.std.proofs.lemmas.Bool.{cases_eq, cases_Bool, eqb-true, true≢false}
 use Rattle.std.proofs.lemmas.Bool.Decides.{nat_tests}
+use Rattle.locus_ids.specs.Sizes.{inodes_max}
 use Rattle.disk_model.specs.Images.{overwritten, is_within, Torn}
 use Rattle.pack_layout.specs.declared.half.Half.{Half}
 use Rattle.pack_layout.specs.declared.half.Half.TheVariants.{First, Second}
@@ -25,7 +26,7 @@ module _ (base ino : ℕ) (half : Half) (old : List ℕ) (loses : Loses base ino
   other = slot_at base ino (other_half half)
 
   -- a slot that keeps all its bytes and those of its pages
-  kept : (c : List ℕ) → length c ≡ length old → (i : ℕ) (one : Half) → 1 ≤ i → i ≤ 1024 → ((k : ℕ) → k < 512 → get_or c (slot_at base i one + k) 0 ≡ get_or old (slot_at base i one + k) 0)
+  kept : (c : List ℕ) → length c ≡ length old → (i : ℕ) (one : Half) → 1 ≤ i → i ≤ inodes_max → ((k : ℕ) → k < 512 → get_or c (slot_at base i one + k) 0 ≡ get_or old (slot_at base i one + k) 0)
       → ((k : ℕ) → base + 1049600 ≤ k → get_or c k 0 ≡ get_or old k 0) → is_open old (slot_at base i one) ≡ true → Keeps base (slot_at base i one) old c
   kept c long i one low high bytes pages is = record {
     long = long;
@@ -34,7 +35,7 @@ module _ (base ino : ℕ) (half : Half) (old : List ℕ) (loses : Loses base ino
     pages = λ n k lt in_page. pages (page_at base (page old (slot_at base i one) n) + k) (omega arith);
   }
 
-  agrees : (c : List ℕ) → length c ≡ length old → (i : ℕ) (one : Half) → 1 ≤ i → i ≤ 1024 → ((k : ℕ) → k < 512 → get_or c (slot_at base i one + k) 0 ≡ get_or old (slot_at base i one + k) 0)
+  agrees : (c : List ℕ) → length c ≡ length old → (i : ℕ) (one : Half) → 1 ≤ i → i ≤ inodes_max → ((k : ℕ) → k < 512 → get_or c (slot_at base i one + k) 0 ≡ get_or old (slot_at base i one + k) 0)
       → ((k : ℕ) → base + 1049600 ≤ k → get_or c k 0 ≡ get_or old k 0) → Agrees base (slot_at base i one) old c
   agrees c long i one low high bytes pages = ⊎_elim
       (λ (is : is_open old (slot_at base i one) ≡ true). inr (kept c long i one low high bytes pages is))
@@ -54,7 +55,7 @@ module _ (base ino : ℕ) (half : Half) (old : List ℕ) (loses : Loses base ino
     slot_bytes : (i : ℕ) (one : Half) → slot_at base i one ≢ gate → (k : ℕ) → k < 512 → get_or c (slot_at base i one + k) 0 ≡ get_or old (slot_at base i one + k) 0
     slot_bytes i one apart k lt = each (slot_at base i one + k) (λ e. apart (one_slot base i one ino half k lt e))
 
-    others : (i : ℕ) → 1 ≤ i → i ≤ 1024 → i ≢ ino → view c base i ≡ view old base i
+    others : (i : ℕ) → 1 ≤ i → i ≤ inodes_max → i ≢ ino → view c base i ≡ view old base i
     others i low high ne = same_view base (slot_at base i First) (slot_at base i Second) old c
         (agrees c torn.long i First low high (slot_bytes i First (λ e. omega (arith, half_most half, loses.low))) pages)
         (agrees c torn.long i Second low high (slot_bytes i Second (λ e. omega (arith, half_most half, loses.low))) pages)

@@ -3,10 +3,11 @@ use Rattle.std.proofs.Common.{◌≡◌, ◌≢◌, inl, inr, ⊎_elim, ℕ, zer
 use Rattle.std.specs.Prelude.{Option, None, Some, ◌==◌, if◌then◌else◌}
 use Rattle.std.proofs.lemmas.Bool.{cases_eq, cases_Bool, eqb-true, eq-eqb}
 use Rattle.std.proofs.lemmas.Bool.Decides.{nat_tests}
+use Rattle.locus_ids.specs.Sizes.{inodes_max, content_pages_max}
 use Rattle.disk_model.specs.Images.{is_within, Torn}
 use Rattle.gate_switch.specs.Switch.{Piece}
 use Rattle.gate_switch.specs.Switch.{touches, TornIn, TornGate, IsStage, written, closed, switched}
-use Rattle.file_content.specs.Pages.{pages_of}
+use Rattle.pack_layout.specs.of_file_content.Pages.{pages_of}
 use Rattle.pack_layout.specs.declared.half.Half.{Half}
 use Rattle.pack_layout.specs.declared.half.Half.TheVariants as slot_half
 use Rattle.pack_layout.specs.Layout.{slot_at, page_at, other_half}
@@ -20,19 +21,16 @@ use Rattle.inode_switch.proofs.Views.{Keeps, Agrees, same_view, same_version}
 pub one_slot : (base i : ℕ) (each : Half) (ino : ℕ) (half : Half) (k : ℕ) → k < 512 → slot_at base i each + k ≡ slot_at base ino half → slot_at base i each ≡ slot_at base ino half
 one_slot base i each ino half k lt e = omega arith
 
-pub below_pages : (base ino : ℕ) (half : Half) (k : ℕ) → ino ≤ 1024 → base + 1049600 ≤ k → k ≢ slot_at base ino half
+pub below_pages : (base ino : ℕ) (half : Half) (k : ℕ) → ino ≤ inodes_max → base + 1049600 ≤ k → k ≢ slot_at base ino half
 below_pages base ino half k high le e = omega (arith, half_most half)
 
 module _ (base ino : ℕ) (half : Half) (pieces : List Piece) (old : List ℕ) (may : MayReplace base ino half pieces old) where
   abbrev gate : ℕ
   gate = slot_at base ino half
 
-  abbrev other : ℕ
-  other = slot_at base ino (other_half half)
-
   -- a slot that a change spares, with its pages, outside the places where it may change more
   spared : (Out : ℕ → Type 0) (c : List ℕ) → length c ≡ length old → ((k : ℕ) → touches pieces k ≡ false → Out k → get_or c k 0 ≡ get_or old k 0)
-      → (i : ℕ) (each : Half) → 1 ≤ i → i ≤ 1024 → ((k : ℕ) → k < 512 → Out (slot_at base i each + k)) → ((k : ℕ) → base + 1049600 ≤ k → Out k) → Agrees base (slot_at base i each) old c
+      → (i : ℕ) (each : Half) → 1 ≤ i → i ≤ inodes_max → ((k : ℕ) → k < 512 → Out (slot_at base i each + k)) → ((k : ℕ) → base + 1049600 ≤ k → Out k) → Agrees base (slot_at base i each) old c
   spared Out c long same i each low high in_slot in_pages = ⊎_elim kept shut (cases_Bool (is_open old (slot_at base i each)))
     where
       kept : is_open old (slot_at base i each) ≡ true → Agrees base (slot_at base i each) old c
@@ -52,7 +50,7 @@ module _ (base ino : ℕ) (half : Half) (pieces : List Piece) (old : List ℕ) (
   pub stays_old : (c : List ℕ) → length c ≡ length old → ((k : ℕ) → touches pieces k ≡ false → k ≢ gate → get_or c k 0 ≡ get_or old k 0) → is_open c gate ≡ false → SameView base old c
   stays_old c long same closed = λ i low high. same_view base (slot_at base i slot_half.First) (slot_at base i slot_half.Second) old c (at i slot_half.First low high) (at i slot_half.Second low high)
     where
-      at : (i : ℕ) (each : Half) → 1 ≤ i → i ≤ 1024 → Agrees base (slot_at base i each) old c
+      at : (i : ℕ) (each : Half) → 1 ≤ i → i ≤ inodes_max → Agrees base (slot_at base i each) old c
       at i each low high = ⊎_elim
           (λ (here : slot_at base i each ≡ gate). subst (λ (s : ℕ). Agrees base s old c) (sym here) (inl (may.shut, closed)))
           (λ (apart : slot_at base i each ≢ gate). spared (λ k. k ≢ gate) c long same i each low high (λ k lt e. apart (one_slot base i each ino half k lt e)) (λ k le. below_pages base ino half k may.high le))
@@ -142,7 +140,7 @@ module _ (base ino : ℕ) (half : Half) (pieces : List Piece) (old : List ℕ) (
     keeps : Keeps base gate' made c
     keeps = record {
       long = long;
-      few = subst (λ (n : ℕ). pages_of n ≤ 64) (sym size_same) may.few;
+      few = subst (λ (n : ℕ). pages_of n ≤ content_pages_max) (sym size_same) may.few;
       bytes = λ k lt. each (gate' + k) (λ e. own_apart (sym (one_slot base ino half ino (other_half half) k lt e)));
       pages = λ n k lt in_page. each _ (below_pages base ino (other_half half) (page_at base (page made gate' n) + k) may.high (omega arith));
     }
@@ -151,7 +149,7 @@ module _ (base ino : ℕ) (half : Half) (pieces : List Piece) (old : List ℕ) (
     own_version = same_version base gate' made c keeps
 
     -- the others
-    pub others_same : (i : ℕ) → 1 ≤ i → i ≤ 1024 → i ≢ ino → view c base i ≡ view old base i
+    pub others_same : (i : ℕ) → 1 ≤ i → i ≤ inodes_max → i ≢ ino → view c base i ≡ view old base i
     others_same i low high ne = same_view base (slot_at base i slot_half.First) (slot_at base i slot_half.Second) old c (at slot_half.First) (at slot_half.Second)
       where
         at : (one : Half) → Agrees base (slot_at base i one) old c

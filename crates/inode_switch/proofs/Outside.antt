@@ -2,6 +2,7 @@
 use Rattle.std.proofs.Common.{◌≡◌, inl, inr, ℕ, ◌+◌, ◌≤◌, ◌<◌, Bool, true, false, List, ◌∙◌, arith}
 use Rattle.std.specs.Prelude.{Option, None, Some, if◌then◌else◌}
 use Rattle.std.proofs.lemmas.Bool.Decides.{nat_tests}
+use Rattle.locus_ids.specs.Sizes.{inodes_max}
 use Rattle.disk_model.specs.Images.{is_within, Torn}
 use Rattle.pack_layout.specs.declared.half.Half.{Half}
 use Rattle.pack_layout.specs.Layout.{area_length, slot_at, other_half}
@@ -18,7 +19,7 @@ apart_from : (base n at k : ℕ) → base ≤ at → at < base + n → is_within
 apart_from base n at k low high out = grind (arith, nat_tests)
 
 -- a torn gate of the area
-pub gate_in_area : (base ino : ℕ) (half : Half) (old new : List ℕ) → 1 ≤ ino → ino ≤ 1024 → Torn (slot_at base ino half) 1 old new → Torn base area_length old new
+pub gate_in_area : (base ino : ℕ) (half : Half) (old new : List ℕ) → 1 ≤ ino → ino ≤ inodes_max → Torn (slot_at base ino half) 1 old new → Torn base area_length old new
 gate_in_area base ino half old new low high torn = record {
   long = torn.long;
   outside = λ k out. torn.outside k (apart_from base area_length (slot_at base ino half) k (omega arith) (omega (arith, half_most half)) out);

@@ -6,9 +6,10 @@ use Rattle.std.specs.Int.{w16, w32, to_be_bytes, byte_at}
 use Rattle.std.proofs.lemmas.List.{get_or-take, get_or-drop, drop-take, drop-drop, take-take, get_or-append_right}
 use Rattle.std.proofs.lemmas.Bool.{cases_lt}
 use Rattle.std.proofs.Math.Seq.{take-append_seam}
+use Rattle.locus_ids.specs.Sizes.{content_pages_max}
 use Rattle.pack_layout.specs.declared.slot.Slot.{Slot}
 use Rattle.disk_model.specs.Images.{bytes_at}
-use Rattle.file_content.specs.Pages.{pages_of}
+use Rattle.pack_layout.specs.of_file_content.Pages.{pages_of}
 use Rattle.pack_layout.specs.Layout.{kind_number, slot_bytes, IsSlot, NamePages}
 use Rattle.inode_switch.specs.View.{page}
 use Rattle.inode_switch.specs.Slots.{Holds, Says, field_bytes}
@@ -58,7 +59,7 @@ number_byte s i k is le =
     ∙ get_or-append_right (counters s) (numbers s) 64 (80 + 2 * i + k - 16) 0 (length-of_counters s is) (omega arith)
     ∙ ap (λ (n : ℕ). get_or (numbers s) n 0) (let e : 80 + 2 * i + k - 16 - 64 ≡ 2 * i + k = omega arith in e)
 
-page_fits : (n i : ℕ) (pages : List ℕ) → NamePages n pages → i < 64 → get_or pages i 0 < 2 ^ 16
+page_fits : (n i : ℕ) (pages : List ℕ) → NamePages n pages → i < content_pages_max → get_or pages i 0 < 2 ^ 16
 page_fits n i pages p lt = elim (cases_lt i n) [
   | inl few ↦ omega (arith, p.inside i few)
   | inr le ↦ omega (arith, p.rest i le lt)
@@ -74,7 +75,7 @@ module _ (image : List ℕ) (at : ℕ) (s : Slot) (holds : Holds image at s) (is
   byte_of : (k : ℕ) → k < 512 → get_or image (at + k) 0 ≡ get_or (slot_bytes s) k 0
   byte_of k lt = sym (get_or-drop at image k 0) ∙ sym (get_or-take 512 (drop at image) k 0 lt) ∙ ap (λ (l : List ℕ). get_or l k 0) holds
 
-  page_is : (i : ℕ) → i < 64 → page image at i ≡ get_or s.pages i 0
+  page_is : (i : ℕ) → i < content_pages_max → page image at i ≡ get_or s.pages i 0
   page_is i lt =
       let few = is.pages.count in
       let e : at + (80 + 2 * i + 0) ≡ at + 80 + 2 * i = omega arith in

@@ -1,18 +1,19 @@
 -- Images that agree where the view looks have one view.
 use Rattle.std.proofs.Common.{◌≡◌, ◌⊎◌, inl, inr, ℕ, zero, suc, ◌+◌, ◌*◌, ◌≤◌, ◌<◌, Bool, true, false, List, ◌++◌, length, take, get_or, refl, sym, ◌∙◌, ap, subst, arith, ◌%◌}
 use Rattle.std.specs.Prelude.{Some, ◌==◌}
+use Rattle.locus_ids.specs.Sizes.{page_bytes, content_pages_max}
 use Rattle.disk_model.specs.Images.{bytes_at}
 use Rattle.gate_switch.proofs.Tearing.{same_bytes}
-use Rattle.file_content.specs.Pages.{pages_of}
+use Rattle.pack_layout.specs.of_file_content.Pages.{pages_of}
 use Rattle.pack_layout.specs.Layout.{page_at}
 use Rattle.inode_switch.specs.View.{is_open, size, page, bytes_of, Version, version, Newer, Second, First, Neither, newer_of, newer, counting, version_in}
 
 -- a slot and its pages are the same in both
 pub record Keeps (base slot : ℕ) (a b : List ℕ) : Type 0 where
   pub long : length b ≡ length a
-  pub few : pages_of (size a slot) ≤ 64
+  pub few : pages_of (size a slot) ≤ content_pages_max
   pub bytes : (k : ℕ) → k < 512 → get_or b (slot + k) 0 ≡ get_or a (slot + k) 0
-  pub pages : (i k : ℕ) → i < pages_of (size a slot) → k < 1024 → get_or b (page_at base (page a slot i) + k) 0 ≡ get_or a (page_at base (page a slot i) + k) 0
+  pub pages : (i k : ℕ) → i < pages_of (size a slot) → k < page_bytes → get_or b (page_at base (page a slot i) + k) 0 ≡ get_or a (page_at base (page a slot i) + k) 0
 
 module _ (base slot : ℕ) (a b : List ℕ) (keeps : Keeps base slot a b) where
   at_byte : (k : ℕ) → k < 512 → get_or b (slot + k) 0 ≡ get_or a (slot + k) 0
@@ -24,7 +25,7 @@ module _ (base slot : ℕ) (a b : List ℕ) (keeps : Keeps base slot a b) where
   same_size : size b slot ≡ size a slot
   same_size = (λ i. ((at_byte 7 (omega arith) i * 256 + at_byte 8 (omega arith) i) * 256 + at_byte 9 (omega arith) i) * 256 + at_byte 10 (omega arith) i)
 
-  same_page : (n : ℕ) → n < 64 → page b slot n ≡ page a slot n
+  same_page : (n : ℕ) → n < content_pages_max → page b slot n ≡ page a slot n
   same_page n lt =
       let e : slot + (80 + 2 * n) ≡ slot + 80 + 2 * n = omega arith in
       let f : slot + (81 + 2 * n) ≡ slot + 81 + 2 * n = omega arith in
@@ -36,8 +37,8 @@ module _ (base slot : ℕ) (a b : List ℕ) (keeps : Keeps base slot a b) where
   same_pages zero le = refl
   same_pages (suc n) le =
       let lt : n < pages_of (size a slot) = omega arith in
-      let below : n < 64 = omega (arith, keeps.few) in
-      let one = ap (λ (p : ℕ). bytes_at b (page_at base p) 1024) (same_page n below) ∙ same_bytes a b (page_at base (page a slot n)) 1024 keeps.long (λ k in_page. keeps.pages n k lt in_page) in
+      let below : n < content_pages_max = omega (arith, keeps.few) in
+      let one = ap (λ (p : ℕ). bytes_at b (page_at base p) page_bytes) (same_page n below) ∙ same_bytes a b (page_at base (page a slot n)) page_bytes keeps.long (λ k in_page. keeps.pages n k lt in_page) in
       let rest = same_pages n (omega arith) in
       (λ i. rest i ++ one i)
 

@@ -1,5 +1,6 @@
 -- What a replacement leaves that was cut off.
 use Rattle.std.specs.Prelude.{ℕ, ◌≤◌, ◌≡◌, ◌≢◌, ◌&&◌, Bool, true, false, List}
+use Rattle.locus_ids.specs.Sizes.{inodes_max}
 use Rattle.disk_model.specs.Cut.{Cut}
 use Rattle.gate_switch.specs.Switch.{Piece}
 use Rattle.gate_switch.specs.Gates.{new_gate, old_gate}
@@ -18,4 +19,4 @@ pub record IsCutReplacing (base ino : ℕ) (half : Half) (pieces : List Piece) (
   pub view : IsViewBy (new_gate pages how passed) base ino (made_version base ino half pieces old) old new
   pub mine : is_open new (slot_at base ino half) ≡ new_gate pages how passed
   pub other : is_open new (slot_at base ino (other_half half)) ≡ (is_open old (slot_at base ino (other_half half)) && old_gate pages how passed)
-  pub rest : (i : ℕ) (each : Half) → 1 ≤ i → i ≤ 1024 → i ≢ ino → is_open new (slot_at base i each) ≡ is_open old (slot_at base i each)
+  pub rest : (i : ℕ) (each : Half) → 1 ≤ i → i ≤ inodes_max → i ≢ ino → is_open new (slot_at base i each) ≡ is_open old (slot_at base i each)

@@ -1,18 +1,19 @@
 -- What a commit may write: its closed slot behind the gate, and pages of no slot that is open.
 use Rattle.std.specs.Prelude.{ℕ, ◌+◌, ◌%◌, ◌≤◌, ◌<◌, ◌≡◌, true, false, List, length, Option, None, Some, if◌then◌else◌}
+use Rattle.locus_ids.specs.Sizes.{inodes_max, page_bytes, content_pages_max}
 use Rattle.disk_model.specs.Images.{is_within}
 use Rattle.gate_switch.specs.Switch.{Piece}
 use Rattle.gate_switch.specs.Switch.{AreWithin, touches, written, opened}
-use Rattle.file_content.specs.Pages.{pages_of}
+use Rattle.pack_layout.specs.of_file_content.Pages.{pages_of}
 use Rattle.pack_layout.specs.declared.half.Half.{Half}
 use Rattle.pack_layout.specs.Layout.{area_length, slot_at, page_at, other_half}
 use Rattle.inode_switch.specs.View.{is_open, turn, size, page, Version, version}
 
 -- none of the pieces meets this slot or its pages
 pub record Spares (base slot : ℕ) (pieces : List Piece) (old : List ℕ) : Type 0 where
-  pub few : pages_of (size old slot) ≤ 64
+  pub few : pages_of (size old slot) ≤ content_pages_max
   pub bytes : (k : ℕ) → k < 512 → touches pieces (slot + k) ≡ false
-  pub pages : (i k : ℕ) → i < pages_of (size old slot) → k < 1024 → touches pieces (page_at base (page old slot i) + k) ≡ false
+  pub pages : (i k : ℕ) → i < pages_of (size old slot) → k < page_bytes → touches pieces (page_at base (page old slot i) + k) ≡ false
 
 -- the turn that follows another: 0, 1 and 2 go round
 abbrev pub IsNext : ℕ → ℕ → Type 0
@@ -25,11 +26,11 @@ pub record MayReplace (base ino : ℕ) (half : Half) (pieces : List Piece) (old 
   pub within : AreWithin pieces (length old)
   pub inside : (k : ℕ) → is_within base area_length k ≡ false → touches pieces k ≡ false
   pub low : 1 ≤ ino
-  pub high : ino ≤ 1024
+  pub high : ino ≤ inodes_max
   pub shut : is_open old (slot_at base ino half) ≡ false
-  pub gates : (i : ℕ) (each : Half) → 1 ≤ i → i ≤ 1024 → touches pieces (slot_at base i each) ≡ false
-  pub spares : (i : ℕ) (each : Half) → 1 ≤ i → i ≤ 1024 → is_open old (slot_at base i each) ≡ true → Spares base (slot_at base i each) pieces old
-  pub few : pages_of (size (written old pieces) (slot_at base ino half)) ≤ 64
+  pub gates : (i : ℕ) (each : Half) → 1 ≤ i → i ≤ inodes_max → touches pieces (slot_at base i each) ≡ false
+  pub spares : (i : ℕ) (each : Half) → 1 ≤ i → i ≤ inodes_max → is_open old (slot_at base i each) ≡ true → Spares base (slot_at base i each) pieces old
+  pub few : pages_of (size (written old pieces) (slot_at base ino half)) ≤ content_pages_max
   pub next : is_open old (slot_at base ino (other_half half)) ≡ true → IsNext (turn old (slot_at base ino (other_half half))) (turn (written old pieces) (slot_at base ino half))
 
 -- the bytes once the new slot is open, and the version that it then has
@@ -47,8 +48,8 @@ closing base ino half old = if is_open old (slot_at base ino (other_half half)) 
 pub record Loses (base ino : ℕ) (half : Half) (old : List ℕ) : Type 0 where
   pub area : base + area_length ≤ length old
   pub low : 1 ≤ ino
-  pub high : ino ≤ 1024
+  pub high : ino ≤ inodes_max
   pub mine : is_open old (slot_at base ino half) ≡ true
   pub other : is_open old (slot_at base ino (other_half half)) ≡ true
   pub next : IsNext (turn old (slot_at base ino half)) (turn old (slot_at base ino (other_half half)))
-  pub few : (i : ℕ) (each : Half) → 1 ≤ i → i ≤ 1024 → is_open old (slot_at base i each) ≡ true → pages_of (size old (slot_at base i each)) ≤ 64
+  pub few : (i : ℕ) (each : Half) → 1 ≤ i → i ≤ inodes_max → is_open old (slot_at base i each) ≡ true → pages_of (size old (slot_at base i each)) ≤ content_pages_max

@@ -2,6 +2,7 @@
 use Rattle.std.specs.Prelude.{ℕ, ◌+◌, ◌<◌, ◌≡◌, true, List, ◌∷◌, ◌++◌, slice_index}
 use Rattle.std.specs.Int.{w16, w32, to_be_bytes}
 use Rattle.std.specs.List.{flat_map}
+use Rattle.locus_ids.specs.Sizes.{content_pages_max}
 use Rattle.disk_model.specs.Images.{bytes_at}
 use Rattle.pack_layout.specs.declared.slot.Slot.{Slot}
 use Rattle.pack_layout.specs.Layout.{kind_number, slot_bytes}
@@ -22,4 +23,4 @@ pub record Says (image : List ℕ) (at : ℕ) (s : Slot) : Type 0 where
   pub turn : turn image at ≡ s.turn
   pub size : size image at ≡ s.size
   pub fields : bytes_at image (at + 2) 78 ≡ field_bytes s
-  pub pages : (i : ℕ) → i < 64 → page image at i ≡ slice_index s.pages i
+  pub pages : (i : ℕ) → i < content_pages_max → page image at i ≡ slice_index s.pages i

@@ -1,7 +1,8 @@
 -- What an image of a pack stands for: for each inode nothing, or the version of the slot that counts.
 use Rattle.std.specs.Prelude.{ℕ, zero, suc, ◌+◌, ◌*◌, ◌%◌, ◌≤◌, ◌≡◌, ◌≢◌, ◌⊎◌, ◌==◌, Bool, true, false, List, [], ◌++◌, take, slice_index, Option, None, Some}
+use Rattle.locus_ids.specs.Sizes.{inodes_max, page_bytes}
 use Rattle.disk_model.specs.Images.{bytes_at}
-use Rattle.file_content.specs.Pages.{pages_of}
+use Rattle.pack_layout.specs.of_file_content.Pages.{pages_of}
 use Rattle.pack_layout.specs.declared.half.Half.TheVariants as slot_half
 use Rattle.pack_layout.specs.Layout.{open_gate, page_at, slot_at}
 
@@ -22,7 +23,7 @@ page image slot i = slice_index image (slot + 80 + 2 * i) * 256 + slice_index im
 -- the bytes of the first n pages in order
 abbrev pub bytes_of : List ℕ → ℕ → ℕ → ℕ → List ℕ
 bytes_of image base slot zero = []
-bytes_of image base slot (suc n) = bytes_of image base slot n ++ bytes_at image (page_at base (page image slot n)) 1024
+bytes_of image base slot (suc n) = bytes_of image base slot n ++ bytes_at image (page_at base (page image slot n)) page_bytes
 
 -- a version: its kind, inode, set, size, stamp and vector as a slot spells them, and the content
 pub record Version : Type 0 where
@@ -72,11 +73,11 @@ view image base ino =
 
 -- the view is as it was
 abbrev pub SameView : ℕ → List ℕ → List ℕ → Type 0
-SameView base old new = (ino : ℕ) → 1 ≤ ino → ino ≤ 1024 → view new base ino ≡ view old base ino
+SameView base old new = (ino : ℕ) → 1 ≤ ino → ino ≤ inodes_max → view new base ino ≡ view old base ino
 
 -- the view is as it was, but this inode has this version
 pub record Replaced (base ino : ℕ) (made : Version) (old new : List ℕ) : Type 0 where
-  pub others : (other : ℕ) → 1 ≤ other → other ≤ 1024 → other ≢ ino → view new base other ≡ view old base other
+  pub others : (other : ℕ) → 1 ≤ other → other ≤ inodes_max → other ≢ ino → view new base other ≡ view old base other
   pub own : view new base ino ≡ Some made
 
 -- wholly old or wholly new

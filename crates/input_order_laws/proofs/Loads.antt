@@ -4,6 +4,7 @@ use Rattle.std.specs.List.{AllByRecursion}
 use Rattle.std.specs.Int.{to_be_bytes, w32}
 use Rattle.std.proofs.lemmas.Bool.Decides.{nat_tests}
 use Rattle.std.proofs.lemmas.Fmt.{decimal_digit}
+use Rattle.the_run.proofs.of_plain_facts.Tests.{and_true}
 use Rattle.rand_pcg.specs.Lcg.{Lcg}
 use Rattle.rand_pcg.specs.Pcg.{pcg32}
 use Rattle.trace_book.specs.declared.call.Call.{Call}
@@ -15,7 +16,7 @@ use Rattle.schedule_lines.specs.declared.line.ScheduleLine.{ScheduleLine}
 use Rattle.the_run.specs.Commands.{Drawn, drawn, closing_lines, load_call, load_case, load_events, load_lines, load_path, next_site, parts_from, reads_it, rejoins, resolves, restarts, writes_number}
 use Rattle.generated_load.specs.Draws.{draw, draws_from, draws_of, seeded}
 use Rattle.input_order_laws.specs.Inputs.{IsDrawn}
-use Rattle.input_order_laws.proofs.Order.{AreEventsOf, both_true, both_events}
+use Rattle.input_order_laws.proofs.Order.{AreEventsOf, both_events}
 use Rattle.input_order_laws.proofs.Trees.{opened_in_order}
 
 -- ---- what is asked ----
@@ -43,12 +44,12 @@ two_sites s h = grind (arith, nat_tests)
 -- ---- its lines ----
 
 called : (site process : ℕ) (words : Call) → is_site 3 site ≡ true → is_between 1 8 process ≡ true → fits_call 3 words ≡ true → AreEventsOf 3 (load_call site process words)
-called site process words s p w = (both_true (is_site 3 site && is_between 1 8 process) (fits_call 3 words) (both_true (is_site 3 site) (is_between 1 8 process) s p) w, (refl, tt))
+called site process words s p w = (and_true (is_site 3 site && is_between 1 8 process) (fits_call 3 words) (and_true (is_site 3 site) (is_between 1 8 process) s p) w, (refl, tt))
 
 writes : (e : ℕ) (d : Drawn) → IsDrawn d → AreEventsOf 3 (writes_number e d)
 writes e d h =
     both_events 3 (load_call d.site 1 (call.Open (load_path d.name) how.Write)) (load_call d.site 1 (call.Write 0 0 (to_be_bytes w32 e)) ++ load_call d.site 1 (call.Close 0))
-    (called d.site 1 (call.Open (load_path d.name) how.Write) h.site refl (both_true (is_word (load_path d.name)) true (path_is_word d.name h.name) refl))
+    (called d.site 1 (call.Open (load_path d.name) how.Write) h.site refl (and_true (is_word (load_path d.name)) true (path_is_word d.name h.name) refl))
     (both_events 3 (load_call d.site 1 (call.Write 0 0 (to_be_bytes w32 e))) (load_call d.site 1 (call.Close 0))
     (called d.site 1 (call.Write 0 0 (to_be_bytes w32 e)) h.site refl (written_fits e))
     (called d.site 1 (call.Close 0) h.site refl refl))
@@ -56,7 +57,7 @@ writes e d h =
 reads : (d : Drawn) → IsDrawn d → AreEventsOf 3 (reads_it d)
 reads d h =
     both_events 3 (load_call d.site 1 (call.Open (load_path d.name) how.Read)) (load_call d.site 1 (call.Read 0 0 8) ++ load_call d.site 1 (call.Close 0))
-    (called d.site 1 (call.Open (load_path d.name) how.Read) h.site refl (both_true (is_word (load_path d.name)) true (path_is_word d.name h.name) refl))
+    (called d.site 1 (call.Open (load_path d.name) how.Read) h.site refl (and_true (is_word (load_path d.name)) true (path_is_word d.name h.name) refl))
     (both_events 3 (load_call d.site 1 (call.Read 0 0 8)) (load_call d.site 1 (call.Close 0))
     (called d.site 1 (call.Read 0 0 8) h.site refl refl)
     (called d.site 1 (call.Close 0) h.site refl refl))
@@ -73,7 +74,7 @@ starts_again s h = (h, (h, (h, (refl, tt))))
 settles : (d : Drawn) → IsDrawn d → AreEventsOf 3 (resolves d)
 settles d h =
     both_events 3 (load_call d.site 1 (call.Open (load_path d.name) (how.Resolve d.site))) (load_call d.site 1 (call.Close 0))
-    (called d.site 1 (call.Open (load_path d.name) (how.Resolve d.site)) h.site refl (both_true (is_word (load_path d.name)) (is_site 3 d.site) (path_is_word d.name h.name) h.site))
+    (called d.site 1 (call.Open (load_path d.name) (how.Resolve d.site)) h.site refl (and_true (is_word (load_path d.name)) (is_site 3 d.site) (path_is_word d.name h.name) h.site))
     (called d.site 1 (call.Close 0) h.site refl refl)
 
 either : (b : Bool) (xs ys : List ScheduleLine) → AreEventsOf 3 xs → AreEventsOf 3 ys → AreEventsOf 3 (cond b xs ys)
@@ -82,7 +83,7 @@ either false xs ys h k = k
 
 case_events : (e : ℕ) (d : Drawn) → IsDrawn d → (what : ℕ) → AreEventsOf 3 (load_case e d what)
 case_events e d h what =
-    either (nat_lt what 4) _ _ (called d.site 1 (call.Create (load_path d.name) None) h.site refl (both_true (is_word (load_path d.name)) true (path_is_word d.name h.name) refl))
+    either (nat_lt what 4) _ _ (called d.site 1 (call.Create (load_path d.name) None) h.site refl (and_true (is_word (load_path d.name)) true (path_is_word d.name h.name) refl))
     (either (nat_lt what 8) _ _ (writes e d h)
     (either (nat_lt what 10) _ _ (reads d h)
     (either (what == 10) _ _ (called d.site 1 (call.Unlink (load_path d.name)) h.site refl (path_is_word d.name h.name))

@@ -3,6 +3,7 @@ use Rattle.std.proofs.Common.{◌≡◌, ℕ, Bool, true, ◌&&◌, List, [], �
 use Rattle.std.proofs.lemmas.List.{append-nil}
 use Rattle.std.proofs.lemmas.List.Sums.{fold-append}
 use Rattle.std.specs.List.{AllByRecursion}
+use Rattle.the_run.proofs.of_plain_facts.Tests.{and_true}
 use Rattle.locus_ids.specs.declared.config.Config.{Config}
 use Rattle.schedule_lines.specs.Cluster.{no_cluster, with_line, config_of, is_whole}
 use Rattle.schedule_lines.specs.Ranges.{fits_event}
@@ -59,16 +60,13 @@ IsEventOf n (Event e) = fits_event n e ≡ true
 abbrev pub AreEventsOf : ℕ → List ScheduleLine → Type 0
 AreEventsOf n lines = AllByRecursion (IsEventOf n) lines
 
-pub both_true : (a b : Bool) → a ≡ true → b ≡ true → (a && b) ≡ true
-both_true a b e f = ap₂ (λ (x y : Bool). x && y) e f
-
 -- events may follow lines with this cluster, whose header is whole
 pub events_follow : (c : Config) → is_whole c ≡ true → (earlier later : List ScheduleLine) → config_of earlier ≡ c → AreEventsOf c.sites later → MayFollow earlier later
 events_follow c whole earlier [] is all = tt
 events_follow c whole earlier (Passed ∷ later) is all = absurd all.0
 events_follow c whole earlier (Header h ∷ later) is all = absurd all.0
 events_follow c whole earlier (Event e ∷ later) is all = (
-  both_true (is_whole (config_of earlier)) (fits_event (config_of earlier).sites e) (ap is_whole is ∙ whole) (ap (λ (x : Config). fits_event x.sites e) is ∙ all.0),
+  and_true (is_whole (config_of earlier)) (fits_event (config_of earlier).sites e) (ap is_whole is ∙ whole) (ap (λ (x : Config). fits_event x.sites e) is ∙ all.0),
   events_follow c whole (earlier ++ Event e ∷ []) later (fold-append with_line no_cluster earlier (Event e ∷ []) ∙ is) all.1,
 )
 

@@ -2,10 +2,12 @@
 use Rattle.std.proofs.Common.{◌≡◌, ℕ, zero, suc, ◌+◌, ◌==◌, ◌≤◌, max, Bool, true, false, not, cond, ◌&&◌, ◌||◌, List, [], ◌∷◌, map, refl, sym, ◌∙◌, ap, subst, arith}
 use Rattle.std.proofs.lemmas.Bool.Decides.{nat_tests}
 use Rattle.std.specs.List.{list_any}
+use Rattle.role_steps.proofs.of_plain_facts.Tests.{false_unless, or_neither}
 use Rattle.locus_ids.specs.declared.config.Config.{Config}
 use Rattle.locus_ids.specs.declared.sites.Sites.{Sites}
 use Rattle.locus_ids.specs.declared.ids.FileId.{FileId}
 use Rattle.locus_ids.specs.declared.ids.Stamp.{Stamp}
+use Rattle.locus_ids.specs.Sizes.{sites_max}
 use Rattle.commit_graph.specs.declared.history.Version.{Version}
 use Rattle.commit_graph.specs.Versions.{same_file, same_stamp, is_version, is_in, is_ancestor}
 use Rattle.commit_graph.specs.Counters.{greatest, counter}
@@ -21,13 +23,8 @@ use Rattle.vector_laws.specs.Written.{past_of, CommitsAreNumbered}
 use Rattle.vector_laws.specs.HistoryCommits.{real_parents, with_told, commits_of, CommitsAreSited}
 use Rattle.vector_laws.proofs.HistoryHistory.{Sound, sound, once_older, version_made}
 use Rattle.kept_laws.specs.Printed.{onto_printed, printed}
-use Rattle.kept_laws.proofs.Ordered.{is_not}
 
 -- ---- what doesn't stand in a history ----
-
-or_neither : (a b : Bool) → (a || b) ≡ false → (a ≡ false) × (b ≡ false)
-or_neither true b h = absurd (cc)
-or_neither false b h = (refl, h)
 
 pub not_in_counter : (file : FileId) (h : List Version) (p : Stamp) (site : ℕ) → is_in h file p ≡ false → counter h file p site ≡ 0
 not_in_counter file [] p site e = refl
@@ -46,7 +43,7 @@ format_site p h low = grind (arith, nat_tests)
 
 -- the format's version is no commit
 pub format_not_in : (file : FileId) (h : List Version) → Counted file h → (p : Stamp) → is_format p ≡ true → is_in h file p ≡ false
-format_not_in file h k p f = is_not (is_in h file p) (λ e. (let n : Named p = named file h k p e in format_site p f n.low))
+format_not_in file h k p f = false_unless (is_in h file p) (λ e. (let n : Named p = named file h k p e in format_site p f n.low))
 
 -- ---- parents, with the format's and without ----
 
@@ -106,7 +103,7 @@ pub record Alike (c : Config) (file : FileId) (trace : List Line) : Type 0 where
   pub ancestors : (a b : Stamp) → is_format a ≡ false → is_ancestor (history c (printed trace)) file a b ≡ is_ancestor (commits_of file (past_of trace)) file a b
 
 not_same_format : (a p : Stamp) → is_format a ≡ false → is_format p ≡ true → same_stamp a p ≡ false
-not_same_format a p h f = is_not (same_stamp a p) (λ e. false_not_true h (subst (λ (x : Stamp). is_format x ≡ true) (sym (same_stamp_eq a p e)) f))
+not_same_format a p h f = false_unless (same_stamp a p) (λ e. false_not_true h (subst (λ (x : Stamp). is_format x ≡ true) (sym (same_stamp_eq a p e)) f))
 
 commit_counter : (c : Config) (file : FileId) (older : List Line) → Counted file (commits_of file (past_of older)) → Alike c file older → (g : FileId) (s : ℕ) (stamp : Stamp) (parents : List Stamp) (content : List ℕ) (b : Stamp) (site : ℕ) → 1 ≤ site → (t : Bool) → same_file g file ≡ t →
     counter (record { file = g; site = s; stamp = stamp; parents = parents; content = content } ∷ history c (printed older)) file b site ≡ counter (cond t (version_made g s stamp parents content ∷ commits_of file (past_of older)) (commits_of file (past_of older))) file b site
@@ -160,4 +157,4 @@ numbers_same f g same zero first low = refl
 numbers_same f g same (suc more) first low = ap (λ (n : ℕ). n ∷ map f (numbers_from (first + 1) more)) (same first low) ∙ ap (λ (ns : List ℕ). g first ∷ ns) (numbers_same f g same more (first + 1) (omega (arith, low)))
 
 pub same_vector : (c : Config) (file : FileId) (trace : List Line) → Alike c file trace → (b : Stamp) → vector_of (history c (printed trace)) file b ≡ vector_of (commits_of file (past_of trace)) file b
-same_vector c file trace k b = numbers_same (counter (history c (printed trace)) file b) (counter (commits_of file (past_of trace)) file b) (λ n low. k.counters b n low) 16 1 (omega arith)
+same_vector c file trace k b = numbers_same (counter (history c (printed trace)) file b) (counter (commits_of file (past_of trace)) file b) (λ n low. k.counters b n low) sites_max 1 (omega arith)

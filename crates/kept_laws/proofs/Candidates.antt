@@ -2,6 +2,8 @@
 use Rattle.std.proofs.Common.{◌≡◌, ℕ, ◌==◌, Bool, true, false, ◌&&◌, cond, List, [], ◌∷◌, ◌++◌, filter, map, Option, Some, None, refl, ◌∙◌, subst, arith, inl, inr}
 use Rattle.std.proofs.lemmas.Bool.Decides.{nat_tests}
 use Rattle.std.specs.Option.{is_none}
+use Rattle.role_steps.proofs.of_plain_facts.Numbers.{equal}
+use Rattle.role_steps.proofs.of_plain_facts.Tests.{both_true}
 use Rattle.locus_ids.specs.declared.config.Config.{Config}
 use Rattle.locus_ids.specs.declared.sites.Members.{Members}
 use Rattle.locus_ids.specs.declared.ids.EpochId.{EpochId}
@@ -30,7 +32,6 @@ use Rattle.vector_laws.specs.Facts.{file_in}
 use Rattle.vector_laws.proofs.SyncFacts.{seen_none, file_eq}
 use Rattle.kept_laws.specs.Printed.{onto_printed, printed}
 use Rattle.kept_laws.specs.Known.{IsVersion, NamedRecord, NamedTold, NamesAreVersions}
-use Rattle.kept_laws.proofs.Ordered.{and_both}
 
 -- ---- what a tree has ----
 
@@ -114,12 +115,9 @@ joined_versions past group site m t h =
       ];
     }
 
-test_same : (a b : ℕ) → (a == b) ≡ true → a ≡ b
-test_same a b e = grind (arith, nat_tests)
-
 -- the file is of the tree's group
 of_group : (past : List Told) (group : ℕ) (f : FileId) (stamp : Stamp) (t : TreeState) → t.group ≡ group → (f.group == t.group) ≡ true → IsVersion past f stamp → IsVersion past (file_in group f.ino) stamp
-of_group past group f stamp t g e h = (h.0, subst (λ (x : FileId). WrittenAs past x stamp h.0) (file_eq f group f.ino (test_same f.group t.group e ∙ g) refl) h.1)
+of_group past group f stamp t g e h = (h.0, subst (λ (x : FileId). WrittenAs past x stamp h.0) (file_eq f group f.ino (equal f.group t.group e ∙ g) refl) h.1)
 
 now_versions : (past : List Told) (group : ℕ) (f : FileId) (site : ℕ) (stamp : Stamp) (t : TreeState) → IsVersion past f stamp → HasVersions past group t → HasVersions past group (has_now f site stamp t)
 now_versions past group f site stamp t k h = record {
@@ -156,7 +154,7 @@ next_versions older group h (says.Release e i f stamp) t n k g =
     let r : Record = says.Release e i f stamp in
     let l : HasVersions (Shown r ∷ older) group t = versions_later (Shown r) older group t g in
     (elim (same_epoch e t.epoch && (f.group == t.group)) as (λ b. (same_epoch e t.epoch && (f.group == t.group)) ≡ b → HasVersions (Shown r ∷ older) group (cond b (released i f stamp t) t)) [
-      | true ↦ λ q. record { group_is = l.group_is; copies = l.copies; known = published_every (Shown r ∷ older) group e i f stamp t l.group_is (and_both (same_epoch e t.epoch) (f.group == t.group) q).1 (release_later (Shown r) older e i f stamp k) l.known }
+      | true ↦ λ q. record { group_is = l.group_is; copies = l.copies; known = published_every (Shown r ∷ older) group e i f stamp t l.group_is (both_true (same_epoch e t.epoch) (f.group == t.group) q).1 (release_later (Shown r) older e i f stamp k) l.known }
       | false ↦ λ q. l
     ]) refl
   where
@@ -179,7 +177,7 @@ stamps_every : (past : List Told) (group ino : ℕ) (known : List Brought) → E
 stamps_every past group ino [] h = tt
 stamps_every past group ino (b ∷ bs) h =
     (elim (b.ino == ino) as (λ t. (b.ino == ino) ≡ t → Every (IsVersion past (file_in group ino)) (map (λ (x : Brought). x.stamp) (cond t (b ∷ filter (λ (x : Brought). x.ino == ino) bs) (filter (λ (x : Brought). x.ino == ino) bs)))) [
-      | true ↦ λ e. (subst (λ (i : ℕ). IsVersion past (file_in group i) b.stamp) (test_same b.ino ino e) h.0, stamps_every past group ino bs h.1)
+      | true ↦ λ e. (subst (λ (i : ℕ). IsVersion past (file_in group i) b.stamp) (equal b.ino ino e) h.0, stamps_every past group ino bs h.1)
       | false ↦ λ e. stamps_every past group ino bs h.1
     ]) refl
 

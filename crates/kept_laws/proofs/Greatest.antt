@@ -1,6 +1,7 @@
 -- Each stamp of a list is an ancestor of one of those that are kept, where ancestors are ordered.
 use Rattle.std.proofs.Common.{◌≡◌, Bool, true, false, not, cond, ◌&&◌, ◌||◌, List, [], ◌∷◌, filter, refl, sym, ◌∙◌, ap, subst, ◌⊎◌, inl, inr, ⊎_elim}
 use Rattle.std.specs.List.{list_any}
+use Rattle.role_steps.proofs.of_plain_facts.Tests.{false_unless}
 use Rattle.locus_ids.specs.declared.ids.FileId.{FileId}
 use Rattle.locus_ids.specs.declared.ids.Stamp.{Stamp}
 use Rattle.commit_graph.specs.declared.history.Version.{Version}
@@ -9,7 +10,6 @@ use Rattle.commit_graph.proofs.Names.{same_stamp_refl, same_stamp_eq}
 use Rattle.conflict_flags.proofs.Ancestors.{true_or_false, or_true, false_not_true}
 use Rattle.tree_model.specs.State.{has_stamp}
 use Rattle.kept_laws.specs.Keeping.{AreOrdered, IsUnderKept}
-use Rattle.kept_laws.proofs.Ordered.{is_not}
 
 -- ---- the greatest by any order ----
 
@@ -110,10 +110,10 @@ is_proper h file a b s t = subst (λ (x : Bool). (not x && is_ancestor h file a 
 
 pub ancestor_order : (h : List Version) (file : FileId) → AreOrdered h file → IsOrder (is_proper_ancestor h file)
 ancestor_order h file o = record {
-  never = λ a. is_not (is_proper_ancestor h file a a) (λ e. false_not_true (proper_is h file a a e).0 (same_stamp_refl a));
+  never = λ a. false_unless (is_proper_ancestor h file a a) (λ e. false_not_true (proper_is h file a a e).0 (same_stamp_refl a));
   through = λ a b c e f. (let x : _ × _ = proper_is h file a b e in let y : _ × _ = proper_is h file b c f in
       is_proper h file a c
-      (is_not (same_stamp a c) (λ s. false_not_true y.0 (subst (λ (t : Stamp). same_stamp b t ≡ true) (o.apart b c y.1 (subst (λ (t : Stamp). is_ancestor h file t b ≡ true) (same_stamp_eq a c s) x.1)) (same_stamp_refl b))))
+      (false_unless (same_stamp a c) (λ s. false_not_true y.0 (subst (λ (t : Stamp). same_stamp b t ≡ true) (o.apart b c y.1 (subst (λ (t : Stamp). is_ancestor h file t b ≡ true) (same_stamp_eq a c s) x.1)) (same_stamp_refl b))))
       (o.through a b c x.1 y.1));
 }
 
@@ -137,7 +137,7 @@ has_kept test (b ∷ bs) a h e = one_kept test b bs a (λ s. has_kept test bs a 
 pub under_kept : (h : List Version) (file : FileId) → AreOrdered h file → (bs : List Stamp) (known a : Stamp) → has_stamp bs known ≡ true → is_ancestor h file a known ≡ true → IsUnderKept h file (kept h file bs) a
 under_kept h file o bs known a is under =
     let k : HasTop (is_proper_ancestor h file) bs known = has_top (is_proper_ancestor h file) (ancestor_order h file o) bs known (stamp_has bs known is) in
-    let uncovered : is_covered h file bs k.top ≡ false = is_not (is_covered h file bs k.top) (λ e. (let x : (b : Stamp) × Has bs b × (is_proper_ancestor h file k.top b ≡ true) = any_has (is_proper_ancestor h file k.top) bs e in k.greatest x.0 x.1 x.2)) in
+    let uncovered : is_covered h file bs k.top ≡ false = false_unless (is_covered h file bs k.top) (λ e. (let x : (b : Stamp) × Has bs b × (is_proper_ancestor h file k.top b ≡ true) = any_has (is_proper_ancestor h file k.top) bs e in k.greatest x.0 x.1 x.2)) in
     record {
       version = k.top;
       is_kept = has_any (λ t. same_stamp t k.top) (kept h file bs) k.top (has_kept (λ b. not (is_covered h file bs b)) bs k.top k.there (ap not uncovered)) (same_stamp_refl k.top);

@@ -1,6 +1,7 @@
 -- The versions of a run grow by new ones, on parents that stand before them or are the format's.
 use Rattle.std.proofs.Common.{◌≡◌, ℕ, ◌+◌, ◌==◌, ◌≤◌, Bool, true, false, cond, ◌&&◌, ◌||◌, List, [], ◌∷◌, refl, ◌∙◌, ap, subst, arith, ◌⊎◌, inl, inr}
 use Rattle.std.proofs.lemmas.Bool.Decides.{nat_tests}
+use Rattle.role_steps.proofs.of_plain_facts.Tests.{and_second, false_unless}
 use Rattle.locus_ids.specs.declared.config.Config.{Config}
 use Rattle.locus_ids.specs.declared.sites.Sites.{Sites}
 use Rattle.locus_ids.specs.declared.ids.FileId.{FileId}
@@ -18,7 +19,7 @@ use Rattle.vector_laws.specs.Written.{past_of, JoinsAll, WrittenAs, IsNumbered, 
 use Rattle.vector_laws.specs.HistoryCommits.{with_told, commits_of, IsSite, SitedTold, CommitsAreSited, IsFormatStamp}
 use Rattle.vector_laws.proofs.HistoryHistory.{Stands, Sound, sound, same_file_eq, once_older, version_made}
 use Rattle.kept_laws.specs.Printed.{onto_printed, printed}
-use Rattle.kept_laws.proofs.Ordered.{IsNext, Grows, is_not}
+use Rattle.kept_laws.proofs.Ordered.{IsNext, Grows}
 
 -- ---- the format's versions ----
 
@@ -30,12 +31,8 @@ first_grow file group (p ∷ rest) =
       | false ↦ (λ e. inl (record { format = refl; alone = refl }), first_grow file (group + 1) rest)
     ]
 
-and_right : (a b : Bool) → (a && b) ≡ true → b ≡ true
-and_right true b h = h
-and_right false b h = absurd (cc)
-
 not_format_version : (file : FileId) (group : ℕ) (b : Stamp) → is_format b ≡ false → is_version file b (format_version group) ≡ false
-not_format_version file group b h = is_not (is_version file b (format_version group)) (λ e. false_not_true h (subst (λ (x : Stamp). is_format x ≡ true) (same_stamp_eq format_stamp b (and_right (same_file (format_version group).file file) (same_stamp format_stamp b) e)) refl))
+not_format_version file group b h = false_unless (is_version file b (format_version group)) (λ e. false_not_true h (subst (λ (x : Stamp). is_format x ≡ true) (same_stamp_eq format_stamp b (and_second (same_file (format_version group).file file) (same_stamp format_stamp b) e)) refl))
 
 not_first : (file : FileId) (b : Stamp) → is_format b ≡ false → (group : ℕ) (packs : List Sites) → is_in (format_versions group packs) file b ≡ false
 not_first file b h group [] = refl

@@ -7,7 +7,7 @@ use Rattle.the_run.specs.Runs.{run_in}
 use Rattle.vector_laws.proofs.FactsRun.{run_numbered}
 use Rattle.vector_laws.specs.HistoryCommits.{SitesAreKnown}
 use Rattle.vector_laws.proofs.HistorySited.{run_sited}
-use Rattle.pack_laws.proofs.InstanceAgree.{run_agrees}
+use Rattle.make_laws.proofs.of_pack_laws.InstanceAgree.{run_agrees}
 use Rattle.kept_laws.proofs.StampLawsRun.{run_stamps}
 use Rattle.kept_laws.specs.Printed.{versions_of, known_in}
 use Rattle.kept_laws.specs.Keeping.{VersionsAreOrdered, CommitsAreKept}

@@ -37,3 +37,7 @@ pub mod Candidates
 pub mod Standing
 pub mod VectorsKeep
 pub mod Hold
+pub use Rattle.make_laws.proofs as of_make_laws
+pub use Rattle.make_laws.proofs.of_lock_laws as of_lock_laws
+pub use Rattle.make_laws.proofs.of_pack_laws as of_pack_laws
+pub use Rattle.vector_laws.proofs as of_vector_laws

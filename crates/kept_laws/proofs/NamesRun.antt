@@ -1,5 +1,6 @@
 -- In every run each version that a record adopts or publishes is one by then.
 use Rattle.std.proofs.Common.{◌≡◌, ℕ, Bool, true, false, cond, List, [], ◌∷◌, map, Option, Some, None, refl, sym, ◌∙◌, subst, inl, inr}
+use Rattle.role_steps.proofs.of_plain_facts.Options.{some_same}
 use Rattle.locus_ids.specs.declared.config.Config.{Config}
 use Rattle.locus_ids.specs.declared.sites.Links.{Links}
 use Rattle.schedule_lines.specs.declared.line.ScheduleLine.{ScheduleLine}
@@ -17,10 +18,10 @@ use Rattle.the_run.specs.Runs.{boots_as, packet_record, run_in}
 use Rattle.the_run.specs.Kept.{WasSent, IsOwn, Kept}
 use Rattle.the_run.proofs.Boots.{acts_cases}
 use Rattle.the_run.proofs.Events.{happened_keeps}
-use Rattle.the_run.proofs.Runs.{every_run, some_eq}
-use Rattle.run_laws.specs.Naming.{DeedsOf}
-use Rattle.run_laws.proofs.Run.{was_sent}
-use Rattle.run_laws.proofs.Steps.{EventNames}
+use Rattle.the_run.proofs.Runs.{every_run}
+use Rattle.vector_laws.specs.of_run_laws.Naming.{DeedsOf}
+use Rattle.vector_laws.proofs.of_run_laws.Run.{was_sent}
+use Rattle.vector_laws.proofs.of_run_laws.Steps.{EventNames}
 use Rattle.vector_laws.specs.Held.{IsOf}
 use Rattle.vector_laws.specs.Written.{past_of, InstancesAgree}
 use Rattle.vector_laws.specs.Facts.{DiskFact, onto, WorldFact}
@@ -29,7 +30,7 @@ use Rattle.vector_laws.proofs.FactsRun.{past_onto}
 use Rattle.vector_laws.proofs.SiteDisks.{SiteDisk, step_disk}
 use Rattle.vector_laws.proofs.SiteFacts.{SiteFine, inside_of}
 use Rattle.vector_laws.proofs.StepFacts.{EventFact, step_fact}
-use Rattle.pack_laws.proofs.InstanceAgree.{run_agrees}
+use Rattle.make_laws.proofs.of_pack_laws.InstanceAgree.{run_agrees}
 use Rattle.make_laws.proofs.Happening.{taken_epoch}
 use Rattle.make_laws.proofs.VectorsKept.{Both, sent_fact, both_kept, first_vectors}
 use Rattle.kept_laws.specs.Known.{NamesAreVersions}
@@ -61,7 +62,7 @@ no_write d e = cc
 
 write_is : (s : ℕ) (v : SiteView) (o : Outcome SiteView) (d : DiskWrite) → o.written ≡ Some d → SiteDisk s v o → IsOf s d.says d.copy
 write_is s v o d e (inl h) = absurd (no_write d (sym h.none ∙ e))
-write_is s v o d e (inr h) = subst (λ (x : DiskWrite). IsOf s x.says x.copy) (some_eq h.0 d (sym h.1.is_written ∙ e)) h.1.says_so
+write_is s v o d e (inr h) = subst (λ (x : DiskWrite). IsOf s x.says x.copy) (some_same h.0 d (sym h.1.is_written ∙ e)) h.1.says_so
 
 cut_named : (s : ℕ) (past : List Told) (v : SiteView) (o : Outcome SiteView) (d : DiskWrite) (how : StopCause) (b : Bool) → o.written ≡ Some d → Owes s past v o → AllNamed past (cond b (Shown d.says ∷ Shown (says.Stopped s how) ∷ []) (Shown (says.Stopped s how) ∷ []))
 cut_named s past v o d how true e r = let k : _ × _ = subst (DiskFact past) e r.fact in (written_named past s d.says d.copy (write_is s v o d e r.disk) k.1, (tt, tt))
@@ -72,7 +73,7 @@ acts_named n s v o w owes g =
     acts_cases WhereNamed n s v o w
     (named_event n o.sent o.told (λ now. puts s (Running o.view) now) w all g)
     (λ a. named_event n o.sent o.told (λ now. puts s (Running o.view) (arms a now)) w all g)
-    (λ d a e. named_event n [] (cut_told s d a.how a.left) (stops_with s (cut_disk v.boot v.store d a.how a.left)) w (λ h. cut_named s (past_of w.trace) v o d (cause_of a.how) (is_on_disk d a.how a.left) e (owes h)) g)
+    (λ d a e. named_event n [] (cut_told s v.store d a.how a.left) (stops_with s (cut_disk v.boot v.store d a.how a.left)) w (λ h. cut_named s (past_of w.trace) v o d (cause_of a.how) (is_on_disk v.store d a.how a.left) e (owes h)) g)
   where
     all : InstancesAgree (past_of w.trace) → AllNamed (past_of w.trace) o.told
     all h = let r : Owes s (past_of w.trace) v o = owes h in disk_named (past_of w.trace) s v.store.copies o.view.store.copies o.told o.written r.disk r.fact r.publishes

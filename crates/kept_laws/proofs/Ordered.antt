@@ -1,6 +1,7 @@
 -- In a history that grows by new versions on parents that stand before them, ancestors are ordered.
 use Rattle.std.proofs.Common.{◌≡◌, Bool, true, false, cond, ◌&&◌, ◌||◌, List, [], ◌∷◌, refl, sym, ◌∙◌, ap, subst, ◌⊎◌, inl, inr, ⊎_elim}
 use Rattle.std.specs.List.{list_any}
+use Rattle.role_steps.proofs.of_plain_facts.Tests.{both_true, false_unless, or_either}
 use Rattle.locus_ids.specs.declared.ids.FileId.{FileId}
 use Rattle.locus_ids.specs.declared.ids.Stamp.{Stamp}
 use Rattle.commit_graph.specs.declared.history.Version.{Version}
@@ -30,23 +31,9 @@ Grows file (v ∷ older) = (same_file v.file file ≡ true → IsFirst v ⊎ IsN
 
 -- ---- the newest version, and the others ----
 
-pub and_both : (a b : Bool) → (a && b) ≡ true → (a ≡ true) × (b ≡ true)
-and_both true true h = (refl, refl)
-and_both true false h = absurd (cc)
-and_both false true h = absurd (cc)
-and_both false false h = absurd (cc)
-
-pub or_one : (a b : Bool) → (a || b) ≡ true → (a ≡ true) ⊎ (b ≡ true)
-or_one true b h = inl refl
-or_one false b h = inr h
-
-pub is_not : (b : Bool) → (b ≡ true → ⊥) → b ≡ false
-is_not true h = absurd (h refl)
-is_not false h = refl
-
 -- at the version b: the same, or under a parent
 at_version : (file : FileId) (v : Version) (older : List Version) (a b : Stamp) → is_version file b v ≡ true → is_ancestor (v ∷ older) file a b ≡ true → (same_stamp a b ≡ true) ⊎ (list_any (is_ancestor older file a) v.parents ≡ true)
-at_version file v older a b e h = or_one (same_stamp a b) (list_any (is_ancestor older file a) v.parents) (subst (λ (x : Bool). cond x (same_stamp a b || list_any (is_ancestor older file a) v.parents) (is_ancestor older file a b) ≡ true) e h)
+at_version file v older a b e h = or_either (same_stamp a b) (list_any (is_ancestor older file a) v.parents) (subst (λ (x : Bool). cond x (same_stamp a b || list_any (is_ancestor older file a) v.parents) (is_ancestor older file a b) ≡ true) e h)
 
 pub by_parent : (file : FileId) (v : Version) (older : List Version) (a b : Stamp) → is_version file b v ≡ true → list_any (is_ancestor older file a) v.parents ≡ true → is_ancestor (v ∷ older) file a b ≡ true
 by_parent file v older a b e h = subst (λ (x : Bool). cond x (same_stamp a b || list_any (is_ancestor older file a) v.parents) (is_ancestor older file a b) ≡ true) (sym e) (subst (λ (x : Bool). (same_stamp a b || x) ≡ true) (sym h) (or_true (same_stamp a b)))
@@ -56,13 +43,13 @@ below file v older a b e = ap (λ (x : Bool). cond x (same_stamp a b || list_any
 
 -- the newest is b, so it isn't another
 not_other : (file : FileId) (v : Version) (b c : Stamp) → is_version file c v ≡ true → same_stamp b c ≡ false → is_version file b v ≡ false
-not_other file v b c e ne = is_not (is_version file b v) (λ f.
-    (let s : v.stamp ≡ c = same_stamp_eq v.stamp c (and_both (same_file v.file file) (same_stamp v.stamp c) e).1 in
-    let t : v.stamp ≡ b = same_stamp_eq v.stamp b (and_both (same_file v.file file) (same_stamp v.stamp b) f).1 in
+not_other file v b c e ne = false_unless (is_version file b v) (λ f.
+    (let s : v.stamp ≡ c = same_stamp_eq v.stamp c (both_true (same_file v.file file) (same_stamp v.stamp c) e).1 in
+    let t : v.stamp ≡ b = same_stamp_eq v.stamp b (both_true (same_file v.file file) (same_stamp v.stamp b) f).1 in
     false_not_true ne (subst (λ (x : Stamp). same_stamp b x ≡ true) (sym t ∙ s) (same_stamp_refl b))))
 
 pub version_is : (file : FileId) (v : Version) (b : Stamp) → is_version file b v ≡ true → (same_file v.file file ≡ true) × (v.stamp ≡ b)
-version_is file v b e = let k : _ × _ = and_both (same_file v.file file) (same_stamp v.stamp b) e in (k.0, same_stamp_eq v.stamp b k.1)
+version_is file v b e = let k : _ × _ = both_true (same_file v.file file) (same_stamp v.stamp b) e in (k.0, same_stamp_eq v.stamp b k.1)
 
 no_parents : (f : Stamp → Bool) (ps : List Stamp) → ps ≡ [] → list_any f ps ≡ true → ⊥
 no_parents f ps e h = false_not_true (ap (list_any f) e) h
@@ -93,7 +80,7 @@ some_parent file v older a b each (p ∷ ps) k h =
     ⊎_elim
     (λ (e : is_ancestor older file a p ≡ true). parent_stands file v older a b p k.0 (each p e))
     (λ (e : list_any (is_ancestor older file a) ps ≡ true). some_parent file v older a b each ps k.1 e)
-    (or_one (is_ancestor older file a p) (list_any (is_ancestor older file a) ps) h)
+    (or_either (is_ancestor older file a p) (list_any (is_ancestor older file a) ps) h)
 
 stands_newest : (file : FileId) (v : Version) (older : List Version) (a b : Stamp) → ((p : Stamp) → is_ancestor older file a p ≡ true → Stands older file a p) → (same_file v.file file ≡ true → IsFirst v ⊎ IsNext file v older) → is_ancestor (v ∷ older) file a b ≡ true → Stands (v ∷ older) file a b
 stands_newest file v older a b each grown e = by_test (true_or_false (is_version file b v))
@@ -131,7 +118,7 @@ any_weaker f g w (x ∷ xs) h =
     ⊎_elim
     (λ (e : f x ≡ true). subst (λ (t : Bool). (t || list_any g xs) ≡ true) (sym (w x e)) refl)
     (λ (e : list_any f xs ≡ true). subst (λ (t : Bool). (g x || t) ≡ true) (sym (any_weaker f g w xs e)) (or_true (g x)))
-    (or_one (f x) (list_any f xs) h)
+    (or_either (f x) (list_any f xs) h)
 
 abbrev Through : List Version → FileId → Type 0
 Through h file = (a b c : Stamp) → is_ancestor h file a b ≡ true → is_ancestor h file b c ≡ true → is_ancestor h file a c ≡ true

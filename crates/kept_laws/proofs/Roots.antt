@@ -33,8 +33,8 @@ use Rattle.the_run.proofs.InsideSync.{Found, row_found}
 use Rattle.vector_laws.specs.Facts.{onto}
 use Rattle.vector_laws.proofs.Facts.{onto_append}
 use Rattle.vector_laws.proofs.SyncFacts.{every_latest}
-use Rattle.pack_laws.specs.Making.{NotEmpty}
-use Rattle.pack_laws.specs.Packed.{Follows}
+use Rattle.make_laws.specs.of_pack_laws.Making.{NotEmpty}
+use Rattle.make_laws.specs.of_pack_laws.Packed.{Follows}
 use Rattle.make_laws.specs.Holding.{WasReserved}
 use Rattle.make_laws.proofs.RunningSpine.{AllOwed, DiskOwed, owed_append}
 use Rattle.make_laws.proofs.RunningSpineParts.{Here}

@@ -19,12 +19,12 @@ use Rattle.the_run.specs.Steps.{from_user, group_of}
 use Rattle.the_run.specs.Worlds.{World, Numbered}
 use Rattle.the_run.specs.Runs.{run_in}
 use Rattle.the_run.proofs.Runs.{every_run}
-use Rattle.run_laws.proofs.Run.{found_among}
+use Rattle.vector_laws.proofs.of_run_laws.Run.{found_among}
 use Rattle.vector_laws.specs.Written.{past_of, InstancesAgree}
-use Rattle.pack_laws.proofs.InstanceAgree.{run_agrees}
-use Rattle.pack_laws.specs.Packed.{BodyPacked, NumberedPacked, WorldPacked}
-use Rattle.pack_laws.proofs.PacksRun.{All, all_kept, first_all}
-use Rattle.lock_laws.proofs.JoinsRun.{run_joins_once}
+use Rattle.make_laws.proofs.of_pack_laws.InstanceAgree.{run_agrees}
+use Rattle.make_laws.specs.of_pack_laws.Packed.{BodyPacked, NumberedPacked, WorldPacked}
+use Rattle.make_laws.proofs.of_pack_laws.PacksRun.{All, all_kept, first_all}
+use Rattle.make_laws.proofs.of_lock_laws.JoinsRun.{run_joins_once}
 use Rattle.make_laws.proofs.RunningSpine.{FreeRecord, Free, InSite, in_epoch}
 use Rattle.make_laws.proofs.RunningSpineParts.{takes_store}
 use Rattle.make_laws.proofs.RunningSpineRun.{SentFacts, SentOwed, Premise, Spines, Stores, EachOwed, Where, where_kept, first_where}

@@ -1,11 +1,13 @@
 -- Commits and closes at a storage site: a commit is by the next number, and a close counts what was made.
 use Rattle.std.proofs.Common.{◌≡◌, ◌≢◌, ◌≤◌, ◌<◌, ℕ, ◌+◌, ◌-◌, ◌==◌, true, false, ◌⊎◌, List, ◌∷◌, Option, Some, None, refl, sym, ◌∙◌, ap, subst, inl, inr, arith}
 use Rattle.std.proofs.lemmas.Bool.Decides.{nat_tests}
+use Rattle.role_steps.proofs.of_plain_facts.Numbers.{apart_test}
 use Rattle.locus_ids.specs.declared.ids.FileId.{FileId}
 use Rattle.locus_ids.specs.declared.ids.Serial.{Serial}
 use Rattle.locus_ids.specs.declared.ids.Stamp.{Stamp}
 use Rattle.locus_ids.specs.declared.config.Config.{Config}
 use Rattle.locus_ids.specs.declared.refusal.Refusal.TheVariants as refusal
+use Rattle.locus_ids.specs.Sizes.{inode_span}
 use Rattle.version_vector.specs.Counters.{part}
 use Rattle.version_vector.proofs.Counting.{part-raised_same}
 use Rattle.wire_messages.specs.declared.body.Body.TheVariants as body
@@ -20,14 +22,14 @@ use Rattle.role_steps.specs.declared.copies.FileCopy.{FileCopy}
 use Rattle.role_steps.specs.declared.instances.Instance.{Instance}
 use Rattle.role_steps.specs.declared.instances.Stage.{Stage}
 use Rattle.role_steps.specs.declared.instances.Stage.TheVariants as stage
-use Rattle.role_steps.proofs.Rows.{differ, row_other, row_same}
+use Rattle.role_steps.proofs.Rows.{row_other, row_same}
 use Rattle.the_run.proofs.Boots.{at_each}
 use Rattle.the_run.proofs.InsideSync.{Found, row_found}
 use Rattle.vector_laws.specs.Facts.{onto}
 use Rattle.vector_laws.proofs.SyncFacts.{every_flat}
-use Rattle.lock_laws.specs.Going.{WasShutAt, WasReleased, IsGranted}
-use Rattle.lock_laws.specs.Grants.{WasGrantedAs}
-use Rattle.lock_laws.proofs.GrantTold.{latest_same}
+use Rattle.make_laws.specs.of_lock_laws.Going.{WasShutAt, WasReleased, IsGranted}
+use Rattle.make_laws.specs.of_lock_laws.Grants.{WasGrantedAs}
+use Rattle.make_laws.proofs.of_lock_laws.GrantTold.{latest_same}
 use Rattle.kept_laws.specs.StampCommits.{MadeAt, WasMade, Under, Counts}
 use Rattle.kept_laws.specs.StampLaws.{Laws}
 use Rattle.kept_laws.specs.StampCovering.{InMade, Closes, PacketCovers, InWork, Runs, StageRuns, RunsThere, StageCloses, IsClosing, CopyCounts, DiskCounts, NewCounts, ByOpen, IsNext}
@@ -38,7 +40,7 @@ use Rattle.kept_laws.proofs.StampStoreCovers.{Stored, InStore, StoreFine, Knows,
 
 -- ---- copies ----
 
-pub key_file : (a b : FileId) → a.ino < 65536 → b.ino < 65536 → file_key a ≡ file_key b → a ≡ b
+pub key_file : (a b : FileId) → a.ino < inode_span → b.ino < inode_span → file_key a ≡ file_key b → a ≡ b
 key_file a b h g e = id_eq group ino
   where
     group : a.group ≡ b.group
@@ -54,7 +56,7 @@ key_file a b h g e = id_eq group ino
 pub put_copy : (x : Told) (past : List Told) (s : ℕ) (y : FileCopy) (copies : List FileCopy) → ((g : FileId) (n : ℕ) → MadeAt s g n x → g ≡ y.file) → NewCounts (x ∷ past) s y → DiskCounts past s copies → DiskCounts (x ∷ past) s (with_row copy_key y copies)
 put_copy x past s y copies only new h file small = at_each (copy_key y) (file_key file) (CopyCounts (x ∷ past) s file (row copy_key (file_key file) (with_row copy_key y copies)))
     (λ same. subst (λ (k : ℕ). CopyCounts (x ∷ past) s file (row copy_key k (with_row copy_key y copies))) same (subst (CopyCounts (x ∷ past) s file) (sym (row_same copy_key y copies)) (here (key_file y.file file new.fits small same))))
-    (λ ne. subst (CopyCounts (x ∷ past) s file) (sym (row_other copy_key y (file_key file) copies (differ (copy_key y) (file_key file) ne))) (copy_beside x past s file (row copy_key (file_key file) copies) (λ n m. ne (ap file_key (sym (only file n m)))) (h file small)))
+    (λ ne. subst (CopyCounts (x ∷ past) s file) (sym (row_other copy_key y (file_key file) copies (apart_test (copy_key y) (file_key file) ne))) (copy_beside x past s file (row copy_key (file_key file) copies) (λ n m. ne (ap file_key (sym (only file n m)))) (h file small)))
   where
     here : y.file ≡ file → (y.file ≡ file) × ((n : ℕ) → WasMade (x ∷ past) s file n → Counts y.vector s n)
     here e = (e, λ n m. new.each n (subst (λ (g : FileId). WasMade (x ∷ past) s g n) (sym e) m))

@@ -1,5 +1,6 @@
 -- In every run each commit of a site is by the next number of its file, and what is carried of commits counts them.
 use Rattle.std.proofs.Common.{◌≡◌, ◌≢◌, ◌≤◌, ℕ, ◌+◌, Bool, true, false, cond, List, [], ◌∷◌, Option, Some, None, refl, sym, ◌∙◌, ap, subst, inl, inr, arith}
+use Rattle.role_steps.proofs.of_plain_facts.Options.{some_same as some_eq, some_same}
 use Rattle.locus_ids.specs.declared.ids.FileId.{FileId}
 use Rattle.locus_ids.specs.declared.sites.Members.{Members}
 use Rattle.locus_ids.specs.declared.config.Config.{Config}
@@ -20,7 +21,6 @@ use Rattle.the_run.specs.Runs.{boots_as}
 use Rattle.the_run.proofs.Boots.{Reached, at_each, acts_cases, every_newest, every_numbered, every_weaker}
 use Rattle.the_run.proofs.Events.{happened_keeps, puts_other, puts_same}
 use Rattle.the_run.proofs.InsideSync.{every_row}
-use Rattle.the_run.proofs.Runs.{some_eq}
 use Rattle.vector_laws.specs.Held.{copies_on, IsOf}
 use Rattle.vector_laws.specs.Written.{past_of, CommitsAreNumbered}
 use Rattle.vector_laws.specs.Facts.{CopyFact, PacketFact, ViewFact, NumberedAll, DiskFact, onto, NumberedFact}
@@ -30,8 +30,8 @@ use Rattle.vector_laws.proofs.Held.{KeepsCopies}
 use Rattle.vector_laws.proofs.SiteDisks.{SiteDisk}
 use Rattle.vector_laws.proofs.SiteFacts.{SiteFine as VersionsFine}
 use Rattle.vector_laws.specs.HistoryCommits.{IsSite, StampsAreOnce}
-use Rattle.lock_laws.specs.Joins.{WasJoined}
-use Rattle.lock_laws.proofs.GrantSites.{SyncedBy}
+use Rattle.make_laws.specs.of_lock_laws.Joins.{WasJoined}
+use Rattle.make_laws.proofs.of_lock_laws.GrantSites.{SyncedBy}
 use Rattle.make_laws.proofs.RunningStandRun.{Orderly}
 use Rattle.kept_laws.specs.StampCommits.{MadeAt}
 use Rattle.kept_laws.specs.StampLaws.{Laws}
@@ -77,9 +77,6 @@ Where c w = Laws c (past_of w.trace) → Orderly w → WorldCovers c w
 every_unit : (xs : List Told) → Every (λ (x : Told). Unit {0}) xs
 every_unit [] = tt
 every_unit (x ∷ xs) = (tt, every_unit xs)
-
-some_same : (a b : ℕ) → ◌≡◌ {A = Option ℕ} (Some a) (Some b) → a ≡ b
-some_same a b e = cc
 
 -- what another site tells leaves a site calm
 calm_other : (c : Config) (actor s : ℕ) (x : Told) (past : List Told) → actor ≢ s → Laws c (x ∷ past) → Goes c past actor x → Calm c past s x
@@ -260,7 +257,7 @@ acts_covers c n s v o w here does g =
     acts_cases (Where c) n s v o w
     (happened_covers c s n o.sent o.told (λ now. puts s (Running o.view) now) w owed refl refl g)
     (λ a. happened_covers c s n o.sent o.told (λ now. puts s (Running o.view) (arms a now)) w (λ l b f. (let r : Owed c s o.told o.sent (λ now. puts s (Running o.view) now) w = owed l b f in record { numbered = r.numbered; goes = r.goes; sent = r.sent; covers = r.covers; places = r.places })) refl refl g)
-    (λ d a e. cut_covers c n s v o d (cut_disk v.boot v.store d a.how a.left) (cause_of a.how) (is_on_disk d a.how a.left) w here e refl does g)
+    (λ d a e. cut_covers c n s v o d (cut_disk v.boot v.store d a.how a.left) (cause_of a.how) (is_on_disk v.store d a.how a.left) w here e refl does g)
   where
     owed : Laws c (onto o.told (past_of w.trace)) → Orderly w → WorldCovers c w → Owed c s o.told o.sent (λ now. puts s (Running o.view) now) w
     owed l b f =

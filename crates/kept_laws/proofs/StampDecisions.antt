@@ -1,5 +1,7 @@
 -- The vector on which an open that isn't to read is granted counts all that the kept versions count.
 use Rattle.std.proofs.Common.{◌≡◌, ◌≤◌, ℕ, Bool, true, false, cond, List, [], ◌∷◌, Option, Some, None, refl, sym, ◌∙◌, arith}
+use Rattle.role_steps.proofs.of_plain_facts.Options.{none_some}
+use Rattle.role_steps.proofs.of_plain_facts.Tests.{true_false}
 use Rattle.locus_ids.specs.declared.ids.Mode.{Mode}
 use Rattle.locus_ids.specs.declared.ids.Mode.TheVariants as mode
 use Rattle.locus_ids.specs.declared.ids.Stamp.{Stamp}
@@ -19,8 +21,8 @@ use Rattle.role_steps.specs.declared.synchronizing.FileRow.{FileRow}
 use Rattle.role_steps.specs.declared.synchronizing.VersionRow.{VersionRow}
 use Rattle.role_steps.specs.declared.synchronizing.Holding.{Holding}
 use Rattle.vector_laws.proofs.SyncFacts.{seen_none}
-use Rattle.lock_laws.specs.Locks.{IsOfAFile}
-use Rattle.lock_laws.proofs.Apart.{none_excludes}
+use Rattle.make_laws.specs.of_lock_laws.Locks.{IsOfAFile}
+use Rattle.make_laws.proofs.of_lock_laws.Apart.{none_excludes}
 use Rattle.kept_laws.proofs.StampKeptJoins.{joins}
 
 -- ---- what a decision to grant knows ----
@@ -28,9 +30,6 @@ use Rattle.kept_laws.proofs.StampKeptJoins.{joins}
 abbrev pub Enough : Mode → List VersionRow → Decision → Type 0
 Enough m vs (Denies why) = Unit {0}
 Enough m vs (Grants ss stamp vector parents set k) = is_read m ≡ false → AllLe (joins vs) vector
-
-none_some : {A : Type 0} (x : A) → ◌≡◌ {A = Option A} None (Some x) → ⊥
-none_some x e = cc
 
 -- the join of one vector is that vector
 one_joined : (v : VersionRow) → AllLe (joins (v ∷ [])) v.vector
@@ -47,9 +46,6 @@ write_enough : (f : Frame) (us : ℕ) (r : FileRow) (vs : List VersionRow) → k
 write_enough f us r [] e = tt
 write_enough f us r (v ∷ []) e = plain_enough mode.Write f us r v (chosen_site us f.me (holders_of r v.stamp))
 write_enough f us r (v ∷ w ∷ others) e = absurd (none_some (refusal.Conflict v.stamp w.stamp) (sym e))
-
-true_false : true ≡ false → ⊥
-true_false e = cc
 
 read_at : (r : FileRow) (vs : List VersionRow) (v : VersionRow) (o : Option ℕ) → Enough mode.Read vs (plain_at r v o)
 read_at r vs v None = tt

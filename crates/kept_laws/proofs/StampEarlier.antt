@@ -6,8 +6,8 @@ use Rattle.the_run.specs.Worlds.{World, Numbered, numbered_from, newest_onto, to
 use Rattle.vector_laws.specs.Written.{past_of}
 use Rattle.vector_laws.specs.Facts.{onto}
 use Rattle.vector_laws.proofs.FactsRun.{past_onto}
-use Rattle.lock_laws.specs.Joins.{JoinsAreOnce}
-use Rattle.pack_laws.proofs.WriterAsksRun.{Leads, newest_leads}
+use Rattle.make_laws.specs.of_lock_laws.Joins.{JoinsAreOnce}
+use Rattle.make_laws.proofs.of_pack_laws.WriterAsksRun.{Leads, newest_leads}
 use Rattle.make_laws.proofs.RunningStand.{ChangesAreOfWriters, stand_spines}
 use Rattle.make_laws.proofs.RunningStandRun.{Orderly}
 

@@ -1,5 +1,6 @@
 -- Adoptions, mends, and how an epoch is formed: what a site tells, keeps and reports of commits.
 use Rattle.std.proofs.Common.{◌≡◌, ◌≤◌, ℕ, ◌+◌, ◌-◌, true, false, cond, ◌&&◌, not, List, [], ◌∷◌, Option, Some, None, refl, sym, subst, inr, arith}
+use Rattle.role_steps.proofs.of_plain_facts.Tests.{both_true}
 use Rattle.locus_ids.specs.declared.ids.EpochId.{EpochId}
 use Rattle.locus_ids.specs.declared.refusal.Refusal.TheVariants as refusal
 use Rattle.locus_ids.specs.declared.sites.Links.{Links}
@@ -34,10 +35,9 @@ use Rattle.the_run.proofs.Boots.{every_weaker}
 use Rattle.the_run.proofs.InsideSync.{Found, row_found}
 use Rattle.vector_laws.specs.Facts.{onto}
 use Rattle.vector_laws.proofs.Facts.{onto_append}
-use Rattle.vector_laws.proofs.FormingFacts.{both_true}
 use Rattle.vector_laws.proofs.RolesSend.{on_call_factless}
 use Rattle.vector_laws.proofs.SiteDisks.{starts_mends_keeps}
-use Rattle.lock_laws.proofs.GrantSites.{put_tables, rising_put}
+use Rattle.make_laws.proofs.of_lock_laws.GrantSites.{put_tables, rising_put}
 use Rattle.kept_laws.specs.StampCommits.{WasMade, Counts}
 use Rattle.kept_laws.specs.StampLaws.{Laws}
 use Rattle.kept_laws.specs.StampCovering.{Bare, CopyCounts, NewCounts, Table, Inside, InEpochCovers, View}

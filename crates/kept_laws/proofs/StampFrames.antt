@@ -27,9 +27,9 @@ use Rattle.role_steps.specs.declared.synchronizing.OpenStage.TheVariants as open
 use Rattle.the_run.proofs.Boots.{at_each, every_weaker}
 use Rattle.vector_laws.specs.Written.{Begun, WasBegun}
 use Rattle.vector_laws.specs.Facts.{onto, NotCommit}
-use Rattle.lock_laws.specs.Going.{BegunAt, WasBegunAt, WasShutAt, WasReleased}
-use Rattle.lock_laws.specs.Grants.{WasGrantedAs, IsOver}
-use Rattle.lock_laws.specs.Locks.{IsOfAFile}
+use Rattle.make_laws.specs.of_lock_laws.Going.{BegunAt, WasBegunAt, WasShutAt, WasReleased}
+use Rattle.make_laws.specs.of_lock_laws.Grants.{WasGrantedAs, IsOver}
+use Rattle.make_laws.specs.of_lock_laws.Locks.{IsOfAFile}
 use Rattle.kept_laws.specs.StampCommits.{MadeRecord, MadeAt, WasMade, Under, ByWriter, Counts, Here}
 use Rattle.make_laws.specs.Locked.{WasHeldAs, OverAs}
 use Rattle.kept_laws.specs.StampLaws.{Laws}

@@ -2,6 +2,9 @@
 use Rattle.std.proofs.Common.{◌≡◌, ℕ, ◌-◌, ◌==◌, Bool, true, false, cond, not, List, [], ◌∷◌, map, filter, Option, Some, None, refl, sym, ◌∙◌, ap, subst, inl, inr, arith}
 use Rattle.std.proofs.lemmas.Bool.Decides.{nat_tests}
 use Rattle.std.proofs.lemmas.Nat.Bits.{bit_at-zero}
+use Rattle.role_steps.proofs.of_plain_facts.Numbers.{equal_test}
+use Rattle.role_steps.proofs.of_plain_facts.Options.{some_same as some_number}
+use Rattle.role_steps.proofs.of_plain_facts.Tests.{both_true, false_true, not_true}
 use Rattle.locus_ids.specs.Sites.{has}
 use Rattle.locus_ids.specs.declared.ids.EpochId.{EpochId}
 use Rattle.locus_ids.specs.declared.ids.FileId.{FileId}
@@ -26,15 +29,14 @@ use Rattle.role_steps.specs.declared.synchronizing.SyncTable.{SyncTable}
 use Rattle.role_steps.proofs.Sending.{every_cond, every_map, every_flat_map}
 use Rattle.the_run.specs.Kept.{Among}
 use Rattle.the_run.specs.Steps.{starts_mends_of, ends_event}
-use Rattle.run_laws.specs.Naming.{Deeds, ViewOk}
+use Rattle.vector_laws.specs.of_run_laws.Naming.{Deeds, ViewOk}
 use Rattle.vector_laws.specs.Written.{WasTold}
 use Rattle.vector_laws.specs.Facts.{onto}
-use Rattle.vector_laws.proofs.FormingFacts.{both_true}
 use Rattle.vector_laws.proofs.SiteDisks.{mends_of_keeps}
 use Rattle.vector_laws.specs.HistoryCommits.{IsSite}
-use Rattle.lock_laws.specs.Going.{WasReleased}
-use Rattle.lock_laws.specs.Joins.{WasJoined}
-use Rattle.lock_laws.proofs.GrantSites.{SyncedBy, ascending_filter, made_rising, groups_ascend, passing, is_synced}
+use Rattle.make_laws.specs.of_lock_laws.Going.{WasReleased}
+use Rattle.make_laws.specs.of_lock_laws.Joins.{WasJoined}
+use Rattle.make_laws.proofs.of_lock_laws.GrantSites.{SyncedBy, ascending_filter, made_rising, groups_ascend, passing, is_synced}
 use Rattle.kept_laws.specs.StampCommits.{WasMade, Under}
 use Rattle.kept_laws.specs.StampLaws.{Laws}
 use Rattle.kept_laws.specs.StampCovering.{Covers, InReport, Bare, PacketCovers, Instances, CopyCounts, DiskCounts, InKept, Table, InEpochCovers, View, GoesRecord, Goes, AllGo}
@@ -81,9 +83,6 @@ some_same x y e = cc
 none_some : (x : FileCopy) → ◌≡◌ {A = Option FileCopy} None (Some x) → ⊥
 none_some x e = cc
 
-same_group : (a b : ℕ) → a ≡ b → (a == b) ≡ true
-same_group a b e = grind (arith, nat_tests)
-
 -- a copy that is found is reported
 found_reported : (group k : ℕ) (copies : List FileCopy) (x : FileCopy) → row copy_key k copies ≡ Some x → x.file.group ≡ group → Among (reported x) (report_of group copies)
 found_reported group k [] x e g = absurd (none_some x e)
@@ -94,7 +93,7 @@ found_reported group k (y ∷ ys) x e g =
     ]) e
   where
     first : y ≡ x → Among (reported x) (cond (y.file.group == group) (reported y ∷ report_of group ys) (report_of group ys))
-    first q = subst (λ (b : Bool). Among (reported x) (cond b (reported y ∷ report_of group ys) (report_of group ys))) (sym (same_group y.file.group group (ap (λ (z : FileCopy). z.file.group) q ∙ g))) (inl (ap reported (sym q)))
+    first q = subst (λ (b : Bool). Among (reported x) (cond b (reported y ∷ report_of group ys) (report_of group ys))) (sym (equal_test y.file.group group (ap (λ (z : FileCopy). z.file.group) q ∙ g))) (inl (ap reported (sym q)))
 
 copy_in_report : (past : List Told) (me : ℕ) (file : FileId) (n : ℕ) (copies : List FileCopy) (o : Option FileCopy) → row copy_key (file_key file) copies ≡ o → CopyCounts past me file o → WasMade past me file n → InReport (report_of file.group copies) me file n
 copy_in_report past me file n copies None e h m = absurd (h n m)
@@ -117,12 +116,6 @@ none_has s e = zero_not_one (subst (λ (b : ℕ). (b == 1) ≡ true) (bit_at-zer
   where
     zero_not_one : (0 == 1) ≡ true → ⊥
     zero_not_one e = cc
-
-not_started : false ≡ true → ⊥
-not_started e = cc
-
-some_number : (a b : ℕ) → ◌≡◌ {A = Option ℕ} (Some a) (Some b) → a ≡ b
-some_number a b e = cc
 
 mapped : (Q : SyncTable → Type 0) (gs : List ℕ) → Every (λ (g : ℕ). Q (new_table g)) gs → Every Q (map new_table gs)
 mapped Q [] h = tt
@@ -184,16 +177,12 @@ joins_fine c me past id m v gone site synced h l = record {
     made : (g : ℕ) → is_sync_site c me m g ≡ true → Table now f (new_table g)
     made g h = record {
       synced = is_synced c me m g h;
-      full = λ e s q pack member. absurd (not_started e);
+      full = λ e s q pack member. absurd (false_true e);
       covers = λ s q reports. absurd (none_has s reports);
       released = released g (is_synced c me m g h);
       opens = tt;
       looks = tt;
     }
-
-not_true : (a : Bool) → not a ≡ true → a ≡ false
-not_true true h = absurd (cc)
-not_true false h = refl
 
 -- a site that may join is in no epoch
 pub on_install_fine : (K : Deeds) (c : Config) (me : ℕ) (past : List Told) (from from_boot : ℕ) (id : EpochId) (m : Members) (v : SiteView) → ViewOk K v → IsSite me → ReleasesSynced c past → View c past me v → SiteLawfully c me past (on_install c me from from_boot id m v)

@@ -1,6 +1,8 @@
 -- The join of the kept vectors of a file only rises as versions become known.
 use Rattle.std.proofs.Common.{◌≡◌, ℕ, ◌==◌, nat_lt, Bool, true, false, not, ◌||◌, cond, List, [], ◌∷◌, filter, Option, Some, None, refl, sym, ◌∙◌, subst, arith}
 use Rattle.std.proofs.lemmas.Bool.Decides.{nat_tests}
+use Rattle.role_steps.proofs.of_plain_facts.Numbers.{apart_test, equal}
+use Rattle.role_steps.proofs.of_plain_facts.Tests.{both_true}
 use Rattle.locus_ids.specs.declared.ids.FileId.{FileId}
 use Rattle.locus_ids.specs.declared.ids.Kind.{Kind}
 use Rattle.locus_ids.specs.declared.ids.Stamp.{Stamp}
@@ -19,12 +21,11 @@ use Rattle.role_steps.specs.declared.synchronizing.FileRow.{FileRow}
 use Rattle.role_steps.specs.declared.synchronizing.VersionRow.{VersionRow}
 use Rattle.role_steps.specs.declared.synchronizing.Holding.{Holding}
 use Rattle.role_steps.specs.declared.synchronizing.OpenRow.{OpenRow}
-use Rattle.role_steps.proofs.Rows.{differ, row_other, row_same}
+use Rattle.role_steps.proofs.Rows.{row_other, row_same}
 use Rattle.the_run.proofs.Boots.{at_each, every_weaker}
 use Rattle.the_run.proofs.InsideSync.{every_row}
 use Rattle.vector_laws.specs.Written.{WrittenAs}
 use Rattle.vector_laws.specs.Facts.{file_in, ReportedFact, VersionFact, RowFact}
-use Rattle.vector_laws.proofs.FormingFacts.{both_true}
 use Rattle.vector_laws.proofs.SyncFacts.{row_at, version_row, known_row, noted_row}
 
 -- a stamp's key has one written vector for each file
@@ -38,9 +39,6 @@ joins vs = joined_vectors vs
 
 abbrev Alike : VersionRow → VersionRow → Type 0
 Alike v w = version_key w ≡ version_key v → AllLe w.vector v.vector
-
-test_same : (a b : ℕ) → (a == b) ≡ true → a ≡ b
-test_same a b e = grind (arith, nat_tests)
 
 put_there : (v : VersionRow) (ws : List VersionRow) → AllLe v.vector (joins (with_row version_key v ws))
 put_there v [] = AllLe-joined_left v.vector (joins [])
@@ -60,7 +58,7 @@ put_rises v (w ∷ ws) h =
       | true ↦ joined_least w.vector (joins ws) (joined w.vector (joins (with_row version_key v ws))) (AllLe-joined_left w.vector (joins (with_row version_key v ws)))
           (AllLe-through (joins ws) (joins (with_row version_key v ws)) (joined w.vector (joins (with_row version_key v ws))) (put_rises v ws h.1) (AllLe-joined_right w.vector (joins (with_row version_key v ws))))
       | false ↦ (elim (version_key w == version_key v) as (λ b. (version_key w == version_key v) ≡ b → AllLe (joined w.vector (joins ws)) (joins (elim b [ true ↦ v ∷ ws | false ↦ v ∷ w ∷ ws ]))) [
-        | true ↦ λ e. joined_least w.vector (joins ws) (joined v.vector (joins ws)) (AllLe-through w.vector v.vector (joined v.vector (joins ws)) (h.0 (test_same (version_key w) (version_key v) e)) (AllLe-joined_left v.vector (joins ws))) (AllLe-joined_right v.vector (joins ws))
+        | true ↦ λ e. joined_least w.vector (joins ws) (joined v.vector (joins ws)) (AllLe-through w.vector v.vector (joined v.vector (joins ws)) (h.0 (equal (version_key w) (version_key v) e)) (AllLe-joined_left v.vector (joins ws))) (AllLe-joined_right v.vector (joins ws))
         | false ↦ λ e. AllLe-joined_right v.vector (joined w.vector (joins ws))
       ]) refl
     ]
@@ -137,7 +135,7 @@ then_kept t u w h g ino = AllLe-through (joins (kept (file_row t ino))) (joins (
 pub put_file : (r : FileRow) (t : SyncTable) → AllLe (joins (kept (file_row t r.ino))) (joins r.kept) → KeptLe t (with_file r t)
 put_file r t h ino = at_each r.ino ino (AllLe (joins (kept (file_row t ino))) (joins (kept (file_row (with_file r t) ino))))
     (λ e. subst (λ (n : ℕ). AllLe (joins (kept (file_row t n))) (joins (kept (file_row (with_file r t) n)))) e (subst (λ (o : Option FileRow). AllLe (joins (kept (file_row t r.ino))) (joins (kept o))) (sym (row_same row_ino r t.files)) h))
-    (λ ne. subst (λ (o : Option FileRow). AllLe (joins (kept (file_row t ino))) (joins (kept o))) (sym (row_other row_ino r ino t.files (differ r.ino ino ne))) (AllLe-same (joins (kept (file_row t ino)))))
+    (λ ne. subst (λ (o : Option FileRow). AllLe (joins (kept (file_row t ino))) (joins (kept o))) (sym (row_other row_ino r ino t.files (apart_test r.ino ino ne))) (AllLe-same (joins (kept (file_row t ino)))))
 
 -- what was put there counts what its kept versions do
 pub file_there : (r : FileRow) (t : SyncTable) (ino : ℕ) (v : List ℕ) → r.ino ≡ ino → AllLe v (joins r.kept) → AllLe v (joins (kept (file_row (with_file r t) ino)))

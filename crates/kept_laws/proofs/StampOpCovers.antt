@@ -21,8 +21,8 @@ use Rattle.role_steps.specs.declared.instances.Instance.{Instance}
 use Rattle.role_steps.specs.declared.instances.Stage.{Stage}
 use Rattle.role_steps.specs.declared.instances.Stage.TheVariants as stage
 use Rattle.vector_laws.specs.Facts.{onto}
-use Rattle.lock_laws.specs.Going.{WasReleased, IsGranted}
-use Rattle.lock_laws.proofs.GrantTold.{latest_same}
+use Rattle.make_laws.specs.of_lock_laws.Going.{WasReleased, IsGranted}
+use Rattle.make_laws.proofs.of_lock_laws.GrantTold.{latest_same}
 use Rattle.kept_laws.specs.StampLaws.{Laws}
 use Rattle.kept_laws.specs.StampCovering.{Bare, InWork, Runs, StageRuns, StageCloses}
 use Rattle.kept_laws.proofs.StampTold.{laws_before}

@@ -1,48 +1,28 @@
--- What the using site tells is neither a commit nor a release, and what a storage site tells is no release.
-use Rattle.std.proofs.Common.{◌≡◌, ℕ, ◌+◌, ◌==◌, true, false, List, Option, Some, None, refl}
+-- What the using site tells is neither a commit nor a release, and what a storage site tells is no release. Two laws by kinds.
+use Rattle.std.proofs.Common.{◌≡◌, ℕ, List, Option, Some, None, refl}
 use Rattle.locus_ids.specs.declared.ids.EpochId.{EpochId}
 use Rattle.locus_ids.specs.declared.ids.FileId.{FileId}
 use Rattle.locus_ids.specs.declared.ids.Serial.{Serial}
 use Rattle.locus_ids.specs.declared.ids.Stamp.{Stamp}
-use Rattle.locus_ids.specs.declared.ids.Mode.{Mode}
-use Rattle.locus_ids.specs.declared.ids.Mode.TheVariants as mode
-use Rattle.locus_ids.specs.declared.refusal.Refusal.TheVariants as refusal
 use Rattle.trace_book.specs.declared.record.Record.{Record}
-use Rattle.trace_book.specs.declared.record.Record.TheVariants as says
 use Rattle.trace_book.specs.declared.call.Call.{Call}
 use Rattle.trace_book.specs.declared.operation.Op.{Op}
-use Rattle.trace_book.specs.declared.operation.Op.TheVariants as op
 use Rattle.trace_book.specs.declared.operation.Outcome.{Outcome as Result}
-use Rattle.trace_book.specs.declared.operation.Outcome.TheVariants as result
-use Rattle.call_rules.specs.Descriptors.{beginning}
-use Rattle.call_rules.specs.declared.answer.Answer.{Answer}
-use Rattle.call_rules.specs.declared.want.Want.{Want}
-use Rattle.call_rules.specs.declared.want.Want.TheVariants as want
-use Rattle.file_effects.specs.Effects.{Effect}
-use Rattle.file_effects.specs.Works.{counted}
+use Rattle.trace_book.specs.declared.record.Record.TheVariants as says
 use Rattle.wire_messages.specs.declared.body.CloseAnswer.{CloseAnswer}
-use Rattle.wire_messages.specs.declared.body.CloseAnswer.TheVariants as closing
 use Rattle.wire_messages.specs.declared.body.LookAnswer.{LookAnswer}
-use Rattle.wire_messages.specs.declared.body.LookAnswer.TheVariants as looked
 use Rattle.wire_messages.specs.declared.body.Granted.{Granted}
-use Rattle.wire_messages.specs.declared.body.Granted.TheVariants as granted
 use Rattle.role_steps.specs.Own.{Every}
-use Rattle.role_steps.specs.Tables.{first_that}
-use Rattle.role_steps.specs.Views.{Frame, Store, Users, Told, Shown, DiskWrite, Outcome, quiet, sends, and_then}
-use Rattle.role_steps.specs.Storage.{StoreRequest, own_ino, opens, opens_made, on_open_ss_of, on_open_ss, instance_of, is_spent, commits, next_stamp, next_vector, shuts, shuts_again, closes_owing, closes, on_close_at, on_close_of, on_close, ends_at, on_closed_ok_of, on_closed_ok}
-use Rattle.role_steps.specs.Operations.{acts, acts_committed, commits_owing, last_committed, commit_op, executes_effect, executes, op_again, by_number, on_op_at, on_op_of, on_op}
-use Rattle.role_steps.specs.OperationEffects.{Mending, effect_of}
-use Rattle.role_steps.specs.Requests.{descriptors_of, asks_op_of, asks_close_of, user_instance}
-use Rattle.role_steps.specs.Using.{accepted, frees, with_brought, content_answer, asks_want, next_want, goes_on, on_call, takes_answer, with_answer, takes_open, on_open_done_of, on_open_done, on_op_done_of, on_op_done, on_close_done_of, on_close_done, looks_again, takes_look, on_look_done_of, on_look_done, asks_open_of, asks_op_number, asks_take}
-use Rattle.role_steps.specs.Using as using
-use Rattle.role_steps.specs.declared.instances.Instance.{Instance}
-use Rattle.role_steps.specs.declared.instances.Stage.{Stage}
-use Rattle.role_steps.specs.declared.instances.Stage.TheVariants as stage
-use Rattle.role_steps.specs.declared.users.Asking.{Asking}
-use Rattle.role_steps.specs.declared.users.Asking.TheVariants as asking
-use Rattle.role_steps.specs.declared.users.WaitingCall.{WaitingCall}
-use Rattle.role_steps.specs.declared.users.UserInstance.{UserInstance}
-use Rattle.kept_laws.proofs.StampOutcomes.{Idle}
+use Rattle.role_steps.specs.Views.{Frame, Store, Users, Told, Shown, DiskWrite, Outcome}
+use Rattle.role_steps.specs.Storage.{StoreRequest, on_open_ss, on_close, on_closed_ok}
+use Rattle.role_steps.specs.Operations.{on_op}
+use Rattle.role_steps.specs.OperationEffects.{Mending}
+use Rattle.role_steps.specs.Using.{on_call, on_open_done, on_op_done, on_close_done, on_look_done}
+use Rattle.vector_laws.specs.of_law_walks.Kinds.{IsCallRecord, TellsCall, IsAct, TellsStore, IsVersion}
+use Rattle.vector_laws.specs.of_law_walks.Laws.{Law, frame_law, UsersKeep, StoresKeep, VersionsKeep, Part}
+use Rattle.vector_laws.proofs.of_law_walks.Premises.{frame_users, frame_stores}
+use Rattle.vector_laws.proofs.of_law_walks.RoleWalks.{on_call_walk, on_open_done_walk, on_op_done_walk, on_close_done_walk, on_look_done_walk, on_open_ss_walk, on_close_walk, on_closed_ok_walk, on_op_walk}
+use Rattle.kept_laws.proofs.StampOutcomes.{Idle, IdleRecord}
 
 -- it tells of no release
 abbrev pub NoReleaseRecord : Record → Type 0
@@ -62,188 +42,79 @@ NoReleaseWrite (Some d) = NoReleaseRecord d.says
 abbrev pub Idles : Outcome Users → Type 0
 Idles o = Every Idle o.told × (o.written ≡ None)
 
-want_idle : (f : Frame) (w : WaitingCall) (x : Want) (u : Users) → Idles (asks_want f w x u)
-want_idle f w (want.Look file what) u = (tt, refl)
-want_idle f w (want.Open file m) u = (tt, refl)
-want_idle f w (want.OpenToMend file) u = (tt, refl)
-want_idle f w (want.Make group kind sites) u = (tt, refl)
-want_idle f w (want.Do inst o) u = by_held (user_instance u inst.serial)
-  where
-    by_held : (i : Option UserInstance) → Idles (asks_op_of f w o i u)
-    by_held None = (tt, refl)
-    by_held (Some i) = (tt, refl)
-want_idle f w (want.Close inst) u = by_held (user_instance u inst.serial)
-  where
-    by_held : (i : Option UserInstance) → Idles (asks_close_of f w i u)
-    by_held None = (tt, refl)
-    by_held (Some i) = (tt, refl)
-want_idle f w (want.Give r) u = ((tt, tt), refl)
-want_idle f w want.Never u = (tt, refl)
+call_idle : (r : Record) → IsCallRecord r → IdleRecord r
+call_idle (says.Accept site process call words) h = tt
+call_idle (says.Answer site process call reply) h = tt
+call_idle _ h = absurd h
 
-goes_idle : (f : Frame) (w : WaitingCall) (u : Users) → Idles (goes_on f w u)
-goes_idle f w u = want_idle f w (next_want f w u) u
+tells_idle : (x : Told) → TellsCall x → Idle x
+tells_idle (Shown r) h = call_idle r h
+tells_idle _ h = tt
+
+abbrev IsUnwritten : Option DiskWrite → Type 0
+IsUnwritten w = w ≡ None
+
+abbrev idling : Law
+idling = frame_law (λ p. Unit {0}) Idle IsUnwritten
+
+users : (f : Frame) → UsersKeep idling f
+users f = frame_users (λ p. Unit {0}) Idle IsUnwritten f (λ to b. tt) tells_idle refl
+
+idles : (o : Outcome Users) → Part idling o → Idles o
+idles o h = (h.1, h.2)
 
 pub on_call_idle : (f : Frame) (now : Option EpochId) (process : ℕ) (words : Call) (u : Users) → Idles (on_call f now process words u)
-on_call_idle f now process words u =
-    let w : WaitingCall = accepted process (u.calls + 1) words (beginning (descriptors_of u process) now words) in
-    let counted : Users = frees process words (record u { calls = u.calls + 1 }) in
-    let k : Idles (goes_on f w counted) = goes_idle f w counted in
-    ((tt, k.0), k.1)
-
-takes_idle : (f : Frame) (w : WaitingCall) (a : Answer) (u : Users) → Idles (takes_answer f w a u)
-takes_idle f w a u = let k : Idles (goes_on f (with_answer w a) u) = goes_idle f (with_answer w a) u in ((tt, k.0), k.1)
-
-open_done_idle : (f : Frame) (kept : FileId → List Stamp) (serial : ℕ) (a : Granted) (o : Option WaitingCall) (u : Users) → Idles (on_open_done_of f kept serial a o u)
-open_done_idle f kept serial a None u = (tt, refl)
-open_done_idle f kept serial (granted.Open ss ino size stamp vector) (Some w) u = takes_idle f w _ _
-open_done_idle f kept serial (granted.No why) (Some w) u = takes_idle f w _ u
+on_call_idle f now process words u = idles (on_call f now process words u) (on_call_walk idling f (users f) now process words u (λ n. tt))
 
 pub on_open_done_idle : (f : Frame) (kept : FileId → List Stamp) (serial : ℕ) (a : Granted) (u : Users) → Idles (on_open_done f kept serial a u)
-on_open_done_idle f kept serial a u = open_done_idle f kept serial a (first_that (asks_open_of serial) u.waiting) u
-
-op_done_idle : (f : Frame) (r : Result) (o : Option WaitingCall) (u : Users) → Idles (on_op_done_of f r o u)
-op_done_idle f r None u = (tt, refl)
-op_done_idle f r (Some w) u = takes_idle f w _ u
+on_open_done_idle f kept serial a u = idles (on_open_done f kept serial a u) (on_open_done_walk idling f (users f) kept serial a u)
 
 pub on_op_done_idle : (f : Frame) (serial n : ℕ) (r : Result) (u : Users) → Idles (on_op_done f serial n r u)
-on_op_done_idle f serial n r u = op_done_idle f r (first_that (asks_op_number serial n r) u.waiting) u
-
-close_done_idle : (f : Frame) (serial : ℕ) (a : CloseAnswer) (o : Option WaitingCall) (u : Users) → Idles (on_close_done_of f serial a o u)
-close_done_idle f serial a None u = (tt, refl)
-close_done_idle f serial a (Some w) u = takes_idle f w _ _
+on_op_done_idle f serial n r u = idles (on_op_done f serial n r u) (on_op_done_walk idling f (users f) serial n r u)
 
 pub on_close_done_idle : (f : Frame) (serial : ℕ) (a : CloseAnswer) (u : Users) → Idles (on_close_done f serial a u)
-on_close_done_idle f serial a u = close_done_idle f serial a (first_that (using.asks_close_of serial) u.waiting) u
-
-again_idle : (f : Frame) (w : WaitingCall) (a : Asking) (u : Users) → Idles (looks_again f w a u)
-again_idle f w (asking.Look file what take) u = ((tt, tt), refl)
-again_idle f w (asking.Open serial file how) u = (tt, refl)
-again_idle f w (asking.Op serial ss number o seen) u = (tt, refl)
-again_idle f w (asking.Close serial ss) u = (tt, refl)
-
-look_done_idle : (f : Frame) (a : LookAnswer) (o : Option WaitingCall) (u : Users) → Idles (on_look_done_of f a o u)
-look_done_idle f a None u = (tt, refl)
-look_done_idle f (looked.Found ino kind) (Some w) u = takes_idle f w _ u
-look_done_idle f (looked.Content bytes) (Some w) u = takes_idle f (with_brought w.asking bytes w) (content_answer w.asking bytes) u
-look_done_idle f (looked.Stat kind size stamp) (Some w) u = takes_idle f w _ u
-look_done_idle f looked.Moved (Some w) u = again_idle f w w.asking u
-look_done_idle f (looked.No why) (Some w) u = takes_idle f w _ u
+on_close_done_idle f serial a u = idles (on_close_done f serial a u) (on_close_done_walk idling f (users f) serial a u)
 
 pub on_look_done_idle : (f : Frame) (n request take : ℕ) (a : LookAnswer) (u : Users) → Idles (on_look_done f n request take a u)
-on_look_done_idle f n request take a u = look_done_idle f a (first_that (asks_take n request take a) u.waiting) u
+on_look_done_idle f n request take a u = idles (on_look_done f n request take a u) (on_look_done_walk idling f (users f) n request take a u)
 
 -- ---- the store ----
 
 abbrev pub StoreLasts : Outcome Store → Type 0
 StoreLasts o = Every NoRelease o.told × NoReleaseWrite o.written
 
-opens_lasts : (f : Frame) (r : StoreRequest) (m : Mode) (s : Store) → StoreLasts (opens f r m s)
-opens_lasts f r mode.Make s = by_number_found (own_ino s r.file.group f.me)
-  where
-    by_number_found : (o : Option ℕ) → StoreLasts (opens_made f r o s)
-    by_number_found None = (tt, tt)
-    by_number_found (Some ino) = ((tt, (tt, tt)), tt)
-opens_lasts f r mode.Read s = ((tt, tt), tt)
-opens_lasts f r mode.Write s = ((tt, tt), tt)
-opens_lasts f r mode.Resolve s = ((tt, tt), tt)
-opens_lasts f r mode.Mend s = ((tt, tt), tt)
+act_lasts : (r : Record) → IsAct r → NoReleaseRecord r
+act_lasts (says.Release e inst file made) h = h
+act_lasts _ h = tt
 
-open_ss_lasts : (f : Frame) (r : StoreRequest) (o : Option Instance) (s : Store) → StoreLasts (on_open_ss_of f r o s)
-open_ss_lasts f r None s = opens_lasts f r r.mode s
-open_ss_lasts f r (Some i) s = (tt, tt)
+store_lasts : (x : Told) → TellsStore x → NoRelease x
+store_lasts (Shown r) h = act_lasts r h
+store_lasts _ h = tt
+
+version_lasts : (r : Record) → IsVersion r → NoReleaseRecord r
+version_lasts (says.Release e inst file made) h = h
+version_lasts _ h = tt
+
+abbrev lasting : Law
+lasting = frame_law (λ p. Unit {0}) NoRelease NoReleaseWrite
+
+stores : (f : Frame) → StoresKeep lasting f
+stores f = frame_stores (λ p. Unit {0}) NoRelease NoReleaseWrite f (λ to b. tt) store_lasts tt
+
+versions : VersionsKeep lasting
+versions = record { tells = version_lasts; writes = λ d h. version_lasts d.says h }
+
+lasts_of : (o : Outcome Store) → Part lasting o → StoreLasts o
+lasts_of o h = (h.1, h.2)
 
 pub on_open_ss_lasts : (f : Frame) (r : StoreRequest) (s : Store) → StoreLasts (on_open_ss f r s)
-on_open_ss_lasts f r s = open_ss_lasts f r (instance_of s r.inst) s
-
-shuts_again_lasts : (f : Frame) (a : CloseAnswer) (o : Option Instance) (s : Store) → Every NoRelease (shuts_again f a o s).told
-shuts_again_lasts f a None s = tt
-shuts_again_lasts f a (Some i) s = (tt, tt)
-
-closes_lasts : (f : Frame) (i : Instance) (s : Store) → StoreLasts (closes f i s)
-closes_lasts f i s =
-    elim i.work.owes as (λ b. StoreLasts (elim b [ true ↦ closes_owing f i s | false ↦ shuts f i closing.Nothing s ])) [
-      | true ↦ elim (is_spent f i) as (λ b. StoreLasts (elim b [ true ↦ shuts f i (closing.No refusal.Spent) s | false ↦ and_then (commits f i s) (λ now. shuts_again f (closing.Made (next_stamp f (next_vector f i))) (instance_of now i.inst) now) ])) [
-        | true ↦ ((tt, tt), tt)
-        | false ↦ ((tt, shuts_again_lasts f (closing.Made (next_stamp f (next_vector f i))) (instance_of (commits f i s).view i.inst) (commits f i s).view), tt)
-      ]
-      | false ↦ ((tt, tt), tt)
-    ]
-
-close_at_lasts : (f : Frame) (i : Instance) (g : Stage) (s : Store) → StoreLasts (on_close_at f i g s)
-close_at_lasts f i stage.Running s = closes_lasts f i s
-close_at_lasts f i (stage.Closing made a) s = (tt, tt)
-close_at_lasts f i (stage.Closed a) s = (tt, tt)
-
-close_of_lasts : (f : Frame) (o : Option Instance) (s : Store) → StoreLasts (on_close_of f o s)
-close_of_lasts f None s = (tt, tt)
-close_of_lasts f (Some i) s = close_at_lasts f i i.stage s
+on_open_ss_lasts f r s = lasts_of (on_open_ss f r s) (on_open_ss_walk lasting f (stores f) r s)
 
 pub on_close_lasts : (f : Frame) (inst : Serial) (s : Store) → StoreLasts (on_close f inst s)
-on_close_lasts f inst s = close_of_lasts f (instance_of s inst) s
-
-ends_at_lasts : (f : Frame) (i : Instance) (g : Stage) (s : Store) → StoreLasts (ends_at f i g s)
-ends_at_lasts f i stage.Running s = (tt, tt)
-ends_at_lasts f i (stage.Closing made a) s = (tt, tt)
-ends_at_lasts f i (stage.Closed a) s = (tt, tt)
-
-closed_ok_lasts : (f : Frame) (o : Option Instance) (s : Store) → StoreLasts (on_closed_ok_of f o s)
-closed_ok_lasts f None s = (tt, tt)
-closed_ok_lasts f (Some i) s = ends_at_lasts f i i.stage s
+on_close_lasts f inst s = lasts_of (on_close f inst s) (on_close_walk lasting f (stores f) versions inst s)
 
 pub on_closed_ok_lasts : (f : Frame) (inst : Serial) (s : Store) → StoreLasts (on_closed_ok f inst s)
-on_closed_ok_lasts f inst s = closed_ok_lasts f (instance_of s inst) s
-
-effect_lasts : (f : Frame) (i : Instance) (o : Op) (e : Option Effect) (s : Store) → StoreLasts (executes_effect f i o e s)
-effect_lasts f i o None s = (tt, tt)
-effect_lasts f i o (Some e) s = ((tt, tt), tt)
-
-committed_lasts : (f : Frame) (stamp : Stamp) (o : Option Instance) (s : Store) → Every NoRelease (acts_committed f stamp o s).told
-committed_lasts f stamp None s = tt
-committed_lasts f stamp (Some i) s = (tt, tt)
-
-last_lasts : (f : Frame) (i : Instance) (o : Option Stamp) (s : Store) → StoreLasts (last_committed f i o s)
-last_lasts f i None s = (tt, tt)
-last_lasts f i (Some stamp) s = ((tt, tt), tt)
-
-commit_lasts : (f : Frame) (i : Instance) (s : Store) → StoreLasts (commit_op f i s)
-commit_lasts f i s =
-    elim i.work.owes as (λ b. StoreLasts (elim b [ true ↦ commits_owing f i s | false ↦ last_committed f i i.work.last s ])) [
-      | true ↦ elim (is_spent f i) as (λ b. StoreLasts (elim b [ true ↦ acts f i op.Commit (result.No refusal.Spent) (counted i.work) s | false ↦ and_then (commits f i s) (λ now. acts_committed f (next_stamp f (next_vector f i)) (instance_of now i.inst) now) ])) [
-        | true ↦ ((tt, tt), tt)
-        | false ↦ ((tt, committed_lasts f (next_stamp f (next_vector f i)) (instance_of (commits f i s).view i.inst) (commits f i s).view), tt)
-      ]
-      | false ↦ last_lasts f i i.work.last s
-    ]
-
-executes_lasts : (f : Frame) (m : Mending) (i : Instance) (o : Op) (seen : List ℕ) (s : Store) → StoreLasts (executes f m i o seen s)
-executes_lasts f m i op.Commit seen s = commit_lasts f i s
-executes_lasts f m i op.Abort seen s = ((tt, tt), tt)
-executes_lasts f m i (op.Probe name) seen s = effect_lasts f i (op.Probe name) (effect_of (op.Probe name) seen m i.work.content) s
-executes_lasts f m i (op.Find component) seen s = effect_lasts f i (op.Find component) (effect_of (op.Find component) seen m i.work.content) s
-executes_lasts f m i (op.Insert name ino kind) seen s = effect_lasts f i (op.Insert name ino kind) (effect_of (op.Insert name ino kind) seen m i.work.content) s
-executes_lasts f m i (op.Remove name ino) seen s = effect_lasts f i (op.Remove name ino) (effect_of (op.Remove name ino) seen m i.work.content) s
-executes_lasts f m i (op.Rename component name) seen s = effect_lasts f i (op.Rename component name) (effect_of (op.Rename component name) seen m i.work.content) s
-executes_lasts f m i op.Empty seen s = effect_lasts f i op.Empty (effect_of op.Empty seen m i.work.content) s
-executes_lasts f m i (op.Read at len) seen s = effect_lasts f i (op.Read at len) (effect_of (op.Read at len) seen m i.work.content) s
-executes_lasts f m i (op.Write at bytes) seen s = effect_lasts f i (op.Write at bytes) (effect_of (op.Write at bytes) seen m i.work.content) s
-executes_lasts f m i (op.Cut len) seen s = effect_lasts f i (op.Cut len) (effect_of (op.Cut len) seen m i.work.content) s
-executes_lasts f m i op.Mend seen s = effect_lasts f i op.Mend (effect_of op.Mend seen m i.work.content) s
-
-by_number_lasts : (f : Frame) (m : Mending) (i : Instance) (n : ℕ) (o : Op) (seen : List ℕ) (s : Store) → StoreLasts (by_number f m i n o seen s)
-by_number_lasts f m i n o seen s =
-    elim (n == i.work.ops) as (λ b. StoreLasts (elim b [ true ↦ sends (op_again f i n i.answered) s | false ↦ elim (n == i.work.ops + 1) [ true ↦ executes f m i o seen s | false ↦ quiet s ] ])) [
-      | true ↦ (tt, tt)
-      | false ↦ elim (n == i.work.ops + 1) as (λ b. StoreLasts (elim b [ true ↦ executes f m i o seen s | false ↦ quiet s ])) [ true ↦ executes_lasts f m i o seen s | false ↦ (tt, tt) ]
-    ]
-
-op_at_lasts : (f : Frame) (m : Mending) (i : Instance) (g : Stage) (n : ℕ) (o : Op) (seen : List ℕ) (s : Store) → StoreLasts (on_op_at f m i g n o seen s)
-op_at_lasts f m i stage.Running n o seen s = by_number_lasts f m i n o seen s
-op_at_lasts f m i (stage.Closing made a) n o seen s = (tt, tt)
-op_at_lasts f m i (stage.Closed a) n o seen s = (tt, tt)
-
-op_of_lasts : (f : Frame) (m : Mending) (i : Option Instance) (n : ℕ) (o : Op) (seen : List ℕ) (s : Store) → StoreLasts (on_op_of f m i n o seen s)
-op_of_lasts f m None n o seen s = (tt, tt)
-op_of_lasts f m (Some i) n o seen s = op_at_lasts f m i i.stage n o seen s
+on_closed_ok_lasts f inst s = lasts_of (on_closed_ok f inst s) (on_closed_ok_walk lasting f (stores f) inst s)
 
 pub on_op_lasts : (f : Frame) (m : Mending) (inst : Serial) (n : ℕ) (o : Op) (seen : List ℕ) (s : Store) → StoreLasts (on_op f m inst n o seen s)
-on_op_lasts f m inst n o seen s = op_of_lasts f m (instance_of s inst) n o seen s
+on_op_lasts f m inst n o seen s = lasts_of (on_op f m inst n o seen s) (on_op_walk lasting f (stores f) versions m inst n o seen s)

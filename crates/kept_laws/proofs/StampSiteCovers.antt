@@ -24,17 +24,17 @@ use Rattle.role_steps.specs.declared.synchronizing.SyncTable.{SyncTable}
 use Rattle.the_run.specs.Steps.{from_user, group_of, at_table_of, with_pulls, is_opened_in, takes_inside}
 use Rattle.the_run.proofs.Boots.{every_weaker}
 use Rattle.the_run.proofs.InsideSync.{Found, first_found}
-use Rattle.run_laws.specs.Words.{Talks}
-use Rattle.run_laws.proofs.SyncTells.{on_report_talks, on_open_talks, on_look_talks, on_opened_talks, on_closed_talks, on_have_talks}
+use Rattle.vector_laws.specs.of_run_laws.Words.{Talks}
+use Rattle.vector_laws.proofs.of_run_laws.Telling.{on_report_talks, on_open_talks, on_look_talks, on_opened_talks, on_closed_talks, on_have_talks}
 use Rattle.vector_laws.specs.Facts.{onto, BodyFact, ReportedFact, NotCommit, Factless, TableFact as Versions}
 use Rattle.vector_laws.proofs.SiteFacts.{talk_none}
 use Rattle.vector_laws.proofs.SyncFacts.{FoundAt, row_at}
 use Rattle.vector_laws.proofs.RolesSend.{on_pull_factless, on_notify_factless, on_page_factless, on_open_done_factless, on_op_done_factless, on_close_done_factless, on_look_done_factless}
-use Rattle.lock_laws.specs.Facts.{BodyFact as LockBody}
-use Rattle.lock_laws.specs.Joins.{WasJoined}
-use Rattle.lock_laws.proofs.Facts.{onto_later}
-use Rattle.lock_laws.proofs.GrantSites.{Rising, put_tables, rising_put}
-use Rattle.lock_laws.proofs.StepFacts.{notify_silent, page_silent}
+use Rattle.make_laws.specs.of_lock_laws.Facts.{BodyFact as LockBody}
+use Rattle.make_laws.specs.of_lock_laws.Joins.{WasJoined}
+use Rattle.make_laws.proofs.of_lock_laws.Facts.{onto_later}
+use Rattle.make_laws.proofs.of_lock_laws.GrantSites.{Rising, put_tables, rising_put}
+use Rattle.make_laws.proofs.of_lock_laws.StepFacts.{notify_silent, page_silent}
 use Rattle.kept_laws.specs.StampLaws.{Laws}
 use Rattle.kept_laws.specs.StampCovering.{BodyCovers, Bare, Instances, DiskCounts, Table, Inside, InEpochCovers, View, Goes, AllGo, DiskGoes, Fine}
 use Rattle.kept_laws.proofs.StampFrames.{NotAt, not_commit, Elsewhere, instances_after, disk_after, table_after, fold, bares}
@@ -246,9 +246,9 @@ inside_fine c me past from v e (body.OpenSs inst file mode set kind base vector 
 inside_fine c me past from v e (body.Opened inst answer) k h l = with_part c me past (on_opened (frame_in c me v.boot e) inst answer) v e (is_opened_in inst) k.here l k.tables h (on_opened_talks (frame_in c me v.boot e) inst answer) (λ t g m. on_opened_fine (frame_in c me v.boot e) past inst answer t m g.0)
 inside_fine c me past from v e (body.OpenDone serial answer) k h l = users_part c me past v (on_open_done (frame_in c me v.boot e) (kept_stamps v) serial answer v.users) (on_open_done_idle (frame_in c me v.boot e) (kept_stamps v) serial answer v.users) (on_open_done_factless (frame_in c me v.boot e) (kept_stamps v) serial answer v.users) l h
 inside_fine c me past from v e (body.Op serial n o seen) k h l = store_part c me past v e _ k.here l (on_op_lasts (frame_in c me v.boot e) (mending v (group_of (instance_of v.store (from_user from serial)))) (from_user from serial) n o seen v.store).0 h
-    (on_op_fine c past (frame_in c me v.boot e) (mending v (group_of (instance_of v.store (from_user from serial)))) (from_user from serial) n o seen v.store l k.lock k.knows (stored_of c past me v e k.here h))
+    (on_op_fine c past (frame_in c me v.boot e) (mending v (group_of (instance_of v.store (from_user from serial)))) (from_user from serial) n o seen v.store l k.lock.granted k.knows (stored_of c past me v e k.here h))
 inside_fine c me past from v e (body.OpDone serial n result) k h l = users_part c me past v (on_op_done (frame_in c me v.boot e) serial n result v.users) (on_op_done_idle (frame_in c me v.boot e) serial n result v.users) (on_op_done_factless (frame_in c me v.boot e) serial n result v.users) l h
-inside_fine c me past from v e (body.Close serial) k h l = store_part c me past v e _ k.here l (on_close_lasts (frame_in c me v.boot e) (from_user from serial) v.store).0 h (on_close_fine c past (frame_in c me v.boot e) (from_user from serial) v.store l k.lock k.knows (stored_of c past me v e k.here h))
+inside_fine c me past from v e (body.Close serial) k h l = store_part c me past v e _ k.here l (on_close_lasts (frame_in c me v.boot e) (from_user from serial) v.store).0 h (on_close_fine c past (frame_in c me v.boot e) (from_user from serial) v.store l k.lock.granted k.knows (stored_of c past me v e k.here h))
 inside_fine c me past from v e (body.Closed inst made) k h l = with_part c me past (on_closed (frame_in c me v.boot e) from inst made) v e (is_opened_in inst) k.here l k.tables h (on_closed_talks (frame_in c me v.boot e) from inst made)
     (λ t g m. on_closed_fine (frame_in c me v.boot e) past from inst made t m k.one (inside_of c past me v e k.here h).joined k.versions k.covers g.1 g.0)
 inside_fine c me past from v e (body.ClosedOk inst) k h l = store_part c me past v e _ k.here l (on_closed_ok_lasts (frame_in c me v.boot e) inst v.store).0 h (on_closed_ok_fine c past (frame_in c me v.boot e) inst v.store (stored_of c past me v e k.here h))

@@ -1,6 +1,7 @@
 -- Commits by next numbers never give a stamp twice; then a stamp's key has one written vector, whose counters have room.
 use Rattle.std.proofs.Common.{◌≡◌, ◌≤◌, ◌<◌, ℕ, zero, suc, ◌+◌, ◌-◌, ◌*◌, max, Bool, true, false, cond, ◌||◌, List, [], ◌∷◌, refl, sym, ◌∙◌, ap, subst, inl, inr, arith}
 use Rattle.std.proofs.lemmas.Bool.Decides.{nat_tests}
+use Rattle.role_steps.proofs.of_plain_facts.Tests.{both_true, false_true}
 use Rattle.locus_ids.specs.declared.ids.FileId.{FileId}
 use Rattle.locus_ids.specs.declared.ids.Stamp.{Stamp}
 use Rattle.locus_ids.specs.declared.config.Config.{Config}
@@ -16,7 +17,6 @@ use Rattle.role_steps.specs.Views.{Told, Shown, stamp_key}
 use Rattle.role_steps.specs.Storage.{max_counter}
 use Rattle.vector_laws.specs.Written.{CountsNone, JoinsAll, WrittenAs, NumberedTold, CommitsAreNumbered}
 use Rattle.vector_laws.specs.Facts.{NumberedAll, onto}
-use Rattle.vector_laws.proofs.FormingFacts.{both_true}
 use Rattle.vector_laws.specs.HistoryCommits.{with_record, with_told, commits_of, StampsAreOnce, CommitsAreSited, IsFormatStamp}
 use Rattle.vector_laws.proofs.HistoryNumbers.{Counting, counting}
 use Rattle.vector_laws.proofs.HistoryHistory.{same_file_eq, Stands, Sound, sound, version_made}
@@ -47,9 +47,6 @@ in_record file older _ stamp n before h = inr (before h)
 in_told : (file : FileId) (older : List Told) (x : Told) (stamp : Stamp) → NumberedTold older x → (is_in (commits_of file older) file stamp ≡ true → WasMade older stamp.site file stamp.n) → is_in (with_told file x (commits_of file older)) file stamp ≡ true → WasMade (x ∷ older) stamp.site file stamp.n
 in_told file older (Shown r) stamp n before h = in_record file older r stamp n before h
 in_told file older _ stamp n before h = inr (before h)
-
-false_true : false ≡ true → ⊥
-false_true e = cc
 
 pub in_made : (file : FileId) (past : List Told) (stamp : Stamp) → CommitsAreNumbered past → is_in (commits_of file past) file stamp ≡ true → WasMade past stamp.site file stamp.n
 in_made file [] stamp n h = absurd (false_true h)

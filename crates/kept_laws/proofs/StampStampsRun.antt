@@ -1,8 +1,11 @@
 -- In every run no file has two commits with one stamp.
-use Rattle.std.proofs.Common.{◌≡◌, ℕ, ◌+◌, ◌≤◌, ◌==◌, nat_lt, Bool, true, false, cond, List, [], ◌∷◌, map, filter, length, Option, Some, None, refl, sym, ◌∙◌, ap, subst, inl, inr, arith}
+use Rattle.std.proofs.Common.{◌≡◌, ℕ, ◌+◌, ◌≤◌, ◌==◌, nat_lt, Bool, true, false, cond, List, [], ◌∷◌, map, filter, length, Option, Some, None, refl, sym, ◌∙◌, ap, subst, inl, inr, arith, ◌-◌}
 use Rattle.std.proofs.lemmas.Bool.Decides.{nat_tests}
+use Rattle.role_steps.proofs.of_plain_facts.Numbers.{equal}
+use Rattle.role_steps.proofs.of_plain_facts.Options.{some_same as some_eq}
 use Rattle.locus_ids.specs.declared.ids.FileId.{FileId}
 use Rattle.locus_ids.specs.declared.config.Config.{Config}
+use Rattle.locus_ids.specs.Sizes.{inode_span, sites_max}
 use Rattle.schedule_lines.specs.declared.line.ScheduleLine.{ScheduleLine}
 use Rattle.trace_book.specs.declared.record.Record.TheVariants as says
 use Rattle.trace_book.specs.declared.record.StopCause.TheVariants as cause
@@ -16,6 +19,7 @@ use Rattle.role_steps.specs.declared.instances.Instance.{Instance}
 use Rattle.role_steps.specs.declared.instances.Stage.TheVariants as stage
 use Rattle.role_steps.specs.declared.rounds.InEpoch.{InEpoch}
 use Rattle.role_steps.proofs.Sending.{every_map}
+use Rattle.role_steps.proofs.Counted.{CountsFrom, sites_count}
 use Rattle.the_run.specs.Disks.{boots}
 use Rattle.the_run.specs.Steps.{epoch_id, step}
 use Rattle.the_run.specs.Worlds.{World, Place, Running, Numbered, Line, number_of, links_of, place_at, place_in, place_site, script_of, disk_of, passed, acts, fresh, root_copy, formatted, first_place, first_world}
@@ -23,11 +27,11 @@ use Rattle.the_run.specs.Runs.{packet_record, run_in}
 use Rattle.the_run.specs.Kept.{WasSent, IsOwn, Kept}
 use Rattle.the_run.proofs.Boots.{boots_reached}
 use Rattle.the_run.proofs.InsideSync.{every_without}
-use Rattle.the_run.proofs.Runs.{every_run, some_eq}
-use Rattle.run_laws.specs.Naming.{Deeds, DeedsOf, Good}
-use Rattle.run_laws.specs.Standing.{Standing as Stood, standing, after_told}
-use Rattle.run_laws.proofs.Run.{found_among, was_sent}
-use Rattle.run_laws.proofs.Steps.{EventNames}
+use Rattle.the_run.proofs.Runs.{every_run}
+use Rattle.vector_laws.specs.of_run_laws.Naming.{Deeds, DeedsOf, Good}
+use Rattle.vector_laws.specs.of_run_laws.Standing.{Standing as Stood, standing, after_told}
+use Rattle.vector_laws.proofs.of_run_laws.Run.{found_among, was_sent}
+use Rattle.vector_laws.proofs.of_run_laws.Steps.{EventNames}
 use Rattle.vector_laws.specs.Written.{past_of}
 use Rattle.vector_laws.specs.Facts.{CopyFact, InstanceFact, TableFact as Versions, InEpochFact, ViewFact}
 use Rattle.vector_laws.proofs.SiteDisks.{step_disk}
@@ -35,7 +39,7 @@ use Rattle.vector_laws.proofs.StepFacts.{EventFact, step_fact}
 use Rattle.vector_laws.proofs.SyncFacts.{FoundAt, row_at, seen_none}
 use Rattle.vector_laws.proofs.Held.{boots_copies}
 use Rattle.vector_laws.specs.HistoryCommits.{IsSite, StampsAreOnce}
-use Rattle.lock_laws.specs.Facts.{NumberedFact as LockNumbered, WorldFact as LockWorld}
+use Rattle.make_laws.specs.of_lock_laws.Facts.{NumberedFact as LockNumbered, WorldFact as LockWorld}
 use Rattle.make_laws.specs.RunningStores.{InstanceSo, Stands}
 use Rattle.make_laws.proofs.RunningStandRun.{Orderly, Standing, standing_kept, first_standing, stores_stand}
 use Rattle.kept_laws.specs.StampCommits.{stood, Here}
@@ -44,7 +48,6 @@ use Rattle.kept_laws.specs.StampCovering.{CopyCounts}
 use Rattle.kept_laws.proofs.StampOutcomes.{Idle}
 use Rattle.kept_laws.proofs.StampStoreCovers.{Knows}
 use Rattle.kept_laws.proofs.StampCommitCovers.{key_file}
-use Rattle.kept_laws.proofs.StampTableCovers.{From, all_from}
 use Rattle.kept_laws.proofs.StampStepCovers.{Known, Arrives, EventArrives, step_fine}
 use Rattle.kept_laws.proofs.StampWriteSteps.{step_owes}
 use Rattle.kept_laws.proofs.StampStamps.{Commits, joins_low, one_vector}
@@ -209,11 +212,8 @@ none_place p e = cc
 one_not_zero : ◌≡◌ {A = ℕ} 1 0 → ⊥
 one_not_zero e = cc
 
-test_same : (a b : ℕ) → (a == b) ≡ true → a ≡ b
-test_same a b e = grind (arith, nat_tests)
-
 -- where nothing was told nothing is to be counted
-none_counts : (s : ℕ) (file : FileId) (o : Option FileCopy) → FoundAt (λ (x : FileCopy). x.file.ino ≡ 1) copy_key (file_key file) o → file.ino ≤ 65535 → CopyCounts [] s file o
+none_counts : (s : ℕ) (file : FileId) (o : Option FileCopy) → FoundAt (λ (x : FileCopy). x.file.ino ≡ 1) copy_key (file_key file) o → file.ino ≤ inode_span - 1 → CopyCounts [] s file o
 none_counts s file None h small = λ n m. m
 none_counts s file (Some x) h small = (key_file x.file file (let e : x.file.ino ≡ 1 = h.1 in omega (arith, e)) (omega (arith, small)) h.0, λ n m. absurd m)
 
@@ -226,7 +226,7 @@ first_places : (c : Config) (ss : List ℕ) (s : ℕ) (p : Place) → Every IsSi
 first_places c [] s p h e = absurd (none_place p e)
 first_places c (t ∷ ts) s p h e =
     (elim (t == s) as (λ b. (t == s) ≡ b → place_in (elim b [ true ↦ Some (first_place c t) | false ↦ row place_site s (map (first_place c) ts) ]) ≡ Some p → PlaceCovers c [] s p) [
-      | true ↦ λ q f. subst (λ (n : ℕ). PlaceCovers c [] n p) (test_same t s q) (subst (PlaceCovers c [] t) (some_eq (Running (fresh 1 (formatted c t))) p f) (first_site c t h.0))
+      | true ↦ λ q f. subst (λ (n : ℕ). PlaceCovers c [] n p) (equal t s q) (subst (PlaceCovers c [] t) (some_eq (Running (fresh 1 (formatted c t))) p f) (first_site c t h.0))
       | false ↦ λ q f. first_places c ts s p h.1 f
     ]) refl e
 
@@ -235,7 +235,7 @@ kept_sites P test [] h = tt
 kept_sites P test (x ∷ xs) h = elim (test x) as (λ b. Every P (cond b (x ∷ filter test xs) (filter test xs))) [ true ↦ (h.0, kept_sites P test xs h.1) | false ↦ kept_sites P test xs h.1 ]
 
 -- the numbers from this one on, up to sixteen
-sites_from : (low : ℕ) (xs : List ℕ) → From low xs → 1 ≤ low → low + length xs ≤ 17 → Every IsSite xs
+sites_from : (low : ℕ) (xs : List ℕ) → CountsFrom low xs → 1 ≤ low → low + length xs ≤ sites_max + 1 → Every IsSite xs
 sites_from low [] r h g = tt
 sites_from low (x ∷ xs) r h g = (record { low = (let e : x ≡ low = r.0 in omega (arith, e, h)); high = (let e : x ≡ low = r.0 in omega (arith, e, g)) }, sites_from (low + 1) xs r.1 (omega (arith, h)) (omega (arith, g)))
 
@@ -245,7 +245,7 @@ first_covers c = record {
   once = λ file. tt;
   fit = λ s file n m. absurd m;
   synced = λ e key file r. absurd r;
-  places = λ s p here. first_places c _ s p (kept_sites IsSite (λ t. nat_lt t (c.sites + 1)) all_sites (sites_from 1 all_sites all_from (omega arith) (omega arith))) here;
+  places = λ s p here. first_places c _ s p (kept_sites IsSite (λ t. nat_lt t (c.sites + 1)) all_sites (sites_from 1 all_sites sites_count (omega arith) (omega arith))) here;
   packets = tt;
   underway = tt;
 }

@@ -2,6 +2,8 @@
 use Rattle.std.proofs.Common.{◌≡◌, ℕ, ◌+◌, ◌==◌, nat_lt, Bool, true, false, ◌&&◌, ◌||◌, not, List, [], ◌∷◌, ◌++◌, Option, Some, None, refl, sym, subst, arith}
 use Rattle.std.proofs.lemmas.Bool.Decides.{nat_tests}
 use Rattle.std.specs.List.{flat_map}
+use Rattle.role_steps.proofs.of_plain_facts.Numbers.{equal}
+use Rattle.role_steps.proofs.of_plain_facts.Tests.{both_true, not_false, or_other}
 use Rattle.locus_ids.specs.declared.ids.EpochId.{EpochId}
 use Rattle.locus_ids.specs.declared.sites.Links.{Links}
 use Rattle.locus_ids.specs.declared.config.Config.{Config}
@@ -27,18 +29,17 @@ use Rattle.the_run.specs.Steps.{in_order, is_framed, is_forming, is_dropped, tak
 use Rattle.the_run.proofs.InsideSites.{adopts_of_plain}
 use Rattle.the_run.proofs.InsideRoles.{on_call_still}
 use Rattle.the_run.proofs.StepSends.{order_sent}
-use Rattle.run_laws.specs.Naming.{Deeds, Now, ViewOk, Fine as EpochFine}
-use Rattle.run_laws.proofs.Moves.{inner_view, inner_fine}
-use Rattle.run_laws.proofs.InsideSteps.{adopts_of_inner, call_inner}
-use Rattle.run_laws.proofs.Steps.{EventNames, takes_fine, starts_part_fine as part_goes, begins_fine as round_goes, leaves_of_fine as leave_goes}
+use Rattle.vector_laws.specs.of_run_laws.Naming.{Deeds, Now, ViewOk, Fine as EpochFine}
+use Rattle.vector_laws.proofs.of_run_laws.Moves.{inner_view, inner_fine}
+use Rattle.vector_laws.proofs.of_run_laws.InsideSteps.{adopts_of_inner, call_inner}
+use Rattle.vector_laws.proofs.of_run_laws.Steps.{EventNames, takes_fine, starts_part_fine as part_goes, begins_fine as round_goes, leaves_of_fine as leave_goes}
 use Rattle.vector_laws.specs.Facts.{onto, BodyFact, TableFact as Versions}
 use Rattle.vector_laws.proofs.Facts.{onto_append}
-use Rattle.vector_laws.proofs.FormingFacts.{both_true}
 use Rattle.vector_laws.proofs.RolesSend.{users_repeats_factless, pull_repeats_factless, on_call_factless}
 use Rattle.vector_laws.proofs.SiteDisks.{ends_keeps}
 use Rattle.vector_laws.specs.HistoryCommits.{IsSite}
-use Rattle.lock_laws.specs.Facts.{BodyFact as LockBody}
-use Rattle.lock_laws.proofs.StepFacts.{notify_silent, page_silent, framed_notify}
+use Rattle.make_laws.specs.of_lock_laws.Facts.{BodyFact as LockBody}
+use Rattle.make_laws.proofs.of_lock_laws.StepFacts.{notify_silent, page_silent, framed_notify}
 use Rattle.kept_laws.specs.StampLaws.{Laws}
 use Rattle.kept_laws.specs.StampCovering.{Bare, PacketCovers, BodyCovers, Inside, View}
 use Rattle.kept_laws.proofs.StampTold.{laws_before}
@@ -125,21 +126,11 @@ pub record Arrives (past : List Told) (c : Config) (me : ℕ) (v : SiteView) (p 
   pub tables : (e : InEpoch) → v.epoch ≡ Some e → Every (Versions past e.id) v.tables
   pub knows : (e : InEpoch) → v.epoch ≡ Some e → Knows past (frame_in c me v.boot e) v.store
 
-not_false : (a : Bool) → not a ≡ false → a ≡ true
-not_false true h = refl
-not_false false h = absurd (cc)
-
 same_epoch_eq : (a b : EpochId) → same_epoch a b ≡ true → a ≡ b
 same_epoch_eq a b h = id_eq (grind (arith, nat_tests)) (grind (arith, nat_tests)) (grind (arith, nat_tests))
   where
     id_eq : a.number ≡ b.number → a.site ≡ b.site → a.boot ≡ b.boot → a ≡ b
     id_eq e f g = λ i. record { number = e i; site = f i; boot = g i }
-
-or_right : (a b : Bool) → a ≡ false → (a || b) ≡ true → b ≡ true
-or_right a b e h = subst (λ (x : Bool). (x || b) ≡ true) e h
-
-test_same : (a b : ℕ) → (a == b) ≡ true → a ≡ b
-test_same a b e = grind (arith, nat_tests)
 
 -- a packet that isn't dropped is to this boot, and inside the epoch it names the epoch of the site
 pub let_in : (p : Packet) (v : SiteView) → is_dropped p v ≡ false → ((p.to_boot == v.boot) ≡ true) × ((is_forming p || is_framed p v.epoch) ≡ true)
@@ -147,7 +138,7 @@ let_in p v h = both_true (p.to_boot == v.boot) (is_forming p || is_framed p v.ep
 
 pub framed_epoch : (p : Packet) (v : SiteView) (e : InEpoch) → is_dropped p v ≡ false → is_forming p ≡ false → v.epoch ≡ Some e → e.id ≡ p.epoch
 framed_epoch p v e h inside here =
-    let b : is_framed p (Some e) ≡ true = subst (λ (o : Option InEpoch). is_framed p o ≡ true) here (or_right (is_forming p) (is_framed p v.epoch) inside (let_in p v h).1) in
+    let b : is_framed p (Some e) ≡ true = subst (λ (o : Option InEpoch). is_framed p o ≡ true) here (or_other (is_forming p) (is_framed p v.epoch) inside (let_in p v h).1) in
     same_epoch_eq e.id p.epoch (both_true (same_epoch e.id p.epoch) (boot_in e.members.boot p.from == p.from_boot) b).0
 
 pub forming_not : (p : Packet) (x : Body) → p.body ≡ x → nat_lt (kind_number x) 6 ≡ false → is_forming p ≡ false
@@ -160,7 +151,7 @@ comes c me past p x v e q here d inside k = record {
   versions = subst (λ (i : EpochId). BodyFact past i x) (sym same) k.versions;
   tables = k.tables e here;
   lock = subst (λ (i : EpochId). LockBody past p.from me i x) (sym same) k.lock;
-  covers = subst (λ (i : EpochId). BodyCovers past p.from me v.boot i x) (sym same) (subst (λ (n : ℕ). BodyCovers past p.from me n p.epoch x) (test_same p.to_boot v.boot (let_in p v d).0) k.covers);
+  covers = subst (λ (i : EpochId). BodyCovers past p.from me v.boot i x) (sym same) (subst (λ (n : ℕ). BodyCovers past p.from me n p.epoch x) (equal p.to_boot v.boot (let_in p v d).0) k.covers);
   knows = k.knows e here;
 }
   where

@@ -1,5 +1,7 @@
 -- A storage site's copies and running instances count its commits, and it commits by the next number.
 use Rattle.std.proofs.Common.{◌≡◌, ◌≢◌, ◌≤◌, ℕ, ◌-◌, true, false, ◌⊎◌, List, [], ◌∷◌, Option, Some, None, refl, sym, ◌∙◌, subst, inl, inr}
+use Rattle.role_steps.proofs.of_plain_facts.Numbers.{apart_test}
+use Rattle.role_steps.proofs.of_plain_facts.Options.{none_some}
 use Rattle.locus_ids.specs.declared.ids.EpochId.{EpochId}
 use Rattle.locus_ids.specs.declared.ids.FileId.{FileId}
 use Rattle.locus_ids.specs.declared.ids.Mode.{Mode}
@@ -21,17 +23,16 @@ use Rattle.role_steps.specs.Views.{Frame, Store, Told, Shown, Begins, Reserves, 
 use Rattle.role_steps.specs.Storage.{StoreRequest, copy_of, instance_key, instance_of, is_open, own_ino, begun_instance, begins, opened_packets, opens, opens_made, on_open_ss_of, on_open_ss, max_counter}
 use Rattle.role_steps.specs.declared.instances.Instance.{Instance}
 use Rattle.role_steps.specs.declared.instances.Stage.TheVariants as stage
-use Rattle.role_steps.proofs.Rows.{differ}
 use Rattle.role_steps.proofs.Sending.{every_cond}
 use Rattle.the_run.proofs.Boots.{at_each}
 use Rattle.vector_laws.specs.Written.{WasTold, WasGranted, GrantedRecord, Granted}
 use Rattle.vector_laws.specs.Facts.{onto}
 use Rattle.vector_laws.proofs.SyncFacts.{FoundAt, row_at, every_latest}
 use Rattle.vector_laws.specs.HistoryCommits.{IsSite}
-use Rattle.lock_laws.specs.Going.{WasBegunAt, WasShutAt, WasReleased, IsGranted}
-use Rattle.lock_laws.specs.Grants.{GrantedAsRecord, GrantedAs, WasGrantedAs, IsOver}
-use Rattle.lock_laws.specs.Locks.{IsOfAFile}
-use Rattle.lock_laws.proofs.GrantTold.{latest_other, latest_same}
+use Rattle.make_laws.specs.of_lock_laws.Going.{WasBegunAt, WasShutAt, WasReleased, IsGranted}
+use Rattle.make_laws.specs.of_lock_laws.Grants.{GrantedAsRecord, GrantedAs, WasGrantedAs, IsOver}
+use Rattle.make_laws.specs.of_lock_laws.Locks.{IsOfAFile}
+use Rattle.make_laws.proofs.of_lock_laws.GrantTold.{latest_other, latest_same}
 use Rattle.kept_laws.specs.StampCommits.{WasMade, Under, Counts, Here}
 use Rattle.kept_laws.specs.StampLaws.{Laws}
 use Rattle.kept_laws.specs.StampCovering.{Opens, NoCommits, Bare, PacketCovers, BodyCovers, Holds, Runs, StageRuns, RunsThere, IsClosing, Instances, DiskCounts, Fine}
@@ -106,7 +107,7 @@ pub put_instance : (now : List Told) (s : ℕ) (e : EpochId) (i : Instance) (is 
 put_instance now s e i is run close others closings = record {
   run = λ key. at_each (instance_key i) key (RunsThere now s e (row instance_key key (with_latest instance_key i is)))
       (λ same. subst (λ (k : ℕ). RunsThere now s e (row instance_key k (with_latest instance_key i is))) same (subst (RunsThere now s e) (sym (latest_same instance_key i is)) run))
-      (λ ne. subst (RunsThere now s e) (sym (latest_other instance_key i key is (differ (instance_key i) key ne))) (others key ne));
+      (λ ne. subst (RunsThere now s e) (sym (latest_other instance_key i key is (apart_test (instance_key i) key ne))) (others key ne));
   close = every_latest (IsClosing now s e) instance_key i is close closings;
 }
 
@@ -118,9 +119,6 @@ plain_holds past s e key file mode.Read it h = h
 plain_holds past s e key file mode.Write it h = h
 plain_holds past s e key file mode.Resolve it h = h
 plain_holds past s e key file mode.Mend it h = h
-
-none_some : {A : Type 0} (x : A) → ◌≡◌ {A = Option A} None (Some x) → ⊥
-none_some x e = cc
 
 started : (c : Config) (f : Frame) (past : List Told) (i : Instance) (told : List Told) (s : Store) → Every Idle told → RunsThere (onto told past) f.me f.epoch (Some i) → IsClosing (onto told past) f.me f.epoch i → Stored past f s → StoreFine c f past (begins f i told s)
 started c f past i told s idle run close h =

@@ -28,9 +28,9 @@ use Rattle.role_steps.proofs.Sending.{every_append}
 use Rattle.vector_laws.specs.Written.{WrittenAs, WasGranted}
 use Rattle.vector_laws.specs.Facts.{onto, file_in, MadeFact, MaybeMade, RowFact, GrantFact, OpenFact, LookFact, TableFact as Versions}
 use Rattle.vector_laws.proofs.SyncFacts.{FoundAt, row_at, every_latest, file_eq}
-use Rattle.lock_laws.specs.Going.{WasReleased}
-use Rattle.lock_laws.specs.Joins.{WasJoined}
-use Rattle.lock_laws.proofs.GrantSites.{SyncedBy}
+use Rattle.make_laws.specs.of_lock_laws.Going.{WasReleased}
+use Rattle.make_laws.specs.of_lock_laws.Joins.{WasJoined}
+use Rattle.make_laws.proofs.of_lock_laws.GrantSites.{SyncedBy}
 use Rattle.kept_laws.specs.StampCommits.{Under, Counts}
 use Rattle.kept_laws.specs.StampLaws.{Laws}
 use Rattle.kept_laws.specs.StampCovering.{InMade, Closes, Bare, InKept, RowOpens, Table}

@@ -2,11 +2,14 @@
 use Rattle.std.proofs.Common.{◌≡◌, ◌≢◌, ◌≤◌, ◌<◌, ℕ, ◌+◌, ◌-◌, ◌==◌, nat_lt, Bool, true, false, cond, ◌||◌, ◌&&◌, ◌⊎◌, List, [], ◌∷◌, filter, length, Option, Some, None, refl, sym, ◌∙◌, ap, subst, inl, inr, arith}
 use Rattle.std.proofs.lemmas.Bool.Decides.{nat_tests}
 use Rattle.std.specs.List.{list_all, flat_map}
+use Rattle.role_steps.proofs.of_plain_facts.Numbers.{equal}
+use Rattle.role_steps.proofs.of_plain_facts.Tests.{and_true, both_true, or_first}
 use Rattle.locus_ids.specs.Sites.{has, with_site}
 use Rattle.locus_ids.proofs.Sets.{has-with}
 use Rattle.locus_ids.specs.declared.ids.EpochId.{EpochId}
 use Rattle.locus_ids.specs.declared.ids.FileId.{FileId}
 use Rattle.locus_ids.specs.declared.sites.Sites.{Sites}
+use Rattle.locus_ids.specs.Sizes.{sites_max}
 use Rattle.version_vector.specs.Counters.{part, AllLe}
 use Rattle.trace_book.specs.declared.record.Record.TheVariants as says
 use Rattle.wire_messages.specs.declared.body.Body.{Body}
@@ -27,12 +30,11 @@ use Rattle.role_steps.specs.declared.synchronizing.Early.{Early}
 use Rattle.role_steps.specs.declared.synchronizing.LastLook.{LastLook}
 use Rattle.role_steps.specs.declared.synchronizing.OpenRow.{OpenRow}
 use Rattle.role_steps.proofs.Sending.{every_append, every_cond, every_map, every_flat_map}
+use Rattle.role_steps.proofs.Counted.{CountsFrom, sites_count}
 use Rattle.the_run.proofs.Boots.{at_each}
 use Rattle.vector_laws.specs.Facts.{onto, ReportedFact, LookFact, WaitingFact, EarlyFact, TableFact as Versions}
 use Rattle.vector_laws.proofs.Facts.{onto_append}
-use Rattle.vector_laws.proofs.FormingFacts.{both_true}
 use Rattle.vector_laws.specs.HistoryCommits.{IsSite}
-use Rattle.lock_laws.proofs.Apart.{both_ands}
 use Rattle.kept_laws.specs.StampCommits.{ByWriter, Counts}
 use Rattle.kept_laws.specs.StampLaws.{Laws}
 use Rattle.kept_laws.specs.StampCovering.{Covers, InReport, Bare, InKept, RowOpens, Table}
@@ -133,12 +135,7 @@ passed P test (x ∷ xs) h =
       | false ↦ λ e g. ((λ q. absurd (true_false (test x) q e)), passed P test xs g)
     ]) refl h
 
--- the numbers from this one on
-abbrev pub From : ℕ → List ℕ → Type 0
-From low [] = Unit {0}
-From low (x ∷ xs) = (x ≡ low) × From (low + 1) xs
-
-from_each : (P : ℕ → Type 0) (low : ℕ) (xs : List ℕ) → From low xs → Every P xs → (s : ℕ) → low ≤ s → s < low + length xs → P s
+from_each : (P : ℕ → Type 0) (low : ℕ) (xs : List ℕ) → CountsFrom low xs → Every P xs → (s : ℕ) → low ≤ s → s < low + length xs → P s
 from_each P low [] r h s a b = absurd (omega (arith, a, b))
 from_each P low (x ∷ xs) r h s a b = at_each low s (P s) (λ e. subst P (r.0 ∙ e) h.0) (λ ne. from_each P (low + 1) xs r.1 h.1 s (above low s a ne) (omega (arith, b)))
   where
@@ -149,18 +146,15 @@ from_each P low (x ∷ xs) r h s a b = at_each low s (P s) (λ e. subst P (r.0 �
         by_test true e = grind (arith, nat_tests)
         by_test false e = absurd (ne (grind (arith, nat_tests)))
 
-pub all_from : From 1 all_sites
-all_from = (refl, (refl, (refl, (refl, (refl, (refl, (refl, (refl, (refl, (refl, (refl, (refl, (refl, (refl, (refl, (refl, tt))))))))))))))))
-
 -- what holds of all of the sixteen holds of each site
 of_site : (P : ℕ → Type 0) → Every P all_sites → (s : ℕ) → IsSite s → P s
-of_site P h s site = let a : 1 ≤ s = site.low in let b : s ≤ 16 = site.high in from_each P 1 all_sites all_from h s a (omega (arith, b))
+of_site P h s site = let a : 1 ≤ s = site.low in let b : s ≤ sites_max = site.high in from_each P 1 all_sites sites_count h s a (omega (arith, b))
 
 -- where all members with a pack have reported, each of them has
 full_if : (f : Frame) (t : SyncTable) → have_all_reported f t ≡ true → (s : ℕ) → IsSite s → has (pack_sites f.config t.group) s ≡ true → is_member f.members s ≡ true → has t.reported s ≡ true
 full_if f t e s site pack member =
     let every : Every (λ (q : ℕ). has t.reported q ≡ true) (members_of f.members (pack_sites f.config t.group)) = all_true (has t.reported) (members_of f.members (pack_sites f.config t.group)) e in
-    of_site (λ (q : ℕ). (has (pack_sites f.config t.group) q && is_member f.members q) ≡ true → has t.reported q ≡ true) (passed (λ (q : ℕ). has t.reported q ≡ true) (λ (q : ℕ). has (pack_sites f.config t.group) q && is_member f.members q) all_sites every) s site (both_ands (has (pack_sites f.config t.group) s) (is_member f.members s) pack member)
+    of_site (λ (q : ℕ). (has (pack_sites f.config t.group) q && is_member f.members q) ≡ true → has t.reported q ≡ true) (passed (λ (q : ℕ). has t.reported q ≡ true) (λ (q : ℕ). has (pack_sites f.config t.group) q && is_member f.members q) all_sites every) s site (and_true (has (pack_sites f.config t.group) s) (is_member f.members s) pack member)
 
 starts_fine : (f : Frame) (past : List Told) (t : SyncTable) → Laws f.config (onto (starts f t).told past) → have_all_reported f t ≡ true → Every (EarlyFact t.group) t.early → Table past f t → TableFine f past t (starts f t)
 starts_fine f past t l all early h =
@@ -216,12 +210,6 @@ or_cases : (P : Type 0) (a b : Bool) → (a || b) ≡ true → (a ≡ true → P
 or_cases P true b h f g = f refl
 or_cases P false b h f g = g h
 
-test_same : (a b : ℕ) → (a == b) ≡ true → a ≡ b
-test_same a b e = grind (arith, nat_tests)
-
-or_left : (a b : Bool) → a ≡ true → (a || b) ≡ true
-or_left a b e = subst (λ (x : Bool). (x || b) ≡ true) (sym e) refl
-
 reports_table : (f : Frame) (past : List Told) (from : ℕ) (xs : List ReportedCopy) (t : SyncTable) → OneVector past → Every (ReportedFact past t.group) xs → Versions past f.epoch t → Covers past from f.epoch t.group (InReport xs from) → Table past f t → Table past f (with_report from xs t)
 reports_table f past from xs t one reported versions report h = record {
   synced = subst (λ (g : ℕ). sync_site f.config f.members g ≡ Some f.me) (sym k.group) h.synced;
@@ -245,12 +233,12 @@ reports_table f past from xs t one reported versions report h = record {
     q = all_reported past from xs base one reported versions.files
 
     there : (s : ℕ) → IsSite s → has t.reported s ≡ true → has (with_site t.reported from) s ≡ true
-    there s site e = has-with t.reported from s report.site.low site.low ∙ or_left (has t.reported s) (s == from) e
+    there s site e = has-with t.reported from s report.site.low site.low ∙ or_first (has t.reported s) (s == from) e
 
     of_reported : (s : ℕ) → IsSite s → has (with_site t.reported from) s ≡ true → Covers past s f.epoch u.group (InKept u s)
     of_reported s site e = or_cases (Covers past s f.epoch u.group (InKept u s)) (has t.reported s) (s == from) (sym (has-with t.reported from s report.site.low site.low) ∙ e)
         (λ old. covers_weaker past s f.epoch t.group u.group (InKept t s) (InKept u s) k.group (λ file n g p. counts_le (joins (kept (file_row t file.ino))) (joins (kept (file_row u file.ino))) s n (q.rises file.ino) p) (h.covers s site old))
-        (λ new. subst (λ (n : ℕ). Covers past n f.epoch u.group (InKept u n)) (sym (test_same s from new)) (covers_weaker past from f.epoch t.group u.group (InReport xs from) (InKept u from) k.group (λ file n g p. in_report u xs from file n q.each p) report))
+        (λ new. subst (λ (n : ℕ). Covers past n f.epoch u.group (InKept u n)) (sym (equal s from new)) (covers_weaker past from f.epoch t.group u.group (InReport xs from) (InKept u from) k.group (λ file n g p. in_report u xs from file n q.each p) report))
 
 regroup : (f : Frame) (past : List Told) (t u : SyncTable) (o : Outcome SyncTable) → u.group ≡ t.group → TableFine f past u o → TableFine f past t o
 regroup f past t u o e h = record { fine = h.fine; group = h.group ∙ e; here = subst (λ (n : ℕ). Every (OfGroup n) o.told) e h.here; none = h.none }

@@ -38,9 +38,9 @@ use Rattle.role_steps.specs.declared.synchronizing.LastLook.{LastLook}
 use Rattle.the_run.proofs.InsideSync.{every_row, Found, row_found}
 use Rattle.vector_laws.specs.Facts.{onto, NoFact, LookFact}
 use Rattle.vector_laws.proofs.SyncFacts.{every_latest}
-use Rattle.lock_laws.specs.Grants.{IsOver}
-use Rattle.lock_laws.specs.Locks.{IsOfAFile}
-use Rattle.pack_laws.specs.Packs.{HasPack}
+use Rattle.make_laws.specs.of_lock_laws.Grants.{IsOver}
+use Rattle.make_laws.specs.of_lock_laws.Locks.{IsOfAFile}
+use Rattle.make_laws.specs.of_pack_laws.Packs.{HasPack}
 use Rattle.kept_laws.specs.StampCommits.{WasMade, Under, ByWriter, Counts, Here}
 use Rattle.make_laws.specs.Locked.{OverAs}
 use Rattle.kept_laws.specs.StampLaws.{Laws}

@@ -1,24 +1,26 @@
 -- What was told: what an earlier law says of it, and how the laws of holds meet.
 use Rattle.std.proofs.Common.{◌≡◌, ℕ, ◌==◌, ◌<◌, Bool, true, false, cond, ◌⊎◌, List, [], ◌∷◌, Option, Some, None, refl, sym, ◌∙◌, subst, inl, inr, arith}
 use Rattle.std.proofs.lemmas.Bool.Decides.{nat_tests}
+use Rattle.role_steps.proofs.of_plain_facts.Numbers.{equal}
 use Rattle.locus_ids.specs.declared.ids.EpochId.{EpochId}
 use Rattle.locus_ids.specs.declared.ids.FileId.{FileId}
 use Rattle.locus_ids.specs.declared.ids.Mode.{Mode}
 use Rattle.locus_ids.specs.declared.ids.Mode.TheVariants as mode
 use Rattle.locus_ids.specs.declared.config.Config.{Config}
+use Rattle.locus_ids.specs.Sizes.{inode_span}
 use Rattle.commit_graph.specs.Grants.{is_read}
 use Rattle.trace_book.specs.declared.record.Record.{Record}
 use Rattle.trace_book.specs.declared.record.Record.TheVariants as says
 use Rattle.role_steps.specs.Views.{Told, Shown, Promises, Shuts, Reserves, serial_key}
-use Rattle.run_laws.specs.Standing.{nowhere}
+use Rattle.vector_laws.specs.of_run_laws.Standing.{nowhere}
 use Rattle.vector_laws.specs.Written.{WasTold, WasGranted}
 use Rattle.vector_laws.specs.Facts.{onto}
-use Rattle.vector_laws.specs.HistoryCommits.{IsSite, SitedTold, CommitsAreSited, FitTold, NumbersFit}
-use Rattle.lock_laws.specs.Going.{WasBegunAt, ShutAt, WasShutAt, ReleasedRecord, Released, WasReleased, InstanceGoesOn, InstancesGoOn}
-use Rattle.lock_laws.specs.Grants.{GrantedAsRecord, GrantedAs, WasGrantedAs, IsOver}
-use Rattle.lock_laws.specs.Joins.{WasJoined, FirstJoin}
-use Rattle.lock_laws.specs.Locks.{IsOfAFile}
-use Rattle.pack_laws.specs.Making.{CommitsFile, WasCommitted}
+use Rattle.vector_laws.specs.HistoryCommits.{FitTold, NumbersFit}
+use Rattle.make_laws.specs.of_lock_laws.Going.{WasBegunAt, ShutAt, WasShutAt, ReleasedRecord, Released, WasReleased, InstanceGoesOn, InstancesGoOn}
+use Rattle.make_laws.specs.of_lock_laws.Grants.{GrantedAsRecord, GrantedAs, WasGrantedAs, IsOver}
+use Rattle.make_laws.specs.of_lock_laws.Joins.{WasJoined, FirstJoin}
+use Rattle.make_laws.specs.of_lock_laws.Locks.{IsOfAFile}
+use Rattle.make_laws.specs.of_pack_laws.Making.{CommitsFile, WasCommitted}
 use Rattle.kept_laws.specs.StampCommits.{MadeRecord, MadeAt, WasMade, Under, stood, Here}
 use Rattle.make_laws.specs.Holding.{ReservedAt, WasReserved, ReservedTold, MakesAreReserved}
 use Rattle.make_laws.specs.Locked.{HeldRecord, HeldAs, WasHeldAs, OverAs, HoldsAreLocked}
@@ -55,29 +57,15 @@ under_begun [] s e key file n h = absurd h
 under_begun (x ∷ older) s e key file n (inl h) = inr h.1
 under_begun (x ∷ older) s e key file n (inr h) = inr (under_begun older s e key file n h)
 
-made_record_sited : (s : ℕ) (file : FileId) (n : ℕ) (r : Record) → SitedTold (Shown r) → MadeRecord s file n r → IsSite s
-made_record_sited s file n (says.Commit g t stamp parents content) k h = subst IsSite h.1 k
-made_record_sited s file n _ k h = absurd h
-
-made_told_sited : (s : ℕ) (file : FileId) (n : ℕ) (x : Told) → SitedTold x → MadeAt s file n x → IsSite s
-made_told_sited s file n (Shown r) k h = made_record_sited s file n r k h
-made_told_sited s file n _ k h = absurd h
-
--- who has committed is a site
-pub made_sited : (past : List Told) (s : ℕ) (file : FileId) (n : ℕ) → CommitsAreSited past → WasMade past s file n → IsSite s
-made_sited [] s file n k h = absurd h
-made_sited (x ∷ older) s file n k (inl h) = made_told_sited s file n x k.0 h
-made_sited (x ∷ older) s file n k (inr h) = made_sited older s file n k.1 h
-
-made_record_fits : (s : ℕ) (file : FileId) (n : ℕ) (r : Record) → FitTold (Shown r) → MadeRecord s file n r → file.ino < 65536
-made_record_fits s file n (says.Commit g t stamp parents content) k h = subst (λ (f : FileId). f.ino < 65536) h.0 k
+made_record_fits : (s : ℕ) (file : FileId) (n : ℕ) (r : Record) → FitTold (Shown r) → MadeRecord s file n r → file.ino < inode_span
+made_record_fits s file n (says.Commit g t stamp parents content) k h = subst (λ (f : FileId). f.ino < inode_span) h.0 k
 made_record_fits s file n _ k h = absurd h
 
-made_told_fits : (s : ℕ) (file : FileId) (n : ℕ) (x : Told) → FitTold x → MadeAt s file n x → file.ino < 65536
+made_told_fits : (s : ℕ) (file : FileId) (n : ℕ) (x : Told) → FitTold x → MadeAt s file n x → file.ino < inode_span
 made_told_fits s file n (Shown r) k h = made_record_fits s file n r k h
 made_told_fits s file n _ k h = absurd h
 
-pub made_fits : (past : List Told) (s : ℕ) (file : FileId) (n : ℕ) → NumbersFit past → WasMade past s file n → file.ino < 65536
+pub made_fits : (past : List Told) (s : ℕ) (file : FileId) (n : ℕ) → NumbersFit past → WasMade past s file n → file.ino < inode_span
 made_fits [] s file n k h = absurd h
 made_fits (x ∷ older) s file n k (inl h) = made_told_fits s file n x k.0 h
 made_fits (x ∷ older) s file n k (inr h) = made_fits older s file n k.1 h
@@ -163,9 +151,6 @@ none_some x e = cc
 pub here_once : (past : List Told) (s : ℕ) (e d : EpochId) → Here past s e → Here past s d → e ≡ d
 here_once past s e d h g = some_eq e d (sym h ∙ g)
 
-test_same : (a b : ℕ) → (a == b) ≡ true → a ≡ b
-test_same a b e = grind (arith, nat_tests)
-
 -- a site that is in an epoch which it had joined was in it before
 here_record : (r : Record) (past : List Told) (s : ℕ) (e : EpochId) → FirstJoin past (Shown r) → HasJoined past s e → Here (Shown r ∷ past) s e → Here past s e
 here_record (says.Up t boot) past s e first joined h = by_test (t == s) h
@@ -179,7 +164,7 @@ here_record (says.Join t id members) past s e first joined h = by_test (t == s) 
     again a b = first joined.0 (subst (λ (n : ℕ). WasJoined past n id joined.0) (sym a) (subst (λ (i : EpochId). WasJoined past s i joined.0) (sym b) joined.1))
 
     by_test : (b : Bool) → (t == s) ≡ b → (cond b (record { promised = (stood s past).promised; installed = true; epoch = Some id }) (stood s past)).epoch ≡ Some e → Here past s e
-    by_test true q g = absurd (again (test_same t s q) (some_eq id e g))
+    by_test true q g = absurd (again (equal t s q) (some_eq id e g))
     by_test false q g = g
 here_record (says.Leave t id) past s e first joined h = by_test (t == s) h
   where

@@ -31,11 +31,11 @@ use Rattle.role_steps.specs.declared.instances.Stage.TheVariants as stage
 use Rattle.role_steps.specs.declared.rounds.InEpoch.{InEpoch}
 use Rattle.role_steps.specs.declared.synchronizing.SyncTable.{SyncTable}
 use Rattle.the_run.specs.Steps.{from_user, group_of, at_table_of, is_opened_in, is_dropped, takes_inside, takes_framed}
-use Rattle.run_laws.specs.Words.{Talks}
-use Rattle.run_laws.proofs.SyncTells.{on_report_talks, on_open_talks, on_look_talks, on_opened_talks, on_closed_talks, on_have_talks}
+use Rattle.vector_laws.specs.of_run_laws.Words.{Talks}
+use Rattle.vector_laws.proofs.of_run_laws.Telling.{on_report_talks, on_open_talks, on_look_talks, on_opened_talks, on_closed_talks, on_have_talks}
 use Rattle.vector_laws.proofs.StoreDisks.{on_open_ss_keeps, on_closed_ok_keeps}
-use Rattle.lock_laws.specs.Going.{IsGranted}
-use Rattle.lock_laws.proofs.StepFacts.{notify_silent, page_silent}
+use Rattle.make_laws.specs.of_lock_laws.Going.{IsGranted}
+use Rattle.make_laws.proofs.of_lock_laws.StepFacts.{notify_silent, page_silent}
 use Rattle.kept_laws.specs.StampLaws.{Laws}
 use Rattle.kept_laws.specs.StampCovering.{View, DiskGoes}
 use Rattle.kept_laws.proofs.StampRolesTell.{on_open_done_idle, on_op_done_idle, on_close_done_idle, on_look_done_idle}
@@ -154,8 +154,8 @@ table_none g None v h = refl
 table_none g (Some t) v h = (h t).1
 
 inside_owes : (c : Config) (me : ℕ) (past : List Told) (from : ℕ) (v : SiteView) (e : InEpoch) (x : Body) → Comes c past me from v e x → View c past me v → DiskOwes c past me (takes_inside (frame_in c me v.boot e) from x v).written
-inside_owes c me past from v e (body.Op serial n o seen) k h = on_op_owes c past (frame_in c me v.boot e) (mending v (group_of (instance_of v.store (from_user from serial)))) (from_user from serial) n o seen v.store k.lock k.knows (stored_of c past me v e k.here h)
-inside_owes c me past from v e (body.Close serial) k h = on_close_owes c past (frame_in c me v.boot e) (from_user from serial) v.store k.lock k.knows (stored_of c past me v e k.here h)
+inside_owes c me past from v e (body.Op serial n o seen) k h = on_op_owes c past (frame_in c me v.boot e) (mending v (group_of (instance_of v.store (from_user from serial)))) (from_user from serial) n o seen v.store k.lock.granted k.knows (stored_of c past me v e k.here h)
+inside_owes c me past from v e (body.Close serial) k h = on_close_owes c past (frame_in c me v.boot e) (from_user from serial) v.store k.lock.granted k.knows (stored_of c past me v e k.here h)
 inside_owes c me past from v e (body.Report group copies) k h = none_owes c past me _ (table_none (on_report (frame_in c me v.boot e) from copies) (row table_group group v.tables) v (on_report_talks (frame_in c me v.boot e) from copies))
 inside_owes c me past from v e (body.ReportOk group) k h = tt
 inside_owes c me past from v e (body.Open serial call process request file how) k h = none_owes c past me _ (table_none _ (row table_group file.group v.tables) v (on_open_talks (frame_in c me v.boot e) from (record { serial = serial; call = call; process = process; request = request; file = file; how = how })))

@@ -20,7 +20,7 @@ use Rattle.role_steps.specs.declared.rounds.Round.{Round}
 use Rattle.the_run.specs.Steps.{is_dropped, takes_framed, takes, adopts_of, adopts_in, tries_at, ends_event, whole, takes_call, call_frame, epoch_id, step}
 use Rattle.vector_laws.specs.Facts.{onto}
 use Rattle.vector_laws.proofs.SiteDisks.{ends_keeps}
-use Rattle.lock_laws.proofs.StepFacts.{notify_silent, page_silent, framed_notify}
+use Rattle.make_laws.proofs.of_lock_laws.StepFacts.{notify_silent, page_silent, framed_notify}
 use Rattle.kept_laws.specs.StampLaws.{Laws}
 use Rattle.kept_laws.specs.StampCovering.{View}
 use Rattle.kept_laws.proofs.StampTold.{laws_older}

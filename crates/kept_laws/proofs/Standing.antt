@@ -16,7 +16,7 @@ use Rattle.the_run.specs.Worlds.{Line}
 use Rattle.vector_laws.specs.Written.{past_of, WrittenAs, IsWrittenBy, IsCommitOf, JoinsAll, IsNumbered, NumberedTold, CommitsAreNumbered}
 use Rattle.vector_laws.specs.HistoryCommits.{with_record, with_told, commits_of, IsFormatStamp}
 use Rattle.vector_laws.proofs.HistoryHistory.{same_file_eq, same_file_refl, version_made}
-use Rattle.pack_laws.specs.Making.{NotEmpty}
+use Rattle.make_laws.specs.of_pack_laws.Making.{NotEmpty}
 use Rattle.kept_laws.specs.Printed.{onto_printed, printed}
 use Rattle.kept_laws.specs.Roots.{RootTold, RootsFollow}
 use Rattle.kept_laws.proofs.Ordered.{by_parent, below}

@@ -1,10 +1,12 @@
 -- Written vectors keep what ancestors keep.
 use Rattle.std.proofs.Common.{◌≡◌, ℕ, zero, suc, ◌≤◌, ◌<◌, Bool, true, false, not, cond, ◌&&◌, ◌||◌, List, [], ◌∷◌, map, filter, refl, sym, ◌∙◌, ap, subst, arith, inl, inr}
 use Rattle.std.specs.List.{list_any}
+use Rattle.role_steps.proofs.of_plain_facts.Tests.{false_unless, same_truth}
 use Rattle.locus_ids.specs.declared.config.Config.{Config}
 use Rattle.schedule_lines.specs.declared.line.ScheduleLine.{ScheduleLine}
 use Rattle.locus_ids.specs.declared.ids.FileId.{FileId}
 use Rattle.locus_ids.specs.declared.ids.Stamp.{Stamp}
+use Rattle.locus_ids.specs.Sizes.{sites_max}
 use Rattle.version_vector.specs.Counters.{part, AllLe, all_le}
 use Rattle.version_vector.proofs.Counting.{AllLe-from_test, all_le-from_AllLe}
 use Rattle.commit_graph.specs.declared.history.Version.{Version}
@@ -26,13 +28,12 @@ use Rattle.vector_laws.proofs.FactsRun.{run_numbered}
 use Rattle.vector_laws.specs.HistoryCommits.{commits_of, SitesAreKnown, IsFormatStamp, VectorsTell}
 use Rattle.vector_laws.proofs.HistoryHistory.{Sound, sound, all_own, vectors_tell}
 use Rattle.vector_laws.proofs.HistorySited.{run_sited}
-use Rattle.pack_laws.proofs.InstanceAgree.{run_agrees}
+use Rattle.make_laws.proofs.of_pack_laws.InstanceAgree.{run_agrees}
 use Rattle.kept_laws.proofs.StampLawsRun.{run_stamps}
 use Rattle.kept_laws.specs.Printed.{printed, known_in}
 use Rattle.kept_laws.specs.Keeping.{AreOrdered}
 use Rattle.kept_laws.specs.Known.{IsVersion}
 use Rattle.kept_laws.specs.Vectors.{has_below, kept_by_vectors, VectorsKeepTheSame}
-use Rattle.kept_laws.proofs.Ordered.{is_not}
 use Rattle.kept_laws.proofs.KeptRun.{run_ordered}
 use Rattle.kept_laws.proofs.Grown.{format_test}
 use Rattle.kept_laws.proofs.Alike.{Alike, alike, same_vector, not_in_counter, not_in_ancestor, format_not_in}
@@ -42,11 +43,6 @@ use Rattle.kept_laws.proofs.NamesRun.{run_named}
 use Rattle.kept_laws.proofs.RootsRun.{run_roots}
 
 -- ---- tests ----
-
-both_ways : (a b : Bool) → (a ≡ true → b ≡ true) → (b ≡ true → a ≡ true) → a ≡ b
-both_ways true b f g = sym (f refl)
-both_ways false true f g = g refl
-both_ways false false f g = refl
 
 -- a proper ancestor by the two orders
 proper_same : (s x y : Bool) → (x ≡ true → y ≡ true → s ≡ true) → (s ≡ true → y ≡ true) → (not s && x) ≡ (x && not y)
@@ -94,11 +90,11 @@ own_part c file trace k b h = sym (vector-written file (C file trace) k.counted 
 
 -- the format's version counts nothing
 format_part : (c : Config) (file : FileId) (trace : List Line) → Grounds c file trace → (a : Stamp) → is_format a ≡ true → (t : ℕ) → part (vector_of (C file trace) file a) t ≡ 0
-format_part c file trace k a f t = zero_part (counter (C file trace) file a) (λ n. not_in_counter file (C file trace) a n (format_not_in file (C file trace) k.counted a f)) (numbers_from 1 16) t
+format_part c file trace k a f t = zero_part (counter (C file trace) file a) (λ n. not_in_counter file (C file trace) a n (format_not_in file (C file trace) k.counted a f)) (numbers_from 1 sites_max) t
 
 -- a version isn't at most the format's
 not_under : (c : Config) (file : FileId) (trace : List Line) → Grounds c file trace → (a b : Stamp) → is_format a ≡ true → is_in (C file trace) file b ≡ true → all_le (vector_of (C file trace) file b) (vector_of (C file trace) file a) ≡ false
-not_under c file trace k a b f h = is_not (all_le (vector_of (C file trace) file b) (vector_of (C file trace) file a)) (λ e.
+not_under c file trace k a b f h = false_unless (all_le (vector_of (C file trace) file b) (vector_of (C file trace) file a)) (λ e.
     (let le : AllLe (vector_of (C file trace) file b) (vector_of (C file trace) file a) = AllLe-from_test (vector_of (C file trace) file b) (vector_of (C file trace) file a) e in
     let low : part (vector_of (C file trace) file b) (place b) ≤ part (vector_of (C file trace) file a) (place b) = le.each (place b) in
     let none : part (vector_of (C file trace) file a) (place b) ≡ 0 = format_part c file trace k a f (place b) in
@@ -117,14 +113,14 @@ abbrev pub Agree : Config → FileId → List Line → Stamp → Stamp → Type 
 Agree c file trace a b = is_proper_ancestor (H c trace) file a b ≡ has_below (H c trace) file a b
 
 not_format_in : (c : Config) (file : FileId) (trace : List Line) → Grounds c file trace → (b : Stamp) → is_in (C file trace) file b ≡ true → is_format b ≡ false
-not_format_in c file trace k b h = is_not (is_format b) (λ f. false_not_true (format_not_in file (C file trace) k.counted b f) h)
+not_format_in c file trace k b h = false_unless (is_format b) (λ f. false_not_true (format_not_in file (C file trace) k.counted b f) h)
 
 ancestor_le : (c : Config) (file : FileId) (trace : List Line) → Grounds c file trace → (a b : Stamp) → is_in (C file trace) file a ≡ true → is_in (C file trace) file b ≡ true → is_ancestor (H c trace) file a b ≡ all_le (vector_of (C file trace) file a) (vector_of (C file trace) file b)
 ancestor_le c file trace k a b ha hb =
     let u : List ℕ = vector_of (C file trace) file a in
     let v : List ℕ = vector_of (C file trace) file b in
     let r : _ × _ = k.tells.tell a b ha hb in
-    k.same.ancestors a b (not_format_in c file trace k a ha) ∙ both_ways (is_ancestor (C file trace) file a b) (all_le u v) (λ e. all_le-from_AllLe u v (r.0 e)) (λ e. r.1 (AllLe-from_test u v e))
+    k.same.ancestors a b (not_format_in c file trace k a ha) ∙ same_truth (is_ancestor (C file trace) file a b) (all_le u v) (λ e. all_le-from_AllLe u v (r.0 e)) (λ e. r.1 (AllLe-from_test u v e))
 
 commits_agree : (c : Config) (file : FileId) (trace : List Line) → Grounds c file trace → (a b : Stamp) → is_in (C file trace) file a ≡ true → is_in (C file trace) file b ≡ true → Agree c file trace a b
 commits_agree c file trace k a b ha hb =
@@ -139,10 +135,10 @@ commits_agree c file trace k a b ha hb =
     ∙ sym (below_same c file trace k a b))
 
 unlike : (a b : Stamp) → is_format a ≡ true → is_format b ≡ false → same_stamp a b ≡ false
-unlike a b f g = is_not (same_stamp a b) (λ e. false_not_true g (subst (λ (x : Stamp). is_format x ≡ true) (same_stamp_eq a b e) f))
+unlike a b f g = false_unless (same_stamp a b) (λ e. false_not_true g (subst (λ (x : Stamp). is_format x ≡ true) (same_stamp_eq a b e) f))
 
 unlike_too : (a b : Stamp) → is_format a ≡ false → is_format b ≡ true → same_stamp a b ≡ false
-unlike_too a b f g = is_not (same_stamp a b) (λ e. false_not_true f (subst (λ (x : Stamp). is_format x ≡ true) (sym (same_stamp_eq a b e)) g))
+unlike_too a b f g = false_unless (same_stamp a b) (λ e. false_not_true f (subst (λ (x : Stamp). is_format x ≡ true) (sym (same_stamp_eq a b e)) g))
 
 format_is : (a : Stamp) → IsFormatStamp a → a ≡ format_stamp
 format_is a h = stamp_eq a format_stamp h.site h.number

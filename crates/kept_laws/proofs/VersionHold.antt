@@ -6,8 +6,8 @@ use Rattle.the_run.specs.Runs.{run_in}
 use Rattle.vector_laws.proofs.FactsRun.{run_vectors}
 use Rattle.vector_laws.proofs.HistoryCovers.{run_held}
 use Rattle.vector_laws.proofs.HistorySited.{run_vectors_tell, run_true_copies}
-use Rattle.pack_laws.proofs.InstanceAgree.{run_agrees}
-use Rattle.pack_laws.proofs.InodeFitsRun.{run_fits}
+use Rattle.make_laws.proofs.of_pack_laws.InstanceAgree.{run_agrees}
+use Rattle.make_laws.proofs.of_pack_laws.InodeFitsRun.{run_fits}
 use Rattle.kept_laws.proofs.StampLawsRun.{run_stamps}
 use Rattle.kept_laws.specs.VersionVersions.{VersionsHold}
 

@@ -4,7 +4,7 @@ use Rattle.trace_book.specs.declared.record.Record.{Record}
 use Rattle.trace_book.specs.declared.record.Record.TheVariants as says
 use Rattle.role_steps.specs.Own.{Every}
 use Rattle.role_steps.specs.Views.{Told, Shown}
-use Rattle.pack_laws.specs.Making.{NotEmpty}
+use Rattle.make_laws.specs.of_pack_laws.Making.{NotEmpty}
 
 abbrev pub RootRecord : Record → Type 0
 RootRecord (says.Commit file s stamp parents content) = file.ino ≡ 1 → NotEmpty parents

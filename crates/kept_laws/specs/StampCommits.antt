@@ -8,10 +8,10 @@ use Rattle.commit_graph.specs.Grants.{is_read}
 use Rattle.trace_book.specs.declared.record.Record.{Record}
 use Rattle.trace_book.specs.declared.record.Record.TheVariants as says
 use Rattle.role_steps.specs.Views.{Told, Shown}
-use Rattle.run_laws.specs.Standing.{Standing, nowhere, after_told}
+use Rattle.vector_laws.specs.of_run_laws.Standing.{Standing, nowhere, after_told}
 use Rattle.vector_laws.specs.Written.{WasTold}
-use Rattle.lock_laws.specs.Going.{WasBegunAt, WasShutAt}
-use Rattle.lock_laws.specs.Grants.{WasGrantedAs}
+use Rattle.make_laws.specs.of_lock_laws.Going.{WasBegunAt, WasShutAt}
+use Rattle.make_laws.specs.of_lock_laws.Grants.{WasGrantedAs}
 
 -- ---- commits ----
 

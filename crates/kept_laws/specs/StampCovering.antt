@@ -8,6 +8,7 @@ use Rattle.locus_ids.specs.declared.ids.Mode.{Mode}
 use Rattle.locus_ids.specs.declared.ids.Mode.TheVariants as mode
 use Rattle.locus_ids.specs.declared.sites.Members.{Members}
 use Rattle.locus_ids.specs.declared.config.Config.{Config}
+use Rattle.locus_ids.specs.Sizes.{inode_span}
 use Rattle.commit_graph.specs.Grants.{is_read}
 use Rattle.trace_book.specs.declared.record.Record.{Record}
 use Rattle.trace_book.specs.declared.record.Record.TheVariants as says
@@ -35,11 +36,11 @@ use Rattle.the_run.specs.Kept.{Among}
 use Rattle.the_run.specs.Worlds.{Numbered}
 use Rattle.vector_laws.specs.Facts.{LookFact, onto}
 use Rattle.vector_laws.specs.HistoryCommits.{IsSite}
-use Rattle.lock_laws.specs.Going.{WasBegunAt, WasShutAt, WasReleased}
-use Rattle.lock_laws.specs.Grants.{WasGrantedAs, IsOver}
-use Rattle.lock_laws.specs.Joins.{WasJoined}
-use Rattle.lock_laws.specs.Locks.{IsOfAFile}
-use Rattle.lock_laws.proofs.GrantSites.{Rising, SyncedBy}
+use Rattle.make_laws.specs.of_lock_laws.Going.{WasBegunAt, WasShutAt, WasReleased}
+use Rattle.make_laws.specs.of_lock_laws.Grants.{WasGrantedAs, IsOver}
+use Rattle.make_laws.specs.of_lock_laws.Joins.{WasJoined}
+use Rattle.make_laws.specs.of_lock_laws.Locks.{IsOfAFile}
+use Rattle.make_laws.proofs.of_lock_laws.GrantSites.{Rising, SyncedBy}
 use Rattle.make_laws.specs.Holding.{WasReserved}
 use Rattle.kept_laws.specs.StampCommits.{WasMade, Under, ByWriter, Counts, Here}
 
@@ -151,11 +152,11 @@ CopyCounts past s file None = (n : ℕ) → WasMade past s file n → ⊥
 CopyCounts past s file (Some x) = (x.file ≡ file) × ((n : ℕ) → WasMade past s file n → Counts x.vector s n)
 
 abbrev pub DiskCounts : List Told → ℕ → List FileCopy → Type 0
-DiskCounts past s copies = (file : FileId) → file.ino < 65536 → CopyCounts past s file (row copy_key (file_key file) copies)
+DiskCounts past s copies = (file : FileId) → file.ino < inode_span → CopyCounts past s file (row copy_key (file_key file) copies)
 
 -- so does a copy that is written
 pub record NewCounts (past : List Told) (s : ℕ) (x : FileCopy) : Type 0 where
-  pub fits : x.file.ino < 65536
+  pub fits : x.file.ino < inode_span
   pub each : (n : ℕ) → WasMade past s x.file n → Counts x.vector s n
 
 -- ---- the synchronization site ----

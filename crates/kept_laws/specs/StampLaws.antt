@@ -5,10 +5,10 @@ use Rattle.role_steps.specs.Own.{Every}
 use Rattle.role_steps.specs.Views.{Told}
 use Rattle.vector_laws.specs.Written.{InstancesAgree}
 use Rattle.vector_laws.specs.HistoryCommits.{CommitsAreSited, NumbersFit}
-use Rattle.lock_laws.specs.Going.{InstancesGoOn}
-use Rattle.lock_laws.specs.Joins.{JoinsAreOnce}
-use Rattle.lock_laws.proofs.GrantSites.{OneTold}
-use Rattle.pack_laws.specs.Packs.{ToldPacked}
+use Rattle.make_laws.specs.of_lock_laws.Going.{InstancesGoOn}
+use Rattle.make_laws.specs.of_lock_laws.Joins.{JoinsAreOnce}
+use Rattle.make_laws.proofs.of_lock_laws.GrantSites.{OneTold}
+use Rattle.make_laws.specs.of_pack_laws.Packs.{ToldPacked}
 use Rattle.make_laws.specs.RunningRunning.{BegunAtOneSite, PlainGrantsStand}
 use Rattle.make_laws.specs.Fresh.{NumbersAreFresh}
 use Rattle.make_laws.specs.Holding.{MakesAreReserved, ReservesAreOfMakes}

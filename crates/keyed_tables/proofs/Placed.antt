@@ -1,16 +1,14 @@
 -- Places of keys, and what a table in the order of coming has at them.
 use Rattle.std.proofs.Common.{◌≡◌, ℕ, suc, ◌+◌, ◌-◌, ◌<◌, ◌≤◌, List, [], ◌∷◌, ◌++◌, length, map, set, Option, Some, None, slice_get, get_or, Bool, true, false, nat_eq, refl, sym, ap, ◌∙◌, subst, arith}
 use Rattle.std.proofs.lemmas.Bool.Decides.{nat_tests}
-use Rattle.std.specs.Option.{is_some, IfSome}
+use Rattle.std.specs.Option.{is_some}
 use Rattle.std.proofs.lemmas.Option.{slice_get-get_or}
 use Rattle.std.proofs.lemmas.List.{length-map}
+use Rattle.role_steps.proofs.of_plain_facts.Options.{some_same}
 use Rattle.role_steps.specs.Tables.{row, with_row, with_latest}
 use Rattle.role_steps.proofs.Rows.{row_same, row_other}
 use Rattle.keyed_tables.specs.Places.{place_from, place_of, slot_key, slot_place}
 use Rattle.keyed_tables.specs.declared.index.Slot.{Slot}
-
-some_of : (a b : ℕ) → ◌≡◌ {A = Option ℕ} (Some a) (Some b) → a ≡ b
-some_of a b e = cc
 
 no_some : {B : Type 0} (a : ℕ) → ◌≡◌ {A = Option ℕ} None (Some a) → B
 no_some a e = absurd (cc)
@@ -30,7 +28,7 @@ none_is_some (Some p) e h = absurd (cc)
 pub place_within : (k n : ℕ) (ks : List ℕ) (p : ℕ) → place_from k n ks ≡ Some p → (n ≤ p) × (p < n + length ks)
 place_within k n [] p e = no_some p e
 place_within k n (x ∷ ks) p e = elim (nat_eq x k) as (λ b. ◌≡◌ {A = Option ℕ} (elim b [ true ↦ Some n | false ↦ place_from k (n + 1) ks ]) (Some p) → (n ≤ p) × (p < n + suc (length ks))) [
-  | true ↦ λ f. (let s : n ≡ p = some_of n p f in (omega arith, omega arith))
+  | true ↦ λ f. (let s : n ≡ p = some_same n p f in (omega arith, omega arith))
   | false ↦ λ f. (let h = place_within k (n + 1) ks p f in (omega arith, omega arith))
 ] e
 
@@ -99,7 +97,7 @@ index_old slots keys key h found k = h k ∙ (stays (place_of k keys) refl ∙ s
 pub latest_row : {A : Type 0} (key : A → ℕ) (k n : ℕ) (xs : List A) (p : ℕ) → place_from k n (map key xs) ≡ Some p → row key k xs ≡ slice_get xs (p - n)
 latest_row key k n [] p e = no_some p e
 latest_row {A = A} key k n (x ∷ xs) p e = elim (nat_eq (key x) k) as (λ b. ◌≡◌ {A = Option ℕ} (elim b [ true ↦ Some n | false ↦ place_from k (n + 1) (map key xs) ]) (Some p) → ◌≡◌ {A = Option A} (elim b [ true ↦ Some x | false ↦ row key k xs ]) (slice_get (x ∷ xs) (p - n))) [
-  | true ↦ λ f. (let s : n ≡ p = some_of n p f in let z : p - n ≡ 0 = omega arith in sym (ap (slice_get (x ∷ xs)) z))
+  | true ↦ λ f. (let s : n ≡ p = some_same n p f in let z : p - n ≡ 0 = omega arith in sym (ap (slice_get (x ∷ xs)) z))
   | false ↦ λ f. (let h = place_within k (n + 1) (map key xs) p f in let z : p - n ≡ suc (p - (n + 1)) = omega arith in latest_row key k (n + 1) xs p f ∙ sym (ap (slice_get (x ∷ xs)) z))
 ] e
 
@@ -113,22 +111,15 @@ latest_none {A = A} key k n (x ∷ xs) e = elim (nat_eq (key x) k) as (λ b. ◌
 pub latest_set : {A : Type 0} (key : A → ℕ) (x : A) (n : ℕ) (xs : List A) (p : ℕ) → place_from (key x) n (map key xs) ≡ Some p → with_latest key x xs ≡ set xs (p - n) x
 latest_set key x n [] p e = no_some p e
 latest_set {A = A} key x n (y ∷ ys) p e = elim (nat_eq (key y) (key x)) as (λ b. ◌≡◌ {A = Option ℕ} (elim b [ true ↦ Some n | false ↦ place_from (key x) (n + 1) (map key ys) ]) (Some p) → ◌≡◌ {A = List A} (elim b [ true ↦ x ∷ ys | false ↦ y ∷ with_latest key x ys ]) (set (y ∷ ys) (p - n) x)) [
-  | true ↦ λ f. (let s : n ≡ p = some_of n p f in let z : p - n ≡ 0 = omega arith in sym (ap (λ i. set (y ∷ ys) i x) z))
+  | true ↦ λ f. (let s : n ≡ p = some_same n p f in let z : p - n ≡ 0 = omega arith in sym (ap (λ i. set (y ∷ ys) i x) z))
   | false ↦ λ f. (let h = place_within (key x) (n + 1) (map key ys) p f in let z : p - n ≡ suc (p - (n + 1)) = omega arith in ap (λ zs. y ∷ zs) (latest_set key x (n + 1) ys p f) ∙ sym (ap (λ i. set (y ∷ ys) i x) z))
-] e
-
-pub latest_push : {A : Type 0} (key : A → ℕ) (x : A) (n : ℕ) (xs : List A) → place_from (key x) n (map key xs) ≡ None → with_latest key x xs ≡ xs ++ x ∷ []
-latest_push key x n [] e = refl
-latest_push {A = A} key x n (y ∷ ys) e = elim (nat_eq (key y) (key x)) as (λ b. ◌≡◌ {A = Option ℕ} (elim b [ true ↦ Some n | false ↦ place_from (key x) (n + 1) (map key ys) ]) None → ◌≡◌ {A = List A} (elim b [ true ↦ x ∷ ys | false ↦ y ∷ with_latest key x ys ]) (y ∷ (ys ++ x ∷ []))) [
-  | true ↦ λ f. some_no n f
-  | false ↦ λ f. ap (λ zs. y ∷ zs) (latest_push key x (n + 1) ys f)
 ] e
 
 -- a row in place of the one with its key leaves all keys as they are
 pub latest_keys : {A : Type 0} (key : A → ℕ) (x : A) (n : ℕ) (xs : List A) (p : ℕ) → place_from (key x) n (map key xs) ≡ Some p → map key xs ≡ map key (set xs (p - n) x)
 latest_keys key x n [] p e = no_some p e
 latest_keys key x n (y ∷ ys) p e = elim (nat_eq (key y) (key x)) as (λ b. nat_eq (key y) (key x) ≡ b → ◌≡◌ {A = Option ℕ} (elim b [ true ↦ Some n | false ↦ place_from (key x) (n + 1) (map key ys) ]) (Some p) → key y ∷ map key ys ≡ map key (set (y ∷ ys) (p - n) x)) [
-  | true ↦ λ t f. (let s : n ≡ p = some_of n p f in let z : p - n ≡ 0 = omega arith in let same : key y ≡ key x = (grind (arith, nat_tests)) in ap (λ k. k ∷ map key ys) same ∙ sym (ap (λ i. map key (set (y ∷ ys) i x)) z))
+  | true ↦ λ t f. (let s : n ≡ p = some_same n p f in let z : p - n ≡ 0 = omega arith in let same : key y ≡ key x = (grind (arith, nat_tests)) in ap (λ k. k ∷ map key ys) same ∙ sym (ap (λ i. map key (set (y ∷ ys) i x)) z))
   | false ↦ λ t f. (let h = place_within (key x) (n + 1) (map key ys) p f in let z : p - n ≡ suc (p - (n + 1)) = omega arith in ap (λ ks. key y ∷ ks) (latest_keys key x (n + 1) ys p f) ∙ sym (ap (λ i. map key (set (y ∷ ys) i x)) z))
 ] refl e
 
@@ -141,10 +132,6 @@ pub row_placed : {A : Type 0} (key : A → ℕ) (k : ℕ) (xs : List A) (p : ℕ
 row_placed key k xs p e = (within, latest_row key k 0 xs p e ∙ ap (slice_get xs) (first_place p)) where
   within : p < length xs
   within = let h = place_within_all k (map key xs) p e in omega (arith, h, length-map xs key)
-
-pub rows_placed : {A : Type 0} (key : A → ℕ) (k : ℕ) (xs : List A) (keys : List ℕ) (o : Option ℕ) → keys ≡ map key xs → o ≡ place_of k keys → IfSome o (λ p. (p < length xs) × (row key k xs ≡ slice_get xs p))
-rows_placed key k xs keys None f e = tt
-rows_placed key k xs keys (Some p) f e = row_placed key k xs p (sym (e ∙ ap (place_of k) f))
 
 pub found_latest : {A : Type 0} (key : A → ℕ) (k : ℕ) (xs : List A) (keys : List ℕ) (p : ℕ) (d : A) → keys ≡ map key xs → Some p ≡ place_of k keys → d ≡ get_or xs p d → row key k xs ≡ Some d
 found_latest {A = A} key k xs keys p d f e r =

@@ -2,36 +2,23 @@
 use Rattle.std.proofs.Common.{◌≡◌, ◌≢◌, ℕ, zero, suc, ◌+◌, ◌<◌, ◌≤◌, List, [], ◌∷◌, length, set, get_or, Option, Some, None, slice_get, true, false, nat_eq, nat_lt, refl, sym, ap, ◌∙◌, subst, arith}
 use Rattle.std.specs.List.{insert, remove}
 use Rattle.std.proofs.lemmas.Bool.Decides.{nat_tests}
+use Rattle.role_steps.proofs.of_plain_facts.Numbers.{differ_test, less_test, not_less_test, same_test}
+use Rattle.role_steps.proofs.of_plain_facts.Options.{some_same}
 use Rattle.role_steps.specs.Tables.{row, with_row, without_row}
 use Rattle.keyed_tables.specs.Rising.{Above, Rising, Within, BelowTo}
-
-some_eq : {A : Type 0} (x a : A) → ◌≡◌ {A = Option A} (Some x) (Some a) → x ≡ a
-some_eq x a e = cc
 
 none_some : {A : Type 0} {B : Type 0} (a : A) → ◌≡◌ {A = Option A} None (Some a) → B
 none_some a e = absurd (cc)
 
-same_yes : (a b : ℕ) → a ≡ b → nat_eq a b ≡ true
-same_yes a b e = grind (arith, nat_tests)
-
-same_no : (a b : ℕ) → a ≢ b → nat_eq a b ≡ false
-same_no a b e = grind (arith, nat_tests)
-
-less_yes : (a b : ℕ) → a < b → nat_lt a b ≡ true
-less_yes a b e = grind (arith, nat_tests)
-
-less_no : (a b : ℕ) → b ≤ a → nat_lt a b ≡ false
-less_no a b e = grind (arith, nat_tests)
-
 above_at : {A : Type 0} (key : A → ℕ) (m : ℕ) (xs : List A) (i : ℕ) (a : A) → Above key m xs → slice_get xs i ≡ Some a → m < key a
 above_at key m [] i a h e = none_some a e
-above_at key m (x ∷ xs) zero a h e = subst (λ y. m < key y) (some_eq x a e) h.0
+above_at key m (x ∷ xs) zero a h e = subst (λ y. m < key y) (some_same x a e) h.0
 above_at key m (x ∷ xs) (suc i) a h e = above_at key m xs i a h.1 e
 
 rising_at : {A : Type 0} (key : A → ℕ) (xs : List A) (i j : ℕ) (a b : A) → Rising key xs → slice_get xs i ≡ Some a → slice_get xs j ≡ Some b → i < j → key a < key b
 rising_at key [] i j a b h e f less = none_some a e
 rising_at key (x ∷ xs) zero zero a b h e f less = absurd (omega arith)
-rising_at key (x ∷ xs) zero (suc j) a b h e f less = subst (λ y. key y < key b) (some_eq x a e) (above_at key (key x) xs j b h.0 f)
+rising_at key (x ∷ xs) zero (suc j) a b h e f less = subst (λ y. key y < key b) (some_same x a e) (above_at key (key x) xs j b h.0 f)
 rising_at key (x ∷ xs) (suc i) zero a b h e f less = absurd (omega arith)
 rising_at key (x ∷ xs) (suc i) (suc j) a b h e f less = rising_at key xs i j a b h.1 e f (omega arith)
 
@@ -44,7 +31,7 @@ goes_up {A = A} key k xs low high mid m r w e less small = record {
   after = w.after;
 } where
   at_mid : (i : ℕ) (a : A) → slice_get xs i ≡ Some a → i ≡ mid → key a < k
-  at_mid i a f same = subst (λ y. key y < k) (some_eq m a (sym e ∙ (ap (slice_get xs) (sym same) ∙ f))) small
+  at_mid i a f same = subst (λ y. key y < k) (some_same m a (sym e ∙ (ap (slice_get xs) (sym same) ∙ f))) small
 
   before : (i : ℕ) (a : A) → slice_get xs i ≡ Some a → i < mid + 1 → key a < k
   before i a f g = elim (nat_lt i mid) as (λ b. nat_lt i mid ≡ b → key a < k) [ true ↦ λ t. below (grind (arith, nat_tests)) | false ↦ λ t. at_mid i a f (grind (arith, nat_tests)) ] refl where
@@ -59,7 +46,7 @@ goes_down {A = A} key k xs low high mid m r w e more less great = record {
   after = λ i a f g. after i a f g;
 } where
   at_mid : (i : ℕ) (a : A) → slice_get xs i ≡ Some a → i ≡ mid → k < key a
-  at_mid i a f same = subst (λ y. k < key y) (some_eq m a (sym e ∙ (ap (slice_get xs) (sym same) ∙ f))) great
+  at_mid i a f same = subst (λ y. k < key y) (some_same m a (sym e ∙ (ap (slice_get xs) (sym same) ∙ f))) great
 
   after : (i : ℕ) (a : A) → slice_get xs i ≡ Some a → mid ≤ i → k < key a
   after i a f g = elim (nat_lt mid i) as (λ b. nat_lt mid i ≡ b → k < key a) [ true ↦ λ t. above (grind (arith, nat_tests)) | false ↦ λ t. at_mid i a f (grind (arith, nat_tests)) ] refl where
@@ -70,32 +57,32 @@ goes_down {A = A} key k xs low high mid m r w e more less great = record {
 
 pub row_at : {A : Type 0} (key : A → ℕ) (k : ℕ) (xs : List A) (i : ℕ) (a : A) → Rising key xs → slice_get xs i ≡ Some a → key a ≡ k → row key k xs ≡ Some a
 row_at key k [] i a r e same = none_some a e
-row_at key k (x ∷ xs) zero a r e same = rw (same_yes (key x) k (ap key (some_eq x a e) ∙ same), row) e
+row_at key k (x ∷ xs) zero a r e same = rw (same_test (key x) k (ap key (some_same x a e) ∙ same), row) e
 row_at key k (x ∷ xs) (suc i) a r e same =
     let less : key x < key a = above_at key (key x) xs i a r.0 e in
-    rw (same_no (key x) k (λ f. absurd (omega arith)), row) (row_at key k xs i a r.1 e same)
+    rw (differ_test (key x) k (λ f. absurd (omega arith)), row) (row_at key k xs i a r.1 e same)
 
 pub row_none : {A : Type 0} (key : A → ℕ) (k : ℕ) (xs : List A) → ((i : ℕ) (a : A) → slice_get xs i ≡ Some a → key a ≢ k) → row key k xs ≡ None
 row_none key k [] h = refl
-row_none key k (x ∷ xs) h = rw (same_no (key x) k (h 0 x refl), row) (row_none key k xs (λ i a e. h (suc i) a e))
+row_none key k (x ∷ xs) h = rw (differ_test (key x) k (h 0 x refl), row) (row_none key k xs (λ i a e. h (suc i) a e))
 
 pub put_over : {A : Type 0} (key : A → ℕ) (x : A) (xs : List A) (i : ℕ) (a : A) → Rising key xs → slice_get xs i ≡ Some a → key a ≡ key x → with_row key x xs ≡ set xs i x
 put_over key x [] i a r e same = none_some a e
 put_over key x (y ∷ ys) zero a r e same =
-    let here : key y ≡ key x = ap key (some_eq y a e) ∙ same in
-    rw (less_no (key y) (key x) (omega arith), same_yes (key y) (key x) here, with_row) refl
+    let here : key y ≡ key x = ap key (some_same y a e) ∙ same in
+    rw (not_less_test (key y) (key x) (omega arith), same_test (key y) (key x) here, with_row) refl
 put_over key x (y ∷ ys) (suc i) a r e same =
     let less : key y < key a = above_at key (key y) ys i a r.0 e in
-    rw (less_yes (key y) (key x) (omega arith), with_row) (ap (λ zs. y ∷ zs) (put_over key x ys i a r.1 e same))
+    rw (less_test (key y) (key x) (omega arith), with_row) (ap (λ zs. y ∷ zs) (put_over key x ys i a r.1 e same))
 
 pub put_between : {A : Type 0} (key : A → ℕ) (x : A) (xs : List A) (i : ℕ) → i ≤ length xs → ((j : ℕ) (a : A) → slice_get xs j ≡ Some a → j < i → key a < key x) → ((j : ℕ) (a : A) → slice_get xs j ≡ Some a → i ≤ j → key x < key a) → with_row key x xs ≡ insert xs i x
 put_between key x [] zero l h g = refl
 put_between key x [] (suc i) l h g = absurd (omega arith)
 put_between key x (y ∷ ys) zero l h g =
     let less : key x < key y = g 0 y refl (omega arith) in
-    rw (less_no (key y) (key x) (omega arith), same_no (key y) (key x) (λ e. absurd (omega arith)), with_row) refl
+    rw (not_less_test (key y) (key x) (omega arith), differ_test (key y) (key x) (λ e. absurd (omega arith)), with_row) refl
 put_between key x (y ∷ ys) (suc i) l h g =
-    rw (less_yes (key y) (key x) (h 0 y refl (omega arith)), with_row) (ap (λ zs. y ∷ zs) (put_between key x ys i (omega arith) (λ j a e m. h (suc j) a e (omega arith)) (λ j a e m. g (suc j) a e (omega arith))))
+    rw (less_test (key y) (key x) (h 0 y refl (omega arith)), with_row) (ap (λ zs. y ∷ zs) (put_between key x ys i (omega arith) (λ j a e m. h (suc j) a e (omega arith)) (λ j a e m. g (suc j) a e (omega arith))))
 
 -- ---- a table stays in order ----
 
@@ -173,14 +160,14 @@ rising_along {A = A} key xs ys e r = subst (λ (zs : List A). Rising key zs) e r
 
 pub without_at : {A : Type 0} (key : A → ℕ) (k : ℕ) (xs : List A) (i : ℕ) (a : A) → Rising key xs → slice_get xs i ≡ Some a → key a ≡ k → without_row key k xs ≡ remove xs i
 without_at key k [] i a r e same = none_some a e
-without_at key k (x ∷ xs) zero a r e same = rw (same_yes (key x) k (ap key (some_eq x a e) ∙ same), without_row) refl
+without_at key k (x ∷ xs) zero a r e same = rw (same_test (key x) k (ap key (some_same x a e) ∙ same), without_row) refl
 without_at key k (x ∷ xs) (suc i) a r e same =
     let less : key x < key a = above_at key (key x) xs i a r.0 e in
-    rw (same_no (key x) k (λ f. absurd (omega arith)), without_row) (ap (λ zs. x ∷ zs) (without_at key k xs i a r.1 e same))
+    rw (differ_test (key x) k (λ f. absurd (omega arith)), without_row) (ap (λ zs. x ∷ zs) (without_at key k xs i a r.1 e same))
 
 pub without_none : {A : Type 0} (key : A → ℕ) (k : ℕ) (xs : List A) → ((i : ℕ) (a : A) → slice_get xs i ≡ Some a → key a ≢ k) → without_row key k xs ≡ xs
 without_none key k [] h = refl
-without_none key k (x ∷ xs) h = rw (same_no (key x) k (h 0 x refl), without_row) (ap (λ zs. x ∷ zs) (without_none key k xs (λ i a e. h (suc i) a e)))
+without_none key k (x ∷ xs) h = rw (differ_test (key x) k (h 0 x refl), without_row) (ap (λ zs. x ∷ zs) (without_none key k xs (λ i a e. h (suc i) a e)))
 
 above_without : {A : Type 0} (key : A → ℕ) (m k : ℕ) (xs : List A) → Above key m xs → Above key m (without_row key k xs)
 above_without key m k [] h = tt
@@ -209,16 +196,16 @@ gap_without {A = A} key k xs low high w l = without_none key k xs (no_row_of key
 pub scan_row : {A : Type 0} (key : A → ℕ) (k : ℕ) (xs : List A) (i here : ℕ) (d : A) → BelowTo key k i xs → i < length xs → here ≡ key (get_or xs i d) → here < k → BelowTo key k (i + 1) xs
 scan_row {A = A} key k xs i here d w l e less j a f g = elim (nat_lt j i) as (λ b. nat_lt j i ≡ b → key a < k) [
   | true ↦ λ t. w j a f (grind (arith, nat_tests))
-  | false ↦ λ t. (let same : j ≡ i = (grind (arith, nat_tests)) in subst (λ y. key y < k) (some_eq (get_or xs i d) a (sym (get_some xs i d l) ∙ (ap (slice_get xs) (sym same) ∙ f))) (subst (λ n. n < k) e less))
+  | false ↦ λ t. (let same : j ≡ i = (grind (arith, nat_tests)) in subst (λ y. key y < k) (some_same (get_or xs i d) a (sym (get_some xs i d l) ∙ (ap (slice_get xs) (sym same) ∙ f))) (subst (λ n. n < k) e less))
 ] refl
 
 put_scanned : {A : Type 0} (key : A → ℕ) (x : A) (xs : List A) (i : ℕ) (a : A) → BelowTo key (key x) i xs → slice_get xs i ≡ Some a → key a ≡ key x → with_row key x xs ≡ set xs i x
 put_scanned key x [] i a w e same = none_some a e
 put_scanned key x (y ∷ ys) zero a w e same =
-    let here : key y ≡ key x = ap key (some_eq y a e) ∙ same in
-    rw (less_no (key y) (key x) (omega arith), same_yes (key y) (key x) here, with_row) refl
+    let here : key y ≡ key x = ap key (some_same y a e) ∙ same in
+    rw (not_less_test (key y) (key x) (omega arith), same_test (key y) (key x) here, with_row) refl
 put_scanned key x (y ∷ ys) (suc i) a w e same =
-    rw (less_yes (key y) (key x) (w 0 y refl (omega arith)), with_row) (ap (λ zs. y ∷ zs) (put_scanned key x ys i a (λ j b f l. w (suc j) b f (omega arith)) e same))
+    rw (less_test (key y) (key x) (w 0 y refl (omega arith)), with_row) (ap (λ zs. y ∷ zs) (put_scanned key x ys i a (λ j b f l. w (suc j) b f (omega arith)) e same))
 
 pub scanned_put : {A : Type 0} (key : A → ℕ) (k : ℕ) (xs : List A) (i here : ℕ) (d x : A) → BelowTo key k i xs → i < length xs → here ≡ key (get_or xs i d) → here ≡ k → key x ≡ k → with_row key x xs ≡ set xs i x
 scanned_put {A = A} key k xs i here d x w l e same f = put_scanned key x xs i (get_or xs i d) (subst (λ n. BelowTo key n i xs) (sym f) w) (get_some xs i d l) (sym e ∙ (same ∙ sym f))
@@ -228,14 +215,14 @@ put_before_next key x [] zero l w g = refl
 put_before_next key x [] (suc i) l w g = absurd (omega arith)
 put_before_next key x (y ∷ ys) zero l w g =
     let less : key x < key y = g y refl in
-    rw (less_no (key y) (key x) (omega arith), same_no (key y) (key x) (λ e. absurd (omega arith)), with_row) refl
+    rw (not_less_test (key y) (key x) (omega arith), differ_test (key y) (key x) (λ e. absurd (omega arith)), with_row) refl
 put_before_next key x (y ∷ ys) (suc i) l w g =
-    rw (less_yes (key y) (key x) (w 0 y refl (omega arith)), with_row) (ap (λ zs. y ∷ zs) (put_before_next key x ys i (omega arith) (λ j b f m. w (suc j) b f (omega arith)) g))
+    rw (less_test (key y) (key x) (w 0 y refl (omega arith)), with_row) (ap (λ zs. y ∷ zs) (put_before_next key x ys i (omega arith) (λ j b f m. w (suc j) b f (omega arith)) g))
 
 pub scanned_between : {A : Type 0} (key : A → ℕ) (k : ℕ) (xs : List A) (i here : ℕ) (d x : A) → BelowTo key k i xs → i < length xs → here ≡ key (get_or xs i d) → k < here → key x ≡ k → with_row key x xs ≡ insert xs i x
 scanned_between {A = A} key k xs i here d x w l e less f = put_before_next key x xs i (omega arith) (subst (λ n. BelowTo key n i xs) (sym f) w) next where
   next : (a : A) → slice_get xs i ≡ Some a → key x < key a
-  next a h = subst (λ y. key x < key y) (some_eq (get_or xs i d) a (sym (get_some xs i d l) ∙ h)) (subst (λ n. n < key (get_or xs i d)) (sym f) (subst (λ n. k < n) e less))
+  next a h = subst (λ y. key x < key y) (some_same (get_or xs i d) a (sym (get_some xs i d l) ∙ h)) (subst (λ n. n < key (get_or xs i d)) (sym f) (subst (λ n. k < n) e less))
 
 pub scanned_all : {A : Type 0} (key : A → ℕ) (k : ℕ) (xs : List A) (i : ℕ) (x : A) → BelowTo key k i xs → i ≡ length xs → key x ≡ k → with_row key x xs ≡ insert xs (length xs) x
 scanned_all {A = A} key k xs i x w all f = subst (λ n. with_row key x xs ≡ insert xs n x) all (put_before_next key x xs i (omega arith) (subst (λ n. BelowTo key n i xs) (sym f) w) (λ a e. past xs i a all e)) where

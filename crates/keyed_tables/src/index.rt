@@ -7,7 +7,7 @@ use std::alloc::Global;
 use std::marker::Model;
 
 /// The place of a key.
-#[derive(Clone, Copy, Debug, PartialEq, Eq)]
+#[derive(Clone, Copy, PartialEq, Eq)]
 pub struct Slot {
     pub key: u64,
     pub place: usize,
@@ -24,7 +24,7 @@ impl Keyed for Slot {
 }
 
 /// Keys in the order in which they came, of which each is found by halving: the index of a table that a role keeps.
-#[derive(Debug, Drop)]
+#[derive(Drop)]
 pub struct KeyIndex {
     keys: Vec<u64>,
     slots: SortedTable<Slot>,

@@ -8,6 +8,7 @@ ghost use Rattle.role_steps.specs.Pulling.{pull_key};
 ghost use Rattle.role_steps.specs.Epochs.{promise_site};
 ghost use Rattle.role_steps.specs.Requests.{waiting_of, waiting_key, instance_serial, fd_key, descriptor_key};
 
+use locus_ids::sizes::{DESCRIPTOR_SPAN, INODE_SPAN};
 use locus_ids::{FileId, Serial, SiteId, Stamp};
 use role_steps::{
     DescriptorRow, FileCopy, FileRow, Holding, Instance, LastLook, OpenRow, Promise, Pull,
@@ -27,7 +28,7 @@ pub trait Keyed {
 pub fn file_key(file: FileId) -> u64
     ensures { result ≡ file_key file }
 {
-    u64::from(file.group) * 65_536 + u64::from(file.ino)
+    u64::from(file.group) * INODE_SPAN + u64::from(file.ino)
 }
 
 /// The key of a version: the site that committed it, and then its number there.
@@ -55,7 +56,7 @@ pub fn process_key(site: SiteId, process: u8) -> u64
 pub fn descriptor_key(process: u8, fd: u16) -> u64
     ensures { result ≡ fd_key process fd }
 {
-    u64::from(process) * 65_536 + u64::from(fd)
+    u64::from(process) * DESCRIPTOR_SPAN + u64::from(fd)
 }
 
 /// The key of a call that waits: mends come first, by group, and then calls by process.

@@ -5,14 +5,12 @@
 
 mod index;
 mod keys;
-mod latest;
 mod rows;
 mod short;
 mod sorted;
 
 pub use index::KeyIndex;
 pub use keys::{Keyed, descriptor_key, file_key, process_key, serial_key, stamp_key, waiting_key};
-pub use latest::LatestTable;
 pub use rows::{find, place_in, put};
 pub use short::{find_first, put_first};
 pub use sorted::SortedTable;

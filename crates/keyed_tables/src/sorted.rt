@@ -10,7 +10,7 @@ use std::alloc::Global;
 use std::marker::Model;
 
 /// Rows in ascending order of their keys, one for each key. A row is found by halving, and a new one moves those above it.
-#[derive(Debug, Drop)]
+#[derive(Drop)]
 pub struct SortedTable<T: Keyed> {
     rows: Vec<T>,
 }

@@ -7,8 +7,8 @@ use Rattle.std.proofs.lemmas.Bool.{leb-true, and_parts}
 use Rattle.std.proofs.lemmas.List.{get_or_append_left, take-append-le, drop-append-le, length-drop}
 use Rattle.locus_ids.specs.declared.config.Config.{Config}
 use Rattle.locus_ids.specs.declared.ids.EpochId.{EpochId}
-use Rattle.commit_graph.specs.Vectors.{numbers_from}
-use Rattle.trace_book.specs.declared.book.Entry.{Entry}
+use Rattle.call_rules.specs.of_commit_graph.Vectors.{numbers_from}
+use Rattle.trace_book.specs.declared.entry.Entry.{Entry}
 use Rattle.schedule_lines.specs.declared.line.ScheduleLine.{ScheduleLine}
 use Rattle.schedule_lines.specs.declared.line.ScheduleLine.TheVariants.{Passed}
 use Rattle.tree_model.specs.Folds.{Trace, before_line, last_line}

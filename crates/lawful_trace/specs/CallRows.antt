@@ -8,8 +8,8 @@ use Rattle.locus_ids.specs.declared.ids.CallId.{CallId}
 use Rattle.locus_ids.specs.declared.ids.Kind.TheVariants.{Dir}
 use Rattle.locus_ids.specs.declared.refusal.Refusal.{Refusal}
 use Rattle.locus_ids.specs.declared.refusal.Refusal.TheVariants.{TooLong, NoSpace, Spent}
-use Rattle.commit_graph.specs.declared.history.Version.{Version}
-use Rattle.commit_graph.specs.Versions.{same_file}
+use Rattle.call_rules.specs.of_commit_graph.declared.history.Version.{Version}
+use Rattle.call_rules.specs.of_commit_graph.Versions.{same_file}
 use Rattle.trace_book.specs.Same.{same_call}
 use Rattle.trace_book.specs.Text.{reply_text}
 use Rattle.trace_book.specs.declared.record.Record.{Record}

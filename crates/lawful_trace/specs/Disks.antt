@@ -1,20 +1,23 @@
 -- The disk of a site, by the lines that arm it and the records so far: how many calls were made since, which gates a stop
 -- has left open two and two, and so which disk call stops the site. A call is a write or a sync.
-use Rattle.std.specs.Prelude.{ℕ, zero, suc, ◌+◌, ◌-◌, ◌*◌, ◌==◌, Bool, true, false, not, ◌&&◌, ◌||◌, cond, List, [], ◌∷◌, length, take, drop, fold, Option, None, Some, nat_le}
+use Rattle.std.specs.Prelude.{ℕ, ◌+◌, ◌-◌, ◌*◌, ◌==◌, Bool, true, false, not, ◌&&◌, ◌||◌, cond, List, [], ◌∷◌, length, take, drop, fold, Option, None, Some, nat_le}
 use Rattle.std.specs.Option.{is_some}
 use Rattle.locus_ids.specs.declared.config.Config.{Config}
 use Rattle.locus_ids.specs.declared.ids.FileId.{FileId}
 use Rattle.locus_ids.specs.declared.ids.Stamp.{Stamp}
-use Rattle.commit_graph.specs.Versions.{content_of}
+use Rattle.call_rules.specs.of_commit_graph.Versions.{content_of}
 use Rattle.trace_book.specs.declared.record.Record.{Record}
 use Rattle.trace_book.specs.declared.record.Record.TheVariants.{Up, Stopped, Commit, Adopt}
 use Rattle.trace_book.specs.declared.record.StopCause.TheVariants as cause
 use Rattle.schedule_lines.specs.declared.line.Leave.{Leave}
-use Rattle.schedule_lines.specs.declared.line.Leave.TheVariants as leave
 use Rattle.schedule_lines.specs.declared.line.ScheduleLine.{ScheduleLine}
 use Rattle.schedule_lines.specs.declared.line.ScheduleLine.TheVariants.{Event}
 use Rattle.schedule_lines.specs.declared.line.Line.TheVariants as line
-use Rattle.file_content.specs.Pages.{pages_of}
+use Rattle.disk_calls.specs.of_file_content.Pages.{pages_of, pages_from, ascending}
+pub use Rattle.disk_calls.specs.Versions.{Writing, calls_of_writing}
+use Rattle.disk_calls.specs.Gates.{Cut, Stops as Stopping, Fails as Failing}
+use Rattle.disk_calls.specs.Versions.{writing, are_left_open}
+use Rattle.disk_calls.specs.Boots.{calls_of_boot, are_halves_open, are_slots_open}
 use Rattle.tree_model.specs.declared.instance.Instance.{Instance}
 use Rattle.tree_model.specs.Folds.{Trace, over, last_line}
 use Rattle.tree_model.specs.Epochs.{is_up}
@@ -65,55 +68,16 @@ armed_by site _ d = d
 abbrev pub through_lines : List ScheduleLine → ℕ → ℕ → ℕ → Disk → Disk
 through_lines lines site first last d = fold (λ old l. armed_by site l old) d (take (last - first) (drop first lines))
 
--- Gates. An open gate is the byte 165.
-
--- whether a gate is open where a call that was to change it was cut: its write, or the sync behind that. A stop leaves
--- unsynced bytes as told; a write that fails writes nothing, and what was written before it is there.
-abbrev pub is_left_open : Arming → Bool → Bool → Bool → Bool
-is_left_open (Stops calls leave.Old) synced was becomes = was
-is_left_open (Stops calls leave.New) synced was becomes = becomes
-is_left_open (Stops calls (leave.Byte b)) synced was becomes = b == 165
-is_left_open (Fails calls) synced was becomes = cond synced becomes was
-
--- a switch from an old gate to a new one was cut: which of them are open
-pub record Gates : Type 0 where
-  pub new : Bool
-  pub old : Bool
-
--- by the call that was cut, counted from the write of the new gate as 1: that write and its sync open the new one, the
--- two calls after them close the old one; before, nothing is switched, and after, all is
-abbrev pub gates_cut_in : Arming → ℕ → Gates
-gates_cut_in a zero = record { new = false; old = true }
-gates_cut_in a (suc zero) = record { new = is_left_open a false false true; old = true }
-gates_cut_in a (suc (suc zero)) = record { new = is_left_open a true false true; old = true }
-gates_cut_in a (suc (suc (suc zero))) = record { new = true; old = is_left_open a false true false }
-gates_cut_in a (suc (suc (suc (suc zero)))) = record { new = true; old = is_left_open a true true false }
-gates_cut_in a (suc (suc (suc (suc (suc n))))) = record { new = true; old = false }
-
-abbrev pub are_both_open : Gates → Bool
-are_both_open g = g.new && g.old
-
--- a losing gate was to be closed, by a write and a sync, and the call of this number was cut: it is still open
-abbrev pub is_loser_open : Arming → ℕ → Bool
-is_loser_open a zero = true
-is_loser_open a (suc zero) = is_left_open a false true false
-is_loser_open a (suc (suc zero)) = is_left_open a true true false
-is_loser_open a (suc (suc (suc n))) = false
+-- how the call after the last that passes is cut off
+abbrev pub cut_of : Arming → Cut
+cut_of (Stops calls leave) = Stopping leave
+cut_of (Fails calls) = Failing
 
 -- Versions on the disk.
 
--- The calls by which a version is written: one for each page, one for the slot, a sync, one for its gate, a sync; and
--- where an older slot was open, one for its gate and a sync.
-pub record Writing : Type 0 where
-  pub pages : ℕ
-  pub older : Bool
-
-abbrev pub calls_of_writing : Writing → ℕ
-calls_of_writing w = w.pages + cond w.older 6 4
-
 -- once a version is on the disk where the disk let so many calls pass: both slots are open where the old gate wasn't closed
 abbrev pub slots_after : Arming → Writing → ℕ → Bool
-slots_after a w left = w.older && are_both_open (gates_cut_in a (left + 1 - (w.pages + 2)))
+slots_after a w left = are_left_open w (cut_of a) left
 
 abbrev pub written_with : Writing → Disk → Option Armed → Disk
 written_with w d None = d
@@ -126,41 +90,36 @@ written_with w d (Some a) = record d {
 abbrev pub written : Writing → Disk → Disk
 written w d = written_with w d d.armed
 
-abbrev pub pages_changed : Option Instance → ℕ
-pages_changed None = 0
-pages_changed (Some x) = length x.work.changed
+-- how many pages the version has that a site holds, 0 where it holds none
+abbrev pub pages_held : Config → Trace → FileId → Option Stamp → ℕ
+pages_held c before f None = 0
+pages_held c before f (Some stamp) = pages_of (length (content_of (history c before) f stamp))
+
+-- a version over the one that the site holds, if it holds one
+abbrev pub writing_at : Config → Trace → FileId → ℕ → (now : ℕ) → List ℕ → Writing
+writing_at c before f site now pages = writing (is_some (held c before site f)) (pages_held c before f (held c before site f)) now pages
+
+abbrev pub pages_now : Option Instance → ℕ
+pages_now None = 0
+pages_now (Some x) = pages_of (length x.work.content)
+
+abbrev pub pages_changed : Option Instance → List ℕ
+pages_changed None = []
+pages_changed (Some x) = ascending x.work.changed
 
 -- a commit writes the pages that its instance has changed
 abbrev pub writing_commit : Config → Trace → FileId → ℕ → Writing
-writing_commit c before f site = record {
-  pages = pages_changed (committing c before f site);
-  older = is_some (held c before site f);
-}
+writing_commit c before f site = writing_at c before f site (pages_now (committing c before f site)) (pages_changed (committing c before f site))
 
 -- an adoption writes all pages of the version
 abbrev pub writing_adoption : Config → Trace → FileId → ℕ → Stamp → Writing
-writing_adoption c before f site stamp = record {
-  pages = pages_of (length (content_of (history c before) f stamp));
-  older = is_some (held c before site f);
-}
+writing_adoption c before f site stamp = writing_at c before f site (pages_held c before f (Some stamp)) (pages_from 0 (pages_held c before f (Some stamp)))
 
 -- Boots.
 
--- a boot closes the losing half of the label where both are open, switches the label in six calls, and closes the losing
--- slot where both of a file are open
-abbrev pub calls_of_label : Disk → ℕ
-calls_of_label d = cond d.halves 8 6
-
-abbrev pub calls_of_boot : Disk → ℕ
-calls_of_boot d = calls_of_label d + cond d.slots 2 0
-
 abbrev pub booted_with : Disk → Option Armed → Disk
 booted_with d None = record { armed = None; halves = false; slots = false }
-booted_with d (Some a) = record { armed = Some (record a { used = a.used + calls_of_boot d }); halves = false; slots = false }
-
--- the halves of the label are both open where the boot was cut in the call of this number
-abbrev pub halves_cut_in : Arming → Disk → ℕ → Bool
-halves_cut_in a d call = cond (d.halves && nat_le call 2) (is_loser_open a call) (are_both_open (gates_cut_in a (call - cond d.halves 4 2)))
+booted_with d (Some a) = record { armed = Some (record a { used = a.used + calls_of_boot d.halves d.slots }); halves = false; slots = false }
 
 -- a stopped site that stops was cut in its boot; any other stop changes no gate that an earlier record doesn't tell
 abbrev pub stopped_with : Bool → Disk → Option Armed → Disk
@@ -168,8 +127,8 @@ stopped_with up d None = record d { armed = None }
 stopped_with true d (Some a) = record d { armed = None }
 stopped_with false d (Some a) = record {
   armed = None;
-  halves = halves_cut_in a.arming d (calls_of a.arming - a.used + 1);
-  slots = d.slots && is_loser_open a.arming (calls_of a.arming - a.used + 1 - calls_of_label d);
+  halves = are_halves_open d.halves (cut_of a.arming) (calls_of a.arming - a.used);
+  slots = are_slots_open d.halves d.slots (cut_of a.arming) (calls_of a.arming - a.used);
 }
 
 -- The fold.

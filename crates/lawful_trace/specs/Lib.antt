@@ -9,13 +9,7 @@ pub mod LineRows
 pub mod Lawful
 pub mod Growth
 pub mod Calm
-pub mod Packets
 pub mod Orderly
 pub mod Prompt
 pub mod Keeps
 pub mod Samples
-pub mod FirstRun
-pub mod PartedRun
-pub mod FlaggedRun
-pub mod StoppedRun
-pub mod Wrong

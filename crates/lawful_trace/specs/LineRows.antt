@@ -2,8 +2,8 @@
 use Rattle.std.specs.Prelude.{ℕ, ◌≡◌, ◌==◌, Bool, true, false, not, ◌&&◌, ◌||◌, List, length, filter, Option, None, Some, nat_le}
 use Rattle.std.specs.Option.{is_none, is_some}
 use Rattle.std.specs.List.{list_all}
-use Rattle.commit_graph.specs.Vectors.{numbers_from}
-use Rattle.trace_book.specs.declared.book.Entry.{Entry}
+use Rattle.call_rules.specs.of_commit_graph.Vectors.{numbers_from}
+use Rattle.trace_book.specs.declared.entry.Entry.{Entry}
 use Rattle.trace_book.specs.declared.record.Record.{Record}
 use Rattle.trace_book.specs.declared.record.Record.TheVariants.{Up, Stopped, Leave, Accept, Void}
 use Rattle.trace_book.specs.declared.call.Call.{Call}

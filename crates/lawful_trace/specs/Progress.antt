@@ -11,7 +11,7 @@ use Rattle.locus_ids.specs.declared.ids.Serial.{Serial}
 use Rattle.locus_ids.specs.declared.ids.Mode.{Mode}
 use Rattle.locus_ids.specs.declared.ids.Mode.TheVariants as mode
 use Rattle.locus_ids.specs.declared.refusal.Refusal.TheVariants.{Absent, Ambiguous, Spent, Changed}
-use Rattle.commit_graph.specs.Versions.{content_of}
+use Rattle.call_rules.specs.of_commit_graph.Versions.{content_of}
 use Rattle.trace_book.specs.Same.{same_call}
 use Rattle.trace_book.specs.declared.record.Record.{Record}
 use Rattle.trace_book.specs.declared.record.Record.TheVariants.{Look, Grant, Refuse, Act, Release}
@@ -29,10 +29,10 @@ use Rattle.call_rules.specs.declared.answer.Answer.TheVariants.{Entered, Showed,
 use Rattle.call_rules.specs.declared.want.Want.{Want}
 use Rattle.call_rules.specs.declared.want.Want.TheVariants.{Give, Never}
 use Rattle.call_rules.specs.Scripts.{wants}
-use Rattle.dir_format.specs.declared.looking.LookResult.{LookResult}
-use Rattle.dir_format.specs.declared.looking.LookResult.TheVariants as looked
-use Rattle.dir_format.specs.Contents.{entries_of}
-use Rattle.dir_format.specs.Lookups.{lookup, shown_names}
+use Rattle.tree_model.specs.of_dir_format.declared.looking.LookResult.{LookResult}
+use Rattle.tree_model.specs.of_dir_format.declared.looking.LookResult.TheVariants as looked
+use Rattle.tree_model.specs.of_dir_format.Contents.{entries_of}
+use Rattle.tree_model.specs.of_dir_format.Lookups.{lookup, shown_names}
 use Rattle.tree_model.specs.declared.instance.Instance.{Instance}
 use Rattle.tree_model.specs.declared.accepted.Waiting.{Waiting}
 use Rattle.tree_model.specs.Files.{kind_of_file}

@@ -4,7 +4,7 @@ use Rattle.std.specs.Option.{is_some}
 use Rattle.locus_ids.specs.declared.config.Config.{Config}
 use Rattle.locus_ids.specs.declared.ids.CallId.{CallId}
 use Rattle.trace_book.specs.Same.{same_call}
-use Rattle.trace_book.specs.declared.book.Entry.{Entry}
+use Rattle.trace_book.specs.declared.entry.Entry.{Entry}
 use Rattle.trace_book.specs.declared.record.Record.{Record}
 use Rattle.trace_book.specs.declared.record.Record.TheVariants.{Up, Stopped, Join, Start, Accept, Look, Grant, Refuse, Act, Commit, Release, Adopt, Answer, Void}
 use Rattle.trace_book.specs.declared.call.Call.{Call}

@@ -5,7 +5,7 @@ use Rattle.std.specs.List.{list_any}
 use Rattle.locus_ids.specs.declared.sites.Members.{Members}
 use Rattle.locus_ids.specs.declared.ids.EpochId.{EpochId}
 use Rattle.locus_ids.specs.declared.config.Config.{Config}
-use Rattle.commit_graph.specs.Vectors.{numbers_from}
+use Rattle.call_rules.specs.of_commit_graph.Vectors.{numbers_from}
 use Rattle.trace_book.specs.declared.record.StopCause.{StopCause}
 use Rattle.trace_book.specs.declared.record.StopCause.TheVariants as cause
 use Rattle.schedule_lines.specs.declared.line.ScheduleLine.{ScheduleLine}

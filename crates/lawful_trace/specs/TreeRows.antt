@@ -13,10 +13,10 @@ use Rattle.locus_ids.specs.declared.ids.Mode.{Mode}
 use Rattle.locus_ids.specs.declared.ids.Mode.TheVariants as mode
 use Rattle.locus_ids.specs.declared.ids.Brought.{Brought}
 use Rattle.locus_ids.specs.declared.refusal.Refusal.{Refusal}
-use Rattle.commit_graph.specs.declared.history.Version.{Version}
-use Rattle.commit_graph.specs.Versions.{same_file, is_proper_ancestor}
-use Rattle.commit_graph.specs.Counters.{next_number}
-use Rattle.commit_graph.specs.Grants.{is_read}
+use Rattle.call_rules.specs.of_commit_graph.declared.history.Version.{Version}
+use Rattle.call_rules.specs.of_commit_graph.Versions.{same_file, is_proper_ancestor}
+use Rattle.call_rules.specs.of_commit_graph.Counters.{next_number}
+use Rattle.call_rules.specs.of_commit_graph.Grants.{is_read}
 use Rattle.trace_book.specs.Same.{same_epoch, same_serial}
 use Rattle.trace_book.specs.declared.record.Record.{Record}
 use Rattle.trace_book.specs.declared.record.Record.TheVariants.{Grant}

@@ -5,7 +5,4 @@
 
 mod laws;
 
-pub use laws::{
-    broken_traces_are_inconsistent, lawful_traces_are_consistent, lawful_traces_grow,
-    right_traces_are_lawful, right_traces_are_prompt, wrong_traces_are_unlawful,
-};
+pub use laws::{lawful_traces_are_consistent, lawful_traces_grow};

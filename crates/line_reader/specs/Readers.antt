@@ -4,6 +4,10 @@ use Rattle.std.specs.declared.option.Option.{Option}
 use Rattle.std.specs.Io.KnownBytes.{Keeps}
 use Rattle.line_reader.specs.Reading.{to_read, Between}
 
+-- at least so many bytes are asked of a source at once
+abbrev pub block_bytes : ℕ
+block_bytes = 65536
+
 -- a reader: the bytes taken ahead of the lines, the line handed out last, how many lines it has read, how long one may be, and
 -- whether it has seen the end of its source, which it then asks no more
 pub record Reader : Type 0 where

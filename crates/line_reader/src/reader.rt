@@ -33,7 +33,7 @@ pub struct LineReader {
 impl Model for LineReader {
     ghost use Rattle.std.specs.Prelude.{◌≡◌, ℕ, ◌+◌, ◌≤◌, vec_len};
     ghost use Rattle.std.specs.List.{slice_range};
-    ghost use Rattle.line_reader.specs.Readers.{Reader};
+    ghost use Rattle.line_reader.specs.Readers.{Reader, block_bytes};
 
     ghost Value = { Reader };
 
@@ -47,11 +47,11 @@ impl Model for LineReader {
 
     ghost invariant = { λ r.
         (r.from ≤ r.to) × (r.to ≤ vec_len r.block) × (r.line_from ≤ r.line_to) × (r.line_to ≤ vec_len r.block)
-        × (vec_len r.block ≡ r.limit + 65536) × (r.number ≤ 1000000) };
+        × (vec_len r.block ≡ r.limit + block_bytes) × (r.number ≤ 1000000) };
 }
 
 /// What a call of `next` came to.
-#[derive(Clone, Copy, Debug, PartialEq, Eq)]
+#[derive(Clone, Copy, PartialEq, Eq)]
 pub enum Next {
     /// A line was read. Its bytes are the reader's.
     Line,

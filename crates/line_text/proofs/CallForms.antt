@@ -1,5 +1,5 @@
 -- Each form of a call: what is read is spelled so, and what is spelled so is read.
-use Rattle.std.proofs.Common.{◌≡◌, ℕ, zero, suc, ◌<◌, ◌≤◌, ◌^◌, Bool, true, false, cond, List, [], ◌∷◌, ◌++◌, codes, length, Option, Some, None, refl, sym, ap, subst, ◌∙◌, arith, append_assoc, lit<}
+use Rattle.std.proofs.Common.{◌≡◌, ℕ, zero, suc, ◌<◌, ◌≤◌, ◌^◌, Bool, true, false, cond, List, [], ◌∷◌, ◌++◌, codes, length, Option, Some, None, refl, sym, ap, subst, ◌∙◌, arith, append_assoc, lit<, ◌-◌}
 use Rattle.std.specs.Prelude.{◌&&◌, min, nat_le, nat_lt}
 use Rattle.std.specs.Fmt.{decimal}
 use Rattle.std.specs.List.{list_all}
@@ -8,6 +8,7 @@ use Rattle.std.specs.Str.{bytes_eq}
 use Rattle.std.proofs.lemmas.Bool.{and_parts, le-leb, false≢true}
 use Rattle.std.proofs.lemmas.Option.{cond_some, none-some, option_and_then_some, same_Some}
 use Rattle.std.proofs.lemmas.Slice.Eq.{bytes_eq-Decides}
+use Rattle.locus_ids.specs.Sizes.{sites_max, file_bytes_max, descriptor_span}
 use Rattle.trace_book.specs.Text.{call_words, gap, hex_text, opening_text, sites_text}
 use Rattle.trace_book.specs.declared.call.Call.{Call}
 use Rattle.trace_book.specs.declared.call.Call.TheVariants as call
@@ -60,9 +61,6 @@ three_sound bytes p h =
 pub word_sound : (w v : List ℕ) → word_in w ≡ Some v → (w ≡ v) × (is_word v ≡ true)
 word_sound w v h = let p = cond_some (is_word w) w v h in (p.1, ap is_word (sym p.1) ∙ p.0)
 
-pub word_complete : (w : List ℕ) → is_word w ≡ true → word_in w ≡ Some w
-word_complete w h = rw h refl
-
 bytes_lack : (w : List ℕ) → list_all is_word_byte w ≡ true → Lacks 32 w
 bytes_lack [] h k lt e = omega arith
 bytes_lack (c ∷ cs) h zero lt e =
@@ -102,10 +100,10 @@ pub upto_lacks : (most n : ℕ) → most < 2 ^ 32 → nat_le n most ≡ true →
 upto_lacks most n small h = range_lacks 0 most n small (from_zero most n h)
 
 pub site_complete : (n site : ℕ) → is_site n site ≡ true → site_in n (decimal site) ≡ Some site
-site_complete n site h = range_complete 1 (min n 16) site (omega arith) h
+site_complete n site h = range_complete 1 (min n sites_max) site (omega arith) h
 
 pub site_lacks : (n site : ℕ) → is_site n site ≡ true → Lacks 32 (decimal site)
-site_lacks n site h = range_lacks 1 (min n 16) site (omega arith) h
+site_lacks n site h = range_lacks 1 (min n sites_max) site (omega arith) h
 
 -- ---- tests
 
@@ -187,7 +185,7 @@ resolve_sound n w None m e h = absurd (none-some m h)
 resolve_sound n w (Some p) m e h =
     cond_either (bytes_eq p.0 (codes "x")) _ _ _ h
     (λ b g. map_some (λ site. how.Resolve site) (site_in n p.1) m g (λ site f s.
-    let t = number_sound 1 (min n 16) p.1 site f in
+    let t = number_sound 1 (min n sites_max) p.1 site f in
     let x : p.0 ≡ codes "x" = (bytes_eq-Decides p.0 (codes "x")).0 b in
     subst (λ k. (w ≡ opening_text k) × (fits_mode n k ≡ true)) s (two_sound w p e ∙ ap (λ l. (l ++ gap) ++ p.1) x ∙ ap (λ l. codes "x " ++ l) t.0, t.1)))
     (λ b g. absurd (none-some m g))
@@ -213,10 +211,10 @@ read_sound : (n : ℕ) (rest : List ℕ) (c : Call) → read_call rest ≡ Some 
 read_sound n rest c h =
     option_and_then_some _ (three_words rest) c h (λ p e g.
     option_and_then_some _ (descriptor_in p.0) c g (λ fd e1 g1.
-    option_and_then_some _ (number_in 0 65536 p.1) c g1 (λ at e2 g2.
+    option_and_then_some _ (number_in 0 file_bytes_max p.1) c g1 (λ at e2 g2.
     map_some (λ len. call.Read fd at len) (number_in 0 4096 p.2) c g2 (λ len e3 s.
-    let a = number_sound 0 65535 p.0 fd e1 in
-    let b = number_sound 0 65536 p.1 at e2 in
+    let a = number_sound 0 (descriptor_span - 1) p.0 fd e1 in
+    let b = number_sound 0 file_bytes_max p.1 at e2 in
     let d = number_sound 0 4096 p.2 len e3 in
     made n (codes "read " ++ rest) (call.Read fd at len) c s (
       ap (λ l. codes "read " ++ l)
@@ -224,7 +222,7 @@ read_sound n rest c h =
           ∙ ap (λ l. (((l ++ gap) ++ p.1) ++ gap) ++ p.2) a.0
           ∙ ap (λ l. (((decimal fd ++ gap) ++ l) ++ gap) ++ p.2) b.0
           ∙ ap (λ l. (((decimal fd ++ gap) ++ decimal at) ++ gap) ++ l) d.0),
-      and_both (is_descriptor fd && nat_le at 65536) (nat_le len 4096) (and_both (is_descriptor fd) (nat_le at 65536) (to_most 65535 fd a.1) (to_most 65536 at b.1)) (to_most 4096 len d.1),
+      and_both (is_descriptor fd && nat_le at file_bytes_max) (nat_le len 4096) (and_both (is_descriptor fd) (nat_le at file_bytes_max) (to_most (descriptor_span - 1) fd a.1) (to_most file_bytes_max at b.1)) (to_most 4096 len d.1),
     )))))
 
 text_of_some : (bytes : List ℕ) → is_between 1 4096 (length bytes) ≡ true → hex_text bytes ≡ encode_lower bytes
@@ -235,10 +233,10 @@ write_sound : (n : ℕ) (rest : List ℕ) (c : Call) → write_call rest ≡ Som
 write_sound n rest c h =
     option_and_then_some _ (three_words rest) c h (λ p e g.
     option_and_then_some _ (descriptor_in p.0) c g (λ fd e1 g1.
-    option_and_then_some _ (number_in 0 65536 p.1) c g1 (λ at e2 g2.
+    option_and_then_some _ (number_in 0 file_bytes_max p.1) c g1 (λ at e2 g2.
     map_some (λ bytes. call.Write fd at bytes) (hex_in 4096 p.2) c g2 (λ bytes e3 s.
-    let a = number_sound 0 65535 p.0 fd e1 in
-    let b = number_sound 0 65536 p.1 at e2 in
+    let a = number_sound 0 (descriptor_span - 1) p.0 fd e1 in
+    let b = number_sound 0 file_bytes_max p.1 at e2 in
     let d = hex_sound 4096 p.2 bytes e3 in
     made n (codes "write " ++ rest) (call.Write fd at bytes) c s (
       ap (λ l. codes "write " ++ l)
@@ -246,18 +244,18 @@ write_sound n rest c h =
           ∙ ap (λ l. (((l ++ gap) ++ p.1) ++ gap) ++ p.2) a.0
           ∙ ap (λ l. (((decimal fd ++ gap) ++ l) ++ gap) ++ p.2) b.0
           ∙ ap (λ l. (((decimal fd ++ gap) ++ decimal at) ++ gap) ++ l) (d.0 ∙ sym (text_of_some bytes d.1))),
-      and_both (is_descriptor fd && nat_le at 65536 && is_between 1 4096 (length bytes)) (list_all is_byte bytes)
-          (and_both (is_descriptor fd && nat_le at 65536) (is_between 1 4096 (length bytes))
-          (and_both (is_descriptor fd) (nat_le at 65536) (to_most 65535 fd a.1) (to_most 65536 at b.1)) d.1) d.2,
+      and_both (is_descriptor fd && nat_le at file_bytes_max && is_between 1 4096 (length bytes)) (list_all is_byte bytes)
+          (and_both (is_descriptor fd && nat_le at file_bytes_max) (is_between 1 4096 (length bytes))
+          (and_both (is_descriptor fd) (nat_le at file_bytes_max) (to_most (descriptor_span - 1) fd a.1) (to_most file_bytes_max at b.1)) d.1) d.2,
     )))))
 
 cut_sound : (n : ℕ) (rest : List ℕ) (c : Call) → cut_call rest ≡ Some c → IsMade n (codes "cut " ++ rest) c
-cut_sound n rest c h = option_and_then_some _ (two_words rest) c h (λ p e g. option_and_then_some _ (descriptor_in p.0) c g (λ fd f k. map_some (λ len. call.Cut fd len) (number_in 0 65536 p.1) c k (λ len t s.
-    let a = number_sound 0 65535 p.0 fd f in
-    let b = number_sound 0 65536 p.1 len t in
+cut_sound n rest c h = option_and_then_some _ (two_words rest) c h (λ p e g. option_and_then_some _ (descriptor_in p.0) c g (λ fd f k. map_some (λ len. call.Cut fd len) (number_in 0 file_bytes_max p.1) c k (λ len t s.
+    let a = number_sound 0 (descriptor_span - 1) p.0 fd f in
+    let b = number_sound 0 file_bytes_max p.1 len t in
     made n (codes "cut " ++ rest) (call.Cut fd len) c s (
       ap (λ l. codes "cut " ++ l) (two_sound rest p e ∙ ap (λ l. (l ++ gap) ++ p.1) a.0 ∙ ap (λ l. (decimal fd ++ gap) ++ l) b.0),
-      and_both (is_descriptor fd) (nat_le len 65536) (to_most 65535 fd a.1) (to_most 65536 len b.1),
+      and_both (is_descriptor fd) (nat_le len file_bytes_max) (to_most (descriptor_span - 1) fd a.1) (to_most file_bytes_max len b.1),
     ))))
 
 mkdir_sound : (n : ℕ) (rest : List ℕ) (c : Call) → option_map (λ path. call.MakeDir path) (word_in rest) ≡ Some c → IsMade n (codes "mkdir " ++ rest) c
@@ -287,18 +285,18 @@ stat_sound n rest c h = map_some (λ path. call.Stat path) (word_in rest) c h (�
 
 commit_sound : (n : ℕ) (rest : List ℕ) (c : Call) → option_map (λ fd. call.Commit fd) (descriptor_in rest) ≡ Some c → IsMade n (codes "commit " ++ rest) c
 commit_sound n rest c h = map_some (λ fd. call.Commit fd) (descriptor_in rest) c h (λ fd f s.
-    let a = number_sound 0 65535 rest fd f in
-    made n (codes "commit " ++ rest) (call.Commit fd) c s (ap (λ l. codes "commit " ++ l) a.0, to_most 65535 fd a.1))
+    let a = number_sound 0 (descriptor_span - 1) rest fd f in
+    made n (codes "commit " ++ rest) (call.Commit fd) c s (ap (λ l. codes "commit " ++ l) a.0, to_most (descriptor_span - 1) fd a.1))
 
 abort_sound : (n : ℕ) (rest : List ℕ) (c : Call) → option_map (λ fd. call.Abort fd) (descriptor_in rest) ≡ Some c → IsMade n (codes "abort " ++ rest) c
 abort_sound n rest c h = map_some (λ fd. call.Abort fd) (descriptor_in rest) c h (λ fd f s.
-    let a = number_sound 0 65535 rest fd f in
-    made n (codes "abort " ++ rest) (call.Abort fd) c s (ap (λ l. codes "abort " ++ l) a.0, to_most 65535 fd a.1))
+    let a = number_sound 0 (descriptor_span - 1) rest fd f in
+    made n (codes "abort " ++ rest) (call.Abort fd) c s (ap (λ l. codes "abort " ++ l) a.0, to_most (descriptor_span - 1) fd a.1))
 
 close_sound : (n : ℕ) (rest : List ℕ) (c : Call) → option_map (λ fd. call.Close fd) (descriptor_in rest) ≡ Some c → IsMade n (codes "close " ++ rest) c
 close_sound n rest c h = map_some (λ fd. call.Close fd) (descriptor_in rest) c h (λ fd f s.
-    let a = number_sound 0 65535 rest fd f in
-    made n (codes "close " ++ rest) (call.Close fd) c s (ap (λ l. codes "close " ++ l) a.0, to_most 65535 fd a.1))
+    let a = number_sound 0 (descriptor_span - 1) rest fd f in
+    made n (codes "close " ++ rest) (call.Close fd) c s (ap (λ l. codes "close " ++ l) a.0, to_most (descriptor_span - 1) fd a.1))
 
 call_with_sound : (n : ℕ) (w : CallWord) (rest : List ℕ) (c : Call) → call_with n w rest ≡ Some c → IsMade n ((call_word_text w ++ gap) ++ rest) c
 call_with_sound n word.Create rest c h = create_sound n rest (two_words rest) c refl h
@@ -349,33 +347,33 @@ call_complete n (call.Open path mode) h =
     let w = and_parts (is_word path) (fits_mode n mode) h in
     rw (two_complete path (opening_text mode) (word_lacks path w.0), mode_complete n mode w.1, w.0) refl
 call_complete n (call.Read fd at len) h =
-    let a = and_parts (is_descriptor fd && nat_le at 65536) (nat_le len 4096) h in
-    let b = and_parts (is_descriptor fd) (nat_le at 65536) a.0 in
+    let a = and_parts (is_descriptor fd && nat_le at file_bytes_max) (nat_le len 4096) h in
+    let b = and_parts (is_descriptor fd) (nat_le at file_bytes_max) a.0 in
     rw (
-      three_complete (decimal fd) (decimal at) (decimal len) (upto_lacks 65535 fd (lit< tt) b.0) (upto_lacks 65536 at (lit< tt) b.1),
-      upto_complete 65535 fd (lit< tt) b.0,
-      upto_complete 65536 at (lit< tt) b.1,
+      three_complete (decimal fd) (decimal at) (decimal len) (upto_lacks (descriptor_span - 1) fd (lit< tt) b.0) (upto_lacks file_bytes_max at (lit< tt) b.1),
+      upto_complete (descriptor_span - 1) fd (lit< tt) b.0,
+      upto_complete file_bytes_max at (lit< tt) b.1,
       upto_complete 4096 len (lit< tt) a.1,
     ) refl
 call_complete n (call.Write fd at bytes) h =
-    let d = and_parts (is_descriptor fd && nat_le at 65536 && is_between 1 4096 (length bytes)) (list_all is_byte bytes) h in
-    let a = and_parts (is_descriptor fd && nat_le at 65536) (is_between 1 4096 (length bytes)) d.0 in
-    let b = and_parts (is_descriptor fd) (nat_le at 65536) a.0 in
+    let d = and_parts (is_descriptor fd && nat_le at file_bytes_max && is_between 1 4096 (length bytes)) (list_all is_byte bytes) h in
+    let a = and_parts (is_descriptor fd && nat_le at file_bytes_max) (is_between 1 4096 (length bytes)) d.0 in
+    let b = and_parts (is_descriptor fd) (nat_le at file_bytes_max) a.0 in
     rw (
       text_of_some bytes a.1,
-      three_complete (decimal fd) (decimal at) (encode_lower bytes) (upto_lacks 65535 fd (lit< tt) b.0) (upto_lacks 65536 at (lit< tt) b.1),
-      upto_complete 65535 fd (lit< tt) b.0,
-      upto_complete 65536 at (lit< tt) b.1,
+      three_complete (decimal fd) (decimal at) (encode_lower bytes) (upto_lacks (descriptor_span - 1) fd (lit< tt) b.0) (upto_lacks file_bytes_max at (lit< tt) b.1),
+      upto_complete (descriptor_span - 1) fd (lit< tt) b.0,
+      upto_complete file_bytes_max at (lit< tt) b.1,
       hex_complete 4096 bytes a.1 d.1,
     ) refl
 call_complete n (call.Cut fd len) h =
-    let a = and_parts (is_descriptor fd) (nat_le len 65536) h in
+    let a = and_parts (is_descriptor fd) (nat_le len file_bytes_max) h in
     rw (
-      two_complete (decimal fd) (decimal len) (upto_lacks 65535 fd (lit< tt) a.0),
-      upto_complete 65535 fd (lit< tt) a.0,
-      upto_complete 65536 len (lit< tt) a.1,
+      two_complete (decimal fd) (decimal len) (upto_lacks (descriptor_span - 1) fd (lit< tt) a.0),
+      upto_complete (descriptor_span - 1) fd (lit< tt) a.0,
+      upto_complete file_bytes_max len (lit< tt) a.1,
     ) refl
-call_complete n (call.Commit fd) h = rw (upto_complete 65535 fd (lit< tt) h) refl
-call_complete n (call.Abort fd) h = rw (upto_complete 65535 fd (lit< tt) h) refl
-call_complete n (call.Close fd) h = rw (upto_complete 65535 fd (lit< tt) h) refl
+call_complete n (call.Commit fd) h = rw (upto_complete (descriptor_span - 1) fd (lit< tt) h) refl
+call_complete n (call.Abort fd) h = rw (upto_complete (descriptor_span - 1) fd (lit< tt) h) refl
+call_complete n (call.Close fd) h = rw (upto_complete (descriptor_span - 1) fd (lit< tt) h) refl
 call_complete n (call.Mend file) h = absurd (false≢true h)

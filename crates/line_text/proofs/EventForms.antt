@@ -9,6 +9,7 @@ use Rattle.std.proofs.lemmas.Bool.{and_parts}
 use Rattle.std.proofs.lemmas.Option.{cond_some, none-some, option_and_then_some, same_Some}
 use Rattle.std.proofs.lemmas.Slice.Eq.{bytes_eq-Decides}
 use Rattle.hex.specs.Hex.{encode_lower, encode_with, lower_digits}
+use Rattle.locus_ids.specs.Sizes.{sites_max}
 use Rattle.trace_book.specs.Text.{call_words, gap}
 use Rattle.schedule_lines.specs.Ranges.{are_two_sites, fits_call, fits_event, fits_leave, is_between, is_byte, is_site}
 use Rattle.schedule_lines.specs.Spelling.{event_spelling, leave_word}
@@ -79,7 +80,7 @@ call_line_sound n rest l h =
     option_and_then_some _ (site_in n p.0) l g (λ site e1 g1.
     option_and_then_some _ (number_in 1 8 p.1) l g1 (λ process e2 g2.
     made (λ call. line.Call site process call) (call_in n p.2) n (codes "call " ++ rest) l g2 (λ call e3.
-    let a = number_sound 1 (min n 16) p.0 site e1 in
+    let a = number_sound 1 (min n sites_max) p.0 site e1 in
     let b = number_sound 1 8 p.1 process e2 in
     let d = call_sound n p.2 call e3 in (
       ap (λ l. codes "call " ++ l)
@@ -96,8 +97,8 @@ two_sites_sound n rest s h =
     option_and_then_some _ (site_in n p.0) s g (λ one e1 g1.
     option_and_then_some _ (site_in n p.1) s g1 (λ other e2 g2.
     let t = cond_some (not (one == other)) (one, other) s g2 in
-    let a = number_sound 1 (min n 16) p.0 one e1 in
-    let b = number_sound 1 (min n 16) p.1 other e2 in
+    let a = number_sound 1 (min n sites_max) p.0 one e1 in
+    let b = number_sound 1 (min n sites_max) p.1 other e2 in
     subst (λ (r : ℕ × ℕ). (rest ≡ (decimal r.0 ++ gap) ++ decimal r.1) × (are_two_sites n r.0 r.1 ≡ true)) t.1 (
       two_sound rest p e ∙ ap (λ l. (l ++ gap) ++ p.1) a.0 ∙ ap (λ l. (decimal one ++ gap) ++ l) b.0,
       and_both (is_site n one && is_site n other) (not (one == other)) (and_both (is_site n one) (is_site n other) a.1 b.1) t.0,
@@ -128,7 +129,7 @@ arm_stop_sound n rest l h =
     option_and_then_some _ (site_in n p.0) l g (λ site e1 g1.
     option_and_then_some _ (passing_in p.1) l g1 (λ calls e2 g2.
     made (λ leave. line.ArmStop site calls leave) (leave_in p.2) n (codes "stop " ++ rest) l g2 (λ leave e3.
-    let a = number_sound 1 (min n 16) p.0 site e1 in
+    let a = number_sound 1 (min n sites_max) p.0 site e1 in
     let b = number_sound 0 1000000 p.1 calls e2 in
     let d = leave_sound p.2 leave e3 in (
       ap (λ l. codes "stop " ++ l)
@@ -141,7 +142,7 @@ arm_stop_sound n rest l h =
 
 stop_sound : (n : ℕ) (rest : List ℕ) (o : Option (List ℕ × List ℕ)) (l : Line) → stop_with n rest o ≡ Some l → IsMade n (codes "stop " ++ rest) l
 stop_sound n rest None l h = made (λ site. line.Stop site) (site_in n rest) n (codes "stop " ++ rest) l h (λ site e.
-    let a = number_sound 1 (min n 16) rest site e in
+    let a = number_sound 1 (min n sites_max) rest site e in
     (ap (λ l. codes "stop " ++ l) a.0, a.1))
 stop_sound n rest (Some p) l h = arm_stop_sound n rest l h
 
@@ -150,7 +151,7 @@ fail_sound n rest l h =
     option_and_then_some _ (two_words rest) l h (λ p e g.
     option_and_then_some _ (site_in n p.0) l g (λ site e1 g1.
     made (λ calls. line.ArmFail site calls) (passing_in p.1) n (codes "fail " ++ rest) l g1 (λ calls e2.
-    let a = number_sound 1 (min n 16) p.0 site e1 in
+    let a = number_sound 1 (min n sites_max) p.0 site e1 in
     let b = number_sound 0 1000000 p.1 calls e2 in (
       ap (λ l. codes "fail " ++ l) (two_sound rest p e ∙ ap (λ l. (l ++ gap) ++ p.1) a.0 ∙ ap (λ l. (decimal site ++ gap) ++ l) b.0),
       and_both (is_site n site) (nat_le calls 1000000) a.1 (to_most 1000000 calls b.1),
@@ -158,27 +159,27 @@ fail_sound n rest l h =
 
 tick_sound : (n : ℕ) (rest : List ℕ) (l : Line) → option_map (λ site. line.Tick site) (site_in n rest) ≡ Some l → IsMade n (codes "tick " ++ rest) l
 tick_sound n rest l h = made (λ site. line.Tick site) (site_in n rest) n (codes "tick " ++ rest) l h (λ site e.
-    let a = number_sound 1 (min n 16) rest site e in
+    let a = number_sound 1 (min n sites_max) rest site e in
     (ap (λ l. codes "tick " ++ l) a.0, a.1))
 
 part_sound : (n : ℕ) (rest : List ℕ) (l : Line) → option_map (λ site. line.Part site) (site_in n rest) ≡ Some l → IsMade n (codes "part " ++ rest) l
 part_sound n rest l h = made (λ site. line.Part site) (site_in n rest) n (codes "part " ++ rest) l h (λ site e.
-    let a = number_sound 1 (min n 16) rest site e in
+    let a = number_sound 1 (min n sites_max) rest site e in
     (ap (λ l. codes "part " ++ l) a.0, a.1))
 
 merge_sound : (n : ℕ) (rest : List ℕ) (l : Line) → option_map (λ site. line.Merge site) (site_in n rest) ≡ Some l → IsMade n (codes "merge " ++ rest) l
 merge_sound n rest l h = made (λ site. line.Merge site) (site_in n rest) n (codes "merge " ++ rest) l h (λ site e.
-    let a = number_sound 1 (min n 16) rest site e in
+    let a = number_sound 1 (min n sites_max) rest site e in
     (ap (λ l. codes "merge " ++ l) a.0, a.1))
 
 giveup_sound : (n : ℕ) (rest : List ℕ) (l : Line) → option_map (λ site. line.GiveUp site) (site_in n rest) ≡ Some l → IsMade n (codes "giveup " ++ rest) l
 giveup_sound n rest l h = made (λ site. line.GiveUp site) (site_in n rest) n (codes "giveup " ++ rest) l h (λ site e.
-    let a = number_sound 1 (min n 16) rest site e in
+    let a = number_sound 1 (min n sites_max) rest site e in
     (ap (λ l. codes "giveup " ++ l) a.0, a.1))
 
 boot_sound : (n : ℕ) (rest : List ℕ) (l : Line) → option_map (λ site. line.Boot site) (site_in n rest) ≡ Some l → IsMade n (codes "boot " ++ rest) l
 boot_sound n rest l h = made (λ site. line.Boot site) (site_in n rest) n (codes "boot " ++ rest) l h (λ site e.
-    let a = number_sound 1 (min n 16) rest site e in
+    let a = number_sound 1 (min n sites_max) rest site e in
     (ap (λ l. codes "boot " ++ l) a.0, a.1))
 
 deliver_sound : (n : ℕ) (rest : List ℕ) (l : Line) → option_map (λ packet. line.Deliver packet) (number_in 1 1000000 rest) ≡ Some l → IsMade n (codes "deliver " ++ rest) l

@@ -8,6 +8,7 @@ use Rattle.std.specs.Str.{bytes_eq}
 use Rattle.std.proofs.lemmas.Bool.{and_parts}
 use Rattle.std.proofs.lemmas.Option.{none-some, option_and_then_some, same_Some}
 use Rattle.std.proofs.lemmas.Slice.Eq.{bytes_eq-Decides}
+use Rattle.locus_ids.specs.Sizes.{sites_max}
 use Rattle.locus_ids.specs.declared.config.Config.{Config}
 use Rattle.trace_book.specs.Names.{is_name, is_name_byte}
 use Rattle.trace_book.specs.Text.{gap}
@@ -47,9 +48,9 @@ IsMade bytes l = bytes ≡ header_spelling l
 made : {A : Type 0} (make : A → HeaderLine) (o : Option A) (bytes : List ℕ) (l : HeaderLine) → option_map make o ≡ Some l → ((x : A) → o ≡ Some x → IsMade bytes (make x)) → IsMade bytes l
 made make o bytes l h f = map_some make o l h (λ x e s. subst (IsMade bytes) s (f x e))
 
-sites_line_sound : (rest : List ℕ) (l : HeaderLine) → option_map (λ count. header.Sites count) (number_in 1 16 rest) ≡ Some l → IsMade (codes "sites " ++ rest) l
-sites_line_sound rest l h = made (λ count. header.Sites count) (number_in 1 16 rest) (codes "sites " ++ rest) l h (λ count e.
-    ap (λ l. codes "sites " ++ l) (number_sound 1 16 rest count e).0)
+sites_line_sound : (rest : List ℕ) (l : HeaderLine) → option_map (λ count. header.Sites count) (number_in 1 sites_max rest) ≡ Some l → IsMade (codes "sites " ++ rest) l
+sites_line_sound rest l h = made (λ count. header.Sites count) (number_in 1 sites_max rest) (codes "sites " ++ rest) l h (λ count e.
+    ap (λ l. codes "sites " ++ l) (number_sound 1 sites_max rest count e).0)
 
 group_sound : (n : ℕ) (rest : List ℕ) (l : HeaderLine) → group_line n rest ≡ Some l → IsMade (codes "group " ++ rest) l
 group_sound n rest l h =
@@ -99,8 +100,8 @@ name_is_word name h =
 
 pub header_complete : (c : Config) (l : HeaderLine) → may_join c l ≡ true → header_in c.sites (header_spelling l) ≡ Some l
 header_complete c (header.Sites count) h =
-    let a = and_parts (c.sites == 0) (is_between 1 16 count) h in
-    rw (range_complete 1 16 count (lit< tt) a.1) refl
+    let a = and_parts (c.sites == 0) (is_between 1 sites_max count) h in
+    rw (range_complete 1 sites_max count (lit< tt) a.1) refl
 header_complete c (header.Group group sites) h =
     let a = and_parts (is_between 0 3 group && not (has_packs c group)) (is_some_sites c.sites sites) h in
     let b = and_parts (is_between 0 3 group) (not (has_packs c group)) a.0 in

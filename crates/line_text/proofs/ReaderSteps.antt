@@ -15,12 +15,11 @@ use Rattle.schedule_lines.specs.declared.line.Line.TheVariants as event
 use Rattle.schedule_lines.specs.declared.line.ScheduleLine.{ScheduleLine}
 use Rattle.schedule_lines.specs.declared.line.ScheduleLine.TheVariants as line
 use Rattle.line_text.specs.HeaderReader.{begins_header}
-use Rattle.line_text.specs.ReadSoFar.{ReadsNext, TakesHeader, reader_after}
-use Rattle.line_text.specs.Reading.{DoesHeaderStep, IsHeaderLineOf, IsLineOf}
+use Rattle.line_text.specs.ReadSoFar.{TakesHeader, reader_after}
+use Rattle.line_text.specs.Reading.{DoesHeaderStep, IsLineOf}
 use Rattle.line_text.specs.declared.fault.LineFault.{LineFault}
 use Rattle.line_text.specs.declared.headers.HeaderStep.{HeaderStep}
 use Rattle.line_text.specs.declared.headers.HeaderStep.TheVariants.{Taken, NotHeader}
-use Rattle.line_text.specs.declared.schedule_reader.LineRead.TheVariants as told
 use Rattle.line_text.specs.declared.schedule_reader.ScheduleReader.{ScheduleReader}
 use Rattle.line_text.proofs.CallForms.{and_both}
 
@@ -79,10 +78,6 @@ or_false : (b : Bool) → (b || false) ≡ b
 or_false true = refl
 or_false false = refl
 
-or_true : (b : Bool) → (b || true) ≡ true
-or_true true = refl
-or_true false = refl
-
 -- ---- a header line
 
 pub step_read : (earlier : List ScheduleLine) (bytes : List ℕ) (old : ScheduleReader) (new : Header) (r : Result HeaderStep LineFault) →
@@ -101,39 +96,7 @@ step_read earlier bytes old new (Ok Taken) e b h =
 step_read earlier bytes old new (Ok NotHeader) e b h = λ l reads. false≢true (sym h.0 ∙ ap begins_header reads.0 ∙ header_begins l)
 step_read earlier bytes old new (Err f) e b h = tt
 
--- a line of header words that the header refuses is no line
-pub header_bad : (earlier : List ScheduleLine) (bytes : List ℕ) (old : ScheduleReader) (l : ScheduleLine) →
-    old ≡ reader_after earlier → is_passed bytes ≡ false → begins_header bytes ≡ true → ((h : HeaderLine) → IsHeaderLineOf old.header bytes h → ⊥) → Reads earlier bytes l → ⊥
-header_bad earlier bytes old line.Passed e p b f reads = false≢true (sym p ∙ reads.0)
-header_bad earlier bytes old (line.Header h) e p b f reads =
-    let config : old.header.config ≡ config_of earlier = ap (λ (r : ScheduleReader). r.header.config) e in
-    f h (reads.0, ap (λ c. may_join c h) config ∙ (and_parts (not (has_begun earlier)) (may_join (config_of earlier) h) reads.1).1)
-header_bad earlier bytes old (line.Event v) e p b f reads = false≢true (sym (event_begins v) ∙ ap begins_header (sym reads.0) ∙ b)
-
--- where an event line has stood, no header line may
-pub begun_bars : (earlier : List ScheduleLine) (bytes : List ℕ) (old : ScheduleReader) → old ≡ reader_after earlier → old.begun ≡ true → (h : HeaderLine) → Reads earlier bytes (line.Header h) → ⊥
-begun_bars earlier bytes old e b h reads =
-    let begun : has_begun earlier ≡ true = sym (ap (λ (r : ScheduleReader). r.begun) e) ∙ b in
-    false≢true (ap not (sym begun) ∙ (and_parts (not (has_begun earlier)) (may_join (config_of earlier) h) reads.1).0)
-
 -- ---- an event line
-
-pub event_read : (earlier : List ScheduleLine) (bytes : List ℕ) (old new : ScheduleReader) (v : Line) →
-    old ≡ reader_after earlier → new ≡ old → IsLineOf new.header bytes v → ReadsNext earlier bytes (told.Event v) (record { header = new.header; begun = true })
-event_read earlier bytes old new v e s h =
-    let same : new ≡ reader_after earlier = s ∙ e in
-    let head : new.header ≡ header_of (config_of earlier) = ap (λ (r : ScheduleReader). r.header) same in
-    record {
-      line = line.Event v;
-      tells = refl;
-      reads = (
-        h.0,
-        and_both (is_whole (config_of earlier)) (fits_event (config_of earlier).sites v)
-            (ap (λ (k : Header). k.whole) (sym head) ∙ h.1)
-            (ap (λ (k : Header). fits_event k.config.sites v) (sym head) ∙ h.2),
-      );
-      next = next_reader earlier (line.Event v) new.header true head (sym (or_true (has_begun earlier)));
-    }
 
 pub event_bad : (earlier : List ScheduleLine) (bytes : List ℕ) (old new : ScheduleReader) (l : ScheduleLine) →
     old ≡ reader_after earlier → new ≡ old → is_passed bytes ≡ false → ((h : HeaderLine) → Reads earlier bytes (line.Header h) → ⊥) →

@@ -11,6 +11,7 @@ use Rattle.std.proofs.lemmas.List.Splits.{join_with_byte-slice_split}
 use Rattle.std.proofs.lemmas.Nat.{or_lt, pow_below}
 use Rattle.std.proofs.lemmas.Nat.Bits.{bit_at_above}
 use Rattle.std.proofs.lemmas.Option.{option_and_then_some, same_Some}
+use Rattle.locus_ids.specs.Sizes.{sites_max}
 use Rattle.locus_ids.specs.Sites.{has, with_site}
 use Rattle.locus_ids.specs.declared.sites.Sites.{Sites}
 use Rattle.locus_ids.proofs.Sets.{has-with, same_sites}
@@ -23,11 +24,11 @@ use Rattle.line_text.proofs.Splits.{pieces_of, pieces_split, split_found, split_
 -- ---- steps of the reader
 
 pub step_more : (n least : ℕ) (set : Sites) (b : ℕ) (rest word more : List ℕ) → split_at b rest ≡ Some (word, more) →
-    with_sites n least set (pieces b rest) ≡ option_and_then (λ site. with_sites n (site + 1) (with_site set site) (pieces b more)) (number_in least (min n 16) word)
+    with_sites n least set (pieces b rest) ≡ option_and_then (λ site. with_sites n (site + 1) (with_site set site) (pieces b more)) (number_in least (min n sites_max) word)
 step_more n least set b rest word more e = ap (with_sites n least set) (pieces_split b rest ∙ ap (pieces_of b rest) e)
 
 pub step_last : (n least : ℕ) (set : Sites) (b : ℕ) (rest : List ℕ) → split_at b rest ≡ None →
-    with_sites n least set (pieces b rest) ≡ option_and_then (λ site. Some (with_site set site)) (number_in least (min n 16) rest)
+    with_sites n least set (pieces b rest) ≡ option_and_then (λ site. Some (with_site set site)) (number_in least (min n sites_max) rest)
 step_last n least set b rest e = ap (with_sites n least set) (pieces_split b rest ∙ ap (pieces_of b rest) e)
 
 pub split_shorter : (b : ℕ) (rest word more : List ℕ) → split_at b rest ≡ Some (word, more) → length more < length rest
@@ -79,10 +80,10 @@ sites_up_to t j (suc k) lt =
     let same : sites_to t (k + j) ++ [] ≡ sites_to t (k + j) = search rules in
     rw (e, none, same) (sites_up_to t j k lt)
 
-sites_within : (t : Sites) (j : ℕ) → j ≤ 16 → t.0 < 2 ^ j → sites_to t 16 ≡ sites_to t j
+sites_within : (t : Sites) (j : ℕ) → j ≤ sites_max → t.0 < 2 ^ j → sites_to t sites_max ≡ sites_to t j
 sites_within t j le lt =
-    let e : 16 ≡ (16 - j) + j = omega arith in
-    ap (sites_to t) e ∙ sites_up_to t j (16 - j) lt
+    let e : sites_max ≡ (sites_max - j) + j = omega arith in
+    ap (sites_to t) e ∙ sites_up_to t j (sites_max - j) lt
 
 -- the set with a site above the others has that site last
 abbrev pub last_site : ℕ → ℕ → List ℕ
@@ -177,10 +178,10 @@ in_sites t (suc k) site low high = elim (cases_lt k site) [
 ]
 
 -- sets below 2 ^ 16 with the same sites are the same
-same_set : (a b : Sites) → a.0 < 2 ^ 16 → b.0 < 2 ^ 16 → sites_to a 16 ≡ sites_to b 16 → a ≡ b
-same_set a b la lb e = same_sites a b (λ site low. elim (cases_lt 16 site) [
-  | inl above ↦ none_above a 16 site la above ∙ sym (none_above b 16 site lb above)
-  | inr within ↦ sym (in_sites a 16 site low within) ∙ ap (list_any (λ s. s == site)) e ∙ in_sites b 16 site low within
+same_set : (a b : Sites) → a.0 < 2 ^ sites_max → b.0 < 2 ^ sites_max → sites_to a sites_max ≡ sites_to b sites_max → a ≡ b
+same_set a b la lb e = same_sites a b (λ site low. elim (cases_lt sites_max site) [
+  | inl above ↦ none_above a sites_max site la above ∙ sym (none_above b sites_max site lb above)
+  | inr within ↦ sym (in_sites a sites_max site low within) ∙ ap (list_any (λ s. s == site)) e ∙ in_sites b sites_max site low within
 ])
 
 -- ---- the reader and lists of numbers
@@ -190,11 +191,11 @@ abbrev pub set_with : Sites → List ℕ → Sites
 set_with set [] = set
 set_with set (s ∷ ss) = set_with (with_site set s) ss
 
-set_with_sites : (set : Sites) (least high : ℕ) (ss : List ℕ) → 1 ≤ least → least ≤ high + 1 → high ≤ 16 → set.0 < 2 ^ (least - 1) → Ascend least high ss →
-    (sites_to (set_with set ss) 16 ≡ sites_to set 16 ++ ss) × ((set_with set ss).0 < 2 ^ high)
+set_with_sites : (set : Sites) (least high : ℕ) (ss : List ℕ) → 1 ≤ least → least ≤ high + 1 → high ≤ sites_max → set.0 < 2 ^ (least - 1) → Ascend least high ss →
+    (sites_to (set_with set ss) sites_max ≡ sites_to set sites_max ++ ss) × ((set_with set ss).0 < 2 ^ high)
 set_with_sites set least high [] low le cap lt h =
     let more : 2 ^ (least - 1) ≤ 2 ^ high = pow_mono (omega arith) in
-    (sym (append_nothing (sites_to set 16)), omega arith)
+    (sym (append_nothing (sites_to set sites_max)), omega arith)
 set_with_sites set least high (s ∷ ss) low le cap lt h =
     let from : least ≤ s = h.0 in
     let to : s ≤ high = h.1 in
@@ -204,45 +205,45 @@ set_with_sites set least high (s ∷ ss) low le cap lt h =
     let e : s ≡ s + 1 - 1 = omega arith in
     let next : (with_site set s).0 < 2 ^ (s + 1 - 1) = rw (← e) now in
     let again = set_with_sites (with_site set s) (s + 1) high ss (omega arith) (omega arith) cap next h.2 in
-    let here : nat_le s 16 ≡ true = grind (arith, nat_tests) in
-    let one = rw here at (sites_with set s 16 (omega arith) small) in
-    (again.0 ∙ ap (λ l. l ++ ss) one ∙ append_assoc (sites_to set 16) (s ∷ []) ss, again.1)
+    let here : nat_le s sites_max ≡ true = grind (arith, nat_tests) in
+    let one = rw here at (sites_with set s sites_max (omega arith) small) in
+    (again.0 ∙ ap (λ l. l ++ ss) one ∙ append_assoc (sites_to set sites_max) (s ∷ []) ss, again.1)
 
 -- what the reader gives is the set of an ascending list, whose texts the words are
 reader_sound : (n least : ℕ) (set t : Sites) (words : List (List ℕ)) → with_sites n least set words ≡ Some t →
-    (ss : List ℕ) × (words ≡ map decimal ss) × Ascend least (min n 16) ss × (t ≡ set_with set ss)
+    (ss : List ℕ) × (words ≡ map decimal ss) × Ascend least (min n sites_max) ss × (t ≡ set_with set ss)
 reader_sound n least set t [] h = ([], refl, tt, sym (same_Some set t h))
 reader_sound n least set t (word ∷ words) h =
-    option_and_then_some (λ site. with_sites n (site + 1) (with_site set site) words) (number_in least (min n 16) word) t h
+    option_and_then_some (λ site. with_sites n (site + 1) (with_site set site) words) (number_in least (min n sites_max) word) t h
     (λ site f g.
-    let s = number_sound least (min n 16) word site f in
-    let range = between_parts least (min n 16) site s.1 in
+    let s = number_sound least (min n sites_max) word site f in
+    let range = between_parts least (min n sites_max) site s.1 in
     let r = reader_sound n (site + 1) (with_site set site) t words g in
     (site ∷ r.0, ap (λ w. w ∷ words) s.0 ∙ ap (λ l. decimal site ∷ l) r.1, (range.0, range.1, r.2), r.3))
 
-reader_complete : (n least : ℕ) (set : Sites) (ss : List ℕ) → Ascend least (min n 16) ss → with_sites n least set (map decimal ss) ≡ Some (set_with set ss)
+reader_complete : (n least : ℕ) (set : Sites) (ss : List ℕ) → Ascend least (min n sites_max) ss → with_sites n least set (map decimal ss) ≡ Some (set_with set ss)
 reader_complete n least set [] h = refl
 reader_complete n least set (s ∷ ss) h =
     let from : least ≤ s = h.0 in
-    let to : s ≤ min n 16 = h.1 in
-    let read = number_complete least (min n 16) s (omega arith) (is_between_from least (min n 16) s from to) in
+    let to : s ≤ min n sites_max = h.1 in
+    let read = number_complete least (min n sites_max) s (omega arith) (is_between_from least (min n sites_max) s from to) in
     rw read (reader_complete n (s + 1) (with_site set s) ss h.2)
 
 -- ---- the text of a list
 
 -- the pieces of a text of numbers are the texts of the numbers
-text_pieces : (b s : ℕ) (ss : List ℕ) → b < 48 → Ascend 1 16 (s ∷ ss) → pieces b (join_by decimal (b ∷ []) (s ∷ ss)) ≡ map decimal (s ∷ ss)
+text_pieces : (b s : ℕ) (ss : List ℕ) → b < 48 → Ascend 1 sites_max (s ∷ ss) → pieces b (join_by decimal (b ∷ []) (s ∷ ss)) ≡ map decimal (s ∷ ss)
 text_pieces b s [] low h =
-    let top : s ≤ 16 = h.1 in
+    let top : s ≤ sites_max = h.1 in
     let none = split_none b (decimal s) (decimal_lacks b s low (omega arith)) in
     let alone : decimal s ++ [] ≡ decimal s = append_nothing (decimal s) in
     rw alone (pieces_split b (decimal s) ∙ ap (pieces_of b (decimal s)) none)
 text_pieces b s (r ∷ rs) low h =
-    let top : s ≤ 16 = h.1 in
+    let top : s ≤ sites_max = h.1 in
     let more = join_by decimal (b ∷ []) (r ∷ rs) in
     let first = split_found b (decimal s) more (decimal_lacks b s low (omega arith)) in
     let from : 1 ≤ s + 1 = omega arith in
-    let rest = text_pieces b r rs low (ascend_from 1 (s + 1) 16 (r ∷ rs) from h.2) in
+    let rest = text_pieces b r rs low (ascend_from 1 (s + 1) sites_max (r ∷ rs) from h.2) in
     pieces_split b (decimal s ++ (b ∷ more)) ∙ ap (pieces_of b (decimal s ++ (b ∷ more))) first ∙ ap (λ l. decimal s ∷ l) rest
 
 join_bytes : (b : ℕ) (ss : List ℕ) → join_with_byte b (map decimal ss) ≡ join_by decimal (b ∷ []) ss
@@ -265,20 +266,20 @@ nothing = record { 0 = 0 }
 
 -- the text of a set of sites, with this byte between each two
 abbrev pub sites_text_with : ℕ → Sites → List ℕ
-sites_text_with b t = join_by number (b ∷ []) (sites_to t 16)
+sites_text_with b t = join_by number (b ∷ []) (sites_to t sites_max)
 
 -- a set that is read from some words is of ascending sites, one for each word
-set_of_list : (n : ℕ) (ss : List ℕ) → Ascend 1 (min n 16) ss → (sites_to (set_with nothing ss) 16 ≡ ss) × ((set_with nothing ss).0 < 2 ^ min n 16)
-set_of_list n ss h = set_with_sites nothing 1 (min n 16) ss (omega arith) (omega arith) (omega arith) (lit< tt) h
+set_of_list : (n : ℕ) (ss : List ℕ) → Ascend 1 (min n sites_max) ss → (sites_to (set_with nothing ss) sites_max ≡ ss) × ((set_with nothing ss).0 < 2 ^ min n sites_max)
+set_of_list n ss h = set_with_sites nothing 1 (min n sites_max) ss (omega arith) (omega arith) (omega arith) (lit< tt) h
 
-is_some_from : (n : ℕ) (t : Sites) → 0 < t.0 → t.0 < 2 ^ min n 16 → is_some_sites n t ≡ true
-is_some_from n t a b = rw (lt-ltb 0 t.0 a, lt-ltb t.0 (2 ^ min n 16) b) refl
+is_some_from : (n : ℕ) (t : Sites) → 0 < t.0 → t.0 < 2 ^ min n sites_max → is_some_sites n t ≡ true
+is_some_from n t a b = rw (lt-ltb 0 t.0 a, lt-ltb t.0 (2 ^ min n sites_max) b) refl
 
-some_of_list : (t : Sites) (ss : List ℕ) → sites_to t 16 ≡ ss → (ss ≡ [] → ⊥) → 0 < t.0
+some_of_list : (t : Sites) (ss : List ℕ) → sites_to t sites_max ≡ ss → (ss ≡ [] → ⊥) → 0 < t.0
 some_of_list t ss e some = elim (cases_eq t.0 0) [
   | inl zero_set ↦
       let same : t ≡ nothing = ap (λ (k : ℕ). let s : Sites = record { 0 = k } in s) zero_set in
-      absurd (some (sym e ∙ ap (λ s. sites_to s 16) same))
+      absurd (some (sym e ∙ ap (λ s. sites_to s sites_max) same))
   | inr more ↦ omega arith
 ]
 
@@ -286,32 +287,32 @@ pub sites_sound : (n b : ℕ) (bytes : List ℕ) (t : Sites) → sites_in n b by
 sites_sound n b bytes t h =
     let r = reader_sound n 1 nothing t (pieces b bytes) h in
     let s = set_of_list n r.0 r.2 in
-    let listed : sites_to t 16 ≡ r.0 = ap (λ u. sites_to u 16) r.3 ∙ s.0 in
-    let below : t.0 < 2 ^ min n 16 = rw (r.3) s.1 in
+    let listed : sites_to t sites_max ≡ r.0 = ap (λ u. sites_to u sites_max) r.3 ∙ s.0 in
+    let below : t.0 < 2 ^ min n sites_max = rw (r.3) s.1 in
     let some : r.0 ≡ [] → ⊥ = λ e. some_piece b bytes (split_at b bytes) (sym (pieces_split b bytes) ∙ r.1 ∙ ap (map decimal) e) in
     (pieces_text b r.0 bytes r.1 ∙ ap (join_by decimal (b ∷ [])) (sym listed), is_some_from n t (some_of_list t r.0 listed some) below)
 
-complete_from : (n b : ℕ) (t : Sites) (ss : List ℕ) → b < 48 → 0 < t.0 → t.0 < 2 ^ 16 → Ascend 1 (min n 16) ss → sites_to t 16 ≡ ss → sites_in n b (join_by decimal (b ∷ []) ss) ≡ Some t
+complete_from : (n b : ℕ) (t : Sites) (ss : List ℕ) → b < 48 → 0 < t.0 → t.0 < 2 ^ sites_max → Ascend 1 (min n sites_max) ss → sites_to t sites_max ≡ ss → sites_in n b (join_by decimal (b ∷ []) ss) ≡ Some t
 complete_from n b t [] low some small h e = absurd (empty_set (same_set t nothing small (lit< tt) e))
   where
     empty_set : t ≡ nothing → ⊥
     empty_set same = let zero_set : t.0 ≡ 0 = ap (λ (s : Sites). s.0) same in omega arith
 complete_from n b t (s ∷ ss) low some small h e =
-    let cap : min n 16 ≤ 16 = omega arith in
-    let texts = text_pieces b s ss low (ascend_more 1 (min n 16) 16 (s ∷ ss) cap h) in
+    let cap : min n sites_max ≤ sites_max = omega arith in
+    let texts = text_pieces b s ss low (ascend_more 1 (min n sites_max) sites_max (s ∷ ss) cap h) in
     let read = reader_complete n 1 nothing (s ∷ ss) h in
     let set = set_of_list n (s ∷ ss) h in
-    let more : 2 ^ min n 16 ≤ 2 ^ 16 = pow_mono cap in
+    let more : 2 ^ min n sites_max ≤ 2 ^ sites_max = pow_mono cap in
     let same = same_set (set_with nothing (s ∷ ss)) t (omega (arith, set.1)) small (set.0 ∙ sym e) in
     ap (with_sites n 1 nothing) texts ∙ read ∙ ap Some same
 
 pub sites_complete : (n b : ℕ) (t : Sites) → b < 48 → is_some_sites n t ≡ true → sites_in n b (sites_text_with b t) ≡ Some t
 sites_complete n b t low h =
-    let p = and_parts (nat_lt 0 t.0) (nat_lt t.0 (2 ^ min n 16)) h in
+    let p = and_parts (nat_lt 0 t.0) (nat_lt t.0 (2 ^ min n sites_max)) h in
     let some : 0 < t.0 = ltb-true 0 t.0 p.0 in
-    let below : t.0 < 2 ^ min n 16 = ltb-true t.0 (2 ^ min n 16) p.1 in
-    let cap : min n 16 ≤ 16 = omega arith in
-    let more : 2 ^ min n 16 ≤ 2 ^ 16 = pow_mono cap in
-    let within = sites_within t (min n 16) cap below in
-    let ascending = sites_ascend t (min n 16) in
-    complete_from n b t (sites_to t 16) low some (omega arith) (rw within ascending) refl
+    let below : t.0 < 2 ^ min n sites_max = ltb-true t.0 (2 ^ min n sites_max) p.1 in
+    let cap : min n sites_max ≤ sites_max = omega arith in
+    let more : 2 ^ min n sites_max ≤ 2 ^ sites_max = pow_mono cap in
+    let within = sites_within t (min n sites_max) cap below in
+    let ascending = sites_ascend t (min n sites_max) in
+    complete_from n b t (sites_to t sites_max) low some (omega arith) (rw within ascending) refl

@@ -10,11 +10,6 @@ pub true_or_false : (b : Bool) → (b ≡ true) ⊎ (b ≡ false)
 true_or_false true = inl refl
 true_or_false false = inr refl
 
--- no answer needs no more
-pub if_none : {X : Type 0} (o : Option X) {P : Type 0} → P → IfNone o P
-if_none None p = p
-if_none (Some x) p = tt
-
 -- the first byte differs, and the others do
 pub lacks_head : (b c : ℕ) (cs : List ℕ) → Lacks b (c ∷ cs) → (c == b) ≡ false
 lacks_head b c cs h = ⊎_elim (λ (e : (c == b) ≡ true). absurd (h 0 (omega arith) (eqb-true c b e))) (λ (e : (c == b) ≡ false). e) (true_or_false (c == b))

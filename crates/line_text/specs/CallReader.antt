@@ -1,7 +1,8 @@
 -- The call that some words are, as a function of the words. No words are two calls, since the first word tells the form.
-use Rattle.std.specs.Prelude.{ℕ, List, codes, Option, Some, None, cond}
+use Rattle.std.specs.Prelude.{ℕ, List, codes, Option, Some, None, cond, ◌-◌}
 use Rattle.std.specs.Option.{option_and_then, option_map}
 use Rattle.std.specs.Str.{bytes_eq}
+use Rattle.locus_ids.specs.Sizes.{file_bytes_max, descriptor_span}
 use Rattle.trace_book.specs.declared.call.Call.{Call}
 use Rattle.trace_book.specs.declared.call.Call.TheVariants as call
 use Rattle.trace_book.specs.declared.call.OpenMode.{OpenMode}
@@ -28,7 +29,7 @@ call_word w =
     cond (bytes_eq w (codes "close")) (Some word.Close) None)))))))))))))
 
 abbrev pub descriptor_in : List ℕ → Option ℕ
-descriptor_in w = number_in 0 65535 w
+descriptor_in w = number_in 0 (descriptor_span - 1) w
 
 abbrev pub create_with : ℕ → List ℕ → Option (List ℕ × List ℕ) → Option Call
 create_with n rest None = option_map (λ path. call.Create path None) (word_in rest)
@@ -54,14 +55,14 @@ open_call n rest = option_and_then (λ p. option_and_then (λ mode. option_map (
 
 abbrev pub read_call : List ℕ → Option Call
 read_call rest =
-    option_and_then (λ p. option_and_then (λ fd. option_and_then (λ at. option_map (λ len. call.Read fd at len) (number_in 0 4096 p.2)) (number_in 0 65536 p.1)) (descriptor_in p.0)) (three_words rest)
+    option_and_then (λ p. option_and_then (λ fd. option_and_then (λ at. option_map (λ len. call.Read fd at len) (number_in 0 4096 p.2)) (number_in 0 file_bytes_max p.1)) (descriptor_in p.0)) (three_words rest)
 
 abbrev pub write_call : List ℕ → Option Call
 write_call rest =
-    option_and_then (λ p. option_and_then (λ fd. option_and_then (λ at. option_map (λ bytes. call.Write fd at bytes) (hex_in 4096 p.2)) (number_in 0 65536 p.1)) (descriptor_in p.0)) (three_words rest)
+    option_and_then (λ p. option_and_then (λ fd. option_and_then (λ at. option_map (λ bytes. call.Write fd at bytes) (hex_in 4096 p.2)) (number_in 0 file_bytes_max p.1)) (descriptor_in p.0)) (three_words rest)
 
 abbrev pub cut_call : List ℕ → Option Call
-cut_call rest = option_and_then (λ p. option_and_then (λ fd. option_map (λ len. call.Cut fd len) (number_in 0 65536 p.1)) (descriptor_in p.0)) (two_words rest)
+cut_call rest = option_and_then (λ p. option_and_then (λ fd. option_map (λ len. call.Cut fd len) (number_in 0 file_bytes_max p.1)) (descriptor_in p.0)) (two_words rest)
 
 -- the call of this first word with these operands, in a cluster of n sites
 abbrev pub call_with : ℕ → CallWord → List ℕ → Option Call

@@ -2,6 +2,7 @@
 use Rattle.std.specs.Prelude.{ℕ, Bool, List, codes, Option, Some, None, cond, is_some}
 use Rattle.std.specs.Option.{option_and_then, option_map}
 use Rattle.std.specs.Str.{bytes_eq}
+use Rattle.locus_ids.specs.Sizes.{sites_max}
 use Rattle.schedule_lines.specs.declared.header.HeaderLine.{HeaderLine}
 use Rattle.schedule_lines.specs.declared.header.HeaderLine.TheVariants as header
 use Rattle.line_text.specs.Words.{number_in, sites_in, two_words, word_in}
@@ -34,7 +35,7 @@ mount_line rest = option_and_then (λ p. option_and_then (λ group. option_map (
 
 -- the line of this first word with these operands, in a cluster of n sites
 abbrev pub header_with : ℕ → HeaderWord → List ℕ → Option HeaderLine
-header_with n word.Sites rest = option_map (λ count. header.Sites count) (number_in 1 16 rest)
+header_with n word.Sites rest = option_map (λ count. header.Sites count) (number_in 1 sites_max rest)
 header_with n word.Group rest = group_line n rest
 header_with n word.Mount rest = mount_line rest
 

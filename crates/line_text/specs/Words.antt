@@ -7,6 +7,7 @@ use Rattle.std.specs.Str.{bytes_eq}
 use Rattle.std.specs.Str.Parse.{digits_value}
 use Rattle.hex.specs.Hex.{decode_of, encode_lower}
 use Rattle.hex.specs.declared.error.FromHexError.{FromHexError}
+use Rattle.locus_ids.specs.Sizes.{sites_max}
 use Rattle.locus_ids.specs.Sites.{with_site}
 use Rattle.locus_ids.specs.declared.sites.Sites.{Sites}
 use Rattle.schedule_lines.specs.Ranges.{is_between, is_byte, is_word}
@@ -38,7 +39,7 @@ number_in low most word = let n = digits_value 10 word in cond (is_decimal word 
 
 -- one of sites 1 to n
 abbrev pub site_in : ℕ → List ℕ → Option ℕ
-site_in n word = number_in 1 (min n 16) word
+site_in n word = number_in 1 (min n sites_max) word
 
 -- a word as it stands
 abbrev pub word_in : List ℕ → Option (List ℕ)
@@ -68,7 +69,7 @@ byte_in word = option_and_then only_one (hex_in 1 word)
 -- the set with the sites that the words are, each above the one before it, the first at least this
 abbrev pub with_sites : ℕ → ℕ → Sites → List (List ℕ) → Option Sites
 with_sites n least set [] = Some set
-with_sites n least set (word ∷ words) = option_and_then (λ site. with_sites n (site + 1) (with_site set site) words) (number_in least (min n 16) word)
+with_sites n least set (word ∷ words) = option_and_then (λ site. with_sites n (site + 1) (with_site set site) words) (number_in least (min n sites_max) word)
 
 -- the bytes between such bytes
 abbrev pub pieces : ℕ → List ℕ → List (List ℕ)

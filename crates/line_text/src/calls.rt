@@ -13,6 +13,7 @@ use crate::numbers::{descriptor, number, short_number, site};
 use crate::site_lists::site_list;
 use crate::words::{copy_word, three_words, two_words};
 use locus_ids::NoMemory;
+use locus_ids::sizes::FILE_BYTES;
 use schedule_lines::Header;
 use std::alloc::Global;
 use trace_book::{Call, OpenMode};
@@ -144,7 +145,7 @@ fn read(rest: &[u8]) -> Option<Call>
 {
     let (fd, at, len) = three_words(rest)?;
     let fd = descriptor(fd)?;
-    let at = number(at, 0, 65_536)?;
+    let at = number(at, 0, FILE_BYTES as u32)?;
     let len = short_number(len, 4_096)?;
     Some(Call::Read { fd, at, len })
 }
@@ -159,7 +160,7 @@ fn write(alloc: Global, rest: &[u8]) -> Result<Option<Call>, NoMemory>
     let Some(fd) = descriptor(fd) else {
         return Ok(None);
     };
-    let Some(at) = number(at, 0, 65_536) else {
+    let Some(at) = number(at, 0, FILE_BYTES as u32) else {
         return Ok(None);
     };
     match hex_bytes(alloc, bytes, 4_096)? {
@@ -174,6 +175,6 @@ fn cut(rest: &[u8]) -> Option<Call>
 {
     let (fd, len) = two_words(rest)?;
     let fd = descriptor(fd)?;
-    let len = number(len, 0, 65_536)?;
+    let len = number(len, 0, FILE_BYTES as u32)?;
     Some(Call::Cut { fd, len })
 }

@@ -9,11 +9,12 @@ use crate::numbers::small_number;
 use crate::site_lists::site_list;
 use crate::words::{copy_word, two_words};
 use locus_ids::NoMemory;
+use locus_ids::sizes::SITES;
 use schedule_lines::{Header, HeaderLine};
 use std::alloc::Global;
 
 /// What a line is to the header.
-#[derive(Clone, Copy, Debug, PartialEq, Eq)]
+#[derive(Clone, Copy, PartialEq, Eq)]
 pub enum HeaderStep {
     /// A header line, which the header has taken.
     Taken,
@@ -84,7 +85,9 @@ fn header_with(
     ensures { IfOk result (λ o. o ≡ header_with n word rest.now) }
 {
     match word {
-        HeaderWord::Sites => Ok(small_number(rest, 1, 16).map(|count| HeaderLine::Sites { count })),
+        HeaderWord::Sites => Ok(small_number(rest, 1, SITES as u8).map(|count| HeaderLine::Sites {
+            count,
+        })),
         HeaderWord::Group => Ok(group_line(rest, n)),
         HeaderWord::Mount => mount_line(alloc, rest),
     }

@@ -5,6 +5,7 @@ ghost use Rattle.line_text.specs.Numerals.{IsNumber, begins_well};
 ghost use Rattle.line_text.specs.Words.{number_in, site_in};
 
 use locus_ids::SiteId;
+use locus_ids::sizes::{DESCRIPTOR_SPAN, SITES};
 
 /// The number from `low` to `most` that the word is.
 pub(crate) fn number(word: &[u8], low: u32, most: u32) -> Option<u32>
@@ -62,13 +63,13 @@ pub(crate) fn short_number(word: &[u8], most: u16) -> Option<u16>
 pub(crate) fn descriptor(word: &[u8]) -> Option<u16>
     ensures { result ≡ descriptor_in word.now }
 {
-    short_number(word, 65_535)
+    short_number(word, (DESCRIPTOR_SPAN - 1) as u16)
 }
 
 /// The site that the word is, in a cluster of n sites.
 pub(crate) fn site(word: &[u8], n: u8) -> Option<SiteId>
     ensures { result ≡ site_in n word.now }
 {
-    let number = small_number(word, 1, n.min(16))?;
+    let number = small_number(word, 1, n.min(SITES as u8))?;
     SiteId::new(number)
 }

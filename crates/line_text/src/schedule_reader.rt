@@ -6,7 +6,7 @@ use schedule_lines::{Header, Line};
 use std::alloc::Global;
 
 /// What a line of a schedule says.
-#[derive(Debug, Drop)]
+#[derive(Drop)]
 pub enum LineRead {
     /// Nothing: it is empty or a comment.
     Passed,
@@ -16,7 +16,7 @@ pub enum LineRead {
 }
 
 /// Reads a schedule line by line.
-#[derive(Debug, Drop)]
+#[derive(Drop)]
 pub struct ScheduleReader {
     /// What the header lines have said so far.
     pub header: Header,

@@ -1,9 +1,11 @@
 // Lists of sites.
 ghost use Rattle.std.specs.Prelude.{◌≡◌, ◌≤◌, min};
+ghost use Rattle.locus_ids.specs.Sizes.{sites_max};
 ghost use Rattle.line_text.specs.Words.{number_in, sites_in};
 
 use crate::numbers::small_number;
 use crate::words::split_at;
+use locus_ids::sizes::SITES;
 use locus_ids::{SiteId, Sites};
 
 /// The set of the sites that stand here, ascending, with the separator between each two, in a cluster of n sites.
@@ -26,8 +28,8 @@ pub(crate) fn site_list(bytes: &[u8], separator: u8, n: u8) -> Option<Sites>
 /// The site from `least` on that the word is.
 fn site_from(word: &[u8], least: u8, n: u8) -> Option<SiteId>
     requires { 1 ≤ least }
-    ensures { result ≡ number_in least (min n 16) word.now }
+    ensures { result ≡ number_in least (min n sites_max) word.now }
 {
-    let number = small_number(word, least, n.min(16))?;
+    let number = small_number(word, least, n.min(SITES as u8))?;
     SiteId::new(number)
 }

@@ -1,5 +1,7 @@
 -- Which rows of opens may be open side by side: rows that come, and rows that take the place of others.
 use Rattle.std.proofs.Common.{◌≡◌, ℕ, ◌==◌, Bool, true, false, not, ◌&&◌, cond, List, [], ◌∷◌, filter, map, Option, Some, None, refl, sym, ◌∙◌, subst}
+use Rattle.role_steps.proofs.of_plain_facts.Options.{none_some}
+use Rattle.role_steps.proofs.of_plain_facts.Tests.{and_true, false_true}
 use Rattle.locus_ids.specs.declared.ids.FileId.{FileId}
 use Rattle.locus_ids.specs.declared.ids.Mode.{Mode}
 use Rattle.locus_ids.specs.declared.ids.Mode.TheVariants as mode
@@ -18,21 +20,15 @@ use Rattle.role_steps.specs.Opens.{OpenRequest, Decision, Denies, Grants, mode_o
 use Rattle.role_steps.specs.declared.synchronizing.SyncTable.{SyncTable}
 use Rattle.role_steps.specs.declared.synchronizing.FileRow.{FileRow}
 use Rattle.role_steps.specs.declared.synchronizing.OpenRow.{OpenRow}
-use Rattle.the_run.proofs.Boots.{every_weaker}
-use Rattle.the_run.proofs.InsideSync.{Found, row_found}
+use Rattle.vector_laws.proofs.of_the_run.Boots.{every_weaker}
+use Rattle.vector_laws.proofs.of_the_run.InsideSync.{Found, row_found}
 use Rattle.vector_laws.proofs.SyncFacts.{every_latest}
 use Rattle.lock_laws.specs.Locks.{IsOfAFile, Apart, AllApart}
 
 -- ---- locks ----
 
-pub none_some : {A : Type 0} (x : A) → ◌≡◌ {A = Option A} None (Some x) → ⊥
-none_some x e = cc
-
 pub some_eq : {A : Type 0} (x y : A) → Some x ≡ Some y → x ≡ y
 some_eq x y e = cc
-
-pub false_true : false ≡ true → ⊥
-false_true e = cc
 
 -- an open row of the file only reads, as the mode does
 abbrev pub ReadsBeside : Mode → FileId → OpenRow → Type 0
@@ -130,13 +126,10 @@ pub all_shut_apart : (new : OpenRow) (rs : List OpenRow) → is_open_stage new.s
 all_shut_apart new [] e = tt
 all_shut_apart new (q ∷ qs) e = ((shut_apart q new e).0, all_shut_apart new qs e)
 
-pub both_ands : (a b : Bool) → a ≡ true → b ≡ true → (a && b) ≡ true
-both_ands a b e g = rw e rw g refl
-
 -- one that is granted beside what only reads
 pub asked_apart : (new : OpenRow) (rs : List OpenRow) → Every (ReadsBeside new.mode new.file) rs → Every (λ (q : OpenRow). Apart q new) rs
 asked_apart new [] h = tt
-asked_apart new (q ∷ qs) h = ((λ a b c d s. (let k : (is_read new.mode ≡ true) × (is_read q.mode ≡ true) = h.0 b (both_ands (same_file q.file new.file) (is_open_stage q.stage) s c) in (k.1, k.0))), asked_apart new qs h.1)
+asked_apart new (q ∷ qs) h = ((λ a b c d s. (let k : (is_read new.mode ≡ true) × (is_read q.mode ≡ true) = h.0 b (and_true (same_file q.file new.file) (is_open_stage q.stage) s c) in (k.1, k.0))), asked_apart new qs h.1)
 
 pub same_numbered : (m : Mode) (file : FileId) (ino : ℕ) → IsOfAFile m → numbered_file m file ino ≡ file
 same_numbered mode.Make file ino h = absurd h

@@ -16,8 +16,8 @@ use Rattle.call_rules.specs.Descriptors.{beginning}
 use Rattle.call_rules.specs.declared.answer.Answer.{Answer}
 use Rattle.call_rules.specs.declared.want.Want.{Want}
 use Rattle.call_rules.specs.declared.want.Want.TheVariants as want
-use Rattle.file_effects.specs.Effects.{Effect}
-use Rattle.file_effects.specs.Works.{counted}
+use Rattle.role_steps.specs.of_file_effects.Effects.{Effect}
+use Rattle.role_steps.specs.of_file_effects.Works.{counted}
 use Rattle.wire_messages.specs.declared.body.CloseAnswer.{CloseAnswer}
 use Rattle.wire_messages.specs.declared.body.CloseAnswer.TheVariants as closing
 use Rattle.wire_messages.specs.declared.body.LookAnswer.{LookAnswer}

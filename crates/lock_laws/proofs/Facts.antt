@@ -28,13 +28,13 @@ use Rattle.role_steps.specs.declared.users.Asking.TheVariants as asking
 use Rattle.role_steps.specs.declared.users.WaitingCall.{WaitingCall}
 use Rattle.role_steps.specs.declared.users.UserInstance.{UserInstance}
 use Rattle.role_steps.proofs.Sending.{every_append}
-use Rattle.the_run.specs.Steps.{epoch_id, from_user}
-use Rattle.the_run.proofs.Boots.{every_weaker}
-use Rattle.vector_laws.specs.Written.{WasTold, WasGranted}
+use Rattle.vector_laws.specs.of_the_run.Steps.{epoch_id, from_user}
+use Rattle.vector_laws.proofs.of_the_run.Boots.{every_weaker}
+use Rattle.vector_laws.specs.Written.{WasTold}
 use Rattle.vector_laws.specs.Facts.{onto}
 use Rattle.vector_laws.proofs.Facts.{onto_append}
 use Rattle.lock_laws.specs.Going.{IsGranted, RecordGoesOn, InstanceGoesOn}
-use Rattle.lock_laws.specs.Facts.{OpenedFact, DoneFact, BodyFact, PacketFact, NoFact, Factless, GrantedIn, HeldFact, AskingFact, WaitingFact, UsersFact, StageFact, InstanceFact, AskedFact, RowFact, OpenFact, TableFact, InEpochFact, ViewFact, AllGoOn, DiskFact, Fine}
+use Rattle.lock_laws.specs.Facts.{IsGiven, IsGivenOn, OpenedFact, DoneFact, BodyFact, PacketFact, NoFact, Factless, GrantedIn, HeldFact, AskingFact, WaitingFact, UsersFact, StageFact, InstanceFact, AskedFact, RowFact, OpenFact, TableFact, InEpochFact, ViewFact, AllGoOn, DiskFact, Fine}
 
 -- whatever was told before is told later
 abbrev pub Later : List Told → List Told → Type 1
@@ -53,11 +53,15 @@ pub onto_later : (told past : List Told) → Later past (onto told past)
 onto_later [] past P h = h
 onto_later (x ∷ xs) past P h = onto_later xs (x ∷ past) P (inr h)
 
-pub is_granted : (past : List Told) (e : EpochId) (key : ℕ) (file : FileId) → WasGranted past e key file → IsGranted past e key
-is_granted past e key file h = (file, h)
-
 pub granted_later : (a b : List Told) → Later a b → (e : EpochId) (key : ℕ) → IsGranted a e key → IsGranted b e key
 granted_later a b l e key h = (h.0, l _ h.1)
+
+given_later : (a b : List Told) → Later a b → (e : EpochId) (key ss : ℕ) → IsGiven a e key ss → IsGiven b e key ss
+given_later a b l e key ss h = record { granted = granted_later a b l e key h.granted; there = l _ h.there; at = h.at; file = h.file; begun = l _ h.begun }
+
+-- a row that is granted gives its instance
+pub row_given : (past : List Told) (e : EpochId) (key : ℕ) (on : FileId) (ss : ℕ) → IsGivenOn past e key on ss → IsGiven past e key ss
+row_given past e key on ss h = record { granted = (on, h.granted); there = h.there; at = h.at; file = h.file; begun = h.begun }
 
 -- ---- the frame lemma of each fact ----
 
@@ -66,15 +70,15 @@ opened_later a b l ss e key (opened.Open ino size) h = (h.0, l _ h.1, h.2)
 opened_later a b l ss e key (opened.No why) h = tt
 
 done_later : (a b : List Told) → Later a b → (e : EpochId) (key : ℕ) (x : Granted) → DoneFact a e key x → DoneFact b e key x
-done_later a b l e key (granted.Open ss ino size stamp vector) h = granted_later a b l e key h
+done_later a b l e key (granted.Open ss ino size stamp vector) h = given_later a b l e key ss h
 done_later a b l e key (granted.No why) h = tt
 
 pub body_later : (a b : List Told) → Later a b → (from to : ℕ) (e : EpochId) (x : Body) → BodyFact a from to e x → BodyFact b from to e x
 body_later a b l from to e (body.OpenSs inst file mode set kind base vector parents) h = l _ h
 body_later a b l from to e (body.Opened inst answer) h = opened_later a b l from e (serial_key inst) answer h
 body_later a b l from to e (body.OpenDone serial answer) h = done_later a b l e (serial_key (from_user to serial)) answer h
-body_later a b l from to e (body.Op serial n o seen) h = granted_later a b l e (serial_key (from_user from serial)) h
-body_later a b l from to e (body.Close serial) h = granted_later a b l e (serial_key (from_user from serial)) h
+body_later a b l from to e (body.Op serial n o seen) h = given_later a b l e (serial_key (from_user from serial)) to h
+body_later a b l from to e (body.Close serial) h = given_later a b l e (serial_key (from_user from serial)) to h
 body_later a b l from to e (body.Closed inst made) h = l _ h
 body_later a b l from to e (body.ClosedOk inst) h = l _ h
 body_later a b l from to e _ h = tt
@@ -95,19 +99,19 @@ no_fact past from to e _ h = tt
 pub factless : (past : List Told) (ps : List Packet) → Every Factless ps → Every (PacketFact past) ps
 factless past ps h = every_weaker Factless (PacketFact past) ps (λ p. no_fact past p.from p.to p.epoch p.body) h
 
-pub in_later : (a b : List Told) → Later a b → (o : Option EpochId) (key : ℕ) → GrantedIn a o key → GrantedIn b o key
-in_later a b l None key h = h
-in_later a b l (Some e) key h = granted_later a b l e key h
+pub in_later : (a b : List Told) → Later a b → (o : Option EpochId) (key ss : ℕ) → GrantedIn a o key ss → GrantedIn b o key ss
+in_later a b l None key ss h = h
+in_later a b l (Some e) key ss h = given_later a b l e key ss h
 
 asking_later : (a b : List Told) → Later a b → (s : ℕ) (o : Option EpochId) (x : Asking) → AskingFact a s o x → AskingFact b s o x
-asking_later a b l s o (asking.Op serial ss number it seen) h = in_later a b l o (serial_key (from_user s serial)) h
-asking_later a b l s o (asking.Close serial ss) h = in_later a b l o (serial_key (from_user s serial)) h
+asking_later a b l s o (asking.Op serial ss number it seen) h = in_later a b l o (serial_key (from_user s serial)) ss h
+asking_later a b l s o (asking.Close serial ss) h = in_later a b l o (serial_key (from_user s serial)) ss h
 asking_later a b l s o (asking.Look file what take) h = tt
 asking_later a b l s o (asking.Open serial file how) h = tt
 
 pub users_later : (a b : List Told) → Later a b → (s : ℕ) (o : Option EpochId) (u : Users) → UsersFact a s o u → UsersFact b s o u
 users_later a b l s o u h = record {
-  instances = every_weaker (HeldFact a s o) (HeldFact b s o) u.instances (λ (i : UserInstance). in_later a b l o (serial_key (from_user s i.serial))) h.instances;
+  instances = every_weaker (HeldFact a s o) (HeldFact b s o) u.instances (λ (i : UserInstance). in_later a b l o (serial_key (from_user s i.serial)) i.ss) h.instances;
   waiting = every_weaker (WaitingFact a s o) (WaitingFact b s o) u.waiting (λ (w : WaitingCall). asking_later a b l s o w.asking) h.waiting;
 }
 
@@ -122,16 +126,16 @@ instance_later a b l s e i h = record { begun = l _ h.begun; stage = stage_later
 pub instances_later : (a b : List Told) → Later a b → (s : ℕ) (e : EpochId) (xs : List Instance) → Every (InstanceFact a s e) xs → Every (InstanceFact b s e) xs
 instances_later a b l s e xs h = every_weaker (InstanceFact a s e) (InstanceFact b s e) xs (instance_later a b l s e) h
 
-asked_later : (a b : List Told) → Later a b → (e : EpochId) (key : ℕ) (file : FileId) (m : Mode) → AskedFact a e key file m → AskedFact b e key file m
-asked_later a b l e key file mode.Make h = tt
-asked_later a b l e key file mode.Read h = l _ h
-asked_later a b l e key file mode.Write h = l _ h
-asked_later a b l e key file mode.Resolve h = l _ h
-asked_later a b l e key file mode.Mend h = l _ h
+asked_later : (a b : List Told) → Later a b → (e : EpochId) (key : ℕ) (file : FileId) (ss : ℕ) (m : Mode) → AskedFact a e key file ss m → AskedFact b e key file ss m
+asked_later a b l e key file ss mode.Make h = tt
+asked_later a b l e key file ss mode.Read h = (l _ h.0, l _ h.1)
+asked_later a b l e key file ss mode.Write h = (l _ h.0, l _ h.1)
+asked_later a b l e key file ss mode.Resolve h = (l _ h.0, l _ h.1)
+asked_later a b l e key file ss mode.Mend h = (l _ h.0, l _ h.1)
 
 row_later : (a b : List Told) → Later a b → (e : EpochId) (r : OpenRow) (s : OpenStage) → RowFact a e r s → RowFact b e r s
-row_later a b l e r opening.Asked h = asked_later a b l e (serial_key r.inst) r.file r.mode h
-row_later a b l e r opening.Granted h = l _ h
+row_later a b l e r opening.Asked h = asked_later a b l e (serial_key r.inst) r.file r.ss r.mode h
+row_later a b l e r opening.Granted h = record { granted = l _ h.granted; there = l _ h.there; at = h.at; file = h.file; begun = l _ h.begun }
 row_later a b l e r (opening.Refused why) h = tt
 row_later a b l e r opening.Ended h = (l _ h.0, l _ h.1)
 

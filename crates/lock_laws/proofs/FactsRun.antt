@@ -1,7 +1,9 @@
--- In every run each instance goes on as it must, and the locks of the tables hold.
+-- In every run each instance goes on as it must, the locks of the tables hold, and what using sites have of instances was granted
+-- and begun. What the laws of locks carry is kept by all that happens, so that it can stand beside other facts.
 use Rattle.std.proofs.Common.{◌≡◌, ℕ, ◌+◌, ◌==◌, Bool, true, false, cond, List, [], ◌∷◌, map, Option, Some, None, refl, sym, ◌∙◌, ap, subst, inl, inr}
+use Rattle.role_steps.proofs.of_plain_facts.Options.{some_same}
 use Rattle.locus_ids.specs.declared.config.Config.{Config}
-use Rattle.schedule_lines.specs.declared.line.ScheduleLine.{ScheduleLine}
+use Rattle.vector_laws.specs.of_schedule_lines.declared.line.ScheduleLine.{ScheduleLine}
 use Rattle.trace_book.specs.declared.record.Record.TheVariants as says
 use Rattle.trace_book.specs.declared.record.StopCause.{StopCause}
 use Rattle.trace_book.specs.declared.record.StopCause.TheVariants as cause
@@ -13,18 +15,18 @@ use Rattle.role_steps.specs.declared.copies.FileCopy.{FileCopy}
 use Rattle.role_steps.specs.declared.rounds.InEpoch.{InEpoch}
 use Rattle.role_steps.specs.declared.synchronizing.SyncTable.{SyncTable}
 use Rattle.role_steps.proofs.Sending.{every_append, every_map}
-use Rattle.the_run.specs.Disks.{Disk, Booted, Whole, CutOff, boots, cut_disk, is_on_disk}
-use Rattle.the_run.specs.Steps.{step}
-use Rattle.the_run.specs.Worlds.{World, Place, Running, Stopped, Numbered, number_of, links_of, place_at, place_in, place_site, script_of, happened, numbered_from, told_onto, disk_of, puts, arms, passed, stops_with, cause_of, acts, fresh, formatted, first_place, first_world}
-use Rattle.the_run.specs.Runs.{boots_as, packet_record, run_in}
-use Rattle.the_run.specs.Kept.{WasSent, IsOwn, Kept}
-use Rattle.the_run.proofs.Boots.{at_each, acts_cases, every_newest, every_numbered, every_weaker}
-use Rattle.the_run.proofs.Events.{happened_keeps, puts_other, puts_same}
-use Rattle.the_run.proofs.InsideSync.{every_without}
-use Rattle.the_run.proofs.Runs.{every_run, some_eq}
-use Rattle.run_laws.specs.Naming.{Deeds, DeedsOf, Good}
-use Rattle.run_laws.proofs.Run.{good_kept, first_good, found_among, was_sent}
-use Rattle.run_laws.proofs.Steps.{EventNames}
+use Rattle.vector_laws.specs.of_the_run.Disks.{Disk, Booted, Whole, CutOff, boots, cut_disk, is_on_disk}
+use Rattle.vector_laws.specs.of_the_run.Steps.{step}
+use Rattle.vector_laws.specs.of_the_run.Worlds.{World, Place, Running, Stopped, Numbered, number_of, links_of, place_at, place_in, place_site, script_of, happened, numbered_from, told_onto, disk_of, puts, arms, passed, stops_with, cause_of, acts, fresh, formatted, first_place, first_world}
+use Rattle.vector_laws.specs.of_the_run.Runs.{boots_as, packet_record, run_in}
+use Rattle.vector_laws.specs.of_the_run.Kept.{WasSent, IsOwn, Kept}
+use Rattle.vector_laws.proofs.of_the_run.Boots.{at_each, acts_cases, every_newest, every_numbered, every_weaker}
+use Rattle.vector_laws.proofs.of_the_run.Events.{happened_keeps, puts_other, puts_same}
+use Rattle.vector_laws.proofs.of_the_run.InsideSync.{every_without}
+use Rattle.vector_laws.proofs.of_the_run.Runs.{every_run}
+use Rattle.vector_laws.specs.of_run_laws.Naming.{Deeds, DeedsOf, Good}
+use Rattle.vector_laws.proofs.of_run_laws.Run.{good_kept, first_good, found_among, was_sent}
+use Rattle.vector_laws.proofs.of_run_laws.Steps.{EventNames}
 use Rattle.vector_laws.specs.Written.{past_of, WasTold}
 use Rattle.vector_laws.specs.Facts.{onto}
 use Rattle.vector_laws.proofs.FactsRun.{past_onto}
@@ -102,7 +104,7 @@ old_views told w f t v here = view_later (past_of w.trace) (onto told (past_of w
 
 views_of : (s : ℕ) (new : Place) (told : List Told) (w : World) → WorldFact w → PlaceFact (onto told (past_of w.trace)) s new → (t : ℕ) (v : SiteView) → place_at (puts s new w) t ≡ Some (Running v) → ViewFact (onto told (past_of w.trace)) t v
 views_of s new told w f fine t v here = at_each s t (ViewFact (onto told (past_of w.trace)) t v)
-    (λ e. subst (λ (n : ℕ). ViewFact (onto told (past_of w.trace)) n v) e (fine v (some_eq new (Running v) (sym (puts_same s new w) ∙ (ap (place_at (puts s new w)) e ∙ here)))))
+    (λ e. subst (λ (n : ℕ). ViewFact (onto told (past_of w.trace)) n v) e (fine v (some_same new (Running v) (sym (puts_same s new w) ∙ (ap (place_at (puts s new w)) e ∙ here)))))
     (λ ne. old_views told w f t v (sym (puts_other s t new w ne) ∙ here))
 
 -- a stop
@@ -123,7 +125,7 @@ acts_fact n s v o w fine g =
     acts_cases WorldFact n s v o w
     (happened_fact n o.sent o.told (λ now. puts s (Running o.view) now) w owed refl refl g)
     (λ a. happened_fact n o.sent o.told (λ now. puts s (Running o.view) (arms a now)) w (λ f. (let r : Owed o.told o.sent (λ now. puts s (Running o.view) now) w = owed f in record { goes = r.goes; sent = r.sent; views = r.views })) refl refl g)
-    (λ d a e. cut_fact n s d (cut_disk v.boot v.store d a.how a.left) (cause_of a.how) (is_on_disk d a.how a.left) w (subst (DiskFact (past_of w.trace)) e fine.disk) g)
+    (λ d a e. cut_fact n s d (cut_disk v.boot v.store d a.how a.left) (cause_of a.how) (is_on_disk v.store d a.how a.left) w (subst (DiskFact (past_of w.trace)) e fine.disk) g)
   where
     owed : WorldFact w → Owed o.told o.sent (λ now. puts s (Running o.view) now) w
     owed f = record { goes = fine.goes; sent = fine.sent; views = views_of s (Running o.view) o.told w f (running_fact (onto o.told (past_of w.trace)) s o.view fine.view) }
@@ -159,7 +161,7 @@ as_fact n s (CutOff x how) w g = stops_fact n s x (Shown (says.Stopped s (cause_
 
 -- ---- every event and change ----
 
-abbrev Both : World → Type 0
+abbrev pub Both : World → Type 0
 Both w = Good w × WorldFact w
 
 own_fact : (past : List Told) (me : ℕ) (e : Event) → IsOwn e → EventFact past me e
@@ -188,7 +190,7 @@ passed_world k w f = record { goes = f.goes; views = f.views; packets = f.packet
 packets_told : (xs : List Numbered) → Every Aloof (map packet_record xs)
 packets_told xs = every_map Aloof packet_record xs (λ x. tt)
 
-both_kept : (c : Config) → Kept c Both
+pub both_kept : (c : Config) → Kept c Both
 both_kept c = record {
   steps = λ n s e v w here own g. (
     good.steps n s e v w here own g.0,
@@ -225,17 +227,20 @@ first_fact : (c : Config) (ss : List ℕ) (s : ℕ) (v : SiteView) → place_in 
 first_fact c [] s v e = absurd (none_place (Running v) e)
 first_fact c (t ∷ ts) s v e =
     (elim (t == s) as (λ b. place_in (elim b [ true ↦ Some (first_place c t) | false ↦ row place_site s (map (first_place c) ts) ]) ≡ Some (Running v) → ViewFact [] s v) [
-      | true ↦ λ f. subst (ViewFact [] s) (running_view (fresh 1 (formatted c t)) v (some_eq (Running (fresh 1 (formatted c t))) (Running v) f)) (fresh_fact [] s 1 (formatted c t))
+      | true ↦ λ f. subst (ViewFact [] s) (running_view (fresh 1 (formatted c t)) v (some_same (Running (fresh 1 (formatted c t))) (Running v) f)) (fresh_fact [] s 1 (formatted c t))
       | false ↦ λ f. first_fact c ts s v f
     ]) e
 
-first_world_fact : (c : Config) → WorldFact (first_world c)
+pub first_world_fact : (c : Config) → WorldFact (first_world c)
 first_world_fact c = record { goes = tt; views = λ s v here. first_fact c _ s v here; packets = tt; underway = tt }
+
+pub first_both : (c : Config) → Both (first_world c)
+first_both c = (first_good c, first_world_fact c)
 
 -- ---- the laws ----
 
 pub run_facts : (c : Config) (lines : List ScheduleLine) → WorldFact (run_in c lines)
-run_facts c lines = (every_run c Both (both_kept c) (first_good c, first_world_fact c) lines).1
+run_facts c lines = (every_run c Both (both_kept c) (first_both c) lines).1
 
 pub run_goes : (c : Config) (lines : List ScheduleLine) → InstancesGoOn (past_of (run_in c lines).trace)
 run_goes c lines = let f : WorldFact (run_in c lines) = run_facts c lines in f.goes

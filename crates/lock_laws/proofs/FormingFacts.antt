@@ -1,5 +1,6 @@
 -- Adoptions, mends, and how an epoch is formed: what a site tells, keeps and sends of instances is as it went on.
 use Rattle.std.proofs.Common.{◌≡◌, ℕ, ◌+◌, Bool, true, false, cond, ◌&&◌, not, List, [], ◌∷◌, Option, Some, None, refl, sym, subst}
+use Rattle.role_steps.proofs.of_plain_facts.Tests.{both_true, false_true, not_true}
 use Rattle.locus_ids.specs.declared.ids.EpochId.{EpochId}
 use Rattle.locus_ids.specs.declared.sites.Links.{Links}
 use Rattle.locus_ids.specs.declared.sites.Members.{Members}
@@ -29,12 +30,11 @@ use Rattle.role_steps.specs.declared.users.Asking.TheVariants as asking
 use Rattle.role_steps.specs.declared.users.WaitingCall.{WaitingCall}
 use Rattle.role_steps.specs.declared.users.UserInstance.{UserInstance}
 use Rattle.role_steps.proofs.Sending.{every_cond, every_map, every_flat_map}
-use Rattle.the_run.specs.Steps.{adopts_of, starts_mends_of, ends_event, epoch_id}
-use Rattle.the_run.proofs.InsideSync.{every_row, Found, row_found}
-use Rattle.the_run.proofs.Boots.{every_weaker}
-use Rattle.run_laws.specs.Naming.{Deeds, ViewOk}
+use Rattle.vector_laws.specs.of_the_run.Steps.{adopts_of, starts_mends_of, ends_event, epoch_id}
+use Rattle.vector_laws.proofs.of_the_run.InsideSync.{every_row, Found, row_found}
+use Rattle.vector_laws.proofs.of_the_run.Boots.{every_weaker}
+use Rattle.vector_laws.specs.of_run_laws.Naming.{Deeds, ViewOk}
 use Rattle.vector_laws.specs.Facts.{onto}
-use Rattle.vector_laws.proofs.FormingFacts.{both_true}
 use Rattle.vector_laws.proofs.SiteDisks.{starts_mends_keeps}
 use Rattle.lock_laws.specs.Facts.{PacketFact, Factless, HeldFact, AskingFact, WaitingFact, UsersFact, InstanceFact, TableFact, InEpochFact, ViewFact}
 use Rattle.lock_laws.proofs.Facts.{Later, one_later, users_later, instances_later, tables_later, then_fine, Aloof, aloof_go}
@@ -198,9 +198,6 @@ asking_none past now s e (asking.Close serial ss) h = absurd h
 asking_none past now s e (asking.Look file what take) h = tt
 asking_none past now s e (asking.Open serial file how) h = tt
 
-not_started : false ≡ true → ⊥
-not_started e = cc
-
 joins_fact : (c : Config) (me : ℕ) (past : List Told) (id : EpochId) (m : Members) (v : SiteView) → v.epoch ≡ None → ViewFact past me v → SiteFine me past (joins c me id m v)
 joins_fact c me past id m v gone h =
     let o : Outcome SiteView = joins c me id m v in
@@ -213,16 +210,12 @@ joins_fact c me past id m v gone h =
           instances = every_weaker (HeldFact past me None) (HeldFact now me (Some id)) v.users.instances (held_none past now me id) users.instances;
           waiting = every_weaker (WaitingFact past me None) (WaitingFact now me (Some id)) v.users.waiting (λ (w : WaitingCall). asking_none past now me id w.asking) users.waiting;
         };
-        inside = (subst (λ (xs : List Instance). Every (InstanceFact now me id) xs) (sym none) tt, every_map (TableFact now id) new_table _ (λ g. record { started = λ s. absurd (not_started s); opens = tt; apart = tt; looks = tt; early = tt }));
+        inside = (subst (λ (xs : List Instance). Every (InstanceFact now me id) xs) (sym none) tt, every_map (TableFact now id) new_table _ (λ g. record { started = λ s. absurd (false_true s); opens = tt; apart = tt; looks = tt; early = tt }));
       };
       sent = all_reports_aloof (frame_in c me v.boot (record { id = id; members = m })) now (joined_view c me id m v);
       goes = (tt, tt);
       disk = tt;
     }
-
-not_true : (a : Bool) → not a ≡ true → a ≡ false
-not_true true h = absurd (cc)
-not_true false h = refl
 
 pub on_install_fact : (K : Deeds) (c : Config) (me : ℕ) (past : List Told) (from from_boot : ℕ) (id : EpochId) (m : Members) (v : SiteView) → ViewOk K v → ViewFact past me v → SiteFine me past (on_install c me from from_boot id m v)
 on_install_fact K c me past from from_boot id m v ok h =

@@ -2,6 +2,9 @@
 use Rattle.std.proofs.Common.{◌≡◌, ℕ, ◌==◌, Bool, true, false, cond, ◌⊎◌, List, [], ◌∷◌, ◌++◌, Option, Some, None, refl, sym, ◌∙◌, ap, subst, inl, inr, arith}
 use Rattle.std.proofs.lemmas.Bool.Decides.{nat_tests}
 use Rattle.std.specs.List.{list_any, flat_map}
+use Rattle.role_steps.proofs.of_plain_facts.Numbers.{equal}
+use Rattle.role_steps.proofs.of_plain_facts.Options.{none_some, some_same}
+use Rattle.role_steps.proofs.of_plain_facts.Tests.{and_true}
 use Rattle.locus_ids.specs.Sites.{has}
 use Rattle.locus_ids.specs.declared.ids.EpochId.{EpochId}
 use Rattle.locus_ids.specs.declared.ids.FileId.{FileId}
@@ -37,15 +40,15 @@ use Rattle.role_steps.specs.declared.synchronizing.OpenStage.TheVariants as stag
 use Rattle.role_steps.specs.declared.synchronizing.LastLook.{LastLook}
 use Rattle.role_steps.specs.declared.synchronizing.Early.{Early}
 use Rattle.role_steps.proofs.Sending.{every_append}
-use Rattle.the_run.proofs.InsideSync.{Found, row_found}
+use Rattle.vector_laws.proofs.of_the_run.InsideSync.{Found, row_found}
 use Rattle.vector_laws.specs.Facts.{onto, WaitingFact, EarlyFact}
 use Rattle.vector_laws.proofs.Facts.{onto_append}
 use Rattle.vector_laws.proofs.SyncFacts.{FoundAt, row_at}
 use Rattle.lock_laws.specs.Locks.{IsOfAFile}
 use Rattle.lock_laws.specs.Grants.{WasGrantedAs, IsOver}
 use Rattle.lock_laws.proofs.Facts.{onto_later}
-use Rattle.lock_laws.proofs.Apart.{ReadsBeside, ApartDecision, decision_apart, same_numbered, both_ands}
-use Rattle.lock_laws.proofs.GrantTold.{latest_other, latest_same, test_same, none_some, some_same, Held, TableLock, held_later, lock_later, GrantHere, Bare, bare_since, AllLocked, locked_append, bare_locked, bare_here}
+use Rattle.lock_laws.proofs.Apart.{ReadsBeside, ApartDecision, decision_apart, same_numbered}
+use Rattle.lock_laws.proofs.GrantTold.{latest_other, latest_same, Held, TableLock, held_later, lock_later, GrantHere, Bare, bare_since, AllLocked, locked_append, bare_locked, bare_here}
 
 -- ---- outcomes of a table ----
 
@@ -86,7 +89,7 @@ new_held : (now : List Told) (e : EpochId) (t : SyncTable) (new : OpenRow) (key 
 new_held now e t new key file m none h = record { held = h.held; found = by_key (open_key new == key) refl; file_is = h.file_is; mode_is = h.mode_is; open_or_over = h.open_or_over }
   where
     by_key : (b : Bool) → (open_key new == key) ≡ b → row open_key key (with_latest open_key new t.opens) ≡ Some h.held
-    by_key true e = absurd (none_some h.held (sym none ∙ subst (λ (k : ℕ). row open_key k t.opens ≡ Some h.held) (sym (test_same (open_key new) key e)) h.found))
+    by_key true e = absurd (none_some h.held (sym none ∙ subst (λ (k : ℕ). row open_key k t.opens ≡ Some h.held) (sym (equal (open_key new) key e)) h.found))
     by_key false e = latest_other open_key new key t.opens e ∙ h.found
 
 put_held : (now : List Told) (e : EpochId) (t : SyncTable) (r new : OpenRow) (key : ℕ) (file : FileId) (m : Mode) → IsOfAFile m → row open_key (open_key new) t.opens ≡ Some r → (IsOfAFile r.mode → new.file ≡ r.file) → new.mode ≡ r.mode → (is_open_stage new.stage ≡ true) ⊎ IsOver now e (open_key new) → Held now e t key file m → Held now e (with_open new t) key file m
@@ -94,7 +97,7 @@ put_held now e t r new key file m it found file_is mode_is still h = by_key (ope
   where
     by_key : (b : Bool) → (open_key new == key) ≡ b → Held now e (with_open new t) key file m
     by_key true q =
-        let k : open_key new ≡ key = test_same (open_key new) key q in
+        let k : open_key new ≡ key = equal (open_key new) key q in
         let is : r ≡ h.held = some_same r h.held (sym found ∙ subst (λ (n : ℕ). row open_key n t.opens ≡ Some h.held) (sym k) h.found) in
         let mode_was : r.mode ≡ m = ap (λ (x : OpenRow). x.mode) is ∙ h.mode_is in
         record {
@@ -121,7 +124,7 @@ beside_read : (past : List Told) (e : EpochId) (t : SyncTable) (m : Mode) (file 
 beside_read past e t m file key other it beside h = by_stage_of h.open_or_over
   where
     reads : is_open_stage h.held.stage ≡ true → (is_read m ≡ true) × (is_read h.held.mode ≡ true)
-    reads is_open = subst (Found (ReadsBeside m file)) h.found (row_found (ReadsBeside m file) open_key key t.opens beside) it (both_ands (same_file h.held.file file) (is_open_stage h.held.stage) (subst (λ (x : FileId). same_file x file ≡ true) (sym h.file_is) (same_file_self file)) is_open)
+    reads is_open = subst (Found (ReadsBeside m file)) h.found (row_found (ReadsBeside m file) open_key key t.opens beside) it (and_true (same_file h.held.file file) (is_open_stage h.held.stage) (subst (λ (x : FileId). same_file x file ≡ true) (sym h.file_is) (same_file_self file)) is_open)
 
     by_stage_of : (is_open_stage h.held.stage ≡ true) ⊎ IsOver past e key → ((is_read m ≡ true) × (is_read other ≡ true)) ⊎ IsOver past e key
     by_stage_of (inl is_open) = inl ((reads is_open).0, subst (λ (n : Mode). is_read n ≡ true) h.mode_is (reads is_open).1)
@@ -347,10 +350,6 @@ on_closed_of_keeps c past me members f ss key made (Some r) t e h = closes_at_ke
 
 pub on_closed_keeps : (c : Config) (past : List Told) (me : ℕ) (members : Members) (f : Frame) (ss : ℕ) (inst : Serial) (made : Option MadeVersion) (t : SyncTable) → Lock c past me members f t → Fine c past me members f t (on_closed f ss inst made t)
 on_closed_keeps c past me members f ss inst made t h = on_closed_of_keeps c past me members f ss (serial_key inst) made (open_row t inst) t refl h
-
-have_rows : (from : ℕ) (stamp : Stamp) (o : Option FileRow) (t : SyncTable) → SameRows t (on_have_of from stamp o t)
-have_rows from stamp None t = record { group = refl; opens = refl; early = refl }
-have_rows from stamp (Some r) t = record { group = refl; opens = refl; early = refl }
 
 pub have_group : (from : ℕ) (stamp : Stamp) (o : Option FileRow) (t : SyncTable) → (on_have_of from stamp o t).group ≡ t.group
 have_group from stamp None t = refl

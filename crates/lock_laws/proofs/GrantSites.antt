@@ -1,6 +1,8 @@
 -- The tables of a site know each plain grant of their groups: what each event of a site keeps of that.
 use Rattle.std.proofs.Common.{◌≡◌, ℕ, ◌==◌, nat_lt, Bool, true, false, cond, List, [], ◌∷◌, ◌++◌, map, filter, Option, Some, None, refl, sym, ◌∙◌, ap, subst, inl, inr, arith}
 use Rattle.std.proofs.lemmas.Bool.Decides.{nat_tests}
+use Rattle.role_steps.proofs.of_plain_facts.Numbers.{apart, equal}
+use Rattle.role_steps.proofs.of_plain_facts.Tests.{false_true}
 use Rattle.locus_ids.specs.declared.ids.EpochId.{EpochId}
 use Rattle.locus_ids.specs.declared.ids.FileId.{FileId}
 use Rattle.locus_ids.specs.declared.ids.Mode.{Mode}
@@ -17,10 +19,10 @@ use Rattle.role_steps.specs.Adoption.{table_group, with_table}
 use Rattle.role_steps.specs.declared.rounds.InEpoch.{InEpoch}
 use Rattle.role_steps.specs.declared.synchronizing.SyncTable.{SyncTable}
 use Rattle.role_steps.proofs.Sending.{every_append}
-use Rattle.the_run.specs.Steps.{at_table_of}
-use Rattle.the_run.proofs.Boots.{every_weaker}
-use Rattle.the_run.proofs.InsideSync.{every_row, Found, first_found}
-use Rattle.run_laws.specs.Words.{Talks}
+use Rattle.vector_laws.specs.of_the_run.Steps.{at_table_of}
+use Rattle.vector_laws.proofs.of_the_run.Boots.{every_weaker}
+use Rattle.vector_laws.proofs.of_the_run.InsideSync.{every_row, Found, first_found}
+use Rattle.vector_laws.specs.of_run_laws.Words.{Talks}
 use Rattle.vector_laws.specs.Facts.{onto}
 use Rattle.vector_laws.proofs.Facts.{onto_append}
 use Rattle.vector_laws.proofs.SyncFacts.{FoundAt, row_at}
@@ -41,12 +43,6 @@ Rising (t ∷ ts) = Every (λ (u : SyncTable). nat_lt t.group u.group ≡ true) 
 less_not : (a b : ℕ) → nat_lt a b ≡ true → a ≡ b → ⊥
 less_not a b h e = grind (arith, nat_tests)
 
-false_true : false ≡ true → ⊥
-false_true e = cc
-
-differs : (a b : ℕ) → (a == b) ≡ false → a ≡ b → ⊥
-differs a b h e = grind (arith, nat_tests)
-
 less_same : (a b c : ℕ) → (a == b) ≡ true → nat_lt a c ≡ true → nat_lt b c ≡ true
 less_same a b c h g = grind (arith, nat_tests)
 
@@ -64,7 +60,7 @@ put_tables P Q new (u ∷ us) r q f h =
       | true ↦ λ e. (f u (less_not u.group new.group e) h.0, put_tables P Q new us r.1 q f h.1)
       | false ↦ λ e. (elim (u.group == new.group) as (λ b. (u.group == new.group) ≡ b → Every Q (elim b [ true ↦ new ∷ us | false ↦ new ∷ u ∷ us ])) [
         | true ↦ λ k. (q, others us e r.0 h.1)
-        | false ↦ λ k. (q, (f u (differs u.group new.group k) h.0, others us e r.0 h.1))
+        | false ↦ λ k. (q, (f u (apart u.group new.group k) h.0, others us e r.0 h.1))
       ]) refl
     ]) refl
   where
@@ -110,9 +106,6 @@ pub passing : (P : ℕ → Type 0) (test : ℕ → Bool) (gs : List ℕ) → ((g
 passing P test [] f = tt
 passing P test (g ∷ gs) f = (elim (test g) as (λ b. test g ≡ b → Every P (cond b (g ∷ filter test gs) (filter test gs))) [ true ↦ λ e. (f g e, passing P test gs f) | false ↦ λ e. passing P test gs f ]) refl
 
-test_same : (a b : ℕ) → (a == b) ≡ true → a ≡ b
-test_same a b e = grind (arith, nat_tests)
-
 pub is_synced : (c : Config) (me : ℕ) (members : Members) (g : ℕ) → is_sync_site c me members g ≡ true → sync_site c members g ≡ Some me
 is_synced c me members g = by_site (sync_site c members g) refl
   where
@@ -124,7 +117,7 @@ is_synced c me members g = by_site (sync_site c members g) refl
 
     by_site : (o : Option ℕ) → sync_site c members g ≡ o → is_sync_site c me members g ≡ true → sync_site c members g ≡ Some me
     by_site None e h = absurd (false_true (sym (none e) ∙ h))
-    by_site (Some s) e h = e ∙ ap Some (test_same s me (sym (some s e) ∙ h))
+    by_site (Some s) e h = e ∙ ap Some (equal s me (sym (some s e) ∙ h))
 
 -- ---- what was told, and a site ----
 

@@ -1,5 +1,6 @@
 -- Each event of a site: its tables know each plain grant of their groups, and each grant is locked.
 use Rattle.std.proofs.Common.{◌≡◌, ℕ, ◌+◌, true, false, cond, ◌&&◌, not, List, [], ◌∷◌, ◌++◌, map, filter, Option, Some, None, refl, sym, ◌∙◌, subst, inl, inr}
+use Rattle.role_steps.proofs.of_plain_facts.Options.{some_same}
 use Rattle.locus_ids.specs.Sites.{has}
 use Rattle.locus_ids.specs.declared.ids.EpochId.{EpochId}
 use Rattle.locus_ids.specs.declared.ids.FileId.{FileId}
@@ -34,10 +35,10 @@ use Rattle.role_steps.specs.declared.synchronizing.SyncTable.{SyncTable}
 use Rattle.role_steps.specs.declared.synchronizing.FileRow.{FileRow}
 use Rattle.role_steps.specs.declared.users.WaitingCall.{WaitingCall}
 use Rattle.role_steps.proofs.Sending.{every_map}
-use Rattle.the_run.specs.Steps.{is_dropped, takes_framed, takes, adopts_in, tries_at, whole, call_frame, epoch_id, takes_call, step, adopts_of, starts_mends_of, ends_event, from_user, group_of, is_opened_in, takes_inside, with_pulls}
-use Rattle.the_run.proofs.Boots.{every_weaker}
-use Rattle.the_run.proofs.InsideSync.{Found, row_found}
-use Rattle.run_laws.proofs.SyncTells.{on_opened_talks, on_open_talks, on_look_talks, on_report_talks, on_closed_talks, on_have_talks}
+use Rattle.vector_laws.specs.of_the_run.Steps.{is_dropped, takes_framed, takes, adopts_in, tries_at, whole, call_frame, epoch_id, takes_call, step, adopts_of, starts_mends_of, ends_event, from_user, group_of, is_opened_in, takes_inside, with_pulls}
+use Rattle.vector_laws.proofs.of_the_run.Boots.{every_weaker}
+use Rattle.vector_laws.proofs.of_the_run.InsideSync.{Found, row_found}
+use Rattle.vector_laws.proofs.of_run_laws.Telling.{on_opened_talks, on_open_talks, on_look_talks, on_report_talks, on_closed_talks, on_have_talks}
 use Rattle.vector_laws.specs.Facts.{onto}
 use Rattle.vector_laws.proofs.Facts.{onto_append}
 use Rattle.lock_laws.specs.Joins.{WasJoined}
@@ -202,9 +203,6 @@ on_refuse_site c me past links id theirs (Some r) v h =
     ]
 
 -- ---- joining ----
-
-some_same : (a b : ℕ) → ◌≡◌ {A = Option ℕ} (Some a) (Some b) → a ≡ b
-some_same a b e = cc
 
 mapped : (Q : SyncTable → Type 0) (gs : List ℕ) → Every (λ (g : ℕ). Q (new_table g)) gs → Every Q (map new_table gs)
 mapped Q [] h = tt

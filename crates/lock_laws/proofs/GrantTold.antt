@@ -1,6 +1,7 @@
 -- What a table knows of plain grants, and what is told of them.
 use Rattle.std.proofs.Common.{◌≡◌, ℕ, ◌==◌, Bool, true, false, ◌⊎◌, List, [], ◌∷◌, ◌++◌, Option, Some, None, refl, sym, ◌∙◌, ap, subst, inl, inr, arith}
 use Rattle.std.proofs.lemmas.Bool.Decides.{nat_tests}
+use Rattle.role_steps.proofs.of_plain_facts.Numbers.{equal_self}
 use Rattle.locus_ids.specs.declared.ids.EpochId.{EpochId}
 use Rattle.locus_ids.specs.declared.ids.FileId.{FileId}
 use Rattle.locus_ids.specs.declared.ids.Mode.{Mode}
@@ -14,7 +15,7 @@ use Rattle.role_steps.specs.Views.{Told, Shown, sync_site}
 use Rattle.role_steps.specs.Opens.{is_open_stage, open_key}
 use Rattle.role_steps.specs.declared.synchronizing.SyncTable.{SyncTable}
 use Rattle.role_steps.specs.declared.synchronizing.OpenRow.{OpenRow}
-use Rattle.role_steps.proofs.Rows.{same, passed_row, found_row}
+use Rattle.role_steps.proofs.Rows.{passed_row, found_row}
 use Rattle.vector_laws.specs.Facts.{onto, EarlyFact}
 use Rattle.lock_laws.specs.Locks.{IsOfAFile}
 use Rattle.lock_laws.specs.Grants.{GrantedAsRecord, GrantedAs, WasGrantedAs, IsOver, LockedTold, LockedRecord}
@@ -38,21 +39,12 @@ latest_other key x t (y ∷ ys) h =
     ]) refl
 
 pub latest_same : {A : Type 0} (key : A → ℕ) (x : A) (xs : List A) → row key (key x) (with_latest key x xs) ≡ Some x
-latest_same key x [] = found_row x None (key x == key x) (same (key x))
+latest_same key x [] = found_row x None (key x == key x) (equal_self (key x))
 latest_same key x (y ∷ ys) =
     (elim (key y == key x) as (λ b. (key y == key x) ≡ b → row key (key x) (elim b [ true ↦ x ∷ ys | false ↦ y ∷ with_latest key x ys ]) ≡ Some x) [
-      | true ↦ λ e. found_row x (row key (key x) ys) (key x == key x) (same (key x))
+      | true ↦ λ e. found_row x (row key (key x) ys) (key x == key x) (equal_self (key x))
       | false ↦ λ e. passed_row y (row key (key x) (with_latest key x ys)) (key y == key x) e ∙ latest_same key x ys
     ]) refl
-
-pub test_same : (a b : ℕ) → (a == b) ≡ true → a ≡ b
-test_same a b e = grind (arith, nat_tests)
-
-pub none_some : {A : Type 0} (x : A) → ◌≡◌ {A = Option A} None (Some x) → ⊥
-none_some x e = cc
-
-pub some_same : {A : Type 0} (x y : A) → ◌≡◌ {A = Option A} (Some x) (Some y) → x ≡ y
-some_same x y e = cc
 
 -- ---- what a table knows ----
 
@@ -124,7 +116,7 @@ bare_before e key file m (x ∷ xs) past it h g = old (bare_before e key file m 
     old (inr k) = k
 
 pub bare_since : (told past : List Told) (e : EpochId) (group : ℕ) → Every Bare told → NoneSince past (onto told past) e group
-bare_since told past e group h key file m it same g = bare_before e key file m told past it h g
+bare_since told past e group h key file m it equal_self g = bare_before e key file m told past it h g
 
 pub here_grant_record : (e : EpochId) (at : EpochId) (group key : ℕ) (file : FileId) (m : Mode) (r : Record) → IsOfAFile m → HereRecord at group r → GrantedAsRecord e key file m r → file.group ≡ group
 here_grant_record e at group key file m (says.Grant now call request inst n of stamp ss) it h g = ap (λ (f : FileId). f.group) (sym g.2) ∙ (h (subst IsOfAFile (sym g.3) it)).1
@@ -144,7 +136,7 @@ here_before e at group key file m (x ∷ xs) past it ne h g = old (here_before e
 
 -- the tables of other groups don't see it
 pub here_since : (told past : List Told) (e : EpochId) (group other : ℕ) → (other ≡ group → ⊥) → Every (GrantHere e group) told → NoneSince past (onto told past) e other
-here_since told past e group other ne h key file m it same g = here_before e e group key file m told past it (λ q. ne (sym same ∙ q)) h g
+here_since told past e group other ne h key file m it equal_self g = here_before e e group key file m told past it (λ q. ne (sym equal_self ∙ q)) h g
 
 abbrev pub AllLocked : List Told → List Told → Type 0
 AllLocked past [] = Unit {0}

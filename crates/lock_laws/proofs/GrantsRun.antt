@@ -1,11 +1,12 @@
 -- In every run each plain grant is locked by the earlier ones of its file in its epoch.
 use Rattle.std.proofs.Common.{◌≡◌, ◌≢◌, ℕ, ◌==◌, Bool, true, false, cond, List, [], ◌∷◌, map, Option, Some, None, refl, sym, ◌∙◌, ap, subst, inl, inr}
+use Rattle.role_steps.proofs.of_plain_facts.Options.{some_same as some_eq, some_same}
 use Rattle.locus_ids.specs.declared.ids.EpochId.{EpochId}
 use Rattle.locus_ids.specs.declared.ids.FileId.{FileId}
 use Rattle.locus_ids.specs.declared.ids.Mode.{Mode}
 use Rattle.locus_ids.specs.declared.sites.Members.{Members}
 use Rattle.locus_ids.specs.declared.config.Config.{Config}
-use Rattle.schedule_lines.specs.declared.line.ScheduleLine.{ScheduleLine}
+use Rattle.vector_laws.specs.of_schedule_lines.declared.line.ScheduleLine.{ScheduleLine}
 use Rattle.trace_book.specs.declared.record.Record.{Record}
 use Rattle.trace_book.specs.declared.record.Record.TheVariants as says
 use Rattle.trace_book.specs.declared.record.StopCause.{StopCause}
@@ -17,16 +18,16 @@ use Rattle.role_steps.specs.Views.{SiteView, Told, Shown, DiskWrite, Outcome, Re
 use Rattle.role_steps.specs.declared.copies.FileCopy.{FileCopy}
 use Rattle.role_steps.specs.declared.rounds.InEpoch.{InEpoch}
 use Rattle.role_steps.proofs.Sending.{every_map}
-use Rattle.the_run.specs.Disks.{Disk, Booted, Whole, CutOff, boots, cut_disk, is_on_disk}
-use Rattle.the_run.specs.Steps.{step}
-use Rattle.the_run.specs.Joins.{Joined}
-use Rattle.the_run.specs.Worlds.{World, Place, Running, Stopped, Numbered, Line, links_of, place_at, place_in, place_site, script_of, happened, told_onto, disk_of, puts, arms, passed, stops_with, cause_of, acts, fresh, formatted, first_place, first_world}
-use Rattle.the_run.specs.Runs.{boots_as, packet_record, run_in}
-use Rattle.the_run.specs.Kept.{Kept}
-use Rattle.the_run.proofs.Boots.{at_each, acts_cases, every_weaker}
-use Rattle.the_run.proofs.Events.{happened_keeps, puts_other, puts_same}
-use Rattle.the_run.proofs.OneList.{one_list}
-use Rattle.the_run.proofs.Runs.{every_run, some_eq}
+use Rattle.vector_laws.specs.of_the_run.Disks.{Disk, Booted, Whole, CutOff, boots, cut_disk, is_on_disk}
+use Rattle.vector_laws.specs.of_the_run.Steps.{step}
+use Rattle.vector_laws.specs.of_the_run.Joins.{Joined}
+use Rattle.vector_laws.specs.of_the_run.Worlds.{World, Place, Running, Stopped, Numbered, Line, links_of, place_at, place_in, place_site, script_of, happened, told_onto, disk_of, puts, arms, passed, stops_with, cause_of, acts, fresh, formatted, first_place, first_world}
+use Rattle.vector_laws.specs.of_the_run.Runs.{boots_as, packet_record, run_in}
+use Rattle.vector_laws.specs.of_the_run.Kept.{Kept}
+use Rattle.vector_laws.proofs.of_the_run.Boots.{at_each, acts_cases, every_weaker}
+use Rattle.vector_laws.proofs.of_the_run.Events.{happened_keeps, puts_other, puts_same}
+use Rattle.vector_laws.proofs.of_the_run.OneList.{one_list}
+use Rattle.vector_laws.proofs.of_the_run.Runs.{every_run}
 use Rattle.vector_laws.specs.Written.{past_of}
 use Rattle.vector_laws.specs.Held.{IsOf, Writes, OnDisk}
 use Rattle.vector_laws.specs.Facts.{onto}
@@ -64,9 +65,6 @@ others_before c now s e key file m (x ∷ xs) past it other h g = old (others_be
     old : WasGrantedAs (x ∷ past) e key file m → WasGrantedAs past e key file m
     old (inl k) = absurd (other (granted_by c now s e key file m x it h.0 k))
     old (inr k) = k
-
-some_same : (a b : ℕ) → ◌≡◌ {A = Option ℕ} (Some a) (Some b) → a ≡ b
-some_same a b e = cc
 
 not_there : (c : Config) (now : List Told) (s t : ℕ) (e : EpochId) (members : Members) (group : ℕ) → s ≢ t → OneTold now → WasJoined now t e members → sync_site c members group ≡ Some t → SyncedBy c now e group s → ⊥
 not_there c now s t e members group ne one joined synced h =
@@ -147,7 +145,7 @@ acts_fact c n s v o w here bare step g =
     acts_cases (WhereOrderly c) n s v o w
     (happened_fact c s n o.sent o.told (λ now. puts s (Running o.view) now) w owed g)
     (λ a. happened_fact c s n o.sent o.told (λ now. puts s (Running o.view) (arms a now)) w (λ order f. (let r : Owed c o.told (λ now. puts s (Running o.view) now) w s = owed order f in record { by = r.by; locked = r.locked; views = r.views })) g)
-    (λ d a e. cut_fact c n s d (cut_disk v.boot v.store d a.how a.left) (cause_of a.how) (is_on_disk d a.how a.left) w (subst BareWrite e bare) g)
+    (λ d a e. cut_fact c n s d (cut_disk v.boot v.store d a.how a.left) (cause_of a.how) (is_on_disk v.store d a.how a.left) w (subst BareWrite e bare) g)
   where
     owed : Orderly (onto o.told (past_of w.trace)) → GrantFact c w → Owed c o.told (λ now. puts s (Running o.view) now) w s
     owed order f = let k : SiteKeeps c s (past_of w.trace) o = step f.synced order (f.views s v here) in record { by = k.by; locked = k.locked; views = views_of c s o w order k f }

@@ -1,6 +1,8 @@
 -- What a site joins in an event, by its boot: no other part of an event joins or boots.
 use Rattle.std.proofs.Common.{◌≡◌, ℕ, zero, suc, ◌+◌, ◌==◌, ◌⊎◌, Bool, true, false, cond, ◌&&◌, not, List, [], ◌∷◌, ◌++◌, map, get_or, Option, Some, None, refl, sym, ◌∙◌, ap, subst, inl, inr, arith}
 use Rattle.std.proofs.lemmas.Bool.Decides.{nat_tests}
+use Rattle.role_steps.proofs.of_plain_facts.Numbers.{equal, equal_self}
+use Rattle.role_steps.proofs.of_plain_facts.Tests.{both_true}
 use Rattle.locus_ids.specs.Sites.{has}
 use Rattle.locus_ids.specs.declared.ids.EpochId.{EpochId}
 use Rattle.locus_ids.specs.declared.sites.Sites.{Sites}
@@ -23,14 +25,14 @@ use Rattle.role_steps.specs.declared.rounds.InEpoch.{InEpoch}
 use Rattle.role_steps.specs.declared.rounds.Round.{Round}
 use Rattle.role_steps.specs.declared.users.WaitingCall.{WaitingCall}
 use Rattle.role_steps.proofs.Sending.{every_append, every_map}
-use Rattle.the_run.specs.Joins.{TableOk, Plain}
-use Rattle.the_run.specs.Steps.{is_dropped, takes_framed, takes, tries_at, adopts_in, starts_mends_of, ends_event, whole, call_frame, epoch_id, takes_call, step}
-use Rattle.the_run.proofs.Boots.{every_weaker}
-use Rattle.the_run.proofs.InsideRoles.{on_call_still}
-use Rattle.the_run.proofs.InsideSites.{adopts_of_plain, tries_plain, mends_of_plain, framed_plain}
-use Rattle.run_laws.specs.Words.{InsideRecord, Inside, InsideWrite, Works}
-use Rattle.run_laws.proofs.InsideSteps.{framed_inner, adopts_of_inner, tries_inner, mends_of_inner, call_inner}
-use Rattle.vector_laws.proofs.FormingFacts.{both_true}
+use Rattle.role_steps.proofs.Counted.{CountsFrom, sites_count}
+use Rattle.vector_laws.specs.of_the_run.Joins.{TableOk, Plain}
+use Rattle.vector_laws.specs.of_the_run.Steps.{is_dropped, takes_framed, takes, tries_at, adopts_in, starts_mends_of, ends_event, whole, call_frame, epoch_id, takes_call, step}
+use Rattle.vector_laws.proofs.of_the_run.Boots.{every_weaker}
+use Rattle.vector_laws.proofs.of_the_run.InsideRoles.{on_call_still}
+use Rattle.vector_laws.proofs.of_the_run.InsideSites.{adopts_of_plain, tries_plain, mends_of_plain, framed_plain}
+use Rattle.vector_laws.specs.of_run_laws.Words.{InsideRecord, Inside, InsideWrite, Works}
+use Rattle.vector_laws.proofs.of_run_laws.InsideSteps.{framed_inner, adopts_of_inner, tries_inner, mends_of_inner, call_inner}
 use Rattle.lock_laws.specs.Joins.{ListsBoot}
 
 -- ---- what a site may tell of joins and boots ----
@@ -148,9 +150,6 @@ on_refuse_keeps me boot links id theirs (Some r) v h =
 joins_keeps : (c : Config) (me boot : ℕ) (id : EpochId) (m : Members) (v : SiteView) → ListsBoot me id m boot → Stays me boot v → Keeps me boot (joins c me id m v)
 joins_keeps c me boot id m v k h = record { view = record { boot_is = h.boot_is; round = tt; tables = every_map TableOk new_table _ (λ g. tt) }; told = ((refl, k), tt); written = tt }
 
-test_same : (a b : ℕ) → (a == b) ≡ true → a ≡ b
-test_same a b e = grind (arith, nat_tests)
-
 on_install_keeps : (c : Config) (me boot : ℕ) (from from_boot : ℕ) (id : EpochId) (m : Members) (v : SiteView) → Stays me boot v → Keeps me boot (on_install c me from from_boot id m v)
 on_install_keeps c me boot from from_boot id m v h =
     (elim (may_install me id m v) as (λ t. may_install me id m v ≡ t → Keeps me boot (elim t [ true ↦ and_then (joins c me id m v) (λ now. sends (joined_packet me from from_boot id now) now) | false ↦ sends (cond (is_in id v.epoch) (joined_packet me from from_boot id v) []) v ])) [
@@ -162,7 +161,7 @@ on_install_keeps c me boot from from_boot id m v h =
     listed e =
         let a : (same_epoch id v.promised ≡ true) × ((not v.installed && (boot_in m.boot me == v.boot)) ≡ true) = both_true (same_epoch id v.promised) (not v.installed && (boot_in m.boot me == v.boot)) e in
         let b : (not v.installed ≡ true) × ((boot_in m.boot me == v.boot) ≡ true) = both_true (not v.installed) (boot_in m.boot me == v.boot) a.1 in
-        test_same (boot_in m.boot me) v.boot b.1 ∙ h.boot_is
+        equal (boot_in m.boot me) v.boot b.1 ∙ h.boot_is
 
 on_joined_keeps : (me boot : ℕ) (from : ℕ) (id : EpochId) (v : SiteView) → Stays me boot v → Keeps me boot (on_joined from id v)
 on_joined_keeps me boot from id v h =
@@ -172,10 +171,6 @@ on_joined_keeps me boot from id v h =
     ]
 
 -- ---- the decision: the list has the initiator with its boot, or not at all ----
-
-abbrev CountsFrom : ℕ → List ℕ → Type 0
-CountsFrom n [] = Unit {0}
-CountsFrom n (x ∷ xs) = (x ≡ n) × CountsFrom (n + 1) xs
 
 placed : (f : ℕ → ℕ) (n place : ℕ) (xs : List ℕ) → CountsFrom n xs → (get_or (map f xs) place 0 ≡ f (n + place)) ⊎ (get_or (map f xs) place 0 ≡ 0)
 placed f n place [] h = inr refl
@@ -188,14 +183,11 @@ placed f n (suc place) (x ∷ xs) h = subst (λ (k : ℕ). (get_or (map f xs) pl
     next : (n place : ℕ) → (n + 1) + place ≡ n + suc place
     next n place = omega arith
 
-same_test : (a : ℕ) → (a == a) ≡ true
-same_test a = grind (arith, nat_tests)
-
 own_boot : (me boot : ℕ) (r : Round) (set : Sites) → (member_boot me boot r set me ≡ boot) ⊎ (member_boot me boot r set me ≡ 0)
 own_boot me boot r set = by_set (has set me)
   where
     polled : polled_boot me boot r me ≡ boot
-    polled = rw (same_test me) refl
+    polled = rw (equal_self me) refl
 
     by_set : (b : Bool) → (cond b (polled_boot me boot r me) 0 ≡ boot) ⊎ (cond b (polled_boot me boot r me) 0 ≡ 0)
     by_set true = inl polled
@@ -203,7 +195,7 @@ own_boot me boot r set = by_set (has set me)
 
 decided_boot : (me boot : ℕ) (r : Round) (set : Sites) → (boot_in (chosen_members me boot r set).boot me ≡ boot) ⊎ (boot_in (chosen_members me boot r set).boot me ≡ 0)
 decided_boot zero boot r set = inr refl
-decided_boot (suc place) boot r set = either (placed (member_boot (suc place) boot r set) 1 place all_sites (refl, (refl, (refl, (refl, (refl, (refl, (refl, (refl, (refl, (refl, (refl, (refl, (refl, (refl, (refl, (refl, tt)))))))))))))))))
+decided_boot (suc place) boot r set = either (placed (member_boot (suc place) boot r set) 1 place all_sites sites_count)
   where
     value : ℕ
     value = get_or (map (member_boot (suc place) boot r set) all_sites) place 0

@@ -1,10 +1,12 @@
 -- In every run no site joins an epoch twice.
 use Rattle.std.proofs.Common.{◌≡◌, ℕ, ◌+◌, ◌==◌, ◌≤◌, ◌⊎◌, Bool, true, false, cond, List, [], ◌∷◌, ◌++◌, map, Option, Some, None, refl, sym, ◌∙◌, ap, subst, inl, inr, arith}
 use Rattle.std.proofs.lemmas.Bool.Decides.{nat_tests}
+use Rattle.role_steps.proofs.of_plain_facts.Numbers.{at_most_of, equal, equal_self}
+use Rattle.role_steps.proofs.of_plain_facts.Options.{some_same}
 use Rattle.locus_ids.specs.declared.ids.EpochId.{EpochId}
 use Rattle.locus_ids.specs.declared.sites.Members.{Members}
 use Rattle.locus_ids.specs.declared.config.Config.{Config}
-use Rattle.schedule_lines.specs.declared.line.ScheduleLine.{ScheduleLine}
+use Rattle.vector_laws.specs.of_schedule_lines.declared.line.ScheduleLine.{ScheduleLine}
 use Rattle.trace_book.specs.declared.record.Record.{Record}
 use Rattle.trace_book.specs.declared.record.Record.TheVariants as says
 use Rattle.trace_book.specs.declared.record.StopCause.{StopCause}
@@ -15,19 +17,19 @@ use Rattle.role_steps.specs.Epochs.{is_epoch_below}
 use Rattle.role_steps.specs.Tables.{row}
 use Rattle.role_steps.specs.Views.{SiteView, Told, Shown, DiskWrite, Outcome, Receives, boot_in}
 use Rattle.role_steps.proofs.Sending.{every_map}
-use Rattle.the_run.specs.Disks.{Disk, Booted, Whole, CutOff, boots, cut_disk, is_on_disk}
-use Rattle.the_run.specs.Steps.{step}
-use Rattle.the_run.specs.Joins.{IsJoinRecord, IsJoin, Joined, OneList}
-use Rattle.the_run.specs.Worlds.{World, Place, Running, Stopped, Numbered, Line, links_of, place_at, place_in, place_site, script_of, happened, disk_of, puts, arms, passed, stops_with, cause_of, acts, fresh, formatted, first_place}
-use Rattle.the_run.specs.Runs.{boots_as, packet_record, run_in}
-use Rattle.the_run.specs.Kept.{Kept}
-use Rattle.the_run.proofs.Boots.{at_each, acts_cases, Reached, boots_reached}
-use Rattle.the_run.proofs.Events.{happened_keeps, puts_other, puts_same}
-use Rattle.the_run.proofs.OneList.{one_list}
-use Rattle.the_run.proofs.Runs.{every_run, some_eq}
-use Rattle.run_laws.specs.Standing.{IsUp, StaysUp, JoinsRise, joins_line}
-use Rattle.run_laws.specs.Words.{InsideRecord, InsideWrite}
-use Rattle.run_laws.proofs.Rises.{run_joins_rise}
+use Rattle.vector_laws.specs.of_the_run.Disks.{Disk, Booted, Whole, CutOff, boots, cut_disk, is_on_disk}
+use Rattle.vector_laws.specs.of_the_run.Steps.{step}
+use Rattle.vector_laws.specs.of_the_run.Joins.{IsJoinRecord, IsJoin, Joined, OneList}
+use Rattle.vector_laws.specs.of_the_run.Worlds.{World, Place, Running, Stopped, Numbered, Line, links_of, place_at, place_in, place_site, script_of, happened, disk_of, puts, arms, passed, stops_with, cause_of, acts, fresh, formatted, first_place}
+use Rattle.vector_laws.specs.of_the_run.Runs.{boots_as, packet_record, run_in}
+use Rattle.vector_laws.specs.of_the_run.Kept.{Kept}
+use Rattle.vector_laws.proofs.of_the_run.Boots.{at_each, acts_cases, Reached, boots_reached}
+use Rattle.vector_laws.proofs.of_the_run.Events.{happened_keeps, puts_other, puts_same}
+use Rattle.vector_laws.proofs.of_the_run.OneList.{one_list}
+use Rattle.vector_laws.proofs.of_the_run.Runs.{every_run}
+use Rattle.vector_laws.specs.of_run_laws.Standing.{IsUp, StaysUp, JoinsRise, joins_line}
+use Rattle.vector_laws.specs.of_run_laws.Words.{InsideRecord, InsideWrite}
+use Rattle.vector_laws.proofs.of_run_laws.Rises.{run_joins_rise}
 use Rattle.vector_laws.specs.Written.{past_of}
 use Rattle.vector_laws.specs.Facts.{onto}
 use Rattle.vector_laws.proofs.FactsRun.{past_onto}
@@ -100,7 +102,7 @@ old_places me boot told w h f s p here = place_told (past_of w.trace) (onto told
 
 places_of : (me boot s : ℕ) (new : Place) (told : List Told) (w : World) → Every (JoinTold me boot) told → PlaceFact (past_of w.trace) s new → BootFact w → (t : ℕ) (p : Place) → place_at (puts s new w) t ≡ Some p → PlaceFact (onto told (past_of w.trace)) t p
 places_of me boot s new told w h fine f t p here = at_each s t (PlaceFact (onto told (past_of w.trace)) t p)
-    (λ e. place_told (past_of w.trace) (onto told (past_of w.trace)) t p (boots_same t me boot told (past_of w.trace) h) (subst (λ (n : ℕ). PlaceFact (past_of w.trace) n p) e (subst (PlaceFact (past_of w.trace) s) (some_eq new p (sym (puts_same s new w) ∙ (ap (place_at (puts s new w)) e ∙ here))) fine)))
+    (λ e. place_told (past_of w.trace) (onto told (past_of w.trace)) t p (boots_same t me boot told (past_of w.trace) h) (subst (λ (n : ℕ). PlaceFact (past_of w.trace) n p) e (subst (PlaceFact (past_of w.trace) s) (some_same new p (sym (puts_same s new w) ∙ (ap (place_at (puts s new w)) e ∙ here))) fine)))
     (λ ne. old_places me boot told w h f t p (sym (puts_other s t new w ne) ∙ here))
 
 told_fact : (n : ℕ) (told : List Told) (w : World) → ((me boot : ℕ) → Every (JoinTold me boot) told) → BootFact w → BootFact (happened n [] told (λ now. now) w)
@@ -128,21 +130,15 @@ acts_fact n s v o w here step f =
     acts_cases BootFact n s v o w
     (happened_fact n o.sent o.told (λ now. puts s (Running o.view) now) w (told_go s o.told (past_of w.trace) k.told) (places_of s (boot_told s (past_of w.trace)) s (Running o.view) o.told w k.told k.view f) f)
     (λ a. happened_fact n o.sent o.told (λ now. puts s (Running o.view) (arms a now)) w (told_go s o.told (past_of w.trace) k.told) (places_of s (boot_told s (past_of w.trace)) s (Running o.view) o.told w k.told k.view f) f)
-    (λ d a e. cut_fact n s d (cut_disk v.boot v.store d a.how a.left) (cause_of a.how) (is_on_disk d a.how a.left) w (subst InsideWrite e k.written) (least v.boot (boot_told s (past_of w.trace)) before.boot_is) f)
+    (λ d a e. cut_fact n s d (cut_disk v.boot v.store d a.how a.left) (cause_of a.how) (is_on_disk v.store d a.how a.left) w (subst InsideWrite e k.written) (least v.boot (boot_told s (past_of w.trace)) before.boot_is) f)
 
 -- ---- a boot ----
 
-test_same : (a b : ℕ) → (a == b) ≡ true → a ≡ b
-test_same a b e = grind (arith, nat_tests)
-
-same_test : (a : ℕ) → (a == a) ≡ true
-same_test a = grind (arith, nat_tests)
-
 own_up : (s boot now : ℕ) → cond (s == s) boot now ≡ boot
-own_up s boot now = subst (λ (b : Bool). cond b boot now ≡ boot) (sym (same_test s)) refl
+own_up s boot now = subst (λ (b : Bool). cond b boot now ≡ boot) (sym (equal_self s)) refl
 
 other_up : (s t boot now : ℕ) → (s ≡ t → ⊥) → cond (s == t) boot now ≡ now
-other_up s t boot now ne = (elim (s == t) as (λ b. (s == t) ≡ b → cond b boot now ≡ now) [ true ↦ λ e. absurd (ne (test_same s t e)) | false ↦ λ e. refl ]) refl
+other_up s t boot now ne = (elim (s == t) as (λ b. (s == t) ≡ b → cond b boot now ≡ now) [ true ↦ λ e. absurd (ne (equal s t e)) | false ↦ λ e. refl ]) refl
 
 fresh_stays : (s boot : ℕ) (x : Disk) → x.label.boot ≡ boot → Stays s boot (fresh x.label.boot x.copies)
 fresh_stays s boot x e = record { boot_is = e; round = tt; tables = tt }
@@ -159,19 +155,16 @@ up_fact n s x change w le same f = happened_fact n [] (Shown (says.Up s x.label.
 
     places : (t : ℕ) (p : Place) → place_at (change w) t ≡ Some p → PlaceFact (Shown (says.Up s x.label.boot) ∷ past) t p
     places t p here = at_each s t (PlaceFact (Shown (says.Up s x.label.boot) ∷ past) t p)
-        (λ e. subst (λ (u : ℕ). PlaceFact (Shown (says.Up s x.label.boot) ∷ past) u p) e (subst (PlaceFact (Shown (says.Up s x.label.boot) ∷ past) s) (some_eq (Running view) p (sym (puts_same s (Running view) w) ∙ (sym (same s) ∙ (ap (place_at (change w)) e ∙ here)))) (fresh_stays s (boot_told s (Shown (says.Up s x.label.boot) ∷ past)) x (sym (own_up s x.label.boot (boot_told s past))))))
+        (λ e. subst (λ (u : ℕ). PlaceFact (Shown (says.Up s x.label.boot) ∷ past) u p) e (subst (PlaceFact (Shown (says.Up s x.label.boot) ∷ past) s) (some_same (Running view) p (sym (puts_same s (Running view) w) ∙ (sym (same s) ∙ (ap (place_at (change w)) e ∙ here)))) (fresh_stays s (boot_told s (Shown (says.Up s x.label.boot) ∷ past)) x (sym (own_up s x.label.boot (boot_told s past))))))
         (λ ne. place_told past (Shown (says.Up s x.label.boot) ∷ past) t p (other_up s t x.label.boot (boot_told t past) ne) (f.places t p (sym (puts_other s t (Running view) w ne) ∙ (sym (same t) ∙ here))))
 
 above : (a b c : ℕ) → a ≤ b → b + 1 ≤ c → a + 1 ≤ c
 above a b c h g = omega (arith, h, g)
 
-at_least : (a b c : ℕ) → a ≤ b → b ≤ c → a ≤ c
-at_least a b c h g = omega (arith, h, g)
-
 as_fact : (n s : ℕ) (d : Disk) (b : Booted) (w : World) → place_at w s ≡ Some (Stopped d) → Reached d.label.boot (d.label.boot + 1) b → BootFact w → BootFact (boots_as n s b w)
 as_fact n s d (Whole x None) w here r f = up_fact n s x _ w (above (boot_told s (past_of w.trace)) d.label.boot x.label.boot (f.places s (Stopped d) here) r) (λ t. refl) f
 as_fact n s d (Whole x (Some a)) w here r f = up_fact n s x _ w (above (boot_told s (past_of w.trace)) d.label.boot x.label.boot (f.places s (Stopped d) here) r) (λ t. refl) f
-as_fact n s d (CutOff x how) w here r f = stops_fact n s x (Shown (says.Stopped s (cause_of how)) ∷ []) w (tt, tt) (at_least (boot_told s (past_of w.trace)) d.label.boot x.label.boot (f.places s (Stopped d) here) r) f
+as_fact n s d (CutOff x how) w here r f = stops_fact n s x (Shown (says.Stopped s (cause_of how)) ∷ []) w (tt, tt) (at_most_of (boot_told s (past_of w.trace)) d.label.boot x.label.boot (f.places s (Stopped d) here) r) f
 
 -- ---- every event and change ----
 
@@ -200,7 +193,7 @@ first_fact : (c : Config) (ss : List ℕ) (s : ℕ) (p : Place) → place_in (ro
 first_fact c [] s p e = absurd (none_place p e)
 first_fact c (t ∷ ts) s p e =
     (elim (t == s) as (λ b. place_in (elim b [ true ↦ Some (first_place c t) | false ↦ row place_site s (map (first_place c) ts) ]) ≡ Some p → PlaceFact [] s p) [
-      | true ↦ λ f. subst (PlaceFact [] s) (some_eq (Running (fresh 1 (formatted c t))) p f) (record { boot_is = refl; round = tt; tables = tt })
+      | true ↦ λ f. subst (PlaceFact [] s) (some_same (Running (fresh 1 (formatted c t))) p f) (record { boot_is = refl; round = tt; tables = tt })
       | false ↦ λ f. first_fact c ts s p f
     ]) e
 
@@ -212,7 +205,7 @@ run_boots c lines = let f : BootFact (run_in c lines) = every_run c BootFact (bo
 record_rises : (s : ℕ) (past : List Told) (r : Record) → BootRecord past r → boot_told s past ≤ boot_record s r (boot_told s past)
 record_rises s past (says.Up t b) h =
     (elim (t == s) as (λ x. (t == s) ≡ x → boot_told s past ≤ cond x b (boot_told s past)) [
-      | true ↦ λ e. (let k : boot_told s past + 1 ≤ b = subst (λ (u : ℕ). boot_told u past + 1 ≤ b) (test_same t s e) h in omega (arith, k))
+      | true ↦ λ e. (let k : boot_told s past + 1 ≤ b = subst (λ (u : ℕ). boot_told u past + 1 ≤ b) (equal t s e) h in omega (arith, k))
       | false ↦ λ e. omega arith
     ]) refl
 record_rises s past _ h = omega arith
@@ -223,7 +216,7 @@ told_rises s past _ h = omega arith
 
 positive : (s : ℕ) (past : List Told) → BootsGoOn past → 1 ≤ boot_told s past
 positive s [] h = omega arith
-positive s (x ∷ past) h = at_least 1 (boot_told s past) (boot_told s (x ∷ past)) (positive s past h.1) (told_rises s past x h.0)
+positive s (x ∷ past) h = at_most_of 1 (boot_told s past) (boot_told s (x ∷ past)) (positive s past h.1) (told_rises s past x h.0)
 
 -- ---- an earlier join ----
 
@@ -250,7 +243,7 @@ record Found (s : ℕ) (id : EpochId) (m : Members) (trace : List Line) : Type 0
   lists : ListsBoot s id m (boot_told s (past_of older))
 
 record_ups : (s : ℕ) (r : Record) → IsUp s (Shown r) ⊎ (IsUp s (Shown r) → ⊥)
-record_ups s (says.Up t b) = (elim (t == s) as (λ x. (t == s) ≡ x → (t ≡ s) ⊎ ((t ≡ s) → ⊥)) [ true ↦ λ e. inl (test_same t s e) | false ↦ λ e. inr (λ q. absurd (false_true (sym e ∙ subst (λ (u : ℕ). (t == u) ≡ true) q (same_test t)))) ]) refl
+record_ups s (says.Up t b) = (elim (t == s) as (λ x. (t == s) ≡ x → (t ≡ s) ⊎ ((t ≡ s) → ⊥)) [ true ↦ λ e. inl (equal t s e) | false ↦ λ e. inr (λ q. absurd (false_true (sym e ∙ subst (λ (u : ℕ). (t == u) ≡ true) q (equal_self t)))) ]) refl
   where
     false_true : false ≡ true → ⊥
     false_true e = cc
@@ -300,7 +293,7 @@ find s id m (x ∷ rest) b (inr h) = one_later (find s id m rest b.1 h)
       older = r.older;
       is = ap (λ (ys : List Line). x ∷ ys) r.is;
       boots = by_up (told_ups s x.told) r.boots;
-      low = at_least (boot_told s (past_of r.older)) (boot_told s (past_of rest)) (boot_told s (x.told ∷ past_of rest)) r.low (told_rises s (past_of rest) x.told b.0);
+      low = at_most_of (boot_told s (past_of r.older)) (boot_told s (past_of rest)) (boot_told s (x.told ∷ past_of rest)) r.low (told_rises s (past_of rest) x.told b.0);
       least_boot = r.least_boot;
       lists = r.lists;
     }

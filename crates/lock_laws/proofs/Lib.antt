@@ -7,6 +7,7 @@ pub mod SiteFacts
 pub mod FormingFacts
 pub mod StepFacts
 pub mod FactsRun
+pub mod Asked
 pub mod Scripts
 pub mod Writing
 pub mod JoinFacts
@@ -17,3 +18,6 @@ pub mod BareRoles
 pub mod GrantSites
 pub mod GrantSteps
 pub mod GrantsRun
+pub use Rattle.vector_laws.proofs as of_vector_laws
+pub use Rattle.vector_laws.proofs.of_law_walks as of_law_walks
+pub use Rattle.vector_laws.proofs.of_run_laws as of_run_laws

@@ -1,5 +1,6 @@
 -- What each script asks on the way: an operation that changes a file is of what was opened to write.
 use Rattle.std.proofs.Common.{◌≡◌, ℕ, ◌⊎◌, true, false, List, [], ◌∷◌, Option, Some, None, refl, sym, ◌∙◌, ap, subst, inl, inr}
+use Rattle.role_steps.proofs.of_plain_facts.Tests.{false_true}
 use Rattle.locus_ids.specs.declared.ids.FileId.{FileId}
 use Rattle.locus_ids.specs.declared.ids.Kind.{Kind}
 use Rattle.locus_ids.specs.declared.ids.Kind.TheVariants as kind
@@ -86,12 +87,9 @@ do_inst p i x o e = cc
 pub do_op : (p i : Serial) (x o : Op) → want.Do p x ≡ want.Do i o → x ≡ o
 do_op p i x o e = cc
 
-pub true_false : false ≡ true → ⊥
-true_false e = cc
-
 -- an operation that changes nothing
 pub idle : (p : Serial) (x : Op) → changes x ≡ false → Quiet (want.Do p x)
-idle p x none i o e c = true_false (sym none ∙ (ap changes (do_op p i x o e) ∙ c))
+idle p x none i o e c = false_true (sym none ∙ (ap changes (do_op p i x o e) ∙ c))
 
 pub doing : (script : List Answer → Want) (p : Serial) (x : Op) (answers : List Answer) → script answers ≡ want.Do p x → Within script p answers
 doing script p x answers is i o e c = inl (do_inst p i x o (sym is ∙ e))

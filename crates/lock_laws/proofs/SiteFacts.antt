@@ -24,11 +24,11 @@ use Rattle.role_steps.specs.declared.pulls.Pull.{Pull}
 use Rattle.role_steps.specs.declared.rounds.InEpoch.{InEpoch}
 use Rattle.role_steps.specs.declared.synchronizing.SyncTable.{SyncTable}
 use Rattle.role_steps.proofs.Sending.{every_cond, every_flat_map}
-use Rattle.the_run.specs.Steps.{from_user, group_of, at_table_of, is_opened_in, takes_inside, with_pulls, epoch_id}
-use Rattle.the_run.proofs.InsideSync.{every_row, Found, first_found}
-use Rattle.the_run.proofs.Boots.{every_weaker}
-use Rattle.run_laws.specs.Words.{Talks}
-use Rattle.run_laws.proofs.SyncTells.{on_opened_talks, on_open_talks, on_look_talks, on_report_talks, on_closed_talks, on_have_talks}
+use Rattle.vector_laws.specs.of_the_run.Steps.{from_user, group_of, at_table_of, is_opened_in, takes_inside, with_pulls, epoch_id}
+use Rattle.vector_laws.proofs.of_the_run.InsideSync.{every_row, Found, first_found}
+use Rattle.vector_laws.proofs.of_the_run.Boots.{every_weaker}
+use Rattle.vector_laws.specs.of_run_laws.Words.{Talks}
+use Rattle.vector_laws.proofs.of_run_laws.Telling.{on_opened_talks, on_open_talks, on_look_talks, on_report_talks, on_closed_talks, on_have_talks}
 use Rattle.vector_laws.specs.Facts.{onto}
 use Rattle.vector_laws.proofs.SyncFacts.{FoundAt, row_at}
 use Rattle.lock_laws.specs.Facts.{BodyFact, PacketFact, Factless, UsersFact, InstanceFact, TableFact, InEpochFact, ViewFact, DiskFact, Fine}
@@ -190,9 +190,9 @@ inside_fact c me boot past from v e (body.Open serial call process request file 
 inside_fact c me boot past from v e (body.OpenSs inst file mode set kind base vector parents) here k h = store_part c me boot past v e _ here h (on_open_ss_fact (frame_in c me boot e) past (record { inst = inst; file = file; mode = mode; set = set; kind = kind; base = base; vector = vector; parents = parents }) v.store k (inside_of past me v e here h).0)
 inside_fact c me boot past from v e (body.Opened inst answer) here k h = with_part past me (on_opened (frame_in c me boot e) inst answer) v e (is_opened_in inst) here h (on_opened_talks (frame_in c me boot e) inst answer) (λ t g. on_opened_fact past (frame_in c me boot e) from inst answer t k g)
 inside_fact c me boot past from v e (body.OpenDone serial answer) here k h = user_part past me (frame_in c me boot e) v e (on_open_done (frame_in c me boot e) (kept_stamps v) serial answer v.users) refl here h (on_open_done_keep past (frame_in c me boot e) e.id (kept_stamps v) serial answer v.users refl k (users_in past me v e here h))
-inside_fact c me boot past from v e (body.Op serial n o seen) here k h = store_part c me boot past v e _ here h (on_op_fact (frame_in c me boot e) past (mending v (group_of (instance_of v.store (from_user from serial)))) (from_user from serial) n o seen v.store k (inside_of past me v e here h).0)
+inside_fact c me boot past from v e (body.Op serial n o seen) here k h = store_part c me boot past v e _ here h (on_op_fact (frame_in c me boot e) past (mending v (group_of (instance_of v.store (from_user from serial)))) (from_user from serial) n o seen v.store k.granted (inside_of past me v e here h).0)
 inside_fact c me boot past from v e (body.OpDone serial n result) here k h = user_part past me (frame_in c me boot e) v e (on_op_done (frame_in c me boot e) serial n result v.users) refl here h (on_op_done_keep past (frame_in c me boot e) (Some e.id) serial n result v.users refl (users_in past me v e here h))
-inside_fact c me boot past from v e (body.Close serial) here k h = store_part c me boot past v e _ here h (on_close_fact (frame_in c me boot e) past (from_user from serial) v.store k (inside_of past me v e here h).0)
+inside_fact c me boot past from v e (body.Close serial) here k h = store_part c me boot past v e _ here h (on_close_fact (frame_in c me boot e) past (from_user from serial) v.store k.granted (inside_of past me v e here h).0)
 inside_fact c me boot past from v e (body.Closed inst made) here k h = with_part past me (on_closed (frame_in c me boot e) from inst made) v e (is_opened_in inst) here h (on_closed_talks (frame_in c me boot e) from inst made) (λ t g. on_closed_fact past (frame_in c me boot e) from inst made t k g)
 inside_fact c me boot past from v e (body.ClosedOk inst) here k h = store_part c me boot past v e _ here h (on_closed_ok_fact (frame_in c me boot e) past inst v.store k (inside_of past me v e here h).0)
 inside_fact c me boot past from v e (body.CloseDone serial answer) here k h = user_part past me (frame_in c me boot e) v e (on_close_done (frame_in c me boot e) serial answer v.users) refl here h (on_close_done_keep past (frame_in c me boot e) (Some e.id) serial answer v.users refl (users_in past me v e here h))

@@ -2,6 +2,7 @@
 use Rattle.std.proofs.Common.{◌≡◌, ℕ, ◌+◌, ◌==◌, nat_lt, Bool, true, false, ◌&&◌, ◌||◌, not, List, [], ◌∷◌, ◌++◌, Option, Some, None, refl, sym, subst, arith}
 use Rattle.std.proofs.lemmas.Bool.Decides.{nat_tests}
 use Rattle.std.specs.List.{flat_map}
+use Rattle.role_steps.proofs.of_plain_facts.Tests.{both_true, not_false, or_other}
 use Rattle.locus_ids.specs.declared.ids.EpochId.{EpochId}
 use Rattle.locus_ids.specs.declared.ids.Stamp.{Stamp}
 use Rattle.locus_ids.specs.declared.sites.Links.{Links}
@@ -28,18 +29,17 @@ use Rattle.role_steps.specs.declared.rounds.InEpoch.{InEpoch}
 use Rattle.role_steps.specs.declared.rounds.Round.{Round}
 use Rattle.role_steps.specs.declared.synchronizing.SyncTable.{SyncTable}
 use Rattle.role_steps.proofs.Sending.{every_append, every_map, every_flat_map}
-use Rattle.the_run.specs.Steps.{in_order, is_framed, is_forming, is_dropped, takes_inside, takes_framed, takes, adopts_in, tries_at, ends_event, whole, repeats_inside, repeats_of, repeats, ticks_after, call_frame, epoch_id, takes_call, step}
-use Rattle.the_run.proofs.InsideSites.{adopts_of_plain}
-use Rattle.the_run.proofs.InsideRoles.{on_call_still}
-use Rattle.the_run.proofs.StepSends.{order_sent}
-use Rattle.run_laws.specs.Naming.{Deeds, Now, ViewOk, Fine as EpochFine}
-use Rattle.run_laws.proofs.Moves.{inner_view, inner_fine}
-use Rattle.run_laws.proofs.InsideSteps.{adopts_of_inner, call_inner}
-use Rattle.run_laws.proofs.Steps.{EventNames, takes_fine, starts_part_fine, begins_fine, leaves_of_fine}
+use Rattle.vector_laws.specs.of_the_run.Steps.{in_order, is_framed, is_forming, is_dropped, takes_inside, takes_framed, takes, adopts_in, tries_at, ends_event, whole, repeats_inside, repeats_of, repeats, ticks_after, call_frame, epoch_id, takes_call, step}
+use Rattle.vector_laws.proofs.of_the_run.InsideSites.{adopts_of_plain}
+use Rattle.vector_laws.proofs.of_the_run.InsideRoles.{on_call_still}
+use Rattle.vector_laws.proofs.of_the_run.StepSends.{order_sent}
+use Rattle.vector_laws.specs.of_run_laws.Naming.{Deeds, Now, ViewOk, Fine as EpochFine}
+use Rattle.vector_laws.proofs.of_run_laws.Moves.{inner_view, inner_fine}
+use Rattle.vector_laws.proofs.of_run_laws.InsideSteps.{adopts_of_inner, call_inner}
+use Rattle.vector_laws.proofs.of_run_laws.Steps.{EventNames, takes_fine, starts_part_fine, begins_fine, leaves_of_fine}
 use Rattle.vector_laws.specs.Facts.{onto}
 use Rattle.vector_laws.proofs.Facts.{onto_append}
 use Rattle.vector_laws.proofs.SiteDisks.{ends_keeps}
-use Rattle.vector_laws.proofs.FormingFacts.{both_true}
 use Rattle.lock_laws.specs.Facts.{BodyFact, PacketFact, Factless, UsersFact, ViewFact, Fine}
 use Rattle.lock_laws.proofs.Facts.{Later, onto_later, packets_later, factless, then_fine, then_later}
 use Rattle.lock_laws.proofs.SyncFacts.{sync_repeats_aloof}
@@ -81,24 +81,16 @@ tried_fact K c me past links o silent none ok h =
 
 -- ---- a packet ----
 
--- a packet inside the epoch names the epoch of the site
-not_false : (a : Bool) → not a ≡ false → a ≡ true
-not_false true h = refl
-not_false false h = absurd (cc)
-
 same_epoch_eq : (a b : EpochId) → same_epoch a b ≡ true → a ≡ b
 same_epoch_eq a b h = id_eq (grind (arith, nat_tests)) (grind (arith, nat_tests)) (grind (arith, nat_tests))
   where
     id_eq : a.number ≡ b.number → a.site ≡ b.site → a.boot ≡ b.boot → a ≡ b
     id_eq e f g = λ i. record { number = e i; site = f i; boot = g i }
 
-or_right : (a b : Bool) → a ≡ false → (a || b) ≡ true → b ≡ true
-or_right a b e h = subst (λ (x : Bool). (x || b) ≡ true) e h
-
 framed_epoch : (p : Packet) (v : SiteView) (e : InEpoch) → is_dropped p v ≡ false → is_forming p ≡ false → v.epoch ≡ Some e → e.id ≡ p.epoch
 framed_epoch p v e h inside here =
     let a : ((p.to_boot == v.boot) ≡ true) × ((is_forming p || is_framed p v.epoch) ≡ true) = both_true (p.to_boot == v.boot) (is_forming p || is_framed p v.epoch) (not_false ((p.to_boot == v.boot) && (is_forming p || is_framed p v.epoch)) h) in
-    let b : is_framed p (Some e) ≡ true = subst (λ (o : Option InEpoch). is_framed p o ≡ true) here (or_right (is_forming p) (is_framed p v.epoch) inside a.1) in
+    let b : is_framed p (Some e) ≡ true = subst (λ (o : Option InEpoch). is_framed p o ≡ true) here (or_other (is_forming p) (is_framed p v.epoch) inside a.1) in
     same_epoch_eq e.id p.epoch (both_true (same_epoch e.id p.epoch) (boot_in e.members.boot p.from == p.from_boot) b).0
 
 framed_fact : (c : Config) (me : ℕ) (past : List Told) (p : Packet) (x : Body) (o : Option InEpoch) (v : SiteView) → p.body ≡ x → v.epoch ≡ o → ((e : InEpoch) → v.epoch ≡ Some e → e.id ≡ p.epoch) → BodyFact past p.from me p.epoch x → ViewFact past me v → SiteFine me past (takes_framed c me p o v)

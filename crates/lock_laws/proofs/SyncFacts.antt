@@ -35,15 +35,15 @@ use Rattle.role_steps.specs.declared.synchronizing.OpenStage.TheVariants as stag
 use Rattle.role_steps.specs.declared.synchronizing.LastLook.{LastLook}
 use Rattle.role_steps.specs.declared.synchronizing.Early.{Early}
 use Rattle.role_steps.proofs.Sending.{every_append, every_cond, every_map, every_flat_map}
-use Rattle.the_run.proofs.InsideSync.{every_row, Found, row_found}
-use Rattle.vector_laws.specs.Written.{WasGranted}
+use Rattle.vector_laws.proofs.of_the_run.InsideSync.{every_row, Found, row_found}
+use Rattle.vector_laws.specs.Written.{WasGranted, WasTold}
 use Rattle.vector_laws.specs.Facts.{onto, WaitingFact, EarlyFact}
 use Rattle.vector_laws.proofs.Facts.{onto_append}
 use Rattle.vector_laws.proofs.SyncFacts.{FoundAt, row_at, every_latest}
 use Rattle.lock_laws.specs.Going.{WasShutAt, WasReleased, WasStarted, GrantGoesOn}
 use Rattle.lock_laws.specs.Locks.{Apart}
-use Rattle.lock_laws.specs.Facts.{OpenedFact, PacketFact, NoFact, Factless, AskedFact, RowFact, OpenFact, LookFact, TableFact, AllGoOn}
-use Rattle.lock_laws.proofs.Facts.{one_later, onto_later, is_granted, packets_later, table_later, no_fact, factless, go_append}
+use Rattle.lock_laws.specs.Facts.{GrantedAt, IsGivenOn, OpenedFact, PacketFact, NoFact, Factless, AskedFact, RowFact, OpenFact, LookFact, TableFact, AllGoOn}
+use Rattle.lock_laws.proofs.Facts.{one_later, onto_later, row_given, packets_later, table_later, no_fact, factless, go_append}
 use Rattle.lock_laws.proofs.Apart.{ApartDecision, decision_apart, new_apart, Looser, put_apart, shut_looser, all_shut_apart, asked_apart, granted_looser}
 
 -- ---- outcomes ----
@@ -80,12 +80,12 @@ table_put past e t r new k found l h = record { started = h.started; opens = eve
 of_group : (past : List Told) (e : EpochId) (group : ℕ) (file : FileId) → file.group ≡ group → WasStarted past e group → WasStarted past e file.group
 of_group past e group file g h = subst (λ (n : ℕ). WasStarted past e n) (sym g) h
 
-asked_grant : (past : List Told) (f : Frame) (r : OpenRow) (m : Mode) → AskedFact (onto (granted_at_once f r m) past) f.epoch (serial_key r.inst) r.file m
+asked_grant : (past : List Told) (f : Frame) (r : OpenRow) (m : Mode) → AskedFact (onto (granted_at_once f r m) past) f.epoch (serial_key r.inst) r.file r.ss m
 asked_grant past f r mode.Make = tt
-asked_grant past f r mode.Read = inl (refl, refl, refl)
-asked_grant past f r mode.Write = inl (refl, refl, refl)
-asked_grant past f r mode.Resolve = inl (refl, refl, refl)
-asked_grant past f r mode.Mend = inl (refl, refl, refl)
+asked_grant past f r mode.Read = (inl (refl, refl, refl), inl (refl, refl, refl))
+asked_grant past f r mode.Write = (inl (refl, refl, refl), inl (refl, refl, refl))
+asked_grant past f r mode.Resolve = (inl (refl, refl, refl), inl (refl, refl, refl))
+asked_grant past f r mode.Mend = (inl (refl, refl, refl), inl (refl, refl, refl))
 
 -- a grant that is told at once is of no make
 once_goes : (past : List Told) (f : Frame) (r : OpenRow) (m : Mode) → r.mode ≡ m → AllGoOn past (granted_at_once f r m)
@@ -113,7 +113,7 @@ decides_fact past f t us o (Grants ss stamp vector parents set k) none a g h =
 
 repeats_open_fact : (past : List Told) (f : Frame) (group : ℕ) (r : OpenRow) (s : OpenStage) → r.file.group ≡ group → WasStarted past f.epoch group → RowFact past f.epoch r s → Every (PacketFact past) (repeats_open f r s)
 repeats_open_fact past f group r stage.Asked g started h = (of_group past f.epoch group r.file g started, tt)
-repeats_open_fact past f group r stage.Granted g started h = (is_granted past f.epoch (serial_key r.inst) r.file h, tt)
+repeats_open_fact past f group r stage.Granted g started h = (row_given past f.epoch (serial_key r.inst) r.file r.ss h, tt)
 repeats_open_fact past f group r (stage.Refused why) g started h = (tt, tt)
 repeats_open_fact past f group r stage.Ended g started h = tt
 
@@ -129,12 +129,19 @@ takes_open_fact past f us o t g h = on_open_of_fact past f t us o (open_row t (r
 abbrev numbered_row : OpenRow → Mode → ℕ → ℕ → OpenRow
 numbered_row r m ino size = record r { stage = stage.Granted; file = numbered_file m r.file ino; size = size }
 
-numbered_grant : (past : List Told) (f : Frame) (r : OpenRow) (m : Mode) (ino size : ℕ) → AskedFact past f.epoch (serial_key r.inst) r.file m → WasGranted (onto (granted_at_last f (numbered_row r m ino size) m) past) f.epoch (serial_key r.inst) (numbered_file m r.file ino)
+numbered_grant : (past : List Told) (f : Frame) (r : OpenRow) (m : Mode) (ino size : ℕ) → AskedFact past f.epoch (serial_key r.inst) r.file r.ss m → WasGranted (onto (granted_at_last f (numbered_row r m ino size) m) past) f.epoch (serial_key r.inst) (numbered_file m r.file ino)
 numbered_grant past f r mode.Make ino size h = inl (refl, refl, refl)
-numbered_grant past f r mode.Read ino size h = h
-numbered_grant past f r mode.Write ino size h = h
-numbered_grant past f r mode.Resolve ino size h = h
-numbered_grant past f r mode.Mend ino size h = h
+numbered_grant past f r mode.Read ino size h = h.0
+numbered_grant past f r mode.Write ino size h = h.0
+numbered_grant past f r mode.Resolve ino size h = h.0
+numbered_grant past f r mode.Mend ino size h = h.0
+
+numbered_there : (past : List Told) (f : Frame) (r : OpenRow) (m : Mode) (ino size : ℕ) → AskedFact past f.epoch (serial_key r.inst) r.file r.ss m → WasTold (GrantedAt f.epoch (serial_key r.inst) r.ss) (onto (granted_at_last f (numbered_row r m ino size) m) past)
+numbered_there past f r mode.Make ino size h = inl (refl, refl, refl)
+numbered_there past f r mode.Read ino size h = h.1
+numbered_there past f r mode.Write ino size h = h.1
+numbered_there past f r mode.Resolve ino size h = h.1
+numbered_there past f r mode.Mend ino size h = h.1
 
 last_goes : (past : List Told) (f : Frame) (ss : ℕ) (r : OpenRow) (m : Mode) (ino size : ℕ) → r.mode ≡ m → OpenedFact past ss f.epoch (serial_key r.inst) (opened.Open ino size) → AllGoOn past (granted_at_last f (numbered_row r m ino size) m)
 last_goes past f ss r mode.Make ino size e h = (subst (GrantGoesOn past f.epoch (serial_key r.inst) (record { group = r.file.group; ino = ino })) (sym e) (record { ss = ss; begun = h.0; was_begun = h.1; number = h.2 }), tt)
@@ -158,7 +165,8 @@ answers_open_fact past f ss r (opened.Open ino size) t found b k asked h =
     let q : OpenRow = granted_row r ino size in
     let told : List Told = granted_at_last f q r.mode in
     let g : WasGranted (onto told past) f.epoch (serial_key r.inst) (numbered_file r.mode r.file ino) = numbered_grant past f r r.mode ino size (subst (RowFact past f.epoch r) asked k.row) in
-    record { view = table_put (onto told past) f.epoch t r q (record { group_is = numbered_group r.mode r.file ino ∙ k.group_is; started = onto_later told past _ k.started; row = g }) found (granted_looser r ino size (asked_open r asked)) (table_later past (onto told past) (onto_later told past) f.epoch t h); sent = (is_granted (onto told past) f.epoch (serial_key r.inst) (numbered_file r.mode r.file ino) g, tt); goes = last_goes past f ss r r.mode ino size refl b }
+    let given : IsGivenOn (onto told past) f.epoch (serial_key r.inst) (numbered_file r.mode r.file ino) r.ss = record { granted = g; there = numbered_there past f r r.mode ino size (subst (RowFact past f.epoch r) asked k.row); at = ss; file = b.0; begun = onto_later told past _ b.1 } in
+    record { view = table_put (onto told past) f.epoch t r q (record { group_is = numbered_group r.mode r.file ino ∙ k.group_is; started = onto_later told past _ k.started; row = given }) found (granted_looser r ino size (asked_open r asked)) (table_later past (onto told past) (onto_later told past) f.epoch t h); sent = (row_given (onto told past) f.epoch (serial_key r.inst) (numbered_file r.mode r.file ino) r.ss given, tt); goes = last_goes past f ss r r.mode ino size refl b }
 answers_open_fact past f ss r (opened.No why) t found b k asked h =
     let q : OpenRow = record r { stage = stage.Refused why } in
     let x : Told = refuse_record f q why in
@@ -359,7 +367,7 @@ releases_fact past f ss r made t found shut granted own h =
 
 closes_at_fact : (past : List Told) (f : Frame) (ss : ℕ) (r : OpenRow) (made : Option MadeVersion) (s : OpenStage) (t : SyncTable) → row open_key (open_key r) t.opens ≡ Some r → RowFact past f.epoch r s → OpenFact past f.epoch t.group r → WasShutAt past ss f.epoch (serial_key r.inst) → TableFact past f.epoch t → TableFine past f.epoch (closes_at f ss r made s t)
 closes_at_fact past f ss r made stage.Asked t found k own shut h = quiet_fine past f.epoch t h
-closes_at_fact past f ss r made stage.Granted t found k own shut h = releases_fact past f ss r made t found shut k own h
+closes_at_fact past f ss r made stage.Granted t found k own shut h = releases_fact past f ss r made t found shut k.granted own h
 closes_at_fact past f ss r made (stage.Refused why) t found k own shut h = quiet_fine past f.epoch t h
 closes_at_fact past f ss r made stage.Ended t found k own shut h = sends_fine past f.epoch (closed_ok f ss r.inst) t (k.1, tt) h
 

@@ -33,11 +33,10 @@ use Rattle.role_steps.specs.declared.users.Asking.TheVariants as asking
 use Rattle.role_steps.specs.declared.users.WaitingCall.{WaitingCall}
 use Rattle.role_steps.specs.declared.users.UserInstance.{UserInstance}
 use Rattle.role_steps.proofs.Sending.{every_map}
-use Rattle.the_run.specs.Steps.{from_user}
-use Rattle.the_run.proofs.InsideSync.{every_row, every_without, Found, row_found}
+use Rattle.vector_laws.specs.of_the_run.Steps.{from_user}
+use Rattle.vector_laws.proofs.of_the_run.InsideSync.{every_row, every_without, Found, row_found}
 use Rattle.vector_laws.proofs.SyncFacts.{every_flat}
-use Rattle.lock_laws.specs.Going.{IsGranted}
-use Rattle.lock_laws.specs.Facts.{PacketFact, NoFact, DoneFact, GrantedIn, HeldFact, AskingFact, WaitingFact, UsersFact}
+use Rattle.lock_laws.specs.Facts.{IsGiven, PacketFact, NoFact, DoneFact, GrantedIn, HeldFact, AskingFact, WaitingFact, UsersFact}
 use Rattle.lock_laws.proofs.Facts.{no_fact, Aloof}
 
 -- ---- packets ----
@@ -47,9 +46,9 @@ abbrev pub IsFrameOf : Frame → Option EpochId → Type 0
 IsFrameOf f None = Unit {0}
 IsFrameOf f (Some e) = f.epoch ≡ e
 
-grant_in : (past : List Told) (f : Frame) (o : Option EpochId) (key : ℕ) → IsFrameOf f o → GrantedIn past o key → IsGranted past f.epoch key
-grant_in past f None key q h = absurd h
-grant_in past f (Some e) key q h = subst (λ (id : EpochId). IsGranted past id key) (sym q) h
+grant_in : (past : List Told) (f : Frame) (o : Option EpochId) (key ss : ℕ) → IsFrameOf f o → GrantedIn past o key ss → IsGiven past f.epoch key ss
+grant_in past f None key ss q h = absurd h
+grant_in past f (Some e) key ss q h = subst (λ (id : EpochId). IsGiven past id key ss) (sym q) h
 
 some_fact : (past : List Told) (f : Frame) (b : Body) (o : Option ℕ) → NoFact b → Every (PacketFact past) (to_some f b o)
 some_fact past f b None h = tt
@@ -61,8 +60,8 @@ sync_fact past f group b h = some_fact past f b (sync_site f.config f.members gr
 request_fact : (past : List Told) (f : Frame) (o : Option EpochId) (w : WaitingCall) (a : Asking) → IsFrameOf f o → AskingFact past f.me o a → Every (PacketFact past) (request_packets f w a)
 request_fact past f o w (asking.Look file what take) q h = sync_fact past f file.group _ tt
 request_fact past f o w (asking.Open serial file how) q h = sync_fact past f file.group _ tt
-request_fact past f o w (asking.Op serial ss number it seen) q h = (grant_in past f o (serial_key (from_user f.me serial)) q h, tt)
-request_fact past f o w (asking.Close serial ss) q h = (grant_in past f o (serial_key (from_user f.me serial)) q h, tt)
+request_fact past f o w (asking.Op serial ss number it seen) q h = (grant_in past f o (serial_key (from_user f.me serial)) ss q h, tt)
+request_fact past f o w (asking.Close serial ss) q h = (grant_in past f o (serial_key (from_user f.me serial)) ss q h, tt)
 
 pub users_repeats_fact : (past : List Told) (f : Frame) (o : Option EpochId) (u : Users) → IsFrameOf f o → UsersFact past f.me o u → Every (PacketFact past) (users_repeats f u)
 users_repeats_fact past f o u q h = every_flat (WaitingFact past f.me o) (PacketFact past) (λ (w : WaitingCall). request_packets f w w.asking) u.waiting (λ w k. request_fact past f o w w.asking q k) h.waiting

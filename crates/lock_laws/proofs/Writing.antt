@@ -1,5 +1,6 @@
 -- A script changes what it has opened to write, or what its descriptor names.
 use Rattle.std.proofs.Common.{◌≡◌, ℕ, ◌⊎◌, Bool, true, false, List, [], ◌∷◌, ◌++◌, Option, Some, None, refl, sym, ◌∙◌, ap, subst, inl, inr}
+use Rattle.role_steps.proofs.of_plain_facts.Tests.{false_true}
 use Rattle.locus_ids.specs.declared.ids.FileId.{FileId}
 use Rattle.locus_ids.specs.declared.ids.Kind.{Kind}
 use Rattle.locus_ids.specs.declared.ids.Kind.TheVariants as kind
@@ -25,7 +26,7 @@ use Rattle.call_rules.specs.Walks.{Walked, Asks, Fails, There, Strays, root_of, 
 use Rattle.call_rules.specs.Opening.{opens_file, op_wants, uses_wants, lists, describes}
 use Rattle.call_rules.specs.Scripts.{path_wants, begun_wants, named_wants}
 use Rattle.lock_laws.specs.Writing.{changes, OpensToWrite, IsOpenedToWrite, IsWrite, IsWriteOn, ScriptsOpenWhatTheyChange}
-use Rattle.lock_laws.proofs.Scripts.{Sound, quiet_sound, never_do, give_do, look_do, do_inst, do_op, true_false, probes_within, opens_dir_sound, finds_within, renames_within, close_quiet, mend_sound, opens_file_quiet, lists_quiet, describes_quiet}
+use Rattle.lock_laws.proofs.Scripts.{Sound, quiet_sound, never_do, give_do, look_do, do_inst, do_op, probes_within, opens_dir_sound, finds_within, renames_within, close_quiet, mend_sound, opens_file_quiet, lists_quiet, describes_quiet}
 
 -- ---- a call on a descriptor ----
 
@@ -36,7 +37,7 @@ op_is p i x o (answer.Refused why ∷ []) e = absurd (give_do _ i o e)
 op_is p i x o (_ ∷ rest) e = absurd (never_do i o e)
 
 unchanged : (x o : Op) → x ≡ o → changes x ≡ false → changes o ≡ true → ⊥
-unchanged x o e none c = true_false (sym none ∙ (ap changes e ∙ c))
+unchanged x o e none c = false_true (sym none ∙ (ap changes e ∙ c))
 
 uses_is : (words : Call) (p i : Serial) (o : Op) (answers : List Answer) → uses_wants words p answers ≡ want.Do i o → changes o ≡ true → (p ≡ i) × IsWrite words
 uses_is (call.Read fd at len) p i o answers e c = absurd (unchanged (op.Read at len) o (op_is p i (op.Read at len) o answers e).1 refl c)

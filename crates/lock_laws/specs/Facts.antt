@@ -1,9 +1,12 @@
--- What packets and views carry of instances: one record of named facts each, over what was told before.
+-- What packets and views carry of instances: one record of named facts each, over what was told before. What a using site has of them
+-- was granted, and a storage site has begun it.
 use Rattle.std.specs.Prelude.{ℕ, ◌≡◌, true, List, [], ◌∷◌, Option, Some, None}
 use Rattle.locus_ids.specs.declared.ids.EpochId.{EpochId}
 use Rattle.locus_ids.specs.declared.ids.FileId.{FileId}
 use Rattle.locus_ids.specs.declared.ids.Mode.{Mode}
 use Rattle.locus_ids.specs.declared.ids.Mode.TheVariants as mode
+use Rattle.trace_book.specs.declared.record.Record.{Record}
+use Rattle.trace_book.specs.declared.record.Record.TheVariants as says
 use Rattle.wire_messages.specs.declared.packet.Packet.{Packet}
 use Rattle.wire_messages.specs.declared.body.Body.{Body}
 use Rattle.wire_messages.specs.declared.body.Body.TheVariants as body
@@ -26,12 +29,37 @@ use Rattle.role_steps.specs.declared.users.Asking.{Asking}
 use Rattle.role_steps.specs.declared.users.Asking.TheVariants as asking
 use Rattle.role_steps.specs.declared.users.WaitingCall.{WaitingCall}
 use Rattle.role_steps.specs.declared.users.UserInstance.{UserInstance}
-use Rattle.the_run.specs.Steps.{epoch_id, from_user}
-use Rattle.the_run.specs.Worlds.{World, Running, Numbered, place_at}
-use Rattle.vector_laws.specs.Written.{past_of, WasGranted}
+use Rattle.vector_laws.specs.of_the_run.Steps.{epoch_id, from_user}
+use Rattle.vector_laws.specs.of_the_run.Worlds.{World, Running, Numbered, place_at}
+use Rattle.vector_laws.specs.Written.{past_of, WasGranted, WasTold}
 use Rattle.vector_laws.specs.Facts.{onto, EarlyFact}
 use Rattle.lock_laws.specs.Going.{WasBegunAt, WasShutAt, WasReleased, WasStarted, IsGranted, InstanceGoesOn, InstancesGoOn}
 use Rattle.lock_laws.specs.Locks.{AllApart}
+
+-- the instance was granted at this storage site
+abbrev pub GrantedAtRecord : EpochId → ℕ → ℕ → Record → Type 0
+GrantedAtRecord e key ss (says.Grant at call number inst mode file on place) = (at ≡ e) × (serial_key inst ≡ key) × (place ≡ ss)
+GrantedAtRecord e key ss _ = ⊥
+
+abbrev pub GrantedAt : EpochId → ℕ → ℕ → Told → Type 0
+GrantedAt e key ss (Shown r) = GrantedAtRecord e key ss r
+GrantedAt e key ss _ = ⊥
+
+-- the instance was granted, at this storage site, and some storage site has begun it
+pub record IsGiven (past : List Told) (e : EpochId) (key ss : ℕ) : Type 0 where
+  pub granted : IsGranted past e key
+  pub there : WasTold (GrantedAt e key ss) past
+  pub at : ℕ
+  pub file : FileId
+  pub begun : WasBegunAt past at e key file
+
+-- so it is of a row that is granted
+pub record IsGivenOn (past : List Told) (e : EpochId) (key : ℕ) (on : FileId) (ss : ℕ) : Type 0 where
+  pub granted : WasGranted past e key on
+  pub there : WasTold (GrantedAt e key ss) past
+  pub at : ℕ
+  pub file : FileId
+  pub begun : WasBegunAt past at e key file
 
 -- ---- packets ----
 
@@ -41,7 +69,7 @@ OpenedFact past ss e key (opened.Open ino size) = (file : FileId) × WasBegunAt 
 OpenedFact past ss e key (opened.No why) = Unit {0}
 
 abbrev pub DoneFact : List Told → EpochId → ℕ → Granted → Type 0
-DoneFact past e key (granted.Open ss ino size stamp vector) = IsGranted past e key
+DoneFact past e key (granted.Open ss ino size stamp vector) = IsGiven past e key ss
 DoneFact past e key (granted.No why) = Unit {0}
 
 -- by the sender, the receiver and the epoch; an open is asked of a storage site once its group has started
@@ -49,8 +77,8 @@ abbrev pub BodyFact : List Told → ℕ → ℕ → EpochId → Body → Type 0
 BodyFact past from to e (body.OpenSs inst file mode set kind base vector parents) = WasStarted past e file.group
 BodyFact past from to e (body.Opened inst answer) = OpenedFact past from e (serial_key inst) answer
 BodyFact past from to e (body.OpenDone serial answer) = DoneFact past e (serial_key (from_user to serial)) answer
-BodyFact past from to e (body.Op serial n o seen) = IsGranted past e (serial_key (from_user from serial))
-BodyFact past from to e (body.Close serial) = IsGranted past e (serial_key (from_user from serial))
+BodyFact past from to e (body.Op serial n o seen) = IsGiven past e (serial_key (from_user from serial)) to
+BodyFact past from to e (body.Close serial) = IsGiven past e (serial_key (from_user from serial)) to
 BodyFact past from to e (body.Closed inst made) = WasShutAt past from e (serial_key inst)
 BodyFact past from to e (body.ClosedOk inst) = WasReleased past e (serial_key inst)
 BodyFact past from to e _ = Unit {0}
@@ -74,17 +102,17 @@ Factless p = NoFact p.body
 
 -- ---- the using site: outside of an epoch nothing is granted ----
 
-abbrev pub GrantedIn : List Told → Option EpochId → ℕ → Type 0
-GrantedIn past None key = ⊥
-GrantedIn past (Some e) key = IsGranted past e key
+abbrev pub GrantedIn : List Told → Option EpochId → ℕ → ℕ → Type 0
+GrantedIn past None key ss = ⊥
+GrantedIn past (Some e) key ss = IsGiven past e key ss
 
 abbrev pub HeldFact : List Told → ℕ → Option EpochId → UserInstance → Type 0
-HeldFact past s o i = GrantedIn past o (serial_key (from_user s i.serial))
+HeldFact past s o i = GrantedIn past o (serial_key (from_user s i.serial)) i.ss
 
 -- operations and closes are asked of what was granted
 abbrev pub AskingFact : List Told → ℕ → Option EpochId → Asking → Type 0
-AskingFact past s o (asking.Op serial ss number it seen) = GrantedIn past o (serial_key (from_user s serial))
-AskingFact past s o (asking.Close serial ss) = GrantedIn past o (serial_key (from_user s serial))
+AskingFact past s o (asking.Op serial ss number it seen) = GrantedIn past o (serial_key (from_user s serial)) ss
+AskingFact past s o (asking.Close serial ss) = GrantedIn past o (serial_key (from_user s serial)) ss
 AskingFact past s o _ = Unit {0}
 
 abbrev pub WaitingFact : List Told → ℕ → Option EpochId → WaitingCall → Type 0
@@ -108,13 +136,13 @@ pub record InstanceFact (past : List Told) (s : ℕ) (e : EpochId) (i : Instance
 -- ---- the synchronization site ----
 
 -- but for a make, the grant is told as the open is taken
-abbrev pub AskedFact : List Told → EpochId → ℕ → FileId → Mode → Type 0
-AskedFact past e key file mode.Make = Unit {0}
-AskedFact past e key file _ = WasGranted past e key file
+abbrev pub AskedFact : List Told → EpochId → ℕ → FileId → ℕ → Mode → Type 0
+AskedFact past e key file ss mode.Make = Unit {0}
+AskedFact past e key file ss _ = WasGranted past e key file × WasTold (GrantedAt e key ss) past
 
 abbrev pub RowFact : List Told → EpochId → OpenRow → OpenStage → Type 0
-RowFact past e r opening.Asked = AskedFact past e (serial_key r.inst) r.file r.mode
-RowFact past e r opening.Granted = WasGranted past e (serial_key r.inst) r.file
+RowFact past e r opening.Asked = AskedFact past e (serial_key r.inst) r.file r.ss r.mode
+RowFact past e r opening.Granted = IsGivenOn past e (serial_key r.inst) r.file r.ss
 RowFact past e r (opening.Refused why) = Unit {0}
 RowFact past e r opening.Ended = WasGranted past e (serial_key r.inst) r.file × WasReleased past e (serial_key r.inst)
 

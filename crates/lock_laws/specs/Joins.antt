@@ -5,7 +5,7 @@ use Rattle.locus_ids.specs.declared.sites.Members.{Members}
 use Rattle.trace_book.specs.declared.record.Record.{Record}
 use Rattle.trace_book.specs.declared.record.Record.TheVariants as says
 use Rattle.role_steps.specs.Views.{Told, Shown, boot_in}
-use Rattle.the_run.specs.Joins.{IsJoin}
+use Rattle.vector_laws.specs.of_the_run.Joins.{IsJoin}
 use Rattle.vector_laws.specs.Written.{WasTold}
 
 -- ---- the law ----

@@ -9,7 +9,7 @@ use Rattle.role_steps.specs.Views.{SiteView}
 use Rattle.role_steps.specs.Opens.{is_open_stage}
 use Rattle.role_steps.specs.declared.synchronizing.SyncTable.{SyncTable}
 use Rattle.role_steps.specs.declared.synchronizing.OpenRow.{OpenRow}
-use Rattle.the_run.specs.Worlds.{World, Running, place_at}
+use Rattle.vector_laws.specs.of_the_run.Worlds.{World, Running, place_at}
 
 -- a make has no file before it has a number
 abbrev pub IsOfAFile : Mode → Type 0

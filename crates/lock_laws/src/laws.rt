@@ -1,8 +1,9 @@
 ghost use Rattle.std.specs.Prelude.{List};
 ghost use Rattle.locus_ids.specs.declared.config.Config.{Config};
-ghost use Rattle.schedule_lines.specs.declared.line.ScheduleLine.{ScheduleLine};
-ghost use Rattle.the_run.specs.Runs.{run_in};
+ghost use Rattle.vector_laws.specs.of_schedule_lines.declared.line.ScheduleLine.{ScheduleLine};
+ghost use Rattle.vector_laws.specs.of_the_run.Runs.{run_in};
 ghost use Rattle.vector_laws.specs.Written.{past_of};
+ghost use Rattle.lock_laws.specs.Asked.{WhatIsAskedIsBegun};
 ghost use Rattle.lock_laws.specs.Going.{InstancesGoOn};
 ghost use Rattle.lock_laws.specs.Grants.{GrantsAreLocked};
 ghost use Rattle.lock_laws.specs.Joins.{JoinsAreOnce};
@@ -38,4 +39,10 @@ pub fn joins_are_once()
 /// when the later one was given: its instance was released, or its open refused after all.
 pub fn grants_are_locked()
     ensures { (c : Config) (lines : List ScheduleLine) → GrantsAreLocked (past_of (run_in c lines).trace) }
+{}
+
+/// After every schedule, whatever operation or close a waiting call of a running site asks in its epoch is of an instance that
+/// was granted in that epoch at the site that is asked, and that some storage site has begun.
+pub fn what_is_asked_is_begun()
+    ensures { (c : Config) (lines : List ScheduleLine) → WhatIsAskedIsBegun (run_in c lines) }
 {}

@@ -8,6 +8,7 @@ use Rattle.std.proofs.lemmas.Nat.Bits.{bit_at_and, bit_at_or, bit_at-lt, bit_at-
 use Rattle.std.proofs.Math.Pow.{pow-lt}
 use mir.Syntax.{w16}
 use Rattle.locus_ids.specs.declared.sites.Sites.{Sites}
+use Rattle.locus_ids.specs.Sizes.{sites_max, set_span}
 use Rattle.locus_ids.specs.Sites.{has, with_site, without_site, both, count_to}
 
 -- a bit times a power is zero exactly where the bit is
@@ -43,22 +44,22 @@ has-with sites site other p q =
     ∙ ap (λ b. bit_at sites.0 (other - 1) == 1 || b) (bit_of_site site other p q))
 
 -- a mask without one bit, as a test of a bit
-mask_at : (k i : ℕ) → k < 16 → i < 16 → bit_at (65535 - 2 ^ k) i ≡ 1 - bit_at (2 ^ k) i
+mask_at : (k i : ℕ) → k < sites_max → i < sites_max → bit_at (set_span - 1 - 2 ^ k) i ≡ 1 - bit_at (2 ^ k) i
 mask_at k i p q = bit_at_not w16 (2 ^ k) i (pow-lt p) q
 
 nothing : (b : ℕ) → (min 0 b == 1) ≡ false
 nothing b = grind (arith, nat_tests)
 
-pub has-without : (sites : Sites) (site other : ℕ) → sites.0 < 65536 → 1 ≤ site → site ≤ 16 → 1 ≤ other → has (without_site sites site) other ≡ (has sites other && not (other == site))
-has-without sites site other f p r q = elim (cases_lt 16 other) [
+pub has-without : (sites : Sites) (site other : ℕ) → sites.0 < set_span → 1 ≤ site → site ≤ sites_max → 1 ≤ other → has (without_site sites site) other ≡ (has sites other && not (other == site))
+has-without sites site other f p r q = elim (cases_lt sites_max other) [
   | inr h ↦
       rw bit_at_and
       (rw (mask_at (site - 1) (other - 1) (omega arith) (omega arith))
       (other_than (bit_at sites.0 (other - 1)) (bit_at (2 ^ (site - 1)) (other - 1)) (bit_at-lt sites.0 (other - 1)) (bit_at-lt (2 ^ (site - 1)) (other - 1))
       ∙ ap (λ b. bit_at sites.0 (other - 1) == 1 && not b) (bit_of_site site other p q)))
   | inl h ↦
-      let none : bit_at sites.0 (other - 1) ≡ 0 = bit_at_above sites.0 16 (other - 1) f (omega arith) in
-      rw bit_at_and (rw none (nothing (bit_at (65535 - 2 ^ (site - 1)) (other - 1))))
+      let none : bit_at sites.0 (other - 1) ≡ 0 = bit_at_above sites.0 sites_max (other - 1) f (omega arith) in
+      rw bit_at_and (rw none (nothing (bit_at (set_span - 1 - 2 ^ (site - 1)) (other - 1))))
 ]
 
 pub has-both : (a b : Sites) (site : ℕ) → has (both a b) site ≡ (has a site && has b site)

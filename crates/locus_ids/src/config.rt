@@ -3,7 +3,7 @@ ghost use Rattle.std.specs.Prelude.{◌≡◌, IfOk};
 use crate::{Bytes, ItemList, NoMemory, Sites};
 
 /// A filegroup that stands on a reserved name of the root directory.
-#[derive(Clone, Debug, Drop)]
+#[derive(Clone, Drop)]
 pub struct Mount {
     pub group: u8,
     pub name: Bytes,
@@ -13,7 +13,7 @@ pub struct Mount {
 pub type Mounts = ItemList<Mount>;
 
 /// A cluster: how many sites it has, which of them have a pack of each group, and where groups are mounted.
-#[derive(Clone, Debug, Drop)]
+#[derive(Clone, Drop)]
 pub struct Config {
     pub sites: u8,
     pub packs: [Sites; 4],

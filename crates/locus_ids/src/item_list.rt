@@ -7,7 +7,7 @@ use std::alloc::{AllocError, Global};
 use std::marker::Model;
 
 /// Some items, which contracts see as a list.
-#[derive(Debug, Drop)]
+#[derive(Drop)]
 pub struct ItemList<T> {
     items: Vec<T>,
 }

@@ -3,7 +3,7 @@ ghost use Rattle.std.specs.Prelude.{◌≡◌, IfOk};
 use crate::{Bytes, EpochId, NoMemory, Stamp};
 
 /// Why a call is refused.
-#[derive(Clone, Debug, Drop)]
+#[derive(Clone, Drop)]
 pub enum Refusal {
     /// An open instance of this process of this site excludes the open.
     Busy { site: u8, process: u8 },

@@ -1,56 +1,59 @@
 ghost use Rattle.std.specs.Prelude.{◌≡◌, ℕ, ◌-◌, ◌^◌, ◌≤◌, ◌==◌, ◌&&◌, ◌||◌, not, ◌↔◌, IfSome, IsSome, slice_index};
+ghost use Rattle.locus_ids.specs.Sizes.{sites_max};
 ghost use Rattle.locus_ids.specs.Sites.{has, with_site, without_site, both, count, IsLeast};
 
+use crate::sizes::SITES;
 use std::marker::Model;
 
-/// The number of a site, 1 to 16.
-#[derive(Clone, Copy, Debug, PartialEq, Eq, PartialOrd, Ord)]
+/// The number of a site, 1 to `SITES`.
+#[derive(Clone, Copy, PartialEq, Eq, PartialOrd, Ord)]
 pub struct SiteId(u8);
 
 impl Model for SiteId {
     ghost use Rattle.std.specs.Prelude.{ℕ, ◌≤◌};
+    ghost use Rattle.locus_ids.specs.Sizes.{sites_max};
 
     ghost Value = { ℕ };
 
     ghost view = { λ s. s.0 };
 
-    ghost invariant = { λ s. (1 ≤ s.0) × (s.0 ≤ 16) };
+    ghost invariant = { λ s. (1 ≤ s.0) × (s.0 ≤ sites_max) };
 
     ghost inverse = { λ n. record { 0 = n } };
 }
 
 impl SiteId {
-    /// The site of this number, or `None` exactly where the number is not 1 to 16.
+    /// The site of this number, or `None` exactly where the number is not 1 to `SITES`.
     pub fn new(n: u8) -> Option<SiteId>
-        ensures some { IsSome result ↔ ((1 ≤ n) × (n ≤ 16)) }
+        ensures some { IsSome result ↔ ((1 ≤ n) × (n ≤ sites_max)) }
         ensures value { IfSome result (λ site. site ≡ n) }
     {
-        if 1 <= n && n <= 16 {
+        if 1 <= n && n <= SITES as u8 {
             Some(SiteId(n))
         } else {
             None
         }
     }
 
-    /// The number, 1 to 16.
+    /// The number, 1 to `SITES`.
     pub fn get(self) -> u8
         ensures value { result ≡ self }
         ensures low { 1 ≤ result }
-        ensures high { result ≤ 16 }
+        ensures high { result ≤ sites_max }
     {
         self.0
     }
 }
 
 /// A set of sites. Bit s - 1 stands for site s.
-#[derive(Clone, Copy, Debug, PartialEq, Eq)]
+#[derive(Clone, Copy, PartialEq, Eq)]
 pub struct Sites(pub u16);
 
 /// The bit of a site.
 const fn bit(site: SiteId) -> u16
     ensures power { result ≡ 2 ^ (site - 1) }
     ensures low { 1 ≤ site }
-    ensures high { site ≤ 16 }
+    ensures high { site ≤ sites_max }
 {
     1 << (site.0 - 1)
 }
@@ -90,10 +93,10 @@ impl Sites {
     /// The number of sites in the set.
     pub fn count(self) -> u8
         ensures number { result ≡ count self }
-        ensures most { result ≤ 16 }
+        ensures most { result ≤ sites_max }
     {
         let mut n = 0;
-        for site in 1..=16 {
+        for site in 1..=SITES as u8 {
             if self.has(SiteId(site)) {
                 n += 1;
             }
@@ -105,7 +108,7 @@ impl Sites {
     pub fn least(self) -> Option<SiteId>
         ensures { IsLeast self result }
     {
-        for site in 1..=16 {
+        for site in 1..=SITES as u8 {
             if self.has(SiteId(site)) {
                 return Some(SiteId(site));
             }
@@ -115,9 +118,9 @@ impl Sites {
 }
 
 /// The boot number of each member of an epoch, site 1 first; 0 is no member.
-#[derive(Clone, Copy, Debug, PartialEq, Eq)]
+#[derive(Clone, Copy, PartialEq, Eq)]
 pub struct Members {
-    pub boot: [u32; 16],
+    pub boot: [u32; SITES],
 }
 
 impl Members {
@@ -130,9 +133,9 @@ impl Members {
 }
 
 /// The boot number of each site that is connected, site 1 first; 0 is not connected.
-#[derive(Clone, Copy, Debug, PartialEq, Eq)]
+#[derive(Clone, Copy, PartialEq, Eq)]
 pub struct Links {
-    pub boot: [u32; 16],
+    pub boot: [u32; SITES],
 }
 
 impl Links {

@@ -1,4 +1,5 @@
 pub mod Calls
+mod Codes
 pub mod Complete
 pub mod Inputs
 pub mod Loads

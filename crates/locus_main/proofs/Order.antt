@@ -1,5 +1,5 @@
 -- The lines of each input stand as those of a schedule may.
-use Rattle.std.proofs.Common.{ℕ, List, [], ◌∷◌, Option, None, Some, refl, sym, subst}
+use Rattle.std.proofs.Common.{ℕ, List, [], ◌∷◌, Option, None, Some, sym, subst}
 use Rattle.std.specs.List.{AllByRecursion}
 use Rattle.schedule_lines.specs.Schedule.{AreInOrder}
 use Rattle.schedule_lines.specs.declared.line.ScheduleLine.{ScheduleLine}
@@ -7,8 +7,8 @@ use Rattle.the_run.specs.Commands.{Asked}
 use Rattle.the_run.specs.Asking.{Asks}
 use Rattle.input_order_laws.specs.Inputs.{IsOnCluster}
 use Rattle.input_order_laws.proofs.Order.{read_in_order}
-use Rattle.input_order_laws.proofs.Trees.{opening_in_order as opened, tree_in_order}
-use Rattle.locus_main.specs.Inputs.{Input, before_calls, AskAll, StandsFor, opening_of}
+use Rattle.input_order_laws.proofs.Trees.{tree_in_order}
+use Rattle.locus_main.specs.Inputs.{Input, before_calls, AskAll, StandsFor}
 use Rattle.locus_main.specs.Inputs.Input.{Schedule, Calls}
 
 before_on_cluster : (bytes : List ℕ) (asked : Option Asked) (later : List Asked) → Asks bytes asked → AllByRecursion IsOnCluster later → AllByRecursion IsOnCluster (before_calls asked later)
@@ -25,9 +25,3 @@ asked_on_cluster (b ∷ bs) calls h = subst (AllByRecursion IsOnCluster) (sym h.
 pub stands_in_order : (input : Input) (all : List (List ℕ)) (lines : List ScheduleLine) → StandsFor input all lines → AreInOrder lines
 stands_in_order Schedule all lines h = read_in_order all lines h
 stands_in_order Calls all lines h = subst AreInOrder (sym h.run) (tree_in_order h.calls (asked_on_cluster all h.calls h.asked))
-
--- so is the opening
-pub opening_in_order : (input : Input) → AreInOrder (opening_of input)
-unfolding opening_of
-opening_in_order Schedule = tt
-opening_in_order Calls = opened 100000 refl

@@ -104,10 +104,6 @@ pub write_failed : (f : WriteFault) → status_of f ≡ status.WriteFault → f 
 write_failed write.Failed e = refl
 write_failed write.NoMemory e = absurd (cc)
 
-pub write_no_line : (f : WriteFault) (line : ℕ) → status_of f ≡ status.BadLine line → ⊥
-write_no_line write.Failed line e = cc
-write_no_line write.NoMemory line e = cc
-
 pub write_no_limit : (f : WriteFault) (what : Limited) → status_of f ≡ status.Limit what → ⊥
 write_no_limit write.Failed what e = cc
 write_no_limit write.NoMemory what e = cc
@@ -122,14 +118,8 @@ stopped_ends o s h = ap ends_telling h.2 ∙ limits_end h.0
 pub stopped_at : (o : Option Limit) (s : Status) (limit : Limit) → Stopped o s → s ≡ status.Limit (limited limit) → o ≡ Some limit
 stopped_at o s limit h e = h.1 ∙ ap (λ (l : Limit). Some l) (limited_once h.0 limit (sym h.2 ∙ e))
 
-no_line_is : (what : Limited) (line : ℕ) → status.Limit what ≡ status.BadLine line → ⊥
-no_line_is what line e = cc
-
 no_write_limit : (what : Limited) → status.Limit what ≡ status.WriteFault → ⊥
 no_write_limit what e = cc
-
-pub stopped_no_line : (o : Option Limit) (s : Status) (line : ℕ) → Stopped o s → s ≡ status.BadLine line → ⊥
-stopped_no_line o s line h e = no_line_is (limited h.0) line (sym h.2 ∙ e)
 
 pub stopped_no_write : (o : Option Limit) (s : Status) → Stopped o s → s ≡ status.WriteFault → ⊥
 stopped_no_write o s h e = no_write_limit (limited h.0) (sym h.2 ∙ e)

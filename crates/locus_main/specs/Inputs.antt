@@ -1,7 +1,7 @@
 -- What the lines of a command's input are.
 use Rattle.std.specs.Prelude.{ℕ, ◌≡◌, List, [], ◌∷◌, Option, None, Some}
 use Rattle.std.specs.List.{flat_map}
-use Rattle.trace_book.specs.declared.book.Entry.{Entry}
+use Rattle.trace_book.specs.declared.entry.Entry.{Entry}
 use Rattle.schedule_lines.specs.declared.line.ScheduleLine.{ScheduleLine}
 use Rattle.schedule_lines.specs.Schedule.{IsSchedule, MayEnd}
 use Rattle.the_run.specs.Runs.{run, printed, entries_of_run}

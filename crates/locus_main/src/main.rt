@@ -9,12 +9,10 @@ mod input;
 mod lines;
 mod runners;
 mod status;
-#[cfg(test)]
-mod tests;
 mod top;
 mod turn;
 
-use locus_ids::{Bytes, Names, NoMemory};
+use locus_ids::{Bytes, Names};
 use locus_io::{StdSink, StdSource};
 use status::Status;
 use std::alloc::Global;
@@ -22,12 +20,18 @@ use std::process::ExitCode;
 use std::rt::Env;
 use std::{env, io};
 
-/// The words after the program's name.
-fn words_of<R: Env + AllocGlobal>(rt: &R) -> Result<Names, NoMemory> {
+/// The words after the program's name, or why they can't be had: one that isn't text is none that the program takes.
+fn words_of<R: Env + AllocGlobal>(rt: &R) -> Result<Names, Status> {
     let alloc = rt.alloc();
     let mut words = Names::new(alloc);
-    let Ok(mut arguments) = env::args(rt) else {
-        return Err(NoMemory);
+    let mut arguments = match env::args(rt) {
+        Ok(arguments) => arguments,
+        Err(error) => {
+            return Err(match error.kind() {
+                io::ErrorKind::InvalidData => Status::BadWords,
+                _ => Status::NoMemory,
+            });
+        }
     };
     let _ = arguments.next();
     for word in arguments {
@@ -43,7 +47,7 @@ fn main(rt: HostRuntime) -> ExitCode {
             let mut sink = StdSink::new(io::writer(&rt));
             top::locus(rt.alloc(), &words, &mut source, &mut sink)
         }
-        Err(_) => Status::NoMemory,
+        Err(status) => status,
     };
     let _ = status.tell(&rt);
     ExitCode::from(status.code())

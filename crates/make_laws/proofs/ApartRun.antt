@@ -2,11 +2,14 @@
 use Rattle.std.proofs.Common.{◌≡◌, ◌≤◌, ℕ, ◌+◌, ◌*◌, ◌-◌, ◌==◌, ◌||◌, Bool, true, false, cond, ◌&&◌, List, [], ◌∷◌, ◌++◌, map, Option, Some, None, refl, sym, ◌∙◌, subst, inl, inr, arith}
 use Rattle.std.proofs.lemmas.Bool.Decides.{nat_tests}
 use Rattle.std.specs.List.{list_any}
+use Rattle.role_steps.proofs.of_plain_facts.Numbers.{equal_self}
+use Rattle.role_steps.proofs.of_plain_facts.Tests.{or_neither, true_false}
 use Rattle.locus_ids.specs.declared.ids.EpochId.{EpochId}
 use Rattle.locus_ids.specs.declared.ids.FileId.{FileId}
 use Rattle.locus_ids.specs.declared.ids.Mode.{Mode}
 use Rattle.locus_ids.specs.declared.ids.Mode.TheVariants as mode
 use Rattle.locus_ids.specs.declared.config.Config.{Config}
+use Rattle.locus_ids.specs.Sizes.{site_inodes}
 use Rattle.schedule_lines.specs.declared.line.ScheduleLine.{ScheduleLine}
 use Rattle.trace_book.specs.declared.record.Record.TheVariants as says
 use Rattle.trace_book.specs.declared.record.StopCause.TheVariants as cause
@@ -31,12 +34,12 @@ use Rattle.the_run.specs.Kept.{Among, Kept, with_circuits}
 use Rattle.the_run.proofs.Boots.{acts_cases}
 use Rattle.the_run.proofs.Events.{happened_keeps}
 use Rattle.the_run.proofs.Runs.{every_run}
-use Rattle.vector_laws.specs.Written.{past_of}
-use Rattle.vector_laws.specs.Facts.{onto}
-use Rattle.vector_laws.proofs.SyncFacts.{FoundAt, row_at}
-use Rattle.vector_laws.proofs.FactsRun.{past_onto}
-use Rattle.lock_laws.specs.Going.{WasBegunAt, WasReleased}
-use Rattle.lock_laws.specs.Facts as locks
+use Rattle.pack_laws.specs.of_vector_laws.Written.{past_of}
+use Rattle.pack_laws.specs.of_vector_laws.Facts.{onto}
+use Rattle.pack_laws.proofs.of_vector_laws.SyncFacts.{FoundAt, row_at}
+use Rattle.pack_laws.proofs.of_vector_laws.FactsRun.{past_onto}
+use Rattle.pack_laws.specs.of_lock_laws.Going.{WasBegunAt, WasReleased}
+use Rattle.pack_laws.specs.of_lock_laws.Facts as locks
 use Rattle.pack_laws.proofs.WriterAsksRun.{Leads, newest_leads}
 use Rattle.pack_laws.specs.Making.{IsOwnNumber, FilesAreMadeAtHome}
 use Rattle.make_laws.specs.RunningStores.{HasOn, AsksIn, IsAsked, InstanceSo, Stands}
@@ -44,7 +47,7 @@ use Rattle.make_laws.proofs.RunningSpine.{order_before}
 use Rattle.make_laws.proofs.RunningStand.{ChangesAreOfWriters, stand_spines}
 use Rattle.make_laws.proofs.RunningStandRun.{Orderly, Standing, standing_kept, first_standing, stores_stand}
 use Rattle.make_laws.proofs.RunningOrders.{run_orderly}
-use Rattle.lock_laws.specs.Joins.{JoinsAreOnce}
+use Rattle.pack_laws.specs.of_lock_laws.Joins.{JoinsAreOnce}
 use Rattle.make_laws.specs.Holding.{ReservedAt, WasReserved, ApartTold, ReservesAreApart}
 use Rattle.make_laws.specs.Made.{AsksSo, IsAskedThere, Lawful, WorldMade}
 use Rattle.make_laws.proofs.Telling.{AnyGroup, Plain}
@@ -117,10 +120,10 @@ was_begun s e key file (x ∷ older) (inr k) h = inr (was_begun s e key file old
 -- the numbers of two sites differ
 same_home : (s t ino : ℕ) → 1 ≤ s → 1 ≤ t → IsOwnNumber s ino → IsOwnNumber t ino → s ≡ t
 same_home s t ino p q h g =
-    let a : 64 * (s - 1) + 1 ≤ ino = h.low in
-    let b : ino ≤ 64 * (s - 1) + 64 = h.high in
-    let c : 64 * (t - 1) + 1 ≤ ino = g.low in
-    let d : ino ≤ 64 * (t - 1) + 64 = g.high in
+    let a : site_inodes * (s - 1) + 1 ≤ ino = h.low in
+    let b : ino ≤ site_inodes * (s - 1) + site_inodes = h.high in
+    let c : site_inodes * (t - 1) + 1 ≤ ino = g.low in
+    let d : ino ≤ site_inodes * (t - 1) + site_inodes = g.high in
     omega (arith, p, q, a, b, c, d)
 
 -- ---- what the store has of it ----
@@ -132,9 +135,6 @@ record StillHas (past : List Told) (e : EpochId) (store : Store) (key : ℕ) (fi
   file_is : instance.file ≡ file
   mode_is : instance.mode ≡ mode.Make
   released : is_open instance.stage ≡ false → WasReleased past e key
-
-true_false : true ≡ false → ⊥
-true_false e = cc
 
 stage_released : (past : List Told) (s : ℕ) (e : EpochId) (key : ℕ) (x : Stage) → locks.StageFact past s e key x → is_open x ≡ false → WasReleased past e key
 stage_released past s e key stage.Running h q = absurd (true_false q)
@@ -211,14 +211,10 @@ cond_false : (a b : Bool) → cond a true b ≡ false → b ≡ false
 cond_false true b h = absurd (true_false h)
 cond_false false b h = h
 
-or_false : (a b : Bool) → (a || b) ≡ false → (a ≡ false) × (b ≡ false)
-or_false true b h = absurd (true_false h)
-or_false false b h = (refl, h)
-
 any_none : (test : Instance → Bool) (i : Instance) (is : List Instance) → list_any test is ≡ false → Among i is → test i ≡ false
 any_none test i [] h k = absurd k
-any_none test i (x ∷ is) h (inl q) = subst (λ (y : Instance). test y ≡ false) (sym q) (or_false (test x) (list_any test is) h).0
-any_none test i (x ∷ is) h (inr k) = any_none test i is (or_false (test x) (list_any test is) h).1 k
+any_none test i (x ∷ is) h (inl q) = subst (λ (y : Instance). test y ≡ false) (sym q) (or_neither (test x) (list_any test is) h).0
+any_none test i (x ∷ is) h (inr k) = any_none test i is (or_neither (test x) (list_any test is) h).1 k
 
 making_open : (group ino : ℕ) (i : Instance) → i.mode ≡ mode.Make → is_making group ino i ≡ ((is_open i.stage && (i.file.group == group)) && ((i.file.ino == ino) && true))
 making_open group ino i e = rw e refl
@@ -230,11 +226,8 @@ none_of : (a b c : Bool) → b ≡ true → c ≡ true → ((a && b) && (c && tr
 none_of false b c p q h = refl
 none_of true b c p q h = absurd (true_false (sym (all_true b c p q) ∙ h))
 
-same_number : (n : ℕ) → (n == n) ≡ true
-same_number n = grind (arith, nat_tests)
-
 not_making : (group ino : ℕ) (i : Instance) → i.file ≡ record { group = group; ino = ino } → i.mode ≡ mode.Make → is_making group ino i ≡ false → is_open i.stage ≡ false
-not_making group ino i file made h = none_of (is_open i.stage) (i.file.group == group) (i.file.ino == ino) (subst (λ (f : FileId). (f.group == group) ≡ true) (sym file) (same_number group)) (subst (λ (f : FileId). (f.ino == ino) ≡ true) (sym file) (same_number ino)) (sym (making_open group ino i made) ∙ h)
+not_making group ino i file made h = none_of (is_open i.stage) (i.file.group == group) (i.file.ino == ino) (subst (λ (f : FileId). (f.group == group) ≡ true) (sym file) (equal_self group)) (subst (λ (f : FileId). (f.ino == ino) ≡ true) (sym file) (equal_self ino)) (sym (making_open group ino i made) ∙ h)
 
 unused_released : (past : List Told) (e : EpochId) (store : Store) (key group ino : ℕ) → is_used store group ino ≡ false → StillHas past e store key (record { group = group; ino = ino }) → WasReleased past e key
 unused_released past e store key group ino unused h =
@@ -336,7 +329,7 @@ acts_apart c n s v o w owed g =
     acts_cases (Apart c) n s v o w
     (happened_apart c n o.sent o.told (λ now. puts s (Running o.view) now) w refl owed g)
     (λ a. happened_apart c n o.sent o.told (λ now. puts s (Running o.view) (arms a now)) w refl owed g)
-    (λ d a q. plain_event c n _ (stops_with s (cut_disk v.boot v.store d a.how a.left)) w refl (cut_plain (is_on_disk d a.how a.left) d.says (Shown (says.Stopped s (cause_of a.how))) tt) g)
+    (λ d a q. plain_event c n _ (stops_with s (cut_disk v.boot v.store d a.how a.left)) w refl (cut_plain (is_on_disk v.store d a.how a.left) d.says (Shown (says.Stopped s (cause_of a.how))) tt) g)
 
 as_apart : (c : Config) (n s : ℕ) (b : Booted) (w : World) → Apart c w → Apart c (boots_as n s b w)
 as_apart c n s (Whole x None) w g = plain_event c n (Shown (says.Up s x.label.boot) ∷ []) _ w refl (tt, tt) g

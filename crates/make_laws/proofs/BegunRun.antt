@@ -1,6 +1,8 @@
 -- In every run what a storage site begins was asked so, and the number of what it makes was reserved.
 use Rattle.std.proofs.Common.{◌≡◌, ◌≤◌, ℕ, ◌+◌, ◌==◌, nat_lt, Bool, true, false, cond, ◌&&◌, ◌⊎◌, List, [], ◌∷◌, ◌++◌, filter, map, Option, Some, None, refl, sym, ◌∙◌, ap, subst, inl, inr, arith}
 use Rattle.std.proofs.lemmas.Bool.Decides.{nat_tests}
+use Rattle.role_steps.proofs.of_plain_facts.Numbers.{equal}
+use Rattle.role_steps.proofs.of_plain_facts.Tests.{both_true}
 use Rattle.locus_ids.specs.declared.ids.EpochId.{EpochId}
 use Rattle.locus_ids.specs.declared.ids.FileId.{FileId}
 use Rattle.locus_ids.specs.declared.ids.Mode.{Mode}
@@ -23,13 +25,13 @@ use Rattle.the_run.specs.Kept.{Among, WasSent, IsOwn, Kept}
 use Rattle.the_run.proofs.Boots.{at_each, acts_cases, every_weaker}
 use Rattle.the_run.proofs.Events.{happened_keeps, puts_other}
 use Rattle.the_run.proofs.InsideSync.{every_without}
-use Rattle.run_laws.proofs.Run.{found_among}
-use Rattle.vector_laws.specs.Written.{past_of}
-use Rattle.vector_laws.specs.Facts.{onto}
-use Rattle.vector_laws.proofs.FactsRun.{past_onto}
-use Rattle.lock_laws.specs.Going.{BegunAt}
-use Rattle.lock_laws.specs.Locks.{IsOfAFile}
-use Rattle.lock_laws.proofs.Facts.{onto_later}
+use Rattle.pack_laws.proofs.of_run_laws.Run.{found_among}
+use Rattle.pack_laws.specs.of_vector_laws.Written.{past_of}
+use Rattle.pack_laws.specs.of_vector_laws.Facts.{onto}
+use Rattle.pack_laws.proofs.of_vector_laws.FactsRun.{past_onto}
+use Rattle.pack_laws.specs.of_lock_laws.Going.{BegunAt}
+use Rattle.pack_laws.specs.of_lock_laws.Locks.{IsOfAFile}
+use Rattle.pack_laws.proofs.of_lock_laws.Facts.{onto_later}
 use Rattle.pack_laws.proofs.WriterAsksRun.{Leads, newest_leads, newest_has}
 use Rattle.make_laws.specs.Holding.{ReservedAt, WasReserved}
 use Rattle.make_laws.specs.Made.{AsksSo, IsAskedThere, IsBegunSo, AllBegunSo, IsNoBegin, AlwaysBegunSo, WorldMade}
@@ -242,7 +244,7 @@ acts_made c n s v e o w here told asks g =
     acts_cases (WorldMade c) n s v o w
     (happened_made c n o.sent o.told (λ now. puts s (Running o.view) now) w refl refl (puts_low s (Running o.view) w low g.low) owed g)
     (λ a. happened_made c n o.sent o.told (λ now. puts s (Running o.view) (arms a now)) w refl refl (puts_low s (Running o.view) w low g.low) owed g)
-    (λ d a q. plain_made c n _ (stops_with s (cut_disk v.boot v.store d a.how a.left)) w refl refl (puts_low s (Stopped (cut_disk v.boot v.store d a.how a.left)) w low g.low) (cut_plain (is_on_disk d a.how a.left) d.says (Shown (says.Stopped s (cause_of a.how))) tt) g)
+    (λ d a q. plain_made c n _ (stops_with s (cut_disk v.boot v.store d a.how a.left)) w refl refl (puts_low s (Stopped (cut_disk v.boot v.store d a.how a.left)) w low g.low) (cut_plain (is_on_disk v.store d a.how a.left) d.says (Shown (says.Stopped s (cause_of a.how))) tt) g)
   where
     low : 1 ≤ s
     low = g.low s (Running v) here
@@ -285,14 +287,11 @@ filtered : (test : ℕ → Bool) (ss : List ℕ) → Every (λ (s : ℕ). 1 ≤ 
 filtered test [] h = tt
 filtered test (s ∷ ss) h = elim (test s) as (λ b. Every (λ (n : ℕ). 1 ≤ n) (cond b (s ∷ filter test ss) (filter test ss))) [ true ↦ (h.0, filtered test ss h.1) | false ↦ filtered test ss h.1 ]
 
-test_same : (a b : ℕ) → (a == b) ≡ true → a ≡ b
-test_same a b e = grind (arith, nat_tests)
-
 first_low : (c : Config) (ss : List ℕ) → Every (λ (s : ℕ). 1 ≤ s) ss → (s : ℕ) (p : Place) → place_in (row place_site s (map (first_place c) ss)) ≡ Some p → 1 ≤ s
 first_low c [] h s p e = absurd (none_place p e)
 first_low c (t ∷ ts) h s p e =
     (elim (t == s) as (λ b. (t == s) ≡ b → place_in (elim b [ true ↦ Some (first_place c t) | false ↦ row place_site s (map (first_place c) ts) ]) ≡ Some p → 1 ≤ s) [
-      | true ↦ λ q f. subst (λ (n : ℕ). 1 ≤ n) (test_same t s q) h.0
+      | true ↦ λ q f. subst (λ (n : ℕ). 1 ≤ n) (equal t s q) h.0
       | false ↦ λ q f. first_low c ts h.1 s p f
     ]) refl e
 
@@ -300,18 +299,12 @@ abbrev all_low : List ℕ → Bool
 all_low [] = true
 all_low (s ∷ ss) = nat_lt 0 s && all_low ss
 
-both : (a b : Bool) → (a && b) ≡ true → (a ≡ true) × (b ≡ true)
-both true true h = (refl, refl)
-both true false h = absurd (cc)
-both false true h = absurd (cc)
-both false false h = absurd (cc)
-
 positive : (s : ℕ) → nat_lt 0 s ≡ true → 1 ≤ s
 positive s h = grind (arith, nat_tests)
 
 sites_low : (ss : List ℕ) → all_low ss ≡ true → Every (λ (s : ℕ). 1 ≤ s) ss
 sites_low [] h = tt
-sites_low (s ∷ ss) h = let k : (nat_lt 0 s ≡ true) × (all_low ss ≡ true) = both (nat_lt 0 s) (all_low ss) h in (positive s k.0, sites_low ss k.1)
+sites_low (s ∷ ss) h = let k : (nat_lt 0 s ≡ true) × (all_low ss ≡ true) = both_true (nat_lt 0 s) (all_low ss) h in (positive s k.0, sites_low ss k.1)
 
 pub first_made : (c : Config) → WorldMade c (first_world c)
 first_made c = record { low = λ s p here. first_low c _ (filtered (λ s. nat_lt s (c.sites + 1)) all_sites (sites_low all_sites refl)) s p here; begun = λ s e key file h. absurd h; always = tt; reserved = λ s e key file h. absurd h; underway = tt }

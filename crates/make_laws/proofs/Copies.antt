@@ -1,8 +1,10 @@
 -- A disk has a copy of each file that its site has committed, and of each root of which it has a pack.
 use Rattle.std.proofs.Common.{◌≡◌, ◌≢◌, ◌<◌, ℕ, ◌+◌, ◌*◌, ◌==◌, nat_lt, Bool, true, false, ◌⊎◌, List, [], ◌∷◌, ◌++◌, Option, refl, sym, ◌∙◌, subst, inl, inr, arith}
 use Rattle.std.proofs.lemmas.Bool.Decides.{nat_tests}
+use Rattle.role_steps.proofs.of_plain_facts.Numbers.{equal}
 use Rattle.locus_ids.specs.declared.ids.FileId.{FileId}
 use Rattle.locus_ids.specs.declared.config.Config.{Config}
+use Rattle.locus_ids.specs.Sizes.{inode_span}
 use Rattle.trace_book.specs.declared.record.Record.{Record}
 use Rattle.trace_book.specs.declared.record.Record.TheVariants as says
 use Rattle.role_steps.specs.Own.{Every}
@@ -10,19 +12,19 @@ use Rattle.role_steps.specs.Tables.{with_row}
 use Rattle.role_steps.specs.Views.{Told, Shown, DiskWrite, file_key}
 use Rattle.role_steps.specs.Storage.{copy_key}
 use Rattle.role_steps.specs.declared.copies.FileCopy.{FileCopy}
-use Rattle.vector_laws.specs.Held.{IsOf, StillRecord, Still, Writes, OnDisk}
-use Rattle.vector_laws.specs.Facts.{onto}
-use Rattle.vector_laws.specs.HistoryCommits.{FitRecord, FitTold, NumbersFit}
+use Rattle.pack_laws.specs.of_vector_laws.Held.{IsOf, StillRecord, Still, Writes, OnDisk}
+use Rattle.pack_laws.specs.of_vector_laws.Facts.{onto}
+use Rattle.pack_laws.specs.of_vector_laws.HistoryCommits.{FitRecord, FitTold, NumbersFit}
 use Rattle.pack_laws.specs.Making.{CommitsRecordAt, CommitsAt, WasCommittedAt}
 use Rattle.make_laws.specs.Made.{HasCopy, IsOwned, DiskHas}
 use Rattle.make_laws.proofs.Happening.{TellsOne, told_now, none_told, one_append}
 
 -- ---- a table of copies ----
 
-same_key : (a b : FileId) → a.ino < 65536 → b.ino < 65536 → file_key a ≡ file_key b → a ≡ b
+same_key : (a b : FileId) → a.ino < inode_span → b.ino < inode_span → file_key a ≡ file_key b → a ≡ b
 same_key a b p q e = id_eq groups numbers
   where
-    k : a.group * 65536 + a.ino ≡ b.group * 65536 + b.ino
+    k : a.group * inode_span + a.ino ≡ b.group * inode_span + b.ino
     k = e
 
     groups : a.group ≡ b.group
@@ -33,9 +35,6 @@ same_key a b p q e = id_eq groups numbers
 
     id_eq : a.group ≡ b.group → a.ino ≡ b.ino → a ≡ b
     id_eq g n = λ i. record { group = g i; ino = n i }
-
-test_same : (a b : ℕ) → (a == b) ≡ true → a ≡ b
-test_same a b e = grind (arith, nat_tests)
 
 -- what is put into it is in it
 put_has : (x : FileCopy) (xs : List FileCopy) → HasCopy x.file (with_row copy_key x xs)
@@ -48,7 +47,7 @@ put_has x (y ∷ ys) = by_key (put_has x ys) (nat_lt (copy_key y) (copy_key x)) 
     by_key rest false false = inl refl
 
 -- and what was in it, of the file
-row_has : (file : FileId) (x : FileCopy) (xs : List FileCopy) → file.ino < 65536 → x.file.ino < 65536 → HasCopy file xs → HasCopy file (with_row copy_key x xs)
+row_has : (file : FileId) (x : FileCopy) (xs : List FileCopy) → file.ino < inode_span → x.file.ino < inode_span → HasCopy file xs → HasCopy file (with_row copy_key x xs)
 row_has file x [] p q h = absurd h
 row_has file x (y ∷ ys) p q h =
     (elim (copy_key y == copy_key x) as (λ b. (copy_key y == copy_key x) ≡ b → HasCopy file (elim (nat_lt (copy_key y) (copy_key x)) [ true ↦ y ∷ with_row copy_key x ys | false ↦ elim b [ true ↦ x ∷ ys | false ↦ x ∷ y ∷ ys ] ])) [
@@ -59,7 +58,7 @@ row_has file x (y ∷ ys) p q h =
     replaced : (HasCopy file ys → HasCopy file (with_row copy_key x ys)) → (copy_key y == copy_key x) ≡ true → (a : Bool) → HasCopy file (y ∷ ys) → HasCopy file (elim a [ true ↦ y ∷ with_row copy_key x ys | false ↦ x ∷ ys ])
     replaced rest e true (inl k) = inl k
     replaced rest e true (inr k) = inr (rest k)
-    replaced rest e false (inl k) = inl (sym (same_key file x.file p q (subst (λ (f : FileId). file_key f ≡ file_key x.file) k (test_same (copy_key y) (copy_key x) e))))
+    replaced rest e false (inl k) = inl (sym (same_key file x.file p q (subst (λ (f : FileId). file_key f ≡ file_key x.file) k (equal (copy_key y) (copy_key x) e))))
     replaced rest e false (inr k) = inr k
 
     beside : (HasCopy file ys → HasCopy file (with_row copy_key x ys)) → (a : Bool) → HasCopy file (y ∷ ys) → HasCopy file (elim a [ true ↦ y ∷ with_row copy_key x ys | false ↦ x ∷ y ∷ ys ])
@@ -69,26 +68,26 @@ row_has file x (y ∷ ys) p q h =
 
 -- ---- numbers fit ----
 
-record_small : (s : ℕ) (file : FileId) (r : Record) → FitRecord r → CommitsRecordAt s file r → file.ino < 65536
-record_small s file (says.Commit g t stamp parents content) f h = subst (λ (x : FileId). x.ino < 65536) h.1 f
+record_small : (s : ℕ) (file : FileId) (r : Record) → FitRecord r → CommitsRecordAt s file r → file.ino < inode_span
+record_small s file (says.Commit g t stamp parents content) f h = subst (λ (x : FileId). x.ino < inode_span) h.1 f
 record_small s file _ f h = absurd h
 
-told_small : (s : ℕ) (file : FileId) (x : Told) → FitTold x → CommitsAt s file x → file.ino < 65536
+told_small : (s : ℕ) (file : FileId) (x : Told) → FitTold x → CommitsAt s file x → file.ino < inode_span
 told_small s file (Shown r) f h = record_small s file r f h
 told_small s file _ f h = absurd h
 
-committed_small : (s : ℕ) (file : FileId) (past : List Told) → NumbersFit past → WasCommittedAt past s file → file.ino < 65536
+committed_small : (s : ℕ) (file : FileId) (past : List Told) → NumbersFit past → WasCommittedAt past s file → file.ino < inode_span
 committed_small s file [] f h = absurd h
 committed_small s file (x ∷ older) f (inl h) = told_small s file x f.0 h
 committed_small s file (x ∷ older) f (inr h) = committed_small s file older f.1 h
 
-owned_small : (c : Config) (past : List Told) (s : ℕ) (file : FileId) → NumbersFit past → IsOwned c past s file → file.ino < 65536
+owned_small : (c : Config) (past : List Told) (s : ℕ) (file : FileId) → NumbersFit past → IsOwned c past s file → file.ino < inode_span
 owned_small c past s file f (inl h) = committed_small s file past f h
 owned_small c past s file f (inr h) = (let e : file.ino ≡ 1 = h.0 in omega (arith, e))
 
-written_small : (s : ℕ) (r : Record) (x : FileCopy) → IsOf s r x → FitRecord r → x.file.ino < 65536
-written_small s (says.Commit file t stamp parents content) x h f = subst (λ (g : FileId). g.ino < 65536) (sym h.1.file_is) f
-written_small s (says.Adopt file t stamp) x h f = subst (λ (g : FileId). g.ino < 65536) (sym h.1) f
+written_small : (s : ℕ) (r : Record) (x : FileCopy) → IsOf s r x → FitRecord r → x.file.ino < inode_span
+written_small s (says.Commit file t stamp parents content) x h f = subst (λ (g : FileId). g.ino < inode_span) (sym h.1.file_is) f
+written_small s (says.Adopt file t stamp) x h f = subst (λ (g : FileId). g.ino < inode_span) (sym h.1) f
 written_small s _ x h f = absurd h
 
 -- ---- commits that are told ----
@@ -147,7 +146,7 @@ wrote_has c s old new told past written d k fit g file own = subst (HasCopy file
     fits : Every FitTold told × NumbersFit past
     fits = every_now FitTold told past fit
 
-    small : d.copy.file.ino < 65536
+    small : d.copy.file.ino < inode_span
     small = written_small s d.says d.copy k.says_so (middle FitTold (Shown d.says) k.before k.after (subst (Every FitTold) k.told_is fits.0))
 
     by_time : TellsOne (CommitsAt s file) told ⊎ IsOwned c past s file → HasCopy file (with_row copy_key d.copy old)

@@ -10,9 +10,9 @@ use Rattle.trace_book.specs.declared.record.Record.{Record}
 use Rattle.trace_book.specs.declared.record.Record.TheVariants as says
 use Rattle.role_steps.specs.Views.{Told, Shown, serial_key}
 use Rattle.the_run.specs.Runs.{run_in}
-use Rattle.vector_laws.specs.Written.{past_of}
-use Rattle.lock_laws.specs.Grants.{GrantedAs, WasGrantedAs}
-use Rattle.lock_laws.specs.Locks.{IsOfAFile}
+use Rattle.pack_laws.specs.of_vector_laws.Written.{past_of}
+use Rattle.pack_laws.specs.of_lock_laws.Grants.{GrantedAs, WasGrantedAs}
+use Rattle.pack_laws.specs.of_lock_laws.Locks.{IsOfAFile}
 use Rattle.pack_laws.specs.Making.{WasCommitted}
 use Rattle.make_laws.specs.RunningRunning.{IsRunning, RecordRuns, ToldRuns, InstancesRun, BegunAtOneSite}
 use Rattle.make_laws.proofs.RunningOneSite.{run_one_site}

@@ -1,6 +1,9 @@
 -- In every run a number is reserved for a file that nobody has committed.
 use Rattle.std.proofs.Common.{◌≡◌, ◌≤◌, ℕ, ◌==◌, Bool, true, false, cond, ◌⊎◌, List, [], ◌∷◌, ◌++◌, filter, map, Option, Some, None, refl, sym, ◌∙◌, ap, subst, inl, inr, arith}
 use Rattle.std.proofs.lemmas.Bool.Decides.{nat_tests}
+use Rattle.role_steps.proofs.of_plain_facts.Numbers.{equal}
+use Rattle.role_steps.proofs.of_plain_facts.Options.{some_same}
+use Rattle.role_steps.proofs.of_plain_facts.Tests.{false_true}
 use Rattle.locus_ids.specs.Sites.{has}
 use Rattle.locus_ids.specs.declared.ids.FileId.{FileId}
 use Rattle.locus_ids.specs.declared.config.Config.{Config}
@@ -23,15 +26,15 @@ use Rattle.the_run.specs.Runs.{boots_as, packet_record, run_in}
 use Rattle.the_run.specs.Kept.{Among, Kept}
 use Rattle.the_run.proofs.Boots.{at_each, acts_cases}
 use Rattle.the_run.proofs.Events.{happened_keeps, puts_other, puts_same}
-use Rattle.the_run.proofs.Runs.{every_run, some_eq}
-use Rattle.vector_laws.specs.Held.{Still, IsOf, Replaces, Writes, OnDisk, copies_on}
-use Rattle.vector_laws.specs.Written.{past_of}
-use Rattle.vector_laws.specs.Facts.{onto}
-use Rattle.vector_laws.proofs.SiteDisks.{SiteDisk, step_disk}
-use Rattle.vector_laws.proofs.FactsRun.{past_onto}
-use Rattle.vector_laws.proofs.Held.{KeepsCopies, boots_copies}
+use Rattle.the_run.proofs.Runs.{every_run}
+use Rattle.pack_laws.specs.of_vector_laws.Held.{Still, IsOf, Replaces, Writes, OnDisk, copies_on}
+use Rattle.pack_laws.specs.of_vector_laws.Written.{past_of}
+use Rattle.pack_laws.specs.of_vector_laws.Facts.{onto}
+use Rattle.pack_laws.proofs.of_vector_laws.SiteDisks.{SiteDisk, step_disk}
+use Rattle.pack_laws.proofs.of_vector_laws.FactsRun.{past_onto}
+use Rattle.pack_laws.proofs.of_vector_laws.Held.{KeepsCopies, boots_copies}
 use Rattle.pack_laws.proofs.InodeFitsRun.{run_fits}
-use Rattle.lock_laws.proofs.FactsRun.{run_goes}
+use Rattle.pack_laws.proofs.of_lock_laws.FactsRun.{run_goes}
 use Rattle.pack_laws.specs.Packs.{HasPack}
 use Rattle.pack_laws.specs.Making.{IsOwnNumber, WasCommitted, WasCommittedAt, HomesCommitFirst}
 use Rattle.pack_laws.proofs.Making.{run_made}
@@ -147,7 +150,7 @@ happened_fresh c n ps told change w now g =
 disks_of : (c : Config) (s : ℕ) (old new : Place) (told : List Told) (written : Option DiskWrite) (w : World) → place_at w s ≡ Some old → OnDisk s (copies_on old) (copies_on new) told written → Lawful c (onto told (past_of w.trace)) → WorldFresh c w →
     (t : ℕ) (p : Place) → place_at (puts s new w) t ≡ Some p → DiskHas c (onto told (past_of w.trace)) t (copies_on p)
 disks_of c s old new told written w here disk law f t p at = at_each s t (DiskHas c (onto told (past_of w.trace)) t (copies_on p))
-    (λ e. subst (λ (n : ℕ). DiskHas c (onto told (past_of w.trace)) n (copies_on p)) e (subst (λ (q : Place). DiskHas c (onto told (past_of w.trace)) s (copies_on q)) (some_eq new p (sym (puts_same s new w) ∙ (ap (place_at (puts s new w)) e ∙ at))) (mine_has c s (copies_on old) (copies_on new) told (past_of w.trace) written disk law.fit (f.disks s old here))))
+    (λ e. subst (λ (n : ℕ). DiskHas c (onto told (past_of w.trace)) n (copies_on p)) e (subst (λ (q : Place). DiskHas c (onto told (past_of w.trace)) s (copies_on q)) (some_same new p (sym (puts_same s new w) ∙ (ap (place_at (puts s new w)) e ∙ at))) (mine_has c s (copies_on old) (copies_on new) told (past_of w.trace) written disk law.fit (f.disks s old here))))
     (λ ne. others_have c s t (copies_on old) (copies_on new) (copies_on p) told (past_of w.trace) written ne disk (f.disks t p (sym (puts_other s t new w ne) ∙ at)))
 
 still_disk : (s : ℕ) (copies : List FileCopy) (told : List Told) → Every Still told → OnDisk s copies copies told None
@@ -183,14 +186,14 @@ cut_writes s v o x d how h e = record {
 cut_disk_is : (s : ℕ) (v : SiteView) (o : Outcome SiteView) (d : DiskWrite) (b : Bool) (how : StopCause) → o.written ≡ Some d → SiteDisk s v o → OnDisk s v.store.copies (cond b (with_row copy_key d.copy v.store.copies) v.store.copies) (cond b (Shown d.says ∷ Shown (says.Stopped s how) ∷ []) (Shown (says.Stopped s how) ∷ [])) (cond b (Some d) None)
 cut_disk_is s v o d b how e (inl h) = absurd (no_write d (sym h.none ∙ e))
 cut_disk_is s v o d false how e (inr h) = still_disk s v.store.copies (Shown (says.Stopped s how) ∷ []) (tt, tt)
-cut_disk_is s v o d true how e (inr h) = inr (d, cut_writes s v o h.0 d how h.1 (some_eq h.0 d (sym h.1.is_written ∙ e)))
+cut_disk_is s v o d true how e (inr h) = inr (d, cut_writes s v o h.0 d how h.1 (some_same h.0 d (sym h.1.is_written ∙ e)))
 
 acts_fresh : (c : Config) (n s : ℕ) (v : SiteView) (e : Event) (o : Outcome SiteView) (w : World) → place_at w s ≡ Some (Running v) → WorldMade c w → WorldListed w → SiteDisk s v o → ToldAs AnyGroup c s v e o.told → Fresh c w → Fresh c (acts n s v o w)
 acts_fresh c n s v e o w here made listed disk told g =
     acts_cases (Fresh c) n s v o w
     (happened_fresh c n o.sent o.told (λ now. puts s (Running o.view) now) w owed g)
     (λ a. happened_fresh c n o.sent o.told (λ now. puts s (Running o.view) (arms a now)) w (λ law f. (let k : Owed c o.told (λ now. puts s (Running o.view) now) w = owed law f in record { disks = k.disks; fresh = k.fresh })) g)
-    (λ d a q. cut d (is_on_disk d a.how a.left) (cause_of a.how) (cut_disk v.boot v.store d a.how a.left) q refl)
+    (λ d a q. cut d (is_on_disk v.store d a.how a.left) (cause_of a.how) (cut_disk v.boot v.store d a.how a.left) q refl)
   where
     owed : Lawful c (onto o.told (past_of w.trace)) → WorldFresh c w → Owed c o.told (λ now. puts s (Running o.view) now) w
     owed law f = record {
@@ -254,14 +257,8 @@ making_kept c = record {
 none_place : (p : Place) → ◌≡◌ {A = Option Place} None (Some p) → ⊥
 none_place p e = cc
 
-test_same : (a b : ℕ) → (a == b) ≡ true → a ≡ b
-test_same a b e = grind (arith, nat_tests)
-
 root_is : (file : FileId) (g : ℕ) → file.ino ≡ 1 → file.group ≡ g → ◌≡◌ {A = FileId} (record { group = g; ino = 1 }) file
 root_is file g e f = λ i. record { group = sym f i; ino = sym e i }
-
-false_true : false ≡ true → ⊥
-false_true x = cc
 
 -- the format writes the roots of the groups of which the site has a pack
 roots_have : (c : Config) (gs : List ℕ) (s : ℕ) (file : FileId) → file.ino ≡ 1 → Among file.group gs → HasPack c file.group s → HasCopy file (map (root_copy c) (filter (λ g. has (pack_sites c g) s) gs))
@@ -279,7 +276,7 @@ first_disk : (c : Config) (ss : List ℕ) (s : ℕ) (p : Place) → place_in (ro
 first_disk c [] s p e = absurd (none_place p e)
 first_disk c (t ∷ ts) s p e =
     (elim (t == s) as (λ b. (t == s) ≡ b → place_in (elim b [ true ↦ Some (first_place c t) | false ↦ row place_site s (map (first_place c) ts) ]) ≡ Some p → DiskHas c [] s (copies_on p)) [
-      | true ↦ λ q f. subst (λ (n : ℕ). DiskHas c [] n (copies_on p)) (test_same t s q) (subst (λ (x : Place). DiskHas c [] t (copies_on x)) (some_eq (Running (fresh 1 (formatted c t))) p f) (formatted_has t))
+      | true ↦ λ q f. subst (λ (n : ℕ). DiskHas c [] n (copies_on p)) (equal t s q) (subst (λ (x : Place). DiskHas c [] t (copies_on x)) (some_same (Running (fresh 1 (formatted c t))) p f) (formatted_has t))
       | false ↦ λ q f. first_disk c ts s p f
     ]) refl e
   where

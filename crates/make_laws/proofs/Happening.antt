@@ -1,6 +1,7 @@
 -- What an event adds to what was told and sent.
 use Rattle.std.proofs.Common.{◌≡◌, ℕ, ◌==◌, nat_lt, Bool, true, false, cond, not, ◌&&◌, ◌||◌, ◌⊎◌, List, [], ◌∷◌, ◌++◌, Option, Some, refl, sym, subst, inl, inr, arith}
 use Rattle.std.proofs.lemmas.Bool.Decides.{nat_tests}
+use Rattle.role_steps.proofs.of_plain_facts.Tests.{both_true, not_false, or_other}
 use Rattle.locus_ids.specs.declared.ids.EpochId.{EpochId}
 use Rattle.trace_book.specs.Same.{same_epoch}
 use Rattle.trace_book.specs.declared.record.Record.{Record}
@@ -11,9 +12,8 @@ use Rattle.role_steps.specs.Own.{Every}
 use Rattle.role_steps.specs.Views.{SiteView, Told, Shown, boot_in}
 use Rattle.role_steps.specs.declared.rounds.InEpoch.{InEpoch}
 use Rattle.the_run.specs.Steps.{is_dropped, is_forming, is_framed}
-use Rattle.vector_laws.specs.Written.{WasTold}
-use Rattle.vector_laws.specs.Facts.{onto}
-use Rattle.vector_laws.proofs.FormingFacts.{both_true}
+use Rattle.pack_laws.specs.of_vector_laws.Written.{WasTold}
+use Rattle.pack_laws.specs.of_vector_laws.Facts.{onto}
 use Rattle.make_laws.proofs.Telling.{Plain, any_record}
 
 -- ---- what is told now, and what was told before ----
@@ -31,15 +31,6 @@ told_now P (x ∷ xs) past h = by_rest (told_now P xs (x ∷ past) h)
     by_rest (inl k) = inl (inr k)
     by_rest (inr (inl k)) = inl (inl k)
     by_rest (inr (inr k)) = inr k
-
-pub one_told : (P : Told → Type 0) (told past : List Told) → TellsOne P told → WasTold P (onto told past)
-one_told P [] past h = absurd h
-one_told P (x ∷ xs) past (inl h) = stays xs (x ∷ past) (inl h)
-  where
-    stays : (ys older : List Told) → WasTold P older → WasTold P (onto ys older)
-    stays [] older k = k
-    stays (y ∷ ys) older k = stays ys (y ∷ older) (inr k)
-one_told P (x ∷ xs) past (inr h) = one_told P xs (x ∷ past) h
 
 pub none_told : (P Q : Told → Type 0) (xs : List Told) → ((x : Told) → Q x → P x → ⊥) → Every Q xs → TellsOne P xs → ⊥
 none_told P Q [] f h k = k
@@ -63,25 +54,18 @@ cut_plain false r x h = (h, tt)
 
 -- ---- the epoch of a packet that is taken ----
 
-not_false : (a : Bool) → not a ≡ false → a ≡ true
-not_false true h = refl
-not_false false h = absurd (cc)
-
 same_epoch_eq : (a b : EpochId) → same_epoch a b ≡ true → a ≡ b
 same_epoch_eq a b h = id_eq (grind (arith, nat_tests)) (grind (arith, nat_tests)) (grind (arith, nat_tests))
   where
     id_eq : a.number ≡ b.number → a.site ≡ b.site → a.boot ≡ b.boot → a ≡ b
     id_eq e f g = λ i. record { number = e i; site = f i; boot = g i }
 
-or_right : (a b : Bool) → a ≡ false → (a || b) ≡ true → b ≡ true
-or_right a b e h = subst (λ (x : Bool). (x || b) ≡ true) e h
-
 -- it is the epoch of the site
 pub taken_epoch : (p : Packet) (x : Body) (v : SiteView) (e : InEpoch) → p.body ≡ x → nat_lt (kind_number x) 6 ≡ false → is_dropped p v ≡ false → v.epoch ≡ Some e → p.epoch ≡ e.id
 taken_epoch p x v e q inside h here =
     let forming : is_forming p ≡ false = subst (λ (y : Body). nat_lt (kind_number y) 6 ≡ false) (sym q) inside in
     let a : ((p.to_boot == v.boot) ≡ true) × ((is_forming p || is_framed p v.epoch) ≡ true) = both_true (p.to_boot == v.boot) (is_forming p || is_framed p v.epoch) (not_false ((p.to_boot == v.boot) && (is_forming p || is_framed p v.epoch)) h) in
-    let b : is_framed p (Some e) ≡ true = subst (λ (o : Option InEpoch). is_framed p o ≡ true) here (or_right (is_forming p) (is_framed p v.epoch) forming a.1) in
+    let b : is_framed p (Some e) ≡ true = subst (λ (o : Option InEpoch). is_framed p o ≡ true) here (or_other (is_forming p) (is_framed p v.epoch) forming a.1) in
     sym (same_epoch_eq e.id p.epoch (both_true (same_epoch e.id p.epoch) (boot_in e.members.boot p.from == p.from_boot) b).0)
 
 -- and its sender is a member with its boot number
@@ -89,7 +73,7 @@ pub taken_boot : (p : Packet) (x : Body) (v : SiteView) (e : InEpoch) → p.body
 taken_boot p x v e q inside h here =
     let forming : is_forming p ≡ false = subst (λ (y : Body). nat_lt (kind_number y) 6 ≡ false) (sym q) inside in
     let a : ((p.to_boot == v.boot) ≡ true) × ((is_forming p || is_framed p v.epoch) ≡ true) = both_true (p.to_boot == v.boot) (is_forming p || is_framed p v.epoch) (not_false ((p.to_boot == v.boot) && (is_forming p || is_framed p v.epoch)) h) in
-    let b : is_framed p (Some e) ≡ true = subst (λ (o : Option InEpoch). is_framed p o ≡ true) here (or_right (is_forming p) (is_framed p v.epoch) forming a.1) in
+    let b : is_framed p (Some e) ≡ true = subst (λ (o : Option InEpoch). is_framed p o ≡ true) here (or_other (is_forming p) (is_framed p v.epoch) forming a.1) in
     test_same (boot_in e.members.boot p.from) p.from_boot (both_true (same_epoch e.id p.epoch) (boot_in e.members.boot p.from == p.from_boot) b).1
   where
     test_same : (m n : ℕ) → (m == n) ≡ true → m ≡ n

@@ -45,3 +45,6 @@ pub mod LockedRun
 pub mod FirstRun
 pub mod ReportsRun
 pub mod NamesRun
+pub use Rattle.pack_laws.proofs as of_pack_laws
+pub use Rattle.pack_laws.proofs.of_lock_laws as of_lock_laws
+pub use Rattle.pack_laws.proofs.of_vector_laws as of_vector_laws

@@ -1,5 +1,6 @@
 -- In every run the groups that start are listed, as those of tables are.
 use Rattle.std.proofs.Common.{◌≡◌, ℕ, ◌==◌, Bool, true, false, cond, List, [], ◌∷◌, map, Option, Some, None, sym, ◌∙◌, ap, subst, inl, inr}
+use Rattle.role_steps.proofs.of_plain_facts.Options.{some_same}
 use Rattle.locus_ids.specs.declared.ids.EpochId.{EpochId}
 use Rattle.locus_ids.specs.declared.config.Config.{Config}
 use Rattle.trace_book.specs.declared.record.Record.{Record}
@@ -21,13 +22,12 @@ use Rattle.the_run.specs.Runs.{boots_as, packet_record}
 use Rattle.the_run.specs.Kept.{Kept}
 use Rattle.the_run.proofs.Boots.{at_each, acts_cases, every_weaker}
 use Rattle.the_run.proofs.Events.{happened_keeps, puts_other, puts_same}
-use Rattle.the_run.proofs.Runs.{some_eq}
-use Rattle.vector_laws.specs.Held.{IsOf}
-use Rattle.vector_laws.specs.Written.{past_of}
-use Rattle.vector_laws.specs.Facts.{onto}
-use Rattle.vector_laws.proofs.SiteDisks.{SiteDisk, step_disk}
-use Rattle.vector_laws.proofs.FactsRun.{past_onto}
-use Rattle.lock_laws.specs.Going.{Started, StartedRecord, WasStarted}
+use Rattle.pack_laws.specs.of_vector_laws.Held.{IsOf}
+use Rattle.pack_laws.specs.of_vector_laws.Written.{past_of}
+use Rattle.pack_laws.specs.of_vector_laws.Facts.{onto}
+use Rattle.pack_laws.proofs.of_vector_laws.SiteDisks.{SiteDisk, step_disk}
+use Rattle.pack_laws.proofs.of_vector_laws.FactsRun.{past_onto}
+use Rattle.pack_laws.specs.of_lock_laws.Going.{Started, StartedRecord, WasStarted}
 use Rattle.make_laws.specs.Made.{IsListed, StartRecord, StartListed, WorldListed}
 use Rattle.make_laws.proofs.Telling.{At, AtRecord}
 use Rattle.make_laws.proofs.SitesTell.{TablesAt, ToldAs, step_tells}
@@ -94,12 +94,12 @@ stopped_never d v e = cc
 
 runs_listed : (s : ℕ) (new : SiteView) (w : World) → TablesAt IsListed new.tables → ViewsListed w → ViewsListed (puts s (Running new) w)
 runs_listed s new w h g t v here = at_each s t (TablesAt IsListed v.tables)
-    (λ e. subst (λ (u : SiteView). TablesAt IsListed u.tables) (running_view new v (some_eq (Running new) (Running v) (sym (puts_same s (Running new) w) ∙ (ap (place_at (puts s (Running new) w)) e ∙ here)))) h)
+    (λ e. subst (λ (u : SiteView). TablesAt IsListed u.tables) (running_view new v (some_same (Running new) (Running v) (sym (puts_same s (Running new) w) ∙ (ap (place_at (puts s (Running new) w)) e ∙ here)))) h)
     (λ ne. g t v (sym (puts_other s t (Running new) w ne) ∙ here))
 
 stops_listed : (s : ℕ) (d : Disk) (w : World) → ViewsListed w → ViewsListed (puts s (Stopped d) w)
 stops_listed s d w g t v here = at_each s t (TablesAt IsListed v.tables)
-    (λ e. absurd (stopped_never d v (some_eq (Stopped d) (Running v) (sym (puts_same s (Stopped d) w) ∙ (ap (place_at (puts s (Stopped d) w)) e ∙ here)))))
+    (λ e. absurd (stopped_never d v (some_same (Stopped d) (Running v) (sym (puts_same s (Stopped d) w) ∙ (ap (place_at (puts s (Stopped d) w)) e ∙ here)))))
     (λ ne. g t v (sym (puts_other s t (Stopped d) w ne) ∙ here))
 
 -- what is written is a commit or an adoption
@@ -112,7 +112,7 @@ no_write d e = cc
 
 written_listed : (s : ℕ) (v : SiteView) (o : Outcome SiteView) (d : DiskWrite) → o.written ≡ Some d → SiteDisk s v o → StartListed (Shown d.says)
 written_listed s v o d e (inl h) = absurd (no_write d (sym h.none ∙ e))
-written_listed s v o d e (inr h) = subst (λ (x : DiskWrite). StartListed (Shown x.says)) (some_eq h.0 d (sym h.1.is_written ∙ e)) (says_listed s h.0.says h.0.copy h.1.says_so)
+written_listed s v o d e (inr h) = subst (λ (x : DiskWrite). StartListed (Shown x.says)) (some_same h.0 d (sym h.1.is_written ∙ e)) (says_listed s h.0.says h.0.copy h.1.says_so)
 
 cut_listed : (b : Bool) (r : Record) (s : ℕ) (how : StopCause) → StartListed (Shown r) → Every StartListed (cond b (Shown r ∷ Shown (says.Stopped s how) ∷ []) (Shown (says.Stopped s how) ∷ []))
 cut_listed true r s how h = (h, (tt, tt))
@@ -123,7 +123,7 @@ acts_listed n s v o w told tables disk g =
     acts_cases WorldListed n s v o w
     (happened_listed n o.sent o.told (λ now. puts s (Running o.view) now) w told (runs_listed s o.view w tables g.tables) g)
     (λ a. happened_listed n o.sent o.told (λ now. puts s (Running o.view) (arms a now)) w told (runs_listed s o.view w tables g.tables) g)
-    (λ d a e. happened_listed n [] _ (stops_with s (cut_disk v.boot v.store d a.how a.left)) w (cut_listed (is_on_disk d a.how a.left) d.says s (cause_of a.how) (written_listed s v o d e disk)) (stops_listed s (cut_disk v.boot v.store d a.how a.left) w g.tables) g)
+    (λ d a e. happened_listed n [] _ (stops_with s (cut_disk v.boot v.store d a.how a.left)) w (cut_listed (is_on_disk v.store d a.how a.left) d.says s (cause_of a.how) (written_listed s v o d e disk)) (stops_listed s (cut_disk v.boot v.store d a.how a.left) w g.tables) g)
 
 as_listed : (n s : ℕ) (b : Booted) (w : World) → WorldListed w → WorldListed (boots_as n s b w)
 as_listed n s (Whole x None) w g = happened_listed n [] (Shown (says.Up s x.label.boot) ∷ []) _ w (tt, tt) (λ t v at. runs_listed s (fresh x.label.boot x.copies) w tt g.tables t v at) g
@@ -154,7 +154,7 @@ first_tables : (c : Config) (ss : List ℕ) (s : ℕ) (v : SiteView) → place_i
 first_tables c [] s v e = absurd (none_place (Running v) e)
 first_tables c (t ∷ ts) s v e =
     (elim (t == s) as (λ b. place_in (elim b [ true ↦ Some (first_place c t) | false ↦ row place_site s (map (first_place c) ts) ]) ≡ Some (Running v) → TablesAt IsListed v.tables) [
-      | true ↦ λ f. subst (λ (u : SiteView). TablesAt IsListed u.tables) (running_view (fresh 1 (formatted c t)) v (some_eq (Running (fresh 1 (formatted c t))) (Running v) f)) tt
+      | true ↦ λ f. subst (λ (u : SiteView). TablesAt IsListed u.tables) (running_view (fresh 1 (formatted c t)) v (some_same (Running (fresh 1 (formatted c t))) (Running v) f)) tt
       | false ↦ λ f. first_tables c ts s v f
     ]) e
 

@@ -11,11 +11,11 @@ use Rattle.trace_book.specs.declared.record.Record.{Record}
 use Rattle.trace_book.specs.declared.record.Record.TheVariants as says
 use Rattle.role_steps.specs.Views.{Told, Shown, Reserves}
 use Rattle.the_run.specs.Runs.{run_in}
-use Rattle.vector_laws.specs.Written.{past_of}
-use Rattle.lock_laws.specs.Going.{WasReleased}
-use Rattle.lock_laws.specs.Grants.{GrantedAs, WasGrantedAs, IsOver, LockedRecord, LockedTold as PlainLocked, GrantsAreLocked}
-use Rattle.lock_laws.specs.Locks.{IsOfAFile}
-use Rattle.lock_laws.proofs.GrantsRun.{run_grants}
+use Rattle.pack_laws.specs.of_vector_laws.Written.{past_of}
+use Rattle.pack_laws.specs.of_lock_laws.Going.{WasReleased}
+use Rattle.pack_laws.specs.of_lock_laws.Grants.{GrantedAs, WasGrantedAs, IsOver, LockedRecord, LockedTold as PlainLocked, GrantsAreLocked}
+use Rattle.pack_laws.specs.of_lock_laws.Locks.{IsOfAFile}
+use Rattle.pack_laws.proofs.of_lock_laws.GrantsRun.{run_grants}
 use Rattle.make_laws.specs.Fresh.{FreshTold, NumbersAreFresh}
 use Rattle.make_laws.specs.Holding.{WasReserved, ApartTold, ReservesAreApart}
 use Rattle.make_laws.specs.Tables.{IsKnown, IsFree, PlainRecord, PlainTold, PlainGrantsAreFree}

@@ -18,7 +18,7 @@ use Rattle.role_steps.specs.declared.pulls.Pull.{Pull}
 use Rattle.role_steps.specs.declared.rounds.InEpoch.{InEpoch}
 use Rattle.role_steps.specs.declared.synchronizing.SyncTable.{SyncTable}
 use Rattle.the_run.specs.Steps.{from_user, group_of, is_opened_in, takes_inside, with_pulls}
-use Rattle.vector_laws.specs.Facts.{onto}
+use Rattle.pack_laws.specs.of_vector_laws.Facts.{onto}
 use Rattle.wire_messages.specs.declared.body.MadeVersion.{MadeVersion}
 use Rattle.wire_messages.specs.declared.body.ReportedCopy.{ReportedCopy}
 use Rattle.role_steps.specs.Views.{Begins, Reserves, members_of, serial_key}
@@ -28,7 +28,7 @@ use Rattle.role_steps.specs.Operations.{on_op}
 use Rattle.role_steps.specs.Using.{on_open_done, on_op_done, on_close_done, on_look_done}
 use Rattle.role_steps.specs.declared.synchronizing.OpenRow.{OpenRow}
 use Rattle.the_run.specs.Kept.{Among}
-use Rattle.vector_laws.specs.Facts.{ReportedFact}
+use Rattle.pack_laws.specs.of_vector_laws.Facts.{ReportedFact}
 use Rattle.make_laws.specs.Tables.{Ordered}
 use Rattle.make_laws.proofs.Telling.{idle_aside, storing_aside}
 use Rattle.make_laws.proofs.RolesTell.{AllIdle, on_notify_idle, on_page_idle, on_open_done_idle, on_op_done_idle, on_close_done_idle, on_look_done_idle}

@@ -19,12 +19,14 @@ use Rattle.the_run.specs.Worlds.{World, Place, Running, Numbered, Line, links_of
 use Rattle.the_run.specs.Runs.{packet_record, run_in}
 use Rattle.the_run.specs.Kept.{Kept}
 use Rattle.the_run.proofs.Boots.{every_weaker}
-use Rattle.the_run.proofs.Runs.{every_run, some_eq}
-use Rattle.vector_laws.specs.Written.{past_of}
-use Rattle.vector_laws.specs.Facts.{onto}
-use Rattle.vector_laws.proofs.SiteDisks.{step_disk}
-use Rattle.lock_laws.specs.Joins.{WasJoined}
+use Rattle.the_run.proofs.Runs.{every_run}
+use Rattle.pack_laws.specs.of_vector_laws.Written.{past_of}
+use Rattle.pack_laws.specs.of_vector_laws.Facts.{onto}
+use Rattle.pack_laws.proofs.of_vector_laws.SiteDisks.{step_disk}
+use Rattle.pack_laws.specs.of_lock_laws.Joins.{WasJoined}
 use Rattle.std.proofs.lemmas.Bool.Decides.{nat_tests}
+use Rattle.role_steps.proofs.of_plain_facts.Options.{some_same}
+use Rattle.role_steps.proofs.of_plain_facts.Tests.{and_true, false_true}
 use Rattle.wire_messages.specs.declared.body.Body.{Body}
 use Rattle.wire_messages.specs.declared.body.Body.TheVariants as body
 use Rattle.wire_messages.specs.declared.body.MadeVersion.{MadeVersion}
@@ -39,15 +41,15 @@ use Rattle.the_run.specs.Kept.{Among, WasSent, IsOwn}
 use Rattle.the_run.specs.Steps.{is_dropped}
 use Rattle.the_run.specs.Worlds.{loses}
 use Rattle.the_run.proofs.OneList.{one_list}
-use Rattle.run_laws.proofs.Run.{found_among}
-use Rattle.vector_laws.specs.Written.{InstancesAgree, WasGranted}
+use Rattle.pack_laws.proofs.of_run_laws.Run.{found_among}
+use Rattle.pack_laws.specs.of_vector_laws.Written.{InstancesAgree, WasGranted}
 use Rattle.locus_ids.specs.declared.sites.Links.{Links}
-use Rattle.vector_laws.specs.Facts as vectors
-use Rattle.vector_laws.proofs.SyncFacts.{FoundAt, row_at}
+use Rattle.pack_laws.specs.of_vector_laws.Facts as vectors
+use Rattle.pack_laws.proofs.of_vector_laws.SyncFacts.{FoundAt, row_at}
 use Rattle.pack_laws.proofs.InstanceAgree.{run_agrees}
-use Rattle.lock_laws.specs.Facts as locks
-use Rattle.lock_laws.proofs.JoinsRun.{run_joins_once}
-use Rattle.lock_laws.proofs.FactsRun.{run_goes}
+use Rattle.pack_laws.specs.of_lock_laws.Facts as locks
+use Rattle.pack_laws.proofs.of_lock_laws.JoinsRun.{run_joins_once}
+use Rattle.pack_laws.proofs.of_lock_laws.FactsRun.{run_goes}
 use Rattle.pack_laws.proofs.WriterGranting.{run_alike}
 use Rattle.pack_laws.specs.Packs.{HasPack}
 use Rattle.pack_laws.specs.Packed.{BodyPacked}
@@ -70,9 +72,6 @@ use Rattle.make_laws.proofs.TablesRun.{WhereOrdered, WorldTables, AsideWrite, wr
 
 -- ---- what a packet brings ----
 
-false_true : false ≡ true → ⊥
-false_true e = cc
-
 filter_has : (test : ℕ → Bool) (s : ℕ) (ss : List ℕ) → Among s ss → test s ≡ true → Among s (filter test ss)
 filter_has test s [] m e = absurd m
 filter_has test s (x ∷ xs) m e = by_test (test x) refl (filter_has test s xs) m
@@ -83,15 +82,12 @@ filter_has test s (x ∷ xs) m e = by_test (test x) refl (filter_has test s xs) 
     by_test false q rest (inl k) = absurd (false_true (sym q ∙ subst (λ (n : ℕ). test n ≡ true) k e))
     by_test false q rest (inr k) = rest k e
 
-both_so : (a b : Bool) → a ≡ true → b ≡ true → (a && b) ≡ true
-both_so a b e g = rw e rw g refl
-
 not_none : (n m : ℕ) → n ≡ m → 1 ≤ m → not (n == 0) ≡ true
 not_none n m e low = grind (arith, nat_tests, e, low)
 
 -- the sender of a Report is a member that has a pack
 sender_member : (c : Config) (p : Packet) (v : SiteView) (e : InEpoch) (group : ℕ) → IsSender p → HasPack c group p.from → boot_in e.members.boot p.from ≡ p.from_boot → Among p.from (members_of e.members (pack_sites c group))
-sender_member c p v e group s pack boot = filter_has (λ n. has (pack_sites c group) n && is_member e.members n) p.from all_sites s.site (both_so (has (pack_sites c group) p.from) (is_member e.members p.from) pack (not_none (boot_in e.members.boot p.from) p.from_boot boot s.boot))
+sender_member c p v e group s pack boot = filter_has (λ n. has (pack_sites c group) n && is_member e.members n) p.from all_sites s.site (and_true (has (pack_sites c group) p.from) (is_member e.members p.from) pack (not_none (boot_in e.members.boot p.from) p.from_boot boot s.boot))
 
 -- what a close brings is known of the row that it closes
 granted_row : (past : List Told) (e : EpochId) (r : OpenRow) (s : OpenStage) → r.stage ≡ s → locks.RowFact past e r s → r.stage ≡ stage.Granted → locks.RowFact past e r stage.Granted
@@ -99,7 +95,7 @@ granted_row past e r s q h g = subst (locks.RowFact past e r) (sym q ∙ g) h
 
 made_if : (past : List Told) (e : EpochId) (key : ℕ) (r : OpenRow) (made : Option MadeVersion) → InstancesAgree past → vectors.MaybeMade past e key made → open_key r ≡ key → locks.RowFact past e r stage.Granted → IsKnownIf made past r.file
 made_if past e key r None agree m k g = tt
-made_if past e key r (Some v) agree m k g = made_known past e key r.file v agree (subst (λ (n : ℕ). WasGranted past e n r.file) k g) m
+made_if past e key r (Some v) agree m k g = made_known past e key r.file v agree (subst (λ (n : ℕ). WasGranted past e n r.file) k g.granted) m
 
 -- what is found in a table of what was told
 row_closes : (past : List Told) (e : EpochId) (group key : ℕ) (made : Option MadeVersion) (r : OpenRow) (o : Option OpenRow) → InstancesAgree past → vectors.MaybeMade past e key made → FoundAt (locks.OpenFact past e group) open_key key o → o ≡ Some r → ClosesKnown past e key made r
@@ -110,7 +106,7 @@ row_closes past e group key made r None agree m h q = absurd (none_row r q)
 row_closes past e group key made r (Some x) agree m h q = λ k g. made_if past e key r made agree m k (granted_row past e r r.stage refl (fact h).row g)
   where
     same : x ≡ r
-    same = some_eq x r q
+    same = some_same x r q
 
     fact : (open_key x ≡ key) × locks.OpenFact past e group x → locks.OpenFact past e group r
     fact k = subst (locks.OpenFact past e group) same k.1
@@ -212,7 +208,7 @@ first_fact : (c : Config) (ss : List ℕ) (s : ℕ) (v : SiteView) → place_in 
 first_fact c [] s v e = absurd (none_place (Running v) e)
 first_fact c (t ∷ ts) s v e =
     (elim (t == s) as (λ b. place_in (elim b [ true ↦ Some (first_place c t) | false ↦ row place_site s (map (first_place c) ts) ]) ≡ Some (Running v) → SiteMade c [] s v) [
-      | true ↦ λ f. subst (SiteMade c [] s) (running_view (fresh 1 (formatted c t)) v (some_eq (Running (fresh 1 (formatted c t))) (Running v) f)) refl
+      | true ↦ λ f. subst (SiteMade c [] s) (running_view (fresh 1 (formatted c t)) v (some_same (Running (fresh 1 (formatted c t))) (Running v) f)) refl
       | false ↦ λ f. first_fact c ts s v f
     ]) e
 

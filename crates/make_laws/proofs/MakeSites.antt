@@ -15,13 +15,13 @@ use Rattle.role_steps.proofs.Sending.{every_append}
 use Rattle.the_run.specs.Steps.{at_table_of}
 use Rattle.the_run.proofs.Boots.{every_weaker}
 use Rattle.the_run.proofs.InsideSync.{Found, first_found}
-use Rattle.vector_laws.specs.Facts.{onto}
-use Rattle.vector_laws.proofs.Facts.{onto_append}
-use Rattle.vector_laws.proofs.SyncFacts.{FoundAt, row_at}
-use Rattle.lock_laws.specs.Joins.{WasJoined}
-use Rattle.lock_laws.proofs.Facts.{Later, onto_later}
-use Rattle.vector_laws.specs.Written.{WasTold}
-use Rattle.lock_laws.proofs.GrantSites.{Rising, put_tables, rising_put, SyncedBy}
+use Rattle.pack_laws.specs.of_vector_laws.Facts.{onto}
+use Rattle.pack_laws.proofs.of_vector_laws.Facts.{onto_append}
+use Rattle.pack_laws.proofs.of_vector_laws.SyncFacts.{FoundAt, row_at}
+use Rattle.pack_laws.specs.of_lock_laws.Joins.{WasJoined}
+use Rattle.pack_laws.proofs.of_lock_laws.Facts.{Later, onto_later}
+use Rattle.pack_laws.specs.of_vector_laws.Written.{WasTold}
+use Rattle.pack_laws.proofs.of_lock_laws.GrantSites.{Rising, put_tables, rising_put, SyncedBy}
 use Rattle.make_laws.specs.Tables.{TableMade, PlainRecord, PlainTold}
 use Rattle.make_laws.specs.Fresh.{FreshTold}
 use Rattle.make_laws.proofs.Telling.{TabularRecord, Tabular, HereRecord, Here, AsideRecord, Aside}

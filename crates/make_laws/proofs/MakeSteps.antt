@@ -1,5 +1,7 @@
 -- Each event of a site: its tables know no file that is being made.
 use Rattle.std.proofs.Common.{◌≡◌, ℕ, ◌+◌, true, false, cond, ◌&&◌, not, List, [], ◌∷◌, ◌++◌, map, filter, Option, Some, None, refl, sym, ◌∙◌, subst, inl, inr}
+use Rattle.role_steps.proofs.of_plain_facts.Options.{some_same}
+use Rattle.role_steps.proofs.of_plain_facts.Tests.{false_true}
 use Rattle.locus_ids.specs.Sites.{has}
 use Rattle.locus_ids.specs.declared.ids.EpochId.{EpochId}
 use Rattle.locus_ids.specs.declared.ids.FileId.{FileId}
@@ -33,13 +35,13 @@ use Rattle.role_steps.specs.declared.users.WaitingCall.{WaitingCall}
 use Rattle.role_steps.proofs.Sending.{every_map}
 use Rattle.the_run.specs.Steps.{is_dropped, takes_framed, takes, adopts_in, tries_at, whole, call_frame, epoch_id, takes_call, step, adopts_of, starts_mends_of, ends_event}
 use Rattle.the_run.proofs.InsideSync.{Found, row_found}
-use Rattle.vector_laws.specs.Facts.{onto}
-use Rattle.vector_laws.proofs.Facts.{onto_append}
-use Rattle.lock_laws.specs.Joins.{WasJoined}
-use Rattle.lock_laws.proofs.StepFacts.{SiteSilent, notify_silent, page_silent, framed_notify}
-use Rattle.vector_laws.specs.Written.{WasTold}
-use Rattle.lock_laws.specs.Going.{WasStarted}
-use Rattle.lock_laws.proofs.GrantSites.{put_tables, rising_put, ascending_filter, made_rising, groups_ascend, passing, is_synced, SyncedBy}
+use Rattle.pack_laws.specs.of_vector_laws.Facts.{onto}
+use Rattle.pack_laws.proofs.of_vector_laws.Facts.{onto_append}
+use Rattle.pack_laws.specs.of_lock_laws.Joins.{WasJoined}
+use Rattle.pack_laws.proofs.of_lock_laws.StepFacts.{SiteSilent, notify_silent, page_silent, framed_notify}
+use Rattle.pack_laws.specs.of_vector_laws.Written.{WasTold}
+use Rattle.pack_laws.specs.of_lock_laws.Going.{WasStarted}
+use Rattle.pack_laws.proofs.of_lock_laws.GrantSites.{put_tables, rising_put, ascending_filter, made_rising, groups_ascend, passing, is_synced, SyncedBy}
 use Rattle.make_laws.specs.Tables.{ReleasedOn, HasEnded, TableMade, Ordered}
 use Rattle.make_laws.proofs.Telling.{Tabular, Aside}
 use Rattle.make_laws.proofs.RolesTell.{on_call_idle}
@@ -147,12 +149,6 @@ on_refuse_site c me past links id theirs (Some r) v h =
     ]
 
 -- ---- joining ----
-
-some_same : (a b : ℕ) → ◌≡◌ {A = Option ℕ} (Some a) (Some b) → a ≡ b
-some_same a b e = cc
-
-false_true : false ≡ true → ⊥
-false_true e = cc
 
 was_started : (e : EpochId) (group : ℕ) (past : List Told) → WasStarted past e group → WasTold (Tabular e group) past
 was_started e group [] h = h

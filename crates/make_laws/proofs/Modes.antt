@@ -17,16 +17,16 @@ use Rattle.role_steps.specs.Opens.{mode_of}
 use Rattle.role_steps.specs.Views.{Told, Shown, Begins, serial_key}
 use Rattle.the_run.specs.Worlds.{World, Numbered}
 use Rattle.the_run.specs.Runs.{run_in}
-use Rattle.run_laws.proofs.Run.{found_among}
-use Rattle.vector_laws.specs.Written.{past_of, WasTold, Begun, WasBegun, WasGranted, InstancesAgree}
+use Rattle.pack_laws.proofs.of_run_laws.Run.{found_among}
+use Rattle.pack_laws.specs.of_vector_laws.Written.{past_of, WasTold, Begun, WasBegun, WasGranted, InstancesAgree}
 use Rattle.pack_laws.specs.InstanceBook.{Book, AskedBy, Sound}
 use Rattle.pack_laws.specs.InstanceFacts.{BodyFact, OpenSsFact, GrantFact, NumberedFact, WorldFact, Booked}
 use Rattle.pack_laws.proofs.InstanceAgree.{run_agrees}
 use Rattle.pack_laws.proofs.InstanceBooks.{asked_once}
 use Rattle.pack_laws.proofs.InstanceInstancesRun.{run_booked}
-use Rattle.lock_laws.specs.Going.{BegunAt, WasBegunAt, IsNumberedBy, InstanceGoesOn, InstancesGoOn}
-use Rattle.lock_laws.specs.Grants.{WasGrantedAs}
-use Rattle.lock_laws.proofs.FactsRun.{run_goes}
+use Rattle.pack_laws.specs.of_lock_laws.Going.{BegunAt, WasBegunAt, IsNumberedBy, InstanceGoesOn, InstancesGoOn}
+use Rattle.pack_laws.specs.of_lock_laws.Grants.{WasGrantedAs}
+use Rattle.pack_laws.proofs.of_lock_laws.FactsRun.{run_goes}
 use Rattle.pack_laws.proofs.WriterGranting.{GrantNoted, grant_noted}
 use Rattle.make_laws.specs.Holding.{WasReserved, ReservedRecord, ReservedTold, MakesAreReserved, ReservesAreOfMakes}
 use Rattle.make_laws.specs.Made.{AsksSo, IsAskedThere, IsBegunSo, AllBegunSo, IsNoBegin, AlwaysBegunSo, WorldMade}

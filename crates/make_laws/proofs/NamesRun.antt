@@ -9,7 +9,7 @@ use Rattle.role_steps.specs.Views.{Told, Shown}
 use Rattle.the_run.specs.Kept.{Among}
 use Rattle.the_run.specs.Worlds.{World}
 use Rattle.the_run.specs.Runs.{run_in}
-use Rattle.vector_laws.specs.Written.{past_of}
+use Rattle.pack_laws.specs.of_vector_laws.Written.{past_of}
 use Rattle.pack_laws.specs.InstanceBook.{Book, Placed}
 use Rattle.pack_laws.specs.InstanceFacts.{WasPlaced, RecordFact, ToldFact, WorldFact, Booked}
 use Rattle.pack_laws.proofs.InstanceInstancesRun.{run_booked}

@@ -1,6 +1,7 @@
 -- In every run a table starts once all the members of its epoch that have a pack of its group have reported.
 use Rattle.std.proofs.Common.{◌≡◌, ℕ, Bool, true, false, ◌&&◌, List, [], ◌∷◌, Some, refl, sym, subst, inl, inr}
 use Rattle.std.specs.List.{list_all}
+use Rattle.role_steps.proofs.of_plain_facts.Tests.{both_true}
 use Rattle.locus_ids.specs.Sites.{has}
 use Rattle.locus_ids.specs.declared.config.Config.{Config}
 use Rattle.schedule_lines.specs.declared.line.ScheduleLine.{ScheduleLine}
@@ -12,22 +13,15 @@ use Rattle.role_steps.specs.declared.synchronizing.OpenRow.{OpenRow}
 use Rattle.the_run.specs.Kept.{Among}
 use Rattle.the_run.specs.Worlds.{World}
 use Rattle.the_run.specs.Runs.{run_in}
-use Rattle.vector_laws.specs.Written.{past_of}
-use Rattle.lock_laws.specs.Going.{WasStarted}
-use Rattle.lock_laws.specs.Facts as locks
+use Rattle.pack_laws.specs.of_vector_laws.Written.{past_of}
+use Rattle.pack_laws.specs.of_lock_laws.Going.{WasStarted}
+use Rattle.pack_laws.specs.of_lock_laws.Facts as locks
 use Rattle.make_laws.specs.Tables.{TableMade}
 use Rattle.make_laws.specs.Reporting.{TableReports, TablesHaveReports}
 use Rattle.make_laws.proofs.MakeSites.{MadeIn, in_epoch}
 use Rattle.make_laws.proofs.TablesRun.{WorldTables}
 use Rattle.make_laws.proofs.MakeRun.{Ordering, run_ordering, run_ordered, tables_there}
 use Rattle.make_laws.proofs.ApartRun.{run_apart}
-
-true_false : true ≡ false → ⊥
-true_false e = cc
-
-both_true : (a b : Bool) → (a && b) ≡ true → (a ≡ true) × (b ≡ true)
-both_true true b h = (refl, h)
-both_true false b h = absurd (true_false (sym h))
 
 all_have : (test : ℕ → Bool) (n : ℕ) (xs : List ℕ) → list_all test xs ≡ true → Among n xs → test n ≡ true
 all_have test n [] h k = absurd k

@@ -9,11 +9,11 @@ use Rattle.trace_book.specs.declared.record.Record.{Record}
 use Rattle.trace_book.specs.declared.record.Record.TheVariants as says
 use Rattle.role_steps.specs.Views.{Told, Shown}
 use Rattle.the_run.specs.Runs.{run_in}
-use Rattle.vector_laws.specs.Written.{past_of}
-use Rattle.lock_laws.specs.Locks.{IsOfAFile}
-use Rattle.lock_laws.specs.Grants.{IsOver, GrantsAreLocked}
-use Rattle.lock_laws.proofs.Facts.{Later, same_later, one_later, then_later}
-use Rattle.lock_laws.proofs.GrantsRun.{run_grants}
+use Rattle.pack_laws.specs.of_vector_laws.Written.{past_of}
+use Rattle.pack_laws.specs.of_lock_laws.Locks.{IsOfAFile}
+use Rattle.pack_laws.specs.of_lock_laws.Grants.{IsOver, GrantsAreLocked}
+use Rattle.pack_laws.proofs.of_lock_laws.Facts.{Later, same_later, one_later, then_later}
+use Rattle.pack_laws.proofs.of_lock_laws.GrantsRun.{run_grants}
 use Rattle.pack_laws.proofs.WriterGranting.{apart}
 use Rattle.pack_laws.proofs.WriterWriters.{alone}
 use Rattle.make_laws.specs.RunningRunning.{IsRunning, ToldRuns, InstancesRun, PlainGrantsStand, RecordAlone, ToldAlone, WritersCommitAlone}

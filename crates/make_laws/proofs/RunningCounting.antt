@@ -1,10 +1,12 @@
 -- An operation that doesn't change its file never counts as a change of it.
 use Rattle.std.proofs.Common.{◌≡◌, ℕ, ◌+◌, nat_lt, Bool, true, false, cond, ◌||◌, List, [], ◌∷◌, length, Option, Some, None, refl}
 use Rattle.std.specs.List.{find}
+use Rattle.role_steps.proofs.of_plain_facts.Tests.{false_true}
 use Rattle.commit_graph.specs.Grants.{is_read}
 use Rattle.locus_ids.specs.declared.ids.Mode.{Mode}
 use Rattle.locus_ids.specs.declared.ids.Mode.TheVariants as mode
 use Rattle.locus_ids.specs.declared.refusal.Refusal.TheVariants as refusal
+use Rattle.locus_ids.specs.Sizes.{directory_bytes_max}
 use Rattle.trace_book.specs.declared.operation.Op.{Op}
 use Rattle.trace_book.specs.declared.operation.Op.TheVariants as op
 use Rattle.trace_book.specs.declared.operation.Outcome.{Outcome as Result}
@@ -14,12 +16,12 @@ use Rattle.dir_format.specs.declared.looking.LookResult.{LookResult}
 use Rattle.dir_format.specs.declared.looking.LookResult.TheVariants as look
 use Rattle.dir_format.specs.Contents.{entries_of, is_dir}
 use Rattle.dir_format.specs.Lookups.{has_name, lookup, shown_names}
-use Rattle.dir_format.specs.Effects.{DirEffect, dir_effect, answers, refuses, max_size, size_of, probe_beside, probe_effect, find_by, find_effect, empty_among}
+use Rattle.dir_format.specs.Effects.{DirEffect, dir_effect, answers, refuses, size_of, probe_beside, probe_effect, find_by, find_effect, empty_among}
 use Rattle.file_effects.specs.Effects.{Effect, is_refusal, is_worded, in_directory, on_directory}
 use Rattle.file_effects.specs.Works.{begins_owing, counted, carried_out, operated}
 use Rattle.file_effects.specs.declared.work.Work.{Work}
 use Rattle.role_steps.specs.OperationEffects.{Mending, effect_of}
-use Rattle.lock_laws.specs.Writing.{changes}
+use Rattle.pack_laws.specs.of_lock_laws.Writing.{changes}
 
 -- an effect that doesn't count as a change
 abbrev pub CountsNot : Option Effect → Type 0
@@ -38,7 +40,7 @@ worded_not : (o : Op) (e : Option Effect) → CountsNot e → CountsNot (cond (i
 worded_not o e h = elim (is_worded o) as (λ b. CountsNot (cond b e None)) [ true ↦ h | false ↦ tt ]
 
 probe_not : (name : List ℕ) (ds : List Entry) (d : Option Entry) → (probe_beside name ds d).counts ≡ false
-probe_not name ds None = elim (nat_lt max_size (size_of ds + (length name + 8))) as (λ b. (cond b (refuses refusal.TooLong ds) (answers result.Done ds)).counts ≡ false) [ true ↦ refl | false ↦ refl ]
+probe_not name ds None = elim (nat_lt directory_bytes_max (size_of ds + (length name + 8))) as (λ b. (cond b (refuses refusal.TooLong ds) (answers result.Done ds)).counts ≡ false) [ true ↦ refl | false ↦ refl ]
 probe_not name ds (Some d) = refl
 
 find_not : (component : List ℕ) (ds : List Entry) (l : LookResult) → (find_by component ds l).counts ≡ false
@@ -65,9 +67,6 @@ effect_not (op.Cut len) seen m content h = absurd (cc)
 effect_not op.Mend seen m content h = absurd (cc)
 
 -- ---- what an instance owes after an operation ----
-
-false_true : false ≡ true → ⊥
-false_true e = cc
 
 carried_owes : (a b : Bool) (R : Type 0) → (a ≡ true → R) → (b ≡ true → R) → (a || b) ≡ true → R
 carried_owes true b R f g h = f refl

@@ -9,11 +9,11 @@ use Rattle.role_steps.specs.Views.{Told, Begins, serial_key}
 use Rattle.the_run.specs.Worlds.{World}
 use Rattle.the_run.specs.Runs.{run_in}
 use Rattle.the_run.specs.Kept.{Among}
-use Rattle.vector_laws.specs.Written.{past_of}
+use Rattle.pack_laws.specs.of_vector_laws.Written.{past_of}
 use Rattle.pack_laws.specs.InstanceBook.{Began, Placed, Book, BeganFact}
 use Rattle.pack_laws.specs.InstanceFacts.{ToldFact, WorldFact, Booked}
 use Rattle.pack_laws.proofs.InstanceInstancesRun.{run_booked}
-use Rattle.lock_laws.specs.Going.{BegunAt, WasBegunAt}
+use Rattle.pack_laws.specs.of_lock_laws.Going.{BegunAt, WasBegunAt}
 use Rattle.pack_laws.proofs.WriterGranting.{told_found}
 use Rattle.make_laws.specs.RunningRunning.{BegunAtOneSite}
 

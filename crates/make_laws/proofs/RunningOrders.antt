@@ -23,15 +23,15 @@ use Rattle.the_run.specs.Kept.{Among}
 use Rattle.the_run.specs.Steps.{from_user}
 use Rattle.the_run.specs.Worlds.{World, Numbered}
 use Rattle.the_run.specs.Runs.{run_in}
-use Rattle.run_laws.proofs.Run.{found_among}
-use Rattle.vector_laws.specs.Written.{past_of}
+use Rattle.pack_laws.proofs.of_run_laws.Run.{found_among}
+use Rattle.pack_laws.specs.of_vector_laws.Written.{past_of}
 use Rattle.pack_laws.specs.InstanceBook.{Listed, Asked, Book, AskedBy, IsFor}
 use Rattle.pack_laws.specs.InstanceFacts.{BodyFact, GrantFact, RecordFact, ToldFact, NumberedFact, WorldFact, Booked}
 use Rattle.pack_laws.proofs.InstanceBooks.{asked_once}
 use Rattle.pack_laws.proofs.InstanceInstancesRun.{run_booked}
-use Rattle.lock_laws.specs.Joins.{WasJoined}
-use Rattle.lock_laws.specs.Locks.{IsOfAFile}
-use Rattle.lock_laws.proofs.JoinsRun.{run_joins_once}
+use Rattle.pack_laws.specs.of_lock_laws.Joins.{WasJoined}
+use Rattle.pack_laws.specs.of_lock_laws.Locks.{IsOfAFile}
+use Rattle.pack_laws.proofs.of_lock_laws.JoinsRun.{run_joins_once}
 use Rattle.pack_laws.specs.WriterAsking.{NotToRead, AsksToWrite, IsAskedToWrite}
 use Rattle.pack_laws.proofs.WriterAsksRun.{run_changes}
 use Rattle.pack_laws.proofs.WriterGranting.{told_found, GrantNoted, grant_noted}

@@ -6,6 +6,7 @@ use Rattle.wire_messages.specs.declared.packet.Packet.{Packet}
 use Rattle.role_steps.specs.Own.{Every}
 use Rattle.role_steps.specs.Tables.{row}
 use Rattle.role_steps.specs.Views.{SiteView, Told, Outcome, all_sites}
+use Rattle.role_steps.proofs.Counted.{every_site}
 use Rattle.the_run.specs.Disks.{Booted, Whole, CutOff, boots}
 use Rattle.the_run.specs.Worlds.{World, Place, Running, Stopped, happened, place_at, place_in, place_site, script_of, puts, arms, passed, stops_with, disk_of, acts, fresh, first_place, first_world}
 use Rattle.the_run.specs.Runs.{boots_as}
@@ -63,7 +64,7 @@ above_filter test [] h = tt
 above_filter test (x ∷ xs) h = above_if (test x) x (filter test xs) h.0 (above_filter test xs h.1)
 
 all_above : Every Above all_sites
-all_above = (refl, (refl, (refl, (refl, (refl, (refl, (refl, (refl, (refl, (refl, (refl, (refl, (refl, (refl, (refl, (refl, tt))))))))))))))))
+all_above = every_site Above (λ s low high. grind (arith, nat_tests))
 
 none_place : (p : Place) → ◌≡◌ {A = Option Place} None (Some p) → ⊥
 none_place p e = cc

@@ -13,13 +13,13 @@ use Rattle.role_steps.specs.Opens.{mode_of}
 use Rattle.role_steps.specs.Views.{Told, Shown, serial_key}
 use Rattle.the_run.specs.Worlds.{World}
 use Rattle.the_run.specs.Runs.{run_in}
-use Rattle.vector_laws.specs.Written.{past_of}
+use Rattle.pack_laws.specs.of_vector_laws.Written.{past_of}
 use Rattle.pack_laws.specs.InstanceBook.{Book, AskedBy}
 use Rattle.pack_laws.specs.InstanceFacts.{WasDenied, RefuseFact, GrantFact, RecordFact, ToldFact, WorldFact, Booked}
 use Rattle.pack_laws.proofs.InstanceBooks.{asked_once}
 use Rattle.pack_laws.proofs.InstanceInstancesRun.{run_booked}
-use Rattle.lock_laws.specs.Locks.{IsOfAFile}
-use Rattle.lock_laws.specs.Grants.{RefusedRecord, Refused}
+use Rattle.pack_laws.specs.of_lock_laws.Locks.{IsOfAFile}
+use Rattle.pack_laws.specs.of_lock_laws.Grants.{RefusedRecord, Refused}
 use Rattle.pack_laws.proofs.WriterGranting.{told_found, GrantNoted, grant_noted}
 use Rattle.make_laws.specs.RunningRunning.{PlainGrantsStand}
 use Rattle.make_laws.proofs.RunningOneSite.{KeyPlaced, begun_placed, placed_once}

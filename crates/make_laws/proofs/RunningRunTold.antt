@@ -11,13 +11,13 @@ use Rattle.trace_book.specs.declared.record.Record.TheVariants as says
 use Rattle.role_steps.specs.Views.{Told, Shown, Begins, Shuts, serial_key}
 use Rattle.the_run.specs.Worlds.{World, Numbered}
 use Rattle.the_run.specs.Runs.{run_in}
-use Rattle.vector_laws.specs.Written.{past_of, WasTold, Begun, WasBegun, GrantedRecord, Granted as WasGrantedBy, WasGranted, InstancesAgree}
+use Rattle.pack_laws.specs.of_vector_laws.Written.{past_of, WasTold, Begun, WasBegun, GrantedRecord, Granted as WasGrantedBy, WasGranted, InstancesAgree}
 use Rattle.pack_laws.proofs.InstanceAgree.{run_agrees}
-use Rattle.lock_laws.specs.Going.{BegunAt, WasBegunAt, ShutAt, WasShutAt, ReleasedRecord, Released, WasReleased, RecordGoesOn, InstanceGoesOn, InstancesGoOn}
-use Rattle.lock_laws.specs.Locks.{IsOfAFile}
-use Rattle.lock_laws.specs.Grants.{WasGrantedAs}
-use Rattle.lock_laws.proofs.Facts.{Later, same_later, one_later, then_later}
-use Rattle.lock_laws.proofs.FactsRun.{run_goes}
+use Rattle.pack_laws.specs.of_lock_laws.Going.{BegunAt, WasBegunAt, ShutAt, WasShutAt, ReleasedRecord, Released, WasReleased, RecordGoesOn, InstanceGoesOn, InstancesGoOn}
+use Rattle.pack_laws.specs.of_lock_laws.Locks.{IsOfAFile}
+use Rattle.pack_laws.specs.of_lock_laws.Grants.{WasGrantedAs}
+use Rattle.pack_laws.proofs.of_lock_laws.Facts.{Later, same_later, one_later, then_later}
+use Rattle.pack_laws.proofs.of_lock_laws.FactsRun.{run_goes}
 use Rattle.pack_laws.specs.WriterGranting.{GrantedThere, GrantsNameTheirSite}
 use Rattle.pack_laws.proofs.WriterPlacesRun.{run_sites}
 use Rattle.make_laws.specs.RunningStores.{IsAsked, StoresStand}

@@ -11,11 +11,11 @@ use Rattle.role_steps.specs.declared.instances.Instance.{Instance}
 use Rattle.role_steps.specs.declared.rounds.InEpoch.{InEpoch}
 use Rattle.role_steps.proofs.Sending.{every_append}
 use Rattle.the_run.proofs.Boots.{every_weaker}
-use Rattle.vector_laws.specs.Written.{WasTold}
-use Rattle.vector_laws.specs.Facts.{onto}
-use Rattle.vector_laws.proofs.Facts.{onto_append}
-use Rattle.lock_laws.specs.Joins.{WasJoined, JoinsAreOnce}
-use Rattle.lock_laws.proofs.Facts.{Later, onto_later}
+use Rattle.pack_laws.specs.of_vector_laws.Written.{WasTold}
+use Rattle.pack_laws.specs.of_vector_laws.Facts.{onto}
+use Rattle.pack_laws.proofs.of_vector_laws.Facts.{onto_append}
+use Rattle.pack_laws.specs.of_lock_laws.Joins.{WasJoined, JoinsAreOnce}
+use Rattle.pack_laws.proofs.of_lock_laws.Facts.{Later, onto_later}
 
 -- by what was told before, facts about the instances that a site has in an epoch
 abbrev pub Facts : Type 1

@@ -1,6 +1,7 @@
 -- What the parts of an event keep of facts about the instances of a site: packets inside the epoch, adoptions, mends, and how
 -- an epoch is formed.
 use Rattle.std.proofs.Common.{◌≡◌, ℕ, ◌+◌, true, false, cond, ◌&&◌, not, List, [], ◌∷◌, Option, Some, None, refl, sym, subst, inl, inr}
+use Rattle.role_steps.proofs.of_plain_facts.Tests.{both_true}
 use Rattle.locus_ids.specs.declared.ids.EpochId.{EpochId}
 use Rattle.locus_ids.specs.declared.sites.Members.{Members}
 use Rattle.locus_ids.specs.declared.sites.Sites.{Sites}
@@ -31,15 +32,14 @@ use Rattle.role_steps.specs.declared.synchronizing.SyncTable.{SyncTable}
 use Rattle.role_steps.specs.declared.synchronizing.FileRow.{FileRow}
 use Rattle.the_run.specs.Steps.{from_user, group_of, at_table_of, is_opened_in, takes_inside, adopts_of, starts_mends_of, ends_event, with_pulls}
 use Rattle.the_run.proofs.Boots.{every_weaker}
-use Rattle.run_laws.specs.Naming.{Deeds, ViewOk}
-use Rattle.run_laws.proofs.SyncTells.{on_opened_talks, on_open_talks, on_look_talks, on_report_talks, on_closed_talks}
-use Rattle.vector_laws.specs.Written.{WasTold}
-use Rattle.vector_laws.specs.Facts.{onto}
-use Rattle.vector_laws.proofs.FormingFacts.{both_true}
-use Rattle.vector_laws.proofs.SiteDisks.{starts_mends_keeps, mends_of_keeps}
-use Rattle.lock_laws.specs.Joins.{WasJoined, JoinsAreOnce}
-use Rattle.lock_laws.proofs.Facts.{onto_later}
-use Rattle.lock_laws.proofs.StepFacts.{notify_silent, page_silent}
+use Rattle.pack_laws.specs.of_run_laws.Naming.{Deeds, ViewOk}
+use Rattle.pack_laws.proofs.of_run_laws.Telling.{on_opened_talks, on_open_talks, on_look_talks, on_report_talks, on_closed_talks}
+use Rattle.pack_laws.specs.of_vector_laws.Written.{WasTold}
+use Rattle.pack_laws.specs.of_vector_laws.Facts.{onto}
+use Rattle.pack_laws.proofs.of_vector_laws.SiteDisks.{starts_mends_keeps, mends_of_keeps}
+use Rattle.pack_laws.specs.of_lock_laws.Joins.{WasJoined, JoinsAreOnce}
+use Rattle.pack_laws.proofs.of_lock_laws.Facts.{onto_later}
+use Rattle.pack_laws.proofs.of_lock_laws.StepFacts.{notify_silent, page_silent}
 use Rattle.make_laws.proofs.RunningUsersTell.{OfUsers, Tells, on_call_tells, on_open_done_tells, on_op_done_tells, on_close_done_tells, on_look_done_tells, users_leave_tells}
 use Rattle.make_laws.proofs.RunningTablesTell.{OfTables, on_report_tells, on_open_tells, on_opened_tells, on_closed_tells, on_look_tells}
 use Rattle.make_laws.proofs.RunningSpine.{Facts, Owed, Free, IsStoreOf, Mine, JoinedTold, StoresJoined, Spine, InSite, SiteFact, AllOwed, DiskOwed, Keeps, alike, none_free, plain_keeps, quiet_keeps, then_keeps, in_epoch, free_owed, free_mine, free_joins}

@@ -1,5 +1,6 @@
 -- In every run the facts about the instances of each site hold, and what is owed of what is told, where stores keep them.
 use Rattle.std.proofs.Common.{◌≡◌, ◌≢◌, ℕ, ◌+◌, ◌==◌, Bool, true, false, cond, List, [], ◌∷◌, map, Option, Some, None, refl, sym, ◌∙◌, ap, subst}
+use Rattle.role_steps.proofs.of_plain_facts.Options.{some_same}
 use Rattle.locus_ids.specs.declared.config.Config.{Config}
 use Rattle.trace_book.specs.declared.record.Record.TheVariants as says
 use Rattle.trace_book.specs.declared.record.StopCause.{StopCause}
@@ -18,14 +19,13 @@ use Rattle.the_run.specs.Runs.{boots_as, packet_record}
 use Rattle.the_run.specs.Kept.{WasSent, IsOwn, Kept}
 use Rattle.the_run.proofs.Boots.{at_each, acts_cases, every_weaker}
 use Rattle.the_run.proofs.Events.{happened_keeps, puts_other, puts_same}
-use Rattle.the_run.proofs.Runs.{some_eq}
-use Rattle.run_laws.specs.Naming.{Deeds, DeedsOf, Good}
-use Rattle.run_laws.proofs.Run.{was_sent}
-use Rattle.run_laws.proofs.Steps.{EventNames}
-use Rattle.vector_laws.specs.Written.{past_of}
-use Rattle.vector_laws.specs.Facts.{onto}
-use Rattle.vector_laws.proofs.FactsRun.{past_onto}
-use Rattle.lock_laws.specs.Joins.{JoinsAreOnce}
+use Rattle.pack_laws.specs.of_run_laws.Naming.{Deeds, DeedsOf, Good}
+use Rattle.pack_laws.proofs.of_run_laws.Run.{was_sent}
+use Rattle.pack_laws.proofs.of_run_laws.Steps.{EventNames}
+use Rattle.pack_laws.specs.of_vector_laws.Written.{past_of}
+use Rattle.pack_laws.specs.of_vector_laws.Facts.{onto}
+use Rattle.pack_laws.proofs.of_vector_laws.FactsRun.{past_onto}
+use Rattle.pack_laws.specs.of_lock_laws.Joins.{JoinsAreOnce}
 use Rattle.pack_laws.proofs.WriterAsksRun.{Leads, newest_leads}
 use Rattle.make_laws.proofs.RunningSpine.{Facts, Owed, Free, Elsewhere, Mine, JoinedTold, StoresJoined, Spine, InSite, AllOwed, DiskOwed, Keeps, free_mine, free_elsewhere, mine_elsewhere, free_joins, free_owed, in_elsewhere, stores_after, order_before}
 use Rattle.make_laws.proofs.RunningSpineStep.{PacketDone, EventDone, step_keeps}
@@ -144,7 +144,7 @@ stops_where P F G q n s d told w owes g = happened_where P F G q n [] told (stop
   where
     views : Holds F G w → Every (Mine s) told → (t : ℕ) (v : SiteView) → place_at (puts s (Stopped d) w) t ≡ Some (Running v) → SiteNow F w told t v
     views f mine t v here = at_each s t (SiteNow F w told t v)
-        (λ e. absurd (stopped_never d v (some_eq (Stopped d) (Running v) (sym (puts_same s (Stopped d) w) ∙ (ap (place_at (puts s (Stopped d) w)) e ∙ here)))))
+        (λ e. absurd (stopped_never d v (some_same (Stopped d) (Running v) (sym (puts_same s (Stopped d) w) ∙ (ap (place_at (puts s (Stopped d) w)) e ∙ here)))))
         (λ ne. beside P F G q s t told w v ne mine (sym (puts_other s t (Stopped d) w ne) ∙ here) f)
 
 plain_stop : (P : Premise) (F : SentFacts) (G : SentOwed) → Spines P F G → (n s : ℕ) (d : Disk) (told : List Told) (w : World) → Every Free told → Where P F G w → Where P F G (happened n [] told (stops_with s d) w)
@@ -159,7 +159,7 @@ cut_where P F G q n s d disk how false w k g = plain_stop P F G q n s disk (Show
 
 views_of : (P : Premise) (F : SentFacts) (G : SentOwed) → Spines P F G → (s : ℕ) (o : Outcome SiteView) (w : World) → JoinsAreOnce (onto o.told (past_of w.trace)) → Keeps (F w.sent) (G w.sent) s (past_of w.trace) o → Holds F G w → (t : ℕ) (u : SiteView) → place_at (puts s (Running o.view) w) t ≡ Some (Running u) → SiteNow F w o.told t u
 views_of P F G q s o w order k f t u here = at_each s t (SiteNow F w o.told t u)
-    (λ e. subst (λ (n : ℕ). SiteNow F w o.told n u) e (subst (SiteNow F w o.told s) (running_view o.view u (some_eq (Running o.view) (Running u) (sym (puts_same s (Running o.view) w) ∙ (ap (place_at (puts s (Running o.view) w)) e ∙ here)))) (k.view order)))
+    (λ e. subst (λ (n : ℕ). SiteNow F w o.told n u) e (subst (SiteNow F w o.told s) (running_view o.view u (some_same (Running o.view) (Running u) (sym (puts_same s (Running o.view) w) ∙ (ap (place_at (puts s (Running o.view) w)) e ∙ here)))) (k.view order)))
     (λ ne. beside P F G q s t o.told w u ne k.mine (sym (puts_other s t (Running o.view) w ne) ∙ here) f)
 
 acts_where : (P : Premise) (F : SentFacts) (G : SentOwed) → Spines P F G → (n s : ℕ) (v : SiteView) (o : Outcome SiteView) (w : World) → place_at w s ≡ Some (Running v) → (Before P w → Holds F G w → Keeps (F w.sent) (G w.sent) s (past_of w.trace) o) → Where P F G w → Where P F G (acts n s v o w)
@@ -167,7 +167,7 @@ acts_where P F G q n s v o w here step g =
     acts_cases (Where P F G) n s v o w
     (happened_where P F G q n o.sent o.told (λ now. puts s (Running o.view) now) w refl owed g)
     (λ a. happened_where P F G q n o.sent o.told (λ now. puts s (Running o.view) (arms a now)) w refl (λ order premise f. (let r : Owes F G o.told (λ now. puts s (Running o.view) now) w = owed order premise f in record { owed = r.owed; joined = r.joined; views = r.views })) g)
-    (λ d a e. cut_where P F G q n s d (cut_disk v.boot v.store d a.how a.left) (cause_of a.how) (is_on_disk d a.how a.left) w (λ b f. subst (DiskOwed (G w.sent) s (past_of w.trace)) e (step b f).disk) g)
+    (λ d a e. cut_where P F G q n s d (cut_disk v.boot v.store d a.how a.left) (cause_of a.how) (is_on_disk v.store d a.how a.left) w (λ b f. subst (DiskOwed (G w.sent) s (past_of w.trace)) e (step b f).disk) g)
   where
     owed : JoinsAreOnce (onto o.told (past_of w.trace)) → P w.sent (past_of w.trace) → Holds F G w → Owes F G o.told (λ now. puts s (Running o.view) now) w
     owed order premise f = let k : Keeps (F w.sent) (G w.sent) s (past_of w.trace) o = step (order_before o.told (past_of w.trace) order, premise) f in record { owed = k.owed; joined = k.joined; views = views_of P F G q s o w order k f }
@@ -185,7 +185,7 @@ up_where P F G q n s x change w same sent g = happened_where P F G q n [] told c
 
     views : Holds F G w → (t : ℕ) (u : SiteView) → place_at (change w) t ≡ Some (Running u) → SiteNow F w told t u
     views f t u here = at_each s t (SiteNow F w told t u)
-        (λ e. subst (λ (n : ℕ). SiteNow F w told n u) e (subst (SiteNow F w told s) (running_view view u (some_eq (Running view) (Running u) (sym (puts_same s (Running view) w) ∙ (sym (same s) ∙ (ap (place_at (change w)) e ∙ here))))) refl))
+        (λ e. subst (λ (n : ℕ). SiteNow F w told n u) e (subst (SiteNow F w told s) (running_view view u (some_same (Running view) (Running u) (sym (puts_same s (Running view) w) ∙ (sym (same s) ∙ (ap (place_at (change w)) e ∙ here))))) refl))
         (λ ne. free_beside P F G q t told w u (tt, tt) (sym (puts_other s t (Running view) w ne) ∙ (sym (same t) ∙ here)) f)
 
 as_where : (P : Premise) (F : SentFacts) (G : SentOwed) → Spines P F G → (n s : ℕ) (b : Booted) (w : World) → Where P F G w → Where P F G (boots_as n s b w)
@@ -256,7 +256,7 @@ first_site : (F : Facts) (c : Config) (ss : List ℕ) (s : ℕ) (v : SiteView) �
 first_site F c [] s v e = absurd (none_place (Running v) e)
 first_site F c (t ∷ ts) s v e =
     (elim (t == s) as (λ b. place_in (elim b [ true ↦ Some (first_place c t) | false ↦ row place_site s (map (first_place c) ts) ]) ≡ Some (Running v) → InSite F [] s v v.epoch) [
-      | true ↦ λ f. subst (λ (u : SiteView). InSite F [] s u u.epoch) (running_view (fresh 1 (formatted c t)) v (some_eq (Running (fresh 1 (formatted c t))) (Running v) f)) refl
+      | true ↦ λ f. subst (λ (u : SiteView). InSite F [] s u u.epoch) (running_view (fresh 1 (formatted c t)) v (some_same (Running (fresh 1 (formatted c t))) (Running v) f)) refl
       | false ↦ λ f. first_site F c ts s v f
     ]) e
 

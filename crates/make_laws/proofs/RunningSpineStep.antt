@@ -1,6 +1,8 @@
 -- What each event of a site keeps of facts about its instances, where its store keeps them.
 use Rattle.std.proofs.Common.{◌≡◌, ℕ, ◌+◌, ◌==◌, nat_lt, Bool, true, false, ◌&&◌, ◌||◌, not, List, [], ◌++◌, Option, Some, None, refl, sym, subst, arith}
 use Rattle.std.proofs.lemmas.Bool.Decides.{nat_tests}
+use Rattle.role_steps.proofs.of_plain_facts.Numbers.{equal}
+use Rattle.role_steps.proofs.of_plain_facts.Tests.{both_true, not_false, or_other}
 use Rattle.locus_ids.specs.declared.ids.EpochId.{EpochId}
 use Rattle.locus_ids.specs.declared.sites.Links.{Links}
 use Rattle.locus_ids.specs.declared.config.Config.{Config}
@@ -17,14 +19,13 @@ use Rattle.role_steps.specs.declared.rounds.InEpoch.{InEpoch}
 use Rattle.the_run.specs.Steps.{is_framed, is_forming, is_dropped, takes_framed, takes, adopts_in, tries_at, ends_event, whole, call_frame, epoch_id, takes_call, step}
 use Rattle.the_run.proofs.InsideSites.{adopts_of_plain}
 use Rattle.the_run.proofs.InsideRoles.{on_call_still}
-use Rattle.run_laws.specs.Naming.{Deeds, Now, ViewOk, Fine as EpochFine}
-use Rattle.run_laws.proofs.Moves.{inner_view, inner_fine}
-use Rattle.run_laws.proofs.InsideSteps.{adopts_of_inner, call_inner}
-use Rattle.run_laws.proofs.Steps.{EventNames, takes_fine, starts_part_fine, begins_fine, leaves_of_fine}
-use Rattle.vector_laws.specs.Facts.{onto}
-use Rattle.vector_laws.proofs.SiteDisks.{ends_keeps}
-use Rattle.vector_laws.proofs.FormingFacts.{both_true}
-use Rattle.lock_laws.proofs.StepFacts.{SiteSilent, notify_silent, page_silent, framed_notify}
+use Rattle.pack_laws.specs.of_run_laws.Naming.{Deeds, Now, ViewOk, Fine as EpochFine}
+use Rattle.pack_laws.proofs.of_run_laws.Moves.{inner_view, inner_fine}
+use Rattle.pack_laws.proofs.of_run_laws.InsideSteps.{adopts_of_inner, call_inner}
+use Rattle.pack_laws.proofs.of_run_laws.Steps.{EventNames, takes_fine, starts_part_fine, begins_fine, leaves_of_fine}
+use Rattle.pack_laws.specs.of_vector_laws.Facts.{onto}
+use Rattle.pack_laws.proofs.of_vector_laws.SiteDisks.{ends_keeps}
+use Rattle.pack_laws.proofs.of_lock_laws.StepFacts.{SiteSilent, notify_silent, page_silent, framed_notify}
 use Rattle.make_laws.proofs.RunningUsersTell.{on_call_tells}
 use Rattle.make_laws.proofs.RunningSpine.{Facts, Owed, Free, StoresJoined, Spine, InSite, SiteFact, Keeps, none_free, plain_keeps, quiet_keeps, then_keeps, stores_after}
 use Rattle.make_laws.proofs.RunningSpineParts.{free_users, takes_store, StoreDone, inside_keeps, adopts_part, leaves_part, begins_part, starts_part_part, on_poll_part, on_promise_part, on_refuse_part, on_install_part, on_joined_part, ends_part}
@@ -64,28 +65,18 @@ pub record IsFramed (p : Packet) (e : InEpoch) : Type 0 where
   pub epoch : e.id ≡ p.epoch
   pub boot : boot_in e.members.boot p.from ≡ p.from_boot
 
-not_false : (a : Bool) → not a ≡ false → a ≡ true
-not_false true h = refl
-not_false false h = absurd (cc)
-
 same_epoch_eq : (a b : EpochId) → same_epoch a b ≡ true → a ≡ b
 same_epoch_eq a b h = id_eq (grind (arith, nat_tests)) (grind (arith, nat_tests)) (grind (arith, nat_tests))
   where
     id_eq : a.number ≡ b.number → a.site ≡ b.site → a.boot ≡ b.boot → a ≡ b
     id_eq e f g = λ i. record { number = e i; site = f i; boot = g i }
 
-test_same : (a b : ℕ) → (a == b) ≡ true → a ≡ b
-test_same a b h = grind (arith, nat_tests)
-
-or_right : (a b : Bool) → a ≡ false → (a || b) ≡ true → b ≡ true
-or_right a b e h = subst (λ (x : Bool). (x || b) ≡ true) e h
-
 framed : (p : Packet) (v : SiteView) (e : InEpoch) → is_dropped p v ≡ false → is_forming p ≡ false → v.epoch ≡ Some e → IsFramed p e
 framed p v e h inside here =
     let a : ((p.to_boot == v.boot) ≡ true) × ((is_forming p || is_framed p v.epoch) ≡ true) = both_true (p.to_boot == v.boot) (is_forming p || is_framed p v.epoch) (not_false ((p.to_boot == v.boot) && (is_forming p || is_framed p v.epoch)) h) in
-    let b : is_framed p (Some e) ≡ true = subst (λ (o : Option InEpoch). is_framed p o ≡ true) here (or_right (is_forming p) (is_framed p v.epoch) inside a.1) in
+    let b : is_framed p (Some e) ≡ true = subst (λ (o : Option InEpoch). is_framed p o ≡ true) here (or_other (is_forming p) (is_framed p v.epoch) inside a.1) in
     let k : _ × _ = both_true (same_epoch e.id p.epoch) (boot_in e.members.boot p.from == p.from_boot) b in
-    record { epoch = same_epoch_eq e.id p.epoch k.0; boot = test_same (boot_in e.members.boot p.from) p.from_boot k.1 }
+    record { epoch = same_epoch_eq e.id p.epoch k.0; boot = equal (boot_in e.members.boot p.from) p.from_boot k.1 }
 
 forming_not : (p : Packet) (x : Body) → p.body ≡ x → nat_lt (kind_number x) 6 ≡ false → is_forming p ≡ false
 forming_not p x q h = subst (λ (y : Body). nat_lt (kind_number y) 6 ≡ false) (sym q) h

@@ -1,5 +1,7 @@
 -- What stands in a store, by what was told: it stays where the store tells nothing, and an instance is put in place.
 use Rattle.std.proofs.Common.{◌≡◌, ◌≤◌, ℕ, ◌==◌, true, false, List, [], ◌∷◌, Some, None, refl, sym, ◌∙◌, ap, subst, inl, inr}
+use Rattle.role_steps.proofs.of_plain_facts.Numbers.{equal}
+use Rattle.role_steps.proofs.of_plain_facts.Options.{none_some, some_same}
 use Rattle.locus_ids.specs.declared.ids.EpochId.{EpochId}
 use Rattle.locus_ids.specs.declared.ids.FileId.{FileId}
 use Rattle.locus_ids.specs.declared.ids.Mode.{Mode}
@@ -16,12 +18,12 @@ use Rattle.the_run.specs.Kept.{Among}
 use Rattle.the_run.specs.Steps.{from_user}
 use Rattle.the_run.specs.Worlds.{Numbered}
 use Rattle.the_run.proofs.Boots.{every_weaker}
-use Rattle.vector_laws.specs.Written.{WasTold}
-use Rattle.vector_laws.proofs.SyncFacts.{every_latest}
-use Rattle.lock_laws.specs.Going.{BegunAt, WasBegunAt, ShutAt, WasShutAt, IsGranted}
-use Rattle.lock_laws.specs.Joins.{WasJoined}
-use Rattle.lock_laws.proofs.Facts.{onto_later}
-use Rattle.lock_laws.proofs.GrantTold.{latest_other, latest_same, test_same, none_some, some_same}
+use Rattle.pack_laws.specs.of_vector_laws.Written.{WasTold}
+use Rattle.pack_laws.proofs.of_vector_laws.SyncFacts.{every_latest}
+use Rattle.pack_laws.specs.of_lock_laws.Going.{BegunAt, WasBegunAt, ShutAt, WasShutAt, IsGranted}
+use Rattle.pack_laws.specs.of_lock_laws.Joins.{WasJoined}
+use Rattle.pack_laws.proofs.of_lock_laws.Facts.{onto_later}
+use Rattle.pack_laws.proofs.of_lock_laws.GrantTold.{latest_other, latest_same}
 use Rattle.pack_laws.specs.WriterAsking.{AsksChange}
 use Rattle.pack_laws.proofs.WriterAsksRun.{Leads}
 use Rattle.make_laws.specs.RunningStores.{HasOn, HasShut, AsksIn, IsAsked, InstanceSo, Stands}
@@ -187,7 +189,7 @@ by_test a b R f g = (elim (a == b) as (λ t. (a == b) ≡ t → R) [ true ↦ f 
 -- the key of the new one is found at it, and all others as before
 put_found : (new : Instance) (is : List Instance) (key : ℕ) (R : Type 0) → (instance_key new ≡ key → row instance_key key (with_latest instance_key new is) ≡ Some new → R) → (row instance_key key (with_latest instance_key new is) ≡ row instance_key key is → R) → R
 put_found new is key R own other = by_test (instance_key new) key R
-    (λ q. (let e : instance_key new ≡ key = test_same (instance_key new) key q in own e (subst (λ (k : ℕ). row instance_key k (with_latest instance_key new is) ≡ Some new) e (latest_same instance_key new is))))
+    (λ q. (let e : instance_key new ≡ key = equal (instance_key new) key q in own e (subst (λ (k : ℕ). row instance_key k (with_latest instance_key new is) ≡ Some new) e (latest_same instance_key new is))))
     (λ q. other (latest_other instance_key new key is q))
 
 same_instance : (is : List Instance) (key other : ℕ) (i j : Instance) → key ≡ other → row instance_key key is ≡ Some i → row instance_key other is ≡ Some j → i ≡ j

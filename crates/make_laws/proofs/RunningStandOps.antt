@@ -1,6 +1,7 @@
 -- Operations, and each packet that the store takes: what stands in it is kept.
 use Rattle.std.proofs.Common.{◌≡◌, ℕ, ◌+◌, ◌==◌, Bool, true, false, ◌&&◌, List, Option, Some, None, refl}
 use Rattle.std.specs.Option.{is_none}
+use Rattle.role_steps.proofs.of_plain_facts.Tests.{and_first}
 use Rattle.locus_ids.specs.declared.ids.Serial.{Serial}
 use Rattle.trace_book.specs.declared.operation.Op.{Op}
 use Rattle.trace_book.specs.declared.operation.Op.TheVariants as op
@@ -14,17 +15,13 @@ use Rattle.role_steps.specs.declared.instances.Instance.{Instance}
 use Rattle.role_steps.specs.declared.instances.Stage.{Stage}
 use Rattle.role_steps.specs.declared.instances.Stage.TheVariants as stage
 use Rattle.the_run.specs.Worlds.{Numbered}
-use Rattle.lock_laws.specs.Going.{IsGranted}
+use Rattle.pack_laws.specs.of_lock_laws.Going.{IsGranted}
 use Rattle.make_laws.proofs.RunningCounting.{effect_not, begins_to_write}
 use Rattle.make_laws.proofs.RunningStandStore.{StoreOut, InStore, quiet_out, sends_out, IsHere, FoundHere, granted_at, ToWrite, acts_out, effect_out, commit_out}
 
-both_left : (a b : Bool) → (a && b) ≡ true → a ≡ true
-both_left true b h = refl
-both_left false b h = h
-
 executes_out : (sent : List Numbered) (past : List Told) (f : Frame) (m : Mending) (i : Instance) (o : Op) (seen : List ℕ) (s : Store) → ToWrite i o → IsGranted past f.epoch (serial_key i.inst) → i.stage ≡ stage.Running → IsHere sent past f s i → InStore sent past f s → StoreOut sent past f (executes f m i o seen s)
 executes_out sent past f m i op.Commit seen s to g runs k h = commit_out sent past f i s g runs k h
-executes_out sent past f m i op.Abort seen s to g runs k h = acts_out sent past f i op.Abort result.Done (aborted i.mode (content_of (copy_of s i.file)) i.work) s g runs (λ e. begins_to_write i.mode (both_left (begins_owing i.mode) (is_none i.work.committed) e)) k h
+executes_out sent past f m i op.Abort seen s to g runs k h = acts_out sent past f i op.Abort result.Done (aborted i.mode (content_of (copy_of s i.file)) i.work) s g runs (λ e. begins_to_write i.mode (and_first (begins_owing i.mode) (is_none i.work.committed) e)) k h
 executes_out sent past f m i (op.Probe name) seen s to g runs k h = effect_out sent past f i (op.Probe name) (effect_of (op.Probe name) seen m i.work.content) s (effect_not (op.Probe name) seen m i.work.content) to g runs k h
 executes_out sent past f m i (op.Find component) seen s to g runs k h = effect_out sent past f i (op.Find component) (effect_of (op.Find component) seen m i.work.content) s (effect_not (op.Find component) seen m i.work.content) to g runs k h
 executes_out sent past f m i (op.Insert name ino kind) seen s to g runs k h = effect_out sent past f i (op.Insert name ino kind) (effect_of (op.Insert name ino kind) seen m i.work.content) s (effect_not (op.Insert name ino kind) seen m i.work.content) to g runs k h

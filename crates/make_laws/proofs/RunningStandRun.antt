@@ -18,20 +18,20 @@ use Rattle.role_steps.specs.Epochs.{frame_in}
 use Rattle.role_steps.specs.Mends.{mending}
 use Rattle.role_steps.specs.declared.instances.Instance.{Instance}
 use Rattle.role_steps.specs.declared.rounds.InEpoch.{InEpoch}
-use Rattle.run_laws.proofs.Run.{found_among}
+use Rattle.pack_laws.proofs.of_run_laws.Run.{found_among}
 use Rattle.the_run.specs.Kept.{Among, WasSent, Kept}
 use Rattle.the_run.specs.Runs.{run_in}
 use Rattle.the_run.specs.Steps.{from_user, group_of}
 use Rattle.the_run.specs.Worlds.{World, Running, Numbered, first_world}
 use Rattle.the_run.proofs.Runs.{every_run}
-use Rattle.vector_laws.specs.Written.{past_of}
-use Rattle.vector_laws.proofs.SyncFacts.{FoundAt, row_at}
+use Rattle.pack_laws.specs.of_vector_laws.Written.{past_of}
+use Rattle.pack_laws.proofs.of_vector_laws.SyncFacts.{FoundAt, row_at}
 use Rattle.pack_laws.specs.InstanceBook.{IsFor}
-use Rattle.lock_laws.specs.Facts.{BodyFact, InstanceFact, NumberedFact, WorldFact}
-use Rattle.lock_laws.specs.Joins.{WasJoined}
-use Rattle.lock_laws.specs.Writing.{changes}
-use Rattle.lock_laws.proofs.SiteFacts.{inside_of}
-use Rattle.pack_laws.proofs.LocksKept.{Both, both_kept, first_both}
+use Rattle.pack_laws.specs.of_lock_laws.Facts.{BodyFact, InstanceFact, NumberedFact, WorldFact}
+use Rattle.pack_laws.specs.of_lock_laws.Joins.{WasJoined}
+use Rattle.pack_laws.specs.of_lock_laws.Writing.{changes}
+use Rattle.pack_laws.proofs.of_lock_laws.SiteFacts.{inside_of}
+use Rattle.pack_laws.proofs.of_lock_laws.FactsRun.{Both, both_kept, first_both}
 use Rattle.pack_laws.specs.WriterAsking.{AsksChange}
 use Rattle.make_laws.specs.RunningStores.{AsksIn, IsAsked, InstanceSo, StoresStand}
 use Rattle.make_laws.proofs.RunningSpine.{InSite, in_epoch}
@@ -122,10 +122,10 @@ body_done c w x v e (body.Op serial n o seen) q k site p framed joined fact l h 
     let f : Frame = frame_in c x.packet.to v.boot e in
     let inst : Serial = from_user x.packet.from serial in
     let found : FoundHere w.sent (past_of w.trace) f v.store (serial_key inst) (instance_of v.store inst) = lookup w.sent (past_of w.trace) f v.store inst l h in
-    on_op_out w.sent (past_of w.trace) f (mending v (group_of (instance_of v.store inst))) inst n o seen v.store (may_write w.sent (past_of w.trace) x f v.store e serial o (instance_of v.store inst) p k (change_of x serial n o seen q) framed joined refl found) fact found h
+    on_op_out w.sent (past_of w.trace) f (mending v (group_of (instance_of v.store inst))) inst n o seen v.store (may_write w.sent (past_of w.trace) x f v.store e serial o (instance_of v.store inst) p k (change_of x serial n o seen q) framed joined refl found) fact.granted found h
 body_done c w x v e (body.Close serial) q k site p framed joined fact l h =
     let f : Frame = frame_in c x.packet.to v.boot e in
-    on_close_out w.sent (past_of w.trace) f (from_user x.packet.from serial) v.store fact (lookup w.sent (past_of w.trace) f v.store (from_user x.packet.from serial) l h) h
+    on_close_out w.sent (past_of w.trace) f (from_user x.packet.from serial) v.store fact.granted (lookup w.sent (past_of w.trace) f v.store (from_user x.packet.from serial) l h) h
 body_done c w x v e (body.ClosedOk inst) q k site p framed joined fact l h =
     let f : Frame = frame_in c x.packet.to v.boot e in
     on_closed_ok_out w.sent (past_of w.trace) f inst v.store (lookup w.sent (past_of w.trace) f v.store inst l h) h

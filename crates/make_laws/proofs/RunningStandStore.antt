@@ -1,5 +1,7 @@
 -- What the store does of each packet keeps what stands in it, and it tells only of what runs.
 use Rattle.std.proofs.Common.{◌≡◌, ◌≤◌, ℕ, Bool, true, false, List, [], ◌∷◌, Option, Some, None, refl, sym, ◌∙◌, subst, inl, inr}
+use Rattle.role_steps.proofs.of_plain_facts.Options.{none_some}
+use Rattle.role_steps.proofs.of_plain_facts.Tests.{false_true}
 use Rattle.locus_ids.specs.declared.ids.EpochId.{EpochId}
 use Rattle.locus_ids.specs.declared.ids.FileId.{FileId}
 use Rattle.locus_ids.specs.declared.ids.Serial.{Serial}
@@ -28,12 +30,12 @@ use Rattle.role_steps.specs.declared.instances.Stage.{Stage}
 use Rattle.role_steps.specs.declared.instances.Stage.TheVariants as stage
 use Rattle.role_steps.proofs.Sending.{every_append}
 use Rattle.the_run.specs.Worlds.{Numbered}
-use Rattle.vector_laws.specs.Facts.{onto}
-use Rattle.vector_laws.proofs.Facts.{onto_append}
-use Rattle.lock_laws.specs.Going.{WasBegunAt, WasShutAt, IsGranted}
-use Rattle.lock_laws.specs.Writing.{changes}
-use Rattle.lock_laws.proofs.Facts.{onto_later, granted_later}
-use Rattle.lock_laws.proofs.GrantTold.{latest_same, none_some}
+use Rattle.pack_laws.specs.of_vector_laws.Facts.{onto}
+use Rattle.pack_laws.proofs.of_vector_laws.Facts.{onto_append}
+use Rattle.pack_laws.specs.of_lock_laws.Going.{WasBegunAt, WasShutAt, IsGranted}
+use Rattle.pack_laws.specs.of_lock_laws.Writing.{changes}
+use Rattle.pack_laws.proofs.of_lock_laws.Facts.{onto_later, granted_later}
+use Rattle.pack_laws.proofs.of_lock_laws.GrantTold.{latest_same}
 use Rattle.make_laws.specs.RunningStores.{HasOn, HasShut, IsAsked, InstanceSo, Stands}
 use Rattle.make_laws.proofs.RunningSpine.{AllOwed, DiskOwed, owed_append}
 use Rattle.make_laws.proofs.RunningSpineParts.{Here}
@@ -135,9 +137,6 @@ not_running made a e = cc
 
 closed_not_running : (a : CloseAnswer) → stage.Closed a ≡ stage.Running → ⊥
 closed_not_running a e = cc
-
-false_true : false ≡ true → ⊥
-false_true e = cc
 
 commits_out : (sent : List Numbered) (past : List Told) (f : Frame) (i : Instance) (s : Store) → IsGranted past f.epoch (serial_key i.inst) → i.stage ≡ stage.Running → i.work.owes ≡ true → IsHere sent past f s i → InStore sent past f s → StoreOut sent past f (commits f i s)
 commits_out sent past f i s g runs owes k h =

@@ -57,7 +57,7 @@ acts_sent n s v o w h =
     acts_cases UnderwaySent n s v o w
     (happened_sent n o.sent o.told (λ now. puts s (Running o.view) now) w refl refl h)
     (λ a. happened_sent n o.sent o.told (λ now. puts s (Running o.view) (arms a now)) w refl refl h)
-    (λ d a e. happened_sent n [] (cut_told s d a.how a.left) (stops_with s (cut_disk v.boot v.store d a.how a.left)) w refl refl h)
+    (λ d a e. happened_sent n [] (cut_told s v.store d a.how a.left) (stops_with s (cut_disk v.boot v.store d a.how a.left)) w refl refl h)
 
 as_sent : (n s : ℕ) (b : Booted) (w : World) → UnderwaySent w → UnderwaySent (boots_as n s b w)
 as_sent n s (Whole x None) w h = happened_sent n [] _ _ w refl refl h

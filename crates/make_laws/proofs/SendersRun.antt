@@ -1,6 +1,8 @@
 -- In every run each packet is of one of the sites, in a boot of it.
 use Rattle.std.proofs.Common.{◌≡◌, ◌≤◌, ℕ, ◌+◌, ◌==◌, nat_lt, Bool, true, false, cond, List, [], ◌∷◌, filter, map, Option, Some, None, refl, sym, ◌∙◌, ap, subst, inl, inr, arith}
 use Rattle.std.proofs.lemmas.Bool.Decides.{nat_tests}
+use Rattle.role_steps.proofs.of_plain_facts.Numbers.{equal}
+use Rattle.role_steps.proofs.of_plain_facts.Options.{some_same}
 use Rattle.locus_ids.specs.declared.config.Config.{Config}
 use Rattle.wire_messages.specs.declared.packet.Packet.{Packet}
 use Rattle.role_steps.specs.Own.{Every, IsOwn as IsOwnPacket, Sends}
@@ -14,14 +16,13 @@ use Rattle.the_run.specs.Kept.{Among, Kept}
 use Rattle.the_run.proofs.Boots.{Reached, boots_reached, at_each, acts_cases, every_newest, every_numbered, every_weaker}
 use Rattle.the_run.proofs.Events.{happened_keeps, puts_other, puts_same}
 use Rattle.the_run.proofs.InsideSync.{every_without}
-use Rattle.the_run.proofs.Runs.{some_eq}
 use Rattle.role_steps.proofs.Sending.{every_append}
 use Rattle.the_run.proofs.StepSends.{step_sends}
 use Rattle.make_laws.specs.Made.{IsSender, NumberedSender, IsPlaced, WorldSent}
 
 places_of : (s : ℕ) (new : Place) (w : World) → IsPlaced s new → ((t : ℕ) (p : Place) → place_at w t ≡ Some p → IsPlaced t p) → (t : ℕ) (p : Place) → place_at (puts s new w) t ≡ Some p → IsPlaced t p
 places_of s new w h g t p here = at_each s t (IsPlaced t p)
-    (λ e. subst (λ (n : ℕ). IsPlaced n p) e (subst (IsPlaced s) (some_eq new p (sym (puts_same s new w) ∙ (ap (place_at (puts s new w)) e ∙ here))) h))
+    (λ e. subst (λ (n : ℕ). IsPlaced n p) e (subst (IsPlaced s) (some_same new p (sym (puts_same s new w) ∙ (ap (place_at (puts s new w)) e ∙ here))) h))
     (λ ne. g t p (sym (puts_other s t new w ne) ∙ here))
 
 happened_sent : (n : ℕ) (ps : List Packet) (told : List Told) (change : World → World) (w : World) → (change w).sent ≡ w.sent → (change w).underway ≡ w.underway → ((t : ℕ) (p : Place) → place_at (change w) t ≡ Some p → IsPlaced t p) → Every IsSender ps → WorldSent w → WorldSent (happened n ps told change w)
@@ -84,9 +85,6 @@ sent_kept c = record {
 none_place : (p : Place) → ◌≡◌ {A = Option Place} None (Some p) → ⊥
 none_place p e = cc
 
-test_same : (a b : ℕ) → (a == b) ≡ true → a ≡ b
-test_same a b e = grind (arith, nat_tests)
-
 filtered : (test : ℕ → Bool) (ss : List ℕ) → Every (λ (s : ℕ). Among s all_sites) ss → Every (λ (s : ℕ). Among s all_sites) (filter test ss)
 filtered test [] h = tt
 filtered test (s ∷ ss) h = elim (test s) as (λ b. Every (λ (n : ℕ). Among n all_sites) (cond b (s ∷ filter test ss) (filter test ss))) [ true ↦ (h.0, filtered test ss h.1) | false ↦ filtered test ss h.1 ]
@@ -99,7 +97,7 @@ first_placed : (c : Config) (ss : List ℕ) → Every (λ (s : ℕ). Among s all
 first_placed c [] h s p e = absurd (none_place p e)
 first_placed c (t ∷ ts) h s p e =
     (elim (t == s) as (λ b. (t == s) ≡ b → place_in (elim b [ true ↦ Some (first_place c t) | false ↦ row place_site s (map (first_place c) ts) ]) ≡ Some p → IsPlaced s p) [
-      | true ↦ λ q f. subst (λ (x : Place). IsPlaced s x) (some_eq (Running (fresh 1 (formatted c t))) p f) (record { site = subst (λ (n : ℕ). Among n all_sites) (test_same t s q) h.0; boot = omega arith })
+      | true ↦ λ q f. subst (λ (x : Place). IsPlaced s x) (some_same (Running (fresh 1 (formatted c t))) p f) (record { site = subst (λ (n : ℕ). Among n all_sites) (equal t s q) h.0; boot = omega arith })
       | false ↦ λ q f. first_placed c ts h.1 s p f
     ]) refl e
 

@@ -1,5 +1,6 @@
 -- Closes at a synchronization site, and what is held: what its table knows of files that are being made.
 use Rattle.std.proofs.Common.{◌≡◌, ℕ, Bool, true, false, cond, ◌⊎◌, List, [], ◌∷◌, Option, Some, None, refl, sym, ◌∙◌, ap, subst, inl, inr}
+use Rattle.role_steps.proofs.of_plain_facts.Options.{some_same}
 use Rattle.locus_ids.specs.declared.ids.EpochId.{EpochId}
 use Rattle.locus_ids.specs.declared.ids.FileId.{FileId}
 use Rattle.locus_ids.specs.declared.ids.Mode.{Mode}
@@ -20,8 +21,8 @@ use Rattle.role_steps.specs.declared.synchronizing.FileRow.{FileRow}
 use Rattle.role_steps.specs.declared.synchronizing.OpenRow.{OpenRow}
 use Rattle.role_steps.specs.declared.synchronizing.OpenStage.{OpenStage}
 use Rattle.role_steps.specs.declared.synchronizing.OpenStage.TheVariants as stage
-use Rattle.vector_laws.proofs.SyncFacts.{FoundAt, row_at}
-use Rattle.lock_laws.specs.Locks.{IsOfAFile}
+use Rattle.pack_laws.proofs.of_vector_laws.SyncFacts.{FoundAt, row_at}
+use Rattle.pack_laws.specs.of_lock_laws.Locks.{IsOfAFile}
 use Rattle.role_steps.specs.Versions.{row_ino, kept, with_version, with_holder, known_or, unknown_file, version_of, rises_to, noted_at, noted_of, noted, holding_of}
 use Rattle.role_steps.specs.Opens.{open_key}
 use Rattle.role_steps.specs.Reports.{published_row, stamp_made}
@@ -29,13 +30,13 @@ use Rattle.role_steps.specs.declared.synchronizing.VersionRow.{VersionRow}
 use Rattle.role_steps.specs.declared.synchronizing.Holding.{Holding}
 use Rattle.the_run.proofs.Boots.{every_weaker}
 use Rattle.the_run.proofs.InsideSync.{every_row}
-use Rattle.vector_laws.specs.Written.{WasTold, WasGranted, InstancesAgree}
-use Rattle.vector_laws.specs.Facts.{file_in, MadeFact}
-use Rattle.vector_laws.proofs.SyncFacts.{every_latest, file_eq}
-use Rattle.lock_laws.specs.Going.{WasReleased, WasStarted}
-use Rattle.lock_laws.specs.Grants.{WasGrantedAs}
-use Rattle.lock_laws.proofs.GrantTold.{latest_same, some_same}
-use Rattle.lock_laws.proofs.Facts.{one_later}
+use Rattle.pack_laws.specs.of_vector_laws.Written.{WasTold, WasGranted, InstancesAgree}
+use Rattle.pack_laws.specs.of_vector_laws.Facts.{file_in, MadeFact}
+use Rattle.pack_laws.proofs.of_vector_laws.SyncFacts.{every_latest, file_eq}
+use Rattle.pack_laws.specs.of_lock_laws.Going.{WasReleased, WasStarted}
+use Rattle.pack_laws.specs.of_lock_laws.Grants.{WasGrantedAs}
+use Rattle.pack_laws.proofs.of_lock_laws.GrantTold.{latest_same}
+use Rattle.pack_laws.proofs.of_lock_laws.Facts.{one_later}
 use Rattle.pack_laws.specs.Making.{NotEmpty}
 use Rattle.make_laws.specs.Holding.{WasReserved}
 use Rattle.make_laws.specs.Tables.{IsKnown, IsFree, ReleasedOn, RowMade, IsKept, StageMade, OpenMade, HasEnded, TableMade, Ordered}

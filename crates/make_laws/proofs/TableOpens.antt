@@ -1,5 +1,7 @@
 -- Opens and looks at a synchronization site: what its table knows of files that are being made.
 use Rattle.std.proofs.Common.{◌≡◌, ℕ, ◌==◌, Bool, true, false, List, [], ◌∷◌, ◌++◌, Option, Some, None, refl, sym, ◌∙◌, ap, subst, inl}
+use Rattle.role_steps.proofs.of_plain_facts.Numbers.{equal}
+use Rattle.role_steps.proofs.of_plain_facts.Options.{none_some, some_same}
 use Rattle.locus_ids.specs.declared.ids.EpochId.{EpochId}
 use Rattle.locus_ids.specs.declared.ids.FileId.{FileId}
 use Rattle.locus_ids.specs.declared.ids.Mode.{Mode}
@@ -22,14 +24,14 @@ use Rattle.role_steps.specs.declared.synchronizing.OpenRow.{OpenRow}
 use Rattle.role_steps.specs.declared.synchronizing.OpenStage.{OpenStage}
 use Rattle.role_steps.specs.declared.synchronizing.OpenStage.TheVariants as stage
 use Rattle.role_steps.proofs.Sending.{every_append}
-use Rattle.vector_laws.specs.Facts.{onto}
-use Rattle.vector_laws.proofs.Facts.{onto_append}
-use Rattle.vector_laws.proofs.SyncFacts.{FoundAt, row_at}
-use Rattle.lock_laws.specs.Locks.{IsOfAFile}
-use Rattle.lock_laws.proofs.Apart.{same_numbered}
-use Rattle.lock_laws.proofs.GrantTold.{latest_other, latest_same, test_same, none_some, some_same}
-use Rattle.lock_laws.proofs.Apart.{none_excludes}
-use Rattle.lock_laws.specs.Grants.{WasGrantedAs}
+use Rattle.pack_laws.specs.of_vector_laws.Facts.{onto}
+use Rattle.pack_laws.proofs.of_vector_laws.Facts.{onto_append}
+use Rattle.pack_laws.proofs.of_vector_laws.SyncFacts.{FoundAt, row_at}
+use Rattle.pack_laws.specs.of_lock_laws.Locks.{IsOfAFile}
+use Rattle.pack_laws.proofs.of_lock_laws.Apart.{same_numbered}
+use Rattle.pack_laws.proofs.of_lock_laws.GrantTold.{latest_other, latest_same}
+use Rattle.pack_laws.proofs.of_lock_laws.Apart.{none_excludes}
+use Rattle.pack_laws.specs.of_lock_laws.Grants.{WasGrantedAs}
 use Rattle.commit_graph.specs.Grants.{Opener, excluder, kept_refusal, grant_refusal}
 use Rattle.locus_ids.specs.declared.refusal.Refusal.{Refusal}
 use Rattle.locus_ids.specs.declared.refusal.Refusal.TheVariants as refusal
@@ -38,8 +40,8 @@ use Rattle.wire_messages.specs.declared.body.Opening.TheVariants as how
 use Rattle.role_steps.specs.Versions.{row_ino, kept, stamps_of}
 use Rattle.role_steps.specs.Opens.{mode_of, openers, numbered_file, grant_on, unless_refused, file_decision}
 use Rattle.role_steps.specs.declared.synchronizing.VersionRow.{VersionRow}
-use Rattle.vector_laws.specs.Facts.{file_in}
-use Rattle.vector_laws.proofs.SyncFacts.{every_latest, file_eq}
+use Rattle.pack_laws.specs.of_vector_laws.Facts.{file_in}
+use Rattle.pack_laws.proofs.of_vector_laws.SyncFacts.{every_latest, file_eq}
 use Rattle.pack_laws.specs.Making.{NotEmpty}
 use Rattle.make_laws.specs.Tables.{IsKnown, IsFree, RowMade, IsKept, StageMade, OpenMade, HasEnded, TableMade, PlainTold}
 use Rattle.make_laws.proofs.Telling.{Here}
@@ -92,7 +94,7 @@ new_ended : (rs : List OpenRow) (new : OpenRow) (key : ℕ) → row open_key (op
 new_ended rs new key none h = record { ended = h.ended; found = by_key (open_key new == key) refl; stage_is = h.stage_is }
   where
     by_key : (b : Bool) → (open_key new == key) ≡ b → row open_key key (with_latest open_key new rs) ≡ Some h.ended
-    by_key true e = absurd (none_some h.ended (sym none ∙ subst (λ (k : ℕ). row open_key k rs ≡ Some h.ended) (sym (test_same (open_key new) key e)) h.found))
+    by_key true e = absurd (none_some h.ended (sym none ∙ subst (λ (k : ℕ). row open_key k rs ≡ Some h.ended) (sym (equal (open_key new) key e)) h.found))
     by_key false e = latest_other open_key new key rs e ∙ h.found
 
 pub put_ended : (rs : List OpenRow) (r new : OpenRow) (key : ℕ) → row open_key (open_key new) rs ≡ Some r → (r.stage ≡ stage.Ended → new.stage ≡ stage.Ended) → HasEnded rs key → HasEnded (with_latest open_key new rs) key
@@ -100,7 +102,7 @@ put_ended rs r new key found ends h = by_key (open_key new == key) refl
   where
     by_key : (b : Bool) → (open_key new == key) ≡ b → HasEnded (with_latest open_key new rs) key
     by_key true e =
-        let k : open_key new ≡ key = test_same (open_key new) key e in
+        let k : open_key new ≡ key = equal (open_key new) key e in
         let is : r ≡ h.ended = some_same r h.ended (sym found ∙ subst (λ (n : ℕ). row open_key n rs ≡ Some h.ended) (sym k) h.found) in
         record { ended = new; found = subst (λ (n : ℕ). row open_key n (with_latest open_key new rs) ≡ Some new) k (latest_same open_key new rs); stage_is = ends (ap (λ (x : OpenRow). x.stage) is ∙ h.stage_is) }
     by_key false e = record { ended = h.ended; found = latest_other open_key new key rs e ∙ h.found; stage_is = h.stage_is }

@@ -26,9 +26,10 @@ use Rattle.role_steps.specs.declared.synchronizing.OpenStage.TheVariants as stag
 use Rattle.role_steps.specs.declared.synchronizing.LastLook.{LastLook}
 use Rattle.role_steps.specs.declared.synchronizing.Early.{Early}
 use Rattle.role_steps.proofs.Sending.{every_append}
-use Rattle.vector_laws.specs.Facts.{onto, WaitingFact, EarlyFact}
-use Rattle.vector_laws.proofs.SyncFacts.{FoundAt, row_at}
+use Rattle.pack_laws.specs.of_vector_laws.Facts.{onto, WaitingFact, EarlyFact}
+use Rattle.pack_laws.proofs.of_vector_laws.SyncFacts.{FoundAt, row_at}
 use Rattle.std.specs.List.{list_all}
+use Rattle.role_steps.proofs.of_plain_facts.Numbers.{equal}
 use Rattle.locus_ids.specs.Sites.{with_site}
 use Rattle.role_steps.specs.Views.{members_of, pack_sites}
 use Rattle.role_steps.specs.Tables.{with_row}
@@ -39,9 +40,8 @@ use Rattle.role_steps.proofs.Rows.{row_other, row_same}
 use Rattle.the_run.specs.Kept.{Among}
 use Rattle.the_run.proofs.Boots.{every_weaker}
 use Rattle.the_run.proofs.InsideSync.{every_row}
-use Rattle.vector_laws.specs.Written.{WasTold}
-use Rattle.vector_laws.specs.Facts.{file_in, ReportedFact}
-use Rattle.lock_laws.proofs.GrantTold.{test_same}
+use Rattle.pack_laws.specs.of_vector_laws.Written.{WasTold}
+use Rattle.pack_laws.specs.of_vector_laws.Facts.{file_in, ReportedFact}
 use Rattle.pack_laws.specs.Making.{NotEmpty}
 use Rattle.make_laws.specs.Tables.{IsKnown, ReleasedOn, RowMade, IsKept, StageMade, OpenMade, HasEnded, Ordered}
 use Rattle.make_laws.proofs.Telling.{Here}
@@ -165,7 +165,7 @@ kept_put : (files : List FileRow) (r : FileRow) (ino : ℕ) → (row_ino r ≡ i
 kept_put files r ino still h = by_key (row_ino r == ino) refl
   where
     by_key : (b : Bool) → (row_ino r == ino) ≡ b → IsKept (with_row row_ino r files) ino
-    by_key true e = let k : row_ino r ≡ ino = test_same (row_ino r) ino e in subst (λ (n : ℕ). NotEmpty (kept (row row_ino n (with_row row_ino r files)))) k (subst (λ (o : Option FileRow). NotEmpty (kept o)) (sym (row_same row_ino r files)) (still k h))
+    by_key true e = let k : row_ino r ≡ ino = equal (row_ino r) ino e in subst (λ (n : ℕ). NotEmpty (kept (row row_ino n (with_row row_ino r files)))) k (subst (λ (o : Option FileRow). NotEmpty (kept o)) (sym (row_same row_ino r files)) (still k h))
     by_key false e = subst (λ (o : Option FileRow). NotEmpty (kept o)) (sym (row_other row_ino r ino files e)) h
 
 stage_put : (past : List Told) (e : EpochId) (files : List FileRow) (r : FileRow) (q : OpenRow) (s : OpenStage) → (row_ino r ≡ q.file.ino → IsKept files q.file.ino → NotEmpty r.kept) → StageMade past e files q s → StageMade past e (with_row row_ino r files) q s

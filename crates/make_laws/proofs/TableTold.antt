@@ -17,12 +17,12 @@ use Rattle.role_steps.specs.declared.synchronizing.OpenRow.{OpenRow}
 use Rattle.role_steps.specs.declared.synchronizing.OpenStage.{OpenStage}
 use Rattle.role_steps.specs.declared.synchronizing.OpenStage.TheVariants as stage
 use Rattle.the_run.proofs.Boots.{every_weaker}
-use Rattle.vector_laws.specs.Written.{WasTold, WrittenAs, IsWrittenBy, IsCommitOf, GrantedRecord, Granted, WasGranted}
-use Rattle.vector_laws.specs.Facts.{onto, file_in}
-use Rattle.lock_laws.specs.Going.{BegunAt, WasBegunAt, StartedRecord, Started, WasStarted, ReleasedRecord, Released, WasReleased, RecordGoesOn, InstanceGoesOn, InstancesGoOn}
-use Rattle.lock_laws.specs.Grants.{GrantedAsRecord, GrantedAs, WasGrantedAs}
-use Rattle.lock_laws.proofs.Facts.{Later, one_later}
-use Rattle.lock_laws.proofs.GrantSites.{orderly_before}
+use Rattle.pack_laws.specs.of_vector_laws.Written.{WasTold, WrittenAs, IsWrittenBy, IsCommitOf, GrantedRecord, Granted, WasGranted}
+use Rattle.pack_laws.specs.of_vector_laws.Facts.{onto, file_in}
+use Rattle.pack_laws.specs.of_lock_laws.Going.{BegunAt, WasBegunAt, StartedRecord, Started, WasStarted, ReleasedRecord, Released, WasReleased, RecordGoesOn, InstanceGoesOn, InstancesGoOn}
+use Rattle.pack_laws.specs.of_lock_laws.Grants.{GrantedAsRecord, GrantedAs, WasGrantedAs}
+use Rattle.pack_laws.proofs.of_lock_laws.Facts.{Later, one_later}
+use Rattle.pack_laws.proofs.of_lock_laws.GrantSites.{orderly_before}
 use Rattle.pack_laws.specs.Making.{CommitsRecord, CommitsFile, WasCommitted}
 use Rattle.make_laws.specs.Fresh.{FreshTold, NumbersAreFresh}
 use Rattle.make_laws.specs.Holding.{ReservedAt, WasReserved, ReservedRecord, ReservedTold, MakesAreReserved, ApartTold, ReservesAreApart}

@@ -1,5 +1,6 @@
 -- What an event of the world leaves of what tables know of files that are being made.
 use Rattle.std.proofs.Common.{◌≡◌, ◌≢◌, ℕ, Bool, true, false, cond, List, [], ◌∷◌, Option, Some, None, refl, sym, ◌∙◌, ap, subst, inl, inr}
+use Rattle.role_steps.proofs.of_plain_facts.Options.{some_same as some_eq, some_same}
 use Rattle.locus_ids.specs.declared.ids.EpochId.{EpochId}
 use Rattle.locus_ids.specs.declared.sites.Members.{Members}
 use Rattle.locus_ids.specs.declared.config.Config.{Config}
@@ -17,14 +18,13 @@ use Rattle.the_run.specs.Worlds.{World, Running, Stopped, place_at, happened, to
 use Rattle.the_run.specs.Runs.{boots_as}
 use Rattle.the_run.proofs.Boots.{at_each, acts_cases, every_weaker}
 use Rattle.the_run.proofs.Events.{happened_keeps, puts_other, puts_same}
-use Rattle.the_run.proofs.Runs.{some_eq}
-use Rattle.vector_laws.specs.Written.{past_of}
-use Rattle.vector_laws.specs.Held.{IsOf, Writes, OnDisk}
-use Rattle.vector_laws.specs.Facts.{onto}
-use Rattle.vector_laws.proofs.FactsRun.{past_onto}
-use Rattle.lock_laws.specs.Joins.{WasJoined}
-use Rattle.lock_laws.proofs.Facts.{onto_later}
-use Rattle.lock_laws.proofs.GrantSites.{OneTold, SyncedBy}
+use Rattle.pack_laws.specs.of_vector_laws.Written.{past_of}
+use Rattle.pack_laws.specs.of_vector_laws.Held.{IsOf, Writes, OnDisk}
+use Rattle.pack_laws.specs.of_vector_laws.Facts.{onto}
+use Rattle.pack_laws.proofs.of_vector_laws.FactsRun.{past_onto}
+use Rattle.pack_laws.specs.of_lock_laws.Joins.{WasJoined}
+use Rattle.pack_laws.proofs.of_lock_laws.Facts.{onto_later}
+use Rattle.pack_laws.proofs.of_lock_laws.GrantSites.{OneTold, SyncedBy}
 use Rattle.make_laws.specs.Tables.{TableMade, Ordered, PlainGrantsAreFree}
 use Rattle.make_laws.proofs.Telling.{AsideRecord, Aside}
 use Rattle.make_laws.proofs.TableTold.{ordered_before, all_fresh, IsForeign, not_tabular, table_later}
@@ -44,9 +44,6 @@ all_plain [] past h g = g
 all_plain (x ∷ xs) past h g = all_plain xs (x ∷ past) h.1 (h.0, g)
 
 -- ---- another site's event ----
-
-some_same : (a b : ℕ) → ◌≡◌ {A = Option ℕ} (Some a) (Some b) → a ≡ b
-some_same a b e = cc
 
 not_there : (c : Config) (now : List Told) (s t : ℕ) (e : EpochId) (members : Members) (group : ℕ) → s ≢ t → OneTold now → WasJoined now t e members → sync_site c members group ≡ Some t → SyncedBy c now e group s → ⊥
 not_there c now s t e members group ne one joined synced h =
@@ -134,7 +131,7 @@ acts_fact c n s v o w here bare step g =
     acts_cases (WhereOrdered c) n s v o w
     (happened_fact c s n o.sent o.told (λ now. puts s (Running o.view) now) w owed g)
     (λ a. happened_fact c s n o.sent o.told (λ now. puts s (Running o.view) (arms a now)) w (λ order f. (let r : Owed c o.told (λ now. puts s (Running o.view) now) w s = owed order f in record { by = r.by; plain = r.plain; views = r.views })) g)
-    (λ d a e. cut_fact c n s d (cut_disk v.boot v.store d a.how a.left) (cause_of a.how) (is_on_disk d a.how a.left) w (subst AsideWrite e bare) g)
+    (λ d a e. cut_fact c n s d (cut_disk v.boot v.store d a.how a.left) (cause_of a.how) (is_on_disk v.store d a.how a.left) w (subst AsideWrite e bare) g)
   where
     owed : Ordered (onto o.told (past_of w.trace)) → WorldTables c w → Owed c o.told (λ now. puts s (Running o.view) now) w s
     owed order f = let k : SiteKeeps c s (past_of w.trace) o = step f.synced order (f.views s v here) in record { by = k.by; plain = k.plain; views = views_of c s o w order k f }

@@ -53,25 +53,9 @@ AnyGroup group = Unit {0}
 abbrev pub Plain : Told → Type 0
 Plain x = At AnyGroup x
 
-record_at : (G H : Groups) → ((g : ℕ) → G g → H g) → (r : Record) → AtRecord G r → AtRecord H r
-record_at G H l (says.Start e group brought) h = l group h
-record_at G H l _ h = tt
-
-told_at : (G H : Groups) → ((g : ℕ) → G g → H g) → (x : Told) → At G x → At H x
-told_at G H l (Shown r) h = record_at G H l r h
-told_at G H l (Begins s e inst file) h = absurd h
-told_at G H l (Reserves s e inst file) h = absurd h
-told_at G H l _ h = tt
-
 pub any_record : (r : Record) → AtRecord AnyGroup r
 any_record (says.Start e group brought) = tt
 any_record _ = tt
-
-pub at_later : (G H : Groups) → ((g : ℕ) → G g → H g) → (xs : List Told) → Every (At G) xs → Every (At H) xs
-at_later G H l xs h = every_weaker (At G) (At H) xs (told_at G H l) h
-
-pub at_plain : (G : Groups) (xs : List Told) → Every (At G) xs → Every Plain xs
-at_plain G xs h = at_later G AnyGroup (λ g k. tt) xs h
 
 idle_record : (G : Groups) (r : Record) → IdleRecord r → AtRecord G r
 idle_record G (says.Start e group brought) h = absurd h
@@ -117,24 +101,6 @@ Here e group (Begins s at inst file) = ⊥
 Here e group (Shuts s at inst) = ⊥
 Here e group (Reserves s at inst file) = ⊥
 Here e group _ = Unit {0}
-
-abbrev pub ThereRecord : ℕ → Record → Type 0
-ThereRecord me (says.Start e group brought) = ⊥
-ThereRecord me (says.Grant e call request inst m file stamp ss) = ⊥
-ThereRecord me (says.Refuse e call request inst m file why) = ⊥
-ThereRecord me (says.Release e inst file made) = ⊥
-ThereRecord me (says.Join s id members) = ⊥
-ThereRecord me (says.Commit file s stamp parents content) = s ≡ me
-ThereRecord me (says.Adopt file s stamp) = s ≡ me
-ThereRecord me _ = Unit {0}
-
--- what the store of a site may tell in an epoch
-abbrev pub There : ℕ → EpochId → Told → Type 0
-There me e (Shown r) = ThereRecord me r
-There me e (Begins s at inst file) = (s ≡ me) × (at ≡ e)
-There me e (Shuts s at inst) = (s ≡ me) × (at ≡ e)
-There me e (Reserves s at inst file) = (s ≡ me) × (at ≡ e)
-There me e _ = Unit {0}
 
 -- ---- what tells nothing of a table, nor reserves a number ----
 

@@ -1,5 +1,6 @@
 -- What the laws of vectors carry of packets and views is kept by all that happens: it can stand beside other facts.
 use Rattle.std.proofs.Common.{◌≡◌, ℕ, ◌+◌, ◌==◌, Bool, true, false, cond, List, [], ◌∷◌, map, Option, Some, None, refl, sym, ◌∙◌, ap, subst, inl, inr}
+use Rattle.role_steps.proofs.of_plain_facts.Options.{some_same}
 use Rattle.locus_ids.specs.declared.config.Config.{Config}
 use Rattle.trace_book.specs.declared.record.Record.TheVariants as says
 use Rattle.trace_book.specs.declared.record.StopCause.{StopCause}
@@ -19,18 +20,17 @@ use Rattle.the_run.specs.Kept.{WasSent, IsOwn, Kept}
 use Rattle.the_run.proofs.Boots.{at_each, acts_cases, every_newest, every_numbered, every_weaker}
 use Rattle.the_run.proofs.Events.{happened_keeps, puts_other, puts_same}
 use Rattle.the_run.proofs.InsideSync.{every_row, every_without}
-use Rattle.the_run.proofs.Runs.{some_eq}
-use Rattle.run_laws.specs.Naming.{Deeds, DeedsOf, Good}
-use Rattle.run_laws.proofs.Run.{good_kept, first_good, found_among, was_sent}
-use Rattle.run_laws.proofs.Steps.{EventNames}
-use Rattle.vector_laws.specs.Held.{copies_on}
-use Rattle.vector_laws.specs.Written.{past_of, InstancesAgree, CommitsAreNumbered}
-use Rattle.vector_laws.specs.Facts.{PacketFact, CopyFact, ViewFact, NotCommit, NumberedAll, DiskFact, onto, NumberedFact, WorldFact, WhereAgreed}
-use Rattle.vector_laws.proofs.Facts.{Later, onto_later, body_later, copies_later, view_later, agree_before, numbered_none}
-use Rattle.vector_laws.proofs.SyncFacts.{seen_none}
-use Rattle.vector_laws.proofs.StepFacts.{EventFact, step_fact}
-use Rattle.vector_laws.proofs.SiteFacts.{SiteFine}
-use Rattle.vector_laws.proofs.Held.{KeepsCopies, boots_copies}
+use Rattle.pack_laws.specs.of_run_laws.Naming.{Deeds, DeedsOf, Good}
+use Rattle.pack_laws.proofs.of_run_laws.Run.{good_kept, first_good, found_among, was_sent}
+use Rattle.pack_laws.proofs.of_run_laws.Steps.{EventNames}
+use Rattle.pack_laws.specs.of_vector_laws.Held.{copies_on}
+use Rattle.pack_laws.specs.of_vector_laws.Written.{past_of, InstancesAgree, CommitsAreNumbered}
+use Rattle.pack_laws.specs.of_vector_laws.Facts.{PacketFact, CopyFact, ViewFact, NotCommit, NumberedAll, DiskFact, onto, NumberedFact, WorldFact, WhereAgreed}
+use Rattle.pack_laws.proofs.of_vector_laws.Facts.{Later, onto_later, body_later, copies_later, view_later, agree_before, numbered_none}
+use Rattle.pack_laws.proofs.of_vector_laws.SyncFacts.{seen_none}
+use Rattle.pack_laws.proofs.of_vector_laws.StepFacts.{EventFact, step_fact}
+use Rattle.pack_laws.proofs.of_vector_laws.SiteFacts.{SiteFine}
+use Rattle.pack_laws.proofs.of_vector_laws.Held.{KeepsCopies, boots_copies}
 
 -- ---- the trace ----
 
@@ -111,7 +111,7 @@ old_place past now w l e f t p here = record {
 
 places_of : (s : ℕ) (new : Place) (told : List Told) (w : World) → WorldFact w → PlaceFact (onto told (past_of w.trace)) new → (t : ℕ) (p : Place) → place_at (puts s new w) t ≡ Some p → PlaceFact (onto told (past_of w.trace)) p
 places_of s new told w f fine t p here = at_each s t (PlaceFact (onto told (past_of w.trace)) p)
-    (λ e. subst (PlaceFact (onto told (past_of w.trace))) (some_eq new p (sym (puts_same s new w) ∙ (ap (place_at (puts s new w)) e ∙ here))) fine)
+    (λ e. subst (PlaceFact (onto told (past_of w.trace))) (some_same new p (sym (puts_same s new w) ∙ (ap (place_at (puts s new w)) e ∙ here))) fine)
     (λ ne. old_place (past_of w.trace) (onto told (past_of w.trace)) w (onto_later told (past_of w.trace)) refl f t p (sym (puts_other s t new w ne) ∙ here))
 
 -- a stop that leaves the disk as it is
@@ -154,7 +154,7 @@ acts_fact n s v o w here fine g =
     acts_cases WhereAgreed n s v o w
     (happened_fact n o.sent o.told (λ now. puts s (Running o.view) now) w owed refl refl g)
     (λ a. happened_fact n o.sent o.told (λ now. puts s (Running o.view) (arms a now)) w (λ h f. (let r : Owed o.told o.sent (λ now. puts s (Running o.view) now) w = owed h f in record { numbered = r.numbered; sent = r.sent; places = r.places })) refl refl g)
-    (λ d a e. cut_fact n s v d (cut_disk v.boot v.store d a.how a.left) (cause_of a.how) (is_on_disk d a.how a.left) w here refl (λ h f. (let k : SiteFine (past_of w.trace) o = fine h f in subst (DiskFact (past_of w.trace)) e k.disk)) g)
+    (λ d a e. cut_fact n s v d (cut_disk v.boot v.store d a.how a.left) (cause_of a.how) (is_on_disk v.store d a.how a.left) w here refl (λ h f. (let k : SiteFine (past_of w.trace) o = fine h f in subst (DiskFact (past_of w.trace)) e k.disk)) g)
   where
     owed : InstancesAgree (past_of w.trace) → WorldFact w → Owed o.told o.sent (λ now. puts s (Running o.view) now) w
     owed h f = let k : SiteFine (past_of w.trace) o = fine h f in record { numbered = k.numbered; sent = k.sent; places = places_of s (Running o.view) o.told w f (running_fact (onto o.told (past_of w.trace)) o.view k.view) }
@@ -260,7 +260,7 @@ first_fact : (c : Config) (ss : List ℕ) (s : ℕ) (p : Place) → place_in (ro
 first_fact c [] s p e = absurd (none_place p e)
 first_fact c (t ∷ ts) s p e =
     (elim (t == s) as (λ b. place_in (elim b [ true ↦ Some (first_place c t) | false ↦ row place_site s (map (first_place c) ts) ]) ≡ Some p → PlaceFact [] p) [
-      | true ↦ λ f. subst (PlaceFact []) (some_eq (Running (fresh 1 (formatted c t))) p f) (running_fact [] (fresh 1 (formatted c t)) (record { copies = formatted_fact c t; pulls = tt; inside = refl }))
+      | true ↦ λ f. subst (PlaceFact []) (some_same (Running (fresh 1 (formatted c t))) p f) (running_fact [] (fresh 1 (formatted c t)) (record { copies = formatted_fact c t; pulls = tt; inside = refl }))
       | false ↦ λ f. first_fact c ts s p f
     ]) e
 

@@ -7,9 +7,9 @@ use Rattle.locus_ids.specs.declared.ids.Mode.TheVariants as mode
 use Rattle.trace_book.specs.declared.record.Record.{Record}
 use Rattle.trace_book.specs.declared.record.Record.TheVariants as says
 use Rattle.role_steps.specs.Views.{Told, Shown, Reserves, serial_key}
-use Rattle.vector_laws.specs.Written.{WasTold}
-use Rattle.lock_laws.specs.Going.{WasBegunAt, WasReleased}
-use Rattle.lock_laws.specs.Grants.{WasGrantedAs}
+use Rattle.pack_laws.specs.of_vector_laws.Written.{WasTold}
+use Rattle.pack_laws.specs.of_lock_laws.Going.{WasBegunAt, WasReleased}
+use Rattle.pack_laws.specs.of_lock_laws.Grants.{WasGrantedAs}
 
 -- this storage site reserved the number of the file for the instance of this key
 abbrev pub ReservedAt : ℕ → EpochId → ℕ → FileId → Told → Type 0

@@ -8,3 +8,6 @@ pub mod Locked
 pub mod First
 pub mod Reporting
 pub mod Naming
+pub use Rattle.pack_laws.specs as of_pack_laws
+pub use Rattle.pack_laws.specs.of_lock_laws as of_lock_laws
+pub use Rattle.pack_laws.specs.of_vector_laws as of_vector_laws

@@ -8,10 +8,10 @@ use Rattle.commit_graph.specs.Grants.{is_read}
 use Rattle.trace_book.specs.declared.record.Record.{Record}
 use Rattle.trace_book.specs.declared.record.Record.TheVariants as says
 use Rattle.role_steps.specs.Views.{Told, Shown, Reserves, serial_key}
-use Rattle.vector_laws.specs.Written.{WasTold}
-use Rattle.lock_laws.specs.Going.{WasReleased}
-use Rattle.lock_laws.specs.Grants.{IsOver}
-use Rattle.lock_laws.specs.Locks.{IsOfAFile}
+use Rattle.pack_laws.specs.of_vector_laws.Written.{WasTold}
+use Rattle.pack_laws.specs.of_lock_laws.Going.{WasReleased}
+use Rattle.pack_laws.specs.of_lock_laws.Grants.{IsOver}
+use Rattle.pack_laws.specs.of_lock_laws.Locks.{IsOfAFile}
 
 abbrev pub HeldRecord : EpochId → ℕ → FileId → Mode → Record → Type 0
 HeldRecord e key file m (says.Grant at call request inst mode of stamp ss) = (at ≡ e) × (serial_key inst ≡ key) × (of ≡ file) × (mode ≡ m) × IsOfAFile m

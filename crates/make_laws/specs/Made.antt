@@ -17,10 +17,10 @@ use Rattle.role_steps.specs.declared.synchronizing.SyncTable.{SyncTable}
 use Rattle.the_run.specs.Kept.{Among}
 use Rattle.the_run.specs.Laws.{boot_on}
 use Rattle.the_run.specs.Worlds.{World, Place, Running, Numbered, place_at}
-use Rattle.vector_laws.specs.Held.{copies_on}
-use Rattle.vector_laws.specs.Written.{past_of}
-use Rattle.vector_laws.specs.HistoryCommits.{NumbersFit}
-use Rattle.lock_laws.specs.Going.{WasBegunAt, InstancesGoOn}
+use Rattle.pack_laws.specs.of_vector_laws.Held.{copies_on}
+use Rattle.pack_laws.specs.of_vector_laws.Written.{past_of}
+use Rattle.pack_laws.specs.of_vector_laws.HistoryCommits.{NumbersFit}
+use Rattle.pack_laws.specs.of_lock_laws.Going.{WasBegunAt, InstancesGoOn}
 use Rattle.pack_laws.specs.Packs.{HasPack, ToldPacked}
 use Rattle.pack_laws.specs.Making.{WasCommittedAt, FilesAreMadeAtHome, HomesCommitFirst}
 use Rattle.make_laws.specs.Fresh.{NumbersAreFresh}

@@ -5,8 +5,8 @@ use Rattle.locus_ids.specs.declared.ids.FileId.{FileId}
 use Rattle.trace_book.specs.declared.record.Record.{Record}
 use Rattle.trace_book.specs.declared.record.Record.TheVariants as says
 use Rattle.role_steps.specs.Views.{Told, Shown, serial_key}
-use Rattle.vector_laws.specs.Written.{WasTold}
-use Rattle.lock_laws.specs.Going.{WasBegunAt}
+use Rattle.pack_laws.specs.of_vector_laws.Written.{WasTold}
+use Rattle.pack_laws.specs.of_lock_laws.Going.{WasBegunAt}
 
 -- the open was granted under this key at this storage site
 abbrev pub GrantedAtRecord : EpochId → ℕ → ℕ → Record → Type 0

@@ -8,8 +8,8 @@ use Rattle.role_steps.specs.declared.rounds.InEpoch.{InEpoch}
 use Rattle.role_steps.specs.declared.synchronizing.SyncTable.{SyncTable}
 use Rattle.the_run.specs.Kept.{Among}
 use Rattle.the_run.specs.Worlds.{World, Running, place_at}
-use Rattle.vector_laws.specs.Written.{past_of}
-use Rattle.lock_laws.specs.Going.{WasStarted}
+use Rattle.pack_laws.specs.of_vector_laws.Written.{past_of}
+use Rattle.pack_laws.specs.of_lock_laws.Going.{WasStarted}
 
 pub record TableReports (c : Config) (past : List Told) (e : InEpoch) (t : SyncTable) : Type 0 where
   -- before it starts its group hasn't started in the epoch, and no open has a row

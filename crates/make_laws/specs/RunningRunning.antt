@@ -9,10 +9,10 @@ use Rattle.trace_book.specs.declared.record.Record.TheVariants as says
 use Rattle.role_steps.specs.Views.{Told, Shown, Begins, serial_key}
 use Rattle.the_run.specs.Kept.{Among}
 use Rattle.the_run.specs.Worlds.{World, Numbered}
-use Rattle.vector_laws.specs.Written.{past_of, WasTold}
-use Rattle.lock_laws.specs.Going.{WasBegunAt, WasShutAt, WasReleased}
-use Rattle.lock_laws.specs.Locks.{IsOfAFile}
-use Rattle.lock_laws.specs.Grants.{WasGrantedAs, Refused, IsOver}
+use Rattle.pack_laws.specs.of_vector_laws.Written.{past_of, WasTold}
+use Rattle.pack_laws.specs.of_lock_laws.Going.{WasBegunAt, WasShutAt, WasReleased}
+use Rattle.pack_laws.specs.of_lock_laws.Locks.{IsOfAFile}
+use Rattle.pack_laws.specs.of_lock_laws.Grants.{WasGrantedAs, Refused, IsOver}
 use Rattle.pack_laws.specs.WriterGranting.{GrantedThere}
 use Rattle.make_laws.specs.RunningStores.{AsksIn}
 

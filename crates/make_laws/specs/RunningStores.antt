@@ -15,9 +15,9 @@ use Rattle.role_steps.specs.declared.instances.Stage.TheVariants as stage
 use Rattle.role_steps.specs.declared.rounds.InEpoch.{InEpoch}
 use Rattle.the_run.specs.Kept.{Among}
 use Rattle.the_run.specs.Worlds.{World, Running, Numbered, place_at}
-use Rattle.vector_laws.specs.Written.{past_of}
+use Rattle.pack_laws.specs.of_vector_laws.Written.{past_of}
 use Rattle.pack_laws.specs.InstanceBook.{IsFor}
-use Rattle.lock_laws.specs.Going.{WasBegunAt, WasShutAt}
+use Rattle.pack_laws.specs.of_lock_laws.Going.{WasBegunAt, WasShutAt}
 
 -- the table has an instance under this key, on this file
 abbrev pub HasOn : List Instance → ℕ → FileId → Type 0

@@ -19,12 +19,12 @@ use Rattle.role_steps.specs.declared.synchronizing.FileRow.{FileRow}
 use Rattle.role_steps.specs.declared.synchronizing.OpenRow.{OpenRow}
 use Rattle.role_steps.specs.declared.synchronizing.OpenStage.{OpenStage}
 use Rattle.role_steps.specs.declared.synchronizing.OpenStage.TheVariants as stage
-use Rattle.vector_laws.specs.Written.{WasTold, InstancesAgree}
-use Rattle.vector_laws.specs.Facts.{file_in, EarlyFact}
-use Rattle.lock_laws.specs.Going.{WasReleased, WasStarted, InstancesGoOn}
-use Rattle.lock_laws.specs.Grants.{WasGrantedAs}
-use Rattle.lock_laws.specs.Locks.{IsOfAFile}
-use Rattle.lock_laws.proofs.GrantSites.{Orderly}
+use Rattle.pack_laws.specs.of_vector_laws.Written.{WasTold, InstancesAgree}
+use Rattle.pack_laws.specs.of_vector_laws.Facts.{file_in, EarlyFact}
+use Rattle.pack_laws.specs.of_lock_laws.Going.{WasReleased, WasStarted, InstancesGoOn}
+use Rattle.pack_laws.specs.of_lock_laws.Grants.{WasGrantedAs}
+use Rattle.pack_laws.specs.of_lock_laws.Locks.{IsOfAFile}
+use Rattle.pack_laws.proofs.of_lock_laws.GrantSites.{Orderly}
 use Rattle.pack_laws.specs.WriterGranting.{GrantsAreAlike}
 use Rattle.pack_laws.specs.Making.{NotEmpty, WasCommitted}
 use Rattle.make_laws.specs.Fresh.{NumbersAreFresh}

@@ -4,7 +4,7 @@ ghost use Rattle.std.specs.Prelude.{List};
 ghost use Rattle.locus_ids.specs.declared.config.Config.{Config};
 ghost use Rattle.schedule_lines.specs.declared.line.ScheduleLine.{ScheduleLine};
 ghost use Rattle.the_run.specs.Runs.{run_in};
-ghost use Rattle.vector_laws.specs.Written.{past_of};
+ghost use Rattle.pack_laws.specs.of_vector_laws.Written.{past_of};
 ghost use Rattle.make_laws.specs.RunningRunning.{BegunAtOneSite, InstancesRun, OpensAreAsGranted, PlainGrantsStand, WritersCommitAlone};
 ghost use Rattle.make_laws.specs.RunningStores.{StoresStand};
 

@@ -8,14 +8,13 @@ use Rattle.trace_book.specs.Same.{same_epoch}
 use Rattle.trace_book.specs.declared.record.Record.{Record}
 use Rattle.trace_book.specs.declared.record.Record.TheVariants as says
 use Rattle.role_steps.specs.Using.{users_leave}
-use Rattle.wire_messages.specs.declared.body.Body.TheVariants as body
 use Rattle.epoch_rules.specs.Answers.{poll_answer}
 use Rattle.epoch_rules.specs.declared.promised.PollAnswer.TheVariants as answer
 use Rattle.epoch_rules.specs.declared.promised.Promised.{Promised}
 use Rattle.site_frame.specs.Printed.{printed}
 use Rattle.site_frame.proofs.Printing.{printed_append}
 use Rattle.role_steps.specs.Views.{SiteView, Told, Promises, Outcome, quiet, sends}
-use Rattle.role_steps.specs.Epochs.{is_epoch_below, reached, forming, promise_packet, refuse_packet, begins_round, starts_merge, starts_part, starts_part_of, on_poll, on_refuse, on_refuse_of, passed_over, passes_over, decides_if, unanswered, round_id, boots_where, merge_boot, part_boot}
+use Rattle.role_steps.specs.Epochs.{is_epoch_below, reached, promise_packet, refuse_packet, begins_round, starts_merge, starts_part, starts_part_of, on_poll, on_refuse, on_refuse_of, passed_over, passes_over, decides_if, unanswered, round_id, boots_where, merge_boot, part_boot}
 use Rattle.role_steps.specs.declared.rounds.InEpoch.{InEpoch}
 use Rattle.role_steps.specs.declared.rounds.Round.{Round}
 use Rattle.merge_protocol.specs.Parts.{epoch_part, alone, epoch_named, left_at_poll, left_at_refuse, decided, decision, passed_round, polled_again, promises_to, EpochPart}
@@ -144,30 +143,5 @@ asks_promise id p e = by_case (is_epoch_below p.id id) (same_epoch id p.id && no
   by_case false true q = absurd (cc)
   by_case false false q = absurd (cc)
 
-pub asks_again : (id : EpochId) (p : Promised) → answer.Again ≡ poll_answer id p → (is_epoch_below p.id id ≡ false) × ((same_epoch id p.id && not p.installed) ≡ true)
-asks_again id p e = by_case (is_epoch_below p.id id) (same_epoch id p.id && not p.installed) e where
-  by_case : (a b : Bool) → answer.Again ≡ cond a answer.Promise (cond b answer.Again (answer.Refuse p.id)) → (a ≡ false) × (b ≡ true)
-  by_case true b q = absurd (cc)
-  by_case false true q = (refl, refl)
-  by_case false false q = absurd (cc)
-
-pub asks_refuse : (id said : EpochId) (p : Promised) → answer.Refuse said ≡ poll_answer id p → (is_epoch_below p.id id ≡ false) × (((same_epoch id p.id && not p.installed) ≡ false) × (said ≡ p.id))
-asks_refuse id said p e = by_case (is_epoch_below p.id id) (same_epoch id p.id && not p.installed) e where
-  by_case : (a b : Bool) → answer.Refuse said ≡ cond a answer.Promise (cond b answer.Again (answer.Refuse p.id)) → (a ≡ false) × ((b ≡ false) × (said ≡ p.id))
-  by_case true b q = absurd (cc)
-  by_case false true q = absurd (cc)
-  by_case false false q = (refl, (refl, cc))
-
 pub promise_is : (me : ℕ) (links : Links) (from from_boot : ℕ) (id : EpochId) (s : EpochPart) → answer.Promise ≡ poll_answer id (record { id = s.promised; installed = s.installed }) → promises_to me (reached links) from from_boot id (alone s) ≡ on_poll me links from from_boot id (alone s)
 promise_is me links from from_boot id s e = sym (poll_above me links from from_boot id (alone s) (asks_promise id (record { id = s.promised; installed = s.installed }) e))
-
-pub again_is : (me : ℕ) (links : Links) (from from_boot : ℕ) (id : EpochId) (s : EpochPart) → answer.Again ≡ poll_answer id (record { id = s.promised; installed = s.installed }) → sends (forming me s.boot id from from_boot (body.Promise (reached links)) ∷ []) (alone s) ≡ on_poll me links from from_boot id (alone s)
-again_is me links from from_boot id s e =
-    let h = asks_again id (record { id = s.promised; installed = s.installed }) e in
-    sym (poll_not_above me links from from_boot id (alone s) h.0 ∙ ap (λ (b : Bool). sends (cond b (promise_packet me links from from_boot id (alone s)) (refuse_packet me from from_boot id (alone s))) (alone s)) h.1)
-
-pub refusal_is : (me : ℕ) (links : Links) (from from_boot : ℕ) (id said : EpochId) (s : EpochPart) → answer.Refuse said ≡ poll_answer id (record { id = s.promised; installed = s.installed }) → sends (forming me s.boot id from from_boot (body.Refuse said) ∷ []) (alone s) ≡ on_poll me links from from_boot id (alone s)
-refusal_is me links from from_boot id said s e =
-    let h = asks_refuse id said (record { id = s.promised; installed = s.installed }) e in
-    ap (λ (x : EpochId). sends (forming me s.boot id from from_boot (body.Refuse x) ∷ []) (alone s)) h.1.1
-    ∙ sym (poll_not_above me links from from_boot id (alone s) h.0 ∙ ap (λ (b : Bool). sends (cond b (promise_packet me links from from_boot id (alone s)) (refuse_packet me from from_boot id (alone s))) (alone s)) h.1.0)

@@ -8,6 +8,7 @@ use crate::packets::Sender;
 use crate::{EpochState, FormingHeader};
 use epoch_rules::{boot_in, is_linked, site_at};
 use keyed_tables::SortedTable;
+use locus_ids::sizes::SITES;
 use locus_ids::{Config, Links, Members, NoMemory, SiteId};
 use partition_protocol::PollRound;
 use role_steps::InEpoch;
@@ -15,7 +16,7 @@ use trace_book::Record;
 use wire_messages::{Body, Outbox, Packet};
 
 /// What an install is answered.
-#[derive(Clone, Copy, Debug, PartialEq, Eq)]
+#[derive(Clone, Copy, PartialEq, Eq)]
 pub enum InstallAnswer {
     /// The site joins the epoch, and then says so.
     Joins,
@@ -166,7 +167,7 @@ fn put_others(
     ensures { OnOk result (sites.new ≡ others_of me members.now) }
 {
     sites.clear();
-    for place in (0..16).rev() {
+    for place in (0..SITES).rev() {
         let site = site_at(place);
         if is_other(me, members, site) {
             sites.put(site)?;

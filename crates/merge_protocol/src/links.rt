@@ -2,6 +2,7 @@ ghost use Rattle.std.specs.Prelude.{◌≡◌};
 ghost use Rattle.role_steps.specs.Epochs.{boots_where, merge_boot, part_boot};
 
 use epoch_rules::{boot_in, site_at};
+use locus_ids::sizes::SITES;
 use locus_ids::{Links, Members, SiteId};
 
 fn merge_boot(me: SiteId, links: &Links, site: SiteId) -> u32
@@ -18,8 +19,8 @@ fn merge_boot(me: SiteId, links: &Links, site: SiteId) -> u32
 pub fn polled_merge(me: SiteId, links: &Links) -> Links
     ensures { result ≡ boots_where (merge_boot me links.now) }
 {
-    let mut boot = [0; 16];
-    for place in 0..16 {
+    let mut boot = [0; SITES];
+    for place in 0..SITES {
         boot[place] = merge_boot(me, links, site_at(place));
     }
     Links { boot }
@@ -40,8 +41,8 @@ fn part_boot(me: SiteId, links: &Links, members: &Members, site: SiteId) -> u32
 pub fn polled_part(me: SiteId, links: &Links, members: &Members) -> Links
     ensures { result ≡ boots_where (part_boot me links.now members.now) }
 {
-    let mut boot = [0; 16];
-    for place in 0..16 {
+    let mut boot = [0; SITES];
+    for place in 0..SITES {
         boot[place] = part_boot(me, links, members, site_at(place));
     }
     Links { boot }

@@ -7,7 +7,7 @@ use role_steps::InEpoch;
 use wire_messages::{Body, Packet};
 
 /// Who sent a packet that forms an epoch, and the id of that epoch.
-#[derive(Clone, Copy, Debug, PartialEq, Eq)]
+#[derive(Clone, Copy, PartialEq, Eq)]
 pub struct FormingHeader {
     pub from: SiteId,
     pub from_boot: u32,
@@ -15,7 +15,7 @@ pub struct FormingHeader {
 }
 
 /// The site that sends, with its boot number.
-#[derive(Debug, Drop)]
+#[derive(Drop)]
 pub struct Sender {
     pub me: SiteId,
     pub boot: u32,

@@ -8,6 +8,7 @@ use crate::links::{polled_merge, polled_part};
 use crate::packets::Sender;
 use crate::{EpochError, EpochState, FormingHeader};
 use epoch_rules::{PollAnswer, Promised, is_linked, next_number, reached, same_epoch, site_at};
+use locus_ids::sizes::SITES;
 use locus_ids::{EpochId, Links, NoMemory, SiteId, Sites};
 use partition_protocol::PollRound;
 use wire_messages::{Body, Outbox};
@@ -252,7 +253,7 @@ fn send_polls(
     ensures packets { OnOk result (out.new.packets ≡ out.old.packets ++ map (poll_packet sender.now.me sender.now.boot id polled.now) (polled_sites polled.now)) }
     ensures records { OnOk result (out.new.records ≡ out.old.records) }
 {
-    for place in 0..16 {
+    for place in 0..SITES {
         let site = site_at(place);
         if is_linked(&polled.boot, site) {
             out.send(sender.poll_packet(id, polled, site))?;

@@ -6,6 +6,7 @@ use crate::EpochState;
 use crate::joining::send_installs;
 use crate::packets::Sender;
 use epoch_rules::site_at;
+use locus_ids::sizes::SITES;
 use locus_ids::{NoMemory, SiteId};
 use partition_protocol::PollRound;
 use role_steps::InEpoch;
@@ -51,7 +52,7 @@ fn repeat_polls(sender: &Sender, round: &PollRound, out: &mut Outbox) -> Result<
 {
     let id = round.id();
     let polled = round.polled();
-    for place in 0..16 {
+    for place in 0..SITES {
         let site = site_at(place);
         if round.is_awaited(site) {
             out.send(sender.poll_packet(id, &polled, site))?;

@@ -16,7 +16,7 @@ use trace_book::Record;
 use wire_messages::Outbox;
 
 /// A site's place in epochs.
-#[derive(Debug, Drop)]
+#[derive(Drop)]
 pub struct EpochState {
     /// The boot number that the site runs with.
     pub(crate) boot: u32,

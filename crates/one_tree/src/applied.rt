@@ -5,7 +5,7 @@ use thiserror::Error;
 use tree_acts::ActFault;
 
 /// What the tree says of a record.
-#[derive(Clone, Copy, Debug, PartialEq, Eq)]
+#[derive(Clone, Copy, PartialEq, Eq)]
 pub enum Applied {
     /// It is a step of the tree, and the tree gives it.
     Follows,

@@ -18,7 +18,7 @@ use trace_book::Record;
 use tree_steps::TreeTables;
 
 /// The one tree of an epoch and a group, as the records so far lead to it. Contracts see the tree as a value.
-#[derive(Debug, Drop)]
+#[derive(Drop)]
 pub struct OneTree {
     pub(crate) tables: TreeTables,
 }

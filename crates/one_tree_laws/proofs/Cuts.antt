@@ -1,5 +1,6 @@
 -- What an event writes has its fact even where the event is cut off in it: by what was before the event, and a fresh stamp.
 use Rattle.std.proofs.Common.{◌≡◌, ℕ, ◌+◌, nat_lt, Bool, true, false, cond, not, ◌&&◌, List, [], ◌∷◌, Option, Some, None, refl, sym, ◌∙◌, ap, subst}
+use Rattle.role_steps.proofs.of_plain_facts.Options.{none_some}
 use Rattle.locus_ids.specs.declared.config.Config.{Config}
 use Rattle.locus_ids.specs.declared.ids.EpochId.{EpochId}
 use Rattle.locus_ids.specs.declared.sites.Links.{Links}
@@ -26,13 +27,12 @@ use Rattle.role_steps.specs.declared.rounds.Round.{Round}
 use Rattle.role_steps.specs.declared.synchronizing.SyncTable.{SyncTable}
 use Rattle.the_run.specs.Steps.{at_table_of, from_user, group_of, is_opened_in, is_dropped, takes_inside, takes_framed, takes, tries_at, adopts_in, ends_event, whole, call_frame, epoch_id, takes_call, step}
 use Rattle.the_run.specs.Worlds.{Line, told_onto}
-use Rattle.vector_laws.specs.Written.{past_of}
-use Rattle.vector_laws.specs.HistoryCommits.{StampsAreOnce}
-use Rattle.run_laws.specs.Words.{Talks}
-use Rattle.run_laws.proofs.RolesTell.{on_open_ss_talks, on_closed_ok_talks, on_notify_talks, on_page_talks, on_call_talks, on_open_done_talks, on_op_done_talks, on_close_done_talks, on_look_done_talks}
-use Rattle.run_laws.proofs.SyncTells.{on_opened_talks, on_open_talks, on_look_talks, on_report_talks, on_closed_talks, on_have_talks}
-use Rattle.vector_laws.proofs.SiteDisks.{ends_keeps}
-use Rattle.lock_laws.proofs.StepFacts.{SiteSilent, notify_silent, page_silent, framed_notify}
+use Rattle.kept_laws.specs.of_vector_laws.Written.{past_of}
+use Rattle.kept_laws.specs.of_vector_laws.HistoryCommits.{StampsAreOnce}
+use Rattle.call_row_laws.specs.of_run_laws.Words.{Talks}
+use Rattle.call_row_laws.proofs.of_run_laws.Telling.{on_open_ss_talks, on_closed_ok_talks, on_notify_talks, on_page_talks, on_call_talks, on_open_done_talks, on_op_done_talks, on_close_done_talks, on_look_done_talks, on_opened_talks, on_open_talks, on_look_talks, on_report_talks, on_closed_talks, on_have_talks}
+use Rattle.kept_laws.proofs.of_vector_laws.SiteDisks.{ends_keeps}
+use Rattle.call_row_laws.proofs.of_lock_laws.StepFacts.{SiteSilent, notify_silent, page_silent, framed_notify}
 use Rattle.role_steps.specs.Mends.{kept_stamps, mending}
 use Rattle.role_steps.specs.OperationEffects.{Mending}
 use Rattle.role_steps.specs.Operations.{on_op}
@@ -78,9 +78,6 @@ shaped_rest : (c : Config) (n : ℕ) (t : List Line) (told : List Told) (w : Opt
 shaped_rest c n t told w d h e r =
     let k : IsShaped told (Some d) = subst (IsShaped told) e h in
     subst (AllRest c n t) (sym k.1) (r, all_plain c n k.0 (more n (Shown d.says) t) r.once k.2)
-
-none_some : {A : Type 0} (x : A) → ◌≡◌ {A = Option A} None (Some x) → ⊥
-none_some x e = cc
 
 -- ---- what an outcome writes ----
 

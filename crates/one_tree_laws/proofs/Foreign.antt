@@ -1,5 +1,6 @@
 -- What other sites have stays while one site tells what it does.
 use Rattle.std.proofs.Common.{◌≡◌, ℕ, List, [], ◌∷◌, Option, Some, None, refl, sym, ◌∙◌, ap, subst, inl, inr}
+use Rattle.role_steps.proofs.of_plain_facts.Options.{some_same}
 use Rattle.locus_ids.specs.declared.config.Config.{Config}
 use Rattle.locus_ids.specs.declared.ids.EpochId.{EpochId}
 use Rattle.locus_ids.specs.declared.ids.FileId.{FileId}
@@ -19,11 +20,10 @@ use Rattle.tree_laws.specs.Following.{IsFollowed, MayTell}
 use Rattle.tree_laws.specs.Past.{BeginsIt, WasBegun}
 use Rattle.tree_laws.specs.Printed.{entries}
 use Rattle.tree_laws.specs.Tables.{TableFact}
-use Rattle.tree_laws.proofs.Names.{some_is}
 use Rattle.one_tree_laws.specs.Places.{AllOf, IsOf, SiteIn, PlaceFact}
 use Rattle.one_tree_laws.specs.Rest.{AllRest, Past, Comes, more}
 use Rattle.one_tree_laws.specs.Roles.{RolesDo}
-use Rattle.user_laws.proofs.Staying.{descriptors_stay}
+use Rattle.store_laws.proofs.of_user_laws.Staying.{descriptors_stay}
 use Rattle.one_tree_laws.proofs.Frames.{copies_frame, outside_frame, pulls_frame, store_frame, users_frame}
 use Rattle.one_tree_laws.proofs.Framing.{epoch_same, up_same, idle_stays, stay_over}
 use Rattle.one_tree_laws.proofs.Parts.{Synced, synced_each, TablesAt, tables_stay}
@@ -116,11 +116,11 @@ apart_of c older s t x h ne (inr (inr (inr (inr (inl u))))) = record {
 }
   where
     one : (f : Frame) (g : ℕ) → FrameFact c older f → sync_site f.config f.members g ≡ Some t → (u.frame.epoch ≡ f.epoch) × (u.group ≡ g) → s ≡ t
-    one f g fact sync same = some_is s t (sym u.synced ∙ (subst (λ (k : ℕ). sync_site u.frame.config u.frame.members u.group ≡ sync_site u.frame.config u.frame.members k) same.1 refl
+    one f g fact sync same = some_same s t (sym u.synced ∙ (subst (λ (k : ℕ). sync_site u.frame.config u.frame.members u.group ≡ sync_site u.frame.config u.frame.members k) same.1 refl
         ∙ (ap (λ (m : Members). sync_site u.frame.config m g) members ∙ (ap (λ (k : Config). sync_site k f.members g) (u.config_is ∙ sym fact.config_is) ∙ sync))))
       where
         members : u.frame.members ≡ f.members
-        members = some_is u.frame.members f.members (sym u.members_are ∙ subst (λ (e : EpochId). members_of (entries older) e ≡ Some f.members) (sym same.0) fact.members_are)
+        members = some_same u.frame.members f.members (sym u.members_are ∙ subst (λ (e : EpochId). members_of (entries older) e ≡ Some f.members) (sym same.0) fact.members_are)
 apart_of c older s t x h ne (inr (inr (inr (inr (inr u))))) = promised c older t x u
 
 -- ---- one line ----

@@ -1,5 +1,6 @@
 -- What a site does of epochs: rounds, promises, joins, and the end of an event.
 use Rattle.std.proofs.Common.{◌≡◌, ℕ, ◌+◌, Bool, true, false, cond, not, ◌&&◌, List, [], ◌∷◌, ◌++◌, map, Option, Some, None, refl, sym, ◌∙◌, subst, inl, inr}
+use Rattle.role_steps.proofs.of_plain_facts.Options.{none_some}
 use Rattle.locus_ids.specs.declared.config.Config.{Config}
 use Rattle.locus_ids.specs.declared.ids.EpochId.{EpochId}
 use Rattle.locus_ids.specs.declared.sites.Links.{Links}
@@ -96,9 +97,6 @@ on_refuse_fine c roles stays n me links id theirs trace (Some r) v followed h re
     over false k = quiet_fine c n trace me v h
 
 -- ---- joins ----
-
-none_some : {A : Type 0} (x : A) → ◌≡◌ {A = Option A} None (Some x) → ⊥
-none_some x e = cc
 
 outside_of : (c : Config) (me : ℕ) (trace : List Line) (v : SiteView) (o : Option InEpoch) → SiteIn c me trace v o → epoch_of (entries trace) me ≡ None → OutsideFact c me trace v
 outside_of c me trace v None h out = h

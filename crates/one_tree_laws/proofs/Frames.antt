@@ -1,5 +1,6 @@
 -- What each role has stays while others tell what they do, as the laws of the roles give it.
 use Rattle.std.proofs.Common.{◌≡◌, ℕ, ◌==◌, Bool, true, false, cond, List, [], None, ◌⊎◌, refl, sym, ◌∙◌, inl, inr}
+use Rattle.role_steps.proofs.of_plain_facts.Numbers.{equal_self}
 use Rattle.locus_ids.specs.declared.config.Config.{Config}
 use Rattle.locus_ids.specs.declared.ids.EpochId.{EpochId}
 use Rattle.trace_book.specs.declared.record.Record.{Record}
@@ -9,7 +10,7 @@ use Rattle.role_steps.specs.declared.pulls.Pull.{Pull}
 use Rattle.role_steps.specs.declared.synchronizing.SyncTable.{SyncTable}
 use Rattle.the_run.specs.Worlds.{Line, no_epoch}
 use Rattle.tree_model.specs.Epochs.{boot_of, calls_accepted}
-use Rattle.lawful_trace.specs.Tables.{descriptor}
+use Rattle.tree_laws.specs.of_lawful_trace.Tables.{descriptor}
 use Rattle.tree_laws.specs.Doing.{FrameFact, IsOfUsers, IsOfStore, IsAdopted, IsOfTable, IsOfSite, UsersInside, StoreHeld, PullsFact}
 use Rattle.tree_laws.specs.Frames.{AllStay}
 use Rattle.tree_laws.specs.Printed.{entries}
@@ -17,18 +18,17 @@ use Rattle.tree_laws.specs.Serials.{opens_asked}
 use Rattle.tree_laws.specs.Stores.{CopiesAreHeld}
 use Rattle.tree_laws.specs.Tables.{TableFact}
 use Rattle.tree_laws.specs.Users.{UsersFact}
-use Rattle.tree_laws.proofs.Names.{test_own}
 use Rattle.tree_laws.proofs.Rows.{followed_rows}
-use Rattle.holding_laws.specs.Below.{LawsBelow}
-use Rattle.holding_laws.proofs.Below.{packs_hold}
-use Rattle.holding_laws.proofs.Holding.{late_brings_nothing}
-use Rattle.user_laws.proofs.Staying.{boots_stay, calls_stay, opens_stay, descriptors_stay}
-use Rattle.user_laws.proofs.Views.{users_stay}
+use Rattle.store_laws.specs.of_holding_laws.Below.{LawsBelow}
+use Rattle.store_laws.proofs.of_holding_laws.Below.{packs_hold}
+use Rattle.store_laws.proofs.of_holding_laws.Holding.{late_brings_nothing}
+use Rattle.store_laws.proofs.of_user_laws.Staying.{boots_stay, calls_stay, opens_stay, descriptors_stay}
+use Rattle.store_laws.proofs.of_user_laws.Views.{users_stay}
 use Rattle.store_laws.proofs.Holding.{copies_stay}
 use Rattle.store_laws.proofs.Pulls.{all_pulls_stay}
 use Rattle.store_laws.proofs.Staying.{store_stays}
-use Rattle.sync_laws.specs.Staying.{Starts, Looks, Names, Releases, Adopts, TouchesTable, BringsNothing}
-use Rattle.sync_laws.proofs.Staying.{table_stays}
+use Rattle.store_laws.specs.of_sync_laws.Staying.{Starts, Looks, Names, Releases, Adopts, TouchesTable, BringsNothing}
+use Rattle.store_laws.proofs.of_sync_laws.Staying.{table_stays}
 use Rattle.one_tree_laws.specs.Rest.{Comes, more}
 use Rattle.one_tree_laws.proofs.Staying.{rest_below, stays}
 
@@ -57,7 +57,7 @@ pub first_users : (c : Config) (me : ℕ) → UsersFact c [] me 1 no_users
 first_users c me = record { boot_is = refl; calls = refl; serials = refl; descriptors = λ process fd low. refl; ascends = tt }
 
 cond_own : {A : Type 0} (s : ℕ) (x y : A) → cond (s == s) x y ≡ x
-cond_own s x y = over (s == s) (test_own s)
+cond_own s x y = over (s == s) (equal_self s)
   where
     over : (b : Bool) → b ≡ true → cond b x y ≡ x
     over true e = refl

@@ -1,5 +1,6 @@
 -- What stays of a site while others tell what they do, and over all lines of an event.
 use Rattle.std.proofs.Common.{◌≡◌, ℕ, ◌==◌, Bool, true, false, cond, not, ◌&&◌, ◌||◌, List, [], ◌∷◌, Some, None, refl, sym, ◌∙◌}
+use Rattle.role_steps.proofs.of_plain_facts.Numbers.{equal}
 use Rattle.locus_ids.specs.declared.config.Config.{Config}
 use Rattle.trace_book.specs.declared.record.Record.{Record}
 use Rattle.trace_book.specs.declared.record.Record.TheVariants as says
@@ -15,7 +16,6 @@ use Rattle.tree_laws.specs.Printed.{entries}
 use Rattle.tree_laws.specs.Users.{had}
 use Rattle.tree_laws.proofs.Boots.{every_filter}
 use Rattle.tree_laws.proofs.Fresh.{epoch_listed}
-use Rattle.tree_laws.proofs.Names.{test_same}
 use Rattle.tree_laws.proofs.Scripts.{members_same}
 use Rattle.one_tree_laws.specs.Places.{AllAt, IsIdle}
 use Rattle.one_tree_laws.specs.Rest.{AllRest, Past, Comes, more}
@@ -24,21 +24,21 @@ use Rattle.one_tree_laws.proofs.Composing.{past_more}
 -- ---- records of other sites ----
 
 cond_apart : {A : Type 0} (s t : ℕ) (x y : A) → (s ≡ t → ⊥) → cond (s == t) x y ≡ y
-cond_apart s t x y h = over (s == t) (test_same s t)
+cond_apart s t x y h = over (s == t) (equal s t)
   where
     over : (b : Bool) → (b ≡ true → s ≡ t) → cond b x y ≡ y
     over true k = absurd (h (k refl))
     over false k = refl
 
 or_apart : (s t : ℕ) (y : Bool) → (s ≡ t → ⊥) → ((s == t) || y) ≡ y
-or_apart s t y h = over (s == t) (test_same s t)
+or_apart s t y h = over (s == t) (equal s t)
   where
     over : (b : Bool) → (b ≡ true → s ≡ t) → (b || y) ≡ y
     over true k = absurd (h (k refl))
     over false k = refl
 
 and_apart : (s t : ℕ) (y : Bool) → (s ≡ t → ⊥) → (not (s == t) && y) ≡ y
-and_apart s t y h = over (s == t) (test_same s t)
+and_apart s t y h = over (s == t) (equal s t)
   where
     over : (b : Bool) → (b ≡ true → s ≡ t) → (not b && y) ≡ y
     over true k = absurd (h (k refl))

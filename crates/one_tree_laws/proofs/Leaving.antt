@@ -1,5 +1,6 @@
 -- A site leaves its epoch, and promises a greater id.
 use Rattle.std.proofs.Common.{◌≡◌, ℕ, ◌==◌, Bool, true, false, cond, List, [], ◌∷◌, Option, Some, None, refl, sym, ◌∙◌, subst, inl, inr}
+use Rattle.role_steps.proofs.of_plain_facts.Numbers.{equal_self}
 use Rattle.locus_ids.specs.declared.config.Config.{Config}
 use Rattle.locus_ids.specs.declared.ids.EpochId.{EpochId}
 use Rattle.locus_ids.specs.declared.sites.Sites.{Sites}
@@ -14,7 +15,6 @@ use Rattle.tree_laws.specs.Doing.{NoWrite, Fine, IsOfUsers}
 use Rattle.tree_laws.specs.Following.{MayTell}
 use Rattle.tree_laws.specs.Printed.{entries}
 use Rattle.tree_laws.specs.Stores.{CopiesAreHeld}
-use Rattle.tree_laws.proofs.Names.{test_own}
 use Rattle.one_tree_laws.specs.Places.{IsOf, InsideFact, OutsideFact, UsersOutside, SiteFact, SiteIn, SiteFine}
 use Rattle.one_tree_laws.specs.Rest.{AllRest, RestTold, Past, Comes, more}
 use Rattle.one_tree_laws.specs.Roles.{RolesDo}
@@ -64,7 +64,7 @@ out_over c roles n me boot trace v o followed h is i t p fresh k =
 -- ---- leaving ----
 
 cond_own : {A : Type 0} (s : ℕ) (x y : A) → cond (s == s) x y ≡ x
-cond_own s x y = over (s == s) (test_own s)
+cond_own s x y = over (s == s) (equal_self s)
   where
     over : (b : Bool) → b ≡ true → cond b x y ≡ x
     over true e = refl

@@ -45,3 +45,16 @@ pub mod UserStepGroups
 pub mod UserStepOpening
 pub mod UserStepCalling
 pub mod UserStepOutside
+pub use Rattle.call_row_laws.proofs as of_call_row_laws
+pub use Rattle.call_row_laws.proofs.of_lock_laws as of_lock_laws
+pub use Rattle.call_row_laws.proofs.of_row_laws as of_row_laws
+pub use Rattle.call_row_laws.proofs.of_run_laws as of_run_laws
+pub use Rattle.kept_laws.proofs as of_kept_laws
+pub use Rattle.kept_laws.proofs.of_make_laws as of_make_laws
+pub use Rattle.kept_laws.proofs.of_pack_laws as of_pack_laws
+pub use Rattle.kept_laws.proofs.of_vector_laws as of_vector_laws
+pub use Rattle.store_laws.proofs as of_store_laws
+pub use Rattle.store_laws.proofs.of_holding_laws as of_holding_laws
+pub use Rattle.store_laws.proofs.of_order_laws as of_order_laws
+pub use Rattle.store_laws.proofs.of_sync_laws as of_sync_laws
+pub use Rattle.store_laws.proofs.of_user_laws as of_user_laws

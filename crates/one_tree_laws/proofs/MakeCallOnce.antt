@@ -19,8 +19,8 @@ use Rattle.role_steps.specs.Requests.{opening_of}
 use Rattle.role_steps.specs.Views.{Told, Begins, Shown, Takes}
 use Rattle.the_run.specs.Worlds.{Line}
 use Rattle.tree_model.specs.Calls.{call_named}
-use Rattle.lawful_trace.specs.Progress.{Answers}
-use Rattle.lawful_trace.specs.Tables.{begun}
+use Rattle.tree_laws.specs.of_lawful_trace.Progress.{Answers}
+use Rattle.tree_laws.specs.of_lawful_trace.Tables.{begun}
 use Rattle.tree_laws.specs.Printed.{entries}
 use Rattle.tree_laws.specs.Calls.{log, script}
 use Rattle.tree_laws.specs.Following.{IsFollowed, MayTell}

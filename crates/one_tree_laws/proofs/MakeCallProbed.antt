@@ -1,6 +1,8 @@
 -- A call that asks a make has it underway in the tree of its group: its probe on the directory there has passed, and no make of the
 -- call has ended.
 use Rattle.std.proofs.Common.{◌≡◌, ℕ, ◌+◌, ◌-◌, Bool, true, false, cond, ◌&&◌, List, [], ◌∷◌, ◌++◌, append_assoc, length, take, Option, Some, None, refl, sym, ◌∙◌, ap, subst, ◌⊎◌, inl, inr}
+use Rattle.role_steps.proofs.of_plain_facts.Options.{none_some, some_same}
+use Rattle.role_steps.proofs.of_plain_facts.Tests.{true_false}
 use Rattle.locus_ids.specs.declared.config.Config.{Config}
 use Rattle.locus_ids.specs.declared.ids.CallId.{CallId}
 use Rattle.locus_ids.specs.declared.ids.EpochId.{EpochId}
@@ -35,9 +37,9 @@ use Rattle.tree_model.specs.Given.{gives_act}
 use Rattle.tree_model.specs.Histories.{history}
 use Rattle.tree_model.specs.State.{TreeState, instance_in, is_granted_here, is_make, is_named}
 use Rattle.tree_model.specs.Tree.{is_passed_probe, kept_in, next, tree_of}
-use Rattle.lawful_trace.specs.Progress.{Answers, answers_after, close_answer, granted_answer, look_answer, outcome_answer}
-use Rattle.lawful_trace.specs.Tables.{begun, call_of_act, call_of_release}
-use Rattle.lawful_trace.specs.TreeRows.{IsCallIn, granted_group, is_open_of}
+use Rattle.tree_laws.specs.of_lawful_trace.Progress.{Answers, answers_after, close_answer, granted_answer, look_answer, outcome_answer}
+use Rattle.tree_laws.specs.of_lawful_trace.Tables.{begun, call_of_act, call_of_release}
+use Rattle.tree_laws.specs.of_lawful_trace.TreeRows.{IsCallIn, granted_group, is_open_of}
 use Rattle.tree_laws.specs.Printed.{entries}
 use Rattle.tree_laws.specs.Calls.{Asks, Waits, heard, log, script, script_as}
 use Rattle.tree_laws.specs.Following.{IsFollowed, MayTell}
@@ -49,10 +51,10 @@ use Rattle.tree_laws.proofs.Fresh.{IsNamed, calls_are_low, next_is_new, numbered
 use Rattle.tree_laws.proofs.Having.{Untaken, named_or_untaken}
 use Rattle.tree_laws.proofs.Hearing.{take_own}
 use Rattle.tree_laws.proofs.Kinship.{tree_epoch_is}
-use Rattle.tree_laws.proofs.Names.{same_call_eq, same_epoch_own, some_is, true_false}
+use Rattle.tree_laws.proofs.Names.{same_call_eq, same_epoch_own}
 use Rattle.tree_laws.proofs.Owing.{InGroup, found_every, in_group}
 use Rattle.tree_laws.proofs.Scripts.{named_stays, script_stays}
-use Rattle.holding_laws.proofs.Distinct.{open_now}
+use Rattle.store_laws.proofs.of_holding_laws.Distinct.{open_now}
 use Rattle.store_laws.proofs.Places.{GrantedSo as IsGrantedSo, instance_granted}
 use Rattle.store_laws.proofs.AnswerAskers.{op_had}
 use Rattle.store_laws.proofs.AnswerRemovers.{open_here}
@@ -67,9 +69,6 @@ use Rattle.one_tree_laws.proofs.MakeCallScripts.{Making, no_make, script_making,
 
 abbrev With : ℕ → Told → List Line → List Line
 With n x older = record { number = n; told = x } ∷ older
-
-none_some : {A : Type 0} (a : A) → ◌≡◌ {A = Option A} None (Some a) → ⊥
-none_some a e = cc
 
 -- ---- a step of a call ----
 
@@ -140,7 +139,7 @@ step_now c n (says.Act e i number o result) older d may step = record {
 }
   where
     asks : Asks c older d (want.Do i o)
-    asks = subst (λ (y : CallId). Asks c older y (want.Do i o)) (some_is may.in_time.call d (sym may.in_time.owner ∙ step)) may.in_time.asks
+    asks = subst (λ (y : CallId). Asks c older y (want.Do i o)) (some_same may.in_time.call d (sym may.in_time.owner ∙ step)) may.in_time.asks
 step_now c n (says.Release e i f stamp) older d may step = record {
   wanted = want.Close i;
   asks = asks;
@@ -151,7 +150,7 @@ step_now c n (says.Release e i f stamp) older d may step = record {
 }
   where
     asks : Asks c older d (want.Close i)
-    asks = subst (λ (y : CallId). Asks c older y (want.Close i)) (some_is may.in_time.call d (sym may.in_time.owner ∙ step)) may.in_time.asks
+    asks = subst (λ (y : CallId). Asks c older y (want.Close i)) (some_same may.in_time.call d (sym may.in_time.owner ∙ step)) may.in_time.asks
 step_now c n _ older d may step = absurd step
 
 -- what was heard was taken, or its last answer waits
@@ -310,7 +309,7 @@ module _ (c : Config) (n : ℕ) (r : Record) (older : List Line) (h : IsFollowed
       is = sym sort.0 ∙ asked
 
       epoch_is : at ≡ e
-      epoch_is = one_epoch older at e d (subst (IsCallIn (entries older) at) (some_is m_act.row.step.call d (sym m_act.row.step.owned ∙ step)) m_act.row.step.step) inside
+      epoch_is = one_epoch older at e d (subst (IsCallIn (entries older) at) (some_same m_act.row.step.call d (sym m_act.row.step.owned ∙ step)) m_act.row.step.step) inside
 
       both : (a b : Bool) → a ≡ true → b ≡ true → (a && b) ≡ true
       both true true p q = refl
@@ -387,7 +386,7 @@ underway c (x ∷ older) h e d group inside u = at (λ here k. underway c older 
         new s process words is = absurd (underway_new c x.number s process d words older group h.1 (subst (MayTell c older) is h.0) (subst (λ (y : Told). Underway c (With x.number y older) d group) is u))
 
         old : IsNamed (entries older) d → Among d (tree_of c e group (entries (x ∷ older))).makes
-        old named = (let here : IsCallIn (entries older) e d = record { accepted = named.0; named = named.1; made_in = ap (λ (w : Waiting). w.epoch) (some_is named.0 inside.accepted (sym (named_stays c x.number x.told older d h.1 h.0 named ∙ named.1) ∙ inside.named)) ∙ inside.made_in } in
+        old named = (let here : IsCallIn (entries older) e d = record { accepted = named.0; named = named.1; made_in = ap (λ (w : Waiting). w.epoch) (some_same named.0 inside.accepted (sym (named_stays c x.number x.told older d h.1 h.0 named ∙ named.1) ∙ inside.named)) ∙ inside.made_in } in
             underway_old c x.number x.told older h.1 h.0 e d group here (λ k. later here k) u)
 
 -- a make that is asked is underway

@@ -1,6 +1,8 @@
 -- What a probe gives, and what a tree makes of the calls whose makes are underway.
 use Rattle.std.proofs.Common.{◌≡◌, ℕ, ◌+◌, ◌==◌, Bool, true, false, not, cond, ◌&&◌, List, length, nat_lt, Option, Some, None, refl, sym, ap, ◌⊎◌, inl, inr}
 use Rattle.std.specs.List.{find}
+use Rattle.role_steps.proofs.of_plain_facts.Numbers.{equal}
+use Rattle.role_steps.proofs.of_plain_facts.Tests.{and_first, and_second, true_false}
 use Rattle.locus_ids.specs.declared.ids.CallId.{CallId}
 use Rattle.locus_ids.specs.declared.ids.EpochId.{EpochId}
 use Rattle.locus_ids.specs.declared.ids.FileId.{FileId}
@@ -10,6 +12,7 @@ use Rattle.locus_ids.specs.declared.ids.Serial.{Serial}
 use Rattle.locus_ids.specs.declared.ids.Stamp.{Stamp}
 use Rattle.locus_ids.specs.declared.refusal.Refusal.{Refusal}
 use Rattle.locus_ids.specs.declared.refusal.Refusal.TheVariants as refusal
+use Rattle.locus_ids.specs.Sizes.{directory_bytes_max}
 use Rattle.commit_graph.specs.declared.history.Version.{Version}
 use Rattle.trace_book.specs.Names.{is_name}
 use Rattle.trace_book.specs.Same.{same_call, same_epoch}
@@ -20,7 +23,7 @@ use Rattle.trace_book.specs.declared.operation.Outcome.TheVariants as outcome
 use Rattle.trace_book.specs.declared.record.Record.{Record}
 use Rattle.trace_book.specs.declared.record.Record.TheVariants as says
 use Rattle.dir_format.specs.Contents.{entries_of, is_dir}
-use Rattle.dir_format.specs.Effects.{DirEffect, max_size, probe_beside, probe_effect, size_of}
+use Rattle.dir_format.specs.Effects.{DirEffect, probe_beside, probe_effect, size_of}
 use Rattle.dir_format.specs.Lookups.{has_name}
 use Rattle.dir_format.specs.declared.entry.Entry.{Entry}
 use Rattle.file_effects.specs.Effects.{Effect, in_directory, is_refusal, on_directory}
@@ -33,9 +36,8 @@ use Rattle.tree_model.specs.Same.{is_given, same_outcome}
 use Rattle.tree_model.specs.State.{TreeState, instance_in, is_granted_here, is_make}
 use Rattle.tree_model.specs.Tree.{acted, grant_of, granted, is_passed_probe, joined, left, next, released, with_make, without_made, without_make}
 use Rattle.tree_model.specs.Working.{effect_on, free_pages, in_room, result_on}
-use Rattle.tree_laws.proofs.Names.{same_call_eq, same_epoch_eq, test_same, true_false}
+use Rattle.tree_laws.proofs.Names.{same_call_eq, same_epoch_eq}
 use Rattle.call_row_laws.proofs.Keeping.{filter_keeps}
-use Rattle.order_laws.proofs.Alone.{first_of, second_of}
 
 -- ---- what a probe gives ----
 
@@ -51,7 +53,7 @@ EffectProbed (Some e) = IsProbed e.result
 
 beside_probed : (name : List ℕ) (ds : List Entry) (o : Option Entry) → IsProbed (probe_beside name ds o).outcome
 beside_probed name ds (Some d) = tt
-beside_probed name ds None = over (nat_lt max_size (size_of ds + (length name + 8)))
+beside_probed name ds None = over (nat_lt directory_bytes_max (size_of ds + (length name + 8)))
   where
     over : (b : Bool) → IsProbed (cond {A = DirEffect} b (record { outcome = outcome.No refusal.TooLong; entries = ds; counts = false; spent = false }) (record { outcome = outcome.Done; entries = ds; counts = false; spent = false })).outcome
     over true = tt
@@ -139,11 +141,11 @@ module _ (h : List Version) (t : TreeState) (d : CallId) (among : Among d t.make
   refused e call request i m f why true k = over (left_by d call t.makes among)
     where
       here : (f.group == t.group) && is_make m ≡ true
-      here = second_of (same_epoch e t.epoch) ((f.group == t.group) && is_make m) k
+      here = and_second (same_epoch e t.epoch) ((f.group == t.group) && is_make m) k
 
       over : (call ≡ d) ⊎ Among d (without_make call t.makes) → EndsMake t d (says.Refuse e call request i m f why) ⊎ Among d (without_make call t.makes)
       over (inr w) = inr w
-      over (inl same) = inl (same_epoch_eq e t.epoch (first_of (same_epoch e t.epoch) ((f.group == t.group) && is_make m) k), test_same f.group t.group (first_of (f.group == t.group) (is_make m) here), is_make_eq m (second_of (f.group == t.group) (is_make m) here), same)
+      over (inl same) = inl (same_epoch_eq e t.epoch (and_first (same_epoch e t.epoch) ((f.group == t.group) && is_make m) k), equal f.group t.group (and_first (f.group == t.group) (is_make m) here), is_make_eq m (and_second (f.group == t.group) (is_make m) here), same)
 
   ended : (e : EpochId) (i : Serial) (f : FileId) (stamp : Option Stamp) (b : Bool) → same_epoch e t.epoch && (f.group == t.group) ≡ b → EndsMake t d (says.Release e i f stamp) ⊎ Among d (cond b (released i f stamp t) t).makes
   ended e i f stamp false k = inr among
@@ -158,7 +160,7 @@ module _ (h : List Version) (t : TreeState) (d : CallId) (among : Among d t.make
         where
           by : (x.grant.call ≡ d) ⊎ Among d (without_make x.grant.call t.makes) → Ends ⊎ Among d (without_make x.grant.call t.makes)
           by (inr w) = inr w
-          by (inl same) = inl (same_epoch_eq e t.epoch (first_of (same_epoch e t.epoch) (f.group == t.group) k), (x, found, is_make_eq x.grant.mode m, same))
+          by (inl same) = inl (same_epoch_eq e t.epoch (and_first (same_epoch e t.epoch) (f.group == t.group) k), (x, found, is_make_eq x.grant.mode m, same))
 
       over : (o : Option Instance) → instance_in t i ≡ o → Ends ⊎ Among d (without_made o t.makes)
       over None found = inr among

@@ -28,7 +28,7 @@ use Rattle.call_rules.specs.declared.want.Want.{Want}
 use Rattle.call_rules.specs.declared.want.Want.TheVariants as want
 use Rattle.tree_model.specs.Folds.{Trace}
 use Rattle.tree_model.specs.declared.accepted.Waiting.{Waiting}
-use Rattle.lawful_trace.specs.Progress.{is_packed_in}
+use Rattle.tree_laws.specs.of_lawful_trace.Progress.{is_packed_in}
 use Rattle.tree_laws.specs.Calls.{script_as}
 use Rattle.tree_laws.proofs.Awaiting.{OpensIt}
 use Rattle.tree_laws.proofs.Holding.{Script}

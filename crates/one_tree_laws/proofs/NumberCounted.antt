@@ -1,9 +1,9 @@
 -- A range of numbers of which each passes a test, or has one of a list that no other number has, is as long as those that pass and the
 -- list are together.
 use Rattle.std.proofs.Common.{◌≡◌, ℕ, zero, suc, ◌+◌, ◌<◌, ◌≤◌, Bool, true, false, cond, List, [], ◌∷◌, length, filter, refl, sym, ◌∙◌, ap, subst, arith, ◌⊎◌, inl, inr}
+use Rattle.role_steps.proofs.of_plain_facts.Tests.{true_false}
 use Rattle.commit_graph.specs.Vectors.{numbers_from}
 use Rattle.the_run.specs.Kept.{Among}
-use Rattle.tree_laws.proofs.Names.{true_false}
 
 -- ---- one less ----
 

@@ -1,5 +1,6 @@
 -- What a site has of a file in an epoch it has some version of for good; and of each root it has one, where it has a pack.
 use Rattle.std.proofs.Common.{◌≡◌, ℕ, ◌==◌, Bool, true, false, ◌&&◌, ◌||◌, cond, List, [], ◌∷◌, Some, refl, sym, ap, ◌∙◌}
+use Rattle.role_steps.proofs.of_plain_facts.Tests.{and_first, and_second, true_false}
 use Rattle.locus_ids.specs.declared.config.Config.{Config}
 use Rattle.locus_ids.specs.declared.ids.EpochId.{EpochId}
 use Rattle.locus_ids.specs.declared.ids.FileId.{FileId}
@@ -17,13 +18,12 @@ use Rattle.tree_laws.specs.Following.{IsFollowed}
 use Rattle.tree_laws.specs.Instances.{HasAtLeast, held_in}
 use Rattle.tree_laws.specs.Packets.{file_in}
 use Rattle.tree_laws.specs.Printed.{entries, onto_entries}
-use Rattle.tree_laws.proofs.Names.{same_epoch_eq, true_false}
-use Rattle.order_laws.proofs.Alone.{first_of, second_of}
-use Rattle.holding_laws.specs.Below.{LawsBelow}
-use Rattle.holding_laws.proofs.Ancestors.{ancestor_own}
-use Rattle.holding_laws.proofs.Below.{commits_new, laws_before, packs_hold}
-use Rattle.holding_laws.proofs.Holding.{sites_hold}
-use Rattle.holding_laws.proofs.Rising.{held_rises}
+use Rattle.tree_laws.proofs.Names.{same_epoch_eq}
+use Rattle.store_laws.specs.of_holding_laws.Below.{LawsBelow}
+use Rattle.store_laws.proofs.of_holding_laws.Ancestors.{ancestor_own}
+use Rattle.store_laws.proofs.of_holding_laws.Below.{commits_new, laws_before, packs_hold}
+use Rattle.store_laws.proofs.of_holding_laws.Holding.{sites_hold}
+use Rattle.store_laws.proofs.of_holding_laws.Rising.{held_rises}
 use Rattle.store_laws.proofs.Ranges.{root_held}
 
 -- the site has some version of the file in the epoch
@@ -54,7 +54,7 @@ root_there c (x ∷ older) followed laws e group site pack there = over x.told t
 
     joins : (z : ℕ) (d : EpochId) (m : Members) (b : Bool) → (z == site) && same_epoch d e ≡ b → b || has_joined (entries older) site e ≡ true → (epoch_of (onto_entries x.number (Shown (says.Join z d m)) (entries older)) site ≡ Some e → Root (Shown (says.Join z d m))) → (has_joined (entries older) site e ≡ true → Root (Shown (says.Join z d m))) → Root (Shown (says.Join z d m))
     joins z d m false k there now later = later there
-    joins z d m true k there now later = now (ap (λ (b : Bool). cond b (Some d) (epoch_of (entries older) site)) (first_of (z == site) (same_epoch d e) k) ∙ ap (λ (y : EpochId). Some y) (same_epoch_eq d e (second_of (z == site) (same_epoch d e) k)))
+    joins z d m true k there now later = now (ap (λ (b : Bool). cond b (Some d) (epoch_of (entries older) site)) (and_first (z == site) (same_epoch d e) k) ∙ ap (λ (y : EpochId). Some y) (same_epoch_eq d e (and_second (z == site) (same_epoch d e) k)))
 
     told : (r : Record) → has_joined (onto_entries x.number (Shown r) (entries older)) site e ≡ true → (epoch_of (onto_entries x.number (Shown r) (entries older)) site ≡ Some e → Root (Shown r)) → (has_joined (entries older) site e ≡ true → Root (Shown r)) → Root (Shown r)
     told (says.Join z d m) there now later = joins z d m ((z == site) && same_epoch d e) refl there now later

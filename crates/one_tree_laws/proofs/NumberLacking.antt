@@ -4,6 +4,9 @@ use Rattle.std.proofs.Common.{◌≡◌, ℕ, zero, suc, ◌+◌, ◌-◌, ◌*�
 use Rattle.std.proofs.lemmas.Bool.Decides.{nat_tests}
 use Rattle.std.specs.List.{find}
 use Rattle.std.specs.Option.{is_some, option_or}
+use Rattle.role_steps.proofs.of_plain_facts.Numbers.{equal_self}
+use Rattle.role_steps.proofs.of_plain_facts.Options.{none_some, some_same}
+use Rattle.role_steps.proofs.of_plain_facts.Tests.{and_first, true_false}
 use Rattle.locus_ids.specs.Sites.{has}
 use Rattle.locus_ids.specs.declared.config.Config.{Config}
 use Rattle.locus_ids.specs.declared.ids.CallId.{CallId}
@@ -14,6 +17,7 @@ use Rattle.locus_ids.specs.declared.ids.Serial.{Serial}
 use Rattle.locus_ids.specs.declared.ids.Stamp.{Stamp}
 use Rattle.locus_ids.specs.declared.sites.Members.{Members}
 use Rattle.locus_ids.specs.declared.sites.Sites.{Sites}
+use Rattle.locus_ids.specs.Sizes.{site_inodes, sites_max}
 use Rattle.the_run.specs.Kept.{Among}
 use Rattle.the_run.specs.Worlds.{Line}
 use Rattle.tree_model.specs.Epochs.{members_of}
@@ -27,16 +31,14 @@ use Rattle.tree_laws.specs.Packets.{MakesNow, file_in}
 use Rattle.tree_laws.specs.Past.{WasBegun}
 use Rattle.tree_laws.specs.Printed.{entries}
 use Rattle.tree_laws.proofs.Kinship.{tree_group_is}
-use Rattle.tree_laws.proofs.Names.{some_is, test_own, true_false}
 use Rattle.tree_laws.proofs.Rows.{followed_rows}
 use Rattle.call_row_laws.proofs.Keeping.{filter_keeps}
-use Rattle.order_laws.proofs.Alone.{first_of}
-use Rattle.order_laws.proofs.Joining.{Whole, started_all}
-use Rattle.order_laws.proofs.Knowing.{tree_config}
-use Rattle.holding_laws.specs.Below.{LawsBelow}
+use Rattle.store_laws.proofs.of_order_laws.Joining.{Whole, started_all}
+use Rattle.store_laws.proofs.of_order_laws.Knowing.{tree_config}
+use Rattle.store_laws.specs.of_holding_laws.Below.{LawsBelow}
 use Rattle.store_laws.proofs.Begun.{begun_one}
 use Rattle.store_laws.proofs.Ranges.{given_in, place_packed}
-use Rattle.sync_laws.proofs.Merging.{tree_members}
+use Rattle.store_laws.proofs.of_sync_laws.Merging.{tree_members}
 use Rattle.one_tree_laws.proofs.MakeCallOnce.{calls_make_once}
 use Rattle.one_tree_laws.proofs.NumberCounted.{counted}
 use Rattle.one_tree_laws.proofs.NumberHeld.{HasSome, root_there}
@@ -45,9 +47,6 @@ use Rattle.one_tree_laws.proofs.NumberSaid.{making_said}
 use Rattle.one_tree_laws.proofs.NumberUnderway.{Making, underway}
 
 -- ---- the site of a make ----
-
-none_some : {A : Type 0} (a : A) → ◌≡◌ {A = Option A} None (Some a) → ⊥
-none_some a e = cc
 
 -- what it has passes
 abbrev Passes : (ℕ → Bool) → Option ℕ → Type 0
@@ -62,7 +61,7 @@ passes_that p None s e = absurd (none_some s e)
 passes_that p (Some x) s e = at (p x) refl e
   where
     at : (b : Bool) → p x ≡ b → cond b (Some x) None ≡ Some s → p s ≡ true
-    at true k e = subst (λ (y : ℕ). p y ≡ true) (some_is x s e) k
+    at true k e = subst (λ (y : ℕ). p y ≡ true) (some_same x s e) k
     at false k e = absurd (none_some s e)
 
 passes_found : (p : ℕ → Bool) (xs : List ℕ) → Passes p (find p xs)
@@ -70,12 +69,12 @@ passes_found p [] s e = absurd (none_some s e)
 passes_found p (x ∷ xs) s e = at (p x) refl e (passes_found p xs s)
   where
     at : (b : Bool) → p x ≡ b → cond b (Some x) (find p xs) ≡ Some s → (find p xs ≡ Some s → p s ≡ true) → p s ≡ true
-    at true k e later = subst (λ (y : ℕ). p y ≡ true) (some_is x s e) k
+    at true k e later = subst (λ (y : ℕ). p y ≡ true) (some_same x s e) k
     at false k e later = later e
 
 -- it is a member
 making_member : (c : Config) (group : ℕ) (members : Option Members) (own : ℕ) (set : Sites) (ss : ℕ) → making_site_in c group members own set ≡ Some ss → is_member_of members ss ≡ true
-making_member c group members own set ss at = first_of (is_member_of members ss) (has set ss) (passes_or p (that_passes p (Some own)) (option_or (that_passes p (sync_site c group members)) (least_site p)) (passes_that p (Some own))
+making_member c group members own set ss at = and_first (is_member_of members ss) (has set ss) (passes_or p (that_passes p (Some own)) (option_or (that_passes p (sync_site c group members)) (least_site p)) (passes_that p (Some own))
     (passes_or p (that_passes p (sync_site c group members)) (least_site p) (passes_that p (sync_site c group members)) (passes_found p all_sites)) ss at)
   where
     p : ℕ → Bool
@@ -114,7 +113,7 @@ module _ (c : Config) (trace : List Line) (followed : IsFollowed c trace) (laws 
   root : ss ≡ 1 → HasSome c trace e ss (file_in group 1)
   root one = root_there c trace followed laws e group ss pack (whole.joined ss low few (subst (λ (o : Option Members). is_member_of o ss ≡ true) whole.are members) pack)
     where
-      few : ss ≤ 16
+      few : ss ≤ sites_max
       few = omega (arith, one)
 
       whole : Whole c (entries trace) e group
@@ -130,7 +129,7 @@ module _ (c : Config) (trace : List Line) (followed : IsFollowed c trace) (laws 
   held_counts n w = inl (ap (λ (o : Option Stamp). is_some o) w.1)
 
   made_counts : (n : ℕ) (d : CallId) → IsOf n d → Making c trace e ss (file_in group n) d → Counts n
-  made_counts n d is w = inr (d, is, filter_keeps (λ call. is_site (making_site t call) ss) t.makes d w.among (ap (λ (o : Option ℕ). is_site o ss) place ∙ test_own ss))
+  made_counts n d is w = inr (d, is, filter_keeps (λ call. is_site (making_site t call) ss) t.makes d w.among (ap (λ (o : Option ℕ). is_site o ss) place ∙ equal_self ss))
     where
       place : making_site t d ≡ Some ss
       place = ap (λ (s : Sites). making_site_in t.config t.group t.members d.site s) (making_said c trace e d group ∙ sym w.said)
@@ -149,7 +148,7 @@ module _ (c : Config) (trace : List Line) (followed : IsFollowed c trace) (laws 
   used_counts n (inl w) = held_counts n w
   used_counts n (inr w) = (let m = reserved_made c trace followed e ss w.0 (file_in group n) w.1 in begun_counts n w.0 m.0 m.1)
 
-  each_counts : (n : ℕ) → 64 * (ss - 1) + 1 ≤ n → n < 64 * (ss - 1) + 1 + 64 → Counts n
+  each_counts : (n : ℕ) → site_inodes * (ss - 1) + 1 ≤ n → n < site_inodes * (ss - 1) + 1 + site_inodes → Counts n
   each_counts n above below = at (nat_lt 1 n) refl
     where
       more : nat_lt 1 n ≡ true → 1 < n
@@ -163,7 +162,7 @@ module _ (c : Config) (trace : List Line) (followed : IsFollowed c trace) (laws 
       at false q = (let small : n ≤ 1 = least q in let first : n ≡ 1 = omega (arith, small, above) in let one : ss ≡ 1 = omega (arith, small, above, low) in subst (λ (m : ℕ). Counts m) (sym first) (held_counts 1 (root one)))
 
   pub full_lacks : lacks_numbers t (Some ss) ≡ true
-  full_lacks = enough (numbers_used t ss + length (makes_at t ss)) (counted (λ n. is_some (held_at t ss n)) IsOf one_number 64 (64 * (ss - 1) + 1) (makes_at t ss) each_counts)
+  full_lacks = enough (numbers_used t ss + length (makes_at t ss)) (counted (λ n. is_some (held_at t ss n)) IsOf one_number site_inodes (site_inodes * (ss - 1) + 1) (makes_at t ss) each_counts)
     where
-      enough : (m : ℕ) → 64 ≤ m → nat_le 64 m ≡ true
+      enough : (m : ℕ) → site_inodes ≤ m → nat_le site_inodes m ≡ true
       enough m h = grind (arith, nat_tests)

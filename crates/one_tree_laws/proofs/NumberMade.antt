@@ -35,7 +35,7 @@ use Rattle.tree_laws.proofs.Grants.{open_named}
 use Rattle.tree_laws.proofs.Kinship.{tree_epoch_is}
 use Rattle.tree_laws.proofs.Names.{same_epoch_eq}
 use Rattle.tree_laws.proofs.Serials.{one_open}
-use Rattle.order_laws.proofs.Lists.{all_changed, all_more, all_then, all_without}
+use Rattle.store_laws.proofs.of_order_laws.Lists.{all_changed, all_more, all_then, all_without}
 use Rattle.one_tree_laws.specs.MakeCallMade.{AsksMake, MakesFor, WasMadeFor}
 
 -- ---- what is begun as a make ----

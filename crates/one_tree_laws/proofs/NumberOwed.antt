@@ -23,7 +23,7 @@ use Rattle.tree_model.specs.Lists.{change_first}
 use Rattle.tree_model.specs.State.{TreeState, is_granted_here, is_inside, is_make, is_named, is_writer}
 use Rattle.tree_model.specs.Tree.{acted, grant_of, joined, left, next, once_acted, once_committed, opened, released, tree_of, without_make}
 use Rattle.tree_model.specs.Working.{effect_on, operated_by, work_after}
-use Rattle.order_laws.proofs.Lists.{all_changed, all_more, all_without}
+use Rattle.store_laws.proofs.of_order_laws.Lists.{all_changed, all_more, all_without}
 use Rattle.store_laws.proofs.Effects.{GoesOn, aborted_on, counted_on, operated_on}
 
 -- ---- an operation ----

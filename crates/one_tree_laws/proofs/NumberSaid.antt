@@ -14,8 +14,8 @@ use Rattle.tree_model.specs.State.{call_in, words_of}
 use Rattle.tree_model.specs.Tree.{tree_of}
 use Rattle.tree_laws.specs.Printed.{entries}
 use Rattle.tree_laws.proofs.Kinship.{tree_group_is}
-use Rattle.order_laws.proofs.Knowing.{tree_config}
-use Rattle.sync_laws.proofs.TreeCalls.{call_in_is}
+use Rattle.store_laws.proofs.of_order_laws.Knowing.{tree_config}
+use Rattle.store_laws.proofs.of_sync_laws.TreeCalls.{call_in_is}
 
 words_same : (c : Config) (e : EpochId) (g : ℕ) (t : List Line) (d : CallId) → words_of (call_in (tree_of c e g (entries t)).calls d) ≡ words_named (entries t) (Some d)
 words_same c e g t d = ap words_of (call_in_is c e g (entries t) d) ∙ over (call_named (entries t) d)

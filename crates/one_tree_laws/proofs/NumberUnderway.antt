@@ -1,6 +1,8 @@
 -- A make that its storage site has begun is underway in the tree until the site has its file.
 use Rattle.std.proofs.Common.{◌≡◌, ℕ, true, false, List, [], ◌∷◌, Option, Some, None, refl, sym, ◌∙◌, ap, subst, ◌⊎◌, inl, inr}
 use Rattle.std.specs.Option.{option_map}
+use Rattle.role_steps.proofs.of_plain_facts.Options.{some_same}
+use Rattle.role_steps.proofs.of_plain_facts.Tests.{true_false}
 use Rattle.locus_ids.specs.declared.config.Config.{Config}
 use Rattle.locus_ids.specs.declared.ids.CallId.{CallId}
 use Rattle.locus_ids.specs.declared.ids.EpochId.{EpochId}
@@ -31,7 +33,7 @@ use Rattle.tree_model.specs.Opening.{sites_made}
 use Rattle.tree_model.specs.Packs.{is_good_set, making_site_in, packs_of}
 use Rattle.tree_model.specs.State.{TreeState, instance_in, is_named}
 use Rattle.tree_model.specs.Tree.{next, tree_of}
-use Rattle.lawful_trace.specs.TreeRows.{IsCallIn}
+use Rattle.tree_laws.specs.of_lawful_trace.TreeRows.{IsCallIn}
 use Rattle.tree_laws.specs.Following.{IsFollowed, MayTell, OpensInTime, RefusesMake}
 use Rattle.tree_laws.specs.Instances.{AsksOpen, instance_now}
 use Rattle.tree_laws.specs.Past.{WasBegun}
@@ -39,14 +41,13 @@ use Rattle.tree_laws.specs.Printed.{entries}
 use Rattle.tree_laws.proofs.CarriedLooks.{More}
 use Rattle.tree_laws.proofs.Kinship.{tree_epoch_is, tree_group_is}
 use Rattle.tree_laws.proofs.Making.{members_told}
-use Rattle.tree_laws.proofs.Names.{some_is, true_false}
 use Rattle.tree_laws.proofs.Scripts.{in_stays, named_stays}
-use Rattle.order_laws.proofs.Lists.{all_found}
-use Rattle.holding_laws.specs.Below.{LawsBelow}
-use Rattle.holding_laws.specs.Held.{StandsOnHeld}
-use Rattle.holding_laws.proofs.Below.{laws_before}
-use Rattle.holding_laws.proofs.Distinct.{open_now}
-use Rattle.holding_laws.proofs.Holding.{stands_on_held}
+use Rattle.store_laws.proofs.of_order_laws.Lists.{all_found}
+use Rattle.store_laws.specs.of_holding_laws.Below.{LawsBelow}
+use Rattle.store_laws.specs.of_holding_laws.Held.{StandsOnHeld}
+use Rattle.store_laws.proofs.of_holding_laws.Below.{laws_before}
+use Rattle.store_laws.proofs.of_holding_laws.Distinct.{open_now}
+use Rattle.store_laws.proofs.of_holding_laws.Holding.{stands_on_held}
 use Rattle.store_laws.proofs.Begun.{begun_one}
 use Rattle.store_laws.proofs.Said.{asked_as_said}
 use Rattle.one_tree_laws.specs.MakeCallMade.{AsksMake}
@@ -145,7 +146,7 @@ module _ (c : Config) (older : List Line) (followed : IsFollowed c older) (e : E
       now = open_now c older followed e f.group inst x found
 
       at_is : may.in_time.at ≡ x
-      at_is = some_is may.in_time.at x (sym (subst (λ (y : EpochId). instance_now c older y inst ≡ Some may.in_time.at) (leaves.0 ∙ epoch_is) may.in_time.open_at.found) ∙ now)
+      at_is = some_same may.in_time.at x (sym (subst (λ (y : EpochId). instance_now c older y inst ≡ Some may.in_time.at) (leaves.0 ∙ epoch_is) may.in_time.open_at.found) ∙ now)
 
       clean : x.work.owes ≡ false
       clean = ap (λ (y : Instance). y.work.owes) (sym at_is) ∙ may.in_time.owes

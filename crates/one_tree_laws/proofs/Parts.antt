@@ -11,7 +11,7 @@ use Rattle.role_steps.specs.declared.pulls.Pull.{Pull}
 use Rattle.role_steps.specs.declared.synchronizing.SyncTable.{SyncTable}
 use Rattle.the_run.specs.Kept.{Among}
 use Rattle.the_run.specs.Worlds.{Line, told_onto}
-use Rattle.lock_laws.proofs.GrantSites.{is_synced}
+use Rattle.call_row_laws.proofs.of_lock_laws.GrantSites.{is_synced}
 use Rattle.tree_laws.specs.Doing.{AllTold, FrameFact, IsOfUsers, IsOfStore, IsAdopted, IsOfTable, IsOfSite, UsersInside, StoreHeld, PullsFact}
 use Rattle.tree_laws.specs.Stores.{CopiesAreHeld}
 use Rattle.tree_laws.specs.Tables.{TableFact}

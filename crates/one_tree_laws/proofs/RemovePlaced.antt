@@ -1,5 +1,7 @@
 -- What a call asked and was answered stands in what it has taken, at the place of its request.
 use Rattle.std.proofs.Common.{◌≡◌, ℕ, Bool, true, false, cond, List, [], ◌∷◌, ◌++◌, Option, Some, None, refl, sym, ◌∙◌, ap, subst, ◌⊎◌, inl, inr, append_assoc}
+use Rattle.role_steps.proofs.of_plain_facts.Options.{some_same}
+use Rattle.role_steps.proofs.of_plain_facts.Tests.{true_false}
 use Rattle.locus_ids.specs.declared.config.Config.{Config}
 use Rattle.locus_ids.specs.declared.ids.CallId.{CallId}
 use Rattle.locus_ids.specs.declared.ids.EpochId.{EpochId}
@@ -19,9 +21,9 @@ use Rattle.role_steps.specs.Views.{Told, LooksAgain, Shown, Takes}
 use Rattle.the_run.specs.Worlds.{Line}
 use Rattle.tree_model.specs.Calls.{granted_to}
 use Rattle.tree_model.specs.Tree.{kept_in}
-use Rattle.lawful_trace.specs.Progress.{Answers, answers, granted_answer, outcome_answer, wants_after, wants_next}
-use Rattle.lawful_trace.specs.Tables.{call_of_act, has_named, unless_named, use_number, uses_of}
-use Rattle.lawful_trace.specs.TreeRows.{is_open_of}
+use Rattle.tree_laws.specs.of_lawful_trace.Progress.{Answers, answers, granted_answer, outcome_answer, wants_after, wants_next}
+use Rattle.tree_laws.specs.of_lawful_trace.Tables.{call_of_act, has_named, unless_named, use_number, uses_of}
+use Rattle.tree_laws.specs.of_lawful_trace.TreeRows.{is_open_of}
 use Rattle.tree_laws.specs.Printed.{entries, onto_entries}
 use Rattle.tree_laws.specs.Calls.{Asks, Waits, heard, is_request, log, script, tries}
 use Rattle.tree_laws.specs.Following.{IsFollowed, MayTell}
@@ -30,12 +32,12 @@ use Rattle.tree_laws.specs.Serials.{asked_now, is_open_want}
 use Rattle.tree_laws.proofs.Asking.{Turns, not_longer, waits_stays}
 use Rattle.tree_laws.proofs.Awaiting.{by_own, by_owner, last_same}
 use Rattle.tree_laws.proofs.Hearing.{Hears, asking_named, hears, wants_as_asked}
-use Rattle.tree_laws.proofs.Names.{same_call_own, some_is, true_false}
+use Rattle.tree_laws.proofs.Names.{same_call_own}
 use Rattle.tree_laws.proofs.Owners.{named_more}
 use Rattle.tree_laws.proofs.Scripts.{script_stays}
 use Rattle.tree_laws.proofs.Serials.{asks_opens}
-use Rattle.order_laws.proofs.ProcessCurrent.{same_or_turns}
-use Rattle.order_laws.proofs.ProcessOnce.{GrantsNow, granted_split}
+use Rattle.store_laws.proofs.of_order_laws.ProcessCurrent.{same_or_turns}
+use Rattle.store_laws.proofs.of_order_laws.ProcessOnce.{GrantsNow, granted_split}
 
 abbrev With : ℕ → Told → List Line → List Line
 With n x older = record { number = n; told = x } ∷ older
@@ -192,7 +194,7 @@ done_placed c (y ∷ older) h named e d i n o r granted unnamed (inl now) = over
             ∙ ap (λ (b : Bool). cond b (use_number (uses_of (entries older) at inst) number) (Some d)) unnamed
 
         asks : Asks c older d (want.Do inst what)
-        asks = subst (λ (z : CallId). Asks c older z (want.Do inst what)) (some_is may.in_time.call d (sym may.in_time.owner ∙ owner)) may.in_time.asks
+        asks = subst (λ (z : CallId). Asks c older z (want.Do inst what)) (some_same may.in_time.call d (sym may.in_time.owner ∙ owner)) may.in_time.asks
 
         no_look : (f : FileId) (w : What) → want.Do inst what ≡ want.Look f w → ⊥
         no_look f w q = cc

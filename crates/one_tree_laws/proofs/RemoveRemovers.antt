@@ -2,6 +2,9 @@
 use Rattle.std.proofs.Common.{◌≡◌, ℕ, ◌==◌, Bool, true, false, not, ◌&&◌, List, [], ◌∷◌, ◌++◌, append-nil, Option, Some, None, refl, sym, ◌∙◌, ap, subst, inl, inr}
 use Rattle.std.specs.List.{find}
 use Rattle.std.specs.Option.{is_none, is_some}
+use Rattle.role_steps.proofs.of_plain_facts.Numbers.{equal, equal_self}
+use Rattle.role_steps.proofs.of_plain_facts.Options.{some_same}
+use Rattle.role_steps.proofs.of_plain_facts.Tests.{and_first, and_second, true_false}
 use Rattle.locus_ids.specs.declared.config.Config.{Config}
 use Rattle.locus_ids.specs.declared.ids.CallId.{CallId}
 use Rattle.locus_ids.specs.declared.ids.EpochId.{EpochId}
@@ -42,9 +45,9 @@ use Rattle.tree_model.specs.Tree.{tree_of}
 use Rattle.tree_model.specs.Working.{is_target}
 use Rattle.tree_model.specs.declared.accepted.Waiting.{Waiting}
 use Rattle.tree_model.specs.declared.instance.Instance.{Instance}
-use Rattle.lawful_trace.specs.CallRows.{is_this}
-use Rattle.lawful_trace.specs.Tables.{begun, has_named}
-use Rattle.lawful_trace.specs.TreeRows.{IsCallIn, granted_group}
+use Rattle.tree_laws.specs.of_lawful_trace.CallRows.{is_this}
+use Rattle.tree_laws.specs.of_lawful_trace.Tables.{begun, has_named}
+use Rattle.tree_laws.specs.of_lawful_trace.TreeRows.{IsCallIn, granted_group}
 use Rattle.tree_laws.specs.Printed.{entries}
 use Rattle.tree_laws.specs.Calls.{Asks, is_request, log, script, script_as}
 use Rattle.tree_laws.specs.Following.{IsFollowed, MayTell}
@@ -54,20 +57,20 @@ use Rattle.tree_laws.specs.Packets.{SeesTarget, SeesVersion, serial_of}
 use Rattle.tree_laws.specs.Past.{GrantRecord, Printed, WasDone, WasGranted}
 use Rattle.tree_laws.specs.Users.{had}
 use Rattle.tree_laws.proofs.Answered.{asker_unnamed}
-use Rattle.tree_laws.proofs.Names.{same_call_own, same_serial_own, some_is, test_own, test_same, true_false}
+use Rattle.tree_laws.proofs.Names.{same_call_own, same_serial_own}
 use Rattle.tree_laws.proofs.OfOwn.{asks_of_own}
 use Rattle.tree_laws.proofs.Owing.{InGroup, found_every, in_group}
 use Rattle.tree_laws.proofs.Rows.{followed_rows}
 use Rattle.tree_laws.proofs.Waiting.{found_among}
-use Rattle.order_laws.specs.Alone.{AreAlone}
-use Rattle.order_laws.proofs.Alone.{rows_apart}
-use Rattle.order_laws.proofs.Keeping.{file_eq}
-use Rattle.order_laws.proofs.ProcessOpen.{OpenAs, granted_open}
-use Rattle.order_laws.proofs.ProcessTaken.{all_had}
-use Rattle.order_laws.proofs.ProcessUnreleased.{unreleased}
-use Rattle.holding_laws.proofs.MendWhole.{all_safe}
-use Rattle.user_laws.specs.Turning.{it, InstanceTurns, Turning}
-use Rattle.user_laws.proofs.Tabled.{every_among, row_found}
+use Rattle.store_laws.specs.of_order_laws.Alone.{AreAlone}
+use Rattle.store_laws.proofs.of_order_laws.Alone.{rows_apart}
+use Rattle.store_laws.proofs.of_order_laws.Keeping.{file_eq}
+use Rattle.store_laws.proofs.of_order_laws.ProcessOpen.{OpenAs, granted_open}
+use Rattle.store_laws.proofs.of_order_laws.ProcessTaken.{all_had}
+use Rattle.store_laws.proofs.of_order_laws.ProcessUnreleased.{unreleased}
+use Rattle.store_laws.proofs.of_holding_laws.MendWhole.{all_safe}
+use Rattle.store_laws.specs.of_user_laws.Turning.{it, InstanceTurns, Turning}
+use Rattle.store_laws.proofs.of_user_laws.Tabled.{every_among, row_found}
 use Rattle.store_laws.proofs.ScriptUntouched.{untouched}
 use Rattle.store_laws.proofs.AnswerDone.{done_named}
 use Rattle.one_tree_laws.proofs.RemovePlaced.{DoneSo, Taken, done_placed, taken_so}
@@ -76,16 +79,8 @@ use Rattle.one_tree_laws.proofs.RemoveSeen.{IsWritten, alone_one, among_of, foun
 
 -- ---- an open to write is granted on a version ----
 
-first_of : (a b : Bool) → (a && b) ≡ true → a ≡ true
-first_of true b e = refl
-first_of false b e = e
-
-second_of : (a b : Bool) → (a && b) ≡ true → b ≡ true
-second_of true b e = e
-second_of false b e = absurd (true_false (sym e))
-
 only_kept : (h : List Version) (t : TreeState) (call : CallId) (i : Serial) (f : FileId) (stamp : Option Stamp) (place : ℕ) → gives_grant h t call i mode.Write f stamp place ≡ true → is_only (kept_of h t f) stamp ≡ true
-only_kept h t call i f stamp place g = first_of (is_only (kept_of h t f) stamp) (same_version (held_at t place f.ino) stamp) (second_of (not (is_granted t i)) _ (second_of (i.us == call.site) _ (second_of (is_none (open_refusal h t mode.Write call f)) _ (second_of t.started _ g))))
+only_kept h t call i f stamp place g = and_first (is_only (kept_of h t f) stamp) (same_version (held_at t place f.ino) stamp) (and_second (not (is_granted t i)) _ (and_second (i.us == call.site) _ (and_second (is_none (open_refusal h t mode.Write call f)) _ (and_second t.started _ g))))
 
 stamped : (c : Config) (t : List Line) → IsFollowed c t → (e : EpochId) (g : CallId) (request : ℕ) (i : Serial) (f : FileId) (stamp : Option Stamp) (ss : ℕ) → WasGranted t e g request i mode.Write f stamp ss → (s : Stamp) × (stamp ≡ Some s)
 stamped c [] h e g request i f stamp ss was = absurd was
@@ -154,10 +149,10 @@ module _ (c : Config) (t : List Line) (f : Frame) (w : WaitingCall) (u : Users) 
       start = ap (script c (entries t) d None) (append-nil (log t d)) ∙ asks.asked
 
   has_target : own r.target ≡ true
-  has_target = second_of (not (same_serial i r.target)) (own r.target) has_both
+  has_target = and_second (not (same_serial i r.target)) (own r.target) has_both
 
   apart : r.target ≡ i → ⊥
-  apart same = true_false (sym (first_of (not (same_serial i r.target)) (own r.target) has_both) ∙ ap not (subst (λ (j : Serial). same_serial i j ≡ true) (sym same) (same_serial_own i)))
+  apart same = true_false (sym (and_first (not (same_serial i r.target)) (own r.target) has_both) ∙ ap not (subst (λ (j : Serial). same_serial i j ≡ true) (sym same) (same_serial_own i)))
 
   has_dir : own i ≡ true
   has_dir = subst (IsOf own) asks.asked (asks_of_own c t d h (inside.accepted, inside.named))
@@ -207,13 +202,13 @@ module _ (c : Config) (t : List Line) (f : Frame) (w : WaitingCall) (u : Users) 
       over true q = absurd (apart (sym in_target.serial_is ∙ (ap (λ (x : Instance). x.grant.inst) (sym one) ∙ in_dir.serial_is)))
         where
           same : in_target.at.grant.file ≡ in_dir.at.grant.file
-          same = in_target.file_is ∙ (ap (λ (m : ℕ). record { group = r.dir.group; ino = m }) (sym (test_same r.number ino q) ∙ in_dir.number_is) ∙ sym in_dir.file_is)
+          same = in_target.file_is ∙ (ap (λ (m : ℕ). record { group = r.dir.group; ino = m }) (sym (equal r.number ino q) ∙ in_dir.number_is) ∙ sym in_dir.file_is)
 
           one : in_dir.at ≡ in_target.at
           one = alone_one here in_target.at in_dir.at alone target_among dir_among same writes
 
   mine : is_target d ino in_target.at ≡ true
-  mine = both (same_call in_target.at.grant.call d) (in_target.at.grant.file.ino == ino) (subst (λ (x : CallId). same_call x d ≡ true) (sym in_target.call_is) (same_call_own d)) (subst (λ (x : FileId). (x.ino == ino) ≡ true) (sym in_target.file_is) (test_own ino))
+  mine = both (same_call in_target.at.grant.call d) (in_target.at.grant.file.ino == ino) (subst (λ (x : CallId). same_call x d ≡ true) (sym in_target.call_is) (same_call_own d)) (subst (λ (x : FileId). (x.ino == ino) ≡ true) (sym in_target.file_is) (equal_self ino))
     where
       both : (a b : Bool) → a ≡ true → b ≡ true → (a && b) ≡ true
       both true true p q = refl
@@ -234,7 +229,7 @@ module _ (c : Config) (t : List Line) (f : Frame) (w : WaitingCall) (u : Users) 
 
       same : found_first.0.grant.file ≡ in_target.at.grant.file
       same = file_eq found_first.0.grant.file in_target.at.grant.file (group ∙ (ap (λ (x : FileId). x.group) in_dir.file_is ∙ ap (λ (x : FileId). x.group) (sym in_target.file_is)))
-          (test_same found_first.0.grant.file.ino ino (second_of (same_call found_first.0.grant.call d) (found_first.0.grant.file.ino == ino) of.1) ∙ ap (λ (x : FileId). x.ino) (sym in_target.file_is))
+          (equal found_first.0.grant.file.ino ino (and_second (same_call found_first.0.grant.call d) (found_first.0.grant.file.ino == ino) of.1) ∙ ap (λ (x : FileId). x.ino) (sym in_target.file_is))
 
   -- ---- its work ----
 
@@ -288,7 +283,7 @@ module _ (c : Config) (t : List Line) (f : Frame) (w : WaitingCall) (u : Users) 
           shown = granted_open c t h e fact.call fact.request r.target fact.mode fact.file fact.stamp x.ss was (unreleased c t e d (want.Do i (op.Remove name ino)) r.target h inside asks has_target)
 
           at_is : shown.at ≡ in_target.at
-          at_is = some_is shown.at in_target.at (sym shown.found ∙ in_target.found)
+          at_is = some_same shown.at in_target.at (sym shown.found ∙ in_target.found)
 
           mode_is : fact.mode ≡ mode.Write
           mode_is = sym shown.mode_is ∙ (ap (λ (y : Instance). y.grant.mode) at_is ∙ in_target.mode_is)
@@ -309,7 +304,7 @@ module _ (c : Config) (t : List Line) (f : Frame) (w : WaitingCall) (u : Users) 
           sees = subst (λ (o : Option Stamp). SeesVersion c t fact.file mode.Write o x.vector) on.1 (subst (λ (m : Mode). SeesVersion c t fact.file m fact.stamp x.vector) mode_is fact.sees)
 
   serial_is : opened_serial ino w.answers ≡ Some r.target.serial
-  serial_is = ap (opened_serial ino) k.call.answers_are ∙ (r.serial_is ∙ first_is (r.number == ino) (r.found == ino) other (subst (λ (m : ℕ). (m == ino) ≡ true) (sym in_target.number_is) (test_own ino)))
+  serial_is = ap (opened_serial ino) k.call.answers_are ∙ (r.serial_is ∙ first_is (r.number == ino) (r.found == ino) other (subst (λ (m : ℕ). (m == ino) ≡ true) (sym in_target.number_is) (equal_self ino)))
     where
       first_is : (a b : Bool) → a ≡ false → b ≡ true → ◌≡◌ {A = Option ℕ} (elim a [ true ↦ Some i.serial | false ↦ elim b [ true ↦ Some r.target.serial | false ↦ None ] ]) (Some r.target.serial)
       first_is true b p q = absurd (true_false p)

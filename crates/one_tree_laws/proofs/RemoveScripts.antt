@@ -32,7 +32,7 @@ use Rattle.call_rules.specs.declared.want.Want.TheVariants as want
 use Rattle.role_steps.specs.Requests.{opened_serial}
 use Rattle.tree_model.specs.Folds.{Trace}
 use Rattle.tree_model.specs.declared.accepted.Waiting.{Waiting}
-use Rattle.lawful_trace.specs.Progress.{is_packed_in}
+use Rattle.tree_laws.specs.of_lawful_trace.Progress.{is_packed_in}
 use Rattle.tree_laws.specs.Calls.{script_as}
 use Rattle.tree_laws.proofs.Awaiting.{OpensIt}
 use Rattle.tree_laws.proofs.Holding.{Script}

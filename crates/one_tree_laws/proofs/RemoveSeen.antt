@@ -3,6 +3,8 @@ use Rattle.std.proofs.Common.{◌≡◌, ℕ, Bool, true, false, cond, List, [],
 use Rattle.std.proofs.lemmas.Bool.Decides.{nat_tests}
 use Rattle.std.specs.List.{find}
 use Rattle.std.specs.List.{AllByRecursion}
+use Rattle.role_steps.proofs.of_plain_facts.Options.{some_same}
+use Rattle.role_steps.proofs.of_plain_facts.Tests.{true_false}
 use Rattle.locus_ids.specs.declared.config.Config.{Config}
 use Rattle.locus_ids.specs.declared.ids.CallId.{CallId}
 use Rattle.locus_ids.specs.declared.ids.EpochId.{EpochId}
@@ -25,22 +27,21 @@ use Rattle.the_run.specs.Kept.{Among}
 use Rattle.the_run.specs.Worlds.{Line}
 use Rattle.tree_model.specs.Calls.{granted_to}
 use Rattle.tree_model.specs.declared.instance.Instance.{Instance}
-use Rattle.lawful_trace.specs.Progress.{Answers, granted_answer}
-use Rattle.lawful_trace.specs.Tables.{begun}
-use Rattle.lawful_trace.specs.TreeRows.{IsCallIn, is_open_of}
+use Rattle.tree_laws.specs.of_lawful_trace.Progress.{Answers, granted_answer}
+use Rattle.tree_laws.specs.of_lawful_trace.Tables.{begun}
+use Rattle.tree_laws.specs.of_lawful_trace.TreeRows.{IsCallIn, is_open_of}
 use Rattle.tree_laws.specs.Printed.{entries}
 use Rattle.tree_laws.specs.Calls.{Asks, log, script}
 use Rattle.tree_laws.specs.Following.{IsFollowed}
 use Rattle.tree_laws.specs.Holding.{has_instances}
 use Rattle.tree_laws.specs.Instances.{instance_now}
 use Rattle.tree_laws.proofs.Awaiting.{OpensIt}
-use Rattle.tree_laws.proofs.Names.{some_is, true_false}
-use Rattle.order_laws.specs.Alone.{AreAlone, MayStandBy}
-use Rattle.order_laws.proofs.Standing.{same_file_eq}
-use Rattle.order_laws.proofs.ProcessBegun.{comes_from}
-use Rattle.order_laws.proofs.ProcessGranting.{GrantIs, granted_is}
-use Rattle.order_laws.proofs.ProcessOpen.{OpenAs, granted_open}
-use Rattle.order_laws.proofs.ProcessUnreleased.{unreleased}
+use Rattle.store_laws.specs.of_order_laws.Alone.{AreAlone, MayStandBy}
+use Rattle.store_laws.proofs.of_order_laws.Standing.{same_file_eq}
+use Rattle.store_laws.proofs.of_order_laws.ProcessBegun.{comes_from}
+use Rattle.store_laws.proofs.of_order_laws.ProcessGranting.{GrantIs, granted_is}
+use Rattle.store_laws.proofs.of_order_laws.ProcessOpen.{OpenAs, granted_open}
+use Rattle.store_laws.proofs.of_order_laws.ProcessUnreleased.{unreleased}
 use Rattle.one_tree_laws.proofs.RemovePlaced.{GrantedSo, Taken, granted_placed, taken_so}
 use Rattle.one_tree_laws.proofs.RemoveScripts.{IsOr}
 
@@ -70,7 +71,7 @@ among_of p [] x e = absurd (none x e)
 among_of {A} p (y ∷ ys) x e = at (among_of p ys x) (p y) refl e
   where
     at : (find p ys ≡ Some x → Among x ys × (p x ≡ true)) → (b : Bool) → p y ≡ b → cond b (Some y) (find p ys) ≡ Some x → ((x ≡ y) ⊎ Among x ys) × (p x ≡ true)
-    at later true q r = (inl (sym (some_is y x r)), ap p (sym (some_is y x r)) ∙ q)
+    at later true q r = (inl (sym (some_same y x r)), ap p (sym (some_same y x r)) ∙ q)
     at later false q r = (inr (later r).0, (later r).1)
 
 pub found_some : {A : Type 0} (p : A → Bool) (x : A) (xs : List A) → Among x xs → p x ≡ true → (y : A) × (find p xs ≡ Some y)

@@ -1,11 +1,12 @@
 -- Tables of a site stand in ascending order of their groups, each once; one of them changes, the others stay.
 use Rattle.std.proofs.Common.{◌≡◌, ℕ, ◌==◌, nat_lt, ◌<◌, Bool, true, false, cond, List, [], ◌∷◌, map, filter, Option, Some, None, refl, sym, ap, subst, inl, inr, arith}
 use Rattle.std.proofs.lemmas.Bool.Decides.{nat_tests}
+use Rattle.role_steps.proofs.of_plain_facts.Numbers.{equal}
+use Rattle.role_steps.proofs.of_plain_facts.Options.{none_some, some_same}
 use Rattle.role_steps.specs.Own.{Every}
 use Rattle.role_steps.specs.Tables.{row, with_row, first_that}
 use Rattle.the_run.specs.Kept.{Among}
 use Rattle.tree_laws.proofs.Boots.{every_filter}
-use Rattle.tree_laws.proofs.Names.{some_is, test_same}
 
 -- each is above the ones before it
 abbrev pub Rising : List ℕ → Type 0
@@ -44,7 +45,7 @@ every_replaced P key x (y ∷ ys) r p h = over (nat_lt (key y) (key x)) (key y =
   where
     over : (a b : Bool) → nat_lt (key y) (key x) ≡ a → (key y == key x) ≡ b → Every P (with_row key x ys) → Every P (elim a [ true ↦ y ∷ with_row key x ys | false ↦ elim b [ true ↦ x ∷ ys | false ↦ x ∷ y ∷ ys ] ])
     over true b lt same k = (h.0 (less_apart (key y) (key x) lt), k)
-    over false true lt same k = (p, above_each P key (key x) ys (subst (λ (m : ℕ). Every (λ (z : ℕ). m < z) (map key ys)) (test_same (key y) (key x) same) r.0) h.1)
+    over false true lt same k = (p, above_each P key (key x) ys (subst (λ (m : ℕ). Every (λ (z : ℕ). m < z) (map key ys)) (equal (key y) (key x) same) r.0) h.1)
     over false false lt same k = (p, (h.0 (below_apart (key x) (key y) (between (key y) (key x) lt same)), above_each P key (key x) ys (every_above (key x) (key y) (map key ys) (between (key y) (key x) lt same) r.0) h.1))
 
 among_above : (k : ℕ) (xs : List ℕ) → Every (λ (y : ℕ). k < y) xs → Among k xs → ⊥
@@ -60,21 +61,18 @@ keys_same key x (y ∷ ys) r m = over (nat_lt (key y) (key x)) (key y == key x) 
     over : (a b : Bool) → nat_lt (key y) (key x) ≡ a → (key y == key x) ≡ b → (Among (key x) (map key ys) → map key (with_row key x ys) ≡ map key ys) → Among (key x) (key y ∷ map key ys) → map key (elim a [ true ↦ y ∷ with_row key x ys | false ↦ elim b [ true ↦ x ∷ ys | false ↦ x ∷ y ∷ ys ] ]) ≡ key y ∷ map key ys
     over true b lt same rest (inl e) = absurd (less_apart (key y) (key x) lt (sym e))
     over true b lt same rest (inr k) = ap (λ (zs : List ℕ). key y ∷ zs) (rest k)
-    over false true lt same rest k = ap (λ (z : ℕ). z ∷ map key ys) (sym (test_same (key y) (key x) same))
+    over false true lt same rest k = ap (λ (z : ℕ). z ∷ map key ys) (sym (equal (key y) (key x) same))
     over false false lt same rest (inl e) = absurd (below_apart (key x) (key y) (between (key y) (key x) lt same) (sym e))
     over false false lt same rest (inr k) = absurd (among_above (key x) (map key ys) (every_above (key x) (key y) (map key ys) (between (key y) (key x) lt same) r.0) k)
 
 -- ---- what is found ----
-
-none_some : {A : Type 0} (x : A) → ◌≡◌ {A = Option A} None (Some x) → ⊥
-none_some x k = cc
 
 pub row_key : {A : Type 0} (key : A → ℕ) (k : ℕ) (xs : List A) (x : A) → row key k xs ≡ Some x → Among x xs × (key x ≡ k)
 row_key key k [] x e = absurd (none_some x e)
 row_key key k (y ∷ ys) x e = over (key y == k) refl (λ h. row_key key k ys x h) e
   where
     over : (b : Bool) → (key y == k) ≡ b → (row key k ys ≡ Some x → Among x ys × (key x ≡ k)) → elim b [ true ↦ Some y | false ↦ row key k ys ] ≡ Some x → Among x (y ∷ ys) × (key x ≡ k)
-    over true same rest h = (inl (sym (some_is y x h)), subst (λ (z : _). key z ≡ k) (some_is y x h) (test_same (key y) k same))
+    over true same rest h = (inl (sym (some_same y x h)), subst (λ (z : _). key z ≡ k) (some_same y x h) (equal (key y) k same))
     over false same rest h = let r : Among x ys × (key x ≡ k) = rest h in (inr r.0, r.1)
 
 pub first_among : {A : Type 0} (test : A → Bool) (xs : List A) (x : A) → first_that test xs ≡ Some x → Among x xs
@@ -82,7 +80,7 @@ first_among test [] x e = absurd (none_some x e)
 first_among test (y ∷ ys) x e = over (test y) (λ h. first_among test ys x h) e
   where
     over : (b : Bool) → (first_that test ys ≡ Some x → Among x ys) → elim b [ true ↦ Some y | false ↦ first_that test ys ] ≡ Some x → Among x (y ∷ ys)
-    over true rest h = inl (sym (some_is y x h))
+    over true rest h = inl (sym (some_same y x h))
     over false rest h = inr (rest h)
 
 pub every_among : {A : Type 0} (P : A → Type 0) (x : A) (xs : List A) → Among x xs → Every P xs → P x

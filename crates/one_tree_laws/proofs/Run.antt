@@ -19,10 +19,10 @@ use Rattle.the_run.specs.Runs.{is_busy, packet_record, run_in}
 use Rattle.the_run.specs.Steps.{step}
 use Rattle.the_run.specs.Worlds.{World, Place, PlaceRow, Running, Numbered, place_at, place_in, place_site, links_of, script_of, acts, passed, loses, number_of, fresh, formatted, first_place, first_world}
 use Rattle.the_run.proofs.InsideSync.{every_without}
-use Rattle.row_laws.specs.ByLine.{IsLine, Gives, KeptIn}
-use Rattle.row_laws.specs.Voids.{LinesFit}
-use Rattle.row_laws.proofs.ByLine.{every_line}
-use Rattle.vector_laws.proofs.Held.{boots_copies}
+use Rattle.call_row_laws.specs.of_row_laws.ByLine.{IsLine, Gives, KeptIn}
+use Rattle.call_row_laws.specs.of_row_laws.Voids.{LinesFit}
+use Rattle.call_row_laws.proofs.of_row_laws.ByLine.{every_line}
+use Rattle.kept_laws.proofs.of_vector_laws.Held.{boots_copies}
 use Rattle.tree_laws.specs.Packets.{PacketFact}
 use Rattle.one_tree_laws.specs.Places.{OutsideFact, PlaceFact, NumberedFact, WorldFact}
 use Rattle.one_tree_laws.specs.Rest.{IsRest}

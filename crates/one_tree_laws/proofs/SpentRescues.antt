@@ -3,10 +3,11 @@ use Rattle.std.proofs.Common.{◌≡◌, ℕ, ◌%◌, ◌==◌, Bool, true, fal
 use Rattle.std.proofs.lemmas.Bool.Decides.{nat_tests}
 use Rattle.std.specs.List.{list_any}
 use Rattle.std.specs.Str.{bytes_eq}
+use Rattle.role_steps.proofs.of_plain_facts.Tests.{true_false}
 use Rattle.locus_ids.specs.declared.refusal.Refusal.TheVariants as refusal
+use Rattle.locus_ids.specs.Sizes.{directory_bytes_max}
 use Rattle.trace_book.specs.declared.operation.Op.TheVariants as op
 use Rattle.trace_book.specs.declared.operation.Outcome.TheVariants as result
-use Rattle.file_content.specs.Contents.{max_bytes}
 use Rattle.file_content.specs.Pages.{pages_needed, pages_replaced}
 use Rattle.dir_format.specs.declared.entry.Entry.{Entry}
 use Rattle.dir_format.specs.Entries.{max_count}
@@ -50,9 +51,6 @@ abbrev pub EffectMended : ℕ → List ℕ → Option Effect → Type 0
 EffectMended free changed None = Unit {0}
 EffectMended free changed (Some e) = IsSpentMend op.Mend (result_in free changed e) → ⊥
 
-true_false : true ≡ false → ⊥
-true_false e = cc
-
 result_mended : (free : ℕ) (changed : List ℕ) (e : Effect) → e.spent ≡ false → (IsSpentMend op.Mend e.result → ⊥) → IsSpentMend op.Mend (result_in free changed e) → ⊥
 result_mended free changed e unspent fine = by (is_refusal e.result) (nat_lt free (pages_needed e.pages changed)) e.spent unspent
   where
@@ -63,7 +61,7 @@ result_mended free changed e unspent fine = by (is_refusal e.result) (nat_lt fre
     by false false false q k = fine k
 
 joins_mended : (content : List ℕ) (several : Bool) (joined : List ℕ) → IsSpentMend op.Mend (mends content several joined).result → ⊥
-joins_mended content several joined = over (nat_lt max_bytes (length joined))
+joins_mended content several joined = over (nat_lt directory_bytes_max (length joined))
   where
     over : (b : Bool) → IsSpentMend op.Mend (cond b (tells content (result.No refusal.TooLong)) (record { result = result.Done; content = joined; pages = pages_replaced content joined; counts = several || not (bytes_eq joined content); spent = false })).result → ⊥
     over true k = k

@@ -14,13 +14,13 @@ use Rattle.the_run.specs.Steps.{from_user, group_of}
 use Rattle.the_run.specs.Worlds.{World}
 use Rattle.the_run.specs.Runs.{run_in}
 use Rattle.the_run.proofs.Runs.{every_run}
-use Rattle.run_laws.specs.Naming.{Good}
-use Rattle.run_laws.proofs.Run.{first_good, good_kept}
-use Rattle.vector_laws.specs.Written.{past_of}
-use Rattle.lock_laws.proofs.JoinsRun.{run_joins_once}
-use Rattle.make_laws.proofs.RunningSpine.{Free, FreeRecord}
-use Rattle.make_laws.proofs.RunningSpineParts.{takes_store}
-use Rattle.make_laws.proofs.RunningSpineRun.{EachOwed, Premise, SentFacts, SentOwed, Spines, Stores, Where, first_where, where_kept}
+use Rattle.call_row_laws.specs.of_run_laws.Naming.{Good}
+use Rattle.call_row_laws.proofs.of_run_laws.Run.{first_good, good_kept}
+use Rattle.kept_laws.specs.of_vector_laws.Written.{past_of}
+use Rattle.call_row_laws.proofs.of_lock_laws.JoinsRun.{run_joins_once}
+use Rattle.kept_laws.proofs.of_make_laws.RunningSpine.{Free, FreeRecord}
+use Rattle.kept_laws.proofs.of_make_laws.RunningSpineParts.{takes_store}
+use Rattle.kept_laws.proofs.of_make_laws.RunningSpineRun.{EachOwed, Premise, SentFacts, SentOwed, Spines, Stores, Where, first_where, where_kept}
 use Rattle.one_tree_laws.specs.SpentMends.{AllMended, MendedRecord, MendedTold}
 use Rattle.one_tree_laws.proofs.SpentStores.{Mended, NoneSpent, on_close_out, on_closed_ok_out, on_op_out, on_open_ss_out, quiet_out}
 

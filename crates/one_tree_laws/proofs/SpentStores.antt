@@ -24,9 +24,9 @@ use Rattle.role_steps.specs.declared.instances.Stage.{Stage}
 use Rattle.role_steps.specs.declared.instances.Stage.TheVariants as stage
 use Rattle.role_steps.proofs.Sending.{every_append}
 use Rattle.one_tree_laws.specs.Rest.{IsSpentMend}
-use Rattle.vector_laws.specs.Facts.{onto}
-use Rattle.make_laws.proofs.RunningSpine.{AllOwed, DiskOwed, Owed, owed_append}
-use Rattle.make_laws.proofs.RunningSpineParts.{Here}
+use Rattle.kept_laws.specs.of_vector_laws.Facts.{onto}
+use Rattle.kept_laws.proofs.of_make_laws.RunningSpine.{AllOwed, DiskOwed, Owed, owed_append}
+use Rattle.kept_laws.proofs.of_make_laws.RunningSpineParts.{Here}
 use Rattle.one_tree_laws.specs.SpentMends.{MendedTold}
 use Rattle.one_tree_laws.proofs.SpentRescues.{EffectMended, mend_mended}
 

@@ -4,12 +4,12 @@ use Rattle.locus_ids.specs.declared.config.Config.{Config}
 use Rattle.role_steps.specs.Own.{Every}
 use Rattle.role_steps.specs.Views.{Told}
 use Rattle.the_run.specs.Worlds.{Line}
-use Rattle.vector_laws.specs.Written.{past_of}
-use Rattle.vector_laws.specs.HistoryCommits.{StampsAreOnce}
-use Rattle.pack_laws.specs.Packs.{ToldPacked}
+use Rattle.kept_laws.specs.of_vector_laws.Written.{past_of}
+use Rattle.kept_laws.specs.of_vector_laws.HistoryCommits.{StampsAreOnce}
+use Rattle.kept_laws.specs.of_pack_laws.Packs.{ToldPacked}
 use Rattle.tree_laws.specs.Frames.{AllStay}
-use Rattle.holding_laws.specs.Below.{LawsBelow}
-use Rattle.holding_laws.proofs.OneVersionOrder.{order_stays}
+use Rattle.store_laws.specs.of_holding_laws.Below.{LawsBelow}
+use Rattle.store_laws.proofs.of_holding_laws.OneVersionOrder.{order_stays}
 use Rattle.one_tree_laws.specs.Rest.{EachRest, IsRest, Comes, more}
 
 pub record Stays (c : Config) : Type 0 where

@@ -1,5 +1,7 @@
 -- The whole step of a site: a call, a packet, a tick, or a line for epochs, and the end of the event.
 use Rattle.std.proofs.Common.{◌≡◌, ℕ, ◌+◌, ◌==◌, nat_lt, Bool, true, false, ◌&&◌, ◌||◌, not, List, [], ◌∷◌, ◌++◌, Option, Some, None, refl, sym, ◌∙◌, subst}
+use Rattle.role_steps.proofs.of_plain_facts.Numbers.{equal}
+use Rattle.role_steps.proofs.of_plain_facts.Tests.{both_true, not_false}
 use Rattle.locus_ids.specs.declared.config.Config.{Config}
 use Rattle.locus_ids.specs.declared.sites.Links.{Links}
 use Rattle.trace_book.specs.declared.call.Call.{Call}
@@ -18,11 +20,9 @@ use Rattle.role_steps.proofs.Sending.{every_append}
 use Rattle.the_run.specs.Steps.{in_order, is_framed, is_forming, is_dropped, takes_framed, takes, adopts_in, tries_at, ends_event, whole, repeats, ticks_after, call_frame, epoch_id, takes_call, takes_inside, step}
 use Rattle.the_run.specs.Worlds.{Line, told_onto}
 use Rattle.the_run.proofs.StepSends.{order_sent}
-use Rattle.vector_laws.proofs.FormingFacts.{both_true}
-use Rattle.lock_laws.proofs.StepFacts.{SiteSilent, notify_silent, page_silent, framed_notify}
+use Rattle.call_row_laws.proofs.of_lock_laws.StepFacts.{SiteSilent, notify_silent, page_silent, framed_notify}
 use Rattle.tree_laws.specs.Doing.{NoWrite, WriteFact}
 use Rattle.tree_laws.specs.Packets.{PacketFact}
-use Rattle.tree_laws.proofs.Names.{test_same}
 use Rattle.one_tree_laws.specs.Places.{OutsideFact, SiteFact, SiteIn, SiteFine}
 use Rattle.one_tree_laws.specs.Rest.{AllRest, Past}
 use Rattle.one_tree_laws.specs.Roles.{EventFact, MayCall, RolesDo}
@@ -140,12 +140,8 @@ called c roles n me process words trace (Some e) v followed here h may rest =
 
 -- ---- a packet ----
 
-not_false : (a : Bool) → not a ≡ false → a ≡ true
-not_false true h = refl
-not_false false h = absurd (cc)
-
 pub to_boot : (p : Packet) (v : SiteView) → is_dropped p v ≡ false → p.to_boot ≡ v.boot
-to_boot p v h = test_same p.to_boot v.boot (both_true (p.to_boot == v.boot) (is_forming p || is_framed p v.epoch) (not_false ((p.to_boot == v.boot) && (is_forming p || is_framed p v.epoch)) h)).0
+to_boot p v h = equal p.to_boot v.boot (both_true (p.to_boot == v.boot) (is_forming p || is_framed p v.epoch) (not_false ((p.to_boot == v.boot) && (is_forming p || is_framed p v.epoch)) h)).0
 
 abbrev pub Taken : Config → ℕ → List Line → Packet → SiteView → Outcome SiteView → Type 0
 Taken c n trace p v o = DoesWith c n trace p.to (WriteFact c n trace p.to v.store) o

@@ -1,5 +1,6 @@
 -- A stamp's key names one version of a file, and its row is one.
 use Rattle.std.proofs.Common.{◌≡◌, ℕ, ◌+◌, ◌*◌, ◌==◌, ◌<◌, Bool, true, false, ◌&&◌, ◌||◌, cond, length, List, [], ◌∷◌, refl, sym, ◌∙◌, ap, subst, arith}
+use Rattle.role_steps.proofs.of_plain_facts.Tests.{and_second, true_false}
 use Rattle.locus_ids.specs.declared.config.Config.{Config}
 use Rattle.locus_ids.specs.declared.ids.FileId.{FileId}
 use Rattle.locus_ids.specs.declared.ids.Stamp.{Stamp}
@@ -18,10 +19,8 @@ use Rattle.tree_laws.specs.Instances.{Stands}
 use Rattle.tree_laws.specs.Printed.{entries, onto_entries}
 use Rattle.tree_laws.specs.Tables.{VersionFact}
 use Rattle.tree_laws.proofs.Boots.{every_both}
-use Rattle.tree_laws.proofs.Names.{true_false}
-use Rattle.order_laws.proofs.Alone.{second_of}
-use Rattle.order_laws.proofs.Standing.{same_stamp_eq}
-use Rattle.sync_laws.proofs.Highest.{IsOnly}
+use Rattle.store_laws.proofs.of_order_laws.Standing.{same_stamp_eq}
+use Rattle.store_laws.proofs.of_sync_laws.Highest.{IsOnly}
 use Rattle.one_tree_laws.specs.Rest.{EachRest, Past, RangeRecord, RangeTold}
 
 -- ---- numbers of versions have 32 bits ----
@@ -32,7 +31,7 @@ module _ (c : Config) (f : FileId) (stamp : Stamp) where
   formats k (p ∷ ps) e = at (p.0 == 0) (formats (k + 1) ps) e
     where
       root : (b : Bool) → is_version f stamp (format_version k) ≡ b → (is_in (format_versions (k + 1) ps) f stamp ≡ true → stamp.n < 4294967295) → b || is_in (format_versions (k + 1) ps) f stamp ≡ true → stamp.n < 4294967295
-      root true is later e = subst (λ (s : Stamp). s.n < 4294967295) (same_stamp_eq format_stamp stamp (second_of (same_file (format_version k).file f) _ is)) (omega arith)
+      root true is later e = subst (λ (s : Stamp). s.n < 4294967295) (same_stamp_eq format_stamp stamp (and_second (same_file (format_version k).file f) _ is)) (omega arith)
       root false is later e = later e
 
       at : (b : Bool) → (is_in (format_versions (k + 1) ps) f stamp ≡ true → stamp.n < 4294967295) → is_in (cond b (format_versions (k + 1) ps) (format_version k ∷ format_versions (k + 1) ps)) f stamp ≡ true → stamp.n < 4294967295
@@ -43,7 +42,7 @@ module _ (c : Config) (f : FileId) (stamp : Stamp) where
   record_low n (says.Commit g s made parents content) older range later e = at (same_file g f && same_stamp made stamp) refl e
     where
       at : (b : Bool) → (same_file g f && same_stamp made stamp) ≡ b → b || is_in (history c (entries older)) f stamp ≡ true → stamp.n < 4294967295
-      at true is e = subst (λ (s : Stamp). s.n < 4294967295) (same_stamp_eq made stamp (second_of (same_file g f) _ is)) range.1
+      at true is e = subst (λ (s : Stamp). s.n < 4294967295) (same_stamp_eq made stamp (and_second (same_file g f) _ is)) range.1
       at false is e = later e
   record_low n _ older range later e = later e
 

@@ -1,6 +1,7 @@
 -- Written vectors tell which of two versions is above the other: so it is by the commits that were told, and each version that stands
 -- is one of them or the format's.
 use Rattle.std.proofs.Common.{◌≡◌, ℕ, ◌+◌, ◌==◌, Bool, true, false, cond, ◌&&◌, ◌||◌, List, [], ◌∷◌, refl, sym, ◌∙◌, ap, subst, ◌⊎◌, inl, inr}
+use Rattle.role_steps.proofs.of_plain_facts.Tests.{and_first, and_second, or_either, or_first, or_second, true_false}
 use Rattle.locus_ids.specs.declared.config.Config.{Config}
 use Rattle.locus_ids.specs.declared.ids.FileId.{FileId}
 use Rattle.locus_ids.specs.declared.ids.Stamp.{Stamp}
@@ -16,21 +17,19 @@ use Rattle.role_steps.specs.Views.{Told, Shown}
 use Rattle.the_run.specs.Worlds.{Line}
 use Rattle.tree_model.specs.Folds.{Trace}
 use Rattle.tree_model.specs.Histories.{format_stamp, format_version, format_versions, history, history_after}
-use Rattle.vector_laws.specs.Written.{CommitsAreNumbered, past_of}
-use Rattle.vector_laws.specs.HistoryCommits.{CommitsAreSited, commits_of, real_parents, with_record, with_told}
-use Rattle.vector_laws.proofs.HistoryHistory.{all_own, sound, vectors_tell}
+use Rattle.kept_laws.specs.of_vector_laws.Written.{CommitsAreNumbered, past_of}
+use Rattle.kept_laws.specs.of_vector_laws.HistoryCommits.{CommitsAreSited, commits_of, real_parents, with_record, with_told}
+use Rattle.kept_laws.proofs.of_vector_laws.HistoryHistory.{all_own, sound, vectors_tell}
 use Rattle.kept_laws.specs.Printed.{onto_printed, printed}
-use Rattle.kept_laws.specs.Roots.{RootRecord as KeptRecord, RootTold as KeptTold, RootsFollow}
+use Rattle.kept_laws.specs.Roots.{RootsFollow}
 use Rattle.kept_laws.proofs.Alike.{alike}
 use Rattle.kept_laws.proofs.Grown.{versions_grow}
 use Rattle.kept_laws.proofs.Ordered.{ordered}
 use Rattle.kept_laws.proofs.Standing.{StandsIn, under_all}
 use Rattle.kept_laws.proofs.VectorsKeep.{Grounds, agree}
 use Rattle.tree_laws.specs.Printed.{entries, onto_entries}
-use Rattle.tree_laws.proofs.Names.{true_false}
-use Rattle.order_laws.proofs.Alone.{first_of, second_of}
-use Rattle.order_laws.proofs.Standing.{later_true, same_file_eq}
-use Rattle.one_tree_laws.specs.Rest.{EachRest, Past, RootRecord, RootTold}
+use Rattle.store_laws.proofs.of_order_laws.Standing.{same_file_eq}
+use Rattle.one_tree_laws.specs.Rest.{EachRest, Past}
 use Rattle.one_tree_laws.proofs.Staying.{rest_below}
 use Rattle.one_tree_laws.specs.ToldVectorTelling.{VectorsTellNewer}
 
@@ -46,26 +45,18 @@ printed_entries (x ∷ older) = over x.told (printed_entries older)
 
 -- ---- what stands was committed, or is the format's ----
 
-either : (a b : Bool) → a || b ≡ true → (a ≡ true) ⊎ (b ≡ true)
-either true b h = inl refl
-either false b h = inr h
-
-first_true : (a b : Bool) → a ≡ true → a || b ≡ true
-first_true true b k = refl
-first_true false b k = absurd (true_false (sym k))
-
 -- the version of the format is that of a root
 format_is : (k : ℕ) (packs : List Sites) (f : FileId) (s : Stamp) → is_in (format_versions k packs) f s ≡ true → (s ≡ format_stamp) × (f.ino ≡ 1)
 format_is k [] f s h = absurd (true_false (sym h))
 format_is k (p ∷ ps) f s h = at (p.0 == 0) h (format_is (k + 1) ps f s)
   where
     over : (is_version f s (format_version k) ≡ true) ⊎ (is_in (format_versions (k + 1) ps) f s ≡ true) → (is_in (format_versions (k + 1) ps) f s ≡ true → (s ≡ format_stamp) × (f.ino ≡ 1)) → (s ≡ format_stamp) × (f.ino ≡ 1)
-    over (inl e) later = (sym (same_stamp_eq format_stamp s (second_of (same_file (format_version k).file f) (same_stamp format_stamp s) e)), ap (λ (y : FileId). y.ino) (sym (same_file_eq (format_version k).file f (first_of (same_file (format_version k).file f) _ e))))
+    over (inl e) later = (sym (same_stamp_eq format_stamp s (and_second (same_file (format_version k).file f) (same_stamp format_stamp s) e)), ap (λ (y : FileId). y.ino) (sym (same_file_eq (format_version k).file f (and_first (same_file (format_version k).file f) _ e))))
     over (inr e) later = later e
 
     at : (b : Bool) → is_in (cond b (format_versions (k + 1) ps) (format_version k ∷ format_versions (k + 1) ps)) f s ≡ true → (is_in (format_versions (k + 1) ps) f s ≡ true → (s ≡ format_stamp) × (f.ino ≡ 1)) → (s ≡ format_stamp) × (f.ino ≡ 1)
     at true h later = later h
-    at false h later = over (either (is_version f s (format_version k)) (is_in (format_versions (k + 1) ps) f s) h) later
+    at false h later = over (or_either (is_version f s (format_version k)) (is_in (format_versions (k + 1) ps) f s) h) later
 
 pub stands_in : (c : Config) (trace : List Line) (f : FileId) (s : Stamp) → is_in (history c (entries trace)) f s ≡ true → StandsIn f (commits_of f (past_of trace)) s
 stands_in c [] f s h = inl (record { site = ap (λ (y : Stamp). y.site) (format_is 0 c.packs f s h).0; number = ap (λ (y : Stamp). y.n) (format_is 0 c.packs f s h).0 }, (format_is 0 c.packs f s h).1)
@@ -76,17 +67,17 @@ stands_in c (x ∷ older) f s h = over x.told h (stands_in c older f s)
 
     committed : (g : FileId) (z : ℕ) (stamp : Stamp) (parents : List Stamp) (content : List ℕ) (b : Bool) → same_file g f ≡ b → (b && same_stamp stamp s ≡ true) ⊎ (is_in (history c (entries older)) f s ≡ true) → Before
         → StandsIn f (cond b (record { file = g; site = z; stamp = stamp; parents = real_parents parents; content = content } ∷ commits_of f (past_of older)) (commits_of f (past_of older))) s
-    committed g z stamp parents content true e (inl k) later = inr (first_true (same_file g f && same_stamp stamp s) _ (ap (λ (a : Bool). a && same_stamp stamp s) e ∙ k))
+    committed g z stamp parents content true e (inl k) later = inr (or_first (same_file g f && same_stamp stamp s) _ (ap (λ (a : Bool). a && same_stamp stamp s) e ∙ k))
     committed g z stamp parents content false e (inl k) later = absurd (true_false (sym k))
     committed g z stamp parents content b e (inr k) later = more b (later k)
       where
         more : (b : Bool) → StandsIn f (commits_of f (past_of older)) s → StandsIn f (cond b (record { file = g; site = z; stamp = stamp; parents = real_parents parents; content = content } ∷ commits_of f (past_of older)) (commits_of f (past_of older))) s
         more b (inl n) = inl n
-        more true (inr m) = inr (later_true (same_file g f && same_stamp stamp s) _ m)
+        more true (inr m) = inr (or_second (same_file g f && same_stamp stamp s) _ m)
         more false (inr m) = inr m
 
     told : (r : Record) → is_in (history_after r (history c (entries older))) f s ≡ true → Before → StandsIn f (with_record f r (commits_of f (past_of older))) s
-    told (says.Commit g z stamp parents content) h later = committed g z stamp parents content (same_file g f) refl (either (same_file g f && same_stamp stamp s) _ h) later
+    told (says.Commit g z stamp parents content) h later = committed g z stamp parents content (same_file g f) refl (or_either (same_file g f && same_stamp stamp s) _ h) later
     told r h later = later h
 
     over : (y : Told) → is_in (history c (onto_entries x.number y (entries older))) f s ≡ true → Before → StandsIn f (with_told f y (commits_of f (past_of older))) s
@@ -103,17 +94,9 @@ all_sited : (c : Config) (t : List Line) → EachRest c t → CommitsAreSited (p
 all_sited c [] h = tt
 all_sited c (x ∷ older) h = (h.0.sited, all_sited c older h.1)
 
-kept_record : (r : Record) → RootRecord r → KeptRecord r
-kept_record (says.Commit f s stamp parents content) h = h
-kept_record _ h = tt
-
-kept_told : (x : Told) → RootTold x → KeptTold x
-kept_told (Shown r) h = kept_record r h
-kept_told _ h = tt
-
 all_rooted : (c : Config) (t : List Line) → EachRest c t → RootsFollow (past_of t)
 all_rooted c [] h = tt
-all_rooted c (x ∷ older) h = (kept_told x.told h.0.rooted, all_rooted c older h.1)
+all_rooted c (x ∷ older) h = (h.0.rooted, all_rooted c older h.1)
 
 -- ---- vectors ----
 

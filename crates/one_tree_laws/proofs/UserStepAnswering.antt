@@ -12,9 +12,9 @@ use Rattle.role_steps.specs.Using.{on_close_done, on_look_done, on_op_done}
 use Rattle.role_steps.specs.Views.{Frame, Users}
 use Rattle.the_run.specs.Worlds.{Line}
 use Rattle.tree_laws.specs.Packets.{BodyFact, CloseDoneFact, LookDoneFact, OpDoneFact, serial_of}
-use Rattle.user_laws.proofs.OnClose.{close_done_fine}
-use Rattle.user_laws.proofs.OnLook.{look_done_fine}
-use Rattle.user_laws.proofs.OnOp.{op_done_fine}
+use Rattle.store_laws.proofs.of_user_laws.OnClose.{close_done_fine}
+use Rattle.store_laws.proofs.of_user_laws.OnLook.{look_done_fine}
+use Rattle.store_laws.proofs.of_user_laws.OnOp.{op_done_fine}
 use Rattle.one_tree_laws.specs.Places.{UsersOf}
 use Rattle.one_tree_laws.specs.Rest.{AllRest}
 use Rattle.one_tree_laws.specs.Roles.{Came, CallsFine, Ready}

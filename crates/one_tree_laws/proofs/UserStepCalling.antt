@@ -2,16 +2,20 @@
 use Rattle.std.proofs.Common.{◌≡◌, ℕ, ◌+◌, ◌*◌, ◌==◌, ◌≤◌, ◌<◌, arith, Bool, true, false, cond, ◌&&◌, ◌||◌, List, [], ◌∷◌, length, Option, Some, None, refl, sym, ◌∙◌, ap, subst, ◌⊎◌, inl, inr}
 use Rattle.std.proofs.lemmas.Bool.Decides.{nat_tests}
 use Rattle.std.specs.List.{find, list_any}
+use Rattle.role_steps.proofs.of_plain_facts.Numbers.{equal, equal_self}
+use Rattle.role_steps.proofs.of_plain_facts.Options.{some_same}
+use Rattle.role_steps.proofs.of_plain_facts.Tests.{and_first, true_false}
 use Rattle.locus_ids.specs.declared.config.Config.{Config}
 use Rattle.locus_ids.specs.declared.ids.CallId.{CallId}
 use Rattle.locus_ids.specs.declared.ids.FileId.{FileId}
+use Rattle.locus_ids.specs.Sizes.{descriptor_span}
 use Rattle.trace_book.specs.Same.{same_call}
 use Rattle.trace_book.specs.declared.call.Call.{Call}
 use Rattle.trace_book.specs.declared.call.Call.TheVariants as call
 use Rattle.schedule_lines.specs.Ranges.{fits_call, fits_event, is_between, is_descriptor, is_site}
 use Rattle.schedule_lines.specs.declared.line.Line.TheVariants as line
 use Rattle.role_steps.specs.Own.{Every}
-use Rattle.role_steps.specs.Requests.{waiting_key, waiting_of}
+use Rattle.role_steps.specs.Requests.{waiting_key, waiting_of, waiting_span}
 use Rattle.role_steps.specs.Using.{on_call}
 use Rattle.role_steps.specs.Views.{Frame, Users}
 use Rattle.role_steps.specs.declared.users.WaitingCall.{WaitingCall}
@@ -21,7 +25,7 @@ use Rattle.tree_model.specs.Calls.{call_named, is_of, waiting, waiting_of as wai
 use Rattle.tree_model.specs.Epochs.{boot_of}
 use Rattle.tree_model.specs.Packs as tree
 use Rattle.tree_model.specs.declared.accepted.Waiting.{Waiting}
-use Rattle.lawful_trace.specs.CallRows.{CallRow, MayAccept, is_this}
+use Rattle.tree_laws.specs.of_lawful_trace.CallRows.{CallRow, MayAccept, is_this}
 use Rattle.tree_laws.specs.Printed.{entries}
 use Rattle.tree_laws.specs.Doing.{FrameFact, UsersInside}
 use Rattle.tree_laws.specs.Following.{IsFollowed}
@@ -29,11 +33,11 @@ use Rattle.tree_laws.specs.Processes.{IsMend}
 use Rattle.tree_laws.specs.Users.{own_call, WaitingFact}
 use Rattle.tree_laws.proofs.Boots.{found_every}
 use Rattle.tree_laws.proofs.Mending.{mends_at_sync}
-use Rattle.tree_laws.proofs.Names.{same_call_own, some_is, test_own, test_same, true_false}
+use Rattle.tree_laws.proofs.Names.{same_call_own}
 use Rattle.tree_laws.proofs.Waiting.{accepted, found_among}
-use Rattle.user_laws.specs.Turning.{it, IsNumbered}
-use Rattle.user_laws.proofs.Accepting.{call_fine}
-use Rattle.user_laws.proofs.Tabled.{every_among}
+use Rattle.store_laws.specs.of_user_laws.Turning.{it, IsNumbered}
+use Rattle.store_laws.proofs.of_user_laws.Accepting.{call_fine}
+use Rattle.store_laws.proofs.of_user_laws.Tabled.{every_among}
 use Rattle.one_tree_laws.specs.Places.{UsersOf}
 use Rattle.one_tree_laws.specs.Rest.{AllRest}
 use Rattle.one_tree_laws.specs.Roles.{CallsFine, MayCall, Ready}
@@ -43,18 +47,14 @@ use Rattle.one_tree_laws.proofs.UserStepResting.{calls_fine, staying}
 
 -- ---- what a line may ask ----
 
-low_descriptor : (fd : ℕ) → is_descriptor fd ≡ true → fd < 65536
+low_descriptor : (fd : ℕ) → is_descriptor fd ≡ true → fd < descriptor_span
 low_descriptor fd e = grind (arith, nat_tests)
-
-first_of : (a b : Bool) → (a && b) ≡ true → a ≡ true
-first_of true b e = refl
-first_of false b e = e
 
 -- its words name a descriptor that a line can name
 pub words_low : (sites : ℕ) (words : Call) → fits_call sites words ≡ true → IsNumbered words
-words_low sites (call.Read fd at len) e = low_descriptor fd (first_of (is_descriptor fd) _ (first_of _ _ e))
-words_low sites (call.Write fd at bytes) e = low_descriptor fd (first_of (is_descriptor fd) _ (first_of _ _ (first_of _ _ e)))
-words_low sites (call.Cut fd len) e = low_descriptor fd (first_of (is_descriptor fd) _ e)
+words_low sites (call.Read fd at len) e = low_descriptor fd (and_first (is_descriptor fd) _ (and_first _ _ e))
+words_low sites (call.Write fd at bytes) e = low_descriptor fd (and_first (is_descriptor fd) _ (and_first _ _ (and_first _ _ e)))
+words_low sites (call.Cut fd len) e = low_descriptor fd (and_first (is_descriptor fd) _ e)
 words_low sites (call.Commit fd) e = low_descriptor fd e
 words_low sites (call.Abort fd) e = low_descriptor fd e
 words_low sites (call.Close fd) e = low_descriptor fd e
@@ -89,7 +89,7 @@ pub plain_row : (c : Config) (t : List Line) (s process : ℕ) (d : CallId) (wor
 plain_row c t s process d (call.Mend file) none k = absurd (none tt)
 plain_row c t s process d _ none k = k
 
-plain_key : (process : ℕ) (words : Call) → (IsMend words → ⊥) → waiting_of process words ≡ 16 * process
+plain_key : (process : ℕ) (words : Call) → (IsMend words → ⊥) → waiting_of process words ≡ waiting_span * process
 plain_key process (call.Mend file) none = absurd (none tt)
 plain_key process _ none = refl
 
@@ -111,7 +111,7 @@ none_other process (w ∷ ws) v idle m e = at (λ p k. none_other process ws v p
     at : (list_any (λ (w : WaitingCall). w.process == process) ws ≡ false → Among v ws → ⊥) → (a b : Bool) → (w.process == process) ≡ a → list_any (λ (w : WaitingCall). w.process == process) ws ≡ b → (a || b) ≡ false → (v ≡ w) ⊎ Among v ws → ⊥
     at later true b p q z m = true_false z
     at later false true p q z m = true_false z
-    at later false false p q z (inl i) = true_false (sym (subst (λ (k : ℕ). (w.process == k) ≡ true) (ap (λ (x : WaitingCall). x.process) (sym i) ∙ e) (test_own w.process)) ∙ p)
+    at later false false p q z (inl i) = true_false (sym (subst (λ (k : ℕ). (w.process == k) ≡ true) (ap (λ (x : WaitingCall). x.process) (sym i) ∙ e) (equal_self w.process)) ∙ p)
     at later false false p q z (inr k) = later q k
 
 module _ (c : Config) (t : List Line) (f : Frame) (process : ℕ) (words : Call) (u : Users) (h : IsFollowed c t) (frame : FrameFact c t f) (k : UsersInside c f t u) (may : MayCall c f.me process words u) where
@@ -143,7 +143,7 @@ module _ (c : Config) (t : List Line) (f : Frame) (process : ℕ) (words : Call)
           fact = every_among (WaitingFact c t f) mine.0 u.waiting mine.1 k.inside.calls
 
           process_is : mine.0.process ≡ process
-          process_is = ap (λ (y : Waiting). y.process) (sym fact.caller_is ∙ some_is fact.caller x (sym fact.named ∙ (ap (call_named (entries t)) (sym mine.2) ∙ is.0))) ∙ test_same x.process process (second (x.site == f.me) (x.process == process) is.1)
+          process_is = ap (λ (y : Waiting). y.process) (sym fact.caller_is ∙ some_same fact.caller x (sym fact.named ∙ (ap (call_named (entries t)) (sym mine.2) ∙ is.0))) ∙ equal x.process process (second (x.site == f.me) (x.process == process) is.1)
             where
               second : (a b : Bool) → (a && b) ≡ true → b ≡ true
               second true b p = p
@@ -164,10 +164,10 @@ module _ (c : Config) (t : List Line) (f : Frame) (process : ℕ) (words : Call)
       synced v file l e = synced_low c f.members file.group f.me few (ap (tree.sync_site c file.group) (sym frame.members_are)
           ∙ (mends_at_sync c t h (it f v) l.caller f.epoch file l.named (ap (λ (x : Waiting). x.epoch) l.caller_is) (ap (λ (x : Waiting). x.words) l.caller_is ∙ e) ∙ ap (λ (x : Waiting). Some x.site) l.caller_is))
 
-      differ : (a b : ℕ) → 16 * a ≡ 16 * b → a ≡ b
+      differ : (a b : ℕ) → waiting_span * a ≡ waiting_span * b → a ≡ b
       differ a b e = omega (arith, e)
 
-      above : (g : ℕ) → g < 4 → g ≡ 16 * process → ⊥
+      above : (g : ℕ) → g < 4 → g ≡ waiting_span * process → ⊥
       above g lt e = omega (arith, lt, e, one)
 
       one_key : (v : WaitingCall) → Among v u.waiting → (said : Call) → v.words ≡ said → waiting_of v.process said ≡ waiting_of process words → ⊥

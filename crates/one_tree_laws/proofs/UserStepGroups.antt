@@ -3,6 +3,8 @@ use Rattle.std.proofs.Common.{◌≡◌, ℕ, zero, suc, ◌-◌, ◌==◌, ◌�
 use Rattle.std.proofs.lemmas.Bool.Decides.{nat_tests}
 use Rattle.std.proofs.lemmas.Nat.Bits.{bit_at-zero}
 use Rattle.std.specs.Int.{bit_at}
+use Rattle.role_steps.proofs.of_plain_facts.Numbers.{equal, equal_self}
+use Rattle.role_steps.proofs.of_plain_facts.Tests.{and_first, true_false}
 use Rattle.locus_ids.specs.Sites.{has}
 use Rattle.locus_ids.specs.declared.config.Config.{Config}
 use Rattle.locus_ids.specs.declared.sites.Members.{Members}
@@ -13,8 +15,7 @@ use Rattle.role_steps.specs.Views.{Frame, all_groups, all_sites, first_site, is_
 use Rattle.the_run.specs.Kept.{Among}
 use Rattle.tree_model.specs.Packs as tree
 use Rattle.tree_laws.proofs.Alone.{compare}
-use Rattle.tree_laws.proofs.Names.{test_own, test_same, true_false}
-use Rattle.order_laws.proofs.ProcessSynchronizing.{sync_same}
+use Rattle.store_laws.proofs.of_order_laws.ProcessSynchronizing.{sync_same}
 use Rattle.one_tree_laws.specs.Places.{synced_groups}
 use Rattle.one_tree_laws.proofs.Rising.{among_filter}
 
@@ -50,12 +51,8 @@ first_in (x ∷ ss) s e = inl (some x s e)
     some : (x s : ℕ) → ◌≡◌ {A = Option ℕ} (Some x) (Some s) → s ≡ x
     some x s e = cc
 
-first_of : (a b : Bool) → (a && b) ≡ true → a ≡ true
-first_of true b e = refl
-first_of false b e = e
-
 sync_packed : (c : Config) (m : Members) (g me : ℕ) → sync_site c m g ≡ Some me → has (pack_sites c g) me ≡ true
-sync_packed c m g me e = first_of (has (pack_sites c g) me) (is_member m me) (among_filter (λ (s : ℕ). has (pack_sites c g) s && is_member m s) me all_sites (first_in (members_of m (pack_sites c g)) me e))
+sync_packed c m g me e = and_first (has (pack_sites c g) me) (is_member m me) (among_filter (λ (s : ℕ). has (pack_sites c g) s && is_member m s) me all_sites (first_in (members_of m (pack_sites c g)) me e))
 
 -- a group that is synchronized is one of the four
 pub synced_low : (c : Config) (m : Members) (g me : ℕ) → length c.packs ≤ 4 → tree.sync_site c g (Some m) ≡ Some me → g < 4
@@ -70,9 +67,9 @@ among_groups g lt = at (g == 0) (g == 1) (g == 2) refl refl refl
     last a b d = grind (arith, nat_tests)
 
     at : (a b d : Bool) → (g == 0) ≡ a → (g == 1) ≡ b → (g == 2) ≡ d → Among g all_groups
-    at true b d p q r = inl (test_same g 0 p)
-    at false true d p q r = inr (inl (test_same g 1 q))
-    at false false true p q r = inr (inr (inl (test_same g 2 r)))
+    at true b d p q r = inl (equal g 0 p)
+    at false true d p q r = inr (inl (equal g 1 q))
+    at false false true p q r = inr (inr (inl (equal g 2 r)))
     at false false false p q r = inr (inr (inr (inl (last p q r))))
 
 within : (p : ℕ → Bool) (k : ℕ) (xs : List ℕ) → Among k xs → p k ≡ true → Among k (filter p xs)
@@ -93,7 +90,7 @@ among_synced f g few e = within (is_sync_site f.config f.me f.members) g (own_gr
     packed = sync_packed f.config f.members g f.me e
 
     synced : is_sync_site f.config f.me f.members g ≡ true
-    synced = rw e (test_own f.me)
+    synced = rw e (equal_self f.me)
 
 -- a row with the key is found
 pub among_row : {A : Type 0} (key : A → ℕ) (k : ℕ) (xs : List A) → Among k (map key xs) → (x : A) × (row key k xs ≡ Some x)
@@ -102,5 +99,5 @@ among_row {A} key k (y ∷ ys) m = at (λ (q : Among k (map key ys)). among_row 
   where
     at : (Among k (map key ys) → (x : A) × (row key k ys ≡ Some x)) → (b : Bool) → (key y == k) ≡ b → (k ≡ key y) ⊎ Among k (map key ys) → (x : A) × (◌≡◌ {A = Option A} (elim b [ true ↦ Some y | false ↦ row key k ys ]) (Some x))
     at later true e m = (y, refl)
-    at later false e (inl i) = absurd (true_false (sym (subst (λ (j : ℕ). (key y == j) ≡ true) (sym i) (test_own (key y))) ∙ e))
+    at later false e (inl i) = absurd (true_false (sym (subst (λ (j : ℕ). (key y == j) ≡ true) (sym i) (equal_self (key y))) ∙ e))
     at later false e (inr q) = later q

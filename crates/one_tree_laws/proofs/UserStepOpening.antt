@@ -19,9 +19,9 @@ use Rattle.tree_laws.specs.Printed.{entries}
 use Rattle.tree_laws.specs.Doing.{FrameFact}
 use Rattle.tree_laws.specs.Packets.{OpenDoneFact, file_in}
 use Rattle.tree_laws.specs.Tables.{FilesFact, StartedFiles, TableFact}
-use Rattle.order_laws.proofs.ProcessSynchronizing.{sync_same}
-use Rattle.user_laws.specs.Rests.{IsKeptBy}
-use Rattle.user_laws.proofs.OnOpen.{open_done_fine}
+use Rattle.store_laws.proofs.of_order_laws.ProcessSynchronizing.{sync_same}
+use Rattle.store_laws.specs.of_user_laws.Rests.{IsKeptBy}
+use Rattle.store_laws.proofs.of_user_laws.OnOpen.{open_done_fine}
 use Rattle.one_tree_laws.specs.Places.{InsideFact, synced_groups}
 use Rattle.one_tree_laws.specs.Rest.{AllRest}
 use Rattle.one_tree_laws.specs.Roles.{Came, CallsFine, Ready}

@@ -1,6 +1,8 @@
 -- A call that a line asks of a site in no epoch is refused at once.
 use Rattle.std.proofs.Common.{◌≡◌, ℕ, ◌+◌, ◌==◌, ◌≤◌, Bool, true, false, not, cond, ◌&&◌, List, [], ◌∷◌, filter, Option, Some, None, refl, sym, ◌∙◌, ap, subst, ◌⊎◌, inl, inr}
 use Rattle.std.specs.List.{find}
+use Rattle.role_steps.proofs.of_plain_facts.Numbers.{equal, equal_self}
+use Rattle.role_steps.proofs.of_plain_facts.Tests.{true_false}
 use Rattle.locus_ids.specs.declared.config.Config.{Config}
 use Rattle.locus_ids.specs.declared.config.Mount.{Mount}
 use Rattle.locus_ids.specs.declared.ids.CallId.{CallId}
@@ -32,9 +34,9 @@ use Rattle.the_run.specs.Worlds.{Line}
 use Rattle.tree_model.specs.Calls.{accepted_as, call_named, is_of, waiting, waiting_of as waits_of}
 use Rattle.tree_model.specs.Epochs.{boot_of, calls_accepted, epoch_of, is_up}
 use Rattle.tree_model.specs.declared.accepted.Waiting.{Waiting}
-use Rattle.lawful_trace.specs.CallRows.{CallRow, is_this}
-use Rattle.lawful_trace.specs.Progress.{Answers, answers, is_packed_in, left_since, unless_left, wants_as, wants_next}
-use Rattle.lawful_trace.specs.Tables.{begins_now, begun, closed_by, descriptor}
+use Rattle.tree_laws.specs.of_lawful_trace.CallRows.{CallRow, is_this}
+use Rattle.tree_laws.specs.of_lawful_trace.Progress.{Answers, answers, is_packed_in, left_since, unless_left, wants_as, wants_next}
+use Rattle.tree_laws.specs.of_lawful_trace.Tables.{begins_now, begun, closed_by, descriptor}
 use Rattle.tree_laws.specs.Printed.{entries}
 use Rattle.tree_laws.specs.Calls.{is_request, log, script, script_as}
 use Rattle.tree_laws.specs.Doing.{Fine, IsOfUsers, NoWrite}
@@ -46,9 +48,9 @@ use Rattle.tree_laws.proofs.Boots.{every_filter, found_every}
 use Rattle.tree_laws.proofs.Fresh.{IsNamed, calls_are_low, next_is_new, numbered}
 use Rattle.tree_laws.proofs.Having.{Untaken, named_or_untaken}
 use Rattle.tree_laws.proofs.Hearing.{Hears, asking_named, hears}
-use Rattle.tree_laws.proofs.Names.{same_call_own, test_own, test_same, true_false}
-use Rattle.user_laws.specs.Turning.{IsNumbered}
-use Rattle.user_laws.proofs.Accepting.{accepts_in_time, begins_same, freed, freed_ascends, freed_same, frees_is}
+use Rattle.tree_laws.proofs.Names.{same_call_own}
+use Rattle.store_laws.specs.of_user_laws.Turning.{IsNumbered}
+use Rattle.store_laws.proofs.of_user_laws.Accepting.{accepts_in_time, begins_same, freed, freed_ascends, freed_same, frees_is}
 use Rattle.one_tree_laws.specs.Places.{UsersOutside}
 use Rattle.one_tree_laws.specs.Rest.{Past, more}
 use Rattle.one_tree_laws.specs.Roles.{MayCall}
@@ -96,9 +98,6 @@ denied_gives mounts p free words why = over (is_badly_named mounts words)
 plain_hope : (words : Call) (why : Refusal) (v : Users) → (IsMend words → ⊥) → without_hope words why v ≡ v
 plain_hope (call.Mend file) why v none = absurd (none tt)
 plain_hope _ why v none = refl
-
-none_some : {A : Type 0} (a : A) → ◌≡◌ {A = Option A} None (Some a) → ⊥
-none_some a e = cc
 
 module _ (c : Config) (n : ℕ) (t : List Line) (me boot process : ℕ) (words : Call) (u : Users) (h : IsFollowed c t) (up : is_up (entries t) me ≡ true) (outside : epoch_of (entries t) me ≡ None) (k : UsersOutside c me boot t u) (plain : IsMend words → ⊥) (low : IsNumbered words) where
   abbrev f : Frame
@@ -157,7 +156,7 @@ module _ (c : Config) (n : ℕ) (t : List Line) (me boot process : ℕ) (words :
 
       over : (o : Option Waiting) → waits_of me process (waiting (entries t)) ≡ o → o ≡ None
       over None e = refl
-      over (Some z) e = (let is : (z.site ≡ me → ⊥) × (is_of me process z ≡ true) = found_every (λ (v : Waiting). v.site ≡ me → ⊥) (is_of me process) (waiting (entries t)) z e k.idle.none_waits in absurd (is.0 (test_same z.site me (first (z.site == me) (z.process == process) is.1))))
+      over (Some z) e = (let is : (z.site ≡ me → ⊥) × (is_of me process z ≡ true) = found_every (λ (v : Waiting). v.site ≡ me → ⊥) (is_of me process) (waiting (entries t)) z e k.idle.none_waits in absurd (is.0 (equal z.site me (first (z.site == me) (z.process == process) is.1))))
 
   row_is : CallRow c (entries t) me process d words
   row_is = plain_row c t me process d words plain (record {
@@ -216,7 +215,7 @@ module _ (c : Config) (n : ℕ) (t : List Line) (me boot process : ℕ) (words :
   may_answer = record {
     row = record {
       caller = new;
-      waits = ap (λ (b : Bool). cond b (Some new) (find (is_this me process d) (waiting (entries t)))) (own (me == me) (process == process) (same_call d d) (test_own me) (test_own process) (same_call_own d));
+      waits = ap (λ (b : Bool). cond b (Some new) (find (is_this me process d) (waiting (entries t)))) (own (me == me) (process == process) (same_call d d) (equal_self me) (equal_self process) (same_call_own d));
       given = given;
       gives = ap (λ (o : Option EpochId). unless_left (left_since (entries newer) me o) (wants_next c (entries newer) d)) outside ∙ wants_so;
       text = refl;
@@ -235,10 +234,10 @@ module _ (c : Config) (n : ℕ) (t : List Line) (me boot process : ℕ) (words :
   always : UsersFact c (more n y newer) me boot after
   always = record {
     boot_is = k.always.boot_is;
-    calls = ap (λ (m : ℕ). m + 1) k.always.calls ∙ sym (ap (λ (b : Bool). cond b (calls_accepted (entries t) me + 1) (calls_accepted (entries t) me)) (test_own me));
+    calls = ap (λ (m : ℕ). m + 1) k.always.calls ∙ sym (ap (λ (b : Bool). cond b (calls_accepted (entries t) me + 1) (calls_accepted (entries t) me)) (equal_self me));
     serials = k.always.serials ∙ sym (ap (λ (b : Bool). cond b (opens_asked c t me + 1) (opens_asked c t me)) (none (me == me) (is_open_want (asked_now c newer d)) (ap is_open_want script_so)));
     descriptors = λ user fd lt. freed_same process words u.descriptors low k.always.ascends user fd lt (descriptor (entries t) me user fd) (k.always.descriptors user fd lt)
-        ∙ (sym (ap (λ (b : Bool). cond (b && (process == user)) (closed_by words fd (descriptor (entries t) me user fd)) (descriptor (entries t) me user fd)) (test_own me)) ∙ sym (either ((me == me) && (process == user)) (descriptor (entries newer) me user fd)));
+        ∙ (sym (ap (λ (b : Bool). cond (b && (process == user)) (closed_by words fd (descriptor (entries t) me user fd)) (descriptor (entries t) me user fd)) (equal_self me)) ∙ sym (either ((me == me) && (process == user)) (descriptor (entries newer) me user fd)));
     ascends = freed_ascends process words u.descriptors k.descriptors_ascend;
   }
     where

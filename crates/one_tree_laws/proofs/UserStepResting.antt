@@ -5,8 +5,8 @@ use Rattle.role_steps.specs.Views.{Frame, Outcome, Told, Users}
 use Rattle.the_run.specs.Worlds.{Line, told_onto}
 use Rattle.tree_laws.specs.Doing.{UsersFine, UsersInside}
 use Rattle.tree_laws.specs.Following.{MayTell}
-use Rattle.user_laws.specs.Rests.{Follows, Staying, Steady}
-use Rattle.user_laws.proofs.Leaving.{all_apart}
+use Rattle.store_laws.specs.of_user_laws.Rests.{Follows, Staying, Steady}
+use Rattle.store_laws.proofs.of_user_laws.Leaving.{all_apart}
 use Rattle.one_tree_laws.specs.Places.{UsersOf}
 use Rattle.one_tree_laws.specs.Rest.{AllRest, Past, RestTold, more}
 use Rattle.one_tree_laws.specs.Roles.{CallsFine}

@@ -1,5 +1,8 @@
 -- The world after an event: each site has its fact, and each packet.
 use Rattle.std.proofs.Common.{◌≡◌, ℕ, ◌+◌, ◌==◌, Bool, true, false, cond, not, ◌&&◌, ◌||◌, List, [], ◌∷◌, length, filter, Option, Some, None, refl, sym, ◌∙◌, ap, subst, inl, inr}
+use Rattle.role_steps.proofs.of_plain_facts.Numbers.{equal_self}
+use Rattle.role_steps.proofs.of_plain_facts.Options.{some_same}
+use Rattle.role_steps.proofs.of_plain_facts.Tests.{true_false}
 use Rattle.locus_ids.specs.declared.config.Config.{Config}
 use Rattle.trace_book.specs.declared.record.Record.{Record}
 use Rattle.trace_book.specs.declared.record.Record.TheVariants as says
@@ -18,18 +21,17 @@ use Rattle.the_run.specs.Worlds.{World, Place, Running, Stopped, Numbered, Line,
 use Rattle.the_run.specs.Runs.{asked_stop, rearms, boots_as}
 use Rattle.the_run.proofs.Boots.{at_each, acts_cases, every_newest, every_numbered, every_weaker}
 use Rattle.the_run.proofs.Events.{happened_keeps, puts_other, puts_same}
-use Rattle.vector_laws.proofs.Held.{KeepsCopies}
+use Rattle.kept_laws.proofs.of_vector_laws.Held.{KeepsCopies}
 use Rattle.tree_model.specs.declared.accepted.Waiting.{Waiting}
 use Rattle.tree_model.specs.Calls.{waiting}
 use Rattle.tree_model.specs.Epochs.{epoch_of, is_up}
-use Rattle.lawful_trace.specs.Tables.{descriptor}
+use Rattle.tree_laws.specs.of_lawful_trace.Tables.{descriptor}
 use Rattle.tree_laws.specs.Doing.{AllTold, IsWriteOf, WriteFact}
 use Rattle.tree_laws.specs.Following.{MayTell}
 use Rattle.tree_laws.specs.Packets.{PacketFact}
 use Rattle.tree_laws.specs.Printed.{entries}
 use Rattle.tree_laws.specs.Stores.{CopiesAreHeld}
 use Rattle.tree_laws.specs.Users.{had}
-use Rattle.tree_laws.proofs.Names.{test_own, true_false}
 use Rattle.one_tree_laws.specs.Places.{AllOf, IsOf, IsIdle, SiteFact, SiteIn, SiteFine, StoppedFact, PlaceFact, NumberedFact, WorldFact}
 use Rattle.one_tree_laws.specs.Rest.{RestTold, IsRest, AllRest, Past, Comes, more}
 use Rattle.one_tree_laws.specs.Roles.{RolesDo}
@@ -44,9 +46,6 @@ use Rattle.one_tree_laws.proofs.Parts.{copies_bare}
 -- where other laws give the rest, the world is as it may be
 abbrev pub Holds : Config → World → Type 0
 Holds c w = IsRest c w.trace → WorldFact c w
-
-some_eq : {A : Type 0} (x y : A) → ◌≡◌ {A = Option A} (Some x) (Some y) → x ≡ y
-some_eq x y e = cc
 
 -- ---- one event of the world ----
 
@@ -81,7 +80,7 @@ happened_holds c stays n ps told change w same under gives g =
 placed : (c : Config) → RolesDo c → (n s : ℕ) (new : Place) (told : List Told) (w : World) → Past c w.trace → AllTold c n w.trace told → AllRest c n w.trace told → AllOf c n w.trace s told → PlaceFact c s (told_onto n told w.trace) new → WorldFact c w →
     (t : ℕ) (p : Place) → place_at (puts s new w) t ≡ Some p → PlaceFact c t (told_onto n told w.trace) p
 placed c roles n s new told w past k fresh own fact f t p here = at_each s t (PlaceFact c t (told_onto n told w.trace) p)
-    (λ e. subst (λ (u : ℕ). PlaceFact c u (told_onto n told w.trace) p) e (subst (λ (q : Place). PlaceFact c s (told_onto n told w.trace) q) (some_eq new p (sym (puts_same s new w) ∙ (ap (place_at (puts s new w)) e ∙ here))) fact))
+    (λ e. subst (λ (u : ℕ). PlaceFact c u (told_onto n told w.trace) p) e (subst (λ (q : Place). PlaceFact c s (told_onto n told w.trace) q) (some_same new p (sym (puts_same s new w) ∙ (ap (place_at (puts s new w)) e ∙ here))) fact))
     (λ ne. place_over c roles n s t p ne told w.trace past k fresh own (f.places t p (sym (puts_other s t new w ne) ∙ here)))
 
 -- ---- an outcome of a site ----
@@ -99,21 +98,21 @@ runs_holds c roles stays n s v o change w here same under alike fine g =
 -- ---- stops ----
 
 cond_own : {A : Type 0} (s : ℕ) (x y : A) → cond (s == s) x y ≡ x
-cond_own s x y = over (s == s) (test_own s)
+cond_own s x y = over (s == s) (equal_self s)
   where
     over : (b : Bool) → b ≡ true → cond b x y ≡ x
     over true e = refl
     over false e = absurd (cc)
 
 down_own : (s : ℕ) (y : Bool) → (not (s == s) && y) ≡ false
-down_own s y = over (s == s) (test_own s)
+down_own s y = over (s == s) (equal_self s)
   where
     over : (b : Bool) → b ≡ true → (not b && y) ≡ false
     over true e = refl
     over false e = absurd (cc)
 
 up_own : (s : ℕ) (y : Bool) → ((s == s) || y) ≡ true
-up_own s y = over (s == s) (test_own s)
+up_own s y = over (s == s) (equal_self s)
   where
     over : (b : Bool) → b ≡ true → (b || y) ≡ true
     over true e = refl
@@ -128,7 +127,7 @@ none_left s (x ∷ xs) = over (x.site == s) refl (none_left s xs)
   where
     over : (b : Bool) → (x.site == s) ≡ b → Every (NotAt s) (filter (λ (y : Waiting). not (y.site == s)) xs) → Every (NotAt s) (cond (not b) (x ∷ filter (λ (y : Waiting). not (y.site == s)) xs) (filter (λ (y : Waiting). not (y.site == s)) xs))
     over true e k = k
-    over false e k = ((λ same. true_false (sym (subst (λ (m : ℕ). (m == s) ≡ true) (sym same) (test_own s)) ∙ e)), k)
+    over false e k = ((λ same. true_false (sym (subst (λ (m : ℕ). (m == s) ≡ true) (sym same) (equal_self s)) ∙ e)), k)
 
 -- a site whose disk is as it holds it has just stopped
 stopped_now : (c : Config) → RolesDo c → (n s : ℕ) (why : StopCause) (trace : List Line) (d : Disk) → Comes c trace (Shown (says.Stopped s why)) → CopiesAreHeld c trace s (record { copies = d.copies; instances = [] }) → StoppedFact c s (more n (Shown (says.Stopped s why)) trace) d
@@ -188,8 +187,8 @@ cut_gives c roles n s why d disk before false w past e f held write r =
 
 -- an event that is cut off in what it writes
 cut_holds : (c : Config) → RolesDo c → Stays c → (n s : ℕ) (v : SiteView) (d : DiskWrite) (a : Armed) (w : World) → place_at w s ≡ Some (Running v) → (Past c w.trace → WorldFact c w → RestTold c w.trace (Shown d.says) → WriteFact c n w.trace s v.store d) → Holds c w → Holds c (cut_event n s v d a w)
-cut_holds c roles stays n s v d a w here write g = happened_holds c stays n [] (cut_told s d a.how a.left) (stops_with s (cut_disk v.boot v.store d a.how a.left)) w refl refl
-    (λ old r f. cut_gives c roles n s (cause_of a.how) d (cut_disk v.boot v.store d a.how a.left) v.store (is_on_disk d a.how a.left) w old refl f (store_copies c s w.trace v v.epoch (f.places s (Running v) here)) (write old f) r) g
+cut_holds c roles stays n s v d a w here write g = happened_holds c stays n [] (cut_told s v.store d a.how a.left) (stops_with s (cut_disk v.boot v.store d a.how a.left)) w refl refl
+    (λ old r f. cut_gives c roles n s (cause_of a.how) d (cut_disk v.boot v.store d a.how a.left) v.store (is_on_disk v.store d a.how a.left) w old refl f (store_copies c s w.trace v v.epoch (f.places s (Running v) here)) (write old f) r) g
 
 -- ---- what a site does ----
 

@@ -15,14 +15,14 @@ use Rattle.tree_model.specs.Calls.{waiting}
 use Rattle.tree_model.specs.Epochs.{epoch_of, is_up, members_of}
 use Rattle.tree_model.specs.Packs.{has_pack}
 use Rattle.tree_laws.specs.Doing.{AllTold, FrameFact, IsOfUsers, IsOfStore, IsAdopted, IsOfTable, IsOfSite, IsPromise, WrittenFact, UsersInside, StoreHeld, PullsFact}
-use Rattle.lawful_trace.specs.Tables.{descriptor}
+use Rattle.tree_laws.specs.of_lawful_trace.Tables.{descriptor}
 use Rattle.tree_laws.specs.Following.{IsFollowed}
 use Rattle.tree_laws.specs.Packets.{PacketFact}
 use Rattle.tree_laws.specs.Printed.{entries}
 use Rattle.tree_laws.specs.Stores.{Ascends, CopiesAreHeld}
 use Rattle.tree_laws.specs.Tables.{TableFact}
 use Rattle.tree_laws.specs.Users.{UsersFact, had}
-use Rattle.user_laws.specs.Leaving.{AreApart}
+use Rattle.store_laws.specs.of_user_laws.Leaving.{AreApart}
 
 -- ---- inside ----
 

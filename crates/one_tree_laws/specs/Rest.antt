@@ -3,6 +3,7 @@
 use Rattle.std.specs.Prelude.{ℕ, ◌≡◌, ◌<◌, ◌≤◌, true, List, [], ◌∷◌}
 use Rattle.locus_ids.specs.declared.config.Config.{Config}
 use Rattle.locus_ids.specs.declared.refusal.Refusal.TheVariants as refusal
+use Rattle.locus_ids.specs.Sizes.{inode_span}
 use Rattle.schedule_lines.specs.Ranges.{fits_call}
 use Rattle.trace_book.specs.declared.call.Call.{Call}
 use Rattle.trace_book.specs.declared.call.Call.TheVariants as call
@@ -14,15 +15,15 @@ use Rattle.trace_book.specs.declared.record.Record.{Record}
 use Rattle.trace_book.specs.declared.record.Record.TheVariants as says
 use Rattle.role_steps.specs.Views.{Told, Shown}
 use Rattle.the_run.specs.Worlds.{Line}
-use Rattle.vector_laws.specs.Written.{NumberedTold, past_of}
-use Rattle.vector_laws.specs.HistoryCommits.{IsSite, SitedTold, StampsAreOnce}
-use Rattle.pack_laws.specs.Packs.{ToldPacked}
-use Rattle.pack_laws.specs.Making.{NotEmpty}
-use Rattle.lawful_trace.specs.Lawful.{MayCome}
+use Rattle.kept_laws.specs.of_vector_laws.Written.{NumberedTold, past_of}
+use Rattle.kept_laws.specs.of_vector_laws.HistoryCommits.{IsSite, SitedTold, StampsAreOnce}
+use Rattle.kept_laws.specs.of_pack_laws.Packs.{ToldPacked}
+use Rattle.kept_laws.specs.Roots.{RootTold}
+use Rattle.tree_laws.specs.of_lawful_trace.Lawful.{MayCome}
 use Rattle.tree_laws.specs.Following.{IsFollowed, MayTell}
 use Rattle.tree_laws.specs.Frames.{IsFresh}
 use Rattle.tree_laws.specs.Printed.{entries}
-use Rattle.order_laws.specs.Joining.{PacksAreOfSites}
+use Rattle.store_laws.specs.of_order_laws.Joining.{PacksAreOfSites}
 
 -- ---- one line ----
 
@@ -57,7 +58,7 @@ IsSpentMend o r = ⊥
 abbrev pub RangeRecord : Config → Record → Type 0
 RangeRecord c (says.Join s e members) = IsSite s
 RangeRecord c (says.Accept s process call words) = RangeCall c s process words
-RangeRecord c (says.Commit f s stamp parents content) = (f.ino < 65536) × (stamp.n < 4294967295)
+RangeRecord c (says.Commit f s stamp parents content) = (f.ino < inode_span) × (stamp.n < 4294967295)
 RangeRecord c (says.Act e inst n o r) = IsSpentMend o r → ⊥
 RangeRecord c _ = Unit {0}
 
@@ -66,15 +67,6 @@ RangeRecord c _ = Unit {0}
 abbrev pub RangeTold : Config → Told → Type 0
 RangeTold c (Shown r) = RangeRecord c r
 RangeTold c _ = Unit {0}
-
-abbrev pub RootRecord : Record → Type 0
-RootRecord (says.Commit file s stamp parents content) = file.ino ≡ 1 → NotEmpty parents
-RootRecord _ = Unit {0}
-
--- a commit of a root directory has parents
-abbrev pub RootTold : Told → Type 0
-RootTold (Shown r) = RootRecord r
-RootTold _ = Unit {0}
 
 pub record RestTold (c : Config) (older : List Line) (x : Told) : Type 0 where
   pub row : RowTold c older x

@@ -2,7 +2,7 @@
 use Rattle.std.specs.Prelude.{◌≤◌, List, length}
 use Rattle.locus_ids.specs.declared.config.Config.{Config}
 use Rattle.the_run.specs.Worlds.{Line}
-use Rattle.user_laws.specs.Rests.{ActRests, CloseRests, LookRests, OpenRests, ReplyRests, RequestRests}
+use Rattle.store_laws.specs.of_user_laws.Rests.{ActRests, CloseRests, LookRests, OpenRests, ReplyRests, RequestRests}
 use Rattle.one_tree_laws.specs.Rest.{Past}
 
 pub record UserRests (c : Config) : Type 0 where

@@ -8,7 +8,7 @@ ghost use Rattle.role_steps.specs.Views.{Event, SiteView};
 ghost use Rattle.the_run.specs.Runs.{run_in};
 ghost use Rattle.the_run.specs.Steps.{step};
 ghost use Rattle.the_run.specs.Worlds.{Line};
-ghost use Rattle.row_laws.specs.Voids.{LinesFit};
+ghost use Rattle.call_row_laws.specs.of_row_laws.Voids.{LinesFit};
 ghost use Rattle.tree_laws.specs.Doing.{WriteFact};
 ghost use Rattle.tree_laws.specs.Following.{IsFollowed, RowsAreLawful};
 ghost use Rattle.tree_laws.specs.Printed.{entries};

@@ -12,7 +12,7 @@ ghost use Rattle.tree_laws.specs.Following.{IsFollowed};
 ghost use Rattle.tree_laws.specs.Instances.{IsFull};
 ghost use Rattle.tree_laws.specs.Packets.{MakesNow};
 ghost use Rattle.tree_laws.specs.Printed.{entries};
-ghost use Rattle.holding_laws.specs.Below.{LawsBelow};
+ghost use Rattle.store_laws.specs.of_holding_laws.Below.{LawsBelow};
 
 /// Where all numbers of a site are used while it is asked a make, the tree counts none that is left: the file of each stands at the
 /// site, or its call has probed a name for it and its make is still underway.

@@ -13,7 +13,7 @@ ghost use Rattle.tree_laws.specs.Calls.{Asks};
 ghost use Rattle.tree_laws.specs.Following.{IsFollowed};
 ghost use Rattle.tree_laws.specs.Packets.{SeesTarget};
 ghost use Rattle.tree_laws.specs.Printed.{entries};
-ghost use Rattle.user_laws.specs.Turning.{it, Turning};
+ghost use Rattle.store_laws.specs.of_user_laws.Turning.{it, Turning};
 
 /// Where each told line comes as it may, a call that asks to remove a name, in the epoch in which its site is, has the file of that
 /// number open to write in the directory's group, as no other call has; nothing was done on it but to see that it is empty; and what

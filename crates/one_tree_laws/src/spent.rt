@@ -6,7 +6,7 @@ ghost use Rattle.dir_format.specs.declared.entry.Entry.{Entry};
 ghost use Rattle.dir_reconcile.specs.declared.kept.KeptVector.{KeptVector};
 ghost use Rattle.dir_reconcile.specs.Rescues.{rescue_is_spent};
 ghost use Rattle.the_run.specs.Runs.{run_in};
-ghost use Rattle.vector_laws.specs.Written.{past_of};
+ghost use Rattle.kept_laws.specs.of_vector_laws.Written.{past_of};
 ghost use Rattle.one_tree_laws.specs.SpentMends.{AllMended};
 
 /// Whatever entries a directory has and whatever is kept, no entry that is to be rescued has the greatest count: it stands as removed,

@@ -4,6 +4,7 @@ use Rattle.std.specs.Prelude.{Option, filter}
 use Rattle.std.specs.List.{find}
 use Rattle.std.proofs.lemmas.Bool.{false≢true}
 use Rattle.std.proofs.lemmas.Bool.Decides.{nat_tests}
+use Rattle.locus_ids.specs.Sizes.{directory_bytes_max}
 use Rattle.locus_ids.specs.declared.ids.Kind.{Kind}
 use Rattle.locus_ids.specs.declared.refusal.Refusal.TheVariants as refusal
 use Rattle.trace_book.specs.declared.operation.Outcome.TheVariants.{Done}
@@ -13,22 +14,22 @@ use Rattle.dir_format.specs.declared.looking.LookResult.TheVariants as look
 use Rattle.dir_format.specs.Entries.{pair_in, with_entry, nothing_seen}
 use Rattle.dir_format.specs.Grammar.{dir_bytes}
 use Rattle.dir_format.specs.Lookups.{has_name, is_meant, lookup, shown_names}
-use Rattle.dir_format.specs.Effects.{DirEffect, refuses, becomes, max_size, size_of, probe_beside, probe_effect, find_by, find_effect, insert_beside, insert_effect, live_one, live_entry, remove_entry, remove_effect, removed, is_spent, moved, rename_beside, rename_entry, rename_by, rename_effect, empty_among, empty_effect}
+use Rattle.dir_format.specs.Effects.{DirEffect, refuses, becomes, size_of, probe_beside, probe_effect, find_by, find_effect, insert_beside, insert_effect, live_one, live_entry, remove_entry, remove_effect, removed, is_spent, moved, rename_beside, rename_entry, rename_by, rename_effect, empty_among, empty_effect}
 use Rattle.operation_effects.specs.Settling.{IsBounded, AreBounded}
 
-becomes_by : (ds after : List Entry) (spent b : Bool) → ltb max_size (size_of after) ≡ b → IsBounded (cond b (refuses refusal.TooLong ds) (record { outcome = Done; entries = after; counts = true; spent = spent }))
+becomes_by : (ds after : List Entry) (spent b : Bool) → ltb directory_bytes_max (size_of after) ≡ b → IsBounded (cond b (refuses refusal.TooLong ds) (record { outcome = Done; entries = after; counts = true; spent = spent }))
 becomes_by ds after spent true e h = absurd (false≢true h)
 becomes_by ds after spent false e h = grind (arith, nat_tests)
 
 bounded_becomes : (ds after : List Entry) (spent : Bool) → IsBounded (becomes ds after spent)
-bounded_becomes ds after spent = becomes_by ds after spent (ltb max_size (size_of after)) refl
+bounded_becomes ds after spent = becomes_by ds after spent (ltb directory_bytes_max (size_of after)) refl
 
 probe_by : (ds : List Entry) (b : Bool) → IsBounded (cond b (refuses refusal.TooLong ds) (record { outcome = Done; entries = ds; counts = false; spent = false }))
 probe_by ds true h = absurd (false≢true h)
 probe_by ds false h = absurd (false≢true h)
 
 probe_in : (name : List ℕ) (ds : List Entry) (found : Option Entry) → IsBounded (probe_beside name ds found)
-probe_in name ds None = probe_by ds (ltb max_size (size_of ds + (length name + 8)))
+probe_in name ds None = probe_by ds (ltb directory_bytes_max (size_of ds + (length name + 8)))
 probe_in name ds (Some d) = λ h. absurd (false≢true h)
 
 pub bounded_probe : (name : List ℕ) (ds : List Entry) → IsBounded (probe_effect name ds)

@@ -8,18 +8,19 @@ use Rattle.std.specs.declared.cmp.Ordering.TheVariants.{Less, Equal, Greater}
 use Rattle.std.proofs.lemmas.Bool.{false≢true}
 use Rattle.std.proofs.lemmas.Bool.Decides.{nat_tests}
 use Rattle.std.proofs.lemmas.Slice.Eq.{bytes_eq-Decides}
+use Rattle.locus_ids.specs.Sizes.{directory_bytes_max, inodes_max}
 use Rattle.locus_ids.specs.declared.ids.Kind.{Kind}
 use Rattle.trace_book.specs.Names.{is_name}
 use Rattle.dir_format.specs.declared.entry.Entry.{Entry}
 use Rattle.dir_format.specs.Entries.{entry_cmp, is_pair, pair_in, placed, with_entry, HasKind, OneKind, IsDir, IsEntry}
 use Rattle.dir_format.specs.Grammar.{kind_byte, entry_bytes, dir_bytes, IsDirectory}
 use Rattle.dir_format.specs.Contents.{is_dir, is_entry, ascends, has_one_kind, entries_from, entries_of}
-use Rattle.dir_format.specs.Effects.{DirEffect, max_size, size_of, live_entry, insert_beside, insert_effect}
+use Rattle.dir_format.specs.Effects.{DirEffect, size_of, live_entry, insert_beside, insert_effect}
 use Rattle.locus_ids.specs.declared.refusal.Refusal.TheVariants as refusal
 use Rattle.trace_book.specs.declared.operation.Outcome.{Outcome}
 use Rattle.trace_book.specs.declared.operation.Outcome.TheVariants as outcome
 use Rattle.file_content.specs.Pages.{pages_replaced}
-use Rattle.file_effects.specs.Effects.{Effect, in_directory}
+use Rattle.role_steps.specs.of_file_effects.Effects.{Effect, in_directory}
 use Rattle.operation_effects.specs.Settling.{effect_by, effects_by, left_or}
 use Rattle.dir_format.proofs.Filtering.{live_long}
 use Rattle.dir_format.proofs.Tests.{both}
@@ -130,15 +131,15 @@ no_dir e ds n h = no_dir_by e ds (is_dir (with_entry e ds)) refl n h
 
 -- numbers that no inode has
 
-number_by : (name : List ℕ) (ino : ℕ) (d : Entry) (b : Bool) → (d.ino == ino) ≡ b → ((1 ≤ d.ino) × (d.ino ≤ 1024)) → ((1 ≤ ino) × (ino ≤ 1024) → ⊥) → b ≡ false
-number_by name ino d true is h out = let same : d.ino ≡ ino = grind (arith, nat_tests) in absurd (out (subst (λ (n : ℕ). (1 ≤ n) × (n ≤ 1024)) same h))
+number_by : (name : List ℕ) (ino : ℕ) (d : Entry) (b : Bool) → (d.ino == ino) ≡ b → ((1 ≤ d.ino) × (d.ino ≤ inodes_max)) → ((1 ≤ ino) × (ino ≤ inodes_max) → ⊥) → b ≡ false
+number_by name ino d true is h out = let same : d.ino ≡ ino = grind (arith, nat_tests) in absurd (out (subst (λ (n : ℕ). (1 ≤ n) × (n ≤ inodes_max)) same h))
 number_by name ino d false is h out = refl
 
 and_false : (a b : Bool) → b ≡ false → (a && b) ≡ false
 and_false true b h = h
 and_false false b h = refl
 
-pub out_of_range : (name : List ℕ) (ino : ℕ) (ds : List Entry) → AllByRecursion IsEntry ds → ((1 ≤ ino) × (ino ≤ 1024) → ⊥) → pair_in name ino ds ≡ None
+pub out_of_range : (name : List ℕ) (ino : ℕ) (ds : List Entry) → AllByRecursion IsEntry ds → ((1 ≤ ino) × (ino ≤ inodes_max) → ⊥) → pair_in name ino ds ≡ None
 out_of_range name ino [] h out = refl
 out_of_range name ino (d ∷ ds) h out =
     let other : is_pair name ino d ≡ false = and_false (bytes_eq d.name name) (d.ino == ino) (number_by name ino d (d.ino == ino) refl h.0.ino out) in
@@ -147,19 +148,19 @@ out_of_range name ino (d ∷ ds) h out =
 -- what an insert gives with an inode of the other kind
 
 pub refused_other : (name : List ℕ) (ino : ℕ) (kind : Kind) (ds : List Entry) (content : List ℕ) → IsDir ds → IsEntry (live_entry name ino kind 1)
-    → pair_in name ino ds ≡ None → ltb max_size ((length name + 8) + size_of ds) ≡ true
+    → pair_in name ino ds ≡ None → ltb directory_bytes_max ((length name + 8) + size_of ds) ≡ true
     → effects_by content (Some (record { outcome = outcome.No refusal.TooLong; left = None; counts = false; spent = false })) ≡ in_directory content (insert_effect name ino kind ds)
 refused_other name ino kind ds content h fits new long =
     let size : size_of (with_entry (live_entry name ino kind 1) ds) ≡ (length name + 8) + size_of ds = size_with (live_entry name ino kind 1) ds new ∙ ap (λ (n : ℕ). n + size_of ds) (sym (live_long (live_entry name ino kind 1) fits refl)) in
-    let over : ltb max_size (size_of (with_entry (live_entry name ino kind 1) ds)) ≡ true = ap (ltb max_size) size ∙ long in
+    let over : ltb directory_bytes_max (size_of (with_entry (live_entry name ino kind 1) ds)) ≡ true = ap (ltb directory_bytes_max) size ∙ long in
     rw (new, over, dir_told ds h) refl
 
 pub no_other : (name : List ℕ) (ino : ℕ) (kind : Kind) (ds : List Entry) (content : List ℕ) → IsEntry (live_entry name ino kind 1) → (HasKind ino kind ds → ⊥)
-    → pair_in name ino ds ≡ None → ltb max_size ((length name + 8) + size_of ds) ≡ false
+    → pair_in name ino ds ≡ None → ltb directory_bytes_max ((length name + 8) + size_of ds) ≡ false
     → None ≡ in_directory content (insert_effect name ino kind ds)
 no_other name ino kind ds content fits other new long =
     let size : size_of (with_entry (live_entry name ino kind 1) ds) ≡ (length name + 8) + size_of ds = size_with (live_entry name ino kind 1) ds new ∙ ap (λ (n : ℕ). n + size_of ds) (sym (live_long (live_entry name ino kind 1) fits refl)) in
-    let within : ltb max_size (size_of (with_entry (live_entry name ino kind 1) ds)) ≡ false = ap (ltb max_size) size ∙ long in
+    let within : ltb directory_bytes_max (size_of (with_entry (live_entry name ino kind 1) ds)) ≡ false = ap (ltb directory_bytes_max) size ∙ long in
     let broken : is_dir (with_entry (live_entry name ino kind 1) ds) ≡ false = no_dir (live_entry name ino kind 1) ds new other in
     rw (new, within, broken) refl
 
@@ -178,9 +179,5 @@ one_is ds o counts spent left content h is =
 
 -- an entry of a new pair
 
-pub new_entry : (name : List ℕ) (ino : ℕ) (kind : Kind) → is_name name ≡ true → 1 ≤ ino → ino ≤ 1024 → IsEntry (live_entry name ino kind 1)
+pub new_entry : (name : List ℕ) (ino : ℕ) (kind : Kind) → is_name name ≡ true → 1 ≤ ino → ino ≤ inodes_max → IsEntry (live_entry name ino kind 1)
 new_entry name ino kind h low high = record { name = h; ino = (low, high); count = (omega arith, omega arith); seen = vector_of_nothing; live = λ _. refl }
-
-pub not_false : (a : Bool) → not a ≡ false → a ≡ true
-not_false true h = refl
-not_false false h = absurd (false≢true (sym h))

@@ -4,11 +4,12 @@ use Rattle.std.specs.Prelude.{Option, filter, min}
 use Rattle.std.specs.Str.{bytes_eq}
 use Rattle.std.proofs.lemmas.Slice.Eq.{bytes_eq-Decides}
 use Rattle.std.proofs.lemmas.Bool.{leb-true}
+use Rattle.locus_ids.specs.Sizes.{content_bytes_max, file_bytes_max, page_bytes}
 use Rattle.trace_book.specs.declared.operation.Outcome.{Outcome}
 use Rattle.file_content.specs.Pages.{pages_of, pages_from, pages_between, pages_written, pages_replaced, is_replaced, page_of}
-use Rattle.file_effects.specs.Effects.{Effect, is_refusal}
-use Rattle.file_effects.specs.Works.{result_in, operated, counted, carried_out}
-use Rattle.file_effects.specs.declared.work.Work.{Work}
+use Rattle.role_steps.specs.of_file_effects.Effects.{Effect, is_refusal}
+use Rattle.role_steps.specs.of_file_effects.Works.{result_in, operated, counted, carried_out}
+use Rattle.role_steps.specs.of_file_effects.declared.work.Work.{Work}
 use Rattle.operation_effects.specs.declared.settled.Settled.{Settled}
 use Rattle.operation_effects.specs.Settling.{Worked, worked, worked_so, effect_by}
 
@@ -30,11 +31,11 @@ length-from : (first more : ℕ) → length (pages_from first more) ≡ more
 length-from first zero = refl
 length-from first (suc more) = ap suc (length-from (first + 1) more)
 
-few_by : (b : Bool) (from end : ℕ) → end ≤ 65536 → length (cond b (pages_from (from / 1024) (pages_of end - from / 1024)) []) ≤ 65535
-few_by true from end h = omega (arith, length-from (from / 1024) (pages_of end - from / 1024))
+few_by : (b : Bool) (from end : ℕ) → end ≤ file_bytes_max → length (cond b (pages_from (from / page_bytes) (pages_of end - from / page_bytes)) []) ≤ 65535
+few_by true from end h = omega (arith, length-from (from / page_bytes) (pages_of end - from / page_bytes))
 few_by false from end h = omega arith
 
-pub few_written : (content : List ℕ) (at : ℕ) (bytes : List ℕ) → at + length bytes ≤ 65536 → length (pages_written content at bytes) ≤ 65535
+pub few_written : (content : List ℕ) (at : ℕ) (bytes : List ℕ) → at + length bytes ≤ file_bytes_max → length (pages_written content at bytes) ≤ 65535
 few_written content at bytes h = few_by (ltb (min at (length content)) (at + length bytes)) (min at (length content)) (at + length bytes) h
 
 filtered_by : (b : Bool) (p : ℕ) (ps qs : List ℕ) → length qs ≤ length ps → length (cond b (p ∷ qs) qs) ≤ length (p ∷ ps)
@@ -45,7 +46,7 @@ filter_few : (test : ℕ → Bool) (ps : List ℕ) → length (filter test ps) �
 filter_few test [] = omega arith
 filter_few test (p ∷ ps) = filtered_by (test p) p ps (filter test ps) (filter_few test ps)
 
-pub few_replaced : (old new : List ℕ) → length new ≤ 65536 → length (pages_replaced old new) ≤ 65535
+pub few_replaced : (old new : List ℕ) → length new ≤ content_bytes_max → length (pages_replaced old new) ≤ 65535
 few_replaced old new h = omega (arith, filter_few (is_replaced old new) (pages_from 0 (pages_of (length new))), length-from 0 (pages_of (length new)))
 
 same_bytes : (xs : List ℕ) → bytes_eq xs xs ≡ true
@@ -74,5 +75,5 @@ keeps_so content s none = ap (leaves content s.outcome s.counts s.spent) (sym (n
   by (Some new) e = absurd cc
 
 -- what fits ends within the greatest size
-pub fits_so : (b : Bool) (end : ℕ) → b ≡ leb end 65536 → b ≡ true → end ≤ 65536
-fits_so b end is h = leb-true end 65536 (sym is ∙ h)
+pub fits_so : (b : Bool) (end : ℕ) → b ≡ leb end file_bytes_max → b ≡ true → end ≤ file_bytes_max
+fits_so b end is h = leb-true end content_bytes_max (sym is ∙ h)

@@ -1,12 +1,13 @@
 -- What an operation did to an open instance.
 use Rattle.std.specs.Prelude.{◌≡◌, ℕ, ◌≤◌, Bool, true, List, length, Option, Some, None}
+use Rattle.locus_ids.specs.Sizes.{content_bytes_max, directory_bytes_max}
 use Rattle.trace_book.specs.declared.operation.Outcome.{Outcome}
 use Rattle.dir_format.specs.Grammar.{dir_bytes}
 use Rattle.dir_format.specs.Effects.{DirEffect}
 use Rattle.file_content.specs.Pages.{pages_replaced}
-use Rattle.file_effects.specs.Effects.{Effect}
-use Rattle.file_effects.specs.Works.{result_in, operated}
-use Rattle.file_effects.specs.declared.work.Work.{Work}
+use Rattle.role_steps.specs.of_file_effects.Effects.{Effect}
+use Rattle.role_steps.specs.of_file_effects.Works.{result_in, operated}
+use Rattle.role_steps.specs.of_file_effects.declared.work.Work.{Work}
 use Rattle.operation_effects.specs.declared.settled.Settled.{Settled}
 
 -- what an operation gave, or none where it wasn't lawful, and the instance after it
@@ -44,7 +45,7 @@ effects_by content (Some s) = Some (effect_by content s)
 -- what is left is no longer than a file may be
 abbrev pub IsShort : Option (List ℕ) → Type 0
 IsShort None = Unit {0}
-IsShort (Some new) = length new ≤ 65536
+IsShort (Some new) = length new ≤ content_bytes_max
 
 abbrev pub IsShortOf : Option Settled → Type 0
 IsShortOf None = Unit {0}
@@ -52,7 +53,7 @@ IsShortOf (Some s) = IsShort s.left
 
 -- an operation on a directory that counts as a change leaves one that is no longer than a file may be
 abbrev pub IsBounded : DirEffect → Type 0
-IsBounded e = e.counts ≡ true → length (dir_bytes e.entries) ≤ 65536
+IsBounded e = e.counts ≡ true → length (dir_bytes e.entries) ≤ directory_bytes_max
 
 abbrev pub AreBounded : Option DirEffect → Type 0
 AreBounded None = Unit {0}

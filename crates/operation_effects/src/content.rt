@@ -1,29 +1,30 @@
 ghost use Rattle.std.specs.Prelude.{◌≡◌, ◌≤◌, ◌+◌, ◌++◌, length, replicate, take, drop, IfOk, OnOk};
+ghost use Rattle.locus_ids.specs.Sizes.{content_bytes_max};
 ghost use Rattle.file_content.specs.Contents.{cut, written};
 
 use locus_ids::NoMemory;
-use locus_ids::sizes::MAX_BYTES;
 use std::alloc::Global;
 use std::marker::Model;
 
 /// The working content of an open file, at most 65,536 bytes, which is changed in place. Contracts see its bytes.
-#[derive(Debug, Drop)]
+#[derive(Drop)]
 pub struct WorkingContent(Vec<u8>);
 
 impl Model for WorkingContent {
     ghost use Rattle.std.specs.Prelude.{ℕ, List, length, ◌≤◌};
+    ghost use Rattle.locus_ids.specs.Sizes.{content_bytes_max};
 
     ghost Value = { List ℕ };
 
     ghost view = { λ c. c.0.items };
 
-    ghost invariant = { λ c. length c.0.items ≤ 65536 };
+    ghost invariant = { λ c. length c.0.items ≤ content_bytes_max };
 }
 
 impl WorkingContent {
     /// These bytes, in memory of their own.
     pub fn from_slice(alloc: Global, bytes: &[u8]) -> Result<WorkingContent, NoMemory>
-        requires { length bytes.now ≤ 65536 }
+        requires { length bytes.now ≤ content_bytes_max }
         ensures { IfOk result (λ made. made ≡ bytes.now) }
     {
         let items = Vec::from_slice(alloc, bytes)?;
@@ -33,7 +34,7 @@ impl WorkingContent {
     /// All bytes, the first one first.
     pub fn as_slice(&self) -> &[u8]
         ensures value { result.now ≡ self.now }
-        ensures few { length self.now ≤ 65536 }
+        ensures few { length self.now ≤ content_bytes_max }
     {
         self.0.as_slice()
     }
@@ -41,7 +42,7 @@ impl WorkingContent {
     /// The number of bytes.
     pub fn len(&self) -> usize
         ensures value { result ≡ length self.now }
-        ensures few { result ≤ 65536 }
+        ensures few { result ≤ content_bytes_max }
     {
         self.0.len()
     }
@@ -49,7 +50,7 @@ impl WorkingContent {
     /// Puts these bytes from a place on. A gap before them is filled with zeros.
     #[tactic(auto, using(crate::proofs::Writing::within, crate::proofs::Writing::over_end, crate::proofs::Writing::past))]
     pub fn write(&mut self, at: u32, bytes: &[u8]) -> Result<(), NoMemory>
-        requires { at + length bytes.now ≤ 65536 }
+        requires { at + length bytes.now ≤ content_bytes_max }
         ensures { OnOk result (self.new ≡ written self.old at bytes.now) }
     {
         let at = at as usize;
@@ -76,7 +77,7 @@ impl WorkingContent {
 
     /// Puts these bytes in the place of all.
     pub fn replace(&mut self, bytes: &[u8]) -> Result<(), NoMemory>
-        requires { length bytes.now ≤ 65536 }
+        requires { length bytes.now ≤ content_bytes_max }
         ensures { OnOk result (self.new ≡ bytes.now) }
     {
         self.0.clear();

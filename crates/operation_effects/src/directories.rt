@@ -2,17 +2,20 @@
 
 ghost use Rattle.std.specs.Prelude.{◌≡◌, ◌≤◌, ◌<◌, ◌^◌, ◌+◌, ℕ, List, Option, length, true, not, cond, nat_lt, IfOk, IfSome, IfNone};
 ghost use Rattle.std.specs.List.{list_any};
+ghost use Rattle.locus_ids.specs.Sizes.{directory_bytes_max};
 ghost use Rattle.trace_book.specs.Names.{is_name};
 ghost use Rattle.dir_format.specs.Entries.{HasKind, is_pair, pair_in};
 ghost use Rattle.dir_format.specs.Grammar.{dir_bytes};
-ghost use Rattle.dir_format.specs.Effects.{effect_of_some, insert_effect, max_size, size_of};
-ghost use Rattle.file_effects.specs.Effects.{As, Removes, effect, in_directory};
+ghost use Rattle.dir_format.specs.Effects.{insert_effect, size_of};
+ghost use Rattle.dir_operations.specs.Answers.{effect_of_some};
+ghost use Rattle.role_steps.specs.of_file_effects.Effects.{As, Removes, effect, in_directory};
 ghost use Rattle.trace_book.specs.declared.operation.Op.TheVariants as Op;
 ghost use Rattle.operation_effects.specs.Settling.{AreBounded, IsShort, IsShortOf, effect_by, effects_by, left_or};
 
 use crate::settled::Settled;
-use dir_format::{Dir, DirAnswer, Entry, dir_in, encode_dir, has_kind, is_name};
-use locus_ids::sizes::MAX_BYTES;
+use dir_format::{Dir, Entry};
+use dir_operations::{DirAnswer, dir_in, encode_dir, has_kind, is_name};
+use locus_ids::sizes::{DIRECTORY_BYTES, SITES};
 use locus_ids::{Bytes, Ino, Kind, NoMemory, Refusal};
 use std::alloc::Global;
 use trace_book::Outcome;
@@ -28,7 +31,7 @@ pub(crate) fn probe(alloc: Global, content: &[u8], name: &[u8]) -> Result<Option
         return Ok(None);
     }
     let d = dir_in(alloc, content)?;
-    let a = dir_format::probe(&d, name);
+    let a = dir_operations::probe(&d, name);
     settled(&d, Some(a))
 }
 
@@ -43,7 +46,7 @@ pub(crate) fn find(
     ensures short { IfOk result IsShortOf }
 {
     let d = dir_in(alloc, content)?;
-    let a = dir_format::find(&d, component)?;
+    let a = dir_operations::find(&d, component)?;
     settled(&d, Some(a))
 }
 
@@ -54,7 +57,7 @@ pub(crate) fn empty(alloc: Global, content: &[u8]) -> Result<Option<Settled>, No
     ensures short { IfOk result IsShortOf }
 {
     let d = dir_in(alloc, content)?;
-    let a = dir_format::empty(&d)?;
+    let a = dir_operations::empty(&d)?;
     settled(&d, Some(a))
 }
 
@@ -73,7 +76,7 @@ pub(crate) fn rename(
         return Ok(None);
     }
     let mut d = dir_in(alloc, content)?;
-    let a = dir_format::rename(&mut d, component, name)?;
+    let a = dir_operations::rename(&mut d, component, name)?;
     settled(&d, Some(a))
 }
 
@@ -83,7 +86,7 @@ pub(crate) fn remove(
     content: &[u8],
     name: &[u8],
     ino: u16,
-    seen: &Vector<16>,
+    seen: &Vector<SITES>,
 ) -> Result<Option<Settled>, NoMemory>
     requires { length content.now < 2 ^ 32 }
     ensures value { IfOk result (λ s. effects_by content.now s ≡ effect (Removes name.now ino seen.now) content.now) }
@@ -93,7 +96,7 @@ pub(crate) fn remove(
     let Some(ino) = known_ino(&d, ino) else {
         return Ok(None);
     };
-    let a = dir_format::remove(&mut d, name, ino, seen)?;
+    let a = dir_operations::remove(&mut d, name, ino, seen)?;
     settled(&d, a)
 }
 
@@ -119,7 +122,7 @@ pub(crate) fn insert(
     if !has_kind(&d, ino, kind) {
         return insert_other_kind(&d, name, ino, kind);
     }
-    let a = dir_format::insert(&mut d, name, ino, kind)?;
+    let a = dir_operations::insert(&mut d, name, ino, kind)?;
     settled(&d, a)
 }
 
@@ -139,7 +142,7 @@ fn settled(d: &Dir, a: Option<DirAnswer>) -> Result<Option<Settled>, NoMemory>
 }
 
 fn settled_one(d: &Dir, outcome: Outcome, counts: bool, spent: bool) -> Result<Settled, NoMemory>
-    requires { counts ≡ true → length (dir_bytes d.now) ≤ 65536 }
+    requires { counts ≡ true → length (dir_bytes d.now) ≤ directory_bytes_max }
     ensures value { IfOk result (λ s. (content : List ℕ) → Some (effect_by content s) ≡ in_directory content (Some (record { outcome = outcome; entries = d.now; counts = counts; spent = spent }))) }
     ensures short { IfOk result (λ s. IsShort s.left) }
 {
@@ -155,7 +158,7 @@ fn settled_one(d: &Dir, outcome: Outcome, counts: bool, spent: bool) -> Result<S
 
 /// The bytes of the directory, where an operation counts as a change.
 fn left_by(d: &Dir, counts: bool) -> Result<Option<Bytes>, NoMemory>
-    requires { counts ≡ true → length (dir_bytes d.now) ≤ 65536 }
+    requires { counts ≡ true → length (dir_bytes d.now) ≤ directory_bytes_max }
     ensures value { IfOk result (λ left. (content : List ℕ) → left_or content left ≡ cond counts (dir_bytes d.now) content) }
     ensures short { IfOk result IsShort }
 {
@@ -218,9 +221,9 @@ fn has_pair(entries: &[Entry], name: &[u8], ino: Ino) -> bool
 /// A live entry of this name fits beside the entries.
 fn is_room_beside(d: &Dir, name: &[u8]) -> Result<bool, NoMemory>
     requires { is_name name.now ≡ true }
-    ensures { IfOk result (λ yes. yes ≡ not (nat_lt max_size ((length name.now + 8) + size_of d.now))) }
+    ensures { IfOk result (λ yes. yes ≡ not (nat_lt directory_bytes_max ((length name.now + 8) + size_of d.now))) }
 {
     let mut bytes = Bytes::new(d.allocator());
     encode_dir(d, &mut bytes)?;
-    Ok(bytes.len() <= MAX_BYTES - 8 - name.len())
+    Ok(bytes.len() <= DIRECTORY_BYTES - 8 - name.len())
 }

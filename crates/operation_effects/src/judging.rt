@@ -1,7 +1,7 @@
 ghost use Rattle.std.specs.Prelude.{◌≡◌, ◌<◌, ◌≤◌, [], false, length};
 ghost use Rattle.file_content.specs.Pages.{pages_needed};
-ghost use Rattle.file_effects.specs.Effects.{is_refusal};
-ghost use Rattle.file_effects.specs.Works.{result_in};
+ghost use Rattle.role_steps.specs.of_file_effects.Effects.{is_refusal};
+ghost use Rattle.role_steps.specs.of_file_effects.Works.{result_in};
 
 use locus_ids::Refusal;
 use trace_book::Outcome;

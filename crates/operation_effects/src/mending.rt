@@ -3,7 +3,7 @@ use locus_ids::{Bytes, ItemList};
 use std::marker::Model;
 
 /// What a mend works on: the contents that its looks have brought, and the vectors of all kept versions of the group.
-#[derive(Debug, Drop)]
+#[derive(Drop)]
 pub struct MendingWork {
     pub contents: ItemList<Bytes>,
     pub kept: KeptVectors,

@@ -6,16 +6,17 @@ ghost use Rattle.dir_format.specs.Contents.{entries_of};
 ghost use Rattle.dir_reconcile.specs.Joins.{AgreeOnKinds, joined_dirs};
 ghost use Rattle.dir_reconcile.specs.Rescues.{rescued};
 ghost use Rattle.role_steps.specs.OperationEffects.{has_several, joined_contents, mend_effect};
-ghost use Rattle.file_effects.specs.Effects.{mends};
+ghost use Rattle.role_steps.specs.of_file_effects.Effects.{mends};
 ghost use Rattle.operation_effects.specs.Joinable.{AreJoinable, IsMemory};
 ghost use Rattle.operation_effects.specs.Settling.{IsShort, effect_by, effects_by};
 
 use crate::EffectFault;
 use crate::mending::MendingWork;
 use crate::settled::Settled;
-use dir_format::{Dir, dir_in, encode_dir};
+use dir_format::Dir;
+use dir_operations::{dir_in, encode_dir};
 use dir_reconcile::{KeptVectors, RescueFault, agree_on_kinds, join_dirs, rescue};
-use locus_ids::sizes::MAX_BYTES;
+use locus_ids::sizes::DIRECTORY_BYTES;
 use locus_ids::{Bytes, NoMemory, Refusal};
 use std::alloc::Global;
 use trace_book::Outcome;
@@ -90,7 +91,7 @@ fn put_join(content: &[u8], joined: Bytes, several: bool) -> Settled
     ensures value { effect_by content.now result ≡ mends content.now several joined }
     ensures short { IsShort result.left }
 {
-    if joined.len() > MAX_BYTES {
+    if joined.len() > DIRECTORY_BYTES {
         return Settled {
             outcome: Outcome::No {
                 why: Refusal::TooLong,

@@ -2,7 +2,7 @@ ghost use Rattle.std.specs.Prelude.{◌≡◌, ◌<◌, ℕ, List, IfOk, IfErr};
 ghost use Rattle.trace_book.specs.declared.operation.Op.TheVariants as Op;
 ghost use Rattle.trace_book.specs.declared.operation.Outcome.TheVariants as Outcome;
 ghost use Rattle.file_content.specs.Contents.{part};
-ghost use Rattle.file_effects.specs.Effects.{As, Removes, effect, tells};
+ghost use Rattle.role_steps.specs.of_file_effects.Effects.{As, Removes, effect, tells};
 ghost use Rattle.role_steps.specs.OperationEffects.{effect_of};
 ghost use Rattle.operation_effects.specs.Joinable.{CanWorkOn, IsMemory};
 ghost use Rattle.operation_effects.specs.Settling.{IsShortOf, effects_by, worked, worked_so};
@@ -13,6 +13,7 @@ use crate::settled::Settled;
 use crate::settling::{cut, settle, tell, write};
 use crate::{EffectFault, MendingWork, OpenWork};
 use file_content::part;
+use locus_ids::sizes::SITES;
 use locus_ids::{Kind, NoMemory};
 use trace_book::{Op, Outcome};
 use version_vector::Vector;
@@ -23,7 +24,7 @@ use version_vector::Vector;
 pub fn operate(
     work: &mut OpenWork,
     op: &Op,
-    seen: &Vector<16>,
+    seen: &Vector<SITES>,
     mending: &MendingWork,
     free: u16,
 ) -> Result<Option<Outcome>, EffectFault>
@@ -122,7 +123,7 @@ fn on_remove(
     work: &mut OpenWork,
     name: &[u8],
     ino: u16,
-    seen: &Vector<16>,
+    seen: &Vector<SITES>,
     free: u16,
 ) -> Result<Option<Outcome>, NoMemory>
     requires { work.old.ops < 4294967295 }

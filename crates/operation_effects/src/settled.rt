@@ -2,7 +2,7 @@ use locus_ids::Bytes;
 use trace_book::Outcome;
 
 /// What an operation gives that puts a whole content in the place of the old one, or keeps it.
-#[derive(Debug, Drop)]
+#[derive(Drop)]
 pub struct Settled {
     pub(crate) outcome: Outcome,
     /// The content that it leaves, where it is another one.

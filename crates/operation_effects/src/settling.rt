@@ -1,8 +1,8 @@
 //! What becomes of an open instance by what an operation gives.
 
 ghost use Rattle.std.specs.Prelude.{◌≡◌, ◌+◌, ◌<◌, ◌≤◌, nat_le, length, [], Some, IfOk};
-ghost use Rattle.file_content.specs.Contents.{max_bytes};
-ghost use Rattle.file_effects.specs.Effects.{As, cuts, effect, tells};
+ghost use Rattle.locus_ids.specs.Sizes.{content_bytes_max, file_bytes_max};
+ghost use Rattle.role_steps.specs.of_file_effects.Effects.{As, cuts, effect, tells};
 ghost use Rattle.trace_book.specs.declared.operation.Op.TheVariants as Op;
 ghost use Rattle.operation_effects.specs.Settling.{IsShort, effect_by, worked, worked_so};
 
@@ -11,7 +11,7 @@ use crate::judging::{is_refusal, judged};
 use crate::settled::Settled;
 use file_content::{pages_replaced, pages_written};
 use locus_ids::NoMemory;
-use locus_ids::sizes::MAX_BYTES;
+use locus_ids::sizes::FILE_BYTES;
 use trace_book::Outcome;
 
 /// An operation that gives this and leaves the content as it is.
@@ -80,10 +80,10 @@ pub(crate) fn write(
 
 /// These bytes from a place on end within the greatest size of a content.
 fn fits(at: u32, bytes: &[u8]) -> bool
-    ensures { result ≡ nat_le (at + length bytes.now) max_bytes }
+    ensures { result ≡ nat_le (at + length bytes.now) file_bytes_max }
 {
     let at = at as usize;
-    bytes.len() <= MAX_BYTES && at <= MAX_BYTES - bytes.len()
+    bytes.len() <= FILE_BYTES && at <= FILE_BYTES - bytes.len()
 }
 
 /// An operation that puts a whole content in the place of the old one, or keeps it.
@@ -129,7 +129,7 @@ fn put(
     free: u16,
 ) -> Result<Outcome, NoMemory>
     requires few { work.old.ops < 4294967295 }
-    requires short { length new.now ≤ 65536 }
+    requires short { length new.now ≤ content_bytes_max }
     ensures { IfOk result (λ gave. worked_so (Some gave) work.new ≡ worked free work.old (Some (effect_by work.old.content (record { outcome = outcome; left = Some new.now; counts = counts; spent = spent })))) }
 {
     let alloc = work.changed.allocator();

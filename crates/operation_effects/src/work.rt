@@ -1,7 +1,8 @@
 ghost use Rattle.std.specs.Prelude.{◌≡◌, ◌+◌, ◌<◌, ◌≤◌, ◌||◌, false, length, IfOk, OnOk};
 ghost use Rattle.std.specs.Option.{is_none};
+ghost use Rattle.locus_ids.specs.Sizes.{content_bytes_max};
 ghost use Rattle.file_content.specs.Pages.{pages_within, with_pages};
-ghost use Rattle.file_effects.specs.Works.{aborted, begins_owing, begun, committed, counted};
+ghost use Rattle.role_steps.specs.of_file_effects.Works.{aborted, begins_owing, begun, committed, counted};
 
 use crate::WorkingContent;
 use file_content::{pages_within, with_pages};
@@ -10,7 +11,7 @@ use std::alloc::Global;
 use std::marker::Model;
 
 /// What has become of an open instance since it was granted. Contracts see it as a `Work`.
-#[derive(Debug, Drop)]
+#[derive(Drop)]
 pub struct OpenWork {
     /// Operations done.
     pub ops: u32,
@@ -29,7 +30,7 @@ pub struct OpenWork {
 }
 
 impl Model for OpenWork {
-    ghost use Rattle.file_effects.specs.declared.work.Work.{Work};
+    ghost use Rattle.role_steps.specs.of_file_effects.declared.work.Work.{Work};
 
     ghost Value = { Work };
 
@@ -80,7 +81,7 @@ impl OpenWork {
     /// The instance goes back to this content of its last version.
     pub fn abort(&mut self, mode: Mode, content: &[u8]) -> Result<(), NoMemory>
         requires few { self.old.ops < 4294967295 }
-        requires short { length content.now ≤ 65536 }
+        requires short { length content.now ≤ content_bytes_max }
         ensures { OnOk result (self.new ≡ aborted mode content.now self.old) }
     {
         self.content.replace(content)?;

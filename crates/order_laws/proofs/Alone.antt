@@ -2,6 +2,8 @@
 use Rattle.std.proofs.Common.{◌≡◌, ℕ, ◌==◌, Bool, true, false, not, ◌&&◌, cond, List, [], ◌∷◌, ◌++◌, filter, map, Option, Some, None, refl, sym, ap, ◌∙◌, subst}
 use Rattle.std.specs.List.{AllByRecursion, list_any}
 use Rattle.std.specs.Option.{is_none, option_or}
+use Rattle.tree_laws.proofs.of_plain_facts.Numbers.{equal}
+use Rattle.tree_laws.proofs.of_plain_facts.Tests.{and_first, and_second, true_false}
 use Rattle.locus_ids.specs.declared.config.Config.{Config}
 use Rattle.locus_ids.specs.declared.ids.CallId.{CallId}
 use Rattle.locus_ids.specs.declared.ids.EpochId.{EpochId}
@@ -25,9 +27,9 @@ use Rattle.tree_model.specs.Lists.{change_first, without_first}
 use Rattle.tree_model.specs.Opening.{is_given_by, is_new_file, is_placed, is_site, making_site, open_refusal, place_refusal}
 use Rattle.tree_model.specs.State.{TreeState, held_at, kept_of, is_granted_here, is_inside, is_make, is_named, is_taken, is_writer, opener_of, openers}
 use Rattle.tree_model.specs.Tree.{grant_of, joined, left, next, once_acted, once_committed, opened, tree_of, without_make}
-use Rattle.lawful_trace.specs.Lawful.{MayCome}
+use Rattle.tree_laws.specs.of_lawful_trace.Lawful.{MayCome}
 use Rattle.tree_laws.specs.Following.{RowsAreLawful}
-use Rattle.tree_laws.proofs.Names.{same_epoch_eq, test_same, true_false}
+use Rattle.tree_laws.proofs.Names.{same_epoch_eq}
 use Rattle.order_laws.specs.Alone.{AreAlone, MayStandBy}
 use Rattle.order_laws.proofs.Lists.{all_changed, all_more, all_then, all_without, any_last, any_more}
 
@@ -66,14 +68,6 @@ alone_without q (x ∷ xs) alone = at (q x) (alone_without q xs alone.1)
 abbrev pub IsTakenIn : List Granted → Instance → Type 0
 IsTakenIn gs x = (f : FileId) → same_file x.grant.file f ≡ true → list_any (λ (g : Granted). same_file g.file f) gs ≡ true
 
-pub first_of : (a b : Bool) → a && b ≡ true → a ≡ true
-first_of true b h = refl
-first_of false b h = absurd cc
-
-pub second_of : (a b : Bool) → a && b ≡ true → b ≡ true
-second_of true b h = h
-second_of false b h = absurd cc
-
 not_true : (a : Bool) → not a ≡ true → a ≡ true → ⊥
 not_true true h e = true_false (sym h)
 not_true false h e = true_false (sym e)
@@ -88,7 +82,7 @@ none_excludes m f (x ∷ xs) none = at (same_file x.grant.file f) refl none (non
     later = map opener_of (filter (λ (y : Instance). same_file y.grant.file f) xs)
 
     both : (b : Bool) → is_read m && is_read x.grant.mode ≡ b → cond (not b) (Some (opener_of x)) (excluder m later) ≡ None → ((is_read x.grant.mode ≡ true) × (is_read m ≡ true)) × (excluder m later ≡ None)
-    both true e h = ((second_of (is_read m) (is_read x.grant.mode) e, first_of (is_read m) (is_read x.grant.mode) e), h)
+    both true e h = ((and_second (is_read m) (is_read x.grant.mode) e, and_first (is_read m) (is_read x.grant.mode) e), h)
     both false e h = absurd cc
 
     at : (b : Bool) → same_file x.grant.file f ≡ b → excluder m (map opener_of (cond b (x ∷ filter (λ (y : Instance). same_file y.grant.file f) xs) (filter (λ (y : Instance). same_file y.grant.file f) xs))) ≡ None
@@ -122,14 +116,14 @@ module _ (h : List Version) (t : TreeState) (call : CallId) (f : FileId) where
 
   -- what is given stands beside those that are open
   pub given_beside : (i : Serial) (m : Mode) (stamp : Option Stamp) (ss : ℕ) → AllByRecursion (IsTakenIn t.grants) t.instances → gives_grant h t call i m f stamp ss ≡ true → Beside m
-  given_beside i mode.Read stamp ss taken g = refused_none mode.Read (first_of (is_none (open_refusal h t mode.Read call f)) _ (second_of t.started _ g))
-  given_beside i mode.Write stamp ss taken g = refused_none mode.Write (first_of (is_none (open_refusal h t mode.Write call f)) _ (second_of t.started _ g))
-  given_beside i mode.Resolve stamp ss taken g = refused_none mode.Resolve (first_of (is_none (open_refusal h t mode.Resolve call f)) _ (second_of t.started _ g))
-  given_beside i mode.Mend stamp ss taken g = refused_none mode.Mend (first_of (is_none (open_refusal h t mode.Mend call f)) _ (second_of t.started _ g))
+  given_beside i mode.Read stamp ss taken g = refused_none mode.Read (and_first (is_none (open_refusal h t mode.Read call f)) _ (and_second t.started _ g))
+  given_beside i mode.Write stamp ss taken g = refused_none mode.Write (and_first (is_none (open_refusal h t mode.Write call f)) _ (and_second t.started _ g))
+  given_beside i mode.Resolve stamp ss taken g = refused_none mode.Resolve (and_first (is_none (open_refusal h t mode.Resolve call f)) _ (and_second t.started _ g))
+  given_beside i mode.Mend stamp ss taken g = refused_none mode.Mend (and_first (is_none (open_refusal h t mode.Mend call f)) _ (and_second t.started _ g))
   given_beside i mode.Make stamp ss taken g =
-      let placed : is_placed h t call mode.Make f stamp ss ≡ true = second_of _ _ (second_of _ _ (second_of (is_none (open_refusal h t mode.Make call f)) _ (second_of t.started _ g))) in
-      let new : is_new_file t call f ss ≡ true = first_of (is_new_file t call f ss) (is_none stamp) placed in
-      made_none taken (second_of (is_none (held_at t ss f.ino)) (not (is_taken t f)) (second_of (is_given_by ss f.ino) _ (second_of (is_site (making_site t call) ss) _ new)))
+      let placed : is_placed h t call mode.Make f stamp ss ≡ true = and_second _ _ (and_second _ _ (and_second (is_none (open_refusal h t mode.Make call f)) _ (and_second t.started _ g))) in
+      let new : is_new_file t call f ss ≡ true = and_first (is_new_file t call f ss) (is_none stamp) placed in
+      made_none taken (and_second (is_none (held_at t ss f.ino)) (not (is_taken t f)) (and_second (is_given_by ss f.ino) _ (and_second (is_site (making_site t call) ss) _ new)))
 
 -- ---- record by record ----
 
@@ -215,7 +209,7 @@ module _ (c : Config) (e : EpochId) (group : ℕ) (before : Trace) where
       → AllByRecursion (λ (x : Instance). same_file x.grant.file f ≡ true → (is_read x.grant.mode ≡ true) × (is_read m ≡ true)) t.instances
   beside d call i m f stamp ss a gives same in_group =
       let named = tree_named c e group before in
-      let is : tree_of c d f.group before ≡ t = tree_is c e d group f.group before (same_epoch_eq d t.epoch same ∙ named.0) (test_same f.group t.group in_group ∙ named.1) in
+      let is : tree_of c d f.group before ≡ t = tree_is c e d group f.group before (same_epoch_eq d t.epoch same ∙ named.0) (equal f.group t.group in_group ∙ named.1) in
       given_beside h t call f i m stamp ss a.taken (subst (λ (u : TreeState). gives_grant h u call i m f stamp ss ≡ true) is gives)
 
   next_apart : (r : Record) → MayCome c before r → Apart t → Apart (next h r t)

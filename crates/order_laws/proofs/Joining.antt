@@ -4,11 +4,15 @@ use Rattle.std.proofs.lemmas.Bool.Decides.{nat_tests}
 use Rattle.std.proofs.lemmas.Nat.Bits.{bit_at_above}
 use Rattle.std.specs.List.{list_all}
 use Rattle.std.specs.Prelude.{nat_lt}
+use Rattle.tree_laws.proofs.of_plain_facts.Numbers.{equal}
+use Rattle.tree_laws.proofs.of_plain_facts.Options.{some_same}
+use Rattle.tree_laws.proofs.of_plain_facts.Tests.{and_first, and_second, or_second, true_false}
 use Rattle.locus_ids.specs.Sites.{has}
 use Rattle.locus_ids.specs.declared.config.Config.{Config}
 use Rattle.locus_ids.specs.declared.ids.Brought.{Brought}
 use Rattle.locus_ids.specs.declared.ids.EpochId.{EpochId}
 use Rattle.locus_ids.specs.declared.sites.Members.{Members}
+use Rattle.locus_ids.specs.Sizes.{sites_max}
 use Rattle.commit_graph.specs.declared.history.Version.{Version}
 use Rattle.commit_graph.specs.Vectors.{numbers_from}
 use Rattle.trace_book.specs.Same.{same_epoch}
@@ -20,22 +24,22 @@ use Rattle.tree_model.specs.Histories.{history}
 use Rattle.tree_model.specs.Packs.{boot_in, has_pack, is_member, is_member_of, packs_of}
 use Rattle.tree_model.specs.State.{TreeState, is_granted_here, is_make}
 use Rattle.tree_model.specs.Tree.{acted, grant_of, granted, joined, left, next, released, tree_of, without_make}
-use Rattle.lawful_trace.specs.Lawful.{MayCome}
-use Rattle.lawful_trace.specs.SiteRows.{MayJoin}
-use Rattle.lawful_trace.specs.TreeRows.{MayStart, is_served}
+use Rattle.tree_laws.specs.of_lawful_trace.Lawful.{MayCome}
+use Rattle.tree_laws.specs.of_lawful_trace.SiteRows.{MayJoin}
+use Rattle.tree_laws.specs.of_lawful_trace.TreeRows.{MayStart, is_served}
 use Rattle.tree_laws.specs.Following.{RowsAreLawful}
-use Rattle.tree_laws.proofs.Names.{same_epoch_eq, some_is, test_same, true_false}
+use Rattle.tree_laws.proofs.Names.{same_epoch_eq}
 use Rattle.order_laws.specs.Joining.{NoPackComes, PacksAreOfSites}
-use Rattle.order_laws.proofs.Alone.{first_of, second_of, tree_named}
+use Rattle.order_laws.proofs.Alone.{tree_named}
 
 -- ---- numbers and boots ----
 
 pub all_numbers : (p : ℕ → Bool) (k n s : ℕ) → k ≤ s → s < k + n → list_all p (numbers_from k n) ≡ true → p s ≡ true
 all_numbers p k zero s low high all = absurd (omega (arith, low, high))
-all_numbers p k (suc n) s low high all = at (k == s) refl (λ l h. all_numbers p (k + 1) n s l h (second_of (p k) _ all))
+all_numbers p k (suc n) s low high all = at (k == s) refl (λ l h. all_numbers p (k + 1) n s l h (and_second (p k) _ all))
   where
     at : (b : Bool) → (k == s) ≡ b → (k + 1 ≤ s → s < (k + 1) + n → p s ≡ true) → p s ≡ true
-    at true e later = subst (λ (m : ℕ). p m ≡ true) (test_same k s e) (first_of (p k) _ all)
+    at true e later = subst (λ (m : ℕ). p m ≡ true) (equal k s e) (and_first (p k) _ all)
     at false e later = later (above k s low e) (omega (arith, high))
       where
         above : (a z : ℕ) → a ≤ z → (a == z) ≡ false → a + 1 ≤ z
@@ -62,24 +66,20 @@ boot_low c (r ∷ before) rows site = over r.what rows.0 (boot_low c before rows
 pub record Whole (c : Config) (trace : Trace) (e : EpochId) (g : ℕ) : Type 0 where
   pub members : Members
   pub are : members_of trace e ≡ Some members
-  pub joined : (site : ℕ) → 1 ≤ site → site ≤ 16 → is_member members site ≡ true → has_pack c g site ≡ true → has_joined trace site e ≡ true
+  pub joined : (site : ℕ) → 1 ≤ site → site ≤ sites_max → is_member members site ≡ true → has_pack c g site ≡ true → has_joined trace site e ≡ true
 
 no_members : (m : Members) → ◌≡◌ {A = Option Members} None (Some m) → ⊥
 no_members m e = cc
 
 -- every member that joins has the same list
 same_members : (before : Trace) (e : EpochId) (site : ℕ) (m old : Members) → MayJoin before site e m → members_of before e ≡ Some old → m ≡ old
-same_members before e site m old may are = ⊎_elim (λ (none : members_of before e ≡ None). absurd (no_members old (sym none ∙ are))) (λ (is : members_of before e ≡ Some m). some_is m old (sym is ∙ are)) may.same
-
-later_true : (a b : Bool) → b ≡ true → a || b ≡ true
-later_true true b x = refl
-later_true false b x = x
+same_members before e site m old may are = ⊎_elim (λ (none : members_of before e ≡ None). absurd (no_members old (sym none ∙ are))) (λ (is : members_of before e ≡ Some m). some_same m old (sym is ∙ are)) may.same
 
 whole_next : (c : Config) (line : ℕ) (r : Record) (before : Trace) (e : EpochId) (g : ℕ) → MayCome c before r → Whole c before e g → Whole c (record { line = line; what = r } ∷ before) e g
 whole_next c line (says.Join s d m) before e g may w = record {
   members = w.members;
   are = over (same_epoch d e) refl;
-  joined = λ site low high member pack. later_true ((s == site) && same_epoch d e) (has_joined before site e) (w.joined site low high member pack);
+  joined = λ site low high member pack. or_second ((s == site) && same_epoch d e) (has_joined before site e) (w.joined site low high member pack);
 }
   where
     over : (b : Bool) → same_epoch d e ≡ b → cond b (Some m) (members_of before e) ≡ Some w.members
@@ -98,7 +98,7 @@ started_whole c before e g copies may =
       members = ms.0;
       are = ms.1;
       joined = λ site low high member pack. has (is_member_of (members_of before e) site) (has_pack c g site) (has_joined before site e) (ap (λ (o : Option Members). is_member_of o site) ms.1 ∙ member) pack
-          (all_numbers (λ s. not (is_member_of (members_of before e) s && has_pack c g s) || has_joined before s e) 1 16 site low (omega (arith, high)) may.whole);
+          (all_numbers (λ s. not (is_member_of (members_of before e) s && has_pack c g s) || has_joined before s e) 1 sites_max site low (omega (arith, high)) may.whole);
     }
   where
     has : (a b d : Bool) → a ≡ true → b ≡ true → not (a && b) || d ≡ true → d ≡ true
@@ -124,7 +124,7 @@ module _ (c : Config) (e : EpochId) (g : ℕ) (before : Trace) (old : (tree_of c
       named = tree_named c e g before
 
       over : (b : Bool) → same_epoch d t.epoch && (k == t.group) ≡ b → (cond b (record t { started = true }) t).started ≡ true → Whole c before e g
-      over true b x = subst (λ (n : ℕ). Whole c before e n) (test_same k t.group (second_of (same_epoch d t.epoch) _ b) ∙ named.1) (subst (λ (y : EpochId). Whole c before y k) (same_epoch_eq d t.epoch (first_of (same_epoch d t.epoch) _ b) ∙ named.0) (started_whole c before d k copies may))
+      over true b x = subst (λ (n : ℕ). Whole c before e n) (equal k t.group (and_second (same_epoch d t.epoch) _ b) ∙ named.1) (subst (λ (y : EpochId). Whole c before y k) (same_epoch_eq d t.epoch (and_first (same_epoch d t.epoch) _ b) ∙ named.0) (started_whole c before d k copies may))
       over false b x = old x
   whole_now (says.Join s d m) may x = over (same_epoch d t.epoch) x
     where
@@ -156,19 +156,19 @@ no_place a m zero e low = absurd (zero_low (subst (λ (n : ℕ). 1 ≤ n) (sym e
     zero_low le = omega (arith, le)
 no_place a m (suc site) e low = omega arith
 
-few_sites : (c : Config) (g site : ℕ) → PacksAreOfSites c → 1 ≤ site → has_pack c g site ≡ true → site ≤ 16
-few_sites c g site few low pack = at (nat_lt 16 site) refl
+few_sites : (c : Config) (g site : ℕ) → PacksAreOfSites c → 1 ≤ site → has_pack c g site ≡ true → site ≤ sites_max
+few_sites c g site few low pack = at (nat_lt sites_max site) refl
   where
-    beyond : nat_lt 16 site ≡ true → 16 ≤ site - 1
+    beyond : nat_lt sites_max site ≡ true → sites_max ≤ site - 1
     beyond e = grind (arith, nat_tests)
 
-    within : nat_lt 16 site ≡ false → site ≤ 16
+    within : nat_lt sites_max site ≡ false → site ≤ sites_max
     within e = grind (arith, nat_tests)
 
-    none : nat_lt 16 site ≡ true → has (packs_of c g) site ≡ false
-    none e = ap (λ (n : ℕ). n == 1) (bit_at_above (packs_of c g).0 16 (site - 1) (few g) (beyond e))
+    none : nat_lt sites_max site ≡ true → has (packs_of c g) site ≡ false
+    none e = ap (λ (n : ℕ). n == 1) (bit_at_above (packs_of c g).0 sites_max (site - 1) (few g) (beyond e))
 
-    at : (b : Bool) → nat_lt 16 site ≡ b → site ≤ 16
+    at : (b : Bool) → nat_lt sites_max site ≡ b → site ≤ sites_max
     at true e = absurd (true_false (sym pack ∙ none e))
     at false e = within e
 

@@ -2,6 +2,9 @@
 use Rattle.std.proofs.Common.{◌≡◌, ℕ, ◌==◌, Bool, true, false, not, ◌&&◌, ◌||◌, cond, List, [], ◌∷◌, filter, map, Option, Some, None, refl, sym, ap, ◌∙◌, subst, arith, ◌⊎◌, inl, inr}
 use Rattle.std.proofs.lemmas.Bool.Decides.{nat_tests}
 use Rattle.std.specs.List.{AllByRecursion, find, list_any}
+use Rattle.tree_laws.proofs.of_plain_facts.Numbers.{equal}
+use Rattle.tree_laws.proofs.of_plain_facts.Options.{some_same}
+use Rattle.tree_laws.proofs.of_plain_facts.Tests.{and_first, and_second, true_false}
 use Rattle.locus_ids.specs.declared.config.Config.{Config}
 use Rattle.locus_ids.specs.declared.ids.Brought.{Brought}
 use Rattle.locus_ids.specs.declared.ids.EpochId.{EpochId}
@@ -23,16 +26,16 @@ use Rattle.tree_model.specs.Packs.{has_pack}
 use Rattle.tree_model.specs.Same.{same_brought, same_version}
 use Rattle.tree_model.specs.State.{TreeState, instance_in, is_brought_below, is_granted_here, is_make, is_named, stamps_of, with_all, with_brought}
 use Rattle.tree_model.specs.Tree.{acted, granted, grant_of, joined, kept_in, left, next, published, released, tree_of, with_root, without_make}
-use Rattle.lawful_trace.specs.Lawful.{MayCome}
+use Rattle.tree_laws.specs.of_lawful_trace.Lawful.{MayCome}
 use Rattle.tree_laws.specs.Following.{RowsAreLawful}
-use Rattle.tree_laws.proofs.Names.{same_epoch_eq, same_serial_eq, some_is, test_same, true_false}
+use Rattle.tree_laws.proofs.Names.{same_epoch_eq, same_serial_eq}
 use Rattle.order_laws.specs.Alone.{AreAlone, MayStandBy}
 use Rattle.order_laws.specs.Keeping.{IsChanging, KeepsVersions, PassesBy}
-use Rattle.order_laws.proofs.Alone.{first_of, rows_apart, second_of, tree_is, tree_named}
+use Rattle.order_laws.proofs.Alone.{rows_apart, tree_is, tree_named}
 use Rattle.order_laws.specs.Joining.{PacksAreOfSites}
 use Rattle.order_laws.proofs.Joining.{no_pack_comes}
 use Rattle.order_laws.proofs.Started.{open_started}
-use Rattle.lawful_trace.specs.SiteRows.{MayJoin}
+use Rattle.tree_laws.specs.of_lawful_trace.SiteRows.{MayJoin}
 use Rattle.order_laws.proofs.Knowing.{rows_sound, tree_config}
 use Rattle.order_laws.proofs.Lists.{all_found}
 use Rattle.order_laws.proofs.Standing.{At, KnownStands, same_file_eq, same_stamp_eq}
@@ -64,7 +67,7 @@ pub others_stand : (v : Version) (h : List Version) (f : FileId) (s : Stamp) →
 others_stand v h f s new stands = at (is_version f s v) refl
   where
     is : is_version f s v ≡ true → is_in h v.file v.stamp ≡ true
-    is e = subst (λ (g : FileId). is_in h g v.stamp ≡ true) (sym (same_file_eq v.file f (first_of (same_file v.file f) _ e))) (subst (λ (r : Stamp). is_in h f r ≡ true) (sym (same_stamp_eq v.stamp s (second_of (same_file v.file f) _ e))) stands)
+    is e = subst (λ (g : FileId). is_in h g v.stamp ≡ true) (sym (same_file_eq v.file f (and_first (same_file v.file f) _ e))) (subst (λ (r : Stamp). is_in h f r ≡ true) (sym (same_stamp_eq v.stamp s (and_second (same_file v.file f) _ e))) stands)
 
     at : (b : Bool) → is_version f s v ≡ b → b ≡ false
     at true e = absurd (true_false (sym (is e) ∙ new))
@@ -75,7 +78,7 @@ all_others v h g ino [] new all = tt
 all_others v h g ino (b ∷ bs) new all = at (b.ino == ino) refl (all_others v h g ino bs new all.1)
   where
     at : (k : Bool) → (b.ino == ino) ≡ k → AreOthers v (At g ino) (stamps_of bs ino) → AreOthers v (At g ino) (map (λ (y : Brought). y.stamp) (cond k (b ∷ filter (λ (y : Brought). y.ino == ino) bs) (filter (λ (y : Brought). y.ino == ino) bs)))
-    at true e later = (others_stand v h (At g ino) b.stamp new (subst (λ (n : ℕ). is_in h (At g n) b.stamp ≡ true) (test_same b.ino ino e) all.0), later)
+    at true e later = (others_stand v h (At g ino) b.stamp new (subst (λ (n : ℕ). is_in h (At g n) b.stamp ≡ true) (equal b.ino ino e) all.0), later)
     at false e later = later
 
 -- ---- another file's version is published ----
@@ -111,9 +114,9 @@ stand_or_same (z ∷ zs) i j x y alone e k = at (is_named i z) (is_named j z) e 
   where
     at : (a b : Bool) → cond a (Some z) (find (is_named i) zs) ≡ Some x → cond b (Some z) (find (is_named j) zs) ≡ Some y
         → (find (is_named i) zs ≡ Some x → find (is_named j) zs ≡ Some y → (MayStandBy x y) ⊎ ((MayStandBy y x) ⊎ (x ≡ y))) → (MayStandBy x y) ⊎ ((MayStandBy y x) ⊎ (x ≡ y))
-    at true true e k later = inr (inr (sym (some_is z x e) ∙ some_is z y k))
-    at true false e k later = inl (subst (λ (w : Instance). MayStandBy w y) (some_is z x e) (all_found (MayStandBy z) (is_named j) zs y alone.0 k))
-    at false true e k later = inr (inl (subst (λ (w : Instance). MayStandBy w x) (some_is z y k) (all_found (MayStandBy z) (is_named i) zs x alone.0 e)))
+    at true true e k later = inr (inr (sym (some_same z x e) ∙ some_same z y k))
+    at true false e k later = inl (subst (λ (w : Instance). MayStandBy w y) (some_same z x e) (all_found (MayStandBy z) (is_named j) zs y alone.0 k))
+    at false true e k later = inr (inl (subst (λ (w : Instance). MayStandBy w x) (some_same z y k) (all_found (MayStandBy z) (is_named i) zs x alone.0 e)))
     at false false e k later = later e k
 
 own_file : (f : FileId) → same_file f f ≡ true
@@ -127,7 +130,7 @@ found_name i [] x e = absurd (none e)
 found_name i (y ∷ ys) x e = at (is_named i y) refl e (found_name i ys x)
   where
     at : (b : Bool) → is_named i y ≡ b → cond b (Some y) (find (is_named i) ys) ≡ Some x → (find (is_named i) ys ≡ Some x → x.grant.inst ≡ i) → x.grant.inst ≡ i
-    at true k e later = subst (λ (z : Instance). z.grant.inst ≡ i) (some_is y x e) (same_serial_eq y.grant.inst i k)
+    at true k e later = subst (λ (z : Instance). z.grant.inst ≡ i) (some_same y x e) (same_serial_eq y.grant.inst i k)
     at false k e later = later e
 
 -- beside one that may change its file no other of the file is open
@@ -176,20 +179,20 @@ ends_in c before e f d j g stamp gives same = of (instance_in t j) refl (subst (
     t = tree_of c e f.group before
 
     epoch_is : d ≡ e
-    epoch_is = same_epoch_eq d (tree_of c e f.group before).epoch (first_of (same_epoch d (tree_of c e f.group before).epoch) _ same) ∙ (tree_named c e f.group before).0
+    epoch_is = same_epoch_eq d (tree_of c e f.group before).epoch (and_first (same_epoch d (tree_of c e f.group before).epoch) _ same) ∙ (tree_named c e f.group before).0
 
     group_is : g.group ≡ f.group
-    group_is = test_same g.group (tree_of c e f.group before).group (second_of (same_epoch d (tree_of c e f.group before).epoch) _ same) ∙ (tree_named c e f.group before).1
+    group_is = equal g.group (tree_of c e f.group before).group (and_second (same_epoch d (tree_of c e f.group before).epoch) _ same) ∙ (tree_named c e f.group before).1
 
     of : (o : Option Instance) → instance_in (tree_of c e f.group before) j ≡ o → instance_ends (history c before) (tree_of c e f.group before) g stamp o ≡ true → EndsIn c before e f d j g stamp
     of None k h = absurd (true_false (sym h))
     of (Some w) k h = record {
       ended = w;
       found = k;
-      file_is = same_file_eq w.grant.file g (first_of (same_file w.grant.file g) _ h);
+      file_is = same_file_eq w.grant.file g (and_first (same_file w.grant.file g) _ h);
       group_is = group_is;
       epoch_is = epoch_is;
-      made = first_of (same_version stamp w.work.committed) _ (second_of (same_file w.grant.file g) _ h);
+      made = and_first (same_version stamp w.work.committed) _ (and_second (same_file w.grant.file g) _ h);
     }
 
 -- a file that has the group and the inode of another is that one
@@ -203,7 +206,7 @@ changing_publishes_nothing c before rows e f i x changing d j g stamp gives pass
     at : EndsIn c before e f d j g stamp → (b : Bool) → (g.ino == f.ino) ≡ b → stamps_of (published g stamp (tree_of c e f.group before).known) f.ino ≡ stamps_of (tree_of c e f.group before).known f.ino
     at w false k = published_same g stamp f.ino (tree_of c e f.group before).known k
     at w true k = absurd (passes w.epoch_is (changes_alone (tree_of c e f.group before).instances i j x w.ended (rows_apart c before rows e f.group).alone changing.found w.found
-        (changing.file_is ∙ (sym (file_eq g f w.group_is (test_same g.ino f.ino k)) ∙ sym w.file_is)) changing.writes))
+        (changing.file_is ∙ (sym (file_eq g f w.group_is (equal g.ino f.ino k)) ∙ sym w.file_is)) changing.writes))
 
 -- the record publishes nothing of the file
 abbrev pub PublishesNone : Config → Trace → EpochId → FileId → Record → Type 0

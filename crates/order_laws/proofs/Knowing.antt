@@ -1,6 +1,9 @@
 -- Record by record, what the trees know stands in the history.
 use Rattle.std.proofs.Common.{◌≡◌, ℕ, ◌==◌, Bool, true, false, ◌&&◌, cond, List, [], ◌∷◌, ◌++◌, Option, Some, None, refl, sym, ap, ◌∙◌, subst}
 use Rattle.std.specs.List.{AllByRecursion}
+use Rattle.tree_laws.proofs.of_plain_facts.Numbers.{equal}
+use Rattle.tree_laws.proofs.of_plain_facts.Options.{some_same}
+use Rattle.tree_laws.proofs.of_plain_facts.Tests.{and_first, and_second, or_second}
 use Rattle.locus_ids.specs.declared.config.Config.{Config}
 use Rattle.locus_ids.specs.declared.ids.EpochId.{EpochId}
 use Rattle.locus_ids.specs.declared.ids.FileId.{FileId}
@@ -22,13 +25,13 @@ use Rattle.tree_model.specs.Lists.{change_first}
 use Rattle.tree_model.specs.Packs.{has_pack}
 use Rattle.tree_model.specs.State.{TreeState, has_stamp, instance_in, is_granted_here, is_inside, is_make, is_named, is_writer}
 use Rattle.tree_model.specs.Tree.{acted, candidates, committed_at, grant_of, granted, has_now, joined, left, next, once_acted, once_committed, opened, released, tree_of, without_make}
-use Rattle.lawful_trace.specs.Lawful.{MayCome}
+use Rattle.tree_laws.specs.of_lawful_trace.Lawful.{MayCome}
 use Rattle.tree_laws.specs.Following.{RowsAreLawful}
-use Rattle.tree_laws.proofs.Names.{same_epoch_eq, some_is, test_same}
+use Rattle.tree_laws.proofs.Names.{same_epoch_eq}
 use Rattle.order_laws.specs.Standing.{VersionsStand}
-use Rattle.order_laws.proofs.Alone.{first_of, second_of, tree_is, tree_named}
+use Rattle.order_laws.proofs.Alone.{tree_is, tree_named}
 use Rattle.order_laws.proofs.Lists.{all_changed, all_found, all_more, all_passed, all_without}
-use Rattle.order_laws.proofs.Standing.{At, CopyStands, KnownStands, Sound, WorkStands, acted_keeps, held_stands, if_sound, joined_sound, known_found, later_true, more_sound, newest, now_stands, published_stands, released_stands, roots_stand, same_file_eq}
+use Rattle.order_laws.proofs.Standing.{At, CopyStands, KnownStands, Sound, WorkStands, acted_keeps, held_stands, if_sound, joined_sound, known_found, more_sound, newest, now_stands, published_stands, released_stands, roots_stand, same_file_eq}
 
 -- ---- a record leaves the cluster of the tree as it is ----
 
@@ -61,7 +64,7 @@ no_stamp s e = cc
 module _ (h : List Version) (t : TreeState) where
   -- the file is one of the tree's group
   in_group : (f : FileId) → (f.group == t.group) ≡ true → f ≡ At t.group f.ino
-  in_group f same = ap (λ (n : ℕ). At n f.ino) (test_same f.group t.group same)
+  in_group f same = ap (λ (n : ℕ). At n f.ino) (equal f.group t.group same)
 
   commit_sound : (f : FileId) (site : ℕ) (stamp : Stamp) (v : Version) → v.file ≡ f → v.stamp ≡ stamp → Sound h t → Sound (v ∷ h) (committed_at f site stamp (has_now f site stamp t))
   commit_sound f site stamp v is named x = record {
@@ -71,10 +74,10 @@ module _ (h : List Version) (t : TreeState) where
   }
     where
       later : Sound (v ∷ h) t
-      later = more_sound h (v ∷ h) t (λ g s k. later_true (is_version g s v) (is_in h g s) k) x
+      later = more_sound h (v ∷ h) t (λ g s k. or_second (is_version g s v) (is_in h g s) k) x
 
       commits : (y : Instance) → is_writer f site y ≡ true → WorkStands (v ∷ h) (once_committed stamp y)
-      commits y writes = λ s e. newest v h y.grant.file s (is ∙ sym (same_file_eq y.grant.file f (first_of (same_file y.grant.file f) _ writes))) (named ∙ some_is stamp s e)
+      commits y writes = λ s e. newest v h y.grant.file s (is ∙ sym (same_file_eq y.grant.file f (and_first (same_file y.grant.file f) _ writes))) (named ∙ some_same stamp s e)
 
       over : (b : Bool) → AllByRecursion (WorkStands (v ∷ h)) (cond b (change_first (is_writer f site) (once_committed stamp) t.instances) t.instances)
       over true = all_passed (WorkStands (v ∷ h)) (is_writer f site) (once_committed stamp) commits t.instances later.works
@@ -119,8 +122,8 @@ module _ (c : Config) (e : EpochId) (group : ℕ) (before : Trace) where
   released_there : (d : EpochId) (i : Serial) (f : FileId) (stamp : Option Stamp) → Sound h t → gives_release h (tree_of c d f.group before) i f stamp ≡ true → same_epoch d t.epoch && (f.group == t.group) ≡ true → (s : Stamp) → stamp ≡ Some s → is_in h (At t.group f.ino) s ≡ true
   released_there d i f stamp x gives b s is =
       let named = tree_named c e group before in
-      let group_is : (f.group == t.group) ≡ true = second_of (same_epoch d t.epoch) (f.group == t.group) b in
-      let same : tree_of c d f.group before ≡ t = tree_is c e d group f.group before (same_epoch_eq d t.epoch (first_of (same_epoch d t.epoch) _ b) ∙ named.0) (test_same f.group t.group group_is ∙ named.1) in
+      let group_is : (f.group == t.group) ≡ true = and_second (same_epoch d t.epoch) (f.group == t.group) b in
+      let same : tree_of c d f.group before ≡ t = tree_is c e d group f.group before (same_epoch_eq d t.epoch (and_first (same_epoch d t.epoch) _ b) ∙ named.0) (equal f.group t.group group_is ∙ named.1) in
       let here : gives_release h t i f (Some s) ≡ true = subst (λ (o : Option Stamp). gives_release h t i f o ≡ true) is (subst (λ (u : TreeState). gives_release h u i f stamp ≡ true) same gives) in
       subst (λ (g : FileId). is_in h g s ≡ true) (in_group h t f group_is) (released_stands h t i f s (instance_in t i) refl x.works here)
 

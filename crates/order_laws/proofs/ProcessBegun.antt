@@ -1,5 +1,6 @@
 -- What a call has it began with, or was granted; who begins at an instance is a use of it, or its close.
 use Rattle.std.proofs.Common.{◌≡◌, ℕ, Bool, true, false, not, cond, ◌&&◌, List, [], ◌∷◌, Option, Some, None, refl, sym, ◌∙◌, ap, subst, ◌⊎◌, inl, inr}
+use Rattle.tree_laws.proofs.of_plain_facts.Options.{none_some, some_same}
 use Rattle.locus_ids.specs.declared.config.Config.{Config}
 use Rattle.locus_ids.specs.declared.ids.CallId.{CallId}
 use Rattle.locus_ids.specs.declared.ids.EpochId.{EpochId}
@@ -21,16 +22,16 @@ use Rattle.call_rules.specs.declared.want.Want.TheVariants as want
 use Rattle.call_rules.specs.Opening.{op_wants, close_wants, uses_wants}
 use Rattle.call_rules.specs.Scripts.{where_packed}
 use Rattle.call_rules.specs.Words.{is_badly_named}
-use Rattle.role_steps.specs.Views.{Told, Shown, Takes}
-use Rattle.the_run.specs.Kept.{Among}
-use Rattle.the_run.specs.Worlds.{Line}
+use Rattle.tree_laws.specs.of_role_steps.Views.{Told, Shown, Takes}
+use Rattle.tree_laws.specs.of_the_run.Kept.{Among}
+use Rattle.tree_laws.specs.of_the_run.Worlds.{Line}
 use Rattle.tree_model.specs.declared.accepted.Waiting.{Waiting}
 use Rattle.tree_model.specs.Calls.{granted_to, call_named, accepted_as}
 use Rattle.tree_model.specs.Epochs.{epoch_of}
 use Rattle.tree_model.specs.Folds.{Trace}
-use Rattle.lawful_trace.specs.Progress.{Answers, is_packed_in}
-use Rattle.lawful_trace.specs.Tables.{begins_now, begun, is_close, uses_by, uses_of, close_of, descriptor}
-use Rattle.lawful_trace.specs.TreeRows.{IsCallIn}
+use Rattle.tree_laws.specs.of_lawful_trace.Progress.{Answers, is_packed_in}
+use Rattle.tree_laws.specs.of_lawful_trace.Tables.{begins_now, begun, is_close, uses_by, uses_of, close_of, descriptor}
+use Rattle.tree_laws.specs.of_lawful_trace.TreeRows.{IsCallIn}
 use Rattle.tree_laws.specs.Printed.{entries, onto_entries}
 use Rattle.tree_laws.specs.Calls.{log, script_as, Waits}
 use Rattle.tree_laws.specs.Following.{MayTell, IsFollowed}
@@ -41,15 +42,12 @@ use Rattle.tree_laws.proofs.CarriedLooks.{one_epoch}
 use Rattle.tree_laws.proofs.Descriptors.{FromDescriptor, uses_from, uses_is}
 use Rattle.tree_laws.proofs.Fresh.{IsNamed, next_is_new, numbered, calls_are_low}
 use Rattle.tree_laws.proofs.Having.{Untaken, named_or_untaken, has_stays}
-use Rattle.tree_laws.proofs.Names.{some_is, same_call_eq, same_call_own, same_epoch_own, same_serial_own}
+use Rattle.tree_laws.proofs.Names.{same_call_eq, same_call_own, same_epoch_own, same_serial_own}
 use Rattle.tree_laws.proofs.Owners.{granted_same, closed_same}
 use Rattle.tree_laws.proofs.Scripts.{named_stays, begun_stays}
 
 abbrev With : ℕ → Told → List Line → List Line
 With n x older = record { number = n; told = x } ∷ older
-
-none_some : {A : Type 0} (a : A) → ◌≡◌ {A = Option A} None (Some a) → ⊥
-none_some a e = cc
 
 -- ---- what a call has it began with, or was granted ----
 
@@ -79,10 +77,10 @@ comes_new c n s process d words older e i h may inside has = inr (ap (λ (t : Bo
     f = uses_from (descriptor (entries older) s process) (epoch_of (entries older) s) words b.0 i (uses_is (begins_now (entries older) s process words) b.0 i b.1)
 
     made : epoch_of (entries older) s ≡ Some e
-    made = ap (λ (w : Waiting). w.epoch) (some_is (accepted_as (entries older) s process d words) inside.accepted (sym (ap (λ (t : Bool). cond t (Some (accepted_as (entries older) s process d words)) (call_named (entries older) d)) (same_call_own d)) ∙ inside.named)) ∙ inside.made_in
+    made = ap (λ (w : Waiting). w.epoch) (some_same (accepted_as (entries older) s process d words) inside.accepted (sym (ap (λ (t : Bool). cond t (Some (accepted_as (entries older) s process d words)) (call_named (entries older) d)) (same_call_own d)) ∙ inside.named)) ∙ inside.made_in
 
     there : e ≡ b.0
-    there = some_is e b.0 (sym made ∙ f.inside)
+    there = some_same e b.0 (sym made ∙ f.inside)
 
 comes_old : (c : Config) (n : ℕ) (x : Told) (older : List Line) (e : EpochId) (d : CallId) (i : Serial) → IsFollowed c older → MayTell c older x → IsCallIn (entries older) e d → (has_instances c older d i ≡ true → Comes older e d i) → has_instances c (With n x older) d i ≡ true → Comes (With n x older) e d i
 comes_old c n x older e d i h may inside was has = comes_stays c n x older e d i h may (inside.accepted, inside.named) (over x may has (λ same. has_stays c n x older h may d (inside.accepted, inside.named) same i))
@@ -109,7 +107,7 @@ comes_from c (x ∷ older) h e d i inside has = at (λ here had. comes_from c ol
     at later = named_before c x.number x.told older d (Comes (x ∷ older) e d i) h.0 new old (inside.accepted, inside.named)
       where
         old : IsNamed (entries older) d → Comes (x ∷ older) e d i
-        old named = (let here : IsCallIn (entries older) e d = record { accepted = named.0; named = named.1; made_in = ap (λ (w : Waiting). w.epoch) (some_is named.0 inside.accepted (sym (named_stays c x.number x.told older d h.1 h.0 named ∙ named.1) ∙ inside.named)) ∙ inside.made_in } in
+        old named = (let here : IsCallIn (entries older) e d = record { accepted = named.0; named = named.1; made_in = ap (λ (w : Waiting). w.epoch) (some_same named.0 inside.accepted (sym (named_stays c x.number x.told older d h.1 h.0 named ∙ named.1) ∙ inside.named)) ∙ inside.made_in } in
             comes_old c x.number x.told older e d i h.1 h.0 here (λ had. later here had) has)
 
         new : (s process : ℕ) (words : Call) → x.told ≡ Shown (says.Accept s process d words) → Comes (x ∷ older) e d i
@@ -156,8 +154,8 @@ use_accept c n s process new words older h may k d w e i named starts = at (same
 
     at : (b : Bool) → same_call new d ≡ b → cond b (Some (accepted_as (entries older) s process new words)) (call_named (entries older) d) ≡ Some w → cond b (Some (begins_now (entries older) s process words)) (begun (entries older) d) ≡ Some (begins.Uses e i) → UsesIt (entries (With n (Shown r) older)) e i d (is_close w.words)
     at true t p q = subst (λ (z : CallId). UsesIt (entries (With n (Shown r) older)) e i z (is_close w.words)) (same_call_eq new d t)
-        (subst (λ (z : Waiting). UsesIt (entries (With n (Shown r) older)) e i new (is_close z.words)) (some_is (accepted_as (entries older) s process new words) w p)
-        (own (is_close words) refl (uses_own e i (begins_now (entries older) s process words) (some_is (begins_now (entries older) s process words) (begins.Uses e i) q))))
+        (subst (λ (z : Waiting). UsesIt (entries (With n (Shown r) older)) e i new (is_close z.words)) (some_same (accepted_as (entries older) s process new words) w p)
+        (own (is_close words) refl (uses_own e i (begins_now (entries older) s process words) (some_same (begins_now (entries older) s process words) (begins.Uses e i) q))))
     at false t p q = uses_stay c n r older e i d (is_close w.words) may (k d w e i p q)
 
 use_record : (c : Config) (n : ℕ) (r : Record) (older : List Line) → IsFollowed c older → MayTell c older (Shown r) → AllUse (entries older) → AllUse (entries (With n (Shown r) older))

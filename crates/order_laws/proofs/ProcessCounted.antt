@@ -1,15 +1,17 @@
 -- What a site has asked of an instance is what was done on it, and the one operation that is asked still.
 use Rattle.std.proofs.Common.{◌≡◌, ℕ, ◌+◌, Bool, true, false, cond, ◌&&◌, List, [], ◌∷◌, Option, Some, None, refl, sym, ◌∙◌, ap, subst, ◌⊎◌, inl, inr}
 use Rattle.std.specs.List.{find}
+use Rattle.tree_laws.proofs.of_plain_facts.Options.{some_same}
+use Rattle.tree_laws.proofs.of_plain_facts.Tests.{true_false}
 use Rattle.locus_ids.specs.declared.config.Config.{Config}
 use Rattle.locus_ids.specs.declared.ids.CallId.{CallId}
 use Rattle.locus_ids.specs.declared.ids.EpochId.{EpochId}
 use Rattle.locus_ids.specs.declared.ids.FileId.{FileId}
 use Rattle.locus_ids.specs.declared.ids.Serial.{Serial}
 use Rattle.commit_graph.specs.declared.history.Version.{Version}
-use Rattle.file_effects.specs.declared.work.Work.{Work}
-use Rattle.file_effects.specs.Effects.{Effect, is_refusal}
-use Rattle.file_effects.specs.Works.{counted, carried_out}
+use Rattle.tree_model.specs.of_file_effects.declared.work.Work.{Work}
+use Rattle.tree_model.specs.of_file_effects.Effects.{Effect, is_refusal}
+use Rattle.tree_model.specs.of_file_effects.Works.{counted, carried_out}
 use Rattle.trace_book.specs.Same.{same_epoch}
 use Rattle.trace_book.specs.declared.descriptor.Beginning.TheVariants as begins
 use Rattle.trace_book.specs.declared.operation.Op.{Op}
@@ -21,8 +23,8 @@ use Rattle.trace_book.specs.declared.record.Record.TheVariants as says
 use Rattle.call_rules.specs.declared.answer.Answer.{Answer}
 use Rattle.call_rules.specs.declared.want.Want.{Want}
 use Rattle.call_rules.specs.declared.want.Want.TheVariants as want
-use Rattle.role_steps.specs.Views.{Told, Shown}
-use Rattle.the_run.specs.Worlds.{Line}
+use Rattle.tree_laws.specs.of_role_steps.Views.{Told, Shown}
+use Rattle.tree_laws.specs.of_the_run.Worlds.{Line}
 use Rattle.tree_model.specs.declared.instance.Instance.{Instance}
 use Rattle.tree_model.specs.Calls.{granted_to}
 use Rattle.tree_model.specs.Histories.{history}
@@ -30,8 +32,8 @@ use Rattle.tree_model.specs.Lists.{change_first}
 use Rattle.tree_model.specs.State.{TreeState, is_named, is_granted_here}
 use Rattle.tree_model.specs.Tree.{tree_of, once_acted}
 use Rattle.tree_model.specs.Working.{operated_by, effect_on}
-use Rattle.lawful_trace.specs.Tables.{begun, has_named}
-use Rattle.lawful_trace.specs.TreeRows.{IsCallIn, granted_group}
+use Rattle.tree_laws.specs.of_lawful_trace.Tables.{begun, has_named}
+use Rattle.tree_laws.specs.of_lawful_trace.TreeRows.{IsCallIn, granted_group}
 use Rattle.tree_laws.specs.Printed.{entries}
 use Rattle.tree_laws.specs.Calls.{log, heard, Asks, Waits}
 use Rattle.tree_laws.specs.Following.{MayTell, IsFollowed}
@@ -46,7 +48,7 @@ use Rattle.tree_laws.proofs.Counting.{asked_same}
 use Rattle.tree_laws.proofs.Descriptors.{IsUser}
 use Rattle.tree_laws.proofs.Fresh.{IsNamed}
 use Rattle.tree_laws.proofs.Kinship.{tree_epoch_is}
-use Rattle.tree_laws.proofs.Names.{true_false, some_is, same_epoch_own}
+use Rattle.tree_laws.proofs.Names.{same_epoch_own}
 use Rattle.tree_laws.proofs.OfOwn.{asks_of_own}
 use Rattle.tree_laws.proofs.Stepping.{step_record}
 use Rattle.order_laws.proofs.ProcessBegun.{comes_from}
@@ -79,7 +81,7 @@ change_own {A} p change [] x same e = absurd (none e)
 change_own {A} p change (y ∷ ys) x same e = at (λ (k : find p ys ≡ Some x). change_own p change ys x same k) (p y) refl e
   where
     at : (find p ys ≡ Some x → find p (change_first p change ys) ≡ Some (change x)) → (b : Bool) → p y ≡ b → cond b (Some y) (find p ys) ≡ Some x → find p (cond b (change y ∷ ys) (y ∷ change_first p change ys)) ≡ Some (change x)
-    at later true t k = ap (λ (b : Bool). cond b (Some (change y)) (find p ys)) (same y ∙ t) ∙ ap (λ (z : A). Some (change z)) (some_is y x k)
+    at later true t k = ap (λ (b : Bool). cond b (Some (change y)) (find p ys)) (same y ∙ t) ∙ ap (λ (z : A). Some (change z)) (some_same y x k)
     at later false t k = ap (λ (b : Bool). cond b (Some y) (find p (change_first p change ys))) t ∙ later k
 
 -- an operation that is told is done on the instance
@@ -106,10 +108,10 @@ two_ask c t e i d other o p h inside within a b = over (comes_from c t h e d i i
     own k q here asks = subst (IsOf (has_instances c t k)) asks.asked (asks_of_own c t k h (here.accepted, here.named))
 
     mixed : (k user : CallId) (q : Op) → Asks c t k (want.Do i q) → granted_to (entries t) e i ≡ Some k → IsUser (entries t) e i user → ⊥
-    mixed k user q asks g u = true_false (sym (subst (λ (z : CallId). has_named (entries t) z ≡ true) (some_is u.for.granted k (sym u.for.is_granted ∙ g)) u.for.answered) ∙ asker_unnamed c t k h (asking c t k (want.Do i q) asks))
+    mixed k user q asks g u = true_false (sym (subst (λ (z : CallId). has_named (entries t) z ≡ true) (some_same u.for.granted k (sym u.for.is_granted ∙ g)) u.for.answered) ∙ asker_unnamed c t k h (asking c t k (want.Do i q) asks))
 
     over : (granted_to (entries t) e i ≡ Some d) ⊎ (begun (entries t) d ≡ Some (begins.Uses e i)) → (granted_to (entries t) e i ≡ Some other) ⊎ (begun (entries t) other ≡ Some (begins.Uses e i)) → d ≡ other
-    over (inl x) (inl y) = some_is d other (sym x ∙ y)
+    over (inl x) (inl y) = some_same d other (sym x ∙ y)
     over (inl x) (inr y) = absurd (mixed d other o a x (begun_user c t e i other h within y))
     over (inr x) (inl y) = absurd (mixed other d p b y (begun_user c t e i d h inside x))
     over (inr x) (inr y) = one_asks c t e i d other h (begun_user c t e i d h inside x) (begun_user c t e i other h within y) (asking c t d (want.Do i o) a) (asking c t other (want.Do i p) b)
@@ -121,8 +123,8 @@ clear_step : (c : Config) (older : List Line) (r : Record) (d : CallId) → MayT
 clear_step c older (says.Look e call request f w result) d m step = subst (λ (y : CallId). heard c older y ≡ log older y) step m.in_time.asks.nothing_waits
 clear_step c older (says.Grant e call request i mode f stamp ss) d m step = subst (λ (y : CallId). heard c older y ≡ log older y) step m.in_time.opens.asks.asks.nothing_waits
 clear_step c older (says.Refuse e call request i mode f why) d m step = subst (λ (y : CallId). heard c older y ≡ log older y) step m.in_time.opens.asks.asks.nothing_waits
-clear_step c older (says.Act e i n o result) d m step = subst (λ (y : CallId). heard c older y ≡ log older y) (some_is m.in_time.call d (sym m.in_time.owner ∙ step)) m.in_time.asks.nothing_waits
-clear_step c older (says.Release e i f stamp) d m step = subst (λ (y : CallId). heard c older y ≡ log older y) (some_is m.in_time.call d (sym m.in_time.owner ∙ step)) m.in_time.asks.nothing_waits
+clear_step c older (says.Act e i n o result) d m step = subst (λ (y : CallId). heard c older y ≡ log older y) (some_same m.in_time.call d (sym m.in_time.owner ∙ step)) m.in_time.asks.nothing_waits
+clear_step c older (says.Release e i f stamp) d m step = subst (λ (y : CallId). heard c older y ≡ log older y) (some_same m.in_time.call d (sym m.in_time.owner ∙ step)) m.in_time.asks.nothing_waits
 clear_step c older _ d m step = absurd step
 
 look_not_do : (i : Serial) (o : Op) (f : FileId) (w : What) → want.Look f w ≡ want.Do i o → ⊥
@@ -150,10 +152,10 @@ ActsRecord e i _ = ⊥
 -- a step of a call that asks an operation is that operation
 pub step_acts : (c : Config) (older : List Line) (r : Record) (e : EpochId) (i : Serial) (d : CallId) (o : Op) → IsCallIn (entries older) e d → Asks c older d (want.Do i o) → MayTell c older (Shown r) → StepRecord (entries older) r d → ActsRecord e i r
 step_acts c older (says.Act at inst n what result) e i d o inside asks m step = record {
-  epoch_is = one_epoch older at e d (subst (λ (y : CallId). IsCallIn (entries older) at y) (some_is m.row.step.call d (sym m.row.step.owned ∙ step)) m.row.step.step) inside;
-  serial_is = do_is inst i what o (one_want c older d (want.Do inst what) (want.Do i o) (subst (λ (y : CallId). Asks c older y (want.Do inst what)) (some_is m.in_time.call d (sym m.in_time.owner ∙ step)) m.in_time.asks) asks);
+  epoch_is = one_epoch older at e d (subst (λ (y : CallId). IsCallIn (entries older) at y) (some_same m.row.step.call d (sym m.row.step.owned ∙ step)) m.row.step.step) inside;
+  serial_is = do_is inst i what o (one_want c older d (want.Do inst what) (want.Do i o) (subst (λ (y : CallId). Asks c older y (want.Do inst what)) (some_same m.in_time.call d (sym m.in_time.owner ∙ step)) m.in_time.asks) asks);
 }
-step_acts c older (says.Release at inst f stamp) e i d o inside asks m step = absurd (other (one_want c older d (want.Close inst) (want.Do i o) (subst (λ (y : CallId). Asks c older y (want.Close inst)) (some_is m.in_time.call d (sym m.in_time.owner ∙ step)) m.in_time.asks) asks))
+step_acts c older (says.Release at inst f stamp) e i d o inside asks m step = absurd (other (one_want c older d (want.Close inst) (want.Do i o) (subst (λ (y : CallId). Asks c older y (want.Close inst)) (some_same m.in_time.call d (sym m.in_time.owner ∙ step)) m.in_time.asks) asks))
   where
     other : want.Close inst ≡ want.Do i o → ⊥
     other k = cc

@@ -4,8 +4,8 @@ use Rattle.locus_ids.specs.declared.config.Config.{Config}
 use Rattle.locus_ids.specs.declared.ids.CallId.{CallId}
 use Rattle.trace_book.specs.Same.{same_call}
 use Rattle.call_rules.specs.declared.answer.Answer.{Answer}
-use Rattle.role_steps.specs.Views.{Told, Shown, Takes, LooksAgain}
-use Rattle.the_run.specs.Worlds.{Line}
+use Rattle.tree_laws.specs.of_role_steps.Views.{Told, Shown, Takes, LooksAgain}
+use Rattle.tree_laws.specs.of_the_run.Worlds.{Line}
 use Rattle.tree_laws.specs.Calls.{log, tries, Waits, request_number}
 use Rattle.tree_laws.specs.Following.{MayTell, IsFollowed}
 use Rattle.tree_laws.proofs.Asking.{Turns, waits_stays}

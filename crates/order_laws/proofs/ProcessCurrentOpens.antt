@@ -1,5 +1,6 @@
 -- An open that was granted or refused, of the request that its call asks still, has its answer waiting.
 use Rattle.std.proofs.Common.{◌≡◌, ℕ, ◌+◌, ◌≤◌, Bool, true, false, cond, List, [], ◌∷◌, ◌++◌, length, Option, None, refl, sym, ◌∙◌, ap, subst, arith, ◌⊎◌, inl, inr, length-append}
+use Rattle.tree_laws.proofs.of_plain_facts.Tests.{true_false}
 use Rattle.locus_ids.specs.declared.config.Config.{Config}
 use Rattle.locus_ids.specs.declared.ids.CallId.{CallId}
 use Rattle.locus_ids.specs.declared.ids.EpochId.{EpochId}
@@ -16,10 +17,10 @@ use Rattle.call_rules.specs.declared.answer.Answer.{Answer}
 use Rattle.call_rules.specs.declared.answer.Answer.TheVariants as answer
 use Rattle.call_rules.specs.declared.want.Want.{Want}
 use Rattle.call_rules.specs.declared.want.Want.TheVariants as want
-use Rattle.role_steps.specs.Views.{Told, Shown, Takes, LooksAgain}
-use Rattle.the_run.specs.Worlds.{Line}
+use Rattle.tree_laws.specs.of_role_steps.Views.{Told, Shown, Takes, LooksAgain}
+use Rattle.tree_laws.specs.of_the_run.Worlds.{Line}
 use Rattle.tree_model.specs.Tree.{kept_in}
-use Rattle.lawful_trace.specs.Progress.{Answers, granted_answer}
+use Rattle.tree_laws.specs.of_lawful_trace.Progress.{Answers, granted_answer}
 use Rattle.tree_laws.specs.Printed.{entries}
 use Rattle.tree_laws.specs.Calls.{log, tries, heard, is_request, Waits, request_number}
 use Rattle.tree_laws.specs.Following.{MayTell, IsFollowed}
@@ -30,7 +31,7 @@ use Rattle.tree_laws.proofs.Awaiting.{by_own}
 use Rattle.tree_laws.proofs.Counting.{asked_same}
 use Rattle.tree_laws.proofs.Fresh.{IsNamed}
 use Rattle.tree_laws.proofs.Hearing.{asking_named}
-use Rattle.tree_laws.proofs.Names.{true_false, same_call_own}
+use Rattle.tree_laws.proofs.Names.{same_call_own}
 use Rattle.tree_laws.proofs.Serials.{asks_opens}
 use Rattle.order_laws.proofs.ProcessCurrent.{same_or_turns}
 

@@ -1,6 +1,9 @@
 -- The grants of a tree are those of its epoch: what a call was granted is found among them, in its group.
 use Rattle.std.proofs.Common.{◌≡◌, ℕ, ◌==◌, Bool, true, false, cond, ◌&&◌, List, [], ◌∷◌, ◌++◌, Option, Some, None, refl, sym, ◌∙◌, ap, subst, ◌⊎◌, inl, inr}
 use Rattle.std.specs.List.{find}
+use Rattle.tree_laws.proofs.of_plain_facts.Numbers.{equal_self}
+use Rattle.tree_laws.proofs.of_plain_facts.Options.{none_some}
+use Rattle.tree_laws.proofs.of_plain_facts.Tests.{true_false}
 use Rattle.locus_ids.specs.declared.config.Config.{Config}
 use Rattle.locus_ids.specs.declared.ids.CallId.{CallId}
 use Rattle.locus_ids.specs.declared.ids.EpochId.{EpochId}
@@ -12,25 +15,22 @@ use Rattle.commit_graph.specs.declared.history.Version.{Version}
 use Rattle.trace_book.specs.Same.{same_epoch, same_serial}
 use Rattle.trace_book.specs.declared.record.Record.{Record}
 use Rattle.trace_book.specs.declared.record.Record.TheVariants as says
-use Rattle.role_steps.specs.Views.{Told, Shown}
-use Rattle.the_run.specs.Worlds.{Line}
+use Rattle.tree_laws.specs.of_role_steps.Views.{Told, Shown}
+use Rattle.tree_laws.specs.of_the_run.Worlds.{Line}
 use Rattle.tree_model.specs.declared.instance.Granted.{Granted}
 use Rattle.tree_model.specs.Calls.{granted_to}
 use Rattle.tree_model.specs.Histories.{history}
 use Rattle.tree_model.specs.State.{TreeState, is_grant_of, is_granted_here, is_group_of, is_make}
 use Rattle.tree_model.specs.Tree.{next, tree_of, joined, left, grant_of}
-use Rattle.lawful_trace.specs.TreeRows.{granted_group}
+use Rattle.tree_laws.specs.of_lawful_trace.TreeRows.{granted_group}
 use Rattle.tree_laws.specs.Printed.{entries, onto_entries}
 use Rattle.tree_laws.specs.Following.{MayTell, IsFollowed}
 use Rattle.tree_laws.specs.Past.{WasNamed}
 use Rattle.tree_laws.proofs.Finds.{find_added}
 use Rattle.tree_laws.proofs.Kinship.{tree_epoch_is, tree_group_is}
-use Rattle.tree_laws.proofs.Names.{true_false, test_own, same_epoch_eq, same_serial_eq}
+use Rattle.tree_laws.proofs.Names.{same_epoch_eq, same_serial_eq}
 use Rattle.tree_laws.proofs.Owners.{granted_named}
 use Rattle.order_laws.proofs.ProcessOpen.{find_last}
-
-none_some : {A : Type 0} (a : A) → ◌≡◌ {A = Option A} None (Some a) → ⊥
-none_some a e = cc
 
 -- ---- the grants of a tree ----
 
@@ -170,4 +170,4 @@ granted_here c t h e i g k = over (agrees c t h e i (granted_group (entries t) e
 
     over : Agrees t e i tree.grants → is_granted_here tree i ≡ true
     over (inl z) = absurd (none_some g (sym z.ungranted ∙ k))
-    over (inr z) = ap (λ (o : Option Granted). is_group_of o tree.group) z.found ∙ (ap (λ (m : ℕ). z.grant.file.group == m) (tree_group_is c e (granted_group (entries t) e i) (entries t)) ∙ (ap (λ (m : ℕ). m == granted_group (entries t) e i) z.group_is ∙ test_own (granted_group (entries t) e i)))
+    over (inr z) = ap (λ (o : Option Granted). is_group_of o tree.group) z.found ∙ (ap (λ (m : ℕ). z.grant.file.group == m) (tree_group_is c e (granted_group (entries t) e i) (entries t)) ∙ (ap (λ (m : ℕ). m == granted_group (entries t) e i) z.group_is ∙ equal_self (granted_group (entries t) e i)))

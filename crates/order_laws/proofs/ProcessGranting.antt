@@ -1,5 +1,6 @@
 -- What the grant of an instance says of it, and that it is open until it is released.
 use Rattle.std.proofs.Common.{◌≡◌, ℕ, Bool, true, false, cond, ◌&&◌, List, [], ◌∷◌, Option, Some, None, refl, sym, ◌∙◌, ap, subst, ◌⊎◌, inl, inr}
+use Rattle.tree_laws.proofs.of_plain_facts.Options.{none_some, some_same}
 use Rattle.locus_ids.specs.declared.config.Config.{Config}
 use Rattle.locus_ids.specs.declared.ids.CallId.{CallId}
 use Rattle.locus_ids.specs.declared.ids.EpochId.{EpochId}
@@ -10,25 +11,22 @@ use Rattle.locus_ids.specs.declared.ids.Stamp.{Stamp}
 use Rattle.trace_book.specs.Same.{same_epoch, same_serial}
 use Rattle.trace_book.specs.declared.record.Record.{Record}
 use Rattle.trace_book.specs.declared.record.Record.TheVariants as says
-use Rattle.role_steps.specs.Views.{Told, Shown}
-use Rattle.the_run.specs.Worlds.{Line}
+use Rattle.tree_laws.specs.of_role_steps.Views.{Told, Shown}
+use Rattle.tree_laws.specs.of_the_run.Worlds.{Line}
 use Rattle.tree_model.specs.Calls.{granted_to}
-use Rattle.lawful_trace.specs.TreeRows.{IsCallIn}
+use Rattle.tree_laws.specs.of_lawful_trace.TreeRows.{IsCallIn}
 use Rattle.tree_laws.specs.Printed.{entries, onto_entries}
 use Rattle.tree_laws.specs.Following.{MayTell, IsFollowed}
 use Rattle.tree_laws.specs.Past.{Printed, WasGranted, WasNamed, EndRecord, WasReleased}
 use Rattle.tree_laws.proofs.Awaiting.{IsHeldBy}
 use Rattle.tree_laws.proofs.Descriptors.{IsUser}
 use Rattle.tree_laws.proofs.Grants.{open_named}
-use Rattle.tree_laws.proofs.Names.{some_is, same_epoch_eq, same_serial_eq}
+use Rattle.tree_laws.proofs.Names.{same_epoch_eq, same_serial_eq}
 use Rattle.tree_laws.proofs.Scripts.{in_stays}
 use Rattle.tree_laws.proofs.Waiting.{accepted}
 
 abbrev With : ℕ → Told → List Line → List Line
 With n x older = record { number = n; told = x } ∷ older
-
-none_some : {A : Type 0} (a : A) → ◌≡◌ {A = Option A} None (Some a) → ⊥
-none_some a e = cc
 
 -- the instance was granted to this call, of its own site
 pub record GrantIs (t : List Line) (e : EpochId) (i : Serial) (g : CallId) : Type 0 where
@@ -67,7 +65,7 @@ granted_is c (y ∷ older) h e i g k = over y.told h.0 (λ z. granted_is c older
         }
 
         at_it : (a b : Bool) → same_epoch at e ≡ a → same_serial inst i ≡ b → cond (a && b) (Some d) (granted_to (entries older) e i) ≡ Some g → GrantIs (With y.number (Shown r) older) e i g
-        at_it true true p q z = own (some_is d g z) (same_epoch_eq at e p) (same_serial_eq inst i q)
+        at_it true true p q z = own (some_same d g z) (same_epoch_eq at e p) (same_serial_eq inst i q)
         at_it true false p q z = grant_more c y.number (Shown r) older e i g h.1 may (later z)
         at_it false b p q z = grant_more c y.number (Shown r) older e i g h.1 may (later z)
     over (Shown r) may later k = grant_more c y.number (Shown r) older e i g h.1 may (later k)

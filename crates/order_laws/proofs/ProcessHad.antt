@@ -1,6 +1,9 @@
 -- What a call that waits has, its site has among the instances that its calls have taken and not closed in its epoch; and so
 -- what its descriptors stand for.
-use Rattle.std.proofs.Common.{◌≡◌, ℕ, ◌<◌, ◌==◌, Bool, true, false, not, cond, ◌||◌, List, [], ◌∷◌, Option, Some, None, refl, sym, ◌∙◌, ap, subst, ◌⊎◌, inl, inr, filter}
+use Rattle.std.proofs.Common.{◌≡◌, ℕ, ◌<◌, ◌==◌, Bool, true, false, not, cond, ◌||◌, List, [], ◌∷◌, Some, refl, sym, ◌∙◌, ap, subst, ◌⊎◌, inl, inr, filter}
+use Rattle.tree_laws.proofs.of_plain_facts.Numbers.{equal, equal_self}
+use Rattle.tree_laws.proofs.of_plain_facts.Options.{some_same}
+use Rattle.tree_laws.proofs.of_plain_facts.Tests.{true_false}
 use Rattle.locus_ids.specs.declared.config.Config.{Config}
 use Rattle.locus_ids.specs.declared.ids.CallId.{CallId}
 use Rattle.locus_ids.specs.declared.ids.EpochId.{EpochId}
@@ -10,15 +13,14 @@ use Rattle.call_rules.specs.declared.answer.Answer.{Answer}
 use Rattle.call_rules.specs.declared.answer.Answer.TheVariants as answer
 use Rattle.call_rules.specs.declared.want.Want.{Want}
 use Rattle.call_rules.specs.declared.want.Want.TheVariants as want
-use Rattle.role_steps.specs.Own.{Every}
-use Rattle.role_steps.specs.Views.{Told}
-use Rattle.the_run.specs.Kept.{Among}
-use Rattle.the_run.specs.Worlds.{Line}
+use Rattle.tree_laws.specs.of_role_steps.Own.{Every}
+use Rattle.tree_laws.specs.of_the_run.Kept.{Among}
+use Rattle.tree_laws.specs.of_the_run.Worlds.{Line}
 use Rattle.tree_model.specs.declared.accepted.Waiting.{Waiting}
 use Rattle.tree_model.specs.Calls.{call_named, granted_to, waiting}
 use Rattle.tree_model.specs.State.{has_number}
-use Rattle.lawful_trace.specs.Tables.{begun, is_close, has_named, uses_of}
-use Rattle.lawful_trace.specs.TreeRows.{IsCallIn}
+use Rattle.tree_laws.specs.of_lawful_trace.Tables.{begun, is_close, has_named, uses_of}
+use Rattle.tree_laws.specs.of_lawful_trace.TreeRows.{IsCallIn}
 use Rattle.tree_laws.specs.Printed.{entries}
 use Rattle.tree_laws.specs.Following.{IsFollowed}
 use Rattle.tree_laws.specs.Holding.{has_instances}
@@ -28,16 +30,9 @@ use Rattle.tree_laws.proofs.Answered.{all_done}
 use Rattle.tree_laws.proofs.Awaiting.{OpensIt}
 use Rattle.tree_laws.proofs.Descriptors.{IsUser, are_users}
 use Rattle.tree_laws.proofs.Later.{earlier_is_over, every_among}
-use Rattle.tree_laws.proofs.Names.{true_false, some_is, test_same, test_own}
 use Rattle.tree_laws.proofs.OneBoot.{one_boot}
 use Rattle.order_laws.proofs.ProcessBegun.{comes_from, UsesIt, all_use}
 use Rattle.order_laws.proofs.ProcessOwner.{plain_waits}
-
-abbrev With : ℕ → Told → List Line → List Line
-With n x older = record { number = n; told = x } ∷ older
-
-none_some : {A : Type 0} (a : A) → ◌≡◌ {A = Option A} None (Some a) → ⊥
-none_some a e = cc
 
 -- ---- numbers ----
 
@@ -49,7 +44,7 @@ more_number n ns m h = over (m == n)
     over false = h
 
 own_number : (n : ℕ) (ns : List ℕ) → has_number (n ∷ ns) n ≡ true
-own_number n ns = ap (λ (b : Bool). b || has_number ns n) (test_own n)
+own_number n ns = ap (λ (b : Bool). b || has_number ns n) (equal_self n)
 
 -- one is taken out: the number is left, or is the one
 left_number : (n m : ℕ) (ns : List ℕ) → has_number ns n ≡ true → (has_number (filter (λ k. not (k == m)) ns) n ≡ true) ⊎ (m ≡ n)
@@ -57,7 +52,7 @@ left_number n m [] h = absurd (true_false (sym h))
 left_number n m (k ∷ ns) h = at (left_number n m ns) (k == n) (k == m) refl refl h
   where
     at : (has_number ns n ≡ true → (has_number (filter (λ j. not (j == m)) ns) n ≡ true) ⊎ (m ≡ n)) → (a b : Bool) → (k == n) ≡ a → (k == m) ≡ b → (a || has_number ns n) ≡ true → (has_number (cond (not b) (k ∷ filter (λ j. not (j == m)) ns) (filter (λ j. not (j == m)) ns)) n ≡ true) ⊎ (m ≡ n)
-    at later true true p q t = inr (sym (test_same k m q) ∙ test_same k n p)
+    at later true true p q t = inr (sym (equal k m q) ∙ equal k n p)
     at later true false p q t = inl (ap (λ (b : Bool). b || has_number (filter (λ j. not (j == m)) ns) n) p)
     at later false true p q t = later t
     at later false false p q t = over (later t)
@@ -106,10 +101,10 @@ users_one : (c : Config) (t : List Line) (e : EpochId) (i : Serial) (d other : C
 users_one c t e i d other h a b here there = at (compare d.n other.n)
   where
     granted : a.for.granted ≡ b.for.granted
-    granted = some_is a.for.granted b.for.granted (sym a.for.is_granted ∙ b.for.is_granted)
+    granted = some_same a.for.granted b.for.granted (sym a.for.is_granted ∙ b.for.is_granted)
 
     caller : a.for.caller ≡ b.for.caller
-    caller = some_is a.for.caller b.for.caller (sym a.for.named ∙ (ap (call_named (entries t)) granted ∙ b.for.named))
+    caller = some_same a.for.caller b.for.caller (sym a.for.named ∙ (ap (call_named (entries t)) granted ∙ b.for.named))
 
     site : d.site ≡ other.site
     site = sym a.for.site_is ∙ (ap (λ (w : Waiting). w.site) caller ∙ b.for.site_is)
@@ -136,10 +131,10 @@ holders_one c t e i d other h inside within here there has had = over (comes_fro
   where
     -- the call that it was granted to is over, where another uses it
     mixed : (k user : CallId) → IsHere t k → granted_to (entries t) e i ≡ Some k → IsUser (entries t) e i user → ⊥
-    mixed k user waits g u = not_over c t k waits (all_done c t h k (subst (λ (z : CallId). has_named (entries t) z ≡ true) (some_is u.for.granted k (sym u.for.is_granted ∙ g)) u.for.answered)).over.quiet
+    mixed k user waits g u = not_over c t k waits (all_done c t h k (subst (λ (z : CallId). has_named (entries t) z ≡ true) (some_same u.for.granted k (sym u.for.is_granted ∙ g)) u.for.answered)).over.quiet
 
     over : (granted_to (entries t) e i ≡ Some d) ⊎ (begun (entries t) d ≡ Some (begins.Uses e i)) → (granted_to (entries t) e i ≡ Some other) ⊎ (begun (entries t) other ≡ Some (begins.Uses e i)) → d ≡ other
-    over (inl a) (inl b) = some_is d other (sym a ∙ b)
+    over (inl a) (inl b) = some_same d other (sym a ∙ b)
     over (inl a) (inr b) = absurd (mixed d other here a (begun_user c t e i other h within b))
     over (inr a) (inl b) = absurd (mixed other d there b (begun_user c t e i d h inside a))
     over (inr a) (inr b) = users_one c t e i d other h (begun_user c t e i d h inside a) (begun_user c t e i other h within b) here there

@@ -1,5 +1,6 @@
 -- A serial number is of one open of a site's boot, in whichever epoch: it is granted in one epoch at most.
 use Rattle.std.proofs.Common.{◌≡◌, ℕ, ◌+◌, ◌≤◌, Bool, true, false, cond, ◌&&◌, List, [], ◌∷◌, Option, Some, None, refl, sym, ◌∙◌, ap, subst, arith, ◌⊎◌, inl, inr}
+use Rattle.tree_laws.proofs.of_plain_facts.Options.{none_some, some_same}
 use Rattle.locus_ids.specs.declared.config.Config.{Config}
 use Rattle.locus_ids.specs.declared.ids.CallId.{CallId}
 use Rattle.locus_ids.specs.declared.ids.EpochId.{EpochId}
@@ -7,11 +8,11 @@ use Rattle.locus_ids.specs.declared.ids.Serial.{Serial}
 use Rattle.trace_book.specs.Same.{same_call, same_epoch, same_serial}
 use Rattle.trace_book.specs.declared.record.Record.{Record}
 use Rattle.trace_book.specs.declared.record.Record.TheVariants as says
-use Rattle.role_steps.specs.Views.{Told, Shown, Takes}
-use Rattle.the_run.specs.Worlds.{Line}
+use Rattle.tree_laws.specs.of_role_steps.Views.{Told, Shown, Takes}
+use Rattle.tree_laws.specs.of_the_run.Worlds.{Line}
 use Rattle.tree_model.specs.Calls.{granted_to}
 use Rattle.tree_model.specs.Epochs.{boot_of}
-use Rattle.lawful_trace.specs.TreeRows.{IsCallIn}
+use Rattle.tree_laws.specs.of_lawful_trace.TreeRows.{IsCallIn}
 use Rattle.tree_laws.specs.Printed.{entries, onto_entries}
 use Rattle.tree_laws.specs.Following.{MayTell, IsFollowed}
 use Rattle.tree_laws.specs.Past.{WasNamed}
@@ -19,15 +20,12 @@ use Rattle.tree_laws.specs.Serials.{asked_now, is_open_want, opens_asked, serial
 use Rattle.tree_laws.proofs.CarriedLooks.{one_epoch}
 use Rattle.tree_laws.proofs.Counting.{Opens, IsNow, Turned, calls_counted, accept_turned, take_turned, up_still, asked_same}
 use Rattle.tree_laws.proofs.Fresh.{IsNamed}
-use Rattle.tree_laws.proofs.Names.{some_is, same_call_eq, same_epoch_eq, same_serial_eq}
+use Rattle.tree_laws.proofs.Names.{same_call_eq, same_epoch_eq, same_serial_eq}
 use Rattle.tree_laws.proofs.Serials.{asks_opens}
 use Rattle.order_laws.proofs.ProcessGranting.{GrantIs, granted_is}
 
 abbrev With : ℕ → Told → List Line → List Line
 With n x older = record { number = n; told = x } ∷ older
-
-none_some : {A : Type 0} (a : A) → ◌≡◌ {A = Option A} None (Some a) → ⊥
-none_some a e = cc
 
 -- the open of this call was granted under this number in the boot of now
 record IsGranted (t : List Line) (e : EpochId) (i : Serial) (g : CallId) : Type 0 where
@@ -59,7 +57,7 @@ granted_record c n (says.Grant at call request inst m f stamp ss) older e i g ma
     }
 
     over : (a b : Bool) → same_epoch at e ≡ a → same_serial inst i ≡ b → cond (a && b) (Some call) (granted_to (entries older) e i) ≡ Some g → (granted_to (entries older) e i ≡ Some g) ⊎ GrantsNow c older e i g
-    over true true p q z = inr (own (some_is call g z) (same_epoch_eq at e p) (same_serial_eq inst i q))
+    over true true p q z = inr (own (some_same call g z) (same_epoch_eq at e p) (same_serial_eq inst i q))
     over true false p q z = inl z
     over false b p q z = inl z
 granted_record c n _ older e i g may k = inl k

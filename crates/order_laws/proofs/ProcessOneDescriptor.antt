@@ -1,5 +1,8 @@
 -- An instance is that of one descriptor at most, and of none once a close of it was accepted.
 use Rattle.std.proofs.Common.{◌≡◌, ℕ, ◌==◌, Bool, true, false, cond, ◌&&◌, List, [], ◌∷◌, Option, Some, None, refl, sym, ◌∙◌, ap, subst, ◌⊎◌, inl, inr}
+use Rattle.tree_laws.proofs.of_plain_facts.Numbers.{equal, equal_self}
+use Rattle.tree_laws.proofs.of_plain_facts.Options.{none_some, some_same}
+use Rattle.tree_laws.proofs.of_plain_facts.Tests.{true_false}
 use Rattle.locus_ids.specs.declared.config.Config.{Config}
 use Rattle.locus_ids.specs.declared.ids.CallId.{CallId}
 use Rattle.locus_ids.specs.declared.ids.EpochId.{EpochId}
@@ -12,26 +15,23 @@ use Rattle.trace_book.specs.declared.record.Record.{Record}
 use Rattle.trace_book.specs.declared.record.Record.TheVariants as says
 use Rattle.trace_book.specs.declared.reply.Reply.{Reply}
 use Rattle.trace_book.specs.declared.reply.Reply.TheVariants as reply
-use Rattle.role_steps.specs.Views.{Told, Shown}
-use Rattle.the_run.specs.Worlds.{Line}
+use Rattle.tree_laws.specs.of_role_steps.Views.{Told, Shown}
+use Rattle.tree_laws.specs.of_the_run.Worlds.{Line}
 use Rattle.tree_model.specs.declared.accepted.Waiting.{Waiting}
 use Rattle.tree_model.specs.Calls.{granted_to, opening_of, waiting}
 use Rattle.tree_model.specs.Epochs.{epoch_of}
 use Rattle.tree_model.specs.Folds.{Trace}
-use Rattle.lawful_trace.specs.CallRows.{is_this}
-use Rattle.lawful_trace.specs.Tables.{begins_now, closed_by, opened_by, descriptor, is_close, uses_by, close_of, has_named}
+use Rattle.tree_laws.specs.of_lawful_trace.CallRows.{is_this}
+use Rattle.tree_laws.specs.of_lawful_trace.Tables.{begins_now, closed_by, opened_by, descriptor, is_close, uses_by, close_of, has_named}
 use Rattle.tree_laws.specs.Printed.{entries, onto_entries}
 use Rattle.tree_laws.specs.Following.{MayTell, IsFollowed}
 use Rattle.tree_laws.proofs.Answered.{all_done}
 use Rattle.tree_laws.proofs.Boots.{found_every}
 use Rattle.tree_laws.proofs.Descriptors.{GrantedFor, FromDescriptor, IsUser, all_opening, closed_left, opened_left, stand_for, uses_from, uses_is, are_users}
-use Rattle.tree_laws.proofs.Names.{true_false, some_is, test_same, test_own, same_call_eq}
+use Rattle.tree_laws.proofs.Names.{same_call_eq}
 
 abbrev With : ℕ → Record → Trace → Trace
 With n r before = record { line = n; what = r } ∷ before
-
-none_some : {A : Type 0} (a : A) → ◌≡◌ {A = Option A} None (Some a) → ⊥
-none_some a e = cc
 
 -- ---- a call that is answered now was answered by no descriptor before ----
 
@@ -61,7 +61,7 @@ answer_split before n site user d r s process fd x e = over (site == s) (user ==
   where
     over : (a b : Bool) → (site == s) ≡ a → (user == process) ≡ b → cond (a && b) (opened_by r fd (opening_of before d) (descriptor before s process fd)) (descriptor before s process fd) ≡ Some x → (descriptor before s process fd ≡ Some x) ⊎ OpensNow before s process fd x site user d r
     over true true p q k = opened_left r fd (opening_of before d) (descriptor before s process fd) x ((descriptor before s process fd ≡ Some x) ⊎ OpensNow before s process fd x site user d r)
-        (λ opens o. inr (record { site_is = test_same site s p; process_is = test_same user process q; opens = opens; opening = o })) (λ o. inl o) k
+        (λ opens o. inr (record { site_is = equal site s p; process_is = equal user process q; opens = opens; opening = o })) (λ o. inl o) k
     over true false p q k = inl k
     over false b p q k = inl k
 
@@ -102,7 +102,7 @@ one_answer c older n site caller d r h may k s process fd x t user other y a b s
   where
     -- the new one is of a call that no descriptor has answered
     mixed : (u v : Descriptor) (p q m : ℕ) → opening_of (entries older) d ≡ Some u → descriptor (entries older) p q m ≡ Some v → u.epoch ≡ v.epoch → u.inst ≡ v.inst → ⊥
-    mixed u v p q m new old there inst = waiting_unnamed c older site caller d r h may (subst (λ (z : CallId). has_named (entries older) z ≡ true) (some_is g.granted d (sym g.is_granted ∙ granted)) g.answered)
+    mixed u v p q m new old there inst = waiting_unnamed c older site caller d r h may (subst (λ (z : CallId). has_named (entries older) z ≡ true) (some_same g.granted d (sym g.is_granted ∙ granted)) g.answered)
       where
         g : GrantedFor (entries older) v.epoch v.inst p q
         g = stand_for c older h p q m v old
@@ -138,7 +138,7 @@ unclosed_new : (c : Config) (older : List Line) (site caller : ℕ) (d : CallId)
 unclosed_new c older site caller d r x h may o = over (close_of (entries older) x.epoch x.inst) refl
   where
     user : (k : CallId) → IsUser (entries older) x.epoch x.inst k → ⊥
-    user k u = waiting_unnamed c older site caller d r h may (subst (λ (z : CallId). has_named (entries older) z ≡ true) (some_is u.for.granted d (sym u.for.is_granted ∙ all_opening c older h d x o)) u.for.answered)
+    user k u = waiting_unnamed c older site caller d r h may (subst (λ (z : CallId). has_named (entries older) z ≡ true) (some_same u.for.granted d (sym u.for.is_granted ∙ all_opening c older h d x o)) u.for.answered)
 
     over : (b : Option CallId) → close_of (entries older) x.epoch x.inst ≡ b → close_of (entries older) x.epoch x.inst ≡ None
     over None e = e
@@ -161,7 +161,7 @@ unclosed_accept c older n site caller new words h k s process fd x e = over (is_
         is = one_descriptor c older h site caller f.fd f.stands s process fd x f.found was f.epoch_is f.serial_is
 
         test : (a b : ℕ) → a ≡ b → (a == b) ≡ true
-        test a b same = ap (λ (m : ℕ). a == m) (sym same) ∙ test_own a
+        test a b same = ap (λ (m : ℕ). a == m) (sym same) ∙ equal_self a
 
         gone : AreOne site caller f.fd s process fd → descriptor (With n (says.Accept site caller new (call.Close number)) (entries older)) s process fd ≡ None
         gone one = ap (λ (b : Bool). cond (b && (caller == process)) (cond (number == fd) None (descriptor (entries older) s process fd)) (descriptor (entries older) s process fd)) (test site s one.site_is)

@@ -1,6 +1,7 @@
 -- What was granted is open until it is released; so what a call asks something of is open.
 use Rattle.std.proofs.Common.{◌≡◌, ℕ, ◌==◌, Bool, true, false, cond, ◌&&◌, List, [], ◌∷◌, ◌++◌, Option, Some, None, refl, sym, ◌∙◌, ap, subst, ◌⊎◌, inl, inr}
 use Rattle.std.specs.List.{find}
+use Rattle.tree_laws.proofs.of_plain_facts.Numbers.{equal_self}
 use Rattle.locus_ids.specs.declared.config.Config.{Config}
 use Rattle.locus_ids.specs.declared.ids.CallId.{CallId}
 use Rattle.locus_ids.specs.declared.ids.EpochId.{EpochId}
@@ -13,15 +14,15 @@ use Rattle.trace_book.specs.declared.record.Record.{Record}
 use Rattle.trace_book.specs.declared.record.Record.TheVariants as says
 use Rattle.call_rules.specs.declared.want.Want.{Want}
 use Rattle.call_rules.specs.declared.want.Want.TheVariants as want
-use Rattle.role_steps.specs.Views.{Told, Shown}
-use Rattle.the_run.specs.Worlds.{Line}
+use Rattle.tree_laws.specs.of_role_steps.Views.{Told, Shown}
+use Rattle.tree_laws.specs.of_the_run.Worlds.{Line}
 use Rattle.tree_model.specs.declared.instance.Granted.{Granted}
 use Rattle.tree_model.specs.declared.instance.Instance.{Instance}
 use Rattle.tree_model.specs.Calls.{granted_to}
 use Rattle.tree_model.specs.Histories.{history}
 use Rattle.tree_model.specs.State.{TreeState, instance_in, is_named}
 use Rattle.tree_model.specs.Tree.{next, tree_of, grant_of, opened}
-use Rattle.lawful_trace.specs.TreeRows.{IsCallIn, granted_group}
+use Rattle.tree_laws.specs.of_lawful_trace.TreeRows.{IsCallIn, granted_group}
 use Rattle.tree_laws.specs.Printed.{entries}
 use Rattle.tree_laws.specs.Calls.{Asks}
 use Rattle.tree_laws.specs.Following.{MayTell, IsFollowed}
@@ -31,7 +32,7 @@ use Rattle.tree_laws.specs.Past.{Printed, WasGranted, GrantRecord, EndRecord, Wa
 use Rattle.tree_laws.proofs.Awaiting.{IsHeldBy, all_have, held_named}
 use Rattle.tree_laws.proofs.Grants.{in_tree_named, open_named}
 use Rattle.tree_laws.proofs.Kinship.{StaysOpen, Ends, open_stays, tree_epoch_is, tree_group_is}
-use Rattle.tree_laws.proofs.Names.{test_own, same_epoch_own, same_serial_own}
+use Rattle.tree_laws.proofs.Names.{same_epoch_own, same_serial_own}
 use Rattle.tree_laws.proofs.OfOwn.{asks_of_own}
 use Rattle.order_laws.specs.ProcessAsked.{AsksOf, IsOpenOf}
 use Rattle.order_laws.proofs.ProcessGranting.{GrantIs, granted_is, held_us}
@@ -88,7 +89,7 @@ granted_begins c n older e call request i m f stamp ss may = found
     is_here = ap (same_epoch e) (tree_epoch_is c e f.group (entries older)) ∙ same_epoch_own e
 
     is_its : (f.group == t.group) ≡ true
-    is_its = ap (λ (k : ℕ). f.group == k) (tree_group_is c e f.group (entries older)) ∙ test_own f.group
+    is_its = ap (λ (k : ℕ). f.group == k) (tree_group_is c e f.group (entries older)) ∙ equal_self f.group
 
     inside : find (is_named i) (next (history c (entries older)) r t).instances ≡ Some (opened (history c (entries older)) g stamp)
     inside = rw is_here (rw is_its (find_last (is_named i) t.instances (opened (history c (entries older)) g stamp) new (same_serial_own i)))

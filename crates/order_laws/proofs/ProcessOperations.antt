@@ -1,5 +1,7 @@
 -- How many operations a site has asked of an open instance: those that were done on it, and the one that is asked still.
-use Rattle.std.proofs.Common.{◌≡◌, ℕ, ◌+◌, ◌==◌, Bool, true, false, cond, ◌&&◌, List, [], ◌∷◌, ◌++◌, Option, Some, None, refl, sym, ◌∙◌, ap, subst, ◌⊎◌, inl, inr}
+use Rattle.std.proofs.Common.{◌≡◌, ℕ, ◌+◌, ◌==◌, Bool, true, false, cond, ◌&&◌, List, [], ◌∷◌, ◌++◌, Some, refl, sym, ◌∙◌, ap, subst, ◌⊎◌, inl, inr}
+use Rattle.tree_laws.proofs.of_plain_facts.Numbers.{equal_self}
+use Rattle.tree_laws.proofs.of_plain_facts.Tests.{true_false}
 use Rattle.locus_ids.specs.declared.config.Config.{Config}
 use Rattle.locus_ids.specs.declared.ids.CallId.{CallId}
 use Rattle.locus_ids.specs.declared.ids.EpochId.{EpochId}
@@ -11,12 +13,12 @@ use Rattle.trace_book.specs.declared.record.Record.TheVariants as says
 use Rattle.call_rules.specs.declared.answer.Answer.{Answer}
 use Rattle.call_rules.specs.declared.want.Want.{Want}
 use Rattle.call_rules.specs.declared.want.Want.TheVariants as want
-use Rattle.role_steps.specs.Views.{Told, Shown, Takes}
-use Rattle.the_run.specs.Worlds.{Line}
+use Rattle.tree_laws.specs.of_role_steps.Views.{Told, Shown, Takes}
+use Rattle.tree_laws.specs.of_the_run.Worlds.{Line}
 use Rattle.tree_model.specs.declared.instance.Instance.{Instance}
 use Rattle.tree_model.specs.Calls.{granted_to, call_named, accepted_as}
 use Rattle.tree_model.specs.Epochs.{boot_of}
-use Rattle.lawful_trace.specs.TreeRows.{IsCallIn}
+use Rattle.tree_laws.specs.of_lawful_trace.TreeRows.{IsCallIn}
 use Rattle.tree_laws.specs.Printed.{entries, onto_entries}
 use Rattle.tree_laws.specs.Calls.{log, heard, Asks, Waits}
 use Rattle.tree_laws.specs.Following.{MayTell, IsFollowed}
@@ -28,7 +30,7 @@ use Rattle.tree_laws.proofs.Awaiting.{IsHeldBy, all_have, held_named, turn_clear
 use Rattle.tree_laws.proofs.Counting.{IsNow, Turned, accept_turned, take_turned}
 use Rattle.tree_laws.proofs.Fresh.{IsNamed, next_is_new, numbered, calls_are_low}
 use Rattle.tree_laws.proofs.Having.{Untaken, named_or_untaken, waiting_named}
-use Rattle.tree_laws.proofs.Names.{true_false, test_own, same_call_eq, same_call_own, same_serial_eq, same_serial_own}
+use Rattle.tree_laws.proofs.Names.{same_call_eq, same_call_own, same_serial_eq, same_serial_own}
 use Rattle.tree_laws.proofs.OfOwn.{asks_of_own}
 use Rattle.tree_laws.proofs.OneBoot.{one_boot}
 use Rattle.tree_laws.proofs.Scripts.{in_stays}
@@ -39,9 +41,6 @@ use Rattle.order_laws.proofs.ProcessTaken.{back_in}
 
 abbrev With : ℕ → Told → List Line → List Line
 With n x older = record { number = n; told = x } ∷ older
-
-none_some : {A : Type 0} (a : A) → ◌≡◌ {A = Option A} None (Some a) → ⊥
-none_some a e = cc
 
 -- ---- a call begins to ask ----
 
@@ -170,7 +169,7 @@ module _ (c : Config) (n : ℕ) (x : Told) (older : List Line) (h : IsFollowed c
           us = held_us c (With n x older) (may, h) it i ((all_have c (With n x older) (may, h)).held it i t.named (has_it o asked))
 
           here : (it.site == i.us) ≡ true
-          here = ap (λ (m : ℕ). it.site == m) us ∙ test_own it.site
+          here = ap (λ (m : ℕ). it.site == m) us ∙ equal_self it.site
 
       rests : ((it.site == i.us) && is_op_on i (asked_now c (With n x older) it)) ≡ false → ops_asked c (With n x older) i ≡ ops_asked c older i → OpsAre c older e i at → OpsAre c (With n x older) e i at
       rests f count (inl k) = inl (record { count = count ∙ k.count; nobody = λ d o inside asks. (let b : IsCallIn (entries older) e d × Asks c older d (want.Do i o) = before (none f) d o inside asks in k.nobody d o b.0 b.1) })

@@ -2,6 +2,9 @@
 use Rattle.std.proofs.Common.{◌≡◌, ℕ, ◌+◌, ◌==◌, Bool, true, false, cond, ◌&&◌, List, [], ◌∷◌, ◌++◌, Option, Some, None, refl, sym, ◌∙◌, ap, subst, arith, ◌⊎◌, inl, inr}
 use Rattle.std.proofs.lemmas.Bool.Decides.{nat_tests}
 use Rattle.std.specs.Prelude.{nat_lt}
+use Rattle.tree_laws.proofs.of_plain_facts.Numbers.{equal, equal_self}
+use Rattle.tree_laws.proofs.of_plain_facts.Options.{none_some, some_same}
+use Rattle.tree_laws.proofs.of_plain_facts.Tests.{true_false}
 use Rattle.locus_ids.specs.declared.config.Config.{Config}
 use Rattle.locus_ids.specs.declared.ids.CallId.{CallId}
 use Rattle.locus_ids.specs.declared.ids.EpochId.{EpochId}
@@ -16,16 +19,16 @@ use Rattle.trace_book.specs.declared.operation.What.{What}
 use Rattle.trace_book.specs.declared.record.Record.{Record}
 use Rattle.trace_book.specs.declared.record.Record.TheVariants as says
 use Rattle.call_rules.specs.declared.want.Want.TheVariants as want
-use Rattle.role_steps.specs.Views.{Told, Shown, Takes, LooksAgain}
-use Rattle.the_run.specs.Worlds.{Line}
+use Rattle.tree_laws.specs.of_role_steps.Views.{Told, Shown, Takes, LooksAgain}
+use Rattle.tree_laws.specs.of_the_run.Worlds.{Line}
 use Rattle.tree_model.specs.declared.instance.Instance.{Instance}
 use Rattle.tree_model.specs.Calls.{granted_to}
 use Rattle.tree_model.specs.Epochs.{boot_of}
 use Rattle.tree_model.specs.Histories.{history}
 use Rattle.tree_model.specs.Tree.{tree_of, opened, grant_of}
-use Rattle.lawful_trace.specs.Progress.{outcome_answer}
-use Rattle.lawful_trace.specs.Tables.{call_of_act}
-use Rattle.lawful_trace.specs.TreeRows.{IsCallIn, granted_group}
+use Rattle.tree_laws.specs.of_lawful_trace.Progress.{outcome_answer}
+use Rattle.tree_laws.specs.of_lawful_trace.Tables.{call_of_act}
+use Rattle.tree_laws.specs.of_lawful_trace.TreeRows.{IsCallIn, granted_group}
 use Rattle.tree_laws.specs.Printed.{entries, onto_entries}
 use Rattle.tree_laws.specs.Calls.{log, heard, Asks}
 use Rattle.tree_laws.specs.Following.{MayTell, IsFollowed}
@@ -40,7 +43,7 @@ use Rattle.tree_laws.proofs.Fresh.{IsNamed}
 use Rattle.tree_laws.proofs.Grants.{open_named}
 use Rattle.tree_laws.proofs.Kinship.{StaysOpen, Ends, GoesOnTold, open_stays}
 use Rattle.tree_laws.proofs.CarriedLooks.{one_epoch}
-use Rattle.tree_laws.proofs.Names.{true_false, some_is, test_same, test_own, same_epoch_eq, same_epoch_own, same_serial_eq, same_serial_own}
+use Rattle.tree_laws.proofs.Names.{same_epoch_eq, same_epoch_own, same_serial_eq, same_serial_own}
 use Rattle.tree_laws.proofs.OfOwn.{asks_of_own}
 use Rattle.tree_laws.proofs.OneBoot.{one_boot}
 use Rattle.tree_laws.proofs.Opened.{ActsOn, CommitsOn}
@@ -56,9 +59,6 @@ use Rattle.order_laws.proofs.ProcessOperations.{IsTurn, op_is, accept_turn, take
 
 abbrev With : ℕ → Told → List Line → List Line
 With n x older = record { number = n; told = x } ∷ older
-
-none_some : {A : Type 0} (a : A) → ◌≡◌ {A = Option A} None (Some a) → ⊥
-none_some a e = cc
 
 -- ---- an instance of which operations were asked was granted in the boot ----
 
@@ -110,7 +110,7 @@ unasked_told c n (Takes s it request times a) older i h may k = unasked_turn c n
 unasked_told c n (Shown (says.Up s boot)) older i h may k = over (s == i.us) refl k
   where
     apart : (p q : ℕ) → (p == q) ≡ false → p ≡ q → ⊥
-    apart p q f e = true_false (sym (ap (λ (m : ℕ). p == m) (sym e) ∙ test_own p) ∙ f)
+    apart p q f e = true_false (sym (ap (λ (m : ℕ). p == m) (sym e) ∙ equal_self p) ∙ f)
 
     over : (b : Bool) → (s == i.us) ≡ b → Unasked c older i → (cond b 0 (ops_asked c older i) ≡ 0) ⊎ NamedInBoot (With n (Shown (says.Up s boot)) older) i
     over true f k = inl refl
@@ -200,10 +200,10 @@ ops_act c n older e i number o result g at new h may granted found later q k = o
     x = Shown (says.Act e i number o result)
 
     inside : IsCallIn (entries older) e may.in_time.call
-    inside = subst (IsCallIn (entries older) e) (some_is may.row.step.call may.in_time.call (sym may.row.step.owned ∙ may.in_time.owner)) may.row.step.step
+    inside = subst (IsCallIn (entries older) e) (some_same may.row.step.call may.in_time.call (sym may.row.step.owned ∙ may.in_time.owner)) may.row.step.step
 
     work : new.work.ops ≡ at.work.ops + 1
-    work = ap (λ (y : Instance). y.work.ops) (some_is new _ (sym later ∙ acts_now c n older e i number o result g at h granted found)) ∙ acted_more (history c (entries older)) (tree_of c e (granted_group (entries older) e i) (entries older)) o result at
+    work = ap (λ (y : Instance). y.work.ops) (some_same new _ (sym later ∙ acts_now c n older e i number o result g at h granted found)) ∙ acted_more (history c (entries older)) (tree_of c e (granted_group (entries older) e i) (entries older)) o result at
 
     nobody : Nobody c (With n x older) e i
     nobody d p within asks = not_longer (log older d) (heard c older d) (outcome_answer result) (sym b.1.nothing_waits) (sym asks.nothing_waits ∙ by_owner (call_of_act (entries older) e i number) d (heard c older d ++ outcome_answer result ∷ []) (heard c older d) (may.in_time.owner ∙ ap Some (sym same)))
@@ -266,7 +266,7 @@ module _ (c : Config) (n : ℕ) (x : Told) (older : List Line) (h : IsFollowed c
       none _ m other d o inside asks step = step
 
       over : StaysOpen c older n x e i was.at ⊎ Ends e i x → OpsAre c (With n x older) e i at
-      over (inl s) = ops_still c n x older h may q e i was.at at count (ap (λ (y : Instance). y.work.ops) (some_is at s.new (sym found ∙ s.found)) ∙ work_same c older e i was.at s.new x other s.goes) (none x may other) ops_was
+      over (inl s) = ops_still c n x older h may q e i was.at at count (ap (λ (y : Instance). y.work.ops) (some_same at s.new (sym found ∙ s.found)) ∙ work_same c older e i was.at s.new x other s.goes) (none x may other) ops_was
       over (inr end) = absurd (ended x (λ z. live (inl z)) end)
 
 quiet_again : (c : Config) (n s : ℕ) (it : CallId) (request times : ℕ) (older : List Line) → IsFollowed c older → MayTell c older (LooksAgain s it request times) → IsQuiet c n (LooksAgain s it request times) older
@@ -286,7 +286,7 @@ ops_grant c n at call request inst m f stamp ss older h may k e i g granted now 
     new there is = split (granted_split c n x older e i g may granted)
       where
         zero : it.work.ops ≡ 0
-        zero = ap (λ (y : Instance). y.work.ops) (some_is it _ (sym found ∙ subst (λ (z : EpochId). instance_now c (With n x older) z i ≡ Some (opened (history c (entries older)) (grant_of (tree_of c at f.group (entries older)) call inst m f ss) stamp)) there
+        zero = ap (λ (y : Instance). y.work.ops) (some_same it _ (sym found ∙ subst (λ (z : EpochId). instance_now c (With n x older) z i ≡ Some (opened (history c (entries older)) (grant_of (tree_of c at f.group (entries older)) call inst m f ss) stamp)) there
             (subst (λ (j : Serial). instance_now c (With n x older) at j ≡ Some (opened (history c (entries older)) (grant_of (tree_of c at f.group (entries older)) call inst m f ss) stamp)) is (granted_begins c n older at call request inst m f stamp ss may))))
 
         split : (granted_to (entries older) e i ≡ Some g) ⊎ GrantsNow c older e i g → OpsAre c (With n x older) e i it
@@ -347,13 +347,13 @@ ops_up c n s boot older h may k e i g granted now live it found = ops_rest c n (
     old_boot = (counts_up c n (Shown (says.Up s boot)) older g h may (by_grant.inside.accepted, by_grant.inside.named) now).0
 
     other : s ≡ g.site → ⊥
-    other same = over (boot_of (entries older) s) (ap (boot_of (entries older)) same ∙ (sym old_boot ∙ (now ∙ ap (λ (b : Bool). cond b boot (boot_of (entries older) g.site)) (ap (λ (m : ℕ). m == g.site) same ∙ test_own g.site)))) may.row.above
+    other same = over (boot_of (entries older) s) (ap (boot_of (entries older)) same ∙ (sym old_boot ∙ (now ∙ ap (λ (b : Bool). cond b boot (boot_of (entries older) g.site)) (ap (λ (m : ℕ). m == g.site) same ∙ equal_self g.site)))) may.row.above
       where
         over : (p : ℕ) → p ≡ boot → nat_lt p boot ≡ true → ⊥
         over p e t = grind (arith, nat_tests)
 
     count : (b : Bool) → (s == i.us) ≡ b → cond b 0 (ops_asked c older i) ≡ ops_asked c older i
-    count true t = absurd (other (test_same s i.us t ∙ by_grant.us_is))
+    count true t = absurd (other (equal s i.us t ∙ by_grant.us_is))
     count false t = refl
 
 ops_told : (c : Config) (n : ℕ) (x : Told) (older : List Line) → IsFollowed c older → MayTell c older x → AllOps c older → AllOps c (With n x older)

@@ -1,5 +1,8 @@
 -- Which call the records say that an operation or a close of an instance is a step of is the one that asks it.
 use Rattle.std.proofs.Common.{◌≡◌, ℕ, suc, ◌+◌, ◌≤◌, ◌<◌, Bool, true, false, not, cond, ◌&&◌, List, [], ◌∷◌, length, Some, refl, sym, ◌∙◌, ap, subst, arith, ◌⊎◌, inl, inr}
+use Rattle.tree_laws.proofs.of_plain_facts.Numbers.{equal_self}
+use Rattle.tree_laws.proofs.of_plain_facts.Options.{some_same}
+use Rattle.tree_laws.proofs.of_plain_facts.Tests.{true_false}
 use Rattle.locus_ids.specs.declared.config.Config.{Config}
 use Rattle.locus_ids.specs.declared.ids.CallId.{CallId}
 use Rattle.locus_ids.specs.declared.ids.EpochId.{EpochId}
@@ -10,16 +13,16 @@ use Rattle.trace_book.specs.declared.descriptor.Beginning.TheVariants as begins
 use Rattle.trace_book.specs.declared.operation.Op.{Op}
 use Rattle.trace_book.specs.declared.record.Record.TheVariants as says
 use Rattle.call_rules.specs.declared.want.Want.TheVariants as want
-use Rattle.role_steps.specs.Own.{Every}
-use Rattle.role_steps.specs.Views.{Told, Shown}
-use Rattle.the_run.specs.Kept.{Among}
-use Rattle.the_run.specs.Worlds.{Line}
+use Rattle.tree_laws.specs.of_role_steps.Own.{Every}
+use Rattle.tree_laws.specs.of_role_steps.Views.{Told, Shown}
+use Rattle.tree_laws.specs.of_the_run.Kept.{Among}
+use Rattle.tree_laws.specs.of_the_run.Worlds.{Line}
 use Rattle.tree_model.specs.declared.accepted.Waiting.{Waiting}
 use Rattle.tree_model.specs.Calls.{granted_to, call_named}
 use Rattle.tree_model.specs.Epochs.{boot_of, calls_accepted}
-use Rattle.lawful_trace.specs.CallRows.{next_call}
-use Rattle.lawful_trace.specs.Tables.{begins_now, begun, is_close, uses_by, uses_of, use_number, close_of, unless_named, call_of_act, call_of_release}
-use Rattle.lawful_trace.specs.TreeRows.{IsCallIn}
+use Rattle.tree_laws.specs.of_lawful_trace.CallRows.{next_call}
+use Rattle.tree_laws.specs.of_lawful_trace.Tables.{begins_now, begun, is_close, uses_by, uses_of, use_number, close_of, unless_named, call_of_act, call_of_release}
+use Rattle.tree_laws.specs.of_lawful_trace.TreeRows.{IsCallIn}
 use Rattle.tree_laws.specs.Printed.{entries, onto_entries}
 use Rattle.tree_laws.specs.Calls.{is_request, Asks}
 use Rattle.tree_laws.specs.Following.{MayTell, IsFollowed}
@@ -31,7 +34,6 @@ use Rattle.tree_laws.proofs.Answered.{asker_unnamed}
 use Rattle.tree_laws.proofs.Descriptors.{IsPlain, IsUser, are_users, user_accepted, user_stays}
 use Rattle.tree_laws.proofs.Fresh.{IsLow, numbered, calls_are_low}
 use Rattle.tree_laws.proofs.Later.{earlier_is_over}
-use Rattle.tree_laws.proofs.Names.{true_false, some_is, test_own}
 use Rattle.tree_laws.proofs.OfOwn.{asks_of_own}
 use Rattle.tree_laws.proofs.OneBoot.{one_boot}
 use Rattle.order_laws.proofs.ProcessBegun.{comes_from, UsesIt, all_use, Fits, asked_fits}
@@ -66,10 +68,10 @@ latest_accept c n s process new words older e i h may uses (y ∷ ys) k = (below
         theirs = user_stays c older n (says.Accept s process new words) e i y h may u
 
         granted : theirs.for.granted ≡ mine.for.granted
-        granted = some_is theirs.for.granted mine.for.granted (sym theirs.for.is_granted ∙ mine.for.is_granted)
+        granted = some_same theirs.for.granted mine.for.granted (sym theirs.for.is_granted ∙ mine.for.is_granted)
 
         caller : theirs.for.caller ≡ mine.for.caller
-        caller = some_is theirs.for.caller mine.for.caller (sym theirs.for.named ∙ (ap (call_named (entries now)) granted ∙ mine.for.named))
+        caller = some_same theirs.for.caller mine.for.caller (sym theirs.for.named ∙ (ap (call_named (entries now)) granted ∙ mine.for.named))
 
         site : y.site ≡ new.site
         site = sym theirs.for.site_is ∙ (ap (λ (w : Waiting). w.site) caller ∙ mine.for.site_is)
@@ -129,10 +131,10 @@ module _ (c : Config) (t : List Line) (e : EpochId) (i : Serial) (d : CallId) (h
           later v below = true_false (sym asks ∙ (earlier_is_over c t h e d y (record { first = u.inside; second = v.inside; site_same = site; process_same = process; waits_for = plain_waits v.inside.accepted.words u.inside.accepted.words v.plain; later = below })).asks_nothing)
             where
               granted : u.for.granted ≡ v.for.granted
-              granted = some_is u.for.granted v.for.granted (sym u.for.is_granted ∙ v.for.is_granted)
+              granted = some_same u.for.granted v.for.granted (sym u.for.is_granted ∙ v.for.is_granted)
 
               caller : u.for.caller ≡ v.for.caller
-              caller = some_is u.for.caller v.for.caller (sym u.for.named ∙ (ap (call_named (entries t)) granted ∙ v.for.named))
+              caller = some_same u.for.caller v.for.caller (sym u.for.named ∙ (ap (call_named (entries t)) granted ∙ v.for.named))
 
               site : d.site ≡ y.site
               site = sym u.for.site_is ∙ (ap (λ (w : Waiting). w.site) caller ∙ v.for.site_is)
@@ -154,7 +156,7 @@ module _ (c : Config) (t : List Line) (e : EpochId) (i : Serial) (d : CallId) (h
   named_release u = ap (unless_named (entries t) (close_of (entries t) e i)) u.for.is_granted ∙ ap (λ (b : Bool). cond b (close_of (entries t) e i) (Some u.for.granted)) u.for.answered
 
 last_number : (d : CallId) (rest : List CallId) → use_number (d ∷ rest) (length (d ∷ rest)) ≡ Some d
-last_number d rest = ap (λ (b : Bool). cond b (Some d) (use_number rest (length (d ∷ rest)))) (test_own (suc (length rest)))
+last_number d rest = ap (λ (b : Bool). cond b (Some d) (use_number rest (length (d ∷ rest)))) (equal_self (suc (length rest)))
 
 -- the call that asks to close an instance is the one that its release is a step of
 pub owner_release : (c : Config) (t : List Line) (e : EpochId) (d : CallId) (i : Serial) → IsFollowed c t → IsCallIn (entries t) e d → Asks c t d (want.Close i) → call_of_release (entries t) e i ≡ Some d

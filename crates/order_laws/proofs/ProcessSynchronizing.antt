@@ -6,8 +6,8 @@ use Rattle.std.proofs.lemmas.Bool.Decides.{nat_tests}
 use Rattle.locus_ids.specs.Sites.{has}
 use Rattle.locus_ids.specs.declared.config.Config.{Config}
 use Rattle.locus_ids.specs.declared.sites.Members.{Members}
-use Rattle.role_steps.specs.Views.{first_site, members_of, pack_sites, sync_site}
-use Rattle.role_steps.specs.Views as role
+use Rattle.tree_laws.specs.of_role_steps.Views.{first_site, members_of, pack_sites, sync_site}
+use Rattle.tree_laws.specs.of_role_steps.Views as role
 use Rattle.tree_model.specs.Packs as tree
 
 first_find : (p : ℕ → Bool) (xs : List ℕ) → first_site (filter p xs) ≡ find p xs

@@ -1,5 +1,8 @@
 -- What a call that waits has, its site has among what its calls have taken and not closed; and so what descriptors stand for.
 use Rattle.std.proofs.Common.{◌≡◌, ℕ, ◌==◌, Bool, true, false, not, cond, ◌&&◌, List, [], ◌∷◌, Option, Some, None, refl, sym, ◌∙◌, ap, subst, ◌⊎◌, inl, inr, filter}
+use Rattle.tree_laws.proofs.of_plain_facts.Numbers.{equal, equal_self}
+use Rattle.tree_laws.proofs.of_plain_facts.Options.{none_some, some_same}
+use Rattle.tree_laws.proofs.of_plain_facts.Tests.{true_false}
 use Rattle.locus_ids.specs.declared.config.Config.{Config}
 use Rattle.locus_ids.specs.declared.ids.CallId.{CallId}
 use Rattle.locus_ids.specs.declared.ids.EpochId.{EpochId}
@@ -15,16 +18,16 @@ use Rattle.trace_book.specs.declared.reply.Reply.TheVariants as reply
 use Rattle.call_rules.specs.declared.answer.Answer.{Answer}
 use Rattle.call_rules.specs.declared.want.Want.{Want}
 use Rattle.call_rules.specs.declared.want.Want.TheVariants as want
-use Rattle.role_steps.specs.Views.{Told, Shown, Takes}
-use Rattle.the_run.specs.Kept.{Among}
-use Rattle.the_run.specs.Worlds.{Line}
+use Rattle.tree_laws.specs.of_role_steps.Views.{Told, Shown, Takes}
+use Rattle.tree_laws.specs.of_the_run.Kept.{Among}
+use Rattle.tree_laws.specs.of_the_run.Worlds.{Line}
 use Rattle.tree_model.specs.declared.accepted.Waiting.{Waiting}
 use Rattle.tree_model.specs.Calls.{call_named, accepted_as, granted_to, waiting}
 use Rattle.tree_model.specs.Epochs.{epoch_of, has_joined, boot_of}
 use Rattle.tree_model.specs.State.{has_number}
-use Rattle.lawful_trace.specs.CallRows.{is_this}
-use Rattle.lawful_trace.specs.Tables.{begins_now, begun, descriptor, is_close, has_named, uses_by}
-use Rattle.lawful_trace.specs.TreeRows.{IsCallIn}
+use Rattle.tree_laws.specs.of_lawful_trace.CallRows.{is_this}
+use Rattle.tree_laws.specs.of_lawful_trace.Tables.{begins_now, begun, descriptor, is_close, has_named, uses_by}
+use Rattle.tree_laws.specs.of_lawful_trace.TreeRows.{IsCallIn}
 use Rattle.tree_laws.specs.Printed.{entries}
 use Rattle.tree_laws.specs.Following.{MayTell, IsFollowed, AnswersInTime}
 use Rattle.tree_laws.specs.Holding.{has_instances, had_after, IsOf}
@@ -35,7 +38,7 @@ use Rattle.tree_laws.proofs.Boots.{waiting_boot, found_every}
 use Rattle.tree_laws.proofs.Descriptors.{FromDescriptor, GrantedFor, all_opening, stand_for, uses_from, uses_is}
 use Rattle.tree_laws.proofs.Fresh.{IsNamed, next_is_new, numbered, calls_are_low}
 use Rattle.tree_laws.proofs.Having.{Untaken, named_or_untaken, has_stays}
-use Rattle.tree_laws.proofs.Names.{true_false, some_is, test_same, test_own, same_call_eq, same_call_own}
+use Rattle.tree_laws.proofs.Names.{same_call_eq, same_call_own}
 use Rattle.tree_laws.proofs.OfOwn.{asks_of_own}
 use Rattle.tree_laws.proofs.OneBoot.{one_boot, joined_where_made, boot_where_inside}
 use Rattle.tree_laws.proofs.Scripts.{named_stays}
@@ -55,20 +58,10 @@ use Rattle.order_laws.proofs.ProcessHad.{ClosesNumber, IsHere, had_kept, had_ope
 abbrev With : ℕ → Told → List Line → List Line
 With n x older = record { number = n; told = x } ∷ older
 
-none_some : {A : Type 0} (a : A) → ◌≡◌ {A = Option A} None (Some a) → ⊥
-none_some a e = cc
-
 -- what calls that wait have, and what descriptors stand for, in the epoch that their site is in
 pub record AllHad (c : Config) (t : List Line) : Type 0 where
   pub holds : (e : EpochId) (d : CallId) (i : Serial) → IsCallIn (entries t) e d → epoch_of (entries t) d.site ≡ Some e → IsHere t d → has_instances c t d i ≡ true → has_number (had c t d.site) i.serial ≡ true
   stands : (s process fd : ℕ) (x : Descriptor) → descriptor (entries t) s process fd ≡ Some x → epoch_of (entries t) s ≡ Some x.epoch → has_number (had c t s) x.inst.serial ≡ true
-
-apart : (a b : ℕ) → (a ≡ b → ⊥) → (a == b) ≡ false
-apart a b ne = at (a == b) refl
-  where
-    at : (t : Bool) → (a == b) ≡ t → (a == b) ≡ false
-    at true e = absurd (ne (test_same a b e))
-    at false e = e
 
 third : (p q b : Bool) → (p && q && b) ≡ true → b ≡ true
 third p q true t = refl
@@ -95,7 +88,7 @@ epoch_record : (c : Config) (n : ℕ) (r : Record) (older : List Line) (me : ℕ
 epoch_record c n (says.Join s at members) older me e may k = over (s == me) refl k
   where
     over : (b : Bool) → (s == me) ≡ b → cond b (Some at) (epoch_of (entries older) me) ≡ Some e → (epoch_of (entries older) me ≡ Some e) ⊎ Joins older me e
-    over true p q = inr (subst (λ (y : EpochId). has_joined (entries older) me y ≡ false) (some_is at e q) (subst (λ (m : ℕ). has_joined (entries older) m at ≡ false) (test_same s me p) may.row.new))
+    over true p q = inr (subst (λ (y : EpochId). has_joined (entries older) me y ≡ false) (some_same at e q) (subst (λ (m : ℕ). has_joined (entries older) m at ≡ false) (equal s me p) may.row.new))
     over false p q = inl q
 epoch_record c n (says.Leave s at) older me e may k = over (s == me) k
   where
@@ -206,10 +199,7 @@ module _ (c : Config) (n s : ℕ) (it : CallId) (request times : ℕ) (a : Answe
       there = one_epoch_of c older h e held.epoch i g j.0 granted now j.1 (one_boot c older held.epoch j.0 it h by.inside held.inside site ∙ (waiting_boot c older s it h may.waits_for ∙ ap (boot_of (entries older)) (sym site)))
 
   had_new : (me : ℕ) → s ≡ me → had c (With n x older) me ≡ had_by (asked_now c older it) a (had c older me)
-  had_new me same = ap (λ (b : Bool). cond b (had_by (asked_now c older it) a (had c older me)) (had c older me)) (ap (λ (m : ℕ). s == m) (sym same) ∙ test_own s)
-
-  had_other : (me : ℕ) → (s ≡ me → ⊥) → had c (With n x older) me ≡ had c older me
-  had_other me ne = ap (λ (b : Bool). cond b (had_by (asked_now c older it) a (had c older me)) (had c older me)) (apart s me ne)
+  had_new me same = ap (λ (b : Bool). cond b (had_by (asked_now c older it) a (had c older me)) (had c older me)) (ap (λ (m : ℕ). s == m) (sym same) ∙ equal_self s)
 
   -- what was had, and isn't closed by the answer, is had
   kept : (me : ℕ) (e : EpochId) (i : Serial) (g : CallId) → granted_to (entries older) e i ≡ Some g → g.boot ≡ boot_of (entries older) g.site → i.us ≡ me → has_number (had c older me) i.serial ≡ true → (Closer e i → ⊥) → has_number (had c (With n x older) me) i.serial ≡ true
@@ -220,7 +210,7 @@ module _ (c : Config) (n s : ℕ) (it : CallId) (request times : ℕ) (a : Answe
       over same (inr k) = absurd (unclosing (closer e i g granted now (us ∙ sym same) k))
 
       at : (b : Bool) → (s == me) ≡ b → has_number (had c (With n x older) me) i.serial ≡ true
-      at true t = over (test_same s me t) (had_kept (asked_now c older it) a (had c older me) i.serial old)
+      at true t = over (equal s me t) (had_kept (asked_now c older it) a (had c older me) i.serial old)
       at false t = ap (λ (b : Bool). has_number (cond b (had_by (asked_now c older it) a (had c older me)) (had c older me)) i.serial) t ∙ old
 
   holds_take : AllHad c older → (e : EpochId) (d : CallId) (i : Serial) → IsCallIn (entries older) e d → epoch_of (entries older) d.site ≡ Some e → IsHere older d → has_instances c (With n x older) d i ≡ true → has_number (had c (With n x older) d.site) i.serial ≡ true
@@ -263,7 +253,7 @@ module _ (c : Config) (n s : ℕ) (it : CallId) (request times : ℕ) (a : Answe
       none z = over (comes_from c older h y.epoch it y.inst z.inside z.has)
         where
           over : (granted_to (entries older) y.epoch y.inst ≡ Some it) ⊎ (begun (entries older) it ≡ Some (begins.Uses y.epoch y.inst)) → ⊥
-          over (inl granted) = not_over c older it here (all_done c older h it (subst (λ (d : CallId). has_named (entries older) d ≡ true) (some_is g.granted it (sym g.is_granted ∙ granted)) g.answered)).over.quiet
+          over (inl granted) = not_over c older it here (all_done c older h it (subst (λ (d : CallId). has_named (entries older) d ≡ true) (some_same g.granted it (sym g.is_granted ∙ granted)) g.answered)).over.quiet
           over (inr b) = none_some it (sym (unclosed c older h me process fd y stands) ∙ subst (UsesIt (entries older) y.epoch y.inst it) (subst (Fits (is_close z.inside.accepted.words)) z.asks (asked_fits c older it z.inside.accepted y.epoch y.inst z.inside.named b)) (all_use c older h it z.inside.accepted y.epoch y.inst z.inside.named b))
 
 -- ---- line by line ----
@@ -286,7 +276,7 @@ holds_new c n s process new words older e i h may k inside has = subst (λ (m : 
     f = uses_from (descriptor (entries older) s process) (epoch_of (entries older) s) words b.0 i (uses_is (begins_now (entries older) s process words) b.0 i b.1)
 
 pub back_in : (c : Config) (n : ℕ) (x : Told) (older : List Line) (e : EpochId) (d : CallId) → IsFollowed c older → MayTell c older x → IsCallIn (entries (With n x older)) e d → IsNamed (entries older) d → IsCallIn (entries older) e d
-back_in c n x older e d h may inside named = record { accepted = named.0; named = named.1; made_in = ap (λ (w : Waiting). w.epoch) (some_is named.0 inside.accepted (sym (named_stays c n x older d h may named ∙ named.1) ∙ inside.named)) ∙ inside.made_in }
+back_in c n x older e d h may inside named = record { accepted = named.0; named = named.1; made_in = ap (λ (w : Waiting). w.epoch) (some_same named.0 inside.accepted (sym (named_stays c n x older d h may named ∙ named.1) ∙ inside.named)) ∙ inside.made_in }
 
 -- it hasn't joined the epoch of a call of it before
 not_joined : (c : Config) (older : List Line) (d : CallId) (e : EpochId) → IsFollowed c older → IsCallIn (entries older) e d → Joins older d.site e → ⊥
@@ -340,7 +330,7 @@ stands_record c n r older h may k me process fd y stands at_epoch = ap (λ (ns :
         first false q b t = absurd (true_false (sym t))
 
         at_site : d.site ≡ me
-        at_site = ap (λ (z : CallId). z.site) (sym is_d) ∙ (sym ((accepted c older h).named m.row.caller.call m.row.caller found.0).site_is ∙ (test_same m.row.caller.site site (first (m.row.caller.site == site) (m.row.caller.process == user) (same_call m.row.caller.call d) found.1) ∙ o.site_is))
+        at_site = ap (λ (z : CallId). z.site) (sym is_d) ∙ (sym ((accepted c older h).named m.row.caller.call m.row.caller found.0).site_is ∙ (equal m.row.caller.site site (first (m.row.caller.site == site) (m.row.caller.process == user) (same_call m.row.caller.call d) found.1) ∙ o.site_is))
 
         by : GrantIs older y.epoch y.inst d
         by = granted_is c older h y.epoch y.inst d (all_opening c older h d y o.opening)

@@ -1,5 +1,7 @@
 -- What a call asks something of isn't released: an instance that was released is had no more, but by its close that is answered.
 use Rattle.std.proofs.Common.{◌≡◌, ℕ, Bool, true, false, not, cond, ◌&&◌, List, [], ◌∷◌, ◌++◌, Option, Some, None, refl, sym, ◌∙◌, ap, subst, ◌⊎◌, inl, inr}
+use Rattle.tree_laws.proofs.of_plain_facts.Options.{none_some, some_same}
+use Rattle.tree_laws.proofs.of_plain_facts.Tests.{true_false}
 use Rattle.locus_ids.specs.declared.config.Config.{Config}
 use Rattle.locus_ids.specs.declared.ids.CallId.{CallId}
 use Rattle.locus_ids.specs.declared.ids.EpochId.{EpochId}
@@ -18,16 +20,16 @@ use Rattle.call_rules.specs.declared.answer.Answer.{Answer}
 use Rattle.call_rules.specs.declared.answer.Answer.TheVariants as answer
 use Rattle.call_rules.specs.declared.want.Want.{Want}
 use Rattle.call_rules.specs.declared.want.Want.TheVariants as want
-use Rattle.role_steps.specs.Views.{Told, Shown, Takes, LooksAgain}
-use Rattle.the_run.specs.Worlds.{Line}
+use Rattle.tree_laws.specs.of_role_steps.Views.{Told, Shown, Takes, LooksAgain}
+use Rattle.tree_laws.specs.of_the_run.Worlds.{Line}
 use Rattle.tree_model.specs.declared.accepted.Waiting.{Waiting}
 use Rattle.tree_model.specs.Calls.{granted_to, call_named, accepted_as}
 use Rattle.tree_model.specs.Epochs.{epoch_of}
 use Rattle.tree_model.specs.State.{instance_in}
 use Rattle.tree_model.specs.Tree.{tree_of, kept_in}
-use Rattle.lawful_trace.specs.Progress.{Answers, look_answer, granted_answer, close_answer, outcome_answer}
-use Rattle.lawful_trace.specs.Tables.{begins_now, descriptor, has_named, uses_by, close_of, unless_named, call_of_act, call_of_release}
-use Rattle.lawful_trace.specs.TreeRows.{IsCallIn}
+use Rattle.tree_laws.specs.of_lawful_trace.Progress.{Answers, look_answer, granted_answer, close_answer, outcome_answer}
+use Rattle.tree_laws.specs.of_lawful_trace.Tables.{begins_now, descriptor, has_named, uses_by, close_of, unless_named, call_of_act, call_of_release}
+use Rattle.tree_laws.specs.of_lawful_trace.TreeRows.{IsCallIn}
 use Rattle.tree_laws.specs.Printed.{entries, onto_entries}
 use Rattle.tree_laws.specs.Calls.{log, heard, is_request, Asks, Waits}
 use Rattle.tree_laws.specs.Following.{MayTell, IsFollowed, AnswersInTime}
@@ -43,7 +45,7 @@ use Rattle.tree_laws.proofs.Counting.{asked_same}
 use Rattle.tree_laws.proofs.Descriptors.{GrantedFor, FromDescriptor, IsUser, all_opening, stand_for, uses_from, uses_is, are_users}
 use Rattle.tree_laws.proofs.Fresh.{IsNamed, next_is_new, numbered, calls_are_low}
 use Rattle.tree_laws.proofs.Having.{Untaken, named_or_untaken, has_stays}
-use Rattle.tree_laws.proofs.Names.{true_false, some_is, same_call_eq, same_call_own, same_epoch_eq, same_serial_eq, same_serial_own}
+use Rattle.tree_laws.proofs.Names.{same_call_eq, same_call_own, same_epoch_eq, same_serial_eq, same_serial_own}
 use Rattle.tree_laws.proofs.OfOwn.{asks_of_own}
 use Rattle.tree_laws.proofs.Owners.{named_more}
 use Rattle.tree_laws.proofs.Scripts.{named_stays}
@@ -53,9 +55,6 @@ use Rattle.order_laws.proofs.ProcessOneDescriptor.{OpensNow, answer_split, left_
 
 abbrev With : ℕ → Told → List Line → List Line
 With n x older = record { number = n; told = x } ∷ older
-
-none_some : {A : Type 0} (a : A) → ◌≡◌ {A = Option A} None (Some a) → ⊥
-none_some a e = cc
 
 -- the call asks to close it, and the answer waits
 abbrev Closing : Config → List Line → CallId → Serial → Type 0
@@ -199,7 +198,7 @@ module _ (c : Config) (n : ℕ) (x : Told) (older : List Line) (h : IsFollowed c
           k.waits e i d a (subst (λ (y : EpochId). granted_to (entries older) y i ≡ Some d) (one_epoch older g.0 e d g.1 here) g.2) w o was)
 
       old : IsNamed (entries older) d → Closing c (With n x older) d i
-      old named = (let here : IsCallIn (entries older) e d = record { accepted = named.0; named = named.1; made_in = ap (λ (w : Waiting). w.epoch) (some_is named.0 inside.accepted (sym (named_stays c n x older d h may named ∙ named.1) ∙ inside.named)) ∙ inside.made_in } in
+      old named = (let here : IsCallIn (entries older) e d = record { accepted = named.0; named = named.1; made_in = ap (λ (w : Waiting). w.epoch) (some_same named.0 inside.accepted (sym (named_stays c n x older d h may named ∙ named.1) ∙ inside.named)) ∙ inside.made_in } in
           still d i named (opens here) (λ had. k.asks e i d here (asked_before d named asks) had was) has)
 
       -- a call that is accepted begins at a descriptor
@@ -220,11 +219,11 @@ module _ (c : Config) (n : ℕ) (x : Told) (older : List Line) (h : IsFollowed c
           f = uses_from (descriptor (entries older) s process) (epoch_of (entries older) s) words b.0 i (uses_is (begins_now (entries older) s process words) b.0 i b.1)
 
           made : epoch_of (entries older) s ≡ Some e
-          made = ap (λ (w : Waiting). w.epoch) (some_is (accepted_as (entries older) s process d words) inside.accepted (sym (ap (λ (t : Bool). cond t (Some (accepted_as (entries older) s process d words)) (call_named (entries older) d)) (same_call_own d))
+          made = ap (λ (w : Waiting). w.epoch) (some_same (accepted_as (entries older) s process d words) inside.accepted (sym (ap (λ (t : Bool). cond t (Some (accepted_as (entries older) s process d words)) (call_named (entries older) d)) (same_call_own d))
               ∙ subst (λ (y : Told). call_named (onto_entries n y (entries older)) d ≡ Some inside.accepted) is inside.named)) ∙ inside.made_in
 
           there : e ≡ b.0
-          there = some_is e b.0 (sym made ∙ f.inside)
+          there = some_same e b.0 (sym made ∙ f.inside)
 
   stands_before : Ends c older → (s process fd : ℕ) (y : Descriptor) → descriptor (onto_entries n x (entries older)) s process fd ≡ Some y → WasReleased older y.epoch y.inst → ⊥
   stands_before k s process fd y e was = over x may e
@@ -262,7 +261,7 @@ module _ (c : Config) (n : ℕ) (at : EpochId) (inst : Serial) (f : FileId) (sta
       asks = subst (λ (z : CallId). Asks c older z (want.Close inst)) is may.in_time.asks
 
   owner_call : (d : CallId) → granted_to (entries older) at inst ≡ Some d → has_named (entries older) d ≡ false → may.in_time.call ≡ d
-  owner_call d granted unnamed = some_is may.in_time.call d (sym may.in_time.owner ∙ (ap (unless_named (entries older) (close_of (entries older) at inst)) granted ∙ ap (λ (b : Bool). cond b (close_of (entries older) at inst) (Some d)) unnamed))
+  owner_call d granted unnamed = some_same may.in_time.call d (sym may.in_time.owner ∙ (ap (unless_named (entries older) (close_of (entries older) at inst)) granted ∙ ap (λ (b : Bool). cond b (close_of (entries older) at inst) (Some d)) unnamed))
 
   named_close : (g : CallId) → granted_to (entries older) at inst ≡ Some g → has_named (entries older) g ≡ true → close_of (entries older) at inst ≡ Some may.in_time.call
   named_close g granted named = sym (ap (unless_named (entries older) (close_of (entries older) at inst)) granted ∙ ap (λ (b : Bool). cond b (close_of (entries older) at inst) (Some g)) named) ∙ may.in_time.owner

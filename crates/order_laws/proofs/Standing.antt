@@ -5,6 +5,9 @@ use Rattle.std.proofs.lemmas.Nat.Bits.{bit_at-zero}
 use Rattle.std.specs.Int.{bit_at}
 use Rattle.std.specs.List.{AllByRecursion}
 use Rattle.std.specs.Option.{is_none}
+use Rattle.tree_laws.proofs.of_plain_facts.Numbers.{equal}
+use Rattle.tree_laws.proofs.of_plain_facts.Options.{some_same}
+use Rattle.tree_laws.proofs.of_plain_facts.Tests.{and_first, and_second, or_first, or_second, true_false}
 use Rattle.locus_ids.specs.Sites.{has}
 use Rattle.locus_ids.specs.declared.sites.Members.{Members}
 use Rattle.locus_ids.specs.declared.sites.Sites.{Sites}
@@ -20,9 +23,9 @@ use Rattle.trace_book.specs.declared.operation.Op.TheVariants as op
 use Rattle.trace_book.specs.declared.operation.Outcome.{Outcome}
 use Rattle.trace_book.specs.declared.record.Record.{Record}
 use Rattle.trace_book.specs.declared.record.Record.TheVariants as says
-use Rattle.file_effects.specs.Effects.{Effect, is_refusal}
-use Rattle.file_effects.specs.Works.{carried_out, counted}
-use Rattle.file_effects.specs.declared.work.Work.{Work}
+use Rattle.tree_model.specs.of_file_effects.Effects.{Effect, is_refusal}
+use Rattle.tree_model.specs.of_file_effects.Works.{carried_out, counted}
+use Rattle.tree_model.specs.of_file_effects.declared.work.Work.{Work}
 use Rattle.tree_model.specs.declared.copy.HeldCopy.{HeldCopy}
 use Rattle.tree_model.specs.declared.instance.Instance.{Instance}
 use Rattle.tree_model.specs.Folds.{Trace}
@@ -33,8 +36,6 @@ use Rattle.tree_model.specs.Same.{same_version}
 use Rattle.tree_model.specs.State.{TreeState, copy_of, has_stamp, held_at, held_of, instance_in, is_brought_below, is_copy_of, is_inside, is_named, stamps_of, with_all, with_brought, with_copy}
 use Rattle.tree_model.specs.Tree.{copy_now, entered, has_now, joined, published, with_root}
 use Rattle.tree_model.specs.Working.{effect_on, operated_by, work_after}
-use Rattle.tree_laws.proofs.Names.{some_is, test_same, true_false}
-use Rattle.order_laws.proofs.Alone.{first_of, second_of}
 use Rattle.order_laws.proofs.Lists.{all_filtered, all_found, all_mapped, all_more, all_put, all_then}
 
 -- ---- what stands ----
@@ -85,17 +86,9 @@ own_version v = both (same_file v.file v.file) (same_stamp v.stamp v.stamp) (own
     both true b x y = y
     both false b x y = absurd (true_false (sym x))
 
-either_true : (a b : Bool) → a ≡ true → a || b ≡ true
-either_true true b x = refl
-either_true false b x = absurd (true_false (sym x))
-
-pub later_true : (a b : Bool) → b ≡ true → a || b ≡ true
-later_true true b x = refl
-later_true false b x = x
-
 -- the newest version stands
 pub newest : (v : Version) (h : List Version) (f : FileId) (s : Stamp) → v.file ≡ f → v.stamp ≡ s → is_in (v ∷ h) f s ≡ true
-newest v h f s e k = subst (λ (g : FileId). is_in (v ∷ h) g s ≡ true) e (subst (λ (r : Stamp). is_in (v ∷ h) v.file r ≡ true) k (either_true (is_version v.file v.stamp v) (is_in h v.file v.stamp) (own_version v)))
+newest v h f s e k = subst (λ (g : FileId). is_in (v ∷ h) g s ≡ true) e (subst (λ (r : Stamp). is_in (v ∷ h) v.file r ≡ true) k (or_first (is_version v.file v.stamp v) (is_in h v.file v.stamp) (own_version v)))
 
 -- ---- roots ----
 
@@ -110,7 +103,7 @@ root_in k (p ∷ ps) zero site h = at (p.0 == 0) refl
     here = omega arith
 
     at : (b : Bool) → (p.0 == 0) ≡ b → is_in (cond b (format_versions (k + 1) ps) (format_version k ∷ format_versions (k + 1) ps)) (At (k + 0) 1) format_stamp ≡ true
-    at true e = absurd (none_in p site (test_same p.0 0 e) h)
+    at true e = absurd (none_in p site (equal p.0 0 e) h)
     at false e = newest (format_version k) (format_versions (k + 1) ps) (At (k + 0) 1) format_stamp (ap (λ (n : ℕ). At n 1) here) refl
 root_in k (p ∷ ps) (suc i) site h = at (p.0 == 0) (root_in (k + 1) ps i site h)
   where
@@ -119,12 +112,12 @@ root_in k (p ∷ ps) (suc i) site h = at (p.0 == 0) (root_in (k + 1) ps i site h
 
     at : (b : Bool) → is_in (format_versions (k + 1) ps) (At ((k + 1) + i) 1) format_stamp ≡ true → is_in (cond b (format_versions (k + 1) ps) (format_version k ∷ format_versions (k + 1) ps)) (At (k + suc i) 1) format_stamp ≡ true
     at true x = subst (λ (n : ℕ). is_in (format_versions (k + 1) ps) (At n 1) format_stamp ≡ true) there x
-    at false x = later_true (is_version (At (k + suc i) 1) format_stamp (format_version k)) _ (subst (λ (n : ℕ). is_in (format_versions (k + 1) ps) (At n 1) format_stamp ≡ true) there x)
+    at false x = or_second (is_version (At (k + suc i) 1) format_stamp (format_version k)) _ (subst (λ (n : ℕ). is_in (format_versions (k + 1) ps) (At n 1) format_stamp ≡ true) there x)
 
 -- ---- one record more ----
 
 in_more : (h : List Version) (r : Record) (f : FileId) (s : Stamp) → is_in h f s ≡ true → is_in (history_after r h) f s ≡ true
-in_more h (says.Commit g site stamp parents content) f s x = later_true (is_version f s (record { file = g; site = site; stamp = stamp; parents = parents; content = content })) (is_in h f s) x
+in_more h (says.Commit g site stamp parents content) f s x = or_second (is_version f s (record { file = g; site = site; stamp = stamp; parents = parents; content = content })) (is_in h f s) x
 in_more h _ f s x = x
 
 -- the root of a pack stands in every history
@@ -165,7 +158,7 @@ enters : (h : List Version) (g s : ℕ) (x : HeldCopy) → CopyStands h g x → 
 enters h g s x p = at (x.site == s)
   where
     at : (b : Bool) → CopyStands h g (cond b (record x { held = Some x.now }) x)
-    at true = record { now = p.now; held = λ r e. subst (λ (y : Stamp). is_in h (At g x.ino) y ≡ true) (some_is x.now r e) p.now }
+    at true = record { now = p.now; held = λ r e. subst (λ (y : Stamp). is_in h (At g x.ino) y ≡ true) (some_same x.now r e) p.now }
     at false = p
 
 pub joined_sound : (h : List Version) (t : TreeState) (s : ℕ) (m : Members) → (has_pack t.config t.group s ≡ true → is_in h (At t.group 1) format_stamp ≡ true) → Sound h t → Sound h (joined s m t)
@@ -183,7 +176,7 @@ joined_sound h t s m root x = record {
     at false there = x.copies
 
     rooted : AllByRecursion (CopyStands h t.group) (with_root t s)
-    rooted = at (has_pack t.config t.group s && is_none (copy_of t.copies s 1)) (λ e. root (first_of (has_pack t.config t.group s) _ e))
+    rooted = at (has_pack t.config t.group s && is_none (copy_of t.copies s 1)) (λ e. root (and_first (has_pack t.config t.group s) _ e))
 
     knows : (b : Bool) → AllByRecursion (KnownStands h t.group) (cond b (with_all (filter (λ (y : HeldCopy). y.site == s) (with_root t s)) t.known) t.known)
     knows true = all_brought h t.group (filter (λ (y : HeldCopy). y.site == s) (with_root t s)) t.known (all_filtered (CopyStands h t.group) (λ (y : HeldCopy). y.site == s) (with_root t s) rooted) x.known
@@ -199,7 +192,7 @@ held_stands h g site ino [] s all e = absurd (none e)
 held_stands h g site ino (x ∷ xs) s all e = at (is_copy_of site ino x) refl e (held_stands h g site ino xs s all.1)
   where
     at : (b : Bool) → is_copy_of site ino x ≡ b → held_of (cond b (Some x) (copy_of xs site ino)) ≡ Some s → (held_of (copy_of xs site ino) ≡ Some s → is_in h (At g ino) s ≡ true) → is_in h (At g ino) s ≡ true
-    at true k e later = subst (λ (n : ℕ). is_in h (At g n) s ≡ true) (test_same x.ino ino (second_of (x.site == site) (x.ino == ino) k)) (all.0.held s e)
+    at true k e later = subst (λ (n : ℕ). is_in h (At g n) s ≡ true) (equal x.ino ino (and_second (x.site == site) (x.ino == ino) k)) (all.0.held s e)
     at false k e later = later e
 
 pub now_stands : (h : List Version) (t : TreeState) (f : FileId) (site : ℕ) (stamp : Stamp) → ((f.group == t.group) ≡ true → is_in h (At t.group f.ino) stamp ≡ true) → AllByRecursion (CopyStands h t.group) t.copies
@@ -207,7 +200,7 @@ pub now_stands : (h : List Version) (t : TreeState) (f : FileId) (site : ℕ) (s
 now_stands h t f site stamp there all = over (f.group == t.group) there
   where
     new : is_in h (At t.group f.ino) stamp ≡ true → (b : Bool) → CopyStands h t.group (record { site = site; ino = f.ino; now = stamp; held = cond b (Some stamp) (held_at t site f.ino) })
-    new k true = record { now = k; held = λ r e. subst (λ (y : Stamp). is_in h (At t.group f.ino) y ≡ true) (some_is stamp r e) k }
+    new k true = record { now = k; held = λ r e. subst (λ (y : Stamp). is_in h (At t.group f.ino) y ≡ true) (some_same stamp r e) k }
     new k false = record { now = k; held = λ r e. held_stands h t.group site f.ino t.copies r all e }
 
     over : (b : Bool) → (b ≡ true → is_in h (At t.group f.ino) stamp ≡ true) → AllByRecursion (CopyStands h t.group) (cond b (with_copy (copy_now t site f.ino stamp) t.copies) t.copies)
@@ -224,7 +217,7 @@ known_found h g ino (b ∷ bs) s all e = at (b.ino == ino) refl e (known_found h
     or false d k = inr k
 
     is : (b.ino == ino) ≡ true → same_stamp b.stamp s ≡ true → is_in h (At g ino) s ≡ true
-    is k l = subst (λ (n : ℕ). is_in h (At g n) s ≡ true) (test_same b.ino ino k) (subst (λ (r : Stamp). is_in h (At g b.ino) r ≡ true) (same_stamp_eq b.stamp s l) all.0)
+    is k l = subst (λ (n : ℕ). is_in h (At g n) s ≡ true) (equal b.ino ino k) (subst (λ (r : Stamp). is_in h (At g b.ino) r ≡ true) (same_stamp_eq b.stamp s l) all.0)
 
     at : (a : Bool) → (b.ino == ino) ≡ a → has_stamp (map (λ (y : Brought). y.stamp) (cond a (b ∷ filter (λ (y : Brought). y.ino == ino) bs) (filter (λ (y : Brought). y.ino == ino) bs))) s ≡ true
         → (has_stamp (stamps_of bs ino) s ≡ true → is_in h (At g ino) s ≡ true) → is_in h (At g ino) s ≡ true
@@ -267,15 +260,15 @@ same_version_eq None b s k e = absurd (none e)
     none : ◌≡◌ {A = Option Stamp} None (Some s) → ⊥
     none e = cc
 same_version_eq (Some a) None s k e = absurd (true_false (sym k))
-same_version_eq (Some a) (Some b) s k e = ap (λ (r : Stamp). Some r) (sym (same_stamp_eq a b k) ∙ some_is a s e)
+same_version_eq (Some a) (Some b) s k e = ap (λ (r : Stamp). Some r) (sym (same_stamp_eq a b k) ∙ some_same a s e)
 
 -- what is released with was committed
 pub released_stands : (h : List Version) (t : TreeState) (i : Serial) (f : FileId) (s : Stamp) (o : Option Instance) → instance_in t i ≡ o → AllByRecursion (WorkStands h) t.instances → instance_ends h t f (Some s) o ≡ true → is_in h f s ≡ true
 released_stands h t i f s None e all k = absurd (true_false (sym k))
 released_stands h t i f s (Some x) e all k =
     let stands : WorkStands h x = all_found (WorkStands h) (is_named i) t.instances x all e in
-    let file : x.grant.file ≡ f = same_file_eq x.grant.file f (first_of (same_file x.grant.file f) _ k) in
-    let was : x.work.committed ≡ Some s = same_version_eq (Some s) x.work.committed s (first_of (same_version (Some s) x.work.committed) _ (second_of (same_file x.grant.file f) _ k)) refl in
+    let file : x.grant.file ≡ f = same_file_eq x.grant.file f (and_first (same_file x.grant.file f) _ k) in
+    let was : x.work.committed ≡ Some s = same_version_eq (Some s) x.work.committed s (and_first (same_version (Some s) x.work.committed) _ (and_second (same_file x.grant.file f) _ k)) refl in
     subst (λ (g : FileId). is_in h g s ≡ true) file (stands s was)
 
 pub published_stands : (h : List Version) (g : ℕ) (f : FileId) (stamp : Option Stamp) (known : List Brought) → ((s : Stamp) → stamp ≡ Some s → is_in h (At g f.ino) s ≡ true) → AllByRecursion (KnownStands h g) known → AllByRecursion (KnownStands h g) (published f stamp known)

@@ -1,6 +1,8 @@
 -- Instances are open only where their group has started.
 use Rattle.std.proofs.Common.{◌≡◌, ℕ, ◌==◌, Bool, true, false, ◌&&◌, cond, List, [], ◌∷◌, ◌++◌, Option, Some, refl, ◌∙◌, subst}
 use Rattle.std.specs.List.{AllByRecursion}
+use Rattle.tree_laws.proofs.of_plain_facts.Numbers.{equal}
+use Rattle.tree_laws.proofs.of_plain_facts.Tests.{and_first}
 use Rattle.locus_ids.specs.declared.config.Config.{Config}
 use Rattle.locus_ids.specs.declared.ids.CallId.{CallId}
 use Rattle.locus_ids.specs.declared.ids.EpochId.{EpochId}
@@ -19,10 +21,10 @@ use Rattle.tree_model.specs.Histories.{history}
 use Rattle.tree_model.specs.Lists.{change_first}
 use Rattle.tree_model.specs.State.{TreeState, instance_in, is_granted_here, is_inside, is_make, is_named, is_writer}
 use Rattle.tree_model.specs.Tree.{acted, grant_of, granted, joined, left, next, once_acted, once_committed, opened, released, tree_of, without_make}
-use Rattle.lawful_trace.specs.Lawful.{MayCome}
+use Rattle.tree_laws.specs.of_lawful_trace.Lawful.{MayCome}
 use Rattle.tree_laws.specs.Following.{RowsAreLawful}
-use Rattle.tree_laws.proofs.Names.{same_epoch_eq, test_same}
-use Rattle.order_laws.proofs.Alone.{first_of, tree_is, tree_named}
+use Rattle.tree_laws.proofs.Names.{same_epoch_eq}
+use Rattle.order_laws.proofs.Alone.{tree_is, tree_named}
 use Rattle.order_laws.proofs.Lists.{all_changed, all_found, all_more, all_then, all_without}
 
 -- each open instance has the start of its group behind it
@@ -43,8 +45,8 @@ module _ (c : Config) (e : EpochId) (group : ℕ) (before : Trace) (old : AreSta
   given_started : (d : EpochId) (call : CallId) (i : Serial) (m : Mode) (f : FileId) (stamp : Option Stamp) (ss : ℕ) → gives_grant h (tree_of c d f.group before) call i m f stamp ss ≡ true → same_epoch d t.epoch ≡ true → (f.group == t.group) ≡ true → t.started ≡ true
   given_started d call i m f stamp ss gives same in_group =
       let named = tree_named c e group before in
-      let is : tree_of c d f.group before ≡ t = tree_is c e d group f.group before (same_epoch_eq d t.epoch same ∙ named.0) (test_same f.group t.group in_group ∙ named.1) in
-      first_of t.started _ (subst (λ (u : TreeState). gives_grant h u call i m f stamp ss ≡ true) is gives)
+      let is : tree_of c d f.group before ≡ t = tree_is c e d group f.group before (same_epoch_eq d t.epoch same ∙ named.0) (equal f.group t.group in_group ∙ named.1) in
+      and_first t.started _ (subst (λ (u : TreeState). gives_grant h u call i m f stamp ss ≡ true) is gives)
 
   next_started : (r : Record) → MayCome c before r → AreStarted (next h r t)
   next_started (says.Start d k copies) may = if_started (same_epoch d t.epoch && (k == t.group)) (record t { started = true }) t (all_then (λ (x : Instance). t.started ≡ true) (λ (x : Instance). true ≡ true) (λ x s. refl) t.instances old) old

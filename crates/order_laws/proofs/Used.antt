@@ -1,6 +1,8 @@
 -- A number that a site has used in an epoch stays used.
 use Rattle.std.proofs.Common.{◌≡◌, ℕ, ◌==◌, Bool, true, false, ◌&&◌, cond, List, [], ◌∷◌, ◌++◌, map, Option, Some, None, refl, sym, ap, ◌∙◌, inl, inr}
 use Rattle.std.specs.Option.{is_none}
+use Rattle.tree_laws.proofs.of_plain_facts.Numbers.{equal}
+use Rattle.tree_laws.proofs.of_plain_facts.Tests.{and_first, and_second, true_false}
 use Rattle.locus_ids.specs.declared.config.Config.{Config}
 use Rattle.locus_ids.specs.declared.ids.EpochId.{EpochId}
 use Rattle.locus_ids.specs.declared.ids.FileId.{FileId}
@@ -9,8 +11,8 @@ use Rattle.commit_graph.specs.declared.history.Version.{Version}
 use Rattle.trace_book.specs.Same.{same_epoch}
 use Rattle.trace_book.specs.declared.record.Record.{Record}
 use Rattle.trace_book.specs.declared.record.Record.TheVariants as says
-use Rattle.role_steps.specs.Views.{Told, Shown}
-use Rattle.the_run.specs.Worlds.{Line}
+use Rattle.tree_laws.specs.of_role_steps.Views.{Told, Shown}
+use Rattle.tree_laws.specs.of_the_run.Worlds.{Line}
 use Rattle.tree_model.specs.declared.copy.HeldCopy.{HeldCopy}
 use Rattle.tree_model.specs.Folds.{Trace}
 use Rattle.tree_model.specs.Histories.{format_stamp, history}
@@ -20,8 +22,6 @@ use Rattle.tree_model.specs.State.{TreeState, copy_of, held_at, held_of, is_copy
 use Rattle.tree_model.specs.Tree.{acted, copy_now, entered, grant_of, granted, has_now, joined, left, next, released, tree_of, with_root, without_make}
 use Rattle.tree_laws.specs.Instances.{IsFull, IsUsed, held_in}
 use Rattle.tree_laws.specs.Printed.{entries, onto_entries}
-use Rattle.tree_laws.proofs.Names.{test_same, true_false}
-use Rattle.order_laws.proofs.Alone.{first_of, second_of}
 
 -- the site has some version of the inode
 abbrev pub HasSome : List HeldCopy → ℕ → ℕ → Type 0
@@ -60,7 +60,7 @@ some_put a b new [] site ino h k has some = absurd (nothing some.0 some.1)
 some_put a b new (x ∷ xs) site ino h k has some = at (is_copy_of a b x) refl (some_put a b new xs site ino h k has)
   where
     alike : is_copy_of a b x ≡ true → is_copy_of site ino x ≡ is_copy_of site ino new
-    alike q = ap (λ (n : ℕ). (n == site) && (x.ino == ino)) (test_same x.site a (first_of (x.site == a) _ q) ∙ sym h) ∙ ap (λ (n : ℕ). (new.site == site) && (n == ino)) (test_same x.ino b (second_of (x.site == a) _ q) ∙ sym k)
+    alike q = ap (λ (n : ℕ). (n == site) && (x.ino == ino)) (equal x.site a (and_first (x.site == a) _ q) ∙ sym h) ∙ ap (λ (n : ℕ). (new.site == site) && (n == ino)) (equal x.ino b (and_second (x.site == a) _ q) ∙ sym k)
 
     here : (p r : Bool) → is_copy_of site ino new ≡ p → r ≡ p → held_of (cond r (Some x) (copy_of xs site ino)) ≡ Some some.0 → (s : Stamp) × (held_of (cond p (Some new) (copy_of xs site ino)) ≡ Some s)
     here true r is same e = has is
@@ -86,7 +86,7 @@ some_now t f z stamp site ino k = over (f.group == t.group)
   where
     held : (b : Bool) → is_copy_of site ino (copy_now t z f.ino stamp) ≡ true → (s : Stamp) × (cond b (Some stamp) (held_at t z f.ino) ≡ Some s)
     held true same = (stamp, refl)
-    held false same = (k.0, ap (λ (n : ℕ). held_at t n f.ino) (test_same z site (first_of (z == site) _ same)) ∙ (ap (λ (n : ℕ). held_at t site n) (test_same f.ino ino (second_of (z == site) _ same)) ∙ k.1))
+    held false same = (k.0, ap (λ (n : ℕ). held_at t n f.ino) (equal z site (and_first (z == site) _ same)) ∙ (ap (λ (n : ℕ). held_at t site n) (equal f.ino ino (and_second (z == site) _ same)) ∙ k.1))
 
     over : (b : Bool) → HasSome (cond b (with_copy (copy_now t z f.ino stamp) t.copies) t.copies) site ino
     over true = some_put z f.ino (copy_now t z f.ino stamp) t.copies site ino refl refl (held (is_inside t z)) k

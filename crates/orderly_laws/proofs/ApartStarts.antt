@@ -1,8 +1,10 @@
 -- Lots of sites that start, one more of them, and whom they ask.
-use Rattle.std.proofs.Common.{◌≡◌, ◌≢◌, ℕ, zero, suc, ◌≤◌, ◌==◌, ◌⊎◌, Bool, true, false, cond, ◌||◌, not, refl, sym, ◌∙◌, ap, subst, inl, inr, arith}
+use Rattle.std.proofs.Common.{◌≡◌, ◌≢◌, ℕ, zero, suc, ◌≤◌, ◌==◌, ◌⊎◌, Bool, true, false, cond, ◌||◌, not, refl, sym, ◌∙◌, ap, subst, inl, inr, arith, ◌<◌}
 use Rattle.std.proofs.lemmas.Bool.Decides.{nat_tests}
+use Rattle.role_steps.proofs.of_plain_facts.Numbers.{equal_self, not_zero, not_zero_test}
 use Rattle.locus_ids.specs.declared.sites.Links.{Links}
 use Rattle.locus_ids.specs.declared.sites.Members.{Members}
+use Rattle.locus_ids.specs.Sizes.{sites_max}
 use Rattle.wire_messages.specs.declared.packet.Packet.{Packet}
 use Rattle.wire_messages.specs.declared.body.Body.{Body}
 use Rattle.wire_messages.specs.declared.body.Body.TheVariants as body
@@ -11,7 +13,7 @@ use Rattle.role_steps.specs.Epochs.{boots_where, merge_boot, part_boot}
 use Rattle.the_run.specs.Worlds.{World, place_at, links_of}
 use Rattle.the_run.proofs.Boots.{every_weaker}
 use Rattle.epoch_laws.specs.Known.{Places}
-use Rattle.epoch_laws.proofs.Boots.{boot_or_none, boots_without, same_test}
+use Rattle.epoch_laws.proofs.Boots.{boot_or_none, boots_without}
 use Rattle.orderly_laws.specs.Blocks.{StandApart}
 use Rattle.orderly_laws.specs.Quiet.{IsDead, OnPoll}
 use Rattle.orderly_laws.specs.Settling.{Starts, reaches, AreApart, IsLive, PollOk, Settling}
@@ -56,13 +58,7 @@ zero_or : (n : ℕ) → (n ≡ 0) ⊎ (n ≢ 0)
 zero_or zero = inl refl
 zero_or (suc n) = inr (λ e. absurd (cc))
 
-reach_some : (n : ℕ) → n ≢ 0 → not (n == 0) ≡ true
-reach_some n h = grind (arith, nat_tests)
-
-some_reach : (n : ℕ) → not (n == 0) ≡ true → n ≢ 0
-some_reach n h = grind (arith, nat_tests)
-
-pub with_apart : (first : World) (R : Starts) (s : ℕ) (P : Links) → AreApart first R → StandApart first R (λ X L. (X ≡ s) × (L ≡ P)) → reaches first s s ≡ true → boot_in P.boot s ≡ 0 → ((t : ℕ) → boot_in P.boot t ≢ 0 → boot_in P.boot t ≡ boot_in (links_of first s).boot t) → ((t : ℕ) → 17 ≤ t → boot_in P.boot t ≡ 0) → AreApart first (With R s P)
+pub with_apart : (first : World) (R : Starts) (s : ℕ) (P : Links) → AreApart first R → StandApart first R (λ X L. (X ≡ s) × (L ≡ P)) → reaches first s s ≡ true → boot_in P.boot s ≡ 0 → ((t : ℕ) → boot_in P.boot t ≢ 0 → boot_in P.boot t ≡ boot_in (links_of first s).boot t) → ((t : ℕ) → sites_max < t → boot_in P.boot t ≡ 0) → AreApart first (With R s P)
 with_apart first R s P h d own self linked sized = record {
   linked = λ x L t r some. by_linked x L t r some;
   sized = λ x L t r high. by_sized x L t r high;
@@ -76,20 +72,20 @@ with_apart first R s P h d own self linked sized = record {
     by_linked x L t (inl r) some = h.linked x L t r some
     by_linked x L t (inr k) some = ap (λ (M : Links). boot_in M.boot t) k.1 ∙ (linked t (λ z. some (ap (λ (M : Links). boot_in M.boot t) k.1 ∙ z)) ∙ ap (λ (y : ℕ). boot_in (links_of first y).boot t) (sym k.0))
 
-    by_sized : (x : ℕ) (L : Links) (t : ℕ) → With R s P x L → 17 ≤ t → boot_in L.boot t ≡ 0
+    by_sized : (x : ℕ) (L : Links) (t : ℕ) → With R s P x L → sites_max < t → boot_in L.boot t ≡ 0
     by_sized x L t (inl r) high = h.sized x L t r high
     by_sized x L t (inr k) high = ap (λ (M : Links). boot_in M.boot t) k.1 ∙ sized t high
 
     by_itself : (x : ℕ) (L : Links) → With R s P x L → boot_in (links_of first x).boot x ≢ 0
     by_itself x L (inl r) = h.itself x L r
-    by_itself x L (inr k) = λ z. some_reach (boot_in (links_of first s).boot s) own (ap (λ (y : ℕ). boot_in (links_of first y).boot y) (sym k.0) ∙ z)
+    by_itself x L (inr k) = λ z. not_zero (boot_in (links_of first s).boot s) own (ap (λ (y : ℕ). boot_in (links_of first y).boot y) (sym k.0) ∙ z)
 
     -- whom one asks it reaches
     asks : (x : ℕ) (L : Links) (t : ℕ) → With R s P x L → boot_in L.boot t ≢ 0 → reaches first x t ≡ true
-    asks x L t r some = reach_some (boot_in (links_of first x).boot t) (λ z. some (by_linked x L t r some ∙ z))
+    asks x L t r some = not_zero_test (boot_in (links_of first x).boot t) (λ z. some (by_linked x L t r some ∙ z))
 
     self_of : (x : ℕ) (L : Links) → With R s P x L → reaches first x x ≡ true
-    self_of x L r = reach_some (boot_in (links_of first x).boot x) (by_itself x L r)
+    self_of x L r = not_zero_test (boot_in (links_of first x).boot x) (by_itself x L r)
 
     by_others : (x : ℕ) (L : Links) (y : ℕ) (M : Links) → With R s P x L → With R s P y M → boot_in M.boot x ≡ 0
     by_others x L y M (inl r) (inl q) = h.others x L y M r q
@@ -121,10 +117,10 @@ with_apart first R s P h d own self linked sized = record {
 
 -- it doesn't ask itself
 pub merge_others : (s : ℕ) (links : Links) → boot_in (boots_where (merge_boot s links)).boot s ≡ 0
-merge_others s links = boots_without (merge_boot s links) s (subst (λ (b : Bool). cond b 0 (boot_in links.boot s) ≡ 0) (sym (same_test s)) refl)
+merge_others s links = boots_without (merge_boot s links) s (subst (λ (b : Bool). cond b 0 (boot_in links.boot s) ≡ 0) (sym (equal_self s)) refl)
 
 pub part_others : (s : ℕ) (links : Links) (m : Members) → boot_in (boots_where (part_boot s links m)).boot s ≡ 0
-part_others s links m = boots_without (part_boot s links m) s (subst (λ (b : Bool). cond (b || not (boot_in links.boot s == boot_in m.boot s)) 0 (boot_in m.boot s) ≡ 0) (sym (same_test s)) refl)
+part_others s links m = boots_without (part_boot s links m) s (subst (λ (b : Bool). cond (b || not (boot_in links.boot s == boot_in m.boot s)) 0 (boot_in m.boot s) ≡ 0) (sym (equal_self s)) refl)
 
 cond_or : (b : Bool) (n : ℕ) → (cond b 0 n ≡ n) ⊎ (cond b 0 n ≡ 0)
 cond_or true n = inr refl

@@ -13,7 +13,7 @@ use Rattle.role_steps.specs.declared.rounds.Round.{Round}
 use Rattle.the_run.specs.Steps.{step}
 use Rattle.the_run.specs.Worlds.{World, Running, place_at, links_of}
 use Rattle.the_run.proofs.Boots.{at_each, every_weaker}
-use Rattle.run_laws.proofs.Run.{found_among}
+use Rattle.epoch_laws.proofs.of_run_laws.Run.{found_among}
 use Rattle.orderly_laws.specs.Effects.{IsAnswer}
 use Rattle.orderly_laws.specs.Settling.{IsPollBody, IsInstallBody, Carried, Holds, Covered, IsTrue, OpenBody, OpenFact, Undecided, Follows, DecidedBody, DecidedFact, Decided, RowState}
 use Rattle.orderly_laws.specs.Turn.{Turn}

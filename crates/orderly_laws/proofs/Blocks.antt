@@ -1,7 +1,8 @@
 -- A block of lines by which sites start, and the round after it.
-use Rattle.std.proofs.Common.{◌≡◌, ◌≢◌, ℕ, ◌+◌, ◌≤◌, ◌==◌, ◌⊎◌, Bool, true, false, not, List, [], ◌∷◌, length, map, Option, Some, None, refl, sym, ◌∙◌, ap, subst, inl, inr}
+use Rattle.std.proofs.Common.{◌≡◌, ◌≢◌, ℕ, ◌+◌, ◌≤◌, ◌==◌, ◌⊎◌, Bool, true, false, not, List, [], ◌∷◌, length, map, Option, Some, None, refl, sym, ◌∙◌, ap, subst, inl, inr, ◌<◌}
 use Rattle.locus_ids.specs.declared.sites.Links.{Links}
 use Rattle.locus_ids.specs.declared.config.Config.{Config}
+use Rattle.locus_ids.specs.Sizes.{sites_max}
 use Rattle.schedule_lines.specs.declared.line.Line.TheVariants as line
 use Rattle.schedule_lines.specs.declared.line.ScheduleLine.{ScheduleLine}
 use Rattle.schedule_lines.specs.declared.line.ScheduleLine.TheVariants.{Passed, Header, Event as EventLine}
@@ -10,6 +11,7 @@ use Rattle.wire_messages.specs.declared.body.Body.{Body}
 use Rattle.wire_messages.specs.declared.body.Body.TheVariants as body
 use Rattle.trace_book.specs.declared.record.Record.TheVariants as says
 use Rattle.std.specs.Option.{is_some}
+use Rattle.role_steps.proofs.of_plain_facts.Options.{none_some}
 use Rattle.role_steps.specs.Tables.{row}
 use Rattle.role_steps.specs.Views.{SiteView, DiskWrite, Outcome, Event, Receives, Ticks, Parts, Merges, GivesUp, Shown, boot_in}
 use Rattle.role_steps.specs.Epochs.{boots_where, merge_boot, part_boot}
@@ -23,7 +25,6 @@ use Rattle.the_run.proofs.Events.{acts_keeps, puts_other, puts_same}
 use Rattle.the_run.proofs.Runs.{every_run}
 use Rattle.epoch_laws.specs.Known.{Places, Good}
 use Rattle.epoch_laws.proofs.Boots.{boot_nowhere}
-use Rattle.epoch_laws.proofs.Handlers.{none_is}
 use Rattle.epoch_laws.proofs.Run.{good_kept, run_good}
 use Rattle.orderly_laws.specs.Agreeing.{Agrees}
 use Rattle.orderly_laws.specs.Blocks.{asked_by_merge, asked_inside, asked_at, asked_by_part, StartsBy, IsInBlock, IsBlock, starts_of, StandApart, AreLinesApart, BlocksAgree, StartsNobody, QuietLasts}
@@ -100,7 +101,7 @@ no_give_p e = cc
 
 -- an event by which a site starts
 event_in : (c : Config) (n : ℕ) (first w : World) (R : Starts) (s : ℕ) (v : SiteView) (e : Event) (P : Links) → place_at w s ≡ Some (Running v) → IsOwn e → ((p : Packet) → e ≡ Receives p → ⊥) → (e ≡ GivesUp → ⊥) → ((l : Links) → (step c s l v e).written ≡ None) → Begun s (links_of first s) v P (step c s (links_of first s) v e) →
-    StandApart first R (λ X L. (X ≡ s) × (L ≡ P)) → reaches first s s ≡ true → boot_in P.boot s ≡ 0 → ((t : ℕ) → boot_in P.boot t ≢ 0 → boot_in P.boot t ≡ boot_in (links_of first s).boot t) → ((t : ℕ) → 17 ≤ t → boot_in P.boot t ≡ 0) →
+    StandApart first R (λ X L. (X ≡ s) × (L ≡ P)) → reaches first s s ≡ true → boot_in P.boot s ≡ 0 → ((t : ℕ) → boot_in P.boot t ≢ 0 → boot_in P.boot t ≡ boot_in (links_of first s).boot t) → ((t : ℕ) → sites_max < t → boot_in P.boot t ≡ 0) →
     InBlock first w R → (acts n s v (step c s (links_of w s) v e) w).over ≡ None → InBlock first (acts n s v (step c s (links_of w s) v e) w) (With R s P)
 event_in c n first w R s v e P here own comes given unwritten begun d itself self linked sized h within =
     subst (λ (l : Links). (acts n s v (step c s l v e) w).over ≡ None → Good (acts n s v (step c s l v e) w) → NumbersAscend (acts n s v (step c s l v e) w) → InBlock first (acts n s v (step c s l v e) w) (With R s P)) (sym links) whole within
@@ -261,7 +262,7 @@ before_block first good ascend q = record {
     circuits = refl;
     sent = every_weaker (DeadPoll (place_at first)) (PollOk first NoStarts (place_at first)) first.sent (λ x k. dead_ok first NoStarts (place_at first) x.packet x.packet.body k) q.sent;
     underway = every_weaker (DeadPoll (place_at first)) (PollOk first NoStarts (place_at first)) first.underway (λ x k. dead_ok first NoStarts (place_at first) x.packet x.packet.body k) q.underway;
-    rounds = λ s v r here round. absurd (none_is r (sym (q.rounds s v here) ∙ round));
+    rounds = λ s v r here round. absurd (none_some r (sym (q.rounds s v here) ∙ round));
     rows = λ s P k. absurd k;
   };
   apart = record { linked = λ s P t k. absurd k; sized = λ s P t k. absurd k; itself = λ s P k. absurd k; others = λ s P t L k. absurd k; apart = λ s P t L x k. absurd k; one = λ s P L k. absurd k };
@@ -302,7 +303,7 @@ blocks_agree c before block most quiet is apart whole = block_agrees c (1 + leng
 -- ---- quiet lasts ----
 
 first_rounds : (c : Config) (ss : List ℕ) (s : ℕ) (v : SiteView) → place_in (row place_site s (map (first_place c) ss)) ≡ Some (Running v) → v.round ≡ None
-first_rounds c [] s v e = absurd (none_is (Running v) e)
+first_rounds c [] s v e = absurd (none_some (Running v) e)
 first_rounds c (t ∷ ts) s v e =
     (elim (t == s) as (λ b. place_in (elim b [ true ↦ Some (first_place c t) | false ↦ row place_site s (map (first_place c) ts) ]) ≡ Some (Running v) → v.round ≡ None) [
       | true ↦ λ f. ap (λ (y : SiteView). y.round) (sym (view_eq (Some (Running (fresh 1 (formatted c t)))) (fresh 1 (formatted c t)) v refl f))

@@ -2,6 +2,8 @@
 use Rattle.std.proofs.Common.{◌≡◌, ◌≢◌, ℕ, zero, suc, ◌+◌, ◌-◌, ◌≤◌, ◌==◌, nat_lt, Bool, true, false, List, [], ◌∷◌, length, take, Option, Some, None, refl, sym, ◌∙◌, ap, subst, inl, inr, arith}
 use Rattle.std.proofs.lemmas.Bool.Decides.{nat_tests}
 use Rattle.std.specs.List.{list_any}
+use Rattle.role_steps.proofs.of_plain_facts.Numbers.{apart_test}
+use Rattle.role_steps.proofs.of_plain_facts.Tests.{true_false}
 use Rattle.locus_ids.specs.declared.ids.EpochId.{EpochId}
 use Rattle.locus_ids.specs.declared.config.Config.{Config}
 use Rattle.trace_book.specs.declared.record.Record.TheVariants as says
@@ -12,7 +14,7 @@ use Rattle.role_steps.specs.Own.{Every}
 use Rattle.role_steps.specs.Tables.{row, without_row}
 use Rattle.role_steps.specs.Views.{SiteView, Told, Shown, DiskWrite, Outcome, Event, Receives, Ticks, GivesUp, boot_in, all_sites}
 use Rattle.role_steps.specs.declared.rounds.InEpoch.{InEpoch}
-use Rattle.role_steps.proofs.Rows.{differ, row_other}
+use Rattle.role_steps.proofs.Rows.{row_other}
 use Rattle.role_steps.proofs.Sending.{every_append}
 use Rattle.the_run.specs.Disks.{Disk, Armed, write_calls, cut_disk}
 use Rattle.the_run.specs.Joins.{IsAtMost}
@@ -24,7 +26,7 @@ use Rattle.the_run.proofs.Boots.{at_each, every_numbered, every_weaker}
 use Rattle.the_run.proofs.Events.{happened_keeps, puts_other, puts_same}
 use Rattle.the_run.proofs.InsideSync.{every_without}
 use Rattle.the_run.proofs.Runs.{every_run}
-use Rattle.run_laws.proofs.Run.{found_among}
+use Rattle.epoch_laws.proofs.of_run_laws.Run.{found_among}
 use Rattle.epoch_laws.specs.Known.{Good}
 use Rattle.epoch_laws.proofs.Run.{running_view, stopped_never, place_there, good_kept, run_good}
 use Rattle.orderly_laws.specs.Calm.{IsInside, CallsNoneAway, StartsCalm, delivers_next, delivered, RoundsStayCalm}
@@ -127,9 +129,6 @@ EventCalm e s (Receives p) = boot_in e.members.boot s ≢ 0 → OnPoll (IsAtMost
 EventCalm e s GivesUp = ⊥
 EventCalm e s _ = Unit {0}
 
-true_false : true ≡ false → ⊥
-true_false q = cc
-
 -- a member stays in the epoch
 member_stays : (c : Config) (e : InEpoch) (w : World) (s : ℕ) (v : SiteView) (ev : Event) (u : SiteView) → Good w → place_at w s ≡ Some (Running v) → boot_in e.members.boot s ≢ 0 → v.epoch ≡ Some e → EventCalm e s ev → Change s v ev u → (u.epoch ≡ Some e) × (u.boot ≡ v.boot)
 member_stays c e w s v ev u good here m inside calm (inl k) = (k.epoch ∙ inside, k.boot)
@@ -183,11 +182,11 @@ calm_acts c n s ev v w e here own calm good h =
         none_some k = cc
 
     spent : (a : Armed) (left : ℕ) → script_of w s ≡ Some a → (t : ℕ) → boot_in e.members.boot t ≢ 0 → script_of (spends a left w) t ≡ None
-    spent a left is t m = row_other armed_site (record a { left = left }) t w.armed (differ a.site t (λ eq. absurd (no_member a is t m (sym (row_key armed_site s w.armed a is) ∙ eq)))) ∙ h.unarmed t m
+    spent a left is t m = row_other armed_site (record a { left = left }) t w.armed (apart_test a.site t (λ eq. absurd (no_member a is t m (sym (row_key armed_site s w.armed a is) ∙ eq)))) ∙ h.unarmed t m
 
     stopped : (d : DiskWrite) (a : Armed) → script_of w s ≡ Some a → StartsCalm (cut_event n s v d a w) e
     stopped d a is =
-        calm_happened n [] (cut_told s d a.how a.left) (stops_with s k) w e h (λ t m. others t m) refl rounds refl tt (λ t m. without_other armed_site s t w.armed (no_member a is t m) ∙ h.unarmed t m)
+        calm_happened n [] (cut_told s v.store d a.how a.left) (stops_with s k) w e h (λ t m. others t m) refl rounds refl tt (λ t m. without_other armed_site s t w.armed (no_member a is t m) ∙ h.unarmed t m)
       where
         k : Disk
         k = cut_disk v.boot v.store d a.how a.left

@@ -2,16 +2,20 @@
 use Rattle.std.proofs.Common.{◌≡◌, ◌≢◌, ℕ, ◌+◌, ◌-◌, ◌≤◌, ◌==◌, nat_lt, ◌⊎◌, Bool, true, false, cond, ◌&&◌, ◌||◌, not, List, [], ◌∷◌, length, map, filter, refl, sym, ◌∙◌, ap, subst, inl, inr, arith}
 use Rattle.std.proofs.lemmas.Bool.Decides.{nat_tests}
 use Rattle.std.proofs.lemmas.Nat.Bits.{bit_at-zero}
+use Rattle.role_steps.proofs.of_plain_facts.Numbers.{apart_test, equal, equal_self}
+use Rattle.role_steps.proofs.of_plain_facts.Tests.{and_first, false_unless, or_false, or_true}
 use Rattle.locus_ids.specs.Sites.{has, with_site, both}
 use Rattle.locus_ids.specs.declared.sites.Sites.{Sites}
 use Rattle.locus_ids.specs.declared.sites.Links.{Links}
 use Rattle.locus_ids.proofs.Sets.{has-with, has-both}
+use Rattle.locus_ids.specs.Sizes.{sites_max}
 use Rattle.lawful_trace.specs.Orderly.{narrowed}
 use Rattle.role_steps.specs.Own.{Every}
 use Rattle.role_steps.specs.Tables.{with_row}
 use Rattle.role_steps.specs.Views.{boot_in, all_sites}
 use Rattle.role_steps.specs.Epochs.{reached, promise_site, candidates, met_by, met_by_all}
 use Rattle.role_steps.specs.declared.rounds.Promise.{Promise}
+use Rattle.role_steps.proofs.Counted.{CountsFrom, sites_count}
 use Rattle.the_run.specs.Kept.{Among}
 use Rattle.the_run.proofs.Boots.{every_weaker}
 use Rattle.orderly_laws.proofs.Formed.{among_next}
@@ -19,36 +23,13 @@ use Rattle.orderly_laws.specs.Settling.{PromiseAbove, PromisesAscend}
 
 -- ---- tests ----
 
-same_yes : (a : ℕ) → (a == a) ≡ true
-same_yes a = grind (arith, nat_tests)
-
-pub differ : (a b : ℕ) → a ≢ b → (a == b) ≡ false
-differ a b ne = (elim (a == b) as (λ t. (a == b) ≡ t → t ≡ false) [
-  | true ↦ λ e. absurd (ne (equal a b e))
-  | false ↦ λ e. refl
-]) refl
-  where
-    equal : (a b : ℕ) → (a == b) ≡ true → a ≡ b
-    equal a b e = grind (arith, nat_tests)
-
-pub test_equal : (a b : ℕ) → (a == b) ≡ true → a ≡ b
-test_equal a b e = grind (arith, nat_tests)
-
-or_false : (b : Bool) → (b || false) ≡ b
-or_false true = refl
-or_false false = refl
-
-or_true : (b : Bool) → (b || true) ≡ true
-or_true true = refl
-or_true false = refl
-
 pub and_true_right : (b : Bool) → (b && true) ≡ b
 and_true_right true = refl
 and_true_right false = refl
 
 pub at_least : (n s : ℕ) → n ≤ s → (n ≡ s) ⊎ (n + 1 ≤ s)
 at_least n s h = (elim (n == s) as (λ b. (n == s) ≡ b → (n ≡ s) ⊎ (n + 1 ≤ s)) [
-  | true ↦ λ e. inl (test_equal n s e)
+  | true ↦ λ e. inl (equal n s e)
   | false ↦ λ e. inr (above n s h e)
 ]) refl
   where
@@ -56,13 +37,6 @@ at_least n s h = (elim (n == s) as (λ b. (n == s) ≡ b → (n ≡ s) ⊎ (n + 
     above n s h e = grind (arith, nat_tests)
 
 -- ---- lists that count ----
-
-abbrev pub CountsFrom : ℕ → List ℕ → Type 0
-CountsFrom n [] = Unit {0}
-CountsFrom n (x ∷ xs) = (x ≡ n) × CountsFrom (n + 1) xs
-
-pub sixteen : CountsFrom 1 all_sites
-sixteen = (refl, (refl, (refl, (refl, (refl, (refl, (refl, (refl, (refl, (refl, (refl, (refl, (refl, (refl, (refl, (refl, tt))))))))))))))))
 
 pub counted_among : (n : ℕ) (xs : List ℕ) → CountsFrom n xs → (s : ℕ) → n ≤ s → s + 1 ≤ n + length xs → Among s xs
 counted_among n [] h s low high = absurd (omega (arith, low, high))
@@ -88,7 +62,7 @@ reach_below links n (x ∷ xs) h s low high =
     let e : x ≡ n = h.0 in
     elim (boot_in links.boot x == 0) as (λ b. has (cond b (reach_among links xs) (with_site (reach_among links xs) x)) s ≡ false) [
       | true ↦ rest
-      | false ↦ has-with (reach_among links xs) x s (omega (arith, low, high, e)) low ∙ (ap (λ (b : Bool). b || (s == x)) rest ∙ differ s x (λ f. absurd (omega (arith, f, high, e))))
+      | false ↦ has-with (reach_among links xs) x s (omega (arith, low, high, e)) low ∙ (ap (λ (b : Bool). b || (s == x)) rest ∙ apart_test s x (λ f. absurd (omega (arith, f, high, e))))
     ]
 
 reach_is : (links : Links) (n : ℕ) (xs : List ℕ) → CountsFrom n xs → 1 ≤ n → (s : ℕ) → n ≤ s → s + 1 ≤ n + length xs → has (reach_among links xs) s ≡ not (boot_in links.boot s == 0)
@@ -105,17 +79,17 @@ reach_is links n (x ∷ xs) h one s low high = by_case (λ le. reach_is links (n
         subst (λ (y : ℕ). has (cond (boot_in links.boot y == 0) (reach_among links xs) (with_site (reach_among links xs) y)) s ≡ not (boot_in links.boot s == 0)) (sym same)
         (elim (boot_in links.boot s == 0) as (λ b. has (cond b (reach_among links xs) (with_site (reach_among links xs) s)) s ≡ not b) [
           | true ↦ rest
-          | false ↦ has-with (reach_among links xs) s s (omega (arith, one, e)) (omega (arith, one, e)) ∙ (ap (λ (b : Bool). has (reach_among links xs) s || b) (same_yes s) ∙ or_true (has (reach_among links xs) s))
+          | false ↦ has-with (reach_among links xs) s s (omega (arith, one, e)) (omega (arith, one, e)) ∙ (ap (λ (b : Bool). has (reach_among links xs) s || b) (equal_self s) ∙ or_true (has (reach_among links xs) s))
         ])
     by_case f (inr le) =
         elim (boot_in links.boot x == 0) as (λ b. has (cond b (reach_among links xs) (with_site (reach_among links xs) x)) s ≡ not (boot_in links.boot s == 0)) [
           | true ↦ f le
-          | false ↦ has-with (reach_among links xs) x s (omega (arith, one, first)) (omega (arith, one, low)) ∙ (ap (λ (b : Bool). has (reach_among links xs) s || b) (differ s x (λ e. absurd (omega (arith, e, le, first)))) ∙ (or_false (has (reach_among links xs) s) ∙ f le))
+          | false ↦ has-with (reach_among links xs) x s (omega (arith, one, first)) (omega (arith, one, low)) ∙ (ap (λ (b : Bool). has (reach_among links xs) s || b) (apart_test s x (λ e. absurd (omega (arith, e, le, first)))) ∙ (or_false (has (reach_among links xs) s) ∙ f le))
         ]
 
 -- of sites 1 to 16 those are in it that are connected
-pub has_reached : (links : Links) (s : ℕ) → 1 ≤ s → s ≤ 16 → has (reached links) s ≡ not (boot_in links.boot s == 0)
-has_reached links s low high = reach_is links 1 all_sites sixteen (omega arith) s low (omega (arith, high))
+pub has_reached : (links : Links) (s : ℕ) → 1 ≤ s → s ≤ sites_max → has (reached links) s ≡ not (boot_in links.boot s == 0)
+has_reached links s low high = reach_is links 1 all_sites sites_count (omega arith) s low (omega (arith, high))
 
 -- ---- candidates ----
 
@@ -150,11 +124,11 @@ has_candidate me (p ∷ ps) one h s low =
 
 -- each promise of the list tells what its site reaches
 abbrev pub Tells : (ℕ → ℕ → Bool) → Promise → Type 0
-Tells reach p = (p.site ≤ 16) × ((s : ℕ) → 1 ≤ s → s ≤ 16 → has p.reach s ≡ reach p.site s)
+Tells reach p = (p.site ≤ sites_max) × ((s : ℕ) → 1 ≤ s → s ≤ sites_max → has p.reach s ≡ reach p.site s)
 
 -- a site that is in the set and not below has promised
 abbrev HavePromised : ℕ → (ℕ → Bool) → List Promise → Type 0
-HavePromised n set ps = (s : ℕ) → n ≤ s → s ≤ 16 → set s ≡ true → Among s (map promise_site ps)
+HavePromised n set ps = (s : ℕ) → n ≤ s → s ≤ sites_max → set s ≡ true → Among s (map promise_site ps)
 
 abbrev pub FromOn : ℕ → Promise → Type 0
 FromOn n p = n ≤ p.site
@@ -162,10 +136,6 @@ FromOn n p = n ≤ p.site
 skip : (a b : Bool) → a ≡ (a && (not false || b))
 skip true b = refl
 skip false b = refl
-
-false_case : (b : Bool) → (b ≡ true → ⊥) → b ≡ false
-false_case true h = absurd (h refl)
-false_case false h = refl
 
 site_among : (s : ℕ) (ps : List Promise) (n : ℕ) → Every (FromOn n) ps → Among s (map promise_site ps) → n ≤ s
 site_among s [] n h a = absurd a
@@ -175,33 +145,29 @@ site_among s (p ∷ ps) n h (inr a) = site_among s ps n h.1 a
 up_from : (n : ℕ) (ps : List Promise) → Every (PromiseAbove n) ps → Every (FromOn (n + 1)) ps
 up_from n ps h = every_weaker (PromiseAbove n) (FromOn (n + 1)) ps (λ p k. k) h
 
-and_left : (a b : Bool) → (a && b) ≡ true → a ≡ true
-and_left true b h = refl
-and_left false b h = absurd (cc)
-
-pub met_is : (reach : ℕ → ℕ → Bool) (n : ℕ) (xs : List ℕ) → CountsFrom n xs → 1 ≤ n → n + length xs ≡ 17 → (set : Sites) (f : ℕ → Bool) (ps : List Promise) → PromisesAscend ps → Every (FromOn n) ps → Every (Tells reach) ps → HavePromised n f ps →
-    ((s : ℕ) → 1 ≤ s → s ≤ 16 → has set s ≡ f s) → (s : ℕ) → 1 ≤ s → s ≤ 16 → has (met_by_all set ps) s ≡ narrowed reach f xs s
+pub met_is : (reach : ℕ → ℕ → Bool) (n : ℕ) (xs : List ℕ) → CountsFrom n xs → 1 ≤ n → n + length xs ≡ sites_max + 1 → (set : Sites) (f : ℕ → Bool) (ps : List Promise) → PromisesAscend ps → Every (FromOn n) ps → Every (Tells reach) ps → HavePromised n f ps →
+    ((s : ℕ) → 1 ≤ s → s ≤ sites_max → has set s ≡ f s) → (s : ℕ) → 1 ≤ s → s ≤ sites_max → has (met_by_all set ps) s ≡ narrowed reach f xs s
 met_is reach n [] h one end set f [] up low t q same s a b = same s a b
 met_is reach n [] h one end set f (p ∷ ps) up low t q same s a b = absurd (no_more p.site low.0 t.0.0)
   where
-    no_more : (x : ℕ) → n ≤ x → x ≤ 16 → ⊥
+    no_more : (x : ℕ) → n ≤ x → x ≤ sites_max → ⊥
     no_more x le u = omega (arith, le, u, end)
 met_is reach n (x ∷ xs) h one end set f [] up low t q same s a b =
     met_is reach (n + 1) xs h.1 (omega arith) (omega (arith, end)) set (λ y. f y && (not (f x) || reach x y)) [] tt tt tt
-    (λ y le hi g. q y (omega (arith, le)) hi (and_left (f y) _ g))
+    (λ y le hi g. q y (omega (arith, le)) hi (and_first (f y) _ g))
     (λ y c d. same y c d ∙ passed y) s a b
   where
     out : f x ≡ false
-    out = false_case (f x) (λ g. q x (let e : x ≡ n = h.0 in omega (arith, e)) (let e : x ≡ n = h.0 in omega (arith, e, end)) g)
+    out = false_unless (f x) (λ g. q x (let e : x ≡ n = h.0 in omega (arith, e)) (let e : x ≡ n = h.0 in omega (arith, e, end)) g)
 
     passed : (y : ℕ) → f y ≡ (f y && (not (f x) || reach x y))
     passed y = skip (f y) (reach x y) ∙ ap (λ (c : Bool). f y && (not c || reach x y)) (sym out)
 met_is reach n (x ∷ xs) h one end set f (p ∷ ps) up low t q same s a b =
     by_case (at_least n p.site low.0)
     (λ e. met_is reach (n + 1) xs h.1 (omega arith) (omega (arith, end)) (met_by set p) (λ y. f y && (not (f x) || reach x y)) ps up.1 (subst (λ (k : ℕ). Every (FromOn (k + 1)) ps) (sym e) (up_from p.site ps up.0)) t.1
-    (λ y le hi g. later e y le (q y (omega (arith, le)) hi (and_left (f y) _ g))) (met e) s a b)
+    (λ y le hi g. later e y le (q y (omega (arith, le)) hi (and_first (f y) _ g))) (met e) s a b)
     (λ le. met_is reach (n + 1) xs h.1 (omega arith) (omega (arith, end)) set (λ y. f y && (not (f x) || reach x y)) (p ∷ ps) up (le, above le ps up.0) t
-    (λ y k hi g. q y (omega (arith, k)) hi (and_left (f y) _ g)) (λ y c d. same y c d ∙ passed le y) s a b)
+    (λ y k hi g. q y (omega (arith, k)) hi (and_first (f y) _ g)) (λ y c d. same y c d ∙ passed le y) s a b)
   where
     by_case : (n ≡ p.site) ⊎ (n + 1 ≤ p.site) → (n ≡ p.site → has (met_by_all (met_by set p) ps) s ≡ narrowed reach (λ y. f y && (not (f x) || reach x y)) xs s) → (n + 1 ≤ p.site → has (met_by_all set (p ∷ ps)) s ≡ narrowed reach (λ y. f y && (not (f x) || reach x y)) xs s) → has (met_by_all set (p ∷ ps)) s ≡ narrowed reach f (x ∷ xs) s
     by_case (inl e) g k = g e
@@ -214,7 +180,7 @@ met_is reach n (x ∷ xs) h one end set f (p ∷ ps) up low t q same s a b =
     later e y le (inl k) = absurd (omega (arith, le, k, e))
     later e y le (inr k) = k
 
-    met : n ≡ p.site → (y : ℕ) → 1 ≤ y → y ≤ 16 → has (met_by set p) y ≡ (f y && (not (f x) || reach x y))
+    met : n ≡ p.site → (y : ℕ) → 1 ≤ y → y ≤ sites_max → has (met_by set p) y ≡ (f y && (not (f x) || reach x y))
     met e y c d =
         let is_x : x ≡ p.site = first ∙ e in
         let mine : has set p.site ≡ f x = same p.site (omega (arith, one, e)) (omega (arith, e, end)) ∙ ap f (sym is_x) in
@@ -231,7 +197,7 @@ met_is reach n (x ∷ xs) h one end set f (p ∷ ps) up low t q same s a b =
     none le k = absurd (let c : n + 1 ≤ x = site_among x (p ∷ ps) (n + 1) (le, above le ps up.0) k in omega (arith, c, first))
 
     passed : n + 1 ≤ p.site → (y : ℕ) → f y ≡ (f y && (not (f x) || reach x y))
-    passed le y = skip (f y) (reach x y) ∙ ap (λ (c : Bool). f y && (not c || reach x y)) (sym (false_case (f x) (λ g. none le (q x (omega (arith, first)) (omega (arith, first, end)) g))))
+    passed le y = skip (f y) (reach x y) ∙ ap (λ (c : Bool). f y && (not c || reach x y)) (sym (false_unless (f x) (λ g. none le (q x (omega (arith, first)) (omega (arith, first, end)) g))))
 
 -- ---- promises in order ----
 
@@ -258,7 +224,7 @@ row_ascends p (q ∷ qs) h =
     (elim (nat_lt q.site p.site) as (λ b. nat_lt q.site p.site ≡ b → PromisesAscend (elim b [ true ↦ q ∷ with_row promise_site p qs | false ↦ elim (promise_site q == promise_site p) [ true ↦ p ∷ qs | false ↦ p ∷ q ∷ qs ] ])) [
       | true ↦ λ e. (every_row (PromiseAbove q.site) p qs (less_up q.site p.site e) h.0, row_ascends p qs h.1)
       | false ↦ λ e. (elim (q.site == p.site) as (λ b. (q.site == p.site) ≡ b → PromisesAscend (elim b [ true ↦ p ∷ qs | false ↦ p ∷ q ∷ qs ])) [
-        | true ↦ λ f. (subst (λ (k : ℕ). Every (PromiseAbove k) qs) (test_equal q.site p.site f) h.0, h.1)
+        | true ↦ λ f. (subst (λ (k : ℕ). Every (PromiseAbove k) qs) (equal q.site p.site f) h.0, h.1)
         | false ↦ λ f. ((not_less q.site p.site e f, every_weaker (PromiseAbove q.site) (PromiseAbove p.site) qs (λ r k. (let le : p.site + 1 ≤ q.site = not_less q.site p.site e f in omega (arith, k, le))) h.0), h)
       ]) refl
     ]) refl
@@ -284,7 +250,7 @@ row_keeps p r (q ∷ qs) a ne =
     ]
   where
     replaced : (q.site == p.site) ≡ true → Among r (q ∷ qs) → Among r (p ∷ qs)
-    replaced e (inl k) = absurd (ne (ap (λ (y : Promise). y.site) k ∙ test_equal q.site p.site e))
+    replaced e (inl k) = absurd (ne (ap (λ (y : Promise). y.site) k ∙ equal q.site p.site e))
     replaced e (inr k) = inr k
 
 pub filter_every : {A : Type 0} (P : A → Type 0) (test : A → Bool) (xs : List A) → Every P xs → Every P (filter test xs)

@@ -11,7 +11,7 @@ use Rattle.role_steps.specs.declared.rounds.InEpoch.{InEpoch}
 use Rattle.the_run.specs.Steps.{step}
 use Rattle.the_run.specs.Worlds.{World, place_at, links_of}
 use Rattle.the_run.proofs.Boots.{at_each, every_weaker}
-use Rattle.run_laws.proofs.Run.{found_among}
+use Rattle.epoch_laws.proofs.of_run_laws.Run.{found_among}
 use Rattle.epoch_laws.specs.Known.{Good}
 use Rattle.orderly_laws.specs.Effects.{Promised, Change, SentCase, Sent, Roundless}
 use Rattle.orderly_laws.specs.Quiet.{IsDead, OnPoll}

@@ -1,6 +1,8 @@
 -- What each event does at a site without a round.
 use Rattle.std.proofs.Common.{◌≡◌, ℕ, Bool, true, false, cond, ◌==◌, ◌&&◌, ◌||◌, not, List, [], ◌+◌, Option, Some, None, refl, sym, ◌∙◌, ap, subst, inl, inr, arith}
 use Rattle.std.proofs.lemmas.Bool.Decides.{nat_tests}
+use Rattle.role_steps.proofs.of_plain_facts.Numbers.{equal as test_same}
+use Rattle.role_steps.proofs.of_plain_facts.Tests.{both_true, not_false, not_true}
 use Rattle.locus_ids.specs.declared.ids.EpochId.{EpochId}
 use Rattle.locus_ids.specs.declared.sites.Sites.{Sites}
 use Rattle.locus_ids.specs.declared.sites.Members.{Members}
@@ -21,13 +23,10 @@ use Rattle.role_steps.proofs.Sending.{every_append, every_cond, every_map, every
 use Rattle.the_run.specs.Kept.{Among}
 use Rattle.the_run.specs.Steps.{is_forming, is_framed, is_dropped, takes_framed, takes, tries_at, adopts_in, whole, call_frame, epoch_id, takes_call, step}
 use Rattle.the_run.proofs.Boots.{every_weaker}
-use Rattle.run_laws.proofs.InsideSteps.{quiet_inner, framed_inner, tries_inner, call_inner}
+use Rattle.epoch_laws.proofs.of_run_laws.InsideSteps.{quiet_inner, framed_inner, tries_inner, call_inner}
 use Rattle.epoch_laws.specs.Forming.{FormsNone, Formless, TableFormless, FormlessSite}
-use Rattle.epoch_laws.proofs.SyncForms.{sync_formless}
-use Rattle.epoch_laws.proofs.RolesForm.{on_call_forms}
-use Rattle.epoch_laws.proofs.SitesForm.{formless_quiet, tries_formless, framed_formless}
-use Rattle.epoch_laws.proofs.Boots.{test_same}
-use Rattle.epoch_laws.proofs.Handlers.{both_true, not_true, same_epoch_eq, leaves_of_epoch}
+use Rattle.epoch_laws.proofs.Forms.{sync_formless, on_call_forms, formless_quiet, tries_formless, framed_formless}
+use Rattle.epoch_laws.proofs.Handlers.{same_epoch_eq, leaves_of_epoch}
 use Rattle.orderly_laws.specs.Effects.{SameCore, Change, SentCase, Sent, Roundless, Answers}
 use Rattle.orderly_laws.proofs.Formed.{among_right, same_core, core_then, inner_core, Formed, whole_formed, forming_repeats, ticks_formed}
 
@@ -106,14 +105,6 @@ AnsweredBy s v p o = AnsweredIn s v p o.sent
 leaves_of_boot : (me : ℕ) (e : Option InEpoch) (v : SiteView) → (leaves_of me e v).view.boot ≡ v.boot
 leaves_of_boot me None v = refl
 leaves_of_boot me (Some e) v = refl
-
-leaves_of_round : (me : ℕ) (e : Option InEpoch) (v : SiteView) → (leaves_of me e v).view.round ≡ v.round
-leaves_of_round me None v = refl
-leaves_of_round me (Some e) v = refl
-
-leaves_of_installed : (me : ℕ) (e : Option InEpoch) (v : SiteView) → (leaves_of me e v).view.installed ≡ v.installed
-leaves_of_installed me None v = refl
-leaves_of_installed me (Some e) v = refl
 
 pub leaves_of_silent : (N : Packet → Type 0) (me : ℕ) (e : Option InEpoch) (v : SiteView) → Every N (leaves_of me e v).sent
 leaves_of_silent N me None v = tt
@@ -248,10 +239,6 @@ installs_sent s links v u e None here same none = subst (λ (r : Option Round). 
 installs_sent s links v u e (Some x) here same none =
     every_append (Sent s links v e u) (poll_repeats s u u.round) (install_repeats s u x) (subst (λ (r : Option Round). Every (Sent s links v e u) (poll_repeats s u r)) (sym none) tt)
     (every_map (Sent s links v e u) (install_packet s u.boot x.id x.members) u.installs (λ t. record { epoch = x; inside = same ∙ here; id = refl; same = refl }))
-
-not_false : (b : Bool) → not b ≡ false → b ≡ true
-not_false true h = refl
-not_false false h = absurd (cc)
 
 -- a packet that isn't dropped is to this boot
 pub boot_taken : (p : Packet) (v : SiteView) → is_dropped p v ≡ false → p.to_boot ≡ v.boot

@@ -13,12 +13,12 @@ use Rattle.the_run.proofs.Boots.{every_weaker}
 use Rattle.the_run.proofs.StepSends.{order_sent}
 use Rattle.the_run.specs.Kept.{Among}
 use Rattle.the_run.specs.Steps.{is_before, in_order, adopts_in, starts_mends_of, ends_event, whole, repeats_inside, repeats_of, repeats, ticks_after}
-use Rattle.run_laws.specs.Naming.{Inner}
-use Rattle.run_laws.proofs.InsideSteps.{adopts_of_inner, mends_of_inner}
+use Rattle.epoch_laws.specs.of_run_laws.Naming.{Inner}
+use Rattle.epoch_laws.proofs.of_run_laws.InsideSteps.{adopts_of_inner, mends_of_inner}
 use Rattle.epoch_laws.specs.Forming.{Formless, TableFormless, FormlessSite}
 use Rattle.orderly_laws.specs.Effects.{SameCore}
-use Rattle.epoch_laws.proofs.SitesForm.{adopts_of_formless, mends_of_formless}
-use Rattle.epoch_laws.proofs.Steps.{inside_formless, passed_tables}
+use Rattle.epoch_laws.proofs.Forms.{adopts_of_formless, mends_of_formless, inside_formless}
+use Rattle.epoch_laws.proofs.Steps.{passed_tables}
 
 -- ---- elements of lists ----
 

@@ -18,3 +18,4 @@ pub mod ApartStarts
 pub mod Blocks
 pub mod Counts
 pub mod CalmRounds
+pub use Rattle.epoch_laws.proofs as of_epoch_laws

@@ -1,10 +1,13 @@
 -- What one event of a round leaves at a site that starts and hasn't decided yet, where it has the event itself.
 use Rattle.std.proofs.Common.{◌≡◌, ◌≢◌, ℕ, ◌+◌, ◌≤◌, ◌==◌, ◌⊎◌, Bool, true, false, cond, ◌||◌, not, List, Some, refl, sym, ◌∙◌, ap, subst, inl, inr, arith}
 use Rattle.std.proofs.lemmas.Bool.Decides.{nat_tests}
+use Rattle.role_steps.proofs.of_plain_facts.Numbers.{not_zero_test}
+use Rattle.role_steps.proofs.of_plain_facts.Options.{none_some, some_same}
 use Rattle.locus_ids.specs.declared.ids.EpochId.{EpochId}
 use Rattle.locus_ids.specs.declared.sites.Members.{Members}
 use Rattle.locus_ids.specs.declared.sites.Links.{Links}
 use Rattle.locus_ids.specs.declared.config.Config.{Config}
+use Rattle.locus_ids.specs.Sizes.{sites_max}
 use Rattle.wire_messages.specs.declared.packet.Packet.{Packet}
 use Rattle.wire_messages.specs.declared.body.Body.{Body}
 use Rattle.wire_messages.specs.declared.body.Body.TheVariants as body
@@ -19,14 +22,13 @@ use Rattle.the_run.specs.Kept.{Among}
 use Rattle.the_run.specs.Steps.{step}
 use Rattle.the_run.specs.Worlds.{World, Running, Numbered, place_at, links_of, numbered_from}
 use Rattle.the_run.proofs.Boots.{at_each, every_weaker}
-use Rattle.run_laws.proofs.Run.{found_among}
+use Rattle.epoch_laws.proofs.of_run_laws.Run.{found_among}
 use Rattle.epoch_laws.specs.Known.{boots_on, IsKnown, FormFact, NumberedFact, IsOwnRound, Good}
-use Rattle.epoch_laws.proofs.Handlers.{some_is, none_is}
 use Rattle.orderly_laws.specs.Effects.{IsAnswer}
 use Rattle.orderly_laws.specs.Rounded.{RoundStays, RoundTakes, RoundRestarts, RoundMoves, GoesOn, members_of, Decides, RoundSentCase, RoundSent, Rounded}
 use Rattle.orderly_laws.specs.Settling.{Starts, boot_at, is_chosen, AreApart, IsPollBody, IsInstallBody, Carried, Holds, Taken, Covered, IsTrue, OpenBody, OpenFact, PromisesAscend, Undecided, Follows, DecidedBody, DecidedFact, asked_boot, RowState, Settling}
 use Rattle.orderly_laws.specs.Turn.{Comes, Turn}
-use Rattle.orderly_laws.proofs.Choosing.{not_zero, site_low, site_high, among_sites, all_taken, every_at, chooses, none_passed}
+use Rattle.orderly_laws.proofs.Choosing.{site_low, site_high, among_sites, all_taken, every_at, chooses, none_passed}
 use Rattle.orderly_laws.proofs.Chosen.{row_every, row_ascends, row_here, row_keeps, filter_every, filter_ascends}
 use Rattle.orderly_laws.proofs.Formed.{among_right}
 use Rattle.orderly_laws.proofs.Places.{view_eq, boot_here}
@@ -181,7 +183,7 @@ mid_of c first w u R s v e apart good t P r q start h moves = by_moves moves
 
         carried : (y : ℕ) → boot_in P.boot y ≢ 0 → Carried u.underway id s v.boot y (boot_in P.boot y) IsPollBody
         carried y some =
-            let p : Among y (polled_sites r.polled) = among_filter (λ z. not (boot_in r.polled.boot z == 0)) y all_sites (among_sites y (site_low P.boot y some) (site_high (boot_in P.boot y) y some (apart.sized s P y start))) (not_zero (boot_in r.polled.boot y) (λ z. some (sym (h.polled y) ∙ z))) in
+            let p : Among y (polled_sites r.polled) = among_filter (λ z. not (boot_in r.polled.boot z == 0)) y all_sites (among_sites y (site_low P.boot y some) (site_high (boot_in P.boot y) y some (apart.sized s P y start))) (not_zero_test (boot_in r.polled.boot y) (λ z. some (sym (h.polled y) ∙ z))) in
             let n : (y' : Numbered) × (Among y' (numbered_from t.count o.sent)) × (y'.packet ≡ poll_packet s v.boot id r.polled y) = among_numbered (poll_packet s v.boot id r.polled y) t.count o.sent (m.polls y p) in
             record {
               letter = n.0;
@@ -240,13 +242,13 @@ row_ends c first w u R s v e apart steady good t P q start m ends sent_all = by_
           ascend = ascend;
           packets = under_now c first w u s v e t (OpenFact first (place_at u) P q.id) (λ (p : Packet). p.epoch ≡ q.id → OpenBody first (place_at u) P q.id p p.body) m.packets (λ y k. k)
               (every_weaker (RoundSent s v q o.view) (λ (p : Packet). p.epoch ≡ q.id → OpenBody first (place_at u) P q.id p p.body) o.sent (λ p k i. opened p p.body k) sent_all);
-          nobody = λ y z f here inside i. at_each s y ⊥ (λ eq. none_is f (sym g.outside ∙ subst (λ (x : SiteView). x.epoch ≡ Some f) (view_eq (place_at u s) z o.view (ap (place_at u) eq ∙ here) t.now) inside)) (λ ne. m.nobody y z f ne here inside i);
+          nobody = λ y z f here inside i. at_each s y ⊥ (λ eq. none_some f (sym g.outside ∙ subst (λ (x : SiteView). x.epoch ≡ Some f) (view_eq (place_at u s) z o.view (ap (place_at u) eq ∙ here) t.now) inside)) (λ ne. m.nobody y z f ne here inside i);
         },
       );
     }
       where
         covers : (y : ℕ) → boot_in P.boot y ≢ 0 → Covered u.underway s v.boot P q y → Covered u.underway s v.boot P R' y
-        covers y some (inl k) = inl (record { promise = k.promise; there = among_filter (is_polled R'.polled) k.promise q.promises k.there (not_zero (boot_in R'.polled.boot k.promise.site) (λ z. some (sym (polled y) ∙ (sym (ap (boot_in R'.polled.boot) k.of) ∙ z)))); of = k.of })
+        covers y some (inl k) = inl (record { promise = k.promise; there = among_filter (is_polled R'.polled) k.promise q.promises k.there (not_zero_test (boot_in R'.polled.boot k.promise.site) (λ z. some (sym (polled y) ∙ (sym (ap (boot_in R'.polled.boot) k.of) ∙ z)))); of = k.of })
         covers y some (inr k) = inr k
 
         opened : (p : Packet) (x : Body) → RoundSentCase s v q o.view p x → OpenBody first (place_at u) P q.id p x
@@ -254,7 +256,7 @@ row_ends c first w u R s v e apart steady good t P q start m ends sent_all = by_
           where
             booted : v.boot ≡ 0 → ⊥
             booted z = absurd (let b : 1 ≤ v.boot = (good.views s v t.here).booted in omega (arith, b, z))
-        opened p (body.Install members) k = none_is (record { id = q.id; members = members }) (sym g.outside ∙ k.1)
+        opened p (body.Install members) k = none_some (record { id = q.id; members = members }) (sym g.outside ∙ k.1)
         opened p _ k = tt
 
     decided : Decides s links v q o → RowState first (place_at u) u.underway s P
@@ -270,7 +272,7 @@ row_ends c first w u R s v e apart steady good t P q start m ends sent_all = by_
           follows = λ y some. follows y some;
           packets = under_now c first w u s v e t (DecidedFact f) (λ (p : Packet). p.epoch ≡ q.id → DecidedBody f p.body) (λ y a i. none y.packet y.packet.body (m.packets y a i)) (λ y k. k)
               (every_weaker (RoundSent s v q o.view) (λ (p : Packet). p.epoch ≡ q.id → DecidedBody f p.body) o.sent (λ p k i. sent p p.body k) sent_all);
-          alike = λ y z x here inside i. at_each s y (x ≡ f) (λ eq. some_is x f (sym (subst (λ (y : SiteView). y.epoch ≡ Some x) (view_eq (place_at u s) z o.view (ap (place_at u) eq ∙ here) t.now) inside) ∙ d.epoch)) (λ ne. absurd (m.nobody y z x ne here inside i));
+          alike = λ y z x here inside i. at_each s y (x ≡ f) (λ eq. some_same x f (sym (subst (λ (y : SiteView). y.epoch ≡ Some x) (view_eq (place_at u s) z o.view (ap (place_at u) eq ∙ here) t.now) inside) ∙ d.epoch)) (λ ne. absurd (m.nobody y z x ne here inside i));
         },
       );
     }
@@ -284,7 +286,7 @@ row_ends c first w u R s v e apart steady good t P q start m ends sent_all = by_
         boot : v.boot ≡ boot_at first s
         boot = sym (boot_here w s v t.here) ∙ steady
 
-        exactly : (x : ℕ) → 1 ≤ x → x ≤ 16 → boot_in M.boot x ≡ cond (is_chosen first s P x) (asked_boot first s P x) 0
+        exactly : (x : ℕ) → 1 ≤ x → x ≤ sites_max → boot_in M.boot x ≡ cond (is_chosen first s P x) (asked_boot first s P x) 0
         exactly = chooses first R (place_at u) s P v q apart start boot polled taken ascend d.answered
 
         none : (p : Packet) (x : Body) → OpenBody first (place_at u) P q.id p x → DecidedBody f x
@@ -292,7 +294,7 @@ row_ends c first w u R s v e apart steady good t P q start m ends sent_all = by_
         none p _ k = tt
 
         sent : (p : Packet) (x : Body) → RoundSentCase s v q o.view p x → DecidedBody f x
-        sent p (body.Install members) k = ap (λ (y : InEpoch). y.members) (some_is (record { id = q.id; members = members }) f (sym k.1 ∙ d.epoch))
+        sent p (body.Install members) k = ap (λ (y : InEpoch). y.members) (some_same (record { id = q.id; members = members }) f (sym k.1 ∙ d.epoch))
         sent p _ k = tt
 
         follows : (y : ℕ) → boot_in P.boot y ≢ 0 → Follows (place_at u) u.underway s o.view.boot P f y
@@ -302,7 +304,7 @@ row_ends c first w u R s v e apart steady good t P q start m ends sent_all = by_
             let g : Holds (place_at u) y (boot_in P.boot y) q.id = subst (λ (x : ℕ). Holds (place_at u) x (boot_in P.boot x) q.id) k.of n.1 in
             record { view = g.view; here = g.here; boot_is = g.boot_is; promised = g.promised; state = inr (g.waits, λ member. (listed member, install member)) }
           where
-            high : y ≤ 16
+            high : y ≤ sites_max
             high = site_high (boot_in P.boot y) y some (apart.sized s P y start)
 
             low : 1 ≤ y

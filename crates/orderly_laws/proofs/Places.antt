@@ -1,16 +1,14 @@
 -- Links, boots and running sites while nothing of them changes.
-use Rattle.std.proofs.Common.{◌≡◌, ◌≢◌, ℕ, ◌≤◌, ◌==◌, ◌⊎◌, Bool, true, false, cond, not, ◌&&◌, ◌||◌, List, [], ◌∷◌, map, Option, Some, None, refl, sym, ◌∙◌, ap, subst, inl, inr, arith}
+use Rattle.std.proofs.Common.{◌≡◌, ◌≢◌, ℕ, ◌≤◌, ◌==◌, ◌⊎◌, Bool, true, false, cond, not, ◌&&◌, ◌||◌, List, [], ◌∷◌, map, Option, Some, None, refl, sym, ◌∙◌, ap, subst, inl, inr, arith, ◌<◌}
 use Rattle.std.proofs.lemmas.Bool.Decides.{nat_tests}
 use Rattle.std.specs.List.{list_any}
+use Rattle.locus_ids.specs.Sizes.{sites_max}
 use Rattle.role_steps.specs.Views.{SiteView, boot_in, all_sites}
 use Rattle.the_run.specs.Worlds.{World, Place, Running, Stopped, CutCircuit, place_at, boot_of, is_between, is_cut, link_of, links_of, is_up}
 use Rattle.epoch_laws.proofs.Boots.{boot_there, boot_nowhere, boot_or_none}
 use Rattle.orderly_laws.specs.Settling.{boot_at}
 
 -- ---- running sites ----
-
-none_never : (v : SiteView) → ◌≡◌ {A = Option Place} None (Some (Running v)) → ⊥
-none_never v e = cc
 
 -- what has a boot number runs
 pub runs : (o : Option Place) → boot_of o ≢ 0 → (v : SiteView) × (o ≡ Some (Running v)) × (v.boot ≡ boot_of o)
@@ -55,7 +53,7 @@ link_boot w s t h = by_case (boot_or_none (link_of w s) t)
     by_case (inl e) = by_cut (is_cut w s t) refl e
     by_case (inr e) = absurd (h e)
 
-pub link_sized : (w : World) (s t : ℕ) → 17 ≤ t → boot_in (links_of w s).boot t ≡ 0
+pub link_sized : (w : World) (s t : ℕ) → sites_max < t → boot_in (links_of w s).boot t ≡ 0
 link_sized w s t h = boot_nowhere (link_of w s) t h
 
 -- circuits have no direction
@@ -88,7 +86,7 @@ pub cut_swap : (w : World) (s t : ℕ) → is_cut w s t ≡ is_cut w t s
 cut_swap w s t = any_same (is_between s t) (is_between t s) w.circuits (swap s t)
 
 -- a linked site links back
-pub link_back : (w : World) (s t : ℕ) → 1 ≤ s → s ≤ 16 → boot_in (links_of w s).boot t ≢ 0 → boot_in (links_of w t).boot s ≡ boot_at w s
+pub link_back : (w : World) (s t : ℕ) → 1 ≤ s → s ≤ sites_max → boot_in (links_of w s).boot t ≢ 0 → boot_in (links_of w t).boot s ≡ boot_at w s
 link_back w s t low high h =
     boot_there (link_of w t) s low high ∙ subst (λ (b : Bool). cond b 0 (boot_at w s) ≡ boot_at w s) (sym (sym (cut_swap w s t) ∙ (link_boot w s t h).1)) refl
 

@@ -25,7 +25,7 @@ use Rattle.the_run.proofs.Boots.{at_each, Reached, boots_reached, acts_cases, ev
 use Rattle.the_run.proofs.Events.{happened_keeps, puts_other}
 use Rattle.the_run.proofs.InsideSync.{every_without}
 use Rattle.the_run.proofs.Joining.{same_at_most}
-use Rattle.run_laws.proofs.Run.{found_among}
+use Rattle.epoch_laws.proofs.of_run_laws.Run.{found_among}
 use Rattle.epoch_laws.specs.Known.{Places, boots_on, FormFact, NumberedFact, Good}
 use Rattle.epoch_laws.proofs.Boots.{at_most_trans}
 use Rattle.epoch_laws.proofs.Run.{WentOn, Later, same_later, puts_later, running_view, stopped_never, place_there, good_kept}
@@ -128,7 +128,7 @@ acts_quiet c n s e v w here own dead g q =
     acts_cases IsQuiet n s v o w
     (happened_quiet n o.sent o.told (λ now. puts s (Running o.view) now) w later rounds refl refl none g q)
     (λ a. happened_quiet n o.sent o.told (λ now. puts s (Running o.view) (arms a now)) w later rounds refl refl none g q)
-    (λ d a f. stops_quiet n s (Running v) (cut_disk v.boot v.store d a.how a.left) (cut_told s d a.how a.left) w here (omega arith) g q)
+    (λ d a f. stops_quiet n s (Running v) (cut_disk v.boot v.store d a.how a.left) (cut_told s v.store d a.how a.left) w here (omega arith) g q)
   where
     o : Outcome SiteView
     o = step c s (links_of w s) v e

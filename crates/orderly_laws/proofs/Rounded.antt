@@ -1,6 +1,9 @@
 -- What each event of a round does at a site that has an undecided round, where no poll makes it leave and no install of its round comes.
 use Rattle.std.proofs.Common.{◌≡◌, ◌≢◌, ℕ, ◌+◌, ◌==◌, ◌⊎◌, Bool, true, false, cond, ◌&&◌, not, List, [], ◌∷◌, map, filter, Option, Some, None, refl, sym, ◌∙◌, ap, subst, inl, inr, arith}
 use Rattle.std.proofs.lemmas.Bool.Decides.{nat_tests}
+use Rattle.role_steps.proofs.of_plain_facts.Numbers.{equal, equal_test, not_zero}
+use Rattle.role_steps.proofs.of_plain_facts.Options.{none_some}
+use Rattle.role_steps.proofs.of_plain_facts.Tests.{both_true, true_false as no_false}
 use Rattle.locus_ids.specs.declared.ids.EpochId.{EpochId}
 use Rattle.locus_ids.specs.declared.sites.Sites.{Sites}
 use Rattle.locus_ids.specs.declared.sites.Members.{Members}
@@ -19,11 +22,10 @@ use Rattle.role_steps.proofs.Sending.{every_append, every_cond}
 use Rattle.the_run.specs.Kept.{Among}
 use Rattle.the_run.specs.Steps.{is_dropped, takes_framed, takes, tries_at, adopts_in, whole, step}
 use Rattle.the_run.proofs.Boots.{every_weaker}
-use Rattle.run_laws.proofs.InsideSteps.{framed_inner, tries_inner}
+use Rattle.epoch_laws.proofs.of_run_laws.InsideSteps.{framed_inner, tries_inner}
 use Rattle.epoch_laws.specs.Forming.{FormsNone, Formless, TableFormless, FormlessSite}
-use Rattle.epoch_laws.proofs.SitesForm.{tries_formless, framed_formless}
-use Rattle.epoch_laws.proofs.Boots.{test_same}
-use Rattle.epoch_laws.proofs.Handlers.{both_true, same_epoch_eq, none_is}
+use Rattle.epoch_laws.proofs.Forms.{tries_formless, framed_formless}
+use Rattle.epoch_laws.proofs.Handlers.{same_epoch_eq}
 use Rattle.orderly_laws.specs.Effects.{SameCore, IsAnswer}
 use Rattle.orderly_laws.specs.Rounded.{RoundMoves, GoesOn, members_of, Decides, RoundSentCase, RoundSent, Rounded}
 use Rattle.orderly_laws.proofs.Formed.{among_right, among_next, same_core, inner_core, Formed, whole_formed, forming_repeats, ticks_formed}
@@ -75,9 +77,6 @@ among_filter test x (y ∷ ys) h t =
     there f e (inl q) = absurd (true_false (sym t ∙ (ap test q ∙ e)))
     there f e (inr g) = f g
 
-not_zero : (n : ℕ) → not (n == 0) ≡ true → n ≢ 0
-not_zero n h = grind (arith, nat_tests)
-
 pub polled_some : (polled : Links) (t : ℕ) → Among t (polled_sites polled) → boot_in polled.boot t ≢ 0
 polled_some polled t h = not_zero (boot_in polled.boot t) (filter_passes (λ s. not (boot_in polled.boot s == 0)) t all_sites h)
 
@@ -122,14 +121,8 @@ poll_mid s links v p r st is low =
     (λ u. every_cond (RoundSent s v r u) (same_epoch p.epoch v.promised && not v.installed) (promise_packet s links p.from p.from_boot p.epoch v) (refuse_packet s p.from p.from_boot p.epoch v) ((refl, refl), tt) (tt, tt))
     (no_answer p body.Poll r is (λ a. a)))
 
-no_false : true ≡ false → ⊥
-no_false e = cc
-
 same_id_test : (a : EpochId) → same_epoch a a ≡ true
 same_id_test a = grind (arith, nat_tests)
-
-number_test : (a b : ℕ) → a ≡ b → (a == b) ≡ true
-number_test a b e = grind (arith, nat_tests)
 
 promise_mid : (s : ℕ) (v : SiteView) (p : Packet) (reach : Sites) (r : Round) → Stands v r → p.body ≡ body.Promise reach → Mid s v (Receives p) r (on_promise_of p.from p.from_boot p.epoch reach (Some r) v)
 promise_mid s v p reach r st is =
@@ -142,7 +135,7 @@ promise_mid s v p reach r st is =
             promised = st.1;
             waits = st.2;
             outside = st.3;
-            moves = inr (inl (record { letter = p; reach = reach; comes = refl; is_promise = is; id = sym (same_epoch_eq r.id p.epoch k.0); of = test_same (boot_in r.polled.boot p.from) p.from_boot k.1; same = refl }));
+            moves = inr (inl (record { letter = p; reach = reach; comes = refl; is_promise = is; id = sym (same_epoch_eq r.id p.epoch k.0); of = equal (boot_in r.polled.boot p.from) p.from_boot k.1; same = refl }));
             sent = λ u. tt;
           })
       | false ↦ λ e. record { next = r; round = refl; boot = refl; promised = st.1; waits = st.2; outside = st.3; moves = inl (record { same = refl; unless = uncounted e }); sent = λ u. tt }
@@ -153,7 +146,7 @@ promise_mid s v p reach r st is =
         let g : q ≡ p = sym (receives_eq p q f) in
         let i : p.epoch ≡ r.id = subst (λ (y : Packet). y.epoch ≡ r.id) g id in
         let j : boot_in r.polled.boot p.from ≡ p.from_boot = subst (λ (y : Packet). boot_in r.polled.boot y.from ≡ y.from_boot) g of in
-        no_false (sym (both (same_epoch r.id p.epoch) (boot_in r.polled.boot p.from == p.from_boot) (subst (λ (y : EpochId). same_epoch r.id y ≡ true) (sym i) (same_id_test r.id)) (number_test (boot_in r.polled.boot p.from) p.from_boot j)) ∙ e)
+        no_false (sym (both (same_epoch r.id p.epoch) (boot_in r.polled.boot p.from == p.from_boot) (subst (λ (y : EpochId). same_epoch r.id y ≡ true) (sym i) (same_id_test r.id)) (equal_test (boot_in r.polled.boot p.from) p.from_boot j)) ∙ e)
       where
         both : (x y : Bool) → x ≡ true → y ≡ true → (x && y) ≡ true
         both true true h k = refl
@@ -274,7 +267,7 @@ tick_sent : (s : ℕ) (v a : SiteView) (r : Round) (o : Option InEpoch) (u : Sit
 tick_sent s v a r None u round none =
     subst (λ (x : Option Round). Every (RoundSent s v r u) (poll_repeats s a x)) (sym round)
     (every_map_among (RoundSent s v r u) (poll_packet s a.boot r.id r.polled) (unanswered r) (λ t h. record { id = refl; asked = refl; some = polled_some r.polled t (filter_among (λ x. not (has_promised r x)) t (polled_sites r.polled) h) }))
-tick_sent s v a r (Some e) u round none = absurd (none_is e (sym none))
+tick_sent s v a r (Some e) u round none = absurd (none_some e (sym none))
 
 no_tick : (p : Packet) → Ticks ≡ Receives p → ⊥
 no_tick p e = cc

@@ -1,5 +1,6 @@
 -- A round, event by event, and how it ends.
 use Rattle.std.proofs.Common.{◌≡◌, ℕ, zero, suc, ◌+◌, ◌⊎◌, Bool, true, false, cond, List, [], ◌∷◌, ◌++◌, length, Option, Some, None, refl, sym, ◌∙◌, ap, subst, inl, inr}
+use Rattle.role_steps.proofs.of_plain_facts.Options.{none_some, some_same}
 use Rattle.locus_ids.specs.declared.config.Config.{Config}
 use Rattle.trace_book.specs.declared.record.Record.TheVariants as says
 use Rattle.trace_book.specs.declared.record.StopCause.{StopCause}
@@ -65,10 +66,10 @@ acts_ran n s v o w =
     acts_cases (λ u. Unbroken n u → Ran n s o w u) n s v o w
     (runs_whole n s o (λ now. now) w refl refl refl refl (λ t. refl))
     (λ a. runs_whole n s o (arms a) w refl refl refl refl (λ t. refl))
-    (λ d a e. happened_cases (λ u. Unbroken n u → Ran n s o w u) n [] (cut_told s d a.how a.left) (stops_with s _) w
+    (λ d a e. happened_cases (λ u. Unbroken n u → Ran n s o w u) n [] (cut_told s v.store d a.how a.left) (stops_with s _) w
     (λ l e k. absurd (none_limit l (sym e ∙ k.within)))
     (λ l k. absurd (none_limit l k.within))
-    (λ k b t e h. absurd (stop_told n s (cause_of a.how) (is_on_disk d a.how a.left) d.says w.trace h.whole)))
+    (λ k b t e h. absurd (stop_told n s (cause_of a.how) (is_on_disk v.store d a.how a.left) d.says w.trace h.whole)))
 
 -- a budget that ends the round tells so
 pub budget_broken : (n : ℕ) (w : World) → Unbroken n (budget_ends n w) → ⊥
@@ -114,17 +115,11 @@ arrives_kept c n P k x w a p = by_place (place_at w x.packet.to) refl
           | false ↦ λ d. happening v e d
         ]) refl
 
-none_some : {A : Type 0} (x : A) → ◌≡◌ {A = Option A} None (Some x) → ⊥
-none_some x e = cc
-
-some_eq : {A : Type 0} (x a : A) → ◌≡◌ {A = Option A} (Some x) (Some a) → x ≡ a
-some_eq x a e = cc
-
 first_there : {A : Type 0} (test : A → Bool) (xs : List A) (x : A) → first_that test xs ≡ Some x → Among x xs
 first_there test [] x e = absurd (none_some x e)
 first_there test (y ∷ ys) x e =
     (elim (test y) as (λ b. elim b [ true ↦ Some y | false ↦ first_that test ys ] ≡ Some x → Among x (y ∷ ys)) [
-      | true ↦ λ f. inl (sym (some_eq y x f))
+      | true ↦ λ f. inl (sym (some_same y x f))
       | false ↦ λ f. inr (first_there test ys x f)
     ]) e
 

@@ -1,5 +1,6 @@
 -- Each event of a round keeps what stands since the first line of the block.
 use Rattle.std.proofs.Common.{◌≡◌, ◌≢◌, ℕ, ◌≤◌, ◌⊎◌, List, Option, Some, None, refl, sym, ◌∙◌, ap, subst, inl, inr, arith}
+use Rattle.role_steps.proofs.of_plain_facts.Options.{none_some, some_same}
 use Rattle.locus_ids.specs.declared.ids.EpochId.{EpochId}
 use Rattle.locus_ids.specs.declared.sites.Links.{Links}
 use Rattle.locus_ids.specs.declared.config.Config.{Config}
@@ -16,9 +17,8 @@ use Rattle.the_run.specs.Laws.{boot_on}
 use Rattle.the_run.specs.Steps.{step}
 use Rattle.the_run.specs.Worlds.{World, Running, Numbered, place_at, boot_of, links_of, numbered_from}
 use Rattle.the_run.proofs.Boots.{at_each, every_newest, every_numbered, every_weaker}
-use Rattle.run_laws.proofs.Run.{found_among}
+use Rattle.epoch_laws.proofs.of_run_laws.Run.{found_among}
 use Rattle.epoch_laws.specs.Known.{Places, boots_on, IsKnown, IsOwnRound, FormFact, NumberedFact, Good}
-use Rattle.epoch_laws.proofs.Handlers.{some_is, none_is}
 use Rattle.epoch_laws.proofs.Parts.{Fine}
 use Rattle.epoch_laws.proofs.Run.{WentOn, Later, links_had, site_of, view_outside}
 use Rattle.epoch_laws.proofs.Steps.{EventFact, step_fine}
@@ -135,7 +135,7 @@ settling_on c first w u R Q s v e good st more t rounds sent rows = record {
 -- ---- a site without a round ----
 
 no_some : (o : Option Round) → o ≡ None → (r : Round) → o ≡ Some r → ⊥
-no_some o e r h = none_is r (sym e ∙ h)
+no_some o e r h = none_some r (sym e ∙ h)
 
 roundless_turn : (c : Config) (first w u : World) (R : Starts) (s : ℕ) (v : SiteView) (e : Event) → AreApart first R → Settling first R w → Good w → Turn c first w u s v e → BeginsNone e → v.round ≡ None → Settling first R u
 roundless_turn c first w u R s v e apart st good t begins none =
@@ -194,8 +194,8 @@ undecided_row first w R s v r P good here round row = by_state row.state
     is_v = view_eq (place_at w s) row.view v row.here here
 
     by_state : ((q : Round) × Undecided first (place_at w) w.underway s P row.view q) ⊎ ((d : InEpoch) × Decided first (place_at w) w.underway s P row.view d) → Undecided first (place_at w) w.underway s P v r
-    by_state (inl k) = subst (λ (q : Round). Undecided first (place_at w) w.underway s P v q) (some_is k.0 r (sym k.1.round ∙ (ap (λ (x : SiteView). x.round) is_v ∙ round))) (subst (λ (x : SiteView). Undecided first (place_at w) w.underway s P x k.0) is_v k.1)
-    by_state (inr k) = absurd (none_is k.0 (sym (view_outside (place_at w) s v (good.views s v here) ((good.views s v here).round r round).joins_later) ∙ (ap (λ (x : SiteView). x.epoch) (sym is_v) ∙ k.1.epoch)))
+    by_state (inl k) = subst (λ (q : Round). Undecided first (place_at w) w.underway s P v q) (some_same k.0 r (sym k.1.round ∙ (ap (λ (x : SiteView). x.round) is_v ∙ round))) (subst (λ (x : SiteView). Undecided first (place_at w) w.underway s P x k.0) is_v k.1)
+    by_state (inr k) = absurd (none_some k.0 (sym (view_outside (place_at w) s v (good.views s v here) ((good.views s v here).round r round).joins_later) ∙ (ap (λ (x : SiteView). x.epoch) (sym is_v) ∙ k.1.epoch)))
 
 rounded_turn : (c : Config) (first w u : World) (R : Starts) (s : ℕ) (v : SiteView) (e : Event) → AreApart first R → Settling first R w → Good w → Turn c first w u s v e → (r : Round) → v.round ≡ Some r → Rounded s (links_of first s) v e r (step c s (links_of first s) v e) → Settling first R u
 rounded_turn c first w u R s v e apart st good t r round rd =
@@ -245,8 +245,8 @@ rounded_turn c first w u R s v e apart st good t r round rd =
         apart_case p _ k = tt
 
         by_ends : (f : InEpoch) → o.view.epoch ≡ Some f → GoesOn (links_of first s) v rd.next o.view ⊎ Decides s (links_of first s) v rd.next o → f.id.site ≡ s
-        by_ends f h (inl g) = absurd (none_is f (sym g.outside ∙ h))
-        by_ends f h (inr g) = ap (λ (x : InEpoch). x.id.site) (some_is f _ (sym h ∙ g.epoch)) ∙ site
+        by_ends f h (inl g) = absurd (none_some f (sym g.outside ∙ h))
+        by_ends f h (inr g) = ap (λ (x : InEpoch). x.id.site) (some_same f _ (sym h ∙ g.epoch)) ∙ site
 
 -- ---- a tick and a packet ----
 

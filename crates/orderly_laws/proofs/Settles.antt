@@ -2,6 +2,7 @@
 use Rattle.std.proofs.Common.{◌≡◌, ◌≢◌, ℕ, ◌+◌, ◌==◌, nat_lt, ◌⊎◌, Bool, true, false, cond, ◌&&◌, ◌||◌, not, List, [], ◌∷◌, Option, Some, None, refl, sym, ◌∙◌, ap, subst, inl, inr, arith}
 use Rattle.std.proofs.lemmas.Bool.Decides.{nat_tests}
 use Rattle.std.specs.List.{list_any}
+use Rattle.role_steps.proofs.of_plain_facts.Options.{none_some}
 use Rattle.locus_ids.specs.declared.ids.EpochId.{EpochId}
 use Rattle.locus_ids.specs.declared.sites.Links.{Links}
 use Rattle.locus_ids.specs.declared.config.Config.{Config}
@@ -24,7 +25,6 @@ use Rattle.the_run.specs.Runs.{can_come, next_packet, next_packet_of, settles}
 use Rattle.the_run.proofs.Boots.{at_each}
 use Rattle.the_run.proofs.InsideSync.{every_without}
 use Rattle.epoch_laws.specs.Known.{IsKnown, NumberedFact, Good}
-use Rattle.epoch_laws.proofs.Handlers.{none_is}
 use Rattle.epoch_laws.proofs.Run.{good_kept, view_outside}
 use Rattle.orderly_laws.specs.Agreeing.{Agrees}
 use Rattle.orderly_laws.specs.Effects.{IsAnswer}
@@ -225,7 +225,7 @@ none_comes : (test : Numbered → Bool) (xs : List Numbered) → first_that test
 none_comes test [] h y a t = a
 none_comes test (x ∷ xs) h y a t =
     (elim (test x) as (λ b. test x ≡ b → ◌≡◌ {A = Option Numbered} (elim b [ true ↦ Some x | false ↦ first_that test xs ]) None → ⊥) [
-      | true ↦ λ e f. none_is x (sym f)
+      | true ↦ λ e f. none_some x (sym f)
       | false ↦ λ e f. later e (none_comes test xs f y) a
     ]) refl h
   where
@@ -365,7 +365,7 @@ ends_quiet first u R apart good st none = (agrees, quiet)
         by_round s v here (Some q) e =
             let m : (P : Links) × R s P = st.rounds s v q here e in
             let k : (x : SiteView) × (place_at u s ≡ Some (Running x)) × ((d : InEpoch) × Decided first (place_at u) u.underway s m.0 x d) = decided s m.0 m.1 in
-            absurd (none_is k.2.0 (sym (view_outside (place_at u) s v (good.views s v here) ((good.views s v here).round q e).joins_later) ∙ (ap (λ (x : SiteView). x.epoch) (view_eq (place_at u s) v k.0 here k.1) ∙ k.2.1.epoch)))
+            absurd (none_some k.2.0 (sym (view_outside (place_at u) s v (good.views s v here) ((good.views s v here).round q e).joins_later) ∙ (ap (λ (x : SiteView). x.epoch) (view_eq (place_at u s) v k.0 here k.1) ∙ k.2.1.epoch)))
 
         live_dead : (p : Packet) → IsKnown (place_at u) p.epoch → IsLive first R p → IsDead (place_at u) p
         live_dead p known l v here same =

@@ -1,5 +1,7 @@
 -- A line by which a site starts adds it to those that have started, with the sites that it asks.
 use Rattle.std.proofs.Common.{◌≡◌, ◌≢◌, ℕ, ◌+◌, ◌≤◌, ◌==◌, ◌⊎◌, true, false, ◌&&◌, not, List, [], ◌∷◌, map, Option, Some, None, refl, sym, ◌∙◌, ap, subst, inl, inr, arith}
+use Rattle.role_steps.proofs.of_plain_facts.Numbers.{not_zero_test}
+use Rattle.role_steps.proofs.of_plain_facts.Options.{none_some, some_same}
 use Rattle.locus_ids.specs.declared.ids.EpochId.{EpochId}
 use Rattle.locus_ids.specs.declared.sites.Links.{Links}
 use Rattle.locus_ids.specs.declared.config.Config.{Config}
@@ -21,19 +23,18 @@ use Rattle.the_run.specs.Kept.{Among}
 use Rattle.the_run.specs.Steps.{starts_mends_of, ends_event, whole, step}
 use Rattle.the_run.specs.Worlds.{World, Numbered, place_at, links_of, numbered_from}
 use Rattle.the_run.proofs.Boots.{every_weaker}
-use Rattle.run_laws.proofs.InsideSteps.{quiet_inner}
-use Rattle.run_laws.proofs.RolesTell.{on_call_talks}
-use Rattle.run_laws.proofs.Run.{found_among}
+use Rattle.epoch_laws.proofs.of_run_laws.InsideSteps.{quiet_inner}
+use Rattle.epoch_laws.proofs.of_run_laws.Telling.{on_call_talks}
+use Rattle.epoch_laws.proofs.of_run_laws.Run.{found_among}
 use Rattle.epoch_laws.specs.Forming.{TableFormless}
 use Rattle.epoch_laws.specs.Known.{IsKnown, NumberedFact, Good}
-use Rattle.epoch_laws.proofs.Handlers.{some_is, none_is}
-use Rattle.epoch_laws.proofs.SitesForm.{formless_quiet}
+use Rattle.epoch_laws.proofs.Forms.{formless_quiet}
 use Rattle.orderly_laws.specs.Effects.{SameCore}
 use Rattle.orderly_laws.specs.Rounded.{GoesOn, Decides, RoundSentCase, RoundSent}
 use Rattle.orderly_laws.specs.Settling.{Starts, boot_at, AreApart, IsPollBody, Carried, RowState, Settling}
 use Rattle.orderly_laws.specs.Turn.{Turn}
 use Rattle.orderly_laws.proofs.ApartTurn.{ApartCase, ActsApart, row_apart}
-use Rattle.orderly_laws.proofs.Choosing.{not_zero, site_low, site_high, among_sites}
+use Rattle.orderly_laws.proofs.Choosing.{site_low, site_high, among_sites}
 use Rattle.orderly_laws.proofs.Effects.{promises_boot, promises_epoch, promises_silent, leaves_tables}
 use Rattle.orderly_laws.proofs.Formed.{among_right, Formed, whole_formed}
 use Rattle.orderly_laws.proofs.OwnTurn.{Mid, at_most_not, row_ends}
@@ -182,8 +183,8 @@ start_turn c first w u R s v e P apart new st good t b =
         apart_case p _ k = tt
 
         by_ends : (f : InEpoch) → o.view.epoch ≡ Some f → GoesOn (links_of first s) v q o.view ⊎ Decides s (links_of first s) v q o → f.id.site ≡ s
-        by_ends f h (inl g) = absurd (none_is f (sym g.outside ∙ h))
-        by_ends f h (inr g) = ap (λ (x : InEpoch). x.id.site) (some_is f _ (sym h ∙ g.epoch))
+        by_ends f h (inl g) = absurd (none_some f (sym g.outside ∙ h))
+        by_ends f h (inr g) = ap (λ (x : InEpoch). x.id.site) (some_same f _ (sym h ∙ g.epoch))
 
     -- nobody knows the new id before
     unknown : (i : EpochId) → IsKnown (place_at w) i → i ≡ q.id → ⊥
@@ -193,7 +194,7 @@ start_turn c first w u R s v e P apart new st good t b =
 
     covered : (y : ℕ) → boot_in P.boot y ≢ 0 → Carried u.underway q.id s v.boot y (boot_in P.boot y) IsPollBody
     covered y some =
-        let a : Among y (polled_sites P) = among_filter (λ z. not (boot_in P.boot z == 0)) y all_sites (among_sites y (site_low P.boot y some) (site_high (boot_in P.boot y) y some (apart.sized s P y (inr (refl, refl))))) (not_zero (boot_in P.boot y) some) in
+        let a : Among y (polled_sites P) = among_filter (λ z. not (boot_in P.boot z == 0)) y all_sites (among_sites y (site_low P.boot y some) (site_high (boot_in P.boot y) y some (apart.sized s P y (inr (refl, refl))))) (not_zero_test (boot_in P.boot y) some) in
         let n : (z : Numbered) × (Among z (numbered_from t.count o.sent)) × (z.packet ≡ poll_packet s v.boot q.id P y) = among_numbered (poll_packet s v.boot q.id P y) t.count o.sent (b.polls y a) in
         record {
           letter = n.0;

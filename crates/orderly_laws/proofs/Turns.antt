@@ -1,5 +1,7 @@
 -- What one event of a round leaves of the facts on a site that starts, where another site has the event and has no round.
 use Rattle.std.proofs.Common.{◌≡◌, ◌≢◌, ℕ, ◌+◌, ◌≤◌, ◌⊎◌, true, false, List, [], ◌∷◌, Some, None, refl, sym, ◌∙◌, ap, subst, inl, inr, arith}
+use Rattle.role_steps.proofs.of_plain_facts.Options.{none_some, some_same}
+use Rattle.role_steps.proofs.of_plain_facts.Tests.{true_false}
 use Rattle.locus_ids.specs.declared.ids.EpochId.{EpochId}
 use Rattle.locus_ids.specs.declared.sites.Members.{Members}
 use Rattle.locus_ids.specs.declared.sites.Links.{Links}
@@ -18,9 +20,8 @@ use Rattle.the_run.specs.Kept.{Among}
 use Rattle.the_run.specs.Steps.{step}
 use Rattle.the_run.specs.Worlds.{World, Running, Numbered, place_at, links_of, numbered_from}
 use Rattle.the_run.proofs.Boots.{at_each, every_numbered, every_weaker}
-use Rattle.run_laws.proofs.Run.{found_among}
+use Rattle.epoch_laws.proofs.of_run_laws.Run.{found_among}
 use Rattle.epoch_laws.specs.Known.{Places, NumberedFact, Good}
-use Rattle.epoch_laws.proofs.Handlers.{some_is, none_is}
 use Rattle.epoch_laws.proofs.Run.{view_outside}
 use Rattle.orderly_laws.specs.Effects.{SameCore, Promised, Joined, Change, SentCase, Sent, Roundless, IsAnswer, Answers}
 use Rattle.orderly_laws.specs.Quiet.{IsDead, OnPoll}
@@ -40,9 +41,6 @@ pub among_numbered : (q : Packet) (k : ℕ) (ps : List Packet) → Among q ps �
 among_numbered q k [] h = absurd h
 among_numbered q k (p ∷ ps) (inl e) = (record { number = k; packet = p }, inl refl, sym e)
 among_numbered q k (p ∷ ps) (inr h) = let r : (y : Numbered) × (Among y (numbered_from (k + 1) ps)) × (y.packet ≡ q) = among_numbered q (k + 1) ps h in (r.0, inr r.1, r.2)
-
-true_false : true ≡ false → ⊥
-true_false e = cc
 
 -- what comes was under way
 pub come : (c : Config) (first w u : World) (s : ℕ) (v : SiteView) (e : Event) (p : Packet) → Turn c first w u s v e → e ≡ Receives p → Comes w s v p
@@ -221,9 +219,9 @@ undecided_other c first w u R s v e apart st good t rl X P x r start ne there h 
 
     in_none : (f : InEpoch) → o.view.epoch ≡ Some f → f.id ≡ r.id → Change s v e o.view → ⊥
     in_none f inside i (inl k) = h.nobody s v f t.here (sym k.epoch ∙ inside) i
-    in_none f inside i (inr (inl k)) = none_is f (sym k.epoch ∙ inside)
-    in_none f inside i (inr (inr (inl k))) = none_is f (sym k.epoch ∙ inside)
-    in_none f inside i (inr (inr (inr k))) = no_install (ap (λ (g : InEpoch). g.id) (some_is (record { id = v.promised; members = k.members }) f (sym k.epoch ∙ inside)) ∙ i) k
+    in_none f inside i (inr (inl k)) = none_some f (sym k.epoch ∙ inside)
+    in_none f inside i (inr (inr (inl k))) = none_some f (sym k.epoch ∙ inside)
+    in_none f inside i (inr (inr (inr k))) = no_install (ap (λ (g : InEpoch). g.id) (some_same (record { id = v.promised; members = k.members }) f (sym k.epoch ∙ inside)) ∙ i) k
 
 -- ---- a round that is decided, while a site without a round has an event ----
 
@@ -262,10 +260,10 @@ decided_other c first w u R s v e apart st good t rl none X P x d start ne there
 
     joined : (f : InEpoch) → o.view.epoch ≡ Some f → f.id ≡ d.id → Change s v e o.view → f ≡ d
     joined f inside i (inl k) = h.alike s v f t.here (sym k.epoch ∙ inside) i
-    joined f inside i (inr (inl k)) = absurd (none_is f (sym k.epoch ∙ inside))
-    joined f inside i (inr (inr (inl k))) = absurd (none_is f (sym k.epoch ∙ inside))
+    joined f inside i (inr (inl k)) = absurd (none_some f (sym k.epoch ∙ inside))
+    joined f inside i (inr (inr (inl k))) = absurd (none_some f (sym k.epoch ∙ inside))
     joined f inside i (inr (inr (inr k))) =
-        let g : record { id = v.promised; members = k.members } ≡ f = some_is (record { id = v.promised; members = k.members }) f (sym k.epoch ∙ inside) in
+        let g : record { id = v.promised; members = k.members } ≡ f = some_same (record { id = v.promised; members = k.members }) f (sym k.epoch ∙ inside) in
         whole f i (ap (λ (y : InEpoch). y.members) (sym g) ∙ installs k (ap (λ (y : InEpoch). y.id) g ∙ i))
 
     sent : (q : Packet) (b : Body) → q.epoch ≡ d.id → SentCase s (links_of first s) v e o.view q b → DecidedBody d b
@@ -316,7 +314,7 @@ decided_other c first w u R s v e apart st good t rl none X P x d start ne there
               where
                 by_case : Carried u.underway d.id X x.boot y (boot_in P.boot y) IsInstallBody ⊎ (e ≡ Receives m.letter.packet) → Carried u.underway d.id X x.boot y (boot_in P.boot y) IsInstallBody
                 by_case (inl g) = g
-                by_case (inr is) = absurd (none_is (record { id = p.epoch; members = b.0 }) (sym (view_outside (place_at w) s v (good.views s v t.here) waits) ∙ (sym k.epoch ∙ subst (λ (y : Event). (step c s (links_of first s) v y).view.epoch ≡ Some (record { id = p.epoch; members = b.0 })) (sym is) joins)))
+                by_case (inr is) = absurd (none_some (record { id = p.epoch; members = b.0 }) (sym (view_outside (place_at w) s v (good.views s v t.here) waits) ∙ (sym k.epoch ∙ subst (λ (y : Event). (step c s (links_of first s) v y).view.epoch ≡ Some (record { id = p.epoch; members = b.0 })) (sym is) joins)))
                   where
                     p : Packet
                     p = m.letter.packet

@@ -8,3 +8,4 @@ pub mod Turn
 pub mod Agreeing
 pub mod Blocks
 pub mod Calm
+pub use Rattle.epoch_laws.specs as of_epoch_laws

@@ -1,8 +1,9 @@
 -- How sites that start to part or merge in one block come to agree: what stands at each moment from their lines to the end of
 -- the round after them.
-use Rattle.std.specs.Prelude.{ℕ, ◌≡◌, ◌≢◌, ◌≤◌, ◌+◌, ◌==◌, ◌⊎◌, Bool, false, not, ◌||◌, cond, List, [], ◌∷◌, Some}
+use Rattle.std.specs.Prelude.{ℕ, ◌≡◌, ◌≢◌, ◌≤◌, ◌+◌, ◌==◌, ◌⊎◌, Bool, false, not, ◌||◌, cond, List, [], ◌∷◌, Some, ◌<◌}
 use Rattle.locus_ids.specs.declared.ids.EpochId.{EpochId}
 use Rattle.locus_ids.specs.declared.sites.Links.{Links}
+use Rattle.locus_ids.specs.Sizes.{sites_max}
 use Rattle.wire_messages.specs.declared.packet.Packet.{Packet}
 use Rattle.wire_messages.specs.declared.body.Body.{Body}
 use Rattle.wire_messages.specs.declared.body.Body.TheVariants as body
@@ -44,7 +45,7 @@ is_chosen w site polled = narrowed (reaches w) (is_asked site polled) all_sites
 -- start is asked by another.
 pub record AreApart (w : World) (R : Starts) : Type 0 where
   pub linked : (s : ℕ) (P : Links) (t : ℕ) → R s P → boot_in P.boot t ≢ 0 → boot_in P.boot t ≡ boot_in (links_of w s).boot t
-  pub sized : (s : ℕ) (P : Links) (t : ℕ) → R s P → 17 ≤ t → boot_in P.boot t ≡ 0
+  pub sized : (s : ℕ) (P : Links) (t : ℕ) → R s P → sites_max < t → boot_in P.boot t ≡ 0
   pub itself : (s : ℕ) (P : Links) → R s P → boot_in (links_of w s).boot s ≢ 0
   pub others : (s : ℕ) (P : Links) (t : ℕ) (Q : Links) → R s P → R t Q → boot_in Q.boot s ≡ 0
   pub apart : (s : ℕ) (P : Links) (t : ℕ) (Q : Links) (x : ℕ) → R s P → R t Q → boot_in P.boot x ≢ 0 → boot_in Q.boot x ≢ 0 → s ≡ t
@@ -145,7 +146,7 @@ asked_boot w site P s = cond (s == site) (boot_at w site) (boot_in P.boot s)
 pub record Decided (w : World) (at : Places) (under : List Numbered) (site : ℕ) (P : Links) (v : SiteView) (e : InEpoch) : Type 0 where
   pub epoch : v.epoch ≡ Some e
   pub own : e.id.site ≡ site
-  pub exactly : (s : ℕ) → 1 ≤ s → s ≤ 16 → boot_in e.members.boot s ≡ cond (is_chosen w site P s) (asked_boot w site P s) 0
+  pub exactly : (s : ℕ) → 1 ≤ s → s ≤ sites_max → boot_in e.members.boot s ≡ cond (is_chosen w site P s) (asked_boot w site P s) 0
   pub follows : (t : ℕ) → boot_in P.boot t ≢ 0 → Follows at under site v.boot P e t
   pub packets : Every (DecidedFact e) under
   pub alike : (t : ℕ) (u : SiteView) (f : InEpoch) → at t ≡ Some (Running u) → u.epoch ≡ Some f → f.id ≡ e.id → f ≡ e

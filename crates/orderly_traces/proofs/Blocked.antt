@@ -2,9 +2,11 @@
 use Rattle.std.proofs.Common.{◌≡◌, ℕ, ◌≤◌, Bool, true, false, cond, not, ◌&&◌, List, Option, Some, None, refl, sym, ◌∙◌, ap, subst, ◌⊎◌, inl, inr, arith}
 use Rattle.std.specs.Option.{is_some}
 use Rattle.std.proofs.lemmas.Bool.Decides.{nat_tests}
+use Rattle.role_steps.proofs.of_plain_facts.Options.{none_some, some_same}
 use Rattle.locus_ids.specs.declared.ids.EpochId.{EpochId}
 use Rattle.locus_ids.specs.declared.sites.Links.{Links}
 use Rattle.locus_ids.specs.declared.config.Config.{Config}
+use Rattle.locus_ids.specs.Sizes.{sites_max}
 use Rattle.schedule_lines.specs.declared.line.Line.TheVariants as line
 use Rattle.schedule_lines.specs.declared.line.ScheduleLine.{ScheduleLine}
 use Rattle.schedule_lines.specs.declared.line.ScheduleLine.TheVariants.{Passed, Event as EventLine}
@@ -12,6 +14,7 @@ use Rattle.schedule_lines.specs.Ranges.{is_site}
 use Rattle.role_steps.specs.Own.{Every}
 use Rattle.role_steps.specs.Views.{SiteView, DiskWrite, Outcome, Event, Parts, Merges, all_sites}
 use Rattle.role_steps.specs.declared.rounds.InEpoch.{InEpoch}
+use Rattle.role_steps.proofs.Counted.{sites_count}
 use Rattle.tree_model.specs.Epochs.{is_up, epoch_of}
 use Rattle.lawful_trace.specs.Places.{starts_at}
 use Rattle.the_run.specs.Steps.{step, epoch_id}
@@ -20,11 +23,11 @@ use Rattle.the_run.specs.Runs.{is_stopped, is_in_no_epoch, unless_void, acts_lin
 use Rattle.the_run.proofs.Events.{happened_keeps, puts_same, puts_other}
 use Rattle.row_laws.specs.Shown.{trace_of}
 use Rattle.row_laws.proofs.AskedRun.{run_courses}
-use Rattle.epoch_laws.specs.Forming.{TableFormless}
+use Rattle.orderly_laws.specs.of_epoch_laws.Forming.{TableFormless}
 use Rattle.orderly_laws.specs.Blocks.{StartsBy, IsInBlock, StartsNobody, asked_by_merge, asked_by_part}
 use Rattle.orderly_laws.specs.Rounded.{GoesOn, Decides}
 use Rattle.orderly_laws.specs.Settling.{boot_at}
-use Rattle.orderly_laws.proofs.Chosen.{sixteen, counted_among}
+use Rattle.orderly_laws.proofs.Chosen.{counted_among}
 use Rattle.orderly_laws.proofs.StartTurn.{first_round, merges_unwritten, parts_unwritten, merge_begun, part_begun}
 use Rattle.orderly_traces.specs.Fits.{FitsCluster}
 use Rattle.orderly_traces.proofs.Placed.{placed, at_each}
@@ -38,26 +41,20 @@ pub record Begins (x : ScheduleLine) (w : World) (s : ℕ) : Type 0 where
   pub inside : IsInBlock x w
   pub starts : StartsBy x w s polled
 
-some_eq : (a b : ℕ) → ◌≡◌ {A = Option ℕ} (Some a) (Some b) → a ≡ b
-some_eq a b e = cc
-
-none_some : (a : ℕ) → ◌≡◌ {A = Option ℕ} None (Some a) → ⊥
-none_some a e = cc
-
-pub site_there : (sites s : ℕ) → is_site sites s ≡ true → (1 ≤ s) × ((s ≤ 16) × (s ≤ sites))
+pub site_there : (sites s : ℕ) → is_site sites s ≡ true → (1 ≤ s) × ((s ≤ sites_max) × (s ≤ sites))
 site_there sites s h = (low, (high, fits))
   where
     low : 1 ≤ s
     low = grind (arith, nat_tests)
 
-    high : s ≤ 16
+    high : s ≤ sites_max
     high = grind (arith, nat_tests)
 
     fits : s ≤ sites
     fits = grind (arith, nat_tests)
 
 has_place : (c : Config) (ls : List ScheduleLine) (s : ℕ) → is_site c.sites s ≡ true → place_at (run_in c ls) s ≡ None → ⊥
-has_place c ls s h = (let k : (1 ≤ s) × ((s ≤ 16) × (s ≤ c.sites)) = site_there c.sites s h in placed c ls s (counted_among 1 all_sites sixteen s k.0 (omega (arith, k.1.0))) k.1.1)
+has_place c ls s h = (let k : (1 ≤ s) × ((s ≤ sites_max) × (s ≤ c.sites)) = site_there c.sites s h in placed c ls s (counted_among 1 all_sites sites_count s k.0 (omega (arith, k.1.0))) k.1.1)
 
 abbrev part_test : ℕ → Bool → Option EpochId → Option ℕ
 part_test p up e = cond (up && is_some e) (Some p) None
@@ -73,7 +70,7 @@ part_begins c ls p s fits h = by_place (place_at (run_in c ls) p) refl
   where
     by_epoch : (v : SiteView) → place_at (run_in c ls) p ≡ Some (Running v) → (o : Option InEpoch) → v.epoch ≡ o → part_test p true (epoch_id o) ≡ Some s → Begins (EventLine (line.Part p)) (run_in c ls) s
     by_epoch v here None e k = absurd (none_some s k)
-    by_epoch v here (Some x) e k = record { polled = asked_by_part (run_in c ls) p; inside = ap is_in_no_epoch here ∙ ap (λ (o : Option InEpoch). not (is_some o)) e; starts = (sym (some_eq p s k), refl) }
+    by_epoch v here (Some x) e k = record { polled = asked_by_part (run_in c ls) p; inside = ap is_in_no_epoch here ∙ ap (λ (o : Option InEpoch). not (is_some o)) e; starts = (sym (some_same p s k), refl) }
 
     by_place : (o : Option Place) → place_at (run_in c ls) p ≡ o → Begins (EventLine (line.Part p)) (run_in c ls) s
     by_place None e = absurd (has_place c ls p fits e)
@@ -86,7 +83,7 @@ merge_begins c ls p s fits h = by_place (place_at (run_in c ls) p) refl
     by_place : (o : Option Place) → place_at (run_in c ls) p ≡ o → Begins (EventLine (line.Merge p)) (run_in c ls) s
     by_place None e = absurd (has_place c ls p fits e)
     by_place (Some (Stopped d)) e = absurd (none_some s (sym (ap (merge_test p) (stopped_down c ls p d e)) ∙ h))
-    by_place (Some (Running v)) e = record { polled = asked_by_merge (run_in c ls) p; inside = ap is_stopped e; starts = (sym (some_eq p s (sym (ap (merge_test p) (running_up c ls p v e)) ∙ h)), refl) }
+    by_place (Some (Running v)) e = record { polled = asked_by_merge (run_in c ls) p; inside = ap is_stopped e; starts = (sym (some_same p s (sym (ap (merge_test p) (running_up c ls p v e)) ∙ h)), refl) }
 
 pub line_begins : (c : Config) (ls : List ScheduleLine) (x : ScheduleLine) (s : ℕ) → FitsCluster c.sites x → starts_at x (trace_of (run_in c ls)) ≡ Some s → Begins x (run_in c ls) s
 line_begins c ls (EventLine (line.Part p)) s fits h = part_begins c ls p s fits h

@@ -2,9 +2,12 @@
 use Rattle.std.proofs.Common.{◌≡◌, ℕ, suc, ◌+◌, ◌-◌, ◌≤◌, ◌<◌, ◌==◌, nat_lt, Bool, true, false, cond, ◌&&◌, ◌||◌, List, [], ◌∷◌, length, take, Some, None, refl, sym, ◌∙◌, ap, subst, arith}
 use Rattle.std.specs.List.{list_any}
 use Rattle.std.proofs.lemmas.Bool.Decides.{nat_tests}
+use Rattle.role_steps.proofs.of_plain_facts.Numbers.{equal_test}
+use Rattle.role_steps.proofs.of_plain_facts.Tests.{and_true, false_true, or_neither}
 use Rattle.locus_ids.specs.declared.sites.Links.{Links}
 use Rattle.locus_ids.specs.declared.config.Config.{Config}
-use Rattle.trace_book.specs.declared.book.Entry.{Entry}
+use Rattle.locus_ids.specs.Sizes.{sites_max}
+use Rattle.trace_book.specs.declared.entry.Entry.{Entry}
 use Rattle.trace_book.specs.declared.record.Record.{Record}
 use Rattle.trace_book.specs.declared.record.Record.TheVariants as says
 use Rattle.schedule_lines.specs.Cluster.{config_of}
@@ -32,7 +35,7 @@ use Rattle.orderly_laws.specs.Rounds.{IsBreak, BreaksTold, Whole, Unbroken}
 use Rattle.orderly_laws.proofs.Blocks.{happened_within, block_agrees}
 use Rattle.orderly_laws.proofs.Numbers.{ascend_kept, first_ascends}
 use Rattle.orderly_laws.specs.Numbers.{NumbersAscend}
-use Rattle.epoch_laws.proofs.Run as known
+use Rattle.orderly_laws.proofs.of_epoch_laws.Run as known
 use Rattle.orderly_traces.specs.Fits.{EachFits}
 use Rattle.orderly_traces.specs.Agreeing.{IsWithin}
 use Rattle.orderly_traces.proofs.Spans.{next_world, span, span_world, whole_run, before_at}
@@ -73,28 +76,15 @@ within_at lines k h =
 
 -- ---- no break is told ----
 
-or_false : (a b : Bool) → (a || b) ≡ false → (a ≡ false) × (b ≡ false)
-or_false true b h = absurd (cc)
-or_false false b h = (refl, h)
-
-false_true : false ≡ true → ⊥
-false_true e = cc
-
-test_own : (a b : ℕ) → a ≡ b → (a == b) ≡ true
-test_own a b e = grind (arith, nat_tests)
-
 break_told : (r : Record) → IsBreak r → is_break r ≡ true
 break_told says.Budget h = refl
 break_told (says.Stopped s why) h = refl
 break_told _ h = absurd h
 
-both : (a b : Bool) → a ≡ true → b ≡ true → (a && b) ≡ true
-both a b e f = ap (λ (z : Bool). z && b) e ∙ f
-
 whole_told : (n k : ℕ) (t : Told) (older : Trace) → list_any (tells_break n) (with_told k t older) ≡ false → (k ≡ n → BreaksTold t → ⊥) × (list_any (tells_break n) older ≡ false)
 whole_told n k (Shown r) older h =
-    let g : (tells_break n (record { line = k; what = r }) ≡ false) × (list_any (tells_break n) older ≡ false) = or_false (tells_break n (record { line = k; what = r })) (list_any (tells_break n) older) h in
-    (λ e b. false_true (sym g.0 ∙ both (is_break r) (k == n) (break_told r b) (test_own k n e)), g.1)
+    let g : (tells_break n (record { line = k; what = r }) ≡ false) × (list_any (tells_break n) older ≡ false) = or_neither (tells_break n (record { line = k; what = r })) (list_any (tells_break n) older) h in
+    (λ e b. false_true (sym g.0 ∙ and_true (is_break r) (k == n) (break_told r b) (equal_test k n e)), g.1)
 whole_told n k _ older h = (λ e b. absurd b, h)
 
 whole_of : (n : ℕ) (trace : List Line) → list_any (tells_break n) (shown trace) ≡ false → Every (Whole n) trace
@@ -107,7 +97,7 @@ before_any p [] n h = refl
 before_any p (r ∷ older) n h =
     elim (nat_lt r.line n) as (λ b. list_any p (cond b (r ∷ older) (before_line older n)) ≡ false) [
       | true ↦ h
-      | false ↦ before_any p older n (or_false (p r) (list_any p older) h).1
+      | false ↦ before_any p older n (or_neither (p r) (list_any p older) h).1
     ]
 
 pub unbroken_at : (lines : List ScheduleLine) (k : ℕ) → IsWithin lines → list_any (tells_break k) (trace_of (run lines)) ≡ false → Unbroken k (at lines k)
@@ -136,7 +126,7 @@ stretch lines b m fits h = λ i low high. stands_in lines fits i (h.inside i low
 
 pub all_apart : (lines : List ScheduleLine) (b m : ℕ) → EachFits lines → Closes lines b m → Apart (config_of lines) lines b m
 all_apart lines b m fits h = record {
-  itself = λ i X P low high r. (let s : (1 ≤ X) × ((X ≤ 16) × (X ≤ (config_of lines).sites)) = starter_site lines fits i X P (inside i low high) r in
+  itself = λ i X P low high r. (let s : (1 ≤ X) × ((X ≤ sites_max) × (X ≤ (config_of lines).sites)) = starter_site lines fits i X P (inside i low high) r in
       reaches_itself lines fits b X s.0 s.1.0 (starter_boot lines fits b m i b X P low high (omega arith) h.low inside r));
   differ = λ i k X Y P L low less high r q. (told i k X Y P L low less high r q).0;
   apart = λ i k X Y P L t low less high r q x y. (told i k X Y P L low less high r q).1 t

@@ -1,5 +1,6 @@
 -- From line to line of an orderly schedule: before each block all is quiet, and each block agrees.
 use Rattle.std.proofs.Common.{◌≡◌, ℕ, zero, suc, ◌-◌, ◌≤◌, ◌<◌, ◌==◌, Bool, cond, not, List, take, Option, Some, None, refl, sym, ◌∙◌, ap, subst, ◌⊎◌, inl, inr, arith}
+use Rattle.role_steps.proofs.of_plain_facts.Options.{none_some}
 use Rattle.locus_ids.specs.declared.sites.Links.{Links}
 use Rattle.locus_ids.specs.declared.config.Config.{Config}
 use Rattle.schedule_lines.specs.Cluster.{config_of}
@@ -12,7 +13,7 @@ use Rattle.lawful_trace.specs.Orderly.{IsBlock, IsOrderly, IsOrderlyLine}
 use Rattle.the_run.specs.Worlds.{World}
 use Rattle.the_run.specs.Runs.{acts_line, run}
 use Rattle.row_laws.specs.Shown.{trace_of}
-use Rattle.epoch_laws.proofs.Run as known
+use Rattle.orderly_laws.proofs.of_epoch_laws.Run as known
 use Rattle.lawful_trace.specs.Orderly.{narrowed}
 use Rattle.role_steps.specs.Views.{boot_in, all_sites}
 use Rattle.orderly_laws.specs.Agreeing.{Agrees}
@@ -52,9 +53,6 @@ is_passed (EventLine y) = inr (λ e. cc)
 
 settle_passed : (most : ℕ) → EventLine (line.Settle most) ≡ Passed → ⊥
 settle_passed most e = cc
-
-none_some : (s : ℕ) → ◌≡◌ {A = Option ℕ} None (Some s) → ⊥
-none_some s e = cc
 
 -- nobody starts by a round
 settle_starts : (lines : List ScheduleLine) (k most : ℕ) → line_at lines (suc k) ≡ EventLine (line.Settle most) → initiator lines (trace_of (run lines)) (suc k) ≡ None

@@ -1,8 +1,12 @@
 -- In an orderly schedule each block forms its epochs, as the records tell it.
-use Rattle.std.proofs.Common.{◌≡◌, ◌≢◌, ℕ, zero, suc, ◌-◌, ◌≤◌, ◌==◌, nat_lt, Bool, true, false, cond, not, ◌||◌, List, take, Option, Some, None, refl, sym, ◌∙◌, ap, subst, ◌⊎◌, inl, inr, [], ◌∷◌, slice_index_or, arith}
+use Rattle.std.proofs.Common.{◌≡◌, ◌≢◌, ℕ, zero, suc, ◌-◌, ◌≤◌, ◌==◌, nat_lt, Bool, true, false, cond, not, ◌||◌, List, take, Option, Some, None, refl, sym, ◌∙◌, ap, subst, ◌⊎◌, inl, inr, [], ◌∷◌, slice_index_or, arith, ◌<◌}
 use Rattle.std.proofs.lemmas.Bool.Decides.{nat_tests}
+use Rattle.role_steps.proofs.of_plain_facts.Numbers.{equal, not_zero}
+use Rattle.role_steps.proofs.of_plain_facts.Options.{none_some}
+use Rattle.role_steps.proofs.of_plain_facts.Tests.{false_unless}
 use Rattle.locus_ids.specs.declared.config.Config.{Config}
 use Rattle.locus_ids.specs.declared.sites.Links.{Links}
+use Rattle.locus_ids.specs.Sizes.{sites_max}
 use Rattle.schedule_lines.specs.Cluster.{config_of}
 use Rattle.schedule_lines.specs.Ranges.{is_site, fits_event}
 use Rattle.schedule_lines.specs.Schedule.{AreInOrder}
@@ -39,17 +43,7 @@ use Rattle.orderly_traces.proofs.Listed.{own_boot, list_told}
 use Rattle.orderly_traces.proofs.Polled.{range, at_most_sixteen, booted_at, uncut, Starter, polled_is, polled_reached, narrowed_within, chosen_is}
 use Rattle.orderly_traces.proofs.Reached.{running_boot, running_epoch}
 use Rattle.orderly_traces.proofs.Spans.{one_more, before_at}
-use Rattle.orderly_traces.proofs.Walk.{at, begins_at, zero_not}
-
-true_false : true ≡ false → ⊥
-true_false e = cc
-
-false_unless : (b : Bool) → (b ≡ true → ⊥) → b ≡ false
-false_unless true h = absurd (h refl)
-false_unless false h = refl
-
-equal : (a b : ℕ) → (a == b) ≡ true → a ≡ b
-equal a b e = grind (arith, nat_tests)
+use Rattle.orderly_traces.proofs.Walk.{at, begins_at}
 
 -- ---- who starts ----
 
@@ -62,7 +56,7 @@ starter lines fits k site P h starts = record { inside = b.inside; starts = star
     u : (is_site (config_of lines).sites site ≡ true) × ((v : SiteView) × (place_at (at lines k) site ≡ Some (Running v)))
     u = starter_runs (line_at lines (suc k)) (at lines k) (config_of lines).sites site P (line_fits (config_of lines).sites lines k fits) b.inside starts
 
-    place : (1 ≤ site) × ((site ≤ 16) × (site ≤ (config_of lines).sites))
+    place : (1 ≤ site) × ((site ≤ sites_max) × (site ≤ (config_of lines).sites))
     place = site_there (config_of lines).sites site u.0
 
     booted : (p q : ℕ) → p ≡ q → 1 ≤ q → p ≢ 0
@@ -74,7 +68,7 @@ asked_some : (w : World) (site s : ℕ) (P : Links) → boot_at w site ≢ 0 →
 asked_some w site s P some h =
     (elim (s == site) as (λ b. (b || not (views.boot_in P.boot s == 0)) ≡ true → cond b (boot_at w site) (views.boot_in P.boot s) ≢ 0) [
       | true ↦ λ g. some
-      | false ↦ λ g. zero_not (views.boot_in P.boot s) g
+      | false ↦ λ g. not_zero (views.boot_in P.boot s) g
     ]) h
 
 listed_test : (b : Bool) (n asked : ℕ) → n ≡ cond b asked 0 → (b ≡ true → asked ≢ 0) → nat_lt 0 n ≡ b
@@ -126,14 +120,14 @@ forms lines fits few k site m P h = record {
     is_asked_of : (s : ℕ) → is_chosen (at lines k) site P s ≡ true → is_asked site P s ≡ true
     is_asked_of s a = narrowed_within (reaches (at lines k)) (is_asked site P) all_sites s a
 
-    test : (s : ℕ) → s ≤ 16 → 1 ≤ s → is_member e.members s ≡ orderly.is_chosen lines (trace_of (run lines)) (suc k) site s
+    test : (s : ℕ) → s ≤ sites_max → 1 ≤ s → is_member e.members s ≡ orderly.is_chosen lines (trace_of (run lines)) (suc k) site s
     test s high low = listed_test (is_chosen (at lines k) site P s) (boot_in e.members s) (asked_boot (at lines k) site P s) (h.agrees.exactly s low high) (λ a. asked_some (at lines k) site s P h.start.runs (is_asked_of s a)) ∙ sym (chosen s)
 
     -- only sites of the cluster are chosen
     reached : (s : ℕ) → orderly.is_chosen lines (trace_of (run lines)) (suc k) site s ≡ true → (1 ≤ s) × (s ≤ c.sites) × (boot_at (at lines k) s ≢ 0)
     reached s a = polled_reached lines fits few k site s (polled s ∙ is_asked_of s (sym (chosen s) ∙ a))
 
-    exactly : (s : ℕ) → (s ≤ 16) ⊎ (17 ≤ s) → is_member e.members s ≡ orderly.is_chosen lines (trace_of (run lines)) (suc k) site s
+    exactly : (s : ℕ) → (s ≤ sites_max) ⊎ (sites_max < s) → is_member e.members s ≡ orderly.is_chosen lines (trace_of (run lines)) (suc k) site s
     exactly zero r = sym (false_unless (orderly.is_chosen lines (trace_of (run lines)) (suc k) site zero) (λ a. nothing (reached zero a).0))
       where
         nothing : 1 ≤ 0 → ⊥
@@ -141,12 +135,12 @@ forms lines fits few k site m P h = record {
     exactly (suc s) (inl le) = test (suc s) le (omega arith)
     exactly (suc s) (inr le) = ap (nat_lt 0) (run_short c (take m lines) e.id.site e.id e.members ((epochs_joined c (take m lines)).joined site itself.view e itself.here itself.epoch) (suc s) le) ∙ sym (false_unless (orderly.is_chosen lines (trace_of (run lines)) (suc k) site (suc s)) (λ a. beyond (suc s) le (at_most_sixteen (suc s) c.sites (reached (suc s) a).1 few)))
       where
-        beyond : (n : ℕ) → 17 ≤ n → n ≤ 16 → ⊥
+        beyond : (n : ℕ) → sites_max < n → n ≤ sites_max → ⊥
         beyond n p q = omega (arith, p, q)
 
     asked_other : (s : ℕ) (b : Bool) → (s == site) ≡ b → (b || not (views.boot_in P.boot s == 0)) ≡ true → (s ≡ site) ⊎ (views.boot_in P.boot s ≢ 0)
     asked_other s true f g = inl (equal s site f)
-    asked_other s false f g = inr (zero_not (views.boot_in P.boot s) g)
+    asked_other s false f g = inr (not_zero (views.boot_in P.boot s) g)
 
     chosen_in : (s : ℕ) → is_chosen (at lines k) site P s ≡ true → IsIn (at lines m) s (Some e)
     chosen_in s a = by_place (asked_other s (s == site) refl (is_asked_of s a))
@@ -186,9 +180,6 @@ fits_of c (x ∷ xs) h = (one x (h 0), fits_of c xs (λ k. h (suc k)))
 
 pub order_fits : (lines : List ScheduleLine) → AreInOrder lines → EachFits lines
 order_fits lines h = fits_of (config_of lines) lines (λ k l is. schedule_fits lines h (suc k) l is)
-
-none_some : (s : ℕ) → ◌≡◌ {A = Option ℕ} None (Some s) → ⊥
-none_some s e = cc
 
 pub blocks_form : (lines : List ScheduleLine) → AreInOrder lines → IsWithin lines → OrderlyBlocksForm lines (trace_of (run lines))
 blocks_form lines order within zero site settle h block all = absurd (none_some site h)

@@ -1,6 +1,7 @@
 -- Who leaves in a line: while all is quiet only the site whose own line it is, and in the round that ends a block those that are asked.
 use Rattle.std.proofs.Common.{◌≡◌, ℕ, ◌==◌, Bool, true, false, cond, not, ◌||◌, List, [], ◌∷◌, map, Option, Some, None, refl, sym, ◌∙◌, subst, ◌⊎◌, inl, inr, arith}
 use Rattle.std.proofs.lemmas.Bool.Decides.{nat_tests}
+use Rattle.role_steps.proofs.of_plain_facts.Numbers.{equal_self}
 use Rattle.locus_ids.specs.declared.config.Config.{Config}
 use Rattle.trace_book.specs.declared.record.Record.TheVariants as says
 use Rattle.trace_book.specs.declared.record.StopCause.TheVariants as cause
@@ -10,7 +11,7 @@ use Rattle.schedule_lines.specs.declared.line.ScheduleLine.{ScheduleLine}
 use Rattle.schedule_lines.specs.declared.line.ScheduleLine.TheVariants.{Passed, Header, Event as EventLine}
 use Rattle.wire_messages.specs.declared.packet.Packet.{Packet}
 use Rattle.role_steps.specs.Own.{Every}
-use Rattle.role_steps.specs.Views.{SiteView, Told, Shown, DiskWrite, Outcome, Event, Calls, Receives, Ticks, Parts, Merges, GivesUp}
+use Rattle.role_steps.specs.Views.{Store, SiteView, Told, Shown, DiskWrite, Outcome, Event, Calls, Receives, Ticks, Parts, Merges, GivesUp}
 use Rattle.the_run.specs.Disks.{Cut, Booted, Whole, CutOff, boots, is_on_disk}
 use Rattle.the_run.specs.Kept.{Among, WasSent}
 use Rattle.the_run.specs.Steps.{is_dropped, step}
@@ -18,10 +19,10 @@ use Rattle.the_run.specs.Worlds.{World, Place, Running, Stopped, Numbered, Line,
 use Rattle.the_run.specs.Runs.{packet_record, packet_at, can_come, arrives_at, arrives, is_stopped, is_in_no_epoch, is_busy, is_lost, unless_void, delivers_line, loses_line, stops_line, boots_line, boots_as, settles, cuts_circuit, mends_circuit, act, acts_line, run_from}
 use Rattle.the_run.proofs.Boots.{acts_cases, every_weaker}
 use Rattle.the_run.proofs.Events.{happened_keeps}
-use Rattle.run_laws.specs.Words.{InsideRecord, InsideWrite}
-use Rattle.run_laws.proofs.Run.{found_among}
-use Rattle.epoch_laws.specs.Known.{Good}
-use Rattle.epoch_laws.proofs.Run.{view_outside}
+use Rattle.row_laws.specs.of_run_laws.Words.{InsideRecord, InsideWrite}
+use Rattle.row_laws.proofs.of_run_laws.Run.{found_among}
+use Rattle.orderly_laws.specs.of_epoch_laws.Known.{Good}
+use Rattle.orderly_laws.proofs.of_epoch_laws.Run.{view_outside}
 use Rattle.lawful_trace.specs.SiteRows.{makes_leave}
 use Rattle.orderly_laws.specs.Blocks.{IsBlock, starts_of, AreLinesApart}
 use Rattle.orderly_laws.specs.Numbers.{NumbersAscend}
@@ -45,8 +46,8 @@ onto_leavers n L (x ∷ xs) trace h g = onto_leavers n L xs (record { number = n
 happened_leavers : (n : ℕ) (L : ℕ → Type 0) (ps : List Packet) (told : List Told) (change : World → World) (w : World) → Every (LeaveTold L) told → Leavers n L w → Leavers n L (happened n ps told change w)
 happened_leavers n L ps told change w h g = happened_keeps (Leavers n L) n ps told change w g (λ l. g) (λ k b t. onto_leavers n L told w.trace h g)
 
-cut_leaves : (L : ℕ → Type 0) (s : ℕ) (d : DiskWrite) (how : Cut) (left : ℕ) → InsideRecord d.says → Every (LeaveTold L) (cut_told s d how left)
-cut_leaves L s d how left h = elim (is_on_disk d how left) as (λ b. Every (LeaveTold L) (cond b (Shown d.says ∷ Shown (says.Stopped s (cause_of how)) ∷ []) (Shown (says.Stopped s (cause_of how)) ∷ []))) [
+cut_leaves : (L : ℕ → Type 0) (s : ℕ) (before : Store) (d : DiskWrite) (how : Cut) (left : ℕ) → InsideRecord d.says → Every (LeaveTold L) (cut_told s before d how left)
+cut_leaves L s before d how left h = elim (is_on_disk before d how left) as (λ b. Every (LeaveTold L) (cond b (Shown d.says ∷ Shown (says.Stopped s (cause_of how)) ∷ []) (Shown (says.Stopped s (cause_of how)) ∷ []))) [
   | true ↦ (inside_record L d.says h, (tt, tt))
   | false ↦ (tt, tt)
 ]
@@ -56,7 +57,7 @@ acts_leavers n L s v o w h g =
     acts_cases (Leavers n L) n s v o w
     (happened_leavers n L o.sent o.told (λ now. puts s (Running o.view) now) w h.told g)
     (λ a. happened_leavers n L o.sent o.told (λ now. puts s (Running o.view) (arms a now)) w h.told g)
-    (λ d a e. happened_leavers n L [] (cut_told s d a.how a.left) _ w (cut_leaves L s d a.how a.left (subst InsideWrite e h.written)) g)
+    (λ d a e. happened_leavers n L [] (cut_told s v.store d a.how a.left) _ w (cut_leaves L s v.store d a.how a.left (subst InsideWrite e h.written)) g)
 
 -- ---- one event of a site ----
 
@@ -143,19 +144,16 @@ pending_leaves : (L : ℕ → Type 0) (xs : List Numbered) → Every (LeaveTold 
 pending_leaves L [] = tt
 pending_leaves L (x ∷ xs) = (tt, pending_leaves L xs)
 
-own : (s : ℕ) → (s == s) ≡ true
-own s = grind (arith, nat_tests)
-
--- the site whose own line this is
+-- the site whose equal_self line this is
 abbrev pub Own : ScheduleLine → ℕ → Type 0
 Own x s = makes_leave x s ≡ true
 
--- a line of its own, whatever stands before it
+-- a line of its equal_self, whatever stands before it
 pub part_leavers : (c : Config) (n s : ℕ) (w : World) → Good w → Leavers n (Own (EventLine (line.Part s))) w → Leavers n (Own (EventLine (line.Part s))) (acts_line c n (EventLine (line.Part s)) w)
-part_leavers c n s w good g = voids_leavers n _ (is_in_no_epoch (place_at w s)) (happens c n s Parts) w (happens_leavers c n _ s Parts w good (λ v k. own s) g) g
+part_leavers c n s w good g = voids_leavers n _ (is_in_no_epoch (place_at w s)) (happens c n s Parts) w (happens_leavers c n _ s Parts w good (λ v k. equal_self s) g) g
 
 pub merge_leavers : (c : Config) (n s : ℕ) (w : World) → Good w → Leavers n (Own (EventLine (line.Merge s))) w → Leavers n (Own (EventLine (line.Merge s))) (acts_line c n (EventLine (line.Merge s)) w)
-merge_leavers c n s w good g = voids_leavers n _ (is_stopped (place_at w s)) (happens c n s Merges) w (happens_leavers c n _ s Merges w good (λ v k. own s) g) g
+merge_leavers c n s w good g = voids_leavers n _ (is_stopped (place_at w s)) (happens c n s Merges) w (happens_leavers c n _ s Merges w good (λ v k. equal_self s) g) g
 
 act_leavers : (c : Config) (n : ℕ) (x : LineWords) (w : World) → Still w → Leavers n (Own (EventLine x)) w → Leavers n (Own (EventLine x)) (act c n x w)
 act_leavers c n (line.Call s process words) w h g = voids_leavers n _ (is_busy process (place_at w s)) (happens c n s (Calls process words)) w (happens_leavers c n _ s (Calls process words) w h.good (λ v k. absurd k) g) g
@@ -166,7 +164,7 @@ act_leavers c n (line.Down a b) w h g = voids_leavers n _ _ (cuts_circuit a b) w
 act_leavers c n (line.Up a b) w h g = voids_leavers n _ _ (mends_circuit a b) w g g
 act_leavers c n (line.Part s) w h g = part_leavers c n s w h.good g
 act_leavers c n (line.Merge s) w h g = merge_leavers c n s w h.good g
-act_leavers c n (line.GiveUp s) w h g = voids_leavers n _ (is_in_no_epoch (place_at w s)) (happens c n s GivesUp) w (happens_leavers c n _ s GivesUp w h.good (λ v k. own s) g) g
+act_leavers c n (line.GiveUp s) w h g = voids_leavers n _ (is_in_no_epoch (place_at w s)) (happens c n s GivesUp) w (happens_leavers c n _ s GivesUp w h.good (λ v k. equal_self s) g) g
 act_leavers c n (line.Stop s) w h g = stopped_leavers n _ s (place_at w s) w g
 act_leavers c n (line.ArmStop s calls l) w h g = g
 act_leavers c n (line.ArmFail s calls) w h g = g

@@ -21,9 +21,9 @@ use Rattle.role_steps.specs.declared.users.WaitingCall.{WaitingCall}
 use Rattle.role_steps.proofs.Sending.{every_append, every_map}
 use Rattle.the_run.specs.Steps.{is_dropped, takes_framed, takes, tries_at, adopts_in, starts_mends_of, ends_event, whole, takes_call, step}
 use Rattle.the_run.proofs.Boots.{every_weaker}
-use Rattle.run_laws.specs.Words.{InsideRecord, Inside, InsideWrite}
-use Rattle.run_laws.specs.Naming.{Inner}
-use Rattle.run_laws.proofs.InsideSteps.{quiet_inner, framed_inner, adopts_of_inner, tries_inner, mends_of_inner, call_inner}
+use Rattle.row_laws.specs.of_run_laws.Words.{InsideRecord, Inside, InsideWrite}
+use Rattle.row_laws.specs.of_run_laws.Naming.{Inner}
+use Rattle.row_laws.proofs.of_run_laws.InsideSteps.{quiet_inner, framed_inner, adopts_of_inner, tries_inner, mends_of_inner, call_inner}
 use Rattle.row_laws.proofs.Forming.{IsIn}
 use Rattle.orderly_laws.proofs.Effects.{boot_taken}
 use Rattle.orderly_traces.specs.Leaving.{LeaveRecord, LeaveTold, HasLeave, Leaves}

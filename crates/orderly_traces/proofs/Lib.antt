@@ -13,3 +13,5 @@ pub mod Forms
 pub mod Leaving
 pub mod Leavers
 pub mod OwnLeaves
+pub use Rattle.orderly_laws.proofs as of_orderly_laws
+pub use Rattle.row_laws.proofs as of_row_laws

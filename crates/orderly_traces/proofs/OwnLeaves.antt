@@ -1,10 +1,11 @@
 -- In an orderly schedule a site leaves only by its own line, or in the round that ends a block in which it is polled.
 use Rattle.std.proofs.Common.{◌≡◌, ◌≢◌, ℕ, zero, suc, ◌+◌, ◌-◌, ◌≤◌, ◌<◌, ◌==◌, nat_lt, Bool, true, false, cond, not, ◌||◌, List, [], ◌∷◌, length, take, Option, Some, None, refl, sym, ◌∙◌, ap, subst, ◌⊎◌, inl, inr, slice_index_or, arith}
 use Rattle.std.proofs.lemmas.Bool.Decides.{nat_tests}
+use Rattle.role_steps.proofs.of_plain_facts.Numbers.{not_zero_test}
 use Rattle.locus_ids.specs.declared.ids.EpochId.{EpochId}
 use Rattle.locus_ids.specs.declared.sites.Links.{Links}
 use Rattle.locus_ids.specs.declared.config.Config.{Config}
-use Rattle.trace_book.specs.declared.book.Entry.{Entry}
+use Rattle.trace_book.specs.declared.entry.Entry.{Entry}
 use Rattle.trace_book.specs.declared.record.Record.TheVariants as says
 use Rattle.schedule_lines.specs.Cluster.{config_of}
 use Rattle.schedule_lines.specs.Schedule.{AreInOrder}
@@ -25,8 +26,8 @@ use Rattle.row_laws.specs.Shown.{shown, with_told, trace_of}
 use Rattle.row_laws.proofs.AskedRun.{run_courses}
 use Rattle.row_laws.proofs.Fitting.{schedule_few}
 use Rattle.row_laws.proofs.Tracing.{ascends_later}
-use Rattle.epoch_laws.specs.Known.{Good}
-use Rattle.epoch_laws.proofs.Run as known
+use Rattle.orderly_laws.specs.of_epoch_laws.Known.{Good}
+use Rattle.orderly_laws.proofs.of_epoch_laws.Run as known
 use Rattle.orderly_laws.specs.Blocks.{StartsBy, starts_of}
 use Rattle.orderly_laws.specs.Quiet.{IsQuiet}
 use Rattle.orderly_laws.specs.Rounds.{Unbroken}
@@ -40,7 +41,7 @@ use Rattle.orderly_traces.proofs.Forms.{starter, order_fits}
 use Rattle.orderly_traces.proofs.Leavers.{Own, IsNew, new_line, leavers_weaker, quiet_leavers, part_leavers, merge_leavers, block_leavers}
 use Rattle.orderly_traces.proofs.Polled.{polled_is}
 use Rattle.orderly_traces.proofs.Spans.{take_length, next_world, span, span_world, before_at}
-use Rattle.orderly_traces.proofs.Walk.{StartsLine, StartsIn, at, starts_in, span_block, span_apart, begins_at, starter_is, not_zero}
+use Rattle.orderly_traces.proofs.Walk.{StartsLine, StartsIn, at, starts_in, span_block, span_apart, begins_at, starter_is}
 
 -- ---- records ----
 
@@ -91,7 +92,7 @@ new_at lines k = ascends_new k (suc k) (at lines k).trace (omega arith) (ascends
 -- ---- the round that ends a block ----
 
 asked_test : (site s b : ℕ) → b ≢ 0 → ((s == site) || not (b == 0)) ≡ true
-asked_test site s b some = ap (λ (z : Bool). (s == site) || z) (not_zero b some) ∙ or_true (s == site)
+asked_test site s b some = ap (λ (z : Bool). (s == site) || z) (not_zero_test b some) ∙ or_true (s == site)
   where
     or_true : (z : Bool) → (z || true) ≡ true
     or_true true = refl

@@ -1,10 +1,13 @@
 -- Whom a line asks and chooses, told by the records as by the world that the line finds.
-use Rattle.std.proofs.Common.{◌≡◌, ◌≢◌, ℕ, zero, suc, ◌+◌, ◌-◌, ◌≤◌, ◌==◌, nat_le, nat_lt, Bool, true, false, cond, not, ◌&&◌, ◌||◌, List, [], ◌∷◌, take, Option, Some, None, refl, sym, ◌∙◌, ap, ◌⊎◌, inl, inr, arith}
+use Rattle.std.proofs.Common.{◌≡◌, ◌≢◌, ℕ, zero, suc, ◌+◌, ◌-◌, ◌≤◌, ◌==◌, nat_le, nat_lt, Bool, true, false, cond, not, ◌&&◌, ◌||◌, List, [], ◌∷◌, take, Option, Some, None, refl, sym, ◌∙◌, ap, ◌⊎◌, inl, inr, arith, ◌<◌}
 use Rattle.std.proofs.lemmas.Bool.Decides.{nat_tests}
 use Rattle.std.specs.Option.{is_some}
+use Rattle.role_steps.proofs.of_plain_facts.Numbers.{at_most, equal, not_zero, not_zero_test}
+use Rattle.role_steps.proofs.of_plain_facts.Tests.{not_true, same_truth, true_false}
 use Rattle.locus_ids.specs.declared.config.Config.{Config}
 use Rattle.locus_ids.specs.declared.sites.Links.{Links}
 use Rattle.locus_ids.specs.declared.sites.Members.{Members}
+use Rattle.locus_ids.specs.Sizes.{sites_max}
 use Rattle.schedule_lines.specs.Cluster.{config_of}
 use Rattle.schedule_lines.specs.declared.line.Line.TheVariants as line
 use Rattle.schedule_lines.specs.declared.line.ScheduleLine.{ScheduleLine}
@@ -13,6 +16,7 @@ use Rattle.role_steps.specs.Views.{SiteView, all_sites}
 use Rattle.role_steps.specs.Views as views
 use Rattle.role_steps.specs.Epochs.{boots_where, merge_boot, part_boot}
 use Rattle.role_steps.specs.declared.rounds.InEpoch.{InEpoch}
+use Rattle.role_steps.proofs.Counted.{sites_count}
 use Rattle.tree_model.specs.Folds.{Trace, before_line}
 use Rattle.tree_model.specs.Epochs.{is_up, boot_of}
 use Rattle.tree_model.specs.Packs.{boot_in, is_member}
@@ -26,11 +30,11 @@ use Rattle.the_run.specs.Runs.{is_in_no_epoch, run}
 use Rattle.row_laws.specs.Shown.{trace_of}
 use Rattle.row_laws.specs.Voids.{CutsNoSelf}
 use Rattle.row_laws.proofs.AskedRun.{run_courses}
-use Rattle.epoch_laws.proofs.Boots.{boot_there, boot_nowhere}
-use Rattle.epoch_laws.proofs.Run as known
+use Rattle.orderly_laws.proofs.of_epoch_laws.Boots.{boot_there, boot_nowhere}
+use Rattle.orderly_laws.proofs.of_epoch_laws.Run as known
 use Rattle.orderly_laws.specs.Blocks.{StartsBy, IsInBlock, asked_by_merge, asked_by_part, asked_at, asked_inside}
 use Rattle.orderly_laws.specs.Settling.{boot_at, reaches, is_asked, is_chosen}
-use Rattle.orderly_laws.proofs.Chosen.{sixteen, counted_among, and_true_right}
+use Rattle.orderly_laws.proofs.Chosen.{counted_among, and_true_right}
 use Rattle.orderly_laws.proofs.Places.{runs, boot_here, link_boot, link_sized}
 use Rattle.orderly_traces.specs.Fits.{EachFits, IsCluster}
 use Rattle.orderly_traces.proofs.Circuits.{take_fits, cuts_no_self, cut_is, self_uncut}
@@ -38,35 +42,27 @@ use Rattle.orderly_traces.proofs.Listed.{own_boot, list_told}
 use Rattle.orderly_traces.proofs.Placed.{placed}
 use Rattle.orderly_traces.proofs.Reached.{running_boot, running_epoch}
 use Rattle.orderly_traces.proofs.Spans.{before_at}
-use Rattle.orderly_traces.proofs.Walk.{at, not_zero, zero_not, reaches_itself, is_reached_at}
+use Rattle.orderly_traces.proofs.Walk.{at, reaches_itself, is_reached_at}
 
-true_false : true ≡ false → ⊥
-true_false e = cc
-
-pub bool_same : (a b : Bool) → (a ≡ true → b ≡ true) → (b ≡ true → a ≡ true) → a ≡ b
-bool_same true b f g = sym (f refl)
-bool_same false true f g = g refl
-bool_same false false f g = refl
-
-pub range : (s : ℕ) → (s ≤ 16) ⊎ (17 ≤ s)
+pub range : (s : ℕ) → (s ≤ sites_max) ⊎ (sites_max < s)
 range s =
-    (elim (nat_le s 16) as (λ b. nat_le s 16 ≡ b → (s ≤ 16) ⊎ (17 ≤ s)) [
+    (elim (nat_le s sites_max) as (λ b. nat_le s sites_max ≡ b → (s ≤ sites_max) ⊎ (sites_max < s)) [
       | true ↦ λ e. inl (within e)
       | false ↦ λ e. inr (beyond e)
     ]) refl
   where
-    within : nat_le s 16 ≡ true → s ≤ 16
+    within : nat_le s sites_max ≡ true → s ≤ sites_max
     within e = grind (arith, nat_tests)
 
-    beyond : nat_le s 16 ≡ false → 17 ≤ s
+    beyond : nat_le s sites_max ≡ false → sites_max < s
     beyond e = grind (arith, nat_tests)
 
 -- ---- whom a site reaches ----
 
-pub at_most_sixteen : (a b : ℕ) → a ≤ b → b ≤ 16 → a ≤ 16
+pub at_most_sixteen : (a b : ℕ) → a ≤ b → b ≤ sites_max → a ≤ sites_max
 at_most_sixteen a b p q = omega (arith, p, q)
 
-counted : (t : ℕ) → t ≤ 16 → t + 1 ≤ 17
+counted : (t : ℕ) → t ≤ sites_max → t + 1 ≤ sites_max + 1
 counted t le = omega (arith, le)
 
 -- a site of the cluster that is up has its place, and runs
@@ -74,7 +70,7 @@ there : (lines : List ScheduleLine) → IsCluster lines → (k t : ℕ) → 1 �
 there lines few k t low high up = by_place (place_at (at lines k) t) refl
   where
     by_place : (o : Option Place) → place_at (at lines k) t ≡ o → (v : SiteView) × (place_at (at lines k) t ≡ Some (Running v))
-    by_place None e = absurd (placed (config_of lines) (take k lines) t (counted_among 1 all_sites sixteen t low (counted t (at_most_sixteen t (config_of lines).sites high few))) high e)
+    by_place None e = absurd (placed (config_of lines) (take k lines) t (counted_among 1 all_sites sites_count t low (counted t (at_most_sixteen t (config_of lines).sites high few))) high e)
     by_place (Some (Stopped d)) e = absurd (true_false (sym up ∙ ((run_courses (config_of lines) (take k lines)).course.places t (Stopped d) e).0))
     by_place (Some (Running v)) e = (v, e)
 
@@ -88,21 +84,11 @@ all_parts true true false y z h = absurd (true_false (sym h))
 all_parts true true true false z h = absurd (true_false (sym h))
 all_parts true true true true z h = (refl, refl, refl, h)
 
-not_false : (b : Bool) → not b ≡ true → b ≡ false
-not_false true h = sym h
-not_false false h = refl
-
-least : (a b : ℕ) → nat_le a b ≡ true → a ≤ b
-least a b e = grind (arith, nat_tests)
-
-equal : (a b : ℕ) → (a == b) ≡ true → a ≡ b
-equal a b e = grind (arith, nat_tests)
-
 above : (p q : ℕ) → p ≡ q → 1 ≤ q → p ≡ 0 → ⊥
 above p q e le z = omega (arith, e, le, z)
 
 reach_back : (lines : List ScheduleLine) → EachFits lines → IsCluster lines → (k X t : ℕ) → is_reached lines (trace_of (run lines)) (suc k) X t ≡ true → reaches (at lines k) X t ≡ true
-reach_back lines fits few k X t h = not_zero link (above link to.0.boot link_is (booted_at lines k t to.0 to.1))
+reach_back lines fits few k X t h = not_zero_test link (above link to.0.boot link_is (booted_at lines k t to.0 to.1))
   where
     c : Config
     c = config_of lines
@@ -117,24 +103,24 @@ reach_back lines fits few k X t h = not_zero link (above link to.0.boot link_is 
     g = all_parts (nat_le 1 t) (nat_le t c.sites) (is_up tr X) (is_up tr t) ((X == t) || not (lawful.is_cut (take (suc k - 1) lines) X t)) h
 
     low : 1 ≤ t
-    low = least 1 t g.0
+    low = at_most 1 t g.0
 
     high : t ≤ c.sites
-    high = least t c.sites g.1
+    high = at_most t c.sites g.1
 
     to : (v : SiteView) × (place_at (at lines k) t ≡ Some (Running v))
     to = there lines few k t low high (ap (λ (z : Trace). is_up z t) (sym (before_at c lines k)) ∙ g.2)
 
     whole : (b : Bool) → (X == t) ≡ b → (b || not (lawful.is_cut (take (suc k - 1) lines) X t)) ≡ true → is_cut (at lines k) X t ≡ false
     whole true e f = ap (is_cut (at lines k) X) (sym (equal X t e)) ∙ self_uncut c (take k lines) (take_fits c.sites lines k fits) X
-    whole false e f = cut_is c (take k lines) (take_fits c.sites lines k fits) X t ∙ (ap (λ (j : ℕ). lawful.is_cut (take j lines) X t) {x = k} {y = suc k - 1} (omega arith) ∙ not_false (lawful.is_cut (take (suc k - 1) lines) X t) f)
+    whole false e f = cut_is c (take k lines) (take_fits c.sites lines k fits) X t ∙ (ap (λ (j : ℕ). lawful.is_cut (take j lines) X t) {x = k} {y = suc k - 1} (omega arith) ∙ not_true (lawful.is_cut (take (suc k - 1) lines) X t) f)
 
     link_is : link ≡ to.0.boot
     link_is = boot_there (link_of (at lines k) X) t low (at_most_sixteen t c.sites high few) ∙ (ap (λ (b : Bool). cond b 0 (boot_at (at lines k) t)) (whole (X == t) refl g.3) ∙ boot_here (at lines k) t to.0 to.1)
 
 -- a running site reaches the same by the records as by the world
 pub reach_is : (lines : List ScheduleLine) → EachFits lines → IsCluster lines → (k X t : ℕ) → boot_at (at lines k) X ≢ 0 → is_reached lines (trace_of (run lines)) (suc k) X t ≡ reaches (at lines k) X t
-reach_is lines fits few k X t some = bool_same (is_reached lines (trace_of (run lines)) (suc k) X t) (reaches (at lines k) X t) (reach_back lines fits few k X t) (is_reached_at lines fits k X t some)
+reach_is lines fits few k X t some = same_truth (is_reached lines (trace_of (run lines)) (suc k) X t) (reaches (at lines k) X t) (reach_back lines fits few k X t) (is_reached_at lines fits k X t some)
 
 -- ---- whom a line asks ----
 
@@ -146,7 +132,7 @@ merge_there w site (suc t) e = by_range (range (suc t))
     low : (n : ℕ) → 1 ≤ suc n
     low n = omega arith
 
-    by_range : (suc t ≤ 16) ⊎ (17 ≤ suc t) → views.boot_in (asked_by_merge w site).boot (suc t) ≡ views.boot_in (links_of w site).boot (suc t)
+    by_range : (suc t ≤ sites_max) ⊎ (sites_max < suc t) → views.boot_in (asked_by_merge w site).boot (suc t) ≡ views.boot_in (links_of w site).boot (suc t)
     by_range (inl le) = boot_there (merge_boot site (links_of w site)) (suc t) (low t) le ∙ ap (λ (b : Bool). cond b 0 (views.boot_in (links_of w site).boot (suc t))) e
     by_range (inr le) = boot_nowhere (merge_boot site (links_of w site)) (suc t) le ∙ sym (link_sized w site (suc t) le)
 
@@ -158,7 +144,7 @@ merge_asks w site s itself =
     ]) refl
 
 -- the members that the site reaches in the boots that the list has
-part_there : (w : World) (site s : ℕ) (m : Members) → (s == site) ≡ false → 1 ≤ s → s ≤ 16 → views.boot_in (boots_where (part_boot site (links_of w site) m)).boot s ≡ cond (not (views.boot_in (links_of w site).boot s == boot_in m s)) 0 (boot_in m s)
+part_there : (w : World) (site s : ℕ) (m : Members) → (s == site) ≡ false → 1 ≤ s → s ≤ sites_max → views.boot_in (boots_where (part_boot site (links_of w site) m)).boot s ≡ cond (not (views.boot_in (links_of w site).boot s == boot_in m s)) 0 (boot_in m s)
 part_there w site s m e low high = boot_there (part_boot site (links_of w site) m) s low high ∙ ap (λ (b : Bool). cond (b || not (views.boot_in (links_of w site).boot s == boot_in m s)) 0 (boot_in m s)) e
 
 own_numbers : (l b r v : ℕ) → not (l == 0) ≡ true → b ≡ v → r ≡ v → 1 ≤ v → (not (l == 0) && (nat_lt 0 b && (b == r))) ≡ true
@@ -212,7 +198,7 @@ part_asks w site s r own m itself mine booted here linked =
     other zero e f = refl
     other (suc t) e f = by_range (range (suc t))
       where
-        by_range : (suc t ≤ 16) ⊎ (17 ≤ suc t) → (reaches w site (suc t) && (is_member m (suc t) && (boot_in m (suc t) == r))) ≡ not (views.boot_in (boots_where (part_boot site (links_of w site) m)).boot (suc t) == 0)
+        by_range : (suc t ≤ sites_max) ⊎ (sites_max < suc t) → (reaches w site (suc t) && (is_member m (suc t) && (boot_in m (suc t) == r))) ≡ not (views.boot_in (boots_where (part_boot site (links_of w site) m)).boot (suc t) == 0)
         by_range (inl le) = numbers (views.boot_in (links_of w site).boot (suc t)) (boot_in m (suc t)) r f ∙ ap (λ (n : ℕ). not (n == 0)) (sym (part_there w site (suc t) m e (low t) le))
         by_range (inr le) = ap (λ (n : ℕ). not (n == 0) && (is_member m (suc t) && (boot_in m (suc t) == r))) (link_sized w site (suc t) le) ∙ ap (λ (n : ℕ). not (n == 0)) (sym (boot_nowhere (part_boot site (links_of w site) m) (suc t) le))
 
@@ -271,7 +257,7 @@ pub record Starter (lines : List ScheduleLine) (k site : ℕ) (P : Links) : Type
   pub inside : IsInBlock (line_at lines (suc k)) (at lines k)
   pub starts : StartsBy (line_at lines (suc k)) (at lines k) site P
   pub low : 1 ≤ site
-  pub high : site ≤ 16
+  pub high : site ≤ sites_max
   pub runs : boot_at (at lines k) site ≢ 0
 
 pub polled_is : (lines : List ScheduleLine) → EachFits lines → IsCluster lines → (k site : ℕ) (P : Links) → Starter lines k site P → (s : ℕ) → is_polled lines (trace_of (run lines)) (suc k) site s ≡ is_asked site P s
@@ -311,7 +297,7 @@ narrowed_within R f (x ∷ xs) s h = first (f s) (not (f x) || R x s) (narrowed_
 
 pub polled_reached : (lines : List ScheduleLine) → EachFits lines → IsCluster lines → (k site s : ℕ) → is_polled lines (trace_of (run lines)) (suc k) site s ≡ true → (1 ≤ s) × (s ≤ (config_of lines).sites) × (boot_at (at lines k) s ≢ 0)
 polled_reached lines fits few k site s h =
-    (least 1 s (first (nat_le 1 s) (nat_le s (config_of lines).sites && lawful.reaches (lawful.lines_before lines (suc k)) tr site s) reached), least s (config_of lines).sites (first (nat_le s (config_of lines).sites) (lawful.reaches (lawful.lines_before lines (suc k)) tr site s) (second (nat_le 1 s) (nat_le s (config_of lines).sites && lawful.reaches (lawful.lines_before lines (suc k)) tr site s) reached)), λ z. zero_not (views.boot_in (links_of (at lines k) site).boot s) (reach_back lines fits few k site s reached) (by_link z))
+    (at_most 1 s (first (nat_le 1 s) (nat_le s (config_of lines).sites && lawful.reaches (lawful.lines_before lines (suc k)) tr site s) reached), at_most s (config_of lines).sites (first (nat_le s (config_of lines).sites) (lawful.reaches (lawful.lines_before lines (suc k)) tr site s) (second (nat_le 1 s) (nat_le s (config_of lines).sites && lawful.reaches (lawful.lines_before lines (suc k)) tr site s) reached)), λ z. not_zero (views.boot_in (links_of (at lines k) site).boot s) (reach_back lines fits few k site s reached) (by_link z))
   where
     first : (a b : Bool) → (a && b) ≡ true → a ≡ true
     first true b h = refl
@@ -328,7 +314,7 @@ polled_reached lines fits few k site s h =
     reached = first (is_reached lines (trace_of (run lines)) (suc k) site s) (may_be_asked (line_at lines (suc k)) tr s) h
 
     by_link : boot_at (at lines k) s ≡ 0 → views.boot_in (links_of (at lines k) site).boot s ≡ 0
-    by_link z = (link_boot (at lines k) site s (zero_not (views.boot_in (links_of (at lines k) site).boot s) (reach_back lines fits few k site s reached))).0 ∙ z
+    by_link z = (link_boot (at lines k) site s (not_zero (views.boot_in (links_of (at lines k) site).boot s) (reach_back lines fits few k site s reached))).0 ∙ z
 
 pub chosen_is : (lines : List ScheduleLine) → EachFits lines → IsCluster lines → (k site : ℕ) (P : Links) → Starter lines k site P → (s : ℕ) → orderly.is_chosen lines (trace_of (run lines)) (suc k) site s ≡ is_chosen (at lines k) site P s
 chosen_is lines fits few k site P h =

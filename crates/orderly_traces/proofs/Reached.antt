@@ -8,7 +8,7 @@ use Rattle.tree_model.specs.Epochs as told
 use Rattle.the_run.specs.Steps.{epoch_id}
 use Rattle.the_run.specs.Worlds.{Running, place_at}
 use Rattle.the_run.specs.Runs.{run_in}
-use Rattle.run_laws.proofs.Run.{run_good}
+use Rattle.row_laws.proofs.of_run_laws.Run.{run_good}
 use Rattle.row_laws.specs.Shown.{trace_of}
 use Rattle.row_laws.proofs.AskedRun.{run_courses}
 use Rattle.row_laws.proofs.Causes.{epoch_standing}

@@ -48,10 +48,6 @@ abbrev pub span : List ScheduleLine → ℕ → ℕ → List ScheduleLine
 span lines k zero = []
 span lines k (suc j) = line_at lines (suc k) ∷ span lines (suc k) j
 
-pub span_length : (lines : List ScheduleLine) (k j : ℕ) → length (span lines k j) ≡ j
-span_length lines k zero = refl
-span_length lines k (suc j) = ap suc (span_length lines (suc k) j)
-
 pub span_world : (c : Config) (lines : List ScheduleLine) (k j : ℕ) → run_from c (suc k) (span lines k j) (world c lines k) ≡ world c lines (k + j)
 span_world c lines k zero = ap (world c lines) {x = k} {y = k + 0} (omega arith)
 span_world c lines k (suc j) =

@@ -1,5 +1,5 @@
 -- What is told in a line has its number, so it leaves the records before the line.
-use Rattle.std.proofs.Common.{◌≡◌, ℕ, ◌+◌, ◌≤◌, Bool, true, false, not, ◌||◌, List, [], ◌∷◌, ◌++◌, length, Option, Some, None, refl, sym, ◌∙◌, ap, arith}
+use Rattle.std.proofs.Common.{◌≡◌, ℕ, ◌+◌, ◌≤◌, Bool, true, false, not, ◌||◌, List, [], ◌∷◌, ◌++◌, Option, Some, None, refl, sym, ◌∙◌, ap, arith}
 use Rattle.locus_ids.specs.declared.config.Config.{Config}
 use Rattle.schedule_lines.specs.declared.line.Line.{Line as LineWords}
 use Rattle.schedule_lines.specs.declared.line.Line.TheVariants as line
@@ -10,13 +10,11 @@ use Rattle.role_steps.specs.Views.{SiteView, Told, Outcome, Event, Calls, Receiv
 use Rattle.tree_model.specs.Folds.{before_line}
 use Rattle.the_run.specs.Disks.{Booted, Whole, CutOff, Stops, Fails, boots}
 use Rattle.the_run.specs.Steps.{is_dropped, step}
-use Rattle.the_run.specs.Worlds.{World, Place, Running, Stopped, Numbered, Line, place_at, is_cut, links_of, script_of, happened, told_onto, puts, arms, passed, loses, stops_with, disk_of, acts, happens, happens_at, first_world}
-use Rattle.the_run.specs.Runs.{packet_at, can_come, arrives_at, arrives, budget_ends, is_stopped, is_in_no_epoch, is_busy, is_lost, unless_void, delivers_line, loses_line, cuts_circuit, mends_circuit, stops_line, boots_as, boots_line, act, acts_line, run_from, run_in}
+use Rattle.the_run.specs.Worlds.{World, Place, Running, Stopped, Numbered, Line, place_at, is_cut, links_of, script_of, happened, told_onto, puts, arms, passed, loses, stops_with, disk_of, acts, happens, happens_at}
+use Rattle.the_run.specs.Runs.{packet_at, can_come, arrives_at, arrives, budget_ends, is_stopped, is_in_no_epoch, is_busy, is_lost, unless_void, delivers_line, loses_line, cuts_circuit, mends_circuit, stops_line, boots_as, boots_line, act, acts_line, run_from}
 use Rattle.the_run.proofs.Events.{happened_keeps, acts_keeps}
-use Rattle.the_run.proofs.Growing.{run_splits}
 use Rattle.row_laws.specs.Shown.{shown, trace_of}
-use Rattle.row_laws.proofs.AskedRun.{run_courses}
-use Rattle.row_laws.proofs.Tracing.{before_told, before_all}
+use Rattle.row_laws.proofs.Tracing.{before_told}
 use Rattle.orderly_laws.proofs.Rounds.{RoundKept, settles_kept}
 
 -- the later world's trace has more of this line
@@ -127,10 +125,3 @@ tells_before n m w u h le = ap (λ (t : List Line). before_line (shown t) m) h.t
 pub lines_before : (c : Config) (n m : ℕ) (xs : List ScheduleLine) (w : World) → m ≤ n → before_line (trace_of (run_from c n xs w)) m ≡ before_line (trace_of w) m
 lines_before c n m [] w le = refl
 lines_before c n m (x ∷ xs) w le = lines_before c (n + 1) m xs (acts_line c n x w) (omega (arith, le)) ∙ tells_before n m w (acts_line c n x w) (line_tells c n x w) le
-
--- the records before a line are those of the lines before it
-pub before_is : (c : Config) (earlier rest : List ScheduleLine) → before_line (trace_of (run_in c (earlier ++ rest))) (1 + length earlier) ≡ trace_of (run_in c earlier)
-before_is c earlier rest =
-    ap (λ (u : World). before_line (trace_of u) (1 + length earlier)) (run_splits c 1 earlier rest (first_world c))
-    ∙ (lines_before c (1 + length earlier) (1 + length earlier) rest (run_in c earlier) (omega arith)
-    ∙ before_all (length earlier) (1 + length earlier) (run_in c earlier).trace (run_courses c earlier).course.ascends (omega arith))

@@ -1,8 +1,10 @@
 -- From block to block of an orderly schedule: all is quiet before each block, and each forms its epochs.
 use Rattle.std.proofs.Common.{◌≡◌, ◌≢◌, ℕ, zero, suc, ◌+◌, ◌-◌, ◌≤◌, ◌<◌, ◌==◌, nat_le, Bool, true, false, cond, not, ◌&&◌, ◌||◌, List, take, Some, refl, sym, ◌∙◌, ap, subst, ◌⊎◌, inl, inr, arith}
 use Rattle.std.proofs.lemmas.Bool.Decides.{nat_tests}
+use Rattle.role_steps.proofs.of_plain_facts.Numbers.{not_zero, not_zero_test}
 use Rattle.locus_ids.specs.declared.sites.Links.{Links}
 use Rattle.locus_ids.specs.declared.config.Config.{Config}
+use Rattle.locus_ids.specs.Sizes.{sites_max}
 use Rattle.schedule_lines.specs.Cluster.{config_of}
 use Rattle.schedule_lines.specs.Ranges.{is_site}
 use Rattle.schedule_lines.specs.declared.line.ScheduleLine.{ScheduleLine}
@@ -16,8 +18,8 @@ use Rattle.lawful_trace.specs.Orderly.{is_reached}
 use Rattle.the_run.specs.Worlds.{World, Running, place_at, boot_of, is_cut, link_of, links_of}
 use Rattle.the_run.specs.Runs.{acts_line, run}
 use Rattle.row_laws.specs.Shown.{trace_of}
-use Rattle.epoch_laws.proofs.Boots.{boot_there}
-use Rattle.epoch_laws.proofs.Run as known
+use Rattle.orderly_laws.proofs.of_epoch_laws.Boots.{boot_there}
+use Rattle.orderly_laws.proofs.of_epoch_laws.Run as known
 use Rattle.orderly_laws.specs.Blocks.{StartsBy, IsInBlock, starts_of, StandApart, AreLinesApart}
 use Rattle.orderly_laws.specs.Blocks as blocks
 use Rattle.orderly_laws.specs.Settling.{boot_at, reaches}
@@ -158,21 +160,15 @@ starter_boot lines fits b e i k X P low high l m h r =
     above : (p q : ℕ) → p ≡ q → 1 ≤ q → p ≡ 0 → ⊥
     above p q e le z = omega (arith, e, le, z)
 
-pub starter_site : (lines : List ScheduleLine) → EachFits lines → (i X : ℕ) (P : Links) → IsInBlock (line_at lines (suc i)) (at lines i) → StartsBy (line_at lines (suc i)) (at lines i) X P → (1 ≤ X) × ((X ≤ 16) × (X ≤ (config_of lines).sites))
+pub starter_site : (lines : List ScheduleLine) → EachFits lines → (i X : ℕ) (P : Links) → IsInBlock (line_at lines (suc i)) (at lines i) → StartsBy (line_at lines (suc i)) (at lines i) X P → (1 ≤ X) × ((X ≤ sites_max) × (X ≤ (config_of lines).sites))
 starter_site lines fits i X P h r = site_there (config_of lines).sites X (starter_runs (line_at lines (suc i)) (at lines i) (config_of lines).sites X P (line_fits (config_of lines).sites lines i fits) h r).0
 
-pub not_zero : (a : ℕ) → a ≢ 0 → not (a == 0) ≡ true
-not_zero a h = grind (arith, nat_tests)
-
-pub zero_not : (a : ℕ) → not (a == 0) ≡ true → a ≢ 0
-zero_not a h e = grind (arith, nat_tests)
-
-pub reaches_itself : (lines : List ScheduleLine) → EachFits lines → (k X : ℕ) → 1 ≤ X → X ≤ 16 → boot_at (at lines k) X ≢ 0 → reaches (at lines k) X X ≡ true
+pub reaches_itself : (lines : List ScheduleLine) → EachFits lines → (k X : ℕ) → 1 ≤ X → X ≤ sites_max → boot_at (at lines k) X ≢ 0 → reaches (at lines k) X X ≡ true
 reaches_itself lines fits k X low high some =
     let c : Config = config_of lines in
     let whole : is_cut (at lines k) X X ≡ false = self_uncut c (take k lines) (take_fits c.sites lines k fits) X in
     let link : boot_in (links_of (at lines k) X).boot X ≡ boot_at (at lines k) X = boot_there (link_of (at lines k) X) X low high ∙ ap (λ (b : Bool). cond b 0 (boot_at (at lines k) X)) whole in
-    not_zero (boot_in (links_of (at lines k) X).boot X) (λ z. some (sym link ∙ z))
+    not_zero_test (boot_in (links_of (at lines k) X).boot X) (λ z. some (sym link ∙ z))
 
 all_true : (a b x y p q : Bool) → a ≡ true → b ≡ true → x ≡ true → y ≡ true → q ≡ false → (a && (b && (x && y && (p || not q)))) ≡ true
 all_true false b x y p q ea eb ex ey eq = absurd (cc)
@@ -192,7 +188,7 @@ pub is_reached_at : (lines : List ScheduleLine) → EachFits lines → (k X t : 
 is_reached_at lines fits k X t some h =
     let c : Config = config_of lines in
     let w : World = at lines k in
-    let link : boot_in (links_of w X).boot t ≢ 0 = zero_not (boot_in (links_of w X).boot t) h in
+    let link : boot_in (links_of w X).boot t ≢ 0 = not_zero (boot_in (links_of w X).boot t) h in
     let is : (boot_in (links_of w X).boot t ≡ boot_at w t) × (is_cut w X t ≡ false) = link_boot w X t link in
     let from : (v : SiteView) × (place_at w X ≡ Some (Running v)) × (v.boot ≡ boot_at w X) = runs (place_at w X) some in
     let to : (v : SiteView) × (place_at w t ≡ Some (Running v)) × (v.boot ≡ boot_at w t) = runs (place_at w t) (λ z. link (is.0 ∙ z)) in

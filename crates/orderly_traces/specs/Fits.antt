@@ -1,5 +1,6 @@
 -- Lines that name sites of their cluster alone, as every schedule that is read does.
 use Rattle.std.specs.Prelude.{ℕ, ◌≡◌, ◌≤◌, true, List}
+use Rattle.locus_ids.specs.Sizes.{sites_max}
 use Rattle.schedule_lines.specs.Cluster.{config_of}
 use Rattle.schedule_lines.specs.Ranges.{fits_event}
 use Rattle.schedule_lines.specs.declared.line.ScheduleLine.{ScheduleLine}
@@ -16,4 +17,4 @@ EachFits lines = Every (FitsCluster (config_of lines).sites) lines
 
 -- the cluster has no more sites than there may be
 abbrev pub IsCluster : List ScheduleLine → Type 0
-IsCluster lines = (config_of lines).sites ≤ 16
+IsCluster lines = (config_of lines).sites ≤ sites_max

@@ -7,7 +7,7 @@ use Rattle.wire_messages.specs.declared.body.Body.TheVariants as body
 use Rattle.role_steps.specs.Epochs.{is_epoch_below}
 use Rattle.role_steps.specs.Own.{Every}
 use Rattle.role_steps.specs.Views.{SiteView, Told, Shown, Outcome, Event, Receives, Parts, Merges, GivesUp, boot_in}
-use Rattle.run_laws.specs.Words.{InsideWrite}
+use Rattle.row_laws.specs.of_run_laws.Words.{InsideWrite}
 use Rattle.the_run.specs.Worlds.{World, Line}
 use Rattle.orderly_laws.specs.Settling.{Starts}
 

@@ -6,7 +6,7 @@ use Rattle.version_vector.specs.Counters.{part, raised}
 use Rattle.trace_book.specs.declared.record.Record.{Record}
 use Rattle.trace_book.specs.declared.record.Record.TheVariants as says
 use Rattle.role_steps.specs.Views.{Told, Shown}
-use Rattle.vector_laws.specs.Written.{JoinsAll, IsCommitOf, IsWrittenBy, WrittenAs, NumberedTold, CommitsAreNumbered}
+use Rattle.lock_laws.specs.of_vector_laws.Written.{JoinsAll, IsCommitOf, IsWrittenBy, WrittenAs, NumberedTold, CommitsAreNumbered}
 use Rattle.pack_laws.specs.CounterNumbers.{commits_recorded, commits_told, commits_in, IsLowTold, NumbersAreLow}
 
 -- ---- vectors ----

@@ -3,8 +3,8 @@ use Rattle.std.proofs.Common.{List}
 use Rattle.locus_ids.specs.declared.config.Config.{Config}
 use Rattle.schedule_lines.specs.declared.line.ScheduleLine.{ScheduleLine}
 use Rattle.the_run.specs.Runs.{run_in}
-use Rattle.vector_laws.specs.Written.{past_of}
-use Rattle.vector_laws.proofs.FactsRun.{run_numbered}
+use Rattle.lock_laws.specs.of_vector_laws.Written.{past_of}
+use Rattle.lock_laws.proofs.of_vector_laws.FactsRun.{run_numbered}
 use Rattle.pack_laws.proofs.InstanceAgree.{run_agrees}
 use Rattle.pack_laws.specs.CounterNumbers.{NumbersAreLow}
 use Rattle.pack_laws.proofs.CounterCounting.{all_low}

@@ -16,7 +16,7 @@ use Rattle.the_run.specs.Runs.{boots_as, run_in}
 use Rattle.the_run.specs.Kept.{Kept}
 use Rattle.the_run.proofs.Events.{acts_keeps}
 use Rattle.the_run.proofs.Runs.{every_run}
-use Rattle.vector_laws.specs.Written.{past_of}
+use Rattle.lock_laws.specs.of_vector_laws.Written.{past_of}
 use Rattle.pack_laws.specs.CounterNumbers.{commits_recorded, commits_told, commits_in}
 
 -- there are no more commits than bytes of text, and there is room for these

@@ -2,24 +2,25 @@
 use Rattle.std.proofs.Common.{◌≡◌, ◌≤◌, ◌⊎◌, ℕ, ◌+◌, ◌-◌, ◌*◌, List, [], ◌∷◌, sym, ap, ◌∙◌, subst, inl, inr, arith}
 use Rattle.locus_ids.specs.declared.ids.FileId.{FileId}
 use Rattle.locus_ids.specs.declared.config.Config.{Config}
+use Rattle.locus_ids.specs.Sizes.{site_inodes}
 use Rattle.schedule_lines.specs.declared.line.ScheduleLine.{ScheduleLine}
 use Rattle.trace_book.specs.declared.record.Record.{Record}
 use Rattle.trace_book.specs.declared.record.Record.TheVariants as says
 use Rattle.role_steps.specs.Views.{Told, Shown}
 use Rattle.the_run.specs.Runs.{run_in}
-use Rattle.vector_laws.specs.Written.{past_of}
-use Rattle.vector_laws.specs.HistoryCommits.{SitedRecord, SitedTold, CommitsAreSited, SitesAreKnown}
-use Rattle.vector_laws.proofs.HistorySited.{run_sited}
+use Rattle.lock_laws.specs.of_vector_laws.Written.{past_of}
+use Rattle.lock_laws.specs.of_vector_laws.HistoryCommits.{SitedRecord, SitedTold, CommitsAreSited, SitesAreKnown}
+use Rattle.lock_laws.proofs.of_vector_laws.HistorySited.{run_sited}
 use Rattle.pack_laws.specs.Making.{IsOwnNumber, CommitsRecord, CommitsFile, WasCommitted, MadeRecord, MadeTold, FilesAreMadeAtHome, WasCommittedAt, HomesCommitFirst}
 use Rattle.pack_laws.proofs.Making.{run_made}
 
 -- the numbers of two sites differ
 same_home : (s t ino : ℕ) → 1 ≤ s → 1 ≤ t → IsOwnNumber s ino → IsOwnNumber t ino → s ≡ t
 same_home s t ino p q h g =
-    let a : 64 * (s - 1) + 1 ≤ ino = h.low in
-    let b : ino ≤ 64 * (s - 1) + 64 = h.high in
-    let c : 64 * (t - 1) + 1 ≤ ino = g.low in
-    let d : ino ≤ 64 * (t - 1) + 64 = g.high in
+    let a : site_inodes * (s - 1) + 1 ≤ ino = h.low in
+    let b : ino ≤ site_inodes * (s - 1) + site_inodes = h.high in
+    let c : site_inodes * (t - 1) + 1 ≤ ino = g.low in
+    let d : ino ≤ site_inodes * (t - 1) + site_inodes = g.high in
     omega (arith, p, q, a, b, c, d)
 
 -- a root, or committed by the site whose number it has

@@ -1,8 +1,12 @@
 -- In every run the inode numbers of committed and adopted files have 16 bits.
 use Rattle.std.proofs.Common.{◌≡◌, ◌≤◌, ℕ, ◌+◌, ◌==◌, nat_lt, nat_le, ◌&&◌, Bool, true, false, cond, List, [], ◌∷◌, filter, map, Option, Some, None, refl, sym, ◌∙◌, ap, subst, inl, inr, arith}
 use Rattle.std.proofs.lemmas.Bool.Decides.{nat_tests}
+use Rattle.role_steps.proofs.of_plain_facts.Numbers.{equal}
+use Rattle.role_steps.proofs.of_plain_facts.Options.{some_same}
+use Rattle.role_steps.proofs.of_plain_facts.Tests.{both_true}
 use Rattle.locus_ids.specs.declared.ids.FileId.{FileId}
 use Rattle.locus_ids.specs.declared.config.Config.{Config}
+use Rattle.locus_ids.specs.Sizes.{sites_max}
 use Rattle.schedule_lines.specs.declared.line.ScheduleLine.{ScheduleLine}
 use Rattle.trace_book.specs.declared.record.Record.{Record}
 use Rattle.trace_book.specs.declared.record.Record.TheVariants as says
@@ -23,15 +27,15 @@ use Rattle.the_run.specs.Kept.{WasSent, IsOwn, Kept}
 use Rattle.the_run.proofs.Boots.{at_each, acts_cases, every_newest, every_numbered, every_weaker}
 use Rattle.the_run.proofs.Events.{happened_keeps, puts_other, puts_same}
 use Rattle.the_run.proofs.InsideSync.{every_row, every_without}
-use Rattle.the_run.proofs.Runs.{every_run, some_eq}
-use Rattle.run_laws.proofs.Run.{found_among}
-use Rattle.vector_laws.specs.Held.{IsOf, StillRecord, Still, OnDisk, copies_on}
-use Rattle.vector_laws.specs.Written.{past_of}
-use Rattle.vector_laws.specs.Facts.{onto}
-use Rattle.vector_laws.proofs.FactsRun.{past_onto}
-use Rattle.vector_laws.proofs.Held.{KeepsCopies, boots_copies}
-use Rattle.vector_laws.proofs.SiteDisks.{SiteDisk, step_disk}
-use Rattle.vector_laws.specs.HistoryCommits.{FitRecord, FitTold, NumbersFit}
+use Rattle.the_run.proofs.Runs.{every_run}
+use Rattle.lock_laws.proofs.of_run_laws.Run.{found_among}
+use Rattle.lock_laws.specs.of_vector_laws.Held.{IsOf, StillRecord, Still, OnDisk, copies_on}
+use Rattle.lock_laws.specs.of_vector_laws.Written.{past_of}
+use Rattle.lock_laws.specs.of_vector_laws.Facts.{onto}
+use Rattle.lock_laws.proofs.of_vector_laws.FactsRun.{past_onto}
+use Rattle.lock_laws.proofs.of_vector_laws.Held.{KeepsCopies, boots_copies}
+use Rattle.lock_laws.proofs.of_vector_laws.SiteDisks.{SiteDisk, step_disk}
+use Rattle.lock_laws.specs.of_vector_laws.HistoryCommits.{FitRecord, FitTold, NumbersFit}
 use Rattle.pack_laws.specs.InodeFits.{Fits, PacketFits, CopyFits, ViewFits, NumberedFits, WorldFits}
 use Rattle.pack_laws.proofs.InodeSiteFits.{SiteOut, EventFits, step_fits}
 
@@ -99,7 +103,7 @@ record PlaceFits (p : Place) : Type 0 where
 record Owed (told : List Told) (ps : List Packet) (change : World → World) (w : World) : Type 0 where
   tells : Every FitTold told
   sent : Every PacketFits ps
-  sites : (t : ℕ) (p : Place) → place_at (change w) t ≡ Some p → t ≤ 16
+  sites : (t : ℕ) (p : Place) → place_at (change w) t ≡ Some p → t ≤ sites_max
   places : (t : ℕ) (p : Place) → place_at (change w) t ≡ Some p → PlaceFits p
 
 happened_fits : (n : ℕ) (ps : List Packet) (told : List Told) (change : World → World) (w : World) → Owed told ps change w → (change w).sent ≡ w.sent → (change w).underway ≡ w.underway → WorldFits w → WorldFits (happened n ps told change w)
@@ -137,12 +141,12 @@ old_place w f t p here = record { disk = f.disks t p here; view = λ v q. f.view
 
 places_of : (s : ℕ) (new : Place) (w : World) → WorldFits w → PlaceFits new → (t : ℕ) (p : Place) → place_at (puts s new w) t ≡ Some p → PlaceFits p
 places_of s new w f fine t p here = at_each s t (PlaceFits p)
-    (λ e. subst PlaceFits (some_eq new p (sym (puts_same s new w) ∙ (ap (place_at (puts s new w)) e ∙ here))) fine)
+    (λ e. subst PlaceFits (some_same new p (sym (puts_same s new w) ∙ (ap (place_at (puts s new w)) e ∙ here))) fine)
     (λ ne. old_place w f t p (sym (puts_other s t new w ne) ∙ here))
 
-sites_of : (s : ℕ) (old new : Place) (w : World) → WorldFits w → place_at w s ≡ Some old → (t : ℕ) (p : Place) → place_at (puts s new w) t ≡ Some p → t ≤ 16
-sites_of s old new w f here t p h = at_each s t (t ≤ 16)
-    (λ e. subst (λ (x : ℕ). x ≤ 16) e (f.sites s old here))
+sites_of : (s : ℕ) (old new : Place) (w : World) → WorldFits w → place_at w s ≡ Some old → (t : ℕ) (p : Place) → place_at (puts s new w) t ≡ Some p → t ≤ sites_max
+sites_of s old new w f here t p h = at_each s t (t ≤ sites_max)
+    (λ e. subst (λ (x : ℕ). x ≤ sites_max) e (f.sites s old here))
     (λ ne. f.sites t p (sym (puts_other s t new w ne) ∙ h))
 
 stops_fits : (n s : ℕ) (old : Place) (d : Disk) (told : List Told) (w : World) → place_at w s ≡ Some old → Every CopyFits d.copies → Every FitTold told → WorldFits w → WorldFits (happened n [] told (stops_with s d) w)
@@ -165,7 +169,7 @@ acts_fits n s v o w here fine disk f =
     acts_cases WorldFits n s v o w
     (happened_fits n o.sent o.told (λ now. puts s (Running o.view) now) w owed refl refl f)
     (λ a. happened_fits n o.sent o.told (λ now. puts s (Running o.view) (arms a now)) w (record { tells = owed.tells; sent = owed.sent; sites = owed.sites; places = owed.places }) refl refl f)
-    (λ d a e. cut d (is_on_disk d a.how a.left) (cause_of a.how) (cut_disk v.boot v.store d a.how a.left) (written_fits s v.store.copies o.view.store.copies o.told o.written d disk e fine.view.store.copies) refl)
+    (λ d a e. cut d (is_on_disk v.store d a.how a.left) (cause_of a.how) (cut_disk v.boot v.store d a.how a.left) (written_fits s v.store.copies o.view.store.copies o.told o.written d disk e fine.view.store.copies) refl)
   where
     owed : Owed o.told o.sent (λ now. puts s (Running o.view) now) w
     owed = record {
@@ -237,11 +241,8 @@ fits_kept c = record {
 none_place : (p : Place) → ◌≡◌ {A = Option Place} None (Some p) → ⊥
 none_place p e = cc
 
-test_same : (a b : ℕ) → (a == b) ≡ true → a ≡ b
-test_same a b e = grind (arith, nat_tests)
-
 abbrev Small : ℕ → Type 0
-Small s = s ≤ 16
+Small s = s ≤ sites_max
 
 small_if : (b : Bool) (x : ℕ) (xs : List ℕ) → Small x → Every Small xs → Every Small (cond b (x ∷ xs) xs)
 small_if true x xs p h = (p, h)
@@ -253,34 +254,28 @@ small_filter test (x ∷ xs) h = small_if (test x) x (filter test xs) h.0 (small
 
 abbrev all_small : List ℕ → Bool
 all_small [] = true
-all_small (s ∷ ss) = nat_le s 16 && all_small ss
+all_small (s ∷ ss) = nat_le s sites_max && all_small ss
 
-both_true : (a b : Bool) → (a && b) ≡ true → (a ≡ true) × (b ≡ true)
-both_true true true h = (refl, refl)
-both_true true false h = absurd (cc)
-both_true false true h = absurd (cc)
-both_true false false h = absurd (cc)
-
-small_of : (s : ℕ) → nat_le s 16 ≡ true → s ≤ 16
+small_of : (s : ℕ) → nat_le s sites_max ≡ true → s ≤ sites_max
 small_of s h = grind (arith, nat_tests)
 
 each_small : (ss : List ℕ) → all_small ss ≡ true → Every Small ss
 each_small [] h = tt
-each_small (s ∷ ss) h = let k : (nat_le s 16 ≡ true) × (all_small ss ≡ true) = both_true (nat_le s 16) (all_small ss) h in (small_of s k.0, each_small ss k.1)
+each_small (s ∷ ss) h = let k : (nat_le s sites_max ≡ true) × (all_small ss ≡ true) = both_true (nat_le s sites_max) (all_small ss) h in (small_of s k.0, each_small ss k.1)
 
 -- a root has the inode number 1
 formatted_fits : (c : Config) (s : ℕ) → Every CopyFits (formatted c s)
 formatted_fits c s = every_map CopyFits (root_copy c) _ (λ g. omega arith)
 
 record FirstFits (s : ℕ) (p : Place) : Type 0 where
-  small : s ≤ 16
+  small : s ≤ sites_max
   place : PlaceFits p
 
 first_fits : (c : Config) (ss : List ℕ) → Every Small ss → (s : ℕ) (p : Place) → place_in (row place_site s (map (first_place c) ss)) ≡ Some p → FirstFits s p
 first_fits c [] h s p e = absurd (none_place p e)
 first_fits c (t ∷ ts) h s p e =
     (elim (t == s) as (λ b. (t == s) ≡ b → place_in (elim b [ true ↦ Some (first_place c t) | false ↦ row place_site s (map (first_place c) ts) ]) ≡ Some p → FirstFits s p) [
-      | true ↦ λ q f. subst (FirstFits s) (some_eq (Running (fresh 1 (formatted c t))) p f) (record { small = subst Small (test_same t s q) h.0; place = running_fits (fresh 1 (formatted c t)) (record { store = record { copies = formatted_fits c t; instances = tt }; pulls = tt; tables = tt }) })
+      | true ↦ λ q f. subst (FirstFits s) (some_same (Running (fresh 1 (formatted c t))) p f) (record { small = subst Small (equal t s q) h.0; place = running_fits (fresh 1 (formatted c t)) (record { store = record { copies = formatted_fits c t; instances = tt }; pulls = tt; tables = tt }) })
       | false ↦ λ q f. first_fits c ts h.1 s p f
     ]) refl e
 

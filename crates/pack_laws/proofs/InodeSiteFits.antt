@@ -7,6 +7,7 @@ use Rattle.locus_ids.specs.declared.sites.Links.{Links}
 use Rattle.locus_ids.specs.declared.sites.Members.{Members}
 use Rattle.locus_ids.specs.declared.sites.Sites.{Sites}
 use Rattle.locus_ids.specs.declared.config.Config.{Config}
+use Rattle.locus_ids.specs.Sizes.{sites_max}
 use Rattle.commit_graph.specs.Versions.{same_stamp}
 use Rattle.trace_book.specs.Same.{same_epoch}
 use Rattle.trace_book.specs.declared.call.Call.TheVariants as call
@@ -37,7 +38,7 @@ use Rattle.role_steps.proofs.Sending.{every_append, every_cond, every_map, every
 use Rattle.the_run.specs.Steps.{in_order, from_user, group_of, at_table_of, is_opened_in, takes_inside, takes_framed, takes, is_dropped, adopts_of, adopts_in, tries_at, starts_mends_of, ends_event, whole, repeats_inside, repeats_of, repeats, ticks_after, call_frame, epoch_id, takes_call, step}
 use Rattle.the_run.proofs.InsideSync.{every_row, every_without, Found, row_found, first_found}
 use Rattle.the_run.proofs.StepSends.{order_sent}
-use Rattle.vector_laws.proofs.SyncFacts.{every_flat}
+use Rattle.lock_laws.proofs.of_vector_laws.SyncFacts.{every_flat}
 use Rattle.pack_laws.specs.InodeFits.{ReportedFits, BodyFits, PacketFits, CopyFits, PullFits, TableFits, ViewFits, OutFits}
 use Rattle.pack_laws.proofs.InodeRolesSend.{on_pull_fits, on_notify_fits, on_page_fits, pull_repeats_fits, users_repeats_fits, on_call_fits, on_open_done_fits, on_op_done_fits, on_close_done_fits, on_look_done_fits}
 use Rattle.pack_laws.proofs.InodeStoreFits.{StoreOut, sync_fits, on_open_ss_fits, on_close_fits, on_closed_ok_fits, on_op_fits, store_repeats_fits}
@@ -92,7 +93,7 @@ page_keeps f stamp page bytes (Some p) ps k h = elim (is_awaited p stamp page by
 
 -- ---- packets inside the epoch ----
 
-inside_fits : (f : Frame) (from : ℕ) (x : Body) (v : SiteView) → f.me ≤ 16 → BodyFits x → ViewFits v → SiteOut (takes_inside f from x v)
+inside_fits : (f : Frame) (from : ℕ) (x : Body) (v : SiteView) → f.me ≤ sites_max → BodyFits x → ViewFits v → SiteOut (takes_inside f from x v)
 inside_fits f from (body.Report group copies) v small k h = group_part (on_report f from copies) group v h (λ t g. on_report_fits f from copies t k g)
 inside_fits f from (body.ReportOk group) v small k h = record { view = record { store = h.store; pulls = h.pulls; tables = h.tables }; sent = tt }
 inside_fits f from (body.Open serial call process request file how) v small k h = group_part (on_open f from (record { serial = serial; call = call; process = process; request = request; file = file; how = how })) file.group v h (λ t g. on_open_fits f from (record { serial = serial; call = call; process = process; request = request; file = file; how = how }) t g)
@@ -275,11 +276,11 @@ whole_fits c me links o tries h tried =
 untried_fits : (c : Config) (me : ℕ) (links : Links) (o : Outcome SiteView) → SiteOut o → SiteOut (whole c me links o quiet)
 untried_fits c me links o h = whole_fits c me links o quiet h quiet_site
 
-framed_fits : (c : Config) (me : ℕ) (p : Packet) (o : Option InEpoch) (v : SiteView) → me ≤ 16 → PacketFits p → ViewFits v → SiteOut (takes_framed c me p o v)
+framed_fits : (c : Config) (me : ℕ) (p : Packet) (o : Option InEpoch) (v : SiteView) → me ≤ sites_max → PacketFits p → ViewFits v → SiteOut (takes_framed c me p o v)
 framed_fits c me p None v small k h = quiet_site v h
 framed_fits c me p (Some e) v small k h = inside_fits (frame_in c me v.boot e) p.from p.body v small k h
 
-takes_fits : (c : Config) (me : ℕ) (links : Links) (p : Packet) (x : Body) (v : SiteView) → me ≤ 16 → PacketFits p → ViewFits v → SiteOut (takes c me links p x v)
+takes_fits : (c : Config) (me : ℕ) (links : Links) (p : Packet) (x : Body) (v : SiteView) → me ≤ sites_max → PacketFits p → ViewFits v → SiteOut (takes c me links p x v)
 takes_fits c me links p body.Poll v small k h = on_poll_fits me links p.from p.from_boot p.epoch v h
 takes_fits c me links p (body.Promise reach) v small k h = on_promise_fits p.from p.from_boot p.epoch reach v.round v h
 takes_fits c me links p (body.Refuse promised) v small k h = on_refuse_fits me links p.epoch promised v.round v h
@@ -319,7 +320,7 @@ abbrev pub EventFits : Event → Type 0
 EventFits (Receives p) = PacketFits p
 EventFits _ = Unit {0}
 
-pub step_fits : (c : Config) (me : ℕ) (links : Links) (v : SiteView) (e : Event) → me ≤ 16 → EventFits e → ViewFits v → SiteOut (step c me links v e)
+pub step_fits : (c : Config) (me : ℕ) (links : Links) (v : SiteView) (e : Event) → me ≤ sites_max → EventFits e → ViewFits v → SiteOut (step c me links v e)
 step_fits c me links v (Calls process words) small k h = untried_fits c me links (takes_call c me process words v) (users_part v (on_call (call_frame c me v.boot v.epoch) (epoch_id v.epoch) process words v.users) h (on_call_fits (call_frame c me v.boot v.epoch) (epoch_id v.epoch) process words v.users))
 step_fits c me links v (Receives p) small k h =
     elim (is_dropped p v) as (λ t. SiteOut (elim t [ true ↦ quiet v | false ↦ whole c me links (takes c me links p p.body v) (tries_at c me p.body) ])) [

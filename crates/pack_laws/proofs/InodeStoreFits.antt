@@ -1,17 +1,19 @@
 -- The inode numbers of a storage site's copies and instances have 16 bits.
 use Rattle.std.proofs.Common.{◌≡◌, ◌≤◌, ◌<◌, ℕ, zero, suc, ◌+◌, ◌-◌, ◌*◌, ◌==◌, Bool, true, false, List, [], ◌∷◌, Option, Some, None, refl, arith}
+use Rattle.role_steps.proofs.of_plain_facts.Options.{none_some, some_same}
 use Rattle.locus_ids.specs.declared.ids.Mode.{Mode}
 use Rattle.locus_ids.specs.declared.ids.Mode.TheVariants as mode
 use Rattle.locus_ids.specs.declared.ids.Serial.{Serial}
 use Rattle.locus_ids.specs.declared.ids.Stamp.{Stamp}
 use Rattle.locus_ids.specs.declared.refusal.Refusal.TheVariants as refusal
+use Rattle.locus_ids.specs.Sizes.{site_inodes, sites_max}
 use Rattle.trace_book.specs.declared.operation.Op.{Op}
 use Rattle.trace_book.specs.declared.operation.Op.TheVariants as op
 use Rattle.trace_book.specs.declared.operation.Outcome.{Outcome as Result}
 use Rattle.trace_book.specs.declared.operation.Outcome.TheVariants as result
-use Rattle.file_effects.specs.Effects.{Effect}
-use Rattle.file_effects.specs.Works.{counted}
-use Rattle.file_effects.specs.declared.work.Work.{Work}
+use Rattle.role_steps.specs.of_file_effects.Effects.{Effect}
+use Rattle.role_steps.specs.of_file_effects.Works.{counted}
+use Rattle.role_steps.specs.of_file_effects.declared.work.Work.{Work}
 use Rattle.wire_messages.specs.declared.packet.Packet.{Packet}
 use Rattle.wire_messages.specs.declared.body.Body.{Body}
 use Rattle.wire_messages.specs.declared.body.Body.TheVariants as body
@@ -29,7 +31,7 @@ use Rattle.role_steps.specs.declared.instances.Stage.{Stage}
 use Rattle.role_steps.specs.declared.instances.Stage.TheVariants as stage
 use Rattle.role_steps.proofs.Sending.{every_append, every_cond, every_flat_map}
 use Rattle.the_run.proofs.InsideSync.{every_row, Found, row_found}
-use Rattle.vector_laws.proofs.SyncFacts.{every_latest}
+use Rattle.lock_laws.proofs.of_vector_laws.SyncFacts.{every_latest}
 use Rattle.pack_laws.specs.InodeFits.{Fits, AskedFits, BodyFits, PacketFits, CopyFits, InstanceFits, StoreFits, OutFits}
 
 abbrev pub StoreOut : Outcome Store → Type 0
@@ -59,22 +61,16 @@ found_fits s inst h = row_found InstanceFits instance_key (serial_key inst) s.in
 
 -- ---- the number that a made file is given ----
 
-some_eq : (x y : ℕ) → ◌≡◌ {A = Option ℕ} (Some x) (Some y) → x ≡ y
-some_eq x y e = cc
-
-none_some : (x : ℕ) → ◌≡◌ {A = Option ℕ} None (Some x) → ⊥
-none_some x e = cc
-
 next_below : (s : Store) (group ino left k : ℕ) → next_ino s group ino left ≡ Some k → k < ino + left
 next_below s group ino zero k h = absurd (none_some k h)
 next_below s group ino (suc left) k h = used (is_used s group ino) h (λ g. next_below s group (ino + 1) left k g)
   where
     used : (b : Bool) → ◌≡◌ {A = Option ℕ} (elim b [ true ↦ next_ino s group (ino + 1) left | false ↦ Some ino ]) (Some k) → (next_ino s group (ino + 1) left ≡ Some k → k < ino + 1 + left) → k < ino + suc left
     used true g rest = let le : k < ino + 1 + left = rest g in omega (arith, le)
-    used false g rest = let e : ino ≡ k = some_eq ino k g in omega (arith, e)
+    used false g rest = let e : ino ≡ k = some_same ino k g in omega (arith, e)
 
-own_fits : (s : Store) (group site k : ℕ) → site ≤ 16 → own_ino s group site ≡ Some k → Fits k
-own_fits s group site k small h = let le : k < 64 * (site - 1) + 1 + 64 = next_below s group (64 * (site - 1) + 1) 64 k h in omega (arith, small, le)
+own_fits : (s : Store) (group site k : ℕ) → site ≤ sites_max → own_ino s group site ≡ Some k → Fits k
+own_fits s group site k small h = let le : k < site_inodes * (site - 1) + 1 + site_inodes = next_below s group (site_inodes * (site - 1) + 1) site_inodes k h in omega (arith, small, le)
 
 -- ---- opens ----
 
@@ -91,18 +87,18 @@ made_fits f r (Some ino) s fits h = begins_fits f (begun_instance r (record { gr
 plain_fits : (f : Frame) (r : StoreRequest) (s : Store) → Fits r.file.ino → StoreFits s → StoreOut (begins f (begun_instance r r.file (copy_of s r.file)) (Begins f.me f.epoch r.inst r.file ∷ []) s)
 plain_fits f r s k h = begins_fits f (begun_instance r r.file (copy_of s r.file)) (Begins f.me f.epoch r.inst r.file ∷ []) s k h
 
-opens_fits : (f : Frame) (r : StoreRequest) (m : Mode) (s : Store) → f.me ≤ 16 → AskedFits m r.file → StoreFits s → StoreOut (opens f r m s)
+opens_fits : (f : Frame) (r : StoreRequest) (m : Mode) (s : Store) → f.me ≤ sites_max → AskedFits m r.file → StoreFits s → StoreOut (opens f r m s)
 opens_fits f r mode.Make s small k h = made_fits f r (own_ino s r.file.group f.me) s (λ n e. own_fits s r.file.group f.me n small e) h
 opens_fits f r mode.Read s small k h = plain_fits f r s k h
 opens_fits f r mode.Write s small k h = plain_fits f r s k h
 opens_fits f r mode.Resolve s small k h = plain_fits f r s k h
 opens_fits f r mode.Mend s small k h = plain_fits f r s k h
 
-open_ss_of_fits : (f : Frame) (r : StoreRequest) (o : Option Instance) (s : Store) → f.me ≤ 16 → Found InstanceFits o → AskedFits r.mode r.file → StoreFits s → StoreOut (on_open_ss_of f r o s)
+open_ss_of_fits : (f : Frame) (r : StoreRequest) (o : Option Instance) (s : Store) → f.me ≤ sites_max → Found InstanceFits o → AskedFits r.mode r.file → StoreFits s → StoreOut (on_open_ss_of f r o s)
 open_ss_of_fits f r None s small i k h = opens_fits f r r.mode s small k h
 open_ss_of_fits f r (Some x) s small i k h = sends_fits _ s (every_cond PacketFits (is_open x.stage) (opened_packets f x) [] (opened_fits f x i) tt) h
 
-pub on_open_ss_fits : (f : Frame) (r : StoreRequest) (s : Store) → f.me ≤ 16 → AskedFits r.mode r.file → StoreFits s → StoreOut (on_open_ss f r s)
+pub on_open_ss_fits : (f : Frame) (r : StoreRequest) (s : Store) → f.me ≤ sites_max → AskedFits r.mode r.file → StoreFits s → StoreOut (on_open_ss f r s)
 on_open_ss_fits f r s small k h = open_ss_of_fits f r (instance_of s r.inst) s small (found_fits s r.inst h) k h
 
 -- ---- commits and closes ----

@@ -20,8 +20,8 @@ use Rattle.role_steps.specs.Opens.{mode_of}
 use Rattle.the_run.specs.Worlds.{World}
 use Rattle.the_run.specs.Runs.{run_in}
 use Rattle.the_run.specs.Kept.{Among}
-use Rattle.run_laws.proofs.Run.{found_among}
-use Rattle.vector_laws.specs.Written.{past_of, Begun, GrantedRecord, Granted as WasGrantedBy, WasTold, WasBegun, WasGranted, InstancesAgree}
+use Rattle.lock_laws.proofs.of_run_laws.Run.{found_among}
+use Rattle.lock_laws.specs.of_vector_laws.Written.{past_of, Begun, GrantedRecord, Granted as WasGrantedBy, WasTold, WasBegun, WasGranted, InstancesAgree}
 use Rattle.pack_laws.specs.InstanceBook.{Note, Asked, Placed, Began, Book, AskedBy, IsFor, BeganFact, Sound}
 use Rattle.pack_laws.specs.InstanceFacts.{BodyFact, MadeFact, GrantFact, RecordFact, ToldFact, NumberedFact, WorldFact, Booked}
 use Rattle.pack_laws.specs.InstanceLaws.{AsksOpen, SerialsAreOnce, AsksInstance, PlacesAreOnce, BegunOnce}

@@ -1,5 +1,6 @@
 -- Books: how they grow, and what stays of their facts.
 use Rattle.std.proofs.Common.{◌≡◌, ◌≢◌, ◌≤◌, ℕ, ◌+◌, ◌*◌, Bool, true, false, List, [], ◌∷◌, Option, Some, None, refl, sym, ◌∙◌, ap, subst, ◌⊎◌, inl, inr, arith}
+use Rattle.role_steps.proofs.of_plain_facts.Tests.{true_false}
 use Rattle.locus_ids.specs.declared.ids.EpochId.{EpochId}
 use Rattle.locus_ids.specs.declared.ids.FileId.{FileId}
 use Rattle.locus_ids.specs.declared.ids.Serial.{Serial}
@@ -7,6 +8,7 @@ use Rattle.locus_ids.specs.declared.ids.Mode.{Mode}
 use Rattle.locus_ids.specs.declared.ids.Mode.TheVariants as mode
 use Rattle.locus_ids.specs.declared.sites.Members.{Members}
 use Rattle.locus_ids.specs.declared.config.Config.{Config}
+use Rattle.locus_ids.specs.Sizes.{sites_max}
 use Rattle.trace_book.specs.declared.record.Record.{Record}
 use Rattle.trace_book.specs.declared.record.Record.TheVariants as says
 use Rattle.wire_messages.specs.declared.packet.Packet.{Packet}
@@ -222,9 +224,6 @@ abbrev is_began : Note → Bool
 is_began (Began e inst ss boot file) = true
 is_began _ = false
 
-true_false : true ≡ false → ⊥
-true_false e = cc
-
 -- a note of another kind stood before
 before : (test : Note → Bool) (n x : Note) (book : Book) → test n ≡ true → test x ≡ false → Among n (x ∷ book) → Among n book
 before test n x book a b (inl e) = absurd (true_false (sym a ∙ (ap test e ∙ b)))
@@ -357,10 +356,10 @@ once_began e inst ss boot file book o fresh = record {
 
 -- ---- an instance's key is of one open ----
 
-key_us : (a b : Serial) → a.us ≤ 16 → b.us ≤ 16 → serial_key a ≡ serial_key b → a.us ≡ b.us
+key_us : (a b : Serial) → a.us ≤ sites_max → b.us ≤ sites_max → serial_key a ≡ serial_key b → a.us ≡ b.us
 key_us a b h g k = key_low a.serial a.us b.serial b.us h g k
   where
-    key_low : (x u y w : ℕ) → u ≤ 16 → w ≤ 16 → x * 256 + u ≡ y * 256 + w → u ≡ w
+    key_low : (x u y w : ℕ) → u ≤ sites_max → w ≤ sites_max → x * 256 + u ≡ y * 256 + w → u ≡ w
     key_low x u y w h g k = omega (arith, h, g, k)
 
 key_serial : (a b : Serial) → a.us ≡ b.us → serial_key a ≡ serial_key b → a.serial ≡ b.serial

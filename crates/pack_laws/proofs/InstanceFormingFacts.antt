@@ -1,6 +1,8 @@
 -- Adoptions, mends, and how an epoch is formed: what a site keeps and sends of instances.
 use Rattle.std.proofs.Common.{◌≡◌, ◌≤◌, ℕ, ◌+◌, ◌==◌, Bool, true, false, cond, ◌&&◌, not, List, [], ◌∷◌, Option, Some, None, refl, sym, ◌∙◌, ap, subst, ◌⊎◌, inl, inr, arith}
 use Rattle.std.proofs.lemmas.Bool.Decides.{nat_tests}
+use Rattle.role_steps.proofs.of_plain_facts.Numbers.{equal}
+use Rattle.role_steps.proofs.of_plain_facts.Tests.{both_true, not_true, true_false}
 use Rattle.locus_ids.specs.declared.ids.EpochId.{EpochId}
 use Rattle.locus_ids.specs.declared.ids.FileId.{FileId}
 use Rattle.locus_ids.specs.declared.ids.Serial.{Serial}
@@ -8,6 +10,7 @@ use Rattle.locus_ids.specs.declared.sites.Links.{Links}
 use Rattle.locus_ids.specs.declared.sites.Members.{Members}
 use Rattle.locus_ids.specs.declared.sites.Sites.{Sites}
 use Rattle.locus_ids.specs.declared.config.Config.{Config}
+use Rattle.locus_ids.specs.Sizes.{sites_max}
 use Rattle.trace_book.specs.Same.{same_epoch}
 use Rattle.trace_book.specs.declared.call.Call.TheVariants as call
 use Rattle.wire_messages.specs.declared.body.Body.TheVariants as body
@@ -32,8 +35,8 @@ use Rattle.role_steps.proofs.Sending.{every_cond, every_map, every_flat_map}
 use Rattle.the_run.specs.Kept.{Among}
 use Rattle.the_run.specs.Steps.{adopts_of, starts_mends_of, ends_event}
 use Rattle.the_run.proofs.InsideSync.{Found}
-use Rattle.vector_laws.proofs.SyncFacts.{row_at, FoundAt}
-use Rattle.run_laws.specs.Naming.{Deeds, ViewOk}
+use Rattle.lock_laws.proofs.of_vector_laws.SyncFacts.{row_at, FoundAt}
+use Rattle.lock_laws.specs.of_run_laws.Naming.{Deeds, ViewOk}
 use Rattle.pack_laws.specs.InstanceBook.{Note, Listed, Asked, Placed, Began, Book, IsOf, Sound}
 use Rattle.pack_laws.specs.InstanceFacts.{PacketFact, Factless, InstanceFact, TableFact, PassedNote, Passed, InsideFact, InEpochFact, RoundFact, ViewFact}
 use Rattle.pack_laws.proofs.InstanceBooks.{Leads, grown_same, grown_cons, factless, users_later, sound_cons, once_listed}
@@ -101,27 +104,27 @@ adopts_of_fine c book me (Some e) v here s h = adopts_first_fine c book me e v.p
 
 -- ---- mends ----
 
-mend_fine : (c : Config) (book : Book) (me : ℕ) (e : InEpoch) (boot : ℕ) (t : SyncTable) (o : Option FileRow) (v : SiteView) → me ≤ 16 → v.boot ≡ boot → Sound c book → ViewFact c book me v → SiteFine c me v.boot book (starts_mend_of (frame_in c me boot e) t o v)
+mend_fine : (c : Config) (book : Book) (me : ℕ) (e : InEpoch) (boot : ℕ) (t : SyncTable) (o : Option FileRow) (v : SiteView) → me ≤ sites_max → v.boot ≡ boot → Sound c book → ViewFact c book me v → SiteFine c me v.boot book (starts_mend_of (frame_in c me boot e) t o v)
 mend_fine c book me e boot t None v small b s h = quiet_site c me book v s h
 mend_fine c book me e boot t (Some r) v small b s h =
     subst (λ (x : ℕ). SiteFine c me v.boot book (starts_mend_of (frame_in c me x e) t (Some r) v)) b
     (users_part c me book v (on_call (frame_in c me v.boot e) (Some e.id) 0 (call.Mend (row_file t r)) v.users) h (on_call_fine (frame_in c me v.boot e) book (Some e.id) 0 (call.Mend (row_file t r)) v.users small s h.users))
 
-starts_mend_fine : (c : Config) (book : Book) (me : ℕ) (e : InEpoch) (boot : ℕ) (t : SyncTable) (v : SiteView) → me ≤ 16 → v.boot ≡ boot → Sound c book → ViewFact c book me v → SiteFine c me v.boot book (starts_mend (frame_in c me boot e) t v)
+starts_mend_fine : (c : Config) (book : Book) (me : ℕ) (e : InEpoch) (boot : ℕ) (t : SyncTable) (v : SiteView) → me ≤ sites_max → v.boot ≡ boot → Sound c book → ViewFact c book me v → SiteFine c me v.boot book (starts_mend (frame_in c me boot e) t v)
 starts_mend_fine c book me e boot t v small b s h =
     elim (t.started && not (has_mend_in v.users t.group)) as (λ x. SiteFine c me v.boot book (elim x [ true ↦ starts_mend_of (frame_in c me boot e) t (first_that (wants_mend v t) t.files) v | false ↦ quiet v ])) [
       | true ↦ mend_fine c book me e boot t (first_that (wants_mend v t) t.files) v small b s h
       | false ↦ quiet_site c me book v s h
     ]
 
-mends_fine : (c : Config) (book : Book) (me : ℕ) (e : InEpoch) (boot : ℕ) (ts : List SyncTable) (v : SiteView) → me ≤ 16 → v.boot ≡ boot → Sound c book → ViewFact c book me v → SiteFine c me v.boot book (starts_mends_in (frame_in c me boot e) ts v)
+mends_fine : (c : Config) (book : Book) (me : ℕ) (e : InEpoch) (boot : ℕ) (ts : List SyncTable) (v : SiteView) → me ≤ sites_max → v.boot ≡ boot → Sound c book → ViewFact c book me v → SiteFine c me v.boot book (starts_mends_in (frame_in c me boot e) ts v)
 mends_fine c book me e boot [] v small b s h = quiet_site c me book v s h
 mends_fine c book me e boot (t ∷ ts) v small b s h =
     let o : Outcome SiteView = starts_mend (frame_in c me boot e) t v in
     let k : SiteFine c me v.boot book o = starts_mend_fine c book me e boot t v small b s h in
     then_site c me v.boot book o (starts_mends_in (frame_in c me boot e) ts) k (λ x sound leads g. mends_fine c x me e boot ts o.view small (k.view.1 ∙ b) sound g)
 
-pub mends_of_fine : (c : Config) (book : Book) (me : ℕ) (o : Option InEpoch) (v : SiteView) → me ≤ 16 → Sound c book → ViewFact c book me v → SiteFine c me v.boot book (starts_mends_of c me o v)
+pub mends_of_fine : (c : Config) (book : Book) (me : ℕ) (o : Option InEpoch) (v : SiteView) → me ≤ sites_max → Sound c book → ViewFact c book me v → SiteFine c me v.boot book (starts_mends_of c me o v)
 mends_of_fine c book me None v small s h = quiet_site c me book v s h
 mends_of_fine c book me (Some e) v small s h = mends_fine c book me e v.boot v.tables v small refl s h
 
@@ -237,9 +240,6 @@ on_refuse_fine K c book me links id theirs (Some r) v here ok le s h =
 
 -- ---- joining ----
 
-true_false : true ≡ false → ⊥
-true_false e = cc
-
 -- an id that was promised last and isn't joined wasn't passed
 not_passed : (v : SiteView) (id : EpochId) → id ≡ v.promised → v.installed ≡ false → Passed v id → ⊥
 not_passed v id last waits (inl h) = true_false (sym h.1 ∙ waits)
@@ -334,19 +334,6 @@ joins_new c book me id m v j site boot s h =
       told = (inl refl, tt);
     }
 
-both_true : (a b : Bool) → (a && b) ≡ true → (a ≡ true) × (b ≡ true)
-both_true true true h = (refl, refl)
-both_true true false h = absurd (cc)
-both_true false true h = absurd (cc)
-both_true false false h = absurd (cc)
-
-not_true : (a : Bool) → not a ≡ true → a ≡ false
-not_true true h = absurd (cc)
-not_true false h = refl
-
-test_same : (a b : ℕ) → (a == b) ≡ true → a ≡ b
-test_same a b e = grind (arith, nat_tests)
-
 pub on_install_fine : (K : Deeds) (c : Config) (book : Book) (me from from_boot : ℕ) (id : EpochId) (m : Members) (v : SiteView) → ViewOk K v → Among (Listed id m) book → Sound c book → ViewFact c book me v → SiteFine c me v.boot book (on_install c me from from_boot id m v)
 on_install_fine K c book me from from_boot id m v ok listed s h =
     (elim (may_install me id m v) as (λ t. may_install me id m v ≡ t → SiteFine c me v.boot book (elim t [ true ↦ and_then (joins c me id m v) (λ now. sends (joined_packet me from from_boot id now) now) | false ↦ sends (cond (is_in id v.epoch) (joined_packet me from from_boot id v) []) v ])) [
@@ -360,7 +347,7 @@ on_install_fine K c book me from from_boot id m v ok listed s h =
         let a : (same_epoch id v.promised ≡ true) × ((not v.installed && (boot_in m.boot me == v.boot)) ≡ true) = both_true (same_epoch id v.promised) (not v.installed && (boot_in m.boot me == v.boot)) e in
         let b : (not v.installed ≡ true) × ((boot_in m.boot me == v.boot) ≡ true) = both_true (not v.installed) (boot_in m.boot me == v.boot) a.1 in
         let w : v.installed ≡ false = not_true v.installed b.0 in
-        record { gone = (ok.waits w).0; waits = w; last = same_epoch_eq id v.promised a.0; own = inl (test_same (boot_in m.boot me) v.boot b.1) }
+        record { gone = (ok.waits w).0; waits = w; last = same_epoch_eq id v.promised a.0; own = inl (equal (boot_in m.boot me) v.boot b.1) }
 
 pub on_joined_fine : (c : Config) (book : Book) (me from : ℕ) (id : EpochId) (v : SiteView) → Sound c book → ViewFact c book me v → SiteFine c me v.boot book (on_joined from id v)
 on_joined_fine c book me from id v s h =
@@ -392,7 +379,7 @@ passes_over_fine : (K : Deeds) (c : Config) (book : Book) (me : ℕ) (links : Li
 passes_over_fine K c book me links None v here ok s h = quiet_site c me book v s h
 passes_over_fine K c book me links (Some r) v here ok s h = decides_fine K c book me links r (passed_over links r) (unanswered (passed_over links r)) v here refl ok s h
 
-pub ends_fine : (K : Deeds) (c : Config) (book : Book) (me : ℕ) (links : Links) (v : SiteView) → me ≤ 16 → ViewOk K v → Sound c book → ViewFact c book me v → SiteFine c me v.boot book (ends_event c me links v)
+pub ends_fine : (K : Deeds) (c : Config) (book : Book) (me : ℕ) (links : Links) (v : SiteView) → me ≤ sites_max → ViewOk K v → Sound c book → ViewFact c book me v → SiteFine c me v.boot book (ends_event c me links v)
 ends_fine K c book me links v small ok s h =
     then_site c me v.boot book (passes_over c me links v) (λ now. starts_mends_of c me now.epoch now) (passes_over_fine K c book me links v.round v refl ok s h)
     (λ b sound leads g. mends_of_fine c b me (passes_over c me links v).view.epoch (passes_over c me links v).view small sound g)

@@ -1,7 +1,11 @@
 -- In every run there is such a book.
 use Rattle.std.proofs.Common.{◌≡◌, ◌≤◌, ℕ, ◌+◌, ◌==◌, nat_lt, nat_le, ◌&&◌, Bool, true, false, cond, List, [], ◌∷◌, filter, map, Option, Some, None, refl, sym, ◌∙◌, ap, subst, ◌⊎◌, inl, inr, arith}
 use Rattle.std.proofs.lemmas.Bool.Decides.{nat_tests}
+use Rattle.role_steps.proofs.of_plain_facts.Numbers.{equal}
+use Rattle.role_steps.proofs.of_plain_facts.Options.{some_same}
+use Rattle.role_steps.proofs.of_plain_facts.Tests.{both_true}
 use Rattle.locus_ids.specs.declared.config.Config.{Config}
+use Rattle.locus_ids.specs.Sizes.{sites_max}
 use Rattle.schedule_lines.specs.declared.line.ScheduleLine.{ScheduleLine}
 use Rattle.trace_book.specs.declared.record.Record.{Record}
 use Rattle.trace_book.specs.declared.record.Record.TheVariants as says
@@ -22,15 +26,15 @@ use Rattle.the_run.specs.Kept.{Among, WasSent, IsOwn, Kept}
 use Rattle.the_run.proofs.Boots.{at_each, puts_rises, acts_cases, every_newest, every_numbered, every_weaker, Reached, boots_reached}
 use Rattle.the_run.proofs.Events.{happened_keeps, puts_other, puts_same}
 use Rattle.the_run.proofs.InsideSync.{every_without}
-use Rattle.the_run.proofs.Runs.{every_run, some_eq}
-use Rattle.run_laws.specs.Naming.{Deeds, DeedsOf, Good}
-use Rattle.run_laws.proofs.Run.{good_kept, first_good, found_among, was_sent}
-use Rattle.run_laws.proofs.Steps.{EventNames}
-use Rattle.vector_laws.specs.Held.{IsOf as IsVersionOf, OnDisk}
-use Rattle.vector_laws.specs.Written.{past_of}
-use Rattle.vector_laws.specs.Facts.{onto}
-use Rattle.vector_laws.proofs.FactsRun.{past_onto}
-use Rattle.vector_laws.proofs.SiteDisks.{SiteDisk, step_disk}
+use Rattle.the_run.proofs.Runs.{every_run}
+use Rattle.lock_laws.specs.of_run_laws.Naming.{Deeds, DeedsOf, Good}
+use Rattle.lock_laws.proofs.of_run_laws.Run.{good_kept, first_good, found_among, was_sent}
+use Rattle.lock_laws.proofs.of_run_laws.Steps.{EventNames}
+use Rattle.lock_laws.specs.of_vector_laws.Held.{IsOf as IsVersionOf, OnDisk}
+use Rattle.lock_laws.specs.of_vector_laws.Written.{past_of}
+use Rattle.lock_laws.specs.of_vector_laws.Facts.{onto}
+use Rattle.lock_laws.proofs.of_vector_laws.FactsRun.{past_onto}
+use Rattle.lock_laws.proofs.of_vector_laws.SiteDisks.{SiteDisk, step_disk}
 use Rattle.pack_laws.specs.InstanceBook.{Note, Listed, Asked, Placed, Began, Book, IsOf, Sound, Grown}
 use Rattle.pack_laws.specs.InstanceFacts.{PacketFact, RecordFact, ToldFact, ViewFact, OfABoot, NumberedFact, WorldFact, Booked}
 use Rattle.pack_laws.proofs.InstanceBooks.{Leads, grown_same, body_later, tolds_later, view_beside}
@@ -62,7 +66,7 @@ record Owed (c : Config) (old : Book) (told : List Told) (ps : List Packet) (cha
   leads : Leads old book
   sound : Sound c book
   boots : (n : Note) → Among n book → OfABoot (change w) n
-  sites : (s : ℕ) (p : Place) → place_at (change w) s ≡ Some p → s ≤ 16
+  sites : (s : ℕ) (p : Place) → place_at (change w) s ≡ Some p → s ≤ sites_max
   views : (s : ℕ) (v : SiteView) → place_at (change w) s ≡ Some (Running v) → ViewFact c book s v
   sent : Every (PacketFact book) ps
   tells : Every (ToldFact book) told
@@ -99,16 +103,16 @@ running_view v u e = cc
 stopped_never : (d : Disk) (v : SiteView) → Stopped d ≡ Running v → ⊥
 stopped_never d v e = cc
 
-sites_of : (c : Config) (book : Book) (s : ℕ) (old new : Place) (w : World) → WorldFact c book w → place_at w s ≡ Some old → (t : ℕ) (p : Place) → place_at (puts s new w) t ≡ Some p → t ≤ 16
-sites_of c book s old new w f here t p h = at_each s t (t ≤ 16)
-    (λ e. subst (λ (x : ℕ). x ≤ 16) e (f.sites s old here))
+sites_of : (c : Config) (book : Book) (s : ℕ) (old new : Place) (w : World) → WorldFact c book w → place_at w s ≡ Some old → (t : ℕ) (p : Place) → place_at (puts s new w) t ≡ Some p → t ≤ sites_max
+sites_of c book s old new w f here t p h = at_each s t (t ≤ sites_max)
+    (λ e. subst (λ (x : ℕ). x ≤ sites_max) e (f.sites s old here))
     (λ ne. f.sites t p (sym (puts_other s t new w ne) ∙ h))
 
 -- the views after one place changed, over a book that its site has grown
 views_of : (c : Config) (a b : Book) (s boot : ℕ) (new : Place) (w : World) → WorldFact c a w → Grown (IsOf s boot) a b → ((v : SiteView) → new ≡ Running v → ViewFact c b s v) →
     (t : ℕ) (u : SiteView) → place_at (puts s new w) t ≡ Some (Running u) → ViewFact c b t u
 views_of c a b s boot new w f grown fine t u h = at_each s t (ViewFact c b t u)
-    (λ e. subst (λ (x : ℕ). ViewFact c b x u) e (fine u (some_eq new (Running u) (sym (puts_same s new w) ∙ (ap (place_at (puts s new w)) e ∙ h)))))
+    (λ e. subst (λ (x : ℕ). ViewFact c b x u) e (fine u (some_same new (Running u) (sym (puts_same s new w) ∙ (ap (place_at (puts s new w)) e ∙ h)))))
     (λ ne. view_beside c a b s t boot u ne grown (f.views t u (sym (puts_other s t new w ne) ∙ h)))
 
 -- a stop
@@ -169,8 +173,8 @@ acts_fact c n s v o w here g fine disk =
     acts_cases (Booked c) n s v o w
     (happened_fact c n o.sent o.told (λ now. puts s (Running o.view) now) w g owed refl refl)
     (λ a. happened_fact c n o.sent o.told (λ now. puts s (Running o.view) (arms a now)) w g (record { book = owed.book; leads = owed.leads; sound = owed.sound; boots = λ x k. boot_later (puts s (Running o.view) w) (puts s (Running o.view) (arms a w)) x (stays (puts s (Running o.view) w)) (owed.boots x k); sites = owed.sites; views = owed.views; sent = owed.sent; tells = owed.tells }) refl refl)
-    (λ d a e. stops_fact c n s (Running v) (cut_disk v.boot v.store d a.how a.left) (cut_told s d a.how a.left) w here (omega arith)
-    (λ b. cut_plain s (is_on_disk d a.how a.left) d.says (cause_of a.how) b (written_record s v.store.copies o.view.store.copies o.told o.written d disk e b)) g)
+    (λ d a e. stops_fact c n s (Running v) (cut_disk v.boot v.store d a.how a.left) (cut_told s v.store d a.how a.left) w here (omega arith)
+    (λ b. cut_plain s (is_on_disk v.store d a.how a.left) d.says (cause_of a.how) b (written_record s v.store.copies o.view.store.copies o.told o.written d disk e b)) g)
   where
     f : WorldFact c g.0 w
     f = g.1
@@ -331,11 +335,8 @@ both_kept c = record {
 none_place : (p : Place) → ◌≡◌ {A = Option Place} None (Some p) → ⊥
 none_place p e = cc
 
-test_same : (a b : ℕ) → (a == b) ≡ true → a ≡ b
-test_same a b e = grind (arith, nat_tests)
-
 abbrev Small : ℕ → Type 0
-Small s = s ≤ 16
+Small s = s ≤ sites_max
 
 small_if : (b : Bool) (x : ℕ) (xs : List ℕ) → Small x → Every Small xs → Every Small (cond b (x ∷ xs) xs)
 small_if true x xs p h = (p, h)
@@ -347,30 +348,24 @@ small_filter test (x ∷ xs) h = small_if (test x) x (filter test xs) h.0 (small
 
 abbrev all_small : List ℕ → Bool
 all_small [] = true
-all_small (s ∷ ss) = nat_le s 16 && all_small ss
+all_small (s ∷ ss) = nat_le s sites_max && all_small ss
 
-both_true : (a b : Bool) → (a && b) ≡ true → (a ≡ true) × (b ≡ true)
-both_true true true h = (refl, refl)
-both_true true false h = absurd (cc)
-both_true false true h = absurd (cc)
-both_true false false h = absurd (cc)
-
-small_of : (s : ℕ) → nat_le s 16 ≡ true → s ≤ 16
+small_of : (s : ℕ) → nat_le s sites_max ≡ true → s ≤ sites_max
 small_of s h = grind (arith, nat_tests)
 
 each_small : (ss : List ℕ) → all_small ss ≡ true → Every Small ss
 each_small [] h = tt
-each_small (s ∷ ss) h = let k : (nat_le s 16 ≡ true) × (all_small ss ≡ true) = both_true (nat_le s 16) (all_small ss) h in (small_of s k.0, each_small ss k.1)
+each_small (s ∷ ss) h = let k : (nat_le s sites_max ≡ true) × (all_small ss ≡ true) = both_true (nat_le s sites_max) (all_small ss) h in (small_of s k.0, each_small ss k.1)
 
 record FirstPlace (c : Config) (s : ℕ) (p : Place) : Type 0 where
-  small : s ≤ 16
+  small : s ≤ sites_max
   view : (v : SiteView) → p ≡ Running v → ViewFact c [] s v
 
 first_places : (c : Config) (ss : List ℕ) → Every Small ss → (s : ℕ) (p : Place) → place_in (row place_site s (map (first_place c) ss)) ≡ Some p → FirstPlace c s p
 first_places c [] h s p e = absurd (none_place p e)
 first_places c (t ∷ ts) h s p e =
     (elim (t == s) as (λ b. (t == s) ≡ b → place_in (elim b [ true ↦ Some (first_place c t) | false ↦ row place_site s (map (first_place c) ts) ]) ≡ Some p → FirstPlace c s p) [
-      | true ↦ λ q f. subst (FirstPlace c s) (some_eq (Running (fresh 1 _)) p f) (record { small = subst Small (test_same t s q) h.0; view = λ v g. subst (ViewFact c [] s) (running_view _ v g) (fresh_fact c [] s 1 _ (λ n k own. k)) })
+      | true ↦ λ q f. subst (FirstPlace c s) (some_same (Running (fresh 1 _)) p f) (record { small = subst Small (equal t s q) h.0; view = λ v g. subst (ViewFact c [] s) (running_view _ v g) (fresh_fact c [] s 1 _ (λ n k own. k)) })
       | false ↦ λ q f. first_places c ts h.1 s p f
     ]) refl e
 

@@ -1,6 +1,9 @@
 -- The tables of a site that joins an epoch: one for each group that it synchronizes.
 use Rattle.std.proofs.Common.{◌≡◌, ◌≤◌, ℕ, zero, suc, ◌+◌, ◌==◌, Bool, true, false, not, ◌&&◌, cond, List, [], ◌∷◌, map, filter, get_or, Option, Some, None, refl, ◌∙◌, ap, subst, ◌⊎◌, inl, inr, arith}
 use Rattle.std.proofs.lemmas.Bool.Decides.{nat_tests}
+use Rattle.role_steps.proofs.of_plain_facts.Numbers.{equal_self}
+use Rattle.role_steps.proofs.of_plain_facts.Options.{none_some, some_same}
+use Rattle.role_steps.proofs.of_plain_facts.Tests.{and_second}
 use Rattle.locus_ids.specs.Sites.{has}
 use Rattle.locus_ids.specs.declared.ids.Serial.{Serial}
 use Rattle.locus_ids.specs.declared.sites.Members.{Members}
@@ -12,19 +15,15 @@ use Rattle.role_steps.specs.Epochs.{frame_in, own_groups, is_sync_site, member_b
 use Rattle.role_steps.specs.declared.rounds.InEpoch.{InEpoch}
 use Rattle.role_steps.specs.declared.rounds.Round.{Round}
 use Rattle.role_steps.specs.declared.synchronizing.SyncTable.{SyncTable}
-use Rattle.role_steps.proofs.Rows.{same}
+use Rattle.role_steps.proofs.Counted.{CountsFrom, sites_count}
 use Rattle.the_run.specs.Kept.{Among}
+use Rattle.lock_laws.proofs.GrantSites.{is_synced}
 use Rattle.pack_laws.specs.InstanceBook.{Placed, Book}
 use Rattle.pack_laws.specs.InstanceFacts.{TableFact, TablesFact}
 
 -- ---- the boot number of a site among the members ----
 
--- numbers that follow one another from this one on
-abbrev Counts : ℕ → List ℕ → Type 0
-Counts start [] = Unit {0}
-Counts start (x ∷ xs) = (x ≡ start) × Counts (start + 1) xs
-
-at_place : (f : ℕ → ℕ) (start : ℕ) (xs : List ℕ) (place : ℕ) → Counts start xs → (get_or (map f xs) place 0 ≡ f (start + place)) ⊎ (get_or (map f xs) place 0 ≡ 0)
+at_place : (f : ℕ → ℕ) (start : ℕ) (xs : List ℕ) (place : ℕ) → CountsFrom start xs → (get_or (map f xs) place 0 ≡ f (start + place)) ⊎ (get_or (map f xs) place 0 ≡ 0)
 at_place f start [] zero h = inr refl
 at_place f start [] (suc place) h = inr refl
 at_place f start (x ∷ xs) zero h = inl (ap f (h.0 ∙ plus_none start))
@@ -40,12 +39,9 @@ at_place f start (x ∷ xs) (suc place) h = moved (at_place f (start + 1) xs pla
     moved (inl e) = inl (e ∙ ap f (next start place))
     moved (inr e) = inr e
 
-sixteen : Counts 1 all_sites
-sixteen = (refl, (refl, (refl, (refl, (refl, (refl, (refl, (refl, (refl, (refl, (refl, (refl, (refl, (refl, (refl, (refl, tt))))))))))))))))
-
 mapped : (f : ℕ → ℕ) (s : ℕ) → (boot_in (map f all_sites) s ≡ f s) ⊎ (boot_in (map f all_sites) s ≡ 0)
 mapped f zero = inr refl
-mapped f (suc place) = moved (at_place f 1 all_sites place sixteen)
+mapped f (suc place) = moved (at_place f 1 all_sites place sites_count)
   where
     one_more : (k : ℕ) → 1 + k ≡ suc k
     one_more k = omega arith
@@ -64,7 +60,7 @@ own_case true boot other false e = absurd (cc)
 own_case false boot other t e = inr refl
 
 pub chosen_boot : (me boot : ℕ) (r : Round) (set : Sites) → OwnBoot (chosen_members me boot r set) me boot
-chosen_boot me boot r set = pick (mapped (member_boot me boot r set) me) (own_case (has set me) boot (boot_in r.polled.boot me) (me == me) (same me))
+chosen_boot me boot r set = pick (mapped (member_boot me boot r set) me) (own_case (has set me) boot (boot_in r.polled.boot me) (me == me) (equal_self me))
   where
     B : ℕ
     B = boot_in (map (member_boot me boot r set) all_sites) me
@@ -76,30 +72,20 @@ chosen_boot me boot r set = pick (mapped (member_boot me boot r set) me) (own_ca
 
 -- ---- the synchronization site is a member ----
 
-none_some : {A : Type 0} (x : A) → ◌≡◌ {A = Option A} None (Some x) → ⊥
-none_some x e = cc
-
-some_eq : (x y : ℕ) → ◌≡◌ {A = Option ℕ} (Some x) (Some y) → x ≡ y
-some_eq x y e = cc
-
 first_case : (test : ℕ → Bool) (x : ℕ) (xs : List ℕ) (s : ℕ) (b : Bool) → test x ≡ b → (first_site xs ≡ Some s → test s ≡ true) → first_site (cond b (x ∷ xs) xs) ≡ Some s → test s ≡ true
-first_case test x xs s true e rest g = subst (λ (y : ℕ). test y ≡ true) (some_eq x s g) e
+first_case test x xs s true e rest g = subst (λ (y : ℕ). test y ≡ true) (some_same x s g) e
 first_case test x xs s false e rest g = rest g
 
 first_passes : (test : ℕ → Bool) (xs : List ℕ) (s : ℕ) → first_site (filter test xs) ≡ Some s → test s ≡ true
 first_passes test [] s h = absurd (none_some s h)
 first_passes test (x ∷ xs) s h = first_case test x (filter test xs) s (test x) refl (first_passes test xs s) h
 
-and_right : (a b : Bool) → (a && b) ≡ true → b ≡ true
-and_right true b h = h
-and_right false b h = absurd (cc)
-
 member_boots : (boot : ℕ) → not (boot == 0) ≡ true → boot ≡ 0 → ⊥
 member_boots boot h e = grind (arith, nat_tests)
 
 pub sync_boot : (c : Config) (m : Members) (group me boot : ℕ) → sync_site c m group ≡ Some me → OwnBoot m me boot → boot_in m.boot me ≡ boot
 sync_boot c m group me boot h (inl e) = e
-sync_boot c m group me boot h (inr e) = absurd (member_boots (boot_in m.boot me) (and_right (has (pack_sites c group) me) (is_member m me) (first_passes (λ s. has (pack_sites c group) s && is_member m s) all_sites me h)) e)
+sync_boot c m group me boot h (inr e) = absurd (member_boots (boot_in m.boot me) (and_second (has (pack_sites c group) me) (is_member m me) (first_passes (λ s. has (pack_sites c group) s && is_member m s) all_sites me h)) e)
 
 -- ---- the new tables ----
 
@@ -129,19 +115,6 @@ four = (omega arith, (omega arith, (omega arith, (omega arith, tt))))
 -- nothing was placed in the epoch by this boot
 abbrev pub Unplaced : Frame → Book → Type 0
 Unplaced f book = (inst : Serial) (group ss : ℕ) → Among (Placed f.epoch inst group f.me f.boot ss) book → ⊥
-
-sync_is : (c : Config) (me : ℕ) (m : Members) (group : ℕ) (o : Option ℕ) → sync_site c m group ≡ o → is_sync_site c me m group ≡ true → o ≡ Some me
-sync_is c me m group None e h = absurd (never e h)
-  where
-    never : sync_site c m group ≡ None → is_sync_site c me m group ≡ true → ⊥
-    never e h = cc
-sync_is c me m group (Some s) e h = ap Some (test_same s me (by_site e ∙ h))
-  where
-    by_site : sync_site c m group ≡ Some s → (s == me) ≡ is_sync_site c me m group
-    by_site e = rw e refl
-
-    test_same : (a b : ℕ) → (a == b) ≡ true → a ≡ b
-    test_same a b q = grind (arith, nat_tests)
 
 -- a lower bound of tables
 lower_tables : (book : Book) (f : Frame) (low high : ℕ) (ts : List SyncTable) → low ≤ high → TablesFact book f high ts → TablesFact book f low ts
@@ -173,4 +146,4 @@ each_table book f low (g ∷ gs) none own h is =
 
 -- the tables of a site that has just joined
 pub new_tables : (book : Book) (c : Config) (me boot : ℕ) (e : InEpoch) → Unplaced (frame_in c me boot e) book → OwnBoot e.members me boot → TablesFact book (frame_in c me boot e) 0 (map new_table (filter (is_sync_site c me e.members) (own_groups c me)))
-new_tables book c me boot e none own = each_table book (frame_in c me boot e) 0 (own_groups c me) none own (filtered (λ g. has (pack_sites c g) me) 0 all_groups four) (λ g h. sync_is c me e.members g (sync_site c e.members g) refl h)
+new_tables book c me boot e none own = each_table book (frame_in c me boot e) 0 (own_groups c me) none own (filtered (λ g. has (pack_sites c g) me) 0 all_groups four) (is_synced c me e.members)

@@ -5,6 +5,7 @@ use Rattle.locus_ids.specs.declared.ids.EpochId.{EpochId}
 use Rattle.locus_ids.specs.declared.ids.FileId.{FileId}
 use Rattle.locus_ids.specs.declared.ids.Stamp.{Stamp}
 use Rattle.locus_ids.specs.declared.config.Config.{Config}
+use Rattle.locus_ids.specs.Sizes.{sites_max}
 use Rattle.commit_graph.specs.Versions.{same_stamp}
 use Rattle.wire_messages.specs.declared.packet.Packet.{Packet}
 use Rattle.wire_messages.specs.declared.body.Body.{Body}
@@ -32,7 +33,7 @@ use Rattle.role_steps.proofs.Sending.{every_append, every_cond, every_flat_map}
 use Rattle.the_run.specs.Kept.{Among}
 use Rattle.the_run.specs.Steps.{from_user, group_of, at_table_of, is_opened_in, takes_inside, with_pulls}
 use Rattle.the_run.proofs.InsideSync.{Found, first_found}
-use Rattle.vector_laws.proofs.SyncFacts.{FoundAt, row_at}
+use Rattle.lock_laws.proofs.of_vector_laws.SyncFacts.{FoundAt, row_at}
 use Rattle.pack_laws.specs.InstanceBook.{Note, Listed, Asked, Placed, Began, Book, IsOf, AskedBy, Sound, Grown}
 use Rattle.pack_laws.specs.InstanceFacts.{OpenSsFact, AnswerFact, BodyFact, PacketFact, Factless, ToldFact, UsersFact, own_serial, TableFact, TablesFact, PassedNote, Passed, InsideFact, InEpochFact, RoundFact, ViewFact, Fine}
 use Rattle.pack_laws.proofs.InstanceBooks.{Leads, grown_same, grown_then, grown_weaker, stood, factless, packets_later, tolds_later, users_later, store_later, table_later, tables_later, inside_later}
@@ -352,7 +353,7 @@ pub record Passes (me : ℕ) (p : Packet) (v : SiteView) (e : InEpoch) : Type 0 
 open_ss_here : (book : Book) (p : Packet) (me boot : ℕ) (id : EpochId) (r : StoreRequest) → id ≡ p.epoch → p.to ≡ me → p.to_boot ≡ boot → OpenSsFact book p.epoch p.to p.to_boot r.inst r.file r.mode → OpenSsFact book id me boot r.inst r.file r.mode
 open_ss_here book p me boot id r e t b h = subst (λ (x : EpochId). OpenSsFact book x me boot r.inst r.file r.mode) (sym e) (subst (λ (x : ℕ). OpenSsFact book p.epoch me x r.inst r.file r.mode) b (subst (λ (x : ℕ). OpenSsFact book p.epoch x p.to_boot r.inst r.file r.mode) t h))
 
-pub inside_fine : (c : Config) (me : ℕ) (book : Book) (p : Packet) (v : SiteView) (e : InEpoch) (x : Body) → v.epoch ≡ Some e → me ≤ 16 → Sound c book → Passes me p v e → BodyFact book p x → ViewFact c book me v → SiteFine c me v.boot book (takes_inside (frame_in c me v.boot e) p.from x v)
+pub inside_fine : (c : Config) (me : ℕ) (book : Book) (p : Packet) (v : SiteView) (e : InEpoch) (x : Body) → v.epoch ≡ Some e → me ≤ sites_max → Sound c book → Passes me p v e → BodyFact book p x → ViewFact c book me v → SiteFine c me v.boot book (takes_inside (frame_in c me v.boot e) p.from x v)
 inside_fine c me book p v e (body.Report group copies) here small s q k h =
     group_part c me book v e (on_report (frame_in c me v.boot e) p.from copies) group here s h (λ t g a. on_report_fine (frame_in c me v.boot e) book p.from copies t s (inside_of c book me v e here h).listed a)
 inside_fine c me book p v e (body.ReportOk group) here small s q k h =

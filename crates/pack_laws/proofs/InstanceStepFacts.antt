@@ -2,9 +2,12 @@
 use Rattle.std.proofs.Common.{◌≡◌, ◌≤◌, ℕ, ◌+◌, ◌==◌, nat_lt, Bool, true, false, ◌&&◌, ◌||◌, not, List, ◌++◌, Option, Some, None, refl, sym, subst, arith}
 use Rattle.std.proofs.lemmas.Bool.Decides.{nat_tests}
 use Rattle.std.specs.List.{flat_map}
+use Rattle.role_steps.proofs.of_plain_facts.Numbers.{equal}
+use Rattle.role_steps.proofs.of_plain_facts.Tests.{both_true, not_false, or_other}
 use Rattle.locus_ids.specs.declared.ids.EpochId.{EpochId}
 use Rattle.locus_ids.specs.declared.sites.Links.{Links}
 use Rattle.locus_ids.specs.declared.config.Config.{Config}
+use Rattle.locus_ids.specs.Sizes.{sites_max}
 use Rattle.trace_book.specs.Same.{same_epoch}
 use Rattle.trace_book.specs.declared.call.Call.{Call}
 use Rattle.wire_messages.specs.Bodies.{kind_number}
@@ -28,10 +31,10 @@ use Rattle.the_run.proofs.InsideSites.{adopts_of_plain, tries_plain}
 use Rattle.the_run.proofs.InsideRoles.{on_call_still}
 use Rattle.the_run.proofs.StepSends.{order_sent}
 use Rattle.the_run.proofs.Joining.{plain_quiet}
-use Rattle.run_laws.specs.Naming.{Deeds, Names, Now, ViewOk, Fine as EpochFine, Inner}
-use Rattle.run_laws.proofs.Moves.{inner_view, inner_fine}
-use Rattle.run_laws.proofs.InsideSteps.{quiet_inner, tries_inner, adopts_of_inner, call_inner}
-use Rattle.run_laws.proofs.Steps.{EventNames, takes_fine, starts_part_fine, begins_fine, leaves_of_fine}
+use Rattle.lock_laws.specs.of_run_laws.Naming.{Deeds, Names, Now, ViewOk, Fine as EpochFine, Inner}
+use Rattle.lock_laws.proofs.of_run_laws.Moves.{inner_view, inner_fine}
+use Rattle.lock_laws.proofs.of_run_laws.InsideSteps.{quiet_inner, tries_inner, adopts_of_inner, call_inner}
+use Rattle.lock_laws.proofs.of_run_laws.Steps.{EventNames, takes_fine, starts_part_fine, begins_fine, leaves_of_fine}
 use Rattle.pack_laws.specs.InstanceBook.{Book, IsOf, Sound}
 use Rattle.pack_laws.specs.InstanceFacts.{BodyFact, PacketFact, Factless, ToldFact, UsersFact, ViewFact, Fine}
 use Rattle.pack_laws.proofs.InstanceBooks.{Leads, grown_then, factless, packets_later, tolds_later}
@@ -44,7 +47,7 @@ use Rattle.pack_laws.proofs.InstanceFormingFacts as forming
 
 -- ---- an event and its end ----
 
-whole_fine : (K : Deeds) (c : Config) (me boot : ℕ) (book : Book) (links : Links) (o : Outcome SiteView) (tries : SiteView → Outcome SiteView) → me ≤ 16 → ViewOk K o.view → Plain o.view (tries o.view) → Inner o.view (tries o.view) → SiteFine c me boot book o →
+whole_fine : (K : Deeds) (c : Config) (me boot : ℕ) (book : Book) (links : Links) (o : Outcome SiteView) (tries : SiteView → Outcome SiteView) → me ≤ sites_max → ViewOk K o.view → Plain o.view (tries o.view) → Inner o.view (tries o.view) → SiteFine c me boot book o →
     ((b : Book) → Sound c b → ViewFact c b me o.view → SiteFine c me o.view.boot b (tries o.view)) → SiteFine c me boot book (whole c me links o tries)
 whole_fine K c me boot book links o tries small ok plain inner h tried =
     let a : Outcome SiteView = tries o.view in
@@ -64,7 +67,7 @@ whole_fine K c me boot book links o tries small ok plain inner h tried =
     }
 
 -- where no adoption is tried
-untried_fine : (K : Deeds) (c : Config) (me boot : ℕ) (book : Book) (links : Links) (o : Outcome SiteView) → me ≤ 16 → ViewOk K o.view → SiteFine c me boot book o → SiteFine c me boot book (whole c me links o quiet)
+untried_fine : (K : Deeds) (c : Config) (me boot : ℕ) (book : Book) (links : Links) (o : Outcome SiteView) → me ≤ sites_max → ViewOk K o.view → SiteFine c me boot book o → SiteFine c me boot book (whole c me links o quiet)
 untried_fine K c me boot book links o small ok h = whole_fine K c me boot book links o quiet small ok (plain_quiet o.view ok.tables) (quiet_inner o.view) h (λ b s g. quiet_site c me b o.view s g)
 
 tries_fine : (c : Config) (me : ℕ) (book : Book) (x : Body) (v : SiteView) → Sound c book → ViewFact c book me v → SiteFine c me v.boot book (tries_at c me x v)
@@ -74,37 +77,21 @@ tries_fine c me book _ v s h = quiet_site c me book v s h
 
 -- ---- a packet ----
 
-both_true : (a b : Bool) → (a && b) ≡ true → (a ≡ true) × (b ≡ true)
-both_true true true h = (refl, refl)
-both_true true false h = absurd (cc)
-both_true false true h = absurd (cc)
-both_true false false h = absurd (cc)
-
-not_false : (a : Bool) → not a ≡ false → a ≡ true
-not_false true h = refl
-not_false false h = absurd (cc)
-
-test_same : (a b : ℕ) → (a == b) ≡ true → a ≡ b
-test_same a b e = grind (arith, nat_tests)
-
 same_epoch_eq : (a b : EpochId) → same_epoch a b ≡ true → a ≡ b
 same_epoch_eq a b h = id_eq (grind (arith, nat_tests)) (grind (arith, nat_tests)) (grind (arith, nat_tests))
   where
     id_eq : a.number ≡ b.number → a.site ≡ b.site → a.boot ≡ b.boot → a ≡ b
     id_eq e f g = λ i. record { number = e i; site = f i; boot = g i }
 
-or_right : (a b : Bool) → a ≡ false → (a || b) ≡ true → b ≡ true
-or_right a b e h = subst (λ (x : Bool). (x || b) ≡ true) e h
-
 -- a packet inside the epoch passes its frame
 passes : (me : ℕ) (p : Packet) (v : SiteView) (e : InEpoch) → is_dropped p v ≡ false → p.to ≡ me → is_forming p ≡ false → v.epoch ≡ Some e → Passes me p v e
 passes me p v e h to inside here =
     let a : ((p.to_boot == v.boot) ≡ true) × ((is_forming p || is_framed p v.epoch) ≡ true) = both_true (p.to_boot == v.boot) (is_forming p || is_framed p v.epoch) (not_false ((p.to_boot == v.boot) && (is_forming p || is_framed p v.epoch)) h) in
-    let b : is_framed p (Some e) ≡ true = subst (λ (o : Option InEpoch). is_framed p o ≡ true) here (or_right (is_forming p) (is_framed p v.epoch) inside a.1) in
+    let b : is_framed p (Some e) ≡ true = subst (λ (o : Option InEpoch). is_framed p o ≡ true) here (or_other (is_forming p) (is_framed p v.epoch) inside a.1) in
     let d : (same_epoch e.id p.epoch ≡ true) × ((boot_in e.members.boot p.from == p.from_boot) ≡ true) = both_true (same_epoch e.id p.epoch) (boot_in e.members.boot p.from == p.from_boot) b in
-    record { epoch = same_epoch_eq e.id p.epoch d.0; from_boot = test_same (boot_in e.members.boot p.from) p.from_boot d.1; to = to; to_boot = test_same p.to_boot v.boot a.0 }
+    record { epoch = same_epoch_eq e.id p.epoch d.0; from_boot = equal (boot_in e.members.boot p.from) p.from_boot d.1; to = to; to_boot = equal p.to_boot v.boot a.0 }
 
-framed_fine : (c : Config) (me : ℕ) (book : Book) (p : Packet) (x : Body) (o : Option InEpoch) (v : SiteView) → p.body ≡ x → v.epoch ≡ o → ((e : InEpoch) → v.epoch ≡ Some e → Passes me p v e) → me ≤ 16 → Sound c book → BodyFact book p x → ViewFact c book me v → SiteFine c me v.boot book (takes_framed c me p o v)
+framed_fine : (c : Config) (me : ℕ) (book : Book) (p : Packet) (x : Body) (o : Option InEpoch) (v : SiteView) → p.body ≡ x → v.epoch ≡ o → ((e : InEpoch) → v.epoch ≡ Some e → Passes me p v e) → me ≤ sites_max → Sound c book → BodyFact book p x → ViewFact c book me v → SiteFine c me v.boot book (takes_framed c me p o v)
 framed_fine c me book p x None v q here passing small s k h = quiet_site c me book v s h
 framed_fine c me book p x (Some e) v q here passing small s k h =
     subst (λ (y : Body). SiteFine c me v.boot book (takes_inside (frame_in c me v.boot e) p.from y v)) (sym q) (inside_fine c me book p v e x here small s (passing e here) k h)
@@ -117,11 +104,11 @@ record Comes (J : Deeds) (book : Book) (me : ℕ) (p : Packet) (x : Body) (v : S
   names : Names J p.epoch x
   fact : BodyFact book p x
 
-inside_comes : (J : Deeds) (c : Config) (me : ℕ) (book : Book) (p : Packet) (x : Body) (v : SiteView) → nat_lt (kind_number x) 6 ≡ false → me ≤ 16 → Sound c book → Comes J book me p x v → ViewFact c book me v → SiteFine c me v.boot book (takes_framed c me p v.epoch v)
+inside_comes : (J : Deeds) (c : Config) (me : ℕ) (book : Book) (p : Packet) (x : Body) (v : SiteView) → nat_lt (kind_number x) 6 ≡ false → me ≤ sites_max → Sound c book → Comes J book me p x v → ViewFact c book me v → SiteFine c me v.boot book (takes_framed c me p v.epoch v)
 inside_comes J c me book p x v inside small s k h =
     framed_fine c me book p x v.epoch v k.body_is refl (λ e here. passes me p v e k.taken k.to (subst (λ (y : Body). nat_lt (kind_number y) 6 ≡ false) (sym k.body_is) inside) here) small s k.fact h
 
-received_fine : (K J : Deeds) (c : Config) (me : ℕ) (book : Book) (links : Links) (p : Packet) (x : Body) (v : SiteView) → me ≤ 16 → ViewOk K v → Sound c book → Comes J book me p x v → ViewFact c book me v → SiteFine c me v.boot book (takes c me links p x v)
+received_fine : (K J : Deeds) (c : Config) (me : ℕ) (book : Book) (links : Links) (p : Packet) (x : Body) (v : SiteView) → me ≤ sites_max → ViewOk K v → Sound c book → Comes J book me p x v → ViewFact c book me v → SiteFine c me v.boot book (takes c me links p x v)
 received_fine K J c me book links p body.Poll v small ok s k h = on_poll_fine c book me links p.from p.from_boot p.epoch v s h
 received_fine K J c me book links p (body.Promise reach) v small ok s k h = on_promise_fine c book me p.from p.from_boot p.epoch reach v.round v refl s h
 received_fine K J c me book links p (body.Refuse promised) v small ok s k h = on_refuse_fine K c book me links p.epoch promised v.round v refl ok k.names s h
@@ -174,7 +161,7 @@ repeats_fact c me book (Some e) v here h =
     (order_sent (PacketFact book) (poll_repeats me v v.round ++ install_repeats me v e) (every_append (PacketFact book) (poll_repeats me v v.round) (install_repeats me v e) (factless book (poll_repeats me v v.round) (polls_factless me v v.round)) (every_map (PacketFact book) (install_packet me v.boot e.id e.members) v.installs (λ t. (inside_of c book me v e here h).listed))))
     (inside_repeats c me book e v h)
 
-ticks_fine : (K : Deeds) (c : Config) (me : ℕ) (book : Book) (links : Links) (v : SiteView) → me ≤ 16 → ViewOk K v → Sound c book → ViewFact c book me v → SiteFine c me v.boot book (ticks_after c me links (adopts_in c me v))
+ticks_fine : (K : Deeds) (c : Config) (me : ℕ) (book : Book) (links : Links) (v : SiteView) → me ≤ sites_max → ViewOk K v → Sound c book → ViewFact c book me v → SiteFine c me v.boot book (ticks_after c me links (adopts_in c me v))
 ticks_fine K c me book links v small ok s h =
     let a : Outcome SiteView = adopts_in c me v in
     let last : Outcome SiteView = ends_event c me links a.view in
@@ -199,11 +186,11 @@ EventFact book me (Receives p) = (p.to ≡ me) × PacketFact book p
 EventFact book me _ = Unit {0}
 
 -- a call, also outside of an epoch
-call_fine : (c : Config) (me boot : ℕ) (book : Book) (process : ℕ) (words : Call) (o : Option InEpoch) (u : Users) → me ≤ 16 → Sound c book → UsersFact book me boot u → Fine (AskedHere me boot) (λ (b : Book) (x : Users). UsersFact b me boot x) c book (on_call (call_frame c me boot o) (epoch_id o) process words u)
+call_fine : (c : Config) (me boot : ℕ) (book : Book) (process : ℕ) (words : Call) (o : Option InEpoch) (u : Users) → me ≤ sites_max → Sound c book → UsersFact book me boot u → Fine (AskedHere me boot) (λ (b : Book) (x : Users). UsersFact b me boot x) c book (on_call (call_frame c me boot o) (epoch_id o) process words u)
 call_fine c me boot book process words None u small s h = on_call_fine (call_frame c me boot None) book None process words u small s h
 call_fine c me boot book process words (Some e) u small s h = on_call_fine (call_frame c me boot (Some e)) book (Some e.id) process words u small s h
 
-pub step_fine : (K J : Deeds) (c : Config) (me : ℕ) (book : Book) (links : Links) (v : SiteView) (e : Event) → me ≤ 16 → EventFact book me e → EventNames J e → ViewOk K v → Sound c book → ViewFact c book me v → SiteFine c me v.boot book (step c me links v e)
+pub step_fine : (K J : Deeds) (c : Config) (me : ℕ) (book : Book) (links : Links) (v : SiteView) (e : Event) → me ≤ sites_max → EventFact book me e → EventNames J e → ViewOk K v → Sound c book → ViewFact c book me v → SiteFine c me v.boot book (step c me links v e)
 step_fine K J c me book links v (Calls process words) small k n ok s h =
     let o : Outcome SiteView = takes_call c me process words v in
     let f : EpochFine K me v o = inner_fine K me v o (record { boot = refl; round = refl; promised = refl; epoch = refl; tables = ok.tables; still = on_call_still (call_frame c me v.boot v.epoch) (epoch_id v.epoch) process words v.users }) (call_inner c me process words v) ok in

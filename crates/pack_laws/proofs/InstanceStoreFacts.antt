@@ -1,6 +1,8 @@
 -- What the storage site begins: an instance of a key once in an epoch.
 use Rattle.std.proofs.Common.{◌≡◌, ℕ, ◌+◌, ◌==◌, Bool, true, false, List, [], ◌∷◌, Option, Some, None, refl, sym, ◌∙◌, ap, subst, inl, inr, arith}
 use Rattle.std.proofs.lemmas.Bool.Decides.{nat_tests}
+use Rattle.role_steps.proofs.of_plain_facts.Numbers.{equal_self}
+use Rattle.role_steps.proofs.of_plain_facts.Options.{none_some}
 use Rattle.locus_ids.specs.declared.ids.EpochId.{EpochId}
 use Rattle.locus_ids.specs.declared.ids.FileId.{FileId}
 use Rattle.locus_ids.specs.declared.ids.Serial.{Serial}
@@ -12,9 +14,9 @@ use Rattle.trace_book.specs.declared.operation.Op.{Op}
 use Rattle.trace_book.specs.declared.operation.Op.TheVariants as op
 use Rattle.trace_book.specs.declared.operation.Outcome.{Outcome as Result}
 use Rattle.trace_book.specs.declared.operation.Outcome.TheVariants as result
-use Rattle.file_effects.specs.Effects.{Effect}
-use Rattle.file_effects.specs.Works.{counted}
-use Rattle.file_effects.specs.declared.work.Work.{Work}
+use Rattle.role_steps.specs.of_file_effects.Effects.{Effect}
+use Rattle.role_steps.specs.of_file_effects.Works.{counted}
+use Rattle.role_steps.specs.of_file_effects.declared.work.Work.{Work}
 use Rattle.wire_messages.specs.declared.packet.Packet.{Packet}
 use Rattle.wire_messages.specs.declared.body.Body.{Body}
 use Rattle.wire_messages.specs.declared.body.Body.TheVariants as body
@@ -33,11 +35,11 @@ use Rattle.role_steps.specs.declared.copies.FileCopy.{FileCopy}
 use Rattle.role_steps.specs.declared.instances.Instance.{Instance}
 use Rattle.role_steps.specs.declared.instances.Stage.{Stage}
 use Rattle.role_steps.specs.declared.instances.Stage.TheVariants as stage
-use Rattle.role_steps.proofs.Rows.{same, passed_row, found_row}
+use Rattle.role_steps.proofs.Rows.{passed_row, found_row}
 use Rattle.role_steps.proofs.Sending.{every_append, every_cond, every_flat_map}
 use Rattle.the_run.specs.Kept.{Among}
 use Rattle.the_run.proofs.InsideSync.{Found, row_found}
-use Rattle.vector_laws.proofs.SyncFacts.{every_latest}
+use Rattle.lock_laws.proofs.of_vector_laws.SyncFacts.{every_latest}
 use Rattle.pack_laws.specs.InstanceBook.{Note, Began, Book, IsFor, BeganFact, Sound}
 use Rattle.pack_laws.specs.InstanceFacts.{OpenSsFact, PacketFact, NoFact, Factless, ToldFact, InstanceFact, HasInstance, StoreFact, Fine}
 use Rattle.pack_laws.proofs.InstanceBooks.{factless, grown_same, grown_cons, sound_cons, once_began, boot_same}
@@ -47,9 +49,6 @@ use Rattle.pack_laws.proofs.InstanceUsersFacts.{sync_body}
 
 other_key : (a b t : ℕ) → (a == b) ≡ true → (b == t) ≡ false → (a == t) ≡ false
 other_key a b t e h = grind (arith, nat_tests)
-
-none_some : {A : Type 0} (x : A) → ◌≡◌ {A = Option A} None (Some x) → ⊥
-none_some x e = cc
 
 some_row : {A : Type 0} (x : A) (rest : Option A) (b : Bool) → (b ≡ false → (i : A) × (rest ≡ Some i)) → (i : A) × (◌≡◌ {A = Option A} (elim b [ true ↦ Some x | false ↦ rest ]) (Some i))
 some_row x rest true f = (x, refl)
@@ -66,10 +65,10 @@ latest_some key k x (y ∷ ys) j h =
 
 -- and its own key is found
 pub latest_same : {A : Type 0} (key : A → ℕ) (x : A) (xs : List A) → (i : A) × (row key (key x) (with_latest key x xs) ≡ Some i)
-latest_same key x [] = (x, found_row x None (key x == key x) (same (key x)))
+latest_same key x [] = (x, found_row x None (key x == key x) (equal_self (key x)))
 latest_same key x (y ∷ ys) =
     elim (key y == key x) as (λ b. (i : _) × (row key (key x) (elim b [ true ↦ x ∷ ys | false ↦ y ∷ with_latest key x ys ]) ≡ Some i)) [
-      | true ↦ (x, found_row x (row key (key x) ys) (key x == key x) (same (key x)))
+      | true ↦ (x, found_row x (row key (key x) ys) (key x == key x) (equal_self (key x)))
       | false ↦ some_row y (row key (key x) (with_latest key x ys)) (key y == key x) (λ q. latest_same key x ys)
     ]
 

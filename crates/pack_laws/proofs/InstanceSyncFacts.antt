@@ -1,5 +1,6 @@
 -- What the synchronization site places and grants: an instance of a key once in an epoch.
 use Rattle.std.proofs.Common.{◌≡◌, ℕ, List, [], ◌∷◌, Option, Some, None, refl, sym, ◌∙◌, ap, subst, inl, inr}
+use Rattle.role_steps.proofs.of_plain_facts.Options.{none_some, some_same}
 use Rattle.locus_ids.specs.declared.ids.EpochId.{EpochId}
 use Rattle.locus_ids.specs.declared.ids.FileId.{FileId}
 use Rattle.locus_ids.specs.declared.ids.Mode.{Mode}
@@ -20,7 +21,7 @@ use Rattle.role_steps.specs.declared.synchronizing.OpenStage.TheVariants as stag
 use Rattle.role_steps.proofs.Sending.{every_append}
 use Rattle.the_run.specs.Kept.{Among}
 use Rattle.the_run.proofs.InsideSync.{Found, row_found}
-use Rattle.vector_laws.proofs.SyncFacts.{FoundAt, row_at, every_latest}
+use Rattle.lock_laws.proofs.of_vector_laws.SyncFacts.{FoundAt, row_at, every_latest}
 use Rattle.pack_laws.specs.InstanceBook.{Note, Listed, Placed, Began, Book, AskedBy, IsFor, PlacedFact, BeganFact, Sound}
 use Rattle.pack_laws.specs.InstanceFacts.{OpenedFact, MakeAsked, AnswerFact, PacketFact, MadeFact, GrantFact, WasPlaced, ToldFact, StageFact, OpenFact, own_serial, HasRow, TableFact, Fine}
 use Rattle.pack_laws.proofs.InstanceBooks.{Leads, grown_same, grown_then, grown_cons, packets_later, tolds_later, open_later, earlies_later, sound_cons, once_placed, asked_once, boot_same}
@@ -74,18 +75,12 @@ pub record Comes (f : Frame) (book : Book) (t : SyncTable) (us : ℕ) (o : OpenR
   pub asked : AskedBy book f.members (own_serial us o.serial) o.file o.how
   pub group_is : o.file.group ≡ t.group
 
-none_some : {A : Type 0} (x : A) → ◌≡◌ {A = Option A} None (Some x) → ⊥
-none_some x e = cc
-
-some_eq : (x y : ℕ) → ◌≡◌ {A = Option ℕ} (Some x) (Some y) → x ≡ y
-some_eq x y e = cc
-
 one_group : (a b : FileId) (g group : ℕ) → a ≡ b → a.group ≡ g → b.group ≡ group → g ≡ group
 one_group a b g group e h k = sym h ∙ (ap (λ (x : FileId). x.group) e ∙ k)
 
 -- of one list of members and one group there is one synchronization site
 one_site : (c : Config) (m n : Members) (g group s t : ℕ) → m ≡ n → g ≡ group → sync_site c m g ≡ Some s → sync_site c n group ≡ Some t → s ≡ t
-one_site c m n g group s t e k h q = some_eq s t (sym h ∙ ((λ i. sync_site c (e i) (k i)) ∙ q))
+one_site c m n g group s t e k h q = some_same s t (sym h ∙ ((λ i. sync_site c (e i) (k i)) ∙ q))
 
 no_row : (xs : List OpenRow) (k key : ℕ) (r : OpenRow) → k ≡ key → row open_key k xs ≡ Some r → row open_key key xs ≡ None → ⊥
 no_row xs k key r e h none = none_some r (sym none ∙ (ap (λ (x : ℕ). row open_key x xs) (sym e) ∙ h))

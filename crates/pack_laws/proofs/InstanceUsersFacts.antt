@@ -4,6 +4,7 @@ use Rattle.locus_ids.specs.declared.ids.EpochId.{EpochId}
 use Rattle.locus_ids.specs.declared.ids.FileId.{FileId}
 use Rattle.locus_ids.specs.declared.ids.Stamp.{Stamp}
 use Rattle.locus_ids.specs.declared.refusal.Refusal.{Refusal}
+use Rattle.locus_ids.specs.Sizes.{sites_max}
 use Rattle.trace_book.specs.declared.call.Call.{Call}
 use Rattle.trace_book.specs.declared.call.Call.TheVariants as call
 use Rattle.trace_book.specs.declared.operation.Op.{Op}
@@ -36,7 +37,7 @@ use Rattle.role_steps.specs.declared.users.UserInstance.{UserInstance}
 use Rattle.role_steps.proofs.Sending.{every_map}
 use Rattle.the_run.specs.Kept.{Among}
 use Rattle.the_run.proofs.InsideSync.{every_row, every_without}
-use Rattle.vector_laws.proofs.SyncFacts.{every_flat}
+use Rattle.lock_laws.proofs.of_vector_laws.SyncFacts.{every_flat}
 use Rattle.pack_laws.specs.InstanceBook.{Note, Asked, Book, Sound}
 use Rattle.pack_laws.specs.InstanceFacts.{BodyFact, PacketFact, ToldFact, AskingFact, WaitingFact, UsersFact, Fine}
 use Rattle.pack_laws.proofs.InstanceBooks.{grown_same, grown_cons, sound_cons, once_asked}
@@ -81,7 +82,7 @@ asks_fine : (f : Frame) (book : Book) (w : WaitingCall) (u : Users) → Sound f.
 asks_fine f book w u s k h = still f book (asks f w u) s (with_waiting_fact book f.me f.boot w u k h) (request_fact book f w w.asking k) tt
 
 -- an open has the next serial number, which none that was asked has
-asks_open_fine : (f : Frame) (book : Book) (w : WaitingCall) (file : FileId) (x : Opening) (u : Users) → f.me ≤ 16 → Sound f.config book → UsersFact book f.me f.boot u → UsersFine f book (asks_open f w file x u)
+asks_open_fine : (f : Frame) (book : Book) (w : WaitingCall) (file : FileId) (x : Opening) (u : Users) → f.me ≤ sites_max → Sound f.config book → UsersFact book f.me f.boot u → UsersFine f book (asks_open f w file x u)
 asks_open_fine f book w file x u small s h = record {
   book = new ∷ book;
   grown = grown_cons (AskedHere f.me f.boot) new book (refl, refl);
@@ -161,7 +162,7 @@ replies_fine f book w r u s h =
 
 -- ---- a script goes on ----
 
-asks_want_fine : (f : Frame) (book : Book) (w : WaitingCall) (x : Want) (u : Users) → f.me ≤ 16 → Sound f.config book → UsersFact book f.me f.boot u → UsersFine f book (asks_want f w x u)
+asks_want_fine : (f : Frame) (book : Book) (w : WaitingCall) (x : Want) (u : Users) → f.me ≤ sites_max → Sound f.config book → UsersFact book f.me f.boot u → UsersFine f book (asks_want f w x u)
 asks_want_fine f book w (want.Look file what) u small s h = asks_fine f book (next_request w (asking.Look file what 1)) u s tt h
 asks_want_fine f book w (want.Open file m) u small s h = asks_open_fine f book w file (opening_of m) u small s h
 asks_want_fine f book w (want.OpenToMend file) u small s h = asks_open_fine f book w file how.Mend u small s h
@@ -171,14 +172,14 @@ asks_want_fine f book w (want.Close inst) u small s h = asks_close_fine f book w
 asks_want_fine f book w (want.Give r) u small s h = replies_fine f book w r u s h
 asks_want_fine f book w want.Never u small s h = still f book (quiet u) s h tt tt
 
-goes_on_fine : (f : Frame) (book : Book) (w : WaitingCall) (u : Users) → f.me ≤ 16 → Sound f.config book → UsersFact book f.me f.boot u → UsersFine f book (goes_on f w u)
+goes_on_fine : (f : Frame) (book : Book) (w : WaitingCall) (u : Users) → f.me ≤ sites_max → Sound f.config book → UsersFact book f.me f.boot u → UsersFine f book (goes_on f w u)
 goes_on_fine f book w u small s h = asks_want_fine f book w (next_want f w u) u small s h
 
 frees_alike : (process : ℕ) (c : Call) (u : Users) → Alike u (frees process c u)
 frees_alike process (call.Close fd) u = record { waiting = refl; serials = refl }
 frees_alike process _ u = record { waiting = refl; serials = refl }
 
-pub on_call_fine : (f : Frame) (book : Book) (now : Option EpochId) (process : ℕ) (words : Call) (u : Users) → f.me ≤ 16 → Sound f.config book → UsersFact book f.me f.boot u → UsersFine f book (on_call f now process words u)
+pub on_call_fine : (f : Frame) (book : Book) (now : Option EpochId) (process : ℕ) (words : Call) (u : Users) → f.me ≤ sites_max → Sound f.config book → UsersFact book f.me f.boot u → UsersFine f book (on_call f now process words u)
 on_call_fine f book now process words u small s h =
     let n : ℕ = u.calls + 1 in
     let w : WaitingCall = accepted process n words (beginning (descriptors_of u process) now words) in
@@ -186,35 +187,35 @@ on_call_fine f book now process words u small s h =
     let k : UsersFact book f.me f.boot counted = alike_fact book f.me f.boot (record u { calls = n }) counted (frees_alike process words (record u { calls = n })) (record { waiting = h.waiting; counted = h.counted }) in
     one_more f book (accept_record f.me f.boot process n words) (goes_on f w counted) (λ b. tt) (goes_on_fine f book w counted small s k)
 
-takes_answer_fine : (f : Frame) (book : Book) (w : WaitingCall) (a : Answer) (u : Users) → f.me ≤ 16 → Sound f.config book → UsersFact book f.me f.boot u → UsersFine f book (takes_answer f w a u)
+takes_answer_fine : (f : Frame) (book : Book) (w : WaitingCall) (a : Answer) (u : Users) → f.me ≤ sites_max → Sound f.config book → UsersFact book f.me f.boot u → UsersFine f book (takes_answer f w a u)
 takes_answer_fine f book w a u small s h = one_more f book (takes_record f w a) (goes_on f (with_answer w a) u) (λ b. tt) (goes_on_fine f book (with_answer w a) u small s h)
 
 -- ---- answers ----
 
-takes_open_fine : (f : Frame) (book : Book) (kept : FileId → List Stamp) (serial : ℕ) (w : WaitingCall) (a : Granted) (u : Users) → f.me ≤ 16 → Sound f.config book → UsersFact book f.me f.boot u → UsersFine f book (takes_open f kept serial w a u)
+takes_open_fine : (f : Frame) (book : Book) (kept : FileId → List Stamp) (serial : ℕ) (w : WaitingCall) (a : Granted) (u : Users) → f.me ≤ sites_max → Sound f.config book → UsersFact book f.me f.boot u → UsersFine f book (takes_open f kept serial w a u)
 takes_open_fine f book kept serial w (granted.Open ss ino size stamp vector) u small s h =
     takes_answer_fine f book w (opened_answer f serial ino (kept_for kept (mended_file w.words)) w.words) (with_user_instance (record { serial = serial; ss = ss; vector = vector; ops = 0 }) u) small s (record { waiting = h.waiting; counted = h.counted })
 takes_open_fine f book kept serial w (granted.No why) u small s h = takes_answer_fine f book w _ u small s h
 
-open_done_fine : (f : Frame) (book : Book) (kept : FileId → List Stamp) (serial : ℕ) (a : Granted) (o : Option WaitingCall) (u : Users) → f.me ≤ 16 → Sound f.config book → UsersFact book f.me f.boot u → UsersFine f book (on_open_done_of f kept serial a o u)
+open_done_fine : (f : Frame) (book : Book) (kept : FileId → List Stamp) (serial : ℕ) (a : Granted) (o : Option WaitingCall) (u : Users) → f.me ≤ sites_max → Sound f.config book → UsersFact book f.me f.boot u → UsersFine f book (on_open_done_of f kept serial a o u)
 open_done_fine f book kept serial a None u small s h = still f book (quiet u) s h tt tt
 open_done_fine f book kept serial a (Some w) u small s h = takes_open_fine f book kept serial w a u small s h
 
-pub on_open_done_fine : (f : Frame) (book : Book) (kept : FileId → List Stamp) (serial : ℕ) (a : Granted) (u : Users) → f.me ≤ 16 → Sound f.config book → UsersFact book f.me f.boot u → UsersFine f book (on_open_done f kept serial a u)
+pub on_open_done_fine : (f : Frame) (book : Book) (kept : FileId → List Stamp) (serial : ℕ) (a : Granted) (u : Users) → f.me ≤ sites_max → Sound f.config book → UsersFact book f.me f.boot u → UsersFine f book (on_open_done f kept serial a u)
 on_open_done_fine f book kept serial a u small s h = open_done_fine f book kept serial a (first_that (asks_open_of serial) u.waiting) u small s h
 
-op_done_fine : (f : Frame) (book : Book) (r : Result) (o : Option WaitingCall) (u : Users) → f.me ≤ 16 → Sound f.config book → UsersFact book f.me f.boot u → UsersFine f book (on_op_done_of f r o u)
+op_done_fine : (f : Frame) (book : Book) (r : Result) (o : Option WaitingCall) (u : Users) → f.me ≤ sites_max → Sound f.config book → UsersFact book f.me f.boot u → UsersFine f book (on_op_done_of f r o u)
 op_done_fine f book r None u small s h = still f book (quiet u) s h tt tt
 op_done_fine f book r (Some w) u small s h = takes_answer_fine f book w _ u small s h
 
-pub on_op_done_fine : (f : Frame) (book : Book) (serial n : ℕ) (r : Result) (u : Users) → f.me ≤ 16 → Sound f.config book → UsersFact book f.me f.boot u → UsersFine f book (on_op_done f serial n r u)
+pub on_op_done_fine : (f : Frame) (book : Book) (serial n : ℕ) (r : Result) (u : Users) → f.me ≤ sites_max → Sound f.config book → UsersFact book f.me f.boot u → UsersFine f book (on_op_done f serial n r u)
 on_op_done_fine f book serial n r u small s h = op_done_fine f book r (first_that (asks_op_number serial n r) u.waiting) u small s h
 
-close_done_fine : (f : Frame) (book : Book) (serial : ℕ) (a : CloseAnswer) (o : Option WaitingCall) (u : Users) → f.me ≤ 16 → Sound f.config book → UsersFact book f.me f.boot u → UsersFine f book (on_close_done_of f serial a o u)
+close_done_fine : (f : Frame) (book : Book) (serial : ℕ) (a : CloseAnswer) (o : Option WaitingCall) (u : Users) → f.me ≤ sites_max → Sound f.config book → UsersFact book f.me f.boot u → UsersFine f book (on_close_done_of f serial a o u)
 close_done_fine f book serial a None u small s h = still f book (quiet u) s h tt tt
 close_done_fine f book serial a (Some w) u small s h = takes_answer_fine f book w _ (without_user_instance serial u) small s (record { waiting = h.waiting; counted = h.counted })
 
-pub on_close_done_fine : (f : Frame) (book : Book) (serial : ℕ) (a : CloseAnswer) (u : Users) → f.me ≤ 16 → Sound f.config book → UsersFact book f.me f.boot u → UsersFine f book (on_close_done f serial a u)
+pub on_close_done_fine : (f : Frame) (book : Book) (serial : ℕ) (a : CloseAnswer) (u : Users) → f.me ≤ sites_max → Sound f.config book → UsersFact book f.me f.boot u → UsersFine f book (on_close_done f serial a u)
 on_close_done_fine f book serial a u small s h = close_done_fine f book serial a (first_that (using.asks_close_of serial) u.waiting) u small s h
 
 looks_again_fine : (f : Frame) (book : Book) (w : WaitingCall) (a : Asking) (u : Users) → Sound f.config book → UsersFact book f.me f.boot u → UsersFine f book (looks_again f w a u)
@@ -226,18 +227,18 @@ looks_again_fine f book w (asking.Open serial file x) u s h = still f book (quie
 looks_again_fine f book w (asking.Op serial ss number o seen) u s h = still f book (quiet u) s h tt tt
 looks_again_fine f book w (asking.Close serial ss) u s h = still f book (quiet u) s h tt tt
 
-takes_look_fine : (f : Frame) (book : Book) (w : WaitingCall) (a : LookAnswer) (u : Users) → f.me ≤ 16 → Sound f.config book → UsersFact book f.me f.boot u → UsersFine f book (takes_look f w a u)
+takes_look_fine : (f : Frame) (book : Book) (w : WaitingCall) (a : LookAnswer) (u : Users) → f.me ≤ sites_max → Sound f.config book → UsersFact book f.me f.boot u → UsersFine f book (takes_look f w a u)
 takes_look_fine f book w (looked.Found ino kind) u small s h = takes_answer_fine f book w _ u small s h
 takes_look_fine f book w (looked.Content bytes) u small s h = takes_answer_fine f book (with_brought w.asking bytes w) (content_answer w.asking bytes) u small s h
 takes_look_fine f book w (looked.Stat kind size stamp) u small s h = takes_answer_fine f book w _ u small s h
 takes_look_fine f book w looked.Moved u small s h = looks_again_fine f book w w.asking u s h
 takes_look_fine f book w (looked.No why) u small s h = takes_answer_fine f book w _ u small s h
 
-look_done_fine : (f : Frame) (book : Book) (a : LookAnswer) (o : Option WaitingCall) (u : Users) → f.me ≤ 16 → Sound f.config book → UsersFact book f.me f.boot u → UsersFine f book (on_look_done_of f a o u)
+look_done_fine : (f : Frame) (book : Book) (a : LookAnswer) (o : Option WaitingCall) (u : Users) → f.me ≤ sites_max → Sound f.config book → UsersFact book f.me f.boot u → UsersFine f book (on_look_done_of f a o u)
 look_done_fine f book a None u small s h = still f book (quiet u) s h tt tt
 look_done_fine f book a (Some w) u small s h = takes_look_fine f book w a u small s h
 
-pub on_look_done_fine : (f : Frame) (book : Book) (n request take : ℕ) (a : LookAnswer) (u : Users) → f.me ≤ 16 → Sound f.config book → UsersFact book f.me f.boot u → UsersFine f book (on_look_done f n request take a u)
+pub on_look_done_fine : (f : Frame) (book : Book) (n request take : ℕ) (a : LookAnswer) (u : Users) → f.me ≤ sites_max → Sound f.config book → UsersFact book f.me f.boot u → UsersFine f book (on_look_done f n request take a u)
 on_look_done_fine f book n request take a u small s h = look_done_fine f book a (first_that (asks_take n request take a) u.waiting) u small s h
 
 -- ---- repeats, and the end of an epoch ----

@@ -14,8 +14,7 @@ pub mod InodeStoreFits
 pub mod InodeSyncFits
 pub mod InodeSiteFits
 pub mod InodeFitsRun
-pub mod WriterSyncAsks
-pub mod WriterStoreAsks
+pub mod WriterServing
 pub mod WriterLeads
 pub mod WriterUserAsks
 pub mod WriterSiteAsks
@@ -30,10 +29,13 @@ pub mod StorePacks
 pub mod RowPacks
 pub mod SyncPacks
 pub mod SitePacks
-pub mod LocksKept
 pub mod PacksRun
 pub mod Making
 pub mod Homes
 pub mod CounterCounting
 pub mod CounterText
 pub mod CounterRun
+pub use Rattle.lock_laws.proofs as of_lock_laws
+pub use Rattle.lock_laws.proofs.of_law_walks as of_law_walks
+pub use Rattle.lock_laws.proofs.of_run_laws as of_run_laws
+pub use Rattle.lock_laws.proofs.of_vector_laws as of_vector_laws

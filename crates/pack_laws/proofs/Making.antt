@@ -9,8 +9,8 @@ use Rattle.trace_book.specs.declared.record.Record.TheVariants as says
 use Rattle.role_steps.specs.Own.{Every}
 use Rattle.role_steps.specs.Views.{Told, Shown, Reserves}
 use Rattle.the_run.specs.Runs.{run_in}
-use Rattle.vector_laws.specs.Written.{past_of, WrittenAs, IsWrittenBy, IsCommitOf, JoinsAll, IsNumbered, NumberedRecord, NumberedTold, CommitsAreNumbered}
-use Rattle.vector_laws.proofs.FactsRun.{run_numbered}
+use Rattle.lock_laws.specs.of_vector_laws.Written.{past_of, WrittenAs, IsWrittenBy, IsCommitOf, JoinsAll, IsNumbered, NumberedRecord, NumberedTold, CommitsAreNumbered}
+use Rattle.lock_laws.proofs.of_vector_laws.FactsRun.{run_numbered}
 use Rattle.pack_laws.proofs.InstanceAgree.{run_agrees}
 use Rattle.pack_laws.specs.Making.{Originates, CommitsRecord, CommitsFile, WasCommitted, MadeRecord, MadeTold, FilesAreMadeAtHome}
 use Rattle.pack_laws.specs.Packs.{RecordPacked, ToldPacked, FilesLieInPacks}

@@ -1,6 +1,9 @@
 -- In every run the versions of a file are begun, made and adopted where packs are.
 use Rattle.std.proofs.Common.{◌≡◌, ℕ, ◌+◌, ◌==◌, nat_lt, Bool, true, false, ◌&&◌, ◌||◌, not, cond, List, [], ◌∷◌, ◌++◌, map, Option, Some, None, refl, sym, ◌∙◌, ap, subst, inl, inr, arith}
 use Rattle.std.proofs.lemmas.Bool.Decides.{nat_tests}
+use Rattle.role_steps.proofs.of_plain_facts.Numbers.{equal}
+use Rattle.role_steps.proofs.of_plain_facts.Options.{some_same}
+use Rattle.role_steps.proofs.of_plain_facts.Tests.{both_true, not_false, or_other}
 use Rattle.locus_ids.specs.Sites.{has}
 use Rattle.locus_ids.specs.declared.ids.EpochId.{EpochId}
 use Rattle.locus_ids.specs.declared.ids.FileId.{FileId}
@@ -20,10 +23,9 @@ use Rattle.the_run.specs.Steps.{is_dropped, is_forming, is_framed}
 use Rattle.the_run.specs.Worlds.{World, Place, Running, Stopped, Numbered, number_of, links_of, place_at, place_in, place_site, script_of, happened, numbered_from, told_onto, disk_of, puts, arms, passed, stops_with, cause_of, acts, fresh, root_copy, formatted, first_place, first_world, loses}
 use Rattle.the_run.specs.Kept.{WasSent, IsOwn, Kept}
 use Rattle.the_run.proofs.Boots.{at_each, acts_cases, every_newest, every_numbered, every_weaker}
-use Rattle.vector_laws.specs.Held.{OnDisk, copies_on}
-use Rattle.vector_laws.specs.Written.{past_of, Begun, WasBegun, WasGranted, InstancesAgree}
-use Rattle.vector_laws.proofs.SiteDisks.{SiteDisk, step_disk}
-use Rattle.vector_laws.proofs.FormingFacts.{both_true}
+use Rattle.lock_laws.specs.of_vector_laws.Held.{OnDisk, copies_on}
+use Rattle.lock_laws.specs.of_vector_laws.Written.{past_of, Begun, WasBegun, WasGranted, InstancesAgree}
+use Rattle.lock_laws.proofs.of_vector_laws.SiteDisks.{SiteDisk, step_disk}
 use Rattle.pack_laws.proofs.InstanceAgree.{run_agrees}
 use Rattle.lock_laws.specs.Going.{WasBegunAt, BegunAt, WasShutAt, ShutAt, InstanceGoesOn, InstancesGoOn}
 use Rattle.lock_laws.specs.Facts.{BodyFact, RowFact, OpenFact, TableFact, InEpochFact, ViewFact, NumberedFact, WorldFact}
@@ -32,7 +34,7 @@ use Rattle.pack_laws.specs.Packs.{HasPack, CopyPacked, RecordPacked, ToldPacked,
 use Rattle.pack_laws.specs.Packed.{PacketPacked, ViewPacked, StageCloses, RowCloses, TableCloses, BodyCloses, NumberedPacked, WorldPacked}
 use Rattle.pack_laws.proofs.Sets.{passing}
 use Rattle.pack_laws.proofs.SitePacks.{SiteOut, PacketAllows, EventPacked, step_packed}
-use Rattle.pack_laws.proofs.LocksKept.{Both, both_kept, first_both}
+use Rattle.lock_laws.proofs.FactsRun.{Both, both_kept, first_both}
 use Rattle.locus_ids.specs.declared.config.Config.{Config}
 use Rattle.schedule_lines.specs.declared.line.ScheduleLine.{ScheduleLine}
 use Rattle.trace_book.specs.declared.record.Record.{Record}
@@ -48,11 +50,11 @@ use Rattle.the_run.specs.Steps.{step}
 use Rattle.the_run.specs.Runs.{boots_as, packet_record, run_in}
 use Rattle.the_run.proofs.Events.{happened_keeps, puts_other, puts_same}
 use Rattle.the_run.proofs.InsideSync.{every_row, every_without}
-use Rattle.the_run.proofs.Runs.{every_run, some_eq}
-use Rattle.run_laws.proofs.Run.{found_among}
-use Rattle.vector_laws.specs.Facts.{onto}
-use Rattle.vector_laws.proofs.FactsRun.{past_onto}
-use Rattle.vector_laws.proofs.Held.{KeepsCopies, boots_copies}
+use Rattle.the_run.proofs.Runs.{every_run}
+use Rattle.lock_laws.proofs.of_run_laws.Run.{found_among}
+use Rattle.lock_laws.specs.of_vector_laws.Facts.{onto}
+use Rattle.lock_laws.proofs.of_vector_laws.FactsRun.{past_onto}
+use Rattle.lock_laws.proofs.of_vector_laws.Held.{KeepsCopies, boots_copies}
 
 -- ---- what is written, by what is told ----
 
@@ -127,7 +129,7 @@ record Closer (c : Config) (past : List Told) (from : ℕ) (e : EpochId) (key : 
 row_closes : (c : Config) (past : List Told) (from : ℕ) (e : EpochId) (key group : ℕ) (r : OpenRow) (s : OpenStage) → Closer c past from e key → r.file.group ≡ group → RowFact past e r s → StageCloses c from key group r s
 row_closes c past from e key group r stage.Asked k g h = tt
 row_closes c past from e key group r stage.Granted k g h = λ q.
-    (let same : k.begun.0 ≡ r.file = k.agree e key k.begun.0 r.file (was_begun from e key k.begun.0 past k.begun.1) (subst (λ (n : ℕ). WasGranted past e n r.file) q h) in
+    (let same : k.begun.0 ≡ r.file = k.agree e key k.begun.0 r.file (was_begun from e key k.begun.0 past k.begun.1) (subst (λ (n : ℕ). WasGranted past e n r.file) q h.granted) in
     let p : HasPack c k.begun.0.group from = begun_packed c from e key k.begun.0 past k.told k.begun.1 in
     subst (λ (n : ℕ). HasPack c n from) g (subst (λ (f : FileId). HasPack c f.group from) same p))
 row_closes c past from e key group r (stage.Refused why) k g h = tt
@@ -140,24 +142,16 @@ tables_close : (c : Config) (past : List Told) (me from : ℕ) (key : ℕ) (v : 
 tables_close c past me from key v None here k h = subst (λ (ts : List SyncTable). Every (TableCloses c from key) ts) (sym h.1) tt
 tables_close c past me from key v (Some e) here k h = every_weaker (TableFact past e.id) (TableCloses c from key) v.tables (λ t q. table_closes c past from e.id key t (k e here) q) h.1
 
--- a packet inside the epoch names the epoch of the site
-not_false : (a : Bool) → not a ≡ false → a ≡ true
-not_false true h = refl
-not_false false h = absurd (cc)
-
 same_epoch_eq : (a b : EpochId) → same_epoch a b ≡ true → a ≡ b
 same_epoch_eq a b h = id_eq (grind (arith, nat_tests)) (grind (arith, nat_tests)) (grind (arith, nat_tests))
   where
     id_eq : a.number ≡ b.number → a.site ≡ b.site → a.boot ≡ b.boot → a ≡ b
     id_eq e f g = λ i. record { number = e i; site = f i; boot = g i }
 
-or_right : (a b : Bool) → a ≡ false → (a || b) ≡ true → b ≡ true
-or_right a b e h = subst (λ (x : Bool). (x || b) ≡ true) e h
-
 framed_epoch : (p : Packet) (v : SiteView) (e : InEpoch) → is_dropped p v ≡ false → is_forming p ≡ false → v.epoch ≡ Some e → e.id ≡ p.epoch
 framed_epoch p v e h inside here =
     let a : ((p.to_boot == v.boot) ≡ true) × ((is_forming p || is_framed p v.epoch) ≡ true) = both_true (p.to_boot == v.boot) (is_forming p || is_framed p v.epoch) (not_false ((p.to_boot == v.boot) && (is_forming p || is_framed p v.epoch)) h) in
-    let b : is_framed p (Some e) ≡ true = subst (λ (o : Option InEpoch). is_framed p o ≡ true) here (or_right (is_forming p) (is_framed p v.epoch) inside a.1) in
+    let b : is_framed p (Some e) ≡ true = subst (λ (o : Option InEpoch). is_framed p o ≡ true) here (or_other (is_forming p) (is_framed p v.epoch) inside a.1) in
     same_epoch_eq e.id p.epoch (both_true (same_epoch e.id p.epoch) (boot_in e.members.boot p.from == p.from_boot) b).0
 
 forming_not : (p : Packet) (x : Body) → p.body ≡ x → nat_lt (kind_number x) 6 ≡ false → is_forming p ≡ false
@@ -231,7 +225,7 @@ old_place c w f t p here = record { disk = f.disks t p here; view = λ v q. f.vi
 
 places_of : (c : Config) (s : ℕ) (new : Place) (w : World) → WorldPacked c w → PlacePacked c s new → (t : ℕ) (p : Place) → place_at (puts s new w) t ≡ Some p → PlacePacked c t p
 places_of c s new w f fine t p here = at_each s t (PlacePacked c t p)
-    (λ e. subst (λ (n : ℕ). PlacePacked c n p) e (subst (PlacePacked c s) (some_eq new p (sym (puts_same s new w) ∙ (ap (place_at (puts s new w)) e ∙ here))) fine))
+    (λ e. subst (λ (n : ℕ). PlacePacked c n p) e (subst (PlacePacked c s) (some_same new p (sym (puts_same s new w) ∙ (ap (place_at (puts s new w)) e ∙ here))) fine))
     (λ ne. old_place c w f t p (sym (puts_other s t new w ne) ∙ here))
 
 stops_packed : (c : Config) (n s : ℕ) (d : Disk) (told : List Told) (w : World) → (InstancesAgree (past_of w.trace) → WorldPacked c w → Every (CopyPacked c s) d.copies × Every (ToldPacked c) told) → Packed c w → Packed c (happened n [] told (stops_with s d) w)
@@ -254,7 +248,7 @@ acts_packed c n s v o w here fine disk g =
     acts_cases (Packed c) n s v o w
     (happened_packed c n o.sent o.told (λ now. puts s (Running o.view) now) w owed refl refl g)
     (λ a. happened_packed c n o.sent o.told (λ now. puts s (Running o.view) (arms a now)) w (λ b f. (let r : Owed c o.told o.sent (λ now. puts s (Running o.view) now) w = owed b f in record { tells = r.tells; sent = r.sent; places = r.places })) refl refl g)
-    (λ d a e. cut d (is_on_disk d a.how a.left) (cause_of a.how) (cut_disk v.boot v.store d a.how a.left) (λ b f. written_packed c s v.store.copies o.view.store.copies o.told o.written d disk e (fine b f).told (fine b f).view.store.copies) refl)
+    (λ d a e. cut d (is_on_disk v.store d a.how a.left) (cause_of a.how) (cut_disk v.boot v.store d a.how a.left) (λ b f. written_packed c s v.store.copies o.view.store.copies o.told o.written d disk e (fine b f).told (fine b f).view.store.copies) refl)
   where
     owed : InstancesAgree (past_of w.trace) → WorldPacked c w → Owed c o.told o.sent (λ now. puts s (Running o.view) now) w
     owed a f = let k : SiteOut c s o = fine a f in record { tells = k.told; sent = k.sent; places = places_of c s (Running o.view) w f (running_packed c s o.view k.view) }
@@ -344,9 +338,6 @@ all_kept c = record {
 none_place : (p : Place) → ◌≡◌ {A = Option Place} None (Some p) → ⊥
 none_place p e = cc
 
-test_same : (a b : ℕ) → (a == b) ≡ true → a ≡ b
-test_same a b e = grind (arith, nat_tests)
-
 roots_packed : (c : Config) (s : ℕ) (gs : List ℕ) → Every (λ (g : ℕ). HasPack c g s) gs → Every (CopyPacked c s) (map (root_copy c) gs)
 roots_packed c s [] h = tt
 roots_packed c s (g ∷ gs) h = (record { here = h.0; all = λ t e. e }, roots_packed c s gs h.1)
@@ -358,7 +349,7 @@ first_packed : (c : Config) (ss : List ℕ) (s : ℕ) (p : Place) → place_in (
 first_packed c [] s p e = absurd (none_place p e)
 first_packed c (t ∷ ts) s p e =
     (elim (t == s) as (λ b. (t == s) ≡ b → place_in (elim b [ true ↦ Some (first_place c t) | false ↦ row place_site s (map (first_place c) ts) ]) ≡ Some p → PlacePacked c s p) [
-      | true ↦ λ q f. subst (λ (n : ℕ). PlacePacked c n p) (test_same t s q) (subst (PlacePacked c t) (some_eq (Running (fresh 1 (formatted c t))) p f) (running_packed c t (fresh 1 (formatted c t)) (fresh_packed c t 1 (formatted c t) (formatted_packed c t))))
+      | true ↦ λ q f. subst (λ (n : ℕ). PlacePacked c n p) (equal t s q) (subst (PlacePacked c t) (some_same (Running (fresh 1 (formatted c t))) p f) (running_packed c t (fresh 1 (formatted c t)) (fresh_packed c t 1 (formatted c t) (formatted_packed c t))))
       | false ↦ λ q f. first_packed c ts s p f
     ]) refl e
 

@@ -1,5 +1,6 @@
 -- What a synchronization site knows of a file, and what it decides on it, is as packs allow.
 use Rattle.std.proofs.Common.{◌≡◌, ℕ, nat_lt, ◌==◌, Bool, true, false, cond, List, [], ◌∷◌, Option, Some, None, refl}
+use Rattle.role_steps.proofs.of_plain_facts.Tests.{false_true}
 use Rattle.locus_ids.specs.Sites.{both}
 use Rattle.locus_ids.specs.declared.config.Config.{Config}
 use Rattle.locus_ids.specs.declared.refusal.Refusal.TheVariants as refusal
@@ -50,11 +51,8 @@ row_some key x (y ∷ ys) = put (nat_lt (key y) (key x)) (key y == key x)
     put false true = tt
     put false false = tt
 
-not_true : false ≡ true → ⊥
-not_true e = cc
-
 below_some : (v : VersionRow) (vs : List VersionRow) → is_below_some v vs ≡ true → NotEmpty vs
-below_some v [] e = absurd (not_true e)
+below_some v [] e = absurd (false_true e)
 below_some v (w ∷ ws) e = tt
 
 kept_some : (v : VersionRow) (vs : List VersionRow) → NotEmpty (with_kept v vs)

@@ -3,6 +3,8 @@ use Rattle.std.proofs.Common.{◌≡◌, ◌<◌, ℕ, ◌-◌, ◌==◌, Bool, 
 use Rattle.std.specs.Int.{bit_at}
 use Rattle.std.proofs.lemmas.Bool.Decides.{nat_tests}
 use Rattle.std.proofs.lemmas.Nat.Bits.{bit_at_and, bit_at-lt}
+use Rattle.role_steps.proofs.of_plain_facts.Numbers.{equal}
+use Rattle.role_steps.proofs.of_plain_facts.Tests.{both_true, false_true}
 use Rattle.locus_ids.specs.Sites.{has, both}
 use Rattle.locus_ids.specs.declared.sites.Sites.{Sites}
 use Rattle.locus_ids.specs.declared.sites.Members.{Members}
@@ -18,18 +20,6 @@ use Rattle.the_run.proofs.InsideSync.{Found}
 use Rattle.pack_laws.specs.Packs.{HasPack, InPacks}
 use Rattle.pack_laws.specs.Packed.{HolderPacked}
 
-test_same : (a b : ℕ) → (a == b) ≡ true → a ≡ b
-test_same a b e = grind (arith, nat_tests)
-
-both_true : (a b : Bool) → (a && b) ≡ true → (a ≡ true) × (b ≡ true)
-both_true true true h = (refl, refl)
-both_true true false h = absurd (cc)
-both_true false true h = absurd (cc)
-both_true false false h = absurd (cc)
-
-false_true : false ≡ true → ⊥
-false_true e = cc
-
 -- ---- a set within another ----
 
 one_of_both : (a b : ℕ) → a < 2 → b < 2 → (a == 1) ≡ true → min a b ≡ a → (b == 1) ≡ true
@@ -43,7 +33,7 @@ within a b e site h =
     one_of_both (bit_at a.0 k) (bit_at b.0 k) (bit_at-lt a.0 k) (bit_at-lt b.0 k) h m
 
 pub set_in_packs : (c : Config) (group : ℕ) (set : Sites) → ((both set (pack_sites c group)).0 == set.0) ≡ true → InPacks c group set
-set_in_packs c group set e = within set (pack_sites c group) (test_same (both set (pack_sites c group)).0 set.0 e)
+set_in_packs c group set e = within set (pack_sites c group) (equal (both set (pack_sites c group)).0 set.0 e)
 
 -- ---- who is chosen ----
 
@@ -59,7 +49,7 @@ among : (P : ℕ → Type 0) (site : ℕ) (xs : List ℕ) → Every P xs → is_
 among P site [] h e = absurd (false_true e)
 among P site (x ∷ xs) h e =
     (elim (x == site) as (λ b. (x == site) ≡ b → P site) [
-      | true ↦ λ q. subst P (test_same x site q) h.0
+      | true ↦ λ q. subst P (equal x site q) h.0
       | false ↦ λ q. among P site xs h.1 (later (x == site) (is_among site xs) q e)
     ]) refl
   where

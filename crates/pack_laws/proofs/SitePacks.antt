@@ -37,8 +37,9 @@ use Rattle.role_steps.proofs.Sending.{every_append, every_cond, every_map}
 use Rattle.the_run.specs.Steps.{in_order, from_user, group_of, at_table_of, is_opened_in, takes_inside, takes_framed, takes, is_dropped, adopts_of, adopts_in, tries_at, starts_mends_of, ends_event, whole, repeats_inside, repeats_of, repeats, ticks_after, call_frame, epoch_id, takes_call, step}
 use Rattle.the_run.proofs.InsideSync.{every_row, every_without, Found, row_found, first_found}
 use Rattle.the_run.proofs.StepSends.{order_sent}
-use Rattle.vector_laws.proofs.SyncFacts.{every_flat}
+use Rattle.lock_laws.proofs.of_vector_laws.SyncFacts.{every_flat}
 use Rattle.std.proofs.lemmas.Bool.Decides.{nat_tests}
+use Rattle.role_steps.proofs.of_plain_facts.Numbers.{equal}
 use Rattle.locus_ids.specs.Sites.{has}
 use Rattle.locus_ids.specs.declared.refusal.Refusal.TheVariants as refusal
 use Rattle.trace_book.specs.declared.call.Call.{Call}
@@ -47,7 +48,7 @@ use Rattle.role_steps.specs.Views.{serial_key, pack_sites, all_groups}
 use Rattle.role_steps.specs.Epochs.{own_groups, is_sync_site}
 use Rattle.role_steps.specs.Using.{changed_records, reply_record}
 use Rattle.role_steps.specs.declared.users.WaitingCall.{WaitingCall}
-use Rattle.vector_laws.proofs.SyncFacts.{FoundAt, row_at}
+use Rattle.lock_laws.proofs.of_vector_laws.SyncFacts.{FoundAt, row_at}
 use Rattle.pack_laws.specs.Packs.{HasPack, InPacks, CopyPacked, ToldPacked}
 use Rattle.pack_laws.specs.Packed.{ReportedPacked, BodyPacked, PacketPacked, PullPacked, TablePacked, ReportPacked, ViewPacked, TableCloses, BodyCloses, OutPacked}
 use Rattle.pack_laws.proofs.Sets.{every_filter, passing, every_and}
@@ -55,9 +56,6 @@ use Rattle.pack_laws.proofs.RolesSend.{AllPacked, on_pull_packed, on_notify_pack
 use Rattle.pack_laws.proofs.StorePacks.{StoreOut, sync_packed, on_open_ss_packed, on_close_packed, on_closed_ok_packed, on_op_packed, store_repeats_packed}
 use Rattle.pack_laws.proofs.RowPacks.{InTable}
 use Rattle.pack_laws.proofs.SyncPacks.{TableOut, on_report_packed, on_open_packed, on_look_packed, on_opened_packed, on_closed_packed, on_have_packed, sync_repeats_packed}
-
-test_same : (a b : ℕ) → (a == b) ≡ true → a ≡ b
-test_same a b e = grind (arith, nat_tests)
 
 abbrev pub SiteOut : Config → ℕ → Outcome SiteView → Type 0
 SiteOut c me o = OutPacked c (ViewPacked c me) o
@@ -265,7 +263,7 @@ report_case c group false x xs k h = h
 
 report_packed : (c : Config) (me group : ℕ) (xs : List FileCopy) → Every (CopyPacked c me) xs → Every (ReportedPacked c group) (report_of group xs)
 report_packed c me group [] h = tt
-report_packed c me group (x ∷ xs) h = report_case c group (x.file.group == group) (reported x) (report_of group xs) (λ e. subst (λ (n : ℕ). InPacks c n x.set) (test_same x.file.group group e) h.0.all) (report_packed c me group xs h.1)
+report_packed c me group (x ∷ xs) h = report_case c group (x.file.group == group) (reported x) (report_of group xs) (λ e. subst (λ (n : ℕ). InPacks c n x.set) (equal x.file.group group e) h.0.all) (report_packed c me group xs h.1)
 
 all_reports_packed : (f : Frame) (v : SiteView) → Every (CopyPacked f.config f.me) v.store.copies → Every (ReportPacked f.config f.me) v.reports → Every (PacketPacked f.config) (all_reports f v)
 all_reports_packed f v h k = every_flat (ReportPacked f.config f.me) (PacketPacked f.config) (report_packets f v) v.reports (λ g p. sync_packed f g (body.Report g (report_of g v.store.copies)) (λ to. (p, report_packed f.config f.me g v.store.copies h))) k

@@ -1,18 +1,20 @@
 -- What a storage site keeps, sends and tells is as packs allow.
 use Rattle.std.proofs.Common.{◌≡◌, ◌≤◌, ◌<◌, ℕ, zero, suc, ◌+◌, ◌-◌, ◌*◌, ◌==◌, Bool, true, false, List, [], ◌∷◌, Option, Some, None, refl, inl, inr, arith}
+use Rattle.role_steps.proofs.of_plain_facts.Options.{none_some, some_same}
 use Rattle.locus_ids.specs.declared.ids.FileId.{FileId}
 use Rattle.locus_ids.specs.declared.ids.Mode.{Mode}
 use Rattle.locus_ids.specs.declared.ids.Mode.TheVariants as mode
 use Rattle.locus_ids.specs.declared.ids.Serial.{Serial}
 use Rattle.locus_ids.specs.declared.ids.Stamp.{Stamp}
 use Rattle.locus_ids.specs.declared.refusal.Refusal.TheVariants as refusal
+use Rattle.locus_ids.specs.Sizes.{site_inodes}
 use Rattle.trace_book.specs.declared.operation.Op.{Op}
 use Rattle.trace_book.specs.declared.operation.Op.TheVariants as op
 use Rattle.trace_book.specs.declared.operation.Outcome.{Outcome as Result}
 use Rattle.trace_book.specs.declared.operation.Outcome.TheVariants as result
-use Rattle.file_effects.specs.Effects.{Effect}
-use Rattle.file_effects.specs.Works.{counted}
-use Rattle.file_effects.specs.declared.work.Work.{Work}
+use Rattle.role_steps.specs.of_file_effects.Effects.{Effect}
+use Rattle.role_steps.specs.of_file_effects.Works.{counted}
+use Rattle.role_steps.specs.of_file_effects.declared.work.Work.{Work}
 use Rattle.wire_messages.specs.declared.packet.Packet.{Packet}
 use Rattle.wire_messages.specs.declared.body.Body.{Body}
 use Rattle.wire_messages.specs.declared.body.Body.TheVariants as body
@@ -30,7 +32,7 @@ use Rattle.role_steps.specs.declared.instances.Stage.{Stage}
 use Rattle.role_steps.specs.declared.instances.Stage.TheVariants as stage
 use Rattle.role_steps.proofs.Sending.{every_append, every_cond, every_flat_map}
 use Rattle.the_run.proofs.InsideSync.{every_row, Found, row_found}
-use Rattle.vector_laws.proofs.SyncFacts.{every_latest}
+use Rattle.lock_laws.proofs.of_vector_laws.SyncFacts.{every_latest}
 use Rattle.pack_laws.specs.Packs.{LiesAt, CopyPacked, ToldPacked}
 use Rattle.pack_laws.specs.Making.{IsOwnNumber, NotEmpty}
 use Rattle.pack_laws.specs.Packed.{Follows, BodyPacked, PacketPacked, InstancePacked, StorePacked, OutPacked}
@@ -65,12 +67,6 @@ found_packed f s inst h = row_found (InstancePacked f.config f.me) instance_key 
 
 -- ---- the number that a made file is given ----
 
-some_eq : (x y : ℕ) → ◌≡◌ {A = Option ℕ} (Some x) (Some y) → x ≡ y
-some_eq x y e = cc
-
-none_some : (x : ℕ) → ◌≡◌ {A = Option ℕ} None (Some x) → ⊥
-none_some x e = cc
-
 record Between (low high n : ℕ) : Type 0 where
   from : low ≤ n
   to : n < high
@@ -85,12 +81,12 @@ next_between s group ino (suc left) k h = used (is_used s group ino) h (λ g. ne
         let low : ino + 1 ≤ k = b.from in
         let high : k < ino + 1 + left = b.to in
         record { from = omega (arith, low); to = omega (arith, high) }
-    used false g rest = let e : ino ≡ k = some_eq ino k g in record { from = omega (arith, e); to = omega (arith, e) }
+    used false g rest = let e : ino ≡ k = some_same ino k g in record { from = omega (arith, e); to = omega (arith, e) }
 
 own_number : (s : Store) (group site k : ℕ) → own_ino s group site ≡ Some k → IsOwnNumber site k
 own_number s group site k h =
-    let b : Between (64 * (site - 1) + 1) (64 * (site - 1) + 1 + 64) k = next_between s group (64 * (site - 1) + 1) 64 k h in
-    let high : k < 64 * (site - 1) + 1 + 64 = b.to in
+    let b : Between (site_inodes * (site - 1) + 1) (site_inodes * (site - 1) + 1 + site_inodes) k = next_between s group (site_inodes * (site - 1) + 1) site_inodes k h in
+    let high : k < site_inodes * (site - 1) + 1 + site_inodes = b.to in
     record { low = b.from; high = omega (arith, high) }
 
 -- ---- opens ----

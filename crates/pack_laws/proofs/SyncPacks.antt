@@ -37,8 +37,8 @@ use Rattle.role_steps.specs.declared.synchronizing.LastLook.{LastLook}
 use Rattle.role_steps.specs.declared.synchronizing.Early.{Early}
 use Rattle.role_steps.proofs.Sending.{every_append, every_cond}
 use Rattle.the_run.proofs.InsideSync.{every_row, Found, row_found}
-use Rattle.vector_laws.proofs.SyncFacts.{FoundAt, row_at, every_latest, every_flat}
-use Rattle.vector_laws.specs.Facts.{WaitingFact, EarlyFact}
+use Rattle.lock_laws.proofs.of_vector_laws.SyncFacts.{FoundAt, row_at, every_latest, every_flat}
+use Rattle.lock_laws.specs.of_vector_laws.Facts.{WaitingFact, EarlyFact}
 use Rattle.pack_laws.specs.Packs.{HasPack, InPacks, LiesAt, ToldPacked}
 use Rattle.pack_laws.specs.Packed.{ReportedPacked, BodyPacked, PacketPacked, NoPack, RowPacked, StagePacked, OpenPacked, LookPacked, StageCloses, RowCloses, TableCloses, OutPacked}
 use Rattle.pack_laws.proofs.Sets.{every_filter, members_packed, every_and}
@@ -302,10 +302,6 @@ published_packed f ss r None t p k h = h
 published_packed f ss r (Some v) t p k h =
     let old : IsPlaced f.config t.group (known_or (unknown_file r.file.ino r.kind r.set) (file_row t r.file.ino)) = known_packed f.config t.group r.file.ino r.kind r.set (file_row t r.file.ino) k (row_there f t r.file.ino h) in
     table_file f t (published_row ss r v (file_row t r.file.ino)) (noted_packed f.config t.group ss v.stamp (with_version (record { stamp = v.stamp; vector = v.vector; size = v.size }) (known_or (unknown_file r.file.ino r.kind r.set) (file_row t r.file.ino))) p (version_packed f.config t.group (record { stamp = v.stamp; vector = v.vector; size = v.size }) (known_or (unknown_file r.file.ino r.kind r.set) (file_row t r.file.ino)) old)) h
-
-published_group : (ss : ℕ) (r : OpenRow) (made : Option MadeVersion) (t : SyncTable) → (published ss r made t).group ≡ t.group
-published_group ss r None t = refl
-published_group ss r (Some v) t = refl
 
 published_sent : (f : Frame) (r : OpenRow) (made : Option MadeVersion) (t : SyncTable) → InTable f t → Every (PacketPacked f.config) (published_notices f r made t)
 published_sent f r None t h = tt

@@ -1,5 +1,6 @@
 -- In every run changes are asked of what was asked to write.
 use Rattle.std.proofs.Common.{◌≡◌, ℕ, ◌+◌, ◌==◌, true, false, List, [], ◌∷◌, map, Option, Some, None, refl, sym, ◌∙◌, ap, subst, inl, inr}
+use Rattle.role_steps.proofs.of_plain_facts.Options.{some_same}
 use Rattle.locus_ids.specs.declared.ids.FileId.{FileId}
 use Rattle.locus_ids.specs.declared.config.Config.{Config}
 use Rattle.schedule_lines.specs.declared.line.ScheduleLine.{ScheduleLine}
@@ -25,9 +26,9 @@ use Rattle.the_run.specs.Runs.{boots_as, packet_record, run_in}
 use Rattle.the_run.specs.Kept.{Among, Kept}
 use Rattle.the_run.proofs.Boots.{at_each, acts_cases, every_newest, every_weaker}
 use Rattle.the_run.proofs.Events.{happened_keeps, puts_other, puts_same}
-use Rattle.the_run.proofs.Runs.{every_run, some_eq}
+use Rattle.the_run.proofs.Runs.{every_run}
 use Rattle.the_run.proofs.StepSends.{step_sends}
-use Rattle.run_laws.proofs.Run.{found_among}
+use Rattle.lock_laws.proofs.of_run_laws.Run.{found_among}
 use Rattle.pack_laws.specs.InstanceLaws.{AsksOpen}
 use Rattle.pack_laws.proofs.InstanceAgree.{run_serials}
 use Rattle.pack_laws.specs.WriterAsking.{NotToRead, AsksToWrite, IsAskedToWrite, AsksChange, ChangesAreAskedToWrite, ReadersChangeNothing, Serials, AnswersFact, AskingFact, script_of, WaitingFact, DescriptorFact, NotedBody, Noted, BodyFact, PacketFact, ViewFact, Fine}
@@ -152,7 +153,7 @@ old_views c w now l f t v here = view_later c (asked_by w.sent t v.boot) (asked_
 
 views_of : (c : Config) (s : ℕ) (new : Place) (w : World) (now : List Numbered) → Leads w.sent now → WorldFact c w → ((v : SiteView) → new ≡ Running v → ViewFact c (asked_by now s v.boot) v) → (t : ℕ) (v : SiteView) → place_at (puts s new w) t ≡ Some (Running v) → ViewFact c (asked_by now t v.boot) v
 views_of c s new w now l f fine t v here = at_each s t (ViewFact c (asked_by now t v.boot) v)
-    (λ e. subst (λ (n : ℕ). ViewFact c (asked_by now n v.boot) v) e (fine v (some_eq new (Running v) (sym (puts_same s new w) ∙ (ap (place_at (puts s new w)) e ∙ here)))))
+    (λ e. subst (λ (n : ℕ). ViewFact c (asked_by now n v.boot) v) e (fine v (some_same new (Running v) (sym (puts_same s new w) ∙ (ap (place_at (puts s new w)) e ∙ here)))))
     (λ ne. old_views c w now l f t v (sym (puts_other s t new w ne) ∙ here))
 
 same_leads : (xs : List Numbered) → Leads xs xs
@@ -169,7 +170,7 @@ acts_fact c n s v o w own gives here f =
     acts_cases (WorldFact c) n s v o w
     (happened_fact c n o.sent o.told (λ now. puts s (Running o.view) now) w refl owed f)
     (λ a. happened_fact c n o.sent o.told (λ now. puts s (Running o.view) (arms a now)) w refl (record { sent = owed.sent; views = owed.views }) f)
-    (λ d a e. stops_fact c n s (cut_disk v.boot v.store d a.how a.left) (cut_told s d a.how a.left) w f)
+    (λ d a e. stops_fact c n s (cut_disk v.boot v.store d a.how a.left) (cut_told s v.store d a.how a.left) w f)
   where
     new : List Numbered
     new = numbered_from (w.packets + 1) o.sent
@@ -233,7 +234,7 @@ first_fact : (c : Config) (ss : List ℕ) (s : ℕ) (v : SiteView) → place_in 
 first_fact c [] s v e = absurd (none_place (Running v) e)
 first_fact c (t ∷ ts) s v e =
     (elim (t == s) as (λ b. place_in (elim b [ true ↦ Some (first_place c t) | false ↦ row place_site s (map (first_place c) ts) ]) ≡ Some (Running v) → ViewFact c (asked_by [] s v.boot) v) [
-      | true ↦ λ f. subst (λ (u : SiteView). ViewFact c (asked_by [] s u.boot) u) (running_view (fresh 1 (formatted c t)) v (some_eq (Running (fresh 1 (formatted c t))) (Running v) f)) (fresh_fact c (asked_by [] s 1) 1 (formatted c t))
+      | true ↦ λ f. subst (λ (u : SiteView). ViewFact c (asked_by [] s u.boot) u) (running_view (fresh 1 (formatted c t)) v (some_same (Running (fresh 1 (formatted c t))) (Running v) f)) (fresh_fact c (asked_by [] s 1) 1 (formatted c t))
       | false ↦ λ f. first_fact c ts s v f
     ]) e
 

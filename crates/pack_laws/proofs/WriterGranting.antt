@@ -16,7 +16,7 @@ use Rattle.role_steps.specs.Opens.{mode_of}
 use Rattle.role_steps.specs.Views.{Told, Shown, serial_key}
 use Rattle.the_run.specs.Worlds.{World}
 use Rattle.the_run.specs.Runs.{run_in}
-use Rattle.vector_laws.specs.Written.{past_of, WasTold}
+use Rattle.lock_laws.specs.of_vector_laws.Written.{past_of, WasTold}
 use Rattle.pack_laws.specs.InstanceBook.{Book, AskedBy, IsFor, Sound}
 use Rattle.pack_laws.specs.InstanceFacts.{MadeFact, GrantFact, RecordFact, ToldFact, WorldFact, Booked}
 use Rattle.pack_laws.proofs.InstanceBooks.{asked_once}

@@ -23,10 +23,10 @@ use Rattle.the_run.specs.Kept.{Among, Kept}
 use Rattle.the_run.proofs.Boots.{acts_cases, every_weaker}
 use Rattle.the_run.proofs.Events.{happened_keeps}
 use Rattle.the_run.proofs.Runs.{every_run}
-use Rattle.run_laws.proofs.Run.{found_among}
-use Rattle.vector_laws.specs.Written.{past_of}
-use Rattle.vector_laws.specs.Facts.{onto}
-use Rattle.vector_laws.proofs.FactsRun.{past_onto}
+use Rattle.lock_laws.proofs.of_run_laws.Run.{found_among}
+use Rattle.lock_laws.specs.of_vector_laws.Written.{past_of}
+use Rattle.lock_laws.specs.of_vector_laws.Facts.{onto}
+use Rattle.lock_laws.proofs.of_vector_laws.FactsRun.{past_onto}
 use Rattle.pack_laws.specs.InstanceBook.{Began, Placed, Book, BeganFact}
 use Rattle.pack_laws.specs.InstanceFacts.{BodyFact, NumberedFact, ToldFact, WorldFact, Booked}
 use Rattle.pack_laws.proofs.InstanceInstancesRun.{run_booked}
@@ -96,7 +96,7 @@ acts_placed n s v o w tells g =
     acts_cases PlacedWorld n s v o w
     (happened_placed n o.sent o.told (λ now. puts s (Running o.view) now) w refl fine.told g)
     (λ a. happened_placed n o.sent o.told (λ now. puts s (Running o.view) (arms a now)) w refl fine.told g)
-    (λ d a e. bare_placed n (cut_told s d a.how a.left) (stops_with s (cut_disk v.boot v.store d a.how a.left)) w refl (cut_bare s d (cause_of a.how) (is_on_disk d a.how a.left) (subst BareWrite e fine.written)) g)
+    (λ d a e. bare_placed n (cut_told s v.store d a.how a.left) (stops_with s (cut_disk v.boot v.store d a.how a.left)) w refl (cut_bare s d (cause_of a.how) (is_on_disk v.store d a.how a.left) (subst BareWrite e fine.written)) g)
   where
     new : List Numbered
     new = numbered_from (w.packets + 1) o.sent

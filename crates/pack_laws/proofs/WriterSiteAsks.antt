@@ -36,8 +36,7 @@ use Rattle.the_run.proofs.Boots.{every_weaker}
 use Rattle.the_run.proofs.InsideSync.{every_row, Found, row_found, first_found}
 use Rattle.the_run.proofs.StepSends.{order_sent}
 use Rattle.pack_laws.specs.WriterAsking.{Serials, UsersFact, Noted, PacketFact, BodyFact, NoAsk, Askless, TableOk, StillTable, ViewFact, Fine}
-use Rattle.pack_laws.proofs.WriterSyncAsks.{sync_plain, sync_repeats_plain, on_opened_still, on_open_still, on_look_still, on_report_still, on_closed_still, have_ok, on_have_still}
-use Rattle.pack_laws.proofs.WriterStoreAsks.{on_open_ss_still, on_close_still, on_closed_ok_still, on_look_ss_still, on_pull_still, on_op_still, on_notify_still, on_page_still, store_repeats_plain, pull_repeats_plain}
+use Rattle.pack_laws.proofs.WriterServing.{sync_plain, sync_repeats_plain, on_opened_still, on_open_still, on_look_still, on_report_still, on_closed_still, have_ok, on_have_still, on_open_ss_still, on_close_still, on_closed_ok_still, on_look_ss_still, on_pull_still, on_op_still, on_notify_still, on_page_still, store_repeats_plain, pull_repeats_plain}
 use Rattle.pack_laws.proofs.WriterUserAsks.{UsersFine, Gives, users_repeats_fact, on_call_gives, on_open_done_gives, on_op_done_gives, on_close_done_gives, on_look_done_gives, users_left}
 
 -- ---- lists ----

@@ -1,6 +1,7 @@
 -- A using site asks changes of what it has asked to write alone.
 use Rattle.std.proofs.Common.{◌≡◌, ℕ, ◌+◌, ◌==◌, Bool, true, false, cond, List, [], ◌∷◌, ◌++◌, Option, Some, None, refl, sym, ap, subst, arith}
 use Rattle.std.proofs.lemmas.Bool.Decides.{nat_tests}
+use Rattle.role_steps.proofs.of_plain_facts.Numbers.{equal}
 use Rattle.locus_ids.specs.declared.ids.EpochId.{EpochId}
 use Rattle.locus_ids.specs.declared.ids.FileId.{FileId}
 use Rattle.locus_ids.specs.declared.ids.Serial.{Serial}
@@ -48,19 +49,16 @@ use Rattle.role_steps.specs.declared.users.WaitingCall.{WaitingCall}
 use Rattle.role_steps.specs.declared.users.UserInstance.{UserInstance}
 use Rattle.role_steps.specs.declared.users.DescriptorRow.{DescriptorRow}
 use Rattle.the_run.proofs.InsideSync.{every_row, every_without, Found, row_found}
-use Rattle.vector_laws.proofs.SyncFacts.{every_flat}
+use Rattle.lock_laws.proofs.of_vector_laws.SyncFacts.{every_flat}
 use Rattle.lock_laws.specs.Writing.{changes, ToWrite, OpensToWrite, Opens, IsWrite, IsWriteOn}
 use Rattle.pack_laws.specs.WriterAsking.{NotToRead, Serials, AskingFact, script_of, CallFact, WaitingFact, DescriptorFact, UsersFact, Noted, PacketFact, BodyFact}
 use Rattle.pack_laws.proofs.WriterLeads.{answer_added, ReplyLeads, Leads, leads}
 
 -- ---- tables ----
 
-test_same : (a b : ℕ) → (a == b) ≡ true → a ≡ b
-test_same a b e = grind (arith, nat_tests)
-
 serial_at : (k : ℕ) (xs : List UserInstance) → Found (λ (i : UserInstance). i.serial ≡ k) (row instance_serial k xs)
 serial_at k [] = tt
-serial_at k (x ∷ xs) = (elim (x.serial == k) as (λ b. (x.serial == k) ≡ b → Found (λ (i : UserInstance). i.serial ≡ k) (elim b [ true ↦ Some x | false ↦ row instance_serial k xs ])) [ true ↦ λ e. test_same x.serial k e | false ↦ λ e. serial_at k xs ]) refl
+serial_at k (x ∷ xs) = (elim (x.serial == k) as (λ b. (x.serial == k) ≡ b → Found (λ (i : UserInstance). i.serial ≡ k) (elim b [ true ↦ Some x | false ↦ row instance_serial k xs ])) [ true ↦ λ e. equal x.serial k e | false ↦ λ e. serial_at k xs ]) refl
 
 -- the first that passes, of those that have a property
 pub first_passes : {A : Type 0} (P : A → Type 0) (test : A → Bool) (xs : List A) → Every P xs → Found (λ (x : A). P x × (test x ≡ true)) (first_that test xs)
@@ -223,7 +221,7 @@ asked_of : (c : Config) (G : Serials) (serial : ℕ) (w : WaitingCall) (free : O
 asked_of c G serial w free h e to = by_asking w.asking e (h.asking free)
   where
     by_asking : (a : Asking) → asks_open_of serial (record w { asking = a }) ≡ true → AskingFact G (script_of c w free w.answers) a → G serial
-    by_asking (asking.Open s file how) q k = subst G (test_same s serial q) (k to)
+    by_asking (asking.Open s file how) q k = subst G (equal s serial q) (k to)
     by_asking (asking.Look file what take) q k = absurd (cc)
     by_asking (asking.Op s ss number o seen) q k = absurd (cc)
     by_asking (asking.Close s ss) q k = absurd (cc)

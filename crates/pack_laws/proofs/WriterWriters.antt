@@ -1,6 +1,7 @@
 -- Writers are alone, and commits are by grants of their site.
 use Rattle.std.proofs.Common.{◌≡◌, ℕ, ◌==◌, ◌⊎◌, Bool, true, false, List, [], ◌∷◌, refl, sym, ◌∙◌, subst, inl, inr, arith}
 use Rattle.std.proofs.lemmas.Bool.Decides.{nat_tests}
+use Rattle.role_steps.proofs.of_plain_facts.Numbers.{equal, apart as test_other}
 use Rattle.locus_ids.specs.declared.ids.EpochId.{EpochId}
 use Rattle.locus_ids.specs.declared.ids.FileId.{FileId}
 use Rattle.locus_ids.specs.declared.ids.Mode.{Mode}
@@ -11,7 +12,7 @@ use Rattle.trace_book.specs.declared.record.Record.{Record}
 use Rattle.trace_book.specs.declared.record.Record.TheVariants as says
 use Rattle.role_steps.specs.Views.{Told, Shown, Begins}
 use Rattle.the_run.specs.Runs.{run_in}
-use Rattle.vector_laws.specs.Written.{past_of, WasTold, Begun, WasBegun, GrantedRecord, Granted as WasGrantedBy, WasGranted, InstancesAgree}
+use Rattle.lock_laws.specs.of_vector_laws.Written.{past_of, WasTold, Begun, WasBegun, GrantedRecord, Granted as WasGrantedBy, WasGranted, InstancesAgree}
 use Rattle.pack_laws.proofs.InstanceAgree.{run_agrees}
 use Rattle.lock_laws.specs.Going.{BegunAt, WasBegunAt, IsCommitter, RecordGoesOn, InstanceGoesOn, InstancesGoOn}
 use Rattle.lock_laws.specs.Locks.{IsOfAFile}
@@ -25,12 +26,6 @@ use Rattle.pack_laws.proofs.WriterPlacesRun.{run_sites}
 
 -- ---- alone ----
 
-test_same : (a b : ℕ) → (a == b) ≡ true → a ≡ b
-test_same a b e = grind (arith, nat_tests)
-
-test_other : (a b : ℕ) → (a == b) ≡ false → a ≡ b → ⊥
-test_other a b e h = grind (arith, nat_tests)
-
 true_false : (m : Mode) → is_read m ≡ true → is_read m ≡ false → ⊥
 true_false m a b = two (sym a ∙ b)
   where
@@ -41,7 +36,7 @@ pub alone : (past : List Told) → GrantsAreApart past → WritersAreAlone past
 alone past apart e file j k m n writes one other a b p q = by_test (j == k) refl
   where
     by_test : (t : Bool) → (j == k) ≡ t → j ≡ k
-    by_test true t = test_same j k t
+    by_test true t = equal j k t
     by_test false t = absurd (beside (apart e file j k m n (test_other j k t) one other a b))
       where
         beside : ((is_read m ≡ true) × (is_read n ≡ true)) ⊎ (IsOver past e j ⊎ IsOver past e k) → ⊥

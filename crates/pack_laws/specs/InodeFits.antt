@@ -3,6 +3,7 @@ use Rattle.std.specs.Prelude.{ℕ, ◌≡◌, ◌≤◌, ◌<◌, Some}
 use Rattle.locus_ids.specs.declared.ids.FileId.{FileId}
 use Rattle.locus_ids.specs.declared.ids.Mode.{Mode}
 use Rattle.locus_ids.specs.declared.ids.Mode.TheVariants as mode
+use Rattle.locus_ids.specs.Sizes.{inode_span, sites_max}
 use Rattle.wire_messages.specs.declared.packet.Packet.{Packet}
 use Rattle.wire_messages.specs.declared.body.Body.{Body}
 use Rattle.wire_messages.specs.declared.body.Body.TheVariants as body
@@ -21,13 +22,13 @@ use Rattle.role_steps.specs.declared.synchronizing.OpenStage.{OpenStage}
 use Rattle.role_steps.specs.declared.synchronizing.OpenStage.TheVariants as stage
 use Rattle.role_steps.specs.declared.synchronizing.LastLook.{LastLook}
 use Rattle.the_run.specs.Worlds.{World, Place, Running, Numbered, place_at}
-use Rattle.vector_laws.specs.Held.{copies_on}
-use Rattle.vector_laws.specs.Written.{past_of}
-use Rattle.vector_laws.specs.HistoryCommits.{NumbersFit}
+use Rattle.lock_laws.specs.of_vector_laws.Held.{copies_on}
+use Rattle.lock_laws.specs.of_vector_laws.Written.{past_of}
+use Rattle.lock_laws.specs.of_vector_laws.HistoryCommits.{NumbersFit}
 
 -- an inode number of 16 bits
 abbrev pub Fits : ℕ → Type 0
-Fits ino = ino < 65536
+Fits ino = ino < inode_span
 
 -- ---- packets ----
 
@@ -104,7 +105,7 @@ NumberedFits x = PacketFits x.packet
 
 pub record WorldFits (w : World) : Type 0 where
   pub told : NumbersFit (past_of w.trace)
-  pub sites : (s : ℕ) (p : Place) → place_at w s ≡ Some p → s ≤ 16
+  pub sites : (s : ℕ) (p : Place) → place_at w s ≡ Some p → s ≤ sites_max
   pub disks : (s : ℕ) (p : Place) → place_at w s ≡ Some p → Every CopyFits (copies_on p)
   pub views : (s : ℕ) (v : SiteView) → place_at w s ≡ Some (Running v) → ViewFits v
   pub packets : Every NumberedFits w.sent

@@ -7,6 +7,7 @@ use Rattle.locus_ids.specs.declared.ids.Mode.{Mode}
 use Rattle.locus_ids.specs.declared.ids.Mode.TheVariants as mode
 use Rattle.locus_ids.specs.declared.sites.Members.{Members}
 use Rattle.locus_ids.specs.declared.config.Config.{Config}
+use Rattle.locus_ids.specs.Sizes.{sites_max}
 use Rattle.wire_messages.specs.declared.body.Opening.{Opening}
 use Rattle.role_steps.specs.Opens.{mode_of}
 use Rattle.role_steps.specs.Views.{boot_in, serial_key, sync_site}
@@ -71,7 +72,7 @@ pub record BeganFact (book : Book) (e : EpochId) (inst : Serial) (ss boot : ℕ)
 
 abbrev pub NoteFact : Config → Book → Note → Type 0
 NoteFact c book (Listed e members) = Unit {0}
-NoteFact c book (Asked us b serial file how) = us ≤ 16
+NoteFact c book (Asked us b serial file how) = us ≤ sites_max
 NoteFact c book (Placed e inst group css b ss) = PlacedFact c book e inst group css b
 NoteFact c book (Began e inst ss b file) = BeganFact book e inst ss b file
 

@@ -7,6 +7,7 @@ use Rattle.locus_ids.specs.declared.ids.Mode.{Mode}
 use Rattle.locus_ids.specs.declared.ids.Mode.TheVariants as mode
 use Rattle.locus_ids.specs.declared.sites.Members.{Members}
 use Rattle.locus_ids.specs.declared.config.Config.{Config}
+use Rattle.locus_ids.specs.Sizes.{sites_max}
 use Rattle.trace_book.specs.declared.record.Record.{Record}
 use Rattle.trace_book.specs.declared.record.Record.TheVariants as says
 use Rattle.wire_messages.specs.declared.packet.Packet.{Packet}
@@ -35,7 +36,7 @@ use Rattle.role_steps.specs.declared.users.WaitingCall.{WaitingCall}
 use Rattle.the_run.specs.Kept.{Among}
 use Rattle.the_run.specs.Laws.{boot_number}
 use Rattle.the_run.specs.Worlds.{World, Place, Running, Numbered, place_at}
-use Rattle.vector_laws.specs.Written.{past_of}
+use Rattle.lock_laws.specs.of_vector_laws.Written.{past_of}
 use Rattle.pack_laws.specs.InstanceBook.{Note, Listed, Asked, Placed, Began, Book, IsOf, AskedBy, IsFor, Sound, Grown}
 
 -- ---- packets ----
@@ -282,7 +283,7 @@ pub record WorldFact (c : Config) (book : Book) (w : World) : Type 0 where
   pub sound : Sound c book
   pub boots : (n : Note) → Among n book → OfABoot w n
   pub told : Every (ToldFact book) (past_of w.trace)
-  pub sites : (s : ℕ) (p : Place) → place_at w s ≡ Some p → s ≤ 16
+  pub sites : (s : ℕ) (p : Place) → place_at w s ≡ Some p → s ≤ sites_max
   pub views : (s : ℕ) (v : SiteView) → place_at w s ≡ Some (Running v) → ViewFact c book s v
   pub packets : Every (NumberedFact book) w.sent
   pub underway : Every (NumberedFact book) w.underway

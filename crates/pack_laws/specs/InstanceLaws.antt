@@ -9,7 +9,7 @@ use Rattle.wire_messages.specs.declared.body.Opening.{Opening}
 use Rattle.role_steps.specs.Views.{Told, serial_key}
 use Rattle.the_run.specs.Kept.{Among}
 use Rattle.the_run.specs.Worlds.{World, Numbered}
-use Rattle.vector_laws.specs.Written.{WasBegun}
+use Rattle.lock_laws.specs.of_vector_laws.Written.{WasBegun}
 
 -- the packet asks an open of this file, under this serial number
 abbrev pub AsksOpen : ℕ → FileId → Opening → Body → Type 0

@@ -2,15 +2,16 @@
 use Rattle.std.specs.Prelude.{ℕ, ◌≡◌, ◌≤◌, ◌+◌, ◌-◌, ◌*◌, ◌⊎◌, List, [], ◌∷◌}
 use Rattle.locus_ids.specs.declared.ids.FileId.{FileId}
 use Rattle.locus_ids.specs.declared.ids.Stamp.{Stamp}
+use Rattle.locus_ids.specs.Sizes.{site_inodes}
 use Rattle.trace_book.specs.declared.record.Record.{Record}
 use Rattle.trace_book.specs.declared.record.Record.TheVariants as says
 use Rattle.role_steps.specs.Views.{Told, Shown, Reserves}
-use Rattle.vector_laws.specs.Written.{WasTold}
+use Rattle.lock_laws.specs.of_vector_laws.Written.{WasTold}
 
 -- one of the 64 inode numbers that the site gives
 pub record IsOwnNumber (site ino : ℕ) : Type 0 where
-  pub low : 64 * (site - 1) + 1 ≤ ino
-  pub high : ino ≤ 64 * (site - 1) + 64
+  pub low : site_inodes * (site - 1) + 1 ≤ ino
+  pub high : ino ≤ site_inodes * (site - 1) + site_inodes
 
 abbrev pub NotEmpty : {A : Type 0} → List A → Type 0
 NotEmpty [] = ⊥

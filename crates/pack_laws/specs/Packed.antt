@@ -20,9 +20,9 @@ use Rattle.role_steps.specs.declared.synchronizing.OpenStage.{OpenStage}
 use Rattle.role_steps.specs.declared.synchronizing.OpenStage.TheVariants as stage
 use Rattle.role_steps.specs.declared.synchronizing.LastLook.{LastLook}
 use Rattle.the_run.specs.Worlds.{World, Place, Running, Numbered, place_at}
-use Rattle.vector_laws.specs.Held.{copies_on}
-use Rattle.vector_laws.specs.Facts.{EarlyFact}
-use Rattle.vector_laws.specs.Written.{past_of}
+use Rattle.lock_laws.specs.of_vector_laws.Held.{copies_on}
+use Rattle.lock_laws.specs.of_vector_laws.Facts.{EarlyFact}
+use Rattle.lock_laws.specs.of_vector_laws.Written.{past_of}
 use Rattle.pack_laws.specs.Making.{NotEmpty, Originates}
 use Rattle.pack_laws.specs.Packs.{HasPack, InPacks, LiesAt, CopyPacked, ToldPacked}
 

@@ -9,9 +9,9 @@ use Rattle.role_steps.specs.Own.{Every}
 use Rattle.role_steps.specs.Views.{Told, Shown, Begins, Reserves, pack_sites}
 use Rattle.role_steps.specs.declared.copies.FileCopy.{FileCopy}
 use Rattle.the_run.specs.Worlds.{World, Place, place_at}
-use Rattle.vector_laws.specs.Held.{copies_on}
+use Rattle.lock_laws.specs.of_vector_laws.Held.{copies_on}
 use Rattle.pack_laws.specs.Making.{IsOwnNumber, Originates}
-use Rattle.vector_laws.specs.Written.{past_of}
+use Rattle.lock_laws.specs.of_vector_laws.Written.{past_of}
 
 -- the site has a pack of the group
 abbrev pub HasPack : Config → ℕ → ℕ → Type 0

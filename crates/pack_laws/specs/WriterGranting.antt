@@ -12,7 +12,7 @@ use Rattle.wire_messages.specs.declared.body.Body.TheVariants as body
 use Rattle.role_steps.specs.Views.{Told, Shown, serial_key}
 use Rattle.the_run.specs.Kept.{Among}
 use Rattle.the_run.specs.Worlds.{Numbered}
-use Rattle.vector_laws.specs.Written.{WasTold}
+use Rattle.lock_laws.specs.of_vector_laws.Written.{WasTold}
 use Rattle.lock_laws.specs.Going.{WasBegunAt}
 use Rattle.lock_laws.specs.Locks.{IsOfAFile}
 use Rattle.lock_laws.specs.Grants.{WasGrantedAs, IsOver}

@@ -7,7 +7,7 @@ use Rattle.commit_graph.specs.Grants.{is_read}
 use Rattle.trace_book.specs.declared.record.Record.{Record}
 use Rattle.trace_book.specs.declared.record.Record.TheVariants as says
 use Rattle.role_steps.specs.Views.{Told, Shown}
-use Rattle.vector_laws.specs.Written.{WasTold}
+use Rattle.lock_laws.specs.of_vector_laws.Written.{WasTold}
 use Rattle.lock_laws.specs.Going.{WasBegunAt}
 use Rattle.lock_laws.specs.Locks.{IsOfAFile}
 use Rattle.lock_laws.specs.Grants.{WasGrantedAs, IsOver}

@@ -4,7 +4,7 @@ ghost use Rattle.std.specs.Prelude.{◌≤◌, ℕ, List};
 ghost use Rattle.locus_ids.specs.declared.config.Config.{Config};
 ghost use Rattle.schedule_lines.specs.declared.line.ScheduleLine.{ScheduleLine};
 ghost use Rattle.the_run.specs.Runs.{run_in};
-ghost use Rattle.vector_laws.specs.Written.{past_of};
+ghost use Rattle.lock_laws.specs.of_vector_laws.Written.{past_of};
 ghost use Rattle.pack_laws.specs.CounterNumbers.{commits_in, NumbersAreLow};
 
 /// After every schedule the trace tells of at most 134,217,728 commits: so many bytes of text it may have, and each record has some.

@@ -3,8 +3,8 @@ ghost use Rattle.std.specs.Prelude.{List};
 ghost use Rattle.locus_ids.specs.declared.config.Config.{Config};
 ghost use Rattle.schedule_lines.specs.declared.line.ScheduleLine.{ScheduleLine};
 ghost use Rattle.the_run.specs.Runs.{run_in};
-ghost use Rattle.vector_laws.specs.Written.{past_of};
-ghost use Rattle.vector_laws.specs.HistoryCommits.{NumbersFit};
+ghost use Rattle.lock_laws.specs.of_vector_laws.Written.{past_of};
+ghost use Rattle.lock_laws.specs.of_vector_laws.HistoryCommits.{NumbersFit};
 
 /// After every schedule, each inode number that a commit or an adoption tells has 16 bits: a file is known where a disk holds it,
 /// and each that isn't a root was made with a number of a site's range.

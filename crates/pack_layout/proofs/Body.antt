@@ -1,6 +1,7 @@
 -- Fields that were written one behind the other.
 use Rattle.std.proofs.Common.{◌≡◌, ℕ, ◌+◌, ◌*◌, List, ◌++◌, length, take, refl, sym, ap, ◌∙◌, append_assoc, arith}
 use Rattle.std.proofs.Math.Seq.{take-length}
+use Rattle.locus_ids.specs.Sizes.{sites_max, content_pages_max}
 
 -- one field more stands behind the others
 behind : (n m k : ℕ) (before after front field : List ℕ) → take k after ≡ take n before ++ field → k ≡ m → take n before ≡ front → take m after ≡ front ++ field
@@ -11,7 +12,7 @@ regroup a b c d e f g h i = simp append_assoc
 
 -- all eight, before whatever follows
 pub fields_are : (o1 o2 o3 o4 o5 o6 o7 o8 a b c d e f g h i : List ℕ) (sites pages : ℕ) → take 2 o1 ≡ a → take 4 o2 ≡ take 2 o1 ++ b → take 6 o3 ≡ take 4 o2 ++ c → take 10 o4 ≡ take 6 o3 ++ d
-    → take 11 o5 ≡ take 10 o4 ++ e → take 15 o6 ≡ take 11 o5 ++ f → take (15 + 4 * sites) o7 ≡ take 15 o6 ++ g → sites ≡ 16 → take (79 + 2 * pages) o8 ≡ take 79 o7 ++ h → pages ≡ 64
+    → take 11 o5 ≡ take 10 o4 ++ e → take 15 o6 ≡ take 11 o5 ++ f → take (15 + 4 * sites) o7 ≡ take 15 o6 ++ g → sites ≡ sites_max → take (79 + 2 * pages) o8 ≡ take 79 o7 ++ h → pages ≡ content_pages_max
     → length o8 ≡ 207 → o8 ++ i ≡ a ++ (b ++ (c ++ (d ++ (e ++ (f ++ (g ++ (h ++ i)))))))
 fields_are o1 o2 o3 o4 o5 o6 o7 o8 a b c d e f g h i sites pages s1 s2 s3 s4 s5 s6 s7 n7 s8 n8 len =
     let t2 = behind 2 4 4 o1 o2 a b s2 refl s1 in

@@ -4,6 +4,7 @@ use Rattle.std.specs.List.{flat_map}
 use Rattle.std.specs.Result.{IfOk}
 use Rattle.std.specs.Int.{w16, w32, to_be_bytes}
 use Rattle.std.proofs.lemmas.Bool.{le-leb, cases_lt}
+use Rattle.locus_ids.specs.Sizes.{sites_max, content_pages_max}
 use Rattle.locus_ids.specs.declared.ids.Kind.{Kind}
 use Rattle.locus_ids.specs.declared.ids.Kind.TheVariants.{File, Dir}
 use Rattle.field_codec.specs.declared.faults.FieldFault.{FieldFault}
@@ -13,7 +14,7 @@ use Rattle.field_codec.proofs.Laws.{whole_takes, whole_again}
 use Rattle.field_codec.proofs.Loop.{spelled_alike}
 use Rattle.pack_layout.specs.declared.slot.Slot.{Slot}
 use Rattle.pack_layout.specs.declared.slot.BadSlot.{BadSlot}
-use Rattle.file_content.specs.Pages.{pages_of}
+use Rattle.stored_versions.specs.of_file_content.Pages.{pages_of}
 use Rattle.pack_layout.specs.Layout.{open_gate, kind_number, slot_bytes, IsSlot, NamePages}
 use Rattle.pack_layout.specs.Fields.{repeated, kinds, slots}
 use Rattle.pack_layout.proofs.Laws.{slots_laws}
@@ -31,9 +32,9 @@ spelled : (s : Slot) → slots.spell s ≡ slot_bytes s
 spelled s =
     let body : List ℕ → List ℕ → List ℕ → List ℕ = λ kind vector pages.
     open_gate ∷ s.turn ∷ (kind ++ (to_be_bytes w16 s.ino ++ (to_be_bytes w16 s.set.0 ++ (to_be_bytes w32 s.size ++ ((s.stamp.site ∷ to_be_bytes w32 s.stamp.n) ++ (vector ++ (pages ++ replicate 304 0))))))) in
-    let one : body (kinds.spell s.kind) ((repeated 16 u32).spell s.vector) ((repeated 64 u16).spell s.pages) ≡ body (kind_number s.kind ∷ []) ((repeated 16 u32).spell s.vector) ((repeated 64 u16).spell s.pages) = ap (λ (k : List ℕ). body k ((repeated 16 u32).spell s.vector) ((repeated 64 u16).spell s.pages)) (kinds_spelled s.kind) in
-    one ∙ ap (λ (v : List ℕ). body (kind_number s.kind ∷ []) v ((repeated 64 u16).spell s.pages)) (repeated_spelled 16 u32 s.vector)
-    ∙ ap (λ (p : List ℕ). body (kind_number s.kind ∷ []) (flat_map u32.spell s.vector) p) (repeated_spelled 64 u16 s.pages)
+    let one : body (kinds.spell s.kind) ((repeated sites_max u32).spell s.vector) ((repeated content_pages_max u16).spell s.pages) ≡ body (kind_number s.kind ∷ []) ((repeated sites_max u32).spell s.vector) ((repeated content_pages_max u16).spell s.pages) = ap (λ (k : List ℕ). body k ((repeated sites_max u32).spell s.vector) ((repeated content_pages_max u16).spell s.pages)) (kinds_spelled s.kind) in
+    one ∙ ap (λ (v : List ℕ). body (kind_number s.kind ∷ []) v ((repeated content_pages_max u16).spell s.pages)) (repeated_spelled sites_max u32 s.vector)
+    ∙ ap (λ (p : List ℕ). body (kind_number s.kind ∷ []) (flat_map u32.spell s.vector) p) (repeated_spelled content_pages_max u16 s.pages)
 
 kinds_fit : (k : Kind) → kinds.Fits k
 kinds_fit File = (omega arith, refl, (refl, tt))
@@ -46,7 +47,7 @@ all_fit c (x ∷ xs) h = (h 0 (omega arith), all_fit c xs (λ i lt. h (suc i) (o
 turn_fits : (n : ℕ) → n ≤ 2 → from_to 0 2 n ≡ true
 turn_fits n le = rw (le-leb 0 n (omega arith), le-leb n 2 le) refl
 
-stamp_fits : (site n : ℕ) → ((site ≡ 0) × (n ≡ 0)) ⊎ ((1 ≤ site) × (site ≤ 16) × (1 ≤ n) × (n < 2 ^ 32)) → (site < 2 ^ 8) × (n < 2 ^ 32)
+stamp_fits : (site n : ℕ) → ((site ≡ 0) × (n ≡ 0)) ⊎ ((1 ≤ site) × (site ≤ sites_max) × (1 ≤ n) × (n < 2 ^ 32)) → (site < 2 ^ 8) × (n < 2 ^ 32)
 stamp_fits site n (inl p) = (omega (arith, p.0), omega (arith, p.1))
 stamp_fits site n (inr p) = (omega (arith, p.1), p.3)
 
@@ -60,8 +61,8 @@ fits : (s : Slot) → IsSlot s → slots.Fits s
 fits s h =
     let v = h.vector in
     let p = h.pages in
-    let sites : 16 ≡ length s.vector = sym v.count in
-    let pages : 64 ≡ length s.pages = sym p.count in (
+    let sites : sites_max ≡ length s.vector = sym v.count in
+    let pages : content_pages_max ≡ length s.pages = sym p.count in (
       tt,
       (
         (turn_fits s.turn h.turn, omega (arith, h.turn)),

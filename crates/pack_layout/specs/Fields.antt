@@ -1,5 +1,6 @@
 -- A slot's fields one after the other.
 use Rattle.std.specs.Prelude.{ℕ, List, ◌∷◌, []}
+use Rattle.locus_ids.specs.Sizes.{sites_max, content_pages_max}
 use Rattle.locus_ids.specs.declared.ids.Kind.{Kind}
 use Rattle.locus_ids.specs.declared.ids.Kind.TheVariants.{File, Dir}
 use Rattle.locus_ids.specs.declared.ids.Stamp.{Stamp}
@@ -42,4 +43,4 @@ abbrev pub parts_of : Slot → Parts
 parts_of s = (tt, (s.turn, (s.kind, (s.ino, (s.set, (s.size, (s.stamp, (s.vector, (s.pages, tt)))))))))
 
 abbrev pub slots : Codec Slot
-slots = made slot_of parts_of (pair (exactly (open_gate ∷ [])) (pair (u8_in 0 2) (pair kinds (pair u16 (pair sets (pair u32 (pair stamps (pair (repeated 16 u32) (pair (repeated 64 u16) (zeros 304))))))))))
+slots = made slot_of parts_of (pair (exactly (open_gate ∷ [])) (pair (u8_in 0 2) (pair kinds (pair u16 (pair sets (pair u32 (pair stamps (pair (repeated sites_max u32) (pair (repeated content_pages_max u16) (zeros 304))))))))))

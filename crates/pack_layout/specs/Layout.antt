@@ -1,11 +1,12 @@
 -- Where everything of a pack stands, and what a slot is.
-use Rattle.std.specs.Prelude.{◌≡◌, ◌≢◌, ℕ, ◌+◌, ◌-◌, ◌*◌, ◌%◌, ◌^◌, ◌<◌, ◌≤◌, ◌⊎◌, ◌==◌, Bool, List, ◌∷◌, ◌++◌, length, replicate, slice_index, Option, Some, None, if◌then◌else◌}
+use Rattle.std.specs.Prelude.{◌≡◌, ◌≢◌, ℕ, ◌+◌, ◌-◌, ◌*◌, ◌%◌, ◌^◌, ◌<◌, ◌≤◌, ◌==◌, Bool, List, ◌∷◌, ◌++◌, length, replicate, slice_index, Option, Some, None, if◌then◌else◌}
 use Rattle.std.specs.Int.{w16, w32, to_be_bytes}
 use Rattle.std.specs.List.{flat_map}
+use Rattle.locus_ids.specs.Sizes.{inodes_max, content_bytes_max, page_bytes, content_pages_max, pack_pages, set_span}
 use Rattle.locus_ids.specs.declared.ids.Kind.{Kind}
 use Rattle.locus_ids.specs.declared.ids.Kind.TheVariants.{File, Dir}
-use Rattle.locus_ids.specs.declared.ids.Stamp.{Stamp}
-use Rattle.file_content.specs.Pages.{pages_of}
+use Rattle.stored_versions.specs.of_file_content.Pages.{pages_of}
+use Rattle.stored_versions.specs.Versions.{AgreesWith, IsStamp}
 use Rattle.pack_layout.specs.declared.half.Half.{Half}
 use Rattle.pack_layout.specs.declared.half.Half.TheVariants.{First, Second}
 use Rattle.pack_layout.specs.declared.slot.Slot.{Slot}
@@ -31,7 +32,7 @@ abbrev pub slot_at : ℕ → ℕ → Half → ℕ
 slot_at base ino half = base + 1024 + 1024 * (ino - 1) + 512 * half_number half
 
 abbrev pub page_at : ℕ → ℕ → ℕ
-page_at base page = base + 1049600 + 1024 * page
+page_at base page = base + 1049600 + page_bytes * page
 
 -- the byte that begins a slot which counts
 abbrev pub open_gate : ℕ
@@ -47,32 +48,21 @@ slot_bytes s =
     open_gate ∷ s.turn ∷ kind_number s.kind ∷ (to_be_bytes w16 s.ino ++ (to_be_bytes w16 s.set.0 ++ (to_be_bytes w32 s.size ++ (s.stamp.site ∷ (to_be_bytes w32 s.stamp.n
     ++ (flat_map (to_be_bytes w32) s.vector ++ (flat_map (to_be_bytes w16) s.pages ++ replicate 304 0)))))))
 
--- the name of a committed version, or 0.0 for what a format made
-abbrev pub IsStamp : Stamp → Type 0
-IsStamp t = ((t.site ≡ 0) × (t.n ≡ 0)) ⊎ ((1 ≤ t.site) × (t.site ≤ 16) × (1 ≤ t.n) × (t.n < 2 ^ 32))
-
--- a counter for each of the 16 sites, which agree with the stamp: that of its site is its number, and for 0.0 all are 0
-pub record AgreesWith (t : Stamp) (v : List ℕ) : Type 0 where
-  pub count : length v ≡ 16
-  pub each : (i : ℕ) → slice_index v i < 2 ^ 32
-  pub own : 1 ≤ t.site → slice_index v (t.site - 1) ≡ t.n
-  pub none : t.site ≡ 0 → (i : ℕ) → slice_index v i ≡ 0
-
 -- 64 page numbers: the first n name different pages of the area, and the others none
 pub record NamePages (n : ℕ) (pages : List ℕ) : Type 0 where
-  pub count : length pages ≡ 64
-  pub inside : (i : ℕ) → i < n → slice_index pages i < 3072
+  pub count : length pages ≡ content_pages_max
+  pub inside : (i : ℕ) → i < n → slice_index pages i < pack_pages
   pub distinct : (i j : ℕ) → i < j → j < n → slice_index pages i ≢ slice_index pages j
-  pub rest : (i : ℕ) → n ≤ i → i < 64 → slice_index pages i ≡ 65535
+  pub rest : (i : ℕ) → n ≤ i → i < content_pages_max → slice_index pages i ≡ 65535
 
 -- a slot that may stand on a disk
 pub record IsSlot (s : Slot) : Type 0 where
   pub turn : s.turn ≤ 2
   pub low : 1 ≤ s.ino
-  pub high : s.ino ≤ 1024
+  pub high : s.ino ≤ inodes_max
   pub some : 1 ≤ s.set.0
-  pub sites : s.set.0 < 2 ^ 16
-  pub size : s.size ≤ 65536
+  pub sites : s.set.0 < set_span
+  pub size : s.size ≤ content_bytes_max
   pub stamp : IsStamp s.stamp
   pub vector : AgreesWith s.stamp s.vector
   pub pages : NamePages (pages_of s.size) s.pages

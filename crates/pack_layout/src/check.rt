@@ -1,9 +1,12 @@
 ghost use Rattle.std.specs.Prelude.{◌≡◌, ◌≢◌, ℕ, ◌<◌, ◌≤◌, ◌↔◌, length, IsTrue, slice_index};
-ghost use Rattle.file_content.specs.Pages.{pages_of};
-ghost use Rattle.pack_layout.specs.Layout.{IsStamp, AgreesWith, NamePages, IsSlot};
+ghost use Rattle.locus_ids.specs.Sizes.{content_pages_max, pack_pages};
+ghost use Rattle.stored_versions.specs.of_file_content.Pages.{pages_of};
+ghost use Rattle.pack_layout.specs.Layout.{NamePages, IsSlot};
+ghost use Rattle.stored_versions.specs.Versions.{IsStamp, AgreesWith};
 
 use crate::Slot;
 use locus_ids::Stamp;
+use locus_ids::sizes::{CONTENT_BYTES, CONTENT_PAGES, INODES, PACK_PAGES, PAGE_BYTES, SITES};
 
 fn is_stamp(stamp: Stamp) -> bool
     ensures { IsTrue result ↔ IsStamp stamp }
@@ -11,7 +14,7 @@ fn is_stamp(stamp: Stamp) -> bool
     if stamp.site == 0 {
         return stamp.n == 0;
     }
-    stamp.site <= 16 && 1 <= stamp.n
+    stamp.site <= SITES as u8 && 1 <= stamp.n
 }
 
 fn are_zeros(counters: &[u32]) -> bool
@@ -25,7 +28,7 @@ fn are_zeros(counters: &[u32]) -> bool
     true
 }
 
-fn agrees_with(stamp: Stamp, counters: &[u32; 16]) -> bool
+fn agrees_with(stamp: Stamp, counters: &[u32; SITES]) -> bool
     requires { IsStamp stamp }
     ensures { IsTrue result ↔ AgreesWith stamp counters.now }
 {
@@ -50,12 +53,12 @@ fn is_among(pages: &[u16], n: usize, page: u16) -> bool
 }
 
 /// Whether the first `n` pages are different ones of the area.
-fn are_pages(n: usize, pages: &[u16; 64]) -> bool
-    requires { n ≤ 64 }
-    ensures { IsTrue result ↔ (((i : ℕ) → i < n → slice_index pages.now i < 3072) × ((i j : ℕ) → i < j → j < n → slice_index pages.now i ≢ slice_index pages.now j)) }
+fn are_pages(n: usize, pages: &[u16; CONTENT_PAGES]) -> bool
+    requires { n ≤ content_pages_max }
+    ensures { IsTrue result ↔ (((i : ℕ) → i < n → slice_index pages.now i < pack_pages) × ((i j : ℕ) → i < j → j < n → slice_index pages.now i ≢ slice_index pages.now j)) }
 {
     for i in 0..n {
-        if pages[i] >= 3072 {
+        if pages[i] >= PACK_PAGES {
             return false;
         }
         if is_among(pages, i, pages[i]) {
@@ -66,11 +69,11 @@ fn are_pages(n: usize, pages: &[u16; 64]) -> bool
 }
 
 /// Whether all pages from number `n` on are none.
-fn are_none(n: usize, pages: &[u16; 64]) -> bool
-    requires { n ≤ 64 }
-    ensures { IsTrue result ↔ ((i : ℕ) → n ≤ i → i < 64 → slice_index pages.now i ≡ 65535) }
+fn are_none(n: usize, pages: &[u16; CONTENT_PAGES]) -> bool
+    requires { n ≤ content_pages_max }
+    ensures { IsTrue result ↔ ((i : ℕ) → n ≤ i → i < content_pages_max → slice_index pages.now i ≡ 65535) }
 {
-    for i in n..64 {
+    for i in n..CONTENT_PAGES {
         if pages[i] != 0xFFFF {
             return false;
         }
@@ -78,8 +81,8 @@ fn are_none(n: usize, pages: &[u16; 64]) -> bool
     true
 }
 
-fn name_pages(n: usize, pages: &[u16; 64]) -> bool
-    requires { n ≤ 64 }
+fn name_pages(n: usize, pages: &[u16; CONTENT_PAGES]) -> bool
+    requires { n ≤ content_pages_max }
     ensures { IsTrue result ↔ NamePages n pages.now }
 {
     are_pages(n, pages) && are_none(n, pages)
@@ -89,12 +92,12 @@ fn name_pages(n: usize, pages: &[u16; 64]) -> bool
 pub fn is_slot(slot: &Slot) -> bool
     ensures { IsTrue result ↔ IsSlot slot.now }
 {
-    if slot.turn > 2 || slot.ino < 1 || slot.ino > 1024 {
+    if slot.turn > 2 || slot.ino < 1 || slot.ino > INODES {
         return false;
     }
-    if slot.set.0 == 0 || slot.size > 65_536 || !is_stamp(slot.stamp) {
+    if slot.set.0 == 0 || slot.size > CONTENT_BYTES as u32 || !is_stamp(slot.stamp) {
         return false;
     }
-    let pages = (slot.size as usize + 1023) / 1024;
+    let pages = (slot.size as usize + (PAGE_BYTES - 1)) / PAGE_BYTES;
     agrees_with(slot.stamp, &slot.vector.parts()) && name_pages(pages, &slot.pages)
 }

@@ -1,4 +1,5 @@
 ghost use Rattle.std.specs.Prelude.{◌≡◌, ◌+◌, ◌≤◌, ◌<◌, ◌^◌};
+ghost use Rattle.locus_ids.specs.Sizes.{inodes_max, pack_pages};
 ghost use Rattle.pack_layout.specs.Layout.{area_at, area_length, page_at, slot_at};
 
 use crate::Half;
@@ -34,7 +35,7 @@ pub fn area_at(nth: u8) -> u32
 
 /// The inode whose slots stand behind those of so many others.
 pub fn nth_inode(n: u16) -> Ino
-    requires { n < 1024 }
+    requires { n < inodes_max }
     ensures { result ≡ n + 1 }
 {
     match Ino::new(n + 1) {
@@ -58,7 +59,7 @@ pub fn slot_at(base: u32, ino: Ino, half: Half) -> u32
 /// The place of a data page, in the area from `base`.
 pub fn page_at(base: u32, page: u16) -> u32
     requires area { base + area_length < 2 ^ 32 }
-    requires page { page < 3072 }
+    requires page { page < pack_pages }
     ensures { result ≡ page_at base page }
 {
     base + PAGES_AT + PAGE_LENGTH * page as u32

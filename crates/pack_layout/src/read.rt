@@ -1,4 +1,5 @@
 ghost use Rattle.std.specs.Prelude.{◌≡◌, ℕ, ◌≢◌, ◌↔◌, List, length, Result, Option, Ok, Some, None, IsErr, IfOk, slice_index};
+ghost use Rattle.locus_ids.specs.Sizes.{sites_max, content_pages_max};
 ghost use Rattle.field_codec.specs.Codec.{u16, u32, whole};
 ghost use Rattle.field_codec.specs.Lists.{read_times};
 ghost use Rattle.field_codec.specs.Reads.{Reads};
@@ -9,6 +10,7 @@ ghost use Rattle.pack_layout.specs.Fields.{kinds, stamps, slots, repeated};
 use crate::check::is_slot;
 use crate::{BadSlot, Slot};
 use field_codec::{FieldFault, Fields};
+use locus_ids::sizes::{CONTENT_PAGES, SITES};
 use locus_ids::{Kind, Sites, Stamp};
 use version_vector::Vector;
 
@@ -34,21 +36,21 @@ fn read_stamp(fields: &mut Fields) -> Result<Stamp, FieldFault>
     Ok(Stamp { site, n })
 }
 
-fn read_counters(fields: &mut Fields) -> Result<[u32; 16], FieldFault>
-    ensures { Reads (repeated 16 u32) (λ counters. counters) fields.old result fields.new }
+fn read_counters(fields: &mut Fields) -> Result<[u32; SITES], FieldFault>
+    ensures { Reads (repeated sites_max u32) (λ counters. counters) fields.old result fields.new }
 {
-    let mut counters = [0; 16];
-    for i in 0..16 {
+    let mut counters = [0; SITES];
+    for i in 0..SITES {
         counters[i] = fields.get_u32()?;
     }
     Ok(counters)
 }
 
-fn read_pages(fields: &mut Fields) -> Result<[u16; 64], FieldFault>
-    ensures { Reads (repeated 64 u16) (λ pages. pages) fields.old result fields.new }
+fn read_pages(fields: &mut Fields) -> Result<[u16; CONTENT_PAGES], FieldFault>
+    ensures { Reads (repeated content_pages_max u16) (λ pages. pages) fields.old result fields.new }
 {
-    let mut pages = [0; 64];
-    for i in 0..64 {
+    let mut pages = [0; CONTENT_PAGES];
+    for i in 0..CONTENT_PAGES {
         pages[i] = fields.get_u16()?;
     }
     Ok(pages)

@@ -1,12 +1,13 @@
 ghost use Rattle.std.specs.Prelude.{◌≡◌};
 ghost use Rattle.pack_layout.specs.Layout.{newer};
 
+use locus_ids::sizes::{CONTENT_PAGES, SITES};
 use locus_ids::{Kind, Sites, Stamp};
 use thiserror::Error;
 use version_vector::Vector;
 
 /// The newest state of an inode, or the one before it, as a slot of a pack says it.
-#[derive(Clone, Copy, Debug, PartialEq, Eq)]
+#[derive(Clone, Copy, PartialEq, Eq)]
 pub struct Slot {
     /// 0 to 2. Of two open slots of an inode that counts whose turn follows the other's.
     pub turn: u8,
@@ -17,9 +18,9 @@ pub struct Slot {
     /// The size of the content in bytes.
     pub size: u32,
     pub stamp: Stamp,
-    pub vector: Vector<16>,
+    pub vector: Vector<SITES>,
     /// The data pages of the content in order; 0xFFFF past its end.
-    pub pages: [u16; 64],
+    pub pages: [u16; CONTENT_PAGES],
 }
 
 /// An open slot whose bytes are none of a slot of its inode.

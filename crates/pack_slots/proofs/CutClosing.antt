@@ -3,13 +3,14 @@ use Rattle.std.proofs.Common.{◌≡◌, ◌≢◌, ℕ, ◌+◌, ◌-◌, ◌*�
 use Rattle.std.specs.Prelude.{Option, None, Some, ◌&&◌, nat_lt}
 use Rattle.std.proofs.lemmas.Bool.{eqb-true, lt-ltb}
 use Rattle.std.proofs.lemmas.Bool.Decides.{nat_tests}
+use Rattle.locus_ids.specs.Sizes.{inodes_max}
 use Rattle.disk_model.specs.Cut.{Cut, left_by, left_in_write}
 use Rattle.disk_model.specs.Images.{Torn}
 use Rattle.pack_layout.specs.declared.half.Half.TheVariants.{First, Second}
 use Rattle.pack_layout.specs.Layout.{area_length, slot_at, other_half}
 use Rattle.pack_layout.proofs.Halves.{half_most}
-use Rattle.gate_switch.specs.Gates.{gate_left}
-use Rattle.gate_switch.proofs.Gates.{opens_write, opens_sync, torn_write, torn_sync}
+use Rattle.inode_switch.specs.of_gate_switch.Gates.{gate_left}
+use Rattle.inode_switch.proofs.of_gate_switch.Gates.{opens_write, opens_sync, torn_write, torn_sync}
 use Rattle.inode_switch.specs.View.{is_open}
 use Rattle.pack_slots.specs.declared.inode_copy.InodeCopy.{InodeCopy}
 use Rattle.pack_slots.specs.Copies.{copy_of}
@@ -29,7 +30,7 @@ own_gates base ino a b (Some copy) low found torn true is =
     found_gates base ino b (Some copy) true (still_found base ino a b (unchanged base ino (other_half copy.half) a b low torn
     (eqb-true (get_or b (slot_at base ino (other_half copy.half)) 0) 165 is ∙ sym (eqb-true (get_or a (slot_at base ino (other_half copy.half)) 0) 165 was))) (Some copy) true found)
 
-module _ (base n : ℕ) (old now : List ℕ) (copies : List (Option InodeCopy)) (losing : List Bool) (was : AreFound base 1024 old copies losing) (closed : AreClosed base n now copies losing) (lt : n < 1024) (loses : is_losing losing (n + 1) ≡ true) where
+module _ (base n : ℕ) (old now : List ℕ) (copies : List (Option InodeCopy)) (losing : List Bool) (was : AreFound base inodes_max old copies losing) (closed : AreClosed base n now copies losing) (lt : n < inodes_max) (loses : is_losing losing (n + 1) ≡ true) where
   abbrev copy : Option InodeCopy
   copy = copy_of copies (n + 1)
 
@@ -39,10 +40,10 @@ module _ (base n : ℕ) (old now : List ℕ) (copies : List (Option InodeCopy)) 
   this_found : IsFound base (n + 1) now copy true
   this_found = subst (λ (b : Bool). IsFound base (n + 1) now copy b) (λ i. lt-ltb n (n + 1) (omega arith) i && loses i) (closed (n + 1) (omega arith) (omega arith))
 
-  old_gates : (ino : ℕ) → 1 ≤ ino → ino ≤ 1024 → has_losing_gate base ino old ≡ is_losing losing ino
+  old_gates : (ino : ℕ) → 1 ≤ ino → ino ≤ inodes_max → has_losing_gate base ino old ≡ is_losing losing ino
   old_gates ino low high = found_gates base ino old (copy_of copies ino) (is_losing losing ino) (was ino low high)
 
-  now_gates : (ino : ℕ) → 1 ≤ ino → ino ≤ 1024 → has_losing_gate base ino now ≡ (nat_lt n ino && is_losing losing ino)
+  now_gates : (ino : ℕ) → 1 ≤ ino → ino ≤ inodes_max → has_losing_gate base ino now ≡ (nat_lt n ino && is_losing losing ino)
   now_gates ino low high = found_gates base ino now (copy_of copies ino) (nat_lt n ino && is_losing losing ino) (closed ino low high)
 
   below : (ino : ℕ) → 1 ≤ ino → ino ≤ n → has_losing_gate base ino now ≡ false
@@ -50,7 +51,7 @@ module _ (base n : ℕ) (old now : List ℕ) (copies : List (Option InodeCopy)) 
       let none : nat_lt n ino ≡ false = grind (arith, nat_tests) in
       now_gates ino low (omega arith) ∙ ap (λ (b : Bool). b && is_losing losing ino) none
 
-  above : (ino : ℕ) → n < ino → ino ≤ 1024 → has_losing_gate base ino now ≡ has_losing_gate base ino old
+  above : (ino : ℕ) → n < ino → ino ≤ inodes_max → has_losing_gate base ino now ≡ has_losing_gate base ino old
   above ino less high = now_gates ino (omega arith) high ∙ ap (λ (b : Bool). b && is_losing losing ino) (lt-ltb n ino less) ∙ sym (old_gates ino (omega arith) high)
 
   module _ (c : List ℕ) (torn : Torn gate 1 now c) where
@@ -60,25 +61,25 @@ module _ (base n : ℕ) (old now : List ℕ) (copies : List (Option InodeCopy)) 
         (λ i. same_gate base ino now c same First i && same_gate base ino now c same Second i)
 
     -- the gates behind this one are as they were, and those before it are closed
-    pub left_gates : (t : Bool) → is_open c gate ≡ t → losing_inodes base c ≡ cond t ((n + 1) ∷ []) [] ++ losing_from base old (n + 2) (1023 - n)
+    pub left_gates : (t : Bool) → is_open c gate ≡ t → losing_inodes base c ≡ cond t ((n + 1) ∷ []) [] ++ losing_from base old (n + 2) (inodes_max - 1 - n)
     left_gates t is =
         losing_parts base c n lt
-        ∙ ap (λ (l : List ℕ). l ++ (cond (has_losing_gate base (n + 1) c) ((n + 1) ∷ []) [] ++ losing_from base c (n + 2) (1023 - n)))
+        ∙ ap (λ (l : List ℕ). l ++ (cond (has_losing_gate base (n + 1) c) ((n + 1) ∷ []) [] ++ losing_from base c (n + 2) (inodes_max - 1 - n)))
         (losing_nowhere base c 1 n (λ i low high. others i low (λ e. omega arith) ∙ below i low (omega arith)))
-        ∙ ap (λ (b : Bool). cond b ((n + 1) ∷ []) [] ++ losing_from base c (n + 2) (1023 - n)) (own_gates base (n + 1) now c copy (omega arith) this_found torn t is)
-        ∙ ap (λ (l : List ℕ). cond t ((n + 1) ∷ []) [] ++ l) (losing_same base c old (n + 2) (1023 - n) (λ i low high. others i (omega arith) (λ e. omega arith) ∙ above i (omega arith) (omega arith)))
+        ∙ ap (λ (b : Bool). cond b ((n + 1) ∷ []) [] ++ losing_from base c (n + 2) (inodes_max - 1 - n)) (own_gates base (n + 1) now c copy (omega arith) this_found torn t is)
+        ∙ ap (λ (l : List ℕ). cond t ((n + 1) ∷ []) [] ++ l) (losing_same base c old (n + 2) (inodes_max - 1 - n) (λ i low high. others i (omega arith) (λ e. omega arith) ∙ above i (omega arith) (omega arith)))
 
-  old_parts : losing_inodes base old ≡ losing_from base old 1 n ++ ((n + 1) ∷ losing_from base old (n + 2) (1023 - n))
-  old_parts = losing_parts base old n lt ∙ ap (λ (b : Bool). losing_from base old 1 n ++ (cond b ((n + 1) ∷ []) [] ++ losing_from base old (n + 2) (1023 - n))) (old_gates (n + 1) (omega arith) (omega arith) ∙ loses)
+  old_parts : losing_inodes base old ≡ losing_from base old 1 n ++ ((n + 1) ∷ losing_from base old (n + 2) (inodes_max - 1 - n))
+  old_parts = losing_parts base old n lt ∙ ap (λ (b : Bool). losing_from base old 1 n ++ (cond b ((n + 1) ∷ []) [] ++ losing_from base old (n + 2) (inodes_max - 1 - n))) (old_gates (n + 1) (omega arith) (omega arith) ∙ loses)
 
   -- by the number of calls
-  closings_are : (how : Cut) (passed rest : ℕ) → passed ≡ 2 * losing_gates base n old + rest → closings_left how passed (losing_inodes base old) ≡ closings_left how rest ((n + 1) ∷ losing_from base old (n + 2) (1023 - n))
+  closings_are : (how : Cut) (passed rest : ℕ) → passed ≡ 2 * losing_gates base n old + rest → closings_left how passed (losing_inodes base old) ≡ closings_left how rest ((n + 1) ∷ losing_from base old (n + 2) (inodes_max - 1 - n))
   closings_are how passed rest is =
       let count = losing_count base old n in
       let e : passed ≡ 2 * length (losing_from base old 1 n) + rest = omega (arith, is, count) in
-      (λ i. closings_left how (e i) (old_parts i)) ∙ closings_behind how (losing_from base old 1 n) ((n + 1) ∷ losing_from base old (n + 2) (1023 - n)) rest
+      (λ i. closings_left how (e i) (old_parts i)) ∙ closings_behind how (losing_from base old 1 n) ((n + 1) ∷ losing_from base old (n + 2) (inodes_max - 1 - n)) rest
 
-  opened : (b : Bool) → cond b ((n + 1) ∷ []) [] ++ losing_from base old (n + 2) (1023 - n) ≡ cond b ((n + 1) ∷ losing_from base old (n + 2) (1023 - n)) (losing_from base old (n + 2) (1023 - n))
+  opened : (b : Bool) → cond b ((n + 1) ∷ []) [] ++ losing_from base old (n + 2) (inodes_max - 1 - n) ≡ cond b ((n + 1) ∷ losing_from base old (n + 2) (inodes_max - 1 - n)) (losing_from base old (n + 2) (inodes_max - 1 - n))
   opened true = refl
   opened false = refl
 

@@ -3,6 +3,7 @@ use Rattle.std.proofs.Common.{◌≡◌, ◌≢◌, ℕ, zero, suc, ◌+◌, ◌
 use Rattle.std.specs.Prelude.{Option, None, Some, IfSome}
 use Rattle.std.proofs.lemmas.Bool.{true≢false, cases_lt}
 use Rattle.std.proofs.lemmas.List.{get_or_append_left, get_or_push, get_or_past}
+use Rattle.locus_ids.specs.Sizes.{inodes_max}
 use Rattle.pack_layout.specs.declared.half.Half.{Half}
 use Rattle.pack_layout.specs.declared.half.Half.TheVariants.{First, Second}
 use Rattle.pack_layout.specs.Layout.{slot_at, IsSlot, other_half}
@@ -66,7 +67,7 @@ found_more base n image copies losing copy loses count same found new (suc i) lo
     (cases_lt i n)
 
 -- the first inode with a bad slot
-pub least_bad : (base n : ℕ) (image : List ℕ) (copies : List (Option InodeCopy)) (losing : List Bool) → n < 1024 → AreFound base n image copies losing → (IsGoodInode base (n + 1) image → ⊥) → IsLeastBad base (n + 1) image
+pub least_bad : (base n : ℕ) (image : List ℕ) (copies : List (Option InodeCopy)) (losing : List Bool) → n < inodes_max → AreFound base n image copies losing → (IsGoodInode base (n + 1) image → ⊥) → IsLeastBad base (n + 1) image
 least_bad base n image copies losing lt found bad = record {
   low = omega arith;
   high = omega arith;
@@ -75,12 +76,12 @@ least_bad base n image copies losing lt found bad = record {
 }
 
 -- each copy that was found is one of its inode
-pub found_own : (base : ℕ) (image : List ℕ) (copies : List (Option InodeCopy)) (losing : List Bool) → length copies ≡ 1024 → AreFound base 1024 image copies losing → (ino : ℕ) → IfSome (copy_of copies ino) (λ copy. IsCopy ino copy)
+pub found_own : (base : ℕ) (image : List ℕ) (copies : List (Option InodeCopy)) (losing : List Bool) → length copies ≡ inodes_max → AreFound base inodes_max image copies losing → (ino : ℕ) → IfSome (copy_of copies ino) (λ copy. IsCopy ino copy)
 found_own base image copies losing count found zero = tt
 found_own base image copies losing count found (suc i) = ⊎_elim
-    (λ (lt : i < 1024). (found (suc i) (omega arith) (omega arith)).own)
-    (λ (le : 1024 ≤ i). subst (λ (o : Option InodeCopy). IfSome o (λ copy. IsCopy (suc i) copy)) (sym (get_or_past copies i None (omega (arith, count)))) tt)
-    (cases_lt i 1024)
+    (λ (lt : i < inodes_max). (found (suc i) (omega arith) (omega arith)).own)
+    (λ (le : inodes_max ≤ i). subst (λ (o : Option InodeCopy). IfSome o (λ copy. IsCopy (suc i) copy)) (sym (get_or_past copies i None (omega (arith, count)))) tt)
+    (cases_lt i inodes_max)
 
 copy_is_slot : (ino : ℕ) (copy : Option InodeCopy) → IfSome copy (λ one. IsCopy ino one) → IfSome copy (λ one. IsSlot one.slot)
 copy_is_slot ino None is = tt

@@ -4,8 +4,9 @@ use Rattle.std.specs.Prelude.{Option, None, Some, ◌==◌, ◌&&◌, nat_lt, if
 use Rattle.std.proofs.lemmas.Bool.{cases_lt, cases_eq, cases_Bool, eqb-true, lt-ltb}
 use Rattle.std.proofs.lemmas.Bool.Decides.{nat_tests}
 use Rattle.std.proofs.lemmas.List.{get_or_read}
+use Rattle.locus_ids.specs.Sizes.{inodes_max, content_pages_max}
 use Rattle.disk_model.specs.Images.{Torn, bytes_at, overwritten, is_within}
-use Rattle.file_content.specs.Pages.{pages_of}
+use Rattle.pack_layout.specs.of_file_content.Pages.{pages_of}
 use Rattle.pack_layout.specs.declared.half.Half.{Half}
 use Rattle.pack_layout.specs.declared.half.Half.TheVariants.{First, Second}
 use Rattle.pack_layout.specs.Layout.{area_length, slot_at, other_half}
@@ -13,19 +14,19 @@ use Rattle.pack_layout.proofs.Halves.{half_most, half_sum, other_twice, both_slo
 use Rattle.inode_switch.specs.View.{is_open, turn, size, SameView}
 use Rattle.inode_switch.specs.Replace.{Loses}
 use Rattle.inode_switch.proofs.SlotBytes.{says}
-use Rattle.gate_switch.proofs.Tearing.{same_bytes}
-use Rattle.gate_switch.proofs.Pieces.{put_gate, torn_overwritten}
+use Rattle.inode_switch.proofs.of_gate_switch.Tearing.{same_bytes}
+use Rattle.inode_switch.proofs.of_gate_switch.Pieces.{put_gate, torn_overwritten}
 use Rattle.pack_slots.specs.declared.inode_copy.InodeCopy.{InodeCopy}
-use Rattle.pack_slots.specs.Copies.{copy_of, ShowsCopies}
+use Rattle.pack_slots.specs.Copies.{copy_of}
 use Rattle.pack_slots.specs.Slots.{IsFound}
 use Rattle.pack_slots.specs.Mounting.{ClosesAscending, losing_gates, has_losing_gate}
 use Rattle.pack_slots.specs.Losing.{AreFound, IsClosing, KeepsCopies, closed_if, losing_half, is_losing}
 use Rattle.pack_slots.proofs.Finding.{found_good}
-use Rattle.gate_switch.proofs.Tearing.{torn_widens, torn_joins, torn_stays}
+use Rattle.inode_switch.proofs.of_gate_switch.Tearing.{torn_widens, torn_joins, torn_stays}
 
 -- what was found, once the losing gates of the inodes 1 to n are closed
 abbrev pub AreClosed : ℕ → ℕ → List ℕ → List (Option InodeCopy) → List Bool → Type 0
-AreClosed base n image copies losing = (ino : ℕ) → 1 ≤ ino → ino ≤ 1024 → IsFound base ino image (copy_of copies ino) (nat_lt n ino && is_losing losing ino)
+AreClosed base n image copies losing = (ino : ℕ) → 1 ≤ ino → ino ≤ inodes_max → IsFound base ino image (copy_of copies ino) (nat_lt n ino && is_losing losing ino)
 
 -- the slots of an inode are the same in both images
 pub record SameSlots (base ino : ℕ) (a b : List ℕ) : Type 0 where
@@ -111,7 +112,7 @@ module _ (base ino : ℕ) (half : Half) (a b : List ℕ) (low : 1 ≤ ino) (torn
 
 -- the pages of what is open are few
 module _ (base n : ℕ) (image : List ℕ) (copies : List (Option InodeCopy)) (losing : List Bool) (closed : AreClosed base n image copies losing) where
-  few : (i : ℕ) (half : Half) → 1 ≤ i → i ≤ 1024 → is_open image (slot_at base i half) ≡ true → pages_of (size image (slot_at base i half)) ≤ 64
+  few : (i : ℕ) (half : Half) → 1 ≤ i → i ≤ inodes_max → is_open image (slot_at base i half) ≡ true → pages_of (size image (slot_at base i half)) ≤ content_pages_max
   few i half low high is =
       let has = (found_good base i image (copy_of copies i) (nat_lt n i && is_losing losing i) (closed i low high)).slots half is in
       let s = says image (slot_at base i half) has.slot has.bytes has.is in
@@ -119,7 +120,7 @@ module _ (base n : ℕ) (image : List ℕ) (copies : List (Option InodeCopy)) (l
       let small = has.is.size in
       omega arith
 
-  loser : (copy : Option InodeCopy) → base + area_length ≤ length image → n < 1024 → IsFound base (n + 1) image copy true → Loses base (n + 1) (losing_half copy) image
+  loser : (copy : Option InodeCopy) → base + area_length ≤ length image → n < inodes_max → IsFound base (n + 1) image copy true → Loses base (n + 1) (losing_half copy) image
   loser None area lt found = absurd found.says
   loser (Some copy) area lt found =
       let s = says image (slot_at base (n + 1) copy.half) copy.slot found.says.bytes found.own.slot in
@@ -137,7 +138,7 @@ module _ (base n : ℕ) (image : List ℕ) (copies : List (Option InodeCopy)) (l
   here_loses : is_losing losing (n + 1) ≡ true → (nat_lt n (n + 1) && is_losing losing (n + 1)) ≡ true
   here_loses is = (λ i. lt-ltb n (n + 1) (omega arith) i && is i)
 
-  pub this_loses : base + area_length ≤ length image → n < 1024 → is_losing losing (n + 1) ≡ true → Loses base (n + 1) (losing_half (copy_of copies (n + 1))) image
+  pub this_loses : base + area_length ≤ length image → n < inodes_max → is_losing losing (n + 1) ≡ true → Loses base (n + 1) (losing_half (copy_of copies (n + 1))) image
   this_loses area lt is = loser (copy_of copies (n + 1)) area lt (subst (λ (b : Bool). IsFound base (n + 1) image (copy_of copies (n + 1)) b) (here_loses is) (closed (n + 1) (omega arith) (omega arith)))
 
 none_within : (at k : ℕ) → is_within at 0 k ≡ false
@@ -185,7 +186,7 @@ found_gates base ino image (Some copy) true found =
 found_gates base ino image (Some copy) false found = shut_one base ino (other_half copy.half) image found.says.other
 
 -- one gate more
-module _ (base n : ℕ) (a b : List ℕ) (copies : List (Option InodeCopy)) (losing : List Bool) (closed : AreClosed base n a copies losing) (lt : n < 1024) where
+module _ (base n : ℕ) (a b : List ℕ) (copies : List (Option InodeCopy)) (losing : List Bool) (closed : AreClosed base n a copies losing) (lt : n < inodes_max) where
   abbrev this_copy : Option InodeCopy
   this_copy = copy_of copies (n + 1)
 
@@ -205,10 +206,10 @@ module _ (base n : ℕ) (a b : List ℕ) (copies : List (Option InodeCopy)) (los
     in_slots : Torn (base + 1024) 1048576 a b
     in_slots = let most = half_most (losing_half this_copy) in torn_widens this_gate 1 (base + 1024) 1048576 (omega arith) (omega arith) a b one_byte
 
-    others : (ino : ℕ) → 1 ≤ ino → ino ≤ 1024 → ino ≢ n + 1 → IsFound base ino b (copy_of copies ino) (nat_lt n ino && is_losing losing ino)
+    others : (ino : ℕ) → 1 ≤ ino → ino ≤ inodes_max → ino ≢ n + 1 → IsFound base ino b (copy_of copies ino) (nat_lt n ino && is_losing losing ino)
     others ino low high ne = still_found base ino a b (others_same base (n + 1) (losing_half this_copy) a b (omega arith) one_byte ino low ne) (copy_of copies ino) (nat_lt n ino && is_losing losing ino) (closed ino low high)
 
-    ascends : (old : List ℕ) → AreFound base 1024 old copies losing → ClosesAscending base old b
+    ascends : (old : List ℕ) → AreFound base inodes_max old copies losing → ClosesAscending base old b
     ascends old was = record {
       n = n;
       closed = λ ino low le.
@@ -219,7 +220,7 @@ module _ (base n : ℕ) (a b : List ℕ) (copies : List (Option InodeCopy)) (los
           ∙ sym (found_gates base ino old (copy_of copies ino) (is_losing losing ino) (was ino (omega arith) high));
     }
 
-    pub crash_keeps : (old : List ℕ) → AreFound base 1024 old copies losing → KeepsCopies base copies old a → SameView base a b → KeepsCopies base copies old b
+    pub crash_keeps : (old : List ℕ) → AreFound base inodes_max old copies losing → KeepsCopies base copies old a → SameView base a b → KeepsCopies base copies old b
     crash_keeps old was kept view = record {
       slots = torn_joins (base + 1024) 1048576 old a b kept.slots in_slots;
       view = λ i low high. view i low high ∙ kept.view i low high;
@@ -240,15 +241,10 @@ module _ (base n : ℕ) (a b : List ℕ) (copies : List (Option InodeCopy)) (los
         (cases_eq ino (n + 1))
 
 -- before the first, and after the last
-pub none_closed : (base : ℕ) (image : List ℕ) (copies : List (Option InodeCopy)) (losing : List Bool) → AreFound base 1024 image copies losing → AreClosed base 0 image copies losing
+pub none_closed : (base : ℕ) (image : List ℕ) (copies : List (Option InodeCopy)) (losing : List Bool) → AreFound base inodes_max image copies losing → AreClosed base 0 image copies losing
 none_closed base image copies losing found ino low high = subst (λ (t : Bool). IsFound base ino image (copy_of copies ino) (t && is_losing losing ino)) (sym (lt-ltb 0 ino (omega arith))) (found ino low high)
 
-pub all_closed : (base : ℕ) (image : List ℕ) (copies : List (Option InodeCopy)) (losing : List Bool) → AreClosed base 1024 image copies losing → ShowsCopies base image (copy_of copies)
-all_closed base image copies losing closed ino low high =
-    let none : nat_lt 1024 ino ≡ false = grind (arith, nat_tests) in
-    (subst (λ (t : Bool). IsFound base ino image (copy_of copies ino) (t && is_losing losing ino)) none (closed ino low high)).says
-
-pub keeps_start : (base : ℕ) (image : List ℕ) (copies : List (Option InodeCopy)) (losing : List Bool) → AreFound base 1024 image copies losing → KeepsCopies base copies image image
+pub keeps_start : (base : ℕ) (image : List ℕ) (copies : List (Option InodeCopy)) (losing : List Bool) → AreFound base inodes_max image copies losing → KeepsCopies base copies image image
 keeps_start base image copies losing found = record {
   slots = torn_stays (base + 1024) 1048576 image;
   view = λ i low high. refl;
@@ -302,7 +298,7 @@ pub losing_at : (losing : List Bool) (i n : ℕ) → n ≡ i → get_or losing n
 losing_at losing i n same = let e : suc n ≡ i + 1 = omega arith in ap (λ (k : ℕ). is_losing losing k) e
 
 -- a crash while a gate is closed
-pub closing_keeps : (base i : ℕ) (old now x : List ℕ) (copies : List (Option InodeCopy)) (losing : List Bool) (loses : Bool) (ino : ℕ) (half : Half) → AreFound base 1024 old copies losing → AreClosed base i now copies losing → i < 1024 → loses ≡ is_losing losing (i + 1)
+pub closing_keeps : (base i : ℕ) (old now x : List ℕ) (copies : List (Option InodeCopy)) (losing : List Bool) (loses : Bool) (ino : ℕ) (half : Half) → AreFound base inodes_max old copies losing → AreClosed base i now copies losing → i < inodes_max → loses ≡ is_losing losing (i + 1)
     → ino ≡ i + 1 → half ≡ losing_half (copy_of copies (i + 1)) → KeepsCopies base copies old now → IsClosing base ino half loses now x → KeepsCopies base copies old x
 closing_keeps base i old now x copies losing loses ino half was closed lt loses_is ino_is half_is kept closing =
     let torn = subst (λ (b : Bool). Torn (slot_at base (i + 1) (losing_half (copy_of copies (i + 1)))) (if b then 1 else 0) now x) loses_is

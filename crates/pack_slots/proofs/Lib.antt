@@ -11,3 +11,4 @@ pub mod SharedPage
 pub mod SoundPack
 pub mod Tearing
 pub mod Times
+pub use Rattle.inode_switch.proofs as of_inode_switch

@@ -2,6 +2,7 @@
 use Rattle.std.proofs.Common.{◌≡◌, ℕ, zero, suc, ◌+◌, ◌-◌, ◌*◌, ◌≤◌, ◌<◌, Bool, true, false, cond, List, [], ◌∷◌, ◌++◌, length, refl, sym, ◌∙◌, ap, arith, length-append}
 use Rattle.std.specs.Prelude.{if◌then◌else◌}
 use Rattle.std.proofs.lemmas.List.{append-nil, append_assoc}
+use Rattle.locus_ids.specs.Sizes.{inodes_max}
 use Rattle.disk_model.specs.Cut.{Cut}
 use Rattle.pack_slots.specs.Mounting.{has_losing_gate, losing_gates}
 use Rattle.pack_slots.specs.Cutting.{losing_from, closings_left}
@@ -52,26 +53,26 @@ losing_one base image ino =
     ∙ append-nil (cond (has_losing_gate base ino image) (ino ∷ []) [])
 
 -- those below an inode, itself, and those above it
-pub losing_parts : (base : ℕ) (image : List ℕ) (n : ℕ) → n < 1024 → losing_from base image 1 1024 ≡ losing_from base image 1 n ++ (cond (has_losing_gate base (n + 1) image) ((n + 1) ∷ []) [] ++ losing_from base image (n + 2) (1023 - n))
+pub losing_parts : (base : ℕ) (image : List ℕ) (n : ℕ) → n < inodes_max → losing_from base image 1 inodes_max ≡ losing_from base image 1 n ++ (cond (has_losing_gate base (n + 1) image) ((n + 1) ∷ []) [] ++ losing_from base image (n + 2) (inodes_max - 1 - n))
 losing_parts base image n lt =
-    let e : 1024 ≡ n + (1 + (1023 - n)) = omega arith in
+    let e : inodes_max ≡ n + (1 + (inodes_max - 1 - n)) = omega arith in
     let f : 1 + n ≡ n + 1 = omega arith in
     let g : 1 + n + 1 ≡ n + 2 = omega arith in
     ap (λ (k : ℕ). losing_from base image 1 k) e
-    ∙ losing_split base image 1 n (1 + (1023 - n))
-    ∙ ap (λ (l : List ℕ). losing_from base image 1 n ++ l) (losing_split base image (1 + n) 1 (1023 - n))
-    ∙ ap (λ (l : List ℕ). losing_from base image 1 n ++ (l ++ losing_from base image (1 + n + 1) (1023 - n))) (losing_one base image (1 + n))
-    ∙ ap (λ (k : ℕ). losing_from base image 1 n ++ (cond (has_losing_gate base k image) (k ∷ []) [] ++ losing_from base image (1 + n + 1) (1023 - n))) f
-    ∙ ap (λ (k : ℕ). losing_from base image 1 n ++ (cond (has_losing_gate base (n + 1) image) ((n + 1) ∷ []) [] ++ losing_from base image k (1023 - n))) g
+    ∙ losing_split base image 1 n (1 + (inodes_max - 1 - n))
+    ∙ ap (λ (l : List ℕ). losing_from base image 1 n ++ l) (losing_split base image (1 + n) 1 (inodes_max - 1 - n))
+    ∙ ap (λ (l : List ℕ). losing_from base image 1 n ++ (l ++ losing_from base image (1 + n + 1) (inodes_max - 1 - n))) (losing_one base image (1 + n))
+    ∙ ap (λ (k : ℕ). losing_from base image 1 n ++ (cond (has_losing_gate base k image) (k ∷ []) [] ++ losing_from base image (1 + n + 1) (inodes_max - 1 - n))) f
+    ∙ ap (λ (k : ℕ). losing_from base image 1 n ++ (cond (has_losing_gate base (n + 1) image) ((n + 1) ∷ []) [] ++ losing_from base image k (inodes_max - 1 - n))) g
 
 -- where at most one inode has both gates open
-pub losing_alone : (base : ℕ) (image : List ℕ) (ino : ℕ) (b : Bool) → 1 ≤ ino → ino ≤ 1024 → has_losing_gate base ino image ≡ b → ((i : ℕ) → 1 ≤ i → i ≤ 1024 → (i ≡ ino → ⊥) → has_losing_gate base i image ≡ false) → losing_from base image 1 1024 ≡ cond b (ino ∷ []) []
+pub losing_alone : (base : ℕ) (image : List ℕ) (ino : ℕ) (b : Bool) → 1 ≤ ino → ino ≤ inodes_max → has_losing_gate base ino image ≡ b → ((i : ℕ) → 1 ≤ i → i ≤ inodes_max → (i ≡ ino → ⊥) → has_losing_gate base i image ≡ false) → losing_from base image 1 inodes_max ≡ cond b (ino ∷ []) []
 losing_alone base image ino b low high is others =
     let n = ino - 1 in
     let e : ino - 1 + 1 ≡ ino = omega arith in
     losing_parts base image n (omega arith)
-    ∙ ap (λ (l : List ℕ). l ++ (cond (has_losing_gate base (n + 1) image) ((n + 1) ∷ []) [] ++ losing_from base image (n + 2) (1023 - n))) (losing_nowhere base image 1 n (λ i from to. others i from (omega arith) (λ f. omega arith)))
-    ∙ ap (λ (l : List ℕ). cond (has_losing_gate base (n + 1) image) ((n + 1) ∷ []) [] ++ l) (losing_nowhere base image (n + 2) (1023 - n) (λ i from to. others i (omega arith) (omega arith) (λ f. omega arith)))
+    ∙ ap (λ (l : List ℕ). l ++ (cond (has_losing_gate base (n + 1) image) ((n + 1) ∷ []) [] ++ losing_from base image (n + 2) (inodes_max - 1 - n))) (losing_nowhere base image 1 n (λ i from to. others i from (omega arith) (λ f. omega arith)))
+    ∙ ap (λ (l : List ℕ). cond (has_losing_gate base (n + 1) image) ((n + 1) ∷ []) [] ++ l) (losing_nowhere base image (n + 2) (inodes_max - 1 - n) (λ i from to. others i (omega arith) (omega arith) (λ f. omega arith)))
     ∙ append-nil (cond (has_losing_gate base (n + 1) image) ((n + 1) ∷ []) [])
     ∙ ap (λ (k : ℕ). cond (has_losing_gate base k image) (k ∷ []) []) e
     ∙ ap (λ (t : Bool). cond t (ino ∷ []) []) is

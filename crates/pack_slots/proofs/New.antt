@@ -1,10 +1,11 @@
 -- A new pack is sound, and its view is the root.
-use Rattle.std.proofs.Common.{◌≡◌, ◌≢◌, ℕ, ◌+◌, ◌-◌, ◌*◌, ◌≤◌, ◌<◌, ◌^◌, Bool, true, false, List, length, get_or, refl, sym, ◌∙◌, ap, subst, arith, inl, ⊎_elim}
+use Rattle.std.proofs.Common.{◌≡◌, ◌≢◌, ℕ, ◌+◌, ◌-◌, ◌*◌, ◌≤◌, ◌<◌, Bool, true, false, List, length, get_or, refl, sym, ◌∙◌, ap, subst, arith, inl, ⊎_elim}
 use Rattle.std.specs.Prelude.{None, Some, ◌==◌, if◌then◌else◌}
 use Rattle.std.proofs.lemmas.Bool.{eqb-true, eq-eqb, true≢false, cases_Bool, cases_eq, cases_lt}
 use Rattle.std.proofs.lemmas.List.{get_or-replicate, get_or_past}
 use Rattle.std.proofs.lemmas.Nat.Bits.{bit_at-zero}
 use Rattle.std.specs.Int.{bit_at}
+use Rattle.locus_ids.specs.Sizes.{sites_max, inodes_max, content_pages_max, set_span}
 use Rattle.locus_ids.specs.declared.sites.Sites.{Sites}
 use Rattle.locus_ids.specs.Sites.{has}
 use Rattle.disk_model.specs.Images.{bytes_at, overwritten, Torn}
@@ -16,7 +17,7 @@ use Rattle.inode_switch.specs.View.{is_open, newer, counting}
 use Rattle.pack_slots.specs.Copies.{superblock, ShowsCopy, ShowsCopies}
 use Rattle.pack_slots.specs.Slots.{HasSlot, IsGoodInode, IsFound, counting_place}
 use Rattle.pack_slots.specs.Mounting.{IsSound, IsShared}
-use Rattle.gate_switch.proofs.Tearing.{bytes_below, torn_above, written_there}
+use Rattle.inode_switch.proofs.of_gate_switch.Tearing.{bytes_below, torn_above, written_there}
 use Rattle.pack_slots.specs.Format.{root_slot, new_copy, IsNew}
 
 pub stored_somewhere : (set : Sites) (site : ℕ) → has set site ≡ true → 1 ≤ set.0
@@ -34,11 +35,11 @@ none_set = record { 0 = 0 }
 
 no_counter : (i : ℕ) → get_or (root_slot none_set).vector i 0 ≡ 0
 no_counter i = ⊎_elim
-    (λ (lt : i < 16). get_or-replicate 16 i 0 0 lt)
-    (λ (le : 16 ≤ i). get_or_past (root_slot none_set).vector i 0 le)
-    (cases_lt i 16)
+    (λ (lt : i < sites_max). get_or-replicate sites_max i 0 0 lt)
+    (λ (le : sites_max ≤ i). get_or_past (root_slot none_set).vector i 0 le)
+    (cases_lt i sites_max)
 
-pub root_is_slot : (set : Sites) → 1 ≤ set.0 → set.0 < 2 ^ 16 → IsSlot (root_slot set)
+pub root_is_slot : (set : Sites) → 1 ≤ set.0 → set.0 < set_span → IsSlot (root_slot set)
 root_is_slot set some sites = record {
   turn = omega arith;
   low = omega arith;
@@ -48,7 +49,7 @@ root_is_slot set some sites = record {
   size = omega arith;
   stamp = inl (refl, refl);
   vector = record { count = refl; each = λ i. let e = no_counter i in omega arith; own = λ le. absurd (omega arith); none = λ e i. no_counter i };
-  pages = record { count = refl; inside = λ i lt. absurd (omega arith); distinct = λ i j lt below. absurd (omega arith); rest = λ i le lt. get_or-replicate 64 i 65535 0 lt };
+  pages = record { count = refl; inside = λ i lt. absurd (omega arith); distinct = λ i j lt below. absurd (omega arith); rest = λ i le lt. get_or-replicate content_pages_max i 65535 0 lt };
 }
 
 pub length-superblock : (group site : ℕ) → length (superblock group site) ≡ 1024
@@ -72,7 +73,7 @@ module _ (base group site : ℕ) (set : Sites) (image : List ℕ) (new : IsNew b
   shut_at : (place k : ℕ) → place ≡ base + k → 1536 ≤ k → k < 1049600 → is_open image place ≡ false
   shut_at place k e low high = ap (λ (n : ℕ). get_or image n 0 == 165) e ∙ ap (λ (n : ℕ). n == 165) (new.zeros k low high)
 
-  shut : (ino : ℕ) (half : Half) → 1 ≤ ino → ino ≤ 1024 → (ino ≡ 1 → half ≡ Second) → is_open image (slot_at base ino half) ≡ false
+  shut : (ino : ℕ) (half : Half) → 1 ≤ ino → ino ≤ inodes_max → (ino ≡ 1 → half ≡ Second) → is_open image (slot_at base ino half) ≡ false
   shut ino half low high other = shut_at (slot_at base ino half) (1024 + 1024 * (ino - 1) + 512 * half_number half) (omega arith)
       (⊎_elim (λ (e : ino ≡ 1). let f = ap half_number (other e) in omega arith) (λ (ne : ino ≢ 1). omega arith) (cases_eq ino 1)) (let most = half_most half in omega arith)
 
@@ -94,7 +95,7 @@ module _ (base group site : ℕ) (set : Sites) (image : List ℕ) (new : IsNew b
       (λ half. shut ino half low high (λ e. absurd (ne e))))
       (cases_eq ino 1)
 
-  good_inode : (ino : ℕ) → 1 ≤ ino → ino ≤ 1024 → IsGoodInode base ino image
+  good_inode : (ino : ℕ) → 1 ≤ ino → ino ≤ inodes_max → IsGoodInode base ino image
   good_inode ino low high = ⊎_elim
       (λ (e : ino ≡ 1). subst (λ (i : ℕ). IsGoodInode base i image) (sym e) root_good)
       (λ (ne : ino ≢ 1). record {
@@ -113,7 +114,7 @@ module _ (base group site : ℕ) (set : Sites) (image : List ℕ) (new : IsNew b
           slots First is = record { slot = root_slot set; bytes = root_found.says.bytes; is = slot; own = refl }
           slots Second is = absurd (true≢false (sym is ∙ shut 1 Second (omega arith) (omega arith) (λ e. refl)))
 
-  no_place : (ino : ℕ) → 1 < ino → ino ≤ 1024 → counting_place base ino image ≡ None
+  no_place : (ino : ℕ) → 1 < ino → ino ≤ inodes_max → counting_place base ino image ≡ None
   no_place ino low high =
       let first = slot_at base ino First in
       let second = slot_at base ino Second in

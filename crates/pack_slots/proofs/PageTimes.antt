@@ -3,6 +3,7 @@ use Rattle.std.proofs.Common.{◌≡◌, ◌≢◌, ℕ, zero, suc, ◌+◌, ◌
 use Rattle.std.specs.Prelude.{◌==◌, if◌then◌else◌}
 use Rattle.std.proofs.lemmas.Bool.{eq-eqb, ne_eqb}
 use Rattle.std.proofs.lemmas.List.{take_more}
+use Rattle.locus_ids.specs.Sizes.{pack_pages}
 use Rattle.pack_slots.specs.Copies.{times}
 
 pub times-append : (p : ℕ) (xs ys : List ℕ) → times p (xs ++ ys) ≡ times p xs + times p ys
@@ -34,7 +35,7 @@ times_all p [] (suc n) le = refl
 times_all p (x ∷ xs) zero le = absurd (omega arith)
 times_all p (x ∷ xs) (suc n) le = let rest = times_all p xs n (omega arith) in omega arith
 
-pub times_first : (p : ℕ) (xs : List ℕ) (n : ℕ) → p < 3072 → ((i : ℕ) → n ≤ i → i < length xs → get_or xs i 0 ≡ 65535) → times p xs ≡ times p (take n xs)
+pub times_first : (p : ℕ) (xs : List ℕ) (n : ℕ) → p < pack_pages → ((i : ℕ) → n ≤ i → i < length xs → get_or xs i 0 ≡ 65535) → times p xs ≡ times p (take n xs)
 times_first p [] zero small none = refl
 times_first p [] (suc n) small none = refl
 times_first p (x ∷ xs) zero small none =

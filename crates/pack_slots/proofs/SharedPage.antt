@@ -5,7 +5,8 @@ use Rattle.std.proofs.lemmas.Bool.{cases_lt}
 use Rattle.std.proofs.lemmas.List.{get_or-take}
 use Rattle.std.proofs.lemmas.List.Sums.{sum_by-le}
 use Rattle.std.proofs.lemmas.List.Elements.{All-from_get_or}
-use Rattle.file_content.specs.Pages.{pages_of}
+use Rattle.locus_ids.specs.Sizes.{inodes_max, pack_pages}
+use Rattle.pack_layout.specs.of_file_content.Pages.{pages_of}
 use Rattle.pack_layout.specs.Layout.{slot_at}
 use Rattle.inode_switch.specs.View.{page}
 use Rattle.inode_switch.proofs.SlotBytes.{says}
@@ -40,7 +41,7 @@ names_of base ino number image (Some copy) loses found some =
       is = s.pages at.0 (omega arith) ∙ sym (get_or-take n copy.slot.pages at.0 0 lt) ∙ at.2;
     }
 
-module _ (base : ℕ) (image : List ℕ) (copies : List (Option InodeCopy)) (losing : List Bool) (count : length copies ≡ 1024) (found : AreFound base 1024 image copies losing) where
+module _ (base : ℕ) (image : List ℕ) (copies : List (Option InodeCopy)) (losing : List Bool) (count : length copies ≡ inodes_max) (found : AreFound base inodes_max image copies losing) where
   abbrev own : (ino : ℕ) → IfSome (copy_of copies ino) (λ copy. IsCopy ino copy)
   own = found_own base image copies losing count found
 
@@ -65,26 +66,26 @@ module _ (base : ℕ) (image : List ℕ) (copies : List (Option InodeCopy)) (los
         second = names_of base (suc t.other) number image (copy_of copies (suc t.other)) (is_losing losing (suc t.other)) (found (suc t.other) (omega arith) (omega arith)) t.second;
       }
 
-  module _ (uses : List ℕ) (long : length uses ≡ 3072) (each : (page : ℕ) → page < 3072 → get_or uses page 0 ≡ times page (named_pages copies)) where
-    apart : ((page : ℕ) → page < 3072 → get_or uses page 0 ≤ 1) → (page : ℕ) → times page (named_pages copies) ≤ 1
+  module _ (uses : List ℕ) (long : length uses ≡ pack_pages) (each : (page : ℕ) → page < pack_pages → get_or uses page 0 ≡ times page (named_pages copies)) where
+    apart : ((page : ℕ) → page < pack_pages → get_or uses page 0 ≤ 1) → (page : ℕ) → times page (named_pages copies) ≤ 1
     apart once page = ⊎_elim
-        (λ (lt : page < 3072). omega (arith, each page lt, once page lt))
-        (λ (le : 3072 ≤ page). omega (arith, times_beyond page 3072 (named_pages copies) (named_below copies slots) le))
-        (cases_lt page 3072)
+        (λ (lt : page < pack_pages). omega (arith, each page lt, once page lt))
+        (λ (le : pack_pages ≤ page). omega (arith, times_beyond page pack_pages (named_pages copies) (named_below copies slots) le))
+        (cases_lt page pack_pages)
 
-    pub are_copies : ((page : ℕ) → page < 3072 → get_or uses page 0 ≤ 1) → AreCopies copies
+    pub are_copies : ((page : ℕ) → page < pack_pages → get_or uses page 0 ≤ 1) → AreCopies copies
     are_copies once = record { count = count; own = own; apart = apart once }
 
-    pub total_fits : ((page : ℕ) → page < 3072 → get_or uses page 0 ≤ 1) → sum uses ≡ length (named_pages copies) → length (named_pages copies) ≤ 3072
+    pub total_fits : ((page : ℕ) → page < pack_pages → get_or uses page 0 ≤ 1) → sum uses ≡ length (named_pages copies) → length (named_pages copies) ≤ pack_pages
     total_fits once whole = omega (arith, sum_by-le (λ x. x) 1 uses (All-from_get_or (λ (x : ℕ). x ≤ 1) uses 0 (λ i lt. once i (omega arith))), whole)
 
     -- and the least page that is counted twice is the least shared one
-    pub least_shared : (number : ℕ) → number < 3072 → 1 < get_or uses number 0 → ((lower : ℕ) → lower < number → get_or uses lower 0 ≤ 1) → IsLeastShared base number image
+    pub least_shared : (number : ℕ) → number < pack_pages → 1 < get_or uses number 0 → ((lower : ℕ) → lower < number → get_or uses lower 0 ≤ 1) → IsLeastShared base number image
     least_shared number lt two below = record {
       inodes = λ ino low high. found_good base ino image (copy_of copies ino) (is_losing losing ino) (found ino low high);
       shared = shared_by_two number (omega (arith, each number lt, two));
       below = λ lower less. not_shared base lower image copies own (omega (arith, each lower (omega arith), below lower less)) all;
     }
 
-    pub sound : (group site : ℕ) → IsPackOf base group site image → ((page : ℕ) → page < 3072 → get_or uses page 0 ≤ 1) → IsSound base group site image
+    pub sound : (group site : ℕ) → IsPackOf base group site image → ((page : ℕ) → page < pack_pages → get_or uses page 0 ≤ 1) → IsSound base group site image
     sound group site named once = found_sound base group site image copies (are_copies once) named all

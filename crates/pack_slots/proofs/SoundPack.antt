@@ -1,7 +1,8 @@
 -- A pack that is found in an image is sound there.
 use Rattle.std.proofs.Common.{◌≡◌, ℕ, zero, suc, ◌+◌, ◌<◌, ◌≤◌, Bool, List, take, get_or, Option, None, Some, sym, ap, subst, ◌∙◌, arith}
 use Rattle.std.specs.Prelude.{IfSome}
-use Rattle.file_content.specs.Pages.{pages_of}
+use Rattle.locus_ids.specs.Sizes.{inodes_max}
+use Rattle.pack_layout.specs.of_file_content.Pages.{pages_of}
 use Rattle.pack_layout.specs.Layout.{slot_at}
 use Rattle.inode_switch.specs.View.{size, page}
 use Rattle.inode_switch.proofs.SlotBytes.{says}
@@ -16,7 +17,7 @@ use Rattle.pack_slots.proofs.NamedPages.{named_two}
 
 -- each inode's copy is found in its slots, alone or beside one that loses
 abbrev pub AllFound : ℕ → List ℕ → List (Option InodeCopy) → Type 0
-AllFound base image copies = (ino : ℕ) → 1 ≤ ino → ino ≤ 1024 → (loses : Bool) × IsFound base ino image (copy_of copies ino) loses
+AllFound base image copies = (ino : ℕ) → 1 ≤ ino → ino ≤ inodes_max → (loses : Bool) × IsFound base ino image (copy_of copies ino) loses
 
 -- a page that the counting slot names is one of the copy
 named_in : (base ino number : ℕ) (image : List ℕ) (o : Option InodeCopy) → IfSome o (λ copy. IsCopy ino copy) → IsRecovered base ino image o → Names base ino number image → 1 ≤ times number (pages_in o)

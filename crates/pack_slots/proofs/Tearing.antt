@@ -2,8 +2,8 @@
 use Rattle.std.proofs.Common.{◌≡◌, ⊎_elim, ℕ, ◌+◌, ◌-◌, ◌*◌, ◌≤◌, ◌<◌, List, length, get_or, ◌∙◌, ap, subst, arith, inl}
 use Rattle.std.proofs.lemmas.Bool.{cases_lt}
 use Rattle.disk_model.specs.Images.{overwritten}
-use Rattle.gate_switch.proofs.Pieces.{put_outside}
-use Rattle.gate_switch.proofs.Tearing.{is_outside, put_inside}
+use Rattle.inode_switch.proofs.of_gate_switch.Pieces.{put_outside}
+use Rattle.inode_switch.proofs.of_gate_switch.Tearing.{is_outside, put_inside}
 
 -- zeros written behind zeros
 pub zeros_go_on : (now new zeros : List ℕ) (base i n : ℕ) → length zeros ≡ n → ((j : ℕ) → j < n → get_or zeros j 0 ≡ 0) → base + 1024 + n * i + n ≤ length now → new ≡ overwritten now (base + 1024 + n * i) zeros

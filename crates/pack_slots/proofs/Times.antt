@@ -1,12 +1,13 @@
 -- How often a page is among the pages of copies.
-use Rattle.std.proofs.Common.{◌≡◌, ◌≢◌, ℕ, zero, suc, ◌+◌, ◌*◌, ◌≤◌, ◌<◌, List, [], ◌∷◌, ◌++◌, length, get_or, take, replicate, refl, sym, ◌∙◌, ap, subst, arith, ⊎_elim, length-take, append_assoc, get_or-set_same, get_or-set_other}
+use Rattle.std.proofs.Common.{◌≡◌, ◌≢◌, ℕ, suc, ◌+◌, ◌*◌, ◌≤◌, ◌<◌, List, [], ◌∷◌, ◌++◌, length, get_or, take, replicate, refl, sym, ◌∙◌, ap, subst, arith, ⊎_elim, length-take, append_assoc, get_or-set_same, get_or-set_other}
 use Rattle.std.specs.Prelude.{Option, None, Some, IfSome, sum}
 use Rattle.std.proofs.lemmas.Bool.{cases_eq, cases_lt}
 use Rattle.std.proofs.lemmas.List.{take_more, get_or-take, append-nil}
 use Rattle.std.proofs.Math.ListN.{set}
 use Rattle.std.proofs.lemmas.List.Sums.{sum_by-set}
 use Rattle.std.proofs.lemmas.List.Folds.{sum_by-replicate}
-use Rattle.file_content.specs.Pages.{pages_of}
+use Rattle.locus_ids.specs.Sizes.{pack_pages}
+use Rattle.pack_layout.specs.of_file_content.Pages.{pages_of}
 use Rattle.pack_layout.specs.Layout.{IsSlot}
 use Rattle.pack_slots.specs.declared.inode_copy.InodeCopy.{InodeCopy}
 use Rattle.pack_slots.specs.Copies.{times, pages_in, named_pages}
@@ -42,12 +43,6 @@ sum_more counts number fits = let e = sum_by-set (λ x. x) counts number (get_or
 
 pub sum-zeros : (n : ℕ) → sum (replicate n 0) ≡ 0
 sum-zeros n = sum_by-replicate (λ x. x) n 0 ∙ (let e : n * 0 ≡ 0 = omega arith in e)
-
--- a page that is there is counted, and one that is counted is there
-pub times_at : (page i : ℕ) (xs : List ℕ) → i < length xs → get_or xs i 0 ≡ page → 1 ≤ times page xs
-times_at page i [] lt is = absurd (omega arith)
-times_at page zero (x ∷ xs) lt is = let e = times_same page x xs is in omega (arith, e)
-times_at page (suc i) (x ∷ xs) lt is = let e = times_at page i xs (omega arith) is in omega (arith, e)
 
 pub place_of : (page : ℕ) (xs : List ℕ) → 1 ≤ times page xs → (i : ℕ) × (i < length xs) × (get_or xs i 0 ≡ page)
 place_of page [] le = absurd (omega arith)
@@ -92,13 +87,13 @@ named_more copies i copy lt is =
     ∙ ap (λ (l : List ℕ). named_pages (take i copies) ++ l) (append-nil (pages_in (get_or copies i copy))) ∙ ap (λ (c : Option InodeCopy). named_pages (take i copies) ++ pages_in c) (sym is)
 
 -- each named page is one of the area
-pages_below : (copy : Option InodeCopy) → IfSome copy (λ one. IsSlot one.slot) → AreBelow 3072 (pages_in copy)
+pages_below : (copy : Option InodeCopy) → IfSome copy (λ one. IsSlot one.slot) → AreBelow pack_pages (pages_in copy)
 pages_below None is = tt
-pages_below (Some copy) is = below_take 3072 (pages_of copy.slot.size) copy.slot.pages is.pages.inside
+pages_below (Some copy) is = below_take pack_pages (pages_of copy.slot.size) copy.slot.pages is.pages.inside
 
-pub named_below : (copies : List (Option InodeCopy)) → AreSlots copies → AreBelow 3072 (named_pages copies)
+pub named_below : (copies : List (Option InodeCopy)) → AreSlots copies → AreBelow pack_pages (named_pages copies)
 named_below [] are = tt
-named_below (copy ∷ copies) are = below-append 3072 (pages_in copy) (named_pages copies) (pages_below copy (are 0)) (named_below copies (λ i. are (suc i)))
+named_below (copy ∷ copies) are = below-append pack_pages (pages_in copy) (named_pages copies) (pages_below copy (are 0)) (named_below copies (λ i. are (suc i)))
 
 -- a copy names each of its pages once
 pub once_in : (page : ℕ) (copy : Option InodeCopy) → IfSome copy (λ one. IsSlot one.slot) → times page (pages_in copy) ≤ 1

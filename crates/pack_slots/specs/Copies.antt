@@ -1,7 +1,8 @@
 -- The copies of a pack's inodes, the data pages that they name, and which bytes of a disk say them.
 use Rattle.std.specs.Prelude.{◌≡◌, ℕ, zero, suc, ◌+◌, ◌<◌, ◌≤◌, ◌==◌, false, List, [], ◌∷◌, ◌++◌, length, take, replicate, codes, slice_index, slice_index_or, Option, None, Some, IfSome, if◌then◌else◌}
+use Rattle.locus_ids.specs.Sizes.{inodes_max, pack_pages}
 use Rattle.disk_model.specs.Images.{bytes_at}
-use Rattle.file_content.specs.Pages.{pages_of}
+use Rattle.pack_layout.specs.of_file_content.Pages.{pages_of}
 use Rattle.pack_layout.specs.declared.half.Half.{Half}
 use Rattle.pack_layout.specs.Layout.{slot_at, slot_bytes, IsSlot, other_half}
 use Rattle.inode_switch.specs.View.{is_open}
@@ -34,15 +35,15 @@ pub record IsCopy (ino : ℕ) (copy : InodeCopy) : Type 0 where
 
 -- the copies of 1,024 inodes, no two of which share a data page
 pub record AreCopies (copies : List (Option InodeCopy)) : Type 0 where
-  pub count : length copies ≡ 1024
+  pub count : length copies ≡ inodes_max
   pub own : (ino : ℕ) → IfSome (copy_of copies ino) (λ copy. IsCopy ino copy)
   pub apart : (page : ℕ) → times page (named_pages copies) ≤ 1
 
 -- how often each of the 3,072 data pages is named, and how many are free
 pub record AreUses (copies : List (Option InodeCopy)) (uses : List ℕ) (free : ℕ) : Type 0 where
-  pub count : length uses ≡ 3072
-  pub each : (page : ℕ) → page < 3072 → slice_index uses page ≡ times page (named_pages copies)
-  pub rest : free + length (named_pages copies) ≡ 3072
+  pub count : length uses ≡ pack_pages
+  pub each : (page : ℕ) → page < pack_pages → slice_index uses page ≡ times page (named_pages copies)
+  pub rest : free + length (named_pages copies) ≡ pack_pages
 
 -- the first 1,024 bytes of an area: `LOCUSPK1`, the group, the site, zeros
 unfoldable pub superblock : ℕ → ℕ → List ℕ
@@ -64,4 +65,4 @@ ShowsCopy base ino image (Some copy) = StandsAlone base ino copy image
 
 -- each inode's open slot is its copy
 abbrev pub ShowsCopies : ℕ → List ℕ → (ℕ → Option InodeCopy) → Type 0
-ShowsCopies base image copies = (ino : ℕ) → 1 ≤ ino → ino ≤ 1024 → ShowsCopy base ino image (copies ino)
+ShowsCopies base image copies = (ino : ℕ) → 1 ≤ ino → ino ≤ inodes_max → ShowsCopy base ino image (copies ino)

@@ -1,7 +1,8 @@
 -- The inodes of which both gates are open, and what a cut mount leaves of them.
 use Rattle.std.specs.Prelude.{◌≡◌, ℕ, zero, suc, ◌+◌, true, false, cond, List, [], ◌∷◌, ◌++◌}
+use Rattle.locus_ids.specs.Sizes.{inodes_max}
 use Rattle.disk_model.specs.Cut.{Cut}
-use Rattle.gate_switch.specs.Gates.{gate_left}
+use Rattle.inode_switch.specs.of_gate_switch.Gates.{gate_left}
 use Rattle.pack_slots.specs.Mounting.{has_losing_gate, KeepsPack}
 
 -- of so many inodes from this one on those of which both slots are open
@@ -10,7 +11,7 @@ losing_from base image ino zero = []
 losing_from base image ino (suc count) = cond (has_losing_gate base ino image) (ino ∷ []) [] ++ losing_from base image (ino + 1) count
 
 abbrev pub losing_inodes : ℕ → List ℕ → List ℕ
-losing_inodes base image = losing_from base image 1 1024
+losing_inodes base image = losing_from base image 1 inodes_max
 
 -- what is still open of these gates, which are closed one after another: each closing is a write and a sync
 abbrev pub closings_left : {A : Type 0} → Cut → ℕ → List A → List A

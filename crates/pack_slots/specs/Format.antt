@@ -1,5 +1,6 @@
 -- A pack as a format leaves it.
 use Rattle.std.specs.Prelude.{◌≡◌, ℕ, ◌+◌, ◌<◌, ◌≤◌, ◌==◌, List, replicate, slice_index, Option, None, Some, if◌then◌else◌}
+use Rattle.locus_ids.specs.Sizes.{sites_max, content_pages_max}
 use Rattle.disk_model.specs.Images.{bytes_at}
 use Rattle.locus_ids.specs.declared.ids.Kind.TheVariants.{Dir}
 use Rattle.locus_ids.specs.declared.sites.Sites.{Sites}
@@ -11,7 +12,7 @@ use Rattle.pack_slots.specs.Copies.{IsPackOf}
 
 -- the root directory of a new pack: empty, stored at these sites, of the stamp 0.0
 abbrev pub root_slot : Sites → Slot
-root_slot set = record { turn = 0; kind = Dir; ino = 1; set = set; size = 0; stamp = record { site = 0; n = 0 }; vector = replicate 16 0; pages = replicate 64 65535 }
+root_slot set = record { turn = 0; kind = Dir; ino = 1; set = set; size = 0; stamp = record { site = 0; n = 0 }; vector = replicate sites_max 0; pages = replicate content_pages_max 65535 }
 
 -- a new pack has a copy of the root, in its first slot, and no other
 abbrev pub new_copy : Sites → ℕ → Option InodeCopy

@@ -5,3 +5,4 @@ pub mod Found
 pub mod Losing
 pub mod Mounting
 pub mod Slots
+pub use Rattle.inode_switch.specs as of_inode_switch

@@ -1,5 +1,6 @@
 -- How a mount goes: what it finds in all slots, and how it closes those that lose.
 use Rattle.std.specs.Prelude.{ℕ, zero, suc, ◌+◌, ◌≤◌, Bool, false, List, [], ◌∷◌, Option, None, Some, IfSome, slice_index_or, if◌then◌else◌}
+use Rattle.locus_ids.specs.Sizes.{inodes_max}
 use Rattle.disk_model.specs.Images.{Torn, overwritten}
 use Rattle.pack_layout.specs.declared.half.Half.{Half}
 use Rattle.pack_layout.specs.declared.half.Half.TheVariants.{First}
@@ -41,5 +42,5 @@ closed_if loses gate bytes = if loses then overwritten bytes gate (0 ∷ []) els
 pub record KeepsCopies (base : ℕ) (copies : List (Option InodeCopy)) (old new : List ℕ) : Type 0 where
   pub slots : Torn (base + 1024) 1048576 old new
   pub view : SameView base old new
-  pub found : (ino : ℕ) → 1 ≤ ino → ino ≤ 1024 → (loses : Bool) × IsFound base ino new (copy_of copies ino) loses
+  pub found : (ino : ℕ) → 1 ≤ ino → ino ≤ inodes_max → (loses : Bool) × IsFound base ino new (copy_of copies ino) loses
   pub order : ClosesAscending base old new

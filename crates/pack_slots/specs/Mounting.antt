@@ -1,9 +1,10 @@
 -- Which images mount as a pack, why another doesn't, and what a mount does.
 use Rattle.std.specs.Prelude.{◌≡◌, ℕ, zero, suc, ◌+◌, ◌*◌, ◌<◌, ◌≤◌, ◌&&◌, Bool, false, List, Option, Some, Result, Ok, Err, if◌then◌else◌}
+use Rattle.locus_ids.specs.Sizes.{inodes_max}
 use Rattle.disk_model.specs.declared.disk.DiskFault.{DiskFault}
 use Rattle.disk_model.specs.declared.disk.DiskFault.TheVariants.{Failed}
 use Rattle.disk_model.specs.Images.{Torn}
-use Rattle.file_content.specs.Pages.{pages_of}
+use Rattle.pack_layout.specs.of_file_content.Pages.{pages_of}
 use Rattle.pack_layout.specs.declared.half.Half.TheVariants.{First, Second}
 use Rattle.pack_layout.specs.Layout.{area_length, slot_at}
 use Rattle.inode_switch.specs.View.{is_open, size, page, SameView}
@@ -27,26 +28,26 @@ pub record IsShared (base number : ℕ) (image : List ℕ) : Type 0 where
   pub other : ℕ
   pub low : 1 ≤ one
   pub apart : one < other
-  pub high : other ≤ 1024
+  pub high : other ≤ inodes_max
   pub first : Names base one number image
   pub second : Names base other number image
 
 -- a pack of this group and site that mounts
 pub record IsSound (base group site : ℕ) (image : List ℕ) : Type 0 where
   pub named : IsPackOf base group site image
-  pub inodes : (ino : ℕ) → 1 ≤ ino → ino ≤ 1024 → IsGoodInode base ino image
+  pub inodes : (ino : ℕ) → 1 ≤ ino → ino ≤ inodes_max → IsGoodInode base ino image
   pub pages : (number : ℕ) → IsShared base number image → ⊥
 
 -- the least inode with a bad slot
 pub record IsLeastBad (base ino : ℕ) (image : List ℕ) : Type 0 where
   pub low : 1 ≤ ino
-  pub high : ino ≤ 1024
+  pub high : ino ≤ inodes_max
   pub bad : IsGoodInode base ino image → ⊥
   pub below : (lower : ℕ) → 1 ≤ lower → lower < ino → IsGoodInode base lower image
 
 -- the least page that is shared, in a pack whose slots are good
 pub record IsLeastShared (base number : ℕ) (image : List ℕ) : Type 0 where
-  pub inodes : (ino : ℕ) → 1 ≤ ino → ino ≤ 1024 → IsGoodInode base ino image
+  pub inodes : (ino : ℕ) → 1 ≤ ino → ino ≤ inodes_max → IsGoodInode base ino image
   pub shared : IsShared base number image
   pub below : (lower : ℕ) → lower < number → IsShared base lower image → ⊥
 
@@ -68,7 +69,7 @@ IsPassing NoMemory = Unit {0}
 
 -- the copies are the recovered view: for each inode the slot that counts, or none
 abbrev pub Recovers : ℕ → List ℕ → List (Option InodeCopy) → Type 0
-Recovers base image copies = (ino : ℕ) → 1 ≤ ino → ino ≤ 1024 → IsRecovered base ino image (copy_of copies ino)
+Recovers base image copies = (ino : ℕ) → 1 ≤ ino → ino ≤ inodes_max → IsRecovered base ino image (copy_of copies ino)
 
 -- both slots of the inode are open
 abbrev pub has_losing_gate : ℕ → ℕ → List ℕ → Bool
@@ -78,7 +79,7 @@ has_losing_gate base ino image = is_open image (slot_at base ino First) && is_op
 pub record ClosesAscending (base : ℕ) (old new : List ℕ) : Type 0 where
   pub n : ℕ
   pub closed : (ino : ℕ) → 1 ≤ ino → ino ≤ n → has_losing_gate base ino new ≡ false
-  pub others : (ino : ℕ) → n + 1 < ino → ino ≤ 1024 → has_losing_gate base ino new ≡ has_losing_gate base ino old
+  pub others : (ino : ℕ) → n + 1 < ino → ino ≤ inodes_max → has_losing_gate base ino new ≡ has_losing_gate base ino old
 
 -- what a crash within a mount leaves: outside the area and in its view all is as before, and a sound pack is sound
 pub record KeepsPack (base group site : ℕ) (old new : List ℕ) : Type 0 where
@@ -94,8 +95,8 @@ losing_gates base (suc n) image = losing_gates base n image + (if has_losing_gat
 
 -- the writes and syncs of a mount: two for each losing gate, and none where the image doesn't mount
 abbrev pub mount_calls : {T : Type 0} → ℕ → List ℕ → Result T MountFault → ℕ
-mount_calls base image (Ok pack) = 2 * losing_gates base 1024 image
-mount_calls base image (Err Disk) = 2 * losing_gates base 1024 image
+mount_calls base image (Ok pack) = 2 * losing_gates base inodes_max image
+mount_calls base image (Err Disk) = 2 * losing_gates base inodes_max image
 mount_calls base image (Err NotAPack) = 0
 mount_calls base image (Err (BadSlot ino)) = 0
 mount_calls base image (Err (SharedPage number)) = 0

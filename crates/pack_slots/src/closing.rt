@@ -1,7 +1,8 @@
 // Of two open slots of an inode the one that doesn't count is closed.
 ghost use Rattle.std.specs.Prelude.{◌≡◌, ◌+◌, ◌*◌, ◌≤◌, ℕ, true, length, OnOk, OnErr, if◌then◌else◌};
+ghost use Rattle.locus_ids.specs.Sizes.{inodes_max};
 ghost use Rattle.disk_model.specs.Disk.{IsSettled, HasCause, Exactly};
-ghost use Rattle.gate_switch.specs.Cutting.{CutsGate};
+ghost use Rattle.inode_switch.specs.of_gate_switch.Cutting.{CutsGate};
 ghost use Rattle.pack_layout.specs.Layout.{area_length, slot_at};
 ghost use Rattle.inode_switch.specs.Replace.{Loses};
 ghost use Rattle.inode_switch.specs.View.{SameView};
@@ -15,6 +16,7 @@ use crate::InodeCopy;
 use disk_model::{Disk, DiskFault};
 use inode_switch::close_losing_gate;
 use locus_ids::Ino;
+use locus_ids::sizes::INODES;
 use pack_layout::{Half, nth_inode};
 
 /// Closes all losing gates, inodes ascending.
@@ -26,19 +28,19 @@ pub fn close_losing<D: Disk>(
 ) -> Result<(), DiskFault>
     requires settled { IsSettled (D.moment disk.old) }
     requires area { base + area_length ≤ length (D.moment disk.old).seen }
-    requires copies { length copies.now ≡ 1024 }
-    requires losing { length losing.now ≡ 1024 }
-    requires found { AreFound base 1024 (D.moment disk.old).seen copies.now losing.now }
+    requires copies { length copies.now ≡ inodes_max }
+    requires losing { length losing.now ≡ inodes_max }
+    requires found { AreFound base inodes_max (D.moment disk.old).seen copies.now losing.now }
     ensures any_moment { LeavesOnly (D.moment disk.old) (D.moment disk.new) (KeepsCopies base copies.now (D.moment disk.old).seen) }
     ensures kept { OnOk result (KeepsCopies base copies.now (D.moment disk.old).seen (D.moment disk.new).seen) }
     ensures shows { OnOk result (ShowsCopies base (D.moment disk.new).seen (copy_of copies.now)) }
     ensures durable { OnOk result (IsSettled (D.moment disk.new)) }
     ensures cause { HasCause (D.moment disk.old).faults (D.moment disk.new).faults result }
-    ensures tells { TellsMany (2 * losing_gates base 1024 (D.moment disk.old).seen) (D.moment disk.old).passing (D.moment disk.new).passing result }
+    ensures tells { TellsMany (2 * losing_gates base inodes_max (D.moment disk.old).seen) (D.moment disk.old).passing (D.moment disk.new).passing result }
     ensures how { (D.moment disk.new).how ≡ (D.moment disk.old).how }
     ensures cut { (passed : ℕ) → (D.moment disk.old).passing ≡ Exactly passed → OnErr result (losing_inodes base (D.moment disk.new).left ≡ closings_left (D.moment disk.old).how passed (losing_inodes base (D.moment disk.old).seen)) }
 {
-    for i in 0..1024 {
+    for i in 0..INODES {
         let half = losing_half(&copies[usize::from(i)]);
         close_one(disk, base, nth_inode(i), half, losing[usize::from(i)])?;
     }

@@ -11,6 +11,7 @@ ghost use Rattle.pack_slots.specs.Format.{new_copy, root_slot, IsNew};
 
 use crate::superblock::superblock;
 use disk_model::{Disk, DiskFault};
+use locus_ids::sizes::CONTENT_PAGES;
 use locus_ids::{Kind, SiteId, Sites, Stamp};
 use pack_layout::{Slot, write_body};
 use version_vector::Vector;
@@ -108,6 +109,6 @@ fn root(set: Sites) -> Slot
         size: 0,
         stamp: Stamp { site: 0, n: 0 },
         vector: Vector::zero(),
-        pages: [0xFFFF; 64],
+        pages: [0xFFFF; CONTENT_PAGES],
     }
 }

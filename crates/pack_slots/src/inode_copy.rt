@@ -1,7 +1,7 @@
 use pack_layout::{Half, Slot};
 
 /// The version of an inode that a pack has, and in which of the inode's slots it stands.
-#[derive(Clone, Copy, Debug, PartialEq, Eq)]
+#[derive(Clone, Copy, PartialEq, Eq)]
 pub struct InodeCopy {
     pub half: Half,
     pub slot: Slot,

@@ -1,5 +1,6 @@
 // The slots of all inodes.
 ghost use Rattle.std.specs.Prelude.{◌≡◌, ℕ, ◌+◌, ◌≤◌, [], ◌∷◌, ◌++◌, length, OnOk, IfOk, IfErr};
+ghost use Rattle.locus_ids.specs.Sizes.{inodes_max};
 ghost use Rattle.disk_model.specs.Disk.{Goes, HasCause, TellsRead};
 ghost use Rattle.disk_model.specs.Images.{Same};
 ghost use Rattle.pack_layout.specs.Layout.{area_length};
@@ -12,6 +13,7 @@ use crate::slots::{Found, read_inode};
 use crate::{InodeCopy, MountFault};
 use disk_model::Disk;
 use locus_ids::NoMemory;
+use locus_ids::sizes::INODES;
 use pack_layout::nth_inode;
 use std::alloc::Global;
 
@@ -43,9 +45,9 @@ pub(crate) fn read_inodes<D: Disk>(
     base: u32,
 ) -> Result<Inodes, MountFault>
     requires { base + area_length ≤ length (D.moment disk.old).seen }
-    ensures found { IfOk result (λ read. AreFound base 1024 (D.moment disk.old).seen read.copies.items read.losing.items) }
-    ensures copies { IfOk result (λ read. length read.copies.items ≡ 1024) }
-    ensures losing { IfOk result (λ read. length read.losing.items ≡ 1024) }
+    ensures found { IfOk result (λ read. AreFound base inodes_max (D.moment disk.old).seen read.copies.items read.losing.items) }
+    ensures copies { IfOk result (λ read. length read.copies.items ≡ inodes_max) }
+    ensures losing { IfOk result (λ read. length read.losing.items ≡ inodes_max) }
     ensures fault { (group site : ℕ) → IsPackOf base group site (D.moment disk.old).seen → IfErr result (λ fault. IsCause base group site (D.moment disk.old).seen fault) }
     ensures seen { (D.moment disk.new).seen ≡ (D.moment disk.old).seen }
     ensures crash { Goes Same (D.moment disk.old) (D.moment disk.new) }
@@ -53,10 +55,10 @@ pub(crate) fn read_inodes<D: Disk>(
     ensures tells { TellsRead (D.moment disk.old).passing (D.moment disk.new).passing (disk_answer result) }
     ensures how { (D.moment disk.new).how ≡ (D.moment disk.old).how }
 {
-    let copies = Vec::with_capacity(alloc, 1024)?;
-    let losing = Vec::with_capacity(alloc, 1024)?;
+    let copies = Vec::with_capacity(alloc, INODES as usize)?;
+    let losing = Vec::with_capacity(alloc, INODES as usize)?;
     let mut inodes = Inodes { copies, losing };
-    for i in 0..1024 {
+    for i in 0..INODES {
         let Ok(found) = read_inode(disk, base, nth_inode(i))? else {
             return Err(MountFault::BadSlot { ino: i + 1 });
         };

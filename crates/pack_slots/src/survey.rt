@@ -1,5 +1,6 @@
 // What a mount finds by reading.
 ghost use Rattle.std.specs.Prelude.{◌≡◌, ◌+◌, ◌≤◌, length, IfOk, IfErr, OnOk};
+ghost use Rattle.locus_ids.specs.Sizes.{inodes_max};
 ghost use Rattle.disk_model.specs.Disk.{Goes, HasCause, TellsRead};
 ghost use Rattle.disk_model.specs.Images.{Same};
 ghost use Rattle.pack_layout.specs.Layout.{area_length};
@@ -13,6 +14,7 @@ use crate::uses::{count_uses, least_shared};
 use crate::{InodeCopy, MountFault};
 use disk_model::Disk;
 use locus_ids::SiteId;
+use locus_ids::sizes::PACK_PAGES;
 use std::alloc::Global;
 
 /// What the slots of a pack say.
@@ -38,8 +40,8 @@ pub fn read_pack<D: Disk>(
 ) -> Result<Survey, MountFault>
     requires { base + area_length ≤ length (D.moment disk.old).seen }
     ensures sound { OnOk result (IsSound base group site (D.moment disk.old).seen) }
-    ensures found { IfOk result (λ survey. AreFound base 1024 (D.moment disk.old).seen survey.copies.items survey.losing.items) }
-    ensures losing { IfOk result (λ survey. length survey.losing.items ≡ 1024) }
+    ensures found { IfOk result (λ survey. AreFound base inodes_max (D.moment disk.old).seen survey.copies.items survey.losing.items) }
+    ensures losing { IfOk result (λ survey. length survey.losing.items ≡ inodes_max) }
     ensures copies { IfOk result (λ survey. AreCopies survey.copies.items) }
     ensures uses { IfOk result (λ survey. AreUses survey.copies.items survey.uses.items survey.free) }
     ensures fault { IfErr result (λ fault. IsCause base group site (D.moment disk.old).seen fault) }
@@ -60,7 +62,7 @@ pub fn read_pack<D: Disk>(
     Ok(Survey {
         copies: inodes.copies,
         losing: inodes.losing,
-        free: 3_072 - uses.total as u16,
+        free: PACK_PAGES - uses.total as u16,
         uses: uses.counts,
     })
 }

@@ -1,6 +1,7 @@
 -- The bytes of a body of the format are few.
-use Rattle.std.proofs.Common.{◌≡◌, ℕ, suc, ◌+◌, ◌*◌, ◌≤◌, List, [], ◌∷◌, length, Option, None, Some, Bool, arith}
+use Rattle.std.proofs.Common.{◌≡◌, ℕ, suc, ◌+◌, ◌*◌, ◌≤◌, List, [], ◌∷◌, length, Option, None, Some, Bool, arith, ◌-◌}
 use Rattle.std.proofs.lemmas.List.{length-append}
+use Rattle.locus_ids.specs.Sizes.{sites_max, inodes_max, file_bytes_max, set_span}
 use Rattle.trace_book.specs.Names.{is_name}
 use Rattle.wire_fields.specs.Components.{is_component}
 use Rattle.locus_ids.specs.declared.ids.Stamp.{Stamp}
@@ -10,7 +11,7 @@ use Rattle.locus_ids.specs.declared.refusal.Refusal.{Refusal}
 use Rattle.locus_ids.specs.declared.refusal.Refusal.TheVariants as no
 use Rattle.field_codec.specs.Codec.{Codec, u8, u16, u32, within, from_to, followed_by, pair, made, empty}
 use Rattle.field_codec.specs.Lists.{counted, AllFit, spell_all}
-use Rattle.field_codec.specs.Shapes.{Spelled, bytes_of, IsInRange, cases, counted_bytes, only}
+use Rattle.field_codec.specs.Shapes.{Spelled, bytes_of, IsInRange, cases, counted_bytes}
 use Rattle.field_codec.specs.Sums.{Kinds, variant}
 use Rattle.wire_fields.proofs.Members.{range}
 use Rattle.wire_fields.specs.Parts.{sites, numbers, processes, inodes, sizes, epochs, instances, files, files_or_new, any_set, some_set, kinds, stamps, stamps_after, ascending_stamps, vectors, vectors_of, no_vector, names, components, stamp_of, parts_of, site_after, is_after, agrees}
@@ -29,9 +30,6 @@ u16_w = record { most = λ x h. omega arith }
 pub u32_w : Within 4 u32
 u32_w = record { most = λ x h. omega arith }
 
-pub empty_w : Within 0 empty
-empty_w = record { most = λ x h. omega arith }
-
 pub test_w : {A : Type 0} {n : ℕ} {c : Codec A} (test : A → Bool) → Within n c → Within n (within test c)
 test_w test w = record { most = λ x h. w.most x h.1 }
 
@@ -47,9 +45,6 @@ pair_w {d = d} w v = followed_w (λ _. d) w (λ _. v)
 pub counted_bytes_w : {m : ℕ} {count : Codec ℕ} (k : ℕ) → Within m count → ((n : ℕ) → count.Fits n → n ≤ k) → Within (m + k) (counted_bytes count)
 counted_bytes_w {count = count} k w f = record { most = λ bs h. (let a = w.most (length bs) h in let b = f (length bs) h in omega (arith, length-append (count.spell (length bs)) bs)) }
 
-pub only_w : {A : Type 0} (v : A) → Within 0 (only v)
-only_w v = record { most = λ x h. omega arith }
-
 pub spell_all_w : {A P : Type 0} (item : P → Codec A) (next : P → A → P) (n : ℕ) → ((p : P) → Within n (item p)) → (p : P) (xs : List A) → AllFit item next p xs → length (spell_all item next p xs) ≤ n * length xs
 spell_all_w item next n w p [] h = omega arith
 spell_all_w item next n w p (x ∷ xs) h =
@@ -64,7 +59,7 @@ counted_w {count = count} item next n k p w f v = record { most = λ xs h. (let 
 -- ---- the parts ----
 
 pub sites_w : Within 1 sites
-sites_w = test_w (from_to 1 16) u8_w
+sites_w = test_w (from_to 1 sites_max) u8_w
 
 pub numbers_w : Within 4 numbers
 numbers_w = test_w (from_to 1 4294967295) u32_w
@@ -73,10 +68,10 @@ pub processes_w : Within 1 processes
 processes_w = test_w (from_to 0 8) u8_w
 
 pub inodes_w : Within 2 inodes
-inodes_w = test_w (from_to 1 1024) u16_w
+inodes_w = test_w (from_to 1 inodes_max) u16_w
 
 pub sizes_w : Within 4 sizes
-sizes_w = test_w (from_to 0 65536) u32_w
+sizes_w = test_w (from_to 0 file_bytes_max) u32_w
 
 pub kinds_w : Within 1 kinds
 kinds_w = record { most = most } where
@@ -94,16 +89,16 @@ pub files_w : Within 3 files
 files_w = made_w (λ p. record { group = p.0; ino = p.1 }) (λ f. (f.group, f.ino)) (pair_w u8_w inodes_w)
 
 pub files_or_new_w : Within 3 files_or_new
-files_or_new_w = made_w (λ p. record { group = p.0; ino = p.1 }) (λ f. (f.group, f.ino)) (pair_w u8_w (test_w (from_to 0 1024) u16_w))
+files_or_new_w = made_w (λ p. record { group = p.0; ino = p.1 }) (λ f. (f.group, f.ino)) (pair_w u8_w (test_w (from_to 0 inodes_max) u16_w))
 
 pub any_set_w : Within 2 any_set
 any_set_w = made_w (λ n. record { 0 = n }) (λ s. s.0) u16_w
 
 pub some_set_w : Within 2 some_set
-some_set_w = made_w (λ n. record { 0 = n }) (λ s. s.0) (test_w (from_to 1 65535) u16_w)
+some_set_w = made_w (λ n. record { 0 = n }) (λ s. s.0) (test_w (from_to 1 (set_span - 1)) u16_w)
 
 pub stamps_after_w : (last : Option Stamp) → Within 5 (stamps_after last)
-stamps_after_w last = made_w stamp_of parts_of (followed_w (λ site. within (is_after last site) u32) (test_w (from_to (site_after last) 16) u8_w) (λ site. test_w (is_after last site) u32_w))
+stamps_after_w last = made_w stamp_of parts_of (followed_w (λ site. within (is_after last site) u32) (test_w (from_to (site_after last) sites_max) u8_w) (λ site. test_w (is_after last site) u32_w))
 
 pub stamps_w : Within 5 stamps
 stamps_w = stamps_after_w None
@@ -112,13 +107,13 @@ pub ascending_w : Within 1276 ascending_stamps
 ascending_w = counted_w stamps_after (λ _ stamp. Some stamp) 5 1275 None u8_w (λ i h. omega arith) stamps_after_w
 
 abbrev pub sixteen : Codec ℕ
-sixteen = variant (λ (_ : Unit {0}). 16) (λ _. tt) empty
+sixteen = variant (λ (_ : Unit {0}). sites_max) (λ _. tt) empty
 
 pub sixteen_w : Within 0 sixteen
 sixteen_w = record { most = λ x h. omega arith }
 
 pub vectors_w : Within 64 vectors
-vectors_w = counted_w {m = 0} {count = sixteen} (λ (_ : Unit {0}). u32) (λ _ _. tt) 4 64 tt sixteen_w (λ i h. let e : 16 ≡ i = h.0 in omega arith) (λ _. u32_w)
+vectors_w = counted_w {m = 0} {count = sixteen} (λ (_ : Unit {0}). u32) (λ _ _. tt) 4 64 tt sixteen_w (λ i h. let e : sites_max ≡ i = h.0 in omega arith) (λ _. u32_w)
 
 pub vectors_of_w : (stamp : Stamp) → Within 64 (vectors_of stamp)
 vectors_of_w stamp = test_w (agrees stamp) vectors_w

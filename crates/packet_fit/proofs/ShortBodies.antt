@@ -1,5 +1,6 @@
 -- The bytes of a body of the format are few: operations, answers, bodies.
 use Rattle.std.proofs.Common.{ℕ, ◌+◌, ◌-◌, ◌<◌, ◌≤◌, ◌^◌, ◌==◌, cond, min, length, Option, None, Some, Bool, arith}
+use Rattle.locus_ids.specs.Sizes.{sites_max, inodes_max, file_bytes_max, page_bytes, set_span}
 use Rattle.trace_book.specs.declared.operation.Op.TheVariants as op
 use Rattle.trace_book.specs.declared.operation.Outcome.{Outcome}
 use Rattle.trace_book.specs.declared.operation.Outcome.TheVariants as outcome
@@ -29,7 +30,7 @@ use Rattle.packet_fit.proofs.Short.{Within, u8_w, u16_w, u32_w, test_w, made_w, 
 -- ---- operations ----
 
 writes_w : Within 4102 writes
-writes_w = followed_w (λ at. counted_bytes (u16_in 1 (min 4096 (65536 - at)))) sizes_w (λ at. counted_bytes_w 4096 (test_w (from_to 1 (min 4096 (65536 - at))) u16_w) (λ n h. let r = range 1 (min 4096 (65536 - at)) n h.0 in omega (arith, r.1)))
+writes_w = followed_w (λ at. counted_bytes (u16_in 1 (min 4096 (file_bytes_max - at)))) sizes_w (λ at. counted_bytes_w 4096 (test_w (from_to 1 (min 4096 (file_bytes_max - at))) u16_w) (λ n h. let r = range 1 (min 4096 (file_bytes_max - at)) n h.0 in omega (arith, r.1)))
 
 op_short : (s : Seeing) → IsInRange (op_fields s) → length (bytes_of (op_fields s)) ≤ 4102
 op_short (op.Probe a, v) h = up 4102 (omega arith) (pair_w components_w no_vector_w) (a, v) h
@@ -50,7 +51,7 @@ ops_w = cases_w 4102 (λ s. op_number s.0) op_fields op_kinds op_short
 
 value_short : (o : Outcome) → IsInRange (value_fields o) → length (bytes_of (value_fields o)) ≤ 65538
 value_short outcome.Done h = omega arith
-value_short (outcome.Data bytes) h = (counted_bytes_w 65536 u16_w (λ n l. omega arith)).most bytes h
+value_short (outcome.Data bytes) h = (counted_bytes_w file_bytes_max u16_w (λ n l. omega arith)).most bytes h
 value_short (outcome.Found a b) h = up 65538 (omega arith) (pair_w inodes_w kinds_w) (a, b) h
 value_short (outcome.Committed a) h = up 65538 (omega arith) stamps_w a h
 value_short (outcome.No _) h = absurd h
@@ -83,8 +84,8 @@ modes_w : (new : Bool) → Within 1 (modes new)
 modes_w new = made_w mode_of mode_number (test_w (from_to (cond new 5 1) (cond new 5 4)) u8_w)
 
 openings_w : (new : Bool) → Within 5 (openings new)
-openings_w new = made_w opening_of numbers_of (followed_w (λ m. pair (u8_in (cond (m == 3) 1 0) (cond (m == 3) 16 0)) (pair (u16_in (cond (m == 5) 1 0) (cond (m == 5) 65535 0)) (u8_in (cond (m == 5) 1 0) (cond (m == 5) 2 0)))) (test_w (from_to (cond new 5 1) (cond new 5 4)) u8_w)
-    (λ m. pair_w (test_w (from_to (cond (m == 3) 1 0) (cond (m == 3) 16 0)) u8_w) (pair_w (test_w (from_to (cond (m == 5) 1 0) (cond (m == 5) 65535 0)) u16_w) (test_w (from_to (cond (m == 5) 1 0) (cond (m == 5) 2 0)) u8_w))))
+openings_w new = made_w opening_of numbers_of (followed_w (λ m. pair (u8_in (cond (m == 3) 1 0) (cond (m == 3) sites_max 0)) (pair (u16_in (cond (m == 5) 1 0) (cond (m == 5) (set_span - 1) 0)) (u8_in (cond (m == 5) 1 0) (cond (m == 5) 2 0)))) (test_w (from_to (cond new 5 1) (cond new 5 4)) u8_w)
+    (λ m. pair_w (test_w (from_to (cond (m == 3) 1 0) (cond (m == 3) sites_max 0)) u8_w) (pair_w (test_w (from_to (cond (m == 5) 1 0) (cond (m == 5) (set_span - 1) 0)) u16_w) (test_w (from_to (cond (m == 5) 1 0) (cond (m == 5) 2 0)) u8_w))))
 
 versions_w : Within 69 versions
 versions_w = followed_w vectors_of stamps_w vectors_of_w
@@ -94,7 +95,7 @@ made_versions_w = made_w (λ p. record { stamp = p.0; vector = p.1.0; size = p.1
 
 copies_from_w : (least : ℕ) → Within 78 (copies_from least)
 copies_from_w least = made_w (λ p. record { ino = p.0; kind = p.1.0; set = p.1.1.0; size = p.1.1.1.0; stamp = p.1.1.1.1.0; vector = p.1.1.1.1.1 }) (λ c. (c.ino, (c.kind, (c.set, (c.size, (c.stamp, c.vector))))))
-    (pair_w (test_w (from_to least 1024) u16_w) (pair_w kinds_w (pair_w some_set_w (pair_w sizes_w versions_w))))
+    (pair_w (test_w (from_to least inodes_max) u16_w) (pair_w kinds_w (pair_w some_set_w (pair_w sizes_w versions_w))))
 
 reported_copies_w : Within 5111732 reported_copies
 reported_copies_w = counted_w copies_from (λ _ copy. copy.ino + 1) 78 5111730 1 u16_w (λ i h. omega arith) copies_from_w
@@ -130,7 +131,7 @@ close_w = cases_w 67 close_number close_fields close_kinds close_short
 
 look_short : (a : LookAnswer) → IsInRange (look_fields a) → length (bytes_of (look_fields a)) ≤ 65540
 look_short (look.Found a b) h = up 65540 (omega arith) (pair_w inodes_w kinds_w) (a, b) h
-look_short (look.Content bytes) h = (counted_bytes_w 65536 sizes_w (λ n l. (range 0 65536 n l.0).1)).most bytes h
+look_short (look.Content bytes) h = (counted_bytes_w file_bytes_max sizes_w (λ n l. (range 0 file_bytes_max n l.0).1)).most bytes h
 look_short (look.Stat a b d) h = up 65540 (omega arith) (pair_w kinds_w (pair_w sizes_w stamps_w)) (a, (b, d)) h
 look_short look.Moved h = omega arith
 look_short (look.No why) h = up 65540 (omega arith) refusals_w why h
@@ -141,7 +142,7 @@ look_w = cases_w 65540 look_number look_fields look_kinds look_short
 -- ---- bodies ----
 
 entries_w : Within 1276 entries
-entries_w = counted_w (λ least. pair (u8_in least 16) numbers) (λ _ (entry : Entry). entry.0 + 1) 5 1275 1 u8_w (λ i h. omega arith) (λ least. pair_w (test_w (from_to least 16) u8_w) numbers_w)
+entries_w = counted_w (λ least. pair (u8_in least sites_max) numbers) (λ _ (entry : Entry). entry.0 + 1) 5 1275 1 u8_w (λ i h. omega arith) (λ least. pair_w (test_w (from_to least sites_max) u8_w) numbers_w)
 
 members_w : Within 1276 members
 members_w = record { most = λ m h. entries_w.most (entries_of m) h.1 }
@@ -175,7 +176,7 @@ few (body.LookSs a b d e f g i j) h = up 6000000 (omega arith) (pair_w sites_w (
 few (body.LookDone a b d e) h = up 6000000 (omega arith) (pair_w u32_w (pair_w u16_w (pair_w u32_w look_w))) (a, (b, (d, e))) h
 few (body.Notify a b d e f g i) h = up 6000000 (omega arith) (pair_w files_w (pair_w kinds_w (pair_w some_set_w (pair_w sizes_w (pair_w versions_w sites_w))))) (a, (b, (d, (e, ((f, g), i))))) h
 few (body.Pull a b d) h = up 6000000 (omega arith) pages_w (a, (b, d)) h
-few (body.Page a b d e) h = up 6000000 (omega arith) (pair_w pages_w (counted_bytes_w 1024 (test_w (from_to 1 1024) u16_w) (λ n l. (range 1 1024 n l.0).1))) ((a, (b, d)), e) h
+few (body.Page a b d e) h = up 6000000 (omega arith) (pair_w pages_w (counted_bytes_w page_bytes (test_w (from_to 1 page_bytes) u16_w) (λ n l. (range 1 page_bytes n l.0).1))) ((a, (b, d)), e) h
 few (body.Have a b) h = up 6000000 (omega arith) (pair_w files_w stamps_w) (a, b) h
 
 pub short : (b : Body) → FitsBody b → length (body_bytes b) < 2 ^ 32

@@ -7,6 +7,7 @@ ghost use Rattle.wire_fields.specs.Parts.{inodes, sizes};
 use crate::fields::{is_inode, is_site, is_size, is_some_set, is_stamp, is_vector, is_version};
 use crate::operations::{is_found, is_kind};
 use crate::refusals::is_refusal;
+use locus_ids::sizes::{FILE_BYTES, INODES, SITES};
 use locus_ids::{Bytes, FileId, Kind, Mode, SiteId, Stamp};
 use version_vector::Vector;
 use wire_messages::{
@@ -53,7 +54,7 @@ pub fn is_copy_from(least: u16, copy: &ReportedCopy) -> bool
     ensures { IsTrue result ↔ (copies_from least).Fits copy.now }
 {
     least <= copy.ino
-        && copy.ino <= 1_024
+        && copy.ino <= INODES
         && is_some_set(copy.set)
         && is_kind(copy.kind)
         && is_size(copy.size)
@@ -76,7 +77,7 @@ pub fn is_opened_answer(answer: &OpenedAs) -> bool
     }
 }
 
-fn is_grant(ss: SiteId, ino: u16, size: u32, stamp: Stamp, vector: &Vector<16>) -> bool
+fn is_grant(ss: SiteId, ino: u16, size: u32, stamp: Stamp, vector: &Vector<SITES>) -> bool
     ensures { IsTrue result ↔ grants.Fits (ss, (ino, (size, (stamp, vector.now)))) }
 {
     is_site(ss.get()) && is_inode(ino) && is_size(size) && is_stamp(stamp) && is_vector(vector)
@@ -112,7 +113,7 @@ pub fn is_close_answer(answer: &CloseAnswer) -> bool
 fn is_content(bytes: &Bytes) -> bool
     ensures { IsTrue result ↔ contents.Fits bytes.now }
 {
-    bytes.len() <= 65_536
+    bytes.len() <= FILE_BYTES
 }
 
 fn is_stat(kind: Kind, size: u32, stamp: Stamp) -> bool

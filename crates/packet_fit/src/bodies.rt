@@ -12,6 +12,7 @@ use crate::fields::{
 use crate::lists::{are_ascending, are_copies};
 use crate::memberships::are_members;
 use crate::operations::{is_kind, is_operation, is_outcome, is_what};
+use locus_ids::sizes::{PAGE_BYTES, SITES};
 use locus_ids::{Bytes, EpochId, FileId, Kind, Mode, Serial, SiteId, Sites, Stamp, Stamps};
 use trace_book::{Op, Outcome, What};
 use version_vector::Vector;
@@ -56,7 +57,7 @@ fn is_open_ss(
     set: Sites,
     kind: Kind,
     base: Stamp,
-    vector: &Vector<16>,
+    vector: &Vector<SITES>,
     parents: &Stamps,
 ) -> bool
     ensures { IsTrue result ↔ FitsBody (Body.OpenSs inst file mode set kind base vector.now parents.now) }
@@ -83,7 +84,7 @@ fn is_open_done(serial: u32, answer: &Granted) -> bool
     is_number(serial) && is_granted_answer(answer)
 }
 
-fn is_op(serial: u32, number: u32, op: &Op, seen: &Vector<16>) -> bool
+fn is_op(serial: u32, number: u32, op: &Op, seen: &Vector<SITES>) -> bool
     ensures { IsTrue result ↔ FitsBody (Body.Op serial number op.now seen.now) }
 {
     is_number(serial) && is_operation(op, seen)
@@ -152,7 +153,7 @@ fn is_notice(
     set: Sites,
     size: u32,
     stamp: Stamp,
-    vector: &Vector<16>,
+    vector: &Vector<SITES>,
     holder: SiteId,
 ) -> bool
     ensures { IsTrue result ↔ FitsBody (Body.Notify file kind set size stamp vector.now holder) }
@@ -174,7 +175,7 @@ fn is_pull(file: FileId, stamp: Stamp, page: u8) -> bool
 fn is_page(file: FileId, stamp: Stamp, page: u8, bytes: &Bytes) -> bool
     ensures { IsTrue result ↔ FitsBody (Body.Page file stamp page bytes.now) }
 {
-    is_file(file) && is_stamp(stamp) && 1 <= bytes.len() && bytes.len() <= 1_024
+    is_file(file) && is_stamp(stamp) && 1 <= bytes.len() && bytes.len() <= PAGE_BYTES
 }
 
 fn is_have(file: FileId, stamp: Stamp) -> bool

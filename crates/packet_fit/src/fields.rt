@@ -1,17 +1,19 @@
 //! The fields that packets are made of.
 
 ghost use Rattle.std.specs.Prelude.{◌≡◌, ◌↔◌, ◌<◌, ◌≤◌, IsTrue, None, Some, replicate};
+ghost use Rattle.locus_ids.specs.Sizes.{sites_max};
 ghost use Rattle.wire_fields.specs.Parts.{sites, numbers, processes, inodes, sizes, epochs, instances, files, files_or_new, some_set, stamps, ascending_stamps, vectors, vectors_of, no_vector, names, components, is_stamp, is_after};
 ghost use Rattle.wire_messages.specs.Answers.{versions};
 
+use locus_ids::sizes::{FILE_BYTES, INODES, SITES};
 use locus_ids::{Bytes, EpochId, FileId, Serial, Sites, Stamp, Stamps};
 use version_vector::Vector;
-use wire_fields::{agrees, is_component, is_name};
+use wire_parts::{agrees, is_component, is_name};
 
 pub fn is_site(site: u8) -> bool
     ensures { IsTrue result ↔ sites.Fits site }
 {
-    1 <= site && site <= 16
+    1 <= site && site <= SITES as u8
 }
 
 pub fn is_number(number: u32) -> bool
@@ -29,13 +31,13 @@ pub fn is_process(process: u8) -> bool
 pub fn is_inode(ino: u16) -> bool
     ensures { IsTrue result ↔ inodes.Fits ino }
 {
-    1 <= ino && ino <= 1_024
+    1 <= ino && ino <= INODES
 }
 
 pub fn is_size(size: u32) -> bool
     ensures { IsTrue result ↔ sizes.Fits size }
 {
-    size <= 65_536
+    size <= FILE_BYTES as u32
 }
 
 pub fn is_epoch(epoch: EpochId) -> bool
@@ -60,7 +62,7 @@ pub fn is_file(file: FileId) -> bool
 pub fn is_file_or_new(file: FileId) -> bool
     ensures { IsTrue result ↔ files_or_new.Fits file }
 {
-    file.ino <= 1_024
+    file.ino <= INODES
 }
 
 pub fn is_some_set(set: Sites) -> bool
@@ -73,39 +75,39 @@ pub fn is_some_set(set: Sites) -> bool
 pub fn is_stamp(stamp: Stamp) -> bool
     ensures { IsTrue result ↔ stamps.Fits stamp }
 {
-    stamp.site <= 16 && (stamp.site == 0) == (stamp.n == 0)
+    stamp.site <= SITES as u8 && (stamp.site == 0) == (stamp.n == 0)
 }
 
 fn are_counters(counters: &[u32]) -> bool
     ensures { IsTrue result ↔ vectors.Fits counters.now }
 {
-    counters.len() == 16
+    counters.len() == SITES
 }
 
 /// Each vector is one of the format.
-pub fn is_vector(vector: &Vector<16>) -> bool
+pub fn is_vector(vector: &Vector<SITES>) -> bool
     ensures { IsTrue result ↔ vectors.Fits vector.now }
 {
     are_counters(&vector.parts())
 }
 
 /// A vector agrees with the stamp.
-fn is_vector_of(stamp: Stamp, vector: &Vector<16>) -> bool
-    requires { stamp.site ≤ 16 }
+fn is_vector_of(stamp: Stamp, vector: &Vector<SITES>) -> bool
+    requires { stamp.site ≤ sites_max }
     ensures { IsTrue result ↔ (vectors_of stamp).Fits vector.now }
 {
     agrees(stamp, vector) && is_vector(vector)
 }
 
 /// A vector is one of the format, and agrees with the stamp.
-pub fn is_version(stamp: Stamp, vector: &Vector<16>) -> bool
+pub fn is_version(stamp: Stamp, vector: &Vector<SITES>) -> bool
     ensures { IsTrue result ↔ versions.Fits (stamp, vector.now) }
 {
-    is_stamp(stamp) && stamp.site <= 16 && is_vector_of(stamp, vector)
+    is_stamp(stamp) && stamp.site <= SITES as u8 && is_vector_of(stamp, vector)
 }
 
 /// A vector is zero.
-pub fn is_no_vector(vector: &Vector<16>) -> bool
+pub fn is_no_vector(vector: &Vector<SITES>) -> bool
     ensures { IsTrue result ↔ no_vector.Fits vector.now }
 {
     *vector == Vector::zero()

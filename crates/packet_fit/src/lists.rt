@@ -4,6 +4,7 @@ ghost use Rattle.wire_fields.specs.Parts.{stamps_after, ascending_stamps};
 ghost use Rattle.wire_messages.specs.Answers.{copies_from, reported_copies};
 
 use crate::answers::is_copy_from;
+use locus_ids::sizes::{INODES, SITES};
 use locus_ids::{Stamp, Stamps};
 use wire_messages::{ReportedCopies, ReportedCopy};
 
@@ -14,7 +15,9 @@ fn are_copies_from(least: u16, copies: &[ReportedCopy]) -> bool
     match copies {
         [] => true,
         [first, rest @ ..] => {
-            is_copy_from(least, first) && first.ino <= 1_024 && are_copies_from(first.ino + 1, rest)
+            is_copy_from(least, first)
+                && first.ino <= INODES
+                && are_copies_from(first.ino + 1, rest)
         }
     }
 }
@@ -30,7 +33,7 @@ pub fn are_copies(copies: &ReportedCopies) -> bool
 fn is_stamp_after(last: Option<Stamp>, stamp: Stamp) -> bool
     ensures { IsTrue result ↔ (stamps_after last).Fits stamp }
 {
-    if stamp.site > 16 || (stamp.site == 0) != (stamp.n == 0) {
+    if stamp.site > SITES as u8 || (stamp.site == 0) != (stamp.n == 0) {
         return false;
     }
     match last {

@@ -8,6 +8,7 @@ use crate::fields::{
     is_component_field, is_inode, is_name_field, is_no_vector, is_size, is_stamp, is_vector,
 };
 use crate::refusals::is_refusal;
+use locus_ids::sizes::{FILE_BYTES, SITES};
 use locus_ids::{Bytes, Kind};
 use trace_book::{Op, Outcome, What};
 use version_vector::Vector;
@@ -16,7 +17,10 @@ use version_vector::Vector;
 fn is_write(at: u32, bytes: &Bytes) -> bool
     ensures { IsTrue result ↔ writes.Fits (at, bytes.now) }
 {
-    is_size(at) && 1 <= bytes.len() && bytes.len() <= 4_096 && bytes.len() + at as usize <= 65_536
+    is_size(at)
+        && 1 <= bytes.len()
+        && bytes.len() <= 4_096
+        && bytes.len() + at as usize <= FILE_BYTES
 }
 
 fn is_read(at: u32, len: u16) -> bool
@@ -40,50 +44,50 @@ fn is_insert(name: &Bytes, ino: u16, kind: Kind) -> bool
     is_name_field(name) && is_inode(ino) && is_kind(kind)
 }
 
-fn is_probe(component: &Bytes, seen: &Vector<16>) -> bool
+fn is_probe(component: &Bytes, seen: &Vector<SITES>) -> bool
     ensures { IsTrue result ↔ (pair components no_vector).Fits (component.now, seen.now) }
 {
     is_component_field(component) && is_no_vector(seen)
 }
 
-fn is_insert_op(name: &Bytes, ino: u16, kind: Kind, seen: &Vector<16>) -> bool
+fn is_insert_op(name: &Bytes, ino: u16, kind: Kind, seen: &Vector<SITES>) -> bool
     ensures { IsTrue result ↔ (pair inserts no_vector).Fits ((name.now, (ino, kind)), seen.now) }
 {
     is_insert(name, ino, kind) && is_no_vector(seen)
 }
 
-fn is_remove(name: &Bytes, ino: u16, seen: &Vector<16>) -> bool
+fn is_remove(name: &Bytes, ino: u16, seen: &Vector<SITES>) -> bool
     ensures { IsTrue result ↔ (pair (pair names inodes) vectors).Fits ((name.now, ino), seen.now) }
 {
     is_name_field(name) && is_inode(ino) && is_vector(seen)
 }
 
-fn is_rename(component: &Bytes, name: &Bytes, seen: &Vector<16>) -> bool
+fn is_rename(component: &Bytes, name: &Bytes, seen: &Vector<SITES>) -> bool
     ensures { IsTrue result ↔ (pair (pair components names) no_vector).Fits ((component.now, name.now), seen.now) }
 {
     is_component_field(component) && is_name_field(name) && is_no_vector(seen)
 }
 
-fn is_read_op(at: u32, len: u16, seen: &Vector<16>) -> bool
+fn is_read_op(at: u32, len: u16, seen: &Vector<SITES>) -> bool
     ensures { IsTrue result ↔ (pair reads no_vector).Fits ((at, len), seen.now) }
 {
     is_read(at, len) && is_no_vector(seen)
 }
 
-fn is_write_op(at: u32, bytes: &Bytes, seen: &Vector<16>) -> bool
+fn is_write_op(at: u32, bytes: &Bytes, seen: &Vector<SITES>) -> bool
     ensures { IsTrue result ↔ (pair writes no_vector).Fits ((at, bytes.now), seen.now) }
 {
     is_write(at, bytes) && is_no_vector(seen)
 }
 
-fn is_cut(len: u32, seen: &Vector<16>) -> bool
+fn is_cut(len: u32, seen: &Vector<SITES>) -> bool
     ensures { IsTrue result ↔ (pair sizes no_vector).Fits (len, seen.now) }
 {
     is_size(len) && is_no_vector(seen)
 }
 
 /// An operation, with the vector of an entry that a remove has seen.
-pub fn is_operation(op: &Op, seen: &Vector<16>) -> bool
+pub fn is_operation(op: &Op, seen: &Vector<SITES>) -> bool
     ensures { IsTrue result ↔ IsInRange (op_fields (op.now, seen.now)) }
 {
     match op {

@@ -126,8 +126,8 @@ acts_low n s v o w here same h =
     acts_cases Low n s v o w
     (happened_low n o.sent o.told (λ now. puts s (Running o.view) now) w (put_low s (Running o.view) w (total (told_size n) o.told) (own_low s (Running v) (Running o.view) w (total (told_size n) o.told) here same h) h) h)
     (λ a. happened_low n o.sent o.told (λ now. puts s (Running o.view) (arms a now)) w (put_low s (Running o.view) (arms a w) (total (told_size n) o.told) (own_low s (Running v) (Running o.view) w (total (told_size n) o.told) here same h) (record { boots = h.boots; room = h.room })) h)
-    (λ d a e. happened_low n [] (cut_told s d a.how a.left) (stops_with s (cut_disk v.boot v.store d a.how a.left)) w
-    (put_low s (Stopped (cut_disk v.boot v.store d a.how a.left)) w (total (told_size n) (cut_told s d a.how a.left)) (own_low s (Running v) (Stopped (cut_disk v.boot v.store d a.how a.left)) w (total (told_size n) (cut_told s d a.how a.left)) here refl h) h) h)
+    (λ d a e. happened_low n [] (cut_told s v.store d a.how a.left) (stops_with s (cut_disk v.boot v.store d a.how a.left)) w
+    (put_low s (Stopped (cut_disk v.boot v.store d a.how a.left)) w (total (told_size n) (cut_told s v.store d a.how a.left)) (own_low s (Running v) (Stopped (cut_disk v.boot v.store d a.how a.left)) w (total (told_size n) (cut_told s v.store d a.how a.left)) here refl h) h) h)
 
 -- a boot prints a record
 booted_low : (n s : ℕ) (d : Disk) (q : Record) (p : Place) (change : World → World) (w : World) → place_at w s ≡ Some (Stopped d) → boot_on (Some p) ≤ d.label.boot + 1 → ((t : ℕ) → boot_number (change w) t ≡ boot_number (puts s p w) t) → Low w → Low (happened n [] (Shown q ∷ []) change w)

@@ -1,6 +1,7 @@
 -- A step that begins a round has a packet or a record.
 use Rattle.std.proofs.Common.{◌≡◌, ◌≤◌, ℕ, ◌+◌, ◌==◌, ◌⊎◌, Bool, true, false, cond, not, List, [], ◌∷◌, ◌++◌, length, map, filter, Option, Some, None, refl, sym, subst, inl, inr, arith}
 use Rattle.std.proofs.lemmas.Bool.Decides.{nat_tests}
+use Rattle.role_steps.proofs.of_plain_facts.Tests.{true_false}
 use Rattle.locus_ids.specs.declared.ids.EpochId.{EpochId}
 use Rattle.locus_ids.specs.declared.sites.Links.{Links}
 use Rattle.locus_ids.specs.declared.config.Config.{Config}
@@ -54,9 +55,6 @@ append_total f (x ∷ xs) ys = omega (arith, append_total f xs ys)
 map_length : {A B : Type 0} (f : A → B) (xs : List A) → length (map f xs) ≡ length xs
 map_length f [] = refl
 map_length f (x ∷ xs) = omega (arith, map_length f xs)
-
-true_false : true ≡ false → ⊥
-true_false e = cc
 
 -- a weaker test lets one more through
 pass_if : {A : Type 0} (a b : Bool) (x : A) (more fewer : List A) → (b ≡ true → a ≡ true) → (1 ≤ length fewer → 1 ≤ length more) → 1 ≤ length (cond b (x ∷ fewer) fewer) → 1 ≤ length (cond a (x ∷ more) more)

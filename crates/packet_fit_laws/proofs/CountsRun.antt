@@ -1,6 +1,7 @@
 -- In every run no site has counted many calls or opens.
 use Rattle.std.proofs.Common.{◌≡◌, ◌≤◌, ℕ, ◌+◌, ◌==◌, Bool, true, false, cond, ◌&&◌, not, List, [], ◌∷◌, ◌++◌, length, map, Option, Some, None, refl, sym, ◌∙◌, ap, subst, arith}
 use Rattle.std.proofs.lemmas.Bool.Decides.{nat_tests}
+use Rattle.role_steps.proofs.of_plain_facts.Options.{some_same}
 use Rattle.locus_ids.specs.declared.ids.EpochId.{EpochId}
 use Rattle.locus_ids.specs.declared.sites.Sites.{Sites}
 use Rattle.locus_ids.specs.declared.sites.Members.{Members}
@@ -32,7 +33,7 @@ use Rattle.the_run.specs.Worlds.{World, Place, Running, Stopped, Limit, place_at
 use Rattle.the_run.specs.Runs.{boots_as, run_in}
 use Rattle.the_run.proofs.Boots.{at_each, acts_cases}
 use Rattle.the_run.proofs.Events.{puts_other}
-use Rattle.the_run.proofs.Runs.{every_run, some_eq}
+use Rattle.the_run.proofs.Runs.{every_run}
 use Rattle.epoch_laws.proofs.Run.{running_view, stopped_never, none_never, place_there}
 use Rattle.packet_fit_laws.specs.Counts.{CountsAreLow}
 use Rattle.packet_fit_laws.proofs.Costs.{order_length, append_length, append_total}
@@ -49,9 +50,6 @@ Stays v now = (now.users.calls ≡ v.users.calls) × (now.users.serials ≡ v.us
 
 stays_rise : (n : ℕ) (v : SiteView) (o : Outcome SiteView) → Stays v o.view → SiteRises n v o
 stays_rise n v o h = same_counts n v.users o.view.users (spent n o) h.0 h.1
-
-stays_on : (v u w : SiteView) → Stays v u → Stays u w → Stays v w
-stays_on v u w h g = (g.0 ∙ h.0, g.1 ∙ h.1)
 
 then_rise : (n : ℕ) (v : SiteView) (o : Outcome SiteView) (f : SiteView → Outcome SiteView) → SiteRises n v o → SiteRises n o.view (f o.view) → SiteRises n v (and_then o f)
 then_rise n v o f h g = rises_then n v.users o.view.users (f o.view).view.users (spent n o) (spent n (f o.view)) (spent n (and_then o f)) (omega (arith, spent_both n o (f o.view))) h g
@@ -296,7 +294,7 @@ acts_counted n s v o w here h g =
     acts_cases Counted n s v o w
     (happened_counted n o.sent o.told (λ now. puts s (Running o.view) now) w views g)
     (λ a. happened_counted n o.sent o.told (λ now. puts s (Running o.view) (arms a now)) w views g)
-    (λ d a e. stops_counted n s (cut_disk v.boot v.store d a.how a.left) (cut_told s d a.how a.left) w g)
+    (λ d a e. stops_counted n s (cut_disk v.boot v.store d a.how a.left) (cut_told s v.store d a.how a.left) w g)
   where
     old : Counts (size w) v
     old = g.views s v here
@@ -334,7 +332,7 @@ first_counts : (c : Config) (ss : List ℕ) (s : ℕ) (v : SiteView) → place_i
 first_counts c [] s v e = absurd (none_never v e)
 first_counts c (t ∷ ts) s v e =
     (elim (t == s) as (λ b. place_in (elim b [ true ↦ Some (first_place c t) | false ↦ row place_site s (map (first_place c) ts) ]) ≡ Some (Running v) → Counts 0 v) [
-      | true ↦ λ f. subst (λ (y : SiteView). Counts 0 y) (running_view (fresh 1 (formatted c t)) v (some_eq (Running (fresh 1 (formatted c t))) (Running v) f)) (omega arith, omega arith)
+      | true ↦ λ f. subst (λ (y : SiteView). Counts 0 y) (running_view (fresh 1 (formatted c t)) v (some_same (Running (fresh 1 (formatted c t))) (Running v) f)) (omega arith, omega arith)
       | false ↦ λ f. first_counts c ts s v f
     ]) e
 

@@ -1,6 +1,7 @@
 -- Each new number of an epoch costs a packet or a record, and there is room for so many: so none is great.
 use Rattle.std.proofs.Common.{◌≡◌, ◌≤◌, ℕ, ◌+◌, ◌==◌, ◌⊎◌, true, false, List, [], ◌∷◌, length, map, Option, Some, None, refl, sym, ◌∙◌, ap, subst, inl, inr, arith}
 use Rattle.std.proofs.lemmas.Bool.Decides.{nat_tests}
+use Rattle.role_steps.proofs.of_plain_facts.Options.{none_some, some_same}
 use Rattle.locus_ids.specs.declared.ids.EpochId.{EpochId}
 use Rattle.locus_ids.specs.declared.sites.Links.{Links}
 use Rattle.locus_ids.specs.declared.config.Config.{Config}
@@ -24,11 +25,10 @@ use Rattle.the_run.specs.Runs.{boots_as, run_in}
 use Rattle.the_run.proofs.Boots.{at_each, acts_cases, every_newest, every_numbered, every_weaker}
 use Rattle.the_run.proofs.Events.{puts_other}
 use Rattle.the_run.proofs.InsideSync.{every_without}
-use Rattle.the_run.proofs.Runs.{every_run, some_eq}
+use Rattle.the_run.proofs.Runs.{every_run}
 use Rattle.run_laws.specs.Naming.{MayCome}
 use Rattle.run_laws.proofs.Run.{found_among}
 use Rattle.epoch_laws.specs.Forming.{TableFormless}
-use Rattle.epoch_laws.proofs.Handlers.{none_is}
 use Rattle.epoch_laws.proofs.Run.{running_view, stopped_never, none_never, place_there}
 use Rattle.packet_fit_laws.specs.Fields.{IsSite, IsBoot}
 use Rattle.packet_fit_laws.proofs.Places.{Placed, placed_kept, first_placed, own_place}
@@ -185,7 +185,7 @@ acts_counted n s v o w f g =
     acts_cases (λ (u : World). Placed u → Counted u) n s v o w
     (λ k. happened_counted n o.sent o.told (λ now. puts s (Running o.view) now) w views refl refl f.sent g k)
     (λ a k. happened_counted n o.sent o.told (λ now. puts s (Running o.view) (arms a now)) w views refl refl f.sent g k)
-    (λ d a e k. stops_counted n s (cut_disk v.boot v.store d a.how a.left) (cut_told s d a.how a.left) w g k)
+    (λ d a e k. stops_counted n s (cut_disk v.boot v.store d a.how a.left) (cut_told s v.store d a.how a.left) w g k)
   where
     views : (t : ℕ) (u : SiteView) → place_at (puts s (Running o.view) w) t ≡ Some (Running u) → Site (IdFits (size w + cost n o)) u
     views = put_views s (Running o.view) w (size w + cost n o) (omega arith) (λ u e. subst (λ (y : SiteView). Site (IdFits (size w + cost n o)) y) (running_view o.view u e) f.view) g
@@ -222,7 +222,7 @@ passed_counted : (c : Config) (k : ℕ) (w : World) → Counted w → Counted (p
 passed_counted c k w g = record { placed = (placed_kept c).passes k w g.placed; sent = g.sent; underway = every_without (Numbers (size w)) number_of k w.underway g.underway; views = g.views; room = g.room }
 
 fresh_site : (m : ℕ) (v : SiteView) → v.promised ≡ no_epoch → v.round ≡ None → v.epoch ≡ None → Every TableFormless v.tables → Site (IdFits m) v
-fresh_site m v p r e t = record { promised = inl p; round = λ x h. absurd (none_is x (sym r ∙ h)); inside = λ x h. absurd (none_is x (sym e ∙ h)); tables = t }
+fresh_site m v p r e t = record { promised = inl p; round = λ x h. absurd (none_some x (sym r ∙ h)); inside = λ x h. absurd (none_some x (sym e ∙ h)); tables = t }
 
 fresh_views : (s : ℕ) (x : Disk) (w : World) (m : ℕ) → size w ≤ m → Counted w → (t : ℕ) (u : SiteView) → place_at (puts s (Running (fresh x.label.boot x.copies)) w) t ≡ Some (Running u) → Site (IdFits m) u
 fresh_views s x w m le g = put_views s (Running (fresh x.label.boot x.copies)) w m le (λ v e. subst (λ (y : SiteView). Site (IdFits m) y) (running_view (fresh x.label.boot x.copies) v e) (fresh_site m (fresh x.label.boot x.copies) refl refl refl tt)) g
@@ -253,7 +253,7 @@ first_views : (c : Config) (ss : List ℕ) (s : ℕ) (v : SiteView) → place_in
 first_views c [] s v e = absurd (none_never v e)
 first_views c (t ∷ ts) s v e =
     (elim (t == s) as (λ b. place_in (elim b [ true ↦ Some (first_place c t) | false ↦ row place_site s (map (first_place c) ts) ]) ≡ Some (Running v) → Site (IdFits 0) v) [
-      | true ↦ λ f. subst (λ (y : SiteView). Site (IdFits 0) y) (running_view (fresh 1 (formatted c t)) v (some_eq (Running (fresh 1 (formatted c t))) (Running v) f)) (fresh_site 0 (fresh 1 (formatted c t)) refl refl refl tt)
+      | true ↦ λ f. subst (λ (y : SiteView). Site (IdFits 0) y) (running_view (fresh 1 (formatted c t)) v (some_same (Running (fresh 1 (formatted c t))) (Running v) f)) (fresh_site 0 (fresh 1 (formatted c t)) refl refl refl tt)
       | false ↦ λ f. first_views c ts s v f
     ]) e
 

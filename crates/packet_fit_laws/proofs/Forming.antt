@@ -1,5 +1,7 @@
 -- What a step of a site names: ids of epochs that were known, or the new one that it begins a round with.
 use Rattle.std.proofs.Common.{◌≡◌, ℕ, ◌+◌, ◌⊎◌, Bool, true, false, cond, ◌&&◌, not, List, [], ◌∷◌, ◌++◌, map, Option, Some, None, refl, sym, ◌∙◌, subst, inl, inr}
+use Rattle.role_steps.proofs.of_plain_facts.Options.{none_some, some_same}
+use Rattle.role_steps.proofs.of_plain_facts.Tests.{true_false}
 use Rattle.locus_ids.specs.declared.ids.EpochId.{EpochId}
 use Rattle.locus_ids.specs.declared.sites.Sites.{Sites}
 use Rattle.locus_ids.specs.declared.sites.Members.{Members}
@@ -24,11 +26,9 @@ use Rattle.the_run.proofs.StepSends.{order_sent}
 use Rattle.run_laws.specs.Naming.{IsInEpoch, Inner}
 use Rattle.run_laws.proofs.InsideSteps.{framed_inner, adopts_of_inner, tries_inner, mends_of_inner, quiet_inner, call_inner, repeats_in_epoch}
 use Rattle.epoch_laws.specs.Forming.{FormsNone, Formless, TableFormless, FormlessSite}
-use Rattle.epoch_laws.proofs.Handlers.{some_is, none_is, leaves_of_epoch}
+use Rattle.epoch_laws.proofs.Handlers.{leaves_of_epoch}
 use Rattle.epoch_laws.proofs.Parts.{every_both}
-use Rattle.epoch_laws.proofs.RolesForm.{on_call_forms}
-use Rattle.epoch_laws.proofs.SitesForm.{formless_quiet, adopts_of_formless, tries_formless, mends_of_formless, framed_formless}
-use Rattle.epoch_laws.proofs.Steps.{inside_formless}
+use Rattle.epoch_laws.proofs.Forms.{on_call_forms, formless_quiet, adopts_of_formless, tries_formless, mends_of_formless, framed_formless, inside_formless}
 
 -- ---- ids that are known ----
 
@@ -100,7 +100,7 @@ inner_fine P v o f i h = record {
 leaves_fine : (P : Ids) (me : ℕ) (e : Option InEpoch) (v : SiteView) → Site P v → Fine P (leaves_of me e v)
 leaves_fine P me None v h = quiet_fine P v h
 leaves_fine P me (Some e) v h = record {
-  view = record { promised = h.promised; round = h.round; inside = λ x k. absurd (none_is x k); tables = tt };
+  view = record { promised = h.promised; round = h.round; inside = λ x k. absurd (none_some x k); tables = tt };
   sent = tt;
 }
 
@@ -108,7 +108,7 @@ promises_fine : (P : Ids) (me : ℕ) (id : EpochId) (reach : Sites) (v : SiteVie
 promises_fine P me id reach v h known =
     then_fine P (leaves me v) (λ now. tells (Promises me id reach ∷ []) (promised_view id now)) (leaves_fine P me v.epoch v h)
     (λ g. record {
-      view = record { promised = inr known; round = λ r e. absurd (none_is r e); inside = λ x e. absurd (none_is x (sym (leaves_of_epoch me v.epoch v refl) ∙ e)); tables = g.tables };
+      view = record { promised = inr known; round = λ r e. absurd (none_some r e); inside = λ x e. absurd (none_some x (sym (leaves_of_epoch me v.epoch v refl) ∙ e)); tables = g.tables };
       sent = tt;
     })
 
@@ -118,7 +118,7 @@ begins_fine P me links number polled v h known =
     let o : Outcome SiteView = promises me id (reached links) v in
     then_fine P o (polls me id polled) (promises_fine P me id (reached links) v h known)
     (λ g. sends_fine P (map (poll_packet me o.view.boot id polled) (polled_sites polled)) (record o.view { round = Some (new_round id polled) })
-    (record { promised = g.promised; round = λ r e. subst (λ (x : Round). P x.id) (some_is (new_round id polled) r e) known; inside = g.inside; tables = g.tables })
+    (record { promised = g.promised; round = λ r e. subst (λ (x : Round). P x.id) (some_same (new_round id polled) r e) known; inside = g.inside; tables = g.tables })
     (every_map (Named P) (poll_packet me o.view.boot id polled) (polled_sites polled) (λ t. (known, tt))))
 
 starts_part_fine : (P : Ids) (me : ℕ) (links : Links) (e : Option InEpoch) (v : SiteView) → ((x : InEpoch) → e ≡ Some x → P (round_id me (v.promised.number + 1) v)) → Site P v → Fine P (starts_part_of me links e v)
@@ -126,9 +126,6 @@ starts_part_fine P me links None v may h = quiet_fine P v h
 starts_part_fine P me links (Some e) v may h = begins_fine P me links (v.promised.number + 1) (boots_where (part_boot me links e.members)) v h (may e refl)
 
 -- ---- Poll, Promise, Refuse ----
-
-true_false : true ≡ false → ⊥
-true_false e = cc
 
 has_promised_one : (P : Ids) → AreAbove P → (id : EpochId) (v : SiteView) → P id → is_epoch_below v.promised id ≡ false → (v.promised ≡ no_epoch) ⊎ P v.promised → P v.promised
 has_promised_one P above id v known e (inl none) = absurd (true_false (sym (above id known) ∙ subst (λ (x : EpochId). is_epoch_below x id ≡ false) none e))
@@ -146,7 +143,7 @@ on_poll_fine P above me links from from_boot id v h known =
 -- the round goes on under the same id
 goes_on_round : (P : Ids) (r q : Round) (v : SiteView) → Site P v → v.round ≡ Some r → q.id ≡ r.id → Fine P (quiet (record v { round = Some q }))
 goes_on_round P r q v h here same = record {
-  view = record { promised = h.promised; round = λ x e. subst (λ (y : Round). P y.id) (some_is q x e) (subst P (sym same) (h.round r here)); inside = h.inside; tables = h.tables };
+  view = record { promised = h.promised; round = λ x e. subst (λ (y : Round). P y.id) (some_same q x e) (subst P (sym same) (h.round r here)); inside = h.inside; tables = h.tables };
   sent = tt;
 }
 
@@ -178,8 +175,8 @@ joins_fine P me c id m v h known =
     record {
       view = record {
         promised = h.promised;
-        round = λ r f. absurd (none_is r f);
-        inside = λ x f. subst (λ (y : InEpoch). P y.id) (some_is e x f) known;
+        round = λ r f. absurd (none_some r f);
+        inside = λ x f. subst (λ (y : InEpoch). P y.id) (some_same e x f) known;
         tables = every_map TableFormless new_table _ (λ g. tt);
       };
       sent = every_flat_map (Named P) (report_packets (frame_in c me v.boot e) (joined_view c me id m v)) (joined_view c me id m v).reports

@@ -1,7 +1,9 @@
 -- In every run, packets are of the format: those by which sites agree on an epoch as a whole, and of others what says from whom and to whom they are.
 use Rattle.std.proofs.Common.{◌≡◌, ◌≤◌, ℕ, suc, ◌+◌, ◌==◌, true, false, List, [], ◌∷◌, map, Some, None, refl, sym, ◌∙◌, ap, subst, inl, inr, arith}
+use Rattle.role_steps.proofs.of_plain_facts.Options.{none_some, some_same}
 use Rattle.locus_ids.specs.declared.ids.EpochId.{EpochId}
 use Rattle.locus_ids.specs.declared.config.Config.{Config}
+use Rattle.locus_ids.specs.Sizes.{sites_max}
 use Rattle.schedule_lines.specs.declared.line.ScheduleLine.{ScheduleLine}
 use Rattle.wire_fields.specs.Parts.{sites, numbers, epochs}
 use Rattle.wire_fields.specs.Memberships.{members}
@@ -24,12 +26,11 @@ use Rattle.the_run.specs.Runs.{boots_as, run_in}
 use Rattle.the_run.proofs.Boots.{Reached, boots_reached, at_each, acts_cases, every_newest, every_numbered}
 use Rattle.the_run.proofs.Events.{happened_keeps, puts_other}
 use Rattle.the_run.proofs.InsideSync.{every_without}
-use Rattle.the_run.proofs.Runs.{every_run, some_eq}
+use Rattle.the_run.proofs.Runs.{every_run}
 use Rattle.the_run.proofs.StepSends.{step_sends}
 use Rattle.run_laws.specs.Naming.{MayCome}
 use Rattle.run_laws.proofs.Run.{found_among}
 use Rattle.epoch_laws.specs.Forming.{TableFormless}
-use Rattle.epoch_laws.proofs.Handlers.{none_is}
 use Rattle.epoch_laws.proofs.Parts.{every_both}
 use Rattle.epoch_laws.proofs.Run.{running_view, stopped_never, none_never, place_there}
 use Rattle.packet_fit.proofs.Boots.{boots_fit}
@@ -46,7 +47,7 @@ use Rattle.packet_fit_laws.proofs.Epochs.{IdFits, packet_more, size, Numbers, Co
 -- ---- fields ----
 
 pub site_fits : (s : ℕ) → IsSite s → sites.Fits s
-site_fits s h = (in_range 1 16 s h.0 h.1, omega (arith, h.1))
+site_fits s h = (in_range 1 sites_max s h.0 h.1, omega (arith, h.1))
 
 pub number_fits : (n : ℕ) → 1 ≤ n → n ≤ 134479873 → numbers.Fits n
 number_fits n low high = (in_range 1 4294967295 n low (omega (arith, high)), omega (arith, high))
@@ -153,7 +154,7 @@ acts_rest n s v o w f sent g =
     acts_cases Rest n s v o w
     (happened_rest n o.sent o.told (λ now. puts s (Running o.view) now) w views refl refl sent g)
     (λ a. happened_rest n o.sent o.told (λ now. puts s (Running o.view) (arms a now)) w views refl refl sent g)
-    (λ d a e. stops_rest n s (cut_disk v.boot v.store d a.how a.left) (cut_told s d a.how a.left) w g)
+    (λ d a e. stops_rest n s (cut_disk v.boot v.store d a.how a.left) (cut_told s v.store d a.how a.left) w g)
   where
     views : (t : ℕ) (u : SiteView) → place_at (puts s (Running o.view) w) t ≡ Some (Running u) → Site u
     views = put_views s (Running o.view) w (λ u e. subst Site (running_view o.view u e) f.view) g
@@ -183,7 +184,7 @@ steps_rest : (c : Config) (n s : ℕ) (e : Event) (v : SiteView) (w : World) →
 steps_rest c n s e v w here k g = let f : Fine (step c s (links_of w s) v e) × Every PacketComes (step c s (links_of w s) v e).sent = step_comes c s e v w here k g in acts_rest n s v (step c s (links_of w s) v e) w f.0 f.1 g
 
 fresh_site : (v : SiteView) → IsBoot v.boot → v.round ≡ None → v.epoch ≡ None → Every TableFormless v.tables → Every TableMeets v.tables → Site v
-fresh_site v own r e t m = record { own = own; round = λ x h. absurd (none_is x (sym r ∙ h)); inside = λ x h. absurd (none_is x (sym e ∙ h)); tables = t; meets = m }
+fresh_site v own r e t m = record { own = own; round = λ x h. absurd (none_some x (sym r ∙ h)); inside = λ x h. absurd (none_some x (sym e ∙ h)); tables = t; meets = m }
 
 -- a boot raises the number by one
 fresh_boot : (s : ℕ) (d x : Disk) (w : World) → place_at w s ≡ Some (Stopped d) → d.label.boot + 1 ≤ x.label.boot → x.label.boot ≤ d.label.boot + 1 → Good w → IsBoot x.label.boot
@@ -221,7 +222,7 @@ first_views : (c : Config) (ss : List ℕ) (s : ℕ) (v : SiteView) → place_in
 first_views c [] s v e = absurd (none_never v e)
 first_views c (t ∷ ts) s v e =
     (elim (t == s) as (λ b. place_in (elim b [ true ↦ Some (first_place c t) | false ↦ row place_site s (map (first_place c) ts) ]) ≡ Some (Running v) → Site v) [
-      | true ↦ λ f. subst Site (running_view (fresh 1 (formatted c t)) v (some_eq (Running (fresh 1 (formatted c t))) (Running v) f)) (fresh_site (fresh 1 (formatted c t)) (omega arith, omega arith) refl refl tt tt)
+      | true ↦ λ f. subst Site (running_view (fresh 1 (formatted c t)) v (some_same (Running (fresh 1 (formatted c t))) (Running v) f)) (fresh_site (fresh 1 (formatted c t)) (omega arith, omega arith) refl refl tt tt)
       | false ↦ λ f. first_views c ts s v f
     ]) e
 

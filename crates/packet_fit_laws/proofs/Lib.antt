@@ -1,8 +1,5 @@
 pub mod Boots
-pub mod Installs
 pub mod Meeting
-pub mod SyncMeets
-pub mod RolesMeet
 pub mod SitesMeet
 pub mod Lists
 pub mod Places
@@ -12,3 +9,5 @@ pub mod Epochs
 pub mod FormingRun
 pub mod Counts
 pub mod CountsRun
+pub use Rattle.epoch_laws.proofs as of_epoch_laws
+pub use Rattle.run_laws.proofs as of_run_laws

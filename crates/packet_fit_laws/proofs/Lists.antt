@@ -1,14 +1,18 @@
 -- The boots that a step of a site lists and addresses: those that it knows.
 use Rattle.std.proofs.Common.{◌≡◌, ℕ, ◌+◌, ◌-◌, ◌≤◌, ◌<◌, ◌^◌, ◌==◌, Bool, true, false, cond, ◌&&◌, ◌||◌, not, nat_lt, List, [], ◌∷◌, ◌++◌, length, map, filter, Option, Some, None, refl, sym, ◌∙◌, subst, arith}
+use Rattle.std.proofs.Math.Pow.{pow_mono}
 use Rattle.std.proofs.lemmas.Bool.Decides.{nat_tests}
 use Rattle.std.proofs.lemmas.Nat.{or_of_16}
-use Rattle.std.specs.List.{flat_map}
+use Rattle.role_steps.proofs.of_plain_facts.Numbers.{equal}
+use Rattle.role_steps.proofs.of_plain_facts.Options.{none_some, some_same}
+use Rattle.role_steps.proofs.of_plain_facts.Tests.{both_true, not_false}
 use Rattle.locus_ids.specs.Sites.{has, with_site}
 use Rattle.locus_ids.specs.declared.ids.EpochId.{EpochId}
 use Rattle.locus_ids.specs.declared.sites.Sites.{Sites}
 use Rattle.locus_ids.specs.declared.sites.Members.{Members}
 use Rattle.locus_ids.specs.declared.sites.Links.{Links}
 use Rattle.locus_ids.specs.declared.config.Config.{Config}
+use Rattle.locus_ids.specs.Sizes.{set_span, sites_max}
 use Rattle.trace_book.specs.Same.{same_epoch}
 use Rattle.wire_messages.specs.declared.packet.Packet.{Packet}
 use Rattle.wire_messages.specs.declared.body.Body.{Body}
@@ -18,39 +22,30 @@ use Rattle.role_steps.specs.Tables.{without_row}
 use Rattle.role_steps.specs.Views.{Frame, SiteView, Promises, Outcome, Event, Calls, Receives, Ticks, Parts, Merges, GivesUp, quiet, sends, tells, joined_to, and_then, boot_in, all_sites, all_groups, pack_sites}
 use Rattle.role_steps.specs.Reports.{new_table}
 use Rattle.role_steps.specs.Storage.{report_of}
-use Rattle.role_steps.specs.Epochs.{is_epoch_below, frame_in, leaves_of, leaves, promises, promised_view, reached, new_round, poll_packet, polled_sites, polls, round_id, begins_round, starts_merge, boots_where, merge_boot, part_boot, starts_part_of, starts_part, promise_packet, refuse_packet, on_poll, counts_promise, with_promise, on_promise_of, on_refuse_of, joined_view, report_packets, all_reports, own_groups, is_sync_site, joins, may_install, is_in, joined_packet, on_install, on_joined, left_boot, passed_over, has_promised, unanswered, polled_boot, member_boot, chosen_members, chosen_set, others_of, install_packet, installs_all, decides, decides_if, passes_over_of, passes_over, poll_repeats, install_repeats}
+use Rattle.role_steps.specs.Epochs.{is_epoch_below, frame_in, leaves_of, leaves, promises, promised_view, reached, new_round, poll_packet, polled_sites, polls, round_id, begins_round, starts_merge, boots_where, merge_boot, part_boot, starts_part_of, starts_part, promise_packet, refuse_packet, on_poll, counts_promise, with_promise, on_promise_of, on_refuse_of, joined_view, report_packets, own_groups, is_sync_site, joins, may_install, is_in, joined_packet, on_install, on_joined, left_boot, passed_over, has_promised, unanswered, polled_boot, member_boot, chosen_members, chosen_set, others_of, install_packet, installs_all, decides, decides_if, passes_over_of, passes_over, poll_repeats, install_repeats}
 use Rattle.role_steps.specs.declared.rounds.InEpoch.{InEpoch}
 use Rattle.role_steps.specs.declared.rounds.Round.{Round}
 use Rattle.role_steps.proofs.Sending.{every_append, every_cond, every_map, every_flat_map}
+use Rattle.role_steps.proofs.Counted.{every_site}
 use Rattle.the_run.specs.Steps.{in_order, is_dropped, is_forming, is_framed, takes_framed, takes, tries_at, adopts_in, starts_mends_of, ends_event, whole, repeats_inside, repeats_of, repeats, ticks_after, call_frame, epoch_id, takes_call, step}
 use Rattle.the_run.proofs.Boots.{every_weaker}
 use Rattle.the_run.proofs.InsideSync.{every_without}
 use Rattle.the_run.proofs.StepSends.{order_sent}
 use Rattle.epoch_laws.specs.Forming.{FormsNone, Formless, TableFormless, FormlessSite}
-use Rattle.epoch_laws.proofs.Boots.{boots_bounded, cond_at_most, test_same}
-use Rattle.epoch_laws.proofs.SyncForms.{sync_formless}
+use Rattle.epoch_laws.proofs.Boots.{boots_bounded, cond_at_most}
+use Rattle.epoch_laws.proofs.Forms.{sync_formless, on_call_forms, formless_quiet, adopts_of_formless, tries_formless, mends_of_formless, framed_formless, inside_formless}
 use Rattle.epoch_laws.proofs.Parts.{every_both}
 use Rattle.wire_messages.specs.Bodies.{kind_number}
-use Rattle.role_steps.specs.Reports.{sync_repeats}
-use Rattle.role_steps.specs.Storage.{store_repeats}
-use Rattle.role_steps.specs.Pulling.{pull_repeats}
-use Rattle.role_steps.specs.Requests.{users_repeats}
-use Rattle.epoch_laws.proofs.Handlers.{both_true, some_is, none_is, leaves_of_epoch}
-use Rattle.epoch_laws.proofs.RolesForm.{on_call_forms}
-use Rattle.epoch_laws.proofs.SitesForm.{formless_quiet, adopts_of_formless, tries_formless, mends_of_formless, framed_formless}
-use Rattle.epoch_laws.proofs.Steps.{inside_formless}
+use Rattle.epoch_laws.proofs.Handlers.{leaves_of_epoch}
 use Rattle.packet_fit_laws.specs.Fields.{IsSite, IsBoot, AreBoots}
 use Rattle.packet_fit_laws.proofs.Meeting.{IsListed, IsAddressed, Meant, Meets, TableMeets, MeetingSite, listed_site, every_passing, not_none, meets_sync}
-use Rattle.packet_fit_laws.proofs.SyncMeets.{sync_repeats_meet}
-use Rattle.packet_fit_laws.proofs.RolesMeet.{users_repeats_meet, store_repeats_meet, pull_repeats_meet}
-use Rattle.packet_fit_laws.proofs.SitesMeet.{FitsIn, FromMember, meeting_quiet, adopts_of_meet, tries_meet, mends_of_meet, call_meet, framed_meet}
-use Rattle.packet_fit_laws.proofs.Installs.{Awaits, adopts_awaits, tries_awaits, mends_awaits, framed_awaits}
+use Rattle.packet_fit_laws.proofs.SitesMeet.{FitsIn, FromMember, inside_meets, meeting_quiet, adopts_of_meet, tries_meet, mends_of_meet, call_meet, framed_meet}
 
 -- ---- what a packet that forms an epoch says ----
 
 abbrev pub Forms : Packet → Body → Type 0
 Forms p body.Poll = IsAddressed p
-Forms p (body.Promise reach) = IsAddressed p × (reach.0 < 2 ^ 16)
+Forms p (body.Promise reach) = IsAddressed p × (reach.0 < set_span)
 Forms p (body.Refuse theirs) = IsAddressed p
 Forms p (body.Install members) = IsAddressed p × AreBoots members.boot
 Forms p body.Joined = IsAddressed p
@@ -81,7 +76,7 @@ pub record Fine (o : Outcome SiteView) : Type 0 where
 
 -- ---- lists of boots ----
 
-all_length : (f : ℕ → ℕ) → length (map f all_sites) ≡ 16
+all_length : (f : ℕ → ℕ) → length (map f all_sites) ≡ sites_max
 all_length f = refl
 
 -- a list that is made of boots
@@ -105,30 +100,30 @@ polled_listed polled = every_weaker (λ (s : ℕ). not (boot_in polled.boot s ==
 
 -- ---- what a site reaches ----
 
-with_site_narrow : (set : Sites) (s : ℕ) → set.0 < 2 ^ 16 → 2 ^ (s - 1) < 2 ^ 16 → (with_site set s).0 < 2 ^ 16
+with_site_narrow : (set : Sites) (s : ℕ) → set.0 < set_span → 2 ^ (s - 1) < set_span → (with_site set s).0 < set_span
 with_site_narrow set s h g = or_of_16 set.0 (2 ^ (s - 1)) h g
 
-cond_narrow : (b : Bool) (set more : Sites) → set.0 < 2 ^ 16 → more.0 < 2 ^ 16 → (cond b set more).0 < 2 ^ 16
+cond_narrow : (b : Bool) (set more : Sites) → set.0 < set_span → more.0 < set_span → (cond b set more).0 < set_span
 cond_narrow true set more h g = h
 cond_narrow false set more h g = g
 
 -- each of these sites has a place among sixteen
 abbrev AreSites : List ℕ → Type 0
-AreSites ss = Every (λ (s : ℕ). 2 ^ (s - 1) < 2 ^ 16) ss
+AreSites ss = Every (λ (s : ℕ). 2 ^ (s - 1) < set_span) ss
 
 abbrev reach_among : Links → List ℕ → Sites
 reach_among links [] = record { 0 = 0 }
 reach_among links (s ∷ ss) = cond (boot_in links.boot s == 0) (reach_among links ss) (with_site (reach_among links ss) s)
 
-reach_narrow : (links : Links) (ss : List ℕ) → AreSites ss → (reach_among links ss).0 < 2 ^ 16
+reach_narrow : (links : Links) (ss : List ℕ) → AreSites ss → (reach_among links ss).0 < set_span
 reach_narrow links [] h = omega arith
 reach_narrow links (s ∷ ss) h = cond_narrow (boot_in links.boot s == 0) (reach_among links ss) (with_site (reach_among links ss) s) (reach_narrow links ss h.1) (with_site_narrow (reach_among links ss) s (reach_narrow links ss h.1) h.0)
 
-sixteen_sites : AreSites all_sites
-sixteen_sites = (omega arith, (omega arith, (omega arith, (omega arith, (omega arith, (omega arith, (omega arith, (omega arith, (omega arith, (omega arith, (omega arith, (omega arith, (omega arith, (omega arith, (omega arith, (omega arith, tt))))))))))))))))
+each_is_site : AreSites all_sites
+each_is_site = every_site (λ (s : ℕ). 2 ^ (s - 1) < set_span) (λ s low high. (let le : s - 1 ≤ sites_max - 1 = omega (arith, high) in let e : 2 ^ (s - 1) ≤ 2 ^ (sites_max - 1) = pow_mono le in omega (arith, e)))
 
-reached_narrow : (links : Links) → (reached links).0 < 2 ^ 16
-reached_narrow links = reach_narrow links all_sites sixteen_sites
+reached_narrow : (links : Links) → (reached links).0 < set_span
+reached_narrow links = reach_narrow links all_sites each_is_site
 
 -- ---- outcomes ----
 
@@ -169,12 +164,12 @@ pub fits_in : (v : SiteView) (o : Option InEpoch) → v.epoch ≡ o → Site v �
 fits_in v None here h = tt
 fits_in v (Some e) here h = (h.inside e here).0
 
-pub inner_fine : (v : SiteView) (o : Outcome SiteView) → FormlessSite v o → Awaits v o → MeetingSite v o → Site v → Fine o
-inner_fine v o f i m h = record {
+pub inner_fine : (v : SiteView) (o : Outcome SiteView) → FormlessSite v o → MeetingSite v o → Site v → Fine o
+inner_fine v o f m h = record {
   view = record {
     own = subst IsBoot (sym f.boot) h.own;
     round = λ r e. h.round r (sym f.round ∙ e);
-    inside = λ x e. (let k : AreBoots x.members.boot × Every (IsListed x.members.boot) v.installs = h.inside x (sym f.epoch ∙ e) in (k.0, subst (λ (ss : List ℕ). Every (IsListed x.members.boot) ss) (sym i) k.1));
+    inside = λ x e. (let k : AreBoots x.members.boot × Every (IsListed x.members.boot) v.installs = h.inside x (sym f.epoch ∙ e) in (k.0, subst (λ (ss : List ℕ). Every (IsListed x.members.boot) ss) (sym m.installs) k.1));
     tables = f.tables;
     meets = m.tables;
   };
@@ -185,13 +180,13 @@ inner_fine v o f i m h = record {
 
 pub leaves_fine : (me : ℕ) (e : Option InEpoch) (v : SiteView) → Site v → Fine (leaves_of me e v)
 leaves_fine me None v h = quiet_fine v h
-leaves_fine me (Some e) v h = record { view = record { own = h.own; round = h.round; inside = λ x k. absurd (none_is x k); tables = tt; meets = tt }; sent = tt }
+leaves_fine me (Some e) v h = record { view = record { own = h.own; round = h.round; inside = λ x k. absurd (none_some x k); tables = tt; meets = tt }; sent = tt }
 
 promises_fine : (me : ℕ) (id : EpochId) (reach : Sites) (v : SiteView) → Site v → Fine (promises me id reach v)
 promises_fine me id reach v h =
     then_fine (leaves me v) (λ now. tells (Promises me id reach ∷ []) (promised_view id now)) (leaves_fine me v.epoch v h)
     (λ g. record {
-      view = record { own = g.own; round = λ r e. absurd (none_is r e); inside = λ x e. absurd (none_is x (sym (leaves_of_epoch me v.epoch v refl) ∙ e)); tables = g.tables; meets = g.meets };
+      view = record { own = g.own; round = λ r e. absurd (none_some r e); inside = λ x e. absurd (none_some x (sym (leaves_of_epoch me v.epoch v refl) ∙ e)); tables = g.tables; meets = g.meets };
       sent = tt;
     })
 
@@ -204,7 +199,7 @@ begins_fine me links number polled v fit h =
     let o : Outcome SiteView = promises me id (reached links) v in
     then_fine o (polls me id polled) (promises_fine me id (reached links) v h)
     (λ g. sends_fine (map (poll_packet me o.view.boot id polled) (polled_sites polled)) (record o.view { round = Some (new_round id polled) })
-    (record { own = g.own; round = λ r e. subst (λ (x : Round). AreBoots x.polled.boot) (some_is (new_round id polled) r e) fit; inside = g.inside; tables = g.tables; meets = g.meets })
+    (record { own = g.own; round = λ r e. subst (λ (x : Round). AreBoots x.polled.boot) (some_same (new_round id polled) r e) fit; inside = g.inside; tables = g.tables; meets = g.meets })
     (poll_formed me o.view.boot id polled (polled_sites polled) fit (polled_listed polled)))
 
 pub starts_part_fine : (me : ℕ) (links : Links) (e : Option InEpoch) (v : SiteView) → v.epoch ≡ e → Site v → Fine (starts_part_of me links e v)
@@ -225,7 +220,7 @@ on_poll_fine me links from from_boot id v site boot h =
 -- the round goes on with these boots
 goes_on_round : (q : Round) (v : SiteView) → AreBoots q.polled.boot → Site v → Fine (quiet (record v { round = Some q }))
 goes_on_round q v fit h = record {
-  view = record { own = h.own; round = λ x e. subst (λ (y : Round). AreBoots y.polled.boot) (some_is q x e) fit; inside = h.inside; tables = h.tables; meets = h.meets };
+  view = record { own = h.own; round = λ x e. subst (λ (y : Round). AreBoots y.polled.boot) (some_same q x e) fit; inside = h.inside; tables = h.tables; meets = h.meets };
   sent = tt;
 }
 
@@ -256,8 +251,8 @@ joins_fine me c id m v own fit =
     record {
       view = record {
         own = own;
-        round = λ r f. absurd (none_is r f);
-        inside = λ x f. subst (λ (y : InEpoch). AreBoots y.members.boot × Every (IsListed y.members.boot) []) (some_is e x f) (fit, tt);
+        round = λ r f. absurd (none_some r f);
+        inside = λ x f. subst (λ (y : InEpoch). AreBoots y.members.boot × Every (IsListed y.members.boot) []) (some_same e x f) (fit, tt);
         tables = every_map TableFormless new_table _ (λ g. tt);
         meets = map_every (λ (g : ℕ). g < 2 ^ 8) TableMeets new_table _ (λ g k. (tt, k)) (every_kept (λ (g : ℕ). g < 2 ^ 8) (is_sync_site c me m) (own_groups c me) (every_kept (λ (g : ℕ). g < 2 ^ 8) (λ g. has (pack_sites c g) me) all_groups (omega arith, (omega arith, (omega arith, (omega arith, tt))))));
       };
@@ -297,7 +292,7 @@ decides_fine : (me : ℕ) (c : Config) (id : EpochId) (m : Members) (v : SiteVie
 decides_fine me c id m v own fit =
     then_fine (joins c me id m v) (installs_all me id m) (joins_fine me c id m v own fit)
     (λ g. sends_fine (map (install_packet me (joins c me id m v).view.boot id m) (others_of me m)) (record (joins c me id m v).view { installs = others_of me m })
-    (record { own = g.own; round = g.round; inside = λ e here. subst (λ (y : InEpoch). AreBoots y.members.boot × Every (IsListed y.members.boot) (others_of me m)) (some_is (record { id = id; members = m }) e here) (fit, others_listed me m); tables = g.tables; meets = g.meets })
+    (record { own = g.own; round = g.round; inside = λ e here. subst (λ (y : InEpoch). AreBoots y.members.boot × Every (IsListed y.members.boot) (others_of me m)) (some_same (record { id = id; members = m }) e here) (fit, others_listed me m); tables = g.tables; meets = g.meets })
     (installs_formed me (joins c me id m v).view.boot id m (others_of me m) fit (others_listed me m)))
 
 pub chosen_boots : (me boot : ℕ) (q : Round) (set : Sites) → IsBoot boot → AreBoots q.polled.boot → AreBoots (chosen_members me boot q set).boot
@@ -318,7 +313,7 @@ ends_fine : (me : ℕ) (c : Config) (links : Links) (v : SiteView) → Site v �
 ends_fine me c links v h =
     let o : Outcome SiteView = passes_over c me links v in
     then_fine o (λ now. starts_mends_of c me now.epoch now) (passes_over_fine me c links v.round v h refl)
-    (λ g. inner_fine o.view (starts_mends_of c me o.view.epoch o.view) (mends_of_formless c me o.view.epoch o.view g.tables) (mends_awaits c me o.view.epoch o.view) (mends_of_meet c me o.view.epoch o.view (fits_in o.view o.view.epoch refl g) g.meets) g)
+    (λ g. inner_fine o.view (starts_mends_of c me o.view.epoch o.view) (mends_of_formless c me o.view.epoch o.view g.tables) (mends_of_meet c me o.view.epoch o.view (fits_in o.view o.view.epoch refl g) g.meets) g)
 
 -- ---- a packet ----
 
@@ -337,7 +332,7 @@ IsAsked _ e from = FromMember e from
 
 from_member : (p : Packet) (e : Option InEpoch) → is_framed p e ≡ true → IsBoot p.from_boot → FromMember e p.from
 from_member p None h own = tt
-from_member p (Some e) h own = let k : boot_in e.members.boot p.from ≡ p.from_boot = test_same (boot_in e.members.boot p.from) p.from_boot (both_true (same_epoch e.id p.epoch) (boot_in e.members.boot p.from == p.from_boot) h).1 in omega (arith, k, own.0)
+from_member p (Some e) h own = let k : boot_in e.members.boot p.from ≡ p.from_boot = equal (boot_in e.members.boot p.from) p.from_boot (both_true (same_epoch e.id p.epoch) (boot_in e.members.boot p.from == p.from_boot) h).1 in omega (arith, k, own.0)
 
 asked_of : (b : Body) (e : Option InEpoch) (from : ℕ) (framed : Bool) → (nat_lt (kind_number b) 6 || framed) ≡ true → (framed ≡ true → FromMember e from) → IsAsked b e from
 asked_of body.Poll e from framed h k = tt
@@ -346,10 +341,6 @@ asked_of (body.Refuse theirs) e from framed h k = tt
 asked_of (body.Install members) e from framed h k = tt
 asked_of body.Joined e from framed h k = tt
 asked_of _ e from framed h k = k h
-
-not_false : (a : Bool) → not a ≡ false → a ≡ true
-not_false true h = refl
-not_false false h = absurd (cc)
 
 pub is_asked : (p : Packet) (v : SiteView) → is_dropped p v ≡ false → IsBoot p.from_boot → IsAsked p.body v.epoch p.from
 is_asked p v kept own = asked_of p.body v.epoch p.from (is_framed p v.epoch) (both_true (p.to_boot == v.boot) (is_forming p || is_framed p v.epoch) (not_false ((p.to_boot == v.boot) && (is_forming p || is_framed p v.epoch)) kept)).1 (λ h. from_member p v.epoch h own)
@@ -360,15 +351,15 @@ takes_fine me c links p (body.Promise reach) v site boot k asked h = on_promise_
 takes_fine me c links p (body.Refuse promised) v site boot k asked h = on_refuse_fine me links p.epoch promised v.round v h refl
 takes_fine me c links p (body.Install members) v site boot k asked h = on_install_fine me c p.from p.from_boot p.epoch members v site boot k.1 h
 takes_fine me c links p body.Joined v site boot k asked h = on_joined_fine p.from p.epoch v h
-takes_fine me c links p _ v site boot k asked h = inner_fine v (takes_framed c me p v.epoch v) (framed_formless c me p v.epoch v h.tables) (framed_awaits c me p v.epoch v) (framed_meet c me p v.epoch v (fits_in v v.epoch refl h) asked h.meets) h
+takes_fine me c links p _ v site boot k asked h = inner_fine v (takes_framed c me p v.epoch v) (framed_formless c me p v.epoch v h.tables) (framed_meet c me p v.epoch v (fits_in v v.epoch refl h) asked h.meets) h
 
 -- ---- an event and its end ----
 
-whole_fine : (me : ℕ) (c : Config) (links : Links) (o : Outcome SiteView) (tries : SiteView → Outcome SiteView) → Fine o → ((u : SiteView) → Every TableFormless u.tables → FormlessSite u (tries u)) → ((u : SiteView) → Awaits u (tries u)) → ((u : SiteView) → FitsIn u.epoch → Every TableMeets u.tables → MeetingSite u (tries u)) → Fine (whole c me links o tries)
-whole_fine me c links o tries h formless awaits meets =
+whole_fine : (me : ℕ) (c : Config) (links : Links) (o : Outcome SiteView) (tries : SiteView → Outcome SiteView) → Fine o → ((u : SiteView) → Every TableFormless u.tables → FormlessSite u (tries u)) → ((u : SiteView) → FitsIn u.epoch → Every TableMeets u.tables → MeetingSite u (tries u)) → Fine (whole c me links o tries)
+whole_fine me c links o tries h formless meets =
     let a : Outcome SiteView = tries o.view in
     let k : FormlessSite o.view a = formless o.view h.view.tables in
-    let f : Fine a = inner_fine o.view a k (awaits o.view) (meets o.view (fits_in o.view o.view.epoch refl h.view) h.view.meets) h.view in
+    let f : Fine a = inner_fine o.view a k (meets o.view (fits_in o.view o.view.epoch refl h.view) h.view.meets) h.view in
     let last : Outcome SiteView = ends_event c me links a.view in
     let e : Fine last = ends_fine me c links a.view f.view in
     record {
@@ -379,14 +370,6 @@ whole_fine me c links o tries h formless awaits meets =
 polls_formed : (me : ℕ) (v : SiteView) (r : Option Round) → v.round ≡ r → Site v → Every Formed (poll_repeats me v r)
 polls_formed me v None here h = tt
 polls_formed me v (Some r) here h = poll_formed me v.boot r.id r.polled (unanswered r) (h.round r here) (every_kept (IsListed r.polled.boot) (λ (s : ℕ). not (has_promised r s)) (polled_sites r.polled) (polled_listed r.polled))
-
-inside_meets : (f : Frame) (fit : AreBoots f.members.boot) (e : InEpoch) (v : SiteView) → Every Meets (repeats_inside f e v)
-inside_meets f fit e v =
-    every_append Meets (in_order (all_reports f v)) _ (order_sent Meets (all_reports f v) (every_flat_map Meets (report_packets f v) v.reports (λ g. meets_sync f fit g (body.Report g (report_of g v.store.copies)) tt)))
-    (every_append Meets (users_repeats f v.users) _ (users_repeats_meet f fit v.users)
-    (every_append Meets (in_order (store_repeats f v.store)) _ (order_sent Meets (store_repeats f v.store) (store_repeats_meet f fit v.store))
-    (every_append Meets (in_order (pull_repeats f v.pulls)) _ (order_sent Meets (pull_repeats f v.pulls) (pull_repeats_meet f fit v.pulls))
-    (order_sent Meets (flat_map (sync_repeats f) v.tables) (every_flat_map Meets (sync_repeats f) v.tables (sync_repeats_meet f fit))))))
 
 repeats_formed : (me : ℕ) (c : Config) (o : Option InEpoch) (v : SiteView) → v.epoch ≡ o → Site v → Every Formed (repeats_of c me o v)
 repeats_formed me c None v here h = order_sent Formed (poll_repeats me v v.round) (polls_formed me v v.round refl h)
@@ -415,17 +398,17 @@ Comes _ = Unit {0}
 pub step_fine : (me : ℕ) (c : Config) (links : Links) (v : SiteView) (e : Event) → ((t : ℕ) → boot_in links.boot t ≤ 134217730) → Comes e → Site v → Fine (step c me links v e)
 step_fine me c links v (Calls process words) had k h =
     whole_fine me c links (takes_call c me process words v) quiet
-    (inner_fine v (takes_call c me process words v) (record { boot = refl; round = refl; promised = refl; epoch = refl; tables = h.tables; still = on_call_forms (call_frame c me v.boot v.epoch) (epoch_id v.epoch) process words v.users }) refl (call_meet c me process words v (fits_in v v.epoch refl h) h.meets) h)
-    formless_quiet (λ u. refl) (λ u fit ok. meeting_quiet u ok)
+    (inner_fine v (takes_call c me process words v) (record { boot = refl; round = refl; promised = refl; epoch = refl; tables = h.tables; still = on_call_forms (call_frame c me v.boot v.epoch) (epoch_id v.epoch) process words v.users }) (call_meet c me process words v (fits_in v v.epoch refl h) h.meets) h)
+    formless_quiet (λ u fit ok. meeting_quiet u ok)
 step_fine me c links v (Receives p) had k h =
     (elim (is_dropped p v) as (λ t. is_dropped p v ≡ t → Fine (elim t [ true ↦ quiet v | false ↦ whole c me links (takes c me links p p.body v) (tries_at c me p.body) ])) [
       | true ↦ λ e. quiet_fine v h
-      | false ↦ λ e. whole_fine me c links (takes c me links p p.body v) (tries_at c me p.body) (takes_fine me c links p p.body v k.0 k.1 k.2 (is_asked p v e k.1) h) (tries_formless c me p.body) (tries_awaits c me p.body) (tries_meet c me p.body)
+      | false ↦ λ e. whole_fine me c links (takes c me links p p.body v) (tries_at c me p.body) (takes_fine me c links p p.body v k.0 k.1 k.2 (is_asked p v e k.1) h) (tries_formless c me p.body) (tries_meet c me p.body)
     ]) refl
-step_fine me c links v Ticks had k h = ticks_fine me c links (adopts_in c me v) (inner_fine v (adopts_in c me v) (adopts_of_formless c me v.epoch v h.tables) (adopts_awaits c me v.epoch v) (adopts_of_meet c me v.epoch v (fits_in v v.epoch refl h) h.meets) h)
-step_fine me c links v Parts had k h = whole_fine me c links (starts_part me links v) quiet (starts_part_fine me links v.epoch v refl h) formless_quiet (λ u. refl) (λ u fit ok. meeting_quiet u ok)
+step_fine me c links v Ticks had k h = ticks_fine me c links (adopts_in c me v) (inner_fine v (adopts_in c me v) (adopts_of_formless c me v.epoch v h.tables) (adopts_of_meet c me v.epoch v (fits_in v v.epoch refl h) h.meets) h)
+step_fine me c links v Parts had k h = whole_fine me c links (starts_part me links v) quiet (starts_part_fine me links v.epoch v refl h) formless_quiet (λ u fit ok. meeting_quiet u ok)
 step_fine me c links v Merges had k h =
     whole_fine me c links (starts_merge me links v) quiet
     (begins_fine me links (v.promised.number + 1) (boots_where (merge_boot me links)) v (made_boots (merge_boot me links) (λ t. cond_at_most (t == me) 0 (boot_in links.boot t) 134217730 (omega arith) (had t))) h)
-    formless_quiet (λ u. refl) (λ u fit ok. meeting_quiet u ok)
-step_fine me c links v GivesUp had k h = whole_fine me c links (leaves me v) quiet (leaves_fine me v.epoch v h) formless_quiet (λ u. refl) (λ u fit ok. meeting_quiet u ok)
+    formless_quiet (λ u fit ok. meeting_quiet u ok)
+step_fine me c links v GivesUp had k h = whole_fine me c links (leaves me v) quiet (leaves_fine me v.epoch v h) formless_quiet (λ u fit ok. meeting_quiet u ok)

@@ -1,18 +1,18 @@
 -- Packets that go to the synchronization site of a group, or back to whom a packet came from: to a member of the epoch.
-use Rattle.std.proofs.Common.{◌≡◌, ◌≤◌, ◌<◌, ◌^◌, ℕ, zero, suc, ◌+◌, ◌==◌, ◌⊎◌, Bool, true, false, cond, ◌&&◌, not, List, [], ◌∷◌, length, filter, get_or, refl, inl, inr, arith}
+use Rattle.std.proofs.Common.{◌≡◌, ◌≤◌, ◌<◌, ◌^◌, ℕ, zero, suc, ◌+◌, ◌==◌, ◌⊎◌, Bool, true, false, cond, ◌&&◌, not, List, [], ◌∷◌, length, filter, get_or, Option, Some, None, subst, refl, inl, inr, arith}
 use Rattle.std.proofs.lemmas.Bool.Decides.{nat_tests}
+use Rattle.role_steps.proofs.of_plain_facts.Tests.{both_true}
 use Rattle.locus_ids.specs.Sites.{has}
 use Rattle.locus_ids.specs.declared.sites.Sites.{Sites}
+use Rattle.locus_ids.specs.Sizes.{sites_max}
 use Rattle.wire_messages.specs.declared.packet.Packet.{Packet}
 use Rattle.wire_messages.specs.declared.body.Body.{Body}
 use Rattle.wire_messages.specs.declared.body.Body.TheVariants as body
 use Rattle.role_steps.specs.Own.{Every}
-use Rattle.role_steps.specs.Views.{Frame, SiteView, Outcome, packet, to_some, to_sync, first_site, members_of, is_member, pack_sites, boot_in, all_sites}
+use Rattle.role_steps.specs.Views.{Frame, SiteView, Outcome, packet, to_some, to_sync, sync_site, first_site, members_of, is_member, pack_sites, boot_in, all_sites}
 use Rattle.role_steps.specs.declared.synchronizing.SyncTable.{SyncTable}
 use Rattle.role_steps.specs.declared.synchronizing.LastLook.{LastLook}
-use Rattle.the_run.specs.Joins.{NoJoin, NoWrite}
 use Rattle.the_run.proofs.Boots.{every_weaker}
-use Rattle.epoch_laws.proofs.Handlers.{both_true}
 use Rattle.packet_fit_laws.specs.Fields.{IsSite, IsBoot, AreBoots}
 
 -- ---- who is listed ----
@@ -38,9 +38,9 @@ either_way (suc a) (suc b) = more (either_way a b)
 -- who is listed among sixteen boots is a site
 pub listed_site : (bs : List ℕ) (s : ℕ) → AreBoots bs → IsListed bs s → IsSite s × IsBoot (boot_in bs s)
 listed_site bs zero fit h = absurd (omega (arith, h))
-listed_site bs (suc k) fit h = ((omega arith, by_order (either_way (suc k) 16)), (h, fit.1 (suc k)))
+listed_site bs (suc k) fit h = ((omega arith, by_order (either_way (suc k) sites_max)), (h, fit.1 (suc k)))
   where
-    by_order : (suc k ≤ 16) ⊎ (16 + 1 ≤ suc k) → suc k ≤ 16
+    by_order : (suc k ≤ sites_max) ⊎ (sites_max + 1 ≤ suc k) → suc k ≤ sites_max
     by_order (inl g) = g
     by_order (inr g) = absurd (let e : get_or bs k 0 ≡ 0 = past_end bs k (omega (arith, g, fit.0)) in omega (arith, e, h))
 
@@ -133,7 +133,20 @@ members_listed f set = every_weaker (λ (s : ℕ). (has set s && is_member f.mem
 pub meets_sync : (f : Frame) (fit : AreBoots f.members.boot) (group : ℕ) (b : Body) → IsNoAnswer b → Every Meets (to_sync f group b)
 meets_sync f fit group b n = first_meets f fit b (members_of f.members (pack_sites f.config group)) n (members_listed f (pack_sites f.config group))
 
--- ---- outcomes ----
+pub sync_listed : (f : Frame) (group to : ℕ) → sync_site f.config f.members group ≡ Some to → IsListed f.members.boot to
+sync_listed f group to e = first (members_of f.members (pack_sites f.config group)) (members_listed f (pack_sites f.config group)) e
+  where
+    first : (ss : List ℕ) → Every (IsListed f.members.boot) ss → first_site ss ≡ Some to → IsListed f.members.boot to
+    first [] h e = absurd (none_some e)
+      where
+        none_some : ◌≡◌ {A = Option ℕ} None (Some to) → ⊥
+        none_some e = cc
+    first (s ∷ ss) h e = subst (IsListed f.members.boot) (same e) h.0
+      where
+        same : ◌≡◌ {A = Option ℕ} (Some s) (Some to) → s ≡ to
+        same e = cc
+
+-- ---- tables and outcomes ----
 
 -- so is the kept answer to a look
 abbrev pub LookMeets : LastLook → Type 0
@@ -142,12 +155,8 @@ LookMeets l = MeetsNone l.body
 abbrev pub TableMeets : SyncTable → Type 0
 TableMeets t = Every LookMeets t.looks × (t.group < 2 ^ 8)
 
-abbrev pub MeetingPart : {V : Type 0} → Outcome V → Type 0
-MeetingPart o = Every Meets o.sent × Every NoJoin o.told × NoWrite o.written
-
-abbrev pub MeetingTable : Outcome SyncTable → Type 0
-MeetingTable o = Every Meets o.sent × Every NoJoin o.told × NoWrite o.written × TableMeets o.view
-
+-- the outcome waits for the answers of the same members
 pub record MeetingSite (v : SiteView) (o : Outcome SiteView) : Type 0 where
+  pub installs : o.view.installs ≡ v.installs
   pub tables : Every TableMeets o.view.tables
   pub sent : Every Meets o.sent

@@ -5,6 +5,7 @@ use Rattle.wire_messages.specs.declared.packet.Packet.{Packet}
 use Rattle.role_steps.specs.Own.{Every}
 use Rattle.role_steps.specs.Tables.{row}
 use Rattle.role_steps.specs.Views.{SiteView, Told, Outcome, Receives, boot_in, all_sites}
+use Rattle.role_steps.proofs.Counted.{every_site}
 use Rattle.the_run.specs.Disks.{Disk, Booted, Whole, CutOff, boots, cut_disk}
 use Rattle.the_run.specs.Kept.{Kept}
 use Rattle.the_run.specs.Laws.{boot_on, boot_number}
@@ -35,7 +36,7 @@ acts_sites n s v o w here h =
     acts_cases AreSites n s v o w
     (happened_sites n o.sent o.told (λ now. puts s (Running o.view) now) w (put_sites s (Running o.view) w (h s (Running v) here) h) h)
     (λ a. happened_sites n o.sent o.told (λ now. puts s (Running o.view) (arms a now)) w (put_sites s (Running o.view) (arms a w) (h s (Running v) here) h) h)
-    (λ d a e. happened_sites n [] (cut_told s d a.how a.left) (stops_with s (cut_disk v.boot v.store d a.how a.left)) w (put_sites s (Stopped (cut_disk v.boot v.store d a.how a.left)) w (h s (Running v) here) h) h)
+    (λ d a e. happened_sites n [] (cut_told s v.store d a.how a.left) (stops_with s (cut_disk v.boot v.store d a.how a.left)) w (put_sites s (Stopped (cut_disk v.boot v.store d a.how a.left)) w (h s (Running v) here) h) h)
 
 boots_sites : (n s : ℕ) (d : Disk) (b : Booted) (w : World) → place_at w s ≡ Some (Stopped d) → AreSites w → AreSites (boots_as n s b w)
 boots_sites n s d (Whole x None) w here h = happened_sites n [] _ _ w (put_sites s (Running _) w (h s (Stopped d) here) h) h
@@ -73,11 +74,8 @@ first_of c (t ∷ ts) h s p e = by_test (t == s) refl e (first_of c ts h.1 s p)
     by_test true f g rest = subst IsSite (same_site t s f) h.0
     by_test false f g rest = rest g
 
-sixteen : Every IsSite all_sites
-sixteen = ((omega arith, omega arith), ((omega arith, omega arith), ((omega arith, omega arith), ((omega arith, omega arith), ((omega arith, omega arith), ((omega arith, omega arith), ((omega arith, omega arith), ((omega arith, omega arith), ((omega arith, omega arith), ((omega arith, omega arith), ((omega arith, omega arith), ((omega arith, omega arith), ((omega arith, omega arith), ((omega arith, omega arith), ((omega arith, omega arith), ((omega arith, omega arith), tt))))))))))))))))
-
 first_sites : (c : Config) → AreSites (first_world c)
-first_sites c = first_of c (filter (λ (t : ℕ). nat_lt t (c.sites + 1)) all_sites) (every_kept IsSite (λ (t : ℕ). nat_lt t (c.sites + 1)) all_sites sixteen)
+first_sites c = first_of c (filter (λ (t : ℕ). nat_lt t (c.sites + 1)) all_sites) (every_kept IsSite (λ (t : ℕ). nat_lt t (c.sites + 1)) all_sites (every_site IsSite (λ s low high. (low, high))))
 
 -- ---- all of it ----
 

@@ -1,6 +1,7 @@
 -- Which sites, boots and lists of boots packets may name, and how far packets are of the format.
 use Rattle.std.specs.Prelude.{ℕ, ◌≡◌, ◌≤◌, List, length, Some}
 use Rattle.locus_ids.specs.declared.config.Config.{Config}
+use Rattle.locus_ids.specs.Sizes.{sites_max}
 use Rattle.wire_fields.specs.Parts.{sites, numbers, epochs}
 use Rattle.wire_messages.specs.declared.packet.Packet.{Packet}
 use Rattle.wire_messages.specs.declared.body.Body.{Body}
@@ -13,7 +14,7 @@ use Rattle.the_run.specs.Worlds.{World, Running, Numbered, place_at, links_of}
 use Rattle.run_laws.specs.Naming.{MayCome}
 
 abbrev pub IsSite : ℕ → Type 0
-IsSite s = (1 ≤ s) × (s ≤ 16)
+IsSite s = (1 ≤ s) × (s ≤ sites_max)
 
 -- a boot number that a run comes to
 abbrev pub IsBoot : ℕ → Type 0
@@ -21,7 +22,7 @@ IsBoot b = (1 ≤ b) × (b ≤ 134217730)
 
 -- a boot number for each of sixteen sites, or 0
 abbrev pub AreBoots : List ℕ → Type 0
-AreBoots bs = (length bs ≡ 16) × ((t : ℕ) → boot_in bs t ≤ 134217730)
+AreBoots bs = (length bs ≡ sites_max) × ((t : ℕ) → boot_in bs t ≤ 134217730)
 
 -- who sends the packet and in which boot, and the epoch that it names, are of the format
 pub record StartFits (p : Packet) : Type 0 where

@@ -1,13 +1,14 @@
 -- A group of which some member has a pack is one of four, and some sites have packs of it.
-use Rattle.std.proofs.Common.{◌≡◌, ◌≤◌, ◌<◌, ◌^◌, ◌⊎◌, ℕ, zero, suc, ◌==◌, Bool, true, false, List, [], ◌∷◌, length, is_some, refl, ap, subst, arith, inl, inr}
+use Rattle.std.proofs.Common.{◌≡◌, ◌≤◌, ◌<◌, ◌⊎◌, ℕ, zero, suc, ◌==◌, Bool, true, false, List, [], ◌∷◌, length, is_some, refl, ap, subst, arith, inl, inr, ◌-◌}
 use Rattle.std.proofs.lemmas.Bool.Decides.{nat_tests}
 use Rattle.std.specs.Prelude.{slice_index_or}
 use Rattle.locus_ids.specs.declared.config.Config.{Config}
 use Rattle.locus_ids.specs.declared.sites.Members.{Members}
 use Rattle.locus_ids.specs.declared.sites.Sites.{Sites}
+use Rattle.locus_ids.specs.Sizes.{set_span}
 use Rattle.wire_fields.proofs.Members.{in_range}
 use Rattle.role_steps.specs.Views.{first_site, members_of, pack_sites}
-use Rattle.order_laws.specs.Joining.{PacksAreOfSites}
+use Rattle.rest_laws.specs.of_order_laws.Joining.{PacksAreOfSites}
 use Rattle.packet_value_laws.specs.Values.{PackFits, PacksFit}
 
 -- nobody has a pack of no sites
@@ -50,9 +51,9 @@ packs_fit c packs few members group e = over (below_or group (length c.packs))
     some : 1 ≤ (pack_sites c group).0
     some = synced_some members (pack_sites c group) e
 
-    narrow : (pack_sites c group).0 < 2 ^ 16
+    narrow : (pack_sites c group).0 < set_span
     narrow = packs group
 
     over : (group < length c.packs) ⊎ (length c.packs ≤ group) → PackFits c group
-    over (inl h) = (omega (arith, h, few), (in_range 1 65535 (pack_sites c group).0 some (omega (arith, narrow)), narrow))
+    over (inl h) = (omega (arith, h, few), (in_range 1 (set_span - 1) (pack_sites c group).0 some (omega (arith, narrow)), narrow))
     over (inr h) = absurd (let k : (pack_sites c group).0 ≡ 0 = ap (λ (s : Sites). s.0) (beyond c.packs group (record { 0 = 0 }) h) in omega (arith, some, k))

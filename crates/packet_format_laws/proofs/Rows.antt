@@ -1,9 +1,11 @@
 -- The stamps of the versions that are kept of a file ascend, and there are sixteen at most: each has a holder.
 use Rattle.std.proofs.Common.{◌≡◌, ◌≤◌, ◌<◌, ◌^◌, ◌⊎◌, ℕ, ◌+◌, ◌*◌, ◌==◌, nat_lt, Bool, true, false, cond, ◌&&◌, ◌||◌, List, [], ◌∷◌, filter, length, None, Some, refl, sym, ◌∙◌, subst, arith, inl, inr}
 use Rattle.std.proofs.lemmas.Bool.Decides.{nat_tests}
+use Rattle.role_steps.proofs.of_plain_facts.Tests.{and_true, true_false}
 use Rattle.locus_ids.specs.declared.config.Config.{Config}
 use Rattle.locus_ids.specs.declared.ids.EpochId.{EpochId}
 use Rattle.locus_ids.specs.declared.ids.Stamp.{Stamp}
+use Rattle.locus_ids.specs.Sizes.{sites_max}
 use Rattle.the_run.specs.Worlds.{Line}
 use Rattle.field_codec.specs.Lists.{AllFit}
 use Rattle.wire_fields.specs.Parts.{ascending_stamps, is_stamp, stamps, stamps_after}
@@ -17,14 +19,13 @@ use Rattle.role_steps.specs.declared.synchronizing.Holding.{Holding}
 use Rattle.role_steps.specs.declared.synchronizing.SyncTable.{SyncTable}
 use Rattle.role_steps.specs.declared.synchronizing.VersionRow.{VersionRow}
 use Rattle.the_run.specs.Kept.{Among}
-use Rattle.epoch_laws.proofs.Parts.{every_both}
+use Rattle.packet_value_laws.proofs.of_epoch_laws.Parts.{every_both}
 use Rattle.the_run.proofs.Boots.{every_weaker}
-use Rattle.tree_laws.proofs.Names.{true_false}
-use Rattle.tree_laws.specs.Stores.{Ascends}
-use Rattle.tree_laws.specs.Tables.{FileFact, HasHolder, IsOrderly}
-use Rattle.packet_fit_laws.specs.Fields.{AreBoots}
-use Rattle.packet_fit_laws.proofs.Lists.{every_kept}
-use Rattle.packet_fit_laws.proofs.Meeting.{listed_site}
+use Rattle.rest_laws.specs.of_tree_laws.Stores.{Ascends}
+use Rattle.rest_laws.specs.of_tree_laws.Tables.{FileFact, HasHolder, IsOrderly}
+use Rattle.packet_value_laws.specs.of_packet_fit_laws.Fields.{AreBoots}
+use Rattle.packet_value_laws.proofs.of_packet_fit_laws.Lists.{every_kept}
+use Rattle.packet_value_laws.proofs.of_packet_fit_laws.Meeting.{listed_site}
 use Rattle.packet_value_laws.specs.Values.{FileFits, HolderFits, KeptFit, TableFits, VersionFits}
 
 -- ---- how many ----
@@ -76,10 +77,10 @@ kept_few (v ∷ vs) hs asc all =
     other : (u : VersionRow) → version_key v < version_key u → (k : HeldIn hs u) → (held_key k.0 == held_key all.0.0) ≡ false
     other u low k = subst (λ (s : Stamp). (stamp_key s == held_key all.0.0) ≡ false) (sym k.2) (subst (λ (s : Stamp). (version_key u == stamp_key s) ≡ false) (sym all.0.2) (apart (version_key v) (version_key u) low))
 
-holders_few : (least : ℕ) (hs : List Holding) → least ≤ 17 → Ascends holding_site hs → Every (λ (h : Holding). (least ≤ h.site) × (h.site ≤ 16)) hs → length hs + least ≤ 17
+holders_few : (least : ℕ) (hs : List Holding) → least ≤ sites_max + 1 → Ascends holding_site hs → Every (λ (h : Holding). (least ≤ h.site) × (h.site ≤ sites_max)) hs → length hs + least ≤ sites_max + 1
 holders_few least [] le asc all = omega (arith, le)
 holders_few least (h ∷ hs) le asc all =
-    let rest : length hs + (h.site + 1) ≤ 17 = holders_few (h.site + 1) hs (omega (arith, all.0.1)) asc.1 (every_both (λ (y : Holding). h.site < y.site) (λ (y : Holding). (least ≤ y.site) × (y.site ≤ 16)) (λ (y : Holding). (h.site + 1 ≤ y.site) × (y.site ≤ 16)) hs (λ y low k. (omega (arith, low), k.1)) asc.0 all.1) in
+    let rest : length hs + (h.site + 1) ≤ sites_max + 1 = holders_few (h.site + 1) hs (omega (arith, all.0.1)) asc.1 (every_both (λ (y : Holding). h.site < y.site) (λ (y : Holding). (least ≤ y.site) × (y.site ≤ sites_max)) (λ (y : Holding). (h.site + 1 ≤ y.site) × (y.site ≤ sites_max)) hs (λ y low k. (omega (arith, low), k.1)) asc.0 all.1) in
     omega (arith, rest, all.0.0)
 
 -- ---- in which order ----
@@ -111,13 +112,9 @@ later a b x y low narrow = over (nat_lt a x) refl
     over true e = refl
     over false e = greater e
 
-both_of : (a b : Bool) → a ≡ true → b ≡ true → (a && b) ≡ true
-both_of true b e k = k
-both_of false b e k = absurd (cc)
-
 after_fits : (last s : Stamp) → stamps.Fits s → stamp_key last < stamp_key s → (stamps_after (Some last)).Fits s
 after_fits last s h low =
-    ((in_range last.site 16 s.site (later_site last.site last.n s.site s.n low h.1.1) (range 0 16 s.site h.0.0).1, h.0.1), (both_of (is_stamp s.site s.n) (nat_lt last.site s.site || nat_lt last.n s.n) h.1.0 (later last.site last.n s.site s.n low h.1.1), h.1.1))
+    ((in_range last.site sites_max s.site (later_site last.site last.n s.site s.n low h.1.1) (range 0 sites_max s.site h.0.0).1, h.0.1), (and_true (is_stamp s.site s.n) (nat_lt last.site s.site || nat_lt last.n s.n) h.1.0 (later last.site last.n s.site s.n low h.1.1), h.1.1))
 
 all_after : (last : Stamp) (vs : List VersionRow) → Every (λ (v : VersionRow). stamp_key last < version_key v) vs → Ascends version_key vs → Every VersionFits vs → AllFit stamps_after (λ _ (s : Stamp). Some s) (Some last) (stamps_of vs)
 all_after last [] low asc fits = tt
@@ -139,13 +136,13 @@ row_kept boots r fit h held orderly = (few, all_ascend r.kept asc h.keeps)
     asc : Ascends version_key r.kept
     asc = subst (Ascends version_key) (sym orderly.keeps) (filter_ascends version_key _ r.versions orderly.ascends)
 
-    sites_are : Every (λ (y : Holding). (1 ≤ y.site) × (y.site ≤ 16)) r.holders
-    sites_are = every_weaker (HolderFits boots) (λ (y : Holding). (1 ≤ y.site) × (y.site ≤ 16)) r.holders (λ y k. (listed_site boots y.site fit k.0).0) h.holders
+    sites_are : Every (λ (y : Holding). (1 ≤ y.site) × (y.site ≤ sites_max)) r.holders
+    sites_are = every_weaker (HolderFits boots) (λ (y : Holding). (1 ≤ y.site) × (y.site ≤ sites_max)) r.holders (λ y k. (listed_site boots y.site fit k.0).0) h.holders
 
     few : length (stamps_of r.kept) < 2 ^ 8
     few =
         let a : length r.kept ≤ length r.holders = kept_few r.kept r.holders asc held in
-        let b : length r.holders + 1 ≤ 17 = holders_few 1 r.holders (omega arith) orderly.sites sites_are in
+        let b : length r.holders + 1 ≤ sites_max + 1 = holders_few 1 r.holders (omega arith) orderly.sites sites_are in
         omega (arith, a, b, stamps_length r.kept)
 
 pub table_kept : (c : Config) (trace : List Line) (e : EpochId) (group : ℕ) (boots : List ℕ) (t : SyncTable) → AreBoots boots → Every (FileFact c trace e group) t.files → TableFits boots t → KeptFit t

@@ -2,6 +2,7 @@
 use Rattle.std.proofs.Common.{◌≡◌, ◌≤◌, ◌<◌, ◌^◌, ◌⊎◌, ℕ, ◌+◌, ◌*◌, ◌-◌, ◌==◌, nat_lt, Bool, true, false, cond, not, List, [], ◌∷◌, ◌++◌, length, map, filter, Option, None, Some, refl, sym, ◌∙◌, ap, subst, arith, inl, inr}
 use Rattle.std.proofs.lemmas.Bool.Decides.{nat_tests}
 use Rattle.std.proofs.lemmas.Nat.Bits.{bit_at-zero}
+use Rattle.role_steps.proofs.of_plain_facts.Tests.{true_false}
 use Rattle.locus_ids.specs.Sites.{has}
 use Rattle.locus_ids.specs.declared.config.Config.{Config}
 use Rattle.locus_ids.specs.declared.ids.EpochId.{EpochId}
@@ -10,6 +11,7 @@ use Rattle.schedule_lines.specs.declared.line.ScheduleLine.{ScheduleLine}
 use Rattle.schedule_lines.specs.declared.line.Line.{Line as LineWords}
 use Rattle.schedule_lines.specs.declared.line.Line.TheVariants as line
 use Rattle.locus_ids.specs.declared.sites.Sites.{Sites}
+use Rattle.locus_ids.specs.Sizes.{inode_span, set_span}
 use Rattle.trace_book.specs.declared.record.Record.TheVariants as says
 use Rattle.wire_fields.specs.Parts.{some_set}
 use Rattle.wire_fields.proofs.Members.{in_range}
@@ -29,35 +31,34 @@ use Rattle.the_run.specs.Worlds.{CutCircuit, Line, Numbered, Place, PlaceRow, Ru
 use Rattle.the_run.proofs.Boots.{acts_cases, at_each, every_newest, every_numbered, every_weaker}
 use Rattle.the_run.proofs.Events.{happened_keeps, puts_other, puts_same}
 use Rattle.the_run.proofs.InsideSync.{every_without}
-use Rattle.run_laws.specs.Naming.{MayCome}
-use Rattle.row_laws.specs.ByLine.{Gives, KeptIn}
-use Rattle.row_laws.specs.Voids.{LinesFit}
-use Rattle.row_laws.proofs.ByLine.{every_line}
-use Rattle.vector_laws.specs.Held.{OnDisk}
-use Rattle.vector_laws.proofs.Held.{KeepsCopies, boots_copies}
-use Rattle.vector_laws.proofs.SiteDisks.{step_disk}
+use Rattle.rest_laws.specs.of_run_laws.Naming.{MayCome}
+use Rattle.rest_laws.specs.of_row_laws.ByLine.{Gives, KeptIn}
+use Rattle.rest_laws.specs.of_row_laws.Voids.{LinesFit}
+use Rattle.rest_laws.proofs.of_row_laws.ByLine.{every_line}
+use Rattle.rest_laws.specs.of_vector_laws.Held.{OnDisk}
+use Rattle.rest_laws.proofs.of_vector_laws.Held.{KeepsCopies, boots_copies}
+use Rattle.rest_laws.proofs.of_vector_laws.SiteDisks.{step_disk}
 use Rattle.tree_model.specs.Epochs.{members_of}
-use Rattle.tree_laws.specs.Following.{IsFollowed}
-use Rattle.tree_laws.specs.Printed.{entries}
-use Rattle.tree_laws.proofs.Mending.{members_stay}
-use Rattle.tree_laws.proofs.Names.{true_false}
-use Rattle.order_laws.specs.Joining.{PacksAreOfSites}
-use Rattle.one_tree_laws.specs.Places.{SiteIn, WorldFact}
-use Rattle.one_tree_laws.specs.Rest.{IsRest, Past}
-use Rattle.one_tree_laws.specs.Roles.{EventFact, RolesDo}
-use Rattle.one_tree_laws.proofs.Composing.{rest_before}
-use Rattle.one_tree_laws.proofs.Rising.{every_among, row_key}
-use Rattle.one_tree_laws.proofs.Run.{event_fact, first_holds, kept, sent_fact}
-use Rattle.one_tree_laws.proofs.Staying.{stays}
-use Rattle.one_tree_laws.proofs.Worlds.{Holds}
+use Rattle.rest_laws.specs.of_tree_laws.Following.{IsFollowed}
+use Rattle.rest_laws.specs.of_tree_laws.Printed.{entries}
+use Rattle.rest_laws.proofs.of_tree_laws.Mending.{members_stay}
+use Rattle.rest_laws.specs.of_order_laws.Joining.{PacksAreOfSites}
+use Rattle.rest_laws.specs.of_one_tree_laws.Places.{SiteIn, WorldFact}
+use Rattle.rest_laws.specs.of_one_tree_laws.Rest.{IsRest, Past}
+use Rattle.rest_laws.specs.of_one_tree_laws.Roles.{EventFact, RolesDo}
+use Rattle.rest_laws.proofs.of_one_tree_laws.Composing.{rest_before}
+use Rattle.rest_laws.proofs.of_one_tree_laws.Rising.{every_among, row_key}
+use Rattle.rest_laws.proofs.of_one_tree_laws.Run.{event_fact, first_holds, kept, sent_fact}
+use Rattle.rest_laws.proofs.of_one_tree_laws.Staying.{stays}
+use Rattle.rest_laws.proofs.of_one_tree_laws.Worlds.{Holds}
 use Rattle.rest_laws.proofs.Resting.{run_low, run_rests}
 use Rattle.rest_laws.proofs.Roles.{roles_do}
-use Rattle.packet_fit_laws.proofs.Epochs.{Counted, counted_kept, first_counted}
-use Rattle.packet_fit_laws.proofs.FormingRun.{Good, first_good, good_kept, sent_comes}
-use Rattle.packet_fit_laws.proofs.Lists.{Comes, every_kept}
-use Rattle.packet_fit_laws.proofs.Meeting.{every_passing}
-use Rattle.epoch_laws.proofs.Parts.{every_both}
-use Rattle.packet_order.specs.Counts.{FitsIfCounted}
+use Rattle.packet_value_laws.proofs.of_packet_fit_laws.Epochs.{Counted, counted_kept, first_counted}
+use Rattle.packet_value_laws.proofs.of_packet_fit_laws.FormingRun.{Good, first_good, good_kept, sent_comes}
+use Rattle.packet_value_laws.proofs.of_packet_fit_laws.Lists.{Comes, every_kept}
+use Rattle.packet_value_laws.proofs.of_packet_fit_laws.Meeting.{every_passing}
+use Rattle.packet_value_laws.proofs.of_epoch_laws.Parts.{every_both}
+use Rattle.packet_value_laws.specs.of_packet_order.Counts.{FitsIfCounted}
 use Rattle.packet_value_laws.specs.Bodies.{NamesNone}
 use Rattle.packet_value_laws.specs.Values.{CopiesFit, CopyFits, RisesFrom, SiteValues}
 use Rattle.packet_value_laws.proofs.Fields.{every_some, ino_fits, none_fits, nothing_fits, size_fits}
@@ -160,7 +161,7 @@ does : (c : Config) → length c.packs ≤ 4 → (n s : ℕ) (e : Event) (v : Si
 does c few n s e v w here comes fact holds good g = acts_cases (Fitting c) n s v o w
     (happened_fits c n o.sent o.told (λ now. puts s (Running o.view) now) w refl refl (λ r k. (placed c s (Running o.view) w (done r k).view k.0, packets r k)) holds g)
     (λ a. happened_fits c n o.sent o.told (λ now. puts s (Running o.view) (arms a now)) w refl refl (λ r k. (placed c s (Running o.view) (arms a w) (done r k).view k.0, packets r k)) holds g)
-    (λ d a q. stops_fit c n s (cut_told s d a.how a.left) (cut_disk v.boot v.store d a.how a.left) w (λ r k. cut_copies s v o d q (step_disk c s (links_of w s) v e) (k.0 s (Running v) here).store.copies (done r k).view.store.copies (is_on_disk d a.how a.left)) holds g)
+    (λ d a q. stops_fit c n s (cut_told s v.store d a.how a.left) (cut_disk v.boot v.store d a.how a.left) w (λ r k. cut_copies s v o d q (step_disk c s (links_of w s) v e) (k.0 s (Running v) here).store.copies (done r k).view.store.copies (is_on_disk v.store d a.how a.left)) holds g)
   where
     o : Outcome SiteView
     o = step c s (links_of w s) v e
@@ -266,9 +267,9 @@ rises_less : (a b : ℕ) (xs : List FileCopy) → a ≤ b → RisesFrom b xs →
 rises_less a b [] le h = tt
 rises_less a b (x ∷ xs) le h = (omega (arith, le, h.0), h.1)
 
-root_rises : (c : Config) (b : Bool) (group least : ℕ) (gs : List ℕ) → least ≤ group * 65536 + 1 → RisesFrom (group * 65536 + 1 + 1) (map (root_copy c) gs) → RisesFrom least (map (root_copy c) (cond b (group ∷ gs) gs))
+root_rises : (c : Config) (b : Bool) (group least : ℕ) (gs : List ℕ) → least ≤ group * inode_span + 1 → RisesFrom (group * inode_span + 1 + 1) (map (root_copy c) gs) → RisesFrom least (map (root_copy c) (cond b (group ∷ gs) gs))
 root_rises c true group least gs le h = (le, h)
-root_rises c false group least gs le h = rises_less least (group * 65536 + 1 + 1) (map (root_copy c) gs) (omega (arith, le)) h
+root_rises c false group least gs le h = rises_less least (group * inode_span + 1 + 1) (map (root_copy c) gs) (omega (arith, le)) h
 
 has_some : (set : Sites) (s : ℕ) → has set s ≡ true → 1 ≤ set.0
 has_some set s e = over (set.0 == 0) refl
@@ -294,8 +295,8 @@ root_fits c packs s group low e = record {
   version = (none_fits, (refl, nothing_fits));
 }
   where
-    set_is : 1 ≤ (pack_sites c group).0 → (pack_sites c group).0 < 2 ^ 16 → some_set.Fits (pack_sites c group)
-    set_is a b = (in_range 1 65535 (pack_sites c group).0 a (omega (arith, b)), b)
+    set_is : 1 ≤ (pack_sites c group).0 → (pack_sites c group).0 < set_span → some_set.Fits (pack_sites c group)
+    set_is a b = (in_range 1 (set_span - 1) (pack_sites c group).0 a (omega (arith, b)), b)
 
 formatted_fits : (c : Config) → PacksAreOfSites c → (s : ℕ) → CopiesFit (formatted c s)
 formatted_fits c packs s = record {

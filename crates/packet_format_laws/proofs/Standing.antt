@@ -2,6 +2,8 @@
 use Rattle.std.proofs.Common.{◌≡◌, ◌≤◌, ◌⊎◌, ℕ, ◌==◌, Bool, true, false, ◌&&◌, List, length, Option, None, Some, refl, sym, ◌∙◌, ap, subst, arith, inl, inr}
 use Rattle.std.proofs.lemmas.Bool.Decides.{nat_tests}
 use Rattle.std.specs.Prelude.{nat_le}
+use Rattle.role_steps.proofs.of_plain_facts.Options.{some_same}
+use Rattle.role_steps.proofs.of_plain_facts.Tests.{both_true, true_false}
 use Rattle.locus_ids.specs.Sites.{has}
 use Rattle.locus_ids.specs.declared.config.Config.{Config}
 use Rattle.locus_ids.specs.declared.ids.EpochId.{EpochId}
@@ -30,37 +32,36 @@ use Rattle.the_run.specs.Kept.{Among, WasSent}
 use Rattle.the_run.specs.Steps.{is_framed, step}
 use Rattle.the_run.specs.Worlds.{Line, Numbered, Place, Running, Stopped, World, links_of, place_at}
 use Rattle.the_run.proofs.InsideSync.{Found, row_found}
-use Rattle.run_laws.specs.Naming.{MayCome}
-use Rattle.run_laws.proofs.Run.{found_among}
-use Rattle.epoch_laws.specs.Forming.{FormsNone}
-use Rattle.epoch_laws.specs.Known.{ViewFact}
-use Rattle.epoch_laws.proofs.Handlers.{both_true, same_epoch_eq}
-use Rattle.epoch_laws.proofs.Parts.{every_both}
-use Rattle.epoch_laws.proofs.Run.{view_outside}
+use Rattle.rest_laws.specs.of_run_laws.Naming.{MayCome}
+use Rattle.rest_laws.proofs.of_run_laws.Run.{found_among}
+use Rattle.packet_value_laws.specs.of_epoch_laws.Forming.{FormsNone}
+use Rattle.packet_value_laws.specs.of_epoch_laws.Known.{ViewFact}
+use Rattle.packet_value_laws.proofs.of_epoch_laws.Handlers.{same_epoch_eq}
+use Rattle.packet_value_laws.proofs.of_epoch_laws.Parts.{every_both}
+use Rattle.packet_value_laws.proofs.of_epoch_laws.Run.{view_outside}
 use Rattle.tree_model.specs.Epochs.{members_of}
-use Rattle.tree_laws.specs.Instances.{IsStarted, held_in}
-use Rattle.tree_laws.specs.Packets.{BodyFact, IsReporter, PacketFact, ReportFact, ReportsNow, file_in}
-use Rattle.tree_laws.specs.Printed.{entries}
-use Rattle.tree_laws.specs.Tables.{FilesFact, HoldsJust, ReportedFiles, TableFact}
-use Rattle.tree_laws.proofs.Names.{true_false}
-use Rattle.order_laws.specs.Joining.{PacksAreOfSites}
-use Rattle.one_tree_laws.specs.Places.{InsideFact, SiteIn, WorldFact}
-use Rattle.one_tree_laws.specs.Rest.{Past}
-use Rattle.one_tree_laws.specs.Roles.{EventFact, MayCall, Ready, TableHere}
-use Rattle.one_tree_laws.proofs.Inside.{table_here}
-use Rattle.one_tree_laws.proofs.Rising.{row_key}
+use Rattle.rest_laws.specs.of_tree_laws.Instances.{IsStarted, held_in}
+use Rattle.rest_laws.specs.of_tree_laws.Packets.{BodyFact, IsReporter, PacketFact, ReportFact, ReportsNow, file_in}
+use Rattle.rest_laws.specs.of_tree_laws.Printed.{entries}
+use Rattle.rest_laws.specs.of_tree_laws.Tables.{FilesFact, HoldsJust, ReportedFiles, TableFact}
+use Rattle.rest_laws.specs.of_order_laws.Joining.{PacksAreOfSites}
+use Rattle.rest_laws.specs.of_one_tree_laws.Places.{InsideFact, SiteIn, WorldFact}
+use Rattle.rest_laws.specs.of_one_tree_laws.Rest.{Past}
+use Rattle.rest_laws.specs.of_one_tree_laws.Roles.{EventFact, MayCall, Ready, TableHere}
+use Rattle.rest_laws.proofs.of_one_tree_laws.Inside.{table_here}
+use Rattle.rest_laws.proofs.of_one_tree_laws.Rising.{row_key}
 use Rattle.rest_laws.specs.EpochTreeCounting.{IsNotedRight}
 use Rattle.rest_laws.proofs.EpochTreeCounted.{report_table}
 use Rattle.rest_laws.proofs.EpochTreeMembers.{reporter_counts, reporter_low}
 use Rattle.rest_laws.proofs.EpochTreeNoting.{report_files}
 use Rattle.packet_fit.proofs.ShortBodies.{short}
-use Rattle.packet_fit_laws.specs.Fields.{Agrees, AreBoots, FitsInPart, IsBoot}
-use Rattle.packet_fit_laws.proofs.Epochs.{Counted}
-use Rattle.packet_fit_laws.proofs.FormingRun.{Good, boot_fits, come_event, next_fit, site_fits}
-use Rattle.packet_fit_laws.proofs.Lists.{Comes}
-use Rattle.packet_fit_laws.proofs.Meeting.{IsAddressed}
-use Rattle.packet_fit_laws.proofs.Places.{links_low, own_place}
-use Rattle.packet_order.specs.Counts.{FitsIfCounted, IsCounted}
+use Rattle.packet_value_laws.specs.of_packet_fit_laws.Fields.{Agrees, AreBoots, FitsInPart, IsBoot}
+use Rattle.packet_value_laws.proofs.of_packet_fit_laws.Epochs.{Counted}
+use Rattle.packet_value_laws.proofs.of_packet_fit_laws.FormingRun.{Good, boot_fits, come_event, next_fit, site_fits}
+use Rattle.packet_value_laws.proofs.of_packet_fit_laws.Lists.{Comes}
+use Rattle.packet_value_laws.proofs.of_packet_fit_laws.Meeting.{IsAddressed}
+use Rattle.packet_value_laws.proofs.of_packet_fit_laws.Places.{links_low, own_place}
+use Rattle.packet_value_laws.specs.of_packet_order.Counts.{FitsIfCounted, IsCounted}
 use Rattle.packet_value_laws.specs.Bodies.{FitsBut, IsListed, NamesListed, NamesNone}
 use Rattle.packet_value_laws.specs.Values.{CopiesFit, Grounds, KeptAt, KeptFit, SiteValues, TableFits, boots_in}
 use Rattle.packet_value_laws.proofs.Scripts.{scripts_fit}
@@ -95,9 +96,6 @@ pub grounds : (c : Config) → PacksAreOfSites c → length c.packs ≤ 4 → Gr
 grounds c packs few = record { scripts = scripts_fit c; packs = packs_fit c packs few; shown = shown_fit }
 
 -- ---- the tables of a site in its epoch ----
-
-some_is : {A : Type 0} (x y : A) → ◌≡◌ {A = Option A} (Some x) (Some y) → x ≡ y
-some_is x y e = cc
 
 found_is : {A : Type 0} (P : A → Type 0) (o : Option A) (x : A) → o ≡ Some x → Found P o → P x
 found_is P o x e h = subst (Found P) e h
@@ -200,7 +198,7 @@ module _ (c : Config) (w : World) (past : Past c w.trace) (few : length c.packs 
   names_here : (o : Option InEpoch) (p : Packet) → SiteIn c s w.trace v o → is_framed p o ≡ true → NamesNone p.body ⊎ NamesKnown w.trace p → NamesHere o p.body
   names_here None p h q k = tt
   names_here (Some e) p h q (inl none) = none e.members.boot
-  names_here (Some e) p h q (inr k) = subst (λ (m : Members). NamesListed m.boot p.body) (some_is k.0 e.members (sym k.1 ∙ (ap (members_of (entries w.trace)) (sym (framed_epoch e p q).0) ∙ h.frame.members_are))) k.2
+  names_here (Some e) p h q (inr k) = subst (λ (m : Members). NamesListed m.boot p.body) (some_same k.0 e.members (sym k.1 ∙ (ap (members_of (entries w.trace)) (sym (framed_epoch e p q).0) ∙ h.frame.members_are))) k.2
 
   kept_here : (o : Option InEpoch) (p : Packet) → v.epoch ≡ o → SiteIn c s w.trace v o → is_framed p o ≡ true → IsBoot p.from_boot → FitsBut p.body → PacketFact c w.trace p → KeptAt v p.from p.body
   kept_here None p at h q boot k body = absurd (true_false (sym q))

@@ -6,11 +6,11 @@ ghost use Rattle.role_steps.specs.Views.{Event, SiteView};
 ghost use Rattle.the_run.specs.Runs.{run_in};
 ghost use Rattle.the_run.specs.Steps.{step};
 ghost use Rattle.the_run.specs.Worlds.{Running, links_of, place_at};
-ghost use Rattle.run_laws.specs.Naming.{MayCome};
-ghost use Rattle.row_laws.specs.Voids.{LinesFit};
-ghost use Rattle.order_laws.specs.Joining.{PacksAreOfSites};
-ghost use Rattle.one_tree_laws.specs.Roles.{EventFact};
-ghost use Rattle.packet_order.specs.Counts.{FitsIfCounted};
+ghost use Rattle.rest_laws.specs.of_run_laws.Naming.{MayCome};
+ghost use Rattle.rest_laws.specs.of_row_laws.Voids.{LinesFit};
+ghost use Rattle.rest_laws.specs.of_order_laws.Joining.{PacksAreOfSites};
+ghost use Rattle.rest_laws.specs.of_one_tree_laws.Roles.{EventFact};
+ghost use Rattle.packet_value_laws.specs.of_packet_order.Counts.{FitsIfCounted};
 
 /// After every schedule each packet that the next event of a running site sends is of the format, of each kind, and to a site and a boot
 /// of the format, where its counts have numbers of their sizes: those of calls, requests, takes, opens and operations. The event is a

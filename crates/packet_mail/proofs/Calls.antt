@@ -4,6 +4,7 @@ use Rattle.std.specs.Option.{is_some, IfSome}
 use Rattle.std.specs.List.{list_any, slice_range}
 use Rattle.std.proofs.lemmas.Bool.Decides.{nat_tests}
 use Rattle.std.proofs.lemmas.List.{get_or-set_other, length-set, reverse-append}
+use Rattle.locus_ids.specs.Sizes.{sites_max}
 use Rattle.trace_book.specs.declared.packet_kind.PacketKind.{PacketKind}
 use Rattle.wire_messages.specs.declared.body.Body.{Body}
 use Rattle.wire_messages.specs.declared.body.Body.TheVariants as body
@@ -11,8 +12,8 @@ use Rattle.wire_messages.specs.Bodies.{kind_number, kind_of}
 use Rattle.wire_messages.specs.declared.packet.Packet.{Packet}
 use Rattle.packet_mail.specs.Kinds.{kind_numbered}
 use Rattle.wire_messages.specs.Packets.{IsPacket}
-use Rattle.role_steps.specs.Tables.{row, first_that}
-use Rattle.the_run.specs.Worlds.{Numbered, number_of}
+use Rattle.packet_queue.specs.of_role_steps.Tables.{row, first_that}
+use Rattle.circuits.specs.of_the_run.Worlds.{Numbered, number_of}
 use Rattle.wire_fields.proofs.Members.{range}
 use Rattle.circuits.specs.Circuits.{circuit_of, sender_on, receiver_on}
 use Rattle.circuits.proofs.Cuts.{first_site, second_site}
@@ -136,8 +137,8 @@ ends_are q ends log lost w t v zero s h = absurd (omega arith)
 ends_are q ends log lost w t v (suc k) s h =
     let l = t.letters k h in
     let e : packet_of_bytes (letter ends log (suc k)) ≡ l.packet = packet_is (letter ends log (suc k)) l.packet l.is_packet in
-    let a = range 1 16 l.packet.from l.is_packet.1.from.0 in
-    let b = range 1 16 l.packet.to l.is_packet.1.to.0 in
+    let a = range 1 sites_max l.packet.from l.is_packet.1.from.0 in
+    let b = range 1 sites_max l.packet.to l.is_packet.1.to.0 in
     let r = sent_row q ends log lost w t v (suc k) s h in (
       ap (λ y. Some (sender_on y)) l.on ∙ (ap (λ y. Some y) (first_site l.packet.from l.packet.to a.0 b.0 b.1 ∙ ap (λ (p : Packet). p.from) (sym e)) ∙ sym (ap sender_in r)),
       ap (λ y. Some (receiver_on y)) l.on ∙ (ap (λ y. Some y) (second_site l.packet.from l.packet.to b.0 b.1 ∙ ap (λ (p : Packet). p.to) (sym e)) ∙ sym (ap receiver_in r)),

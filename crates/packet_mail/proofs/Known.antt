@@ -3,7 +3,7 @@ use Rattle.std.proofs.Common.{◌≡◌, ℕ, zero, suc, ◌+◌, ◌<◌, List,
 use Rattle.std.specs.List.{AllByRecursion}
 use Rattle.wire_messages.specs.declared.packet.Packet.{Packet}
 use Rattle.wire_messages.specs.Packets.{FitsPacket}
-use Rattle.the_run.specs.Worlds.{Numbered}
+use Rattle.circuits.specs.of_the_run.Worlds.{Numbered}
 use Rattle.packet_queue.specs.Queues.{Queues, numbers_of}
 use Rattle.packet_mail.specs.Posts.{Post, IsKnown}
 use Rattle.packet_mail.specs.Letters.{letter, numbered, post_of, InOrder}

@@ -1,12 +1,11 @@
 -- The listing of the packets under way.
-use Rattle.std.proofs.Common.{◌≡◌, ℕ, zero, suc, ◌+◌, ◌<◌, ◌≤◌, List, [], ◌∷◌, ◌++◌, length, map, get_or, take, Option, Some, None, Bool, true, false, refl, sym, ap, subst, ◌∙◌, arith}
+use Rattle.std.proofs.Common.{◌≡◌, ℕ, zero, suc, ◌+◌, ◌<◌, List, [], ◌∷◌, ◌++◌, length, map, get_or, take, Option, Some, None, Bool, true, false, refl, sym, ap, subst, ◌∙◌, arith}
 use Rattle.std.specs.Option.{IfSome}
-use Rattle.std.proofs.lemmas.List.{map-append, take_all}
+use Rattle.std.proofs.lemmas.List.{map-append}
 use Rattle.trace_book.specs.declared.packet_kind.PacketKind.{PacketKind}
 use Rattle.wire_messages.specs.Bodies.{kind_of}
-use Rattle.wire_messages.specs.declared.packet.Packet.{Packet}
-use Rattle.role_steps.specs.Tables.{row}
-use Rattle.the_run.specs.Worlds.{Numbered, number_of}
+use Rattle.packet_queue.specs.of_role_steps.Tables.{row}
+use Rattle.circuits.specs.of_the_run.Worlds.{Numbered, number_of}
 use Rattle.packet_queue.specs.Queues.{Queues, numbers_of}
 use Rattle.packet_queue.proofs.Threads.{split, pending_yes, pending_no}
 use Rattle.packet_mail.specs.declared.mail.PendingPacket.{PendingPacket}
@@ -35,11 +34,6 @@ listed_is k from to kind m = listed_in k from to kind (sent_at k m) (row_key k m
 abbrev pub listing : List ℕ → List ℕ → List Bool → List PendingPacket
 listing ends log ws = map pending_of (map (numbered ends log) (numbers_of 0 ws))
 
-pub listing_starts : (ends log : List ℕ) (ws : List Bool) → get_or ws 0 false ≡ false → [] ≡ listing ends log (take 1 ws)
-listing_starts ends log [] e = refl
-listing_starts ends log (true ∷ ws) e = absurd (cc)
-listing_starts ends log (false ∷ ws) e = refl
-
 if_some : (P : Numbered → Type 0) (o : Option Numbered) (x : Numbered) → o ≡ Some x → IfSome o P → P x
 if_some P o x e h = subst (λ y. IfSome y P) e h
 
@@ -57,6 +51,3 @@ listing_yes q ends log lost w t v k r p made made' s l e y i g h =
 
 pub listing_no : (ends log : List ℕ) (ws : List Bool) (k : ℕ) (r : Bool) (made : List PendingPacket) → k < length ws → r ≡ get_or ws k false → r ≡ false → made ≡ listing ends log (take k ws) → made ≡ listing ends log (take (k + 1) ws)
 listing_no ends log ws k r made l e y h = h ∙ sym (ap (λ ks. map pending_of (map (numbered ends log) ks)) (pending_no k ws r l (e ∙ same_read ws k false r l) y))
-
-pub listing_ends : (q : Queues) (ends log lost : List ℕ) (w : Post) (k : ℕ) (made : List PendingPacket) → post_of q ends log lost ≡ w → length q.underway ≤ k → made ≡ listing ends log (take k q.underway) → made ≡ map pending_of w.underway
-listing_ends q ends log lost w k made v l h = h ∙ (ap (listing ends log) (take_all k q.underway l) ∙ ap (λ (m : Post). map pending_of m.underway) v)

@@ -5,25 +5,20 @@ use Rattle.std.specs.List.{slice_range}
 use Rattle.std.proofs.lemmas.Bool.Decides.{nat_tests}
 use Rattle.std.proofs.lemmas.List.{get_or-set_same, get_or-set_other, length-append, length-drop, take-append-le, drop-append-le, take_all}
 use Rattle.std.proofs.Math.Seq.{drop-append_seam}
+use Rattle.packet_queue.proofs.of_plain_facts.Numbers.{differ_test, same_test}
 use Rattle.field_codec.specs.Codec.{whole}
 use Rattle.field_codec.proofs.Laws.{whole_again}
 use Rattle.wire_messages.specs.declared.packet.Packet.{Packet}
 use Rattle.wire_messages.specs.Packets.{packets, IsPacket}
 use Rattle.wire_messages.proofs.PacketLaws.{packets_laws}
-use Rattle.role_steps.specs.Tables.{row, without_row, first_that}
-use Rattle.the_run.specs.Worlds.{Numbered, number_of}
+use Rattle.packet_queue.specs.of_role_steps.Tables.{row, without_row, first_that}
+use Rattle.circuits.specs.of_the_run.Worlds.{Numbered, number_of}
 use Rattle.packet_queue.specs.Queues.{numbers_of}
 use Rattle.packet_queue.proofs.Threads.{split, either}
 use Rattle.packet_mail.specs.Posts.{number_in}
 use Rattle.packet_mail.specs.Letters.{packet_or_none, packet_of_bytes, letter, numbered, sent_to}
 
 -- ---- numbers ----
-
-unequal : (a b : ℕ) → a ≢ b → nat_eq a b ≡ false
-unequal a b e = grind (arith, nat_tests)
-
-same : (a b : ℕ) → a ≡ b → nat_eq a b ≡ true
-same a b e = grind (arith, nat_tests)
 
 pub put : {A : Type 0} (xs : List A) (i j : ℕ) (v d : A) → i < length xs → j ≡ i → get_or (set xs i v) j d ≡ v
 put xs i j v d l e = ap (λ y. get_or (set xs i v) y d) e ∙ get_or-set_same xs i v d l
@@ -42,16 +37,16 @@ take_other : {A : Type 0} (x y : A) (b : Bool) → b ≡ false → ◌≡◌ {A 
 take_other x y b e = ap (λ t. elim t [ true ↦ x | false ↦ y ]) e
 
 pub here : (k : ℕ) (x : Numbered) (xs : List Numbered) → x.number ≡ k → row number_of k (x ∷ xs) ≡ Some x
-here k x xs e = take_this (Some x) (row number_of k xs) (nat_eq x.number k) (same x.number k e)
+here k x xs e = take_this (Some x) (row number_of k xs) (nat_eq x.number k) (same_test x.number k e)
 
 pub further : (k : ℕ) (x : Numbered) (xs : List Numbered) → x.number ≢ k → row number_of k (x ∷ xs) ≡ row number_of k xs
-further k x xs e = take_other (Some x) (row number_of k xs) (nat_eq x.number k) (unequal x.number k e)
+further k x xs e = take_other (Some x) (row number_of k xs) (nat_eq x.number k) (differ_test x.number k e)
 
 away : (k : ℕ) (x : Numbered) (xs : List Numbered) → x.number ≡ k → without_row number_of k (x ∷ xs) ≡ xs
-away k x xs e = take_this xs (x ∷ without_row number_of k xs) (nat_eq x.number k) (same x.number k e)
+away k x xs e = take_this xs (x ∷ without_row number_of k xs) (nat_eq x.number k) (same_test x.number k e)
 
 stays : (k : ℕ) (x : Numbered) (xs : List Numbered) → x.number ≢ k → without_row number_of k (x ∷ xs) ≡ x ∷ without_row number_of k xs
-stays k x xs e = take_other xs (x ∷ without_row number_of k xs) (nat_eq x.number k) (unequal x.number k e)
+stays k x xs e = take_other xs (x ∷ without_row number_of k xs) (nat_eq x.number k) (differ_test x.number k e)
 
 module _ (ends log : List ℕ) where
   without_less : (k n : ℕ) (ws : List Bool) → k < n → without_row number_of k (map (numbered ends log) (numbers_of n ws)) ≡ map (numbered ends log) (numbers_of n ws)
@@ -103,10 +98,6 @@ module _ (ends log : List ℕ) where
       (λ t. take_this (Some n) (first_that g (numbers_of (n + 1) ws)) (g n) (e ∙ t) ∙ sym (ap number_in (take_this (Some (numbered ends log n)) (first_that test (map (numbered ends log) (numbers_of (n + 1) ws))) (test (numbered ends log n)) t)))
       (λ t. take_other (Some n) (first_that g (numbers_of (n + 1) ws)) (g n) (e ∙ t) ∙ (rest ∙ sym (ap number_in (take_other (Some (numbered ends log n)) (first_that test (map (numbered ends log) (numbers_of (n + 1) ws))) (test (numbered ends log n)) t))))
   first_same test g n (false ∷ ws) h = first_same test g (n + 1) ws (λ k l w. let y : (n + 1) + k ≡ n + suc k = omega arith in ap g y ∙ (h (suc k) (omega arith) w ∙ sym (ap (λ x. test (numbered ends log x)) y)))
-
-  pub sent_length : (n : ℕ) → length (sent_to ends log n) ≡ n
-  sent_length zero = refl
-  sent_length (suc n) = rw (sent_length n) refl
 
 -- ---- letters ----
 

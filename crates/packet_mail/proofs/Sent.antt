@@ -6,7 +6,7 @@ use Rattle.field_codec.specs.Codec.{u32}
 use Rattle.wire_messages.specs.declared.packet.Packet.{Packet}
 use Rattle.wire_messages.specs.Bodies.{body_bytes}
 use Rattle.wire_messages.specs.Packets.{headers, header_of, packet_bytes, IsPacket}
-use Rattle.the_run.specs.Worlds.{Numbered, packet_size}
+use Rattle.circuits.specs.of_the_run.Worlds.{Numbered, packet_size}
 use Rattle.circuits.specs.Circuits.{circuit_of}
 use Rattle.packet_queue.specs.Queues.{Queues, numbers_of}
 use Rattle.packet_queue.proofs.Threads.{split}

@@ -6,7 +6,7 @@ use Rattle.field_codec.specs.Codec.{whole}
 use Rattle.wire_messages.specs.declared.body.Body.TheVariants as body
 use Rattle.wire_messages.specs.declared.packet.Packet.{Packet}
 use Rattle.wire_messages.specs.Packets.{packets, IsPacket}
-use Rattle.the_run.specs.Worlds.{Numbered, no_epoch}
+use Rattle.circuits.specs.of_the_run.Worlds.{Numbered, no_epoch}
 use Rattle.circuits.specs.Circuits.{circuit_of}
 use Rattle.packet_queue.specs.Queues.{Queues, numbers_of}
 use Rattle.packet_mail.specs.Posts.{Post}

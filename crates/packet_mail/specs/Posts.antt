@@ -4,8 +4,8 @@ use Rattle.std.specs.List.{list_any}
 use Rattle.wire_messages.specs.Bodies.{kind_of}
 use Rattle.wire_messages.specs.declared.packet.Packet.{Packet}
 use Rattle.wire_messages.specs.Packets.{FitsPacket}
-use Rattle.role_steps.specs.Tables.{row, without_row, total, first_that}
-use Rattle.the_run.specs.Worlds.{World, Limit, Numbered, number_of, numbered_from, newest_onto, packet_size, limit_passed}
+use Rattle.packet_queue.specs.of_role_steps.Tables.{row, without_row, total, first_that}
+use Rattle.circuits.specs.of_the_run.Worlds.{World, Limit, Numbered, number_of, numbered_from, newest_onto, packet_size, limit_passed}
 use Rattle.circuits.specs.Circuits.{circuit_of}
 use Rattle.packet_mail.specs.declared.mail.PendingPacket.{PendingPacket}
 

@@ -7,17 +7,18 @@ use crate::letters::part;
 use locus_ids::{Bytes, NoMemory};
 use std::alloc::Global;
 use std::marker::Model;
-use wire_messages::{Body, Encoder, Packet, kind_number};
+use wire_messages::{Body, Packet};
+use wire_writing::{Encoder, kind_number};
 
 /// Where the bytes of a packet stand.
-#[derive(Clone, Copy, Debug, PartialEq, Eq)]
+#[derive(Clone, Copy, PartialEq, Eq)]
 pub(crate) struct Span {
     start: usize,
     end: usize,
 }
 
 /// The bytes of packets, each alone. The memory that they took is kept when they are taken away.
-#[derive(Debug, Drop)]
+#[derive(Drop)]
 pub struct Letters {
     row: Bytes,
     places: Vec<Span>,

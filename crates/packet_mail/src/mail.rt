@@ -2,7 +2,7 @@ ghost use Rattle.std.specs.Prelude.{◌≡◌, ◌≢◌, ℕ, ◌+◌, ◌<◌,
 ghost use Rattle.std.specs.List.{AllByRecursion};
 ghost use Rattle.wire_messages.specs.Bodies.{kind_of};
 ghost use Rattle.wire_messages.specs.Packets.{IsPacket};
-ghost use Rattle.the_run.specs.Worlds.{Limit};
+ghost use Rattle.circuits.specs.of_the_run.Worlds.{Limit};
 ghost use Rattle.packet_mail.specs.Posts.{Post, no_post, posts, limit_of_packet, passes, loses, sent_at, is_sent, is_lost, is_underway, number_in, packet_in, next_number, sender_in, receiver_in, pending_of, IsKnown};
 ghost use Rattle.packet_mail.specs.Letters.{post_of, InOrder, TellsLost, IsLetter};
 
@@ -22,7 +22,7 @@ use wire_messages::Packet;
 pub const MOST_PACKETS: u32 = 262_144;
 
 /// A packet under way, as the schedule's listing tells it.
-#[derive(Clone, Copy, Debug, PartialEq, Eq)]
+#[derive(Clone, Copy, PartialEq, Eq)]
 pub struct PendingPacket {
     pub number: u32,
     pub from: SiteId,

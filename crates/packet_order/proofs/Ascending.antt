@@ -4,6 +4,7 @@ use Rattle.std.specs.List.{AllByRecursion}
 use Rattle.std.specs.declared.cmp.Ordering.TheVariants.{Equal, Greater}
 use Rattle.std.specs.Cmp.{nat_cmp_is}
 use Rattle.std.proofs.lemmas.Bool.{cases_lt}
+use Rattle.locus_ids.specs.Sizes.{sites_max}
 use Rattle.wire_messages.specs.declared.packet.Packet.{Packet}
 use Rattle.wire_messages.specs.Bodies.{kind_number}
 use Rattle.role_steps.specs.Tables.{put_before, sorted_onto}
@@ -12,7 +13,7 @@ use Rattle.packet_order.specs.Orders.{key}
 use Rattle.packet_order.proofs.Placing.{drop_at, get_some}
 
 -- one with a greater key isn't before one with a lesser
-behind : (x y : Packet) → x.to ≤ 16 → key y < key x → is_before x y ≡ false
+behind : (x y : Packet) → x.to ≤ sites_max → key y < key x → is_before x y ≡ false
 behind x y few lt = ⊎_elim
     (λ (less : kind_number y.body < kind_number x.body). let e = nat_cmp_is (kind_number x.body) (kind_number y.body) Greater less in rw (is_before, sym e) refl)
     (λ (ge : kind_number x.body ≤ kind_number y.body).
@@ -24,7 +25,7 @@ behind x y few lt = ⊎_elim
     (cases_lt (kind_number y.body) (kind_number x.body))
 
 -- so it comes last
-comes_last : (x : Packet) (done : List Packet) (last : ℕ) → x.to ≤ 16 → last < key x → AllByRecursion (λ (y : Packet). key y ≤ last) done → put_before is_before x done ≡ done ++ x ∷ []
+comes_last : (x : Packet) (done : List Packet) (last : ℕ) → x.to ≤ sites_max → last < key x → AllByRecursion (λ (y : Packet). key y ≤ last) done → put_before is_before x done ≡ done ++ x ∷ []
 comes_last x [] last few lt all = refl
 comes_last x (y ∷ ys) last few lt all =
     let first : key y ≤ last = all.0 in
@@ -44,7 +45,7 @@ pub record AscendTo (ps : List Packet) (i last : ℕ) : Type 0 where
   pub sorted : sorted_onto is_before (take i ps) (drop i ps) ≡ in_order ps
   pub below : AllByRecursion (λ (y : Packet). key y ≤ last) (take i ps)
 
-ascend_more : (ps : List Packet) (i last : ℕ) (p : Packet) → i < length ps → p ≡ get_or ps i p → p.to ≤ 16 → last < key p → AscendTo ps i last → AscendTo ps (i + 1) (key p)
+ascend_more : (ps : List Packet) (i last : ℕ) (p : Packet) → i < length ps → p ≡ get_or ps i p → p.to ≤ sites_max → last < key p → AscendTo ps i last → AscendTo ps (i + 1) (key p)
 ascend_more ps i last p lt is few more so_far =
     let at : slice_get ps i ≡ Some p = get_some ps i p lt ∙ ap Some (sym is) in
     let next : suc i ≡ i + 1 = omega arith in
@@ -58,5 +59,5 @@ ascend_more ps i last p lt is few more so_far =
     }
 
 -- in code
-pub ascend_next : (ps : List Packet) (i last more : ℕ) (p : Packet) → i < length ps → p ≡ get_or ps i p → p.to ≤ 16 → more ≡ key p → last < more → AscendTo ps i last → AscendTo ps (i + 1) more
+pub ascend_next : (ps : List Packet) (i last more : ℕ) (p : Packet) → i < length ps → p ≡ get_or ps i p → p.to ≤ sites_max → more ≡ key p → last < more → AscendTo ps i last → AscendTo ps (i + 1) more
 ascend_next ps i last more p lt is few e above so_far = subst (AscendTo ps (i + 1)) (sym e) (ascend_more ps i last p lt is few (omega arith) so_far)

@@ -1,6 +1,7 @@
 -- An outbox's packets, in the order of their places.
 use Rattle.std.proofs.Common.{◌≡◌, ℕ, zero, suc, ◌+◌, ◌<◌, ◌==◌, List, [], ◌∷◌, ◌++◌, length, map, take, drop, set, get_or, slice_get, Option, Some, None, true, false, refl, sym, ap, ◌∙◌, arith}
 use Rattle.std.specs.List.{flat_map}
+use Rattle.role_steps.proofs.of_plain_facts.Options.{some_same}
 use Rattle.trace_book.specs.declared.record.Record.{Record}
 use Rattle.wire_messages.specs.Outboxes.{Outgoing}
 use Rattle.wire_messages.specs.declared.packet.Packet.{Packet}
@@ -26,12 +27,9 @@ none_within [] n l f = absurd (omega arith)
 none_within (x ∷ xs) zero l f = absurd (cc)
 none_within (x ∷ xs) (suc n) l f = none_within xs n (omega arith) f
 
-some_place : (i j : ℕ) → ◌≡◌ {A = Option ℕ} (Some i) (Some j) → i ≡ j
-some_place i j e = cc
-
 picked_at : (ps : List Packet) (is : List ℕ) (i j : ℕ) → ArePlaces (length ps) is → slice_get is i ≡ Some j → slice_get (picked ps is) i ≡ slice_get ps j
 picked_at ps [] i j h e = absurd (cc)
-picked_at ps (k ∷ is) zero j h e = first_of (slice_get ps k) (picked ps is) (λ f. none_within ps k h.0 f) ∙ ap (slice_get ps) (some_place k j e)
+picked_at ps (k ∷ is) zero j h e = first_of (slice_get ps k) (picked ps is) (λ f. none_within ps k h.0 f) ∙ ap (slice_get ps) (some_same k j e)
 picked_at ps (k ∷ is) (suc i) j h e = some_of (slice_get ps k) (picked ps is) i (λ f. none_within ps k h.0 f) ∙ picked_at ps is i j h.1 e
 
 picked_none : (ps : List Packet) (is : List ℕ) (i : ℕ) → ArePlaces (length ps) is → slice_get is i ≡ None → slice_get (picked ps is) i ≡ None

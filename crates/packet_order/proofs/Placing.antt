@@ -82,14 +82,6 @@ sorting_step ps places now at next d l h a n e =
     ∙ (ap (λ m. sorted_onto is_before (put_before is_before p (picked ps places)) (drop m ps)) (add-one next)
     ∙ (sym (ap (sorted_onto is_before (picked ps places)) (drop_at ps next p g)) ∙ e))
 
-pub sorting_ends : (ps : List Packet) (places : List ℕ) (next : ℕ) → length ps ≤ next → sorted_onto is_before (picked ps places) (drop next ps) ≡ in_order ps → picked ps places ≡ in_order ps
-sorting_ends ps places next l e = sym (ap (sorted_onto is_before (picked ps places)) (nothing next ps l)) ∙ e where
-  nothing : (n : ℕ) (ys : List Packet) → length ys ≤ n → drop n ys ≡ []
-  nothing zero [] q = refl
-  nothing (suc n) [] q = refl
-  nothing zero (y ∷ ys) q = absurd (omega arith)
-  nothing (suc n) (y ∷ ys) q = nothing n ys (omega arith)
-
 pub places_at : (n : ℕ) (is : List ℕ) (i d : ℕ) → ArePlaces n is → i < length is → get_or is i d < n
 places_at n [] i d h l = absurd (omega arith)
 places_at n (j ∷ is) zero d h l = h.0

@@ -5,18 +5,8 @@ use Rattle.role_steps.specs.Tables.{sorted_onto}
 use Rattle.the_run.specs.Steps.{in_order, is_before}
 use Rattle.packet_order.specs.Orders.{picked, place_before, ArePlaces}
 use Rattle.packet_order.proofs.Placing.{drop_at, get_some, place_here, place_later, place_within_of, places_at, places_insert, sorting_step}
-use Rattle.wire_messages.specs.Bodies.{kind_number, body_bytes}
 use Rattle.wire_messages.specs.Packets.{packet_bytes}
 use Rattle.wire_messages.specs.declared.packet.Packet.{Packet}
-
-pub kind_at : (p : Packet) (d : ℕ) → get_or (packet_bytes p) 1 d ≡ kind_number p.body
-kind_at p d = refl
-
-pub receiver_at : (p : Packet) (d : ℕ) → get_or (packet_bytes p) 7 d ≡ p.to
-receiver_at p d = refl
-
-pub body_at : (p : Packet) → drop 25 (packet_bytes p) ≡ body_bytes p.body
-body_at p = refl
 
 pub is_long : (p : Packet) → 25 ≤ length (packet_bytes p)
 is_long p = omega arith

@@ -8,7 +8,7 @@ use role_steps::InEpoch;
 use wire_messages::{Body, Packet};
 
 /// The packet forms an epoch.
-pub fn is_forming(packet: &Packet) -> bool
+fn is_forming(packet: &Packet) -> bool
     ensures { result ≡ is_forming packet.now }
 {
     match &packet.body {

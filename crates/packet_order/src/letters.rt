@@ -14,7 +14,8 @@ use locus_ids::{Bytes, ItemList};
 use packet_fit::fits;
 use std::alloc::Global;
 use std::cmp::Ordering;
-use wire_messages::{Encoder, Packet};
+use wire_messages::Packet;
+use wire_writing::Encoder;
 
 /// Where the number of the kind, the receiver and the body stand.
 const KIND_AT: usize = 1;

@@ -13,6 +13,6 @@ mod sorting;
 
 pub use dispatch::Dispatch;
 pub use fault::OrderFault;
-pub use framing::{is_dropped, is_forming};
-pub use letters::{letter_at, letter_of};
+pub use framing::is_dropped;
+pub use letters::letter_of;
 pub use part::Part;

@@ -1,1 +1,2 @@
 pub mod Threads
+pub use Rattle.role_steps.proofs.of_plain_facts as of_plain_facts

@@ -1,16 +1,9 @@
 -- The threads through the packets are kept by each call.
-use Rattle.std.proofs.Common.{◌≡◌, ◌≢◌, ℕ, zero, suc, ◌+◌, ◌<◌, ◌≤◌, ◌==◌, List, [], ◌∷◌, ◌++◌, length, set, get_or, take, Some, None, Bool, true, false, cond, nat_eq, nat_lt, refl, sym, ap, ◌∙◌, subst, arith}
+use Rattle.std.proofs.Common.{◌≡◌, ◌≢◌, ℕ, zero, suc, ◌+◌, ◌<◌, ◌≤◌, List, [], ◌∷◌, ◌++◌, length, set, get_or, take, Some, None, Bool, true, false, cond, nat_eq, nat_lt, refl, sym, ap, ◌∙◌, subst, arith}
 use Rattle.std.proofs.lemmas.Bool.Decides.{nat_tests}
 use Rattle.std.proofs.lemmas.List.{get_or-set_same, get_or-set_other, get_or-take, length-set, length-take, take_more, append-nil}
 use Rattle.packet_queue.specs.Queues.{numbers_of, Threaded, Head, Lowest, linked, begun}
 use Rattle.role_steps.specs.Tables.{first_that}
-
--- a list after a write, read at a place
-pub at_set : {A : Type 0} (xs : List A) (i j : ℕ) (v d : A) → i < length xs → get_or (set xs i v) j d ≡ cond (j == i) v (get_or xs j d)
-at_set xs i j v d l = elim (nat_eq j i) as (λ b. nat_eq j i ≡ b → get_or (set xs i v) j d ≡ cond b v (get_or xs j d)) [
-  | true ↦ λ t. (let e : j ≡ i = (grind (arith, nat_tests)) in ap (λ y. get_or (set xs i v) y d) e ∙ get_or-set_same xs i v d l)
-  | false ↦ λ t. get_or-set_other xs i j v d (grind (arith, nat_tests))
-] refl
 
 pub split : {P : Type 0} (a b : ℕ) → (a ≡ b → P) → (a ≢ b → P) → P
 split {P = P} a b f g = elim (nat_eq a b) as (λ t. nat_eq a b ≡ t → P) [ true ↦ λ e. f (grind (arith, nat_tests)) | false ↦ λ e. g (grind (arith, nat_tests)) ] refl
@@ -280,21 +273,6 @@ next_none n best cs ws after first last up t u below s =
 pub take_small : {A : Type 0} (n : ℕ) (xs : List A) → length xs ≡ 262145 → length (take n xs) < 262145 → n < 262145
 take_small n xs e h = omega (arith, length-take n xs)
 
-pub none_yet : (cs : List ℕ) (ws : List Bool) (after first last : List ℕ) → length cs ≡ 262145 → length ws ≡ 262145 → length after ≡ 262145 → length first ≡ 256 → length last ≡ 256 → ((j : ℕ) (d : ℕ) → j < 256 → get_or first j d ≡ 4294967295) → ((j : ℕ) (d : ℕ) → j < 256 → get_or last j d ≡ 4294967295) → Threaded 0 cs ws after first last
-none_yet cs ws after first last a b c d e f g = record {
-  count = omega arith;
-  circuits_room = a;
-  underway_room = b;
-  after_room = c;
-  first_room = d;
-  last_room = e;
-  circuits = λ k l. absurd (omega arith);
-  chained = record { least = λ k m l h. absurd (omega arith); onward = λ k l. absurd (omega arith) };
-  heads = λ j l. record { below = λ m h. absurd (omega arith); there = λ h. absurd (let x = f j 0 l in omega arith) };
-  tails = λ m l. absurd (omega arith);
-  ends = λ j l h. absurd (let x = g j 0 l in omega arith);
-}
-
 -- ---- the least of all ----
 
 pub lowest_add : (n h : ℕ) (ws : List Bool) → n < length ws → Lowest n ws h → Lowest (n + 1) (set ws n true) h
@@ -303,9 +281,6 @@ lowest_add n h ws l t = let o : h ≤ n = t.in_order in record {
   below = λ m b w. split m n (λ e. omega arith) (λ e. t.below m (omega arith) (sym (kept ws n m true false e) ∙ w));
   there = λ b. split h n (λ e. put ws n h true false l e) (λ e. kept ws n h true false e ∙ t.there (omega arith));
 }
-
-pub lowest_take : (n k h : ℕ) (ws : List Bool) → k < length ws → Lowest n ws h → (m : ℕ) → m < n → get_or (set ws k false) m false ≡ true → h ≤ m
-lowest_take n k h ws l t m b w = t.below m b (split m k (λ e. let f : get_or (set ws k false) m false ≡ false = put ws k m false false l e in cc) (λ e. sym (kept ws k m false false e) ∙ w))
 
 -- the least of all is next, if its circuit is up
 pub least_next : (n h : ℕ) (cs : List ℕ) (ws : List Bool) (up : List Bool) → n ≤ length ws → Lowest n ws h → h < n → get_or up (get_or cs h 0) false ≡ true → first_that (λ k. get_or up (get_or (take n cs) k 0) false) (numbers_of 0 (take n ws)) ≡ Some h

@@ -1,1 +1,2 @@
 pub mod Queues
+pub use Rattle.role_steps.specs as of_role_steps

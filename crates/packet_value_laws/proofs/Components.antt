@@ -3,12 +3,13 @@ use Rattle.std.proofs.Common.{◌≡◌, ◌≤◌, ℕ, ◌+◌, ◌-◌, ◌*�
 use Rattle.std.proofs.lemmas.Bool.Decides.{nat_tests}
 use Rattle.std.specs.List.{list_all}
 use Rattle.std.specs.Prelude.{nat_le, nat_lt}
+use Rattle.role_steps.proofs.of_plain_facts.Tests.{and_true, both_true}
+use Rattle.locus_ids.specs.Sizes.{inodes_max}
 use Rattle.trace_book.specs.Names.{is_name, plain_name}
 use Rattle.call_rules.specs.Paths as rules
 use Rattle.wire_fields.specs.Components as wire
 use Rattle.wire_fields.specs.Parts.{components, names}
 use Rattle.wire_fields.proofs.Members.{in_range}
-use Rattle.epoch_laws.proofs.Handlers.{both_true}
 
 after_same : (cs : List ℕ) → rules.after_at cs ≡ wire.after_at cs
 after_same [] = refl
@@ -20,7 +21,7 @@ number_same n (c ∷ cs) = number_same (10 * n + (c - 48)) cs
 
 text_same : (cs : List ℕ) → rules.is_inode_text cs ≡ true → wire.is_inode_text cs ≡ true
 text_same [] e = e
-text_same (c ∷ cs) e = subst (λ (n : ℕ). (not (c == 48) && (list_all wire.is_digit (c ∷ cs) && nat_le n 1024)) ≡ true) (number_same 0 (c ∷ cs)) e
+text_same (c ∷ cs) e = subst (λ (n : ℕ). (not (c == 48) && (list_all wire.is_digit (c ∷ cs) && nat_le n inodes_max)) ≡ true) (number_same 0 (c ∷ cs)) e
 
 suffix_same : (o : Option (List ℕ)) → rules.is_suffix o ≡ true → wire.is_suffix o ≡ true
 suffix_same None e = refl
@@ -32,7 +33,7 @@ rises : (n : ℕ) (cs : List ℕ) → n ≤ wire.number_after n cs
 rises n [] = omega arith
 rises n (c ∷ cs) = let h : 10 * n + (c - 48) ≤ wire.number_after (10 * n + (c - 48)) cs = rises (10 * n + (c - 48)) cs in omega (arith, h)
 
-few_more : (n : ℕ) (cs : List ℕ) → 1 ≤ n → wire.number_after n cs ≤ 1024 → length cs ≤ 3
+few_more : (n : ℕ) (cs : List ℕ) → 1 ≤ n → wire.number_after n cs ≤ inodes_max → length cs ≤ 3
 few_more n [] low most = omega arith
 few_more n (a ∷ []) low most = omega arith
 few_more n (a ∷ b ∷ []) low most = omega arith
@@ -49,12 +50,12 @@ few_digits : (cs : List ℕ) → wire.is_inode_text cs ≡ true → length cs �
 few_digits [] e = omega arith
 few_digits (c ∷ cs) e =
     let k : (not (c == 48) ≡ true) × _ = both_true (not (c == 48)) _ e in
-    let d : (list_all wire.is_digit (c ∷ cs) ≡ true) × (nat_le (wire.number_after 0 (c ∷ cs)) 1024 ≡ true) = both_true (list_all wire.is_digit (c ∷ cs)) _ k.1 in
+    let d : (list_all wire.is_digit (c ∷ cs) ≡ true) × (nat_le (wire.number_after 0 (c ∷ cs)) inodes_max ≡ true) = both_true (list_all wire.is_digit (c ∷ cs)) _ k.1 in
     let low : 1 ≤ 10 * 0 + (c - 48) = first_digit c k.0 (both_true (nat_le 48 c && nat_le c 57) _ d.0).0 in
     let h : length cs ≤ 3 = few_more (10 * 0 + (c - 48)) cs low (most (wire.number_after 0 (c ∷ cs)) d.1) in
     omega (arith, h)
   where
-    most : (n : ℕ) → nat_le n 1024 ≡ true → n ≤ 1024
+    most : (n : ℕ) → nat_le n inodes_max ≡ true → n ≤ inodes_max
     most n e = grind (arith, nat_tests)
 
 -- how long what stands behind the name is, with its mark
@@ -96,15 +97,10 @@ wire_fits c e =
     let l : length c ≡ length (plain_name c) + suffix_length (wire.after_at c) = parts_long c in
     (e, (in_range 1 65 (length c) (omega (arith, l, n.0)) (omega (arith, l, n.1, s)), omega (arith, l, n.1, s)))
 
-pub both_back : (a b : Bool) → a ≡ true → b ≡ true → (a && b) ≡ true
-both_back true true e g = refl
-both_back true false e g = g
-both_back false b e g = absurd (cc)
-
 pub component_fits : (c : List ℕ) → rules.is_component c ≡ true → components.Fits c
 component_fits c e =
     let k : (is_name (plain_name c) ≡ true) × (rules.is_suffix (rules.after_at c) ≡ true) = both_true (is_name (plain_name c)) (rules.is_suffix (rules.after_at c)) e in
-    wire_fits c (both_back (is_name (plain_name c)) (wire.is_suffix (wire.after_at c)) k.0 (suffix_same (wire.after_at c) (subst (λ (o : Option (List ℕ)). rules.is_suffix o ≡ true) (after_same c) k.1)))
+    wire_fits c (and_true (is_name (plain_name c)) (wire.is_suffix (wire.after_at c)) k.0 (suffix_same (wire.after_at c) (subst (λ (o : Option (List ℕ)). rules.is_suffix o ≡ true) (after_same c) k.1)))
 
 pub plain_fits : (c : List ℕ) → components.Fits c → names.Fits (plain_name c)
 plain_fits c h = name_fits (plain_name c) (both_true (is_name (plain_name c)) (wire.is_suffix (wire.after_at c)) h.0).0

@@ -1,6 +1,7 @@
 -- Copies of files, as they are stored and reported.
 use Rattle.std.proofs.Common.{◌≡◌, ◌≤◌, ◌<◌, ◌^◌, ℕ, ◌+◌, ◌*◌, ◌==◌, nat_lt, Bool, true, false, cond, List, [], ◌∷◌, length, Option, None, Some, refl, sym, subst, arith}
 use Rattle.std.proofs.lemmas.Bool.Decides.{nat_tests}
+use Rattle.locus_ids.specs.Sizes.{file_bytes_max, inode_span, inodes_max}
 use Rattle.field_codec.specs.Lists.{AllFit}
 use Rattle.wire_fields.specs.Parts.{sizes}
 use Rattle.wire_fields.proofs.Members.{in_range, range}
@@ -45,7 +46,7 @@ pub found_copy : (s : Store) (key : ℕ) → CopiesFit s.copies → Found CopyFi
 found_copy s key h = row_found CopyFits copy_key key s.copies h.each
 
 pub content_fits : (o : Option FileCopy) → Found CopyFits o → sizes.Fits (length (content_of o))
-content_fits None h = (in_range 0 65536 0 (omega arith) (omega arith), omega arith)
+content_fits None h = (in_range 0 file_bytes_max 0 (omega arith) (omega arith), omega arith)
 content_fits (Some x) h = h.size
 
 -- ---- the report of a group ----
@@ -54,27 +55,27 @@ abbrev Reported : ℕ → List ReportedCopy → Type 0
 Reported least xs = AllFit copies_from (λ _ (copy : ReportedCopy). copy.ino + 1) least xs
 
 one_reported : (least : ℕ) (x : FileCopy) → CopyFits x → least ≤ x.file.ino → (copies_from least).Fits (reported x)
-one_reported least x h le = ((in_range least 1024 x.file.ino le (ino_range x.file.ino h.file.1).1, h.file.1.1), (kind_fits x.kind, (h.set, (h.size, h.version))))
+one_reported least x h le = ((in_range least inodes_max x.file.ino le (ino_range x.file.ino h.file.1).1, h.file.1.1), (kind_fits x.kind, (h.set, (h.size, h.version))))
 
 -- each copy of the group from this key on has a number from this one on
 abbrev AreFrom : ℕ → ℕ → ℕ → Type 0
-AreFrom group least k = (n : ℕ) → 1 ≤ n → k ≤ group * 65536 + n → least ≤ n
+AreFrom group least k = (n : ℕ) → 1 ≤ n → k ≤ group * inode_span + n → least ≤ n
 
 all_reported : (group least k : ℕ) (xs : List FileCopy) → AreFrom group least k → Every CopyFits xs → RisesFrom k xs → Reported least (report_of group xs)
 all_reported group least k [] low h r = tt
 all_reported group least k (x ∷ xs) low h r = over (λ n from. all_reported group n (copy_key x + 1) xs from h.1 r.1) (x.file.group == group) refl
   where
     key : ℕ
-    key = x.file.group * 65536 + x.file.ino
+    key = x.file.group * inode_span + x.file.ino
 
     same : (x.file.group == group) ≡ true → x.file.group ≡ group
     same e = grind (arith, nat_tests)
 
     from_here : x.file.group ≡ group → least ≤ x.file.ino
-    from_here e = low x.file.ino (ino_range x.file.ino h.0.file.1).0 (subst (λ (y : ℕ). k ≤ y * 65536 + x.file.ino) e r.0)
+    from_here e = low x.file.ino (ino_range x.file.ino h.0.file.1).0 (subst (λ (y : ℕ). k ≤ y * inode_span + x.file.ino) e r.0)
 
     on : x.file.group ≡ group → AreFrom group (x.file.ino + 1) (key + 1)
-    on e n some le = let g : x.file.group * 65536 + x.file.ino + 1 ≤ x.file.group * 65536 + n = subst (λ (y : ℕ). key + 1 ≤ y * 65536 + n) (sym e) le in omega (arith, g)
+    on e n some le = let g : x.file.group * inode_span + x.file.ino + 1 ≤ x.file.group * inode_span + n = subst (λ (y : ℕ). key + 1 ≤ y * inode_span + n) (sym e) le in omega (arith, g)
 
     past : AreFrom group least (key + 1)
     past n some le = low n some (let at : k ≤ key = r.0 in omega (arith, at, le))
@@ -83,11 +84,11 @@ all_reported group least k (x ∷ xs) low h r = over (λ n from. all_reported gr
     over rest true e = (one_reported least x h.0 (from_here (same e)), rest (x.file.ino + 1) (on (same e)))
     over rest false e = rest least past
 
-few_reported : (least : ℕ) (xs : List ReportedCopy) → least ≤ 1025 → Reported least xs → length xs + least ≤ 1025
+few_reported : (least : ℕ) (xs : List ReportedCopy) → least ≤ inodes_max + 1 → Reported least xs → length xs + least ≤ inodes_max + 1
 few_reported least [] le h = omega (arith, le)
 few_reported least (x ∷ xs) le h =
-    let r : (least ≤ x.ino) × (x.ino ≤ 1024) = range least 1024 x.ino h.0.0.0 in
-    let k : length xs + (x.ino + 1) ≤ 1025 = few_reported (x.ino + 1) xs (omega (arith, r.1)) h.1 in
+    let r : (least ≤ x.ino) × (x.ino ≤ inodes_max) = range least inodes_max x.ino h.0.0.0 in
+    let k : length xs + (x.ino + 1) ≤ inodes_max + 1 = few_reported (x.ino + 1) xs (omega (arith, r.1)) h.1 in
     omega (arith, k, r.0)
 
 pub report_fits : (group : ℕ) (xs : List FileCopy) → CopiesFit xs → reported_copies.Fits (report_of group xs)
@@ -96,5 +97,5 @@ report_fits group xs h = (few (few_reported 1 (report_of group xs) (omega arith)
     all : Reported 1 (report_of group xs)
     all = all_reported group 1 0 xs (λ n some le. some) h.each h.rise
 
-    few : length (report_of group xs) + 1 ≤ 1025 → length (report_of group xs) < 2 ^ 16
+    few : length (report_of group xs) + 1 ≤ inodes_max + 1 → length (report_of group xs) < 2 ^ 16
     few le = omega (arith, le)

@@ -7,15 +7,15 @@ use Rattle.std.specs.List.{find}
 use Rattle.std.specs.Prelude.{nat_le}
 use Rattle.locus_ids.specs.declared.ids.Kind.{Kind}
 use Rattle.locus_ids.specs.declared.refusal.Refusal.TheVariants as refusal
+use Rattle.locus_ids.specs.Sizes.{content_bytes_max, directory_bytes_max, file_bytes_max, pack_pages, page_bytes}
 use Rattle.dir_format.specs.Contents.{entries_of, is_dir}
-use Rattle.dir_format.specs.Effects.{DirEffect, is_spent, live_entry, moved, removed, answers, live_one, refuses, becomes, dir_effect, empty_among, find_by, insert_beside, max_size, probe_beside, remove_entry, rename_beside, rename_by, rename_entry, size_of}
+use Rattle.dir_format.specs.Effects.{DirEffect, is_spent, live_entry, moved, removed, answers, live_one, refuses, becomes, dir_effect, empty_among, find_by, insert_beside, probe_beside, remove_entry, rename_beside, rename_by, rename_entry, size_of}
 use Rattle.dir_format.specs.Entries.{IsEntry, nothing_seen, pair_in, with_entry}
 use Rattle.dir_format.specs.Grammar.{dir_bytes}
 use Rattle.dir_format.specs.Lookups.{has_name, is_meant, lookup, shown_names}
 use Rattle.dir_format.specs.declared.entry.Entry.{Entry}
 use Rattle.dir_format.specs.declared.looking.LookResult.{LookResult}
 use Rattle.dir_format.specs.declared.looking.LookResult.TheVariants as found
-use Rattle.file_content.specs.Contents.{max_bytes}
 use Rattle.file_content.specs.Pages.{has_page, is_replaced, pages_between, pages_from, pages_needed, pages_of, pages_replaced}
 use Rattle.file_effects.specs.Effects.{Effect, cuts, directory_left, in_directory, is_refusal, is_worded, mends, on_directory, puts, tells, writes}
 use Rattle.file_effects.specs.Works.{result_in}
@@ -36,7 +36,7 @@ use Rattle.packet_value_laws.proofs.Fields.{kind_fits}
 
 pub record EffectFits (e : Effect) : Type 0 where
   pub result : outcomes.Fits e.result
-  pub size : length e.content ≤ 65536
+  pub size : length e.content ≤ content_bytes_max
   pub pages : length e.pages ≤ 65535
 
 abbrev pub EffectIfAny : Option Effect → Type 0
@@ -57,23 +57,23 @@ filter_most test (x ∷ xs) = over (test x) (filter_most test xs)
     over true h = omega (arith, h)
     over false h = omega (arith, h)
 
-replaced_few : (old new : List ℕ) → length new ≤ 65536 → length (pages_replaced old new) ≤ 65535
+replaced_few : (old new : List ℕ) → length new ≤ content_bytes_max → length (pages_replaced old new) ≤ 65535
 replaced_few old new small =
     let a : length (pages_replaced old new) ≤ length (pages_from 0 (pages_of (length new))) = filter_most (is_replaced old new) (pages_from 0 (pages_of (length new))) in
     let b : length (pages_from 0 (pages_of (length new))) ≡ pages_of (length new) = from_length 0 (pages_of (length new)) in
     few (length new) (length (pages_from 0 (pages_of (length new)))) (length (pages_replaced old new)) small b a
   where
-    few : (n p q : ℕ) → n ≤ 65536 → p ≡ (n + 1023) / 1024 → q ≤ p → q ≤ 65535
+    few : (n p q : ℕ) → n ≤ content_bytes_max → p ≡ (n + (page_bytes - 1)) / page_bytes → q ≤ p → q ≤ 65535
     few n p q s e le = omega (arith, s, e, le)
 
-between_few : (from end : ℕ) → end ≤ 65536 → length (pages_between from end) ≤ 65535
+between_few : (from end : ℕ) → end ≤ content_bytes_max → length (pages_between from end) ≤ 65535
 between_few from end small = over (nat_lt from end)
   where
-    few : (n p : ℕ) → n ≤ 65536 → (n + 1023) / 1024 - p ≤ 65535
+    few : (n p : ℕ) → n ≤ content_bytes_max → (n + (page_bytes - 1)) / page_bytes - p ≤ 65535
     few n p s = omega (arith, s)
 
-    over : (b : Bool) → length (cond b (pages_from (from / 1024) (pages_of end - from / 1024)) []) ≤ 65535
-    over true = let e : length (pages_from (from / 1024) (pages_of end - from / 1024)) ≡ pages_of end - from / 1024 = from_length (from / 1024) (pages_of end - from / 1024) in omega (arith, e, few end (from / 1024) small)
+    over : (b : Bool) → length (cond b (pages_from (from / page_bytes) (pages_of end - from / page_bytes)) []) ≤ 65535
+    over true = let e : length (pages_from (from / page_bytes) (pages_of end - from / page_bytes)) ≡ pages_of end - from / page_bytes = from_length (from / page_bytes) (pages_of end - from / page_bytes) in omega (arith, e, few end (from / page_bytes) small)
     over false = omega arith
 
 -- ---- directories ----
@@ -86,14 +86,14 @@ DirIfAny None = Unit {0}
 DirIfAny (Some d) = DirFits d
 
 becomes_fits : (ds after : List Entry) (spent : Bool) → DirFits (becomes ds after spent)
-becomes_fits ds after spent = over (nat_lt max_size (size_of after))
+becomes_fits ds after spent = over (nat_lt directory_bytes_max (size_of after))
   where
     over : (b : Bool) → DirFits (cond b (refuses refusal.TooLong ds) (record { outcome = outcome.Done; entries = after; counts = true; spent = spent }))
     over true = tt
     over false = tt
 
 probe_fits : (name : List ℕ) (ds : List Entry) (o : Option Entry) → Found IsEntry o → DirFits (probe_beside name ds o)
-probe_fits name ds None h = over (nat_lt max_size (size_of ds + (length name + 8)))
+probe_fits name ds None h = over (nat_lt directory_bytes_max (size_of ds + (length name + 8)))
   where
     over : (b : Bool) → DirFits (cond b (refuses refusal.TooLong ds) (answers outcome.Done ds))
     over true = tt
@@ -132,28 +132,28 @@ empty_fits ds (shown ∷ others) h = h.0
 
 -- ---- one operation ----
 
-module _ (content : List ℕ) (small : length content ≤ 65536) where
+module _ (content : List ℕ) (small : length content ≤ content_bytes_max) where
   tells_fit : (r : Outcome) → outcomes.Fits r → EffectFits (tells content r)
   tells_fit r h = record { result = h; size = small; pages = omega arith }
 
   puts_fit : (new : List ℕ) (counts : Bool) → EffectFits (puts content new counts)
-  puts_fit new counts = over (nat_lt max_bytes (length new)) refl
+  puts_fit new counts = over (nat_lt directory_bytes_max (length new)) refl
     where
-      short : nat_lt max_bytes (length new) ≡ false → length new ≤ 65536
+      short : nat_lt directory_bytes_max (length new) ≡ false → length new ≤ content_bytes_max
       short e = grind (arith, nat_tests)
 
-      over : (b : Bool) → nat_lt max_bytes (length new) ≡ b → EffectFits (cond b (tells content (outcome.No refusal.TooLong)) (record { result = outcome.Done; content = new; pages = pages_replaced content new; counts = counts; spent = false }))
+      over : (b : Bool) → nat_lt directory_bytes_max (length new) ≡ b → EffectFits (cond b (tells content (outcome.No refusal.TooLong)) (record { result = outcome.Done; content = new; pages = pages_replaced content new; counts = counts; spent = false }))
       over true e = tells_fit (outcome.No refusal.TooLong) tt
       over false e = record { result = tt; size = short e; pages = replaced_few content new (short e) }
 
   directory_fits : (d : DirEffect) → IsBounded d → DirFits d → EffectFits (on_directory content d)
   directory_fits d bounded h = record { result = h; size = left; pages = replaced_few content (directory_left content d) left }
     where
-      over : (b : Bool) → d.counts ≡ b → length (cond b (dir_bytes d.entries) content) ≤ 65536
+      over : (b : Bool) → d.counts ≡ b → length (cond b (dir_bytes d.entries) content) ≤ content_bytes_max
       over true e = bounded e
       over false e = small
 
-      left : length (directory_left content d) ≤ 65536
+      left : length (directory_left content d) ≤ content_bytes_max
       left = over d.counts refl
 
   in_directory_fits : (o : Option DirEffect) → AreBounded o → DirIfAny o → EffectIfAny (in_directory content o)
@@ -174,7 +174,7 @@ module _ (content : List ℕ) (small : length content ≤ 65536) where
   read_fits : (at len : ℕ) → len ≤ 4096 → outcomes.Fits (outcome.Data (take len (drop at content)))
   read_fits at len le = let e : length (take len (drop at content)) ≡ min len (length (drop at content)) = length-take len (drop at content) in omega (arith, e, le)
 
-  written_small : (at : ℕ) (bytes : List ℕ) → at + length bytes ≤ 65536 → length (take at (content ++ replicate (at - length content) 0) ++ bytes ++ drop (at + length bytes) content) ≤ 65536
+  written_small : (at : ℕ) (bytes : List ℕ) → at + length bytes ≤ file_bytes_max → length (take at (content ++ replicate (at - length content) 0) ++ bytes ++ drop (at + length bytes) content) ≤ content_bytes_max
   written_small at bytes fits =
       let zeros : List ℕ = replicate (at - length content) 0 in
       let filled : List ℕ = content ++ zeros in
@@ -186,20 +186,20 @@ module _ (content : List ℕ) (small : length content ≤ 65536) where
       let d : length (drop (at + length bytes) content) ≡ length content - (at + length bytes) = length-drop (at + length bytes) content in
       omega (arith, l, m, d, front, small, fits)
 
-  write_fits : (at : ℕ) (bytes : List ℕ) → EffectIfAny (cond (nat_le (at + length bytes) max_bytes) (Some (writes content at bytes)) None)
-  write_fits at bytes = over (nat_le (at + length bytes) max_bytes) refl
+  write_fits : (at : ℕ) (bytes : List ℕ) → EffectIfAny (cond (nat_le (at + length bytes) file_bytes_max) (Some (writes content at bytes)) None)
+  write_fits at bytes = over (nat_le (at + length bytes) file_bytes_max) refl
     where
-      inside : nat_le (at + length bytes) max_bytes ≡ true → at + length bytes ≤ 65536
+      inside : nat_le (at + length bytes) file_bytes_max ≡ true → at + length bytes ≤ file_bytes_max
       inside e = grind (arith, nat_tests)
 
-      over : (b : Bool) → nat_le (at + length bytes) max_bytes ≡ b → EffectIfAny (cond b (Some (writes content at bytes)) None)
+      over : (b : Bool) → nat_le (at + length bytes) file_bytes_max ≡ b → EffectIfAny (cond b (Some (writes content at bytes)) None)
       over true e = record { result = tt; size = written_small at bytes (inside e); pages = between_few (min at (length content)) (at + length bytes) (inside e) }
       over false e = tt
 
   cut_fits : (len : ℕ) → EffectFits (cuts content len)
   cut_fits len = record { result = tt; size = less; pages = omega arith }
     where
-      less : length (take len content) ≤ 65536
+      less : length (take len content) ≤ content_bytes_max
       less = let e : length (take len content) ≡ min len (length content) = length-take len content in omega (arith, e, small)
 
   spent_fits : (spent : Bool) (o : Option Effect) → EffectIfAny o → EffectIfAny (or_spent spent o)
@@ -222,7 +222,7 @@ module _ (content : List ℕ) (small : length content ≤ 65536) where
 
 -- ---- in the room that is left ----
 
-pub result_fits : (free : ℕ) (changed : List ℕ) (e : Effect) → free ≤ 3072 → EffectFits e → outcomes.Fits (result_in free changed e)
+pub result_fits : (free : ℕ) (changed : List ℕ) (e : Effect) → free ≤ pack_pages → EffectFits e → outcomes.Fits (result_in free changed e)
 result_fits free changed e low h =
     (elim (is_refusal e.result) as (λ a. is_refusal e.result ≡ a → outcomes.Fits (result_in free changed e)) [
       | true ↦ λ p. rw p h.result

@@ -2,6 +2,7 @@
 use Rattle.std.proofs.Common.{◌≡◌, ℕ, Bool, true, false, cond, ◌&&◌, List, [], ◌∷◌, filter, length, Some, refl}
 use Rattle.std.specs.List.{AllByRecursion, find}
 use Rattle.std.specs.Str.{bytes_eq}
+use Rattle.role_steps.proofs.of_plain_facts.Tests.{both_true}
 use Rattle.trace_book.specs.declared.operation.What.{What}
 use Rattle.trace_book.specs.declared.operation.What.TheVariants as what
 use Rattle.dir_format.specs.Contents.{entries_from, entries_of, is_dir}
@@ -18,7 +19,6 @@ use Rattle.wire_messages.specs.Answers.{look_answers}
 use Rattle.role_steps.specs.Own.{Every}
 use Rattle.role_steps.specs.Storage.{look_found, served_content}
 use Rattle.the_run.proofs.InsideSync.{Found}
-use Rattle.epoch_laws.proofs.Handlers.{both_true}
 use Rattle.packet_fit_laws.proofs.Lists.{every_kept}
 use Rattle.packet_value_laws.proofs.Fields.{ino_fits, kind_fits}
 

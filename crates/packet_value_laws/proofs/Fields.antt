@@ -1,12 +1,14 @@
 -- Fields of packets: sites that are listed, stamps, vectors, and what stands in lists.
 use Rattle.std.proofs.Common.{◌≡◌, ◌≤◌, ◌<◌, ◌^◌, ℕ, zero, suc, ◌+◌, ◌-◌, ◌==◌, nat_lt, max, Bool, true, false, cond, ◌&&◌, List, [], ◌∷◌, map, length, refl, sym, ◌∙◌, arith}
 use Rattle.std.proofs.lemmas.Bool.Decides.{nat_tests}
-use Rattle.std.specs.Prelude.{slice_index}
+use Rattle.std.specs.Prelude.{slice_index, replicate}
 use Rattle.std.specs.List.{flat_map, list_all}
+use Rattle.role_steps.proofs.of_plain_facts.Tests.{both_true}
 use Rattle.locus_ids.specs.Sites.{has}
 use Rattle.locus_ids.specs.declared.ids.Kind.{Kind}
 use Rattle.locus_ids.specs.declared.ids.Kind.TheVariants.{File, Dir}
 use Rattle.locus_ids.specs.declared.sites.Sites.{Sites}
+use Rattle.locus_ids.specs.Sizes.{file_bytes_max, inodes_max, sites_max}
 use Rattle.version_vector.specs.Counters.{joined, part, raised}
 use Rattle.version_vector.proofs.Counting.{part-raised_same}
 use Rattle.dir_format.specs.Entries.{nothing_seen}
@@ -22,7 +24,6 @@ use Rattle.role_steps.specs.Tables.{with_latest}
 use Rattle.role_steps.specs.Views.{Frame, boot_in, packet, to_some, to_sync, first_site, is_member, members_of, pack_sites, all_sites}
 use Rattle.role_steps.proofs.Sending.{every_append}
 use Rattle.the_run.proofs.Boots.{every_weaker}
-use Rattle.epoch_laws.proofs.Handlers.{both_true}
 use Rattle.packet_fit_laws.specs.Fields.{AreBoots, IsSite}
 use Rattle.packet_fit_laws.proofs.FormingRun.{site_fits}
 use Rattle.packet_fit_laws.proofs.Meeting.{every_passing, listed_site, not_none}
@@ -88,17 +89,17 @@ pub kind_fits : (k : Kind) → kinds.Fits k
 kind_fits File = (omega arith, refl, (refl, tt))
 kind_fits Dir = (omega arith, refl, (refl, tt))
 
-pub size_fits : (n : ℕ) → n ≤ 65536 → sizes.Fits n
-size_fits n h = (in_range 0 65536 n (omega arith) h, omega (arith, h))
+pub size_fits : (n : ℕ) → n ≤ file_bytes_max → sizes.Fits n
+size_fits n h = (in_range 0 file_bytes_max n (omega arith) h, omega (arith, h))
 
-pub size_most : (n : ℕ) → sizes.Fits n → n ≤ 65536
-size_most n h = (range 0 65536 n h.0).1
+pub size_most : (n : ℕ) → sizes.Fits n → n ≤ file_bytes_max
+size_most n h = (range 0 file_bytes_max n h.0).1
 
-pub ino_fits : (n : ℕ) → 1 ≤ n → n ≤ 1024 → inodes.Fits n
-ino_fits n low high = (in_range 1 1024 n low high, omega (arith, high))
+pub ino_fits : (n : ℕ) → 1 ≤ n → n ≤ inodes_max → inodes.Fits n
+ino_fits n low high = (in_range 1 inodes_max n low high, omega (arith, high))
 
-pub ino_range : (n : ℕ) → inodes.Fits n → (1 ≤ n) × (n ≤ 1024)
-ino_range n h = range 1 1024 n h.0
+pub ino_range : (n : ℕ) → inodes.Fits n → (1 ≤ n) × (n ≤ inodes_max)
+ino_range n h = range 1 inodes_max n h.0
 
 -- ---- vectors ----
 
@@ -120,11 +121,11 @@ raised_length [] k inside = absurd (omega (arith, inside))
 raised_length (x ∷ v) zero inside = omega arith
 raised_length (x ∷ v) (suc k) inside = let h : length (raised v k) ≡ length v = raised_length v k (omega (arith, inside)) in omega (arith, h)
 
-pub raised_fits : (v : List ℕ) (k : ℕ) → k < 16 → (slice_index v k == 4294967295) ≡ false → vectors.Fits v → vectors.Fits (raised v k)
+pub raised_fits : (v : List ℕ) (k : ℕ) → k < sites_max → (slice_index v k == 4294967295) ≡ false → vectors.Fits v → vectors.Fits (raised v k)
 raised_fits v k inside unspent h = ((h.0.0 ∙ sym (raised_length v k within), tt), raised_counters v k within (lower (slice_index v k) unspent (counters_at v k h.1)) h.1)
   where
     within : k < length v
-    within = let e : 16 ≡ length v = h.0.0 in omega (arith, inside, e)
+    within = let e : sites_max ≡ length v = h.0.0 in omega (arith, inside, e)
 
     lower : (n : ℕ) → (n == 4294967295) ≡ false → n < 2 ^ 32 → n < 4294967295
     lower n e l = grind (arith, nat_tests)
@@ -145,8 +146,12 @@ joined_length (x ∷ a) (y ∷ b) e = let h : length (joined a b) ≡ length b =
 pub joined_fits : (a b : List ℕ) → vectors.Fits a → vectors.Fits b → vectors.Fits (joined a b)
 joined_fits a b h k = ((k.0.0 ∙ sym (joined_length a b (sym h.0.0 ∙ k.0.0)), tt), joined_counters a b h.1 k.1)
 
+zero_counters : (n : ℕ) → Counters (replicate n 0)
+zero_counters zero = tt
+zero_counters (suc n) = (omega arith, zero_counters n)
+
 pub nothing_fits : vectors.Fits nothing_seen
-nothing_fits = ((refl, tt), (omega arith, (omega arith, (omega arith, (omega arith, (omega arith, (omega arith, (omega arith, (omega arith, (omega arith, (omega arith, (omega arith, (omega arith, (omega arith, (omega arith, (omega arith, (omega arith, tt)))))))))))))))))
+nothing_fits = ((refl, tt), zero_counters sites_max)
 
 -- ---- stamps ----
 
@@ -182,9 +187,9 @@ agrees_own z n other low = at (z == 0) (zero_none z low)
 -- the next version of a site
 pub next_fits : (v : List ℕ) (me : ℕ) → IsSite me → (slice_index v (me - 1) == 4294967295) ≡ false → vectors.Fits v → versions.Fits (record { site = me; n = slice_index (raised v (me - 1)) (me - 1) }, raised v (me - 1))
 next_fits v me site unspent h =
-    (((in_range 0 16 me (omega arith) site.1, omega (arith, site.1)), (is_own_stamp me n site.0 some, counters_at (raised v (me - 1)) (me - 1) new.1)), (agrees_own me n (list_all (λ (k : ℕ). k == 0) (raised v (me - 1))) site.0, new))
+    (((in_range 0 sites_max me (omega arith) site.1, omega (arith, site.1)), (is_own_stamp me n site.0 some, counters_at (raised v (me - 1)) (me - 1) new.1)), (agrees_own me n (list_all (λ (k : ℕ). k == 0) (raised v (me - 1))) site.0, new))
   where
-    below : (z : ℕ) → 1 ≤ z → z ≤ 16 → z - 1 < 16
+    below : (z : ℕ) → 1 ≤ z → z ≤ sites_max → z - 1 < sites_max
     below z a b = omega (arith, a, b)
 
     new : vectors.Fits (raised v (me - 1))

@@ -35,9 +35,10 @@ use Rattle.role_steps.specs.declared.synchronizing.FileRow.{FileRow}
 use Rattle.role_steps.specs.declared.synchronizing.SyncTable.{SyncTable}
 use Rattle.locus_ids.specs.declared.ids.EpochId.{EpochId}
 use Rattle.locus_ids.specs.declared.refusal.Refusal.TheVariants as refusal
+use Rattle.locus_ids.specs.Sizes.{file_bytes_max}
 use Rattle.trace_book.specs.declared.descriptor.Descriptor.{Descriptor}
 use Rattle.std.specs.Prelude.{nat_le, nat_lt}
-use Rattle.epoch_laws.proofs.Handlers.{both_true}
+use Rattle.role_steps.proofs.of_plain_facts.Tests.{both_true}
 use Rattle.role_steps.proofs.Sending.{every_append}
 use Rattle.the_run.specs.Steps.{with_pulls, at_table_of, at_users, from_user, group_of, in_order, is_opened_in, repeats_inside, takes_inside}
 use Rattle.the_run.proofs.Boots.{every_weaker}
@@ -175,7 +176,7 @@ module _ (f : Frame) (fit : AreBoots f.members.boot) (own : IsListed f.members.b
       } in
       record { sent = sync_asks f p.file.group (body.Have p.file p.stamp) (k.file, k.version.0) (λ boots. tt); view = noted_view p (row table_group p.file.group now.tables) now (row_found (TableFits f.members.boot) table_group p.file.group now.tables now_fits.tables) now_fits }
     where
-      small : (n m : ℕ) → n ≤ m → m ≤ 65536 → n ≤ 65536
+      small : (n m : ℕ) → n ≤ m → m ≤ file_bytes_max → n ≤ file_bytes_max
       small n m a b = omega (arith, a, b)
 
   pub adopts_first_done : (ps : List Pull) (v : SiteView) → Every (PullFits f.members.boot) ps → SiteValues f.config f.members.boot v → AskingDone f.config f.members.boot (adopts_first f ps v)
@@ -197,7 +198,7 @@ third true false false d h = absurd (cc)
 third false b false d h = absurd (cc)
 
 write_lengths : (n fd at : ℕ) (bytes : List ℕ) → fits_call n (call.Write fd at bytes) ≡ true → (1 ≤ length bytes) × (length bytes ≤ 4096)
-write_lengths n fd at bytes h = of (both_true (nat_le 1 (length bytes)) (nat_le (length bytes) 4096) (third (is_descriptor fd) (nat_le at 65536) (nat_le 1 (length bytes) && nat_le (length bytes) 4096) (list_all is_byte bytes) h))
+write_lengths n fd at bytes h = of (both_true (nat_le 1 (length bytes)) (nat_le (length bytes) 4096) (third (is_descriptor fd) (nat_le at file_bytes_max) (nat_le 1 (length bytes) && nat_le (length bytes) 4096) (list_all is_byte bytes) h))
   where
     low : nat_le 1 (length bytes) ≡ true → 1 ≤ length bytes
     low e = grind (arith, nat_tests)
@@ -209,17 +210,17 @@ write_lengths n fd at bytes h = of (both_true (nat_le 1 (length bytes)) (nat_le 
     of e = (low e.0, high e.1)
 
 write_fits : (c : Config) (fd at : ℕ) (bytes : List ℕ) (b : Beginning) → fits_call c.sites (call.Write fd at bytes) ≡ true → CallFits c (call.Write fd at bytes) (cond (is_too_long (call.Write fd at bytes)) (begins.Denied refusal.TooLong) b)
-write_fits c fd at bytes b h = over (nat_lt 65536 (at + length bytes)) refl b
+write_fits c fd at bytes b h = over (nat_lt file_bytes_max (at + length bytes)) refl b
   where
-    short : nat_lt 65536 (at + length bytes) ≡ false → at + length bytes ≤ 65536
+    short : nat_lt file_bytes_max (at + length bytes) ≡ false → at + length bytes ≤ file_bytes_max
     short e = grind (arith, nat_tests)
 
-    by_begin : (b : Beginning) → at + length bytes ≤ 65536 → CallFits c (call.Write fd at bytes) b
+    by_begin : (b : Beginning) → at + length bytes ≤ file_bytes_max → CallFits c (call.Write fd at bytes) b
     by_begin (begins.Denied why) le = h
     by_begin (begins.Uses e inst) le = (let k : (1 ≤ length bytes) × (length bytes ≤ 4096) = write_lengths c.sites fd at bytes h in (k.0, k.1, le))
     by_begin begins.Walks le = h
 
-    over : (t : Bool) → nat_lt 65536 (at + length bytes) ≡ t → (b : Beginning) → CallFits c (call.Write fd at bytes) (cond t (begins.Denied refusal.TooLong) b)
+    over : (t : Bool) → nat_lt file_bytes_max (at + length bytes) ≡ t → (b : Beginning) → CallFits c (call.Write fd at bytes) (cond t (begins.Denied refusal.TooLong) b)
     over true e b = h
     over false e b = by_begin b (short e)
 

@@ -14,3 +14,5 @@ pub mod Scripts
 pub mod Steps
 pub mod Shown
 pub mod Whole
+pub use Rattle.packet_fit_laws.proofs as of_packet_fit_laws
+pub use Rattle.packet_fit_laws.proofs.of_epoch_laws as of_epoch_laws

@@ -2,10 +2,12 @@
 use Rattle.std.proofs.Common.{◌≡◌, ◌≤◌, ◌<◌, ◌^◌, ℕ, ◌+◌, ◌-◌, ◌*◌, ◌/◌, ◌==◌, min, nat_lt, Bool, true, false, cond, List, [], ◌∷◌, drop, length, take, Option, None, Some, refl, arith}
 use Rattle.std.proofs.lemmas.Bool.Decides.{nat_tests}
 use Rattle.std.proofs.lemmas.List.{length-drop, length-take}
+use Rattle.role_steps.proofs.of_plain_facts.Tests.{both_true}
 use Rattle.locus_ids.specs.declared.ids.FileId.{FileId}
 use Rattle.locus_ids.specs.declared.ids.Serial.{Serial}
 use Rattle.locus_ids.specs.declared.ids.Stamp.{Stamp}
 use Rattle.locus_ids.specs.declared.refusal.Refusal.TheVariants as refusal
+use Rattle.locus_ids.specs.Sizes.{content_bytes_max, pack_pages, page_bytes}
 use Rattle.commit_graph.specs.Versions.{same_stamp}
 use Rattle.file_content.specs.Pages.{page_of, pages_of}
 use Rattle.file_effects.specs.Effects.{Effect, is_refusal}
@@ -34,7 +36,6 @@ use Rattle.role_steps.specs.declared.copies.FileCopy.{FileCopy}
 use Rattle.role_steps.specs.declared.instances.Instance.{Instance}
 use Rattle.role_steps.specs.declared.instances.Stage.{Stage}
 use Rattle.role_steps.specs.declared.instances.Stage.TheVariants as stage
-use Rattle.epoch_laws.proofs.Handlers.{both_true}
 use Rattle.the_run.proofs.InsideSync.{Found}
 use Rattle.packet_fit_laws.specs.Fields.{IsSite}
 use Rattle.packet_value_laws.specs.Bodies.{IsListed}
@@ -52,9 +53,6 @@ pub record WorkFits (i : Instance) (w : Work) : Type 0 where
   pub content : sizes.Fits (length w.content)
   pub last : StampIfAny w.last
   pub committed : VersionIfAny w.committed i.vector
-
-own_work : (boots : List ℕ) (i : Instance) → InstanceFits boots i → WorkFits i i.work
-own_work boots i h = record { content = h.content; last = h.last; committed = h.committed }
 
 counted_fits : (boots : List ℕ) (i : Instance) → InstanceFits boots i → WorkFits i (counted i.work)
 counted_fits boots i h = record { content = h.content; last = h.last; committed = h.committed }
@@ -75,10 +73,10 @@ operated_fits boots i e r k h = over (is_refusal r)
     over true = counted_fits boots i h
     over false = record { content = size_fits (length e.content) k.size; last = h.last; committed = h.committed }
 
-free_few : (s : Store) (group : ℕ) → free_pages s group ≤ 3072
+free_few : (s : Store) (group : ℕ) → free_pages s group ≤ pack_pages
 free_few s group = few (total (copy_pages group) s.copies + total (changed_pages group) s.instances)
   where
-    few : (n : ℕ) → 3072 - n ≤ 3072
+    few : (n : ℕ) → pack_pages - n ≤ pack_pages
     few n = omega arith
 
 executes_effect_fits : (f : Frame) (i : Instance) (o : Op) (e : Option Effect) (s : Store) → EffectIfAny e → InstanceFits f.members.boot i → StoreFits f.members.boot s → StoreDone f.members.boot (executes_effect f i o e s)
@@ -171,29 +169,29 @@ on_look_ss_fits f us l stamp s listed k h = ((one_fits f us (body.LookDone l.cal
 
 -- ---- pages ----
 
-page_fits : (content : List ℕ) (page : ℕ) → length content ≤ 65536 → nat_lt page (pages_of (length content)) ≡ true → (1 ≤ length (page_of content page)) × (length (page_of content page) ≤ 1024) × (page < 2 ^ 8)
+page_fits : (content : List ℕ) (page : ℕ) → length content ≤ content_bytes_max → nat_lt page (pages_of (length content)) ≡ true → (1 ≤ length (page_of content page)) × (length (page_of content page) ≤ page_bytes) × (page < 2 ^ 8)
 page_fits content page small e = all (length content) (length (page_of content page)) small below length_is
   where
     below : page < pages_of (length content)
     below = grind (arith, nat_tests)
 
-    length_is : length (page_of content page) ≡ min 1024 (length content - 1024 * page)
-    length_is = let a : length (take 1024 (drop (1024 * page) content)) ≡ min 1024 (length (drop (1024 * page) content)) = length-take 1024 (drop (1024 * page) content) in let b : length (drop (1024 * page) content) ≡ length content - 1024 * page = length-drop (1024 * page) content in omega (arith, a, b)
+    length_is : length (page_of content page) ≡ min page_bytes (length content - page_bytes * page)
+    length_is = let a : length (take page_bytes (drop (page_bytes * page) content)) ≡ min page_bytes (length (drop (page_bytes * page) content)) = length-take page_bytes (drop (page_bytes * page) content) in let b : length (drop (page_bytes * page) content) ≡ length content - page_bytes * page = length-drop (page_bytes * page) content in omega (arith, a, b)
 
-    all : (n m : ℕ) → n ≤ 65536 → page < (n + 1023) / 1024 → m ≡ min 1024 (n - 1024 * page) → (1 ≤ m) × (m ≤ 1024) × (page < 2 ^ 8)
+    all : (n m : ℕ) → n ≤ content_bytes_max → page < (n + (page_bytes - 1)) / page_bytes → m ≡ min page_bytes (n - page_bytes * page) → (1 ≤ m) × (m ≤ page_bytes) × (page < 2 ^ 8)
     all n m s b e = (omega (arith, s, b, e), omega (arith, e), omega (arith, s, b))
 
 pulled_fits : (f : Frame) (from : ℕ) (file : FileId) (stamp : Stamp) (page : ℕ) (o : Option FileCopy) → IsListed f.members.boot from → files.Fits file → stamps.Fits stamp → Found CopyFits o → Every (SentFits f.members.boot) (pulled_page f from file stamp page o)
 pulled_fits f from file stamp page None listed at s found = tt
 pulled_fits f from file stamp page (Some x) listed at s found = over (has_page stamp page x) refl
   where
-    narrow : (n : ℕ) → n ≤ 1024 → n < 2 ^ 16
+    narrow : (n : ℕ) → n ≤ page_bytes → n < 2 ^ 16
     narrow n le = omega (arith, le)
 
     over : (b : Bool) → has_page stamp page x ≡ b → Every (SentFits f.members.boot) (cond b (packet f from (body.Page file stamp page (page_of x.content page)) ∷ []) [])
     over true e =
-        let k : (1 ≤ length (page_of x.content page)) × (length (page_of x.content page) ≤ 1024) × (page < 2 ^ 8) = page_fits x.content page (size_most (length x.content) found.size) (both_true (same_stamp x.stamp stamp) (nat_lt page (pages_of (length x.content))) e).1 in
-        (one_fits f from (body.Page file stamp page (page_of x.content page)) listed ((at, (s, k.2)), (in_range 1 1024 (length (page_of x.content page)) k.0 k.1, narrow (length (page_of x.content page)) k.1)) tt, tt)
+        let k : (1 ≤ length (page_of x.content page)) × (length (page_of x.content page) ≤ page_bytes) × (page < 2 ^ 8) = page_fits x.content page (size_most (length x.content) found.size) (both_true (same_stamp x.stamp stamp) (nat_lt page (pages_of (length x.content))) e).1 in
+        (one_fits f from (body.Page file stamp page (page_of x.content page)) listed ((at, (s, k.2)), (in_range 1 page_bytes (length (page_of x.content page)) k.0 k.1, narrow (length (page_of x.content page)) k.1)) tt, tt)
     over false e = tt
 
 pub on_pull_fits : (f : Frame) (from : ℕ) (file : FileId) (stamp : Stamp) (page : ℕ) (s : Store) → IsListed f.members.boot from → files.Fits file → stamps.Fits stamp → StoreFits f.members.boot s → StoreDone f.members.boot (on_pull f from file stamp page s)

@@ -2,8 +2,10 @@
 use Rattle.std.proofs.Common.{◌≡◌, ◌≤◌, ◌<◌, ◌^◌, ℕ, ◌+◌, ◌-◌, ◌*◌, ◌==◌, min, Bool, true, false, not, ◌&&◌, List, [], ◌∷◌, ◌++◌, length, Option, None, Some, refl, arith}
 use Rattle.std.proofs.Common.{length-append}
 use Rattle.std.proofs.lemmas.Bool.Decides.{nat_tests}
+use Rattle.role_steps.proofs.of_plain_facts.Tests.{both_true}
 use Rattle.locus_ids.specs.declared.ids.FileId.{FileId}
 use Rattle.locus_ids.specs.declared.ids.Stamp.{Stamp}
+use Rattle.locus_ids.specs.Sizes.{content_bytes_max, page_bytes}
 use Rattle.commit_graph.specs.Versions.{same_stamp}
 use Rattle.file_content.specs.Pages.{pages_of}
 use Rattle.wire_messages.specs.declared.body.Body.TheVariants as body
@@ -14,7 +16,6 @@ use Rattle.role_steps.specs.Views.{Frame, Outcome, file_key, packet, quiet, send
 use Rattle.role_steps.specs.declared.copies.FileCopy.{FileCopy}
 use Rattle.role_steps.specs.declared.pulls.Pull.{Pull}
 use Rattle.role_steps.proofs.Sending.{every_cond}
-use Rattle.epoch_laws.proofs.Handlers.{both_true}
 use Rattle.the_run.proofs.InsideSync.{Found, every_row, row_found}
 use Rattle.packet_value_laws.specs.Bodies.{IsListed}
 use Rattle.packet_value_laws.specs.Values.{PullFits, SentFits}
@@ -24,7 +25,7 @@ use Rattle.packet_value_laws.proofs.Fields.{every_flat, one_fits, size_most}
 abbrev pub PullsDone : List ℕ → Outcome (List Pull) → Type 0
 PullsDone boots o = Every (SentFits boots) o.sent × Every (PullFits boots) o.view
 
-page_low : (n size : ℕ) → n ≤ size → size ≤ 65536 → pages_of n < 2 ^ 8
+page_low : (n size : ℕ) → n ≤ size → size ≤ content_bytes_max → pages_of n < 2 ^ 8
 page_low n size le most = omega (arith, le, most)
 
 pub pull_fits : (f : Frame) (p : Pull) → PullFits f.members.boot p → Every (SentFits f.members.boot) (pull_packets f p)
@@ -51,13 +52,13 @@ on_notify_fits f from (Some own) p ps listed h k = over (same_stamp own.stamp p.
     over false false = (tt, k)
 
 -- with the page that was awaited the content is no longer than the version
-longer : (n page size more : ℕ) → n ≤ size → (page == pages_of n) ≡ true → (more == min 1024 (size - 1024 * page)) ≡ true → n + more ≤ size
-longer n page size more le p m = within (same page (pages_of n) p) (same more (min 1024 (size - 1024 * page)) m)
+longer : (n page size more : ℕ) → n ≤ size → (page == pages_of n) ≡ true → (more == min page_bytes (size - page_bytes * page)) ≡ true → n + more ≤ size
+longer n page size more le p m = within (same page (pages_of n) p) (same more (min page_bytes (size - page_bytes * page)) m)
   where
     same : (a b : ℕ) → (a == b) ≡ true → a ≡ b
     same a b e = grind (arith, nat_tests)
 
-    within : page ≡ pages_of n → more ≡ min 1024 (size - 1024 * page) → n + more ≤ size
+    within : page ≡ pages_of n → more ≡ min page_bytes (size - page_bytes * page) → n + more ≤ size
     within e g = omega (arith, le, e, g)
 
 on_page_of_fits : (f : Frame) (stamp : Stamp) (page : ℕ) (bytes : List ℕ) (o : Option Pull) (ps : List Pull) → Found (PullFits f.members.boot) o → Every (PullFits f.members.boot) ps → PullsDone f.members.boot (on_page_of f stamp page bytes o ps)
@@ -69,9 +70,9 @@ on_page_of_fits f stamp page bytes (Some p) ps found k = over (is_awaited p stam
 
     most : is_awaited p stamp page bytes ≡ true → length (p.content ++ bytes) ≤ p.size
     most e =
-        let a : (not (is_complete p) && ((page == next_page p) && (length bytes == min 1024 (p.size - 1024 * page)))) ≡ true = (both_true (same_stamp p.stamp stamp) _ e).1 in
-        let b : ((page == next_page p) && (length bytes == min 1024 (p.size - 1024 * page))) ≡ true = (both_true (not (is_complete p)) _ a).1 in
-        let d : ((page == next_page p) ≡ true) × ((length bytes == min 1024 (p.size - 1024 * page)) ≡ true) = both_true (page == next_page p) _ b in
+        let a : (not (is_complete p) && ((page == next_page p) && (length bytes == min page_bytes (p.size - page_bytes * page)))) ≡ true = (both_true (same_stamp p.stamp stamp) _ e).1 in
+        let b : ((page == next_page p) && (length bytes == min page_bytes (p.size - page_bytes * page))) ≡ true = (both_true (not (is_complete p)) _ a).1 in
+        let d : ((page == next_page p) ≡ true) × ((length bytes == min page_bytes (p.size - page_bytes * page)) ≡ true) = both_true (page == next_page p) _ b in
         let g : length p.content + length bytes ≤ p.size = longer (length p.content) page p.size (length bytes) found.most d.0 d.1 in
         omega (arith, g, length-append p.content bytes)
 

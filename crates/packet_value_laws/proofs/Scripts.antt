@@ -32,7 +32,7 @@ use Rattle.call_rules.specs.Making.{after_insert, after_make, after_probe, chang
 use Rattle.call_rules.specs.Mending.{after_mend, brings, mend_wants}
 use Rattle.call_rules.specs.Naming.{renames}
 use Rattle.call_rules.specs.Opening.{close_wants, describes, lists, op_wants, opens_file, uses_wants}
-use Rattle.call_rules.specs.Paths.{is_component, is_path}
+use Rattle.call_rules.specs.Paths.{is_component, is_path, path_bytes_max}
 use Rattle.call_rules.specs.Removing.{by_kind, empties, finds, opens_target, removes}
 use Rattle.call_rules.specs.Scripts.{begun_wants, named_wants, path_wants, where_packed}
 use Rattle.call_rules.specs.Walks.{Asks, Fails, Strays, There, Walked, mounted_in, passes, root_of, walk, walked}
@@ -52,10 +52,12 @@ use Rattle.role_steps.specs.Requests.{made_for, opening_of}
 use Rattle.packet_value_laws.specs.Values.{AnswerFits, CallFits, OpFits, PackFits, ScriptsFit, WantFits}
 use Rattle.field_codec.specs.Codec.{from_to}
 use Rattle.std.specs.Prelude.{IsTrue}
+use Rattle.role_steps.proofs.of_plain_facts.Numbers.{at_most, less}
+use Rattle.role_steps.proofs.of_plain_facts.Tests.{both_true, not_false}
 use Rattle.locus_ids.specs.declared.ids.EpochId.{EpochId}
+use Rattle.locus_ids.specs.Sizes.{file_bytes_max, set_span, sites_max}
 use Rattle.packet_value_laws.proofs.Components.{component_fits, name_fits, plain_fits}
 use Rattle.packet_value_laws.proofs.Fields.{ino_fits, kind_fits, size_fits}
-use Rattle.epoch_laws.proofs.Handlers.{both_true}
 
 abbrev SetIfAny : Option Sites → Type 0
 SetIfAny None = Unit {0}
@@ -278,7 +280,7 @@ all_fit (c ∷ cs) e = (component_fits c (both_true (is_component c) (list_all i
 
 path_fits : (path : List ℕ) → is_path path ≡ true → Every parts.components.Fits (components path)
 path_fits [] e = absurd (cc)
-path_fits (c ∷ rest) e = all_fit (components (c ∷ rest)) (both_true (nat_le (length (components (c ∷ rest))) 32) _ (both_true (nat_le (length (c ∷ rest)) 1024) _ (both_true (c == 47) _ e).1).1).1
+path_fits (c ∷ rest) e = all_fit (components (c ∷ rest)) (both_true (nat_le (length (components (c ∷ rest))) 32) _ (both_true (nat_le (length (c ∷ rest)) path_bytes_max) _ (both_true (c == 47) _ e).1).1).1
 
 less_fit : (cs : List (List ℕ)) → Every parts.components.Fits cs → Every parts.components.Fits (but_last cs)
 less_fit [] h = tt
@@ -298,26 +300,20 @@ last_fits (c ∷ d ∷ cs) e h = last_fits (d ∷ cs) (some_more d cs) h.1
 positive : (x : ℕ) → nat_lt 0 x ≡ true → 1 ≤ x
 positive x e = grind (arith, nat_tests)
 
-below : (x y : ℕ) → nat_lt x y ≡ true → x < y
-below x y e = grind (arith, nat_tests)
-
-at_most : (x y : ℕ) → nat_le x y ≡ true → x ≤ y
-at_most x y e = grind (arith, nat_tests)
-
-power_most : (k : ℕ) → k ≤ 16 → 2 ^ k ≤ 65536
+power_most : (k : ℕ) → k ≤ sites_max → 2 ^ k ≤ set_span
 power_most k le = pow_mono le
 
-site_range : (n site : ℕ) → is_site n site ≡ true → (1 ≤ site) × (site ≤ 16)
-site_range n site e = let k : (nat_le 1 site ≡ true) × (nat_le site (min n 16) ≡ true) = both_true (nat_le 1 site) (nat_le site (min n 16)) e in let high : site ≤ min n 16 = at_most site (min n 16) k.1 in (at_most 1 site k.0, omega (arith, high))
+site_range : (n site : ℕ) → is_site n site ≡ true → (1 ≤ site) × (site ≤ sites_max)
+site_range n site e = let k : (nat_le 1 site ≡ true) × (nat_le site (min n sites_max) ≡ true) = both_true (nat_le 1 site) (nat_le site (min n sites_max)) e in let high : site ≤ min n sites_max = at_most site (min n sites_max) k.1 in (at_most 1 site k.0, omega (arith, high))
 
-site_in : (n site : ℕ) → is_site n site ≡ true → IsTrue (from_to 1 16 site)
-site_in n site e = in_range 1 16 site (site_range n site e).0 (site_range n site e).1
+site_in : (n site : ℕ) → is_site n site ≡ true → IsTrue (from_to 1 sites_max site)
+site_in n site e = in_range 1 sites_max site (site_range n site e).0 (site_range n site e).1
 
 site_low : (n site : ℕ) → is_site n site ≡ true → site < 2 ^ 8
-site_low n site e = let high : site ≤ 16 = (site_range n site e).1 in omega (arith, high)
+site_low n site e = let high : site ≤ sites_max = (site_range n site e).1 in omega (arith, high)
 
 read_op : (n fd at len : ℕ) → fits_call n (call.Read fd at len) ≡ true → OpFits (op.Read at len)
-read_op n fd at len e = of (at_most at 65536 (mid (is_descriptor fd) (nat_le at 65536) (nat_le len 4096) e).0) (at_most len 4096 (mid (is_descriptor fd) (nat_le at 65536) (nat_le len 4096) e).1)
+read_op n fd at len e = of (at_most at file_bytes_max (mid (is_descriptor fd) (nat_le at file_bytes_max) (nat_le len 4096) e).0) (at_most len 4096 (mid (is_descriptor fd) (nat_le at file_bytes_max) (nat_le len 4096) e).1)
   where
     mid : (a b x : Bool) → (a && b && x) ≡ true → (b ≡ true) × (x ≡ true)
     mid true true true e = (refl, refl)
@@ -325,20 +321,16 @@ read_op n fd at len e = of (at_most at 65536 (mid (is_descriptor fd) (nat_le at 
     mid true false x e = absurd (cc)
     mid false b x e = absurd (cc)
 
-    of : at ≤ 65536 → len ≤ 4096 → OpFits (op.Read at len)
+    of : at ≤ file_bytes_max → len ≤ 4096 → OpFits (op.Read at len)
     of a l = ((size_fits at a, (in_range 0 4096 len (omega arith) l, omega (arith, l))), refl)
 
-write_op : (at : ℕ) (bytes : List ℕ) → (1 ≤ length bytes) × (length bytes ≤ 4096) × (at + length bytes ≤ 65536) → OpFits (op.Write at bytes)
-write_op at bytes k = ((size_fits at (omega (arith, k.2)), (in_range 1 (min 4096 (65536 - at)) (length bytes) k.0 (omega (arith, k.1, k.2)), omega (arith, k.1))), refl)
+write_op : (at : ℕ) (bytes : List ℕ) → (1 ≤ length bytes) × (length bytes ≤ 4096) × (at + length bytes ≤ file_bytes_max) → OpFits (op.Write at bytes)
+write_op at bytes k = ((size_fits at (omega (arith, k.2)), (in_range 1 (min 4096 (file_bytes_max - at)) (length bytes) k.0 (omega (arith, k.1, k.2)), omega (arith, k.1))), refl)
 
 cut_op : (n fd len : ℕ) → fits_call n (call.Cut fd len) ≡ true → OpFits (op.Cut len)
-cut_op n fd len e = (size_fits len (at_most len 65536 (both_true (is_descriptor fd) (nat_le len 65536) e).1), refl)
+cut_op n fd len e = (size_fits len (at_most len file_bytes_max (both_true (is_descriptor fd) (nat_le len file_bytes_max) e).1), refl)
 
 -- ---- calls ----
-
-not_false : (b : Bool) → not b ≡ false → b ≡ true
-not_false true h = refl
-not_false false h = absurd (cc)
 
 -- a path whose last component may be an entry's
 pub record EntryFits (path : List ℕ) : Type 0 where
@@ -356,10 +348,10 @@ new_parts mounts path e = let k : (names_entry mounts path ≡ true) × (is_name
 
 set_fits : (n : ℕ) (set : Option Sites) → fits_copies n set ≡ true → SetIfAny set
 set_fits n None e = tt
-set_fits n (Some s) e = some_of s.0 (2 ^ min n 16) (power_most (min n 16) (omega arith)) (both_true (nat_lt 0 s.0) (nat_lt s.0 (2 ^ min n 16)) e)
+set_fits n (Some s) e = some_of s.0 (2 ^ min n sites_max) (power_most (min n sites_max) (omega arith)) (both_true (nat_lt 0 s.0) (nat_lt s.0 (2 ^ min n sites_max)) e)
   where
-    some_of : (x most : ℕ) → most ≤ 65536 → (nat_lt 0 x ≡ true) × (nat_lt x most ≡ true) → IsTrue (from_to 1 65535 x) × (x < 2 ^ 16)
-    some_of x most le e = let low : 1 ≤ x = positive x e.0 in let high : x < most = below x most e.1 in (in_range 1 65535 x low (omega (arith, high, le)), omega (arith, high, le))
+    some_of : (x most : ℕ) → most ≤ set_span → (nat_lt 0 x ≡ true) × (nat_lt x most ≡ true) → IsTrue (from_to 1 (set_span - 1) x) × (x < set_span)
+    some_of x most le e = let low : 1 ≤ x = positive x e.0 in let high : x < most = less x most e.1 in (in_range 1 (set_span - 1) x low (omega (arith, high, le)), omega (arith, high, le))
 
 mode_fits : (n : ℕ) (m : OpenMode) → fits_mode n m ≡ true → (openings false).Fits (opening_of m)
 mode_fits n mode.Read e = ((refl, omega arith), ((refl, omega arith), ((refl, omega arith), (refl, omega arith))))

@@ -7,16 +7,17 @@ use Rattle.std.specs.Fmt.{decimal}
 use Rattle.std.specs.List.{list_all}
 use Rattle.std.specs.Prelude.{nat_le, nat_lt}
 use Rattle.std.specs.Str.{bytes_eq}
+use Rattle.role_steps.proofs.of_plain_facts.Tests.{and_true, both_true}
+use Rattle.locus_ids.specs.Sizes.{inodes_max}
 use Rattle.trace_book.specs.Names.{is_name, is_name_byte, plain_name}
 use Rattle.dir_format.specs.Entries.{IsEntry, is_live}
 use Rattle.dir_format.specs.Lookups.{is_shared, numbered_name, shown_name}
 use Rattle.dir_format.specs.declared.entry.Entry.{Entry}
 use Rattle.wire_fields.specs.Components as wire
 use Rattle.wire_fields.specs.Parts.{components}
-use Rattle.epoch_laws.proofs.Handlers.{both_true}
 use Rattle.packet_fit_laws.proofs.Lists.{every_kept}
 use Rattle.packet_value_laws.specs.Values.{ShownFit}
-use Rattle.packet_value_laws.proofs.Components.{both_back, wire_fits}
+use Rattle.packet_value_laws.proofs.Components.{wire_fits}
 use Rattle.packet_value_laws.proofs.Fields.{every_some}
 
 -- ---- names have no mark ----
@@ -74,7 +75,7 @@ record Text (n : ℕ) (ds : List ℕ) : Type 0 where
   value : wire.number_after 0 ds ≡ n
 
 digit_is : (d : ℕ) → d < 10 → wire.is_digit (48 + d) ≡ true
-digit_is d low = both_back (nat_le 48 (48 + d)) (nat_le (48 + d) 57) least most
+digit_is d low = and_true (nat_le 48 (48 + d)) (nat_le (48 + d) 57) least most
   where
     least : nat_le 48 (48 + d) ≡ true
     least = grind (arith, nat_tests)
@@ -93,15 +94,15 @@ not_zero n low = over (48 + n == 48) none
     over false e = refl
 
 one_text : (n : ℕ) → 1 ≤ n → n < 10 → Text n (decimal n)
-one_text n low high = subst (Text n) (sym (decimal_digit n high)) (record { first = not_zero n low; digits = both_back (wire.is_digit (48 + n)) true (digit_is n high) refl; value = omega arith })
+one_text n low high = subst (Text n) (sym (decimal_digit n high)) (record { first = not_zero n low; digits = and_true (wire.is_digit (48 + n)) true (digit_is n high) refl; value = omega arith })
 
 starts_more : (ds : List ℕ) (x : ℕ) → starts ds ≡ true → starts (ds ++ x ∷ []) ≡ true
 starts_more [] x e = absurd (cc)
 starts_more (c ∷ cs) x e = e
 
 digits_more : (ds : List ℕ) (x : ℕ) → list_all wire.is_digit ds ≡ true → wire.is_digit x ≡ true → list_all wire.is_digit (ds ++ x ∷ []) ≡ true
-digits_more [] x e k = both_back (wire.is_digit x) true k refl
-digits_more (c ∷ cs) x e k = let h : (wire.is_digit c ≡ true) × (list_all wire.is_digit cs ≡ true) = both_true (wire.is_digit c) (list_all wire.is_digit cs) e in both_back (wire.is_digit c) (list_all wire.is_digit (cs ++ x ∷ [])) h.0 (digits_more cs x h.1 k)
+digits_more [] x e k = and_true (wire.is_digit x) true k refl
+digits_more (c ∷ cs) x e k = let h : (wire.is_digit c ≡ true) × (list_all wire.is_digit cs ≡ true) = both_true (wire.is_digit c) (list_all wire.is_digit cs) e in and_true (wire.is_digit c) (list_all wire.is_digit (cs ++ x ∷ [])) h.0 (digits_more cs x h.1 k)
 
 value_more : (n : ℕ) (ds : List ℕ) (x : ℕ) → wire.number_after n (ds ++ x ∷ []) ≡ 10 * wire.number_after n ds + (x - 48)
 value_more n [] x = refl
@@ -126,14 +127,14 @@ three_text n low high = ⊎_elim (λ (l : n < 10). one_text n low l) (λ (g : 10
 four_text : (n : ℕ) → 1 ≤ n → n < 10000 → Text n (decimal n)
 four_text n low high = ⊎_elim (λ (l : n < 10). one_text n low l) (λ (g : 10 ≤ n). more_text n g high (three_text (n / 10) (omega (arith, g)) (omega (arith, high)))) (cases_lt n 10)
 
-inode_text : (n : ℕ) (ds : List ℕ) → n ≤ 1024 → Text n ds → wire.is_inode_text ds ≡ true
+inode_text : (n : ℕ) (ds : List ℕ) → n ≤ inodes_max → Text n ds → wire.is_inode_text ds ≡ true
 inode_text n [] le h = absurd (never h.first)
   where
     never : false ≡ true → ⊥
     never e = cc
-inode_text n (c ∷ cs) le h = both_back (not (c == 48)) _ h.first (both_back (list_all wire.is_digit (c ∷ cs)) _ h.digits (subst (λ (m : ℕ). nat_le m 1024 ≡ true) (sym h.value) low))
+inode_text n (c ∷ cs) le h = and_true (not (c == 48)) _ h.first (and_true (list_all wire.is_digit (c ∷ cs)) _ h.digits (subst (λ (m : ℕ). nat_le m inodes_max ≡ true) (sym h.value) low))
   where
-    low : nat_le n 1024 ≡ true
+    low : nat_le n inodes_max ≡ true
     low = grind (arith, nat_tests)
 
 -- ---- what is shown ----
@@ -141,17 +142,17 @@ inode_text n (c ∷ cs) le h = both_back (not (c == 48)) _ h.first (both_back (l
 plain_component : (name : List ℕ) → is_name name ≡ true → wire.is_component name ≡ true
 plain_component name e =
     let k : (plain_name name ≡ name) × (wire.after_at name ≡ None) = plain_alone name (name_bytes name e) in
-    both_back (is_name (plain_name name)) (wire.is_suffix (wire.after_at name)) (subst (λ (x : List ℕ). is_name x ≡ true) (sym k.0) e) (subst (λ (o : Option (List ℕ)). wire.is_suffix o ≡ true) (sym k.1) refl)
+    and_true (is_name (plain_name name)) (wire.is_suffix (wire.after_at name)) (subst (λ (x : List ℕ). is_name x ≡ true) (sym k.0) e) (subst (λ (o : Option (List ℕ)). wire.is_suffix o ≡ true) (sym k.1) refl)
 
 marked_component : (name ds : List ℕ) → is_name name ≡ true → wire.is_inode_text ds ≡ true → wire.is_component (name ++ 64 ∷ ds) ≡ true
 marked_component name ds e t =
     let k : (plain_name (name ++ 64 ∷ ds) ≡ name) × (wire.after_at (name ++ 64 ∷ ds) ≡ Some ds) = plain_marked name ds (name_bytes name e) in
-    both_back (is_name (plain_name (name ++ 64 ∷ ds))) (wire.is_suffix (wire.after_at (name ++ 64 ∷ ds))) (subst (λ (x : List ℕ). is_name x ≡ true) (sym k.0) e) (subst (λ (o : Option (List ℕ)). wire.is_suffix o ≡ true) (sym k.1) t)
+    and_true (is_name (plain_name (name ++ 64 ∷ ds))) (wire.is_suffix (wire.after_at (name ++ 64 ∷ ds))) (subst (λ (x : List ℕ). is_name x ≡ true) (sym k.0) e) (subst (λ (o : Option (List ℕ)). wire.is_suffix o ≡ true) (sym k.1) t)
 
 shown_fits : (d : Entry) (shared : Bool) → IsEntry d → components.Fits (shown_name d shared)
 shown_fits d true h = wire_fits (numbered_name d) (subst (λ (x : List ℕ). wire.is_component x ≡ true) (sym (append_assoc d.name (64 ∷ []) (decimal d.ino))) (marked_component d.name (decimal d.ino) h.name (inode_text d.ino (decimal d.ino) h.ino.1 (four_text d.ino h.ino.0 (below d.ino h.ino.1)))))
   where
-    below : (n : ℕ) → n ≤ 1024 → n < 10000
+    below : (n : ℕ) → n ≤ inodes_max → n < 10000
     below n le = omega (arith, le)
 shown_fits d false h = wire_fits d.name (plain_component d.name h.name)
 

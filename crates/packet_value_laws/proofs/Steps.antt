@@ -1,5 +1,8 @@
 -- A step of a site: where what comes is of the format, what is sent is, and so is what the site has then.
-use Rattle.std.proofs.Common.{◌≡◌, ◌≤◌, ◌<◌, ◌^◌, ◌⊎◌, ℕ, ◌+◌, ◌==◌, Bool, true, false, cond, not, ◌&&◌, ◌||◌, List, [], ◌∷◌, ◌++◌, filter, map, Option, None, Some, refl, sym, ◌∙◌, subst, arith, inl, inr}
+use Rattle.std.proofs.Common.{◌≡◌, ◌≤◌, ◌<◌, ◌^◌, ◌⊎◌, ℕ, ◌+◌, ◌==◌, Bool, true, false, cond, not, ◌&&◌, ◌||◌, List, [], ◌∷◌, ◌++◌, filter, map, Option, None, Some, refl, sym, ◌∙◌, subst, arith, inl, inr, zero, suc, nat_lt}
+use Rattle.role_steps.proofs.of_plain_facts.Numbers.{equal}
+use Rattle.role_steps.proofs.of_plain_facts.Options.{none_some}
+use Rattle.role_steps.proofs.of_plain_facts.Tests.{both_true}
 use Rattle.locus_ids.specs.Sites.{has}
 use Rattle.locus_ids.specs.declared.config.Config.{Config}
 use Rattle.locus_ids.specs.declared.ids.EpochId.{EpochId}
@@ -17,44 +20,35 @@ use Rattle.wire_messages.specs.declared.packet.Packet.{Packet}
 use Rattle.role_steps.specs.Epochs.{all_reports, begins_round, boots_where, chosen_members, chosen_set, decides, decides_if, frame_in, install_packet, install_repeats, installs_all, is_epoch_below, is_in, is_sync_site, joined_packet, joined_view, joins, leaves, leaves_of, may_install, merge_boot, on_install, on_joined, on_poll, on_promise_of, on_refuse_of, others_of, own_groups, part_boot, passed_over, passes_over, passes_over_of, poll_packet, poll_repeats, polled_sites, polls, promise_packet, promised_view, promises, reached, refuse_packet, round_id, starts_merge, starts_part, starts_part_of, unanswered}
 use Rattle.role_steps.specs.Own.{Every}
 use Rattle.role_steps.specs.Reports.{new_table}
-use Rattle.role_steps.specs.Views.{Calls, Event, Frame, GivesUp, Merges, Outcome, Parts, Promises, Receives, SiteView, Ticks, all_groups, and_then, boot_in, pack_sites, quiet, sends, tells}
+use Rattle.role_steps.specs.Views.{Calls, Event, Frame, GivesUp, Merges, Outcome, Parts, Promises, Receives, SiteView, Ticks, all_groups, and_then, boot_in, pack_sites, quiet, sends, tells, Store, Users}
 use Rattle.role_steps.specs.declared.pulls.Pull.{Pull}
 use Rattle.role_steps.specs.declared.rounds.InEpoch.{InEpoch}
 use Rattle.role_steps.specs.declared.rounds.Round.{Round}
 use Rattle.role_steps.proofs.Sending.{every_append, every_cond, every_map}
-use Rattle.the_run.specs.Steps.{adopts_in, adopts_of, call_frame, ends_event, epoch_id, in_order, is_dropped, is_forming, is_framed, repeats, repeats_inside, repeats_of, starts_mends_of, step, takes, takes_call, takes_framed, ticks_after, tries_at, whole}
+use Rattle.the_run.specs.Steps.{adopts_in, adopts_of, call_frame, ends_event, epoch_id, in_order, is_dropped, is_forming, is_framed, repeats, repeats_inside, repeats_of, starts_mends_of, step, takes, takes_call, takes_framed, ticks_after, tries_at, whole, at_users}
 use Rattle.the_run.proofs.Boots.{every_weaker}
 use Rattle.the_run.proofs.StepSends.{order_sent}
-use Rattle.epoch_laws.specs.Forming.{FormlessSite, FormsNone}
-use Rattle.epoch_laws.proofs.Handlers.{both_true, none_is}
-use Rattle.epoch_laws.proofs.Parts.{every_both}
-use Rattle.epoch_laws.proofs.SitesForm.{adopts_of_formless, framed_formless, mends_of_formless, tries_formless}
-use Rattle.run_laws.specs.Naming.{IsInEpoch}
-use Rattle.run_laws.proofs.InsideSteps.{adopts_of_inner, call_inner, framed_inner, repeats_in_epoch}
-use Rattle.packet_fit_laws.specs.Fields.{AreBoots, IsSite}
+use Rattle.packet_fit_laws.specs.of_epoch_laws.Forming.{FormlessSite, FormsNone}
+use Rattle.packet_fit_laws.proofs.of_epoch_laws.Handlers.{leaves_of_epoch}
+use Rattle.packet_fit_laws.proofs.of_epoch_laws.Parts.{every_both}
+use Rattle.packet_fit_laws.proofs.of_epoch_laws.Forms.{adopts_of_formless, framed_formless, mends_of_formless, tries_formless, on_call_forms}
+use Rattle.packet_fit_laws.specs.of_run_laws.Naming.{IsInEpoch}
+use Rattle.packet_fit_laws.proofs.of_run_laws.InsideSteps.{adopts_of_inner, call_inner, framed_inner, repeats_in_epoch}
+use Rattle.packet_fit_laws.specs.Fields.{AreBoots, IsSite, IsBoot}
 use Rattle.packet_fit_laws.proofs.Meeting.{IsAddressed, listed_site}
 use Rattle.packet_value_laws.specs.Bodies.{FitsBut, IsListed, NamesListed, NamesNone}
-use Rattle.packet_value_laws.specs.Values.{Grounds, KeptAt, SentFits, SiteValues, TableFits, boots_in}
-use Rattle.packet_value_laws.proofs.Fields.{AskedFits}
+use Rattle.packet_value_laws.specs.Values.{Grounds, KeptAt, SentFits, SiteValues, TableFits, boots_in, AskingFits, HasOpen, InstanceFits, PullFits, StoreFits, UsersFit, WaitingFits}
+use Rattle.packet_value_laws.proofs.Fields.{AskedFits, every_some}
 use Rattle.packet_value_laws.proofs.Inside.{AskingDone, SiteDone, adopts_first_done, call_done, call_fits, inside_done, inside_repeats, mends_done, quiet_asking, quiet_done, reports_fit}
-use Rattle.std.proofs.Common.{zero, suc, nat_lt}
 use Rattle.role_steps.specs.Requests.{descriptors_of}
 use Rattle.role_steps.specs.Tables.{without_row}
 use Rattle.role_steps.specs.Using.{on_call}
 use Rattle.role_steps.specs.Mends.{starts_mends}
-use Rattle.role_steps.specs.Views.{Store, Users}
 use Rattle.role_steps.specs.declared.users.Asking.{Asking}
 use Rattle.role_steps.specs.declared.users.Asking.TheVariants as asking
-use Rattle.the_run.specs.Steps.{at_users}
-use Rattle.epoch_laws.proofs.Boots.{cond_at_most, test_same}
-use Rattle.epoch_laws.proofs.Handlers.{leaves_of_epoch}
-use Rattle.epoch_laws.proofs.RolesForm.{on_call_forms}
-use Rattle.packet_fit_laws.specs.Fields.{IsBoot}
-use Rattle.packet_fit_laws.proofs.Installs.{adopts_awaits, tries_awaits}
+use Rattle.packet_fit_laws.proofs.of_epoch_laws.Boots.{cond_at_most}
 use Rattle.packet_fit_laws.proofs.Lists.{Comes, Forms, Site, begins_fine, chosen_boots, every_kept, fits_in, inner_fine, is_asked, leaves_fine, left_boots, made_boots, passes_over_fine, starts_part_fine, takes_fine}
 use Rattle.packet_fit_laws.proofs.SitesMeet.{adopts_of_meet, call_meet, tries_meet}
-use Rattle.packet_value_laws.specs.Values.{AskingFits, HasOpen, InstanceFits, PullFits, StoreFits, UsersFit, WaitingFits}
-use Rattle.packet_value_laws.proofs.Fields.{every_some}
 
 -- ---- packets ----
 
@@ -142,7 +136,7 @@ module _ (c : Config) (me : ℕ) (o0 : Option InEpoch) where
   promises_done : (id : EpochId) (reach : Sites) (v : SiteView) → Apart v → SiteValues c (boots_in v.epoch) v → Done c o0 (promises me id reach v)
   promises_done id reach v apart h =
       let o : Done c o0 (leaves me v) = leaves_done v.epoch v apart h in
-      then_done (leaves me v) (λ now. tells (Promises me id reach ∷ []) (promised_view id now)) o (record { view = record { store = o.view.store; users = o.view.users; tables = o.view.tables; pulls = o.view.pulls; reports = o.view.reports }; sent = tt; apart = λ r k. absurd (none_is r k) })
+      then_done (leaves me v) (λ now. tells (Promises me id reach ∷ []) (promised_view id now)) o (record { view = record { store = o.view.store; users = o.view.users; tables = o.view.tables; pulls = o.view.pulls; reports = o.view.reports }; sent = tt; apart = λ r k. absurd (none_some r k) })
 
   poll_sent : (boot : ℕ) (id : EpochId) (polled : Links) (ss : List ℕ) → Every (Sent o0) (map (poll_packet me boot id polled) ss)
   poll_sent boot id polled ss = every_map (Sent o0) (poll_packet me boot id polled) ss (λ s. record { body = tt; to = λ n. absurd n; names = inl (λ boots. tt) })
@@ -233,7 +227,7 @@ module _ (c : Config) (me : ℕ) (g : Grounds c) (o0 : Option InEpoch) where
   joins_done : (id : EpochId) (m : Members) (v : SiteView) → AreBoots m.boot → v.epoch ≡ None → SiteValues c (boots_in v.epoch) v → Done c o0 (joins c me id m v)
   joins_done id m v fit outside h =
       let now : SiteValues c m.boot (joined_view c me id m v) = joined_values c me id m v (values_of c v None outside h) in
-      record { view = now; sent = all_asked o0 m.boot (all_reports (frame_in c me v.boot (record { id = id; members = m })) (joined_view c me id m v)) fit (reports_fit (frame_in c me v.boot (record { id = id; members = m })) g (joined_view c me id m v) now); apart = λ r e. absurd (none_is r e) }
+      record { view = now; sent = all_asked o0 m.boot (all_reports (frame_in c me v.boot (record { id = id; members = m })) (joined_view c me id m v)) fit (reports_fit (frame_in c me v.boot (record { id = id; members = m })) g (joined_view c me id m v) now); apart = λ r e. absurd (none_some r e) }
 
   joined_sent : (from from_boot : ℕ) (id : EpochId) (v : SiteView) → Every (Sent o0) (joined_packet me from from_boot id v)
   joined_sent from from_boot id v = (record { body = tt; to = λ n. absurd n; names = inl (λ boots. tt) }, tt)
@@ -297,13 +291,13 @@ module _ (c : Config) (me : ℕ) (g : Grounds c) (o0 : Option InEpoch) where
 -- ---- the lists of boots that a site has ----
 
 call_site : (me : ℕ) (c : Config) (process : ℕ) (words : Call) (v : SiteView) → Site v → Site (takes_call c me process words v).view
-call_site me c process words v s = (inner_fine v (takes_call c me process words v) (record { boot = refl; round = refl; promised = refl; epoch = refl; tables = s.tables; still = on_call_forms (call_frame c me v.boot v.epoch) (epoch_id v.epoch) process words v.users }) refl (call_meet c me process words v (fits_in v v.epoch refl s) s.meets) s).view
+call_site me c process words v s = (inner_fine v (takes_call c me process words v) (record { boot = refl; round = refl; promised = refl; epoch = refl; tables = s.tables; still = on_call_forms (call_frame c me v.boot v.epoch) (epoch_id v.epoch) process words v.users }) (call_meet c me process words v (fits_in v v.epoch refl s) s.meets) s).view
 
 tries_site : (me : ℕ) (c : Config) (x : Body) (u : SiteView) → Site u → Site (tries_at c me x u).view
-tries_site me c x u s = (inner_fine u (tries_at c me x u) (tries_formless c me x u s.tables) (tries_awaits c me x u) (tries_meet c me x u (fits_in u u.epoch refl s) s.meets) s).view
+tries_site me c x u s = (inner_fine u (tries_at c me x u) (tries_formless c me x u s.tables) (tries_meet c me x u (fits_in u u.epoch refl s) s.meets) s).view
 
 adopts_site_of : (me : ℕ) (c : Config) (v : SiteView) → Site v → Site (adopts_in c me v).view
-adopts_site_of me c v s = (inner_fine v (adopts_in c me v) (adopts_of_formless c me v.epoch v s.tables) (adopts_awaits c me v.epoch v) (adopts_of_meet c me v.epoch v (fits_in v v.epoch refl s) s.meets) s).view
+adopts_site_of me c v s = (inner_fine v (adopts_in c me v) (adopts_of_formless c me v.epoch v s.tables) (adopts_of_meet c me v.epoch v (fits_in v v.epoch refl s) s.meets) s).view
 
 merges_site : (me : ℕ) (links : Links) (v : SiteView) → ((t : ℕ) → boot_in links.boot t ≤ 134217730) → Site v → Site (starts_merge me links v).view
 merges_site me links v low s = (begins_fine me links (v.promised.number + 1) (boots_where (merge_boot me links)) v (made_boots (merge_boot me links) (λ t. cond_at_most (t == me) 0 (boot_in links.boot t) 134217730 (omega arith) (low t))) s).view
@@ -440,7 +434,7 @@ module _ (c : Config) (me : ℕ) (site : IsSite me) (g : Grounds c) where
 
   member_listed : (p : Packet) (o : Option InEpoch) → is_framed p o ≡ true → IsBoot p.from_boot → FromListed o p.from
   member_listed p None h own = tt
-  member_listed p (Some e) h own = let k : boot_in e.members.boot p.from ≡ p.from_boot = test_same (boot_in e.members.boot p.from) p.from_boot (both_true (same_epoch e.id p.epoch) (boot_in e.members.boot p.from == p.from_boot) h).1 in omega (arith, k, own.0)
+  member_listed p (Some e) h own = let k : boot_in e.members.boot p.from ≡ p.from_boot = equal (boot_in e.members.boot p.from) p.from_boot (both_true (same_epoch e.id p.epoch) (boot_in e.members.boot p.from == p.from_boot) h).1 in omega (arith, k, own.0)
 
   taken_of : (p : Packet) (x : Body) (v : SiteView) → (nat_lt (kind_number x) 6 || is_framed p v.epoch) ≡ true → IsBoot p.from_boot → Forms p x → FitsBut x → (is_framed p v.epoch ≡ true → NamesHere v.epoch x × KeptAt v p.from x) → TakenFits p x v
   taken_of p body.Poll v t boot forms k names = tt

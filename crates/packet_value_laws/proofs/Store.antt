@@ -7,6 +7,7 @@ use Rattle.locus_ids.specs.declared.ids.Mode.TheVariants as mode
 use Rattle.locus_ids.specs.declared.ids.Serial.{Serial}
 use Rattle.locus_ids.specs.declared.ids.Stamp.{Stamp}
 use Rattle.locus_ids.specs.declared.refusal.Refusal.TheVariants as refusal
+use Rattle.locus_ids.specs.Sizes.{inodes_max, site_inodes}
 use Rattle.wire_fields.specs.Parts.{files, files_or_new, inodes, stamps}
 use Rattle.field_codec.specs.Codec.{followed_by}
 use Rattle.wire_fields.proofs.Members.{range}
@@ -57,16 +58,16 @@ ino_from s group ino (suc left) o e n k = over (λ q. ino_from s group (ino + 1)
     over rest false e = let h : ino ≡ n = some_is ino n e in (omega (arith, h), omega (arith, h))
 
 own_fits : (s : Store) (group me : ℕ) → IsSite me → (n : ℕ) → own_ino s group me ≡ Some n → inodes.Fits n
-own_fits s group me site n e = range_of (ino_from s group (64 * (me - 1) + 1) 64 (own_ino s group me) refl n e)
+own_fits s group me site n e = range_of (ino_from s group (site_inodes * (me - 1) + 1) site_inodes (own_ino s group me) refl n e)
   where
-    range_of : (64 * (me - 1) + 1 ≤ n) × (n + 1 ≤ 64 * (me - 1) + 1 + 64) → inodes.Fits n
+    range_of : (site_inodes * (me - 1) + 1 ≤ n) × (n + 1 ≤ site_inodes * (me - 1) + 1 + site_inodes) → inodes.Fits n
     range_of h = ino_fits n (omega (arith, h.0)) (omega (arith, h.1, site.1))
 
 -- ---- modes ----
 
 -- what isn't made is there
 pub old_file : (file : FileId) (m : Mode) → mode_number m ≤ 4 → (followed_by files_or_new (λ (x : FileId). modes (is_new x))).Fits (file, m) → files.Fits file
-old_file file m old h = (h.0.0, ino_fits file.ino (some (file.ino == 0) refl) (range 0 1024 file.ino h.0.1.0).1)
+old_file file m old h = (h.0.0, ino_fits file.ino (some (file.ino == 0) refl) (range 0 inodes_max file.ino h.0.1.0).1)
   where
     some : (b : Bool) → (file.ino == 0) ≡ b → 1 ≤ file.ino
     some true e = absurd (let k : 5 ≤ mode_number m = subst (λ (t : Bool). (modes t).Fits m → 5 ≤ mode_number m) (sym e) (λ g. (range 5 5 (mode_number m) g.0).0) h.1 in omega (arith, k, old))

@@ -11,6 +11,7 @@ use Rattle.locus_ids.specs.declared.ids.Stamp.{Stamp}
 use Rattle.locus_ids.specs.declared.refusal.Refusal.{Refusal}
 use Rattle.locus_ids.specs.declared.refusal.Refusal.TheVariants as refusal
 use Rattle.locus_ids.specs.declared.sites.Sites.{Sites}
+use Rattle.locus_ids.specs.Sizes.{inodes_max}
 use Rattle.commit_graph.specs.Grants.{Opener, excludes, grant_refusal, kept_refusal}
 use Rattle.commit_graph.specs.Versions.{same_stamp}
 use Rattle.field_codec.specs.Codec.{followed_by}
@@ -446,13 +447,13 @@ module _ (f : Frame) (fit : AreBoots f.members.boot) (own : IsListed f.members.b
 
   with_reported_fits : (from : ℕ) (x : ReportedCopy) (t : SyncTable) → IsListed f.members.boot from → (least : ℕ) → 1 ≤ least → (copies_from least).Fits x → TableFits f.members.boot t → TableFits f.members.boot (with_reported from x t)
   with_reported_fits from x t listed least some k h =
-      let ino : inodes.Fits x.ino = (in_range 1 1024 x.ino (low (range least 1024 x.ino k.0.0)) (range least 1024 x.ino k.0.0).1, k.0.1) in
+      let ino : inodes.Fits x.ino = (in_range 1 inodes_max x.ino (low (range least inodes_max x.ino k.0.0)) (range least inodes_max x.ino k.0.0).1, k.0.1) in
       let v : VersionFits (version_reported x) = record { version = k.1.1.1.1; size = k.1.1.1.0 } in
       let r : FileFits f.members.boot (known_or (unknown_file x.ino x.kind x.set) (file_row t x.ino)) = known_fits f.members.boot (unknown_file x.ino x.kind x.set) (file_row t x.ino) (unknown_fits f.members.boot x.ino x.kind x.set ino k.1.1.0) (found_file f.members.boot t x.ino h) in
       with_file_fits f.members.boot (with_holder from x.stamp (with_version (version_reported x) (known_or (unknown_file x.ino x.kind x.set) (file_row t x.ino)))) t
       (with_holder_fits f.members.boot from x.stamp (with_version (version_reported x) (known_or (unknown_file x.ino x.kind x.set) (file_row t x.ino))) listed v.version.0 (with_version_fits f.members.boot (version_reported x) (known_or (unknown_file x.ino x.kind x.set) (file_row t x.ino)) v r)) h
     where
-      low : (least ≤ x.ino) × (x.ino ≤ 1024) → 1 ≤ x.ino
+      low : (least ≤ x.ino) × (x.ino ≤ inodes_max) → 1 ≤ x.ino
       low r = omega (arith, r.0, some)
 
   all_reported_fit : (from : ℕ) (least : ℕ) (xs : List ReportedCopy) (t : SyncTable) → IsListed f.members.boot from → 1 ≤ least → AllFit copies_from (λ _ (copy : ReportedCopy). copy.ino + 1) least xs → TableFits f.members.boot t → TableFits f.members.boot (with_all_reported from xs t)

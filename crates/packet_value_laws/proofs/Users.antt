@@ -44,6 +44,7 @@ use Rattle.field_codec.specs.Codec.{u8_in}
 use Rattle.locus_ids.specs.declared.ids.Kind.{Kind}
 use Rattle.locus_ids.specs.declared.ids.Kind.TheVariants.{File, Dir}
 use Rattle.locus_ids.specs.declared.sites.Sites.{Sites}
+use Rattle.locus_ids.specs.Sizes.{inodes_max}
 use Rattle.wire_messages.specs.declared.body.Opening.{Opening}
 use Rattle.role_steps.proofs.Sending.{every_append}
 use Rattle.the_run.proofs.InsideSync.{Found, every_row, every_without, first_found, row_found}
@@ -95,7 +96,7 @@ not_new file h = none file.ino (ino_range file.ino h.1).0
     none n low = grind (arith, nat_tests)
 
 old_or_new : (file : FileId) → files.Fits file → files_or_new.Fits file
-old_or_new file h = (h.0, (in_range 0 1024 file.ino (omega arith) (ino_range file.ino h.1).1, h.1.1))
+old_or_new file h = (h.0, (in_range 0 inodes_max file.ino (omega arith) (ino_range file.ino h.1).1, h.1.1))
 
 mend_opens : (openings false).Fits how.Mend
 mend_opens = ((in_range 1 4 4 (omega arith) (omega arith), omega arith), ((refl, omega arith), ((refl, omega arith), (refl, omega arith))))

@@ -6,7 +6,7 @@ use Rattle.wire_fields.proofs.Members.{in_range}
 use Rattle.wire_messages.specs.Bodies.{FitsBody}
 use Rattle.wire_messages.specs.declared.body.Body.{Body}
 use Rattle.wire_messages.specs.declared.body.Body.TheVariants as body
-use Rattle.epoch_laws.specs.Forming.{FormsNone}
+use Rattle.packet_fit_laws.specs.of_epoch_laws.Forming.{FormsNone}
 use Rattle.packet_order.specs.Counts.{IsCounted}
 use Rattle.packet_value_laws.specs.Bodies.{FitsBut, IsNamed}
 use Rattle.packet_value_laws.proofs.Fields.{kind_fits}

@@ -4,6 +4,7 @@ use Rattle.locus_ids.specs.Sites.{has}
 use Rattle.locus_ids.specs.declared.ids.Stamp.{Stamp}
 use Rattle.locus_ids.specs.declared.config.Config.{Config}
 use Rattle.locus_ids.specs.declared.sites.Members.{Members}
+use Rattle.locus_ids.specs.Sizes.{file_bytes_max}
 use Rattle.trace_book.specs.declared.call.Call.{Call}
 use Rattle.trace_book.specs.declared.call.Call.TheVariants as call
 use Rattle.trace_book.specs.declared.operation.Op.{Op}
@@ -125,7 +126,7 @@ pub record StoreFits (boots : List ℕ) (s : Store) : Type 0 where
 -- greatest size.
 abbrev pub CallFits : Config → Call → Beginning → Type 0
 CallFits c (call.Mend file) b = files.Fits file
-CallFits c (call.Write fd at bytes) (begins.Uses e inst) = (1 ≤ length bytes) × (length bytes ≤ 4096) × (at + length bytes ≤ 65536)
+CallFits c (call.Write fd at bytes) (begins.Uses e inst) = (1 ≤ length bytes) × (length bytes ≤ 4096) × (at + length bytes ≤ file_bytes_max)
 CallFits c words b = fits_call c.sites words ≡ true
 
 -- what a call has been answered

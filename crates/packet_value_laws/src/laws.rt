@@ -1,7 +1,7 @@
 ghost use Rattle.locus_ids.specs.declared.config.Config.{Config};
 ghost use Rattle.wire_messages.specs.declared.body.Body.{Body};
 ghost use Rattle.wire_messages.specs.Bodies.{FitsBody};
-ghost use Rattle.epoch_laws.specs.Forming.{FormsNone};
+ghost use Rattle.packet_fit_laws.specs.of_epoch_laws.Forming.{FormsNone};
 ghost use Rattle.packet_order.specs.Counts.{IsCounted};
 ghost use Rattle.packet_value_laws.specs.Bodies.{FitsBut};
 ghost use Rattle.packet_value_laws.specs.Values.{ScriptsFit, ShownFit};

@@ -1,40 +1,31 @@
 -- Promises as rows, and as they stand at the places of their sites.
 use Rattle.std.proofs.Common.{◌≡◌, ◌≢◌, ◌<◌, ◌≤◌, ◌+◌, ◌==◌, not, cond, true, false, Bool, ℕ, zero, suc, List, [], ◌∷◌, Option, None, Some, length, drop, filter, get_or, set, refl, sym, ap, ◌∙◌, arith, add-zero, nat_eq, nat_lt, ◌&&◌, inl, inr, subst, slice_get, get_or-set_other, get_or-set_same, below_more}
 use Rattle.std.proofs.Math.ListN.{length-set}
-use Rattle.epoch_rules.proofs.Sixteen.{next_site}
+use Rattle.locus_ids.specs.Sizes.{sites_max}
+use Rattle.epoch_rules.proofs.of_role_steps.Numbers.{next_site}
 use Rattle.std.specs.List.{list_any}
 use Rattle.locus_ids.proofs.Sets.{has-both}
 use Rattle.std.proofs.lemmas.Bool.Decides.{nat_tests}
+use Rattle.epoch_rules.proofs.of_plain_facts.Numbers.{differ_test, less_test, not_less_test, same_test}
+use Rattle.epoch_rules.proofs.of_plain_facts.Tests.{both_true}
 use Rattle.locus_ids.specs.Sites.{has, both}
 use Rattle.locus_ids.specs.declared.sites.Links.{Links}
 use Rattle.locus_ids.specs.declared.sites.Sites.{Sites}
-use Rattle.role_steps.specs.Tables.{with_row}
-use Rattle.role_steps.specs.Views.{boot_in, all_sites}
-use Rattle.role_steps.specs.Epochs.{promise_site, is_polled, met_by, met_by_all, unanswered, polled_sites}
-use Rattle.role_steps.specs.declared.rounds.Round.{Round}
-use Rattle.role_steps.specs.declared.rounds.Promise.{Promise}
+use Rattle.epoch_rules.specs.of_role_steps.Tables.{with_row}
+use Rattle.epoch_rules.specs.of_role_steps.Views.{boot_in, all_sites}
+use Rattle.epoch_rules.specs.of_role_steps.Epochs.{promise_site, is_polled, met_by, met_by_all, unanswered, polled_sites}
+use Rattle.epoch_rules.specs.of_role_steps.declared.rounds.Round.{Round}
+use Rattle.epoch_rules.specs.of_role_steps.declared.rounds.Promise.{Promise}
 use Rattle.partition_protocol.specs.Promising.{promises_from, is_missing, Among}
 
-less_yes : (a b : ℕ) → a < b → nat_lt a b ≡ true
-less_yes a b e = grind (arith, nat_tests)
-
-less_no : (a b : ℕ) → b ≤ a → nat_lt a b ≡ false
-less_no a b e = grind (arith, nat_tests)
-
-same_yes : (a b : ℕ) → a ≡ b → nat_eq a b ≡ true
-same_yes a b e = grind (arith, nat_tests)
-
-same_no : (a b : ℕ) → a ≢ b → nat_eq a b ≡ false
-same_no a b e = grind (arith, nat_tests)
-
 pub put_front : {A : Type 0} (key : A → ℕ) (x y : A) (ys : List A) → key x < key y → with_row key x (y ∷ ys) ≡ x ∷ y ∷ ys
-put_front key x y ys h = rw (less_no (key y) (key x) (omega arith), with_row) (rw (same_no (key y) (key x) (omega arith), with_row) refl)
+put_front key x y ys h = rw (not_less_test (key y) (key x) (omega arith), with_row) (rw (differ_test (key y) (key x) (omega arith), with_row) refl)
 
 put_here : {A : Type 0} (key : A → ℕ) (x y : A) (ys : List A) → key y ≡ key x → with_row key x (y ∷ ys) ≡ x ∷ ys
-put_here key x y ys h = rw (less_no (key y) (key x) (omega arith), with_row) (rw (same_yes (key y) (key x) h, with_row) refl)
+put_here key x y ys h = rw (not_less_test (key y) (key x) (omega arith), with_row) (rw (same_test (key y) (key x) h, with_row) refl)
 
 put_after : {A : Type 0} (key : A → ℕ) (x y : A) (ys : List A) → key y < key x → with_row key x (y ∷ ys) ≡ y ∷ with_row key x ys
-put_after key x y ys h = rw (less_yes (key y) (key x) h, with_row) refl
+put_after key x y ys h = rw (less_test (key y) (key x) h, with_row) refl
 
 abbrev promised : ℕ → Sites → Promise
 promised site reach = record { site = site; reach = reach }
@@ -57,7 +48,7 @@ put_at n site reach (Some q ∷ xs) (suc i) l e = ap (λ (ps : List Promise). pr
 none_below : (s n : ℕ) (xs : List (Option Sites)) → s < n → list_any (λ (p : Promise). p.site == s) (promises_from n xs) ≡ false
 none_below s n [] h = refl
 none_below s n (None ∷ xs) h = none_below s (n + 1) xs (omega arith)
-none_below s n (Some q ∷ xs) h = rw (same_no n s (omega arith)) (none_below s (n + 1) xs (omega arith))
+none_below s n (Some q ∷ xs) h = rw (differ_test n s (omega arith)) (none_below s (n + 1) xs (omega arith))
 
 -- a site has promised where something stands at its place
 pub none_at : (n s : ℕ) (xs : List (Option Sites)) (i : ℕ) → i < length xs → s ≡ n + i → get_or xs i None ≡ None → list_any (λ (p : Promise). p.site == s) (promises_from n xs) ≡ false
@@ -65,14 +56,14 @@ none_at n s [] i l e g = absurd (omega arith)
 none_at n s (None ∷ xs) zero l e g = none_below s (n + 1) xs (omega arith)
 none_at n s (Some q ∷ xs) zero l e g = absurd (cc)
 none_at n s (None ∷ xs) (suc i) l e g = none_at (n + 1) s xs i (omega arith) (omega arith) g
-none_at n s (Some q ∷ xs) (suc i) l e g = rw (same_no n s (omega arith)) (none_at (n + 1) s xs i (omega arith) (omega arith) g)
+none_at n s (Some q ∷ xs) (suc i) l e g = rw (differ_test n s (omega arith)) (none_at (n + 1) s xs i (omega arith) (omega arith) g)
 
 pub some_at : (n s : ℕ) (reach : Sites) (xs : List (Option Sites)) (i : ℕ) → i < length xs → s ≡ n + i → get_or xs i None ≡ Some reach → list_any (λ (p : Promise). p.site == s) (promises_from n xs) ≡ true
 some_at n s reach [] i l e g = absurd (omega arith)
 some_at n s reach (None ∷ xs) zero l e g = absurd (cc)
-some_at n s reach (Some q ∷ xs) zero l e g = rw (same_yes n s (omega arith)) refl
+some_at n s reach (Some q ∷ xs) zero l e g = rw (same_test n s (omega arith)) refl
 some_at n s reach (None ∷ xs) (suc i) l e g = some_at (n + 1) s reach xs i (omega arith) (omega arith) g
-some_at n s reach (Some q ∷ xs) (suc i) l e g = rw (same_no n s (omega arith)) (some_at (n + 1) s reach xs i (omega arith) (omega arith) g)
+some_at n s reach (Some q ∷ xs) (suc i) l e g = rw (differ_test n s (omega arith)) (some_at (n + 1) s reach xs i (omega arith) (omega arith) g)
 
 -- what a site promised that isn't polled counts for nothing
 pub dropped_at : (polled : Links) (n s : ℕ) (xs : List (Option Sites)) (i : ℕ) → i < length xs → s ≡ n + i → (boot_in polled.boot s == 0) ≡ true → filter (is_polled polled) (promises_from n (set xs i None)) ≡ filter (is_polled polled) (promises_from n xs)
@@ -97,11 +88,11 @@ all_kept polled n (Some q ∷ xs) h = elim (boot_in polled.boot n == 0) as (λ b
 -- ---- the promises of polled sites, place by place ----
 
 pub record Kept (polled : Links) (xs kept : List (Option Sites)) (place : ℕ) : Type 0 where
-  pub whole : length kept ≡ 16
+  pub whole : length kept ≡ sites_max
   pub same : filter (is_polled polled) (promises_from 1 kept) ≡ filter (is_polled polled) (promises_from 1 xs)
   pub dropped : (k : ℕ) → k < place → (boot_in polled.boot (k + 1) == 0) ≡ true → get_or kept k None ≡ None
 
-pub Kept-drop : (polled : Links) (xs kept : List (Option Sites)) (place site : ℕ) → place < 16 → site ≡ place + 1 → not (not (boot_in polled.boot site == 0)) ≡ true → Kept polled xs kept place → Kept polled xs (set kept place None) (place + 1)
+pub Kept-drop : (polled : Links) (xs kept : List (Option Sites)) (place site : ℕ) → place < sites_max → site ≡ place + 1 → not (not (boot_in polled.boot site == 0)) ≡ true → Kept polled xs kept place → Kept polled xs (set kept place None) (place + 1)
 Kept-drop polled xs kept place site l e h k = record {
   whole = length-set kept place None ∙ k.whole;
   same = dropped_at polled 1 site kept place (omega (arith, k.whole)) (omega arith) (twice_not (boot_in polled.boot site == 0) h) ∙ k.same;
@@ -113,7 +104,7 @@ Kept-drop polled xs kept place site l e h k = record {
   twice_not true g = refl
   twice_not false g = absurd (cc)
 
-pub Kept-keep : (polled : Links) (xs kept : List (Option Sites)) (place site : ℕ) → place < 16 → site ≡ place + 1 → not (not (boot_in polled.boot site == 0)) ≡ false → Kept polled xs kept place → Kept polled xs kept (place + 1)
+pub Kept-keep : (polled : Links) (xs kept : List (Option Sites)) (place site : ℕ) → place < sites_max → site ≡ place + 1 → not (not (boot_in polled.boot site == 0)) ≡ false → Kept polled xs kept place → Kept polled xs kept (place + 1)
 Kept-keep polled xs kept place site l e h k = record {
   whole = k.whole;
   same = k.same;
@@ -122,33 +113,29 @@ Kept-keep polled xs kept place site l e h k = record {
   is_not : (boot_in polled.boot (place + 1) == 0) ≡ true → ⊥
   is_not z = let linked : not (not (boot_in polled.boot site == 0)) ≡ true = rw (e, z) refl in cc
 
-pub Kept-all : (polled : Links) (xs kept : List (Option Sites)) (place : ℕ) → 16 ≤ place → Kept polled xs kept place → promises_from 1 kept ≡ filter (is_polled polled) (promises_from 1 xs)
+pub Kept-all : (polled : Links) (xs kept : List (Option Sites)) (place : ℕ) → sites_max ≤ place → Kept polled xs kept place → promises_from 1 kept ≡ filter (is_polled polled) (promises_from 1 xs)
 Kept-all polled xs kept place l k = sym (all_kept polled 1 kept (λ i b z. k.dropped i (omega (arith, k.whole)) (let same : i + 1 ≡ 1 + i = omega arith in rw same z))) ∙ k.same
 
 -- ---- whether some site passes ----
 
-pub none_passes : (p : ℕ → Bool) (place site : ℕ) (all : List ℕ) → place < 16 → site ≡ place + 1 → p site ≡ false → filter p (drop place all_sites) ≡ all → filter p (drop (place + 1) all_sites) ≡ all
+pub none_passes : (p : ℕ → Bool) (place site : ℕ) (all : List ℕ) → place < sites_max → site ≡ place + 1 → p site ≡ false → filter p (drop place all_sites) ≡ all → filter p (drop (place + 1) all_sites) ≡ all
 none_passes p place site all l e f h = step (subst (λ (xs : List ℕ). filter p xs ≡ all) (next_site place l) h) where
   step : filter p ((place + 1) ∷ drop (place + 1) all_sites) ≡ all → filter p (drop (place + 1) all_sites) ≡ all
   step g = let no : p (place + 1) ≡ false = subst (λ n. p n ≡ false) e f in subst (λ (b : Bool). cond b ((place + 1) ∷ filter p (drop (place + 1) all_sites)) (filter p (drop (place + 1) all_sites)) ≡ all) no g
 
-pub one_passes : (p : ℕ → Bool) (place site : ℕ) (all : List ℕ) → place < 16 → site ≡ place + 1 → p site ≡ true → filter p (drop place all_sites) ≡ all → all ≡ [] → ⊥
+pub one_passes : (p : ℕ → Bool) (place site : ℕ) (all : List ℕ) → place < sites_max → site ≡ place + 1 → p site ≡ true → filter p (drop place all_sites) ≡ all → all ≡ [] → ⊥
 one_passes p place site all l e t h n = step (subst (λ (xs : List ℕ). filter p xs ≡ all) (next_site place l) h) where
   step : filter p ((place + 1) ∷ drop (place + 1) all_sites) ≡ all → ⊥
   step g = let yes : p (place + 1) ≡ true = subst (λ n. p n ≡ true) e t in
       let more : (place + 1) ∷ filter p (drop (place + 1) all_sites) ≡ all = subst (λ (b : Bool). cond b ((place + 1) ∷ filter p (drop (place + 1) all_sites)) (filter p (drop (place + 1) all_sites)) ≡ all) yes g in cc
 
-pub all_passed : (p : ℕ → Bool) (place : ℕ) (all : List ℕ) → 16 ≤ place → place ≤ 16 → filter p (drop place all_sites) ≡ all → all ≡ []
-all_passed p place all l m h = let same : place ≡ 16 = omega arith in sym (subst (λ n. filter p (drop n all_sites) ≡ all) same h)
+pub all_passed : (p : ℕ → Bool) (place : ℕ) (all : List ℕ) → sites_max ≤ place → place ≤ sites_max → filter p (drop place all_sites) ≡ all → all ≡ []
+all_passed p place all l m h = let same : place ≡ sites_max = omega arith in sym (subst (λ n. filter p (drop n all_sites) ≡ all) same h)
 
 -- ---- whoever is left reaches all that are left ----
 
-and_true : (a b : Bool) → (a && b) ≡ true → (a ≡ true) × (b ≡ true)
-and_true true b h = (refl, h)
-and_true false b h = absurd (cc)
-
 has_both : (a b : Sites) (s : ℕ) → has (both a b) s ≡ true → (has a s ≡ true) × (has b s ≡ true)
-has_both a b s h = and_true (has a s) (has b s) (sym (has-both a b s) ∙ h)
+has_both a b s h = both_true (has a s) (has b s) (sym (has-both a b s) ∙ h)
 
 -- a set that is met loses sites alone
 met_loses : (set : Sites) (p : Promise) (s : ℕ) → has (met_by set p) s ≡ true → has set s ≡ true
@@ -181,9 +168,9 @@ all_reached_by set p (q ∷ ps) s (inl e) h g = subst (λ (r : Promise). has r.r
 all_reached_by set p (q ∷ ps) s (inr a) h g = all_reached_by (met_by set q) p ps s a h g
 
 -- the set that is left when all sites have been asked
-pub left_is : (left set : Sites) (xs : List (Option Sites)) (place : ℕ) → 16 ≤ place → place ≤ 16 → length xs ≡ 16 → met_by_all left (promises_from (place + 1) (drop place xs)) ≡ met_by_all set (promises_from 1 xs) → (a b : ℕ) (reach : Sites) → slice_get xs a ≡ Some (Some reach) → has left (a + 1) ≡ true → has left b ≡ true → has reach b ≡ true
+pub left_is : (left set : Sites) (xs : List (Option Sites)) (place : ℕ) → sites_max ≤ place → place ≤ sites_max → length xs ≡ sites_max → met_by_all left (promises_from (place + 1) (drop place xs)) ≡ met_by_all set (promises_from 1 xs) → (a b : ℕ) (reach : Sites) → slice_get xs a ≡ Some (Some reach) → has left (a + 1) ≡ true → has left b ≡ true → has reach b ≡ true
 left_is left set xs place l m n h a b reach e f g =
-    let end : place ≡ 16 = omega arith in
+    let end : place ≡ sites_max = omega arith in
     let none : drop place xs ≡ [] = all_dropped place xs (omega arith) in
     let last : left ≡ met_by_all set (promises_from 1 xs) = subst (λ (ys : List (Option Sites)). met_by_all left (promises_from (place + 1) ys) ≡ met_by_all set (promises_from 1 xs)) none h in
     let site : a + 1 ≡ 1 + a = omega arith in

@@ -4,8 +4,8 @@ use Rattle.std.specs.List.{list_any}
 use Rattle.locus_ids.specs.Sites.{has}
 use Rattle.locus_ids.specs.declared.sites.Links.{Links}
 use Rattle.locus_ids.specs.declared.sites.Sites.{Sites}
-use Rattle.role_steps.specs.Views.{boot_in}
-use Rattle.role_steps.specs.declared.rounds.Promise.{Promise}
+use Rattle.epoch_rules.specs.of_role_steps.Views.{boot_in}
+use Rattle.epoch_rules.specs.of_role_steps.declared.rounds.Promise.{Promise}
 
 -- what stands at the places of the sites from this number on, as rows
 abbrev pub promises_from : ℕ → List (Option Sites) → List Promise

@@ -1,25 +1,26 @@
 ghost use Rattle.std.specs.Prelude.{◌≡◌, ◌+◌, ◌==◌, ◌&&◌, not, cond, [], ◌↔◌, IsTrue};
-ghost use Rattle.role_steps.specs.Views.{boot_in};
-ghost use Rattle.role_steps.specs.Epochs.{new_round, counts_promise, with_promise, passed_over, has_promised, unanswered, chosen_set, chosen_members};
+ghost use Rattle.epoch_rules.specs.of_role_steps.Views.{boot_in};
+ghost use Rattle.epoch_rules.specs.of_role_steps.Epochs.{new_round, counts_promise, with_promise, passed_over, has_promised, unanswered, chosen_set, chosen_members};
 
 use crate::chosen::{candidates, fully_connected, member_boots};
 use crate::passed::{has_all, is_missing, kept_promises, left_boots, put_promise};
 use epoch_rules::{boot_in, reached, same_epoch};
+use locus_ids::sizes::SITES;
 use locus_ids::{EpochId, Links, Members, SiteId, Sites};
 use std::marker::Model;
 
 /// An undecided round of polls.
-#[derive(Debug, Drop)]
+#[derive(Drop)]
 pub struct PollRound {
     id: EpochId,
     /// The boot numbers of the polled sites that aren't passed over.
     polled: Links,
     /// What each site that promised reaches, site 1 first.
-    promises: [Option<Sites>; 16],
+    promises: [Option<Sites>; SITES],
 }
 
 impl Model for PollRound {
-    ghost use Rattle.role_steps.specs.declared.rounds.Round.{Round};
+    ghost use Rattle.epoch_rules.specs.of_role_steps.declared.rounds.Round.{Round};
     ghost use Rattle.partition_protocol.specs.Promising.{promises_from};
 
     ghost Value = { Round };
@@ -35,7 +36,7 @@ impl PollRound {
         PollRound {
             id,
             polled,
-            promises: [None; 16],
+            promises: [None; SITES],
         }
     }
 

@@ -29,7 +29,7 @@ fn are_components(names: &[Bytes]) -> bool
 fn is_component(name: &[u8]) -> bool
     ensures { result ≡ is_component name.now }
 {
-    wire_fields::is_component(name)
+    wire_parts::is_component(name)
 }
 
 /// The bytes before the first `@`.
@@ -48,5 +48,5 @@ pub fn plain_name(component: &[u8]) -> &[u8]
 pub fn is_name(name: &[u8]) -> bool
     ensures { result ≡ is_name name.now }
 {
-    wire_fields::is_name(name)
+    wire_parts::is_name(name)
 }

@@ -8,7 +8,7 @@ use call_rules::Answer;
 use locus_ids::{Bytes, FileId, Kind, Mount, NoMemory, Refusal};
 
 /// Where a walk has come.
-#[derive(Debug, Drop)]
+#[derive(Drop)]
 pub enum Walked<'a> {
     /// It looks for a component in a directory.
     Asks {

@@ -1,5 +1,6 @@
 -- The choice among pulls, pull by pull.
-use Rattle.std.proofs.Common.{◌≡◌, ◌<◌, ◌≤◌, ◌+◌, ◌-◌, cond, true, false, Bool, ℕ, zero, suc, List, [], ◌∷◌, length, drop, Option, None, Some, refl, sym, ap, ◌∙◌, subst, arith, slice_get, add-one}
+use Rattle.std.proofs.Common.{◌≡◌, ◌<◌, ◌+◌, ◌-◌, cond, true, false, Bool, ℕ, zero, suc, List, [], ◌∷◌, length, drop, Option, Some, refl, sym, ap, ◌∙◌, subst, arith, slice_get, add-one}
+use Rattle.role_steps.proofs.of_plain_facts.Numbers.{differ_test, same_test}
 use Rattle.keyed_tables.specs.Rising.{Above, Rising}
 use Rattle.role_steps.specs.Tables.{row, without_row}
 use Rattle.role_steps.specs.Views.{Frame, SiteView, Outcome, file_key}
@@ -7,7 +8,7 @@ use Rattle.role_steps.specs.Storage.{copy_of}
 use Rattle.role_steps.specs.Pulling.{pull_key}
 use Rattle.role_steps.specs.Adoption.{is_ready, is_above_own, adopts, adopts_first, adopts_pull, without_pull}
 use Rattle.role_steps.specs.declared.pulls.Pull.{Pull}
-use Rattle.propagation.proofs.Sizes.{gone, left, found, other, same_yes, same_no}
+use Rattle.propagation.proofs.Sizes.{gone, left, found, other}
 use Rattle.propagation.specs.Choosing.{Choice, chooses, without_chosen, LooksAt, adopted_of, adopts_by}
 use Rattle.propagation.specs.declared.adopting.Verdict.TheVariants as verdict
 use Rattle.propagation.specs.declared.adopting.Look.{Look}
@@ -23,25 +24,25 @@ above_at m (x ∷ xs) (suc i) p h e = above_at m xs i p h.1 e
 -- without the pull at a place, those after it stand there
 pub drop_gone : (xs : List Pull) (i : ℕ) (p : Pull) → Rising pull_key xs → slice_get xs i ≡ Some p → drop i (without_row pull_key (pull_key p) xs) ≡ drop (suc i) xs
 drop_gone [] i p r e = absurd (cc)
-drop_gone (x ∷ xs) zero p r e = gone (pull_key p) x xs (same_yes (pull_key x) (pull_key p) (ap pull_key (some_pull x p e)))
+drop_gone (x ∷ xs) zero p r e = gone (pull_key p) x xs (same_test (pull_key x) (pull_key p) (ap pull_key (some_pull x p e)))
 drop_gone (x ∷ xs) (suc i) p r e =
     let less : pull_key x < pull_key p = above_at (pull_key x) xs i p r.0 e in
-    ap (drop (suc i)) (left (pull_key p) x xs (same_no (pull_key x) (pull_key p) (omega arith))) ∙ drop_gone xs i p r.1 e
+    ap (drop (suc i)) (left (pull_key p) x xs (differ_test (pull_key x) (pull_key p) (omega arith))) ∙ drop_gone xs i p r.1 e
 
 pub fewer_gone : (xs : List Pull) (i : ℕ) (p : Pull) → Rising pull_key xs → slice_get xs i ≡ Some p → length (without_row pull_key (pull_key p) xs) < length xs
 fewer_gone [] i p r e = absurd (cc)
-fewer_gone (x ∷ xs) zero p r e = rw (gone (pull_key p) x xs (same_yes (pull_key x) (pull_key p) (ap pull_key (some_pull x p e)))) (omega arith)
+fewer_gone (x ∷ xs) zero p r e = rw (gone (pull_key p) x xs (same_test (pull_key x) (pull_key p) (ap pull_key (some_pull x p e)))) (omega arith)
 fewer_gone (x ∷ xs) (suc i) p r e =
     let less : pull_key x < pull_key p = above_at (pull_key x) xs i p r.0 e in
     let rest : length (without_row pull_key (pull_key p) xs) < length xs = fewer_gone xs i p r.1 e in
-    rw (left (pull_key p) x xs (same_no (pull_key x) (pull_key p) (omega arith))) (omega arith)
+    rw (left (pull_key p) x xs (differ_test (pull_key x) (pull_key p) (omega arith))) (omega arith)
 
 pub row_found : (xs : List Pull) (i : ℕ) (p : Pull) → Rising pull_key xs → slice_get xs i ≡ Some p → row pull_key (pull_key p) xs ≡ Some p
 row_found [] i p r e = absurd (cc)
-row_found (x ∷ xs) zero p r e = found (pull_key p) x xs (same_yes (pull_key x) (pull_key p) (ap pull_key (some_pull x p e))) ∙ e
+row_found (x ∷ xs) zero p r e = found (pull_key p) x xs (same_test (pull_key x) (pull_key p) (ap pull_key (some_pull x p e))) ∙ e
 row_found (x ∷ xs) (suc i) p r e =
     let less : pull_key x < pull_key p = above_at (pull_key x) xs i p r.0 e in
-    other (pull_key p) x xs (same_no (pull_key x) (pull_key p) (omega arith)) ∙ row_found xs i p r.1 e
+    other (pull_key p) x xs (differ_test (pull_key x) (pull_key p) (omega arith)) ∙ row_found xs i p r.1 e
 
 drop_at : (xs : List Pull) (i : ℕ) (p : Pull) → slice_get xs i ≡ Some p → drop i xs ≡ p ∷ drop (suc i) xs
 drop_at [] i p e = absurd (cc)
@@ -133,13 +134,3 @@ adopt_now ready above xs ys i look c taken h w t y e =
       t ∙ (ap (λ (k : ℕ). row pull_key k xs) key ∙ (row_found xs i h.pull h.rising h.stands ∙ sym (ap (λ (d : Choice). d.chosen) this))),
       y ∙ (ap (λ (k : ℕ). without_row pull_key k xs) key ∙ sym (ap without_chosen this)),
     )
-
-pub none_left : (ready above : Pull → Bool) (xs : List Pull) (i : ℕ) (c : Choice) → length xs ≤ i → chooses ready above (drop i xs) xs ≡ c → (◌≡◌ {A = Option Pull} None c.chosen) × (xs ≡ without_chosen c)
-none_left ready above xs i c l e =
-    let this : c ≡ record { pulls = xs; chosen = None } = sym e ∙ ap (λ (ps : List Pull). chooses ready above ps xs) (nothing i xs l) in
-    (sym (ap (λ (d : Choice). d.chosen) this), sym (ap without_chosen this)) where
-      nothing : (n : ℕ) (ys : List Pull) → length ys ≤ n → drop n ys ≡ []
-      nothing zero [] q = refl
-      nothing (suc n) [] q = refl
-      nothing zero (y ∷ ys) q = absurd (omega arith)
-      nothing (suc n) (y ∷ ys) q = nothing n ys (omega arith)

@@ -1,41 +1,21 @@
 -- Pulls stay within the sizes of files, whatever is put among them and taken away.
 use Rattle.std.proofs.Common.{◌≡◌, ◌≢◌, ◌<◌, ◌≤◌, ◌-◌, ◌*◌, ◌==◌, ◌&&◌, not, min, true, false, Bool, ℕ, zero, suc, List, [], ◌∷◌, ◌++◌, length, Option, None, Some, refl, sym, ap, ◌∙◌, subst, arith, nat_eq, nat_lt, length-append, get_or, IfSome}
 use Rattle.std.proofs.lemmas.Bool.Decides.{nat_tests}
+use Rattle.role_steps.proofs.of_plain_facts.Numbers.{differ_test, same as is_same, not_less, not_less_test, same_test}
+use Rattle.role_steps.proofs.of_plain_facts.Tests.{both_true}
+use Rattle.locus_ids.specs.Sizes.{page_bytes}
 use Rattle.locus_ids.specs.declared.ids.FileId.{FileId}
 use Rattle.locus_ids.specs.declared.ids.Stamp.{Stamp}
 use Rattle.commit_graph.specs.Versions.{same_stamp}
 use Rattle.keyed_tables.specs.Rising.{Above, Rising}
 use Rattle.role_steps.specs.Tables.{row, with_row, without_row}
-use Rattle.role_steps.specs.Views.{Frame, quiet, sends, file_key}
-use Rattle.role_steps.specs.Versions.{is_below}
-use Rattle.role_steps.specs.Pulling.{pull_key, pull_of, pull_packets, is_complete, next_page, is_awaited, goes_on, on_notify, on_page, on_page_of}
-use Rattle.role_steps.specs.declared.copies.FileCopy.{FileCopy}
+use Rattle.role_steps.specs.Views.{Frame, sends, file_key}
+use Rattle.role_steps.specs.Pulling.{pull_key, pull_packets, is_complete, next_page, is_awaited, goes_on, on_page, on_page_of}
 use Rattle.role_steps.specs.declared.pulls.Pull.{Pull}
-use Rattle.propagation.specs.Sized.{IsSized, AreSized, head_of, notified, awaits_in, awaits}
-
-less_yes : (a b : ℕ) → a < b → nat_lt a b ≡ true
-less_yes a b e = grind (arith, nat_tests)
-
-less_no : (a b : ℕ) → b ≤ a → nat_lt a b ≡ false
-less_no a b e = grind (arith, nat_tests)
-
-pub same_yes : (a b : ℕ) → a ≡ b → nat_eq a b ≡ true
-same_yes a b e = grind (arith, nat_tests)
-
-pub same_no : (a b : ℕ) → a ≢ b → nat_eq a b ≡ false
-same_no a b e = grind (arith, nat_tests)
-
-is_same : (a b : ℕ) → nat_eq a b ≡ true → a ≡ b
-is_same a b h = grind (arith, nat_tests)
-
-is_less : (a b : ℕ) → nat_lt a b ≡ true → a < b
-is_less a b h = grind (arith, nat_tests)
+use Rattle.propagation.specs.Sized.{IsSized, AreSized, awaits_in, awaits}
 
 is_not_same : (a b : ℕ) → nat_eq a b ≡ false → a ≢ b
 is_not_same a b h = grind (arith, nat_tests)
-
-is_not_less : (a b : ℕ) → nat_lt a b ≡ false → b ≤ a
-is_not_less a b h = grind (arith, nat_tests)
 
 -- ---- one step of a table's functions ----
 
@@ -106,11 +86,11 @@ above_less m k (x ∷ xs) l h = (let g : k < pull_key x = h.0 in omega arith, ab
 
 put_first : (x : Pull) (k : ℕ) (ys : List Pull) → pull_key x ≡ k → Above pull_key k ys → with_row pull_key x ys ≡ x ∷ ys
 put_first x k [] e h = refl
-put_first x k (y ∷ ys) e h = let g : k < pull_key y = h.0 in before x y ys (less_no (pull_key y) (pull_key x) (omega arith)) (same_no (pull_key y) (pull_key x) (omega arith))
+put_first x k (y ∷ ys) e h = let g : k < pull_key y = h.0 in before x y ys (not_less_test (pull_key y) (pull_key x) (omega arith)) (differ_test (pull_key y) (pull_key x) (omega arith))
 
 none_gone : (k : ℕ) (ys : List Pull) → Above pull_key k ys → without_row pull_key k ys ≡ ys
 none_gone k [] h = refl
-none_gone k (y ∷ ys) h = let g : k < pull_key y = h.0 in left k y ys (same_no (pull_key y) k (omega arith)) ∙ ap (λ (zs : List Pull). y ∷ zs) (none_gone k ys h.1)
+none_gone k (y ∷ ys) h = let g : k < pull_key y = h.0 in left k y ys (differ_test (pull_key y) k (omega arith)) ∙ ap (λ (zs : List Pull). y ∷ zs) (none_gone k ys h.1)
 
 pub put_again : (x : Pull) (k : ℕ) (ys : List Pull) → pull_key x ≡ k → Rising pull_key ys → with_row pull_key x (without_row pull_key k ys) ≡ with_row pull_key x ys
 put_again x k [] e r = refl
@@ -120,47 +100,30 @@ put_again x k (y ∷ ys) e r = by_case (nat_eq (pull_key y) k) (nat_lt (pull_key
       let same : pull_key y ≡ k = is_same (pull_key y) k p in
       ap (with_row pull_key x) (gone k y ys p)
       ∙ (put_first x k ys e (above_less k (pull_key y) ys (omega arith) r.0)
-      ∙ sym (here x y ys (less_no (pull_key y) (pull_key x) (omega arith)) (same_yes (pull_key y) (pull_key x) (omega arith))))
+      ∙ sym (here x y ys (not_less_test (pull_key y) (pull_key x) (omega arith)) (same_test (pull_key y) (pull_key x) (omega arith))))
   by_case false true p q i =
       ap (with_row pull_key x) (left k y ys p)
       ∙ (after x y (without_row pull_key k ys) q
       ∙ (ap (λ (zs : List Pull). y ∷ zs) i ∙ sym (after x y ys q)))
   by_case false false p q i =
       let ne : pull_key y ≢ k = is_not_same (pull_key y) k p in
-      let more : pull_key x ≤ pull_key y = is_not_less (pull_key y) (pull_key x) q in
+      let more : pull_key x ≤ pull_key y = not_less (pull_key y) (pull_key x) q in
       ap (with_row pull_key x) (left k y ys p)
       ∙ ap (λ (zs : List Pull). with_row pull_key x (y ∷ zs)) (none_gone k ys (above_less k (pull_key y) ys (omega arith) r.0))
 
 -- ---- pages ----
 
--- the next page is one of those that a file may have
-pub next_fits : (p : Pull) → IsSized p → next_page p < 256
-next_fits p h = let a : p.size ≤ 65536 = h.size in let b : length p.content ≤ p.size = h.content in omega arith
-
-and_true : (a b : Bool) → (a && b) ≡ true → (a ≡ true) × (b ≡ true)
-and_true true b h = (refl, h)
-and_true false b h = absurd (cc)
-
 -- a page that is awaited has no more bytes than the version has there
 pub awaited_sized : (p : Pull) (stamp : Stamp) (page : ℕ) (bytes : List ℕ) → IsSized p → is_awaited p stamp page bytes ≡ true → IsSized (record p { content = p.content ++ bytes })
 awaited_sized p stamp page bytes h t =
-    let last = (and_true (page == next_page p) (length bytes == min 1024 (p.size - 1024 * page)) (and_true (not (is_complete p)) ((page == next_page p) && (length bytes == min 1024 (p.size - 1024 * page))) (and_true (same_stamp p.stamp stamp) (not (is_complete p) && ((page == next_page p) && (length bytes == min 1024 (p.size - 1024 * page)))) t).1).1) in
+    let last = (both_true (page == next_page p) (length bytes == min page_bytes (p.size - page_bytes * page)) (both_true (not (is_complete p)) ((page == next_page p) && (length bytes == min page_bytes (p.size - page_bytes * page))) (both_true (same_stamp p.stamp stamp) (not (is_complete p) && ((page == next_page p) && (length bytes == min page_bytes (p.size - page_bytes * page)))) t).1).1) in
     let next : page ≡ next_page p = is_same page (next_page p) last.0 in
-    let count : length bytes ≡ min 1024 (p.size - 1024 * page) = is_same (length bytes) (min 1024 (p.size - 1024 * page)) last.1 in
+    let count : length bytes ≡ min page_bytes (p.size - page_bytes * page) = is_same (length bytes) (min page_bytes (p.size - page_bytes * page)) last.1 in
     let most : length p.content ≤ p.size = h.content in
     record { size = h.size; content = rw length-append (omega arith) }
 
 page_some : (f : Frame) (stamp : Stamp) (page : ℕ) (bytes : List ℕ) (p : Pull) (pulls : List Pull) → is_awaited p stamp page bytes ≡ true → on_page_of f stamp page bytes (Some p) pulls ≡ goes_on f (record p { content = p.content ++ bytes }) pulls
 page_some f stamp page bytes p pulls t = rw (t, on_page_of) refl
-
-page_not : (f : Frame) (stamp : Stamp) (page : ℕ) (bytes : List ℕ) (p : Pull) (pulls : List Pull) → is_awaited p stamp page bytes ≡ false → on_page_of f stamp page bytes (Some p) pulls ≡ quiet pulls
-page_not f stamp page bytes p pulls t = rw (t, on_page_of) refl
-
-pub page_ignored : (f : Frame) (file : FileId) (stamp : Stamp) (page : ℕ) (bytes : List ℕ) (pulls : List Pull) → awaits pulls file stamp page bytes ≡ false → quiet pulls ≡ on_page f file stamp page bytes pulls
-page_ignored f file stamp page bytes pulls h = at (pull_of pulls file) h where
-  at : (r : Option Pull) → awaits_in stamp page bytes r ≡ false → quiet pulls ≡ on_page_of f stamp page bytes r pulls
-  at None e = refl
-  at (Some p) e = sym (page_not f stamp page bytes p pulls e)
 
 pub awaited_row : (file : FileId) (stamp : Stamp) (page : ℕ) (bytes : List ℕ) (pulls : List Pull) (p : Pull) → awaits pulls file stamp page bytes ≡ true → row pull_key (file_key file) pulls ≡ Some p → is_awaited p stamp page bytes ≡ true
 awaited_row file stamp page bytes pulls p h e = subst (λ (r : Option Pull). awaits_in stamp page bytes r ≡ true) e h
@@ -169,15 +132,6 @@ pub page_taken : (f : Frame) (file : FileId) (stamp : Stamp) (page : ℕ) (bytes
 page_taken f file stamp page bytes pulls p r h e =
     ap (λ (ps : List Pull). sends (pull_packets f (record p { content = p.content ++ bytes })) ps) (put_again (record p { content = p.content ++ bytes }) (file_key file) pulls (row_key (file_key file) pulls p e) r)
     ∙ sym (ap (λ (o : Option Pull). on_page_of f stamp page bytes o pulls) e ∙ page_some f stamp page bytes p pulls (awaited_row file stamp page bytes pulls p h e))
-
--- what is answered depends on the head of the own copy alone
-pub notified_is : (f : Frame) (from : ℕ) (copy : Option FileCopy) (p : Pull) (pulls : List Pull) → notified f from (head_of copy) p pulls ≡ on_notify f from copy p pulls
-notified_is f from None p pulls = refl
-notified_is f from (Some own) p pulls = by_case (same_stamp own.stamp p.stamp) (is_below own.vector p.vector) refl refl where
-  by_case : (a b : Bool) → same_stamp own.stamp p.stamp ≡ a → is_below own.vector p.vector ≡ b → notified f from (head_of (Some own)) p pulls ≡ on_notify f from (Some own) p pulls
-  by_case true b e g = rw (e, notified, on_notify) refl
-  by_case false true e g = rw (e, notified, on_notify) (rw (g, notified, on_notify) refl)
-  by_case false false e g = rw (e, notified, on_notify) (rw (g, notified, on_notify) refl)
 
 -- the pull at a place is sized
 pub sized_at : (pulls : List Pull) (i : ℕ) (d : Pull) → i < length pulls → AreSized pulls → IsSized (get_or pulls i d)

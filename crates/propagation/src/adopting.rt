@@ -26,7 +26,7 @@ pub trait Adopting {
 }
 
 /// What becomes of a pull.
-#[derive(Clone, Copy, Debug, PartialEq, Eq)]
+#[derive(Clone, Copy, PartialEq, Eq)]
 pub enum Verdict {
     Wait,
     Drop,
@@ -34,7 +34,7 @@ pub enum Verdict {
 }
 
 /// The file of a pull, and what becomes of the pull.
-#[derive(Clone, Copy, Debug, PartialEq, Eq)]
+#[derive(Clone, Copy, PartialEq, Eq)]
 pub struct Look {
     pub file: FileId,
     pub verdict: Verdict,

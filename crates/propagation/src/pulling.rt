@@ -4,6 +4,7 @@ ghost use Rattle.propagation.specs.Sized.{IsSized};
 
 use crate::own_copy::same_stamp;
 use file_content::pages_of;
+use locus_ids::sizes::PAGE_BYTES;
 use locus_ids::{NoMemory, Stamp};
 use role_steps::Pull;
 use site_frame::SiteFrame;
@@ -29,9 +30,9 @@ pub fn is_awaited(pull: &Pull, stamp: Stamp, page: u8, bytes: &[u8]) -> bool
 {
     let size = pull.size as usize;
     let page = usize::from(page);
-    let rest = size.saturating_sub(1_024 * page);
+    let rest = size.saturating_sub(PAGE_BYTES * page);
     same_stamp(pull.stamp, stamp)
-        && (!is_complete(pull) && (page == next_page(pull) && bytes.len() == rest.min(1_024)))
+        && (!is_complete(pull) && (page == next_page(pull) && bytes.len() == rest.min(PAGE_BYTES)))
 }
 
 /// Asks the holder for the next missing page, unless all are there.

@@ -35,7 +35,7 @@ use Rattle.the_run.specs.Steps.{at_table_of, is_dropped, is_opened_in, takes_ins
 use Rattle.the_run.specs.Worlds.{first_world}
 use Rattle.the_run.proofs.Runs.{every_run}
 use Rattle.tree_laws.specs.Stores.{Ascends}
-use Rattle.user_laws.proofs.Tabled.{ascends_with, ascends_without}
+use Rattle.one_tree_laws.proofs.of_user_laws.Tabled.{ascends_with, ascends_without}
 use Rattle.bound_laws.proofs.EachView.{KeepsViews, views_kept, views_first}
 use Rattle.pull_laws.specs.Pulls.{OwnPullsAscend, PullsAscend}
 

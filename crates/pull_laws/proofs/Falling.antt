@@ -11,10 +11,10 @@ use Rattle.tree_laws.specs.Instances.{HasAtLeast, Stands}
 use Rattle.tree_laws.specs.Printed.{entries}
 use Rattle.tree_laws.proofs.Histories.{stands_more, vector_same}
 use Rattle.tree_laws.proofs.Rows.{followed_rows}
-use Rattle.holding_laws.proofs.Ancestors.{ancestor_own}
-use Rattle.holding_laws.proofs.Below.{commits_new, packs_hold}
-use Rattle.holding_laws.proofs.Made.{held_stand}
-use Rattle.holding_laws.proofs.Rising.{held_rises}
+use Rattle.one_tree_laws.proofs.of_holding_laws.Ancestors.{ancestor_own}
+use Rattle.one_tree_laws.proofs.of_holding_laws.Below.{commits_new, packs_hold}
+use Rattle.one_tree_laws.proofs.of_holding_laws.Made.{held_stand}
+use Rattle.one_tree_laws.proofs.of_holding_laws.Rising.{held_rises}
 use Rattle.one_tree_laws.specs.Rest.{Past}
 use Rattle.one_tree_laws.proofs.Staying.{rest_below}
 use Rattle.pull_laws.specs.Held.{HeldNeverFalls}

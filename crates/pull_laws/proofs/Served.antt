@@ -2,6 +2,7 @@
 use Rattle.std.proofs.Common.{◌≡◌, ℕ, ◌==◌, Bool, true, false, ◌&&◌, List, [], ◌∷◌, Option, Some, None, refl, sym, ◌∙◌, ap, subst, arith}
 use Rattle.std.proofs.lemmas.Bool.Decides.{nat_tests}
 use Rattle.std.specs.Option.{is_some}
+use Rattle.role_steps.proofs.of_plain_facts.Tests.{true_false}
 use Rattle.locus_ids.specs.declared.config.Config.{Config}
 use Rattle.locus_ids.specs.declared.ids.EpochId.{EpochId}
 use Rattle.locus_ids.specs.declared.sites.Members.{Members}
@@ -22,9 +23,9 @@ use Rattle.tree_laws.specs.Instances.{IsStarted}
 use Rattle.tree_laws.specs.Printed.{entries, onto_entries}
 use Rattle.tree_laws.proofs.Fresh.{IsListed}
 use Rattle.tree_laws.proofs.Mending.{members_stay}
-use Rattle.tree_laws.proofs.Names.{same_epoch_eq, true_false}
-use Rattle.order_laws.proofs.Alone.{tree_named}
-use Rattle.sync_laws.proofs.Trees.{started_same}
+use Rattle.tree_laws.proofs.Names.{same_epoch_eq}
+use Rattle.one_tree_laws.proofs.of_order_laws.Alone.{tree_named}
+use Rattle.one_tree_laws.proofs.of_sync_laws.Trees.{started_same}
 
 packed_listed : (c : Config) (t : Trace) (e : EpochId) (g : ℕ) → is_packed_in c t (Some e) g ≡ true → IsListed t e
 packed_listed c t e g k = over (members_of t e) refl k

@@ -1,6 +1,7 @@
 -- Each known version has the only kept one above it, and vectors tell it.
 use Rattle.std.proofs.lemmas.Bool.Decides.{nat_tests}
 use Rattle.std.proofs.Common.{◌≡◌, Bool, true, false, not, ◌&&◌, ◌||◌, ◌⊎◌, List, [], ◌∷◌, refl, sym, ◌∙◌, ap, subst, inl, inr, arith}
+use Rattle.role_steps.proofs.of_plain_facts.Tests.{true_false}
 use Rattle.locus_ids.specs.declared.config.Config.{Config}
 use Rattle.locus_ids.specs.declared.ids.FileId.{FileId}
 use Rattle.locus_ids.specs.declared.ids.Stamp.{Stamp}
@@ -13,16 +14,15 @@ use Rattle.tree_model.specs.State.{has_stamp}
 use Rattle.tree_laws.specs.Following.{RowsAreLawful}
 use Rattle.tree_laws.specs.Instances.{IsKnown, Stands}
 use Rattle.tree_laws.specs.Printed.{entries}
-use Rattle.tree_laws.proofs.Names.{true_false}
 use Rattle.tree_laws.proofs.Rows.{followed_rows}
-use Rattle.holding_laws.specs.Held.{IsBelowKept}
-use Rattle.holding_laws.proofs.Below.{commits_new}
-use Rattle.holding_laws.proofs.Holding.{below_kept}
-use Rattle.holding_laws.proofs.Made.{CommitsAreNew}
-use Rattle.holding_laws.proofs.Rising.{known_stands}
+use Rattle.one_tree_laws.specs.of_holding_laws.Held.{IsBelowKept}
+use Rattle.one_tree_laws.proofs.of_holding_laws.Below.{commits_new}
+use Rattle.one_tree_laws.proofs.of_holding_laws.Holding.{below_kept}
+use Rattle.one_tree_laws.proofs.of_holding_laws.Made.{CommitsAreNew}
+use Rattle.one_tree_laws.proofs.of_holding_laws.Rising.{known_stands}
 use Rattle.one_tree_laws.specs.Rest.{Past}
 use Rattle.one_tree_laws.proofs.Staying.{rest_below}
-use Rattle.sync_laws.proofs.Notices.{kept_is_known}
+use Rattle.one_tree_laws.proofs.of_sync_laws.Notices.{kept_is_known}
 use Rattle.one_tree_laws.proofs.ToldVectorTelling.{vectors_tell_newer}
 use Rattle.pull_laws.specs.Known.{written, KnownAreUnder}
 

@@ -1,7 +1,9 @@
 -- One adoption: what it tells, writes and sends, and what the site has then.
 use Rattle.std.proofs.Common.{◌≡◌, ℕ, ◌==◌, Bool, true, false, List, [], ◌∷◌, map, Option, Some, None, length, refl, sym, ◌∙◌, ap, subst, inl, inr}
+use Rattle.role_steps.proofs.of_plain_facts.Numbers.{equal_self}
+use Rattle.role_steps.proofs.of_plain_facts.Tests.{true_false}
 use Rattle.commit_graph.specs.Versions.{content_of}
-use Rattle.file_content.specs.Pages.{pages_of}
+use Rattle.file_content.specs.Pages.{pages_of, pages_from}
 use Rattle.tree_model.specs.Files.{HeldVersion}
 use Rattle.tree_model.specs.Histories.{history}
 use Rattle.tree_laws.specs.Printed.{entries}
@@ -26,10 +28,9 @@ use Rattle.tree_laws.specs.Stores.{PullFact}
 use Rattle.tree_laws.specs.Tables.{TableFact}
 use Rattle.tree_laws.proofs.Boots.{every_pair}
 use Rattle.tree_laws.proofs.Later.{every_among}
-use Rattle.tree_laws.proofs.Names.{test_own, true_false}
-use Rattle.store_laws.proofs.Adopting.{adopted_sent, store_adopted}
-use Rattle.sync_laws.specs.Staying.{TouchesTable}
-use Rattle.sync_laws.proofs.Staying.{table_stays}
+use Rattle.one_tree_laws.proofs.of_store_laws.Adopting.{adopted_sent, store_adopted}
+use Rattle.one_tree_laws.specs.of_sync_laws.Staying.{TouchesTable}
+use Rattle.one_tree_laws.proofs.of_sync_laws.Staying.{table_stays}
 use Rattle.one_tree_laws.specs.Places.{InsideFact, UsersOf, synced_groups}
 use Rattle.one_tree_laws.specs.Rest.{more}
 use Rattle.one_tree_laws.proofs.Frames.{pulls_frame, users_frame}
@@ -48,7 +49,7 @@ row_none {A} key k (x ∷ xs) e = at (key x == k) refl e (row_none key k xs)
 
     at : (b : Bool) → (key x == k) ≡ b → ◌≡◌ {A = Option A} (elim b [ true ↦ Some x | false ↦ row key k xs ]) None → (row key k xs ≡ None → Every (λ (y : A). key y ≡ k → ⊥) xs) → Every (λ (y : A). key y ≡ k → ⊥) (x ∷ xs)
     at true t q later = absurd (some_none x q)
-    at false t q later = ((λ is. true_false (sym (subst (λ (m : ℕ). (key x == m) ≡ true) is (test_own (key x))) ∙ t)), later q)
+    at false t q later = ((λ is. true_false (sym (subst (λ (m : ℕ). (key x == m) ≡ true) is (equal_self (key x))) ∙ t)), later q)
 
 have_group : (me : ℕ) (stamp : Stamp) (o : Option FileRow) (t : SyncTable) → (on_have_of me stamp o t).group ≡ t.group
 have_group me stamp None t = refl
@@ -124,7 +125,7 @@ module _ (c : Config) (n : ℕ) (trace : List Line) (f : Frame) (v : SiteView) (
       own = (refl, tt);
       view = noted (row table_group p.file.group v.tables) refl;
       sent = adopted_sent c n trace k.past.rest.packs k.past.followed (stores c n trace f v p k) f k.inside.frame v.store k.inside.store p k.pull (complete c n trace f v p k) (wants c n trace f v p k) k.above;
-      written = record { own = refl; may = may c n trace f v p k; held = store.copies; pages = ap pages_of all_pages };
+      written = record { own = refl; may = may c n trace f v p k; held = store.copies; pages = ap (λ (n : ℕ). pages_from 0 (pages_of n)) all_pages };
     }
       where
         all_pages : p.size ≡ length (content_of (history c (entries trace)) p.file p.stamp)

@@ -1,5 +1,7 @@
 -- What was granted to a call waits for it or is had by it, until it is released.
 use Rattle.std.proofs.Common.{◌≡◌, ℕ, Bool, true, false, cond, not, ◌&&◌, ◌||◌, List, [], ◌∷◌, ◌++◌, Option, Some, None, refl, sym, ◌∙◌, ap, subst, ◌⊎◌, inl, inr}
+use Rattle.role_steps.proofs.of_plain_facts.Options.{some_same}
+use Rattle.role_steps.proofs.of_plain_facts.Tests.{or_second, true_false}
 use Rattle.locus_ids.specs.declared.config.Config.{Config}
 use Rattle.locus_ids.specs.declared.ids.CallId.{CallId}
 use Rattle.locus_ids.specs.declared.ids.EpochId.{EpochId}
@@ -37,10 +39,9 @@ use Rattle.tree_laws.proofs.CarriedLooks.{one_epoch}
 use Rattle.tree_laws.proofs.Counting.{asked_same}
 use Rattle.tree_laws.proofs.Fresh.{IsNamed, calls_are_low, next_is_new, numbered}
 use Rattle.tree_laws.proofs.Having.{Untaken, has_stays, named_or_untaken}
-use Rattle.tree_laws.proofs.Names.{same_call_eq, same_call_own, same_serial_eq, same_serial_own, some_is, true_false}
+use Rattle.tree_laws.proofs.Names.{same_call_eq, same_call_own, same_serial_eq, same_serial_own}
 use Rattle.tree_laws.proofs.Scripts.{named_stays}
-use Rattle.order_laws.proofs.Standing.{later_true}
-use Rattle.store_laws.proofs.Begun.{granted_in}
+use Rattle.one_tree_laws.proofs.of_store_laws.Begun.{granted_in}
 
 abbrev With : ℕ → Told → List Line → List Line
 With n x older = record { number = n; told = x } ∷ older
@@ -65,10 +66,10 @@ close_step : (c : Config) (n : ℕ) (r : Record) (older : List Line) (e : EpochI
 close_step c n (says.Look at call request f w result) older e d i may inside is step = absurd (look_close f w i (sym (subst (λ (y : CallId). asked_now c older y ≡ want.Look f w) step may.in_time.asks.asked) ∙ is))
 close_step c n (says.Grant at call request j m f stamp ss) older e d i may inside is step = absurd (open_close c older at d request j.serial may.in_time.opens.asked may.in_time.opens.it i (subst (λ (y : CallId). AsksOpen c older at y request j.serial may.in_time.opens.asked may.in_time.opens.it) step may.in_time.opens.asks) is)
 close_step c n (says.Refuse at call request j m f why) older e d i may inside is step = absurd (open_close c older at d request j.serial may.in_time.opens.asked may.in_time.opens.it i (subst (λ (y : CallId). AsksOpen c older at y request j.serial may.in_time.opens.asked may.in_time.opens.it) step may.in_time.opens.asks) is)
-close_step c n (says.Act at j number o result) older e d i may inside is step = absurd (do_close j o i (sym (subst (λ (y : CallId). asked_now c older y ≡ want.Do j o) (some_is may.in_time.call d (sym may.in_time.owner ∙ step)) may.in_time.asks.asked) ∙ is))
+close_step c n (says.Act at j number o result) older e d i may inside is step = absurd (do_close j o i (sym (subst (λ (y : CallId). asked_now c older y ≡ want.Do j o) (some_same may.in_time.call d (sym may.in_time.owner ∙ step)) may.in_time.asks.asked) ∙ is))
 close_step c n (says.Release at j f stamp) older e d i may inside is step = inl (record {
-  epoch_is = one_epoch older at e d (subst (IsCallIn (entries older) at) (some_is may.row.step.call d (sym may.row.step.owned ∙ step)) may.row.step.step) inside;
-  serial_is = close_serial j i (sym (subst (λ (y : CallId). asked_now c older y ≡ want.Close j) (some_is may.in_time.call d (sym may.in_time.owner ∙ step)) may.in_time.asks.asked) ∙ is);
+  epoch_is = one_epoch older at e d (subst (IsCallIn (entries older) at) (some_same may.row.step.call d (sym may.row.step.owned ∙ step)) may.row.step.step) inside;
+  serial_is = close_serial j i (sym (subst (λ (y : CallId). asked_now c older y ≡ want.Close j) (some_same may.in_time.call d (sym may.in_time.owner ∙ step)) may.in_time.asks.asked) ∙ is);
 })
 close_step c n _ older e d i may inside is step = absurd step
 
@@ -134,8 +135,8 @@ had_opened w _ own i e = absurd e
 
 -- what was had is had after an answer, but for one to its close
 had_still : (w : Want) (a : Answer) (own : Instances) (i : Serial) → own i ≡ true → (had_after w a own i ≡ true) ⊎ (w ≡ want.Close i)
-had_still w (answer.Opened inst ino) own i e = inl (later_true (same_serial inst i) (own i) e)
-had_still w (answer.Merging inst kept) own i e = inl (later_true (same_serial inst i) (own i) e)
+had_still w (answer.Opened inst ino) own i e = inl (or_second (same_serial inst i) (own i) e)
+had_still w (answer.Merging inst kept) own i e = inl (or_second (same_serial inst i) (own i) e)
 had_still w _ own i e = closed w own i e
   where
     closed : (w : Want) (own : Instances) (i : Serial) → own i ≡ true → (closed_by w own i ≡ true) ⊎ (w ≡ want.Close i)

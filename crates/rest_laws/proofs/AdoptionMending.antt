@@ -1,5 +1,7 @@
 -- A mend waits at its storage site while it has its file open and the site is in its epoch: it gives its reply only once it has closed it.
 use Rattle.std.proofs.Common.{◌≡◌, ℕ, true, List, [], ◌∷◌, Option, Some, None, refl, sym, ◌∙◌, ap, subst, inl, inr}
+use Rattle.role_steps.proofs.of_plain_facts.Options.{some_same}
+use Rattle.role_steps.proofs.of_plain_facts.Tests.{true_false}
 use Rattle.locus_ids.specs.declared.config.Config.{Config}
 use Rattle.locus_ids.specs.declared.ids.CallId.{CallId}
 use Rattle.locus_ids.specs.declared.ids.EpochId.{EpochId}
@@ -36,22 +38,21 @@ use Rattle.tree_laws.specs.Printed.{entries, onto_entries}
 use Rattle.tree_laws.specs.Serials.{asked_now}
 use Rattle.tree_laws.proofs.Awaiting.{all_have}
 use Rattle.tree_laws.proofs.Mending.{mends_at_sync}
-use Rattle.tree_laws.proofs.Names.{some_is, true_false}
 use Rattle.tree_laws.proofs.Scripts.{named_stays}
 use Rattle.tree_laws.proofs.Waiting.{IsIt, accepted, asking_waits}
-use Rattle.order_laws.proofs.ProcessOpen.{OpenAs, granted_open}
-use Rattle.holding_laws.proofs.Released.{released_shut}
-use Rattle.holding_laws.proofs.MendMends.{mend_opened}
-use Rattle.holding_laws.proofs.RoomOpenGranted.{GrantedSo, open_granted}
+use Rattle.one_tree_laws.proofs.of_order_laws.ProcessOpen.{OpenAs, granted_open}
+use Rattle.one_tree_laws.proofs.of_holding_laws.Released.{released_shut}
+use Rattle.one_tree_laws.proofs.of_holding_laws.MendMends.{mend_opened}
+use Rattle.one_tree_laws.proofs.of_holding_laws.RoomOpenGranted.{GrantedSo, open_granted}
 use Rattle.rest_laws.proofs.MendStepPlaces.{mend_place}
-use Rattle.store_laws.proofs.ScriptEnding.{GivesNone}
-use Rattle.store_laws.proofs.ScriptEndingCalls.{NotOpen, has_by, wants_end}
-use Rattle.store_laws.proofs.ScriptFitted.{Began, began, fit_same, log_fits, script_sound}
-use Rattle.store_laws.proofs.ScriptFitting.{IsSound}
-use Rattle.store_laws.proofs.ScriptHad.{by_same, has_log}
-use Rattle.store_laws.proofs.ScriptNaming.{script_by}
-use Rattle.store_laws.proofs.ScriptSoundCalls.{HasFree, WalksWords}
-use Rattle.store_laws.proofs.Begun.{granted_in}
+use Rattle.one_tree_laws.proofs.of_store_laws.ScriptEnding.{GivesNone}
+use Rattle.one_tree_laws.proofs.of_store_laws.ScriptEndingCalls.{NotOpen, has_by, wants_end}
+use Rattle.one_tree_laws.proofs.of_store_laws.ScriptFitted.{Began, began, fit_same, log_fits, script_sound}
+use Rattle.one_tree_laws.proofs.of_store_laws.ScriptFitting.{IsSound}
+use Rattle.one_tree_laws.proofs.of_store_laws.ScriptHad.{by_same, has_log}
+use Rattle.one_tree_laws.proofs.of_store_laws.ScriptNaming.{script_by}
+use Rattle.one_tree_laws.proofs.of_store_laws.ScriptSoundCalls.{HasFree, WalksWords}
+use Rattle.one_tree_laws.proofs.of_store_laws.Begun.{granted_in}
 use Rattle.rest_laws.specs.AdoptionMending.{MendWaits}
 use Rattle.rest_laws.proofs.AdoptionHaving.{HasOrWaits, granted_had}
 
@@ -142,7 +143,7 @@ mend_waits c t h e i x now is inside = record {
     open_so = granted_open c t h e d so.request i mode.Mend x.grant.file so.stamp x.grant.ss was live
 
     call_is : x.grant.call ≡ d
-    call_is = ap (λ (y : Instance). y.grant.call) (some_is x open_so.at (sym now ∙ open_so.found)) ∙ open_so.call_is
+    call_is = ap (λ (y : Instance). y.grant.call) (some_same x open_so.at (sym now ∙ open_so.found)) ∙ open_so.call_is
 
     k : IsCallIn (entries t) e d
     k = granted_in c t h e d so.request i mode.Mend x.grant.file so.stamp x.grant.ss was
@@ -154,7 +155,7 @@ mend_waits c t h e i x now is inside = record {
     words = mend_words c t h e d so.request i x.grant.file so.stamp x.grant.ss was w k.named
 
     site_is : w.site ≡ x.grant.ss
-    site_is = some_is w.site x.grant.ss (sym (mends_at_sync c t h d w e x.grant.file k.named k.made_in words) ∙ mend_place c t h e d so.request i x.grant.file so.stamp x.grant.ss was)
+    site_is = some_same w.site x.grant.ss (sym (mends_at_sync c t h d w e x.grant.file k.named k.made_in words) ∙ mend_place c t h e d so.request i x.grant.file so.stamp x.grant.ss was)
 
     names : IsIt (entries t) d w
     names = (accepted c t h).named d w k.named

@@ -1,6 +1,9 @@
 -- What the site notes in its own table when it adopts.
 use Rattle.std.proofs.Common.{◌≡◌, ℕ, ◌==◌, Bool, true, false, not, cond, ◌&&◌, List, length, map, Option, Some, None, refl, sym, ap, ◌∙◌, subst, ◌⊎◌, inl, inr}
 use Rattle.std.proofs.lemmas.List.{length-map}
+use Rattle.role_steps.proofs.of_plain_facts.Numbers.{equal, equal_self}
+use Rattle.role_steps.proofs.of_plain_facts.Options.{some_same}
+use Rattle.role_steps.proofs.of_plain_facts.Tests.{and_true, true_false}
 use Rattle.locus_ids.specs.declared.config.Config.{Config}
 use Rattle.locus_ids.specs.declared.ids.FileId.{FileId}
 use Rattle.locus_ids.specs.declared.ids.Stamp.{Stamp}
@@ -34,25 +37,24 @@ use Rattle.tree_laws.specs.Packets.{file_in}
 use Rattle.tree_laws.specs.Printed.{entries}
 use Rattle.tree_laws.specs.Tables.{ExactFact, FileFact, FilesFact, HasHolder, HoldingFact, IsAhead, IsNoted, StartedFiles, TableFact, VersionFact, known_stamps, row_stamp}
 use Rattle.tree_laws.proofs.Boots.{every_both, every_pair}
-use Rattle.tree_laws.proofs.Names.{some_is, test_own, test_same, true_false}
 use Rattle.tree_laws.proofs.Rows.{followed_rows}
 use Rattle.tree_laws.proofs.Versions.{versions_stay}
 use Rattle.tree_laws.proofs.Waiting.{found_among}
-use Rattle.order_laws.proofs.Standing.{same_stamp_eq}
-use Rattle.holding_laws.proofs.Ancestors.{ancestor_through, ancestors_one}
-use Rattle.holding_laws.proofs.Begun.{open_in_group}
-use Rattle.holding_laws.proofs.Below.{commits_new}
-use Rattle.holding_laws.proofs.Made.{held_stand, rows_made}
-use Rattle.holding_laws.specs.Order.{IsWellMade}
-use Rattle.store_laws.proofs.Adopting.{has_adopted}
-use Rattle.store_laws.proofs.Commits.{both_of, file_own}
-use Rattle.store_laws.proofs.Tabled.{row_found, row_other, row_same}
-use Rattle.sync_laws.proofs.Ahead.{ahead_stays}
-use Rattle.sync_laws.proofs.Files.{file_row_stays}
-use Rattle.sync_laws.proofs.Held.{Moves, held_moves}
-use Rattle.sync_laws.proofs.Staying.{table_with}
-use Rattle.sync_laws.proofs.Orderly.{holder_orderly}
-use Rattle.sync_laws.proofs.Rows.{every_among, row_every, row_key_is}
+use Rattle.one_tree_laws.proofs.of_order_laws.Standing.{same_stamp_eq}
+use Rattle.one_tree_laws.proofs.of_holding_laws.Ancestors.{ancestor_through, ancestors_one}
+use Rattle.one_tree_laws.proofs.of_holding_laws.Begun.{open_in_group}
+use Rattle.one_tree_laws.proofs.of_holding_laws.Below.{commits_new}
+use Rattle.one_tree_laws.proofs.of_holding_laws.Made.{held_stand, rows_made}
+use Rattle.one_tree_laws.specs.of_holding_laws.Order.{IsWellMade}
+use Rattle.one_tree_laws.proofs.of_store_laws.Adopting.{has_adopted}
+use Rattle.one_tree_laws.proofs.of_store_laws.Commits.{file_own}
+use Rattle.one_tree_laws.proofs.of_store_laws.Tabled.{row_found, row_other, row_same}
+use Rattle.one_tree_laws.proofs.of_sync_laws.Ahead.{ahead_stays}
+use Rattle.one_tree_laws.proofs.of_sync_laws.Files.{file_row_stays}
+use Rattle.one_tree_laws.proofs.of_sync_laws.Held.{Moves, held_moves}
+use Rattle.one_tree_laws.proofs.of_sync_laws.Staying.{table_with}
+use Rattle.one_tree_laws.proofs.of_sync_laws.Orderly.{holder_orderly}
+use Rattle.one_tree_laws.proofs.of_sync_laws.Rows.{every_among, row_every, row_key_is}
 use Rattle.one_tree_laws.specs.Rest.{more}
 use Rattle.one_tree_laws.proofs.Composing.{past_more}
 use Rattle.one_tree_laws.proofs.Staying.{rest_below}
@@ -173,7 +175,7 @@ module _ (c : Config) (n : ℕ) (trace : List Line) (f : Frame) (v : SiteView) (
         now_is = subst (λ (s : ℕ). held_in c (entries trace) f.epoch s file ≡ Some its.0.now) its.1 its.0.held
 
         noted_so : IsNoted r f.me its.0.now ⊎ IsAhead c trace f.epoch f.me file → x.stamp ≡ its.0.now
-        noted_so (inl z) = ap (λ (y : Holding). y.stamp) (some_is x z.0 (sym e ∙ z.1)) ∙ z.2
+        noted_so (inl z) = ap (λ (y : Holding). y.stamp) (some_same x z.0 (sym e ∙ z.1)) ∙ z.2
         noted_so (inr a) = absurd (none_ahead a)
 
         stamp_is : x.stamp ≡ its.0.now
@@ -209,7 +211,7 @@ module _ (c : Config) (n : ℕ) (trace : List Line) (f : Frame) (v : SiteView) (
     has_now : held_in c (entries after) f.epoch f.me file ≡ Some p.stamp
     has_now = subst (λ (y : FileId). held_in c (entries after) f.epoch f.me y ≡ Some p.stamp) is
         ((store_rests c after (past_more c n told trace k.past (may c n trace f v p k) k.rest)).inside f.epoch f.me p.file k.inside.frame.inside
-        ∙ ap (λ (b : Bool). cond b (Some p.stamp) (held c (entries trace) f.me p.file)) (both_of (same_file p.file p.file) (f.me == f.me) (file_own p.file) (test_own f.me)))
+        ∙ ap (λ (b : Bool). cond b (Some p.stamp) (held c (entries trace) f.me p.file)) (and_true (same_file p.file p.file) (f.me == f.me) (file_own p.file) (equal_self f.me)))
 
     -- what the site was noted to hold wasn't kept
     lagged : (x : Holding) → Among x r.holders → x.site ≡ f.me → has_stamp (kept_in c (entries trace) f.epoch file) x.stamp ≡ true → ⊥
@@ -252,8 +254,8 @@ module _ (c : Config) (n : ℕ) (trace : List Line) (f : Frame) (v : SiteView) (
     still_held y is_kept (x, m, e) = at (x.site == f.me) refl
       where
         at : (b : Bool) → (x.site == f.me) ≡ b → HasHolder q y
-        at true s = absurd (lagged x m (test_same x.site f.me s) (subst (λ (z : Stamp). has_stamp (kept_in c (entries trace) f.epoch file) z ≡ true) (sym e) is_kept))
-        at false s = (x, among_other holding_site new x r.holders (λ (z : x.site ≡ f.me). true_false (sym (subst (λ (i : ℕ). (x.site == i) ≡ true) z (test_own x.site)) ∙ s)) m, e)
+        at true s = absurd (lagged x m (equal x.site f.me s) (subst (λ (z : Stamp). has_stamp (kept_in c (entries trace) f.epoch file) z ≡ true) (sym e) is_kept))
+        at false s = (x, among_other holding_site new x r.holders (λ (z : x.site ≡ f.me). true_false (sym (subst (λ (i : ℕ). (x.site == i) ≡ true) z (equal_self x.site)) ∙ s)) m, e)
 
     q_fact : FileFact c after f.epoch t.group q
     q_fact = record {
@@ -275,17 +277,17 @@ module _ (c : Config) (n : ℕ) (trace : List Line) (f : Frame) (v : SiteView) (
     now_table = with_file q t
 
     row_apart : (ino : ℕ) → (r.ino == ino) ≡ false → file_row now_table ino ≡ file_row t ino
-    row_apart ino e = row_other row_ino q ino t.files (λ (z : r.ino ≡ ino). true_false (sym (subst (λ (i : ℕ). (r.ino == i) ≡ true) z (test_own r.ino)) ∙ e))
+    row_apart ino e = row_other row_ino q ino t.files (λ (z : r.ino ≡ ino). true_false (sym (subst (λ (i : ℕ). (r.ino == i) ≡ true) z (equal_self r.ino)) ∙ e))
 
     row_new : file_row now_table r.ino ≡ Some q
     row_new = row_same row_ino q t.files
 
     known_now : (ino : ℕ) → (b : Bool) → (r.ino == ino) ≡ b → known_stamps (file_row now_table ino) ≡ candidates c (entries after) f.epoch (file_in t.group ino)
-    known_now ino true e = subst (λ (m : ℕ). known_stamps (file_row now_table m) ≡ candidates c (entries after) f.epoch (file_in t.group m)) (test_same r.ino ino e) (ap known_stamps row_new ∙ versions_are)
+    known_now ino true e = subst (λ (m : ℕ). known_stamps (file_row now_table m) ≡ candidates c (entries after) f.epoch (file_in t.group m)) (equal r.ino ino e) (ap known_stamps row_new ∙ versions_are)
     known_now ino false e = ap known_stamps (row_apart ino e) ∙ files.known ino
 
     kept_now : (ino : ℕ) → (b : Bool) → (r.ino == ino) ≡ b → map row_stamp (kept (file_row now_table ino)) ≡ kept_in c (entries after) f.epoch (file_in t.group ino)
-    kept_now ino true e = subst (λ (m : ℕ). map row_stamp (kept (file_row now_table m)) ≡ kept_in c (entries after) f.epoch (file_in t.group m)) (test_same r.ino ino e) (ap (λ (o : Option FileRow). map row_stamp (kept o)) row_new ∙ kept_are)
+    kept_now ino true e = subst (λ (m : ℕ). map row_stamp (kept (file_row now_table m)) ≡ kept_in c (entries after) f.epoch (file_in t.group m)) (equal r.ino ino e) (ap (λ (o : Option FileRow). map row_stamp (kept o)) row_new ∙ kept_are)
     kept_now ino false e = ap (λ (o : Option FileRow). map row_stamp (kept o)) (row_apart ino e) ∙ files.kept_is ino
 
     -- what a site has of another file stays
@@ -303,21 +305,21 @@ module _ (c : Config) (n : ℕ) (trace : List Line) (f : Frame) (v : SiteView) (
         over (inr m) = absurd (apart m.1)
 
     exact_q : ExactFact c after f t.group q
-    exact_q site stamp (inl here) holds = inl (new, subst (λ (s : ℕ). holding_of q s ≡ Some new) (sym here) (row_same holding_site new r.holders), some_is p.stamp stamp (sym has_now ∙ subst (λ (s : ℕ). held_in c (entries after) f.epoch s file ≡ Some stamp) here holds))
+    exact_q site stamp (inl here) holds = inl (new, subst (λ (s : ℕ). holding_of q s ≡ Some new) (sym here) (row_same holding_site new r.holders), some_same p.stamp stamp (sym has_now ∙ subst (λ (s : ℕ). held_in c (entries after) f.epoch s file ≡ Some stamp) here holds))
     exact_q site stamp (inr several) holds = absurd (several (sym (length-map r.kept row_stamp) ∙ (ap length kept_are ∙ single)))
 
     exact_other : (ino : ℕ) (x : FileRow) → (r.ino == ino) ≡ false → file_row t ino ≡ Some x → ExactFact c after f t.group x
     exact_other ino x e at site stamp still holds = over (files.exact ino x at site stamp still (sym (held_same site x.ino apart) ∙ holds))
       where
         apart : p.file.ino ≡ x.ino → ⊥
-        apart z = true_false (sym (subst (λ (i : ℕ). (r.ino == i) ≡ true) (ino_is ∙ (z ∙ row_key_is row_ino ino t.files x at)) (test_own r.ino)) ∙ e)
+        apart z = true_false (sym (subst (λ (i : ℕ). (r.ino == i) ≡ true) (ino_is ∙ (z ∙ row_key_is row_ino ino t.files x at)) (equal_self r.ino)) ∙ e)
 
         over : IsNoted x site stamp ⊎ IsAhead c trace f.epoch site (file_in t.group x.ino) → IsNoted x site stamp ⊎ IsAhead c after f.epoch site (file_in t.group x.ino)
         over (inl z) = inl z
         over (inr a) = inr (ahead_stays c n told trace (may c n trace f v p k) f site (file_in t.group x.ino) (λ z. z) a)
 
     exact_now : (ino : ℕ) (x : FileRow) (b : Bool) → (r.ino == ino) ≡ b → file_row now_table ino ≡ Some x → ExactFact c after f t.group x
-    exact_now ino x true e at = subst (ExactFact c after f t.group) (some_is q x (sym row_new ∙ subst (λ (m : ℕ). file_row now_table m ≡ Some x) (sym (test_same r.ino ino e)) at)) exact_q
+    exact_now ino x true e at = subst (ExactFact c after f t.group) (some_same q x (sym row_new ∙ subst (λ (m : ℕ). file_row now_table m ≡ Some x) (sym (equal r.ino ino e)) at)) exact_q
     exact_now ino x false e at = exact_other ino x e (sym (row_apart ino e) ∙ at)
 
     now_files : StartedFiles c after f now_table

@@ -1,6 +1,8 @@
 -- While a resolution has its file open, several versions of the file are kept.
 use Rattle.std.proofs.Common.{◌≡◌, ℕ, true, List, [], ◌∷◌, length, Option, Some, None, refl, sym, ap, ◌∙◌, subst, inl, inr}
 use Rattle.std.specs.Option.{is_none}
+use Rattle.role_steps.proofs.of_plain_facts.Options.{some_none}
+use Rattle.role_steps.proofs.of_plain_facts.Tests.{and_first, and_second}
 use Rattle.locus_ids.specs.declared.config.Config.{Config}
 use Rattle.locus_ids.specs.declared.ids.CallId.{CallId}
 use Rattle.locus_ids.specs.declared.ids.EpochId.{EpochId}
@@ -22,20 +24,17 @@ use Rattle.tree_laws.specs.Following.{IsFollowed, MayTell}
 use Rattle.tree_laws.specs.Past.{GrantRecord, Printed, WasGranted, WasReleased}
 use Rattle.tree_laws.specs.Printed.{entries, onto_entries}
 use Rattle.tree_laws.proofs.Rows.{followed_rows}
-use Rattle.order_laws.specs.Joining.{PacksAreOfSites}
-use Rattle.order_laws.specs.Keeping.{PassesBy}
-use Rattle.order_laws.proofs.Alone.{first_none, first_of, second_of, unrefused}
-use Rattle.order_laws.proofs.Keeping.{IsNew, kept_by}
-use Rattle.order_laws.proofs.ProcessOpen.{OpenAs, granted_open}
-use Rattle.holding_laws.proofs.Begun.{open_in_group}
-use Rattle.holding_laws.proofs.Kept.{open_keeps}
-use Rattle.holding_laws.proofs.Made.{CommitsAreNew}
+use Rattle.one_tree_laws.specs.of_order_laws.Joining.{PacksAreOfSites}
+use Rattle.one_tree_laws.specs.of_order_laws.Keeping.{PassesBy}
+use Rattle.one_tree_laws.proofs.of_order_laws.Alone.{first_none, unrefused}
+use Rattle.one_tree_laws.proofs.of_order_laws.Keeping.{IsNew, kept_by}
+use Rattle.one_tree_laws.proofs.of_order_laws.ProcessOpen.{OpenAs, granted_open}
+use Rattle.one_tree_laws.proofs.of_holding_laws.Begun.{open_in_group}
+use Rattle.one_tree_laws.proofs.of_holding_laws.Kept.{open_keeps}
+use Rattle.one_tree_laws.proofs.of_holding_laws.Made.{CommitsAreNew}
 
 abbrev With : ℕ → Told → List Line → List Line
 With n x older = record { number = n; told = x } ∷ older
-
-some_none : {A : Type 0} (a : A) → ◌≡◌ {A = Option A} (Some a) None → ⊥
-some_none a e = cc
 
 -- a resolution is refused where one version is kept
 kept_several : (ks : List Stamp) → kept_refusal mode.Resolve ks ≡ None → length ks ≡ 1 → ⊥
@@ -74,7 +73,7 @@ granted_several c older n (Shown r) few h may e d request i f stamp ss now one =
 
         given : Given e mode.Resolve f
         given = subst (λ (y : FileId). Given e mode.Resolve y) k.file_is (subst (λ (o : Mode). Given e o g) k.mode_is (subst (λ (z : EpochId). Given z m g) k.epoch_is
-            (first_of (is_none (open_refusal (history c (entries older)) (tree_of c at g.group (entries older)) m call g)) _ (second_of (tree_of c at g.group (entries older)).started _ may.row.gives), first_of (tree_of c at g.group (entries older)).started _ may.row.gives)))
+            (and_first (is_none (open_refusal (history c (entries older)) (tree_of c at g.group (entries older)) m call g)) _ (and_second (tree_of c at g.group (entries older)).started _ may.row.gives), and_first (tree_of c at g.group (entries older)).started _ may.row.gives)))
 
         unrefusing : grant_refusal mode.Resolve (openers t f) (kept_of (history c (entries older)) t f) ≡ None
         unrefusing = first_none (grant_refusal mode.Resolve (openers t f) (kept_of (history c (entries older)) t f)) (place_refusal (history c (entries older)) t mode.Resolve call f) given.0

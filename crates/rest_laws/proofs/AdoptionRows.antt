@@ -2,6 +2,8 @@
 use Rattle.std.proofs.Common.{◌≡◌, ℕ, ◌==◌, Bool, true, false, cond, ◌||◌, List, [], ◌∷◌, filter, map, Some, refl, sym, ap, ◌∙◌, subst, ◌⊎◌, inl, inr}
 use Rattle.std.specs.Prelude.{nat_lt}
 use Rattle.std.specs.List.{list_any}
+use Rattle.role_steps.proofs.of_plain_facts.Numbers.{equal, equal_self}
+use Rattle.role_steps.proofs.of_plain_facts.Tests.{or_second, true_false}
 use Rattle.locus_ids.specs.declared.ids.Stamp.{Stamp}
 use Rattle.commit_graph.specs.Versions.{same_stamp}
 use Rattle.commit_graph.proofs.Names.{same_stamp_refl}
@@ -15,9 +17,8 @@ use Rattle.the_run.specs.Kept.{Among}
 use Rattle.tree_model.specs.State.{has_stamp}
 use Rattle.tree_laws.specs.Stores.{Ascends}
 use Rattle.tree_laws.specs.Tables.{AreRising, row_stamp}
-use Rattle.tree_laws.proofs.Names.{test_own, test_same, true_false}
-use Rattle.order_laws.proofs.Standing.{later_true, same_stamp_eq}
-use Rattle.store_laws.proofs.Tabled.{ascends_row}
+use Rattle.one_tree_laws.proofs.of_order_laws.Standing.{same_stamp_eq}
+use Rattle.one_tree_laws.proofs.of_store_laws.Tabled.{ascends_row}
 
 -- another row is there still
 pub among_other : {A : Type 0} (key : A → ℕ) (x y : A) (xs : List A) → (key y ≡ key x → ⊥) → Among y xs → Among y (with_row key x xs)
@@ -27,7 +28,7 @@ among_other {A} key x y (z ∷ zs) apart m = at (nat_lt (key z) (key x)) (key z 
     at : (a b : Bool) → (key z == key x) ≡ b → (y ≡ z) ⊎ Among y zs → (Among y zs → Among y (with_row key x zs)) → Among y (elim a [ true ↦ z ∷ with_row key x zs | false ↦ elim b [ true ↦ x ∷ zs | false ↦ x ∷ z ∷ zs ] ])
     at true b t (inl e) later = inl e
     at true b t (inr q) later = inr (later q)
-    at false true t (inl e) later = absurd (apart (ap key e ∙ test_same (key z) (key x) t))
+    at false true t (inl e) later = absurd (apart (ap key e ∙ equal (key z) (key x) t))
     at false true t (inr q) later = inr q
     at false false t (inl e) later = inr (inl e)
     at false false t (inr q) later = inr (inr q)
@@ -53,7 +54,7 @@ version_there stamp [] h = absurd (true_false (sym h))
 version_there stamp (v ∷ vs) h = at (λ m. version_there stamp vs m) (version_key v == stamp_key stamp) refl
   where
     later : (a : Bool) → same_stamp v.stamp stamp ≡ a → (version_key v == stamp_key stamp) ≡ false → a || has_stamp (map row_stamp vs) stamp ≡ true → has_stamp (map row_stamp vs) stamp ≡ true
-    later true e t k = absurd (true_false (sym (subst (λ (s : Stamp). (version_key v == stamp_key s) ≡ true) (same_stamp_eq v.stamp stamp e) (test_own (version_key v))) ∙ t))
+    later true e t k = absurd (true_false (sym (subst (λ (s : Stamp). (version_key v == stamp_key s) ≡ true) (same_stamp_eq v.stamp stamp e) (equal_self (version_key v))) ∙ t))
     later false e t k = k
 
     at : (has_stamp (map row_stamp vs) stamp ≡ true → (w : VersionRow) × (row version_key (stamp_key stamp) vs ≡ Some w)) → (b : Bool) → (version_key v == stamp_key stamp) ≡ b → (w : VersionRow) × (elim b [ true ↦ Some v | false ↦ row version_key (stamp_key stamp) vs ] ≡ Some w)
@@ -92,4 +93,4 @@ each_member (v ∷ vs) = (ap (λ (b : Bool). b || has_stamp (map row_stamp vs) v
   where
     more : (xs : List VersionRow) → Every (λ (x : VersionRow). has_stamp (map row_stamp vs) x.stamp ≡ true) xs → Every (λ (x : VersionRow). has_stamp (map row_stamp (v ∷ vs)) x.stamp ≡ true) xs
     more [] h = tt
-    more (x ∷ xs) h = (later_true (same_stamp v.stamp x.stamp) (has_stamp (map row_stamp vs) x.stamp) h.0, more xs h.1)
+    more (x ∷ xs) h = (or_second (same_stamp v.stamp x.stamp) (has_stamp (map row_stamp vs) x.stamp) h.0, more xs h.1)

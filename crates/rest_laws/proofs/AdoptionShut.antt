@@ -1,6 +1,7 @@
 -- Where a pull is ready, no instance of its file is open at this site whose version the pulled one is above.
 use Rattle.std.proofs.Common.{◌≡◌, ℕ, Bool, true, false, not, cond, ◌&&◌, ◌||◌, List, [], ◌∷◌, length, Option, Some, refl, sym, ap, ◌∙◌, subst, inl, inr}
 use Rattle.std.specs.List.{AllByRecursion, find}
+use Rattle.role_steps.proofs.of_plain_facts.Tests.{and_second, not_true, or_second, true_false}
 use Rattle.locus_ids.specs.declared.config.Config.{Config}
 use Rattle.locus_ids.specs.declared.ids.FileId.{FileId}
 use Rattle.locus_ids.specs.declared.ids.Mode.{Mode}
@@ -32,21 +33,19 @@ use Rattle.tree_laws.specs.Instances.{held_in, instance_now}
 use Rattle.tree_laws.specs.Past.{WasGranted}
 use Rattle.tree_laws.specs.Printed.{entries}
 use Rattle.tree_laws.specs.Stores.{PullFact}
-use Rattle.tree_laws.proofs.Names.{same_serial_own, true_false}
+use Rattle.tree_laws.proofs.Names.{same_serial_own}
 use Rattle.tree_laws.proofs.Rows.{followed_rows}
-use Rattle.order_laws.proofs.Alone.{second_of}
-use Rattle.order_laws.proofs.Standing.{later_true}
-use Rattle.holding_laws.specs.Held.{IsBelowKept, StandsOnHeld}
-use Rattle.holding_laws.proofs.Ancestors.{ancestor_through, ancestors_one}
-use Rattle.holding_laws.proofs.Below.{commits_new}
-use Rattle.holding_laws.proofs.Distinct.{NamesApart, open_now, rows_names_apart}
-use Rattle.holding_laws.proofs.Holding.{below_kept, stands_on_held}
-use Rattle.holding_laws.proofs.Made.{CommitsAreNew, held_stand, rows_made}
-use Rattle.holding_laws.proofs.Released.{released_shut}
-use Rattle.holding_laws.proofs.Rising.{known_stands, member_stands}
-use Rattle.holding_laws.proofs.RoomOpenGranted.{GrantedSo, open_granted}
-use Rattle.holding_laws.proofs.OneVersionAbove.{BelowLast, IsAbove, open_above}
-use Rattle.store_laws.proofs.Commits.{file_own}
+use Rattle.one_tree_laws.specs.of_holding_laws.Held.{IsBelowKept, StandsOnHeld}
+use Rattle.one_tree_laws.proofs.of_holding_laws.Ancestors.{ancestor_through, ancestors_one}
+use Rattle.one_tree_laws.proofs.of_holding_laws.Below.{commits_new}
+use Rattle.one_tree_laws.proofs.of_holding_laws.Distinct.{NamesApart, open_now, rows_names_apart}
+use Rattle.one_tree_laws.proofs.of_holding_laws.Holding.{below_kept, stands_on_held}
+use Rattle.one_tree_laws.proofs.of_holding_laws.Made.{CommitsAreNew, held_stand, rows_made}
+use Rattle.one_tree_laws.proofs.of_holding_laws.Released.{released_shut}
+use Rattle.one_tree_laws.proofs.of_holding_laws.Rising.{known_stands, member_stands}
+use Rattle.one_tree_laws.proofs.of_holding_laws.RoomOpenGranted.{GrantedSo, open_granted}
+use Rattle.one_tree_laws.proofs.of_holding_laws.OneVersionAbove.{BelowLast, IsAbove, open_above}
+use Rattle.one_tree_laws.proofs.of_store_laws.Commits.{file_own}
 use Rattle.one_tree_laws.specs.Places.{InsideFact}
 use Rattle.one_tree_laws.specs.Rest.{Past}
 use Rattle.one_tree_laws.proofs.Staying.{rest_below}
@@ -69,10 +68,6 @@ named_found x [] apart m = absurd m
 named_found x (y ∷ ys) apart (inl e) = subst (λ (z : Instance). find (is_named x.grant.inst) (z ∷ ys) ≡ Some x) e (ap (λ (b : Bool). cond b (Some x) (find (is_named x.grant.inst) ys)) (same_serial_own x.grant.inst))
 named_found x (y ∷ ys) apart (inr m) = ap (λ (b : Bool). cond b (Some y) (find (is_named x.grant.inst) ys)) (all_among (λ (z : Instance). same_serial y.grant.inst z.grant.inst ≡ false) x ys apart.0 m) ∙ named_found x ys apart.1 m
 
-not_true : (b : Bool) → not b ≡ true → b ≡ false
-not_true true e = absurd (true_false (sym e))
-not_true false e = refl
-
 -- ---- an instance that is open at the site ----
 
 module _ (c : Config) (trace : List Line) (past : Past c trace) (f : Frame) (v : SiteView) (inside : InsideFact c f trace v) (p : Pull) (k : PullFact c trace f.epoch f.me p) (ready : is_ready v p ≡ true) where
@@ -87,10 +82,10 @@ module _ (c : Config) (trace : List Line) (past : Past c trace) (f : Frame) (v :
 
   -- no mend of the file waits here
   no_mend : has_mend v.users p.file ≡ false
-  no_mend = over (has_mend v.users p.file) (second_of (has_room v.store p) (not (has_open v.store p.file || has_mend v.users p.file)) (second_of (is_complete p) _ ready))
+  no_mend = over (has_mend v.users p.file) (and_second (has_room v.store p) (not (has_open v.store p.file || has_mend v.users p.file)) (and_second (is_complete p) _ ready))
     where
       over : (b : Bool) → not (has_open v.store p.file || b) ≡ true → b ≡ false
-      over true e = absurd (true_false (sym (later_true (has_open v.store p.file) true refl) ∙ not_true (has_open v.store p.file || true) e))
+      over true e = absurd (true_false (sym (or_second (has_open v.store p.file) true refl) ∙ not_true (has_open v.store p.file || true) e))
       over false e = refl
 
   module _ (x : Instance) (m : Among x tree.instances) (here : x.grant.ss ≡ f.me) (mine : x.grant.file ≡ p.file) (above : is_above h p.file (held c (entries trace) f.me p.file) p.stamp ≡ true) where

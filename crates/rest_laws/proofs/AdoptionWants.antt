@@ -1,5 +1,7 @@
 -- An adoption may be told: the pull is of a version that stands above what the site has, and nobody has its file open here.
 use Rattle.std.proofs.Common.{◌≡◌, ℕ, ◌==◌, true, List, ◌∙◌, subst}
+use Rattle.role_steps.proofs.of_plain_facts.Numbers.{equal}
+use Rattle.role_steps.proofs.of_plain_facts.Tests.{and_first, and_second}
 use Rattle.locus_ids.specs.declared.config.Config.{Config}
 use Rattle.locus_ids.specs.declared.ids.Stamp.{Stamp}
 use Rattle.role_steps.specs.Adoption.{adopt_record, is_above_own, is_ready}
@@ -12,11 +14,9 @@ use Rattle.tree_laws.specs.Following.{MayTell}
 use Rattle.tree_laws.specs.Frames.{AllStay}
 use Rattle.tree_laws.specs.Instances.{Stands}
 use Rattle.tree_laws.specs.Stores.{PullFact}
-use Rattle.tree_laws.proofs.Names.{test_same}
-use Rattle.order_laws.proofs.Alone.{first_of, second_of}
-use Rattle.order_laws.proofs.Standing.{same_file_eq}
-use Rattle.store_laws.specs.Rests.{AdoptRests, StoreRests}
-use Rattle.store_laws.proofs.Adopting.{may_adopt}
+use Rattle.one_tree_laws.proofs.of_order_laws.Standing.{same_file_eq}
+use Rattle.one_tree_laws.specs.of_store_laws.Rests.{AdoptRests, StoreRests}
+use Rattle.one_tree_laws.proofs.of_store_laws.Adopting.{may_adopt}
 use Rattle.one_tree_laws.specs.Places.{InsideFact}
 use Rattle.one_tree_laws.specs.Rest.{Comes, Past, RestTold, more}
 use Rattle.one_tree_laws.proofs.Staying.{stays}
@@ -41,7 +41,7 @@ module _ (c : Config) (n : ℕ) (trace : List Line) (f : Frame) (v : SiteView) (
   stores = store_rests c trace k.past
 
   pub complete : is_complete p ≡ true
-  complete = first_of (is_complete p) _ k.ready
+  complete = and_first (is_complete p) _ k.ready
 
   pub stands : Stands c trace p.file p.stamp
   stands = subst (λ (y : Stamp). Stands c trace p.file y) k.pull.stamp_is k.pull.is_version.stands
@@ -49,7 +49,7 @@ module _ (c : Config) (n : ℕ) (trace : List Line) (f : Frame) (v : SiteView) (
   pub wants : AdoptRests c trace f p
   wants = record {
     below = λ old s b. vectors_tell_newer c trace k.past p.file old p.stamp s stands ∙ b;
-    open_on = λ x m stored up. shut_here c trace k.past f v k.inside p k.pull k.ready x m (test_same x.grant.ss f.me (first_of (x.grant.ss == f.me) _ stored)) (same_file_eq x.grant.file p.file (second_of (x.grant.ss == f.me) _ stored)) up;
+    open_on = λ x m stored up. shut_here c trace k.past f v k.inside p k.pull k.ready x m (equal x.grant.ss f.me (and_first (x.grant.ss == f.me) _ stored)) (same_file_eq x.grant.file p.file (and_second (x.grant.ss == f.me) _ stored)) up;
   }
 
   pub may : MayTell c trace (tells f p)

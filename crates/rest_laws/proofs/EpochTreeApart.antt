@@ -3,6 +3,9 @@ use Rattle.std.proofs.Common.{◌≡◌, ℕ, ◌==◌, Bool, true, false, ◌&&
 use Rattle.std.proofs.lemmas.Bool.Decides.{nat_tests}
 use Rattle.std.specs.List.{AllByRecursion}
 use Rattle.std.specs.Option.{is_none}
+use Rattle.role_steps.proofs.of_plain_facts.Numbers.{equal, equal_self}
+use Rattle.role_steps.proofs.of_plain_facts.Options.{none_some}
+use Rattle.role_steps.proofs.of_plain_facts.Tests.{and_first, and_second, true_false}
 use Rattle.locus_ids.specs.declared.config.Config.{Config}
 use Rattle.locus_ids.specs.declared.ids.EpochId.{EpochId}
 use Rattle.commit_graph.specs.declared.history.Version.{Version}
@@ -17,10 +20,7 @@ use Rattle.tree_model.specs.Lists.{put_first}
 use Rattle.tree_model.specs.Packs.{has_pack}
 use Rattle.tree_model.specs.State.{TreeState, copy_of, is_copy_of, is_granted_here, is_make, with_copy}
 use Rattle.tree_model.specs.Tree.{acted, copy_now, entered, grant_of, granted, joined, left, next, released, tree_of, with_root, without_make}
-use Rattle.tree_laws.proofs.Names.{test_own, test_same, true_false}
-use Rattle.order_laws.proofs.Alone.{first_of, second_of}
-use Rattle.order_laws.proofs.Lists.{all_more, all_put}
-use Rattle.holding_laws.proofs.Copies.{none_some}
+use Rattle.one_tree_laws.proofs.of_order_laws.Lists.{all_more, all_put}
 
 abbrev Other : HeldCopy → HeldCopy → Type 0
 Other x y = is_copy_of x.site x.ino y ≡ false
@@ -38,7 +38,7 @@ turned x y = ap (λ (b : Bool). b && (y.ino == x.ino)) (swap y.site x.site) ∙ 
     swap a b = grind (arith, nat_tests)
 
 own : (x : HeldCopy) → is_copy_of x.site x.ino x ≡ true
-own x = both (x.site == x.site) (x.ino == x.ino) (test_own x.site) (test_own x.ino)
+own x = both (x.site == x.site) (x.ino == x.ino) (equal_self x.site) (equal_self x.ino)
   where
     both : (a b : Bool) → a ≡ true → b ≡ true → a && b ≡ true
     both true b p q = q
@@ -62,8 +62,8 @@ once_put new (x ∷ xs) k = at (is_copy_of new.site new.ino x) refl (once_put ne
   where
     at : (b : Bool) → is_copy_of new.site new.ino x ≡ b → AreOnce (put_first (is_copy_of new.site new.ino) new xs) → AreOnce (cond b (new ∷ xs) (x ∷ put_first (is_copy_of new.site new.ino) new xs))
     at true is later = (
-      subst (λ (s : ℕ). AllByRecursion (λ (y : HeldCopy). is_copy_of s new.ino y ≡ false) xs) (test_same x.site new.site (first_of (x.site == new.site) _ is))
-          (subst (λ (i : ℕ). AllByRecursion (λ (y : HeldCopy). is_copy_of x.site i y ≡ false) xs) (test_same x.ino new.ino (second_of (x.site == new.site) _ is)) k.0),
+      subst (λ (s : ℕ). AllByRecursion (λ (y : HeldCopy). is_copy_of s new.ino y ≡ false) xs) (equal x.site new.site (and_first (x.site == new.site) _ is))
+          (subst (λ (i : ℕ). AllByRecursion (λ (y : HeldCopy). is_copy_of x.site i y ≡ false) xs) (equal x.ino new.ino (and_second (x.site == new.site) _ is)) k.0),
       k.1,
     )
     at false is later = (all_put (Other x) (is_copy_of new.site new.ino) new xs (turned x new ∙ is) k.0, later)

@@ -2,6 +2,8 @@
 use Rattle.std.proofs.Common.{◌≡◌, ℕ, ◌==◌, Bool, true, false, ◌&&◌, cond, List, [], ◌∷◌, filter, Option, Some, refl, sym, ◌∙◌, ap, subst, inl, inr}
 use Rattle.std.specs.List.{AllByRecursion}
 use Rattle.std.specs.Option.{option_map}
+use Rattle.role_steps.proofs.of_plain_facts.Numbers.{equal}
+use Rattle.role_steps.proofs.of_plain_facts.Tests.{and_first, and_second, true_false}
 use Rattle.locus_ids.specs.declared.config.Config.{Config}
 use Rattle.locus_ids.specs.declared.ids.Brought.{Brought}
 use Rattle.locus_ids.specs.declared.ids.EpochId.{EpochId}
@@ -26,13 +28,13 @@ use Rattle.lawful_trace.specs.TreeRows.{granted_group}
 use Rattle.tree_laws.specs.Following.{IsFollowed, MayTell}
 use Rattle.tree_laws.specs.Printed.{entries}
 use Rattle.tree_laws.proofs.Kinship.{started_stays}
-use Rattle.tree_laws.proofs.Names.{same_epoch_eq, test_same, true_false}
+use Rattle.tree_laws.proofs.Names.{same_epoch_eq}
 use Rattle.tree_laws.proofs.Rows.{followed_rows}
-use Rattle.order_laws.proofs.Alone.{first_of, second_of, tree_named}
-use Rattle.order_laws.proofs.Started.{open_started}
-use Rattle.holding_laws.proofs.Copies.{copies_are, copy_entered}
-use Rattle.holding_laws.proofs.Reports.{nothing_written}
-use Rattle.holding_laws.proofs.OneVersionAscending.{all_brought}
+use Rattle.one_tree_laws.proofs.of_order_laws.Alone.{tree_named}
+use Rattle.one_tree_laws.proofs.of_order_laws.Started.{open_started}
+use Rattle.one_tree_laws.proofs.of_holding_laws.Copies.{copies_are, copy_entered}
+use Rattle.one_tree_laws.proofs.of_holding_laws.Reports.{nothing_written}
+use Rattle.one_tree_laws.proofs.of_holding_laws.OneVersionAscending.{all_brought}
 use Rattle.rest_laws.proofs.EpochTreeApart.{copies_once, once_found, once_rooted}
 
 -- some site holds it
@@ -73,7 +75,7 @@ module _ (c : Config) (older : List Line) (n : ℕ) (followed : IsFollowed c old
       held_now : (x.site == s) ≡ true → held_at (joined s m t) s x.ino ≡ Some x.now
       held_now is =
           ap held_of (copy_entered s (with_root t s) s x.ino)
-          ∙ (ap (λ (o : Option HeldCopy). held_of (option_map (entered s) o)) (subst (λ (k : ℕ). copy_of (with_root t s) k x.ino ≡ Some x) (test_same x.site s is) (once_found (with_root t s) (once_rooted t s (copies_once c before e g)) x (part x (inl refl))))
+          ∙ (ap (λ (o : Option HeldCopy). held_of (option_map (entered s) o)) (subst (λ (k : ℕ). copy_of (with_root t s) k x.ino ≡ Some x) (equal x.site s is) (once_found (with_root t s) (once_rooted t s (copies_once c before e g)) x (part x (inl refl))))
           ∙ ap (λ (b : Bool). (cond b (record x { held = Some x.now }) x).held) is)
 
       at : (b : Bool) → (x.site == s) ≡ b → AllByRecursion (λ (y : HeldCopy). IsHeld (joined s m t) (record { ino = y.ino; stamp = y.now })) (filter (λ (y : HeldCopy). y.site == s) xs) →
@@ -98,8 +100,8 @@ module _ (c : Config) (older : List Line) (n : ℕ) (followed : IsFollowed c old
   unreleased d i f stamp may b = true_false (sym opens ∙ waits)
     where
       opens : t.started ≡ true
-      opens = subst (λ (k : ℕ). (tree_of c e k before).started ≡ true) (test_same f.group t.group (second_of (same_epoch d t.epoch) _ b) ∙ named.1)
-          (subst (λ (y : EpochId). (tree_of c y f.group before).started ≡ true) (same_epoch_eq d t.epoch (first_of (same_epoch d t.epoch) _ b) ∙ named.0)
+      opens = subst (λ (k : ℕ). (tree_of c e k before).started ≡ true) (equal f.group t.group (and_second (same_epoch d t.epoch) _ b) ∙ named.1)
+          (subst (λ (y : EpochId). (tree_of c y f.group before).started ≡ true) (same_epoch_eq d t.epoch (and_first (same_epoch d t.epoch) _ b) ∙ named.0)
           (subst (λ (k : ℕ). (tree_of c d k before).started ≡ true) may.in_time.group_is (open_started c before (followed_rows c older followed) d (granted_group before d i) i may.in_time.at may.in_time.open_at.found)))
 
   next_held : (r : Record) → MayTell c older (Shown r) → AllByRecursion (IsHeld t) t.known → Then r

@@ -1,6 +1,7 @@
 -- A report comes as it may: it is answered; the first of a member counts; and with the last one the group starts with all that was
 -- brought.
 use Rattle.std.proofs.Common.{◌≡◌, ℕ, true, false, List, Some, sym, ◌∙◌, subst, ◌⊎◌, inl, inr}
+use Rattle.role_steps.proofs.of_plain_facts.Tests.{true_false}
 use Rattle.locus_ids.specs.declared.config.Config.{Config}
 use Rattle.locus_ids.specs.declared.ids.EpochId.{EpochId}
 use Rattle.wire_messages.specs.declared.body.Body.TheVariants as body
@@ -19,7 +20,6 @@ use Rattle.tree_laws.specs.Packets.{BodyFact, IsReporter, ReportFact, ReportsNow
 use Rattle.tree_laws.specs.Printed.{entries}
 use Rattle.tree_laws.specs.Tables.{FilesFact, HoldsJust, ReportedFiles, TableFact}
 use Rattle.tree_laws.proofs.Boots.{every_both}
-use Rattle.tree_laws.proofs.Names.{true_false}
 use Rattle.one_tree_laws.specs.Rest.{AllRest}
 use Rattle.one_tree_laws.specs.Roles.{Came, Ready, TableHere}
 use Rattle.rest_laws.specs.EpochTreeCounting.{IsNotedRight}

@@ -1,5 +1,6 @@
 -- A report that counts: the table with it is so by the trace, where its files are what the reports so far have told.
 use Rattle.std.proofs.Common.{◌≡◌, ℕ, false, List, [], ◌∷◌, refl, sym, ◌∙◌, subst}
+use Rattle.role_steps.proofs.of_plain_facts.Tests.{true_false}
 use Rattle.locus_ids.specs.Sites.{with_site}
 use Rattle.locus_ids.specs.declared.config.Config.{Config}
 use Rattle.wire_messages.specs.declared.body.ReportedCopy.{ReportedCopy}
@@ -9,7 +10,6 @@ use Rattle.role_steps.specs.Views.{Frame}
 use Rattle.role_steps.specs.declared.synchronizing.SyncTable.{SyncTable}
 use Rattle.the_run.specs.Worlds.{Line}
 use Rattle.tree_laws.specs.Packets.{ReportedNow}
-use Rattle.tree_laws.proofs.Names.{true_false}
 use Rattle.one_tree_laws.specs.Rest.{Past}
 use Rattle.tree_laws.specs.Tables.{FilesFact, ReportedFiles, TableFact}
 use Rattle.rest_laws.specs.EpochTreeCounting.{IsNotedRight, RowsSo}

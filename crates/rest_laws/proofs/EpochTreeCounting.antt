@@ -1,5 +1,6 @@
 -- A report that counts: the rows of a table stay what the trace has of their files.
 use Rattle.std.proofs.Common.{◌≡◌, ℕ, Bool, true, false, not, List, [], ◌∷◌, Option, Some, None, refl, sym, ◌∙◌, ap, subst, inl, inr}
+use Rattle.role_steps.proofs.of_plain_facts.Options.{some_same}
 use Rattle.locus_ids.specs.declared.config.Config.{Config}
 use Rattle.locus_ids.specs.declared.ids.EpochId.{EpochId}
 use Rattle.wire_messages.specs.declared.body.ReportedCopy.{ReportedCopy}
@@ -22,11 +23,10 @@ use Rattle.tree_laws.specs.Printed.{entries}
 use Rattle.tree_laws.specs.Stores.{Ascends}
 use Rattle.tree_laws.specs.Tables.{AreRising, FileFact, HasHolder, HoldingFact, IsOrderly, VersionFact}
 use Rattle.tree_laws.proofs.Boots.{every_both, every_filter}
-use Rattle.tree_laws.proofs.Names.{some_is}
-use Rattle.holding_laws.proofs.Ancestors.{ancestor_own}
-use Rattle.store_laws.proofs.Tabled.{ascends_row, row_found}
-use Rattle.call_row_laws.proofs.Rising.{key_case, put_keeps, put_there}
-use Rattle.sync_laws.proofs.Orderly.{holder_orderly, version_orderly, version_there}
+use Rattle.one_tree_laws.proofs.of_holding_laws.Ancestors.{ancestor_own}
+use Rattle.one_tree_laws.proofs.of_store_laws.Tabled.{ascends_row, row_found}
+use Rattle.one_tree_laws.proofs.of_call_row_laws.Rising.{key_case, put_keeps, put_there}
+use Rattle.one_tree_laws.proofs.of_sync_laws.Orderly.{holder_orderly, version_orderly, version_there}
 use Rattle.one_tree_laws.specs.Rest.{Past}
 use Rattle.one_tree_laws.proofs.ToldVectorOnly.{only_version}
 use Rattle.rest_laws.specs.EpochTreeCounting.{IsNotedRight, RowsSo}
@@ -72,9 +72,6 @@ module _ (c : Config) (trace : List Line) (e : EpochId) (g from : ℕ) (past : P
     right : Right r
 
   module _ (x : ReportedCopy) (told : ReportedNow c trace e from g x) where
-    abbrev new : Holding
-    new = record { site = from; stamp = x.stamp }
-
     stamp_is : x.stamp ≡ told.version.stamp
     stamp_is = ap (λ (y : ReportedCopy). y.stamp) told.same
 
@@ -105,7 +102,7 @@ module _ (c : Config) (trace : List Line) (e : EpochId) (g from : ℕ) (past : P
     -- a kept version has its holder still
     holder_stays : (r : FileRow) → r.ino ≡ x.ino → RowSo r → (w : VersionRow) (h : Holding) → Among h r.holders → h.stamp ≡ w.stamp → (h.site ≡ from → held_in c (entries trace) e from (file_in g r.ino) ≡ Some h.stamp) → HasHolder (counted r) w
     holder_stays r same so w h among is right = key_case (HasHolder (counted r) w) h.site from
-        (λ k. (record { site = from; stamp = x.stamp }, put_there holding_site (record { site = from; stamp = x.stamp }) r.holders, some_is x.stamp h.stamp (sym holds ∙ (ap (λ (i : ℕ). held_in c (entries trace) e from (file_in g i)) (sym same) ∙ right k)) ∙ is))
+        (λ k. (record { site = from; stamp = x.stamp }, put_there holding_site (record { site = from; stamp = x.stamp }) r.holders, some_same x.stamp h.stamp (sym holds ∙ (ap (λ (i : ℕ). held_in c (entries trace) e from (file_in g i)) (sym same) ∙ right k)) ∙ is))
         (λ k. (h, put_keeps holding_site (record { site = from; stamp = x.stamp }) r.holders h among k, is))
 
     found_right : (r : FileRow) → (hs : List Holding) → Every (λ (h : Holding). h.site ≡ from → held_in c (entries trace) e from (file_in g r.ino) ≡ Some h.stamp) hs → (h : Holding) → Among h hs → h.site ≡ from → held_in c (entries trace) e from (file_in g r.ino) ≡ Some h.stamp

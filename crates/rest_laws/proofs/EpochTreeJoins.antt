@@ -3,6 +3,9 @@ use Rattle.std.proofs.Common.{◌≡◌, ℕ, ◌-◌, ◌==◌, Bool, true, fal
 use Rattle.std.proofs.lemmas.Nat.Bits.{bit_at_above}
 use Rattle.std.specs.List.{find, list_any}
 use Rattle.std.specs.Option.{is_some}
+use Rattle.role_steps.proofs.of_plain_facts.Numbers.{equal, equal_self}
+use Rattle.role_steps.proofs.of_plain_facts.Options.{some_same}
+use Rattle.role_steps.proofs.of_plain_facts.Tests.{and_first, and_second, true_false}
 use Rattle.locus_ids.specs.Sites.{has}
 use Rattle.locus_ids.specs.declared.config.Config.{Config}
 use Rattle.locus_ids.specs.declared.ids.CallId.{CallId}
@@ -39,12 +42,11 @@ use Rattle.tree_laws.specs.Printed.{entries}
 use Rattle.tree_laws.specs.Stores.{AreApart, Ascends, InstanceFact}
 use Rattle.tree_laws.specs.Tables.{TableFact, Turn, last_turn}
 use Rattle.tree_laws.specs.Users.{UserInstanceFact, WaitingFact}
-use Rattle.tree_laws.proofs.Names.{same_epoch_own, some_is, test_own, test_same, true_false}
+use Rattle.tree_laws.proofs.Names.{same_epoch_own}
 use Rattle.tree_laws.proofs.Rows.{followed_rows}
-use Rattle.order_laws.proofs.Alone.{first_of, second_of}
-use Rattle.order_laws.proofs.Joining.{no_pack_comes}
-use Rattle.user_laws.specs.Leaving.{AreApart as CallsApart}
-use Rattle.sync_laws.proofs.Members.{table_boot}
+use Rattle.one_tree_laws.proofs.of_order_laws.Joining.{no_pack_comes}
+use Rattle.one_tree_laws.specs.of_user_laws.Leaving.{AreApart as CallsApart}
+use Rattle.one_tree_laws.proofs.of_sync_laws.Members.{table_boot}
 use Rattle.one_tree_laws.specs.Places.{InsideFact, OutsideFact, SiteFact, SiteFine, UsersOf}
 use Rattle.one_tree_laws.specs.Rest.{AllRest, Past, RestTold, more}
 use Rattle.one_tree_laws.specs.Roles.{EpochsDo}
@@ -56,14 +58,14 @@ use Rattle.rest_laws.proofs.EpochTreeStarted.{begun_joined, looked_started, lost
 -- ---- lists ----
 
 cond_own : {A : Type 0} (s : ℕ) (x y : A) → cond (s == s) x y ≡ x
-cond_own s x y = ap (λ (b : Bool). cond b x y) (test_own s)
+cond_own s x y = ap (λ (b : Bool). cond b x y) (equal_self s)
 
 found_passes : {A : Type 0} (p : A → Bool) (xs : List A) (x : A) → find p xs ≡ Some x → p x ≡ true
 found_passes p [] x k = absurd cc
 found_passes {A} p (y ∷ ys) x k = at (p y) refl k (found_passes p ys x)
   where
     at : (b : Bool) → p y ≡ b → cond b (Some y) (find p ys) ≡ Some x → (find p ys ≡ Some x → p x ≡ true) → p x ≡ true
-    at true e k later = subst (λ (z : A). p z ≡ true) (some_is y x k) e
+    at true e k later = subst (λ (z : A). p z ≡ true) (some_same y x k) e
     at false e k later = later k
 
 -- no site has reported yet
@@ -79,7 +81,7 @@ none_found me process d [] h w k = absurd cc
 none_found me process d (x ∷ xs) h w k = at (is_this me process d x) refl k (none_found me process d xs h.1 w)
   where
     at : (b : Bool) → is_this me process d x ≡ b → cond b (Some x) (find (is_this me process d) xs) ≡ Some w → (find (is_this me process d) xs ≡ Some w → ⊥) → ⊥
-    at true e k later = h.0 (test_same x.site me (first_of (x.site == me) _ (first_of ((x.site == me) && (x.process == process)) _ e)))
+    at true e k later = h.0 (equal x.site me (and_first (x.site == me) _ (and_first ((x.site == me) && (x.process == process)) _ e)))
     at false e k later = later k
 
 -- ---- the join ----
@@ -124,7 +126,7 @@ module _ (c : Config) (n : ℕ) (trace : List Line) (me : ℕ) (e : EpochId) (me
   -- ---- its users ----
 
   serves : (file : FileId) → sync_site c file.group (members_of (entries now) e) ≡ Some me → has_pack c file.group me ≡ true
-  serves file k = second_of (is_member_of (members_of (entries now) e) me) _ (found_passes (λ (site : ℕ). is_member_of (members_of (entries now) e) site && has_pack c file.group site) all_sites me k)
+  serves file k = and_second (is_member_of (members_of (entries now) e) me) _ (found_passes (λ (site : ℕ). is_member_of (members_of (entries now) e) site && has_pack c file.group site) all_sites me k)
 
   none_lost : (file : FileId) → sync_site c file.group (members_of (entries now) e) ≡ Some me → list_any (same_file file) v.users.hopeless ≡ has_lost_mend (entries now) e file
   none_lost file k = ap (λ (fs : List FileId). list_any (same_file file) fs) h.users.hopeless ∙ sym (over (has_lost_mend (entries now) e file) refl)

@@ -2,6 +2,8 @@
 -- and who holds what is noted.
 use Rattle.std.proofs.Common.{◌≡◌, ℕ, Bool, true, false, not, ◌||◌, cond, List, [], ◌∷◌, filter, map, Option, Some, None, refl, sym, ◌∙◌, ap, subst, ◌⊎◌, inl, inr}
 use Rattle.std.specs.List.{flat_map, list_any}
+use Rattle.role_steps.proofs.of_plain_facts.Options.{some_same}
+use Rattle.role_steps.proofs.of_plain_facts.Tests.{true_false}
 use Rattle.locus_ids.specs.declared.config.Config.{Config}
 use Rattle.locus_ids.specs.declared.ids.Brought.{Brought}
 use Rattle.locus_ids.specs.declared.ids.EpochId.{EpochId}
@@ -29,16 +31,15 @@ use Rattle.tree_laws.specs.Packets.{file_in}
 use Rattle.tree_laws.specs.Printed.{entries}
 use Rattle.tree_laws.specs.Tables.{FileFact, FilesFact, HasReported, HasVersion, IsAhead, IsNoted, ReportedFiles, TableFact, VersionFact, highest, known_stamps, row_stamp}
 use Rattle.tree_laws.proofs.Boots.{every_both}
-use Rattle.tree_laws.proofs.Names.{some_is, true_false}
 use Rattle.tree_laws.proofs.Owing.{InGroup, found_every, in_group}
 use Rattle.tree_laws.proofs.Rows.{followed_rows}
-use Rattle.order_laws.proofs.Started.{open_started}
-use Rattle.holding_laws.specs.Held.{SitesHold}
-use Rattle.holding_laws.proofs.Below.{packs_hold}
-use Rattle.holding_laws.proofs.Holding.{known_or_ahead, sites_hold}
-use Rattle.holding_laws.proofs.OneVersionAscending.{known_ascends}
-use Rattle.store_laws.proofs.Tabled.{row_among}
-use Rattle.sync_laws.proofs.Rows.{every_among, row_every, row_key_is}
+use Rattle.one_tree_laws.proofs.of_order_laws.Started.{open_started}
+use Rattle.one_tree_laws.specs.of_holding_laws.Held.{SitesHold}
+use Rattle.one_tree_laws.proofs.of_holding_laws.Below.{packs_hold}
+use Rattle.one_tree_laws.proofs.of_holding_laws.Holding.{known_or_ahead, sites_hold}
+use Rattle.one_tree_laws.proofs.of_holding_laws.OneVersionAscending.{known_ascends}
+use Rattle.one_tree_laws.proofs.of_store_laws.Tabled.{row_among}
+use Rattle.one_tree_laws.proofs.of_sync_laws.Rows.{every_among, row_every, row_key_is}
 use Rattle.one_tree_laws.specs.Rest.{Past}
 use Rattle.one_tree_laws.proofs.Staying.{rest_below}
 use Rattle.one_tree_laws.proofs.ToldVectorOnly.{row_stands, stands_low}
@@ -165,4 +166,4 @@ module _ (c : Config) (trace : List Line) (f : Frame) (t : SyncTable) (past : Pa
   }
     where
       noted : (ino : ℕ) (r : FileRow) → file_row t ino ≡ Some r → (site : ℕ) (stamp : Stamp) → (q : FileRow) × (file_row t r.ino ≡ Some q) × IsNoted q site stamp → IsNoted r site stamp
-      noted ino r found site stamp k = subst (λ (q : FileRow). IsNoted q site stamp) (some_is k.0 r (sym k.1 ∙ (ap (file_row t) (row_key_is row_ino ino t.files r found) ∙ found))) k.2
+      noted ino r found site stamp k = subst (λ (q : FileRow). IsNoted q site stamp) (some_same k.0 r (sym k.1 ∙ (ap (file_row t) (row_key_is row_ino ino t.files r found) ∙ found))) k.2

@@ -3,10 +3,14 @@
 use Rattle.std.proofs.Common.{◌≡◌, ℕ, zero, suc, ◌+◌, ◌≤◌, ◌<◌, ◌==◌, Bool, true, false, ◌&&◌, ◌||◌, cond, List, [], ◌∷◌, filter, Option, Some, None, refl, sym, ◌∙◌, ap, subst, ◌⊎◌, inl, inr, arith}
 use Rattle.std.proofs.lemmas.Bool.Decides.{nat_tests}
 use Rattle.std.specs.List.{list_all}
+use Rattle.role_steps.proofs.of_plain_facts.Numbers.{equal}
+use Rattle.role_steps.proofs.of_plain_facts.Options.{some_same}
+use Rattle.role_steps.proofs.of_plain_facts.Tests.{and_first, and_second, and_true, true_false}
 use Rattle.locus_ids.specs.Sites.{has}
 use Rattle.locus_ids.specs.declared.config.Config.{Config}
 use Rattle.locus_ids.specs.declared.ids.EpochId.{EpochId}
 use Rattle.locus_ids.specs.declared.sites.Members.{Members}
+use Rattle.locus_ids.specs.Sizes.{sites_max}
 use Rattle.commit_graph.specs.Vectors.{numbers_from}
 use Rattle.trace_book.specs.Same.{same_epoch}
 use Rattle.trace_book.specs.declared.record.Record.{Record}
@@ -21,18 +25,17 @@ use Rattle.tree_model.specs.Epochs.{has_joined, members_of}
 use Rattle.tree_model.specs.Folds.{Trace}
 use Rattle.tree_model.specs.Packs.{has_pack}
 use Rattle.tree_model.specs.Packs as tree
-use Rattle.vector_laws.specs.HistoryCommits.{IsSite}
+use Rattle.one_tree_laws.specs.of_vector_laws.HistoryCommits.{IsSite}
 use Rattle.tree_laws.specs.Doing.{FrameFact}
 use Rattle.tree_laws.specs.Following.{IsFollowed, MayTell}
 use Rattle.tree_laws.specs.Packets.{IsReporter}
 use Rattle.tree_laws.specs.Printed.{entries, onto_entries}
 use Rattle.tree_laws.specs.Tables.{HasReported}
-use Rattle.tree_laws.proofs.Names.{same_epoch_eq, some_is, test_same, true_false}
+use Rattle.tree_laws.proofs.Names.{same_epoch_eq}
 use Rattle.tree_laws.proofs.Rows.{followed_rows}
-use Rattle.order_laws.proofs.Alone.{first_of, second_of}
-use Rattle.order_laws.proofs.Joining.{boot_low, is_place}
+use Rattle.one_tree_laws.proofs.of_order_laws.Joining.{boot_low, is_place}
 use Rattle.one_tree_laws.specs.Rest.{EachRest, Past, RangeTold}
-use Rattle.rest_laws.proofs.EpochTreeStarting.{both, member_same}
+use Rattle.rest_laws.proofs.EpochTreeStarting.{member_same}
 
 -- ---- who has joined ----
 
@@ -59,14 +62,14 @@ module _ (c : Config) (older : List Line) (n : ℕ) (followed : IsFollowed c old
         where
           over : (members_of (entries older) d ≡ None) ⊎ (members_of (entries older) d ≡ Some m) → tree.is_member m s ≡ true
           over (inl none) = absurd (no_members k.members (sym none ∙ subst (λ (y : EpochId). members_of (entries older) y ≡ Some k.members) (sym (same_epoch_eq d e q)) k.are))
-          over (inr is) = subst (λ (y : Members). tree.is_member y s ≡ true) (some_is k.members m (sym (subst (λ (y : EpochId). members_of (entries older) y ≡ Some k.members) (sym (same_epoch_eq d e q)) k.are) ∙ is)) k.is_member
+          over (inr is) = subst (λ (y : Members). tree.is_member y s ≡ true) (some_same k.members m (sym (subst (λ (y : EpochId). members_of (entries older) y ≡ Some k.members) (sym (same_epoch_eq d e q)) k.are) ∙ is)) k.is_member
 
       at : (a : Bool) → (z == s) ≡ a → (b : Bool) → same_epoch d e ≡ b → (a && b) || has_joined (entries older) s e ≡ true → Joined (entries (record { number = n; told = Shown (says.Join z d m) } ∷ older)) s e
       at true p true q h = record {
-        site = subst IsSite (test_same z s p) range;
+        site = subst IsSite (equal z s p) range;
         members = m;
         are = ap (λ (b : Bool). cond b (Some m) (members_of (entries older) e)) q;
-        is_member = subst (λ (y : ℕ). tree.is_member m y ≡ true) (test_same z s p) (is_place _ m z may.row.member (boot_low c (entries older) (followed_rows c older followed) z));
+        is_member = subst (λ (y : ℕ). tree.is_member m y ≡ true) (equal z s p) (is_place _ m z may.row.member (boot_low c (entries older) (followed_rows c older followed) z));
       }
       at true p false q h = other (says.Join z d m) (ap (λ (b : Bool). cond b (Some m) (members_of (entries older) e)) q) (before h)
       at false p true q h = again q (before h)
@@ -91,7 +94,7 @@ among_numbers k (suc n) s low high = at (k == s) refl (λ l h. among_numbers (k 
     above a z le ne = grind (arith, nat_tests)
 
     at : (b : Bool) → (k == s) ≡ b → (k + 1 ≤ s → s < (k + 1) + n → Among s (numbers_from (k + 1) n)) → (s ≡ k) ⊎ Among s (numbers_from (k + 1) n)
-    at true e later = inl (sym (test_same k s e))
+    at true e later = inl (sym (equal k s e))
     at false e later = inr (later (above k s low e) (omega (arith, high)))
 
 -- each that passes the filter passes the test of those that are left
@@ -100,23 +103,23 @@ left_passes p q [] x m k e = absurd m
 left_passes p q (y ∷ ys) x m k e = at (q y) refl k m (left_passes p q ys x)
   where
     at : (b : Bool) → q y ≡ b → list_all p (cond b (y ∷ filter q ys) (filter q ys)) ≡ true → (x ≡ y) ⊎ Among x ys → (Among x ys → list_all p (filter q ys) ≡ true → q x ≡ true → p x ≡ true) → p x ≡ true
-    at true h k (inl s) later = subst (λ (z : ℕ). p z ≡ true) (sym s) (first_of (p y) _ k)
-    at true h k (inr m) later = later m (second_of (p y) _ k) e
+    at true h k (inl s) later = subst (λ (z : ℕ). p z ≡ true) (sym s) (and_first (p y) _ k)
+    at true h k (inr m) later = later m (and_second (p y) _ k) e
     at false h k (inl s) later = absurd (true_false (sym (subst (λ (z : ℕ). q z ≡ true) s e) ∙ h))
     at false h k (inr m) later = later m k e
 
 pub reporter_counts : (c : Config) (trace : List Line) (f : Frame) (s : ℕ) (t : SyncTable) → Past c trace → FrameFact c trace f → IsReporter c trace f.epoch s t.group → have_all_reported f t ≡ true → HasReported t s
 reporter_counts c trace f s t past frame k all = (
   j.site.low,
-  left_passes (has t.reported) (λ (y : ℕ). has (pack_sites f.config t.group) y && role.is_member f.members y) role.all_sites s (among_numbers 1 16 s j.site.low (below s j.site.high)) all
-      (both (has (pack_sites f.config t.group) s) (role.is_member f.members s) (ap (λ (y : Config). has (pack_sites y t.group) s) frame.config_is ∙ k.packed)
-      (member_same f.members s ∙ subst (λ (m : Members). tree.is_member m s ≡ true) (some_is j.members f.members (sym j.are ∙ frame.members_are)) j.is_member)),
+  left_passes (has t.reported) (λ (y : ℕ). has (pack_sites f.config t.group) y && role.is_member f.members y) role.all_sites s (among_numbers 1 sites_max s j.site.low (below s j.site.high)) all
+      (and_true (has (pack_sites f.config t.group) s) (role.is_member f.members s) (ap (λ (y : Config). has (pack_sites y t.group) s) frame.config_is ∙ k.packed)
+      (member_same f.members s ∙ subst (λ (m : Members). tree.is_member m s ≡ true) (some_same j.members f.members (sym j.are ∙ frame.members_are)) j.is_member)),
 )
   where
     j : Joined (entries trace) s f.epoch
     j = joined_as c trace past.followed past.rest.each s f.epoch k.joined
 
-    below : (a : ℕ) → a ≤ 16 → a < 1 + 16
+    below : (a : ℕ) → a ≤ sites_max → a < 1 + sites_max
     below a h = omega (arith, h)
 
 pub reporter_low : (c : Config) (trace : List Line) (e : EpochId) (s g : ℕ) → Past c trace → IsReporter c trace e s g → 1 ≤ s

@@ -1,5 +1,8 @@
 -- With the report of a member its copies are noted: each is found with the member as its holder, and who was noted before is still.
 use Rattle.std.proofs.Common.{◌≡◌, ℕ, ◌≤◌, ◌==◌, ◌||◌, Bool, true, false, List, [], ◌∷◌, Option, Some, None, refl, sym, ◌∙◌, ap, subst, ◌⊎◌, inl, inr}
+use Rattle.role_steps.proofs.of_plain_facts.Numbers.{equal, equal_self}
+use Rattle.role_steps.proofs.of_plain_facts.Options.{none_some, some_same}
+use Rattle.role_steps.proofs.of_plain_facts.Tests.{or_either}
 use Rattle.locus_ids.specs.Sites.{has, with_site}
 use Rattle.locus_ids.specs.declared.config.Config.{Config}
 use Rattle.locus_ids.specs.declared.ids.Stamp.{Stamp}
@@ -25,29 +28,24 @@ use Rattle.tree_laws.specs.Packets.{ReportedNow, ReportsNow, file_in}
 use Rattle.tree_laws.specs.Printed.{entries}
 use Rattle.tree_laws.specs.Tables.{HasReported, HoldsJust, IsNoted, ReportedFiles}
 use Rattle.tree_laws.proofs.Boots.{every_both}
-use Rattle.tree_laws.proofs.Names.{some_is, test_own, test_same}
-use Rattle.sync_laws.proofs.Rows.{every_among, row_every, row_key_is}
+use Rattle.one_tree_laws.proofs.of_sync_laws.Rows.{every_among, row_every, row_key_is}
 use Rattle.rest_laws.proofs.EpochTreeCounted.{report_is}
 
 -- ---- who has reported ----
 
-either : (a b : Bool) → a || b ≡ true → (a ≡ true) ⊎ (b ≡ true)
-either true b e = inl refl
-either false b e = inr e
-
 -- with one more
 with_one : (set : Sites) (from site : ℕ) → 1 ≤ from → 1 ≤ site → has (with_site set from) site ≡ true → (site ≡ from) ⊎ (has set site ≡ true)
-with_one set from site low mine e = over (either (has set site) (site == from) (sym (has-with set from site low mine) ∙ e))
+with_one set from site low mine e = over (or_either (has set site) (site == from) (sym (has-with set from site low mine) ∙ e))
   where
     over : (has set site ≡ true) ⊎ ((site == from) ≡ true) → (site ≡ from) ⊎ (has set site ≡ true)
     over (inl k) = inr k
-    over (inr k) = inl (test_same site from k)
+    over (inr k) = inl (equal site from k)
 
 with_old : (set : Sites) (from site : ℕ) → 1 ≤ from → 1 ≤ site → has set site ≡ true → has (with_site set from) site ≡ true
 with_old set from site low mine e = has-with set from site low mine ∙ ap (λ (b : Bool). b || site == from) e
 
 with_new : (set : Sites) (from : ℕ) → 1 ≤ from → has (with_site set from) from ≡ true
-with_new set from low = has-with set from from low low ∙ over (has set from) (from == from) (test_own from)
+with_new set from low = has-with set from from low low ∙ over (has set from) (from == from) (equal_self from)
   where
     over : (a b : Bool) → b ≡ true → a || b ≡ true
     over true b e = refl
@@ -55,15 +53,12 @@ with_new set from low = has-with set from from low low ∙ over (has set from) (
 
 -- ---- rows ----
 
-none_some : {A : Type 0} (x : A) → ◌≡◌ {A = Option A} None (Some x) → ⊥
-none_some x e = cc
-
 -- a key is another, or this one
 key_case : (P : Type 0) (a b : ℕ) → (a ≡ b → P) → ((a == b) ≡ false → P) → P
 key_case P a b same other = over (a == b) refl
   where
     over : (x : Bool) → (a == b) ≡ x → P
-    over true e = same (test_same a b e)
+    over true e = same (equal a b e)
     over false e = other e
 
 module _ (c : Config) (trace : List Line) (f : Frame) (g from : ℕ) where
@@ -119,7 +114,7 @@ module _ (c : Config) (trace : List Line) (f : Frame) (g from : ℕ) where
               mine is = (
                 record { site = from; stamp = x.stamp },
                 subst (λ (i : ℕ). row holding_site i (with_row holding_site (record { site = from; stamp = x.stamp }) k.0.holders) ≡ Some (record { site = from; stamp = x.stamp })) is (row_same holding_site (record { site = from; stamp = x.stamp }) k.0.holders),
-                some_is x.stamp stamp (sym (told_holds x told) ∙ (ap (λ (i : ℕ). held_in c (entries trace) f.epoch i (file_in g x.ino)) is ∙ (ap (λ (i : ℕ). held_in c (entries trace) f.epoch s (file_in g i)) e ∙ has))),
+                some_same x.stamp stamp (sym (told_holds x told) ∙ (ap (λ (i : ℕ). held_in c (entries trace) f.epoch i (file_in g x.ino)) is ∙ (ap (λ (i : ℕ). held_in c (entries trace) f.epoch s (file_in g i)) e ∙ has))),
               )
 
               theirs : (from == s) ≡ false → IsNoted (counted x (Some k.0)) s stamp
@@ -130,7 +125,7 @@ module _ (c : Config) (trace : List Line) (f : Frame) (g from : ℕ) where
           at (Some r) q = (
             counted x (Some r),
             subst (λ (i : ℕ). file_row (with_file (counted x (Some r)) u) i ≡ Some (counted x (Some r))) e (found_there x u (Some r) q),
-            subst (λ (w : FileRow). IsNoted (counted x (Some w)) s stamp) (some_is k.0 r (sym found ∙ q)) still,
+            subst (λ (w : FileRow). IsNoted (counted x (Some w)) s stamp) (some_same k.0 r (sym found ∙ q)) still,
           )
 
   all_stay : (xs : List ReportedCopy) → Every Told xs → (u : SyncTable) (s ino : ℕ) (stamp : Stamp) → Has s ino stamp → Noted u s ino stamp → Noted (with_all_reported from xs u) s ino stamp
@@ -224,5 +219,5 @@ report_files c trace f from xs t low k told = subst (ReportedFiles c trace f) (s
             (subst (λ (w : Stamp). Noted c trace f t.group from (with_all_reported from xs start) from x.0.ino w) stamp_is (each_noted c trace f t.group from xs told.each x.0 x.1 start)))
           where
             stamp_is : x.0.stamp ≡ stamp
-            stamp_is = some_is x.0.stamp stamp (sym (told_holds c trace f t.group from x.0 (every_among (λ (y : ReportedCopy). ReportedNow c trace f.epoch from t.group y) xs x.0 told.each x.1))
+            stamp_is = some_same x.0.stamp stamp (sym (told_holds c trace f t.group from x.0 (every_among (λ (y : ReportedCopy). ReportedNow c trace f.epoch from t.group y) xs x.0 told.each x.1))
                 ∙ (ap (λ (i : ℕ). held_in c (entries trace) f.epoch from (file_in t.group i)) x.2 ∙ subst (λ (s : ℕ). held_in c (entries trace) f.epoch s (file_in t.group ino) ≡ Some stamp) e has))

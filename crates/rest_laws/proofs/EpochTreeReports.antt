@@ -2,9 +2,13 @@
 use Rattle.std.proofs.Common.{◌≡◌, ℕ, ◌==◌, ◌<◌, Bool, true, false, cond, List, [], ◌∷◌, Option, Some, None, refl, sym, ◌∙◌, ap, subst, arith, inl, inr}
 use Rattle.std.specs.List.{AllByRecursion}
 use Rattle.std.specs.Option.{option_map}
+use Rattle.role_steps.proofs.of_plain_facts.Numbers.{equal, equal_self}
+use Rattle.role_steps.proofs.of_plain_facts.Options.{none_some, some_same}
+use Rattle.role_steps.proofs.of_plain_facts.Tests.{true_false}
 use Rattle.locus_ids.specs.declared.config.Config.{Config}
 use Rattle.locus_ids.specs.declared.ids.FileId.{FileId}
 use Rattle.locus_ids.specs.declared.ids.Stamp.{Stamp}
+use Rattle.locus_ids.specs.Sizes.{inode_span}
 use Rattle.wire_messages.specs.declared.body.Body.TheVariants as body
 use Rattle.wire_messages.specs.declared.body.ReportedCopy.{ReportedCopy}
 use Rattle.role_steps.specs.Epochs.{all_reports, report_packets}
@@ -23,16 +27,15 @@ use Rattle.tree_laws.specs.Instances.{held_in}
 use Rattle.tree_laws.specs.Packets.{PacketFact, ReportedNow, ReportsNow, file_in}
 use Rattle.tree_laws.specs.Printed.{entries}
 use Rattle.tree_laws.specs.Stores.{Ascends, CopiesAreHeld, copy_for}
-use Rattle.tree_laws.proofs.Names.{some_is, test_own, test_same, true_false}
 use Rattle.tree_laws.proofs.Rows.{followed_rows}
-use Rattle.holding_laws.specs.Below.{LawsBelow}
-use Rattle.holding_laws.specs.Held.{SitesHold}
-use Rattle.holding_laws.proofs.Below.{packs_hold}
-use Rattle.holding_laws.proofs.Copies.{epoch_joined, none_some}
-use Rattle.holding_laws.proofs.Holding.{sites_hold}
-use Rattle.holding_laws.proofs.Made.{held_stand}
-use Rattle.holding_laws.proofs.RoomStoreCopies.{copies_narrow}
-use Rattle.store_laws.proofs.Tabled.{row_among}
+use Rattle.one_tree_laws.specs.of_holding_laws.Below.{LawsBelow}
+use Rattle.one_tree_laws.specs.of_holding_laws.Held.{SitesHold}
+use Rattle.one_tree_laws.proofs.of_holding_laws.Below.{packs_hold}
+use Rattle.one_tree_laws.proofs.of_holding_laws.Copies.{epoch_joined}
+use Rattle.one_tree_laws.proofs.of_holding_laws.Holding.{sites_hold}
+use Rattle.one_tree_laws.proofs.of_holding_laws.Made.{held_stand}
+use Rattle.one_tree_laws.proofs.of_holding_laws.RoomStoreCopies.{copies_narrow}
+use Rattle.one_tree_laws.proofs.of_store_laws.Tabled.{row_among}
 use Rattle.one_tree_laws.specs.Rest.{Past}
 use Rattle.one_tree_laws.proofs.Repeats.{every_flat}
 use Rattle.one_tree_laws.proofs.Staying.{rest_below}
@@ -52,11 +55,11 @@ IsFound xs x = row copy_key (copy_key x) xs ≡ Some x
 
 each_found : (xs : List FileCopy) → Ascends copy_key xs → AllByRecursion (IsFound xs) xs
 each_found [] k = tt
-each_found (y ∷ ys) k = (row_next (copy_key y) y ys true (test_own (copy_key y)), later ys k.0 (each_found ys k.1))
+each_found (y ∷ ys) k = (row_next (copy_key y) y ys true (equal_self (copy_key y)), later ys k.0 (each_found ys k.1))
   where
     above : (a b : ℕ) → a < b → (x : Bool) → (a == b) ≡ x → x ≡ false
     above a b p false e = refl
-    above a b p true e = (let q : a ≡ b = test_same a b e in absurd (omega (arith, p, q)))
+    above a b p true e = (let q : a ≡ b = equal a b e in absurd (omega (arith, p, q)))
 
     later : (zs : List FileCopy) → Every (λ (z : FileCopy). copy_key y < copy_key z) zs → AllByRecursion (IsFound ys) zs → AllByRecursion (IsFound (y ∷ ys)) zs
     later [] p q = tt
@@ -71,7 +74,7 @@ reported_among g x (y ∷ ys) (inl e) p = at (y.file.group == g) refl
   where
     at : (b : Bool) → (y.file.group == g) ≡ b → Among (reported x) (cond b (reported y ∷ report_of g ys) (report_of g ys))
     at true q = inl (ap reported e)
-    at false q = absurd (true_false (sym (subst (λ (n : ℕ). (n == g) ≡ true) (sym p ∙ ap (λ (z : FileCopy). z.file.group) e) (test_own g)) ∙ q))
+    at false q = absurd (true_false (sym (subst (λ (n : ℕ). (n == g) ≡ true) (sym p ∙ ap (λ (z : FileCopy). z.file.group) e) (equal_self g)) ∙ q))
 reported_among g x (y ∷ ys) (inr a) p = at (y.file.group == g) (reported_among g x ys a p)
   where
     at : (b : Bool) → Among (reported x) (report_of g ys) → Among (reported x) (cond b (reported y ∷ report_of g ys) (report_of g ys))
@@ -89,7 +92,7 @@ module _ (c : Config) (trace : List Line) (f : Frame) (s : Store) (past : Past c
   Tells g x = ReportedNow c trace f.epoch f.me g x
 
   -- a copy on the disk is what the site has
-  copy_told : (x : FileCopy) → IsFound s.copies x → x.file.ino < 65536 → Tells x.file.group (reported x)
+  copy_told : (x : FileCopy) → IsFound s.copies x → x.file.ino < inode_span → Tells x.file.group (reported x)
   copy_told x found small = over (held c (entries trace) f.me x.file) refl (copies.are x.file small)
     where
       over : (o : Option Stamp) → held c (entries trace) f.me x.file ≡ o → copy_of s x.file ≡ option_map (copy_for x.file) (option_map (version_of c (entries trace) x.file) o) → Tells x.file.group (reported x)
@@ -98,18 +101,18 @@ module _ (c : Config) (trace : List Line) (f : Frame) (s : Store) (past : Past c
         version = version_of c (entries trace) x.file stamp;
         is_version = record { stands = held_stand c (entries trace) (followed_rows c trace past.followed) f.epoch x.file f.me stamp now; same = refl };
         held = now;
-        same = ap reported (sym (some_is (copy_for x.file (version_of c (entries trace) x.file stamp)) x (sym k ∙ found)));
+        same = ap reported (sym (some_same (copy_for x.file (version_of c (entries trace) x.file stamp)) x (sym k ∙ found)));
       }
         where
           now : held_in c (entries trace) f.epoch f.me x.file ≡ Some stamp
           now = sites.now f.epoch f.me x.file frame.inside ∙ e
 
-  copies_told : (g : ℕ) (xs : List FileCopy) → AllByRecursion (IsFound s.copies) xs → AllByRecursion (λ (x : FileCopy). x.file.ino < 65536) xs → Every (Tells g) (report_of g xs)
+  copies_told : (g : ℕ) (xs : List FileCopy) → AllByRecursion (IsFound s.copies) xs → AllByRecursion (λ (x : FileCopy). x.file.ino < inode_span) xs → Every (Tells g) (report_of g xs)
   copies_told g [] a b = tt
   copies_told g (x ∷ xs) a b = at (x.file.group == g) refl (copies_told g xs a.1 b.1)
     where
       at : (t : Bool) → (x.file.group == g) ≡ t → Every (Tells g) (report_of g xs) → Every (Tells g) (cond t (reported x ∷ report_of g xs) (report_of g xs))
-      at true e later = (subst (λ (n : ℕ). Tells n (reported x)) (test_same x.file.group g e) (copy_told x a.0 b.0), later)
+      at true e later = (subst (λ (n : ℕ). Tells n (reported x)) (equal x.file.group g e) (copy_told x a.0 b.0), later)
       at false e later = later
 
   -- what the site has is on its disk
@@ -122,7 +125,7 @@ module _ (c : Config) (trace : List Line) (f : Frame) (s : Store) (past : Past c
       it : FileCopy
       it = copy_for (file_in g ino) (version_of c (entries trace) (file_in g ino) stamp)
 
-      small : ino < 65536
+      small : ino < inode_span
       small = stands_narrow c (file_in g ino) stamp trace past.rest.each (held_stand c (entries trace) (followed_rows c trace past.followed) f.epoch (file_in g ino) f.me stamp k)
 
       holds : held c (entries trace) f.me (file_in g ino) ≡ Some stamp

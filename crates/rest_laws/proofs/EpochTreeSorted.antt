@@ -3,6 +3,8 @@
 use Rattle.std.proofs.Common.{◌≡◌, ℕ, ◌+◌, ◌*◌, ◌==◌, ◌<◌, nat_lt, Bool, true, false, ◌&&◌, ◌||◌, cond, List, [], ◌∷◌, ◌++◌, filter, map, refl, sym, ◌∙◌, ap, subst, ◌⊎◌, inl, inr, arith}
 use Rattle.std.proofs.lemmas.Bool.Decides.{nat_tests}
 use Rattle.std.specs.List.{AllByRecursion, flat_map}
+use Rattle.role_steps.proofs.of_plain_facts.Numbers.{equal, equal_self}
+use Rattle.role_steps.proofs.of_plain_facts.Tests.{true_false}
 use Rattle.locus_ids.specs.declared.ids.Brought.{Brought}
 use Rattle.locus_ids.specs.declared.ids.Stamp.{Stamp}
 use Rattle.commit_graph.specs.Versions.{is_stamp_below, same_stamp}
@@ -15,9 +17,8 @@ use Rattle.the_run.specs.Kept.{Among}
 use Rattle.tree_model.specs.State.{has_stamp, is_brought_below, stamps_of}
 use Rattle.tree_laws.specs.Stores.{Ascends as KeysAscend}
 use Rattle.tree_laws.specs.Tables.{AreRising}
-use Rattle.tree_laws.proofs.Names.{test_own, test_same, true_false}
-use Rattle.order_laws.proofs.Standing.{same_stamp_eq}
-use Rattle.holding_laws.proofs.OneVersionAscending.{Ascends}
+use Rattle.one_tree_laws.proofs.of_order_laws.Standing.{same_stamp_eq}
+use Rattle.one_tree_laws.proofs.of_holding_laws.OneVersionAscending.{Ascends}
 
 -- ---- elements of lists ----
 
@@ -91,7 +92,7 @@ stamp_among (b ∷ bs) ino s e = at (b.ino == ino) refl e (stamp_among bs ino s)
     first false q p e later = inr (later e)
 
     at : (x : Bool) → (b.ino == ino) ≡ x → has_stamp (map (λ (y : Brought). y.stamp) (cond x (b ∷ filter (λ (y : Brought). y.ino == ino) bs) (filter (λ (y : Brought). y.ino == ino) bs))) s ≡ true → (has_stamp (stamps_of bs ino) s ≡ true → Among (record { ino = ino; stamp = s }) bs) → (record { ino = ino; stamp = s } ≡ b) ⊎ Among (record { ino = ino; stamp = s }) bs
-    at true p e later = first (same_stamp b.stamp s) refl (test_same b.ino ino p) e later
+    at true p e later = first (same_stamp b.stamp s) refl (equal b.ino ino p) e later
     at false p e later = inr (later e)
 
 -- ---- in order ----
@@ -120,7 +121,7 @@ stamps_below s z n m low high e = at (nat_lt s z) refl (s == z) refl (nat_lt n m
     at : (x : Bool) → nat_lt s z ≡ x → (y : Bool) → (s == z) ≡ y → (w : Bool) → nat_lt n m ≡ w → x || (y && w) ≡ true
     at true p y q w r = refl
     at false p true q true r = refl
-    at false p true q false r = (let same : s ≡ z = test_same s z q in absurd (not_lt n m r (omega (arith, same, e))))
+    at false p true q false r = (let same : s ≡ z = equal s z q in absurd (not_lt n m r (omega (arith, same, e))))
     at false p false q w r = absurd (over p q)
       where
         over : nat_lt s z ≡ false → (s == z) ≡ false → ⊥
@@ -137,7 +138,7 @@ row_ascends ino [] k low = tt
 row_ascends ino (v ∷ vs) k low = (above vs k.0 low.1, row_ascends ino vs k.1 low.1)
   where
     one : (w : VersionRow) → version_key v < version_key w → IsLow w → is_brought_below (brought_of ino v) (brought_of ino w) ≡ true
-    one w e l = at (nat_lt ino ino) (ino == ino) (test_own ino) (stamps_below v.stamp.site w.stamp.site v.stamp.n w.stamp.n low.0 l e)
+    one w e l = at (nat_lt ino ino) (ino == ino) (equal_self ino) (stamps_below v.stamp.site w.stamp.site v.stamp.n w.stamp.n low.0 l e)
       where
         at : (a b : Bool) → b ≡ true → is_stamp_below v.stamp w.stamp ≡ true → a || (b && is_stamp_below v.stamp w.stamp) ≡ true
         at true b p q = refl

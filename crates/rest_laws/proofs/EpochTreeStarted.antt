@@ -1,6 +1,9 @@
 -- What stands of a group in an epoch stands only once the group has started: opens, looks, instances, and mends that failed.
 use Rattle.std.proofs.Common.{◌≡◌, ℕ, ◌==◌, Bool, true, false, ◌||◌, cond, List, [], ◌∷◌, filter, map, Option, Some, None, refl, sym, ap, ◌∙◌, subst, inl, inr}
 use Rattle.std.specs.List.{AllByRecursion}
+use Rattle.role_steps.proofs.of_plain_facts.Numbers.{equal}
+use Rattle.role_steps.proofs.of_plain_facts.Options.{none_some, some_same}
+use Rattle.role_steps.proofs.of_plain_facts.Tests.{and_first, and_second, true_false}
 use Rattle.locus_ids.specs.declared.config.Config.{Config}
 use Rattle.locus_ids.specs.declared.ids.CallId.{CallId}
 use Rattle.locus_ids.specs.declared.ids.EpochId.{EpochId}
@@ -29,11 +32,10 @@ use Rattle.tree_laws.specs.Past.{BeginsIt, NamesHere, Printed, WasBegun, WasName
 use Rattle.tree_laws.specs.Printed.{entries}
 use Rattle.tree_laws.specs.Tables.{Turn, is_look_of, last_turn, turn_record, turn_told, named_instance, tree_openers}
 use Rattle.tree_laws.proofs.Kinship.{started_stays}
-use Rattle.tree_laws.proofs.Names.{same_epoch_eq, some_is, test_same, true_false}
-use Rattle.order_laws.proofs.Alone.{first_of, second_of}
-use Rattle.order_laws.proofs.Standing.{same_file_eq}
-use Rattle.order_laws.proofs.Started.{rows_started}
-use Rattle.holding_laws.proofs.Copies.{epoch_joined, joined_more, none_some}
+use Rattle.tree_laws.proofs.Names.{same_epoch_eq}
+use Rattle.one_tree_laws.proofs.of_order_laws.Standing.{same_file_eq}
+use Rattle.one_tree_laws.proofs.of_order_laws.Started.{rows_started}
+use Rattle.one_tree_laws.proofs.of_holding_laws.Copies.{epoch_joined, joined_more}
 
 module _ (c : Config) (e : EpochId) (g : ℕ) where
   started_at : (older : List Line) (at : EpochId) (k : ℕ) → at ≡ e → k ≡ g → (tree_of c at k (entries older)).started ≡ true → IsStarted c older e g
@@ -42,8 +44,8 @@ module _ (c : Config) (e : EpochId) (g : ℕ) where
   -- ---- opens ----
 
   names_record : (i : Serial) (older : List Line) (r : Record) → MayPrint c older r → NamesHere e g i older r → IsStarted c older e g
-  names_record i older (says.Grant at call number inst mode file on place) may h = started_at older at file.group h.0.epoch_is h.1 (first_of (tree_of c at file.group (entries older)).started _ may.row.gives)
-  names_record i older (says.Refuse at call number inst mode file why) may h = started_at older at file.group h.0.epoch_is h.1 (first_of (tree_of c at file.group (entries older)).started _ may.row.gives)
+  names_record i older (says.Grant at call number inst mode file on place) may h = started_at older at file.group h.0.epoch_is h.1 (and_first (tree_of c at file.group (entries older)).started _ may.row.gives)
+  names_record i older (says.Refuse at call number inst mode file why) may h = started_at older at file.group h.0.epoch_is h.1 (and_first (tree_of c at file.group (entries older)).started _ may.row.gives)
   names_record i older _ may h = absurd h
 
   names_told : (i : Serial) (older : List Line) (x : Told) → MayTell c older x → Printed (NamesHere e g i) older x → IsStarted c older e g
@@ -60,15 +62,15 @@ module _ (c : Config) (e : EpochId) (g : ℕ) where
   look_is : (older : List Line) (us process : ℕ) (at : EpochId) (d : CallId) (f : FileId) (o : Option Waiting) → is_look_of older e g us at d f o process ≡ true → (at ≡ e) × (f.group ≡ g)
   look_is older us process at d f None k = absurd (true_false (sym k))
   look_is older us process at d f (Some w) k = (
-    same_epoch_eq at e (first_of (same_epoch at e) _ k),
-    test_same f.group g (first_of (f.group == g) _ (second_of (same_epoch at e) _ k)),
+    same_epoch_eq at e (and_first (same_epoch at e) _ k),
+    equal f.group g (and_first (f.group == g) _ (and_second (same_epoch at e) _ k)),
   )
 
   looks_record : (us process : ℕ) (older : List Line) (r : Record) (l : Turn) → MayPrint c older r → (last_turn older e g us process ≡ Some l → IsStarted c older e g) → turn_record older e g us process r (last_turn older e g us process) ≡ Some l → IsStarted c older e g
   looks_record us process older (says.Look at d request f w result) l may later k = over (is_look_of older e g us at d f (call_named (entries older) d) process) refl k
     where
       over : (b : Bool) → is_look_of older e g us at d f (call_named (entries older) d) process ≡ b → cond b (Some (record { call = d.n; request = request; times = tries older d })) (last_turn older e g us process) ≡ Some l → IsStarted c older e g
-      over true is k = (let w : (at ≡ e) × (f.group ≡ g) = look_is older us process at d f (call_named (entries older) d) is in started_at older at f.group w.0 w.1 (first_of (tree_of c at f.group (entries older)).started _ may.row.gives))
+      over true is k = (let w : (at ≡ e) × (f.group ≡ g) = look_is older us process at d f (call_named (entries older) d) is in started_at older at f.group w.0 w.1 (and_first (tree_of c at f.group (entries older)).started _ may.row.gives))
       over false is k = later k
   looks_record us process older _ l may later k = later k
 
@@ -103,7 +105,7 @@ module _ (c : Config) (e : EpochId) (g : ℕ) where
     mend_record older n (says.Accept s process call words) d w may later k is mends = over (same_call call d) k
       where
         over : (b : Bool) → cond b (Some (accepted_as (entries older) s process call words)) (call_named (entries older) d) ≡ Some w → IsStarted c older e g
-        over true k = (let same : accepted_as (entries older) s process call words ≡ w = some_is (accepted_as (entries older) s process call words) w k in
+        over true k = (let same : accepted_as (entries older) s process call words ≡ w = some_same (accepted_as (entries older) s process call words) w k in
             mend_row older s process call words may.row (subst (λ (x : Waiting). is_in x.epoch e ≡ true) (sym same) is) (subst (λ (x : Waiting). is_mend_of f x.words ≡ true) (sym same) mends))
         over false k = later k
     mend_record older n _ d w may later k is mends = later k
@@ -117,7 +119,7 @@ module _ (c : Config) (e : EpochId) (g : ℕ) where
         told _ may later k = later k
 
     lost_is : (t : List Line) → IsFollowed c t → (d : CallId) (r : Reply) (o : Option Waiting) → call_named (entries t) d ≡ o → is_lost_mend e f r o ≡ true → IsStarted c t e g
-    lost_is t h d (reply.No why) (Some w) named k = mend_started t h d w named (first_of (is_in w.epoch e) _ (second_of (ends_mending why) _ k)) (second_of (is_in w.epoch e) _ (second_of (ends_mending why) _ k))
+    lost_is t h d (reply.No why) (Some w) named k = mend_started t h d w named (and_first (is_in w.epoch e) _ (and_second (ends_mending why) _ k)) (and_second (is_in w.epoch e) _ (and_second (ends_mending why) _ k))
     lost_is t h d (reply.No why) None named k = absurd (true_false (sym k))
     lost_is t h d _ o named k = absurd (true_false (sym k))
 

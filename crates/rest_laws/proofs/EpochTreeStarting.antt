@@ -3,11 +3,14 @@ use Rattle.std.proofs.Common.{◌≡◌, ℕ, zero, suc, ◌+◌, ◌≤◌, ◌
 use Rattle.std.specs.List.{flat_map, list_all}
 use Rattle.std.specs.Prelude.{get_or, nat_lt}
 use Rattle.std.proofs.lemmas.Bool.Decides.{nat_tests}
+use Rattle.role_steps.proofs.of_plain_facts.Numbers.{equal_self}
+use Rattle.role_steps.proofs.of_plain_facts.Tests.{and_first, and_second, and_true}
 use Rattle.locus_ids.specs.Sites.{has}
 use Rattle.locus_ids.specs.declared.config.Config.{Config}
 use Rattle.locus_ids.specs.declared.ids.Brought.{Brought}
 use Rattle.locus_ids.specs.declared.ids.EpochId.{EpochId}
 use Rattle.locus_ids.specs.declared.sites.Members.{Members}
+use Rattle.locus_ids.specs.Sizes.{sites_max}
 use Rattle.commit_graph.specs.Vectors.{numbers_from}
 use Rattle.trace_book.specs.Same.{same_epoch}
 use Rattle.trace_book.specs.declared.record.Record.TheVariants as says
@@ -36,16 +39,16 @@ use Rattle.tree_laws.specs.Printed.{entries}
 use Rattle.tree_laws.specs.Tables.{ExactFact, FileFact, FilesFact, IsAhead, IsNoted, ReportedFiles, RowFact, TableFact, WaitsIn, tree_openers}
 use Rattle.tree_laws.proofs.Boots.{every_both}
 use Rattle.tree_laws.proofs.Carried.{packet_stays}
-use Rattle.tree_laws.proofs.Names.{same_epoch_own, test_own}
+use Rattle.tree_laws.proofs.Names.{same_epoch_own}
 use Rattle.tree_laws.proofs.Versions.{versions_stay}
-use Rattle.order_laws.proofs.Alone.{first_of, second_of, tree_named}
-use Rattle.holding_laws.proofs.Copies.{epoch_joined}
-use Rattle.order_laws.proofs.ProcessSynchronizing.{sync_same}
-use Rattle.sync_laws.proofs.Ahead.{ahead_stays}
-use Rattle.sync_laws.proofs.Files.{file_row_stays}
-use Rattle.sync_laws.proofs.Notices.{repeats_fine}
-use Rattle.sync_laws.proofs.OpensStay.{names_stay, open_row_stays}
-use Rattle.sync_laws.proofs.Trees.{same_if}
+use Rattle.one_tree_laws.proofs.of_order_laws.Alone.{tree_named}
+use Rattle.one_tree_laws.proofs.of_holding_laws.Copies.{epoch_joined}
+use Rattle.one_tree_laws.proofs.of_order_laws.ProcessSynchronizing.{sync_same}
+use Rattle.one_tree_laws.proofs.of_sync_laws.Ahead.{ahead_stays}
+use Rattle.one_tree_laws.proofs.of_sync_laws.Files.{file_row_stays}
+use Rattle.one_tree_laws.proofs.of_sync_laws.Notices.{repeats_fine}
+use Rattle.one_tree_laws.proofs.of_sync_laws.OpensStay.{names_stay, open_row_stays}
+use Rattle.one_tree_laws.proofs.of_sync_laws.Trees.{same_if}
 use Rattle.one_tree_laws.specs.Rest.{AllRest, Comes, RestTold, more}
 use Rattle.one_tree_laws.specs.Roles.{Ready, TableHere}
 use Rattle.one_tree_laws.proofs.Staying.{stays}
@@ -55,16 +58,12 @@ use Rattle.rest_laws.proofs.EpochTreeBrought.{all_same, stamps_row}
 use Rattle.rest_laws.proofs.EpochTreeThen.{ready_onto, table_then}
 use Rattle.rest_laws.proofs.EpochTreeWaiting.{all_fine, waits_onto}
 
-pub both : (a b : Bool) → a ≡ true → b ≡ true → a && b ≡ true
-both true b x y = y
-both false b x y = x
-
 -- who passes the filter passes the test of all that are left
 passes_one : (p q : ℕ → Bool) (x : ℕ) (xs : List ℕ) → list_all p (filter q (x ∷ xs)) ≡ true → (q x ≡ true → p x ≡ true) × (list_all p (filter q xs) ≡ true)
 passes_one p q x xs k = at (q x) k
   where
     at : (b : Bool) → list_all p (cond b (x ∷ filter q xs) (filter q xs)) ≡ true → (b ≡ true → p x ≡ true) × (list_all p (filter q xs) ≡ true)
-    at true k = (λ e. first_of (p x) _ k, second_of (p x) _ k)
+    at true k = (λ e. and_first (p x) _ k, and_second (p x) _ k)
     at false k = (λ e. absurd cc, k)
 
 above_zero : (b : ℕ) → not (b == 0) ≡ nat_lt 0 b
@@ -109,24 +108,24 @@ module _ (c : Config) (n : ℕ) (trace : List Line) (f : Frame) (t : SyncTable) 
   told_files = subst (FilesFact c trace f t) waits here.fact.files
 
   member_is : (site : ℕ) → is_member_of (members_of (entries trace) f.epoch) site && has_pack c t.group site ≡ true → has (pack_sites f.config t.group) site && role.is_member f.members site ≡ true
-  member_is site k = both (has (pack_sites f.config t.group) site) (role.is_member f.members site)
-      (ap (λ (k : Config). has (pack_sites k t.group) site) ready.frame.config_is ∙ second_of (is_member_of (members_of (entries trace) f.epoch) site) _ k)
-      (member_same f.members site ∙ (sym (ap (λ (o : Option Members). is_member_of o site) ready.frame.members_are) ∙ first_of (is_member_of (members_of (entries trace) f.epoch) site) _ k))
+  member_is site k = and_true (has (pack_sites f.config t.group) site) (role.is_member f.members site)
+      (ap (λ (k : Config). has (pack_sites k t.group) site) ready.frame.config_is ∙ and_second (is_member_of (members_of (entries trace) f.epoch) site) _ k)
+      (member_same f.members site ∙ (sym (ap (λ (o : Option Members). is_member_of o site) ready.frame.members_are) ∙ and_first (is_member_of (members_of (entries trace) f.epoch) site) _ k))
 
   whole_of : (sites : List ℕ) → Every (λ (s : ℕ). 1 ≤ s) sites → list_all (has t.reported) (filter (λ (k : ℕ). has (pack_sites f.config t.group) k && role.is_member f.members k) sites) ≡ true →
       list_all (λ (site : ℕ). not (is_member_of (members_of (entries trace) f.epoch) site && has_pack c t.group site) || has_joined (entries trace) site f.epoch) sites ≡ true
   whole_of [] low k = refl
   whole_of (site ∷ sites) low k = (let w = passes_one (has t.reported) (λ (k : ℕ). has (pack_sites f.config t.group) k && role.is_member f.members k) site sites k in
-      both (not (is_member_of (members_of (entries trace) f.epoch) site && has_pack c t.group site) || has_joined (entries trace) site f.epoch) _
+      and_true (not (is_member_of (members_of (entries trace) f.epoch) site && has_pack c t.group site) || has_joined (entries trace) site f.epoch) _
       (or_so (is_member_of (members_of (entries trace) f.epoch) site && has_pack c t.group site) (has_joined (entries trace) site f.epoch) (λ m. told_files.joined site (low.0, w.0 (member_is site m)))) (whole_of sites low.1 w.1))
 
   whole : have_all_joined c (entries trace) f.epoch t.group ≡ true
-  whole = whole_of role.all_sites (numbers_low 1 16 (omega arith)) reported
+  whole = whole_of role.all_sites (numbers_low 1 sites_max (omega arith)) reported
 
   pub start_may : MayTell c trace x
   start_may = record {
     row = record {
-      gives = both (not s.started) _ (ap not (sym here.fact.started ∙ waits)) (subst (λ (bs : List Brought). same_all (flat_map brought_files t.files) bs ≡ true) files.known (all_same (flat_map brought_files t.files)));
+      gives = and_true (not s.started) _ (ap not (sym here.fact.started ∙ waits)) (subst (λ (bs : List Brought). same_all (flat_map brought_files t.files) bs ≡ true) files.known (all_same (flat_map brought_files t.files)));
       served = served;
       whole = whole;
     };
@@ -152,9 +151,9 @@ module _ (c : Config) (n : ℕ) (trace : List Line) (f : Frame) (t : SyncTable) 
       no e = cc
 
       is : same_epoch f.epoch s.epoch && (t.group == s.group) ≡ true
-      is = both (same_epoch f.epoch s.epoch) (t.group == s.group)
+      is = and_true (same_epoch f.epoch s.epoch) (t.group == s.group)
           (subst (λ (e : EpochId). same_epoch f.epoch e ≡ true) (sym (tree_named c f.epoch t.group (entries trace)).0) (same_epoch_own f.epoch))
-          (subst (λ (g : ℕ). (t.group == g) ≡ true) (sym (tree_named c f.epoch t.group (entries trace)).1) (test_own t.group))
+          (subst (λ (g : ℕ). (t.group == g) ≡ true) (sym (tree_named c f.epoch t.group (entries trace)).1) (equal_self t.group))
 
   same_field : {X : Type 0} (field : TreeState → X) → field (record s { started = true }) ≡ field s → field (tree_of c f.epoch t.group (entries now)) ≡ field s
   same_field field e = same_if field its (record s { started = true }) s (λ b. e)

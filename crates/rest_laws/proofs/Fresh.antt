@@ -1,6 +1,7 @@
 -- What is committed is a new version of its file: no stamp is given twice, and the format's has no number.
 use Rattle.std.proofs.Common.{◌≡◌, ℕ, ◌+◌, ◌-◌, Bool, true, cond, List, ◌∷◌, ◌⊎◌, inl, inr, sym, ◌∙◌, subst, arith}
 use Rattle.std.proofs.lemmas.Bool.Decides.{nat_tests}
+use Rattle.role_steps.proofs.of_plain_facts.Tests.{true_false}
 use Rattle.locus_ids.specs.declared.config.Config.{Config}
 use Rattle.locus_ids.specs.declared.ids.FileId.{FileId}
 use Rattle.locus_ids.specs.declared.ids.Stamp.{Stamp}
@@ -12,13 +13,12 @@ use Rattle.trace_book.specs.declared.record.Record.{Record}
 use Rattle.trace_book.specs.declared.record.Record.TheVariants as says
 use Rattle.role_steps.specs.Views.{Told, Shown}
 use Rattle.the_run.specs.Worlds.{Line}
-use Rattle.vector_laws.specs.Written.{IsNumbered, NumberedTold, past_of}
-use Rattle.vector_laws.specs.HistoryCommits.{StampsAreOnce, commits_of, real_parents}
+use Rattle.one_tree_laws.specs.of_vector_laws.Written.{IsNumbered, NumberedTold, past_of}
+use Rattle.one_tree_laws.specs.of_vector_laws.HistoryCommits.{StampsAreOnce, commits_of, real_parents}
 use Rattle.tree_model.specs.Histories.{history}
 use Rattle.tree_laws.specs.Frames.{IsFresh}
 use Rattle.tree_laws.specs.Printed.{entries}
-use Rattle.tree_laws.proofs.Names.{true_false}
-use Rattle.holding_laws.proofs.Below.{in_commits}
+use Rattle.one_tree_laws.proofs.of_holding_laws.Below.{in_commits}
 
 numbered_some : (older : List Told) (f : FileId) (s : ℕ) (stamp : Stamp) (parents : List Stamp) → IsNumbered older f s stamp parents → stamp.n ≡ 0 → ⊥
 numbered_some older f s stamp parents k e = never (part k.base (s - 1)) (sym e ∙ (k.number ∙ part-raised_same k.base (s - 1)))

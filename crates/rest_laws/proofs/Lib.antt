@@ -74,3 +74,13 @@ pub mod Staying
 pub mod Asked
 pub mod Roles
 pub mod Run
+pub use Rattle.one_tree_laws.proofs as of_one_tree_laws
+pub use Rattle.one_tree_laws.proofs.of_call_row_laws as of_call_row_laws
+pub use Rattle.one_tree_laws.proofs.of_holding_laws as of_holding_laws
+pub use Rattle.one_tree_laws.proofs.of_make_laws as of_make_laws
+pub use Rattle.one_tree_laws.proofs.of_pack_laws as of_pack_laws
+pub use Rattle.one_tree_laws.proofs.of_row_laws as of_row_laws
+pub use Rattle.one_tree_laws.proofs.of_run_laws as of_run_laws
+pub use Rattle.one_tree_laws.proofs.of_store_laws as of_store_laws
+pub use Rattle.one_tree_laws.proofs.of_vector_laws as of_vector_laws
+pub use Rattle.tree_laws.proofs as of_tree_laws

@@ -1,6 +1,8 @@
 -- A make that waits for its number is answered by its storage site: it is granted the number, or refused since none is left.
 use Rattle.std.proofs.Common.{◌≡◌, ℕ, ◌+◌, ◌==◌, Bool, true, false, not, ◌&&◌, cond, List, [], ◌∷◌, ◌++◌, length, Option, Some, None, refl, sym, ap, ◌∙◌, subst, ⊎_elim, inl, inr}
 use Rattle.std.specs.Option.{is_none, option_map}
+use Rattle.role_steps.proofs.of_plain_facts.Numbers.{equal, equal_self}
+use Rattle.role_steps.proofs.of_plain_facts.Tests.{and_second, and_true, true_false}
 use Rattle.locus_ids.specs.declared.config.Config.{Config}
 use Rattle.locus_ids.specs.declared.ids.CallId.{CallId}
 use Rattle.locus_ids.specs.declared.ids.EpochId.{EpochId}
@@ -53,35 +55,30 @@ use Rattle.tree_laws.proofs.CarriedLooks.{More, call_of_stays}
 use Rattle.tree_laws.proofs.CarriedVersions.{joins_stay}
 use Rattle.tree_laws.proofs.Hearing.{asks_next}
 use Rattle.tree_laws.proofs.Kinship.{tree_epoch_is, tree_group_is}
-use Rattle.tree_laws.proofs.Names.{same_epoch_own, test_own, test_same, true_false, true_or_false}
+use Rattle.tree_laws.proofs.Names.{same_epoch_own, true_or_false}
 use Rattle.tree_laws.proofs.Serials.{unnamed}
 use Rattle.tree_laws.proofs.Versions.{versions_stay}
-use Rattle.order_laws.proofs.Alone.{second_of}
-use Rattle.order_laws.proofs.Knowing.{tree_config}
-use Rattle.order_laws.proofs.Standing.{same_file_eq}
-use Rattle.holding_laws.specs.OneVersionNumbers.{IsFreeNumber}
-use Rattle.holding_laws.proofs.OneVersionMakes.{free_number}
-use Rattle.sync_laws.specs.Making.{MakesAreSaid}
-use Rattle.sync_laws.specs.Serving.{Serving}
-use Rattle.sync_laws.specs.Staying.{FilesStay}
-use Rattle.sync_laws.proofs.Adding.{openers_added, put_table}
-use Rattle.sync_laws.proofs.Again.{again}
-use Rattle.sync_laws.proofs.Answering.{openers_replaced}
-use Rattle.sync_laws.proofs.Looks.{group_served}
-use Rattle.sync_laws.proofs.Merging.{tree_members}
-use Rattle.sync_laws.proofs.Openings.{here, its, opening_asked}
-use Rattle.sync_laws.proofs.OpensStay.{open_row_stays}
-use Rattle.sync_laws.proofs.TreeCalls.{call_in_is, granted_was_named, released_was_named}
-use Rattle.sync_laws.proofs.Trees.{same_if}
-use Rattle.store_laws.proofs.Said.{asked_as_said}
-use Rattle.store_laws.proofs.Tabled.{every_latest}
+use Rattle.one_tree_laws.proofs.of_order_laws.Knowing.{tree_config}
+use Rattle.one_tree_laws.proofs.of_order_laws.Standing.{same_file_eq}
+use Rattle.one_tree_laws.specs.of_holding_laws.OneVersionNumbers.{IsFreeNumber}
+use Rattle.one_tree_laws.proofs.of_holding_laws.OneVersionMakes.{free_number}
+use Rattle.one_tree_laws.specs.of_sync_laws.Making.{MakesAreSaid}
+use Rattle.one_tree_laws.specs.of_sync_laws.Serving.{Serving}
+use Rattle.one_tree_laws.specs.of_sync_laws.Staying.{FilesStay}
+use Rattle.one_tree_laws.proofs.of_sync_laws.Adding.{openers_added, put_table}
+use Rattle.one_tree_laws.proofs.of_sync_laws.Again.{again}
+use Rattle.one_tree_laws.proofs.of_sync_laws.Answering.{openers_replaced}
+use Rattle.one_tree_laws.proofs.of_sync_laws.Looks.{group_served}
+use Rattle.one_tree_laws.proofs.of_sync_laws.Merging.{tree_members}
+use Rattle.one_tree_laws.proofs.of_sync_laws.Openings.{here, its, opening_asked}
+use Rattle.one_tree_laws.proofs.of_sync_laws.OpensStay.{open_row_stays}
+use Rattle.one_tree_laws.proofs.of_sync_laws.TreeCalls.{call_in_is, granted_was_named, released_was_named}
+use Rattle.one_tree_laws.proofs.of_sync_laws.Trees.{same_if}
+use Rattle.one_tree_laws.proofs.of_store_laws.Said.{asked_as_said}
+use Rattle.one_tree_laws.proofs.of_store_laws.Tabled.{every_latest}
 use Rattle.one_tree_laws.specs.Rest.{Past}
 use Rattle.rest_laws.proofs.EpochTreeStarted.{begun_joined}
 use Rattle.rest_laws.proofs.MadePlacing.{alone_replaced, untaken_openers}
-
-both : (a b : Bool) → a ≡ true → b ≡ true → a && b ≡ true
-both true b e k = k
-both false b e k = e
 
 -- a make is asked of any number of its group
 make_of : (c : Config) (w : Want) (f g : FileId) (set : Sites) (k : Kind) → f.group ≡ g.group → IsOpening c w f (how.Make set k) → is_open_of mode.Make f w ≡ true → is_open_of mode.Make g w ≡ true
@@ -189,7 +186,7 @@ module _ (c : Config) (n : ℕ) (trace : List Line) (f : Frame) (tab : SyncTable
   unopened ino some = over (same_file r.file (file_in tab.group ino)) refl
     where
       over : (b : Bool) → same_file r.file (file_in tab.group ino) ≡ b → b ≡ false
-      over true z = absurd (some (sym (test_same r.file.ino ino (second_of (r.file.group == tab.group) _ z)) ∙ no_number))
+      over true z = absurd (some (sym (equal r.file.ino ino (and_second (r.file.group == tab.group) _ z)) ∙ no_number))
       over false z = refl
 
   -- ---- it is granted the number ----
@@ -214,9 +211,9 @@ module _ (c : Config) (n : ℕ) (trace : List Line) (f : Frame) (tab : SyncTable
     may = record {
       row = record {
         opens = opens_row g refl;
-        gives = both t.started _ now.started (both (is_none (open_refusal (history c (entries trace)) t mode.Make d g)) _ (ap is_none (unrefused g)) (both (r.inst.us == r.inst.us) _ (test_own r.inst.us) (both (not (is_granted t r.inst)) _ not_granted
-            (both (is_site (making_site t d) r.ss && (is_given_by r.ss ino && (is_none (held_at t r.ss ino) && not (is_taken t g)))) (is_none r.stamp)
-            (both (is_site (making_site t d) r.ss) _ (ap (λ (o : Option ℕ). is_site o r.ss) site_is ∙ test_own r.ss) (both (is_given_by r.ss ino) _ free.given (both (is_none (held_at t r.ss ino)) _ (ap is_none free.held) (ap not free.taken))))
+        gives = and_true t.started _ now.started (and_true (is_none (open_refusal (history c (entries trace)) t mode.Make d g)) _ (ap is_none (unrefused g)) (and_true (r.inst.us == r.inst.us) _ (equal_self r.inst.us) (and_true (not (is_granted t r.inst)) _ not_granted
+            (and_true (is_site (making_site t d) r.ss && (is_given_by r.ss ino && (is_none (held_at t r.ss ino) && not (is_taken t g)))) (is_none r.stamp)
+            (and_true (is_site (making_site t d) r.ss) _ (ap (λ (o : Option ℕ). is_site o r.ss) site_is ∙ equal_self r.ss) (and_true (is_given_by r.ss ino) _ free.given (and_true (is_none (held_at t r.ss ino)) _ (ap is_none free.held) (ap not free.taken))))
             (ap is_none asked.stamp_is)))));
         there = begun_joined c r.ss f.epoch r.inst (record { group = r.file.group; ino = ino }) trace sv.followed begun;
       };
@@ -266,7 +263,7 @@ module _ (c : Config) (n : ℕ) (trace : List Line) (f : Frame) (tab : SyncTable
         epoch_own = subst (λ (e : EpochId). same_epoch f.epoch e ≡ true) (sym (tree_epoch_is c f.epoch tab.group (entries trace))) (same_epoch_own f.epoch)
 
         group_own : (r.file.group == tab_tree.group) ≡ true
-        group_own = subst (λ (m : ℕ). (r.file.group == m) ≡ true) (fact.group_is ∙ sym (tree_group_is c f.epoch tab.group (entries trace))) (test_own r.file.group)
+        group_own = subst (λ (m : ℕ). (r.file.group == m) ≡ true) (fact.group_is ∙ sym (tree_group_is c f.epoch tab.group (entries trace))) (equal_self r.file.group)
 
         over : (a : Bool) → a ≡ true → (b : Bool) → b ≡ true → tree_openers (cond a (record tab_tree { grants = tab_tree.grants ++ grant_of tab_tree d r.inst mode.Make g r.ss ∷ []; instances = cond b (tab_tree.instances ++ new ∷ []) tab_tree.instances }) tab_tree) file
             ≡ tree_openers tab_tree file ++ cond (same_file g file) (named_instance new ∷ []) []
@@ -327,7 +324,7 @@ module _ (c : Config) (n : ℕ) (trace : List Line) (f : Frame) (tab : SyncTable
     may_refuse = record {
       row = record {
         opens = opens_row r.file refl;
-        gives = both t.started _ now.started (both (r.file.ino == 0) _ (subst (λ (m : ℕ). (m == 0) ≡ true) (sym no_number) refl)
+        gives = and_true t.started _ now.started (and_true (r.file.ino == 0) _ (subst (λ (m : ℕ). (m == 0) ≡ true) (sym no_number) refl)
             (ap (refuses (history c (entries trace)) t d mode.Make r.file why) (unrefused r.file)
             ∙ subst (λ (w : Refusal). refuses (history c (entries trace)) t d mode.Make r.file w None ≡ true) (sym reason) (ap (lacks_numbers t) site_is ∙ lacks)));
       };

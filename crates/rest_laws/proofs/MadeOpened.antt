@@ -1,6 +1,7 @@
 -- The answer of a storage site to an open, at the synchronization site: of a file that stood its user is told so; a make gets its number,
 -- or is refused.
 use Rattle.std.proofs.Common.{◌≡◌, ℕ, ◌+◌, ◌*◌, ◌<◌, List, [], Option, Some, None, refl, sym, ap, ◌∙◌, subst, ◌⊎◌, inl, inr, arith}
+use Rattle.role_steps.proofs.of_plain_facts.Options.{some_same}
 use Rattle.locus_ids.specs.declared.config.Config.{Config}
 use Rattle.locus_ids.specs.declared.ids.EpochId.{EpochId}
 use Rattle.locus_ids.specs.declared.ids.FileId.{FileId}
@@ -8,6 +9,7 @@ use Rattle.locus_ids.specs.declared.ids.Mode.{Mode}
 use Rattle.locus_ids.specs.declared.ids.Mode.TheVariants as mode
 use Rattle.locus_ids.specs.declared.ids.Serial.{Serial}
 use Rattle.locus_ids.specs.declared.refusal.Refusal.TheVariants as refusal
+use Rattle.locus_ids.specs.Sizes.{sites_max}
 use Rattle.wire_messages.specs.declared.body.Body.TheVariants as body
 use Rattle.wire_messages.specs.declared.body.OpenedAs.{OpenedAs}
 use Rattle.wire_messages.specs.declared.body.OpenedAs.TheVariants as opened
@@ -24,12 +26,11 @@ use Rattle.tree_laws.specs.Instances.{IsFull}
 use Rattle.tree_laws.specs.Packets.{BodyFact, MakesNow, OpenedFact, RefusedFull}
 use Rattle.tree_laws.specs.Past.{WasBegun, WasRefused}
 use Rattle.tree_laws.specs.Tables.{RowFact}
-use Rattle.tree_laws.proofs.Names.{some_is}
-use Rattle.sync_laws.specs.Opening.{IsFileMode}
-use Rattle.sync_laws.specs.Serving.{Serving}
-use Rattle.sync_laws.proofs.Answering.{answered_fine, refused_named}
-use Rattle.sync_laws.proofs.Looks.{sends_fine}
-use Rattle.sync_laws.proofs.Rows.{row_every, row_key_is}
+use Rattle.one_tree_laws.specs.of_sync_laws.Opening.{IsFileMode}
+use Rattle.one_tree_laws.specs.of_sync_laws.Serving.{Serving}
+use Rattle.one_tree_laws.proofs.of_sync_laws.Answering.{answered_fine, refused_named}
+use Rattle.one_tree_laws.proofs.of_sync_laws.Looks.{sends_fine}
+use Rattle.one_tree_laws.proofs.of_sync_laws.Rows.{row_every, row_key_is}
 use Rattle.one_tree_laws.specs.Rest.{AllRest, Past}
 use Rattle.one_tree_laws.specs.Roles.{Came, Ready, TableHere}
 use Rattle.rest_laws.specs.MadeResting.{MadeRests}
@@ -49,7 +50,7 @@ serial_same a b low small e = λ i. record { us = us_is i; serial = serial_is i 
     serial_is = omega (arith, low, small, number)
 
 module _ (c : Config) (rests : MadeRests c) (n : ℕ) (trace : List Line) (f : Frame) (from : ℕ) (i : Serial) (tab : SyncTable) (past : Past c trace) (sv : Serving c n trace f tab) where
-  small : (s : ℕ) → s < 17 → s < 256
+  small : (s : ℕ) → s < sites_max + 1 → s < 256
   small s h = omega (arith, h)
 
   -- whom an answer is for is one of the sites
@@ -73,9 +74,6 @@ module _ (c : Config) (rests : MadeRests c) (n : ℕ) (trace : List Line) (f : F
 
     -- a make that waits for its number
     module _ (make : r.mode ≡ mode.Make) (waits : r.stage ≡ stage.Asked) where
-      q : OpenRow
-      q = record r { mode = mode.Make; stage = stage.Asked }
-
       as_it_is : r ≡ record r { mode = mode.Make; stage = stage.Asked }
       as_it_is = λ j. record r { mode = make j; stage = waits j }
 
@@ -121,7 +119,7 @@ module _ (c : Config) (rests : MadeRests c) (n : ℕ) (trace : List Line) (f : F
     -- that of a file that stood
     plain : (a : OpenedAs) → OpenedFact c trace f.epoch from i a → (m : Mode) → r.mode ≡ m → IsFileMode m → (s : OpenStage) → r.stage ≡ s → TableFine c n trace f tab.group (by_stage f r a s tab)
     plain a k m e file s w = subst (λ (z : OpenStage). TableFine c n trace f tab.group (by_stage f r a z tab)) w
-        (subst (λ (o : Option OpenRow). TableFine c n trace f tab.group (on_opened_of f a o tab)) here (answered_fine c n trace f tab sv from i small_user a k (λ z found. subst (λ (y : OpenRow). IsFileMode y.mode) (some_is r z (sym here ∙ found)) (subst IsFileMode (sym e) file))))
+        (subst (λ (o : Option OpenRow). TableFine c n trace f tab.group (on_opened_of f a o tab)) here (answered_fine c n trace f tab sv from i small_user a k (λ z found. subst (λ (y : OpenRow). IsFileMode y.mode) (some_same r z (sym here ∙ found)) (subst IsFileMode (sym e) file))))
 
     by_it : (a : OpenedAs) → OpenedFact c trace f.epoch from i a → (m : Mode) → r.mode ≡ m → (s : OpenStage) → r.stage ≡ s → TableFine c n trace f tab.group (by_stage f r a s tab)
     by_it a k mode.Make e stage.Asked w = subst (λ (s : OpenStage). TableFine c n trace f tab.group (by_stage f r a s tab)) w (make_fine e w a k)

@@ -1,6 +1,8 @@
 -- Where a make is begun, of what group, and by whom; and that nobody has its file open before it is granted.
 use Rattle.std.proofs.Common.{◌≡◌, ℕ, ◌==◌, Bool, true, false, cond, List, [], ◌∷◌, filter, map, Option, Some, None, refl, sym, ap, ◌∙◌, subst, ◌⊎◌, inl, inr}
 use Rattle.std.specs.List.{AllByRecursion}
+use Rattle.role_steps.proofs.of_plain_facts.Options.{some_same}
+use Rattle.role_steps.proofs.of_plain_facts.Tests.{true_false}
 use Rattle.locus_ids.specs.declared.config.Config.{Config}
 use Rattle.locus_ids.specs.declared.ids.CallId.{CallId}
 use Rattle.locus_ids.specs.declared.ids.EpochId.{EpochId}
@@ -33,11 +35,10 @@ use Rattle.tree_laws.specs.Printed.{entries}
 use Rattle.tree_laws.specs.Tables.{named_instance, tree_openers}
 use Rattle.tree_laws.proofs.CarriedLooks.{More, one_want}
 use Rattle.tree_laws.proofs.Making.{IsAskedAt, begun_asked, make_set, one_group, one_opening}
-use Rattle.tree_laws.proofs.Names.{some_is, true_false}
 use Rattle.tree_laws.proofs.Rows.{followed_rows}
 use Rattle.tree_laws.proofs.Scripts.{named_stays}
 use Rattle.tree_laws.proofs.Serials.{one_open, unnamed}
-use Rattle.order_laws.proofs.Alone.{IsTakenIn, rows_apart}
+use Rattle.one_tree_laws.proofs.of_order_laws.Alone.{IsTakenIn, rows_apart}
 
 -- ---- one make ----
 
@@ -48,7 +49,7 @@ pub record IsAt (s ss : ℕ) (group own : ℕ) : Type 0 where
 -- two makes that are asked under one serial number are one
 pub asked_place : (c : Config) (trace : List Line) → IsFollowed c trace → (e : EpochId) (s ss : ℕ) (i : Serial) (f : FileId) (group : ℕ) (set : Sites) (k : Kind) → IsAskedAt c trace e s i f → MakesNow c trace e ss i group set k → IsAt s ss f.group group
 asked_place c trace h e s ss i f group set k b m = record {
-  site = some_is s ss (sym (subst (λ (y : CallId). making_site_in c group (members_of (entries trace) e) y.site set ≡ Some s) call_is
+  site = some_same s ss (sym (subst (λ (y : CallId). making_site_in c group (members_of (entries trace) e) y.site set ≡ Some s) call_is
       (subst (λ (t : Sites). making_site_in c group (members_of (entries trace) e) b.call.site t ≡ Some s) set_is
       (subst (λ (g : ℕ). making_site_in c g (members_of (entries trace) e) b.call.site b.set ≡ Some s) (sym b.group_is ∙ same_group) b.at))) ∙ m.at);
   group_is = sym b.group_is ∙ same_group;

@@ -3,6 +3,7 @@ use Rattle.std.proofs.Common.{◌≡◌, ℕ, ◌==◌, ◌<◌, ◌≤◌, Bool
 use Rattle.std.proofs.lemmas.Bool.Decides.{nat_tests}
 use Rattle.std.proofs.lemmas.List.{map-append}
 use Rattle.std.specs.List.{AllByRecursion, flat_map}
+use Rattle.role_steps.proofs.of_plain_facts.Numbers.{above_apart, at_most_of, equal, equal_self}
 use Rattle.locus_ids.specs.declared.config.Config.{Config}
 use Rattle.locus_ids.specs.declared.ids.Brought.{Brought}
 use Rattle.locus_ids.specs.declared.ids.Stamp.{Stamp}
@@ -27,8 +28,7 @@ use Rattle.tree_model.specs.Tree.{tree_of, kept_in}
 use Rattle.tree_laws.specs.Printed.{entries}
 use Rattle.tree_laws.specs.Tables.{AreRising, FileFact, StartedFiles, TableFact, VersionFact, row_stamp}
 use Rattle.tree_laws.proofs.Kinship.{tree_group_is}
-use Rattle.tree_laws.proofs.Names.{test_own, test_same}
-use Rattle.holding_laws.proofs.OneVersionAscending.{Ascends, known_ascends}
+use Rattle.one_tree_laws.proofs.of_holding_laws.OneVersionAscending.{Ascends, known_ascends}
 use Rattle.rest_laws.proofs.MendStepLists.{Climbs, climbs_filter, filter_again, is_at, one_at, parted, stamps_back, stamps_filter, stamps_none, stamps_others}
 
 -- ---- a table's versions of one list ----
@@ -37,18 +37,12 @@ use Rattle.rest_laws.proofs.MendStepLists.{Climbs, climbs_filter, filter_again, 
 abbrev kept_row : FileRow → List Brought
 kept_row r = map (one_at r.ino) (map row_stamp r.kept)
 
-less_test : (k n : ℕ) → k < n → (n == k) ≡ false
-less_test k n lt = grind (arith, nat_tests)
-
 trans : (a b d : ℕ) → a < b → b < d → a < d
 trans a b d p q = omega (arith, p, q)
 
-trans_le : (a b d : ℕ) → a ≤ b → b ≤ d → a ≤ d
-trans_le a b d p q = omega (arith, p, q)
-
 no_row : (k : ℕ) (rs : List FileRow) → Every (λ (q : FileRow). k < q.ino) rs → row row_ino k rs ≡ None
 no_row k [] h = refl
-no_row k (r ∷ rs) h = rw (less_test k r.ino h.0, row) (no_row k rs h.1)
+no_row k (r ∷ rs) h = rw (above_apart k r.ino h.0, row) (no_row k rs h.1)
 
 above_all : (j k : ℕ) (rs : List FileRow) → j < k → Every (λ (q : FileRow). k < q.ino) rs → Every (λ (q : FileRow). j < q.ino) rs
 above_all j k [] lt h = tt
@@ -56,7 +50,7 @@ above_all j k (r ∷ rs) lt h = (trans j k r.ino lt h.0, above_all j k rs lt h.1
 
 all_above : (j k : ℕ) (ys : List Brought) → j ≤ k → Every (λ (y : Brought). k ≤ y.ino) ys → Every (λ (y : Brought). j ≤ y.ino) ys
 all_above j k [] le h = tt
-all_above j k (y ∷ ys) le h = (trans_le j k y.ino le h.0, all_above j k ys le h.1)
+all_above j k (y ∷ ys) le h = (at_most_of j k y.ino le h.0, all_above j k ys le h.1)
 
 full : (s : Stamp) (ss : List Stamp) → [] ≡ s ∷ ss → ⊥
 full s ss e = cc
@@ -75,7 +69,7 @@ low_first j k none = at (nat_lt j k) refl
     at false e = not_less e
 
 own_first : (b : Brought) (bs : List Brought) → stamps_of (b ∷ bs) b.ino ≡ b.stamp ∷ stamps_of bs b.ino
-own_first b bs = ap (λ (x : Bool). map (λ (y : Brought). y.stamp) (cond x (b ∷ filter (is_at b.ino) bs) (filter (is_at b.ino) bs))) (test_own b.ino)
+own_first b bs = ap (λ (x : Bool). map (λ (y : Brought). y.stamp) (cond x (b ∷ filter (is_at b.ino) bs) (filter (is_at b.ino) bs))) (equal_self b.ino)
 
 -- rows by ascending numbers have these versions of each file: then they have these versions
 pub rows_make : (rs : List FileRow) → AreRising rs → (bs : List Brought) → Climbs bs → ((ino : ℕ) → map row_stamp (kept (row row_ino ino rs)) ≡ stamps_of bs ino) → flat_map kept_row rs ≡ bs
@@ -84,7 +78,7 @@ rows_make [] up (b ∷ bs) climbs same = absurd (full b.stamp (stamps_of bs b.in
 rows_make (r ∷ rs) up bs climbs same = whole (rows_make rs up.1 (filter (λ (b : Brought). not (b.ino == r.ino)) bs) (climbs_filter (λ (b : Brought). not (b.ino == r.ino)) bs climbs) left)
   where
     found : row row_ino r.ino (r ∷ rs) ≡ Some r
-    found = rw (test_own r.ino, row) refl
+    found = rw (equal_self r.ino, row) refl
 
     first : kept_row r ≡ filter (is_at r.ino) bs
     first = ap (map (one_at r.ino)) (sym (ap (λ (o : Option FileRow). map row_stamp (kept o)) found) ∙ same r.ino) ∙ stamps_back r.ino bs
@@ -96,7 +90,7 @@ rows_make (r ∷ rs) up bs climbs same = whole (rows_make rs up.1 (filter (λ (b
     left ino = at (r.ino == ino) refl
       where
         at : (x : Bool) → (r.ino == ino) ≡ x → map row_stamp (kept (row row_ino ino rs)) ≡ stamps_of (filter (λ (b : Brought). not (b.ino == r.ino)) bs) ino
-        at true e = subst (λ (n : ℕ). map row_stamp (kept (row row_ino n rs)) ≡ stamps_of (filter (λ (b : Brought). not (b.ino == r.ino)) bs) n) (test_same r.ino ino e)
+        at true e = subst (λ (n : ℕ). map row_stamp (kept (row row_ino n rs)) ≡ stamps_of (filter (λ (b : Brought). not (b.ino == r.ino)) bs) n) (equal r.ino ino e)
             (ap (λ (o : Option FileRow). map row_stamp (kept o)) (no_row r.ino rs up.0) ∙ sym (stamps_none r.ino bs))
         at false e = sym (ap (λ (o : Option FileRow). map row_stamp (kept o)) (other_row ino e)) ∙ (same ino ∙ sym (stamps_others r.ino ino bs e))
 

@@ -1,14 +1,15 @@
 -- Lists of versions that ascend by their inodes are put together of those of each inode.
 use Rattle.std.proofs.Common.{◌≡◌, ℕ, ◌==◌, ◌<◌, ◌≤◌, Bool, true, false, not, cond, ◌||◌, List, [], ◌∷◌, ◌++◌, map, filter, refl, sym, ◌∙◌, ap, arith, inl, inr}
 use Rattle.std.proofs.lemmas.Bool.Decides.{nat_tests}
+use Rattle.role_steps.proofs.of_plain_facts.Numbers.{above_apart, equal}
+use Rattle.role_steps.proofs.of_plain_facts.Tests.{or_true, true_false}
 use Rattle.locus_ids.specs.declared.ids.Brought.{Brought}
 use Rattle.locus_ids.specs.declared.ids.Stamp.{Stamp}
 use Rattle.commit_graph.specs.Versions.{same_stamp}
 use Rattle.role_steps.specs.Own.{Every}
 use Rattle.the_run.specs.Kept.{Among}
 use Rattle.tree_model.specs.State.{has_stamp, stamps_of}
-use Rattle.tree_laws.proofs.Names.{test_same, true_false}
-use Rattle.order_laws.proofs.Standing.{same_stamp_eq}
+use Rattle.one_tree_laws.proofs.of_order_laws.Standing.{same_stamp_eq}
 
 abbrev pub is_at : ℕ → Brought → Bool
 is_at k b = b.ino == k
@@ -26,17 +27,11 @@ Climbs (b ∷ bs) = Every (λ (y : Brought). b.ino ≤ y.ino) bs × Climbs bs
 
 -- ---- tests on numbers ----
 
-above_test : (k n : ℕ) → k < n → (n == k) ≡ false
-above_test k n lt = grind (arith, nat_tests)
-
 apart_above : (k n : ℕ) → k ≤ n → (n == k) ≡ false → k < n
 apart_above k n le e = grind (arith, nat_tests)
 
 through : (a b d : ℕ) → a < b → b ≤ d → a < d
 through a b d p q = omega (arith, p, q)
-
-through_le : (a b d : ℕ) → a ≤ b → b ≤ d → a ≤ d
-through_le a b d p q = omega (arith, p, q)
 
 -- ---- of one inode, and of the others ----
 
@@ -62,11 +57,11 @@ climbs_filter q (b ∷ bs) h = at (q b) (climbs_filter q bs h.1)
 
 none_there : (k : ℕ) (bs : List Brought) → Every (λ (y : Brought). k < y.ino) bs → filter (is_at k) bs ≡ []
 none_there k [] h = refl
-none_there k (b ∷ bs) h = ap (λ (x : Bool). cond x (b ∷ filter (is_at k) bs) (filter (is_at k) bs)) (above_test k b.ino h.0) ∙ none_there k bs h.1
+none_there k (b ∷ bs) h = ap (λ (x : Bool). cond x (b ∷ filter (is_at k) bs) (filter (is_at k) bs)) (above_apart k b.ino h.0) ∙ none_there k bs h.1
 
 all_others : (k : ℕ) (bs : List Brought) → Every (λ (y : Brought). k < y.ino) bs → filter (not_at k) bs ≡ bs
 all_others k [] h = refl
-all_others k (b ∷ bs) h = ap (λ (x : Bool). cond (not x) (b ∷ filter (not_at k) bs) (filter (not_at k) bs)) (above_test k b.ino h.0) ∙ ap (λ (ys : List Brought). b ∷ ys) (all_others k bs h.1)
+all_others k (b ∷ bs) h = ap (λ (x : Bool). cond (not x) (b ∷ filter (not_at k) bs) (filter (not_at k) bs)) (above_apart k b.ino h.0) ∙ ap (λ (ys : List Brought). b ∷ ys) (all_others k bs h.1)
 
 -- those of the lowest inode stand before the others
 pub parted : (k : ℕ) (bs : List Brought) → Climbs bs → Every (λ (y : Brought). k ≤ y.ino) bs → filter (is_at k) bs ++ filter (not_at k) bs ≡ bs
@@ -90,7 +85,7 @@ stamps_back k [] = refl
 stamps_back k (b ∷ bs) = at (stamps_back k bs) (b.ino == k) refl
   where
     at : map (one_at k) (stamps_of bs k) ≡ filter (is_at k) bs → (x : Bool) → (b.ino == k) ≡ x → map (one_at k) (map (λ (y : Brought). y.stamp) (cond x (b ∷ filter (is_at k) bs) (filter (is_at k) bs))) ≡ cond x (b ∷ filter (is_at k) bs) (filter (is_at k) bs)
-    at later true e = ap (λ (n : ℕ). one_at n b.stamp ∷ map (one_at k) (stamps_of bs k)) (sym (test_same b.ino k e)) ∙ ap (λ (ys : List Brought). b ∷ ys) later
+    at later true e = ap (λ (n : ℕ). one_at n b.stamp ∷ map (one_at k) (stamps_of bs k)) (sym (equal b.ino k e)) ∙ ap (λ (ys : List Brought). b ∷ ys) later
     at later false e = later
 
 pub stamps_none : (k : ℕ) (bs : List Brought) → stamps_of (filter (not_at k) bs) k ≡ []
@@ -106,7 +101,7 @@ stamps_others k n [] apart = refl
 stamps_others k n (b ∷ bs) apart = at (stamps_others k n bs apart) (b.ino == k) refl
   where
     differs : (b.ino == k) ≡ true → (b.ino == n) ≡ false
-    differs e = ap (λ (m : ℕ). m == n) (test_same b.ino k e) ∙ apart
+    differs e = ap (λ (m : ℕ). m == n) (equal b.ino k e) ∙ apart
 
     inner : stamps_of (filter (not_at k) bs) n ≡ stamps_of bs n → (x : Bool) → stamps (cond x (b ∷ filter (is_at n) (filter (not_at k) bs)) (filter (is_at n) (filter (not_at k) bs))) ≡ stamps (cond x (b ∷ filter (is_at n) bs) (filter (is_at n) bs))
     inner later true = ap (λ (ss : List Stamp). b.stamp ∷ ss) later
@@ -124,8 +119,8 @@ stamps_filter q p k same (b ∷ bs) = at (stamps_filter q p k same bs) (b.ino ==
     at : stamps_of (filter q bs) k ≡ filter p (stamps_of bs k) → (x : Bool) → (b.ino == k) ≡ x → (y : Bool) → q b ≡ y → stamps_of (cond y (b ∷ filter q bs) (filter q bs)) k ≡ filter p (stamps (cond x (b ∷ filter (is_at k) bs) (filter (is_at k) bs)))
     at later true e true f = ap (λ (x : Bool). stamps (cond x (b ∷ filter (is_at k) (filter q bs)) (filter (is_at k) (filter q bs)))) e
         ∙ (ap (λ (ss : List Stamp). b.stamp ∷ ss) later
-        ∙ sym (ap (λ (x : Bool). cond x (b.stamp ∷ filter p (stamps_of bs k)) (filter p (stamps_of bs k))) (sym (same b (test_same b.ino k e)) ∙ f)))
-    at later true e false f = later ∙ sym (ap (λ (x : Bool). cond x (b.stamp ∷ filter p (stamps_of bs k)) (filter p (stamps_of bs k))) (sym (same b (test_same b.ino k e)) ∙ f))
+        ∙ sym (ap (λ (x : Bool). cond x (b.stamp ∷ filter p (stamps_of bs k)) (filter p (stamps_of bs k))) (sym (same b (equal b.ino k e)) ∙ f)))
+    at later true e false f = later ∙ sym (ap (λ (x : Bool). cond x (b.stamp ∷ filter p (stamps_of bs k)) (filter p (stamps_of bs k))) (sym (same b (equal b.ino k e)) ∙ f))
     at later false e true f = ap (λ (x : Bool). stamps (cond x (b ∷ filter (is_at k) (filter q bs)) (filter (is_at k) (filter q bs)))) e ∙ later
     at later false e false f = later
 
@@ -145,10 +140,6 @@ among_passes g (t ∷ ts) s h = at (among_passes g ts s) (g t) refl h
 
 pub own_stamp : (s : Stamp) → same_stamp s s ≡ true
 own_stamp s = grind (arith, nat_tests)
-
-or_true : (x : Bool) → (x || true) ≡ true
-or_true true = refl
-or_true false = refl
 
 passes_among : (g : Stamp → Bool) (ss : List Stamp) (s : Stamp) → Among s ss → g s ≡ true → has_stamp (filter g ss) s ≡ true
 passes_among g [] s m p = absurd m

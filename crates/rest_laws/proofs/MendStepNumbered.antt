@@ -3,6 +3,7 @@ use Rattle.std.proofs.Common.{◌≡◌, ℕ, ◌+◌, ◌*◌, ◌==◌, Bool, 
 use Rattle.std.proofs.lemmas.Bool.Decides.{nat_tests}
 use Rattle.std.specs.List.{AllByRecursion}
 use Rattle.std.specs.Option.{is_none, option_or}
+use Rattle.role_steps.proofs.of_plain_facts.Tests.{and_first, and_second, or_either, true_false}
 use Rattle.locus_ids.specs.declared.config.Config.{Config}
 use Rattle.locus_ids.specs.declared.ids.CallId.{CallId}
 use Rattle.locus_ids.specs.declared.ids.EpochId.{EpochId}
@@ -14,6 +15,7 @@ use Rattle.locus_ids.specs.declared.ids.Stamp.{Stamp}
 use Rattle.locus_ids.specs.declared.refusal.Refusal.{Refusal}
 use Rattle.locus_ids.specs.declared.refusal.Refusal.TheVariants as refusal
 use Rattle.locus_ids.specs.declared.sites.Sites.{Sites}
+use Rattle.locus_ids.specs.Sizes.{site_inodes}
 use Rattle.commit_graph.specs.declared.history.Version.{Version}
 use Rattle.commit_graph.specs.Grants.{grant_refusal, kept_refusal}
 use Rattle.commit_graph.specs.Versions.{is_covered, is_in, is_version, same_file, same_stamp}
@@ -32,22 +34,17 @@ use Rattle.tree_model.specs.Tree.{acted, candidates, grant_of, joined, left, nex
 use Rattle.lawful_trace.specs.Lawful.{MayCome}
 use Rattle.lawful_trace.specs.TreeRows.{is_writing}
 use Rattle.tree_laws.specs.Following.{RowsAreLawful}
-use Rattle.tree_laws.proofs.Names.{true_false}
-use Rattle.order_laws.proofs.Alone.{first_none, first_of, second_of}
-use Rattle.order_laws.proofs.Knowing.{versions_stand}
-use Rattle.order_laws.proofs.Lists.{all_changed, all_filtered, all_more, all_without}
-use Rattle.order_laws.proofs.Standing.{At, same_file_eq}
-use Rattle.sync_laws.proofs.Refusing.{unrefused}
+use Rattle.one_tree_laws.proofs.of_order_laws.Alone.{first_none}
+use Rattle.one_tree_laws.proofs.of_order_laws.Knowing.{versions_stand}
+use Rattle.one_tree_laws.proofs.of_order_laws.Lists.{all_changed, all_filtered, all_more, all_without}
+use Rattle.one_tree_laws.proofs.of_order_laws.Standing.{At, same_file_eq}
+use Rattle.one_tree_laws.proofs.of_sync_laws.Refusing.{unrefused}
 use Rattle.rest_laws.proofs.MendStepLists.{has_filtered, own_stamp}
 
 abbrev IsNumbered : Instance → Type 0
 IsNumbered x = x.grant.file.ino ≡ 0 → ⊥
 
 -- ---- the format's versions ----
-
-either : (a b : Bool) → a || b ≡ true → (a ≡ true) ⊎ (b ≡ true)
-either true b h = inl refl
-either false b h = inr h
 
 one_two : (n : ℕ) → n ≡ 1 → n ≡ 0 → ⊥
 one_two n e z = omega (arith, e, z)
@@ -57,12 +54,12 @@ format_root k [] f s h = absurd (true_false (sym h))
 format_root k (p ∷ ps) f s h = at (p.0 == 0) h (format_root (k + 1) ps f s)
   where
     over : (is_version f s (format_version k) ≡ true) ⊎ (is_in (format_versions (k + 1) ps) f s ≡ true) → (is_in (format_versions (k + 1) ps) f s ≡ true → f.ino ≡ 1) → f.ino ≡ 1
-    over (inl e) later = sym (ap (λ (y : FileId). y.ino) (same_file_eq (At k 1) f (first_of (same_file (At k 1) f) (same_stamp format_stamp s) e)))
+    over (inl e) later = sym (ap (λ (y : FileId). y.ino) (same_file_eq (At k 1) f (and_first (same_file (At k 1) f) (same_stamp format_stamp s) e)))
     over (inr e) later = later e
 
     at : (b : Bool) → is_in (cond b (format_versions (k + 1) ps) (format_version k ∷ format_versions (k + 1) ps)) f s ≡ true → (is_in (format_versions (k + 1) ps) f s ≡ true → f.ino ≡ 1) → f.ino ≡ 1
     at true h later = later h
-    at false h later = over (either (is_version f s (format_version k)) (is_in (format_versions (k + 1) ps) f s) h) later
+    at false h later = over (or_either (is_version f s (format_version k)) (is_in (format_versions (k + 1) ps) f s) h) later
 
 -- ---- what is granted ----
 
@@ -81,7 +78,7 @@ some_kept mode.Mend k e = none_some refusal.NoStorage e
 some_kept mode.Make k e = true_false k
 
 given_above : (site ino : ℕ) → is_given_by site ino ≡ true → ino ≡ 0 → ⊥
-given_above site ino g z = low (second_of (nat_le ino (64 * site)) (nat_lt 1 ino) (second_of (nat_lt (64 * site) (ino + 64)) (nat_le ino (64 * site) && nat_lt 1 ino) g))
+given_above site ino g z = low (and_second (nat_le ino (site_inodes * site)) (nat_lt 1 ino) (and_second (nat_lt (site_inodes * site) (ino + site_inodes)) (nat_le ino (site_inodes * site) && nat_lt 1 ino) g))
   where
     low : nat_lt 1 ino ≡ true → ⊥
     low e = grind (arith, nat_tests)
@@ -101,14 +98,14 @@ module _ (c : Config) (before : Trace) (rows : RowsAreLawful c before) (stand : 
   plain_numbered m plain none = kept_numbered m plain (kept_of h t f) refl (unrefused m (openers t f) (kept_of h t f) (first_none (grant_refusal m (openers t f) (kept_of h t f)) (place_refusal h t m call f) none)).1
 
   pub granted_numbered : (m : Mode) → gives_grant h t call i m f stamp ss ≡ true → f.ino ≡ 0 → ⊥
-  granted_numbered mode.Read g = plain_numbered mode.Read refl (first_of (is_none (open_refusal h t mode.Read call f)) _ (second_of t.started _ g))
-  granted_numbered mode.Write g = plain_numbered mode.Write refl (first_of (is_none (open_refusal h t mode.Write call f)) _ (second_of t.started _ g))
-  granted_numbered mode.Resolve g = plain_numbered mode.Resolve refl (first_of (is_none (open_refusal h t mode.Resolve call f)) _ (second_of t.started _ g))
-  granted_numbered mode.Mend g = plain_numbered mode.Mend refl (first_of (is_none (open_refusal h t mode.Mend call f)) _ (second_of t.started _ g))
+  granted_numbered mode.Read g = plain_numbered mode.Read refl (and_first (is_none (open_refusal h t mode.Read call f)) _ (and_second t.started _ g))
+  granted_numbered mode.Write g = plain_numbered mode.Write refl (and_first (is_none (open_refusal h t mode.Write call f)) _ (and_second t.started _ g))
+  granted_numbered mode.Resolve g = plain_numbered mode.Resolve refl (and_first (is_none (open_refusal h t mode.Resolve call f)) _ (and_second t.started _ g))
+  granted_numbered mode.Mend g = plain_numbered mode.Mend refl (and_first (is_none (open_refusal h t mode.Mend call f)) _ (and_second t.started _ g))
   granted_numbered mode.Make g =
-      let placed : is_placed h t call mode.Make f stamp ss ≡ true = second_of _ _ (second_of _ _ (second_of (is_none (open_refusal h t mode.Make call f)) _ (second_of t.started _ g))) in
-      let new : is_new_file t call f ss ≡ true = first_of (is_new_file t call f ss) (is_none stamp) placed in
-      given_above ss f.ino (first_of (is_given_by ss f.ino) _ (second_of (is_site (making_site t call) ss) _ new))
+      let placed : is_placed h t call mode.Make f stamp ss ≡ true = and_second _ _ (and_second _ _ (and_second (is_none (open_refusal h t mode.Make call f)) _ (and_second t.started _ g))) in
+      let new : is_new_file t call f ss ≡ true = and_first (is_new_file t call f ss) (is_none stamp) placed in
+      given_above ss f.ino (and_first (is_given_by ss f.ino) _ (and_second (is_site (making_site t call) ss) _ new))
 
 -- ---- what is open ----
 
@@ -161,7 +158,7 @@ passing p (x ∷ xs) = at (p x) refl (passing p xs)
     at false e later = later
 
 stand_next : (c : Config) (line : ℕ) (r : Record) (before : Trace) → MayCome c before r → FilesAreNumbered c before → Stand c (record { line = line; what = r } ∷ before)
-stand_next c line (says.Commit g z stamp parents content) before may old f s k = over (either (same_file g f && same_stamp stamp s) (is_in (history c before) f s) k)
+stand_next c line (says.Commit g z stamp parents content) before may old f s k = over (or_either (same_file g f && same_stamp stamp s) (is_in (history c before) f s) k)
   where
     of : AllByRecursion IsNumbered (may.instance ∷ []) × AllByRecursion (λ (x : Instance). is_writing g x ≡ true) (may.instance ∷ [])
     of = (
@@ -170,7 +167,7 @@ stand_next c line (says.Commit g z stamp parents content) before may old f s k =
     )
 
     over : (same_file g f && same_stamp stamp s ≡ true) ⊎ (is_in (history c before) f s ≡ true) → f.ino ≡ 0 → ⊥
-    over (inl e) z = of.0.0 (ap (λ (y : FileId). y.ino) (same_file_eq may.instance.grant.file g (first_of (same_file may.instance.grant.file g) _ of.1.0) ∙ same_file_eq g f (first_of (same_file g f) (same_stamp stamp s) e)) ∙ z)
+    over (inl e) z = of.0.0 (ap (λ (y : FileId). y.ino) (same_file_eq may.instance.grant.file g (and_first (same_file may.instance.grant.file g) _ of.1.0) ∙ same_file_eq g f (and_first (same_file g f) (same_stamp stamp s) e)) ∙ z)
     over (inr e) z = old.stand f s e z
 stand_next c line r before may old f s k = old.stand f s k
 

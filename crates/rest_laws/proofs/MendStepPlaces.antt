@@ -1,6 +1,8 @@
 -- A mend's instance is at the synchronization site of its group.
 use Rattle.std.proofs.Common.{◌≡◌, ℕ, ◌==◌, true, not, List, [], ◌∷◌, Option, Some, None, sym, ◌∙◌, ap, subst, inl, inr}
 use Rattle.std.specs.Option.{is_none}
+use Rattle.role_steps.proofs.of_plain_facts.Numbers.{equal}
+use Rattle.role_steps.proofs.of_plain_facts.Tests.{and_first, and_second, true_false}
 use Rattle.locus_ids.specs.declared.config.Config.{Config}
 use Rattle.locus_ids.specs.declared.ids.CallId.{CallId}
 use Rattle.locus_ids.specs.declared.ids.EpochId.{EpochId}
@@ -28,20 +30,18 @@ use Rattle.tree_laws.specs.Printed.{entries}
 use Rattle.tree_laws.proofs.Fresh.{IsListed, call_listed}
 use Rattle.tree_laws.proofs.Kinship.{tree_group_is}
 use Rattle.tree_laws.proofs.Mending.{members_stay}
-use Rattle.tree_laws.proofs.Names.{test_same, true_false}
-use Rattle.order_laws.proofs.Alone.{first_of, second_of}
-use Rattle.order_laws.proofs.Knowing.{tree_config}
-use Rattle.sync_laws.proofs.Merging.{tree_members}
+use Rattle.one_tree_laws.proofs.of_order_laws.Knowing.{tree_config}
+use Rattle.one_tree_laws.proofs.of_sync_laws.Merging.{tree_members}
 
 -- ---- where a mend is granted ----
 
 site_is : (o : Option ℕ) (s : ℕ) → is_site o s ≡ true → o ≡ Some s
 site_is None s e = absurd (true_false (sym e))
-site_is (Some x) s e = ap Some (test_same x s e)
+site_is (Some x) s e = ap Some (equal x s e)
 
 mend_site : (h : List Version) (s : TreeState) (call : CallId) (i : Serial) (f : FileId) (on : Option Stamp) (place : ℕ) → gives_grant h s call i mode.Mend f on place ≡ true → sync_site s.config s.group s.members ≡ Some place
-mend_site h s call i f on place g = site_is (sync_site s.config s.group s.members) place (first_of (is_site (sync_site s.config s.group s.members) place) (same_version (held_at s place f.ino) on)
-    (second_of (not (is_granted s i)) _ (second_of (i.us == call.site) _ (second_of (is_none (open_refusal h s mode.Mend call f)) _ (second_of s.started _ g)))))
+mend_site h s call i f on place g = site_is (sync_site s.config s.group s.members) place (and_first (is_site (sync_site s.config s.group s.members) place) (same_version (held_at s place f.ino) on)
+    (and_second (not (is_granted s i)) _ (and_second (i.us == call.site) _ (and_second (is_none (open_refusal h s mode.Mend call f)) _ (and_second s.started _ g)))))
 
 module _ (c : Config) where
   tree_site : (e : EpochId) (g : ℕ) (older : List Line) → sync_site (tree_of c e g (entries older)).config (tree_of c e g (entries older)).group (tree_of c e g (entries older)).members ≡ sync_site c g (members_of (entries older) e)

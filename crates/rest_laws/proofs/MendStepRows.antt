@@ -1,6 +1,8 @@
 -- A call that waits at a site has its row there.
 use Rattle.std.proofs.Common.{◌≡◌, ℕ, ◌==◌, Bool, true, false, ◌&&◌, ◌||◌, List, [], ◌∷◌, Some, refl, sym, ◌∙◌, ap, subst, inl, inr}
 use Rattle.std.specs.List.{find, list_any}
+use Rattle.role_steps.proofs.of_plain_facts.Numbers.{equal_self}
+use Rattle.role_steps.proofs.of_plain_facts.Options.{some_same}
 use Rattle.locus_ids.specs.declared.config.Config.{Config}
 use Rattle.trace_book.specs.Same.{same_call}
 use Rattle.role_steps.specs.Views.{Frame, Users}
@@ -13,11 +15,11 @@ use Rattle.lawful_trace.specs.CallRows.{is_this}
 use Rattle.tree_laws.specs.Following.{IsFollowed}
 use Rattle.tree_laws.specs.Printed.{entries}
 use Rattle.tree_laws.specs.Users.{InsideUsers, WaitingFact}
-use Rattle.tree_laws.proofs.Names.{same_call_own, some_is, test_own}
+use Rattle.tree_laws.proofs.Names.{same_call_own}
 use Rattle.tree_laws.proofs.Waiting.{accepted}
-use Rattle.holding_laws.proofs.Holding.{some_found}
-use Rattle.sync_laws.proofs.Rows.{every_among}
-use Rattle.user_laws.specs.Turning.{it}
+use Rattle.one_tree_laws.proofs.of_holding_laws.Holding.{some_found}
+use Rattle.one_tree_laws.proofs.of_sync_laws.Rows.{every_among}
+use Rattle.one_tree_laws.specs.of_user_laws.Turning.{it}
 
 -- one that passes among them
 pub any_among : {A : Type 0} (p : A → Bool) (xs : List A) (x : A) → Among x xs → p x ≡ true → list_any p xs ≡ true
@@ -49,13 +51,13 @@ has_row c t f u h k w m own = over (k.all w.call w.process found.0 found.1)
     named = every_among (λ (x : Waiting). call_named (entries t) x.call ≡ Some x) (waiting (entries t)) w (accepted c t h).waits m
 
     this : is_this f.me w.process w.call w ≡ true
-    this = three (w.site == f.me) (w.process == w.process) (same_call w.call w.call) (subst (λ (s : ℕ). (w.site == s) ≡ true) own (test_own w.site)) (test_own w.process) (same_call_own w.call)
+    this = three (w.site == f.me) (w.process == w.process) (same_call w.call w.call) (subst (λ (s : ℕ). (w.site == s) ≡ true) own (equal_self w.site)) (equal_self w.process) (same_call_own w.call)
 
     found : (x : Waiting) × (find (is_this f.me w.process w.call) (waiting (entries t)) ≡ Some x) × (is_this f.me w.process w.call x ≡ true)
     found = some_found (is_this f.me w.process w.call) (waiting (entries t)) (any_among (is_this f.me w.process w.call) (waiting (entries t)) w m this)
 
     over : (v : WaitingCall) × Among v u.waiting × (w.call ≡ it f v) → HasRow f u w
-    over z = record { row = z.0; among = z.1; call_is = z.2; same = some_is w fact.caller (sym named ∙ (ap (call_named (entries t)) z.2 ∙ fact.named)) ∙ fact.caller_is }
+    over z = record { row = z.0; among = z.1; call_is = z.2; same = some_same w fact.caller (sym named ∙ (ap (call_named (entries t)) z.2 ∙ fact.named)) ∙ fact.caller_is }
       where
         fact : WaitingFact c t f z.0
         fact = every_among (WaitingFact c t f) u.waiting z.0 k.calls z.1

@@ -1,5 +1,8 @@
 -- The mends that are wanted start: each is accepted as it may be, and asks its open; all else that the site has stays.
 use Rattle.std.proofs.Common.{◌≡◌, ℕ, ◌*◌, ◌<◌, ◌≤◌, ◌==◌, Bool, true, false, not, cond, ◌&&◌, List, [], ◌∷◌, ◌++◌, Option, Some, None, refl, sym, ◌∙◌, ap, subst, arith, inl, inr}
+use Rattle.role_steps.proofs.of_plain_facts.Numbers.{equal_self}
+use Rattle.role_steps.proofs.of_plain_facts.Options.{some_same}
+use Rattle.role_steps.proofs.of_plain_facts.Tests.{true_false}
 use Rattle.locus_ids.specs.declared.config.Config.{Config}
 use Rattle.locus_ids.specs.declared.ids.CallId.{CallId}
 use Rattle.trace_book.specs.Same.{same_call}
@@ -9,7 +12,7 @@ use Rattle.trace_book.specs.declared.record.Record.{Record}
 use Rattle.trace_book.specs.declared.record.Record.TheVariants as says
 use Rattle.role_steps.specs.Mends.{has_mend_in, is_mend_in, mends_in, row_file, starts_mend, starts_mend_of, starts_mends, starts_mends_in, wants_mend}
 use Rattle.role_steps.specs.Own.{Every}
-use Rattle.role_steps.specs.Requests.{waiting_key, waiting_of}
+use Rattle.role_steps.specs.Requests.{waiting_key, waiting_of, waiting_span}
 use Rattle.role_steps.specs.Tables.{first_that}
 use Rattle.role_steps.specs.Using.{on_call}
 use Rattle.role_steps.specs.Views.{DiskWrite, Frame, Outcome, SiteView, Told, Shown, first_written, joined_to, quiet, within}
@@ -26,10 +29,9 @@ use Rattle.tree_laws.specs.Doing.{Fine, IsOfUsers, NoWrite, WrittenFact}
 use Rattle.tree_laws.specs.Packets.{PacketFact}
 use Rattle.tree_laws.specs.Printed.{entries, onto_entries}
 use Rattle.tree_laws.specs.Users.{WaitingFact}
-use Rattle.tree_laws.proofs.Names.{some_is, test_own, true_false}
-use Rattle.user_laws.specs.Turning.{it}
-use Rattle.user_laws.proofs.Accepting.{call_fine}
-use Rattle.user_laws.proofs.Tabled.{every_among}
+use Rattle.one_tree_laws.specs.of_user_laws.Turning.{it}
+use Rattle.one_tree_laws.proofs.of_user_laws.Accepting.{call_fine}
+use Rattle.one_tree_laws.proofs.of_user_laws.Tabled.{every_among}
 use Rattle.one_tree_laws.specs.Places.{InsideFact}
 use Rattle.one_tree_laws.specs.Rest.{AllRest, EachRest, Past, RangeCall, RestTold}
 use Rattle.one_tree_laws.specs.Roles.{CallsFine, Ready}
@@ -64,7 +66,7 @@ keyed c (x ∷ older) h d w e = over x.told h.0 (keyed c older h.1 d w) e
     of (says.Accept s process new words) rest later k = at (same_call new d) k
       where
         at : (b : Bool) → cond b (Some (accepted_as (entries older) s process new words)) (call_named (entries older) d) ≡ Some w → IsKeyed w.process w.words
-        at true m = subst (λ (y : Waiting). IsKeyed y.process y.words) (some_is (accepted_as (entries older) s process new words) w m) (keyed_call c s process words rest.range)
+        at true m = subst (λ (y : Waiting). IsKeyed y.process y.words) (some_same (accepted_as (entries older) s process new words) w m) (keyed_call c s process words rest.range)
         at false m = later m
     of r rest later k = later k
 
@@ -82,11 +84,11 @@ module _ (c : Config) (rests : UserRests c) (n : ℕ) (t : List Line) (f : Frame
       low : tab.group < 4
       low = synced_low c f.members tab.group f.me rests.few (ap (sync_site c tab.group) (sym k.frame.members_are) ∙ synced c t f v past k tab here started alone r found)
 
-      above : (p g : ℕ) → 1 ≤ p → g < 4 → 16 * p ≡ g → ⊥
+      above : (p g : ℕ) → 1 ≤ p → g < 4 → waiting_span * p ≡ g → ⊥
       above p g one lt e = omega (arith, one, lt, e)
 
       one_key : (w : WaitingCall) → Among w v.users.waiting → (words : Call) → w.words ≡ words → IsKeyed w.process words → waiting_of w.process words ≡ tab.group → ⊥
-      one_key w m (call.Mend file) e q same = true_false (sym (any_among (is_mend_in tab.group) v.users.waiting w m (ap (mends_in tab.group) e ∙ subst (λ (g : ℕ). (file.group == g) ≡ true) same (test_own file.group))) ∙ alone)
+      one_key w m (call.Mend file) e q same = true_false (sym (any_among (is_mend_in tab.group) v.users.waiting w m (ap (mends_in tab.group) e ∙ subst (λ (g : ℕ). (file.group == g) ≡ true) same (equal_self file.group))) ∙ alone)
       one_key w m _ e q same = above w.process tab.group q low same
 
       keyed_row : (w : WaitingCall) → Among w v.users.waiting → IsKeyed w.process w.words

@@ -3,6 +3,9 @@ use Rattle.std.proofs.Common.{◌≡◌, ℕ, suc, arith, ◌+◌, ◌==◌, Boo
 use Rattle.std.proofs.lemmas.Bool.Decides.{nat_tests}
 use Rattle.std.specs.List.{find, list_all, list_any}
 use Rattle.std.specs.Option.{option_map}
+use Rattle.role_steps.proofs.of_plain_facts.Numbers.{equal}
+use Rattle.role_steps.proofs.of_plain_facts.Options.{none_some, some_same}
+use Rattle.role_steps.proofs.of_plain_facts.Tests.{and_first, and_second, true_false}
 use Rattle.locus_ids.specs.declared.config.Config.{Config}
 use Rattle.locus_ids.specs.declared.ids.FileId.{FileId}
 use Rattle.locus_ids.specs.declared.ids.Kind.{Kind}
@@ -38,30 +41,28 @@ use Rattle.tree_model.specs.Calls.{waiting}
 use Rattle.tree_model.specs.Epochs.{boot_of, members_of}
 use Rattle.tree_model.specs.Files.{version_of}
 use Rattle.tree_model.specs.Histories.{held, history}
-use Rattle.tree_model.specs.Mending.{join_of_kept, joined_all, kept_vectors}
+use Rattle.tree_model.specs.Mending.{joined_all, kept_vectors}
 use Rattle.tree_model.specs.Mending as mending
 use Rattle.tree_model.specs.Opening.{is_only}
 use Rattle.tree_model.specs.Packs.{sync_site}
 use Rattle.tree_model.specs.State.{TreeState, held_at, kept_of}
 use Rattle.tree_model.specs.Tree.{tree_of}
 use Rattle.tree_model.specs.Working.{are_several}
-use Rattle.lawful_trace.specs.CallRows.{MayMend, has_lost_mend, has_open, is_mend_wanted, is_this, mend_waits}
+use Rattle.lawful_trace.specs.CallRows.{MayMend, has_open, is_mend_wanted, mend_waits}
 use Rattle.lawful_trace.specs.CallRows as rows
 use Rattle.tree_laws.specs.Instances.{held_in}
 use Rattle.tree_laws.specs.Printed.{entries}
 use Rattle.tree_laws.specs.Stores.{copy_for}
 use Rattle.tree_laws.specs.Tables.{FileFact, FilesFact, StartedFiles, TableFact, named_instance, named_row, row_stamp}
-use Rattle.tree_laws.proofs.Names.{some_is, test_same, true_false}
 use Rattle.tree_laws.proofs.Rows.{followed_rows}
 use Rattle.tree_laws.proofs.Waiting.{found_among}
-use Rattle.order_laws.proofs.Alone.{first_of, second_of}
-use Rattle.order_laws.proofs.Standing.{same_stamp_eq}
-use Rattle.order_laws.proofs.ProcessSynchronizing.{sync_same}
-use Rattle.holding_laws.proofs.Below.{packs_hold}
-use Rattle.holding_laws.proofs.Holding.{sites_hold, some_found}
-use Rattle.sync_laws.proofs.Notices.{rows_found}
-use Rattle.sync_laws.proofs.Rows.{every_among}
-use Rattle.user_laws.proofs.Tabled.{first_found}
+use Rattle.one_tree_laws.proofs.of_order_laws.Standing.{same_stamp_eq}
+use Rattle.one_tree_laws.proofs.of_order_laws.ProcessSynchronizing.{sync_same}
+use Rattle.one_tree_laws.proofs.of_holding_laws.Below.{packs_hold}
+use Rattle.one_tree_laws.proofs.of_holding_laws.Holding.{sites_hold, some_found}
+use Rattle.one_tree_laws.proofs.of_sync_laws.Notices.{rows_found}
+use Rattle.one_tree_laws.proofs.of_sync_laws.Rows.{every_among}
+use Rattle.one_tree_laws.proofs.of_user_laws.Tabled.{first_found}
 use Rattle.one_tree_laws.specs.Places.{InsideFact}
 use Rattle.one_tree_laws.specs.Rest.{Past}
 use Rattle.one_tree_laws.proofs.Parts.{synced_one}
@@ -104,7 +105,7 @@ passes_none {A} {B} p g (x ∷ xs) h = at (passes_none p g xs) (p x) refl h
 
 -- ---- joins of one directory ----
 
-joined_none : (ds : List Entry) → joined_dirs ds [] ≡ ds
+pub joined_none : (ds : List Entry) → joined_dirs ds [] ≡ ds
 joined_none [] = refl
 joined_none (d ∷ ds) = ap (λ (es : List Entry). d ∷ es) (joined_none ds)
 
@@ -130,9 +131,6 @@ looked_at v tab stamp file (Some x) e w = same (same_stamp x.stamp stamp) refl w
 
 -- ---- what is held ----
 
-none_some : {A : Type 0} (x : A) → ◌≡◌ {A = Option A} None (Some x) → ⊥
-none_some x e = cc
-
 record IsHeldAs (c : Config) (t : List Line) (me : ℕ) (file : FileId) (x : FileCopy) : Type 0 where
   stamp : Stamp
   is : held c (entries t) me file ≡ Some stamp
@@ -144,7 +142,7 @@ held_as c t me file x None e k = absurd (none_some x k)
 held_as c t me file x (Some s) e k = record { stamp = s; is = e; stamp_is = ap (λ (y : FileCopy). y.stamp) (sym same); content_is = ap (λ (y : FileCopy). y.content) (sym same) }
   where
     same : copy_for file (version_of c (entries t) file s) ≡ x
-    same = some_is (copy_for file (version_of c (entries t) file s)) x k
+    same = some_same (copy_for file (version_of c (entries t) file s)) x k
 
 -- ---- the mend ----
 
@@ -275,10 +273,10 @@ module _ (c : Config) (t : List Line) (f : Frame) (v : SiteView) (past : Past c 
       another w m p = true_false (sym (any_among (is_mend_in tab.group) v.users.waiting q.row q.among mends) ∙ alone)
         where
           q : HasRow f v.users w
-          q = has_row c t f v.users past.followed k.users.inside.inside w m (test_same w.site f.me (first_of (w.site == f.me) _ p))
+          q = has_row c t f v.users past.followed k.users.inside.inside w m (equal w.site f.me (and_first (w.site == f.me) _ p))
 
           mends : mends_in tab.group q.row.words ≡ true
-          mends = sym (same_words q.row.words) ∙ (ap (λ (x : Waiting). rows.is_mend_in tab.group x.words) (sym q.same) ∙ second_of (w.site == f.me) _ p)
+          mends = sym (same_words q.row.words) ∙ (ap (λ (x : Waiting). rows.is_mend_in tab.group x.words) (sym q.same) ∙ and_second (w.site == f.me) _ p)
 
       over : (b : Bool) → mend_waits (entries t) f.me tab.group ≡ b → b ≡ false
       over false e = refl

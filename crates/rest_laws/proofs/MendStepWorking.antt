@@ -1,5 +1,8 @@
 -- What a mend works on at its storage site: the contents of the kept versions of its directory, and the vectors of all that is kept.
 use Rattle.std.proofs.Common.{◌≡◌, ℕ, ◌≤◌, ◌==◌, Bool, true, false, List, [], ◌∷◌, length, map, Option, Some, None, refl, sym, ◌∙◌, ap, subst, ◌⊎◌, inl, inr}
+use Rattle.role_steps.proofs.of_plain_facts.Numbers.{equal, equal_self}
+use Rattle.role_steps.proofs.of_plain_facts.Options.{some_same}
+use Rattle.role_steps.proofs.of_plain_facts.Tests.{and_first, true_false}
 use Rattle.locus_ids.specs.declared.config.Config.{Config}
 use Rattle.locus_ids.specs.declared.ids.CallId.{CallId}
 use Rattle.locus_ids.specs.declared.ids.EpochId.{EpochId}
@@ -7,6 +10,7 @@ use Rattle.locus_ids.specs.declared.ids.FileId.{FileId}
 use Rattle.locus_ids.specs.declared.ids.Mode.TheVariants as mode
 use Rattle.locus_ids.specs.declared.ids.Serial.{Serial}
 use Rattle.locus_ids.specs.declared.ids.Stamp.{Stamp}
+use Rattle.locus_ids.specs.Sizes.{sites_max}
 use Rattle.commit_graph.specs.Versions.{content_of}
 use Rattle.trace_book.specs.declared.call.Call.{Call}
 use Rattle.trace_book.specs.declared.call.Call.TheVariants as call
@@ -54,21 +58,19 @@ use Rattle.tree_laws.specs.Users.{Brings, BringsFor, WaitingFact, taken_whole}
 use Rattle.tree_laws.proofs.Alone.{alone}
 use Rattle.tree_laws.proofs.Kinship.{started_stays}
 use Rattle.tree_laws.proofs.Mending.{mends_at_sync}
-use Rattle.tree_laws.proofs.Names.{some_is, test_own, test_same, true_false}
 use Rattle.tree_laws.proofs.Waiting.{accepted, asking_waits}
-use Rattle.order_laws.proofs.Alone.{first_of}
-use Rattle.order_laws.proofs.ProcessOpen.{OpenAs, granted_open}
-use Rattle.order_laws.proofs.ProcessOwner.{owner_act}
-use Rattle.order_laws.proofs.ProcessSynchronizing.{sync_same}
-use Rattle.holding_laws.specs.Below.{LawsBelow}
-use Rattle.holding_laws.proofs.Below.{commits_new}
-use Rattle.holding_laws.specs.MendWorking.{MendsNow}
-use Rattle.holding_laws.proofs.MendMending.{mends_now}
-use Rattle.sync_laws.proofs.OpensStay.{granted_named}
-use Rattle.store_laws.specs.Rests.{MendsAs}
-use Rattle.store_laws.proofs.Numbers.{serial_key_eq}
-use Rattle.user_laws.specs.Turning.{it}
-use Rattle.user_laws.proofs.Tabled.{every_among, first_found, one_row, row_found}
+use Rattle.one_tree_laws.proofs.of_order_laws.ProcessOpen.{OpenAs, granted_open}
+use Rattle.one_tree_laws.proofs.of_order_laws.ProcessOwner.{owner_act}
+use Rattle.one_tree_laws.proofs.of_order_laws.ProcessSynchronizing.{sync_same}
+use Rattle.one_tree_laws.specs.of_holding_laws.Below.{LawsBelow}
+use Rattle.one_tree_laws.proofs.of_holding_laws.Below.{commits_new}
+use Rattle.one_tree_laws.specs.of_holding_laws.MendWorking.{MendsNow}
+use Rattle.one_tree_laws.proofs.of_holding_laws.MendMending.{mends_now}
+use Rattle.one_tree_laws.proofs.of_sync_laws.OpensStay.{granted_named}
+use Rattle.one_tree_laws.specs.of_store_laws.Rests.{MendsAs}
+use Rattle.one_tree_laws.proofs.of_store_laws.Numbers.{serial_key_eq}
+use Rattle.one_tree_laws.specs.of_user_laws.Turning.{it}
+use Rattle.one_tree_laws.proofs.of_user_laws.Tabled.{every_among, first_found, one_row, row_found}
 use Rattle.one_tree_laws.specs.Places.{InsideFact}
 use Rattle.one_tree_laws.specs.Rest.{Past}
 use Rattle.one_tree_laws.proofs.Staying.{rest_below}
@@ -78,9 +80,6 @@ use Rattle.rest_laws.proofs.MendStepPlaces.{mend_place}
 use Rattle.rest_laws.proofs.MendStepRows.{HasRow, has_row}
 
 -- ---- the row of the mend ----
-
-none_some : {A : Type 0} (x : A) → ◌≡◌ {A = Option A} None (Some x) → ⊥
-none_some x e = cc
 
 first_none : {A : Type 0} (test : A → Bool) (xs : List A) (x : A) → first_that test xs ≡ None → Among x xs → test x ≡ true → ⊥
 first_none test [] x e m p = m
@@ -95,7 +94,7 @@ first_none {A} test (y ∷ ys) x e m p = at (first_none test ys x) (test y) refl
     at later false t k (inr n) = later k n p
 
 key_of : (g process : ℕ) (words : Call) → mends_in g words ≡ true → waiting_of process words ≡ g
-key_of g process (call.Mend file) e = test_same file.group g e
+key_of g process (call.Mend file) e = equal file.group g e
 key_of g process _ e = absurd (true_false (sym e))
 
 -- one mend of a group waits at most
@@ -131,7 +130,7 @@ with_released c (x ∷ older) e i stamp a (inl k) = inl (over x.told k)
 
 started_record : (c : Config) (older : List Line) (r : Record) → MayTell c older (Shown r) → (e : EpochId) (d : CallId) (request : ℕ) (i : Serial) (f : FileId) (stamp : Option Stamp) (ss : ℕ) → GrantRecord e d request i mode.Mend f stamp ss older r → IsStarted c older e f.group
 started_record c older (says.Grant at call number inst m file on place) may e d request i f stamp ss k =
-    subst (λ (y : EpochId). IsStarted c older y f.group) k.epoch_is (subst (λ (y : FileId). IsStarted c older at y.group) k.file_is (first_of (tree_of c at file.group (entries older)).started _ may.row.gives))
+    subst (λ (y : EpochId). IsStarted c older y f.group) k.epoch_is (subst (λ (y : FileId). IsStarted c older at y.group) k.file_is (and_first (tree_of c at file.group (entries older)).started _ may.row.gives))
 started_record c older _ may e d request i f stamp ss k = absurd k
 
 granted_started : (c : Config) (t : List Line) → IsFollowed c t → (e : EpochId) (d : CallId) (request : ℕ) (i : Serial) (f : FileId) (stamp : Option Stamp) (ss : ℕ) → WasGranted t e d request i mode.Mend f stamp ss → IsStarted c t e f.group
@@ -178,7 +177,7 @@ module _ (c : Config) (t : List Line) (f : Frame) (v : SiteView) (past : Past c 
       running (inl (x, works)) = record { file_is = sym works.file_is ∙ (ap (λ (y : Open). y.grant.file) same ∙ opened.file_is); place_is = sym opened.place_is ∙ (ap (λ (y : Open). y.grant.ss) (sym same) ∙ works.open_at.place) }
         where
           same : x ≡ opened.at
-          same = some_is x opened.at (sym works.open_at.found ∙ opened.found)
+          same = some_same x opened.at (sym works.open_at.found ∙ opened.found)
       running (inr waits) = absurd (waits.unnamed (granted_named t f.epoch d m.request i.inst mode.Mend m.file m.stamp m.place m.was))
 
       over : (s : Stage) → StageFact c t f i s → IsHere
@@ -193,7 +192,7 @@ module _ (c : Config) (t : List Line) (f : Frame) (v : SiteView) (past : Past c 
   -- ---- its row ----
 
   one : m.caller ≡ inside.accepted
-  one = some_is m.caller inside.accepted (sym m.named ∙ inside.named)
+  one = some_same m.caller inside.accepted (sym m.named ∙ inside.named)
 
   words : inside.accepted.words ≡ call.Mend m.file
   words = ap (λ (w : Waiting). w.words) (sym one) ∙ m.words_are
@@ -202,7 +201,7 @@ module _ (c : Config) (t : List Line) (f : Frame) (v : SiteView) (past : Past c 
   synced = mend_place c t past.followed f.epoch d m.request i.inst m.file m.stamp m.place m.was ∙ ap Some here.place_is
 
   site : inside.accepted.site ≡ f.me
-  site = some_is inside.accepted.site f.me (sym (mends_at_sync c t past.followed d inside.accepted f.epoch m.file inside.named inside.made_in words) ∙ synced)
+  site = some_same inside.accepted.site f.me (sym (mends_at_sync c t past.followed d inside.accepted f.epoch m.file inside.named inside.made_in words) ∙ synced)
 
   waits : Among inside.accepted (waiting (entries t))
   waits = asking_waits c t f.epoch d past.followed inside (ap (epoch_of (entries t)) (sym ((accepted c t past.followed).named d inside.accepted inside.named).site_is ∙ site) ∙ k.frame.inside) (ap is_request asks.asked)
@@ -218,7 +217,7 @@ module _ (c : Config) (t : List Line) (f : Frame) (v : SiteView) (past : Past c 
 
   is_first : first_that (is_mend_in i.file.group) v.users.waiting ≡ Some row_of.row
   is_first = first_row i.file.group v.users.waiting row_of.row k.users.inside.inside.ascends row_of.among
-      (ap (mends_in i.file.group) row_words ∙ subst (λ (g : ℕ). (m.file.group == g) ≡ true) (ap (λ (y : FileId). y.group) (sym here.file_is)) (test_own m.file.group))
+      (ap (mends_in i.file.group) row_words ∙ subst (λ (g : ℕ). (m.file.group == g) ≡ true) (ap (λ (y : FileId). y.group) (sym here.file_is)) (equal_self m.file.group))
 
   -- ---- what it has brought ----
 
@@ -259,7 +258,7 @@ module _ (c : Config) (t : List Line) (f : Frame) (v : SiteView) (past : Past c 
   works_as = record { contents = contents; kept = kept }
 
 -- at the storage site of an instance of which a call asks to mend
-pub mends_as : (c : Config) (t : List Line) (f : Frame) (v : SiteView) → Past c t → InsideFact c f t v → length c.packs ≤ 4 → (inst : Serial) → inst.us ≤ 16 → (i : Instance) → instance_of v.store inst ≡ Some i →
+pub mends_as : (c : Config) (t : List Line) (f : Frame) (v : SiteView) → Past c t → InsideFact c f t v → length c.packs ≤ 4 → (inst : Serial) → inst.us ≤ sites_max → (i : Instance) → instance_of v.store inst ≡ Some i →
     (d : CallId) → IsCallIn (entries t) f.epoch d → Asks c t d (want.Do inst op.Mend) → MendsAs c t f i.file (mending v (group_of (instance_of v.store inst)))
 mends_as c t f v past k few inst small i found d inside asks = subst (λ (o : Option Instance). MendsAs c t f i.file (mending v (group_of o))) (sym found)
     (works_as c t f v past k few i at.0 d inside (subst (λ (j : Serial). Asks c t d (want.Do j op.Mend)) (sym same) asks))

@@ -1,5 +1,5 @@
 -- What the steps of synchronization sites rest on, from all that was told so far.
-use Rattle.std.proofs.Common.{◌≡◌, ◌≤◌, ◌<◌, ◌^◌, ℕ, ◌&&◌, min, nat_lt, Bool, true, false, List, Option, Some, None, refl, sym, ◌∙◌, subst, arith}
+use Rattle.std.proofs.Common.{◌≡◌, ◌≤◌, ◌<◌, ◌^◌, ℕ, ◌&&◌, min, nat_lt, Bool, true, false, List, Option, Some, None, refl, sym, ◌∙◌, subst, arith, ◌+◌}
 use Rattle.std.proofs.lemmas.Bool.Decides.{nat_tests}
 use Rattle.std.proofs.Math.Pow.{pow_mono}
 use Rattle.std.specs.Option.{option_map}
@@ -7,6 +7,7 @@ use Rattle.locus_ids.specs.declared.config.Config.{Config}
 use Rattle.locus_ids.specs.declared.ids.CallId.{CallId}
 use Rattle.locus_ids.specs.declared.ids.EpochId.{EpochId}
 use Rattle.locus_ids.specs.declared.sites.Sites.{Sites}
+use Rattle.locus_ids.specs.Sizes.{set_span, sites_max}
 use Rattle.schedule_lines.specs.Ranges.{is_some_sites, is_word}
 use Rattle.trace_book.specs.declared.call.Call.{Call}
 use Rattle.trace_book.specs.declared.call.Call.TheVariants as call
@@ -16,14 +17,14 @@ use Rattle.tree_model.specs.Calls.{call_named}
 use Rattle.tree_model.specs.Opening.{sites_made}
 use Rattle.tree_model.specs.Packs.{packs_of}
 use Rattle.tree_laws.specs.Printed.{entries}
-use Rattle.order_laws.specs.Joining.{PacksAreOfSites}
-use Rattle.holding_laws.proofs.Below.{commits_new, packs_hold}
-use Rattle.holding_laws.proofs.Holding.{sites_hold, stands_on_held}
-use Rattle.holding_laws.proofs.MendOnly.{only_had}
-use Rattle.holding_laws.proofs.MendWhole.{whole_kept}
-use Rattle.store_laws.proofs.Said.{asked_as_said}
-use Rattle.sync_laws.specs.Making.{MakesAreSaid}
-use Rattle.sync_laws.specs.Serving.{CallsAreKnown, FilesAreOrdered}
+use Rattle.one_tree_laws.specs.of_order_laws.Joining.{PacksAreOfSites}
+use Rattle.one_tree_laws.proofs.of_holding_laws.Below.{commits_new, packs_hold}
+use Rattle.one_tree_laws.proofs.of_holding_laws.Holding.{sites_hold, stands_on_held}
+use Rattle.one_tree_laws.proofs.of_holding_laws.MendOnly.{only_had}
+use Rattle.one_tree_laws.proofs.of_holding_laws.MendWhole.{whole_kept}
+use Rattle.one_tree_laws.proofs.of_store_laws.Said.{asked_as_said}
+use Rattle.one_tree_laws.specs.of_sync_laws.Making.{MakesAreSaid}
+use Rattle.one_tree_laws.specs.of_sync_laws.Serving.{CallsAreKnown, FilesAreOrdered}
 use Rattle.one_tree_laws.proofs.NumberSaid.{making_said}
 use Rattle.one_tree_laws.specs.Rest.{AskedCall, Past, RangeCall}
 use Rattle.one_tree_laws.proofs.Staying.{rest_below}
@@ -39,7 +40,7 @@ files_ordered c t past e = record {
   joined = λ site f stamp held. (sites_hold c (entries t) (packs_hold c t (rest_below c t past.rest).packed)).joined e site f stamp held;
 }
 
-below_seventeen : (s : ℕ) → s ≤ 16 → s < 17
+below_seventeen : (s : ℕ) → s ≤ sites_max → s < sites_max + 1
 below_seventeen s h = omega (arith, h)
 
 pub calls_known : (c : Config) (t : List Line) → Past c t → OpensAreSaid c t → CallsAreKnown c t
@@ -54,10 +55,10 @@ calls_known c t past said = record {
 
 -- ---- makes ----
 
-pub some_low : (n : ℕ) (set : Sites) → is_some_sites n set ≡ true → set.0 < 2 ^ 16
-some_low n set h = within (2 ^ min n 16) (2 ^ 16) (second (nat_lt 0 set.0) (nat_lt set.0 (2 ^ min n 16)) h) (pow_mono (capped n))
+pub some_low : (n : ℕ) (set : Sites) → is_some_sites n set ≡ true → set.0 < set_span
+some_low n set h = within (2 ^ min n sites_max) set_span (second (nat_lt 0 set.0) (nat_lt set.0 (2 ^ min n sites_max)) h) (pow_mono (capped n))
   where
-    capped : (k : ℕ) → min k 16 ≤ 16
+    capped : (k : ℕ) → min k sites_max ≤ sites_max
     capped k = omega arith
 
     second : (a b : Bool) → a && b ≡ true → b ≡ true
@@ -67,24 +68,24 @@ some_low n set h = within (2 ^ min n 16) (2 ^ 16) (second (nat_lt 0 set.0) (nat_
     within : (a b : ℕ) → nat_lt set.0 a ≡ true → a ≤ b → set.0 < b
     within a b h le = grind (arith, nat_tests)
 
-copies_fit : (c : Config) (s process : ℕ) (path : List ℕ) (set : Sites) → AskedCall c s process (call.Create path (Some set)) → set.0 < 2 ^ 16
+copies_fit : (c : Config) (s process : ℕ) (path : List ℕ) (set : Sites) → AskedCall c s process (call.Create path (Some set)) → set.0 < set_span
 copies_fit c s process path set k = some_low c.sites set (second (is_word path) (is_some_sites c.sites set) k.fits)
   where
     second : (a b : Bool) → a && b ≡ true → b ≡ true
     second true b h = h
     second false b h = absurd (cc)
 
-made_fits : (c : Config) (group s process : ℕ) → PacksAreOfSites c → (words : Call) → RangeCall c s process words → (sites_made (packs_of c group) (Some words)).0 < 2 ^ 16
+made_fits : (c : Config) (group s process : ℕ) → PacksAreOfSites c → (words : Call) → RangeCall c s process words → (sites_made (packs_of c group) (Some words)).0 < set_span
 made_fits c group s process packs (call.Create path (Some set)) k = copies_fit c s process path set k
 made_fits c group s process packs (call.Create path None) k = packs group
 made_fits c group s process packs _ k = packs group
 
-some_fits : (c : Config) (t : List Line) (group : ℕ) (d : CallId) → Past c t → (o : Option Waiting) → call_named (entries t) d ≡ o → (sites_made (packs_of c group) (option_map (λ (w : Waiting). w.words) o)).0 < 2 ^ 16
+some_fits : (c : Config) (t : List Line) (group : ℕ) (d : CallId) → Past c t → (o : Option Waiting) → call_named (entries t) d ≡ o → (sites_made (packs_of c group) (option_map (λ (w : Waiting). w.words) o)).0 < set_span
 some_fits c t group d past None e = past.rest.packs group
 some_fits c t group d past (Some w) e = made_fits c group d.site w.process past.rest.packs w.words (known_call c t past.followed past.rest.each d w e).range
 
 pub makes_said : (c : Config) (t : List Line) → Past c t → MakesAreSaid c t
 makes_said c t past = record {
   said = λ e d request serial file set k asks. making_said c t e d file.group ∙ sym (asked_as_said c t e d request serial file set k asks).0;
-  fits = λ e d request serial file set k asks. subst (λ (z : Sites). z.0 < 2 ^ 16) (sym (asked_as_said c t e d request serial file set k asks).0) (some_fits c t file.group d past (call_named (entries t) d) refl);
+  fits = λ e d request serial file set k asks. subst (λ (z : Sites). z.0 < set_span) (sym (asked_as_said c t e d request serial file set k asks).0) (some_fits c t file.group d past (call_named (entries t) d) refl);
 }

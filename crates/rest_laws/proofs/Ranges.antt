@@ -3,6 +3,7 @@ use Rattle.std.proofs.Common.{◌≡◌, ◌≤◌, ◌<◌, ℕ, zero, suc, ◌
 use Rattle.std.proofs.lemmas.Bool.Decides.{nat_tests}
 use Rattle.locus_ids.specs.declared.config.Config.{Config}
 use Rattle.locus_ids.specs.declared.sites.Members.{Members}
+use Rattle.locus_ids.specs.Sizes.{sites_max}
 use Rattle.schedule_lines.specs.Ranges.{fits_call, fits_event, is_between, is_site}
 use Rattle.schedule_lines.specs.declared.line.Line.TheVariants as line
 use Rattle.schedule_lines.specs.declared.line.ScheduleLine.{ScheduleLine}
@@ -14,12 +15,12 @@ use Rattle.tree_model.specs.Folds.{Trace}
 use Rattle.tree_model.specs.Epochs.{boot_after, boot_of}
 use Rattle.tree_model.specs.Packs.{boot_in}
 use Rattle.lawful_trace.specs.CallRows.{CallLine, IsCallAsked}
-use Rattle.vector_laws.specs.HistoryCommits.{IsSite}
-use Rattle.row_laws.specs.Events.{IsShort}
-use Rattle.row_laws.specs.Rows.{SiteRecordRow}
-use Rattle.row_laws.specs.Shown.{EachRecord}
-use Rattle.row_laws.specs.Voids.{LinesFit}
-use Rattle.sync_laws.proofs.Members.{table_boot}
+use Rattle.one_tree_laws.specs.of_vector_laws.HistoryCommits.{IsSite}
+use Rattle.one_tree_laws.specs.of_row_laws.Events.{IsShort}
+use Rattle.one_tree_laws.specs.of_row_laws.Rows.{SiteRecordRow}
+use Rattle.one_tree_laws.specs.of_row_laws.Shown.{EachRecord}
+use Rattle.one_tree_laws.specs.of_row_laws.Voids.{LinesFit}
+use Rattle.one_tree_laws.proofs.of_sync_laws.Members.{table_boot}
 use Rattle.one_tree_laws.specs.Rest.{AskedCall, RangeCall}
 use Rattle.rest_laws.proofs.Shown.{IsRow}
 
@@ -49,18 +50,18 @@ listed_site m zero boot e low short = absurd (never boot e low)
   where
     never : (b : ℕ) → 0 ≡ b → 1 ≤ b → ⊥
     never b e low = omega (arith, e, low)
-listed_site m (suc k) boot e low short = record { low = omega arith; high = up (nat_lt 16 (suc k)) refl }
+listed_site m (suc k) boot e low short = record { low = omega arith; high = up (nat_lt sites_max (suc k)) refl }
   where
-    beyond : nat_lt 16 (suc k) ≡ true → 17 ≤ suc k
+    beyond : nat_lt sites_max (suc k) ≡ true → sites_max < suc k
     beyond q = grind (arith, nat_tests)
 
-    within : nat_lt 16 (suc k) ≡ false → suc k ≤ 16
+    within : nat_lt sites_max (suc k) ≡ false → suc k ≤ sites_max
     within q = grind (arith, nat_tests)
 
     none : (b : ℕ) → b ≡ 0 → 1 ≤ b → ⊥
     none b e low = omega (arith, e, low)
 
-    up : (b : Bool) → nat_lt 16 (suc k) ≡ b → suc k ≤ 16
+    up : (b : Bool) → nat_lt sites_max (suc k) ≡ b → suc k ≤ sites_max
     up true q = absurd (none boot (sym e ∙ (sym (table_boot m (suc k)) ∙ short (suc k) (beyond q))) low)
     up false q = within q
 
@@ -77,7 +78,7 @@ call_fits n s process words h = over (is_site n s) (is_between 1 8 process) h
 site_low : (n s : ℕ) → is_site n s ≡ true → 1 ≤ s
 site_low n s h = grind (arith, nat_tests)
 
-site_high : (n s : ℕ) → is_site n s ≡ true → s ≤ 16
+site_high : (n s : ℕ) → is_site n s ≡ true → s ≤ sites_max
 site_high n s h = grind (arith, nat_tests)
 
 process_one : (p : ℕ) → is_between 1 8 p ≡ true → 1 ≤ p

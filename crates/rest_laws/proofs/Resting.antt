@@ -9,25 +9,25 @@ use Rattle.role_steps.specs.Views.{Told, Shown}
 use Rattle.the_run.specs.Runs.{run_in}
 use Rattle.the_run.specs.Worlds.{Line}
 use Rattle.tree_model.specs.Folds.{Trace}
-use Rattle.vector_laws.specs.Written.{CommitsAreNumbered, past_of}
-use Rattle.vector_laws.proofs.FactsRun.{run_numbered}
-use Rattle.vector_laws.specs.HistoryCommits.{CommitsAreSited, FitTold, NumbersFit, StampsAreOnce}
-use Rattle.vector_laws.proofs.HistorySited.{run_sited}
-use Rattle.pack_laws.proofs.InstanceAgree.{run_agrees}
-use Rattle.pack_laws.proofs.InodeFitsRun.{run_fits}
-use Rattle.pack_laws.specs.Packs.{ToldPacked}
-use Rattle.pack_laws.proofs.PacksRun.{run_packs}
-use Rattle.kept_laws.proofs.StampLawsRun.{run_stamps}
-use Rattle.kept_laws.specs.Roots.{RootRecord as KeptRecord, RootTold as KeptTold, RootsFollow}
-use Rattle.kept_laws.proofs.RootsRun.{run_roots}
-use Rattle.row_laws.specs.Shown.{EachRecord}
-use Rattle.row_laws.specs.Voids.{LinesFit}
+use Rattle.one_tree_laws.specs.of_vector_laws.Written.{CommitsAreNumbered, past_of}
+use Rattle.one_tree_laws.proofs.of_vector_laws.FactsRun.{run_numbered}
+use Rattle.one_tree_laws.specs.of_vector_laws.HistoryCommits.{CommitsAreSited, FitTold, NumbersFit, StampsAreOnce}
+use Rattle.one_tree_laws.proofs.of_vector_laws.HistorySited.{run_sited}
+use Rattle.one_tree_laws.proofs.of_pack_laws.InstanceAgree.{run_agrees}
+use Rattle.one_tree_laws.proofs.of_pack_laws.InodeFitsRun.{run_fits}
+use Rattle.one_tree_laws.specs.of_pack_laws.Packs.{ToldPacked}
+use Rattle.one_tree_laws.proofs.of_pack_laws.PacksRun.{run_packs}
+use Rattle.one_tree_laws.proofs.of_kept_laws.StampLawsRun.{run_stamps}
+use Rattle.one_tree_laws.specs.of_kept_laws.Roots.{RootsFollow}
+use Rattle.one_tree_laws.proofs.of_kept_laws.RootsRun.{run_roots}
+use Rattle.one_tree_laws.specs.of_row_laws.Shown.{EachRecord}
+use Rattle.one_tree_laws.specs.of_row_laws.Voids.{LinesFit}
 use Rattle.tree_laws.specs.Printed.{entries, onto_entries}
-use Rattle.order_laws.specs.Joining.{PacksAreOfSites}
-use Rattle.holding_laws.proofs.Below.{once_before}
-use Rattle.one_tree_laws.specs.Rest.{EachRest, IsRest, RangeTold, RootRecord, RootTold, RowTold}
-use Rattle.pack_laws.specs.CounterNumbers.{IsLowRecord, IsLowTold, NumbersAreLow}
-use Rattle.pack_laws.proofs.CounterRun.{run_numbers_low}
+use Rattle.one_tree_laws.specs.of_order_laws.Joining.{PacksAreOfSites}
+use Rattle.one_tree_laws.proofs.of_holding_laws.Below.{once_before}
+use Rattle.one_tree_laws.specs.Rest.{EachRest, IsRest, RangeTold, RowTold}
+use Rattle.one_tree_laws.specs.of_pack_laws.CounterNumbers.{IsLowRecord, IsLowTold, NumbersAreLow}
+use Rattle.one_tree_laws.proofs.of_pack_laws.CounterRun.{run_numbers_low}
 use Rattle.one_tree_laws.specs.SpentMends.{MendedRecord, MendedTold}
 use Rattle.one_tree_laws.proofs.SpentRun.{run_mended}
 use Rattle.rest_laws.specs.Counters.{CountersAreLow, LowRecord, LowTold}
@@ -78,14 +78,6 @@ range_told c lines n older _ fit h k low = tt
 
 -- ---- all lines ----
 
-own_record : (r : Record) → KeptRecord r → RootRecord r
-own_record (says.Commit f s stamp parents content) h = h
-own_record _ h = tt
-
-own_told : (x : Told) → KeptTold x → RootTold x
-own_told (Shown r) h = own_record r h
-own_told _ h = tt
-
 each_rest : (c : Config) (lines : List ScheduleLine) → LinesFit c lines → (t : List Line) → Gives c lines t → EachRest c t
 each_rest c lines fit [] g = tt
 each_rest c lines fit (x ∷ older) g = (
@@ -97,7 +89,7 @@ each_rest c lines fit (x ∷ older) g = (
     once = g.once;
     numbered = g.numbered.0;
     sited = g.sited.0;
-    rooted = own_told x.told g.rooted.0;
+    rooted = g.rooted.0;
   },
   each_rest c lines fit older (gives_before c lines x older g),
 )

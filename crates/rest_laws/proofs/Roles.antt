@@ -30,17 +30,17 @@ use Rattle.tree_laws.specs.Packets.{BodyFact, PacketFact, LookFact, NotifyFact, 
 use Rattle.tree_laws.specs.Instances.{Stands}
 use Rattle.tree_laws.specs.Past.{WasReleased}
 use Rattle.tree_laws.specs.Stores.{InstanceFact, PullFact, StageFact}
-use Rattle.user_laws.specs.Leaving.{LeavesFine}
-use Rattle.user_laws.proofs.Leaving.{users_leave_fine}
-use Rattle.store_laws.proofs.Closes.{closed_ok_fine, closed_sent}
-use Rattle.store_laws.proofs.MakingHere.{open_fine as begin_fine}
-use Rattle.store_laws.proofs.Pulls.{notify_fine, page_fine}
-use Rattle.store_laws.proofs.Serving.{look_served, page_sent}
-use Rattle.sync_laws.specs.Serving.{Serving}
-use Rattle.sync_laws.proofs.Looks.{look_fine}
-use Rattle.sync_laws.proofs.Makes.{make_fine}
-use Rattle.sync_laws.proofs.Notices.{repeats_fine}
-use Rattle.sync_laws.proofs.Opens.{open_fine}
+use Rattle.one_tree_laws.specs.of_user_laws.Leaving.{LeavesFine}
+use Rattle.one_tree_laws.proofs.of_user_laws.Leaving.{users_leave_fine}
+use Rattle.one_tree_laws.proofs.of_store_laws.Closes.{closed_ok_fine, closed_sent}
+use Rattle.one_tree_laws.proofs.of_store_laws.MakingHere.{open_fine as begin_fine}
+use Rattle.one_tree_laws.proofs.of_store_laws.Pulls.{notify_fine, page_fine}
+use Rattle.one_tree_laws.proofs.of_store_laws.Serving.{look_served, page_sent}
+use Rattle.one_tree_laws.specs.of_sync_laws.Serving.{Serving}
+use Rattle.one_tree_laws.proofs.of_sync_laws.Looks.{look_fine}
+use Rattle.one_tree_laws.proofs.of_sync_laws.Makes.{make_fine}
+use Rattle.one_tree_laws.proofs.of_sync_laws.Notices.{repeats_fine}
+use Rattle.one_tree_laws.proofs.of_sync_laws.Opens.{open_fine}
 use Rattle.one_tree_laws.specs.Places.{UsersOf, UsersOutside}
 use Rattle.one_tree_laws.specs.Rest.{AllRest, Past, more}
 use Rattle.one_tree_laws.specs.Roles.{Came, Ready, RolesDo, TableHere}

@@ -5,9 +5,9 @@ use Rattle.schedule_lines.specs.Cluster.{config_of}
 use Rattle.schedule_lines.specs.Schedule.{AreInOrder}
 use Rattle.schedule_lines.specs.declared.line.ScheduleLine.{ScheduleLine}
 use Rattle.the_run.specs.Runs.{run, run_in}
-use Rattle.row_laws.specs.Voids.{LinesFit}
-use Rattle.row_laws.proofs.Fitting.{schedule_fits}
-use Rattle.order_laws.specs.Joining.{PacksAreOfSites}
+use Rattle.one_tree_laws.specs.of_row_laws.Voids.{LinesFit}
+use Rattle.one_tree_laws.proofs.of_row_laws.Fitting.{schedule_fits}
+use Rattle.one_tree_laws.specs.of_order_laws.Joining.{PacksAreOfSites}
 use Rattle.tree_laws.specs.Following.{IsFollowed, RowsAreLawful}
 use Rattle.tree_laws.specs.Printed.{entries}
 use Rattle.tree_laws.proofs.Rows.{followed_rows}

@@ -2,17 +2,17 @@
 use Rattle.std.proofs.Common.{◌≡◌, List, [], ◌∷◌, refl, ap, subst}
 use Rattle.locus_ids.specs.declared.config.Config.{Config}
 use Rattle.schedule_lines.specs.declared.line.ScheduleLine.{ScheduleLine}
-use Rattle.trace_book.specs.declared.book.Entry.{Entry}
+use Rattle.trace_book.specs.declared.entry.Entry.{Entry}
 use Rattle.role_steps.specs.Views.{Told, Shown}
 use Rattle.the_run.specs.Runs.{run_in}
 use Rattle.the_run.specs.Worlds.{Line}
 use Rattle.tree_model.specs.Folds.{Trace}
-use Rattle.row_laws.specs.Shown.{EachRecord, shown, with_told}
-use Rattle.row_laws.specs.Rows.{IsAskedFor, IsMemberRow, IsShortRow, IsSiteRow}
-use Rattle.row_laws.specs.Voids.{LinesFit}
-use Rattle.row_laws.proofs.AskedRun.{run_asked, run_lists, run_members}
-use Rattle.row_laws.proofs.Fitting.{cuts_none}
-use Rattle.row_laws.proofs.SitesGoOn.{run_sites}
+use Rattle.one_tree_laws.specs.of_row_laws.Shown.{EachRecord, shown, with_told}
+use Rattle.one_tree_laws.specs.of_row_laws.Rows.{IsAskedFor, IsMemberRow, IsShortRow, IsSiteRow}
+use Rattle.one_tree_laws.specs.of_row_laws.Voids.{LinesFit}
+use Rattle.one_tree_laws.proofs.of_row_laws.AskedRun.{run_asked, run_lists, run_members}
+use Rattle.one_tree_laws.proofs.of_row_laws.Fitting.{cuts_none}
+use Rattle.one_tree_laws.proofs.of_row_laws.SitesGoOn.{run_sites}
 use Rattle.tree_laws.specs.Printed.{entries, onto_entries}
 
 -- the two names of the printed trace

@@ -7,21 +7,21 @@ use Rattle.role_steps.specs.Views.{Frame, Store, Told, Shown, Begins, Reserves}
 use Rattle.role_steps.specs.Views as role
 use Rattle.role_steps.specs.declared.synchronizing.SyncTable.{SyncTable}
 use Rattle.the_run.specs.Worlds.{Line}
-use Rattle.vector_laws.specs.Written.{past_of}
-use Rattle.vector_laws.specs.HistoryCommits.{StampsAreOnce}
+use Rattle.one_tree_laws.specs.of_vector_laws.Written.{past_of}
+use Rattle.one_tree_laws.specs.of_vector_laws.HistoryCommits.{StampsAreOnce}
 use Rattle.tree_laws.specs.Doing.{FrameFact, IsOfTable}
 use Rattle.tree_laws.specs.Following.{MayTell}
 use Rattle.tree_laws.specs.Frames.{IsFresh, OrderStays}
 use Rattle.tree_laws.specs.Printed.{entries, onto_entries}
-use Rattle.holding_laws.proofs.Below.{commits_new, line_fresh, packs_hold}
-use Rattle.holding_laws.proofs.Kept.{kept_stays}
-use Rattle.holding_laws.proofs.Made.{CommitsAreNew}
-use Rattle.holding_laws.proofs.Reports.{report_stays}
-use Rattle.holding_laws.proofs.Rising.{held_rises}
-use Rattle.holding_laws.proofs.OneVersionSingle.{single_stays}
-use Rattle.order_laws.proofs.ProcessSynchronizing.{sync_same}
-use Rattle.sync_laws.specs.Serving.{Serving}
-use Rattle.sync_laws.specs.Staying.{BringsNothing, FilesStay}
+use Rattle.one_tree_laws.proofs.of_holding_laws.Below.{commits_new, line_fresh, packs_hold}
+use Rattle.one_tree_laws.proofs.of_holding_laws.Kept.{kept_stays}
+use Rattle.one_tree_laws.proofs.of_holding_laws.Made.{CommitsAreNew}
+use Rattle.one_tree_laws.proofs.of_holding_laws.Reports.{report_stays}
+use Rattle.one_tree_laws.proofs.of_holding_laws.Rising.{held_rises}
+use Rattle.one_tree_laws.proofs.of_holding_laws.OneVersionSingle.{single_stays}
+use Rattle.one_tree_laws.proofs.of_order_laws.ProcessSynchronizing.{sync_same}
+use Rattle.one_tree_laws.specs.of_sync_laws.Serving.{Serving}
+use Rattle.one_tree_laws.specs.of_sync_laws.Staying.{BringsNothing, FilesStay}
 use Rattle.one_tree_laws.specs.Rest.{Past, more}
 use Rattle.one_tree_laws.specs.Roles.{TableHere}
 use Rattle.one_tree_laws.proofs.Staying.{rest_below}

@@ -1,5 +1,6 @@
 -- Who asks an operation that changes a file asks it of an instance that was granted not only to be read.
 use Rattle.std.proofs.Common.{◌≡◌, ℕ, zero, suc, ◌-◌, Bool, true, false, cond, List, [], ◌∷◌, ◌++◌, take, Option, Some, None, refl, sym, ◌∙◌, ap, subst, ◌⊎◌, inl, inr}
+use Rattle.role_steps.proofs.of_plain_facts.Options.{none_some, some_same}
 use Rattle.locus_ids.specs.declared.config.Config.{Config}
 use Rattle.locus_ids.specs.declared.ids.CallId.{CallId}
 use Rattle.locus_ids.specs.declared.ids.EpochId.{EpochId}
@@ -37,8 +38,8 @@ use Rattle.call_rules.specs.declared.answer.Answer.TheVariants as answer
 use Rattle.call_rules.specs.declared.want.Want.{Want}
 use Rattle.call_rules.specs.declared.want.Want.TheVariants as want
 use Rattle.call_rules.specs.Scripts.{named_wants, where_packed}
-use Rattle.lock_laws.specs.Writing.{IsOpenedToWrite, IsWriteOn, Opens, OpensToWrite, ToWrite, changes}
-use Rattle.lock_laws.proofs.Writing.{scripts_sound}
+use Rattle.one_tree_laws.specs.of_lock_laws.Writing.{IsOpenedToWrite, IsWriteOn, Opens, OpensToWrite, ToWrite, changes}
+use Rattle.one_tree_laws.proofs.of_lock_laws.Writing.{scripts_sound}
 use Rattle.role_steps.specs.Opens.{mode_of}
 use Rattle.role_steps.specs.Requests.{opening_of}
 use Rattle.role_steps.specs.Views.{Told, Shown, LooksAgain}
@@ -62,13 +63,10 @@ use Rattle.tree_laws.specs.Printed.{entries, onto_entries}
 use Rattle.tree_laws.proofs.Asking.{StepRecord, heard_record}
 use Rattle.tree_laws.proofs.Fresh.{IsNamed}
 use Rattle.tree_laws.proofs.Having.{Untaken, named_or_untaken}
-use Rattle.tree_laws.proofs.Names.{same_call_eq, some_is}
+use Rattle.tree_laws.proofs.Names.{same_call_eq}
 use Rattle.tree_laws.proofs.Scripts.{begun_stays, named_stays}
-use Rattle.store_laws.proofs.Places.{open_is}
+use Rattle.one_tree_laws.proofs.of_store_laws.Places.{open_is}
 use Rattle.rest_laws.proofs.StoreStepGranting.{GrantedToWrite, UsesWritten, grant_stays, uses_written}
-
-none_some : {A : Type 0} (x : A) → ◌≡◌ {A = Option A} None (Some x) → ⊥
-none_some x e = cc
 
 -- ---- answers that open an instance ----
 
@@ -201,8 +199,8 @@ step_named : (c : Config) (before : Trace) (r : Record) (d : CallId) → MayCome
 step_named c before (says.Look e it request f w result) d may step = subst (IsNamed before) step (may.step.accepted, may.step.named)
 step_named c before (says.Grant e it request i m f stamp ss) d may step = subst (IsNamed before) step (may.opens.step.accepted, may.opens.step.named)
 step_named c before (says.Refuse e it request i m f why) d may step = subst (IsNamed before) step (may.opens.step.accepted, may.opens.step.named)
-step_named c before (says.Act e i n o result) d may step = subst (IsNamed before) (some_is may.step.call d (sym may.step.owned ∙ step)) (may.step.step.accepted, may.step.step.named)
-step_named c before (says.Release e i f stamp) d may step = subst (IsNamed before) (some_is may.step.call d (sym may.step.owned ∙ step)) (may.step.step.accepted, may.step.step.named)
+step_named c before (says.Act e i n o result) d may step = subst (IsNamed before) (some_same may.step.call d (sym may.step.owned ∙ step)) (may.step.step.accepted, may.step.step.named)
+step_named c before (says.Release e i f stamp) d may step = subst (IsNamed before) (some_same may.step.call d (sym may.step.owned ∙ step)) (may.step.step.accepted, may.step.step.named)
 step_named c before _ d may step = absurd step
 
 script_is : (c : Config) (before : Trace) (d : CallId) (w : Waiting) (b : Beginning) (xs : Answers) → call_named before d ≡ Some w → begun before d ≡ Some b → script c before d None xs ≡ where_packed (is_packed_in c before w.epoch) (named_wants c.mounts None w.words b xs)
@@ -239,7 +237,7 @@ module _ (c : Config) (d : CallId) (w : Waiting) (b : Beginning) (e : EpochId) (
       wanted = sym (script_is c (entries older) d w b (heard c older d) named starts) ∙ (ap (script c (entries older) d None) asks.nothing_waits ∙ asks.asked)
 
       epoch_is : at ≡ e
-      epoch_is = some_is at e (sym (sym (ap (λ (v : Waiting). v.epoch) (some_is inside.accepted w (sym inside.named ∙ named))) ∙ inside.made_in) ∙ made)
+      epoch_is = some_same at e (sym (sym (ap (λ (v : Waiting). v.epoch) (some_same inside.accepted w (sym inside.named ∙ named))) ∙ inside.made_in) ∙ made)
 
   module _ (n : ℕ) (older : List Line) (named : call_named (entries older) d ≡ Some w) (starts : begun (entries older) d ≡ Some b) (k : HearsWritten older) where
     -- another answer that opens nothing
@@ -358,7 +356,7 @@ asked_to_write c t h e d i o inside asks change = over (begun (entries t) d) ref
       where
         by : IsWriteOn w.words b i ⊎ IsOpenedToWrite (named_wants c.mounts None w.words b) (log t d) i → GrantedToWrite t e i
         by (inl k) = (let u : UsesWritten t w k.epoch i = uses_written t d w k.epoch i inside.named (starts ∙ ap Some k.begins_so) k.is_write in
-            subst (λ (y : EpochId). GrantedToWrite t y i) (some_is k.epoch e (sym u.epoch_is ∙ inside.made_in)) u.granted)
+            subst (λ (y : EpochId). GrantedToWrite t y i) (some_same k.epoch e (sym u.epoch_is ∙ inside.made_in)) u.granted)
         by (inr k) = found_in (GrantedToWrite t e) (named_wants c.mounts None w.words b) k.before k.opening k.after i
             (subst (Written (GrantedToWrite t e) (named_wants c.mounts None w.words b)) (asks.nothing_waits ∙ k.answers_are) (heard_written c d w b e inside.made_in t h inside.named starts)) k.asked k.opened
 

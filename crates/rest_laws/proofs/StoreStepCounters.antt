@@ -1,9 +1,12 @@
 -- No counter of a version is at its end, where no commit has the last number: a counter is 0, or the number of a commit.
 use Rattle.std.proofs.Common.{◌≡◌, ◌≤◌, ◌<◌, ℕ, ◌+◌, ◌-◌, ◌==◌, max, Bool, true, false, ◌&&◌, cond, List, [], ◌∷◌, refl, sym, ◌∙◌, ap, subst, arith}
 use Rattle.std.proofs.lemmas.Bool.Decides.{nat_tests}
+use Rattle.role_steps.proofs.of_plain_facts.Numbers.{equal}
+use Rattle.role_steps.proofs.of_plain_facts.Tests.{and_first}
 use Rattle.locus_ids.specs.declared.config.Config.{Config}
 use Rattle.locus_ids.specs.declared.ids.FileId.{FileId}
 use Rattle.locus_ids.specs.declared.ids.Stamp.{Stamp}
+use Rattle.locus_ids.specs.Sizes.{sites_max}
 use Rattle.commit_graph.specs.Counters.{counter, greatest, next_number}
 use Rattle.commit_graph.specs.Versions.{same_file, same_stamp}
 use Rattle.commit_graph.specs.declared.history.Version.{Version}
@@ -18,10 +21,8 @@ use Rattle.tree_model.specs.Histories.{history, history_after}
 use Rattle.tree_laws.specs.Following.{IsFollowed, MayTell}
 use Rattle.tree_laws.specs.Packets.{JoinsParents}
 use Rattle.tree_laws.specs.Printed.{entries, onto_entries}
-use Rattle.tree_laws.proofs.Names.{test_same}
-use Rattle.order_laws.proofs.Alone.{first_of}
-use Rattle.order_laws.proofs.Standing.{same_file_eq}
-use Rattle.store_laws.proofs.Raising.{joins_greatest}
+use Rattle.one_tree_laws.proofs.of_order_laws.Standing.{same_file_eq}
+use Rattle.one_tree_laws.proofs.of_store_laws.Raising.{joins_greatest}
 use Rattle.one_tree_laws.specs.Rest.{EachRest, RangeTold}
 use Rattle.rest_laws.proofs.StoreStepFirst.{counts_none}
 
@@ -51,14 +52,14 @@ commit_low h f g b stamp s site parents content before low numbered = over (same
     number_is at is = sym (subst (λ (y : FileId). stamp.n ≡ next_number h y parents site) is (subst (λ (z : ℕ). stamp.n ≡ next_number h g parents z) at (ap (λ (z : Stamp). z.n) numbered)))
 
     sum : (x : Bool) → (s == site) ≡ x → g ≡ f → Low (greatest (λ p. counter h f p site) parents + cond x 1 0)
-    sum true e is = subst Low (sym (number_is (test_same s site e) is)) low
+    sum true e is = subst Low (sym (number_is (equal s site e) is)) low
     sum false e is = more (greatest (λ p. counter h f p site) parents) (greatest_low (λ p. counter h f p site) before parents)
       where
         more : (n : ℕ) → n < 4294967295 → n + 0 < 4294967295
         more n l = omega (arith, l)
 
     over : (x : Bool) → (same_file g f && same_stamp stamp b) ≡ x → Low (cond x (greatest (λ p. counter h f p site) parents + cond (s == site) 1 0) (counter h f b site))
-    over true e = sum (s == site) refl (same_file_eq g f (first_of (same_file g f) (same_stamp stamp b) e))
+    over true e = sum (s == site) refl (same_file_eq g f (and_first (same_file g f) (same_stamp stamp b) e))
     over false e = before b
 
 pub counter_low : (c : Config) (t : List Line) → IsFollowed c t → EachRest c t → (f : FileId) (site : ℕ) → 1 ≤ site → (b : Stamp) → Low (counter (history c (entries t)) f b site)
@@ -77,13 +78,13 @@ counter_low c (x ∷ older) h g f site low b = over x.told h.0 g.0.range (counte
     over _ may range before = before b
 
 -- the counter of what a storage site works on can rise
-pub unspent : (c : Config) (t : List Line) → IsFollowed c t → EachRest c t → (f : Frame) → 1 ≤ f.me → f.me ≤ 16 → (i : Instance) → JoinsParents c t i.file i.parents i.vector → is_spent f i ≡ false
+pub unspent : (c : Config) (t : List Line) → IsFollowed c t → EachRest c t → (f : Frame) → 1 ≤ f.me → f.me ≤ sites_max → (i : Instance) → JoinsParents c t i.file i.parents i.vector → is_spent f i ≡ false
 unspent c t h g f low high i joins = apart (below (greatest_low (λ p. counter (history c (entries t)) i.file p f.me) (counter_low c t h g i.file f.me low) i.parents))
   where
     place : 1 + (f.me - 1) ≡ f.me
     place = omega (arith, low)
 
-    within : f.me - 1 < 16
+    within : f.me - 1 < sites_max
     within = omega (arith, low, high)
 
     part_is : part i.vector (f.me - 1) ≡ greatest (λ p. counter (history c (entries t)) i.file p f.me) i.parents

@@ -3,12 +3,15 @@ use Rattle.std.proofs.Common.{◌≡◌, ◌≤◌, ◌<◌, ℕ, zero, suc, ◌
 use Rattle.std.proofs.lemmas.Bool.Decides.{nat_tests}
 use Rattle.std.proofs.lemmas.List.{length-set, get_or_past}
 use Rattle.std.specs.Option.{option_map}
+use Rattle.role_steps.proofs.of_plain_facts.Numbers.{equal, equal_self}
+use Rattle.role_steps.proofs.of_plain_facts.Tests.{true_false}
 use Rattle.locus_ids.specs.Sites.{has}
 use Rattle.locus_ids.specs.declared.config.Config.{Config}
 use Rattle.locus_ids.specs.declared.ids.FileId.{FileId}
 use Rattle.locus_ids.specs.declared.ids.Kind.TheVariants as kind
 use Rattle.locus_ids.specs.declared.ids.Stamp.{Stamp}
 use Rattle.locus_ids.specs.declared.sites.Sites.{Sites}
+use Rattle.locus_ids.specs.Sizes.{inode_span, sites_max}
 use Rattle.commit_graph.specs.Counters.{counter}
 use Rattle.commit_graph.specs.Vectors.{numbers_from, vector_of}
 use Rattle.commit_graph.specs.Versions.{content_of, is_version}
@@ -27,7 +30,6 @@ use Rattle.tree_model.specs.Histories.{format_stamp, format_version, format_vers
 use Rattle.tree_model.specs.Opening.{sites_made}
 use Rattle.tree_model.specs.Packs.{has_pack, packs_of}
 use Rattle.tree_laws.specs.Stores.{Ascends, CopiesAreHeld, copy_for}
-use Rattle.tree_laws.proofs.Names.{test_own, test_same, true_false}
 
 -- ---- four groups ----
 
@@ -83,8 +85,8 @@ zeros g h a (suc n) e = ap (λ (x : ℕ). x ∷ map g (numbers_from (a + 1) n)) 
     next : (a : ℕ) → (0 == a + 1) ≡ false
     next a = grind (arith, nat_tests)
 
-vectors_none : (packs : List Sites) (f : FileId) (s : Stamp) → vector_of (format_versions 0 packs) f s ≡ replicate 16 0
-vectors_none packs f s = zeros (counter (format_versions 0 packs) f s) (λ site e. counts_none 0 packs f s site e) 1 16 refl
+vectors_none : (packs : List Sites) (f : FileId) (s : Stamp) → vector_of (format_versions 0 packs) f s ≡ replicate sites_max 0
+vectors_none packs f s = zeros (counter (format_versions 0 packs) f s) (λ site e. counts_none 0 packs f s site e) 1 sites_max refl
 
 -- ---- roots ----
 
@@ -96,23 +98,23 @@ row_next k x xs b e = subst (λ (a : Bool). row copy_key k (x ∷ xs) ≡ cond a
     at false = refl
 
 -- a root has the key of a file of 16 bits only where it is that file
-root_group : (g h i : ℕ) → i < 65536 → g * 65536 + 1 ≡ h * 65536 + i → g ≡ h
+root_group : (g h i : ℕ) → i < inode_span → g * inode_span + 1 ≡ h * inode_span + i → g ≡ h
 root_group g h i low e = omega (arith, low, e)
 
-root_number : (g h i : ℕ) → i < 65536 → g * 65536 + 1 ≡ h * 65536 + i → i ≡ 1
+root_number : (g h i : ℕ) → i < inode_span → g * inode_span + 1 ≡ h * inode_span + i → i ≡ 1
 root_number g h i low e = omega (arith, low, e)
 
 abbrev roots : Config → (ℕ → Bool) → List ℕ → List FileCopy
 roots c p gs = map (root_copy c) (filter p gs)
 
 -- where the site has no pack of the group, or the file is no root, no copy is found
-none_found : (c : Config) (p : ℕ → Bool) (f : FileId) → f.ino < 65536 → (f.ino ≡ 1 → p f.group ≡ true → ⊥) → (gs : List ℕ) → row copy_key (file_key f) (roots c p gs) ≡ None
+none_found : (c : Config) (p : ℕ → Bool) (f : FileId) → f.ino < inode_span → (f.ino ≡ 1 → p f.group ≡ true → ⊥) → (gs : List ℕ) → row copy_key (file_key f) (roots c p gs) ≡ None
 none_found c p f low none [] = refl
 none_found c p f low none (g ∷ gs) = over (p g) refl (none_found c p f low none gs)
   where
     other : (b : Bool) → (copy_key (root_copy c g) == file_key f) ≡ b → p g ≡ true → b ≡ false
     other false e is = refl
-    other true e is = absurd (none (root_number g f.group f.ino low (test_same (copy_key (root_copy c g)) (file_key f) e)) (subst (λ (h : ℕ). p h ≡ true) (root_group g f.group f.ino low (test_same (copy_key (root_copy c g)) (file_key f) e)) is))
+    other true e is = absurd (none (root_number g f.group f.ino low (equal (copy_key (root_copy c g)) (file_key f) e)) (subst (λ (h : ℕ). p h ≡ true) (root_group g f.group f.ino low (equal (copy_key (root_copy c g)) (file_key f) e)) is))
 
     over : (b : Bool) → p g ≡ b → row copy_key (file_key f) (roots c p gs) ≡ None → row copy_key (file_key f) (map (root_copy c) (cond b (g ∷ filter p gs) (filter p gs))) ≡ None
     over true is later = row_next (file_key f) (root_copy c g) (roots c p gs) false (other (copy_key (root_copy c g) == file_key f) refl is) ∙ later
@@ -128,24 +130,24 @@ root_found c p f one packed [] k = absurd k
 root_found c p f one packed (g ∷ gs) k = at (p g) refl (g == f.group) refl k (root_found c p f one packed gs)
   where
     key_own : g ≡ f.group → (copy_key (root_copy c g) == file_key f) ≡ true
-    key_own e = subst (λ (n : ℕ). (copy_key (root_copy c g) == n) ≡ true) (ap (λ (h : ℕ). h * 65536 + 1) e ∙ ap (λ (i : ℕ). f.group * 65536 + i) (sym one)) (test_own (copy_key (root_copy c g)))
+    key_own e = subst (λ (n : ℕ). (copy_key (root_copy c g) == n) ≡ true) (ap (λ (h : ℕ). h * inode_span + 1) e ∙ ap (λ (i : ℕ). f.group * inode_span + i) (sym one)) (equal_self (copy_key (root_copy c g)))
 
-    low : (i : ℕ) → i ≡ 1 → i < 65536
+    low : (i : ℕ) → i ≡ 1 → i < inode_span
     low i e = omega (arith, e)
 
     key_other : (g == f.group) ≡ false → (b : Bool) → (copy_key (root_copy c g) == file_key f) ≡ b → b ≡ false
     key_other not false e = refl
-    key_other not true e = absurd (true_false (sym (subst (λ (h : ℕ). (g == h) ≡ true) (root_group g f.group f.ino (low f.ino one) (test_same (copy_key (root_copy c g)) (file_key f) e)) (test_own g)) ∙ not))
+    key_other not true e = absurd (true_false (sym (subst (λ (h : ℕ). (g == h) ≡ true) (root_group g f.group f.ino (low f.ino one) (equal (copy_key (root_copy c g)) (file_key f) e)) (equal_self g)) ∙ not))
 
     later_one : (g == f.group) ≡ false → (f.group ≡ g) ⊎ IsOneOf f.group gs → IsOneOf f.group gs
-    later_one not (inl e) = absurd (true_false (sym (subst (λ (h : ℕ). (h == f.group) ≡ true) e (test_own f.group)) ∙ not))
+    later_one not (inl e) = absurd (true_false (sym (subst (λ (h : ℕ). (h == f.group) ≡ true) e (equal_self f.group)) ∙ not))
     later_one not (inr k) = k
 
     at : (b : Bool) → p g ≡ b → (a : Bool) → (g == f.group) ≡ a → (f.group ≡ g) ⊎ IsOneOf f.group gs → (IsOneOf f.group gs → row copy_key (file_key f) (roots c p gs) ≡ Some (root_copy c f.group)) →
         row copy_key (file_key f) (map (root_copy c) (cond b (g ∷ filter p gs) (filter p gs))) ≡ Some (root_copy c f.group)
-    at true is true same k later = row_next (file_key f) (root_copy c g) (roots c p gs) true (key_own (test_same g f.group same)) ∙ ap (λ (h : ℕ). Some (root_copy c h)) (test_same g f.group same)
+    at true is true same k later = row_next (file_key f) (root_copy c g) (roots c p gs) true (key_own (equal g f.group same)) ∙ ap (λ (h : ℕ). Some (root_copy c h)) (equal g f.group same)
     at true is false not k later = row_next (file_key f) (root_copy c g) (roots c p gs) false (key_other not (copy_key (root_copy c g) == file_key f) refl) ∙ later (later_one not k)
-    at false is true same k later = absurd (true_false (sym packed ∙ (ap p (sym (test_same g f.group same)) ∙ is)))
+    at false is true same k later = absurd (true_false (sym packed ∙ (ap p (sym (equal g f.group same)) ∙ is)))
     at false is false not k later = later (later_one not k)
 
 -- ---- a formatted disk ----
@@ -165,14 +167,14 @@ few_groups packs few (suc (suc (suc (suc g)))) site k = absurd (true_false (sym 
 
 root_is : (c : Config) (f : FileId) → f.ino ≡ 1 → root_copy c f.group ≡ copy_for f (version_of c [] f format_stamp)
 root_is c f one =
-    ap (λ (i : ℕ). record { file = record { group = f.group; ino = i }; kind = kind.Dir; set = packs_of c f.group; stamp = format_stamp; vector = replicate 16 0; content = [] }) (sym one) ∙
-    (ap (λ (b : Bool). record { file = f; kind = cond b kind.Dir (kind_made (making_words c [] f)); set = cond b (packs_of c f.group) (sites_made (packs_of c f.group) (making_words c [] f)); stamp = format_stamp; vector = replicate 16 0; content = [] }) (sym (subst (λ (i : ℕ). (i == 1) ≡ true) (sym one) refl)) ∙
+    ap (λ (i : ℕ). record { file = record { group = f.group; ino = i }; kind = kind.Dir; set = packs_of c f.group; stamp = format_stamp; vector = replicate sites_max 0; content = [] }) (sym one) ∙
+    (ap (λ (b : Bool). record { file = f; kind = cond b kind.Dir (kind_made (making_words c [] f)); set = cond b (packs_of c f.group) (sites_made (packs_of c f.group) (making_words c [] f)); stamp = format_stamp; vector = replicate sites_max 0; content = [] }) (sym (subst (λ (i : ℕ). (i == 1) ≡ true) (sym one) refl)) ∙
     (ap (λ (v : List ℕ). record { file = f; kind = cond (f.ino == 1) kind.Dir (kind_made (making_words c [] f)); set = cond (f.ino == 1) (packs_of c f.group) (sites_made (packs_of c f.group) (making_words c [] f)); stamp = format_stamp; vector = v; content = [] }) (sym (vectors_none c.packs f format_stamp)) ∙
     ap (λ (x : List ℕ). record { file = f; kind = cond (f.ino == 1) kind.Dir (kind_made (making_words c [] f)); set = cond (f.ino == 1) (packs_of c f.group) (sites_made (packs_of c f.group) (making_words c [] f)); stamp = format_stamp; vector = vector_of (format_versions 0 c.packs) f format_stamp; content = x }) (sym (contents_empty 0 c.packs f format_stamp))))
 
-held_found : (c : Config) → length c.packs ≤ 4 → (me : ℕ) (f : FileId) → f.ino < 65536 → (a b : Bool) → (f.ino == 1) ≡ a → has_pack c f.group me ≡ b →
+held_found : (c : Config) → length c.packs ≤ 4 → (me : ℕ) (f : FileId) → f.ino < inode_span → (a b : Bool) → (f.ino == 1) ≡ a → has_pack c f.group me ≡ b →
     row copy_key (file_key f) (formatted c me) ≡ option_map (copy_for f) (option_map (version_of c [] f) (cond (a && b) (Some format_stamp) None))
-held_found c few me f low true true one packed = root_found c (λ g. has (pack_sites c g) me) f (test_same f.ino 1 one) packed all_groups (few_groups c.packs few f.group me packed) ∙ ap Some (root_is c f (test_same f.ino 1 one))
+held_found c few me f low true true one packed = root_found c (λ g. has (pack_sites c g) me) f (equal f.ino 1 one) packed all_groups (few_groups c.packs few f.group me packed) ∙ ap Some (root_is c f (equal f.ino 1 one))
 held_found c few me f low true false one packed = none_found c (λ g. has (pack_sites c g) me) f low (λ e k. true_false (sym k ∙ packed)) all_groups
 held_found c few me f low false b one packed = none_found c (λ g. has (pack_sites c g) me) f low (λ e k. true_false (subst (λ (i : ℕ). true ≡ (i == 1)) (sym e) refl ∙ one)) all_groups
 

@@ -1,5 +1,7 @@
 -- What a call was opened otherwise than to read, and what a descriptor that may write stands for, was granted so.
 use Rattle.std.proofs.Common.{◌≡◌, ℕ, ◌==◌, ◌&&◌, Bool, true, false, cond, List, [], ◌∷◌, Option, Some, None, refl, sym, ◌∙◌, ap, subst, inl, inr}
+use Rattle.role_steps.proofs.of_plain_facts.Options.{none_some, some_same}
+use Rattle.role_steps.proofs.of_plain_facts.Tests.{true_false}
 use Rattle.locus_ids.specs.declared.ids.CallId.{CallId}
 use Rattle.locus_ids.specs.declared.ids.EpochId.{EpochId}
 use Rattle.locus_ids.specs.declared.ids.FileId.{FileId}
@@ -19,7 +21,7 @@ use Rattle.call_rules.specs.Descriptors.{beginning, begins_on, is_in}
 use Rattle.call_rules.specs.Words.{is_too_long}
 use Rattle.role_steps.specs.Views.{Told, Shown}
 use Rattle.the_run.specs.Worlds.{Line}
-use Rattle.lock_laws.specs.Writing.{IsWrite}
+use Rattle.one_tree_laws.specs.of_lock_laws.Writing.{IsWrite}
 use Rattle.tree_model.specs.declared.accepted.Waiting.{Waiting}
 use Rattle.tree_model.specs.Calls.{accepted_as, call_named, opening_of}
 use Rattle.tree_model.specs.Epochs.{epoch_of}
@@ -27,10 +29,7 @@ use Rattle.lawful_trace.specs.Tables.{begins_now, begun, closed_by, descriptor, 
 use Rattle.tree_laws.specs.Past.{WasGranted}
 use Rattle.tree_laws.specs.Printed.{entries, onto_entries}
 use Rattle.tree_laws.proofs.Descriptors.{closed_left, opened_left}
-use Rattle.tree_laws.proofs.Names.{same_epoch_eq, some_is, true_false}
-
-none_some : {A : Type 0} (x : A) → ◌≡◌ {A = Option A} None (Some x) → ⊥
-none_some x e = cc
+use Rattle.tree_laws.proofs.Names.{same_epoch_eq}
 
 -- the instance was granted in the epoch, not only to be read
 pub record GrantedToWrite (t : List Line) (e : EpochId) (i : Serial) : Type 0 where
@@ -66,7 +65,7 @@ opening_granted (y ∷ older) d x e = over y.told e (opening_granted older d x)
     later z e before = λ w. grant_stays (record { number = y.number; told = z }) older x.epoch x.inst (before e w)
 
     grants : (at : EpochId) (it : CallId) (request : ℕ) (i : Serial) (m : Mode) (f : FileId) (stamp : Option Stamp) (ss : ℕ) (b : Bool) → cond b (Some (record { mode = m; epoch = at; inst = i })) (opening_of (entries older) d) ≡ Some x → Before → now (Shown (says.Grant at it request i m f stamp ss))
-    grants at it request i m f stamp ss true e before = subst (IsOfGrant (record { number = y.number; told = Shown (says.Grant at it request i m f stamp ss) } ∷ older)) (some_is (record { mode = m; epoch = at; inst = i }) x e)
+    grants at it request i m f stamp ss true e before = subst (IsOfGrant (record { number = y.number; told = Shown (says.Grant at it request i m f stamp ss) } ∷ older)) (some_same (record { mode = m; epoch = at; inst = i }) x e)
         (λ w. record { call = it; request = request; mode = m; file = f; stamp = stamp; place = ss; was_granted = inl (record { epoch_is = refl; call_is = refl; request_is = refl; serial_is = refl; mode_is = refl; file_is = refl; stamp_is = refl; place_is = refl }); writes = w })
     grants at it request i m f stamp ss false e before = later (Shown (says.Grant at it request i m f stamp ss)) e before
 
@@ -176,8 +175,8 @@ uses_written (y ∷ older) d w e i named starts is = over y.told named starts (u
 
     accepts : (z : Told) (s process : ℕ) (it : CallId) (words : Call) (b : Bool) → cond b (Some (accepted_as (entries older) s process it words)) (call_named (entries older) d) ≡ Some w → cond b (Some (begins_now (entries older) s process words)) (begun (entries older) d) ≡ Some (begins.Uses e i) → Before → now z
     accepts z s process it words true named starts before =
-        let own : accepted_as (entries older) s process it words ≡ w = some_is (accepted_as (entries older) s process it words) w named in
-        let k : Writable (descriptor (entries older) s process) (epoch_of (entries older) s) e i = written_on (descriptor (entries older) s process) (epoch_of (entries older) s) words e i (subst (λ (v : Waiting). IsWrite v.words) (sym own) is) (some_is (begins_now (entries older) s process words) (begins.Uses e i) starts) in
+        let own : accepted_as (entries older) s process it words ≡ w = some_same (accepted_as (entries older) s process it words) w named in
+        let k : Writable (descriptor (entries older) s process) (epoch_of (entries older) s) e i = written_on (descriptor (entries older) s process) (epoch_of (entries older) s) words e i (subst (λ (v : Waiting). IsWrite v.words) (sym own) is) (some_same (begins_now (entries older) s process words) (begins.Uses e i) starts) in
         record {
           epoch_is = ap (λ (v : Waiting). v.epoch) (sym own) ∙ k.inside;
           granted = grant_stays (record { number = y.number; told = z }) older e i (subst (λ (j : Serial). GrantedToWrite older e j) k.serial_is (subst (λ (g : EpochId). GrantedToWrite older g k.stands.inst) k.epoch_is (descriptor_granted older s process k.fd k.stands k.found k.writes)));

@@ -1,12 +1,16 @@
 -- By the ranges of what was told: who is in an epoch is one of sites 1 to 16, who calls too, and files have numbers of 16 bits.
 use Rattle.std.proofs.Common.{◌≡◌, ◌≤◌, ◌<◌, ℕ, ◌==◌, ◌&&◌, ◌||◌, ◌⊎◌, inl, inr, ◌+◌, Bool, true, false, cond, List, [], ◌∷◌, Option, Some, None, refl, sym, ap, subst, arith}
 use Rattle.std.proofs.lemmas.Bool.Decides.{nat_tests}
+use Rattle.role_steps.proofs.of_plain_facts.Numbers.{equal}
+use Rattle.role_steps.proofs.of_plain_facts.Options.{none_some, some_same}
+use Rattle.role_steps.proofs.of_plain_facts.Tests.{and_first, or_either, true_false}
 use Rattle.locus_ids.specs.declared.config.Config.{Config}
 use Rattle.locus_ids.specs.declared.ids.CallId.{CallId}
 use Rattle.locus_ids.specs.declared.ids.EpochId.{EpochId}
 use Rattle.locus_ids.specs.declared.ids.FileId.{FileId}
 use Rattle.locus_ids.specs.declared.ids.Stamp.{Stamp}
 use Rattle.locus_ids.specs.declared.sites.Sites.{Sites}
+use Rattle.locus_ids.specs.Sizes.{inode_span}
 use Rattle.commit_graph.specs.Versions.{is_in, is_version, same_file, same_stamp}
 use Rattle.trace_book.specs.Same.{same_call}
 use Rattle.trace_book.specs.declared.call.Call.{Call}
@@ -20,22 +24,13 @@ use Rattle.tree_model.specs.Calls.{accepted_as, call_after, call_named}
 use Rattle.tree_model.specs.Epochs.{epoch_after, epoch_of}
 use Rattle.tree_model.specs.Histories.{format_version, format_versions, history, history_after}
 use Rattle.lawful_trace.specs.CallRows.{CallRow, MayAccept}
-use Rattle.vector_laws.specs.HistoryCommits.{IsSite}
+use Rattle.one_tree_laws.specs.of_vector_laws.HistoryCommits.{IsSite}
 use Rattle.tree_laws.specs.Following.{IsFollowed, MayTell}
 use Rattle.tree_laws.specs.Printed.{entries, onto_entries}
-use Rattle.tree_laws.proofs.Names.{same_call_eq, true_false}
-use Rattle.order_laws.proofs.Standing.{same_file_eq}
+use Rattle.tree_laws.proofs.Names.{same_call_eq}
+use Rattle.one_tree_laws.proofs.of_order_laws.Standing.{same_file_eq}
 use Rattle.one_tree_laws.specs.Rest.{AskedCall, EachRest, RangeCall, RangeTold}
 use Rattle.rest_laws.specs.StoreStepKnown.{IsKnownCall}
-
-none_some : {A : Type 0} (x : A) → ◌≡◌ {A = Option A} None (Some x) → ⊥
-none_some x e = cc
-
-some_is : {A : Type 0} (x y : A) → ◌≡◌ {A = Option A} (Some x) (Some y) → x ≡ y
-some_is x y e = cc
-
-same_number : (a b : ℕ) → (a == b) ≡ true → a ≡ b
-same_number a b e = grind (arith, nat_tests)
 
 -- ---- who is in an epoch ----
 
@@ -47,7 +42,7 @@ inside_site c (x ∷ older) h s e k = over x.told h.0.range k (inside_site c old
     Before = epoch_of (entries older) s ≡ Some e → IsSite s
 
     joins : (t : ℕ) (at : EpochId) (b : Bool) → (t == s) ≡ b → IsSite t → cond b (Some at) (epoch_of (entries older) s) ≡ Some e → Before → IsSite s
-    joins t at true q site k later = subst IsSite (same_number t s q) site
+    joins t at true q site k later = subst IsSite (equal t s q) site
     joins t at false q site k later = later k
 
     gone : (b : Bool) → cond b None (epoch_of (entries older) s) ≡ Some e → Before → IsSite s
@@ -101,7 +96,7 @@ known_call c (x ∷ older) h g d w k = over x.told h.0 g.0.range k (known_call c
     Before = call_named (entries older) d ≡ Some w → IsKnownCall c d w
 
     accepts : (id : CallId) (y : Waiting) (b : Bool) → same_call id d ≡ b → IsKnownCall c id y → cond b (Some y) (call_named (entries older) d) ≡ Some w → Before → IsKnownCall c d w
-    accepts id y true e known k later = subst (IsKnownCall c d) (some_is y w k) (subst (λ (z : CallId). IsKnownCall c z y) (same_call_eq id d e) known)
+    accepts id y true e known k later = subst (IsKnownCall c d) (some_same y w k) (subst (λ (z : CallId). IsKnownCall c z y) (same_call_eq id d e) known)
     accepts id y false e known k later = later k
 
     printed : (r : Record) → MayTell c older (Shown r) → RangeTold c (Shown r) → call_after r (entries older) d (call_named (entries older) d) ≡ Some w → Before → IsKnownCall c d w
@@ -114,45 +109,37 @@ known_call c (x ∷ older) h g d w k = over x.told h.0 g.0.range k (known_call c
 
 -- ---- files ----
 
-either : (a b : Bool) → a || b ≡ true → (a ≡ true) ⊎ (b ≡ true)
-either true b h = inl refl
-either false b h = inr h
-
-first_of : (a b : Bool) → a && b ≡ true → a ≡ true
-first_of true b h = refl
-first_of false b h = absurd (true_false (sym h))
-
-root_narrow : (g : FileId) → g.ino ≡ 1 → g.ino < 65536
+root_narrow : (g : FileId) → g.ino ≡ 1 → g.ino < inode_span
 root_narrow g e = omega (arith, e)
 
-format_narrow : (k : ℕ) (packs : List Sites) (f : FileId) (s : Stamp) → is_in (format_versions k packs) f s ≡ true → f.ino < 65536
+format_narrow : (k : ℕ) (packs : List Sites) (f : FileId) (s : Stamp) → is_in (format_versions k packs) f s ≡ true → f.ino < inode_span
 format_narrow k [] f s h = absurd (true_false (sym h))
 format_narrow k (p ∷ ps) f s h = at (p.0 == 0) h (format_narrow (k + 1) ps f s)
   where
-    over : (is_version f s (format_version k) ≡ true) ⊎ (is_in (format_versions (k + 1) ps) f s ≡ true) → (is_in (format_versions (k + 1) ps) f s ≡ true → f.ino < 65536) → f.ino < 65536
-    over (inl e) later = root_narrow f (ap (λ (y : FileId). y.ino) (sym (same_file_eq (format_version k).file f (first_of (same_file (format_version k).file f) _ e))))
+    over : (is_version f s (format_version k) ≡ true) ⊎ (is_in (format_versions (k + 1) ps) f s ≡ true) → (is_in (format_versions (k + 1) ps) f s ≡ true → f.ino < inode_span) → f.ino < inode_span
+    over (inl e) later = root_narrow f (ap (λ (y : FileId). y.ino) (sym (same_file_eq (format_version k).file f (and_first (same_file (format_version k).file f) _ e))))
     over (inr e) later = later e
 
-    at : (b : Bool) → is_in (cond b (format_versions (k + 1) ps) (format_version k ∷ format_versions (k + 1) ps)) f s ≡ true → (is_in (format_versions (k + 1) ps) f s ≡ true → f.ino < 65536) → f.ino < 65536
+    at : (b : Bool) → is_in (cond b (format_versions (k + 1) ps) (format_version k ∷ format_versions (k + 1) ps)) f s ≡ true → (is_in (format_versions (k + 1) ps) f s ≡ true → f.ino < inode_span) → f.ino < inode_span
     at true h later = later h
-    at false h later = over (either (is_version f s (format_version k)) (is_in (format_versions (k + 1) ps) f s) h) later
+    at false h later = over (or_either (is_version f s (format_version k)) (is_in (format_versions (k + 1) ps) f s) h) later
 
 -- what stands has a number of 16 bits
-pub stands_narrow : (c : Config) (t : List Line) → EachRest c t → (f : FileId) (s : Stamp) → is_in (history c (entries t)) f s ≡ true → f.ino < 65536
+pub stands_narrow : (c : Config) (t : List Line) → EachRest c t → (f : FileId) (s : Stamp) → is_in (history c (entries t)) f s ≡ true → f.ino < inode_span
 stands_narrow c [] h f s k = format_narrow 0 c.packs f s k
 stands_narrow c (x ∷ older) h f s k = over x.told h.0.range k (stands_narrow c older h.1 f s)
   where
     Before : Type 0
-    Before = is_in (history c (entries older)) f s ≡ true → f.ino < 65536
+    Before = is_in (history c (entries older)) f s ≡ true → f.ino < inode_span
 
-    commits : (g : FileId) (stamp : Stamp) → g.ino < 65536 → (same_file g f && same_stamp stamp s ≡ true) ⊎ (is_in (history c (entries older)) f s ≡ true) → Before → f.ino < 65536
-    commits g stamp low (inl e) later = subst (λ (y : FileId). y.ino < 65536) (same_file_eq g f (first_of (same_file g f) _ e)) low
+    commits : (g : FileId) (stamp : Stamp) → g.ino < inode_span → (same_file g f && same_stamp stamp s ≡ true) ⊎ (is_in (history c (entries older)) f s ≡ true) → Before → f.ino < inode_span
+    commits g stamp low (inl e) later = subst (λ (y : FileId). y.ino < inode_span) (same_file_eq g f (and_first (same_file g f) _ e)) low
     commits g stamp low (inr e) later = later e
 
-    printed : (r : Record) → RangeTold c (Shown r) → is_in (history_after r (history c (entries older))) f s ≡ true → Before → f.ino < 65536
-    printed (says.Commit g z stamp parents content) range k later = commits g stamp range.0 (either (same_file g f && same_stamp stamp s) _ k) later
+    printed : (r : Record) → RangeTold c (Shown r) → is_in (history_after r (history c (entries older))) f s ≡ true → Before → f.ino < inode_span
+    printed (says.Commit g z stamp parents content) range k later = commits g stamp range.0 (or_either (same_file g f && same_stamp stamp s) _ k) later
     printed _ range k later = later k
 
-    over : (y : Told) → RangeTold c y → is_in (history c (onto_entries x.number y (entries older))) f s ≡ true → Before → f.ino < 65536
+    over : (y : Told) → RangeTold c y → is_in (history c (onto_entries x.number y (entries older))) f s ≡ true → Before → f.ino < inode_span
     over (Shown r) range k later = printed r range k later
     over _ range k later = later k

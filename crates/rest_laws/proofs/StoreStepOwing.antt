@@ -1,6 +1,8 @@
 -- An open instance that is only read owes no version: nobody asks it to be changed.
 use Rattle.std.proofs.Common.{◌≡◌, ℕ, Bool, true, false, ◌&&◌, List, [], ◌∷◌, Option, Some, None, refl, sym, ◌∙◌, ap, subst, ◌⊎◌, inl, inr}
 use Rattle.std.specs.Option.{is_none}
+use Rattle.role_steps.proofs.of_plain_facts.Options.{none_some, some_same}
+use Rattle.role_steps.proofs.of_plain_facts.Tests.{false_unless, true_false}
 use Rattle.locus_ids.specs.declared.config.Config.{Config}
 use Rattle.locus_ids.specs.declared.ids.EpochId.{EpochId}
 use Rattle.locus_ids.specs.declared.ids.Mode.{Mode}
@@ -19,8 +21,8 @@ use Rattle.file_effects.specs.declared.work.Work.{Work}
 use Rattle.role_steps.specs.OperationEffects.{Mending}
 use Rattle.role_steps.specs.Views.{Told, Shown}
 use Rattle.the_run.specs.Worlds.{Line}
-use Rattle.lock_laws.specs.Writing.{changes}
-use Rattle.make_laws.proofs.RunningCounting.{CountsNot, effect_not, operated_owes}
+use Rattle.one_tree_laws.specs.of_lock_laws.Writing.{changes}
+use Rattle.one_tree_laws.proofs.of_make_laws.RunningCounting.{CountsNot, effect_not, operated_owes}
 use Rattle.tree_model.specs.declared.instance.Instance.{Instance}
 use Rattle.tree_model.specs.Histories.{history}
 use Rattle.tree_model.specs.State.{TreeState}
@@ -33,15 +35,11 @@ use Rattle.tree_laws.specs.Past.{NamingRecord, Printed, WasNamed}
 use Rattle.tree_laws.specs.Printed.{entries}
 use Rattle.tree_laws.proofs.Grants.{Had, before_record, in_tree_named, open_named}
 use Rattle.tree_laws.proofs.Kinship.{Ends, GoesOnTold, StaysOpen, open_stays}
-use Rattle.tree_laws.proofs.Names.{some_is, true_false}
 use Rattle.tree_laws.proofs.Opened.{ActsOn, CommitsOn, GrantsIt}
-use Rattle.order_laws.proofs.ProcessOpen.{granted_begins}
-use Rattle.holding_laws.proofs.Released.{released_shut}
-use Rattle.store_laws.proofs.AnswerDone.{open_before}
+use Rattle.one_tree_laws.proofs.of_order_laws.ProcessOpen.{granted_begins}
+use Rattle.one_tree_laws.proofs.of_holding_laws.Released.{released_shut}
+use Rattle.one_tree_laws.proofs.of_store_laws.AnswerDone.{open_before}
 use Rattle.rest_laws.proofs.StoreStepAsking.{changed_open}
-
-none_some : {A : Type 0} (x : A) → ◌≡◌ {A = Option A} None (Some x) → ⊥
-none_some x e = cc
 
 -- ---- an operation that changes nothing ----
 
@@ -52,13 +50,9 @@ read_owes mode.Resolve e = absurd (true_false (sym e))
 read_owes mode.Mend e = refl
 read_owes mode.Make e = absurd (true_false (sym e))
 
-not_true : (b : Bool) → (b ≡ true → ⊥) → b ≡ false
-not_true false k = refl
-not_true true k = absurd (k refl)
-
 effect_clean : (e : Option Effect) (r : Outcome) (w : Work) → CountsNot e → w.owes ≡ false → (operated_by r e w).owes ≡ false
 effect_clean None r w not clean = clean
-effect_clean (Some e) r w not clean = not_true (operated e r w).owes (operated_owes e r w ⊥ (λ k. true_false (sym k ∙ clean)) (λ k. true_false (sym k ∙ not)))
+effect_clean (Some e) r w not clean = false_unless (operated e r w).owes (operated_owes e r w ⊥ (λ k. true_false (sym k ∙ clean)) (λ k. true_false (sym k ∙ not)))
 
 nothing_brought : Mending
 nothing_brought = record { contents = []; kept = [] }
@@ -100,10 +94,10 @@ module _ (c : Config) (older : List Line) (n : ℕ) (h : IsFollowed c older) (e 
   goes_clean (Shown r) may old new found (inr (inl acts)) read clean = over r may acts
     where
       over : (r : Record) → MayTell c older (Shown r) → ActsOn (history c (entries older)) (tree_of c e (granted_group (entries older) e i) (entries older)) e i old new r → new.work.owes ≡ false
-      over (says.Act at inst number o result) may a = ap (λ (y : Instance). y.work.owes) a.1 ∙ acted_clean (history c (entries older)) (tree_of c e (granted_group (entries older) e i) (entries older)) o result old (not_true (changes o) (λ k. true_false (sym read ∙ wrote k))) read clean
+      over (says.Act at inst number o result) may a = ap (λ (y : Instance). y.work.owes) a.1 ∙ acted_clean (history c (entries older)) (tree_of c e (granted_group (entries older) e i) (entries older)) o result old (false_unless (changes o) (λ k. true_false (sym read ∙ wrote k))) read clean
         where
           inside : IsCallIn (entries older) at may.in_time.call
-          inside = subst (IsCallIn (entries older) at) (some_is may.row.step.call may.in_time.call (sym may.row.step.owned ∙ may.in_time.owner)) may.row.step.step
+          inside = subst (IsCallIn (entries older) at) (some_same may.row.step.call may.in_time.call (sym may.row.step.owned ∙ may.in_time.owner)) may.row.step.step
 
           wrote : changes o ≡ true → is_read old.grant.mode ≡ false
           wrote k = changed_open c older h at may.in_time.call inst o old inside may.in_time.asks k (subst (λ (j : Serial). instance_now c older at j ≡ Some old) (sym a.0.1) (subst (λ (y : EpochId). instance_now c older y i ≡ Some old) (sym a.0.0) found))
@@ -126,7 +120,7 @@ module _ (c : Config) (older : List Line) (n : ℕ) (h : IsFollowed c older) (e 
     where
       over : (old : Instance) → instance_now c older e i ≡ Some old → StaysOpen c older n z e i old ⊎ Ends e i z → x.work.owes ≡ false
       over old was (inl s) =
-          let it : s.new ≡ x = some_is s.new x (sym s.found ∙ found) in
+          let it : s.new ≡ x = some_same s.new x (sym s.found ∙ found) in
           let reads : is_read old.grant.mode ≡ true = ap (λ (g : _). is_read g.mode) (sym s.grant_same) ∙ (ap (λ (y : Instance). is_read y.grant.mode) it ∙ read) in
           ap (λ (y : Instance). y.work.owes) (sym it) ∙ goes_clean z may old s.new was s.goes reads (before old was reads)
       over old was (inr end) = absurd (ended z may x found end)
@@ -138,7 +132,7 @@ module _ (c : Config) (older : List Line) (n : ℕ) (h : IsFollowed c older) (e 
       over : (r : Record) → MayTell c older (Shown r) → instance_now c (record { number = n; told = Shown r } ∷ older) e i ≡ Some x → NamingRecord e i older r → x.work.owes ≡ false
       over (says.Grant at it request inst m f stamp ss) may found k =
           let made : Instance = opened (history c (entries older)) (grant_of (tree_of c at f.group (entries older)) it inst m f ss) stamp in
-          let same : made ≡ x = some_is made x (sym (granted_begins c n older at it request inst m f stamp ss may) ∙ subst (λ (j : Serial). instance_now c (record { number = n; told = Shown (says.Grant at it request inst m f stamp ss) } ∷ older) at j ≡ Some x) (sym k.serial_is)
+          let same : made ≡ x = some_same made x (sym (granted_begins c n older at it request inst m f stamp ss may) ∙ subst (λ (j : Serial). instance_now c (record { number = n; told = Shown (says.Grant at it request inst m f stamp ss) } ∷ older) at j ≡ Some x) (sym k.serial_is)
           (subst (λ (y : EpochId). instance_now c (record { number = n; told = Shown (says.Grant at it request inst m f stamp ss) } ∷ older) y i ≡ Some x) (sym k.epoch_is) found)) in
           ap (λ (y : Instance). y.work.owes) (sym same) ∙ read_owes m (ap (λ (y : Instance). is_read y.grant.mode) same ∙ read)
       over (says.Refuse at it request inst m f why) may found k = absurd (may.in_time.new (subst (WasNamed older at) (sym k.serial_is) (subst (λ (y : EpochId). WasNamed older y i) (sym k.epoch_is)

@@ -1,9 +1,11 @@
 -- What the steps of storage sites rest on, from all that was told so far.
 use Rattle.std.proofs.Common.{◌≡◌, ◌≤◌, ◌<◌, ◌*◌, ℕ, ◌+◌, ◌&&◌, true, nat_le, nat_lt, List, Some, inl, inr, arith}
 use Rattle.std.proofs.lemmas.Bool.Decides.{nat_tests}
+use Rattle.role_steps.proofs.of_plain_facts.Tests.{and_first, and_second}
 use Rattle.locus_ids.specs.declared.config.Config.{Config}
 use Rattle.locus_ids.specs.declared.ids.EpochId.{EpochId}
 use Rattle.locus_ids.specs.declared.ids.Serial.{Serial}
+use Rattle.locus_ids.specs.Sizes.{inode_span, site_inodes, sites_max}
 use Rattle.the_run.specs.Worlds.{Line}
 use Rattle.tree_model.specs.declared.instance.Instance.{Instance}
 use Rattle.tree_model.specs.Epochs.{epoch_of}
@@ -15,15 +17,14 @@ use Rattle.lawful_trace.specs.TreeRows.{granted_group}
 use Rattle.tree_laws.specs.Instances.{instance_now}
 use Rattle.tree_laws.specs.Printed.{entries}
 use Rattle.tree_laws.proofs.Rows.{followed_rows}
-use Rattle.order_laws.proofs.Alone.{first_of, second_of}
-use Rattle.order_laws.proofs.Lists.{all_found}
-use Rattle.holding_laws.proofs.OneVersionHomes.{IsRooted, rows_rooted}
-use Rattle.sync_laws.proofs.Members.{inside_joined}
-use Rattle.store_laws.specs.Rests.{OpRests, StoreRests}
-use Rattle.store_laws.specs.StoragePlain.{PlainRests}
-use Rattle.store_laws.proofs.StorageResting.{rests_hold}
-use Rattle.store_laws.proofs.AnswerDone.{done_low}
-use Rattle.store_laws.proofs.AnswerRemovers.{open_here, remover_opened}
+use Rattle.one_tree_laws.proofs.of_order_laws.Lists.{all_found}
+use Rattle.one_tree_laws.proofs.of_holding_laws.OneVersionHomes.{IsRooted, rows_rooted}
+use Rattle.one_tree_laws.proofs.of_sync_laws.Members.{inside_joined}
+use Rattle.one_tree_laws.specs.of_store_laws.Rests.{OpRests, StoreRests}
+use Rattle.one_tree_laws.specs.of_store_laws.StoragePlain.{PlainRests}
+use Rattle.one_tree_laws.proofs.of_store_laws.StorageResting.{rests_hold}
+use Rattle.one_tree_laws.proofs.of_store_laws.AnswerDone.{done_low}
+use Rattle.one_tree_laws.proofs.of_store_laws.AnswerRemovers.{open_here, remover_opened}
 use Rattle.one_tree_laws.specs.Rest.{Past}
 use Rattle.one_tree_laws.proofs.Staying.{rest_below}
 use Rattle.rest_laws.proofs.StoreStepKnown.{inside_site, known_call, stands_narrow}
@@ -31,19 +32,19 @@ use Rattle.rest_laws.proofs.StoreStepKnown.{inside_site, known_call, stands_narr
 -- ---- files of open instances ----
 
 -- the numbers that a site gives have 16 bits
-given_narrow : (site ino : ℕ) → site ≤ 16 → is_given_by site ino ≡ true → ino < 65536
-given_narrow site ino high given = below (above (first_of (nat_le ino (64 * site)) (nat_lt 1 ino) (second_of (nat_lt (64 * site) (ino + 64)) (nat_le ino (64 * site) && nat_lt 1 ino) given)))
+given_narrow : (site ino : ℕ) → site ≤ sites_max → is_given_by site ino ≡ true → ino < inode_span
+given_narrow site ino high given = below (above (and_first (nat_le ino (site_inodes * site)) (nat_lt 1 ino) (and_second (nat_lt (site_inodes * site) (ino + site_inodes)) (nat_le ino (site_inodes * site) && nat_lt 1 ino) given)))
   where
-    above : nat_le ino (64 * site) ≡ true → ino ≤ 64 * site
+    above : nat_le ino (site_inodes * site) ≡ true → ino ≤ site_inodes * site
     above e = grind (arith, nat_tests)
 
-    below : ino ≤ 64 * site → ino < 65536
+    below : ino ≤ site_inodes * site → ino < inode_span
     below low = omega (arith, low, high)
 
-pub open_narrow : (c : Config) (t : List Line) → Past c t → (e : EpochId) (i : Serial) (x : Instance) → instance_now c t e i ≡ Some x → epoch_of (entries t) x.grant.ss ≡ Some e → x.grant.file.ino < 65536
+pub open_narrow : (c : Config) (t : List Line) → Past c t → (e : EpochId) (i : Serial) (x : Instance) → instance_now c t e i ≡ Some x → epoch_of (entries t) x.grant.ss ≡ Some e → x.grant.file.ino < inode_span
 open_narrow c t past e i x found inside = over (all_found (IsRooted (history c (entries t))) (is_named i) (tree_of c e (granted_group (entries t) e i) (entries t)).instances x (rows_rooted c (entries t) (followed_rows c t past.followed) e (granted_group (entries t) e i)) found)
   where
-    over : IsRooted (history c (entries t)) x → x.grant.file.ino < 65536
+    over : IsRooted (history c (entries t)) x → x.grant.file.ino < inode_span
     over (inl k) = stands_narrow c t past.rest.each x.grant.file k.0 k.1
     over (inr k) = given_narrow x.grant.ss x.grant.file.ino (inside_site c t past.rest.each x.grant.ss e inside).high k
 

@@ -7,7 +7,7 @@ use Rattle.trace_book.specs.declared.record.Record.TheVariants as says
 use Rattle.role_steps.specs.Own.{Every}
 use Rattle.role_steps.specs.Views.{Told, Shown}
 use Rattle.the_run.specs.Worlds.{Line}
-use Rattle.store_laws.specs.Rests.{AllStays, UnspentTold}
+use Rattle.one_tree_laws.specs.of_store_laws.Rests.{AllStays, UnspentTold}
 use Rattle.one_tree_laws.specs.Rest.{AllRest, Past, RangeTold, more}
 use Rattle.one_tree_laws.proofs.Staying.{stays}
 

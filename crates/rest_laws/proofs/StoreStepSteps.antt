@@ -4,6 +4,7 @@ use Rattle.locus_ids.specs.declared.config.Config.{Config}
 use Rattle.locus_ids.specs.declared.ids.CallId.{CallId}
 use Rattle.locus_ids.specs.declared.ids.EpochId.{EpochId}
 use Rattle.locus_ids.specs.declared.ids.Serial.{Serial}
+use Rattle.locus_ids.specs.Sizes.{sites_max}
 use Rattle.trace_book.specs.declared.operation.Op.{Op}
 use Rattle.trace_book.specs.declared.operation.Op.TheVariants as op
 use Rattle.call_rules.specs.declared.want.Want.TheVariants as want
@@ -24,11 +25,11 @@ use Rattle.tree_laws.specs.Doing.{StoreFine, StoreHeld}
 use Rattle.tree_laws.specs.Packets.{BodyFact, CloseFact, OpFact}
 use Rattle.tree_laws.specs.Printed.{entries}
 use Rattle.tree_laws.proofs.Grants.{open_named}
-use Rattle.store_laws.proofs.AnswerDone.{done_named}
-use Rattle.store_laws.specs.Rests.{MendsAs}
-use Rattle.store_laws.proofs.Ending.{close_fine}
-use Rattle.store_laws.proofs.Executing.{op_fine}
-use Rattle.store_laws.proofs.StorageResting.{room_is}
+use Rattle.one_tree_laws.proofs.of_store_laws.AnswerDone.{done_named}
+use Rattle.one_tree_laws.specs.of_store_laws.Rests.{MendsAs}
+use Rattle.one_tree_laws.proofs.of_store_laws.Ending.{close_fine}
+use Rattle.one_tree_laws.proofs.of_store_laws.Executing.{op_fine}
+use Rattle.one_tree_laws.proofs.of_store_laws.StorageResting.{room_is}
 use Rattle.one_tree_laws.specs.Places.{InsideFact}
 use Rattle.one_tree_laws.specs.Rest.{AllRest, Past}
 use Rattle.one_tree_laws.specs.Roles.{Came, Ready}
@@ -48,7 +49,7 @@ its_fact c t f p b came = subst (BodyFact c t p) came.body_is came.fact
 
 -- ---- closes ----
 
-close_low : (c : Config) (t : List Line) → Past c t → (e : EpochId) (ss : ℕ) (i : Serial) → CloseFact c t e ss i → i.us ≤ 16
+close_low : (c : Config) (t : List Line) → Past c t → (e : EpochId) (ss : ℕ) (i : Serial) → CloseFact c t e ss i → i.us ≤ sites_max
 close_low c t past e ss i (inl k) = released_low c t past e i k
 close_low c t past e ss i (inr k) = named_low c t past.followed past.rest.each e i (open_named c t e i k.0 k.1.open_at.found)
 
@@ -62,7 +63,7 @@ closes_fine c n t f p serial s ready held came rest =
 
 -- ---- operations ----
 
-op_low : (c : Config) (t : List Line) → Past c t → (e : EpochId) (ss : ℕ) (i : Serial) (k : ℕ) (o : Op) (seen : List ℕ) → OpFact c t e ss i k o seen → i.us ≤ 16
+op_low : (c : Config) (t : List Line) → Past c t → (e : EpochId) (ss : ℕ) (i : Serial) (k : ℕ) (o : Op) (seen : List ℕ) → OpFact c t e ss i k o seen → i.us ≤ sites_max
 op_low c t past e ss i k o seen (inl d) = named_low c t past.followed past.rest.each e i (done_named c t past.followed e i k o d.0 d.1)
 op_low c t past e ss i k o seen (inr q) = named_low c t past.followed past.rest.each e i (open_named c t e i q.at q.open_at.found)
 

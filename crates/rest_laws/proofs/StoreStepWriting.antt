@@ -1,5 +1,6 @@
 -- What a storage site's instance owes it may commit: it isn't open only to read, and the counter of its site can rise.
 use Rattle.std.proofs.Common.{◌≡◌, Bool, true, false, List, refl, sym, ◌∙◌, ap, inl, inr}
+use Rattle.role_steps.proofs.of_plain_facts.Tests.{true_false}
 use Rattle.locus_ids.specs.declared.config.Config.{Config}
 use Rattle.commit_graph.specs.Grants.{is_read}
 use Rattle.file_effects.specs.declared.work.Work.{Work}
@@ -12,8 +13,7 @@ use Rattle.the_run.specs.Worlds.{Line}
 use Rattle.tree_laws.specs.Doing.{FrameFact, StoreHeld}
 use Rattle.tree_laws.specs.Stores.{InstanceFact, RunsAs, StageFact}
 use Rattle.tree_laws.proofs.Later.{every_among}
-use Rattle.tree_laws.proofs.Names.{true_false}
-use Rattle.store_laws.specs.Rests.{MayWrite}
+use Rattle.one_tree_laws.specs.of_store_laws.Rests.{MayWrite}
 use Rattle.one_tree_laws.specs.Rest.{Past}
 use Rattle.rest_laws.proofs.StoreStepCounters.{unspent}
 use Rattle.rest_laws.proofs.StoreStepKnown.{inside_site}

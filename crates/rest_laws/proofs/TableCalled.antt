@@ -2,6 +2,8 @@
 use Rattle.std.proofs.Common.{◌≡◌, ℕ, ◌==◌, Bool, true, false, ◌&&◌, cond, List, [], ◌∷◌, ◌++◌, Option, Some, None, refl, sym, ◌∙◌, ap, subst, ◌⊎◌, inl, inr}
 use Rattle.std.specs.List.{AllByRecursion}
 use Rattle.std.specs.Option.{option_map, option_or}
+use Rattle.role_steps.proofs.of_plain_facts.Options.{none_some}
+use Rattle.role_steps.proofs.of_plain_facts.Tests.{true_false}
 use Rattle.locus_ids.specs.declared.config.Config.{Config}
 use Rattle.locus_ids.specs.declared.ids.CallId.{CallId}
 use Rattle.locus_ids.specs.declared.ids.EpochId.{EpochId}
@@ -28,16 +30,15 @@ use Rattle.lawful_trace.specs.TreeRows.{granted_group}
 use Rattle.tree_laws.specs.Following.{IsFollowed, MayTell}
 use Rattle.tree_laws.specs.Instances.{instance_now}
 use Rattle.tree_laws.specs.Printed.{entries, onto_entries}
-use Rattle.tree_laws.proofs.Names.{same_epoch_eq, true_false}
+use Rattle.tree_laws.proofs.Names.{same_epoch_eq}
 use Rattle.tree_laws.proofs.Owing.{inside_is}
-use Rattle.order_laws.specs.Joining.{PacksAreOfSites}
-use Rattle.order_laws.proofs.Lists.{all_changed, all_found, all_more, all_then, all_without}
-use Rattle.order_laws.proofs.Standing.{acted_keeps, newest}
-use Rattle.holding_laws.proofs.Turning.{all_passing}
-use Rattle.holding_laws.proofs.OneVersionFirsts.{IsFirst, MakesFirst, makes_first}
-use Rattle.holding_laws.proofs.OneVersionLists.{all_both}
-use Rattle.store_laws.proofs.Runs.{writes_at}
-use Rattle.call_row_laws.proofs.Rising.{none_some}
+use Rattle.one_tree_laws.specs.of_order_laws.Joining.{PacksAreOfSites}
+use Rattle.one_tree_laws.proofs.of_order_laws.Lists.{all_changed, all_found, all_more, all_then, all_without}
+use Rattle.one_tree_laws.proofs.of_order_laws.Standing.{acted_keeps, newest}
+use Rattle.one_tree_laws.proofs.of_holding_laws.Turning.{all_passing}
+use Rattle.one_tree_laws.proofs.of_holding_laws.OneVersionFirsts.{IsFirst, MakesFirst, makes_first}
+use Rattle.one_tree_laws.proofs.of_holding_laws.OneVersionLists.{all_both}
+use Rattle.one_tree_laws.proofs.of_store_laws.Runs.{writes_at}
 
 -- a make that has committed was the first to commit its file
 abbrev pub IsCalled : Config → Trace → Instance → Type 0

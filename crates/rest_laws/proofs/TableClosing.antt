@@ -5,6 +5,7 @@ use Rattle.locus_ids.specs.declared.config.Config.{Config}
 use Rattle.locus_ids.specs.declared.ids.EpochId.{EpochId}
 use Rattle.locus_ids.specs.declared.ids.Serial.{Serial}
 use Rattle.locus_ids.specs.declared.ids.Stamp.{Stamp}
+use Rattle.locus_ids.specs.Sizes.{sites_max}
 use Rattle.trace_book.specs.declared.record.Record.TheVariants as says
 use Rattle.call_rules.specs.declared.answer.Answer.{Answer}
 use Rattle.wire_messages.specs.declared.body.Body.TheVariants as body
@@ -35,13 +36,13 @@ use Rattle.tree_laws.proofs.CarriedOpens.{was_then}
 use Rattle.tree_laws.proofs.CarriedVersions.{joins_stay, sees_stay}
 use Rattle.tree_laws.proofs.Rows.{followed_rows}
 use Rattle.tree_laws.proofs.Versions.{versions_stay}
-use Rattle.order_laws.proofs.Started.{open_started}
-use Rattle.store_laws.proofs.Tabled.{apart_latest, every_latest, row_among}
-use Rattle.sync_laws.proofs.Adding.{latest_found}
-use Rattle.sync_laws.proofs.Looks.{sends_fine}
-use Rattle.sync_laws.proofs.Notices.{row_notices_fine, rows_found}
-use Rattle.sync_laws.proofs.OpensStay.{open_row_goes_on}
-use Rattle.sync_laws.proofs.Rows.{every_among, row_every}
+use Rattle.one_tree_laws.proofs.of_order_laws.Started.{open_started}
+use Rattle.one_tree_laws.proofs.of_store_laws.Tabled.{apart_latest, every_latest, row_among}
+use Rattle.one_tree_laws.proofs.of_sync_laws.Adding.{latest_found}
+use Rattle.one_tree_laws.proofs.of_sync_laws.Looks.{sends_fine}
+use Rattle.one_tree_laws.proofs.of_sync_laws.Notices.{row_notices_fine, rows_found}
+use Rattle.one_tree_laws.proofs.of_sync_laws.OpensStay.{open_row_goes_on}
+use Rattle.one_tree_laws.proofs.of_sync_laws.Rows.{every_among, row_every}
 use Rattle.one_tree_laws.specs.Rest.{AllRest, Comes, RestTold, more}
 use Rattle.one_tree_laws.specs.Roles.{Came, Ready, TableHere}
 use Rattle.one_tree_laws.proofs.Staying.{stays}
@@ -177,7 +178,7 @@ module _ (c : Config) (narrow : CallsAreNarrow c) (n : ℕ) (trace : List Line) 
       fact : RowFact c trace f.epoch t.group r
       fact = row_every (RowFact c trace f.epoch t.group) open_key (serial_key i) t.opens r here.fact.opens found
 
-      low : (i.us ≤ 16) → i.us < 256
+      low : (i.us ≤ sites_max) → i.us < 256
       low h = omega (arith, h)
 
       over : ((a : Answer) × WasReleasedWith c trace f.epoch i (stamp_made made) a) ⊎ EndsNow c trace f.epoch from i (stamp_made made) → TableFine c n trace f t.group (releases f from r made t)

@@ -1,6 +1,9 @@
 -- What a table has of files after a release: where nothing was made, and where something is published.
 use Rattle.std.proofs.Common.{◌≡◌, ℕ, ◌==◌, Bool, true, false, length, List, [], map, Option, Some, None, refl, sym, ◌∙◌, ap, subst, ◌⊎◌, inl, inr}
 use Rattle.std.proofs.lemmas.List.{length-map}
+use Rattle.role_steps.proofs.of_plain_facts.Numbers.{equal}
+use Rattle.role_steps.proofs.of_plain_facts.Options.{some_same}
+use Rattle.role_steps.proofs.of_plain_facts.Tests.{true_false}
 use Rattle.locus_ids.specs.declared.config.Config.{Config}
 use Rattle.locus_ids.specs.declared.ids.CallId.{CallId}
 use Rattle.locus_ids.specs.declared.ids.FileId.{FileId}
@@ -16,7 +19,6 @@ use Rattle.role_steps.specs.Views.{Frame, Told, Shown}
 use Rattle.role_steps.specs.declared.synchronizing.FileRow.{FileRow}
 use Rattle.role_steps.specs.declared.synchronizing.OpenRow.{OpenRow}
 use Rattle.role_steps.specs.declared.synchronizing.SyncTable.{SyncTable}
-use Rattle.role_steps.specs.declared.synchronizing.VersionRow.{VersionRow}
 use Rattle.the_run.specs.Worlds.{Line}
 use Rattle.the_run.proofs.InsideSync.{every_row}
 use Rattle.tree_model.specs.Histories.{history}
@@ -28,16 +30,15 @@ use Rattle.tree_laws.specs.Packets.{EndsNow, MadeFact, file_in}
 use Rattle.tree_laws.specs.Printed.{entries}
 use Rattle.tree_laws.specs.Tables.{AsItsFile, AreRising, ExactFact, FileFact, IsAhead, IsGrantedNow, IsNoted, IsStill, StartedFiles, known_stamps, row_stamp}
 use Rattle.tree_laws.proofs.Boots.{every_both}
-use Rattle.tree_laws.proofs.Names.{some_is, test_same, true_false}
-use Rattle.order_laws.proofs.Keeping.{published_same}
-use Rattle.holding_laws.specs.Held.{IsKnownOrAhead}
-use Rattle.holding_laws.proofs.Below.{packs_hold}
-use Rattle.holding_laws.proofs.Holding.{known_or_ahead}
-use Rattle.holding_laws.proofs.OneVersionAscending.{known_ascends}
-use Rattle.call_row_laws.proofs.Rising.{key_case}
-use Rattle.store_laws.proofs.Tabled.{row_other, row_same}
-use Rattle.sync_laws.proofs.Files.{file_row_stays}
-use Rattle.sync_laws.proofs.Rows.{row_every, row_key_is}
+use Rattle.one_tree_laws.proofs.of_order_laws.Keeping.{published_same}
+use Rattle.one_tree_laws.specs.of_holding_laws.Held.{IsKnownOrAhead}
+use Rattle.one_tree_laws.proofs.of_holding_laws.Below.{packs_hold}
+use Rattle.one_tree_laws.proofs.of_holding_laws.Holding.{known_or_ahead}
+use Rattle.one_tree_laws.proofs.of_holding_laws.OneVersionAscending.{known_ascends}
+use Rattle.one_tree_laws.proofs.of_call_row_laws.Rising.{key_case}
+use Rattle.one_tree_laws.proofs.of_store_laws.Tabled.{row_other, row_same}
+use Rattle.one_tree_laws.proofs.of_sync_laws.Files.{file_row_stays}
+use Rattle.one_tree_laws.proofs.of_sync_laws.Rows.{row_every, row_key_is}
 use Rattle.one_tree_laws.specs.Rest.{Past, RestTold, more}
 use Rattle.one_tree_laws.specs.Roles.{Ready, TableHere}
 use Rattle.one_tree_laws.proofs.Staying.{rest_below}
@@ -117,9 +118,6 @@ module _ (c : Config) (n : ℕ) (trace : List Line) (f : Frame) (t : SyncTable) 
   abbrev q : FileRow
   q = published_row ss r v (file_row t r.file.ino)
 
-  abbrev mv : VersionRow
-  mv = record { stamp = v.stamp; vector = v.vector; size = v.size }
-
   past : Past c now
   past = past_new c n trace f t ready here files r d group_is granted lies ss v ends made rest
 
@@ -143,7 +141,7 @@ module _ (c : Config) (n : ℕ) (trace : List Line) (f : Frame) (t : SyncTable) 
     where
       over : (b : Bool) → (r.file.ino == ino) ≡ b → (r.file.ino == ino) ≡ false
       over false k = k
-      over true k = absurd (other (so.ino_is ∙ test_same r.file.ino ino k))
+      over true k = absurd (other (so.ino_is ∙ equal r.file.ino ino k))
 
   known_here : candidates c (entries now) f.epoch F ≡ with_stamp v.stamp (candidates c (entries trace) f.epoch F)
   known_here = known_now c n trace f t ready here r d group_is granted ss (Some v.stamp) ends r.file.ino ∙ brought_stamps (record { ino = r.file.ino; stamp = v.stamp }) T.known (known_ascends c (entries trace) f.epoch t.group)
@@ -212,7 +210,7 @@ module _ (c : Config) (n : ℕ) (trace : List Line) (f : Frame) (t : SyncTable) 
     where
       at_site : site ≡ ss → Noted site s F
       at_site same = inl (subst (λ (m : ℕ). IsNoted q m s) (sym same) (subst (λ (z : Stamp). IsNoted q ss z)
-          (some_is v.stamp s (sym (has_now c n trace f t ready here files r d group_is granted lies ss v ends made rest) ∙ (ap (λ (m : ℕ). held_in c (entries now) f.epoch m F) (sym same) ∙ held))) so.site_has))
+          (some_same v.stamp s (sym (has_now c n trace f t ready here files r d group_is granted lies ss v ends made rest) ∙ (ap (λ (m : ℕ). held_in c (entries now) f.epoch m F) (sym same) ∙ held))) so.site_has))
 
   exact_there : (ino : ℕ) (y : FileRow) → (q.ino ≡ ino → ⊥) → file_row t ino ≡ Some y → ExactFact c now f t.group y
   exact_there ino y other e site s still held = over (files.exact ino y e site s still (sym (held_now c n trace f t ready here r d group_is granted ss (Some v.stamp) ends site y.ino) ∙ held))
@@ -230,7 +228,7 @@ module _ (c : Config) (n : ℕ) (trace : List Line) (f : Frame) (t : SyncTable) 
 
   exact_after : (ino : ℕ) (y : FileRow) → file_row u ino ≡ Some y → ExactFact c now f t.group y
   exact_after ino y e = key_case (ExactFact c now f t.group y) q.ino ino
-      (λ same. subst (ExactFact c now f t.group) (some_is q y (sym (at_file ino same) ∙ e)) (λ site s still held. subst (Noted site s) (ap (file_in t.group) (sym so.ino_is)) (exact_here site s still (ap (λ (i : ℕ). held_in c (entries now) f.epoch site (file_in t.group i)) (sym so.ino_is) ∙ held))))
+      (λ same. subst (ExactFact c now f t.group) (some_same q y (sym (at_file ino same) ∙ e)) (λ site s still held. subst (Noted site s) (ap (file_in t.group) (sym so.ino_is)) (exact_here site s still (ap (λ (i : ℕ). held_in c (entries now) f.epoch site (file_in t.group i)) (sym so.ino_is) ∙ held))))
       (λ other. exact_there ino y other (sym (elsewhere ino other) ∙ e))
 
   pub published_files : FilesNow c now f (with_file (published_row ss r v (file_row t r.file.ino)) t)

@@ -1,5 +1,6 @@
 -- A table with a row of a file in the place of the one that was there, of which something more is noted.
 use Rattle.std.proofs.Common.{◌≡◌, ℕ, true, List, [], ◌∷◌, length, map, Option, Some, sym, ◌∙◌, ap, subst, ◌⊎◌, inl, inr, refl}
+use Rattle.role_steps.proofs.of_plain_facts.Options.{some_same}
 use Rattle.locus_ids.specs.declared.config.Config.{Config}
 use Rattle.locus_ids.specs.declared.ids.EpochId.{EpochId}
 use Rattle.role_steps.specs.Own.{Every}
@@ -18,9 +19,8 @@ use Rattle.tree_laws.specs.Packets.{file_in}
 use Rattle.tree_laws.specs.Printed.{entries}
 use Rattle.tree_laws.specs.Stores.{Ascends}
 use Rattle.tree_laws.specs.Tables.{AreRising, ExactFact, FileFact, FilesFact, HasHolder, IsAhead, IsNoted, IsStill, StartedFiles, TableFact, known_stamps, row_stamp}
-use Rattle.tree_laws.proofs.Names.{some_is}
-use Rattle.call_row_laws.proofs.Rising.{key_case}
-use Rattle.store_laws.proofs.Tabled.{ascends_row, row_other, row_same}
+use Rattle.one_tree_laws.proofs.of_call_row_laws.Rising.{key_case}
+use Rattle.one_tree_laws.proofs.of_store_laws.Tabled.{ascends_row, row_other, row_same}
 use Rattle.rest_laws.proofs.TableNoting.{NotedRow}
 
 -- ---- rows in order ----
@@ -93,7 +93,7 @@ module _ (c : Config) (trace : List Line) (f : Frame) (t : SyncTable) (k : Table
     known = λ ino. known_same ino ∙ s.known ino;
     kept_is = λ ino. kept_same ino ∙ s.kept_is ino;
     exact = λ ino x at. key_case (ExactFact c trace f t.group x) q.ino ino
-        (λ same. subst (ExactFact c trace f t.group) (some_is q x (sym (here ino same) ∙ at)) (exact_row (s.exact r.ino r found)))
+        (λ same. subst (ExactFact c trace f t.group) (some_same q x (sym (here ino same) ∙ at)) (exact_row (s.exact r.ino r found)))
         (λ other. s.exact ino x (sym (elsewhere ino other) ∙ at));
   }
 

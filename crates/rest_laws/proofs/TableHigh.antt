@@ -14,7 +14,7 @@ use Rattle.tree_model.specs.Histories.{history}
 use Rattle.tree_laws.specs.Printed.{entries}
 use Rattle.tree_laws.specs.Tables.{VersionFact, highest, row_stamp}
 use Rattle.tree_laws.proofs.Boots.{every_both}
-use Rattle.sync_laws.proofs.Versions.{row_stands, row_vector}
+use Rattle.one_tree_laws.proofs.of_sync_laws.Versions.{row_stands, row_vector}
 use Rattle.one_tree_laws.specs.Rest.{Past}
 use Rattle.one_tree_laws.proofs.ToldVectorTelling.{vectors_tell_newer}
 

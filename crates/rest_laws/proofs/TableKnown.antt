@@ -2,6 +2,8 @@
 use Rattle.std.proofs.Common.{◌≡◌, ℕ, ◌<◌, ◌==◌, nat_lt, Bool, true, false, ◌&&◌, ◌||◌, cond, List, [], ◌∷◌, filter, map, refl, sym, ◌∙◌, ap, subst, arith}
 use Rattle.std.proofs.lemmas.Bool.Decides.{nat_tests}
 use Rattle.std.specs.List.{AllByRecursion}
+use Rattle.role_steps.proofs.of_plain_facts.Numbers.{equal, equal_self}
+use Rattle.role_steps.proofs.of_plain_facts.Tests.{and_first, true_false}
 use Rattle.locus_ids.specs.declared.ids.Brought.{Brought}
 use Rattle.locus_ids.specs.declared.ids.Stamp.{Stamp}
 use Rattle.commit_graph.specs.Versions.{is_stamp_below, same_stamp, with_stamp}
@@ -14,9 +16,7 @@ use Rattle.role_steps.specs.declared.synchronizing.VersionRow.{VersionRow}
 use Rattle.tree_model.specs.Same.{same_brought}
 use Rattle.tree_model.specs.State.{is_brought_below, stamps_of, with_brought}
 use Rattle.tree_laws.specs.Tables.{row_stamp}
-use Rattle.tree_laws.proofs.Names.{test_own, test_same, true_false}
-use Rattle.order_laws.proofs.Alone.{first_of}
-use Rattle.holding_laws.proofs.OneVersionAscending.{Ascends}
+use Rattle.one_tree_laws.proofs.of_holding_laws.OneVersionAscending.{Ascends}
 
 -- ---- the tree's list ----
 
@@ -35,7 +35,7 @@ greater a b k ino low = over (nat_lt a.ino b.ino) refl k
       where
         more : nat_lt a.ino b.ino ≡ true → ino < b.ino
         more q = grind (arith, nat_tests, low)
-    over false e h = subst (λ (z : ℕ). ino < z) (test_same a.ino b.ino (first_of (a.ino == b.ino) _ h)) low
+    over false e h = subst (λ (z : ℕ). ino < z) (equal a.ino b.ino (and_first (a.ino == b.ino) _ h)) low
 
 none_greater : (ino : ℕ) (bs : List Brought) → AllByRecursion (λ (b : Brought). ino < b.ino) bs → stamps_of bs ino ≡ []
 none_greater ino [] all = refl
@@ -53,14 +53,14 @@ with_below s t ts e = ap (λ (k : Bool). cond k (s ∷ t ∷ ts) (cond (same_sta
 
 -- the stamps of the inode of what is put are those with its stamp at its place
 pub brought_stamps : (new : Brought) (bs : List Brought) → Ascends bs → stamps_of (with_brought new bs) new.ino ≡ with_stamp new.stamp (stamps_of bs new.ino)
-brought_stamps new [] k = stamp_here new [] new.ino (test_own new.ino)
+brought_stamps new [] k = stamp_here new [] new.ino (equal_self new.ino)
 brought_stamps new (b ∷ bs) k = at (is_brought_below new b) refl (same_brought new b) refl (brought_stamps new bs k.1)
   where
     Goal : List Brought → Type 0
     Goal xs = stamps_of xs new.ino ≡ with_stamp new.stamp (stamps_of (b ∷ bs) new.ino)
 
     same_ino : (b.ino == new.ino) ≡ true → new.ino ≡ b.ino
-    same_ino e = sym (test_same b.ino new.ino e)
+    same_ino e = sym (equal b.ino new.ino e)
 
     -- below, of the same inode: by the stamps
     stamp_low : (b.ino == new.ino) ≡ true → is_brought_below new b ≡ true → is_stamp_below new.stamp b.stamp ≡ true
@@ -85,12 +85,12 @@ brought_stamps new (b ∷ bs) k = at (is_brought_below new b) refl (same_brought
 
         over : (x : Bool) → nat_lt new.ino b.ino ≡ x → x || ((new.ino == b.ino) && is_stamp_below new.stamp b.stamp) ≡ true → new.ino < b.ino
         over true q h = low q
-        over false q h = absurd (true_false (sym (subst (λ (z : ℕ). (z == new.ino) ≡ true) (test_same new.ino b.ino (first_of (new.ino == b.ino) _ h)) (test_own new.ino)) ∙ e))
+        over false q h = absurd (true_false (sym (subst (λ (z : ℕ). (z == new.ino) ≡ true) (equal new.ino b.ino (and_first (new.ino == b.ino) _ h)) (equal_self new.ino)) ∙ e))
 
     first : is_brought_below new b ≡ true → (x : Bool) → (b.ino == new.ino) ≡ x → Goal (new ∷ b ∷ bs)
-    first h true e = stamp_here new (b ∷ bs) new.ino (test_own new.ino) ∙ (ap (λ (ts : List Stamp). new.stamp ∷ ts) (stamp_here b bs new.ino e)
+    first h true e = stamp_here new (b ∷ bs) new.ino (equal_self new.ino) ∙ (ap (λ (ts : List Stamp). new.stamp ∷ ts) (stamp_here b bs new.ino e)
         ∙ (sym (with_below new.stamp b.stamp (stamps_of bs new.ino) (stamp_low e h)) ∙ ap (with_stamp new.stamp) (sym (stamp_here b bs new.ino e))))
-    first h false e = stamp_here new (b ∷ bs) new.ino (test_own new.ino) ∙ (ap (λ (ts : List Stamp). new.stamp ∷ ts) none ∙ ap (with_stamp new.stamp) (sym none))
+    first h false e = stamp_here new (b ∷ bs) new.ino (equal_self new.ino) ∙ (ap (λ (ts : List Stamp). new.stamp ∷ ts) none ∙ ap (with_stamp new.stamp) (sym none))
       where
         none : stamps_of (b ∷ bs) new.ino ≡ []
         none = none_greater new.ino (b ∷ bs) (inode_low e h, all_greater new.ino b bs (inode_low e h) k.0)
@@ -102,14 +102,14 @@ brought_stamps new (b ∷ bs) k = at (is_brought_below new b) refl (same_brought
     -- not below, of the same inode: not below by the stamps
     stamp_not : (b.ino == new.ino) ≡ true → is_brought_below new b ≡ false → (x : Bool) → is_stamp_below new.stamp b.stamp ≡ x → is_stamp_below new.stamp b.stamp ≡ false
     stamp_not e h false q = q
-    stamp_not e h true q = absurd (true_false (sym (later (nat_lt new.ino b.ino) _ (both (new.ino == b.ino) (is_stamp_below new.stamp b.stamp) (subst (λ (z : ℕ). (new.ino == z) ≡ true) (same_ino e) (test_own new.ino)) q)) ∙ h))
+    stamp_not e h true q = absurd (true_false (sym (later (nat_lt new.ino b.ino) _ (both (new.ino == b.ino) (is_stamp_below new.stamp b.stamp) (subst (λ (z : ℕ). (new.ino == z) ≡ true) (same_ino e) (equal_self new.ino)) q)) ∙ h))
       where
         later : (a d : Bool) → d ≡ true → a || d ≡ true
         later true d p = refl
         later false d p = p
 
     same_of : same_brought new b ≡ true → (b.ino == new.ino) ≡ true
-    same_of h = subst (λ (z : ℕ). (z == new.ino) ≡ true) (test_same new.ino b.ino (first_of (new.ino == b.ino) _ h)) (test_own new.ino)
+    same_of h = subst (λ (z : ℕ). (z == new.ino) ≡ true) (equal new.ino b.ino (and_first (new.ino == b.ino) _ h)) (equal_self new.ino)
 
     second : is_brought_below new b ≡ false → same_brought new b ≡ true → Goal (b ∷ bs)
     second h s = stamp_here b bs new.ino (same_of s) ∙ (sym (ap (λ (x : Bool). cond x (new.stamp ∷ b.stamp ∷ stamps_of bs new.ino) (cond (same_stamp new.stamp b.stamp) (b.stamp ∷ stamps_of bs new.ino) (b.stamp ∷ with_stamp new.stamp (stamps_of bs new.ino)))) (stamp_not (same_of s) h (is_stamp_below new.stamp b.stamp) refl)
@@ -128,7 +128,7 @@ brought_stamps new (b ∷ bs) k = at (is_brought_below new b) refl (same_brought
       where
         over : (x : Bool) → same_stamp new.stamp b.stamp ≡ x → same_stamp new.stamp b.stamp ≡ false
         over false q = q
-        over true q = absurd (true_false (sym (both (new.ino == b.ino) (same_stamp new.stamp b.stamp) (subst (λ (z : ℕ). (new.ino == z) ≡ true) (same_ino e) (test_own new.ino)) q) ∙ h))
+        over true q = absurd (true_false (sym (both (new.ino == b.ino) (same_stamp new.stamp b.stamp) (subst (λ (z : ℕ). (new.ino == z) ≡ true) (same_ino e) (equal_self new.ino)) q) ∙ h))
 
     third : is_brought_below new b ≡ false → same_brought new b ≡ false → (x : Bool) → (b.ino == new.ino) ≡ x → stamps_of (with_brought new bs) new.ino ≡ with_stamp new.stamp (stamps_of bs new.ino) → Goal (b ∷ with_brought new bs)
     third h s true e later = stamp_here b (with_brought new bs) new.ino e ∙ (ap (λ (ts : List Stamp). b.stamp ∷ ts) later

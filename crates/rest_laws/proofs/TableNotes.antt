@@ -16,8 +16,8 @@ use Rattle.tree_laws.specs.Doing.{TableFine}
 use Rattle.tree_laws.specs.Instances.{HasAtLeast, IsStarted}
 use Rattle.tree_laws.specs.Packets.{BodyFact, HaveFact, file_in}
 use Rattle.tree_laws.specs.Tables.{FileFact, TableFact}
-use Rattle.sync_laws.proofs.Looks.{sends_fine}
-use Rattle.sync_laws.proofs.Rows.{row_every, row_key_is}
+use Rattle.one_tree_laws.proofs.of_sync_laws.Looks.{sends_fine}
+use Rattle.one_tree_laws.proofs.of_sync_laws.Rows.{row_every, row_key_is}
 use Rattle.one_tree_laws.specs.Rest.{Past}
 use Rattle.one_tree_laws.specs.Roles.{Came, Ready, TableHere}
 use Rattle.rest_laws.proofs.TableFiling.{filed_table}

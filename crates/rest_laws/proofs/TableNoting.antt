@@ -2,6 +2,9 @@
 use Rattle.std.proofs.Common.{◌≡◌, ℕ, ◌<◌, ◌==◌, Bool, true, false, not, cond, ◌&&◌, ◌||◌, List, [], ◌∷◌, Option, Some, None, refl, sym, ◌∙◌, ap, subst, inl, inr, arith}
 use Rattle.std.proofs.lemmas.Bool.Decides.{nat_tests}
 use Rattle.std.specs.List.{list_any}
+use Rattle.role_steps.proofs.of_plain_facts.Numbers.{equal_self}
+use Rattle.role_steps.proofs.of_plain_facts.Options.{some_same}
+use Rattle.role_steps.proofs.of_plain_facts.Tests.{and_first, and_second, not_true, true_false}
 use Rattle.locus_ids.specs.declared.config.Config.{Config}
 use Rattle.locus_ids.specs.declared.ids.EpochId.{EpochId}
 use Rattle.locus_ids.specs.declared.ids.FileId.{FileId}
@@ -27,17 +30,15 @@ use Rattle.tree_laws.specs.Printed.{entries}
 use Rattle.tree_laws.specs.Stores.{Ascends}
 use Rattle.tree_laws.specs.Tables.{FileFact, HasHolder, HasVersion, HoldingFact, IsNoted, IsOrderly, VersionFact}
 use Rattle.tree_laws.proofs.Boots.{every_passes}
-use Rattle.tree_laws.proofs.Names.{some_is, test_own, true_false}
 use Rattle.tree_laws.proofs.Rows.{followed_rows}
-use Rattle.order_laws.proofs.Alone.{first_of, second_of}
-use Rattle.holding_laws.proofs.Ancestors.{ancestors_one, ancestors_stand}
-use Rattle.holding_laws.proofs.Below.{commits_new}
-use Rattle.holding_laws.proofs.Made.{held_stand, rows_made}
-use Rattle.call_row_laws.proofs.Rising.{key_case, put_keeps}
-use Rattle.store_laws.proofs.Tabled.{row_among, row_other, row_same}
-use Rattle.sync_laws.proofs.Orderly.{holder_orderly}
-use Rattle.sync_laws.proofs.Rows.{every_among, row_every, row_key_is}
-use Rattle.sync_laws.proofs.Versions.{row_stands, row_vector}
+use Rattle.one_tree_laws.proofs.of_holding_laws.Ancestors.{ancestors_one, ancestors_stand}
+use Rattle.one_tree_laws.proofs.of_holding_laws.Below.{commits_new}
+use Rattle.one_tree_laws.proofs.of_holding_laws.Made.{held_stand, rows_made}
+use Rattle.one_tree_laws.proofs.of_call_row_laws.Rising.{key_case, put_keeps}
+use Rattle.one_tree_laws.proofs.of_store_laws.Tabled.{row_among, row_other, row_same}
+use Rattle.one_tree_laws.proofs.of_sync_laws.Orderly.{holder_orderly}
+use Rattle.one_tree_laws.proofs.of_sync_laws.Rows.{every_among, row_every, row_key_is}
+use Rattle.one_tree_laws.proofs.of_sync_laws.Versions.{row_stands, row_vector}
 use Rattle.one_tree_laws.specs.Rest.{Past}
 use Rattle.one_tree_laws.proofs.Staying.{rest_below}
 use Rattle.one_tree_laws.proofs.ToldVectorOnly.{stamp_only}
@@ -58,14 +59,10 @@ none_of p (y ∷ ys) x e (inr a) k = none_of p ys x (later (p y) (list_any p ys)
     later true b h = absurd (true_false h)
     later false b h = h
 
-not_true : (b : Bool) → not b ≡ true → b ≡ false
-not_true true h = sym h
-not_true false h = refl
-
 -- where keys ascend, each row is found by its key
 pub ascends_found : {A : Type 0} (key : A → ℕ) (xs : List A) (x : A) → Ascends key xs → Among x xs → row key (key x) xs ≡ Some x
 ascends_found key [] x k a = absurd a
-ascends_found {A} key (y ∷ ys) x k (inl same) = ap (λ (b : Bool). elim b as (λ (z : Bool). Option A) [ true ↦ Some y | false ↦ row key (key x) ys ]) (subst (λ (z : A). (key z == key x) ≡ true) same (test_own (key x))) ∙ ap Some (sym same)
+ascends_found {A} key (y ∷ ys) x k (inl same) = ap (λ (b : Bool). elim b as (λ (z : Bool). Option A) [ true ↦ Some y | false ↦ row key (key x) ys ]) (subst (λ (z : A). (key z == key x) ≡ true) same (equal_self (key x))) ∙ ap Some (sym same)
 ascends_found {A} key (y ∷ ys) x k (inr a) = ap (λ (b : Bool). elim b as (λ (z : Bool). Option A) [ true ↦ Some y | false ↦ row key (key x) ys ]) (lower (key y) (key x) (every_among (λ (z : A). key y < key z) ys x k.0 a)) ∙ ascends_found key ys x k.1 a
   where
     lower : (a b : ℕ) → a < b → (a == b) ≡ false
@@ -130,9 +127,6 @@ module _ (c : Config) (trace : List Line) (past : Past c trace) (e : EpochId) (g
 
     -- the holding rises to a version of the row
     module _ (v : VersionRow) (found : version_of r stamp ≡ Some v) (up : (x : Holding) → holding_of r from ≡ Some x → rises_to v (version_of r x.stamp) ≡ true) where
-      abbrev new : Holding
-      new = record { site = from; stamp = v.stamp }
-
       v_fact : VersionFact c trace f v
       v_fact = row_every (VersionFact c trace f) version_key (stamp_key stamp) r.versions v so.versions found
 
@@ -192,17 +186,17 @@ module _ (c : Config) (trace : List Line) (past : Past c trace) (e : EpochId) (g
               proper = below_is named.0 v n_fact v_fact (was_below k.0 was named.0 named.1)
 
               apart : same_stamp named.0.stamp v.stamp ≡ false
-              apart = not_true (same_stamp named.0.stamp v.stamp) (first_of (not (same_stamp named.0.stamp v.stamp)) _ proper)
+              apart = not_true (same_stamp named.0.stamp v.stamp) (and_first (not (same_stamp named.0.stamp v.stamp)) _ proper)
 
               -- it has just what was noted
               now_is : has.now ≡ named.0.stamp
-              now_is = some_is has.now s (sym has.held ∙ (ap (λ (n : ℕ). held_in c (entries trace) e n (file_in group r.ino)) same ∙ held)) ∙ (sym k.2 ∙ sym named.2)
+              now_is = some_same has.now s (sym has.held ∙ (ap (λ (n : ℕ). held_in c (entries trace) e n (file_in group r.ino)) same ∙ held)) ∙ (sym k.2 ∙ sym named.2)
 
               one : v.stamp ≡ named.0.stamp
               one = ancestors_one h (rows_made c (entries trace) (followed_rows c trace past.followed) (commits_new c trace past.followed (rest_below c trace past.rest).once)) f v.stamp named.0.stamp
                   (row_stands c trace f named.0 n_fact)
                   (subst (λ (x : Stamp). is_ancestor h f x named.0.stamp ≡ true) (sym is_stamp) (subst (λ (x : Stamp). is_ancestor h f stamp x ≡ true) now_is has.above))
-                  (second_of (not (same_stamp named.0.stamp v.stamp)) _ proper)
+                  (and_second (not (same_stamp named.0.stamp v.stamp)) _ proper)
 
       risen : NotedRow c trace e group r (with_holder from v.stamp r)
       risen = record {
@@ -230,7 +224,7 @@ module _ (c : Config) (trace : List Line) (past : Past c trace) (e : EpochId) (g
     by_holding v found (Some y) was = over (rises_to v (version_of r y.stamp)) refl
       where
         over : (b : Bool) → rises_to v (version_of r y.stamp) ≡ b → NotedRow c trace e group r (cond b (with_holder from v.stamp r) r)
-        over true k = risen v found (λ x z. subst (λ (a : Holding). rises_to v (version_of r a.stamp) ≡ true) (some_is y x (sym was ∙ z)) k)
+        over true k = risen v found (λ x z. subst (λ (a : Holding). rises_to v (version_of r a.stamp) ≡ true) (some_same y x (sym was ∙ z)) k)
         over false k = same_row
 
     by_version : (o : Option VersionRow) → version_of r stamp ≡ o → NotedRow c trace e group r (noted_of r from o)
@@ -270,7 +264,7 @@ module _ (c : Config) (trace : List Line) (past : Past c trace) (e : EpochId) (g
 
           under : is_ancestor h f named.0.stamp v.stamp ≡ true
           under = subst (λ (a : Stamp). is_ancestor h f a v.stamp ≡ true) (sym named.2)
-              (subst (λ (b : Stamp). is_ancestor h f y.stamp b ≡ true) (some_is least.now has.now (sym least.held ∙ has.held) ∙ (now_is ∙ sym (its_stamp stamp v stands found))) least.above)
+              (subst (λ (b : Stamp). is_ancestor h f y.stamp b ≡ true) (some_same least.now has.now (sym least.held ∙ has.held) ∙ (now_is ∙ sym (its_stamp stamp v stands found))) least.above)
 
           improper : is_proper_ancestor h f named.0.stamp v.stamp ≡ false
           improper = vectors_tell_newer c trace past f named.0.stamp v.stamp (row_stands c trace f named.0 n_fact) (row_stands c trace f v v_fact_now)

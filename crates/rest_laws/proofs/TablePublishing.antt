@@ -1,5 +1,7 @@
 -- The row of a file once what a released instance has made is published: its version is known, and its storage site is noted to hold it.
 use Rattle.std.proofs.Common.{◌≡◌, ℕ, ◌==◌, ◌<◌, Bool, true, false, not, cond, List, [], ◌∷◌, map, Option, Some, None, refl, sym, ◌∙◌, ap, subst, inl, inr, arith}
+use Rattle.role_steps.proofs.of_plain_facts.Numbers.{equal}
+use Rattle.role_steps.proofs.of_plain_facts.Options.{none_some, some_same}
 use Rattle.locus_ids.specs.declared.config.Config.{Config}
 use Rattle.locus_ids.specs.declared.ids.CallId.{CallId}
 use Rattle.locus_ids.specs.declared.ids.FileId.{FileId}
@@ -35,21 +37,19 @@ use Rattle.tree_laws.specs.Printed.{entries}
 use Rattle.tree_laws.specs.Tables.{AsItsFile, FileFact, HasHolder, IsGrantedNow, IsNoted, IsOrderly, StartedFiles, VersionFact, known_stamps, row_stamp}
 use Rattle.tree_laws.proofs.Boots.{every_both, every_filter}
 use Rattle.tree_laws.proofs.CarriedVersions.{version_stays}
-use Rattle.tree_laws.proofs.Names.{some_is, test_same}
 use Rattle.tree_laws.proofs.Versions.{versions_stay}
-use Rattle.holding_laws.specs.Held.{StandsOnHeld}
-use Rattle.holding_laws.proofs.Ancestors.{ancestor_own}
-use Rattle.holding_laws.proofs.Holding.{stands_on_held}
-use Rattle.order_laws.proofs.Lists.{all_found}
-use Rattle.holding_laws.proofs.OneVersionFirsts.{MakesFirst, makes_first}
-use Rattle.holding_laws.proofs.OneVersionHomes.{no_root}
-use Rattle.store_laws.proofs.Places.{open_is}
-use Rattle.store_laws.proofs.Tabled.{row_among}
-use Rattle.sync_laws.proofs.Files.{file_row_stays}
-use Rattle.sync_laws.proofs.Orderly.{version_orderly, version_there}
-use Rattle.sync_laws.proofs.Rows.{every_among, row_every, row_key_is}
-use Rattle.sync_laws.proofs.Versions.{row_stands}
-use Rattle.call_row_laws.proofs.Rising.{none_some}
+use Rattle.one_tree_laws.specs.of_holding_laws.Held.{StandsOnHeld}
+use Rattle.one_tree_laws.proofs.of_holding_laws.Ancestors.{ancestor_own}
+use Rattle.one_tree_laws.proofs.of_holding_laws.Holding.{stands_on_held}
+use Rattle.one_tree_laws.proofs.of_order_laws.Lists.{all_found}
+use Rattle.one_tree_laws.proofs.of_holding_laws.OneVersionFirsts.{MakesFirst, makes_first}
+use Rattle.one_tree_laws.proofs.of_holding_laws.OneVersionHomes.{no_root}
+use Rattle.one_tree_laws.proofs.of_store_laws.Places.{open_is}
+use Rattle.one_tree_laws.proofs.of_store_laws.Tabled.{row_among}
+use Rattle.one_tree_laws.proofs.of_sync_laws.Files.{file_row_stays}
+use Rattle.one_tree_laws.proofs.of_sync_laws.Orderly.{version_orderly, version_there}
+use Rattle.one_tree_laws.proofs.of_sync_laws.Rows.{every_among, row_every, row_key_is}
+use Rattle.one_tree_laws.proofs.of_sync_laws.Versions.{row_stands}
 use Rattle.tree_model.specs.State.{is_named}
 use Rattle.one_tree_laws.specs.Rest.{Comes, Past, RestTold, more}
 use Rattle.one_tree_laws.specs.Roles.{Ready, TableHere}
@@ -156,7 +156,7 @@ module _ (c : Config) (n : ℕ) (trace : List Line) (f : Frame) (t : SyncTable) 
     no_root_here true k = absurd (no_root ends.at.grant.ss ends.at.grant.file.ino given (ap (λ (g : FileId). g.ino) (its_file c n trace f t ready here r d group_is granted ss (Some v.stamp) ends) ∙ one r.file.ino k))
       where
         one : (m : ℕ) → (m == 1) ≡ true → m ≡ 1
-        one m h = test_same m 1 h
+        one m h = equal m 1 h
 
     make_kind : kind_of_file c (entries trace) F ≡ kind_made (words_named (entries trace) (Some d))
     make_kind = ap (λ (b : Bool). cond b Dir (kind_made (words_named (entries trace) (first_call c (entries trace) F)))) (no_root_here (r.file.ino == 1) refl) ∙ ap (λ (o : Option CallId). kind_made (words_named (entries trace) o)) first_is
@@ -300,5 +300,5 @@ module _ (c : Config) (n : ℕ) (trace : List Line) (f : Frame) (t : SyncTable) 
     fact = fact_after z (base_row (Some z) e);
     known = known_after z (base_row (Some z) e);
     site_has = site_noted z (base_row (Some z) e);
-    others = λ y k site s held noted_was. (after z (base_row (Some z) e)).notes site s (subst (λ (g : FileId). held_in c (entries new) f.epoch site g ≡ Some s) (same_file_as z (base_row (Some z) e)) held) (subst (λ (w : FileRow). IsNoted w site s) (sym (some_is z y k)) noted_was);
+    others = λ y k site s held noted_was. (after z (base_row (Some z) e)).notes site s (subst (λ (g : FileId). held_in c (entries new) f.epoch site g ≡ Some s) (same_file_as z (base_row (Some z) e)) held) (subst (λ (w : FileRow). IsNoted w site s) (sym (some_same z y k)) noted_was);
   }

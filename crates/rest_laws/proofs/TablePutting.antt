@@ -22,9 +22,9 @@ use Rattle.tree_laws.specs.Stores.{AreApart}
 use Rattle.tree_laws.specs.Tables.{AreRising, FileFact, FilesFact, RowFact, TableFact, early_packet, named_openers, tree_openers}
 use Rattle.tree_laws.proofs.Boots.{every_both}
 use Rattle.tree_laws.proofs.Carried.{packet_stays}
-use Rattle.sync_laws.specs.Staying.{Looks, Starts}
-use Rattle.sync_laws.proofs.Files.{started_told}
-use Rattle.sync_laws.proofs.Staying.{turn_told_same}
+use Rattle.one_tree_laws.specs.of_sync_laws.Staying.{Looks, Starts}
+use Rattle.one_tree_laws.proofs.of_sync_laws.Files.{started_told}
+use Rattle.one_tree_laws.proofs.of_sync_laws.Staying.{turn_told_same}
 use Rattle.one_tree_laws.specs.Rest.{more}
 
 -- what a table has of its opens and files by the trace

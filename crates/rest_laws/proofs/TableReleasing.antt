@@ -2,6 +2,9 @@
 use Rattle.std.proofs.Common.{◌≡◌, ℕ, ◌==◌, Bool, true, false, not, ◌&&◌, ◌||◌, cond, List, map, Option, Some, None, refl, sym, ◌∙◌, ap, subst, ◌⊎◌, inl, inr, arith}
 use Rattle.std.proofs.lemmas.Bool.Decides.{nat_tests}
 use Rattle.std.specs.Option.{is_some}
+use Rattle.role_steps.proofs.of_plain_facts.Numbers.{equal_self}
+use Rattle.role_steps.proofs.of_plain_facts.Options.{some_same}
+use Rattle.role_steps.proofs.of_plain_facts.Tests.{and_true, true_false}
 use Rattle.locus_ids.specs.declared.config.Config.{Config}
 use Rattle.locus_ids.specs.declared.ids.CallId.{CallId}
 use Rattle.locus_ids.specs.declared.ids.EpochId.{EpochId}
@@ -44,18 +47,14 @@ use Rattle.tree_laws.specs.Tables.{IsAhead, IsGrantedNow, named_instance, named_
 use Rattle.tree_laws.proofs.Finds.{find_without}
 use Rattle.tree_laws.proofs.Hearing.{asks_next}
 use Rattle.tree_laws.proofs.Kinship.{tree_epoch_is, tree_group_is}
-use Rattle.tree_laws.proofs.Names.{same_epoch_own, same_serial_eq, some_is, test_own, true_false}
-use Rattle.order_laws.proofs.ProcessSynchronizing.{sync_same}
-use Rattle.store_laws.proofs.Places.{open_is}
-use Rattle.sync_laws.proofs.Members.{inside_joined}
-use Rattle.sync_laws.proofs.OpensStay.{granted_group_is}
+use Rattle.tree_laws.proofs.Names.{same_epoch_own, same_serial_eq}
+use Rattle.one_tree_laws.proofs.of_order_laws.ProcessSynchronizing.{sync_same}
+use Rattle.one_tree_laws.proofs.of_store_laws.Places.{open_is}
+use Rattle.one_tree_laws.proofs.of_sync_laws.Members.{inside_joined}
+use Rattle.one_tree_laws.proofs.of_sync_laws.OpensStay.{granted_group_is}
 use Rattle.one_tree_laws.specs.Rest.{more}
 use Rattle.one_tree_laws.specs.Roles.{Ready, TableHere}
 use Rattle.rest_laws.proofs.TableOpeners.{filter_taken, is_of, latest_apart, table_taken, tree_taken}
-
-both : (a b : Bool) → a ≡ true → b ≡ true → a && b ≡ true
-both true b p q = q
-both false b p q = absurd (true_false (sym p))
 
 version_own : (o : Option Stamp) → same_version o o ≡ true
 version_own None = refl
@@ -102,8 +101,8 @@ module _ (c : Config) (n : ℕ) (trace : List Line) (f : Frame) (t : SyncTable) 
 
   gives : gives_release h (tree_of c f.epoch r.file.group (entries trace)) r.inst r.file last ≡ true
   gives = ap (instance_ends h (tree_of c f.epoch r.file.group (entries trace)) r.file last) found
-      ∙ both (same_file ends.at.grant.file r.file) _ (subst (λ (g : FileId). same_file g r.file ≡ true) (sym its_file) (own_file r.file))
-      (both (same_version last ends.at.work.committed) _ (subst (λ (o : Option Stamp). same_version last o ≡ true) (sym ends.committed) (version_own last)) (ap (λ (b : Bool). not b || is_spent h (tree_of c f.epoch r.file.group (entries trace)) ends.at) ends.owes))
+      ∙ and_true (same_file ends.at.grant.file r.file) _ (subst (λ (g : FileId). same_file g r.file ≡ true) (sym its_file) (own_file r.file))
+      (and_true (same_version last ends.at.work.committed) _ (subst (λ (o : Option Stamp). same_version last o ≡ true) (sym ends.committed) (version_own last)) (ap (λ (b : Bool). not b || is_spent h (tree_of c f.epoch r.file.group (entries trace)) ends.at) ends.owes))
 
   not_look : (g : FileId) (w : What) → want.Close r.inst ≡ want.Look g w → ⊥
   not_look g w e = cc
@@ -133,8 +132,8 @@ module _ (c : Config) (n : ℕ) (trace : List Line) (f : Frame) (t : SyncTable) 
   new = more n x trace
 
   concerned : (same_epoch f.epoch T.epoch && (r.file.group == T.group)) ≡ true
-  concerned = both (same_epoch f.epoch T.epoch) (r.file.group == T.group) (subst (λ (e : EpochId). same_epoch f.epoch e ≡ true) (sym (tree_epoch_is c f.epoch t.group (entries trace))) (same_epoch_own f.epoch))
-      (subst (λ (g : ℕ). (r.file.group == g) ≡ true) (group_is ∙ sym (tree_group_is c f.epoch t.group (entries trace))) (test_own r.file.group))
+  concerned = and_true (same_epoch f.epoch T.epoch) (r.file.group == T.group) (subst (λ (e : EpochId). same_epoch f.epoch e ≡ true) (sym (tree_epoch_is c f.epoch t.group (entries trace))) (same_epoch_own f.epoch))
+      (subst (λ (g : ℕ). (r.file.group == g) ≡ true) (group_is ∙ sym (tree_group_is c f.epoch t.group (entries trace))) (equal_self r.file.group))
 
   tree_is : tree_of c f.epoch t.group (entries new) ≡ released r.inst r.file last T
   tree_is = ap (λ (b : Bool). cond b (released r.inst r.file last T) T) concerned
@@ -178,7 +177,7 @@ module _ (c : Config) (n : ℕ) (trace : List Line) (f : Frame) (t : SyncTable) 
       })
         where
           one : a.at ≡ ends.at
-          one = some_is a.at ends.at (sym a.open_at.found ∙ (ap (instance_now c trace f.epoch) (same_serial_eq a.inst r.inst k) ∙ ends.closes.open_at.found))
+          one = some_same a.at ends.at (sym a.open_at.found ∙ (ap (instance_now c trace f.epoch) (same_serial_eq a.inst r.inst k) ∙ ends.closes.open_at.found))
       over false k = inl (record { inst = a.inst; at = a.at; open_at = record { found = instance_other a.inst apart ∙ a.open_at.found; place = a.open_at.place }; file_is = a.file_is; committed = a.committed })
         where
           apart : a.inst ≡ r.inst → ⊥

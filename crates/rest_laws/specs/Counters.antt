@@ -5,7 +5,7 @@ use Rattle.trace_book.specs.declared.record.Record.TheVariants as says
 use Rattle.role_steps.specs.Own.{Every}
 use Rattle.role_steps.specs.Views.{Told, Shown}
 use Rattle.the_run.specs.Worlds.{Line}
-use Rattle.vector_laws.specs.Written.{past_of}
+use Rattle.one_tree_laws.specs.of_vector_laws.Written.{past_of}
 use Rattle.one_tree_laws.specs.Rest.{IsSpentMend}
 
 abbrev pub LowRecord : Record → Type 0

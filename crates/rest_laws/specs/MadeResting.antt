@@ -13,8 +13,8 @@ use Rattle.tree_model.specs.Tree.{tree_of}
 use Rattle.tree_laws.specs.Instances.{IsFull}
 use Rattle.tree_laws.specs.Packets.{MakesNow}
 use Rattle.tree_laws.specs.Printed.{entries}
-use Rattle.sync_laws.specs.Making.{MakesAreSaid}
-use Rattle.sync_laws.specs.Serving.{Serving}
+use Rattle.one_tree_laws.specs.of_sync_laws.Making.{MakesAreSaid}
+use Rattle.one_tree_laws.specs.of_sync_laws.Serving.{Serving}
 use Rattle.one_tree_laws.specs.Rest.{Past}
 use Rattle.one_tree_laws.specs.Roles.{Ready, TableHere}
 

@@ -2,7 +2,7 @@
 use Rattle.std.specs.Prelude.{◌≡◌, ◌<◌}
 use Rattle.locus_ids.specs.declared.config.Config.{Config}
 use Rattle.locus_ids.specs.declared.ids.CallId.{CallId}
-use Rattle.vector_laws.specs.HistoryCommits.{IsSite}
+use Rattle.one_tree_laws.specs.of_vector_laws.HistoryCommits.{IsSite}
 use Rattle.tree_model.specs.declared.accepted.Waiting.{Waiting}
 use Rattle.tree_laws.specs.Processes.{IsMend}
 use Rattle.one_tree_laws.specs.Rest.{RangeCall}

@@ -3,6 +3,7 @@ use Rattle.std.specs.Prelude.{◌≡◌, ◌≤◌, List, Some}
 use Rattle.locus_ids.specs.declared.config.Config.{Config}
 use Rattle.locus_ids.specs.declared.ids.CallId.{CallId}
 use Rattle.locus_ids.specs.declared.ids.Serial.{Serial}
+use Rattle.locus_ids.specs.Sizes.{sites_max}
 use Rattle.trace_book.specs.declared.operation.Op.TheVariants as op
 use Rattle.call_rules.specs.declared.want.Want.TheVariants as want
 use Rattle.role_steps.specs.Mends.{mending}
@@ -14,11 +15,11 @@ use Rattle.the_run.specs.Worlds.{Line}
 use Rattle.lawful_trace.specs.TreeRows.{IsCallIn}
 use Rattle.tree_laws.specs.Calls.{Asks}
 use Rattle.tree_laws.specs.Printed.{entries}
-use Rattle.store_laws.specs.Rests.{MendsAs}
+use Rattle.one_tree_laws.specs.of_store_laws.Rests.{MendsAs}
 use Rattle.one_tree_laws.specs.Places.{InsideFact}
 use Rattle.one_tree_laws.specs.Roles.{Ready}
 
 pub record MendsRest (c : Config) : Type 0 where
   -- a mend that a call asks of an instance now works on what the tree has kept
-  pub mends : (trace : List Line) (f : Frame) (v : SiteView) → Ready c trace f → InsideFact c f trace v → (inst : Serial) → inst.us ≤ 16 → (i : Instance) → instance_of v.store inst ≡ Some i → (d : CallId) → IsCallIn (entries trace) f.epoch d → Asks c trace d (want.Do inst op.Mend) →
+  pub mends : (trace : List Line) (f : Frame) (v : SiteView) → Ready c trace f → InsideFact c f trace v → (inst : Serial) → inst.us ≤ sites_max → (i : Instance) → instance_of v.store inst ≡ Some i → (d : CallId) → IsCallIn (entries trace) f.epoch d → Asks c trace d (want.Do inst op.Mend) →
       MendsAs c trace f i.file (mending v (group_of (instance_of v.store inst)))

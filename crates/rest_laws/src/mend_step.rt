@@ -8,6 +8,7 @@ ghost use Rattle.locus_ids.specs.declared.ids.FileId.{FileId};
 ghost use Rattle.locus_ids.specs.declared.ids.Mode.TheVariants as mode;
 ghost use Rattle.locus_ids.specs.declared.ids.Serial.{Serial};
 ghost use Rattle.locus_ids.specs.declared.ids.Stamp.{Stamp};
+ghost use Rattle.locus_ids.specs.Sizes.{sites_max};
 ghost use Rattle.schedule_lines.specs.declared.line.ScheduleLine.{ScheduleLine};
 ghost use Rattle.trace_book.specs.declared.operation.Op.TheVariants as op;
 ghost use Rattle.call_rules.specs.declared.want.Want.TheVariants as want;
@@ -32,14 +33,14 @@ ghost use Rattle.tree_model.specs.Histories.{history};
 ghost use Rattle.tree_model.specs.Mending.{kept_vectors};
 ghost use Rattle.tree_model.specs.Packs.{sync_site};
 ghost use Rattle.tree_model.specs.Tree.{tree_of};
-ghost use Rattle.row_laws.specs.Shown.{EachRecord};
-ghost use Rattle.call_row_laws.specs.Tree.{IsTreeRow};
+ghost use Rattle.one_tree_laws.specs.of_row_laws.Shown.{EachRecord};
+ghost use Rattle.one_tree_laws.specs.of_call_row_laws.Tree.{IsTreeRow};
 ghost use Rattle.tree_laws.specs.Following.{IsFollowed, RowsAreLawful};
 ghost use Rattle.tree_laws.specs.Past.{WasGranted};
 ghost use Rattle.tree_laws.specs.Instances.{Stands};
 ghost use Rattle.tree_laws.specs.Printed.{entries};
 ghost use Rattle.tree_laws.specs.Tables.{TableFact};
-ghost use Rattle.store_laws.specs.Rests.{MendsAs};
+ghost use Rattle.one_tree_laws.specs.of_store_laws.Rests.{MendsAs};
 ghost use Rattle.one_tree_laws.specs.Places.{InsideFact};
 ghost use Rattle.one_tree_laws.specs.Rest.{AllRest, Past};
 ghost use Rattle.one_tree_laws.specs.Roles.{Ready};
@@ -86,6 +87,6 @@ pub fn lawful_rows_meet_the_tree()
 /// At the storage site of an instance of which a call asks to mend, the mend works on what the tree has kept: on the contents of the kept
 /// versions of the directory, in their order, and on the vectors of all that is kept in the group. (A cluster has at most four groups.)
 pub fn mends_work_on_what_is_kept()
-    ensures { (c : Config) (trace : List Line) (f : Frame) (v : SiteView) → Past c trace → InsideFact c f trace v → length c.packs ≤ 4 → (inst : Serial) → inst.us ≤ 16 → (i : Instance) → instance_of v.store inst ≡ Some i →
+    ensures { (c : Config) (trace : List Line) (f : Frame) (v : SiteView) → Past c trace → InsideFact c f trace v → length c.packs ≤ 4 → (inst : Serial) → inst.us ≤ sites_max → (i : Instance) → instance_of v.store inst ≡ Some i →
         (d : CallId) → IsCallIn (entries trace) f.epoch d → Asks c trace d (want.Do inst op.Mend) → MendsAs c trace f i.file (mending v (group_of (instance_of v.store inst))) }
 {}

@@ -16,7 +16,7 @@ ghost use Rattle.the_run.specs.Steps.{group_of};
 ghost use Rattle.the_run.specs.Worlds.{Line, formatted};
 ghost use Rattle.tree_laws.specs.Doing.{FrameFact, StoreFine, StoreHeld};
 ghost use Rattle.tree_laws.specs.Stores.{CopiesAreHeld};
-ghost use Rattle.store_laws.specs.Rests.{MayWrite, OpRests, StoreRests};
+ghost use Rattle.one_tree_laws.specs.of_store_laws.Rests.{MayWrite, OpRests, StoreRests};
 ghost use Rattle.one_tree_laws.specs.Places.{InsideFact};
 ghost use Rattle.one_tree_laws.specs.Rest.{AllRest, Past};
 ghost use Rattle.one_tree_laws.specs.Roles.{Came, Ready};

@@ -1,6 +1,9 @@
+pub mod Numbers
 pub mod Rows
+pub mod Counted
 pub mod Sending
 pub mod SyncSends
 pub mod StoreSends
 pub mod UserSends
 pub mod SiteSends
+pub use Rattle.plain_facts.proofs as of_plain_facts

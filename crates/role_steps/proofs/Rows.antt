@@ -1,17 +1,8 @@
 -- Tables: what is found after a row was put in place.
 use Rattle.std.proofs.Common.{◌≡◌, ◌≢◌, ℕ, ◌==◌, nat_lt, Bool, true, false, List, [], ◌∷◌, Option, Some, None, refl, sym, ◌∙◌, arith}
 use Rattle.std.proofs.lemmas.Bool.Decides.{nat_tests}
+use Rattle.plain_facts.proofs.Numbers.{equal_self}
 use Rattle.role_steps.specs.Tables.{row, with_row}
-
--- numbers that differ are told apart by the test
-pub differ : (a b : ℕ) → a ≢ b → (a == b) ≡ false
-differ a b ne = (elim (a == b) as (λ t. (a == b) ≡ t → t ≡ false) [
-  | true ↦ λ e. absurd (ne (grind (arith, nat_tests)))
-  | false ↦ λ e. refl
-]) refl
-
-pub same : (a : ℕ) → (a == a) ≡ true
-same a = grind (arith, nat_tests)
 
 other_key : (a b t : ℕ) → (a == b) ≡ true → (b == t) ≡ false → (a == t) ≡ false
 other_key a b t e h = grind (arith, nat_tests)
@@ -46,12 +37,12 @@ less_differs a b e = grind (arith, nat_tests)
 
 -- its own key finds the row
 pub row_same : {A : Type 0} (key : A → ℕ) (x : A) (xs : List A) → row key (key x) (with_row key x xs) ≡ Some x
-row_same key x [] = found_row x None (key x == key x) (same (key x))
+row_same key x [] = found_row x None (key x == key x) (equal_self (key x))
 row_same key x (y ∷ ys) =
     (elim (nat_lt (key y) (key x)) as (λ b. nat_lt (key y) (key x) ≡ b → row key (key x) (elim b [ true ↦ y ∷ with_row key x ys | false ↦ elim (key y == key x) [ true ↦ x ∷ ys | false ↦ x ∷ y ∷ ys ] ]) ≡ Some x) [
       | true ↦ λ e. passed_row y (row key (key x) (with_row key x ys)) (key y == key x) (less_differs (key y) (key x) e) ∙ row_same key x ys
       | false ↦ λ e. elim (key y == key x) as (λ b. row key (key x) (elim b [ true ↦ x ∷ ys | false ↦ x ∷ y ∷ ys ]) ≡ Some x) [
-        | true ↦ found_row x (row key (key x) ys) (key x == key x) (same (key x))
-        | false ↦ found_row x (row key (key x) (y ∷ ys)) (key x == key x) (same (key x))
+        | true ↦ found_row x (row key (key x) ys) (key x == key x) (equal_self (key x))
+        | false ↦ found_row x (row key (key x) (y ∷ ys)) (key x == key x) (equal_self (key x))
       ]
     ]) refl

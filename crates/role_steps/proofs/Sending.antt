@@ -34,9 +34,6 @@ OfFrame P f = (to : ℕ) (b : Body) → P (packet f to b)
 abbrev pub AllSent : {V : Type 0} → (Packet → Type 0) → Outcome V → Type 0
 AllSent P o = Every P o.sent
 
-pub one_sent : (P : Packet → Type 0) (f : Frame) → OfFrame P f → (to : ℕ) (b : Body) → Every P (packet f to b ∷ [])
-one_sent P f h to b = (h to b, tt)
-
 pub some_sent : (P : Packet → Type 0) (f : Frame) → OfFrame P f → (b : Body) (o : Option ℕ) → Every P (to_some f b o)
 some_sent P f h b None = tt
 some_sent P f h b (Some to) = (h to b, tt)

@@ -17,7 +17,7 @@ use Rattle.wire_messages.specs.declared.body.Granted.TheVariants as granted
 use Rattle.wire_messages.specs.declared.body.CloseAnswer.{CloseAnswer}
 use Rattle.role_steps.specs.Tables.{first_that}
 use Rattle.role_steps.specs.Views.{Frame, Users}
-use Rattle.role_steps.specs.Requests.{descriptors_of, request_packets, asks, asks_op_of, asks_close_of, user_instance, users_repeats}
+use Rattle.role_steps.specs.Requests.{descriptors_of, request_packets, asks_op_of, asks_close_of, user_instance, users_repeats}
 use Rattle.call_rules.specs.Descriptors.{beginning}
 use Rattle.role_steps.specs.Using.{accepted, frees, with_brought, content_answer, asks_want, next_want, goes_on, on_call, takes_answer, with_answer, takes_open, on_open_done_of, on_open_done, on_op_done_of, on_op_done, on_close_done_of, on_close_done, looks_again, takes_look, on_look_done_of, on_look_done, asks_open_of, asks_op_number, asks_take}
 use Rattle.role_steps.specs.Using as using
@@ -36,9 +36,6 @@ request_sent P f h w (asking.Close serial ss) = (h _ _, tt)
 
 pub users_repeats_sent : (P : Packet → Type 0) (f : Frame) → OfFrame P f → (u : Users) → Every P (users_repeats f u)
 users_repeats_sent P f h u = every_flat_map P (λ (w : WaitingCall). request_packets f w w.asking) u.waiting (λ w. request_sent P f h w w.asking)
-
-asks_sent : (P : Packet → Type 0) (f : Frame) → OfFrame P f → (w : WaitingCall) (u : Users) → AllSent P (asks f w u)
-asks_sent P f h w u = request_sent P f h w w.asking
 
 asks_op_sent : (P : Packet → Type 0) (f : Frame) → OfFrame P f → (w : WaitingCall) (o : Op) (i : Option UserInstance) (u : Users) → AllSent P (asks_op_of f w o i u)
 asks_op_sent P f h w o None u = tt

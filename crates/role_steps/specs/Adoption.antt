@@ -2,15 +2,15 @@
 use Rattle.std.specs.Prelude.{ℕ, nat_le, Bool, true, false, not, ◌&&◌, ◌||◌, List, [], ◌∷◌, Option, Some, None}
 use Rattle.std.specs.List.{list_any}
 use Rattle.locus_ids.specs.declared.ids.FileId.{FileId}
-use Rattle.commit_graph.specs.Versions.{same_file}
-use Rattle.file_content.specs.Pages.{pages_of}
+use Rattle.call_rules.specs.of_commit_graph.Versions.{same_file}
+use Rattle.file_effects.specs.of_file_content.Pages.{pages_of, pages_from}
 use Rattle.trace_book.specs.declared.call.Call.{Call}
 use Rattle.trace_book.specs.declared.call.Call.TheVariants as call
 use Rattle.trace_book.specs.declared.record.Record.{Record}
 use Rattle.trace_book.specs.declared.record.Record.TheVariants as says
 use Rattle.wire_messages.specs.declared.body.Body.TheVariants as body
 use Rattle.role_steps.specs.Tables.{row, with_row, without_row}
-use Rattle.role_steps.specs.Views.{Frame, Store, Users, SiteView, Shown, Outcome, quiet, to_sync}
+use Rattle.role_steps.specs.Views.{Frame, Store, Users, SiteView, Shown, DiskWrite, Outcome, quiet, to_sync}
 use Rattle.role_steps.specs.Versions.{is_below, file_row}
 use Rattle.role_steps.specs.Reports.{on_have_of}
 use Rattle.role_steps.specs.Storage.{copy_of, with_copy, has_open, free_pages}
@@ -45,6 +45,10 @@ copy_adopted p = record { file = p.file; kind = p.kind; set = p.set; stamp = p.s
 abbrev pub adopt_record : Frame → Pull → Record
 adopt_record f p = says.Adopt p.file f.me p.stamp
 
+-- the version as it is written: all of its pages
+abbrev pub adopt_write : Frame → Pull → DiskWrite
+adopt_write f p = record { copy = copy_adopted p; pages = pages_from 0 (pages_of p.size); says = adopt_record f p }
+
 abbrev pub table_group : SyncTable → ℕ
 table_group t = t.group
 
@@ -70,7 +74,7 @@ adopts_pull f p v = record {
   view = notes_own f p (without_pull p (with_store v (with_copy (copy_adopted p) v.store)));
   sent = to_sync f p.file.group (body.Have p.file p.stamp);
   told = Shown (adopt_record f p) ∷ [];
-  written = Some (record { copy = copy_adopted p; pages = pages_of p.size; says = adopt_record f p });
+  written = Some (adopt_write f p);
 }
 
 abbrev pub is_above_own : Pull → Option FileCopy → Bool

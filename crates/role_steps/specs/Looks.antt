@@ -9,7 +9,7 @@ use Rattle.trace_book.specs.declared.operation.What.TheVariants as what
 use Rattle.trace_book.specs.declared.operation.Served.{Served}
 use Rattle.trace_book.specs.declared.operation.Served.TheVariants as served
 use Rattle.trace_book.specs.declared.record.Record.TheVariants as says
-use Rattle.commit_graph.specs.Versions.{same_stamp}
+use Rattle.call_rules.specs.of_commit_graph.Versions.{same_stamp}
 use Rattle.wire_messages.specs.declared.body.Body.{Body}
 use Rattle.wire_messages.specs.declared.body.Body.TheVariants as body
 use Rattle.wire_messages.specs.declared.body.LookAnswer.{LookAnswer}

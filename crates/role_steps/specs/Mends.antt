@@ -5,9 +5,9 @@ use Rattle.locus_ids.specs.declared.ids.FileId.{FileId}
 use Rattle.locus_ids.specs.declared.ids.Stamp.{Stamp}
 use Rattle.locus_ids.specs.declared.ids.Kind.{Kind}
 use Rattle.locus_ids.specs.declared.ids.Kind.TheVariants as kind
-use Rattle.commit_graph.specs.Versions.{same_stamp, same_file}
-use Rattle.dir_format.specs.Entries.{is_live}
-use Rattle.dir_format.specs.Contents.{entries_of, entries_from}
+use Rattle.call_rules.specs.of_commit_graph.Versions.{same_stamp, same_file}
+use Rattle.dir_reconcile.specs.of_dir_format.Entries.{is_live}
+use Rattle.dir_reconcile.specs.of_dir_format.Contents.{entries_of, entries_from}
 use Rattle.dir_reconcile.specs.declared.kept.KeptVector.{KeptVector}
 use Rattle.dir_reconcile.specs.Rescues.{rescue_wanted}
 use Rattle.trace_book.specs.declared.call.Call.{Call}

@@ -12,9 +12,9 @@ use Rattle.locus_ids.specs.declared.ids.Kind.TheVariants as kind
 use Rattle.locus_ids.specs.declared.sites.Sites.{Sites}
 use Rattle.locus_ids.specs.declared.refusal.Refusal.{Refusal}
 use Rattle.locus_ids.specs.declared.refusal.Refusal.TheVariants as refusal
-use Rattle.commit_graph.specs.Versions.{same_file, same_stamp}
-use Rattle.commit_graph.specs.Grants.{Opener, grant_refusal}
-use Rattle.dir_format.specs.Entries.{nothing_seen}
+use Rattle.call_rules.specs.of_commit_graph.Versions.{same_file, same_stamp}
+use Rattle.call_rules.specs.of_commit_graph.Grants.{Opener, grant_refusal}
+use Rattle.dir_reconcile.specs.of_dir_format.Entries.{nothing_seen}
 use Rattle.trace_book.specs.declared.record.Record.TheVariants as says
 use Rattle.wire_messages.specs.declared.packet.Packet.{Packet}
 use Rattle.wire_messages.specs.declared.body.Opening.{Opening}

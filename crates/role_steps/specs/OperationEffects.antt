@@ -2,9 +2,9 @@
 use Rattle.std.specs.Prelude.{ℕ, Bool, true, false, List, [], ◌∷◌, Option, Some, None}
 use Rattle.trace_book.specs.declared.operation.Op.{Op}
 use Rattle.trace_book.specs.declared.operation.Op.TheVariants as op
-use Rattle.dir_format.specs.declared.entry.Entry.{Entry}
-use Rattle.dir_format.specs.Grammar.{dir_bytes}
-use Rattle.dir_format.specs.Contents.{entries_of}
+use Rattle.dir_reconcile.specs.of_dir_format.declared.entry.Entry.{Entry}
+use Rattle.dir_reconcile.specs.of_dir_format.Grammar.{dir_bytes}
+use Rattle.dir_reconcile.specs.of_dir_format.Contents.{entries_of}
 use Rattle.dir_reconcile.specs.declared.kept.KeptVector.{KeptVector}
 use Rattle.dir_reconcile.specs.Joins.{joined_dirs}
 use Rattle.dir_reconcile.specs.Rescues.{rescued, rescue_is_spent}

@@ -3,8 +3,9 @@ use Rattle.std.specs.Prelude.{ℕ, ◌-◌, ◌*◌, ◌==◌, min, Bool, true, 
 use Rattle.std.specs.List.{flat_map}
 use Rattle.locus_ids.specs.declared.ids.FileId.{FileId}
 use Rattle.locus_ids.specs.declared.ids.Stamp.{Stamp}
-use Rattle.commit_graph.specs.Versions.{same_stamp}
-use Rattle.file_content.specs.Pages.{pages_of}
+use Rattle.locus_ids.specs.Sizes.{page_bytes}
+use Rattle.call_rules.specs.of_commit_graph.Versions.{same_stamp}
+use Rattle.file_effects.specs.of_file_content.Pages.{pages_of}
 use Rattle.wire_messages.specs.declared.packet.Packet.{Packet}
 use Rattle.wire_messages.specs.declared.body.Body.TheVariants as body
 use Rattle.role_steps.specs.Tables.{row, with_row}
@@ -62,7 +63,7 @@ on_notify f from (Some own) p pulls = elim (same_stamp own.stamp p.stamp) [
 -- the page is the next missing one of the version that is pulled, with as many bytes as the version has in it
 abbrev pub is_awaited : Pull → Stamp → ℕ → List ℕ → Bool
 is_awaited p stamp page bytes =
-    same_stamp p.stamp stamp && (not (is_complete p) && ((page == next_page p) && (length bytes == min 1024 (p.size - 1024 * page))))
+    same_stamp p.stamp stamp && (not (is_complete p) && ((page == next_page p) && (length bytes == min page_bytes (p.size - page_bytes * page))))
 
 abbrev pub on_page_of : Frame → Stamp → ℕ → List ℕ → Option Pull → List Pull → Outcome (List Pull)
 on_page_of f stamp page bytes None pulls = quiet pulls

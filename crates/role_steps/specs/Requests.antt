@@ -6,7 +6,8 @@ use Rattle.locus_ids.specs.declared.ids.Serial.{Serial}
 use Rattle.locus_ids.specs.declared.ids.Kind.{Kind}
 use Rattle.locus_ids.specs.declared.sites.Sites.{Sites}
 use Rattle.locus_ids.specs.declared.config.Config.{Config}
-use Rattle.dir_format.specs.Entries.{nothing_seen}
+use Rattle.locus_ids.specs.Sizes.{descriptor_span}
+use Rattle.dir_reconcile.specs.of_dir_format.Entries.{nothing_seen}
 use Rattle.trace_book.specs.declared.call.OpenMode.{OpenMode}
 use Rattle.trace_book.specs.declared.call.OpenMode.TheVariants as mode
 use Rattle.trace_book.specs.declared.call.Call.{Call}
@@ -31,10 +32,14 @@ use Rattle.role_steps.specs.declared.users.DescriptorRow.{DescriptorRow}
 
 -- ---- tables ----
 
+-- groups, which are the keys of mends, are below this, and the key of any other call is this times its process
+abbrev pub waiting_span : ℕ
+waiting_span = 16
+
 -- mends are of process 0, one a group
 abbrev pub waiting_of : ℕ → Call → ℕ
 waiting_of process (call.Mend file) = file.group
-waiting_of process _ = 16 * process
+waiting_of process _ = waiting_span * process
 
 abbrev pub waiting_key : WaitingCall → ℕ
 waiting_key w = waiting_of w.process w.words
@@ -58,7 +63,7 @@ abbrev pub without_user_instance : ℕ → Users → Users
 without_user_instance serial u = record u { instances = without_row instance_serial serial u.instances }
 
 abbrev pub fd_key : ℕ → ℕ → ℕ
-fd_key process fd = process * 65536 + fd
+fd_key process fd = process * descriptor_span + fd
 
 abbrev pub descriptor_key : DescriptorRow → ℕ
 descriptor_key d = fd_key d.process d.fd

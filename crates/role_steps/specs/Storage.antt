@@ -9,17 +9,18 @@ use Rattle.locus_ids.specs.declared.ids.Mode.TheVariants as mode
 use Rattle.locus_ids.specs.declared.ids.Kind.{Kind}
 use Rattle.locus_ids.specs.declared.sites.Sites.{Sites}
 use Rattle.locus_ids.specs.declared.refusal.Refusal.TheVariants as refusal
-use Rattle.commit_graph.specs.Versions.{same_stamp, same_file}
+use Rattle.locus_ids.specs.Sizes.{pack_pages, site_inodes}
+use Rattle.call_rules.specs.of_commit_graph.Versions.{same_stamp, same_file}
 use Rattle.version_vector.specs.Counters.{raised}
 use Rattle.trace_book.specs.declared.operation.What.{What}
 use Rattle.trace_book.specs.declared.operation.What.TheVariants as what
 use Rattle.trace_book.specs.declared.record.Record.{Record}
 use Rattle.trace_book.specs.declared.record.Record.TheVariants as says
-use Rattle.dir_format.specs.declared.looking.LookResult.{LookResult}
-use Rattle.dir_format.specs.declared.looking.LookResult.TheVariants as found
-use Rattle.dir_format.specs.Contents.{entries_of}
-use Rattle.dir_format.specs.Lookups.{lookup}
-use Rattle.file_content.specs.Pages.{pages_of, page_of}
+use Rattle.dir_reconcile.specs.of_dir_format.declared.looking.LookResult.{LookResult}
+use Rattle.dir_reconcile.specs.of_dir_format.declared.looking.LookResult.TheVariants as found
+use Rattle.dir_reconcile.specs.of_dir_format.Contents.{entries_of}
+use Rattle.dir_reconcile.specs.of_dir_format.Lookups.{lookup}
+use Rattle.file_effects.specs.of_file_content.Pages.{pages_of, page_of, ascending}
 use Rattle.file_effects.specs.declared.work.Work.{Work}
 use Rattle.file_effects.specs.Works.{begun, committed}
 use Rattle.wire_messages.specs.declared.packet.Packet.{Packet}
@@ -32,7 +33,7 @@ use Rattle.wire_messages.specs.declared.body.CloseAnswer.TheVariants as closing
 use Rattle.wire_messages.specs.declared.body.MadeVersion.{MadeVersion}
 use Rattle.wire_messages.specs.declared.body.ReportedCopy.{ReportedCopy}
 use Rattle.role_steps.specs.Tables.{row, with_row, with_latest, total}
-use Rattle.role_steps.specs.Views.{Frame, Store, Told, Shown, Begins, Shuts, Reserves, Outcome, quiet, sends, and_then, packet, to_sync, file_key, serial_key}
+use Rattle.role_steps.specs.Views.{Frame, Store, Told, Shown, Begins, Shuts, Reserves, DiskWrite, Outcome, quiet, sends, and_then, packet, to_sync, file_key, serial_key}
 use Rattle.role_steps.specs.Looks.{LookRequest}
 use Rattle.role_steps.specs.declared.copies.FileCopy.{FileCopy}
 use Rattle.role_steps.specs.declared.instances.Instance.{Instance}
@@ -86,10 +87,6 @@ copy_pages group x = cond (x.file.group == group) (pages_of (length x.content)) 
 
 abbrev pub changed_pages : ℕ → Instance → ℕ
 changed_pages group i = cond (is_open_in group i) (length i.work.changed) 0
-
--- the data pages of a pack
-abbrev pub pack_pages : ℕ
-pack_pages = 3072
 
 -- the pages of the pack that neither a copy has nor an open instance of the group has changed
 abbrev pub free_pages : Store → ℕ → ℕ
@@ -172,7 +169,7 @@ next_ino s group ino (suc left) = elim (is_used s group ino) [
 
 -- the numbers of a site are 64 from 64 (site - 1) + 1 on
 abbrev pub own_ino : Store → ℕ → ℕ → Option ℕ
-own_ino s group site = next_ino s group (64 * (site - 1) + 1) 64
+own_ino s group site = next_ino s group (site_inodes * (site - 1) + 1) site_inodes
 
 abbrev pub opens_made_at : Frame → StoreRequest → FileId → Store → Outcome Store
 opens_made_at f r file s =
@@ -221,12 +218,16 @@ instance_committed i vector stamp = record i { vector = vector; parents = stamp 
 abbrev pub commit_record : Frame → Instance → Stamp → Record
 commit_record f i stamp = says.Commit i.file f.me stamp i.parents i.work.content
 
+-- the version as it is written: of its pages those that the instance has changed
+abbrev pub commit_write : Frame → Instance → List ℕ → Stamp → DiskWrite
+commit_write f i vector stamp = record { copy = copy_made i vector stamp; pages = ascending i.work.changed; says = commit_record f i stamp }
+
 abbrev pub commits_as : Frame → Instance → List ℕ → Stamp → Store → Outcome Store
 commits_as f i vector stamp s = record {
   view = with_instance (instance_committed i vector stamp) (with_copy (copy_made i vector stamp) s);
   sent = [];
   told = Shown (commit_record f i stamp) ∷ [];
-  written = Some (record { copy = copy_made i vector stamp; pages = length i.work.changed; says = commit_record f i stamp });
+  written = Some (commit_write f i vector stamp);
 }
 
 -- the working content becomes a version of the file

@@ -5,8 +5,8 @@ use Rattle.locus_ids.specs.declared.ids.Stamp.{Stamp}
 use Rattle.locus_ids.specs.declared.ids.Kind.{Kind}
 use Rattle.locus_ids.specs.declared.sites.Sites.{Sites}
 use Rattle.version_vector.specs.Counters.{all_le, joined}
-use Rattle.commit_graph.specs.Versions.{same_stamp}
-use Rattle.dir_format.specs.Entries.{nothing_seen}
+use Rattle.call_rules.specs.of_commit_graph.Versions.{same_stamp}
+use Rattle.dir_reconcile.specs.of_dir_format.Entries.{nothing_seen}
 use Rattle.role_steps.specs.Tables.{row, with_row}
 use Rattle.role_steps.specs.Views.{stamp_key, first_site}
 use Rattle.role_steps.specs.declared.synchronizing.SyncTable.{SyncTable}

@@ -9,6 +9,7 @@ use Rattle.locus_ids.specs.declared.ids.Stamp.{Stamp}
 use Rattle.locus_ids.specs.declared.sites.Members.{Members}
 use Rattle.locus_ids.specs.declared.sites.Sites.{Sites}
 use Rattle.locus_ids.specs.declared.config.Config.{Config}
+use Rattle.locus_ids.specs.Sizes.{inode_span}
 use Rattle.trace_book.specs.declared.call.Call.{Call}
 use Rattle.trace_book.specs.declared.record.Record.{Record}
 use Rattle.call_rules.specs.declared.answer.Answer.{Answer}
@@ -23,6 +24,7 @@ use Rattle.role_steps.specs.declared.synchronizing.SyncTable.{SyncTable}
 use Rattle.role_steps.specs.declared.users.UserInstance.{UserInstance}
 use Rattle.role_steps.specs.declared.users.WaitingCall.{WaitingCall}
 use Rattle.role_steps.specs.declared.users.DescriptorRow.{DescriptorRow}
+pub use Rattle.call_rules.specs.of_commit_graph.Vectors.{all_sites}
 
 -- what the storage site of a site has: its copies are durable, its instances are those of the epoch that it is in
 pub record Store : Type 0 where
@@ -67,10 +69,10 @@ pub data Told : Type 0 where
   -- the storage site reserves the number of the file for the instance that makes it
   Reserves : ℕ → EpochId → Serial → FileId → Told
 
--- a version that is written to the disk: the new copy, how many pages are written, and the record of it
+-- a version that is written to the disk: the new copy, the pages of it that are written, ascending, and the record of it
 pub record DiskWrite : Type 0 where
   pub copy : FileCopy
-  pub pages : ℕ
+  pub pages : List ℕ
   pub says : Record
 
 -- what an event, or a part of it, gives: the view after it, packets, what is told, and what is written
@@ -133,9 +135,6 @@ boot_in boots (suc place) = get_or boots place 0
 abbrev pub is_member : Members → ℕ → Bool
 is_member members site = not (boot_in members.boot site == 0)
 
-abbrev pub all_sites : List ℕ
-all_sites = 1 ∷ 2 ∷ 3 ∷ 4 ∷ 5 ∷ 6 ∷ 7 ∷ 8 ∷ 9 ∷ 10 ∷ 11 ∷ 12 ∷ 13 ∷ 14 ∷ 15 ∷ 16 ∷ []
-
 abbrev pub all_groups : List ℕ
 all_groups = 0 ∷ 1 ∷ 2 ∷ 3 ∷ []
 
@@ -170,7 +169,7 @@ to_sync f group body = to_some f body (sync_site f.config f.members group)
 -- ---- keys of tables ----
 
 abbrev pub file_key : FileId → ℕ
-file_key file = file.group * 65536 + file.ino
+file_key file = file.group * inode_span + file.ino
 
 abbrev pub stamp_key : Stamp → ℕ
 stamp_key stamp = stamp.site * 4294967296 + stamp.n

@@ -1,14 +1,15 @@
+use locus_ids::sizes::SITES;
 use locus_ids::{Bytes, FileId, Kind, Sites, Stamp};
 use version_vector::Vector;
 
 /// What a pack holds of a file.
-#[derive(Debug, Drop)]
+#[derive(Drop)]
 pub struct FileCopy {
     pub file: FileId,
     pub kind: Kind,
     /// The sites that store the file.
     pub set: Sites,
     pub stamp: Stamp,
-    pub vector: Vector<16>,
+    pub vector: Vector<SITES>,
     pub content: Bytes,
 }

@@ -1,11 +1,12 @@
 use file_effects::Work;
-use locus_ids::{FileId, ItemList, Kind, Mode, Serial, Sites, Stamps};
+use locus_ids::sizes::SITES;
+use locus_ids::{FileId, Kind, Mode, Serial, Sites, Stamps};
 use trace_book::Outcome;
 use version_vector::Vector;
 use wire_messages::{CloseAnswer, MadeVersion};
 
 /// How far an instance is at its storage site.
-#[derive(Debug, Drop)]
+#[derive(Drop)]
 pub enum Stage {
     Running,
     /// The synchronization site hasn't answered the close.
@@ -19,7 +20,7 @@ pub enum Stage {
 }
 
 /// An open instance at its storage site.
-#[derive(Debug, Drop)]
+#[derive(Drop)]
 pub struct Instance {
     pub inst: Serial,
     pub file: FileId,
@@ -27,7 +28,7 @@ pub struct Instance {
     pub set: Sites,
     pub kind: Kind,
     /// The vector on which its next version stands, and that version's parents.
-    pub vector: Vector<16>,
+    pub vector: Vector<SITES>,
     pub parents: Stamps,
     /// The size at its opening, in bytes.
     pub size: u32,
@@ -36,6 +37,3 @@ pub struct Instance {
     pub answered: Option<Outcome>,
     pub stage: Stage,
 }
-
-/// In the order in which they were opened.
-pub type Instances = ItemList<Instance>;

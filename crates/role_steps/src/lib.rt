@@ -12,8 +12,8 @@ mod synchronizing;
 mod users;
 
 pub use copies::FileCopy;
-pub use instances::{Instance, Instances, Stage};
-pub use pulls::{Pull, Pulls};
+pub use instances::{Instance, Stage};
+pub use pulls::Pull;
 pub use rounds::{InEpoch, Promise, Promises, Round};
 pub use synchronizing::{
     Earlies, Early, FileRow, FileRows, Holding, Holdings, LastLook, LastLooks, OpenRow, OpenRows,

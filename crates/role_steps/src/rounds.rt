@@ -1,14 +1,14 @@
 use locus_ids::{EpochId, ItemList, Links, Members, SiteId, Sites};
 
 /// The epoch that a site is in.
-#[derive(Clone, Copy, Debug, PartialEq, Eq)]
+#[derive(Clone, Copy, PartialEq, Eq)]
 pub struct InEpoch {
     pub id: EpochId,
     pub members: Members,
 }
 
 /// A site's promise to a poll, with the sites that it reaches.
-#[derive(Clone, Copy, Debug, PartialEq, Eq)]
+#[derive(Clone, Copy, PartialEq, Eq)]
 pub struct Promise {
     pub site: SiteId,
     pub reach: Sites,
@@ -18,7 +18,7 @@ pub struct Promise {
 pub type Promises = ItemList<Promise>;
 
 /// An undecided round of polls of the site that began it.
-#[derive(Debug, Drop)]
+#[derive(Drop)]
 pub struct Round {
     pub id: EpochId,
     /// The boot numbers of the polled sites that aren't passed over.

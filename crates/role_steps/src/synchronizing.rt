@@ -1,12 +1,13 @@
+use locus_ids::sizes::SITES;
 use locus_ids::{FileId, ItemList, Kind, Mode, Refusal, Serial, SiteId, Sites, Stamp, Stamps};
 use version_vector::Vector;
 use wire_messages::Body;
 
 /// A version that was brought to the epoch or published in it. Size in bytes.
-#[derive(Clone, Copy, Debug, PartialEq, Eq)]
+#[derive(Clone, Copy, PartialEq, Eq)]
 pub struct VersionRow {
     pub stamp: Stamp,
-    pub vector: Vector<16>,
+    pub vector: Vector<SITES>,
     pub size: u32,
 }
 
@@ -14,7 +15,7 @@ pub struct VersionRow {
 pub type VersionRows = ItemList<VersionRow>;
 
 /// The version that a member is known to hold.
-#[derive(Clone, Copy, Debug, PartialEq, Eq)]
+#[derive(Clone, Copy, PartialEq, Eq)]
 pub struct Holding {
     pub site: SiteId,
     pub stamp: Stamp,
@@ -24,7 +25,7 @@ pub struct Holding {
 pub type Holdings = ItemList<Holding>;
 
 /// What is known of a file of the group.
-#[derive(Debug, Drop)]
+#[derive(Drop)]
 pub struct FileRow {
     pub ino: u16,
     pub kind: Kind,
@@ -39,7 +40,7 @@ pub struct FileRow {
 pub type FileRows = ItemList<FileRow>;
 
 /// How far an open is.
-#[derive(Debug, Drop)]
+#[derive(Drop)]
 pub enum OpenStage {
     /// The storage site hasn't answered.
     Asked,
@@ -50,7 +51,7 @@ pub enum OpenStage {
 }
 
 /// An open that a using site asked for.
-#[derive(Debug, Drop)]
+#[derive(Drop)]
 pub struct OpenRow {
     pub inst: Serial,
     pub call: u32,
@@ -62,7 +63,7 @@ pub struct OpenRow {
     /// The storage site, or 0 where the open is refused at once.
     pub ss: u8,
     pub stamp: Option<Stamp>,
-    pub vector: Vector<16>,
+    pub vector: Vector<SITES>,
     pub parents: Stamps,
     pub set: Sites,
     pub kind: Kind,
@@ -73,7 +74,7 @@ pub struct OpenRow {
 pub type OpenRows = ItemList<OpenRow>;
 
 /// The last look of a process, and the packet that answered it.
-#[derive(Debug, Drop)]
+#[derive(Drop)]
 pub struct LastLook {
     pub site: SiteId,
     pub process: u8,
@@ -88,7 +89,7 @@ pub struct LastLook {
 pub type LastLooks = ItemList<LastLook>;
 
 /// A request that came before the group had started.
-#[derive(Debug, Drop)]
+#[derive(Drop)]
 pub struct Early {
     pub site: SiteId,
     pub process: u8,
@@ -99,7 +100,7 @@ pub struct Early {
 pub type Earlies = ItemList<Early>;
 
 /// What the synchronization site of a group keeps.
-#[derive(Debug, Drop)]
+#[derive(Drop)]
 pub struct SyncTable {
     pub group: u8,
     /// The members whose pack has reported.

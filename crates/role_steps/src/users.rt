@@ -1,22 +1,23 @@
 use call_rules::Answer;
+use locus_ids::sizes::SITES;
 use locus_ids::{Bytes, FileId, ItemList, SiteId};
 use trace_book::{Beginning, Call, Descriptor, Op, What};
 use version_vector::Vector;
 use wire_messages::Opening;
 
 /// An instance that a using site has opened.
-#[derive(Clone, Copy, Debug, PartialEq, Eq)]
+#[derive(Clone, Copy, PartialEq, Eq)]
 pub struct UserInstance {
     pub serial: u32,
     pub ss: SiteId,
     /// The vector that the open was answered.
-    pub vector: Vector<16>,
+    pub vector: Vector<SITES>,
     /// The operations asked of it.
     pub ops: u32,
 }
 
 /// The request that a call waits for.
-#[derive(Debug, Drop)]
+#[derive(Drop)]
 pub enum Asking {
     Look {
         file: FileId,
@@ -33,7 +34,7 @@ pub enum Asking {
         ss: SiteId,
         number: u32,
         op: Op,
-        seen: Vector<16>,
+        seen: Vector<SITES>,
     },
     Close {
         serial: u32,
@@ -48,7 +49,7 @@ pub type Answers = ItemList<Answer>;
 pub type Contents = ItemList<Bytes>;
 
 /// A call that has no reply yet.
-#[derive(Debug, Drop)]
+#[derive(Drop)]
 pub struct WaitingCall {
     /// 0 for a mend, which its site calls itself.
     pub process: u8,
@@ -65,7 +66,7 @@ pub struct WaitingCall {
 }
 
 /// An open descriptor of a process.
-#[derive(Clone, Copy, Debug, PartialEq, Eq)]
+#[derive(Clone, Copy, PartialEq, Eq)]
 pub struct DescriptorRow {
     pub process: u8,
     pub fd: u16,

@@ -3,17 +3,9 @@
 #![tactic(auto)]
 
 #[cfg(test)]
-mod css_tests;
-#[cfg(test)]
 mod epoch_tests;
 #[cfg(test)]
-mod group;
-#[cfg(test)]
-mod instance_tests;
-#[cfg(test)]
-mod known;
-#[cfg(test)]
-mod made;
+mod given;
 #[cfg(test)]
 mod merge_tests;
 #[cfg(test)]
@@ -21,16 +13,6 @@ mod pull_tests;
 #[cfg(test)]
 mod script_tests;
 #[cfg(test)]
-mod shown;
-#[cfg(test)]
-mod storage;
-#[cfg(test)]
-mod store_tests;
-#[cfg(test)]
-mod table_tests;
-#[cfg(test)]
 mod using_tests;
-#[cfg(test)]
-mod version_tests;
 #[cfg(test)]
 mod walk_tests;

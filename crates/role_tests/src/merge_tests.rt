@@ -1,8 +1,8 @@
 // merge_protocol: site 1 forms an epoch of three sites.
-use crate::made::{boots, config, epoch, given, is_text, links, site};
-use crate::shown::shown;
+use crate::given::{given, is_text};
 use locus_ids::{Config, EpochId, Links, Members, SiteId, Sites};
 use merge_protocol::{EpochError, EpochState, FormingHeader, InstallAnswer};
+use role_shown::{boots, config, epoch, links, shown, site};
 use role_steps::InEpoch;
 use std::alloc::Global;
 use std::process::Abort;
@@ -111,7 +111,7 @@ fn a_merge_polls_all_that_are_connected(rt: HostRuntime) {
     let promise = given(&rt, header(2, 1, epoch(1, 1, 1)));
     forming.state.on_promise(promise, Sites(0b111));
     is_text(&rt, forming.ticks(&whole()), "3 poll");
-    assert_eq!(rt; forming.state.pass_over(forming.me, &forming.links), None);
+    assert!(rt; forming.state.pass_over(forming.me, &forming.links) == None);
 }
 
 /// Site 1, whose merge both others have promised.
@@ -129,9 +129,9 @@ fn answered<R: Abort + Eprint>(rt: &R, alloc: Global) -> Forming {
 fn a_merge_that_is_answered_installs_its_epoch(rt: HostRuntime) {
     let mut forming = answered(&rt, rt.alloc());
     let decided = forming.state.pass_over(forming.me, &forming.links);
-    assert_eq!(rt; decided, Some(whole()));
+    assert!(rt; decided == Some(whole()));
     is_text(&rt, forming.joins(whole()), "join 1 e1.1.1 1:1,2:1,3:1");
-    assert_eq!(rt; forming.state.reports(), [0].as_slice());
+    assert!(rt; forming.state.reports() == [0].as_slice());
     is_text(&rt, forming.installs(&whole()), "2 install; 3 install");
     // A member that has joined isn't sent it again, and a report that is answered is done with.
     forming.state.on_joined(given(&rt, site(2)), epoch(1, 1, 1));
@@ -148,12 +148,12 @@ fn what_is_of_another_epoch_changes_nothing(rt: HostRuntime) {
     forming.state.on_joined(given(&rt, site(2)), epoch(1, 2, 1));
     forming.state.on_report_ok(1);
     is_text(&rt, forming.ticks(&whole()), "2 install; 3 install");
-    assert_eq!(rt; forming.state.reports(), [0].as_slice());
+    assert!(rt; forming.state.reports() == [0].as_slice());
     // A late promise, a refusal of a round that has ended, and a lower poll.
     forming
         .state
         .on_promise(given(&rt, header(2, 1, epoch(1, 1, 1))), Sites(0b11));
-    assert_eq!(rt; forming.state.pass_over(forming.me, &forming.links), None);
+    assert!(rt; forming.state.pass_over(forming.me, &forming.links) == None);
     is_text(&rt, forming.refused(epoch(1, 1, 1), epoch(9, 1, 1)), "");
     is_text(&rt, forming.polled(3, epoch(0, 3, 1)), "3 refuse 1");
     assert!(rt; forming.state.is_in(epoch(1, 1, 1)));
@@ -165,10 +165,10 @@ fn a_site_that_is_polled_promises_joins_and_leaves(rt: HostRuntime) {
     is_text(&rt, forming.polled(1, epoch(1, 1, 1)), "1 promise 111");
     is_text(&rt, forming.polled(1, epoch(1, 1, 1)), "1 promise 111");
     is_text(&rt, forming.joins(whole()), "join 2 e1.1.1 1:1,2:1,3:1");
-    assert_eq!(rt; forming.state.epoch(), Some(whole()));
-    assert_eq!(rt; forming.state.reports(), [0, 1].as_slice());
+    assert!(rt; forming.state.epoch() == Some(whole()));
+    assert!(rt; forming.state.reports() == [0, 1].as_slice());
     is_text(&rt, forming.leaves(), "leave 2 e1.1.1");
-    assert_eq!(rt; forming.state.epoch(), None);
+    assert!(rt; forming.state.epoch() == None);
     is_text(&rt, forming.leaves(), "");
 }
 
@@ -185,27 +185,15 @@ fn an_install_is_taken_once(rt: HostRuntime) {
     given(&rt, forming.polled(1, epoch(1, 1, 1)));
     let all = boots(1, 1, 1);
     let id = epoch(1, 1, 1);
-    assert_eq!(rt;
-        given(&rt, installed(&forming, epoch(1, 3, 1), all)),
-        InstallAnswer::Nothing
-    );
-    assert_eq!(rt;
-        given(&rt, installed(&forming, id, boots(1, 2, 1))),
-        InstallAnswer::Nothing
-    );
-    assert_eq!(rt;
-        given(&rt, installed(&forming, id, all)),
-        InstallAnswer::Joins
-    );
+    assert!(rt; given(&rt, installed(&forming, epoch(1, 3, 1), all)) == InstallAnswer::Nothing);
+    assert!(rt; given(&rt, installed(&forming, id, boots(1, 2, 1))) == InstallAnswer::Nothing);
+    assert!(rt; given(&rt, installed(&forming, id, all)) == InstallAnswer::Joins);
     given(&rt, forming.joins(whole()));
-    assert_eq!(rt;
-        given(&rt, installed(&forming, id, all)),
-        InstallAnswer::Again
-    );
+    assert!(rt; given(&rt, installed(&forming, id, all)) == InstallAnswer::Again);
     let packet = forming
         .state
         .joined_packet(forming.me, given(&rt, header(1, 1, id)));
-    assert_eq!(rt; packet.to.get(), 1);
+    assert!(rt; packet.to.get() == 1);
     assert!(rt; matches!(packet.body, Body::Joined));
 }
 
@@ -217,7 +205,7 @@ fn a_part_polls_the_members_that_are_left(rt: HostRuntime) {
     given(&rt, forming.joins(whole()));
     forming.links = links(1, 1, 0);
     is_text(&rt, forming.parts(), "2 poll; leave 1 e1.1.1");
-    assert_eq!(rt; forming.state.boot(), 1);
+    assert!(rt; forming.state.boot() == 1);
 }
 
 #[test]
@@ -235,5 +223,5 @@ fn a_refused_merge_begins_above_the_promised_id(rt: HostRuntime) {
     let fault = forming
         .state
         .on_refuse(me, &forming.links, id, last, &mut out);
-    assert_eq!(rt; fault, Err(EpochError::NoNumber));
+    assert!(rt; fault == Err(EpochError::NoNumber));
 }

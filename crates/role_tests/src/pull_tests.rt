@@ -1,8 +1,8 @@
 // propagation: site 2 pulls versions of two pages.
-use crate::made::{FILE, frame, given, is_text, site, stamp, vector};
-use crate::shown::shown;
+use crate::given::{given, is_text};
 use locus_ids::{Bytes, FileId, Kind, Sites};
 use propagation::{Adopting, CopyHead, Puller};
+use role_shown::{FILE, frame, shown, site, stamp, vector};
 use role_steps::Pull;
 use site_frame::SiteFrame;
 use std::alloc::Global;
@@ -79,8 +79,8 @@ fn pages_are_asked_for_one_after_the_other(rt: HostRuntime) {
     is_text(&rt, pulling.gets(1, 1, &[7; 512]), "");
     is_text(&rt, pulling.ticks(), "");
     let pull = pulling.puller.take(FILE).expect(&rt, "no pull");
-    assert_eq!(rt; pull.content.len(), 1_536);
-    assert_eq!(rt; pulling.puller.len(), 0);
+    assert!(rt; pull.content.len() == 1_536);
+    assert!(rt; pulling.puller.len() == 0);
 }
 
 #[test]
@@ -115,7 +115,7 @@ fn only_a_version_above_the_own_one_is_pulled(rt: HostRuntime) {
     );
     is_text(&rt, pulling.notified(2, 1, vector(1, 0, 0), own()), "");
     is_text(&rt, pulling.notified(2, 3, vector(1, 0, 1), own()), "");
-    assert_eq!(rt; pulling.puller.as_slice().len(), 0);
+    assert!(rt; pulling.puller.as_slice().len() == 0);
     is_text(
         &rt,
         pulling.notified(2, 3, vector(3, 0, 0), own()),
@@ -129,9 +129,9 @@ fn only_a_version_above_the_own_one_is_pulled(rt: HostRuntime) {
         pulling.notified(2, 5, vector(4, 0, 0), own()),
         "1 pull 0 0.2 1.5",
     );
-    assert_eq!(rt; pulling.puller.as_slice().len(), 1);
+    assert!(rt; pulling.puller.as_slice().len() == 1);
     pulling.puller.drop_pull(FILE);
-    assert_eq!(rt; pulling.puller.len(), 0);
+    assert!(rt; pulling.puller.len() == 0);
 }
 
 /// A site where each pull is ready, and that of inode 2 is stale.
@@ -160,8 +160,8 @@ fn a_stale_pull_is_dropped_and_the_next_one_taken(rt: HostRuntime) {
         given(&rt, pulling.notified(ino, 1, vector(1, 0, 0), None));
     }
     let taken = pulling.puller.choose(&Ready).expect(&rt, "none is chosen");
-    assert_eq!(rt; taken.file.ino, 3);
-    assert_eq!(rt; pulling.puller.len(), 1);
+    assert!(rt; taken.file.ino == 3);
+    assert!(rt; pulling.puller.len() == 1);
     pulling.puller.leave();
-    assert_eq!(rt; pulling.puller.len(), 0);
+    assert!(rt; pulling.puller.len() == 0);
 }

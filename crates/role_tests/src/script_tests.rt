@@ -1,9 +1,9 @@
 // call_scripts, where group 1 stands on `usr`.
-use crate::made::{bytes, epoch, given, inst, is_text, mounts, stamp};
-use crate::shown::{push_file, push_op, push_reply};
+use crate::given::{given, is_text};
 use call_rules::{Answer, Want};
 use call_scripts::Script;
 use locus_ids::{FileId, Kind, Mounts, Names, Refusal, Sites};
+use role_shown::{bytes, epoch, inst, mounts, push_file, push_op, push_reply, stamp};
 use std::alloc::Global;
 use std::process::Abort;
 use std::test::Fail;
@@ -121,7 +121,7 @@ fn a_create_makes_the_file_and_then_its_entry(rt: HostRuntime) {
     is_text(&rt, call.ended(), "i1.1 0 insert a 65 f");
     is_text(&rt, call.did(), "close 1");
     is_text(&rt, call.ended(), "ok 65");
-    assert_eq!(rt; call.script.answers().len(), 6);
+    assert!(rt; call.script.answers().len() == 6);
     assert!(rt; matches!(call.script.words(), Call::Create { .. }));
 }
 
@@ -146,7 +146,7 @@ fn an_answer_that_is_taken_back_was_not_heard(rt: HostRuntime) {
     is_text(&rt, call.ended(), "never");
     call.script.take_back();
     is_text(&rt, call.next(), "open 0.1");
-    assert_eq!(rt; call.script.answers().len(), 0);
+    assert!(rt; call.script.answers().len() == 0);
 }
 
 /// An unlink of `/a`, once its directory is open and its entry is found.

@@ -1,7 +1,7 @@
 // using_site: site 1, and at it process 1. Its storage site is site 2.
-use crate::made::{ROOT, bytes, epoch, frame, given, is_text, site, stamp};
-use crate::shown::shown;
+use crate::given::{given, is_text};
 use locus_ids::{Kind, Members, Mode, Refusal, Stamp, Stamps};
+use role_shown::{ROOT, bytes, epoch, frame, shown, site, stamp};
 use site_frame::SiteFrame;
 use std::alloc::Global;
 use std::process::Abort;
@@ -152,9 +152,9 @@ fn an_open_looks_and_takes_a_descriptor(rt: HostRuntime) {
         "reply 1 1 c1.1.1 ok 0",
     );
     assert!(rt; !using.users.is_busy(1));
-    assert_eq!(rt; using.users.lowest_free(1), Some(1));
+    assert!(rt; using.users.lowest_free(1) == Some(1));
     let descriptor = using.users.descriptor(1, 0).expect(&rt, "no descriptor");
-    assert_eq!(rt; descriptor.mode, Mode::Read);
+    assert!(rt; descriptor.mode == Mode::Read);
     assert!(rt; using.users.descriptor(2, 0).is_none());
 }
 
@@ -187,7 +187,7 @@ fn an_operation_is_answered_by_its_own_outcome(rt: HostRuntime) {
         using.calls(Call::Close { fd: 0 }),
         "2 close 1; call 1 1 c1.1.3 close 0",
     );
-    assert_eq!(rt; using.users.lowest_free(1), Some(0));
+    assert!(rt; using.users.lowest_free(1) == Some(0));
     let made = CloseAnswer::Made { stamp: stamp(2, 2) };
     is_text(&rt, using.closed(1, made), "reply 1 1 c1.1.3 ok 2.2");
 }
@@ -262,7 +262,7 @@ fn a_refused_open_takes_no_descriptor(rt: HostRuntime) {
         using.opened(1, Granted::No { why }),
         "reply 1 1 c1.1.1 busy 3 2",
     );
-    assert_eq!(rt; using.users.lowest_free(1), Some(0));
+    assert!(rt; using.users.lowest_free(1) == Some(0));
 }
 
 #[test]
@@ -317,8 +317,8 @@ fn a_mend_brings_each_kept_version(rt: HostRuntime) {
     assert!(rt; using.users.has_mend(ROOT));
     assert!(rt; using.users.has_mend_in(0));
     assert!(rt; !using.users.has_mend_in(1));
-    assert_eq!(rt; using.users.mend_opening(1), Some(ROOT));
-    assert_eq!(rt; using.users.mend_opening(2), None);
+    assert!(rt; using.users.mend_opening(1) == Some(ROOT));
+    assert!(rt; using.users.mend_opening(2) == None);
     let versions = given(&rt, kept(using.alloc, [stamp(1, 1), stamp(2, 1)]));
     is_text(
         &rt,
@@ -337,7 +337,7 @@ fn a_mend_brings_each_kept_version(rt: HostRuntime) {
         using.looked(1, 3, 1, LookAnswer::Content { bytes: second }),
         "2 op 1 1",
     );
-    assert_eq!(rt; using.users.brought(0).len(), 2);
+    assert!(rt; using.users.brought(0).len() == 2);
 }
 
 #[test]

@@ -1,12 +1,12 @@
 // path_walk, where group 1 stands on `usr`.
-use crate::made::{FILE, ROOT, given, is_text, mounts};
-use crate::shown::{push_file, push_reply};
+use crate::given::{given, is_text};
 use call_rules::Answer;
 use locus_ids::{FileId, Kind, Refusal};
 use path_walk::{
     Walked, components, is_first_root, is_mounted, is_name, is_path, last_of, mounted, mounted_in,
     plain_name, root_of, walk, without_last,
 };
+use role_shown::{FILE, ROOT, mounts, push_file, push_reply};
 use std::alloc::Global;
 use std::test::Fail;
 use trace_book::Reply;
@@ -57,7 +57,7 @@ fn a_path_begins_with_a_slash_and_ends_with_a_name(rt: HostRuntime) {
         ("/a@0", false),
         ("/a@1025", false),
     ] {
-        assert_eq!(rt; given(&rt, is_named(rt.alloc(), path)), wanted, "{path}");
+        assert!(rt; given(&rt, is_named(rt.alloc(), path)) == wanted, "{path}");
     }
 }
 
@@ -67,12 +67,12 @@ fn names_are_plain(rt: HostRuntime) {
     assert!(rt; !is_name(b"a@2"));
     assert!(rt; !is_name(b"."));
     assert!(rt; !is_name(b""));
-    assert_eq!(rt; plain_name(b"b@2"), b"b".as_slice());
-    assert_eq!(rt; plain_name(b"b"), b"b".as_slice());
+    assert!(rt; plain_name(b"b@2") == b"b".as_slice());
+    assert!(rt; plain_name(b"b") == b"b".as_slice());
     let names = components(rt.alloc(), b"/a/b@2").expect(&rt, "no memory");
-    assert_eq!(rt; last_of(names.as_slice()), b"b@2".as_slice());
-    assert_eq!(rt; without_last(names.as_slice()).len(), 1);
-    assert_eq!(rt; last_of(&[]), b"".as_slice());
+    assert!(rt; last_of(names.as_slice()) == b"b@2".as_slice());
+    assert!(rt; without_last(names.as_slice()).len() == 1);
+    assert!(rt; last_of(&[]) == b"".as_slice());
     assert!(rt; without_last(&[]).is_empty());
 }
 
@@ -80,15 +80,15 @@ fn names_are_plain(rt: HostRuntime) {
 fn only_the_root_of_group_0_has_mounts(rt: HostRuntime) {
     let mounts = given(&rt, mounts(rt.alloc()));
     let mounts = mounts.as_slice();
-    assert_eq!(rt; root_of(1), FileId { group: 1, ino: 1 });
-    assert_eq!(rt; mounted(mounts, b"usr"), Some(1));
-    assert_eq!(rt; mounted(mounts, b"us"), None);
+    assert!(rt; root_of(1) == FileId { group: 1, ino: 1 });
+    assert!(rt; mounted(mounts, b"usr") == Some(1));
+    assert!(rt; mounted(mounts, b"us") == None);
     assert!(rt; is_mounted(mounts, b"usr"));
     assert!(rt; !is_mounted(mounts, b"usr@1"));
     assert!(rt; is_first_root(ROOT));
     assert!(rt; !is_first_root(FILE));
-    assert_eq!(rt; mounted_in(mounts, ROOT, b"usr"), Some(1));
-    assert_eq!(rt; mounted_in(mounts, root_of(1), b"usr"), None);
+    assert!(rt; mounted_in(mounts, ROOT, b"usr") == Some(1));
+    assert!(rt; mounted_in(mounts, root_of(1), b"usr") == None);
 }
 
 /// Where a walk along a path has come, as text.

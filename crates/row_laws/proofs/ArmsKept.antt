@@ -1,5 +1,7 @@
 -- Armed disks in every run.
 use Rattle.std.proofs.Common.{◌≡◌, ◌≢◌, ◌≤◌, ◌<◌, ℕ, ◌+◌, ◌*◌, Bool, true, false, cond, List, [], ◌∷◌, length, map, Some, refl, sym, ◌∙◌, ap, subst, arith}
+use Rattle.role_steps.proofs.of_plain_facts.Numbers.{apart_test, equal_self}
+use Rattle.role_steps.proofs.of_plain_facts.Tests.{false_true}
 use Rattle.locus_ids.specs.declared.config.Config.{Config}
 use Rattle.schedule_lines.specs.declared.line.Line.{Line as LineWords}
 use Rattle.schedule_lines.specs.declared.line.Line.TheVariants as line
@@ -15,8 +17,8 @@ use Rattle.the_run.specs.Disks.{Armed as Script, Stops as Stopping, Fails as Fai
 use Rattle.the_run.specs.Steps.{step}
 use Rattle.the_run.specs.Worlds.{World, Running, Numbered, Line, armed_site, script_of, links_of, passed, arms, disk_of, first_world}
 use Rattle.the_run.specs.Runs.{packet_record, run_in}
-use Rattle.run_laws.specs.Naming.{DeedsOf}
-use Rattle.vector_laws.proofs.SiteDisks.{step_disk}
+use Rattle.lock_laws.specs.of_run_laws.Naming.{DeedsOf}
+use Rattle.lock_laws.proofs.of_vector_laws.SiteDisks.{step_disk}
 use Rattle.lawful_trace.specs.Places.{line_at}
 use Rattle.lawful_trace.specs.Disks.{Stops, Fails, Disk, armed_by, newly_armed, armed_at, keeps_calls}
 use Rattle.row_laws.specs.Shown.{shown, trace_of, EachRecord}
@@ -25,7 +27,6 @@ use Rattle.row_laws.specs.ByLine.{IsLine, begins_quietly, IsVoidIn, Gives, ArmsA
 use Rattle.row_laws.specs.Rows.{IsArmedFor}
 use Rattle.row_laws.specs.Arms.{NoDisk, ArmedAs, Rises, ArmsInCourse}
 use Rattle.row_laws.proofs.StepForms.{step_forms}
-use Rattle.row_laws.proofs.Tracing.{test_own, test_other}
 use Rattle.row_laws.proofs.AskedRun.{own_given, Courses, courses_kept, first_courses, last_within}
 use Rattle.row_laws.proofs.Causes.{comes_own, sent_polls}
 use Rattle.row_laws.proofs.Versions.{still_arms}
@@ -38,12 +39,9 @@ pub record Armed (c : Config) (lines : List ScheduleLine) (n : ℕ) (w : World) 
 
 -- ---- lines that arm no disk ----
 
-never : false ≡ true → ⊥
-never e = cc
-
 quiet_none : (l : ScheduleLine) → begins_quietly l ≡ true → ArmsNone l
-quiet_none (EventLine (line.ArmStop site calls left)) e = absurd (never e)
-quiet_none (EventLine (line.ArmFail site calls)) e = absurd (never e)
+quiet_none (EventLine (line.ArmStop site calls left)) e = absurd (false_true e)
+quiet_none (EventLine (line.ArmFail site calls)) e = absurd (false_true e)
 quiet_none _ e = tt
 
 void_none : (w : World) (l : LineWords) → IsVoidIn w l → ArmsNone (EventLine l)
@@ -77,16 +75,16 @@ all_left : (calls : ℕ) → 4 * 0 + calls ≤ calls
 all_left calls = omega arith
 
 stop_mine : (site calls : ℕ) (left : Leave) (d : Disk) → ArmedAs (armed_by site (EventLine (line.ArmStop site calls left)) d).armed (Some (record { site = site; left = calls; how = Stopping left }))
-stop_mine site calls left d = subst (λ (b : Bool). ArmedAs (cond b (record d { armed = newly_armed (Stops calls left) }) d).armed (Some (record { site = site; left = calls; how = Stopping left }))) (sym (test_own site)) (tt, all_left calls)
+stop_mine site calls left d = subst (λ (b : Bool). ArmedAs (cond b (record d { armed = newly_armed (Stops calls left) }) d).armed (Some (record { site = site; left = calls; how = Stopping left }))) (sym (equal_self site)) (tt, all_left calls)
 
 fail_mine : (site calls : ℕ) (d : Disk) → ArmedAs (armed_by site (EventLine (line.ArmFail site calls)) d).armed (Some (record { site = site; left = calls; how = Failing }))
-fail_mine site calls d = subst (λ (b : Bool). ArmedAs (cond b (record d { armed = newly_armed (Fails calls) }) d).armed (Some (record { site = site; left = calls; how = Failing }))) (sym (test_own site)) (tt, all_left calls)
+fail_mine site calls d = subst (λ (b : Bool). ArmedAs (cond b (record d { armed = newly_armed (Fails calls) }) d).armed (Some (record { site = site; left = calls; how = Failing }))) (sym (equal_self site)) (tt, all_left calls)
 
 stop_others : (site calls : ℕ) (left : Leave) (t : ℕ) (d : Disk) → site ≢ t → armed_by t (EventLine (line.ArmStop site calls left)) d ≡ d
-stop_others site calls left t d ne = ap (λ (b : Bool). cond b (record d { armed = newly_armed (Stops calls left) }) d) (test_other site t ne)
+stop_others site calls left t d ne = ap (λ (b : Bool). cond b (record d { armed = newly_armed (Stops calls left) }) d) (apart_test site t ne)
 
 fail_others : (site calls t : ℕ) (d : Disk) → site ≢ t → armed_by t (EventLine (line.ArmFail site calls)) d ≡ d
-fail_others site calls t d ne = ap (λ (b : Bool). cond b (record d { armed = newly_armed (Fails calls) }) d) (test_other site t ne)
+fail_others site calls t d ne = ap (λ (b : Bool). cond b (record d { armed = newly_armed (Fails calls) }) d) (apart_test site t ne)
 
 arming_line : (c : Config) (lines : List ScheduleLine) (n : ℕ) (l : LineWords) (a : Script) (w : World) → n < length lines → IsLine lines (n + 1) l → ArmsAs l a → Armed c lines n w → ArmsInCourse c lines (n + 1) (arms a w)
 arming_line c lines n (line.ArmStop site calls left) a w there is so p =

@@ -1,6 +1,8 @@
 -- In every run armed disks stand as the lines and the records say, and stop their sites within their calls.
 use Rattle.std.proofs.Common.{◌≡◌, ◌≢◌, ◌≤◌, ◌<◌, ℕ, zero, suc, ◌+◌, ◌-◌, ◌*◌, nat_lt, Bool, true, false, cond, ◌||◌, List, [], ◌∷◌, ◌++◌, length, Option, Some, None, refl, sym, ◌∙◌, ap, subst, ◌⊎◌, inl, inr, arith}
 use Rattle.std.proofs.lemmas.Bool.Decides.{nat_tests}
+use Rattle.role_steps.proofs.of_plain_facts.Numbers.{apart_test, equal_self}
+use Rattle.role_steps.proofs.of_plain_facts.Tests.{and_true}
 use Rattle.locus_ids.specs.declared.config.Config.{Config}
 use Rattle.trace_book.specs.declared.record.Record.{Record}
 use Rattle.trace_book.specs.declared.record.Record.TheVariants as says
@@ -17,15 +19,14 @@ use Rattle.the_run.specs.Disks.{Disk as DiskLeft, Armed as Script, Cut, Stops as
 use Rattle.the_run.specs.Worlds.{World, Running, armed_site, script_of, happened, puts, arms, stops_with, cut_event, runs_on, spends, writes_of, acts_of, acts, cause_of, fresh}
 use Rattle.the_run.specs.Runs.{boots_as}
 use Rattle.the_run.proofs.Boots.{at_each}
-use Rattle.vector_laws.specs.Held.{OnDisk}
+use Rattle.lock_laws.specs.of_vector_laws.Held.{OnDisk}
 use Rattle.lawful_trace.specs.Places.{line_at}
 use Rattle.lawful_trace.specs.Disks.{Arming, Stops, Fails, calls_of, Armed, Disk, armed_by, Writing, written_with, booted_with, stopped_with, disk_after, disk_of, disk_at, armed_at, writer_of, is_armed_as, is_cut_next, is_within_calls, fits_calls, all_fit_calls}
 use Rattle.row_laws.specs.Shown.{trace_of}
 use Rattle.row_laws.specs.Events.{Causes, SiteTold}
 use Rattle.row_laws.specs.Rows.{ArmedStop}
 use Rattle.row_laws.specs.Arms.{SameKind, ArmedAs, Rises, ArmsInCourse}
-use Rattle.row_laws.proofs.Tracing.{test_own, test_other}
-use Rattle.row_laws.proofs.ArmsTraced.{through_next, disk_more, no_disks, both, calls_any, calls_still}
+use Rattle.row_laws.proofs.ArmsTraced.{through_next, disk_more, no_disks, calls_any, calls_still}
 use Rattle.row_laws.proofs.Scripts.{gone_script, other_script, rises_with, rises_without, armed_here, armed_other, script_site}
 use Rattle.row_laws.proofs.Versions.{happened_arms, still_arms, Spent, Version, version_of, a_version, version_event}
 
@@ -37,10 +38,10 @@ stopped_none true d (Some a) = refl
 stopped_none false d (Some a) = refl
 
 stopped_here : (c : Config) (s : ℕ) (why : StopCause) (before : Trace) (d : Disk) → (disk_after (says.Stopped s why) c before s d).armed ≡ None
-stopped_here c s why before d = ap (λ (b : Bool). (cond b (stopped_with (is_up before s) d d.armed) d).armed) (test_own s) ∙ stopped_none (is_up before s) d d.armed
+stopped_here c s why before d = ap (λ (b : Bool). (cond b (stopped_with (is_up before s) d d.armed) d).armed) (equal_self s) ∙ stopped_none (is_up before s) d d.armed
 
 stopped_there : (c : Config) (s t : ℕ) (why : StopCause) (before : Trace) (d : Disk) → s ≢ t → disk_after (says.Stopped s why) c before t d ≡ d
-stopped_there c s t why before d ne = ap (λ (b : Bool). cond b (stopped_with (is_up before t) d d.armed) d) (test_other s t ne)
+stopped_there c s t why before d ne = ap (λ (b : Bool). cond b (stopped_with (is_up before t) d d.armed) d) (apart_test s t ne)
 
 -- the site's disk isn't armed any more, and the others are as they were
 stopped_armed : (c : Config) (lines : List ScheduleLine) (m s t : ℕ) (why : StopCause) (before : Trace) (xs : List Script) (old new : Option Script) → new ≡ None ⊎ (s ≢ t) → (s ≢ t → new ≡ old) → (s ≢ t → ArmedAs (armed_at c lines before m t) old) → ArmedAs (armed_at c lines (record { line = m; what = says.Stopped s why } ∷ before) m t) new
@@ -102,8 +103,8 @@ written_kind x d None how h = absurd h
 written_kind x d (Some a) how h = h
 
 cut_here : (s : ℕ) (how : Cut) → is_cut_next (Some (says.Stopped s (cause_of how))) s ≡ true
-cut_here s (Stopping left) = test_own s
-cut_here s Failing = test_own s
+cut_here s (Stopping left) = equal_self s
+cut_here s Failing = equal_self s
 
 cut_arms : (c : Config) (lines : List ScheduleLine) (m s : ℕ) (r : Record) (a : Script) (d : DiskLeft) (b : Bool) (w : World) → Version c s r → script_of w s ≡ Some a → ArmsInCourse c lines m w →
     ArmsInCourse c lines m (happened m [] (cond b (Shown r ∷ Shown (says.Stopped s (cause_of a.how)) ∷ []) (Shown (says.Stopped s (cause_of a.how)) ∷ [])) (stops_with s d) w)
@@ -114,7 +115,7 @@ cut_arms c lines m s r a d true w v has f =
     (λ t. stop_scripts c lines m s t (cause_of a.how) d first w f.rises (λ ne. subst (λ (x : Disk). ArmedAs x.armed (script_of w t)) (sym (disk_more c lines m t r (trace_of w) ∙ v.elsewhere t (trace_of w) (disk_at c lines (trace_of w) m t) ne)) (f.armed t)))
     (kind_test c lines m s a.how first (armed_at c lines first m s) refl kind, (v.row lines m (trace_of w), f.rows))
     (calls_still c lines m (says.Stopped s (cause_of a.how)) first refl
-    (both (fits_calls c lines (Some (says.Stopped s (cause_of a.how))) first (writer_of r)) (all_fit_calls c lines (Some r) (trace_of w))
+    (and_true (fits_calls c lines (Some (says.Stopped s (cause_of a.how))) first (writer_of r)) (all_fit_calls c lines (Some r) (trace_of w))
     (ap (fits_calls c lines (Some (says.Stopped s (cause_of a.how))) first) v.writer ∙ ap (λ (x : Bool). x || is_within_calls (disk_of c lines first s).armed) (cut_here s a.how))
     (calls_any c lines (Some r) (trace_of w) f.calls))) f
   where
@@ -162,12 +163,12 @@ acts_arms c lines m s k v o w h (inr (d, wr)) f =
         let now : Script = record a { left = a.left - write_calls v.store d } in
         let own : armed_site a ≡ s = script_site s w.armed a e in
         runs (arms now) (rises_with now w.armed f.rises)
-        (subst (λ (x : Option Script). Spent x (script_of (arms now w) s)) (sym e) (subst (λ (x : Option Script). Spent (Some a) x) (sym (ap (script_of (arms now w)) (sym own) ∙ armed_here now w)) (refl, rest_left a.left (write_calls v.store d) d.pages (cond (has_older v.store d) 2 0) enough refl)))
+        (subst (λ (x : Option Script). Spent x (script_of (arms now w) s)) (sym e) (subst (λ (x : Option Script). Spent (Some a) x) (sym (ap (script_of (arms now w)) (sym own) ∙ armed_here now w)) (refl, rest_left a.left (write_calls v.store d) (length d.pages) (cond (has_older v.store d) 2 0) enough refl)))
         (λ t ne. armed_other now t w (λ g. ne (sym own ∙ g)))
 
     by_left : (a : Script) → script_of w s ≡ Some a → ArmsInCourse c lines m (elim (nat_lt a.left (write_calls v.store d)) [ true ↦ cut_event m s v d a w | false ↦ runs_on m s o (spends a (a.left - write_calls v.store d)) w ])
     by_left a e = (elim (nat_lt a.left (write_calls v.store d)) as (λ b. nat_lt a.left (write_calls v.store d) ≡ b → ArmsInCourse c lines m (elim b [ true ↦ cut_event m s v d a w | false ↦ runs_on m s o (spends a (a.left - write_calls v.store d)) w ])) [
-      | true ↦ λ q. cut_arms c lines m s d.says a (cut_disk v.boot v.store d a.how a.left) (is_on_disk d a.how a.left) w version e f
+      | true ↦ λ q. cut_arms c lines m s d.says a (cut_disk v.boot v.store d a.how a.left) (is_on_disk v.store d a.how a.left) w version e f
       | false ↦ λ q. spending a e q
     ]) refl
 
@@ -195,10 +196,10 @@ booted_armed d (Some a) (Some y) None h g = absurd g
 booted_armed d (Some a) (Some y) (Some z) h g = (subst (SameKind a.arming) (sym g.0) h.0, fewer (4 * a.made) y.left z.left (calls_of a.arming) g.1 h.1)
 
 up_here : (c : Config) (s boot : ℕ) (before : Trace) (d : Disk) → disk_after (says.Up s boot) c before s d ≡ booted_with d d.armed
-up_here c s boot before d = ap (λ (b : Bool). cond b (booted_with d d.armed) d) (test_own s)
+up_here c s boot before d = ap (λ (b : Bool). cond b (booted_with d d.armed) d) (equal_self s)
 
 up_there : (c : Config) (s t boot : ℕ) (before : Trace) (d : Disk) → s ≢ t → disk_after (says.Up s boot) c before t d ≡ d
-up_there c s t boot before d ne = ap (λ (b : Bool). cond b (booted_with d d.armed) d) (test_other s t ne)
+up_there c s t boot before d ne = ap (λ (b : Bool). cond b (booted_with d d.armed) d) (apart_test s t ne)
 
 up_arms : (c : Config) (lines : List ScheduleLine) (m s boot : ℕ) (change : World → World) (w : World) → Rises (change w).armed → GoesOn (script_of w s) (script_of (change w) s) → ((t : ℕ) → s ≢ t → script_of (change w) t ≡ script_of w t) → ArmsInCourse c lines m w → ArmsInCourse c lines m (happened m [] (Shown (says.Up s boot) ∷ []) change w)
 up_arms c lines m s boot change w rises goes others f =

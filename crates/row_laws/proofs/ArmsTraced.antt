@@ -1,5 +1,6 @@
 -- The disks of the lawful trace, record by record and line by line.
 use Rattle.std.proofs.Common.{◌≡◌, ◌≤◌, ◌<◌, ℕ, zero, suc, ◌+◌, ◌-◌, Bool, true, false, ◌||◌, ◌&&◌, List, [], ◌∷◌, length, take, drop, fold, slice_index_or, Option, Some, None, refl, ◌∙◌, ap, arith}
+use Rattle.role_steps.proofs.of_plain_facts.Tests.{and_true, both_true, or_second}
 use Rattle.locus_ids.specs.declared.config.Config.{Config}
 use Rattle.trace_book.specs.declared.record.Record.{Record}
 use Rattle.trace_book.specs.declared.record.Record.TheVariants as says
@@ -11,7 +12,7 @@ use Rattle.tree_model.specs.Folds.{Trace}
 use Rattle.the_run.specs.Worlds.{Line, told_onto}
 use Rattle.lawful_trace.specs.Places.{line_at}
 use Rattle.lawful_trace.specs.Disks.{Disk, armed_by, through_lines, disk_after, disk_of, disk_at, writer_of, is_cut_next, is_within_calls, fits_calls, all_fit_calls, keeps_calls}
-use Rattle.vector_laws.specs.Held.{StillRecord, Still}
+use Rattle.lock_laws.specs.of_vector_laws.Held.{StillRecord, Still}
 use Rattle.row_laws.specs.Shown.{with_told, shown, EachRecord}
 use Rattle.row_laws.specs.Events.{Causes, SiteRecord, SiteTold}
 use Rattle.row_laws.specs.Rows.{IsArmedFor}
@@ -107,36 +108,23 @@ quiet_onto c lines n s (x ∷ xs) trace h = quiet_onto c lines n s xs (record { 
 
 -- ---- what fits stays so ----
 
-pub or_right : (a b : Bool) → b ≡ true → (a || b) ≡ true
-or_right true b h = refl
-or_right false b h = h
-
-pub both : (a b : Bool) → a ≡ true → b ≡ true → (a && b) ≡ true
-both a b e f = ap (λ (x : Bool). x && b) e ∙ f
-
-pub parts : (a b : Bool) → (a && b) ≡ true → (a ≡ true) × (b ≡ true)
-parts true true h = (refl, refl)
-parts true false h = absurd (cc)
-parts false true h = absurd (cc)
-parts false false h = absurd (cc)
-
 fits_any : (c : Config) (lines : List ScheduleLine) (next : Option Record) (now : Trace) (o : Option ℕ) → fits_calls c lines None now o ≡ true → fits_calls c lines next now o ≡ true
 fits_any c lines next now None h = refl
-fits_any c lines next now (Some site) h = or_right (is_cut_next next site) (is_within_calls (disk_of c lines now site).armed) h
+fits_any c lines next now (Some site) h = or_second (is_cut_next next site) (is_within_calls (disk_of c lines now site).armed) h
 
 -- whatever record comes next
 pub calls_any : (c : Config) (lines : List ScheduleLine) (next : Option Record) (now : Trace) → keeps_calls c lines now ≡ true → all_fit_calls c lines next now ≡ true
 calls_any c lines next [] h = refl
 calls_any c lines next (r ∷ before) h =
-    let k : (fits_calls c lines None (r ∷ before) (writer_of r.what) ≡ true) × (all_fit_calls c lines (Some r.what) before ≡ true) = parts (fits_calls c lines None (r ∷ before) (writer_of r.what)) (all_fit_calls c lines (Some r.what) before) h in
-    both (fits_calls c lines next (r ∷ before) (writer_of r.what)) (all_fit_calls c lines (Some r.what) before) (fits_any c lines next (r ∷ before) (writer_of r.what) k.0) k.1
+    let k : (fits_calls c lines None (r ∷ before) (writer_of r.what) ≡ true) × (all_fit_calls c lines (Some r.what) before ≡ true) = both_true (fits_calls c lines None (r ∷ before) (writer_of r.what)) (all_fit_calls c lines (Some r.what) before) h in
+    and_true (fits_calls c lines next (r ∷ before) (writer_of r.what)) (all_fit_calls c lines (Some r.what) before) (fits_any c lines next (r ∷ before) (writer_of r.what) k.0) k.1
 
 fits_none : (c : Config) (lines : List ScheduleLine) (next : Option Record) (now : Trace) (o : Option ℕ) → o ≡ None → fits_calls c lines next now o ≡ true
 fits_none c lines next now o e = ap (fits_calls c lines next now) e
 
 -- a record of no version
 pub calls_still : (c : Config) (lines : List ScheduleLine) (n : ℕ) (r : Record) (now : Trace) → writer_of r ≡ None → all_fit_calls c lines (Some r) now ≡ true → keeps_calls c lines (record { line = n; what = r } ∷ now) ≡ true
-calls_still c lines n r now e h = both (fits_calls c lines None (record { line = n; what = r } ∷ now) (writer_of r)) (all_fit_calls c lines (Some r) now) (fits_none c lines None (record { line = n; what = r } ∷ now) (writer_of r) e) h
+calls_still c lines n r now e h = and_true (fits_calls c lines None (record { line = n; what = r } ∷ now) (writer_of r)) (all_fit_calls c lines (Some r) now) (fits_none c lines None (record { line = n; what = r } ∷ now) (writer_of r) e) h
 
 told_calls : (c : Config) (lines : List ScheduleLine) (n : ℕ) (x : Told) (now : Trace) → NoDisk x → keeps_calls c lines now ≡ true → keeps_calls c lines (with_told n x now) ≡ true
 told_calls c lines n (Shown r) now g h = calls_still c lines n r now (still_writer r g) (calls_any c lines (Some r) now h)

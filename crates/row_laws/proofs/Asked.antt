@@ -2,6 +2,8 @@
 use Rattle.std.proofs.Common.{◌≡◌, ◌≢◌, ◌≤◌, ℕ, ◌+◌, ◌==◌, nat_lt, Bool, true, false, cond, ◌||◌, ◌&&◌, not, List, [], ◌∷◌, map, Option, Some, None, refl, sym, ◌∙◌, ap, subst, inl, inr, arith}
 use Rattle.std.proofs.lemmas.Bool.Decides.{nat_tests}
 use Rattle.std.specs.List.{list_any}
+use Rattle.role_steps.proofs.of_plain_facts.Numbers.{apart_test, at_most_of, equal_self}
+use Rattle.role_steps.proofs.of_plain_facts.Options.{some_same}
 use Rattle.schedule_lines.specs.declared.line.Line.TheVariants as line
 use Rattle.schedule_lines.specs.declared.line.ScheduleLine.{ScheduleLine}
 use Rattle.schedule_lines.specs.declared.line.ScheduleLine.TheVariants.{Event as EventLine}
@@ -21,7 +23,6 @@ use Rattle.the_run.specs.Worlds.{World, Place, Running, Stopped, Numbered, Line,
 use Rattle.the_run.specs.Runs.{boots_as, packet_record}
 use Rattle.the_run.proofs.Boots.{at_each, acts_cases, every_newest, every_numbered, Reached, boots_reached}
 use Rattle.the_run.proofs.Events.{happened_keeps, puts_other, puts_same}
-use Rattle.the_run.proofs.Runs.{some_eq}
 use Rattle.lawful_trace.specs.Places.{line_at}
 use Rattle.lawful_trace.specs.SiteRows.{boots as boots_site}
 use Rattle.lawful_trace.specs.LineRows.{lists_packets}
@@ -30,9 +31,9 @@ use Rattle.row_laws.specs.Inward.{RoleTold, RoleWrite}
 use Rattle.row_laws.specs.Events.{Causes, SiteTold, FormingPacket, Forms}
 use Rattle.row_laws.specs.ByLine.{IsLine}
 use Rattle.row_laws.specs.Course.{ToldRow, IsOfSite, StandsAs, InCourse, Caused}
-use Rattle.row_laws.proofs.SyncInward.{served_role}
+use Rattle.row_laws.proofs.Walks.{served_role}
 use Rattle.row_laws.proofs.Forming.{role_told}
-use Rattle.row_laws.proofs.Tracing.{test_own, test_other, AllRows, ascends_onto, rows_onto, onto_same_up, onto_same_boot, told_same_up, site_rows, told_row, either_true}
+use Rattle.row_laws.proofs.Tracing.{AllRows, ascends_onto, rows_onto, onto_same_up, onto_same_boot, told_same_up, site_rows, told_row, either_true}
 
 -- ---- one event ----
 
@@ -70,27 +71,27 @@ old_places lines s m n k told w h f t p here = stands_same (trace_of w) (shown (
 -- one place is changed
 one_place : (s : ℕ) (new : Place) (now : Trace) (w : World) → StandsAs now s new → ((t : ℕ) (p : Place) → s ≢ t → place_at w t ≡ Some p → StandsAs now t p) → (t : ℕ) (p : Place) → place_at (puts s new w) t ≡ Some p → StandsAs now t p
 one_place s new now w mine others t p here = at_each s t (StandsAs now t p)
-    (λ e. subst (λ (u : ℕ). StandsAs now u p) e (subst (StandsAs now s) (some_eq new p (sym (puts_same s new w) ∙ (ap (place_at (puts s new w)) e ∙ here))) mine))
+    (λ e. subst (λ (u : ℕ). StandsAs now u p) e (subst (StandsAs now s) (some_same new p (sym (puts_same s new w) ∙ (ap (place_at (puts s new w)) e ∙ here))) mine))
     (λ ne. others t p ne (sym (puts_other s t new w ne) ∙ here))
 
 -- a stop or a boot of one site leaves how the others stand
 other_up : (s t : ℕ) (b : Bool) → s ≢ t → ((s == t) || b) ≡ b
-other_up s t b ne = ap (λ (x : Bool). x || b) (test_other s t ne)
+other_up s t b ne = ap (λ (x : Bool). x || b) (apart_test s t ne)
 
 other_down : (s t : ℕ) (b : Bool) → s ≢ t → (not (s == t) && b) ≡ b
-other_down s t b ne = ap (λ (x : Bool). not x && b) (test_other s t ne)
+other_down s t b ne = ap (λ (x : Bool). not x && b) (apart_test s t ne)
 
 other_boot : (s t a b : ℕ) → s ≢ t → cond (s == t) a b ≡ b
-other_boot s t a b ne = ap (λ (x : Bool). cond x a b) (test_other s t ne)
+other_boot s t a b ne = ap (λ (x : Bool). cond x a b) (apart_test s t ne)
 
 own_down : (s : ℕ) (b : Bool) → (not (s == s) && b) ≡ false
-own_down s b = ap (λ (x : Bool). not x && b) (test_own s)
+own_down s b = ap (λ (x : Bool). not x && b) (equal_self s)
 
 own_up : (s : ℕ) (b : Bool) → ((s == s) || b) ≡ true
-own_up s b = ap (λ (x : Bool). x || b) (test_own s)
+own_up s b = ap (λ (x : Bool). x || b) (equal_self s)
 
 own_boot : (s a b : ℕ) → cond (s == s) a b ≡ a
-own_boot s a b = ap (λ (x : Bool). cond x a b) (test_own s)
+own_boot s a b = ap (λ (x : Bool). cond x a b) (equal_self s)
 
 -- ---- stops ----
 
@@ -136,7 +137,7 @@ acts_course lines m s k v o w one here g h f =
     acts_cases (InCourse lines m) m s v o w
     (happened_course lines m o.sent o.told (λ now. puts s (Running o.view) now) w one rows (places w (λ t p e. e)) refl refl refl h.sent f)
     (λ a. happened_course lines m o.sent o.told (λ now. puts s (Running o.view) (arms a now)) w one rows (places (arms a w) (λ t p e. e)) refl refl refl h.sent f)
-    (λ d a e. cut_course lines m s k d.says a.how (cut_disk v.boot v.store d a.how a.left) (is_on_disk d a.how a.left) w one (written_role d o.written e h.written) g stood.3 (least (boot_of (trace_of w) s) v.boot stood.1) f)
+    (λ d a e. cut_course lines m s k d.says a.how (cut_disk v.boot v.store d a.how a.left) (is_on_disk v.store d a.how a.left) w one (written_role d o.written e h.written) g stood.3 (least (boot_of (trace_of w) s) v.boot stood.1) f)
   where
     stood : StandsAs (trace_of w) s (Running v)
     stood = f.places s (Running v) here
@@ -155,7 +156,7 @@ above : (a b c : ℕ) → a ≤ b → b + 1 ≤ c → nat_lt a c ≡ true
 above a b c h g = grind (arith, nat_tests)
 
 boots_here : (l : ScheduleLine) (s : ℕ) → l ≡ EventLine (line.Boot s) → boots_site l s ≡ true
-boots_here l s e = ap (λ (x : ScheduleLine). boots_site x s) e ∙ test_own s
+boots_here l s e = ap (λ (x : ScheduleLine). boots_site x s) e ∙ equal_self s
 
 up_course : (lines : List ScheduleLine) (m s : ℕ) (x : Disk) (change : World → World) (w : World) → 1 ≤ m → IsLine lines m (line.Boot s) → is_up (trace_of w) s ≡ false → nat_lt (boot_of (trace_of w) s) x.label.boot ≡ true → IsOfSite s →
     ((t : ℕ) → place_at (change w) t ≡ place_at (puts s (Running (fresh x.label.boot x.copies)) w) t) → (change w).sent ≡ w.sent → (change w).underway ≡ w.underway → (change w).circuits ≡ w.circuits → InCourse lines m w → InCourse lines m (happened m [] (Shown (says.Up s x.label.boot) ∷ []) change w)
@@ -171,15 +172,12 @@ up_course lines m s x change w one is down less of same sent underway circuits f
     now : Trace
     now = record { line = m; what = says.Up s x.label.boot } ∷ trace_of w
 
-at_least : (a b c : ℕ) → a ≤ b → b ≤ c → a ≤ c
-at_least a b c h g = omega (arith, h, g)
-
 as_course : (lines : List ScheduleLine) (m s : ℕ) (d : Disk) (b : Booted) (w : World) → 1 ≤ m → IsLine lines m (line.Boot s) → place_at w s ≡ Some (Stopped d) → Reached d.label.boot (d.label.boot + 1) b → InCourse lines m w → InCourse lines m (boots_as m s b w)
 as_course lines m s d (Whole x None) w one is here r f = let old : StandsAs (trace_of w) s (Stopped d) = f.places s (Stopped d) here in up_course lines m s x _ w one is old.0 (above (boot_of (trace_of w) s) d.label.boot x.label.boot old.1 r) old.2 (λ t. refl) refl refl refl f
 as_course lines m s d (Whole x (Some a)) w one is here r f = let old : StandsAs (trace_of w) s (Stopped d) = f.places s (Stopped d) here in up_course lines m s x _ w one is old.0 (above (boot_of (trace_of w) s) d.label.boot x.label.boot old.1 r) old.2 (λ t. refl) refl refl refl f
 as_course lines m s d (CutOff x how) w one is here r f =
     let old : StandsAs (trace_of w) s (Stopped d) = f.places s (Stopped d) here in
-    stop_course lines m s (cause_of how) x w one (cut_row lines m s how (trace_of w) (either_true (is_up (trace_of w) s) (boots_site (line_at lines m) s) (inr (boots_here (line_at lines m) s is)))) old.2 (at_least (boot_of (trace_of w) s) d.label.boot x.label.boot old.1 r) f
+    stop_course lines m s (cause_of how) x w one (cut_row lines m s how (trace_of w) (either_true (is_up (trace_of w) s) (boots_site (line_at lines m) s) (inr (boots_here (line_at lines m) s is)))) old.2 (at_most_of (boot_of (trace_of w) s) d.label.boot x.label.boot old.1 r) f
 
 pub boot_course : (lines : List ScheduleLine) (m s : ℕ) (d : Disk) (w : World) → 1 ≤ m → IsLine lines m (line.Boot s) → place_at w s ≡ Some (Stopped d) → InCourse lines m w → InCourse lines m (boots_as m s (boots (script_of w s) d) w)
 boot_course lines m s d w one is here f = as_course lines m s d (boots (script_of w s) d) w one is here (boots_reached (script_of w s) d) f

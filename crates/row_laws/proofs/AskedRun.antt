@@ -3,9 +3,13 @@ use Rattle.std.proofs.Common.{◌≡◌, ◌≤◌, ℕ, zero, suc, ◌+◌, ◌
 use Rattle.std.proofs.lemmas.Bool.Decides.{nat_tests}
 use Rattle.std.specs.List.{list_any}
 use Rattle.std.proofs.lemmas.Bool.{and_from, le-leb}
+use Rattle.role_steps.proofs.of_plain_facts.Numbers.{equal, equal_self, equal_test}
+use Rattle.role_steps.proofs.of_plain_facts.Options.{some_same}
+use Rattle.role_steps.proofs.of_plain_facts.Tests.{and_true, true_false}
 use Rattle.locus_ids.specs.declared.ids.EpochId.{EpochId}
 use Rattle.locus_ids.specs.declared.sites.Members.{Members}
 use Rattle.locus_ids.specs.declared.config.Config.{Config}
+use Rattle.locus_ids.specs.Sizes.{sites_max}
 use Rattle.schedule_lines.specs.declared.line.Line.{Line as LineWords}
 use Rattle.schedule_lines.specs.declared.line.Line.TheVariants as line
 use Rattle.schedule_lines.specs.declared.line.ScheduleLine.{ScheduleLine}
@@ -15,6 +19,7 @@ use Rattle.trace_book.specs.declared.record.Record.TheVariants as says
 use Rattle.role_steps.specs.Own.{Every}
 use Rattle.role_steps.specs.Tables.{row}
 use Rattle.role_steps.specs.Views.{Told, Shown, Promises, Event, Calls, Receives, Ticks, Parts, Merges, GivesUp, all_sites}
+use Rattle.role_steps.proofs.Counted.{CountsFrom, sites_count}
 use Rattle.tree_model.specs.Folds.{Trace, last_line, before_line}
 use Rattle.tree_model.specs.Epochs.{boot_of}
 use Rattle.the_run.specs.Joins.{IsJoinRecord, IsJoin, Joined}
@@ -23,10 +28,9 @@ use Rattle.the_run.specs.Steps.{step}
 use Rattle.the_run.specs.Worlds.{World, Place, Running, Numbered, Line, CutCircuit, is_between, is_cut, number_of, links_of, place_in, place_site, passed, fresh, first_place, formatted, first_world}
 use Rattle.the_run.specs.Runs.{packet_record, cuts_circuit, mends_circuit, run_in}
 use Rattle.the_run.proofs.InsideSync.{every_without}
-use Rattle.the_run.proofs.Runs.{some_eq}
-use Rattle.run_laws.specs.Standing.{Standing, nowhere, after_record, after_told, standing, GoesOn, EpochsGoOn}
-use Rattle.run_laws.specs.Naming.{Promised, DeedsOf, Has, Good}
-use Rattle.run_laws.proofs.Run.{good_kept, first_good}
+use Rattle.lock_laws.specs.of_run_laws.Standing.{Standing, nowhere, after_record, after_told, standing, GoesOn, EpochsGoOn}
+use Rattle.lock_laws.specs.of_run_laws.Naming.{Promised, DeedsOf, Has, Good}
+use Rattle.lock_laws.proofs.of_run_laws.Run.{good_kept, first_good}
 use Rattle.lawful_trace.specs.Places.{initiator}
 use Rattle.lawful_trace.specs.SiteRows.{is_site, starts_in, is_asked_for}
 use Rattle.lawful_trace.specs.LineRows.{settles}
@@ -36,9 +40,8 @@ use Rattle.row_laws.specs.ByLine.{IsLine, Gives, KeptIn}
 use Rattle.row_laws.specs.Rows.{IsPlaced, AskedRecord, IsAskedFor, MemberRecord, IsMemberRow, ShortRecord, IsShortRow}
 use Rattle.row_laws.specs.Course.{Started, AskedHere, ToldRow, EachTold, Ascends, IsOfSite, StandsAs, InCourse}
 use Rattle.row_laws.specs.Voids.{CutsNoSelf}
-use Rattle.row_laws.proofs.Choosing.{CountsFrom, sixteen}
 use Rattle.row_laws.proofs.StepForms.{step_forms}
-use Rattle.row_laws.proofs.Tracing.{test_own, any_number, promise_started, ascends_later}
+use Rattle.row_laws.proofs.Tracing.{any_number, promise_started, ascends_later}
 use Rattle.row_laws.proofs.Asked.{acts_course, boot_course, asked_course, world_course, listed_rows, listed_up, listed_boot}
 use Rattle.row_laws.proofs.Causes.{comes_own, sent_polls, receive_caused, tick_caused, line_caused}
 use Rattle.row_laws.proofs.ByLine.{every_line}
@@ -90,16 +93,13 @@ one_of lines (suc n) l is = omega arith
 
 -- ---- circuits ----
 
-test_same : (a b : ℕ) → (a == b) ≡ true → a ≡ b
-test_same a b e = grind (arith, nat_tests)
-
 -- a circuit between two sites is no site's with itself
 between_other : (one other s : ℕ) (x : CutCircuit) → x.one ≡ one → x.other ≡ other → (one ≡ s → other ≡ s → ⊥) → is_between s s x ≡ false
 between_other one other s x e f ne = at_ends x.one x.other (λ g h. ne (sym e ∙ g) (sym f ∙ h))
   where
     at_ends : (a b : ℕ) → (a ≡ s → b ≡ s → ⊥) → (((a == s) && (b == s)) || ((a == s) && (b == s))) ≡ false
     at_ends a b ne = (elim (a == s) as (λ t. (a == s) ≡ t → ((t && (b == s)) || (t && (b == s))) ≡ false) [
-      | true ↦ λ q. (elim (b == s) as (λ t. (b == s) ≡ t → (t || t) ≡ false) [ true ↦ λ r. absurd (ne (test_same a s q) (test_same b s r)) | false ↦ λ r. refl ]) refl
+      | true ↦ λ q. (elim (b == s) as (λ t. (b == s) ≡ t → (t || t) ≡ false) [ true ↦ λ r. absurd (ne (equal a s q) (equal b s r)) | false ↦ λ r. refl ]) refl
       | false ↦ λ q. refl
     ]) refl
 
@@ -158,12 +158,12 @@ courses_kept c lines = record {
 none_place : (p : Place) → ◌≡◌ {A = Option Place} None (Some p) → ⊥
 none_place p e = cc
 
-counted_sites : (n : ℕ) (xs : List ℕ) → CountsFrom n xs → 1 ≤ n → n + length xs ≤ 17 → Every IsOfSite xs
+counted_sites : (n : ℕ) (xs : List ℕ) → CountsFrom n xs → 1 ≤ n → n + length xs ≤ sites_max + 1 → Every IsOfSite xs
 counted_sites n [] h one top = tt
 counted_sites n (x ∷ xs) h one top =
     let e : x ≡ n = h.0 in
     let low : 1 ≤ x = omega (arith, e, one) in
-    let high : x ≤ 16 = omega (arith, e, top) in
+    let high : x ≤ sites_max = omega (arith, e, top) in
     ((low, high), counted_sites (n + 1) xs h.1 (omega arith) (omega (arith, top)))
 
 every_passed : (P : ℕ → Type 0) (test : ℕ → Bool) (xs : List ℕ) → Every P xs → Every P (filter test xs)
@@ -174,23 +174,20 @@ first_places : (c : Config) (ss : List ℕ) → Every IsOfSite ss → (s : ℕ) 
 first_places c [] h s p e = absurd (none_place p e)
 first_places c (t ∷ ts) h s p e =
     (elim (t == s) as (λ b. (t == s) ≡ b → place_in (elim b [ true ↦ Some (first_place c t) | false ↦ row place_site s (map (first_place c) ts) ]) ≡ Some p → StandsAs [] s p) [
-      | true ↦ λ same f. subst (StandsAs [] s) (some_eq (Running (fresh 1 (formatted c t))) p f) (refl, refl, record { round = tt; tables = tt; epoch = tt }, subst IsOfSite (test_same t s same) h.0)
+      | true ↦ λ same f. subst (StandsAs [] s) (some_same (Running (fresh 1 (formatted c t))) p f) (refl, refl, record { round = tt; tables = tt; epoch = tt }, subst IsOfSite (equal t s same) h.0)
       | false ↦ λ same f. first_places c ts h.1 s p f
     ]) refl e
 
 pub first_courses : (c : Config) (lines : List ScheduleLine) → Courses lines 0 (first_world c)
 first_courses c lines = record {
   good = first_good c;
-  course = record { ascends = tt; rows = tt; places = λ s p e. first_places c (filter (λ t. nat_lt t (c.sites + 1)) all_sites) (every_passed IsOfSite (λ t. nat_lt t (c.sites + 1)) all_sites (counted_sites 1 all_sites sixteen (omega arith) (omega arith))) s p e; circuits = λ none s. refl; polls = tt; underway = tt };
+  course = record { ascends = tt; rows = tt; places = λ s p e. first_places c (filter (λ t. nat_lt t (c.sites + 1)) all_sites) (every_passed IsOfSite (λ t. nat_lt t (c.sites + 1)) all_sites (counted_sites 1 all_sites sites_count (omega arith) (omega arith))) s p e; circuits = λ none s. refl; polls = tt; underway = tt };
 }
 
 pub run_courses : (c : Config) (lines : List ScheduleLine) → Courses lines (length lines) (run_in c lines)
 run_courses c lines = every_line c lines (Courses lines) (courses_kept c lines) (first_courses c lines)
 
 -- ---- a join goes back to its promise ----
-
-true_false : true ≡ false → ⊥
-true_false e = cc
 
 -- where a site has promised an id last, and hasn't joined it, the trace has the promise
 abbrev Was : ℕ → List Line → Standing → Type 0
@@ -210,7 +207,7 @@ told_was : (s n : ℕ) (x : Told) (older : List Line) (now : Standing) → Was s
 told_was s n (Shown r) older now h f = inr (record_was s older r now h f)
 told_was s n (Promises t id reach) older now h f =
     (elim (t == s) as (λ b. (t == s) ≡ b → Was s (record { number = n; told = Promises t id reach } ∷ older) (cond b (record { promised = id; installed = false; epoch = now.epoch }) now)) [
-      | true ↦ λ q g. inl (test_same t s q, refl)
+      | true ↦ λ q g. inl (equal t s q, refl)
       | false ↦ λ q g. inr (h g)
     ]) refl f
 told_was s n _ older now h f = inr (h f)
@@ -220,18 +217,12 @@ promised_has s [] e = absurd (true_false e)
 promised_has s (x ∷ older) e = told_was s x.number x.told older (standing s older) (promised_has s older) e
 
 some_site : (o : Option ℕ) (s : ℕ) → o ≡ Some s → is_site o s ≡ true
-some_site o s e = ap (λ (x : Option ℕ). is_site x s) e ∙ test_own s
-
-same_number : (a b : ℕ) → a ≡ b → (a == b) ≡ true
-same_number a b e = grind (arith, nat_tests)
-
-both : (a b : Bool) → a ≡ true → b ≡ true → (a && b) ≡ true
-both a b e f = ap (λ (x : Bool). x && b) e ∙ f
+some_site o s e = ap (λ (x : Option ℕ). is_site x s) e ∙ equal_self s
 
 asked_for : (lines : List ScheduleLine) (now : Trace) (n : ℕ) (id : EpochId) → Started lines now n id.site id.boot → is_asked_for lines now n id ≡ true
 asked_for lines now n id g =
     any_number (λ m. starts_in lines now m id.site id.boot) g.line n
-    (both (is_site (initiator lines now g.line) id.site) (boot_of (before_line now g.line) id.site == id.boot) (some_site (initiator lines now g.line) id.site g.starter) (same_number (boot_of (before_line now g.line) id.site) id.boot g.boot_is)) g.from g.to
+    (and_true (is_site (initiator lines now g.line) id.site) (boot_of (before_line now g.line) id.site == id.boot) (some_site (initiator lines now g.line) id.site g.starter) (equal_test (boot_of (before_line now g.line) id.site) id.boot g.boot_is)) g.from g.to
 
 -- ---- the rows ----
 

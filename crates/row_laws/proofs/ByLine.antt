@@ -1,6 +1,8 @@
 -- A property that each line keeps holds in the run of these lines.
 use Rattle.std.proofs.Common.{◌≡◌, ◌<◌, ℕ, zero, suc, ◌+◌, ◌==◌, Bool, true, false, ◌||◌, ◌⊎◌, not, List, [], ◌∷◌, ◌++◌, length, slice_index_or, Option, Some, None, refl, sym, ◌∙◌, ap, subst, inl, inr, arith, append_assoc}
 use Rattle.std.proofs.lemmas.List.{length-append}
+use Rattle.role_steps.proofs.of_plain_facts.Options.{none_some, some_same}
+use Rattle.role_steps.proofs.of_plain_facts.Tests.{true_false}
 use Rattle.locus_ids.specs.declared.config.Config.{Config}
 use Rattle.schedule_lines.specs.declared.line.Line.{Line as LineWords}
 use Rattle.schedule_lines.specs.declared.line.Line.TheVariants as line
@@ -13,17 +15,13 @@ use Rattle.the_run.specs.Steps.{is_dropped}
 use Rattle.the_run.specs.Worlds.{World, Limit, Place, Running, Stopped, Numbered, place_at, is_cut, number_of, passed, loses, happens, happens_at, voids, first_world}
 use Rattle.the_run.specs.Runs.{packet_at, can_come, arrives_at, arrives, next_packet_of, next_packet, goes_round, ends_round, delivers, ticks_to, is_stopped, is_in_no_epoch, is_busy, is_lost, unless_void, delivers_line, loses_line, cuts_circuit, mends_circuit, stops_line, boots_line, act, acts_line, run_from, run_in}
 use Rattle.the_run.specs.Kept.{Among, WasSent}
-use Rattle.the_run.proofs.Runs.{some_eq}
 use Rattle.lawful_trace.specs.Places.{line_at}
 use Rattle.row_laws.specs.ByLine.{IsLine, begins_quietly, cannot_boot, IsVoidIn, Gives, Delivers, KeptIn}
 
 -- ---- what is found in a list is one of its elements ----
 
-none_some : {A : Type 0} (x : A) → ◌≡◌ {A = Option A} None (Some x) → ⊥
-none_some x e = cc
-
 found_first : {A : Type 0} (y x : A) (ys : List A) (rest : Option A) (b : Bool) → elim b [ true ↦ Some y | false ↦ rest ] ≡ Some x → (rest ≡ Some x → Among x ys) → (x ≡ y) ⊎ Among x ys
-found_first y x ys rest true e h = inl (sym (some_eq y x e))
+found_first y x ys rest true e h = inl (sym (some_same y x e))
 found_first y x ys rest false e h = inr (h e)
 
 first_among : {A : Type 0} (test : A → Bool) (xs : List A) (x : A) → first_that test xs ≡ Some x → Among x xs
@@ -104,9 +102,6 @@ unless_void_keeps : (P : World → Type 0) (n : ℕ) (b : Bool) (f : World → W
 unless_void_keeps P n true f w h g = h refl
 unless_void_keeps P n false f w h g = g refl
 
-stops : true ≡ false → ⊥
-stops e = cc
-
 -- a line that has begun after the earlier ones
 record Line (c : Config) (lines : List ScheduleLine) (P : ℕ → World → Type 0) (n : ℕ) (l : LineWords) (w : World) : Type 0 where
   course : Course c lines P (n + 1) l
@@ -118,21 +113,21 @@ begun c lines P n l w k e = k.course.kept.begins n w k.there (ap begins_quietly 
 
 -- an event of the line's site, where the line isn't void: the site runs
 at_site : (c : Config) (lines : List ScheduleLine) (P : ℕ → World → Type 0) (n : ℕ) (l : LineWords) (w : World) → Line c lines P n l w → (s : ℕ) (e : Event) (o : Option Place) → place_at w s ≡ o → is_stopped o ≡ false → Gives w l s e → P (n + 1) (happens_at c (n + 1) s e o w)
-at_site c lines P n l w k s e None h up g = absurd (stops up)
-at_site c lines P n l w k s e (Some (Stopped d)) h up g = absurd (stops up)
+at_site c lines P n l w k s e None h up g = absurd (true_false up)
+at_site c lines P n l w k s e (Some (Stopped d)) h up g = absurd (true_false up)
 at_site c lines P n l w k s e (Some (Running v)) h up g = k.course.kept.steps n s l e v w k.there k.course.is g h k.before
 
 step_keeps : (c : Config) (lines : List ScheduleLine) (P : ℕ → World → Type 0) (n : ℕ) (l : LineWords) (w : World) → Line c lines P n l w → (s : ℕ) (e : Event) → is_stopped (place_at w s) ≡ false → Gives w l s e → P (n + 1) (happens c (n + 1) s e w)
 step_keeps c lines P n l w k s e up g = at_site c lines P n l w k s e (place_at w s) refl up g
 
 idle_runs : (process : ℕ) (o : Option Place) → is_busy process o ≡ false → is_stopped o ≡ false
-idle_runs process None e = absurd (stops e)
-idle_runs process (Some (Stopped d)) e = absurd (stops e)
+idle_runs process None e = absurd (true_false e)
+idle_runs process (Some (Stopped d)) e = absurd (true_false e)
 idle_runs process (Some (Running v)) e = refl
 
 inside_runs : (o : Option Place) → is_in_no_epoch o ≡ false → is_stopped o ≡ false
-inside_runs None e = absurd (stops e)
-inside_runs (Some (Stopped d)) e = absurd (stops e)
+inside_runs None e = absurd (true_false e)
+inside_runs (Some (Stopped d)) e = absurd (true_false e)
 inside_runs (Some (Running v)) e = refl
 
 voided : (c : Config) (lines : List ScheduleLine) (P : ℕ → World → Type 0) (n : ℕ) (l : LineWords) (w : World) → Line c lines P n l w → IsVoidIn w l → P (n + 1) (voids (n + 1) w)

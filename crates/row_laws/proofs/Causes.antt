@@ -1,6 +1,9 @@
 -- The causes of an event of a running site are there: its line, or a protocol that a site started by an earlier line.
 use Rattle.std.proofs.Common.{◌≡◌, ◌≢◌, ◌≤◌, ℕ, ◌+◌, ◌==◌, ◌⊎◌, Bool, true, false, cond, ◌||◌, ◌&&◌, not, List, [], ◌∷◌, Option, Some, None, refl, sym, ◌∙◌, ap, subst, inl, inr, arith}
 use Rattle.std.specs.Option.{is_some}
+use Rattle.role_steps.proofs.of_plain_facts.Numbers.{equal_self}
+use Rattle.role_steps.proofs.of_plain_facts.Options.{none_some}
+use Rattle.role_steps.proofs.of_plain_facts.Tests.{false_true}
 use Rattle.locus_ids.specs.declared.ids.EpochId.{EpochId}
 use Rattle.locus_ids.specs.declared.sites.Members.{Members}
 use Rattle.schedule_lines.specs.declared.line.Line.{Line as LineWords}
@@ -24,9 +27,9 @@ use Rattle.the_run.specs.Worlds.{World, Running, Numbered, Line, place_at, link_
 use Rattle.the_run.specs.Worlds.{boot_of as boot_number}
 use Rattle.the_run.specs.Runs.{is_in_no_epoch}
 use Rattle.the_run.specs.Kept.{IsOwn, WasSent}
-use Rattle.run_laws.specs.Standing.{Standing, nowhere, standing, after_record, after_told}
-use Rattle.run_laws.specs.Naming.{Promised, Deeds, Names, DeedsOf, ViewOk, Good}
-use Rattle.run_laws.proofs.Run.{found_among, was_sent}
+use Rattle.lock_laws.specs.of_run_laws.Standing.{Standing, nowhere, standing, after_record, after_told}
+use Rattle.lock_laws.specs.of_run_laws.Naming.{Promised, Deeds, Names, DeedsOf, ViewOk, Good}
+use Rattle.lock_laws.proofs.of_run_laws.Run.{found_among, was_sent}
 use Rattle.lawful_trace.specs.Places.{line_at, starts_at, initiator}
 use Rattle.lawful_trace.specs.SiteRows.{makes_leave}
 use Rattle.lawful_trace.specs.CallRows.{CallLine}
@@ -35,19 +38,16 @@ use Rattle.row_laws.specs.Events.{IsPoll, HasRound, IsOwnId, ListsItself, Formin
 use Rattle.row_laws.specs.ByLine.{IsLine, Gives, Delivers}
 use Rattle.row_laws.specs.Course.{Started, Polled, HasItself, StandsAs, InCourse, Caused}
 use Rattle.row_laws.proofs.Choosing.{boot_there}
-use Rattle.row_laws.proofs.Tracing.{before_all, promise_started, test_own}
+use Rattle.row_laws.proofs.Tracing.{before_all, promise_started}
 
 -- ---- the epoch of a running site, by its records ----
-
-never : false ≡ true → ⊥
-never e = cc
 
 up_case : (b u : Bool) (e : Option EpochId) (now : Standing) → (u ≡ true → e ≡ now.epoch) → (b || u) ≡ true → cond b None e ≡ (cond b nowhere now).epoch
 up_case true u e now h up = refl
 up_case false u e now h up = h up
 
 stop_case : (b u : Bool) (e : Option EpochId) (now : Standing) → (u ≡ true → e ≡ now.epoch) → (not b && u) ≡ true → cond b None e ≡ now.epoch
-stop_case true u e now h up = absurd (never up)
+stop_case true u e now h up = absurd (false_true up)
 stop_case false u e now h up = h up
 
 move_case : (b : Bool) (e new : Option EpochId) (now then : Standing) → e ≡ now.epoch → new ≡ then.epoch → cond b new e ≡ (cond b then now).epoch
@@ -135,9 +135,6 @@ starts_none (line.ArmStop site calls left) now h = absurd h
 starts_none (line.ArmFail site calls) now h = absurd h
 starts_none (line.Boot site) now h = absurd h
 starts_none line.Pending now h = absurd h
-
-none_some : (a : ℕ) → ◌≡◌ {A = Option ℕ} None (Some a) → ⊥
-none_some a e = cc
 
 earlier : (a n : ℕ) → a ≤ n → (a ≡ n → ⊥) → a + 1 ≤ n
 earlier a n le ne = omega (arith, le, ne)
@@ -243,13 +240,13 @@ both_here : (a b : Bool) (s : ℕ) → a ≡ true → b ≡ true → cond (a && 
 both_here a b s e f = ap (λ (x : Bool). cond (x && b) (Some s) None) e ∙ ap (λ (x : Bool). cond x (Some s) None) f
 
 some_epoch : (o : Option InEpoch) → not (is_some o) ≡ false → is_some (epoch_id o) ≡ true
-some_epoch None e = absurd (never (sym e))
+some_epoch None e = absurd (false_true (sym e))
 some_epoch (Some x) e = refl
 
 part_caused : (lines : List ScheduleLine) (n s : ℕ) (v : SiteView) (w : World) → IsLine lines (n + 1) (line.Part s) → is_in_no_epoch (place_at w s) ≡ false → place_at w s ≡ Some (Running v) → Good w → InCourse lines n w → Caused lines (n + 1) s (causes_of s (links_of w s) v Parts) (trace_of w)
 part_caused lines n s v w is inside here good f = record {
   up = (f.places s (Running v) here).0;
-  leave = λ p. inl (leaves_here lines (n + 1) s (line.Part s) is (test_own s));
+  leave = λ p. inl (leaves_here lines (n + 1) s (line.Part s) is (equal_self s));
   promise = λ id own. line_starts lines n s (line.Part s) v w id is
       (both_here (is_up (trace_of w) s) (is_some (epoch_of (trace_of w) s)) s (f.places s (Running v) here).0 (ap is_some (epoch_here lines n s v w here good f) ∙ some_epoch v.epoch (sym (ap is_in_no_epoch here) ∙ inside))) here f own;
   join = λ members j. (itself lines n s v w here f members j.0, j.1);
@@ -259,7 +256,7 @@ part_caused lines n s v w is inside here good f = record {
 merge_caused : (lines : List ScheduleLine) (n s : ℕ) (v : SiteView) (w : World) → IsLine lines (n + 1) (line.Merge s) → place_at w s ≡ Some (Running v) → InCourse lines n w → Caused lines (n + 1) s (causes_of s (links_of w s) v Merges) (trace_of w)
 merge_caused lines n s v w is here f = record {
   up = (f.places s (Running v) here).0;
-  leave = λ p. inl (leaves_here lines (n + 1) s (line.Merge s) is (test_own s));
+  leave = λ p. inl (leaves_here lines (n + 1) s (line.Merge s) is (equal_self s));
   promise = λ id own. line_starts lines n s (line.Merge s) v w id is (ap (λ (b : Bool). cond b (Some s) None) (f.places s (Running v) here).0) here f own;
   join = λ members j. (itself lines n s v w here f members j.0, j.1);
   accept = λ process words a. absurd a;
@@ -268,7 +265,7 @@ merge_caused lines n s v w is here f = record {
 give_caused : (lines : List ScheduleLine) (n s : ℕ) (v : SiteView) (w : World) → IsLine lines (n + 1) (line.GiveUp s) → place_at w s ≡ Some (Running v) → InCourse lines n w → Caused lines (n + 1) s (causes_of s (links_of w s) v GivesUp) (trace_of w)
 give_caused lines n s v w is here f = record {
   up = (f.places s (Running v) here).0;
-  leave = λ p. inl (leaves_here lines (n + 1) s (line.GiveUp s) is (test_own s));
+  leave = λ p. inl (leaves_here lines (n + 1) s (line.GiveUp s) is (equal_self s));
   promise = λ id p. absurd p;
   join = λ members j. (itself lines n s v w here f members j.0, j.1);
   accept = λ process words a. absurd a;

@@ -2,52 +2,25 @@
 use Rattle.std.proofs.Common.{◌≡◌, ◌≤◌, ◌<◌, ℕ, zero, suc, ◌+◌, ◌-◌, ◌==◌, ◌⊎◌, nat_lt, Bool, true, false, cond, ◌||◌, ◌&&◌, List, [], ◌∷◌, length, map, filter, get_or, refl, sym, ◌∙◌, ap, subst, inl, inr, arith}
 use Rattle.std.proofs.lemmas.Bool.Decides.{nat_tests}
 use Rattle.std.proofs.lemmas.Nat.Bits.{bit_at-zero}
+use Rattle.role_steps.proofs.of_plain_facts.Numbers.{apart_test, equal, equal_self}
+use Rattle.role_steps.proofs.of_plain_facts.Tests.{both_true, or_either, or_true, true_false}
 use Rattle.locus_ids.specs.Sites.{has, with_site, both}
 use Rattle.locus_ids.specs.declared.sites.Sites.{Sites}
 use Rattle.locus_ids.specs.declared.sites.Links.{Links}
 use Rattle.locus_ids.proofs.Sets.{has-with, has-both}
+use Rattle.locus_ids.specs.Sizes.{sites_max}
 use Rattle.role_steps.specs.Tables.{with_row}
 use Rattle.role_steps.specs.Views.{boot_in, all_sites}
 use Rattle.role_steps.specs.Epochs.{reached, promise_site, candidates, met_by, met_by_all, all_promises, chosen_set, polled_boot, member_boot, chosen_members}
 use Rattle.role_steps.specs.declared.rounds.Promise.{Promise}
 use Rattle.role_steps.specs.declared.rounds.Round.{Round}
+use Rattle.role_steps.proofs.Counted.{CountsFrom, sites_count}
 use Rattle.the_run.specs.Kept.{Among}
 use Rattle.row_laws.specs.Events.{ListsItself, PromisesRise}
 
 -- ---- tests ----
 
-test_same : (a b : ℕ) → (a == b) ≡ true → a ≡ b
-test_same a b e = grind (arith, nat_tests)
-
-same_test : (a : ℕ) → (a == a) ≡ true
-same_test a = grind (arith, nat_tests)
-
-differ : (a b : ℕ) → (a ≡ b → ⊥) → (a == b) ≡ false
-differ a b ne = (elim (a == b) as (λ t. (a == b) ≡ t → t ≡ false) [ true ↦ λ e. absurd (ne (test_same a b e)) | false ↦ λ e. refl ]) refl
-
-true_false : true ≡ false → ⊥
-true_false e = cc
-
-or_true : (b : Bool) → (b || true) ≡ true
-or_true true = refl
-or_true false = refl
-
-one_true : (a b : Bool) → (a || b) ≡ true → (a ≡ true) ⊎ (b ≡ true)
-one_true true b h = inl refl
-one_true false b h = inr h
-
-both_true : (a b : Bool) → (a && b) ≡ true → (a ≡ true) × (b ≡ true)
-both_true true b h = (refl, h)
-both_true false b h = absurd (cc)
-
 -- ---- boot numbers by places ----
-
-abbrev pub CountsFrom : ℕ → List ℕ → Type 0
-CountsFrom n [] = Unit {0}
-CountsFrom n (x ∷ xs) = (x ≡ n) × CountsFrom (n + 1) xs
-
-pub sixteen : CountsFrom 1 all_sites
-sixteen = (refl, (refl, (refl, (refl, (refl, (refl, (refl, (refl, (refl, (refl, (refl, (refl, (refl, (refl, (refl, (refl, tt))))))))))))))))
 
 placed : (f : ℕ → ℕ) (n place : ℕ) (xs : List ℕ) → CountsFrom n xs → place < length xs → get_or (map f xs) place 0 ≡ f (n + place)
 placed f n place [] h low = absurd (omega (arith, low))
@@ -61,9 +34,9 @@ placed f n (suc place) (x ∷ xs) h low = placed f (n + 1) place xs h.1 (omega (
     next n place = omega arith
 
 -- each of sixteen sites has the boot number that it is given
-pub boot_there : (f : ℕ → ℕ) (s : ℕ) → 1 ≤ s → s ≤ 16 → boot_in (map f all_sites) s ≡ f s
+pub boot_there : (f : ℕ → ℕ) (s : ℕ) → 1 ≤ s → s ≤ sites_max → boot_in (map f all_sites) s ≡ f s
 boot_there f zero low high = absurd (omega (arith, low))
-boot_there f (suc place) low high = placed f 1 place all_sites sixteen (omega (arith, high)) ∙ ap f (next place)
+boot_there f (suc place) low high = placed f 1 place all_sites sites_count (omega (arith, high)) ∙ ap f (next place)
   where
     next : (n : ℕ) → 1 + n ≡ suc n
     next n = omega arith
@@ -74,7 +47,7 @@ beyond f zero (x ∷ xs) h = absurd (omega (arith, h))
 beyond f (suc place) (x ∷ xs) h = beyond f place xs (omega (arith, h))
 
 -- any other number has none
-pub boot_nowhere : (f : ℕ → ℕ) (s : ℕ) → 17 ≤ s → boot_in (map f all_sites) s ≡ 0
+pub boot_nowhere : (f : ℕ → ℕ) (s : ℕ) → sites_max < s → boot_in (map f all_sites) s ≡ 0
 boot_nowhere f zero h = refl
 boot_nowhere f (suc place) h = beyond f place all_sites (omega (arith, h))
 
@@ -102,11 +75,11 @@ reach_has links s n (x ∷ xs) one low h up from to =
 
     by_case : ((x ≡ s → ⊥) → has (reach_among links xs) s ≡ true) → (b : Bool) → (s == x) ≡ b → (has (reach_among links xs) s || b) ≡ true
     by_case later true e = or_true (has (reach_among links xs) s)
-    by_case later false e = ap (λ (b : Bool). b || false) (later (λ same. absurd (true_false (sym (same_test s) ∙ (ap (λ (y : ℕ). s == y) (sym same) ∙ e)))))
+    by_case later false e = ap (λ (b : Bool). b || false) (later (λ same. absurd (true_false (sym (equal_self s) ∙ (ap (λ (y : ℕ). s == y) (sym same) ∙ e)))))
 
 -- a site that is connected is reached
-pub reaches : (links : Links) (s : ℕ) → 1 ≤ s → s ≤ 16 → (boot_in links.boot s == 0) ≡ false → has (reached links) s ≡ true
-reaches links s low high up = reach_has links s 1 all_sites (omega arith) low sixteen up low (omega (arith, high))
+pub reaches : (links : Links) (s : ℕ) → 1 ≤ s → s ≤ sites_max → (boot_in links.boot s == 0) ≡ false → has (reached links) s ≡ true
+reaches links s low high up = reach_has links s 1 all_sites (omega arith) low sites_count up low (omega (arith, high))
 
 -- ---- candidates ----
 
@@ -115,7 +88,7 @@ has_none s = rw (bit_at-zero (s - 1)) refl
 
 -- the initiator is a candidate
 candidate_self : (me n : ℕ) (ps : List Promise) → 1 ≤ me → 1 ≤ n → PromisesRise n ps → has (candidates me ps) me ≡ true
-candidate_self me n [] low one h = has-with (record { 0 = 0 }) me me low low ∙ (ap (λ (b : Bool). has (record { 0 = 0 }) me || b) (same_test me) ∙ or_true (has (record { 0 = 0 }) me))
+candidate_self me n [] low one h = has-with (record { 0 = 0 }) me me low low ∙ (ap (λ (b : Bool). has (record { 0 = 0 }) me || b) (equal_self me) ∙ or_true (has (record { 0 = 0 }) me))
 candidate_self me n (p ∷ ps) low one h =
     let k : n ≤ p.site = h.0 in
     let rest : has (candidates me ps) me ≡ true = candidate_self me (p.site + 1) ps low (omega arith) h.1 in
@@ -126,12 +99,12 @@ candidate_self me n (p ∷ ps) low one h =
 
 -- no site below those that promised is one, but for the initiator
 candidate_below : (me s n : ℕ) (ps : List Promise) → 1 ≤ me → 1 ≤ s → (s ≡ me → ⊥) → s + 1 ≤ n → PromisesRise n ps → has (candidates me ps) s ≡ false
-candidate_below me s n [] low one ne le h = has-with (record { 0 = 0 }) me s low one ∙ (ap (λ (b : Bool). b || (s == me)) (has_none s) ∙ differ s me ne)
+candidate_below me s n [] low one ne le h = has-with (record { 0 = 0 }) me s low one ∙ (ap (λ (b : Bool). b || (s == me)) (has_none s) ∙ apart_test s me ne)
 candidate_below me s n (p ∷ ps) low one ne le h =
     let k : n ≤ p.site = h.0 in
     let rest : has (candidates me ps) s ≡ false = candidate_below me s (p.site + 1) ps low one ne (omega (arith, le, k)) h.1 in
     elim (has p.reach me) as (λ b. has (cond b (with_site (candidates me ps) p.site) (candidates me ps)) s ≡ false) [
-      | true ↦ has-with (candidates me ps) p.site s (omega (arith, k, le)) one ∙ (ap (λ (b : Bool). b || (s == p.site)) rest ∙ differ s p.site (λ e. absurd (omega (arith, e, k, le))))
+      | true ↦ has-with (candidates me ps) p.site s (omega (arith, k, le)) one ∙ (ap (λ (b : Bool). b || (s == p.site)) rest ∙ apart_test s p.site (λ e. absurd (omega (arith, e, k, le))))
       | false ↦ rest
     ]
 
@@ -155,13 +128,13 @@ candidate_back me n (p ∷ ps) low one h q (inr a) ne e =
     let m : p.site + 1 ≤ q.site = rises_above (p.site + 1) ps h.1 q a in
     candidate_back me (p.site + 1) ps low (omega arith) h.1 q a ne
     ((elim (has p.reach me) as (λ b. has (cond b (with_site (candidates me ps) p.site) (candidates me ps)) q.site ≡ true → has (candidates me ps) q.site ≡ true) [
-      | true ↦ λ f. later (one_true (has (candidates me ps) q.site) (q.site == p.site) (sym (has-with (candidates me ps) p.site q.site (omega (arith, k, one)) (omega (arith, m))) ∙ f)) m
+      | true ↦ λ f. later (or_either (has (candidates me ps) q.site) (q.site == p.site) (sym (has-with (candidates me ps) p.site q.site (omega (arith, k, one)) (omega (arith, m))) ∙ f)) m
       | false ↦ λ f. f
     ]) e)
   where
     later : (has (candidates me ps) q.site ≡ true) ⊎ ((q.site == p.site) ≡ true) → p.site + 1 ≤ q.site → has (candidates me ps) q.site ≡ true
     later (inl f) m = f
-    later (inr f) m = (let same : q.site ≡ p.site = test_same q.site p.site f in absurd (omega (arith, same, m)))
+    later (inr f) m = (let same : q.site ≡ p.site = equal q.site p.site f in absurd (omega (arith, same, m)))
 
 -- ---- the chosen set ----
 
@@ -190,11 +163,11 @@ row_among own n (p ∷ ps) h q a = by_order (row_among own (p.site + 1) ps h.1 q
 
     in_place : (p.site == own.site) ≡ true → Among q (own ∷ ps) → (q ≡ own) ⊎ (Among q (p ∷ ps) × (q.site ≡ own.site → ⊥))
     in_place e (inl f) = inl f
-    in_place e (inr b) = inr (inr b, above p.site refl b (let s : p.site ≡ own.site = test_same p.site own.site e in omega (arith, s)))
+    in_place e (inr b) = inr (inr b, above p.site refl b (let s : p.site ≡ own.site = equal p.site own.site e in omega (arith, s)))
 
     before : nat_lt p.site own.site ≡ false → (p.site == own.site) ≡ false → Among q (own ∷ p ∷ ps) → (q ≡ own) ⊎ (Among q (p ∷ ps) × (q.site ≡ own.site → ⊥))
     before e f (inl g) = inl g
-    before e f (inr (inl g)) = here g (λ s. absurd (true_false (sym (same_test own.site) ∙ (ap (λ (x : ℕ). x == own.site) (sym s) ∙ f))))
+    before e f (inr (inl g)) = here g (λ s. absurd (true_false (sym (equal_self own.site) ∙ (ap (λ (x : ℕ). x == own.site) (sym s) ∙ f))))
     before e f (inr (inr b)) = inr (inr b, above p.site refl b (at_most p.site own.site e))
       where
         at_most : (a b : ℕ) → nat_lt a b ≡ false → b ≤ a
@@ -222,7 +195,7 @@ met_has me set (p ∷ ps) own back =
     let k : (has (met_by set p) me ≡ true) × ((s : ℕ) → has (met_by set p) s ≡ true → has set s ≡ true) = met_once me set p own (back p (inl refl)) in
     met_has me (met_by set p) ps k.0 (λ q a e. back q (inr a) (k.1 q.site e))
 
-chosen_self : (me : ℕ) (links : Links) (r : Round) → 1 ≤ me → me ≤ 16 → PromisesRise 1 r.promises → (boot_in links.boot me == 0) ≡ false → has (chosen_set me links r) me ≡ true
+chosen_self : (me : ℕ) (links : Links) (r : Round) → 1 ≤ me → me ≤ sites_max → PromisesRise 1 r.promises → (boot_in links.boot me == 0) ≡ false → has (chosen_set me links r) me ≡ true
 chosen_self me links r low high rise up = met_has me first (all_promises me links r) has_first (λ q a e. by_row q (row_among own 1 r.promises rise q a) e)
   where
     own : Promise
@@ -244,7 +217,7 @@ chosen_self me links r low high rise up = met_has me first (all_promises me link
 -- ---- the list ----
 
 own_boot : (me boot : ℕ) (r : Round) → polled_boot me boot r me ≡ boot
-own_boot me boot r = rw (same_test me) refl
+own_boot me boot r = rw (equal_self me) refl
 
 zero_boot : (n : ℕ) → (n == 0) ≡ true → 0 ≡ n
 zero_boot n e = grind (arith, nat_tests)
@@ -277,7 +250,7 @@ row_rises own n (p ∷ ps) le h =
     (elim (nat_lt p.site own.site) as (λ b. nat_lt p.site own.site ≡ b → PromisesRise n (elim b [ true ↦ p ∷ with_row promise_site own ps | false ↦ elim (p.site == own.site) [ true ↦ own ∷ ps | false ↦ own ∷ p ∷ ps ] ])) [
       | true ↦ λ e. (h.0, row_rises own (p.site + 1) ps (less p.site own.site e) h.1)
       | false ↦ λ e. (elim (p.site == own.site) as (λ b. (p.site == own.site) ≡ b → PromisesRise n (elim b [ true ↦ own ∷ ps | false ↦ own ∷ p ∷ ps ])) [
-        | true ↦ λ f. (le, subst (λ (m : ℕ). PromisesRise (m + 1) ps) (test_same p.site own.site f) h.1)
+        | true ↦ λ f. (le, subst (λ (m : ℕ). PromisesRise (m + 1) ps) (equal p.site own.site f) h.1)
         | false ↦ λ f. (le, (more p.site own.site e f, h.1))
       ]) refl
     ]) refl

@@ -47,9 +47,6 @@ kept_cut lines n w there same h a b = sym (cut_next lines n a b there ∙ (ap (c
 ends_same : (one other s t a b : ℕ) → are_these one other a b ≡ true → are_these a b s t ≡ are_these one other s t
 ends_same one other s t a b e = grind (arith, nat_tests)
 
-test_ends : (x : CutCircuit) (a b : ℕ) → is_between a b x ≡ are_these x.one x.other a b
-test_ends x a b = refl
-
 -- what is left where the circuit of two sites is mended
 left_cut : (one other a b : ℕ) (xs : List CutCircuit) → list_any (is_between a b) (filter (λ (x : CutCircuit). not (is_between one other x)) xs) ≡ (not (are_these one other a b) && list_any (is_between a b) xs)
 left_cut one other a b [] = sym (none (not (are_these one other a b)))

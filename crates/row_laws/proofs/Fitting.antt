@@ -2,7 +2,9 @@
 use Rattle.std.proofs.Common.{◌≡◌, ◌≤◌, ℕ, zero, suc, ◌==◌, Bool, true, false, ◌||◌, ◌&&◌, not, List, [], ◌∷◌, ◌++◌, slice_index_or, refl, sym, ◌∙◌, ap, subst, append_assoc, arith}
 use Rattle.std.proofs.lemmas.Bool.Decides.{nat_tests}
 use Rattle.std.proofs.lemmas.List.Sums.{fold-append}
+use Rattle.role_steps.proofs.of_plain_facts.Tests.{both_true, false_true, or_true}
 use Rattle.locus_ids.specs.declared.config.Config.{Config}
+use Rattle.locus_ids.specs.Sizes.{sites_max}
 use Rattle.schedule_lines.specs.Cluster.{no_cluster, with_line, config_of, is_whole, may_join}
 use Rattle.schedule_lines.specs.Ranges.{is_between, are_two_sites, fits_event}
 use Rattle.schedule_lines.specs.Schedule.{is_event, has_begun, MayStand, MayFollow, AreInOrder}
@@ -12,19 +14,6 @@ use Rattle.schedule_lines.specs.declared.line.Line.TheVariants as line
 use Rattle.schedule_lines.specs.declared.line.ScheduleLine.{ScheduleLine}
 use Rattle.schedule_lines.specs.declared.line.ScheduleLine.TheVariants.{Passed, Header, Event}
 use Rattle.row_laws.specs.Voids.{LinesFit, CutsNoSelf}
-
-never : false ≡ true → ⊥
-never e = cc
-
-parts : (a b : Bool) → (a && b) ≡ true → (a ≡ true) × (b ≡ true)
-parts true true h = (refl, refl)
-parts true false h = absurd (cc)
-parts false true h = absurd (cc)
-parts false false h = absurd (cc)
-
-or_true : (b : Bool) → (b || true) ≡ true
-or_true true = refl
-or_true false = refl
 
 -- the cluster with one line more
 config_more : (earlier : List ScheduleLine) (l : ScheduleLine) → config_of (earlier ++ l ∷ []) ≡ with_line (config_of earlier) l
@@ -46,7 +35,7 @@ begun_more (x ∷ xs) l = ap (λ (b : Bool). is_event x || b) (begun_more xs l) 
 line_steady : (earlier : List ScheduleLine) (l : ScheduleLine) → MayStand earlier l → has_begun earlier ≡ true → with_line (config_of earlier) l ≡ config_of earlier
 line_steady earlier Passed h begun = refl
 line_steady earlier (Event e) h begun = refl
-line_steady earlier (Header x) h begun = absurd (never (sym (ap not begun) ∙ (parts (not (has_begun earlier)) (may_join (config_of earlier) x) h).0))
+line_steady earlier (Header x) h begun = absurd (false_true (sym (ap not begun) ∙ (both_true (not (has_begun earlier)) (may_join (config_of earlier) x) h).0))
 
 steady : (earlier later : List ScheduleLine) → MayFollow earlier later → has_begun earlier ≡ true → config_of (earlier ++ later) ≡ config_of earlier
 steady earlier [] h begun = fold-append with_line no_cluster earlier []
@@ -60,7 +49,7 @@ event_fits earlier later e h =
     ap (λ (c : Config). fits_event c.sites e)
     (ap config_of (sym (append_assoc earlier (Event e ∷ []) later))
     ∙ (steady (earlier ++ Event e ∷ []) later h.1 (begun_more earlier (Event e) ∙ or_true (has_begun earlier)) ∙ config_more earlier (Event e)))
-    ∙ (parts (is_whole (config_of earlier)) (fits_event (config_of earlier).sites e) h.0).1
+    ∙ (both_true (is_whole (config_of earlier)) (fits_event (config_of earlier).sites e) h.0).1
 
 passed_event : (l : LineWords) → Passed ≡ Event l → ⊥
 passed_event l e = cc
@@ -84,23 +73,23 @@ cuts_none c lines fit n s is = two_sites c.sites s (fit n (line.Down s s) is)
 
 -- ---- how many sites ----
 
-few_line : (earlier : List ScheduleLine) (l : ScheduleLine) → MayStand earlier l → (config_of earlier).sites ≤ 16 → (with_line (config_of earlier) l).sites ≤ 16
-few_line earlier (Header (header.Sites count)) h few = within ((config_of earlier).sites == 0) (parts (not (has_begun earlier)) ((config_of earlier).sites == 0 && is_between 1 16 count) h).1
+few_line : (earlier : List ScheduleLine) (l : ScheduleLine) → MayStand earlier l → (config_of earlier).sites ≤ sites_max → (with_line (config_of earlier) l).sites ≤ sites_max
+few_line earlier (Header (header.Sites count)) h few = within ((config_of earlier).sites == 0) (both_true (not (has_begun earlier)) ((config_of earlier).sites == 0 && is_between 1 sites_max count) h).1
   where
-    within : (b : Bool) → (b && is_between 1 16 count) ≡ true → count ≤ 16
+    within : (b : Bool) → (b && is_between 1 sites_max count) ≡ true → count ≤ sites_max
     within true e = grind (arith, nat_tests)
-    within false e = absurd (never e)
+    within false e = absurd (false_true e)
 few_line earlier (Header (header.Group group set)) h few = few
 few_line earlier (Header (header.Mount group name)) h few = few
 few_line earlier Passed h few = few
 few_line earlier (Event e) h few = few
 
-few_sites : (earlier later : List ScheduleLine) → MayFollow earlier later → (config_of earlier).sites ≤ 16 → (config_of (earlier ++ later)).sites ≤ 16
-few_sites earlier [] h few = subst (λ (c : Config). c.sites ≤ 16) (sym (fold-append with_line no_cluster earlier [])) few
+few_sites : (earlier later : List ScheduleLine) → MayFollow earlier later → (config_of earlier).sites ≤ sites_max → (config_of (earlier ++ later)).sites ≤ sites_max
+few_sites earlier [] h few = subst (λ (c : Config). c.sites ≤ sites_max) (sym (fold-append with_line no_cluster earlier [])) few
 few_sites earlier (l ∷ later) h few =
-    subst (λ (ls : List ScheduleLine). (config_of ls).sites ≤ 16) (append_assoc earlier (l ∷ []) later)
-    (few_sites (earlier ++ l ∷ []) later h.1 (subst (λ (c : Config). c.sites ≤ 16) (sym (config_more earlier l)) (few_line earlier l h.0 few)))
+    subst (λ (ls : List ScheduleLine). (config_of ls).sites ≤ sites_max) (append_assoc earlier (l ∷ []) later)
+    (few_sites (earlier ++ l ∷ []) later h.1 (subst (λ (c : Config). c.sites ≤ sites_max) (sym (config_more earlier l)) (few_line earlier l h.0 few)))
 
 -- no cluster has more sites than there may be
-pub schedule_few : (lines : List ScheduleLine) → AreInOrder lines → (config_of lines).sites ≤ 16
+pub schedule_few : (lines : List ScheduleLine) → AreInOrder lines → (config_of lines).sites ≤ sites_max
 schedule_few lines h = few_sites [] lines h (omega arith)

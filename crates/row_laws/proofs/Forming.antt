@@ -1,6 +1,7 @@
 -- What the handlers that form epochs tell and send, by their causes.
 use Rattle.std.proofs.Common.{◌≡◌, ◌≢◌, ◌≤◌, ◌<◌, ℕ, zero, suc, ◌+◌, ◌==◌, Bool, true, false, cond, ◌&&◌, not, List, [], ◌∷◌, map, filter, get_or, Option, Some, None, refl, sym, ◌∙◌, ap, subst, inl, arith}
 use Rattle.std.proofs.lemmas.Bool.Decides.{nat_tests}
+use Rattle.role_steps.proofs.of_plain_facts.Numbers.{equal_self}
 use Rattle.locus_ids.specs.Sites.{has}
 use Rattle.locus_ids.specs.declared.ids.EpochId.{EpochId}
 use Rattle.locus_ids.specs.declared.sites.Sites.{Sites}
@@ -25,10 +26,12 @@ use Rattle.role_steps.specs.declared.rounds.Promise.{Promise}
 use Rattle.role_steps.specs.declared.rounds.Round.{Round}
 use Rattle.role_steps.specs.declared.users.WaitingCall.{WaitingCall}
 use Rattle.role_steps.proofs.Sending.{every_append, every_cond, every_map, every_flat_map}
+use Rattle.role_steps.proofs.Counted.{CountsFrom, sites_count}
+use Rattle.role_steps.specs.Requests.{waiting_span}
 use Rattle.the_run.proofs.Boots.{every_weaker}
 use Rattle.row_laws.specs.Inward.{Inward, InwardPacket, RoleRecord, RoleTold, LooksInward, Indoors}
 use Rattle.row_laws.specs.Events.{IsOwnId, HasRound, ListsItself, IsShort, PromisesRise, Causes, SiteRecord, SiteTold, FormingFact, FormingPacket, RoundFact, ListIsShort, ViewForms, Forms}
-use Rattle.row_laws.proofs.SyncInward.{no_first, sync_plain}
+use Rattle.row_laws.proofs.Walks.{no_first, sync_plain}
 use Rattle.row_laws.proofs.Choosing.{boot_nowhere, decided, row_rises, passed_rise}
 
 -- ---- what roles do ----
@@ -149,10 +152,6 @@ begins_forms me boot k links number polled v l g none here h =
 
 -- ---- boot numbers of sites ----
 
-abbrev CountsFrom : ℕ → List ℕ → Type 0
-CountsFrom n [] = Unit {0}
-CountsFrom n (x ∷ xs) = (x ≡ n) × CountsFrom (n + 1) xs
-
 placed : (f : ℕ → ℕ) (n place : ℕ) (xs : List ℕ) → CountsFrom n xs → f (n + place) ≡ 0 → get_or (map f xs) place 0 ≡ 0
 placed f n place [] h z = refl
 placed f n zero (x ∷ xs) h z = ap f (h.0 ∙ plus_none n) ∙ z
@@ -167,19 +166,16 @@ placed f n (suc place) (x ∷ xs) h z = placed f (n + 1) place xs h.1 (ap f (nex
 -- a site that is given no boot number has none
 none_where : (f : ℕ → ℕ) (me : ℕ) → f me ≡ 0 → boot_in (boots_where f).boot me ≡ 0
 none_where f zero z = refl
-none_where f (suc place) z = placed f 1 place all_sites (refl, (refl, (refl, (refl, (refl, (refl, (refl, (refl, (refl, (refl, (refl, (refl, (refl, (refl, (refl, (refl, tt)))))))))))))))) (ap f (next place) ∙ z)
+none_where f (suc place) z = placed f 1 place all_sites sites_count (ap f (next place) ∙ z)
   where
     next : (n : ℕ) → 1 + n ≡ suc n
     next n = omega arith
 
-same_test : (a : ℕ) → (a == a) ≡ true
-same_test a = grind (arith, nat_tests)
-
 merge_none : (me : ℕ) (links : Links) → merge_boot me links me ≡ 0
-merge_none me links = rw (same_test me) refl
+merge_none me links = rw (equal_self me) refl
 
 part_none : (me : ℕ) (links : Links) (members : Members) → part_boot me links members me ≡ 0
-part_none me links members = rw (same_test me) refl
+part_none me links members = rw (equal_self me) refl
 
 cond_none : (b : Bool) (n : ℕ) → n ≡ 0 → cond b n 0 ≡ 0
 cond_none true n h = h
@@ -236,16 +232,16 @@ pub reports_inward : (f : Frame) (v : SiteView) → Every InwardPacket (all_repo
 reports_inward f v = every_flat_map InwardPacket (report_packets f v) v.reports (λ g. sync_plain f g (body.Report g (report_of g v.store.copies)) tt)
 
 -- groups that there may be
-groups_low : (c : Config) (me : ℕ) → Every (λ (g : ℕ). g < 16) (own_groups c me)
-groups_low c me = still_all (λ (g : ℕ). g < 16) (λ g. has (pack_sites c g) me) all_groups (omega arith, (omega arith, (omega arith, (omega arith, tt))))
+groups_low : (c : Config) (me : ℕ) → Every (λ (g : ℕ). g < waiting_span) (own_groups c me)
+groups_low c me = still_all (λ (g : ℕ). g < waiting_span) (λ g. has (pack_sites c g) me) all_groups (omega arith, (omega arith, (omega arith, (omega arith, tt))))
 
-tables_low : (gs : List ℕ) → Every (λ (g : ℕ). g < 16) gs → Every LooksInward (map new_table gs)
+tables_low : (gs : List ℕ) → Every (λ (g : ℕ). g < waiting_span) gs → Every LooksInward (map new_table gs)
 tables_low [] h = tt
 tables_low (g ∷ gs) h = ((tt, h.0), tables_low gs h.1)
 
 -- the tables of a new epoch
 pub joined_tables : (c : Config) (me : ℕ) (m : Members) → Every LooksInward (map new_table (filter (is_sync_site c me m) (own_groups c me)))
-joined_tables c me m = tables_low (filter (is_sync_site c me m) (own_groups c me)) (still_all (λ (g : ℕ). g < 16) (is_sync_site c me m) (own_groups c me) (groups_low c me))
+joined_tables c me m = tables_low (filter (is_sync_site c me m) (own_groups c me)) (still_all (λ (g : ℕ). g < waiting_span) (is_sync_site c me m) (own_groups c me) (groups_low c me))
 
 joins_forms : (me boot : ℕ) (k : Causes) (c : Config) (id : EpochId) (m : Members) (v : SiteView) → k.join m → IsShort m → v.boot ≡ boot → ViewForms me v → Forms me boot k (joins c me id m v)
 joins_forms me boot k c id m v j short here h = record {

@@ -1,6 +1,4 @@
-pub mod SyncInward
-pub mod RolesInward
-pub mod SitesInward
+pub mod Walks
 pub mod Choosing
 pub mod Forming
 pub mod StepForms
@@ -22,3 +20,6 @@ pub mod Voids
 pub mod Tales
 pub mod TalesKept
 pub mod Fitting
+pub use Rattle.lock_laws.proofs as of_lock_laws
+pub use Rattle.lock_laws.proofs.of_run_laws as of_run_laws
+pub use Rattle.lock_laws.proofs.of_vector_laws as of_vector_laws

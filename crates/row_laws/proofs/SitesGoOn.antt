@@ -1,6 +1,9 @@
 -- In every run a boot, a stop, a leave and a join come as they may after the records before them.
 use Rattle.std.proofs.Common.{◌≡◌, ℕ, ◌==◌, ◌⊎◌, Bool, true, false, cond, ◌||◌, ◌&&◌, List, [], ◌∷◌, ◌++◌, length, Option, Some, None, refl, ◌∙◌, ap, inl, inr, arith}
 use Rattle.std.proofs.lemmas.Bool.Decides.{nat_tests}
+use Rattle.role_steps.proofs.of_plain_facts.Numbers.{apart, equal}
+use Rattle.role_steps.proofs.of_plain_facts.Options.{none_some, some_same}
+use Rattle.role_steps.proofs.of_plain_facts.Tests.{both_true, false_true, or_either}
 use Rattle.locus_ids.specs.declared.ids.EpochId.{EpochId}
 use Rattle.locus_ids.specs.declared.sites.Members.{Members}
 use Rattle.locus_ids.specs.declared.config.Config.{Config}
@@ -14,9 +17,9 @@ use Rattle.the_run.specs.Joins.{Joined, OneList}
 use Rattle.the_run.specs.Worlds.{Line}
 use Rattle.the_run.specs.Runs.{run_in}
 use Rattle.the_run.proofs.OneList.{one_list}
-use Rattle.run_laws.specs.Standing.{GoesOn, EpochsGoOn, IsUp, StaysUp, joins_line, JoinsRise}
-use Rattle.run_laws.proofs.Rises.{run_joins_rise}
-use Rattle.vector_laws.specs.Written.{past_of}
+use Rattle.lock_laws.specs.of_run_laws.Standing.{GoesOn, EpochsGoOn, IsUp, StaysUp, joins_line, JoinsRise}
+use Rattle.lock_laws.proofs.of_run_laws.Rises.{run_joins_rise}
+use Rattle.lock_laws.specs.of_vector_laws.Written.{past_of}
 use Rattle.lock_laws.specs.Joins.{WasJoined, FirstJoin, JoinsAreOnce}
 use Rattle.lock_laws.proofs.JoinsRun.{run_joins_once}
 use Rattle.row_laws.specs.Shown.{with_told, shown, trace_of, EachRecord}
@@ -27,36 +30,11 @@ use Rattle.row_laws.proofs.AskedRun.{Courses, run_courses}
 
 -- ---- tests ----
 
-test_same : (a b : ℕ) → (a == b) ≡ true → a ≡ b
-test_same a b e = grind (arith, nat_tests)
-
-not_same : (a b : ℕ) → (a == b) ≡ false → a ≡ b → ⊥
-not_same a b e f = grind (arith, nat_tests)
-
 epoch_same : (a b : EpochId) → same_epoch a b ≡ true → a ≡ b
 epoch_same a b h = id_eq (grind (arith, nat_tests)) (grind (arith, nat_tests)) (grind (arith, nat_tests))
   where
     id_eq : a.number ≡ b.number → a.site ≡ b.site → a.boot ≡ b.boot → a ≡ b
     id_eq e f g = λ i. record { number = e i; site = f i; boot = g i }
-
-both_true : (a b : Bool) → (a && b) ≡ true → (a ≡ true) × (b ≡ true)
-both_true true true h = (refl, refl)
-both_true true false h = absurd (cc)
-both_true false true h = absurd (cc)
-both_true false false h = absurd (cc)
-
-one_true : (a b : Bool) → (a || b) ≡ true → (a ≡ true) ⊎ (b ≡ true)
-one_true true b h = inl refl
-one_true false b h = inr h
-
-none_some : {A : Type 0} (x : A) → ◌≡◌ {A = Option A} None (Some x) → ⊥
-none_some x e = cc
-
-some_same : {A : Type 0} (x y : A) → ◌≡◌ {A = Option A} (Some x) (Some y) → x ≡ y
-some_same x y e = cc
-
-never : false ≡ true → ⊥
-never e = cc
 
 -- ---- a join is new ----
 
@@ -64,10 +42,10 @@ abbrev Before : ℕ → EpochId → List Line → Type 0
 Before s id older = (m : Members) × WasJoined (past_of older) s id m
 
 record_joined : (s n : ℕ) (id : EpochId) (r : Record) (older : List Line) → (has_joined (shown older) s id ≡ true → Before s id older) → has_joined (record { line = n; what = r } ∷ shown older) s id ≡ true → Before s id (record { number = n; told = Shown r } ∷ older)
-record_joined s n id (says.Join t i m) older h e = by_test (one_true ((t == s) && same_epoch i id) (has_joined (shown older) s id) e)
+record_joined s n id (says.Join t i m) older h e = by_test (or_either ((t == s) && same_epoch i id) (has_joined (shown older) s id) e)
   where
     by_test : (((t == s) && same_epoch i id) ≡ true) ⊎ (has_joined (shown older) s id ≡ true) → Before s id (record { number = n; told = Shown (says.Join t i m) } ∷ older)
-    by_test (inl f) = let k : ((t == s) ≡ true) × (same_epoch i id ≡ true) = both_true (t == s) (same_epoch i id) f in (m, inl (test_same t s k.0, epoch_same i id k.1, refl))
+    by_test (inl f) = let k : ((t == s) ≡ true) × (same_epoch i id ≡ true) = both_true (t == s) (same_epoch i id) f in (m, inl (equal t s k.0, epoch_same i id k.1, refl))
     by_test (inr f) = let k : Before s id older = h f in (k.0, inr k.1)
 record_joined s n id _ older h e = let k : Before s id older = h e in (k.0, inr k.1)
 
@@ -76,7 +54,7 @@ told_joined s n id (Shown r) older h e = record_joined s n id r older h e
 told_joined s n id _ older h e = let k : Before s id older = h e in (k.0, inr k.1)
 
 joined_before : (s : ℕ) (id : EpochId) (trace : List Line) → has_joined (shown trace) s id ≡ true → Before s id trace
-joined_before s id [] e = absurd (never e)
+joined_before s id [] e = absurd (false_true e)
 joined_before s id (x ∷ older) e = told_joined s x.number id x.told older (joined_before s id older) e
 
 is_new : (s : ℕ) (id : EpochId) (older : List Line) → ((m : Members) → WasJoined (past_of older) s id m → ⊥) → has_joined (shown older) s id ≡ false
@@ -131,13 +109,13 @@ longer s id x older up h = record { number = h.number; members = h.members; betw
 record_last : (s n : ℕ) (r : Record) (older : List Line) → LastOf s older (last_joined (shown older) s) → LastOf s (record { number = n; told = Shown r } ∷ older) (last_joined (record { line = n; what = r } ∷ shown older) s)
 record_last s n (says.Join t i m) older h =
     (elim (t == s) as (λ b. (t == s) ≡ b → LastOf s (record { number = n; told = Shown (says.Join t i m) } ∷ older) (cond b (Some i) (last_joined (shown older) s))) [
-      | true ↦ λ e id f. record { number = n; members = m; between = []; older = older; split = (λ j. record { number = n; told = Shown (says.Join (test_same t s e j) (some_same i id f j) m) } ∷ older); stays = tt }
+      | true ↦ λ e id f. record { number = n; members = m; between = []; older = older; split = (λ j. record { number = n; told = Shown (says.Join (equal t s e j) (some_same i id f j) m) } ∷ older); stays = tt }
       | false ↦ λ e id f. longer s id (record { number = n; told = Shown (says.Join t i m) }) older (λ u. u) (h id f)
     ]) refl
 record_last s n (says.Up t boot) older h =
     (elim (t == s) as (λ b. (t == s) ≡ b → LastOf s (record { number = n; told = Shown (says.Up t boot) } ∷ older) (cond b None (last_joined (shown older) s))) [
       | true ↦ λ e id f. absurd (none_some id f)
-      | false ↦ λ e id f. longer s id (record { number = n; told = Shown (says.Up t boot) }) older (not_same t s e) (h id f)
+      | false ↦ λ e id f. longer s id (record { number = n; told = Shown (says.Up t boot) }) older (apart t s e) (h id f)
     ]) refl
 record_last s n r older h = λ id f. longer s id (record { number = n; told = Shown r }) older (λ u. u) (h id f)
 

@@ -2,7 +2,10 @@
 use Rattle.std.proofs.Common.{◌≡◌, ◌≤◌, ℕ, ◌+◌, ◌==◌, nat_lt, Bool, true, false, cond, ◌||◌, List, [], ◌∷◌, filter, map, Some, None, refl, sym, ◌∙◌, ap, subst, arith}
 use Rattle.std.proofs.lemmas.Bool.Decides.{nat_tests}
 use Rattle.std.specs.List.{list_any}
+use Rattle.role_steps.proofs.of_plain_facts.Numbers.{equal, equal_self}
+use Rattle.role_steps.proofs.of_plain_facts.Tests.{false_true}
 use Rattle.locus_ids.specs.declared.config.Config.{Config}
+use Rattle.locus_ids.specs.Sizes.{sites_max}
 use Rattle.schedule_lines.specs.Ranges.{is_site}
 use Rattle.wire_messages.specs.declared.packet.Packet.{Packet}
 use Rattle.role_steps.specs.Tables.{row}
@@ -15,12 +18,9 @@ use Rattle.the_run.specs.Kept.{Kept}
 use Rattle.the_run.proofs.Boots.{at_each}
 use Rattle.the_run.proofs.Events.{happened_keeps, acts_keeps, puts_other, puts_same}
 use Rattle.row_laws.specs.Voids.{HasPlaces}
-use Rattle.row_laws.proofs.Tracing.{test_own, any_number}
+use Rattle.row_laws.proofs.Tracing.{any_number}
 
 -- ---- the first world ----
-
-test_same : (a b : ℕ) → (a == b) ≡ true → a ≡ b
-test_same a b e = grind (arith, nat_tests)
 
 abbrev FoundIn : Config → ℕ → List ℕ → Type 0
 FoundIn c s xs = (p : Place) × (place_in (row place_site s (map (first_place c) xs)) ≡ Some p)
@@ -36,18 +36,15 @@ found_step c test s x xs here later =
       | false ↦ λ e. found_later c s x xs (test x) e (later e)
     ]) refl
 
-never : false ≡ true → ⊥
-never e = cc
-
 found_first : (c : Config) (test : ℕ → Bool) (s : ℕ) (xs : List ℕ) → list_any (λ t. t == s) xs ≡ true → test s ≡ true → FoundIn c s (filter test xs)
-found_first c test s [] h g = absurd (never h)
-found_first c test s (x ∷ xs) h g = found_step c test s x (filter test xs) (λ e. ap test (test_same x s e) ∙ g) (λ e. found_first c test s xs (ap (λ (b : Bool). b || list_any (λ t. t == s) xs) (sym e) ∙ h) g)
+found_first c test s [] h g = absurd (false_true h)
+found_first c test s (x ∷ xs) h g = found_step c test s x (filter test xs) (λ e. ap test (equal x s e) ∙ g) (λ e. found_first c test s xs (ap (λ (b : Bool). b || list_any (λ t. t == s) xs) (sym e) ∙ h) g)
 
-in_range : (n s : ℕ) → is_site n s ≡ true → (1 ≤ s) × (s ≤ 16) × (nat_lt s (n + 1) ≡ true)
+in_range : (n s : ℕ) → is_site n s ≡ true → (1 ≤ s) × (s ≤ sites_max) × (nat_lt s (n + 1) ≡ true)
 in_range n s h = (grind (arith, nat_tests), grind (arith, nat_tests), grind (arith, nat_tests))
 
 pub first_has : (c : Config) → HasPlaces c (first_world c)
-first_has c s h = let r : (1 ≤ s) × (s ≤ 16) × (nat_lt s (c.sites + 1) ≡ true) = in_range c.sites s h in found_first c (λ t. nat_lt t (c.sites + 1)) s all_sites (any_number (λ t. t == s) s 16 (test_own s) r.0 r.1) r.2
+first_has c s h = let r : (1 ≤ s) × (s ≤ sites_max) × (nat_lt s (c.sites + 1) ≡ true) = in_range c.sites s h in found_first c (λ t. nat_lt t (c.sites + 1)) s all_sites (any_number (λ t. t == s) s sites_max (equal_self s) r.0 r.1) r.2
 
 -- ---- every event and change ----
 

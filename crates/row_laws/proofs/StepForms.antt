@@ -1,6 +1,5 @@
 -- What an event of a site tells and sends, by the event.
 use Rattle.std.proofs.Common.{◌≡◌, ℕ, true, false, ◌++◌, Option, Some, None, refl, sym, subst, inl, inr}
-use Rattle.std.specs.List.{flat_map}
 use Rattle.locus_ids.specs.declared.sites.Links.{Links}
 use Rattle.locus_ids.specs.declared.sites.Members.{Members}
 use Rattle.locus_ids.specs.declared.config.Config.{Config}
@@ -9,25 +8,19 @@ use Rattle.wire_messages.specs.declared.packet.Packet.{Packet}
 use Rattle.wire_messages.specs.declared.body.Body.{Body}
 use Rattle.wire_messages.specs.declared.body.Body.TheVariants as body
 use Rattle.role_steps.specs.Own.{Every}
-use Rattle.role_steps.specs.Views.{Frame, SiteView, Outcome, Event, Calls, Receives, Ticks, Parts, Merges, GivesUp, quiet}
-use Rattle.role_steps.specs.Reports.{sync_repeats}
-use Rattle.role_steps.specs.Storage.{store_repeats}
-use Rattle.role_steps.specs.Pulling.{pull_repeats}
-use Rattle.role_steps.specs.Requests.{users_repeats}
-use Rattle.role_steps.specs.Epochs.{frame_in, leaves, starts_merge, starts_part, passes_over, all_reports, poll_repeats, install_packet, install_repeats}
+use Rattle.role_steps.specs.Views.{SiteView, Outcome, Event, Calls, Receives, Ticks, Parts, Merges, GivesUp, quiet}
+use Rattle.role_steps.specs.Epochs.{frame_in, leaves, starts_merge, starts_part, passes_over, poll_repeats, install_packet, install_repeats}
 use Rattle.role_steps.specs.declared.rounds.InEpoch.{InEpoch}
 use Rattle.role_steps.specs.declared.rounds.Round.{Round}
-use Rattle.role_steps.proofs.Sending.{every_append, every_map, every_flat_map}
+use Rattle.role_steps.proofs.Sending.{every_append, every_map}
 use Rattle.the_run.specs.Steps.{in_order, is_dropped, takes_framed, takes, tries_at, adopts_in, starts_mends_of, ends_event, whole, repeats_inside, repeats_of, repeats, call_frame, epoch_id, takes_call, step}
 use Rattle.the_run.proofs.Boots.{every_weaker}
 use Rattle.the_run.proofs.StepSends.{order_sent}
-use Rattle.run_laws.specs.Naming.{Deeds, ViewOk}
-use Rattle.row_laws.specs.Inward.{InwardPacket, RoleTold, LooksInward, Indoors}
+use Rattle.lock_laws.specs.of_run_laws.Naming.{Deeds, ViewOk}
+use Rattle.row_laws.specs.Inward.{RoleTold, LooksInward, Indoors}
 use Rattle.row_laws.specs.Events.{IsPoll, HasRound, ListsItself, IsShort, Causes, SiteTold, FormingFact, FormingPacket, Comes, RoundFact, ListIsShort, ViewForms, Forms, causes_of}
-use Rattle.row_laws.proofs.SyncInward.{no_first, sync_repeats_plain}
-use Rattle.row_laws.proofs.RolesInward.{store_repeats_plain, pull_repeats_plain, users_repeats_plain, on_call_rest}
-use Rattle.row_laws.proofs.SitesInward.{adopts_of_indoors, tries_indoors, mends_of_indoors, framed_indoors, quiet_indoors}
-use Rattle.row_laws.proofs.Forming.{IsIn, role_told, inward_polls, indoors_forms, quiet_forms, then_forms, leaves_of_forms, round_polls, starts_merge_forms, starts_part_forms, on_poll_forms, on_promise_forms, on_refuse_forms, reports_inward, on_install_forms, on_joined_forms, passes_over_forms}
+use Rattle.row_laws.proofs.Walks.{no_first, on_call_rest, inside_inward, adopts_of_indoors, tries_indoors, mends_of_indoors, framed_indoors, quiet_indoors}
+use Rattle.row_laws.proofs.Forming.{IsIn, role_told, inward_polls, indoors_forms, quiet_forms, then_forms, leaves_of_forms, round_polls, starts_merge_forms, starts_part_forms, on_poll_forms, on_promise_forms, on_refuse_forms, on_install_forms, on_joined_forms, passes_over_forms}
 
 -- ---- a round finds the site in no epoch ----
 
@@ -60,14 +53,6 @@ whole_forms me boot k c links o tries j h t =
     }
 
 -- ---- a tick ----
-
-inside_inward : (f : Frame) (e : InEpoch) (v : SiteView) → Every InwardPacket (repeats_inside f e v)
-inside_inward f e v =
-    every_append InwardPacket (in_order (all_reports f v)) _ (order_sent InwardPacket (all_reports f v) (reports_inward f v))
-    (every_append InwardPacket (users_repeats f v.users) _ (users_repeats_plain f v.users)
-    (every_append InwardPacket (in_order (store_repeats f v.store)) _ (order_sent InwardPacket (store_repeats f v.store) (store_repeats_plain f v.store))
-    (every_append InwardPacket (in_order (pull_repeats f v.pulls)) _ (order_sent InwardPacket (pull_repeats f v.pulls) (pull_repeats_plain f v.pulls))
-    (order_sent InwardPacket (flat_map (sync_repeats f) v.tables) (every_flat_map InwardPacket (sync_repeats f) v.tables (sync_repeats_plain f))))))
 
 polls_again : (me : ℕ) (v : SiteView) (o : Option Round) → v.round ≡ o → ViewForms me v → Every FormingPacket (poll_repeats me v o)
 polls_again me v None e h = tt

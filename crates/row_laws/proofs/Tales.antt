@@ -1,11 +1,13 @@
 -- What the lines of a trace tell, record by record.
 use Rattle.std.proofs.Common.{◌≡◌, ◌≢◌, ◌≤◌, ◌<◌, ℕ, ◌+◌, ◌==◌, nat_le, Bool, true, false, cond, ◌||◌, ◌&&◌, not, List, [], ◌∷◌, length, take, filter, Option, Some, None, refl, sym, ◌∙◌, ap, subst, arith, ◌⊎◌, inl, inr}
 use Rattle.std.proofs.lemmas.Bool.Decides.{nat_tests}
+use Rattle.role_steps.proofs.of_plain_facts.Numbers.{apart_test, equal_self}
+use Rattle.role_steps.proofs.of_plain_facts.Tests.{or_true}
 use Rattle.schedule_lines.specs.declared.line.Line.{Line as LineWords}
 use Rattle.schedule_lines.specs.declared.line.Line.TheVariants as line
 use Rattle.schedule_lines.specs.declared.line.ScheduleLine.{ScheduleLine}
 use Rattle.schedule_lines.specs.declared.line.ScheduleLine.TheVariants.{Passed, Header, Event as EventLine}
-use Rattle.trace_book.specs.declared.book.Entry.{Entry}
+use Rattle.trace_book.specs.declared.entry.Entry.{Entry}
 use Rattle.trace_book.specs.declared.record.Record.{Record}
 use Rattle.trace_book.specs.declared.record.Record.TheVariants as says
 use Rattle.wire_messages.specs.declared.packet.Packet.{Packet}
@@ -20,14 +22,14 @@ use Rattle.row_laws.specs.Shown.{with_told, shown, trace_of}
 use Rattle.row_laws.specs.ByLine.{IsLine, begins_quietly}
 use Rattle.row_laws.specs.Course.{Ascends, InCourse}
 use Rattle.row_laws.specs.Tales.{LineTold, ToldTo, TalesTold}
-use Rattle.row_laws.proofs.Tracing.{test_own, test_other, before_told}
+use Rattle.row_laws.proofs.Tracing.{before_told}
 use Rattle.row_laws.proofs.Voids.{NoVoid, NoVoidRecord, void_now}
 
 -- ---- how many records ----
 
 -- of another line
 many_other : (p : Record → Bool) (k m : ℕ) (x : Told) (now : Trace) → k ≢ m → how_many p m (with_told k x now) ≡ how_many p m now
-many_other p k m (Shown r) now ne = ap (λ (b : Bool). length (cond (b && p r) (record { line = k; what = r } ∷ filter (λ (q : Entry). (q.line == m) && p q.what) now) (filter (λ (q : Entry). (q.line == m) && p q.what) now))) (test_other k m ne)
+many_other p k m (Shown r) now ne = ap (λ (b : Bool). length (cond (b && p r) (record { line = k; what = r } ∷ filter (λ (q : Entry). (q.line == m) && p q.what) now) (filter (λ (q : Entry). (q.line == m) && p q.what) now))) (apart_test k m ne)
 many_other p k m _ now ne = refl
 
 -- what the test doesn't pass
@@ -52,7 +54,7 @@ one_length x xs = omega arith
 
 pub many_one : (p : Record → Bool) (m : ℕ) (r : Record) (now : Trace) → p r ≡ true → how_many p m (record { line = m; what = r } ∷ now) ≡ how_many p m now + 1
 many_one p m r now h =
-    ap (λ (b : Bool). length (cond b (record { line = m; what = r } ∷ filter (λ (q : Entry). (q.line == m) && p q.what) now) (filter (λ (q : Entry). (q.line == m) && p q.what) now))) (ap (λ (b : Bool). (m == m) && b) h ∙ ap (λ (b : Bool). b && true) (test_own m))
+    ap (λ (b : Bool). length (cond b (record { line = m; what = r } ∷ filter (λ (q : Entry). (q.line == m) && p q.what) now) (filter (λ (q : Entry). (q.line == m) && p q.what) now))) (ap (λ (b : Bool). (m == m) && b) h ∙ ap (λ (b : Bool). b && true) (equal_self m))
     ∙ one_length (record { line = m; what = r }) (filter (λ (q : Entry). (q.line == m) && p q.what) now)
 
 -- none of a line that hasn't begun
@@ -142,10 +144,6 @@ pub silent_told : (lines : List ScheduleLine) (n : ℕ) (l : LineWords) (told : 
 silent_told lines n l told w is f none must =
     by_words lines (n + 1) l (has_no_effect (take n lines) (trace_of w) l) (Some false) (shown (told_onto (n + 1) told w.trace)) is (void_here lines n l told w is f) none
     (ap (λ (b : Bool). not b || (how_many (tale l) (n + 1) (shown (told_onto (n + 1) told w.trace)) == 1)) must)
-
-or_true : (b : Bool) → (b || true) ≡ true
-or_true true = refl
-or_true false = refl
 
 -- a line that isn't void, and tells what it must, first
 pub tale_told : (lines : List ScheduleLine) (n : ℕ) (l : LineWords) (r : Record) (rest : List Told) (w : World) → IsLine lines (n + 1) l → InCourse lines n w → has_no_effect (take n lines) (trace_of w) l ≡ Some false → tale l r ≡ true → Every (Passes (tale l) false) rest → is_told lines (shown (told_onto (n + 1) (Shown r ∷ rest) w.trace)) (n + 1) ≡ true

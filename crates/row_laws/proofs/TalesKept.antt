@@ -2,6 +2,8 @@
 use Rattle.std.proofs.Common.{◌≡◌, ◌≤◌, ◌<◌, ℕ, zero, suc, ◌+◌, ◌==◌, Bool, true, false, cond, ◌||◌, not, List, [], ◌∷◌, ◌++◌, length, take, map, Option, Some, None, refl, sym, ◌∙◌, ap, subst, arith}
 use Rattle.std.proofs.lemmas.Bool.Decides.{nat_tests}
 use Rattle.std.specs.Option.{is_none, is_some}
+use Rattle.role_steps.proofs.of_plain_facts.Numbers.{equal_self}
+use Rattle.role_steps.proofs.of_plain_facts.Tests.{false_true}
 use Rattle.locus_ids.specs.declared.config.Config.{Config}
 use Rattle.locus_ids.specs.declared.sites.Links.{Links}
 use Rattle.schedule_lines.specs.declared.line.Line.{Line as LineWords}
@@ -12,22 +14,21 @@ use Rattle.trace_book.specs.declared.record.Record.{Record}
 use Rattle.trace_book.specs.declared.record.Record.TheVariants as says
 use Rattle.trace_book.specs.declared.record.StopCause.TheVariants as cause
 use Rattle.role_steps.specs.Own.{Every}
-use Rattle.role_steps.specs.Views.{SiteView, Told, Shown, DiskWrite, Outcome, Event, Calls, Receives, Ticks, Parts, Merges, GivesUp, first_written}
+use Rattle.role_steps.specs.Views.{SiteView, Told, Shown, DiskWrite, Outcome, Event, Calls, Receives, Ticks, Parts, Merges, GivesUp}
 use Rattle.role_steps.specs.Using.{reply_record}
 use Rattle.role_steps.specs.Epochs.{leaves_of}
 use Rattle.role_steps.specs.declared.rounds.InEpoch.{InEpoch}
 use Rattle.role_steps.specs.declared.users.WaitingCall.{WaitingCall}
 use Rattle.role_steps.proofs.Sending.{every_append, every_map}
-use Rattle.tree_model.specs.Folds.{Trace}
 use Rattle.tree_model.specs.Epochs.{is_up, epoch_of}
 use Rattle.the_run.specs.Disks.{Booted, Whole, CutOff, boots, is_on_disk, cut_disk}
 use Rattle.the_run.specs.Steps.{epoch_id, ends_event, whole, step}
 use Rattle.the_run.specs.Worlds.{World, Running, Stopped, place_at, links_of, script_of, told_onto, puts, arms, passed, stops_with, cut_told, cause_of, acts_of, acts, disk_of}
 use Rattle.the_run.specs.Runs.{is_in_no_epoch, boots_as, packet_record, run_in}
 use Rattle.the_run.proofs.Boots.{acts_cases, every_weaker}
-use Rattle.run_laws.specs.Naming.{DeedsOf, Good}
-use Rattle.vector_laws.specs.Held.{Untouched}
-use Rattle.vector_laws.proofs.SiteDisks.{ends_keeps}
+use Rattle.lock_laws.specs.of_run_laws.Naming.{DeedsOf, Good}
+use Rattle.lock_laws.specs.of_vector_laws.Held.{Untouched}
+use Rattle.lock_laws.proofs.of_vector_laws.SiteDisks.{ends_keeps}
 use Rattle.lawful_trace.specs.Places.{line_at}
 use Rattle.lawful_trace.specs.LineRows.{is_apart, has_no_effect, tale, must_tell, is_told}
 use Rattle.row_laws.specs.Shown.{shown, trace_of}
@@ -36,11 +37,10 @@ use Rattle.row_laws.specs.Events.{Causes, SiteRecord, SiteTold, Comes, Forms, ca
 use Rattle.row_laws.specs.ByLine.{IsLine, begins_quietly, Gives, Delivers, ArmsAs, KeptIn}
 use Rattle.row_laws.specs.Course.{InCourse}
 use Rattle.row_laws.specs.Voids.{LinesFit, is_call}
-use Rattle.row_laws.specs.Tales.{LineTold, ToldTo, TalesTold}
-use Rattle.row_laws.proofs.SyncInward.{served_role}
+use Rattle.row_laws.specs.Tales.{ToldTo, TalesTold}
+use Rattle.row_laws.proofs.Walks.{served_role}
 use Rattle.row_laws.proofs.Forming.{role_told, leaves_of_forms}
 use Rattle.row_laws.proofs.StepForms.{step_forms, ends_forms}
-use Rattle.row_laws.proofs.Tracing.{test_own}
 use Rattle.row_laws.proofs.Causes.{epoch_here, sent_polls}
 use Rattle.row_laws.proofs.Voids.{NoVoid, NoVoidRecord, site_told, site_all, void_says, Voids, voids_kept, first_voids}
 use Rattle.row_laws.proofs.Tales.{Passes, told_to_onto, told_to_next, voids_told, silent_told, tale_told, quiet_told, course_told, happened_tales}
@@ -57,12 +57,6 @@ next_told : (lines : List ScheduleLine) (n : ℕ) (told : List Told) (w : World)
 next_told lines n told w t here none = told_to_next lines n (shown (told_onto (n + 1) told w.trace)) (told_to_onto lines n (n + 1) told w.trace (omega arith) (t none)) here
 
 -- ---- in the course of a line ----
-
-same_or : (m n : ℕ) → m ≤ n → ((m ≡ n → ⊥) → m < n)
-same_or m n h ne = omega (arith, h, ne)
-
-before_to : (lines : List ScheduleLine) (n : ℕ) (now : Trace) → ToldTo lines n now → (m : ℕ) → 1 ≤ m → m < n → LineTold lines now m
-before_to lines n now t m low high = t m low (omega (arith, high))
 
 course_to : (lines : List ScheduleLine) (n : ℕ) (l : LineWords) (told : List Told) (w : World) → IsLine lines n l → begins_quietly (EventLine l) ≡ true → Every NoVoid told → 1 ≤ n → ToldTo lines n (trace_of w) → ToldTo lines n (shown (told_onto n told w.trace))
 course_to lines n l told w is q h one t m low high none =
@@ -89,7 +83,7 @@ acts_tales lines m s k v o w h t =
     acts_cases (TalesTold lines m) m s v o w
     (happened_tales lines m o.sent o.told (λ now. puts s (Running o.view) now) w (t o.told all))
     (λ a. happened_tales lines m o.sent o.told (λ now. puts s (Running o.view) (arms a now)) w (t o.told all))
-    (λ d a e. happened_tales lines m [] (cut_told s d a.how a.left) (stops_with s (cut_disk v.boot v.store d a.how a.left)) w (t (cut_told s d a.how a.left) (cut_none d a.how (is_on_disk d a.how a.left) (site_told s k (Shown d.says) (role_told s k (Shown d.says) (served_role d.says (subst RoleWrite e h.written)))))))
+    (λ d a e. happened_tales lines m [] (cut_told s v.store d a.how a.left) (stops_with s (cut_disk v.boot v.store d a.how a.left)) w (t (cut_told s v.store d a.how a.left) (cut_none d a.how (is_on_disk v.store d a.how a.left) (site_told s k (Shown d.says) (role_told s k (Shown d.says) (served_role d.says (subst RoleWrite e h.written)))))))
   where
     all : Every NoVoid o.told
     all = site_all s k o.told h.told
@@ -103,11 +97,8 @@ acts_tales lines m s k v o w h t =
 some_false : (b : Bool) → b ≡ true → ◌≡◌ {A = Option Bool} (Some (not b)) (Some false)
 some_false b e = ap (λ (x : Bool). Some (not x)) e
 
-never : false ≡ true → ⊥
-never e = cc
-
 some_here : (o : Option InEpoch) → not (is_some o) ≡ false → is_none (epoch_id o) ≡ false
-some_here None e = absurd (never (sym e))
+some_here None e = absurd (false_true (sym e))
 some_here (Some x) e = refl
 
 not_apart : (lines : List ScheduleLine) (n s : ℕ) (v : SiteView) (w : World) → place_at w s ≡ Some (Running v) → is_in_no_epoch (place_at w s) ≡ false → Good w → InCourse lines n w → is_apart (trace_of w) s ≡ false
@@ -128,9 +119,6 @@ no_leave : (s site : ℕ) (x : Told) → SiteTold s no_causes x → Passes (tale
 no_leave s site (Shown r) h = no_leave_record s site r h
 no_leave s site _ h = tt
 
-none_first : (a b : Option DiskWrite) → a ≡ None → b ≡ None → first_written a b ≡ None
-none_first a b e f = ap (λ (x : Option DiskWrite). first_written x b) e ∙ f
-
 -- it writes nothing, and tells of one leave, first
 record Leaves (s : ℕ) (o : Outcome SiteView) : Type 0 where
   first : Record
@@ -141,7 +129,7 @@ record Leaves (s : ℕ) (o : Outcome SiteView) : Type 0 where
   none : o.written ≡ None
 
 gives_up : (c : Config) (s : ℕ) (links : Links) (v : SiteView) (o : Option InEpoch) → v.epoch ≡ o → is_some o ≡ true → Forms s v.boot (causes_of s links v GivesUp) (leaves_of s o v) → Leaves s (whole c s links (leaves_of s o v) (λ now. record { view = now; sent = []; told = []; written = None }))
-gives_up c s links v None e inside h = absurd (never inside)
+gives_up c s links v None e inside h = absurd (false_true inside)
 gives_up c s links v (Some x) e inside h =
     let left : SiteView = (leaves_of s (Some x) v).view in
     let last : Outcome SiteView = ends_event c s links left in
@@ -150,7 +138,7 @@ gives_up c s links v (Some x) e inside h =
       first = says.Leave s x.id;
       rest = map (λ (w : WaitingCall). reply_record s v.boot w _) v.users.waiting ++ last.told;
       told_is = refl;
-      leaves_so = test_own s;
+      leaves_so = equal_self s;
       others = every_append (Passes (tale (line.GiveUp s)) false) (map (λ (w : WaitingCall). reply_record s v.boot w _) v.users.waiting) last.told
           (every_map (Passes (tale (line.GiveUp s)) false) (λ (w : WaitingCall). reply_record s v.boot w _) v.users.waiting (λ w. refl))
           (every_weaker (SiteTold s no_causes) (Passes (tale (line.GiveUp s)) false) last.told (no_leave s s) (ends_forms s v.boot no_causes c links left (λ m j short. tt) h.boot_is h.view).told);
@@ -158,7 +146,7 @@ gives_up c s links v (Some x) e inside h =
     }
 
 left_some : (o : Option InEpoch) → not (is_some o) ≡ false → is_some o ≡ true
-left_some None e = absurd (never (sym e))
+left_some None e = absurd (false_true (sym e))
 left_some (Some x) e = refl
 
 give_tales : (c : Config) (lines : List ScheduleLine) (n s : ℕ) (v : SiteView) (w : World) → IsLine lines (n + 1) (line.GiveUp s) → place_at w s ≡ Some (Running v) → is_in_no_epoch (place_at w s) ≡ false → TalesOf c lines n w → TalesTold lines (n + 1) (acts (n + 1) s v (step c s (links_of w s) v GivesUp) w)
@@ -184,7 +172,7 @@ silent_tales c lines n s l e v w comes is none must here p =
 call_tales : (c : Config) (lines : List ScheduleLine) (n s : ℕ) (l : LineWords) (e : Event) (v : SiteView) (w : World) → Comes e → IsLine lines (n + 1) l → is_call (EventLine l) ≡ true → place_at w s ≡ Some (Running v) → TalesOf c lines n w → TalesTold lines (n + 1) (acts (n + 1) s v (step c s (links_of w s) v e) w)
 call_tales c lines n s l e v w comes is call here p =
     acts_tales lines (n + 1) s (causes_of s (links_of w s) v e) v (step c s (links_of w s) v e) w (step_forms (DeedsOf w.trace s) s c (links_of w s) v e (p.voids.courses.good.views s v here) (p.voids.courses.course.places s (Running v) here).2 comes)
-    (λ told h. next_told lines n told w p.tales (λ q. absurd (never (sym q ∙ (ap is_call is ∙ call)))))
+    (λ told h. next_told lines n told w p.tales (λ q. absurd (false_true (sym q ∙ (ap is_call is ∙ call)))))
 
 step_tales : (c : Config) (lines : List ScheduleLine) (n s : ℕ) (l : LineWords) (e : Event) (v : SiteView) (w : World) → IsLine lines (n + 1) l → Gives w l s e → place_at w s ≡ Some (Running v) → TalesOf c lines n w → TalesTold lines (n + 1) (acts (n + 1) s v (step c s (links_of w s) v e) w)
 step_tales c lines n s (line.Call site process words) (Calls p x) v w is g here q = call_tales c lines n s (line.Call site process words) (Calls p x) v w tt is refl here q
@@ -200,14 +188,11 @@ step_tales c lines n s _ _ v w is g here q = absurd g
 
 booted_tales : (c : Config) (lines : List ScheduleLine) (n s : ℕ) (b : Booted) (w : World) → IsLine lines (n + 1) (line.Boot s) → is_up (trace_of w) s ≡ false → TalesOf c lines n w → TalesTold lines (n + 1) (boots_as (n + 1) s b w)
 booted_tales c lines n s (Whole d a) w is down p =
-    happened_tales lines (n + 1) [] (Shown (says.Up s d.label.boot) ∷ []) _ w (next_told lines n (Shown (says.Up s d.label.boot) ∷ []) w p.tales (λ q. tale_told lines n (line.Boot s) (says.Up s d.label.boot) [] w is p.voids.courses.course (ap Some down) (test_own s) tt))
+    happened_tales lines (n + 1) [] (Shown (says.Up s d.label.boot) ∷ []) _ w (next_told lines n (Shown (says.Up s d.label.boot) ∷ []) w p.tales (λ q. tale_told lines n (line.Boot s) (says.Up s d.label.boot) [] w is p.voids.courses.course (ap Some down) (equal_self s) tt))
 booted_tales c lines n s (CutOff d how) w is down p =
-    happened_tales lines (n + 1) [] (Shown (says.Stopped s (cause_of how)) ∷ []) (stops_with s d) w (next_told lines n (Shown (says.Stopped s (cause_of how)) ∷ []) w p.tales (λ q. tale_told lines n (line.Boot s) (says.Stopped s (cause_of how)) [] w is p.voids.courses.course (ap Some down) (test_own s) tt))
+    happened_tales lines (n + 1) [] (Shown (says.Stopped s (cause_of how)) ∷ []) (stops_with s d) w (next_told lines n (Shown (says.Stopped s (cause_of how)) ∷ []) w p.tales (λ q. tale_told lines n (line.Boot s) (says.Stopped s (cause_of how)) [] w is p.voids.courses.course (ap Some down) (equal_self s) tt))
 
 -- ---- every event and change ----
-
-one_of : (n : ℕ) → n < n + 1
-one_of n = omega arith
 
 arming_silent : (c : Config) (lines : List ScheduleLine) (n : ℕ) (l : LineWords) (a : _) (w : World) → IsLine lines (n + 1) l → ArmsAs l a → TalesOf c lines n w → is_told lines (trace_of w) (n + 1) ≡ true
 arming_silent c lines n (line.ArmStop site calls left) a w is so p = silent_told lines n (line.ArmStop site calls left) [] w is p.voids.courses.course refl refl
@@ -276,7 +261,7 @@ tales_kept c lines fit = record {
   stopping = λ n s v w there is here p. record {
     voids = kept.stopping n s v w there is here p.voids;
     tales = happened_tales lines (n + 1) [] (Shown (says.Stopped s cause.Asked) ∷ []) (stops_with s (disk_of v)) w (next_told lines n (Shown (says.Stopped s cause.Asked) ∷ []) w p.tales
-        (λ q. tale_told lines n (line.Stop s) (says.Stopped s cause.Asked) [] w is p.voids.courses.course (some_false (is_up (trace_of w) s) (p.voids.courses.course.places s (Running v) here).0) (test_own s) tt));
+        (λ q. tale_told lines n (line.Stop s) (says.Stopped s cause.Asked) [] w is p.voids.courses.course (some_false (is_up (trace_of w) s) (p.voids.courses.course.places s (Running v) here).0) (equal_self s) tt));
   };
   booting = λ n s d w there is here p. record { voids = kept.booting n s d w there is here p.voids; tales = booted_tales c lines n s (boots (script_of w s) d) w is (p.voids.courses.course.places s (Stopped d) here).0 p };
 }

@@ -2,6 +2,7 @@
 use Rattle.std.proofs.Common.{◌≡◌, ◌≢◌, ◌≤◌, ◌<◌, ℕ, zero, suc, ◌+◌, ◌-◌, ◌==◌, ◌⊎◌, nat_lt, Bool, true, false, cond, ◌||◌, not, List, [], ◌∷◌, Option, Some, refl, sym, ◌∙◌, ap, subst, inl, inr, arith}
 use Rattle.std.proofs.lemmas.Bool.Decides.{nat_tests}
 use Rattle.std.specs.List.{list_any}
+use Rattle.role_steps.proofs.of_plain_facts.Numbers.{apart_test, less_test, not_less_test}
 use Rattle.locus_ids.specs.declared.ids.EpochId.{EpochId}
 use Rattle.commit_graph.specs.Vectors.{numbers_from}
 use Rattle.trace_book.specs.declared.call.Call.{Call}
@@ -14,7 +15,7 @@ use Rattle.tree_model.specs.Epochs.{is_up, boot_of}
 use Rattle.role_steps.specs.Own.{Every}
 use Rattle.role_steps.specs.Views.{Told, Shown, Promises}
 use Rattle.the_run.specs.Worlds.{Line, told_onto}
-use Rattle.run_laws.specs.Naming.{Promised, IsDeed, Has}
+use Rattle.lock_laws.specs.of_run_laws.Naming.{Promised, IsDeed, Has}
 use Rattle.lawful_trace.specs.Places.{line_at, initiator, starts_at}
 use Rattle.lawful_trace.specs.SiteRows.{makes_leave, is_another, was_polled}
 use Rattle.lawful_trace.specs.CallRows.{CallLine}
@@ -25,30 +26,15 @@ use Rattle.row_laws.specs.Course.{Started, Polled, HasItself, AskedHere, UpRecor
 
 -- ---- tests ----
 
-pub not_less : (a b : ℕ) → b ≤ a → nat_lt a b ≡ false
-not_less a b h = grind (arith, nat_tests)
-
-pub is_less : (a b : ℕ) → a < b → nat_lt a b ≡ true
-is_less a b h = grind (arith, nat_tests)
-
-pub test_own : (a : ℕ) → (a == a) ≡ true
-test_own a = grind (arith, nat_tests)
-
-pub test_other : (a b : ℕ) → a ≢ b → (a == b) ≡ false
-test_other a b ne = (elim (a == b) as (λ t. (a == b) ≡ t → t ≡ false) [ true ↦ λ e. absurd (ne (is_same e)) | false ↦ λ e. refl ]) refl
-  where
-    is_same : (a == b) ≡ true → a ≡ b
-    is_same e = grind (arith, nat_tests)
-
 -- ---- the records before a line ----
 
 -- what is told in a line leaves the records before that line, and before all earlier ones
 pub before_told : (k m : ℕ) (x : Told) (now : Trace) → m ≤ k → before_line (with_told k x now) m ≡ before_line now m
-before_told k m (Shown r) now h = ap (λ (b : Bool). cond b (record { line = k; what = r } ∷ now) (before_line now m)) (not_less k m h)
+before_told k m (Shown r) now h = ap (λ (b : Bool). cond b (record { line = k; what = r } ∷ now) (before_line now m)) (not_less_test k m h)
 before_told k m _ now h = refl
 
 told_before : (k m : ℕ) (x : Told) (now : Trace) → k < m → before_line now m ≡ now → before_line (with_told k x now) m ≡ with_told k x now
-told_before k m (Shown r) now h e = ap (λ (b : Bool). cond b (record { line = k; what = r } ∷ now) (before_line now m)) (is_less k m h)
+told_before k m (Shown r) now h e = ap (λ (b : Bool). cond b (record { line = k; what = r } ∷ now) (before_line now m)) (less_test k m h)
 told_before k m _ now h e = e
 
 pub before_all : (n m : ℕ) (trace : List Line) → Ascends n trace → n < m → before_line (shown trace) m ≡ shown trace
@@ -156,7 +142,7 @@ caused_told lines m s k x now h g = record {
 -- ---- a leave ----
 
 some_another : (o : Option ℕ) (by site : ℕ) → o ≡ Some by → by ≢ site → is_another o site ≡ true
-some_another o by site e ne = ap (λ (x : Option ℕ). is_another x site) e ∙ ap not (test_other by site ne)
+some_another o by site e ne = ap (λ (x : Option ℕ). is_another x site) e ∙ ap not (apart_test by site ne)
 
 pub either_true : (a b : Bool) → (a ≡ true) ⊎ (b ≡ true) → (a || b) ≡ true
 either_true true b h = refl

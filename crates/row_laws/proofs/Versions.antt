@@ -1,6 +1,8 @@
 -- Armed disks through an event of a site that tells of a version, or of none.
 use Rattle.std.proofs.Common.{◌≡◌, ◌≢◌, ◌≤◌, ℕ, ◌+◌, ◌*◌, ◌==◌, Bool, true, cond, List, [], ◌∷◌, ◌++◌, Option, Some, None, refl, sym, ◌∙◌, ap, subst, arith}
 use Rattle.std.proofs.lemmas.Bool.{le-leb}
+use Rattle.role_steps.proofs.of_plain_facts.Numbers.{apart_test, equal_self}
+use Rattle.role_steps.proofs.of_plain_facts.Tests.{and_true}
 use Rattle.locus_ids.specs.declared.config.Config.{Config}
 use Rattle.trace_book.specs.declared.record.Record.{Record}
 use Rattle.trace_book.specs.declared.record.Record.TheVariants as says
@@ -15,13 +17,12 @@ use Rattle.the_run.specs.Disks.{Armed as Script}
 use Rattle.the_run.specs.Worlds.{World, Line, armed_site, script_of, happened, told_onto}
 use Rattle.the_run.proofs.Boots.{at_each}
 use Rattle.the_run.proofs.Events.{happened_keeps}
-use Rattle.vector_laws.specs.Held.{IsOf}
+use Rattle.lock_laws.specs.of_vector_laws.Held.{IsOf}
 use Rattle.lawful_trace.specs.Disks.{calls_of, Armed, Disk, Writing, written_with, writing_commit, writing_adoption, disk_after, disk_at, armed_at, writer_of, is_within_calls, fits_calls, all_fit_calls, keeps_calls}
 use Rattle.row_laws.specs.Shown.{shown, EachRecord}
 use Rattle.row_laws.specs.Rows.{IsArmedFor}
 use Rattle.row_laws.specs.Arms.{NoDisk, SameKind, ArmedAs, Rises, ArmsInCourse}
-use Rattle.row_laws.proofs.Tracing.{test_own, test_other}
-use Rattle.row_laws.proofs.ArmsTraced.{disk_more, quiet_onto, both, calls_any, onto_calls, onto_armed}
+use Rattle.row_laws.proofs.ArmsTraced.{disk_more, quiet_onto, calls_any, onto_calls, onto_armed}
 
 -- ---- one event ----
 
@@ -92,10 +93,10 @@ pub record Version (c : Config) (s : ℕ) (r : Record) : Type 0 where
   pub row : (lines : List ScheduleLine) (m : ℕ) (now : Trace) → IsArmedFor c lines now (record { line = m; what = r })
 
 here_cond : (s t : ℕ) (a d : Disk) → t ≡ s → cond (t == s) a d ≡ a
-here_cond s t a d h = ap (λ (b : Bool). cond b a d) (ap (λ (u : ℕ). u == s) h ∙ test_own s)
+here_cond s t a d h = ap (λ (b : Bool). cond b a d) (ap (λ (u : ℕ). u == s) h ∙ equal_self s)
 
 there_cond : (s t u : ℕ) (a d : Disk) → u ≡ s → s ≢ t → cond (u == t) a d ≡ d
-there_cond s t u a d h ne = ap (λ (b : Bool). cond b a d) (ap (λ (v : ℕ). v == t) h ∙ test_other s t ne)
+there_cond s t u a d h ne = ap (λ (b : Bool). cond b a d) (ap (λ (v : ℕ). v == t) h ∙ apart_test s t ne)
 
 pub a_version : (c : Config) (s : ℕ) (r : Record) → VersionOf s r → Version c s r
 a_version c s (says.Commit f t stamp parents content) h = record {
@@ -144,7 +145,7 @@ version_armed c lines m s t r now old new v mine others h = at_each s t (ArmedAs
 
 version_calls : (c : Config) (lines : List ScheduleLine) (m s : ℕ) (r : Record) (now : Trace) (new : Option Script) → Version c s r → ArmedAs (armed_at c lines (record { line = m; what = r } ∷ now) m s) new → keeps_calls c lines now ≡ true → keeps_calls c lines (record { line = m; what = r } ∷ now) ≡ true
 version_calls c lines m s r now new v h calls =
-    both (fits_calls c lines None (record { line = m; what = r } ∷ now) (writer_of r)) (all_fit_calls c lines (Some r) now)
+    and_true (fits_calls c lines None (record { line = m; what = r } ∷ now) (writer_of r)) (all_fit_calls c lines (Some r) now)
     (ap (fits_calls c lines None (record { line = m; what = r } ∷ now)) v.writer ∙ (ap (λ (d : Disk). is_within_calls d.armed) (sym (disk_more c lines m s r now)) ∙ within_of (armed_at c lines (record { line = m; what = r } ∷ now) m s) new h))
     (calls_any c lines (Some r) now calls)
 

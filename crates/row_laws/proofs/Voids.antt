@@ -1,6 +1,7 @@
 -- In every run whose lines fit the cluster, a line that tells that it is void is so, where it isn't a call.
 use Rattle.std.proofs.Common.{◌≡◌, ◌<◌, ℕ, ◌+◌, ◌-◌, Bool, true, false, cond, ◌||◌, not, List, [], ◌∷◌, length, take, map, Option, Some, None, refl, sym, ◌∙◌, ap, subst, arith}
 use Rattle.std.specs.Option.{is_none, is_some}
+use Rattle.role_steps.proofs.of_plain_facts.Tests.{false_true, true_false}
 use Rattle.locus_ids.specs.declared.config.Config.{Config}
 use Rattle.schedule_lines.specs.Ranges.{fits_event}
 use Rattle.schedule_lines.specs.declared.line.Line.{Line as LineWords}
@@ -25,7 +26,7 @@ use Rattle.the_run.specs.Runs.{is_stopped, is_in_no_epoch, boots_as, packet_reco
 use Rattle.the_run.specs.Kept.{Kept}
 use Rattle.the_run.proofs.Boots.{acts_cases}
 use Rattle.the_run.proofs.Events.{happened_keeps}
-use Rattle.run_laws.specs.Naming.{DeedsOf, Good}
+use Rattle.lock_laws.specs.of_run_laws.Naming.{DeedsOf, Good}
 use Rattle.lawful_trace.specs.Places.{line_at, lines_before}
 use Rattle.lawful_trace.specs.Places as lawful
 use Rattle.lawful_trace.specs.LineRows.{is_apart, has_no_effect, is_void_after, is_void_line, may_be_void, IsVoidAsked}
@@ -35,7 +36,7 @@ use Rattle.row_laws.specs.Events.{Causes, SiteRecord, SiteTold, Forms, causes_of
 use Rattle.row_laws.specs.ByLine.{IsLine, begins_quietly, cannot_boot, IsVoidIn, Gives, ArmsAs, KeptIn}
 use Rattle.row_laws.specs.Course.{StandsAs, InCourse}
 use Rattle.row_laws.specs.Voids.{LinesFit, is_call, VoidRecord, IsVoidRow, HasPlaces, CircuitsAs, VoidsInCourse}
-use Rattle.row_laws.proofs.SyncInward.{served_role}
+use Rattle.row_laws.proofs.Walks.{served_role}
 use Rattle.row_laws.proofs.Forming.{role_told}
 use Rattle.row_laws.proofs.StepForms.{step_forms}
 use Rattle.row_laws.proofs.Tracing.{before_all}
@@ -47,24 +48,18 @@ use Rattle.row_laws.proofs.ByLine.{every_line}
 
 -- ---- how a site of the cluster stands, by the world and by the trace ----
 
-never : false ≡ true → ⊥
-never e = cc
-
-never_true : true ≡ false → ⊥
-never_true e = cc
-
 -- the same of a place that is there
 stopped_down : (now : Trace) (s : ℕ) (o : Option Place) (p : Place) → o ≡ Some p → StandsAs now s p → is_stopped o ≡ true → not (is_up now s) ≡ true
-stopped_down now s o (Running v) e h k = absurd (never (sym (ap is_stopped e) ∙ k))
+stopped_down now s o (Running v) e h k = absurd (false_true (sym (ap is_stopped e) ∙ k))
 stopped_down now s o (Stopped d) e h k = ap not h.0
 
 no_boot_up : (now : Trace) (s : ℕ) (o : Option Place) (p : Place) → o ≡ Some p → StandsAs now s p → cannot_boot o ≡ true → is_up now s ≡ true
 no_boot_up now s o (Running v) e h k = h.0
-no_boot_up now s o (Stopped d) e h k = absurd (never (sym (ap cannot_boot e) ∙ k))
+no_boot_up now s o (Stopped d) e h k = absurd (false_true (sym (ap cannot_boot e) ∙ k))
 
 no_epoch : (o : Option InEpoch) → not (is_some o) ≡ true → is_none (epoch_id o) ≡ true
 no_epoch None e = refl
-no_epoch (Some x) e = absurd (never e)
+no_epoch (Some x) e = absurd (false_true e)
 
 apart_of : (now : Trace) (s : ℕ) (o : Option Place) (p : Place) → o ≡ Some p → StandsAs now s p → ((v : SiteView) → p ≡ Running v → epoch_of now s ≡ epoch_id v.epoch) → is_in_no_epoch o ≡ true → is_apart now s ≡ true
 apart_of now s o (Running v) e h epoch k = ap (λ (b : Bool). not b || is_none (epoch_of now s)) h.0 ∙ (ap is_none (epoch v refl) ∙ no_epoch v.epoch (sym (ap is_in_no_epoch e) ∙ k))
@@ -74,7 +69,7 @@ apart_of now s o (Stopped d) e h epoch k = ap (λ (b : Bool). not b || is_none (
 
 -- by the line's words
 pub void_says : (c : Config) (lines : List ScheduleLine) (n : ℕ) (l : LineWords) (w : World) → fits_event c.sites l ≡ true → is_call (EventLine l) ≡ false → IsVoidIn w l → Good w → InCourse lines n w → HasPlaces c w → CircuitsAs lines n w → may_be_void (has_no_effect (take n lines) (trace_of w) l) ≡ true
-void_says c lines n (line.Call site process words) w fit none void good f has cuts = absurd (never_true none)
+void_says c lines n (line.Call site process words) w fit none void good f has cuts = absurd (true_false none)
 void_says c lines n (line.Deliver packet) w fit none void good f has cuts = refl
 void_says c lines n (line.Lose packet) w fit none void good f has cuts = refl
 void_says c lines n (line.Tick site) w fit none void good f has cuts = let r : (p : Place) × (place_at w site ≡ Some p) = has site fit in stopped_down (trace_of w) site (place_at w site) r.0 r.1 (f.places site r.0 r.1) void
@@ -166,7 +161,7 @@ acts_quiet lines m s k v o w h q =
     acts_cases (Quiet lines m) m s v o w
     (happened_quiet lines m o.sent o.told (λ now. puts s (Running o.view) now) w refl (site_all s k o.told h.told) q)
     (λ a. happened_quiet lines m o.sent o.told (λ now. puts s (Running o.view) (arms a now)) w refl (site_all s k o.told h.told) q)
-    (λ d a e. cut_quiet lines m s k d.says (cause_of a.how) (is_on_disk d a.how a.left) (stops_with s _) w refl (role_told s k (Shown d.says) (served_role d.says (subst RoleWrite e h.written))) q)
+    (λ d a e. cut_quiet lines m s k d.says (cause_of a.how) (is_on_disk v.store d a.how a.left) (stops_with s _) w refl (role_told s k (Shown d.says) (served_role d.says (subst RoleWrite e h.written))) q)
 
 boots_quiet : (lines : List ScheduleLine) (m s : ℕ) (b : Booted) (w : World) → Quiet lines m w → Quiet lines m (boots_as m s b w)
 boots_quiet lines m s (Whole d None) w q = happened_quiet lines m [] _ _ w refl (tt, tt) q
@@ -190,8 +185,8 @@ next_quiet : (c : Config) (lines : List ScheduleLine) (n : ℕ) (w : World) → 
 next_quiet c lines n w there none q = record { circuits = still_cut lines n w there none q.circuits; rows = q.rows }
 
 begins_none : (l : ScheduleLine) → begins_quietly l ≡ true → NoCircuit l
-begins_none (EventLine (line.Down one other)) e = absurd (never e)
-begins_none (EventLine (line.Up one other)) e = absurd (never e)
+begins_none (EventLine (line.Down one other)) e = absurd (false_true e)
+begins_none (EventLine (line.Up one other)) e = absurd (false_true e)
 begins_none _ e = tt
 
 gives_none : (w : World) (l : LineWords) (s : ℕ) (e : Event) → Gives w l s e → NoCircuit (EventLine l)

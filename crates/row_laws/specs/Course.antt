@@ -2,6 +2,7 @@
 use Rattle.std.specs.Prelude.{ℕ, ◌≡◌, ◌≤◌, ◌≢◌, ◌+◌, ◌⊎◌, true, false, List, [], ◌∷◌, Some}
 use Rattle.locus_ids.specs.declared.ids.EpochId.{EpochId}
 use Rattle.locus_ids.specs.declared.sites.Members.{Members}
+use Rattle.locus_ids.specs.Sizes.{sites_max}
 use Rattle.trace_book.specs.declared.call.Call.{Call}
 use Rattle.trace_book.specs.declared.record.Record.{Record}
 use Rattle.trace_book.specs.declared.record.Record.TheVariants as says
@@ -75,7 +76,7 @@ Ascends n (x ∷ older) = (1 ≤ x.number) × (x.number ≤ n) × Ascends x.numb
 
 -- a number that may be a site's
 abbrev pub IsOfSite : ℕ → Type 0
-IsOfSite s = (1 ≤ s) × (s ≤ 16)
+IsOfSite s = (1 ≤ s) × (s ≤ sites_max)
 
 -- a site stands as the records say
 abbrev pub StandsAs : Trace → ℕ → Place → Type 0

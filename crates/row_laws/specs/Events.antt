@@ -1,8 +1,9 @@
 -- What an event of a site may tell and send of epochs and calls, by the event.
-use Rattle.std.specs.Prelude.{ℕ, ◌≡◌, ◌≢◌, ◌≤◌, ◌+◌, ◌⊎◌, List, [], ◌∷◌, Option, Some, None}
+use Rattle.std.specs.Prelude.{ℕ, ◌≡◌, ◌≢◌, ◌≤◌, ◌+◌, ◌⊎◌, List, [], ◌∷◌, Option, Some, None, ◌<◌}
 use Rattle.locus_ids.specs.declared.ids.EpochId.{EpochId}
 use Rattle.locus_ids.specs.declared.sites.Links.{Links}
 use Rattle.locus_ids.specs.declared.sites.Members.{Members}
+use Rattle.locus_ids.specs.Sizes.{sites_max}
 use Rattle.trace_book.specs.declared.call.Call.{Call}
 use Rattle.trace_book.specs.declared.record.Record.{Record}
 use Rattle.trace_book.specs.declared.record.Record.TheVariants as says
@@ -53,11 +54,11 @@ MakesAccept _ p x = ⊥
 
 -- the list has the site with this boot, where the links of the site have it so
 abbrev pub ListsItself : ℕ → ℕ → Links → Members → Type 0
-ListsItself me boot links m = me ≤ 16 → boot_in links.boot me ≡ boot → boot_in m.boot me ≡ boot
+ListsItself me boot links m = me ≤ sites_max → boot_in links.boot me ≡ boot → boot_in m.boot me ≡ boot
 
 -- the list has no site beyond the sixteenth
 abbrev pub IsShort : Members → Type 0
-IsShort m = (t : ℕ) → 17 ≤ t → boot_in m.boot t ≡ 0
+IsShort m = (t : ℕ) → sites_max < t → boot_in m.boot t ≡ 0
 
 -- ---- what is told ----
 

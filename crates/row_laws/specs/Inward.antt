@@ -11,6 +11,7 @@ use Rattle.role_steps.specs.Own.{Every}
 use Rattle.role_steps.specs.Views.{SiteView, Told, Shown, Promises, DiskWrite, Outcome}
 use Rattle.role_steps.specs.declared.synchronizing.SyncTable.{SyncTable}
 use Rattle.role_steps.specs.declared.synchronizing.LastLook.{LastLook}
+use Rattle.role_steps.specs.Requests.{waiting_span}
 
 -- ---- packets ----
 
@@ -79,7 +80,7 @@ LookInward l = Inward l.body
 
 -- a table of a group that there may be, whose kept answers form no epoch
 abbrev pub LooksInward : SyncTable → Type 0
-LooksInward t = Every LookInward t.looks × (t.group < 16)
+LooksInward t = Every LookInward t.looks × (t.group < waiting_span)
 
 abbrev pub TableInwardly : Outcome SyncTable → Type 0
 TableInwardly o = Every InwardPacket o.sent × Every ServedTold o.told × RoleWrite o.written × LooksInward o.view

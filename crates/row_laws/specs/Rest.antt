@@ -1,7 +1,7 @@
 -- What is left of the lawful trace for other laws: the rows that speak of the one tree, and of calls.
 use Rattle.std.specs.Prelude.{ℕ, ◌≡◌, true, List}
 use Rattle.locus_ids.specs.declared.config.Config.{Config}
-use Rattle.trace_book.specs.declared.book.Entry.{Entry}
+use Rattle.trace_book.specs.declared.entry.Entry.{Entry}
 use Rattle.trace_book.specs.declared.record.Record.{Record}
 use Rattle.trace_book.specs.declared.record.Record.TheVariants as says
 use Rattle.trace_book.specs.declared.record.StopCause.{StopCause}

@@ -1,6 +1,6 @@
 -- The printed trace of a run as the lawful trace has it, the latest record first, and what holds of each of its records.
 use Rattle.std.specs.Prelude.{ℕ, List, [], ◌∷◌}
-use Rattle.trace_book.specs.declared.book.Entry.{Entry}
+use Rattle.trace_book.specs.declared.entry.Entry.{Entry}
 use Rattle.tree_model.specs.Folds.{Trace}
 use Rattle.role_steps.specs.Views.{Told, Shown}
 use Rattle.the_run.specs.Worlds.{World, Line}

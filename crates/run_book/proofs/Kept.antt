@@ -1,5 +1,5 @@
 -- The book of a world after an event of the run.
-use Rattle.std.proofs.Common.{◌≡◌, ℕ, ◌+◌, List, ◌++◌, length, Option, None, Some, true, false, refl, sym, ap, ◌∙◌, append_assoc, subst}
+use Rattle.std.proofs.Common.{◌≡◌, ℕ, ◌+◌, List, ◌++◌, length, Option, None, Some, false, refl, sym, ap, ◌∙◌, append_assoc, subst}
 use Rattle.wire_messages.specs.declared.packet.Packet.{Packet}
 use Rattle.role_steps.specs.Tables.{total}
 use Rattle.role_steps.specs.Views.{Told}
@@ -56,14 +56,6 @@ module _ (n : ℕ) (ps : List Packet) (told : List Told) (change : World → Wor
 none_passed : (o : Option Passed) → is_some o ≡ false → limit_in o ≡ None
 none_passed None e = refl
 none_passed (Some p) e = absurd (cc)
-
-some_passed : (o : Option Passed) (n : ℕ) (ps : List Packet) (rs : List Record) (b : Ledger) → is_some o ≡ true → books_of (limit_in o) n ps rs b ≡ b
-some_passed None n ps rs b e = absurd (cc)
-some_passed (Some p) n ps rs b e = refl
-
--- a limit was passed before
-pub books_over : (n : ℕ) (ps : List Packet) (rs : List Record) (b : Ledger) (o : Option Passed) → limit_in o ≡ b.over → is_some o ≡ true → b ≡ books n ps rs b
-books_over n ps rs b o e s = sym (ap (λ l. books_of l n ps rs b) (sym e) ∙ some_passed o n ps rs b s)
 
 -- an event that was measured
 pub books_within : (n : ℕ) (ps : List Packet) (rs : List Record) (b c : Ledger) (o : Option Passed) (packets bytes : ℕ) (text : List ℕ) → limit_in o ≡ b.over → is_some o ≡ false → packets ≡ length ps → bytes ≡ total packet_size ps → text ≡ lines_text n rs → c ≡ with_event_unless (limit_of_sizes packets bytes (length text) b) n ps rs b → c ≡ books n ps rs b

@@ -44,12 +44,6 @@ pub all_behind : {A : Type 0} (P : A → Type 0) (xs ys : List A) → AllByRecur
 all_behind P [] ys h = h
 all_behind P (x ∷ xs) ys h = all_behind P xs ys h.1
 
--- an element of a list of which each has a property
-pub all_at : {A : Type 0} (P : A → Type 0) (xs : List A) (i : ℕ) (x : A) → Some x ≡ slice_get xs i → AllByRecursion P xs → P x
-all_at P [] i x e h = absurd (cc)
-all_at P (y ∷ ys) zero x e h = let f : x ≡ y = cc in subst P (sym f) h.0
-all_at P (y ∷ ys) (suc i) x e h = all_at P ys i x e h.1
-
 -- the first packet, and then the others
 pub posts_one : (p : Packet) (ps : List Packet) (m : Post) → posts (p ∷ ps) m ≡ posts ps (posts (p ∷ []) m)
 posts_one p ps m = post_same
@@ -115,12 +109,6 @@ counts_more parts i part c d whole l is e h =
     ap (λ y. counts_after y (together (drop (i + 1) parts)).records) e
     ∙ (sym (counts_append c part.records (together (drop (i + 1) parts)).records)
     ∙ (ap (λ ps. counts_after c (together ps).records) (sym (part_left parts i part l is)) ∙ h))
-
--- the counts of one record more
-pub record_counted : (rs : List Record) (i : ℕ) (r : Record) (c d whole : Counts) → i < length rs → r ≡ get_or rs i r → d ≡ counted_in c r → counts_after c (drop i rs) ≡ whole → counts_after d (drop (i + 1) rs) ≡ whole
-record_counted rs i r c d whole l is e h =
-    ap (λ y. counts_after y (drop (i + 1) rs)) e
-    ∙ (ap (counts_after c) (sym (left_from rs i r (ap (λ x. Some x) is ∙ sym (slice_get-get_or rs i r l)))) ∙ h)
 
 -- the packets of one part are of the format where all are
 pub part_fits : (parts : List Outgoing) (i : ℕ) (part : Outgoing) → i < length parts → part ≡ get_or parts i part → AllByRecursion (λ (p : Packet). FitsIfCounted p) (together parts).packets → AllByRecursion (λ (p : Packet). FitsIfCounted p) part.packets

@@ -17,7 +17,7 @@ use packet_order::{Dispatch, Part};
 use std::alloc::Global;
 use std::marker::Model;
 use std::mem::replace;
-use wire_messages::Encoder;
+use wire_writing::Encoder;
 
 /// The bytes of text that the records of a run may have, written or not.
 pub const MOST_TEXT: usize = 134_217_728;

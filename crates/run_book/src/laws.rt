@@ -1,6 +1,6 @@
 ghost use Rattle.std.specs.Prelude.{◌≡◌, ℕ, List, ◌++◌};
 ghost use Rattle.std.specs.List.{flat_map};
-ghost use Rattle.trace_book.specs.declared.book.Entry.{Entry};
+ghost use Rattle.trace_book.specs.declared.entry.Entry.{Entry};
 ghost use Rattle.trace_book.specs.declared.record.Record.{Record};
 ghost use Rattle.wire_messages.specs.declared.packet.Packet.{Packet};
 ghost use Rattle.role_steps.specs.Views.{Told};

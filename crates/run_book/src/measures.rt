@@ -15,8 +15,10 @@ use packet_fit::fits;
 use packet_mail::{Letters, Mail};
 use packet_order::{Dispatch, OrderFault, Part, letter_of};
 use std::alloc::Global;
-use trace_book::{Record, render};
-use wire_messages::{Encoder, Packet};
+use trace_book::Record;
+use trace_text::render;
+use wire_messages::Packet;
+use wire_writing::Encoder;
 
 /// So many more are past the limit.
 pub fn is_past(limit: usize, count: usize, more: usize) -> bool
@@ -174,7 +176,7 @@ pub fn put_all(mail: &mut Mail, parts: &[Part], letters: &Letters) -> Result<(),
 }
 
 /// What an event sends and tells, measured.
-#[derive(Debug, Drop)]
+#[derive(Drop)]
 pub struct Measured {
     /// The bytes of each packet.
     pub letters: Letters,

@@ -6,10 +6,11 @@ ghost use Rattle.run_book.specs.Writings.{lines_written, replies_of};
 
 use locus_ids::{Bytes, NoMemory};
 use packet_order::Part;
-use trace_book::{Record, render};
+use trace_book::Record;
+use trace_text::render;
 
 /// What a book writes of the records of a run.
-#[derive(Clone, Copy, Debug, PartialEq, Eq)]
+#[derive(Clone, Copy, PartialEq, Eq)]
 pub enum Writing {
     /// The text of each record with its line's number.
     Trace,

@@ -1,20 +1,20 @@
 -- What is told, in parts, and the parts of every handler for the law of epochs and of what packets name.
 use Rattle.std.proofs.Common.{◌≡◌, ℕ, ◌==◌, Bool, false, cond, List, [], ◌∷◌, ◌++◌, Option, Some, None, refl, sym, ◌∙◌, ap, subst, inl, inr}
+use Rattle.law_walks.proofs.of_plain_facts.Numbers.{equal_self}
 use Rattle.locus_ids.specs.declared.ids.EpochId.{EpochId}
 use Rattle.trace_book.specs.declared.record.Record.{Record}
 use Rattle.trace_book.specs.declared.record.Record.TheVariants as says
-use Rattle.wire_messages.specs.declared.packet.Packet.{Packet}
-use Rattle.wire_messages.specs.declared.body.Body.{Body}
-use Rattle.wire_messages.specs.declared.body.Body.TheVariants.{Poll, Promise, Refuse}
-use Rattle.role_steps.specs.Own.{Every}
-use Rattle.role_steps.specs.Views.{SiteView, Told, Shown, Promises, DiskWrite, Outcome, quiet, sends, joined_to, and_then, first_written}
-use Rattle.role_steps.specs.declared.rounds.InEpoch.{InEpoch}
-use Rattle.role_steps.proofs.Rows.{same}
-use Rattle.role_steps.proofs.Sending.{every_append}
-use Rattle.the_run.specs.Joins.{NoClaim, Unclaimed, Plain}
-use Rattle.the_run.specs.Steps.{in_order, epoch_id}
-use Rattle.the_run.proofs.Boots.{every_weaker}
-use Rattle.the_run.proofs.StepSends.{order_sent}
+use Rattle.law_walks.specs.of_wire_messages.declared.packet.Packet.{Packet}
+use Rattle.law_walks.specs.of_wire_messages.declared.body.Body.{Body}
+use Rattle.law_walks.specs.of_wire_messages.declared.body.Body.TheVariants.{Poll, Promise, Refuse}
+use Rattle.law_walks.specs.of_role_steps.Own.{Every}
+use Rattle.law_walks.specs.of_role_steps.Views.{SiteView, Told, Shown, Promises, DiskWrite, Outcome, quiet, sends, joined_to, and_then, first_written}
+use Rattle.law_walks.specs.of_role_steps.declared.rounds.InEpoch.{InEpoch}
+use Rattle.law_walks.proofs.of_role_steps.Sending.{every_append}
+use Rattle.law_walks.specs.of_the_run.Joins.{NoClaim, Unclaimed, Plain}
+use Rattle.law_walks.specs.of_the_run.Steps.{in_order, epoch_id}
+use Rattle.law_walks.proofs.of_the_run.Boots.{every_weaker}
+use Rattle.law_walks.proofs.of_the_run.StepSends.{order_sent}
 use Rattle.run_laws.specs.Words.{InsideRecord, Inside, Works, InsideWrite}
 use Rattle.run_laws.specs.Standing.{Standing, after_record, after_told, standing_of, moves, OwnRecord, OwnMove, OwnMoves}
 use Rattle.run_laws.specs.Naming.{Deed, Promised, Joined, Deeds, Names, Tells, Now, PacketNames, ViewOk, Fine, IsInEpoch, Inner}
@@ -22,7 +22,7 @@ use Rattle.run_laws.specs.Naming.{Deed, Promised, Joined, Deeds, Names, Tells, N
 -- ---- moves ----
 
 pub own_case : (s : ℕ) (a b : Standing) → cond (s == s) a b ≡ a
-own_case s a b = subst (λ (t : Bool). cond t a b ≡ a) (sym (same s)) refl
+own_case s a b = subst (λ (t : Bool). cond t a b ≡ a) (sym (equal_self s)) refl
 
 pub moves_append : (s : ℕ) (a b : List Told) (now : Standing) → moves s (a ++ b) now ≡ moves s b (moves s a now)
 moves_append s [] b now = refl
@@ -79,10 +79,6 @@ Leads K L = (d : Deed) (id : EpochId) → K d id → L d id
 
 pub now_old : (K : Deeds) (s : ℕ) (told : List Told) → Leads K (Now K s told)
 now_old K s told d id h = inl h
-
-now_none : (K : Deeds) (s : ℕ) → Leads (Now K s []) K
-now_none K s d id (inl h) = h
-now_none K s d id (inr h) = absurd h
 
 pub now_first : (K : Deeds) (s : ℕ) (a b : List Told) → Leads (Now K s a) (Now K s (a ++ b))
 now_first K s a b d id (inl h) = inl h

@@ -1,16 +1,18 @@
 -- Of two joins of a site in one boot the later one is of a greater id; and packets name the epoch at hand.
 use Rattle.std.proofs.Common.{◌≡◌, ℕ, ◌==◌, Bool, true, false, cond, List, [], ◌∷◌, ◌++◌, Option, Some, None, refl, sym, ◌∙◌, subst, ◌⊎◌, inl, inr, arith}
 use Rattle.std.proofs.lemmas.Bool.Decides.{nat_tests}
+use Rattle.law_walks.proofs.of_plain_facts.Numbers.{equal, equal_self}
+use Rattle.law_walks.proofs.of_plain_facts.Tests.{true_false}
 use Rattle.locus_ids.specs.declared.ids.EpochId.{EpochId}
 use Rattle.locus_ids.specs.declared.config.Config.{Config}
-use Rattle.schedule_lines.specs.declared.line.ScheduleLine.{ScheduleLine}
+use Rattle.law_walks.specs.of_schedule_lines.declared.line.ScheduleLine.{ScheduleLine}
 use Rattle.trace_book.specs.declared.record.Record.{Record}
 use Rattle.trace_book.specs.declared.record.Record.TheVariants as says
-use Rattle.role_steps.specs.Epochs.{is_epoch_below}
-use Rattle.role_steps.specs.Views.{SiteView, Told, Shown, Promises, Event, Calls, Receives, Ticks, Parts, Merges, GivesUp}
-use Rattle.role_steps.specs.declared.rounds.InEpoch.{InEpoch}
-use Rattle.the_run.specs.Worlds.{World, Line}
-use Rattle.the_run.specs.Runs.{run_in}
+use Rattle.law_walks.specs.of_role_steps.Epochs.{is_epoch_below}
+use Rattle.law_walks.specs.of_role_steps.Views.{SiteView, Told, Shown, Promises, Event, Calls, Receives, Ticks, Parts, Merges, GivesUp}
+use Rattle.law_walks.specs.of_role_steps.declared.rounds.InEpoch.{InEpoch}
+use Rattle.law_walks.specs.of_the_run.Worlds.{World, Line}
+use Rattle.law_walks.specs.of_the_run.Runs.{run_in}
 use Rattle.run_laws.specs.Standing.{Standing, nowhere, after_record, after_told, standing, MayPromise, MayJoin, GoesOn, EpochsGoOn, IsUp, StaysUp, joins_line, JoinsRise}
 use Rattle.run_laws.specs.Naming.{Deeds, DeedsOf, PacketNames, PacketsNameTheirEpoch, IsEpochOf, StoodWith, MayCome, StepsNameTheirEpoch, ViewOk, Good}
 use Rattle.run_laws.proofs.Steps.{EventNames, step_fine}
@@ -21,15 +23,6 @@ use Rattle.run_laws.proofs.Run.{run_good, was_sent}
 -- the site has joined the id and promised no other since, or has promised a greater one
 abbrev Above : EpochId → Standing → Type 0
 Above id now = ((now.promised ≡ id) × (now.installed ≡ true)) ⊎ (is_epoch_below id now.promised ≡ true)
-
-true_false : true ≡ false → ⊥
-true_false e = cc
-
-test_same : (a b : ℕ) → (a == b) ≡ true → a ≡ b
-test_same a b e = grind (arith, nat_tests)
-
-test_own : (a : ℕ) → (a == a) ≡ true
-test_own a = grind (arith, nat_tests)
 
 below_below : (a b c : EpochId) → is_epoch_below a b ≡ true → is_epoch_below b c ≡ true → is_epoch_below a c ≡ true
 below_below a b c h g = grind (arith, nat_tests)
@@ -47,7 +40,7 @@ case_above id true x y h g = h
 case_above id false x y h g = g
 
 boot_above : (id : EpochId) (s t : ℕ) (now : Standing) → (t ≡ s → ⊥) → Above id now → Above id (cond (t == s) nowhere now)
-boot_above id s t now up h = (elim (t == s) as (λ b. (t == s) ≡ b → Above id (cond b nowhere now)) [ true ↦ λ e. absurd (up (test_same t s e)) | false ↦ λ e. h ]) refl
+boot_above id s t now up h = (elim (t == s) as (λ b. (t == s) ≡ b → Above id (cond b nowhere now)) [ true ↦ λ e. absurd (up (equal t s e)) | false ↦ λ e. h ]) refl
 
 record_above : (id : EpochId) (s : ℕ) (r : Record) (now : Standing) → (IsUp s (Shown r) → ⊥) → Above id now → Above id (after_record s r now)
 record_above id s (says.Up t boot) now up h = boot_above id s t now up h
@@ -62,7 +55,7 @@ promise_above id i now p (inr h) = inr (below_below id now.promised i h p.0)
 own_promise : (id i : EpochId) (s t : ℕ) (trace : List Line) → MayPromise (standing t trace) i → Above id (standing s trace) → Above id (cond (t == s) (record { promised = i; installed = false; epoch = (standing s trace).epoch }) (standing s trace))
 own_promise id i s t trace p h =
     (elim (t == s) as (λ b. (t == s) ≡ b → Above id (cond b (record { promised = i; installed = false; epoch = (standing s trace).epoch }) (standing s trace))) [
-      | true ↦ λ e. promise_above id i (standing s trace) (subst (λ (x : ℕ). MayPromise (standing x trace) i) (test_same t s e) p) h
+      | true ↦ λ e. promise_above id i (standing s trace) (subst (λ (x : ℕ). MayPromise (standing x trace) i) (equal t s e) p) h
       | false ↦ λ e. h
     ]) refl
 
@@ -80,7 +73,7 @@ suffix [] rest g = g
 suffix (x ∷ xs) rest g = suffix xs rest g.1
 
 join_above : (id : EpochId) (s : ℕ) (now : Standing) → MayJoin now id → Above id (cond (s == s) (record { promised = now.promised; installed = true; epoch = Some id }) now)
-join_above id s now m = subst (λ (b : Bool). Above id (cond b (record { promised = now.promised; installed = true; epoch = Some id }) now)) (sym (test_own s)) (inl (m.0, refl))
+join_above id s now m = subst (λ (b : Bool). Above id (cond b (record { promised = now.promised; installed = true; epoch = Some id }) now)) (sym (equal_self s)) (inl (m.0, refl))
 
 rises : (id later : EpochId) (now : Standing) → Above id now → MayJoin now later → is_epoch_below id later ≡ true
 rises id later now (inl h) m = absurd (true_false (sym h.1 ∙ m.1))

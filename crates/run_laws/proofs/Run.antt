@@ -1,30 +1,32 @@
 -- In every run promises, joins and leaves go on lawfully, and each packet names the epoch that it speaks of.
 use Rattle.std.proofs.Common.{◌≡◌, ◌≢◌, ℕ, ◌+◌, ◌==◌, Bool, true, false, cond, List, [], ◌∷◌, map, Option, Some, None, refl, sym, ◌∙◌, ap, subst, inl, inr}
+use Rattle.law_walks.proofs.of_plain_facts.Numbers.{apart_test, equal_self}
+use Rattle.law_walks.proofs.of_plain_facts.Options.{some_same}
+use Rattle.law_walks.proofs.of_plain_facts.Tests.{true_false}
 use Rattle.locus_ids.specs.declared.config.Config.{Config}
-use Rattle.schedule_lines.specs.declared.line.ScheduleLine.{ScheduleLine}
+use Rattle.law_walks.specs.of_schedule_lines.declared.line.ScheduleLine.{ScheduleLine}
 use Rattle.trace_book.specs.declared.record.Record.{Record}
 use Rattle.trace_book.specs.declared.record.Record.TheVariants as says
 use Rattle.trace_book.specs.declared.record.StopCause.TheVariants as cause
-use Rattle.wire_messages.specs.declared.packet.Packet.{Packet}
-use Rattle.role_steps.specs.Own.{Every, IsOwn as IsOwnPacket}
-use Rattle.role_steps.specs.Tables.{row}
-use Rattle.role_steps.specs.Views.{SiteView, Told, Shown, Promises, DiskWrite, Outcome, Event, Calls, Receives, Ticks, Parts, Merges, GivesUp}
-use Rattle.role_steps.specs.declared.rounds.InEpoch.{InEpoch}
-use Rattle.role_steps.specs.declared.rounds.Round.{Round}
-use Rattle.role_steps.specs.declared.synchronizing.SyncTable.{SyncTable}
-use Rattle.role_steps.proofs.Rows.{differ, same}
-use Rattle.role_steps.proofs.Sending.{every_append}
-use Rattle.the_run.specs.Disks.{Disk, Booted, Whole, CutOff, boots, is_on_disk}
-use Rattle.the_run.specs.Joins.{TableOk}
-use Rattle.the_run.specs.Steps.{step}
-use Rattle.the_run.specs.Worlds.{World, Place, Running, Stopped, Numbered, Line, number_of, links_of, place_at, place_in, place_site, script_of, happened, numbered_from, told_onto, disk_of, puts, arms, passed, stops_with, cut_told, cause_of, acts, fresh, first_place, formatted, first_world}
-use Rattle.the_run.specs.Runs.{boots_as, packet_record, run_in}
-use Rattle.the_run.specs.Kept.{Among, WasSent, IsOwn, Kept}
-use Rattle.the_run.proofs.Boots.{at_each, acts_cases, every_newest, every_numbered, every_weaker}
-use Rattle.the_run.proofs.Events.{happened_keeps, puts_other, puts_same}
-use Rattle.the_run.proofs.InsideSync.{every_without}
-use Rattle.the_run.proofs.StepSends.{step_sends}
-use Rattle.the_run.proofs.Runs.{every_run, some_eq}
+use Rattle.law_walks.specs.of_wire_messages.declared.packet.Packet.{Packet}
+use Rattle.law_walks.specs.of_role_steps.Own.{Every, IsOwn as IsOwnPacket}
+use Rattle.law_walks.specs.of_role_steps.Tables.{row}
+use Rattle.law_walks.specs.of_role_steps.Views.{SiteView, Told, Shown, Promises, DiskWrite, Outcome, Event, Calls, Receives, Ticks, Parts, Merges, GivesUp}
+use Rattle.law_walks.specs.of_role_steps.declared.rounds.InEpoch.{InEpoch}
+use Rattle.law_walks.specs.of_role_steps.declared.rounds.Round.{Round}
+use Rattle.law_walks.specs.of_role_steps.declared.synchronizing.SyncTable.{SyncTable}
+use Rattle.law_walks.proofs.of_role_steps.Sending.{every_append}
+use Rattle.law_walks.specs.of_the_run.Disks.{Disk, Booted, Whole, CutOff, boots, is_on_disk}
+use Rattle.law_walks.specs.of_the_run.Joins.{TableOk}
+use Rattle.law_walks.specs.of_the_run.Steps.{step}
+use Rattle.law_walks.specs.of_the_run.Worlds.{World, Place, Running, Stopped, Numbered, Line, number_of, links_of, place_at, place_in, place_site, script_of, happened, numbered_from, told_onto, disk_of, puts, arms, passed, stops_with, cut_told, cause_of, acts, fresh, first_place, formatted, first_world}
+use Rattle.law_walks.specs.of_the_run.Runs.{boots_as, packet_record, run_in}
+use Rattle.law_walks.specs.of_the_run.Kept.{Among, WasSent, IsOwn, Kept}
+use Rattle.law_walks.proofs.of_the_run.Boots.{at_each, acts_cases, every_newest, every_numbered, every_weaker}
+use Rattle.law_walks.proofs.of_the_run.Events.{happened_keeps, puts_other, puts_same}
+use Rattle.law_walks.proofs.of_the_run.InsideSync.{every_without}
+use Rattle.law_walks.proofs.of_the_run.StepSends.{step_sends}
+use Rattle.law_walks.proofs.of_the_run.Runs.{every_run}
 use Rattle.run_laws.specs.Words.{InsideRecord, InsideWrite}
 use Rattle.run_laws.specs.Standing.{Standing, nowhere, after_record, after_told, standing, GoesOn, RecordGoesOn, EpochsGoOn, standing_of, moves, OwnRecord, OwnMove, OwnMoves}
 use Rattle.run_laws.specs.Naming.{Deeds, Names, Now, DeedsOf, NamesItsEpoch, PacketNames, ViewOk, Fine, Good}
@@ -38,7 +40,7 @@ onto_standing s n [] trace = refl
 onto_standing s n (x ∷ xs) trace = onto_standing s n xs (record { number = n; told = x } ∷ trace)
 
 other_case : (t s : ℕ) (a b : Standing) → s ≢ t → cond (s == t) a b ≡ b
-other_case t s a b ne = subst (λ (x : Bool). cond x a b ≡ b) (sym (differ s t ne)) refl
+other_case t s a b ne = subst (λ (x : Bool). cond x a b ≡ b) (sym (apart_test s t ne)) refl
 
 other_record : (s t : ℕ) (now mine : Standing) (r : Record) → s ≢ t → OwnRecord s mine r → after_record t r now ≡ now
 other_record s t now mine (says.Up u boot) ne h = other_case t u nowhere now (subst (λ (x : ℕ). x ≢ t) (sym h) ne)
@@ -125,7 +127,7 @@ places_good : (s n : ℕ) (new : Place) (told : List Told) (w : World) → Good 
     ((v : SiteView) → new ≡ Running v → (standing s (told_onto n told w.trace) ≡ standing_of v) × ViewOk (DeedsOf (told_onto n told w.trace) s) v) →
     (t : ℕ) (u : SiteView) → place_at (puts s new w) t ≡ Some (Running u) → (standing t (told_onto n told w.trace) ≡ standing_of u) × ViewOk (DeedsOf (told_onto n told w.trace) t) u
 places_good s n new told w g law fine t u h = at_each s t (Stands t)
-    (λ e. subst Stands e (fine u (some_eq new (Running u) (sym (puts_same s new w) ∙ (ap (place_at (puts s new w)) e ∙ h)))))
+    (λ e. subst Stands e (fine u (some_same new (Running u) (sym (puts_same s new w) ∙ (ap (place_at (puts s new w)) e ∙ h)))))
     (λ ne. (other_standing s t n (standing s w.trace) told w.trace ne law ∙ g.stands t u (sym (puts_other s t new w ne) ∙ h), view_leads (DeedsOf w.trace t) (DeedsOf (told_onto n told w.trace) t) u (onto_old n told w.trace t) (g.views t u (sym (puts_other s t new w ne) ∙ h))))
   where
     Stands : ℕ → Type 0
@@ -168,7 +170,7 @@ acts_good n s v o w here f own g =
     acts_cases Good n s v o w
     (happened_good s n o.sent o.told (λ now. puts s (Running o.view) now) w law views refl refl names g)
     (λ a. happened_good s n o.sent o.told (λ now. puts s (Running o.view) (arms a now)) w law views refl refl names g)
-    (λ d a e. stops_good s n _ (cut_told s d a.how a.left) w (cut_law s (standing s w.trace) (is_on_disk d a.how a.left) d.says (cause_of a.how) (written_law s n (standing s w.trace) o.written d e f.written)) g)
+    (λ d a e. stops_good s n _ (cut_told s v.store d a.how a.left) w (cut_law s (standing s w.trace) (is_on_disk v.store d a.how a.left) d.says (cause_of a.how) (written_law s n (standing s w.trace) o.written d e f.written)) g)
   where
     stood : standing s w.trace ≡ standing_of v
     stood = g.stands s v here
@@ -194,9 +196,6 @@ no_round r e = cc
 no_epoch_here : (e : InEpoch) → ◌≡◌ {A = Option InEpoch} None (Some e) → ⊥
 no_epoch_here e k = cc
 
-true_false : true ≡ false → ⊥
-true_false e = cc
-
 fresh_ok : (K : Deeds) (v : SiteView) → v.round ≡ None → v.installed ≡ true → v.epoch ≡ None → v.tables ≡ [] → ViewOk K v
 fresh_ok K v a i b t = record {
   round_is = λ r e. absurd (no_round r (sym a ∙ e));
@@ -206,9 +205,9 @@ fresh_ok K v a i b t = record {
 }
 
 boots_good : (n s : ℕ) (x : Disk) (change : World → World) (w : World) → ((t : ℕ) → place_at (change w) t ≡ place_at (puts s (Running (fresh x.label.boot x.copies)) w) t) → (change w).sent ≡ w.sent → (change w).underway ≡ w.underway → Good w → Good (happened n [] (Shown (says.Up s x.label.boot) ∷ []) change w)
-boots_good n s x change w same sent underway g =
+boots_good n s x change w equal_self sent underway g =
     happened_good s n [] told change w (refl, tt)
-    (λ t u h. places_good s n (Running view) told w g (refl, tt) (λ u q. subst (λ (y : SiteView). (standing s (told_onto n told w.trace) ≡ standing_of y) × ViewOk (DeedsOf (told_onto n told w.trace) s) y) (running_view view u q) (own_case s nowhere (standing s w.trace), fresh_ok _ view refl refl refl refl)) t u (sym (same t) ∙ h))
+    (λ t u h. places_good s n (Running view) told w g (refl, tt) (λ u q. subst (λ (y : SiteView). (standing s (told_onto n told w.trace) ≡ standing_of y) × ViewOk (DeedsOf (told_onto n told w.trace) s) y) (running_view view u q) (own_case s nowhere (standing s w.trace), fresh_ok _ view refl refl refl refl)) t u (sym (equal_self t) ∙ h))
     sent underway tt g
   where
     view : SiteView
@@ -277,7 +276,7 @@ first_places : (c : Config) (ss : List ℕ) (s : ℕ) (v : SiteView) → place_i
 first_places c [] s v e = absurd (none_never v e)
 first_places c (t ∷ ts) s v e =
     (elim (t == s) as (λ b. place_in (elim b [ true ↦ Some (first_place c t) | false ↦ row place_site s (map (first_place c) ts) ]) ≡ Some (Running v) → FirstStands c s v) [
-      | true ↦ λ f. subst (FirstStands c s) (running_view (first_view c t) v (some_eq (Running (first_view c t)) (Running v) f)) (refl, fresh_ok _ (first_view c t) refl refl refl refl)
+      | true ↦ λ f. subst (FirstStands c s) (running_view (first_view c t) v (some_same (Running (first_view c t)) (Running v) f)) (refl, fresh_ok _ (first_view c t) refl refl refl refl)
       | false ↦ λ f. first_places c ts s v f
     ]) e
 

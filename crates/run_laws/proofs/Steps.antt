@@ -2,6 +2,8 @@
 use Rattle.std.proofs.Common.{◌≡◌, ℕ, ◌+◌, ◌≤◌, Bool, true, false, cond, ◌&&◌, not, List, [], ◌∷◌, ◌++◌, map, Option, Some, None, refl, sym, ◌∙◌, ap, subst, inl, inr, arith}
 use Rattle.std.proofs.lemmas.Bool.Decides.{nat_tests}
 use Rattle.std.specs.List.{flat_map}
+use Rattle.law_walks.proofs.of_plain_facts.Options.{none_some, some_same}
+use Rattle.law_walks.proofs.of_plain_facts.Tests.{both_true, not_true, true_false}
 use Rattle.locus_ids.specs.declared.ids.EpochId.{EpochId}
 use Rattle.locus_ids.specs.declared.sites.Sites.{Sites}
 use Rattle.locus_ids.specs.declared.sites.Members.{Members}
@@ -9,29 +11,29 @@ use Rattle.locus_ids.specs.declared.sites.Links.{Links}
 use Rattle.locus_ids.specs.declared.config.Config.{Config}
 use Rattle.trace_book.specs.Same.{same_epoch}
 use Rattle.trace_book.specs.declared.record.Record.TheVariants as says
-use Rattle.wire_messages.specs.declared.packet.Packet.{Packet}
-use Rattle.wire_messages.specs.declared.body.Body.{Body}
-use Rattle.wire_messages.specs.declared.body.Body.TheVariants as body
-use Rattle.role_steps.specs.Own.{Every}
-use Rattle.role_steps.specs.Tables.{without_row}
-use Rattle.role_steps.specs.Views.{Frame, SiteView, Told, Shown, Promises, Outcome, Event, Calls, Receives, Ticks, Parts, Merges, GivesUp, quiet, sends, tells, and_then, joined_to, to_some, sync_site}
-use Rattle.role_steps.specs.Using.{reply_record}
-use Rattle.role_steps.specs.Reports.{sync_repeats, new_table}
-use Rattle.role_steps.specs.Storage.{store_repeats, report_of}
-use Rattle.role_steps.specs.Pulling.{pull_repeats}
-use Rattle.role_steps.specs.Requests.{users_repeats}
-use Rattle.role_steps.specs.Epochs.{is_epoch_below, frame_in, leaves_of, leaves, promises, promised_view, reached, new_round, poll_packet, polled_sites, polls, round_id, begins_round, starts_merge, boots_where, merge_boot, part_boot, starts_part_of, starts_part, promise_packet, refuse_packet, on_poll, counts_promise, with_promise, on_promise_of, on_refuse_of, joined_view, report_packets, all_reports, joins, may_install, is_in, joined_packet, on_install, on_joined, passed_over, unanswered, chosen_members, chosen_set, others_of, install_packet, installs_all, decides, decides_if, passes_over_of, passes_over, poll_repeats, install_repeats}
-use Rattle.role_steps.specs.declared.rounds.InEpoch.{InEpoch}
-use Rattle.role_steps.specs.declared.rounds.Round.{Round}
-use Rattle.role_steps.specs.declared.users.WaitingCall.{WaitingCall}
-use Rattle.role_steps.proofs.Sending.{every_append, every_map, every_flat_map}
-use Rattle.the_run.specs.Steps.{in_order, is_dropped, takes_framed, takes, tries_at, adopts_in, starts_mends_of, ends_event, whole, repeats_inside, repeats_of, repeats, ticks_after, call_frame, epoch_id, takes_call, step}
-use Rattle.the_run.specs.Joins.{Unclaimed, TableOk, Plain}
-use Rattle.the_run.proofs.StepSends.{order_sent}
-use Rattle.the_run.proofs.InsideSync.{sync_plain, sync_repeats_plain}
-use Rattle.the_run.proofs.InsideRoles.{store_repeats_plain, pull_repeats_plain, users_repeats_plain, on_call_still}
-use Rattle.the_run.proofs.InsideSites.{adopts_of_plain, tries_plain, mends_of_plain, framed_plain}
-use Rattle.the_run.proofs.Joining.{plain_quiet}
+use Rattle.law_walks.specs.of_wire_messages.declared.packet.Packet.{Packet}
+use Rattle.law_walks.specs.of_wire_messages.declared.body.Body.{Body}
+use Rattle.law_walks.specs.of_wire_messages.declared.body.Body.TheVariants as body
+use Rattle.law_walks.specs.of_role_steps.Own.{Every}
+use Rattle.law_walks.specs.of_role_steps.Tables.{without_row}
+use Rattle.law_walks.specs.of_role_steps.Views.{Frame, SiteView, Told, Shown, Promises, Outcome, Event, Calls, Receives, Ticks, Parts, Merges, GivesUp, quiet, sends, tells, and_then, joined_to, to_some, sync_site}
+use Rattle.law_walks.specs.of_role_steps.Using.{reply_record}
+use Rattle.law_walks.specs.of_role_steps.Reports.{sync_repeats, new_table}
+use Rattle.law_walks.specs.of_role_steps.Storage.{store_repeats, report_of}
+use Rattle.law_walks.specs.of_role_steps.Pulling.{pull_repeats}
+use Rattle.law_walks.specs.of_role_steps.Requests.{users_repeats}
+use Rattle.law_walks.specs.of_role_steps.Epochs.{is_epoch_below, frame_in, leaves_of, leaves, promises, promised_view, reached, new_round, poll_packet, polled_sites, polls, round_id, begins_round, starts_merge, boots_where, merge_boot, part_boot, starts_part_of, starts_part, promise_packet, refuse_packet, on_poll, counts_promise, with_promise, on_promise_of, on_refuse_of, joined_view, report_packets, all_reports, joins, may_install, is_in, joined_packet, on_install, on_joined, passed_over, unanswered, chosen_members, chosen_set, others_of, install_packet, installs_all, decides, decides_if, passes_over_of, passes_over, poll_repeats, install_repeats}
+use Rattle.law_walks.specs.of_role_steps.declared.rounds.InEpoch.{InEpoch}
+use Rattle.law_walks.specs.of_role_steps.declared.rounds.Round.{Round}
+use Rattle.law_walks.specs.of_role_steps.declared.users.WaitingCall.{WaitingCall}
+use Rattle.law_walks.proofs.of_role_steps.Sending.{every_append, every_map, every_flat_map}
+use Rattle.law_walks.specs.of_the_run.Steps.{in_order, is_dropped, takes_framed, takes, tries_at, adopts_in, starts_mends_of, ends_event, whole, repeats_inside, repeats_of, repeats, ticks_after, call_frame, epoch_id, takes_call, step}
+use Rattle.law_walks.specs.of_the_run.Joins.{Unclaimed, TableOk, Plain}
+use Rattle.law_walks.proofs.of_the_run.StepSends.{order_sent}
+use Rattle.law_walks.proofs.of_the_run.InsideSync.{sync_plain, sync_repeats_plain}
+use Rattle.law_walks.proofs.of_the_run.InsideRoles.{store_repeats_plain, pull_repeats_plain, users_repeats_plain, on_call_still}
+use Rattle.law_walks.proofs.of_the_run.InsideSites.{adopts_of_plain, tries_plain, mends_of_plain, framed_plain}
+use Rattle.law_walks.proofs.of_the_run.Joining.{plain_quiet}
 use Rattle.run_laws.specs.Words.{Inside}
 use Rattle.run_laws.specs.Standing.{Standing, after_told, standing_of, moves, OwnMoves}
 use Rattle.run_laws.specs.Naming.{Promised, Joined, Deeds, Names, Now, PacketNames, ViewOk, Fine, IsInEpoch, Inner}
@@ -39,19 +41,6 @@ use Rattle.run_laws.proofs.Moves.{own_case, inside_moves, inside_own, now_old, n
 use Rattle.run_laws.proofs.InsideSteps.{quiet_inner, framed_inner, adopts_of_inner, tries_inner, mends_of_inner, call_inner, repeats_in_epoch}
 
 -- ---- tests ----
-
-both_true : (a b : Bool) → (a && b) ≡ true → (a ≡ true) × (b ≡ true)
-both_true true true h = (refl, refl)
-both_true true false h = absurd (cc)
-both_true false true h = absurd (cc)
-both_true false false h = absurd (cc)
-
-not_true : (a : Bool) → not a ≡ true → a ≡ false
-not_true true h = absurd (cc)
-not_true false h = refl
-
-never : true ≡ false → ⊥
-never e = cc
 
 same_epoch_eq : (a b : EpochId) → same_epoch a b ≡ true → a ≡ b
 same_epoch_eq a b h = id_eq (grind (arith, nat_tests)) (grind (arith, nat_tests)) (grind (arith, nat_tests))
@@ -64,12 +53,6 @@ not_below_number a b h = grind (arith, nat_tests)
 
 above : (a b : EpochId) → a.number + 1 ≤ b.number → is_epoch_below a b ≡ true
 above a b h = grind (arith, nat_tests)
-
-some_is : {A : Type 0} (x y : A) → ◌≡◌ {A = Option A} (Some x) (Some y) → x ≡ y
-some_is x y e = cc
-
-none_is : {A : Type 0} (x : A) → ◌≡◌ {A = Option A} None (Some x) → ⊥
-none_is x e = cc
 
 -- ---- leaving and promising ----
 
@@ -85,7 +68,7 @@ leaves_of_fine K s (Some e) v here h =
       view = record {
         round_is = h.round_is;
         waits = λ q. (let k : (v.epoch ≡ None) × K Promised v.promised = h.waits q in (refl, inl k.1));
-        joined = λ x k. absurd (none_is x k);
+        joined = λ x k. absurd (none_some x k);
         tables = tt;
       };
       stands = inside_moves s rest (after_told s (Shown (says.Leave s e.id)) (standing_of v)) none ∙ first;
@@ -106,9 +89,9 @@ promised_fine : (K : Deeds) (s : ℕ) (id : EpochId) (reach : Sites) (v : SiteVi
 promised_fine K s id reach v h below gone = record {
   boot = refl;
   view = record {
-    round_is = λ r e. absurd (none_is r e);
+    round_is = λ r e. absurd (none_some r e);
     waits = λ e. (gone, inr (inl (refl, refl)));
-    joined = λ e here. absurd (none_is e (sym gone ∙ here));
+    joined = λ e here. absurd (none_some e (sym gone ∙ here));
     tables = h.tables;
   };
   stands = own_case s (record { promised = id; installed = false; epoch = epoch_id v.epoch }) (standing_of v);
@@ -129,7 +112,7 @@ polls_fine : (K : Deeds) (s : ℕ) (id : EpochId) (polled : Links) (v : SiteView
 polls_fine K s id polled v h is_last waits =
     sends_fine K s (map (poll_packet s v.boot id polled) (polled_sites polled)) v (record v { round = Some (new_round id polled) }) refl refl
     (record {
-      round_is = λ r e. subst (λ (x : Round). (x.id ≡ v.promised) × (v.installed ≡ false)) (some_is (new_round id polled) r e) (is_last, waits);
+      round_is = λ r e. subst (λ (x : Round). (x.id ≡ v.promised) × (v.installed ≡ false)) (some_same (new_round id polled) r e) (is_last, waits);
       waits = h.waits;
       joined = h.joined;
       tables = h.tables;
@@ -171,7 +154,7 @@ on_poll_fine K s links from from_boot id v h =
 goes_on_round : (K : Deeds) (s : ℕ) (r q : Round) (v : SiteView) → ViewOk K v → v.round ≡ Some r → q.id ≡ r.id → Fine K s v (quiet (record v { round = Some q }))
 goes_on_round K s r q v h here same =
     sends_fine K s [] v (record v { round = Some q }) refl refl (record {
-      round_is = λ x e. (let k : (r.id ≡ v.promised) × (v.installed ≡ false) = h.round_is r here in subst (λ (y : Round). (y.id ≡ v.promised) × (v.installed ≡ false)) (some_is q x e) (same ∙ k.0, k.1));
+      round_is = λ x e. (let k : (r.id ≡ v.promised) × (v.installed ≡ false) = h.round_is r here in subst (λ (y : Round). (y.id ≡ v.promised) × (v.installed ≡ false)) (some_same q x e) (same ∙ k.0, k.1));
       waits = h.waits;
       joined = h.joined;
       tables = h.tables;
@@ -210,9 +193,9 @@ joins_fine K s c id m v h is_last waits =
     record {
       boot = refl;
       view = record {
-        round_is = λ r f. absurd (none_is r f);
-        waits = λ f. absurd (never f);
-        joined = λ x f. subst (λ (y : InEpoch). Now K s told Joined y.id × Now K s told Promised y.id) (some_is e x f) (inr (inl (refl, refl)), inl (subst (λ (i : EpochId). K Promised i) (sym is_last) k.1));
+        round_is = λ r f. absurd (none_some r f);
+        waits = λ f. absurd (true_false f);
+        joined = λ x f. subst (λ (y : InEpoch). Now K s told Joined y.id × Now K s told Promised y.id) (some_same e x f) (inr (inl (refl, refl)), inl (subst (λ (i : EpochId). K Promised i) (sym is_last) k.1));
         tables = every_map TableOk new_table _ (λ g. tt);
       };
       stands = own_case s (record { promised = v.promised; installed = true; epoch = Some id }) (standing_of v);

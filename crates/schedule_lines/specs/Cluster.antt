@@ -2,6 +2,7 @@
 use Rattle.std.specs.Prelude.{ℕ, ◌==◌, Bool, not, ◌&&◌, ◌||◌, List, [], ◌∷◌, ◌++◌, fold, slice_index_or, slice_set}
 use Rattle.std.specs.List.{list_any}
 use Rattle.std.specs.Str.{bytes_eq}
+use Rattle.locus_ids.specs.Sizes.{sites_max}
 use Rattle.locus_ids.specs.declared.sites.Sites.{Sites}
 use Rattle.locus_ids.specs.declared.config.Config.{Config}
 use Rattle.trace_book.specs.Names.{is_name}
@@ -44,7 +45,7 @@ is_whole c = has_packs c 0 && is_settled c 1 && is_settled c 2 && is_settled c 3
 -- The header line may stand next: the number of sites first and once, each group once, with some of these sites, and
 -- each mount once, after its group, on a plain name that no other group is mounted on.
 abbrev pub may_join : Config → HeaderLine → Bool
-may_join c (header.Sites count) = c.sites == 0 && is_between 1 16 count
+may_join c (header.Sites count) = c.sites == 0 && is_between 1 sites_max count
 may_join c (header.Group group set) = is_between 0 3 group && not (has_packs c group) && is_some_sites c.sites set
 may_join c (header.Mount group name) = is_between 1 3 group && has_packs c group && not (is_mounted c group) && is_name name && not (is_mount_name c name)
 

@@ -1,6 +1,7 @@
 -- The ranges of the operands, each as a test that computes. Nothing here depends on other lines but the number of sites.
-use Rattle.std.specs.Prelude.{ℕ, ◌^◌, ◌==◌, Bool, true, false, not, ◌&&◌, List, length, min, nat_le, nat_lt, Option, None, Some}
+use Rattle.std.specs.Prelude.{ℕ, ◌^◌, ◌==◌, Bool, true, false, not, ◌&&◌, List, length, min, nat_le, nat_lt, Option, None, Some, ◌-◌}
 use Rattle.std.specs.List.{list_all}
+use Rattle.locus_ids.specs.Sizes.{sites_max, file_bytes_max, descriptor_span}
 use Rattle.locus_ids.specs.declared.sites.Sites.{Sites}
 use Rattle.trace_book.specs.declared.call.Call.{Call}
 use Rattle.trace_book.specs.declared.call.Call.TheVariants as call
@@ -17,11 +18,11 @@ is_between low high n = nat_le low n && nat_le n high
 
 -- one of sites 1 to n; no cluster has more than 16
 abbrev pub is_site : ℕ → ℕ → Bool
-is_site n site = is_between 1 (min n 16) site
+is_site n site = is_between 1 (min n sites_max) site
 
 -- some of sites 1 to n
 abbrev pub is_some_sites : ℕ → Sites → Bool
-is_some_sites n set = nat_lt 0 set.0 && nat_lt set.0 (2 ^ min n 16)
+is_some_sites n set = nat_lt 0 set.0 && nat_lt set.0 (2 ^ min n sites_max)
 
 -- a word: one or more printing bytes, none of them a space
 abbrev pub is_word_byte : ℕ → Bool
@@ -34,7 +35,7 @@ abbrev pub is_byte : ℕ → Bool
 is_byte b = nat_lt b 256
 
 abbrev pub is_descriptor : ℕ → Bool
-is_descriptor fd = nat_le fd 65535
+is_descriptor fd = nat_le fd (descriptor_span - 1)
 
 -- the sites that a new file's copies are for, where the call names them
 abbrev pub fits_copies : ℕ → Option Sites → Bool
@@ -56,9 +57,9 @@ fits_call n (call.Rename path name) = is_word path && is_word name
 fits_call n (call.List path) = is_word path
 fits_call n (call.Stat path) = is_word path
 fits_call n (call.Open path mode) = is_word path && fits_mode n mode
-fits_call n (call.Read fd at len) = is_descriptor fd && nat_le at 65536 && nat_le len 4096
-fits_call n (call.Write fd at bytes) = is_descriptor fd && nat_le at 65536 && is_between 1 4096 (length bytes) && list_all is_byte bytes
-fits_call n (call.Cut fd len) = is_descriptor fd && nat_le len 65536
+fits_call n (call.Read fd at len) = is_descriptor fd && nat_le at file_bytes_max && nat_le len 4096
+fits_call n (call.Write fd at bytes) = is_descriptor fd && nat_le at file_bytes_max && is_between 1 4096 (length bytes) && list_all is_byte bytes
+fits_call n (call.Cut fd len) = is_descriptor fd && nat_le len file_bytes_max
 fits_call n (call.Commit fd) = is_descriptor fd
 fits_call n (call.Abort fd) = is_descriptor fd
 fits_call n (call.Close fd) = is_descriptor fd

@@ -2,6 +2,7 @@
 use Rattle.std.specs.Prelude.{ℕ, ◌≡◌, ◌==◌, Bool, true, List, [], ◌∷◌, ◌++◌, codes}
 use Rattle.std.specs.List.{join_by}
 use Rattle.hex.specs.Hex.{encode_lower}
+use Rattle.locus_ids.specs.Sizes.{sites_max}
 use Rattle.locus_ids.specs.declared.sites.Sites.{Sites}
 use Rattle.trace_book.specs.Text.{call_words, gap, number, sites_to}
 use Rattle.schedule_lines.specs.declared.header.HeaderLine.{HeaderLine}
@@ -15,7 +16,7 @@ use Rattle.schedule_lines.specs.declared.line.ScheduleLine.TheVariants.{Passed, 
 
 -- the sites of a set, ascending, with a space between each two
 abbrev pub site_words : Sites → List ℕ
-site_words sites = join_by number gap (sites_to sites 16)
+site_words sites = join_by number gap (sites_to sites sites_max)
 
 -- a word and one operand
 abbrev pub one_operand : List ℕ → List ℕ → List ℕ

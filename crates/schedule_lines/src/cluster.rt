@@ -6,6 +6,7 @@ ghost use Rattle.schedule_lines.specs.Cluster.{has_packs, is_mount_name, is_moun
 ghost use Rattle.schedule_lines.specs.Ranges.{is_some_sites};
 
 use locus_ids::Config;
+use locus_ids::sizes::SITES;
 
 /// A line has said which sites have packs of the group.
 pub(crate) fn has_packs(c: &Config, group: u8) -> bool
@@ -49,7 +50,7 @@ pub(crate) fn is_whole(c: &Config) -> bool
 pub(crate) fn is_some_sites(n: u8, bits: u16) -> bool
     ensures { result ≡ is_some_sites n (record { 0 = bits }) }
 {
-    0 < bits && u32::from(bits) < 1 << n.min(16)
+    0 < bits && u32::from(bits) < 1 << n.min(SITES as u8)
 }
 
 /// A plain name.

@@ -1,9 +1,10 @@
 use crate::cluster::{has_packs, is_mount_name, is_mounted, is_name, is_some_sites, is_whole};
+use locus_ids::sizes::SITES;
 use locus_ids::{Bytes, Config, Mount, Mounts, NoMemory, Sites};
 use std::alloc::Global;
 
 /// A line that says what the cluster is.
-#[derive(Debug, Drop)]
+#[derive(Drop)]
 pub enum HeaderLine {
     Sites { count: u8 },
     /// The sites that have a pack of the group.
@@ -13,7 +14,7 @@ pub enum HeaderLine {
 }
 
 /// What the header lines have said so far.
-#[derive(Debug, Drop)]
+#[derive(Drop)]
 pub struct Header {
     /// The cluster that they make.
     pub config: Config,
@@ -44,7 +45,9 @@ impl Header {
         ensures { result ≡ may_join self.now.config line.now }
     {
         match line {
-            HeaderLine::Sites { count } => { self.config.sites == 0 && 1 <= *count && *count <= 16 }
+            HeaderLine::Sites { count } => {
+                self.config.sites == 0 && 1 <= *count && *count <= SITES as u8
+            }
             HeaderLine::Group { group, sites } => {
                 *group <= 3
                     && !has_packs(&self.config, *group)

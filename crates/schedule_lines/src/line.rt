@@ -3,7 +3,7 @@ use locus_ids::SiteId;
 use trace_book::Call;
 
 /// What a stop within a disk call leaves of the ranges that are not synced.
-#[derive(Clone, Copy, Debug, PartialEq, Eq)]
+#[derive(Clone, Copy, PartialEq, Eq)]
 pub enum Leave {
     Old,
     New,
@@ -12,7 +12,7 @@ pub enum Leave {
 }
 
 /// A line that says what happens.
-#[derive(Debug, Drop)]
+#[derive(Drop)]
 pub enum Line {
     Call {
         site: SiteId,
@@ -73,7 +73,7 @@ pub enum Line {
 }
 
 /// A line of a schedule.
-#[derive(Debug, Drop)]
+#[derive(Drop)]
 pub enum ScheduleLine {
     /// An empty line or a comment.
     Passed,

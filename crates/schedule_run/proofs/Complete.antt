@@ -1,6 +1,5 @@
 -- What a line needs of the lines before it so that nothing but memory can be wanting.
-use Rattle.std.proofs.Common.{◌≡◌, ℕ, ◌+◌, ◌≤◌, List, [], ◌∷◌, ◌++◌, length, Result, Ok, Err, refl, sym, ap, subst, ◌∙◌, append_assoc, arith}
-use Rattle.std.proofs.lemmas.List.{append-nil}
+use Rattle.std.proofs.Common.{◌≡◌, ℕ, ◌+◌, ◌≤◌, List, [], ◌∷◌, ◌++◌, length, Result, Err, refl, sym, ap, subst, ◌∙◌, append_assoc, arith}
 use Rattle.std.specs.Result.{IsErrAnd}
 use Rattle.locus_ids.specs.declared.config.Config.{Config}
 use Rattle.schedule_lines.specs.Cluster.{config_of, with_line}
@@ -12,11 +11,11 @@ use Rattle.line_text.specs.ReadSoFar.{ReadsNext}
 use Rattle.line_text.specs.declared.schedule_reader.LineRead.TheVariants as told
 use Rattle.line_text.specs.declared.schedule_reader.ScheduleReader.{ScheduleReader}
 use Rattle.generated_load.specs.Pieces.{events_of}
-use Rattle.row_laws.specs.Voids.{LinesFit}
-use Rattle.row_laws.proofs.Fitting.{schedule_fits}
-use Rattle.order_laws.specs.Joining.{PacksAreOfSites}
-use Rattle.rest_laws.proofs.Packs.{schedule_packs}
-use Rattle.rest_laws.proofs.StoreStepFirst.{four_groups}
+use Rattle.world.specs.of_row_laws.Voids.{LinesFit}
+use Rattle.world.proofs.of_row_laws.Fitting.{schedule_fits}
+use Rattle.world.specs.of_order_laws.Joining.{PacksAreOfSites}
+use Rattle.world.proofs.of_rest_laws.Packs.{schedule_packs}
+use Rattle.world.proofs.of_rest_laws.StoreStepFirst.{four_groups}
 use Rattle.input_order_laws.proofs.Order.{first_in_order, more_in_order}
 use Rattle.world.specs.declared.fault.WorldFault.{WorldFault}
 use Rattle.schedule_run.specs.declared.fault.RunFault.{RunFault}
@@ -46,11 +45,6 @@ event_order lines bytes e after o n = subst (λ (l : ScheduleLine). AreInOrder (
 
 pub event_config : (lines : List ScheduleLine) (bytes : List ℕ) (e : Line) (after : ScheduleReader) → ReadsNext lines bytes (told.Event e) after → after.header.config ≡ config_of lines
 event_config lines bytes e after n = ap (λ (k : ScheduleReader). k.header.config) n.next ∙ (config_more lines n.line ∙ ap (with_line (config_of lines)) n.tells)
-
--- event lines change no cluster
-pub config_events : (lines : List ScheduleLine) (es : List Line) → config_of (lines ++ events_of es) ≡ config_of lines
-config_events lines [] = ap config_of (append-nil lines)
-config_events lines (e ∷ es) = ap config_of (sym (append_assoc lines (Event e ∷ []) (events_of es))) ∙ (config_events (lines ++ Event e ∷ []) es ∙ config_more lines (Event e))
 
 events_both : (es fs : List Line) → events_of (es ++ fs) ≡ events_of es ++ events_of fs
 events_both [] fs = refl

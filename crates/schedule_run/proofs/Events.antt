@@ -1,7 +1,6 @@
 -- The load with one event done, and with all.
 use Rattle.std.specs.Prelude.{IfSome}
-use Rattle.std.proofs.Common.{◌≡◌, ℕ, zero, suc, ◌+◌, ◌-◌, ◌≤◌, Option, Some, List, [], ◌++◌, refl, sym, ap, subst, ◌∙◌, append_assoc, arith}
-use Rattle.std.proofs.lemmas.List.{append-nil}
+use Rattle.std.proofs.Common.{◌≡◌, ℕ, zero, suc, ◌+◌, ◌-◌, ◌≤◌, Option, Some, List, ◌++◌, sym, ap, subst, ◌∙◌, append_assoc, arith}
 use Rattle.schedule_lines.specs.declared.line.Line.{Line}
 use Rattle.schedule_lines.specs.declared.line.ScheduleLine.{ScheduleLine}
 use Rattle.rand_pcg.specs.Lcg.{Lcg}
@@ -16,15 +15,9 @@ pub left_next : (event left : ℕ) (g : Lcg) → 1 ≤ left → lines_left (reco
 left_next event zero g h = absurd (omega arith)
 left_next event (suc k) g h = let e : k ≡ suc k - 1 = omega arith in ap (λ j. lines_of event (draw g).0 ++ load_events (event + 1) (draws_from j (draw g).1)) e
 
-left_none : (l : LoadLeft) → l.left ≡ 0 → lines_left l ≡ []
-left_none l e = ap (λ k. load_events l.event (draws_from k l.generator)) e
-
 -- some events of the load were done, and these are left
 abbrev pub Does : LoadLeft → LoadLeft → OpenedRun → OpenedRun → Type 0
 Does first l old new = (lines : List ScheduleLine) (taken : Taken) → HasDone lines taken old → (done : List ScheduleLine) × (done ++ lines_left l ≡ lines_left first) × HasDone (lines ++ done) taken new
-
-pub does_none : (l : LoadLeft) (r : OpenedRun) → Does l l r r
-does_none l r lines taken h = ([], refl, subst (λ (ls : List ScheduleLine). HasDone ls taken r) (sym (append-nil lines)) h)
 
 pub does_next : (first l m : LoadLeft) (events : List Line) (start old new : OpenedRun) → 1 ≤ l.left → events_of events ≡ next_lines l → m ≡ moved l → Does first l start old
     → ((lines : List ScheduleLine) (taken : Taken) → HasDone lines taken old → HasDone (lines ++ events_of events) taken new) → Does first m start new
@@ -36,12 +29,6 @@ does_next first l m events start old new some ee em before last lines taken h =
       subst (λ (ls : List ScheduleLine). HasDone ls taken new) (append_assoc lines b.0 (next_lines l))
           (subst (λ (ls : List ScheduleLine). HasDone ((lines ++ b.0) ++ ls) taken new) ee (last (lines ++ b.0) taken b.2)),
     )
-
-pub does_all : (first l : LoadLeft) (start new : OpenedRun) → l.left ≡ 0 → Does first l start new → (lines : List ScheduleLine) (taken : Taken) → HasDone lines taken start → HasDone (lines ++ lines_left first) taken new
-does_all first l start new none does lines taken h =
-    let b = does lines taken h in
-    let e : b.0 ≡ lines_left first = sym (append-nil b.0) ∙ (ap (λ (ls : List ScheduleLine). b.0 ++ ls) (sym (left_none l none)) ∙ b.1) in
-    subst (λ (ls : List ScheduleLine). HasDone (lines ++ ls) taken new) e b.2
 
 -- the whole load
 pub load_whole : (number events : ℕ) (left closing : List ScheduleLine) → left ≡ lines_left (first_left number events) → closing ≡ closing_lines → (opening_lines 20000 ++ left) ++ closing ≡ load_lines (draws_of number events)

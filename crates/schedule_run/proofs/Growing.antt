@@ -28,14 +28,6 @@ pub from_more : (c : Config) (n : ℕ) (lines : List ScheduleLine) (l : Schedule
 from_more c n [] l w = ap (λ k. acts_line c k l w) (omega arith)
 from_more c n (x ∷ lines) l w = from_more c (n + 1) lines l (acts_line c n x w) ∙ ap (λ k. acts_line c k l (run_from c (n + 1) lines (acts_line c n x w))) (omega arith)
 
-or_left : (a b : Bool) → (a || b) ≡ false → a ≡ false
-or_left true b e = absurd (cc)
-or_left false b e = refl
-
-or_right : (a b : Bool) → (a || b) ≡ false → b ≡ false
-or_right true b e = absurd (cc)
-or_right false b e = e
-
 -- without an event line nothing happens
 pub from_quiet : (c : Config) (n : ℕ) (lines : List ScheduleLine) (w : World) → has_begun lines ≡ false → run_from c n lines w ≡ w
 from_quiet c n [] w e = refl

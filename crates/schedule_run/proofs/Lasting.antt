@@ -1,13 +1,12 @@
 -- The runner after one line more.
 use Rattle.std.proofs.Common.{◌≡◌, ℕ, ◌+◌, true, false, Bool, not, ◌&&◌, ◌||◌, List, [], ◌∷◌, ◌++◌, length, Option, None, Some, Result, Ok, Err, refl, sym, ap, subst, ◌∙◌}
-use Rattle.std.specs.Prelude.{IfSome, OnOk}
+use Rattle.std.specs.Prelude.{OnOk}
 use Rattle.locus_ids.specs.declared.config.Config.{Config}
-use Rattle.schedule_lines.specs.Cluster.{config_of, may_join, with_line}
-use Rattle.schedule_lines.specs.Schedule.{has_begun, is_event, MayStand}
-use Rattle.schedule_lines.specs.declared.header.HeaderLine.{HeaderLine}
+use Rattle.schedule_lines.specs.Cluster.{config_of, with_line}
+use Rattle.schedule_lines.specs.Schedule.{has_begun, is_event}
 use Rattle.schedule_lines.specs.declared.line.Line.{Line}
 use Rattle.schedule_lines.specs.declared.line.ScheduleLine.{ScheduleLine}
-use Rattle.schedule_lines.specs.declared.line.ScheduleLine.TheVariants.{Passed, Header, Event}
+use Rattle.schedule_lines.specs.declared.line.ScheduleLine.TheVariants.{Passed, Event}
 use Rattle.the_run.specs.Worlds.{World as RunWorld, first_world}
 use Rattle.the_run.specs.Runs.{act, run, printed}
 use Rattle.world.specs.declared.world.World.{World}
@@ -38,11 +37,6 @@ passed_stands lines taken number (Some x) e s =
     let c = config_more lines Passed in
     let r = run_more lines Passed number e c in
     (begun lines Passed s.0, subst (λ (k : Config). Shows k (text_taken taken) (run (lines ++ Passed ∷ [])) (state_of x)) (sym c) (subst (λ (w : RunWorld). Shows (config_of lines) (text_taken taken) w (state_of x)) (sym r) s.1))
-
--- a header line, which only comes before all event lines
-pub header_stands : (lines : List ScheduleLine) (taken : List ℕ) (h : HeaderLine) (w : Option World) → (not (has_begun lines) && may_join (config_of lines) h) ≡ true → StandsAs lines taken w → StandsAs (lines ++ Header h ∷ []) taken w
-header_stands lines taken h None e s = (not_begun lines (Header h) s.0 refl, s.1)
-header_stands lines taken h (Some x) e s = absurd (let f : has_begun lines ≡ false = untrue (has_begun lines) (may_join (config_of lines) h) e in let g : has_begun lines ≡ true = s.0 in cc)
 
 is_begun : (lines : List ScheduleLine) (e : Line) → has_begun (lines ++ Event e ∷ []) ≡ true
 is_begun lines e = begun_more lines (Event e) ∙ or_true (has_begun lines) where
@@ -80,21 +74,6 @@ passed_next lines bytes taken number r new en h n same = record {
   };
 }
 
--- the runner after a header line
-pub header_next : (lines : List ScheduleLine) (bytes taken : List ℕ) (r new : ScheduleRunner) → HasRun lines taken r → ReadsNext lines bytes told.Header new.reader → new.world ≡ r.world → RunsNext lines bytes taken new
-header_next lines bytes taken r new h n same =
-    let x : HeaderLine = n.tells.0 in
-    let may : MayStand lines (Header x) = subst (MayStand lines) n.tells.1 n.reads.1 in
-    record {
-      line = n.line;
-      reads = n.reads;
-      ran = record {
-        reader = n.next;
-        world = subst (λ (y : Option World). StandsAs (lines ++ n.line ∷ []) taken y) (sym same)
-            (subst (λ (l : ScheduleLine). StandsAs (lines ++ l ∷ []) taken r.world) (sym n.tells.1) (header_stands lines taken x r.world may h.world));
-      };
-    }
-
 -- what an event line does in a world that stands as the run does: where the event goes well, the runner is the one after it
 pub event_next : (lines : List ScheduleLine) (bytes taken : List ℕ) (number : ℕ) (e : Line) (r mid new : ScheduleRunner) (f : Result (Unit {0}) RunFault) →
     number ≡ length lines + 1 → HasRun lines taken r → ReadsNext lines bytes (told.Event e) mid.reader → mid.world ≡ r.world → OnOk f (new.reader ≡ mid.reader)
@@ -112,12 +91,6 @@ event_next lines bytes taken number e r mid new (Ok x) en h n same kept acts =
         world = subst (λ (l : ScheduleLine). StandsAs (lines ++ l ∷ []) taken new.world) (sym n.tells) (acts lines taken en config stood);
       };
     }
-
--- the text that is fresh
-pub fresh_follows : (lines : List ScheduleLine) (taken : List ℕ) (w : Option World) (bytes : List ℕ) → StandsAs lines taken w
-    → IfSome w (λ x. (c : Config) (ts : List ℕ) (v : RunWorld) → Shows c (text_taken ts) v (state_of x) → printed v ≡ ts ++ bytes) → (w ≡ None → bytes ≡ []) → printed (run lines) ≡ taken ++ bytes
-fresh_follows lines taken None bytes s f none = nothing_told lines s.0 ∙ sym (ap (λ (t : List ℕ). t ++ bytes) s.1 ∙ none refl)
-fresh_follows lines taken (Some x) bytes s f none = f (config_of lines) taken (run lines) s.1
 
 -- the runner whose text was taken
 pub taken_stands : (lines : List ScheduleLine) (taken : List ℕ) (x y : World) → StandsAs lines taken (Some x)

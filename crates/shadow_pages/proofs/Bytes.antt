@@ -2,6 +2,7 @@
 use Rattle.std.proofs.Common.{◌≡◌, ℕ, zero, suc, ◌+◌, ◌-◌, ◌*◌, ◌<◌, ◌≤◌, min, max, cond, ltb, List, [], ◌∷◌, ◌++◌, length, get_or, take, drop, replicate, refl, sym, ap, ◌∙◌, arith, inl, inr}
 use Rattle.std.proofs.lemmas.Bool.{cases_lt, lt-ltb, le-ltb, le-leb, lt-leb}
 use Rattle.std.proofs.lemmas.List.{length-append, length-take, length-drop, length-replicate, get_or-take, get_or-drop, get_or_past, get_or-replicate, get_or_append_left, get_or-append_right, append-nil, drop_all}
+use Rattle.locus_ids.specs.Sizes.{page_bytes}
 use Rattle.file_content.specs.Contents.{written}
 use Rattle.shadow_pages.specs.Working.{Working, below, spliced, padded, over, byte_after, byte_at, content}
 
@@ -108,59 +109,59 @@ pub length_content : (base : List ℕ) (w : Working) → length (content base w)
 length_content base w = length_below (byte_at base w) w.size
 
 -- a page as it was as far as the content goes, and zeros
-first_part : (i k size kept : ℕ) (before page : List ℕ) → k < 1024 → kept ≡ min (min (size - 1024 * i) 1024) (length before) → page ≡ spliced 0 (take kept before) (replicate 1024 0)
-    → get_or page k 0 ≡ cond (ltb (1024 * i + k) size) (get_or before k 0) 0
+first_part : (i k size kept : ℕ) (before page : List ℕ) → k < page_bytes → kept ≡ min (min (size - page_bytes * i) page_bytes) (length before) → page ≡ spliced 0 (take kept before) (replicate page_bytes 0)
+    → get_or page k 0 ≡ cond (ltb (page_bytes * i + k) size) (get_or before k 0) 0
 first_part i k size kept before page small is e =
     let len : length (take kept before) ≡ kept = omega (arith, length-take kept before) in
-    let one : get_or page k 0 ≡ over 0 (take kept before) k (get_or (replicate 1024 0) k 0) = rw e (spliced_at 0 (take kept before) (replicate 1024 0) k (omega arith)) in
-    let two : get_or page k 0 ≡ over 0 (take kept before) k 0 = one ∙ ap (λ (b : ℕ). over 0 (take kept before) k b) (zero_at 1024 k) in
+    let one : get_or page k 0 ≡ over 0 (take kept before) k (get_or (replicate page_bytes 0) k 0) = rw e (spliced_at 0 (take kept before) (replicate page_bytes 0) k (omega arith)) in
+    let two : get_or page k 0 ≡ over 0 (take kept before) k 0 = one ∙ ap (λ (b : ℕ). over 0 (take kept before) k b) (zero_at page_bytes k) in
     two ∙ elim (cases_lt k kept) [
-      | inl lt ↦ over_in 0 (take kept before) k 0 (omega arith) (omega arith) ∙ rw (lt-ltb (1024 * i + k) size (omega arith)) (ap (λ (n : ℕ). get_or (take kept before) n 0) (none k) ∙ get_or-take kept before k 0 lt)
-      | inr le ↦ over_past 0 (take kept before) k 0 (omega arith) ∙ elim (cases_lt (1024 * i + k) size) [
-        | inl lt ↦ rw (lt-ltb (1024 * i + k) size lt) (sym (get_or_past before k 0 (omega arith)))
-        | inr past ↦ rw (le-ltb (1024 * i + k) size past) refl
+      | inl lt ↦ over_in 0 (take kept before) k 0 (omega arith) (omega arith) ∙ rw (lt-ltb (page_bytes * i + k) size (omega arith)) (ap (λ (n : ℕ). get_or (take kept before) n 0) (none k) ∙ get_or-take kept before k 0 lt)
+      | inr le ↦ over_past 0 (take kept before) k 0 (omega arith) ∙ elim (cases_lt (page_bytes * i + k) size) [
+        | inl lt ↦ rw (lt-ltb (page_bytes * i + k) size lt) (sym (get_or_past before k 0 (omega arith)))
+        | inr past ↦ rw (le-ltb (page_bytes * i + k) size past) refl
       ]
     ] where
       none : (k : ℕ) → k - 0 ≡ k
       none k = omega arith
 
-length_first : (kept : ℕ) (before page : List ℕ) → kept ≤ 1024 → page ≡ spliced 0 (take kept before) (replicate 1024 0) → length page ≡ 1024
+length_first : (kept : ℕ) (before page : List ℕ) → kept ≤ page_bytes → page ≡ spliced 0 (take kept before) (replicate page_bytes 0) → length page ≡ page_bytes
 length_first kept before page small e =
-    rw e (omega (arith, length_spliced 0 (take kept before) (replicate 1024 0) (omega arith), length-take kept before, length-replicate {A = ℕ} 1024 0))
+    rw e (omega (arith, length_spliced 0 (take kept before) (replicate page_bytes 0) (omega arith), length-take kept before, length-replicate {A = ℕ} page_bytes 0))
 
 -- a page that a write meets
-pub page_met : (i k size at kept from to : ℕ) (bytes before first page : List ℕ) → k < 1024 → kept ≡ min (min (size - 1024 * i) 1024) (length before)
-    → first ≡ spliced 0 (take kept before) (replicate 1024 0) → from ≡ max at (1024 * i) → to ≡ min (at + length bytes) (1024 * i + 1024) → from < to
-    → page ≡ spliced (from - 1024 * i) (take ((to - at) - (from - at)) (drop (from - at) bytes)) first
-    → get_or page k 0 ≡ byte_after size at bytes (1024 * i + k) (get_or before k 0)
+pub page_met : (i k size at kept from to : ℕ) (bytes before first page : List ℕ) → k < page_bytes → kept ≡ min (min (size - page_bytes * i) page_bytes) (length before)
+    → first ≡ spliced 0 (take kept before) (replicate page_bytes 0) → from ≡ max at (page_bytes * i) → to ≡ min (at + length bytes) (page_bytes * i + page_bytes) → from < to
+    → page ≡ spliced (from - page_bytes * i) (take ((to - at) - (from - at)) (drop (from - at) bytes)) first
+    → get_or page k 0 ≡ byte_after size at bytes (page_bytes * i + k) (get_or before k 0)
 page_met i k size at kept from to bytes before first page small is e low high some e2 =
     let part : List ℕ = take ((to - at) - (from - at)) (drop (from - at) bytes) in
     let len : length part ≡ to - from = omega (arith, length-take ((to - at) - (from - at)) (drop (from - at) bytes), length-drop (from - at) bytes) in
-    let old : ℕ = cond (ltb (1024 * i + k) size) (get_or before k 0) 0 in
-    let one : get_or page k 0 ≡ over (from - 1024 * i) part k (get_or first k 0) = rw e2 (spliced_at (from - 1024 * i) part first k (omega (arith, length_first kept before first (omega arith) e))) in
-    one ∙ ap (λ (b : ℕ). over (from - 1024 * i) part k b) (first_part i k size kept before first small is e)
-    ∙ elim (cases_lt (1024 * i + k) at) [
-      | inl lt ↦ over_before (from - 1024 * i) part k old (omega arith) ∙ sym (over_before at bytes (1024 * i + k) old lt)
-      | inr le ↦ elim (cases_lt (1024 * i + k) (at + length bytes)) [
+    let old : ℕ = cond (ltb (page_bytes * i + k) size) (get_or before k 0) 0 in
+    let one : get_or page k 0 ≡ over (from - page_bytes * i) part k (get_or first k 0) = rw e2 (spliced_at (from - page_bytes * i) part first k (omega (arith, length_first kept before first (omega arith) e))) in
+    one ∙ ap (λ (b : ℕ). over (from - page_bytes * i) part k b) (first_part i k size kept before first small is e)
+    ∙ elim (cases_lt (page_bytes * i + k) at) [
+      | inl lt ↦ over_before (from - page_bytes * i) part k old (omega arith) ∙ sym (over_before at bytes (page_bytes * i + k) old lt)
+      | inr le ↦ elim (cases_lt (page_bytes * i + k) (at + length bytes)) [
         | inl lt ↦
-            over_in (from - 1024 * i) part k old (omega arith) (omega arith)
-            ∙ get_or-take ((to - at) - (from - at)) (drop (from - at) bytes) (k - (from - 1024 * i)) 0 (omega arith)
-            ∙ get_or-drop (from - at) bytes (k - (from - 1024 * i)) 0
+            over_in (from - page_bytes * i) part k old (omega arith) (omega arith)
+            ∙ get_or-take ((to - at) - (from - at)) (drop (from - at) bytes) (k - (from - page_bytes * i)) 0 (omega arith)
+            ∙ get_or-drop (from - at) bytes (k - (from - page_bytes * i)) 0
             ∙ ap (λ (n : ℕ). get_or bytes n 0) (there from at i k low le)
-            ∙ sym (over_in at bytes (1024 * i + k) old le lt)
-        | inr past ↦ over_past (from - 1024 * i) part k old (omega arith) ∙ sym (over_past at bytes (1024 * i + k) old past)
+            ∙ sym (over_in at bytes (page_bytes * i + k) old le lt)
+        | inr past ↦ over_past (from - page_bytes * i) part k old (omega arith) ∙ sym (over_past at bytes (page_bytes * i + k) old past)
       ]
     ] where
-      there : (from at i k : ℕ) → from ≡ max at (1024 * i) → at ≤ 1024 * i + k → (from - at) + (k - (from - 1024 * i)) ≡ (1024 * i + k) - at
+      there : (from at i k : ℕ) → from ≡ max at (page_bytes * i) → at ≤ page_bytes * i + k → (from - at) + (k - (from - page_bytes * i)) ≡ (page_bytes * i + k) - at
       there from at i k low le = omega arith
 
 -- a page that it doesn't meet
-pub page_missed : (i k size at kept from to : ℕ) (bytes before page : List ℕ) → k < 1024 → kept ≡ min (min (size - 1024 * i) 1024) (length before)
-    → page ≡ spliced 0 (take kept before) (replicate 1024 0) → from ≡ max at (1024 * i) → to ≡ min (at + length bytes) (1024 * i + 1024) → to ≤ from
-    → get_or page k 0 ≡ byte_after size at bytes (1024 * i + k) (get_or before k 0)
+pub page_missed : (i k size at kept from to : ℕ) (bytes before page : List ℕ) → k < page_bytes → kept ≡ min (min (size - page_bytes * i) page_bytes) (length before)
+    → page ≡ spliced 0 (take kept before) (replicate page_bytes 0) → from ≡ max at (page_bytes * i) → to ≡ min (at + length bytes) (page_bytes * i + page_bytes) → to ≤ from
+    → get_or page k 0 ≡ byte_after size at bytes (page_bytes * i + k) (get_or before k 0)
 page_missed i k size at kept from to bytes before page small is e low high none =
-    let old : ℕ = cond (ltb (1024 * i + k) size) (get_or before k 0) 0 in
-    first_part i k size kept before page small is e ∙ elim (cases_lt (1024 * i + k) at) [
-      | inl lt ↦ sym (over_before at bytes (1024 * i + k) old lt)
-      | inr le ↦ sym (over_past at bytes (1024 * i + k) old (omega arith))
+    let old : ℕ = cond (ltb (page_bytes * i + k) size) (get_or before k 0) 0 in
+    first_part i k size kept before page small is e ∙ elim (cases_lt (page_bytes * i + k) at) [
+      | inl lt ↦ sym (over_before at bytes (page_bytes * i + k) old lt)
+      | inr le ↦ sym (over_past at bytes (page_bytes * i + k) old (omega arith))
     ]

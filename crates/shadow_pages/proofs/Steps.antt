@@ -4,6 +4,7 @@ use Rattle.std.specs.Option.{is_none, unwrap_or, option_map}
 use Rattle.std.proofs.lemmas.Bool.{cases_lt, cases_eq, lt-ltb, le-ltb, le-leb, lt-leb}
 use Rattle.std.proofs.lemmas.List.{length-append, length-set, get_or_append_left, get_or-append_right, get_or-set_same, get_or-set_other, take-append-le}
 use Rattle.std.proofs.Math.Seq.{take-length}
+use Rattle.locus_ids.specs.Sizes.{page_bytes}
 use denote.Ref.{Bor}
 use Rattle.shadow_pages.specs.Working.{Working, byte_in, byte_at, number_changed, count_below, byte_after, touches, IsPageAfter}
 use Rattle.shadow_pages.specs.declared.base_page.BasePage.{BasePage}
@@ -105,20 +106,20 @@ grown_step old pages after before counter low g e =
 before_is : (w : Working) (handed : List BasePage) (base : List ℕ) (i at n : ℕ) (before : List ℕ) → AreOf base w.size handed → IsTrue (touches w at n i) → Hands w at n handed
     → ((page : List ℕ) → get_or w.pages i None ≡ Some page → before ≡ page)
     → (get_or w.pages i None ≡ None → (found : Option (Bor (List ℕ))) × Finds handed i found × (unwrap_or (option_map (λ (b : Bor (List ℕ)). b.now) found) [] ≡ before))
-    → (k : ℕ) → k < 1024 → 1024 * i + k < w.size → get_or before k 0 ≡ byte_at base w (1024 * i + k)
+    → (k : ℕ) → k < page_bytes → page_bytes * i + k < w.size → get_or before k 0 ≡ byte_at base w (page_bytes * i + k)
 before_is w handed base i at n before of touched hands changed unchanged k small inside =
-    let a : (1024 * i + k) / 1024 ≡ i = omega arith in
-    let b : (1024 * i + k) % 1024 ≡ k = omega arith in
+    let a : (page_bytes * i + k) / page_bytes ≡ i = omega arith in
+    let b : (page_bytes * i + k) % page_bytes ≡ k = omega arith in
     rw (a, b) (by_case (get_or w.pages i None) refl)
   where
-    by_case : (p : Option (List ℕ)) → get_or w.pages i None ≡ p → get_or before k 0 ≡ byte_in p k (get_or base (1024 * i + k) 0)
+    by_case : (p : Option (List ℕ)) → get_or w.pages i None ≡ p → get_or before k 0 ≡ byte_in p k (get_or base (page_bytes * i + k) 0)
     by_case (Some page) e = ap (λ (bs : List ℕ). get_or bs k 0) (changed page e)
     by_case None e = let u = unchanged e in searched u.0 u.1 u.2 (hands i touched (omega arith) e) where
       missing : (handed : List BasePage) → (j : ℕ) × (j < length handed) × ((d : BasePage) → (get_or handed j d).page ≡ i) → Finds handed i None → ⊥
       missing [] there no_page = absurd (omega (arith, there.1))
       missing (h ∷ hs) there no_page = no_page there.0 h there.1 (there.2 h)
 
-      searched : (found : Option (Bor (List ℕ))) → Finds handed i found → unwrap_or (option_map (λ (b : Bor (List ℕ)). b.now) found) [] ≡ before → (j : ℕ) × (j < length handed) × ((d : BasePage) → (get_or handed j d).page ≡ i) → get_or before k 0 ≡ get_or base (1024 * i + k) 0
+      searched : (found : Option (Bor (List ℕ))) → Finds handed i found → unwrap_or (option_map (λ (b : Bor (List ℕ)). b.now) found) [] ≡ before → (j : ℕ) × (j < length handed) × ((d : BasePage) → (get_or handed j d).page ≡ i) → get_or before k 0 ≡ get_or base (page_bytes * i + k) 0
       searched None no_page same there = absurd (missing handed there no_page)
       searched (Some b) is same there = ap (λ (bs : List ℕ). get_or bs k 0) (sym same) ∙ is base w.size of k small inside
 
@@ -134,7 +135,7 @@ pub written_step : (w : Working) (at : ℕ) (bytes : List ℕ) (handed : List Ba
 written_step w at bytes handed first i made after page before so_far len is touched hands changed unchanged e = rw e (record {
   pages = λ base of j lt. elim (cases_lt j (length made)) [
     | inl below ↦ λ k small. ap (λ (p : List ℕ). get_or p k 0) (get_or_append_left made (page ∷ []) [] j below) ∙ so_far.pages base of j below k small
-    | inr le ↦ λ k small. ap (λ (p : List ℕ). get_or p k 0) (last j lt le) ∙ is k small ∙ here base of k small ∙ ap (λ (n : ℕ). byte_after w.size at bytes (1024 * n + k) (byte_at base w (1024 * n + k))) (sym (place j lt le))
+    | inr le ↦ λ k small. ap (λ (p : List ℕ). get_or p k 0) (last j lt le) ∙ is k small ∙ here base of k small ∙ ap (λ (n : ℕ). byte_after w.size at bytes (page_bytes * n + k) (byte_at base w (page_bytes * n + k))) (sym (place j lt le))
   ];
   zeros = λ j lt. elim (cases_lt j (length made)) [
     | inl below ↦ λ k small past. ap (λ (p : List ℕ). get_or p k 0) (get_or_append_left made (page ∷ []) [] j below) ∙ so_far.zeros j below k small past
@@ -149,11 +150,11 @@ written_step w at bytes handed first i made after page before so_far len is touc
       let same : j - length made ≡ 0 = omega (arith, length-append made (page ∷ [])) in
       get_or-append_right made (page ∷ []) (length made) j [] refl le ∙ rw same refl
 
-  here : (base : List ℕ) → AreOf base w.size handed → (k : ℕ) → k < 1024 → byte_after w.size at bytes (1024 * i + k) (get_or before k 0) ≡ byte_after w.size at bytes (1024 * i + k) (byte_at base w (1024 * i + k))
-  here base of k small = elim (cases_lt (1024 * i + k) w.size) [
-    | inl lt ↦ ap (λ (b : ℕ). byte_after w.size at bytes (1024 * i + k) b) (before_is w handed base i at (length bytes) before of touched hands changed unchanged k small lt)
-    | inr le ↦ rw (le-ltb (1024 * i + k) w.size le) refl
+  here : (base : List ℕ) → AreOf base w.size handed → (k : ℕ) → k < page_bytes → byte_after w.size at bytes (page_bytes * i + k) (get_or before k 0) ≡ byte_after w.size at bytes (page_bytes * i + k) (byte_at base w (page_bytes * i + k))
+  here base of k small = elim (cases_lt (page_bytes * i + k) w.size) [
+    | inl lt ↦ ap (λ (b : ℕ). byte_after w.size at bytes (page_bytes * i + k) b) (before_is w handed base i at (length bytes) before of touched hands changed unchanged k small lt)
+    | inr le ↦ rw (le-ltb (page_bytes * i + k) w.size le) refl
   ]
 
-  none : (k : ℕ) → max w.size (at + length bytes) ≤ 1024 * i + k → byte_after w.size at bytes (1024 * i + k) (get_or before k 0) ≡ 0
-  none k past = rw (le-ltb (1024 * i + k) w.size (omega arith)) (over_past at bytes (1024 * i + k) 0 (omega arith))
+  none : (k : ℕ) → max w.size (at + length bytes) ≤ page_bytes * i + k → byte_after w.size at bytes (page_bytes * i + k) (get_or before k 0) ≡ 0
+  none k past = rw (le-ltb (page_bytes * i + k) w.size (omega arith)) (over_past at bytes (page_bytes * i + k) 0 (omega arith))

@@ -3,6 +3,7 @@ use Rattle.std.proofs.Common.{◌≡◌, ℕ, ◌+◌, ◌-◌, ◌*◌, ◌/◌
 use Rattle.std.specs.Option.{is_none, is_some}
 use Rattle.std.proofs.lemmas.Bool.{cases_lt, lt-ltb, le-ltb, le-leb, lt-leb}
 use Rattle.std.proofs.lemmas.Grind.{same_number_lists}
+use Rattle.locus_ids.specs.Sizes.{page_bytes}
 use Rattle.file_content.specs.Contents.{written}
 use Rattle.file_content.specs.Pages.{pages_of}
 use Rattle.shadow_pages.specs.Working.{Working, byte_at, content, number_changed, count_below, byte_after, over, touches, needed, AreAmong, IsClean}
@@ -43,9 +44,9 @@ module _ (w : Working) (at : ℕ) (bytes : List ℕ) (handed : List BasePage) (f
     kept is = let p = among i (sym (ap (λ (o : Option (List ℕ)). is_some o) is) ∙ changed) in one i p.0 p.1
 
   -- a byte of a page that isn't touched stays
-  stays : (i k : ℕ) (old : ℕ) → ((first ≤ i) × (i < stop) → ⊥) → 1024 * i ≤ k → k < 1024 * i + 1024 → k < max w.size (at + length bytes) → byte_after w.size at bytes k old ≡ old
+  stays : (i k : ℕ) (old : ℕ) → ((first ≤ i) × (i < stop) → ⊥) → page_bytes * i ≤ k → k < page_bytes * i + page_bytes → k < max w.size (at + length bytes) → byte_after w.size at bytes k old ≡ old
   stays i k old off low high small =
-      let missed : (max (min at w.size) (1024 * i) < min (at + length bytes) (1024 * (i + 1))) → ⊥ = λ lt. off ((meets i).0 (lt-ltb _ _ lt)) in
+      let missed : (max (min at w.size) (page_bytes * i) < min (at + length bytes) (page_bytes * (i + 1))) → ⊥ = λ lt. off ((meets i).0 (lt-ltb _ _ lt)) in
       let inside : k < w.size = known w.size (at + length bytes) missed low high small in
       elim (cases_lt k at) [
         | inl lt ↦ over_before at bytes k _ lt ∙ rw (lt-ltb k w.size inside) refl
@@ -54,22 +55,22 @@ module _ (w : Working) (at : ℕ) (bytes : List ℕ) (handed : List BasePage) (f
           | inr past ↦ over_past at bytes k _ past ∙ rw (lt-ltb k w.size inside) refl
         ]
       ] where
-        known : (size end : ℕ) → ((max (min at size) (1024 * i) < min end (1024 * (i + 1))) → ⊥) → 1024 * i ≤ k → k < 1024 * i + 1024 → k < max size end → k < size
+        known : (size end : ℕ) → ((max (min at size) (page_bytes * i) < min end (page_bytes * (i + 1))) → ⊥) → page_bytes * i ≤ k → k < page_bytes * i + page_bytes → k < max size end → k < size
         known size end missed low high small = elim (cases_lt k size) [
           | inl lt ↦ lt
           | inr le ↦ absurd (missed (omega arith))
         ]
 
   byte_is : (base : List ℕ) → AreOf base w.size handed → (k : ℕ) → k < max w.size (at + length bytes) → byte_at base after k ≡ byte_after w.size at bytes k (byte_at base w k)
-  byte_is base of k small = elim (cases_lt (k / 1024) first) [
-    | inl lt ↦ rw (under_span (k / 1024) lt) (sym (stays (k / 1024) k (byte_at base w k) (λ p. absurd (omega (arith, p.0))) (omega arith) (omega arith) small))
-    | inr low ↦ elim (cases_lt (k / 1024) stop) [
+  byte_is base of k small = elim (cases_lt (k / page_bytes) first) [
+    | inl lt ↦ rw (under_span (k / page_bytes) lt) (sym (stays (k / page_bytes) k (byte_at base w k) (λ p. absurd (omega (arith, p.0))) (omega arith) (omega arith) small))
+    | inr low ↦ elim (cases_lt (k / page_bytes) stop) [
       | inl high ↦
-          let place : first + (k / 1024 - first) ≡ k / 1024 = omega arith in
-          let whole : 1024 * (k / 1024) + k % 1024 ≡ k = omega arith in
-          let page = wrote.pages base of (k / 1024 - first) (omega arith) (k % 1024) (omega arith) in
-          rw (in_span (k / 1024) low high) (rw (place, whole) at page)
-      | inr le ↦ rw (past_span (k / 1024) le) (sym (stays (k / 1024) k (byte_at base w k) (λ p. absurd (omega (arith, p.1))) (omega arith) (omega arith) small))
+          let place : first + (k / page_bytes - first) ≡ k / page_bytes = omega arith in
+          let whole : page_bytes * (k / page_bytes) + k % page_bytes ≡ k = omega arith in
+          let page = wrote.pages base of (k / page_bytes - first) (omega arith) (k % page_bytes) (omega arith) in
+          rw (in_span (k / page_bytes) low high) (rw (place, whole) at page)
+      | inr le ↦ rw (past_span (k / page_bytes) le) (sym (stays (k / page_bytes) k (byte_at base w k) (λ p. absurd (omega (arith, p.1))) (omega arith) (omega arith) small))
     ]
   ]
 

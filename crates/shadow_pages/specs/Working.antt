@@ -1,5 +1,6 @@
 -- A content that is worked on over a base: the pages that were changed, and for the rest the base.
 use Rattle.std.specs.Prelude.{◌≡◌, ℕ, zero, suc, ◌+◌, ◌-◌, ◌*◌, ◌/◌, ◌%◌, ◌<◌, ◌≤◌, min, max, Bool, true, ◌&&◌, nat_lt, nat_le, List, [], ◌∷◌, ◌++◌, length, take, drop, replicate, slice_index, slice_index_or, Some, None, Option, is_none, is_some, if◌then◌else◌}
+use Rattle.locus_ids.specs.Sizes.{page_bytes}
 use Rattle.file_content.specs.Pages.{pages_of}
 
 -- the size of the content in bytes, and for each page its bytes if it was changed
@@ -18,7 +19,7 @@ byte_in None k old = old
 
 -- byte k of the content
 abbrev pub byte_at : List ℕ → Working → ℕ → ℕ
-byte_at base w k = byte_in (page_at w.pages (k / 1024)) (k % 1024) (slice_index base k)
+byte_at base w k = byte_in (page_at w.pages (k / page_bytes)) (k % page_bytes) (slice_index base k)
 
 -- f 0 up to f (n - 1)
 abbrev pub below : (ℕ → ℕ) → ℕ → List ℕ
@@ -44,7 +45,7 @@ count_below test (suc n) = count_below test n + (if test n then 1 else 0)
 
 -- page i meets the bytes from one place up to another
 abbrev pub meets : ℕ → ℕ → ℕ → Bool
-meets from to i = nat_lt (max from (1024 * i)) (min to (1024 * (i + 1)))
+meets from to i = nat_lt (max from (page_bytes * i)) (min to (page_bytes * (i + 1)))
 
 -- a write of so many bytes changes page i: it meets the bytes from the lesser of the write's place and the old size up to its end
 abbrev pub touches : Working → ℕ → ℕ → ℕ → Bool
@@ -65,7 +66,7 @@ AreAmong first stop pages = (i : ℕ) → is_some (page_at pages i) ≡ true →
 
 -- a page holds nothing but zeros past the size
 abbrev pub IsClean : Working → Type 0
-IsClean w = (i k : ℕ) → k < 1024 → w.size ≤ 1024 * i + k → byte_in (page_at w.pages i) k 0 ≡ 0
+IsClean w = (i k : ℕ) → k < page_bytes → w.size ≤ page_bytes * i + k → byte_in (page_at w.pages i) k 0 ≡ 0
 
 -- byte k after some bytes were written over it, or it stays as it is
 abbrev pub over : ℕ → List ℕ → ℕ → ℕ → ℕ
@@ -77,12 +78,12 @@ byte_after size at bytes k old = over at bytes k (if nat_lt k size then old else
 
 -- page i after that, from the page before
 abbrev pub IsPageAfter : List ℕ → ℕ → ℕ → ℕ → List ℕ → List ℕ → Type 0
-IsPageAfter page i size at bytes before = (k : ℕ) → k < 1024 → slice_index page k ≡ byte_after size at bytes (1024 * i + k) (slice_index before k)
+IsPageAfter page i size at bytes before = (k : ℕ) → k < page_bytes → slice_index page k ≡ byte_after size at bytes (page_bytes * i + k) (slice_index before k)
 
 -- page i of the content that a write leaves
 abbrev pub IsPageOf : List ℕ → Working → ℕ → List ℕ → ℕ → List ℕ → Type 0
-IsPageOf base w at bytes i page = (k : ℕ) → k < 1024 → slice_index page k ≡ byte_after w.size at bytes (1024 * i + k) (byte_at base w (1024 * i + k))
+IsPageOf base w at bytes i page = (k : ℕ) → k < page_bytes → slice_index page k ≡ byte_after w.size at bytes (page_bytes * i + k) (byte_at base w (page_bytes * i + k))
 
 -- page i holds nothing but zeros from a place on
 abbrev pub IsZeroFrom : ℕ → ℕ → List ℕ → Type 0
-IsZeroFrom end i page = (k : ℕ) → k < 1024 → end ≤ 1024 * i + k → slice_index page k ≡ 0
+IsZeroFrom end i page = (k : ℕ) → k < page_bytes → end ≤ page_bytes * i + k → slice_index page k ≡ 0

@@ -1,7 +1,7 @@
 use locus_ids::{Bytes, ItemList};
 
 /// A page of the base: its number, and its bytes.
-#[derive(Debug, Drop)]
+#[derive(Drop)]
 pub struct BasePage {
     pub page: u16,
     pub bytes: Bytes,

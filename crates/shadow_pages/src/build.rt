@@ -10,6 +10,7 @@ use crate::base_page::BasePage;
 use crate::page::Page;
 use crate::span::Span;
 use locus_ids::NoMemory;
+use locus_ids::sizes::PAGE_BYTES;
 use std::alloc::Global;
 
 /// What a write does: its place, its bytes, and the size of the content before it.
@@ -30,20 +31,20 @@ fn put(page: &mut [u8], at: usize, bytes: &[u8])
 }
 
 /// A page as a write leaves it.
-pub fn page_after(w: &Writing, i: u32, before: &[u8]) -> [u8; 1024]
+pub fn page_after(w: &Writing, i: u32, before: &[u8]) -> [u8; PAGE_BYTES]
     requires place { i < 1084 }
     requires end { w.now.at + length w.now.bytes.now ≤ 1110016 }
     requires size { w.now.size ≤ 1110016 }
     ensures { IsPageAfter result i w.now.size w.now.at w.now.bytes.now before.now }
 {
-    let mut page = [0; 1024];
-    let start = 1024 * i;
-    let old = w.size.saturating_sub(start).min(1024) as usize;
+    let mut page = [0; PAGE_BYTES];
+    let start = PAGE_BYTES as u32 * i;
+    let old = w.size.saturating_sub(start).min(PAGE_BYTES as u32) as usize;
     let kept = old.min(before.len());
     put(&mut page, 0, &before[..kept]);
     let end = w.at + w.bytes.len() as u32;
     let from = w.at.max(start);
-    let to = end.min(start + 1024);
+    let to = end.min(start + PAGE_BYTES as u32);
     if from < to {
         let part = &w.bytes[(from - w.at) as usize..(to - w.at) as usize];
         put(&mut page, (from - start) as usize, part);

@@ -1,6 +1,8 @@
 ghost use Rattle.std.specs.Prelude.{◌≡◌, ◌≤◌, ◌<◌, ◌-◌, ◌++◌, length, take, replicate, IfOk};
+ghost use Rattle.locus_ids.specs.Sizes.{page_bytes};
 
 use locus_ids::NoMemory;
+use locus_ids::sizes::PAGE_BYTES;
 use std::alloc::Global;
 use std::marker::Model;
 
@@ -12,16 +14,17 @@ pub struct Page {
 
 impl Model for Page {
     ghost use Rattle.std.specs.Prelude.{◌≡◌, List, ℕ, length};
+    ghost use Rattle.locus_ids.specs.Sizes.{page_bytes};
 
     ghost Value = { List ℕ };
 
     ghost view = { λ p. p.bytes.items };
 
-    ghost invariant = { λ p. length p.bytes.items ≡ 1024 };
+    ghost invariant = { λ p. length p.bytes.items ≡ page_bytes };
 }
 
 impl Page {
-    pub fn new(alloc: Global, bytes: &[u8; 1024]) -> Result<Page, NoMemory>
+    pub fn new(alloc: Global, bytes: &[u8; PAGE_BYTES]) -> Result<Page, NoMemory>
         ensures { IfOk result (λ page. page ≡ bytes.now) }
     {
         let bytes = Vec::from_slice(alloc, bytes)?;
@@ -30,15 +33,15 @@ impl Page {
 
     pub fn bytes(&self) -> &[u8]
         ensures value { result.now ≡ self.now }
-        ensures full { length result.now ≡ 1024 }
+        ensures full { length result.now ≡ page_bytes }
     {
         self.bytes.as_slice()
     }
 
     /// Makes the bytes from a place on zeros.
     pub fn clear_from(&mut self, from: usize)
-        requires { from ≤ 1024 }
-        ensures { self.new ≡ take from self.old ++ replicate (1024 - from) 0 }
+        requires { from ≤ page_bytes }
+        ensures { self.new ≡ take from self.old ++ replicate (page_bytes - from) 0 }
     {
         self.bytes[from..].fill(0);
     }

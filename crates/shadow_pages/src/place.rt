@@ -1,10 +1,12 @@
 ghost use Rattle.std.specs.Prelude.{◌≡◌, ℕ, ◌+◌, ◌-◌, ◌≤◌, ◌<◌, length, List, IfOk, OnOk, OnErr, None, Some, slice_index_or, nat_le, nat_lt, ◌&&◌, if◌then◌else◌, is_none, is_some, [], max, ◌*◌, ◌++◌, take, replicate};
+ghost use Rattle.locus_ids.specs.Sizes.{page_bytes};
 ghost use Rattle.file_content.specs.Pages.{pages_of};
 ghost use Rattle.shadow_pages.specs.Working.{page_at, byte_in, number_changed, count_below};
 
 use crate::page::Page;
 use crate::span::pages_of;
 use locus_ids::NoMemory;
+use locus_ids::sizes::PAGE_BYTES;
 
 /// How many pages are changed.
 #[tactic(auto, using(crate::proofs::Counts::count_step))]
@@ -63,21 +65,25 @@ pub fn place(pages: &mut Vec<Option<Page>>, first: usize, made: Vec<Page>)
 pub fn cut_pages(pages: &mut Vec<Option<Page>>, len: u32)
     requires { len ≤ 1110016 }
     ensures len { length pages.new.items ≤ pages_of len }
-    ensures changed { (i : ℕ) → is_some (page_at pages.new.items i) ≡ (is_some (page_at pages.old.items i) && nat_lt (1024 * i) len) }
-    ensures bytes { (i k old : ℕ) → k < 1024 → 1024 * i + k < len → byte_in (page_at pages.new.items i) k old ≡ byte_in (page_at pages.old.items i) k old }
-    ensures zeros { (i k : ℕ) → k < 1024 → len ≤ 1024 * i + k → byte_in (page_at pages.new.items i) k 0 ≡ 0 }
+    ensures changed { (i : ℕ) → is_some (page_at pages.new.items i) ≡ (is_some (page_at pages.old.items i) && nat_lt (page_bytes * i) len) }
+    ensures bytes { (i k old : ℕ) → k < page_bytes → page_bytes * i + k < len → byte_in (page_at pages.new.items i) k old ≡ byte_in (page_at pages.old.items i) k old }
+    ensures zeros { (i k : ℕ) → k < page_bytes → len ≤ page_bytes * i + k → byte_in (page_at pages.new.items i) k 0 ≡ 0 }
 {
     pages.truncate(pages_of(len) as usize);
-    clear_page(pages, (len / 1024) as usize, (len % 1024) as usize);
+    clear_page(
+        pages,
+        (len / PAGE_BYTES as u32) as usize,
+        (len % PAGE_BYTES as u32) as usize,
+    );
 }
 
 /// Makes the bytes of a page from a place on zeros, if it is changed.
 fn clear_page(pages: &mut Vec<Option<Page>>, i: usize, from: usize)
-    requires { from ≤ 1024 }
+    requires { from ≤ page_bytes }
     ensures len { length pages.new.items ≡ length pages.old.items }
     ensures others { (j : ℕ) → (j ≡ i → ⊥) → page_at pages.new.items j ≡ page_at pages.old.items j }
     ensures none { page_at pages.old.items i ≡ None → page_at pages.new.items i ≡ None }
-    ensures cleared { (page : List ℕ) → page_at pages.old.items i ≡ Some page → page_at pages.new.items i ≡ Some (take from page ++ replicate (1024 - from) 0) }
+    ensures cleared { (page : List ℕ) → page_at pages.old.items i ≡ Some page → page_at pages.new.items i ≡ Some (take from page ++ replicate (page_bytes - from) 0) }
 {
     if i < pages.len() {
         if let Some(page) = &mut pages[i] {

@@ -1,4 +1,5 @@
 ghost use Rattle.std.specs.Prelude.{◌≡◌, ℕ, ◌+◌, ◌*◌, ◌≤◌, ◌<◌, ◌↔◌, ◌&&◌, ◌||◌, min, max, length, take, List, [], IfOk, OnOk, OnErr, IfSome, MatchOption, None, Some, Err, is_some, is_none, nat_lt, slice_index};
+ghost use Rattle.locus_ids.specs.Sizes.{page_bytes};
 ghost use Rattle.file_content.specs.Contents.{written};
 ghost use Rattle.shadow_pages.specs.Working.{Working, page_at, content, touches, needed, number_changed, AreAmong, IsZeroFrom, count_below};
 ghost use Rattle.shadow_pages.specs.Pages.{AreOf, Hands};
@@ -82,7 +83,7 @@ impl Shadow {
     /// The number of changed pages. All of them are among the first pages, those that hold the content.
     pub fn changed(&self) -> u16
         ensures number { result ≡ number_changed self.now.pages }
-        ensures first { (n : ℕ) → self.now.size ≤ 1024 * n → result ≡ count_below (λ i. is_some (page_at self.now.pages i)) n }
+        ensures first { (n : ℕ) → self.now.size ≤ page_bytes * n → result ≡ count_below (λ i. is_some (page_at self.now.pages i)) n }
     {
         self.count
     }
@@ -97,7 +98,7 @@ impl Shadow {
     /// The bytes of a page, or `None` exactly where it is unchanged.
     pub fn page(&self, i: u16) -> Option<&[u8]>
         ensures value { MatchOption result (page_at self.now.pages i ≡ None) (λ page. page_at self.now.pages i ≡ Some page.now) }
-        ensures full { IfSome result (λ page. length page.now ≡ 1024) }
+        ensures full { IfSome result (λ page. length page.now ≡ page_bytes) }
         ensures zeros { IfSome result (λ page. IsZeroFrom self.now.size i page.now) }
     {
         if (i as usize) < self.pages.len() {
@@ -168,7 +169,7 @@ impl Shadow {
     pub fn cut(&mut self, len: u32)
         ensures content { (old : List ℕ) → content old self.new ≡ take len (content old self.old) }
         ensures size { self.new.size ≡ min len self.old.size }
-        ensures pages { (i : ℕ) → is_some (page_at self.new.pages i) ≡ (is_some (page_at self.old.pages i) && nat_lt (1024 * i) len) }
+        ensures pages { (i : ℕ) → is_some (page_at self.new.pages i) ≡ (is_some (page_at self.old.pages i) && nat_lt (page_bytes * i) len) }
     {
         if len >= self.size {
             return;

@@ -1,13 +1,16 @@
 ghost use Rattle.std.specs.Prelude.{◌≡◌, ℕ, ◌+◌, ◌*◌, ◌≤◌, ◌<◌, ◌↔◌, min, IsTrue, length, nat_lt, ◌-◌, ◌^◌};
+ghost use Rattle.locus_ids.specs.Sizes.{page_bytes};
 ghost use Rattle.file_content.specs.Pages.{pages_of};
 ghost use Rattle.shadow_pages.specs.Working.{meets};
 
+use locus_ids::sizes::PAGE_BYTES;
+
 /// The number of pages that some bytes fill.
 pub fn pages_of(size: u32) -> u32
-    requires { size < 2 ^ 32 - 1023 }
+    requires { size < 2 ^ 32 - (page_bytes - 1) }
     ensures { result ≡ pages_of size }
 {
-    (size + 1023) / 1024
+    (size + (PAGE_BYTES as u32 - 1)) / PAGE_BYTES as u32
 }
 
 /// Pages in a row: those from `first` up to `stop`.
@@ -27,7 +30,7 @@ pub fn span_between(from: u32, to: u32) -> Span
 {
     if from < to {
         Span {
-            first: from / 1024,
+            first: from / PAGE_BYTES as u32,
             stop: pages_of(to),
         }
     } else {

@@ -1,5 +1,5 @@
 -- What the run has left of a commit or an adoption that is cut off.
-use Rattle.std.proofs.Common.{◌≡◌, ℕ, ◌+◌, ◌==◌, Bool, true, false, cond, List, [], ◌∷◌, sym, ◌∙◌, ap}
+use Rattle.std.proofs.Common.{◌≡◌, ℕ, ◌+◌, ◌==◌, Bool, true, false, cond, List, [], ◌∷◌, length, sym, ◌∙◌, ap}
 use Rattle.std.specs.Prelude.{nat_lt, is_some, ◌&&◌}
 use Rattle.gate_switch.specs.Gates.{new_gate as new_gate_left, old_gate as old_gate_left}
 use Rattle.role_steps.specs.Tables.{row, with_row}
@@ -29,16 +29,16 @@ copies_with made open_now copies = cond open_now (with_row copy_key made copies)
 abbrev files_with : FileCopy → Bool → Bool → List FileCopy → List FileId
 files_with made newer older copies = cond (is_some (row copy_key (file_key made.file) copies) && (newer && older)) (made.file ∷ []) []
 
-pub cut_commits : (p : PacksState) (boot : ℕ) (before : Store) (w : DiskWrite) (how : Cut) (passed : ℕ) (image after : List ℕ) → IsCut p w.copy w.pages (as_cut how) passed image after
+pub cut_commits : (p : PacksState) (boot : ℕ) (before : Store) (w : DiskWrite) (how : Cut) (passed : ℕ) (image after : List ℕ) → IsCut p w.copy (length w.pages) (as_cut how) passed image after
     → copies_on (groups_of p) image ≡ before.copies → label_on after ≡ one_half boot → disk_on (groups_of p) after ≡ cut_disk boot before w how passed
 cut_commits p boot before w how passed image after h same label =
-    let newer : new_gate_left w.pages (as_cut how) passed ≡ new_gate w.pages how passed = sym (new_same w.pages how passed) in
-    let older : old_gate_left w.pages (as_cut how) passed ≡ old_gate w.pages how passed = sym (old_same w.pages how passed) in
-    let copies : copies_on (groups_of p) after ≡ copies_with w.copy (new_gate w.pages how passed) before.copies =
-    h.copies ∙ (ap (λ (b : Bool). copies_with w.copy b (copies_on (groups_of p) image)) newer ∙ ap (λ (l : List FileCopy). copies_with w.copy (new_gate w.pages how passed) l) same) in
-    let both : both_open_on (groups_of p) after ≡ files_with w.copy (new_gate w.pages how passed) (old_gate w.pages how passed) before.copies =
+    let newer : new_gate_left (length w.pages) (as_cut how) passed ≡ new_gate (length w.pages) how passed = sym (new_same (length w.pages) how passed) in
+    let older : old_gate_left (length w.pages) (as_cut how) passed ≡ old_gate (length w.pages) how passed = sym (old_same (length w.pages) how passed) in
+    let copies : copies_on (groups_of p) after ≡ copies_with w.copy (new_gate (length w.pages) how passed) before.copies =
+    h.copies ∙ (ap (λ (b : Bool). copies_with w.copy b (copies_on (groups_of p) image)) newer ∙ ap (λ (l : List FileCopy). copies_with w.copy (new_gate (length w.pages) how passed) l) same) in
+    let both : both_open_on (groups_of p) after ≡ files_with w.copy (new_gate (length w.pages) how passed) (old_gate (length w.pages) how passed) before.copies =
     h.both
-    ∙ (ap (λ (b : Bool). files_with w.copy b (old_gate_left w.pages (as_cut how) passed) (copies_on (groups_of p) image)) newer
-    ∙ (ap (λ (b : Bool). files_with w.copy (new_gate w.pages how passed) b (copies_on (groups_of p) image)) older
-    ∙ ap (λ (l : List FileCopy). files_with w.copy (new_gate w.pages how passed) (old_gate w.pages how passed) l) same)) in
+    ∙ (ap (λ (b : Bool). files_with w.copy b (old_gate_left (length w.pages) (as_cut how) passed) (copies_on (groups_of p) image)) newer
+    ∙ (ap (λ (b : Bool). files_with w.copy (new_gate (length w.pages) how passed) b (copies_on (groups_of p) image)) older
+    ∙ ap (λ (l : List FileCopy). files_with w.copy (new_gate (length w.pages) how passed) (old_gate (length w.pages) how passed) l) same)) in
     (λ i. record { copies = copies i; both_open = both i; label = as_label (label i) })

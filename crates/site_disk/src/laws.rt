@@ -50,5 +50,5 @@ pub fn cut_gates_are_the_runs()
 /// A commit or an adoption that is cut off leaves the disk that it leaves in the run, where the store before had the copies of
 /// the image before, and one half of the label is open after it.
 pub fn cut_commit_is_the_runs()
-    ensures { (p : PacksState) (boot : ℕ) (before : Store) (w : DiskWrite) (how : Cut) (passed : ℕ) (image after : List ℕ) → IsCut p w.copy w.pages (as_cut how) passed image after → copies_on (groups_of p) image ≡ before.copies → label_on after ≡ one_half boot → disk_on (groups_of p) after ≡ cut_disk boot before w how passed }
+    ensures { (p : PacksState) (boot : ℕ) (before : Store) (w : DiskWrite) (how : Cut) (passed : ℕ) (image after : List ℕ) → IsCut p w.copy (length w.pages) (as_cut how) passed image after → copies_on (groups_of p) image ≡ before.copies → label_on after ≡ one_half boot → disk_on (groups_of p) after ≡ cut_disk boot before w how passed }
 {}

@@ -1,18 +1,14 @@
-ghost use Rattle.std.specs.Prelude.{◌≡◌, ◌≤◌, ◌++◌, ◌&&◌, filter, OnOk};
-ghost use Rattle.std.specs.List.{All};
-ghost use Rattle.locus_ids.specs.Sites.{has};
+ghost use Rattle.std.specs.Prelude.{◌≡◌, ◌++◌, OnOk};
 ghost use Rattle.role_steps.specs.Views.{is_member, first_site, members_of, pack_sites, sync_site, packet, to_sync};
 
+use locus_ids::sizes::SITES;
 use locus_ids::{Config, EpochId, Members, NoMemory, SiteId, Sites};
 use std::marker::Model;
 use wire_messages::{Body, Outbox, Packet};
 
-/// The numbers of all sites.
-const NUMBERS: [u8; 16] = [1, 2, 3, 4, 5, 6, 7, 8, 9, 10, 11, 12, 13, 14, 15, 16];
-
 /// Where a role stands and under what name it sends: the cluster, the site with its boot number, and the epoch with its
 /// members. A site outside of all epochs has a frame without members.
-#[derive(Debug, Drop)]
+#[derive(Drop)]
 pub struct SiteFrame {
     pub config: Config,
     pub me: SiteId,
@@ -40,19 +36,12 @@ impl SiteFrame {
     }
 
     /// The lowest-numbered member of the set.
+    #[tactic(auto, using(role_steps::proofs::Numbers::next_site))]
     pub fn first_member(&self, set: Sites) -> Option<SiteId>
         ensures { result ≡ first_site (members_of self.now.members set) }
     {
-        self.first_among(set, &NUMBERS)
-    }
-
-    /// The first of these numbers that a member of the set has.
-    fn first_among(&self, set: Sites, numbers: &[u8]) -> Option<SiteId>
-        requires { All (λ n. (1 ≤ n) × (n ≤ 16)) numbers.now }
-        ensures { result ≡ first_site (filter (λ s. has set s && is_member self.now.members s) numbers.now) }
-    {
-        for number in numbers {
-            if let Some(site) = SiteId::new(*number)
+        for place in 0..SITES as u8 {
+            if let Some(site) = SiteId::new(place + 1)
                 && set.has(site)
                 && self.is_member(site)
             {

@@ -15,20 +15,20 @@ use Rattle.site_label.specs.declared.half.Half.{Half}
 use Rattle.site_label.specs.declared.half.Half.TheVariants.{First, Second}
 use Rattle.site_label.specs.declared.reading.Counted.{Counted}
 use Rattle.site_label.specs.declared.label_fault.LabelFault.{LabelFault}
-use Rattle.site_label.specs.Label.{HasBoot, is_open, other_half, Says}
+use Rattle.site_label.specs.Label.{label_bytes, HasBoot, is_open, other_half, Says}
 use Rattle.site_label.specs.Reading.{IsCounted, IsBeside}
 use Rattle.site_label.specs.Raising.{IsRaising, MayBeLeft, are_open}
 use Rattle.site_label.proofs.Halves.{one_boot, says_open}
 
 -- before the first write
 pub left_at_start : (site : ℕ) (old : List ℕ) → MayBeLeft site old old
-left_at_start site old = record { number = λ boot has. inl has; outside = torn_stays 0 1024 old }
+left_at_start site old = record { number = λ boot has. inl has; outside = torn_stays 0 label_bytes old }
 
 -- while the number that the label had is raised
-pub left_after : (site boot : ℕ) (old mid c : List ℕ) → HasBoot site boot old → Torn 0 1024 old mid → IsRaising site boot mid c → MayBeLeft site old c
+pub left_after : (site boot : ℕ) (old mid c : List ℕ) → HasBoot site boot old → Torn 0 label_bytes old mid → IsRaising site boot mid c → MayBeLeft site old c
 left_after site boot old mid c has before raising = record {
   number = λ other is. subst (λ (n : ℕ). HasBoot site n c ⊎ HasBoot site (n + 1) c) (one_boot site boot other old has is) raising.number;
-  outside = torn_joins 0 1024 old mid c before raising.outside;
+  outside = torn_joins 0 label_bytes old mid c before raising.outside;
 }
 
 module _ {D : Type 0} (moment : D → Moment) (old mid : D) where
@@ -39,18 +39,18 @@ module _ {D : Type 0} (moment : D → Moment) (old mid : D) where
       leaves_joins moment old mid next (MayBeLeft site (moment old).seen)
       (leaves_same moment old mid (moment old).seen (MayBeLeft site (moment old).seen) settled only_now reads (left_at_start site (moment old).seen))
       (leaves_weaker moment mid next (IsRaising site boot (moment mid).seen) (MayBeLeft site (moment old).seen)
-      (λ x raising. left_after site boot (moment old).seen (moment old).seen x has (torn_stays 0 1024 (moment old).seen) (subst (λ (l : List ℕ). IsRaising site boot l x) same raising))
+      (λ x raising. left_after site boot (moment old).seen (moment old).seen x has (torn_stays 0 label_bytes (moment old).seen) (subst (λ (l : List ℕ). IsRaising site boot l x) same raising))
       closes)
 
   -- and with the raising
   pub leaves_whole : (next new : D) (site boot : ℕ) → HasBoot site boot (moment old).seen → IsSettled (moment old) → ((c : List ℕ) → (moment old).may_have_left (moment old).now c → (moment old).may_leave c) → Goes Same (moment old) (moment mid)
-      → (moment mid).seen ≡ (moment old).seen → LeavesOnly (moment mid) (moment next) (IsRaising site boot (moment mid).seen) → Torn 0 1024 (moment mid).seen (moment next).seen
+      → (moment mid).seen ≡ (moment old).seen → LeavesOnly (moment mid) (moment next) (IsRaising site boot (moment mid).seen) → Torn 0 label_bytes (moment mid).seen (moment next).seen
       → LeavesOnly (moment next) (moment new) (IsRaising site boot (moment next).seen) → LeavesOnly (moment old) (moment new) (MayBeLeft site (moment old).seen)
   leaves_whole next new site boot has settled only_now reads same closes outside raises =
       leaves_joins moment old next new (MayBeLeft site (moment old).seen)
       (leaves_front next site boot has settled only_now reads same closes)
       (leaves_weaker moment next new (IsRaising site boot (moment next).seen) (MayBeLeft site (moment old).seen)
-      (λ x raising. left_after site boot (moment old).seen (moment next).seen x has (subst (λ (l : List ℕ). Torn 0 1024 l (moment next).seen) same outside) raising)
+      (λ x raising. left_after site boot (moment old).seen (moment next).seen x has (subst (λ (l : List ℕ). Torn 0 label_bytes l (moment next).seen) same outside) raising)
       raises)
 
 -- both halves are open where one stands beside the one that counts

@@ -12,7 +12,7 @@ use Rattle.gate_switch.proofs.Pieces.{put_gate}
 use Rattle.gate_switch.proofs.Tearing.{is_outside}
 use Rattle.site_label.specs.declared.half.Half.{Half}
 use Rattle.site_label.specs.declared.half.Half.TheVariants.{First, Second}
-use Rattle.site_label.specs.Label.{half_at, is_open, other_half, Says, HasBoot, IsAlone, IsNew}
+use Rattle.site_label.specs.Label.{label_bytes, half_at, is_open, other_half, Says, HasBoot, IsAlone, IsNew}
 use Rattle.site_label.specs.Raising.{body_piece, are_open}
 use Rattle.site_label.specs.Cutting.{IsLabel, raise_left, boot_left}
 use Rattle.site_label.proofs.Halves.{says_open}
@@ -29,7 +29,7 @@ open_both Second image mine other is beside = (λ i. beside i && is i) ∙ turne
     turned false true = refl
     turned false false = refl
 
-module _ (site boot : ℕ) (half : Half) (old : List ℕ) (alone : IsAlone site boot half old) (long : 1024 ≤ length old) (fits : boot + 1 < 2 ^ 32) where
+module _ (site boot : ℕ) (half : Half) (old : List ℕ) (alone : IsAlone site boot half old) (long : label_bytes ≤ length old) (fits : boot + 1 < 2 ^ 32) where
   abbrev new_half : Half
   new_half = other_half half
 
@@ -151,7 +151,7 @@ module _ (site boot : ℕ) (half : Half) (old : List ℕ) (alone : IsAlone site 
       (ap (λ (n : ℕ). n == 165) (put_gate opened (half_at half) 0 (omega (arith, long, torn_mid.long, torn_opened.long)))) refl
 
 -- a losing half that was being closed
-module _ (site boot lesser : ℕ) (half : Half) (old : List ℕ) (fits : boot < 2 ^ 32) (less : lesser < boot) (says : Says site boot half old) (beside : Says site lesser (other_half half) old) (long : 1024 ≤ length old) where
+module _ (site boot lesser : ℕ) (half : Half) (old : List ℕ) (fits : boot < 2 ^ 32) (less : lesser < boot) (says : Says site boot half old) (beside : Says site lesser (other_half half) old) (long : label_bytes ≤ length old) where
   abbrev losing : ℕ
   losing = half_at (other_half half)
 

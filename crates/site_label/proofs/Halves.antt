@@ -12,7 +12,7 @@ use Rattle.site_label.specs.declared.reading.Reading.{Reading}
 use Rattle.site_label.specs.declared.reading.Reading.TheVariants.{Closed, Boot, Bad}
 use Rattle.site_label.specs.declared.reading.Counted.{Counted}
 use Rattle.site_label.specs.Label.{half_at, half_bytes, is_open, other_half, Says, IsOlder, HasBoot}
-use Rattle.site_label.specs.Reading.{IsReading, IsHalf, IsBeside, IsCounted, counted_of, greater}
+use Rattle.site_label.specs.Reading.{IsHalf, IsBeside, IsCounted, counted_of, greater}
 
 pub length-half : (site boot : ℕ) → length (half_bytes site boot) ≡ 512
 unfolding half_bytes
@@ -38,12 +38,6 @@ gate_of image half =
 
 pub says_open : (site boot : ℕ) (half : Half) (image : List ℕ) → Says site boot half image → is_open image half ≡ true
 says_open site boot half image says = ap (λ (n : ℕ). n == 165) (sym (gate_of image half) ∙ ap (λ (l : List ℕ). get_or l 0 0) says ∙ first_byte site boot)
-
--- what the bytes of a half say is what the half says
-pub half_says : (site : ℕ) (half : Half) (image : List ℕ) (reading : Reading) → ((boot : ℕ) → reading ≡ Boot boot → boot < 2 ^ 32) → IsReading site (bytes_at image (half_at half) 512) reading → IsHalf site half image reading
-half_says site half image Closed fits is = ap (λ (n : ℕ). n == 165) (sym (gate_of image half)) ∙ is
-half_says site half image (Boot boot) fits is = (fits boot refl, is)
-half_says site half image Bad fits is = (ap (λ (n : ℕ). n == 165) (sym (gate_of image half)) ∙ is.0, is.1)
 
 -- the number that a half has is what is read there
 pub says_reading : (site boot : ℕ) (half : Half) (image : List ℕ) (reading : Reading) → IsHalf site half image reading → boot < 2 ^ 32 → Says site boot half image → reading ≡ Boot boot

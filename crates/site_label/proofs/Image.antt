@@ -7,7 +7,7 @@ use Rattle.disk_model.specs.Images.{bytes_at, Torn}
 use Rattle.gate_switch.proofs.Tearing.{bytes_below, torn_below}
 use Rattle.site_label.specs.declared.half.Half.{Half}
 use Rattle.site_label.specs.declared.half.Half.TheVariants.{First, Second}
-use Rattle.site_label.specs.Label.{half_at, half_bytes, is_open, other_half, Says, IsOlder, HasBoot, IsNew}
+use Rattle.site_label.specs.Label.{label_bytes, half_at, half_bytes, is_open, other_half, Says, IsOlder, HasBoot, IsNew}
 use Rattle.site_label.specs.Raising.{are_open}
 use Rattle.site_label.proofs.Halves.{length-half, boot_inside, says_open}
 use Rattle.site_label.proofs.Stages.{within_label}
@@ -69,7 +69,7 @@ pub new_shut : (site : ℕ) (image : List ℕ) → IsNew site image → are_open
 new_shut site image new =
     let long = length-half site 1 in
     let byte : get_or image 512 0 ≡ 0 =
-    sym (get_or-take 1024 image 512 0 (omega arith)) ∙ ap (λ (l : List ℕ). get_or l 512 0) new ∙ get_or-append_right (half_bytes site 1) (replicate 512 0) 512 512 0 long (omega arith) in
+    sym (get_or-take label_bytes image 512 0 (omega arith)) ∙ ap (λ (l : List ℕ). get_or l 512 0) new ∙ get_or-append_right (half_bytes site 1) (replicate 512 0) 512 512 0 long (omega arith) in
     by (is_open image First) (is_open image Second) (ap (λ (n : ℕ). n == 165) byte)
   where
     by : (a b : Bool) → b ≡ false → (a && b) ≡ false
@@ -78,12 +78,12 @@ new_shut site image new =
 
 -- ---- where only what stands behind the label is torn ----
 
-module _ (n : ℕ) (a b : List ℕ) (torn : Torn 1024 n a b) where
+module _ (n : ℕ) (a b : List ℕ) (torn : Torn label_bytes n a b) where
   open_same : (half : Half) → is_open b half ≡ is_open a half
-  open_same half = let w = within_label half in ap (λ (k : ℕ). k == 165) (torn_below 1024 n a b torn (half_at half) (omega arith))
+  open_same half = let w = within_label half in ap (λ (k : ℕ). k == 165) (torn_below label_bytes n a b torn (half_at half) (omega arith))
 
   says_same : (site boot : ℕ) (half : Half) → Says site boot half a → Says site boot half b
-  says_same site boot half says = bytes_below 1024 n a b torn (half_at half) 512 (within_label half) ∙ says
+  says_same site boot half says = bytes_below label_bytes n a b torn (half_at half) 512 (within_label half) ∙ says
 
   older_same : (site boot : ℕ) (half : Half) → IsOlder site boot half a → IsOlder site boot half b
   older_same site boot half (inl shut) = inl (open_same half ∙ shut)
@@ -96,4 +96,4 @@ module _ (n : ℕ) (a b : List ℕ) (torn : Torn 1024 n a b) where
   shut_same shut = let one = open_same First in let two = open_same Second in (λ i. one i && two i) ∙ shut
 
   pub new_same : (site : ℕ) → IsNew site a → IsNew site b
-  new_same site new = bytes_below 1024 n a b torn 0 1024 (omega arith) ∙ new
+  new_same site new = bytes_below label_bytes n a b torn 0 label_bytes (omega arith) ∙ new

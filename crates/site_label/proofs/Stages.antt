@@ -10,7 +10,7 @@ use Rattle.gate_switch.proofs.Pieces.{torn_overwritten, put_gate}
 use Rattle.gate_switch.proofs.Tearing.{same_bytes, is_outside, put_inside, torn_joins, torn_widens}
 use Rattle.site_label.specs.declared.half.Half.{Half}
 use Rattle.site_label.specs.declared.half.Half.TheVariants.{First, Second}
-use Rattle.site_label.specs.Label.{half_at, half_bytes, is_open, other_half, Says, IsOlder, HasBoot, IsAlone, IsNew}
+use Rattle.site_label.specs.Label.{label_bytes, half_at, half_bytes, is_open, other_half, Says, IsOlder, HasBoot, IsAlone, IsNew}
 use Rattle.site_label.specs.Raising.{IsRaising}
 use Rattle.site_label.proofs.Halves.{length-half, first_byte, says_open}
 
@@ -18,7 +18,7 @@ use Rattle.site_label.proofs.Halves.{length-half, first_byte, says_open}
 abbrev pub SameHalf : Half → List ℕ → List ℕ → Type 0
 SameHalf half old new = (k : ℕ) → k < 512 → get_or new (half_at half + k) 0 ≡ get_or old (half_at half + k) 0
 
-pub within_label : (half : Half) → half_at half + 512 ≤ 1024
+pub within_label : (half : Half) → half_at half + 512 ≤ label_bytes
 within_label First = omega arith
 within_label Second = omega arith
 
@@ -66,8 +66,8 @@ stands image bytes at long fits each =
     get_or_default (bytes_at image at 512) k d 0 lt ∙ get_or-take 512 (drop at image) k 0 below ∙ get_or-drop at image k 0 ∙ each k below ∙ get_or_default bytes k 0 d (omega arith))
 
 -- a torn gate or body lies in the label
-gate_inside : (half : Half) (old new : List ℕ) → Torn (half_at half) 1 old new → Torn 0 1024 old new
-gate_inside half old new torn = torn_widens (half_at half) 1 0 1024 (omega arith) (let w = within_label half in omega arith) old new torn
+gate_inside : (half : Half) (old new : List ℕ) → Torn (half_at half) 1 old new → Torn 0 label_bytes old new
+gate_inside half old new torn = torn_widens (half_at half) 1 0 label_bytes (omega arith) (let w = within_label half in omega arith) old new torn
 
 -- of two open halves the one that doesn't count is closed
 pub closes_number : (site boot lesser : ℕ) (half : Half) (old new : List ℕ) → boot < 2 ^ 32 → lesser < boot → Says site boot half old → Says site lesser (other_half half) old → Torn (half_at (other_half half)) 1 old new → HasBoot site boot new
@@ -89,7 +89,7 @@ closing site boot lesser half old new fits less says beside torn = record {
 }
 
 -- and at the end it is
-pub closed : (site boot : ℕ) (half : Half) (old : List ℕ) → boot < 2 ^ 32 → Says site boot half old → 1024 ≤ length old → IsAlone site boot half (overwritten old (half_at (other_half half)) (0 ∷ []))
+pub closed : (site boot : ℕ) (half : Half) (old : List ℕ) → boot < 2 ^ 32 → Says site boot half old → label_bytes ≤ length old → IsAlone site boot half (overwritten old (half_at (other_half half)) (0 ∷ []))
 closed site boot half old fits says long =
     let w = within_label (other_half half) in
     let at = half_at (other_half half) in
@@ -105,7 +105,7 @@ pub twice : (half : Half) → other_half (other_half half) ≡ half
 twice First = refl
 twice Second = refl
 
-module _ (site boot : ℕ) (half : Half) (old : List ℕ) (alone : IsAlone site boot half old) (long : 1024 ≤ length old) (fits : boot + 1 < 2 ^ 32) where
+module _ (site boot : ℕ) (half : Half) (old : List ℕ) (alone : IsAlone site boot half old) (long : label_bytes ≤ length old) (fits : boot + 1 < 2 ^ 32) where
   abbrev new_half : Half
   new_half = other_half half
 
@@ -196,17 +196,17 @@ module _ (site boot : ℕ) (half : Half) (old : List ℕ) (alone : IsAlone site 
       older (inl shut) = inl shut
       older (inr says) = inr (boot, (let lt : boot < boot + 1 = omega arith in lt), says)
 
-  body_inside : (c : List ℕ) → Torn (at + 1) 511 old c → Torn 0 1024 old c
-  body_inside c torn = torn_widens (at + 1) 511 0 1024 (omega arith) (let w = within_label new_half in omega arith) old c torn
+  body_inside : (c : List ℕ) → Torn (at + 1) 511 old c → Torn 0 label_bytes old c
+  body_inside c torn = torn_widens (at + 1) 511 0 label_bytes (omega arith) (let w = within_label new_half in omega arith) old c torn
 
-  mid_inside : (c : List ℕ) → Torn at 1 mid c → Torn 0 1024 old c
-  mid_inside c torn = torn_joins 0 1024 old mid c (body_inside mid mid_torn) (gate_inside new_half mid c torn)
+  mid_inside : (c : List ℕ) → Torn at 1 mid c → Torn 0 label_bytes old c
+  mid_inside c torn = torn_joins 0 label_bytes old mid c (body_inside mid mid_torn) (gate_inside new_half mid c torn)
 
   -- each stage has the number from before or the raised one
   pub raising : (c : List ℕ) → IsStage (body ∷ []) at (Some (half_at half)) old c → IsRaising site boot old c
   raising c (inl torn) = record { number = inl (stage_one c (in_body c torn)); outside = body_inside c (in_body c torn) }
   raising c (inr (inl torn)) = record { number = stage_two c torn; outside = mid_inside c torn }
-  raising c (inr (inr torn)) = record { number = inr (stage_three c torn); outside = torn_joins 0 1024 old opened c (mid_inside opened opened_torn) (gate_inside half opened c torn) }
+  raising c (inr (inr torn)) = record { number = inr (stage_three c torn); outside = torn_joins 0 label_bytes old opened c (mid_inside opened opened_torn) (gate_inside half opened c torn) }
 
   -- and at the end the raised one
   pub done : HasBoot site (boot + 1) (switched (body ∷ []) at (Some (half_at half)) old)
@@ -217,8 +217,8 @@ module _ (site boot : ℕ) (half : Half) (old : List ℕ) (alone : IsAlone site 
       stage_three (overwritten opened (half_at half) (0 ∷ [])) (torn_overwritten opened (half_at half) (0 ∷ []) (omega arith))
 
 -- a new label has the boot number 1
-new_byte : (site : ℕ) (image : List ℕ) → IsNew site image → (k : ℕ) → k < 1024 → get_or image (0 + k) 0 ≡ get_or (half_bytes site 1 ++ replicate 512 0) k 0
-new_byte site image new k lt = sym (get_or-drop 0 image k 0) ∙ sym (get_or-take 1024 (drop 0 image) k 0 lt) ∙ ap (λ (l : List ℕ). get_or l k 0) new
+new_byte : (site : ℕ) (image : List ℕ) → IsNew site image → (k : ℕ) → k < label_bytes → get_or image (0 + k) 0 ≡ get_or (half_bytes site 1 ++ replicate 512 0) k 0
+new_byte site image new k lt = sym (get_or-drop 0 image k 0) ∙ sym (get_or-take label_bytes (drop 0 image) k 0 lt) ∙ ap (λ (l : List ℕ). get_or l k 0) new
 
 pub second_shut : (site : ℕ) (image : List ℕ) → IsNew site image → is_open image Second ≡ false
 second_shut site image new =
@@ -236,4 +236,4 @@ new_label site image new = record {
     first : Says site 1 First image
     first =
         let long = length-half site 1 in
-        sym (take-take 512 1024 image (omega arith)) ∙ ap (λ (l : List ℕ). take 512 l) new ∙ ap (λ (n : ℕ). take n (half_bytes site 1 ++ replicate 512 0)) (sym long) ∙ take-append_seam (half_bytes site 1) (replicate 512 0)
+        sym (take-take 512 label_bytes image (omega arith)) ∙ ap (λ (l : List ℕ). take 512 l) new ∙ ap (λ (n : ℕ). take n (half_bytes site 1 ++ replicate 512 0)) (sym long) ∙ take-append_seam (half_bytes site 1) (replicate 512 0)

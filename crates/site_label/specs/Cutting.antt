@@ -3,7 +3,7 @@ use Rattle.std.specs.Prelude.{◌≡◌, ℕ, zero, suc, ◌+◌, ◌&&◌, Bool
 use Rattle.disk_model.specs.Cut.{Cut}
 use Rattle.disk_model.specs.Images.{Torn}
 use Rattle.gate_switch.specs.Gates.{gate_left, new_gate, old_gate}
-use Rattle.site_label.specs.Label.{HasBoot}
+use Rattle.site_label.specs.Label.{label_bytes, HasBoot}
 use Rattle.site_label.specs.Raising.{are_open}
 
 -- the boot number that counts, and whether both halves are open
@@ -33,4 +33,4 @@ pub record IsLabel (site : ℕ) (label : LabelState) (image : List ℕ) : Type 0
 -- and nothing else is changed
 pub record IsLeft (site : ℕ) (state : LabelState) (old new : List ℕ) : Type 0 where
   pub label : IsLabel site state new
-  pub outside : Torn 0 1024 old new
+  pub outside : Torn 0 label_bytes old new

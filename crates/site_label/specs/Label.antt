@@ -5,6 +5,10 @@ use Rattle.disk_model.specs.Images.{bytes_at}
 use Rattle.site_label.specs.declared.half.Half.{Half}
 use Rattle.site_label.specs.declared.half.Half.TheVariants.{First, Second}
 
+-- the bytes of a label
+abbrev pub label_bytes : ℕ
+label_bytes = 1024
+
 -- where a half begins
 abbrev pub half_at : Half → ℕ
 half_at First = 0
@@ -45,4 +49,4 @@ pub record IsAlone (site boot : ℕ) (half : Half) (image : List ℕ) : Type 0 w
 
 -- a label as a format leaves it: the first half has the boot number 1, and the second one is zeros
 abbrev pub IsNew : ℕ → List ℕ → Type 0
-IsNew site image = bytes_at image 0 1024 ≡ half_bytes site 1 ++ replicate 512 0
+IsNew site image = bytes_at image 0 label_bytes ≡ half_bytes site 1 ++ replicate 512 0

@@ -8,7 +8,7 @@ use Rattle.site_label.specs.declared.half.Half.{Half}
 use Rattle.site_label.specs.declared.half.Half.TheVariants.{First, Second}
 use Rattle.site_label.specs.declared.label_fault.LabelFault.{LabelFault}
 use Rattle.site_label.specs.declared.label_fault.LabelFault.TheVariants.{Disk, NotALabel, Spent}
-use Rattle.site_label.specs.Label.{half_at, half_bytes, is_open, HasBoot}
+use Rattle.site_label.specs.Label.{label_bytes, half_at, half_bytes, is_open, HasBoot}
 
 -- a half but for its gate
 abbrev pub body_piece : Half → ℕ → ℕ → Piece
@@ -17,12 +17,12 @@ body_piece half site boot = record { at = half_at half + 1; bytes = drop 1 (half
 -- the number is this one or the raised one, and outside the label all is as before
 pub record IsRaising (site boot : ℕ) (old new : List ℕ) : Type 0 where
   pub number : HasBoot site boot new ⊎ HasBoot site (boot + 1) new
-  pub outside : Torn 0 1024 old new
+  pub outside : Torn 0 label_bytes old new
 
 -- what a crash within a boot leaves: the number from before or the raised one; outside the label all is as before
 pub record MayBeLeft (site : ℕ) (old new : List ℕ) : Type 0 where
   pub number : (boot : ℕ) → HasBoot site boot old → HasBoot site boot new ⊎ HasBoot site (boot + 1) new
-  pub outside : Torn 0 1024 old new
+  pub outside : Torn 0 label_bytes old new
 
 -- this is one above the number from before
 abbrev pub IsRaised : ℕ → List ℕ → ℕ → Type 0

@@ -4,7 +4,7 @@ ghost use Rattle.site_label.specs.Label.{half_at, half_bytes, other_half};
 use locus_ids::SiteId;
 
 /// One of the two halves of a label.
-#[derive(Clone, Copy, Debug, PartialEq, Eq)]
+#[derive(Clone, Copy, PartialEq, Eq)]
 pub(crate) enum Half {
     First,
     Second,

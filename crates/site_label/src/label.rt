@@ -2,7 +2,7 @@ ghost use Rattle.std.specs.Prelude.{◌≡◌, ◌≤◌, ◌<◌, ◌+◌, ◌^
 ghost use Rattle.disk_model.specs.Images.{Torn, Same};
 ghost use Rattle.disk_model.specs.Disk.{Goes, IsSettled, HasCause, TellsRead, KeepsCut, Exactly};
 ghost use Rattle.disk_model.specs.Moments.{LeavesOnly, TellsMany};
-ghost use Rattle.site_label.specs.Label.{HasBoot, IsAlone, IsNew, half_bytes};
+ghost use Rattle.site_label.specs.Label.{label_bytes, HasBoot, IsAlone, IsNew, half_bytes};
 ghost use Rattle.site_label.specs.Reading.{IsCounted};
 ghost use Rattle.site_label.specs.Raising.{IsRaising, MayBeLeft, IsRaised, IsUnread, IsCause, IsEarly, boot_calls, disk_answer, are_open};
 ghost use Rattle.site_label.specs.Cutting.{IsLabel, IsLeft, boot_left, raise_left};
@@ -15,19 +15,22 @@ use disk_model::{Disk, DiskFault};
 use gate_switch::{close_gate, switch};
 use locus_ids::SiteId;
 
+/// The bytes of a label.
+const LABEL_BYTES: usize = 1_024;
+
 /// The first 1,024 bytes of a disk.
 pub struct Label;
 
 impl Label {
     /// Makes the first 1,024 bytes of a disk the label of a site, with the boot number 1.
     pub fn format<D: Disk>(disk: &mut D, site: SiteId) -> Result<(), DiskFault>
-        requires { 1024 ≤ length (D.moment disk.old).seen }
+        requires { label_bytes ≤ length (D.moment disk.old).seen }
         ensures formatted { OnOk result (IsNew site (D.moment disk.new).seen) }
         ensures boot { OnOk result (HasBoot site 1 (D.moment disk.new).seen) }
         ensures alone { OnOk result (are_open (D.moment disk.new).seen ≡ false) }
-        ensures outside { OnOk result (Torn 0 1024 (D.moment disk.old).seen (D.moment disk.new).seen) }
+        ensures outside { OnOk result (Torn 0 label_bytes (D.moment disk.old).seen (D.moment disk.new).seen) }
         ensures durable { OnOk result (IsSettled (D.moment disk.new)) }
-        ensures crash { Goes (Torn 0 1024) (D.moment disk.old) (D.moment disk.new) }
+        ensures crash { Goes (Torn 0 label_bytes) (D.moment disk.old) (D.moment disk.new) }
         ensures cause { HasCause (D.moment disk.old).faults (D.moment disk.new).faults result }
         ensures tells { TellsMany 2 (D.moment disk.old).passing (D.moment disk.new).passing result }
     {
@@ -37,7 +40,7 @@ impl Label {
 
     /// The boot number of the site's label. It is not raised, and `Spent` is never answered.
     pub fn number<D: Disk>(disk: &mut D, site: SiteId) -> Result<u32, LabelFault>
-        requires { 1024 ≤ length (D.moment disk.old).seen }
+        requires { label_bytes ≤ length (D.moment disk.old).seen }
         ensures number { IfOk result (λ boot. HasBoot site boot (D.moment disk.old).seen) }
         ensures fault { IfErr result (λ fault. IsUnread site (D.moment disk.old).seen fault) }
         ensures seen { (D.moment disk.new).seen ≡ (D.moment disk.old).seen }
@@ -54,7 +57,7 @@ impl Label {
     /// number from before or the raised one. `NotALabel` comes exactly where it has none, and `Spent` exactly at the greatest.
     pub fn boot<D: Disk>(disk: &mut D, site: SiteId) -> Result<u32, LabelFault>
         requires settled { IsSettled (D.moment disk.old) }
-        requires long { 1024 ≤ length (D.moment disk.old).seen }
+        requires long { label_bytes ≤ length (D.moment disk.old).seen }
 
         // At each moment a crash leaves the number from before or the raised one, and nothing else changed.
         ensures any_moment { LeavesOnly (D.moment disk.old) (D.moment disk.new) (MayBeLeft site (D.moment disk.old).seen) }
@@ -88,10 +91,10 @@ impl Label {
 }
 
 /// The bytes of a new label.
-fn new_label(site: SiteId) -> [u8; 1024]
+fn new_label(site: SiteId) -> [u8; LABEL_BYTES]
     ensures { result ≡ half_bytes site 1 ++ replicate 512 0 }
 {
-    let mut bytes = [0; 1024];
+    let mut bytes = [0; LABEL_BYTES];
     bytes[..512].copy_from_slice(&half_bytes(site, 1));
     bytes
 }
@@ -99,11 +102,11 @@ fn new_label(site: SiteId) -> [u8; 1024]
 /// Closes the half that doesn't count, where it is open.
 fn close_other<D: Disk>(disk: &mut D, site: SiteId, counted: &Counted) -> Result<(), DiskFault>
     requires settled { IsSettled (D.moment disk.old) }
-    requires long { 1024 ≤ length (D.moment disk.old).seen }
+    requires long { label_bytes ≤ length (D.moment disk.old).seen }
     requires counted { IsCounted site (D.moment disk.old).seen counted.now }
     ensures any_moment { LeavesOnly (D.moment disk.old) (D.moment disk.new) (IsRaising site counted.now.boot (D.moment disk.old).seen) }
     ensures alone { OnOk result (IsAlone site counted.now.boot counted.now.half (D.moment disk.new).seen) }
-    ensures outside { OnOk result (Torn 0 1024 (D.moment disk.old).seen (D.moment disk.new).seen) }
+    ensures outside { OnOk result (Torn 0 label_bytes (D.moment disk.old).seen (D.moment disk.new).seen) }
     ensures durable { OnOk result (IsSettled (D.moment disk.new)) }
     ensures cause { HasCause (D.moment disk.old).faults (D.moment disk.new).faults result }
     ensures tells { TellsMany (if counted.now.beside then 2 else 0) (D.moment disk.old).passing (D.moment disk.new).passing result }
@@ -119,7 +122,7 @@ fn close_other<D: Disk>(disk: &mut D, site: SiteId, counted: &Counted) -> Result
 /// Writes the next boot number into the other half, and closes the one that counts.
 fn raise<D: Disk>(disk: &mut D, site: SiteId, counted: &Counted) -> Result<(), DiskFault>
     requires settled { IsSettled (D.moment disk.old) }
-    requires long { 1024 ≤ length (D.moment disk.old).seen }
+    requires long { label_bytes ≤ length (D.moment disk.old).seen }
     requires alone { IsAlone site counted.now.boot counted.now.half (D.moment disk.old).seen }
     requires fits { counted.now.boot + 1 < 2 ^ 32 }
     ensures any_moment { LeavesOnly (D.moment disk.old) (D.moment disk.new) (IsRaising site counted.now.boot (D.moment disk.old).seen) }

@@ -2,6 +2,7 @@
 ghost use Rattle.std.specs.Prelude.{◌≡◌, ◌≤◌, ◌<◌, ◌^◌, ℕ, List, length, IfOk, IfErr};
 ghost use Rattle.disk_model.specs.Images.{Same};
 ghost use Rattle.disk_model.specs.Disk.{Goes, HasCause, TellsRead, KeepsCut};
+ghost use Rattle.site_label.specs.Label.{label_bytes};
 ghost use Rattle.site_label.specs.Reading.{IsReading, IsHalf, IsCounted, counted_of, greater};
 ghost use Rattle.site_label.specs.Raising.{IsUnread, disk_answer};
 
@@ -11,7 +12,7 @@ use disk_model::{Disk, DiskFault};
 use locus_ids::SiteId;
 
 /// What a half says: nothing where its gate is closed, its boot number, or what no label of the site says.
-#[derive(Clone, Copy, Debug, PartialEq, Eq)]
+#[derive(Clone, Copy, PartialEq, Eq)]
 pub(crate) enum Reading {
     Closed,
     Boot(u32),
@@ -19,7 +20,7 @@ pub(crate) enum Reading {
 }
 
 /// The half that counts, with its boot number, and whether the other one is open too.
-#[derive(Clone, Copy, Debug, PartialEq, Eq)]
+#[derive(Clone, Copy, PartialEq, Eq)]
 pub(crate) struct Counted {
     pub half: Half,
     pub boot: u32,
@@ -28,7 +29,7 @@ pub(crate) struct Counted {
 
 /// Reads both halves, and finds the one that counts.
 pub(crate) fn read_label<D: Disk>(disk: &mut D, site: SiteId) -> Result<Counted, LabelFault>
-    requires { 1024 ≤ length (D.moment disk.old).seen }
+    requires { label_bytes ≤ length (D.moment disk.old).seen }
     ensures counted { IfOk result (λ counted. IsCounted site (D.moment disk.old).seen counted) }
     ensures fault { IfErr result (λ fault. IsUnread site (D.moment disk.old).seen fault) }
     ensures seen { (D.moment disk.new).seen ≡ (D.moment disk.old).seen }
@@ -47,7 +48,7 @@ pub(crate) fn read_label<D: Disk>(disk: &mut D, site: SiteId) -> Result<Counted,
 
 /// Reads a half.
 fn read_half<D: Disk>(disk: &mut D, site: SiteId, half: Half) -> Result<Reading, DiskFault>
-    requires { 1024 ≤ length (D.moment disk.old).seen }
+    requires { label_bytes ≤ length (D.moment disk.old).seen }
     ensures read { IfOk result (λ reading. IsHalf site half (D.moment disk.old).seen reading) }
     ensures seen { (D.moment disk.new).seen ≡ (D.moment disk.old).seen }
     ensures crash { Goes Same (D.moment disk.old) (D.moment disk.new) }

@@ -3,7 +3,7 @@ use Rattle.std.proofs.Common.{◌≡◌, ℕ, ◌-◌, ◌≤◌, List, [], ◌�
 use Rattle.std.proofs.lemmas.List.{take_all}
 use Rattle.std.specs.List.{AllByRecursion}
 use Rattle.std.specs.Prelude.{Result, Ok, Err, IsErrAnd}
-use Rattle.role_steps.specs.declared.synchronizing.SyncTable.{SyncTable}
+use Rattle.site_frame.specs.of_role_steps.declared.synchronizing.SyncTable.{SyncTable}
 use Rattle.site_packs.specs.declared.faults.ReadFault.{ReadFault}
 use Rattle.site_packs.specs.declared.faults.ReadFault.TheVariants as read
 use Rattle.site_tables.specs.Inodes.{AreInodes}

@@ -1,7 +1,8 @@
 -- The first entry of some bytes, and those that follow it.
-use Rattle.std.proofs.Common.{◌≡◌, ◌≤◌, ◌<◌, ◌+◌, ◌∙◌, ℕ, zero, suc, Bool, true, false, List, [], ◌∷◌, ◌&&◌, length, drop, cond, refl, ap, sym, subst, arith}
+use Rattle.std.proofs.Common.{◌≡◌, ◌≤◌, ◌+◌, ◌∙◌, ℕ, zero, suc, Bool, true, List, [], ◌∷◌, ◌&&◌, length, drop, cond, refl, ap, sym, subst, arith, ◌*◌}
 use Rattle.std.specs.List.{list_all}
 use Rattle.std.proofs.lemmas.List.{length-drop}
+use Rattle.locus_ids.specs.Sizes.{sites_max}
 use Rattle.dir_format.specs.Contents.{entries_from, entry_at, width_at, count_at, is_odd}
 use Rattle.dir_format.specs.Entries.{is_live}
 use Rattle.site_mends.specs.Scanning.{IsBehindLive}
@@ -19,7 +20,7 @@ room (suc m) (suc k) (n ∷ xs) a b =
 
 -- a live entry has nothing behind its count
 live_width : (n : ℕ) (xs : List ℕ) (odd : Bool) → is_odd (count_at n xs) ≡ odd → odd ≡ true → width_at n xs ≡ n + 7
-live_width n xs odd e t = ap (λ (b : Bool). n + (7 + cond b 0 64)) (e ∙ t)
+live_width n xs odd e t = ap (λ (b : Bool). n + (7 + cond b 0 (4 * sites_max))) (e ∙ t)
 
 -- where the entries that follow a live one are live, all are
 pub behind_live : (bytes behind : List ℕ) → IsBehindLive bytes behind → list_all is_live (entries_from (length behind) behind) ≡ true → list_all is_live (entries_from (length bytes) bytes) ≡ true
@@ -33,6 +34,3 @@ behind_live bytes behind h l =
     subst (λ (xs : List ℕ). list_all is_live (entries_from (length xs) xs) ≡ true) (sym h.split)
     (ap (λ b. b && list_all is_live (entries_from (length h.rest) (drop (width_at n h.rest) h.rest))) h.live
     ∙ (ap (λ es. list_all is_live es) rest ∙ l))
-
-pub behind_is_less : (bytes behind : List ℕ) → IsBehindLive bytes behind → length behind < length bytes
-behind_is_less bytes behind h = omega (arith, ap length h.split, ap length h.behind, length-drop (h.named + 7) h.rest)

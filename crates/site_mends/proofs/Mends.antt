@@ -19,14 +19,14 @@ use Rattle.dir_format.specs.declared.entry.Entry.{Entry}
 use Rattle.std.specs.Str.{bytes_eq}
 use Rattle.dir_reconcile.specs.Rescues.{rescue_wanted}
 use Rattle.dir_reconcile.specs.declared.kept.KeptVector.{KeptVector}
-use Rattle.role_steps.specs.Views.{Frame, SiteView, Users, Outcome, quiet}
-use Rattle.role_steps.specs.Epochs.{with_users}
-use Rattle.role_steps.specs.Using.{on_call}
-use Rattle.role_steps.specs.Tables.{first_that}
-use Rattle.role_steps.specs.declared.synchronizing.FileRow.{FileRow}
+use Rattle.site_frame.specs.of_role_steps.Views.{Frame, SiteView, Users, Outcome, quiet}
+use Rattle.site_frame.specs.of_role_steps.Epochs.{with_users}
+use Rattle.site_frame.specs.of_role_steps.Using.{on_call}
+use Rattle.site_frame.specs.of_role_steps.Tables.{first_that}
+use Rattle.site_frame.specs.of_role_steps.declared.synchronizing.FileRow.{FileRow}
 use Rattle.trace_book.specs.declared.call.Call.TheVariants as call
-use Rattle.role_steps.specs.Mends.{has_mend_in, kept_vectors, row_file, starts_mend, starts_mend_of, starts_mends_in, wants_mend, wants_rescue_in}
-use Rattle.role_steps.specs.declared.synchronizing.SyncTable.{SyncTable}
+use Rattle.site_frame.specs.of_role_steps.Mends.{has_mend_in, kept_vectors, row_file, starts_mend, starts_mend_of, starts_mends_in, wants_mend, wants_rescue_in}
+use Rattle.site_frame.specs.of_role_steps.declared.synchronizing.SyncTable.{SyncTable}
 use Rattle.site_packs.specs.Copies.{copies_on}
 use Rattle.site_packs.specs.Committing.{read_answer}
 use Rattle.site_packs.specs.Packs.{PacksState, Stand, groups_of}
@@ -167,9 +167,6 @@ mends_of f (x ∷ ts) t v u w a b c some e g h =
     mends_then f x ts v u w a b c (subst (λ y. Gives (starts_mend f y v) (with_users v u) a b) e g) (subst (λ l. Gives (starts_mends_in f l (with_users v u)) (with_users (with_users v u) w) b c) (rest_of x ts) h)
 
 -- ---- what wants a rescue ----
-
-none_wanted : (kept : List KeptVector) → rescue_wanted [] kept ≡ false
-none_wanted kept = refl
 
 abbrev rescue_by : List KeptVector → Bool → List Entry → Bool
 rescue_by kept all ds = elim all [

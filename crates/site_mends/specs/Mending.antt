@@ -4,10 +4,10 @@ use Rattle.locus_ids.specs.declared.ids.FileId.{FileId}
 use Rattle.disk_model.specs.declared.disk.DiskFault.{DiskFault}
 use Rattle.disk_model.specs.Disk.{Moment, Goes, Rose, TellsRead, Untold}
 use Rattle.disk_model.specs.Images.{Same}
-use Rattle.role_steps.specs.Views.{SiteView, Users}
-use Rattle.role_steps.specs.Mends.{row_file}
-use Rattle.role_steps.specs.declared.synchronizing.SyncTable.{SyncTable}
-use Rattle.role_steps.specs.declared.synchronizing.FileRow.{FileRow}
+use Rattle.site_frame.specs.of_role_steps.Views.{SiteView, Users}
+use Rattle.site_frame.specs.of_role_steps.Mends.{row_file}
+use Rattle.site_frame.specs.of_role_steps.declared.synchronizing.SyncTable.{SyncTable}
+use Rattle.site_frame.specs.of_role_steps.declared.synchronizing.FileRow.{FileRow}
 use Rattle.site_packs.specs.Copies.{copies_on}
 use Rattle.site_packs.specs.Packs.{PacksState, Stand, groups_of}
 use Rattle.site_packs.specs.declared.faults.ReadFault.{ReadFault}

@@ -1,11 +1,12 @@
 // Whether a file has to be rescued in the only kept version of a directory.
 ghost use Rattle.std.specs.Prelude.{◌≡◌, ◌≤◌, length, Err, IfErr, IfOk};
 ghost use Rattle.std.specs.List.{list_all};
+ghost use Rattle.locus_ids.specs.Sizes.{content_bytes_max};
 ghost use Rattle.commit_graph.specs.Versions.{same_stamp};
 ghost use Rattle.dir_format.specs.Entries.{is_live};
-ghost use Rattle.role_steps.specs.Views.{SiteView};
-ghost use Rattle.role_steps.specs.Storage.{copy_of};
-ghost use Rattle.role_steps.specs.Mends.{wants_rescue_in, wants_rescue_of};
+ghost use Rattle.site_frame.specs.of_role_steps.Views.{SiteView};
+ghost use Rattle.site_frame.specs.of_role_steps.Storage.{copy_of};
+ghost use Rattle.site_frame.specs.of_role_steps.Mends.{wants_rescue_in, wants_rescue_of};
 ghost use Rattle.site_packs.specs.Copies.{copies_on};
 ghost use Rattle.site_packs.specs.Packs.{Stand, groups_of};
 ghost use Rattle.site_tables.specs.Inodes.{AreInodes};
@@ -15,7 +16,8 @@ ghost use Rattle.site_mends.specs.Mending.{IsOffDisk, WasRead};
 use crate::MendFault;
 use crate::scanning::are_surely_live;
 use css_core::Css;
-use dir_format::{Entry, dir_in};
+use dir_format::Entry;
+use dir_operations::dir_in;
 use dir_reconcile::rescue_wanted;
 use disk_model::Disk;
 use locus_ids::{Bytes, FileId, Stamp};
@@ -57,7 +59,7 @@ fn same_stamp(a: Stamp, b: Stamp) -> bool
 
 /// A rescue is wanted in a directory of this content. Where no entry is removed, none is.
 fn wants_rescue_in(alloc: Global, table: &Css, content: &[u8]) -> Result<bool, MendFault>
-    requires { length content.now ≤ 65536 }
+    requires { length content.now ≤ content_bytes_max }
     ensures wants { IfOk result (λ wants. wants ≡ wants_rescue_in table.now content.now) }
     ensures off_disk { IfErr result IsOffDisk }
     ensures unfit { result ≡ Err Unfit → AreInodes table.now → ⊥ }

@@ -1,10 +1,10 @@
 // The mends that start, group by group.
 ghost use Rattle.std.specs.Prelude.{◌≡◌, Err, IfOk, OnOk};
 ghost use Rattle.std.specs.List.{AllByRecursion};
-ghost use Rattle.role_steps.specs.Views.{SiteView};
-ghost use Rattle.role_steps.specs.Epochs.{with_users};
-ghost use Rattle.role_steps.specs.Tables.{first_that};
-ghost use Rattle.role_steps.specs.Mends.{starts_mend, starts_mends_in, wants_mend};
+ghost use Rattle.site_frame.specs.of_role_steps.Views.{SiteView};
+ghost use Rattle.site_frame.specs.of_role_steps.Epochs.{with_users};
+ghost use Rattle.site_frame.specs.of_role_steps.Tables.{first_that};
+ghost use Rattle.site_frame.specs.of_role_steps.Mends.{starts_mend, starts_mends_in, wants_mend};
 ghost use Rattle.site_packs.specs.Packs.{Stand};
 ghost use Rattle.using_site.specs.Steps.{Gives};
 ghost use Rattle.site_tables.specs.Inodes.{AreInodes};

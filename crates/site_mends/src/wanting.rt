@@ -1,7 +1,7 @@
 // Which directories want a mend.
 ghost use Rattle.std.specs.Prelude.{◌≡◌, Err, IfOk};
-ghost use Rattle.role_steps.specs.Views.{SiteView};
-ghost use Rattle.role_steps.specs.Mends.{may_mend, row_file, wants_mend};
+ghost use Rattle.site_frame.specs.of_role_steps.Views.{SiteView};
+ghost use Rattle.site_frame.specs.of_role_steps.Mends.{may_mend, row_file, wants_mend};
 ghost use Rattle.site_packs.specs.Packs.{Stand};
 ghost use Rattle.site_tables.specs.Inodes.{AreInodes};
 ghost use Rattle.site_mends.specs.declared.fault.MendFault.TheVariants.{Unfit};

@@ -1,6 +1,7 @@
 -- The adoption of a site, by the choice among its pulls.
 use Rattle.std.proofs.Common.{◌≡◌, ℕ, Bool, true, false, cond, ◌&&◌, List, [], ◌∷◌, ◌++◌, Option, None, Some, refl, sym, ap, ◌∙◌, subst}
 use Rattle.std.specs.Prelude.{Result}
+use Rattle.role_steps.proofs.of_plain_facts.Tests.{and_first}
 use Rattle.disk_model.specs.Disk.{Moment}
 use Rattle.wire_messages.specs.Outboxes.{Outgoing}
 use Rattle.role_steps.specs.Tables.{row, with_row, without_row}
@@ -18,7 +19,7 @@ use Rattle.role_steps.specs.declared.synchronizing.SyncTable.{SyncTable}
 use Rattle.locus_ids.specs.declared.config.Config.{Config}
 use Rattle.site_packs.specs.Copies.{copies_on}
 use Rattle.site_packs.specs.Packs.{AreShown, PacksState, SamePlaces, Stand, groups_of}
-use Rattle.store_instances.specs.Stores.{store_of}
+use Rattle.storage_site.specs.of_store_instances.Stores.{store_of}
 use Rattle.the_run.specs.Steps.{adopts_in, adopts_of}
 use Rattle.propagation.specs.Choosing.{Choice, adopted_of, chooses, without_chosen, without_one}
 use Rattle.propagation.proofs.Choices.{adoption_chosen}
@@ -64,9 +65,6 @@ adopts_outside c me n m a s e = record {
   config = refl;
   me = refl;
 }
-
-abbrev pub entered : InEpoch → SiteNode → SiteNode
-entered e n = record n { frame = frame_in n.frame.config n.frame.me n.epochs.boot e }
 
 -- the choice is of the site whatever its frame
 pub adopts_inside : (c : Config) (me : ℕ) (e : InEpoch) (v : SiteView) → ◌≡◌ {A = Option InEpoch} (Some e) v.epoch → adopts_in c me v ≡ chosen_as (frame_in c me v.boot e) v (choice_at v)
@@ -146,10 +144,6 @@ adopted_written {T = T} e p n frame mid m o a b r s h f k q w =
 
 -- ---- a chosen pull is complete ----
 
-both_true : (a b : Bool) → (a && b) ≡ true → a ≡ true
-both_true true b h = refl
-both_true false b h = absurd (cc)
-
 same_pull : (p q : Pull) → ◌≡◌ {A = Option Pull} (Some p) (Some q) → p ≡ q
 same_pull p q e = cc
 
@@ -167,4 +161,4 @@ chosen_ready ready above [] pulls p e = no_pull p e
 chosen_ready ready above (x ∷ xs) pulls p e = chosen_by ready above x p xs pulls (chosen_ready ready above xs (without_row pull_key (pull_key x) pulls) p) (chosen_ready ready above xs pulls p) (ready x) (above x) refl e
 
 pub chosen_complete : (v : SiteView) (p : Pull) → ◌≡◌ {A = Option Pull} (Some p) (choice_at v).chosen → is_complete p ≡ true
-chosen_complete v p e = both_true (is_complete p) _ (chosen_ready (is_ready v) (is_above v) v.pulls v.pulls p e)
+chosen_complete v p e = and_first (is_complete p) _ (chosen_ready (is_ready v) (is_above v) v.pulls v.pulls p e)

@@ -6,7 +6,7 @@ use Rattle.wire_messages.specs.declared.packet.Packet.{Packet}
 use Rattle.trace_book.specs.declared.record.Record.{Record}
 use Rattle.site_frame.specs.Printed.{printed}
 use Rattle.site_frame.proofs.Printing.{printed_append}
-use Rattle.role_steps.specs.Views.{SiteView, Outcome, Told, quiet}
+use Rattle.role_steps.specs.Views.{SiteView, Outcome, quiet}
 use Rattle.using_site.specs.Steps.{Gives}
 use Rattle.packet_order.specs.Orders.{behind, sorted_out}
 use Rattle.the_run.specs.Steps.{ended, in_order, tick_ended}
@@ -27,10 +27,6 @@ given_packets o v a b e g = g.packets ∙ ap (λ xs. xs ++ o.sent) e.packets
 
 given_records : (o : Outcome SiteView) (v : SiteView) (a b : Outgoing) → IsEmpty a → Gives o v a b → b.records ≡ printed o.told
 given_records o v a b e g = g.records ∙ ap (λ xs. xs ++ printed o.told) e.records
-
--- two things that are told
-two_told : (xs ys : List Told) → printed (xs ++ ys) ≡ printed xs ++ printed ys
-two_told xs ys = printed_append xs ys
 
 -- the event's own part and its end, in one outbox
 pub own_packets : (o last : Outcome SiteView) (v w : SiteView) (a b c : Outgoing) → IsEmpty a → Gives o v a b → Gives last w b c → c.packets ≡ o.sent ++ last.sent

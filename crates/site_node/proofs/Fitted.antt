@@ -6,7 +6,7 @@ use Rattle.disk_model.specs.Disk.{Moment}
 use Rattle.locus_ids.specs.declared.config.Config.{Config}
 use Rattle.locus_ids.specs.declared.sites.Links.{Links}
 use Rattle.file_content.specs.Pages.{pages_of}
-use Rattle.inode_pack.specs.declared.new_version.NewVersion.{NewVersion}
+use Rattle.stored_versions.specs.declared.new_version.NewVersion.{NewVersion}
 use Rattle.wire_messages.specs.Outboxes.{Outgoing}
 use Rattle.packet_order.specs.Counts.{FitsIfCounted}
 use Rattle.wire_messages.specs.declared.packet.Packet.{Packet}

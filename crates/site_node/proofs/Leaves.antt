@@ -1,12 +1,11 @@
 -- A site leaves its epoch: its place in epochs, and then the rest.
-use Rattle.std.proofs.Common.{◌≡◌, ℕ, List, [], ◌++◌, append_assoc, append-nil, Option, Some, None, refl, sym, ap, ◌∙◌, subst}
+use Rattle.std.proofs.Common.{◌≡◌, ℕ, List, [], ◌++◌, append_assoc, append-nil, Option, Some, refl, sym, ap, ◌∙◌, subst}
 use Rattle.locus_ids.specs.declared.ids.EpochId.{EpochId}
 use Rattle.wire_messages.specs.Outboxes.{Outgoing}
 use Rattle.site_frame.specs.Printed.{printed}
 use Rattle.role_steps.specs.Views.{SiteView, Users, Outcome}
 use Rattle.role_steps.specs.Epochs.{with_users}
 use Rattle.role_steps.specs.Using.{users_leave}
-use Rattle.site_tables.proofs.Giving.{gives_none}
 use Rattle.using_site.specs.Steps.{Gives}
 use Rattle.merge_protocol.specs.Parts.{EpochPart, dropped, epoch_part, with_part, alone, rest_leaves}
 use Rattle.merge_protocol.specs.Laws.{LeavesBy}
@@ -54,9 +53,6 @@ rest_left me boot id old users a b e u p r = record {
   config = refl;
   me = refl;
 }
-
-pub rest_stays : (me : ℕ) (left : Option EpochId) (n : SiteNode) (a : Outgoing) → left ≡ None → Works (rest_leaves me left) n n a a
-rest_stays me left n a e = subst (λ (o : Option EpochId). Works (rest_leaves me o) n n a a) (sym e) (record { gives = λ image h. gives_none (view_of n image) a; packs = refl; config = refl; me = refl })
 
 -- the same, where the site's number was read before
 pub leaves_as : (g : ℕ → SiteView → Outcome SiteView) (m : ℕ) (left expected : Option EpochId) (old new : SiteNode) (part : EpochPart) (a b c : Outgoing) → m ≡ old.frame.me

@@ -1,6 +1,7 @@
 -- What one role does, in the site around it.
 use Rattle.std.proofs.Common.{◌≡◌, ◌++◌, ℕ, ◌≤◌, length, Bool, true, false, List, [], append-nil, Option, None, Some, refl, sym, ap, ◌∙◌, subst, arith}
 use Rattle.std.specs.Option.{option_map}
+use Rattle.locus_ids.specs.Sizes.{content_bytes_max}
 use Rattle.locus_ids.specs.declared.ids.FileId.{FileId}
 use Rattle.locus_ids.specs.declared.ids.Stamp.{Stamp}
 use Rattle.commit_graph.specs.Versions.{same_stamp}
@@ -22,8 +23,8 @@ use Rattle.role_steps.specs.declared.synchronizing.SyncTable.{SyncTable}
 use Rattle.site_packs.specs.Packs.{AreShown, PacksState, Stand, SamePlaces, copy_at}
 use Rattle.site_frame.specs.Printed.{printed}
 use Rattle.the_run.specs.Steps.{with_pulls}
-use Rattle.store_instances.specs.Stores.{store_of}
-use Rattle.store_instances.specs.Stores.{Gives as StoreGives}
+use Rattle.storage_site.specs.of_store_instances.Stores.{store_of}
+use Rattle.storage_site.specs.of_store_instances.Stores.{Gives as StoreGives}
 use Rattle.using_site.specs.Steps.{Gives}
 use Rattle.role_steps.specs.Mends.{kept_stamps}
 use Rattle.wire_messages.specs.declared.body.Body.{Body}
@@ -118,14 +119,14 @@ page_at f stamp page bytes (Some p) pulls = by_case (is_awaited p stamp page byt
 pub page_untold : (f : Frame) (file : FileId) (stamp : Stamp) (page : ℕ) (bytes : List ℕ) (pulls : List Pull) → (on_page f file stamp page bytes pulls).told ≡ []
 page_untold f file stamp page bytes pulls = page_at f stamp page bytes (pull_of pulls file) pulls
 
-sized_empty : (p : Pull) → p.content ≡ [] → p.size ≤ 65536 → IsSized p
+sized_empty : (p : Pull) → p.content ≡ [] → p.size ≤ content_bytes_max → IsSized p
 sized_empty p e s = record { size = s; content = subst (λ (bytes : List ℕ). length bytes ≤ p.size) (sym e) (omega arith) }
 
 abbrev notified_pulls : Frame → ℕ → Pull → SiteView → Outcome (List Pull)
 notified_pulls f from p v = on_notify f from (copy_of v.store p.file) p v.pulls
 
 -- a notify of a version of which nothing has come yet
-pub notified_works : (from : ℕ) (own : Option CopyHead) (p : Pull) (old : SiteNode) (pulls : List Pull) (a b : Outgoing) → p.content ≡ [] → p.size ≤ 65536
+pub notified_works : (from : ℕ) (own : Option CopyHead) (p : Pull) (old : SiteNode) (pulls : List Pull) (a b : Outgoing) → p.content ≡ [] → p.size ≤ content_bytes_max
     → ((image : List ℕ) → AreShown old.packs.packs image → head_of (copy_at old.packs image p.file) ≡ own)
     → ((copy : Option FileCopy) → head_of copy ≡ own → IsSized p → pulls ≡ (on_notify old.frame from copy p old.pulls).view)
     → ((copy : Option FileCopy) → head_of copy ≡ own → IsSized p → b.packets ≡ a.packets ++ (on_notify old.frame from copy p old.pulls).sent) → b.records ≡ a.records

@@ -1,5 +1,5 @@
 -- The choice among the pulls of a site, of which the pulls alone change on the way.
-use Rattle.std.proofs.Common.{◌≡◌, ℕ, ◌+◌, ◌-◌, ◌<◌, ◌≤◌, Bool, true, false, List, length, drop, slice_get, Option, None, Some, cond, refl, sym, ap, ◌∙◌, subst, arith}
+use Rattle.std.proofs.Common.{◌≡◌, ℕ, ◌+◌, ◌-◌, ◌<◌, Bool, true, false, List, length, drop, slice_get, Option, None, Some, cond, refl, sym, ap, ◌∙◌, subst, arith}
 use Rattle.std.specs.Option.{option_map}
 use Rattle.locus_ids.specs.declared.ids.FileId.{FileId}
 use Rattle.keyed_tables.specs.Rising.{Rising}
@@ -12,7 +12,7 @@ use Rattle.propagation.specs.Choosing.{LooksAt, chooses, without_chosen}
 use Rattle.propagation.specs.declared.adopting.Look.{Look}
 use Rattle.propagation.specs.declared.adopting.Verdict.{Verdict}
 use Rattle.propagation.specs.declared.adopting.Verdict.TheVariants as verdict
-use Rattle.propagation.proofs.Choices.{adopt_now, drop_next, fewer_gone, none_left, wait_next}
+use Rattle.propagation.proofs.Choices.{adopt_now, drop_next, fewer_gone, wait_next}
 use Rattle.site_packs.specs.Packs.{AreShown}
 use Rattle.site_node.specs.Adopting.{ShowsPull, choice_at, is_above}
 use Rattle.site_node.specs.Views.{view_of}
@@ -61,9 +61,6 @@ dropped_next old now place image seen pulls k s f p = drop_next (is_ready (view_
 pub taken_now : (old now : SiteNode) (place : ℕ) (image : List ℕ) (seen : PullSeen) (pulls : List Pull) (taken : Option Pull) → Choosing old now place image → ShowsPull (view_of now image) place seen → seen.fate ≡ fate.Adopt → taken ≡ row pull_key (file_key seen.file) now.pulls
     → pulls ≡ without_row pull_key (file_key seen.file) now.pulls → (taken ≡ (choice_at (view_of old image)).chosen) × (pulls ≡ without_chosen (choice_at (view_of old image)))
 taken_now old now place image seen pulls taken k s f t p = adopt_now (is_ready (view_of old image)) (is_above (view_of old image)) now.pulls pulls place (look_of seen) (choice_at (view_of old image)) taken (looks_old old now place image seen k.rest s) (ap verdict_as f) t p k.choice
-
-pub none_taken : (old now : SiteNode) (place : ℕ) (image : List ℕ) → Choosing old now place image → length now.pulls ≤ place → (◌≡◌ {A = Option Pull} None (choice_at (view_of old image)).chosen) × (now.pulls ≡ without_chosen (choice_at (view_of old image)))
-none_taken old now place image k l = none_left (is_ready (view_of old image)) (is_above (view_of old image)) now.pulls place (choice_at (view_of old image)) l k.choice
 
 abbrev with_left : SiteNode → List Pull → SiteNode
 with_left n pulls = record n { pulls = pulls }

@@ -10,7 +10,7 @@ use Rattle.packet_order.specs.Counts.{FitsIfCounted}
 use Rattle.wire_messages.specs.declared.body.Body.{Body}
 use Rattle.wire_messages.specs.declared.packet.Packet.{Packet}
 use Rattle.role_steps.specs.Epochs.{frame_in, passes_over}
-use Rattle.role_steps.specs.Storage.{copy_pages, pack_pages}
+use Rattle.role_steps.specs.Storage.{copy_pages}
 use Rattle.role_steps.specs.Tables.{total}
 use Rattle.role_steps.specs.Views.{Frame, Outcome, Receives, SiteView, Ticks}
 use Rattle.role_steps.specs.declared.pulls.Pull.{Pull}

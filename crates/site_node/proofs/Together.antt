@@ -12,7 +12,7 @@ use Rattle.disk_model.proofs.ReadRuns.{leaves_joins}
 use Rattle.disk_model.proofs.Tells.{tells_join, tells_rest}
 use Rattle.gate_switch.specs.Gates.{new_gate}
 use Rattle.pack_layout.specs.Layout.{area_length}
-use Rattle.inode_pack.specs.Cutting.{are_both_open}
+use Rattle.site_packs.specs.of_inode_pack.Cutting.{are_both_open}
 use Rattle.trace_book.specs.declared.record.Record.{Record}
 use Rattle.wire_messages.specs.Outboxes.{Outgoing}
 use Rattle.wire_messages.specs.declared.packet.Packet.{Packet}
@@ -27,7 +27,7 @@ use Rattle.site_packs.specs.Copies.{copies_on}
 use Rattle.site_packs.specs.Cutting.{IsCut, both_open_on}
 use Rattle.site_packs.specs.Mounting.{AreSound}
 use Rattle.site_packs.specs.Packs.{PacksState, SamePlaces, groups_of}
-use Rattle.store_instances.specs.Writes.{LeavesEver, MayLeave, calls_in}
+use Rattle.storage_site.specs.of_store_instances.Writes.{LeavesEver, MayLeave, calls_in}
 use Rattle.site_parts.specs.declared.fault.NodeFault.{NodeFault}
 use Rattle.site_parts.specs.declared.fault.NodeFault.TheVariants.{NoMemory, Cut, NoNumber}
 use Rattle.site_node.specs.Writing.{EventWrites, IsCutIn, replaces}
@@ -59,7 +59,7 @@ module _ (p q : PacksState) (s : SamePlaces p q) where
 
   pub calls_here : (w : Option DiskWrite) (image : List ℕ) → calls_in q image w ≡ calls_in p image w
   calls_here None image = refl
-  calls_here (Some w) image = ap (λ (b : Bool). calls_of w.pages b) (replaces_here w image)
+  calls_here (Some w) image = ap (λ (b : Bool). calls_of (length w.pages) b) (replaces_here w image)
 
   is_cut_here : (made : FileCopy) (pages : ℕ) (how : HowCut) (passed : ℕ) (old new : List ℕ) → IsCut q made pages how passed old new → IsCut p made pages how passed old new
   is_cut_here made pages how passed old new k = record {
@@ -76,8 +76,8 @@ module _ (p q : PacksState) (s : SamePlaces p q) where
     older = k.older ∙ older;
     records = k.records;
     packets = k.packets;
-    early = λ passed x. subst (λ (y : Bool). passed < calls_of w.pages y) older (k.early passed (t passed x));
-    left = λ passed x. is_cut_here w.copy w.pages old.how passed old.seen new.left (subst (λ (y : List ℕ). IsCut q w.copy w.pages old.how passed y new.left) e (subst (λ (y : HowCut). IsCut q w.copy w.pages y passed mid.seen new.left) h (k.left passed (t passed x))));
+    early = λ passed x. subst (λ (y : Bool). passed < calls_of (length w.pages) y) older (k.early passed (t passed x));
+    left = λ passed x. is_cut_here w.copy (length w.pages) old.how passed old.seen new.left (subst (λ (y : List ℕ). IsCut q w.copy (length w.pages) old.how passed y new.left) e (subst (λ (y : HowCut). IsCut q w.copy (length w.pages) y passed mid.seen new.left) h (k.left passed (t passed x))));
   }
     where
       older : replaces q mid.seen w ≡ replaces p old.seen w

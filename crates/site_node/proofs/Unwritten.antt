@@ -24,8 +24,7 @@ use Rattle.role_steps.specs.declared.rounds.Round.{Round}
 use Rattle.role_steps.specs.declared.synchronizing.FileRow.{FileRow}
 use Rattle.role_steps.specs.declared.synchronizing.SyncTable.{SyncTable}
 use Rattle.the_run.specs.Steps.{adopts_in, at_table_of, call_frame, ends_after, ends_event, epoch_id, is_opened_in, starts_mends_of, takes, takes_call, takes_framed, takes_inside, ticks_after, tries_at, whole}
-use Rattle.run_laws.proofs.SyncTells.{on_opened_talks, on_open_talks, on_look_talks, on_report_talks, on_closed_talks, on_have_talks}
-use Rattle.run_laws.proofs.RolesTell.{on_notify_talks, on_page_talks, on_call_talks, on_open_done_talks, on_op_done_talks, on_close_done_talks, on_look_done_talks}
+use Rattle.site_parts.proofs.of_run_laws.Telling.{on_opened_talks, on_open_talks, on_look_talks, on_report_talks, on_closed_talks, on_have_talks, on_notify_talks, on_page_talks, on_call_talks, on_open_done_talks, on_op_done_talks, on_close_done_talks, on_look_done_talks}
 use Rattle.site_parts.specs.Roles.{role_of}
 use Rattle.site_node.specs.Taking.{is_tried, taken}
 use Rattle.site_parts.specs.declared.roles.Role.{Role}

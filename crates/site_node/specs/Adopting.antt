@@ -3,10 +3,9 @@ use Rattle.std.specs.Prelude.{ℕ, ◌≡◌, Bool, cond, [], ◌∷◌, slice_g
 use Rattle.role_steps.specs.Views.{Frame, SiteView, Shown, Outcome, to_sync}
 use Rattle.role_steps.specs.Storage.{copy_of, with_copy}
 use Rattle.role_steps.specs.Pulling.{pull_key}
-use Rattle.role_steps.specs.Adoption.{is_ready, is_above_own, copy_adopted, adopt_record}
+use Rattle.role_steps.specs.Adoption.{is_ready, is_above_own, copy_adopted, adopt_record, adopt_write}
 use Rattle.role_steps.specs.declared.pulls.Pull.{Pull}
 use Rattle.wire_messages.specs.declared.body.Body.TheVariants as body
-use Rattle.file_content.specs.Pages.{pages_of}
 use Rattle.keyed_tables.specs.Rising.{Rising}
 use Rattle.propagation.specs.Choosing.{Choice, chooses}
 use Rattle.site_tables.specs.Tables.{noting_own}
@@ -37,5 +36,5 @@ adopted_now f p v = record {
   view = record v { store = with_copy (copy_adopted p) v.store; tables = noting_own f.me p.file p.stamp v.tables };
   sent = to_sync f p.file.group (body.Have p.file p.stamp);
   told = Shown (adopt_record f p) ∷ [];
-  written = Some (record { copy = copy_adopted p; pages = pages_of p.size; says = adopt_record f p });
+  written = Some (adopt_write f p);
 }

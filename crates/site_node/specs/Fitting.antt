@@ -1,16 +1,17 @@
 -- What an event of a site needs so that it isn't refused as unfit.
 use Rattle.std.specs.Prelude.{◌≡◌, ◌≢◌, ℕ, ◌-◌, ◌≤◌, true, false, List, length, Option, None, Some}
 use Rattle.std.specs.List.{AllByRecursion}
+use Rattle.locus_ids.specs.Sizes.{inodes_max, content_bytes_max, pack_pages}
 use Rattle.locus_ids.specs.declared.config.Config.{Config}
 use Rattle.locus_ids.specs.declared.sites.Links.{Links}
 use Rattle.file_content.specs.Pages.{pages_of}
-use Rattle.inode_pack.specs.Committing.{IsVersion}
+use Rattle.stored_versions.specs.Versions.{IsVersion}
 use Rattle.packet_order.specs.Counts.{FitsIfCounted}
 use Rattle.wire_messages.specs.declared.body.Body.{Body}
 use Rattle.wire_messages.specs.declared.body.Body.TheVariants as body
 use Rattle.role_steps.specs.Adoption.{is_ready}
 use Rattle.role_steps.specs.Epochs.{frame_in, leaves, passes_over, starts_merge, starts_part}
-use Rattle.role_steps.specs.Storage.{copy_pages, pack_pages}
+use Rattle.role_steps.specs.Storage.{copy_pages}
 use Rattle.role_steps.specs.Tables.{total}
 use Rattle.role_steps.specs.Views.{Frame, Store, SiteView, Event, Calls, Receives, Ticks, Parts, Merges, GivesUp}
 use Rattle.role_steps.specs.declared.pulls.Pull.{Pull}
@@ -28,7 +29,7 @@ use Rattle.site_node.specs.Taking.{IsSpent, is_tried}
 
 -- a notice is of a version that is no longer than a file may be
 abbrev pub IsShort : Body → Type 0
-IsShort (body.Notify file kind set size stamp vector holder) = size ≤ 65536
+IsShort (body.Notify file kind set size stamp vector holder) = size ≤ content_bytes_max
 IsShort _ = Unit {0}
 
 -- what a member sent may be taken in the epoch of the frame, at a site with packs of these groups on the disk of this site
@@ -51,7 +52,7 @@ CanTake c me groups home v _ = Unit {0}
 pub record CanKeep (groups : List ℕ) (s : Store) (p : Pull) : Type 0 where
   pub group : has_group groups p.file.group ≡ true
   pub low : 1 ≤ p.file.ino
-  pub high : p.file.ino ≤ 1024
+  pub high : p.file.ino ≤ inodes_max
   pub version : IsVersion (record { kind = p.kind; set = p.set; stamp = p.stamp; vector = p.vector }) (length p.content)
   pub room : pages_of (length p.content) ≤ pack_pages - total (copy_pages p.file.group) s.copies
 

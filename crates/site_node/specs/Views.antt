@@ -5,7 +5,7 @@ use Rattle.disk_model.specs.Disk.{Moment}
 use Rattle.wire_messages.specs.Outboxes.{Outgoing}
 use Rattle.role_steps.specs.Views.{SiteView, Outcome, Event}
 use Rattle.site_packs.specs.Packs.{AreShown, Stand, SamePlaces}
-use Rattle.store_instances.specs.Stores.{store_of}
+use Rattle.storage_site.specs.of_store_instances.Stores.{store_of}
 use Rattle.using_site.specs.Steps.{Gives}
 use Rattle.the_run.specs.Steps.{step}
 use Rattle.site_node.specs.declared.node.SiteNode.{SiteNode}

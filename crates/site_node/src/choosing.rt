@@ -17,7 +17,7 @@ use role_steps::Pull;
 use version_vector::Ordering4;
 
 /// What becomes of a pull.
-#[derive(Clone, Copy, Debug, PartialEq, Eq)]
+#[derive(Clone, Copy, PartialEq, Eq)]
 pub(crate) enum Fate {
     Wait,
     Drop,
@@ -25,7 +25,7 @@ pub(crate) enum Fate {
 }
 
 /// The file of a pull, and what becomes of the pull.
-#[derive(Clone, Copy, Debug, PartialEq, Eq)]
+#[derive(Clone, Copy, PartialEq, Eq)]
 pub(crate) struct PullSeen {
     pub file: FileId,
     pub fate: Fate,

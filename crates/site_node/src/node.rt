@@ -11,6 +11,7 @@ ghost use Rattle.site_node.specs.Views.{view_of};
 
 use css_core::Css;
 use keyed_tables::SortedTable;
+use locus_ids::sizes::SITES;
 use locus_ids::{Config, EpochId, Members, SiteId};
 use merge_protocol::EpochState;
 use packet_order::is_dropped;
@@ -54,7 +55,7 @@ impl SiteNode {
                 site: 0,
                 boot: 0,
             },
-            members: Members { boot: [0; 16] },
+            members: Members { boot: [0; SITES] },
         };
         SiteNode {
             alloc,

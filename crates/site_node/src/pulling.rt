@@ -10,7 +10,7 @@ ghost use Rattle.site_parts.specs.declared.fault.NodeFault.TheVariants.{Unfit};
 ghost use Rattle.site_parts.specs.declared.roles.Role.TheVariants as role;
 
 use crate::SiteNode;
-use locus_ids::sizes::MAX_BYTES;
+use locus_ids::sizes::CONTENT_BYTES;
 use locus_ids::{Bytes, FileId, SiteId};
 use propagation::CopyHead;
 use role_steps::Pull;
@@ -48,7 +48,7 @@ impl SiteNode {
                 vector,
                 holder,
             } => {
-                if *size as usize > MAX_BYTES {
+                if *size as usize > CONTENT_BYTES {
                     return Err(NodeFault::Unfit);
                 }
                 let pull = Pull {

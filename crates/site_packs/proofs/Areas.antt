@@ -2,6 +2,7 @@
 use Rattle.std.proofs.Common.{◌≡◌, ◌≢◌, ◌⊎◌, inl, inr, ⊎_elim, ℕ, zero, suc, ◌+◌, ◌-◌, ◌*◌, ◌%◌, ◌≤◌, ◌<◌, Bool, true, false, List, length, get_or, Option, None, Some, refl, sym, ap, subst, ◌∙◌, arith}
 use Rattle.std.specs.Prelude.{◌==◌, ◌&&◌, if◌then◌else◌}
 use Rattle.std.proofs.lemmas.Bool.{cases_Bool, cases_lt}
+use Rattle.locus_ids.specs.Sizes.{inodes_max, page_bytes, content_pages_max, pack_pages}
 use Rattle.disk_model.specs.Images.{bytes_at, Torn}
 use Rattle.file_content.specs.Pages.{pages_of}
 use Rattle.pack_layout.specs.declared.half.Half.{Half}
@@ -9,9 +10,9 @@ use Rattle.pack_layout.specs.declared.half.Half.TheVariants as slot_half
 use Rattle.pack_layout.specs.Layout.{area_length, area_at, slot_at, page_at, other_half}
 use Rattle.pack_layout.proofs.Halves.{half_most}
 use Rattle.gate_switch.proofs.Tearing.{same_bytes, is_outside}
-use Rattle.inode_switch.specs.View.{is_open, turn, size, page, Newer, First, Second, Neither, newer_of, newer, counting, view}
-use Rattle.inode_switch.proofs.SlotBytes.{says}
-use Rattle.inode_switch.proofs.Views.{Agrees, same_view}
+use Rattle.pack_slots.specs.of_inode_switch.View.{is_open, turn, size, page, Newer, First, Second, Neither, newer_of, newer, counting, view}
+use Rattle.pack_slots.proofs.of_inode_switch.SlotBytes.{says}
+use Rattle.pack_slots.proofs.of_inode_switch.Views.{Agrees, same_view}
 use Rattle.pack_slots.specs.declared.inode_copy.InodeCopy.{InodeCopy}
 use Rattle.pack_slots.specs.declared.mount_fault.MountFault.{MountFault}
 use Rattle.pack_slots.specs.declared.mount_fault.MountFault.TheVariants.{Disk, NotAPack, BadSlot, SharedPage, NoMemory}
@@ -24,9 +25,6 @@ use Rattle.pack_slots.specs.Mounting.{Names, IsShared, IsSound, IsCause, losing_
 pub record AgreeOn (base : ℕ) (a b : List ℕ) : Type 0 where
   pub long : length b ≡ length a
   pub each : (k : ℕ) → k < area_length → get_or b (base + k) 0 ≡ get_or a (base + k) 0
-
-pub agree_self : (base : ℕ) (a : List ℕ) → AgreeOn base a a
-agree_self base a = record { long = refl; each = λ k lt. refl }
 
 pub agree_back : (base : ℕ) (a b : List ℕ) → AgreeOn base a b → AgreeOn base b a
 agree_back base a b agree = record { long = sym agree.long; each = λ k lt. sym (agree.each k lt) }
@@ -46,29 +44,29 @@ at_place : (base at : ℕ) (a b : List ℕ) → AgreeOn base a b → base ≤ at
 at_place base at a b agree low high = let e : base + (at - base) ≡ at = omega arith in subst (λ (n : ℕ). get_or b n 0 ≡ get_or a n 0) e (agree.each (at - base) (omega arith))
 
 module _ (base : ℕ) (a b : List ℕ) (agree : AgreeOn base a b) where
-  slot_byte : (ino : ℕ) (half : Half) (k : ℕ) → 1 ≤ ino → ino ≤ 1024 → k < 512 → get_or b (slot_at base ino half + k) 0 ≡ get_or a (slot_at base ino half + k) 0
+  slot_byte : (ino : ℕ) (half : Half) (k : ℕ) → 1 ≤ ino → ino ≤ inodes_max → k < 512 → get_or b (slot_at base ino half + k) 0 ≡ get_or a (slot_at base ino half + k) 0
   slot_byte ino half k low high lt = let most = half_most half in at_place base (slot_at base ino half + k) a b agree (omega arith) (omega arith)
 
-  page_byte : (number k : ℕ) → number < 3072 → k < 1024 → get_or b (page_at base number + k) 0 ≡ get_or a (page_at base number + k) 0
+  page_byte : (number k : ℕ) → number < pack_pages → k < page_bytes → get_or b (page_at base number + k) 0 ≡ get_or a (page_at base number + k) 0
   page_byte number k lt small = at_place base (page_at base number + k) a b agree (omega arith) (omega arith)
 
-  slot_bytes_same : (ino : ℕ) (half : Half) → 1 ≤ ino → ino ≤ 1024 → bytes_at b (slot_at base ino half) 512 ≡ bytes_at a (slot_at base ino half) 512
+  slot_bytes_same : (ino : ℕ) (half : Half) → 1 ≤ ino → ino ≤ inodes_max → bytes_at b (slot_at base ino half) 512 ≡ bytes_at a (slot_at base ino half) 512
   slot_bytes_same ino half low high = same_bytes a b (slot_at base ino half) 512 agree.long (λ k lt. slot_byte ino half k low high lt)
 
-  pub open_same : (ino : ℕ) (half : Half) → 1 ≤ ino → ino ≤ 1024 → is_open b (slot_at base ino half) ≡ is_open a (slot_at base ino half)
+  pub open_same : (ino : ℕ) (half : Half) → 1 ≤ ino → ino ≤ inodes_max → is_open b (slot_at base ino half) ≡ is_open a (slot_at base ino half)
   open_same ino half low high =
       let e : slot_at base ino half + 0 ≡ slot_at base ino half = omega arith in
       ap (λ (n : ℕ). n == 165) (subst (λ (n : ℕ). get_or b n 0 ≡ get_or a n 0) e (slot_byte ino half 0 low high (omega arith)))
 
-  turn_same : (ino : ℕ) (half : Half) → 1 ≤ ino → ino ≤ 1024 → turn b (slot_at base ino half) ≡ turn a (slot_at base ino half)
+  turn_same : (ino : ℕ) (half : Half) → 1 ≤ ino → ino ≤ inodes_max → turn b (slot_at base ino half) ≡ turn a (slot_at base ino half)
   turn_same ino half low high = slot_byte ino half 1 low high (omega arith)
 
-  size_same : (ino : ℕ) (half : Half) → 1 ≤ ino → ino ≤ 1024 → size b (slot_at base ino half) ≡ size a (slot_at base ino half)
+  size_same : (ino : ℕ) (half : Half) → 1 ≤ ino → ino ≤ inodes_max → size b (slot_at base ino half) ≡ size a (slot_at base ino half)
   size_same ino half low high =
       let at : (k : ℕ) → k < 512 → get_or b (slot_at base ino half + k) 0 ≡ get_or a (slot_at base ino half + k) 0 = (λ k lt. slot_byte ino half k low high lt) in
       (λ i. ((at 7 (omega arith) i * 256 + at 8 (omega arith) i) * 256 + at 9 (omega arith) i) * 256 + at 10 (omega arith) i)
 
-  page_same : (ino : ℕ) (half : Half) (n : ℕ) → 1 ≤ ino → ino ≤ 1024 → n < 64 → page b (slot_at base ino half) n ≡ page a (slot_at base ino half) n
+  page_same : (ino : ℕ) (half : Half) (n : ℕ) → 1 ≤ ino → ino ≤ inodes_max → n < content_pages_max → page b (slot_at base ino half) n ≡ page a (slot_at base ino half) n
   page_same ino half n low high lt =
       let slot = slot_at base ino half in
       let e : slot + (80 + 2 * n) ≡ slot + 80 + 2 * n = omega arith in
@@ -77,13 +75,13 @@ module _ (base : ℕ) (a b : List ℕ) (agree : AgreeOn base a b) where
       let lesser = subst (λ (m : ℕ). get_or b m 0 ≡ get_or a m 0) f (slot_byte ino half (81 + 2 * n) low high (omega arith)) in
       (λ i. greater i * 256 + lesser i)
 
-  newer_same : (ino : ℕ) → 1 ≤ ino → ino ≤ 1024 → newer b (slot_at base ino slot_half.First) (slot_at base ino slot_half.Second) ≡ newer a (slot_at base ino slot_half.First) (slot_at base ino slot_half.Second)
+  newer_same : (ino : ℕ) → 1 ≤ ino → ino ≤ inodes_max → newer b (slot_at base ino slot_half.First) (slot_at base ino slot_half.Second) ≡ newer a (slot_at base ino slot_half.First) (slot_at base ino slot_half.Second)
   newer_same ino low high =
       let one = turn_same ino slot_half.First low high in
       let two = turn_same ino slot_half.Second low high in
       (λ i. newer_of ((one i + 1) % 3 == two i) ((two i + 1) % 3 == one i))
 
-  pub place_same : (ino : ℕ) → 1 ≤ ino → ino ≤ 1024 → counting_place base ino b ≡ counting_place base ino a
+  pub place_same : (ino : ℕ) → 1 ≤ ino → ino ≤ inodes_max → counting_place base ino b ≡ counting_place base ino a
   place_same ino low high =
       let one = open_same ino slot_half.First low high in
       let two = open_same ino slot_half.Second low high in
@@ -93,17 +91,17 @@ module _ (base : ℕ) (a b : List ℕ) (agree : AgreeOn base a b) where
   pub named_same : (group site : ℕ) → IsPackOf base group site a → IsPackOf base group site b
   named_same group site named = same_bytes a b base 1024 agree.long (λ k lt. agree.each k (omega arith)) ∙ named
 
-  has_slot_same : (ino : ℕ) (half : Half) → 1 ≤ ino → ino ≤ 1024 → HasSlot ino (slot_at base ino half) a → HasSlot ino (slot_at base ino half) b
+  has_slot_same : (ino : ℕ) (half : Half) → 1 ≤ ino → ino ≤ inodes_max → HasSlot ino (slot_at base ino half) a → HasSlot ino (slot_at base ino half) b
   has_slot_same ino half low high has = record { slot = has.slot; bytes = slot_bytes_same ino half low high ∙ has.bytes; is = has.is; own = has.own }
 
-  pub good_same : (ino : ℕ) → 1 ≤ ino → ino ≤ 1024 → IsGoodInode base ino a → IsGoodInode base ino b
+  pub good_same : (ino : ℕ) → 1 ≤ ino → ino ≤ inodes_max → IsGoodInode base ino a → IsGoodInode base ino b
   good_same ino low high good = record {
     slots = λ half is. has_slot_same ino half low high (good.slots half (sym (open_same ino half low high) ∙ is));
     turns = λ one two e. good.turns (sym (open_same ino slot_half.First low high) ∙ one) (sym (open_same ino slot_half.Second low high) ∙ two)
         (sym (turn_same ino slot_half.First low high) ∙ e ∙ turn_same ino slot_half.Second low high);
   }
 
-  agrees : (ino : ℕ) (half : Half) → 1 ≤ ino → ino ≤ 1024 → IsGoodInode base ino a → Agrees base (slot_at base ino half) a b
+  agrees : (ino : ℕ) (half : Half) → 1 ≤ ino → ino ≤ inodes_max → IsGoodInode base ino a → Agrees base (slot_at base ino half) a b
   agrees ino half low high good = ⊎_elim
       (λ (is : is_open a (slot_at base ino half) ≡ true).
       let has = good.slots half is in
@@ -124,10 +122,10 @@ module _ (base : ℕ) (a b : List ℕ) (agree : AgreeOn base a b) where
       (cases_Bool (is_open a (slot_at base ino half)))
 
   -- what the view has of a good inode
-  pub view_same : (ino : ℕ) → 1 ≤ ino → ino ≤ 1024 → IsGoodInode base ino a → view b base ino ≡ view a base ino
+  pub view_same : (ino : ℕ) → 1 ≤ ino → ino ≤ inodes_max → IsGoodInode base ino a → view b base ino ≡ view a base ino
   view_same ino low high good = same_view base (slot_at base ino slot_half.First) (slot_at base ino slot_half.Second) a b (agrees ino slot_half.First low high good) (agrees ino slot_half.Second low high good)
 
-  shows_copy_same : (ino : ℕ) → 1 ≤ ino → ino ≤ 1024 → (o : Option InodeCopy) → ShowsCopy base ino a o → ShowsCopy base ino b o
+  shows_copy_same : (ino : ℕ) → 1 ≤ ino → ino ≤ inodes_max → (o : Option InodeCopy) → ShowsCopy base ino a o → ShowsCopy base ino b o
   shows_copy_same ino low high None shows = λ half. open_same ino half low high ∙ shows half
   shows_copy_same ino low high (Some copy) shows = record {
     bytes = slot_bytes_same ino copy.half low high ∙ shows.bytes;
@@ -153,7 +151,7 @@ counting_slot base ino image place is =
     (counts_open (is_open image first) (is_open image second) (newer image first second) first second place is)
 
 module _ (base : ℕ) (a b : List ℕ) (agree : AgreeOn base a b) where
-  names_same : (ino number : ℕ) → 1 ≤ ino → ino ≤ 1024 → IsGoodInode base ino b → Names base ino number b → Names base ino number a
+  names_same : (ino number : ℕ) → 1 ≤ ino → ino ≤ inodes_max → IsGoodInode base ino b → Names base ino number b → Names base ino number a
   names_same ino number low high good names =
       let c = counting_slot base ino b names.place names.counts in
       let has = good.slots c.0 c.2 in
@@ -161,7 +159,7 @@ module _ (base : ℕ) (a b : List ℕ) (agree : AgreeOn base a b) where
       let small = has.is.size in
       let e : size b names.place ≡ has.slot.size = ap (size b) c.1 ∙ s.size in
       let inside = names.inside in
-      let few : names.i < 64 = (let lt : names.i < pages_of has.slot.size = subst (λ (n : ℕ). names.i < pages_of n) e inside in omega arith) in
+      let few : names.i < content_pages_max = (let lt : names.i < pages_of has.slot.size = subst (λ (n : ℕ). names.i < pages_of n) e inside in omega arith) in
       record {
         place = names.place;
         counts = sym (place_same base a b agree ino low high) ∙ names.counts;
@@ -170,7 +168,7 @@ module _ (base : ℕ) (a b : List ℕ) (agree : AgreeOn base a b) where
         is = ap (λ (at : ℕ). page a at names.i) c.1 ∙ sym (page_same base a b agree ino c.0 names.i low high few) ∙ ap (λ (at : ℕ). page b at names.i) (sym c.1) ∙ names.is;
       }
 
-  shared_same : (number : ℕ) → ((ino : ℕ) → 1 ≤ ino → ino ≤ 1024 → IsGoodInode base ino b) → IsShared base number b → IsShared base number a
+  shared_same : (number : ℕ) → ((ino : ℕ) → 1 ≤ ino → ino ≤ inodes_max → IsGoodInode base ino b) → IsShared base number b → IsShared base number a
   shared_same number good shared =
       let low = shared.low in
       let apart = shared.apart in
@@ -224,7 +222,7 @@ shows_same pack a b agree shows = record {
 }
 
 -- as many gates lose
-pub gates_same : (base : ℕ) (a b : List ℕ) → AgreeOn base a b → (n : ℕ) → n ≤ 1024 → losing_gates base n b ≡ losing_gates base n a
+pub gates_same : (base : ℕ) (a b : List ℕ) → AgreeOn base a b → (n : ℕ) → n ≤ inodes_max → losing_gates base n b ≡ losing_gates base n a
 unfolding losing_gates
 gates_same base a b agree zero le = refl
 gates_same base a b agree (suc n) le =

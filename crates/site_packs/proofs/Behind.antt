@@ -3,9 +3,10 @@ use Rattle.std.proofs.Common.{◌≡◌, ◌≢◌, ◌⊎◌, inl, inr, ⊎_eli
 use Rattle.std.specs.Prelude.{map, slice_get, slice_set, is_some, ◌==◌, ◌||◌}
 use Rattle.std.proofs.lemmas.Bool.{cases_lt, eqb-true, eq-eqb, false≢true}
 use Rattle.std.specs.Option.{option_map}
+use Rattle.locus_ids.specs.Sizes.{inodes_max, inode_span}
 use Rattle.disk_model.specs.Images.{Torn}
 use Rattle.pack_layout.specs.Layout.{area_length, area_at}
-use Rattle.inode_switch.specs.View.{Version, view, SameView, Replaced}
+use Rattle.pack_slots.specs.of_inode_switch.View.{Version, view, SameView, Replaced}
 use Rattle.inode_pack.specs.Pack.{PackState, Shows}
 use Rattle.pack_slots.specs.Copies.{AreCopies}
 use Rattle.pack_slots.specs.Mounting.{IsSound}
@@ -21,36 +22,36 @@ use Rattle.site_packs.proofs.Rows.{Between, wider, both_between, row_outside, ro
 
 -- ---- one pack ----
 
-pub pack_between : (base group : ℕ) (image : List ℕ) → Between (group * 65536) (group * 65536 + 65536) (copies_in base group image)
+pub pack_between : (base group : ℕ) (image : List ℕ) → Between (group * inode_span) (group * inode_span + inode_span) (copies_in base group image)
 unfolding copies_in
-pack_between base group image = wider (group * 65536 + 1) (group * 65536 + 1 + 1024) (group * 65536) (group * 65536 + 65536) (omega arith) (omega arith) (copies_from group (view image base) 1 1024) (copies_between group (view image base) 1 1024)
+pack_between base group image = wider (group * inode_span + 1) (group * inode_span + 1 + inodes_max) (group * inode_span) (group * inode_span + inode_span) (omega arith) (omega arith) (copies_from group (view image base) 1 inodes_max) (copies_between group (view image base) 1 inodes_max)
 
 pub pack_same : (base group : ℕ) (old new : List ℕ) → SameView base old new → copies_in base group new ≡ copies_in base group old
 unfolding copies_in
-pack_same base group old new same = copies_same group (view old base) (view new base) 1 1024 (λ i low high. same i low (omega arith))
+pack_same base group old new same = copies_same group (view old base) (view new base) 1 inodes_max (λ i low high. same i low (omega arith))
 
-pub pack_replaced : (base group ino : ℕ) (v : Version) (x : FileCopy) (old new : List ℕ) → 1 ≤ ino → ino ≤ 1024 → Replaced base ino v old new → copy_in group ino v ≡ x → copies_in base group new ≡ with_row copy_key x (copies_in base group old)
+pub pack_replaced : (base group ino : ℕ) (v : Version) (x : FileCopy) (old new : List ℕ) → 1 ≤ ino → ino ≤ inodes_max → Replaced base ino v old new → copy_in group ino v ≡ x → copies_in base group new ≡ with_row copy_key x (copies_in base group old)
 unfolding copies_in
-pack_replaced base group ino v x old new low high replaced is = copies_replaced group (view old base) (view new base) 1 1024 ino v x low (omega arith) replaced.own is (λ j under over apart. replaced.others j under (omega arith) apart)
+pack_replaced base group ino v x old new low high replaced is = copies_replaced group (view old base) (view new base) 1 inodes_max ino v x low (omega arith) replaced.own is (λ j under over apart. replaced.others j under (omega arith) apart)
 
-pub pack_row : (base group ino : ℕ) (image : List ℕ) → 1 ≤ ino → ino ≤ 1024 → row copy_key (group * 65536 + ino) (copies_in base group image) ≡ option_map (copy_in group ino) (view image base ino)
+pub pack_row : (base group ino : ℕ) (image : List ℕ) → 1 ≤ ino → ino ≤ inodes_max → row copy_key (group * inode_span + ino) (copies_in base group image) ≡ option_map (copy_in group ino) (view image base ino)
 unfolding copies_in
-pack_row base group ino image low high = row_here group (view image base) 1 1024 ino low (omega arith)
+pack_row base group ino image low high = row_here group (view image base) 1 inodes_max ino low (omega arith)
 
-pub pack_no_row : (base group k : ℕ) (image : List ℕ) → (k < group * 65536 + 1) ⊎ (group * 65536 + 1025 ≤ k) → row copy_key k (copies_in base group image) ≡ None
+pub pack_no_row : (base group k : ℕ) (image : List ℕ) → (k < group * inode_span + 1) ⊎ (group * inode_span + (inodes_max + 1) ≤ k) → row copy_key k (copies_in base group image) ≡ None
 unfolding copies_in
-pack_no_row base group k image out = row_outside (group * 65536 + 1) (group * 65536 + 1 + 1024) k (⊎_elim (λ (lt : k < group * 65536 + 1). inl lt) (λ (le : group * 65536 + 1025 ≤ k). inr (omega arith)) out) (copies_from group (view image base) 1 1024) (copies_between group (view image base) 1 1024)
+pack_no_row base group k image out = row_outside (group * inode_span + 1) (group * inode_span + 1 + inodes_max) k (⊎_elim (λ (lt : k < group * inode_span + 1). inl lt) (λ (le : group * inode_span + (inodes_max + 1) ≤ k). inr (omega arith)) out) (copies_from group (view image base) 1 inodes_max) (copies_between group (view image base) 1 inodes_max)
 
 -- ---- packs one behind the other ----
 
-pub behind_between : (nth least site : ℕ) (packs : List PackState) (image : List ℕ) → ArePacks nth least site packs → Between (least * 65536) 262144 (copies_behind nth (map pack_group packs) image)
+pub behind_between : (nth least site : ℕ) (packs : List PackState) (image : List ℕ) → ArePacks nth least site packs → Between (least * inode_span) 262144 (copies_behind nth (map pack_group packs) image)
 behind_between nth least site [] image are = tt
 behind_between nth least site (pack ∷ packs) image are =
     let low = are.0.low in
     let high = are.0.high in
-    both_between (least * 65536) 262144 (copies_in (area_at nth) pack.group image) (copies_behind (nth + 1) (map pack_group packs) image)
-    (wider (pack.group * 65536) (pack.group * 65536 + 65536) (least * 65536) 262144 (omega arith) (omega arith) (copies_in (area_at nth) pack.group image) (pack_between (area_at nth) pack.group image))
-    (wider ((pack.group + 1) * 65536) 262144 (least * 65536) 262144 (omega arith) (omega arith) (copies_behind (nth + 1) (map pack_group packs) image) (behind_between (nth + 1) (pack.group + 1) site packs image are.1))
+    both_between (least * inode_span) 262144 (copies_in (area_at nth) pack.group image) (copies_behind (nth + 1) (map pack_group packs) image)
+    (wider (pack.group * inode_span) (pack.group * inode_span + inode_span) (least * inode_span) 262144 (omega arith) (omega arith) (copies_in (area_at nth) pack.group image) (pack_between (area_at nth) pack.group image))
+    (wider ((pack.group + 1) * inode_span) 262144 (least * inode_span) 262144 (omega arith) (omega arith) (copies_behind (nth + 1) (map pack_group packs) image) (behind_between (nth + 1) (pack.group + 1) site packs image are.1))
 
 -- the pack at a place of the list
 pub record PackHere (nth least home at : ℕ) (pack : PackState) : Type 0 where
@@ -170,7 +171,7 @@ sound_but nth least site (suc at) (one ∷ packs) pack old new are is shown torn
 
 -- where an inode of one pack has another version, its copy takes the place of the old one
 pub behind_replaced : (nth least site at ino : ℕ) (packs : List PackState) (pack : PackState) (v : Version) (x : FileCopy) (old new : List ℕ) → ArePacks nth least site packs → slice_get packs at ≡ Some pack → AreShown packs old
-    → Torn (area_at (nth + at)) area_length old new → 1 ≤ ino → ino ≤ 1024 → Replaced pack.base ino v old new → copy_in pack.group ino v ≡ x → copy_key x ≡ pack.group * 65536 + ino
+    → Torn (area_at (nth + at)) area_length old new → 1 ≤ ino → ino ≤ inodes_max → Replaced pack.base ino v old new → copy_in pack.group ino v ≡ x → copy_key x ≡ pack.group * inode_span + ino
     → copies_behind nth (map pack_group packs) new ≡ with_row copy_key x (copies_behind nth (map pack_group packs) old)
 behind_replaced nth least site at ino [] pack v x old new are is shown torn low high replaced made key = absurd (let e : None ≡ Some pack = is in cc)
 behind_replaced nth least site zero ino (one ∷ packs) pack v x old new are is shown torn low high replaced made key =
@@ -181,7 +182,7 @@ behind_replaced nth least site zero ino (one ∷ packs) pack v x old new are is 
     let here : copies_in (area_at nth) one.group new ≡ with_row copy_key x (copies_in (area_at nth) one.group old) =
     pack_replaced (area_at nth) one.group ino v x old new low high (subst (λ (b : ℕ). Replaced b ino v old new) (ap (λ (p : PackState). p.base) (sym e) ∙ are.0.base) replaced) (ap (λ (p : PackState). copy_in p.group ino v) e ∙ made) in
     (λ i. here i ++ tail i)
-    ∙ sym (put_among ((one.group + 1) * 65536) 262144 x (omega arith) (copies_in (area_at nth) one.group old) (copies_behind (nth + 1) (map pack_group packs) old) (behind_between (nth + 1) (one.group + 1) site packs old are.1))
+    ∙ sym (put_among ((one.group + 1) * inode_span) 262144 x (omega arith) (copies_in (area_at nth) one.group old) (copies_behind (nth + 1) (map pack_group packs) old) (behind_between (nth + 1) (one.group + 1) site packs old are.1))
 behind_replaced nth least site (suc at) ino (one ∷ packs) pack v x old new are is shown torn low high replaced made key =
     let kept = one_kept (nth + suc at) nth one old new are.0.base are.0.copies (λ e. omega arith) torn shown.0 in
     let torn' : Torn (area_at (nth + 1 + at)) area_length old new = subst (λ (n : ℕ). Torn (area_at n) area_length old new) (let f : nth + suc at ≡ nth + 1 + at = omega arith in f) torn in
@@ -189,31 +190,31 @@ behind_replaced nth least site (suc at) ino (one ∷ packs) pack v x old new are
     let tail = behind_replaced (nth + 1) (one.group + 1) site at ino packs pack v x old new are.1 is shown.1 torn' low high replaced made key in
     let above = (pack_here (nth + 1) (one.group + 1) site at packs pack are.1 is).low in
     (λ i. head i ++ tail i)
-    ∙ sym (put_behind (one.group * 65536) (one.group * 65536 + 65536) x (omega arith) (copies_in (area_at nth) one.group old) (copies_behind (nth + 1) (map pack_group packs) old) (pack_between (area_at nth) one.group old))
+    ∙ sym (put_behind (one.group * inode_span) (one.group * inode_span + inode_span) x (omega arith) (copies_in (area_at nth) one.group old) (copies_behind (nth + 1) (map pack_group packs) old) (pack_between (area_at nth) one.group old))
 
 -- ---- what is found ----
 
 -- what the pack of the group has
 abbrev pub found_in : ℕ → ℕ → List ℕ → Option PackState → Option FileCopy
 found_in group ino image None = None
-found_in group ino image (Some pack) = row copy_key (group * 65536 + ino) (copies_in pack.base pack.group image)
+found_in group ino image (Some pack) = row copy_key (group * inode_span + ino) (copies_in pack.base pack.group image)
 
 -- a copy is found in the pack of its group
-pub behind_found : (nth least site group ino : ℕ) (packs : List PackState) (image : List ℕ) → ArePacks nth least site packs → ino < 65536
-    → row copy_key (group * 65536 + ino) (copies_behind nth (map pack_group packs) image) ≡ found_in group ino image (pack_in group packs)
+pub behind_found : (nth least site group ino : ℕ) (packs : List PackState) (image : List ℕ) → ArePacks nth least site packs → ino < inode_span
+    → row copy_key (group * inode_span + ino) (copies_behind nth (map pack_group packs) image) ≡ found_in group ino image (pack_in group packs)
 behind_found nth least site group ino [] image are fits = refl
 behind_found nth least site group ino (pack ∷ packs) image are fits =
-    let k = group * 65536 + ino in
+    let k = group * inode_span + ino in
     let mine = copies_in (area_at nth) pack.group image in
     let rest = copies_behind (nth + 1) (map pack_group packs) image in
     (elim (pack.group == group) as (λ b. (pack.group == group) ≡ b → row copy_key k (mine ++ rest) ≡ found_in group ino image (elim b [ true ↦ Some pack | false ↦ pack_in group packs ])) [
       | true ↦ λ e.
           let same : pack.group ≡ group = eqb-true pack.group group e in
-          row_left k mine rest (row_outside ((pack.group + 1) * 65536) 262144 k (inl (omega arith)) rest (behind_between (nth + 1) (pack.group + 1) site packs image are.1))
+          row_left k mine rest (row_outside ((pack.group + 1) * inode_span) 262144 k (inl (omega arith)) rest (behind_between (nth + 1) (pack.group + 1) site packs image are.1))
           ∙ ap (λ (b : ℕ). row copy_key k (copies_in b pack.group image)) (sym are.0.base)
       | false ↦ λ e.
           let apart : pack.group ≢ group = λ f. false≢true (sym e ∙ eq-eqb pack.group group f) in
-          row_right k mine rest (row_outside (pack.group * 65536) (pack.group * 65536 + 65536) k (⊎_elim (λ (lt : group < pack.group). inl (omega arith)) (λ (le : pack.group ≤ group). inr (omega arith)) (cases_lt group pack.group)) mine (pack_between (area_at nth) pack.group image))
+          row_right k mine rest (row_outside (pack.group * inode_span) (pack.group * inode_span + inode_span) k (⊎_elim (λ (lt : group < pack.group). inl (omega arith)) (λ (le : pack.group ≤ group). inr (omega arith)) (cases_lt group pack.group)) mine (pack_between (area_at nth) pack.group image))
           ∙ behind_found (nth + 1) (pack.group + 1) site group ino packs image are.1 fits
     ]) refl
 

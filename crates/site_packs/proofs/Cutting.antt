@@ -2,6 +2,7 @@
 use Rattle.std.proofs.Common.{◌≡◌, ℕ, zero, suc, ◌+◌, ◌-◌, ◌*◌, ◌≤◌, ◌<◌, Bool, true, false, cond, List, [], ◌∷◌, ◌++◌, length, None, Some, refl, sym, ap, subst, ◌∙◌, arith, length-append}
 use Rattle.std.specs.Prelude.{map, slice_get, ◌&&◌, Result, Ok, Err, OnErr, IsErrAnd}
 use Rattle.std.proofs.lemmas.List.{length-map}
+use Rattle.locus_ids.specs.Sizes.{inodes_max}
 use Rattle.locus_ids.specs.declared.ids.FileId.{FileId}
 use Rattle.disk_model.specs.Cut.{Cut}
 use Rattle.disk_model.specs.Disk.{Passing, Exactly}
@@ -69,7 +70,7 @@ both_but nth least site (suc at) (one ∷ packs) pack old new are is shown torn 
 both_count : (nth : ℕ) (groups image : List ℕ) → length (both_behind nth groups image) ≡ gates_behind nth groups image
 both_count nth [] image = refl
 both_count nth (group ∷ groups) image =
-    let one = length-map (losing_inodes (area_at nth) image) (file_in group) ∙ losing_count (area_at nth) image 1024 in
+    let one = length-map (losing_inodes (area_at nth) image) (file_in group) ∙ losing_count (area_at nth) image inodes_max in
     let rest = both_count (nth + 1) groups image in
     length-append (map (file_in group) (losing_inodes (area_at nth) image)) (both_behind (nth + 1) groups image) ∙ (λ i. one i + rest i)
 
@@ -79,7 +80,7 @@ mount_calls_are groups image = ap (λ (n : ℕ). 2 * n) (sym (both_count 0 group
 
 -- areas that agree
 losing_agree : (base : ℕ) (a b : List ℕ) → AgreeOn base a b → losing_inodes base b ≡ losing_inodes base a
-losing_agree base a b agree = losing_same base b a 1 1024 (λ i low high. (λ j. open_same base a b agree i First low (omega arith) j && open_same base a b agree i Second low (omega arith) j))
+losing_agree base a b agree = losing_same base b a 1 inodes_max (λ i low high. (λ j. open_same base a b agree i First low (omega arith) j && open_same base a b agree i Second low (omega arith) j))
 
 pub both_agree : (nth : ℕ) (groups a b : List ℕ) → AgreeBehind nth a b → both_behind nth groups b ≡ both_behind nth groups a
 both_agree nth [] a b agree = refl
@@ -118,14 +119,14 @@ closings_front {A} how (suc zero) (x ∷ xs) ys lt = by (gate_left how false tru
 closings_front how (suc (suc passed)) (x ∷ xs) ys lt = closings_front how passed xs ys (omega arith)
 
 -- the mount of the first pack was cut off
-pub cut_first : (nth home base : ℕ) (groups rest : List ℕ) (g : ℕ) (how : Cut) (passed : ℕ) (old c : List ℕ) → groups ≡ g ∷ rest → base ≡ area_at nth → passed < 2 * losing_gates base 1024 old → IsCutPack base g home how passed old c → IsCutBehind nth groups how passed old c
+pub cut_first : (nth home base : ℕ) (groups rest : List ℕ) (g : ℕ) (how : Cut) (passed : ℕ) (old c : List ℕ) → groups ≡ g ∷ rest → base ≡ area_at nth → passed < 2 * losing_gates base inodes_max old → IsCutPack base g home how passed old c → IsCutBehind nth groups how passed old c
 cut_first nth home base groups rest g how passed old c is at lt cut =
     let torn : Torn (area_at nth) area_length old c = subst (λ (b : ℕ). Torn b area_length old c) at cut.kept.outside in
     let here : losing_inodes (area_at nth) c ≡ closings_left how passed (losing_inodes (area_at nth) old) = subst (λ (b : ℕ). losing_inodes b c ≡ closings_left how passed (losing_inodes b old)) at cut.both in
     let others = both_agree (nth + 1) rest old c (behind_torn nth old c torn) in
     let first = map (file_in g) (losing_inodes (area_at nth) old) in
-    let count = length-map (losing_inodes (area_at nth) old) (file_in g) ∙ losing_count (area_at nth) old 1024 in
-    let same = ap (λ (b : ℕ). losing_gates b 1024 old) at in
+    let count = length-map (losing_inodes (area_at nth) old) (file_in g) ∙ losing_count (area_at nth) old inodes_max in
+    let same = ap (λ (b : ℕ). losing_gates b inodes_max old) at in
     subst (λ (l : List ℕ). IsCutBehind nth l how passed old c) (sym is) (record {
       outside = widen_first nth (length rest) old c torn;
       both = (λ i. map (file_in g) (here i) ++ others i)
@@ -135,16 +136,16 @@ cut_first nth home base groups rest g how passed old c is at lt cut =
 
 -- and that of a later one
 pub cut_later : (nth home base : ℕ) (groups rest : List ℕ) (g : ℕ) (pack : PackState) (how : Cut) (passed : ℕ) (old mid c : List ℕ) → groups ≡ g ∷ rest → base ≡ area_at nth → pack.base ≡ base → AreCopies pack.copies → Shows pack mid → KeepsPack base g home old mid
-    → 2 * losing_gates base 1024 old ≤ passed → IsCutBehind (nth + 1) rest how (passed - 2 * losing_gates base 1024 old) mid c → IsCutBehind nth groups how passed old c
+    → 2 * losing_gates base inodes_max old ≤ passed → IsCutBehind (nth + 1) rest how (passed - 2 * losing_gates base inodes_max old) mid c → IsCutBehind nth groups how passed old c
 cut_later nth home base groups rest g pack how passed old mid c is at own are shows keeps le cut =
     let torn : Torn (area_at nth) area_length old mid = subst (λ (b : ℕ). Torn b area_length old mid) at keeps.outside in
     let here : AgreeOn (area_at nth) mid c = before_torn nth (length rest) mid c cut.outside in
     let still : Shows pack c = shows_same pack mid c (subst (λ (b : ℕ). AgreeOn b mid c) (sym (own ∙ at)) here) shows in
     let none = shown_one nth 0 home pack c (own ∙ at) are still in
     let first = map (file_in g) (losing_inodes (area_at nth) old) in
-    let count = length-map (losing_inodes (area_at nth) old) (file_in g) ∙ losing_count (area_at nth) old 1024 in
-    let same = ap (λ (b : ℕ). losing_gates b 1024 old) at in
-    let left = passed - 2 * losing_gates base 1024 old in
+    let count = length-map (losing_inodes (area_at nth) old) (file_in g) ∙ losing_count (area_at nth) old inodes_max in
+    let same = ap (λ (b : ℕ). losing_gates b inodes_max old) at in
+    let left = passed - 2 * losing_gates base inodes_max old in
     let e : passed ≡ 2 * length first + left = omega (arith, le, count, same) in
     let others = both_agree (nth + 1) rest old mid (behind_torn nth old mid torn) in
     subst (λ (l : List ℕ). IsCutBehind nth l how passed old c) (sym is) (record {
@@ -170,8 +171,8 @@ on_fault {T} S (Err e) fault A is a = moved e (subst (λ (f : MountFault). OnErr
 
 -- a pack's mount that failed makes fewer calls than it might
 pub mount_few : (T S : Type 0) (base : ℕ) (image : List ℕ) (fault : MountFault) (p q : Passing) (passed : ℕ) (A B : Type 0) → TellsMany (pack_calls {T = T} base image (Err fault)) p q (disk_answer {T = T} (Err fault)) → p ≡ Exactly passed
-    → (passed < 2 * losing_gates base 1024 image → A → B) → OnErr (disk_answer {T = S} (Err fault)) A → OnErr (disk_answer {T = S} (Err fault)) B
-mount_few T S base image Disk p q passed A B tells told f a = f (tells_few (2 * losing_gates base 1024 image) p q (Err Failed) passed tells told) a
+    → (passed < 2 * losing_gates base inodes_max image → A → B) → OnErr (disk_answer {T = S} (Err fault)) A → OnErr (disk_answer {T = S} (Err fault)) B
+mount_few T S base image Disk p q passed A B tells told f a = f (tells_few (2 * losing_gates base inodes_max image) p q (Err Failed) passed tells told) a
 mount_few T S base image NotAPack p q passed A B tells told f a = a
 mount_few T S base image (BadSlot ino) p q passed A B tells told f a = a
 mount_few T S base image (SharedPage page) p q passed A B tells told f a = a
@@ -184,13 +185,3 @@ on_answer (Err NotAPack) A B f a = a
 on_answer (Err (BadSlot ino)) A B f a = a
 on_answer (Err (SharedPage page)) A B f a = a
 on_answer (Err NoMemory) A B f a = a
-
-none_of_length : {A : Type 0} (xs : List A) → length xs ≡ 0 → xs ≡ []
-none_of_length [] none = refl
-none_of_length (x ∷ xs) none = absurd (omega arith)
-
--- packs whose mount makes no call have no such file
-pub calls_none : (groups image : List ℕ) → mount_calls groups image ≡ 0 → both_open_on groups image ≡ []
-calls_none groups image none =
-    let count = mount_calls_are groups image in
-    none_of_length (both_open_on groups image) (omega (arith, none, count))

@@ -1,20 +1,20 @@
 -- One pack more is formatted, or none.
-use Rattle.std.proofs.Common.{◌≡◌, ℕ, suc, ◌+◌, ◌*◌, ◌≤◌, ◌<◌, true, false, List, [], ◌∷◌, length, take, drop, get_or, refl, sym, ap, subst, ◌∙◌, arith, inl, inr}
-use Rattle.std.specs.Prelude.{Result, Ok, Err, OnOk, cond, ◌-◌}
+use Rattle.std.proofs.Common.{◌≡◌, ℕ, suc, ◌+◌, ◌*◌, ◌≤◌, true, List, ◌∷◌, get_or, refl, ap, subst, ◌∙◌, arith}
+use Rattle.std.specs.Prelude.{Result, Ok, Err, OnOk}
 use Rattle.locus_ids.specs.Sites.{has}
 use Rattle.locus_ids.specs.declared.config.Config.{Config}
-use Rattle.disk_model.specs.Disk.{Moment, Goes, IsSettled, Passing}
+use Rattle.disk_model.specs.Disk.{Moment, Goes, Passing}
 use Rattle.disk_model.specs.Images.{Torn}
 use Rattle.disk_model.specs.Moments.{TellsMany}
 use Rattle.disk_model.specs.declared.disk.DiskFault.{DiskFault}
-use Rattle.disk_model.proofs.Moments.{goes_start, goes_more, goes_wider}
-use Rattle.disk_model.proofs.Tells.{tells_none, tells_join, tells_longer}
-use Rattle.gate_switch.proofs.Tearing.{torn_stays, torn_joins, torn_widens}
+use Rattle.disk_model.proofs.Moments.{goes_more, goes_wider}
+use Rattle.disk_model.proofs.Tells.{tells_join}
+use Rattle.gate_switch.proofs.Tearing.{torn_joins, torn_widens}
 use Rattle.pack_layout.specs.Layout.{area_length, area_at}
 use Rattle.role_steps.specs.Views.{pack_sites, all_groups}
 use Rattle.site_packs.specs.Packs.{groups_at}
-use Rattle.site_packs.specs.Formatting.{stored_among, AreNew}
-use Rattle.site_packs.proofs.NewPacks.{stored_first, stored_behind}
+use Rattle.site_packs.specs.Formatting.{stored_among}
+use Rattle.site_packs.proofs.NewPacks.{stored_first}
 
 -- the place of the first area and the bytes of these
 abbrev pub Within : ℕ → ℕ → List ℕ → List ℕ → Type 0
@@ -37,26 +37,13 @@ module _ {D : Type 0} (moment : D → Moment) where
   goes_rest nth count old mid new first rest =
       goes_more moment (Within (nth + 1) count) (Within nth (suc count)) old mid new (rest_inside nth count) (torn_joins (area_at nth) (area_length * suc count)) (goes_first nth count old mid first) rest
 
-  pub goes_none : (nth count : ℕ) (old : D) → Goes (Within nth count) (moment old) (moment old)
-  goes_none nth count old = goes_start moment (Within nth count) old (torn_stays (area_at nth) (area_length * count))
-
-pub tells_first : (count : ℕ) (p q : Passing) (fault : DiskFault) → TellsMany {T = Unit {0}} {E = DiskFault} 67 p q (Err fault) → TellsMany {T = Unit {0}} {E = DiskFault} (67 * suc count) p q (Err fault)
-tells_first count p q fault tells = tells_longer 67 (67 * suc count) p q fault (omega arith) tells
-
 pub tells_rest : (count : ℕ) (p q r : Passing) (result : Result (Unit {0}) DiskFault) → TellsMany {T = Unit {0}} {E = DiskFault} 67 p q (Ok tt) → TellsMany (67 * count) q r result → TellsMany (67 * suc count) p r result
 tells_rest count p q r result first rest = let e : 67 + 67 * count ≡ 67 * suc count = omega arith in subst (λ (n : ℕ). TellsMany n p r result) e (tells_join 67 (67 * count) p q r result first rest)
 
 -- ---- which groups are stored ----
 
-pub stored_none : (c : Config) (site : ℕ) (groups : List ℕ) → length groups ≡ 0 → stored_among c site groups ≡ []
-stored_none c site [] none = refl
-stored_none c site (g ∷ groups) none = absurd (omega arith)
-
 pub stored_here : (c : Config) (site g : ℕ) (groups rest : List ℕ) → groups ≡ g ∷ rest → has (pack_sites c g) site ≡ true → stored_among c site groups ≡ g ∷ stored_among c site rest
 stored_here c site g groups rest is has' = ap (λ (l : List ℕ). stored_among c site l) is ∙ stored_first c site g rest has'
-
-pub stored_later : (c : Config) (site g : ℕ) (groups rest : List ℕ) → groups ≡ g ∷ rest → has (pack_sites c g) site ≡ false → stored_among c site groups ≡ stored_among c site rest
-stored_later c site g groups rest is has' = ap (λ (l : List ℕ). stored_among c site l) is ∙ stored_behind c site g rest has'
 
 -- each of the groups behind the first one is known
 pub known_rest : (g : ℕ) (groups rest : List ℕ) → groups ≡ g ∷ rest → ((k : ℕ) → get_or groups k 0 ≤ 3) → (k : ℕ) → get_or rest k 0 ≤ 3

@@ -4,10 +4,11 @@ use Rattle.std.specs.Prelude.{slice_set, ◌||◌, if◌then◌else◌}
 use Rattle.std.proofs.lemmas.Bool.{cases_eq, cases_lt, cases_Bool, eqb-true, eq-eqb, false≢true}
 use Rattle.std.proofs.lemmas.Bool.Decides.{nat_tests}
 use Rattle.std.proofs.lemmas.List.{get_or_append_left, get_or_at, get_or-take, take_all, take_more}
+use Rattle.locus_ids.specs.Sizes.{content_pages_max}
 use Rattle.file_content.specs.Pages.{has_page}
-use Rattle.shadow_pages.specs.Working.{count_below}
+use Rattle.inode_pack.specs.of_shadow_pages.Working.{count_below}
 use Rattle.inode_pack.specs.Marked.{is_marked}
-use Rattle.site_packs.specs.Committing.{ArePages}
+use Rattle.pack_layout.specs.of_stored_versions.Changes.{ArePages}
 use Rattle.site_packs.specs.Marking.{AreMarks}
 
 -- ---- has_page ----
@@ -89,11 +90,11 @@ none_counted a (suc n) none =
     let one : (let m : ℕ = if a n then 1 else 0 in m) ≡ 0 = ap (λ (t : Bool). let m : ℕ = if t then 1 else 0 in m) (none n) in
     omega arith
 
-pub no_marks : (count : ℕ) (changed marks : List ℕ) → AreMarks count (take 0 changed) (replicate 64 false)
+pub no_marks : (count : ℕ) (changed marks : List ℕ) → AreMarks count (take 0 changed) (replicate content_pages_max false)
 no_marks count changed marks = record {
   pages = record { inside = λ i lt. absurd (omega arith); distinct = λ i j lt less. absurd (omega arith) };
-  each = λ i. unmarked 64 i;
-  number = none_counted (is_marked (replicate 64 false)) count (λ i. unmarked 64 i);
+  each = λ i. unmarked content_pages_max i;
+  number = none_counted (is_marked (replicate content_pages_max false)) count (λ i. unmarked content_pages_max i);
 }
 
 -- one mark more

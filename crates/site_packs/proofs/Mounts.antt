@@ -3,6 +3,7 @@ use Rattle.std.proofs.Common.{◌≡◌, inl, inr, ⊎_elim, ℕ, suc, ◌+◌, 
 use Rattle.std.specs.Prelude.{◌==◌, filter, Result, Ok, Err, IfErr, IsErrAnd}
 use Rattle.std.proofs.lemmas.Bool.{cases_lt, eqb-true, eq-eqb, false≢true}
 use Rattle.std.proofs.lemmas.List.{take_all, append-nil}
+use Rattle.locus_ids.specs.Sizes.{inodes_max}
 use Rattle.locus_ids.specs.Sites.{has}
 use Rattle.locus_ids.specs.declared.config.Config.{Config}
 use Rattle.disk_model.specs.Images.{Torn}
@@ -53,7 +54,7 @@ cause_behind nth site (group ∷ groups) a b fault agree cause = ⊎_elim
 pub gates_agree : (nth : ℕ) (groups a b : List ℕ) → AgreeBehind nth a b → gates_behind nth groups b ≡ gates_behind nth groups a
 gates_agree nth [] a b agree = refl
 gates_agree nth (group ∷ groups) a b agree =
-    let one = gates_same (area_at nth) a b (agree nth (omega arith)) 1024 (omega arith) in
+    let one = gates_same (area_at nth) a b (agree nth (omega arith)) inodes_max (omega arith) in
     let rest = gates_agree (nth + 1) groups a b (λ m le. agree m (omega arith)) in
     (λ i. one i + rest i)
 
@@ -273,13 +274,13 @@ tells_cases n m k p q r (Err (SharedPage page)) e first then = tt
 tells_cases n m k p q r (Err NoMemory) e first then = tt
 
 pub tells_more : {T : Type 0} (nth home base : ℕ) (groups rest : List ℕ) (g : ℕ) (old mid : List ℕ) (p q r : Passing) (result : Result T MountFault) → groups ≡ g ∷ rest → base ≡ area_at nth → KeepsPack base g home old mid
-    → TellsMany {T = Unit {0}} {E = DiskFault} (2 * losing_gates base 1024 old) p q (Ok tt) → TellsMount (2 * gates_behind (nth + 1) rest mid) q r result → TellsMount (2 * gates_behind nth groups old) p r result
+    → TellsMany {T = Unit {0}} {E = DiskFault} (2 * losing_gates base inodes_max old) p q (Ok tt) → TellsMount (2 * gates_behind (nth + 1) rest mid) q r result → TellsMount (2 * gates_behind nth groups old) p r result
 tells_more nth home base groups rest g old mid p q r result is at keeps first then =
     let torn : Torn (area_at nth) area_length old mid = subst (λ (b : ℕ). Torn b area_length old mid) at keeps.outside in
     let gates = gates_agree (nth + 1) rest old mid (behind_torn nth old mid torn) in
-    let one = ap (λ (b : ℕ). losing_gates b 1024 old) at in
+    let one = ap (λ (b : ℕ). losing_gates b inodes_max old) at in
     let all = ap (λ (l : List ℕ). gates_behind nth l old) is in
-    tells_cases (2 * losing_gates base 1024 old) (2 * gates_behind (nth + 1) rest mid) (2 * gates_behind nth groups old) p q r result (omega arith) first then
+    tells_cases (2 * losing_gates base inodes_max old) (2 * gates_behind (nth + 1) rest mid) (2 * gates_behind nth groups old) p q r result (omega arith) first then
 
 pub not_empty : (groups : List ℕ) (test : Bool) → test ≡ (length groups == 0) → test ≡ false → 0 < length groups
 not_empty groups test is untrue = ⊎_elim (λ (lt : 0 < length groups). lt) (λ (le : length groups ≤ 0). absurd (false≢true (sym untrue ∙ is ∙ eq-eqb (length groups) 0 (omega arith)))) (cases_lt 0 (length groups))

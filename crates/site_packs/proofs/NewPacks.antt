@@ -1,19 +1,20 @@
 -- A pack as a format leaves it: one copy, the empty root directory, and no inode with two open slots.
-use Rattle.std.proofs.Common.{◌≡◌, ◌≢◌, ℕ, zero, suc, ◌+◌, ◌-◌, ◌*◌, ◌≤◌, ◌<◌, ◌^◌, Bool, true, false, List, [], ◌∷◌, ◌++◌, length, take, drop, get_or, Option, None, Some, refl, sym, ap, subst, ◌∙◌, arith, ⊎_elim}
-use Rattle.std.specs.Prelude.{◌==◌, ◌&&◌, cond, map, filter, if◌then◌else◌}
-use Rattle.std.proofs.lemmas.Bool.{eqb-true, cases_Bool, cases_eq}
+use Rattle.std.proofs.Common.{◌≡◌, ◌≢◌, ℕ, zero, suc, ◌+◌, ◌-◌, ◌*◌, ◌≤◌, ◌<◌, ◌^◌, Bool, true, false, List, [], ◌∷◌, ◌++◌, length, Option, None, Some, refl, sym, ap, subst, ◌∙◌, arith, ⊎_elim}
+use Rattle.std.specs.Prelude.{◌==◌, ◌&&◌, cond, map, if◌then◌else◌}
+use Rattle.std.proofs.lemmas.Bool.{eqb-true, cases_Bool}
+use Rattle.locus_ids.specs.Sizes.{inodes_max, set_span}
 use Rattle.locus_ids.specs.Sites.{has}
 use Rattle.locus_ids.specs.declared.config.Config.{Config}
 use Rattle.locus_ids.specs.declared.ids.Kind.TheVariants as kind
 use Rattle.locus_ids.specs.declared.sites.Sites.{Sites}
-use Rattle.dir_format.specs.Entries.{nothing_seen}
+use Rattle.role_steps.specs.of_dir_format.Entries.{nothing_seen}
 use Rattle.disk_model.specs.Images.{Torn}
 use Rattle.pack_layout.specs.declared.half.Half.{Half}
 use Rattle.pack_layout.specs.declared.half.Half.TheVariants.{First, Second}
 use Rattle.pack_layout.specs.Layout.{area_length, area_at, slot_at, IsSlot, other_half}
-use Rattle.inode_switch.specs.View.{is_open, Version, version, version_in, view, SameView}
-use Rattle.inode_switch.proofs.SlotBytes.{says}
-use Rattle.inode_switch.proofs.VersionBytes.{content_length}
+use Rattle.pack_slots.specs.of_inode_switch.View.{is_open, Version, version, version_in, view}
+use Rattle.pack_slots.proofs.of_inode_switch.SlotBytes.{says}
+use Rattle.pack_slots.proofs.of_inode_switch.VersionBytes.{content_length}
 use Rattle.pack_slots.specs.declared.inode_copy.InodeCopy.{InodeCopy}
 use Rattle.inode_pack.specs.Pack.{PackState}
 use Rattle.pack_slots.specs.Copies.{copy_of, ShowsCopy, ShowsCopies}
@@ -24,11 +25,11 @@ use Rattle.pack_slots.proofs.Counting.{found_counts}
 use Rattle.pack_slots.proofs.New.{stored_somewhere, root_is_slot}
 use Rattle.role_steps.specs.Views.{pack_sites}
 use Rattle.role_steps.specs.declared.copies.FileCopy.{FileCopy}
-use Rattle.site_packs.specs.Copies.{copy_in, with_version, copies_from, copies_in, copies_behind}
+use Rattle.site_packs.specs.Copies.{copy_in, with_version, copies_from, copies_in}
 use Rattle.site_packs.specs.Packs.{pack_group, ArePacks, AreShown}
-use Rattle.site_packs.specs.Mounting.{AreSoundBehind, root_copy, gates_behind}
+use Rattle.site_packs.specs.Mounting.{gates_behind}
 use Rattle.site_packs.specs.Formatting.{root_in, HasRootAlone, stored_among, AreNew}
-use Rattle.site_packs.proofs.Fields.{copy_of_fields, stamp_fits}
+use Rattle.site_packs.proofs.Fields.{copy_of_fields}
 use Rattle.site_packs.proofs.Areas.{AgreeOn, view_same, sound_same, gates_same}
 use Rattle.site_packs.proofs.Behind.{pack_same}
 use Rattle.locus_ids.specs.declared.ids.FileId.{FileId}
@@ -81,7 +82,7 @@ new_copies_in : (base group : ℕ) (set : Sites) (image : List ℕ) → base + a
 unfolding copies_in
 new_copies_in base group set image area slot shows =
     let r = root_there base group set image area slot shows in
-    root_from group 1023 (view image base) r.0 r.1 (λ i low high. none_there base i set image (λ e. omega arith) (shows i (omega arith) (omega arith)))
+    root_from group (inodes_max - 1) (view image base) r.0 r.1 (λ i low high. none_there base i set image (λ e. omega arith) (shows i (omega arith) (omega arith)))
     ∙ ap (λ (x : FileCopy). x ∷ []) r.2
 
 -- an inode with at most one open slot
@@ -97,7 +98,7 @@ shut_at base ino image (Some copy) shows = by copy.half shows.other
     by First other = one_shut (is_open image (slot_at base ino First)) (is_open image (slot_at base ino Second)) other
     by Second other = ap (λ (b : Bool). b && is_open image (slot_at base ino Second)) other
 
-none_lose : (base n : ℕ) (copies : ℕ → Option InodeCopy) (image : List ℕ) → n ≤ 1024 → ShowsCopies base image copies → losing_gates base n image ≡ 0
+none_lose : (base n : ℕ) (copies : ℕ → Option InodeCopy) (image : List ℕ) → n ≤ inodes_max → ShowsCopies base image copies → losing_gates base n image ≡ 0
 unfolding losing_gates
 none_lose base zero copies image le shows = refl
 none_lose base (suc n) copies image le shows =
@@ -105,12 +106,12 @@ none_lose base (suc n) copies image le shows =
     let here = shut_at base (suc n) image (copies (suc n)) (shows (suc n) (omega arith) le) in
     (λ i. let m : ℕ = if here i then 1 else 0 in rest i + m)
 
-pub root_alone : (base group site : ℕ) (set : Sites) (image : List ℕ) → base + area_length ≤ length image → has set site ≡ true → set.0 < 2 ^ 16
+pub root_alone : (base group site : ℕ) (set : Sites) (image : List ℕ) → base + area_length ≤ length image → has set site ≡ true → set.0 < set_span
     → IsSound base group site image → ShowsCopies base image (new_copy set) → HasRootAlone base group site set image
 root_alone base group site set image area stored small sound shows = record {
   copies = new_copies_in base group set image area (root_is_slot set (stored_somewhere set site stored) small) shows;
   sound = sound;
-  shut = none_lose base 1024 (new_copy set) image (omega arith) shows;
+  shut = none_lose base inodes_max (new_copy set) image (omega arith) shows;
 }
 
 -- ---- packs one behind the other ----
@@ -119,7 +120,7 @@ root_same : (base group site : ℕ) (set : Sites) (a b : List ℕ) → AgreeOn b
 root_same base group site set a b agree has = record {
   copies = pack_same base group a b (λ ino low high. view_same base a b agree ino low high (has.sound.inodes ino low high)) ∙ has.copies;
   sound = sound_same base a b agree group site has.sound;
-  shut = gates_same base a b agree 1024 (omega arith) ∙ has.shut;
+  shut = gates_same base a b agree inodes_max (omega arith) ∙ has.shut;
 }
 
 pub new_first : (nth : ℕ) (c : Config) (site group : ℕ) (groups mid new : List ℕ) → HasRootAlone (area_at nth) group site (pack_sites c group) mid
@@ -136,16 +137,13 @@ new_first nth c site group groups mid new has torn rest =
 pub stored_first : (c : Config) (site group : ℕ) (groups : List ℕ) → has (pack_sites c group) site ≡ true → stored_among c site (group ∷ groups) ≡ group ∷ stored_among c site groups
 stored_first c site group groups is = ap (λ (b : Bool). cond b (group ∷ stored_among c site groups) (stored_among c site groups)) is
 
-pub stored_behind : (c : Config) (site group : ℕ) (groups : List ℕ) → has (pack_sites c group) site ≡ false → stored_among c site (group ∷ groups) ≡ stored_among c site groups
-stored_behind c site group groups is = ap (λ (b : Bool). cond b (group ∷ stored_among c site groups) (stored_among c site groups)) is
-
 -- ---- packs that stand ----
 
 pub gates_shown : (nth least site : ℕ) (packs : List PackState) (image : List ℕ) → ArePacks nth least site packs → AreShown packs image → gates_behind nth (map pack_group packs) image ≡ 0
 gates_shown nth least site [] image are shown = refl
 gates_shown nth least site (pack ∷ packs) image are shown =
     let base = are.0.base in
-    let one = none_lose (area_at nth) 1024 (copy_of pack.copies) image (omega arith) (subst (λ (b : ℕ). ShowsCopies b image (copy_of pack.copies)) base shown.0.copies) in
+    let one = none_lose (area_at nth) inodes_max (copy_of pack.copies) image (omega arith) (subst (λ (b : ℕ). ShowsCopies b image (copy_of pack.copies)) base shown.0.copies) in
     let rest = gates_shown (nth + 1) (pack.group + 1) site packs image are.1 shown.1 in
     (λ i. one i + rest i)
 

@@ -5,11 +5,12 @@ use Rattle.std.specs.Option.{option_map}
 use Rattle.std.proofs.lemmas.Bool.{cases_lt, eqb-true, eq-eqb, false≢true}
 use Rattle.std.proofs.lemmas.Bool.Decides.{nat_tests}
 use Rattle.std.proofs.lemmas.List.{get_or_past, append-nil}
+use Rattle.locus_ids.specs.Sizes.{inodes_max, inode_span}
 use Rattle.locus_ids.specs.declared.ids.FileId.{FileId}
 use Rattle.file_content.specs.Pages.{pages_of}
 use Rattle.pack_layout.specs.Layout.{area_at}
 use Rattle.pack_layout.specs.declared.slot.Slot.{Slot}
-use Rattle.inode_switch.specs.View.{Version, view}
+use Rattle.pack_slots.specs.of_inode_switch.View.{Version, view}
 use Rattle.pack_slots.specs.declared.inode_copy.InodeCopy.{InodeCopy}
 use Rattle.inode_pack.specs.Pack.{PackState, Shows}
 use Rattle.pack_slots.specs.Copies.{AreCopies, IsCopy, copy_of, pages_in, named_pages}
@@ -43,19 +44,19 @@ found_pack home group packs image pack are shown is =
     record { at = place.0; is = place.1; own = place.2; here = pack_here 0 0 home place.0 packs pack are place.1; shows = shown_at place.0 packs pack image shown place.1 }
 
 -- a number of an inode, or none
-inode_or_none : (ino : ℕ) → ((1 ≤ ino) × (ino ≤ 1024)) ⊎ ((ino ≡ 0) ⊎ (1025 ≤ ino))
+inode_or_none : (ino : ℕ) → ((1 ≤ ino) × (ino ≤ inodes_max)) ⊎ ((ino ≡ 0) ⊎ (inodes_max + 1 ≤ ino))
 inode_or_none zero = inr (inl refl)
-inode_or_none (suc i) = ⊎_elim (λ (lt : suc i < 1025). inl (omega arith, omega arith)) (λ (le : 1025 ≤ suc i). inr (inr le)) (cases_lt (suc i) 1025)
+inode_or_none (suc i) = ⊎_elim (λ (lt : suc i < inodes_max + 1). inl (omega arith, omega arith)) (λ (le : inodes_max + 1 ≤ suc i). inr (inr le)) (cases_lt (suc i) (inodes_max + 1))
 
-no_copy : (copies : List (Option InodeCopy)) (ino : ℕ) → length copies ≡ 1024 → (ino ≡ 0) ⊎ (1025 ≤ ino) → copy_of copies ino ≡ None
+no_copy : (copies : List (Option InodeCopy)) (ino : ℕ) → length copies ≡ inodes_max → (ino ≡ 0) ⊎ (inodes_max + 1 ≤ ino) → copy_of copies ino ≡ None
 no_copy copies zero long out = refl
-no_copy copies (suc i) long out = get_or_past copies i None (⊎_elim (λ (e : suc i ≡ 0). absurd (omega arith)) (λ (le : 1025 ≤ suc i). omega arith) out)
+no_copy copies (suc i) long out = get_or_past copies i None (⊎_elim (λ (e : suc i ≡ 0). absurd (omega arith)) (λ (le : inodes_max + 1 ≤ suc i). omega arith) out)
 
-own_head : (pack : PackState) (ino : ℕ) (image : List ℕ) → AreCopies pack.copies → Shows pack image → option_map reported (row copy_key (pack.group * 65536 + ino) (copies_in pack.base pack.group image)) ≡ option_map (slot_reported ino) (slot_in (copy_of pack.copies ino))
+own_head : (pack : PackState) (ino : ℕ) (image : List ℕ) → AreCopies pack.copies → Shows pack image → option_map reported (row copy_key (pack.group * inode_span + ino) (copies_in pack.base pack.group image)) ≡ option_map (slot_reported ino) (slot_in (copy_of pack.copies ino))
 own_head pack ino image are shows = ⊎_elim
-    (λ (is : (1 ≤ ino) × (ino ≤ 1024)). ap (λ (o : Option FileCopy). option_map reported o) (pack_row pack.base pack.group ino image is.0 is.1) ∙ reported_here pack pack.group ino image are shows is.0 is.1)
-    (λ (out : (ino ≡ 0) ⊎ (1025 ≤ ino)).
-    ap (λ (o : Option FileCopy). option_map reported o) (pack_no_row pack.base pack.group (pack.group * 65536 + ino) image (⊎_elim (λ (e : ino ≡ 0). inl (omega arith)) (λ (le : 1025 ≤ ino). inr (omega arith)) out))
+    (λ (is : (1 ≤ ino) × (ino ≤ inodes_max)). ap (λ (o : Option FileCopy). option_map reported o) (pack_row pack.base pack.group ino image is.0 is.1) ∙ reported_here pack pack.group ino image are shows is.0 is.1)
+    (λ (out : (ino ≡ 0) ⊎ (inodes_max + 1 ≤ ino)).
+    ap (λ (o : Option FileCopy). option_map reported o) (pack_no_row pack.base pack.group (pack.group * inode_span + ino) image (⊎_elim (λ (e : ino ≡ 0). inl (omega arith)) (λ (le : inodes_max + 1 ≤ ino). inr (omega arith)) out))
     ∙ sym (ap (λ (o : Option InodeCopy). option_map (slot_reported ino) (slot_in o)) (no_copy pack.copies ino are.count out)))
     (inode_or_none ino)
 
@@ -63,10 +64,10 @@ found_head : (home group ino : ℕ) (packs : List PackState) (image : List ℕ) 
 found_head home group ino packs image None are shown is = refl
 found_head home group ino packs image (Some pack) are shown is =
     let f = found_pack home group packs image pack are shown is in
-    ap (λ (g : ℕ). option_map reported (row copy_key (g * 65536 + ino) (copies_in pack.base pack.group image))) (sym f.own) ∙ own_head pack ino image f.here.copies f.shows
+    ap (λ (g : ℕ). option_map reported (row copy_key (g * inode_span + ino) (copies_in pack.base pack.group image))) (sym f.own) ∙ own_head pack ino image f.here.copies f.shows
 
 -- what the slot of a file says is what its copy is
-pub head_is : (p : PacksState) (image : List ℕ) (file : FileId) → ArePacks 0 0 p.site p.packs → AreShown p.packs image → file.ino < 65536
+pub head_is : (p : PacksState) (image : List ℕ) (file : FileId) → ArePacks 0 0 p.site p.packs → AreShown p.packs image → file.ino < inode_span
     → option_map reported (copy_at p image file) ≡ option_map (slot_reported file.ino) (slot_held (pack_in file.group p.packs) file.ino)
 head_is p image file are shown fits =
     ap (λ (o : Option FileCopy). option_map reported o) (behind_found 0 0 p.site file.group file.ino p.packs image are fits)
@@ -109,7 +110,7 @@ named_total group held (c ∷ copies) ino (suc left) long each =
     let all = total_with group group ino (held ino) (copies_from group held (ino + 1) left) in
     omega (arith, length-append (pages_in c) (named_pages copies))
 
-own_pages : (pack : PackState) (ino : ℕ) (image : List ℕ) (o : Option InodeCopy) → AreCopies pack.copies → Shows pack image → 1 ≤ ino → ino ≤ 1024 → copy_of pack.copies ino ≡ o
+own_pages : (pack : PackState) (ino : ℕ) (image : List ℕ) (o : Option InodeCopy) → AreCopies pack.copies → Shows pack image → 1 ≤ ino → ino ≤ inodes_max → copy_of pack.copies ino ≡ o
     → length (pages_in o) ≡ total (copy_pages pack.group) (with_version pack.group ino (view image pack.base ino) [])
 own_pages pack ino image None are shows low high is = sym (ap (λ (o : Option Version). total (copy_pages pack.group) (with_version pack.group ino o [])) (held_none pack ino image are shows low high is))
 own_pages pack ino image (Some copy) are shows low high is =
@@ -128,14 +129,14 @@ own_pages pack ino image (Some copy) are shows low high is =
 
 own_total : (pack : PackState) (image : List ℕ) → AreCopies pack.copies → Shows pack image → length (named_pages pack.copies) ≡ total (copy_pages pack.group) (copies_in pack.base pack.group image)
 unfolding copies_in
-own_total pack image are shows = named_total pack.group (view image pack.base) pack.copies 1 1024 are.count (λ j lt.
+own_total pack image are shows = named_total pack.group (view image pack.base) pack.copies 1 inodes_max are.count (λ j lt.
     let e : suc j ≡ 1 + j = omega arith in
     own_pages pack (suc j) image (copy_of pack.copies (suc j)) are shows (omega arith) (omega arith) refl
     ∙ ap (λ (i : ℕ). total (copy_pages pack.group) (with_version pack.group i (view image pack.base i) [])) e)
 
 other_total : (base group of : ℕ) (image : List ℕ) → group ≢ of → total (copy_pages of) (copies_in base group image) ≡ 0
 unfolding copies_in
-other_total base group of image apart = others_total group of (view image base) 1 1024 apart
+other_total base group of image apart = others_total group of (view image base) 1 inodes_max apart
 
 -- the pages that the copies of the group's pack have
 abbrev pub pages_named : Option PackState → ℕ
@@ -213,14 +214,14 @@ reports_own group held (c ∷ copies) ino (suc left) long each =
 
 own_report : (pack : PackState) (image : List ℕ) → AreCopies pack.copies → Shows pack image → report_of pack.group (copies_in pack.base pack.group image) ≡ slots_from 1 pack.copies
 unfolding copies_in
-own_report pack image are shows = reports_own pack.group (view image pack.base) pack.copies 1 1024 are.count (λ j lt.
+own_report pack image are shows = reports_own pack.group (view image pack.base) pack.copies 1 inodes_max are.count (λ j lt.
     let e : suc j ≡ 1 + j = omega arith in
     subst (λ (i : ℕ). option_map reported (option_map (copy_in pack.group i) (view image pack.base i)) ≡ option_map (slot_reported i) (slot_in (get_or pack.copies j None))) e
     (reported_here pack pack.group (suc j) image are shows (omega arith) (omega arith)))
 
 other_report : (base group of : ℕ) (image : List ℕ) → group ≢ of → report_of of (copies_in base group image) ≡ []
 unfolding copies_in
-other_report base group of image apart = reports_other group of (view image base) 1 1024 apart
+other_report base group of image apart = reports_other group of (view image base) 1 inodes_max apart
 
 later_report : (nth least site group : ℕ) (packs : List PackState) (image : List ℕ) → ArePacks nth least site packs → group < least → report_of group (copies_behind nth (map pack_group packs) image) ≡ []
 later_report nth least site group [] image are lt = refl

@@ -2,12 +2,13 @@
 use Rattle.std.proofs.Common.{◌≡◌, ℕ, ◌≤◌, false, List, length, Option, None, Some, refl, ap, subst, ◌∙◌}
 use Rattle.std.specs.Prelude.{IfSome}
 use Rattle.std.specs.Option.{option_map}
+use Rattle.locus_ids.specs.Sizes.{inodes_max}
 use Rattle.pack_layout.specs.declared.slot.Slot.{Slot}
 use Rattle.pack_layout.specs.Layout.{slot_at}
-use Rattle.inode_switch.specs.Slots.{field_bytes}
-use Rattle.inode_switch.specs.View.{Version, version, version_in, view}
-use Rattle.inode_switch.proofs.SlotBytes.{says}
-use Rattle.inode_switch.proofs.VersionBytes.{content_length}
+use Rattle.pack_slots.specs.of_inode_switch.Slots.{field_bytes}
+use Rattle.pack_slots.specs.of_inode_switch.View.{Version, version, version_in, view}
+use Rattle.pack_slots.proofs.of_inode_switch.SlotBytes.{says}
+use Rattle.pack_slots.proofs.of_inode_switch.VersionBytes.{content_length}
 use Rattle.pack_slots.specs.declared.inode_copy.InodeCopy.{InodeCopy}
 use Rattle.inode_pack.specs.Pack.{PackState, Shows}
 use Rattle.pack_slots.specs.Copies.{AreCopies, ShowsCopy, IsCopy, copy_of}
@@ -26,16 +27,16 @@ pub record Held (base ino : ℕ) (slot : Slot) (image : List ℕ) : Type 0 where
   pub fields : version.fields ≡ field_bytes slot
   pub size : length version.content ≡ slot.size
 
-shown : (pack : PackState) (ino : ℕ) (image : List ℕ) (o : Option InodeCopy) → AreCopies pack.copies → Shows pack image → 1 ≤ ino → ino ≤ 1024 → copy_of pack.copies ino ≡ o → IsFound pack.base ino image o false
+shown : (pack : PackState) (ino : ℕ) (image : List ℕ) (o : Option InodeCopy) → AreCopies pack.copies → Shows pack image → 1 ≤ ino → ino ≤ inodes_max → copy_of pack.copies ino ≡ o → IsFound pack.base ino image o false
 shown pack ino image o are shows low high is = record {
   says = subst (λ (p : Option InodeCopy). ShowsCopy pack.base ino image p) is (shows.copies ino low high);
   own = subst (λ (p : Option InodeCopy). IfSome p (λ one. IsCopy ino one)) is (are.own ino);
 }
 
-pub held_none : (pack : PackState) (ino : ℕ) (image : List ℕ) → AreCopies pack.copies → Shows pack image → 1 ≤ ino → ino ≤ 1024 → copy_of pack.copies ino ≡ None → view image pack.base ino ≡ None
+pub held_none : (pack : PackState) (ino : ℕ) (image : List ℕ) → AreCopies pack.copies → Shows pack image → 1 ≤ ino → ino ≤ inodes_max → copy_of pack.copies ino ≡ None → view image pack.base ino ≡ None
 held_none pack ino image are shows low high is = ap (λ (o : Option ℕ). version_in image pack.base o) (found_counts pack.base ino image None false (shown pack ino image None are shows low high is))
 
-pub held_some : (pack : PackState) (ino : ℕ) (image : List ℕ) (copy : InodeCopy) → AreCopies pack.copies → Shows pack image → 1 ≤ ino → ino ≤ 1024 → copy_of pack.copies ino ≡ Some copy → Held pack.base ino copy.slot image
+pub held_some : (pack : PackState) (ino : ℕ) (image : List ℕ) (copy : InodeCopy) → AreCopies pack.copies → Shows pack image → 1 ≤ ino → ino ≤ inodes_max → copy_of pack.copies ino ≡ Some copy → Held pack.base ino copy.slot image
 held_some pack ino image copy are shows low high is =
     let found = shown pack ino image (Some copy) are shows low high is in
     let counts = found_counts pack.base ino image (Some copy) false found in
@@ -48,7 +49,7 @@ held_some pack ino image copy are shows low high is =
       size = content_length image pack.base place copy.slot found.own.slot s shows.area;
     }
 
-reported_some : (pack : PackState) (group ino : ℕ) (image : List ℕ) (copy : InodeCopy) → AreCopies pack.copies → Shows pack image → 1 ≤ ino → ino ≤ 1024 → copy_of pack.copies ino ≡ Some copy
+reported_some : (pack : PackState) (group ino : ℕ) (image : List ℕ) (copy : InodeCopy) → AreCopies pack.copies → Shows pack image → 1 ≤ ino → ino ≤ inodes_max → copy_of pack.copies ino ≡ Some copy
     → option_map reported (option_map (copy_in group ino) (view image pack.base ino)) ≡ Some (slot_reported ino copy.slot)
 reported_some pack group ino image copy are shows low high is =
     let held = held_some pack ino image copy are shows low high is in
@@ -59,12 +60,12 @@ reported_some pack group ino image copy are shows low high is =
     ∙ ap (λ (x : FileCopy). Some (reported x)) made
     ∙ (λ i. Some (record { ino = ino; kind = copy.slot.kind; set = copy.slot.set; size = size i; stamp = copy.slot.stamp; vector = copy.slot.vector }))
 
-reported_by : (pack : PackState) (group ino : ℕ) (image : List ℕ) (o : Option InodeCopy) → AreCopies pack.copies → Shows pack image → 1 ≤ ino → ino ≤ 1024 → copy_of pack.copies ino ≡ o
+reported_by : (pack : PackState) (group ino : ℕ) (image : List ℕ) (o : Option InodeCopy) → AreCopies pack.copies → Shows pack image → 1 ≤ ino → ino ≤ inodes_max → copy_of pack.copies ino ≡ o
     → option_map reported (option_map (copy_in group ino) (view image pack.base ino)) ≡ option_map (slot_reported ino) (slot_in o)
 reported_by pack group ino image None are shows low high is = ap (λ (o : Option Version). option_map reported (option_map (copy_in group ino) o)) (held_none pack ino image are shows low high is)
 reported_by pack group ino image (Some copy) are shows low high is = reported_some pack group ino image copy are shows low high is
 
 -- what the view has of an inode, as it is reported, is what the pack's slot says
-pub reported_here : (pack : PackState) (group ino : ℕ) (image : List ℕ) → AreCopies pack.copies → Shows pack image → 1 ≤ ino → ino ≤ 1024
+pub reported_here : (pack : PackState) (group ino : ℕ) (image : List ℕ) → AreCopies pack.copies → Shows pack image → 1 ≤ ino → ino ≤ inodes_max
     → option_map reported (option_map (copy_in group ino) (view image pack.base ino)) ≡ option_map (slot_reported ino) (slot_in (copy_of pack.copies ino))
 reported_here pack group ino image are shows low high = reported_by pack group ino image (copy_of pack.copies ino) are shows low high refl

@@ -1,7 +1,8 @@
 -- What storing a version in one pack makes of the copies of the site.
 use Rattle.std.proofs.Common.{◌≡◌, inl, inr, ⊎_elim, ℕ, zero, suc, ◌+◌, ◌*◌, ◌≤◌, ◌<◌, Bool, true, false, List, [], ◌∷◌, length, Option, None, Some, refl, sym, ap, subst, ◌∙◌, arith, cond}
-use Rattle.std.specs.Prelude.{OnOk, OnErr, IfErr, map, slice_get, slice_set, is_some, ◌^◌, Result, Ok, Err, if◌then◌else◌}
+use Rattle.std.specs.Prelude.{OnOk, OnErr, IfErr, map, slice_get, slice_set, is_some, Result, Ok, Err, if◌then◌else◌}
 use Rattle.std.specs.Option.{option_map}
+use Rattle.locus_ids.specs.Sizes.{inodes_max, pack_pages, inode_span, set_span}
 use Rattle.locus_ids.specs.declared.ids.FileId.{FileId}
 use Rattle.disk_model.specs.Images.{Torn}
 use Rattle.pack_layout.specs.declared.slot.Slot.{Slot}
@@ -10,17 +11,18 @@ use Rattle.gate_switch.proofs.Tearing.{torn_widens, torn_stays}
 use Rattle.pack_slots.specs.Mounting.{IsSound}
 use Rattle.inode_pack.proofs.Leaving.{shows_sound}
 use Rattle.site_packs.specs.Mounting.{AreSoundBehind}
-use Rattle.shadow_pages.specs.Working.{Working, content}
+use Rattle.inode_pack.specs.of_shadow_pages.Working.{Working, content}
 use Rattle.disk_model.specs.Disk.{Moment}
-use Rattle.inode_switch.specs.View.{Version, view, Replaced}
+use Rattle.pack_slots.specs.of_inode_switch.View.{Version, view, Replaced}
 use Rattle.pack_slots.specs.declared.inode_copy.InodeCopy.{InodeCopy}
-use Rattle.inode_pack.specs.declared.new_version.NewVersion.{NewVersion}
+use Rattle.pack_layout.specs.of_stored_versions.declared.new_version.NewVersion.{NewVersion}
 use Rattle.inode_pack.specs.declared.pack_fault.PackFault.{PackFault}
 use Rattle.inode_pack.specs.declared.pack_fault.PackFault.TheVariants as pack_says
 use Rattle.inode_pack.specs.Pack.{PackState, Stands}
 use Rattle.pack_slots.specs.Copies.{AreCopies, copy_of, named_pages}
 use Rattle.inode_pack.specs.Marked.{marked}
-use Rattle.inode_pack.specs.Committing.{IsVersion, Commits, new_version, content_of, commit_calls, commit_answer as pack_answer, MayBeLeft as MayBeLeftIn}
+use Rattle.inode_pack.specs.Committing.{Commits, new_version, content_of, commit_calls, commit_answer as pack_answer, MayBeLeft as MayBeLeftIn}
+use Rattle.pack_layout.specs.of_stored_versions.Versions.{IsVersion}
 use Rattle.role_steps.specs.Tables.{with_row}
 use Rattle.role_steps.specs.Storage.{copy_key}
 use Rattle.role_steps.specs.declared.copies.FileCopy.{FileCopy}
@@ -30,7 +32,7 @@ use Rattle.site_packs.specs.Committing.{MayBeLeft, copy_made, room, store_calls}
 use Rattle.site_packs.specs.Marking.{Fills}
 use Rattle.disk_model.specs.Cut.{Cut}
 use Rattle.gate_switch.specs.Gates.{new_gate}
-use Rattle.inode_switch.specs.Cutting.{IsViewBy}
+use Rattle.pack_slots.specs.of_inode_switch.Cutting.{IsViewBy}
 use Rattle.inode_pack.specs.Cutting.{IsCutCommit, are_both_open}
 use Rattle.site_packs.specs.Cutting.{IsCut, both_open_on, file_in}
 use Rattle.site_packs.proofs.Cutting.{both_but, none_shown}
@@ -47,7 +49,7 @@ place_below zero (one ∷ packs) pack is = omega arith
 place_below (suc at) (one ∷ packs) pack is = let rest = place_below at packs pack is in omega arith
 
 module _ (p : PacksState) (old : List ℕ) (at : ℕ) (file : FileId) (pack : PackState) (given : NewVersion) (bytes : List ℕ) (marks : List Bool) (are : ArePacks 0 0 p.site p.packs) (shown : AreShown p.packs old)
-    (place : slice_get p.packs at ≡ Some pack) (is : pack_in file.group p.packs ≡ Some pack) (low : 1 ≤ file.ino) (high : file.ino ≤ 1024) (fits : given.set.0 < 2 ^ 16) (version : IsVersion given (length bytes)) (fills : Fills pack file.ino bytes marks old) where
+    (place : slice_get p.packs at ≡ Some pack) (is : pack_in file.group p.packs ≡ Some pack) (low : 1 ≤ file.ino) (high : file.ino ≤ inodes_max) (fits : given.set.0 < set_span) (version : IsVersion given (length bytes)) (fills : Fills pack file.ino bytes marks old) where
   found : PackFound p.site file.group p.packs old pack
   found = found_pack p.site file.group p.packs old pack are shown is
 
@@ -70,7 +72,7 @@ module _ (p : PacksState) (old : List ℕ) (at : ℕ) (file : FileId) (pack : Pa
       let own = found.own in
       all ∙ (λ i. record { file = record { group = own i; ino = file.ino }; kind = given.kind; set = given.set; stamp = given.stamp; vector = given.vector; content = fills.is i })
 
-  copy_key_is : copy_key copy ≡ pack.group * 65536 + file.ino
+  copy_key_is : copy_key copy ≡ pack.group * inode_span + file.ino
   copy_key_is = let own = found.own in omega arith
 
   torn_here : (new : List ℕ) → Torn pack.base area_length old new → Torn (area_at (0 + at)) area_length old new
@@ -98,7 +100,7 @@ module _ (p : PacksState) (old : List ℕ) (at : ℕ) (file : FileId) (pack : Pa
   copies_by new may false same = behind_same 0 0 p.site p.packs old new are (all_same_but 0 0 p.site at p.packs pack old new are place shown (torn_here new may.outside) same)
 
   -- the room of the pack
-  pub room_is : (free : ℕ) → free + length (named_pages pack.copies) ≡ 3072 → room p old file.group ≡ free
+  pub room_is : (free : ℕ) → free + length (named_pages pack.copies) ≡ pack_pages → room p old file.group ≡ free
   room_is free sum =
       let all = pages_total 0 0 p.site file.group p.packs old are shown in
       let named = ap (λ (o : Option PackState). pages_named o) is in
@@ -212,8 +214,8 @@ kept_packs site p packs at pack made (Err x) own same is kept =
     let all : slice_set packs at made ≡ p.packs = (λ i. slice_set (same i) at (kept i)) ∙ same_set at p.packs pack is in
     (λ i. record { site = own i; packs = all i })
 
-pub only_disk : {T : Type 0} (result : Result T PackFault) (pages named space : ℕ) → pages ≤ space → ((free : ℕ) → free + named ≡ 3072 → space ≡ free)
-    → ((more free : ℕ) → result ≡ Err (pack_says.NoSpace more free) → (free < more) × (more ≡ pages) × (free + named ≡ 3072)) → IfErr result (λ fault. fault ≡ pack_says.Disk)
+pub only_disk : {T : Type 0} (result : Result T PackFault) (pages named space : ℕ) → pages ≤ space → ((free : ℕ) → free + named ≡ pack_pages → space ≡ free)
+    → ((more free : ℕ) → result ≡ Err (pack_says.NoSpace more free) → (free < more) × (more ≡ pages) × (free + named ≡ pack_pages)) → IfErr result (λ fault. fault ≡ pack_says.Disk)
 only_disk (Ok x) pages named space le is none = tt
 only_disk (Err pack_says.Disk) pages named space le is none = refl
 only_disk (Err (pack_says.NoSpace more free)) pages named space le is none =

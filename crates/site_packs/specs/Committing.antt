@@ -1,17 +1,19 @@
 -- What a commit makes of the copies of a site, when it is refused, and what a crash within it leaves.
-use Rattle.std.specs.Prelude.{◌≡◌, ◌≢◌, ◌⊎◌, ℕ, ◌+◌, ◌-◌, ◌*◌, ◌<◌, ◌≤◌, Bool, true, false, cond, List, take, length, slice_index, Option, is_some, Result, Ok, Err}
+use Rattle.std.specs.Prelude.{◌≡◌, ◌⊎◌, ℕ, ◌+◌, ◌-◌, ◌*◌, ◌<◌, ◌≤◌, Bool, true, false, cond, List, length, Option, is_some, Result, Ok, Err}
+use Rattle.locus_ids.specs.Sizes.{inodes_max, pack_pages}
 use Rattle.locus_ids.specs.declared.ids.FileId.{FileId}
 use Rattle.disk_model.specs.declared.disk.DiskFault.{DiskFault}
 use Rattle.disk_model.specs.declared.disk.DiskFault.TheVariants.{Failed}
 use Rattle.disk_model.specs.Images.{Torn}
-use Rattle.file_content.specs.Pages.{pages_of, page_of, has_page}
+use Rattle.file_content.specs.Pages.{pages_of, has_page}
 use Rattle.pack_layout.specs.Layout.{area_length}
-use Rattle.inode_pack.specs.declared.new_version.NewVersion.{NewVersion}
-use Rattle.inode_pack.specs.Committing.{IsVersion}
+use Rattle.pack_layout.specs.of_stored_versions.declared.new_version.NewVersion.{NewVersion}
+use Rattle.pack_layout.specs.of_stored_versions.Changes.{ArePages, IsKept}
+use Rattle.pack_layout.specs.of_stored_versions.Versions.{IsVersion}
 use Rattle.inode_pack.specs.declared.pack_fault.PackFault.{PackFault}
 use Rattle.inode_pack.specs.declared.pack_fault.PackFault.TheVariants as pack
 use Rattle.role_steps.specs.Tables.{with_row, total}
-use Rattle.role_steps.specs.Storage.{copy_key, copy_pages, content_of, pack_pages}
+use Rattle.role_steps.specs.Storage.{copy_key, copy_pages, content_of}
 use Rattle.role_steps.specs.declared.copies.FileCopy.{FileCopy}
 use Rattle.site_packs.specs.declared.faults.CommitFault.{CommitFault}
 use Rattle.site_packs.specs.declared.faults.CommitFault.TheVariants.{Disk, Cut, NoSpace, Unfit}
@@ -25,20 +27,11 @@ use Rattle.site_packs.specs.Mounting.{AreSound}
 abbrev pub copy_made : FileId → NewVersion → List ℕ → FileCopy
 copy_made file version content = record { file = file; kind = version.kind; set = version.set; stamp = version.stamp; vector = version.vector; content = content }
 
--- an unchanged page of the new content: the old one begins so
-abbrev pub IsKept : List ℕ → List ℕ → ℕ → Type 0
-IsKept old new page = take (length (page_of new page)) (page_of old page) ≡ page_of new page
-
--- page numbers below this one, each of them once
-pub record ArePages (count : ℕ) (changed : List ℕ) : Type 0 where
-  pub inside : (i : ℕ) → i < length changed → slice_index changed i < count
-  pub distinct : (i j : ℕ) → i < j → j < length changed → slice_index changed i ≢ slice_index changed j
-
 -- the site may keep a version of the file with so many bytes: it has a pack of the group, the inode is one, and a slot may say so
 pub record IsWholeFit (p : PacksState) (file : FileId) (given : NewVersion) (bytes : ℕ) : Type 0 where
   pub group : has_group (groups_of p) file.group ≡ true
   pub low : 1 ≤ file.ino
-  pub high : file.ino ≤ 1024
+  pub high : file.ino ≤ inodes_max
   pub version : IsVersion given bytes
 
 -- The site may keep the version with this content: the changed pages are pages of it, each once, and any other page is that of

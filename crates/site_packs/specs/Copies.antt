@@ -1,9 +1,10 @@
 -- The copies of files that an image of a disk holds: what each inode of each pack of the site has there.
 use Rattle.std.specs.Prelude.{ℕ, zero, suc, ◌+◌, ◌*◌, ◌==◌, cond, List, [], ◌∷◌, ◌++◌, drop, slice_index, Option, None, Some}
+use Rattle.locus_ids.specs.Sizes.{sites_max, inodes_max}
 use Rattle.locus_ids.specs.declared.ids.Kind.{Kind}
 use Rattle.locus_ids.specs.declared.ids.Kind.TheVariants as kind
 use Rattle.pack_layout.specs.Layout.{area_at}
-use Rattle.inode_switch.specs.View.{Version, view}
+use Rattle.pack_slots.specs.of_inode_switch.View.{Version, view}
 use Rattle.role_steps.specs.declared.copies.FileCopy.{FileCopy}
 
 -- ---- the fields of a version, as a slot spells them ----
@@ -29,7 +30,7 @@ copy_in group ino v = record {
   kind = kind_in (slice_index v.fields 0);
   set = record { 0 = number16 v.fields 3 };
   stamp = record { site = slice_index v.fields 9; n = number32 v.fields 10 };
-  vector = counters_in 16 (drop 14 v.fields);
+  vector = counters_in sites_max (drop 14 v.fields);
   content = v.content;
 }
 
@@ -46,7 +47,7 @@ copies_from group held ino (suc left) = with_version group ino (held ino) (copie
 
 -- those of a pack, whose area begins at `base`
 unfoldable pub copies_in : ℕ → ℕ → List ℕ → List FileCopy
-copies_in base group image = copies_from group (view image base) 1 1024
+copies_in base group image = copies_from group (view image base) 1 inodes_max
 
 -- those of the packs of these groups, whose areas stand one behind the other
 abbrev pub copies_behind : ℕ → List ℕ → List ℕ → List FileCopy

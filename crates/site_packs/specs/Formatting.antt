@@ -1,10 +1,11 @@
 -- What a format makes of the packs of a site.
 use Rattle.std.specs.Prelude.{◌≡◌, ℕ, List, [], ◌∷◌, map, filter}
+use Rattle.locus_ids.specs.Sizes.{inodes_max}
 use Rattle.locus_ids.specs.Sites.{has}
 use Rattle.locus_ids.specs.declared.config.Config.{Config}
 use Rattle.locus_ids.specs.declared.ids.Kind.TheVariants as kind
 use Rattle.locus_ids.specs.declared.sites.Sites.{Sites}
-use Rattle.dir_format.specs.Entries.{nothing_seen}
+use Rattle.role_steps.specs.of_dir_format.Entries.{nothing_seen}
 use Rattle.pack_slots.specs.Mounting.{IsSound, losing_gates}
 use Rattle.role_steps.specs.Views.{pack_sites}
 use Rattle.role_steps.specs.declared.copies.FileCopy.{FileCopy}
@@ -26,7 +27,7 @@ root_in group set = record {
 pub record HasRootAlone (base group site : ℕ) (set : Sites) (image : List ℕ) : Type 0 where
   pub copies : copies_in base group image ≡ root_in group set ∷ []
   pub sound : IsSound base group site image
-  pub shut : losing_gates base 1024 image ≡ 0
+  pub shut : losing_gates base inodes_max image ≡ 0
 
 -- those of these groups that the site stores
 abbrev pub stored_among : Config → ℕ → List ℕ → List ℕ

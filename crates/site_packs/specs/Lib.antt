@@ -7,3 +7,4 @@ pub mod Marking
 pub mod Planning
 pub mod Cutting
 pub mod Formatting
+pub use Rattle.inode_pack.specs as of_inode_pack

@@ -1,13 +1,13 @@
 -- Which pages of a content are marked as new.
 use Rattle.std.specs.Prelude.{◌≡◌, ℕ, ◌<◌, Bool, true, false, List, length, Option, None, Some}
 use Rattle.file_content.specs.Pages.{pages_of, has_page}
-use Rattle.shadow_pages.specs.Working.{content, count_below}
-use Rattle.inode_switch.specs.View.{view}
+use Rattle.inode_pack.specs.of_shadow_pages.Working.{content, count_below}
+use Rattle.pack_slots.specs.of_inode_switch.View.{view}
 use Rattle.inode_pack.specs.Marked.{is_marked, marked}
 use Rattle.inode_pack.specs.Pack.{PackState}
 use Rattle.pack_slots.specs.Copies.{copy_of}
 use Rattle.inode_pack.specs.Committing.{RestsOn, size_of, content_of}
-use Rattle.site_packs.specs.Committing.{ArePages, IsKept}
+use Rattle.pack_layout.specs.of_stored_versions.Changes.{ArePages, IsKept}
 
 -- the marks are those of the changed pages
 pub record AreMarks (count : ℕ) (changed : List ℕ) (marks : List Bool) : Type 0 where

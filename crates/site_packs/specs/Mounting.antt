@@ -1,5 +1,6 @@
 -- Which disks mount, why another doesn't, and what a format and a mount leave.
 use Rattle.std.specs.Prelude.{◌≡◌, ◌⊎◌, ℕ, ◌+◌, ◌*◌, ◌≤◌, List, [], ◌∷◌, ◌++◌, length, map, Result, Ok, Err}
+use Rattle.locus_ids.specs.Sizes.{inodes_max}
 use Rattle.locus_ids.specs.declared.config.Config.{Config}
 use Rattle.locus_ids.specs.declared.ids.Kind.TheVariants as kind
 use Rattle.disk_model.specs.declared.disk.DiskFault.{DiskFault}
@@ -7,7 +8,7 @@ use Rattle.disk_model.specs.declared.disk.DiskFault.TheVariants.{Failed}
 use Rattle.disk_model.specs.Disk.{Moment, IsSettled, Passing}
 use Rattle.disk_model.specs.Images.{Torn}
 use Rattle.disk_model.specs.Moments.{TellsMany}
-use Rattle.dir_format.specs.Entries.{nothing_seen}
+use Rattle.role_steps.specs.of_dir_format.Entries.{nothing_seen}
 use Rattle.pack_layout.specs.Layout.{area_length, area_at}
 use Rattle.pack_slots.specs.declared.mount_fault.MountFault.{MountFault}
 use Rattle.pack_slots.specs.declared.mount_fault.MountFault.TheVariants.{Disk, NotAPack, BadSlot, SharedPage, NoMemory}
@@ -17,7 +18,7 @@ use Rattle.role_steps.specs.declared.copies.FileCopy.{FileCopy}
 use Rattle.site_packs.specs.Copies.{copies_on}
 use Rattle.site_packs.specs.Packs.{pack_group, groups_at, ArePacks, AreShown}
 use Rattle.inode_pack.specs.Pack.{PackState}
-use Rattle.inode_switch.specs.View.{SameView}
+use Rattle.pack_slots.specs.of_inode_switch.View.{SameView}
 
 -- each of the packs of these groups mounts
 abbrev pub AreSoundBehind : ℕ → ℕ → List ℕ → List ℕ → Type 0
@@ -74,7 +75,7 @@ pub record KeepsCopies (site : ℕ) (groups old new : List ℕ) : Type 0 where
 -- the writes and syncs of a mount: two for each inode of which both slots are open
 abbrev pub gates_behind : ℕ → List ℕ → List ℕ → ℕ
 gates_behind nth [] image = 0
-gates_behind nth (group ∷ groups) image = losing_gates (area_at nth) 1024 image + gates_behind (nth + 1) groups image
+gates_behind nth (group ∷ groups) image = losing_gates (area_at nth) inodes_max image + gates_behind (nth + 1) groups image
 
 abbrev pub mount_calls : List ℕ → List ℕ → ℕ
 mount_calls groups image = 2 * gates_behind 0 groups image

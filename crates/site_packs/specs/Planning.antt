@@ -1,7 +1,7 @@
 -- Where a version of a file is to be stored.
 use Rattle.std.specs.Prelude.{◌≡◌, ℕ, ◌<◌, ◌≤◌, List, length, slice_get}
 use Rattle.locus_ids.specs.declared.ids.FileId.{FileId}
-use Rattle.inode_pack.specs.declared.new_version.NewVersion.{NewVersion}
+use Rattle.pack_layout.specs.of_stored_versions.declared.new_version.NewVersion.{NewVersion}
 use Rattle.file_content.specs.Pages.{pages_of}
 use Rattle.site_packs.specs.declared.planning.Plan.{Plan}
 use Rattle.site_packs.specs.declared.admitting.Admitted.{Admitted}

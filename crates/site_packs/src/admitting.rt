@@ -13,12 +13,13 @@ use crate::planning::Plan;
 use crate::{CommitFault, NewVersion, SitePacks};
 use disk_model::Disk;
 use locus_ids::FileId;
+use locus_ids::sizes::{CONTENT_PAGES, PAGE_BYTES};
 
 /// Where a version is to be stored, and which of its pages are written.
 #[derive(Drop)]
 pub(crate) struct Admitted {
     pub plan: Plan,
-    pub marks: [bool; 64],
+    pub marks: [bool; CONTENT_PAGES],
 }
 
 impl SitePacks {
@@ -50,7 +51,7 @@ impl SitePacks {
         let Some(plan) = self.plan(file, version, content.len()) else {
             return Err(CommitFault::Unfit);
         };
-        let Some(marks) = marks_of(changed, content.len().div_ceil(1_024)) else {
+        let Some(marks) = marks_of(changed, content.len().div_ceil(PAGE_BYTES)) else {
             return Err(CommitFault::Unfit);
         };
         if !self.keeps_rest(disk, file, content, &marks)? {

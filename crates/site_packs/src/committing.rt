@@ -14,6 +14,7 @@ ghost use Rattle.site_packs.specs.Cutting.{both_open_on, IsCut, HasSize};
 use crate::{CommitFault, NewVersion, SitePacks, WriteSize};
 use disk_model::Disk;
 use locus_ids::FileId;
+use locus_ids::sizes::{CONTENT_PAGES, PAGE_BYTES};
 
 impl SitePacks {
     /// Commits a version of a file. The pages of its content that were changed are written, `changed` having the number of each;
@@ -116,14 +117,14 @@ impl SitePacks {
     {
         let _invariant = &self.site;
         let replaces = self.head(file).is_some();
-        let pages = content.len().div_ceil(1_024);
+        let pages = content.len().div_ceil(PAGE_BYTES);
         if pages > usize::from(self.free_pages(file.group)) {
             return Err(CommitFault::NoSpace);
         }
         let Some(plan) = self.plan(file, version, content.len()) else {
             return Err(CommitFault::Unfit);
         };
-        let marks = [true; 64];
+        let marks = [true; CONTENT_PAGES];
         match self.store(disk, plan.at, plan.ino, file, *version, content, &marks) {
             Ok(()) => Ok(()),
             Err(_) => Err(CommitFault::Cut(WriteSize { pages, replaces })),

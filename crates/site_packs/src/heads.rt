@@ -1,14 +1,16 @@
 // What a site's copies are, but for their contents.
 ghost use Rattle.std.specs.Prelude.{◌≡◌, ◌<◌, ◌+◌, ◌++◌, ℕ, List, length, slice_index_or, None, IfOk, OnOk};
 ghost use Rattle.std.specs.Option.{option_map, option_copied};
+ghost use Rattle.locus_ids.specs.Sizes.{inodes_max, pack_pages};
 ghost use Rattle.role_steps.specs.Tables.{total};
-ghost use Rattle.role_steps.specs.Storage.{reported, report_of, copy_pages, pack_pages};
+ghost use Rattle.role_steps.specs.Storage.{reported, report_of, copy_pages};
 ghost use Rattle.site_packs.specs.Copies.{copies_on};
 ghost use Rattle.site_packs.specs.Packs.{AreShown, groups_of, copy_at, pack_in, pack_reported, slot_in, slot_reported, slots_reported, slots_from};
 
 use crate::SitePacks;
 use crate::packs::number_of;
 use inode_pack::Pack;
+use locus_ids::sizes::{INODES, PACK_PAGES};
 use locus_ids::{FileId, NoMemory};
 use pack_layout::Slot;
 use std::alloc::Global;
@@ -56,7 +58,7 @@ impl SitePacks {
         let _invariant = &self.site;
         match self.pack_of(group) {
             Some(pack) => pack.free_pages(),
-            None => 3_072,
+            None => PACK_PAGES,
         }
     }
 }
@@ -77,10 +79,10 @@ fn reported(ino: u16, slot: &Slot) -> ReportedCopy
 
 /// Adds what each slot of a pack says.
 fn report_pack(pack: &Pack, out: &mut ReportedCopies) -> Result<(), NoMemory>
-    requires { length pack.now.copies ≡ 1024 }
+    requires { length pack.now.copies ≡ inodes_max }
     ensures { OnOk result (out.new ≡ out.old ++ slots_from 1 pack.now.copies) }
 {
-    for i in 0..1024 {
+    for i in 0..INODES {
         report_slot(pack, i, out)?;
     }
     Ok(())
@@ -88,7 +90,7 @@ fn report_pack(pack: &Pack, out: &mut ReportedCopies) -> Result<(), NoMemory>
 
 /// Adds what the slot of the inode behind this number says.
 fn report_slot(pack: &Pack, i: u16, out: &mut ReportedCopies) -> Result<(), NoMemory>
-    requires { i < 1024 }
+    requires { i < inodes_max }
     ensures { OnOk result (out.new ≡ out.old ++ slots_reported (i + 1) (slot_in (slice_index_or pack.now.copies i None))) }
 {
     match pack.copy(i + 1) {

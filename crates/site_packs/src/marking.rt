@@ -1,15 +1,18 @@
 // Which pages of a content are marked as new.
 ghost use Rattle.std.specs.Prelude.{◌≡◌, ◌≤◌, length, IfSome, IfNone};
-ghost use Rattle.site_packs.specs.Committing.{ArePages};
+ghost use Rattle.locus_ids.specs.Sizes.{content_pages_max};
+ghost use Rattle.pack_layout.specs.of_stored_versions.Changes.{ArePages};
 ghost use Rattle.site_packs.specs.Marking.{AreMarks};
 
+use locus_ids::sizes::CONTENT_PAGES;
+
 /// The marks of the changed pages, or `None` exactly where a number is none of a page or stands twice.
-pub(crate) fn marks_of(changed: &[usize], count: usize) -> Option<[bool; 64]>
-    requires { count ≤ 64 }
+pub(crate) fn marks_of(changed: &[usize], count: usize) -> Option<[bool; CONTENT_PAGES]>
+    requires { count ≤ content_pages_max }
     ensures some { IfSome result (λ marks. AreMarks count changed.now marks) }
     ensures none { IfNone result (ArePages count changed.now → ⊥) }
 {
-    let mut marks = [false; 64];
+    let mut marks = [false; CONTENT_PAGES];
     for i in 0..changed.len() {
         let page = changed[i];
         if page >= count {

@@ -1,5 +1,6 @@
 // The number of a new inode.
 ghost use Rattle.std.specs.Prelude.{◌≡◌, ◌+◌, ◌-◌, ◌*◌, ℕ, List};
+ghost use Rattle.locus_ids.specs.Sizes.{site_inodes};
 ghost use Rattle.role_steps.specs.Views.{Store};
 ghost use Rattle.role_steps.specs.Storage.{own_ino};
 ghost use Rattle.site_packs.specs.Copies.{copies_on};
@@ -7,6 +8,7 @@ ghost use Rattle.site_packs.specs.Packs.{AreShown, AreMaking, groups_of, is_take
 
 use crate::SitePacks;
 use locus_ids::FileId;
+use locus_ids::sizes::SITE_INODES;
 
 impl SitePacks {
     /// The least of the site's 64 numbers of a group that is in no slot here and not among those that open instances make.
@@ -20,10 +22,10 @@ impl SitePacks {
 
     /// The least number of the site that isn't taken.
     fn least_free(&self, group: u8, making: &[u16]) -> Option<u16>
-        ensures { result ≡ free_ino self.now.packs group making.now (64 * (self.now.site - 1) + 1) 64 }
+        ensures { result ≡ free_ino self.now.packs group making.now (site_inodes * (self.now.site - 1) + 1) site_inodes }
     {
-        let first = 64 * (u16::from(self.site.get()) - 1) + 1;
-        for ino in first..first + 64 {
+        let first = SITE_INODES * (u16::from(self.site.get()) - 1) + 1;
+        for ino in first..first + SITE_INODES {
             if !self.is_taken(group, making, ino) {
                 return Some(ino);
             }

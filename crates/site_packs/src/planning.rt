@@ -1,11 +1,11 @@
 // Whether the site may keep a version, and where.
 ghost use Rattle.std.specs.Prelude.{◌≡◌, ◌↔◌, ◌≤◌, ◌<◌, ℕ, true, length, slice_index, IfSome, IfNone};
-ghost use Rattle.pack_layout.specs.Layout.{IsStamp, AgreesWith};
-ghost use Rattle.inode_pack.specs.Committing.{IsVersion};
+ghost use Rattle.pack_layout.specs.of_stored_versions.Versions.{IsStamp, AgreesWith, IsVersion};
 ghost use Rattle.site_packs.specs.Committing.{IsWholeFit};
 ghost use Rattle.site_packs.specs.Planning.{IsPlan};
 
 use crate::{NewVersion, SitePacks};
+use locus_ids::sizes::{CONTENT_BYTES, SITES};
 use locus_ids::{FileId, Ino, Stamp};
 
 /// Where a version is to be stored: the place of the pack, and the inode.
@@ -41,27 +41,27 @@ fn is_version(version: &NewVersion, size: usize) -> bool
     if version.set.0 == 0 {
         return false;
     }
-    if size > 65_536 {
+    if size > CONTENT_BYTES {
         return false;
     }
     is_named(version.stamp, &version.vector.parts())
 }
 
 /// The stamp is one of a version, and the counters agree with it.
-fn is_named(stamp: Stamp, counters: &[u32; 16]) -> bool
+fn is_named(stamp: Stamp, counters: &[u32; SITES]) -> bool
     ensures { (result ≡ true) ↔ (IsStamp stamp × AgreesWith stamp counters.now) }
 {
     if stamp.site == 0 {
         return is_unmade(stamp.n, counters);
     }
-    if stamp.site > 16 {
+    if stamp.site > SITES as u8 {
         return false;
     }
     is_counted(stamp.n, counters[usize::from(stamp.site) - 1])
 }
 
 /// Nothing was committed.
-fn is_unmade(n: u32, counters: &[u32; 16]) -> bool
+fn is_unmade(n: u32, counters: &[u32; SITES]) -> bool
     ensures { (result ≡ true) ↔ ((n ≡ 0) × ((i : ℕ) → slice_index counters.now i ≡ 0)) }
 {
     if n != 0 {
@@ -81,10 +81,10 @@ fn is_counted(n: u32, counter: u32) -> bool
 }
 
 /// Each counter is 0.
-fn are_zero(counters: &[u32; 16]) -> bool
+fn are_zero(counters: &[u32; SITES]) -> bool
     ensures { (result ≡ true) ↔ ((i : ℕ) → slice_index counters.now i ≡ 0) }
 {
-    for i in 0..16 {
+    for i in 0..SITES {
         if counters[i] != 0 {
             return false;
         }

@@ -1,5 +1,6 @@
 // Contents and their pages are read.
 ghost use Rattle.std.specs.Prelude.{◌≡◌, ◌≤◌, length, OnOk, IfOk};
+ghost use Rattle.locus_ids.specs.Sizes.{content_bytes_max};
 ghost use Rattle.disk_model.specs.Disk.{Goes, HasCause, TellsRead};
 ghost use Rattle.disk_model.specs.Images.{Same};
 ghost use Rattle.file_content.specs.Pages.{page_of};
@@ -24,7 +25,7 @@ impl SitePacks {
     ) -> Result<(), ReadFault>
         requires stands { Stand self.now (D.moment disk.old) }
         ensures content { OnOk result (out.new ≡ content_of (copy_at self.now (D.moment disk.old).seen file)) }
-        ensures short { OnOk result (length out.new ≤ 65536) }
+        ensures short { OnOk result (length out.new ≤ content_bytes_max) }
         ensures seen { (D.moment disk.new).seen ≡ (D.moment disk.old).seen }
         ensures stands { Stand self.now (D.moment disk.new) }
         ensures crash { Goes Same (D.moment disk.old) (D.moment disk.new) }

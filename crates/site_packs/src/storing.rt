@@ -16,6 +16,7 @@ ghost use Rattle.site_packs.specs.Marking.{FillsAt};
 use crate::{NewVersion, SitePacks};
 use disk_model::Disk;
 use inode_pack::PackFault;
+use locus_ids::sizes::CONTENT_PAGES;
 use locus_ids::{FileId, Ino};
 
 impl SitePacks {
@@ -28,7 +29,7 @@ impl SitePacks {
         file: FileId,
         version: NewVersion,
         content: &[u8],
-        marks: &[bool; 64],
+        marks: &[bool; CONTENT_PAGES],
     ) -> Result<(), PackFault>
         requires stands { Stand self.old (D.moment disk.old) }
         requires inside { at < length self.old.packs }

@@ -16,9 +16,9 @@ use Rattle.site_packs.specs.Packs.{PacksState}
 use Rattle.site_mends.specs.Mending.{WasRead}
 use Rattle.site_mends.specs.declared.fault.MendFault.{MendFault}
 use Rattle.site_mends.specs.declared.fault.MendFault.TheVariants as mend
-use Rattle.store_instances.specs.declared.fault.StoreFault.{StoreFault}
-use Rattle.store_instances.specs.declared.fault.StoreFault.TheVariants as store
-use Rattle.store_instances.specs.Writes.{Reads, Writes, calls_in}
+use Rattle.storage_site.specs.of_store_instances.declared.fault.StoreFault.{StoreFault}
+use Rattle.storage_site.specs.of_store_instances.declared.fault.StoreFault.TheVariants as store
+use Rattle.storage_site.specs.of_store_instances.Writes.{Reads, Writes, calls_in}
 use Rattle.site_parts.specs.declared.fault.NodeFault.{NodeFault}
 use Rattle.site_parts.specs.declared.fault.NodeFault.TheVariants.{NoMemory, Disk, Cut, NoNumber, Unfit}
 use Rattle.site_parts.specs.Faults.{IsOffDisk, fault_of_commit, fault_of_mend, fault_of_reading, fault_of_store}

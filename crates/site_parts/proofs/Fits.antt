@@ -13,11 +13,11 @@ use Rattle.role_steps.specs.declared.instances.Instance.{Instance}
 use Rattle.role_steps.specs.declared.instances.Stage.{Stage}
 use Rattle.role_steps.specs.declared.instances.Stage.TheVariants as stage
 use Rattle.role_steps.specs.declared.synchronizing.SyncTable.{SyncTable}
-use Rattle.the_run.specs.Steps.{group_of}
+use Rattle.run_laws.specs.of_the_run.Steps.{group_of}
 use Rattle.site_packs.specs.declared.faults.WriteSize.{WriteSize}
-use Rattle.store_instances.specs.Fitting.{CanExecute, CanOperate}
-use Rattle.store_instances.specs.declared.fault.StoreFault.{StoreFault}
-use Rattle.store_instances.specs.declared.fault.StoreFault.TheVariants as store
+use Rattle.storage_site.specs.of_store_instances.Fitting.{CanExecute, CanOperate}
+use Rattle.storage_site.specs.of_store_instances.declared.fault.StoreFault.{StoreFault}
+use Rattle.storage_site.specs.of_store_instances.declared.fault.StoreFault.TheVariants as store
 use Rattle.storage_site.specs.Fitting.{CanOperateAt, CanOperateOf}
 use Rattle.site_parts.specs.Faults.{fault_of_reading, fault_of_store}
 use Rattle.site_parts.specs.Roles.{mending_by}

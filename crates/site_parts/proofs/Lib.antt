@@ -6,3 +6,4 @@ pub mod Mendings
 pub mod Reported
 pub mod Numbers
 pub mod Fits
+pub use Rattle.run_laws.proofs as of_run_laws

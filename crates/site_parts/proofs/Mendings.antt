@@ -14,7 +14,7 @@ use Rattle.role_steps.specs.Tables.{row, first_that}
 use Rattle.role_steps.specs.Views.{Frame, Store, Users, serial_key}
 use Rattle.role_steps.specs.declared.instances.Instance.{Instance}
 use Rattle.role_steps.specs.declared.synchronizing.SyncTable.{SyncTable}
-use Rattle.the_run.specs.Steps.{group_of}
+use Rattle.run_laws.specs.of_the_run.Steps.{group_of}
 use Rattle.site_parts.specs.Roles.{mending_by}
 use Rattle.site_parts.specs.declared.fault.NodeFault.{NodeFault}
 

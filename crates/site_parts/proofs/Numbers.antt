@@ -9,8 +9,8 @@ use Rattle.site_mends.specs.declared.fault.MendFault.{MendFault}
 use Rattle.site_mends.specs.declared.fault.MendFault.TheVariants as mend
 use Rattle.site_packs.specs.declared.faults.CommitFault.{CommitFault}
 use Rattle.site_packs.specs.declared.faults.CommitFault.TheVariants as commit
-use Rattle.store_instances.specs.declared.fault.StoreFault.{StoreFault}
-use Rattle.store_instances.specs.declared.fault.StoreFault.TheVariants as store
+use Rattle.storage_site.specs.of_store_instances.declared.fault.StoreFault.{StoreFault}
+use Rattle.storage_site.specs.of_store_instances.declared.fault.StoreFault.TheVariants as store
 use Rattle.site_parts.specs.Faults.{IsOffDisk, IsOwn, fault_of_commit, fault_of_epoch, fault_of_mend, fault_of_order, fault_of_reading, fault_of_store}
 use Rattle.site_packs.specs.declared.faults.WriteSize.{WriteSize}
 use Rattle.site_parts.specs.declared.fault.NodeFault.{NodeFault}

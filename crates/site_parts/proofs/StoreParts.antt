@@ -14,8 +14,8 @@ use Rattle.wire_messages.specs.declared.body.Body.{Body}
 use Rattle.wire_messages.specs.declared.body.Body.TheVariants as body
 use Rattle.role_steps.specs.OperationEffects.{Mending}
 use Rattle.role_steps.specs.Views.{Frame, Store, Outcome, quiet}
-use Rattle.store_instances.specs.Stores.{Gives as StoreGives}
-use Rattle.store_instances.proofs.Latest.{nothing_more}
+use Rattle.storage_site.specs.of_store_instances.Stores.{Gives as StoreGives}
+use Rattle.storage_site.proofs.of_store_instances.Latest.{nothing_more}
 use Rattle.site_parts.specs.Roles.{store_take}
 
 -- nothing happens to the store

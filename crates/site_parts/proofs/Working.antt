@@ -6,17 +6,12 @@ use Rattle.trace_book.specs.declared.operation.Op.TheVariants as op
 use Rattle.role_steps.specs.Views.{Frame, Outcome, Store, quiet, sends}
 use Rattle.role_steps.specs.Storage.{instance_of}
 use Rattle.role_steps.specs.Operations.{executes, on_op, on_op_of, op_again}
-use Rattle.role_steps.specs.OperationEffects.{Mending, effect_of}
+use Rattle.role_steps.specs.OperationEffects.{Mending}
 use Rattle.role_steps.specs.declared.instances.Instance.{Instance}
 use Rattle.role_steps.specs.declared.instances.Stage.{Stage}
 use Rattle.role_steps.specs.declared.instances.Stage.TheVariants as stage
 use Rattle.role_steps.specs.Operations.{by_number, on_op_at}
 use Rattle.std.proofs.Common.{Bool, true, false, ◌==◌, ◌+◌}
-
-effect_same : (m l : Mending) (o : Op) (seen content : List ℕ) → o ≢ op.Mend → effect_of o seen m content ≡ effect_of o seen l content
-effect_same m l op.Mend seen content n = absurd (n refl)
-effect_same m l (op.Remove name ino) seen content n = refl
-effect_same m l _ seen content n = refl
 
 executes_same : (f : Frame) (m l : Mending) (i : Instance) (o : Op) (seen : List ℕ) (s : Store) → o ≢ op.Mend → executes f m i o seen s ≡ executes f l i o seen s
 executes_same f m l i op.Mend seen s n = absurd (n refl)

@@ -5,8 +5,8 @@ use Rattle.packet_order.specs.declared.fault.OrderFault.{OrderFault}
 use Rattle.packet_order.specs.declared.fault.OrderFault.TheVariants as order
 use Rattle.site_packs.specs.declared.faults.CommitFault.{CommitFault}
 use Rattle.site_packs.specs.declared.faults.CommitFault.TheVariants as commit
-use Rattle.store_instances.specs.declared.fault.StoreFault.{StoreFault}
-use Rattle.store_instances.specs.declared.fault.StoreFault.TheVariants as store
+use Rattle.storage_site.specs.of_store_instances.declared.fault.StoreFault.{StoreFault}
+use Rattle.storage_site.specs.of_store_instances.declared.fault.StoreFault.TheVariants as store
 use Rattle.site_mends.specs.declared.fault.MendFault.{MendFault}
 use Rattle.site_mends.specs.declared.fault.MendFault.TheVariants as mend
 use Rattle.site_parts.specs.declared.fault.NodeFault.{NodeFault}

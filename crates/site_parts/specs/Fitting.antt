@@ -11,7 +11,7 @@ use Rattle.role_steps.specs.Storage.{instance_of}
 use Rattle.role_steps.specs.Tables.{row}
 use Rattle.role_steps.specs.Views.{Frame, Store}
 use Rattle.role_steps.specs.declared.synchronizing.SyncTable.{SyncTable}
-use Rattle.the_run.specs.Steps.{from_user, group_of}
+use Rattle.run_laws.specs.of_the_run.Steps.{from_user, group_of}
 use Rattle.site_tables.specs.Inodes.{AreInodes}
 use Rattle.storage_site.specs.Fitting.{CanCloseAt, CanOpen, CanOperateAt}
 

@@ -11,7 +11,7 @@ use Rattle.role_steps.specs.OperationEffects.{Mending}
 use Rattle.role_steps.specs.Adoption.{table_group}
 use Rattle.role_steps.specs.Mends.{brought_by, is_mend_in, vectors_of}
 use Rattle.role_steps.specs.declared.synchronizing.SyncTable.{SyncTable}
-use Rattle.the_run.specs.Steps.{from_user, group_of}
+use Rattle.run_laws.specs.of_the_run.Steps.{from_user, group_of}
 use Rattle.site_parts.specs.declared.roles.Role.{Role}
 use Rattle.site_parts.specs.declared.roles.Role.TheVariants as role
 

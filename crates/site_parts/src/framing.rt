@@ -3,6 +3,7 @@ ghost use Rattle.std.specs.Prelude.{◌≡◌};
 ghost use Rattle.role_steps.specs.Epochs.{frame_in};
 ghost use Rattle.site_parts.specs.Framing.{outside};
 
+use locus_ids::sizes::SITES;
 use locus_ids::{EpochId, Members};
 use role_steps::InEpoch;
 use site_frame::SiteFrame;
@@ -26,5 +27,5 @@ pub fn stay_outside(frame: &mut SiteFrame, boot: u32)
         site: 0,
         boot: 0,
     };
-    frame.members = Members { boot: [0; 16] };
+    frame.members = Members { boot: [0; SITES] };
 }

@@ -6,7 +6,7 @@ ghost use Rattle.role_steps.specs.Operations.{on_op};
 ghost use Rattle.role_steps.specs.Tables.{first_that, row};
 ghost use Rattle.role_steps.specs.Storage.{instance_key};
 ghost use Rattle.role_steps.specs.Views.{Frame, Store as StoreView, serial_key};
-ghost use Rattle.the_run.specs.Steps.{group_of};
+ghost use Rattle.run_laws.specs.of_the_run.Steps.{group_of};
 ghost use Rattle.storage_site.specs.Fitting.{CanOperateAt};
 ghost use Rattle.site_parts.specs.Faults.{IsOwn};
 ghost use Rattle.site_parts.specs.Fitting.{AreInodesOf, CanRest};

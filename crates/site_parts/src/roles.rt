@@ -4,7 +4,7 @@ ghost use Rattle.site_parts.specs.Roles.{role_of};
 use wire_messages::Body;
 
 /// Which role of a site takes a packet of its epoch.
-#[derive(Clone, Copy, Debug, PartialEq, Eq)]
+#[derive(Clone, Copy, PartialEq, Eq)]
 pub enum Role {
     /// A synchronization site.
     Tables,

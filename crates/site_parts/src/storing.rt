@@ -3,8 +3,8 @@ ghost use Rattle.std.specs.Prelude.{◌≡◌, ◌≢◌, None, Err, IfErr, OnOk
 ghost use Rattle.role_steps.specs.Operations.{on_op};
 ghost use Rattle.role_steps.specs.Storage.{on_close, on_closed_ok, on_look_ss, on_open_ss, on_pull};
 ghost use Rattle.site_packs.specs.Packs.{SamePlaces, Stand, groups_of};
-ghost use Rattle.store_instances.specs.Stores.{Gives, store_of};
-ghost use Rattle.the_run.specs.Steps.{from_user};
+ghost use Rattle.storage_site.specs.of_store_instances.Stores.{Gives, store_of};
+ghost use Rattle.run_laws.specs.of_the_run.Steps.{from_user};
 ghost use Rattle.storage_site.specs.Fitting.{CanCloseAt, CanOpen, CanOperateAt};
 ghost use Rattle.site_parts.specs.Faults.{fault_of_reading};
 ghost use Rattle.site_parts.specs.Fitting.{CanTakeAtStore};
@@ -17,6 +17,7 @@ use crate::mending::work_for;
 use css_core::Css;
 use disk_model::Disk;
 use keyed_tables::SortedTable;
+use locus_ids::sizes::SITES;
 use locus_ids::{FileId, Serial, SiteId, Stamp};
 use operation_effects::MendingWork;
 use site_frame::SiteFrame;
@@ -238,7 +239,7 @@ fn take_op<D: Disk>(
     inst: Serial,
     number: u32,
     op: &Op,
-    seen: &Vector<16>,
+    seen: &Vector<SITES>,
     work: &MendingWork,
     out: &mut Outbox,
 ) -> Result<(), NodeFault>

@@ -1,20 +1,20 @@
 -- An event of a site that runs is that of the run: whole, or cut off in its write.
-use Rattle.std.proofs.Common.{◌≡◌, ℕ, ◌-◌, Bool, true, false, cond, List, [], ◌∷◌, ◌++◌, refl, sym, ◌∙◌, ap, subst, arith}
+use Rattle.std.proofs.Common.{◌≡◌, ℕ, ◌-◌, Bool, true, false, cond, List, [], ◌∷◌, ◌++◌, length, refl, sym, ◌∙◌, ap, subst, arith}
 use Rattle.std.specs.Prelude.{nat_lt, Option, None, Some}
 use Rattle.std.proofs.lemmas.Bool.{lt-ltb, le-ltb}
 use Rattle.disk_model.specs.Disk.{Moment, Exactly}
 use Rattle.trace_book.specs.declared.record.Record.{Record}
 use Rattle.trace_book.specs.declared.record.Record.TheVariants as says
 use Rattle.wire_messages.specs.Outboxes.{Outgoing}
-use Rattle.role_steps.specs.Views.{SiteView, Outcome, DiskWrite, Shown}
-use Rattle.site_frame.specs.Printed.{printed}
+use Rattle.role_steps.specs.Views.{Store, SiteView, Outcome, DiskWrite, Shown}
+use Rattle.site_node.specs.of_site_frame.Printed.{printed}
 use Rattle.disk_model.specs.Cut.{Cut as DiskCut}
 use Rattle.the_run.specs.Disks.{Disk, Armed, Cut, new_gate, write_calls, cut_disk}
 use Rattle.the_run.specs.Worlds.{Stopped, cause_of, cut_told}
 use Rattle.site_packs.specs.declared.faults.WriteSize.{WriteSize}
 use Rattle.site_packs.specs.Packs.{groups_of}
 use Rattle.site_packs.specs.Cutting.{IsCut}
-use Rattle.store_instances.specs.Writes.{calls_in}
+use Rattle.site_node.specs.of_store_instances.Writes.{calls_in}
 use Rattle.site_disk.specs.Image.{label_on, one_half}
 use Rattle.site_disk.specs.Run.{as_cut, disk_on}
 use Rattle.site_disk.proofs.CutCommits.{cut_commits}
@@ -61,11 +61,11 @@ told_by : (open_now : Bool) (me : ℕ) (d : DiskWrite) (how : Cut) → cond open
 told_by true me d how = refl
 told_by false me d how = refl
 
-told_cut : (me : ℕ) (d : DiskWrite) (x : DiskScript) (pages : ℕ) (told : List Record) → pages ≡ d.pages → told ≡ d.says ∷ [] → cut_records me pages x told ≡ printed (cut_told me d (cut_by x.how) x.left)
-told_cut me d x pages told same is =
+told_cut : (me : ℕ) (before : Store) (d : DiskWrite) (x : DiskScript) (pages : ℕ) (told : List Record) → pages ≡ length d.pages → told ≡ d.says ∷ [] → cut_records me pages x told ≡ printed (cut_told me before d (cut_by x.how) x.left)
+told_cut me before d x pages told same is =
     ap (λ (l : List Record). cut_records me pages x l) is
     ∙ (ap (λ (k : ℕ). cut_records me k x (d.says ∷ [])) same
-    ∙ told_by (new_gate d.pages (cut_by x.how) x.left) me d (cut_by x.how))
+    ∙ told_by (new_gate (length d.pages) (cut_by x.how) x.left) me d (cut_by x.how))
 
 -- an event that was cut off leaves and tells what the run does
 pub acts_cut : (groups : List ℕ) (me : ℕ) (n : SiteNode) (old new : Moment) (o : Outcome SiteView) (w : Option DiskWrite) (x : DiskScript) (size : WriteSize) (before own after : Outgoing) (left : List ℕ) (b : PlaceState)
@@ -77,13 +77,13 @@ acts_cut groups me n old new o (Some d) x size before own after left b same labe
     let v = view_of n old.seen in
     let calls = write_calls v.store d in
     let few : nat_lt x.left calls ≡ true = lt-ltb x.left calls (cut.early x.left passing) in
-    let gate : IsCut n.packs d.copy d.pages (as_cut (cut_by x.how)) x.left old.seen left =
-    subst (λ (l : List ℕ). IsCut n.packs d.copy d.pages (as_cut (cut_by x.how)) x.left old.seen l) (sym is)
-    (subst (λ (h : DiskCut). IsCut n.packs d.copy d.pages h x.left old.seen new.left) how (cut.left x.left passing)) in
+    let gate : IsCut n.packs d.copy (length d.pages) (as_cut (cut_by x.how)) x.left old.seen left =
+    subst (λ (l : List ℕ). IsCut n.packs d.copy (length d.pages) (as_cut (cut_by x.how)) x.left old.seen l) (sym is)
+    (subst (λ (h : DiskCut). IsCut n.packs d.copy (length d.pages) h x.left old.seen new.left) how (cut.left x.left passing)) in
     let disk : disk_on groups left ≡ cut_disk v.boot v.store d (cut_by x.how) x.left =
     ap (λ (gs : List ℕ). disk_on gs left) (sym same) ∙ cut_commits n.packs v.boot v.store d (cut_by x.how) x.left old.seen left gate refl label in
     let records : own.records ≡ d.says ∷ [] = cut.records ∙ ap (λ (l : List Record). l ++ d.says ∷ []) empty in
-    let says_all = told_cut me d x size.pages own.records cut.pages records in
+    let says_all = told_cut me v.store d x size.pages own.records cut.pages records in
     subst (λ (h : Happening). Gives h b (record b { place = Stopped (disk_on groups left); armed = None }) after) (sym (cut_when me v o d (armed_by x) calls few)) (record {
       state = ap (λ (k : Disk). record b { place = Stopped k; armed = None }) disk;
       packets = ap (λ (g : Outgoing). g.packets) told;

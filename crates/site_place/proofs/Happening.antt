@@ -9,16 +9,16 @@ use Rattle.disk_model.specs.ScriptDisk.{seen, moment, cut_image}
 use Rattle.disk_model.specs.ScriptLaws.{leaves_one}
 use Rattle.wire_messages.specs.Outboxes.{Outgoing}
 use Rattle.role_steps.specs.Views.{SiteView, Outcome, Event, DiskWrite}
-use Rattle.site_frame.specs.Printed.{printed}
+use Rattle.site_node.specs.of_site_frame.Printed.{printed}
 use Rattle.the_run.specs.Disks.{Armed}
 use Rattle.the_run.specs.Steps.{step}
 use Rattle.the_run.specs.Worlds.{Place, Running, Stopped}
 use Rattle.site_packs.specs.declared.faults.WriteSize.{WriteSize}
 use Rattle.site_packs.specs.Packs.{groups_at}
-use Rattle.store_instances.specs.Writes.{calls_in}
+use Rattle.site_node.specs.of_store_instances.Writes.{calls_in}
 use Rattle.site_disk.specs.Run.{as_cut, disk_on}
-use Rattle.site_parts.specs.declared.fault.NodeFault.{NodeFault}
-use Rattle.site_parts.specs.declared.fault.NodeFault.TheVariants.{Cut}
+use Rattle.site_node.specs.of_site_parts.declared.fault.NodeFault.{NodeFault}
+use Rattle.site_node.specs.of_site_parts.declared.fault.NodeFault.TheVariants.{Cut}
 use Rattle.site_node.specs.declared.node.SiteNode.{SiteNode}
 use Rattle.site_node.specs.Views.{view_of, Moves, steps_at}
 use Rattle.site_node.specs.Writing.{EventWrites}

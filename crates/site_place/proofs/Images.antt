@@ -15,7 +15,7 @@ use Rattle.site_packs.specs.Packs.{PacksState, groups_of, groups_at}
 use Rattle.site_disk.specs.Image.{disk_length, label_on, one_half}
 use Rattle.site_disk.specs.Boots.{MayBeLeft as BootLeft}
 use Rattle.site_disk.proofs.Labels.{label_there}
-use Rattle.store_instances.specs.Writes.{MayLeave}
+use Rattle.site_node.specs.of_store_instances.Writes.{MayLeave}
 use Rattle.site_place.specs.Standing.{IsWhole}
 
 -- a label that has a number has the one that is read

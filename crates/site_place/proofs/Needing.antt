@@ -9,8 +9,8 @@ use Rattle.site_packs.specs.Packs.{groups_at, groups_of}
 use Rattle.site_node.specs.Fitting.{CanAct}
 use Rattle.site_node.specs.Views.{view_of}
 use Rattle.site_node.specs.declared.node.SiteNode.{SiteNode}
-use Rattle.site_parts.specs.declared.fault.NodeFault.{NodeFault}
-use Rattle.site_parts.specs.declared.fault.NodeFault.TheVariants as node
+use Rattle.site_node.specs.of_site_parts.declared.fault.NodeFault.{NodeFault}
+use Rattle.site_node.specs.of_site_parts.declared.fault.NodeFault.TheVariants as node
 use Rattle.site_place.specs.Fitting.{CanActAt, CanHappenIn, IsOfDisk}
 use Rattle.site_place.specs.Places.{PlaceState}
 use Rattle.site_place.specs.Views.{place_in}

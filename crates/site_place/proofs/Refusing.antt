@@ -30,8 +30,8 @@ use Rattle.site_disk.specs.declared.boot_fault.BootFault.{BootFault}
 use Rattle.site_disk.specs.declared.boot_fault.BootFault.TheVariants.{Disk, NotALabel, Spent, NotAPack, BadSlot, SharedPage, NoMemory}
 use Rattle.the_run.specs.Disks.{Armed}
 use Rattle.site_node.specs.declared.node.SiteNode.{SiteNode}
-use Rattle.site_parts.specs.declared.fault.NodeFault.{NodeFault}
-use Rattle.site_parts.specs.declared.fault.NodeFault.TheVariants as node
+use Rattle.site_node.specs.of_site_parts.declared.fault.NodeFault.{NodeFault}
+use Rattle.site_node.specs.of_site_parts.declared.fault.NodeFault.TheVariants as node
 use Rattle.site_node.specs.Writing.{EventWrites}
 use Rattle.site_place.specs.declared.script.DiskScript.{DiskScript}
 use Rattle.site_place.specs.Counts.{armed_by_script, waiting}

@@ -8,8 +8,8 @@ use Rattle.site_packs.specs.Packs.{groups_at, groups_of}
 use Rattle.site_node.specs.Fitting.{CanAct}
 use Rattle.site_node.specs.declared.node.SiteNode.{SiteNode}
 use Rattle.site_node.specs.Views.{view_of}
-use Rattle.site_parts.specs.declared.fault.NodeFault.{NodeFault}
-use Rattle.site_parts.specs.declared.fault.NodeFault.TheVariants.{NoMemory, Disk, Cut, NoNumber, Unfit}
+use Rattle.site_node.specs.of_site_parts.declared.fault.NodeFault.{NodeFault}
+use Rattle.site_node.specs.of_site_parts.declared.fault.NodeFault.TheVariants.{NoMemory, Disk, Cut, NoNumber, Unfit}
 use Rattle.site_place.specs.Places.{PlaceState}
 
 -- nothing was unfit: there was no memory, or the disk failed

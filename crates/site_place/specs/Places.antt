@@ -7,7 +7,7 @@ use Rattle.trace_book.specs.declared.record.StopCause.TheVariants as cause
 use Rattle.wire_messages.specs.declared.packet.Packet.{Packet}
 use Rattle.wire_messages.specs.Outboxes.{Outgoing}
 use Rattle.role_steps.specs.Views.{SiteView, Told, Shown, DiskWrite, Outcome, Event, Calls, Receives, Ticks, Parts, Merges, GivesUp}
-use Rattle.site_frame.specs.Printed.{printed}
+use Rattle.site_node.specs.of_site_frame.Printed.{printed}
 use Rattle.the_run.specs.Disks.{Armed, Cut, Stops, Fails, Booted, Whole, CutOff, write_calls, cut_disk, boots}
 use Rattle.the_run.specs.Steps.{step, is_dropped}
 use Rattle.the_run.specs.Worlds.{Place, Running, Stopped, disk_of, cause_of, cut_told, fresh}
@@ -57,7 +57,7 @@ runs_in o armed = record { place = Running o.view; armed = armed; sent = o.sent;
 
 -- the site stops in its write
 abbrev pub cut_in : ℕ → SiteView → DiskWrite → Armed → Happening
-cut_in s v d a = record { place = Stopped (cut_disk v.boot v.store d a.how a.left); armed = None; sent = []; told = cut_told s d a.how a.left }
+cut_in s v d a = record { place = Stopped (cut_disk v.boot v.store d a.how a.left); armed = None; sent = []; told = cut_told s v.store d a.how a.left }
 
 abbrev pub writes_armed_in : ℕ → SiteView → Outcome SiteView → DiskWrite → Armed → ℕ → Happening
 writes_armed_in s v o d a calls = elim (nat_lt a.left calls) [

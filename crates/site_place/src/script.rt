@@ -10,14 +10,14 @@ use schedule_lines::Leave;
 use trace_book::StopCause;
 
 /// How a disk call is cut off: the site stops in it, or it fails.
-#[derive(Clone, Copy, Debug, PartialEq, Eq)]
+#[derive(Clone, Copy, PartialEq, Eq)]
 pub enum CallCut {
     Stops { leave: Leave },
     Fails,
 }
 
 /// So many disk calls of a site pass, and the next one is cut off.
-#[derive(Clone, Copy, Debug, PartialEq, Eq)]
+#[derive(Clone, Copy, PartialEq, Eq)]
 pub struct DiskScript {
     pub site: SiteId,
     pub left: u32,

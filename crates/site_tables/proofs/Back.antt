@@ -1,6 +1,8 @@
 -- A table that is taken out, changed and put back.
-use Rattle.std.proofs.Common.{◌≡◌, ◌≢◌, ℕ, zero, suc, ◌+◌, ◌<◌, ◌≤◌, List, [], ◌∷◌, ◌++◌, length, drop, get_or, Option, Some, None, true, false, Bool, nat_eq, nat_lt, append-nil, add-one, refl, sym, ap, ◌∙◌, subst, arith}
+use Rattle.std.proofs.Common.{◌≡◌, ◌≢◌, ℕ, zero, suc, ◌+◌, ◌<◌, List, [], ◌∷◌, ◌++◌, length, drop, get_or, Option, Some, None, true, false, Bool, nat_eq, nat_lt, append-nil, add-one, refl, sym, ap, ◌∙◌, subst, arith}
 use Rattle.std.proofs.lemmas.Bool.Decides.{nat_tests}
+use Rattle.role_steps.proofs.of_plain_facts.Numbers.{differ_test, same as is_same, less_test, same_test}
+use Rattle.role_steps.proofs.of_plain_facts.Options.{some_same}
 use Rattle.locus_ids.specs.declared.ids.FileId.{FileId}
 use Rattle.locus_ids.specs.declared.ids.Serial.{Serial}
 use Rattle.locus_ids.specs.declared.ids.Stamp.{Stamp}
@@ -17,21 +19,6 @@ use Rattle.using_site.specs.Steps.{Gives}
 use Rattle.site_tables.specs.Tables.{tables_at, tables_at_of, tables_with, group_in, noting_own, noting_own_of}
 use Rattle.the_run.specs.Steps.{is_opened_in}
 
-some_eq : {A : Type 0} (x a : A) → ◌≡◌ {A = Option A} (Some x) (Some a) → x ≡ a
-some_eq x a e = cc
-
-same_yes : (a b : ℕ) → a ≡ b → nat_eq a b ≡ true
-same_yes a b e = grind (arith, nat_tests)
-
-same_no : (a b : ℕ) → a ≢ b → nat_eq a b ≡ false
-same_no a b e = grind (arith, nat_tests)
-
-is_same : (a b : ℕ) → nat_eq a b ≡ true → a ≡ b
-is_same a b e = grind (arith, nat_tests)
-
-less_yes : (a b : ℕ) → a < b → nat_lt a b ≡ true
-less_yes a b e = grind (arith, nat_tests)
-
 more_no : (a b : ℕ) → b < a → nat_lt a b ≡ false
 more_no a b e = grind (arith, nat_tests)
 
@@ -42,7 +29,7 @@ equal_no a b e = grind (arith, nat_tests)
 pub row_key : {A : Type 0} (key : A → ℕ) (k : ℕ) (xs : List A) (a : A) → row key k xs ≡ Some a → key a ≡ k
 row_key key k [] a e = absurd (cc)
 row_key {A = A} key k (x ∷ xs) a e = elim (nat_eq (key x) k) as (λ b. nat_eq (key x) k ≡ b → ◌≡◌ {A = Option A} (elim b [ true ↦ Some x | false ↦ row key k xs ]) (Some a) → key a ≡ k) [
-  | true ↦ λ t f. ap key (sym (some_eq x a f)) ∙ is_same (key x) k t
+  | true ↦ λ t f. ap key (sym (some_same x a f)) ∙ is_same (key x) k t
   | false ↦ λ t f. row_key key k xs a f
 ] refl e
 
@@ -57,22 +44,22 @@ row_above {A = A} key m k (x ∷ xs) a h e = elim (nat_eq (key x) k) as (λ b. n
 first_above : {A : Type 0} (key : A → ℕ) (m : ℕ) (test : A → Bool) (xs : List A) (a : A) → Above key m xs → first_that test xs ≡ Some a → m < key a
 first_above key m test [] a h e = absurd (cc)
 first_above {A = A} key m test (x ∷ xs) a h e = elim (test x) as (λ b. ◌≡◌ {A = Option A} (elim b [ true ↦ Some x | false ↦ first_that test xs ]) (Some a) → m < key a) [
-  | true ↦ λ f. subst (λ y. m < key y) (some_eq x a f) h.0
+  | true ↦ λ f. subst (λ y. m < key y) (some_same x a f) h.0
   | false ↦ λ f. first_above key m test xs a h.1 f
 ] e
 
 -- a new row comes to the front of rows above it
 put_front : {A : Type 0} (key : A → ℕ) (y : A) (xs : List A) → Above key (key y) xs → with_row key y xs ≡ y ∷ xs
 put_front key y [] h = refl
-put_front key y (x ∷ xs) h = rw (more_no (key x) (key y) h.0, same_no (key x) (key y) (λ e. let l : key y < key x = h.0 in absurd (omega arith)), with_row) refl
+put_front key y (x ∷ xs) h = rw (more_no (key x) (key y) h.0, differ_test (key x) (key y) (λ e. let l : key y < key x = h.0 in absurd (omega arith)), with_row) refl
 
 back_first : {A : Type 0} (key : A → ℕ) (k : ℕ) (x y : A) (xs : List A) → Above key (key x) xs → key x ≡ k → key y ≡ k → with_row key y xs ≡ with_row key y (x ∷ xs)
 back_first {A = A} key k x y xs r t s =
     let same : key x ≡ key y = t ∙ sym s in
-    put_front key y xs (subst (λ n. Above key n xs) same r) ∙ sym (rw (equal_no (key x) (key y) same, same_yes (key x) (key y) same, with_row) refl)
+    put_front key y xs (subst (λ n. Above key n xs) same r) ∙ sym (rw (equal_no (key x) (key y) same, same_test (key x) (key y) same, with_row) refl)
 
 back_later : {A : Type 0} (key : A → ℕ) (k : ℕ) (x y : A) (xs ys : List A) → key x < k → key y ≡ k → with_row key y ys ≡ with_row key y xs → with_row key y (x ∷ ys) ≡ with_row key y (x ∷ xs)
-back_later {A = A} key k x y xs ys l s e = rw (less_yes (key x) (key y) (omega arith), with_row) (ap (λ zs. x ∷ zs) e)
+back_later {A = A} key k x y xs ys l s e = rw (less_test (key x) (key y) (omega arith), with_row) (ap (λ zs. x ∷ zs) e)
 
 -- a row that was taken out comes back to its place
 pub put_back : {A : Type 0} (key : A → ℕ) (k : ℕ) (xs : List A) (a y : A) → Rising key xs → row key k xs ≡ Some a → key y ≡ k → with_row key y (without_row key k xs) ≡ with_row key y xs
@@ -86,14 +73,11 @@ put_back {A = A} key k (x ∷ xs) a y r e s = elim (nat_eq (key x) k) as (λ b. 
 pub first_row : {A : Type 0} (key : A → ℕ) (test : A → Bool) (xs : List A) (a : A) → Rising key xs → first_that test xs ≡ Some a → row key (key a) xs ≡ Some a
 first_row key test [] a r e = absurd (cc)
 first_row {A = A} key test (x ∷ xs) a r e = elim (test x) as (λ b. ◌≡◌ {A = Option A} (elim b [ true ↦ Some x | false ↦ first_that test xs ]) (Some a) → row key (key a) (x ∷ xs) ≡ Some a) [
-  | true ↦ λ f. (let same : x ≡ a = some_eq x a f in rw (same_yes (key x) (key a) (ap key same), row) f)
-  | false ↦ λ f. (let less : key x < key a = first_above key (key x) test xs a r.0 f in rw (same_no (key x) (key a) (λ g. absurd (omega arith)), row) (first_row key test xs a r.1 f))
+  | true ↦ λ f. (let same : x ≡ a = some_same x a f in rw (same_test (key x) (key a) (ap key same), row) f)
+  | false ↦ λ f. (let less : key x < key a = first_above key (key x) test xs a r.0 f in rw (differ_test (key x) (key a) (λ g. absurd (omega arith)), row) (first_row key test xs a r.1 f))
 ] e
 
 -- ---- what is done at a table that is taken out and put back ----
-
-pub given_none : (g : SyncTable → Outcome SyncTable) (group : ℕ) (ts : List SyncTable) → row table_group group ts ≡ None → tables_at g group ts ≡ record { view = ts; sent = []; told = []; written = None }
-given_none g group ts e = ap (λ o. tables_at_of g o ts) e
 
 pub given_at : (g : SyncTable → Outcome SyncTable) (group : ℕ) (ts news : List SyncTable) (t now : SyncTable) (before after : Outgoing) → Rising table_group ts → row table_group group ts ≡ Some t
     → (g t).view.group ≡ t.group → now ≡ (g t).view → after.packets ≡ before.packets ++ (g t).sent → after.records ≡ before.records ++ printed (g t).told
@@ -150,7 +134,7 @@ with_as_at g inst group ts r e = by_case (first_that (is_opened_in inst) ts) ref
   by_case : (o : Option SyncTable) → first_that (is_opened_in inst) ts ≡ o → ◌≡◌ {A = Option ℕ} (Some group) (group_in o) → tables_with g inst ts ≡ tables_at g group ts
   by_case None f h = absurd (cc)
   by_case (Some t) f h =
-      let same : t.group ≡ group = sym (some_eq group t.group h) in
+      let same : t.group ≡ group = sym (some_same group t.group h) in
       ap (λ o. tables_at_of g o ts) (f ∙ sym (subst (λ n. row table_group n ts ≡ Some t) same (first_row table_group (is_opened_in inst) ts t r f)))
 
 pub with_at : (g : SyncTable → Outcome SyncTable) (inst : Serial) (group : ℕ) (ts news : List SyncTable) (before after : Outgoing) → Rising table_group ts → ◌≡◌ {A = Option ℕ} (Some group) (found_group inst ts) → Gives (tables_at g group ts) news before after → Gives (tables_with g inst ts) news before after
@@ -178,12 +162,3 @@ pub first_later : {A : Type 0} (test : A → Bool) (xs : List A) (i : ℕ) (x : 
 first_later {A = A} test xs i x l e t h =
     let more : drop i xs ≡ x ∷ drop (suc i) xs = drop_first xs i x l ∙ ap (λ y. y ∷ drop (suc i) xs) (sym e) in
     ap (λ m. first_that test (drop m xs)) (add-one i) ∙ (sym (ap (first_that test) more ∙ rw (t, first_that) refl) ∙ h)
-
-nothing_left : {A : Type 0} (n : ℕ) (ys : List A) → length ys ≤ n → drop n ys ≡ []
-nothing_left zero [] q = refl
-nothing_left (suc n) [] q = refl
-nothing_left zero (y ∷ ys) q = absurd (omega arith)
-nothing_left (suc n) (y ∷ ys) q = nothing_left n ys (omega arith)
-
-pub none_first : {A : Type 0} (test : A → Bool) (xs : List A) (i : ℕ) → length xs ≤ i → first_that test (drop i xs) ≡ first_that test xs → ◌≡◌ {A = Option A} None (first_that test xs)
-none_first {A = A} test xs i l h = sym (ap (first_that test) (nothing_left i xs l)) ∙ h

@@ -12,9 +12,6 @@ gives_none v out = record { view = refl; packets = sym (append-nil out.packets);
 pub gives_as : {V : Type 0} (o p : Outcome V) (new : V) (a b : Outgoing) → p ≡ o → Gives o new a b → Gives p new a b
 gives_as o p new a b e g = subst (λ q. Gives q new a b) (sym e) g
 
-pub gives_at : {V : Type 0} (o : Outcome V) (new now : V) (a b : Outgoing) → now ≡ new → Gives o new a b → Gives o now a b
-gives_at o new now a b e g = subst (λ v. Gives o v a b) (sym e) g
-
 -- one thing, and then another
 pub gives_then : {V W : Type 0} (o : Outcome V) (p : V → Outcome W) (mid : V) (new : W) (a b c : Outgoing) → Gives o mid a b → Gives (p mid) new b c → Gives (and_then o p) new a c
 gives_then {W = W} o p mid new a b c g h = joined (subst (λ v. Gives (p v) new b c) g.view h) where

@@ -2,6 +2,8 @@
 use Rattle.std.proofs.Common.{◌≡◌, ◌≢◌, ℕ, zero, suc, ◌<◌, ◌≤◌, ◌-◌, ◌&&◌, cond, true, false, Bool, List, [], ◌∷◌, map, filter, drop, nat_lt, nat_eq, refl, ap, ◌∙◌, arith}
 use Rattle.std.specs.List.{list_all}
 use Rattle.std.proofs.lemmas.Bool.Decides.{nat_tests}
+use Rattle.role_steps.proofs.of_plain_facts.Numbers.{differ_test, less}
+use Rattle.role_steps.proofs.of_plain_facts.Tests.{both_true}
 use Rattle.role_steps.specs.Tables.{with_row}
 use Rattle.role_steps.specs.Views.{all_groups}
 use Rattle.role_steps.specs.Adoption.{table_group}
@@ -19,29 +21,19 @@ filter_both p q (x ∷ xs) = elim (q x) as (λ b. filter p (cond b (x ∷ filter
   | false ↦ filter_both p q xs
 ]
 
-and_true : (a b : Bool) → (a && b) ≡ true → (a ≡ true) × (b ≡ true)
-and_true true b h = (refl, h)
-and_true false b h = absurd (cc)
-
-is_less : (a b : ℕ) → nat_lt a b ≡ true → a < b
-is_less a b h = grind (arith, nat_tests)
-
 more_no : (a b : ℕ) → b < a → nat_lt a b ≡ false
 more_no a b e = grind (arith, nat_tests)
 
-same_no : (a b : ℕ) → a ≢ b → nat_eq a b ≡ false
-same_no a b e = grind (arith, nat_tests)
-
 front : (k x : ℕ) (xs : List ℕ) → k < x → with_row (λ s. s) k (x ∷ xs) ≡ k ∷ x ∷ xs
-front k x xs l = rw (more_no x k l, same_no x k (λ e. absurd (omega arith)), with_row) refl
+front k x xs l = rw (more_no x k l, differ_test x k (λ e. absurd (omega arith)), with_row) refl
 
 -- a number below all comes first
 first_of : (p : ℕ → Bool) (k : ℕ) (rest : List ℕ) → list_all (λ s. nat_lt k s) rest ≡ true → with_row (λ s. s) k (filter p rest) ≡ k ∷ filter p rest
 first_of p k [] h = refl
 first_of p k (x ∷ xs) h = elim (p x) as (λ b. with_row (λ s. s) k (filter p xs) ≡ k ∷ filter p xs → with_row (λ s. s) k (cond b (x ∷ filter p xs) (filter p xs)) ≡ k ∷ cond b (x ∷ filter p xs) (filter p xs)) [
-  | true ↦ λ r. front k x (filter p xs) (is_less k x (and_true (nat_lt k x) (list_all (λ s. nat_lt k s) xs) h).0)
+  | true ↦ λ r. front k x (filter p xs) (less k x (both_true (nat_lt k x) (list_all (λ s. nat_lt k s) xs) h).0)
   | false ↦ λ r. r
-] (first_of p k xs (and_true (nat_lt k x) (list_all (λ s. nat_lt k s) xs) h).1)
+] (first_of p k xs (both_true (nat_lt k x) (list_all (λ s. nat_lt k s) xs) h).1)
 
 put_next : (p : ℕ → Bool) (k : ℕ) (rest rows : List ℕ) → list_all (λ s. nat_lt k s) rest ≡ true → p k ≡ true → rows ≡ filter p rest → with_row (λ s. s) k rows ≡ filter p (k ∷ rest)
 put_next p k rest rows h t e = rw (t, e) (first_of p k rest h)

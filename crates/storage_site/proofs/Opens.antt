@@ -4,6 +4,7 @@ use Rattle.std.specs.Prelude.{cond}
 use Rattle.std.specs.List.{list_any, flat_map}
 use Rattle.std.specs.Option.{option_map, is_some}
 use Rattle.std.proofs.lemmas.List.Folds.{list_any-append}
+use Rattle.role_steps.proofs.of_plain_facts.Tests.{and_false}
 use Rattle.locus_ids.specs.declared.ids.FileId.{FileId}
 use Rattle.locus_ids.specs.declared.ids.Stamp.{Stamp}
 use Rattle.locus_ids.specs.declared.ids.Mode.{Mode}
@@ -32,16 +33,12 @@ both : (b : Bool) → (b && true) ≡ (b || false)
 both true = refl
 both false = refl
 
-neither : (b : Bool) → (b && false) ≡ false
-neither true = refl
-neither false = refl
-
 made : (n ino : ℕ) (a : Bool) → (a && ((n == ino) && true)) ≡ list_any (λ (one : ℕ). one == ino) (cond (a && true) (n ∷ []) [])
 made n ino true = both (n == ino)
 made n ino false = refl
 
 unmade : (n ino : ℕ) (a : Bool) → (a && ((n == ino) && false)) ≡ list_any (λ (one : ℕ). one == ino) (cond (a && false) (n ∷ []) [])
-unmade n ino true = neither (n == ino)
+unmade n ino true = and_false (n == ino)
 unmade n ino false = refl
 
 made_by : (group ino : ℕ) (i : Instance) (m : Mode) → is_making group ino (with_mode i m) ≡ list_any (λ (one : ℕ). one == ino) (made_ino group (with_mode i m))

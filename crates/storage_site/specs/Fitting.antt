@@ -1,5 +1,6 @@
 -- What a call of the role meets that may be none of the format: where this is of it, the call isn't refused as unfit.
 use Rattle.std.specs.Prelude.{◌≡◌, ℕ, ◌≤◌, true, List, Option, None, Some}
+use Rattle.locus_ids.specs.Sizes.{sites_max}
 use Rattle.locus_ids.specs.declared.ids.Serial.{Serial}
 use Rattle.trace_book.specs.declared.operation.Op.{Op}
 use Rattle.role_steps.specs.Views.{Frame, Store}
@@ -31,5 +32,5 @@ CanCloseAt f groups inst s = CanCloseOf f groups s.copies (instance_of s inst)
 -- an open is of a site, and where it makes a file the packs of this site are those of the site that serves it
 pub record CanOpen (f : Frame) (home : ℕ) (asked : StoreRequest) : Type 0 where
   pub low : 1 ≤ asked.inst.us
-  pub high : asked.inst.us ≤ 16
+  pub high : asked.inst.us ≤ sites_max
   pub own : is_make asked.mode ≡ true → home ≡ f.me

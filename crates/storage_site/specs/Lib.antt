@@ -1,3 +1,4 @@
 pub mod Serving
 pub mod Standing
 pub mod Fitting
+pub use Rattle.store_instances.specs as of_store_instances

@@ -13,6 +13,7 @@ use crate::Store;
 use crate::store::keep_open;
 use disk_model::Disk;
 use keyed_tables::serial_key;
+use locus_ids::sizes::SITES;
 use locus_ids::{NoMemory, Serial};
 use operation_effects::MendingWork;
 use site_frame::SiteFrame;
@@ -33,7 +34,7 @@ impl Store {
         inst: Serial,
         n: u32,
         op: &Op,
-        seen: &Vector<16>,
+        seen: &Vector<SITES>,
         mending: &MendingWork,
         out: &mut Outbox,
     ) -> Result<(), StoreFault>

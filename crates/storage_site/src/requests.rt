@@ -3,7 +3,7 @@ use std::marker::Model;
 use trace_book::What;
 
 /// What a Look asks, as the synchronization site hands it on.
-#[derive(Debug, Drop)]
+#[derive(Drop)]
 pub struct LookRequest {
     pub call: u32,
     pub process: u8,

@@ -11,7 +11,8 @@ ghost use Rattle.store_instances.specs.Writes.{Reads};
 ghost use Rattle.storage_site.specs.Serving.{head_page};
 
 use crate::{LookRequest, Store};
-use dir_format::{LookResult, dir_in, lookup};
+use dir_format::LookResult;
+use dir_operations::{dir_in, lookup};
 use disk_model::Disk;
 use file_content::pages_of;
 use locus_ids::{Bytes, FileId, NoMemory, Refusal, SiteId, Stamp};

@@ -15,7 +15,7 @@ use store_instances::StoreInstance;
 
 /// The instances of the storage role of a site in its epoch, in the order in which they were opened. Contracts see their
 /// list; the copies are the packs'.
-#[derive(Debug, Drop)]
+#[derive(Drop)]
 pub struct Store {
     pub(crate) rows: Vec<StoreInstance>,
     pub(crate) index: KeyIndex,

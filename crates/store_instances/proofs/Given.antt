@@ -1,6 +1,7 @@
 -- What an event at one instance gives.
 use Rattle.std.proofs.Common.{◌≡◌, ℕ, ◌+◌, ◌==◌, Bool, true, false, List, [], ◌∷◌, ◌++◌, Option, Some, None, refl, sym, ap, ◌∙◌, subst, arith}
 use Rattle.std.proofs.lemmas.Bool.Decides.{nat_tests}
+use Rattle.role_steps.proofs.of_plain_facts.Numbers.{apart_test, equal_test}
 use Rattle.locus_ids.specs.declared.ids.FileId.{FileId}
 use Rattle.locus_ids.specs.declared.ids.Serial.{Serial}
 use Rattle.locus_ids.specs.declared.ids.Stamp.{Stamp}
@@ -12,7 +13,7 @@ use Rattle.trace_book.specs.declared.operation.Outcome.TheVariants as result
 use Rattle.trace_book.specs.declared.record.Record.{Record}
 use Rattle.trace_book.specs.declared.record.Record.TheVariants as says
 use Rattle.file_effects.specs.Effects.{Effect}
-use Rattle.file_effects.specs.Works.{result_in, operated, counted}
+use Rattle.file_effects.specs.Works.{counted}
 use Rattle.file_effects.specs.declared.work.Work.{Work}
 use Rattle.wire_messages.specs.declared.packet.Packet.{Packet}
 use Rattle.wire_messages.specs.declared.body.CloseAnswer.{CloseAnswer}
@@ -23,7 +24,7 @@ use Rattle.wire_messages.specs.declared.body.MadeVersion.{MadeVersion}
 use Rattle.wire_messages.specs.Outboxes.{Outgoing}
 use Rattle.role_steps.specs.Tables.{row, with_row, with_latest}
 use Rattle.role_steps.specs.Views.{Frame, Store, Outcome, quiet, sends, joined_to, to_sync, file_key}
-use Rattle.role_steps.specs.Storage.{copy_key, copy_made, instance_key, instance_of, with_instance, free_pages, is_spent, commits, next_stamp, next_vector, instance_committed, commit_record, closed_packets, made_version, opened_packets, shut, shuts, shuts_again, closes, on_close_at}
+use Rattle.role_steps.specs.Storage.{copy_key, copy_made, instance_key, instance_of, with_instance, is_spent, commits, next_stamp, next_vector, instance_committed, commit_record, closed_packets, made_version, opened_packets, shut, shuts, shuts_again, closes, on_close_at}
 use Rattle.role_steps.specs.Operations.{acts, acts_committed, by_number, commit_op, last_committed, executes, executes_effect, on_op_at, op_again, op_done}
 use Rattle.role_steps.specs.OperationEffects.{Mending, effect_of}
 use Rattle.role_steps.specs.declared.copies.FileCopy.{FileCopy}
@@ -69,38 +70,6 @@ module _ (xs : List Instance) (p : PacksState) (image : List ℕ) where
       let two = gave_none e free i.work w h in
       subst (λ (eff : Option Effect). RowGives (executes_effect f i o eff s) xs new p image before after) (sym two.0)
       (quiet_so i new before after is (n ∙ ap (λ (v : Work). record i { work = v }) two.1) same)
-
-  pub executes_some : (f : Frame) (i : Instance) (o : Op) (e : Option Effect) (free : ℕ) (r : Result) (w : Work) (new : Instance) (before after : Outgoing) → worked_so (Some r) w ≡ worked free i.work e → free_pages s i.file.group ≡ free
-      → new ≡ record i { work = w; answered = Some r } → after.packets ≡ before.packets ++ op_done f i w.ops r → after.records ≡ before.records ++ says.Act f.epoch i.inst w.ops o r ∷ []
-      → RowGives (executes_effect f i o e s) xs new p image before after
-  executes_some f i o None free r w new before after h room n sent told = absurd (some_no (ap (λ (x : Worked). x.gave) h)) where
-    some_no : ◌≡◌ {A = Option Result} (Some r) None → ⊥
-    some_no k = cc
-  executes_some f i o (Some e) free r w new before after h room n sent told =
-      let given : r ≡ result_in free i.work.changed e = result_is (ap (λ (x : Worked). x.gave) h) in
-      let here : r ≡ result_in (free_pages s i.file.group) i.work.changed e = given ∙ ap (λ (n : ℕ). result_in n i.work.changed e) (sym room) in
-      let left : w ≡ operated e (result_in free i.work.changed e) i.work = ap (λ (x : Worked). x.work) h in
-      let there : w ≡ operated e (result_in (free_pages s i.file.group) i.work.changed e) i.work = left ∙ ap (λ (n : ℕ). operated e (result_in n i.work.changed e) i.work) (sym room) in
-      subst (λ (q : Result). RowGives (acts f i o q (operated e q i.work) s) xs new p image before after) here
-      (subst (λ (v : Work). RowGives (acts f i o r v s) xs new p image before after) (there ∙ ap (λ (q : Result). operated e q i.work) (sym here))
-      (acts_so f i o r w new before after n sent told)) where
-        result_is : ◌≡◌ {A = Option Result} (Some r) (Some (result_in free i.work.changed e)) → r ≡ result_in free i.work.changed e
-        result_is k = cc
-
--- an operation that is neither a commit nor an abort
-pub other_op : (f : Frame) (m : Mending) (i : Instance) (o : Op) (seen : List ℕ) (s : Store) → (o ≡ op.Commit → ⊥) → (o ≡ op.Abort → ⊥) → executes_effect f i o (effect_of o seen m i.work.content) s ≡ executes f m i o seen s
-other_op f m i (op.Probe name) seen s h k = refl
-other_op f m i (op.Find component) seen s h k = refl
-other_op f m i (op.Insert name ino kind) seen s h k = refl
-other_op f m i (op.Remove name ino) seen s h k = refl
-other_op f m i (op.Rename component name) seen s h k = refl
-other_op f m i op.Empty seen s h k = refl
-other_op f m i (op.Read at len) seen s h k = refl
-other_op f m i (op.Write at bytes) seen s h k = refl
-other_op f m i (op.Cut len) seen s h k = refl
-other_op f m i op.Commit seen s h k = absurd (h refl)
-other_op f m i op.Abort seen s h k = absurd (k refl)
-other_op f m i op.Mend seen s h k = refl
 
 -- ---- commits ----
 
@@ -239,10 +208,6 @@ pub spent_op : (f : Frame) (i : Instance) (s : Store) → i.work.owes ≡ true �
 spent_op f i s owes spent =
     op_by f i s (acts f i op.Commit (result.No refusal.Spent) (counted i.work) s) i.work.owes (is_spent f i) (λ h k. refl) (λ h k. absurd (true_false (is_spent f i) spent k)) (λ h. absurd (true_false i.work.owes owes h))
 
-pub idle_op : (f : Frame) (i : Instance) (s : Store) → i.work.owes ≡ false → last_committed f i i.work.last s ≡ commit_op f i s
-idle_op f i s owes =
-    op_by f i s (last_committed f i i.work.last s) i.work.owes (is_spent f i) (λ h k. absurd (true_false i.work.owes h owes)) (λ h k. absurd (true_false i.work.owes h owes)) (λ h. refl)
-
 close_by : (f : Frame) (i : Instance) (s : Store) (o : Outcome Store) (b c : Bool)
     → (b ≡ true → c ≡ true → o ≡ shuts f i (closing.No refusal.Spent) s) → (b ≡ true → c ≡ false → o ≡ commits_and_shuts f i s) → (b ≡ false → o ≡ shuts f i closing.Nothing s)
     → o ≡ elim b [ true ↦ elim c [ true ↦ shuts f i (closing.No refusal.Spent) s | false ↦ commits_and_shuts f i s ] | false ↦ shuts f i closing.Nothing s ]
@@ -274,27 +239,21 @@ running f m i stage.Running n o seen s h = refl
 running f m i (stage.Closing made a) n o seen s h = absurd cc
 running f m i (stage.Closed a) n o seen s h = absurd cc
 
-number_is : (a b : ℕ) → a ≡ b → (a == b) ≡ true
-number_is a b e = grind (arith, nat_tests)
-
-number_not : (a b : ℕ) → (a ≡ b → ⊥) → (a == b) ≡ false
-number_not a b e = grind (arith, nat_tests)
-
 pub again_op : (f : Frame) (m : Mending) (i : Instance) (n : ℕ) (o : Op) (seen : List ℕ) (s : Store) → is_running i.stage ≡ true → n ≡ i.work.ops → sends (op_again f i n i.answered) s ≡ on_op_at f m i i.stage n o seen s
-again_op f m i n o seen s h e = by (n == i.work.ops) (number_is n i.work.ops e) ∙ running f m i i.stage n o seen s h where
+again_op f m i n o seen s h e = by (n == i.work.ops) (equal_test n i.work.ops e) ∙ running f m i i.stage n o seen s h where
   by : (b : Bool) → b ≡ true → sends (op_again f i n i.answered) s ≡ elim b [ true ↦ sends (op_again f i n i.answered) s | false ↦ elim (n == i.work.ops + 1) [ true ↦ executes f m i o seen s | false ↦ quiet s ] ]
   by true k = refl
   by false k = absurd cc
 
 pub unknown_op : (f : Frame) (m : Mending) (i : Instance) (n : ℕ) (o : Op) (seen : List ℕ) (s : Store) → is_running i.stage ≡ true → (n ≡ i.work.ops → ⊥) → (n == i.work.ops + 1) ≡ false → quiet s ≡ on_op_at f m i i.stage n o seen s
-unknown_op f m i n o seen s h e k = by (n == i.work.ops) (n == i.work.ops + 1) (number_not n i.work.ops e) k ∙ running f m i i.stage n o seen s h where
+unknown_op f m i n o seen s h e k = by (n == i.work.ops) (n == i.work.ops + 1) (apart_test n i.work.ops e) k ∙ running f m i i.stage n o seen s h where
   by : (b c : Bool) → b ≡ false → c ≡ false → quiet s ≡ elim b [ true ↦ sends (op_again f i n i.answered) s | false ↦ elim c [ true ↦ executes f m i o seen s | false ↦ quiet s ] ]
   by false false j l = refl
   by false true j l = absurd cc
   by true c j l = absurd cc
 
 pub next_op : (f : Frame) (m : Mending) (i : Instance) (n : ℕ) (o : Op) (seen : List ℕ) (s : Store) → is_running i.stage ≡ true → (n ≡ i.work.ops → ⊥) → (n == i.work.ops + 1) ≡ true → executes f m i o seen s ≡ on_op_at f m i i.stage n o seen s
-next_op f m i n o seen s h e k = by (n == i.work.ops) (n == i.work.ops + 1) (number_not n i.work.ops e) k ∙ running f m i i.stage n o seen s h where
+next_op f m i n o seen s h e k = by (n == i.work.ops) (n == i.work.ops + 1) (apart_test n i.work.ops e) k ∙ running f m i i.stage n o seen s h where
   by : (b c : Bool) → b ≡ false → c ≡ true → executes f m i o seen s ≡ elim b [ true ↦ sends (op_again f i n i.answered) s | false ↦ elim c [ true ↦ executes f m i o seen s | false ↦ quiet s ] ]
   by false true j l = refl
   by false false j l = absurd cc

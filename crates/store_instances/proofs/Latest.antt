@@ -1,11 +1,10 @@
 -- A table in the order in which its rows came, after a row was put.
-use Rattle.std.proofs.Common.{◌≡◌, ℕ, zero, suc, ◌+◌, ◌-◌, ◌<◌, ◌==◌, length, take, get_or, Bool, true, false, List, [], ◌∷◌, ◌++◌, Option, Some, None, refl, sym, ap, ◌∙◌, arith}
+use Rattle.std.proofs.Common.{◌≡◌, ℕ, ◌+◌, ◌==◌, Bool, true, false, List, [], ◌∷◌, ◌++◌, Option, Some, None, refl, sym, ap, ◌∙◌, arith}
 use Rattle.std.proofs.lemmas.Bool.Decides.{nat_tests}
-use Rattle.role_steps.specs.Tables.{row, with_latest, total}
-use Rattle.role_steps.proofs.Rows.{same, found_row, passed_row}
-
-some_is : {A : Type 0} (x y : A) → ◌≡◌ {A = Option A} (Some x) (Some y) → x ≡ y
-some_is x y e = cc
+use Rattle.role_steps.proofs.of_plain_facts.Numbers.{equal_self}
+use Rattle.role_steps.proofs.of_plain_facts.Options.{some_same}
+use Rattle.role_steps.specs.Tables.{row, with_latest}
+use Rattle.role_steps.proofs.Rows.{found_row, passed_row}
 
 pub nothing_more : {A : Type 0} (xs : List A) → xs ≡ xs ++ []
 nothing_more [] = refl
@@ -17,9 +16,9 @@ in_turn (z ∷ zs) x y = ap (λ ys. z ∷ ys) (in_turn zs x y)
 
 -- its own key finds the row
 pub latest_row : {A : Type 0} (key : A → ℕ) (x : A) (xs : List A) → row key (key x) (with_latest key x xs) ≡ Some x
-latest_row key x [] = found_row x None (key x == key x) (same (key x))
+latest_row key x [] = found_row x None (key x == key x) (equal_self (key x))
 latest_row key x (y ∷ ys) = (elim (key y == key x) as (λ b. (key y == key x) ≡ b → row key (key x) (elim b [ true ↦ x ∷ ys | false ↦ y ∷ with_latest key x ys ]) ≡ Some x) [
-  | true ↦ λ e. found_row x (row key (key x) ys) (key x == key x) (same (key x))
+  | true ↦ λ e. found_row x (row key (key x) ys) (key x == key x) (equal_self (key x))
   | false ↦ λ e. passed_row y (row key (key x) (with_latest key x ys)) (key y == key x) e ∙ latest_row key x ys
 ]) refl
 
@@ -27,7 +26,7 @@ latest_row key x (y ∷ ys) = (elim (key y == key x) as (λ b. (key y == key x) 
 pub latest_same : {A : Type 0} (key : A → ℕ) (x : A) (xs : List A) → row key (key x) xs ≡ Some x → with_latest key x xs ≡ xs
 latest_same key x [] h = absurd cc
 latest_same {A = A} key x (y ∷ ys) h = (elim (key y == key x) as (λ b. ◌≡◌ {A = Option A} (elim b [ true ↦ Some y | false ↦ row key (key x) ys ]) (Some x) → ◌≡◌ {A = List A} (elim b [ true ↦ x ∷ ys | false ↦ y ∷ with_latest key x ys ]) (y ∷ ys)) [
-  | true ↦ λ f. ap (λ z. z ∷ ys) (sym (some_is y x f))
+  | true ↦ λ f. ap (λ z. z ∷ ys) (sym (some_same y x f))
   | false ↦ λ f. ap (λ zs. y ∷ zs) (latest_same key x ys f)
 ]) h
 
@@ -62,18 +61,3 @@ latest_twice {A = A} key a b (y ∷ ys) e =
       passed : with_latest key b (with_latest key a ys) ≡ with_latest key b ys → (t : Bool) → t ≡ false → ◌≡◌ {A = List A} (elim t [ true ↦ b ∷ with_latest key a ys | false ↦ y ∷ with_latest key b (with_latest key a ys) ]) (elim t [ true ↦ b ∷ ys | false ↦ y ∷ with_latest key b ys ])
       passed rest true h = absurd cc
       passed rest false h = ap (λ zs. y ∷ zs) rest
-
--- a sum up to one row more
-
-pub total_more : {A : Type 0} (m : A → ℕ) (xs : List A) (i : ℕ) (x : A) → i < length xs → x ≡ get_or xs i x → total m (take (i + 1) xs) ≡ total m (take i xs) + m x
-total_more m [] i x h is = absurd (omega (arith, h))
-total_more m (y ∷ ys) zero x h is = let here : m y ≡ m x = ap m (sym is) in omega (arith, here)
-total_more m (y ∷ ys) (suc i) x h is =
-    let more = total_more m ys i x (omega (arith, h)) is in
-    let next : suc i + 1 ≡ suc (i + 1) = omega arith in
-    ap (λ n. total m (take n (y ∷ ys))) next ∙ longer (m y) (total m (take (i + 1) ys)) (total m (take i ys)) (m x) more where
-      longer : (a b c d : ℕ) → b ≡ c + d → a + b ≡ (a + c) + d
-      longer a b c d e = omega (arith, e)
-
-pub sub_more : (free t m left r : ℕ) → left ≡ free - t → r ≡ left - m → r ≡ free - (t + m)
-sub_more free t m left r h k = omega (arith, h, k)

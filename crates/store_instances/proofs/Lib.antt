@@ -2,3 +2,4 @@ pub mod Latest
 pub mod Given
 pub mod Stays
 pub mod Fits
+pub mod Counts

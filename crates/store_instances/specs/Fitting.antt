@@ -1,5 +1,6 @@
 -- What an event at an instance meets that may be none of the format: where this is of it, the event isn't refused as unfit.
 use Rattle.std.specs.Prelude.{◌≡◌, ℕ, ◌+◌, ◌-◌, ◌<◌, ◌≤◌, true, false, List, length}
+use Rattle.locus_ids.specs.Sizes.{inodes_max, pack_pages}
 use Rattle.locus_ids.specs.declared.ids.Stamp.{Stamp}
 use Rattle.file_content.specs.Pages.{pages_of, has_page}
 use Rattle.trace_book.specs.declared.operation.Op.{Op}
@@ -8,14 +9,14 @@ use Rattle.operation_effects.specs.Joinable.{AreJoinable}
 use Rattle.role_steps.specs.Tables.{row, total}
 use Rattle.role_steps.specs.Views.{Frame, file_key}
 use Rattle.role_steps.specs.OperationEffects.{Mending}
-use Rattle.role_steps.specs.Storage.{content_of, copy_key, copy_pages, is_spent, next_stamp, next_vector, pack_pages}
+use Rattle.role_steps.specs.Storage.{content_of, copy_key, copy_pages, is_spent, next_stamp, next_vector}
 use Rattle.role_steps.specs.declared.copies.FileCopy.{FileCopy}
 use Rattle.role_steps.specs.declared.instances.Instance.{Instance}
 use Rattle.role_steps.specs.declared.instances.Stage.{Stage}
 use Rattle.role_steps.specs.declared.instances.Stage.TheVariants as stage
-use Rattle.inode_pack.specs.Committing.{IsVersion}
-use Rattle.inode_pack.specs.declared.new_version.NewVersion.{NewVersion}
-use Rattle.site_packs.specs.Committing.{ArePages, IsKept}
+use Rattle.stored_versions.specs.Versions.{IsVersion}
+use Rattle.stored_versions.specs.declared.new_version.NewVersion.{NewVersion}
+use Rattle.stored_versions.specs.Changes.{ArePages, IsKept}
 use Rattle.site_packs.specs.Packs.{has_group}
 
 -- the version that a commit of the instance makes, of this vector and stamp
@@ -29,7 +30,7 @@ pub record CanStore (groups : List ℕ) (copies : List FileCopy) (i : Instance) 
   pub group : has_group groups i.file.group ≡ true
   pub room : length i.work.changed ≤ pack_pages - total (copy_pages i.file.group) copies
   pub low : 1 ≤ i.file.ino
-  pub high : i.file.ino ≤ 1024
+  pub high : i.file.ino ≤ inodes_max
   pub version : IsVersion (version_of i vector stamp) (length i.work.content)
   pub pages : ArePages (pages_of (length i.work.content)) i.work.changed
   pub kept : (page : ℕ) → page < pages_of (length i.work.content) → has_page i.work.changed page ≡ false → IsKept (content_of (row copy_key (file_key i.file) copies)) i.work.content page

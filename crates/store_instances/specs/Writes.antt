@@ -10,7 +10,7 @@ use Rattle.wire_messages.specs.Outboxes.{Outgoing}
 use Rattle.operation_effects.specs.declared.fault.EffectFault.{EffectFault}
 use Rattle.operation_effects.specs.declared.fault.EffectFault.TheVariants as effect
 use Rattle.role_steps.specs.Views.{DiskWrite, Frame}
-use Rattle.role_steps.specs.Storage.{commit_record, copy_made, next_stamp}
+use Rattle.role_steps.specs.Storage.{commit_write, next_stamp}
 use Rattle.role_steps.specs.declared.instances.Instance.{Instance}
 use Rattle.site_packs.specs.declared.faults.CommitFault.{CommitFault}
 use Rattle.site_packs.specs.declared.faults.CommitFault.TheVariants as commit
@@ -49,16 +49,12 @@ disk_answer (Err fault.NoMemory) = Ok tt
 
 -- the write of an instance's working content as the version of this vector
 abbrev pub write_as : Frame → Instance → List ℕ → DiskWrite
-write_as f i vector = record {
-  copy = copy_made i vector (next_stamp f vector);
-  pages = length i.work.changed;
-  says = commit_record f i (next_stamp f vector);
-}
+write_as f i vector = commit_write f i vector (next_stamp f vector)
 
 -- the writes and syncs that it makes
 abbrev pub calls_in : PacksState → List ℕ → Option DiskWrite → ℕ
 calls_in p image None = 0
-calls_in p image (Some w) = calls_of w.pages (is_some (copy_at p image w.copy.file))
+calls_in p image (Some w) = calls_of (length w.pages) (is_some (copy_at p image w.copy.file))
 
 -- what a crash within it may leave
 abbrev pub MayLeave : PacksState → Option DiskWrite → List ℕ → List ℕ → Type 0
@@ -92,7 +88,7 @@ pub record Stopped (write : Option DiskWrite) (p : PacksState) (old new : Moment
 -- what a crash leaves where the disk cuts off the write after so many calls
 abbrev pub IsCutIn : Option DiskWrite → PacksState → Moment → Moment → ℕ → Type 0
 IsCutIn None p old new passed = ⊥
-IsCutIn (Some w) p old new passed = IsCut p w.copy w.pages old.how passed old.seen new.left
+IsCutIn (Some w) p old new passed = IsCut p w.copy (length w.pages) old.how passed old.seen new.left
 
 -- a write that was cut off was of so many pages, and replaced another version or not
 abbrev pub HasSize : ℕ → Bool → StoreFault → Type 0
@@ -110,7 +106,7 @@ IsUncut fault.NoMemory = Unit {0}
 -- where nothing is written nothing is cut off
 abbrev pub HasSizeOf : Option DiskWrite → PacksState → List ℕ → StoreFault → Type 0
 HasSizeOf None p image f = IsUncut f
-HasSizeOf (Some w) p image f = HasSize w.pages (is_some (copy_at p image w.copy.file)) f
+HasSizeOf (Some w) p image f = HasSize (length w.pages) (is_some (copy_at p image w.copy.file)) f
 
 -- what becomes of the disk in a call that makes this write or none
 pub record Writes {T : Type 0} (write : Option DiskWrite) (p : PacksState) (old new : Moment) (before after : Outgoing) (result : Result T StoreFault) : Type 0 where

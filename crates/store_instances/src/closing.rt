@@ -13,6 +13,7 @@ ghost use Rattle.store_instances.specs.Writes.{Writes, write_as};
 
 use crate::{StoreFault, StoreInstance};
 use disk_model::Disk;
+use locus_ids::sizes::SITES;
 use locus_ids::{FileId, NoMemory, Refusal};
 use role_steps::Stage;
 use site_frame::SiteFrame;
@@ -143,7 +144,7 @@ impl StoreInstance {
         frame: &SiteFrame,
         packs: &mut SitePacks,
         disk: &mut D,
-        vector: &Vector<16>,
+        vector: &Vector<SITES>,
         out: &mut Outbox,
     ) -> Result<(), StoreFault>
         requires { Stand packs.old (D.moment disk.old) }

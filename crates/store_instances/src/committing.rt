@@ -9,11 +9,13 @@ ghost use Rattle.site_packs.specs.Copies.{copies_on};
 ghost use Rattle.site_packs.specs.Committing.{MayBeLeft, calls_of};
 ghost use Rattle.site_packs.specs.Cutting.{IsCut};
 ghost use Rattle.site_packs.specs.Packs.{SamePlaces, Stand, copy_at, groups_of};
+ghost use Rattle.file_content.specs.Pages.{ascending};
 ghost use Rattle.store_instances.specs.Fitting.{CanStore};
 ghost use Rattle.store_instances.specs.Writes.{HasSize, TellsWrite, Writes, disk_answer, write_as};
 
 use crate::{StoreFault, StoreInstance};
 use disk_model::Disk;
+use locus_ids::sizes::SITES;
 use locus_ids::{Bytes, ItemList, NoMemory, SiteId, Stamp, Stamps};
 use site_frame::SiteFrame;
 use site_packs::{NewVersion, SitePacks};
@@ -23,7 +25,7 @@ use wire_messages::Outbox;
 
 impl StoreInstance {
     /// The vector of the next version, in which this site's counter is one more, or `None` where it can't rise.
-    pub(crate) fn next_vector(&self, frame: &SiteFrame) -> Option<Vector<16>>
+    pub(crate) fn next_vector(&self, frame: &SiteFrame) -> Option<Vector<SITES>>
         ensures some { IfSome result (λ v. v ≡ next_vector frame.now self.now) }
         ensures risen { IfSome result (λ v. is_spent frame.now self.now ≡ false) }
         ensures none { IfNone result (is_spent frame.now self.now ≡ true) }
@@ -41,7 +43,7 @@ impl StoreInstance {
         frame: &SiteFrame,
         packs: &mut SitePacks,
         disk: &mut D,
-        vector: &Vector<16>,
+        vector: &Vector<SITES>,
         out: &mut Outbox,
     ) -> Result<Stamp, StoreFault>
         requires { Stand packs.old (D.moment disk.old) }
@@ -73,7 +75,7 @@ impl StoreInstance {
         &self,
         packs: &mut SitePacks,
         disk: &mut D,
-        vector: &Vector<16>,
+        vector: &Vector<SITES>,
         stamp: Stamp,
     ) -> Result<(), StoreFault>
         requires { Stand packs.old (D.moment disk.old) }
@@ -82,11 +84,11 @@ impl StoreInstance {
         ensures places { OnOk result (SamePlaces packs.old packs.new) }
         ensures leaves { LeavesOnly (D.moment disk.old) (D.moment disk.new) (MayBeLeft packs.old (copy_made self.now vector.now stamp) (D.moment disk.old).seen) }
         ensures cause { HasCause (D.moment disk.old).faults (D.moment disk.new).faults (disk_answer result) }
-        ensures tells { TellsWrite (calls_of (length self.now.work.changed) (is_some (copy_at packs.old (D.moment disk.old).seen self.now.file))) (D.moment disk.old).passing (D.moment disk.new).passing result }
+        ensures tells { TellsWrite (calls_of (length (ascending self.now.work.changed)) (is_some (copy_at packs.old (D.moment disk.old).seen self.now.file))) (D.moment disk.old).passing (D.moment disk.new).passing result }
         ensures unread { result ≡ Err StoreFault.Disk → (D.moment disk.new).seen ≡ (D.moment disk.old).seen }
         ensures told { (passed : ℕ) → (D.moment disk.old).passing ≡ Exactly passed → result ≡ Err StoreFault.Disk → ⊥ }
-        ensures cut { (passed : ℕ) → (D.moment disk.old).passing ≡ Exactly passed → OnErr (disk_answer result) (IsCut packs.old (copy_made self.now vector.now stamp) (length self.now.work.changed) (D.moment disk.old).how passed (D.moment disk.old).seen (D.moment disk.new).left) }
-        ensures size { IfErr result (HasSize (length self.now.work.changed) (is_some (copy_at packs.old (D.moment disk.old).seen self.now.file))) }
+        ensures cut { (passed : ℕ) → (D.moment disk.old).passing ≡ Exactly passed → OnErr (disk_answer result) (IsCut packs.old (copy_made self.now vector.now stamp) (length (ascending self.now.work.changed)) (D.moment disk.old).how passed (D.moment disk.old).seen (D.moment disk.new).left) }
+        ensures size { IfErr result (HasSize (length (ascending self.now.work.changed)) (is_some (copy_at packs.old (D.moment disk.old).seen self.now.file))) }
         ensures how { (D.moment disk.new).how ≡ (D.moment disk.old).how }
         ensures unfit { result ≡ Err StoreFault.Unfit → CanStore (groups_of packs.old) (copies_on (groups_of packs.old) (D.moment disk.old).seen) self.now vector.now stamp → ⊥ }
     {
@@ -121,7 +123,7 @@ impl StoreInstance {
 }
 
 /// The stamp of the next version.
-fn next_stamp(me: SiteId, vector: &Vector<16>) -> Stamp
+fn next_stamp(me: SiteId, vector: &Vector<SITES>) -> Stamp
     ensures { result ≡ record { site = me; n = slice_index vector.now (me - 1) } }
 {
     let site = me.get();

@@ -3,6 +3,7 @@ ghost use Rattle.role_steps.specs.Storage.{is_open};
 ghost use Rattle.store_instances.specs.Stores.{is_running};
 
 use keyed_tables::{Keyed, serial_key};
+use locus_ids::sizes::SITES;
 use locus_ids::{FileId, Kind, Mode, Serial, SiteId, Sites, Stamp, Stamps};
 use operation_effects::OpenWork;
 use role_steps::Stage;
@@ -11,7 +12,7 @@ use trace_book::Outcome;
 use version_vector::Vector;
 
 /// An open instance at its storage site, whose working content is in memory. Contracts see it as an `Instance`.
-#[derive(Debug, Drop)]
+#[derive(Drop)]
 pub struct StoreInstance {
     /// The using site.
     pub(crate) us: SiteId,
@@ -21,7 +22,7 @@ pub struct StoreInstance {
     pub(crate) set: Sites,
     pub(crate) kind: Kind,
     /// The vector on which its next version stands, and that version's parents.
-    pub(crate) vector: Vector<16>,
+    pub(crate) vector: Vector<SITES>,
     pub(crate) parents: Stamps,
     /// The size at its opening, in bytes.
     pub(crate) size: u32,

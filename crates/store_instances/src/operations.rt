@@ -17,6 +17,7 @@ ghost use Rattle.store_instances.specs.Writes.{Writes, disk_answer, write_as};
 
 use crate::{StoreFault, StoreInstance};
 use disk_model::Disk;
+use locus_ids::sizes::SITES;
 use locus_ids::{Bytes, NoMemory, Refusal};
 use operation_effects::{MendingWork, operate};
 use site_frame::SiteFrame;
@@ -35,7 +36,7 @@ impl StoreInstance {
         disk: &mut D,
         n: u32,
         op: &Op,
-        seen: &Vector<16>,
+        seen: &Vector<SITES>,
         mending: &MendingWork,
         free: u16,
         out: &mut Outbox,
@@ -81,7 +82,7 @@ impl StoreInstance {
         &mut self,
         frame: &SiteFrame,
         op: &Op,
-        seen: &Vector<16>,
+        seen: &Vector<SITES>,
         mending: &MendingWork,
         free: u16,
         out: &mut Outbox,
@@ -143,7 +144,7 @@ impl StoreInstance {
         frame: &SiteFrame,
         packs: &mut SitePacks,
         disk: &mut D,
-        vector: &Vector<16>,
+        vector: &Vector<SITES>,
         out: &mut Outbox,
     ) -> Result<(), StoreFault>
         requires stands { Stand packs.old (D.moment disk.old) }

@@ -1,9 +1,10 @@
+use locus_ids::sizes::SITES;
 use locus_ids::{FileId, Kind, Mode, Serial, Sites, Stamp, Stamps};
 use std::marker::Model;
 use version_vector::Vector;
 
 /// What a synchronization site asks of a storage site for an open.
-#[derive(Debug, Drop)]
+#[derive(Drop)]
 pub struct StoreRequest {
     pub inst: Serial,
     /// The file; of one that is made the group alone counts.
@@ -14,7 +15,7 @@ pub struct StoreRequest {
     /// The version that it begins from.
     pub base: Stamp,
     /// The vector on which its next version stands, and that version's parents.
-    pub vector: Vector<16>,
+    pub vector: Vector<SITES>,
     pub parents: Stamps,
 }
 

@@ -2,12 +2,15 @@
 use Rattle.std.proofs.Common.{◌≡◌, ℕ, ◌<◌, ◌==◌, Bool, true, false, cond, ◌&&◌, List, [], ◌∷◌, length, take, Option, Some, None, refl, sym, ◌∙◌, ap, subst, inl, inr}
 use Rattle.std.specs.List.{list_any}
 use Rattle.std.specs.Option.{option_map}
+use Rattle.role_steps.proofs.of_plain_facts.Numbers.{equal, equal_self}
+use Rattle.role_steps.proofs.of_plain_facts.Tests.{and_true, true_false}
 use Rattle.locus_ids.specs.declared.config.Config.{Config}
 use Rattle.locus_ids.specs.declared.ids.EpochId.{EpochId}
 use Rattle.locus_ids.specs.declared.ids.FileId.{FileId}
 use Rattle.locus_ids.specs.declared.ids.Stamp.{Stamp}
 use Rattle.locus_ids.specs.declared.sites.Sites.{Sites}
 use Rattle.locus_ids.specs.Sites.{has}
+use Rattle.locus_ids.specs.Sizes.{inode_span}
 use Rattle.commit_graph.specs.Vectors.{vector_of}
 use Rattle.commit_graph.specs.Versions.{same_file}
 use Rattle.wire_messages.specs.declared.body.Body.TheVariants as body
@@ -36,14 +39,14 @@ use Rattle.tree_laws.specs.Stores.{CopiesAreHeld, InstanceFact, PullFact, copy_f
 use Rattle.tree_laws.proofs.Boots.{every_both}
 use Rattle.tree_laws.proofs.CarriedVersions.{same_version_of}
 use Rattle.tree_laws.proofs.Kinship.{started_stays, tree_group_is}
-use Rattle.tree_laws.proofs.Names.{true_false, test_same, test_own, same_epoch_own}
+use Rattle.tree_laws.proofs.Names.{same_epoch_own}
 use Rattle.tree_laws.proofs.Owing.{inside_is}
 use Rattle.tree_laws.proofs.Rows.{followed_rows}
 use Rattle.tree_laws.proofs.Versions.{versions_stay}
-use Rattle.order_laws.specs.Joining.{PacksAreOfSites}
-use Rattle.order_laws.proofs.Standing.{same_file_eq}
+use Rattle.sync_laws.specs.of_order_laws.Joining.{PacksAreOfSites}
+use Rattle.sync_laws.proofs.of_order_laws.Standing.{same_file_eq}
 use Rattle.store_laws.specs.Rests.{AdoptRests, StoreRests}
-use Rattle.store_laws.proofs.Commits.{both_of, file_own, keys_same, put_found}
+use Rattle.store_laws.proofs.Commits.{file_own, keys_same, put_found}
 use Rattle.store_laws.proofs.Holding.{held_stands, versions_same}
 use Rattle.store_laws.proofs.Pulls.{own_ancestor}
 use Rattle.store_laws.proofs.Staying.{has_more, instance_more}
@@ -74,14 +77,14 @@ module _ (c : Config) (n : ℕ) (trace : List Line) (few : PacksAreOfSites c) (h
   stands : Stands c trace p.file p.stamp
   stands = subst (λ (y : Stamp). Stands c trace p.file y) k.stamp_is k.is_version.stands
 
-  narrow : p.file.ino < 65536
+  narrow : p.file.ino < inode_span
   narrow = rests.narrow p.file p.stamp stands
 
   version_is : k.version ≡ version_of c (entries trace) p.file p.stamp
   version_is = k.is_version.same ∙ ap (version_of c (entries trace) p.file) k.stamp_is
 
   content_is : p.content ≡ k.version.content
-  content_is = k.pages ∙ (ap (λ (m : ℕ). take m k.version.content) (test_same (length p.content) p.size complete ∙ sym k.size_is) ∙ take_whole k.version.content)
+  content_is = k.pages ∙ (ap (λ (m : ℕ). take m k.version.content) (equal (length p.content) p.size complete ∙ sym k.size_is) ∙ take_whole k.version.content)
 
   vector_same : p.vector ≡ vector_of (history c (entries trace)) p.file p.stamp
   vector_same = sym k.vector_is ∙ ap (λ (v : HeldVersion). v.vector) version_is
@@ -121,11 +124,11 @@ module _ (c : Config) (n : ℕ) (trace : List Line) (few : PacksAreOfSites c) (h
   has_adopted = record { now = p.stamp; held = held_now; above = own_ancestor (history c (entries after)) p.file p.stamp }
     where
       group_test : (p.file.group == tree.group) ≡ true
-      group_test = subst (λ (g : ℕ). (p.file.group == g) ≡ true) (sym (tree_group_is c f.epoch p.file.group (entries trace))) (test_own p.file.group)
+      group_test = subst (λ (g : ℕ). (p.file.group == g) ≡ true) (sym (tree_group_is c f.epoch p.file.group (entries trace))) (equal_self p.file.group)
 
       held_now : held_in c (entries after) f.epoch f.me p.file ≡ Some p.stamp
       held_now = ap (λ (b : Bool). held_of (copy_of_site (cond b (with_held (copy_now tree f.me p.file.ino p.stamp) tree.copies) tree.copies) f.me p.file.ino)) group_test
-          ∙ (ap held_of (put_found (is_copy_of f.me p.file.ino) (copy_now tree f.me p.file.ino p.stamp) tree.copies (both_of (f.me == f.me) (p.file.ino == p.file.ino) (test_own f.me) (test_own p.file.ino)))
+          ∙ (ap held_of (put_found (is_copy_of f.me p.file.ino) (copy_now tree f.me p.file.ino p.stamp) tree.copies (and_true (f.me == f.me) (p.file.ino == p.file.ino) (equal_self f.me) (equal_self p.file.ino)))
           ∙ ap (λ (b : Bool). cond b (Some p.stamp) (held_at tree f.me p.file.ino)) inside)
 
   pub adopted_sent : Every (PacketFact c after) (to_sync f p.file.group (body.Have p.file p.stamp))
@@ -159,9 +162,9 @@ module _ (c : Config) (n : ℕ) (trace : List Line) (few : PacksAreOfSites c) (h
         (row_same copy_key (copy_adopted p) s.copies ∙ (ap Some copy_is ∙ sym (ap (λ (o : Option Stamp). option_map (copy_for p.file) (option_map (version_of c (entries after) p.file) o)) held_own)))
       where
         held_own : held c (entries after) f.me p.file ≡ Some p.stamp
-        held_own = ap (λ (b : Bool). cond b (Some p.stamp) (held c (entries trace) f.me p.file)) (both_of (same_file p.file p.file) (f.me == f.me) (file_own p.file) (test_own f.me))
+        held_own = ap (λ (b : Bool). cond b (Some p.stamp) (held c (entries trace) f.me p.file)) (and_true (same_file p.file p.file) (f.me == f.me) (file_own p.file) (equal_self f.me))
 
-    other_copy : (g : FileId) → g.ino < 65536 → same_file p.file g ≡ false → copy_of (with_copy (copy_adopted p) s) g ≡ option_map (copy_for g) (held_version c (entries after) f.me g)
+    other_copy : (g : FileId) → g.ino < inode_span → same_file p.file g ≡ false → copy_of (with_copy (copy_adopted p) s) g ≡ option_map (copy_for g) (held_version c (entries after) f.me g)
     other_copy g low other = row_other copy_key (copy_adopted p) (file_key g) s.copies (λ e. true_false (sym (keys_same p.file g narrow low e) ∙ other))
         ∙ (kept.copies.are g low ∙ sym (ap (λ (o : Option Stamp). option_map (copy_for g) (option_map (version_of c (entries after) g) o)) held_other ∙ versions_same c trace after versions g (held c (entries trace) f.me g) (λ t e. held_stands c (entries trace) (followed_rows c trace h) f.me g t e)))
       where
@@ -171,7 +174,7 @@ module _ (c : Config) (n : ℕ) (trace : List Line) (few : PacksAreOfSites c) (h
     copies_adopted : CopiesAreHeld c after f.me (with_copy (copy_adopted p) s)
     copies_adopted = record { are = λ g low. over g low (same_file p.file g) refl; ascends = ascends_row copy_key (copy_adopted p) s.copies kept.copies.ascends }
       where
-        over : (g : FileId) → g.ino < 65536 → (b : Bool) → same_file p.file g ≡ b → copy_of (with_copy (copy_adopted p) s) g ≡ option_map (copy_for g) (held_version c (entries after) f.me g)
+        over : (g : FileId) → g.ino < inode_span → (b : Bool) → same_file p.file g ≡ b → copy_of (with_copy (copy_adopted p) s) g ≡ option_map (copy_for g) (held_version c (entries after) f.me g)
         over g low true e = own_copy g (same_file_eq p.file g e)
         over g low false e = other_copy g low e
 

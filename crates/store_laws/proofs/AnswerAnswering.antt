@@ -1,6 +1,7 @@
 -- An operation that was done under the number that is asked now, and the close of an instance that was released, is answered by what
 -- waits for the call that asks it.
 use Rattle.std.proofs.Common.{◌≡◌, ℕ, ◌+◌, ◌≤◌, List, [], ◌∷◌, ◌++◌, Option, Some, true, refl, sym, ◌∙◌, ap, subst, arith, ◌⊎◌, inl, inr}
+use Rattle.role_steps.proofs.of_plain_facts.Options.{some_same}
 use Rattle.locus_ids.specs.declared.config.Config.{Config}
 use Rattle.locus_ids.specs.declared.ids.CallId.{CallId}
 use Rattle.locus_ids.specs.declared.ids.EpochId.{EpochId}
@@ -37,20 +38,16 @@ use Rattle.tree_laws.proofs.Alone.{asking}
 use Rattle.tree_laws.proofs.Asking.{Same, StepOf, StepRecord, Turns, same_told, waits_stays}
 use Rattle.tree_laws.proofs.Awaiting.{all_have, by_owner, held_named, IsHeldBy, turn_clear}
 use Rattle.tree_laws.proofs.CarriedOpens.{was_then}
-use Rattle.tree_laws.proofs.Names.{some_is}
 use Rattle.tree_laws.proofs.OneBoot.{boot_where_inside, one_boot}
-use Rattle.order_laws.specs.ProcessOperations.{OpsAre}
-use Rattle.order_laws.proofs.ProcessCounted.{ActsRecord, step_acts}
-use Rattle.order_laws.proofs.ProcessGranting.{GrantIs, granted_is, held_us}
-use Rattle.order_laws.proofs.ProcessOpen.{granted_open, OpenAs}
-use Rattle.order_laws.proofs.ProcessOperationsRun.{operations_counted}
-use Rattle.order_laws.proofs.ProcessTaken.{back_in}
-use Rattle.order_laws.proofs.ProcessUnreleased.{unreleased}
+use Rattle.sync_laws.specs.of_order_laws.ProcessOperations.{OpsAre}
+use Rattle.sync_laws.proofs.of_order_laws.ProcessCounted.{ActsRecord, step_acts}
+use Rattle.sync_laws.proofs.of_order_laws.ProcessGranting.{GrantIs, granted_is, held_us}
+use Rattle.sync_laws.proofs.of_order_laws.ProcessOpen.{granted_open, OpenAs}
+use Rattle.sync_laws.proofs.of_order_laws.ProcessOperationsRun.{operations_counted}
+use Rattle.sync_laws.proofs.of_order_laws.ProcessTaken.{back_in}
+use Rattle.sync_laws.proofs.of_order_laws.ProcessUnreleased.{unreleased}
 use Rattle.store_laws.proofs.AnswerAskers.{With, close_had, one_has, op_had, Rests, rests_or_clear}
 use Rattle.store_laws.proofs.AnswerDone.{act_next, done_low, done_named, open_before, ops_rise}
-
-do_is : (i j : Serial) (o p : Op) → want.Do i o ≡ want.Do j p → i ≡ j
-do_is i j o p e = cc
 
 do_not_close : (i j : Serial) (o : Op) → want.Do i o ≡ want.Close j → ⊥
 do_not_close i j o e = cc
@@ -59,10 +56,10 @@ do_not_close i j o e = cc
 
 -- the call whose operation is told is one of the epoch
 pub acter_in : (c : Config) (older : List Line) (e : EpochId) (i : Serial) (n : ℕ) (o : Op) (r : Outcome) (may : MayTell c older (Shown (says.Act e i n o r))) → IsCallIn (entries older) e may.in_time.call
-acter_in c older e i n o r may = subst (IsCallIn (entries older) e) (some_is may.row.step.call may.in_time.call (sym may.row.step.owned ∙ may.in_time.owner)) may.row.step.step
+acter_in c older e i n o r may = subst (IsCallIn (entries older) e) (some_same may.row.step.call may.in_time.call (sym may.row.step.owned ∙ may.in_time.owner)) may.row.step.step
 
 pub releaser_in : (c : Config) (older : List Line) (e : EpochId) (i : Serial) (f : FileId) (s : Option Stamp) (may : MayTell c older (Shown (says.Release e i f s))) → IsCallIn (entries older) e may.in_time.call
-releaser_in c older e i f s may = subst (IsCallIn (entries older) e) (some_is may.row.step.call may.in_time.call (sym may.row.step.owned ∙ may.in_time.owner)) may.row.step.step
+releaser_in c older e i f s may = subst (IsCallIn (entries older) e) (some_same may.row.step.call may.in_time.call (sym may.row.step.owned ∙ may.in_time.owner)) may.row.step.step
 
 -- the call that has the instance and asks something is the one whose operation of it is told
 acts_of : (c : Config) (older : List Line) (e : EpochId) (i : Serial) (n : ℕ) (o : Op) (r : Outcome) → IsFollowed c older → (may : MayTell c older (Shown (says.Act e i n o r))) → (d : CallId) → IsCallIn (entries older) e d → is_request (asked_now c older d) ≡ true → has_instances c older d i ≡ true → d ≡ may.in_time.call
@@ -103,8 +100,8 @@ step_asks : (c : Config) (older : List Line) (r : Record) (d : CallId) → MayTe
 step_asks c older (says.Look e call request f w result) d m step = subst (λ (y : CallId). heard c older y ≡ log older y) step m.in_time.asks.nothing_waits
 step_asks c older (says.Grant e call request i mode f stamp ss) d m step = subst (λ (y : CallId). heard c older y ≡ log older y) step m.in_time.opens.asks.asks.nothing_waits
 step_asks c older (says.Refuse e call request i mode f why) d m step = subst (λ (y : CallId). heard c older y ≡ log older y) step m.in_time.opens.asks.asks.nothing_waits
-step_asks c older (says.Act e i n o result) d m step = subst (λ (y : CallId). heard c older y ≡ log older y) (some_is m.in_time.call d (sym m.in_time.owner ∙ step)) m.in_time.asks.nothing_waits
-step_asks c older (says.Release e i f stamp) d m step = subst (λ (y : CallId). heard c older y ≡ log older y) (some_is m.in_time.call d (sym m.in_time.owner ∙ step)) m.in_time.asks.nothing_waits
+step_asks c older (says.Act e i n o result) d m step = subst (λ (y : CallId). heard c older y ≡ log older y) (some_same m.in_time.call d (sym m.in_time.owner ∙ step)) m.in_time.asks.nothing_waits
+step_asks c older (says.Release e i f stamp) d m step = subst (λ (y : CallId). heard c older y ≡ log older y) (some_same m.in_time.call d (sym m.in_time.owner ∙ step)) m.in_time.asks.nothing_waits
 step_asks c older _ d m step = absurd step
 
 module _ (c : Config) (n : ℕ) (x : Told) (older : List Line) (h : IsFollowed c older) (may : MayTell c older x) (e : EpochId) (d : CallId) (i : Serial) (o : Op) (inside : IsCallIn (entries older) e d) (asked : asked_now c older d ≡ want.Do i o) where

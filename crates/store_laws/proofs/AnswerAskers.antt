@@ -1,6 +1,8 @@
 -- Who asks something of an instance is one call of its epoch at a time; and a line at which a call neither is accepted nor turns
 -- leaves what it asks.
 use Rattle.std.proofs.Common.{◌≡◌, ℕ, List, ◌∷◌, Some, true, sym, ◌∙◌, subst, ◌⊎◌, inl, inr}
+use Rattle.role_steps.proofs.of_plain_facts.Options.{some_same}
+use Rattle.role_steps.proofs.of_plain_facts.Tests.{true_false}
 use Rattle.locus_ids.specs.declared.config.Config.{Config}
 use Rattle.locus_ids.specs.declared.ids.CallId.{CallId}
 use Rattle.locus_ids.specs.declared.ids.EpochId.{EpochId}
@@ -27,12 +29,11 @@ use Rattle.tree_laws.proofs.Awaiting.{named_before, turn_clear}
 use Rattle.tree_laws.proofs.Counting.{asked_same}
 use Rattle.tree_laws.proofs.Descriptors.{IsUser}
 use Rattle.tree_laws.proofs.Fresh.{IsNamed}
-use Rattle.tree_laws.proofs.Names.{true_false, some_is}
 use Rattle.tree_laws.proofs.OfOwn.{asks_of_own}
-use Rattle.order_laws.proofs.ProcessBegun.{comes_from}
-use Rattle.order_laws.proofs.ProcessCurrent.{same_or_turns}
-use Rattle.order_laws.proofs.ProcessHad.{begun_user}
-use Rattle.order_laws.proofs.ProcessOperations.{accept_turn}
+use Rattle.sync_laws.proofs.of_order_laws.ProcessBegun.{comes_from}
+use Rattle.sync_laws.proofs.of_order_laws.ProcessCurrent.{same_or_turns}
+use Rattle.sync_laws.proofs.of_order_laws.ProcessHad.{begun_user}
+use Rattle.sync_laws.proofs.of_order_laws.ProcessOperations.{accept_turn}
 
 abbrev pub With : ℕ → Told → List Line → List Line
 With n x older = record { number = n; told = x } ∷ older
@@ -54,10 +55,10 @@ one_has c t e i d other h inside within asks others has had = over (comes_from c
   where
     -- who was granted it asks nothing more, once a descriptor has named it
     mixed : (k user : CallId) → is_request (asked_now c t k) ≡ true → granted_to (entries t) e i ≡ Some k → IsUser (entries t) e i user → ⊥
-    mixed k user asks g u = true_false (sym (subst (λ (z : CallId). has_named (entries t) z ≡ true) (some_is u.for.granted k (sym u.for.is_granted ∙ g)) u.for.answered) ∙ asker_unnamed c t k h asks)
+    mixed k user asks g u = true_false (sym (subst (λ (z : CallId). has_named (entries t) z ≡ true) (some_same u.for.granted k (sym u.for.is_granted ∙ g)) u.for.answered) ∙ asker_unnamed c t k h asks)
 
     over : (granted_to (entries t) e i ≡ Some d) ⊎ (begun (entries t) d ≡ Some (begins.Uses e i)) → (granted_to (entries t) e i ≡ Some other) ⊎ (begun (entries t) other ≡ Some (begins.Uses e i)) → d ≡ other
-    over (inl x) (inl y) = some_is d other (sym x ∙ y)
+    over (inl x) (inl y) = some_same d other (sym x ∙ y)
     over (inl x) (inr y) = absurd (mixed d other asks x (begun_user c t e i other h within y))
     over (inr x) (inl y) = absurd (mixed other d others y (begun_user c t e i d h inside x))
     over (inr x) (inr y) = one_asks c t e i d other h (begun_user c t e i d h inside x) (begun_user c t e i other h within y) asks others

@@ -1,5 +1,8 @@
 -- Operations are done on an open instance one after another, up to its number.
 use Rattle.std.proofs.Common.{◌≡◌, ℕ, ◌+◌, ◌==◌, ◌≤◌, Bool, true, false, ◌&&◌, List, [], ◌∷◌, Option, Some, refl, sym, ◌∙◌, ap, subst, arith, ◌⊎◌, inl, inr}
+use Rattle.role_steps.proofs.of_plain_facts.Numbers.{equal}
+use Rattle.role_steps.proofs.of_plain_facts.Options.{some_same}
+use Rattle.role_steps.proofs.of_plain_facts.Tests.{true_false}
 use Rattle.locus_ids.specs.declared.config.Config.{Config}
 use Rattle.locus_ids.specs.declared.ids.EpochId.{EpochId}
 use Rattle.locus_ids.specs.declared.ids.Serial.{Serial}
@@ -25,13 +28,12 @@ use Rattle.tree_laws.specs.Instances.{instance_now}
 use Rattle.tree_laws.specs.Past.{ActRecord, Printed, WasDone, WasNamed}
 use Rattle.tree_laws.proofs.Grants.{before_record, Had, open_named}
 use Rattle.tree_laws.proofs.Kinship.{Ends, GoesOnTold, open_stays, StaysOpen, tree_epoch_is}
-use Rattle.tree_laws.proofs.Names.{some_is, test_same, true_false}
 use Rattle.tree_laws.proofs.Opened.{ActsOn, CommitsOn, found_named, GrantsIt}
 use Rattle.tree_laws.proofs.Owing.{found_every}
 use Rattle.tree_laws.proofs.Seeing.{are_granted}
-use Rattle.order_laws.proofs.ProcessCounted.{acted_more, acts_now}
-use Rattle.holding_laws.proofs.Distinct.{open_now}
-use Rattle.holding_laws.proofs.Released.{released_shut}
+use Rattle.sync_laws.proofs.of_order_laws.ProcessCounted.{acted_more, acts_now}
+use Rattle.user_laws.proofs.of_holding_laws.Distinct.{open_now}
+use Rattle.user_laws.proofs.of_holding_laws.Released.{released_shut}
 use Rattle.store_laws.proofs.AnswerAskers.{With}
 
 -- what is open in a tree was granted to its call
@@ -54,7 +56,7 @@ pub act_next : (h : List Version) (t : TreeState) (i : Serial) (n : ℕ) (o : Op
 act_next h t i n o r x found gives = first (n == x.work.ops + 1) (is_given (result_on h t o x) r) refl (subst (λ (z : Option Instance). instance_gives h t n o r z ≡ true) found gives)
   where
     first : (a b : Bool) → (n == x.work.ops + 1) ≡ a → a && b ≡ true → n ≡ x.work.ops + 1
-    first true b k both = test_same n (x.work.ops + 1) k
+    first true b k both = equal n (x.work.ops + 1) k
     first false b k both = absurd (true_false (sym both))
 
 -- an instance that was named and is open was open before the line
@@ -97,7 +99,7 @@ ops_rise c n x older h may e i old new named was found = over (open_stays c olde
     ended _ m k end = absurd end
 
     over : StaysOpen c older n x e i old ⊎ Ends e i x → old.work.ops ≤ new.work.ops
-    over (inl s) = subst (λ (y : Instance). old.work.ops ≤ y.work.ops) (some_is s.new new (sym s.found ∙ found)) (ops_go c older e i old s.new x s.goes)
+    over (inl s) = subst (λ (y : Instance). old.work.ops ≤ y.work.ops) (some_same s.new new (sym s.found ∙ found)) (ops_go c older e i old s.new x s.goes)
     over (inr end) = absurd (ended x may found end)
 
 -- what was done on an open instance has a number up to that of its operations
@@ -111,7 +113,7 @@ done_low c (y ∷ older) h e i number o r x (inl k) found = over y.told h.0 k fo
   where
     over : (z : Told) → MayTell c older z → Printed (ActRecord e i number o r) older z → instance_now c (With y.number z older) e i ≡ Some x → number ≤ x.work.ops
     over (Shown (says.Act at inst n what gave)) may p found = last n p.number_is (act_next (history c (entries older)) t inst n what gave may.in_time.at may.in_time.open_at.found may.row.gives)
-        (ap (λ (z : Instance). z.work.ops) (some_is x _ (sym there ∙ acts_now c y.number older at inst n what gave may.in_time.at.grant.call may.in_time.at h.1 (open_grant c older h.1 at (granted_group (entries older) at inst) inst may.in_time.at may.in_time.open_at.found) may.in_time.open_at.found)) ∙ acted_more (history c (entries older)) t what gave may.in_time.at)
+        (ap (λ (z : Instance). z.work.ops) (some_same x _ (sym there ∙ acts_now c y.number older at inst n what gave may.in_time.at.grant.call may.in_time.at h.1 (open_grant c older h.1 at (granted_group (entries older) at inst) inst may.in_time.at may.in_time.open_at.found) may.in_time.open_at.found)) ∙ acted_more (history c (entries older)) t what gave may.in_time.at)
       where
         t : TreeState
         t = tree_of c at (granted_group (entries older) at inst) (entries older)

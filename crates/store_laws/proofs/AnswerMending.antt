@@ -1,5 +1,7 @@
 -- While a mend asks its open, what is kept of the directory is what was kept when it was granted: so its answer tells what is kept.
 use Rattle.std.proofs.Common.{◌≡◌, ℕ, ◌+◌, ◌≤◌, Bool, true, false, cond, List, [], ◌∷◌, ◌++◌, Option, Some, length, refl, sym, ◌∙◌, ap, subst, arith, length-append, ◌⊎◌, inl, inr}
+use Rattle.role_steps.proofs.of_plain_facts.Options.{some_same}
+use Rattle.role_steps.proofs.of_plain_facts.Tests.{and_first, true_false}
 use Rattle.locus_ids.specs.declared.config.Config.{Config}
 use Rattle.locus_ids.specs.declared.ids.CallId.{CallId}
 use Rattle.locus_ids.specs.declared.ids.EpochId.{EpochId}
@@ -32,24 +34,23 @@ use Rattle.tree_laws.proofs.Answered.{asker_unnamed}
 use Rattle.tree_laws.proofs.Awaiting.{by_own}
 use Rattle.tree_laws.proofs.Counting.{asked_same, Opens}
 use Rattle.tree_laws.proofs.Descriptors.{IsUser}
-use Rattle.tree_laws.proofs.Names.{true_false, some_is, same_call_own}
+use Rattle.tree_laws.proofs.Names.{same_call_own}
 use Rattle.tree_laws.proofs.Rows.{followed_rows}
 use Rattle.tree_laws.proofs.Scripts.{in_stays}
 use Rattle.tree_laws.proofs.Serials.{asks_opens}
-use Rattle.order_laws.proofs.ProcessBegun.{comes_from}
-use Rattle.order_laws.proofs.ProcessCurrent.{same_or_turns}
-use Rattle.order_laws.proofs.ProcessGranting.{released_named}
-use Rattle.order_laws.proofs.ProcessHad.{begun_user}
-use Rattle.order_laws.proofs.ProcessOpen.{granted_open, OpenAs}
-use Rattle.order_laws.specs.Joining.{PacksAreOfSites}
-use Rattle.order_laws.specs.Keeping.{PassesBy}
-use Rattle.order_laws.proofs.Alone.{first_of}
-use Rattle.order_laws.proofs.Keeping.{IsNew, kept_by}
-use Rattle.holding_laws.specs.Below.{LawsBelow}
-use Rattle.holding_laws.proofs.Begun.{open_in_group}
-use Rattle.holding_laws.proofs.Below.{commits_new, laws_before}
-use Rattle.holding_laws.proofs.Kept.{open_keeps}
-use Rattle.holding_laws.proofs.Made.{CommitsAreNew}
+use Rattle.sync_laws.proofs.of_order_laws.ProcessBegun.{comes_from}
+use Rattle.sync_laws.proofs.of_order_laws.ProcessCurrent.{same_or_turns}
+use Rattle.sync_laws.proofs.of_order_laws.ProcessGranting.{released_named}
+use Rattle.sync_laws.proofs.of_order_laws.ProcessHad.{begun_user}
+use Rattle.sync_laws.proofs.of_order_laws.ProcessOpen.{granted_open, OpenAs}
+use Rattle.sync_laws.specs.of_order_laws.Joining.{PacksAreOfSites}
+use Rattle.sync_laws.specs.of_order_laws.Keeping.{PassesBy}
+use Rattle.sync_laws.proofs.of_order_laws.Keeping.{IsNew, kept_by}
+use Rattle.user_laws.specs.of_holding_laws.Below.{LawsBelow}
+use Rattle.user_laws.proofs.of_holding_laws.Begun.{open_in_group}
+use Rattle.user_laws.proofs.of_holding_laws.Below.{commits_new, laws_before}
+use Rattle.user_laws.proofs.of_holding_laws.Kept.{open_keeps}
+use Rattle.user_laws.proofs.of_holding_laws.Made.{CommitsAreNew}
 use Rattle.store_laws.proofs.AnswerAnswering.{releaser_in}
 use Rattle.store_laws.proofs.AnswerAskers.{close_had, With}
 use Rattle.store_laws.proofs.AnswerDone.{open_grant}
@@ -107,7 +108,7 @@ come_now c n (Shown (says.Grant at call number inst md file on place)) older few
 
     started : (tree_of c e f.group (entries older)).started ≡ true
     started = subst (λ (g : FileId). (tree_of c e g.group (entries older)).started ≡ true) p.file_is (subst (λ (z : EpochId). (tree_of c z file.group (entries older)).started ≡ true) p.epoch_is
-        (first_of (tree_of c at file.group (entries older)).started _ may.row.gives))
+        (and_first (tree_of c at file.group (entries older)).started _ may.row.gives))
 
     kept : kept_in c (entries (With n (Shown r) older)) e f ≡ kept_in c (entries older) e f
     kept = kept_by c (entries older) few (followed_rows c older h) e f started n r may.row tt tt
@@ -151,9 +152,9 @@ module _ (c : Config) (n : ℕ) (x : Told) (older : List Line) (few : PacksAreOf
           (open_grant c older h e (granted_group (entries older) e i) i opened.at opened.found ∙ ap Some opened.call_is))
 
       over : (granted_to (entries older) at inst ≡ Some m.in_time.call) ⊎ (begun (entries older) m.in_time.call ≡ Some (begins.Uses at inst)) → ⊥
-      over (inl own) = not_longer (heard c older d) (log older d) _ (subst (λ (z : CallId). heard c older z ≡ log older z) (some_is m.in_time.call d (sym own ∙ granted)) m.in_time.asks.nothing_waits) k.waits
+      over (inl own) = not_longer (heard c older d) (log older d) _ (subst (λ (z : CallId). heard c older z ≡ log older z) (some_same m.in_time.call d (sym own ∙ granted)) m.in_time.asks.nothing_waits) k.waits
       over (inr b) = (let u : IsUser (entries older) at inst m.in_time.call = begun_user c older at inst m.in_time.call h it b in
-          true_false (sym (subst (λ (z : CallId). has_named (entries older) z ≡ true) (some_is u.for.granted d (sym u.for.is_granted ∙ granted)) u.for.answered) ∙ asker_unnamed c older d h (opens_request (asked_now c older d) k.opens)))
+          true_false (sym (subst (λ (z : CallId). has_named (entries older) z ≡ true) (some_same u.for.granted d (sym u.for.is_granted ∙ granted)) u.for.answered) ∙ asker_unnamed c older d h (opens_request (asked_now c older d) k.opens)))
   unended _ m k p = absurd p
 
   -- so what is kept of the file stays

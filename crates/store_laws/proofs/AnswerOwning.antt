@@ -3,6 +3,9 @@
 use Rattle.std.proofs.Common.{◌≡◌, ℕ, ◌+◌, ◌==◌, Bool, true, false, not, cond, ◌&&◌, ◌||◌, List, [], ◌∷◌, ◌++◌, Option, Some, None, length, refl, sym, ◌∙◌, ap, subst, arith, suc, ◌⊎◌, inl, inr}
 use Rattle.std.proofs.lemmas.Bool.Decides.{nat_tests}
 use Rattle.std.specs.Prelude.{nat_lt}
+use Rattle.role_steps.proofs.of_plain_facts.Numbers.{equal, equal_self}
+use Rattle.role_steps.proofs.of_plain_facts.Options.{none_some, some_same}
+use Rattle.role_steps.proofs.of_plain_facts.Tests.{true_false}
 use Rattle.locus_ids.specs.declared.config.Config.{Config}
 use Rattle.locus_ids.specs.declared.ids.CallId.{CallId}
 use Rattle.locus_ids.specs.declared.ids.EpochId.{EpochId}
@@ -45,24 +48,21 @@ use Rattle.tree_laws.proofs.Counting.{IsNow}
 use Rattle.tree_laws.proofs.Descriptors.{are_users, IsUser, uses_from, uses_is}
 use Rattle.tree_laws.proofs.Fresh.{calls_are_low, IsNamed, next_is_new, numbered}
 use Rattle.tree_laws.proofs.Having.{named_or_untaken, Untaken}
-use Rattle.tree_laws.proofs.Names.{true_false, some_is, test_own, test_same, same_call_eq, same_call_own, same_epoch_own, same_serial_own}
+use Rattle.tree_laws.proofs.Names.{same_call_eq, same_call_own, same_epoch_own, same_serial_own}
 use Rattle.tree_laws.proofs.OneBoot.{boot_where_inside, one_boot}
 use Rattle.tree_laws.proofs.Owners.{granted_named}
 use Rattle.tree_laws.proofs.Scripts.{named_stays}
 use Rattle.tree_laws.proofs.Serials.{asks_opens}
-use Rattle.order_laws.proofs.ProcessBegun.{asked_fits, comes_from, Fits}
-use Rattle.order_laws.proofs.ProcessGranting.{GrantIs, granted_is, held_us, user_us}
-use Rattle.order_laws.proofs.ProcessHad.{begun_user}
-use Rattle.order_laws.proofs.ProcessOnce.{counts_up, granted_split, GrantsNow, one_epoch_of}
-use Rattle.order_laws.proofs.ProcessOperations.{accept_turn, IsTurn, op_is, take_turn}
-use Rattle.order_laws.proofs.ProcessOwner.{owner_act}
+use Rattle.sync_laws.proofs.of_order_laws.ProcessBegun.{asked_fits, comes_from, Fits}
+use Rattle.sync_laws.proofs.of_order_laws.ProcessGranting.{GrantIs, granted_is, held_us, user_us}
+use Rattle.sync_laws.proofs.of_order_laws.ProcessHad.{begun_user}
+use Rattle.sync_laws.proofs.of_order_laws.ProcessOnce.{counts_up, granted_split, GrantsNow, one_epoch_of}
+use Rattle.sync_laws.proofs.of_order_laws.ProcessOperations.{accept_turn, IsTurn, op_is, take_turn}
+use Rattle.sync_laws.proofs.of_order_laws.ProcessOwner.{owner_act}
 use Rattle.store_laws.proofs.ScriptNaming.{named_opens, Opens}
 use Rattle.store_laws.proofs.AnswerAskers.{With, op_had}
 use Rattle.store_laws.proofs.AnswerScripting.{AsksNoOp, opener_no_op, script_is, use_asks, user_no_more}
 use Rattle.store_laws.proofs.AnswerUnasked.{boot_unasked, opens_request}
-
-none_some : {A : Type 0} (a : A) → ◌≡◌ {A = Option A} None (Some a) → ⊥
-none_some a e = cc
 
 -- ---- what was granted to a call is its opening ----
 
@@ -81,7 +81,7 @@ granted_opens c (y ∷ older) h e i g k = over y.told (λ z. granted_opens c old
         more false z = z
 
         at_it : (b : Bool) → cond b (Some d) (granted_to (entries older) e i) ≡ Some g → (z : Descriptor) × (cond (same_call d g) (Some now) (opening_of (entries older) g) ≡ Some z)
-        at_it true z = (now, ap (λ (a : Bool). cond a (Some now) (opening_of (entries older) g)) (subst (λ (w : CallId). same_call d w ≡ true) (some_is d g z) (same_call_own d)))
+        at_it true z = (now, ap (λ (a : Bool). cond a (Some now) (opening_of (entries older) g)) (subst (λ (w : CallId). same_call d w ≡ true) (some_same d g z) (same_call_own d)))
         at_it false z = more (same_call d g) (later z)
     over (Shown r) later k = later k
     over _ later k = later k
@@ -150,7 +150,7 @@ asker_uses c t h e i g w granted now named opens d o is_named boot asked = over 
     there = one_epoch_of c t h e held.epoch i g k.0 granted now k.1 (one_boot c t held.epoch k.0 d h by.inside held.inside site ∙ (boot ∙ ap (boot_of (entries t)) (sym site)))
 
     over : (granted_to (entries t) e i ≡ Some d) ⊎ (begun (entries t) d ≡ Some (begins.Uses e i)) → begun (entries t) d ≡ Some (begins.Uses e i)
-    over (inl own) = absurd (subst AsksNoOp (ap (asked_now c t) (some_is g d (sym granted ∙ own)) ∙ asked) (opener_no_op c t g w opens.path opens.how named opens.words_are))
+    over (inl own) = absurd (subst AsksNoOp (ap (asked_now c t) (some_same g d (sym granted ∙ own)) ∙ asked) (opener_no_op c t g w opens.path opens.how named opens.words_are))
     over (inr b) = b
 
 -- ---- counts ----
@@ -213,7 +213,7 @@ counts_accept c n s process new words older h may k e i g w granted now named op
     not_is false z = refl
 
     asked_uses : asks_it ≡ true → uses_it ≡ true
-    asked_uses z = and_true (not (is_close words)) (uses_by b e i) (ap not plain) (ap (λ (y : Beginning). uses_by y e i) (some_is b (begins.Uses e i) (sym begun_is ∙ starts)) ∙ and_true (same_epoch e e) (same_serial i i) (same_epoch_own e) (same_serial_own i))
+    asked_uses z = and_true (not (is_close words)) (uses_by b e i) (ap not plain) (ap (λ (y : Beginning). uses_by y e i) (some_same b (begins.Uses e i) (sym begun_is ∙ starts)) ∙ and_true (same_epoch e e) (same_serial i i) (same_epoch_own e) (same_serial_own i))
       where
         o : (o : Op) × (asked_now c t new ≡ want.Do i o)
         o = op_is i (asked_now c t new) (both (new.site == i.us) (is_op_on i (asked_now c t new)) z).1
@@ -225,7 +225,7 @@ counts_accept c n s process new words older h may k e i g w granted now named op
         plain = subst (Fits (is_close words)) o.1 (asked_fits c t new caller e i named_is starts)
 
     used_asks : uses_it ≡ true → asks_it ≡ true
-    used_asks z = and_true (new.site == i.us) (is_op_on i (asked_now c t new)) (ap (λ (m : ℕ). new.site == m) us ∙ test_own new.site) (ap (is_op_on i) asked ∙ use_asks c.mounts (is_packed_in c (entries t) caller.epoch) (descriptor (entries older) s process) (epoch_of (entries older) s) words e i at plain)
+    used_asks z = and_true (new.site == i.us) (is_op_on i (asked_now c t new)) (ap (λ (m : ℕ). new.site == m) us ∙ equal_self new.site) (ap (is_op_on i) asked ∙ use_asks c.mounts (is_packed_in c (entries t) caller.epoch) (descriptor (entries older) s process) (epoch_of (entries older) s) words e i at plain)
       where
         plain : is_close words ≡ false
         plain = not_is (is_close words) (both (not (is_close words)) (uses_by b e i) z).0
@@ -301,13 +301,13 @@ counts_up_line c n s boot older h may k e i g w granted now named opens = count 
     old_boot = (counts_up c n (Shown (says.Up s boot)) older g h may (by.inside.accepted, by.inside.named) now).0
 
     other : s ≡ g.site → ⊥
-    other same = over (boot_of (entries older) s) (ap (boot_of (entries older)) same ∙ (sym old_boot ∙ (now ∙ ap (λ (b : Bool). cond b boot (boot_of (entries older) g.site)) (ap (λ (m : ℕ). m == g.site) same ∙ test_own g.site)))) may.row.above
+    other same = over (boot_of (entries older) s) (ap (boot_of (entries older)) same ∙ (sym old_boot ∙ (now ∙ ap (λ (b : Bool). cond b boot (boot_of (entries older) g.site)) (ap (λ (m : ℕ). m == g.site) same ∙ equal_self g.site)))) may.row.above
       where
         over : (p : ℕ) → p ≡ boot → nat_lt p boot ≡ true → ⊥
         over p e t = grind (arith, nat_tests)
 
     count : (b : Bool) → (s == i.us) ≡ b → cond b 0 (ops_asked c older i) ≡ ops_asked c older i
-    count true t = absurd (other (test_same s i.us t ∙ by.us_is))
+    count true t = absurd (other (equal s i.us t ∙ by.us_is))
     count false t = refl
 
 counts_told : (c : Config) (n : ℕ) (x : Told) (older : List Line) → IsFollowed c older → MayTell c older x → Counts c older → Counts c (With n x older)

@@ -1,6 +1,8 @@
 -- What is open in a tree was granted there; and no call on a descriptor removes a name, so who does is the call that opened the
 -- directory.
 use Rattle.std.proofs.Common.{◌≡◌, ℕ, Bool, true, false, cond, List, [], ◌∷◌, Some, None, refl, sym, ◌∙◌, ap, subst, ◌⊎◌, inl, inr}
+use Rattle.role_steps.proofs.of_plain_facts.Options.{some_same}
+use Rattle.role_steps.proofs.of_plain_facts.Tests.{true_false}
 use Rattle.locus_ids.specs.declared.config.Config.{Config}
 use Rattle.locus_ids.specs.declared.ids.CallId.{CallId}
 use Rattle.locus_ids.specs.declared.ids.EpochId.{EpochId}
@@ -32,10 +34,9 @@ use Rattle.tree_laws.specs.Serials.{asked_now}
 use Rattle.tree_laws.proofs.Alone.{asking, numbered_every}
 use Rattle.tree_laws.proofs.Answered.{asker_unnamed}
 use Rattle.tree_laws.proofs.Descriptors.{are_users, IsUser}
-use Rattle.tree_laws.proofs.Names.{some_is, true_false}
-use Rattle.order_laws.proofs.ProcessBegun.{comes_from}
-use Rattle.order_laws.proofs.ProcessGrantedHere.{granted_here}
-use Rattle.holding_laws.proofs.Distinct.{open_group}
+use Rattle.sync_laws.proofs.of_order_laws.ProcessBegun.{comes_from}
+use Rattle.sync_laws.proofs.of_order_laws.ProcessGrantedHere.{granted_here}
+use Rattle.user_laws.proofs.of_holding_laws.Distinct.{open_group}
 use Rattle.store_laws.proofs.AnswerAskers.{op_had}
 use Rattle.store_laws.proofs.AnswerDone.{open_grant}
 use Rattle.store_laws.proofs.AnswerScripting.{asked_so}
@@ -79,7 +80,7 @@ uses_keep _ i xs = tt
 
 -- a call on a descriptor asks to remove no name
 pub asked_keeps : (c : Config) (t : List Line) (d : CallId) (e : EpochId) (i : Serial) → begun (entries t) d ≡ Some (begins.Uses e i) → KeepsNames (asked_now c t d)
-asked_keeps c t d e i starts = asked_so KeepsNames (λ r. tt) tt c t d (λ w b named at. subst (λ (z : Beginning). KeepsNames (begun_wants c.mounts None w.words z (log t d))) (some_is (begins.Uses e i) b (sym starts ∙ at)) (uses_keep w.words i (log t d)))
+asked_keeps c t d e i starts = asked_so KeepsNames (λ r. tt) tt c t d (λ w b named at. subst (λ (z : Beginning). KeepsNames (begun_wants c.mounts None w.words z (log t d))) (some_same (begins.Uses e i) b (sym starts ∙ at)) (uses_keep w.words i (log t d)))
 
 -- ---- who removes a name ----
 
@@ -94,10 +95,10 @@ remover_opened c t h e i x d number name ino found owner asks = over (has_named 
 
     -- who uses it by a descriptor was granted nothing, and removes nothing
     used : IsUser (entries t) e i d → (granted_to (entries t) e i ≡ Some d) ⊎ (begun (entries t) d ≡ Some (begins.Uses e i)) → ⊥
-    used u (inl g) = true_false (sym (subst (λ (z : CallId). has_named (entries t) z ≡ true) (some_is u.for.granted d (sym u.for.is_granted ∙ g)) u.for.answered) ∙ asker_unnamed c t d h (asking c t d (want.Do i (op.Remove name ino)) asks))
+    used u (inl g) = true_false (sym (subst (λ (z : CallId). has_named (entries t) z ≡ true) (some_same u.for.granted d (sym u.for.is_granted ∙ g)) u.for.answered) ∙ asker_unnamed c t d h (asking c t d (want.Do i (op.Remove name ino)) asks))
     used u (inr b) = subst KeepsNames asks.asked (asked_keeps c t d e i b)
 
     over : (b : Bool) → has_named (entries t) x.grant.call ≡ b → d ≡ x.grant.call
-    over false k = sym (some_is x.grant.call d (owned false k))
+    over false k = sym (some_same x.grant.call d (owned false k))
     over true k = (let u : IsUser (entries t) e i d = numbered_every (IsUser (entries t) e i) (uses_of (entries t) e i) number d (are_users c t h e i).uses (owned true k) in
         absurd (used u (comes_from c t h e d i u.inside (op_had c t d i (op.Remove name ino) h (u.inside.accepted, u.inside.named) asks.asked))))

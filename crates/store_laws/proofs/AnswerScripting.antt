@@ -1,5 +1,7 @@
 -- What is so of each want that a script may come to is so of what the call asks.
 use Rattle.std.proofs.Common.{◌≡◌, ℕ, Bool, true, false, cond, List, [], ◌∷◌, ◌++◌, Option, Some, None, refl, sym, ◌∙◌, ap, subst}
+use Rattle.role_steps.proofs.of_plain_facts.Options.{some_same}
+use Rattle.role_steps.proofs.of_plain_facts.Tests.{true_false}
 use Rattle.locus_ids.specs.declared.config.Config.{Config}
 use Rattle.locus_ids.specs.declared.config.Mount.{Mount}
 use Rattle.locus_ids.specs.declared.ids.CallId.{CallId}
@@ -38,7 +40,7 @@ use Rattle.lawful_trace.specs.Tables.{begun, is_close}
 use Rattle.tree_laws.specs.Printed.{entries}
 use Rattle.tree_laws.specs.Calls.{log, script, script_as}
 use Rattle.tree_laws.specs.Serials.{asked_now, is_op_on}
-use Rattle.tree_laws.proofs.Names.{same_serial_own, some_is, true_false}
+use Rattle.tree_laws.proofs.Names.{same_serial_own}
 
 -- the script of an accepted call, by its words and where it began
 pub script_is : (c : Config) (t : List Line) (d : CallId) (w : Waiting) (b : Beginning) (free : Option ℕ) (xs : List Answer) → call_named (entries t) d ≡ Some w → begun (entries t) d ≡ Some b → script c (entries t) d free xs ≡ wants c.mounts (is_packed_in c (entries t) w.epoch) free w.words b xs
@@ -111,7 +113,7 @@ opens_no_op how None f kind.File (_ ∷ xs) = tt
 
 -- an open asks no operation
 pub opener_no_op : (c : Config) (t : List Line) (d : CallId) (w : Waiting) (path : List ℕ) (how : OpenMode) → call_named (entries t) d ≡ Some w → w.words ≡ call.Open path how → AsksNoOp (asked_now c t d)
-opener_no_op c t d w path how named words = asked_so AsksNoOp (λ r. tt) tt c t d (λ v b at starts. subst (λ (z : Waiting). AsksNoOp (begun_wants c.mounts None z.words b (log t d))) (some_is w v (sym named ∙ at)) (subst (λ (z : Call). AsksNoOp (begun_wants c.mounts None z b (log t d))) (sym words) (over b)))
+opener_no_op c t d w path how named words = asked_so AsksNoOp (λ r. tt) tt c t d (λ v b at starts. subst (λ (z : Waiting). AsksNoOp (begun_wants c.mounts None z.words b (log t d))) (some_same w v (sym named ∙ at)) (subst (λ (z : Call). AsksNoOp (begun_wants c.mounts None z b (log t d))) (sym words) (over b)))
   where
     over : (b : Beginning) → AsksNoOp (begun_wants c.mounts None (call.Open path how) b (log t d))
     over (begins.Denied why) = tt
@@ -140,7 +142,7 @@ uses_no_more _ i a xs = tt
 
 -- a call on a descriptor that has taken an answer asks no operation
 pub user_no_more : (c : Config) (t : List Line) (d : CallId) (e : EpochId) (i : Serial) (a : Answer) (xs : List Answer) → begun (entries t) d ≡ Some (begins.Uses e i) → log t d ≡ xs ++ a ∷ [] → AsksNoOp (asked_now c t d)
-user_no_more c t d e i a xs starts taken = asked_so AsksNoOp (λ r. tt) tt c t d (λ w b named at. subst (λ (z : Beginning). AsksNoOp (begun_wants c.mounts None w.words z (log t d))) (some_is (begins.Uses e i) b (sym starts ∙ at)) (subst (λ (ys : List Answer). AsksNoOp (uses_wants w.words i ys)) (sym taken) (over w.words xs)))
+user_no_more c t d e i a xs starts taken = asked_so AsksNoOp (λ r. tt) tt c t d (λ w b named at. subst (λ (z : Beginning). AsksNoOp (begun_wants c.mounts None w.words z (log t d))) (some_same (begins.Uses e i) b (sym starts ∙ at)) (subst (λ (ys : List Answer). AsksNoOp (uses_wants w.words i ys)) (sym taken) (over w.words xs)))
   where
     over : (words : Call) (ys : List Answer) → AsksNoOp (uses_wants words i (ys ++ a ∷ []))
     over words [] = uses_no_more words i a []

@@ -1,5 +1,7 @@
 -- While a call asks an open, nothing is asked of the instance that it is to be.
 use Rattle.std.proofs.Common.{◌≡◌, ℕ, ◌+◌, ◌==◌, Bool, true, false, cond, ◌&&◌, List, [], ◌∷◌, Some, refl, sym, ◌∙◌, ap, subst, ◌⊎◌, inl, inr}
+use Rattle.role_steps.proofs.of_plain_facts.Options.{some_same}
+use Rattle.role_steps.proofs.of_plain_facts.Tests.{true_false}
 use Rattle.locus_ids.specs.declared.config.Config.{Config}
 use Rattle.locus_ids.specs.declared.ids.CallId.{CallId}
 use Rattle.locus_ids.specs.declared.ids.EpochId.{EpochId}
@@ -31,16 +33,16 @@ use Rattle.tree_laws.proofs.Awaiting.{all_have, held_named, IsHeldBy}
 use Rattle.tree_laws.proofs.Counting.{asked_same, IsNow, Opens}
 use Rattle.tree_laws.proofs.Descriptors.{IsUser}
 use Rattle.tree_laws.proofs.Fresh.{IsNamed}
-use Rattle.tree_laws.proofs.Names.{true_false, some_is, same_call_eq}
+use Rattle.tree_laws.proofs.Names.{same_call_eq}
 use Rattle.tree_laws.proofs.OneBoot.{boot_where_inside, one_boot}
 use Rattle.tree_laws.proofs.Owners.{granted_named, granted_same}
 use Rattle.tree_laws.proofs.Scripts.{in_stays}
 use Rattle.tree_laws.proofs.Serials.{unnamed}
-use Rattle.order_laws.proofs.ProcessBegun.{comes_from}
-use Rattle.order_laws.proofs.ProcessGranting.{GrantIs, granted_is, held_us}
-use Rattle.order_laws.proofs.ProcessHad.{begun_user}
-use Rattle.order_laws.proofs.ProcessOnce.{unnamed_in_boot}
-use Rattle.order_laws.proofs.ProcessOperations.{accept_turn, IsTurn, op_is, take_turn}
+use Rattle.sync_laws.proofs.of_order_laws.ProcessBegun.{comes_from}
+use Rattle.sync_laws.proofs.of_order_laws.ProcessGranting.{GrantIs, granted_is, held_us}
+use Rattle.sync_laws.proofs.of_order_laws.ProcessHad.{begun_user}
+use Rattle.sync_laws.proofs.of_order_laws.ProcessOnce.{unnamed_in_boot}
+use Rattle.sync_laws.proofs.of_order_laws.ProcessOperations.{accept_turn, IsTurn, op_is, take_turn}
 use Rattle.store_laws.proofs.AnswerAskers.{With, op_had}
 
 -- ---- an open that is asked ----
@@ -113,9 +115,9 @@ asker_takes c t h d i o named now asked = record {
     site = sym by.us_is ∙ held_us c t h d i held
 
     over : Opens c t g.0 → (granted_to (entries t) held.epoch i ≡ Some d) ⊎ (begun (entries t) d ≡ Some (begins.Uses held.epoch i)) → ⊥
-    over opens (inl own) = true_false (sym opens ∙ (ap (λ (z : CallId). is_open_want (asked_now c t z)) (some_is g.0 d (sym g.1 ∙ own)) ∙ ap is_open_want asked))
+    over opens (inl own) = true_false (sym opens ∙ (ap (λ (z : CallId). is_open_want (asked_now c t z)) (some_same g.0 d (sym g.1 ∙ own)) ∙ ap is_open_want asked))
     over opens (inr b) = (let u : IsUser (entries t) held.epoch i d = begun_user c t held.epoch i d h held.inside b in
-        true_false (sym (subst (λ (z : CallId). has_named (entries t) z ≡ true) (some_is u.for.granted g.0 (sym u.for.is_granted ∙ g.1)) u.for.answered) ∙ asker_unnamed c t g.0 h (opens_request (asked_now c t g.0) opens)))
+        true_false (sym (subst (λ (z : CallId). has_named (entries t) z ≡ true) (some_same u.for.granted g.0 (sym u.for.is_granted ∙ g.1)) u.for.answered) ∙ asker_unnamed c t g.0 h (opens_request (asked_now c t g.0) opens)))
 
 granted_on : (c : Config) (n : ℕ) (x : Told) (older : List Line) (e : EpochId) (i : Serial) (g : CallId) → MayTell c older x → granted_to (entries older) e i ≡ Some g → granted_to (onto_entries n x (entries older)) e i ≡ Some g
 granted_on c n (Shown r) older e i g may k = granted_same c older n r e i g may k

@@ -2,6 +2,9 @@
 -- answered again.
 use Rattle.std.proofs.Common.{◌≡◌, ℕ, ◌≤◌, ◌==◌, Bool, true, false, not, cond, ◌&&◌, List, [], ◌∷◌, Option, Some, None, refl, sym, ◌∙◌, ap, subst, ◌⊎◌, inl, inr}
 use Rattle.std.specs.Option.{option_map, option_or, is_none}
+use Rattle.role_steps.proofs.of_plain_facts.Numbers.{equal}
+use Rattle.role_steps.proofs.of_plain_facts.Options.{none_some, some_none}
+use Rattle.role_steps.proofs.of_plain_facts.Tests.{and_first, and_second, true_false}
 use Rattle.locus_ids.specs.declared.config.Config.{Config}
 use Rattle.locus_ids.specs.declared.ids.CallId.{CallId}
 use Rattle.locus_ids.specs.declared.ids.EpochId.{EpochId}
@@ -12,6 +15,7 @@ use Rattle.locus_ids.specs.declared.ids.Serial.{Serial}
 use Rattle.locus_ids.specs.declared.ids.Stamp.{Stamp}
 use Rattle.locus_ids.specs.declared.refusal.Refusal.{Refusal}
 use Rattle.locus_ids.specs.declared.refusal.Refusal.TheVariants as refusal
+use Rattle.locus_ids.specs.Sizes.{sites_max}
 use Rattle.commit_graph.specs.Grants.{grant_refusal}
 use Rattle.commit_graph.specs.declared.history.Version.{Version}
 use Rattle.trace_book.specs.declared.record.Record.TheVariants as says
@@ -45,9 +49,8 @@ use Rattle.tree_laws.specs.Stores.{HoldsMade, InstanceFact, LiesAs, PlainLies, W
 use Rattle.tree_laws.proofs.CarriedLooks.{More}
 use Rattle.tree_laws.proofs.CarriedVersions.{joins_stay}
 use Rattle.lawful_trace.specs.TreeRows.{IsCallIn}
-use Rattle.tree_laws.proofs.Names.{true_false, test_same}
 use Rattle.tree_laws.proofs.Versions.{versions_stay}
-use Rattle.order_laws.specs.Joining.{PacksAreOfSites}
+use Rattle.sync_laws.specs.of_order_laws.Joining.{PacksAreOfSites}
 use Rattle.store_laws.specs.Rests.{AllStays, IsAsGranted, IsUnbegun, StoreRests}
 use Rattle.store_laws.proofs.Begun.{granted_named, named_of}
 use Rattle.store_laws.proofs.Places.{plain_place}
@@ -79,14 +82,6 @@ shut_begun c (x ∷ older) h s e i (inl k) = now x.told h.0 k
 
 -- ---- the version of a grant ----
 
-first_of : (a b : Bool) → a && b ≡ true → a ≡ true
-first_of true b e = refl
-first_of false b e = absurd (true_false (sym e))
-
-second_of : (a b : Bool) → a && b ≡ true → b ≡ true
-second_of true b e = e
-second_of false b e = absurd (true_false (sym e))
-
 none_is : {A : Type 0} (o : Option A) → is_none o ≡ true → o ≡ None
 none_is None e = refl
 none_is (Some x) e = absurd (true_false (sym e))
@@ -107,7 +102,7 @@ pub record GivenParts (h : List Version) (t : TreeState) (call : CallId) (m : Mo
   pub placed : is_placed h t call m f stamp ss ≡ true
 
 pub given_parts : (h : List Version) (t : TreeState) (call : CallId) (i : Serial) (m : Mode) (f : FileId) (stamp : Option Stamp) (ss : ℕ) → gives_grant h t call i m f stamp ss ≡ true → GivenParts h t call m f stamp ss
-given_parts h t call i m f stamp ss g = over (is_none (open_refusal h t m call f)) (i.us == call.site) (not (is_granted t i)) (is_placed h t call m f stamp ss) refl refl (second_of t.started _ g)
+given_parts h t call i m f stamp ss g = over (is_none (open_refusal h t m call f)) (i.us == call.site) (not (is_granted t i)) (is_placed h t call m f stamp ss) refl refl (and_second t.started _ g)
   where
     over : (a b d e : Bool) → is_none (open_refusal h t m call f) ≡ a → is_placed h t call m f stamp ss ≡ e → a && (b && (d && e)) ≡ true → GivenParts h t call m f stamp ss
     over true true true true p q k = record { refusal = none_is (open_refusal h t m call f) p; placed = q }
@@ -116,12 +111,9 @@ given_parts h t call i m f stamp ss g = over (is_none (open_refusal h t m call f
     over true false d e p q k = absurd (true_false (sym k))
     over false b d e p q k = absurd (true_false (sym k))
 
-some_none : {A : Type 0} (x : A) → ◌≡◌ {A = Option A} (Some x) None → ⊥
-some_none x e = cc
-
 -- a resolution has the version of the site that it names
 resolved_some : (h : List Version) (t : TreeState) (call : CallId) (f : FileId) (stamp : Option Stamp) (ss : ℕ) → GivenParts h t call mode.Resolve f stamp ss → (v : Stamp) × (stamp ≡ Some v)
-resolved_some h t call f stamp ss g = over (resolving_site t call) refl (first_of (is_site (resolving_site t call) ss) (same_version (held_at t ss f.ino) stamp) g.placed) (named (grant_refusal mode.Resolve (openers t f) (kept_of h t f)) g.refusal)
+resolved_some h t call f stamp ss g = over (resolving_site t call) refl (and_first (is_site (resolving_site t call) ss) (same_version (held_at t ss f.ino) stamp) g.placed) (named (grant_refusal mode.Resolve (openers t f) (kept_of h t f)) g.refusal)
   where
     test : (b : Bool) → ◌≡◌ {A = Option Refusal} (cond b None (Some refusal.NoStorage)) None → b ≡ true
     test true e = refl
@@ -133,11 +125,11 @@ resolved_some h t call f stamp ss g = over (resolving_site t call) refl (first_o
 
     holds : (o : Option Stamp) → held_at t ss f.ino ≡ o → has_stamp_of (kept_of h t f) o ≡ true → (v : Stamp) × (stamp ≡ Some v)
     holds None e k = absurd (true_false (sym k))
-    holds (Some v) e k = same_some (held_at t ss f.ino) stamp v e (second_of (is_site (resolving_site t call) ss) (same_version (held_at t ss f.ino) stamp) g.placed)
+    holds (Some v) e k = same_some (held_at t ss f.ino) stamp v e (and_second (is_site (resolving_site t call) ss) (same_version (held_at t ss f.ino) stamp) g.placed)
 
     over : (o : Option ℕ) → resolving_site t call ≡ o → is_site o ss ≡ true → has_stamp_of (kept_of h t f) (held_by t (resolving_site t call) f.ino) ≡ true → (v : Stamp) × (stamp ≡ Some v)
     over None is e k = absurd (true_false (sym e))
-    over (Some site) is e k = holds (held_at t ss f.ino) refl (subst (λ (n : ℕ). has_stamp_of (kept_of h t f) (held_at t n f.ino) ≡ true) (test_same site ss e) (subst (λ (o : Option ℕ). has_stamp_of (kept_of h t f) (held_by t o f.ino) ≡ true) is k))
+    over (Some site) is e k = holds (held_at t ss f.ino) refl (subst (λ (n : ℕ). has_stamp_of (kept_of h t f) (held_at t n f.ino) ≡ true) (equal site ss e) (subst (λ (o : Option ℕ). has_stamp_of (kept_of h t f) (held_by t o f.ino) ≡ true) is k))
 
 -- but for mends and makes a grant is on a version
 abbrev StandsOn : Mode → Option Stamp → Type 0
@@ -146,8 +138,8 @@ StandsOn mode.Make stamp = Unit {0}
 StandsOn _ stamp = (v : Stamp) × (stamp ≡ Some v)
 
 given_on : (h : List Version) (t : TreeState) (call : CallId) (m : Mode) (f : FileId) (stamp : Option Stamp) (ss : ℕ) → GivenParts h t call m f stamp ss → StandsOn m stamp
-given_on h t call mode.Read f stamp ss g = only_some (kept_of h t f) stamp (first_of (is_only (kept_of h t f) stamp) (same_version (held_at t ss f.ino) stamp) g.placed)
-given_on h t call mode.Write f stamp ss g = only_some (kept_of h t f) stamp (first_of (is_only (kept_of h t f) stamp) (same_version (held_at t ss f.ino) stamp) g.placed)
+given_on h t call mode.Read f stamp ss g = only_some (kept_of h t f) stamp (and_first (is_only (kept_of h t f) stamp) (same_version (held_at t ss f.ino) stamp) g.placed)
+given_on h t call mode.Write f stamp ss g = only_some (kept_of h t f) stamp (and_first (is_only (kept_of h t f) stamp) (same_version (held_at t ss f.ino) stamp) g.placed)
 given_on h t call mode.Resolve f stamp ss g = resolved_some h t call f stamp ss g
 given_on h t call mode.Mend f stamp ss g = tt
 given_on h t call mode.Make f stamp ss g = tt
@@ -163,9 +155,6 @@ granted_on c (x ∷ older) h e d request i m f stamp ss (inl g) = now x.told h.0
     now _ may p = absurd p
 
 -- ---- the work of what is begun ----
-
-none_some : {A : Type 0} (x : A) → ◌≡◌ {A = Option A} None (Some x) → ⊥
-none_some x e = cc
 
 work_on : (c : Config) (trace : List Line) (m : Mode) (file : FileId) (stamp : Option Stamp) → (m ≡ mode.Make → ⊥) → StandsOn m stamp →
     begun m stamp (stamped_content (history c (entries trace)) file stamp) ≡ begun m (base_of m (option_map (copy_for file) (option_map (version_of c (entries trace) file) stamp)) (stamp_or_none stamp)) (content_of (option_map (copy_for file) (option_map (version_of c (entries trace) file) stamp)))
@@ -276,9 +265,9 @@ plain_begun c n trace few h rests f frame s held r plain k new stays = record {
     unshut (inl p) = p
     unshut (inr p) = (let b : (g : FileId) × WasBegun trace f.me f.epoch r.inst g = shut_begun c trace h f.me f.epoch r.inst p in unbegun f.me b.0 b.1)
 
-    user : r.inst.us ≤ 16
+    user : r.inst.us ≤ sites_max
     user = (let d : (d : CallId) × (r.inst.us ≡ d.site) × IsCallIn (entries trace) f.epoch d = named_of c trace h f.epoch r.inst (granted_named trace f.epoch k.call k.request r.inst r.mode r.file k.stamp f.me k.was_granted) in
-        subst (λ (u : ℕ). u ≤ 16) (sym d.1) (rests.sites f.epoch d.0 d.2))
+        subst (λ (u : ℕ). u ≤ sites_max) (sym d.1) (rests.sites f.epoch d.0 d.2))
 
     fact : InstanceFact c after f i
     fact = record {

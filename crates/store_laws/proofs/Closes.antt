@@ -1,12 +1,12 @@
 -- The end of an instance at its storage site: it is shut where its call closes it and nothing is owed, told again until it is over,
 -- and over once it is released.
-use Rattle.std.proofs.Common.{◌≡◌, ℕ, ◌≤◌, false, List, Option, Some, None, refl, sym, ◌∙◌, ap, subst, ◌⊎◌, inl, inr}
+use Rattle.std.proofs.Common.{◌≡◌, ℕ, ◌≤◌, List, Option, Some, None, refl, sym, subst, ◌⊎◌, inl, inr}
 use Rattle.locus_ids.specs.declared.config.Config.{Config}
-use Rattle.locus_ids.specs.declared.ids.FileId.{FileId}
 use Rattle.locus_ids.specs.declared.ids.Mode.{Mode}
 use Rattle.locus_ids.specs.declared.ids.Mode.TheVariants as mode
 use Rattle.locus_ids.specs.declared.ids.Serial.{Serial}
 use Rattle.locus_ids.specs.declared.ids.Stamp.{Stamp}
+use Rattle.locus_ids.specs.Sizes.{sites_max}
 use Rattle.trace_book.specs.declared.operation.Outcome.{Outcome}
 use Rattle.call_rules.specs.declared.answer.Answer.{Answer}
 use Rattle.wire_messages.specs.declared.body.Body.TheVariants as body
@@ -22,12 +22,10 @@ use Rattle.role_steps.specs.declared.instances.Instance.{Instance}
 use Rattle.role_steps.specs.declared.instances.Stage.{Stage}
 use Rattle.role_steps.specs.declared.instances.Stage.TheVariants as stage
 use Rattle.the_run.specs.Worlds.{Line}
-use Rattle.tree_model.specs.declared.instance.Instance.{Instance as Open}
-use Rattle.tree_laws.specs.Doing.{FrameFact, StoreFine, StoreHeld}
-use Rattle.tree_laws.specs.Following.{MayShut, IsFollowed}
-use Rattle.tree_laws.specs.Packets.{ClosedFact, ClosesNow, EndsNow, PacketFact}
-use Rattle.tree_laws.specs.Past.{WasBegun, WasReleased, WasReleasedWith, WasShut}
-use Rattle.tree_laws.specs.Stores.{AnsweredFact, ClosesAs, EndsAs, HoldsMade, InstanceFact, IsMaker, LiesAs, StageFact, WorksAs}
+use Rattle.tree_laws.specs.Doing.{StoreFine, StoreHeld}
+use Rattle.tree_laws.specs.Packets.{ClosedFact, EndsNow, PacketFact}
+use Rattle.tree_laws.specs.Past.{WasReleased, WasReleasedWith}
+use Rattle.tree_laws.specs.Stores.{AnsweredFact, ClosesAs, EndsAs, HoldsMade, InstanceFact, IsMaker, LiesAs, StageFact}
 use Rattle.store_laws.specs.Rests.{StoreRests}
 use Rattle.store_laws.proofs.Beginning.{to_sync_sent}
 use Rattle.store_laws.proofs.Numbers.{serial_key_eq}
@@ -116,28 +114,14 @@ ended c n trace rests f s kept i k released (stage.Closing made a) is fact = rec
     with_it = over fact.0.ends
 
 -- an instance of the store under a serial number of a site
-pub found_instance : (c : Config) (trace : List Line) (f : Frame) (s : Store) → StoreHeld c f trace s → (inst : Serial) → inst.us ≤ 16 → (i : Instance) → instance_of s inst ≡ Some i → InstanceFact c trace f i × (i.inst ≡ inst)
+pub found_instance : (c : Config) (trace : List Line) (f : Frame) (s : Store) → StoreHeld c f trace s → (inst : Serial) → inst.us ≤ sites_max → (i : Instance) → instance_of s inst ≡ Some i → InstanceFact c trace f i × (i.inst ≡ inst)
 found_instance c trace f s kept inst low i e = (let k : InstanceFact c trace f i × (instance_key i ≡ serial_key inst) = row_found instance_key (serial_key inst) s.instances i (InstanceFact c trace f) e kept.instances.instances in
     (k.0, serial_key_eq i.inst inst k.0.user low k.1))
 
-pub closed_ok_fine : (c : Config) (n : ℕ) (trace : List Line) → StoreRests c trace → (f : Frame) (s : Store) → StoreHeld c f trace s → (inst : Serial) → inst.us ≤ 16 → WasReleased trace f.epoch inst → StoreFine c n trace f s (on_closed_ok f inst s)
+pub closed_ok_fine : (c : Config) (n : ℕ) (trace : List Line) → StoreRests c trace → (f : Frame) (s : Store) → StoreHeld c f trace s → (inst : Serial) → inst.us ≤ sites_max → WasReleased trace f.epoch inst → StoreFine c n trace f s (on_closed_ok f inst s)
 closed_ok_fine c n trace rests f s kept inst low released = over (instance_of s inst) refl
   where
     over : (o : Option Instance) → instance_of s inst ≡ o → StoreFine c n trace f s (on_closed_ok_of f o s)
     over None e = record { told = tt; own = tt; view = kept; sent = tt; written = tt }
     over (Some i) e = (let k : InstanceFact c trace f i × (i.inst ≡ inst) = found_instance c trace f s kept inst low i e in
         ended c n trace rests f s kept i k.0 (subst (λ (j : Serial). WasReleased trace f.epoch j) (sym k.1) released) i.stage refl k.0.stage)
-
--- ---- the close of what owes nothing ----
-
-pub shut_fact : (c : Config) (n : ℕ) (trace : List Line) → IsFollowed c trace → (f : Frame) → FrameFact c trace f → (i : Instance) → InstanceFact c trace f i → (x : Open) → WorksAs c trace f i x → ClosesNow c trace f.epoch f.me i.inst x → (WasShut trace f.me f.epoch i.inst → ⊥) → i.work.owes ≡ false → MayShut c trace f.me f.epoch i.inst
-shut_fact c n trace h f frame i k x w closes unshut owes = record {
-  inside = frame.inside;
-  call = closes.call;
-  owner = closes.owner;
-  asks = closes.asks;
-  at = x;
-  open_at = closes.open_at;
-  owes = ap (λ (y : Work). y.owes) w.work_is ∙ owes;
-  runs = record { begun = subst (λ (y : FileId). WasBegun trace f.me f.epoch i.inst y) (sym w.file_is) k.begun; not_shut = unshut };
-}

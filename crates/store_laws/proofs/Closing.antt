@@ -1,6 +1,7 @@
 -- An instance that this site has begun to close ends as it was to end: nothing is done with it until it is released, and then with
 -- that version and that answer.
 use Rattle.std.proofs.Common.{◌≡◌, ℕ, true, List, Option, Some, sym, ◌∙◌, ap, subst, ◌⊎◌, inl, inr}
+use Rattle.role_steps.proofs.of_plain_facts.Tests.{true_false}
 use Rattle.locus_ids.specs.declared.config.Config.{Config}
 use Rattle.locus_ids.specs.declared.ids.EpochId.{EpochId}
 use Rattle.locus_ids.specs.declared.ids.Serial.{Serial}
@@ -31,7 +32,6 @@ use Rattle.tree_laws.proofs.CarriedCloses.{StaysClosing, closing_stays, released
 use Rattle.tree_laws.proofs.CarriedLooks.{More}
 use Rattle.tree_laws.proofs.CarriedVersions.{maybe_stays}
 use Rattle.tree_laws.proofs.Kinship.{Ends}
-use Rattle.tree_laws.proofs.Names.{true_false}
 use Rattle.tree_laws.proofs.Opened.{EndsIt}
 use Rattle.tree_laws.proofs.Owing.{commits_owe}
 

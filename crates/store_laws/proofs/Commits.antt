@@ -15,7 +15,7 @@ use Rattle.tree_laws.specs.Stores.{IsMaker, PlainLies}
 use Rattle.tree_laws.proofs.Grants.{open_named}
 use Rattle.tree_laws.proofs.Kinship.{tree_group_is}
 use Rattle.tree_laws.proofs.Serials.{unnamed}
-use Rattle.order_laws.proofs.Keeping.{changes_alone}
+use Rattle.sync_laws.proofs.of_order_laws.Keeping.{changes_alone}
 use Rattle.store_laws.proofs.Beginning.{given_parts}
 use Rattle.store_laws.proofs.Holding.{versions_same}
 use Rattle.store_laws.proofs.Makers.{lies_stay}
@@ -24,6 +24,8 @@ use Rattle.store_laws.proofs.Ranges.{given_range, range_narrow}
 use Rattle.store_laws.proofs.Staying.{instance_more}
 use Rattle.std.specs.Option.{is_none, option_map, option_or}
 use Rattle.std.proofs.lemmas.Bool.Decides.{nat_tests}
+use Rattle.role_steps.proofs.of_plain_facts.Numbers.{equal_self}
+use Rattle.role_steps.proofs.of_plain_facts.Tests.{and_first, and_second, and_true, or_second, true_false}
 use Rattle.locus_ids.specs.declared.config.Config.{Config}
 use Rattle.locus_ids.specs.declared.ids.CallId.{CallId}
 use Rattle.locus_ids.specs.declared.ids.EpochId.{EpochId}
@@ -33,6 +35,7 @@ use Rattle.locus_ids.specs.declared.ids.Mode.{Mode}
 use Rattle.locus_ids.specs.declared.ids.Mode.TheVariants as mode
 use Rattle.locus_ids.specs.declared.ids.Serial.{Serial}
 use Rattle.locus_ids.specs.declared.ids.Stamp.{Stamp}
+use Rattle.locus_ids.specs.Sizes.{inode_span, sites_max}
 use Rattle.version_vector.specs.Counters.{part}
 use Rattle.commit_graph.specs.Grants.{is_read}
 use Rattle.commit_graph.specs.Vectors.{vector_of}
@@ -66,30 +69,18 @@ use Rattle.tree_laws.specs.Instances.{held_in, HasAtLeast, IsOpenAt, Stands}
 use Rattle.tree_laws.specs.Packets.{JoinsParents}
 use Rattle.tree_laws.specs.Past.{WasShut}
 use Rattle.tree_laws.specs.Stores.{CopiesAreHeld, InstanceFact, LiesAs, WorksAs, copy_for}
-use Rattle.tree_laws.proofs.Names.{true_false, test_own, same_epoch_own}
+use Rattle.tree_laws.proofs.Names.{same_epoch_own}
 use Rattle.tree_laws.proofs.Owing.{inside_is}
 use Rattle.tree_laws.proofs.Rows.{followed_rows}
 use Rattle.tree_laws.proofs.Versions.{versions_stay}
-use Rattle.order_laws.specs.Joining.{PacksAreOfSites}
-use Rattle.order_laws.proofs.Alone.{rows_apart}
-use Rattle.order_laws.proofs.Standing.{later_true, newest, same_file_eq}
+use Rattle.sync_laws.specs.of_order_laws.Joining.{PacksAreOfSites}
+use Rattle.sync_laws.proofs.of_order_laws.Alone.{rows_apart}
+use Rattle.sync_laws.proofs.of_order_laws.Standing.{newest, same_file_eq}
 use Rattle.store_laws.specs.Rests.{StoreRests}
 use Rattle.store_laws.proofs.Holding.{held_stands}
 use Rattle.store_laws.proofs.Raising.{first_writer, next_numbered, one_writes, vector_written, writer_changed, zeros}
 use Rattle.store_laws.proofs.Runs.{found_in, open_group}
 use Rattle.store_laws.proofs.Tabled.{ascends_row, row_other, row_same}
-
-first_of : (a b : Bool) → a && b ≡ true → a ≡ true
-first_of true b e = refl
-first_of false b e = absurd (true_false (sym e))
-
-second_of : (a b : Bool) → a && b ≡ true → b ≡ true
-second_of true b e = e
-second_of false b e = absurd (true_false (sym e))
-
-pub both_of : (a b : Bool) → a ≡ true → b ≡ true → a && b ≡ true
-both_of true b e k = k
-both_of false b e k = e
 
 pub file_own : (f : FileId) → same_file f f ≡ true
 file_own f = grind (arith, nat_tests)
@@ -108,20 +99,20 @@ put_found p new (x ∷ xs) e = at (put_found p new xs e) (p x) refl
 above_one : (site ino : ℕ) → is_given_by site ino ≡ true → (ino == 1) ≡ false
 above_one site ino e = grind (arith, nat_tests)
 
-pub keys_same : (a b : FileId) → a.ino < 65536 → b.ino < 65536 → file_key a ≡ file_key b → same_file a b ≡ true
-keys_same a b low narrow e = both_of (a.group == b.group) (a.ino == b.ino) (subst (λ (n : ℕ). (a.group == n) ≡ true) (groups a.group b.group a.ino b.ino low narrow e) (test_own a.group)) (subst (λ (n : ℕ). (a.ino == n) ≡ true) (numbers a.group b.group a.ino b.ino low narrow e) (test_own a.ino))
+pub keys_same : (a b : FileId) → a.ino < inode_span → b.ino < inode_span → file_key a ≡ file_key b → same_file a b ≡ true
+keys_same a b low narrow e = and_true (a.group == b.group) (a.ino == b.ino) (subst (λ (n : ℕ). (a.group == n) ≡ true) (groups a.group b.group a.ino b.ino low narrow e) (equal_self a.group)) (subst (λ (n : ℕ). (a.ino == n) ≡ true) (numbers a.group b.group a.ino b.ino low narrow e) (equal_self a.ino))
   where
-    groups : (g h i j : ℕ) → i < 65536 → j < 65536 → g * 65536 + i ≡ h * 65536 + j → g ≡ h
+    groups : (g h i j : ℕ) → i < inode_span → j < inode_span → g * inode_span + i ≡ h * inode_span + j → g ≡ h
     groups g h i j l m k = omega (arith, l, m, k)
 
-    numbers : (g h i j : ℕ) → i < 65536 → j < 65536 → g * 65536 + i ≡ h * 65536 + j → i ≡ j
+    numbers : (g h i j : ℕ) → i < inode_span → j < inode_span → g * inode_span + i ≡ h * inode_span + j → i ≡ j
     numbers g h i j l m k = omega (arith, l, m, k)
 
 -- the kind and the set of its file, and its number
 record LiesNow (c : Config) (trace : List Line) (i : Instance) : Type 0 where
   kind_is : kind_of_file c (entries trace) i.file ≡ i.kind
   set_is : set_of_file c (entries trace) i.file ≡ i.set
-  narrow : i.file.ino < 65536
+  narrow : i.file.ino < inode_span
 
 -- a granted make is of a number of its site
 granted_number : (c : Config) (trace : List Line) → IsFollowed c trace → (e : EpochId) (d : CallId) (request : ℕ) (i : Serial) (f : FileId) (stamp : Option Stamp) (ss : ℕ) → WasGranted trace e d request i mode.Make f stamp ss → is_given_by ss f.ino ≡ true
@@ -130,7 +121,7 @@ granted_number c (y ∷ older) h e d request i f stamp ss (inr g) = granted_numb
 granted_number c (y ∷ older) h e d request i f stamp ss (inl g) = now y.told h.0 g
   where
     number : (hs : List Version) (t : TreeState) (call : CallId) (file : FileId) (on : Option Stamp) (place : ℕ) → is_placed hs t call mode.Make file on place ≡ true → is_given_by place file.ino ≡ true
-    number hs t call file on place e = first_of (is_given_by place file.ino) _ (second_of (is_site (making_site t call) place) _ (first_of (is_new_file t call file place) (is_none on) e))
+    number hs t call file on place e = and_first (is_given_by place file.ino) _ (and_second (is_site (making_site t call) place) _ (and_first (is_new_file t call file place) (is_none on) e))
 
     now : (z : Told) → MayTell c older z → Printed (GrantRecord e d request i mode.Make f stamp ss) older z → is_given_by ss f.ino ≡ true
     now (Shown (says.Grant at call n inst m file on place)) may p = subst (λ (y : ℕ). is_given_by y f.ino ≡ true) p.place_is (subst (λ (y : FileId). is_given_by place y.ino ≡ true) p.file_is
@@ -140,7 +131,7 @@ granted_number c (y ∷ older) h e d request i f stamp ss (inl g) = now y.told h
 
 -- a file without versions has no first commit
 none_after : (c : Config) (before : Trace) (f : FileId) (n : ℕ) (z : Record) → (((s : Stamp) → is_in (history c before) f s ≡ true → ⊥) → first_call c before f ≡ None) → ((s : Stamp) → is_in (history c (record { line = n; what = z } ∷ before)) f s ≡ true → ⊥) → first_call c (record { line = n; what = z } ∷ before) f ≡ None
-none_after c before f n (says.Commit g site stamp parents content) older off = ap (λ (o : Option CallId). option_or o (cond (same_file g f) (option_map (λ (x : Open). x.grant.call) (committing c before f site)) None)) (older (λ s e. off s (later_true _ _ e))) ∙ over (same_file g f) refl
+none_after c before f n (says.Commit g site stamp parents content) older off = ap (λ (o : Option CallId). option_or o (cond (same_file g f) (option_map (λ (x : Open). x.grant.call) (committing c before f site)) None)) (older (λ s e. off s (or_second _ _ e))) ∙ over (same_file g f) refl
   where
     over : (b : Bool) → same_file g f ≡ b → cond b (option_map (λ (x : Open). x.grant.call) (committing c before f site)) None ≡ None
     over true e = absurd (off stamp (newest (record { file = g; site = site; stamp = stamp; parents = parents; content = content }) (history c before) f stamp (same_file_eq g f e) refl))
@@ -170,7 +161,7 @@ module _ (c : Config) (n : ℕ) (trace : List Line) (few : PacksAreOfSites c) (h
   low : 1 ≤ f.me
   low = (rests.places f.epoch f.me frame.inside).0
 
-  high : f.me ≤ 16
+  high : f.me ≤ sites_max
   high = (rests.places f.epoch f.me frame.inside).1
 
   -- ---- it comes as it may ----
@@ -179,11 +170,11 @@ module _ (c : Config) (n : ℕ) (trace : List Line) (few : PacksAreOfSites c) (h
   found = found_in c trace f.epoch i.inst x i.file.group w.open_at.found (ap (λ (y : FileId). y.group) w.file_is)
 
   writing : is_writing i.file x ≡ true
-  writing = both_of (same_file x.grant.file i.file) (not (is_read x.grant.mode)) (subst (λ (y : FileId). same_file y i.file ≡ true) (sym w.file_is) (file_own i.file)) (ap not (ap is_read w.mode_is ∙ writes))
+  writing = and_true (same_file x.grant.file i.file) (not (is_read x.grant.mode)) (subst (λ (y : FileId). same_file y i.file ≡ true) (sym w.file_is) (file_own i.file)) (ap not (ap is_read w.mode_is ∙ writes))
 
   writer : is_writer i.file f.me x ≡ true
-  writer = both_of (same_file x.grant.file i.file) ((x.grant.ss == f.me) && not (is_read x.grant.mode)) (subst (λ (y : FileId). same_file y i.file ≡ true) (sym w.file_is) (file_own i.file))
-      (both_of (x.grant.ss == f.me) (not (is_read x.grant.mode)) (subst (λ (y : ℕ). (y == f.me) ≡ true) (sym w.open_at.place) (test_own f.me)) (ap not (ap is_read w.mode_is ∙ writes)))
+  writer = and_true (same_file x.grant.file i.file) ((x.grant.ss == f.me) && not (is_read x.grant.mode)) (subst (λ (y : FileId). same_file y i.file ≡ true) (sym w.file_is) (file_own i.file))
+      (and_true (x.grant.ss == f.me) (not (is_read x.grant.mode)) (subst (λ (y : ℕ). (y == f.me) ≡ true) (sym w.open_at.place) (equal_self f.me)) (ap not (ap is_read w.mode_is ∙ writes)))
 
   one : filter (is_writing i.file) tree.instances ≡ x ∷ []
   one = one_writes i.file (is_named i.inst) tree.instances x (rows_apart c (entries trace) (followed_rows c trace h) f.epoch i.file.group).alone found writing
@@ -253,21 +244,21 @@ module _ (c : Config) (n : ℕ) (trace : List Line) (few : PacksAreOfSites c) (h
   stands_now = newest (record { file = i.file; site = f.me; stamp = next_stamp f (next_vector f i); parents = i.parents; content = i.work.content }) (history c (entries trace)) i.file (next_stamp f (next_vector f i)) refl refl
 
   own_version : is_version i.file (next_stamp f (next_vector f i)) (record { file = i.file; site = f.me; stamp = next_stamp f (next_vector f i); parents = i.parents; content = i.work.content }) ≡ true
-  own_version = both_of (same_file i.file i.file) (same_stamp (next_stamp f (next_vector f i)) (next_stamp f (next_vector f i))) (file_own i.file) (stamp_own (next_stamp f (next_vector f i)))
+  own_version = and_true (same_file i.file i.file) (same_stamp (next_stamp f (next_vector f i)) (next_stamp f (next_vector f i))) (file_own i.file) (stamp_own (next_stamp f (next_vector f i)))
 
   pub content_now : version_content (history c (entries after)) i.file (next_stamp f (next_vector f i)) ≡ i.work.content
   content_now = ap (λ (b : Bool). cond b i.work.content (version_content (history c (entries trace)) i.file (next_stamp f (next_vector f i)))) own_version
 
   pub joins_now : JoinsParents c after i.file (next_stamp f (next_vector f i) ∷ []) (next_vector f i)
-  joins_now = (replicate 16 0, stands_now, (zeros 16, refl), parts, long)
+  joins_now = (replicate sites_max 0, stands_now, (zeros sites_max, refl), parts, long)
     where
       no_more : (a b : ℕ) → b ≡ 0 → a ≡ max a b
       no_more a b e = grind (arith, nat_tests)
 
-      parts : (t : ℕ) → part (next_vector f i) t ≡ max (part (vector_of (history c (entries after)) i.file (next_stamp f (next_vector f i))) t) (part (replicate 16 0) t)
-      parts t = ap (λ (v : List ℕ). part v t) written ∙ no_more (part (vector_of (history c (entries after)) i.file (next_stamp f (next_vector f i))) t) (part (replicate 16 0) t) (zeros 16 t)
+      parts : (t : ℕ) → part (next_vector f i) t ≡ max (part (vector_of (history c (entries after)) i.file (next_stamp f (next_vector f i))) t) (part (replicate sites_max 0) t)
+      parts t = ap (λ (v : List ℕ). part v t) written ∙ no_more (part (vector_of (history c (entries after)) i.file (next_stamp f (next_vector f i))) t) (part (replicate sites_max 0) t) (zeros sites_max t)
 
-      long : length (next_vector f i) ≡ 16
+      long : length (next_vector f i) ≡ sites_max
       long = ap length written
 
   pub has_now : HasAtLeast c after f.epoch f.me i.file (next_stamp f (next_vector f i))
@@ -278,11 +269,11 @@ module _ (c : Config) (n : ℕ) (trace : List Line) (few : PacksAreOfSites c) (h
           ∙ ap (λ (b : Bool). b || list_any (is_ancestor (history c (entries trace)) i.file (next_stamp f (next_vector f i))) i.parents) (stamp_own (next_stamp f (next_vector f i)))
 
       group_test : (i.file.group == tree.group) ≡ true
-      group_test = subst (λ (g : ℕ). (i.file.group == g) ≡ true) (sym (tree_group_is c f.epoch i.file.group (entries trace))) (test_own i.file.group)
+      group_test = subst (λ (g : ℕ). (i.file.group == g) ≡ true) (sym (tree_group_is c f.epoch i.file.group (entries trace))) (equal_self i.file.group)
 
       held_now : held_in c (entries after) f.epoch f.me i.file ≡ Some (next_stamp f (next_vector f i))
       held_now = ap (λ (b : Bool). held_of (copy_of_site (cond b (with_held (copy_now tree f.me i.file.ino (next_stamp f (next_vector f i))) tree.copies) tree.copies) f.me i.file.ino)) group_test
-          ∙ (ap held_of (put_found (is_copy_of f.me i.file.ino) (copy_now tree f.me i.file.ino (next_stamp f (next_vector f i))) tree.copies (both_of (f.me == f.me) (i.file.ino == i.file.ino) (test_own f.me) (test_own i.file.ino)))
+          ∙ (ap held_of (put_found (is_copy_of f.me i.file.ino) (copy_now tree f.me i.file.ino (next_stamp f (next_vector f i))) tree.copies (and_true (f.me == f.me) (i.file.ino == i.file.ino) (equal_self f.me) (equal_self i.file.ino)))
           ∙ ap (λ (b : Bool). cond b (Some (next_stamp f (next_vector f i))) (held_at tree f.me i.file.ino)) inside)
 
   -- ---- the file ----
@@ -348,9 +339,9 @@ module _ (c : Config) (n : ℕ) (trace : List Line) (few : PacksAreOfSites c) (h
         (row_same copy_key (copy_made i (next_vector f i) (next_stamp f (next_vector f i))) s.copies ∙ (ap Some copy_is ∙ sym (ap (λ (o : Option Stamp). option_map (copy_for i.file) (option_map (version_of c (entries after) i.file) o)) held_own)))
       where
         held_own : held c (entries after) f.me i.file ≡ Some (next_stamp f (next_vector f i))
-        held_own = ap (λ (b : Bool). cond b (Some (next_stamp f (next_vector f i))) (held c (entries trace) f.me i.file)) (both_of (same_file i.file i.file) (f.me == f.me) (file_own i.file) (test_own f.me))
+        held_own = ap (λ (b : Bool). cond b (Some (next_stamp f (next_vector f i))) (held c (entries trace) f.me i.file)) (and_true (same_file i.file i.file) (f.me == f.me) (file_own i.file) (equal_self f.me))
 
-    other_copy : (g : FileId) → g.ino < 65536 → same_file i.file g ≡ false → copy_of (with_copy (copy_made i (next_vector f i) (next_stamp f (next_vector f i))) s) g ≡ option_map (copy_for g) (held_version c (entries after) f.me g)
+    other_copy : (g : FileId) → g.ino < inode_span → same_file i.file g ≡ false → copy_of (with_copy (copy_made i (next_vector f i) (next_stamp f (next_vector f i))) s) g ≡ option_map (copy_for g) (held_version c (entries after) f.me g)
     other_copy g narrow other = row_other copy_key (copy_made i (next_vector f i) (next_stamp f (next_vector f i))) (file_key g) s.copies (λ e. true_false (sym (keys_same i.file g file_now.narrow narrow e) ∙ other))
         ∙ (kept.copies.are g narrow ∙ sym (ap (λ (o : Option Stamp). option_map (copy_for g) (option_map (version_of c (entries after) g) o)) held_other ∙ versions_same c trace after versions g (held c (entries trace) f.me g) (λ t e. held_stands c (entries trace) (followed_rows c trace h) f.me g t e)))
       where
@@ -360,7 +351,7 @@ module _ (c : Config) (n : ℕ) (trace : List Line) (few : PacksAreOfSites c) (h
     pub copies_now : CopiesAreHeld c after f.me (with_copy (copy_made i (next_vector f i) (next_stamp f (next_vector f i))) s)
     copies_now = record { are = λ g narrow. over g narrow (same_file i.file g) refl; ascends = ascends_row copy_key (copy_made i (next_vector f i) (next_stamp f (next_vector f i))) s.copies kept.copies.ascends }
       where
-        over : (g : FileId) → g.ino < 65536 → (b : Bool) → same_file i.file g ≡ b → copy_of (with_copy (copy_made i (next_vector f i) (next_stamp f (next_vector f i))) s) g ≡ option_map (copy_for g) (held_version c (entries after) f.me g)
+        over : (g : FileId) → g.ino < inode_span → (b : Bool) → same_file i.file g ≡ b → copy_of (with_copy (copy_made i (next_vector f i) (next_stamp f (next_vector f i))) s) g ≡ option_map (copy_for g) (held_version c (entries after) f.me g)
         over g narrow true e = own_copy g (same_file_eq i.file g e)
         over g narrow false e = other_copy g narrow e
 

@@ -1,5 +1,5 @@
 -- A store whose instance has just been committed: the instance is the tree's but for its stage, and the others are.
-use Rattle.std.proofs.Common.{◌≡◌, ℕ, true, false, List, [], ◌∷◌, length, Option, Some, None, refl, sym, ◌∙◌, ap, inl, inr}
+use Rattle.std.proofs.Common.{◌≡◌, ℕ, true, false, List, [], ◌∷◌, Option, Some, None, refl, sym, ◌∙◌, ap, inl, inr}
 use Rattle.locus_ids.specs.declared.config.Config.{Config}
 use Rattle.locus_ids.specs.declared.ids.FileId.{FileId}
 use Rattle.locus_ids.specs.declared.ids.Mode.{Mode}
@@ -8,7 +8,7 @@ use Rattle.locus_ids.specs.declared.ids.Serial.{Serial}
 use Rattle.locus_ids.specs.declared.ids.Stamp.{Stamp}
 use Rattle.commit_graph.specs.Grants.{is_read}
 use Rattle.trace_book.specs.declared.operation.Outcome.{Outcome as Result}
-use Rattle.role_steps.specs.Storage.{commit_record, copy_made, instance_committed, instance_key, instance_of, next_stamp, next_vector, with_copy, with_instance}
+use Rattle.role_steps.specs.Storage.{commit_record, commit_write, copy_made, instance_committed, instance_key, instance_of, next_stamp, next_vector, with_copy, with_instance}
 use Rattle.role_steps.specs.Views.{Frame, Store, Told, Shown, serial_key}
 use Rattle.role_steps.specs.declared.instances.Instance.{Instance}
 use Rattle.the_run.specs.Worlds.{Line}
@@ -16,13 +16,14 @@ use Rattle.tree_model.specs.declared.instance.Instance.{Instance as Open}
 use Rattle.file_effects.specs.declared.work.Work.{Work}
 use Rattle.tree_model.specs.Files.{committing}
 use Rattle.lawful_trace.specs.Disks.{pages_changed}
+use Rattle.file_content.specs.Pages.{ascending}
 use Rattle.tree_laws.specs.Printed.{entries}
 use Rattle.tree_laws.specs.Doing.{FrameFact, StoreHeld, WriteFact}
 use Rattle.tree_laws.specs.Following.{MayTell, IsFollowed}
 use Rattle.tree_laws.specs.Frames.{AllStay}
 use Rattle.tree_laws.specs.Past.{WasBegun, WasShut}
 use Rattle.tree_laws.specs.Stores.{AnsweredFact, CopiesAreHeld, HoldsMade, InstanceFact, WorksAs}
-use Rattle.order_laws.specs.Joining.{PacksAreOfSites}
+use Rattle.sync_laws.specs.of_order_laws.Joining.{PacksAreOfSites}
 use Rattle.store_laws.specs.Rests.{StoreRests}
 use Rattle.store_laws.proofs.Closes.{lies_with}
 use Rattle.store_laws.proofs.Commits.{committing_is, copies_now, has_now, joins_now, lies_after, may_commit, others_now}
@@ -99,8 +100,8 @@ module _ (c : Config) (n : ℕ) (trace : List Line) (few : PacksAreOfSites c) (h
     unshut_after (inl p) = p
     unshut_after (inr p) = unshut p
 
-    pub written_so : WriteFact c n trace f.me s (record { copy = copy_made i vector stamp; pages = length i.work.changed; says = commit_record f i stamp })
+    pub written_so : WriteFact c n trace f.me s (commit_write f i vector stamp)
     written_so = record { own = refl; may = may; held = copies_now c n trace few h rests f frame s kept i k x w unshut owes writes stay; pages = changed_pages }
       where
-        changed_pages : length i.work.changed ≡ pages_changed (committing c (entries trace) i.file f.me)
-        changed_pages = ap (λ (y : Work). length y.changed) (sym w.work_is) ∙ ap pages_changed (sym (committing_is c n trace few h rests f frame s kept i k x w unshut owes writes))
+        changed_pages : ascending i.work.changed ≡ pages_changed (committing c (entries trace) i.file f.me)
+        changed_pages = ap (λ (y : Work). ascending y.changed) (sym w.work_is) ∙ ap pages_changed (sym (committing_is c n trace few h rests f frame s kept i k x w unshut owes writes))

@@ -10,8 +10,12 @@ use Rattle.locus_ids.specs.declared.ids.Kind.TheVariants as kind
 use Rattle.locus_ids.specs.declared.ids.Mode.{Mode}
 use Rattle.locus_ids.specs.declared.ids.Stamp.{Stamp}
 use Rattle.std.specs.Option.{is_none}
+use Rattle.role_steps.proofs.of_plain_facts.Numbers.{equal_self}
+use Rattle.role_steps.proofs.of_plain_facts.Options.{none_some, some_same}
+use Rattle.role_steps.proofs.of_plain_facts.Tests.{and_true, true_false}
 use Rattle.locus_ids.specs.declared.refusal.Refusal.{Refusal}
 use Rattle.locus_ids.specs.declared.refusal.Refusal.TheVariants as refusal
+use Rattle.locus_ids.specs.Sizes.{directory_bytes_max, file_bytes_max}
 use Rattle.commit_graph.specs.Versions.{content_of, same_stamp}
 use Rattle.commit_graph.specs.declared.history.Version.{Version}
 use Rattle.trace_book.specs.declared.operation.Op.{Op}
@@ -22,7 +26,6 @@ use Rattle.dir_format.specs.Contents.{entries_of, is_dir}
 use Rattle.dir_format.specs.Grammar.{dir_bytes}
 use Rattle.dir_format.specs.Effects.{DirEffect, dir_effect}
 use Rattle.dir_format.specs.declared.entry.Entry.{Entry}
-use Rattle.file_content.specs.Contents.{max_bytes}
 use Rattle.file_content.specs.Pages.{is_replaced, page_of, pages_from, pages_of, pages_replaced, pages_within, with_pages, pages_needed}
 use Rattle.file_effects.specs.Effects.{As, Deed, Effect, Mends, Removes, cuts, directory_left, effect, in_directory, is_refusal, is_worded, mends, on_directory, puts, tells, writes}
 use Rattle.file_effects.specs.Works.{aborted, begins_owing, carried_out, counted, operated, result_in}
@@ -36,13 +39,9 @@ use Rattle.tree_model.specs.Working.{are_several, effect_on, free_pages, in_room
 use Rattle.dir_reconcile.specs.declared.kept.KeptVector.{KeptVector}
 use Rattle.dir_reconcile.specs.Joins.{joined_dirs}
 use Rattle.dir_reconcile.specs.Rescues.{rescued}
-use Rattle.tree_laws.proofs.Names.{true_false, some_is, test_own, same_epoch_own}
+use Rattle.tree_laws.proofs.Names.{same_epoch_own}
 
 -- ---- outcomes are the same as themselves ----
-
-both_of : (a b : Bool) → a ≡ true → b ≡ true → a && b ≡ true
-both_of true b e k = k
-both_of false b e k = e
 
 bytes_own : (xs : List ℕ) → bytes_eq xs xs ≡ true
 bytes_own xs = grind (arith, bytes_eq-Decides xs xs)
@@ -51,21 +50,21 @@ stamp_own : (s : Stamp) → same_stamp s s ≡ true
 stamp_own s = grind (arith, nat_tests)
 
 refusal_own : (r : Refusal) → same_refusal r r ≡ true
-refusal_own (refusal.Busy s p) = both_of (s == s) (p == p) (test_own s) (test_own p)
+refusal_own (refusal.Busy s p) = and_true (s == s) (p == p) (equal_self s) (equal_self p)
 refusal_own (refusal.Absent name) = bytes_own name
 refusal_own (refusal.NotDir name) = bytes_own name
 refusal_own refusal.IsDir = refl
-refusal_own (refusal.Exists ino) = test_own ino
+refusal_own (refusal.Exists ino) = equal_self ino
 refusal_own (refusal.NotEmpty name) = bytes_own name
-refusal_own (refusal.Conflict a b) = both_of (same_stamp a a) (same_stamp b b) (stamp_own a) (stamp_own b)
-refusal_own (refusal.Ambiguous a b) = both_of (a == a) (b == b) (test_own a) (test_own b)
+refusal_own (refusal.Conflict a b) = and_true (same_stamp a a) (same_stamp b b) (stamp_own a) (stamp_own b)
+refusal_own (refusal.Ambiguous a b) = and_true (a == a) (b == b) (equal_self a) (equal_self b)
 refusal_own refusal.NoStorage = refl
 refusal_own refusal.NoPartition = refl
 refusal_own (refusal.Changed e) = same_epoch_own e
 refusal_own refusal.BadDescriptor = refl
 refusal_own (refusal.Stale e) = same_epoch_own e
 refusal_own refusal.TooLong = refl
-refusal_own (refusal.NoSpace a b) = both_of (a == a) (b == b) (test_own a) (test_own b)
+refusal_own (refusal.NoSpace a b) = and_true (a == a) (b == b) (equal_self a) (equal_self b)
 refusal_own refusal.NoInode = refl
 refusal_own refusal.BadName = refl
 refusal_own refusal.ReadOnly = refl
@@ -79,7 +78,7 @@ kind_own kind.Dir = refl
 
 pub outcome_own : (r : Outcome) → same_outcome r r ≡ true
 outcome_own outcome.Done = refl
-outcome_own (outcome.Found ino k) = both_of (ino == ino) (same_kind k k) (test_own ino) (kind_own k)
+outcome_own (outcome.Found ino k) = and_true (ino == ino) (same_kind k k) (equal_self ino) (kind_own k)
 outcome_own (outcome.Data bytes) = bytes_own bytes
 outcome_own (outcome.Committed s) = stamp_own s
 outcome_own (outcome.No why) = refusal_own why
@@ -97,9 +96,6 @@ none_replaced content (p ∷ ps) = ap (λ (b : Bool). cond (not b) (p ∷ filter
 same_replaced : (a b : List ℕ) → a ≡ b → pages_replaced a b ≡ []
 same_replaced a b e = ap (pages_replaced a) (sym e) ∙ none_replaced a (pages_from 0 (pages_of (length a)))
 
-none_some : {A : Type 0} (x : A) → ◌≡◌ {A = Option A} None (Some x) → ⊥
-none_some x e = cc
-
 idle_directory : (content : List ℕ) (o : Option DirEffect) (e : Effect) → in_directory content o ≡ Some e → IsIdle e
 idle_directory content None e k = absurd (none_some e k)
 idle_directory content (Some d) e k = over (is_dir d.entries) k
@@ -108,11 +104,11 @@ idle_directory content (Some d) e k = over (is_dir d.entries) k
     idle off = same_replaced content (directory_left content d) (sym (ap (λ (b : Bool). cond b (dir_bytes d.entries) content) off))
 
     over : (b : Bool) → cond b (Some (on_directory content d)) None ≡ Some e → IsIdle e
-    over true k = subst IsIdle (some_is (on_directory content d) e k) idle
+    over true k = subst IsIdle (some_same (on_directory content d) e k) idle
     over false k = absurd (none_some e k)
 
 idle_puts : (old new : List ℕ) (counts : Bool) → (counts ≡ false → new ≡ old) → IsIdle (puts old new counts)
-idle_puts old new counts same = over (nat_lt max_bytes (length new))
+idle_puts old new counts same = over (nat_lt directory_bytes_max (length new))
   where
     over : (b : Bool) → IsIdle (cond b (tells old (outcome.No refusal.TooLong)) (record { result = outcome.Done; content = new; pages = pages_replaced old new; counts = counts; spent = false }))
     over true = λ off. refl
@@ -127,7 +123,7 @@ idle_mends content several joined = idle_puts content joined (several || not (by
     over false false e k = absurd (true_false k)
 
 told_idle : (content : List ℕ) (r : Outcome) (e : Effect) → ◌≡◌ {A = Option Effect} (Some (tells content r)) (Some e) → IsIdle e
-told_idle content r e k = subst IsIdle (some_is (tells content r) e k) (λ off. refl)
+told_idle content r e k = subst IsIdle (some_same (tells content r) e k) (λ off. refl)
 
 worded_idle : (o : Op) (content : List ℕ) (e : Effect) → cond (is_worded o) (in_directory content (dir_effect o [] (entries_of content))) None ≡ Some e → IsIdle e
 worded_idle o content e k = over (is_worded o) k
@@ -139,12 +135,12 @@ worded_idle o content e k = over (is_worded o) k
 -- an effect that doesn't count changes no page
 idle_effect : (d : Deed) (content : List ℕ) (e : Effect) → effect d content ≡ Some e → IsIdle e
 idle_effect (As (op.Read at len)) content e k = told_idle content _ e k
-idle_effect (As (op.Write at bytes)) content e k = over (nat_le (at + length bytes) max_bytes) k
+idle_effect (As (op.Write at bytes)) content e k = over (nat_le (at + length bytes) file_bytes_max) k
   where
     over : (b : Bool) → cond b (Some (writes content at bytes)) None ≡ Some e → IsIdle e
-    over true k = subst IsIdle (some_is (writes content at bytes) e k) (λ off. absurd (true_false off))
+    over true k = subst IsIdle (some_same (writes content at bytes) e k) (λ off. absurd (true_false off))
     over false k = absurd (none_some e k)
-idle_effect (As (op.Cut len)) content e k = subst IsIdle (some_is (cuts content len) e k) (λ off. refl)
+idle_effect (As (op.Cut len)) content e k = subst IsIdle (some_same (cuts content len) e k) (λ off. refl)
 idle_effect (As (op.Remove name ino)) content e k = absurd (none_some e k)
 idle_effect (As op.Mend) content e k = absurd (none_some e k)
 idle_effect (As op.Commit) content e k = absurd (none_some e k)
@@ -155,7 +151,7 @@ idle_effect (As (op.Insert name ino kd)) content e k = worded_idle (op.Insert na
 idle_effect (As (op.Rename component name)) content e k = worded_idle (op.Rename component name) content e k
 idle_effect (As op.Empty) content e k = worded_idle op.Empty content e k
 idle_effect (Removes name ino seen) content e k = idle_directory content (dir_effect (op.Remove name ino) seen (entries_of content)) e k
-idle_effect (Mends several joined) content e k = subst IsIdle (some_is (mends content several joined) e k) (idle_mends content several joined)
+idle_effect (Mends several joined) content e k = subst IsIdle (some_same (mends content several joined) e k) (idle_mends content several joined)
 
 -- ---- the work after an effect ----
 
@@ -199,7 +195,7 @@ pub counted_on : (m : Mode) (w : Work) → GoesOn m w (counted w)
 counted_on m w = record { ops_is = refl; last_is = refl; committed_is = refl; fresh_is = refl; owes_is = λ a c k. k }
 
 pub aborted_on : (m : Mode) (content : List ℕ) (w : Work) → GoesOn m w (aborted m content w)
-aborted_on m content w = record { ops_is = refl; last_is = refl; committed_is = refl; fresh_is = refl; owes_is = λ a c k. both_of (begins_owing m) (is_none w.committed) a (ap is_none c) }
+aborted_on m content w = record { ops_is = refl; last_is = refl; committed_is = refl; fresh_is = refl; owes_is = λ a c k. and_true (begins_owing m) (is_none w.committed) a (ap is_none c) }
 
 -- ---- the tree's effect ----
 
@@ -260,7 +256,7 @@ several_same h f (a ∷ b ∷ ks) = more (length ks)
 
 -- a mend's own effect has no spent count
 pub mend_unspent : (content : List ℕ) (several : Bool) (joined : List ℕ) → (mends content several joined).spent ≡ false
-mend_unspent content several joined = over (nat_lt max_bytes (length joined))
+mend_unspent content several joined = over (nat_lt directory_bytes_max (length joined))
   where
     over : (b : Bool) → (cond b (tells content (outcome.No refusal.TooLong)) (record { result = outcome.Done; content = joined; pages = pages_replaced content joined; counts = several || not (bytes_eq joined content); spent = false })).spent ≡ false
     over true = refl

@@ -1,5 +1,7 @@
 -- The close of an instance at its storage site, by its stage and by what it owes.
 use Rattle.std.proofs.Common.{◌≡◌, ℕ, ◌≤◌, Bool, true, false, List, [], ◌∷◌, length, Option, Some, None, refl, sym, ◌∙◌, ap, subst, inl, inr}
+use Rattle.role_steps.proofs.of_plain_facts.Options.{none_some, some_same}
+use Rattle.role_steps.proofs.of_plain_facts.Tests.{true_false}
 use Rattle.locus_ids.specs.declared.config.Config.{Config}
 use Rattle.locus_ids.specs.declared.ids.EpochId.{EpochId}
 use Rattle.locus_ids.specs.declared.ids.Serial.{Serial}
@@ -23,21 +25,18 @@ use Rattle.tree_laws.specs.Doing.{FrameFact, StoreFine, StoreHeld}
 use Rattle.tree_laws.specs.Following.{MayTell, IsFollowed}
 use Rattle.tree_laws.specs.Frames.{AllStay}
 use Rattle.locus_ids.specs.declared.refusal.Refusal.TheVariants as refusal
+use Rattle.locus_ids.specs.Sizes.{sites_max}
 use Rattle.tree_laws.specs.Packets.{CloseFact, ClosesNow, MaybeMade}
 use Rattle.tree_laws.specs.Past.{EndRecord, Printed, WasNamed, WasReleased, WasShut}
 use Rattle.tree_laws.specs.Stores.{InstanceFact, IsSettled, RunsAs, StageFact, WorksAs}
 use Rattle.tree_laws.proofs.Grants.{open_named}
-use Rattle.tree_laws.proofs.Names.{true_false, some_is}
-use Rattle.order_laws.specs.Joining.{PacksAreOfSites}
+use Rattle.sync_laws.specs.of_order_laws.Joining.{PacksAreOfSites}
 use Rattle.store_laws.specs.Rests.{AllStays, MayWrite, StoreRests}
 use Rattle.store_laws.proofs.Closes.{closed_sent, done_sent, found_instance}
 use Rattle.store_laws.proofs.Committed.{begun_after, frame_after, may, others_after, unshut_after, written_so}
 use Rattle.store_laws.proofs.Commits.{content_now, stands_now, works_now, written}
 use Rattle.store_laws.proofs.Shutting.{IsBegunSo, IsToEnd, OthersHold, begun_so, made_so, made_stamp, may_shut, nothing_answered, others_hold, shut_sent, shut_view}
 use Rattle.store_laws.proofs.Tabled.{latest_same, row_among, row_same}
-
-none_some : {A : Type 0} (x : A) → ◌≡◌ {A = Option A} None (Some x) → ⊥
-none_some x e = cc
 
 -- ---- what owes nothing ----
 
@@ -84,9 +83,6 @@ module _ (c : Config) (n : ℕ) (trace : List Line) (few : PacksAreOfSites c) (h
     abbrev made_instance : Instance
     made_instance = instance_committed i (next_vector f i) (next_stamp f (next_vector f i))
 
-    abbrev disk : Store
-    disk = with_copy (copy_made i (next_vector f i) (next_stamp f (next_vector f i))) s
-
     abbrev now : Store
     now = with_instance (instance_committed i (next_vector f i) (next_stamp f (next_vector f i))) (with_copy (copy_made i (next_vector f i) (next_stamp f (next_vector f i))) s)
 
@@ -123,7 +119,7 @@ module _ (c : Config) (n : ℕ) (trace : List Line) (few : PacksAreOfSites c) (h
 
     closed_made : (o : Option Instance) → o ≡ Some made_instance → AllStays c n trace (joined_to (commits f i s) (shuts_again f (closing.Made stamp) o now)).told → StoreFine c n trace f s (joined_to (commits f i s) (shuts_again f (closing.Made stamp) o now))
     closed_made None e stays = absurd (none_some made_instance e)
-    closed_made (Some y) e stays = subst (λ (z : Instance). AllStays c n trace (joined_to (commits f i s) (shuts_again f (closing.Made stamp) (Some z) now)).told → StoreFine c n trace f s (joined_to (commits f i s) (shuts_again f (closing.Made stamp) (Some z) now))) (sym (some_is y made_instance e)) closes_it stays
+    closed_made (Some y) e stays = subst (λ (z : Instance). AllStays c n trace (joined_to (commits f i s) (shuts_again f (closing.Made stamp) (Some z) now)).told → StoreFine c n trace f s (joined_to (commits f i s) (shuts_again f (closing.Made stamp) (Some z) now))) (sym (some_same y made_instance e)) closes_it stays
       where
         closes_it : AllStays c n trace (joined_to (commits f i s) (shuts f made_instance (closing.Made stamp) now)).told → StoreFine c n trace f s (joined_to (commits f i s) (shuts f made_instance (closing.Made stamp) now))
         closes_it stays = record {
@@ -182,14 +178,14 @@ module _ (c : Config) (n : ℕ) (trace : List Line) (few : PacksAreOfSites c) (h
   closing_runs (inr w) settled unshut (inl r) stays = absurd (w.unnamed (released_named c trace h f.epoch i.inst r))
   closing_runs (inr w) settled unshut (inr k2) stays = absurd (w.unnamed (open_named c trace f.epoch i.inst k2.0 k2.1.open_at.found))
   closing_runs (inl w) settled unshut (inr k2) stays = closed_running c n trace few h rests f frame s kept i k w.0 w.1 settled unshut
-      (subst (λ (y : Open). ClosesNow c trace f.epoch f.me i.inst y) (some_is k2.0 w.0 (sym k2.1.open_at.found ∙ w.1.open_at.found)) k2.1) i.work.owes refl ready stays
+      (subst (λ (y : Open). ClosesNow c trace f.epoch f.me i.inst y) (some_same k2.0 w.0 (sym k2.1.open_at.found ∙ w.1.open_at.found)) k2.1) i.work.owes refl ready stays
 
   closing_at : (t : Stage) → StageFact c trace f i t → CloseFact c trace f.epoch f.me i.inst → AllStays c n trace (on_close_at f i t s).told → StoreFine c n trace f s (on_close_at f i t s)
   closing_at stage.Running fact close stays = closing_runs fact.0 fact.1 fact.2 close stays
   closing_at (stage.Closing made a) fact close stays = record { told = tt; own = tt; view = kept; sent = closed_sent c trace f i made a fact.0; written = tt }
   closing_at (stage.Closed a) fact close stays = record { told = tt; own = tt; view = kept; sent = done_sent c trace f i a fact.0.0 fact.0.1; written = tt }
 
-pub close_fine : (c : Config) (n : ℕ) (trace : List Line) → PacksAreOfSites c → IsFollowed c trace → StoreRests c trace → (f : Frame) → FrameFact c trace f → (s : Store) → StoreHeld c f trace s → ((i : Instance) → Among i s.instances → MayWrite f i) → (inst : Serial) → inst.us ≤ 16 → CloseFact c trace f.epoch f.me inst →
+pub close_fine : (c : Config) (n : ℕ) (trace : List Line) → PacksAreOfSites c → IsFollowed c trace → StoreRests c trace → (f : Frame) → FrameFact c trace f → (s : Store) → StoreHeld c f trace s → ((i : Instance) → Among i s.instances → MayWrite f i) → (inst : Serial) → inst.us ≤ sites_max → CloseFact c trace f.epoch f.me inst →
     AllStays c n trace (on_close f inst s).told → StoreFine c n trace f s (on_close f inst s)
 close_fine c n trace few h rests f frame s kept ready inst low close stays = over (instance_of s inst) refl stays
   where

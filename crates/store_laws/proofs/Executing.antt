@@ -2,6 +2,9 @@
 use Rattle.std.proofs.Common.{◌≡◌, ℕ, ◌+◌, ◌<◌, ◌≤◌, ◌==◌, Bool, true, false, List, [], ◌∷◌, map, Option, Some, None, refl, sym, ◌∙◌, ap, subst, arith, inl, inr}
 use Rattle.std.specs.List.{find}
 use Rattle.std.specs.Option.{option_map}
+use Rattle.role_steps.proofs.of_plain_facts.Numbers.{equal}
+use Rattle.role_steps.proofs.of_plain_facts.Options.{none_some, some_same}
+use Rattle.role_steps.proofs.of_plain_facts.Tests.{true_false}
 use Rattle.locus_ids.specs.declared.config.Config.{Config}
 use Rattle.locus_ids.specs.declared.ids.CallId.{CallId}
 use Rattle.locus_ids.specs.declared.ids.EpochId.{EpochId}
@@ -10,6 +13,7 @@ use Rattle.locus_ids.specs.declared.ids.Mode.{Mode}
 use Rattle.locus_ids.specs.declared.ids.Serial.{Serial}
 use Rattle.locus_ids.specs.declared.ids.Stamp.{Stamp}
 use Rattle.locus_ids.specs.declared.refusal.Refusal.TheVariants as refusal
+use Rattle.locus_ids.specs.Sizes.{inode_span, sites_max}
 use Rattle.commit_graph.specs.Grants.{is_read}
 use Rattle.commit_graph.specs.Vectors.{vector_of}
 use Rattle.commit_graph.specs.Versions.{content_of as version_content}
@@ -54,8 +58,7 @@ use Rattle.tree_laws.specs.Packets.{OpFact, PacketFact, SeesFor, SeesTarget}
 use Rattle.tree_laws.specs.Past.{ActRecord, Printed, WasDone, WasNamed, WasShut}
 use Rattle.tree_laws.specs.Stores.{AnsweredFact, InstanceFact, IsSettled, RunsAs, StageFact, WorksAs, copy_for}
 use Rattle.tree_laws.proofs.Grants.{open_named}
-use Rattle.tree_laws.proofs.Names.{true_false, some_is, test_same}
-use Rattle.order_laws.specs.Joining.{PacksAreOfSites}
+use Rattle.sync_laws.specs.of_order_laws.Joining.{PacksAreOfSites}
 use Rattle.store_laws.specs.Rests.{AllStays, IsSpentMend, MayWrite, MendsAs, OpRests, StoreRests, UnspentTold}
 use Rattle.store_laws.proofs.Closes.{found_instance}
 use Rattle.store_laws.proofs.Commits.{works_now}
@@ -65,9 +68,6 @@ use Rattle.store_laws.proofs.Operating.{AsksIt, IsStep, act_sent, act_view, may_
 use Rattle.store_laws.proofs.Runs.{found_in}
 use Rattle.store_laws.proofs.Shutting.{IsBegunSo, OthersHold, begun_so, others_hold}
 use Rattle.store_laws.proofs.Tabled.{latest_same, row_among}
-
-none_some : {A : Type 0} (x : A) → ◌≡◌ {A = Option A} None (Some x) → ⊥
-none_some x e = cc
 
 -- what was done was named
 done_named : (c : Config) (trace : List Line) → IsFollowed c trace → (e : EpochId) (i : Serial) (number : ℕ) (o : Op) (r : Result) → WasDone trace e i number o r → WasNamed trace e i
@@ -140,14 +140,14 @@ module _ (c : Config) (n : ℕ) (trace : List Line) (few : PacksAreOfSites c) (h
   held_is : x.work.last ≡ held c (entries trace) f.me i.file
   held_is = (rests.stands f.epoch i.inst x w.open_at.found).last_is ∙ (ap (λ (z : ℕ). held_in c (entries trace) f.epoch z x.grant.file) w.open_at.place ∙ (ap (held_in c (entries trace) f.epoch f.me) w.file_is ∙ rests.inside f.epoch f.me i.file frame.inside))
 
-  content_is : i.file.ino < 65536 → content_of (copy_of s i.file) ≡ stamped_content (history c (entries trace)) i.file x.work.last
+  content_is : i.file.ino < inode_span → content_of (copy_of s i.file) ≡ stamped_content (history c (entries trace)) i.file x.work.last
   content_is narrow = ap content_of (kept.copies.are i.file narrow ∙ ap (λ (y : Option Stamp). option_map (copy_for i.file) (option_map (version_of c (entries trace) i.file) y)) (sym held_is)) ∙ over x.work.last
     where
       over : (y : Option Stamp) → content_of (option_map (copy_for i.file) (option_map (version_of c (entries trace) i.file) y)) ≡ stamped_content (history c (entries trace)) i.file y
       over None = refl
       over (Some t) = refl
 
-  abort_step : i.file.ino < 65536 → o ≡ op.Abort → IsStep c trace f i x o result.Done (aborted i.mode (content_of (copy_of s i.file)) i.work)
+  abort_step : i.file.ino < inode_span → o ≡ op.Abort → IsStep c trace f i x o result.Done (aborted i.mode (content_of (copy_of s i.file)) i.work)
   abort_step narrow is = subst (λ (y : Op). IsStep c trace f i x y result.Done (aborted i.mode (content_of (copy_of s i.file)) i.work)) (sym is) (record {
     result_is = refl;
     work_is = ap (λ (m : Mode). aborted m (stamped_content (history c (entries trace)) x.grant.file x.work.last) x.work) w.mode_is ∙ (ap (λ (y : FileId). aborted i.mode (stamped_content (history c (entries trace)) y x.work.last) x.work) w.file_is
@@ -206,7 +206,7 @@ module _ (c : Config) (n : ℕ) (trace : List Line) (few : PacksAreOfSites c) (h
 
     committed_fine : (y : Option Instance) → y ≡ Some made_instance → AllStays c n trace (joined_to (commits f i s) (acts_committed f stamp y later)).told → StoreFine c n trace f s (joined_to (commits f i s) (acts_committed f stamp y later))
     committed_fine None e stays = absurd (none_some made_instance e)
-    committed_fine (Some y) e stays = subst (λ (z : Instance). AllStays c n trace (joined_to (commits f i s) (acts_committed f stamp (Some z) later)).told → StoreFine c n trace f s (joined_to (commits f i s) (acts_committed f stamp (Some z) later))) (sym (some_is y made_instance e)) acts_it stays
+    committed_fine (Some y) e stays = subst (λ (z : Instance). AllStays c n trace (joined_to (commits f i s) (acts_committed f stamp (Some z) later)).told → StoreFine c n trace f s (joined_to (commits f i s) (acts_committed f stamp (Some z) later))) (sym (some_same y made_instance e)) acts_it stays
       where
         acts_it : AllStays c n trace (joined_to (commits f i s) (acts f made_instance op.Commit (result.Committed stamp) (counted made_instance.work) later)).told → StoreFine c n trace f s (joined_to (commits f i s) (acts f made_instance op.Commit (result.Committed stamp) (counted made_instance.work) later))
         acts_it stays = record {
@@ -249,7 +249,7 @@ module _ (c : Config) (n : ℕ) (trace : List Line) (few : PacksAreOfSites c) (h
 
   abort_fine : o ≡ op.Abort → AllStays c n trace (abort_op f i s).told → StoreFine c n trace f s (abort_op f i s)
   abort_fine is stays = subst (λ (y : Op). AllStays c n trace (acts f i y result.Done (aborted i.mode (content_of (copy_of s i.file)) i.work) s).told → StoreFine c n trace f s (acts f i y result.Done (aborted i.mode (content_of (copy_of s i.file)) i.work) s)) is
-      (step_fine result.Done (aborted i.mode (content_of (copy_of s i.file)) i.work) (abort_step (subst (λ (y : FileId). y.ino < 65536) w.file_is (more.numbers f.epoch i.inst x w.open_at.found (subst (λ (z : ℕ). epoch_of (entries trace) z ≡ Some f.epoch) (sym w.open_at.place) frame.inside))) is)) stays
+      (step_fine result.Done (aborted i.mode (content_of (copy_of s i.file)) i.work) (abort_step (subst (λ (y : FileId). y.ino < inode_span) w.file_is (more.numbers f.epoch i.inst x w.open_at.found (subst (λ (z : ℕ). epoch_of (entries trace) z ≡ Some f.epoch) (sym w.open_at.place) frame.inside))) is)) stays
 
   -- ---- the tree's effect is the one here ----
 
@@ -263,7 +263,7 @@ module _ (c : Config) (n : ℕ) (trace : List Line) (few : PacksAreOfSites c) (h
       call_is = more.removers f.epoch i.inst x q.call (i.work.ops + 1) name ino w.open_at.found q.owner (subst (λ (y : Op). Asks c trace q.call (want.Do i.inst y)) is q.asks)
 
       at_is : t.at ≡ x
-      at_is = some_is t.at x (sym t.found ∙ w.open_at.found)
+      at_is = some_same t.at x (sym t.found ∙ w.open_at.found)
 
       target_is : find (is_target x.grant.call ino) tree.instances ≡ Some t.target
       target_is = subst (λ (y : CallId). find (is_target y ino) tree.instances ≡ Some t.target) call_is
@@ -343,14 +343,14 @@ module _ (c : Config) (n : ℕ) (trace : List Line) (few : PacksAreOfSites c) (h
           Every UnspentTold (elim a as (λ (z : Bool). Outcome Store) [ true ↦ sends (op_again f i number i.answered) s | false ↦ elim b as (λ (z : Bool). Outcome Store) [ true ↦ executes f m i o seen s | false ↦ quiet s ] ]).told →
           AllStays c n trace (elim a as (λ (z : Bool). Outcome Store) [ true ↦ sends (op_again f i number i.answered) s | false ↦ elim b as (λ (z : Bool). Outcome Store) [ true ↦ executes f m i o seen s | false ↦ quiet s ] ]).told →
           StoreFine c n trace f s (elim a as (λ (z : Bool). Outcome Store) [ true ↦ sends (op_again f i number i.answered) s | false ↦ elim b as (λ (z : Bool). Outcome Store) [ true ↦ executes f m i o seen s | false ↦ quiet s ] ])
-      over true b p q low stays = record { told = tt; own = tt; view = kept; sent = again_sent number (test_same number i.work.ops p) i.answered k.answered; written = tt }
-      over false true p q low stays = next_fine number o seen m (test_same number (i.work.ops + 1) q) fact y st low stays
+      over true b p q low stays = record { told = tt; own = tt; view = kept; sent = again_sent number (equal number i.work.ops p) i.answered k.answered; written = tt }
+      over false true p q low stays = next_fine number o seen m (equal number (i.work.ops + 1) q) fact y st low stays
       over false false p q low stays = record { told = tt; own = tt; view = kept; sent = tt; written = tt }
 
 -- ---- by its stage ----
 
 pub op_fine : (c : Config) (n : ℕ) (trace : List Line) → PacksAreOfSites c → IsFollowed c trace → StoreRests c trace → OpRests c trace → (f : Frame) → FrameFact c trace f → (s : Store) → StoreHeld c f trace s → ((group : ℕ) → free_pages s group ≡ tree_free (history c (entries trace)) (tree_of c f.epoch group (entries trace)) f.me) → ((i : Instance) → Among i s.instances → MayWrite f i) →
-    (m : Mending) (inst : Serial) → inst.us ≤ 16 → (number : ℕ) (o : Op) (seen : List ℕ) → OpFact c trace f.epoch f.me inst number o seen → ((i : Instance) → instance_of s inst ≡ Some i → o ≡ op.Mend → (d : CallId) → IsCallIn (entries trace) f.epoch d → Asks c trace d (want.Do inst op.Mend) → MendsAs c trace f i.file m) →
+    (m : Mending) (inst : Serial) → inst.us ≤ sites_max → (number : ℕ) (o : Op) (seen : List ℕ) → OpFact c trace f.epoch f.me inst number o seen → ((i : Instance) → instance_of s inst ≡ Some i → o ≡ op.Mend → (d : CallId) → IsCallIn (entries trace) f.epoch d → Asks c trace d (want.Do inst op.Mend) → MendsAs c trace f i.file m) →
     Every UnspentTold (on_op f m inst number o seen s).told → AllStays c n trace (on_op f m inst number o seen s).told → StoreFine c n trace f s (on_op f m inst number o seen s)
 op_fine c n trace few h rests more f frame s kept room ready m inst low number o seen fact mends low_told stays = over (instance_of s inst) refl low_told stays
   where

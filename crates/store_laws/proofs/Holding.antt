@@ -1,6 +1,9 @@
 -- What a site holds by the trace stands, and is what it was while others tell.
 use Rattle.std.proofs.Common.{◌≡◌, ℕ, ◌==◌, Bool, true, false, cond, ◌&&◌, List, [], ◌∷◌, Option, Some, None, refl, sym, ◌∙◌, ap, subst}
 use Rattle.std.specs.Option.{option_map}
+use Rattle.role_steps.proofs.of_plain_facts.Numbers.{apart_test, equal}
+use Rattle.role_steps.proofs.of_plain_facts.Options.{none_some, some_same}
+use Rattle.role_steps.proofs.of_plain_facts.Tests.{and_first, and_second, or_second}
 use Rattle.locus_ids.specs.declared.config.Config.{Config}
 use Rattle.locus_ids.specs.declared.ids.EpochId.{EpochId}
 use Rattle.locus_ids.specs.declared.ids.FileId.{FileId}
@@ -23,57 +26,38 @@ use Rattle.tree_laws.specs.Doing.{IsAdopted, IsAdoptedRecord, IsOfStore, IsStore
 use Rattle.tree_laws.specs.Stores.{CopiesAreHeld, copy_for}
 use Rattle.tree_laws.proofs.CarriedLooks.{More}
 use Rattle.tree_laws.proofs.CarriedVersions.{same_version_of}
-use Rattle.tree_laws.proofs.Names.{true_false, some_is, test_same}
 use Rattle.tree_laws.proofs.Rows.{followed_rows}
 use Rattle.tree_laws.proofs.Versions.{versions_stay}
-use Rattle.order_laws.proofs.Knowing.{versions_stand}
-use Rattle.order_laws.proofs.Standing.{same_file_eq, newest, later_true, roots_stand}
+use Rattle.sync_laws.proofs.of_order_laws.Knowing.{versions_stand}
+use Rattle.sync_laws.proofs.of_order_laws.Standing.{same_file_eq, newest, roots_stand}
 
 -- ---- what is held stands ----
 
-first_of : (a b : Bool) → a && b ≡ true → a ≡ true
-first_of true b e = refl
-first_of false b e = absurd (true_false (sym e))
-
-second_of : (a b : Bool) → a && b ≡ true → b ≡ true
-second_of true b e = e
-second_of false b e = absurd (true_false (sym e))
-
-none_some : {A : Type 0} (x : A) → ◌≡◌ {A = Option A} None (Some x) → ⊥
-none_some x e = cc
-
 root_file : (f : FileId) → (f.ino == 1) ≡ true → f ≡ record { group = f.group; ino = 1 }
-root_file f e = let k : f.ino ≡ 1 = test_same f.ino 1 e in λ j. record { group = f.group; ino = k j }
+root_file f e = let k : f.ino ≡ 1 = equal f.ino 1 e in λ j. record { group = f.group; ino = k j }
 
 -- by the new stamp or by what was held before
 by_test : (b : Bool) (new s : Stamp) (old : Option Stamp) (R : Type 0) → (b ≡ true → new ≡ s → R) → (old ≡ Some s → R) → cond b (Some new) old ≡ Some s → R
-by_test true new s old R now before e = now refl (some_is new s e)
+by_test true new s old R now before e = now refl (some_same new s e)
 by_test false new s old R now before e = before e
 
 held_stands_after : (c : Config) (n : ℕ) (r : Record) (before : Trace) → MayCome c before r → RowsAreLawful c before → (me : ℕ) (f : FileId) (s : Stamp) → (held c before me f ≡ Some s → is_in (history c before) f s ≡ true) →
     held c (record { line = n; what = r } ∷ before) me f ≡ Some s → is_in (history c (record { line = n; what = r } ∷ before)) f s ≡ true
 held_stands_after c n (says.Commit g site stamp parents content) before may rows me f s later e = by_test (same_file g f && (site == me)) stamp s (held c before me f) _
-    (λ b same. newest (record { file = g; site = site; stamp = stamp; parents = parents; content = content }) (history c before) f s (same_file_eq g f (first_of (same_file g f) (site == me) b)) same)
-    (λ old. later_true _ _ (later old)) e
+    (λ b same. newest (record { file = g; site = site; stamp = stamp; parents = parents; content = content }) (history c before) f s (same_file_eq g f (and_first (same_file g f) (site == me) b)) same)
+    (λ old. or_second _ _ (later old)) e
 held_stands_after c n (says.Adopt g site stamp) before may rows me f s later e = by_test (same_file g f && (site == me)) stamp s (held c before me f) _
-    (λ b same. subst (λ (y : FileId). is_in (history c before) y s ≡ true) (same_file_eq g f (first_of (same_file g f) (site == me) b)) (subst (λ (y : Stamp). is_in (history c before) g y ≡ true) same ((versions_stand c before rows).known may.epoch g stamp may.known)))
+    (λ b same. subst (λ (y : FileId). is_in (history c before) y s ≡ true) (same_file_eq g f (and_first (same_file g f) (site == me) b)) (subst (λ (y : Stamp). is_in (history c before) g y ≡ true) same ((versions_stand c before rows).known may.epoch g stamp may.known)))
     later e
 held_stands_after c n _ before may rows me f s later e = later e
 
 pub held_stands : (c : Config) (trace : Trace) → RowsAreLawful c trace → (me : ℕ) (f : FileId) (s : Stamp) → held c trace me f ≡ Some s → is_in (history c trace) f s ≡ true
 held_stands c [] rows me f s e = by_test ((f.ino == 1) && has_pack c f.group me) format_stamp s None (is_in (history c []) f s ≡ true)
-    (λ b same. subst (λ (y : FileId). is_in (history c []) y s ≡ true) (sym (root_file f (first_of (f.ino == 1) (has_pack c f.group me) b))) (subst (λ (y : Stamp). is_in (history c []) (record { group = f.group; ino = 1 }) y ≡ true) same (roots_stand c [] f.group me (second_of (f.ino == 1) (has_pack c f.group me) b))))
+    (λ b same. subst (λ (y : FileId). is_in (history c []) y s ≡ true) (sym (root_file f (and_first (f.ino == 1) (has_pack c f.group me) b))) (subst (λ (y : Stamp). is_in (history c []) (record { group = f.group; ino = 1 }) y ≡ true) same (roots_stand c [] f.group me (and_second (f.ino == 1) (has_pack c f.group me) b))))
     (λ k. absurd (none_some s k)) e
 held_stands c (r ∷ before) rows me f s e = held_stands_after c r.line r.what before rows.0 rows.1 me f s (held_stands c before rows.1 me f s) e
 
 -- ---- while others tell ----
-
-apart_test : (a b : ℕ) → (a ≡ b → ⊥) → (a == b) ≡ false
-apart_test a b ne = over (a == b) refl
-  where
-    over : (x : Bool) → (a == b) ≡ x → (a == b) ≡ false
-    over true e = absurd (ne (test_same a b e))
-    over false e = e
 
 passed_over : (x : Bool) (site me : ℕ) (stamp : Stamp) (old : Option Stamp) → (site ≡ me → ⊥) → cond (x && (site == me)) (Some stamp) old ≡ old
 passed_over true site me stamp old ne = rw (apart_test site me ne) refl

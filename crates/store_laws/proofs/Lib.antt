@@ -51,3 +51,7 @@ pub mod AnswerUnasked
 pub mod AnswerMending
 pub mod AnswerOwning
 pub mod StorageResting
+pub use Rattle.sync_laws.proofs as of_sync_laws
+pub use Rattle.sync_laws.proofs.of_order_laws as of_order_laws
+pub use Rattle.user_laws.proofs as of_user_laws
+pub use Rattle.user_laws.proofs.of_holding_laws as of_holding_laws

@@ -1,6 +1,8 @@
 -- The call that makes a file stays its maker: it asks the make until it is granted it, since its file is begun and its set is good.
 use Rattle.std.proofs.Common.{◌≡◌, ℕ, ◌==◌, Bool, true, false, ◌&&◌, not, List, Option, Some, None, refl, sym, ◌∙◌, ap, subst, ◌⊎◌, inl, inr}
 use Rattle.std.specs.Option.{is_none, option_map}
+use Rattle.role_steps.proofs.of_plain_facts.Options.{some_same}
+use Rattle.role_steps.proofs.of_plain_facts.Tests.{and_second, true_false}
 use Rattle.trace_book.specs.declared.call.Call.{Call}
 use Rattle.tree_model.specs.declared.accepted.Waiting.{Waiting}
 use Rattle.locus_ids.specs.declared.config.Config.{Config}
@@ -44,15 +46,10 @@ use Rattle.tree_laws.proofs.Asking.{AsksStill, StepRecord, StepOf, asks_stays}
 use Rattle.tree_laws.proofs.CarriedLooks.{More, one_epoch, one_want, number_same}
 use Rattle.tree_laws.proofs.Kinship.{started_stays}
 use Rattle.tree_laws.proofs.Making.{its_opening, its_serial, one_group, members_told}
-use Rattle.tree_laws.proofs.Names.{true_false, some_is}
 use Rattle.tree_laws.proofs.Scripts.{in_stays, named_stays}
 use Rattle.store_laws.proofs.Begun.{begun_one, granted_in}
 
 -- ---- a grant or a refusal of the make ----
-
-second_of : (a b : Bool) → a && b ≡ true → b ≡ true
-second_of true b e = e
-second_of false b e = absurd (true_false (sym e))
 
 none_is : (o : Option Stamp) → is_none o ≡ true → o ≡ None
 none_is None e = refl
@@ -60,11 +57,11 @@ none_is (Some s) e = absurd (true_false (sym e))
 
 -- a granted make stands on no version
 made_on_none : (h : List Version) (t : TreeState) (call : CallId) (i : Serial) (f : FileId) (stamp : Option Stamp) (ss : ℕ) → gives_grant h t call i mode.Make f stamp ss ≡ true → stamp ≡ None
-made_on_none h t call i f stamp ss g = none_is stamp (second_of (is_new_file t call f ss) (is_none stamp)
-    (second_of (not (is_granted t i)) (is_new_file t call f ss && is_none stamp)
-    (second_of (i.us == call.site) (not (is_granted t i) && (is_new_file t call f ss && is_none stamp))
-    (second_of (is_none (open_refusal h t mode.Make call f)) ((i.us == call.site) && (not (is_granted t i) && (is_new_file t call f ss && is_none stamp)))
-    (second_of t.started (is_none (open_refusal h t mode.Make call f) && ((i.us == call.site) && (not (is_granted t i) && (is_new_file t call f ss && is_none stamp)))) g)))))
+made_on_none h t call i f stamp ss g = none_is stamp (and_second (is_new_file t call f ss) (is_none stamp)
+    (and_second (not (is_granted t i)) (is_new_file t call f ss && is_none stamp)
+    (and_second (i.us == call.site) (not (is_granted t i) && (is_new_file t call f ss && is_none stamp))
+    (and_second (is_none (open_refusal h t mode.Make call f)) ((i.us == call.site) && (not (is_granted t i) && (is_new_file t call f ss && is_none stamp)))
+    (and_second t.started (is_none (open_refusal h t mode.Make call f) && ((i.us == call.site) && (not (is_granted t i) && (is_new_file t call f ss && is_none stamp)))) g)))))
 
 -- what a grant of this make says
 pub record IsItsGrant (f : Frame) (i : Instance) (at : EpochId) (inst : Serial) (m : Mode) (file : FileId) (stamp : Option Stamp) (ss : ℕ) : Type 0 where
@@ -131,8 +128,8 @@ maker_step c n older h f i begun now (says.Grant at call request inst m file sta
     inr (request, inl (record { epoch_is = g.epoch_is; call_is = step; request_is = refl; serial_is = g.serial_is; mode_is = g.mode_is; file_is = g.file_is; stamp_is = g.stamp_is; place_is = g.place_is })))
 maker_step c n older h f i begun now (says.Refuse at call request inst m file why) may step = absurd (not_refused c older f i begun now at call request inst m file why may step)
 maker_step c n older h f i begun now (says.Look at call number file what result) may step = absurd (subst (λ (y : Want). IsOpening c y now.file (how.Make i.set i.kind)) (one_want c older now.call now.asks.wanted (want.Look file what) now.asks.asks (subst (λ (y : CallId). Asks c older y (want.Look file what)) step may.in_time.asks)) now.asks.opening_is)
-maker_step c n older h f i begun now (says.Act at inst number o result) may step = absurd (subst (λ (y : Want). IsOpening c y now.file (how.Make i.set i.kind)) (one_want c older now.call now.asks.wanted (want.Do inst o) now.asks.asks (subst (λ (y : CallId). Asks c older y (want.Do inst o)) (some_is may.in_time.call now.call (sym may.in_time.owner ∙ step)) may.in_time.asks)) now.asks.opening_is)
-maker_step c n older h f i begun now (says.Release at inst file stamp) may step = absurd (subst (λ (y : Want). IsOpening c y now.file (how.Make i.set i.kind)) (one_want c older now.call now.asks.wanted (want.Close inst) now.asks.asks (subst (λ (y : CallId). Asks c older y (want.Close inst)) (some_is may.in_time.call now.call (sym may.in_time.owner ∙ step)) may.in_time.asks)) now.asks.opening_is)
+maker_step c n older h f i begun now (says.Act at inst number o result) may step = absurd (subst (λ (y : Want). IsOpening c y now.file (how.Make i.set i.kind)) (one_want c older now.call now.asks.wanted (want.Do inst o) now.asks.asks (subst (λ (y : CallId). Asks c older y (want.Do inst o)) (some_same may.in_time.call now.call (sym may.in_time.owner ∙ step)) may.in_time.asks)) now.asks.opening_is)
+maker_step c n older h f i begun now (says.Release at inst file stamp) may step = absurd (subst (λ (y : Want). IsOpening c y now.file (how.Make i.set i.kind)) (one_want c older now.call now.asks.wanted (want.Close inst) now.asks.asks (subst (λ (y : CallId). Asks c older y (want.Close inst)) (some_same may.in_time.call now.call (sym may.in_time.owner ∙ step)) may.in_time.asks)) now.asks.opening_is)
 maker_step c n older h f i begun now _ may step = absurd step
 
 makes_still : (c : Config) (n : ℕ) (x : Told) (older : List Line) → IsFollowed c older → MayTell c older x → (f : Frame) (i : Instance) → WasBegun older f.me f.epoch i.inst i.file → (now : MakesNow c older f.epoch f.me i.inst i.file.group i.set i.kind) → IsMaker c (More n x older) f i now.call

@@ -1,5 +1,7 @@
 -- An open of a new file at its storage site: it is begun on a number that is free, or there is no number for it.
 use Rattle.std.proofs.Common.{◌≡◌, ℕ, ◌+◌, ◌-◌, ◌*◌, ◌<◌, ◌≤◌, Bool, true, false, cond, List, [], ◌∷◌, Option, Some, None, refl, sym, ◌∙◌, ap, subst, arith, inl, inr}
+use Rattle.role_steps.proofs.of_plain_facts.Options.{none_some}
+use Rattle.role_steps.proofs.of_plain_facts.Tests.{true_false}
 use Rattle.locus_ids.specs.declared.config.Config.{Config}
 use Rattle.locus_ids.specs.declared.ids.FileId.{FileId}
 use Rattle.locus_ids.specs.declared.ids.Kind.{Kind}
@@ -9,6 +11,7 @@ use Rattle.locus_ids.specs.declared.ids.Serial.{Serial}
 use Rattle.locus_ids.specs.declared.ids.Stamp.{Stamp}
 use Rattle.locus_ids.specs.declared.refusal.Refusal.TheVariants as refusal
 use Rattle.locus_ids.specs.declared.sites.Sites.{Sites}
+use Rattle.locus_ids.specs.Sizes.{inode_span, site_inodes, sites_max}
 use Rattle.wire_messages.specs.declared.body.Body.TheVariants as body
 use Rattle.wire_messages.specs.declared.body.OpenedAs.TheVariants as opened
 use Rattle.wire_messages.specs.declared.body.Opening.TheVariants as how
@@ -29,9 +32,8 @@ use Rattle.tree_laws.specs.Packets.{JoinsParents, MakeOpenSs, MakesNow, NoNumber
 use Rattle.tree_laws.specs.Past.{WasBegun, WasNamed, WasShut}
 use Rattle.tree_laws.specs.Stores.{InstanceFact}
 use Rattle.tree_laws.proofs.Making.{begun_place}
-use Rattle.tree_laws.proofs.Names.{true_false}
 use Rattle.tree_laws.proofs.Serials.{unnamed}
-use Rattle.order_laws.specs.Joining.{PacksAreOfSites}
+use Rattle.sync_laws.specs.of_order_laws.Joining.{PacksAreOfSites}
 use Rattle.store_laws.specs.Rests.{AllStays, IsUnbegun, StoreRests}
 use Rattle.store_laws.proofs.Beginning.{opened_sent, plain_begun, shut_begun, to_sync_sent}
 use Rattle.store_laws.proofs.Numbers.{begun_used, holds_copy, so_used, used_so}
@@ -40,35 +42,32 @@ use Rattle.store_laws.proofs.Said.{asked_as_said}
 use Rattle.store_laws.proofs.Staying.{instance_more}
 use Rattle.store_laws.proofs.Tabled.{apart_latest, every_latest, latest_has, latest_same, row_found}
 
-none_some : {A : Type 0} (x : A) → ◌≡◌ {A = Option A} None (Some x) → ⊥
-none_some x e = cc
-
 above_one : (k : ℕ) → 1 ≤ k → (k ≡ 1 → ⊥) → 1 < k
 above_one k low ne = omega (arith, low, ne)
 
-at_least : (a k : ℕ) → 64 * (a - 1) + 1 ≤ k → 1 ≤ k
+at_least : (a k : ℕ) → site_inodes * (a - 1) + 1 ≤ k → 1 ≤ k
 at_least a k l = omega (arith, l)
 
 module _ (c : Config) (n : ℕ) (trace : List Line) (few : PacksAreOfSites c) (h : IsFollowed c trace) (rests : StoreRests c trace) (f : Frame) (frame : FrameFact c trace f) (s : Store) (held_so : StoreHeld c f trace s) where
   low_site : 1 ≤ f.me
   low_site = (rests.places f.epoch f.me frame.inside).0
 
-  high_site : f.me ≤ 16
+  high_site : f.me ≤ sites_max
   high_site = (rests.places f.epoch f.me frame.inside).1
 
   -- ---- no number is left ----
 
   full_here : (g : ℕ) → own_ino s g f.me ≡ None → IsFull c trace f.epoch f.me g
   full_here g none file same given = (let r : InRange f.me file.ino = given_range f.me file.ino low_site given in
-      subst (λ (y : FileId). IsUsed c trace f.epoch f.me y) (λ j. record { group = sym same j; ino = file.ino }) (used_so c trace h rests f frame s held_so g file.ino (range_narrow f.me file.ino high_site r.high) (next_none s g (64 * (f.me - 1) + 1) 64 none file.ino r.low r.high)))
+      subst (λ (y : FileId). IsUsed c trace f.epoch f.me y) (λ j. record { group = sym same j; ino = file.ino }) (used_so c trace h rests f frame s held_so g file.ino (range_narrow f.me file.ino high_site r.high) (next_none s g (site_inodes * (f.me - 1) + 1) site_inodes none file.ino r.low r.high)))
 
   -- ---- the next number is free ----
 
   module _ (g ino : ℕ) (next : own_ino s g f.me ≡ Some ino) (packed : has_pack c g f.me ≡ true) where
-    it : IsNext s g (64 * (f.me - 1) + 1) 64 ino
-    it = next_some s g (64 * (f.me - 1) + 1) 64 ino next
+    it : IsNext s g (site_inodes * (f.me - 1) + 1) site_inodes ino
+    it = next_some s g (site_inodes * (f.me - 1) + 1) site_inodes ino next
 
-    narrow : ino < 65536
+    narrow : ino < inode_span
     narrow = range_narrow f.me ino high_site it.high
 
     not_root : ino ≡ 1 → ⊥
@@ -199,7 +198,7 @@ module _ (c : Config) (n : ℕ) (trace : List Line) (few : PacksAreOfSites c) (h
       fact : InstanceFact c after f i
       fact = record {
         begun = begun;
-        user = subst (λ (u : ℕ). u ≤ 16) (sym now.user_is) (rests.sites f.epoch now.call now.asks.inside);
+        user = subst (λ (u : ℕ). u ≤ sites_max) (sym now.user_is) (rests.sites f.epoch now.call now.asks.inside);
         vector_is = subst (λ (ps : List Stamp). JoinsParents c after made ps vector) (sym no_parents) joins;
         lies = (now.call, inl (record { now = makes_after; call_is = refl }), set_is, kind_is, inl (record { site_is = refl; epoch_is = refl; serial_is = refl; file_is = refl }));
         holds = inl (refl, refl);

@@ -2,6 +2,9 @@
 use Rattle.std.proofs.Common.{◌≡◌, ℕ, ◌+◌, ◌==◌, Bool, true, false, cond, ◌&&◌, List, [], ◌∷◌, Option, Some, None, refl, sym, ◌∙◌, ap, subst, inl, inr}
 use Rattle.std.specs.List.{find}
 use Rattle.std.specs.Option.{is_none}
+use Rattle.role_steps.proofs.of_plain_facts.Numbers.{equal_self}
+use Rattle.role_steps.proofs.of_plain_facts.Options.{some_same}
+use Rattle.role_steps.proofs.of_plain_facts.Tests.{and_true}
 use Rattle.locus_ids.specs.declared.config.Config.{Config}
 use Rattle.locus_ids.specs.declared.ids.CallId.{CallId}
 use Rattle.locus_ids.specs.declared.ids.EpochId.{EpochId}
@@ -47,9 +50,9 @@ use Rattle.tree_laws.specs.Stores.{HoldsMade, InstanceFact, StageFact, WorksAs}
 use Rattle.tree_laws.proofs.CarriedVersions.{joins_stay}
 use Rattle.tree_laws.proofs.Hearing.{asks_next}
 use Rattle.tree_laws.proofs.Kinship.{tree_epoch_is}
-use Rattle.tree_laws.proofs.Names.{some_is, test_own, same_epoch_own}
+use Rattle.tree_laws.proofs.Names.{same_epoch_own}
 use Rattle.tree_laws.proofs.Versions.{versions_stay}
-use Rattle.order_laws.specs.Joining.{PacksAreOfSites}
+use Rattle.sync_laws.specs.of_order_laws.Joining.{PacksAreOfSites}
 use Rattle.store_laws.proofs.Closes.{lies_with}
 use Rattle.store_laws.proofs.Effects.{GoesOn, outcome_own}
 use Rattle.store_laws.proofs.Makers.{lies_stay}
@@ -74,10 +77,6 @@ pub record IsStep (c : Config) (trace : List Line) (f : Frame) (i : Instance) (x
   pub goes : GoesOn i.mode i.work w
   pub clean : w.owes ≡ false → w.changed ≡ []
 
-both_of : (a b : Bool) → a ≡ true → b ≡ true → a && b ≡ true
-both_of true b e k = k
-both_of false b e k = e
-
 -- the named one is changed
 named_changed : (p : Open → Bool) (change : Open → Open) → ((y : Open) → p (change y) ≡ p y) → (xs : List Open) (x : Open) → find p xs ≡ Some x → find p (change_first p change xs) ≡ Some (change x)
 named_changed p change same [] x e = absurd (none_some e)
@@ -87,7 +86,7 @@ named_changed p change same [] x e = absurd (none_some e)
 named_changed p change same (y ∷ ys) x e = at (named_changed p change same ys x) (p y) refl e
   where
     at : (find p ys ≡ Some x → find p (change_first p change ys) ≡ Some (change x)) → (b : Bool) → p y ≡ b → cond b (Some y) (find p ys) ≡ Some x → find p (cond b (change y ∷ ys) (y ∷ change_first p change ys)) ≡ Some (change x)
-    at later true t k = ap (λ (b : Bool). cond b (Some (change y)) (find p ys)) (same y ∙ t) ∙ ap (λ z. Some (change z)) (some_is y x k)
+    at later true t k = ap (λ (b : Bool). cond b (Some (change y)) (find p ys)) (same y ∙ t) ∙ ap (λ z. Some (change z)) (some_same y x k)
     at later false t k = ap (λ (b : Bool). cond b (Some y) (find p (change_first p change ys))) t ∙ later k
 
 module _ (c : Config) (n : ℕ) (trace : List Line) (few : PacksAreOfSites c) (h : IsFollowed c trace) (f : Frame) (inside : has_joined (entries trace) f.me f.epoch ≡ true) (s : Store) (i : Instance) (b : IsBegunSo c trace f i) (kept : OthersHold c trace f i s) (x : Open) (works : WorksAs c trace f i x) (unshut : WasShut trace f.me f.epoch i.inst → ⊥) (running : i.stage ≡ stage.Running) (granted : is_granted_here (tree_of c f.epoch i.file.group (entries trace)) i.inst ≡ true)
@@ -107,10 +106,10 @@ module _ (c : Config) (n : ℕ) (trace : List Line) (few : PacksAreOfSites c) (h
   -- ---- it comes as it may ----
 
   next : (w.ops == x.work.ops + 1) ≡ true
-  next = subst (λ (m : ℕ). (w.ops == m) ≡ true) (step.goes.ops_is ∙ ap (λ (y : Work). y.ops + 1) (sym works.work_is)) (test_own w.ops)
+  next = subst (λ (m : ℕ). (w.ops == m) ≡ true) (step.goes.ops_is ∙ ap (λ (y : Work). y.ops + 1) (sym works.work_is)) (equal_self w.ops)
 
   given : gives_act (history c (entries trace)) tree i.inst w.ops o r ≡ true
-  given = ap (instance_gives (history c (entries trace)) tree w.ops o r) found ∙ both_of (w.ops == x.work.ops + 1) (is_given (result_on (history c (entries trace)) tree o x) r) next (ap (λ (y : Option Result). is_given y r) step.result_is ∙ outcome_own r)
+  given = ap (instance_gives (history c (entries trace)) tree w.ops o r) found ∙ and_true (w.ops == x.work.ops + 1) (is_given (result_on (history c (entries trace)) tree o x) r) next (ap (λ (y : Option Result). is_given y r) step.result_is ∙ outcome_own r)
 
   not_look : (g : FileId) (what : What) → want.Do i.inst o ≡ want.Look g what → ⊥
   not_look g what e = cc
@@ -138,7 +137,7 @@ module _ (c : Config) (n : ℕ) (trace : List Line) (few : PacksAreOfSites c) (h
   now = once_acted (history c (entries trace)) tree o r x
 
   here : same_epoch f.epoch tree.epoch && is_granted_here tree i.inst ≡ true
-  here = both_of (same_epoch f.epoch tree.epoch) (is_granted_here tree i.inst) (subst (λ (y : EpochId). same_epoch f.epoch y ≡ true) (sym (tree_epoch_is c f.epoch i.file.group (entries trace))) (same_epoch_own f.epoch)) granted
+  here = and_true (same_epoch f.epoch tree.epoch) (is_granted_here tree i.inst) (subst (λ (y : EpochId). same_epoch f.epoch y ≡ true) (sym (tree_epoch_is c f.epoch i.file.group (entries trace))) (same_epoch_own f.epoch)) granted
 
   found_now : instance_in (tree_of c f.epoch i.file.group (entries after)) i.inst ≡ Some now
   found_now = ap (λ (y : Bool). instance_in (cond y (acted (history c (entries trace)) i.inst o r tree) tree) i.inst) here

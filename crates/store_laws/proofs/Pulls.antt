@@ -4,12 +4,15 @@ use Rattle.std.specs.Prelude.{nat_lt}
 use Rattle.std.specs.List.{list_any}
 use Rattle.std.proofs.lemmas.Bool.Decides.{nat_tests}
 use Rattle.std.proofs.lemmas.List.{length-take}
+use Rattle.role_steps.proofs.of_plain_facts.Numbers.{equal}
+use Rattle.role_steps.proofs.of_plain_facts.Tests.{and_first, and_second, true_false}
 use Rattle.locus_ids.specs.declared.config.Config.{Config}
 use Rattle.locus_ids.specs.declared.ids.EpochId.{EpochId}
 use Rattle.locus_ids.specs.declared.ids.FileId.{FileId}
 use Rattle.locus_ids.specs.declared.ids.Kind.{Kind}
 use Rattle.locus_ids.specs.declared.ids.Stamp.{Stamp}
 use Rattle.locus_ids.specs.declared.sites.Sites.{Sites}
+use Rattle.locus_ids.specs.Sizes.{inode_span, page_bytes}
 use Rattle.commit_graph.specs.Versions.{is_ancestor, is_version, same_stamp}
 use Rattle.commit_graph.specs.declared.history.Version.{Version}
 use Rattle.file_content.specs.Pages.{page_of, pages_of}
@@ -36,9 +39,8 @@ use Rattle.tree_laws.proofs.CarriedLooks.{More}
 use Rattle.tree_laws.proofs.CarriedVersions.{version_stays}
 use Rattle.tree_laws.proofs.Boots.{every_both}
 use Rattle.tree_laws.proofs.Kinship.{started_stays}
-use Rattle.tree_laws.proofs.Names.{true_false, test_same}
 use Rattle.tree_laws.proofs.Versions.{versions_stay}
-use Rattle.order_laws.proofs.Standing.{same_stamp_eq}
+use Rattle.sync_laws.proofs.of_order_laws.Standing.{same_stamp_eq}
 use Rattle.store_laws.specs.Rests.{StoreRests}
 use Rattle.store_laws.proofs.Serving.{IsCopy, copy_is}
 use Rattle.store_laws.proofs.Tabled.{row_found}
@@ -163,7 +165,7 @@ notify_fine c n trace h rests f frame s copies ps all from file k set size stamp
     stands : Stands c trace file stamp
     stands = subst (λ (y : Stamp). Stands c trace file y) t.stamp_is t.is_version.stands
 
-    narrow : file.ino < 65536
+    narrow : file.ino < inode_span
     narrow = rests.narrow file stamp stands
 
     p : Pull
@@ -193,14 +195,6 @@ notify_fine c n trace h rests f frame s copies ps all from file k set size stamp
 
 -- ---- Page ----
 
-first_of : (a b : Bool) → a && b ≡ true → a ≡ true
-first_of true b e = refl
-first_of false b e = absurd (true_false (sym e))
-
-second_of : (a b : Bool) → a && b ≡ true → b ≡ true
-second_of true b e = e
-second_of false b e = absurd (true_false (sym e))
-
 -- the pull with the page that it waits for
 paged : (c : Config) (trace : List Line) (e : EpochId) (me : ℕ) (p : Pull) (stamp : Stamp) (page : ℕ) (bytes : List ℕ) → PullFact c trace e me p → PageFact c trace p.file stamp page bytes → is_awaited p stamp page bytes ≡ true → PullFact c trace e me (record p { content = p.content ++ bytes })
 paged c trace e me p stamp page bytes k q awaited = record {
@@ -214,53 +208,53 @@ paged c trace e me p stamp page bytes k q awaited = record {
   set_is = k.set_is;
   vector_is = k.vector_is;
   size_is = k.size_is;
-  pages = joined ∙ (sym (take_own (length p.content + 1024) k.version.content) ∙ ap (λ (xs : List ℕ). take (length xs) k.version.content) (sym joined));
+  pages = joined ∙ (sym (take_own (length p.content + page_bytes) k.version.content) ∙ ap (λ (xs : List ℕ). take (length xs) k.version.content) (sym joined));
   even = even_now k.even;
   wanted = k.wanted;
   holds = k.holds;
 }
   where
     same_version : q.version ≡ k.version
-    same_version = q.is_version.same ∙ (ap (version_of c (entries trace) p.file) (q.stamp_is ∙ (sym (same_stamp_eq p.stamp stamp (first_of (same_stamp p.stamp stamp) _ awaited)) ∙ sym k.stamp_is)) ∙ sym k.is_version.same)
+    same_version = q.is_version.same ∙ (ap (version_of c (entries trace) p.file) (q.stamp_is ∙ (sym (same_stamp_eq p.stamp stamp (and_first (same_stamp p.stamp stamp) _ awaited)) ∙ sym k.stamp_is)) ∙ sym k.is_version.same)
 
     not_complete : (length p.content == p.size) ≡ false
-    not_complete = over (length p.content == p.size) (first_of (not (is_complete p)) _ (second_of (same_stamp p.stamp stamp) _ awaited))
+    not_complete = over (length p.content == p.size) (and_first (not (is_complete p)) _ (and_second (same_stamp p.stamp stamp) _ awaited))
       where
         over : (b : Bool) → not b ≡ true → b ≡ false
         over true e = absurd (true_false (sym e))
         over false e = refl
 
     page_is : page ≡ pages_of (length p.content)
-    page_is = test_same page (next_page p) (first_of (page == next_page p) _ (second_of (not (is_complete p)) _ (second_of (same_stamp p.stamp stamp) _ awaited)))
+    page_is = equal page (next_page p) (and_first (page == next_page p) _ (and_second (not (is_complete p)) _ (and_second (same_stamp p.stamp stamp) _ awaited)))
 
     own_test : (a b : ℕ) → a ≡ b → (a == b) ≡ true
     own_test a b e = grind (arith, nat_tests)
 
-    whole : (m : ℕ) → length p.content ≡ 1024 * m → 1024 * pages_of (length p.content) ≡ length p.content
-    whole m e = ap (λ (z : ℕ). 1024 * pages_of z) e ∙ (ap (λ (z : ℕ). 1024 * z) (exact m) ∙ sym e)
+    whole : (m : ℕ) → length p.content ≡ page_bytes * m → page_bytes * pages_of (length p.content) ≡ length p.content
+    whole m e = ap (λ (z : ℕ). page_bytes * pages_of z) e ∙ (ap (λ (z : ℕ). page_bytes * z) (exact m) ∙ sym e)
       where
-        exact : (m : ℕ) → pages_of (1024 * m) ≡ m
+        exact : (m : ℕ) → pages_of (page_bytes * m) ≡ m
         exact m = omega arith
 
-    at_page : 1024 * page ≡ length p.content
-    at_page = ap (λ (z : ℕ). 1024 * z) page_is ∙ over k.even
+    at_page : page_bytes * page ≡ length p.content
+    at_page = ap (λ (z : ℕ). page_bytes * z) page_is ∙ over k.even
       where
-        over : (length p.content ≡ p.size) ⊎ ((m : ℕ) × (length p.content ≡ 1024 * m)) → 1024 * pages_of (length p.content) ≡ length p.content
+        over : (length p.content ≡ p.size) ⊎ ((m : ℕ) × (length p.content ≡ page_bytes * m)) → page_bytes * pages_of (length p.content) ≡ length p.content
         over (inl e) = absurd (true_false (sym (own_test (length p.content) p.size e) ∙ not_complete))
         over (inr m) = whole m.0 m.1
 
-    bytes_are : bytes ≡ take 1024 (drop (length p.content) k.version.content)
-    bytes_are = q.bytes_are ∙ (ap (λ (v : HeldVersion). page_of v.content page) same_version ∙ ap (λ (z : ℕ). take 1024 (drop z k.version.content)) at_page)
+    bytes_are : bytes ≡ take page_bytes (drop (length p.content) k.version.content)
+    bytes_are = q.bytes_are ∙ (ap (λ (v : HeldVersion). page_of v.content page) same_version ∙ ap (λ (z : ℕ). take page_bytes (drop z k.version.content)) at_page)
 
-    joined : p.content ++ bytes ≡ take (length p.content + 1024) k.version.content
-    joined = ap (λ (xs : List ℕ). p.content ++ xs) bytes_are ∙ (ap (λ (xs : List ℕ). xs ++ take 1024 (drop (length p.content) k.version.content)) k.pages ∙ joined_take (length p.content) 1024 k.version.content)
+    joined : p.content ++ bytes ≡ take (length p.content + page_bytes) k.version.content
+    joined = ap (λ (xs : List ℕ). p.content ++ xs) bytes_are ∙ (ap (λ (xs : List ℕ). xs ++ take page_bytes (drop (length p.content) k.version.content)) k.pages ∙ joined_take (length p.content) page_bytes k.version.content)
 
-    long : length (p.content ++ bytes) ≡ min (length p.content + 1024) p.size
-    long = ap length joined ∙ (length-take (length p.content + 1024) k.version.content ∙ ap (min (length p.content + 1024)) k.size_is)
+    long : length (p.content ++ bytes) ≡ min (length p.content + page_bytes) p.size
+    long = ap length joined ∙ (length-take (length p.content + page_bytes) k.version.content ∙ ap (min (length p.content + page_bytes)) k.size_is)
 
-    even_now : (length p.content ≡ p.size) ⊎ ((m : ℕ) × (length p.content ≡ 1024 * m)) → (length (p.content ++ bytes) ≡ p.size) ⊎ ((m : ℕ) × (length (p.content ++ bytes) ≡ 1024 * m))
+    even_now : (length p.content ≡ p.size) ⊎ ((m : ℕ) × (length p.content ≡ page_bytes * m)) → (length (p.content ++ bytes) ≡ p.size) ⊎ ((m : ℕ) × (length (p.content ++ bytes) ≡ page_bytes * m))
     even_now (inl e) = absurd (true_false (sym (own_test (length p.content) p.size e) ∙ not_complete))
-    even_now (inr m) = split (compare (length p.content + 1024) p.size)
+    even_now (inr m) = split (compare (length p.content + page_bytes) p.size)
       where
         compare : (a b : ℕ) → (a ≤ b) ⊎ (b ≤ a)
         compare zero b = inl (least b)
@@ -286,20 +280,20 @@ paged c trace e me p stamp page bytes k q awaited = record {
         high : (a b : ℕ) → b ≤ a → min a b ≡ b
         high a b l = omega (arith, l)
 
-        one_more : (z : ℕ) → z ≡ 1024 * m.0 → z + 1024 ≡ 1024 * (m.0 + 1)
+        one_more : (z : ℕ) → z ≡ page_bytes * m.0 → z + page_bytes ≡ page_bytes * (m.0 + 1)
         one_more z e = omega (arith, e)
 
-        split : (length p.content + 1024 ≤ p.size) ⊎ (p.size ≤ length p.content + 1024) → (length (p.content ++ bytes) ≡ p.size) ⊎ ((m : ℕ) × (length (p.content ++ bytes) ≡ 1024 * m))
-        split (inl l) = inr (m.0 + 1, long ∙ (low (length p.content + 1024) p.size l ∙ one_more (length p.content) m.1))
-        split (inr l) = inl (long ∙ high (length p.content + 1024) p.size l)
+        split : (length p.content + page_bytes ≤ p.size) ⊎ (p.size ≤ length p.content + page_bytes) → (length (p.content ++ bytes) ≡ p.size) ⊎ ((m : ℕ) × (length (p.content ++ bytes) ≡ page_bytes * m))
+        split (inl l) = inr (m.0 + 1, long ∙ (low (length p.content + page_bytes) p.size l ∙ one_more (length p.content) m.1))
+        split (inr l) = inl (long ∙ high (length p.content + page_bytes) p.size l)
 
-file_of_key : (a b : FileId) → a.ino < 65536 → b.ino < 65536 → file_key a ≡ file_key b → a ≡ b
+file_of_key : (a b : FileId) → a.ino < inode_span → b.ino < inode_span → file_key a ≡ file_key b → a ≡ b
 file_of_key a b low narrow e = id_eq (groups a.group b.group a.ino b.ino low narrow e) (numbers a.group b.group a.ino b.ino low narrow e)
   where
-    groups : (g h i j : ℕ) → i < 65536 → j < 65536 → g * 65536 + i ≡ h * 65536 + j → g ≡ h
+    groups : (g h i j : ℕ) → i < inode_span → j < inode_span → g * inode_span + i ≡ h * inode_span + j → g ≡ h
     groups g h i j l m k = omega (arith, l, m, k)
 
-    numbers : (g h i j : ℕ) → i < 65536 → j < 65536 → g * 65536 + i ≡ h * 65536 + j → i ≡ j
+    numbers : (g h i j : ℕ) → i < inode_span → j < inode_span → g * inode_span + i ≡ h * inode_span + j → i ≡ j
     numbers g h i j l m k = omega (arith, l, m, k)
 
     id_eq : a.group ≡ b.group → a.ino ≡ b.ino → a ≡ b
@@ -308,7 +302,7 @@ file_of_key a b low narrow e = id_eq (groups a.group b.group a.ino b.ino low nar
 pub page_fine : (c : Config) (n : ℕ) (trace : List Line) → StoreRests c trace → (f : Frame) (ps : List Pull) → PullsFact c f trace ps → (file : FileId) (stamp : Stamp) (page : ℕ) (bytes : List ℕ) → PageFact c trace file stamp page bytes → PullsFine c n trace f (on_page f file stamp page bytes ps)
 page_fine c n trace rests f ps all file stamp page bytes q = over (pull_of ps file) refl
   where
-    narrow : file.ino < 65536
+    narrow : file.ino < inode_span
     narrow = rests.narrow file q.version.stamp q.is_version.stands
 
     by_test : (p : Pull) → PullFact c trace f.epoch f.me p → p.file ≡ file → (b : Bool) → is_awaited p stamp page bytes ≡ b → PullsFine c n trace f (elim b [ true ↦ goes_on f (record p { content = p.content ++ bytes }) ps | false ↦ quiet ps ])

@@ -2,9 +2,13 @@
 use Rattle.std.proofs.Common.{◌≡◌, ℕ, zero, suc, ◌+◌, ◌-◌, ◌<◌, ◌≤◌, ◌==◌, Bool, true, false, not, cond, ◌&&◌, filter, List, [], ◌∷◌, length, map, max, replicate, Option, Some, None, refl, sym, ◌∙◌, ap, subst, arith}
 use Rattle.std.specs.List.{AllByRecursion, find}
 use Rattle.std.proofs.lemmas.Bool.Decides.{nat_tests}
+use Rattle.role_steps.proofs.of_plain_facts.Numbers.{equal, equal_self}
+use Rattle.role_steps.proofs.of_plain_facts.Options.{none_some, some_same}
+use Rattle.role_steps.proofs.of_plain_facts.Tests.{and_first, and_second, true_false}
 use Rattle.locus_ids.specs.declared.config.Config.{Config}
 use Rattle.locus_ids.specs.declared.ids.FileId.{FileId}
 use Rattle.locus_ids.specs.declared.ids.Stamp.{Stamp}
+use Rattle.locus_ids.specs.Sizes.{sites_max}
 use Rattle.version_vector.specs.Counters.{part, raised}
 use Rattle.commit_graph.specs.Counters.{counter, greatest, next_number}
 use Rattle.commit_graph.specs.Grants.{is_read}
@@ -19,38 +23,23 @@ use Rattle.the_run.specs.Worlds.{Line}
 use Rattle.tree_model.specs.Histories.{history}
 use Rattle.tree_laws.specs.Printed.{entries}
 use Rattle.tree_laws.specs.Packets.{JoinsParents}
-use Rattle.tree_laws.proofs.Names.{true_false, some_is, test_same, test_own}
 use Rattle.tree_laws.proofs.Owing.{writer_writes}
-use Rattle.order_laws.specs.Alone.{AreAlone, MayStandBy}
-use Rattle.order_laws.proofs.Lists.{all_found}
-use Rattle.order_laws.proofs.Standing.{same_file_eq}
+use Rattle.sync_laws.specs.of_order_laws.Alone.{AreAlone, MayStandBy}
+use Rattle.sync_laws.proofs.of_order_laws.Lists.{all_found}
+use Rattle.sync_laws.proofs.of_order_laws.Standing.{same_file_eq}
 
 -- ---- the only one that writes ----
-
-none_some : {A : Type 0} (x : A) → ◌≡◌ {A = Option A} None (Some x) → ⊥
-none_some x e = cc
-
-first_of : (a b : Bool) → a && b ≡ true → a ≡ true
-first_of true b e = refl
-first_of false b e = absurd (true_false (sym e))
-
-second_of : (a b : Bool) → a && b ≡ true → b ≡ true
-second_of true b e = e
-second_of false b e = absurd (true_false (sym e))
 
 not_true : (b : Bool) → not b ≡ true → b ≡ true → ⊥
 not_true true e k = true_false (sym e)
 not_true false e k = true_false (sym k)
 
-file_own : (f : FileId) → same_file f f ≡ true
-file_own f = grind (arith, nat_tests)
-
 -- of two that stand by each other not both write the file
 apart_writers : (f : FileId) (x y : Open) → MayStandBy x y → is_writing f x ≡ true → is_writing f y ≡ true → ⊥
-apart_writers f x y k a b = not_true (is_read x.grant.mode) (second_of (same_file x.grant.file f) (not (is_read x.grant.mode)) a) (k same).0
+apart_writers f x y k a b = not_true (is_read x.grant.mode) (and_second (same_file x.grant.file f) (not (is_read x.grant.mode)) a) (k same).0
   where
     same : same_file x.grant.file y.grant.file ≡ true
-    same = subst (λ (g : FileId). same_file x.grant.file g ≡ true) (sym (same_file_eq y.grant.file f (first_of (same_file y.grant.file f) (not (is_read y.grant.mode)) b))) (first_of (same_file x.grant.file f) (not (is_read x.grant.mode)) a)
+    same = subst (λ (g : FileId). same_file x.grant.file g ≡ true) (sym (same_file_eq y.grant.file f (and_first (same_file y.grant.file f) (not (is_read y.grant.mode)) b))) (and_first (same_file x.grant.file f) (not (is_read x.grant.mode)) a)
 
 none_writes : (f : FileId) (x : Open) (ys : List Open) → AllByRecursion (MayStandBy x) ys → is_writing f x ≡ true → filter (is_writing f) ys ≡ []
 none_writes f x [] h w = refl
@@ -70,7 +59,7 @@ one_writes f p (y ∷ ys) x h e w = at (λ (k : find p ys ≡ Some x). one_write
     here same false t = absurd (true_false (sym (ap (is_writing f) same ∙ w) ∙ t))
 
     at : (find p ys ≡ Some x → filter (is_writing f) ys ≡ x ∷ []) → (a b : Bool) → is_writing f y ≡ b → cond a (Some y) (find p ys) ≡ Some x → cond b (y ∷ filter (is_writing f) ys) (filter (is_writing f) ys) ≡ x ∷ []
-    at later true b t k = here (some_is y x k) b t
+    at later true b t k = here (some_same y x k) b t
     at later false true t k = absurd (apart_writers f y x (all_found (MayStandBy y) p ys x h.0 k) t w)
     at later false false t k = later k
 
@@ -103,7 +92,7 @@ not_among f p (y ∷ ys) x e w k = at (λ (a : filter (is_writing f) ys ≡ []) 
 
     at : (filter (is_writing f) ys ≡ [] → find p ys ≡ Some x → ⊥) → (a b : Bool) → is_writing f y ≡ b → cond b (y ∷ filter (is_writing f) ys) (filter (is_writing f) ys) ≡ [] → cond a (Some y) (find p ys) ≡ Some x → ⊥
     at later a true t e k = empty y (filter (is_writing f) ys) e
-    at later true false t e k = true_false (sym w ∙ (ap (is_writing f) (sym (some_is y x k)) ∙ t))
+    at later true false t e k = true_false (sym w ∙ (ap (is_writing f) (sym (some_same y x k)) ∙ t))
     at later false false t e k = later e k
 
 -- where the first writer is changed, it is found changed
@@ -116,10 +105,10 @@ writer_changed f s p change same (y ∷ ys) x e q k = at (λ (a : filter (is_wri
 
     at : (filter (is_writing f) ys ≡ x ∷ [] → find p ys ≡ Some x → find p (change_first (is_writer f s) change ys) ≡ Some (change x)) → (a b d : Bool) → is_writer f s y ≡ a → is_writing f y ≡ b → p y ≡ d → cond b (y ∷ filter (is_writing f) ys) (filter (is_writing f) ys) ≡ x ∷ [] → cond d (Some y) (find p ys) ≡ Some x →
         find p (cond a (change y ∷ ys) (y ∷ change_first (is_writer f s) change ys)) ≡ Some (change x)
-    at later true b true t u v e k = found true v refl ∙ ap (λ z. Some (change z)) (some_is y x k)
+    at later true b true t u v e k = found true v refl ∙ ap (λ z. Some (change z)) (some_same y x k)
     at later true true false t u v e k = absurd (not_among f p ys x (cons_rest y x (filter (is_writing f) ys) [] e) (writer_writes f s x q) k)
     at later true false false t u v e k = absurd (true_false (sym (writer_writes f s y t) ∙ u))
-    at later false b true t u v e k = absurd (true_false (sym (ap (is_writer f s) (some_is y x k) ∙ q) ∙ t))
+    at later false b true t u v e k = absurd (true_false (sym (ap (is_writer f s) (some_same y x k) ∙ q) ∙ t))
     at later false true false t u v e k = absurd (true_false (sym (ap (is_writer f s) (cons_first y x (filter (is_writing f) ys) [] e) ∙ q) ∙ t))
     at later false false false t u v e k = (ap (λ (b : Bool). cond b (Some y) (find p (change_first (is_writer f s) change ys))) v ∙ later e k)
 
@@ -163,15 +152,15 @@ part_numbers g (suc n) first (suc i) lt = part_numbers g n (first + 1) i (less l
     shift : (a b : ℕ) → a + 1 + b ≡ a + suc b
     shift a b = omega arith
 
-pub part_written : (h : List Version) (f : FileId) (s : Stamp) (k : ℕ) → k < 16 → part (vector_of h f s) k ≡ counter h f s (1 + k)
-part_written h f s k lt = part_numbers (counter h f s) 16 1 k lt
+pub part_written : (h : List Version) (f : FileId) (s : Stamp) (k : ℕ) → k < sites_max → part (vector_of h f s) k ≡ counter h f s (1 + k)
+part_written h f s k lt = part_numbers (counter h f s) sites_max 1 k lt
 
 -- the counters of what joins the parents are the greatest of theirs
-pub joins_greatest : (c : Config) (trace : List Line) (f : FileId) (ps : List Stamp) (v : List ℕ) → JoinsParents c trace f ps v → (k : ℕ) → k < 16 → part v k ≡ greatest (λ p. counter (history c (entries trace)) f p (1 + k)) ps
+pub joins_greatest : (c : Config) (trace : List Line) (f : FileId) (ps : List Stamp) (v : List ℕ) → JoinsParents c trace f ps v → (k : ℕ) → k < sites_max → part v k ≡ greatest (λ p. counter (history c (entries trace)) f p (1 + k)) ps
 joins_greatest c trace f [] v j k lt = j.0 k
 joins_greatest c trace f (p ∷ ps) v j k lt = j.3 k ∙ (ap (λ (n : ℕ). max n (part j.0 k)) (part_written (history c (entries trace)) f p k lt) ∙ ap (max (counter (history c (entries trace)) f p (1 + k))) (joins_greatest c trace f ps j.0 j.2 k lt))
 
-pub sixteen : (c : Config) (trace : List Line) (f : FileId) (ps : List Stamp) (v : List ℕ) → JoinsParents c trace f ps v → length v ≡ 16
+pub sixteen : (c : Config) (trace : List Line) (f : FileId) (ps : List Stamp) (v : List ℕ) → JoinsParents c trace f ps v → length v ≡ sites_max
 sixteen c trace f [] v j = j.1
 sixteen c trace f (p ∷ ps) v j = j.4
 
@@ -211,7 +200,7 @@ raised_other (x ∷ v) (suc i) zero ne = refl
 raised_other (x ∷ v) (suc i) (suc j) ne = raised_other v i j (λ e. ne (ap suc e))
 
 -- the raised vector is the written one of the new version
-pub vector_written : (c : Config) (trace : List Line) (f : FileId) (site : ℕ) (ps : List Stamp) (v : List ℕ) (stamp : Stamp) (content : List ℕ) → 1 ≤ site → site ≤ 16 → JoinsParents c trace f ps v →
+pub vector_written : (c : Config) (trace : List Line) (f : FileId) (site : ℕ) (ps : List Stamp) (v : List ℕ) (stamp : Stamp) (content : List ℕ) → 1 ≤ site → site ≤ sites_max → JoinsParents c trace f ps v →
     raised v (site - 1) ≡ vector_of (record { file = f; site = site; stamp = stamp; parents = ps; content = content } ∷ history c (entries trace)) f stamp
 vector_written c trace f site ps v stamp content low high j = lists_same (raised v (site - 1)) (vector_of new f stamp) (long ∙ sym (written_long new)) (λ k lt. each k (subst (λ (n : ℕ). k < n) long lt))
   where
@@ -221,13 +210,13 @@ vector_written c trace f site ps v stamp content low high j = lists_same (raised
     new : List Version
     new = record { file = f; site = site; stamp = stamp; parents = ps; content = content } ∷ history c (entries trace)
 
-    below : site - 1 < 16
+    below : site - 1 < sites_max
     below = omega (arith, low, high)
 
-    long : length (raised v (site - 1)) ≡ 16
+    long : length (raised v (site - 1)) ≡ sites_max
     long = length_raised v (site - 1) (subst (λ (n : ℕ). site - 1 < n) (sym (sixteen c trace f ps v j)) below) ∙ sixteen c trace f ps v j
 
-    written_long : (older : List Version) → length (vector_of older f stamp) ≡ 16
+    written_long : (older : List Version) → length (vector_of older f stamp) ≡ sites_max
     written_long older = refl
 
     own : is_version f stamp (record { file = f; site = site; stamp = stamp; parents = ps; content = content }) ≡ true
@@ -236,15 +225,15 @@ vector_written c trace f site ps v stamp content low high j = lists_same (raised
     counted : (k : ℕ) → counter new f stamp (1 + k) ≡ greatest (λ p. counter (history c (entries trace)) f p (1 + k)) ps + cond (site == 1 + k) 1 0
     counted k = ap (λ (b : Bool). cond b (greatest (λ p. counter (history c (entries trace)) f p (1 + k)) ps + cond (site == 1 + k) 1 0) (counter (history c (entries trace)) f stamp (1 + k))) own
 
-    by_site : (k : ℕ) → k < 16 → (b : Bool) → (site == 1 + k) ≡ b → part (raised v (site - 1)) k ≡ part v k + cond b 1 0
-    by_site k lt true e = subst (λ (n : ℕ). part (raised v n) k ≡ part v k + 1) (same (test_same site (1 + k) e)) (raised_same v k)
+    by_site : (k : ℕ) → k < sites_max → (b : Bool) → (site == 1 + k) ≡ b → part (raised v (site - 1)) k ≡ part v k + cond b 1 0
+    by_site k lt true e = subst (λ (n : ℕ). part (raised v n) k ≡ part v k + 1) (same (equal site (1 + k) e)) (raised_same v k)
       where
         same : site ≡ 1 + k → k ≡ site - 1
         same e = omega (arith, e)
     by_site k lt false e = raised_other v (site - 1) k (λ same. other same) ∙ none (part v k)
       where
         own_test : (a b : ℕ) → a ≡ b → (a == b) ≡ true
-        own_test a b e = subst (λ (n : ℕ). (a == n) ≡ true) e (test_own a)
+        own_test a b e = subst (λ (n : ℕ). (a == n) ≡ true) e (equal_self a)
 
         back : k ≡ site - 1 → site ≡ 1 + k
         back same = omega (arith, same, low)
@@ -255,14 +244,14 @@ vector_written c trace f site ps v stamp content low high j = lists_same (raised
         none : (a : ℕ) → a ≡ a + 0
         none a = omega arith
 
-    each : (k : ℕ) → k < 16 → part (raised v (site - 1)) k ≡ part (vector_of new f stamp) k
+    each : (k : ℕ) → k < sites_max → part (raised v (site - 1)) k ≡ part (vector_of new f stamp) k
     each k lt = by_site k lt (site == 1 + k) refl ∙ (ap (λ (n : ℕ). n + cond (site == 1 + k) 1 0) (joins_greatest c trace f ps v j k lt) ∙ (sym (counted k) ∙ sym (part_written new f stamp k lt)))
 
 -- the number of the next stamp
-pub next_numbered : (c : Config) (trace : List Line) (f : FileId) (site : ℕ) (ps : List Stamp) (v : List ℕ) → 1 ≤ site → site ≤ 16 → JoinsParents c trace f ps v → part (raised v (site - 1)) (site - 1) ≡ next_number (history c (entries trace)) f ps site
+pub next_numbered : (c : Config) (trace : List Line) (f : FileId) (site : ℕ) (ps : List Stamp) (v : List ℕ) → 1 ≤ site → site ≤ sites_max → JoinsParents c trace f ps v → part (raised v (site - 1)) (site - 1) ≡ next_number (history c (entries trace)) f ps site
 next_numbered c trace f site ps v low high j = raised_same v (site - 1) ∙ ap (λ (n : ℕ). n + 1) (joins_greatest c trace f ps v j (site - 1) below ∙ ap (λ (s : ℕ). greatest (λ p. counter (history c (entries trace)) f p s) ps) same)
   where
-    below : site - 1 < 16
+    below : site - 1 < sites_max
     below = omega (arith, low, high)
 
     same : 1 + (site - 1) ≡ site

@@ -4,11 +4,15 @@ use Rattle.std.specs.Prelude.{nat_lt, nat_le}
 use Rattle.std.specs.List.{find, list_all}
 use Rattle.std.specs.Option.{option_or}
 use Rattle.std.proofs.lemmas.Bool.Decides.{nat_tests}
+use Rattle.role_steps.proofs.of_plain_facts.Numbers.{apart, at_most, at_most_test, equal, less, less_test}
+use Rattle.role_steps.proofs.of_plain_facts.Options.{none_some, some_none, some_same}
+use Rattle.role_steps.proofs.of_plain_facts.Tests.{and_first, and_second, and_true, true_false}
 use Rattle.locus_ids.specs.Sites.{has}
 use Rattle.locus_ids.specs.declared.config.Config.{Config}
 use Rattle.locus_ids.specs.declared.ids.Stamp.{Stamp}
 use Rattle.locus_ids.specs.declared.sites.Members.{Members}
 use Rattle.locus_ids.specs.declared.sites.Sites.{Sites}
+use Rattle.locus_ids.specs.Sizes.{inode_span, site_inodes, sites_max}
 use Rattle.commit_graph.specs.Vectors.{numbers_from}
 use Rattle.commit_graph.specs.Versions.{same_file}
 use Rattle.trace_book.specs.declared.record.Record.{Record}
@@ -19,16 +23,6 @@ use Rattle.tree_model.specs.Folds.{Trace}
 use Rattle.tree_model.specs.Histories.{format_stamp, held}
 use Rattle.tree_model.specs.Opening.{is_given_by}
 use Rattle.tree_model.specs.Packs.{has_pack, is_good_set, is_member_of, is_place, is_within, least_site, making_site_in, packs_of, sync_site, that_passes}
-use Rattle.tree_laws.proofs.Names.{true_false, some_is, test_same, test_own}
-
-none_some : {A : Type 0} (x : A) → ◌≡◌ {A = Option A} None (Some x) → ⊥
-none_some x e = cc
-
-some_none : {A : Type 0} (x : A) → ◌≡◌ {A = Option A} (Some x) None → ⊥
-some_none x e = cc
-
-apart_test : (a b : ℕ) → (a == b) ≡ false → a ≡ b → ⊥
-apart_test a b e k = true_false (sym (subst (λ (y : ℕ). (a == y) ≡ true) k (test_own a)) ∙ e)
 
 -- ---- the next number ----
 
@@ -50,8 +44,8 @@ next_none s g ino (suc left) e k low high = over (λ f l m. next_none s g (ino +
     over later true t f = at (ino == k) refl
       where
         at : (b : Bool) → (ino == k) ≡ b → is_used s g k ≡ true
-        at true u = subst (λ (y : ℕ). is_used s g y ≡ true) (test_same ino k u) t
-        at false u = later f (more ino k left low (apart_test ino k u)) (within ino k left high)
+        at true u = subst (λ (y : ℕ). is_used s g y ≡ true) (equal ino k u) t
+        at false u = later f (more ino k left low (apart ino k u)) (within ino k left high)
     over later false t f = absurd (some_none ino f)
 
 -- the next number isn't in use, and is one of these
@@ -78,60 +72,36 @@ next_some s g ino (suc left) k e = over (next_some s g (ino + 1) left k) (is_use
 
     over : (next_ino s g (ino + 1) left ≡ Some k → IsNext s g (ino + 1) left k) → (b : Bool) → is_used s g ino ≡ b → ◌≡◌ {A = Option ℕ} (elim b [ true ↦ next_ino s g (ino + 1) left | false ↦ Some ino ]) (Some k) → IsNext s g ino (suc left) k
     over later true t f = (let n : IsNext s g (ino + 1) left k = later f in record { unused = n.unused; low = below ino k left n.low; high = within ino k left n.high })
-    over later false t f = record { unused = subst (λ (y : ℕ). is_used s g y ≡ false) (some_is ino k f) t; low = own_low ino k (some_is ino k f); high = own_high ino k left (some_is ino k f) }
+    over later false t f = record { unused = subst (λ (y : ℕ). is_used s g y ≡ false) (some_same ino k f) t; low = own_low ino k (some_same ino k f); high = own_high ino k left (some_same ino k f) }
 
 -- ---- the range ----
 
-lt_test : (a b : ℕ) → a < b → nat_lt a b ≡ true
-lt_test a b h = grind (arith, nat_tests)
-
-le_test : (a b : ℕ) → a ≤ b → nat_le a b ≡ true
-le_test a b h = grind (arith, nat_tests)
-
-lt_is : (a b : ℕ) → nat_lt a b ≡ true → a < b
-lt_is a b h = grind (arith, nat_tests)
-
-le_is : (a b : ℕ) → nat_le a b ≡ true → a ≤ b
-le_is a b h = grind (arith, nat_tests)
-
-both_of : (a b : Bool) → a ≡ true → b ≡ true → a && b ≡ true
-both_of true b e k = k
-both_of false b e k = e
-
-first_of : (a b : Bool) → a && b ≡ true → a ≡ true
-first_of true b e = refl
-first_of false b e = absurd (true_false (sym e))
-
-second_of : (a b : Bool) → a && b ≡ true → b ≡ true
-second_of true b e = e
-second_of false b e = absurd (true_false (sym e))
-
-pub given_in : (me k : ℕ) → 1 ≤ me → 64 * (me - 1) + 1 ≤ k → k < 64 * (me - 1) + 1 + 64 → 1 < k → is_given_by me k ≡ true
-given_in me k site low high more = both_of (nat_lt (64 * me) (k + 64)) (nat_le k (64 * me) && nat_lt 1 k) (lt_test (64 * me) (k + 64) (above me k site low)) (both_of (nat_le k (64 * me)) (nat_lt 1 k) (le_test k (64 * me) (below me k site high)) (lt_test 1 k more))
+pub given_in : (me k : ℕ) → 1 ≤ me → site_inodes * (me - 1) + 1 ≤ k → k < site_inodes * (me - 1) + 1 + site_inodes → 1 < k → is_given_by me k ≡ true
+given_in me k site low high more = and_true (nat_lt (site_inodes * me) (k + site_inodes)) (nat_le k (site_inodes * me) && nat_lt 1 k) (less_test (site_inodes * me) (k + site_inodes) (above me k site low)) (and_true (nat_le k (site_inodes * me)) (nat_lt 1 k) (at_most_test k (site_inodes * me) (below me k site high)) (less_test 1 k more))
   where
-    above : (a b : ℕ) → 1 ≤ a → 64 * (a - 1) + 1 ≤ b → 64 * a < b + 64
+    above : (a b : ℕ) → 1 ≤ a → site_inodes * (a - 1) + 1 ≤ b → site_inodes * a < b + site_inodes
     above a b s l = omega (arith, s, l)
 
-    below : (a b : ℕ) → 1 ≤ a → b < 64 * (a - 1) + 1 + 64 → b ≤ 64 * a
+    below : (a b : ℕ) → 1 ≤ a → b < site_inodes * (a - 1) + 1 + site_inodes → b ≤ site_inodes * a
     below a b s h = omega (arith, s, h)
 
 pub record InRange (me k : ℕ) : Type 0 where
-  pub low : 64 * (me - 1) + 1 ≤ k
-  pub high : k < 64 * (me - 1) + 1 + 64
+  pub low : site_inodes * (me - 1) + 1 ≤ k
+  pub high : k < site_inodes * (me - 1) + 1 + site_inodes
 
 pub given_range : (me k : ℕ) → 1 ≤ me → is_given_by me k ≡ true → InRange me k
 given_range me k site e = record {
-  low = above me k site (lt_is (64 * me) (k + 64) (first_of (nat_lt (64 * me) (k + 64)) (nat_le k (64 * me) && nat_lt 1 k) e));
-  high = below me k site (le_is k (64 * me) (first_of (nat_le k (64 * me)) (nat_lt 1 k) (second_of (nat_lt (64 * me) (k + 64)) (nat_le k (64 * me) && nat_lt 1 k) e)));
+  low = above me k site (less (site_inodes * me) (k + site_inodes) (and_first (nat_lt (site_inodes * me) (k + site_inodes)) (nat_le k (site_inodes * me) && nat_lt 1 k) e));
+  high = below me k site (at_most k (site_inodes * me) (and_first (nat_le k (site_inodes * me)) (nat_lt 1 k) (and_second (nat_lt (site_inodes * me) (k + site_inodes)) (nat_le k (site_inodes * me) && nat_lt 1 k) e)));
 }
   where
-    above : (a b : ℕ) → 1 ≤ a → 64 * a < b + 64 → 64 * (a - 1) + 1 ≤ b
+    above : (a b : ℕ) → 1 ≤ a → site_inodes * a < b + site_inodes → site_inodes * (a - 1) + 1 ≤ b
     above a b s l = omega (arith, s, l)
 
-    below : (a b : ℕ) → 1 ≤ a → b ≤ 64 * a → b < 64 * (a - 1) + 1 + 64
+    below : (a b : ℕ) → 1 ≤ a → b ≤ site_inodes * a → b < site_inodes * (a - 1) + 1 + site_inodes
     below a b s h = omega (arith, s, h)
 
-pub range_narrow : (me k : ℕ) → me ≤ 16 → k < 64 * (me - 1) + 1 + 64 → k < 65536
+pub range_narrow : (me k : ℕ) → me ≤ sites_max → k < site_inodes * (me - 1) + 1 + site_inodes → k < inode_span
 range_narrow me k few high = omega (arith, few, high)
 
 -- ---- the site of a make has a pack ----
@@ -141,7 +111,7 @@ found_passes p [] s e = absurd (none_some s e)
 found_passes p (x ∷ xs) s e = at (found_passes p xs s) (p x) refl e
   where
     at : (find p xs ≡ Some s → p s ≡ true) → (b : Bool) → p x ≡ b → cond b (Some x) (find p xs) ≡ Some s → p s ≡ true
-    at later true t f = subst (λ (y : ℕ). p y ≡ true) (some_is x s f) t
+    at later true t f = subst (λ (y : ℕ). p y ≡ true) (some_same x s f) t
     at later false t f = later f
 
 that_passed : (p : ℕ → Bool) (o : Option ℕ) (s : ℕ) → that_passes p o ≡ Some s → p s ≡ true
@@ -149,7 +119,7 @@ that_passed p None s e = absurd (none_some s e)
 that_passed p (Some x) s e = at (p x) refl e
   where
     at : (b : Bool) → p x ≡ b → cond b (Some x) None ≡ Some s → p s ≡ true
-    at true t f = subst (λ (y : ℕ). p y ≡ true) (some_is x s f) t
+    at true t f = subst (λ (y : ℕ). p y ≡ true) (some_same x s f) t
     at false t f = absurd (none_some s f)
 
 either_passes : (p : ℕ → Bool) (a b : Option ℕ) (s : ℕ) → (a ≡ Some s → p s ≡ true) → (b ≡ Some s → p s ≡ true) → option_or a b ≡ Some s → p s ≡ true
@@ -158,7 +128,7 @@ either_passes p None b s first later e = later e
 
 site_passes : (c : Config) (g : ℕ) (members : Option Members) (own : ℕ) (set : Sites) (s : ℕ) → making_site_in c g members own set ≡ Some s → is_place members set s ≡ true
 site_passes c g members own set s e = either_passes p (that_passes p (Some own)) (option_or (that_passes p (sync_site c g members)) (least_site p)) s (that_passed p (Some own) s)
-    (either_passes p (that_passes p (sync_site c g members)) (least_site p) s (that_passed p (sync_site c g members) s) (found_passes p (numbers_from 1 16) s)) e
+    (either_passes p (that_passes p (sync_site c g members)) (least_site p) s (that_passed p (sync_site c g members) s) (found_passes p (numbers_from 1 sites_max) s)) e
   where
     p : ℕ → Bool
     p = is_place members set
@@ -168,7 +138,7 @@ all_pass q a zero s e low high = absurd (empty a s low high)
   where
     empty : (a b : ℕ) → a ≤ b → b < a + 0 → ⊥
     empty a b l h = omega (arith, l, h)
-all_pass q a (suc n) s e low high = at (λ l m. all_pass q (a + 1) n s (second_of (q a) (list_all q (numbers_from (a + 1) n)) e) l m) (a == s) refl
+all_pass q a (suc n) s e low high = at (λ l m. all_pass q (a + 1) n s (and_second (q a) (list_all q (numbers_from (a + 1) n)) e) l m) (a == s) refl
   where
     more : (a b : ℕ) → a ≤ b → (a ≡ b → ⊥) → a + 1 ≤ b
     more a b l ne = omega (arith, l, ne)
@@ -177,14 +147,14 @@ all_pass q a (suc n) s e low high = at (λ l m. all_pass q (a + 1) n s (second_o
     within a b m h = omega (arith, h)
 
     at : (a + 1 ≤ s → s < a + 1 + n → q s ≡ true) → (b : Bool) → (a == s) ≡ b → q s ≡ true
-    at later true t = subst (λ (y : ℕ). q y ≡ true) (test_same a s t) (first_of (q a) (list_all q (numbers_from (a + 1) n)) e)
-    at later false t = later (more a s low (apart_test a s t)) (within a s n high)
+    at later true t = subst (λ (y : ℕ). q y ≡ true) (equal a s t) (and_first (q a) (list_all q (numbers_from (a + 1) n)) e)
+    at later false t = later (more a s low (apart a s t)) (within a s n high)
 
-pub place_packed : (c : Config) (g : ℕ) (members : Option Members) (own : ℕ) (set : Sites) (s : ℕ) → is_good_set c g members set ≡ true → making_site_in c g members own set ≡ Some s → 1 ≤ s → s ≤ 16 → has_pack c g s ≡ true
-place_packed c g members own set s good at low high = apply (has set s) (has (packs_of c g) s) (second_of (is_member_of members s) (has set s) (site_passes c g members own set s at))
-    (all_pass (λ site. not (has set site) || has (packs_of c g) site) 1 16 s (first_of (is_within set (packs_of c g)) _ good) low (above s high))
+pub place_packed : (c : Config) (g : ℕ) (members : Option Members) (own : ℕ) (set : Sites) (s : ℕ) → is_good_set c g members set ≡ true → making_site_in c g members own set ≡ Some s → 1 ≤ s → s ≤ sites_max → has_pack c g s ≡ true
+place_packed c g members own set s good at low high = apply (has set s) (has (packs_of c g) s) (and_second (is_member_of members s) (has set s) (site_passes c g members own set s at))
+    (all_pass (λ site. not (has set site) || has (packs_of c g) site) 1 sites_max s (and_first (is_within set (packs_of c g)) _ good) low (above s high))
   where
-    above : (a : ℕ) → a ≤ 16 → a < 1 + 16
+    above : (a : ℕ) → a ≤ sites_max → a < 1 + sites_max
     above a h = omega (arith, h)
 
     apply : (a b : Bool) → a ≡ true → not a || b ≡ true → b ≡ true

@@ -2,6 +2,9 @@
 -- follows stays.
 use Rattle.std.proofs.Common.{◌≡◌, ℕ, ◌==◌, not, Bool, true, false, cond, ◌&&◌, List, Some, refl, sym, ◌∙◌, ap, subst, ◌⊎◌, inl, inr}
 use Rattle.std.specs.Option.{is_none}
+use Rattle.role_steps.proofs.of_plain_facts.Numbers.{equal}
+use Rattle.role_steps.proofs.of_plain_facts.Options.{some_same}
+use Rattle.role_steps.proofs.of_plain_facts.Tests.{true_false}
 use Rattle.locus_ids.specs.declared.config.Config.{Config}
 use Rattle.locus_ids.specs.declared.ids.EpochId.{EpochId}
 use Rattle.locus_ids.specs.declared.ids.FileId.{FileId}
@@ -32,14 +35,13 @@ use Rattle.tree_laws.specs.Stores.{WorksAs}
 use Rattle.tree_laws.proofs.CarriedLooks.{More}
 use Rattle.tree_laws.proofs.Grants.{open_named}
 use Rattle.tree_laws.proofs.Kinship.{StaysOpen, Ends, open_stays}
-use Rattle.tree_laws.proofs.Names.{true_false, some_is, test_same}
 use Rattle.tree_laws.proofs.Opened.{EndsIt, ActsOn, CommitsOn, GoesOn}
 use Rattle.tree_laws.proofs.Owing.{InGroup, in_group, found_every}
 use Rattle.tree_laws.proofs.Rows.{followed_rows}
-use Rattle.order_laws.specs.Joining.{PacksAreOfSites}
-use Rattle.order_laws.specs.Keeping.{PassesBy}
-use Rattle.order_laws.proofs.Keeping.{versions_kept}
-use Rattle.order_laws.proofs.Standing.{same_file_eq}
+use Rattle.sync_laws.specs.of_order_laws.Joining.{PacksAreOfSites}
+use Rattle.sync_laws.specs.of_order_laws.Keeping.{PassesBy}
+use Rattle.sync_laws.proofs.of_order_laws.Keeping.{versions_kept}
+use Rattle.sync_laws.proofs.of_order_laws.Standing.{same_file_eq}
 use Rattle.store_laws.specs.Aside.{IsAside, RecordAside}
 
 -- ---- the group of what is open ----
@@ -61,7 +63,7 @@ shut_first c older e me i x o (says.Release at inst file stamp) may ends = subst
     found = subst (λ (j : Serial). instance_now c older e j ≡ Some may.in_time.at) ends.1 (subst (λ (y : EpochId). instance_now c older y inst ≡ Some may.in_time.at) ends.0 may.in_time.open_at.found)
 
     place : may.in_time.at.grant.ss ≡ me
-    place = ap (λ (y : Open). y.grant.ss) (some_is may.in_time.at x (sym found ∙ o.found)) ∙ o.place
+    place = ap (λ (y : Open). y.grant.ss) (some_same may.in_time.at x (sym found ∙ o.found)) ∙ o.place
 
     shut : WasShut older may.in_time.at.grant.ss e i
     shut = subst (λ (j : Serial). WasShut older may.in_time.at.grant.ss e j) ends.1 (subst (λ (y : EpochId). WasShut older may.in_time.at.grant.ss y inst) ends.0 may.in_time.shut)
@@ -79,7 +81,7 @@ acts_aside c older f i x y _ aside a = absurd a
 pub writes_at : (f : FileId) (s : ℕ) (x : Open) → is_writer f s x ≡ true → (x.grant.file ≡ f) × (x.grant.ss ≡ s)
 writes_at f s x e = (
   same_file_eq x.grant.file f (first (same_file x.grant.file f) ((x.grant.ss == s) && not (is_read x.grant.mode)) e),
-  test_same x.grant.ss s (first (x.grant.ss == s) (not (is_read x.grant.mode)) (second (same_file x.grant.file f) ((x.grant.ss == s) && not (is_read x.grant.mode)) e)),
+  equal x.grant.ss s (first (x.grant.ss == s) (not (is_read x.grant.mode)) (second (same_file x.grant.file f) ((x.grant.ss == s) && not (is_read x.grant.mode)) e)),
 )
   where
     first : (a b : Bool) → a && b ≡ true → a ≡ true

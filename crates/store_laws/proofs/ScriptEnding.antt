@@ -1,5 +1,6 @@
 -- How scripts end: when a call has its reply, whatever it opened for itself is closed.
 use Rattle.std.proofs.Common.{◌≡◌, ℕ, Bool, true, false, not, cond, ◌&&◌, ◌||◌, List, [], ◌∷◌, Option, refl, sym, ◌∙◌, subst, ◌⊎◌, inl, inr}
+use Rattle.role_steps.proofs.of_plain_facts.Tests.{true_false}
 use Rattle.locus_ids.specs.declared.ids.FileId.{FileId}
 use Rattle.locus_ids.specs.declared.ids.Kind.{Kind}
 use Rattle.locus_ids.specs.declared.ids.Kind.TheVariants as kind
@@ -28,7 +29,7 @@ use Rattle.call_rules.specs.Scripts.{where_packed}
 use Rattle.locus_ids.specs.declared.config.Mount.{Mount}
 use Rattle.trace_book.specs.Names.{plain_name}
 use Rattle.tree_laws.specs.Holding.{Instances, had_after}
-use Rattle.tree_laws.proofs.Names.{same_serial_eq, same_serial_own, true_false}
+use Rattle.tree_laws.proofs.Names.{same_serial_eq, same_serial_own}
 use Rattle.store_laws.proofs.ScriptFitting.{Fits, Script}
 
 -- the call has none

@@ -1,5 +1,6 @@
 -- What a process has taken fits its script, answer by answer; so the script is sound.
 use Rattle.std.proofs.Common.{◌≡◌, ℕ, Bool, true, false, cond, List, [], ◌∷◌, ◌++◌, Option, Some, None, refl, sym, ◌∙◌, ap, subst, ◌⊎◌, inl, inr}
+use Rattle.role_steps.proofs.of_plain_facts.Options.{none_some, some_same}
 use Rattle.locus_ids.specs.declared.config.Config.{Config}
 use Rattle.locus_ids.specs.declared.ids.CallId.{CallId}
 use Rattle.trace_book.specs.Same.{same_call}
@@ -30,7 +31,7 @@ use Rattle.tree_laws.proofs.Counting.{asked_same}
 use Rattle.tree_laws.proofs.Free.{AsksSame, free_same}
 use Rattle.tree_laws.proofs.Fresh.{IsNamed, calls_are_low, next_is_new, numbered}
 use Rattle.tree_laws.proofs.Having.{Untaken, named_or_untaken}
-use Rattle.tree_laws.proofs.Names.{same_call_own, some_is}
+use Rattle.tree_laws.proofs.Names.{same_call_own}
 use Rattle.tree_laws.proofs.Scripts.{script_stays}
 use Rattle.store_laws.proofs.ScriptFitting.{AllFit, Fits, IsSound, Script, sound_where}
 use Rattle.store_laws.proofs.ScriptSoundCalls.{BeginsRight, HasFree, begins_right, wants_sound}
@@ -38,9 +39,6 @@ use Rattle.store_laws.proofs.ScriptTelling.{step_fits}
 
 abbrev With : ℕ → Told → List Line → List Line
 With n x older = record { number = n; told = x } ∷ older
-
-none_some : {A : Type 0} (a : A) → ◌≡◌ {A = Option A} None (Some a) → ⊥
-none_some a e = cc
 
 -- ---- lists of answers that fit ----
 
@@ -140,14 +138,14 @@ began (x ∷ older) d w named = at (λ was. began older d w was) x.told named
     at later (Shown (says.Accept s process new words)) named = over (same_call new d) refl named
       where
         over : (b : Bool) → same_call new d ≡ b → cond b (Some (accepted_as (entries older) s process new words)) (call_named (entries older) d) ≡ Some w → Began (With x.number (Shown (says.Accept s process new words)) older) d w
-        over true e k = record { table = descriptor (entries older) s process; begun_is = ap (λ (b : Bool). cond b (Some (begins_now (entries older) s process words)) (begun (entries older) d)) e ∙ ap (λ (v : Waiting). Some (beginning (descriptor (entries older) s process) v.epoch v.words)) (some_is (accepted_as (entries older) s process new words) w k) }
+        over true e k = record { table = descriptor (entries older) s process; begun_is = ap (λ (b : Bool). cond b (Some (begins_now (entries older) s process words)) (begun (entries older) d)) e ∙ ap (λ (v : Waiting). Some (beginning (descriptor (entries older) s process) v.epoch v.words)) (some_same (accepted_as (entries older) s process new words) w k) }
         over false e k = (let b : Began older d w = later k in record { table = b.table; begun_is = ap (λ (p : Bool). cond p (Some (begins_now (entries older) s process words)) (begun (entries older) d)) e ∙ b.begun_is })
     at later (Shown r) named = (let b : Began older d w = later named in record { table = b.table; begun_is = b.begun_is })
     at later y named = (let b : Began older d w = later named in record { table = b.table; begun_is = b.begun_is })
 
 -- a call began by its words
 pub began_right : (t : List Line) (d : CallId) (w : Waiting) (b : Beginning) → call_named (entries t) d ≡ Some w → begun (entries t) d ≡ Some b → BeginsRight w.words b
-began_right t d w b named starts = (let k : Began t d w = began t d w named in subst (BeginsRight w.words) (some_is (beginning k.table w.epoch w.words) b (sym k.begun_is ∙ starts)) (begins_right k.table w.epoch w.words))
+began_right t d w b named starts = (let k : Began t d w = began t d w named in subst (BeginsRight w.words) (some_same (beginning k.table w.epoch w.words) b (sym k.begun_is ∙ starts)) (begins_right k.table w.epoch w.words))
 
 -- ---- what is wanted ----
 

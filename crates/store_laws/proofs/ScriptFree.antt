@@ -1,6 +1,9 @@
 -- While an open waits, its process has a free descriptor: nobody else of the process takes one.
 use Rattle.std.proofs.Common.{◌≡◌, ℕ, zero, suc, ◌+◌, ◌==◌, Bool, true, false, not, cond, ◌&&◌, List, [], ◌∷◌, Option, Some, None, refl, sym, ◌∙◌, ap, subst, ◌⊎◌, inl, inr}
 use Rattle.std.specs.List.{filter}
+use Rattle.role_steps.proofs.of_plain_facts.Numbers.{equal, equal_self}
+use Rattle.role_steps.proofs.of_plain_facts.Options.{none_some, some_same}
+use Rattle.role_steps.proofs.of_plain_facts.Tests.{true_false}
 use Rattle.locus_ids.specs.declared.config.Config.{Config}
 use Rattle.locus_ids.specs.declared.ids.CallId.{CallId}
 use Rattle.locus_ids.specs.declared.ids.EpochId.{EpochId}
@@ -14,6 +17,7 @@ use Rattle.trace_book.specs.declared.record.Record.TheVariants as says
 use Rattle.trace_book.specs.declared.reply.Reply.{Reply}
 use Rattle.trace_book.specs.declared.reply.Reply.TheVariants as reply
 use Rattle.locus_ids.specs.declared.refusal.Refusal.{Refusal}
+use Rattle.locus_ids.specs.Sizes.{descriptors_max}
 use Rattle.call_rules.specs.Descriptors.{beginning, begins_open, free_or, lowest_free, lowest_free_from}
 use Rattle.role_steps.specs.Views.{Told, Shown}
 use Rattle.the_run.specs.Kept.{Among}
@@ -29,16 +33,10 @@ use Rattle.tree_laws.specs.Printed.{entries, onto_entries}
 use Rattle.tree_laws.proofs.Boots.{every_passes, found_every}
 use Rattle.tree_laws.proofs.Descriptors.{IsPlain}
 use Rattle.tree_laws.proofs.Later.{every_among, none_every}
-use Rattle.tree_laws.proofs.Names.{same_call_eq, same_call_own, some_is, test_own, test_same, true_false}
+use Rattle.tree_laws.proofs.Names.{same_call_eq, same_call_own}
 use Rattle.tree_laws.proofs.Scripts.{begun_stays}
 use Rattle.tree_laws.proofs.Waiting.{accepted, found_among}
 use Rattle.store_laws.proofs.ScriptNaming.{Opens, named_opens}
-
-abbrev With : ℕ → Told → List Line → List Line
-With n x older = record { number = n; told = x } ∷ older
-
-none_some : {A : Type 0} (a : A) → ◌≡◌ {A = Option A} None (Some a) → ⊥
-none_some a e = cc
 
 parts : (a b c : Bool) → (a && b && c) ≡ true → (a ≡ true) × ((b ≡ true) × (c ≡ true))
 parts true true true t = (refl, (refl, refl))
@@ -68,7 +66,7 @@ row_idle c before s process d (call.Mend file) row plain = absurd plain
 row_idle c before s process d words row plain = row.idle
 
 idle_none : (s process : ℕ) (ws : List Waiting) (v : Waiting) → waiting_of s process ws ≡ None → Among v ws → s ≡ v.site → process ≡ v.process → ⊥
-idle_none s process ws v idle among site of = true_false (sym (both (v.site == s) (v.process == process) (ap (λ (m : ℕ). m == s) (sym site) ∙ test_own s) (ap (λ (m : ℕ). m == process) (sym of) ∙ test_own process)) ∙ every_among (λ (x : Waiting). is_of s process x ≡ false) v ws (none_every (is_of s process) ws idle) among)
+idle_none s process ws v idle among site of = true_false (sym (both (v.site == s) (v.process == process) (ap (λ (m : ℕ). m == s) (sym site) ∙ equal_self s) (ap (λ (m : ℕ). m == process) (sym of) ∙ equal_self process)) ∙ every_among (λ (x : Waiting). is_of s process x ≡ false) v ws (none_every (is_of s process) ws idle) among)
   where
     both : (a b : Bool) → a ≡ true → b ≡ true → a && b ≡ true
     both true true p q = refl
@@ -117,7 +115,7 @@ more_free_from p q n (suc left) fd h e = over (q n) refl (p n) refl e (λ m. mor
     over (Some y) qe (Some z) pe m later = (let r : (k : ℕ) × (lowest_free_from q (n + 1) left ≡ Some k) = later m in (r.0, ap (free_or n (lowest_free_from q (n + 1) left)) qe ∙ r.1))
 
 more_free : (p q : ℕ → Option Descriptor) (fd : ℕ) → Freer p q → lowest_free p ≡ Some fd → (k : ℕ) × (lowest_free q ≡ Some k)
-more_free p q fd h e = more_free_from p q 0 16 fd h e
+more_free p q fd h e = more_free_from p q 0 descriptors_max fd h e
 
 -- ---- opens that wait ----
 
@@ -171,7 +169,7 @@ module _ (c : Config) (n : ℕ) (older : List Line) (h : IsFollowed c older) (k 
 
       own : begun (record { line = n; what = r } ∷ entries older) new ≡ Some begins.Walks → Opens words → HasNumber (entries older) it
       own b o = open_found (descriptor (entries older) s process) (epoch_of (entries older) s) words o
-          (some_is (begins_now (entries older) s process words) begins.Walks (sym (ap (λ (t : Bool). cond t (Some (begins_now (entries older) s process words)) (begun (entries older) new)) (same_call_own new)) ∙ b))
+          (some_same (begins_now (entries older) s process words) begins.Walks (sym (ap (λ (t : Bool). cond t (Some (begins_now (entries older) s process words)) (begun (entries older) new)) (same_call_own new)) ∙ b))
 
       over : (w ≡ it) ⊎ Among w (waiting (entries older)) → HasNumber (record { line = n; what = r } ∷ entries older) w
       over (inl is) = subst (HasNumber (record { line = n; what = r } ∷ entries older)) (sym is) (freer n r (entries older) it (table it) (own (subst (λ (v : Waiting). begun (record { line = n; what = r } ∷ entries older) v.call ≡ Some begins.Walks) is starts) (subst (λ (v : Waiting). Opens v.words) is opens)))
@@ -199,7 +197,7 @@ module _ (c : Config) (n : ℕ) (older : List Line) (h : IsFollowed c older) (k 
       one : (x : Descriptor) → RepliesOpened c older d → opening_of (entries older) d ≡ Some x → (s == w.site) ≡ true → (process == w.process) ≡ true → ⊥
       one x replies opening p q = other (all_alone c older h w caller old (found_among (is_this s process d) (waiting (entries older)) caller may.row.waits) (plain_open w.words opens)
           (plain_open caller.words (named_opens c older d x caller h replies opening (subst (λ (z : CallId). call_named (entries older) z ≡ Some caller) (same_call_eq caller.call d is.1.1) found.0)))
-          (sym (test_same caller.site s is.0 ∙ test_same s w.site p)) (sym (test_same caller.process process is.1.0 ∙ test_same process w.process q)) ∙ same_call_eq caller.call d is.1.1)
+          (sym (equal caller.site s is.0 ∙ equal s w.site p)) (sym (equal caller.process process is.1.0 ∙ equal process w.process q)) ∙ same_call_eq caller.call d is.1.1)
 
       opened : (y : Reply) (fd : ℕ) → AnswersInTime c older d y → (s == w.site) ≡ true → (process == w.process) ≡ true → (cell : Option Descriptor) → cell ≡ None → opened_by y fd (opening_of (entries older) d) cell ≡ None
       opened (reply.Opened m) fd t p q cell e = cell_none (m == fd) (opening_of (entries older) d) cell (none (opening_of (entries older) d) refl) e

@@ -1,5 +1,6 @@
 -- What a call has is what its answers give it.
 use Rattle.std.proofs.Common.{◌≡◌, ℕ, Bool, true, false, cond, List, [], ◌∷◌, ◌++◌, Option, Some, None, refl, sym, ◌∙◌, ap, subst, ◌⊎◌, inl, inr}
+use Rattle.role_steps.proofs.of_plain_facts.Options.{none_some}
 use Rattle.locus_ids.specs.declared.config.Config.{Config}
 use Rattle.locus_ids.specs.declared.ids.CallId.{CallId}
 use Rattle.locus_ids.specs.declared.ids.Serial.{Serial}
@@ -28,9 +29,6 @@ use Rattle.store_laws.proofs.ScriptFitting.{Script}
 
 abbrev With : ℕ → Told → List Line → List Line
 With n x older = record { number = n; told = x } ∷ older
-
-none_some : {A : Type 0} (a : A) → ◌≡◌ {A = Option A} None (Some a) → ⊥
-none_some a e = cc
 
 pub by_same : (k l : Script) (own : Instances) (xs : List Answer) (i : Serial) → ((ys : List Answer) → k ys ≡ l ys) → has_by k own xs i ≡ has_by l own xs i
 by_same k l own [] i h = refl

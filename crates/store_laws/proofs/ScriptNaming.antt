@@ -1,5 +1,7 @@
 -- Who was granted something walks; and who is answered by a descriptor, and was granted something, opens.
 use Rattle.std.proofs.Common.{◌≡◌, ℕ, Bool, true, false, cond, List, [], ◌∷◌, Option, Some, None, refl, sym, ◌∙◌, ap, subst}
+use Rattle.role_steps.proofs.of_plain_facts.Options.{none_some}
+use Rattle.role_steps.proofs.of_plain_facts.Tests.{true_false}
 use Rattle.locus_ids.specs.declared.config.Config.{Config}
 use Rattle.locus_ids.specs.declared.config.Mount.{Mount}
 use Rattle.locus_ids.specs.declared.ids.CallId.{CallId}
@@ -38,7 +40,7 @@ use Rattle.wire_messages.specs.declared.body.Opening.{Opening}
 use Rattle.tree_laws.specs.Instances.{AsksOpen, IsOpening}
 use Rattle.tree_laws.specs.Printed.{entries}
 use Rattle.tree_laws.specs.Serials.{asked_now, is_open_want}
-use Rattle.tree_laws.proofs.Names.{same_call_eq, true_false}
+use Rattle.tree_laws.proofs.Names.{same_call_eq}
 use Rattle.tree_laws.proofs.Scripts.{begun_stays, named_stays}
 use Rattle.store_laws.proofs.ScriptEnding.{GivesNone}
 use Rattle.store_laws.proofs.ScriptEndingCalls.{NotOpen, has_by, wants_end}
@@ -49,9 +51,6 @@ use Rattle.store_laws.proofs.ScriptSoundCalls.{HasFree}
 
 abbrev With : ℕ → Told → List Line → List Line
 With n x older = record { number = n; told = x } ∷ older
-
-none_some : {A : Type 0} (a : A) → ◌≡◌ {A = Option A} None (Some a) → ⊥
-none_some a e = cc
 
 -- ---- who opens walks ----
 

@@ -13,9 +13,12 @@ use Rattle.locus_ids.specs.declared.ids.Mode.{Mode}
 use Rattle.locus_ids.specs.declared.ids.Mode.TheVariants as mode
 use Rattle.locus_ids.specs.declared.ids.Serial.{Serial}
 use Rattle.locus_ids.specs.declared.ids.Stamp.{Stamp}
+use Rattle.locus_ids.specs.Sizes.{site_inodes}
 use Rattle.commit_graph.specs.declared.history.Version.{Version}
 use Rattle.commit_graph.specs.Versions.{same_file}
 use Rattle.std.specs.Option.{is_none}
+use Rattle.role_steps.proofs.of_plain_facts.Options.{none_some, some_same}
+use Rattle.role_steps.proofs.of_plain_facts.Tests.{and_first, and_second, true_false}
 use Rattle.trace_book.specs.declared.operation.What.{What}
 use Rattle.tree_model.specs.Given.{gives_grant}
 use Rattle.lawful_trace.specs.CallRows.{CallRow, MayMend}
@@ -46,27 +49,15 @@ use Rattle.lawful_trace.specs.TreeRows.{is_open_of}
 use Rattle.tree_laws.specs.Following.{IsFollowed, MayTell}
 use Rattle.tree_laws.specs.Instances.{AsksOpen, IsOpening}
 use Rattle.tree_laws.specs.Printed.{entries}
-use Rattle.tree_laws.proofs.Names.{some_is, true_false}
 use Rattle.tree_laws.proofs.Boots.{found_every}
 use Rattle.tree_laws.proofs.Hearing.{asks_next}
 use Rattle.tree_laws.proofs.Owing.{GrantHas, grants_have}
-use Rattle.order_laws.proofs.Standing.{same_file_eq}
+use Rattle.sync_laws.proofs.of_order_laws.Standing.{same_file_eq}
 use Rattle.store_laws.proofs.ScriptFitting.{IsSound}
 use Rattle.store_laws.proofs.ScriptFitted.{asked_sound}
 
 abbrev With : ℕ → Told → List Line → List Line
 With n x older = record { number = n; told = x } ∷ older
-
-none_some : {A : Type 0} (a : A) → ◌≡◌ {A = Option A} None (Some a) → ⊥
-none_some a e = cc
-
-first : (a b : Bool) → (a && b) ≡ true → a ≡ true
-first true b e = refl
-first false b e = e
-
-second : (a b : Bool) → (a && b) ≡ true → b ≡ true
-second true b e = e
-second false b e = absurd (true_false (sym e))
 
 abbrev Numbered : Granted → Type 0
 Numbered g = 1 ≤ g.file.ino
@@ -93,18 +84,18 @@ opens_numbered words w mode.Mend f s mends made e = absurd (true_false (sym e))
 opens_numbered words w mode.Make f s mends made e = absurd (true_false (sym e))
 
 given_numbered : (s ino : ℕ) → is_given_by s ino ≡ true → 1 ≤ ino
-given_numbered s ino e = above ino (second (nat_le ino (64 * s)) (nat_lt 1 ino) (second (nat_lt (64 * s) (ino + 64)) _ e))
+given_numbered s ino e = above ino (and_second (nat_le ino (site_inodes * s)) (nat_lt 1 ino) (and_second (nat_lt (site_inodes * s) (ino + site_inodes)) _ e))
   where
     above : (n : ℕ) → nat_lt 1 n ≡ true → 1 ≤ n
     above n e = grind (arith, nat_tests)
 
 -- a make is of a number that its site gives
 made_numbered : (h : List Version) (t : TreeState) (call : CallId) (i : Serial) (m : Mode) (f : FileId) (stamp : Option Stamp) (ss : ℕ) → gives_grant h t call i m f stamp ss ≡ true → m ≡ mode.Make → 1 ≤ f.ino
-made_numbered h t call i m f stamp ss e is = given_numbered ss f.ino (first (is_given_by ss f.ino) _ (second (is_site (making_site t call) ss) _ (first (is_new_file t call f ss) (is_none stamp) placed)))
+made_numbered h t call i m f stamp ss e is = given_numbered ss f.ino (and_first (is_given_by ss f.ino) _ (and_second (is_site (making_site t call) ss) _ (and_first (is_new_file t call f ss) (is_none stamp) placed)))
   where
     placed : is_placed h t call mode.Make f stamp ss ≡ true
     placed = subst (λ (y : Mode). is_placed h t call y f stamp ss ≡ true) is
-        (second (not (is_granted t i)) _ (second (i.us == call.site) _ (second (is_none (open_refusal h t m call f)) _ (second t.started _ e))))
+        (and_second (not (is_granted t i)) _ (and_second (i.us == call.site) _ (and_second (is_none (open_refusal h t m call f)) _ (and_second t.started _ e))))
 
 look_opens : (c : Config) (f g : FileId) (w : What) (v : Want) (it : Opening) → IsOpening c v g it → v ≡ want.Look f w → ⊥
 look_opens c f g w v it o e = subst (λ (y : Want). IsOpening c y g it) e o
@@ -141,7 +132,7 @@ made_commit c older f g site d k true e = over (epoch_of (entries older) site) e
     inst : (at : EpochId) (o : Option Instance) → find (is_writer f site) (tree_of c at f.group (entries older)).instances ≡ o → option_map (λ (x : Instance). x.grant.call) o ≡ Some d → 1 ≤ f.ino
     inst at None is e = absurd (none_some d e)
     inst at (Some x) is e = (let p : Numbered x.grant × (is_writer f site x ≡ true) = found_every (λ (y : Instance). Numbered y.grant) (is_writer f site) (tree_of c at f.group (entries older)).instances x is (k.instances at f.group) in
-        subst (λ (y : FileId). 1 ≤ y.ino) (same_file_eq x.grant.file f (first (same_file x.grant.file f) _ p.1)) p.0)
+        subst (λ (y : FileId). 1 ≤ y.ino) (same_file_eq x.grant.file f (and_first (same_file x.grant.file f) _ p.1)) p.0)
 
     over : (o : Option EpochId) → option_map (λ (x : Instance). x.grant.call) (committing_in c (entries older) f site o) ≡ Some d → 1 ≤ f.ino
     over None e = absurd (none_some d e)
@@ -181,7 +172,7 @@ mends_record c older n (says.Accept s process new words) d w f may k named is = 
     row y m e = (let p : MayMend c (entries older) s process new f = subst (CallRow c (entries older) s process new) e m in mend_kind c older f k p.directory)
 
     over : (b : Bool) → cond b (Some (accepted_as (entries older) s process new words)) (call_named (entries older) d) ≡ Some w → 1 ≤ f.ino
-    over true e = row words may.row (ap (λ (v : Waiting). v.words) (some_is (accepted_as (entries older) s process new words) w e) ∙ is)
+    over true e = row words may.row (ap (λ (v : Waiting). v.words) (some_same (accepted_as (entries older) s process new words) w e) ∙ is)
     over false e = k.mends d w f e is
 mends_record c older n r d w f may k named is = k.mends d w f named is
 

@@ -1,5 +1,7 @@
 -- What an open was granted last is what it was answered last, so its descriptor stands for that.
 use Rattle.std.proofs.Common.{◌≡◌, ℕ, zero, suc, ◌+◌, ◌-◌, ◌<◌, Bool, true, false, cond, ◌||◌, List, [], ◌∷◌, ◌++◌, length, take, Option, Some, None, refl, sym, ◌∙◌, ap, subst, arith, ◌⊎◌, inl, inr}
+use Rattle.role_steps.proofs.of_plain_facts.Options.{none_some, some_same}
+use Rattle.role_steps.proofs.of_plain_facts.Tests.{true_false}
 use Rattle.locus_ids.specs.declared.config.Config.{Config}
 use Rattle.locus_ids.specs.declared.ids.CallId.{CallId}
 use Rattle.locus_ids.specs.declared.ids.EpochId.{EpochId}
@@ -50,7 +52,7 @@ use Rattle.tree_laws.proofs.Awaiting.{OpensIt, close_opens, look_opens, named_be
 use Rattle.tree_laws.proofs.Fresh.{IsNamed, calls_are_low, next_is_new, numbered}
 use Rattle.tree_laws.proofs.Having.{Untaken, named_or_untaken}
 use Rattle.tree_laws.proofs.Hearing.{take_all, take_own}
-use Rattle.tree_laws.proofs.Names.{same_call_eq, same_serial_own, some_is, true_false}
+use Rattle.tree_laws.proofs.Names.{same_call_eq, same_serial_own}
 use Rattle.tree_laws.proofs.Scripts.{named_stays}
 use Rattle.user_laws.specs.Rests.{HasTaken, IsOpenedAs, gives_now}
 use Rattle.store_laws.proofs.ScriptEndingCalls.{has_by}
@@ -63,12 +65,10 @@ use Rattle.store_laws.proofs.ScriptReplies.{gives_sound}
 use Rattle.store_laws.proofs.ScriptSoundCalls.{BeginsRight, UsesWords}
 use Rattle.call_rules.specs.Words.{is_badly_named}
 use Rattle.locus_ids.specs.declared.refusal.Refusal.TheVariants as refusal
+use Rattle.locus_ids.specs.Sizes.{descriptor_span, descriptors_max}
 
 abbrev With : ℕ → Told → List Line → List Line
 With n x older = record { number = n; told = x } ∷ older
-
-none_some : {A : Type 0} (a : A) → ◌≡◌ {A = Option A} None (Some a) → ⊥
-none_some a e = cc
 
 -- ---- the mode ----
 
@@ -141,11 +141,11 @@ module _ (c : Config) (n : ℕ) (older : List Line) (d : CallId) (path : List �
       granted : who ≡ d → (mode ≡ mode_named m) × (at ≡ e)
       granted is = (
         mode_so c m asks.wanted may.in_time.opens.asked may.in_time.opens.it mode so asks.opening_is may.in_time.opens.mode_is,
-        some_is at e (sym asks.inside.made_in ∙ (ap (λ (x : Waiting). x.epoch) caller ∙ it.made_in)),
+        some_same at e (sym asks.inside.made_in ∙ (ap (λ (x : Waiting). x.epoch) caller ∙ it.made_in)),
       )
         where
           caller : asks.inside.accepted ≡ it.caller
-          caller = some_is asks.inside.accepted it.caller (sym asks.inside.named ∙ (ap (call_named (entries older)) is ∙ it.named))
+          caller = some_same asks.inside.accepted it.caller (sym asks.inside.named ∙ (ap (call_named (entries older)) is ∙ it.named))
 
           walks : begun (entries older) who ≡ Some begins.Walks
           walks = asks_walks c older who asks.inside.accepted asks.inside.named (ap is_open_want asks.asks.asked ∙ opening_is_open c asks.wanted may.in_time.opens.asked may.in_time.opens.it asks.opening_is)
@@ -220,7 +220,7 @@ last_so c (x ∷ older) h d path m e it = at (λ was. last_so c older h.1 d path
         old named = last_told c x.number older d path m e h.1 was (later was) x.told h.0
           where
             same : named.0 ≡ it.caller
-            same = some_is named.0 it.caller (sym (named_stays c x.number x.told older d h.1 h.0 named ∙ named.1) ∙ it.named)
+            same = some_same named.0 it.caller (sym (named_stays c x.number x.told older d h.1 h.0 named ∙ named.1) ∙ it.named)
 
             was : OpenIn older d path m e
             was = record { caller = named.0; named = named.1; words_are = ap (λ (w : Waiting). w.words) same ∙ it.words_are; made_in = ap (λ (w : Waiting). w.epoch) same ∙ it.made_in }
@@ -238,11 +238,11 @@ low_from table n (suc left) fd e = over (table n) e (low_from table (n + 1) left
     more lt = omega (arith, lt)
 
     over : (o : Option Descriptor) → free_or n (lowest_free_from table (n + 1) left) o ≡ Some fd → (lowest_free_from table (n + 1) left ≡ Some fd → fd < n + 1 + left) → fd < n + suc left
-    over None k later = here (some_is n fd k)
+    over None k later = here (some_same n fd k)
     over (Some x) k later = more (later k)
 
-small : (table : ℕ → Option Descriptor) (fd : ℕ) → lowest_free table ≡ Some fd → fd < 65536
-small table fd e = (let l : fd < 0 + 16 = low_from table 0 16 fd e in omega (arith, l))
+small : (table : ℕ → Option Descriptor) (fd : ℕ) → lowest_free table ≡ Some fd → fd < descriptor_span
+small table fd e = (let l : fd < 0 + descriptors_max = low_from table 0 descriptors_max fd e in omega (arith, l))
 
 -- ---- the descriptor ----
 

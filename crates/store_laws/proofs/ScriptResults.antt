@@ -11,12 +11,15 @@ use Rattle.trace_book.specs.declared.operation.Op.TheVariants as op
 use Rattle.trace_book.specs.declared.operation.Outcome.{Outcome}
 use Rattle.trace_book.specs.declared.operation.Outcome.TheVariants as outcome
 use Rattle.std.specs.Str.{bytes_eq}
+use Rattle.role_steps.proofs.of_plain_facts.Numbers.{equal}
+use Rattle.role_steps.proofs.of_plain_facts.Options.{some_same}
+use Rattle.role_steps.proofs.of_plain_facts.Tests.{and_first, and_second, true_false}
 use Rattle.trace_book.specs.Names.{is_name}
 use Rattle.dir_format.specs.declared.entry.Entry.{Entry}
 use Rattle.dir_format.specs.declared.looking.LookResult.{LookResult}
 use Rattle.dir_format.specs.declared.looking.LookResult.TheVariants as look
 use Rattle.dir_format.specs.Contents.{is_entry, is_dir, entries_from, entries_of, has_one_kind, ascends}
-use Rattle.dir_format.specs.Effects.{DirEffect, becomes, probe_beside, probe_effect, rename_effect, find_by, find_effect, insert_beside, insert_effect, remove_entry, live_one, rename_beside, rename_entry, rename_by, empty_among, empty_effect, max_size, size_of}
+use Rattle.dir_format.specs.Effects.{DirEffect, becomes, probe_beside, probe_effect, rename_effect, find_by, find_effect, insert_beside, insert_effect, remove_entry, live_one, rename_beside, rename_entry, rename_by, empty_among, empty_effect, size_of}
 use Rattle.dir_format.specs.Entries.{pair_in}
 use Rattle.dir_format.specs.Grammar.{dir_bytes}
 use Rattle.dir_format.specs.Lookups.{has_name, is_meant, look_among, lookup, shown_names}
@@ -27,7 +30,7 @@ use Rattle.file_effects.specs.Works.{result_in, commit_result}
 use Rattle.commit_graph.specs.declared.history.Version.{Version}
 use Rattle.commit_graph.specs.Vectors.{vector_of}
 use Rattle.locus_ids.specs.declared.ids.Serial.{Serial}
-use Rattle.file_content.specs.Contents.{max_bytes}
+use Rattle.locus_ids.specs.Sizes.{directory_bytes_max, file_bytes_max, inodes_max}
 use Rattle.file_content.specs.Pages.{pages_replaced}
 use Rattle.file_effects.specs.Effects.{tells, writes}
 use Rattle.tree_model.specs.declared.instance.Instance.{Instance}
@@ -38,7 +41,6 @@ use Rattle.tree_model.specs.State.{TreeState, instance_in, kept_of}
 use Rattle.tree_model.specs.Working.{are_several, effect_of, effect_on, free_pages, in_room, is_spent, is_target, result_on, sees}
 use Rattle.role_steps.specs.Own.{Every}
 use Rattle.tree_laws.proofs.Boots.{every_filter}
-use Rattle.tree_laws.proofs.Names.{some_is, true_false, test_same}
 use Rattle.store_laws.proofs.ScriptFitting.{NotChanged}
 
 -- ---- numbers in directories ----
@@ -51,23 +53,15 @@ abbrev pub FoundRight : LookResult → Type 0
 FoundRight (look.Found ino kind) = 1 ≤ ino
 FoundRight _ = Unit {0}
 
-first : (a b : Bool) → (a && b) ≡ true → a ≡ true
-first true b e = refl
-first false b e = e
-
-second : (a b : Bool) → (a && b) ≡ true → b ≡ true
-second true b e = e
-second false b e = absurd (true_false (sym e))
-
 from_one : (n : ℕ) → nat_le 1 n ≡ true → 1 ≤ n
 from_one n e = grind (arith, nat_tests)
 
 entry_numbered : (d : Entry) → is_entry d ≡ true → Numbered d
-entry_numbered d e = from_one d.ino (first (nat_le 1 d.ino) (nat_le d.ino 1024) (first (nat_le 1 d.ino && nat_le d.ino 1024) _ (second (is_name d.name) _ e)))
+entry_numbered d e = from_one d.ino (and_first (nat_le 1 d.ino) (nat_le d.ino inodes_max) (and_first (nat_le 1 d.ino && nat_le d.ino inodes_max) _ (and_second (is_name d.name) _ e)))
 
 all_numbered : (ds : List Entry) → list_all is_entry ds ≡ true → Every Numbered ds
 all_numbered [] e = tt
-all_numbered (d ∷ ds) e = (entry_numbered d (first (is_entry d) (list_all is_entry ds) e), all_numbered ds (second (is_entry d) (list_all is_entry ds) e))
+all_numbered (d ∷ ds) e = (entry_numbered d (and_first (is_entry d) (list_all is_entry ds) e), all_numbered ds (and_second (is_entry d) (list_all is_entry ds) e))
 
 entries_numbered : (bytes : List ℕ) → Every Numbered (entries_of bytes)
 entries_numbered bytes = over (bytes_eq (dir_bytes ds) bytes) (is_dir ds) refl
@@ -76,7 +70,7 @@ entries_numbered bytes = over (bytes_eq (dir_bytes ds) bytes) (is_dir ds) refl
     ds = entries_from (length bytes) bytes
 
     over : (a b : Bool) → is_dir ds ≡ b → Every Numbered (cond (a && b) ds [])
-    over true true e = all_numbered ds (first (list_all is_entry ds) (ascends ds && has_one_kind ds) e)
+    over true true e = all_numbered ds (and_first (list_all is_entry ds) (ascends ds && has_one_kind ds) e)
     over true false e = tt
     over false b e = tt
 
@@ -114,7 +108,7 @@ widen (op.Find component) other r h = absurd other
 widen o other r h = tt
 
 becomes_right : (ds after : List Entry) (spent : Bool) → OutcomeRight (becomes ds after spent).outcome
-becomes_right ds after spent = over (nat_lt max_size (size_of after))
+becomes_right ds after spent = over (nat_lt directory_bytes_max (size_of after))
   where
     over : (b : Bool) → OutcomeRight (cond {A = DirEffect} b (record { outcome = outcome.No refusal.TooLong; entries = ds; counts = false; spent = false }) (record { outcome = outcome.Done; entries = after; counts = true; spent = spent })).outcome
     over true = tt
@@ -122,7 +116,7 @@ becomes_right ds after spent = over (nat_lt max_size (size_of after))
 
 probe_right : (name : List ℕ) (ds : List Entry) (o : Option Entry) → OutcomeRight (probe_beside name ds o).outcome
 probe_right name ds (Some d) = tt
-probe_right name ds None = over (nat_lt max_size (size_of ds + (length name + 8)))
+probe_right name ds None = over (nat_lt directory_bytes_max (size_of ds + (length name + 8)))
   where
     over : (b : Bool) → OutcomeRight (cond {A = DirEffect} b (record { outcome = outcome.No refusal.TooLong; entries = ds; counts = false; spent = false }) (record { outcome = outcome.Done; entries = ds; counts = false; spent = false })).outcome
     over true = tt
@@ -165,7 +159,7 @@ in_right P content (Some d) h = over (is_dir d.entries)
     over false = tt
 
 some_right : (P : Outcome → Type 0) (d e : DirEffect) → P d.outcome → ◌≡◌ {A = Option DirEffect} (Some d) (Some e) → P e.outcome
-some_right P d e h k = subst (λ (x : DirEffect). P x.outcome) (some_is d e k) h
+some_right P d e h k = subst (λ (x : DirEffect). P x.outcome) (some_same d e k) h
 
 worded_right : (P : Outcome → Type 0) (w : Bool) (o : Option Effect) → EffectRight P o → EffectRight P (cond w o None)
 worded_right P true o h = h
@@ -198,7 +192,7 @@ write_right at bytes content false = tt
 -- what an operation by its words gives
 pub as_right : (o : Op) (content : List ℕ) → EffectRight (ResultRight o) (effect (As o) content)
 as_right (op.Read at len) content = tt
-as_right (op.Write at bytes) content = write_right at bytes content (nat_le (at + length bytes) max_bytes)
+as_right (op.Write at bytes) content = write_right at bytes content (nat_le (at + length bytes) file_bytes_max)
 as_right (op.Cut len) content = tt
 as_right (op.Remove name ino) content = tt
 as_right op.Mend content = tt
@@ -214,7 +208,7 @@ removes_right : (name : List ℕ) (ino : ℕ) (seen content : List ℕ) → Effe
 removes_right name ino seen content = in_right OutcomeRight content _ (λ d e. remove_right seen (entries_of content) (live_one (pair_in name ino (entries_of content))) d e)
 
 mends_right : (several : Bool) (joined content : List ℕ) → EffectRight OutcomeRight (effect (Mends several joined) content)
-mends_right several joined content = over (nat_lt max_bytes (length joined))
+mends_right several joined content = over (nat_lt directory_bytes_max (length joined))
   where
     over : (b : Bool) → OutcomeRight (cond b (tells content (outcome.No refusal.TooLong)) (record { result = outcome.Done; content = joined; pages = pages_replaced content joined; counts = several || not (bytes_eq joined content); spent = false })).result
     over true = tt
@@ -244,7 +238,7 @@ same_right : (o : Op) (r result : Outcome) → same_outcome r result ≡ true �
 same_right o (outcome.No r) (outcome.No why) e h = same_not_changed r why h e
 same_right o (outcome.No r) result e h = absurd (true_false (sym e))
 same_right o r (outcome.No why) e h = absurd (true_false (sym e))
-same_right (op.Find component) (outcome.Found ino kind) (outcome.Found i k) e h = subst (λ (n : ℕ). 1 ≤ n) (test_same ino i (first (ino == i) (same_kind kind k) e)) h
+same_right (op.Find component) (outcome.Found ino kind) (outcome.Found i k) e h = subst (λ (n : ℕ). 1 ≤ n) (equal ino i (and_first (ino == i) (same_kind kind k) e)) h
 same_right (op.Find component) (outcome.Found ino kind) result e h = absurd (true_false (sym e))
 same_right (op.Find component) r result e h = absurd h
 same_right o r result e h = tt
@@ -303,4 +297,4 @@ act_right h t i n o result e = over (instance_in t i) e
   where
     over : (x : Option Instance) → instance_gives h t n o result x ≡ true → ResultRight o result
     over None e = absurd (true_false (sym e))
-    over (Some x) e = given_right o (result_on h t o x) result (second (n == x.work.ops + 1) (is_given (result_on h t o x) result) e) (result_right h t o x)
+    over (Some x) e = given_right o (result_on h t o x) result (and_second (n == x.work.ops + 1) (is_given (result_on h t o x) result) e) (result_right h t o x)

@@ -1,5 +1,6 @@
 -- Opens name files that have numbers, and resolutions are as the words of their calls say.
 use Rattle.std.proofs.Common.{◌≡◌, ℕ, ◌≤◌, List, Some, sym, ◌∙◌, ap, subst, arith}
+use Rattle.role_steps.proofs.of_plain_facts.Options.{some_same}
 use Rattle.locus_ids.specs.declared.config.Config.{Config}
 use Rattle.locus_ids.specs.declared.ids.CallId.{CallId}
 use Rattle.locus_ids.specs.declared.ids.EpochId.{EpochId}
@@ -21,7 +22,6 @@ use Rattle.tree_laws.specs.Calls.{is_request}
 use Rattle.tree_laws.specs.Following.{IsFollowed}
 use Rattle.tree_laws.specs.Instances.{AsksOpen, IsOpening}
 use Rattle.tree_laws.specs.Printed.{entries}
-use Rattle.tree_laws.proofs.Names.{some_is}
 use Rattle.sync_laws.specs.Opening.{IsPlainOpening}
 use Rattle.store_laws.proofs.ScriptFitting.{IsSound, OpensAs}
 use Rattle.store_laws.proofs.ScriptFitted.{asked_sound}
@@ -50,7 +50,7 @@ open_numbered c t e d request serial f q h a plain none = over a.wanted a.openin
 
 -- a resolution is asked as the words of its call say
 pub resolution_said : (c : Config) (t : List Line) (e : EpochId) (d : CallId) (request serial : ℕ) (f : FileId) (site : ℕ) → IsFollowed c t → AsksOpen c t e d request serial f (how.Resolve site) → (w : Waiting) → call_named (entries t) d ≡ Some w → site_named (Some w.words) ≡ Some site
-resolution_said c t e d request serial f site h a w named = subst (λ (v : Waiting). site_named (Some v.words) ≡ Some site) (some_is a.inside.accepted w (sym a.inside.named ∙ named)) (over a.wanted a.opening_is (sound_open c t e d request serial f (how.Resolve site) a h))
+resolution_said c t e d request serial f site h a w named = subst (λ (v : Waiting). site_named (Some v.words) ≡ Some site) (some_same a.inside.accepted w (sym a.inside.named ∙ named)) (over a.wanted a.opening_is (sound_open c t e d request serial f (how.Resolve site) a h))
   where
     resolve_site : (s r : ℕ) → how.Resolve s ≡ how.Resolve r → s ≡ r
     resolve_site s r e = cc

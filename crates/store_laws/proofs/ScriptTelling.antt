@@ -1,6 +1,8 @@
 -- What the records answer fits what was asked.
 use Rattle.std.proofs.Common.{◌≡◌, ℕ, ◌-◌, Bool, true, false, cond, ◌&&◌, List, [], ◌∷◌, ◌++◌, take, Option, Some, None, refl, sym, ◌∙◌, ap, subst}
 use Rattle.std.specs.Option.{option_or}
+use Rattle.role_steps.proofs.of_plain_facts.Options.{some_same}
+use Rattle.role_steps.proofs.of_plain_facts.Tests.{and_first, and_second, true_false}
 use Rattle.locus_ids.specs.declared.config.Config.{Config}
 use Rattle.locus_ids.specs.declared.ids.CallId.{CallId}
 use Rattle.locus_ids.specs.declared.ids.FileId.{FileId}
@@ -57,20 +59,11 @@ use Rattle.tree_laws.specs.Printed.{entries}
 use Rattle.tree_laws.specs.Serials.{asked_now}
 use Rattle.tree_laws.proofs.Asking.{StepRecord}
 use Rattle.tree_laws.proofs.Awaiting.{by_own, by_owner, last_same}
-use Rattle.tree_laws.proofs.Names.{some_is, true_false}
 use Rattle.store_laws.proofs.ScriptFitting.{NotChanged, LookFits, OpenFits, MendFits, DoFits, CloseFits, Fits}
 use Rattle.store_laws.proofs.ScriptResults.{FoundRight, ResultRight, act_right, found_right, refusal_right}
 
 abbrev With : ℕ → Told → List Line → List Line
 With n x older = record { number = n; told = x } ∷ older
-
-first : (a b : Bool) → (a && b) ≡ true → a ≡ true
-first true b e = refl
-first false b e = e
-
-second : (a b : Bool) → (a && b) ≡ true → b ≡ true
-second true b e = e
-second false b e = absurd (true_false (sym e))
 
 -- ---- looks ----
 
@@ -183,14 +176,14 @@ open_right h t mode.Make call f = place_right h t mode.Make call f
 open_right h t m call f = either_right (grant_refusal m (openers t f) (kept_of h t f)) (place_refusal h t m call f) (grant_right m (openers t f) (kept_of h t f)) (place_right h t m call f)
 
 refuses_right : (h : List Version) (t : TreeState) (call : CallId) (m : Mode) (f : FileId) (why : Refusal) → gives_refusal h t call m f why ≡ true → NotChanged why
-refuses_right h t call m f why e = over (open_refusal h t m call f) (open_right h t m call f) (second (is_unnumbered m f) _ (second t.started _ e))
+refuses_right h t call m f why e = over (open_refusal h t m call f) (open_right h t m call f) (and_second (is_unnumbered m f) _ (and_second t.started _ e))
   where
     no_inode : (r : Refusal) → is_no_inode r ≡ true → NotChanged r
     no_inode (refusal.Changed at) k = absurd (true_false (sym k))
     no_inode r k = tt
 
     over : (o : Option Refusal) → MaybeRight o → refuses h t call m f why o ≡ true → NotChanged why
-    over None k r = no_inode why (first (is_no_inode why) _ (second (is_make m) _ r))
+    over None k r = no_inode why (and_first (is_no_inode why) _ (and_second (is_make m) _ r))
     over (Some old) k r = refusal_right old why k r
 
 -- ---- operations and closes ----
@@ -223,7 +216,7 @@ told_fits c n r older d a b w xs is asked fit waits = subst (λ (v : Want). Fits
 -- a step of a call answers it by what fits its request
 pub step_fits : (c : Config) (n : ℕ) (r : Record) (older : List Line) (d : CallId) (a : Answer) → MayTell c older (Shown r) → StepRecord (entries older) r d → Waits c (With n (Shown r) older) d a → Fits (asked_now c older d) a
 step_fits c n (says.Look e call request f w result) older d a may step waits = told_fits c n (says.Look e call request f w result) older d a (look_answer c (entries older) f w result) (want.Look f w) (take (request - 1) (heard c older d)) (by_own call d _ (heard c older d) step)
-    (subst (λ (y : CallId). asked_now c older y ≡ want.Look f w) step may.in_time.asks.asked) (look_told c (entries older) f w result (kept_of (history c (entries older)) (tree_of c e f.group (entries older)) f) (second (tree_of c e f.group (entries older)).started _ may.row.gives)) waits
+    (subst (λ (y : CallId). asked_now c older y ≡ want.Look f w) step may.in_time.asks.asked) (look_told c (entries older) f w result (kept_of (history c (entries older)) (tree_of c e f.group (entries older)) f) (and_second (tree_of c e f.group (entries older)).started _ may.row.gives)) waits
 step_fits c n (says.Grant e call request i m f stamp ss) older d a may step waits = told_fits c n (says.Grant e call request i m f stamp ss) older d a (granted_answer m i f (kept_in c (entries older) e f)) may.in_time.opens.asks.wanted (heard c older d) (by_own call d _ (heard c older d) step)
     (subst (λ (y : CallId). asked_now c older y ≡ may.in_time.opens.asks.wanted) step may.in_time.opens.asks.asks.asked)
     (grant_told c may.in_time.opens.asks.wanted may.in_time.opens.asked may.in_time.opens.it m i f (kept_in c (entries older) e f) may.in_time.opens.mode_is may.in_time.opens.asks.opening_is) waits
@@ -231,8 +224,8 @@ step_fits c n (says.Refuse e call request i m f why) older d a may step waits = 
     (subst (λ (y : CallId). asked_now c older y ≡ may.in_time.opens.asks.wanted) step may.in_time.opens.asks.asks.asked)
     (refused_open c may.in_time.opens.asks.wanted may.in_time.opens.asked may.in_time.opens.it why (refuses_right (history c (entries older)) (tree_of c e f.group (entries older)) call m f why may.row.gives) may.in_time.opens.asks.opening_is) waits
 step_fits c n (says.Act e i number o result) older d a may step waits = told_fits c n (says.Act e i number o result) older d a (outcome_answer result) (want.Do i o) (heard c older d) (by_owner (call_of_act (entries older) e i number) d _ (heard c older d) step)
-    (subst (λ (y : CallId). asked_now c older y ≡ want.Do i o) (some_is may.in_time.call d (sym may.in_time.owner ∙ step)) may.in_time.asks.asked)
+    (subst (λ (y : CallId). asked_now c older y ≡ want.Do i o) (some_same may.in_time.call d (sym may.in_time.owner ∙ step)) may.in_time.asks.asked)
     (outcome_told i o result (act_right (history c (entries older)) (tree_of c e (granted_group (entries older) e i) (entries older)) i number o result may.row.gives)) waits
 step_fits c n (says.Release e i f stamp) older d a may step waits = told_fits c n (says.Release e i f stamp) older d a (close_answer stamp (instance_in (tree_of c e f.group (entries older)) i)) (want.Close i) (heard c older d) (by_owner (call_of_release (entries older) e i) d _ (heard c older d) step)
-    (subst (λ (y : CallId). asked_now c older y ≡ want.Close i) (some_is may.in_time.call d (sym may.in_time.owner ∙ step)) may.in_time.asks.asked) (close_told stamp (instance_in (tree_of c e f.group (entries older)) i)) waits
+    (subst (λ (y : CallId). asked_now c older y ≡ want.Close i) (some_same may.in_time.call d (sym may.in_time.owner ∙ step)) may.in_time.asks.asked) (close_told stamp (instance_in (tree_of c e f.group (entries older)) i)) waits
 step_fits c n _ older d a may step waits = absurd step

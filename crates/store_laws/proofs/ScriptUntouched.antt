@@ -1,5 +1,7 @@
 -- An instance that is open to write, and of which only the emptiness was asked, owes nothing and stands on the version of its grant.
 use Rattle.std.proofs.Common.{◌≡◌, ℕ, ◌||◌, Bool, true, false, cond, List, [], ◌∷◌, Option, Some, None, refl, sym, ◌∙◌, ap, subst, ◌⊎◌, inl, inr}
+use Rattle.role_steps.proofs.of_plain_facts.Options.{some_same}
+use Rattle.role_steps.proofs.of_plain_facts.Tests.{true_false}
 use Rattle.locus_ids.specs.declared.config.Config.{Config}
 use Rattle.locus_ids.specs.declared.ids.CallId.{CallId}
 use Rattle.locus_ids.specs.declared.ids.EpochId.{EpochId}
@@ -34,12 +36,11 @@ use Rattle.tree_laws.specs.Printed.{entries}
 use Rattle.tree_laws.proofs.CarriedOpens.{was_then}
 use Rattle.tree_laws.proofs.Grants.{Had, before_record}
 use Rattle.tree_laws.proofs.Kinship.{Ends, GoesOnTold, StaysOpen, open_stays, tree_epoch_is}
-use Rattle.tree_laws.proofs.Names.{some_is, true_false}
 use Rattle.tree_laws.proofs.Opened.{ActsOn, CommitsOn, GrantsIt}
 use Rattle.tree_laws.proofs.Owing.{commits_owe}
-use Rattle.order_laws.proofs.ProcessOpen.{granted_begins}
-use Rattle.holding_laws.proofs.Distinct.{open_now}
-use Rattle.holding_laws.proofs.Released.{released_shut}
+use Rattle.sync_laws.proofs.of_order_laws.ProcessOpen.{granted_begins}
+use Rattle.user_laws.proofs.of_holding_laws.Distinct.{open_now}
+use Rattle.user_laws.proofs.of_holding_laws.Released.{released_shut}
 
 abbrev With : ℕ → Told → List Line → List Line
 With n x older = record { number = n; told = x } ∷ older
@@ -81,7 +82,7 @@ empty_counts content e is = over (is_dir (empty_effect (entries_of content)).ent
     none k = cc
 
     over : (b : Bool) → (empty_effect (entries_of content)).counts ≡ false → cond b (Some (on_directory content (empty_effect (entries_of content)))) None ≡ Some e → e.counts ≡ false
-    over true same k = ap (λ (x : Effect). x.counts) (sym (some_is (on_directory content (empty_effect (entries_of content))) e k)) ∙ same
+    over true same k = ap (λ (x : Effect). x.counts) (sym (some_same (on_directory content (empty_effect (entries_of content))) e k)) ∙ same
     over false same k = absurd (none k)
 
 empty_acted : (h : List Version) (t : TreeState) (result : Outcome) (old : Instance) (stamp : Option Stamp) → StandsOn stamp old → StandsOn stamp (once_acted h t op.Empty result old)
@@ -143,7 +144,7 @@ untouched c (y ∷ older) h e g request i f stamp ss x (inr was) only found = ov
     ended _ end = absurd end
 
     stays : (z : Instance) → instance_now c older e i ≡ Some z → StandsOn stamp z → StaysOpen c older y.number y.told e i z ⊎ Ends e i y.told → StandsOn stamp x
-    stays z is clean (inl s) = subst (StandsOn stamp) (some_is s.new x (sym s.found ∙ found)) (goes_clean c y.number older e i stamp z s.new is clean y.told h.0 only s.goes)
+    stays z is clean (inl s) = subst (StandsOn stamp) (some_same s.new x (sym s.found ∙ found)) (goes_clean c y.number older e i stamp z s.new is clean y.told h.0 only s.goes)
     stays z is clean (inr ends) = absurd (released_shut c (y ∷ older) h e i x (inl (ended y.told ends)) found)
 
     over : (old : Instance) × (instance_now c older e i ≡ Some old) → ((z : Instance) → instance_now c older e i ≡ Some z → StandsOn stamp z) → StandsOn stamp x
@@ -151,7 +152,7 @@ untouched c (y ∷ older) h e g request i f stamp ss x (inr was) only found = ov
 untouched c (y ∷ older) h e g request i f stamp ss x (inl now) only found = over y.told h.0 now found
   where
     over : (z : Told) → MayTell c older z → Printed (GrantRecord e g request i mode.Write f stamp ss) older z → instance_now c (With y.number z older) e i ≡ Some x → StandsOn stamp x
-    over (Shown (says.Grant at call number inst m file on place)) may p found = subst (StandsOn stamp) (some_is _ x (sym began ∙ found)) fresh
+    over (Shown (says.Grant at call number inst m file on place)) may p found = subst (StandsOn stamp) (some_same _ x (sym began ∙ found)) fresh
       where
         z : Told
         z = Shown (says.Grant at call number inst m file on place)

@@ -1,5 +1,6 @@
 -- Whole contents are looked at by mends alone, of the kept versions one after another, and served of the version that was asked.
 use Rattle.std.proofs.Common.{◌≡◌, ℕ, Bool, true, false, cond, ◌&&◌, List, [], ◌∷◌, ◌++◌, Option, Some, None, refl, sym, ◌∙◌, ap, subst, append-nil, inl, inr}
+use Rattle.role_steps.proofs.of_plain_facts.Tests.{and_second, true_false}
 use Rattle.locus_ids.specs.declared.config.Config.{Config}
 use Rattle.locus_ids.specs.declared.ids.CallId.{CallId}
 use Rattle.locus_ids.specs.declared.ids.EpochId.{EpochId}
@@ -34,10 +35,9 @@ use Rattle.tree_laws.specs.Past.{WasLooked, Printed, LookRecord}
 use Rattle.tree_laws.specs.Printed.{entries}
 use Rattle.tree_laws.specs.Serials.{asked_now}
 use Rattle.tree_laws.specs.Users.{brought_of, taken_whole}
-use Rattle.tree_laws.proofs.Names.{true_false}
-use Rattle.order_laws.proofs.Standing.{same_stamp_eq}
-use Rattle.holding_laws.proofs.MendMends.{LooksWhole, whole_looked}
-use Rattle.holding_laws.proofs.MendWants.{IsPlainLook, give_up_so, after_mend_so}
+use Rattle.sync_laws.proofs.of_order_laws.Standing.{same_stamp_eq}
+use Rattle.user_laws.proofs.of_holding_laws.MendMends.{LooksWhole, whole_looked}
+use Rattle.user_laws.proofs.of_holding_laws.MendWants.{IsPlainLook, give_up_so, after_mend_so}
 
 -- ---- the contents that a mend has brought ----
 
@@ -79,10 +79,6 @@ wholes_brought c t d caller file stamp named asked = (k.words_are, taken_more fi
 
 -- ---- what is served ----
 
-last : (a b : Bool) → (a && b) ≡ true → b ≡ true
-last true b e = e
-last false b e = absurd (true_false (sym e))
-
 served_asked : (asked s : Stamp) (kept : List Stamp) → is_served (served_by (what.Whole asked) kept) (served.At s) ≡ true → s ≡ asked
 served_asked asked s kept e = over (has_stamp kept asked) e
   where
@@ -93,7 +89,7 @@ served_asked asked s kept e = over (has_stamp kept asked) e
 look_asked : (c : Config) (older : List Line) (x : Told) (e : EpochId) (d : CallId) (request times : ℕ) (f : FileId) (asked s : Stamp) → MayTell c older x → Printed (LookRecord e d request times f (what.Whole asked) (served.At s)) older x → s ≡ asked
 look_asked c older (Shown (says.Look at call number file w result)) e d request times f asked s may k = served_asked asked s kept
     (subst (λ (r : Served). is_served (served_by (what.Whole asked) kept) r ≡ true) k.served_is (subst (λ (y : What). is_served (served_by y kept) result ≡ true) k.what_is
-    (last (tree_of c at file.group (entries older)).started (is_served (served_by w kept) result) may.row.gives)))
+    (and_second (tree_of c at file.group (entries older)).started (is_served (served_by w kept) result) may.row.gives)))
   where
     kept : List Stamp
     kept = kept_of (history c (entries older)) (tree_of c at file.group (entries older)) file

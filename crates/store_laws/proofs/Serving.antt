@@ -2,11 +2,14 @@
 use Rattle.std.proofs.Common.{◌≡◌, ℕ, ◌<◌, Bool, true, false, not, cond, ◌&&◌, ◌||◌, filter, List, [], ◌∷◌, length, Option, Some, None, refl, sym, ◌∙◌, ap, subst, inl, inr}
 use Rattle.std.specs.Prelude.{nat_lt}
 use Rattle.std.specs.Option.{option_map}
+use Rattle.role_steps.proofs.of_plain_facts.Options.{none_some, some_same}
+use Rattle.role_steps.proofs.of_plain_facts.Tests.{and_second, true_false}
 use Rattle.locus_ids.specs.declared.config.Config.{Config}
 use Rattle.locus_ids.specs.declared.ids.CallId.{CallId}
 use Rattle.locus_ids.specs.declared.ids.EpochId.{EpochId}
 use Rattle.locus_ids.specs.declared.ids.FileId.{FileId}
 use Rattle.locus_ids.specs.declared.ids.Stamp.{Stamp}
+use Rattle.locus_ids.specs.Sizes.{inode_span}
 use Rattle.commit_graph.specs.Versions.{content_of, is_covered, same_stamp}
 use Rattle.file_content.specs.Pages.{pages_of, page_of}
 use Rattle.trace_book.specs.declared.operation.Served.{Served}
@@ -39,18 +42,13 @@ use Rattle.tree_laws.specs.Packets.{LookDoneFact, LookGives, PacketFact, ServeFa
 use Rattle.tree_laws.specs.Past.{LookRecord, Printed, WasLooked}
 use Rattle.tree_laws.specs.Stores.{CopiesAreHeld, copy_for}
 use Rattle.tree_laws.proofs.Histories.{stands_more}
-use Rattle.tree_laws.proofs.Names.{true_false, some_is}
 use Rattle.tree_laws.proofs.Rows.{followed_rows}
-use Rattle.order_laws.proofs.Knowing.{versions_stand}
-use Rattle.order_laws.proofs.Standing.{same_stamp_eq}
+use Rattle.sync_laws.proofs.of_order_laws.Knowing.{versions_stand}
+use Rattle.sync_laws.proofs.of_order_laws.Standing.{same_stamp_eq}
 use Rattle.store_laws.specs.Rests.{StoreRests}
 use Rattle.store_laws.proofs.Holding.{held_stands}
 
 -- ---- what was looked at stands ----
-
-second_of : (a b : Bool) → a && b ≡ true → b ≡ true
-second_of true b e = e
-second_of false b e = absurd (true_false (sym e))
 
 -- what is among the kept is among those of which they are kept
 within : (p : Stamp → Bool) (xs : List Stamp) (s : Stamp) → has_stamp (filter p xs) s ≡ true → has_stamp xs s ≡ true
@@ -87,7 +85,7 @@ served_kept (what.Whole asked) ks s e = at (has_stamp ks asked) refl e
 looked_now : (c : Config) (older : List Line) → IsFollowed c older → (e : EpochId) (d : CallId) (request times : ℕ) (f : FileId) (w : What) (s : Stamp) (z : Told) → MayTell c older z → Printed (LookRecord e d request times f w (served.At s)) older z → Stands c older f s
 looked_now c older h e d request times f w s (Shown (says.Look at call number file asked result)) may p = subst (λ (y : FileId). Stands c older y s) p.file_is
     ((versions_stand c (entries older) (followed_rows c older h)).known at file s (within (λ a. not (is_covered (history c (entries older)) file (stamps_of t.known file.ino) a)) (stamps_of t.known file.ino) s
-    (served_kept asked (kept_of (history c (entries older)) t file) s (subst (λ (r : Served). is_served (served_by asked (kept_of (history c (entries older)) t file)) r ≡ true) p.served_is (second_of t.started _ may.row.gives)))))
+    (served_kept asked (kept_of (history c (entries older)) t file) s (subst (λ (r : Served). is_served (served_by asked (kept_of (history c (entries older)) t file)) r ≡ true) p.served_is (and_second t.started _ may.row.gives)))))
   where
     t : TreeState
     t = tree_of c at file.group (entries older)
@@ -107,15 +105,12 @@ pub record IsCopy (c : Config) (trace : List Line) (me : ℕ) (f : FileId) (x : 
   pub stands : Stands c trace f stamp
   pub same : x ≡ copy_for f (version_of c (entries trace) f stamp)
 
-none_some : {A : Type 0} (x : A) → ◌≡◌ {A = Option A} None (Some x) → ⊥
-none_some x e = cc
-
-pub copy_is : (c : Config) (trace : List Line) → IsFollowed c trace → (me : ℕ) (s : Store) → CopiesAreHeld c trace me s → (f : FileId) → f.ino < 65536 → (x : FileCopy) → copy_of s f ≡ Some x → IsCopy c trace me f x
+pub copy_is : (c : Config) (trace : List Line) → IsFollowed c trace → (me : ℕ) (s : Store) → CopiesAreHeld c trace me s → (f : FileId) → f.ino < inode_span → (x : FileCopy) → copy_of s f ≡ Some x → IsCopy c trace me f x
 copy_is c trace h me s k f narrow x e = over (held c (entries trace) me f) refl (sym (k.are f narrow) ∙ e)
   where
     over : (o : Option Stamp) → held c (entries trace) me f ≡ o → option_map (copy_for f) (option_map (version_of c (entries trace) f) o) ≡ Some x → IsCopy c trace me f x
     over None holds k = absurd (none_some x k)
-    over (Some t) holds k = record { stamp = t; holds = holds; stands = held_stands c (entries trace) (followed_rows c trace h) me f t holds; same = sym (some_is (copy_for f (version_of c (entries trace) f t)) x k) }
+    over (Some t) holds k = record { stamp = t; holds = holds; stands = held_stands c (entries trace) (followed_rows c trace h) me f t holds; same = sym (some_same (copy_for f (version_of c (entries trace) f t)) x k) }
 
 -- ---- LookSs ----
 

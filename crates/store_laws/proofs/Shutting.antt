@@ -3,6 +3,7 @@
 use Rattle.std.proofs.Common.{◌≡◌, ℕ, ◌≤◌, Bool, true, false, cond, ◌&&◌, List, [], ◌∷◌, length, max, Option, Some, None, refl, sym, ◌∙◌, ap, subst, arith, inl, inr}
 use Rattle.std.specs.Option.{is_none, option_map}
 use Rattle.std.proofs.lemmas.Bool.Decides.{nat_tests}
+use Rattle.role_steps.proofs.of_plain_facts.Tests.{true_false}
 use Rattle.locus_ids.specs.declared.config.Config.{Config}
 use Rattle.locus_ids.specs.declared.ids.FileId.{FileId}
 use Rattle.locus_ids.specs.declared.ids.Mode.{Mode}
@@ -14,6 +15,7 @@ use Rattle.commit_graph.specs.Vectors.{vector_of}
 use Rattle.trace_book.specs.declared.operation.Outcome.{Outcome}
 use Rattle.call_rules.specs.declared.answer.Answer.TheVariants as answer
 use Rattle.locus_ids.specs.declared.refusal.Refusal.TheVariants as refusal
+use Rattle.locus_ids.specs.Sizes.{sites_max}
 use Rattle.wire_messages.specs.declared.body.CloseAnswer.{CloseAnswer}
 use Rattle.wire_messages.specs.declared.body.CloseAnswer.TheVariants as closing
 use Rattle.wire_messages.specs.declared.body.MadeVersion.{MadeVersion}
@@ -42,10 +44,9 @@ use Rattle.tree_laws.specs.Packets.{ClosesNow, JoinsParents, MaybeMade, PacketFa
 use Rattle.tree_laws.specs.Past.{WasBegun, WasShut}
 use Rattle.tree_laws.specs.Stores.{AnsweredFact, AreApart, ClosesAs, CopiesAreHeld, HoldsMade, InstanceFact, LiesAs, WorksAs, copy_for}
 use Rattle.tree_laws.proofs.CarriedVersions.{joins_stay, maybe_stays}
-use Rattle.tree_laws.proofs.Names.{true_false}
 use Rattle.tree_laws.proofs.Rows.{followed_rows}
 use Rattle.tree_laws.proofs.Versions.{versions_stay}
-use Rattle.order_laws.specs.Joining.{PacksAreOfSites}
+use Rattle.sync_laws.specs.of_order_laws.Joining.{PacksAreOfSites}
 use Rattle.store_laws.specs.Rests.{StoreRests}
 use Rattle.store_laws.proofs.Closes.{closed_sent, lies_with}
 use Rattle.store_laws.proofs.Holding.{held_stands}
@@ -59,7 +60,7 @@ use Rattle.store_laws.proofs.Tabled.{apart_latest, every_latest, latest_has}
 -- what an instance is that is begun, whatever its stage
 pub record IsBegunSo (c : Config) (trace : List Line) (f : Frame) (i : Instance) : Type 0 where
   pub begun : WasBegun trace f.me f.epoch i.inst i.file
-  pub user : i.inst.us ≤ 16
+  pub user : i.inst.us ≤ sites_max
   pub vector_is : JoinsParents c trace i.file i.parents i.vector
   pub lies : LiesAs c trace f i i.mode
   pub holds : HoldsMade c trace f i i.mode

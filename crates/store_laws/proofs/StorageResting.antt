@@ -18,16 +18,16 @@ use Rattle.tree_laws.specs.Doing.{FrameFact, StoreHeld}
 use Rattle.tree_laws.specs.Following.{IsFollowed}
 use Rattle.tree_laws.specs.Past.{WasBegun}
 use Rattle.tree_laws.proofs.Rows.{followed_rows}
-use Rattle.holding_laws.specs.Below.{LawsBelow}
-use Rattle.holding_laws.specs.Granted.{IsAsGranted as WaitsSo}
-use Rattle.holding_laws.specs.Held.{StandsOnHeld as StandsSo}
-use Rattle.holding_laws.proofs.Begun.{waits_as_granted}
-use Rattle.holding_laws.proofs.Below.{commits_new, packs_hold}
-use Rattle.holding_laws.proofs.OneVersionFirsts.{open_make_first}
-use Rattle.holding_laws.proofs.Holding.{sites_hold, stands_on_held}
-use Rattle.holding_laws.proofs.OneVersionHomes.{home_holds}
-use Rattle.holding_laws.proofs.Released.{released_shut}
-use Rattle.holding_laws.proofs.RoomRoom.{room_same}
+use Rattle.user_laws.specs.of_holding_laws.Below.{LawsBelow}
+use Rattle.user_laws.specs.of_holding_laws.Granted.{IsAsGranted as WaitsSo}
+use Rattle.user_laws.specs.of_holding_laws.Held.{StandsOnHeld as StandsSo}
+use Rattle.user_laws.proofs.of_holding_laws.Begun.{waits_as_granted}
+use Rattle.user_laws.proofs.of_holding_laws.Below.{commits_new, packs_hold}
+use Rattle.user_laws.proofs.of_holding_laws.OneVersionFirsts.{open_make_first}
+use Rattle.user_laws.proofs.of_holding_laws.Holding.{sites_hold, stands_on_held}
+use Rattle.user_laws.proofs.of_holding_laws.OneVersionHomes.{home_holds}
+use Rattle.user_laws.proofs.of_holding_laws.Released.{released_shut}
+use Rattle.user_laws.proofs.of_holding_laws.RoomRoom.{room_same}
 use Rattle.sync_laws.proofs.Members.{members_name_boots, table_boot}
 use Rattle.store_laws.specs.Rests.{IsAsGranted, StandsOnHeld, StoreRests}
 use Rattle.store_laws.specs.StoragePlain.{PlainRests}

@@ -1,6 +1,8 @@
 -- An instance that was begun for a make waits for its grant, and is the tree's once that is told.
 use Rattle.std.proofs.Common.{◌≡◌, ℕ, ◌==◌, Bool, true, false, cond, ◌&&◌, List, [], ◌∷◌, ◌++◌, Option, Some, None, refl, sym, ◌∙◌, ap, subst, ◌⊎◌, inl, inr}
 use Rattle.std.specs.List.{find}
+use Rattle.role_steps.proofs.of_plain_facts.Numbers.{equal_self}
+use Rattle.role_steps.proofs.of_plain_facts.Tests.{true_false}
 use Rattle.locus_ids.specs.declared.config.Config.{Config}
 use Rattle.locus_ids.specs.declared.ids.CallId.{CallId}
 use Rattle.locus_ids.specs.declared.ids.EpochId.{EpochId}
@@ -34,7 +36,7 @@ use Rattle.tree_laws.specs.Stores.{IsMaker, WorksAs, WaitsToBeGranted, RunsAs}
 use Rattle.tree_laws.proofs.CarriedLooks.{More}
 use Rattle.tree_laws.proofs.Grants.{in_tree_named}
 use Rattle.tree_laws.proofs.Kinship.{tree_epoch_is, tree_group_is}
-use Rattle.tree_laws.proofs.Names.{true_false, same_epoch_eq, same_epoch_own, same_serial_eq, same_serial_own, test_own}
+use Rattle.tree_laws.proofs.Names.{same_epoch_eq, same_epoch_own, same_serial_eq, same_serial_own}
 use Rattle.tree_laws.proofs.Serials.{one_open}
 use Rattle.store_laws.proofs.Begun.{granted_named}
 use Rattle.store_laws.proofs.Makers.{IsItsGrant, its_grant, not_refused}
@@ -51,7 +53,7 @@ find_last p (x ∷ xs) y e none = at (λ (k : (z : _) → find p xs ≡ Some z �
 
 granted_in_tree : (h : List Version) (t : TreeState) (e : EpochId) (call : CallId) (request : ℕ) (i : Serial) (m : Mode) (f : FileId) (stamp : Option Stamp) (ss : ℕ) → e ≡ t.epoch → f.group ≡ t.group → ((x : Open) → instance_in t i ≡ Some x → ⊥) →
     instance_in (next h (says.Grant e call request i m f stamp ss) t) i ≡ Some (opened h (grant_of t call i m f ss) stamp)
-granted_in_tree h t e call request i m f stamp ss same_e same_g none = over (same_epoch e t.epoch) (f.group == t.group) (subst (λ (y : EpochId). same_epoch e y ≡ true) same_e (same_epoch_own e)) (subst (λ (y : ℕ). (f.group == y) ≡ true) same_g (test_own f.group))
+granted_in_tree h t e call request i m f stamp ss same_e same_g none = over (same_epoch e t.epoch) (f.group == t.group) (subst (λ (y : EpochId). same_epoch e y ≡ true) same_e (same_epoch_own e)) (subst (λ (y : ℕ). (f.group == y) ≡ true) same_g (equal_self f.group))
   where
     g : Granted
     g = grant_of t call i m f ss

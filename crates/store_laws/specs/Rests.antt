@@ -11,6 +11,7 @@ use Rattle.locus_ids.specs.declared.ids.Serial.{Serial}
 use Rattle.locus_ids.specs.declared.ids.Stamp.{Stamp}
 use Rattle.locus_ids.specs.declared.sites.Members.{Members}
 use Rattle.locus_ids.specs.declared.refusal.Refusal.TheVariants as refusal
+use Rattle.locus_ids.specs.Sizes.{inode_span, sites_max}
 use Rattle.commit_graph.specs.Grants.{is_read}
 use Rattle.file_effects.specs.Works.{begun}
 use Rattle.role_steps.specs.Storage.{is_spent}
@@ -71,11 +72,11 @@ pub record StandsOnHeld (c : Config) (trace : List Line) (e : EpochId) (x : Open
 
 pub record StoreRests (c : Config) (trace : List Line) : Type 0 where
   -- the inode numbers of files have 16 bits
-  pub narrow : (f : FileId) (stamp : Stamp) → Stands c trace f stamp → f.ino < 65536
+  pub narrow : (f : FileId) (stamp : Stamp) → Stands c trace f stamp → f.ino < inode_span
   -- who is in an epoch is one of sites 1 to 16
-  pub places : (e : EpochId) (site : ℕ) → epoch_of (entries trace) site ≡ Some e → (1 ≤ site) × (site ≤ 16)
+  pub places : (e : EpochId) (site : ℕ) → epoch_of (entries trace) site ≡ Some e → (1 ≤ site) × (site ≤ sites_max)
   -- calls are of sites 1 to 16
-  pub sites : (e : EpochId) (d : CallId) → IsCallIn (entries trace) e d → d.site ≤ 16
+  pub sites : (e : EpochId) (d : CallId) → IsCallIn (entries trace) e d → d.site ≤ sites_max
   -- a call of an epoch is of the boot in which its site is a member
   pub boots : (e : EpochId) (d : CallId) (members : Members) → IsCallIn (entries trace) e d → members_of (entries trace) e ≡ Some members → boot_in members.boot d.site ≡ d.boot
   -- who is inside an epoch has in it what it has now
@@ -113,7 +114,7 @@ pub record OpRests (c : Config) (trace : List Line) : Type 0 where
   -- who removes a name is the call that opened its directory
   pub removers : (e : EpochId) (i : Serial) (x : Open) (d : CallId) (number : ℕ) (name : List ℕ) (ino : ℕ) → instance_now c trace e i ≡ Some x → call_of_act (entries trace) e i number ≡ Some d → Asks c trace d (want.Do i (op.Remove name ino)) → d ≡ x.grant.call
   -- the inode numbers of what is open, at a site that is in the epoch, have 16 bits
-  pub numbers : (e : EpochId) (i : Serial) (x : Open) → instance_now c trace e i ≡ Some x → epoch_of (entries trace) x.grant.ss ≡ Some e → x.grant.file.ino < 65536
+  pub numbers : (e : EpochId) (i : Serial) (x : Open) → instance_now c trace e i ≡ Some x → epoch_of (entries trace) x.grant.ss ≡ Some e → x.grant.file.ino < inode_span
 
 -- A mend here works on what the tree has kept: the contents of the kept versions of the directory, and the vectors of all that are kept
 -- in the group.

@@ -22,7 +22,7 @@ ghost use Rattle.tree_laws.specs.Instances.{instance_now};
 ghost use Rattle.tree_laws.specs.Past.{WasDone};
 ghost use Rattle.tree_laws.specs.Printed.{entries};
 ghost use Rattle.tree_laws.specs.Serials.{ops_asked};
-ghost use Rattle.holding_laws.specs.Below.{LawsBelow};
+ghost use Rattle.user_laws.specs.of_holding_laws.Below.{LawsBelow};
 ghost use Rattle.user_laws.specs.Rests.{ActRests, CloseRests, LooksStand, OpenRests};
 
 /// An answer that comes to its site waits for the call that asks for it. An operation that was done under the number that a call of

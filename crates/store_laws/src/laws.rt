@@ -10,6 +10,7 @@ ghost use Rattle.locus_ids.specs.declared.sites.Sites.{Sites};
 ghost use Rattle.locus_ids.specs.declared.ids.Mode.{Mode};
 ghost use Rattle.locus_ids.specs.declared.ids.Serial.{Serial};
 ghost use Rattle.locus_ids.specs.declared.ids.Stamp.{Stamp};
+ghost use Rattle.locus_ids.specs.Sizes.{inode_span, sites_max};
 ghost use Rattle.trace_book.specs.declared.operation.What.{What};
 ghost use Rattle.trace_book.specs.declared.operation.Op.{Op};
 ghost use Rattle.trace_book.specs.declared.operation.Op.TheVariants as op;
@@ -45,7 +46,7 @@ ghost use Rattle.tree_laws.specs.Printed.{entries};
 ghost use Rattle.tree_laws.specs.Instances.{AsksOpen, IsUsed, Stands};
 ghost use Rattle.tree_laws.specs.Past.{WasReleased, WasShut};
 ghost use Rattle.tree_laws.specs.Packets.{CloseFact, NotifyFact, OpFact, OpenSsFact, PacketFact, PageFact, ServeFact};
-ghost use Rattle.order_laws.specs.Joining.{PacksAreOfSites};
+ghost use Rattle.sync_laws.specs.of_order_laws.Joining.{PacksAreOfSites};
 ghost use Rattle.store_laws.specs.Rests.{AdoptRests, AllStays, MayWrite, MendsAs, OpRests, StoreRests, UnspentTold};
 
 /// What a storage site has by the trace stays when a line is told that isn't of its storage, neither of its instances nor an adoption: its disk holds what the site holds
@@ -74,9 +75,9 @@ pub fn makes_are_as_said()
 /// A number that a site may give to a new file is used by the trace exactly where its store has it in use, for a file that it has
 /// or for an open make.
 pub fn numbers_in_use_are_used()
-    ensures used { (c : Config) (trace : List Line) → IsFollowed c trace → StoreRests c trace → (f : Frame) → FrameFact c trace f → (s : Store) → StoreHeld c f trace s → (group ino : ℕ) → ino < 65536 →
+    ensures used { (c : Config) (trace : List Line) → IsFollowed c trace → StoreRests c trace → (f : Frame) → FrameFact c trace f → (s : Store) → StoreHeld c f trace s → (group ino : ℕ) → ino < inode_span →
         is_used s group ino ≡ true → IsUsed c trace f.epoch f.me (record { group = group; ino = ino }) }
-    ensures in_use { (c : Config) (trace : List Line) → IsFollowed c trace → StoreRests c trace → (f : Frame) → FrameFact c trace f → (s : Store) → StoreHeld c f trace s → (group ino : ℕ) → ino < 65536 → is_given_by f.me ino ≡ true →
+    ensures in_use { (c : Config) (trace : List Line) → IsFollowed c trace → StoreRests c trace → (f : Frame) → FrameFact c trace f → (s : Store) → StoreHeld c f trace s → (group ino : ℕ) → ino < inode_span → is_given_by f.me ino ≡ true →
         IsUsed c trace f.epoch f.me (record { group = group; ino = ino }) → is_used s group ino ≡ true }
 {}
 
@@ -91,7 +92,7 @@ pub fn opens_are_begun()
 
 /// Once its instance is released a storage site ends it, and answers its call; what comes again changes nothing.
 pub fn released_instances_end()
-    ensures { (c : Config) (n : ℕ) (trace : List Line) → StoreRests c trace → (f : Frame) (s : Store) → StoreHeld c f trace s → (inst : Serial) → inst.us ≤ 16 → WasReleased trace f.epoch inst → StoreFine c n trace f s (on_closed_ok f inst s) }
+    ensures { (c : Config) (n : ℕ) (trace : List Line) → StoreRests c trace → (f : Frame) (s : Store) → StoreHeld c f trace s → (inst : Serial) → inst.us ≤ sites_max → WasReleased trace f.epoch inst → StoreFine c n trace f s (on_closed_ok f inst s) }
 {}
 
 /// What a running instance owes is committed as it may be, of the only instance that writes the file, and the copy on the disk is then
@@ -109,7 +110,7 @@ pub fn commits_are_owed()
 /// then the instance is shut, and what it made and its answer are so. What comes again is answered again.
 pub fn closes_come_as_they_may()
     ensures { (c : Config) (n : ℕ) (trace : List Line) → PacksAreOfSites c → IsFollowed c trace → StoreRests c trace → (f : Frame) → FrameFact c trace f → (s : Store) → StoreHeld c f trace s →
-        ((i : Instance) → Among i s.instances → MayWrite f i) → (inst : Serial) → inst.us ≤ 16 → CloseFact c trace f.epoch f.me inst → AllStays c n trace (on_close f inst s).told → StoreFine c n trace f s (on_close f inst s) }
+        ((i : Instance) → Among i s.instances → MayWrite f i) → (inst : Serial) → inst.us ≤ sites_max → CloseFact c trace f.epoch f.me inst → AllStays c n trace (on_close f inst s).told → StoreFine c n trace f s (on_close f inst s) }
 {}
 
 /// What a site pulls stays what it was while lines are told: a known version, of a file of which one version is kept, whose first pages
@@ -129,7 +130,7 @@ pub fn pulls_are_of_known_versions()
 pub fn operations_come_as_they_may()
     ensures { (c : Config) (n : ℕ) (trace : List Line) → PacksAreOfSites c → IsFollowed c trace → StoreRests c trace → OpRests c trace → (f : Frame) → FrameFact c trace f → (s : Store) → StoreHeld c f trace s →
         ((group : ℕ) → free_pages s group ≡ tree_free (history c (entries trace)) (tree_of c f.epoch group (entries trace)) f.me) → ((i : Instance) → Among i s.instances → MayWrite f i) →
-        (m : Mending) (inst : Serial) → inst.us ≤ 16 → (number : ℕ) (o : Op) (seen : List ℕ) → OpFact c trace f.epoch f.me inst number o seen →
+        (m : Mending) (inst : Serial) → inst.us ≤ sites_max → (number : ℕ) (o : Op) (seen : List ℕ) → OpFact c trace f.epoch f.me inst number o seen →
         ((i : Instance) → instance_of s inst ≡ Some i → o ≡ op.Mend → (d : CallId) → IsCallIn (entries trace) f.epoch d → Asks c trace d (want.Do inst op.Mend) → MendsAs c trace f i.file m) →
         Every UnspentTold (on_op f m inst number o seen s).told → AllStays c n trace (on_op f m inst number o seen s).told → StoreFine c n trace f s (on_op f m inst number o seen s) }
 {}

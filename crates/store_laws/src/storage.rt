@@ -12,6 +12,7 @@ ghost use Rattle.lawful_trace.specs.TreeRows.{IsCallIn};
 ghost use Rattle.tree_laws.specs.Calls.{Asks};
 ghost use Rattle.tree_laws.specs.Printed.{entries};
 ghost use Rattle.locus_ids.specs.declared.ids.CallId.{CallId};
+ghost use Rattle.locus_ids.specs.Sizes.{sites_max};
 ghost use Rattle.role_steps.specs.Operations.{on_op};
 ghost use Rattle.role_steps.specs.Storage.{instance_of};
 ghost use Rattle.role_steps.specs.Views.{Frame, Store};
@@ -21,7 +22,7 @@ ghost use Rattle.the_run.specs.Worlds.{Line};
 ghost use Rattle.tree_laws.specs.Doing.{FrameFact, StoreFine, StoreHeld};
 ghost use Rattle.tree_laws.specs.Following.{IsFollowed};
 ghost use Rattle.tree_laws.specs.Packets.{OpFact};
-ghost use Rattle.holding_laws.specs.Below.{LawsBelow};
+ghost use Rattle.user_laws.specs.of_holding_laws.Below.{LawsBelow};
 ghost use Rattle.store_laws.specs.Rests.{AllStays, MayWrite, MendsAs, OpRests, StoreRests, UnspentTold};
 ghost use Rattle.store_laws.specs.StoragePlain.{PlainRests};
 
@@ -35,7 +36,7 @@ pub fn what_storage_sites_rest_on()
 /// An operation at its storage site comes as it may: the room of the site is the one tree's.
 pub fn operations_come_in_the_trees_room()
     ensures { (c : Config) (n : ℕ) (trace : List Line) → IsFollowed c trace → LawsBelow c trace → PlainRests c trace → OpRests c trace → (f : Frame) → FrameFact c trace f → (s : Store) → StoreHeld c f trace s →
-        ((i : Instance) → Among i s.instances → MayWrite f i) → (m : Mending) (inst : Serial) → inst.us ≤ 16 → (number : ℕ) (o : Op) (seen : List ℕ) → OpFact c trace f.epoch f.me inst number o seen →
+        ((i : Instance) → Among i s.instances → MayWrite f i) → (m : Mending) (inst : Serial) → inst.us ≤ sites_max → (number : ℕ) (o : Op) (seen : List ℕ) → OpFact c trace f.epoch f.me inst number o seen →
         ((i : Instance) → instance_of s inst ≡ Some i → o ≡ op.Mend → (d : CallId) → IsCallIn (entries trace) f.epoch d → Asks c trace d (want.Do inst op.Mend) → MendsAs c trace f i.file m) →
         Every UnspentTold (on_op f m inst number o seen s).told → AllStays c n trace (on_op f m inst number o seen s).told → StoreFine c n trace f s (on_op f m inst number o seen s) }
 {}

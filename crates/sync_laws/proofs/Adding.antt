@@ -1,6 +1,8 @@
 -- A table with one open more: what it has of the group stays true, where what is told names that open alone.
 use Rattle.std.proofs.Common.{◌≡◌, ℕ, ◌==◌, Bool, true, false, cond, List, [], ◌∷◌, ◌++◌, filter, map, Option, Some, None, refl, sym, ap, ◌∙◌, subst, inl, inr}
 use Rattle.std.specs.Option.{is_some}
+use Rattle.role_steps.proofs.of_plain_facts.Numbers.{equal, equal_self}
+use Rattle.role_steps.proofs.of_plain_facts.Tests.{true_false}
 use Rattle.locus_ids.specs.declared.config.Config.{Config}
 use Rattle.locus_ids.specs.declared.ids.Serial.{Serial}
 use Rattle.role_steps.specs.Opens.{open_key, open_row, with_open}
@@ -12,7 +14,7 @@ use Rattle.role_steps.specs.declared.synchronizing.Early.{Early}
 use Rattle.role_steps.specs.declared.synchronizing.LastLook.{LastLook}
 use Rattle.role_steps.specs.declared.synchronizing.OpenRow.{OpenRow}
 use Rattle.role_steps.specs.declared.synchronizing.SyncTable.{SyncTable}
-use Rattle.the_run.specs.Worlds.{Line}
+use Rattle.tree_laws.specs.of_the_run.Worlds.{Line}
 use Rattle.tree_model.specs.Tree.{tree_of}
 use Rattle.tree_laws.specs.Following.{MayTell}
 use Rattle.tree_laws.specs.Frames.{VersionsStay}
@@ -24,7 +26,6 @@ use Rattle.tree_laws.specs.Tables.{FileFact, RowFact, TableFact, early_packet, n
 use Rattle.tree_laws.proofs.Boots.{every_both}
 use Rattle.tree_laws.proofs.Carried.{packet_stays}
 use Rattle.tree_laws.proofs.CarriedLooks.{More}
-use Rattle.tree_laws.proofs.Names.{test_own, test_same, true_false}
 use Rattle.tree_laws.proofs.Versions.{versions_stay}
 use Rattle.sync_laws.specs.Serving.{Serving}
 use Rattle.sync_laws.specs.Staying.{Starts, Looks, Releases, Adopts, FilesStay}
@@ -66,11 +67,11 @@ latest_new {A = A} key x (y ∷ ys) e = at (key y == key x) e (latest_new key x 
     at false m later = ap (λ zs. y ∷ zs) (later m)
 
 pub latest_same : {A : Type 0} (key : A → ℕ) (x : A) (xs : List A) → row key (key x) (with_latest key x xs) ≡ Some x
-latest_same key x [] = found_row x None (key x == key x) (test_own (key x))
+latest_same key x [] = found_row x None (key x == key x) (equal_self (key x))
 latest_same key x (y ∷ ys) = at (key y == key x) refl (latest_same key x ys)
   where
     at : (b : Bool) → (key y == key x) ≡ b → row key (key x) (with_latest key x ys) ≡ Some x → row key (key x) (elim b [ true ↦ x ∷ ys | false ↦ y ∷ with_latest key x ys ]) ≡ Some x
-    at true e later = found_row x (row key (key x) ys) (key x == key x) (test_own (key x))
+    at true e later = found_row x (row key (key x) ys) (key x == key x) (equal_self (key x))
     at false e later = passed_row y (row key (key x) (with_latest key x ys)) (key y == key x) e ∙ later
 
 pub latest_other : {A : Type 0} (key : A → ℕ) (x : A) (k : ℕ) (xs : List A) → (key x == k) ≡ false → row key k (with_latest key x xs) ≡ row key k xs
@@ -78,7 +79,7 @@ latest_other key x k [] h = passed_row x None (key x == k) h
 latest_other key x k (y ∷ ys) h = at (key y == key x) refl (latest_other key x k ys h)
   where
     other : (key y == key x) ≡ true → (key y == k) ≡ false
-    other e = subst (λ (m : ℕ). (m == k) ≡ false) (sym (test_same (key y) (key x) e)) h
+    other e = subst (λ (m : ℕ). (m == k) ≡ false) (sym (equal (key y) (key x) e)) h
 
     at : (b : Bool) → (key y == key x) ≡ b → row key k (with_latest key x ys) ≡ row key k ys → row key k (elim b [ true ↦ x ∷ ys | false ↦ y ∷ with_latest key x ys ]) ≡ row key k (y ∷ ys)
     at true e later = passed_row x (row key k ys) (key x == k) h ∙ sym (passed_row y (row key k ys) (key y == k) (other e))
@@ -98,15 +99,15 @@ apart_latest key x [] h = (tt, tt)
 apart_latest {A = A} key x (y ∷ ys) h = at (apart_latest key x ys h.1) (key y == key x) refl
   where
     at : AreApart key (with_latest key x ys) → (b : Bool) → (key y == key x) ≡ b → AreApart key (elim b [ true ↦ x ∷ ys | false ↦ y ∷ with_latest key x ys ])
-    at later true t = (subst (λ (k : ℕ). Every (λ (z : A). key z ≡ k → ⊥) ys) (test_same (key y) (key x) t) h.0, h.1)
-    at later false t = (other_keys key x (key y) ys (λ e. true_false (sym (subst (λ (k : ℕ). (key y == k) ≡ true) (sym e) (test_own (key y))) ∙ t)) h.0, later)
+    at later true t = (subst (λ (k : ℕ). Every (λ (z : A). key z ≡ k → ⊥) ys) (equal (key y) (key x) t) h.0, h.1)
+    at later false t = (other_keys key x (key y) ys (λ e. true_false (sym (subst (λ (k : ℕ). (key y == k) ≡ true) (sym e) (equal_self (key y))) ∙ t)) h.0, later)
 
 -- what is found stays found
 pub latest_found : {A : Type 0} (key : A → ℕ) (k : ℕ) (x : A) (xs : List A) → is_some (row key k xs) ≡ true → is_some (row key k (with_latest key x xs)) ≡ true
 latest_found key k x xs h = at (key x == k) refl
   where
     at : (b : Bool) → (key x == k) ≡ b → is_some (row key k (with_latest key x xs)) ≡ true
-    at true same = ap (λ (m : ℕ). is_some (row key m (with_latest key x xs))) (sym (test_same (key x) k same)) ∙ ap is_some (latest_same key x xs)
+    at true same = ap (λ (m : ℕ). is_some (row key m (with_latest key x xs))) (sym (equal (key x) k same)) ∙ ap is_some (latest_same key x xs)
     at false other = ap is_some (latest_other key x k xs other) ∙ h
 
 pub openers_added : {A B : Type 0} (p : A → Bool) (g : A → B) (xs : List A) (y : A) → map g (filter p (xs ++ y ∷ [])) ≡ map g (filter p xs) ++ cond (p y) (g y ∷ []) []
@@ -141,7 +142,7 @@ module _ (c : Config) (n : ℕ) (trace : List Line) (f : Frame) (tab : SyncTable
         unnamed q other p = true_false (sym (subst (λ (j : Serial). (serial_key q.inst == serial_key j) ≡ true) (names q.inst p) (own (serial_key q.inst))) ∙ other)
           where
             own : (k : ℕ) → (k == k) ≡ true
-            own k = test_own k
+            own k = equal_self k
 
         two : (qs : List OpenRow) → Every (λ (q : OpenRow). (open_key q == open_key r) ≡ false) qs → Every (RowFact c trace f.epoch tab.group) qs → Every (RowFact c (More n x trace) f.epoch tab.group) qs
         two [] apart k = tt

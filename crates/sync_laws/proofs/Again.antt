@@ -11,7 +11,7 @@ use Rattle.role_steps.specs.Views.{Frame}
 use Rattle.role_steps.specs.declared.synchronizing.OpenRow.{OpenRow}
 use Rattle.role_steps.specs.declared.synchronizing.OpenStage.{OpenStage}
 use Rattle.role_steps.specs.declared.synchronizing.OpenStage.TheVariants as stage
-use Rattle.the_run.specs.Worlds.{Line}
+use Rattle.tree_laws.specs.of_the_run.Worlds.{Line}
 use Rattle.tree_laws.specs.Packets.{PacketFact, JoinsParents, OpenSsFact}
 use Rattle.tree_laws.specs.Tables.{AskedFact, RowFact, StageFact}
 

@@ -3,6 +3,9 @@ use Rattle.std.proofs.Common.{◌≡◌, ℕ, ◌==◌, Bool, true, false, not, 
 use Rattle.std.proofs.lemmas.Bool.Decides.{nat_tests}
 use Rattle.std.specs.List.{find, AllByRecursion}
 use Rattle.std.specs.Option.{is_some}
+use Rattle.role_steps.proofs.of_plain_facts.Numbers.{equal_self}
+use Rattle.role_steps.proofs.of_plain_facts.Options.{some_same}
+use Rattle.role_steps.proofs.of_plain_facts.Tests.{and_first, and_second, true_false}
 use Rattle.locus_ids.specs.declared.config.Config.{Config}
 use Rattle.locus_ids.specs.declared.ids.EpochId.{EpochId}
 use Rattle.locus_ids.specs.declared.ids.FileId.{FileId}
@@ -15,7 +18,7 @@ use Rattle.trace_book.specs.Same.{same_epoch}
 use Rattle.trace_book.specs.declared.record.Record.{Record}
 use Rattle.trace_book.specs.declared.record.Record.TheVariants as says
 use Rattle.role_steps.specs.Views.{Frame, Told, Shown}
-use Rattle.the_run.specs.Worlds.{Line}
+use Rattle.tree_laws.specs.of_the_run.Worlds.{Line}
 use Rattle.tree_model.specs.declared.instance.Instance.{Instance}
 use Rattle.tree_model.specs.Epochs.{is_in}
 use Rattle.tree_model.specs.Given.{instance_ends}
@@ -23,7 +26,7 @@ use Rattle.tree_model.specs.Histories.{history}
 use Rattle.tree_model.specs.Lists.{change_first}
 use Rattle.tree_model.specs.State.{TreeState, instance_in, is_inside, is_named, is_writer}
 use Rattle.tree_model.specs.Tree.{next, tree_of, once_committed}
-use Rattle.lawful_trace.specs.TreeRows.{granted_group, is_writing}
+use Rattle.tree_laws.specs.of_lawful_trace.TreeRows.{granted_group, is_writing}
 use Rattle.tree_laws.specs.Printed.{entries}
 use Rattle.tree_laws.specs.Following.{MayTell, IsFollowed}
 use Rattle.tree_laws.specs.Instances.{instance_now}
@@ -31,12 +34,12 @@ use Rattle.tree_laws.specs.Tables.{IsAhead}
 use Rattle.tree_laws.proofs.CarriedLooks.{More}
 use Rattle.tree_laws.proofs.Grants.{open_named}
 use Rattle.tree_laws.proofs.Kinship.{GoesOnTold, StaysOpen, Ends, open_stays}
-use Rattle.tree_laws.proofs.Names.{some_is, true_false, test_own, same_epoch_own}
+use Rattle.tree_laws.proofs.Names.{same_epoch_own}
 use Rattle.tree_laws.proofs.Rows.{followed_rows}
 use Rattle.tree_laws.proofs.Opened.{GoesOn, EndsIt}
 use Rattle.tree_laws.proofs.Owing.{InGroup, in_group, found_every, none_left, writer_writes, inside_is}
 use Rattle.order_laws.specs.Alone.{AreAlone, MayStandBy}
-use Rattle.order_laws.proofs.Alone.{first_of, second_of, rows_apart}
+use Rattle.order_laws.proofs.Alone.{rows_apart}
 use Rattle.order_laws.proofs.Lists.{all_filtered, all_found}
 use Rattle.order_laws.proofs.Standing.{same_file_eq, acted_keeps}
 use Rattle.sync_laws.specs.Staying.{Releases}
@@ -58,7 +61,7 @@ committed_told c older e i old new _ goes k = subst (λ (y : Instance). is_some 
 
 ends_file : (h : List Version) (t : TreeState) (file : FileId) (stamp : Option Stamp) (o : Option Instance) (at : Instance) → o ≡ Some at → instance_ends h t file stamp o ≡ true → at.grant.file ≡ file
 ends_file h t file stamp None at e k = absurd (true_false (sym k))
-ends_file h t file stamp (Some x) at e k = ap (λ (y : Instance). y.grant.file) (sym (some_is x at e)) ∙ same_file_eq x.grant.file file (first_of (same_file x.grant.file file) _ k)
+ends_file h t file stamp (Some x) at e k = ap (λ (y : Instance). y.grant.file) (sym (some_same x at e)) ∙ same_file_eq x.grant.file file (and_first (same_file x.grant.file file) _ k)
 
 end_of_record : (c : Config) (older : List Line) (r : Record) (f : Frame) (file : FileId) (i : Serial) (at : Instance) → MayTell c older (Shown r) → instance_now c older f.epoch i ≡ Some at → at.grant.file ≡ file → EndsIt f.epoch i r → Releases f file.group (Shown r)
 end_of_record c older (says.Release e inst g stamp) f file i at may found is ends = (ends.0, ap (λ (y : FileId). y.group) (sym its ∙ is))
@@ -107,8 +110,8 @@ changed_found p q r change (x ∷ xs) a b passes more e k one = at (λ (m : find
 
     at : (find p xs ≡ Some a → filter r xs ≡ b ∷ [] → find p (change_first q change xs) ≡ Some (change a)) → (u v w : Bool) → p x ≡ u → q x ≡ v → r x ≡ w → cond u (Some x) (find p xs) ≡ Some a → cond w (x ∷ filter r xs) (filter r xs) ≡ b ∷ []
         → find p (cond v (change x ∷ xs) (x ∷ change_first q change xs)) ≡ Some (change a)
-    at later true true w pu qv rw_is e z = rw (passes x) (rw pu (ap (λ y. Some (change y)) (some_is x a e)))
-    at later true false w pu qv rw_is e z = absurd (true_false (sym k ∙ (ap q (sym (some_is x a e)) ∙ qv)))
+    at later true true w pu qv rw_is e z = rw (passes x) (rw pu (ap (λ y. Some (change y)) (some_same x a e)))
+    at later true false w pu qv rw_is e z = absurd (true_false (sym k ∙ (ap q (sym (some_same x a e)) ∙ qv)))
     at later false true true pu qv rw_is e z = absurd (none_left p r xs a e (more a k) (rest x (filter r xs) z))
     at later false true false pu qv rw_is e z = absurd (true_false (sym (more x qv) ∙ rw_is))
     at later false false true pu qv rw_is e z = absurd (none_left p r xs a e (more a k) (rest x (filter r xs) z))
@@ -135,8 +138,8 @@ beside p r (x ∷ xs) a w alone e one = at (λ (m : find p xs ≡ Some a) (z : f
     first ys z = cc
 
     at : (find p xs ≡ Some a → filter r xs ≡ w ∷ [] → (a ≡ w) ⊎ (MayStandBy a w ⊎ MayStandBy w a)) → (u v : Bool) → cond u (Some x) (find p xs) ≡ Some a → cond v (x ∷ filter r xs) (filter r xs) ≡ w ∷ [] → (a ≡ w) ⊎ (MayStandBy a w ⊎ MayStandBy w a)
-    at later true true e z = inl (sym (some_is x a e) ∙ first (filter r xs) z)
-    at later true false e z = inr (inl (subst (λ (y : Instance). MayStandBy y w) (some_is x a e) (subst (λ (ys : List Instance). AllByRecursion (MayStandBy x) ys) z (all_filtered (MayStandBy x) r xs alone.0)).0))
+    at later true true e z = inl (sym (some_same x a e) ∙ first (filter r xs) z)
+    at later true false e z = inr (inl (subst (λ (y : Instance). MayStandBy y w) (some_same x a e) (subst (λ (ys : List Instance). AllByRecursion (MayStandBy x) ys) z (all_filtered (MayStandBy x) r xs alone.0)).0))
     at later false true e z = inr (inr (subst (λ (y : Instance). MayStandBy y a) (first (filter r xs) z) (all_found (MayStandBy x) p xs a alone.0 e)))
     at later false false e z = later e z
 
@@ -158,7 +161,7 @@ module _ (c : Config) (n : ℕ) (older : List Line) (h : IsFollowed c older) (g 
   found = subst (λ (k : ℕ). instance_in (tree_of c e k (entries older)) may.in_time.inst ≡ Some it) group_is in_epoch
 
   row_epoch : may.row.epoch ≡ e
-  row_epoch = some_is may.row.epoch e (sym may.row.inside ∙ (may.in_time.inside ∙ ap (λ (y : EpochId). Some y) same))
+  row_epoch = some_same may.row.epoch e (sym may.row.inside ∙ (may.in_time.inside ∙ ap (λ (y : EpochId). Some y) same))
 
   one : filter (is_writing g) t.instances ≡ may.row.instance ∷ []
   one = subst (λ (y : EpochId). filter (is_writing g) (tree_of c y g.group (entries older)).instances ≡ may.row.instance ∷ []) row_epoch may.row.one
@@ -177,10 +180,10 @@ module _ (c : Config) (n : ℕ) (older : List Line) (h : IsFollowed c older) (g 
       w = may.row.instance
 
       of : w.grant.file ≡ g
-      of = same_file_eq w.grant.file g (first_of (same_file w.grant.file g) _ writes)
+      of = same_file_eq w.grant.file g (and_first (same_file w.grant.file g) _ writes)
 
       not_read : is_read w.grant.mode ≡ true → ⊥
-      not_read k = true_false (sym (second_of (same_file w.grant.file g) _ writes) ∙ ap not k)
+      not_read k = true_false (sym (and_second (same_file w.grant.file g) _ writes) ∙ ap not k)
 
       over : (it ≡ w) ⊎ (MayStandBy it w ⊎ MayStandBy w it) → it ≡ w
       over (inl k) = k
@@ -188,7 +191,7 @@ module _ (c : Config) (n : ℕ) (older : List Line) (h : IsFollowed c older) (g 
       over (inr (inr k)) = absurd (not_read (k (subst (λ (y : FileId). same_file w.grant.file y ≡ true) (of ∙ sym may.in_time.file_is) (own_file w.grant.file))).0)
 
   its_writer : is_writer g s it ≡ true
-  its_writer = three (same_file it.grant.file g) (it.grant.ss == s) (not (is_read it.grant.mode)) (subst (λ (y : Instance). is_writing g y ≡ true) (sym is_one) writes) (subst (λ (k : ℕ). (k == s) ≡ true) (sym may.in_time.open_at.place) (test_own s))
+  its_writer = three (same_file it.grant.file g) (it.grant.ss == s) (not (is_read it.grant.mode)) (subst (λ (y : Instance). is_writing g y ≡ true) (sym is_one) writes) (subst (λ (k : ℕ). (k == s) ≡ true) (sym may.in_time.open_at.place) (equal_self s))
     where
       three : (a b d : Bool) → a && d ≡ true → b ≡ true → a && (b && d) ≡ true
       three true true d k l = k

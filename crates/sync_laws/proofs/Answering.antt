@@ -1,5 +1,6 @@
 -- The answer of a storage site to an open of a file that stands: its user is told where, and nothing is refused any more.
 use Rattle.std.proofs.Common.{◌≡◌, ℕ, ◌+◌, ◌*◌, ◌<◌, ◌==◌, Bool, true, false, cond, List, [], ◌∷◌, filter, map, Option, Some, None, refl, sym, ap, ◌∙◌, subst, ◌⊎◌, inl, inr, arith}
+use Rattle.role_steps.proofs.of_plain_facts.Options.{some_same}
 use Rattle.locus_ids.specs.declared.config.Config.{Config}
 use Rattle.locus_ids.specs.declared.ids.CallId.{CallId}
 use Rattle.locus_ids.specs.declared.ids.EpochId.{EpochId}
@@ -9,6 +10,7 @@ use Rattle.locus_ids.specs.declared.ids.Mode.TheVariants as mode
 use Rattle.locus_ids.specs.declared.ids.Serial.{Serial}
 use Rattle.locus_ids.specs.declared.ids.Stamp.{Stamp}
 use Rattle.locus_ids.specs.declared.refusal.Refusal.{Refusal}
+use Rattle.locus_ids.specs.Sizes.{sites_max}
 use Rattle.trace_book.specs.declared.record.Record.TheVariants as says
 use Rattle.wire_messages.specs.declared.body.OpenedAs.{OpenedAs}
 use Rattle.wire_messages.specs.declared.body.OpenedAs.TheVariants as opened
@@ -20,14 +22,13 @@ use Rattle.role_steps.specs.declared.synchronizing.OpenRow.{OpenRow}
 use Rattle.role_steps.specs.declared.synchronizing.OpenStage.{OpenStage}
 use Rattle.role_steps.specs.declared.synchronizing.OpenStage.TheVariants as stage
 use Rattle.role_steps.specs.declared.synchronizing.SyncTable.{SyncTable}
-use Rattle.the_run.specs.Worlds.{Line}
+use Rattle.tree_laws.specs.of_the_run.Worlds.{Line}
 use Rattle.tree_laws.specs.Doing.{TableFine}
 use Rattle.tree_laws.specs.Following.{MayTell, IsFollowed}
 use Rattle.tree_laws.specs.Packets.{MakesNow, OpenedFact, RefusedFull, file_in}
 use Rattle.tree_laws.specs.Past.{Printed, WasGranted, WasNamed, WasRefused, NamingRecord, GrantRecord, RefusalRecord}
 use Rattle.tree_laws.specs.Tables.{AsItsFile, AskedFact, IsGrantedNow, RowFact, StageFact, TableFact, named_openers, named_row}
 use Rattle.tree_laws.proofs.CarriedOpens.{was_then}
-use Rattle.tree_laws.proofs.Names.{some_is}
 use Rattle.tree_laws.proofs.Serials.{unnamed}
 use Rattle.sync_laws.specs.Opening.{IsFileMode}
 use Rattle.sync_laws.specs.Serving.{Serving}
@@ -91,7 +92,7 @@ openers_replaced {A = A} {B = B} key p g x r (y ∷ ys) e passes same = at (key 
 
     at : (b : Bool) → ◌≡◌ {A = Option A} (elim b [ true ↦ Some y | false ↦ row key (key x) ys ]) (Some r) → (row key (key x) ys ≡ Some r → map g (filter p (with_latest key x ys)) ≡ map g (filter p ys))
         → map g (filter p (elim b [ true ↦ x ∷ ys | false ↦ y ∷ with_latest key x ys ])) ≡ map g (filter p (y ∷ ys))
-    at true k later = ap (λ (b : Bool). map g (cond b (x ∷ filter p ys) (filter p ys))) (passes ∙ ap p (sym (some_is y r k))) ∙ swap (p y) (same ∙ ap g (sym (some_is y r k)))
+    at true k later = ap (λ (b : Bool). map g (cond b (x ∷ filter p ys) (filter p ys))) (passes ∙ ap p (sym (some_same y r k))) ∙ swap (p y) (same ∙ ap g (sym (some_same y r k)))
     at false k later = front (p y) (later k)
 
 pub changed_table : (c : Config) (trace : List Line) (f : Frame) (t : SyncTable) (r : OpenRow) → TableFact c trace f t → RowFact c trace f.epoch t.group r → ((ino : ℕ) → (ino ≡ 0 → ⊥) → named_openers (with_open r t) (file_in t.group ino) ≡ named_openers t (file_in t.group ino)) → TableFact c trace f (with_open r t)
@@ -165,9 +166,9 @@ module _ (c : Config) (n : ℕ) (trace : List Line) (f : Frame) (tab : SyncTable
     key_is = row_key_is open_key (serial_key inst) tab.opens r found
 
     its : r.inst ≡ inst
-    its = serial_same r.inst inst (small r.inst.us (subst (λ (s : ℕ). s < 17) fact.is_call.site_is (sv.calls.narrow fact.call fact.is_call.caller fact.is_call.named))) low key_is
+    its = serial_same r.inst inst (small r.inst.us (subst (λ (s : ℕ). s < sites_max + 1) fact.is_call.site_is (sv.calls.narrow fact.call fact.is_call.caller fact.is_call.named))) low key_is
       where
-        small : (s : ℕ) → s < 17 → s < 256
+        small : (s : ℕ) → s < sites_max + 1 → s < 256
         small s h = omega (arith, h)
 
     abbrev As : FileId → ℕ → OpenRow

@@ -1,7 +1,8 @@
 -- What a table has of files stays: which versions are known and kept, and who holds which.
-use Rattle.std.proofs.Common.{◌≡◌, ℕ, Bool, true, false, List, length, map, Option, Some, None, refl, sym, ap, ◌∙◌, subst, ⊎_elim, ◌⊎◌, inl, inr}
+use Rattle.std.proofs.Common.{◌≡◌, ℕ, Bool, true, false, List, length, map, Option, Some, refl, sym, ap, ◌∙◌, subst, ⊎_elim, ◌⊎◌, inl, inr}
 use Rattle.std.proofs.lemmas.List.{length-map}
 use Rattle.std.specs.List.{AllByRecursion}
+use Rattle.role_steps.proofs.of_plain_facts.Tests.{true_false}
 use Rattle.locus_ids.specs.declared.config.Config.{Config}
 use Rattle.locus_ids.specs.declared.ids.Brought.{Brought}
 use Rattle.locus_ids.specs.declared.ids.EpochId.{EpochId}
@@ -20,14 +21,14 @@ use Rattle.role_steps.specs.declared.synchronizing.LastLook.{LastLook}
 use Rattle.role_steps.specs.declared.synchronizing.OpenRow.{OpenRow}
 use Rattle.role_steps.specs.declared.synchronizing.SyncTable.{SyncTable}
 use Rattle.role_steps.specs.declared.synchronizing.VersionRow.{VersionRow}
-use Rattle.the_run.specs.Worlds.{Line}
+use Rattle.tree_laws.specs.of_the_run.Worlds.{Line}
 use Rattle.tree_model.specs.Epochs.{has_joined, is_in}
 use Rattle.tree_model.specs.Histories.{history}
 use Rattle.tree_model.specs.Packs.{has_pack}
 use Rattle.tree_model.specs.State.{TreeState, held_at, is_named, stamps_of}
 use Rattle.tree_model.specs.Tree.{tree_of, candidates, kept_in, next}
-use Rattle.lawful_trace.specs.SiteRows.{MayJoin}
-use Rattle.lawful_trace.specs.TreeRows.{granted_group}
+use Rattle.tree_laws.specs.of_lawful_trace.SiteRows.{MayJoin}
+use Rattle.tree_laws.specs.of_lawful_trace.TreeRows.{granted_group}
 use Rattle.tree_laws.specs.Following.{MayTell, IsFollowed}
 use Rattle.tree_laws.specs.Frames.{IsFresh, VersionsStay}
 use Rattle.tree_laws.specs.Instances.{held_in, IsStarted}
@@ -39,7 +40,7 @@ use Rattle.tree_laws.proofs.Carried.{joined_stays}
 use Rattle.tree_laws.proofs.CarriedLooks.{More}
 use Rattle.tree_laws.proofs.CarriedVersions.{version_stays}
 use Rattle.tree_laws.proofs.Kinship.{tree_epoch_is, tree_group_is}
-use Rattle.tree_laws.proofs.Names.{true_or_false, true_false, same_epoch_eq}
+use Rattle.tree_laws.proofs.Names.{true_or_false, same_epoch_eq}
 use Rattle.tree_laws.proofs.Owing.{InGroup, in_group, found_every, inside_is}
 use Rattle.tree_laws.proofs.Rows.{followed_rows}
 use Rattle.order_laws.specs.Joining.{PacksAreOfSites}
@@ -74,9 +75,6 @@ module _ (c : Config) (old new : List Line) (v : VersionsStay c old new) where
   }
 
 -- ---- the tree of a table ----
-
-no_stamp : (s : Stamp) → ◌≡◌ {A = Option Stamp} None (Some s) → ⊥
-no_stamp s e = cc
 
 module _ (c : Config) (n : ℕ) (older : List Line) (h : IsFollowed c older) (f : Frame) (group : ℕ) where
   abbrev t : TreeState

@@ -1,6 +1,8 @@
 -- What a site has of a file in an epoch moves only where the site commits it or adopts it in the epoch, or joins the epoch.
 use Rattle.std.proofs.Common.{◌≡◌, ℕ, ◌==◌, Bool, true, false, ◌&&◌, cond, List, [], ◌∷◌, ◌++◌, map, Option, Some, None, refl, sym, ap, ◌∙◌, ◌⊎◌, inl, inr}
 use Rattle.std.specs.Option.{is_none}
+use Rattle.role_steps.proofs.of_plain_facts.Numbers.{equal, equal_self}
+use Rattle.role_steps.proofs.of_plain_facts.Tests.{and_first, and_second, true_false}
 use Rattle.locus_ids.specs.declared.ids.FileId.{FileId}
 use Rattle.locus_ids.specs.declared.ids.Stamp.{Stamp}
 use Rattle.commit_graph.specs.declared.history.Version.{Version}
@@ -13,8 +15,6 @@ use Rattle.tree_model.specs.Lists.{put_first}
 use Rattle.tree_model.specs.Packs.{has_pack}
 use Rattle.tree_model.specs.State.{TreeState, copy_of, held_at, held_of, is_copy_of, is_granted_here, is_inside, is_make, with_copy}
 use Rattle.tree_model.specs.Tree.{acted, copy_now, entered, grant_of, granted, has_now, joined, left, next, released, with_root, without_make}
-use Rattle.tree_laws.proofs.Names.{test_same, true_false, test_own}
-use Rattle.order_laws.proofs.Alone.{first_of, second_of}
 
 -- the record puts a version of the inode at the site, in the epoch of the tree
 abbrev pub PutsAt : TreeState → ℕ → ℕ → FileId → ℕ → Type 0
@@ -34,7 +34,7 @@ entered_other s site ino [] other = refl
 entered_other s site ino (x ∷ xs) other = over (x.site == s) refl (entered_other s site ino xs other)
   where
     passed : (x.site == s) ≡ true → is_copy_of site ino x ≡ false
-    passed k = ap (λ (b : Bool). b && (x.ino == ino)) (ap (λ (n : ℕ). n == site) (test_same x.site s k) ∙ other)
+    passed k = ap (λ (b : Bool). b && (x.ino == ino)) (ap (λ (n : ℕ). n == site) (equal x.site s k) ∙ other)
 
     by : (b : Bool) (y : HeldCopy) → held_of (copy_of (map (entered s) xs) site ino) ≡ held_of (copy_of xs site ino) → held_of (cond b (Some y) (copy_of (map (entered s) xs) site ino)) ≡ held_of (cond b (Some y) (copy_of xs site ino))
     by true y later = refl
@@ -97,16 +97,16 @@ now_moves t f s stamp site ino = over (f.group == t.group) refl
     both false b e k = absurd (true_false (sym e))
 
     found : copy_of (with_copy new t.copies) s f.ino ≡ Some new
-    found = put_found s f.ino new t.copies (both (s == s) (f.ino == f.ino) (test_own s) (test_own f.ino))
+    found = put_found s f.ino new t.copies (both (s == s) (f.ino == f.ino) (equal_self s) (equal_self f.ino))
 
     apart : is_copy_of site ino new ≡ false → (x : HeldCopy) → is_copy_of s f.ino x ≡ true → is_copy_of site ino x ≡ false
-    apart k x is = ap (λ (n : ℕ). (n == site) && (x.ino == ino)) (test_same x.site s (first_of (x.site == s) _ is)) ∙ (ap (λ (n : ℕ). (s == site) && (n == ino)) (test_same x.ino f.ino (second_of (x.site == s) _ is)) ∙ k)
+    apart k x is = ap (λ (n : ℕ). (n == site) && (x.ino == ino)) (equal x.site s (and_first (x.site == s) _ is)) ∙ (ap (λ (n : ℕ). (s == site) && (n == ino)) (equal x.ino f.ino (and_second (x.site == s) _ is)) ∙ k)
 
     here : (f.group == t.group) ≡ true → is_copy_of site ino new ≡ true → (b : Bool) → is_inside t s ≡ b → (held_of (copy_of (with_copy new t.copies) site ino) ≡ held_at t site ino) ⊎ PutsAt t site ino f s
-    here g is true inside = inr (test_same f.group t.group g, test_same f.ino ino (second_of (s == site) _ is), test_same s site (first_of (s == site) _ is), inside)
+    here g is true inside = inr (equal f.group t.group g, equal f.ino ino (and_second (s == site) _ is), equal s site (and_first (s == site) _ is), inside)
     here g is false inside = inl (
-        let at : s ≡ site = test_same s site (first_of (s == site) _ is) in
-        let of : f.ino ≡ ino = test_same f.ino ino (second_of (s == site) _ is) in
+        let at : s ≡ site = equal s site (and_first (s == site) _ is) in
+        let of : f.ino ≡ ino = equal f.ino ino (and_second (s == site) _ is) in
         ap (λ (n : ℕ). held_of (copy_of (with_copy new t.copies) n ino)) (sym at) ∙ (ap (λ (n : ℕ). held_of (copy_of (with_copy new t.copies) s n)) (sym of)
         ∙ (ap held_of found ∙ (ap (λ (b : Bool). cond b (Some stamp) (held_at t s f.ino)) inside ∙ (ap (λ (n : ℕ). held_at t n f.ino) at ∙ ap (λ (n : ℕ). held_at t site n) of)))))
 
@@ -123,7 +123,7 @@ join_moves t s false u site ino e = inl refl
 join_moves t s true u site ino e = over (s == site) refl
   where
     over : (b : Bool) → (s == site) ≡ b → Stays u t site ino ⊎ ((s ≡ site) × (true ≡ true))
-    over true k = inr (test_same s site k, refl)
+    over true k = inr (equal s site k, refl)
     over false k = inl (ap (λ (cs : List HeldCopy). held_of (copy_of cs site ino)) e ∙ (entered_other s site ino (with_root t s) k ∙ ap held_of (rooted_other t s site ino k)))
 
 pub held_moves : (h : List Version) (t : TreeState) (r : Record) (site ino : ℕ) → (held_at (next h r t) site ino ≡ held_at t site ino) ⊎ Moves t site ino r

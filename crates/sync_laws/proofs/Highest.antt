@@ -2,10 +2,11 @@
 use Rattle.std.proofs.Common.{◌≡◌, ℕ, ◌==◌, ◌<◌, nat_lt, Bool, true, false, not, ◌&&◌, ◌||◌, cond, List, [], ◌∷◌, filter, refl, sym, ◌∙◌, ap, subst, arith, ◌⊎◌, inl, inr}
 use Rattle.std.specs.List.{list_any}
 use Rattle.std.proofs.lemmas.Bool.Decides.{nat_tests}
+use Rattle.role_steps.proofs.of_plain_facts.Numbers.{equal}
+use Rattle.role_steps.proofs.of_plain_facts.Tests.{true_false}
 use Rattle.role_steps.specs.Own.{Every}
 use Rattle.role_steps.specs.Tables.{with_row}
 use Rattle.tree_laws.specs.Stores.{Ascends}
-use Rattle.tree_laws.proofs.Names.{test_same, true_false}
 
 -- ---- tests of lists ----
 
@@ -135,7 +136,7 @@ module _ {A : Type 0} (below : A → A → Bool) (never : (a : A) → below a a 
 
         over : (a b : Bool) → (key y == key v) ≡ b → list_any f (with_row key v ys) ≡ f v || list_any f ys → list_any f (elim a [ true ↦ y ∷ with_row key v ys | false ↦ elim b [ true ↦ v ∷ ys | false ↦ v ∷ y ∷ ys ] ]) ≡ f v || (f y || list_any f ys)
         over true b e later = ap (λ (t : Bool). f y || t) later ∙ swap (f y) (f v) (list_any f ys)
-        over false true e later = twice (f v) (f y) (list_any f ys) (ap f (sym (h.0 (test_same (key y) (key v) e))))
+        over false true e later = twice (f v) (f y) (list_any f ys) (ap f (sym (h.0 (equal (key y) (key v) e))))
         over false false e later = refl
 
     less_test : (a b : ℕ) → nat_lt a b ≡ true → (b == a) ≡ false
@@ -186,7 +187,7 @@ module _ {A : Type 0} (below : A → A → Bool) (never : (a : A) → below a a 
         over_low : (a : Bool) → nat_lt (key y) (key v) ≡ a → (b : Bool) → (key y == key v) ≡ b → a ≡ false → filter p (elim b as (λ (z : Bool). List A) [ true ↦ v ∷ ys | false ↦ v ∷ y ∷ ys ]) ≡ with_row key v (filter p (y ∷ ys))
         over_low a low true e is =
             ap (λ (t : Bool). cond t (v ∷ filter p ys) (filter p ys)) passes
-            ∙ sym (ap (λ (t : Bool). with_row key v (cond t (y ∷ filter p ys) (filter p ys))) (ap p (h.0 (test_same (key y) (key v) e)) ∙ passes)
+            ∙ sym (ap (λ (t : Bool). with_row key v (cond t (y ∷ filter p ys) (filter p ys))) (ap p (h.0 (equal (key y) (key v) e)) ∙ passes)
             ∙ (ap (λ (t : Bool). elim t as (λ (z : Bool). List A) [ true ↦ y ∷ with_row key v (filter p ys) | false ↦ elim (key y == key v) as (λ (z : Bool). List A) [ true ↦ v ∷ filter p ys | false ↦ v ∷ y ∷ filter p ys ] ]) (low ∙ is)
             ∙ ap (λ (t : Bool). elim t as (λ (z : Bool). List A) [ true ↦ v ∷ filter p ys | false ↦ v ∷ y ∷ filter p ys ]) e))
         over_low a low false e is =
@@ -207,7 +208,7 @@ module _ {A : Type 0} (below : A → A → Bool) (never : (a : A) → below a a 
         over true b e later = ap (λ (zs : List A). cond (p y) (y ∷ zs) zs) later
         over false true e later =
             ap (λ (t : Bool). cond t (v ∷ filter p ys) (filter p ys)) stops
-            ∙ sym (ap (λ (t : Bool). cond t (y ∷ filter p ys) (filter p ys)) (ap p (h.0 (test_same (key y) (key v) e)) ∙ stops))
+            ∙ sym (ap (λ (t : Bool). cond t (y ∷ filter p ys) (filter p ys)) (ap p (h.0 (equal (key y) (key v) e)) ∙ stops))
         over false false e later = ap (λ (t : Bool). cond t (v ∷ filter p (y ∷ ys)) (filter p (y ∷ ys))) stops
 
     -- those that are below no other, where it is put in its place
@@ -280,5 +281,5 @@ ascends_row {A} key x (y ∷ ys) h = at (ascends_row key x ys h.1) (nat_lt (key 
 
     at : Ascends key (with_row key x ys) → (a b : Bool) → nat_lt (key y) (key x) ≡ a → (key y == key x) ≡ b → Ascends key (elim a [ true ↦ y ∷ with_row key x ys | false ↦ elim b [ true ↦ x ∷ ys | false ↦ x ∷ y ∷ ys ] ])
     at later true b t u = (below_rest key (key y) x ys (less_test (key y) (key x) t) h.0, later)
-    at later false true t u = (subst (λ (k : ℕ). Every (λ (z : A). k < key z) ys) (test_same (key y) (key x) u) h.0, h.1)
+    at later false true t u = (subst (λ (k : ℕ). Every (λ (z : A). k < key z) ys) (equal (key y) (key x) u) h.0, h.1)
     at later false false t u = ((not_less (key y) (key x) t u, below_all (key x) (key y) ys (not_less (key y) (key x) t u) h.0), h)

@@ -25,3 +25,4 @@ pub mod Answering
 pub mod Sets
 pub mod Makes
 pub mod Repeated
+pub use Rattle.order_laws.proofs as of_order_laws

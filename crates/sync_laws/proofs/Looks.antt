@@ -2,6 +2,9 @@
 -- it sends is so.
 use Rattle.std.proofs.Common.{◌≡◌, ℕ, ◌-◌, ◌<◌, ◌==◌, Bool, true, false, ◌&&◌, cond, List, [], ◌∷◌, ◌++◌, length, map, take, Option, Some, None, refl, sym, ap, ◌∙◌, subst, ◌⊎◌, inl, inr}
 use Rattle.std.specs.List.{list_any}
+use Rattle.role_steps.proofs.of_plain_facts.Numbers.{equal, equal_self}
+use Rattle.role_steps.proofs.of_plain_facts.Options.{some_same}
+use Rattle.role_steps.proofs.of_plain_facts.Tests.{and_first, and_second, and_true, true_false}
 use Rattle.locus_ids.specs.declared.config.Config.{Config}
 use Rattle.locus_ids.specs.declared.ids.CallId.{CallId}
 use Rattle.locus_ids.specs.declared.ids.FileId.{FileId}
@@ -28,16 +31,16 @@ use Rattle.role_steps.specs.declared.synchronizing.LastLook.{LastLook}
 use Rattle.role_steps.specs.declared.synchronizing.SyncTable.{SyncTable}
 use Rattle.role_steps.specs.declared.synchronizing.VersionRow.{VersionRow}
 use Rattle.role_steps.proofs.Rows.{row_same, row_other}
-use Rattle.the_run.specs.Kept.{Among}
-use Rattle.the_run.specs.Worlds.{Line}
+use Rattle.tree_laws.specs.of_the_run.Kept.{Among}
+use Rattle.tree_laws.specs.of_the_run.Worlds.{Line}
 use Rattle.tree_model.specs.declared.accepted.Waiting.{Waiting}
 use Rattle.tree_model.specs.Calls.{call_named}
 use Rattle.tree_model.specs.Given.{served_by}
 use Rattle.tree_model.specs.Packs.{sync_site}
 use Rattle.tree_model.specs.Same.{is_served as is_given_so}
 use Rattle.tree_model.specs.Tree.{tree_of, kept_in}
-use Rattle.lawful_trace.specs.Progress.{answers, wants_after}
-use Rattle.lawful_trace.specs.TreeRows.{is_served, is_next_or_again, has_joined_some}
+use Rattle.tree_laws.specs.of_lawful_trace.Progress.{answers, wants_after}
+use Rattle.tree_laws.specs.of_lawful_trace.TreeRows.{is_served, is_next_or_again, has_joined_some}
 use Rattle.tree_laws.specs.Calls.{Asks, tries}
 use Rattle.tree_laws.specs.Doing.{TableFine, IsOfTable}
 use Rattle.tree_laws.specs.Following.{MayTell}
@@ -51,7 +54,7 @@ use Rattle.tree_laws.proofs.Boots.{every_both}
 use Rattle.tree_laws.proofs.Carried.{packet_stays}
 use Rattle.tree_laws.proofs.CarriedLooks.{More, call_of_stays}
 use Rattle.tree_laws.proofs.Hearing.{asks_look}
-use Rattle.tree_laws.proofs.Names.{some_is, true_false, test_own, test_same, same_epoch_own}
+use Rattle.tree_laws.proofs.Names.{same_epoch_own}
 use Rattle.tree_laws.proofs.Owing.{every_added}
 use Rattle.tree_laws.proofs.Versions.{versions_stay}
 use Rattle.sync_laws.specs.Serving.{Serving}
@@ -63,8 +66,7 @@ use Rattle.sync_laws.proofs.Members.{inside_joined, members_name_boots, table_bo
 use Rattle.sync_laws.proofs.Rows.{row_every, row_key_is, every_among}
 use Rattle.sync_laws.proofs.Turns.{later_look, keys_differ}
 use Rattle.sync_laws.proofs.Versions.{row_stands, row_size}
-use Rattle.the_run.proofs.InsideSync.{every_row}
-use Rattle.order_laws.proofs.Alone.{first_of, second_of}
+use Rattle.tree_laws.proofs.of_the_run.InsideSync.{every_row}
 use Rattle.tree_laws.specs.Instances.{Stands}
 use Rattle.tree_model.specs.Files.{kind_of_file}
 use Rattle.wire_messages.specs.declared.body.LookAnswer.{LookAnswer}
@@ -106,10 +108,6 @@ early_group us process b t = over (list_any (is_early_of us process) t.early)
     over false = refl
 
 -- ---- a new look ----
-
-both : (a b : Bool) → a ≡ true → b ≡ true → a && b ≡ true
-both true b e k = k
-both false b e k = e
 
 module _ (c : Config) (n : ℕ) (trace : List Line) (f : Frame) (tab : SyncTable) (sv : Serving c n trace f tab) where
   pub group_served : is_served c (entries trace) f.epoch tab.group ≡ true
@@ -170,7 +168,7 @@ module _ (c : Config) (n : ℕ) (trace : List Line) (f : Frame) (tab : SyncTable
         may : MayTell c trace x
         may = record {
           row = record {
-            gives = both (tree_of c f.epoch l.file.group (entries trace)).started _ is_started (gives_so s well);
+            gives = and_true (tree_of c f.epoch l.file.group (entries trace)).started _ is_started (gives_so s well);
             served = subst (λ (g : ℕ). is_served c (entries trace) f.epoch g ≡ true) (sym group_is) group_served;
             step = here.inside;
             numbered = subst (λ (k : ℕ). is_next_or_again k (length (answers c (entries trace) d)) ≡ true) (sym now.request_is) (asks_look c trace d l.file l.what sv.followed now.asks).1;
@@ -201,7 +199,7 @@ module _ (c : Config) (n : ℕ) (trace : List Line) (f : Frame) (tab : SyncTable
             is_its =
                 ap (λ (o : Option Waiting). is_look_of trace f.epoch tab.group at f.epoch d l.file o process) here.named
                 ∙ (ap (λ (b : Bool). b && ((l.file.group == tab.group) && ((us == at) && (here.caller.process == process)))) (same_epoch_own f.epoch)
-                ∙ (ap (λ (b : Bool). b && ((us == at) && (here.caller.process == process))) (subst (λ (g : ℕ). (l.file.group == g) ≡ true) group_is (test_own l.file.group))
+                ∙ (ap (λ (b : Bool). b && ((us == at) && (here.caller.process == process))) (subst (λ (g : ℕ). (l.file.group == g) ≡ true) group_is (equal_self l.file.group))
                 ∙ ap (λ (p : ℕ). (us == at) && (p == process)) here.process_is))
 
             same_key : us ≡ at → l.process ≡ process → turn_of (row look_key (process_key at process) (with_row look_key (last_look us l a) tab.looks)) ≡ Some (record { call = l.call; request = l.request; times = tries trace d })
@@ -210,7 +208,7 @@ module _ (c : Config) (n : ℕ) (trace : List Line) (f : Frame) (tab : SyncTable
                 ∙ (ap turn_of (row_same look_key (last_look us l a) tab.looks) ∙ ap (λ (k : ℕ). Some (record { call = l.call; request = l.request; times = k })) now.tries_are)
 
             over : (b : Bool) → (us == at) && (l.process == process) ≡ b → turn_of (row look_key (process_key at process) (with_row look_key (last_look us l a) tab.looks)) ≡ cond b (Some (record { call = l.call; request = l.request; times = tries trace d })) (last_turn trace f.epoch tab.group at process)
-            over true e = same_key (test_same us at (first_of (us == at) _ e)) (test_same l.process process (second_of (us == at) _ e))
+            over true e = same_key (equal us at (and_first (us == at) _ e)) (equal l.process process (and_second (us == at) _ e))
             over false e = ap turn_of (row_other look_key (last_look us l a) (process_key at process) tab.looks (keys_differ us l.process at process small low e)) ∙ sv.table.turns at process low
 
         after : (a : Letter) → PacketFact c (More n x trace) (packet f a.to a.body) → TableFact c (More n x trace) f (record tab { looks = with_row look_key (last_look us l a) tab.looks })
@@ -286,7 +284,7 @@ module _ (c : Config) (n : ℕ) (trace : List Line) (f : Frame) (tab : SyncTable
         where
           none : (r : FileRow) → ◌≡◌ {A = Option FileRow} None (Some r) → ⊥
           none r k = cc
-      served_fine (Some r) e (Serves v site) w = serving_fine v site w r e (subst (λ (q : FileRow). Among v q.kept) (some_is w.1.0 r (sym w.1.1 ∙ e)) w.1.2) l.what refl
+      served_fine (Some r) e (Serves v site) w = serving_fine v site w r e (subst (λ (q : FileRow). Among v q.kept) (some_same w.1.0 r (sym w.1.1 ∙ e)) w.1.2) l.what refl
 
       pub new_fine : TableFine c n trace f tab.group (new_look f us l (file_row tab l.file.ino) tab)
       new_fine = served_fine (file_row tab l.file.ino) refl (service f us l.what (file_row tab l.file.ino))
@@ -305,7 +303,7 @@ module _ (c : Config) (n : ℕ) (trace : List Line) (f : Frame) (tab : SyncTable
         it = looked_low c trace sv.followed sv.calls.only f.epoch d l.request l.take l.file l.what result was
 
         process_is : it.inside.accepted.process ≡ l.process
-        process_is = ap (λ (w : Waiting). w.process) (some_is it.inside.accepted here.caller (sym it.inside.named ∙ here.named)) ∙ here.process_is
+        process_is = ap (λ (w : Waiting). w.process) (some_same it.inside.accepted here.caller (sym it.inside.named ∙ here.named)) ∙ here.process_is
 
         at : last_turn trace f.epoch l.file.group us it.inside.accepted.process ≡ last_turn trace f.epoch tab.group us l.process
         at = ap (λ (g : ℕ). last_turn trace f.epoch g us it.inside.accepted.process) group_is ∙ ap (λ (p : ℕ). last_turn trace f.epoch tab.group us p) process_is
@@ -323,7 +321,7 @@ module _ (c : Config) (n : ℕ) (trace : List Line) (f : Frame) (tab : SyncTable
     later_now : (last : LastLook) → row look_key key tab.looks ≡ Some last → is_look_before l last ≡ false → is_same_look l last ≡ false → StandsOr → LooksNow c trace d l.request l.take l.file l.what
     later_now last e before same (inr now) = now
     later_now last e before same (inl was) = (let u : (t : Turn) × (turn_of (row look_key key tab.looks) ≡ Some t) × IsUpTo (record { call = l.call; request = l.request; times = l.take }) t = under was.0 was.1 in
-        absurd (later_look l last before same (subst (IsUpTo (record { call = l.call; request = l.request; times = l.take })) (sym (some_is (record { call = last.call; request = last.request; times = last.take }) u.0 (sym (ap turn_of e) ∙ u.1))) u.2)))
+        absurd (later_look l last before same (subst (IsUpTo (record { call = l.call; request = l.request; times = l.take })) (sym (some_same (record { call = last.call; request = last.request; times = last.take }) u.0 (sym (ap turn_of e) ∙ u.1))) u.2)))
 
     came : StandsOr → (o : Option LastLook) → row look_key key tab.looks ≡ o → TableFine c n trace f tab.group (after_last f us l o tab)
     came k None e = new_fine (first_now e k)

@@ -1,6 +1,8 @@
 -- A make is asked of the site that is to store its file, or refused where it is for no member or for a site without a pack.
 use Rattle.std.proofs.Common.{◌≡◌, ℕ, ◌==◌, Bool, true, false, ◌&&◌, cond, List, [], ◌∷◌, ◌++◌, filter, map, Option, Some, None, refl, sym, ap, ◌∙◌, subst, ◌⊎◌, inl, inr}
 use Rattle.std.specs.Option.{is_some, option_or}
+use Rattle.role_steps.proofs.of_plain_facts.Numbers.{equal}
+use Rattle.role_steps.proofs.of_plain_facts.Tests.{and_second, and_true, true_false}
 use Rattle.locus_ids.specs.Sites.{both as common}
 use Rattle.locus_ids.specs.declared.config.Config.{Config}
 use Rattle.locus_ids.specs.declared.ids.CallId.{CallId}
@@ -11,6 +13,7 @@ use Rattle.locus_ids.specs.declared.refusal.Refusal.{Refusal}
 use Rattle.locus_ids.specs.declared.refusal.Refusal.TheVariants as refusal
 use Rattle.locus_ids.specs.declared.sites.Members.{Members}
 use Rattle.locus_ids.specs.declared.sites.Sites.{Sites}
+use Rattle.locus_ids.specs.Sizes.{sites_max}
 use Rattle.commit_graph.specs.Versions.{same_file}
 use Rattle.dir_format.specs.Entries.{nothing_seen}
 use Rattle.wire_messages.specs.declared.body.Body.TheVariants as body
@@ -25,7 +28,7 @@ use Rattle.role_steps.specs.Versions.{chosen_site}
 use Rattle.role_steps.specs.Views.{Frame, members_of as present, pack_sites, quiet, serial_key}
 use Rattle.role_steps.specs.declared.synchronizing.OpenRow.{OpenRow}
 use Rattle.role_steps.specs.declared.synchronizing.SyncTable.{SyncTable}
-use Rattle.the_run.specs.Worlds.{Line}
+use Rattle.tree_laws.specs.of_the_run.Worlds.{Line}
 use Rattle.tree_model.specs.Epochs.{members_of}
 use Rattle.tree_model.specs.Given.{refuses}
 use Rattle.tree_model.specs.Histories.{history}
@@ -42,8 +45,6 @@ use Rattle.tree_laws.specs.Tables.{RowFact, named_openers, named_row}
 use Rattle.call_rules.specs.declared.want.Want.{Want}
 use Rattle.call_rules.specs.declared.want.Want.TheVariants as want
 use Rattle.tree_laws.proofs.Kinship.{tree_group_is}
-use Rattle.tree_laws.proofs.Names.{test_same, true_false}
-use Rattle.order_laws.proofs.Alone.{second_of}
 use Rattle.order_laws.proofs.Knowing.{tree_config}
 use Rattle.sync_laws.specs.Making.{MakesAreSaid, table_place, tree_place}
 use Rattle.sync_laws.specs.Serving.{Serving}
@@ -56,10 +57,6 @@ use Rattle.sync_laws.proofs.Openings.{here, its, nil_after, none_seen, refused_a
 use Rattle.sync_laws.proofs.Rows.{row_every}
 use Rattle.sync_laws.proofs.Sets.{place_same}
 
-both : (a b : Bool) → a ≡ true → b ≡ true → a && b ≡ true
-both true b e k = k
-both false b e k = e
-
 -- ---- where a make goes ----
 
 some_or : {A : Type 0} (a b : Option A) → is_some b ≡ true → is_some (option_or a b) ≡ true
@@ -68,7 +65,7 @@ some_or (Some x) b e = refl
 
 -- a good set has a place
 good_place : (c : Config) (group : ℕ) (members : Option Members) (own : ℕ) (set : Sites) → is_good_set c group members set ≡ true → is_some (making_site_in c group members own set) ≡ true
-good_place c group members own set e = some_or (that_passes (is_place members set) (Some own)) _ (some_or (that_passes (is_place members set) (sync_site c group members)) (least_site (is_place members set)) (second_of (is_within set (packs_of c group)) _ e))
+good_place c group members own set e = some_or (that_passes (is_place members set) (Some own)) _ (some_or (that_passes (is_place members set) (sync_site c group members)) (least_site (is_place members set)) (and_second (is_within set (packs_of c group)) _ e))
 
 -- where the tree has no place the set isn't good
 no_place : (c : Config) (group : ℕ) (members : Option Members) (own : ℕ) (set : Sites) → tree_place c group members own set ≡ None → is_good_set c group members set ≡ false
@@ -141,7 +138,7 @@ module _ (c : Config) (n : ℕ) (trace : List Line) (f : Frame) (tab : SyncTable
 
     denied : table_place f file.group us set ≡ None → TableFine c n trace f tab.group (decides f tab us o (Denies refusal.NoStorage))
     denied e = refused_as c n trace f tab sv started us serial number process request file group_is call is_call (how.Make set k) asks none refusal.NoStorage (inr bad)
-        (both t.started _ is_started (both (file.ino == 0) _ (subst (λ (m : ℕ). (m == 0) ≡ true) (sym no_number) refl)
+        (and_true t.started _ is_started (and_true (file.ino == 0) _ (subst (λ (m : ℕ). (m == 0) ≡ true) (sym no_number) refl)
         (ap (λ (z : Option Refusal). refuses (history c (entries trace)) t d mode.Make file refusal.NoStorage z) (refusal_is ∙ ap (λ (b : Bool). cond b None (Some refusal.NoStorage)) bad))))
       where
         bad : is_good_set c file.group (members_of (entries trace) f.epoch) set ≡ false
@@ -165,7 +162,7 @@ module _ (c : Config) (n : ℕ) (trace : List Line) (f : Frame) (tab : SyncTable
         is_call = its_here;
         group_is = group_is;
         stage = record { make = now; call_is = refl; request_is = refl; file_is = refl; parents_are = refl; stamp_is = refl };
-        vector_is = (none_seen 16, refl);
+        vector_is = (none_seen sites_max, refl);
         sees = tt;
       }
 
@@ -179,11 +176,11 @@ module _ (c : Config) (n : ℕ) (trace : List Line) (f : Frame) (tab : SyncTable
           apart = over (same_file file (file_in tab.group ino)) refl
             where
               over : (b : Bool) → same_file file (file_in tab.group ino) ≡ b → b ≡ false
-              over true z = absurd (some (sym (test_same file.ino ino (second_of (file.group == tab.group) _ z)) ∙ no_number))
+              over true z = absurd (some (sym (equal file.ino ino (and_second (file.group == tab.group) _ z)) ∙ no_number))
               over false z = refl
 
       asked_fine : TableFine c n trace f tab.group (asks_row f asked tab)
-      asked_fine = sends_fine c n trace f tab (asks_storage f asked) (with_open asked tab) refl (changed_table c trace f tab asked sv.table fact openers_same) ((inr (inr now), refl, (none_seen 16, refl)), tt)
+      asked_fine = sends_fine c n trace f tab (asks_storage f asked) (with_open asked tab) refl (changed_table c trace f tab asked sv.table fact openers_same) ((inr (inr now), refl, (none_seen sites_max, refl)), tt)
 
     placed_fine : (z : Option ℕ) → table_place f file.group us set ≡ z → TableFine c n trace f tab.group (decides f tab us o (make_at set k z))
     placed_fine None e = denied e

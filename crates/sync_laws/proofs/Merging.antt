@@ -5,6 +5,7 @@ use Rattle.locus_ids.specs.declared.config.Config.{Config}
 use Rattle.locus_ids.specs.declared.ids.EpochId.{EpochId}
 use Rattle.locus_ids.specs.declared.ids.FileId.{FileId}
 use Rattle.locus_ids.specs.declared.ids.Stamp.{Stamp}
+use Rattle.locus_ids.specs.Sizes.{sites_max}
 use Rattle.version_vector.specs.Counters.{joined, part}
 use Rattle.version_vector.proofs.Counting.{part-joined}
 use Rattle.commit_graph.specs.Versions.{same_stamp}
@@ -16,7 +17,7 @@ use Rattle.role_steps.specs.Opens.{is_stamp_among}
 use Rattle.role_steps.specs.Own.{Every}
 use Rattle.role_steps.specs.Versions.{joined_vectors, stamps_of}
 use Rattle.role_steps.specs.declared.synchronizing.VersionRow.{VersionRow}
-use Rattle.the_run.specs.Worlds.{Line}
+use Rattle.tree_laws.specs.of_the_run.Worlds.{Line}
 use Rattle.tree_model.specs.Epochs.{members_of}
 use Rattle.tree_model.specs.Folds.{Trace}
 use Rattle.tree_model.specs.Histories.{history}
@@ -37,7 +38,7 @@ length_joined (x ∷ a) [] e = e
 length_joined (x ∷ a) (y ∷ b) e = ap (λ (n : ℕ). suc n) (length_joined a b (cc))
 
 pub joins_rows : (c : Config) (trace : List Line) (f : FileId) (vs : List VersionRow) → Every (VersionFact c trace f) vs → JoinsParents c trace f (stamps_of vs) (joined_vectors vs)
-joins_rows c trace f [] k = (none_seen 16, refl)
+joins_rows c trace f [] k = (none_seen sites_max, refl)
 joins_rows c trace f (v ∷ vs) k = (
   joined_vectors vs,
   row_stands c trace f v k.0,
@@ -46,7 +47,7 @@ joins_rows c trace f (v ∷ vs) k = (
   length_joined v.vector (joined_vectors vs) (ap length (row_vector c trace f v k.0) ∙ sym (rest vs (joins_rows c trace f vs k.1))) ∙ rest vs (joins_rows c trace f vs k.1),
 )
   where
-    rest : (ws : List VersionRow) → JoinsParents c trace f (stamps_of ws) (joined_vectors ws) → length (joined_vectors ws) ≡ 16
+    rest : (ws : List VersionRow) → JoinsParents c trace f (stamps_of ws) (joined_vectors ws) → length (joined_vectors ws) ≡ sites_max
     rest [] j = j.1
     rest (w ∷ ws) j = j.4
 

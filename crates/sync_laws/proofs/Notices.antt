@@ -2,6 +2,7 @@
 use Rattle.std.proofs.Common.{◌≡◌, ℕ, ◌<◌, ◌==◌, ◌&&◌, ◌||◌, not, Bool, true, false, cond, List, [], ◌∷◌, length, map, filter, Option, Some, None, refl, sym, ap, ◌∙◌, subst, arith}
 use Rattle.std.proofs.lemmas.Bool.Decides.{nat_tests}
 use Rattle.std.specs.List.{flat_map}
+use Rattle.role_steps.proofs.of_plain_facts.Numbers.{equal_self}
 use Rattle.locus_ids.specs.Sites.{has}
 use Rattle.locus_ids.specs.declared.config.Config.{Config}
 use Rattle.locus_ids.specs.declared.ids.FileId.{FileId}
@@ -17,8 +18,8 @@ use Rattle.role_steps.specs.declared.synchronizing.FileRow.{FileRow}
 use Rattle.role_steps.specs.declared.synchronizing.SyncTable.{SyncTable}
 use Rattle.role_steps.specs.declared.synchronizing.VersionRow.{VersionRow}
 use Rattle.role_steps.proofs.Sending.{every_append}
-use Rattle.the_run.specs.Kept.{Among}
-use Rattle.the_run.specs.Worlds.{Line}
+use Rattle.tree_laws.specs.of_the_run.Kept.{Among}
+use Rattle.tree_laws.specs.of_the_run.Worlds.{Line}
 use Rattle.tree_model.specs.Files.{HeldVersion}
 use Rattle.tree_model.specs.Histories.{history}
 use Rattle.tree_model.specs.State.{has_stamp}
@@ -28,7 +29,6 @@ use Rattle.tree_laws.specs.Packets.{NotifyFact, PacketFact, file_in}
 use Rattle.tree_laws.specs.Printed.{entries}
 use Rattle.tree_laws.specs.Tables.{AreRising, FileFact, FilesFact, HoldingFact, StartedFiles, TableFact, VersionFact, row_stamp}
 use Rattle.tree_laws.proofs.Boots.{every_filter, every_passes}
-use Rattle.tree_laws.proofs.Names.{test_own}
 use Rattle.sync_laws.proofs.Rows.{every_among}
 use Rattle.sync_laws.proofs.Served.{IsHolder, chosen_among, holder_is, stamp_own}
 
@@ -38,7 +38,7 @@ low_differs : (a b : ℕ) → a < b → (a == b) ≡ false
 low_differs a b h = grind (arith, nat_tests)
 
 row_here : (r : FileRow) (rest : List FileRow) → row row_ino r.ino (r ∷ rest) ≡ Some r
-row_here r rest = ap (λ (b : Bool). elim b [ true ↦ Some r | false ↦ row row_ino r.ino rest ]) (test_own r.ino)
+row_here r rest = ap (λ (b : Bool). elim b [ true ↦ Some r | false ↦ row row_ino r.ino rest ]) (equal_self r.ino)
 
 row_behind : (q r : FileRow) (rest : List FileRow) → q.ino < r.ino → row row_ino r.ino (q ∷ rest) ≡ row row_ino r.ino rest
 row_behind q r rest h = ap (λ (b : Bool). elim b [ true ↦ Some q | false ↦ row row_ino r.ino rest ]) (low_differs q.ino r.ino h)

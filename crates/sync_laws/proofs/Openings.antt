@@ -4,6 +4,8 @@ use Rattle.std.proofs.Common.{◌≡◌, ℕ, zero, suc, ◌+◌, ◌==◌, Bool
 use Rattle.std.proofs.lemmas.Bool.Decides.{nat_tests}
 use Rattle.std.specs.Prelude.{replicate}
 use Rattle.std.specs.Option.{is_none, option_map}
+use Rattle.role_steps.proofs.of_plain_facts.Numbers.{equal_self}
+use Rattle.role_steps.proofs.of_plain_facts.Tests.{and_true, true_false}
 use Rattle.locus_ids.specs.declared.config.Config.{Config}
 use Rattle.locus_ids.specs.declared.ids.CallId.{CallId}
 use Rattle.locus_ids.specs.declared.ids.EpochId.{EpochId}
@@ -15,6 +17,7 @@ use Rattle.locus_ids.specs.declared.ids.Serial.{Serial}
 use Rattle.locus_ids.specs.declared.ids.Stamp.{Stamp}
 use Rattle.locus_ids.specs.declared.refusal.Refusal.{Refusal}
 use Rattle.locus_ids.specs.declared.sites.Sites.{Sites}
+use Rattle.locus_ids.specs.Sizes.{sites_max}
 use Rattle.version_vector.specs.Counters.{part}
 use Rattle.commit_graph.specs.Grants.{Opener}
 use Rattle.commit_graph.specs.Versions.{same_file}
@@ -33,7 +36,7 @@ use Rattle.role_steps.specs.Tables.{row}
 use Rattle.role_steps.specs.Views.{Frame, Told, Outcome, boot_in, serial_key}
 use Rattle.role_steps.specs.declared.synchronizing.OpenRow.{OpenRow}
 use Rattle.role_steps.specs.declared.synchronizing.SyncTable.{SyncTable}
-use Rattle.the_run.specs.Worlds.{Line}
+use Rattle.tree_laws.specs.of_the_run.Worlds.{Line}
 use Rattle.tree_model.specs.declared.accepted.Waiting.{Waiting}
 use Rattle.tree_model.specs.declared.instance.Instance.{Instance}
 use Rattle.tree_model.specs.Epochs.{has_joined}
@@ -44,8 +47,8 @@ use Rattle.tree_model.specs.Opening.{is_placed, open_refusal}
 use Rattle.tree_model.specs.State.{TreeState, is_granted, process_of}
 use Rattle.tree_model.specs.Tree.{tree_of, kept_in, grant_of, opened, without_make}
 use Rattle.tree_model.specs.Working.{list_of, merges}
-use Rattle.lawful_trace.specs.Progress.{answers, wants_next}
-use Rattle.lawful_trace.specs.TreeRows.{MayOpen, is_open_of, is_served}
+use Rattle.tree_laws.specs.of_lawful_trace.Progress.{answers, wants_next}
+use Rattle.tree_laws.specs.of_lawful_trace.TreeRows.{MayOpen, is_open_of, is_served}
 use Rattle.tree_laws.specs.Calls.{request_number}
 use Rattle.tree_laws.specs.Doing.{TableFine}
 use Rattle.tree_laws.specs.Following.{MayTell, MakesInTime, OpensInTime, RefusesMake}
@@ -59,7 +62,7 @@ use Rattle.tree_laws.proofs.CarriedLooks.{More, call_of_stays}
 use Rattle.tree_laws.proofs.CarriedVersions.{joins_stay, sees_stay}
 use Rattle.tree_laws.proofs.Hearing.{asks_next}
 use Rattle.tree_laws.proofs.Kinship.{tree_epoch_is, tree_group_is}
-use Rattle.tree_laws.proofs.Names.{true_false, true_or_false, test_own, same_epoch_own}
+use Rattle.tree_laws.proofs.Names.{true_or_false, same_epoch_own}
 use Rattle.tree_laws.proofs.Serials.{unnamed}
 use Rattle.tree_laws.proofs.Versions.{versions_stay}
 use Rattle.sync_laws.specs.Opening.{IsPlainOpening}
@@ -89,7 +92,7 @@ asked_mode f g (words.Resolve site) e = file_own f g e
 pub opening_asked : (c : Config) (w : Want) (f : FileId) (q : Opening) → IsOpening c w f q → is_open_of (mode_of q) f w ≡ true
 opening_asked c (want.Open g m) f q o = subst (λ (x : Opening). is_open_of (mode_of x) f (want.Open g m) ≡ true) (sym o.1) (asked_mode f g m o.0)
 opening_asked c (want.OpenToMend g) f q o = subst (λ (x : Opening). is_open_of (mode_of x) f (want.OpenToMend g) ≡ true) (sym o.1) (file_own f g o.0)
-opening_asked c (want.Make group k sites) f q o = subst (λ (x : Opening). is_open_of (mode_of x) f (want.Make group k sites) ≡ true) (sym o.2) (subst (λ (g : ℕ). (g == f.group) ≡ true) o.0 (test_own f.group))
+opening_asked c (want.Make group k sites) f q o = subst (λ (x : Opening). is_open_of (mode_of x) f (want.Make group k sites) ≡ true) (sym o.2) (subst (λ (g : ℕ). (g == f.group) ≡ true) o.0 (equal_self f.group))
 opening_asked c (want.Look g w) f q o = absurd o
 opening_asked c (want.Do i op) f q o = absurd o
 opening_asked c (want.Close i) f q o = absurd o
@@ -162,10 +165,6 @@ pub record IsGiven (c : Config) (trace : List Line) (e : EpochId) (d : CallId) (
   pub parents_are : parents ≡ kept_in c (entries trace) e file
   pub alone : merges m ≡ false → parents ≡ list_of stamp
   pub sees : SeesVersion c trace file m stamp vector
-
-both : (a b : Bool) → a ≡ true → b ≡ true → a && b ≡ true
-both true b e k = k
-both false b e k = e
 
 -- ---- the open of a call ----
 
@@ -254,7 +253,7 @@ module _ (c : Config) (n : ℕ) (trace : List Line) (f : Frame) (tab : SyncTable
         is_call = call_of_stays c n x trace sv.followed may f.epoch us number process d here;
         group_is = group_is;
         stage = refused;
-        vector_is = (none_seen 16, refl);
+        vector_is = (none_seen sites_max, refl);
         sees = sees_none c (More n x trace) file (mode_of q) nothing_seen;
       }
 
@@ -293,7 +292,7 @@ module _ (c : Config) (n : ℕ) (trace : List Line) (f : Frame) (tab : SyncTable
       may_grant = record {
         row = record {
           opens = opens_row;
-          gives = both t.started _ is_started (both (is_none (open_refusal (history c (entries trace)) t (mode_of q) d file)) _ (ap is_none given.unrefused) (both (us == us) _ (test_own us) (both (not (is_granted t inst)) _ not_granted given.placed)));
+          gives = and_true t.started _ is_started (and_true (is_none (open_refusal (history c (entries trace)) t (mode_of q) d file)) _ (ap is_none given.unrefused) (and_true (us == us) _ (equal_self us) (and_true (not (is_granted t inst)) _ not_granted given.placed)));
           there = given.there;
         };
         in_time = record { opens = in_time; makes = plain_makes trace f.epoch inst file ss q plain; new = unnamed_yet };
@@ -360,7 +359,7 @@ module _ (c : Config) (n : ℕ) (trace : List Line) (f : Frame) (tab : SyncTable
           epoch_own = subst (λ (e : EpochId). same_epoch f.epoch e ≡ true) (sym (tree_epoch_is c f.epoch tab.group (entries trace))) (same_epoch_own f.epoch)
 
           group_own : (file.group == tab_tree.group) ≡ true
-          group_own = subst (λ (g : ℕ). (file.group == g) ≡ true) (group_is ∙ sym (tree_group_is c f.epoch tab.group (entries trace))) (test_own file.group)
+          group_own = subst (λ (g : ℕ). (file.group == g) ≡ true) (group_is ∙ sym (tree_group_is c f.epoch tab.group (entries trace))) (equal_self file.group)
 
           alike : (b : Bool) → tree_openers tab_tree (file_in tab.group ino) ++ cond (b && true) (named_row asked ∷ []) [] ≡ tree_openers tab_tree (file_in tab.group ino) ++ cond b (named_instance new ∷ []) []
           alike true = ap (λ (o : Serial × Opener). tree_openers tab_tree (file_in tab.group ino) ++ o ∷ []) opener_same

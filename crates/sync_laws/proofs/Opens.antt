@@ -30,8 +30,8 @@ use Rattle.role_steps.specs.declared.synchronizing.FileRow.{FileRow}
 use Rattle.role_steps.specs.declared.synchronizing.OpenRow.{OpenRow}
 use Rattle.role_steps.specs.declared.synchronizing.SyncTable.{SyncTable}
 use Rattle.role_steps.specs.declared.synchronizing.VersionRow.{VersionRow}
-use Rattle.the_run.specs.Kept.{Among}
-use Rattle.the_run.specs.Worlds.{Line}
+use Rattle.tree_laws.specs.of_the_run.Kept.{Among}
+use Rattle.tree_laws.specs.of_the_run.Worlds.{Line}
 use Rattle.tree_model.specs.declared.instance.Instance.{Instance}
 use Rattle.tree_model.specs.Files.{kind_of_file, set_of_file}
 use Rattle.tree_model.specs.Given.{is_unnumbered, refuses}
@@ -40,7 +40,7 @@ use Rattle.tree_model.specs.Opening.{held_by, is_only, is_placed, is_site, open_
 use Rattle.tree_model.specs.Same.{same_version}
 use Rattle.tree_model.specs.State.{TreeState, has_stamp, has_stamp_of, is_named, openers, words_of}
 use Rattle.tree_model.specs.Tree.{tree_of, kept_in}
-use Rattle.lawful_trace.specs.TreeRows.{granted_group}
+use Rattle.tree_laws.specs.of_lawful_trace.TreeRows.{granted_group}
 use Rattle.sync_laws.proofs.Trees.{openers_by_name}
 use Rattle.tree_laws.specs.Doing.{TableFine}
 use Rattle.tree_laws.specs.Instances.{AsksOpen, HasAtLeast, Stands, held_in}
@@ -48,7 +48,6 @@ use Rattle.tree_laws.specs.Packets.{IsCallOf, JoinsParents, OpenFact, SeesVersio
 use Rattle.tree_laws.specs.Past.{WasNamedIn}
 use Rattle.tree_laws.specs.Printed.{entries}
 use Rattle.tree_laws.specs.Tables.{FileFact, FilesFact, HasHolder, HoldingFact, IsAhead, IsNoted, IsStill, RowFact, StartedFiles, VersionFact, row_stamp}
-use Rattle.tree_laws.proofs.Names.{some_is, test_own, true_false}
 use Rattle.tree_laws.proofs.Owing.{InGroup, found_every, in_group}
 use Rattle.order_laws.proofs.Alone.{none_excludes}
 use Rattle.order_laws.proofs.Lists.{all_found}
@@ -70,7 +69,11 @@ use Rattle.tree_model.specs.Packs.{sync_site}
 use Rattle.tree_model.specs.Working.{merges}
 use Rattle.tree_model.specs.Epochs.{has_joined}
 use Rattle.locus_ids.specs.declared.sites.Members.{Members}
+use Rattle.locus_ids.specs.Sizes.{sites_max}
 use Rattle.std.proofs.lemmas.List.{length-map}
+use Rattle.role_steps.proofs.of_plain_facts.Numbers.{equal_self}
+use Rattle.role_steps.proofs.of_plain_facts.Options.{some_same}
+use Rattle.role_steps.proofs.of_plain_facts.Tests.{and_true, true_false}
 use Rattle.role_steps.specs.declared.synchronizing.Holding.{Holding}
 use Rattle.sync_laws.proofs.Rows.{every_among, row_every, row_key_is}
 use Rattle.sync_laws.proofs.Served.{IsChosen, IsHolder, holder_chosen, holder_is, holder_there, stamp_own}
@@ -86,10 +89,6 @@ empty_one v e = cc
 
 several_one : {A : Type 0} (a b v : A) (xs : List A) → a ∷ b ∷ xs ≡ v ∷ [] → ⊥
 several_one a b v xs e = cc
-
-both : (a b : Bool) → a ≡ true → b ≡ true → a && b ≡ true
-both true b e k = k
-both false b e k = e
 
 -- ---- the open of a call ----
 
@@ -184,7 +183,7 @@ module _ (c : Config) (n : ℕ) (trace : List Line) (f : Frame) (tab : SyncTable
         over : (s : Option Stamp) → held_in c (entries trace) f.epoch site file ≡ s → held_in c (entries trace) f.epoch site file ≡ None
         over None k = k
         over (Some s) k = (let x : IsNoted r site s = exact_at m site s still none k in absurd (no_holding x.0 (sym e ∙ x.1)))
-    noted_is m site still none (Some h) e = least.held ∙ ap (λ (s : Stamp). Some s) (sym x.2 ∙ ap (λ (y : Holding). y.stamp) (some_is x.0 h (sym x.1 ∙ e)))
+    noted_is m site still none (Some h) e = least.held ∙ ap (λ (s : Stamp). Some s) (sym x.2 ∙ ap (λ (y : Holding). y.stamp) (some_same x.0 h (sym x.1 ∙ e)))
       where
         least : HasAtLeast c trace f.epoch site file h.stamp
         least = subst (λ (g : FileId). HasAtLeast c trace f.epoch site g h.stamp) row_is (subst (λ (s : ℕ). HasAtLeast c trace f.epoch s (file_in tab.group r.ino) h.stamp) (row_key_is holding_site site r.holders h e)
@@ -228,7 +227,7 @@ module _ (c : Config) (n : ℕ) (trace : List Line) (f : Frame) (tab : SyncTable
             ∙ (ap (λ (m : Option Members). sync_site c tab.group m) (tree_members c f.epoch file.group (entries trace) ∙ sv.frame.members_are) ∙ sv.serves))
 
         placed : is_placed (history c (entries trace)) t d mode.Mend file (stamp_held (holding_of r f.me)) f.me ≡ true
-        placed = both (is_site (sync_site t.config t.group t.members) f.me) _ (ap (λ (s : Option ℕ). is_site s f.me) sync_is ∙ test_own f.me)
+        placed = and_true (is_site (sync_site t.config t.group t.members) f.me) _ (ap (λ (s : Option ℕ). is_site s f.me) sync_is ∙ equal_self f.me)
             (ap (λ (s : Option Stamp). same_version s (stamp_held (holding_of r f.me))) (noted_is mode.Mend f.me (inl refl) (unrefused mode.Mend os ks e).0 (holding_of r f.me) refl) ∙ same_own (stamp_held (holding_of r f.me)))
 
     module _ (site : ℕ) (asks : AsksOpen c trace f.epoch d request serial file (how.Resolve site)) (none : row open_key (serial_key (serial_of us serial)) tab.opens ≡ None) (e : grant_refusal mode.Resolve os ks ≡ None) where
@@ -248,7 +247,7 @@ module _ (c : Config) (n : ℕ) (trace : List Line) (f : Frame) (tab : SyncTable
 
       denied : has_stamp_of ks (stamp_held (holding_of r site)) ≡ false → TableFine c n trace f tab.group (decides f tab us (o (how.Resolve site)) (Denies refusal.NoStorage))
       denied k = refused_as c n trace f tab sv started us serial number process request file group_is call is_call (how.Resolve site) asks none refusal.NoStorage tt
-          (both t.started _ is_started (ap (λ (z : Option Refusal). refuses (history c (entries trace)) t d mode.Resolve file refusal.NoStorage z) (refusal_is ∙ ap (λ (b : Bool). cond b None (Some refusal.NoStorage)) k)))
+          (and_true t.started _ is_started (ap (λ (z : Option Refusal). refuses (history c (entries trace)) t d mode.Resolve file refusal.NoStorage z) (refusal_is ∙ ap (λ (b : Bool). cond b None (Some refusal.NoStorage)) k)))
 
       allowed : (h : Holding) → holding_of r site ≡ Some h → has_stamp ks h.stamp ≡ true → TableFine c n trace f tab.group (decides f tab us (o (how.Resolve site)) (Grants h.site (Some h.stamp) (joined_vectors r.kept) (stamps_of r.kept) r.set r.kind))
       allowed h found k = granted_fine c n trace f tab sv started us serial number process request file group_is call is_call (how.Resolve site) asks none tt h.site (Some h.stamp) (joined_vectors r.kept) (stamps_of r.kept) r.set r.kind
@@ -262,7 +261,7 @@ module _ (c : Config) (n : ℕ) (trace : List Line) (f : Frame) (tab : SyncTable
           held = ap (λ (s : ℕ). held_in c (entries trace) f.epoch s file) at ∙ (sym (ap (λ (z : Option ℕ). held_by t z file.ino) named) ∙ (held_is ∙ ap stamp_held found))
 
           placed : is_placed (history c (entries trace)) t d mode.Resolve file (Some h.stamp) h.site ≡ true
-          placed = both (is_site (resolving_site t d) h.site) _ (ap (λ (s : Option ℕ). is_site s h.site) named ∙ subst (λ (s : ℕ). (s == h.site) ≡ true) at (test_own h.site)) (ap (λ (s : Option Stamp). same_version s (Some h.stamp)) held ∙ stamp_own h.stamp)
+          placed = and_true (is_site (resolving_site t d) h.site) _ (ap (λ (s : Option ℕ). is_site s h.site) named ∙ subst (λ (s : ℕ). (s == h.site) ≡ true) at (equal_self h.site)) (ap (λ (s : Option Stamp). same_version s (Some h.stamp)) held ∙ stamp_own h.stamp)
 
       from_noted : (z : Option Holding) → holding_of r site ≡ z → TableFine c n trace f tab.group (decides f tab us (o (how.Resolve site)) (resolve_from r r.kept z))
       from_noted None found = denied (ap (λ (y : Option Holding). has_stamp_of ks (stamp_held y)) found)
@@ -288,7 +287,7 @@ module _ (c : Config) (n : ℕ) (trace : List Line) (f : Frame) (tab : SyncTable
       chosen = (let h = (subst (Every (HasHolder r)) kept_one row_fact.held).0 in holder_chosen us f.me h.0.site (holders_of r v.stamp) (holder_there r v v.stamp refl h))
 
       joins : JoinsParents c trace file (v.stamp ∷ []) v.vector
-      joins = (nothing_seen, stands, (none_seen 16, refl), (λ s. ap (λ (w : List ℕ). part w s) (row_vector c trace file v version) ∙ max_none (part (vector_of (history c (entries trace)) file v.stamp) s) (part nothing_seen s) (none_seen 16 s)), ap length (row_vector c trace file v version))
+      joins = (nothing_seen, stands, (none_seen sites_max, refl), (λ s. ap (λ (w : List ℕ). part w s) (row_vector c trace file v version) ∙ max_none (part (vector_of (history c (entries trace)) file v.stamp) s) (part nothing_seen s) (none_seen sites_max s)), ap length (row_vector c trace file v version))
 
       sees_one : (q : Opening) → IsOrdinary q → SeesVersion c trace file (mode_of q) (Some v.stamp) v.vector
       sees_one how.Read k = tt
@@ -298,8 +297,8 @@ module _ (c : Config) (n : ℕ) (trace : List Line) (f : Frame) (tab : SyncTable
       sees_one (how.Make set kind) k = absurd k
 
       placed_one : (q : Opening) → IsOrdinary q → (ss : ℕ) → held_in c (entries trace) f.epoch ss file ≡ Some v.stamp → is_placed (history c (entries trace)) t d (mode_of q) file (Some v.stamp) ss ≡ true
-      placed_one how.Read k ss held = both (is_only ks (Some v.stamp)) _ (ap (λ (xs : List Stamp). is_only xs (Some v.stamp)) one ∙ stamp_own v.stamp) (ap (λ (s : Option Stamp). same_version s (Some v.stamp)) held ∙ stamp_own v.stamp)
-      placed_one how.Write k ss held = both (is_only ks (Some v.stamp)) _ (ap (λ (xs : List Stamp). is_only xs (Some v.stamp)) one ∙ stamp_own v.stamp) (ap (λ (s : Option Stamp). same_version s (Some v.stamp)) held ∙ stamp_own v.stamp)
+      placed_one how.Read k ss held = and_true (is_only ks (Some v.stamp)) _ (ap (λ (xs : List Stamp). is_only xs (Some v.stamp)) one ∙ stamp_own v.stamp) (ap (λ (s : Option Stamp). same_version s (Some v.stamp)) held ∙ stamp_own v.stamp)
+      placed_one how.Write k ss held = and_true (is_only ks (Some v.stamp)) _ (ap (λ (xs : List Stamp). is_only xs (Some v.stamp)) one ∙ stamp_own v.stamp) (ap (λ (s : Option Stamp). same_version s (Some v.stamp)) held ∙ stamp_own v.stamp)
       placed_one (how.Resolve site) k ss held = absurd k
       placed_one how.Mend k ss held = absurd k
       placed_one (how.Make set kind) k ss held = absurd k
@@ -350,7 +349,7 @@ module _ (c : Config) (n : ℕ) (trace : List Line) (f : Frame) (tab : SyncTable
   plain_gives (how.Make set kind) k why e = absurd k
 
   denied_fine : (q : Opening) → IsPlainOpening q → AsksOpen c trace f.epoch d request serial file q → row open_key (serial_key (serial_of us serial)) tab.opens ≡ None → (why : Refusal) → grant_refusal (mode_of q) os ks ≡ Some why → TableFine c n trace f tab.group (decides f tab us (o q) (unless_refused f us (o q) (file_row tab file.ino) (Some why)))
-  denied_fine q k asks none why e = refused_as c n trace f tab sv started us serial number process request file group_is call is_call q asks none why (plain_refuses c trace f.epoch d (serial_of us serial) file why q k) (both t.started _ is_started (plain_gives q k why e))
+  denied_fine q k asks none why e = refused_as c n trace f tab sv started us serial number process request file group_is call is_call q asks none why (plain_refuses c trace f.epoch d (serial_of us serial) file why q k) (and_true t.started _ is_started (plain_gives q k why e))
 
   decided_fine : (q : Opening) → IsPlainOpening q → AsksOpen c trace f.epoch d request serial file q → row open_key (serial_key (serial_of us serial)) tab.opens ≡ None → (known : Option FileRow) → file_row tab file.ino ≡ known → (g : Option Refusal) → grant_refusal (mode_of q) os ks ≡ g
       → TableFine c n trace f tab.group (decides f tab us (o q) (unless_refused f us (o q) known g))

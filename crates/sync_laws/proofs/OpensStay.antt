@@ -21,14 +21,14 @@ use Rattle.role_steps.specs.Views.{Frame, Told, Shown}
 use Rattle.role_steps.specs.declared.synchronizing.OpenRow.{OpenRow}
 use Rattle.role_steps.specs.declared.synchronizing.OpenStage.{OpenStage}
 use Rattle.role_steps.specs.declared.synchronizing.OpenStage.TheVariants as stage
-use Rattle.the_run.specs.Worlds.{Line}
+use Rattle.tree_laws.specs.of_the_run.Worlds.{Line}
 use Rattle.tree_model.specs.declared.accepted.Waiting.{Waiting}
 use Rattle.tree_model.specs.Calls.{call_named}
 use Rattle.tree_model.specs.Epochs.{members_of}
 use Rattle.tree_model.specs.Files.{kind_made, words_named}
 use Rattle.tree_model.specs.Opening.{sites_made}
 use Rattle.tree_model.specs.Packs.{is_good_set, making_site_in, packs_of}
-use Rattle.lawful_trace.specs.TreeRows.{granted_group}
+use Rattle.tree_laws.specs.of_lawful_trace.TreeRows.{granted_group}
 use Rattle.tree_laws.specs.Following.{MayTell, IsFollowed}
 use Rattle.tree_laws.specs.Frames.{VersionsStay}
 use Rattle.tree_laws.specs.Instances.{AsksOpen}

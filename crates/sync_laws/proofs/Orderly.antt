@@ -1,5 +1,7 @@
 -- A row of a file stays orderly: where a version more is known, and where a member more is noted.
 use Rattle.std.proofs.Common.{◌≡◌, ℕ, ◌==◌, Bool, true, false, not, ◌&&◌, List, Some, refl, sym, ◌∙◌, ap, subst}
+use Rattle.role_steps.proofs.of_plain_facts.Numbers.{equal}
+use Rattle.role_steps.proofs.of_plain_facts.Tests.{and_first, and_second, true_false}
 use Rattle.locus_ids.specs.declared.ids.Stamp.{Stamp}
 use Rattle.version_vector.specs.Counters.{all_le}
 use Rattle.version_vector.proofs.Counting.{AllLe-from_test, AllLe-through, all_le-from_AllLe}
@@ -11,11 +13,9 @@ use Rattle.role_steps.specs.declared.synchronizing.FileRow.{FileRow}
 use Rattle.role_steps.specs.declared.synchronizing.Holding.{Holding}
 use Rattle.role_steps.specs.declared.synchronizing.VersionRow.{VersionRow}
 use Rattle.role_steps.proofs.Rows.{row_other, row_same}
-use Rattle.the_run.proofs.InsideSync.{every_row}
+use Rattle.tree_laws.proofs.of_the_run.InsideSync.{every_row}
 use Rattle.tree_laws.specs.Tables.{HasVersion, IsOrderly}
 use Rattle.tree_laws.proofs.Boots.{every_both}
-use Rattle.tree_laws.proofs.Names.{test_same, true_false}
-use Rattle.order_laws.proofs.Alone.{first_of, second_of}
 use Rattle.sync_laws.proofs.Highest.{IsOnly, ascends_row, tops_row}
 use Rattle.sync_laws.proofs.Rows.{row_every, row_key_is}
 
@@ -35,10 +35,10 @@ le_through : (a b d : List ℕ) → all_le a b ≡ true → all_le b d ≡ true 
 le_through a b d e k = all_le-from_AllLe a d (AllLe-through a b d (AllLe-from_test a b e) (AllLe-from_test b d k))
 
 pub below_through : (a b d : List ℕ) → is_below a b ≡ true → is_below b d ≡ true → is_below a d ≡ true
-below_through a b d e k = over (all_le a d) (le_through a b d (first_of (all_le a b) _ e) (first_of (all_le b d) _ k)) (all_le d a) refl
+below_through a b d e k = over (all_le a d) (le_through a b d (and_first (all_le a b) _ e) (and_first (all_le b d) _ k)) (all_le d a) refl
   where
     over : (x : Bool) → x ≡ true → (y : Bool) → all_le d a ≡ y → x && not y ≡ true
-    over x is true h = absurd (no (all_le d b) (le_through d a b h (first_of (all_le a b) _ e)) (second_of (all_le b d) _ k))
+    over x is true h = absurd (no (all_le d b) (le_through d a b h (and_first (all_le a b) _ e)) (and_second (all_le b d) _ k))
       where
         no : (z : Bool) → z ≡ true → not z ≡ true → ⊥
         no true p q = true_false (sym q)
@@ -64,7 +64,7 @@ version_orderly v r k only = record {
       where
         over : (b : Bool) → (version_key v == stamp_key h.stamp) ≡ b → HasVersion (with_version v r) h
         over true e =
-            let key_is : version_key v ≡ stamp_key h.stamp = test_same (version_key v) (stamp_key h.stamp) e in
+            let key_is : version_key v ≡ stamp_key h.stamp = equal (version_key v) (stamp_key h.stamp) e in
             let same : n.0 ≡ v = row_every (IsOnly version_key v) version_key (stamp_key h.stamp) r.versions n.0 only n.1 (row_key_is version_key (stamp_key h.stamp) r.versions n.0 n.1 ∙ sym key_is) in
             (v, subst (λ (q : ℕ). row version_key q (with_row version_key v r.versions) ≡ Some v) key_is (row_same version_key v r.versions), subst (λ (w : VersionRow). w.stamp ≡ h.stamp) same n.2)
         over false e = (n.0, row_other version_key v (stamp_key h.stamp) r.versions e ∙ n.1, n.2)

@@ -2,6 +2,9 @@
 -- holds it; or why there is none.
 use Rattle.std.proofs.Common.{◌≡◌, ℕ, ◌==◌, Bool, true, false, ◌&&◌, ◌||◌, cond, List, [], ◌∷◌, filter, map, Option, Some, None, refl, sym, ap, ◌∙◌, subst, inl, inr, arith}
 use Rattle.std.proofs.lemmas.Bool.Decides.{nat_tests}
+use Rattle.role_steps.proofs.of_plain_facts.Numbers.{equal}
+use Rattle.role_steps.proofs.of_plain_facts.Options.{none_some, some_same}
+use Rattle.role_steps.proofs.of_plain_facts.Tests.{true_false}
 use Rattle.locus_ids.specs.declared.ids.Stamp.{Stamp}
 use Rattle.commit_graph.specs.Versions.{same_stamp}
 use Rattle.trace_book.specs.declared.operation.What.{What}
@@ -15,12 +18,11 @@ use Rattle.role_steps.specs.Views.{Frame}
 use Rattle.role_steps.specs.declared.synchronizing.FileRow.{FileRow}
 use Rattle.role_steps.specs.declared.synchronizing.Holding.{Holding}
 use Rattle.role_steps.specs.declared.synchronizing.VersionRow.{VersionRow}
-use Rattle.the_run.specs.Kept.{Among}
+use Rattle.tree_laws.specs.of_the_run.Kept.{Among}
 use Rattle.tree_model.specs.Given.{only_kept, served_by}
 use Rattle.tree_model.specs.Same.{is_served}
 use Rattle.tree_model.specs.State.{has_stamp}
 use Rattle.tree_laws.specs.Tables.{HasHolder, row_stamp}
-use Rattle.tree_laws.proofs.Names.{some_is, true_false, test_own, test_same}
 use Rattle.order_laws.proofs.Standing.{same_stamp_eq}
 
 pub stamp_own : (s : Stamp) → same_stamp s s ≡ true
@@ -28,21 +30,12 @@ stamp_own s = grind (arith, nat_tests)
 
 -- ---- a holder is chosen ----
 
-among_own : (s : ℕ) (ss : List ℕ) → Among s ss → is_among s ss ≡ true
-among_own s [] a = absurd a
-among_own s (x ∷ xs) (inl e) = ap (λ (b : Bool). b || is_among s xs) (subst (λ (y : ℕ). (y == s) ≡ true) e (test_own s))
-among_own s (x ∷ xs) (inr a) = over (among_own s xs a) (x == s)
-  where
-    over : is_among s xs ≡ true → (b : Bool) → b || is_among s xs ≡ true
-    over later true = refl
-    over later false = later
-
 pub among_is : (s : ℕ) (ss : List ℕ) → is_among s ss ≡ true → Among s ss
 among_is s [] e = absurd (true_false (sym e))
 among_is s (x ∷ xs) e = over (x == s) refl e (among_is s xs)
   where
     over : (b : Bool) → (x == s) ≡ b → b || is_among s xs ≡ true → (is_among s xs ≡ true → Among s xs) → Among s (x ∷ xs)
-    over true k e later = inl (sym (test_same x s k))
+    over true k e later = inl (sym (equal x s k))
     over false k e later = inr (later e)
 
 pub record IsChosen (us css : ℕ) (holders : List ℕ) : Type 0 where
@@ -60,15 +53,12 @@ holder_chosen us css s (h ∷ hs) a = over (is_among us (h ∷ hs)) (is_among cs
     over false true e k = record { site = css; chosen = ap (λ (b : Bool). cond b (Some us) (cond (is_among css (h ∷ hs)) (Some css) (Some h))) e ∙ ap (λ (b : Bool). cond b (Some css) (Some h)) k; among = among_is css (h ∷ hs) k }
     over false false e k = record { site = h; chosen = ap (λ (b : Bool). cond b (Some us) (cond (is_among css (h ∷ hs)) (Some css) (Some h))) e ∙ ap (λ (b : Bool). cond b (Some css) (Some h)) k; among = inl refl }
 
-none_is : (s : ℕ) → ◌≡◌ {A = Option ℕ} None (Some s) → ⊥
-none_is s e = cc
-
 -- who is chosen is a holder
 pub chosen_among : (us css : ℕ) (holders : List ℕ) (s : ℕ) → chosen_site us css holders ≡ Some s → Among s holders
-chosen_among us css [] s e = absurd (none_is s e)
+chosen_among us css [] s e = absurd (none_some s e)
 chosen_among us css (h ∷ hs) s e =
     let one : IsChosen us css (h ∷ hs) = holder_chosen us css h (h ∷ hs) (inl refl) in
-    subst (λ (x : ℕ). Among x (h ∷ hs)) (some_is one.site s (sym one.chosen ∙ e)) one.among
+    subst (λ (x : ℕ). Among x (h ∷ hs)) (some_same one.site s (sym one.chosen ∙ e)) one.among
 
 among_filter : {A : Type 0} (p : A → Bool) (x : A) (xs : List A) → Among x xs → p x ≡ true → Among x (filter p xs)
 among_filter p x [] a k = absurd a

@@ -1,5 +1,6 @@
 -- What a table has stays when a line is told that comes as it may and doesn't change it.
 use Rattle.std.proofs.Common.{◌≡◌, ℕ, ◌==◌, Bool, true, false, ◌&&◌, List, Option, Some, None, refl, sym, ◌∙◌, inl, inr}
+use Rattle.role_steps.proofs.of_plain_facts.Numbers.{equal}
 use Rattle.locus_ids.specs.declared.config.Config.{Config}
 use Rattle.locus_ids.specs.declared.ids.CallId.{CallId}
 use Rattle.locus_ids.specs.declared.ids.EpochId.{EpochId}
@@ -11,7 +12,7 @@ use Rattle.role_steps.specs.declared.synchronizing.Early.{Early}
 use Rattle.role_steps.specs.declared.synchronizing.FileRow.{FileRow}
 use Rattle.role_steps.specs.declared.synchronizing.LastLook.{LastLook}
 use Rattle.role_steps.specs.declared.synchronizing.SyncTable.{SyncTable}
-use Rattle.the_run.specs.Worlds.{Line}
+use Rattle.tree_laws.specs.of_the_run.Worlds.{Line}
 use Rattle.tree_model.specs.declared.accepted.Waiting.{Waiting}
 use Rattle.tree_model.specs.Calls.{call_named}
 use Rattle.tree_model.specs.Histories.{history}
@@ -26,7 +27,7 @@ use Rattle.tree_laws.proofs.Boots.{every_both}
 use Rattle.tree_laws.proofs.Carried.{packet_stays}
 use Rattle.tree_laws.proofs.CarriedLooks.{More}
 use Rattle.tree_laws.proofs.Kinship.{tree_epoch_is, tree_group_is}
-use Rattle.tree_laws.proofs.Names.{same_epoch_eq, test_same}
+use Rattle.tree_laws.proofs.Names.{same_epoch_eq}
 use Rattle.tree_laws.proofs.Versions.{versions_stay}
 use Rattle.sync_laws.specs.Staying.{Starts, Looks, Names, Releases, TouchesTable, FilesStay}
 use Rattle.sync_laws.proofs.Trees.{openers_same}
@@ -44,7 +45,7 @@ module _ (c : Config) (n : ℕ) (older : List Line) (f : Frame) (group : ℕ) wh
   other_look at d file us process (Some w) apart = over (same_epoch at f.epoch) (file.group == group) refl refl
     where
       over : (a b : Bool) → same_epoch at f.epoch ≡ a → (file.group == group) ≡ b → a && (b && ((d.site == us) && (w.process == process))) ≡ false
-      over true true p q = absurd (apart (same_epoch_eq at f.epoch p, test_same file.group group q))
+      over true true p q = absurd (apart (same_epoch_eq at f.epoch p, equal file.group group q))
       over true false p q = refl
       over false b p q = refl
 

@@ -1,6 +1,8 @@
 -- What a record that isn't of a group's table leaves in the tree of the epoch and group: its start, the versions that it knows,
 -- and who has its files open.
 use Rattle.std.proofs.Common.{◌≡◌, ℕ, ◌==◌, Bool, true, false, ◌&&◌, cond, List, [], ◌∷◌, ◌++◌, filter, map, refl, sym, ap, ◌∙◌}
+use Rattle.role_steps.proofs.of_plain_facts.Numbers.{equal}
+use Rattle.role_steps.proofs.of_plain_facts.Tests.{and_first, and_second}
 use Rattle.locus_ids.specs.declared.ids.EpochId.{EpochId}
 use Rattle.locus_ids.specs.declared.ids.FileId.{FileId}
 use Rattle.locus_ids.specs.declared.ids.Serial.{Serial}
@@ -21,8 +23,7 @@ use Rattle.tree_model.specs.Packs.{has_pack}
 use Rattle.tree_model.specs.State.{TreeState, is_granted_here, is_inside, is_make, is_named, is_writer, opener_of, openers, with_all}
 use Rattle.tree_model.specs.Tree.{acted, grant_of, granted, joined, left, next, once_acted, once_committed, opened, released, with_root, without_make}
 use Rattle.tree_laws.specs.Tables.{named_instance, named_openers, tree_openers}
-use Rattle.tree_laws.proofs.Names.{same_epoch_eq, test_same}
-use Rattle.order_laws.proofs.Alone.{first_of, second_of}
+use Rattle.tree_laws.proofs.Names.{same_epoch_eq}
 use Rattle.sync_laws.specs.Staying.{Starts, Names, Releases}
 
 -- ---- two ways ----
@@ -62,17 +63,6 @@ openers_by_name t s file e =
     ∙ (ap (λ (os : List (Serial × Opener)). map (λ (p : Serial × Opener). p.1) os) e
     ∙ seconds (λ (x : Instance). x.grant.inst) opener_of (filter (λ (x : Instance). same_file x.grant.file file) s.instances))
 
-firsts : {A B C : Type 0} (f : A → B) (g : A → C) (xs : List A) → map (λ (p : B × C). p.0) (map (λ (x : A). (f x, g x)) xs) ≡ map f xs
-firsts f g [] = refl
-firsts {B = B} f g (x ∷ xs) = ap (λ (ys : List B). f x ∷ ys) (firsts f g xs)
-
--- and the names are the same
-pub names_by_name : (t : SyncTable) (s : TreeState) (file : FileId) → named_openers t file ≡ tree_openers s file → map (λ (r : OpenRow). r.inst) (filter (is_open_on file) t.opens) ≡ map (λ (x : Instance). x.grant.inst) (filter (λ (x : Instance). same_file x.grant.file file) s.instances)
-names_by_name t s file e =
-    sym (firsts (λ (r : OpenRow). r.inst) row_opener (filter (is_open_on file) t.opens))
-    ∙ (ap (λ (os : List (Serial × Opener)). map (λ (p : Serial × Opener). p.0) os) e
-    ∙ firsts (λ (x : Instance). x.grant.inst) opener_of (filter (λ (x : Instance). same_file x.grant.file file) s.instances))
-
 -- ---- record by record ----
 
 -- a site that joins the epoch of the tree has no pack of its group
@@ -83,7 +73,7 @@ JoinsWithout t _ = Unit {0}
 module _ (h : List Version) (t : TreeState) (f : Frame) (group : ℕ) (epoch_is : t.epoch ≡ f.epoch) (group_is : t.group ≡ group) where
   -- what is of the epoch and group of the tree is of the table
   its : (e : EpochId) (g : ℕ) → same_epoch e t.epoch && (g == t.group) ≡ true → (e ≡ f.epoch) × (g ≡ group)
-  its e g b = (same_epoch_eq e t.epoch (first_of (same_epoch e t.epoch) _ b) ∙ epoch_is, test_same g t.group (second_of (same_epoch e t.epoch) _ b) ∙ group_is)
+  its e g b = (same_epoch_eq e t.epoch (and_first (same_epoch e t.epoch) _ b) ∙ epoch_is, equal g t.group (and_second (same_epoch e t.epoch) _ b) ∙ group_is)
 
   pub started_same : (r : Record) → (Starts f group (Shown r) → ⊥) → (next h r t).started ≡ t.started
   started_same (says.Join s e m) apart = over (same_epoch e t.epoch)
@@ -125,7 +115,7 @@ module _ (h : List Version) (t : TreeState) (f : Frame) (group : ℕ) (epoch_is 
       inner false none = refl
 
       over : (b : Bool) → same_epoch e t.epoch ≡ b → tree_openers (cond b (granted h (grant_of t call i m g ss) stamp t) t) file ≡ tree_openers t file
-      over true b = inner (g.group == t.group) (λ k. unnamed (same_epoch_eq e t.epoch b ∙ epoch_is, test_same g.group t.group k ∙ group_is))
+      over true b = inner (g.group == t.group) (λ k. unnamed (same_epoch_eq e t.epoch b ∙ epoch_is, equal g.group t.group k ∙ group_is))
       over false b = refl
   openers_same (says.Refuse e call request i m g why) file unnamed held = same_if (λ (u : TreeState). tree_openers u file) (same_epoch e t.epoch && ((g.group == t.group) && is_make m)) (record t { makes = without_make call t.makes }) t (λ b. refl)
   openers_same (says.Act e i n o result) file unnamed held = same_if (λ (u : TreeState). tree_openers u file) (same_epoch e t.epoch && is_granted_here t i) (acted h i o result t) t

@@ -1,11 +1,12 @@
 -- The order of the looks of a process, and its row in a table.
 use Rattle.std.proofs.Common.{◌≡◌, ℕ, ◌+◌, ◌*◌, ◌<◌, ◌==◌, Bool, true, false, ◌&&◌, refl, sym, ◌∙◌, inl, inr, arith}
 use Rattle.std.proofs.lemmas.Bool.Decides.{nat_tests}
+use Rattle.role_steps.proofs.of_plain_facts.Numbers.{equal}
+use Rattle.role_steps.proofs.of_plain_facts.Tests.{true_false}
 use Rattle.role_steps.specs.Looks.{LookRequest, is_look_before, is_same_look}
 use Rattle.role_steps.specs.Views.{process_key}
 use Rattle.role_steps.specs.declared.synchronizing.LastLook.{LastLook}
 use Rattle.tree_laws.specs.Processes.{IsUpTo}
-use Rattle.tree_laws.proofs.Names.{true_false, test_same}
 
 -- a look that is neither before the last one nor that one isn't up to it
 pub later_look : (l : LookRequest) (last : LastLook) → is_look_before l last ≡ false → is_same_look l last ≡ false → IsUpTo (record { call = l.call; request = l.request; times = l.take }) (record { call = last.call; request = last.request; times = last.take }) → ⊥
@@ -21,7 +22,7 @@ pub keys_differ : (a p b q : ℕ) → p < 256 → q < 256 → (a == b) && (p == 
 keys_differ a p b q small low e = over (process_key a p == process_key b q) refl
   where
     over : (x : Bool) → (process_key a p == process_key b q) ≡ x → x ≡ false
-    over true k = absurd (true_false (sym (both (site_is (test_same (process_key a p) (process_key b q) k)) (number_is (test_same (process_key a p) (process_key b q) k))) ∙ e))
+    over true k = absurd (true_false (sym (both (site_is (equal (process_key a p) (process_key b q) k)) (number_is (equal (process_key a p) (process_key b q) k))) ∙ e))
       where
         site_is : a * 256 + p ≡ b * 256 + q → a ≡ b
         site_is m = omega (arith, small, low, m)

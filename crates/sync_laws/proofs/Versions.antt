@@ -6,7 +6,7 @@ use Rattle.locus_ids.specs.declared.ids.Stamp.{Stamp}
 use Rattle.commit_graph.specs.Vectors.{vector_of}
 use Rattle.commit_graph.specs.Versions.{content_of}
 use Rattle.role_steps.specs.declared.synchronizing.VersionRow.{VersionRow}
-use Rattle.the_run.specs.Worlds.{Line}
+use Rattle.tree_laws.specs.of_the_run.Worlds.{Line}
 use Rattle.tree_model.specs.Files.{HeldVersion}
 use Rattle.tree_model.specs.Histories.{history}
 use Rattle.tree_laws.specs.Instances.{Stands}

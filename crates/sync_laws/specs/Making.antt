@@ -1,5 +1,5 @@
 -- Where a make goes: the table's choice is the tree's.
-use Rattle.std.specs.Prelude.{ℕ, ◌≡◌, ◌<◌, ◌^◌, ◌==◌, cond, List, Option, None}
+use Rattle.std.specs.Prelude.{ℕ, ◌≡◌, ◌<◌, ◌==◌, cond, List, Option, None}
 use Rattle.locus_ids.specs.Sites.{both}
 use Rattle.locus_ids.specs.declared.config.Config.{Config}
 use Rattle.locus_ids.specs.declared.ids.CallId.{CallId}
@@ -8,10 +8,11 @@ use Rattle.locus_ids.specs.declared.ids.FileId.{FileId}
 use Rattle.locus_ids.specs.declared.ids.Kind.{Kind}
 use Rattle.locus_ids.specs.declared.sites.Members.{Members}
 use Rattle.locus_ids.specs.declared.sites.Sites.{Sites}
+use Rattle.locus_ids.specs.Sizes.{set_span}
 use Rattle.wire_messages.specs.declared.body.Opening.TheVariants as how
 use Rattle.role_steps.specs.Versions.{chosen_site}
 use Rattle.role_steps.specs.Views.{Frame, members_of, pack_sites}
-use Rattle.the_run.specs.Worlds.{Line}
+use Rattle.tree_laws.specs.of_the_run.Worlds.{Line}
 use Rattle.tree_model.specs.Opening.{making_set}
 use Rattle.tree_model.specs.Packs.{is_good_set, making_site_in}
 use Rattle.tree_model.specs.Tree.{tree_of}
@@ -29,4 +30,4 @@ tree_place c group members own set = cond (is_good_set c group members set) (mak
 -- makes are asked as the words of their calls say, for some of the sixteen sites
 pub record MakesAreSaid (c : Config) (trace : List Line) : Type 0 where
   pub said : (e : EpochId) (d : CallId) (request serial : ℕ) (file : FileId) (set : Sites) (k : Kind) → AsksOpen c trace e d request serial file (how.Make set k) → making_set (tree_of c e file.group (entries trace)) d ≡ set
-  pub fits : (e : EpochId) (d : CallId) (request serial : ℕ) (file : FileId) (set : Sites) (k : Kind) → AsksOpen c trace e d request serial file (how.Make set k) → set.0 < 2 ^ 16
+  pub fits : (e : EpochId) (d : CallId) (request serial : ℕ) (file : FileId) (set : Sites) (k : Kind) → AsksOpen c trace e d request serial file (how.Make set k) → set.0 < set_span

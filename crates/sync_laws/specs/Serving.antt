@@ -1,12 +1,13 @@
 -- What a synchronization site serves by: its table by the lines told so far, its frame, and what the laws of processes and of the
 -- order of versions give.
-use Rattle.std.specs.Prelude.{ℕ, ◌≡◌, ◌⊎◌, ◌<◌, true, List, [], ◌∷◌, None, Some}
+use Rattle.std.specs.Prelude.{ℕ, ◌≡◌, ◌⊎◌, ◌<◌, true, List, [], ◌∷◌, None, Some, ◌+◌}
 use Rattle.locus_ids.specs.declared.config.Config.{Config}
 use Rattle.locus_ids.specs.declared.ids.CallId.{CallId}
 use Rattle.locus_ids.specs.declared.ids.EpochId.{EpochId}
 use Rattle.locus_ids.specs.declared.ids.FileId.{FileId}
 use Rattle.locus_ids.specs.declared.ids.Serial.{Serial}
 use Rattle.locus_ids.specs.declared.ids.Stamp.{Stamp}
+use Rattle.locus_ids.specs.Sizes.{sites_max}
 use Rattle.commit_graph.specs.Grants.{is_read}
 use Rattle.trace_book.specs.declared.operation.What.TheVariants as what
 use Rattle.call_rules.specs.declared.want.Want.TheVariants as want
@@ -14,7 +15,7 @@ use Rattle.wire_messages.specs.declared.body.Opening.{Opening}
 use Rattle.wire_messages.specs.declared.body.Opening.TheVariants as how
 use Rattle.role_steps.specs.Views.{Frame, Told}
 use Rattle.role_steps.specs.declared.synchronizing.SyncTable.{SyncTable}
-use Rattle.the_run.specs.Worlds.{Line}
+use Rattle.tree_laws.specs.of_the_run.Worlds.{Line}
 use Rattle.tree_model.specs.declared.accepted.Waiting.{Waiting}
 use Rattle.tree_model.specs.declared.instance.Instance.{Instance}
 use Rattle.tree_model.specs.Calls.{call_named}
@@ -23,7 +24,7 @@ use Rattle.tree_model.specs.Opening.{site_named}
 use Rattle.tree_model.specs.Packs.{sync_site}
 use Rattle.tree_model.specs.State.{has_stamp}
 use Rattle.tree_model.specs.Tree.{kept_in}
-use Rattle.lawful_trace.specs.TreeRows.{IsCallIn}
+use Rattle.tree_laws.specs.of_lawful_trace.TreeRows.{IsCallIn}
 use Rattle.tree_laws.specs.Calls.{Asks}
 use Rattle.tree_laws.specs.Doing.{FrameFact, IsOfTable}
 use Rattle.tree_laws.specs.Following.{MayTell, IsFollowed}
@@ -39,7 +40,7 @@ pub record CallsAreKnown (c : Config) (trace : List Line) : Type 0 where
   -- their processes have numbers of one byte
   pub small : (d : CallId) (w : Waiting) → call_named (entries trace) d ≡ Some w → w.process < 256
   -- and their sites are some of the sixteen
-  pub narrow : (d : CallId) (w : Waiting) → call_named (entries trace) d ≡ Some w → d.site < 17
+  pub narrow : (d : CallId) (w : Waiting) → call_named (entries trace) d ≡ Some w → d.site < sites_max + 1
   -- process 0 is that of the system, which makes nothing but mends
   pub only : OnlyMends trace
   -- a file that is opened has a number: only one that is to be made has none yet

@@ -5,7 +5,7 @@ use Rattle.locus_ids.specs.declared.config.Config.{Config}
 use Rattle.locus_ids.specs.declared.ids.FileId.{FileId}
 use Rattle.trace_book.specs.declared.record.Record.TheVariants as says
 use Rattle.role_steps.specs.Views.{Frame, Told, Shown}
-use Rattle.the_run.specs.Worlds.{Line}
+use Rattle.tree_laws.specs.of_the_run.Worlds.{Line}
 use Rattle.tree_laws.specs.Frames.{AllStay}
 use Rattle.tree_laws.specs.Instances.{IsStarted, held_in}
 use Rattle.tree_laws.specs.Printed.{entries}

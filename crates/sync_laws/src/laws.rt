@@ -2,7 +2,7 @@ ghost use Rattle.std.specs.Prelude.{ℕ, ◌≡◌, ◌<◌, true, List, ◌∷�
 ghost use Rattle.locus_ids.specs.declared.config.Config.{Config};
 ghost use Rattle.role_steps.specs.Views.{Frame, Told};
 ghost use Rattle.role_steps.specs.declared.synchronizing.SyncTable.{SyncTable};
-ghost use Rattle.the_run.specs.Worlds.{Line};
+ghost use Rattle.tree_laws.specs.of_the_run.Worlds.{Line};
 ghost use Rattle.tree_laws.specs.Following.{MayTell, IsFollowed};
 ghost use Rattle.tree_laws.specs.Tables.{TableFact};
 ghost use Rattle.role_steps.specs.Looks.{LookRequest};
@@ -13,7 +13,7 @@ ghost use Rattle.locus_ids.specs.declared.ids.EpochId.{EpochId};
 ghost use Rattle.locus_ids.specs.declared.sites.Members.{Members};
 ghost use Rattle.tree_model.specs.Epochs.{epoch_of, has_joined, members_of};
 ghost use Rattle.tree_model.specs.Packs.{boot_in};
-ghost use Rattle.lawful_trace.specs.TreeRows.{IsCallIn};
+ghost use Rattle.tree_laws.specs.of_lawful_trace.TreeRows.{IsCallIn};
 ghost use Rattle.tree_laws.specs.Printed.{entries};
 ghost use Rattle.locus_ids.specs.declared.ids.FileId.{FileId};
 ghost use Rattle.locus_ids.specs.declared.ids.Kind.{Kind};

@@ -9,7 +9,7 @@ use site_tables::take;
 use std::alloc::Global;
 use std::process::{Abort, Termination};
 use std::test::Fail;
-use trace_book::render;
+use trace_text::render;
 use version_vector::Vector;
 use wire_messages::{Body, Outbox, ReportedCopies, ReportedCopy};
 

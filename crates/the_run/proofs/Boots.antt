@@ -3,8 +3,8 @@ use Rattle.std.proofs.Common.{◌≡◌, ◌≢◌, ◌≤◌, ℕ, zero, suc, �
 use Rattle.std.proofs.lemmas.Bool.Decides.{nat_tests}
 use Rattle.locus_ids.specs.declared.config.Config.{Config}
 use Rattle.locus_ids.specs.declared.ids.FileId.{FileId}
-use Rattle.schedule_lines.specs.declared.line.ScheduleLine.{ScheduleLine}
-use Rattle.wire_messages.specs.declared.packet.Packet.{Packet}
+use Rattle.disk_calls.specs.of_schedule_lines.declared.line.ScheduleLine.{ScheduleLine}
+use Rattle.role_steps.specs.of_wire_messages.declared.packet.Packet.{Packet}
 use Rattle.role_steps.specs.Own.{Every, IsOwn, Sends}
 use Rattle.role_steps.specs.Views.{SiteView, Told, DiskWrite, Outcome, Receives}
 use Rattle.role_steps.proofs.Sending.{every_append}
@@ -142,7 +142,7 @@ acts_since n s v o first w here own g =
     acts_cases (Since first) n s v o w
     (runs_since n s v o (λ now. now) first w (puts_rises s (Running v) (Running o.view) w here same) refl own g)
     (λ a. runs_since n s v o (arms a) first w (puts_rises s (Running v) (Running o.view) (arms a w) here same) refl own g)
-    (λ d a e. happened_since n [] (cut_told s d a.how a.left) (stops_with s (cut_disk v.boot v.store d a.how a.left)) first w (puts_rises s (Running v) (Stopped (cut_disk v.boot v.store d a.how a.left)) w here (omega arith)) refl tt g)
+    (λ d a e. happened_since n [] (cut_told s v.store d a.how a.left) (stops_with s (cut_disk v.boot v.store d a.how a.left)) first w (puts_rises s (Running v) (Stopped (cut_disk v.boot v.store d a.how a.left)) w here (omega arith)) refl tt g)
   where
     same : v.boot ≤ o.view.boot
     same = let e : o.view.boot ≡ v.boot = own.view in omega (arith, e)
@@ -195,4 +195,4 @@ acts_send_as n s v o w own =
     acts_cases (SendsAs s v.boot w) n s v o w
     (happened_as s v.boot n o.sent o.told (λ now. puts s (Running o.view) now) w refl own.sent)
     (λ a. happened_as s v.boot n o.sent o.told (λ now. puts s (Running o.view) (arms a now)) w refl own.sent)
-    (λ d a e. happened_as s v.boot n [] (cut_told s d a.how a.left) (stops_with s (cut_disk v.boot v.store d a.how a.left)) w refl tt)
+    (λ d a e. happened_as s v.boot n [] (cut_told s v.store d a.how a.left) (stops_with s (cut_disk v.boot v.store d a.how a.left)) w refl tt)

@@ -1,9 +1,10 @@
 -- An event as the world takes it: within the limits it changes the world and adds packets and records, else nothing.
 use Rattle.std.proofs.Common.{◌≡◌, ◌≢◌, ℕ, ◌+◌, ◌-◌, nat_lt, Bool, true, false, List, [], ◌∷◌, ◌++◌, length, Option, Some, None, refl, sym, ◌∙◌, ap, append_assoc}
-use Rattle.wire_messages.specs.declared.packet.Packet.{Packet}
+use Rattle.role_steps.proofs.of_plain_facts.Numbers.{apart_test}
+use Rattle.role_steps.specs.of_wire_messages.declared.packet.Packet.{Packet}
 use Rattle.role_steps.specs.Tables.{total}
 use Rattle.role_steps.specs.Views.{SiteView, Told, DiskWrite, Outcome}
-use Rattle.role_steps.proofs.Rows.{differ, row_other, row_same}
+use Rattle.role_steps.proofs.Rows.{row_other, row_same}
 use Rattle.the_run.specs.Disks.{Disk, Armed, write_calls, cut_disk}
 use Rattle.the_run.specs.Worlds.{World, Limit, Place, Running, Numbered, Line, place_at, place_in, place_site, script_of, happened, happened_of, unless_over, limit_passed, with_numbered, numbered_from, newest_onto, told_onto, told_size, packet_size, puts, arms, stops_with, cut_told, cut_event, runs_on, spends, writes_of, acts_of, acts}
 
@@ -32,7 +33,7 @@ pub acts_keeps : (P : World → Type 0) (n s : ℕ) (v : SiteView) (o : Outcome 
 acts_keeps P n s v o w plain armed cut = by_written o.written
   where
     by_left : (d : DiskWrite) (a : Armed) (b : Bool) → P (elim b [ true ↦ cut_event n s v d a w | false ↦ runs_on n s o (spends a (a.left - write_calls v.store d)) w ])
-    by_left d a true = cut [] (cut_told s d a.how a.left) (cut_disk v.boot v.store d a.how a.left)
+    by_left d a true = cut [] (cut_told s v.store d a.how a.left) (cut_disk v.boot v.store d a.how a.left)
     by_left d a false = armed o.sent o.told (Running o.view) (record a { left = a.left - write_calls v.store d })
 
     by_script : (d : DiskWrite) (a : Option Armed) → P (writes_of n s v o d a w)
@@ -46,7 +47,7 @@ acts_keeps P n s v o w plain armed cut = by_written o.written
 -- ---- places ----
 
 pub puts_other : (s t : ℕ) (p : Place) (w : World) → s ≢ t → place_at (puts s p w) t ≡ place_at w t
-puts_other s t p w ne = ap place_in (row_other place_site (record { site = s; place = p }) t w.places (differ s t ne))
+puts_other s t p w ne = ap place_in (row_other place_site (record { site = s; place = p }) t w.places (apart_test s t ne))
 
 pub puts_same : (s : ℕ) (p : Place) (w : World) → place_at (puts s p w) s ≡ Some p
 puts_same s p w = ap place_in (row_same place_site (record { site = s; place = p }) w.places)

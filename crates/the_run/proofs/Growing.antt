@@ -1,8 +1,8 @@
 -- A later world has all packets and records of an earlier one, and an event touches no other site.
 use Rattle.std.proofs.Common.{◌≡◌, ◌≤◌, ℕ, ◌+◌, List, [], ◌∷◌, ◌++◌, length, Some, None, refl, sym, ◌∙◌, ap, subst, append_assoc, arith}
 use Rattle.locus_ids.specs.declared.config.Config.{Config}
-use Rattle.schedule_lines.specs.declared.line.ScheduleLine.{ScheduleLine}
-use Rattle.wire_messages.specs.declared.packet.Packet.{Packet}
+use Rattle.disk_calls.specs.of_schedule_lines.declared.line.ScheduleLine.{ScheduleLine}
+use Rattle.role_steps.specs.of_wire_messages.declared.packet.Packet.{Packet}
 use Rattle.role_steps.specs.Views.{SiteView, Told, Outcome, Receives}
 use Rattle.the_run.specs.Disks.{Booted, Whole, CutOff, boots}
 use Rattle.the_run.specs.Steps.{step}

@@ -7,25 +7,25 @@ use Rattle.locus_ids.specs.declared.ids.Stamp.{Stamp}
 use Rattle.locus_ids.specs.declared.ids.Mode.{Mode}
 use Rattle.locus_ids.specs.declared.ids.Mode.TheVariants as mode
 use Rattle.locus_ids.specs.declared.refusal.Refusal.TheVariants as refusal
-use Rattle.commit_graph.specs.Versions.{same_stamp}
-use Rattle.trace_book.specs.declared.call.Call.{Call}
-use Rattle.trace_book.specs.declared.operation.Op.{Op}
-use Rattle.trace_book.specs.declared.operation.Op.TheVariants as op
-use Rattle.trace_book.specs.declared.operation.Outcome.{Outcome as Result}
-use Rattle.trace_book.specs.declared.operation.Outcome.TheVariants as result
-use Rattle.call_rules.specs.Descriptors.{beginning}
-use Rattle.call_rules.specs.declared.answer.Answer.{Answer}
-use Rattle.call_rules.specs.declared.want.Want.{Want}
-use Rattle.call_rules.specs.declared.want.Want.TheVariants as want
-use Rattle.file_effects.specs.Effects.{Effect}
-use Rattle.file_effects.specs.Works.{counted}
-use Rattle.wire_messages.specs.declared.body.Body.TheVariants as body
-use Rattle.wire_messages.specs.declared.body.CloseAnswer.{CloseAnswer}
-use Rattle.wire_messages.specs.declared.body.CloseAnswer.TheVariants as closing
-use Rattle.wire_messages.specs.declared.body.LookAnswer.{LookAnswer}
-use Rattle.wire_messages.specs.declared.body.LookAnswer.TheVariants as looked
-use Rattle.wire_messages.specs.declared.body.Granted.{Granted}
-use Rattle.wire_messages.specs.declared.body.Granted.TheVariants as granted
+use Rattle.role_steps.specs.of_commit_graph.Versions.{same_stamp}
+use Rattle.role_steps.specs.of_trace_book.declared.call.Call.{Call}
+use Rattle.role_steps.specs.of_trace_book.declared.operation.Op.{Op}
+use Rattle.role_steps.specs.of_trace_book.declared.operation.Op.TheVariants as op
+use Rattle.role_steps.specs.of_trace_book.declared.operation.Outcome.{Outcome as Result}
+use Rattle.role_steps.specs.of_trace_book.declared.operation.Outcome.TheVariants as result
+use Rattle.role_steps.specs.of_call_rules.Descriptors.{beginning}
+use Rattle.role_steps.specs.of_call_rules.declared.answer.Answer.{Answer}
+use Rattle.role_steps.specs.of_call_rules.declared.want.Want.{Want}
+use Rattle.role_steps.specs.of_call_rules.declared.want.Want.TheVariants as want
+use Rattle.role_steps.specs.of_file_effects.Effects.{Effect}
+use Rattle.role_steps.specs.of_file_effects.Works.{counted}
+use Rattle.role_steps.specs.of_wire_messages.declared.body.Body.TheVariants as body
+use Rattle.role_steps.specs.of_wire_messages.declared.body.CloseAnswer.{CloseAnswer}
+use Rattle.role_steps.specs.of_wire_messages.declared.body.CloseAnswer.TheVariants as closing
+use Rattle.role_steps.specs.of_wire_messages.declared.body.LookAnswer.{LookAnswer}
+use Rattle.role_steps.specs.of_wire_messages.declared.body.LookAnswer.TheVariants as looked
+use Rattle.role_steps.specs.of_wire_messages.declared.body.Granted.{Granted}
+use Rattle.role_steps.specs.of_wire_messages.declared.body.Granted.TheVariants as granted
 use Rattle.role_steps.specs.Own.{Every}
 use Rattle.role_steps.specs.Tables.{first_that}
 use Rattle.role_steps.specs.Views.{Frame, Store, Users, quiet, sends, and_then, packet}

@@ -1,10 +1,10 @@
 -- What a site does in its epoch is plain: it joins nothing, and leaves its round, its promised id and its epoch.
-use Rattle.std.proofs.Common.{◌≡◌, ℕ, true, false, ◌&&◌, not, List, [], ◌∷◌, Option, Some, None, refl, sym, subst}
+use Rattle.std.proofs.Common.{◌≡◌, ℕ, true, false, ◌&&◌, not, List, [], ◌∷◌, Option, Some, None, refl}
 use Rattle.locus_ids.specs.declared.config.Config.{Config}
-use Rattle.trace_book.specs.declared.call.Call.TheVariants as call
-use Rattle.wire_messages.specs.declared.packet.Packet.{Packet}
-use Rattle.wire_messages.specs.declared.body.Body.{Body}
-use Rattle.wire_messages.specs.declared.body.Body.TheVariants as body
+use Rattle.role_steps.specs.of_trace_book.declared.call.Call.TheVariants as call
+use Rattle.role_steps.specs.of_wire_messages.declared.packet.Packet.{Packet}
+use Rattle.role_steps.specs.of_wire_messages.declared.body.Body.{Body}
+use Rattle.role_steps.specs.of_wire_messages.declared.body.Body.TheVariants as body
 use Rattle.role_steps.specs.Own.{Every}
 use Rattle.role_steps.specs.Tables.{row, first_that}
 use Rattle.role_steps.specs.Views.{Frame, SiteView, Outcome, quiet}
@@ -21,7 +21,7 @@ use Rattle.role_steps.specs.declared.rounds.InEpoch.{InEpoch}
 use Rattle.role_steps.specs.declared.synchronizing.SyncTable.{SyncTable}
 use Rattle.role_steps.specs.declared.synchronizing.FileRow.{FileRow}
 use Rattle.the_run.specs.Steps.{from_user, group_of, at_table_of, is_opened_in, takes_inside, takes_framed, adopts_of, tries_at, starts_mends_of}
-use Rattle.the_run.specs.Joins.{Still, TableOk, StillTable, Plain}
+use Rattle.the_run.specs.Joins.{TableOk, StillTable, Plain}
 use Rattle.the_run.proofs.InsideSync.{Found, every_row, row_found, first_found, sync_plain, on_opened_still, on_open_still, on_look_still, on_report_still, on_closed_still, have_ok, on_have_still}
 use Rattle.the_run.proofs.InsideRoles.{on_open_ss_still, on_close_still, on_closed_ok_still, on_look_ss_still, on_pull_still, on_op_still, on_notify_still, on_page_still, on_call_still, on_open_done_still, on_op_done_still, on_close_done_still, on_look_done_still}
 use Rattle.the_run.proofs.Joining.{plain_quiet, plain_then}
@@ -96,9 +96,6 @@ table_plain g (Some t) v ok k h = let r : StillTable (g t) = h t k in record { b
 
 group_plain : (g : SyncTable → Outcome SyncTable) (group : ℕ) (v : SiteView) → Every TableOk v.tables → ((t : SyncTable) → TableOk t → StillTable (g t)) → Plain v (at_table_of g (row table_group group v.tables) v)
 group_plain g group v ok h = table_plain g (row table_group group v.tables) v ok (row_found TableOk table_group group v.tables ok) h
-
-part_plain : (v : SiteView) (o : Outcome SiteView) → Every TableOk v.tables → Still o → o.view.boot ≡ v.boot → o.view.round ≡ v.round → o.view.promised ≡ v.promised → o.view.epoch ≡ v.epoch → o.view.tables ≡ v.tables → Plain v o
-part_plain v o ok h a b d e t = record { boot = a; round = b; promised = d; epoch = e; tables = subst (λ (ts : List SyncTable). Every TableOk ts) (sym t) ok; still = h }
 
 inside_plain : (f : Frame) (from : ℕ) (x : Body) (v : SiteView) → Every TableOk v.tables → Plain v (takes_inside f from x v)
 inside_plain f from (body.Report group copies) v ok = group_plain (on_report f from copies) group v ok (on_report_still f from copies)

@@ -6,14 +6,14 @@ use Rattle.locus_ids.specs.declared.ids.Mode.{Mode}
 use Rattle.locus_ids.specs.declared.ids.Mode.TheVariants as mode
 use Rattle.locus_ids.specs.declared.ids.Serial.{Serial}
 use Rattle.locus_ids.specs.declared.ids.Stamp.{Stamp}
-use Rattle.trace_book.specs.declared.operation.What.{What}
-use Rattle.trace_book.specs.declared.operation.What.TheVariants as what
-use Rattle.wire_messages.specs.declared.body.Body.{Body}
-use Rattle.wire_messages.specs.declared.body.Body.TheVariants as body
-use Rattle.wire_messages.specs.declared.body.OpenedAs.{OpenedAs}
-use Rattle.wire_messages.specs.declared.body.OpenedAs.TheVariants as opened
-use Rattle.wire_messages.specs.declared.body.MadeVersion.{MadeVersion}
-use Rattle.wire_messages.specs.declared.body.ReportedCopy.{ReportedCopy}
+use Rattle.role_steps.specs.of_trace_book.declared.operation.What.{What}
+use Rattle.role_steps.specs.of_trace_book.declared.operation.What.TheVariants as what
+use Rattle.role_steps.specs.of_wire_messages.declared.body.Body.{Body}
+use Rattle.role_steps.specs.of_wire_messages.declared.body.Body.TheVariants as body
+use Rattle.role_steps.specs.of_wire_messages.declared.body.OpenedAs.{OpenedAs}
+use Rattle.role_steps.specs.of_wire_messages.declared.body.OpenedAs.TheVariants as opened
+use Rattle.role_steps.specs.of_wire_messages.declared.body.MadeVersion.{MadeVersion}
+use Rattle.role_steps.specs.of_wire_messages.declared.body.ReportedCopy.{ReportedCopy}
 use Rattle.role_steps.specs.Own.{Every}
 use Rattle.role_steps.specs.Tables.{row, with_row, without_row, first_that}
 use Rattle.role_steps.specs.Views.{Frame, DiskWrite, Outcome, quiet, sends, and_then, first_written, packet, process_key, to_some, to_sync, sync_site}

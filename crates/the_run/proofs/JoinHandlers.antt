@@ -2,15 +2,17 @@
 use Rattle.std.proofs.Common.{◌≡◌, ℕ, ◌+◌, ◌≤◌, nat_lt, Bool, true, false, cond, ◌&&◌, not, List, [], ◌∷◌, ◌++◌, map, Option, Some, None, refl, sym, ◌∙◌, ap, subst, inl, inr, arith}
 use Rattle.std.proofs.lemmas.Bool.Decides.{nat_tests}
 use Rattle.std.specs.List.{flat_map}
+use Rattle.role_steps.proofs.of_plain_facts.Options.{none_some, some_same}
+use Rattle.role_steps.proofs.of_plain_facts.Tests.{both_true}
 use Rattle.locus_ids.specs.declared.ids.EpochId.{EpochId}
 use Rattle.locus_ids.specs.declared.sites.Sites.{Sites}
 use Rattle.locus_ids.specs.declared.sites.Members.{Members}
 use Rattle.locus_ids.specs.declared.sites.Links.{Links}
 use Rattle.locus_ids.specs.declared.config.Config.{Config}
-use Rattle.trace_book.specs.Same.{same_epoch}
-use Rattle.wire_messages.specs.declared.packet.Packet.{Packet}
-use Rattle.wire_messages.specs.declared.body.Body.{Body}
-use Rattle.wire_messages.specs.declared.body.Body.TheVariants as body
+use Rattle.role_steps.specs.of_trace_book.Same.{same_epoch}
+use Rattle.role_steps.specs.of_wire_messages.declared.packet.Packet.{Packet}
+use Rattle.role_steps.specs.of_wire_messages.declared.body.Body.{Body}
+use Rattle.role_steps.specs.of_wire_messages.declared.body.Body.TheVariants as body
 use Rattle.role_steps.specs.Own.{Every}
 use Rattle.role_steps.specs.Tables.{without_row}
 use Rattle.role_steps.specs.Views.{Frame, SiteView, Told, Promises, Outcome, Event, Calls, Receives, Ticks, Parts, Merges, GivesUp, quiet, sends, tells, and_then, joined_to}
@@ -34,12 +36,6 @@ use Rattle.the_run.proofs.Joining.{higher_at_most, below_at_most, packets_weaker
 
 -- ---- tests ----
 
-both_true : (a b : Bool) → (a && b) ≡ true → (a ≡ true) × (b ≡ true)
-both_true true true h = (refl, refl)
-both_true true false h = absurd (cc)
-both_true false true h = absurd (cc)
-both_true false false h = absurd (cc)
-
 same_epoch_eq : (a b : EpochId) → same_epoch a b ≡ true → a ≡ b
 same_epoch_eq a b h = id_eq (grind (arith, nat_tests)) (grind (arith, nat_tests)) (grind (arith, nat_tests))
   where
@@ -55,12 +51,6 @@ not_below_number a b h = grind (arith, nat_tests)
 above : (n k : ℕ) → n + 1 ≤ k → nat_lt n k ≡ true
 above n k h = grind (arith, nat_tests)
 
-some_is : {A : Type 0} (x y : A) → ◌≡◌ {A = Option A} (Some x) (Some y) → x ≡ y
-some_is x y e = cc
-
-none_is : {A : Type 0} (x : A) → ◌≡◌ {A = Option A} None (Some x) → ⊥
-none_is x e = cc
-
 -- ---- leaving and promising ----
 
 leaves_of_none : (me : ℕ) (e : Option InEpoch) (v : SiteView) → Every NoJoin (leaves_of me e v).told
@@ -75,7 +65,7 @@ leaves_of_fine J s boot low (Some e) v h =
     let left : At J s boot low (leaves_of s (Some e) v).view = record {
       boot_is = h.boot_is;
       rises = h.rises;
-      view = record { round_ok = h.view.round_ok; risen = h.view.risen; epoch_ok = λ x k. absurd (none_is x k); epoch_is = λ x k. absurd (none_is x k); tables_ok = tt };
+      view = record { round_ok = h.view.round_ok; risen = h.view.risen; epoch_ok = λ x k. absurd (none_some x k); epoch_is = λ x k. absurd (none_some x k); tables_ok = tt };
     } in
     record { now = at_same J (Now J told) s boot low (leaves_of s (Some e) v).view (old_now J told) (now_old J told none) left; law = lawful_none J s boot told none; sent = tt; written = tt }
 
@@ -97,7 +87,7 @@ promised_fine J s boot low id reach v h rises le gone =
     let now : At J s boot low (promised_view id v) = record {
       boot_is = h.boot_is;
       rises = rises;
-      view = record { round_ok = λ r e. absurd (none_is r e); risen = λ i m j f g. (let k : i.number ≤ v.promised.number = h.view.risen i m j f g in omega (arith, k, le)); epoch_ok = h.view.epoch_ok; epoch_is = λ e k. absurd (none_is e (sym gone ∙ k)); tables_ok = h.view.tables_ok };
+      view = record { round_ok = λ r e. absurd (none_some r e); risen = λ i m j f g. (let k : i.number ≤ v.promised.number = h.view.risen i m j f g in omega (arith, k, le)); epoch_ok = h.view.epoch_ok; epoch_is = λ e k. absurd (none_some e (sym gone ∙ k)); tables_ok = h.view.tables_ok };
     } in
     record { now = at_same J (Now J told) s boot low (promised_view id v) (old_now J told) (now_old J told (tt, tt)) now; law = (tt, tt); sent = tt; written = tt }
 
@@ -115,7 +105,7 @@ polls_fine J s boot low id polled v h same site number fresh =
       boot_is = h.boot_is;
       rises = h.rises;
       view = record {
-        round_ok = λ r e. subst (λ (x : Round). RoundOk J s v.boot v.promised x.id) (some_is (new_round id polled) r e) (record { id_is = same; site_is = site; boot_is = number; fresh = fresh });
+        round_ok = λ r e. subst (λ (x : Round). RoundOk J s v.boot v.promised x.id) (some_same (new_round id polled) r e) (record { id_is = same; site_is = site; boot_is = number; fresh = fresh });
         risen = h.view.risen;
         epoch_ok = h.view.epoch_ok;
         epoch_is = h.view.epoch_is;
@@ -155,7 +145,7 @@ goes_on_round J s boot low r q v h here same =
       boot_is = h.boot_is;
       rises = h.rises;
       view = record {
-        round_ok = λ x e. subst (λ (y : Round). RoundOk J s v.boot v.promised y.id) (some_is q x e) (subst (λ (i : EpochId). RoundOk J s v.boot v.promised i) (sym same) (h.view.round_ok r here));
+        round_ok = λ x e. subst (λ (y : Round). RoundOk J s v.boot v.promised y.id) (some_same q x e) (subst (λ (i : EpochId). RoundOk J s v.boot v.promised i) (sym same) (h.view.round_ok r here));
         risen = h.view.risen;
         epoch_ok = h.view.epoch_ok;
         epoch_is = h.view.epoch_is;
@@ -192,10 +182,10 @@ joins_fine J s boot low c id m v h may same = record {
     boot_is = h.boot_is;
     rises = h.rises;
     view = record {
-      round_ok = λ r e. absurd (none_is r e);
+      round_ok = λ r e. absurd (none_some r e);
       risen = risen;
-      epoch_ok = λ e k. subst (λ (y : InEpoch). Now J told y.id.site y.id y.members) (some_is (record { id = id; members = m }) e k) (own may);
-      epoch_is = λ e k. subst (λ (y : InEpoch). y.id ≡ v.promised) (some_is (record { id = id; members = m }) e k) same;
+      epoch_ok = λ e k. subst (λ (y : InEpoch). Now J told y.id.site y.id y.members) (some_same (record { id = id; members = m }) e k) (own may);
+      epoch_is = λ e k. subst (λ (y : InEpoch). y.id ≡ v.promised) (some_same (record { id = id; members = m }) e k) same;
       tables_ok = every_map TableOk new_table _ (λ g. tt);
     };
   };

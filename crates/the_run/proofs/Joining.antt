@@ -1,13 +1,13 @@
 -- The parts of every handler, for the laws of joins and of promised ids.
-use Rattle.std.proofs.Common.{◌≡◌, ℕ, ◌≤◌, nat_lt, ◌==◌, true, false, List, [], ◌∷◌, ◌++◌, refl, sym, ◌∙◌, subst, ◌⊎◌, inl, inr, arith}
+use Rattle.std.proofs.Common.{◌≡◌, ℕ, ◌≤◌, nat_lt, true, List, [], ◌∷◌, ◌++◌, refl, sym, ◌∙◌, subst, ◌⊎◌, inl, inr, arith}
 use Rattle.std.proofs.lemmas.Bool.Decides.{nat_tests}
 use Rattle.locus_ids.specs.declared.ids.EpochId.{EpochId}
 use Rattle.locus_ids.specs.declared.sites.Members.{Members}
-use Rattle.trace_book.specs.declared.record.Record.{Record}
-use Rattle.trace_book.specs.declared.record.Record.TheVariants as says
-use Rattle.wire_messages.specs.declared.packet.Packet.{Packet}
-use Rattle.wire_messages.specs.declared.body.Body.{Body}
-use Rattle.wire_messages.specs.declared.body.Body.TheVariants as body
+use Rattle.role_steps.specs.of_trace_book.declared.record.Record.{Record}
+use Rattle.role_steps.specs.of_trace_book.declared.record.Record.TheVariants as says
+use Rattle.role_steps.specs.of_wire_messages.declared.packet.Packet.{Packet}
+use Rattle.role_steps.specs.of_wire_messages.declared.body.Body.{Body}
+use Rattle.role_steps.specs.of_wire_messages.declared.body.Body.TheVariants as body
 use Rattle.role_steps.specs.Epochs.{is_epoch_below}
 use Rattle.role_steps.specs.Own.{Every}
 use Rattle.role_steps.specs.Views.{SiteView, Told, Shown, Outcome, quiet, sends, joined_to, and_then, first_written}
@@ -22,18 +22,6 @@ use Rattle.the_run.proofs.StepSends.{order_sent}
 
 pub same_at_most : (a : EpochId) → IsAtMost a a
 same_at_most a = grind (arith, nat_tests)
-
-pub at_most_number : (a b : EpochId) → a.number ≤ b.number → (a.number ≡ b.number → a ≡ b) → IsAtMost a b
-at_most_number a b le same = elim (a.number == b.number) as (λ t. (a.number == b.number) ≡ t → IsAtMost a b) [
-  | true ↦ λ e. subst (λ (x : EpochId). IsAtMost a x) (same (eq e)) (same_at_most a)
-  | false ↦ λ e. less e
-] refl
-  where
-    eq : (a.number == b.number) ≡ true → a.number ≡ b.number
-    eq e = grind (arith, nat_tests)
-
-    less : (a.number == b.number) ≡ false → IsAtMost a b
-    less e = grind (arith, nat_tests)
 
 pub below_at_most : (low a b : EpochId) → IsAtMost low a → is_epoch_below a b ≡ true → IsAtMost low b
 below_at_most low a b h g = grind (arith, nat_tests)

@@ -1,4 +1,3 @@
-mod Samples
 pub mod Runs
 pub mod Events
 pub mod Growing
@@ -10,3 +9,5 @@ pub mod Joining
 pub mod InsideSites
 pub mod JoinHandlers
 pub mod OneList
+pub use Rattle.role_steps.proofs as of_role_steps
+pub use Rattle.role_steps.proofs.of_plain_facts as of_plain_facts

@@ -1,13 +1,14 @@
 -- In every run all joins of one epoch id have one list of members, and promised ids only rise.
 use Rattle.std.proofs.Common.{◌≡◌, ◌≢◌, ℕ, ◌+◌, ◌≤◌, ◌==◌, true, false, List, [], ◌∷◌, ◌++◌, length, map, Option, Some, None, refl, sym, ◌∙◌, ap, subst, inl, inr, arith}
+use Rattle.role_steps.proofs.of_plain_facts.Options.{some_same}
 use Rattle.locus_ids.specs.declared.ids.EpochId.{EpochId}
 use Rattle.locus_ids.specs.declared.sites.Members.{Members}
 use Rattle.locus_ids.specs.declared.config.Config.{Config}
-use Rattle.schedule_lines.specs.declared.line.ScheduleLine.{ScheduleLine}
-use Rattle.trace_book.specs.declared.record.Record.{Record}
-use Rattle.trace_book.specs.declared.record.Record.TheVariants as says
-use Rattle.trace_book.specs.declared.record.StopCause.TheVariants as cause
-use Rattle.wire_messages.specs.declared.packet.Packet.{Packet}
+use Rattle.disk_calls.specs.of_schedule_lines.declared.line.ScheduleLine.{ScheduleLine}
+use Rattle.role_steps.specs.of_trace_book.declared.record.Record.{Record}
+use Rattle.role_steps.specs.of_trace_book.declared.record.Record.TheVariants as says
+use Rattle.role_steps.specs.of_trace_book.declared.record.StopCause.TheVariants as cause
+use Rattle.role_steps.specs.of_wire_messages.declared.packet.Packet.{Packet}
 use Rattle.role_steps.specs.Own.{Every}
 use Rattle.role_steps.specs.Tables.{row}
 use Rattle.role_steps.specs.Views.{SiteView, Told, Shown, DiskWrite, Outcome, Event, Calls, Receives, Ticks, Parts, Merges, GivesUp}
@@ -28,7 +29,7 @@ use Rattle.the_run.proofs.Growing.{run_splits}
 use Rattle.the_run.proofs.InsideSync.{every_without}
 use Rattle.the_run.proofs.Joining.{Leads, same_at_most, fact_weaker, view_same, now_old, old_now, lawful_none}
 use Rattle.the_run.proofs.JoinHandlers.{EventFact, step_fine}
-use Rattle.the_run.proofs.Runs.{run_from_keeps, every_run, some_eq}
+use Rattle.the_run.proofs.Runs.{run_from_keeps, every_run}
 
 -- ---- the trace, in two ways ----
 
@@ -206,7 +207,7 @@ none_never : (v : SiteView) → ◌≡◌ {A = Option Place} None (Some (Running
 none_never v e = cc
 
 place_there : (s : ℕ) (new : Place) (w : World) (u : SiteView) → place_at (puts s new w) s ≡ Some (Running u) → new ≡ Running u
-place_there s new w u h = some_eq new (Running u) (sym (puts_same s new w) ∙ h)
+place_there s new w u h = some_same new (Running u) (sym (puts_same s new w) ∙ h)
 
 -- the views after one place changed, where the site tells these
 views_of : (s boot : ℕ) (new : Place) (told : List Told) (w : World) → Good w → LawfulTold (JoinsOf w) s boot told → ((v : SiteView) → new ≡ Running v → ViewOk (Now (JoinsOf w) told) s v) →
@@ -246,7 +247,7 @@ acts_good n s v o first w here fine g =
     acts_cases (Later first) n s v o w
     (happened_good s v.boot n o.sent o.told (λ now. puts s (Running o.view) now) first w f.law has rise views promised refl refl f.sent g)
     (λ a. happened_good s v.boot n o.sent o.told (λ now. puts s (Running o.view) (arms a now)) first w f.law has rise views promised refl refl f.sent g)
-    (λ d a e. stopped (cut_told s d a.how a.left) (cut_disk v.boot v.store d a.how a.left) (every_cond NoJoin (is_on_disk d a.how a.left) (Shown d.says ∷ Shown (says.Stopped s (cause_of a.how)) ∷ []) (Shown (says.Stopped s (cause_of a.how)) ∷ []) (subst (λ (x : Option DiskWrite). NoWrite x) e f.written, (tt, tt)) (tt, tt)) (omega arith))
+    (λ d a e. stopped (cut_told s v.store d a.how a.left) (cut_disk v.boot v.store d a.how a.left) (every_cond NoJoin (is_on_disk v.store d a.how a.left) (Shown d.says ∷ Shown (says.Stopped s (cause_of a.how)) ∷ []) (Shown (says.Stopped s (cause_of a.how)) ∷ []) (subst (λ (x : Option DiskWrite). NoWrite x) e f.written, (tt, tt)) (tt, tt)) (omega arith))
   where
     f : Fine (JoinsOf w) s v.boot v.promised o
     f = fine v.promised (same_at_most v.promised)
@@ -362,7 +363,7 @@ first_views : (c : Config) (ss : List ℕ) (s : ℕ) (v : SiteView) → place_in
 first_views c [] s v e = absurd (none_never v e)
 first_views c (t ∷ ts) s v e =
     (elim (t == s) as (λ b. place_in (elim b [ true ↦ Some (first_place c t) | false ↦ row place_site s (map (first_place c) ts) ]) ≡ Some (Running v) → ViewOk (JoinsOf (first_world c)) s v) [
-      | true ↦ λ f. (let q : first_view c t ≡ v = running_view (first_view c t) v (some_eq (Running (first_view c t)) (Running v) f) in subst (λ (y : SiteView). ViewOk (JoinsOf (first_world c)) s y) q (fresh_ok (JoinsOf (first_world c)) s (first_view c t) refl refl refl (λ id m j. j)))
+      | true ↦ λ f. (let q : first_view c t ≡ v = running_view (first_view c t) v (some_same (Running (first_view c t)) (Running v) f) in subst (λ (y : SiteView). ViewOk (JoinsOf (first_world c)) s y) q (fresh_ok (JoinsOf (first_world c)) s (first_view c t) refl refl refl (λ id m j. j)))
       | false ↦ λ f. first_views c ts s v f
     ]) e
 
@@ -375,7 +376,7 @@ first_good c = record {
 }
 
 promised_stays : (w : World) → PromisesRise w w
-promised_stays w s v u a b e = subst (λ (y : SiteView). IsAtMost v.promised y.promised) (running_view v u (some_eq (Running v) (Running u) (sym a ∙ b))) (same_at_most v.promised)
+promised_stays w s v u a b e = subst (λ (y : SiteView). IsAtMost v.promised y.promised) (running_view v u (some_same (Running v) (Running u) (sym a ∙ b))) (same_at_most v.promised)
 
 -- ---- the laws ----
 

@@ -1,10 +1,11 @@
 -- A property that each event and each change of the world keeps holds in every run.
 use Rattle.std.proofs.Common.{◌≡◌, ℕ, zero, suc, ◌+◌, ◌==◌, Bool, true, false, ◌||◌, ◌⊎◌, not, List, [], ◌∷◌, Option, Some, None, refl, sym, inl, inr}
+use Rattle.role_steps.proofs.of_plain_facts.Options.{none_some, some_same}
 use Rattle.locus_ids.specs.declared.config.Config.{Config}
-use Rattle.schedule_lines.specs.declared.line.Line.{Line as LineWords}
-use Rattle.schedule_lines.specs.declared.line.Line.TheVariants as line
-use Rattle.schedule_lines.specs.declared.line.ScheduleLine.{ScheduleLine}
-use Rattle.schedule_lines.specs.declared.line.ScheduleLine.TheVariants.{Passed, Header, Event as EventLine}
+use Rattle.disk_calls.specs.of_schedule_lines.declared.line.Line.{Line as LineWords}
+use Rattle.disk_calls.specs.of_schedule_lines.declared.line.Line.TheVariants as line
+use Rattle.disk_calls.specs.of_schedule_lines.declared.line.ScheduleLine.{ScheduleLine}
+use Rattle.disk_calls.specs.of_schedule_lines.declared.line.ScheduleLine.TheVariants.{Passed, Header, Event as EventLine}
 use Rattle.role_steps.specs.Tables.{row, first_that}
 use Rattle.role_steps.specs.Views.{SiteView, Event, Calls, Receives, Ticks, Parts, Merges, GivesUp, all_sites}
 use Rattle.the_run.specs.Disks.{Stops, Fails}
@@ -15,14 +16,8 @@ use Rattle.the_run.specs.Kept.{Among, WasSent, IsOwn, Kept}
 
 -- ---- what is found in a list is one of its elements ----
 
-pub some_eq : {A : Type 0} (x a : A) → ◌≡◌ {A = Option A} (Some x) (Some a) → x ≡ a
-some_eq x a e = cc
-
-none_some : {A : Type 0} (x : A) → ◌≡◌ {A = Option A} None (Some x) → ⊥
-none_some x e = cc
-
 found_first : {A : Type 0} (y x : A) (ys : List A) (rest : Option A) (b : Bool) → elim b [ true ↦ Some y | false ↦ rest ] ≡ Some x → (rest ≡ Some x → Among x ys) → (x ≡ y) ⊎ Among x ys
-found_first y x ys rest true e h = inl (sym (some_eq y x e))
+found_first y x ys rest true e h = inl (sym (some_same y x e))
 found_first y x ys rest false e h = inr (h e)
 
 first_among : {A : Type 0} (test : A → Bool) (xs : List A) (x : A) → first_that test xs ≡ Some x → Among x xs

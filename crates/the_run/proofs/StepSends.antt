@@ -3,9 +3,9 @@ use Rattle.std.proofs.Common.{◌≡◌, ℕ, Bool, true, false, List, [], ◌�
 use Rattle.std.specs.List.{flat_map}
 use Rattle.locus_ids.specs.declared.sites.Links.{Links}
 use Rattle.locus_ids.specs.declared.config.Config.{Config}
-use Rattle.wire_messages.specs.declared.packet.Packet.{Packet}
-use Rattle.wire_messages.specs.declared.body.Body.{Body}
-use Rattle.wire_messages.specs.declared.body.Body.TheVariants as body
+use Rattle.role_steps.specs.of_wire_messages.declared.packet.Packet.{Packet}
+use Rattle.role_steps.specs.of_wire_messages.declared.body.Body.{Body}
+use Rattle.role_steps.specs.of_wire_messages.declared.body.Body.TheVariants as body
 use Rattle.role_steps.specs.Tables.{row, first_that, sorted_onto, put_before}
 use Rattle.role_steps.specs.Views.{Frame, SiteView, Outcome, Event, Calls, Receives, Ticks, Parts, Merges, GivesUp, quiet}
 use Rattle.role_steps.specs.Reports.{on_report, on_closed, on_have, sync_repeats}

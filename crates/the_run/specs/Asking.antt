@@ -1,11 +1,11 @@
 -- Which call a line of the input of a tree asks.
 use Rattle.std.specs.Prelude.{ℕ, ◌≡◌, true, List, ◌++◌, Option, None, Some, codes}
 use Rattle.locus_ids.specs.declared.config.Config.{Config}
-use Rattle.schedule_lines.specs.Cluster.{config_of}
-use Rattle.schedule_lines.specs.Ranges.{fits_event}
-use Rattle.schedule_lines.specs.Spelling.{event_spelling, is_passed}
-use Rattle.schedule_lines.specs.declared.line.Line.{Line}
-use Rattle.schedule_lines.specs.declared.line.Line.TheVariants as line
+use Rattle.disk_calls.specs.of_schedule_lines.Cluster.{config_of}
+use Rattle.disk_calls.specs.of_schedule_lines.Ranges.{fits_event}
+use Rattle.disk_calls.specs.of_schedule_lines.Spelling.{event_spelling, is_passed}
+use Rattle.disk_calls.specs.of_schedule_lines.declared.line.Line.{Line}
+use Rattle.disk_calls.specs.of_schedule_lines.declared.line.Line.TheVariants as line
 use Rattle.the_run.specs.Commands.{Asked, opening_lines}
 
 -- the cluster of every tree

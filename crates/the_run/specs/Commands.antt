@@ -4,19 +4,19 @@ use Rattle.std.specs.List.{flat_map}
 use Rattle.std.specs.Fmt.{decimal}
 use Rattle.std.specs.Int.{to_be_bytes, w32}
 use Rattle.locus_ids.specs.declared.sites.Sites.{Sites}
-use Rattle.trace_book.specs.Text.{record_text}
-use Rattle.trace_book.specs.declared.call.Call.{Call}
-use Rattle.trace_book.specs.declared.call.Call.TheVariants as call
-use Rattle.trace_book.specs.declared.call.OpenMode.TheVariants as how
-use Rattle.trace_book.specs.declared.record.Record.{Record}
-use Rattle.trace_book.specs.declared.record.Record.TheVariants as says
-use Rattle.trace_book.specs.declared.reply.Reply.{Reply}
-use Rattle.trace_book.specs.declared.reply.Reply.TheVariants as reply
-use Rattle.trace_book.specs.declared.book.Entry.{Entry}
-use Rattle.schedule_lines.specs.declared.header.HeaderLine.TheVariants as header
-use Rattle.schedule_lines.specs.declared.line.Line.TheVariants as line
-use Rattle.schedule_lines.specs.declared.line.ScheduleLine.{ScheduleLine}
-use Rattle.schedule_lines.specs.declared.line.ScheduleLine.TheVariants.{Header, Event}
+use Rattle.role_steps.specs.of_trace_book.Text.{record_text}
+use Rattle.role_steps.specs.of_trace_book.declared.call.Call.{Call}
+use Rattle.role_steps.specs.of_trace_book.declared.call.Call.TheVariants as call
+use Rattle.role_steps.specs.of_trace_book.declared.call.OpenMode.TheVariants as how
+use Rattle.role_steps.specs.of_trace_book.declared.record.Record.{Record}
+use Rattle.role_steps.specs.of_trace_book.declared.record.Record.TheVariants as says
+use Rattle.role_steps.specs.of_trace_book.declared.reply.Reply.{Reply}
+use Rattle.role_steps.specs.of_trace_book.declared.reply.Reply.TheVariants as reply
+use Rattle.role_steps.specs.of_trace_book.declared.entry.Entry.{Entry}
+use Rattle.disk_calls.specs.of_schedule_lines.declared.header.HeaderLine.TheVariants as header
+use Rattle.disk_calls.specs.of_schedule_lines.declared.line.Line.TheVariants as line
+use Rattle.disk_calls.specs.of_schedule_lines.declared.line.ScheduleLine.{ScheduleLine}
+use Rattle.disk_calls.specs.of_schedule_lines.declared.line.ScheduleLine.TheVariants.{Header, Event}
 use Rattle.the_run.specs.Runs.{run, entries_of_run}
 
 -- ---- the cluster of both ----

@@ -2,11 +2,11 @@
 use Rattle.std.specs.Prelude.{ℕ, ◌≡◌, ◌≤◌, ◌⊎◌, false, List, [], ◌∷◌, Option, Some, None}
 use Rattle.locus_ids.specs.declared.ids.EpochId.{EpochId}
 use Rattle.locus_ids.specs.declared.sites.Members.{Members}
-use Rattle.trace_book.specs.declared.record.Record.{Record}
-use Rattle.trace_book.specs.declared.record.Record.TheVariants as says
-use Rattle.wire_messages.specs.declared.packet.Packet.{Packet}
-use Rattle.wire_messages.specs.declared.body.Body.{Body}
-use Rattle.wire_messages.specs.declared.body.Body.TheVariants.{Install, Refuse}
+use Rattle.role_steps.specs.of_trace_book.declared.record.Record.{Record}
+use Rattle.role_steps.specs.of_trace_book.declared.record.Record.TheVariants as says
+use Rattle.role_steps.specs.of_wire_messages.declared.packet.Packet.{Packet}
+use Rattle.role_steps.specs.of_wire_messages.declared.body.Body.{Body}
+use Rattle.role_steps.specs.of_wire_messages.declared.body.Body.TheVariants.{Install, Refuse}
 use Rattle.role_steps.specs.Epochs.{is_epoch_below}
 use Rattle.role_steps.specs.Own.{Every}
 use Rattle.role_steps.specs.Views.{SiteView, Told, Shown, DiskWrite, Outcome}

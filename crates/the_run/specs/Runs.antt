@@ -3,17 +3,17 @@ use Rattle.std.specs.Prelude.{ℕ, zero, suc, ◌+◌, ◌==◌, Bool, true, fal
 use Rattle.std.specs.List.{list_any}
 use Rattle.std.specs.Option.{is_some}
 use Rattle.locus_ids.specs.declared.config.Config.{Config}
-use Rattle.schedule_lines.specs.Cluster.{config_of}
-use Rattle.schedule_lines.specs.declared.line.Line.{Line as LineWords}
-use Rattle.schedule_lines.specs.declared.line.Line.TheVariants as line
-use Rattle.schedule_lines.specs.declared.line.ScheduleLine.{ScheduleLine}
-use Rattle.schedule_lines.specs.declared.line.ScheduleLine.TheVariants.{Passed, Header, Event}
-use Rattle.trace_book.specs.Text.{text}
-use Rattle.trace_book.specs.declared.record.Record.TheVariants as says
-use Rattle.trace_book.specs.declared.record.StopCause.TheVariants as cause
-use Rattle.trace_book.specs.declared.book.Entry.{Entry}
-use Rattle.wire_messages.specs.Bodies.{kind_of}
-use Rattle.wire_messages.specs.declared.packet.Packet.{Packet}
+use Rattle.disk_calls.specs.of_schedule_lines.Cluster.{config_of}
+use Rattle.disk_calls.specs.of_schedule_lines.declared.line.Line.{Line as LineWords}
+use Rattle.disk_calls.specs.of_schedule_lines.declared.line.Line.TheVariants as line
+use Rattle.disk_calls.specs.of_schedule_lines.declared.line.ScheduleLine.{ScheduleLine}
+use Rattle.disk_calls.specs.of_schedule_lines.declared.line.ScheduleLine.TheVariants.{Passed, Header, Event}
+use Rattle.role_steps.specs.of_trace_book.Text.{text}
+use Rattle.role_steps.specs.of_trace_book.declared.record.Record.TheVariants as says
+use Rattle.role_steps.specs.of_trace_book.declared.record.StopCause.TheVariants as cause
+use Rattle.role_steps.specs.of_trace_book.declared.entry.Entry.{Entry}
+use Rattle.role_steps.specs.of_wire_messages.Bodies.{kind_of}
+use Rattle.role_steps.specs.of_wire_messages.declared.packet.Packet.{Packet}
 use Rattle.role_steps.specs.Tables.{row, first_that}
 use Rattle.role_steps.specs.Views.{SiteView, all_sites, Told, Shown, Calls, Receives, Ticks, Parts, Merges, GivesUp}
 use Rattle.role_steps.specs.declared.users.WaitingCall.{WaitingCall}

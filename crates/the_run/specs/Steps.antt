@@ -8,12 +8,12 @@ use Rattle.locus_ids.specs.declared.ids.Serial.{Serial}
 use Rattle.locus_ids.specs.declared.ids.EpochId.{EpochId}
 use Rattle.locus_ids.specs.declared.sites.Links.{Links}
 use Rattle.locus_ids.specs.declared.config.Config.{Config}
-use Rattle.trace_book.specs.Same.{same_epoch, same_serial}
-use Rattle.trace_book.specs.declared.call.Call.{Call}
-use Rattle.wire_messages.specs.Bodies.{kind_number, body_bytes}
-use Rattle.wire_messages.specs.declared.packet.Packet.{Packet}
-use Rattle.wire_messages.specs.declared.body.Body.{Body}
-use Rattle.wire_messages.specs.declared.body.Body.TheVariants as body
+use Rattle.role_steps.specs.of_trace_book.Same.{same_epoch, same_serial}
+use Rattle.role_steps.specs.of_trace_book.declared.call.Call.{Call}
+use Rattle.role_steps.specs.of_wire_messages.Bodies.{kind_number, body_bytes}
+use Rattle.role_steps.specs.of_wire_messages.declared.packet.Packet.{Packet}
+use Rattle.role_steps.specs.of_wire_messages.declared.body.Body.{Body}
+use Rattle.role_steps.specs.of_wire_messages.declared.body.Body.TheVariants as body
 use Rattle.role_steps.specs.Tables.{row, without_row, first_that, sorted}
 use Rattle.role_steps.specs.Views.{Frame, Store, Users, SiteView, Outcome, Event, Calls, Receives, Ticks, Parts, Merges, GivesUp, quiet, and_then, first_written, within, boot_in}
 use Rattle.role_steps.specs.Opens.{on_opened}

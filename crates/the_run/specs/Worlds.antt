@@ -6,16 +6,16 @@ use Rattle.locus_ids.specs.declared.ids.EpochId.{EpochId}
 use Rattle.locus_ids.specs.declared.ids.Kind.TheVariants as kind
 use Rattle.locus_ids.specs.declared.sites.Links.{Links}
 use Rattle.locus_ids.specs.declared.config.Config.{Config}
-use Rattle.dir_format.specs.Entries.{nothing_seen}
-use Rattle.trace_book.specs.Text.{entry_text}
-use Rattle.trace_book.specs.declared.record.Record.{Record}
-use Rattle.trace_book.specs.declared.record.Record.TheVariants as says
-use Rattle.trace_book.specs.declared.record.StopCause.{StopCause}
-use Rattle.trace_book.specs.declared.record.StopCause.TheVariants as cause
-use Rattle.wire_messages.specs.Bodies.{body_bytes}
-use Rattle.wire_messages.specs.declared.packet.Packet.{Packet}
+use Rattle.role_steps.specs.of_dir_format.Entries.{nothing_seen}
+use Rattle.role_steps.specs.of_trace_book.Text.{entry_text}
+use Rattle.role_steps.specs.of_trace_book.declared.record.Record.{Record}
+use Rattle.role_steps.specs.of_trace_book.declared.record.Record.TheVariants as says
+use Rattle.role_steps.specs.of_trace_book.declared.record.StopCause.{StopCause}
+use Rattle.role_steps.specs.of_trace_book.declared.record.StopCause.TheVariants as cause
+use Rattle.role_steps.specs.of_wire_messages.Bodies.{body_bytes}
+use Rattle.role_steps.specs.of_wire_messages.declared.packet.Packet.{Packet}
 use Rattle.role_steps.specs.Tables.{row, with_row, without_row, total}
-use Rattle.role_steps.specs.Views.{SiteView, Told, Shown, DiskWrite, Outcome, Event, pack_sites, all_sites, all_groups}
+use Rattle.role_steps.specs.Views.{Store, SiteView, Told, Shown, DiskWrite, Outcome, Event, pack_sites, all_sites, all_groups}
 use Rattle.role_steps.specs.declared.copies.FileCopy.{FileCopy}
 use Rattle.the_run.specs.Disks.{Disk, Armed, Cut, Stops, Fails, one_label, write_calls, cut_disk, is_on_disk}
 use Rattle.the_run.specs.Steps.{step}
@@ -203,11 +203,11 @@ cause_of (Stops l) = cause.Fuse
 cause_of Fails = cause.Fault
 
 -- an event that is cut off in its commit or adoption: a version that is on the disk has its record, before the stop's
-abbrev pub cut_told : ℕ → DiskWrite → Cut → ℕ → List Told
-cut_told s d how left = cond (is_on_disk d how left) (Shown d.says ∷ Shown (says.Stopped s (cause_of how)) ∷ []) (Shown (says.Stopped s (cause_of how)) ∷ [])
+abbrev pub cut_told : ℕ → Store → DiskWrite → Cut → ℕ → List Told
+cut_told s before d how left = cond (is_on_disk before d how left) (Shown d.says ∷ Shown (says.Stopped s (cause_of how)) ∷ []) (Shown (says.Stopped s (cause_of how)) ∷ [])
 
 abbrev pub cut_event : ℕ → ℕ → SiteView → DiskWrite → Armed → World → World
-cut_event n s v d a w = happened n [] (cut_told s d a.how a.left) (stops_with s (cut_disk v.boot v.store d a.how a.left)) w
+cut_event n s v d a w = happened n [] (cut_told s v.store d a.how a.left) (stops_with s (cut_disk v.boot v.store d a.how a.left)) w
 
 -- ---- an event of a site ----
 

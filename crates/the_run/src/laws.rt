@@ -1,6 +1,6 @@
 ghost use Rattle.std.specs.Prelude.{◌≡◌, ℕ, List, ◌++◌};
 ghost use Rattle.locus_ids.specs.declared.config.Config.{Config};
-ghost use Rattle.schedule_lines.specs.declared.line.ScheduleLine.{ScheduleLine};
+ghost use Rattle.disk_calls.specs.of_schedule_lines.declared.line.ScheduleLine.{ScheduleLine};
 ghost use Rattle.locus_ids.specs.declared.sites.Links.{Links};
 ghost use Rattle.role_steps.specs.Views.{Event, SiteView, Outcome};
 ghost use Rattle.role_steps.specs.Own.{Sends};

@@ -3,6 +3,7 @@ use Rattle.std.specs.Prelude.{ℕ, zero, suc, List, [], ◌∷◌, ◌++◌, ◌
 use Rattle.std.specs.Fmt.{decimal}
 use Rattle.std.specs.List.{flat_map, join_by}
 use Rattle.hex.specs.Hex.{encode_lower}
+use Rattle.locus_ids.specs.Sizes.{sites_max}
 use Rattle.locus_ids.specs.Sites.{has}
 use Rattle.locus_ids.specs.declared.ids.Kind.{Kind}
 use Rattle.locus_ids.specs.declared.ids.Kind.TheVariants as kind
@@ -39,7 +40,7 @@ use Rattle.trace_book.specs.declared.record.StopCause.{StopCause}
 use Rattle.trace_book.specs.declared.record.StopCause.TheVariants as cause
 use Rattle.trace_book.specs.declared.record.Record.{Record}
 use Rattle.trace_book.specs.declared.record.Record.TheVariants.{Up, Stopped, Leave, Join, Start, Accept, Look, Grant, Refuse, Act, Commit, Release, Adopt, Answer, Packet, Void, Budget}
-use Rattle.trace_book.specs.declared.book.Entry.{Entry}
+use Rattle.trace_book.specs.declared.entry.Entry.{Entry}
 
 -- a number is written in decimal, with no leading zero
 abbrev pub number : ℕ → List ℕ
@@ -100,7 +101,7 @@ sites_to sites zero = []
 sites_to sites (suc n) = sites_to sites n ++ cond (has sites (suc n)) (suc n ∷ []) []
 
 abbrev pub sites_text : Sites → List ℕ
-sites_text sites = with_commas number (sites_to sites 16)
+sites_text sites = with_commas number (sites_to sites sites_max)
 
 -- those of sites 1 to n that have a boot number here, ascending; 0 is no boot number
 abbrev pub members_to : List ℕ → ℕ → List Member
@@ -112,7 +113,7 @@ abbrev pub member_text : Member → List ℕ
 member_text m = number m.site ++ codes ":" ++ number m.boot
 
 abbrev pub members_text : Members → List ℕ
-members_text members = with_commas member_text (members_to members.boot 16)
+members_text members = with_commas member_text (members_to members.boot sites_max)
 
 -- inode=stamp, after a space
 abbrev pub copy_text : Brought → List ℕ

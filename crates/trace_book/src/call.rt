@@ -3,7 +3,7 @@ ghost use Rattle.std.specs.Prelude.{◌≡◌, IfOk};
 use locus_ids::{Bytes, FileId, NoMemory, Sites};
 
 /// How a call opens a file.
-#[derive(Clone, Copy, Debug, PartialEq, Eq)]
+#[derive(Clone, Copy, PartialEq, Eq)]
 pub enum OpenMode {
     Read,
     Write,
@@ -12,7 +12,7 @@ pub enum OpenMode {
 }
 
 /// A call of a process. A path is kept as it was written.
-#[derive(Clone, Debug, Drop)]
+#[derive(Clone, Drop)]
 pub enum Call {
     /// `sites` are those that get a pack's copy; all packs of the group where it is left out.
     Create { path: Bytes, sites: Option<Sites> },

@@ -1,7 +1,7 @@
 use locus_ids::{EpochId, Mode, Refusal, Serial};
 
 /// What an open descriptor of a process stands for: an instance, by the epoch in which it was opened.
-#[derive(Clone, Copy, Debug, PartialEq, Eq)]
+#[derive(Clone, Copy, PartialEq, Eq)]
 pub struct Descriptor {
     pub mode: Mode,
     pub epoch: EpochId,
@@ -9,7 +9,7 @@ pub struct Descriptor {
 }
 
 /// Where an accepted call begins.
-#[derive(Debug, Drop)]
+#[derive(Drop)]
 pub enum Beginning {
     /// It is refused at once, for the words or the caller's own tables.
     Denied { why: Refusal },

@@ -3,7 +3,7 @@ ghost use Rattle.std.specs.Prelude.{◌≡◌, IfOk};
 use locus_ids::{Bytes, Kind, NoMemory, Refusal, Stamp};
 
 /// An operation on an open instance.
-#[derive(Clone, Debug, Drop)]
+#[derive(Clone, Drop)]
 pub enum Op {
     /// Asks that the name has no live entry, and that an entry for it fits.
     Probe { name: Bytes },
@@ -22,7 +22,7 @@ pub enum Op {
 }
 
 /// What an operation gave.
-#[derive(Clone, Debug, Drop)]
+#[derive(Clone, Drop)]
 pub enum Outcome {
     Done,
     Found { ino: u16, kind: Kind },
@@ -32,7 +32,7 @@ pub enum Outcome {
 }
 
 /// What a Look asks of a directory or a file.
-#[derive(Clone, Debug, Drop)]
+#[derive(Clone, Drop)]
 pub enum What {
     Name { component: Bytes },
     List,
@@ -42,7 +42,7 @@ pub enum What {
 }
 
 /// What the synchronization site answers a Look: the version that is served, or a refusal.
-#[derive(Clone, Debug, Drop)]
+#[derive(Clone, Drop)]
 pub enum Served {
     At { stamp: Stamp },
     No { why: Refusal },

@@ -1,5 +1,5 @@
 /// The kinds of packets, in the order of their numbers from 1.
-#[derive(Clone, Copy, Debug, PartialEq, Eq)]
+#[derive(Clone, Copy, PartialEq, Eq)]
 pub enum PacketKind {
     Poll,
     Promise,

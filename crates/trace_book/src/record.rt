@@ -8,7 +8,7 @@ use locus_ids::{
 pub type BroughtList = ItemList<Brought>;
 
 /// Why a site stopped.
-#[derive(Clone, Copy, Debug, PartialEq, Eq)]
+#[derive(Clone, Copy, PartialEq, Eq)]
 pub enum StopCause {
     /// By a line.
     Asked,
@@ -19,7 +19,7 @@ pub enum StopCause {
 }
 
 /// What a trace tells of one moment.
-#[derive(Debug, Drop)]
+#[derive(Drop)]
 pub enum Record {
     /// A site boots.
     Up {

@@ -3,7 +3,7 @@ ghost use Rattle.std.specs.Prelude.{◌≡◌, IfOk};
 use locus_ids::{Bytes, FileId, Kind, Names, NoMemory, Refusal, Stamp};
 
 /// What a call is answered.
-#[derive(Clone, Debug, Drop)]
+#[derive(Clone, Drop)]
 pub enum Reply {
     /// A file or directory was made.
     Made {

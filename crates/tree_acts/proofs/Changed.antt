@@ -2,6 +2,7 @@
 use Rattle.std.proofs.Common.{◌≡◌, ◌==◌, ◌+◌, ℕ, Bool, true, false, ◌&&◌, cond, List, [], ◌∷◌, Option, None, Some, refl, sym, ap, ◌∙◌, ⊎_elim}
 use Rattle.std.specs.List.{find}
 use Rattle.std.proofs.lemmas.Bool.{cases_Bool}
+use Rattle.role_steps.proofs.of_plain_facts.Options.{none_some, some_same}
 use Rattle.locus_ids.specs.declared.ids.Serial.{Serial}
 use Rattle.commit_graph.specs.declared.history.Version.{Version}
 use Rattle.trace_book.specs.declared.operation.Op.{Op}
@@ -17,17 +18,11 @@ use Rattle.tree_model.specs.Working.{result_on, work_after}
 use Rattle.tree_tables.specs.Worked.{worked}
 use Rattle.tree_acts.specs.Acting.{acted_work, given_work}
 
-none_some : {X : Type 0} (x : X) → ◌≡◌ {A = Option X} None (Some x) → ⊥
-none_some x e = cc
-
-some_eq : {X : Type 0} (x y : X) → ◌≡◌ {A = Option X} (Some x) (Some y) → x ≡ y
-some_eq x y e = cc
-
 -- the first that passes is what a search finds
 changed_alike : (p : Instance → Bool) (f g : Instance → Instance) (xs : List Instance) (x : Instance) → find p xs ≡ Some x → f x ≡ g x → change_first p f xs ≡ change_first p g xs
 changed_alike p f g [] x e same = refl
 changed_alike p f g (y ∷ ys) x e same =
-    ⊎_elim (λ (t : p y ≡ true). let is : y ≡ x = some_eq y x (rw t at e) in rw t (ap (λ z. z ∷ ys) (ap f is ∙ same ∙ ap g (sym is))))
+    ⊎_elim (λ (t : p y ≡ true). let is : y ≡ x = some_same y x (rw t at e) in rw t (ap (λ z. z ∷ ys) (ap f is ∙ same ∙ ap g (sym is))))
     (λ (o : p y ≡ false). rw o (ap (λ zs. y ∷ zs) (changed_alike p f g ys x (rw o at e) same)))
     (cases_Bool (p y))
 
@@ -43,7 +38,7 @@ given_by true w after h = refl
 given_by false w after h = absurd (none_some w (sym h))
 
 left_by : (b : Bool) (w after : Work) → Some w ≡ cond b (Some after) None → w ≡ after
-left_by true w after h = some_eq w after h
+left_by true w after h = some_same w after h
 left_by false w after h = absurd (none_some w (sym h))
 
 not_by : (b : Bool) (after : Work) → None ≡ cond b (Some after) None → b ≡ false

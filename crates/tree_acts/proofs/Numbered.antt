@@ -15,6 +15,8 @@ use Rattle.dir_reconcile.specs.Joins.{joined_by, joined_dirs, joined_entry, join
 use Rattle.dir_reconcile.specs.Rescues.{all_seen, chosen, entry_after_rescue, has_live, is_that, is_to_rescue, is_unseen, rescued, revived}
 use Rattle.role_steps.specs.OperationEffects.{joined_contents}
 use Rattle.std.specs.Str.{bytes_eq}
+use Rattle.role_steps.proofs.of_plain_facts.Numbers.{equal}
+use Rattle.role_steps.proofs.of_plain_facts.Tests.{and_first, and_second}
 use Rattle.tree_acts.specs.Acting.{has_number, is_number}
 
 abbrev pub AreNumbered : List Entry → Type 0
@@ -22,12 +24,9 @@ AreNumbered ds = AllByRecursion (λ d. is_number d.ino ≡ true) ds
 
 -- Vectors of other inodes don't matter.
 
-eq_of : (a b : ℕ) → (a == b) ≡ true → a ≡ b
-eq_of a b h = grind (arith, h)
-
 other_number : (ino : ℕ) (k : KeptVector) → is_number ino ≡ true → has_number k ≡ false → (k.ino == ino) ≡ false
 other_number ino k yes_it no_it =
-    ⊎_elim (λ (t : (k.ino == ino) ≡ true). absurd (let same : is_number k.ino ≡ true = ap is_number (eq_of k.ino ino t) ∙ yes_it in let g : true ≡ false = sym same ∙ no_it in cc))
+    ⊎_elim (λ (t : (k.ino == ino) ≡ true). absurd (let same : is_number k.ino ≡ true = ap is_number (equal k.ino ino t) ∙ yes_it in let g : true ≡ false = sym same ∙ no_it in cc))
     (λ (f : (k.ino == ino) ≡ false). f)
     (cases_Bool (k.ino == ino))
 
@@ -71,23 +70,15 @@ numbered_join : (ds es : List Entry) → AreNumbered ds → AreNumbered es → A
 numbered_join [] es a b = b
 numbered_join (d ∷ ds) es a b = numbered_from d (joined_dirs ds) a.0 (λ bs all. numbered_join ds bs a.1 all) es b
 
-second : (a b : Bool) → (a && b) ≡ true → b ≡ true
-second true b h = h
-second false b h = absurd (let g : false ≡ true = h in cc)
-
-first : (a b : Bool) → (a && b) ≡ true → a ≡ true
-first true b h = refl
-first false b h = h
-
 numbered_entry : (d : Entry) → is_entry d ≡ true → is_number d.ino ≡ true
-numbered_entry d h = first (is_number d.ino) _ (second _ _ h)
+numbered_entry d h = and_first (is_number d.ino) _ (and_second _ _ h)
 
 numbered_entries : (ds : List Entry) → list_all is_entry ds ≡ true → AreNumbered ds
 numbered_entries [] h = tt
-numbered_entries (d ∷ ds) h = (numbered_entry d (first (is_entry d) (list_all is_entry ds) h), numbered_entries ds (second (is_entry d) (list_all is_entry ds) h))
+numbered_entries (d ∷ ds) h = (numbered_entry d (and_first (is_entry d) (list_all is_entry ds) h), numbered_entries ds (and_second (is_entry d) (list_all is_entry ds) h))
 
 numbered_dir : (bytes : List ℕ) (ds : List Entry) (b : Bool) → (bytes_eq (dir_bytes ds) bytes && is_dir ds) ≡ b → AreNumbered (cond b ds [])
-numbered_dir bytes ds true h = numbered_entries ds (first (list_all is_entry ds) _ (second (bytes_eq (dir_bytes ds) bytes) (is_dir ds) h))
+numbered_dir bytes ds true h = numbered_entries ds (and_first (list_all is_entry ds) _ (and_second (bytes_eq (dir_bytes ds) bytes) (is_dir ds) h))
 numbered_dir bytes ds false h = tt
 
 numbered_content : (c : List ℕ) → AreNumbered (entries_of c)

@@ -1,5 +1,6 @@
 -- What an act gives and leaves, as one value.
 use Rattle.std.specs.Prelude.{ℕ, ◌+◌, ◌==◌, Bool, true, false, ◌&&◌, nat_le, List, Option, None, Some, cond}
+use Rattle.locus_ids.specs.Sizes.{inodes_max}
 use Rattle.commit_graph.specs.declared.history.Version.{Version}
 use Rattle.trace_book.specs.declared.operation.Op.{Op}
 use Rattle.trace_book.specs.declared.operation.Op.TheVariants as op
@@ -38,7 +39,7 @@ IsPlain _ = Unit {0}
 
 -- an inode of this number can be in a directory
 abbrev pub is_number : ℕ → Bool
-is_number ino = nat_le 1 ino && nat_le ino 1024
+is_number ino = nat_le 1 ino && nat_le ino inodes_max
 
 -- the vector is one of a file that a directory can have
 abbrev pub has_number : KeptVector → Bool

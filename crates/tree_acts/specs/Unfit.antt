@@ -1,11 +1,11 @@
 -- What the tree carries no act out on, however much memory is left. No lawful trace has it.
 use Rattle.std.specs.Prelude.{◌<◌, ◌⊎◌, List, Option, None, Some, length, map}
+use Rattle.locus_ids.specs.Sizes.{content_bytes_max}
 use Rattle.locus_ids.specs.declared.ids.FileId.{FileId}
 use Rattle.commit_graph.specs.declared.history.Version.{Version}
 use Rattle.commit_graph.specs.Versions.{content_of}
 use Rattle.trace_book.specs.declared.operation.Op.{Op}
 use Rattle.trace_book.specs.declared.operation.Op.TheVariants as op
-use Rattle.file_content.specs.Contents.{max_bytes}
 use Rattle.file_effects.specs.declared.work.Work.{Work}
 use Rattle.operation_effects.specs.Joinable.{AreJoinable}
 use Rattle.operation_effects.specs.declared.fault.EffectFault.{EffectFault}
@@ -17,7 +17,7 @@ use Rattle.tree_acts.specs.declared.fault.ActFault.TheVariants as fault
 
 -- the working content is longer than that of a file may be
 abbrev pub IsTooLong : Work → Type 0
-IsTooLong w = max_bytes < length w.content
+IsTooLong w = content_bytes_max < length w.content
 
 -- the kept versions of the file can't be joined: an inode has one kind in one of them and the other in another, or one of
 -- them is longer than a number of four bytes tells

@@ -18,6 +18,7 @@ use crate::working::{abort, count};
 use commit_graph::History;
 use dir_reconcile::KeptVectors;
 use file_effects::Work;
+use locus_ids::sizes::SITES;
 use locus_ids::{ItemList, NoMemory, Serial};
 use operation_effects::MendingWork;
 use std::alloc::Global;
@@ -252,7 +253,7 @@ fn operated_work(
     tree: &TreeTables,
     h: &History,
     op: &Op,
-    seen: &Vector<16>,
+    seen: &Vector<SITES>,
     mending: &MendingWork,
     outcome: &Outcome,
     instance: &Instance,

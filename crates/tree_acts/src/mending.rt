@@ -43,7 +43,7 @@ fn contents(
 }
 
 /// The versions that are kept of a file.
-#[derive(Debug, Drop)]
+#[derive(Drop)]
 struct KeptOf {
     ino: u16,
     stamps: Stamps,

@@ -7,7 +7,7 @@ ghost use Rattle.tree_acts.specs.Unfit.{IsTooLong};
 
 use crate::ActFault;
 use file_effects::Work;
-use locus_ids::sizes::MAX_BYTES;
+use locus_ids::sizes::{CONTENT_BYTES, SITES};
 use locus_ids::{Bytes, ItemList, NoMemory};
 use operation_effects::{MendingWork, OpenWork, WorkingContent, operate};
 use trace_book::{Op, Outcome};
@@ -20,7 +20,7 @@ use version_vector::Vector;
 pub(crate) fn work_by(
     work: &Work,
     op: &Op,
-    seen: &Vector<16>,
+    seen: &Vector<SITES>,
     mending: &MendingWork,
     free: u16,
     outcome: &Outcome,
@@ -47,7 +47,7 @@ fn opened(work: &Work) -> Result<OpenWork, ActFault>
     ensures unfit { result ≡ Err ActFault.Unfit → IsTooLong work.now }
 {
     let alloc = work.changed.allocator();
-    if work.content.len() > MAX_BYTES {
+    if work.content.len() > CONTENT_BYTES {
         return Err(ActFault::Unfit);
     }
     let content = WorkingContent::from_slice(alloc, work.content.as_slice())?;

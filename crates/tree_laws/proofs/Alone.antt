@@ -2,6 +2,8 @@
 use Rattle.std.proofs.Common.{◌≡◌, ℕ, suc, ◌<◌, ◌==◌, Bool, true, false, cond, List, [], ◌∷◌, length, Option, Some, None, refl, sym, ◌∙◌, ap, subst, arith, ◌⊎◌, inl, inr}
 use Rattle.std.proofs.lemmas.Bool.Decides.{nat_tests}
 use Rattle.std.specs.Prelude.{nat_lt}
+use Rattle.the_run.proofs.of_plain_facts.Options.{none_some, some_same}
+use Rattle.the_run.proofs.of_plain_facts.Tests.{true_false}
 use Rattle.locus_ids.specs.declared.config.Config.{Config}
 use Rattle.locus_ids.specs.declared.ids.CallId.{CallId}
 use Rattle.locus_ids.specs.declared.ids.EpochId.{EpochId}
@@ -11,7 +13,7 @@ use Rattle.trace_book.specs.declared.call.Call.TheVariants as call
 use Rattle.trace_book.specs.declared.operation.Op.{Op}
 use Rattle.call_rules.specs.declared.want.Want.{Want}
 use Rattle.call_rules.specs.declared.want.Want.TheVariants as want
-use Rattle.role_steps.specs.Own.{Every}
+use Rattle.the_run.specs.of_role_steps.Own.{Every}
 use Rattle.the_run.specs.Worlds.{Line}
 use Rattle.tree_model.specs.declared.accepted.Waiting.{Waiting}
 use Rattle.tree_model.specs.Calls.{call_named, granted_to}
@@ -24,11 +26,7 @@ use Rattle.tree_laws.specs.Processes.{WaitsFor}
 use Rattle.tree_laws.proofs.CarriedLooks.{one_want}
 use Rattle.tree_laws.proofs.Descriptors.{IsPlain, IsUser, AreUsers, are_users}
 use Rattle.tree_laws.proofs.Later.{earlier_is_over}
-use Rattle.tree_laws.proofs.Names.{true_false, some_is}
 use Rattle.tree_laws.proofs.OneBoot.{one_boot}
-
-none_some : {A : Type 0} (a : A) → ◌≡◌ {A = Option A} None (Some a) → ⊥
-none_some a e = cc
 
 pub compare : (a b : ℕ) → (a < b) ⊎ ((b < a) ⊎ (a ≡ b))
 compare a b = at (nat_lt a b) (nat_lt b a) refl refl
@@ -56,10 +54,10 @@ pub one_asks : (c : Config) (t : List Line) (e : EpochId) (i : Serial) (d other 
 one_asks c t e i d other h a b asks others = at (compare d.n other.n)
   where
     granted : a.for.granted ≡ b.for.granted
-    granted = some_is a.for.granted b.for.granted (sym a.for.is_granted ∙ b.for.is_granted)
+    granted = some_same a.for.granted b.for.granted (sym a.for.is_granted ∙ b.for.is_granted)
 
     caller : a.for.caller ≡ b.for.caller
-    caller = some_is a.for.caller b.for.caller (sym a.for.named ∙ (ap (call_named (entries t)) granted ∙ b.for.named))
+    caller = some_same a.for.caller b.for.caller (sym a.for.named ∙ (ap (call_named (entries t)) granted ∙ b.for.named))
 
     site : d.site ≡ other.site
     site = sym a.for.site_is ∙ (ap (λ (w : Waiting). w.site) caller ∙ b.for.site_is)
@@ -78,7 +76,7 @@ numbered_every P [] n d h e = absurd (none_some d e)
 numbered_every P (x ∷ xs) n d h e = at (numbered_every P xs n d h.1) (n == suc (length xs)) e
   where
     at : (use_number xs n ≡ Some d → P d) → (b : Bool) → cond b (Some x) (use_number xs n) ≡ Some d → P d
-    at later true k = subst P (some_is x d k) h.0
+    at later true k = subst P (some_same x d k) h.0
     at later false k = later k
 
 -- what is asked is a request
@@ -101,7 +99,7 @@ alone c t e i n d other o h a owner b closer = over (granted_to (entries t) e i)
 
     named : (g : CallId) (b : Bool) → cond b (use_number (uses_of (entries t) e i) n) (Some g) ≡ Some d → cond b (close_of (entries t) e i) (Some g) ≡ Some other → ⊥
     named g true p q = same (one_asks c t e i d other h (numbered_every (IsUser (entries t) e i) (uses_of (entries t) e i) n d users.uses p) (users.closes other q) (asking c t d (want.Do i o) a) (asking c t other (want.Close i) b))
-    named g false p q = same (sym (some_is g d p) ∙ some_is g other q)
+    named g false p q = same (sym (some_same g d p) ∙ some_same g other q)
 
     over : (x : Option CallId) → unless_named (entries t) (use_number (uses_of (entries t) e i) n) x ≡ Some d → unless_named (entries t) (close_of (entries t) e i) x ≡ Some other → ⊥
     over None p q = none_some d p

@@ -1,6 +1,8 @@
 -- An answer waits for a request alone; an open that is answered was granted to its call, which hasn't had the instance; and
 -- what a call has was granted to it, or is its descriptor's.
 use Rattle.std.proofs.Common.{◌≡◌, ℕ, ◌+◌, ◌-◌, Bool, true, false, cond, not, ◌&&◌, ◌||◌, List, [], ◌∷◌, ◌++◌, length, take, Option, Some, None, refl, sym, ◌∙◌, ap, subst, ◌⊎◌, inl, inr}
+use Rattle.the_run.proofs.of_plain_facts.Options.{some_same}
+use Rattle.the_run.proofs.of_plain_facts.Tests.{true_false}
 use Rattle.tree_model.specs.declared.accepted.Waiting.{Waiting}
 use Rattle.locus_ids.specs.declared.config.Config.{Config}
 use Rattle.locus_ids.specs.declared.ids.CallId.{CallId}
@@ -28,11 +30,11 @@ use Rattle.call_rules.specs.declared.answer.Answer.{Answer}
 use Rattle.call_rules.specs.declared.answer.Answer.TheVariants as answer
 use Rattle.call_rules.specs.declared.want.Want.{Want}
 use Rattle.call_rules.specs.declared.want.Want.TheVariants as want
-use Rattle.dir_format.specs.declared.looking.LookResult.{LookResult}
-use Rattle.dir_format.specs.declared.looking.LookResult.TheVariants as looked
-use Rattle.dir_format.specs.Contents.{entries_of}
-use Rattle.dir_format.specs.Lookups.{lookup}
-use Rattle.role_steps.specs.Views.{Told, Shown, Promises, Takes, LooksAgain, Begins, Shuts, Reserves}
+use Rattle.tree_model.specs.of_dir_format.declared.looking.LookResult.{LookResult}
+use Rattle.tree_model.specs.of_dir_format.declared.looking.LookResult.TheVariants as looked
+use Rattle.tree_model.specs.of_dir_format.Contents.{entries_of}
+use Rattle.tree_model.specs.of_dir_format.Lookups.{lookup}
+use Rattle.the_run.specs.of_role_steps.Views.{Told, Shown, Promises, Takes, LooksAgain, Begins, Shuts, Reserves}
 use Rattle.the_run.specs.Worlds.{Line}
 use Rattle.tree_model.specs.declared.instance.Instance.{Instance}
 use Rattle.tree_model.specs.Calls.{granted_to, call_named, accepted_as}
@@ -56,7 +58,7 @@ use Rattle.tree_laws.proofs.Descriptors.{IsUser, user_stays, user_accepted}
 use Rattle.tree_laws.proofs.Fresh.{IsNamed, next_is_new, numbered, calls_are_low}
 use Rattle.tree_laws.proofs.Having.{Untaken, named_or_untaken, has_stays}
 use Rattle.tree_laws.proofs.Hearing.{take_all}
-use Rattle.tree_laws.proofs.Names.{true_false, some_is, same_call_eq, same_call_own, same_epoch_own, same_serial_eq, same_serial_own}
+use Rattle.tree_laws.proofs.Names.{same_call_eq, same_call_own, same_epoch_own, same_serial_eq, same_serial_own}
 use Rattle.tree_laws.proofs.Owners.{granted_named, granted_same}
 use Rattle.tree_laws.proofs.Serials.{asks_opens}
 use Rattle.tree_laws.proofs.Scripts.{in_stays}
@@ -208,9 +210,9 @@ awaits_step c n (says.Look e call request f w result) older d a h may named step
 awaits_step c n (says.Refuse e call request i m f why) older d a h may named step k waits = step_answer c n (says.Refuse e call request i m f why) older d a (answer.Refused why) (heard c older d) h may named
     (subst (λ (y : CallId). is_request (asked_now c older y) ≡ true) step (asking c older call may.in_time.opens.asks.wanted may.in_time.opens.asks.asks)) (by_own call d _ (heard c older d) step) (λ j o. o) waits
 awaits_step c n (says.Act e i number o result) older d a h may named step k waits = step_answer c n (says.Act e i number o result) older d a (outcome_answer result) (heard c older d) h may named
-    (subst (λ (y : CallId). is_request (asked_now c older y) ≡ true) (some_is may.in_time.call d (sym may.in_time.owner ∙ step)) (asking c older may.in_time.call (want.Do i o) may.in_time.asks)) (by_owner (call_of_act (entries older) e i number) d _ (heard c older d) step) (outcome_opens result) waits
+    (subst (λ (y : CallId). is_request (asked_now c older y) ≡ true) (some_same may.in_time.call d (sym may.in_time.owner ∙ step)) (asking c older may.in_time.call (want.Do i o) may.in_time.asks)) (by_owner (call_of_act (entries older) e i number) d _ (heard c older d) step) (outcome_opens result) waits
 awaits_step c n (says.Release e i f stamp) older d a h may named step k waits = step_answer c n (says.Release e i f stamp) older d a (close_answer stamp (instance_in (tree_of c e f.group (entries older)) i)) (heard c older d) h may named
-    (subst (λ (y : CallId). is_request (asked_now c older y) ≡ true) (some_is may.in_time.call d (sym may.in_time.owner ∙ step)) (asking c older may.in_time.call (want.Close i) may.in_time.asks)) (by_owner (call_of_release (entries older) e i) d _ (heard c older d) step) (close_opens stamp (instance_in (tree_of c e f.group (entries older)) i)) waits
+    (subst (λ (y : CallId). is_request (asked_now c older y) ≡ true) (some_same may.in_time.call d (sym may.in_time.owner ∙ step)) (asking c older may.in_time.call (want.Close i) may.in_time.asks)) (by_owner (call_of_release (entries older) e i) d _ (heard c older d) step) (close_opens stamp (instance_in (tree_of c e f.group (entries older)) i)) waits
 awaits_step c n (says.Grant e call request inst m f stamp ss) older d a h may named step k waits = record {
   asked = ap is_request (asked_same c older n x d h may named refl) ∙ subst (λ (y : CallId). is_request (asked_now c older y) ≡ true) step (asking c older call may.in_time.opens.asks.wanted may.in_time.opens.asks.asks);
   opens = λ i o. ap is_open_want (asked_same c older n x d h may named refl) ∙ subst (λ (y : CallId). is_open_want (asked_now c older y) ≡ true) step (asks_opens c older e call request inst.serial may.in_time.opens.asked may.in_time.opens.it may.in_time.opens.asks);

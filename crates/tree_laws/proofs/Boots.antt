@@ -1,6 +1,9 @@
 -- A call that waits is of the boot in which its site runs; and calls of one site in one epoch are of one boot.
 use Rattle.std.proofs.Common.{◌≡◌, ℕ, ◌==◌, Bool, true, false, not, cond, ◌&&◌, ◌||◌, List, [], ◌∷◌, filter, Option, Some, None, refl, sym, ◌∙◌, ap, subst}
 use Rattle.std.specs.List.{find}
+use Rattle.the_run.proofs.of_plain_facts.Numbers.{equal, equal_self}
+use Rattle.the_run.proofs.of_plain_facts.Options.{none_some, some_same}
+use Rattle.the_run.proofs.of_plain_facts.Tests.{true_false}
 use Rattle.locus_ids.specs.declared.config.Config.{Config}
 use Rattle.locus_ids.specs.declared.ids.CallId.{CallId}
 use Rattle.trace_book.specs.Same.{same_call}
@@ -8,8 +11,8 @@ use Rattle.trace_book.specs.declared.call.Call.{Call}
 use Rattle.trace_book.specs.declared.call.Call.TheVariants as call
 use Rattle.trace_book.specs.declared.record.Record.{Record}
 use Rattle.trace_book.specs.declared.record.Record.TheVariants as says
-use Rattle.role_steps.specs.Own.{Every}
-use Rattle.role_steps.specs.Views.{Told, Shown}
+use Rattle.the_run.specs.of_role_steps.Own.{Every}
+use Rattle.the_run.specs.of_role_steps.Views.{Told, Shown}
 use Rattle.the_run.specs.Worlds.{Line}
 use Rattle.tree_model.specs.declared.accepted.Waiting.{Waiting}
 use Rattle.tree_model.specs.Calls.{waiting}
@@ -20,10 +23,7 @@ use Rattle.lawful_trace.specs.Lawful.{MayCome}
 use Rattle.tree_laws.specs.Printed.{entries, onto_entries}
 use Rattle.tree_laws.specs.Following.{MayTell, IsFollowed, IsWaiting}
 use Rattle.tree_laws.proofs.Fresh.{numbered}
-use Rattle.tree_laws.proofs.Names.{true_false, some_is, test_same, test_own, same_call_eq}
-
-none_some : {A : Type 0} (a : A) → ◌≡◌ {A = Option A} None (Some a) → ⊥
-none_some a e = cc
+use Rattle.tree_laws.proofs.Names.{same_call_eq}
 
 pub every_filter : {A : Type 0} (P : A → Type 0) (p : A → Bool) (xs : List A) → Every P xs → Every P (filter p xs)
 every_filter P p [] h = tt
@@ -86,10 +86,10 @@ waits_stop n s cause before w = record {
 }
   where
     apart : (x : Waiting) → not (x.site == s) ≡ true → NotAt s x
-    apart x k same = true_false (sym k ∙ ap not (subst (λ (m : ℕ). (m == s) ≡ true) (sym same) (test_own s)))
+    apart x k same = true_false (sym k ∙ ap not (subst (λ (m : ℕ). (m == s) ≡ true) (sym same) (equal_self s)))
 
     down : (t : ℕ) (b : Bool) → (s == t) ≡ b → not b && is_up before t ≡ false → Every (NotAt t) (filter (λ (x : Waiting). not (x.site == s)) (waiting before))
-    down t true e k = subst (λ (m : ℕ). Every (NotAt m) (filter (λ (x : Waiting). not (x.site == s)) (waiting before))) (test_same s t e) (every_passes (NotAt s) (λ (x : Waiting). not (x.site == s)) apart (waiting before))
+    down t true e k = subst (λ (m : ℕ). Every (NotAt m) (filter (λ (x : Waiting). not (x.site == s)) (waiting before))) (equal s t e) (every_passes (NotAt s) (λ (x : Waiting). not (x.site == s)) apart (waiting before))
     down t false e k = every_filter (NotAt t) (λ (x : Waiting). not (x.site == s)) (waiting before) (w.down t k)
 
     out : (t : ℕ) (b : Bool) → (s == t) ≡ b → not b && is_up before t ≡ false → cond b None (epoch_of before t) ≡ None
@@ -104,7 +104,7 @@ waits_up n s boot before down_now w = record {
 }
   where
     at_boot : (x : Waiting) (b : Bool) → (s == x.site) ≡ b → NotAt s x → x.call.boot ≡ boot_of before x.site → x.call.boot ≡ cond b boot (boot_of before x.site)
-    at_boot x true e away h = absurd (away (sym (test_same s x.site e)))
+    at_boot x true e away h = absurd (away (sym (equal s x.site e)))
     at_boot x false e away h = h
 
     still : (x : Waiting) → IsCurrent before x → NotAt s x → IsCurrent (record { line = n; what = says.Up s boot } ∷ before) x
@@ -130,7 +130,7 @@ waits_record c n (says.Answer s process d reply) before may w = record {
 waits_record c n (says.Join s e members) before may w = record { current = w.current; down = w.down; out = λ t. out t (s == t) refl }
   where
     out : (t : ℕ) (b : Bool) → (s == t) ≡ b → is_up before t ≡ false → cond b (Some e) (epoch_of before t) ≡ None
-    out t true k down = absurd (true_false (sym (subst (λ (m : ℕ). is_up before m ≡ true) (test_same s t k) may.up) ∙ down))
+    out t true k down = absurd (true_false (sym (subst (λ (m : ℕ). is_up before m ≡ true) (equal s t k) may.up) ∙ down))
     out t false k down = w.out t down
 waits_record c n (says.Leave s e) before may w = record { current = w.current; down = w.down; out = λ t. out t (s == t) }
   where
@@ -152,7 +152,7 @@ found_every P p [] x e h = absurd (none_some x e)
 found_every P p (y ∷ xs) x e h = at (λ (k : find p xs ≡ Some x). found_every P p xs x k h.1) (p y) refl e
   where
     at : (find p xs ≡ Some x → P x × (p x ≡ true)) → (b : Bool) → p y ≡ b → cond b (Some y) (find p xs) ≡ Some x → P x × (p x ≡ true)
-    at later true t k = (let same : y ≡ x = some_is y x k in (subst P same h.0, subst (λ (z : _). p z ≡ true) same t))
+    at later true t k = (let same : y ≡ x = some_same y x k in (subst P same h.0, subst (λ (z : _). p z ≡ true) same t))
     at later false t k = later k
 
 -- a call that waits at a site is of the boot in which it runs

@@ -15,17 +15,17 @@ use Rattle.trace_book.specs.declared.operation.What.{What}
 use Rattle.trace_book.specs.declared.record.Record.{Record}
 use Rattle.trace_book.specs.declared.record.Record.TheVariants as says
 use Rattle.call_rules.specs.declared.answer.Answer.{Answer}
-use Rattle.wire_messages.specs.declared.body.Body.{Body}
-use Rattle.wire_messages.specs.declared.body.Body.TheVariants as body
-use Rattle.wire_messages.specs.declared.body.Granted.{Granted}
-use Rattle.wire_messages.specs.declared.body.Granted.TheVariants as granted
-use Rattle.wire_messages.specs.declared.body.LookAnswer.{LookAnswer}
-use Rattle.wire_messages.specs.declared.body.MadeVersion.{MadeVersion}
-use Rattle.wire_messages.specs.declared.body.OpenedAs.{OpenedAs}
-use Rattle.wire_messages.specs.declared.body.OpenedAs.TheVariants as opened
-use Rattle.wire_messages.specs.declared.packet.Packet.{Packet}
-use Rattle.role_steps.specs.Reports.{stamp_made}
-use Rattle.role_steps.specs.Views.{Told, Shown}
+use Rattle.the_run.specs.of_wire_messages.declared.body.Body.{Body}
+use Rattle.the_run.specs.of_wire_messages.declared.body.Body.TheVariants as body
+use Rattle.the_run.specs.of_wire_messages.declared.body.Granted.{Granted}
+use Rattle.the_run.specs.of_wire_messages.declared.body.Granted.TheVariants as granted
+use Rattle.the_run.specs.of_wire_messages.declared.body.LookAnswer.{LookAnswer}
+use Rattle.the_run.specs.of_wire_messages.declared.body.MadeVersion.{MadeVersion}
+use Rattle.the_run.specs.of_wire_messages.declared.body.OpenedAs.{OpenedAs}
+use Rattle.the_run.specs.of_wire_messages.declared.body.OpenedAs.TheVariants as opened
+use Rattle.the_run.specs.of_wire_messages.declared.packet.Packet.{Packet}
+use Rattle.the_run.specs.of_role_steps.Reports.{stamp_made}
+use Rattle.the_run.specs.of_role_steps.Views.{Told, Shown}
 use Rattle.the_run.specs.Worlds.{Line}
 use Rattle.tree_model.specs.Epochs.{has_joined}
 use Rattle.tree_model.specs.Folds.{Trace}

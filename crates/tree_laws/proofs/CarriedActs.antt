@@ -1,5 +1,8 @@
 -- What packets of operations and closes carry stays when a line is added.
 use Rattle.std.proofs.Common.{◌≡◌, ℕ, ◌+◌, ◌==◌, Bool, true, false, ◌&&◌, List, Option, Some, refl, sym, ◌∙◌, ap, subst, ◌⊎◌, inl, inr}
+use Rattle.the_run.proofs.of_plain_facts.Numbers.{equal}
+use Rattle.the_run.proofs.of_plain_facts.Options.{some_same}
+use Rattle.the_run.proofs.of_plain_facts.Tests.{true_false}
 use Rattle.locus_ids.specs.declared.config.Config.{Config}
 use Rattle.locus_ids.specs.declared.ids.CallId.{CallId}
 use Rattle.locus_ids.specs.declared.ids.EpochId.{EpochId}
@@ -11,7 +14,7 @@ use Rattle.trace_book.specs.declared.record.Record.{Record}
 use Rattle.trace_book.specs.declared.record.Record.TheVariants as says
 use Rattle.call_rules.specs.declared.want.Want.{Want}
 use Rattle.call_rules.specs.declared.want.Want.TheVariants as want
-use Rattle.role_steps.specs.Views.{Told, Shown}
+use Rattle.the_run.specs.of_role_steps.Views.{Told, Shown}
 use Rattle.the_run.specs.Worlds.{Line}
 use Rattle.tree_model.specs.declared.instance.Granted.{Granted}
 use Rattle.tree_model.specs.declared.instance.Instance.{Instance}
@@ -30,7 +33,6 @@ use Rattle.tree_laws.specs.Instances.{IsOpening}
 use Rattle.tree_laws.specs.Following.{MayTell, IsFollowed}
 use Rattle.tree_laws.specs.Frames.{OwnersStay}
 use Rattle.tree_laws.specs.Packets.{OpsNow, OpFact}
-use Rattle.tree_laws.proofs.Names.{some_is, test_same, true_false}
 use Rattle.tree_laws.proofs.Scripts.{in_stays}
 use Rattle.tree_laws.proofs.Asking.{AsksStill, StepRecord, StepOf, asks_stays}
 use Rattle.tree_laws.proofs.CarriedLooks.{More, one_epoch, one_want}
@@ -47,15 +49,12 @@ do_serial i j o p e = cc
 do_op : (i j : Serial) (o p : Op) → want.Do i o ≡ want.Do j p → o ≡ p
 do_op i j o p e = cc
 
-close_serial : (i j : Serial) → want.Close i ≡ want.Close j → i ≡ j
-close_serial i j e = cc
-
 do_not_close : (i j : Serial) (o : Op) → want.Do i o ≡ want.Close j → ⊥
 do_not_close i j o e = cc
 
 -- the operation that is given is the next of the instance
 given_next : (h : List Version) (t : TreeState) (i : Serial) (n : ℕ) (o : Op) (result : Outcome) (x : Instance) → instance_in t i ≡ Some x → gives_act h t i n o result ≡ true → n ≡ x.work.ops + 1
-given_next h t i n o result x found gives = at (n == x.work.ops + 1) (is_given (result_on h t o x) result) (test_same n (x.work.ops + 1)) (subst (λ (y : Option Instance). instance_gives h t n o result y ≡ true) found gives)
+given_next h t i n o result x found gives = at (n == x.work.ops + 1) (is_given (result_on h t o x) result) (equal n (x.work.ops + 1)) (subst (λ (y : Option Instance). instance_gives h t n o result y ≡ true) found gives)
   where
     at : (a b : Bool) → (a ≡ true → n ≡ x.work.ops + 1) → a && b ≡ true → n ≡ x.work.ops + 1
     at true b h k = h refl
@@ -80,21 +79,21 @@ done_now c older e ss i n o seen k at inst number what result may same_at same_i
         (subst (λ (j : Serial). call_of_act (entries older) e j number ≡ Some may.in_time.call) same_inst (subst (λ (y : EpochId). call_of_act (entries older) y inst number ≡ Some may.in_time.call) same_at may.in_time.owner))
 
     operation_is : what ≡ o
-    operation_is = do_op inst i what o (one_want c older k.call (want.Do inst what) (want.Do i o) (subst (λ (y : CallId). Asks c older y (want.Do inst what)) (some_is may.in_time.call k.call (sym owner ∙ k.owner)) may.in_time.asks) k.asks)
+    operation_is = do_op inst i what o (one_want c older k.call (want.Do inst what) (want.Do i o) (subst (λ (y : CallId). Asks c older y (want.Do inst what)) (some_same may.in_time.call k.call (sym owner ∙ k.owner)) may.in_time.asks) k.asks)
 
 -- a step of the call is this operation
 op_step : (c : Config) (older : List Line) (e : EpochId) (ss : ℕ) (i : Serial) (n : ℕ) (o : Op) (seen : List ℕ) (k : OpsNow c older e ss i n o seen) (r : Record) → MayTell c older (Shown r) → StepRecord (entries older) r k.call → (result : Outcome) × ActRecord e i n o result older r
 op_step c older e ss i n o seen k (says.Act at inst number what result) may step = (result, done_now c older e ss i n o seen k at inst number what result may same_at (do_serial inst i what o wants))
   where
     call_is : may.in_time.call ≡ k.call
-    call_is = some_is may.in_time.call k.call (sym may.in_time.owner ∙ step)
+    call_is = some_same may.in_time.call k.call (sym may.in_time.owner ∙ step)
 
     wants : want.Do inst what ≡ want.Do i o
     wants = one_want c older k.call (want.Do inst what) (want.Do i o) (subst (λ (y : CallId). Asks c older y (want.Do inst what)) call_is may.in_time.asks) k.asks
 
     same_at : at ≡ e
-    same_at = one_epoch older at e k.call (subst (λ (y : CallId). IsCallIn (entries older) at y) (some_is may.row.step.call k.call (sym may.row.step.owned ∙ step)) may.row.step.step) k.inside
-op_step c older e ss i n o seen k (says.Release at inst file stamp) may step = absurd (do_not_close i inst o (one_want c older k.call (want.Do i o) (want.Close inst) k.asks (subst (λ (y : CallId). Asks c older y (want.Close inst)) (some_is may.in_time.call k.call (sym may.in_time.owner ∙ step)) may.in_time.asks)))
+    same_at = one_epoch older at e k.call (subst (λ (y : CallId). IsCallIn (entries older) at y) (some_same may.row.step.call k.call (sym may.row.step.owned ∙ step)) may.row.step.step) k.inside
+op_step c older e ss i n o seen k (says.Release at inst file stamp) may step = absurd (do_not_close i inst o (one_want c older k.call (want.Do i o) (want.Close inst) k.asks (subst (λ (y : CallId). Asks c older y (want.Close inst)) (some_same may.in_time.call k.call (sym may.in_time.owner ∙ step)) may.in_time.asks)))
 op_step c older e ss i n o seen k (says.Look at call number file what result) may step = absurd (other (one_want c older k.call (want.Look file what) (want.Do i o) (subst (λ (y : CallId). Asks c older y (want.Look file what)) step may.in_time.asks) k.asks))
   where
     other : want.Look file what ≡ want.Do i o → ⊥

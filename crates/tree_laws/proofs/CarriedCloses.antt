@@ -1,6 +1,8 @@
 -- What packets of closes carry stays when a line is added.
 use Rattle.std.proofs.Common.{◌≡◌, ℕ, Bool, true, false, ◌&&◌, ◌||◌, not, List, Option, Some, None, refl, sym, ◌∙◌, ap, subst, arith, ◌⊎◌, inl, inr}
 use Rattle.std.proofs.lemmas.Bool.Decides.{nat_tests}
+use Rattle.the_run.proofs.of_plain_facts.Options.{some_same}
+use Rattle.the_run.proofs.of_plain_facts.Tests.{true_false}
 use Rattle.locus_ids.specs.declared.config.Config.{Config}
 use Rattle.locus_ids.specs.declared.ids.CallId.{CallId}
 use Rattle.locus_ids.specs.declared.ids.EpochId.{EpochId}
@@ -9,14 +11,14 @@ use Rattle.locus_ids.specs.declared.ids.Serial.{Serial}
 use Rattle.locus_ids.specs.declared.ids.Stamp.{Stamp}
 use Rattle.commit_graph.specs.Versions.{same_file, same_stamp}
 use Rattle.commit_graph.specs.declared.history.Version.{Version}
-use Rattle.file_effects.specs.declared.work.Work.{Work}
+use Rattle.tree_model.specs.of_file_effects.declared.work.Work.{Work}
 use Rattle.trace_book.specs.declared.operation.Op.{Op}
 use Rattle.trace_book.specs.declared.record.Record.{Record}
 use Rattle.trace_book.specs.declared.record.Record.TheVariants as says
 use Rattle.call_rules.specs.declared.answer.Answer.{Answer}
 use Rattle.call_rules.specs.declared.want.Want.{Want}
 use Rattle.call_rules.specs.declared.want.Want.TheVariants as want
-use Rattle.role_steps.specs.Views.{Told, Shown}
+use Rattle.the_run.specs.of_role_steps.Views.{Told, Shown}
 use Rattle.the_run.specs.Worlds.{Line}
 use Rattle.tree_model.specs.declared.instance.Granted.{Granted}
 use Rattle.tree_model.specs.declared.instance.Instance.{Instance}
@@ -36,7 +38,6 @@ use Rattle.tree_laws.specs.Instances.{IsOpening}
 use Rattle.tree_laws.specs.Following.{MayTell, IsFollowed}
 use Rattle.tree_laws.specs.Frames.{OwnersStay, CommitsTold, CommitsOwe}
 use Rattle.tree_laws.specs.Packets.{ClosesNow, CloseFact, EndsNow}
-use Rattle.tree_laws.proofs.Names.{some_is, true_false}
 use Rattle.tree_laws.proofs.Scripts.{in_stays}
 use Rattle.tree_laws.proofs.Asking.{AsksStill, StepRecord, StepOf, asks_stays}
 use Rattle.tree_laws.proofs.CarriedLooks.{More, one_epoch, one_want}
@@ -53,11 +54,11 @@ do_not_close i j o e = cc
 
 -- a step of a call that closes an instance is its release
 close_step : (c : Config) (older : List Line) (e : EpochId) (ss : ℕ) (i : Serial) (at : Instance) (k : ClosesNow c older e ss i at) (r : Record) → MayTell c older (Shown r) → StepRecord (entries older) r k.call → EndsIt e i r
-close_step c older e ss i at k (says.Release there inst file stamp) may step = (same_at, close_serial inst i (one_want c older k.call (want.Close inst) (want.Close i) (subst (λ (y : CallId). Asks c older y (want.Close inst)) (some_is may.in_time.call k.call (sym may.in_time.owner ∙ step)) may.in_time.asks) k.asks))
+close_step c older e ss i at k (says.Release there inst file stamp) may step = (same_at, close_serial inst i (one_want c older k.call (want.Close inst) (want.Close i) (subst (λ (y : CallId). Asks c older y (want.Close inst)) (some_same may.in_time.call k.call (sym may.in_time.owner ∙ step)) may.in_time.asks) k.asks))
   where
     same_at : there ≡ e
-    same_at = one_epoch older there e k.call (subst (λ (y : CallId). IsCallIn (entries older) there y) (some_is may.row.step.call k.call (sym may.row.step.owned ∙ step)) may.row.step.step) k.inside
-close_step c older e ss i at k (says.Act there inst number what result) may step = absurd (do_not_close inst i what (one_want c older k.call (want.Do inst what) (want.Close i) (subst (λ (y : CallId). Asks c older y (want.Do inst what)) (some_is may.in_time.call k.call (sym may.in_time.owner ∙ step)) may.in_time.asks) k.asks))
+    same_at = one_epoch older there e k.call (subst (λ (y : CallId). IsCallIn (entries older) there y) (some_same may.row.step.call k.call (sym may.row.step.owned ∙ step)) may.row.step.step) k.inside
+close_step c older e ss i at k (says.Act there inst number what result) may step = absurd (do_not_close inst i what (one_want c older k.call (want.Do inst what) (want.Close i) (subst (λ (y : CallId). Asks c older y (want.Do inst what)) (some_same may.in_time.call k.call (sym may.in_time.owner ∙ step)) may.in_time.asks) k.asks))
 close_step c older e ss i at k (says.Look there call number file what result) may step = absurd (other (one_want c older k.call (want.Look file what) (want.Close i) (subst (λ (y : CallId). Asks c older y (want.Look file what)) step may.in_time.asks) k.asks))
   where
     other : want.Look file what ≡ want.Close i → ⊥

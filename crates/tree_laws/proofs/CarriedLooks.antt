@@ -1,5 +1,6 @@
 -- What packets of looks and opens carry stays when a line is added.
 use Rattle.std.proofs.Common.{◌≡◌, ℕ, ◌+◌, List, ◌∷◌, length, refl, sym, ◌∙◌, ap, subst, ◌⊎◌, inl, inr}
+use Rattle.the_run.proofs.of_plain_facts.Options.{some_same}
 use Rattle.locus_ids.specs.declared.config.Config.{Config}
 use Rattle.locus_ids.specs.declared.ids.CallId.{CallId}
 use Rattle.locus_ids.specs.declared.ids.EpochId.{EpochId}
@@ -10,7 +11,7 @@ use Rattle.trace_book.specs.declared.record.Record.{Record}
 use Rattle.trace_book.specs.declared.record.Record.TheVariants as says
 use Rattle.call_rules.specs.declared.want.Want.{Want}
 use Rattle.call_rules.specs.declared.want.Want.TheVariants as want
-use Rattle.role_steps.specs.Views.{Told, Shown}
+use Rattle.the_run.specs.of_role_steps.Views.{Told, Shown}
 use Rattle.the_run.specs.Worlds.{Line}
 use Rattle.tree_model.specs.declared.accepted.Waiting.{Waiting}
 use Rattle.lawful_trace.specs.Progress.{Answers}
@@ -21,7 +22,6 @@ use Rattle.tree_laws.specs.Past.{WasLooked, LookRecord}
 use Rattle.tree_laws.specs.Instances.{IsOpening}
 use Rattle.tree_laws.specs.Following.{MayTell, IsFollowed}
 use Rattle.tree_laws.specs.Packets.{IsCallOf, LooksNow, LookFact}
-use Rattle.tree_laws.proofs.Names.{some_is}
 use Rattle.tree_laws.proofs.Scripts.{in_stays, named_stays}
 use Rattle.tree_laws.proofs.Asking.{AsksStill, StepRecord, StepOf, asks_stays}
 
@@ -41,7 +41,7 @@ call_of_stays c n x older h may e us k process d f = record {
 
 -- a call is of one epoch
 pub one_epoch : (older : List Line) (e f : EpochId) (d : CallId) → IsCallIn (entries older) e d → IsCallIn (entries older) f d → e ≡ f
-one_epoch older e f d a b = some_is e f (sym a.made_in ∙ (ap (λ (w : Waiting). w.epoch) (some_is a.accepted b.accepted (sym a.named ∙ b.named)) ∙ b.made_in))
+one_epoch older e f d a b = some_same e f (sym a.made_in ∙ (ap (λ (w : Waiting). w.epoch) (some_same a.accepted b.accepted (sym a.named ∙ b.named)) ∙ b.made_in))
 
 -- a call asks one thing
 pub one_want : (c : Config) (older : List Line) (d : CallId) (v w : Want) → Asks c older d v → Asks c older d w → v ≡ w
@@ -83,11 +83,11 @@ looked_now c older e d request times f w (says.Refuse at call number i m file wh
   where
     other : (v : Want) → IsOpening c v may.in_time.opens.asked may.in_time.opens.it → v ≡ want.Look f w → ⊥
     other v o e = (subst (λ (y : Want). IsOpening c y may.in_time.opens.asked may.in_time.opens.it) e o)
-looked_now c older e d request times f w (says.Act at i number o result) may inside k step = absurd (other (one_want c older d (want.Do i o) (want.Look f w) (subst (λ (y : CallId). Asks c older y (want.Do i o)) (some_is may.in_time.call d (sym may.in_time.owner ∙ step)) may.in_time.asks) k.asks))
+looked_now c older e d request times f w (says.Act at i number o result) may inside k step = absurd (other (one_want c older d (want.Do i o) (want.Look f w) (subst (λ (y : CallId). Asks c older y (want.Do i o)) (some_same may.in_time.call d (sym may.in_time.owner ∙ step)) may.in_time.asks) k.asks))
   where
     other : want.Do i o ≡ want.Look f w → ⊥
     other e = cc
-looked_now c older e d request times f w (says.Release at i file stamp) may inside k step = absurd (other (one_want c older d (want.Close i) (want.Look f w) (subst (λ (y : CallId). Asks c older y (want.Close i)) (some_is may.in_time.call d (sym may.in_time.owner ∙ step)) may.in_time.asks) k.asks))
+looked_now c older e d request times f w (says.Release at i file stamp) may inside k step = absurd (other (one_want c older d (want.Close i) (want.Look f w) (subst (λ (y : CallId). Asks c older y (want.Close i)) (some_same may.in_time.call d (sym may.in_time.owner ∙ step)) may.in_time.asks) k.asks))
   where
     other : want.Close i ≡ want.Look f w → ⊥
     other e = cc

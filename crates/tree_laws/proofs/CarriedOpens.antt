@@ -1,5 +1,6 @@
 -- What packets of opens carry stays when a line is added.
 use Rattle.std.proofs.Common.{◌≡◌, ℕ, List, [], ◌∷◌, sym, ◌∙◌, ap, subst, ◌⊎◌, inl, inr}
+use Rattle.the_run.proofs.of_plain_facts.Options.{some_same}
 use Rattle.locus_ids.specs.declared.config.Config.{Config}
 use Rattle.locus_ids.specs.declared.ids.CallId.{CallId}
 use Rattle.locus_ids.specs.declared.ids.EpochId.{EpochId}
@@ -10,8 +11,8 @@ use Rattle.trace_book.specs.declared.record.Record.{Record}
 use Rattle.trace_book.specs.declared.record.Record.TheVariants as says
 use Rattle.call_rules.specs.declared.want.Want.{Want}
 use Rattle.call_rules.specs.declared.want.Want.TheVariants as want
-use Rattle.wire_messages.specs.declared.body.Opening.{Opening}
-use Rattle.role_steps.specs.Views.{Told, Shown}
+use Rattle.the_run.specs.of_wire_messages.declared.body.Opening.{Opening}
+use Rattle.the_run.specs.of_role_steps.Views.{Told, Shown}
 use Rattle.the_run.specs.Worlds.{Line}
 use Rattle.lawful_trace.specs.TreeRows.{IsCallIn}
 use Rattle.tree_laws.specs.Printed.{entries}
@@ -21,7 +22,6 @@ use Rattle.tree_laws.specs.Past.{Was, Printed, WasNamed, WasNamedIn, NamesIt, Na
 use Rattle.tree_laws.specs.Instances.{AsksOpen, IsOpening}
 use Rattle.tree_laws.specs.Following.{MayTell, IsFollowed, OpensInTime}
 use Rattle.tree_laws.specs.Packets.{OpenFact, serial_of}
-use Rattle.tree_laws.proofs.Names.{some_is}
 use Rattle.tree_laws.proofs.Scripts.{in_stays}
 use Rattle.tree_laws.proofs.Asking.{AsksStill, StepRecord, StepOf, asks_stays}
 use Rattle.tree_laws.proofs.CarriedLooks.{More, call_of_stays, one_epoch, one_want, number_same}
@@ -55,8 +55,8 @@ opened_now : (c : Config) (older : List Line) (e : EpochId) (us serial : ℕ) (d
 opened_now c older e us serial d request f it (says.Grant at call number i m file stamp ss) may site k step = names_now c older e at us serial d call request number i m f file it site k step may.row.opens.step may.in_time.opens
 opened_now c older e us serial d request f it (says.Refuse at call number i m file why) may site k step = names_now c older e at us serial d call request number i m f file it site k step may.row.opens.step may.in_time.opens
 opened_now c older e us serial d request f it (says.Look at call number file what result) may site k step = absurd (subst (λ (y : Want). IsOpening c y f it) (one_want c older d k.wanted (want.Look file what) k.asks (subst (λ (y : CallId). Asks c older y (want.Look file what)) step may.in_time.asks)) k.opening_is)
-opened_now c older e us serial d request f it (says.Act at i number o result) may site k step = absurd (subst (λ (y : Want). IsOpening c y f it) (one_want c older d k.wanted (want.Do i o) k.asks (subst (λ (y : CallId). Asks c older y (want.Do i o)) (some_is may.in_time.call d (sym may.in_time.owner ∙ step)) may.in_time.asks)) k.opening_is)
-opened_now c older e us serial d request f it (says.Release at i file stamp) may site k step = absurd (subst (λ (y : Want). IsOpening c y f it) (one_want c older d k.wanted (want.Close i) k.asks (subst (λ (y : CallId). Asks c older y (want.Close i)) (some_is may.in_time.call d (sym may.in_time.owner ∙ step)) may.in_time.asks)) k.opening_is)
+opened_now c older e us serial d request f it (says.Act at i number o result) may site k step = absurd (subst (λ (y : Want). IsOpening c y f it) (one_want c older d k.wanted (want.Do i o) k.asks (subst (λ (y : CallId). Asks c older y (want.Do i o)) (some_same may.in_time.call d (sym may.in_time.owner ∙ step)) may.in_time.asks)) k.opening_is)
+opened_now c older e us serial d request f it (says.Release at i file stamp) may site k step = absurd (subst (λ (y : Want). IsOpening c y f it) (one_want c older d k.wanted (want.Close i) k.asks (subst (λ (y : CallId). Asks c older y (want.Close i)) (some_same may.in_time.call d (sym may.in_time.owner ∙ step)) may.in_time.asks)) k.opening_is)
 opened_now c older e us serial d request f it _ may site k step = absurd step
 
 -- an open that is asked now is asked still, or named

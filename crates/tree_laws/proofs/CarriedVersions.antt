@@ -1,6 +1,6 @@
 -- What packets carry of versions stays when a line is added, as far as the order of versions gives it.
 use Rattle.std.proofs.Common.{◌≡◌, ℕ, max, List, [], ◌∷◌, length, Option, Some, None, sym, ◌∙◌, ap, subst, ◌⊎◌, inl, inr}
-use Rattle.version_vector.specs.Counters.{part}
+use Rattle.tree_model.specs.of_version_vector.Counters.{part}
 use Rattle.locus_ids.specs.declared.config.Config.{Config}
 use Rattle.locus_ids.specs.declared.ids.EpochId.{EpochId}
 use Rattle.locus_ids.specs.declared.ids.FileId.{FileId}
@@ -13,11 +13,11 @@ use Rattle.locus_ids.specs.declared.sites.Sites.{Sites}
 use Rattle.trace_book.specs.declared.operation.Served.{Served}
 use Rattle.trace_book.specs.declared.operation.Served.TheVariants as served
 use Rattle.trace_book.specs.declared.operation.What.{What}
-use Rattle.wire_messages.specs.declared.body.LookAnswer.{LookAnswer}
-use Rattle.wire_messages.specs.declared.body.LookAnswer.TheVariants as looked
-use Rattle.wire_messages.specs.declared.body.MadeVersion.{MadeVersion}
-use Rattle.role_steps.specs.Storage.{served_content}
-use Rattle.role_steps.specs.Views.{Told}
+use Rattle.the_run.specs.of_wire_messages.declared.body.LookAnswer.{LookAnswer}
+use Rattle.the_run.specs.of_wire_messages.declared.body.LookAnswer.TheVariants as looked
+use Rattle.the_run.specs.of_wire_messages.declared.body.MadeVersion.{MadeVersion}
+use Rattle.the_run.specs.of_role_steps.Storage.{served_content}
+use Rattle.the_run.specs.of_role_steps.Views.{Told}
 use Rattle.the_run.specs.Worlds.{Line}
 use Rattle.tree_model.specs.Files.{HeldVersion, version_of}
 use Rattle.tree_model.specs.Tree.{kept_in}

@@ -2,6 +2,7 @@
 use Rattle.std.proofs.Common.{◌≡◌, ℕ, ◌+◌, ◌≤◌, ◌==◌, Bool, true, false, cond, ◌&&◌, List, [], ◌∷◌, ◌++◌, Option, Some, None, refl, sym, ◌∙◌, ap, subst, arith, inl, inr}
 use Rattle.std.proofs.lemmas.Bool.Decides.{nat_tests}
 use Rattle.std.specs.Prelude.{nat_lt}
+use Rattle.the_run.proofs.of_plain_facts.Numbers.{equal_self, equal as test_same}
 use Rattle.locus_ids.specs.declared.config.Config.{Config}
 use Rattle.locus_ids.specs.declared.ids.CallId.{CallId}
 use Rattle.trace_book.specs.Same.{same_call}
@@ -9,7 +10,7 @@ use Rattle.trace_book.specs.declared.call.Call.{Call}
 use Rattle.trace_book.specs.declared.record.Record.{Record}
 use Rattle.trace_book.specs.declared.record.Record.TheVariants as says
 use Rattle.call_rules.specs.declared.answer.Answer.{Answer}
-use Rattle.role_steps.specs.Views.{Told, Shown, Takes}
+use Rattle.the_run.specs.of_role_steps.Views.{Told, Shown, Takes}
 use Rattle.the_run.specs.Worlds.{Line}
 use Rattle.tree_model.specs.declared.accepted.Waiting.{Waiting}
 use Rattle.tree_model.specs.Calls.{call_named, accepted_as}
@@ -21,7 +22,7 @@ use Rattle.tree_laws.specs.Serials.{asked_now, is_open_want, opens_asked, serial
 use Rattle.tree_laws.specs.Following.{MayTell, IsFollowed}
 use Rattle.tree_laws.proofs.Boots.{waiting_boot}
 use Rattle.tree_laws.proofs.Fresh.{IsLow, IsNamed, numbered, calls_are_low}
-use Rattle.tree_laws.proofs.Names.{test_same, test_own, same_call_eq, same_call_own}
+use Rattle.tree_laws.proofs.Names.{same_call_eq, same_call_own}
 use Rattle.tree_laws.proofs.Scripts.{script_stays}
 
 abbrev With : ℕ → Told → List Line → List Line
@@ -108,7 +109,7 @@ pub accept_turned : (c : Config) (older : List Line) (n s process : ℕ) (new : 
 accept_turned c older n s process new words h may = record {
   serial_own = subst (λ (m : ℕ). serial_asked c now_told new ≡ opens_asked c now_told m) (sym at_site) own;
   serial_other = λ d e. ap (λ (b : Bool). cond b (opens_asked c now_told s) (serial_asked c older d)) e;
-  count_open = λ o. subst (λ (m : ℕ). opens_asked c now_told m ≡ opens_asked c older m + 1) (sym at_site) (ap (λ (b : Bool). cond (b && is_open_want (asked_now c now_told new)) (opens_asked c older s + 1) (opens_asked c older s)) (test_own s) ∙ ap (λ (b : Bool). cond b (opens_asked c older s + 1) (opens_asked c older s)) o);
+  count_open = λ o. subst (λ (m : ℕ). opens_asked c now_told m ≡ opens_asked c older m + 1) (sym at_site) (ap (λ (b : Bool). cond (b && is_open_want (asked_now c now_told new)) (opens_asked c older s + 1) (opens_asked c older s)) (equal_self s) ∙ ap (λ (b : Bool). cond b (opens_asked c older s + 1) (opens_asked c older s)) o);
   count_more = λ site. more ((s == site) && is_open_want (asked_now c now_told new)) (opens_asked c older site);
   other = λ d named e. (old d named e, asked_same c older n x d h may (old d named e) refl);
   boots = λ site. refl;
@@ -141,7 +142,7 @@ pub take_turned : (c : Config) (older : List Line) (n s : ℕ) (it : CallId) (re
 take_turned c older n s it request times a h may = record {
   serial_own = subst (λ (m : ℕ). serial_asked c now_told it ≡ opens_asked c now_told m) (sym may.site_is) own;
   serial_other = λ d e. ap (λ (b : Bool). cond b (opens_asked c now_told s) (serial_asked c older d)) e;
-  count_open = λ o. subst (λ (m : ℕ). opens_asked c now_told m ≡ opens_asked c older m + 1) (sym may.site_is) (ap (λ (b : Bool). cond (b && is_open_want (asked_now c now_told it)) (opens_asked c older s + 1) (opens_asked c older s)) (test_own s) ∙ ap (λ (b : Bool). cond b (opens_asked c older s + 1) (opens_asked c older s)) o);
+  count_open = λ o. subst (λ (m : ℕ). opens_asked c now_told m ≡ opens_asked c older m + 1) (sym may.site_is) (ap (λ (b : Bool). cond (b && is_open_want (asked_now c now_told it)) (opens_asked c older s + 1) (opens_asked c older s)) (equal_self s) ∙ ap (λ (b : Bool). cond b (opens_asked c older s + 1) (opens_asked c older s)) o);
   count_more = λ site. more ((s == site) && is_open_want (asked_now c now_told it)) (opens_asked c older site);
   other = λ d named e. (named, asked_same c older n x d h may named (ap (λ (b : Bool). cond b (log older d ++ a ∷ []) (log older d)) e));
   boots = λ site. refl;

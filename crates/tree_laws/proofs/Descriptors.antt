@@ -1,6 +1,9 @@
 -- What a descriptor stands for was granted to a call of its process; so who uses or closes an instance by a descriptor is a
 -- call of the process that it was granted to, made in its epoch.
 use Rattle.std.proofs.Common.{◌≡◌, ℕ, ◌==◌, Bool, true, false, not, cond, ◌&&◌, ◌||◌, List, [], ◌∷◌, Option, Some, None, refl, sym, ◌∙◌, ap, subst}
+use Rattle.the_run.proofs.of_plain_facts.Numbers.{equal}
+use Rattle.the_run.proofs.of_plain_facts.Options.{none_some, some_same}
+use Rattle.the_run.proofs.of_plain_facts.Tests.{true_false}
 use Rattle.locus_ids.specs.declared.config.Config.{Config}
 use Rattle.locus_ids.specs.declared.ids.CallId.{CallId}
 use Rattle.locus_ids.specs.declared.ids.EpochId.{EpochId}
@@ -20,8 +23,8 @@ use Rattle.trace_book.specs.declared.reply.Reply.{Reply}
 use Rattle.trace_book.specs.declared.reply.Reply.TheVariants as reply
 use Rattle.call_rules.specs.Descriptors.{is_in, begins_on, begins_walk, begins_open, beginning, lowest_free}
 use Rattle.call_rules.specs.Words.{is_too_long}
-use Rattle.role_steps.specs.Own.{Every}
-use Rattle.role_steps.specs.Views.{Told, Shown}
+use Rattle.the_run.specs.of_role_steps.Own.{Every}
+use Rattle.the_run.specs.of_role_steps.Views.{Told, Shown}
 use Rattle.the_run.specs.Worlds.{Line}
 use Rattle.tree_model.specs.declared.accepted.Waiting.{Waiting}
 use Rattle.tree_model.specs.Calls.{call_named, accepted_as, granted_to, opening_of, waiting}
@@ -34,16 +37,13 @@ use Rattle.tree_laws.specs.Printed.{entries, onto_entries}
 use Rattle.tree_laws.specs.Following.{MayTell, IsFollowed}
 use Rattle.tree_laws.proofs.Boots.{every_both, found_every}
 use Rattle.tree_laws.proofs.Fresh.{numbered}
-use Rattle.tree_laws.proofs.Names.{true_false, some_is, test_same, same_call_eq, same_call_own, same_epoch_eq, same_epoch_own, same_serial_eq, same_serial_own}
+use Rattle.tree_laws.proofs.Names.{same_call_eq, same_call_own, same_epoch_eq, same_epoch_own, same_serial_eq, same_serial_own}
 use Rattle.tree_laws.proofs.Owners.{granted_same, named_more}
 use Rattle.tree_laws.proofs.Scripts.{named_stays}
 use Rattle.tree_laws.proofs.Waiting.{accepted}
 
 abbrev With : ℕ → Record → Trace → Trace
 With n r before = record { line = n; what = r } ∷ before
-
-none_some : {A : Type 0} (a : A) → ◌≡◌ {A = Option A} None (Some a) → ⊥
-none_some a e = cc
 
 -- ---- what was granted last ----
 
@@ -57,7 +57,7 @@ opening_record c older n (says.Grant at call request inst m f stamp ss) may k d 
     own g o = ap (λ (b : Bool). cond (b && same_serial inst inst) (Some g) o) (same_epoch_own at) ∙ ap (λ (b : Bool). cond b (Some g) o) (same_serial_own inst)
 
     over : (b : Bool) → same_call call d ≡ b → cond b (Some (record { mode = m; epoch = at; inst = inst })) (opening_of (entries older) d) ≡ Some x → granted_to (With n (says.Grant at call request inst m f stamp ss) (entries older)) x.epoch x.inst ≡ Some d
-    over true p q = subst (λ (y : Descriptor). granted_to (With n (says.Grant at call request inst m f stamp ss) (entries older)) y.epoch y.inst ≡ Some d) (some_is (record { mode = m; epoch = at; inst = inst }) x q) (own call (granted_to (entries older) at inst) ∙ ap Some (same_call_eq call d p))
+    over true p q = subst (λ (y : Descriptor). granted_to (With n (says.Grant at call request inst m f stamp ss) (entries older)) y.epoch y.inst ≡ Some d) (some_same (record { mode = m; epoch = at; inst = inst }) x q) (own call (granted_to (entries older) at inst) ∙ ap Some (same_call_eq call d p))
     over false p q = granted_same c older n (says.Grant at call request inst m f stamp ss) x.epoch x.inst d may (k d x q)
 opening_record c older n r may k d x h = granted_same c older n r x.epoch x.inst d may (k d x h)
 
@@ -109,7 +109,7 @@ pub opened_left : (r : Reply) (fd : ℕ) (opening old : Option Descriptor) (x : 
 opened_left (reply.Opened n) fd opening old x P new was h = over (n == fd) refl h
   where
     over : (b : Bool) → (n == fd) ≡ b → cond b opening old ≡ Some x → P
-    over true e k = new (ap reply.Opened (test_same n fd e)) k
+    over true e k = new (ap reply.Opened (equal n fd e)) k
     over false e k = was k
 opened_left _ fd opening old x P new was h = was h
 
@@ -137,8 +137,8 @@ stand_answer c older n s process d r h may k site user fd x e = over (s == site)
       is_granted = granted_same c older n (says.Answer s process d r) x.epoch x.inst d may (all_opening c older h d x o);
       caller = may.row.caller;
       named = ap (call_named (entries older)) (sym (same_call_eq may.row.caller.call d is.1.1)) ∙ found.0;
-      site_is = test_same may.row.caller.site s is.0 ∙ test_same s site p;
-      process_is = test_same may.row.caller.process process is.1.0 ∙ test_same process user q;
+      site_is = equal may.row.caller.site s is.0 ∙ equal s site p;
+      process_is = equal may.row.caller.process process is.1.0 ∙ equal process user q;
       answered = is_answered (ap is_opened opens);
     }
 
@@ -198,9 +198,6 @@ pub record FromDescriptor (table : ℕ → Option Descriptor) (now : Option Epoc
 
 denied_uses : (why : Refusal) (e : EpochId) (i : Serial) → begins.Denied why ≡ begins.Uses e i → ⊥
 denied_uses why e i k = cc
-
-walks_uses : (e : EpochId) (i : Serial) → begins.Walks ≡ begins.Uses e i → ⊥
-walks_uses e i k = cc
 
 uses_epoch : (e g : EpochId) (i j : Serial) → begins.Uses e i ≡ begins.Uses g j → e ≡ g
 uses_epoch e g i j k = cc
@@ -329,7 +326,7 @@ users_accept c older n s process new words e i h may k = record { uses = uses (n
     uses false t = stay
 
     closes : (d : CallId) (b : Bool) → (is_close words && uses_by (begins_now (entries older) s process words) e i) ≡ b → cond b (Some new) (close_of (entries older) e i) ≡ Some d → IsUser (With n r (entries older)) e i d
-    closes d true t o = subst (IsUser (With n r (entries older)) e i) (some_is new d o) (user_accepted c older n s process new words e i h may (second (is_close words) (uses_by (begins_now (entries older) s process words) e i) t))
+    closes d true t o = subst (IsUser (With n r (entries older)) e i) (some_same new d o) (user_accepted c older n s process new words e i h may (second (is_close words) (uses_by (begins_now (entries older) s process words) e i) t))
     closes d false t o = user_stays c older n r e i d h may (k.closes d o)
 
 users_record : (c : Config) (older : List Line) (n : ℕ) (r : Record) (e : EpochId) (i : Serial) → IsFollowed c older → MayTell c older (Shown r) → AreUsers (entries older) e i → AreUsers (With n r (entries older)) e i

@@ -1,6 +1,7 @@
 -- What is found in a list when one of it is changed or taken out, or one is added.
 use Rattle.std.proofs.Common.{◌≡◌, Bool, true, false, List, [], ◌∷◌, ◌++◌, Option, Some, None, refl, ◌⊎◌, inl, inr}
 use Rattle.std.specs.List.{find}
+use Rattle.the_run.proofs.of_plain_facts.Options.{none_some}
 use Rattle.tree_model.specs.Lists.{change_first, without_first}
 
 -- the first that passes q is changed, in a way that p doesn't see: what p finds is as it was, or it is the one that is changed
@@ -23,9 +24,6 @@ find_changed {X} p q change same (x ∷ xs) = at (find_changed p q change same x
     at later true false f e = inl (rw f (rw (same x) (rw e refl)))
     at later false true f e = inl (rw f (rw e refl))
     at later false false f e = skip e f later
-
-none_some : {X : Type 0} (x : X) → ◌≡◌ {A = Option X} None (Some x) → ⊥
-none_some x e = cc
 
 pub find_added : {X : Type 0} (p : X → Bool) (xs ys : List X) (x : X) → find p xs ≡ Some x → find p (xs ++ ys) ≡ Some x
 find_added p [] ys x e = absurd (none_some x e)

@@ -1,5 +1,6 @@
 -- What a call asks, but for its reply, doesn't hang on which descriptor is free.
 use Rattle.std.proofs.Common.{◌≡◌, ℕ, Bool, true, false, cond, List, [], ◌∷◌, Option, Some, None, refl, sym, ap}
+use Rattle.the_run.proofs.of_plain_facts.Tests.{true_false}
 use Rattle.locus_ids.specs.declared.config.Config.{Config}
 use Rattle.locus_ids.specs.declared.config.Mount.{Mount}
 use Rattle.locus_ids.specs.declared.ids.FileId.{FileId}
@@ -25,7 +26,6 @@ use Rattle.tree_model.specs.declared.accepted.Waiting.{Waiting}
 use Rattle.tree_model.specs.Folds.{Trace}
 use Rattle.lawful_trace.specs.Progress.{Answers, is_packed_in}
 use Rattle.tree_laws.specs.Calls.{is_request, script_as}
-use Rattle.tree_laws.proofs.Names.{true_false}
 
 -- the two ask the same, or the first asks nothing
 abbrev pub AsksSame : Want → Want → Type 0

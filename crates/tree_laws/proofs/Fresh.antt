@@ -3,6 +3,9 @@
 use Rattle.std.proofs.Common.{◌≡◌, ℕ, ◌+◌, ◌≤◌, ◌<◌, ◌==◌, Bool, true, false, cond, List, [], ◌∷◌, Option, Some, None, refl, sym, ◌∙◌, ap, subst, arith, ◌⊎◌, inl, inr, ⊎_elim}
 use Rattle.std.proofs.lemmas.Bool.Decides.{nat_tests}
 use Rattle.std.specs.Prelude.{nat_lt}
+use Rattle.the_run.proofs.of_plain_facts.Numbers.{equal}
+use Rattle.the_run.proofs.of_plain_facts.Options.{none_some, some_same}
+use Rattle.the_run.proofs.of_plain_facts.Tests.{true_false}
 use Rattle.locus_ids.specs.declared.config.Config.{Config}
 use Rattle.locus_ids.specs.declared.ids.CallId.{CallId}
 use Rattle.locus_ids.specs.declared.ids.EpochId.{EpochId}
@@ -12,7 +15,7 @@ use Rattle.trace_book.specs.declared.call.Call.{Call}
 use Rattle.trace_book.specs.declared.call.Call.TheVariants as call
 use Rattle.trace_book.specs.declared.record.Record.{Record}
 use Rattle.trace_book.specs.declared.record.Record.TheVariants as says
-use Rattle.role_steps.specs.Views.{Told, Shown}
+use Rattle.the_run.specs.of_role_steps.Views.{Told, Shown}
 use Rattle.the_run.specs.Worlds.{Line}
 use Rattle.tree_model.specs.declared.accepted.Waiting.{Waiting}
 use Rattle.tree_model.specs.Calls.{call_named, accepted_as}
@@ -22,7 +25,7 @@ use Rattle.lawful_trace.specs.CallRows.{CallRow, next_call}
 use Rattle.lawful_trace.specs.Lawful.{MayCome}
 use Rattle.tree_laws.specs.Printed.{entries, onto_entries}
 use Rattle.tree_laws.specs.Following.{MayTell, IsFollowed}
-use Rattle.tree_laws.proofs.Names.{true_or_false, true_false, some_is, test_same, same_call_eq, same_epoch_own}
+use Rattle.tree_laws.proofs.Names.{true_or_false, same_call_eq, same_epoch_own}
 
 -- the trace with one printed record more
 abbrev With : ℕ → Record → Trace → Trace
@@ -87,7 +90,7 @@ low_up n s boot before above all d named = ⊎_elim (λ (e : (s == d.site) ≡ t
     new_boot false e h = absurd (true_false (sym e))
 
     here : (s == d.site) ≡ true → IsLow (With n (says.Up s boot) before) d
-    here e = (let same : boot_of before s ≡ boot_of before d.site = ap (boot_of before) (test_same s d.site e) in let le : d.boot ≤ boot_of before d.site = at_most (all d named) in inl (new_boot (s == d.site) e (lower (boot_of before s) (boot_of before d.site) same le above)))
+    here e = (let same : boot_of before s ≡ boot_of before d.site = ap (boot_of before) (equal s d.site e) in let le : d.boot ≤ boot_of before d.site = at_most (all d named) in inl (new_boot (s == d.site) e (lower (boot_of before s) (boot_of before d.site) same le above)))
       where
         lower : (a b : ℕ) → a ≡ b → d.boot ≤ b → nat_lt a boot ≡ true → d.boot < boot
         lower a b same le lt = grind (arith, nat_tests)
@@ -133,9 +136,6 @@ listed_more n (says.Join s at members) before e h = over (same_epoch at e)
     over false = h
 listed_more n _ before e h = h
 
-none_epoch : {A : Type 0} (e : A) → ◌≡◌ {A = Option A} None (Some e) → ⊥
-none_epoch e h = cc
-
 listed_join : (n s : ℕ) (at : EpochId) (members : Members) (before : Trace) → Listed before → Listed (With n (says.Join s at members) before)
 listed_join n s at members before l = record { inside = λ t e. in_it (t) e (s == t); calls = λ d w e named in_epoch. listed_more n (says.Join s at members) before e (l.calls d w e named in_epoch) }
   where
@@ -143,18 +143,18 @@ listed_join n s at members before l = record { inside = λ t e. in_it (t) e (s =
     own e same = (members, ap (λ b. cond b (Some members) (members_of before e)) (subst (λ (x : EpochId). same_epoch at x ≡ true) same (same_epoch_own at)))
 
     in_it : (t : ℕ) (e : EpochId) (b : Bool) → cond b (Some at) (epoch_of before t) ≡ Some e → IsListed (With n (says.Join s at members) before) e
-    in_it t e true h = own e (some_is at e h)
+    in_it t e true h = own e (some_same at e h)
     in_it t e false h = listed_more n (says.Join s at members) before e (l.inside t e h)
 
 listed_out : (n t : ℕ) (r : Record) (before : Trace) (e : EpochId) (b : Bool) → Listed before → cond b None (epoch_of before t) ≡ Some e → IsListed (With n r before) e
-listed_out n t r before e true l h = absurd (none_epoch e h)
+listed_out n t r before e true l h = absurd (none_some e h)
 listed_out n t r before e false l h = listed_more n r before e (l.inside t e h)
 
 listed_accept : (n s process : ℕ) (new : CallId) (words : Call) (before : Trace) → Listed before → Listed (With n (says.Accept s process new words) before)
 listed_accept n s process new words before l = record { inside = l.inside; calls = λ d w e. named d w e (same_call new d) }
   where
     named : (d : CallId) (w : Waiting) (e : EpochId) (b : Bool) → cond b (Some (accepted_as before s process new words)) (call_named before d) ≡ Some w → w.epoch ≡ Some e → IsListed before e
-    named d w e true h k = l.inside s e (ap (λ (x : Waiting). x.epoch) (some_is (accepted_as before s process new words) w h) ∙ k)
+    named d w e true h k = l.inside s e (ap (λ (x : Waiting). x.epoch) (some_same (accepted_as before s process new words) w h) ∙ k)
     named d w e false h k = l.calls d w e h k
 
 listed_record : (n : ℕ) (r : Record) (before : Trace) → Listed before → Listed (With n r before)
@@ -171,7 +171,7 @@ listed_told n _ before l = l
 
 -- whatever is told, followed or not
 listed : (trace : List Line) → Listed (entries trace)
-listed [] = record { inside = λ s e h. absurd (none_epoch e h); calls = λ d w e h k. absurd (none_epoch w h) }
+listed [] = record { inside = λ s e h. absurd (none_some e h); calls = λ d w e h k. absurd (none_some w h) }
 listed (x ∷ older) = listed_told x.number x.told (entries older) (listed older)
 
 pub epoch_listed : (trace : List Line) (s : ℕ) (e : EpochId) → epoch_of (entries trace) s ≡ Some e → IsListed (entries trace) e

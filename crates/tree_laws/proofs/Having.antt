@@ -1,5 +1,7 @@
 -- What a call asks, it asks of what it has; and what it is answered by an open is granted to it, and it hasn't had it.
 use Rattle.std.proofs.Common.{◌≡◌, ℕ, ◌-◌, ◌==◌, Bool, true, false, cond, ◌&&◌, List, [], ◌∷◌, ◌++◌, take, Option, Some, None, refl, sym, ◌∙◌, ap, subst, ◌⊎◌, inl, inr, append-nil, append_assoc}
+use Rattle.the_run.proofs.of_plain_facts.Options.{some_same}
+use Rattle.the_run.proofs.of_plain_facts.Tests.{true_false}
 use Rattle.locus_ids.specs.declared.config.Config.{Config}
 use Rattle.locus_ids.specs.declared.ids.CallId.{CallId}
 use Rattle.locus_ids.specs.declared.ids.Serial.{Serial}
@@ -11,7 +13,7 @@ use Rattle.trace_book.specs.declared.record.Record.TheVariants as says
 use Rattle.call_rules.specs.declared.answer.Answer.{Answer}
 use Rattle.call_rules.specs.declared.want.Want.{Want}
 use Rattle.call_rules.specs.Scripts.{wants}
-use Rattle.role_steps.specs.Views.{Told, Shown, Takes, LooksAgain}
+use Rattle.the_run.specs.of_role_steps.Views.{Told, Shown, Takes, LooksAgain}
 use Rattle.the_run.specs.Worlds.{Line}
 use Rattle.tree_model.specs.declared.accepted.Waiting.{Waiting}
 use Rattle.tree_model.specs.Calls.{call_named, accepted_as, waiting}
@@ -30,7 +32,7 @@ use Rattle.tree_laws.proofs.Boots.{found_every}
 use Rattle.tree_laws.proofs.Fresh.{IsNamed, next_is_new, numbered, calls_are_low}
 use Rattle.tree_laws.proofs.Holding.{Safe, IsNew, safe_more, safe_same}
 use Rattle.tree_laws.proofs.HoldingCalls.{wants_safe}
-use Rattle.tree_laws.proofs.Names.{true_false, some_is, same_call_eq, same_call_own}
+use Rattle.tree_laws.proofs.Names.{same_call_eq, same_call_own}
 use Rattle.tree_laws.proofs.Scripts.{begun_stays, named_stays, script_stays}
 use Rattle.tree_laws.proofs.Waiting.{accepted}
 
@@ -50,8 +52,8 @@ step_named : (c : Config) (before : Trace) (r : Record) (d : CallId) → MayCome
 step_named c before (says.Look e call request f w result) d may step = subst (IsNamed before) step (may.step.accepted, may.step.named)
 step_named c before (says.Grant e call request i m f stamp ss) d may step = subst (IsNamed before) step (may.opens.step.accepted, may.opens.step.named)
 step_named c before (says.Refuse e call request i m f why) d may step = subst (IsNamed before) step (may.opens.step.accepted, may.opens.step.named)
-step_named c before (says.Act e i n o result) d may step = subst (IsNamed before) (some_is may.step.call d (sym may.step.owned ∙ step)) (may.step.step.accepted, may.step.step.named)
-step_named c before (says.Release e i f stamp) d may step = subst (IsNamed before) (some_is may.step.call d (sym may.step.owned ∙ step)) (may.step.step.accepted, may.step.step.named)
+step_named c before (says.Act e i n o result) d may step = subst (IsNamed before) (some_same may.step.call d (sym may.step.owned ∙ step)) (may.step.step.accepted, may.step.step.named)
+step_named c before (says.Release e i f stamp) d may step = subst (IsNamed before) (some_same may.step.call d (sym may.step.owned ∙ step)) (may.step.step.accepted, may.step.step.named)
 step_named c before _ d may step = absurd step
 
 pub waiting_named : (c : Config) (t : List Line) (s : ℕ) (d : CallId) → IsFollowed c t → IsWaiting t s d → IsNamed (entries t) d
@@ -97,9 +99,6 @@ named_or_untaken c (x ∷ older) h d = over x.told h.0 (named_or_untaken c older
     over _ may (inr u) = inr (record { log_is = u.log_is; heard_is = u.heard_is; has_is = u.has_is })
 
 -- ---- what a call has stays but for its takes ----
-
-taken_first : (c : Config) (t : List Line) (d : CallId) (first other : Instances) (i : Serial) → ((j : Serial) → first j ≡ other j) → has_taken c t d first i ≡ has_taken c t d other i
-taken_first c t d first other i e = ap (λ (f : Instances). has_taken c t d f i) (λ k j. e j k)
 
 pub has_stays : (c : Config) (n : ℕ) (x : Told) (older : List Line) → IsFollowed c older → MayTell c older x → (d : CallId) → IsNamed (entries older) d → log (With n x older) d ≡ log older d → (i : Serial) → has_instances c (With n x older) d i ≡ has_instances c older d i
 has_stays c n x older h may d named same i = ap (λ (o : Option Beginning). has_taken c (With n x older) d (with_begun o) i) (begun_stays c n x older d h may named) ∙ over x same

@@ -2,6 +2,8 @@
 -- call asks is what the rows of the lawful trace ask of its next step.
 use Rattle.std.proofs.Common.{◌≡◌, ℕ, suc, ◌+◌, ◌-◌, Bool, true, false, cond, List, [], ◌∷◌, ◌++◌, length, take, Option, Some, None, refl, sym, ◌∙◌, ap, subst, arith, ◌⊎◌, inl, inr, length-append}
 use Rattle.std.proofs.lemmas.Bool.Decides.{nat_tests}
+use Rattle.the_run.proofs.of_plain_facts.Options.{some_same}
+use Rattle.the_run.proofs.of_plain_facts.Tests.{true_false}
 use Rattle.locus_ids.specs.declared.config.Config.{Config}
 use Rattle.locus_ids.specs.declared.ids.CallId.{CallId}
 use Rattle.locus_ids.specs.declared.ids.FileId.{FileId}
@@ -14,7 +16,7 @@ use Rattle.call_rules.specs.declared.answer.Answer.{Answer}
 use Rattle.call_rules.specs.declared.want.Want.{Want}
 use Rattle.call_rules.specs.declared.want.Want.TheVariants as want
 use Rattle.call_rules.specs.Descriptors.{lowest_free}
-use Rattle.role_steps.specs.Views.{Told, Shown, Promises, Takes, LooksAgain, Begins, Shuts, Reserves}
+use Rattle.the_run.specs.of_role_steps.Views.{Told, Shown, Promises, Takes, LooksAgain, Begins, Shuts, Reserves}
 use Rattle.the_run.specs.Worlds.{Line}
 use Rattle.tree_model.specs.declared.accepted.Waiting.{Waiting}
 use Rattle.tree_model.specs.Calls.{call_named}
@@ -26,7 +28,7 @@ use Rattle.tree_laws.specs.Printed.{entries, onto_entries}
 use Rattle.tree_laws.specs.Calls.{log, heard, script, script_as, is_request, Asks, Waits, request_number}
 use Rattle.tree_laws.specs.Following.{MayTell, IsFollowed}
 use Rattle.tree_laws.specs.Instances.{IsOpening}
-use Rattle.tree_laws.proofs.Names.{true_false, some_is, same_call_eq, same_call_own}
+use Rattle.tree_laws.proofs.Names.{same_call_eq, same_call_own}
 use Rattle.tree_laws.proofs.Fresh.{IsNamed}
 use Rattle.tree_laws.proofs.Scripts.{script_stays}
 use Rattle.tree_laws.proofs.Asking.{StepRecord, not_longer, heard_record}
@@ -106,11 +108,11 @@ again_step c older n (says.Look e call request f w result) d may l step = over (
     over false e = absurd (true_false (sym (subst (λ (y : CallId). same_call call y ≡ true) step (same_call_own call)) ∙ e))
 again_step c older n (says.Grant e call request i m f stamp ss) d may l step = absurd (subst (λ (v : Want). IsOpening c v may.in_time.opens.asked may.in_time.opens.it) (sym may.in_time.opens.asks.asks.asked ∙ (ap (λ (y : CallId). script c (entries older) y None (log older y)) step ∙ l.looks)) may.in_time.opens.asks.opening_is)
 again_step c older n (says.Refuse e call request i m f why) d may l step = absurd (subst (λ (v : Want). IsOpening c v may.in_time.opens.asked may.in_time.opens.it) (sym may.in_time.opens.asks.asks.asked ∙ (ap (λ (y : CallId). script c (entries older) y None (log older y)) step ∙ l.looks)) may.in_time.opens.asks.opening_is)
-again_step c older n (says.Act e i number o result) d may l step = absurd (other (sym may.in_time.asks.asked ∙ (ap (λ (y : CallId). script c (entries older) y None (log older y)) (some_is may.in_time.call d (sym may.in_time.owner ∙ step)) ∙ l.looks)))
+again_step c older n (says.Act e i number o result) d may l step = absurd (other (sym may.in_time.asks.asked ∙ (ap (λ (y : CallId). script c (entries older) y None (log older y)) (some_same may.in_time.call d (sym may.in_time.owner ∙ step)) ∙ l.looks)))
   where
     other : want.Do i o ≡ want.Look l.file l.what → ⊥
     other e = cc
-again_step c older n (says.Release e i f stamp) d may l step = absurd (other (sym may.in_time.asks.asked ∙ (ap (λ (y : CallId). script c (entries older) y None (log older y)) (some_is may.in_time.call d (sym may.in_time.owner ∙ step)) ∙ l.looks)))
+again_step c older n (says.Release e i f stamp) d may l step = absurd (other (sym may.in_time.asks.asked ∙ (ap (λ (y : CallId). script c (entries older) y None (log older y)) (some_same may.in_time.call d (sym may.in_time.owner ∙ step)) ∙ l.looks)))
   where
     other : want.Close i ≡ want.Look l.file l.what → ⊥
     other e = cc

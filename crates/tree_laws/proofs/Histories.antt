@@ -5,13 +5,14 @@ use Rattle.std.proofs.lemmas.Bool.Decides.{nat_tests}
 use Rattle.locus_ids.specs.declared.config.Config.{Config}
 use Rattle.locus_ids.specs.declared.ids.FileId.{FileId}
 use Rattle.locus_ids.specs.declared.ids.Stamp.{Stamp}
+use Rattle.locus_ids.specs.Sizes.{sites_max}
 use Rattle.commit_graph.specs.Counters.{counter}
 use Rattle.commit_graph.specs.Vectors.{vector_of, numbers_from}
 use Rattle.commit_graph.specs.Versions.{is_version, is_in, content_of}
 use Rattle.commit_graph.specs.declared.history.Version.{Version}
 use Rattle.trace_book.specs.declared.record.Record.{Record}
 use Rattle.trace_book.specs.declared.record.Record.TheVariants as says
-use Rattle.role_steps.specs.Views.{Told, Shown}
+use Rattle.the_run.specs.of_role_steps.Views.{Told, Shown}
 use Rattle.the_run.specs.Worlds.{Line}
 use Rattle.tree_model.specs.Folds.{Trace}
 use Rattle.tree_model.specs.Histories.{history}
@@ -91,7 +92,7 @@ content_same c n (Shown r) older f s fresh h = content_record c n r older f s fr
 content_same c n _ older f s fresh h = refl
 
 vector_record : (c : Config) (n : ℕ) (r : Record) (older : List Line) (f : FileId) (s : Stamp) → IsFresh c older (Shown r) → Stands c older f s → vector_of (history c (record { line = n; what = r } ∷ entries older)) f s ≡ vector_of (history c (entries older)) f s
-vector_record c n (says.Commit g site stamp parents content) older f s fresh h = other_counters (record { file = g; site = site; stamp = stamp; parents = parents; content = content }) (history c (entries older)) f s (numbers_from 1 16) (fresh_other c older g site stamp parents content fresh f s h)
+vector_record c n (says.Commit g site stamp parents content) older f s fresh h = other_counters (record { file = g; site = site; stamp = stamp; parents = parents; content = content }) (history c (entries older)) f s (numbers_from 1 sites_max) (fresh_other c older g site stamp parents content fresh f s h)
 vector_record c n _ older f s fresh h = refl
 
 pub vector_same : (c : Config) (n : ℕ) (x : Told) (older : List Line) (f : FileId) (s : Stamp) → IsFresh c older x → Stands c older f s → vector_of (history c (onto_entries n x (entries older))) f s ≡ vector_of (history c (entries older)) f s

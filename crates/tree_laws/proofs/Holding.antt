@@ -1,5 +1,6 @@
 -- A script asks operations and closes of what it has alone, where each open is answered by an instance that it hasn't yet.
 use Rattle.std.proofs.Common.{◌≡◌, ℕ, Bool, true, false, not, ◌&&◌, ◌||◌, List, [], ◌∷◌, Option, refl, sym, ◌∙◌, ap, subst}
+use Rattle.the_run.proofs.of_plain_facts.Tests.{true_false}
 use Rattle.locus_ids.specs.declared.ids.FileId.{FileId}
 use Rattle.locus_ids.specs.declared.ids.Kind.{Kind}
 use Rattle.locus_ids.specs.declared.ids.Kind.TheVariants as kind
@@ -27,7 +28,7 @@ use Rattle.call_rules.specs.Naming.{renames}
 use Rattle.call_rules.specs.Opening.{close_wants}
 use Rattle.call_rules.specs.Removing.{removes, empties, opens_target, by_kind, finds}
 use Rattle.tree_laws.specs.Holding.{Instances, closed_by, had_after, IsOf}
-use Rattle.tree_laws.proofs.Names.{true_false, same_serial_eq, same_serial_own}
+use Rattle.tree_laws.proofs.Names.{same_serial_eq, same_serial_own}
 
 abbrev pub Script : Type 0
 Script = List Answer → Want
@@ -139,9 +140,6 @@ first_left t p apart i k = subst (λ (j : Serial). (not (same_serial p j) && Two
   where
     is : t ≡ i
     is = same_serial_eq t i k
-
-none_within : (own : Instances) → Within (λ i. false) own
-none_within own i k = absurd (true_false (sym k))
 
 -- ---- how a call ends ----
 

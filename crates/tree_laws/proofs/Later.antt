@@ -3,6 +3,8 @@
 use Rattle.std.proofs.Common.{◌≡◌, ℕ, ◌+◌, ◌≤◌, ◌<◌, ◌==◌, Bool, true, false, not, cond, ◌&&◌, ◌||◌, List, [], ◌∷◌, ◌++◌, Option, Some, None, refl, sym, ◌∙◌, ap, subst, arith, inl, inr}
 use Rattle.std.specs.List.{find, list_any}
 use Rattle.std.proofs.lemmas.Bool.Decides.{nat_tests}
+use Rattle.the_run.proofs.of_plain_facts.Options.{none_some, some_none, some_same}
+use Rattle.the_run.proofs.of_plain_facts.Tests.{true_false}
 use Rattle.locus_ids.specs.declared.config.Config.{Config}
 use Rattle.locus_ids.specs.declared.ids.CallId.{CallId}
 use Rattle.locus_ids.specs.declared.ids.EpochId.{EpochId}
@@ -11,8 +13,8 @@ use Rattle.trace_book.specs.declared.call.Call.{Call}
 use Rattle.trace_book.specs.declared.call.Call.TheVariants as call
 use Rattle.trace_book.specs.declared.record.Record.{Record}
 use Rattle.trace_book.specs.declared.record.Record.TheVariants as says
-use Rattle.role_steps.specs.Own.{Every}
-use Rattle.role_steps.specs.Views.{Told, Shown, Takes}
+use Rattle.the_run.specs.of_role_steps.Own.{Every}
+use Rattle.the_run.specs.of_role_steps.Views.{Told, Shown, Takes}
 use Rattle.the_run.specs.Kept.{Among}
 use Rattle.the_run.specs.Worlds.{Line}
 use Rattle.tree_model.specs.declared.accepted.Waiting.{Waiting}
@@ -28,18 +30,12 @@ use Rattle.tree_laws.specs.Processes.{WaitsFor, Follows, Quiet, IsOver}
 use Rattle.tree_laws.proofs.Boots.{every_filter, every_pair, found_every}
 use Rattle.tree_laws.proofs.Counting.{asked_same}
 use Rattle.tree_laws.proofs.Fresh.{IsLow, IsNamed, numbered, next_is_new, calls_are_low}
-use Rattle.tree_laws.proofs.Names.{true_false, some_is, same_call_eq}
+use Rattle.tree_laws.proofs.Names.{same_call_eq}
 use Rattle.tree_laws.proofs.OneBoot.{one_boot}
 use Rattle.tree_laws.proofs.Waiting.{accepted, asking_waits}
 
 abbrev With : ℕ → Told → List Line → List Line
 With n x older = record { number = n; told = x } ∷ older
-
-none_some : {A : Type 0} (a : A) → ◌≡◌ {A = Option A} None (Some a) → ⊥
-none_some a e = cc
-
-some_none : {A : Type 0} (a : A) → ◌≡◌ {A = Option A} (Some a) None → ⊥
-some_none a e = cc
 
 -- ---- lists ----
 
@@ -118,7 +114,7 @@ quiet_before c older s process new words d w h row named site process_is waits =
 
     -- what waits and is the call is what was accepted
     is_it : (v : Waiting) → call_named (entries older) v.call ≡ Some v → v.call ≡ d → v ≡ w
-    is_it v k same = some_is v w (sym k ∙ (ap (call_named (entries older)) same ∙ named))
+    is_it v k same = some_same v w (sym k ∙ (ap (call_named (entries older)) same ∙ named))
 
     both : (a b : Bool) → a ≡ true → b ≡ true → a && b ≡ true
     both true true p q = refl
@@ -153,7 +149,7 @@ module _ (c : Config) (n s process : ℕ) (new : CallId) (words : Call) (older :
   old e d f i = record { accepted = i.accepted; named = sym (ap (λ (b : Bool). cond b (Some it) (call_named (entries older) d)) f) ∙ i.named; made_in = i.made_in }
 
   own : (e : EpochId) (d : CallId) → same_call new d ≡ true → (i : IsCallIn (entries now) e d) → it ≡ i.accepted
-  own e d f i = some_is it i.accepted (sym (ap (λ (b : Bool). cond b (Some it) (call_named (entries older) d)) f) ∙ i.named)
+  own e d f i = some_same it i.accepted (sym (ap (λ (b : Bool). cond b (Some it) (call_named (entries older) d)) f) ∙ i.named)
 
   -- no call is later than the new one
   last : (e : EpochId) (d other : CallId) → Follows (entries now) e d other → new ≡ d → same_call new other ≡ false → ⊥

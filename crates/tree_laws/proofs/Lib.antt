@@ -41,3 +41,6 @@ pub mod Awaiting
 pub mod OfOwn
 pub mod Stepping
 pub mod Mending
+pub use Rattle.lawful_trace.proofs as of_lawful_trace
+pub use Rattle.the_run.proofs as of_the_run
+pub use Rattle.the_run.proofs.of_plain_facts as of_plain_facts

@@ -1,6 +1,9 @@
 -- The looks of a process in a group ascend by call, request and times; and a mend looks at its own directory alone.
 use Rattle.std.proofs.Common.{◌≡◌, ℕ, ◌+◌, ◌≤◌, ◌<◌, ◌==◌, Bool, true, false, cond, ◌&&◌, List, [], ◌∷◌, ◌++◌, length, Option, Some, None, refl, sym, ◌∙◌, ap, subst, arith, ◌⊎◌, inl, inr, length-append}
 use Rattle.std.proofs.lemmas.Bool.Decides.{nat_tests}
+use Rattle.the_run.proofs.of_plain_facts.Numbers.{equal, equal_self}
+use Rattle.the_run.proofs.of_plain_facts.Options.{none_some, some_same}
+use Rattle.the_run.proofs.of_plain_facts.Tests.{true_false}
 use Rattle.locus_ids.specs.declared.config.Config.{Config}
 use Rattle.locus_ids.specs.declared.ids.CallId.{CallId}
 use Rattle.locus_ids.specs.declared.ids.EpochId.{EpochId}
@@ -26,7 +29,7 @@ use Rattle.call_rules.specs.Closing.{Unchanged, give_up}
 use Rattle.call_rules.specs.Mending.{after_mend, brings, mend_wants}
 use Rattle.call_rules.specs.Opening.{close_wants}
 use Rattle.call_rules.specs.Scripts.{begun_wants, where_packed}
-use Rattle.role_steps.specs.Views.{Told, Shown, Takes, LooksAgain}
+use Rattle.the_run.specs.of_role_steps.Views.{Told, Shown, Takes, LooksAgain}
 use Rattle.the_run.specs.Worlds.{Line}
 use Rattle.tree_model.specs.declared.accepted.Waiting.{Waiting}
 use Rattle.tree_model.specs.Calls.{call_named, accepted_as}
@@ -42,15 +45,12 @@ use Rattle.tree_laws.specs.Processes.{WaitsFor, IsMend, OnlyMends, IsUpTo, turn_
 use Rattle.tree_laws.specs.Tables.{Turn, is_look_of, last_turn}
 use Rattle.tree_laws.proofs.Alone.{compare, call_is, asking}
 use Rattle.tree_laws.proofs.Later.{earlier_is_over}
-use Rattle.tree_laws.proofs.Names.{true_false, some_is, test_same, test_own, same_call_eq, same_epoch_eq, same_epoch_own}
+use Rattle.tree_laws.proofs.Names.{same_call_eq, same_epoch_eq, same_epoch_own}
 use Rattle.tree_laws.proofs.OneBoot.{one_boot}
 use Rattle.tree_laws.proofs.Scripts.{named_stays}
 
 abbrev With : ℕ → Told → List Line → List Line
 With n x older = record { number = n; told = x } ∷ older
-
-none_some : {A : Type 0} (a : A) → ◌≡◌ {A = Option A} None (Some a) → ⊥
-none_some a e = cc
 
 -- ---- a mend looks at its own directory ----
 
@@ -152,12 +152,12 @@ system_accept : (c : Config) (n s process : ℕ) (new : CallId) (words : Call) (
 system_accept c n s process new (call.Mend file) older may k d w named is = over (same_call new d) named
   where
     over : (b : Bool) → cond b (Some (accepted_as (entries older) s process new (call.Mend file))) (call_named (entries older) d) ≡ Some w → w.process ≡ 0
-    over true e = sym (ap (λ (x : Waiting). x.process) (some_is (accepted_as (entries older) s process new (call.Mend file)) w e)) ∙ may.row.system
+    over true e = sym (ap (λ (x : Waiting). x.process) (some_same (accepted_as (entries older) s process new (call.Mend file)) w e)) ∙ may.row.system
     over false e = k d w e is
 system_accept c n s process new words older may k d w named is = over (same_call new d) named
   where
     over : (b : Bool) → cond b (Some (accepted_as (entries older) s process new words)) (call_named (entries older) d) ≡ Some w → w.process ≡ 0
-    over true e = absurd (subst (λ (x : Waiting). IsMend x.words) (sym (some_is (accepted_as (entries older) s process new words) w e)) is)
+    over true e = absurd (subst (λ (x : Waiting). IsMend x.words) (sym (some_same (accepted_as (entries older) s process new words) w e)) is)
     over false e = k d w e is
 
 system_record : (c : Config) (n : ℕ) (r : Record) (older : List Line) → MayTell c older (Shown r) → MendsAreSystem older → MendsAreSystem (With n (Shown r) older)
@@ -282,7 +282,7 @@ module _ (c : Config) (n : ℕ) (older : List Line) (at : EpochId) (it : CallId)
 
   -- the look is one of its process in its group
   own_look : is_look_of older at file.group it.site at it file (call_named (entries older) it) caller.process ≡ true
-  own_look = ap (λ (o : Option Waiting). is_look_of older at file.group it.site at it file o caller.process) may.row.step.named ∙ all_four (same_epoch at at) (file.group == file.group) (it.site == it.site) (caller.process == caller.process) (same_epoch_own at) (test_own file.group) (test_own it.site) (test_own caller.process)
+  own_look = ap (λ (o : Option Waiting). is_look_of older at file.group it.site at it file o caller.process) may.row.step.named ∙ all_four (same_epoch at at) (file.group == file.group) (it.site == it.site) (caller.process == caller.process) (same_epoch_own at) (equal_self file.group) (equal_self it.site) (equal_self caller.process)
     where
       all_four : (a b d e : Bool) → a ≡ true → b ≡ true → d ≡ true → e ≡ true → a && (b && (d && e)) ≡ true
       all_four true true true true p q r s = refl
@@ -310,7 +310,7 @@ module _ (c : Config) (n : ℕ) (older : List Line) (at : EpochId) (it : CallId)
 
       over : (same_epoch at e && ((file.group == group) && ((it.site == us) && (caller.process == process)))) ≡ true → IsItsLook e group us process
       over y = (let p : (same_epoch at e ≡ true) × (((file.group == group) ≡ true) × (((it.site == us) ≡ true) × ((caller.process == process) ≡ true))) = parts (same_epoch at e) (file.group == group) (it.site == us) (caller.process == process) y in
-          record { epoch_is = same_epoch_eq at e p.0; group_is = test_same file.group group p.1.0; site_is = test_same it.site us p.1.1.0; process_is = test_same caller.process process p.1.1.1 })
+          record { epoch_is = same_epoch_eq at e p.0; group_is = equal file.group group p.1.0; site_is = equal it.site us p.1.1.0; process_is = equal caller.process process p.1.1.1 })
 
   new_last : LastBy (With n x older) at file.group it.site caller.process (turn_by it number (tries older it))
   new_last = record {
@@ -345,7 +345,7 @@ module _ (c : Config) (n : ℕ) (older : List Line) (at : EpochId) (it : CallId)
           (subst (λ (g : ℕ). LastBy (With n x older) e g it.site caller.process (turn_by it number (tries older it))) i.group_is (subst (λ (y : EpochId). LastBy (With n x older) y file.group it.site caller.process (turn_by it number (tries older it))) i.epoch_is new_last)))
 
       over : (b : Bool) → is_look_of older e group us at it file (call_named (entries older) it) process ≡ b → cond b (Some (turn_by it number (tries older it))) (last_turn older e group us process) ≡ Some u → LastBy (With n x older) e group us process u
-      over true t m = subst (LastBy (With n x older) e group us process) (some_is (turn_by it number (tries older it)) u m) (own (split e group us process t))
+      over true t m = subst (LastBy (With n x older) e group us process) (some_same (turn_by it number (tries older it)) u m) (own (split e group us process t))
       over false t m = last_stays c n x older e group us process u h may (k.last e group us process u m)
 
   all_new : (e : EpochId) (d : CallId) (request times : ℕ) (f : FileId) (w : What) (result : Served) → WasLooked (With n x older) e d request times f w result → IsUnder (With n x older) e d request times f.group

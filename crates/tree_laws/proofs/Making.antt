@@ -1,5 +1,7 @@
 -- What is told of makes stays: a make is asked until it is begun, or refused for good since all numbers of its site are used.
 use Rattle.std.proofs.Common.{◌≡◌, ℕ, true, false, List, [], ◌∷◌, Option, Some, refl, sym, ◌∙◌, ap, subst, ◌⊎◌, inl, inr}
+use Rattle.the_run.proofs.of_plain_facts.Options.{some_same}
+use Rattle.the_run.proofs.of_plain_facts.Tests.{true_false}
 use Rattle.locus_ids.specs.declared.config.Config.{Config}
 use Rattle.locus_ids.specs.declared.ids.CallId.{CallId}
 use Rattle.locus_ids.specs.declared.ids.EpochId.{EpochId}
@@ -16,10 +18,10 @@ use Rattle.trace_book.specs.declared.record.Record.{Record}
 use Rattle.trace_book.specs.declared.record.Record.TheVariants as says
 use Rattle.call_rules.specs.declared.want.Want.{Want}
 use Rattle.call_rules.specs.declared.want.Want.TheVariants as want
-use Rattle.wire_messages.specs.declared.body.Opening.{Opening}
-use Rattle.wire_messages.specs.declared.body.Opening.TheVariants as how
-use Rattle.role_steps.specs.Opens.{mode_of}
-use Rattle.role_steps.specs.Views.{Told, Shown, Begins}
+use Rattle.the_run.specs.of_wire_messages.declared.body.Opening.{Opening}
+use Rattle.the_run.specs.of_wire_messages.declared.body.Opening.TheVariants as how
+use Rattle.the_run.specs.of_role_steps.Opens.{mode_of}
+use Rattle.the_run.specs.of_role_steps.Views.{Told, Shown, Begins}
 use Rattle.the_run.specs.Worlds.{Line}
 use Rattle.tree_model.specs.declared.instance.Instance.{Instance}
 use Rattle.tree_model.specs.Epochs.{members_of}
@@ -44,7 +46,6 @@ use Rattle.tree_laws.proofs.Fresh.{call_listed}
 use Rattle.tree_laws.proofs.Grants.{open_named, in_tree_named, before_record}
 use Rattle.tree_laws.proofs.Kinship.{started_stays, tree_epoch_is}
 use Rattle.tree_laws.proofs.Opened.{GrantsIt}
-use Rattle.tree_laws.proofs.Names.{some_is, true_false}
 use Rattle.tree_laws.proofs.Scripts.{in_stays, members_same}
 use Rattle.tree_laws.proofs.Serials.{one_open, unnamed}
 
@@ -221,7 +222,7 @@ begun_place c trace h e s ss i f group set k b m = over (begun_asked c trace h e
   where
     over : WasNamed trace e i ⊎ IsAskedAt c trace e s i f → s ≡ ss
     over (inl named) = absurd (unnamed c trace e m.call m.request i m.file (how.Make set k) h m.asks m.user_is named)
-    over (inr b) = some_is s ss (sym (subst (λ (y : CallId). making_site_in c group (members_of (entries trace) e) y.site set ≡ Some s) call_is
+    over (inr b) = some_same s ss (sym (subst (λ (y : CallId). making_site_in c group (members_of (entries trace) e) y.site set ≡ Some s) call_is
         (subst (λ (t : Sites). making_site_in c group (members_of (entries trace) e) b.call.site t ≡ Some s) set_is
         (subst (λ (g : ℕ). making_site_in c g (members_of (entries trace) e) b.call.site b.set ≡ Some s) (sym b.group_is ∙ same_group) b.at))) ∙ m.at)
       where
@@ -285,12 +286,12 @@ make_step c n older h e ss i group set k now (says.Refuse at call request inst m
         over_begun s g (inr p) = none.unbegun s g (subst (λ (y : EpochId). WasBegun older s y inst g) (sym same_at) (subst (λ (j : Serial). WasBegun older s e j g) (sym same_inst) p))
 
         place : none.ss ≡ ss
-        place = some_is none.ss ss (sym (subst (λ (y : CallId). making_site_in c group (members_of (entries older) e) y.site set ≡ Some none.ss) step
+        place = some_same none.ss ss (sym (subst (λ (y : CallId). making_site_in c group (members_of (entries older) e) y.site set ≡ Some none.ss) step
             (subst (λ (g : ℕ). making_site_in c g (members_of (entries older) e) call.site set ≡ Some none.ss) same_group (subst (λ (y : EpochId). making_site_in c f.group (members_of (entries older) y) call.site set ≡ Some none.ss) same_at none.at))) ∙ now.at)
     over (inr bad) = absurd (true_false (sym now.good ∙ subst (λ (g : ℕ). is_good_set c g (members_of (entries older) e) set ≡ false) same_group (subst (λ (y : EpochId). is_good_set c f.group (members_of (entries older) y) set ≡ false) same_at bad)))
 make_step c n older h e ss i group set k now (says.Look at call number file what result) v may step = absurd (subst (λ (y : Want). IsOpening c y now.file (how.Make set k)) (one_want c older now.call now.asks.wanted (want.Look file what) now.asks.asks (subst (λ (y : CallId). Asks c older y (want.Look file what)) step may.in_time.asks)) now.asks.opening_is)
-make_step c n older h e ss i group set k now (says.Act at inst number o result) v may step = absurd (subst (λ (y : Want). IsOpening c y now.file (how.Make set k)) (one_want c older now.call now.asks.wanted (want.Do inst o) now.asks.asks (subst (λ (y : CallId). Asks c older y (want.Do inst o)) (some_is may.in_time.call now.call (sym may.in_time.owner ∙ step)) may.in_time.asks)) now.asks.opening_is)
-make_step c n older h e ss i group set k now (says.Release at inst file stamp) v may step = absurd (subst (λ (y : Want). IsOpening c y now.file (how.Make set k)) (one_want c older now.call now.asks.wanted (want.Close inst) now.asks.asks (subst (λ (y : CallId). Asks c older y (want.Close inst)) (some_is may.in_time.call now.call (sym may.in_time.owner ∙ step)) may.in_time.asks)) now.asks.opening_is)
+make_step c n older h e ss i group set k now (says.Act at inst number o result) v may step = absurd (subst (λ (y : Want). IsOpening c y now.file (how.Make set k)) (one_want c older now.call now.asks.wanted (want.Do inst o) now.asks.asks (subst (λ (y : CallId). Asks c older y (want.Do inst o)) (some_same may.in_time.call now.call (sym may.in_time.owner ∙ step)) may.in_time.asks)) now.asks.opening_is)
+make_step c n older h e ss i group set k now (says.Release at inst file stamp) v may step = absurd (subst (λ (y : Want). IsOpening c y now.file (how.Make set k)) (one_want c older now.call now.asks.wanted (want.Close inst) now.asks.asks (subst (λ (y : CallId). Asks c older y (want.Close inst)) (some_same may.in_time.call now.call (sym may.in_time.owner ∙ step)) may.in_time.asks)) now.asks.opening_is)
 make_step c n older h e ss i group set k now _ v may step = absurd step
 
 make_told : (c : Config) (n : ℕ) (x : Told) (older : List Line) → IsFollowed c older → MayTell c older x → VersionsStay c older (More n x older) → (e : EpochId) (ss : ℕ) (i : Serial) (group : ℕ) (set : Sites) (k : Kind) → MakesNow c older e ss i group set k → Becomes c older (More n x older) e ss i group set k
@@ -345,7 +346,7 @@ none_begins c older h e ss i k s f may = over k.make may.may
         set_is = make_set b.set k.set b.kind k.kind (one_opening c m.asks.wanted b.asked m.file (how.Make b.set b.kind) (how.Make k.set k.kind) wanted m.asks.opening_is)
 
         place : s ≡ ss
-        place = some_is s ss (sym (subst (λ (y : CallId). making_site_in c k.group (members_of (entries older) e) y.site k.set ≡ Some s) call_is
+        place = some_same s ss (sym (subst (λ (y : CallId). making_site_in c k.group (members_of (entries older) e) y.site k.set ≡ Some s) call_is
             (subst (λ (t : Sites). making_site_in c k.group (members_of (entries older) e) b.call.site t ≡ Some s) set_is
             (subst (λ (g : ℕ). making_site_in c g (members_of (entries older) e) b.call.site b.set ≡ Some s) (sym b.group_is ∙ group) b.at))) ∙ m.at)
 

@@ -1,5 +1,6 @@
 -- A mend was accepted at the site that synchronizes its group in its epoch.
 use Rattle.std.proofs.Common.{◌≡◌, ℕ, Bool, true, false, cond, List, [], ◌∷◌, Option, Some, None, refl, sym, ◌∙◌, ap, subst}
+use Rattle.the_run.proofs.of_plain_facts.Options.{some_same}
 use Rattle.locus_ids.specs.declared.config.Config.{Config}
 use Rattle.locus_ids.specs.declared.ids.CallId.{CallId}
 use Rattle.locus_ids.specs.declared.ids.EpochId.{EpochId}
@@ -9,7 +10,7 @@ use Rattle.trace_book.specs.declared.call.Call.{Call}
 use Rattle.trace_book.specs.declared.call.Call.TheVariants as call
 use Rattle.trace_book.specs.declared.record.Record.{Record}
 use Rattle.trace_book.specs.declared.record.Record.TheVariants as says
-use Rattle.role_steps.specs.Views.{Told, Shown}
+use Rattle.the_run.specs.of_role_steps.Views.{Told, Shown}
 use Rattle.the_run.specs.Worlds.{Line}
 use Rattle.tree_model.specs.declared.accepted.Waiting.{Waiting}
 use Rattle.tree_model.specs.Calls.{call_named, accepted_as}
@@ -18,7 +19,6 @@ use Rattle.tree_model.specs.Packs.{sync_site}
 use Rattle.tree_laws.specs.Printed.{entries, onto_entries}
 use Rattle.tree_laws.specs.Following.{MayTell, IsFollowed}
 use Rattle.tree_laws.proofs.Fresh.{IsListed, call_listed}
-use Rattle.tree_laws.proofs.Names.{some_is}
 use Rattle.tree_laws.proofs.Scripts.{members_same}
 
 abbrev With : ℕ → Told → List Line → List Line
@@ -41,7 +41,7 @@ mend_is f g e = cc
 
 some_words : (words : Call) (file : FileId) → words ≡ call.Mend file → (c : Config) (n s process : ℕ) (new : CallId) (older : List Line) (e : EpochId) → MayTell c older (Shown (says.Accept s process new words)) → epoch_of (entries older) s ≡ Some e → sync_site c file.group (members_of (entries older) e) ≡ Some s
 some_words (call.Mend f) file is c n s process new older e may inside = subst (λ (g : FileId). sync_site c g.group (members_of (entries older) e) ≡ Some s) (mend_is f file is)
-    (subst (λ (y : EpochId). sync_site c f.group (members_of (entries older) y) ≡ Some s) (some_is may.row.epoch e (sym may.row.inside ∙ inside)) may.row.synchronizes)
+    (subst (λ (y : EpochId). sync_site c f.group (members_of (entries older) y) ≡ Some s) (some_same may.row.epoch e (sym may.row.inside ∙ inside)) may.row.synchronizes)
 some_words (call.Open path how) file is c n s process new older e may inside = cc
 some_words (call.Read fd at len) file is c n s process new older e may inside = cc
 some_words (call.Write fd at bytes) file is c n s process new older e may inside = cc
@@ -67,7 +67,7 @@ sync_accept c n s process new words older may k d w e file named made is = over 
     own same = some_words words file (ap (λ (x : Waiting). x.words) same ∙ is) c n s process new older e may (ap (λ (x : Waiting). x.epoch) same ∙ made) ∙ ap (λ (x : Waiting). Some x.site) same
 
     over : (b : Bool) → cond b (Some it) (call_named (entries older) d) ≡ Some w → sync_site c file.group (members_of (entries older) e) ≡ Some w.site
-    over true h = own (some_is it w h)
+    over true h = own (some_same it w h)
     over false h = k d w e file h made is
 
 sync_record : (c : Config) (n : ℕ) (r : Record) (older : List Line) → MayTell c older (Shown r) → AtSync c older → AtSync c (With n (Shown r) older)

@@ -10,18 +10,6 @@ pub true_or_false : (b : Bool) → (b ≡ true) ⊎ (b ≡ false)
 true_or_false true = inl refl
 true_or_false false = inr refl
 
-pub true_false : true ≡ false → ⊥
-true_false e = cc
-
-pub some_is : {A : Type 0} (x y : A) → ◌≡◌ {A = Option A} (Some x) (Some y) → x ≡ y
-some_is x y e = cc
-
-pub test_same : (a b : ℕ) → (a == b) ≡ true → a ≡ b
-test_same a b e = grind (arith, nat_tests)
-
-pub test_own : (a : ℕ) → (a == a) ≡ true
-test_own a = grind (arith, nat_tests)
-
 pub same_call_eq : (a b : CallId) → same_call a b ≡ true → a ≡ b
 same_call_eq a b h = id_eq (grind (arith, nat_tests)) (grind (arith, nat_tests)) (grind (arith, nat_tests))
   where

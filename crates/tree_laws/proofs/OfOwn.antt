@@ -9,7 +9,7 @@ use Rattle.trace_book.specs.declared.call.Call.{Call}
 use Rattle.trace_book.specs.declared.record.Record.TheVariants as says
 use Rattle.call_rules.specs.declared.answer.Answer.{Answer}
 use Rattle.call_rules.specs.declared.answer.Answer.TheVariants as answer
-use Rattle.role_steps.specs.Views.{Told, Shown, Takes}
+use Rattle.the_run.specs.of_role_steps.Views.{Told, Shown, Takes}
 use Rattle.the_run.specs.Worlds.{Line}
 use Rattle.lawful_trace.specs.Progress.{Answers}
 use Rattle.tree_laws.specs.Printed.{entries}

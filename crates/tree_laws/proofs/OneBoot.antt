@@ -1,5 +1,8 @@
 -- The calls of a site in one epoch are of one boot, since it joins an epoch once.
 use Rattle.std.proofs.Common.{◌≡◌, ℕ, ◌==◌, Bool, true, false, cond, ◌&&◌, ◌||◌, List, [], ◌∷◌, Option, Some, None, refl, sym, ◌∙◌, ap, subst, ◌⊎◌, inl, inr}
+use Rattle.the_run.proofs.of_plain_facts.Numbers.{equal}
+use Rattle.the_run.proofs.of_plain_facts.Options.{none_some, some_same}
+use Rattle.the_run.proofs.of_plain_facts.Tests.{true_false}
 use Rattle.locus_ids.specs.declared.config.Config.{Config}
 use Rattle.locus_ids.specs.declared.ids.CallId.{CallId}
 use Rattle.locus_ids.specs.declared.ids.EpochId.{EpochId}
@@ -8,7 +11,7 @@ use Rattle.trace_book.specs.Same.{same_call, same_epoch}
 use Rattle.trace_book.specs.declared.call.Call.{Call}
 use Rattle.trace_book.specs.declared.record.Record.{Record}
 use Rattle.trace_book.specs.declared.record.Record.TheVariants as says
-use Rattle.role_steps.specs.Views.{Told, Shown}
+use Rattle.the_run.specs.of_role_steps.Views.{Told, Shown}
 use Rattle.the_run.specs.Worlds.{Line}
 use Rattle.tree_model.specs.declared.accepted.Waiting.{Waiting}
 use Rattle.tree_model.specs.Calls.{call_named, accepted_as}
@@ -20,10 +23,7 @@ use Rattle.lawful_trace.specs.TreeRows.{IsCallIn}
 use Rattle.tree_laws.specs.Printed.{entries, onto_entries}
 use Rattle.tree_laws.specs.Following.{MayTell, IsFollowed}
 use Rattle.tree_laws.proofs.Fresh.{numbered}
-use Rattle.tree_laws.proofs.Names.{true_false, some_is, test_same, same_call_eq, same_epoch_own}
-
-none_some : {A : Type 0} (a : A) → ◌≡◌ {A = Option A} None (Some a) → ⊥
-none_some a e = cc
+use Rattle.tree_laws.proofs.Names.{same_call_eq, same_epoch_own}
 
 -- the call was made in the epoch
 abbrev MadeIn : Trace → EpochId → CallId → Type 0
@@ -48,11 +48,11 @@ once_join n s at members before new o = record { joined = λ t e. joined t e (s 
         over false = h
 
     joined : (t : ℕ) (e : EpochId) (b : Bool) → (s == t) ≡ b → cond b (Some at) (epoch_of before t) ≡ Some e → (b && same_epoch at e || has_joined before t e) ≡ true
-    joined t e true k h = ap (λ (x : Bool). x || has_joined before t e) (subst (λ (x : EpochId). same_epoch at x ≡ true) (some_is at e h) (same_epoch_own at))
+    joined t e true k h = ap (λ (x : Bool). x || has_joined before t e) (subst (λ (x : EpochId). same_epoch at x ≡ true) (some_same at e h) (same_epoch_own at))
     joined t e false k h = o.joined t e h
 
     apart : (d : CallId) (e : EpochId) (b : Bool) → (s == d.site) ≡ b → has_joined before d.site e ≡ true → ((d.boot ≡ boot_of before d.site) ⊎ (epoch_of before d.site ≡ Some e → ⊥)) → (d.boot ≡ boot_of before d.site) ⊎ (cond b (Some at) (epoch_of before d.site) ≡ Some e → ⊥)
-    apart d e true k h m = inr (λ is. true_false (sym h ∙ (ap (has_joined before d.site) (sym (some_is at e is)) ∙ subst (λ (t : ℕ). has_joined before t at ≡ false) (test_same s d.site k) new)))
+    apart d e true k h m = inr (λ is. true_false (sym h ∙ (ap (has_joined before d.site) (sym (some_same at e is)) ∙ subst (λ (t : ℕ). has_joined before t at ≡ false) (equal s d.site k) new)))
     apart d e false k h m = m
 
     made : (d : CallId) (e : EpochId) → MadeIn before e d → (((s == d.site) && same_epoch at e || has_joined before d.site e) ≡ true) × ((d.boot ≡ boot_of before d.site) ⊎ (cond (s == d.site) (Some at) (epoch_of before d.site) ≡ Some e → ⊥))
@@ -88,7 +88,7 @@ once_accept n s process new words before is o = record { joined = o.joined; made
     split d e m = over (same_call new d) (same_call_eq new d) m.1
       where
         over : (b : Bool) → (b ≡ true → new ≡ d) → cond b (Some (accepted_as before s process new words)) (call_named before d) ≡ Some m.0 → ((new ≡ d) × (epoch_of before s ≡ Some e)) ⊎ MadeIn before e d
-        over true same k = inl (same refl, ap (λ (x : Waiting). x.epoch) (some_is (accepted_as before s process new words) m.0 k) ∙ m.2)
+        over true same k = inl (same refl, ap (λ (x : Waiting). x.epoch) (some_same (accepted_as before s process new words) m.0 k) ∙ m.2)
         over false same k = inr (m.0, k, m.2)
 
     made : (d : CallId) (e : EpochId) → MadeIn (record { line = n; what = says.Accept s process new words } ∷ before) e d → (has_joined before d.site e ≡ true) × ((d.boot ≡ boot_of before d.site) ⊎ (epoch_of before d.site ≡ Some e → ⊥))

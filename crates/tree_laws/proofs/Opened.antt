@@ -1,6 +1,8 @@
 -- An open instance stays open, where it was granted, until it is released; its work goes on by its own operations and commits.
 use Rattle.std.proofs.Common.{◌≡◌, ℕ, ◌==◌, Bool, true, false, cond, ◌&&◌, List, [], ◌∷◌, ◌++◌, Option, Some, None, refl, sym, ◌∙◌, ap, subst, ◌⊎◌, inl, inr, ⊎_elim}
 use Rattle.std.specs.List.{find}
+use Rattle.the_run.proofs.of_plain_facts.Options.{some_same}
+use Rattle.the_run.proofs.of_plain_facts.Tests.{true_false}
 use Rattle.locus_ids.specs.declared.ids.CallId.{CallId}
 use Rattle.locus_ids.specs.declared.ids.EpochId.{EpochId}
 use Rattle.locus_ids.specs.declared.ids.FileId.{FileId}
@@ -20,7 +22,7 @@ use Rattle.tree_model.specs.Lists.{change_first}
 use Rattle.tree_model.specs.State.{TreeState, instance_in, is_named, is_writer, is_inside, is_granted_here, is_make}
 use Rattle.tree_model.specs.Tree.{next, joined, left, grant_of, opened, once_committed, once_acted, without_make}
 use Rattle.tree_laws.proofs.Finds.{IsChanged, find_changed, find_added, find_without}
-use Rattle.tree_laws.proofs.Names.{true_or_false, true_false, some_is, same_serial_eq, same_epoch_eq}
+use Rattle.tree_laws.proofs.Names.{true_or_false, same_serial_eq, same_epoch_eq}
 
 -- ---- what a record does to the instance with this serial number, in a tree ----
 
@@ -96,7 +98,7 @@ found_named i [] x e = absurd (none e)
 found_named i (y ∷ xs) x e = at (found_named i xs x) (is_named i y) refl
   where
     at : (find (is_named i) xs ≡ Some x → x.grant.inst ≡ i) → (b : Bool) → is_named i y ≡ b → x.grant.inst ≡ i
-    at later true f = ap (λ (z : Instance). z.grant.inst) (sym (some_is y x (rw f at e))) ∙ same_serial_eq y.grant.inst i f
+    at later true f = ap (λ (z : Instance). z.grant.inst) (sym (some_same y x (rw f at e))) ∙ same_serial_eq y.grant.inst i f
     at later false f = later (rw f at e)
 
 act_found : (h : List Version) (t : TreeState) (i : Serial) (old : Instance) (e : EpochId) (inst : Serial) (n : ℕ) (o : Op) (result : Outcome) → instance_in t i ≡ Some old → Found h t i old (says.Act e inst n o result)
@@ -112,7 +114,7 @@ act_found h t i old e inst n o result k = over (same_epoch e t.epoch && is_grant
     changed : same_epoch e t.epoch && is_granted_here t inst ≡ true → (find (is_named i) (change_first (is_named inst) (once_acted h t o result) t.instances) ≡ find (is_named i) t.instances) ⊎ IsChanged (is_named i) (is_named inst) (once_acted h t o result) t.instances →
         Found h t i old (says.Act e inst n o result)
     changed b (inl f) = same_found h t i old (says.Act e inst n o result) (rw b f) k
-    changed b (inr c) = (let it : c.old ≡ old = some_is c.old old (sym c.was ∙ k) in record {
+    changed b (inr c) = (let it : c.old ≡ old = some_same c.old old (sym c.was ∙ k) in record {
       new = once_acted h t o result old;
       found = rw b (c.is ∙ ap (λ (x : Instance). Some (once_acted h t o result x)) it);
       grant_same = refl;
@@ -129,7 +131,7 @@ commit_found h t i old f s stamp parents content k = over (is_inside t s) refl
     changed : is_inside t s ≡ true → (find (is_named i) (change_first (is_writer f s) (once_committed stamp) t.instances) ≡ find (is_named i) t.instances) ⊎ IsChanged (is_named i) (is_writer f s) (once_committed stamp) t.instances →
         Found h t i old (says.Commit f s stamp parents content)
     changed b (inl e) = same_found h t i old (says.Commit f s stamp parents content) (rw b e) k
-    changed b (inr c) = (let it : c.old ≡ old = some_is c.old old (sym c.was ∙ k) in record {
+    changed b (inr c) = (let it : c.old ≡ old = some_same c.old old (sym c.was ∙ k) in record {
       new = once_committed stamp old;
       found = rw b (c.is ∙ ap (λ (x : Instance). Some (once_committed stamp x)) it);
       grant_same = refl;

@@ -3,6 +3,9 @@ use Rattle.std.proofs.Common.{◌≡◌, ℕ, ◌+◌, ◌==◌, Bool, true, fal
 use Rattle.std.specs.List.{find}
 use Rattle.std.specs.Option.{option_map, option_or}
 use Rattle.std.proofs.lemmas.Bool.Decides.{nat_tests}
+use Rattle.the_run.proofs.of_plain_facts.Numbers.{equal_test}
+use Rattle.the_run.proofs.of_plain_facts.Options.{none_some, some_same}
+use Rattle.the_run.proofs.of_plain_facts.Tests.{true_false}
 use Rattle.locus_ids.specs.declared.config.Config.{Config}
 use Rattle.locus_ids.specs.declared.ids.CallId.{CallId}
 use Rattle.locus_ids.specs.declared.ids.EpochId.{EpochId}
@@ -17,8 +20,8 @@ use Rattle.trace_book.specs.Same.{same_epoch}
 use Rattle.trace_book.specs.declared.call.Call.{Call}
 use Rattle.trace_book.specs.declared.record.Record.{Record}
 use Rattle.trace_book.specs.declared.record.Record.TheVariants as says
-use Rattle.role_steps.specs.Own.{Every}
-use Rattle.role_steps.specs.Views.{Told, Shown}
+use Rattle.the_run.specs.of_role_steps.Own.{Every}
+use Rattle.the_run.specs.of_role_steps.Views.{Told, Shown}
 use Rattle.the_run.specs.Worlds.{Line}
 use Rattle.tree_model.specs.declared.accepted.Waiting.{Waiting}
 use Rattle.tree_model.specs.declared.instance.Granted.{Granted}
@@ -36,12 +39,8 @@ use Rattle.tree_laws.specs.Printed.{entries, onto_entries}
 use Rattle.tree_laws.specs.Following.{MayTell, IsFollowed}
 use Rattle.tree_laws.specs.Instances.{Stands}
 use Rattle.tree_laws.proofs.Fresh.{IsNamed}
-use Rattle.tree_laws.proofs.Names.{true_false, some_is}
 use Rattle.tree_laws.proofs.Owing.{every_added, every_changed, every_left, found_every}
 use Rattle.tree_laws.proofs.Scripts.{named_stays}
-
-none_some : {A : Type 0} (a : A) → ◌≡◌ {A = Option A} None (Some a) → ⊥
-none_some a e = cc
 
 every_weaker : {A : Type 0} (P Q : A → Type 0) (xs : List A) → ((x : A) → P x → Q x) → Every P xs → Every Q xs
 every_weaker P Q [] f h = tt
@@ -143,11 +142,8 @@ filter_found {A} p q (x ∷ xs) y e h = at (filter_found p q xs y) (p x) (q x) r
     at later false true k e = absurd (true_false (sym (subst (λ (z : A). p z ≡ true) (sym (first_is x y (filter q xs) e)) h) ∙ k))
     at later false false k e = later e h
 
-test_is : (a b : ℕ) → a ≡ b → (a == b) ≡ true
-test_is a b e = grind (arith, nat_tests)
-
 writes_there : (f : FileId) (s : ℕ) (x : Instance) → is_writing f x ≡ true → x.grant.ss ≡ s → is_writer f s x ≡ true
-writes_there f s x h e = over (same_file x.grant.file f) (x.grant.ss == s) (not (is_read x.grant.mode)) h (test_is x.grant.ss s e)
+writes_there f s x h e = over (same_file x.grant.file f) (x.grant.ss == s) (not (is_read x.grant.mode)) h (equal_test x.grant.ss s e)
   where
     over : (a b d : Bool) → a && d ≡ true → b ≡ true → a && (b && d) ≡ true
     over true true d k t = k
@@ -218,7 +214,7 @@ originated_record c n (says.Commit g site stamp parents content) older h may o =
     has f e = first_new c n older g f site stamp parents content h may (file_eq g f e) e (o.firsts f)
 
     firsts : (f : FileId) (d : CallId) (b : Bool) → same_file g f ≡ b → first_call c (record { line = n; what = says.Commit g site stamp parents content } ∷ entries older) f ≡ Some d → IsNamed (record { line = n; what = says.Commit g site stamp parents content } ∷ entries older) d
-    firsts f d true e k = (let p : HasFirst c (record { line = n; what = says.Commit g site stamp parents content } ∷ entries older) f = has f e in subst (IsNamed (record { line = n; what = says.Commit g site stamp parents content } ∷ entries older)) (some_is p.0 d (sym p.1 ∙ k)) p.2)
+    firsts f d true e k = (let p : HasFirst c (record { line = n; what = says.Commit g site stamp parents content } ∷ entries older) f = has f e in subst (IsNamed (record { line = n; what = says.Commit g site stamp parents content } ∷ entries older)) (some_same p.0 d (sym p.1 ∙ k)) p.2)
     firsts f d false e k = old (first_call c (entries older) f) refl (sym (ap (λ (b : Bool). option_or (first_call c (entries older) f) (cond b (option_map (λ (y : Instance). y.grant.call) (committing c (entries older) f site)) None)) e) ∙ k)
       where
         old : (q : Option CallId) → first_call c (entries older) f ≡ q → option_or (first_call c (entries older) f) None ≡ Some d → IsNamed (record { line = n; what = says.Commit g site stamp parents content } ∷ entries older) d
@@ -275,11 +271,11 @@ words_same c n r older f h may k =
     ∙ (ap (option_map (λ (w : Waiting). w.words)) (named_stays c n (Shown r) older k.0 h may k.2) ∙ ap (words_named (entries older)) (sym k.1))
 
 kind_record : (c : Config) (n : ℕ) (r : Record) (older : List Line) (f : FileId) → IsFollowed c older → MayTell c older (Shown r) → Rooted c (entries older) f → kind_of_file c (record { line = n; what = r } ∷ entries older) f ≡ kind_of_file c (entries older) f
-kind_record c n r older f h may (inl root) = (let e : (f.ino == 1) ≡ true = test_is f.ino 1 root in ap (λ (b : Bool). cond b Dir (kind_made (words_named (record { line = n; what = r } ∷ entries older) (first_call c (record { line = n; what = r } ∷ entries older) f)))) e ∙ sym (ap (λ (b : Bool). cond b Dir (kind_made (words_named (entries older) (first_call c (entries older) f)))) e))
+kind_record c n r older f h may (inl root) = (let e : (f.ino == 1) ≡ true = equal_test f.ino 1 root in ap (λ (b : Bool). cond b Dir (kind_made (words_named (record { line = n; what = r } ∷ entries older) (first_call c (record { line = n; what = r } ∷ entries older) f)))) e ∙ sym (ap (λ (b : Bool). cond b Dir (kind_made (words_named (entries older) (first_call c (entries older) f)))) e))
 kind_record c n r older f h may (inr k) = ap (λ (w : Option Call). cond (f.ino == 1) Dir (kind_made w)) (words_same c n r older f h may k)
 
 set_record : (c : Config) (n : ℕ) (r : Record) (older : List Line) (f : FileId) → IsFollowed c older → MayTell c older (Shown r) → Rooted c (entries older) f → set_of_file c (record { line = n; what = r } ∷ entries older) f ≡ set_of_file c (entries older) f
-set_record c n r older f h may (inl root) = (let e : (f.ino == 1) ≡ true = test_is f.ino 1 root in ap (λ (b : Bool). cond b (packs_of c f.group) (sites_made (packs_of c f.group) (words_named (record { line = n; what = r } ∷ entries older) (first_call c (record { line = n; what = r } ∷ entries older) f)))) e ∙ sym (ap (λ (b : Bool). cond b (packs_of c f.group) (sites_made (packs_of c f.group) (words_named (entries older) (first_call c (entries older) f)))) e))
+set_record c n r older f h may (inl root) = (let e : (f.ino == 1) ≡ true = equal_test f.ino 1 root in ap (λ (b : Bool). cond b (packs_of c f.group) (sites_made (packs_of c f.group) (words_named (record { line = n; what = r } ∷ entries older) (first_call c (record { line = n; what = r } ∷ entries older) f)))) e ∙ sym (ap (λ (b : Bool). cond b (packs_of c f.group) (sites_made (packs_of c f.group) (words_named (entries older) (first_call c (entries older) f)))) e))
 set_record c n r older f h may (inr k) = ap (λ (w : Option Call). cond (f.ino == 1) (packs_of c f.group) (sites_made (packs_of c f.group) w)) (words_same c n r older f h may k)
 
 pub kind_same : (c : Config) (n : ℕ) (x : Told) (older : List Line) (f : FileId) (s : Stamp) → IsFollowed c older → MayTell c older x → Stands c older f s → kind_of_file c (onto_entries n x (entries older)) f ≡ kind_of_file c (entries older) f

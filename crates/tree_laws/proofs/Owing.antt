@@ -3,6 +3,9 @@
 use Rattle.std.proofs.Common.{◌≡◌, ℕ, ◌==◌, Bool, true, false, not, cond, ◌&&◌, ◌||◌, List, [], ◌∷◌, ◌++◌, filter, Option, Some, None, refl, sym, ◌∙◌, ap, subst, arith}
 use Rattle.std.specs.List.{find, list_any}
 use Rattle.std.proofs.lemmas.Bool.Decides.{nat_tests}
+use Rattle.the_run.proofs.of_plain_facts.Numbers.{equal}
+use Rattle.the_run.proofs.of_plain_facts.Options.{some_same}
+use Rattle.the_run.proofs.of_plain_facts.Tests.{true_false}
 use Rattle.locus_ids.specs.declared.config.Config.{Config}
 use Rattle.locus_ids.specs.declared.ids.EpochId.{EpochId}
 use Rattle.locus_ids.specs.declared.ids.FileId.{FileId}
@@ -14,8 +17,8 @@ use Rattle.commit_graph.specs.declared.history.Version.{Version}
 use Rattle.trace_book.specs.Same.{same_epoch}
 use Rattle.trace_book.specs.declared.record.Record.{Record}
 use Rattle.trace_book.specs.declared.record.Record.TheVariants as says
-use Rattle.role_steps.specs.Own.{Every}
-use Rattle.role_steps.specs.Views.{Told, Shown}
+use Rattle.the_run.specs.of_role_steps.Own.{Every}
+use Rattle.the_run.specs.of_role_steps.Views.{Told, Shown}
 use Rattle.the_run.specs.Worlds.{Line}
 use Rattle.tree_model.specs.declared.instance.Granted.{Granted}
 use Rattle.tree_model.specs.declared.instance.Instance.{Instance}
@@ -30,7 +33,7 @@ use Rattle.tree_laws.specs.Printed.{entries}
 use Rattle.tree_laws.specs.Following.{MayTell}
 use Rattle.tree_laws.specs.Frames.{CommitsTold, CommitsOwe}
 use Rattle.tree_laws.specs.Instances.{instance_now}
-use Rattle.tree_laws.proofs.Names.{true_false, some_is, test_same, same_epoch_eq}
+use Rattle.tree_laws.proofs.Names.{same_epoch_eq}
 use Rattle.tree_laws.proofs.Kinship.{tree_epoch_is, tree_group_is}
 
 -- ---- who is inside ----
@@ -51,7 +54,7 @@ without_other a b [] ne = refl
 without_other a b (n ∷ ns) ne = at (without_other a b ns ne) (n == a) refl
   where
     other : (n == a) ≡ true → (n == b) ≡ false
-    other e = subst (λ (m : ℕ). (m == b) ≡ false) (sym (test_same n a e)) ne
+    other e = subst (λ (m : ℕ). (m == b) ≡ false) (sym (equal n a e)) ne
 
     at : has (without_number a ns) b ≡ has ns b → (c : Bool) → (n == a) ≡ c → has (without_number a (n ∷ ns)) b ≡ has (n ∷ ns) b
     at later true e = rw e (rw (other e) later)
@@ -62,7 +65,7 @@ left_in : (a s : ℕ) (ns : List ℕ) (o : Option EpochId) (e : EpochId) → has
 left_in a s ns o e h = at (a == s) refl
   where
     at : (b : Bool) → (a == s) ≡ b → has (without_number a ns) s ≡ is_in (cond b None o) e
-    at true k = subst (λ (m : ℕ). has (without_number a ns) m ≡ false) (test_same a s k) (without_own a ns)
+    at true k = subst (λ (m : ℕ). has (without_number a ns) m ≡ false) (equal a s k) (without_own a ns)
     at false k = without_other a s ns k ∙ h
 
 -- a site joins
@@ -77,7 +80,7 @@ passed_in : (a s : ℕ) (ns : List ℕ) (o : Option EpochId) (at_epoch e : Epoch
 passed_in a s ns o at_epoch e other h = at (a == s) refl
   where
     at : (b : Bool) → (a == s) ≡ b → has (without_number a ns) s ≡ is_in (cond b (Some at_epoch) o) e
-    at true k = subst (λ (m : ℕ). has (without_number a ns) m ≡ false) (test_same a s k) (without_own a ns) ∙ sym other
+    at true k = subst (λ (m : ℕ). has (without_number a ns) m ≡ false) (equal a s k) (without_own a ns) ∙ sym other
     at false k = without_other a s ns k ∙ h
 
 inside_kept : (b : Bool) (u t : TreeState) (s : ℕ) (x : Bool) → is_inside u s ≡ is_inside t s → is_inside t s ≡ x → is_inside (cond b u t) s ≡ x
@@ -154,7 +157,7 @@ found_every P p [] x e h = absurd (none e)
 found_every P p (y ∷ xs) x e h = at (λ (k : find p xs ≡ Some x). found_every P p xs x k h.1) (p y) e
   where
     at : (find p xs ≡ Some x → P x) → (b : Bool) → cond b (Some y) (find p xs) ≡ Some x → P x
-    at later true k = subst P (some_is y x k) h.0
+    at later true k = subst P (some_same y x k) h.0
     at later false k = later k
 
 -- what the record grants in the tree has the property
@@ -185,7 +188,7 @@ grants_have P h (says.Grant e call request i m f stamp ss) t new k = over (same_
     g = grant_of t call i m f ss
 
     over : (a b : Bool) → same_epoch e t.epoch ≡ a → (f.group == t.group) ≡ b → Every (λ (x : Instance). P x.grant) (cond a (record t { grants = t.grants ++ g ∷ []; instances = cond b (t.instances ++ opened h g stamp ∷ []) t.instances }) t).instances
-    over true true p q = every_added (λ (x : Instance). P x.grant) t.instances (opened h g stamp) k (new (same_epoch_eq e t.epoch p) (test_same f.group t.group q))
+    over true true p q = every_added (λ (x : Instance). P x.grant) t.instances (opened h g stamp) k (new (same_epoch_eq e t.epoch p) (equal f.group t.group q))
     over true false p q = k
     over false b p q = k
 grants_have P h (says.Act e i n o result) t new k = over (same_epoch e t.epoch && is_granted_here t i)
@@ -232,7 +235,7 @@ none_left p q (y ∷ xs) x e t f = at (λ (k : find p xs ≡ Some x). none_left 
 
     at : (find p xs ≡ Some x → filter q xs ≡ [] → ⊥) → (b d : Bool) → q y ≡ d → cond b (Some y) (find p xs) ≡ Some x → cond d (y ∷ filter q xs) (filter q xs) ≡ [] → ⊥
     at later b true g e f = empty y (filter q xs) f
-    at later true false g e f = true_false (sym t ∙ (ap q (sym (some_is y x e)) ∙ g))
+    at later true false g e f = true_false (sym t ∙ (ap q (sym (some_same y x e)) ∙ g))
     at later false false g e f = later e f
 
 pub only_one : {A : Type 0} (p q : A → Bool) (xs : List A) (x y : A) → find p xs ≡ Some x → q x ≡ true → filter q xs ≡ y ∷ [] → x ≡ y
@@ -249,8 +252,8 @@ only_one p q (z ∷ xs) x y e t f = at (λ (k : find p xs ≡ Some x). only_one 
     rest_is a b as_after e = cc
 
     at : (find p xs ≡ Some x → filter q xs ≡ y ∷ [] → x ≡ y) → (b d : Bool) → q z ≡ d → cond b (Some z) (find p xs) ≡ Some x → cond d (z ∷ filter q xs) (filter q xs) ≡ y ∷ [] → x ≡ y
-    at later true true g e f = sym (some_is z x e) ∙ first_is z y (filter q xs) f
-    at later true false g e f = absurd (true_false (sym t ∙ (ap q (sym (some_is z x e)) ∙ g)))
+    at later true true g e f = sym (some_same z x e) ∙ first_is z y (filter q xs) f
+    at later true false g e f = absurd (true_false (sym t ∙ (ap q (sym (some_same z x e)) ∙ g)))
     at later false true g e f = absurd (none_left p q xs x e t (rest_is z y (filter q xs) f))
     at later false false g e f = later e f
 

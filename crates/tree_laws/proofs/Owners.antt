@@ -1,6 +1,8 @@
 -- Which call an operation or a close of an instance is a step of stays, while the call asks it.
 use Rattle.std.proofs.Common.{◌≡◌, ℕ, suc, ◌≤◌, ◌==◌, Bool, true, false, not, cond, ◌&&◌, ◌||◌, List, [], ◌∷◌, length, Option, Some, None, refl, sym, ◌∙◌, ap, subst, arith, inl, inr}
 use Rattle.std.proofs.lemmas.Bool.Decides.{nat_tests}
+use Rattle.the_run.proofs.of_plain_facts.Options.{none_some, some_same}
+use Rattle.the_run.proofs.of_plain_facts.Tests.{true_false}
 use Rattle.locus_ids.specs.declared.config.Config.{Config}
 use Rattle.locus_ids.specs.declared.ids.CallId.{CallId}
 use Rattle.locus_ids.specs.declared.ids.EpochId.{EpochId}
@@ -17,7 +19,7 @@ use Rattle.trace_book.specs.declared.reply.Reply.{Reply}
 use Rattle.trace_book.specs.declared.reply.Reply.TheVariants as reply
 use Rattle.call_rules.specs.declared.want.Want.{Want}
 use Rattle.call_rules.specs.declared.want.Want.TheVariants as want
-use Rattle.role_steps.specs.Views.{Told, Shown}
+use Rattle.the_run.specs.of_role_steps.Views.{Told, Shown}
 use Rattle.the_run.specs.Worlds.{Line}
 use Rattle.tree_model.specs.Calls.{granted_to}
 use Rattle.tree_model.specs.Folds.{Trace}
@@ -26,10 +28,7 @@ use Rattle.tree_laws.specs.Printed.{entries, onto_entries}
 use Rattle.tree_laws.specs.Calls.{Asks, is_request}
 use Rattle.tree_laws.specs.Past.{WasNamed}
 use Rattle.tree_laws.specs.Following.{MayTell, AnswersInTime, AcceptsInTime}
-use Rattle.tree_laws.proofs.Names.{true_false, some_is, same_call_eq, same_epoch_eq, same_serial_eq}
-
-none_some : {A : Type 0} (a : A) → ◌≡◌ {A = Option A} None (Some a) → ⊥
-none_some a e = cc
+use Rattle.tree_laws.proofs.Names.{same_call_eq, same_epoch_eq, same_serial_eq}
 
 -- ---- what was granted was named ----
 
@@ -144,7 +143,7 @@ owner_same c older n r e i d w user later may k more (Some granted) g h =
   where
     at : (b : Bool) → has_named (entries older) granted ≡ b → cond b user (Some granted) ≡ Some d → cond (has_named (record { line = n; what = r } ∷ entries older) granted) later (Some granted) ≡ Some d
     at true e h = ap (λ (b : Bool). cond b later (Some granted)) (named_more n r (entries older) granted e) ∙ more h
-    at false e h = (let same : granted ≡ d = some_is granted d h in
+    at false e h = (let same : granted ≡ d = some_same granted d h in
         ap (λ (b : Bool). cond b later (Some granted)) (named_record c older n r granted w may (subst (λ (y : CallId). Asks c older y w) (sym same) k) ∙ e) ∙ ap Some same)
 
 pub act_owner_stays : (c : Config) (older : List Line) (n : ℕ) (x : Told) → MayTell c older x → (e : EpochId) (i : Serial) (number : ℕ) (d : CallId) (o : Op) → Asks c older d (want.Do i o) → call_of_act (entries older) e i number ≡ Some d → call_of_act (onto_entries n x (entries older)) e i number ≡ Some d

@@ -1,7 +1,7 @@
 -- Where each told line comes as it may, each printed record comes as the lawful trace has it.
 use Rattle.std.proofs.Common.{ℕ, List, [], ◌∷◌}
 use Rattle.locus_ids.specs.declared.config.Config.{Config}
-use Rattle.role_steps.specs.Views.{Told, Shown, Promises, Takes, LooksAgain, Begins, Shuts, Reserves}
+use Rattle.the_run.specs.of_role_steps.Views.{Told, Shown, Promises, Takes, LooksAgain, Begins, Shuts, Reserves}
 use Rattle.the_run.specs.Worlds.{Line}
 use Rattle.tree_laws.specs.Printed.{onto_entries, entries}
 use Rattle.tree_laws.specs.Following.{MayTell, IsFollowed, RowsAreLawful}

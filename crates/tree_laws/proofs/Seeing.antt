@@ -1,6 +1,8 @@
 -- What a remove has seen stays while it is asked: nobody works on its target, and nobody closes what it is asked of.
 use Rattle.std.proofs.Common.{◌≡◌, ℕ, ◌==◌, Bool, true, false, cond, ◌&&◌, List, [], ◌∷◌, ◌++◌, Option, Some, None, refl, sym, ◌∙◌, ap, subst, ◌⊎◌, inl, inr, ⊎_elim}
 use Rattle.std.specs.List.{find}
+use Rattle.the_run.proofs.of_plain_facts.Options.{none_some, some_same}
+use Rattle.the_run.proofs.of_plain_facts.Tests.{true_false}
 use Rattle.locus_ids.specs.declared.config.Config.{Config}
 use Rattle.locus_ids.specs.declared.ids.CallId.{CallId}
 use Rattle.locus_ids.specs.declared.ids.EpochId.{EpochId}
@@ -16,8 +18,8 @@ use Rattle.trace_book.specs.declared.operation.Outcome.{Outcome}
 use Rattle.trace_book.specs.declared.record.Record.{Record}
 use Rattle.trace_book.specs.declared.record.Record.TheVariants as says
 use Rattle.call_rules.specs.declared.want.Want.TheVariants as want
-use Rattle.role_steps.specs.Own.{Every}
-use Rattle.role_steps.specs.Views.{Told, Shown}
+use Rattle.the_run.specs.of_role_steps.Own.{Every}
+use Rattle.the_run.specs.of_role_steps.Views.{Told, Shown}
 use Rattle.the_run.specs.Worlds.{Line}
 use Rattle.tree_model.specs.declared.instance.Granted.{Granted}
 use Rattle.tree_model.specs.declared.instance.Instance.{Instance}
@@ -44,16 +46,13 @@ use Rattle.tree_laws.proofs.CarriedLooks.{one_want}
 use Rattle.tree_laws.proofs.Finds.{IsChanged, find_changed, find_added}
 use Rattle.tree_laws.proofs.Grants.{open_named}
 use Rattle.tree_laws.proofs.Kinship.{StaysOpen, Ends, open_stays, tree_epoch_is}
-use Rattle.tree_laws.proofs.Names.{true_false, some_is, same_call_eq, same_call_own, same_epoch_eq, same_epoch_own, same_serial_eq, same_serial_own}
+use Rattle.tree_laws.proofs.Names.{same_call_eq, same_call_own, same_epoch_eq, same_epoch_own, same_serial_eq, same_serial_own}
 use Rattle.tree_laws.proofs.Opened.{EndsIt}
 use Rattle.tree_laws.proofs.Owing.{GrantHas, grants_have, found_every, owed_where}
 use Rattle.tree_laws.proofs.Owners.{granted_same}
 
 abbrev More : ℕ → Told → List Line → List Line
 More n x older = record { number = n; told = x } ∷ older
-
-none_some : {A : Type 0} (a : A) → ◌≡◌ {A = Option A} None (Some a) → ⊥
-none_some a e = cc
 
 do_not_close : (i j : Serial) (o : Op) → want.Do i o ≡ want.Close j → ⊥
 do_not_close i j o e = cc
@@ -98,7 +97,7 @@ find_beside p q [] x e = absurd (none_some x e)
 find_beside {X} p q (y ∷ ys) x e = at (find_beside p q ys x) (q y) (p y) refl refl
   where
     at : (find p ys ≡ Some x → (find p (without_first q ys) ≡ Some x) ⊎ (q x ≡ true)) → (b a : Bool) → q y ≡ b → p y ≡ a → (find p (without_first q (y ∷ ys)) ≡ Some x) ⊎ (q x ≡ true)
-    at later true true f t = inr (ap q (sym (some_is y x (rw t at e))) ∙ f)
+    at later true true f t = inr (ap q (sym (some_same y x (rw t at e))) ∙ f)
     at later true false f t = inl (rw f (rw t at e))
     at later false true f t = inl (rw f (rw t (rw t at e)))
     at later false false f t = ⊎_elim (λ (k : find p (without_first q ys) ≡ Some x). inl (rw f (rw t k))) (λ (k : q x ≡ true). inr k) (later (rw t at e))
@@ -114,7 +113,7 @@ module _ (h : List Version) (t : TreeState) (d : CallId) (ino : ℕ) (old : Inst
       changed : same_epoch at t.epoch && is_granted_here t inst ≡ true → (find (is_target d ino) (change_first (is_named inst) (once_acted h t o result) t.instances) ≡ find (is_target d ino) t.instances) ⊎ IsChanged (is_target d ino) (is_named inst) (once_acted h t o result) t.instances →
           (find (is_target d ino) (next h (says.Act at inst n o result) t).instances ≡ Some old) ⊎ Touches t old (says.Act at inst n o result)
       changed b (inl f) = inl (rw b (f ∙ k))
-      changed b (inr f) = inr (same_epoch_eq at t.epoch (both (same_epoch at t.epoch) (is_granted_here t inst) b), same_serial_eq old.grant.inst inst (subst (λ (x : Instance). is_named inst x ≡ true) (some_is f.old old (sym f.was ∙ k)) f.passes))
+      changed b (inr f) = inr (same_epoch_eq at t.epoch (both (same_epoch at t.epoch) (is_granted_here t inst) b), same_serial_eq old.grant.inst inst (subst (λ (x : Instance). is_named inst x ≡ true) (some_same f.old old (sym f.was ∙ k)) f.passes))
 
       over : (b : Bool) → same_epoch at t.epoch && is_granted_here t inst ≡ b → (find (is_target d ino) (next h (says.Act at inst n o result) t).instances ≡ Some old) ⊎ Touches t old (says.Act at inst n o result)
       over true b = changed b (find_changed (is_target d ino) (is_named inst) (once_acted h t o result) (λ x. refl) t.instances)
@@ -126,7 +125,7 @@ module _ (h : List Version) (t : TreeState) (d : CallId) (ino : ℕ) (old : Inst
       changed : is_inside t s ≡ true → (find (is_target d ino) (change_first (is_writer f s) (once_committed stamp) t.instances) ≡ find (is_target d ino) t.instances) ⊎ IsChanged (is_target d ino) (is_writer f s) (once_committed stamp) t.instances →
           (find (is_target d ino) (next h (says.Commit f s stamp parents content) t).instances ≡ Some old) ⊎ Touches t old (says.Commit f s stamp parents content)
       changed b (inl g) = inl (rw b (g ∙ k))
-      changed b (inr g) = inr (b, subst (λ (x : Instance). is_writer f s x ≡ true) (some_is g.old old (sym g.was ∙ k)) g.passes)
+      changed b (inr g) = inr (b, subst (λ (x : Instance). is_writer f s x ≡ true) (some_same g.old old (sym g.was ∙ k)) g.passes)
 
       over : (b : Bool) → is_inside t s ≡ b → (find (is_target d ino) (next h (says.Commit f s stamp parents content) t).instances ≡ Some old) ⊎ Touches t old (says.Commit f s stamp parents content)
       over true b = changed b (find_changed (is_target d ino) (is_writer f s) (once_committed stamp) (λ x. refl) t.instances)
@@ -195,7 +194,7 @@ module _ (c : Config) (n : ℕ) (older : List Line) (h : IsFollowed c older) (e 
 
       heard_more : heard c (More n (Shown (says.Act at inst number what result)) older) d ≡ heard c older d ++ outcome_answer result ∷ []
       heard_more = ap (λ (x : Option CallId). cond (is_call x d) (heard c older d ++ outcome_answer result ∷ []) (heard c older d)) owner ∙ ap (λ (b : Bool). cond b (heard c older d ++ outcome_answer result ∷ []) (heard c older d)) (same_call_own d)
-  untouched (says.Release at inst f stamp) may later g ino target found granted owes touch = do_not_close i inst o (one_want c older d (want.Do i o) (want.Close inst) asks (subst (λ (y : CallId). Asks c older y (want.Close inst)) (some_is may.in_time.call d (sym may.in_time.owner ∙ owner)) may.in_time.asks))
+  untouched (says.Release at inst f stamp) may later g ino target found granted owes touch = do_not_close i inst o (one_want c older d (want.Do i o) (want.Close inst) asks (subst (λ (y : CallId). Asks c older y (want.Close inst)) (some_same may.in_time.call d (sym may.in_time.owner ∙ owner)) may.in_time.asks))
     where
       owner : call_of_release (entries older) at inst ≡ Some d
       owner = subst (λ (y : EpochId). call_of_release (entries older) y inst ≡ Some d) (sym (touch.0 ∙ tree_epoch_is c e g (entries older))) (own_release inst (subst (λ (j : Serial). granted_to (entries older) e j ≡ Some d) touch.1 granted))
@@ -207,7 +206,7 @@ found_passes p [] x e = absurd (none_some x e)
 found_passes p (y ∷ ys) x e = at (λ (k : find p ys ≡ Some x). found_passes p ys x k) (p y) refl e
   where
     at : (find p ys ≡ Some x → p x ≡ true) → (b : Bool) → p y ≡ b → cond b (Some y) (find p ys) ≡ Some x → p x ≡ true
-    at later true t k = ap p (sym (some_is y x k)) ∙ t
+    at later true t k = ap p (sym (some_same y x k)) ∙ t
     at later false t k = later k
 
 -- ---- what a remove has seen ----

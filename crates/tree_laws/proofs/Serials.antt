@@ -1,6 +1,7 @@
 -- A serial number is of one open: of two calls that ask opens in an epoch at a site under one serial number each is the other,
 -- and what is asked still hasn't been granted or refused.
 use Rattle.std.proofs.Common.{◌≡◌, ℕ, ◌+◌, ◌≤◌, Bool, true, false, cond, List, [], ◌∷◌, ◌++◌, Some, refl, sym, ◌∙◌, ap, subst, arith, inl, inr, ⊎_elim}
+use Rattle.the_run.proofs.of_plain_facts.Tests.{true_false}
 use Rattle.locus_ids.specs.declared.config.Config.{Config}
 use Rattle.locus_ids.specs.declared.ids.CallId.{CallId}
 use Rattle.locus_ids.specs.declared.ids.EpochId.{EpochId}
@@ -14,8 +15,8 @@ use Rattle.call_rules.specs.declared.answer.Answer.{Answer}
 use Rattle.call_rules.specs.declared.answer.Answer.TheVariants as answer
 use Rattle.call_rules.specs.declared.want.Want.{Want}
 use Rattle.call_rules.specs.declared.want.Want.TheVariants as want
-use Rattle.wire_messages.specs.declared.body.Opening.{Opening}
-use Rattle.role_steps.specs.Views.{Told, Shown, Takes, LooksAgain}
+use Rattle.the_run.specs.of_wire_messages.declared.body.Opening.{Opening}
+use Rattle.the_run.specs.of_role_steps.Views.{Told, Shown, Takes, LooksAgain}
 use Rattle.the_run.specs.Worlds.{Line}
 use Rattle.tree_model.specs.Calls.{call_named, accepted_as}
 use Rattle.tree_model.specs.Epochs.{boot_of}
@@ -31,7 +32,7 @@ use Rattle.tree_laws.specs.Following.{MayTell, IsFollowed, OpensInTime}
 use Rattle.tree_laws.proofs.Asking.{Turns, not_longer, waits_stays}
 use Rattle.tree_laws.proofs.Counting.{Opens, IsNow, Turned, calls_counted, accept_turned, take_turned, asked_same, up_still}
 use Rattle.tree_laws.proofs.Fresh.{IsNamed}
-use Rattle.tree_laws.proofs.Names.{true_false, same_call_eq, same_call_own}
+use Rattle.tree_laws.proofs.Names.{same_call_eq, same_call_own}
 use Rattle.tree_laws.proofs.OneBoot.{one_boot}
 use Rattle.tree_laws.proofs.Scripts.{in_stays}
 

@@ -3,6 +3,7 @@ use Rattle.std.proofs.Common.{◌≡◌, ℕ, ◌==◌, Bool, true, false, cond,
 use Rattle.std.specs.List.{find}
 use Rattle.std.specs.Option.{is_none, option_map}
 use Rattle.std.proofs.lemmas.Bool.Decides.{nat_tests}
+use Rattle.the_run.proofs.of_plain_facts.Options.{none_some}
 use Rattle.locus_ids.specs.declared.config.Config.{Config}
 use Rattle.locus_ids.specs.declared.ids.EpochId.{EpochId}
 use Rattle.locus_ids.specs.declared.ids.FileId.{FileId}
@@ -11,7 +12,7 @@ use Rattle.commit_graph.specs.declared.history.Version.{Version}
 use Rattle.trace_book.specs.Same.{same_epoch}
 use Rattle.trace_book.specs.declared.record.Record.{Record}
 use Rattle.trace_book.specs.declared.record.Record.TheVariants as says
-use Rattle.role_steps.specs.Views.{Told, Shown}
+use Rattle.the_run.specs.of_role_steps.Views.{Told, Shown}
 use Rattle.the_run.specs.Worlds.{Line}
 use Rattle.tree_model.specs.declared.copy.HeldCopy.{HeldCopy}
 use Rattle.tree_model.specs.Folds.{Trace}
@@ -27,9 +28,6 @@ use Rattle.tree_laws.proofs.Finds.{find_added}
 -- the site has some version of the inode, in these copies
 abbrev Holds : ℕ → ℕ → List HeldCopy → Type 0
 Holds s ino cs = (stamp : Stamp) × (held_of (copy_of cs s ino) ≡ Some stamp)
-
-none_some : {A : Type 0} (a : A) → ◌≡◌ {A = Option A} None (Some a) → ⊥
-none_some a e = cc
 
 -- ---- lists of copies ----
 

@@ -1,7 +1,7 @@
 -- What stands stays: what fresh stamps give, and what the order of versions gives.
 use Rattle.std.proofs.Common.{ℕ, List, ◌∷◌}
 use Rattle.locus_ids.specs.declared.config.Config.{Config}
-use Rattle.role_steps.specs.Views.{Told}
+use Rattle.the_run.specs.of_role_steps.Views.{Told}
 use Rattle.the_run.specs.Worlds.{Line}
 use Rattle.tree_laws.specs.Following.{MayTell, IsFollowed}
 use Rattle.tree_laws.specs.Frames.{IsFresh, VersionsStay, OrderStays}

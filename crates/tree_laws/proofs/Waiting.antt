@@ -1,6 +1,9 @@
 -- A call that asks something waits, while its site is in the epoch in which it was made.
 use Rattle.std.proofs.Common.{◌≡◌, ℕ, ◌==◌, Bool, true, false, not, cond, ◌&&◌, List, [], ◌∷◌, ◌++◌, filter, Option, Some, None, refl, sym, ◌∙◌, ap, subst, ◌⊎◌, inl, inr}
 use Rattle.std.specs.List.{find}
+use Rattle.the_run.proofs.of_plain_facts.Numbers.{equal, equal_self}
+use Rattle.the_run.proofs.of_plain_facts.Options.{none_some, some_same}
+use Rattle.the_run.proofs.of_plain_facts.Tests.{true_false}
 use Rattle.locus_ids.specs.declared.config.Config.{Config}
 use Rattle.locus_ids.specs.declared.ids.CallId.{CallId}
 use Rattle.locus_ids.specs.declared.ids.EpochId.{EpochId}
@@ -12,8 +15,8 @@ use Rattle.trace_book.specs.declared.record.Record.TheVariants as says
 use Rattle.trace_book.specs.declared.reply.Reply.{Reply}
 use Rattle.trace_book.specs.declared.reply.Reply.TheVariants as reply
 use Rattle.call_rules.specs.declared.answer.Answer.{Answer}
-use Rattle.role_steps.specs.Own.{Every}
-use Rattle.role_steps.specs.Views.{Told, Shown, Takes}
+use Rattle.the_run.specs.of_role_steps.Own.{Every}
+use Rattle.the_run.specs.of_role_steps.Views.{Told, Shown, Takes}
 use Rattle.the_run.specs.Kept.{Among}
 use Rattle.the_run.specs.Worlds.{Line}
 use Rattle.tree_model.specs.declared.accepted.Waiting.{Waiting}
@@ -29,15 +32,12 @@ use Rattle.tree_laws.specs.Following.{MayTell, IsFollowed, AnswersInTime}
 use Rattle.tree_laws.proofs.Boots.{every_filter, every_both, found_every}
 use Rattle.tree_laws.proofs.Counting.{asked_same}
 use Rattle.tree_laws.proofs.Fresh.{numbered}
-use Rattle.tree_laws.proofs.Names.{true_false, some_is, test_same, test_own, same_call_eq, same_call_own}
+use Rattle.tree_laws.proofs.Names.{same_call_eq, same_call_own}
 use Rattle.tree_laws.proofs.OneBoot.{joined_where_made}
 use Rattle.tree_laws.proofs.Scripts.{named_stays}
 
 abbrev With : ℕ → Told → List Line → List Line
 With n x older = record { number = n; told = x } ∷ older
-
-none_some : {A : Type 0} (a : A) → ◌≡◌ {A = Option A} None (Some a) → ⊥
-none_some a e = cc
 
 -- ---- lists ----
 
@@ -56,7 +56,7 @@ found_among p [] x e = absurd (none_some x e)
 found_among p (y ∷ ys) x e = at (λ (k : find p ys ≡ Some x). found_among p ys x k) (p y) e
   where
     at : (find p ys ≡ Some x → Among x ys) → (b : Bool) → cond b (Some y) (find p ys) ≡ Some x → (x ≡ y) ⊎ Among x ys
-    at later true k = inl (sym (some_is y x k))
+    at later true k = inl (sym (some_same y x k))
     at later false k = inr (later k)
 
 -- ---- what waits is what was accepted ----
@@ -80,7 +80,7 @@ accepted_accept c n s process new words older h may k = record { named = λ d w.
     at_site = ap (λ (x : CallId). x.site) (numbered c (entries older) s process new words may.row)
 
     named : (d : CallId) (w : Waiting) (b : Bool) → same_call new d ≡ b → cond b (Some it) (call_named (entries older) d) ≡ Some w → IsIt (record { line = n; what = says.Accept s process new words } ∷ entries older) d w
-    named d w true e h = (let same : new ≡ d = same_call_eq new d e in let is : it ≡ w = some_is it w h in record { call_is = ap (λ (x : Waiting). x.call) (sym is) ∙ same; site_is = ap (λ (x : Waiting). x.site) (sym is) ∙ (sym at_site ∙ ap (λ (x : CallId). x.site) same) })
+    named d w true e h = (let same : new ≡ d = same_call_eq new d e in let is : it ≡ w = some_same it w h in record { call_is = ap (λ (x : Waiting). x.call) (sym is) ∙ same; site_is = ap (λ (x : Waiting). x.site) (sym is) ∙ (sym at_site ∙ ap (λ (x : CallId). x.site) same) })
     named d w false e h = (let i : IsIt (entries older) d w = k.named d w h in record { call_is = i.call_is; site_is = i.site_is })
 
     still : (ws : List Waiting) → Every (λ (w : Waiting). call_named (entries older) w.call ≡ Some w) ws → Every (λ (w : Waiting). call_named (record { line = n; what = says.Accept s process new words } ∷ entries older) w.call ≡ Some w) ws
@@ -123,7 +123,7 @@ wait_record c n (says.Accept s process new words) older h may k d w e named made
     it = accepted_as (entries older) s process new words
 
     at : (b : Bool) → same_call new d ≡ b → cond b (Some it) (call_named (entries older) d) ≡ Some w → (w ≡ it) ⊎ Among w (waiting (entries older))
-    at true f m = inl (sym (some_is it w m))
+    at true f m = inl (sym (some_same it w m))
     at false f m = inr (k d w e m made inside (ap is_request (sym (asked_same c older n (Shown (says.Accept s process new words)) d h may (w, m) refl)) ∙ asks))
 wait_record c n (says.Answer s process call r) older h may k d w e named made inside asks = among_filter (λ (x : Waiting). not (same_call x.call call)) w (waiting (entries older)) (other (same_call w.call call) refl) (k d w e named made inside before)
   where
@@ -140,14 +140,14 @@ wait_record c n (says.Stopped s cause) older h may k d w e named made inside ask
     among_filter (λ (x : Waiting). not (x.site == s)) w (waiting (entries older)) (apart (w.site == s) refl o.0) (k d w e named made o.1 (ap is_request (sym (asked_same c older n (Shown (says.Stopped s cause)) d h may (w, named) refl)) ∙ asks)))
   where
     apart : (b : Bool) → (w.site == s) ≡ b → (s == d.site) ≡ false → not b ≡ true
-    apart true f g = absurd (true_false (sym (test_own s) ∙ (ap (λ (m : ℕ). s == m) (sym (test_same w.site s f) ∙ ((accepted c older h).named d w named).site_is) ∙ g)))
+    apart true f g = absurd (true_false (sym (equal_self s) ∙ (ap (λ (m : ℕ). s == m) (sym (equal w.site s f) ∙ ((accepted c older h).named d w named).site_is) ∙ g)))
     apart false f g = refl
 wait_record c n (says.Up s boot) older h may k d w e named made inside asks = k d w e named made (out_of (s == d.site) (epoch_of (entries older) d.site) e inside).1 (ap is_request (sym (asked_same c older n (Shown (says.Up s boot)) d h may (w, named) refl)) ∙ asks)
 wait_record c n (says.Leave s at) older h may k d w e named made inside asks = k d w e named made (out_of (s == d.site) (epoch_of (entries older) d.site) e inside).1 (ap is_request (sym (asked_same c older n (Shown (says.Leave s at)) d h may (w, named) refl)) ∙ asks)
 wait_record c n (says.Join s at members) older h may k d w e named made inside asks = k d w e named made (over (s == d.site) refl inside) (ap is_request (sym (asked_same c older n (Shown (says.Join s at members)) d h may (w, named) refl)) ∙ asks)
   where
     over : (b : Bool) → (s == d.site) ≡ b → cond b (Some at) (epoch_of (entries older) d.site) ≡ Some e → epoch_of (entries older) d.site ≡ Some e
-    over true f m = absurd (true_false (sym (joined_where_made c older d e h (record { accepted = w; named = named; made_in = made })) ∙ (ap (has_joined (entries older) d.site) (sym (some_is at e m)) ∙ subst (λ (t : ℕ). has_joined (entries older) t at ≡ false) (test_same s d.site f) may.row.new)))
+    over true f m = absurd (true_false (sym (joined_where_made c older d e h (record { accepted = w; named = named; made_in = made })) ∙ (ap (has_joined (entries older) d.site) (sym (some_same at e m)) ∙ subst (λ (t : ℕ). has_joined (entries older) t at ≡ false) (equal s d.site f) may.row.new)))
     over false f m = m
 wait_record c n r older h may k d w e named made inside asks = k d w e named made inside (ap is_request (sym (asked_same c older n (Shown r) d h may (w, named) refl)) ∙ asks)
 
@@ -170,7 +170,7 @@ wait_take c n s it request times a older h may k d w e named made inside asks = 
     is_it = same_call_eq caller.call it (last (caller.site == s) (caller.process == may.waits_for.process) (same_call caller.call it) found.1)
 
     at : (b : Bool) → same_call it d ≡ b → Among w (waiting (entries older))
-    at true f = (let same : w ≡ caller = some_is w caller (sym named ∙ (ap (call_named (entries older)) (sym (same_call_eq it d f) ∙ sym is_it) ∙ found.0)) in subst (λ (x : Waiting). Among x (waiting (entries older))) (sym same) (found_among (is_this s may.waits_for.process it) (waiting (entries older)) caller may.waits_for.found))
+    at true f = (let same : w ≡ caller = some_same w caller (sym named ∙ (ap (call_named (entries older)) (sym (same_call_eq it d f) ∙ sym is_it) ∙ found.0)) in subst (λ (x : Waiting). Among x (waiting (entries older))) (sym same) (found_among (is_this s may.waits_for.process it) (waiting (entries older)) caller may.waits_for.found))
     at false f = k d w e named made inside (ap is_request (sym (asked_same c older n (Takes s it request times a) d h may (w, named) (ap (λ (b : Bool). cond b (log older d ++ a ∷ []) (log older d)) f))) ∙ asks)
 
 wait_told : (c : Config) (n : ℕ) (x : Told) (older : List Line) → IsFollowed c older → MayTell c older x → AskersWait c older → AskersWait c (With n x older)

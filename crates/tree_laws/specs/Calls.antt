@@ -8,7 +8,7 @@ use Rattle.call_rules.specs.declared.answer.Answer.{Answer}
 use Rattle.call_rules.specs.declared.want.Want.{Want}
 use Rattle.call_rules.specs.declared.want.Want.TheVariants as want
 use Rattle.call_rules.specs.Scripts.{wants}
-use Rattle.role_steps.specs.Views.{Told, Shown, Takes, LooksAgain}
+use Rattle.the_run.specs.of_role_steps.Views.{Told, Shown, Takes, LooksAgain}
 use Rattle.the_run.specs.Worlds.{Line}
 use Rattle.tree_model.specs.declared.accepted.Waiting.{Waiting}
 use Rattle.tree_model.specs.Folds.{Trace}

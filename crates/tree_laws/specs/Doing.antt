@@ -6,12 +6,12 @@ use Rattle.locus_ids.specs.declared.ids.EpochId.{EpochId}
 use Rattle.locus_ids.specs.declared.ids.FileId.{FileId}
 use Rattle.trace_book.specs.declared.record.Record.{Record}
 use Rattle.trace_book.specs.declared.record.Record.TheVariants as says
-use Rattle.wire_messages.specs.declared.packet.Packet.{Packet}
-use Rattle.role_steps.specs.Own.{Every}
-use Rattle.role_steps.specs.Storage.{with_copy}
-use Rattle.role_steps.specs.Views.{Frame, Store, Users, Told, Shown, Promises, Takes, LooksAgain, Begins, Shuts, Reserves, DiskWrite, Outcome, boot_in}
-use Rattle.role_steps.specs.declared.pulls.Pull.{Pull}
-use Rattle.role_steps.specs.declared.synchronizing.SyncTable.{SyncTable}
+use Rattle.the_run.specs.of_wire_messages.declared.packet.Packet.{Packet}
+use Rattle.the_run.specs.of_role_steps.Own.{Every}
+use Rattle.the_run.specs.of_role_steps.Storage.{with_copy}
+use Rattle.the_run.specs.of_role_steps.Views.{Frame, Store, Users, Told, Shown, Promises, Takes, LooksAgain, Begins, Shuts, Reserves, DiskWrite, Outcome, boot_in}
+use Rattle.the_run.specs.of_role_steps.declared.pulls.Pull.{Pull}
+use Rattle.the_run.specs.of_role_steps.declared.synchronizing.SyncTable.{SyncTable}
 use Rattle.the_run.specs.Worlds.{Line, told_onto}
 use Rattle.tree_model.specs.Epochs.{boot_of, epoch_of, is_up, members_of}
 use Rattle.tree_model.specs.Folds.{Trace}
@@ -19,7 +19,6 @@ use Rattle.lawful_trace.specs.Disks.{writing_adoption, writing_commit}
 use Rattle.tree_laws.specs.Printed.{entries}
 use Rattle.tree_laws.specs.Past.{WasBegun}
 use Rattle.tree_laws.specs.Following.{MayTell}
-use Rattle.tree_laws.specs.Frames.{IsFresh}
 use Rattle.tree_laws.specs.Packets.{PacketFact}
 use Rattle.tree_laws.specs.Users.{InsideUsers, UsersFact}
 use Rattle.tree_laws.specs.Stores.{CopiesAreHeld, StoreFact, PullFact}
@@ -32,11 +31,6 @@ use Rattle.tree_laws.specs.Tables.{TableFact}
 abbrev pub AllTold : Config → ℕ → List Line → List Told → Type 0
 AllTold c n trace [] = Unit {0}
 AllTold c n trace (x ∷ xs) = MayTell c trace x × AllTold c n (record { number = n; told = x } ∷ trace) xs
-
--- each commit among them takes a stamp of its file that doesn't stand
-abbrev pub AllFresh : Config → ℕ → List Line → List Told → Type 0
-AllFresh c n trace [] = Unit {0}
-AllFresh c n trace (x ∷ xs) = IsFresh c trace x × AllFresh c n (record { number = n; told = x } ∷ trace) xs
 
 -- ---- the frame in which roles do so ----
 
@@ -142,14 +136,14 @@ IsWriteOf me (says.Commit file site stamp parents content) = site ≡ me
 IsWriteOf me (says.Adopt file site stamp) = site ≡ me
 IsWriteOf me _ = ⊥
 
--- how many pages the record writes on the disk of its site, by the records before it
-abbrev pub pages_written : Config → Trace → Record → ℕ
+-- the pages that the record writes on the disk of its site, by the records before it
+abbrev pub pages_written : Config → Trace → Record → List ℕ
 pages_written c before (says.Commit file site stamp parents content) = (writing_commit c before file site).pages
 pages_written c before (says.Adopt file site stamp) = (writing_adoption c before file site stamp).pages
-pages_written c before _ = 0
+pages_written c before _ = []
 
 -- what is written may be told first of all in the event, and the copy on the disk is then what the site holds by the trace:
--- so it is left where the event is cut off after it. It has as many pages as the record writes.
+-- so it is left where the event is cut off after it. Its pages are those that the record writes.
 pub record WriteFact (c : Config) (n : ℕ) (trace : List Line) (me : ℕ) (s : Store) (d : DiskWrite) : Type 0 where
   pub own : IsWriteOf me d.says
   pub may : MayTell c trace (Shown d.says)

@@ -26,10 +26,10 @@ use Rattle.trace_book.specs.declared.reply.Reply.{Reply}
 use Rattle.trace_book.specs.declared.reply.Reply.TheVariants as reply
 use Rattle.call_rules.specs.declared.answer.Answer.{Answer}
 use Rattle.call_rules.specs.declared.want.Want.TheVariants as want
-use Rattle.wire_messages.specs.declared.body.Opening.{Opening}
-use Rattle.wire_messages.specs.declared.body.Opening.TheVariants as how
-use Rattle.role_steps.specs.Opens.{mode_of}
-use Rattle.role_steps.specs.Views.{Told, Shown, Promises, Takes, LooksAgain, Begins, Shuts, Reserves}
+use Rattle.the_run.specs.of_wire_messages.declared.body.Opening.{Opening}
+use Rattle.the_run.specs.of_wire_messages.declared.body.Opening.TheVariants as how
+use Rattle.the_run.specs.of_role_steps.Opens.{mode_of}
+use Rattle.the_run.specs.of_role_steps.Views.{Told, Shown, Promises, Takes, LooksAgain, Begins, Shuts, Reserves}
 use Rattle.the_run.specs.Worlds.{Line}
 use Rattle.tree_model.specs.declared.accepted.Waiting.{Waiting}
 use Rattle.tree_model.specs.declared.instance.Instance.{Instance}

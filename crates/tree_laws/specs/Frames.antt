@@ -14,8 +14,8 @@ use Rattle.commit_graph.specs.Versions.{content_of}
 use Rattle.trace_book.specs.declared.operation.Op.{Op}
 use Rattle.trace_book.specs.declared.record.Record.TheVariants as says
 use Rattle.call_rules.specs.declared.want.Want.TheVariants as want
-use Rattle.wire_messages.specs.declared.body.ReportedCopy.{ReportedCopy}
-use Rattle.role_steps.specs.Views.{Told, Shown}
+use Rattle.the_run.specs.of_wire_messages.declared.body.ReportedCopy.{ReportedCopy}
+use Rattle.the_run.specs.of_role_steps.Views.{Told, Shown}
 use Rattle.the_run.specs.Worlds.{Line}
 use Rattle.tree_model.specs.declared.instance.Instance.{Instance}
 use Rattle.tree_model.specs.Files.{kind_of_file, set_of_file}

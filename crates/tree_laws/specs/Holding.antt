@@ -10,7 +10,7 @@ use Rattle.call_rules.specs.declared.answer.Answer.{Answer}
 use Rattle.call_rules.specs.declared.answer.Answer.TheVariants as answer
 use Rattle.call_rules.specs.declared.want.Want.{Want}
 use Rattle.call_rules.specs.declared.want.Want.TheVariants as want
-use Rattle.role_steps.specs.Views.{Told, Takes}
+use Rattle.the_run.specs.of_role_steps.Views.{Told, Takes}
 use Rattle.the_run.specs.Worlds.{Line}
 use Rattle.lawful_trace.specs.Tables.{begun}
 use Rattle.tree_laws.specs.Printed.{entries}

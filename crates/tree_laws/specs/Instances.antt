@@ -9,9 +9,9 @@ use Rattle.locus_ids.specs.declared.ids.Stamp.{Stamp}
 use Rattle.commit_graph.specs.Versions.{is_ancestor, is_in}
 use Rattle.call_rules.specs.declared.want.Want.{Want}
 use Rattle.call_rules.specs.declared.want.Want.TheVariants as want
-use Rattle.wire_messages.specs.declared.body.Opening.{Opening}
-use Rattle.wire_messages.specs.declared.body.Opening.TheVariants as how
-use Rattle.role_steps.specs.Requests.{opening_of, made_for}
+use Rattle.the_run.specs.of_wire_messages.declared.body.Opening.{Opening}
+use Rattle.the_run.specs.of_wire_messages.declared.body.Opening.TheVariants as how
+use Rattle.the_run.specs.of_role_steps.Requests.{opening_of, made_for}
 use Rattle.the_run.specs.Worlds.{Line}
 use Rattle.tree_model.specs.declared.instance.Instance.{Instance}
 use Rattle.tree_model.specs.Files.{HeldVersion, version_of}

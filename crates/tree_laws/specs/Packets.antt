@@ -16,10 +16,11 @@ use Rattle.locus_ids.specs.declared.sites.Sites.{Sites}
 use Rattle.locus_ids.specs.declared.ids.Stamp.{Stamp}
 use Rattle.locus_ids.specs.declared.refusal.Refusal.{Refusal}
 use Rattle.locus_ids.specs.declared.refusal.Refusal.TheVariants as refusal
-use Rattle.version_vector.specs.Counters.{part}
+use Rattle.locus_ids.specs.Sizes.{sites_max}
+use Rattle.tree_model.specs.of_version_vector.Counters.{part}
 use Rattle.commit_graph.specs.Versions.{content_of}
 use Rattle.commit_graph.specs.Vectors.{vector_of}
-use Rattle.file_content.specs.Pages.{page_of}
+use Rattle.tree_model.specs.of_file_content.Pages.{page_of}
 use Rattle.trace_book.specs.declared.operation.Op.{Op}
 use Rattle.trace_book.specs.declared.operation.Op.TheVariants as op
 use Rattle.trace_book.specs.declared.operation.Outcome.{Outcome}
@@ -29,25 +30,25 @@ use Rattle.trace_book.specs.declared.operation.What.{What}
 use Rattle.trace_book.specs.declared.operation.What.TheVariants as what
 use Rattle.call_rules.specs.declared.answer.Answer.{Answer}
 use Rattle.call_rules.specs.declared.want.Want.TheVariants as want
-use Rattle.wire_messages.specs.declared.body.Body.{Body}
-use Rattle.wire_messages.specs.declared.body.Body.TheVariants as body
-use Rattle.wire_messages.specs.declared.body.CloseAnswer.{CloseAnswer}
-use Rattle.wire_messages.specs.declared.body.Granted.{Granted}
-use Rattle.wire_messages.specs.declared.body.Granted.TheVariants as granted
-use Rattle.wire_messages.specs.declared.body.LookAnswer.{LookAnswer}
-use Rattle.wire_messages.specs.declared.body.LookAnswer.TheVariants as looked
-use Rattle.wire_messages.specs.declared.body.MadeVersion.{MadeVersion}
-use Rattle.wire_messages.specs.declared.body.OpenedAs.{OpenedAs}
-use Rattle.wire_messages.specs.declared.body.OpenedAs.TheVariants as opened
-use Rattle.wire_messages.specs.declared.body.Opening.{Opening}
-use Rattle.wire_messages.specs.declared.body.Opening.TheVariants as how
-use Rattle.wire_messages.specs.declared.body.ReportedCopy.{ReportedCopy}
-use Rattle.wire_messages.specs.declared.packet.Packet.{Packet}
-use Rattle.role_steps.specs.Opens.{stamp_or_none}
-use Rattle.role_steps.specs.Own.{Every}
-use Rattle.role_steps.specs.Reports.{stamp_made}
-use Rattle.role_steps.specs.Storage.{served_content}
-use Rattle.role_steps.specs.Using.{close_answer}
+use Rattle.the_run.specs.of_wire_messages.declared.body.Body.{Body}
+use Rattle.the_run.specs.of_wire_messages.declared.body.Body.TheVariants as body
+use Rattle.the_run.specs.of_wire_messages.declared.body.CloseAnswer.{CloseAnswer}
+use Rattle.the_run.specs.of_wire_messages.declared.body.Granted.{Granted}
+use Rattle.the_run.specs.of_wire_messages.declared.body.Granted.TheVariants as granted
+use Rattle.the_run.specs.of_wire_messages.declared.body.LookAnswer.{LookAnswer}
+use Rattle.the_run.specs.of_wire_messages.declared.body.LookAnswer.TheVariants as looked
+use Rattle.the_run.specs.of_wire_messages.declared.body.MadeVersion.{MadeVersion}
+use Rattle.the_run.specs.of_wire_messages.declared.body.OpenedAs.{OpenedAs}
+use Rattle.the_run.specs.of_wire_messages.declared.body.OpenedAs.TheVariants as opened
+use Rattle.the_run.specs.of_wire_messages.declared.body.Opening.{Opening}
+use Rattle.the_run.specs.of_wire_messages.declared.body.Opening.TheVariants as how
+use Rattle.the_run.specs.of_wire_messages.declared.body.ReportedCopy.{ReportedCopy}
+use Rattle.the_run.specs.of_wire_messages.declared.packet.Packet.{Packet}
+use Rattle.the_run.specs.of_role_steps.Opens.{stamp_or_none}
+use Rattle.the_run.specs.of_role_steps.Own.{Every}
+use Rattle.the_run.specs.of_role_steps.Reports.{stamp_made}
+use Rattle.the_run.specs.of_role_steps.Storage.{served_content}
+use Rattle.the_run.specs.of_role_steps.Using.{close_answer}
 use Rattle.the_run.specs.Kept.{Among}
 use Rattle.the_run.specs.Worlds.{Line}
 use Rattle.tree_model.specs.declared.accepted.Waiting.{Waiting}
@@ -162,8 +163,8 @@ pub record OpenFact (c : Config) (trace : List Line) (e : EpochId) (us serial n 
 -- The vector that a storage site begins from: that of the version for reading and writing, and counter by counter the
 -- greatest of all parents for a merge. It has a counter for each of the sixteen sites.
 abbrev pub JoinsParents : Config → List Line → FileId → List Stamp → List ℕ → Type 0
-JoinsParents c trace f [] vector = ((s : ℕ) → part vector s ≡ 0) × (length vector ≡ 16)
-JoinsParents c trace f (p ∷ ps) vector = (rest : List ℕ) × Stands c trace f p × JoinsParents c trace f ps rest × ((s : ℕ) → part vector s ≡ max (part (vector_of (history c (entries trace)) f p) s) (part rest s)) × (length vector ≡ 16)
+JoinsParents c trace f [] vector = ((s : ℕ) → part vector s ≡ 0) × (length vector ≡ sites_max)
+JoinsParents c trace f (p ∷ ps) vector = (rest : List ℕ) × Stands c trace f p × JoinsParents c trace f ps rest × ((s : ℕ) → part vector s ≡ max (part (vector_of (history c (entries trace)) f p) s) (part rest s)) × (length vector ≡ sites_max)
 
 -- an open of a file that stands: it was granted to this site; its first commit follows the version on which it was granted, or of
 -- a merge what is kept until it is begun

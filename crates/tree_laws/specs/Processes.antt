@@ -5,7 +5,7 @@ use Rattle.locus_ids.specs.declared.ids.CallId.{CallId}
 use Rattle.locus_ids.specs.declared.ids.EpochId.{EpochId}
 use Rattle.trace_book.specs.declared.call.Call.{Call}
 use Rattle.trace_book.specs.declared.call.Call.TheVariants as call
-use Rattle.role_steps.specs.Own.{Every}
+use Rattle.the_run.specs.of_role_steps.Own.{Every}
 use Rattle.the_run.specs.Worlds.{Line}
 use Rattle.tree_model.specs.declared.accepted.Waiting.{Waiting}
 use Rattle.tree_model.specs.Calls.{call_named, waiting}

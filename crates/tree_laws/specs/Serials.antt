@@ -8,7 +8,7 @@ use Rattle.trace_book.specs.declared.record.Record.{Record}
 use Rattle.trace_book.specs.declared.record.Record.TheVariants as says
 use Rattle.call_rules.specs.declared.want.Want.{Want}
 use Rattle.call_rules.specs.declared.want.Want.TheVariants as want
-use Rattle.role_steps.specs.Views.{Told, Shown, Takes}
+use Rattle.the_run.specs.of_role_steps.Views.{Told, Shown, Takes}
 use Rattle.the_run.specs.Worlds.{Line}
 use Rattle.tree_laws.specs.Printed.{entries}
 use Rattle.tree_laws.specs.Calls.{log, script}

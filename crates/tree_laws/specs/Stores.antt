@@ -10,21 +10,22 @@ use Rattle.locus_ids.specs.declared.ids.Mode.{Mode}
 use Rattle.locus_ids.specs.declared.ids.Mode.TheVariants as mode
 use Rattle.locus_ids.specs.declared.ids.Serial.{Serial}
 use Rattle.locus_ids.specs.declared.ids.Stamp.{Stamp}
+use Rattle.locus_ids.specs.Sizes.{inode_span, page_bytes, sites_max}
 use Rattle.trace_book.specs.declared.operation.Op.{Op}
 use Rattle.trace_book.specs.declared.operation.Outcome.{Outcome}
-use Rattle.wire_messages.specs.declared.body.CloseAnswer.{CloseAnswer}
-use Rattle.wire_messages.specs.declared.body.MadeVersion.{MadeVersion}
-use Rattle.file_effects.specs.Works.{begun}
-use Rattle.role_steps.specs.Own.{Every}
-use Rattle.role_steps.specs.Reports.{stamp_made}
-use Rattle.role_steps.specs.Storage.{copy_key, copy_of, instance_key, instance_of}
-use Rattle.role_steps.specs.Using.{close_answer}
-use Rattle.role_steps.specs.Views.{Frame, Store}
-use Rattle.role_steps.specs.declared.copies.FileCopy.{FileCopy}
-use Rattle.role_steps.specs.declared.instances.Instance.{Instance}
-use Rattle.role_steps.specs.declared.instances.Stage.{Stage}
-use Rattle.role_steps.specs.declared.instances.Stage.TheVariants as stage
-use Rattle.role_steps.specs.declared.pulls.Pull.{Pull}
+use Rattle.the_run.specs.of_wire_messages.declared.body.CloseAnswer.{CloseAnswer}
+use Rattle.the_run.specs.of_wire_messages.declared.body.MadeVersion.{MadeVersion}
+use Rattle.tree_model.specs.of_file_effects.Works.{begun}
+use Rattle.the_run.specs.of_role_steps.Own.{Every}
+use Rattle.the_run.specs.of_role_steps.Reports.{stamp_made}
+use Rattle.the_run.specs.of_role_steps.Storage.{copy_key, copy_of, instance_key, instance_of}
+use Rattle.the_run.specs.of_role_steps.Using.{close_answer}
+use Rattle.the_run.specs.of_role_steps.Views.{Frame, Store}
+use Rattle.the_run.specs.of_role_steps.declared.copies.FileCopy.{FileCopy}
+use Rattle.the_run.specs.of_role_steps.declared.instances.Instance.{Instance}
+use Rattle.the_run.specs.of_role_steps.declared.instances.Stage.{Stage}
+use Rattle.the_run.specs.of_role_steps.declared.instances.Stage.TheVariants as stage
+use Rattle.the_run.specs.of_role_steps.declared.pulls.Pull.{Pull}
 use Rattle.the_run.specs.Worlds.{Line}
 use Rattle.tree_model.specs.declared.instance.Instance.{Instance as Open}
 use Rattle.tree_model.specs.Files.{HeldVersion, held_version, words_named, kind_made, kind_of_file, set_of_file}
@@ -56,7 +57,7 @@ Ascends key (x ∷ xs) = Every (λ y. key x < key y) xs × Ascends key xs
 
 -- the disk holds of each file what its site holds by the trace, and no file twice; inode numbers have 16 bits
 pub record CopiesAreHeld (c : Config) (trace : List Line) (me : ℕ) (s : Store) : Type 0 where
-  pub are : (f : FileId) → f.ino < 65536 → copy_of s f ≡ option_map (copy_for f) (held_version c (entries trace) me f)
+  pub are : (f : FileId) → f.ino < inode_span → copy_of s f ≡ option_map (copy_for f) (held_version c (entries trace) me f)
   pub ascends : Ascends copy_key s.copies
 
 -- ---- instances ----
@@ -139,7 +140,7 @@ HoldsMade c trace f i _ = Unit {0}
 
 pub record InstanceFact (c : Config) (trace : List Line) (f : Frame) (i : Instance) : Type 0 where
   pub begun : WasBegun trace f.me f.epoch i.inst i.file
-  pub user : i.inst.us ≤ 16
+  pub user : i.inst.us ≤ sites_max
   pub vector_is : JoinsParents c trace i.file i.parents i.vector
   pub lies : LiesAs c trace f i i.mode
   pub holds : HoldsMade c trace f i i.mode
@@ -167,6 +168,6 @@ pub record PullFact (c : Config) (trace : List Line) (e : EpochId) (me : ℕ) (p
   pub vector_is : version.vector ≡ p.vector
   pub size_is : length version.content ≡ p.size
   pub pages : p.content ≡ take (length p.content) version.content
-  pub even : (length p.content ≡ p.size) ⊎ ((k : ℕ) × (length p.content ≡ 1024 * k))
+  pub even : (length p.content ≡ p.size) ⊎ ((k : ℕ) × (length p.content ≡ page_bytes * k))
   pub wanted : has p.set me ≡ true
   pub holds : HasAtLeast c trace e p.holder p.file p.stamp

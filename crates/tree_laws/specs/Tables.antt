@@ -16,25 +16,25 @@ use Rattle.commit_graph.specs.Versions.{same_file}
 use Rattle.trace_book.specs.Same.{same_epoch}
 use Rattle.trace_book.specs.declared.record.Record.{Record}
 use Rattle.trace_book.specs.declared.record.Record.TheVariants as says
-use Rattle.wire_messages.specs.declared.body.Body.{Body}
-use Rattle.wire_messages.specs.declared.body.Body.TheVariants as body
-use Rattle.wire_messages.specs.declared.packet.Packet.{Packet}
-use Rattle.role_steps.specs.Looks.{look_key}
-use Rattle.role_steps.specs.Opens.{is_open_on, open_key, open_row, opener_of, stamp_or_none}
-use Rattle.role_steps.specs.Own.{Every}
-use Rattle.role_steps.specs.Reports.{have_all_reported}
-use Rattle.role_steps.specs.Tables.{row}
-use Rattle.role_steps.specs.Versions.{file_row, holding_of, holding_site, is_below_some, kept, version_key, version_of}
-use Rattle.role_steps.specs.Views.{Frame, Told, Shown, packet, process_key}
-use Rattle.role_steps.specs.declared.synchronizing.Early.{Early}
-use Rattle.role_steps.specs.declared.synchronizing.FileRow.{FileRow}
-use Rattle.role_steps.specs.declared.synchronizing.Holding.{Holding}
-use Rattle.role_steps.specs.declared.synchronizing.LastLook.{LastLook}
-use Rattle.role_steps.specs.declared.synchronizing.OpenRow.{OpenRow}
-use Rattle.role_steps.specs.declared.synchronizing.OpenStage.{OpenStage}
-use Rattle.role_steps.specs.declared.synchronizing.OpenStage.TheVariants as stage
-use Rattle.role_steps.specs.declared.synchronizing.SyncTable.{SyncTable}
-use Rattle.role_steps.specs.declared.synchronizing.VersionRow.{VersionRow}
+use Rattle.the_run.specs.of_wire_messages.declared.body.Body.{Body}
+use Rattle.the_run.specs.of_wire_messages.declared.body.Body.TheVariants as body
+use Rattle.the_run.specs.of_wire_messages.declared.packet.Packet.{Packet}
+use Rattle.the_run.specs.of_role_steps.Looks.{look_key}
+use Rattle.the_run.specs.of_role_steps.Opens.{is_open_on, open_key, open_row, opener_of, stamp_or_none}
+use Rattle.the_run.specs.of_role_steps.Own.{Every}
+use Rattle.the_run.specs.of_role_steps.Reports.{have_all_reported}
+use Rattle.the_run.specs.of_role_steps.Tables.{row}
+use Rattle.the_run.specs.of_role_steps.Versions.{file_row, holding_of, holding_site, is_below_some, kept, version_key, version_of}
+use Rattle.the_run.specs.of_role_steps.Views.{Frame, Told, Shown, packet, process_key}
+use Rattle.the_run.specs.of_role_steps.declared.synchronizing.Early.{Early}
+use Rattle.the_run.specs.of_role_steps.declared.synchronizing.FileRow.{FileRow}
+use Rattle.the_run.specs.of_role_steps.declared.synchronizing.Holding.{Holding}
+use Rattle.the_run.specs.of_role_steps.declared.synchronizing.LastLook.{LastLook}
+use Rattle.the_run.specs.of_role_steps.declared.synchronizing.OpenRow.{OpenRow}
+use Rattle.the_run.specs.of_role_steps.declared.synchronizing.OpenStage.{OpenStage}
+use Rattle.the_run.specs.of_role_steps.declared.synchronizing.OpenStage.TheVariants as stage
+use Rattle.the_run.specs.of_role_steps.declared.synchronizing.SyncTable.{SyncTable}
+use Rattle.the_run.specs.of_role_steps.declared.synchronizing.VersionRow.{VersionRow}
 use Rattle.the_run.specs.Kept.{Among}
 use Rattle.the_run.specs.Worlds.{Line}
 use Rattle.tree_model.specs.declared.accepted.Waiting.{Waiting}

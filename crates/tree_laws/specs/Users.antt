@@ -8,6 +8,7 @@ use Rattle.locus_ids.specs.declared.ids.CallId.{CallId}
 use Rattle.locus_ids.specs.declared.ids.FileId.{FileId}
 use Rattle.locus_ids.specs.declared.ids.Mode.{Mode}
 use Rattle.locus_ids.specs.declared.ids.Stamp.{Stamp}
+use Rattle.locus_ids.specs.Sizes.{descriptor_span}
 use Rattle.commit_graph.specs.Versions.{content_of, same_file}
 use Rattle.trace_book.specs.declared.call.Call.{Call}
 use Rattle.trace_book.specs.declared.call.Call.TheVariants as call
@@ -17,13 +18,13 @@ use Rattle.call_rules.specs.declared.answer.Answer.{Answer}
 use Rattle.call_rules.specs.declared.answer.Answer.TheVariants as answer
 use Rattle.call_rules.specs.declared.want.Want.{Want}
 use Rattle.call_rules.specs.declared.want.Want.TheVariants as want
-use Rattle.role_steps.specs.Own.{Every}
-use Rattle.role_steps.specs.Requests.{waiting_key, instance_serial, descriptor_key, user_instance, descriptors_of, request_packets}
-use Rattle.role_steps.specs.Views.{Users, Frame, Told, Shown, Takes}
-use Rattle.role_steps.specs.declared.users.Asking.{Asking}
-use Rattle.role_steps.specs.declared.users.Asking.TheVariants as asking
-use Rattle.role_steps.specs.declared.users.UserInstance.{UserInstance}
-use Rattle.role_steps.specs.declared.users.WaitingCall.{WaitingCall}
+use Rattle.the_run.specs.of_role_steps.Own.{Every}
+use Rattle.the_run.specs.of_role_steps.Requests.{waiting_key, instance_serial, descriptor_key, user_instance, descriptors_of, request_packets}
+use Rattle.the_run.specs.of_role_steps.Views.{Users, Frame, Told, Shown, Takes}
+use Rattle.the_run.specs.of_role_steps.declared.users.Asking.{Asking}
+use Rattle.the_run.specs.of_role_steps.declared.users.Asking.TheVariants as asking
+use Rattle.the_run.specs.of_role_steps.declared.users.UserInstance.{UserInstance}
+use Rattle.the_run.specs.of_role_steps.declared.users.WaitingCall.{WaitingCall}
 use Rattle.the_run.specs.Kept.{Among}
 use Rattle.the_run.specs.Worlds.{Line}
 use Rattle.tree_model.specs.declared.accepted.Waiting.{Waiting}
@@ -153,5 +154,5 @@ pub record UsersFact (c : Config) (trace : List Line) (me boot : ℕ) (u : Users
   pub calls : u.calls ≡ calls_accepted (entries trace) me
   pub serials : u.serials ≡ opens_asked c trace me
   -- the table's key tells process and number apart up to the greatest number that a line can name
-  pub descriptors : (process fd : ℕ) → fd < 65536 → descriptors_of u process fd ≡ descriptor (entries trace) me process fd
+  pub descriptors : (process fd : ℕ) → fd < descriptor_span → descriptors_of u process fd ≡ descriptor (entries trace) me process fd
   pub ascends : Ascends descriptor_key u.descriptors

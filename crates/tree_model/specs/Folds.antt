@@ -1,6 +1,6 @@
 -- A trace is a list of entries, the latest first. What the records so far tell is a fold over it.
 use Rattle.std.specs.Prelude.{ℕ, List, [], ◌∷◌, ◌++◌, nat_lt, cond}
-use Rattle.trace_book.specs.declared.book.Entry.{Entry}
+use Rattle.trace_book.specs.declared.entry.Entry.{Entry}
 use Rattle.trace_book.specs.Text.{entry_text}
 
 abbrev pub Trace : Type 0

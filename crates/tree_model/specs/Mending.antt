@@ -1,14 +1,14 @@
 -- The directory that a mend makes of the versions that are kept: their join, in which files live again whose removal didn't
 -- see what is kept of them.
-use Rattle.std.specs.Prelude.{ℕ, Bool, ◌||◌, List, [], ◌∷◌, filter, length, map, nat_lt}
+use Rattle.std.specs.Prelude.{ℕ, Bool, List, [], ◌∷◌, filter, map}
 use Rattle.locus_ids.specs.declared.ids.FileId.{FileId}
 use Rattle.locus_ids.specs.declared.ids.Brought.{Brought}
 use Rattle.commit_graph.specs.declared.history.Version.{Version}
 use Rattle.commit_graph.specs.Versions.{content_of}
 use Rattle.commit_graph.specs.Vectors.{vector_of}
-use Rattle.dir_format.specs.declared.entry.Entry.{Entry}
-use Rattle.dir_format.specs.Grammar.{dir_bytes}
-use Rattle.dir_format.specs.Contents.{entries_of}
+use Rattle.dir_reconcile.specs.of_dir_format.declared.entry.Entry.{Entry}
+use Rattle.dir_reconcile.specs.of_dir_format.Grammar.{dir_bytes}
+use Rattle.dir_reconcile.specs.of_dir_format.Contents.{entries_of}
 use Rattle.dir_reconcile.specs.declared.kept.KeptVector.{KeptVector}
 use Rattle.dir_reconcile.specs.Joins.{joined_dirs}
 use Rattle.dir_reconcile.specs.Rescues.{rescued, rescue_wanted}
@@ -43,7 +43,3 @@ joined_content h t f = dir_bytes (rescued (join_of_kept h t f) (kept_vectors h t
 -- a file of the directory wants to live again
 abbrev pub wants_rescue_in : List Version → TreeState → FileId → Bool
 wants_rescue_in h t f = rescue_wanted (join_of_kept h t f) (kept_vectors h t)
-
--- the directory is to be mended: several versions of it are kept, or a file of it wants to live again
-abbrev pub wants_mend : List Version → TreeState → FileId → Bool
-wants_mend h t f = nat_lt 1 (length (kept_of h t f)) || wants_rescue_in h t f

@@ -9,6 +9,7 @@ use Rattle.locus_ids.specs.declared.ids.Mode.{Mode}
 use Rattle.locus_ids.specs.declared.ids.Mode.TheVariants as mode
 use Rattle.locus_ids.specs.declared.refusal.Refusal.{Refusal}
 use Rattle.locus_ids.specs.declared.refusal.Refusal.TheVariants.{NoStorage}
+use Rattle.locus_ids.specs.Sizes.{site_inodes}
 use Rattle.commit_graph.specs.declared.history.Version.{Version}
 use Rattle.commit_graph.specs.Versions.{same_stamp}
 use Rattle.commit_graph.specs.Vectors.{numbers_from}
@@ -65,17 +66,13 @@ open_refusal h t mode call f = option_or (grant_refusal mode (openers t f) (kept
 
 -- Numbers of new files.
 
--- how many numbers each site may give in a group
-abbrev pub numbers_of_a_site : ℕ
-numbers_of_a_site = 64
-
 -- the numbers that the site gives to new files of a group
 abbrev pub range_of : ℕ → List ℕ
-range_of site = numbers_from (64 * (site - 1) + 1) 64
+range_of site = numbers_from (site_inodes * (site - 1) + 1) site_inodes
 
 -- a number that the site may give to a new file; number 1 is the root's
 abbrev pub is_given_by : ℕ → ℕ → Bool
-is_given_by site ino = nat_lt (64 * site) (ino + 64) && (nat_le ino (64 * site) && nat_lt 1 ino)
+is_given_by site ino = nat_lt (site_inodes * site) (ino + site_inodes) && (nat_le ino (site_inodes * site) && nat_lt 1 ino)
 
 -- how many numbers of its range the site has files of
 abbrev pub numbers_used : TreeState → ℕ → ℕ
@@ -92,7 +89,7 @@ makes_at t site = filter (λ call. is_site (making_site t call) site) t.makes
 -- the numbers of a storage site, in use or wanted by makes that are underway, are as many as it has at least
 abbrev pub lacks_numbers : TreeState → Option ℕ → Bool
 lacks_numbers t None = false
-lacks_numbers t (Some site) = nat_le numbers_of_a_site (numbers_used t site + length (makes_at t site))
+lacks_numbers t (Some site) = nat_le site_inodes (numbers_used t site + length (makes_at t site))
 
 -- Grants.
 

@@ -6,11 +6,7 @@ use Rattle.locus_ids.specs.Sites.{has}
 use Rattle.locus_ids.specs.declared.sites.Sites.{Sites}
 use Rattle.locus_ids.specs.declared.sites.Members.{Members}
 use Rattle.locus_ids.specs.declared.config.Config.{Config}
-use Rattle.commit_graph.specs.Vectors.{numbers_from}
-
--- the numbers of all sites that there may be, ascending
-abbrev pub all_sites : List ℕ
-all_sites = numbers_from 1 16
+pub use Rattle.commit_graph.specs.Vectors.{all_sites}
 
 -- the least site that passes
 abbrev pub least_site : (ℕ → Bool) → Option ℕ

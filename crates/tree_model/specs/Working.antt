@@ -6,6 +6,7 @@ use Rattle.locus_ids.specs.declared.ids.Stamp.{Stamp}
 use Rattle.locus_ids.specs.declared.ids.CallId.{CallId}
 use Rattle.locus_ids.specs.declared.ids.Mode.{Mode}
 use Rattle.locus_ids.specs.declared.ids.Mode.TheVariants as mode
+use Rattle.locus_ids.specs.Sizes.{pack_pages}
 use Rattle.commit_graph.specs.declared.history.Version.{Version}
 use Rattle.commit_graph.specs.Counters.{next_number}
 use Rattle.commit_graph.specs.Vectors.{vector_of}
@@ -14,7 +15,7 @@ use Rattle.trace_book.specs.declared.operation.Op.{Op}
 use Rattle.trace_book.specs.declared.operation.Op.TheVariants as op
 use Rattle.trace_book.specs.declared.operation.Outcome.{Outcome}
 use Rattle.trace_book.specs.declared.operation.Outcome.TheVariants as outcome
-use Rattle.file_content.specs.Pages.{pages_of}
+use Rattle.file_effects.specs.of_file_content.Pages.{pages_of}
 use Rattle.file_effects.specs.Effects.{Deed, As, Removes, Mends, Effect, effect}
 use Rattle.file_effects.specs.Works.{result_in, counted, operated, aborted, commit_result}
 use Rattle.file_effects.specs.declared.work.Work.{Work}
@@ -56,10 +57,6 @@ abbrev pub effect_on : List Version → TreeState → Op → Instance → Option
 effect_on h t o x = effect_of (deed_of h t o x) x.work.content
 
 -- Room.
-
--- the pages of a pack
-abbrev pub pack_pages : ℕ
-pack_pages = 3072
 
 -- the pages of the version that a site has in the epoch
 abbrev pub pages_of_copy : List Version → ℕ → HeldCopy → ℕ

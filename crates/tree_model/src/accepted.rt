@@ -2,7 +2,7 @@ use locus_ids::{CallId, EpochId};
 use trace_book::Call;
 
 /// An accepted call, as the tree asks for it later.
-#[derive(Debug, Drop)]
+#[derive(Drop)]
 pub struct AcceptedCall {
     pub call: CallId,
     pub process: u8,
@@ -10,7 +10,7 @@ pub struct AcceptedCall {
 }
 
 /// An accepted call with the site and the process that wait for it.
-#[derive(Debug, Drop)]
+#[derive(Drop)]
 pub struct Waiting {
     pub site: u8,
     pub process: u8,

@@ -2,7 +2,7 @@ use file_effects::Work;
 use locus_ids::{CallId, FileId, Mode, Serial};
 
 /// What a grant fixes of an instance.
-#[derive(Clone, Copy, Debug, PartialEq, Eq)]
+#[derive(Clone, Copy, PartialEq, Eq)]
 pub struct Granted {
     pub inst: Serial,
     /// The call that opened it, and its process.
@@ -15,7 +15,7 @@ pub struct Granted {
 }
 
 /// An open instance: what its grant fixed, and what has become of it since.
-#[derive(Debug, Drop)]
+#[derive(Drop)]
 pub struct Instance {
     pub grant: Granted,
     pub work: Work,

@@ -1,5 +1,6 @@
 ghost use Rattle.std.specs.Prelude.{◌≡◌, ◌≤◌, ◌+◌, ◌-◌, ◌*◌, filter, length, nat_le};
 ghost use Rattle.std.specs.Option.{is_some};
+ghost use Rattle.locus_ids.specs.Sizes.{site_inodes};
 ghost use Rattle.commit_graph.specs.Vectors.{numbers_from};
 ghost use Rattle.tree_model.specs.State.{held_at};
 ghost use Rattle.tree_model.specs.Opening.{lacks_numbers, makes_at, making_site, numbers_used};
@@ -7,9 +8,7 @@ ghost use Rattle.tree_model.specs.Opening.{lacks_numbers, makes_at, making_site,
 use crate::TreeTables;
 use crate::placing::is_site;
 use locus_ids::CallId;
-
-/// The numbers that a site may give in a group.
-const NUMBERS: usize = 64;
+use locus_ids::sizes::SITE_INODES;
 
 impl TreeTables {
     /// The numbers of the storage site of a make, in use or wanted by makes that are underway, are as many as it has at
@@ -27,8 +26,8 @@ impl TreeTables {
     fn numbers_used(&self, site: u8) -> usize
         ensures { result ≡ numbers_used self.now site }
     {
-        let first = 64 * u16::from(site.saturating_sub(1)) + 1;
-        self.used_from(site, first, 64)
+        let first = SITE_INODES * u16::from(site.saturating_sub(1)) + 1;
+        self.used_from(site, first, SITE_INODES)
     }
 
     /// How many of so many numbers from this one on the site has files of.
@@ -62,7 +61,9 @@ impl TreeTables {
 
 /// As many as a site has numbers at least.
 fn is_full(used: usize, wanting: usize) -> bool
-    ensures { result ≡ nat_le 64 (used + wanting) }
+    ensures { result ≡ nat_le site_inodes (used + wanting) }
 {
-    used >= NUMBERS || wanting >= NUMBERS || used + wanting >= NUMBERS
+    used >= SITE_INODES as usize
+        || wanting >= SITE_INODES as usize
+        || used + wanting >= SITE_INODES as usize
 }

@@ -7,10 +7,8 @@ use crate::working::size_at;
 use commit_graph::History;
 use file_content::pages_of;
 use locus_ids::FileId;
+use locus_ids::sizes::PACK_PAGES;
 use tree_model::{HeldCopy, Instance};
-
-/// The pages of a pack.
-const PACK_PAGES: usize = 3072;
 
 impl TreeTables {
     /// The pages that are free for the group at the site.
@@ -18,7 +16,7 @@ impl TreeTables {
     pub fn free_pages(&self, h: &History, site: u8) -> usize
         ensures { result ≡ free_pages h.now self.now site }
     {
-        let left = self.less_held(h, site, PACK_PAGES);
+        let left = self.less_held(h, site, PACK_PAGES as usize);
         less_changed(self.instances.as_slice(), site, left)
     }
 

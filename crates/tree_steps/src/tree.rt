@@ -11,7 +11,7 @@ use tree_tables::{Copies, Instances, group_granted};
 
 /// The one tree of an epoch and a group, as the records so far lead to it: what later steps ask of these records, and
 /// not the records.
-#[derive(Debug, Drop)]
+#[derive(Drop)]
 pub struct TreeTables {
     pub(crate) config: Config,
     pub(crate) epoch: EpochId,

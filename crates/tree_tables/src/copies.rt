@@ -9,7 +9,7 @@ use std::marker::Model;
 use tree_model::HeldCopy;
 
 /// What sites have of the files of a group, with one entry for each site and inode.
-#[derive(Debug, Drop)]
+#[derive(Drop)]
 pub struct Copies {
     rows: Vec<HeldCopy>,
 }

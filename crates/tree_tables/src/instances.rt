@@ -16,7 +16,7 @@ use std::marker::Model;
 use tree_model::Instance;
 
 /// The open instances of a group in an epoch, the earliest granted first.
-#[derive(Debug, Drop)]
+#[derive(Drop)]
 pub struct Instances {
     items: Vec<Instance>,
 }

@@ -2,6 +2,7 @@ ghost use Rattle.std.specs.Prelude.{◌≡◌, ◌∷◌, IfOk};
 ghost use Rattle.tree_model.specs.Opening.{is_given_by};
 ghost use Rattle.tree_model.specs.Tree.{without_number};
 
+use locus_ids::sizes::SITE_INODES;
 use locus_ids::{ItemList, NoMemory};
 use std::alloc::Global;
 
@@ -9,9 +10,9 @@ use std::alloc::Global;
 pub fn is_given_by(site: u8, ino: u16) -> bool
     ensures { result ≡ is_given_by site ino }
 {
-    let last = 64 * u32::from(site);
+    let last = SITE_INODES as u32 * u32::from(site);
     let ino = u32::from(ino);
-    last < ino + 64 && (ino <= last && 1 < ino)
+    last < ino + SITE_INODES as u32 && (ino <= last && 1 < ino)
 }
 
 /// The numbers but this one.

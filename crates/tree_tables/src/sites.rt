@@ -3,6 +3,7 @@ ghost use Rattle.std.specs.List.{find, list_all};
 ghost use Rattle.locus_ids.specs.Sites.{has};
 ghost use Rattle.tree_model.specs.Packs.{has_pack, is_good_set, is_member, is_member_of, is_place, is_within, least_site, making_site_in, packs_of, sync_site};
 
+use locus_ids::sizes::SITES;
 use locus_ids::{Config, Members, Sites};
 
 /// The site is in the set.
@@ -10,7 +11,7 @@ pub fn has_site(sites: Sites, site: u8) -> bool
     ensures { result ≡ has sites site }
 {
     let place = site.saturating_sub(1);
-    if place >= 16 {
+    if place >= SITES as u8 {
         return false;
     }
     (sites.0 >> place) % 2 == 1
@@ -60,7 +61,7 @@ fn is_place(members: &Option<Members>, set: Sites, site: u8) -> bool
 fn least_place(members: &Option<Members>, set: Sites) -> Option<u8>
     ensures { result ≡ least_site (is_place members.now set) }
 {
-    for site in 1..17 {
+    for site in 1..SITES as u8 + 1 {
         if is_place(members, set, site) {
             return Some(site);
         }
@@ -87,7 +88,7 @@ fn is_covered(a: Sites, b: Sites, site: u8) -> bool
 fn is_within(a: Sites, b: Sites) -> bool
     ensures { result ≡ is_within a b }
 {
-    for site in 1..17 {
+    for site in 1..SITES as u8 + 1 {
         if !is_covered(a, b, site) {
             return false;
         }

@@ -1,6 +1,8 @@
 -- A call is accepted at a site in its epoch: it turns, and what the site has beside it goes on.
 use Rattle.std.proofs.Common.{◌≡◌, ℕ, ◌+◌, ◌*◌, ◌<◌, ◌==◌, arith, Bool, true, false, cond, ◌&&◌, List, [], ◌∷◌, Option, Some, None, refl, sym, ◌∙◌, ap, subst, ◌⊎◌, inl, inr}
 use Rattle.std.specs.List.{find}
+use Rattle.role_steps.proofs.of_plain_facts.Numbers.{equal, equal_self}
+use Rattle.role_steps.proofs.of_plain_facts.Tests.{true_false}
 use Rattle.locus_ids.specs.declared.config.Config.{Config}
 use Rattle.locus_ids.specs.declared.ids.CallId.{CallId}
 use Rattle.locus_ids.specs.declared.ids.EpochId.{EpochId}
@@ -17,6 +19,7 @@ use Rattle.call_rules.specs.Descriptors.{beginning, begins_on, begins_open}
 use Rattle.call_rules.specs.declared.answer.Answer.{Answer}
 use Rattle.call_rules.specs.Words.{is_too_long}
 use Rattle.locus_ids.specs.declared.refusal.Refusal.TheVariants as refusal
+use Rattle.locus_ids.specs.Sizes.{descriptor_span}
 use Rattle.role_steps.specs.Own.{Every}
 use Rattle.role_steps.specs.Requests.{descriptor_in, descriptor_key, descriptors_of, fd_key, waiting_key, waiting_of}
 use Rattle.role_steps.specs.Tables.{row, without_row}
@@ -24,8 +27,8 @@ use Rattle.role_steps.specs.Using.{accept_record, accepted, frees, goes_on, on_c
 use Rattle.role_steps.specs.Views.{Frame, LooksAgain, Shown, Takes, Told, Users}
 use Rattle.role_steps.specs.declared.users.DescriptorRow.{DescriptorRow}
 use Rattle.role_steps.specs.declared.users.WaitingCall.{WaitingCall}
-use Rattle.the_run.specs.Kept.{Among}
-use Rattle.the_run.specs.Worlds.{Line}
+use Rattle.tree_laws.specs.of_the_run.Kept.{Among}
+use Rattle.tree_laws.specs.of_the_run.Worlds.{Line}
 use Rattle.tree_model.specs.Calls.{accepted_as, call_named, waiting}
 use Rattle.tree_model.specs.Epochs.{calls_accepted, epoch_of}
 use Rattle.tree_model.specs.declared.accepted.Waiting.{Waiting}
@@ -43,8 +46,8 @@ use Rattle.tree_laws.proofs.Boots.{every_both}
 use Rattle.tree_laws.proofs.Descriptors.{FromDescriptor, uses_from}
 use Rattle.tree_laws.proofs.Fresh.{IsNamed, calls_are_low, next_is_new, numbered}
 use Rattle.tree_laws.proofs.Having.{Untaken, named_or_untaken, waiting_named}
-use Rattle.tree_laws.proofs.Names.{same_call_eq, same_call_own, test_own, test_same, true_false}
-use Rattle.order_laws.proofs.ProcessOneDescriptor.{unclosed}
+use Rattle.tree_laws.proofs.Names.{same_call_eq, same_call_own}
+use Rattle.holding_laws.proofs.of_order_laws.ProcessOneDescriptor.{unclosed}
 use Rattle.user_laws.specs.Rests.{Follows, Staying}
 use Rattle.user_laws.specs.Turning.{it, CallTurns, InstanceTurns, IsNumbered, Others, Turning}
 use Rattle.user_laws.proofs.Beside.{TurnsOne, instance_turns, waiting_same}
@@ -56,7 +59,7 @@ use Rattle.user_laws.proofs.Tabled.{ascends_without, every_among, row_gone, row_
 -- ---- where it begins ----
 
 -- by the same descriptors a call begins the same
-pub begins_same : (p q : ℕ → Option Descriptor) → ((fd : ℕ) → fd < 65536 → p fd ≡ q fd) → (now : Option EpochId) (words : Call) → IsNumbered words → beginning p now words ≡ beginning q now words
+pub begins_same : (p q : ℕ → Option Descriptor) → ((fd : ℕ) → fd < descriptor_span → p fd ≡ q fd) → (now : Option EpochId) (words : Call) → IsNumbered words → beginning p now words ≡ beginning q now words
 begins_same p q same now (call.Open path how) lt = ap (begins_open now) (free_is p q same)
 begins_same p q same now (call.Read fd at len) lt = ap (begins_on false now) (same fd lt)
 begins_same p q same now (call.Write fd at bytes) lt = ap (λ (o : Option Descriptor). cond (is_too_long (call.Write fd at bytes)) (begins.Denied refusal.TooLong) (begins_on true now o)) (same fd lt)
@@ -81,14 +84,14 @@ freed_ascends process (call.Close fd) ds up = ascends_without descriptor_key (fd
 freed_ascends process _ ds up = up
 
 -- keys of numbers that lines can name are one to one
-key_process : (p q a b : ℕ) → a < 65536 → b < 65536 → p * 65536 + a ≡ q * 65536 + b → p ≡ q
+key_process : (p q a b : ℕ) → a < descriptor_span → b < descriptor_span → p * descriptor_span + a ≡ q * descriptor_span + b → p ≡ q
 key_process p q a b lt le e = omega (arith, lt, le, e)
 
-key_number : (p q a b : ℕ) → a < 65536 → b < 65536 → p * 65536 + a ≡ q * 65536 + b → a ≡ b
+key_number : (p q a b : ℕ) → a < descriptor_span → b < descriptor_span → p * descriptor_span + a ≡ q * descriptor_span + b → a ≡ b
 key_number p q a b lt le e = omega (arith, lt, le, e)
 
 -- the table of the trace, and that of the site
-pub freed_same : (process : ℕ) (words : Call) (ds : List DescriptorRow) → IsNumbered words → Ascends descriptor_key ds → (user fd : ℕ) → fd < 65536 → (old : Option Descriptor) → descriptor_in (row descriptor_key (fd_key user fd) ds) ≡ old →
+pub freed_same : (process : ℕ) (words : Call) (ds : List DescriptorRow) → IsNumbered words → Ascends descriptor_key ds → (user fd : ℕ) → fd < descriptor_span → (old : Option Descriptor) → descriptor_in (row descriptor_key (fd_key user fd) ds) ≡ old →
     descriptor_in (row descriptor_key (fd_key user fd) (freed process words ds)) ≡ cond (process == user) (closed_by words fd old) old
 freed_same process (call.Close m) ds low up user fd lt old is = at (process == user) (m == fd) refl refl
   where
@@ -99,10 +102,10 @@ freed_same process (call.Close m) ds low up user fd lt old is = at (process == u
     left ne = ap descriptor_in (row_left descriptor_key (fd_key process m) (fd_key user fd) ds ne) ∙ is
 
     test : (a b : ℕ) → (a == b) ≡ false → a ≡ b → ⊥
-    test a b e same = true_false (sym (subst (λ (k : ℕ). (a == k) ≡ true) same (test_own a)) ∙ e)
+    test a b e same = true_false (sym (subst (λ (k : ℕ). (a == k) ≡ true) same (equal_self a)) ∙ e)
 
     at : (a b : Bool) → (process == user) ≡ a → (m == fd) ≡ b → descriptor_in (row descriptor_key (fd_key user fd) (without_row descriptor_key (fd_key process m) ds)) ≡ cond a (cond b None old) old
-    at true true e g = gone (test_same process user e) (test_same m fd g)
+    at true true e g = gone (equal process user e) (equal m fd g)
     at true false e g = left (λ k. test m fd g (key_number process user m fd low lt k))
     at false b e g = left (λ k. test process user e (key_process process user m fd low lt k))
 freed_same process _ ds low up user fd lt old is = is ∙ sym (either (process == user) old)
@@ -216,7 +219,7 @@ module _ (c : Config) (n : ℕ) (t : List Line) (f : Frame) (process : ℕ) (wor
     caller = new;
     named = named_is;
     caller_is = ap (λ (o : Option EpochId). record { site = f.me; process = process; call = d; words = words; epoch = o }) frame.inside;
-    waits = ap (λ (b : Bool). cond b (Some new) (find (is_this f.me process d) (waiting (entries t)))) (own (f.me == f.me) (process == process) (same_call d d) (test_own f.me) (test_own process) (same_call_own d));
+    waits = ap (λ (b : Bool). cond b (Some new) (find (is_this f.me process d) (waiting (entries t)))) (own (f.me == f.me) (process == process) (same_call d d) (equal_self f.me) (equal_self process) (same_call_own d));
     begins_is = ap (λ (b : Bool). cond b (Some (begins_now (entries t) f.me process words)) (begun (entries t) d)) (same_call_own d)
         ∙ ap Some (ap (λ (o : Option EpochId). beginning (descriptor (entries t) f.me process) o words) frame.inside ∙ sym (begins_same (descriptors_of u process) (descriptor (entries t) f.me process) (λ fd lt. k.always.descriptors process fd lt) (Some f.epoch) words low));
     answers_are = sym untaken.log_is;
@@ -249,9 +252,9 @@ module _ (c : Config) (n : ℕ) (t : List Line) (f : Frame) (process : ℕ) (wor
     others_turn : Others c newer f w counted
     others_turn = record {
       boot_is = k.always.boot_is;
-      calls = ap (λ (m : ℕ). m + 1) k.always.calls ∙ sym (ap (λ (b : Bool). cond b (calls_accepted (entries t) f.me + 1) (calls_accepted (entries t) f.me)) (test_own f.me));
+      calls = ap (λ (m : ℕ). m + 1) k.always.calls ∙ sym (ap (λ (b : Bool). cond b (calls_accepted (entries t) f.me + 1) (calls_accepted (entries t) f.me)) (equal_self f.me));
       descriptors = λ user fd lt. freed_same process words u.descriptors low k.always.ascends user fd lt (descriptor (entries t) f.me user fd) (k.always.descriptors user fd lt)
-          ∙ sym (ap (λ (b : Bool). cond (b && (process == user)) (closed_by words fd (descriptor (entries t) f.me user fd)) (descriptor (entries t) f.me user fd)) (test_own f.me));
+          ∙ sym (ap (λ (b : Bool). cond (b && (process == user)) (closed_by words fd (descriptor (entries t) f.me user fd)) (descriptor (entries t) f.me user fd)) (equal_self f.me));
       listed = freed_ascends process words u.descriptors k.always.ascends;
       waits = every_both (WaitingFact c t f) (λ (v : WaitingCall). (waiting_key v ≡ waiting_key w → ⊥) → WaitingFact c newer f v) u.waiting (λ v l ne. waiting_same c n x t f d h may stay one v (away v l) l) k.inside.calls;
       ascends = k.inside.ascends;
@@ -279,7 +282,7 @@ module _ (c : Config) (n : ℕ) (t : List Line) (f : Frame) (process : ℕ) (wor
     turning = record {
       call = call_turns;
       others = others_turn;
-      serials = ap (λ (m : ℕ). cond (is_open_want (asked_now c newer d)) (m + 1) m) k.always.serials ∙ sym (ap (λ (b : Bool). cond (b && is_open_want (asked_now c newer d)) (opens_asked c t f.me + 1) (opens_asked c t f.me)) (test_own f.me));
+      serials = ap (λ (m : ℕ). cond (is_open_want (asked_now c newer d)) (m + 1) m) k.always.serials ∙ sym (ap (λ (b : Bool). cond (b && is_open_want (asked_now c newer d)) (opens_asked c t f.me + 1) (opens_asked c t f.me)) (equal_self f.me));
       instances = every_both (UserInstanceFact c t f) (InstanceTurns c newer f d) u.instances (λ i p. instance_turns c n x t f d h may stay one i p) k.inside.instances;
     }
 

@@ -1,5 +1,7 @@
 -- The version was there no more: the look is asked again, and what the site has beside it stays.
 use Rattle.std.proofs.Common.{◌≡◌, ℕ, ◌+◌, ◌==◌, Bool, true, false, cond, List, length, Option, Some, None, refl, sym, ◌∙◌, ap, subst, inl, inr}
+use Rattle.role_steps.proofs.of_plain_facts.Numbers.{equal, equal_self}
+use Rattle.role_steps.proofs.of_plain_facts.Tests.{true_false}
 use Rattle.locus_ids.specs.declared.config.Config.{Config}
 use Rattle.locus_ids.specs.declared.ids.CallId.{CallId}
 use Rattle.locus_ids.specs.declared.ids.FileId.{FileId}
@@ -20,8 +22,8 @@ use Rattle.role_steps.specs.declared.users.Asking.{Asking}
 use Rattle.role_steps.specs.declared.users.Asking.TheVariants as asking
 use Rattle.role_steps.specs.declared.users.UserInstance.{UserInstance}
 use Rattle.role_steps.specs.declared.users.WaitingCall.{WaitingCall}
-use Rattle.the_run.specs.Kept.{Among}
-use Rattle.the_run.specs.Worlds.{Line}
+use Rattle.tree_laws.specs.of_the_run.Kept.{Among}
+use Rattle.tree_laws.specs.of_the_run.Worlds.{Line}
 use Rattle.tree_model.specs.declared.accepted.Waiting.{Waiting}
 use Rattle.tree_laws.specs.Printed.{entries}
 use Rattle.tree_laws.specs.Calls.{Asks, Waits, log, script, tries}
@@ -34,7 +36,7 @@ use Rattle.tree_laws.proofs.Awaiting.{turn_clear}
 use Rattle.tree_laws.proofs.Boots.{every_both}
 use Rattle.tree_laws.proofs.Carried.{packet_stays}
 use Rattle.tree_laws.proofs.CarriedVersions.{sees_stay}
-use Rattle.tree_laws.proofs.Names.{true_false, test_same, test_own, same_call_own}
+use Rattle.tree_laws.proofs.Names.{same_call_own}
 use Rattle.tree_laws.proofs.Stepping.{answered_stays}
 use Rattle.tree_laws.proofs.Versions.{versions_stay}
 use Rattle.user_laws.specs.Turning.{it}
@@ -174,5 +176,5 @@ module _ (c : Config) (n : ℕ) (t : List Line) (f : Frame) (w : WaitingCall) (u
       over e z = at (waiting_key z.0 == waiting_key w) refl
         where
           at : (b : Bool) → (waiting_key z.0 == waiting_key w) ≡ b → (v : WaitingCall) × Among v (with_row waiting_key (record w { asking = asking.Look file asked (times + 1) }) u.waiting) × (e ≡ it f v)
-          at true s = (record w { asking = asking.Look file asked (times + 1) }, among_with waiting_key (record w { asking = asking.Look file asked (times + 1) }) u.waiting, z.2 ∙ ap (λ (v : WaitingCall). it f v) (one_row waiting_key z.0 w u.waiting k.inside.ascends z.1 among (test_same (waiting_key z.0) (waiting_key w) s)))
-          at false s = (z.0, among_kept waiting_key (record w { asking = asking.Look file asked (times + 1) }) z.0 u.waiting (λ e. true_false (sym (subst (λ (m : ℕ). (waiting_key z.0 == m) ≡ true) e (test_own (waiting_key z.0))) ∙ s)) z.1, z.2)
+          at true s = (record w { asking = asking.Look file asked (times + 1) }, among_with waiting_key (record w { asking = asking.Look file asked (times + 1) }) u.waiting, z.2 ∙ ap (λ (v : WaitingCall). it f v) (one_row waiting_key z.0 w u.waiting k.inside.ascends z.1 among (equal (waiting_key z.0) (waiting_key w) s)))
+          at false s = (z.0, among_kept waiting_key (record w { asking = asking.Look file asked (times + 1) }) z.0 u.waiting (λ e. true_false (sym (subst (λ (m : ℕ). (waiting_key z.0 == m) ≡ true) e (equal_self (waiting_key z.0))) ∙ s)) z.1, z.2)

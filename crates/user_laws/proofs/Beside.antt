@@ -1,6 +1,7 @@
 -- One call of the site turns by a line: what the site has of its other calls, and of its instances, goes on.
 use Rattle.std.proofs.Common.{◌≡◌, ℕ, ◌+◌, ◌==◌, Bool, true, false, cond, ◌&&◌, List, Some, None, refl, sym, ◌∙◌, ap, subst, inr}
 use Rattle.std.specs.List.{find}
+use Rattle.role_steps.proofs.of_plain_facts.Numbers.{equal_self}
 use Rattle.locus_ids.specs.declared.config.Config.{Config}
 use Rattle.locus_ids.specs.declared.ids.CallId.{CallId}
 use Rattle.locus_ids.specs.declared.ids.Serial.{Serial}
@@ -14,7 +15,7 @@ use Rattle.role_steps.specs.declared.users.Asking.{Asking}
 use Rattle.role_steps.specs.declared.users.Asking.TheVariants as asking
 use Rattle.role_steps.specs.declared.users.UserInstance.{UserInstance}
 use Rattle.role_steps.specs.declared.users.WaitingCall.{WaitingCall}
-use Rattle.the_run.specs.Worlds.{Line}
+use Rattle.tree_laws.specs.of_the_run.Worlds.{Line}
 use Rattle.tree_model.specs.Calls.{waiting}
 use Rattle.tree_model.specs.declared.accepted.Waiting.{Waiting}
 use Rattle.lawful_trace.specs.CallRows.{is_this}
@@ -31,14 +32,13 @@ use Rattle.tree_laws.proofs.Asking.{Turns}
 use Rattle.tree_laws.proofs.Boots.{every_both}
 use Rattle.tree_laws.proofs.Carried.{packet_stays}
 use Rattle.tree_laws.proofs.CarriedVersions.{sees_stay}
-use Rattle.tree_laws.proofs.Names.{test_own}
 use Rattle.tree_laws.proofs.OfOwn.{asks_of_own}
 use Rattle.tree_laws.proofs.Scripts.{begun_stays, named_stays, script_stays}
 use Rattle.tree_laws.proofs.Stepping.{answered_stays}
 use Rattle.tree_laws.proofs.Versions.{versions_stay}
 use Rattle.tree_laws.proofs.Waiting.{found_among}
-use Rattle.order_laws.proofs.ProcessHad.{IsHere, holders_one}
-use Rattle.order_laws.proofs.ProcessOperations.{op_is}
+use Rattle.holding_laws.proofs.of_order_laws.ProcessHad.{IsHere, holders_one}
+use Rattle.holding_laws.proofs.of_order_laws.ProcessOperations.{op_is}
 use Rattle.user_laws.specs.Turning.{it, InstanceTurns}
 use Rattle.user_laws.proofs.Staying.{With, log_stays, tries_stay}
 
@@ -128,5 +128,5 @@ module _ (c : Config) (n : ℕ) (x : Told) (t : List Line) (f : Frame) (d : Call
     stamp = p.stamp;
     was_granted = inr p.was_granted;
     sees = sees_stay c t newer versions p.file p.mode p.stamp i.vector p.sees;
-    ops = ap (λ (m : ℕ). cond (is_op_on (serial_of f.me i.serial) (asked_now c newer d)) (m + 1) m) p.ops ∙ sym (one.ops (serial_of f.me i.serial) ∙ ap (λ (b : Bool). cond (b && is_op_on (serial_of f.me i.serial) (asked_now c newer d)) (ops_asked c t (serial_of f.me i.serial) + 1) (ops_asked c t (serial_of f.me i.serial))) (test_own f.me));
+    ops = ap (λ (m : ℕ). cond (is_op_on (serial_of f.me i.serial) (asked_now c newer d)) (m + 1) m) p.ops ∙ sym (one.ops (serial_of f.me i.serial) ∙ ap (λ (b : Bool). cond (b && is_op_on (serial_of f.me i.serial) (asked_now c newer d)) (ops_asked c t (serial_of f.me i.serial) + 1) (ops_asked c t (serial_of f.me i.serial))) (equal_self f.me));
   }

@@ -1,5 +1,8 @@
 -- A site that doesn't run has no call that waits, no epoch and no descriptor; so a site that has just booted counts nothing.
 use Rattle.std.proofs.Common.{◌≡◌, ℕ, ◌==◌, Bool, true, false, not, cond, ◌&&◌, ◌||◌, List, [], ◌∷◌, Option, Some, None, refl, sym, ◌∙◌, ap, subst, filter}
+use Rattle.role_steps.proofs.of_plain_facts.Numbers.{equal, equal_self}
+use Rattle.role_steps.proofs.of_plain_facts.Options.{none_some}
+use Rattle.role_steps.proofs.of_plain_facts.Tests.{true_false}
 use Rattle.locus_ids.specs.declared.config.Config.{Config}
 use Rattle.locus_ids.specs.declared.ids.CallId.{CallId}
 use Rattle.locus_ids.specs.declared.ids.EpochId.{EpochId}
@@ -12,7 +15,7 @@ use Rattle.trace_book.specs.declared.record.StopCause.{StopCause}
 use Rattle.trace_book.specs.declared.record.Record.TheVariants as says
 use Rattle.role_steps.specs.Own.{Every}
 use Rattle.role_steps.specs.Views.{Users, Told, Shown}
-use Rattle.the_run.specs.Worlds.{Line}
+use Rattle.tree_laws.specs.of_the_run.Worlds.{Line}
 use Rattle.tree_model.specs.declared.accepted.Waiting.{Waiting}
 use Rattle.tree_model.specs.Calls.{opening_of, waiting}
 use Rattle.tree_model.specs.Epochs.{boot_of, calls_accepted, epoch_of, is_up}
@@ -25,16 +28,12 @@ use Rattle.tree_laws.specs.Following.{MayTell, IsFollowed}
 use Rattle.tree_laws.specs.Serials.{opens_asked}
 use Rattle.tree_laws.specs.Users.{UsersFact}
 use Rattle.tree_laws.proofs.Boots.{every_filter, every_passes, found_every}
-use Rattle.tree_laws.proofs.Names.{true_false, test_same, test_own}
 use Rattle.tree_laws.specs.Doing.{IsOfUsers, IsOfSite}
 use Rattle.user_laws.specs.Booting.{no_users}
 use Rattle.user_laws.proofs.Staying.{boots_stay, calls_stay, opens_stay, descriptors_stay}
 
 abbrev More : ℕ → Record → Trace → Trace
 More n r before = record { line = n; what = r } ∷ before
-
-none_some : {A : Type 0} (a : A) → ◌≡◌ {A = Option A} None (Some a) → ⊥
-none_some a e = cc
 
 abbrev NotAt : ℕ → Waiting → Type 0
 NotAt s w = w.site ≡ s → ⊥
@@ -75,11 +74,11 @@ down_stop : (n s : ℕ) (cause : StopCause) (before : Trace) → AllDown before 
 down_stop n s cause before k t = at (s == t) refl
   where
     apart : (x : Waiting) → not (x.site == s) ≡ true → NotAt s x
-    apart x p same = true_false (sym p ∙ ap not (subst (λ (m : ℕ). (m == s) ≡ true) (sym same) (test_own s)))
+    apart x p same = true_false (sym p ∙ ap not (subst (λ (m : ℕ). (m == s) ≡ true) (sym same) (equal_self s)))
 
     at : (b : Bool) → (s == t) ≡ b → not b && is_up before t ≡ false → IsDown (More n (says.Stopped s cause) before) t
     at true e down = record {
-      waits = subst (λ (m : ℕ). Every (NotAt m) (filter (λ (x : Waiting). not (x.site == s)) (waiting before))) (test_same s t e) (every_passes (NotAt s) (λ (x : Waiting). not (x.site == s)) apart (waiting before));
+      waits = subst (λ (m : ℕ). Every (NotAt m) (filter (λ (x : Waiting). not (x.site == s)) (waiting before))) (equal s t e) (every_passes (NotAt s) (λ (x : Waiting). not (x.site == s)) apart (waiting before));
       epoch = ap (λ (b : Bool). cond b None (epoch_of before t)) e;
       descriptors = λ process fd. ap (λ (b : Bool). cond b None (descriptor before t process fd)) e;
     }
@@ -103,7 +102,7 @@ down_record c n (says.Up s boot) before may k = down_up n s boot before k
 down_record c n (says.Join s e members) before may k = λ t down. record { waits = (k t down).waits; epoch = at t down (s == t) refl; descriptors = (k t down).descriptors }
   where
     at : (t : ℕ) → is_up before t ≡ false → (b : Bool) → (s == t) ≡ b → cond b (Some e) (epoch_of before t) ≡ None
-    at t down true p = absurd (true_false (sym (subst (λ (m : ℕ). is_up before m ≡ true) (test_same s t p) may.up) ∙ down))
+    at t down true p = absurd (true_false (sym (subst (λ (m : ℕ). is_up before m ≡ true) (equal s t p) may.up) ∙ down))
     at t down false p = (k t down).epoch
 down_record c n (says.Leave s e) before may k = λ t down. record { waits = (k t down).waits; epoch = at (s == t) (epoch_of before t) (k t down).epoch; descriptors = (k t down).descriptors }
   where
@@ -124,7 +123,7 @@ down_record c n (says.Answer s process d reply) before may k = λ t down. record
     found t down = found_every (NotAt t) (is_this s process d) (waiting before) may.caller may.waits (k t down).waits
 
     at : (t : ℕ) → is_up before t ≡ false → (b : Bool) → (s == t) ≡ b → (user fd : ℕ) → cond (b && (process == user)) (opened_by reply fd (opening_of before d) (descriptor before t user fd)) (descriptor before t user fd) ≡ None
-    at t down true p user fd = absurd ((found t down).0 (test_same may.caller.site s (first (may.caller.site == s) (may.caller.process == process) (same_call may.caller.call d) (found t down).1) ∙ test_same s t p))
+    at t down true p user fd = absurd ((found t down).0 (equal may.caller.site s (first (may.caller.site == s) (may.caller.process == process) (same_call may.caller.call d) (found t down).1) ∙ equal s t p))
     at t down false p user fd = (k t down).descriptors user fd
 down_record c n _ before may k = λ t down. record { waits = (k t down).waits; epoch = (k t down).epoch; descriptors = (k t down).descriptors }
 
@@ -143,9 +142,9 @@ first_users c me = record { boot_is = refl; calls = refl; serials = refl; descri
 
 pub booted_users : (c : Config) (n me boot : ℕ) (older : List Line) → IsFollowed c older → MayTell c older (Shown (says.Up me boot)) → UsersFact c (record { number = n; told = Shown (says.Up me boot) } ∷ older) me boot no_users
 booted_users c n me boot older h may = record {
-  boot_is = sym (ap (λ (b : Bool). cond b boot (boot_of (entries older) me)) (test_own me));
-  calls = sym (ap (λ (b : Bool). cond b 0 (calls_accepted (entries older) me)) (test_own me));
-  serials = sym (ap (λ (b : Bool). cond b 0 (opens_asked c older me)) (test_own me));
+  boot_is = sym (ap (λ (b : Bool). cond b boot (boot_of (entries older) me)) (equal_self me));
+  calls = sym (ap (λ (b : Bool). cond b 0 (calls_accepted (entries older) me)) (equal_self me));
+  serials = sym (ap (λ (b : Bool). cond b 0 (opens_asked c older me)) (equal_self me));
   descriptors = λ process fd lt. sym ((all_down c older h me may.row.stopped).descriptors process fd);
   ascends = tt;
 }

@@ -1,5 +1,6 @@
 -- A call that turns goes on: it asks its next request, or it is answered.
 use Rattle.std.proofs.Common.{◌≡◌, ℕ, true, false, List, Option, Some, refl, sym, ◌∙◌, ap, subst}
+use Rattle.role_steps.proofs.of_plain_facts.Tests.{true_false}
 use Rattle.locus_ids.specs.declared.config.Config.{Config}
 use Rattle.locus_ids.specs.declared.ids.Serial.{Serial}
 use Rattle.trace_book.specs.declared.descriptor.Descriptor.{Descriptor}
@@ -11,13 +12,12 @@ use Rattle.call_rules.specs.declared.want.Want.TheVariants as want
 use Rattle.role_steps.specs.Using.{asks_want, goes_on, last_opened, mode_asked, next_want, no_serial, opened_row, replies, reply_record}
 use Rattle.role_steps.specs.Views.{Users, Frame}
 use Rattle.role_steps.specs.declared.users.WaitingCall.{WaitingCall}
-use Rattle.the_run.specs.Worlds.{Line}
+use Rattle.tree_laws.specs.of_the_run.Worlds.{Line}
 use Rattle.tree_model.specs.declared.accepted.Waiting.{Waiting}
 use Rattle.tree_laws.specs.Calls.{is_request, log}
 use Rattle.tree_laws.specs.Doing.{FrameFact, UsersFine}
 use Rattle.tree_laws.specs.Following.{IsFollowed, MayTell}
 use Rattle.tree_laws.specs.Serials.{asked_now, is_open_want, is_op_on}
-use Rattle.tree_laws.proofs.Names.{true_false}
 use Rattle.user_laws.specs.Rests.{IsOpenedAs, RequestRests, ReplyRests, Staying}
 use Rattle.user_laws.specs.Turning.{it, Turning}
 use Rattle.user_laws.proofs.Replied.{OpensWell, replied_fine}

@@ -1,6 +1,8 @@
 -- Once its site has left the epoch and has answered them, no call waits there, and it has no instance.
 use Rattle.std.proofs.Common.{◌≡◌, ℕ, ◌==◌, Bool, true, false, not, cond, ◌&&◌, List, [], ◌∷◌, Some, refl, sym, ◌∙◌, ap, ◌⊎◌, inl, inr, filter}
 use Rattle.std.specs.List.{find}
+use Rattle.role_steps.proofs.of_plain_facts.Numbers.{equal_self}
+use Rattle.role_steps.proofs.of_plain_facts.Tests.{true_false}
 use Rattle.locus_ids.specs.declared.config.Config.{Config}
 use Rattle.locus_ids.specs.declared.ids.CallId.{CallId}
 use Rattle.locus_ids.specs.declared.refusal.Refusal.TheVariants as refusal
@@ -11,15 +13,15 @@ use Rattle.role_steps.specs.Own.{Every}
 use Rattle.role_steps.specs.Using.{reply_record, changed_records}
 use Rattle.role_steps.specs.Views.{Users, Frame, Shown}
 use Rattle.role_steps.specs.declared.users.WaitingCall.{WaitingCall}
-use Rattle.the_run.specs.Kept.{Among}
-use Rattle.the_run.specs.Worlds.{Line, told_onto}
+use Rattle.tree_laws.specs.of_the_run.Kept.{Among}
+use Rattle.tree_laws.specs.of_the_run.Worlds.{Line, told_onto}
 use Rattle.tree_model.specs.declared.accepted.Waiting.{Waiting}
 use Rattle.tree_model.specs.Calls.{waiting}
 use Rattle.lawful_trace.specs.CallRows.{is_this}
 use Rattle.tree_laws.specs.Printed.{entries}
 use Rattle.tree_laws.specs.Users.{own_call, had, InsideUsers}
 use Rattle.tree_laws.proofs.Boots.{every_both}
-use Rattle.tree_laws.proofs.Names.{true_false, test_own, same_call_own}
+use Rattle.tree_laws.proofs.Names.{same_call_own}
 use Rattle.user_laws.proofs.Staying.{With}
 
 -- ---- lists ----
@@ -61,7 +63,7 @@ all_of c t f u k = every_of (IsOneOf f u.waiting) (waiting (entries t)) (λ x am
     three false b d p q r = p
 
     this : (x : Waiting) → x.site ≡ f.me → is_this f.me x.process x.call x ≡ true
-    this x same = three (x.site == f.me) (x.process == x.process) (same_call x.call x.call) (ap (λ (m : ℕ). x.site == m) (sym same) ∙ test_own x.site) (test_own x.process) (same_call_own x.call)
+    this x same = three (x.site == f.me) (x.process == x.process) (same_call x.call x.call) (ap (λ (m : ℕ). x.site == m) (sym same) ∙ equal_self x.site) (equal_self x.process) (same_call_own x.call)
 
 -- once each is answered none is left
 none_left : (n : ℕ) (f : Frame) (ws : List WaitingCall) (t : List Line) → Every (IsOneOf f ws) (waiting (entries t)) → Every (λ (x : Waiting). x.site ≡ f.me → ⊥) (waiting (entries (told_onto n (changed_records f.me f.boot f.epoch ws) t)))
@@ -88,4 +90,4 @@ pub idle_waits : (c : Config) (n : ℕ) (older : List Line) (f : Frame) (u : Use
 idle_waits c n older f u k = none_left n f u.waiting (With n (Shown (says.Leave f.me f.epoch)) older) (all_of c older f u k)
 
 pub idle_has : (c : Config) (n : ℕ) (older : List Line) (f : Frame) (u : Users) → had c (told_onto n (changed_records f.me f.boot f.epoch u.waiting) (With n (Shown (says.Leave f.me f.epoch)) older)) f.me ≡ []
-idle_has c n older f u = had_none c n f u.waiting (With n (Shown (says.Leave f.me f.epoch)) older) (ap (λ (b : Bool). cond b [] (had c older f.me)) (test_own f.me))
+idle_has c n older f u = had_none c n f u.waiting (With n (Shown (says.Leave f.me f.epoch)) older) (ap (λ (b : Bool). cond b [] (had c older f.me)) (equal_self f.me))

@@ -1,6 +1,8 @@
 -- A site that has left its epoch answers each call that waited that this has changed.
 use Rattle.std.proofs.Common.{◌≡◌, ℕ, ◌<◌, ◌==◌, arith, Bool, true, false, not, cond, ◌&&◌, List, [], ◌∷◌, ◌++◌, Option, Some, None, refl, sym, ◌∙◌, ap}
 use Rattle.std.specs.List.{find, flat_map}
+use Rattle.role_steps.proofs.of_plain_facts.Numbers.{equal_self}
+use Rattle.role_steps.proofs.of_plain_facts.Options.{some_same}
 use Rattle.locus_ids.specs.declared.config.Config.{Config}
 use Rattle.locus_ids.specs.declared.ids.CallId.{CallId}
 use Rattle.locus_ids.specs.declared.ids.EpochId.{EpochId}
@@ -14,7 +16,7 @@ use Rattle.role_steps.specs.Requests.{waiting_key, waiting_of, request_packets, 
 use Rattle.role_steps.specs.Using.{reply_record, changed_records}
 use Rattle.role_steps.specs.Views.{Users, Frame, Shown}
 use Rattle.role_steps.specs.declared.users.WaitingCall.{WaitingCall}
-use Rattle.the_run.specs.Worlds.{Line, told_onto}
+use Rattle.tree_laws.specs.of_the_run.Worlds.{Line, told_onto}
 use Rattle.tree_model.specs.declared.accepted.Waiting.{Waiting}
 use Rattle.tree_model.specs.Calls.{call_named, waiting}
 use Rattle.tree_model.specs.Epochs.{epoch_of, is_in}
@@ -28,7 +30,7 @@ use Rattle.tree_laws.specs.Packets.{PacketFact}
 use Rattle.tree_laws.specs.Stores.{Ascends}
 use Rattle.tree_laws.specs.Users.{own_call, WaitingFact, UsersFact}
 use Rattle.tree_laws.proofs.Boots.{every_pair}
-use Rattle.tree_laws.proofs.Names.{some_is, same_call_eq, test_own}
+use Rattle.tree_laws.proofs.Names.{same_call_eq}
 use Rattle.user_laws.specs.Leaving.{AreApart, LeavesFine}
 use Rattle.user_laws.proofs.Idle.{idle_waits, idle_has}
 use Rattle.user_laws.proofs.Staying.{With, find_kept}
@@ -94,7 +96,7 @@ pub one_number : (c : Config) (t : List Line) (f : Frame) (w v : WaitingCall) �
 one_number c t f w v k l e = ap (λ (x : Waiting). waiting_of x.process x.words) (sym l.caller_is ∙ (same ∙ k.caller_is))
   where
     same : l.caller ≡ k.caller
-    same = some_is l.caller k.caller (sym l.named ∙ (ap (λ (m : ℕ). call_named (entries t) (own_call f.me f.boot m)) e ∙ k.named))
+    same = some_same l.caller k.caller (sym l.named ∙ (ap (λ (m : ℕ). call_named (entries t) (own_call f.me f.boot m)) e ∙ k.named))
 
 -- so it is of all that wait
 pub all_apart : (c : Config) (t : List Line) (f : Frame) (ws : List WaitingCall) → Ascends waiting_key ws → Every (WaitingFact c t f) ws → AreApart ws
@@ -112,7 +114,7 @@ all_left c n older f (w ∷ ws) k = (record { caller = k.0.caller; site_is = ap 
 
 pub users_leave_fine : (c : Config) (n : ℕ) (older : List Line) (f : Frame) (u : Users) → UsersInside c f older u → LeavesFine c n (With n (Shown (says.Leave f.me f.epoch)) older) f u
 users_leave_fine c n older f u k = record {
-  told = all_told c n (With n (Shown (says.Leave f.me f.epoch)) older) f u.waiting (ap (λ (b : Bool). cond b None (epoch_of (entries older) f.me)) (test_own f.me)) (all_apart c older f u.waiting k.inside.ascends k.inside.calls) (all_left c n older f u.waiting k.inside.calls);
+  told = all_told c n (With n (Shown (says.Leave f.me f.epoch)) older) f u.waiting (ap (λ (b : Bool). cond b None (epoch_of (entries older) f.me)) (equal_self f.me)) (all_apart c older f u.waiting k.inside.ascends k.inside.calls) (all_left c n older f u.waiting k.inside.calls);
   own = all_own f u.waiting;
   always = all_answered c n (With n (Shown (says.Leave f.me f.epoch)) older) f u.waiting (record u { waiting = []; instances = []; hopeless = [] }) (record { boot_is = k.always.boot_is; calls = k.always.calls; serials = k.always.serials; descriptors = k.always.descriptors; ascends = k.always.ascends });
   sent = refl;

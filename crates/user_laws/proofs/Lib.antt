@@ -20,3 +20,4 @@ pub mod OpenOnce
 pub mod OpenGrants
 pub mod OnOpen
 pub mod Accepting
+pub use Rattle.holding_laws.proofs as of_holding_laws

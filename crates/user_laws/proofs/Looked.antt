@@ -14,7 +14,7 @@ use Rattle.trace_book.specs.declared.record.Record.TheVariants as says
 use Rattle.call_rules.specs.declared.answer.Answer.{Answer}
 use Rattle.call_rules.specs.declared.want.Want.TheVariants as want
 use Rattle.role_steps.specs.Views.{Told, Shown}
-use Rattle.the_run.specs.Worlds.{Line}
+use Rattle.tree_laws.specs.of_the_run.Worlds.{Line}
 use Rattle.tree_model.specs.Files.{kind_of_file}
 use Rattle.tree_model.specs.Histories.{history}
 use Rattle.lawful_trace.specs.Progress.{found_in, look_answer}
@@ -30,8 +30,8 @@ use Rattle.tree_laws.proofs.Awaiting.{by_own}
 use Rattle.tree_laws.proofs.Hearing.{asking_named, take_own}
 use Rattle.tree_laws.proofs.Scripts.{script_stays}
 use Rattle.tree_laws.proofs.Versions.{versions_stay}
-use Rattle.order_laws.specs.ProcessAnswered.{WasAnswered}
-use Rattle.order_laws.proofs.ProcessCurrent.{reached, same_or_turns, turned}
+use Rattle.holding_laws.specs.of_order_laws.ProcessAnswered.{WasAnswered}
+use Rattle.holding_laws.proofs.of_order_laws.ProcessCurrent.{reached, same_or_turns, turned}
 use Rattle.user_laws.specs.Rests.{LooksStand, Steady}
 use Rattle.user_laws.proofs.Staying.{With}
 

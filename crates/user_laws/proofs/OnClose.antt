@@ -1,6 +1,8 @@
 -- The answer to a close comes: its process takes it, the instance goes, and the call goes on.
 use Rattle.std.proofs.Common.{◌≡◌, ℕ, ◌==◌, Bool, true, false, not, cond, ◌||◌, List, [], ◌∷◌, Option, Some, None, refl, sym, ◌∙◌, ap, subst, filter}
 use Rattle.std.specs.Option.{is_some}
+use Rattle.role_steps.proofs.of_plain_facts.Numbers.{equal, equal_self}
+use Rattle.role_steps.proofs.of_plain_facts.Tests.{true_false}
 use Rattle.locus_ids.specs.declared.config.Config.{Config}
 use Rattle.locus_ids.specs.declared.ids.CallId.{CallId}
 use Rattle.locus_ids.specs.declared.ids.Serial.{Serial}
@@ -15,8 +17,8 @@ use Rattle.role_steps.specs.Views.{Users, Frame}
 use Rattle.role_steps.specs.declared.users.Asking.{Asking}
 use Rattle.role_steps.specs.declared.users.Asking.TheVariants as asking
 use Rattle.role_steps.specs.declared.users.WaitingCall.{WaitingCall}
-use Rattle.the_run.specs.Kept.{Among}
-use Rattle.the_run.specs.Worlds.{Line}
+use Rattle.tree_laws.specs.of_the_run.Kept.{Among}
+use Rattle.tree_laws.specs.of_the_run.Worlds.{Line}
 use Rattle.tree_model.specs.State.{has_number}
 use Rattle.tree_laws.specs.Printed.{entries}
 use Rattle.tree_laws.specs.Calls.{Waits, script}
@@ -26,7 +28,6 @@ use Rattle.tree_laws.specs.Frames.{AllStay}
 use Rattle.tree_laws.specs.Packets.{CloseDoneFact, serial_of}
 use Rattle.tree_laws.specs.Serials.{asked_now}
 use Rattle.tree_laws.specs.Users.{had, had_by, AskingIs, UserInstanceFact, WaitingFact}
-use Rattle.tree_laws.proofs.Names.{true_false, test_same, test_own}
 use Rattle.user_laws.specs.Rests.{CloseRests, Follows, Staying}
 use Rattle.user_laws.specs.Turning.{it, InstanceTurns, Turning}
 use Rattle.user_laws.proofs.Going.{goes_fine}
@@ -50,7 +51,7 @@ number_left [] s t ne = refl
 number_left (m ∷ ns) s t ne = at (number_left ns s t ne) (m == s) refl
   where
     none : (m == s) ≡ true → (b : Bool) → (m == t) ≡ b → (m == t) ≡ false
-    none e true g = absurd (ne (sym (test_same m s e) ∙ test_same m t g))
+    none e true g = absurd (ne (sym (equal m s e) ∙ equal m t g))
     none e false g = g
 
     at : has_number (filter (λ n. not (n == s)) ns) t ≡ has_number ns t → (b : Bool) → (m == s) ≡ b → has_number (cond (not b) (m ∷ filter (λ n. not (n == s)) ns) (filter (λ n. not (n == s)) ns)) t ≡ has_number (m ∷ ns) t
@@ -70,7 +71,7 @@ is_asked w serial test = over w.asking refl test
     over (asking.Look file asked t) e z = absurd (true_false (sym z))
     over (asking.Open s file m) e z = absurd (true_false (sym z))
     over (asking.Op s ss number o seen) e z = absurd (true_false (sym z))
-    over (asking.Close s ss) e z = record { place = ss; asking_is = e ∙ ap (λ (m : ℕ). asking.Close m ss) (test_same s serial z) }
+    over (asking.Close s ss) e z = record { place = ss; asking_is = e ∙ ap (λ (m : ℕ). asking.Close m ss) (equal s serial z) }
 
 -- by the trace
 close_asked : (c : Config) (t : List Line) (me : ℕ) (d : CallId) (y : Want) (serial ss : ℕ) → AskingIs c t me d y (asking.Close serial ss) → y ≡ want.Close (serial_of me serial)
@@ -110,17 +111,17 @@ close_done_fine c n t f u serial a h frame k closes l staying = over (first_that
         stay = next.0.stay
 
         had_is : had c (With n (takes_record f w (close_answer a)) t) f.me ≡ filter (λ m. not (m == serial)) (had c t f.me)
-        had_is = ap (λ (b : Bool). cond b (had_by (asked_now c t (it f w)) (close_answer a) (had c t f.me)) (had c t f.me)) (test_own f.me) ∙ (ap (λ (v : Want). had_by v (close_answer a) (had c t f.me)) wants ∙ goes (serial_of f.me serial) a (had c t f.me))
+        had_is = ap (λ (b : Bool). cond b (had_by (asked_now c t (it f w)) (close_answer a) (had c t f.me)) (had c t f.me)) (equal_self f.me) ∙ (ap (λ (v : Want). had_by v (close_answer a) (had c t f.me)) wants ∙ goes (serial_of f.me serial) a (had c t f.me))
 
         has : (m : ℕ) → is_some (row instance_serial m (without_row instance_serial serial u.instances)) ≡ has_number (had c (With n (takes_record f w (close_answer a)) t) f.me) m
         has m = at (serial == m) refl ∙ ap (λ (ns : List ℕ). has_number ns m) (sym had_is)
           where
             at : (b : Bool) → (serial == m) ≡ b → is_some (row instance_serial m (without_row instance_serial serial u.instances)) ≡ has_number (filter (λ j. not (j == serial)) (had c t f.me)) m
-            at true e = subst (λ (j : ℕ). is_some (row instance_serial j (without_row instance_serial serial u.instances)) ≡ has_number (filter (λ j. not (j == serial)) (had c t f.me)) j) (test_same serial m e) (ap is_some (row_gone instance_serial serial u.instances k.inside.numbered) ∙ sym (number_gone (had c t f.me) serial))
+            at true e = subst (λ (j : ℕ). is_some (row instance_serial j (without_row instance_serial serial u.instances)) ≡ has_number (filter (λ j. not (j == serial)) (had c t f.me)) j) (equal serial m e) (ap is_some (row_gone instance_serial serial u.instances k.inside.numbered) ∙ sym (number_gone (had c t f.me) serial))
             at false e = ap is_some (row_left instance_serial serial m u.instances ne) ∙ (k.inside.has m ∙ sym (number_left (had c t f.me) serial m ne))
               where
                 ne : serial ≡ m → ⊥
-                ne g = true_false (sym (ap (λ (j : ℕ). serial == j) (sym g) ∙ test_own serial) ∙ e)
+                ne g = true_false (sym (ap (λ (j : ℕ). serial == j) (sym g) ∙ equal_self serial) ∙ e)
 
         turning : Turning c (With n (takes_record f w (close_answer a)) t) f (with_answer w (close_answer a)) (without_user_instance serial u)
         turning = record {

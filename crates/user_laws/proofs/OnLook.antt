@@ -1,5 +1,7 @@
 -- The answer to a look comes: its process takes it, and goes on.
 use Rattle.std.proofs.Common.{◌≡◌, ℕ, ◌+◌, ◌==◌, Bool, true, false, cond, ◌&&◌, List, [], ◌∷◌, ◌++◌, length, map, Option, Some, None, refl, sym, ◌∙◌, ap, subst}
+use Rattle.role_steps.proofs.of_plain_facts.Numbers.{equal}
+use Rattle.role_steps.proofs.of_plain_facts.Tests.{true_false}
 use Rattle.locus_ids.specs.declared.config.Config.{Config}
 use Rattle.locus_ids.specs.declared.ids.CallId.{CallId}
 use Rattle.locus_ids.specs.declared.ids.FileId.{FileId}
@@ -30,8 +32,8 @@ use Rattle.role_steps.specs.Views.{Users, Frame}
 use Rattle.role_steps.specs.declared.users.Asking.{Asking}
 use Rattle.role_steps.specs.declared.users.Asking.TheVariants as asking
 use Rattle.role_steps.specs.declared.users.WaitingCall.{WaitingCall}
-use Rattle.the_run.specs.Kept.{Among}
-use Rattle.the_run.specs.Worlds.{Line}
+use Rattle.tree_laws.specs.of_the_run.Kept.{Among}
+use Rattle.tree_laws.specs.of_the_run.Worlds.{Line}
 use Rattle.tree_model.specs.Files.{kind_of_file}
 use Rattle.tree_model.specs.Histories.{history}
 use Rattle.tree_model.specs.declared.accepted.Waiting.{Waiting}
@@ -46,7 +48,7 @@ use Rattle.tree_laws.specs.Packets.{LookAnswers, LookDoneFact}
 use Rattle.tree_laws.specs.Past.{WasLooked}
 use Rattle.tree_laws.specs.Serials.{asked_now}
 use Rattle.tree_laws.specs.Users.{own_call, had, had_by, brought_of, taken_whole, AskingIs, Brings, BringsFor, WaitingFact}
-use Rattle.tree_laws.proofs.Names.{true_false, test_same, same_call_own}
+use Rattle.tree_laws.proofs.Names.{same_call_own}
 use Rattle.tree_laws.proofs.Owing.{every_added}
 use Rattle.user_laws.specs.Rests.{Follows, LookRests, Staying, Steady}
 use Rattle.user_laws.specs.Turning.{it}
@@ -145,7 +147,7 @@ is_asked w n request times a test = over w.asking refl test
 
     over : (s : Asking) → w.asking ≡ s → asks_take n request times a (record w { asking = s }) ≡ true → IsAsked w n request times a
     over (asking.Look file asked t) e z = (let k : ((w.call == n) ≡ true) × ((w.request == request) ≡ true) × ((t == times) ≡ true) × (answers_what asked a ≡ true) = four (w.call == n) (w.request == request) (t == times) (answers_what asked a) z in
-        record { file = file; what = asked; asking_is = e ∙ ap (asking.Look file asked) (test_same t times k.2); call_is = test_same w.call n k.0; request_is = test_same w.request request k.1; fits = k.3 })
+        record { file = file; what = asked; asking_is = e ∙ ap (asking.Look file asked) (equal t times k.2); call_is = equal w.call n k.0; request_is = equal w.request request k.1; fits = k.3 })
     over (asking.Open serial file m) e z = absurd (none (w.call == n) (w.request == request) z)
     over (asking.Op serial ss number o seen) e z = absurd (none (w.call == n) (w.request == request) z)
     over (asking.Close serial ss) e z = absurd (none (w.call == n) (w.request == request) z)

@@ -1,5 +1,7 @@
 -- The result of an operation comes: its process takes it, and goes on.
 use Rattle.std.proofs.Common.{◌≡◌, ℕ, ◌==◌, Bool, true, false, ◌&&◌, List, Option, Some, None, refl, sym, ◌∙◌, ap, subst}
+use Rattle.role_steps.proofs.of_plain_facts.Numbers.{equal}
+use Rattle.role_steps.proofs.of_plain_facts.Tests.{true_false}
 use Rattle.locus_ids.specs.declared.config.Config.{Config}
 use Rattle.locus_ids.specs.declared.ids.CallId.{CallId}
 use Rattle.locus_ids.specs.declared.ids.Serial.{Serial}
@@ -14,8 +16,8 @@ use Rattle.role_steps.specs.Views.{Users, Frame}
 use Rattle.role_steps.specs.declared.users.Asking.{Asking}
 use Rattle.role_steps.specs.declared.users.Asking.TheVariants as asking
 use Rattle.role_steps.specs.declared.users.WaitingCall.{WaitingCall}
-use Rattle.the_run.specs.Kept.{Among}
-use Rattle.the_run.specs.Worlds.{Line}
+use Rattle.tree_laws.specs.of_the_run.Kept.{Among}
+use Rattle.tree_laws.specs.of_the_run.Worlds.{Line}
 use Rattle.tree_laws.specs.Printed.{entries}
 use Rattle.tree_laws.specs.Calls.{Waits, script}
 use Rattle.tree_laws.specs.Doing.{FrameFact, UsersFine, UsersInside}
@@ -23,7 +25,6 @@ use Rattle.tree_laws.specs.Following.{IsFollowed}
 use Rattle.tree_laws.specs.Packets.{OpDoneFact, serial_of}
 use Rattle.tree_laws.specs.Serials.{asked_now, ops_asked}
 use Rattle.tree_laws.specs.Users.{had, had_by, AskingIs, WaitingFact}
-use Rattle.tree_laws.proofs.Names.{true_false, test_same}
 use Rattle.user_laws.specs.Rests.{ActRests, Staying}
 use Rattle.user_laws.specs.Turning.{it}
 use Rattle.user_laws.proofs.OnLook.{NoContent, takes_plain}
@@ -50,7 +51,7 @@ is_asked w serial n r test = over w.asking refl test
     over (asking.Look file asked t) e z = absurd (true_false (sym z))
     over (asking.Open s file m) e z = absurd (true_false (sym z))
     over (asking.Op s ss number o seen) e z = (let k : ((s == serial) ≡ true) × ((number == n) ≡ true) = three (s == serial) (number == n) (answers_op o r) z in
-        record { place = ss; operation = o; seen = seen; asking_is = e ∙ (ap (λ (m : ℕ). asking.Op m ss number o seen) (test_same s serial k.0) ∙ ap (λ (m : ℕ). asking.Op serial ss m o seen) (test_same number n k.1)) })
+        record { place = ss; operation = o; seen = seen; asking_is = e ∙ (ap (λ (m : ℕ). asking.Op m ss number o seen) (equal s serial k.0) ∙ ap (λ (m : ℕ). asking.Op serial ss m o seen) (equal number n k.1)) })
     over (asking.Close s ss) e z = absurd (true_false (sym z))
 
 -- by the trace

@@ -1,6 +1,9 @@
 -- The answer to an open comes: its process takes it, the instance is had, and the call goes on.
 use Rattle.std.proofs.Common.{◌≡◌, ℕ, ◌==◌, Bool, true, false, cond, ◌||◌, List, [], ◌∷◌, Option, Some, None, refl, sym, ◌∙◌, ap, subst, inl, inr}
 use Rattle.std.specs.Option.{is_some}
+use Rattle.role_steps.proofs.of_plain_facts.Numbers.{equal, equal_self}
+use Rattle.role_steps.proofs.of_plain_facts.Options.{some_same}
+use Rattle.role_steps.proofs.of_plain_facts.Tests.{true_false}
 use Rattle.locus_ids.specs.declared.config.Config.{Config}
 use Rattle.locus_ids.specs.declared.ids.CallId.{CallId}
 use Rattle.locus_ids.specs.declared.ids.EpochId.{EpochId}
@@ -30,8 +33,8 @@ use Rattle.role_steps.specs.declared.users.Asking.TheVariants as asking
 use Rattle.role_steps.specs.declared.users.UserInstance.{UserInstance}
 use Rattle.role_steps.specs.declared.users.WaitingCall.{WaitingCall}
 use Rattle.role_steps.proofs.Rows.{row_other, row_same}
-use Rattle.the_run.specs.Kept.{Among}
-use Rattle.the_run.specs.Worlds.{Line}
+use Rattle.tree_laws.specs.of_the_run.Kept.{Among}
+use Rattle.tree_laws.specs.of_the_run.Worlds.{Line}
 use Rattle.tree_model.specs.Packs.{sync_site}
 use Rattle.tree_model.specs.Epochs.{members_of}
 use Rattle.tree_model.specs.State.{has_number}
@@ -48,8 +51,7 @@ use Rattle.tree_laws.specs.Past.{GrantRecord, Printed, RefusalRecord, Was, WasGr
 use Rattle.tree_laws.specs.Serials.{asked_now, is_open_want, ops_asked, serial_asked}
 use Rattle.tree_laws.specs.Users.{had, had_by, without_closed, AskingIs, UserInstanceFact, WaitingFact}
 use Rattle.tree_laws.proofs.Mending.{mends_at_sync}
-use Rattle.tree_laws.proofs.Names.{some_is, true_false, test_own, test_same}
-use Rattle.order_laws.proofs.ProcessCurrentOpens.{granted_waits, refused_waits}
+use Rattle.holding_laws.proofs.of_order_laws.ProcessCurrentOpens.{granted_waits, refused_waits}
 use Rattle.user_laws.specs.Rests.{Follows, IsKeptBy, OpenRests, Staying}
 use Rattle.user_laws.specs.Turning.{it, InstanceTurns, Turning}
 use Rattle.user_laws.proofs.Going.{goes_fine}
@@ -72,7 +74,7 @@ is_asked w serial test = over w.asking refl test
   where
     over : (s : Asking) → w.asking ≡ s → asks_open_of serial (record w { asking = s }) ≡ true → IsAsked w serial
     over (asking.Look file asked t) e z = absurd (true_false (sym z))
-    over (asking.Open s file m) e z = record { file = file; how = m; asking_is = e ∙ ap (λ (k : ℕ). asking.Open k file m) (test_same s serial z) }
+    over (asking.Open s file m) e z = record { file = file; how = m; asking_is = e ∙ ap (λ (k : ℕ). asking.Open k file m) (equal s serial z) }
     over (asking.Op s ss number o seen) e z = absurd (true_false (sym z))
     over (asking.Close s ss) e z = absurd (true_false (sym z))
 
@@ -177,7 +179,7 @@ module _ (c : Config) (n : ℕ) (t : List Line) (f : Frame) (u : Users) (kept : 
     so = granted_so c t h f.epoch d l.request i l.mode l.file l.stamp ss was
 
     words_are : so.accepted.words ≡ w.words
-    words_are = ap (λ (x : Waiting). x.words) (some_is so.accepted fact.caller (sym so.named ∙ fact.named) ∙ fact.caller_is)
+    words_are = ap (λ (x : Waiting). x.words) (some_same so.accepted fact.caller (sym so.named ∙ fact.named) ∙ fact.caller_is)
 
     abbrev given : Answer
     given = opened_answer f serial ino (kept_for kept (mended_file w.words)) w.words
@@ -206,13 +208,13 @@ module _ (c : Config) (n : ℕ) (t : List Line) (f : Frame) (u : Users) (kept : 
         stay = next.0.stay
 
         had_is : had c (With n (takes_record f w given) t) f.me ≡ serial ∷ had c t f.me
-        had_is = ap (λ (b : Bool). cond b (had_by (asked_now c t d) given (had c t f.me)) (had c t f.me)) (test_own f.me) ∙ opened_had f serial ino (kept_for kept (mended_file w.words)) w.words (asked_now c t d) (had c t f.me)
+        had_is = ap (λ (b : Bool). cond b (had_by (asked_now c t d) given (had c t f.me)) (had c t f.me)) (equal_self f.me) ∙ opened_had f serial ino (kept_for kept (mended_file w.words)) w.words (asked_now c t d) (had c t f.me)
 
         has : (m : ℕ) → is_some (row instance_serial m (with_row instance_serial new u.instances)) ≡ has_number (had c (With n (takes_record f w given) t) f.me) m
         has m = at (serial == m) refl ∙ ap (λ (ns : List ℕ). has_number ns m) (sym had_is)
           where
             at : (b : Bool) → (serial == m) ≡ b → is_some (row instance_serial m (with_row instance_serial new u.instances)) ≡ has_number (serial ∷ had c t f.me) m
-            at true e = subst (λ (j : ℕ). is_some (row instance_serial j (with_row instance_serial new u.instances)) ≡ has_number (serial ∷ had c t f.me) j) (test_same serial m e) (ap is_some (row_same instance_serial new u.instances) ∙ sym (ap (λ (b : Bool). b || has_number (had c t f.me) serial) (test_own serial)))
+            at true e = subst (λ (j : ℕ). is_some (row instance_serial j (with_row instance_serial new u.instances)) ≡ has_number (serial ∷ had c t f.me) j) (equal serial m e) (ap is_some (row_same instance_serial new u.instances) ∙ sym (ap (λ (b : Bool). b || has_number (had c t f.me) serial) (equal_self serial)))
             at false e = ap is_some (row_other instance_serial new m u.instances e) ∙ (k.inside.has m ∙ sym (ap (λ (b : Bool). b || has_number (had c t f.me) m) e))
 
         ops_are : 0 ≡ ops_asked c t i

@@ -1,5 +1,6 @@
 -- What an open was granted as: that of a mend to mend its directory, any other not; and its group has started.
 use Rattle.std.proofs.Common.{◌≡◌, ℕ, Bool, true, false, cond, ◌&&◌, List, [], ◌∷◌, Option, Some, None, refl, sym, ◌∙◌, subst, inl, inr}
+use Rattle.role_steps.proofs.of_plain_facts.Tests.{and_first, true_false}
 use Rattle.locus_ids.specs.declared.config.Config.{Config}
 use Rattle.locus_ids.specs.declared.ids.CallId.{CallId}
 use Rattle.locus_ids.specs.declared.ids.EpochId.{EpochId}
@@ -25,7 +26,7 @@ use Rattle.call_rules.specs.declared.answer.Answer.TheVariants as answer
 use Rattle.call_rules.specs.declared.want.Want.{Want}
 use Rattle.call_rules.specs.declared.want.Want.TheVariants as want
 use Rattle.role_steps.specs.Views.{Told, Shown}
-use Rattle.the_run.specs.Worlds.{Line}
+use Rattle.tree_laws.specs.of_the_run.Worlds.{Line}
 use Rattle.tree_model.specs.declared.accepted.Waiting.{Waiting}
 use Rattle.tree_model.specs.Calls.{call_named}
 use Rattle.tree_model.specs.Folds.{Trace}
@@ -38,7 +39,6 @@ use Rattle.tree_laws.specs.Instances.{IsStarted}
 use Rattle.tree_laws.specs.Past.{GrantRecord, Printed, WasGranted}
 use Rattle.tree_laws.specs.Processes.{IsMend}
 use Rattle.tree_laws.proofs.Kinship.{started_stays}
-use Rattle.tree_laws.proofs.Names.{true_false}
 use Rattle.tree_laws.proofs.Scripts.{named_stays}
 use Rattle.holding_laws.proofs.MendMends.{mend_opened}
 
@@ -158,10 +158,6 @@ pub record GrantedSo (c : Config) (t : List Line) (e : EpochId) (d : CallId) (m 
   pub fits : Fits accepted.words m f
   pub started : IsStarted c t e f.group
 
-first_of : (a b : Bool) → (a && b) ≡ true → a ≡ true
-first_of true b e = refl
-first_of false b e = e
-
 pub granted_so : (c : Config) (t : List Line) → IsFollowed c t → (e : EpochId) (d : CallId) (request : ℕ) (i : Serial) (m : Mode) (f : FileId) (stamp : Option Stamp) (ss : ℕ) → WasGranted t e d request i m f stamp ss → GrantedSo c t e d m f
 granted_so c [] h e d request i m f stamp ss was = absurd was
 granted_so c (y ∷ older) h e d request i m f stamp ss (inr was) = more (granted_so c older h.1 e d request i m f stamp ss was)
@@ -185,7 +181,7 @@ granted_so c (y ∷ older) h e d request i m f stamp ss (inl now) = over y.told 
           named = named_stays c y.number it older call h.1 may (may.row.opens.step.accepted, may.row.opens.step.named) ∙ may.row.opens.step.named;
           fits = opens_fit c (entries older) may.row.opens.step.accepted (begun (entries older) call) (answers c (entries older) call) md file
               (subst (λ (o : Option Waiting). is_open_of md file (wants_as c (entries older) o (begun (entries older) call) (answers c (entries older) call)) ≡ true) may.row.opens.step.named may.row.opens.asked);
-          started = started_stays c y.number it older at file.group (first_of _ _ may.row.gives);
+          started = started_stays c y.number it older at file.group (and_first _ _ may.row.gives);
         }
     over (Shown r) may p = absurd p
     over x may p = absurd p

@@ -10,7 +10,7 @@ use Rattle.trace_book.specs.Same.{same_call}
 use Rattle.trace_book.specs.declared.record.Record.{Record}
 use Rattle.trace_book.specs.declared.record.Record.TheVariants as says
 use Rattle.role_steps.specs.Views.{Told, Shown, Takes}
-use Rattle.the_run.specs.Worlds.{Line}
+use Rattle.tree_laws.specs.of_the_run.Worlds.{Line}
 use Rattle.tree_model.specs.Epochs.{boot_of}
 use Rattle.lawful_trace.specs.Progress.{Answers}
 use Rattle.lawful_trace.specs.TreeRows.{IsCallIn}
@@ -25,7 +25,7 @@ use Rattle.tree_laws.proofs.Names.{same_call_eq}
 use Rattle.tree_laws.proofs.OneBoot.{one_boot}
 use Rattle.tree_laws.proofs.Scripts.{in_stays}
 use Rattle.tree_laws.proofs.Serials.{asks_opens, in_named}
-use Rattle.order_laws.proofs.ProcessOnce.{Counts, counts_up}
+use Rattle.holding_laws.proofs.of_order_laws.ProcessOnce.{Counts, counts_up}
 
 abbrev With : ℕ → Told → List Line → List Line
 With n x older = record { number = n; told = x } ∷ older

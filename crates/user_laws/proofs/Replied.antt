@@ -2,11 +2,15 @@
 use Rattle.std.proofs.Common.{◌≡◌, ℕ, ◌+◌, ◌*◌, ◌<◌, ◌==◌, arith, Bool, true, false, not, cond, ◌&&◌, ◌||◌, List, [], ◌∷◌, ◌++◌, Option, Some, refl, sym, ◌∙◌, ap, subst, ◌⊎◌, inl, inr, filter}
 use Rattle.std.specs.List.{find, list_any}
 use Rattle.std.proofs.lemmas.Bool.Decides.{nat_tests}
+use Rattle.role_steps.proofs.of_plain_facts.Numbers.{equal, equal_self}
+use Rattle.role_steps.proofs.of_plain_facts.Options.{some_same}
+use Rattle.role_steps.proofs.of_plain_facts.Tests.{true_false}
 use Rattle.locus_ids.specs.declared.config.Config.{Config}
 use Rattle.locus_ids.specs.declared.ids.CallId.{CallId}
 use Rattle.locus_ids.specs.declared.ids.FileId.{FileId}
 use Rattle.locus_ids.specs.declared.refusal.Refusal.{Refusal}
 use Rattle.locus_ids.specs.declared.refusal.Refusal.TheVariants as refusal
+use Rattle.locus_ids.specs.Sizes.{descriptor_span}
 use Rattle.commit_graph.specs.Versions.{same_file}
 use Rattle.trace_book.specs.Same.{same_call}
 use Rattle.trace_book.specs.declared.call.Call.{Call}
@@ -26,8 +30,8 @@ use Rattle.role_steps.specs.declared.users.DescriptorRow.{DescriptorRow}
 use Rattle.role_steps.specs.declared.users.UserInstance.{UserInstance}
 use Rattle.role_steps.specs.declared.users.WaitingCall.{WaitingCall}
 use Rattle.role_steps.proofs.Rows.{row_same, row_other}
-use Rattle.the_run.specs.Kept.{Among}
-use Rattle.the_run.specs.Worlds.{Line}
+use Rattle.tree_laws.specs.of_the_run.Kept.{Among}
+use Rattle.tree_laws.specs.of_the_run.Worlds.{Line}
 use Rattle.tree_model.specs.Calls.{call_named, opening_of, waiting}
 use Rattle.tree_model.specs.Epochs.{is_in, members_of}
 use Rattle.tree_model.specs.Packs.{sync_site}
@@ -45,7 +49,7 @@ use Rattle.tree_laws.proofs.Alone.{compare}
 use Rattle.tree_laws.proofs.Boots.{every_both, every_passes, found_every}
 use Rattle.tree_laws.proofs.Carried.{packet_stays}
 use Rattle.tree_laws.proofs.CarriedVersions.{sees_stay}
-use Rattle.tree_laws.proofs.Names.{true_false, some_is, test_own, test_same, same_call_eq, same_call_own, same_epoch_own}
+use Rattle.tree_laws.proofs.Names.{same_call_eq, same_call_own, same_epoch_own}
 use Rattle.tree_laws.proofs.Stepping.{answered_stays}
 use Rattle.tree_laws.proofs.Versions.{versions_stay}
 use Rattle.user_laws.specs.Turning.{it, Counted}
@@ -132,7 +136,7 @@ module _ (c : Config) (n : ℕ) (t : List Line) (f : Frame) (w : WaitingCall) (u
 
   -- with another key it is another call
   apart_call : (v : WaitingCall) → (waiting_key v ≡ waiting_key w → ⊥) → WaitingFact c t f v → it f v ≡ d → ⊥
-  apart_call v apart l e = apart (ap (λ (y : Waiting). waiting_of y.process y.words) (sym l.caller_is ∙ (some_is l.caller k.call.caller (sym l.named ∙ (ap (call_named (entries t)) e ∙ k.call.named)) ∙ k.call.caller_is)))
+  apart_call v apart l e = apart (ap (λ (y : Waiting). waiting_of y.process y.words) (sym l.caller_is ∙ (some_same l.caller k.call.caller (sym l.named ∙ (ap (call_named (entries t)) e ∙ k.call.named)) ∙ k.call.caller_is)))
 
   instance_same : (i : UserInstance) → UserInstanceFact c t f i → UserInstanceFact c newer f i
   instance_same i p = record { call = p.call; request = p.request; mode = p.mode; file = p.file; stamp = p.stamp; was_granted = inr p.was_granted; sees = sees_stay c t newer versions p.file p.mode p.stamp i.vector p.sees; ops = p.ops }
@@ -159,7 +163,7 @@ module _ (c : Config) (n : ℕ) (t : List Line) (f : Frame) (w : WaitingCall) (u
 
   -- ---- the whole, with these descriptors and these hopeless mends ----
 
-  whole : (ds : List DescriptorRow) (fs : List FileId) → Ascends descriptor_key ds → ((process fd : ℕ) → fd < 65536 → descriptor_in (row descriptor_key (fd_key process fd) ds) ≡ descriptor (entries newer) f.me process fd) →
+  whole : (ds : List DescriptorRow) (fs : List FileId) → Ascends descriptor_key ds → ((process fd : ℕ) → fd < descriptor_span → descriptor_in (row descriptor_key (fd_key process fd) ds) ≡ descriptor (entries newer) f.me process fd) →
       ((file : FileId) → sync_site c file.group (members_of (entries t) f.epoch) ≡ Some f.me → list_any (same_file file) fs ≡ has_lost_mend (entries newer) f.epoch file) →
       UsersInside c f newer (record u { waiting = without_row waiting_key (waiting_key w) u.waiting; descriptors = ds; hopeless = fs })
   whole ds fs up described lost = record {
@@ -178,7 +182,7 @@ module _ (c : Config) (n : ℕ) (t : List Line) (f : Frame) (w : WaitingCall) (u
 -- ---- descriptors ----
 
 -- two keys that are one are of one process and one number
-one_key : (a b p q : ℕ) → b < 65536 → q < 65536 → a * 65536 + b ≡ p * 65536 + q → (a ≡ p) × (b ≡ q)
+one_key : (a b p q : ℕ) → b < descriptor_span → q < descriptor_span → a * descriptor_span + b ≡ p * descriptor_span + q → (a ≡ p) × (b ≡ q)
 one_key a b p q lb lq e = over (compare a p)
   where
     over : (a < p) ⊎ ((p < a) ⊎ (a ≡ p)) → (a ≡ p) × (b ≡ q)
@@ -186,11 +190,11 @@ one_key a b p q lb lq e = over (compare a p)
     over (inr (inl lt)) = absurd (omega (arith, lt, lb, lq, e))
     over (inr (inr same)) = (same, omega (arith, same, e))
 
-apart_keys : (a b p q : ℕ) → b < 65536 → q < 65536 → ((a ≡ p) × (b ≡ q) → ⊥) → (fd_key a b == fd_key p q) ≡ false
+apart_keys : (a b p q : ℕ) → b < descriptor_span → q < descriptor_span → ((a ≡ p) × (b ≡ q) → ⊥) → (fd_key a b == fd_key p q) ≡ false
 apart_keys a b p q lb lq ne = over (fd_key a b == fd_key p q) refl
   where
     over : (x : Bool) → (fd_key a b == fd_key p q) ≡ x → (fd_key a b == fd_key p q) ≡ false
-    over true e = absurd (ne (one_key a b p q lb lq (test_same (fd_key a b) (fd_key p q) e)))
+    over true e = absurd (ne (one_key a b p q lb lq (equal (fd_key a b) (fd_key p q) e)))
     over false e = e
 
 -- a reply that isn't of an open leaves the descriptors
@@ -200,19 +204,19 @@ left_alone true false old = refl
 left_alone false b old = refl
 
 -- the descriptor that an open is answered stands for what was granted to it
-newly_described : (t : List Line) (f : Frame) (w : WaitingCall) (fd : ℕ) (ds : List DescriptorRow) → fd < 65536 → opening_of (entries t) (it f w) ≡ Some (opened_row f w fd).descriptor →
-    ((process n : ℕ) → n < 65536 → descriptor_in (row descriptor_key (fd_key process n) ds) ≡ descriptor (entries t) f.me process n) → (process n : ℕ) → n < 65536 →
+newly_described : (t : List Line) (f : Frame) (w : WaitingCall) (fd : ℕ) (ds : List DescriptorRow) → fd < descriptor_span → opening_of (entries t) (it f w) ≡ Some (opened_row f w fd).descriptor →
+    ((process n : ℕ) → n < descriptor_span → descriptor_in (row descriptor_key (fd_key process n) ds) ≡ descriptor (entries t) f.me process n) → (process n : ℕ) → n < descriptor_span →
     descriptor_in (row descriptor_key (fd_key process n) (with_row descriptor_key (opened_row f w fd) ds)) ≡ cond ((f.me == f.me) && (w.process == process)) (cond (fd == n) (opening_of (entries t) (it f w)) (descriptor (entries t) f.me process n)) (descriptor (entries t) f.me process n)
-newly_described t f w fd ds lt opening old process n less = at (w.process == process) (fd == n) refl refl ∙ ap (λ (b : Bool). cond (b && (w.process == process)) (cond (fd == n) (opening_of (entries t) (it f w)) (descriptor (entries t) f.me process n)) (descriptor (entries t) f.me process n)) (sym (test_own f.me))
+newly_described t f w fd ds lt opening old process n less = at (w.process == process) (fd == n) refl refl ∙ ap (λ (b : Bool). cond (b && (w.process == process)) (cond (fd == n) (opening_of (entries t) (it f w)) (descriptor (entries t) f.me process n)) (descriptor (entries t) f.me process n)) (sym (equal_self f.me))
   where
     other : ((w.process ≡ process) × (fd ≡ n) → ⊥) → descriptor_in (row descriptor_key (fd_key process n) (with_row descriptor_key (opened_row f w fd) ds)) ≡ descriptor (entries t) f.me process n
     other ne = ap descriptor_in (row_other descriptor_key (opened_row f w fd) (fd_key process n) ds (apart_keys w.process fd process n lt less ne)) ∙ old process n less
 
     differ : (a b : ℕ) → (a == b) ≡ false → a ≡ b → ⊥
-    differ a b s e = true_false (sym (subst (λ (m : ℕ). (a == m) ≡ true) e (test_own a)) ∙ s)
+    differ a b s e = true_false (sym (subst (λ (m : ℕ). (a == m) ≡ true) e (equal_self a)) ∙ s)
 
     at : (a b : Bool) → (w.process == process) ≡ a → (fd == n) ≡ b → descriptor_in (row descriptor_key (fd_key process n) (with_row descriptor_key (opened_row f w fd) ds)) ≡ cond (true && a) (cond b (opening_of (entries t) (it f w)) (descriptor (entries t) f.me process n)) (descriptor (entries t) f.me process n)
-    at true true p q = ap descriptor_in (ap (λ (m : ℕ). row descriptor_key m (with_row descriptor_key (opened_row f w fd) ds)) (ap (λ (m : ℕ). fd_key m n) (sym (test_same w.process process p)) ∙ ap (fd_key w.process) (sym (test_same fd n q))) ∙ row_same descriptor_key (opened_row f w fd) ds) ∙ sym opening
+    at true true p q = ap descriptor_in (ap (λ (m : ℕ). row descriptor_key m (with_row descriptor_key (opened_row f w fd) ds)) (ap (λ (m : ℕ). fd_key m n) (sym (equal w.process process p)) ∙ ap (fd_key w.process) (sym (equal fd n q))) ∙ row_same descriptor_key (opened_row f w fd) ds) ∙ sym opening
     at true false p q = other (λ z. differ fd n q z.1)
     at false b p q = other (λ z. differ w.process process p z.0)
 
@@ -220,7 +224,7 @@ newly_described t f w fd ds lt opening old process n less = at (w.process == pro
 
 -- the reply of an open has a number that its process has free, and stands for what was granted
 abbrev pub OpensWell : List Line → Frame → WaitingCall → Reply → Type 0
-OpensWell t f w (reply.Opened fd) = (fd < 65536) × (opening_of (entries t) (it f w) ≡ Some (opened_row f w fd).descriptor)
+OpensWell t f w (reply.Opened fd) = (fd < descriptor_span) × (opening_of (entries t) (it f w) ≡ Some (opened_row f w fd).descriptor)
 OpensWell t f w _ = Unit {0}
 
 pub replied_fine : (c : Config) (n : ℕ) (t : List Line) (f : Frame) (w : WaitingCall) (u : Users) (r : Reply) → IsFollowed c t → FrameFact c t f → Counted c t f w u → MayTell c t (reply_record f.me f.boot w r) → AllStay c t (With n (reply_record f.me f.boot w r) t) (reply_record f.me f.boot w r) → OpensWell t f w r →
@@ -229,7 +233,7 @@ replied_fine c n t f w u (reply.Opened fd) h frame k may stay well = whole c n t
     (λ process m less. newly_described t f w fd u.descriptors well.0 well.1 k.others.descriptors process m less) k.others.hopeless
 replied_fine c n t f w u (reply.No why) h frame k may stay well = over w.words refl
   where
-    descriptors : (process m : ℕ) → m < 65536 → descriptor_in (row descriptor_key (fd_key process m) u.descriptors) ≡ descriptor (entries (With n (reply_record f.me f.boot w (reply.No why)) t)) f.me process m
+    descriptors : (process m : ℕ) → m < descriptor_span → descriptor_in (row descriptor_key (fd_key process m) u.descriptors) ≡ descriptor (entries (With n (reply_record f.me f.boot w (reply.No why)) t)) f.me process m
     descriptors process m less = k.others.descriptors process m less ∙ sym (left_alone (f.me == f.me) (w.process == process) (descriptor (entries t) f.me process m))
 
     words_of : (words : Call) → w.words ≡ words → call_named (entries t) (it f w) ≡ Some (record { site = f.me; process = w.process; call = it f w; words = words; epoch = Some f.epoch })

@@ -1,10 +1,13 @@
 -- A call that turns and has its reply is answered: the row is lawful, and what the site has then is so by the trace.
 use Rattle.std.proofs.Common.{◌≡◌, ℕ, zero, suc, ◌+◌, ◌<◌, arith, Bool, true, false, cond, List, Option, Some, None, refl, sym, ◌∙◌, ap, subst, inl, inr}
 use Rattle.std.specs.List.{find}
+use Rattle.role_steps.proofs.of_plain_facts.Options.{some_same}
+use Rattle.role_steps.proofs.of_plain_facts.Tests.{true_false}
 use Rattle.locus_ids.specs.declared.config.Config.{Config}
 use Rattle.locus_ids.specs.declared.ids.CallId.{CallId}
 use Rattle.locus_ids.specs.declared.ids.EpochId.{EpochId}
 use Rattle.locus_ids.specs.declared.refusal.Refusal.TheVariants as refusal
+use Rattle.locus_ids.specs.Sizes.{descriptor_span, descriptors_max}
 use Rattle.trace_book.specs.declared.descriptor.Beginning.{Beginning}
 use Rattle.trace_book.specs.declared.descriptor.Descriptor.{Descriptor}
 use Rattle.trace_book.specs.declared.reply.Reply.{Reply}
@@ -16,7 +19,7 @@ use Rattle.role_steps.specs.Requests.{descriptors_of}
 use Rattle.role_steps.specs.Using.{last_opened, mode_asked, next_want, no_serial, reply_record}
 use Rattle.role_steps.specs.Views.{Users, Frame}
 use Rattle.role_steps.specs.declared.users.WaitingCall.{WaitingCall}
-use Rattle.the_run.specs.Worlds.{Line}
+use Rattle.tree_laws.specs.of_the_run.Worlds.{Line}
 use Rattle.tree_model.specs.Calls.{call_named, waiting}
 use Rattle.tree_model.specs.Epochs.{is_in}
 use Rattle.tree_model.specs.declared.accepted.Waiting.{Waiting}
@@ -31,7 +34,7 @@ use Rattle.tree_laws.specs.Holding.{has_instances}
 use Rattle.tree_laws.specs.Serials.{asked_now}
 use Rattle.tree_laws.proofs.Free.{free_same}
 use Rattle.tree_laws.proofs.Hearing.{Hears, hears}
-use Rattle.tree_laws.proofs.Names.{true_false, some_is, same_epoch_own}
+use Rattle.tree_laws.proofs.Names.{same_epoch_own}
 use Rattle.user_laws.specs.Rests.{IsOpenedAs, HasTaken, ReplyRests, gives_now}
 use Rattle.user_laws.specs.Turning.{it, Turning}
 use Rattle.user_laws.proofs.Wanting.{next_is}
@@ -48,10 +51,10 @@ free_same_from p q n (suc left) same = ap (λ (o : Option ℕ). free_or n o (p n
     own : n < n + suc left
     own = omega arith
 
-pub free_is : (p q : ℕ → Option Descriptor) → ((fd : ℕ) → fd < 65536 → p fd ≡ q fd) → lowest_free p ≡ lowest_free q
-free_is p q same = free_same_from p q 0 16 (λ fd lt. same fd (wide fd lt))
+pub free_is : (p q : ℕ → Option Descriptor) → ((fd : ℕ) → fd < descriptor_span → p fd ≡ q fd) → lowest_free p ≡ lowest_free q
+free_is p q same = free_same_from p q 0 descriptors_max (λ fd lt. same fd (wide fd lt))
   where
-    wide : (fd : ℕ) → fd < 0 + 16 → fd < 65536
+    wide : (fd : ℕ) → fd < 0 + descriptors_max → fd < descriptor_span
     wide fd lt = omega (arith, lt)
 
 module _ (c : Config) (t : List Line) (f : Frame) (w : WaitingCall) (u : Users) (h : IsFollowed c t) (frame : FrameFact c t f) (k : Turning c t f w u) where
@@ -123,7 +126,7 @@ module _ (c : Config) (t : List Line) (f : Frame) (w : WaitingCall) (u : Users) 
 
       over : (r : Reply) → next_want f w u ≡ want.Give r → AnswersInTime c t who r
       over (reply.No (refusal.Changed left)) e = absurd (rests.unchanged who k.call.caller f.epoch left taken (sym script_is ∙ e))
-      over (reply.Opened fd) e = record { replies = replies (reply.Opened fd) e; held = λ x found. subst (λ (y : Descriptor). has_instances c t who y.inst ≡ true) (some_is _ x (sym opened.is_last ∙ found)) opened.held }
+      over (reply.Opened fd) e = record { replies = replies (reply.Opened fd) e; held = λ x found. subst (λ (y : Descriptor). has_instances c t who y.inst ≡ true) (some_same _ x (sym opened.is_last ∙ found)) opened.held }
         where
           opened : IsOpenedAs c t who fd (record { mode = mode_asked k.call.caller.words; epoch = f.epoch; inst = last_opened no_serial (log t who) })
           opened = rests.opened who k.call.caller f.epoch fd taken (sym script_is ∙ e)

@@ -1,6 +1,8 @@
 -- A call that turns asks its next request: it is what the call asks, its packet carries its fact, and the site counts it.
 use Rattle.std.proofs.Common.{◌≡◌, ℕ, ◌+◌, ◌==◌, Bool, true, false, cond, List, length, Option, Some, None, refl, sym, ◌∙◌, ap, subst, ◌⊎◌, inl, inr}
 use Rattle.std.specs.Option.{is_some}
+use Rattle.role_steps.proofs.of_plain_facts.Numbers.{equal}
+use Rattle.role_steps.proofs.of_plain_facts.Tests.{true_false}
 use Rattle.locus_ids.specs.declared.config.Config.{Config}
 use Rattle.locus_ids.specs.declared.ids.CallId.{CallId}
 use Rattle.locus_ids.specs.declared.ids.FileId.{FileId}
@@ -27,8 +29,8 @@ use Rattle.role_steps.specs.declared.users.Asking.TheVariants as asking
 use Rattle.role_steps.specs.declared.users.UserInstance.{UserInstance}
 use Rattle.role_steps.specs.declared.users.WaitingCall.{WaitingCall}
 use Rattle.role_steps.proofs.Rows.{row_same, row_other}
-use Rattle.the_run.specs.Kept.{Among}
-use Rattle.the_run.specs.Worlds.{Line}
+use Rattle.tree_laws.specs.of_the_run.Kept.{Among}
+use Rattle.tree_laws.specs.of_the_run.Worlds.{Line}
 use Rattle.tree_model.specs.Calls.{granted_to}
 use Rattle.tree_model.specs.Epochs.{boot_of, epoch_of}
 use Rattle.tree_model.specs.declared.accepted.Waiting.{Waiting}
@@ -47,23 +49,20 @@ use Rattle.tree_laws.specs.Serials.{asked_now, is_open_want, is_op_on, ops_asked
 use Rattle.tree_laws.specs.Users.{AskingIs, WaitingFact, UserInstanceFact}
 use Rattle.tree_laws.proofs.Awaiting.{all_have, held_named}
 use Rattle.tree_laws.proofs.Boots.{every_both}
-use Rattle.tree_laws.proofs.Names.{true_false, test_same, same_serial_eq, same_serial_own}
+use Rattle.tree_laws.proofs.Names.{same_serial_eq, same_serial_own}
 use Rattle.tree_laws.proofs.OfOwn.{asks_of_own}
 use Rattle.tree_laws.proofs.OneBoot.{boot_where_inside}
-use Rattle.order_laws.specs.ProcessAsked.{AsksOf, IsOpenOf}
-use Rattle.order_laws.specs.ProcessOperations.{OpsAre}
-use Rattle.order_laws.proofs.ProcessGranting.{GrantIs, granted_is}
-use Rattle.order_laws.proofs.ProcessOpen.{OpenAs, asked_open, granted_open}
-use Rattle.order_laws.proofs.ProcessOperationsRun.{operations_counted}
-use Rattle.order_laws.proofs.ProcessOwner.{owner_release}
-use Rattle.order_laws.proofs.ProcessTaken.{asked_had}
+use Rattle.holding_laws.specs.of_order_laws.ProcessAsked.{AsksOf, IsOpenOf}
+use Rattle.holding_laws.specs.of_order_laws.ProcessOperations.{OpsAre}
+use Rattle.holding_laws.proofs.of_order_laws.ProcessGranting.{GrantIs, granted_is}
+use Rattle.holding_laws.proofs.of_order_laws.ProcessOpen.{OpenAs, asked_open, granted_open}
+use Rattle.holding_laws.proofs.of_order_laws.ProcessOperationsRun.{operations_counted}
+use Rattle.holding_laws.proofs.of_order_laws.ProcessOwner.{owner_release}
+use Rattle.holding_laws.proofs.of_order_laws.ProcessTaken.{asked_had}
 use Rattle.user_laws.specs.Rests.{RequestRests}
 use Rattle.user_laws.specs.Turning.{it, CallTurns, InstanceTurns, Turning, Counted}
 use Rattle.user_laws.proofs.Tabled.{every_with, ascends_with, among_with, among_kept, every_among, row_found}
 use Rattle.user_laws.proofs.Wanting.{asked_is}
-
-none_some : {A : Type 0} (a : A) → ◌≡◌ {A = Option A} None (Some a) → ⊥
-none_some a e = cc
 
 module _ (c : Config) (n : ℕ) (t : List Line) (f : Frame) (h : IsFollowed c t) (frame : FrameFact c t f) where
   -- ---- the call ----
@@ -275,7 +274,7 @@ module _ (c : Config) (n : ℕ) (t : List Line) (f : Frame) (h : IsFollowed c t)
       more = record i { ops = i.ops + 1 }
 
       over : (serial : ℕ) (b : Bool) → (i.serial == serial) ≡ b → is_some (row instance_serial serial (with_row instance_serial more u.instances)) ≡ is_some (user_instance u serial)
-      over serial true e = ap is_some (ap (λ (s : ℕ). row instance_serial s (with_row instance_serial more u.instances)) (sym (test_same i.serial serial e)) ∙ row_same instance_serial more u.instances) ∙ sym (ap is_some (ap (user_instance u) (sym (test_same i.serial serial e)) ∙ found))
+      over serial true e = ap is_some (ap (λ (s : ℕ). row instance_serial s (with_row instance_serial more u.instances)) (sym (equal i.serial serial e)) ∙ row_same instance_serial more u.instances) ∙ sym (ap is_some (ap (user_instance u) (sym (equal i.serial serial e)) ∙ found))
       over serial false e = ap is_some (row_other instance_serial more serial u.instances e)
 
       counts : (j : UserInstance) → is_op_on (serial_of f.me j.serial) (asked_now c t (it f w)) ≡ same_serial inst (serial_of f.me j.serial)

@@ -2,17 +2,12 @@
 use Rattle.std.proofs.Common.{◌≡◌, ℕ, ◌<◌, ◌==◌, Bool, true, false, List, [], ◌∷◌, Option, Some, None, refl, sym, ◌∙◌, ap, subst, arith, ◌⊎◌, inl, inr}
 use Rattle.std.specs.Prelude.{nat_lt}
 use Rattle.std.proofs.lemmas.Bool.Decides.{nat_tests}
+use Rattle.role_steps.proofs.of_plain_facts.Numbers.{apart, apart_test, equal, less}
+use Rattle.role_steps.proofs.of_plain_facts.Options.{none_some, some_same}
 use Rattle.role_steps.specs.Own.{Every}
 use Rattle.role_steps.specs.Tables.{row, with_row, without_row, first_that}
-use Rattle.the_run.specs.Kept.{Among}
+use Rattle.tree_laws.specs.of_the_run.Kept.{Among}
 use Rattle.tree_laws.specs.Stores.{Ascends}
-use Rattle.tree_laws.proofs.Names.{true_false, some_is, test_same, test_own}
-
-none_some : {A : Type 0} (x : A) → ◌≡◌ {A = Option A} None (Some x) → ⊥
-none_some x e = cc
-
-less_test : (a b : ℕ) → nat_lt a b ≡ true → a < b
-less_test a b e = grind (arith, nat_tests)
 
 not_less : (a b : ℕ) → nat_lt a b ≡ false → (a == b) ≡ false → b < a
 not_less a b e f = grind (arith, nat_tests)
@@ -25,16 +20,6 @@ apart_above k a lt e = omega (arith, lt, e)
 
 apart_below : (k a : ℕ) → a < k → a ≡ k → ⊥
 apart_below k a lt e = omega (arith, lt, e)
-
-differ : (a b : ℕ) → (a == b) ≡ false → a ≡ b → ⊥
-differ a b t e = true_false (sym (subst (λ (k : ℕ). (a == k) ≡ true) e (test_own a)) ∙ t)
-
-apart_test : (a b : ℕ) → (a ≡ b → ⊥) → (a == b) ≡ false
-apart_test a b ne = over (a == b) refl
-  where
-    over : (x : Bool) → (a == b) ≡ x → (a == b) ≡ false
-    over true e = absurd (ne (test_same a b e))
-    over false e = e
 
 below_all : {A : Type 0} (key : A → ℕ) (j k : ℕ) (xs : List A) → j < k → Every (λ y. k < key y) xs → Every (λ y. j < key y) xs
 below_all key j k [] lt h = tt
@@ -53,9 +38,9 @@ every_with key x P Q [] other up h q = (q, tt)
 every_with key x P Q (y ∷ ys) other up h q = at (every_with key x P Q ys other up.1 h.1 q) (nat_lt (key y) (key x)) (key y == key x) refl refl
   where
     at : Every Q (with_row key x ys) → (a b : Bool) → nat_lt (key y) (key x) ≡ a → (key y == key x) ≡ b → Every Q (elim a [ true ↦ y ∷ with_row key x ys | false ↦ elim b [ true ↦ x ∷ ys | false ↦ x ∷ y ∷ ys ] ])
-    at later true b t s = (other y (apart_below (key x) (key y) (less_test (key y) (key x) t)) h.0, later)
-    at later false true t s = (q, above_other key (key x) P Q ys other (subst (λ (k : ℕ). Every (λ z. k < key z) ys) (test_same (key y) (key x) s) up.0) h.1)
-    at later false false t s = (q, (other y (differ (key y) (key x) s) h.0, above_other key (key x) P Q ys other (below_all key (key x) (key y) ys (not_less (key y) (key x) t s) up.0) h.1))
+    at later true b t s = (other y (apart_below (key x) (key y) (less (key y) (key x) t)) h.0, later)
+    at later false true t s = (q, above_other key (key x) P Q ys other (subst (λ (k : ℕ). Every (λ z. k < key z) ys) (equal (key y) (key x) s) up.0) h.1)
+    at later false false t s = (q, (other y (apart (key y) (key x) s) h.0, above_other key (key x) P Q ys other (below_all key (key x) (key y) ys (not_less (key y) (key x) t s) up.0) h.1))
 
 below_rest : {A : Type 0} (key : A → ℕ) (k : ℕ) (x : A) (xs : List A) → k < key x → Every (λ y. k < key y) xs → Every (λ y. k < key y) (with_row key x xs)
 below_rest key k x [] lt h = (lt, tt)
@@ -71,8 +56,8 @@ ascends_with key x [] h = (tt, tt)
 ascends_with key x (y ∷ ys) h = at (ascends_with key x ys h.1) (nat_lt (key y) (key x)) (key y == key x) refl refl
   where
     at : Ascends key (with_row key x ys) → (a b : Bool) → nat_lt (key y) (key x) ≡ a → (key y == key x) ≡ b → Ascends key (elim a [ true ↦ y ∷ with_row key x ys | false ↦ elim b [ true ↦ x ∷ ys | false ↦ x ∷ y ∷ ys ] ])
-    at later true b t u = (below_rest key (key y) x ys (less_test (key y) (key x) t) h.0, later)
-    at later false true t u = (subst (λ (k : ℕ). Every (λ z. k < key z) ys) (test_same (key y) (key x) u) h.0, h.1)
+    at later true b t u = (below_rest key (key y) x ys (less (key y) (key x) t) h.0, later)
+    at later false true t u = (subst (λ (k : ℕ). Every (λ z. k < key z) ys) (equal (key y) (key x) u) h.0, h.1)
     at later false false t u = ((not_less (key y) (key x) t u, below_all key (key x) (key y) ys (not_less (key y) (key x) t u) h.0), h)
 
 pub among_with : {A : Type 0} (key : A → ℕ) (x : A) (xs : List A) → Among x (with_row key x xs)
@@ -91,7 +76,7 @@ among_kept key x v (y ∷ ys) ne k = at (λ (m : Among v ys). among_kept key x v
     at : (Among v ys → Among v (with_row key x ys)) → (a b : Bool) → (key y == key x) ≡ b → (v ≡ y) ⊎ Among v ys → Among v (elim a [ true ↦ y ∷ with_row key x ys | false ↦ elim b [ true ↦ x ∷ ys | false ↦ x ∷ y ∷ ys ] ])
     at later true b s (inl e) = inl e
     at later true b s (inr m) = inr (later m)
-    at later false true s (inl e) = absurd (ne (ap key e ∙ test_same (key y) (key x) s))
+    at later false true s (inl e) = absurd (ne (ap key e ∙ equal (key y) (key x) s))
     at later false true s (inr m) = inr m
     at later false false s m = inr m
 
@@ -110,8 +95,8 @@ every_without key k P Q [] other up h = tt
 every_without key k P Q (y ∷ ys) other up h = at (every_without key k P Q ys other up.1 h.1) (key y == k) refl
   where
     at : Every Q (without_row key k ys) → (b : Bool) → (key y == k) ≡ b → Every Q (elim b [ true ↦ ys | false ↦ y ∷ without_row key k ys ])
-    at later true t = above_other key k P Q ys other (subst (λ (j : ℕ). Every (λ z. j < key z) ys) (test_same (key y) k t) up.0) h.1
-    at later false t = (other y (differ (key y) k t) h.0, later)
+    at later true t = above_other key k P Q ys other (subst (λ (j : ℕ). Every (λ z. j < key z) ys) (equal (key y) k t) up.0) h.1
+    at later false t = (other y (apart (key y) k t) h.0, later)
 
 pub ascends_without : {A : Type 0} (key : A → ℕ) (k : ℕ) (xs : List A) → Ascends key xs → Ascends key (without_row key k xs)
 ascends_without key k [] h = tt
@@ -126,7 +111,7 @@ among_without key k v [] ne m = absurd m
 among_without key k v (y ∷ ys) ne m = at (λ (q : Among v ys). among_without key k v ys ne q) (key y == k) refl m
   where
     at : (Among v ys → Among v (without_row key k ys)) → (b : Bool) → (key y == k) ≡ b → (v ≡ y) ⊎ Among v ys → Among v (elim b [ true ↦ ys | false ↦ y ∷ without_row key k ys ])
-    at later true t (inl e) = absurd (ne (ap key e ∙ test_same (key y) k t))
+    at later true t (inl e) = absurd (ne (ap key e ∙ equal (key y) k t))
     at later true t (inr q) = q
     at later false t (inl e) = inl e
     at later false t (inr q) = inr (later q)
@@ -140,7 +125,7 @@ row_gone key k [] h = refl
 row_gone {A} key k (y ∷ ys) h = at (row_gone key k ys h.1) (key y == k) refl
   where
     at : row key k (without_row key k ys) ≡ None → (b : Bool) → (key y == k) ≡ b → ◌≡◌ {A = Option A} (row key k (elim b [ true ↦ ys | false ↦ y ∷ without_row key k ys ])) None
-    at later true t = none_below key k ys (subst (λ (j : ℕ). Every (λ z. j < key z) ys) (test_same (key y) k t) h.0)
+    at later true t = none_below key k ys (subst (λ (j : ℕ). Every (λ z. j < key z) ys) (equal (key y) k t) h.0)
     at later false t = rw (t, row) later
 
 pub row_left : {A : Type 0} (key : A → ℕ) (k t : ℕ) (xs : List A) → (k ≡ t → ⊥) → row key t (without_row key k xs) ≡ row key t xs
@@ -152,7 +137,7 @@ row_left {A} key k t (y ∷ ys) ne = at (row_left key k t ys ne) (key y == k) re
     inner later false = later
 
     at : row key t (without_row key k ys) ≡ row key t ys → (b : Bool) → (key y == k) ≡ b → ◌≡◌ {A = Option A} (row key t (elim b [ true ↦ ys | false ↦ y ∷ without_row key k ys ])) (row key t (y ∷ ys))
-    at later true s = rw (apart_test (key y) t (λ e. ne (sym (test_same (key y) k s) ∙ e)), row) refl
+    at later true s = rw (apart_test (key y) t (λ e. ne (sym (equal (key y) k s) ∙ e)), row) refl
     at later false s = inner later (key y == t)
 
 -- ---- what is found ----
@@ -177,7 +162,7 @@ row_found key k [] x e = absurd (none_some x e)
 row_found {A} key k (y ∷ ys) x e = at (row_found key k ys x) (key y == k) refl e
   where
     at : (row key k ys ≡ Some x → Among x ys × (key x ≡ k)) → (b : Bool) → (key y == k) ≡ b → ◌≡◌ {A = Option A} (elim b [ true ↦ Some y | false ↦ row key k ys ]) (Some x) → ((x ≡ y) ⊎ Among x ys) × (key x ≡ k)
-    at later true t f = (inl (sym (some_is y x f)), ap key (sym (some_is y x f)) ∙ test_same (key y) k t)
+    at later true t f = (inl (sym (some_same y x f)), ap key (sym (some_same y x f)) ∙ equal (key y) k t)
     at later false t f = (inr (later f).0, (later f).1)
 
 pub first_found : {A : Type 0} (test : A → Bool) (xs : List A) (x : A) → first_that test xs ≡ Some x → Among x xs × (test x ≡ true)
@@ -185,5 +170,5 @@ first_found test [] x e = absurd (none_some x e)
 first_found {A} test (y ∷ ys) x e = at (first_found test ys x) (test y) refl e
   where
     at : (first_that test ys ≡ Some x → Among x ys × (test x ≡ true)) → (b : Bool) → test y ≡ b → ◌≡◌ {A = Option A} (elim b [ true ↦ Some y | false ↦ first_that test ys ]) (Some x) → ((x ≡ y) ⊎ Among x ys) × (test x ≡ true)
-    at later true t f = (inl (sym (some_is y x f)), ap test (sym (some_is y x f)) ∙ t)
+    at later true t f = (inl (sym (some_same y x f)), ap test (sym (some_same y x f)) ∙ t)
     at later false t f = (inr (later f).0, (later f).1)

@@ -1,6 +1,8 @@
 -- A process takes the answer that waits for it: its call turns, and what the site has beside it stays.
 use Rattle.std.proofs.Common.{◌≡◌, ℕ, ◌+◌, ◌==◌, Bool, true, false, cond, ◌&&◌, List, [], ◌∷◌, ◌++◌, length, length-append, refl, sym, ◌∙◌, ap, subst, ◌⊎◌, inl, inr}
 use Rattle.std.specs.Option.{is_some}
+use Rattle.role_steps.proofs.of_plain_facts.Numbers.{equal, equal_self}
+use Rattle.role_steps.proofs.of_plain_facts.Tests.{true_false}
 use Rattle.locus_ids.specs.declared.config.Config.{Config}
 use Rattle.locus_ids.specs.declared.ids.CallId.{CallId}
 use Rattle.trace_book.specs.declared.call.Call.{Call}
@@ -12,8 +14,8 @@ use Rattle.role_steps.specs.Using.{takes_record, with_answer, takes_answer, goes
 use Rattle.role_steps.specs.Views.{Users, Frame, Told}
 use Rattle.role_steps.specs.declared.users.UserInstance.{UserInstance}
 use Rattle.role_steps.specs.declared.users.WaitingCall.{WaitingCall}
-use Rattle.the_run.specs.Kept.{Among}
-use Rattle.the_run.specs.Worlds.{Line}
+use Rattle.tree_laws.specs.of_the_run.Kept.{Among}
+use Rattle.tree_laws.specs.of_the_run.Worlds.{Line}
 use Rattle.tree_model.specs.Calls.{waiting}
 use Rattle.tree_model.specs.State.{has_number}
 use Rattle.tree_model.specs.declared.accepted.Waiting.{Waiting}
@@ -28,7 +30,7 @@ use Rattle.tree_laws.specs.Stores.{Ascends}
 use Rattle.tree_laws.specs.Users.{had, had_by, taken_whole, Brings, BringsFor, WaitingFact, UserInstanceFact}
 use Rattle.tree_laws.proofs.Awaiting.{turn_clear}
 use Rattle.tree_laws.proofs.Boots.{every_both}
-use Rattle.tree_laws.proofs.Names.{true_false, test_same, test_own, same_call_own}
+use Rattle.tree_laws.proofs.Names.{same_call_own}
 use Rattle.tree_laws.proofs.Waiting.{found_among}
 use Rattle.user_laws.specs.Rests.{IsCallHere}
 use Rattle.user_laws.specs.Turning.{it, CallTurns, Others, InstanceTurns, Turning}
@@ -134,11 +136,11 @@ module _ (c : Config) (n : ℕ) (t : List Line) (f : Frame) (w : WaitingCall) (u
       over e z = at (waiting_key z.0 == waiting_key w) refl
         where
           at : (b : Bool) → (waiting_key z.0 == waiting_key w) ≡ b → (e ≡ d) ⊎ ((v : WaitingCall) × Among v u.waiting × (waiting_key v ≡ waiting_key w → ⊥) × (e ≡ it f v))
-          at true s = inl (z.2 ∙ ap (λ (v : WaitingCall). it f v) (one_row waiting_key z.0 w u.waiting k.inside.ascends z.1 among (test_same (waiting_key z.0) (waiting_key w) s)))
-          at false s = inr (z.0, z.1, (λ e. true_false (sym (subst (λ (m : ℕ). (waiting_key z.0 == m) ≡ true) e (test_own (waiting_key z.0))) ∙ s)), z.2)
+          at true s = inl (z.2 ∙ ap (λ (v : WaitingCall). it f v) (one_row waiting_key z.0 w u.waiting k.inside.ascends z.1 among (equal (waiting_key z.0) (waiting_key w) s)))
+          at false s = inr (z.0, z.1, (λ e. true_false (sym (subst (λ (m : ℕ). (waiting_key z.0 == m) ≡ true) e (equal_self (waiting_key z.0))) ∙ s)), z.2)
 
   pub serials_turn : cond (is_open_want (asked_now c newer d)) (u.serials + 1) u.serials ≡ opens_asked c newer f.me
-  serials_turn = ap (λ (m : ℕ). cond (is_open_want (asked_now c newer d)) (m + 1) m) k.always.serials ∙ sym (ap (λ (b : Bool). cond (b && is_open_want (asked_now c newer d)) (opens_asked c t f.me + 1) (opens_asked c t f.me)) (test_own f.me))
+  serials_turn = ap (λ (m : ℕ). cond (is_open_want (asked_now c newer d)) (m + 1) m) k.always.serials ∙ sym (ap (λ (b : Bool). cond (b && is_open_want (asked_now c newer d)) (opens_asked c t f.me + 1) (opens_asked c t f.me)) (equal_self f.me))
 
   pub instance_turns : (i : UserInstance) → UserInstanceFact c t f i → InstanceTurns c newer f d i
   instance_turns i p = each_turns c n x t f d h may stay one i p
@@ -154,7 +156,7 @@ module _ (c : Config) (n : ℕ) (t : List Line) (f : Frame) (w : WaitingCall) (u
   }
     where
       had_is : had c newer f.me ≡ had c t f.me
-      had_is = ap (λ (b : Bool). cond b (had_by (asked_now c t d) a (had c t f.me)) (had c t f.me)) (test_own f.me) ∙ keeps
+      had_is = ap (λ (b : Bool). cond b (had_by (asked_now c t d) a (had c t f.me)) (had c t f.me)) (equal_self f.me) ∙ keeps
 
   -- ---- and goes on ----
 

@@ -2,6 +2,9 @@
 use Rattle.std.proofs.Common.{◌≡◌, ℕ, ◌==◌, arith, Bool, true, false, ◌&&◌, ◌||◌, List, [], ◌∷◌, map, Option, Some, None, refl, sym, ◌∙◌, ap, subst, inr}
 use Rattle.std.specs.List.{find}
 use Rattle.std.proofs.lemmas.Bool.Decides.{nat_tests}
+use Rattle.role_steps.proofs.of_plain_facts.Numbers.{equal}
+use Rattle.role_steps.proofs.of_plain_facts.Options.{some_same}
+use Rattle.role_steps.proofs.of_plain_facts.Tests.{true_false}
 use Rattle.locus_ids.specs.declared.config.Config.{Config}
 use Rattle.locus_ids.specs.declared.ids.CallId.{CallId}
 use Rattle.locus_ids.specs.declared.ids.EpochId.{EpochId}
@@ -26,8 +29,8 @@ use Rattle.role_steps.specs.declared.users.Asking.{Asking}
 use Rattle.role_steps.specs.declared.users.Asking.TheVariants as asking
 use Rattle.role_steps.specs.declared.users.UserInstance.{UserInstance}
 use Rattle.role_steps.specs.declared.users.WaitingCall.{WaitingCall}
-use Rattle.the_run.specs.Kept.{Among}
-use Rattle.the_run.specs.Worlds.{Line}
+use Rattle.tree_laws.specs.of_the_run.Kept.{Among}
+use Rattle.tree_laws.specs.of_the_run.Worlds.{Line}
 use Rattle.tree_model.specs.declared.accepted.Waiting.{Waiting}
 use Rattle.tree_model.specs.Calls.{call_named, waiting}
 use Rattle.tree_model.specs.Epochs.{is_in, members_of}
@@ -48,7 +51,7 @@ use Rattle.tree_laws.proofs.Boots.{every_both, found_every}
 use Rattle.tree_laws.proofs.Carried.{packet_stays}
 use Rattle.tree_laws.proofs.CarriedVersions.{sees_stay}
 use Rattle.tree_laws.proofs.Mending.{members_stay, mends_at_sync}
-use Rattle.tree_laws.proofs.Names.{true_false, some_is, test_same, same_call_eq, same_epoch_eq}
+use Rattle.tree_laws.proofs.Names.{same_call_eq, same_epoch_eq}
 use Rattle.tree_laws.proofs.Scripts.{named_stays, begun_stays, script_stays}
 use Rattle.tree_laws.proofs.Stepping.{answered_stays}
 use Rattle.tree_laws.proofs.Versions.{versions_stay}
@@ -105,10 +108,10 @@ lost_record c n me (says.Answer s process d r) older e file h may away sync = ap
     named = ap (call_named (entries older)) (sym (same_call_eq may.row.caller.call d is.1.1)) ∙ found.0
 
     site : me ≡ may.row.caller.site → s ≡ me
-    site same = sym (same ∙ test_same may.row.caller.site s is.0)
+    site same = sym (same ∙ equal may.row.caller.site s is.0)
 
     none : (b : Bool) → is_lost_mend e file r (call_named (entries older) d) ≡ b → is_lost_mend e file r (call_named (entries older) d) ≡ false
-    none true t = absurd (away (site (some_is me may.row.caller.site (sym sync ∙ lost_at_sync c older d r may.row.caller e file h named (ap (is_lost_mend e file r) (sym named) ∙ t)))))
+    none true t = absurd (away (site (some_same me may.row.caller.site (sym sync ∙ lost_at_sync c older d r may.row.caller e file h named (ap (is_lost_mend e file r) (sym named) ∙ t)))))
     none false t = t
 lost_record c n me _ older e file h may away sync = refl
 
@@ -195,7 +198,7 @@ module _ (c : Config) (n : ℕ) (x : Told) (older : List Line) (f : Frame) (h : 
       own : (d : CallId) (process : ℕ) (caller : Waiting) → find (is_this f.me process d) (waiting (entries (With n x older))) ≡ Some caller → d.site ≡ f.me
       own d process caller found = (let k : (call_named (entries (With n x older)) caller.call ≡ Some caller) × (is_this f.me process d caller ≡ true) = found_every (λ (w : Waiting). call_named (entries (With n x older)) w.call ≡ Some w) (is_this f.me process d) (waiting (entries (With n x older))) caller found (accepted c (With n x older) (may, h)).waits in
           let is : ((caller.site == f.me) ≡ true) × (((caller.process == process) ≡ true) × (same_call caller.call d ≡ true)) = parts (caller.site == f.me) (caller.process == process) (same_call caller.call d) k.1 in
-          ap (λ (y : CallId). y.site) (sym (same_call_eq caller.call d is.1.1)) ∙ (sym ((accepted c (With n x older) (may, h)).named caller.call caller k.0).site_is ∙ test_same caller.site f.me is.0))
+          ap (λ (y : CallId). y.site) (sym (same_call_eq caller.call d is.1.1)) ∙ (sym ((accepted c (With n x older) (may, h)).named caller.call caller k.0).site_is ∙ equal caller.site f.me is.0))
 
       over : (d : CallId) (process : ℕ) → d.site ≡ f.me → (v : Waiting) × (find (is_this f.me process d) (waiting (entries older)) ≡ Some v) → (w : WaitingCall) × Among w u.waiting × (d ≡ own_call f.me f.boot w.call)
       over d process own v = k.all d process v.0 v.1

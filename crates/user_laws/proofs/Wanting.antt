@@ -1,6 +1,7 @@
 -- What the using site takes for the next want of a call is what the call asks by the trace.
 use Rattle.std.proofs.Common.{◌≡◌, ℕ, Bool, true, false, cond, List, [], ◌∷◌, Option, Some, None, refl, sym, ◌∙◌, ap, subst}
 use Rattle.std.specs.Option.{is_some}
+use Rattle.role_steps.proofs.of_plain_facts.Tests.{true_false}
 use Rattle.locus_ids.specs.declared.config.Config.{Config}
 use Rattle.locus_ids.specs.declared.config.Mount.{Mount}
 use Rattle.locus_ids.specs.declared.ids.FileId.{FileId}
@@ -29,7 +30,7 @@ use Rattle.role_steps.specs.Using.{is_packed, is_some_site, next_want}
 use Rattle.role_steps.specs.Views.{Users, Frame}
 use Rattle.role_steps.specs.Views as role
 use Rattle.role_steps.specs.declared.users.WaitingCall.{WaitingCall}
-use Rattle.the_run.specs.Worlds.{Line}
+use Rattle.tree_laws.specs.of_the_run.Worlds.{Line}
 use Rattle.tree_model.specs.Calls.{call_named}
 use Rattle.tree_model.specs.Folds.{Trace}
 use Rattle.tree_model.specs.Packs.{sync_site}
@@ -41,8 +42,7 @@ use Rattle.tree_laws.specs.Calls.{is_request, script, script_as}
 use Rattle.tree_laws.specs.Doing.{FrameFact}
 use Rattle.tree_laws.specs.Serials.{asked_now}
 use Rattle.tree_laws.proofs.Free.{AsksSame}
-use Rattle.tree_laws.proofs.Names.{true_false}
-use Rattle.order_laws.proofs.ProcessSynchronizing.{sync_same}
+use Rattle.holding_laws.proofs.of_order_laws.ProcessSynchronizing.{sync_same}
 use Rattle.user_laws.specs.Turning.{it, CallTurns}
 
 -- ---- a request is asked whatever descriptor is free ----

@@ -5,7 +5,7 @@ use Rattle.role_steps.specs.Own.{Every}
 use Rattle.role_steps.specs.Using.{users_leave}
 use Rattle.role_steps.specs.Views.{Users, Frame}
 use Rattle.role_steps.specs.declared.users.WaitingCall.{WaitingCall}
-use Rattle.the_run.specs.Worlds.{Line, told_onto}
+use Rattle.tree_laws.specs.of_the_run.Worlds.{Line, told_onto}
 use Rattle.tree_model.specs.declared.accepted.Waiting.{Waiting}
 use Rattle.tree_model.specs.Calls.{waiting}
 use Rattle.tree_laws.specs.Printed.{entries}

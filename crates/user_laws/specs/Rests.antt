@@ -9,6 +9,7 @@ use Rattle.locus_ids.specs.declared.ids.Mode.TheVariants as mode
 use Rattle.locus_ids.specs.declared.ids.Serial.{Serial}
 use Rattle.locus_ids.specs.declared.ids.Stamp.{Stamp}
 use Rattle.locus_ids.specs.declared.refusal.Refusal.TheVariants as refusal
+use Rattle.locus_ids.specs.Sizes.{descriptor_span}
 use Rattle.trace_book.specs.declared.descriptor.Descriptor.{Descriptor}
 use Rattle.trace_book.specs.declared.operation.Op.{Op}
 use Rattle.trace_book.specs.declared.operation.Outcome.{Outcome as Result}
@@ -27,7 +28,7 @@ use Rattle.role_steps.specs.Requests.{seen_by}
 use Rattle.role_steps.specs.Using.{last_opened, mode_asked, no_serial, close_answer, op_answer}
 use Rattle.role_steps.specs.Views.{Users, Frame, Told}
 use Rattle.role_steps.specs.declared.users.WaitingCall.{WaitingCall}
-use Rattle.the_run.specs.Worlds.{Line}
+use Rattle.tree_laws.specs.of_the_run.Worlds.{Line}
 use Rattle.tree_model.specs.Calls.{call_named, opening_of, waiting}
 use Rattle.tree_model.specs.Epochs.{epoch_of, members_of}
 use Rattle.tree_model.specs.Packs.{sync_site}
@@ -57,7 +58,7 @@ pub record RequestRests (c : Config) (trace : List Line) : Type 0 where
 
 -- the number is one that a line can name; the open was granted to the call last, which has the instance
 pub record IsOpenedAs (c : Config) (trace : List Line) (d : CallId) (fd : ℕ) (x : Descriptor) : Type 0 where
-  pub small : fd < 65536
+  pub small : fd < descriptor_span
   pub is_last : opening_of (entries trace) d ≡ Some x
   pub held : has_instances c trace d x.inst ≡ true
 

@@ -8,6 +8,7 @@ use Rattle.locus_ids.specs.declared.ids.CallId.{CallId}
 use Rattle.locus_ids.specs.declared.ids.FileId.{FileId}
 use Rattle.locus_ids.specs.declared.ids.Mode.{Mode}
 use Rattle.locus_ids.specs.declared.ids.Stamp.{Stamp}
+use Rattle.locus_ids.specs.Sizes.{descriptor_span}
 use Rattle.commit_graph.specs.Versions.{same_file}
 use Rattle.trace_book.specs.declared.call.Call.{Call}
 use Rattle.trace_book.specs.declared.call.Call.TheVariants as call
@@ -16,8 +17,8 @@ use Rattle.role_steps.specs.Requests.{waiting_key, instance_serial, descriptor_k
 use Rattle.role_steps.specs.Views.{Users, Frame}
 use Rattle.role_steps.specs.declared.users.UserInstance.{UserInstance}
 use Rattle.role_steps.specs.declared.users.WaitingCall.{WaitingCall}
-use Rattle.the_run.specs.Kept.{Among}
-use Rattle.the_run.specs.Worlds.{Line}
+use Rattle.tree_laws.specs.of_the_run.Kept.{Among}
+use Rattle.tree_laws.specs.of_the_run.Worlds.{Line}
 use Rattle.tree_model.specs.declared.accepted.Waiting.{Waiting}
 use Rattle.tree_model.specs.Calls.{call_named, waiting}
 use Rattle.tree_model.specs.Epochs.{boot_of, calls_accepted, members_of}
@@ -55,7 +56,7 @@ pub record CallTurns (c : Config) (trace : List Line) (f : Frame) (w : WaitingCa
 pub record Others (c : Config) (trace : List Line) (f : Frame) (w : WaitingCall) (u : Users) : Type 0 where
   pub boot_is : f.boot ≡ boot_of (entries trace) f.me
   pub calls : u.calls ≡ calls_accepted (entries trace) f.me
-  pub descriptors : (process fd : ℕ) → fd < 65536 → descriptors_of u process fd ≡ descriptor (entries trace) f.me process fd
+  pub descriptors : (process fd : ℕ) → fd < descriptor_span → descriptors_of u process fd ≡ descriptor (entries trace) f.me process fd
   pub listed : Ascends descriptor_key u.descriptors
   pub waits : Every (λ (v : WaitingCall). (waiting_key v ≡ waiting_key w → ⊥) → WaitingFact c trace f v) u.waiting
   pub ascends : Ascends waiting_key u.waiting
@@ -91,10 +92,10 @@ pub record Counted (c : Config) (trace : List Line) (f : Frame) (w : WaitingCall
 
 -- the words of a call name no descriptor beyond those that a line can name
 abbrev pub IsNumbered : Call → Type 0
-IsNumbered (call.Read fd at len) = fd < 65536
-IsNumbered (call.Write fd at bytes) = fd < 65536
-IsNumbered (call.Cut fd len) = fd < 65536
-IsNumbered (call.Commit fd) = fd < 65536
-IsNumbered (call.Abort fd) = fd < 65536
-IsNumbered (call.Close fd) = fd < 65536
+IsNumbered (call.Read fd at len) = fd < descriptor_span
+IsNumbered (call.Write fd at bytes) = fd < descriptor_span
+IsNumbered (call.Cut fd len) = fd < descriptor_span
+IsNumbered (call.Commit fd) = fd < descriptor_span
+IsNumbered (call.Abort fd) = fd < descriptor_span
+IsNumbered (call.Close fd) = fd < descriptor_span
 IsNumbered _ = Unit {0}

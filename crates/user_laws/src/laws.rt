@@ -20,8 +20,8 @@ ghost use Rattle.role_steps.specs.Requests.{users_repeats, waiting_key, waiting_
 ghost use Rattle.role_steps.specs.Using.{goes_on, next_want, on_call, on_close_done, on_look_done, on_op_done, on_open_done, reply_record, takes_record, with_answer};
 ghost use Rattle.role_steps.specs.Views.{Frame, Shown, Told, Users};
 ghost use Rattle.role_steps.specs.declared.users.WaitingCall.{WaitingCall};
-ghost use Rattle.the_run.specs.Kept.{Among};
-ghost use Rattle.the_run.specs.Worlds.{Line, told_onto};
+ghost use Rattle.tree_laws.specs.of_the_run.Kept.{Among};
+ghost use Rattle.tree_laws.specs.of_the_run.Worlds.{Line, told_onto};
 ghost use Rattle.tree_laws.specs.Calls.{is_request, request_number, tries, Waits};
 ghost use Rattle.tree_laws.specs.Past.{WasLooked};
 ghost use Rattle.tree_laws.specs.Printed.{entries};

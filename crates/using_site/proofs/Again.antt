@@ -1,6 +1,7 @@
 -- A call that looks again: it asks the same with the next take, or stands as it stood.
 use Rattle.std.proofs.Common.{◌≡◌, ℕ, List, Option, Some, refl, sym, ap, ◌∙◌, subst}
 use Rattle.std.proofs.lemmas.List.{append-nil}
+use Rattle.role_steps.proofs.of_plain_facts.Options.{some_same}
 use Rattle.locus_ids.specs.declared.ids.FileId.{FileId}
 use Rattle.trace_book.specs.declared.operation.What.{What}
 use Rattle.wire_messages.specs.Outboxes.{Outgoing}
@@ -14,11 +15,11 @@ use Rattle.role_steps.specs.declared.users.WaitingCall.{WaitingCall}
 use Rattle.keyed_tables.specs.Rising.{Rising}
 use Rattle.using_site.specs.Steps.{Gives}
 use Rattle.using_site.proofs.Going.{with_waiting_rows}
-use Rattle.using_site.proofs.Taken.{put_back, same_some}
+use Rattle.using_site.proofs.Taken.{put_back}
 
 -- the call that was taken out of the row is the call that stood there
 pub row_was : (u v : Users) (key : ℕ) (w x found : WaitingCall) → v ≡ u → x ≡ found → ◌≡◌ {A = Option WaitingCall} (Some found) (row waiting_key key v.waiting) → ◌≡◌ {A = Option WaitingCall} (row waiting_key key u.waiting) (Some w) → x ≡ w
-row_was u v key w x found e i r h = i ∙ same_some found w (r ∙ (ap (λ (z : Users). row waiting_key key z.waiting) e ∙ h))
+row_was u v key w x found e i r h = i ∙ some_same found w (r ∙ (ap (λ (z : Users). row waiting_key key z.waiting) e ∙ h))
 
 quiet_of : (f : Frame) (w : WaitingCall) (k : Asking) (u : Users) → ((file : FileId) (asked : What) (take : ℕ) → k ≡ asking.Look file asked take → ⊥) → looks_again f w k u ≡ quiet u
 quiet_of f w (asking.Look file asked take) u n = absurd (n file asked take refl)

@@ -1,5 +1,6 @@
 -- The waiting call that an answer is for, by its key.
 use Rattle.std.proofs.Common.{◌≡◌, ℕ, Bool, List, Option, Some, None, refl, sym, ap, ◌∙◌, subst}
+use Rattle.role_steps.proofs.of_plain_facts.Options.{some_same}
 use Rattle.role_steps.specs.Tables.{row, first_that}
 use Rattle.role_steps.specs.Requests.{waiting_key}
 use Rattle.role_steps.specs.declared.users.WaitingCall.{WaitingCall}
@@ -7,23 +8,12 @@ use Rattle.keyed_tables.specs.Rising.{Rising}
 use Rattle.using_site.specs.Rows.{key_of}
 use Rattle.using_site.proofs.Taken.{row_of_first}
 
-key_eq : (a b : ℕ) → ◌≡◌ {A = Option ℕ} (Some a) (Some b) → a ≡ b
-key_eq a b e = cc
-
 none_key : {P : Type 0} (b : ℕ) → ◌≡◌ {A = Option ℕ} None (Some b) → P
 none_key b e = absurd (cc)
-
-some_none : {P : Type 0} (b : ℕ) → ◌≡◌ {A = Option ℕ} (Some b) None → P
-some_none b e = absurd (cc)
 
 -- where a key is found, some call passes, and that key is its row's
 pub asker : {P : Type 0} (test : WaitingCall → Bool) (rows : List WaitingCall) (key : ℕ) → Rising waiting_key rows → ◌≡◌ {A = Option ℕ} (Some key) (key_of (first_that test rows)) → ((w : WaitingCall) → first_that test rows ≡ Some w → row waiting_key key rows ≡ Some w → P) → P
 asker {P = P} test rows key r h f = by (first_that test rows) refl where
   by : (o : Option WaitingCall) → first_that test rows ≡ o → P
   by None e = none_key key (sym (h ∙ ap key_of e))
-  by (Some w) e = f w e (subst (λ k. row waiting_key k rows ≡ Some w) (key_eq (waiting_key w) key (sym (h ∙ ap key_of e))) (row_of_first waiting_key test w rows r e))
-
--- where none is found, no call passes
-pub nobody : (o : Option WaitingCall) → ◌≡◌ {A = Option ℕ} None (key_of o) → o ≡ None
-nobody None h = refl
-nobody (Some w) h = none_key (waiting_key w) h
+  by (Some w) e = f w e (subst (λ k. row waiting_key k rows ≡ Some w) (some_same (waiting_key w) key (sym (h ∙ ap key_of e))) (row_of_first waiting_key test w rows r e))

@@ -5,8 +5,8 @@ use Rattle.std.specs.declared.result.Result.{Result}
 use Rattle.std.specs.Prelude.{OnOk}
 use Rattle.locus_ids.specs.declared.ids.FileId.{FileId}
 use Rattle.locus_ids.specs.declared.ids.Stamp.{Stamp}
-use Rattle.dir_format.specs.Contents.{entries_of}
-use Rattle.dir_format.specs.Lookups.{shown_names}
+use Rattle.role_steps.specs.of_dir_format.Contents.{entries_of}
+use Rattle.role_steps.specs.of_dir_format.Lookups.{shown_names}
 use Rattle.trace_book.specs.declared.operation.What.{What}
 use Rattle.trace_book.specs.declared.operation.What.TheVariants as what
 use Rattle.call_rules.specs.declared.answer.Answer.{Answer}

@@ -1,5 +1,6 @@
 -- A call takes an answer, and goes on while its row is taken out.
 use Rattle.std.proofs.Common.{◌≡◌, ℕ, List, [], ◌∷◌, ◌++◌, Option, Some, refl, ap, ◌∙◌, subst}
+use Rattle.role_steps.proofs.of_plain_facts.Options.{some_same}
 use Rattle.trace_book.specs.declared.reply.Reply.{Reply}
 use Rattle.call_rules.specs.declared.want.Want.{Want}
 use Rattle.call_rules.specs.declared.answer.Answer.{Answer}
@@ -16,7 +17,7 @@ use Rattle.using_site.specs.declared.step.Step.{Step}
 use Rattle.using_site.specs.declared.step.Step.TheVariants.{Asks, Replies, Stays}
 use Rattle.using_site.specs.Steps.{after_step, Gives}
 use Rattle.using_site.specs.Called.{with_content}
-use Rattle.using_site.proofs.Taken.{row_key, same_some}
+use Rattle.using_site.proofs.Taken.{row_key}
 use Rattle.using_site.proofs.Going.{Gone, with_waiting_rows, stayed_view, stayed_sent, stayed_told}
 use Rattle.using_site.proofs.Replies.{content_key, gone_asks, gone_replies, row_out, taken}
 
@@ -35,7 +36,7 @@ pub record Taking (f : Frame) (u v u2 : Users) (rows : List WaitingCall) (key : 
 
 pub was : {f : Frame} {u v u2 : Users} {rows : List WaitingCall} {key : ℕ} {w x before found : WaitingCall} {content : Option (List ℕ)} {a : Answer} {want : Want} {s : Step} → Taking f u v u2 rows key w x before found content a want s → before ≡ w
 was {v = v} {key = key} {w = w} {found = found} t =
-    t.found_is ∙ same_some found w (t.removed ∙ (ap (λ (z : Users). row waiting_key key z.waiting) t.view_is ∙ t.row_is))
+    t.found_is ∙ some_same found w (t.removed ∙ (ap (λ (z : Users). row waiting_key key z.waiting) t.view_is ∙ t.row_is))
 
 pub heard_by : {f : Frame} {u v u2 : Users} {rows : List WaitingCall} {key : ℕ} {w x before found : WaitingCall} {content : Option (List ℕ)} {a : Answer} {want : Want} {s : Step} → Taking f u v u2 rows key w x before found content a want s → x ≡ with_answer (with_content content w) a
 heard_by {content = content} {a = a} t = t.heard ∙ ap (λ (z : WaitingCall). with_answer (with_content content z) a) (was t)

@@ -7,5 +7,4 @@ pub mod Free
 pub mod Going
 pub mod Hearing
 pub mod Replies
-pub mod Seen
 pub mod Taken

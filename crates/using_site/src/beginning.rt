@@ -1,9 +1,11 @@
 ghost use Rattle.std.specs.Prelude.{◌≡◌, ◌+◌, length, nat_lt};
+ghost use Rattle.locus_ids.specs.Sizes.{file_bytes_max};
 ghost use Rattle.commit_graph.specs.Grants.{is_read};
 ghost use Rattle.call_rules.specs.Descriptors.{beginning, begins_on, begins_open, begins_walk, is_in};
 ghost use Rattle.role_steps.specs.Requests.{descriptors_of};
 
 use crate::users::UsingSite;
+use locus_ids::sizes::FILE_BYTES;
 use locus_ids::{EpochId, Mode, Refusal};
 use trace_book::{Beginning, Call, Descriptor};
 
@@ -36,9 +38,9 @@ impl UsingSite {
 
 /// A write of these bytes would end past the greatest size.
 fn is_past_greatest(at: u32, bytes: &[u8]) -> bool
-    ensures { result ≡ nat_lt 65536 (at + length bytes.now) }
+    ensures { result ≡ nat_lt file_bytes_max (at + length bytes.now) }
 {
-    65_536 < at || 65_536 - (at as usize) < bytes.len()
+    (FILE_BYTES as u32) < at || FILE_BYTES - (at as usize) < bytes.len()
 }
 
 /// A call on a descriptor: it must be open, of the epoch that the site is in, and not only read where the call changes the

@@ -13,7 +13,7 @@ use std::alloc::Global;
 use trace_book::{Beginning, Call};
 
 /// A call that has no reply yet, without the request that it waits for.
-#[derive(Debug, Drop)]
+#[derive(Drop)]
 pub(crate) struct Caller {
     /// 0 for a mend, which its site calls itself.
     pub(crate) process: u8,

@@ -3,13 +3,14 @@ ghost use Rattle.role_steps.specs.Requests.{opened_serial, seen_by, vector_opene
 
 use crate::users::UsingSite;
 use call_rules::Answer;
+use locus_ids::sizes::SITES;
 use trace_book::Op;
 use version_vector::Vector;
 
 impl UsingSite {
     /// What an operation has seen of its entry: for a remove, the version on which its call opened the file that the entry
     /// names; for each other, nothing.
-    pub(crate) fn seen_by(&self, answers: &[Answer], op: &Op) -> Vector<16>
+    pub(crate) fn seen_by(&self, answers: &[Answer], op: &Op) -> Vector<SITES>
         ensures { result ≡ seen_by self.now answers.now op.now }
     {
         match op {
@@ -19,7 +20,7 @@ impl UsingSite {
     }
 
     /// The vector that the open of this serial number was answered.
-    fn vector_opened(&self, serial: Option<u32>) -> Vector<16>
+    fn vector_opened(&self, serial: Option<u32>) -> Vector<SITES>
         ensures { result ≡ vector_opened self.now serial }
     {
         match serial {

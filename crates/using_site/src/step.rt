@@ -2,7 +2,7 @@ use role_steps::Asking;
 use trace_book::Reply;
 
 /// What becomes of a call.
-#[derive(Debug, Drop)]
+#[derive(Drop)]
 pub(crate) enum Step {
     /// It asks this next.
     Asks { asking: Asking },

@@ -7,6 +7,7 @@ ghost use Rattle.call_rules.specs.Descriptors.{lowest_free};
 
 use crate::waiting::Waiting;
 use keyed_tables::{SortedTable, descriptor_key};
+use locus_ids::sizes::DESCRIPTORS;
 use locus_ids::{FileId, ItemList};
 use role_steps::{DescriptorRow, UserInstance};
 use std::alloc::Global;
@@ -16,7 +17,7 @@ use trace_book::Descriptor;
 /// What the using site of a site has: how many calls it accepted and how many opens it asked in this boot, the calls that
 /// wait, the instances that it has open, the descriptors of its processes, and the directories whose mend was refused for
 /// want of room in this epoch.
-#[derive(Debug, Drop)]
+#[derive(Drop)]
 pub struct UsingSite {
     pub(crate) calls: u32,
     pub(crate) serials: u32,
@@ -83,7 +84,7 @@ impl UsingSite {
     pub fn lowest_free(&self, process: u8) -> Option<u16>
         ensures { result ≡ lowest_free (descriptors_of self.now process) }
     {
-        for fd in 0..16 {
+        for fd in 0..DESCRIPTORS {
             if self.descriptor(process, fd).is_none() {
                 return Some(fd);
             }

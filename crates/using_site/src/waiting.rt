@@ -13,7 +13,7 @@ use trace_book::What;
 use wire_messages::{Body, Opening, Outbox};
 
 /// A call that waits for the answer to its current request.
-#[derive(Debug, Drop)]
+#[derive(Drop)]
 pub(crate) struct Waiting {
     pub(crate) caller: Caller,
     pub(crate) asking: Asking,

@@ -3,14 +3,12 @@ use Rattle.std.proofs.Common.{◌≡◌, ℕ, List, ◌∷◌, ◌++◌, Option,
 use Rattle.trace_book.specs.declared.record.Record.{Record}
 use Rattle.trace_book.specs.declared.record.Record.TheVariants as says
 use Rattle.role_steps.specs.Own.{Every}
-use Rattle.role_steps.specs.Tables.{row, with_row}
 use Rattle.role_steps.specs.Views.{Told, Shown, Promises, DiskWrite, first_written}
-use Rattle.role_steps.specs.Storage.{copy_key}
 use Rattle.role_steps.specs.declared.copies.FileCopy.{FileCopy}
 use Rattle.role_steps.proofs.Sending.{every_append}
-use Rattle.the_run.proofs.Boots.{every_weaker}
+use Rattle.run_laws.proofs.of_the_run.Boots.{every_weaker}
 use Rattle.run_laws.specs.Words.{TalkRecord, Talk}
-use Rattle.vector_laws.specs.Held.{Replaces, StillRecord, Still, Untouched, Writes, OnDisk}
+use Rattle.vector_laws.specs.Held.{StillRecord, Still, Untouched, Writes, OnDisk}
 
 still_record : (r : Record) → TalkRecord r → StillRecord r
 still_record (says.Commit file s stamp parents content) h = h
@@ -35,29 +33,8 @@ none_then a b e f = subst (λ (x : Option DiskWrite). first_written x b ≡ None
 some_then : (a b : Option DiskWrite) (d : DiskWrite) → a ≡ Some d → first_written a b ≡ Some d
 some_then a b d e = subst (λ (x : Option DiskWrite). first_written x b ≡ Some d) (sym e) refl
 
-then_some : (a b : Option DiskWrite) (d : DiskWrite) → a ≡ None → b ≡ Some d → first_written a b ≡ Some d
-then_some a b d e f = subst (λ (x : Option DiskWrite). first_written x b ≡ Some d) (sym e) f
-
 pub untouched_then : (old mid new : List FileCopy) (a b : List Told) (v w : Option DiskWrite) → Untouched old mid a v → Untouched mid new b w → Untouched old new (a ++ b) (first_written v w)
 untouched_then old mid new a b v w h g = record { copies = g.copies ∙ h.copies; still = every_append Still a b h.still g.still; none = none_then v w h.none g.none }
-
--- first nothing, then maybe a version
-pub then_disk : (s : ℕ) (old mid new : List FileCopy) (a b : List Told) (v w : Option DiskWrite) → Untouched old mid a v → OnDisk s mid new b w → OnDisk s old new (a ++ b) (first_written v w)
-then_disk s old mid new a b v w h (inl g) = inl (untouched_then old mid new a b v w h g)
-then_disk s old mid new a b v w h (inr g) = inr (g.0, writes g.0 g.1)
-  where
-    writes : (d : DiskWrite) → Writes s mid new b w d → Writes s old new (a ++ b) (first_written v w) d
-    writes d k = record {
-      is_written = then_some v w d h.none k.is_written;
-      copies = k.copies ∙ ap (λ (xs : List FileCopy). with_row copy_key d.copy xs) h.copies;
-      says_so = k.says_so;
-      above = subst (λ (xs : List FileCopy). Replaces d.says d.copy (row copy_key (copy_key d.copy) xs)) h.copies k.above;
-      before = a ++ k.before;
-      after = k.after;
-      told_is = ap (λ (xs : List Told). a ++ xs) k.told_is ∙ sym (append_assoc a k.before (Shown d.says ∷ k.after));
-      still_before = every_append Still a k.before h.still k.still_before;
-      still_after = k.still_after;
-    }
 
 -- maybe a version, then nothing
 pub disk_then : (s : ℕ) (old mid new : List FileCopy) (a b : List Told) (v w : Option DiskWrite) → OnDisk s old mid a v → Untouched mid new b w → OnDisk s old new (a ++ b) (first_written v w)

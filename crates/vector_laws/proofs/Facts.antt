@@ -26,7 +26,7 @@ use Rattle.role_steps.specs.declared.synchronizing.OpenRow.{OpenRow}
 use Rattle.role_steps.specs.declared.synchronizing.OpenStage.{OpenStage}
 use Rattle.role_steps.specs.declared.synchronizing.OpenStage.TheVariants as opening
 use Rattle.role_steps.proofs.Sending.{every_append}
-use Rattle.the_run.proofs.Boots.{every_weaker}
+use Rattle.run_laws.proofs.of_the_run.Boots.{every_weaker}
 use Rattle.vector_laws.specs.Written.{NumberedRecord, NumberedTold, JoinsAll, WrittenAs, WasBegun, WasGranted, InstancesAgree}
 use Rattle.vector_laws.specs.Facts.{NotCommitRecord, NotCommit, NumberedAll, DiskFact, Fine, ReportedFact, BaseFact, MaybeMade, BodyFact, PacketFact, NoFact, Factless, CopyFact, PullFact, ClosingFact, StageFact, LastMade, InstanceFact, StoreFact, VersionFact, RowFact, GrantFact, OpenFact, TableFact, InEpochFact, ViewFact, onto, file_in}
 

@@ -1,7 +1,8 @@
 -- In every run whose instances agree each copy has its written vector, and each commit is numbered by its parents.
 use Rattle.std.proofs.Common.{◌≡◌, ℕ, ◌+◌, ◌==◌, Bool, true, false, cond, List, [], ◌∷◌, map, Option, Some, None, refl, sym, ◌∙◌, ap, subst, inl, inr}
+use Rattle.role_steps.proofs.of_plain_facts.Options.{some_same}
 use Rattle.locus_ids.specs.declared.config.Config.{Config}
-use Rattle.schedule_lines.specs.declared.line.ScheduleLine.{ScheduleLine}
+use Rattle.run_laws.specs.of_schedule_lines.declared.line.ScheduleLine.{ScheduleLine}
 use Rattle.trace_book.specs.declared.record.Record.TheVariants as says
 use Rattle.trace_book.specs.declared.record.StopCause.{StopCause}
 use Rattle.trace_book.specs.declared.record.StopCause.TheVariants as cause
@@ -12,15 +13,15 @@ use Rattle.role_steps.specs.Views.{SiteView, Told, Shown, DiskWrite, Outcome, Ev
 use Rattle.role_steps.specs.Storage.{copy_key}
 use Rattle.role_steps.specs.declared.copies.FileCopy.{FileCopy}
 use Rattle.role_steps.proofs.Sending.{every_append, every_map}
-use Rattle.the_run.specs.Disks.{Disk, Booted, Whole, CutOff, boots, cut_disk, is_on_disk}
-use Rattle.the_run.specs.Steps.{step}
-use Rattle.the_run.specs.Worlds.{World, Place, Running, Stopped, Numbered, Line, number_of, links_of, place_at, place_in, place_site, script_of, happened, numbered_from, told_onto, disk_of, puts, arms, passed, stops_with, cause_of, acts, fresh, root_copy, formatted, first_place, first_world}
-use Rattle.the_run.specs.Runs.{boots_as, packet_record, run_in}
-use Rattle.the_run.specs.Kept.{WasSent, IsOwn, Kept}
-use Rattle.the_run.proofs.Boots.{at_each, acts_cases, every_newest, every_numbered, every_weaker}
-use Rattle.the_run.proofs.Events.{happened_keeps, puts_other, puts_same}
-use Rattle.the_run.proofs.InsideSync.{every_row, every_without}
-use Rattle.the_run.proofs.Runs.{every_run, some_eq}
+use Rattle.run_laws.specs.of_the_run.Disks.{Disk, Booted, Whole, CutOff, boots, cut_disk, is_on_disk}
+use Rattle.run_laws.specs.of_the_run.Steps.{step}
+use Rattle.run_laws.specs.of_the_run.Worlds.{World, Place, Running, Stopped, Numbered, Line, number_of, links_of, place_at, place_in, place_site, script_of, happened, numbered_from, told_onto, disk_of, puts, arms, passed, stops_with, cause_of, acts, fresh, root_copy, formatted, first_place, first_world}
+use Rattle.run_laws.specs.of_the_run.Runs.{boots_as, packet_record, run_in}
+use Rattle.run_laws.specs.of_the_run.Kept.{WasSent, IsOwn, Kept}
+use Rattle.run_laws.proofs.of_the_run.Boots.{at_each, acts_cases, every_newest, every_numbered, every_weaker}
+use Rattle.run_laws.proofs.of_the_run.Events.{happened_keeps, puts_other, puts_same}
+use Rattle.run_laws.proofs.of_the_run.InsideSync.{every_row, every_without}
+use Rattle.run_laws.proofs.of_the_run.Runs.{every_run}
 use Rattle.run_laws.specs.Naming.{Deeds, DeedsOf, Good}
 use Rattle.run_laws.proofs.Run.{good_kept, first_good, found_among, was_sent}
 use Rattle.run_laws.proofs.Steps.{EventNames}
@@ -112,7 +113,7 @@ old_place past now w l e f t p here = record {
 
 places_of : (s : ℕ) (new : Place) (told : List Told) (w : World) → WorldFact w → PlaceFact (onto told (past_of w.trace)) new → (t : ℕ) (p : Place) → place_at (puts s new w) t ≡ Some p → PlaceFact (onto told (past_of w.trace)) p
 places_of s new told w f fine t p here = at_each s t (PlaceFact (onto told (past_of w.trace)) p)
-    (λ e. subst (PlaceFact (onto told (past_of w.trace))) (some_eq new p (sym (puts_same s new w) ∙ (ap (place_at (puts s new w)) e ∙ here))) fine)
+    (λ e. subst (PlaceFact (onto told (past_of w.trace))) (some_same new p (sym (puts_same s new w) ∙ (ap (place_at (puts s new w)) e ∙ here))) fine)
     (λ ne. old_place (past_of w.trace) (onto told (past_of w.trace)) w (onto_later told (past_of w.trace)) refl f t p (sym (puts_other s t new w ne) ∙ here))
 
 -- a stop that leaves the disk as it is
@@ -155,7 +156,7 @@ acts_fact n s v o w here fine g =
     acts_cases WhereAgreed n s v o w
     (happened_fact n o.sent o.told (λ now. puts s (Running o.view) now) w owed refl refl g)
     (λ a. happened_fact n o.sent o.told (λ now. puts s (Running o.view) (arms a now)) w (λ h f. (let r : Owed o.told o.sent (λ now. puts s (Running o.view) now) w = owed h f in record { numbered = r.numbered; sent = r.sent; places = r.places })) refl refl g)
-    (λ d a e. cut_fact n s v d (cut_disk v.boot v.store d a.how a.left) (cause_of a.how) (is_on_disk d a.how a.left) w here refl (λ h f. (let k : SiteFine (past_of w.trace) o = fine h f in subst (DiskFact (past_of w.trace)) e k.disk)) g)
+    (λ d a e. cut_fact n s v d (cut_disk v.boot v.store d a.how a.left) (cause_of a.how) (is_on_disk v.store d a.how a.left) w here refl (λ h f. (let k : SiteFine (past_of w.trace) o = fine h f in subst (DiskFact (past_of w.trace)) e k.disk)) g)
   where
     owed : InstancesAgree (past_of w.trace) → WorldFact w → Owed o.told o.sent (λ now. puts s (Running o.view) now) w
     owed h f = let k : SiteFine (past_of w.trace) o = fine h f in record { numbered = k.numbered; sent = k.sent; places = places_of s (Running o.view) o.told w f (running_fact (onto o.told (past_of w.trace)) o.view k.view) }
@@ -261,7 +262,7 @@ first_fact : (c : Config) (ss : List ℕ) (s : ℕ) (p : Place) → place_in (ro
 first_fact c [] s p e = absurd (none_place p e)
 first_fact c (t ∷ ts) s p e =
     (elim (t == s) as (λ b. place_in (elim b [ true ↦ Some (first_place c t) | false ↦ row place_site s (map (first_place c) ts) ]) ≡ Some p → PlaceFact [] p) [
-      | true ↦ λ f. subst (PlaceFact []) (some_eq (Running (fresh 1 (formatted c t))) p f) (running_fact [] (fresh 1 (formatted c t)) (record { copies = formatted_fact c t; pulls = tt; inside = refl }))
+      | true ↦ λ f. subst (PlaceFact []) (some_same (Running (fresh 1 (formatted c t))) p f) (running_fact [] (fresh 1 (formatted c t)) (record { copies = formatted_fact c t; pulls = tt; inside = refl }))
       | false ↦ λ f. first_fact c ts s p f
     ]) e
 

@@ -1,6 +1,7 @@
 -- Adoptions, mends, and how an epoch is formed: what a site keeps and sends of versions is as it was told.
 use Rattle.std.proofs.Common.{◌≡◌, ℕ, ◌+◌, ◌==◌, Bool, true, false, cond, ◌&&◌, not, List, [], ◌∷◌, Option, Some, None, refl, sym, subst, arith}
 use Rattle.std.proofs.lemmas.Bool.Decides.{nat_tests}
+use Rattle.role_steps.proofs.of_plain_facts.Tests.{both_true, not_true}
 use Rattle.locus_ids.specs.declared.ids.EpochId.{EpochId}
 use Rattle.locus_ids.specs.declared.ids.FileId.{FileId}
 use Rattle.locus_ids.specs.declared.sites.Links.{Links}
@@ -30,10 +31,10 @@ use Rattle.role_steps.specs.declared.synchronizing.SyncTable.{SyncTable}
 use Rattle.role_steps.specs.declared.synchronizing.FileRow.{FileRow}
 use Rattle.role_steps.specs.declared.users.WaitingCall.{WaitingCall}
 use Rattle.role_steps.proofs.Sending.{every_cond, every_map, every_flat_map}
-use Rattle.the_run.specs.Steps.{adopts_of, starts_mends_of, ends_event}
-use Rattle.the_run.proofs.InsideSync.{every_row, every_without, Found, row_found}
+use Rattle.run_laws.specs.of_the_run.Steps.{adopts_of, starts_mends_of, ends_event}
+use Rattle.run_laws.proofs.of_the_run.InsideSync.{every_row, every_without, Found, row_found}
 use Rattle.run_laws.specs.Naming.{Deeds, ViewOk}
-use Rattle.run_laws.proofs.RolesTell.{on_call_talks}
+use Rattle.run_laws.proofs.Telling.{on_call_talks}
 use Rattle.vector_laws.specs.Written.{WrittenAs}
 use Rattle.vector_laws.specs.Facts.{ReportedFact, PacketFact, Factless, CopyFact, PullFact, InstanceFact, RowFact, TableFact, InEpochFact, ViewFact, NotCommit, onto}
 use Rattle.vector_laws.proofs.Facts.{Later, one_later, onto_later, copies_later, pulls_later, instances_later, tables_later, numbered_none, then_fine}
@@ -45,9 +46,6 @@ use Rattle.vector_laws.proofs.SiteDisks.{starts_mends_keeps}
 use Rattle.vector_laws.proofs.SiteFacts.{SiteFine, talk_none, inside_alike, plain_fine, quiet_fact, inside_of}
 
 -- ---- adoptions ----
-
-none_some : {A : Type 0} (x : A) → ◌≡◌ {A = Option A} None (Some x) → ⊥
-none_some x e = cc
 
 noted_fact : (f : Frame) (past : List Told) (p : Pull) (e : InEpoch) (o : Option SyncTable) (v : SiteView) → f.epoch ≡ e.id → v.epoch ≡ Some e → Found (TableFact past e.id) o → ViewFact past v → ViewFact past (notes_own_at f p o v)
 noted_fact f past p e None v at here k h = h
@@ -208,16 +206,6 @@ joins_fact c me past id m v gone h =
       numbered = (tt, tt);
       disk = tt;
     }
-
-pub both_true : (a b : Bool) → (a && b) ≡ true → (a ≡ true) × (b ≡ true)
-both_true true true h = (refl, refl)
-both_true true false h = absurd (cc)
-both_true false true h = absurd (cc)
-both_true false false h = absurd (cc)
-
-not_true : (a : Bool) → not a ≡ true → a ≡ false
-not_true true h = absurd (cc)
-not_true false h = refl
 
 pub on_install_fact : (K : Deeds) (c : Config) (me : ℕ) (past : List Told) (from from_boot : ℕ) (id : EpochId) (m : Members) (v : SiteView) → ViewOk K v → ViewFact past v → SiteFine past (on_install c me from from_boot id m v)
 on_install_fact K c me past from from_boot id m v ok h =

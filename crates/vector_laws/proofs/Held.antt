@@ -1,9 +1,11 @@
 -- In every run each disk holds of each file the version that its site committed or adopted last.
 use Rattle.std.proofs.Common.{◌≡◌, ◌≢◌, ℕ, zero, suc, ◌==◌, Bool, true, false, cond, List, [], ◌∷◌, ◌++◌, map, Option, Some, None, refl, sym, ◌∙◌, ap, subst, inl, inr, arith}
 use Rattle.std.proofs.lemmas.Bool.Decides.{nat_tests}
+use Rattle.role_steps.proofs.of_plain_facts.Numbers.{apart_test, equal, equal_self}
+use Rattle.role_steps.proofs.of_plain_facts.Options.{some_same}
 use Rattle.locus_ids.specs.declared.ids.FileId.{FileId}
 use Rattle.locus_ids.specs.declared.config.Config.{Config}
-use Rattle.schedule_lines.specs.declared.line.ScheduleLine.{ScheduleLine}
+use Rattle.run_laws.specs.of_schedule_lines.declared.line.ScheduleLine.{ScheduleLine}
 use Rattle.trace_book.specs.declared.record.Record.{Record}
 use Rattle.trace_book.specs.declared.record.Record.TheVariants as says
 use Rattle.trace_book.specs.declared.record.StopCause.TheVariants as cause
@@ -13,16 +15,16 @@ use Rattle.role_steps.specs.Tables.{row, with_row}
 use Rattle.role_steps.specs.Views.{SiteView, Told, Shown, DiskWrite, Outcome, Receives, file_key}
 use Rattle.role_steps.specs.Storage.{copy_key}
 use Rattle.role_steps.specs.declared.copies.FileCopy.{FileCopy}
-use Rattle.role_steps.proofs.Rows.{differ, same, row_other, row_same}
+use Rattle.role_steps.proofs.Rows.{row_other, row_same}
 use Rattle.role_steps.proofs.Sending.{every_map}
-use Rattle.the_run.specs.Disks.{Disk, Armed, BootWrite, ClosesLosing, WritesBody, OpensHalf, ClosesOther, ClosesGate, boot_writes, written, is_left_written, Booted, Whole, CutOff, boots, boots_armed, boots_freely, cut_disk, is_on_disk}
-use Rattle.the_run.specs.Steps.{step}
-use Rattle.the_run.specs.Worlds.{World, Place, Running, Stopped, Numbered, Line, links_of, place_at, place_in, place_site, script_of, happened, told_onto, disk_of, puts, arms, passed, stops_with, cause_of, acts, fresh, first_place, formatted}
-use Rattle.the_run.specs.Runs.{boots_as, packet_record, run_in}
-use Rattle.the_run.specs.Kept.{Kept}
-use Rattle.the_run.proofs.Boots.{at_each, acts_cases}
-use Rattle.the_run.proofs.Events.{happened_keeps, puts_other, puts_same}
-use Rattle.the_run.proofs.Runs.{every_run, some_eq}
+use Rattle.run_laws.specs.of_the_run.Disks.{Disk, Armed, BootWrite, ClosesLosing, WritesBody, OpensHalf, ClosesOther, ClosesGate, boot_writes, written, is_left_written, Booted, Whole, CutOff, boots, boots_armed, boots_freely, cut_disk, is_on_disk}
+use Rattle.run_laws.specs.of_the_run.Steps.{step}
+use Rattle.run_laws.specs.of_the_run.Worlds.{World, Place, Running, Stopped, Numbered, Line, links_of, place_at, place_in, place_site, script_of, happened, told_onto, disk_of, puts, arms, passed, stops_with, cause_of, acts, fresh, first_place, formatted}
+use Rattle.run_laws.specs.of_the_run.Runs.{boots_as, packet_record, run_in}
+use Rattle.run_laws.specs.of_the_run.Kept.{Kept}
+use Rattle.run_laws.proofs.of_the_run.Boots.{at_each, acts_cases}
+use Rattle.run_laws.proofs.of_the_run.Events.{happened_keeps, puts_other, puts_same}
+use Rattle.run_laws.proofs.of_the_run.Runs.{every_run}
 use Rattle.vector_laws.specs.Held.{after_record, after_told, last_write, IsOf, IsHeld, copies_on, CopiesAreTold, StillRecord, Still}
 use Rattle.vector_laws.proofs.SiteDisks.{SiteDisk, step_disk}
 
@@ -56,7 +58,7 @@ one_writes s key (x ∷ xs) after r last h g = ap (λ (o : Option Record). write
 
 -- what a site writes isn't told of another one
 other_case : (s t : ℕ) (a b : Option Record) → s ≢ t → cond (s == t) a b ≡ b
-other_case s t a b ne = subst (λ (x : Bool). cond x a b ≡ b) (sym (differ s t ne)) refl
+other_case s t a b ne = subst (λ (x : Bool). cond x a b ≡ b) (sym (apart_test s t ne)) refl
 
 other_record : (s t key : ℕ) (r : Record) (x : FileCopy) (last : Option Record) → s ≢ t → IsOf s r x → after_record t key r last ≡ last
 other_record s t key (says.Commit file u stamp parents content) x last ne h = other_case u t _ last (subst (λ (y : ℕ). y ≢ t) (sym h.0) ne)
@@ -66,10 +68,7 @@ other_record s t key _ x last ne h = absurd h
 -- ---- one row of a disk ----
 
 own_case : (s : ℕ) (a b : Option Record) → cond (s == s) a b ≡ a
-own_case s a b = subst (λ (t : Bool). cond t a b ≡ a) (sym (same s)) refl
-
-test_same : (a b : ℕ) → (a == b) ≡ true → a ≡ b
-test_same a b e = grind (arith, nat_tests)
+own_case s a b = subst (λ (t : Bool). cond t a b ≡ a) (sym (equal_self s)) refl
 
 -- the record of a copy that is written, at its own key and at any other
 record_at : (s key : ℕ) (r : Record) (x : FileCopy) (last : Option Record) → IsOf s r x → after_record s key r last ≡ cond (copy_key x == key) (Some r) last
@@ -89,7 +88,7 @@ row_held : (c : Config) (s key : ℕ) (r : Record) (x : FileCopy) (copies : List
 row_held c s key r x copies last is h = (elim (copy_key x == key) as (λ b. (copy_key x == key) ≡ b → IsHeld c s key (after_record s key r last) (row copy_key key (with_row copy_key x copies))) [
   | true ↦ λ e. held_same c s key (after_record s key r last) (Some r) (row copy_key key (with_row copy_key x copies)) (Some x)
       (record_at s key r x last is ∙ ap (λ (b : Bool). cond b (Some r) last) e)
-      (subst (λ (k : ℕ). row copy_key k (with_row copy_key x copies) ≡ Some x) (test_same (copy_key x) key e) (row_same copy_key x copies)) is
+      (subst (λ (k : ℕ). row copy_key k (with_row copy_key x copies) ≡ Some x) (equal (copy_key x) key e) (row_same copy_key x copies)) is
   | false ↦ λ e. held_same c s key (after_record s key r last) last (row copy_key key (with_row copy_key x copies)) (row copy_key key copies)
       (record_at s key r x last is ∙ ap (λ (b : Bool). cond b (Some r) last) e) (row_other copy_key x key copies e) h
 ]) refl
@@ -116,7 +115,7 @@ still_event c n s old new told ps change w here disk same_places h g =
     (λ ne. still_onto c n t told w.trace (copies_on p) h (λ key. g t key p (sym (puts_other s t new w ne) ∙ (sym (same_places t) ∙ at))))) g
   where
     mine : (p : Place) → Some new ≡ Some p → DiskIsTold c s (told_onto n told w.trace) (copies_on p)
-    mine p e = subst (λ (q : Place). DiskIsTold c s (told_onto n told w.trace) (copies_on q)) (some_eq new p e) (subst (λ (xs : List FileCopy). DiskIsTold c s (told_onto n told w.trace) xs) (sym disk) (still_onto c n s told w.trace (copies_on old) h (λ key. g s key old here)))
+    mine p e = subst (λ (q : Place). DiskIsTold c s (told_onto n told w.trace) (copies_on q)) (some_same new p e) (subst (λ (xs : List FileCopy). DiskIsTold c s (told_onto n told w.trace) xs) (sym disk) (still_onto c n s told w.trace (copies_on old) h (λ key. g s key old here)))
 
 quiet_event : (c : Config) (n : ℕ) (told : List Told) (w : World) → Every Still told → CopiesAreTold c w → CopiesAreTold c (happened n [] told (λ now. now) w)
 quiet_event c n told w h g = happened_told c n [] told (λ now. now) w (λ t p at. still_onto c n t told w.trace (copies_on p) h (λ key. g t key p at)) g
@@ -136,7 +135,7 @@ write_event c n s old new d before after told ps change w here disk is e h k sam
     own key = held_same c s key (last_write s key (told_onto n told w.trace)) (after_record s key d.says (last_write s key w.trace)) (row copy_key key (with_row copy_key d.copy (copies_on old))) (row copy_key key (with_row copy_key d.copy (copies_on old))) (now s key) refl (row_held c s key d.says d.copy (copies_on old) (last_write s key w.trace) is (g s key old here))
 
     mine : (p : Place) → Some new ≡ Some p → DiskIsTold c s (told_onto n told w.trace) (copies_on p)
-    mine p f = subst (λ (q : Place). DiskIsTold c s (told_onto n told w.trace) (copies_on q)) (some_eq new p f) (subst (λ (xs : List FileCopy). DiskIsTold c s (told_onto n told w.trace) xs) (sym disk) own)
+    mine p f = subst (λ (q : Place). DiskIsTold c s (told_onto n told w.trace) (copies_on q)) (some_same new p f) (subst (λ (xs : List FileCopy). DiskIsTold c s (told_onto n told w.trace) xs) (sym disk) own)
 
 -- ---- a step of a site ----
 
@@ -154,10 +153,6 @@ runs_told c n s v o change w here (inr h) same_places g = write_event c n s (Run
 no_write : (d : DiskWrite) → ◌≡◌ {A = Option DiskWrite} None (Some d) → ⊥
 no_write d e = cc
 
--- an event that is cut off: what is on the disk is told, and nothing else
-cut_copies : (v : SiteView) (d : DiskWrite) (b : Bool) → List FileCopy
-cut_copies v d b = cond b (with_row copy_key d.copy v.store.copies) v.store.copies
-
 cut_case : (c : Config) (n s : ℕ) (v : SiteView) (d : DiskWrite) (disk : Disk) (how : _) (b : Bool) (w : World) → place_at w s ≡ Some (Running v) → disk.copies ≡ cond b (with_row copy_key d.copy v.store.copies) v.store.copies → IsOf s d.says d.copy → CopiesAreTold c w →
     CopiesAreTold c (happened n [] (cond b (Shown d.says ∷ Shown (says.Stopped s how) ∷ []) (Shown (says.Stopped s how) ∷ [])) (stops_with s disk) w)
 cut_case c n s v d disk how true w here e is g = write_event c n s (Running v) (Stopped disk) d [] (Shown (says.Stopped s how) ∷ []) (Shown d.says ∷ Shown (says.Stopped s how) ∷ []) [] (stops_with s disk) w here e is refl tt (tt, tt) (λ t. refl) g
@@ -165,14 +160,14 @@ cut_case c n s v d disk how false w here e is g = still_event c n s (Running v) 
 
 write_is : (s : ℕ) (v : SiteView) (o : Outcome SiteView) (d : DiskWrite) → o.written ≡ Some d → SiteDisk s v o → IsOf s d.says d.copy
 write_is s v o d e (inl h) = absurd (no_write d (sym h.none ∙ e))
-write_is s v o d e (inr h) = subst (λ (x : DiskWrite). IsOf s x.says x.copy) (some_eq h.0 d (sym h.1.is_written ∙ e)) h.1.says_so
+write_is s v o d e (inr h) = subst (λ (x : DiskWrite). IsOf s x.says x.copy) (some_same h.0 d (sym h.1.is_written ∙ e)) h.1.says_so
 
 acts_told : (c : Config) (n s : ℕ) (v : SiteView) (o : Outcome SiteView) (w : World) → place_at w s ≡ Some (Running v) → SiteDisk s v o → CopiesAreTold c w → CopiesAreTold c (acts n s v o w)
 acts_told c n s v o w here h g =
     acts_cases (CopiesAreTold c) n s v o w
     (runs_told c n s v o (λ now. now) w here h (λ t. refl) g)
     (λ a. runs_told c n s v o (arms a) w here h (λ t. refl) g)
-    (λ d a e. cut_case c n s v d (cut_disk v.boot v.store d a.how a.left) (cause_of a.how) (is_on_disk d a.how a.left) w here refl (write_is s v o d e h) g)
+    (λ d a e. cut_case c n s v d (cut_disk v.boot v.store d a.how a.left) (cause_of a.how) (is_on_disk v.store d a.how a.left) w here refl (write_is s v o d e h) g)
 
 -- ---- a boot leaves the copies as they are ----
 
@@ -239,7 +234,7 @@ first_copies : (c : Config) (ss : List ℕ) (s key : ℕ) (p : Place) → place_
 first_copies c [] s key p e = absurd (none_place p e)
 first_copies c (t ∷ ts) s key p e =
     (elim (t == s) as (λ b. (t == s) ≡ b → place_in (elim b [ true ↦ Some (first_place c t) | false ↦ row place_site s (map (first_place c) ts) ]) ≡ Some p → row copy_key key (copies_on p) ≡ row copy_key key (formatted c s)) [
-      | true ↦ λ q f. subst (λ (x : Place). row copy_key key (copies_on x) ≡ row copy_key key (formatted c s)) (some_eq (Running (fresh 1 (formatted c t))) p f) (ap (λ (u : ℕ). row copy_key key (formatted c u)) (test_same t s q))
+      | true ↦ λ q f. subst (λ (x : Place). row copy_key key (copies_on x) ≡ row copy_key key (formatted c s)) (some_same (Running (fresh 1 (formatted c t))) p f) (ap (λ (u : ℕ). row copy_key key (formatted c u)) (equal t s q))
       | false ↦ λ q f. first_copies c ts s key p f
     ]) refl e
 

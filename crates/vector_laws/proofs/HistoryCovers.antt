@@ -1,10 +1,14 @@
 -- In every run what a site holds counts its own commits, where no stamp is given twice.
 use Rattle.std.proofs.Common.{◌≡◌, ◌≢◌, ℕ, ◌+◌, ◌-◌, ◌==◌, ◌≤◌, ◌<◌, Bool, true, false, cond, not, ◌&&◌, List, [], ◌∷◌, ◌++◌, map, Option, Some, None, refl, sym, ◌∙◌, ap, subst, inl, inr, arith, ⊎_elim}
 use Rattle.std.proofs.lemmas.Bool.Decides.{nat_tests}
+use Rattle.role_steps.proofs.of_plain_facts.Numbers.{equal}
+use Rattle.role_steps.proofs.of_plain_facts.Options.{some_same}
+use Rattle.role_steps.proofs.of_plain_facts.Tests.{both_true}
 use Rattle.locus_ids.specs.declared.ids.FileId.{FileId}
 use Rattle.locus_ids.specs.declared.ids.Stamp.{Stamp}
 use Rattle.locus_ids.specs.declared.config.Config.{Config}
-use Rattle.schedule_lines.specs.declared.line.ScheduleLine.{ScheduleLine}
+use Rattle.locus_ids.specs.Sizes.{inode_span}
+use Rattle.run_laws.specs.of_schedule_lines.declared.line.ScheduleLine.{ScheduleLine}
 use Rattle.version_vector.specs.Counters.{part, all_le, AllLe}
 use Rattle.version_vector.proofs.Counting.{AllLe-from_test}
 use Rattle.commit_graph.specs.declared.history.Version.{Version}
@@ -27,15 +31,15 @@ use Rattle.role_steps.specs.Storage.{copy_key}
 use Rattle.role_steps.specs.declared.copies.FileCopy.{FileCopy}
 use Rattle.role_steps.proofs.Rows.{row_other, row_same}
 use Rattle.role_steps.proofs.Sending.{every_map}
-use Rattle.the_run.specs.Disks.{Disk, Booted, Whole, CutOff, boots, cut_disk, is_on_disk}
-use Rattle.the_run.specs.Steps.{step}
-use Rattle.the_run.specs.Worlds.{World, Place, Running, Stopped, links_of, place_at, place_in, place_site, script_of, happened, disk_of, puts, arms, passed, stops_with, cause_of, acts, fresh, root_copy, formatted, first_place}
-use Rattle.the_run.specs.Runs.{boots_as, packet_record, run_in}
-use Rattle.the_run.specs.Kept.{Kept}
-use Rattle.the_run.proofs.InsideSync.{Found, row_found}
-use Rattle.the_run.proofs.Boots.{at_each, acts_cases}
-use Rattle.the_run.proofs.Events.{happened_keeps, puts_other, puts_same}
-use Rattle.the_run.proofs.Runs.{every_run, some_eq}
+use Rattle.run_laws.specs.of_the_run.Disks.{Disk, Booted, Whole, CutOff, boots, cut_disk, is_on_disk}
+use Rattle.run_laws.specs.of_the_run.Steps.{step}
+use Rattle.run_laws.specs.of_the_run.Worlds.{World, Place, Running, Stopped, links_of, place_at, place_in, place_site, script_of, happened, disk_of, puts, arms, passed, stops_with, cause_of, acts, fresh, root_copy, formatted, first_place}
+use Rattle.run_laws.specs.of_the_run.Runs.{boots_as, packet_record, run_in}
+use Rattle.run_laws.specs.of_the_run.Kept.{Kept}
+use Rattle.run_laws.proofs.of_the_run.InsideSync.{Found, row_found}
+use Rattle.run_laws.proofs.of_the_run.Boots.{at_each, acts_cases}
+use Rattle.run_laws.proofs.of_the_run.Events.{happened_keeps, puts_other, puts_same}
+use Rattle.run_laws.proofs.of_the_run.Runs.{every_run}
 use Rattle.vector_laws.specs.Held.{IsOf, StillRecord, Still, Replaces, copies_on}
 use Rattle.vector_laws.specs.Written.{past_of, InstancesAgree}
 use Rattle.vector_laws.specs.Facts.{onto}
@@ -78,7 +82,7 @@ one_commits file before after r past h g =
 
 -- ---- files by their keys ----
 
-key_file : (a b : FileId) → a.ino < 65536 → b.ino < 65536 → file_key a ≡ file_key b → a ≡ b
+key_file : (a b : FileId) → a.ino < inode_span → b.ino < inode_span → file_key a ≡ file_key b → a ≡ b
 key_file a b h g e = id_eq group ino
   where
     group : a.group ≡ b.group
@@ -92,17 +96,6 @@ key_file a b h g e = id_eq group ino
 
 false_true : {b : Bool} → b ≡ false → b ≡ true → ⊥
 false_true e f = absurd (cc)
-
-test_same : (a b : ℕ) → (a == b) ≡ true → a ≡ b
-test_same a b e = grind (arith, nat_tests)
-
--- a commit of another file
-other_file : (file g : FileId) (s : ℕ) (stamp : Stamp) (parents : List Stamp) (content : List ℕ) (h : List Version) → (g ≡ file → ⊥) → with_record file (says.Commit g s stamp parents content) h ≡ h
-other_file file g s stamp parents content h ne = by_test (same_file g file) refl
-  where
-    by_test : (b : Bool) → same_file g file ≡ b → cond b (version_made g s stamp parents content ∷ h) h ≡ h
-    by_test true e = absurd (ne (same_file_eq g file e))
-    by_test false e = refl
 
 its_file : (file g : FileId) (s : ℕ) (stamp : Stamp) (parents : List Stamp) (content : List ℕ) (h : List Version) → g ≡ file → with_record file (says.Commit g s stamp parents content) h ≡ version_made g s stamp parents content ∷ h
 its_file file g s stamp parents content h e = ap (λ (b : Bool). cond b (version_made g s stamp parents content ∷ h) h) (same_file_refl g file e)
@@ -134,12 +127,6 @@ new_counts now file s v older e mine own lawful a there site =
     newest k = k.0
 
 -- ---- one version more on a disk ----
-
-both_true : (a b : Bool) → (a && b) ≡ true → (a ≡ true) × (b ≡ true)
-both_true true true h = (refl, refl)
-both_true true false h = absurd (cc)
-both_true false true h = absurd (cc)
-both_true false false h = absurd (cc)
 
 -- another site's commit is none of this one's
 not_mine : (file : FileId) (t : ℕ) (v : Version) (h : List Version) (a : Stamp) → v.file ≡ file → (v.stamp.site ≡ t → ⊥) → is_in (v ∷ h) file a ≡ true → a.site ≡ t → is_in h file a ≡ true
@@ -177,7 +164,7 @@ own_counts past now s file (says.Adopt g u stamp) x (Some own) e is up same lawf
 own_counts past now s file _ x old e is up same lawful h = absurd is
 
 -- a disk after one version was written at its site
-written_counts : (past now : List Told) (s : ℕ) (d : DiskWrite) (copies : List FileCopy) → ((file : FileId) → commits_of file now ≡ with_record file d.says (commits_of file past)) → IsOf s d.says d.copy → Replaces d.says d.copy (row copy_key (copy_key d.copy) copies) → d.copy.file.ino < 65536 → Lawful now → AllCounted past s copies → AllCounted now s (with_row copy_key d.copy copies)
+written_counts : (past now : List Told) (s : ℕ) (d : DiskWrite) (copies : List FileCopy) → ((file : FileId) → commits_of file now ≡ with_record file d.says (commits_of file past)) → IsOf s d.says d.copy → Replaces d.says d.copy (row copy_key (copy_key d.copy) copies) → d.copy.file.ino < inode_span → Lawful now → AllCounted past s copies → AllCounted now s (with_row copy_key d.copy copies)
 written_counts past now s d copies e is up fit lawful h file small =
     (elim (copy_key d.copy == file_key file) as (λ b. (copy_key d.copy == file_key file) ≡ b → CountsOwn now s file (row copy_key (file_key file) (with_row copy_key d.copy copies))) [
       | true ↦ λ q. own q
@@ -186,7 +173,7 @@ written_counts past now s d copies e is up fit lawful h file small =
   where
     own : (copy_key d.copy == file_key file) ≡ true → CountsOwn now s file (row copy_key (file_key file) (with_row copy_key d.copy copies))
     own q =
-        let key : copy_key d.copy ≡ file_key file = test_same (copy_key d.copy) (file_key file) q in
+        let key : copy_key d.copy ≡ file_key file = equal (copy_key d.copy) (file_key file) q in
         let same : d.copy.file ≡ file = key_file d.copy.file file fit small key in
         let old : CountsOwn past s file (row copy_key (copy_key d.copy) copies) = subst (λ (k : ℕ). CountsOwn past s file (row copy_key k copies)) (sym key) (h file small) in
         let new : CountsOwn now s file (Some d.copy) = own_counts past now s file d.says d.copy (row copy_key (copy_key d.copy) copies) (e file) is up same lawful old in
@@ -229,14 +216,14 @@ still_event n s old new told ps change w here disk same still g =
     quiet file = still_commits file told past still
 
     mine : ((u : ℕ) (p : Place) → place_at w u ≡ Some p → AllCounted past u (copies_on p)) → (p : Place) → Some new ≡ Some p → AllCounted now s (copies_on p)
-    mine h p e = subst (λ (q : Place). AllCounted now s (copies_on q)) (some_eq new p e) (subst (λ (xs : List FileCopy). AllCounted now s xs) (sym disk) (still_counts past now s (copies_on old) quiet (h s old here)))
+    mine h p e = subst (λ (q : Place). AllCounted now s (copies_on q)) (some_same new p e) (subst (λ (xs : List FileCopy). AllCounted now s xs) (sym disk) (still_counts past now s (copies_on old) quiet (h s old here)))
 
 world_event : (n : ℕ) (told : List Told) (w : World) → Every Still told → WhereLawful w → WhereLawful (happened n [] told (λ now. now) w)
 world_event n told w still g = happened_counts n [] told (λ now. now) w (λ f h t p at. still_counts (past_of w.trace) (onto told (past_of w.trace)) t (copies_on p) (λ file. still_commits file told (past_of w.trace) still) (h t p at)) g
 
-fit_record : (s : ℕ) (r : Record) (x : FileCopy) → IsOf s r x → FitTold (Shown r) → x.file.ino < 65536
-fit_record s (says.Commit g t stamp parents content) x is fit = subst (λ (file : FileId). file.ino < 65536) (sym is.1.file_is) fit
-fit_record s (says.Adopt g t stamp) x is fit = subst (λ (file : FileId). file.ino < 65536) (sym is.1) fit
+fit_record : (s : ℕ) (r : Record) (x : FileCopy) → IsOf s r x → FitTold (Shown r) → x.file.ino < inode_span
+fit_record s (says.Commit g t stamp parents content) x is fit = subst (λ (file : FileId). file.ino < inode_span) (sym is.1.file_is) fit
+fit_record s (says.Adopt g t stamp) x is fit = subst (λ (file : FileId). file.ino < inode_span) (sym is.1) fit
 fit_record s _ x is fit = absurd is
 
 fit_in : (before after : List Told) (r : Record) (past : List Told) → Every FitTold (onto (before ++ Shown r ∷ after) past) → FitTold (Shown r)
@@ -263,7 +250,7 @@ write_event n s old new d before after told ps change w here disk is up e b a sa
     one file = ap (λ (xs : List Told). commits_of file (onto xs past)) e ∙ one_commits file before after d.says past b a
 
     mine : Lawful now → ((u : ℕ) (p : Place) → place_at w u ≡ Some p → AllCounted past u (copies_on p)) → (p : Place) → Some new ≡ Some p → AllCounted now s (copies_on p)
-    mine f h p q = subst (λ (r : Place). AllCounted now s (copies_on r)) (some_eq new p q) (subst (λ (xs : List FileCopy). AllCounted now s xs) (sym disk)
+    mine f h p q = subst (λ (r : Place). AllCounted now s (copies_on r)) (some_same new p q) (subst (λ (xs : List FileCopy). AllCounted now s xs) (sym disk)
         (written_counts past now s d (copies_on old) one is up (fit_record s d.says d.copy is (fit_in before after d.says past (subst (λ (xs : List Told). Every FitTold (onto xs past)) e f.fit))) f (h s old here)))
 
 -- ---- a step of a site ----
@@ -280,7 +267,7 @@ no_write d e = cc
 
 write_is : (s : ℕ) (v : SiteView) (o : Outcome SiteView) (d : DiskWrite) → o.written ≡ Some d → SiteDisk s v o → IsOf s d.says d.copy × Replaces d.says d.copy (row copy_key (copy_key d.copy) v.store.copies)
 write_is s v o d e (inl h) = absurd (no_write d (sym h.none ∙ e))
-write_is s v o d e (inr h) = subst (λ (x : DiskWrite). IsOf s x.says x.copy × Replaces x.says x.copy (row copy_key (copy_key x.copy) v.store.copies)) (some_eq h.0 d (sym h.1.is_written ∙ e)) (h.1.says_so, h.1.above)
+write_is s v o d e (inr h) = subst (λ (x : DiskWrite). IsOf s x.says x.copy × Replaces x.says x.copy (row copy_key (copy_key x.copy) v.store.copies)) (some_same h.0 d (sym h.1.is_written ∙ e)) (h.1.says_so, h.1.above)
 
 cut_counts : (n s : ℕ) (v : SiteView) (d : DiskWrite) (disk : Disk) (how : StopCause) (b : Bool) (w : World) → place_at w s ≡ Some (Running v) → disk.copies ≡ cond b (with_row copy_key d.copy v.store.copies) v.store.copies → IsOf s d.says d.copy → Replaces d.says d.copy (row copy_key (copy_key d.copy) v.store.copies) → WhereLawful w →
     WhereLawful (happened n [] (cond b (Shown d.says ∷ Shown (says.Stopped s how) ∷ []) (Shown (says.Stopped s how) ∷ [])) (stops_with s disk) w)
@@ -292,7 +279,7 @@ acts_counts n s v o w here h g =
     acts_cases WhereLawful n s v o w
     (runs_counts n s v o (λ now. now) w here h (λ t. refl) g)
     (λ a. runs_counts n s v o (arms a) w here h (λ t. refl) g)
-    (λ d a e. (let k : IsOf s d.says d.copy × Replaces d.says d.copy (row copy_key (copy_key d.copy) v.store.copies) = write_is s v o d e h in cut_counts n s v d (cut_disk v.boot v.store d a.how a.left) (cause_of a.how) (is_on_disk d a.how a.left) w here refl k.0 k.1 g))
+    (λ d a e. (let k : IsOf s d.says d.copy × Replaces d.says d.copy (row copy_key (copy_key d.copy) v.store.copies) = write_is s v o d e h in cut_counts n s v d (cut_disk v.boot v.store d a.how a.left) (cause_of a.how) (is_on_disk v.store d a.how a.left) w here refl k.0 k.1 g))
 
 as_counts : (n s : ℕ) (d : Disk) (b : Booted) (w : World) → place_at w s ≡ Some (Stopped d) → KeepsCopies d.copies b → WhereLawful w → WhereLawful (boots_as n s b w)
 as_counts n s d (Whole x None) w here e g = still_event n s (Stopped d) (Running (fresh x.label.boot x.copies)) (Shown (says.Up s x.label.boot) ∷ []) [] _ w here e (λ t. refl) (tt, tt) g
@@ -322,7 +309,7 @@ none_place p e = cc
 abbrev IsRoot : FileCopy → Type 0
 IsRoot x = x.file.ino ≡ 1
 
-none_counts : (s : ℕ) (file : FileId) (o : Option FileCopy) → file.ino < 65536 → FoundAt IsRoot copy_key (file_key file) o → CountsOwn [] s file o
+none_counts : (s : ℕ) (file : FileId) (o : Option FileCopy) → file.ino < inode_span → FoundAt IsRoot copy_key (file_key file) o → CountsOwn [] s file o
 none_counts s file None small h = λ a there site. false_true refl there
 none_counts s file (Some x) small h = (key_file x.file file (let r : x.file.ino ≡ 1 = h.1 in omega (arith, r)) small h.0, λ a there site. absurd (false_true refl there))
 
@@ -330,7 +317,7 @@ first_counts : (c : Config) (ss : List ℕ) (s : ℕ) (p : Place) → place_in (
 first_counts c [] s p e = absurd (none_place p e)
 first_counts c (t ∷ ts) s p e =
     (elim (t == s) as (λ b. place_in (elim b [ true ↦ Some (first_place c t) | false ↦ row place_site s (map (first_place c) ts) ]) ≡ Some p → AllCounted [] s (copies_on p)) [
-      | true ↦ λ f. subst (λ (x : Place). AllCounted [] s (copies_on x)) (some_eq (Running (fresh 1 (formatted c t))) p f) (λ file small. none_counts s file (row copy_key (file_key file) (formatted c t)) small (row_at IsRoot copy_key (file_key file) (formatted c t) (every_map IsRoot (root_copy c) _ (λ g. refl))))
+      | true ↦ λ f. subst (λ (x : Place). AllCounted [] s (copies_on x)) (some_same (Running (fresh 1 (formatted c t))) p f) (λ file small. none_counts s file (row copy_key (file_key file) (formatted c t)) small (row_at IsRoot copy_key (file_key file) (formatted c t) (every_map IsRoot (root_copy c) _ (λ g. refl))))
       | false ↦ λ f. first_counts c ts s p f
     ]) e
 

@@ -4,6 +4,7 @@ use Rattle.std.proofs.lemmas.Bool.{cases_eq}
 use Rattle.std.proofs.lemmas.Bool.Decides.{nat_tests}
 use Rattle.locus_ids.specs.declared.ids.FileId.{FileId}
 use Rattle.locus_ids.specs.declared.ids.Stamp.{Stamp}
+use Rattle.locus_ids.specs.Sizes.{sites_max}
 use Rattle.version_vector.specs.Counters.{part, raised, AllLe}
 use Rattle.version_vector.proofs.Counting.{part-joined, part-raised_same, part-raised_other}
 use Rattle.commit_graph.specs.declared.history.Version.{Version}
@@ -84,7 +85,7 @@ one_joined file past k p ps a b n t is rest (inr f) =
     is ∙ (ap (λ (i : ℕ). max i (part b t)) (f.1 t) ∙ (ap (λ (i : ℕ). max (part (W p) t) i) rest ∙ (sym (part-joined (W p) (joined_all W (real_parents ps)) t) ∙ sym (ap (λ (qs : List Stamp). part (joined_all W qs) t) (keep_real p ps (not_format p name.low))))))
 
 joined_here : (file : FileId) (past : List Told) → Sound file past → (ps : List Stamp) (vector : List ℕ) → JoinsAll (WrittenAs past file) ps vector → (t : ℕ) → part vector t ≡ Joined file past ps t
-joined_here file past k [] vector h t = h t ∙ sym (part-zeros 16 t)
+joined_here file past k [] vector h t = h t ∙ sym (part-zeros sites_max t)
 joined_here file past k (p ∷ ps) vector h t = one_joined file past k p ps h.0 h.1 (part vector t) t (h.4 t) (joined_here file past k ps h.1 h.3 t) (k.stands p h.0 h.2)
 
 abbrev Stand : FileId → List Told → List Stamp → Type 0
@@ -200,7 +201,7 @@ own_record : (file : FileId) (older : List Told) (r : Record) → SitedTold (Sho
 own_record file older (says.Commit g s made parents content) site n k = by_test (same_file g file)
   where
     by_test : (b : Bool) → Each IsOwn (cond b (version_made g s made parents content ∷ commits_of file older) (commits_of file older))
-    by_test true = (record { same = sym n.own; most = (let a : made.site ≡ s = n.own in let b : s ≤ 16 = site.high in omega (arith, a, b)) }, k)
+    by_test true = (record { same = sym n.own; most = (let a : made.site ≡ s = n.own in let b : s ≤ sites_max = site.high in omega (arith, a, b)) }, k)
     by_test false = k
 own_record file older _ site n k = k
 

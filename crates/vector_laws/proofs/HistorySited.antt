@@ -1,9 +1,13 @@
 -- In every run each commit is of one of the sixteen sites; and so vectors tell ancestors, where no stamp is given twice.
 use Rattle.std.proofs.Common.{◌≡◌, ℕ, ◌+◌, ◌==◌, ◌≤◌, ◌&&◌, nat_le, nat_lt, Bool, true, false, cond, List, [], ◌∷◌, filter, map, Option, Some, None, refl, sym, ◌∙◌, subst, inl, inr, arith}
 use Rattle.std.proofs.lemmas.Bool.Decides.{nat_tests}
+use Rattle.role_steps.proofs.of_plain_facts.Numbers.{equal}
+use Rattle.role_steps.proofs.of_plain_facts.Options.{some_same}
+use Rattle.role_steps.proofs.of_plain_facts.Tests.{both_true}
 use Rattle.locus_ids.specs.declared.ids.FileId.{FileId}
 use Rattle.locus_ids.specs.declared.config.Config.{Config}
-use Rattle.schedule_lines.specs.declared.line.ScheduleLine.{ScheduleLine}
+use Rattle.locus_ids.specs.Sizes.{sites_max}
+use Rattle.run_laws.specs.of_schedule_lines.declared.line.ScheduleLine.{ScheduleLine}
 use Rattle.conflict_flags.proofs.Vectors.{vector-written}
 use Rattle.trace_book.specs.declared.record.Record.{Record}
 use Rattle.trace_book.specs.declared.record.Record.TheVariants as says
@@ -15,14 +19,14 @@ use Rattle.role_steps.specs.Tables.{row}
 use Rattle.role_steps.specs.Views.{SiteView, Told, Shown, DiskWrite, Outcome, Receives, all_sites}
 use Rattle.role_steps.specs.declared.copies.FileCopy.{FileCopy}
 use Rattle.role_steps.proofs.Sending.{every_append, every_map}
-use Rattle.the_run.specs.Disks.{Disk, Booted, Whole, CutOff, boots, cut_disk, is_on_disk}
-use Rattle.the_run.specs.Steps.{step}
-use Rattle.the_run.specs.Worlds.{World, Place, Running, Stopped, links_of, place_at, place_in, place_site, script_of, happened, disk_of, puts, arms, passed, stops_with, cut_told, cause_of, acts, fresh, first_place, first_world}
-use Rattle.the_run.specs.Runs.{boots_as, packet_record, run_in}
-use Rattle.the_run.specs.Kept.{Kept}
-use Rattle.the_run.proofs.Boots.{at_each, acts_cases, every_weaker}
-use Rattle.the_run.proofs.Events.{happened_keeps, puts_other}
-use Rattle.the_run.proofs.Runs.{every_run, some_eq}
+use Rattle.run_laws.specs.of_the_run.Disks.{Disk, Booted, Whole, CutOff, boots, cut_disk, is_on_disk}
+use Rattle.run_laws.specs.of_the_run.Steps.{step}
+use Rattle.run_laws.specs.of_the_run.Worlds.{World, Place, Running, Stopped, links_of, place_at, place_in, place_site, script_of, happened, disk_of, puts, arms, passed, stops_with, cut_told, cause_of, acts, fresh, first_place, first_world}
+use Rattle.run_laws.specs.of_the_run.Runs.{boots_as, packet_record, run_in}
+use Rattle.run_laws.specs.of_the_run.Kept.{Kept}
+use Rattle.run_laws.proofs.of_the_run.Boots.{at_each, acts_cases, every_weaker}
+use Rattle.run_laws.proofs.of_the_run.Events.{happened_keeps, puts_other}
+use Rattle.run_laws.proofs.of_the_run.Runs.{every_run}
 use Rattle.vector_laws.specs.Held.{IsOf, StillRecord, Still, OnDisk, copies_on}
 use Rattle.vector_laws.specs.Written.{past_of, InstancesAgree}
 use Rattle.vector_laws.specs.Facts.{CopyFact, onto}
@@ -72,7 +76,7 @@ no_write d e = cc
 
 write_sited : (s : ℕ) (v : SiteView) (o : Outcome SiteView) (d : DiskWrite) → o.written ≡ Some d → IsSite s → SiteDisk s v o → SitedTold (Shown d.says)
 write_sited s v o d e site (inl h) = absurd (no_write d (sym h.none ∙ e))
-write_sited s v o d e site (inr h) = subst (λ (x : DiskWrite). SitedTold (Shown x.says)) (some_eq h.0 d (sym h.1.is_written ∙ e)) (own_sited s h.0.says h.0.copy site h.1.says_so)
+write_sited s v o d e site (inr h) = subst (λ (x : DiskWrite). SitedTold (Shown x.says)) (some_same h.0 d (sym h.1.is_written ∙ e)) (own_sited s h.0.says h.0.copy site h.1.says_so)
 
 cut_sited : (s : ℕ) (b : Bool) (d : DiskWrite) (how : StopCause) → SitedTold (Shown d.says) → Every SitedTold (cond b (Shown d.says ∷ Shown (says.Stopped s how) ∷ []) (Shown (says.Stopped s how) ∷ []))
 cut_sited s true d how h = (h, (tt, tt))
@@ -83,7 +87,7 @@ acts_sited n s v o w here disk g =
     acts_cases SitesAreKnown n s v o w
     (sited_event n o.sent o.told (λ now. puts s (Running o.view) now) w (puts_sited s (Running o.view) w site g) told g)
     (λ a. sited_event n o.sent o.told (λ now. puts s (Running o.view) (arms a now)) w (puts_sited s (Running o.view) w site g) told g)
-    (λ d a e. sited_event n [] (cut_told s d a.how a.left) (stops_with s (cut_disk v.boot v.store d a.how a.left)) w (puts_sited s (Stopped (cut_disk v.boot v.store d a.how a.left)) w site g) (cut_sited s (is_on_disk d a.how a.left) d (cause_of a.how) (write_sited s v o d e site disk)) g)
+    (λ d a e. sited_event n [] (cut_told s v.store d a.how a.left) (stops_with s (cut_disk v.boot v.store d a.how a.left)) w (puts_sited s (Stopped (cut_disk v.boot v.store d a.how a.left)) w site g) (cut_sited s (is_on_disk v.store d a.how a.left) d (cause_of a.how) (write_sited s v o d e site disk)) g)
   where
     site : IsSite s
     site = g.places s (Running v) here
@@ -124,37 +128,28 @@ every_filter : {A : Type 0} (P : A → Type 0) (test : A → Bool) (xs : List A)
 every_filter P test [] h = tt
 every_filter P test (x ∷ xs) h = cons_if P (test x) x (filter test xs) h.0 (every_filter P test xs h.1)
 
-test_same : (a b : ℕ) → (a == b) ≡ true → a ≡ b
-test_same a b e = grind (arith, nat_tests)
-
 first_sited : (c : Config) (ss : List ℕ) → Every IsSite ss → (s : ℕ) (p : Place) → place_in (row place_site s (map (first_place c) ss)) ≡ Some p → IsSite s
 first_sited c [] h s p e = absurd (none_place p e)
 first_sited c (t ∷ ts) h s p e =
     (elim (t == s) as (λ b. (t == s) ≡ b → place_in (elim b [ true ↦ Some (first_place c t) | false ↦ row place_site s (map (first_place c) ts) ]) ≡ Some p → IsSite s) [
-      | true ↦ λ q f. subst IsSite (test_same t s q) h.0
+      | true ↦ λ q f. subst IsSite (equal t s q) h.0
       | false ↦ λ q f. first_sited c ts h.1 s p f
     ]) refl e
 
 abbrev in_range : ℕ → Bool
-in_range s = nat_le 1 s && nat_le s 16
+in_range s = nat_le 1 s && nat_le s sites_max
 
 abbrev all_in_range : List ℕ → Bool
 all_in_range [] = true
 all_in_range (s ∷ ss) = in_range s && all_in_range ss
 
-both_true : (a b : Bool) → (a && b) ≡ true → (a ≡ true) × (b ≡ true)
-both_true true true h = (refl, refl)
-both_true true false h = absurd (cc)
-both_true false true h = absurd (cc)
-both_true false false h = absurd (cc)
-
 site_in : (s : ℕ) → in_range s ≡ true → IsSite s
-site_in s h = record { low = low_of (both_true (nat_le 1 s) (nat_le s 16) h).0; high = high_of (both_true (nat_le 1 s) (nat_le s 16) h).1 }
+site_in s h = record { low = low_of (both_true (nat_le 1 s) (nat_le s sites_max) h).0; high = high_of (both_true (nat_le 1 s) (nat_le s sites_max) h).1 }
   where
     low_of : nat_le 1 s ≡ true → 1 ≤ s
     low_of e = grind (arith, nat_tests)
 
-    high_of : nat_le s 16 ≡ true → s ≤ 16
+    high_of : nat_le s sites_max ≡ true → s ≤ sites_max
     high_of e = grind (arith, nat_tests)
 
 all_sited : (ss : List ℕ) → all_in_range ss ≡ true → Every IsSite ss

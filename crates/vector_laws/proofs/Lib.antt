@@ -15,3 +15,6 @@ pub mod HistoryNumbers
 pub mod HistoryHistory
 pub mod HistorySited
 pub mod HistoryCovers
+pub use Rattle.run_laws.proofs as of_run_laws
+pub use Rattle.run_laws.proofs.of_law_walks as of_law_walks
+pub use Rattle.run_laws.proofs.of_the_run as of_the_run

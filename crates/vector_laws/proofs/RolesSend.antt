@@ -1,169 +1,91 @@
--- What the using site and a site that pulls send carries nothing of versions.
-use Rattle.std.proofs.Common.{ℕ, ◌+◌, true, false, List, [], ◌∷◌, ◌++◌, Option, Some, None}
+-- What the using site and a site that pulls send carries nothing of versions: a law by kinds.
+use Rattle.std.proofs.Common.{ℕ, List, Option}
 use Rattle.locus_ids.specs.declared.ids.EpochId.{EpochId}
 use Rattle.locus_ids.specs.declared.ids.FileId.{FileId}
 use Rattle.locus_ids.specs.declared.ids.Stamp.{Stamp}
-use Rattle.commit_graph.specs.Versions.{same_stamp}
 use Rattle.trace_book.specs.declared.call.Call.{Call}
 use Rattle.trace_book.specs.declared.operation.Op.{Op}
 use Rattle.trace_book.specs.declared.operation.Outcome.{Outcome as Result}
-use Rattle.call_rules.specs.Descriptors.{beginning}
-use Rattle.call_rules.specs.declared.answer.Answer.{Answer}
-use Rattle.call_rules.specs.declared.want.Want.{Want}
-use Rattle.call_rules.specs.declared.want.Want.TheVariants as want
 use Rattle.wire_messages.specs.declared.body.Body.{Body}
-use Rattle.wire_messages.specs.declared.body.Body.TheVariants as body
 use Rattle.wire_messages.specs.declared.body.CloseAnswer.{CloseAnswer}
 use Rattle.wire_messages.specs.declared.body.LookAnswer.{LookAnswer}
-use Rattle.wire_messages.specs.declared.body.LookAnswer.TheVariants as looked
 use Rattle.wire_messages.specs.declared.body.Granted.{Granted}
-use Rattle.wire_messages.specs.declared.body.Granted.TheVariants as granted
+use Rattle.wire_messages.specs.declared.body.Body.TheVariants as body
 use Rattle.role_steps.specs.Own.{Every}
-use Rattle.role_steps.specs.Tables.{first_that}
-use Rattle.role_steps.specs.Views.{Frame, Store, Users, Outcome, quiet, sends, packet, to_some, to_sync, sync_site}
-use Rattle.role_steps.specs.Versions.{is_below}
+use Rattle.role_steps.specs.Views.{Frame, Store, Users, Outcome, sends}
 use Rattle.role_steps.specs.Looks.{LookRequest}
-use Rattle.role_steps.specs.Storage.{copy_of, on_look_ss, has_page, pulled_page, on_pull}
-use Rattle.role_steps.specs.Pulling.{pull_of, pull_packets, is_complete, goes_on as pulls_on, begins_pull, replaces_pull, on_notify, is_awaited, on_page_of, on_page, pull_repeats}
-use Rattle.role_steps.specs.Requests.{descriptors_of, request_packets, asks_op_of, asks_close_of, user_instance, users_repeats}
-use Rattle.role_steps.specs.Using.{accepted, frees, with_brought, content_answer, asks_want, next_want, goes_on, on_call, takes_answer, with_answer, takes_open, on_open_done_of, on_open_done, on_op_done_of, on_op_done, on_close_done_of, on_close_done, looks_again, takes_look, on_look_done_of, on_look_done, asks_open_of, asks_op_number, asks_take}
-use Rattle.role_steps.specs.Using as using
+use Rattle.role_steps.specs.Storage.{on_look_ss, on_pull}
+use Rattle.role_steps.specs.Pulling.{on_notify, on_page, pull_repeats}
+use Rattle.role_steps.specs.Requests.{users_repeats}
+use Rattle.role_steps.specs.Using.{on_call, on_open_done, on_op_done, on_close_done, on_look_done}
 use Rattle.role_steps.specs.declared.copies.FileCopy.{FileCopy}
 use Rattle.role_steps.specs.declared.pulls.Pull.{Pull}
-use Rattle.role_steps.specs.declared.users.Asking.{Asking}
-use Rattle.role_steps.specs.declared.users.Asking.TheVariants as asking
-use Rattle.role_steps.specs.declared.users.WaitingCall.{WaitingCall}
-use Rattle.role_steps.specs.declared.users.UserInstance.{UserInstance}
-use Rattle.role_steps.proofs.Sending.{every_cond, every_flat_map}
+use Rattle.run_laws.specs.of_law_walks.Kinds.{IsOfReader, IsUserRequest, IsOfUser}
+use Rattle.run_laws.specs.of_law_walks.Laws.{Law, body_law, ReadersKeep, UsersKeep}
+use Rattle.run_laws.proofs.of_law_walks.RoleWalks.{on_look_ss_walk, on_pull_walk, on_notify_walk, on_page_walk, pull_repeats_walk, users_repeats_walk, on_call_walk, on_open_done_walk, on_op_done_walk, on_close_done_walk, on_look_done_walk}
 use Rattle.vector_laws.specs.Facts.{NoFact, Factless}
 
 -- all that the outcome sends is such
 abbrev AllFactless : {V : Type 0} → Outcome V → Type 0
 AllFactless o = Every Factless o.sent
 
-some_factless : (f : Frame) (b : Body) (o : Option ℕ) → NoFact b → Every Factless (to_some f b o)
-some_factless f b None h = tt
-some_factless f b (Some to) h = (h, tt)
+-- ---- the law, kind by kind ----
 
-sync_factless : (f : Frame) (group : ℕ) (b : Body) → NoFact b → Every Factless (to_sync f group b)
-sync_factless f group b h = some_factless f b (sync_site f.config f.members group) h
+request_factless : (b : Body) → IsUserRequest b → NoFact b
+request_factless (body.Open serial call process request file how) h = tt
+request_factless (body.Look call process request take file what) h = tt
+request_factless _ h = absurd h
+
+user_factless : (b : Body) → IsOfUser b → NoFact b
+user_factless (body.Op serial n o seen) h = tt
+user_factless (body.Close serial) h = tt
+user_factless _ h = absurd h
+
+reader_factless : (b : Body) → IsOfReader b → NoFact b
+reader_factless (body.LookDone call request take answer) h = tt
+reader_factless (body.Pull file stamp page) h = tt
+reader_factless _ h = absurd h
+
+abbrev carrying : Law
+carrying = body_law NoFact (λ t. Unit {0}) (λ w. Unit {0})
+
+users : (f : Frame) → UsersKeep carrying f
+users f = record { asks = λ group to b h e. request_factless b h; sends = λ to b h. user_factless b h; tells = λ t h. tt; unwritten = tt }
+
+readers : (f : Frame) → ReadersKeep carrying f
+readers f = record { sends = λ to b h. reader_factless b h; unwritten = tt }
+
+-- ---- roles ----
 
 pub on_look_ss_factless : (f : Frame) (us : ℕ) (l : LookRequest) (stamp : Stamp) (s : Store) → AllFactless (on_look_ss f us l stamp s)
-on_look_ss_factless f us l stamp s = (tt, tt)
-
-pulled_page_factless : (f : Frame) (from : ℕ) (file : FileId) (stamp : Stamp) (page : ℕ) (o : Option FileCopy) → Every Factless (pulled_page f from file stamp page o)
-pulled_page_factless f from file stamp page None = tt
-pulled_page_factless f from file stamp page (Some x) = every_cond Factless (has_page stamp page x) _ [] (tt, tt) tt
+on_look_ss_factless f us l stamp s = (on_look_ss_walk carrying f (readers f) us l stamp s).0
 
 pub on_pull_factless : (f : Frame) (from : ℕ) (file : FileId) (stamp : Stamp) (page : ℕ) (s : Store) → AllFactless (on_pull f from file stamp page s)
-on_pull_factless f from file stamp page s = pulled_page_factless f from file stamp page (copy_of s file)
-
-pull_factless : (f : Frame) (p : Pull) → Every Factless (pull_packets f p)
-pull_factless f p = every_cond Factless (is_complete p) [] _ tt (tt, tt)
-
-begins_pull_factless : (f : Frame) (p : Pull) (ps : List Pull) → AllFactless (begins_pull f p ps)
-begins_pull_factless f p ps =
-    elim (replaces_pull p (pull_of ps p.file)) as (λ b. AllFactless (elim b [ true ↦ pulls_on f p ps | false ↦ quiet ps ])) [ true ↦ pull_factless f p | false ↦ tt ]
+on_pull_factless f from file stamp page s = (on_pull_walk carrying f (readers f) from file stamp page (λ bytes. tt) s).0
 
 pub on_notify_factless : (f : Frame) (from : ℕ) (o : Option FileCopy) (p : Pull) (ps : List Pull) → AllFactless (on_notify f from o p ps)
-on_notify_factless f from None p ps = begins_pull_factless f p ps
-on_notify_factless f from (Some own) p ps =
-    elim (same_stamp own.stamp p.stamp) as (λ b. AllFactless (elim b [ true ↦ sends (packet f from (body.Have p.file p.stamp) ∷ []) ps | false ↦ elim (is_below own.vector p.vector) [ true ↦ begins_pull f p ps | false ↦ quiet ps ] ])) [
-      | true ↦ (tt, tt)
-      | false ↦ elim (is_below own.vector p.vector) as (λ b. AllFactless (elim b [ true ↦ begins_pull f p ps | false ↦ quiet ps ])) [ true ↦ begins_pull_factless f p ps | false ↦ tt ]
-    ]
-
-on_page_of_factless : (f : Frame) (stamp : Stamp) (page : ℕ) (bytes : List ℕ) (o : Option Pull) (ps : List Pull) → AllFactless (on_page_of f stamp page bytes o ps)
-on_page_of_factless f stamp page bytes None ps = tt
-on_page_of_factless f stamp page bytes (Some p) ps =
-    elim (is_awaited p stamp page bytes) as (λ b. AllFactless (elim b [ true ↦ pulls_on f (record p { content = p.content ++ bytes }) ps | false ↦ quiet ps ])) [ true ↦ pull_factless f (record p { content = p.content ++ bytes }) | false ↦ tt ]
+on_notify_factless f from o p ps = (on_notify_walk carrying f (readers f) from o p tt ps).0
 
 pub on_page_factless : (f : Frame) (file : FileId) (stamp : Stamp) (page : ℕ) (bytes : List ℕ) (ps : List Pull) → AllFactless (on_page f file stamp page bytes ps)
-on_page_factless f file stamp page bytes ps = on_page_of_factless f stamp page bytes (pull_of ps file) ps
+on_page_factless f file stamp page bytes ps = (on_page_walk carrying f (readers f) file stamp page bytes ps).0
 
 pub pull_repeats_factless : (f : Frame) (ps : List Pull) → Every Factless (pull_repeats f ps)
-pull_repeats_factless f ps = every_flat_map Factless (pull_packets f) ps (pull_factless f)
-
-request_factless : (f : Frame) (w : WaitingCall) (a : Asking) → Every Factless (request_packets f w a)
-request_factless f w (asking.Look file what take) = sync_factless f file.group _ tt
-request_factless f w (asking.Open serial file how) = sync_factless f file.group _ tt
-request_factless f w (asking.Op serial ss number o seen) = (tt, tt)
-request_factless f w (asking.Close serial ss) = (tt, tt)
-
-pub users_repeats_factless : (f : Frame) (u : Users) → Every Factless (users_repeats f u)
-users_repeats_factless f u = every_flat_map Factless (λ (w : WaitingCall). request_packets f w w.asking) u.waiting (λ w. request_factless f w w.asking)
-
-asks_op_factless : (f : Frame) (w : WaitingCall) (o : Op) (i : Option UserInstance) (u : Users) → AllFactless (asks_op_of f w o i u)
-asks_op_factless f w o None u = tt
-asks_op_factless f w o (Some i) u = (tt, tt)
-
-asks_close_factless : (f : Frame) (w : WaitingCall) (i : Option UserInstance) (u : Users) → AllFactless (asks_close_of f w i u)
-asks_close_factless f w None u = tt
-asks_close_factless f w (Some i) u = (tt, tt)
-
-asks_want_factless : (f : Frame) (w : WaitingCall) (x : Want) (u : Users) → AllFactless (asks_want f w x u)
-asks_want_factless f w (want.Look file what) u = sync_factless f file.group _ tt
-asks_want_factless f w (want.Open file m) u = sync_factless f file.group _ tt
-asks_want_factless f w (want.OpenToMend file) u = sync_factless f file.group _ tt
-asks_want_factless f w (want.Make group kind sites) u = sync_factless f group _ tt
-asks_want_factless f w (want.Do inst o) u = asks_op_factless f w o (user_instance u inst.serial) u
-asks_want_factless f w (want.Close inst) u = asks_close_factless f w (user_instance u inst.serial) u
-asks_want_factless f w (want.Give r) u = tt
-asks_want_factless f w want.Never u = tt
-
-goes_on_factless : (f : Frame) (w : WaitingCall) (u : Users) → AllFactless (goes_on f w u)
-goes_on_factless f w u = asks_want_factless f w (next_want f w u) u
+pull_repeats_factless f ps = pull_repeats_walk carrying f (readers f) ps
 
 pub on_call_factless : (f : Frame) (now : Option EpochId) (process : ℕ) (words : Call) (u : Users) → AllFactless (on_call f now process words u)
-on_call_factless f now process words u =
-    let w : WaitingCall = accepted process (u.calls + 1) words (beginning (descriptors_of u process) now words) in
-    let e : AllFactless (goes_on f w (frees process words (record u { calls = u.calls + 1 }))) = goes_on_factless f w (frees process words (record u { calls = u.calls + 1 })) in
-    e
-
-takes_answer_factless : (f : Frame) (w : WaitingCall) (a : Answer) (u : Users) → AllFactless (takes_answer f w a u)
-takes_answer_factless f w a u = let e : AllFactless (goes_on f (with_answer w a) u) = goes_on_factless f (with_answer w a) u in e
-
-takes_open_factless : (f : Frame) (kept : FileId → List Stamp) (serial : ℕ) (w : WaitingCall) (a : Granted) (u : Users) → AllFactless (takes_open f kept serial w a u)
-takes_open_factless f kept serial w (granted.Open ss ino size stamp vector) u = takes_answer_factless f w _ _
-takes_open_factless f kept serial w (granted.No why) u = takes_answer_factless f w _ u
-
-on_open_done_of_factless : (f : Frame) (kept : FileId → List Stamp) (serial : ℕ) (a : Granted) (o : Option WaitingCall) (u : Users) → AllFactless (on_open_done_of f kept serial a o u)
-on_open_done_of_factless f kept serial a None u = tt
-on_open_done_of_factless f kept serial a (Some w) u = takes_open_factless f kept serial w a u
+on_call_factless f now process words u = (on_call_walk carrying f (users f) now process words u (λ n. tt)).0
 
 pub on_open_done_factless : (f : Frame) (kept : FileId → List Stamp) (serial : ℕ) (a : Granted) (u : Users) → AllFactless (on_open_done f kept serial a u)
-on_open_done_factless f kept serial a u = on_open_done_of_factless f kept serial a (first_that (asks_open_of serial) u.waiting) u
-
-on_op_done_of_factless : (f : Frame) (r : Result) (o : Option WaitingCall) (u : Users) → AllFactless (on_op_done_of f r o u)
-on_op_done_of_factless f r None u = tt
-on_op_done_of_factless f r (Some w) u = takes_answer_factless f w _ u
+on_open_done_factless f kept serial a u = (on_open_done_walk carrying f (users f) kept serial a u).0
 
 pub on_op_done_factless : (f : Frame) (serial n : ℕ) (r : Result) (u : Users) → AllFactless (on_op_done f serial n r u)
-on_op_done_factless f serial n r u = on_op_done_of_factless f r (first_that (asks_op_number serial n r) u.waiting) u
-
-on_close_done_of_factless : (f : Frame) (serial : ℕ) (a : CloseAnswer) (o : Option WaitingCall) (u : Users) → AllFactless (on_close_done_of f serial a o u)
-on_close_done_of_factless f serial a None u = tt
-on_close_done_of_factless f serial a (Some w) u = takes_answer_factless f w _ _
+on_op_done_factless f serial n r u = (on_op_done_walk carrying f (users f) serial n r u).0
 
 pub on_close_done_factless : (f : Frame) (serial : ℕ) (a : CloseAnswer) (u : Users) → AllFactless (on_close_done f serial a u)
-on_close_done_factless f serial a u = on_close_done_of_factless f serial a (first_that (using.asks_close_of serial) u.waiting) u
-
-looks_again_factless : (f : Frame) (w : WaitingCall) (a : Asking) (u : Users) → AllFactless (looks_again f w a u)
-looks_again_factless f w (asking.Look file what take) u = sync_factless f file.group _ tt
-looks_again_factless f w (asking.Open serial file how) u = tt
-looks_again_factless f w (asking.Op serial ss number o seen) u = tt
-looks_again_factless f w (asking.Close serial ss) u = tt
-
-takes_look_factless : (f : Frame) (w : WaitingCall) (a : LookAnswer) (u : Users) → AllFactless (takes_look f w a u)
-takes_look_factless f w (looked.Found ino kind) u = takes_answer_factless f w _ u
-takes_look_factless f w (looked.Content bytes) u = takes_answer_factless f (with_brought w.asking bytes w) (content_answer w.asking bytes) u
-takes_look_factless f w (looked.Stat kind size stamp) u = takes_answer_factless f w _ u
-takes_look_factless f w looked.Moved u = looks_again_factless f w w.asking u
-takes_look_factless f w (looked.No why) u = takes_answer_factless f w _ u
-
-on_look_done_of_factless : (f : Frame) (a : LookAnswer) (o : Option WaitingCall) (u : Users) → AllFactless (on_look_done_of f a o u)
-on_look_done_of_factless f a None u = tt
-on_look_done_of_factless f a (Some w) u = takes_look_factless f w a u
+on_close_done_factless f serial a u = (on_close_done_walk carrying f (users f) serial a u).0
 
 pub on_look_done_factless : (f : Frame) (n request take : ℕ) (a : LookAnswer) (u : Users) → AllFactless (on_look_done f n request take a u)
-on_look_done_factless f n request take a u = on_look_done_of_factless f a (first_that (asks_take n request take a) u.waiting) u
+on_look_done_factless f n request take a u = (on_look_done_walk carrying f (users f) n request take a u).0
+
+pub users_repeats_factless : (f : Frame) (u : Users) → Every Factless (users_repeats f u)
+users_repeats_factless f u = users_repeats_walk carrying f (users f) u

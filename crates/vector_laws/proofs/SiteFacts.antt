@@ -24,12 +24,11 @@ use Rattle.role_steps.specs.declared.instances.Instance.{Instance}
 use Rattle.role_steps.specs.declared.pulls.Pull.{Pull}
 use Rattle.role_steps.specs.declared.rounds.InEpoch.{InEpoch}
 use Rattle.role_steps.specs.declared.synchronizing.SyncTable.{SyncTable}
-use Rattle.the_run.specs.Steps.{from_user, group_of, at_table_of, is_opened_in, takes_inside, with_pulls}
-use Rattle.the_run.proofs.InsideSync.{every_row, Found, row_found, first_found}
-use Rattle.the_run.proofs.Boots.{every_weaker}
+use Rattle.run_laws.specs.of_the_run.Steps.{from_user, group_of, at_table_of, is_opened_in, takes_inside, with_pulls}
+use Rattle.run_laws.proofs.of_the_run.InsideSync.{every_row, Found, row_found, first_found}
+use Rattle.run_laws.proofs.of_the_run.Boots.{every_weaker}
 use Rattle.run_laws.specs.Words.{TalkRecord, Talk, Talks}
-use Rattle.run_laws.proofs.SyncTells.{on_opened_talks, on_open_talks, on_look_talks, on_report_talks, on_closed_talks, on_have_talks}
-use Rattle.run_laws.proofs.RolesTell.{on_notify_talks, on_page_talks, on_open_done_talks, on_op_done_talks, on_close_done_talks, on_look_done_talks}
+use Rattle.run_laws.proofs.Telling.{on_opened_talks, on_open_talks, on_look_talks, on_report_talks, on_closed_talks, on_have_talks, on_notify_talks, on_page_talks, on_open_done_talks, on_op_done_talks, on_close_done_talks, on_look_done_talks}
 use Rattle.vector_laws.specs.Written.{InstancesAgree}
 use Rattle.vector_laws.specs.Facts.{ReportedFact, BodyFact, Factless, CopyFact, PullFact, InstanceFact, StoreFact, TableFact, InEpochFact, ViewFact, NotCommitRecord, NotCommit, DiskFact, Fine, onto}
 use Rattle.vector_laws.proofs.Facts.{Later, onto_later, factless, pulls_later, tables_later, view_later, numbered_none}

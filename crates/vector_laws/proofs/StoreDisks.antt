@@ -1,5 +1,5 @@
 -- What the storage site does to its disk: a commit writes one version and tells it once, all else writes nothing.
-use Rattle.std.proofs.Common.{ℕ, ◌+◌, ◌==◌, true, false, length, List, [], Option, Some, None, refl, inl, inr}
+use Rattle.std.proofs.Common.{ℕ, ◌+◌, ◌==◌, true, false, List, [], Option, Some, None, refl, inl, inr}
 use Rattle.locus_ids.specs.declared.ids.Serial.{Serial}
 use Rattle.locus_ids.specs.declared.ids.Stamp.{Stamp}
 use Rattle.locus_ids.specs.declared.ids.Mode.{Mode}
@@ -8,12 +8,12 @@ use Rattle.locus_ids.specs.declared.refusal.Refusal.TheVariants as refusal
 use Rattle.trace_book.specs.declared.operation.Op.{Op}
 use Rattle.trace_book.specs.declared.operation.Op.TheVariants as op
 use Rattle.trace_book.specs.declared.operation.Outcome.TheVariants as result
-use Rattle.file_effects.specs.Effects.{Effect}
-use Rattle.file_effects.specs.Works.{counted}
+use Rattle.role_steps.specs.of_file_effects.Effects.{Effect}
+use Rattle.role_steps.specs.of_file_effects.Works.{counted}
 use Rattle.wire_messages.specs.declared.body.CloseAnswer.{CloseAnswer}
 use Rattle.wire_messages.specs.declared.body.CloseAnswer.TheVariants as closing
 use Rattle.role_steps.specs.Views.{Frame, Store, DiskWrite, Outcome, quiet, sends, and_then}
-use Rattle.role_steps.specs.Storage.{StoreRequest, instance_of, own_ino, opens, opens_made, on_open_ss_of, on_open_ss, is_spent, copy_made, commit_record, commits, next_stamp, next_vector, shuts, shuts_again, closes_owing, closes, on_close_at, on_close_of, on_close, ends_at, on_closed_ok_of, on_closed_ok}
+use Rattle.role_steps.specs.Storage.{StoreRequest, instance_of, own_ino, opens, opens_made, on_open_ss_of, on_open_ss, is_spent, commit_write, commits, next_stamp, next_vector, shuts, shuts_again, closes_owing, closes, on_close_at, on_close_of, on_close, ends_at, on_closed_ok_of, on_closed_ok}
 use Rattle.role_steps.specs.Operations.{acts, acts_committed, commits_owing, last_committed, commit_op, executes_effect, executes, op_again, by_number, on_op_at, on_op_of, on_op}
 use Rattle.role_steps.specs.OperationEffects.{Mending, effect_of}
 use Rattle.role_steps.specs.declared.instances.Instance.{Instance}
@@ -68,7 +68,7 @@ commits_disk f i s = inr (
 )
   where
     d : DiskWrite
-    d = record { copy = copy_made i (next_vector f i) (next_stamp f (next_vector f i)); pages = length i.work.changed; says = commit_record f i (next_stamp f (next_vector f i)) }
+    d = commit_write f i (next_vector f i) (next_stamp f (next_vector f i))
 
 -- ---- closes ----
 

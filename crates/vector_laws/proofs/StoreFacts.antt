@@ -10,9 +10,9 @@ use Rattle.trace_book.specs.declared.operation.Op.{Op}
 use Rattle.trace_book.specs.declared.operation.Op.TheVariants as op
 use Rattle.trace_book.specs.declared.operation.Outcome.{Outcome as Result}
 use Rattle.trace_book.specs.declared.operation.Outcome.TheVariants as result
-use Rattle.file_effects.specs.Effects.{Effect}
-use Rattle.file_effects.specs.Works.{counted, carried_out}
-use Rattle.file_effects.specs.declared.work.Work.{Work}
+use Rattle.role_steps.specs.of_file_effects.Effects.{Effect}
+use Rattle.role_steps.specs.of_file_effects.Works.{counted, carried_out}
+use Rattle.role_steps.specs.of_file_effects.declared.work.Work.{Work}
 use Rattle.wire_messages.specs.declared.packet.Packet.{Packet}
 use Rattle.wire_messages.specs.declared.body.Body.{Body}
 use Rattle.wire_messages.specs.declared.body.Body.TheVariants as body
@@ -29,7 +29,7 @@ use Rattle.role_steps.specs.declared.instances.Instance.{Instance}
 use Rattle.role_steps.specs.declared.instances.Stage.{Stage}
 use Rattle.role_steps.specs.declared.instances.Stage.TheVariants as stage
 use Rattle.role_steps.proofs.Sending.{every_cond}
-use Rattle.the_run.proofs.InsideSync.{every_row, Found, row_found}
+use Rattle.run_laws.proofs.of_the_run.InsideSync.{every_row, Found, row_found}
 use Rattle.vector_laws.specs.Written.{JoinsAll, WrittenAs, WasBegun}
 use Rattle.vector_laws.specs.Facts.{BaseFact, MaybeMade, BodyFact, PacketFact, CopyFact, ClosingFact, StageFact, LastMade, InstanceFact, StoreFact, Fine, onto}
 use Rattle.vector_laws.proofs.Facts.{Later, one_later, joins_later, store_later, copies_later, instances_later, instance_later, stage_later, then_fine}

@@ -28,7 +28,7 @@ use Rattle.role_steps.specs.declared.synchronizing.OpenStage.TheVariants as stag
 use Rattle.role_steps.specs.declared.synchronizing.LastLook.{LastLook}
 use Rattle.role_steps.specs.declared.synchronizing.Early.{Early}
 use Rattle.role_steps.proofs.Sending.{every_append}
-use Rattle.the_run.proofs.InsideSync.{Found, row_found}
+use Rattle.run_laws.proofs.of_the_run.InsideSync.{Found, row_found}
 use Rattle.vector_laws.specs.Written.{WrittenAs, InstancesAgree, WasGranted}
 use Rattle.vector_laws.specs.Facts.{file_in, ReportedFact, MadeFact, MaybeMade, PacketFact, RowFact, GrantFact, OpenFact, WaitingFact, EarlyFact, TableFact, onto}
 use Rattle.vector_laws.proofs.Facts.{Later, one_later, onto_later, table_later, packets_later}
@@ -159,10 +159,6 @@ published_fact past f ss inst r (Some v) t agree key group granted made h =
     let k : (known.ino ≡ r.file.ino) × RowFact past t.group known = known_row past t.group r.file.ino r.kind r.set (file_row t r.file.ino) (row_at (RowFact past t.group) row_ino r.file.ino t.files h.files) in
     let w : WrittenAs past (file_in t.group known.ino) v.stamp v.vector = subst (λ (ino : ℕ). WrittenAs past (file_in t.group ino) v.stamp v.vector) (sym k.0) (made_here past f inst t r v agree key group granted made) in
     table_row past f.epoch t (published_row ss r v (file_row t r.file.ino)) (noted_row past t.group ss v.stamp _ (version_row past t.group (record { stamp = v.stamp; vector = v.vector; size = v.size }) known w k.1)) h
-
-published_group : (ss : ℕ) (r : OpenRow) (made : Option MadeVersion) (t : SyncTable) → (published ss r made t).group ≡ t.group
-published_group ss r None t = refl
-published_group ss r (Some v) t = refl
 
 published_sent : (past : List Told) (f : Frame) (r : OpenRow) (made : Option MadeVersion) (t : SyncTable) → TableFact past f.epoch t → Every (PacketFact past) (published_notices f r made t)
 published_sent past f r None t h = tt

@@ -2,6 +2,7 @@
 use Rattle.std.proofs.Common.{◌≡◌, ℕ, zero, suc, ◌==◌, max, Bool, true, false, cond, List, [], ◌∷◌, ◌++◌, filter, replicate, Option, Some, None, refl, sym, ◌∙◌, subst, inl, arith}
 use Rattle.std.proofs.lemmas.Bool.Decides.{nat_tests}
 use Rattle.std.specs.List.{flat_map}
+use Rattle.role_steps.proofs.of_plain_facts.Numbers.{equal}
 use Rattle.locus_ids.specs.declared.ids.EpochId.{EpochId}
 use Rattle.locus_ids.specs.declared.ids.FileId.{FileId}
 use Rattle.locus_ids.specs.declared.ids.Kind.{Kind}
@@ -12,9 +13,10 @@ use Rattle.locus_ids.specs.declared.ids.Serial.{Serial}
 use Rattle.locus_ids.specs.declared.ids.Stamp.{Stamp}
 use Rattle.locus_ids.specs.declared.refusal.Refusal.{Refusal}
 use Rattle.locus_ids.specs.declared.refusal.Refusal.TheVariants as refusal
+use Rattle.locus_ids.specs.Sizes.{sites_max}
 use Rattle.version_vector.specs.Counters.{part}
 use Rattle.version_vector.proofs.Counting.{part-joined}
-use Rattle.dir_format.specs.Entries.{nothing_seen}
+use Rattle.role_steps.specs.of_dir_format.Entries.{nothing_seen}
 use Rattle.trace_book.specs.declared.operation.What.{What}
 use Rattle.trace_book.specs.declared.operation.What.TheVariants as what
 use Rattle.wire_messages.specs.declared.body.Opening.{Opening}
@@ -38,7 +40,7 @@ use Rattle.role_steps.specs.declared.synchronizing.OpenStage.{OpenStage}
 use Rattle.role_steps.specs.declared.synchronizing.OpenStage.TheVariants as stage
 use Rattle.role_steps.specs.declared.synchronizing.LastLook.{LastLook}
 use Rattle.role_steps.proofs.Sending.{every_append, every_cond, every_map}
-use Rattle.the_run.proofs.InsideSync.{every_row, Found, row_found}
+use Rattle.run_laws.proofs.of_the_run.InsideSync.{every_row, Found, row_found}
 use Rattle.vector_laws.specs.Written.{CountsNone, JoinsAll, WrittenAs}
 use Rattle.vector_laws.specs.Facts.{file_in, BaseFact, PacketFact, NoFact, VersionFact, RowFact, GrantFact, OpenFact, LookFact, TableFact, onto}
 use Rattle.vector_laws.proofs.Facts.{base_later, one_later, onto_later, onto_append, packets_later, table_later, no_fact}
@@ -50,12 +52,9 @@ abbrev pub FoundAt : {A : Type 0} → (A → Type 0) → (A → ℕ) → ℕ →
 FoundAt P key k None = Unit {0}
 FoundAt P key k (Some x) = (key x ≡ k) × P x
 
-test_same : (a b : ℕ) → (a == b) ≡ true → a ≡ b
-test_same a b e = grind (arith, nat_tests)
-
 pub row_at : {A : Type 0} (P : A → Type 0) (key : A → ℕ) (k : ℕ) (xs : List A) → Every P xs → FoundAt P key k (row key k xs)
 row_at P key k [] h = tt
-row_at P key k (x ∷ xs) h = (elim (key x == k) as (λ b. (key x == k) ≡ b → FoundAt P key k (elim b [ true ↦ Some x | false ↦ row key k xs ])) [ true ↦ λ e. (test_same (key x) k e, h.0) | false ↦ λ e. row_at P key k xs h.1 ]) refl
+row_at P key k (x ∷ xs) h = (elim (key x == k) as (λ b. (key x == k) ≡ b → FoundAt P key k (elim b [ true ↦ Some x | false ↦ row key k xs ])) [ true ↦ λ e. (equal (key x) k e, h.0) | false ↦ λ e. row_at P key k xs h.1 ]) refl
 
 pub every_latest : {A : Type 0} (P : A → Type 0) (key : A → ℕ) (x : A) (xs : List A) → P x → Every P xs → Every P (with_latest key x xs)
 every_latest P key x [] p h = (p, tt)
@@ -77,7 +76,7 @@ zero_counts (suc n) zero = refl
 zero_counts (suc n) (suc t) = zero_counts n t
 
 pub seen_none : CountsNone nothing_seen
-seen_none t = zero_counts 16 t
+seen_none t = zero_counts sites_max t
 
 max_none : (a b : ℕ) → b ≡ 0 → a ≡ max a b
 max_none a b e = grind (arith, nat_tests)

@@ -28,7 +28,7 @@ use Rattle.role_steps.specs.declared.synchronizing.OpenStage.{OpenStage}
 use Rattle.role_steps.specs.declared.synchronizing.OpenStage.TheVariants as opening
 use Rattle.role_steps.specs.declared.synchronizing.LastLook.{LastLook}
 use Rattle.role_steps.specs.declared.synchronizing.Early.{Early}
-use Rattle.the_run.specs.Worlds.{World, Place, Running, Numbered, place_at}
+use Rattle.run_laws.specs.of_the_run.Worlds.{World, Place, Running, Numbered, place_at}
 use Rattle.vector_laws.specs.Held.{copies_on}
 use Rattle.vector_laws.specs.Written.{past_of, CommitsAreNumbered, InstancesAgree, NumberedTold, CountsNone, JoinsAll, WrittenAs, WasBegun, WasGranted}
 

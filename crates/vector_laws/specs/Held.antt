@@ -11,7 +11,7 @@ use Rattle.role_steps.specs.Views.{Told, Shown, DiskWrite, file_key}
 use Rattle.role_steps.specs.Storage.{copy_key}
 use Rattle.role_steps.specs.Versions.{is_below}
 use Rattle.role_steps.specs.declared.copies.FileCopy.{FileCopy}
-use Rattle.the_run.specs.Worlds.{World, Place, Running, Stopped, Line, place_at, formatted}
+use Rattle.run_laws.specs.of_the_run.Worlds.{World, Place, Running, Stopped, Line, place_at, formatted}
 
 -- ---- the last record of a version on a disk ----
 

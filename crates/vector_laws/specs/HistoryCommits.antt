@@ -2,6 +2,7 @@
 use Rattle.std.specs.Prelude.{ℕ, ◌≡◌, ◌≤◌, ◌<◌, ◌-◌, ◌⊎◌, ◌↔◌, true, not, cond, List, [], ◌∷◌, filter, Some, Option, None}
 use Rattle.locus_ids.specs.declared.ids.FileId.{FileId}
 use Rattle.locus_ids.specs.declared.ids.Stamp.{Stamp}
+use Rattle.locus_ids.specs.Sizes.{inode_span, sites_max}
 use Rattle.version_vector.specs.Counters.{part, AllLe}
 use Rattle.commit_graph.specs.declared.history.Version.{Version}
 use Rattle.commit_graph.specs.Versions.{same_file, is_in, is_ancestor}
@@ -14,7 +15,7 @@ use Rattle.role_steps.specs.Tables.{row}
 use Rattle.role_steps.specs.Views.{Told, Shown, file_key}
 use Rattle.role_steps.specs.Storage.{copy_key}
 use Rattle.role_steps.specs.declared.copies.FileCopy.{FileCopy}
-use Rattle.the_run.specs.Worlds.{World, Place, place_at}
+use Rattle.run_laws.specs.of_the_run.Worlds.{World, Place, place_at}
 use Rattle.vector_laws.specs.Held.{copies_on}
 use Rattle.vector_laws.specs.Written.{past_of, CommitsAreNumbered}
 
@@ -46,7 +47,7 @@ StampsAreOnce past = (file : FileId) → NoneTwice (commits_of file past)
 
 pub record IsSite (s : ℕ) : Type 0 where
   pub low : 1 ≤ s
-  pub high : s ≤ 16
+  pub high : s ≤ sites_max
 
 abbrev pub SitedRecord : Record → Type 0
 SitedRecord (says.Commit g s stamp parents content) = IsSite s
@@ -91,8 +92,8 @@ CopiesAreTrue w = (s : ℕ) (p : Place) → place_at w s ≡ Some p → Every (I
 -- ---- what a site holds of its own ----
 
 abbrev pub FitRecord : Record → Type 0
-FitRecord (says.Commit g s stamp parents content) = g.ino < 65536
-FitRecord (says.Adopt g s stamp) = g.ino < 65536
+FitRecord (says.Commit g s stamp parents content) = g.ino < inode_span
+FitRecord (says.Adopt g s stamp) = g.ino < inode_span
 FitRecord _ = Unit {0}
 
 abbrev pub FitTold : Told → Type 0
@@ -113,7 +114,7 @@ IsHeldAt past s file None = (a : Stamp) → is_in (commits_of file past) file a 
 IsHeldAt past s file (Some x) = (x.file ≡ file) × HoldsOwn past s x
 
 abbrev pub CommitsAreHeld : World → Type 0
-CommitsAreHeld w = (s : ℕ) (p : Place) (file : FileId) → place_at w s ≡ Some p → file.ino < 65536 → IsHeldAt (past_of w.trace) s file (row copy_key (file_key file) (copies_on p))
+CommitsAreHeld w = (s : ℕ) (p : Place) (file : FileId) → place_at w s ≡ Some p → file.ino < inode_span → IsHeldAt (past_of w.trace) s file (row copy_key (file_key file) (copies_on p))
 
 -- the same by counters: the copy counts each commit of its file at this site
 abbrev pub CountsOwn : List Told → ℕ → FileId → Option FileCopy → Type 0
@@ -121,7 +122,7 @@ CountsOwn past s file None = (a : Stamp) → is_in (commits_of file past) file a
 CountsOwn past s file (Some x) = (x.file ≡ file) × ((a : Stamp) → is_in (commits_of file past) file a ≡ true → a.site ≡ s → a.n ≤ part x.vector (s - 1))
 
 abbrev pub AllCounted : List Told → ℕ → List FileCopy → Type 0
-AllCounted past s copies = (file : FileId) → file.ino < 65536 → CountsOwn past s file (row copy_key (file_key file) copies)
+AllCounted past s copies = (file : FileId) → file.ino < inode_span → CountsOwn past s file (row copy_key (file_key file) copies)
 
 pub record Lawful (past : List Told) : Type 0 where
   pub numbered : CommitsAreNumbered past

@@ -9,7 +9,7 @@ use Rattle.trace_book.specs.declared.record.Record.TheVariants as says
 use Rattle.role_steps.specs.Own.{Every}
 use Rattle.role_steps.specs.Views.{Told, Shown, Begins, serial_key}
 use Rattle.role_steps.specs.declared.copies.FileCopy.{FileCopy}
-use Rattle.the_run.specs.Worlds.{World, Place, Line, place_at}
+use Rattle.run_laws.specs.of_the_run.Worlds.{World, Place, Line, place_at}
 use Rattle.vector_laws.specs.Held.{copies_on}
 
 -- what was told before, the newest first

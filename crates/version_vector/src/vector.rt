@@ -5,7 +5,7 @@ use locus_ids::SiteId;
 use std::marker::Model;
 
 /// How two vectors stand to each other.
-#[derive(Clone, Copy, Debug, PartialEq, Eq)]
+#[derive(Clone, Copy, PartialEq, Eq)]
 pub enum Ordering4 {
     Same,
     /// Each counter is at most the other's, and one is less.
@@ -17,12 +17,12 @@ pub enum Ordering4 {
 }
 
 /// A counter is at its greatest value.
-#[derive(Clone, Copy, Debug, PartialEq, Eq)]
+#[derive(Clone, Copy, PartialEq, Eq)]
 pub struct Spent;
 
 /// A counter for each of the sites 1 to `N`, which are at most 32. Contracts see their list, and the counter of
 /// site s at place s - 1 of it.
-#[derive(Clone, Copy, Debug, PartialEq, Eq)]
+#[derive(Clone, Copy, PartialEq, Eq)]
 pub struct Vector<const N: usize> {
     n: [u32; N],
 }

@@ -1,5 +1,6 @@
 -- In every run the cut calls are counted: what each line and each event keeps.
 use Rattle.std.proofs.Common.{◌≡◌, ◌≢◌, ◌≤◌, ◌<◌, ℕ, ◌+◌, ◌==◌, nat_lt, Bool, true, false, cond, List, [], ◌∷◌, length, map, filter, Option, Some, refl, sym, ◌∙◌, ap, subst, arith}
+use Rattle.role_steps.proofs.of_plain_facts.Numbers.{apart_test, equal_self}
 use Rattle.locus_ids.specs.declared.config.Config.{Config}
 use Rattle.schedule_lines.specs.declared.line.Line.{Line as LineWords}
 use Rattle.schedule_lines.specs.declared.line.Line.TheVariants as line
@@ -26,18 +27,17 @@ use Rattle.row_laws.specs.ByLine.{IsLine, ArmsAs, KeptIn}
 use Rattle.row_laws.specs.Arms.{NoDisk}
 use Rattle.row_laws.specs.Voids.{LinesFit}
 use Rattle.row_laws.proofs.StepForms.{step_forms}
-use Rattle.row_laws.proofs.Tracing.{test_own, test_other}
 use Rattle.row_laws.proofs.AskedRun.{own_given, Courses, courses_kept, first_courses, last_within}
 use Rattle.row_laws.proofs.Causes.{comes_own, sent_polls}
 use Rattle.row_laws.proofs.Scripts.{rises_with, armed_here, armed_other}
 use Rattle.row_laws.proofs.ArmsRun.{disk_next}
 use Rattle.row_laws.proofs.ByLine.{every_line}
-use Rattle.one_tree_laws.specs.Rest.{IsRest, Past}
-use Rattle.one_tree_laws.specs.Roles.{EventFact, RolesDo}
-use Rattle.one_tree_laws.proofs.Staying.{stays}
-use Rattle.one_tree_laws.proofs.Cuts.{step_writes}
-use Rattle.one_tree_laws.proofs.Worlds.{Holds}
-use Rattle.one_tree_laws.proofs.Run.{kept, first_holds, event_fact, sent_fact}
+use Rattle.rest_laws.specs.of_one_tree_laws.Rest.{IsRest, Past}
+use Rattle.rest_laws.specs.of_one_tree_laws.Roles.{EventFact, RolesDo}
+use Rattle.rest_laws.proofs.of_one_tree_laws.Staying.{stays}
+use Rattle.rest_laws.proofs.of_one_tree_laws.Cuts.{step_writes}
+use Rattle.rest_laws.proofs.of_one_tree_laws.Worlds.{Holds}
+use Rattle.rest_laws.proofs.of_one_tree_laws.Run.{kept, first_holds, event_fact, sent_fact}
 use Rattle.rest_laws.specs.MendStepCounting.{IsCountedRow}
 use Rattle.whole_run_laws.specs.CutCounts.{SameArming, GatesAs, CountsAt, CountsAreTheRuns}
 use Rattle.whole_run_laws.proofs.CutShaped.{step_writes_first}
@@ -77,15 +77,15 @@ arms_by (line.ArmStop site calls left) a so = subst (ArmedBy (line.ArmStop site 
   arming = Stops calls left;
   same = refl;
   calls = refl;
-  here = λ d. ap (λ (b : Bool). cond b (record d { armed = newly_armed (Stops calls left) }) d) (test_own site);
-  there = λ t d ne. ap (λ (b : Bool). cond b (record d { armed = newly_armed (Stops calls left) }) d) (test_other site t ne);
+  here = λ d. ap (λ (b : Bool). cond b (record d { armed = newly_armed (Stops calls left) }) d) (equal_self site);
+  there = λ t d ne. ap (λ (b : Bool). cond b (record d { armed = newly_armed (Stops calls left) }) d) (apart_test site t ne);
 })
 arms_by (line.ArmFail site calls) a so = subst (ArmedBy (line.ArmFail site calls)) (sym so) (record {
   arming = Fails calls;
   same = tt;
   calls = refl;
-  here = λ d. ap (λ (b : Bool). cond b (record d { armed = newly_armed (Fails calls) }) d) (test_own site);
-  there = λ t d ne. ap (λ (b : Bool). cond b (record d { armed = newly_armed (Fails calls) }) d) (test_other site t ne);
+  here = λ d. ap (λ (b : Bool). cond b (record d { armed = newly_armed (Fails calls) }) d) (equal_self site);
+  there = λ t d ne. ap (λ (b : Bool). cond b (record d { armed = newly_armed (Fails calls) }) d) (apart_test site t ne);
 })
 arms_by _ a so = absurd so
 

@@ -12,7 +12,7 @@ use Rattle.role_steps.specs.Views.{SiteView, Told, Shown, DiskWrite, Outcome}
 use Rattle.role_steps.specs.declared.rounds.InEpoch.{InEpoch}
 use Rattle.tree_model.specs.Folds.{Trace}
 use Rattle.tree_model.specs.Epochs.{is_up}
-use Rattle.the_run.specs.Disks.{Disk as DiskLeft, Armed as Script, Booted, Whole, CutOff, boots, boot_writes, boots_freely, write_calls, cut_disk, is_on_disk}
+use Rattle.the_run.specs.Disks.{Disk as DiskLeft, Armed as Script, Booted, Whole, CutOff, boots, boot_writes, boots_freely, writing_of, write_calls, cut_disk, is_on_disk}
 use Rattle.the_run.specs.Runs.{asked_stop, boots_as}
 use Rattle.the_run.specs.Worlds.{World, Place, Running, Stopped, Line, place_at, script_of, told_onto, happened, puts, arms, stops_with, disk_of, cause_of, cut_event, runs_on, spends, writes_of, acts_of, acts, fresh}
 use Rattle.the_run.proofs.Boots.{at_each}
@@ -26,18 +26,18 @@ use Rattle.row_laws.specs.Arms.{NoDisk, Rises}
 use Rattle.row_laws.proofs.ArmsTraced.{disk_more, quiet_onto, no_disks}
 use Rattle.row_laws.proofs.Scripts.{gone_script, other_script, rises_with, rises_without, armed_here, armed_other, script_site}
 use Rattle.row_laws.proofs.Versions.{VersionOf, version_of, Version, a_version}
-use Rattle.one_tree_laws.specs.Places.{SiteIn, WorldFact}
-use Rattle.one_tree_laws.specs.Rest.{IsRest, AllRest, Past}
-use Rattle.one_tree_laws.proofs.Composing.{rest_before, rest_told}
-use Rattle.one_tree_laws.proofs.Cuts.{WritesSo}
-use Rattle.one_tree_laws.proofs.Worlds.{Holds}
+use Rattle.rest_laws.specs.of_one_tree_laws.Places.{SiteIn, WorldFact}
+use Rattle.rest_laws.specs.of_one_tree_laws.Rest.{IsRest, AllRest, Past}
+use Rattle.rest_laws.proofs.of_one_tree_laws.Composing.{rest_before, rest_told}
+use Rattle.rest_laws.proofs.of_one_tree_laws.Cuts.{WritesSo}
+use Rattle.rest_laws.proofs.of_one_tree_laws.Worlds.{Holds}
 use Rattle.rest_laws.proofs.Shown.{shown_entries}
 use Rattle.rest_laws.specs.MendStepCounting.{CountedRecord, IsCountedRow}
 use Rattle.whole_run_laws.specs.CutCounts.{GatesAs, CountsAt, CountsAreTheRuns}
 use Rattle.whole_run_laws.proofs.CutBoots.{BootCounts, boot_counts, boot_free, GoesOn, boot_goes}
 use Rattle.whole_run_laws.proofs.CutShaped.{DiskFirst}
 use Rattle.whole_run_laws.proofs.CutPlaced.{write_is}
-use Rattle.whole_run_laws.proofs.CutWrites.{writing_of, has_calls, free_write, whole_write, cut_write, lost_write}
+use Rattle.whole_run_laws.proofs.CutWrites.{has_calls, free_write, whole_write, cut_write, lost_write}
 use Rattle.whole_run_laws.proofs.CutTraced.{up_here, up_there, stop_here, stop_there, version_up, onto_counted, version_counted, cut_counted, may_now, may_then}
 
 -- as far as other laws give the rest of what was told
@@ -296,7 +296,7 @@ acts_counts c lines m s k v o w here up h (inr (d, wr)) writes holds g =
         (λ f. whole_write v.store d (disk_at c lines (trace_of w) m s) a v o.view enough (site_by c lines m s (Some a) (Some (Running v)) w e here f))
 
     cutting : (a : Script) → script_of w s ≡ Some a → nat_lt a.left (write_calls v.store d) ≡ true → Counts c lines m (cut_event m s v d a w)
-    cutting a e less = (elim (is_on_disk d a.how a.left) as (λ b. is_on_disk d a.how a.left ≡ b → Counts c lines m (happened m [] (cond b (Shown d.says ∷ Shown (says.Stopped s (cause_of a.how)) ∷ []) (Shown (says.Stopped s (cause_of a.how)) ∷ [])) (stops_with s left) w)) [
+    cutting a e less = (elim (is_on_disk v.store d a.how a.left) as (λ b. is_on_disk v.store d a.how a.left ≡ b → Counts c lines m (happened m [] (cond b (Shown d.says ∷ Shown (says.Stopped s (cause_of a.how)) ∷ []) (Shown (says.Stopped s (cause_of a.how)) ∷ [])) (stops_with s left) w)) [
       | true ↦ λ q. cut_counts c lines m s d.says (writing_of v.store d) a left w own up e (so (Shown (says.Stopped s (cause_of a.how)) ∷ []))
           (λ f. cut_write v.store d (disk_at c lines (trace_of w) m s) a v.boot v less (site_by c lines m s (Some a) (Some (Running v)) w e here f)) g
       | false ↦ λ q. stop_counts c lines m s (cause_of a.how) true left w up (λ f. cut_counted c lines m s a.how (trace_of w) (may_now c lines m s (trace_of w) (calls_left c lines m s a w e f)))

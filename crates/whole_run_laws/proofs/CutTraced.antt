@@ -1,6 +1,8 @@
 -- The disks of the lawful trace and the rows of cut calls, record by record.
 use Rattle.std.proofs.Common.{◌≡◌, ◌≢◌, ℕ, Bool, true, false, cond, ◌||◌, List, [], ◌∷◌, Option, Some, refl, sym, ◌∙◌, ap, subst}
 use Rattle.std.specs.Option.{is_some}
+use Rattle.role_steps.proofs.of_plain_facts.Numbers.{apart_test, equal_self}
+use Rattle.role_steps.proofs.of_plain_facts.Tests.{false_true, or_second}
 use Rattle.locus_ids.specs.declared.config.Config.{Config}
 use Rattle.schedule_lines.specs.declared.line.Line.{Line as LineWords}
 use Rattle.schedule_lines.specs.declared.line.Line.TheVariants as line
@@ -19,24 +21,22 @@ use Rattle.lawful_trace.specs.Disks.{Disk, armed_by, booted_with, stopped_with, 
 use Rattle.row_laws.specs.ByLine.{begins_quietly, IsVoidIn, Gives}
 use Rattle.row_laws.specs.Shown.{with_told, shown, EachRecord}
 use Rattle.row_laws.specs.Arms.{NoDiskRecord, NoDisk}
-use Rattle.row_laws.proofs.ArmsTraced.{or_right}
-use Rattle.row_laws.proofs.Tracing.{test_own, test_other}
 use Rattle.row_laws.proofs.Versions.{VersionOf}
 use Rattle.rest_laws.specs.MendStepCounting.{CountedRecord, IsCountedRow}
 
 -- ---- boots and stops ----
 
 pub up_here : (c : Config) (s boot : ℕ) (before : Trace) (d : Disk) → disk_after (says.Up s boot) c before s d ≡ booted_with d d.armed
-up_here c s boot before d = ap (λ (b : Bool). cond b (booted_with d d.armed) d) (test_own s)
+up_here c s boot before d = ap (λ (b : Bool). cond b (booted_with d d.armed) d) (equal_self s)
 
 pub up_there : (c : Config) (s t boot : ℕ) (before : Trace) (d : Disk) → s ≢ t → disk_after (says.Up s boot) c before t d ≡ d
-up_there c s t boot before d ne = ap (λ (b : Bool). cond b (booted_with d d.armed) d) (test_other s t ne)
+up_there c s t boot before d ne = ap (λ (b : Bool). cond b (booted_with d d.armed) d) (apart_test s t ne)
 
 pub stop_here : (c : Config) (s : ℕ) (why : StopCause) (up : Bool) (before : Trace) (d : Disk) → is_up before s ≡ up → disk_after (says.Stopped s why) c before s d ≡ stopped_with up d d.armed
-stop_here c s why up before d e = ap (λ (b : Bool). cond b (stopped_with (is_up before s) d d.armed) d) (test_own s) ∙ ap (λ (b : Bool). stopped_with b d d.armed) e
+stop_here c s why up before d e = ap (λ (b : Bool). cond b (stopped_with (is_up before s) d d.armed) d) (equal_self s) ∙ ap (λ (b : Bool). stopped_with b d d.armed) e
 
 pub stop_there : (c : Config) (s t : ℕ) (why : StopCause) (before : Trace) (d : Disk) → s ≢ t → disk_after (says.Stopped s why) c before t d ≡ d
-stop_there c s t why before d ne = ap (λ (b : Bool). cond b (stopped_with (is_up before t) d d.armed) d) (test_other s t ne)
+stop_there c s t why before d ne = ap (λ (b : Bool). cond b (stopped_with (is_up before t) d d.armed) d) (apart_test s t ne)
 
 -- a version leaves its site running
 pub version_up : (s t line : ℕ) (r : Record) (before : Trace) → VersionOf s r → is_up (record { line = line; what = r } ∷ before) t ≡ is_up before t
@@ -72,7 +72,7 @@ may_now c lines n s before h = ap (λ (b : Bool). b || has_left (armed_at c line
 
 -- or up to the version that was cut off
 pub may_then : (c : Config) (lines : List ScheduleLine) (n s m t : ℕ) (r : Record) (before : Trace) → writer_of r ≡ Some t → has_left (armed_at c lines before n s) ≡ true → may_cut c lines (record { line = m; what = r } ∷ before) n s ≡ true
-may_then c lines n s m t r before e h = or_right (has_left (armed_at c lines (record { line = m; what = r } ∷ before) n s)) (has_left (armed_at c lines (without_version (record { line = m; what = r } ∷ before)) n s)) (subst (λ (now : Trace). has_left (armed_at c lines now n s) ≡ true) (sym without) h)
+may_then c lines n s m t r before e h = or_second (has_left (armed_at c lines (record { line = m; what = r } ∷ before) n s)) (has_left (armed_at c lines (without_version (record { line = m; what = r } ∷ before)) n s)) (subst (λ (now : Trace). has_left (armed_at c lines now n s) ≡ true) (sym without) h)
   where
     without : without_version (record { line = m; what = r } ∷ before) ≡ before
     without = ap (λ (o : Option ℕ). cond (is_some o) before (record { line = m; what = r } ∷ before)) e
@@ -82,12 +82,9 @@ may_then c lines n s m t r before e h = or_right (has_left (armed_at c lines (re
 abbrev pub LeavesDisks : ScheduleLine → Type 0
 LeavesDisks l = (s : ℕ) (d : Disk) → armed_by s l d ≡ d
 
-never : false ≡ true → ⊥
-never e = cc
-
 pub quiet_leaves : (l : ScheduleLine) → begins_quietly l ≡ true → LeavesDisks l
-quiet_leaves (EventLine (line.ArmStop site calls left)) e = absurd (never e)
-quiet_leaves (EventLine (line.ArmFail site calls)) e = absurd (never e)
+quiet_leaves (EventLine (line.ArmStop site calls left)) e = absurd (false_true e)
+quiet_leaves (EventLine (line.ArmFail site calls)) e = absurd (false_true e)
 quiet_leaves _ e = λ s d. refl
 
 pub void_leaves : (w : World) (l : LineWords) → IsVoidIn w l → LeavesDisks (EventLine l)

@@ -3,6 +3,7 @@ use Rattle.std.proofs.Common.{◌≡◌, ◌≤◌, ◌<◌, ℕ, List, length, 
 use Rattle.std.specs.Option.{option_map}
 use Rattle.locus_ids.specs.declared.config.Config.{Config}
 use Rattle.locus_ids.specs.declared.ids.FileId.{FileId}
+use Rattle.locus_ids.specs.Sizes.{inode_span}
 use Rattle.schedule_lines.specs.Cluster.{config_of}
 use Rattle.schedule_lines.specs.Schedule.{AreInOrder}
 use Rattle.schedule_lines.specs.declared.line.ScheduleLine.{ScheduleLine}
@@ -21,9 +22,9 @@ use Rattle.order_laws.specs.Joining.{PacksAreOfSites}
 use Rattle.tree_laws.specs.Printed.{entries}
 use Rattle.tree_laws.specs.Stores.{copy_for}
 use Rattle.rest_laws.proofs.StoreStepFirst.{four_groups}
-use Rattle.one_tree_laws.specs.Places.{PlaceFact, SiteIn, WorldFact}
-use Rattle.one_tree_laws.proofs.Run.{run_holds}
-use Rattle.one_tree_laws.proofs.Staying.{stays}
+use Rattle.rest_laws.specs.of_one_tree_laws.Places.{PlaceFact, SiteIn, WorldFact}
+use Rattle.rest_laws.proofs.of_one_tree_laws.Run.{run_holds}
+use Rattle.rest_laws.proofs.of_one_tree_laws.Staying.{stays}
 use Rattle.rest_laws.proofs.Packs.{schedule_packs}
 use Rattle.rest_laws.proofs.Resting.{run_low, run_rests}
 use Rattle.rest_laws.proofs.Roles.{roles_do}
@@ -34,11 +35,11 @@ use Rattle.whole_run_laws.specs.Disks.{DisksHold}
 abbrev Holds : Config → List Line → ℕ → FileId → Place → Type 0
 Holds c trace s f p = row copy_key (file_key f) (copies_on p) ≡ option_map (copy_for f) (held_version c (entries trace) s f)
 
-inside_or_not : (c : Config) (trace : List Line) (s : ℕ) (f : FileId) → f.ino < 65536 → (v : SiteView) (e : Option InEpoch) → SiteIn c s trace v e → Holds c trace s f (Running v)
+inside_or_not : (c : Config) (trace : List Line) (s : ℕ) (f : FileId) → f.ino < inode_span → (v : SiteView) (e : Option InEpoch) → SiteIn c s trace v e → Holds c trace s f (Running v)
 inside_or_not c trace s f low v None h = h.copies.are f low
 inside_or_not c trace s f low v (Some e) h = h.store.copies.are f low
 
-place_holds : (c : Config) (trace : List Line) (s : ℕ) (f : FileId) → f.ino < 65536 → (p : Place) → PlaceFact c s trace p → Holds c trace s f p
+place_holds : (c : Config) (trace : List Line) (s : ℕ) (f : FileId) → f.ino < inode_span → (p : Place) → PlaceFact c s trace p → Holds c trace s f p
 place_holds c trace s f low (Running v) h = inside_or_not c trace s f low v v.epoch h
 place_holds c trace s f low (Stopped d) h = h.copies.are f low
 

@@ -9,3 +9,6 @@ pub mod CutTraced
 pub mod CutEvents
 pub mod CutCourse
 pub mod CutRun
+pub use Rattle.orderly_traces.proofs as of_orderly_traces
+pub use Rattle.rest_laws.proofs as of_rest_laws
+pub use Rattle.rest_laws.proofs.of_call_row_laws as of_call_row_laws

@@ -2,6 +2,8 @@
 use Rattle.std.proofs.Common.{◌≡◌, ◌≢◌, ℕ, zero, suc, ◌+◌, ◌≤◌, ◌<◌, ◌==◌, nat_lt, Bool, true, false, cond, ◌||◌, ◌&&◌, List, [], ◌∷◌, length, take, Option, Some, None, refl, sym, ◌∙◌, ap, subst, inr, arith, slice_index_or}
 use Rattle.std.proofs.lemmas.Bool.Decides.{nat_tests}
 use Rattle.std.specs.List.{list_any}
+use Rattle.role_steps.proofs.of_plain_facts.Numbers.{apart_test}
+use Rattle.role_steps.proofs.of_plain_facts.Tests.{and_false}
 use Rattle.locus_ids.specs.declared.config.Config.{Config}
 use Rattle.schedule_lines.specs.declared.line.Line.{Line as LineWords}
 use Rattle.schedule_lines.specs.declared.line.Line.TheVariants as line
@@ -33,10 +35,9 @@ use Rattle.row_laws.specs.Shown.{shown, with_told, trace_of}
 use Rattle.row_laws.proofs.AskedRun.{Courses, courses_kept, first_courses}
 use Rattle.row_laws.proofs.ByLine.{line_keeps}
 use Rattle.row_laws.proofs.StepForms.{step_forms}
-use Rattle.row_laws.proofs.Tracing.{test_other}
 use Rattle.run_laws.proofs.Run.{found_among}
-use Rattle.orderly_laws.proofs.Counts.{Counted, acts_counts, taken_counts, counted_kept, first_counts}
-use Rattle.orderly_laws.proofs.Rounds.{next_among}
+use Rattle.orderly_traces.proofs.of_orderly_laws.Counts.{Counted, acts_counts, taken_counts, counted_kept, first_counts}
+use Rattle.orderly_traces.proofs.of_orderly_laws.Rounds.{next_among}
 use Rattle.orderly_traces.proofs.Spans.{world, next_world, one_more, before_at}
 use Rattle.whole_run_laws.specs.Rounds.{LargeRoundsEnd}
 
@@ -87,7 +88,7 @@ acts_none n s k v o w h g =
     acts_cases (λ u. NoEnd n u.trace) n s v o w
     (happened_none n o.sent o.told _ w refl (sites_none s k o.told h.told) g)
     (λ a. happened_none n o.sent o.told _ w refl (sites_none s k o.told h.told) g)
-    (λ d a e. happened_none n [] _ _ w refl (cut_none s (cause_of a.how) d.says (is_on_disk d a.how a.left) (served_none d.says (subst RoleWrite e h.written))) g)
+    (λ d a e. happened_none n [] _ _ w refl (cut_none s (cause_of a.how) d.says (is_on_disk v.store d a.how a.left) (served_none d.says (subst RoleWrite e h.written))) g)
 
 -- ---- in the round ----
 
@@ -167,12 +168,8 @@ line_there [] k l e = absurd (passed_event l e)
 line_there (x ∷ xs) zero l e = omega arith
 line_there (x ∷ xs) (suc k) l e = (let h : suc k ≤ length xs = line_there xs k l e in omega (arith, h))
 
-and_false : (b : Bool) → (b && false) ≡ false
-and_false true = refl
-and_false false = refl
-
 other_none : (n : ℕ) (r : Record) (k : ℕ) (older : Trace) → k ≢ n → list_any (tells_budget n) older ≡ false → list_any (tells_budget n) (record { line = k; what = r } ∷ older) ≡ false
-other_none n r k older ne g = ap (λ (b : Bool). (is_budget r && b) || list_any (tells_budget n) older) (test_other k n ne) ∙ (ap (λ (b : Bool). b || list_any (tells_budget n) older) (and_false (is_budget r)) ∙ g)
+other_none n r k older ne g = ap (λ (b : Bool). (is_budget r && b) || list_any (tells_budget n) older) (apart_test k n ne) ∙ (ap (λ (b : Bool). b || list_any (tells_budget n) older) (and_false (is_budget r)) ∙ g)
 
 none_before : (n m : ℕ) (trace : List Line) → Ascends m trace → m < n → NoEnd n trace
 none_before n m [] a h = refl

@@ -1,12 +1,11 @@
 -- Members are their entries, both ways.
-use Rattle.std.proofs.Common.{◌≡◌, ◌≢◌, ℕ, zero, suc, ◌+◌, ◌-◌, ◌^◌, ◌<◌, ◌≤◌, ◌⊎◌, inl, inr, Bool, true, false, IsTrue, cond, eqb, leb, ◌&&◌, List, [], ◌∷◌, ◌++◌, length, get_or, set, drop, replicate, Ok, Err, refl, sym, ap, subst, ◌∙◌, append_assoc, arith}
-use Rattle.std.proofs.lemmas.Bool.{le-leb, eqb-true}
+use Rattle.std.proofs.Common.{◌≡◌, ℕ, zero, suc, ◌+◌, ◌-◌, ◌<◌, ◌≤◌, inl, inr, Bool, true, false, IsTrue, eqb, leb, ◌&&◌, List, [], ◌∷◌, ◌++◌, length, set, replicate, Ok, Err, refl, sym, ap, subst, ◌∙◌, append_assoc, arith}
+use Rattle.std.proofs.lemmas.Bool.{le-leb}
 use Rattle.std.proofs.lemmas.Bool.Decides.{eqb_tells, leb_tells}
-use Rattle.std.proofs.lemmas.List.{length-append, append-nil}
-use Rattle.locus_ids.specs.declared.sites.Members.{Members}
-use Rattle.std.proofs.Math.Seq.{drop-cons}
+use Rattle.std.proofs.lemmas.List.{length-append}
+use Rattle.field_codec.specs.of_locus_ids.Sizes.{sites_max}
+use Rattle.field_codec.specs.of_locus_ids.declared.sites.Members.{Members}
 use Rattle.std.proofs.Math.Dec.{eqb-suc-zero}
-use Rattle.std.proofs.Math.Numerals.{add-one}
 use Rattle.field_codec.specs.declared.faults.FieldFault.{FieldFault}
 use Rattle.field_codec.specs.Codec.{Codec, Unread, Read, ◌>>=◌, AreBytes, u8, u8_in, pair, from_to}
 use Rattle.field_codec.specs.Lists.{AllFit, read_times}
@@ -18,7 +17,7 @@ use Rattle.wire_fields.specs.Memberships.{Entry, entries, entries_from, boots_wi
 use Rattle.wire_fields.proofs.PartLaws.{u8_in_laws, numbers_laws}
 
 abbrev pub entry_from : ℕ → Codec Entry
-entry_from least = pair (u8_in least 16) numbers
+entry_from least = pair (u8_in least sites_max) numbers
 
 abbrev pub next_least : ℕ → Entry → ℕ
 next_least _ entry = entry.0 + 1
@@ -27,7 +26,7 @@ abbrev pub Ascend : ℕ → List Entry → Type 0
 Ascend s es = AllFit entry_from next_least s es
 
 pub entries_laws : Lawful entries
-entries_laws = counted_laws entry_from next_least (λ least. pair_laws (u8_in_laws least 16) numbers_laws) u8 u8_laws 1
+entries_laws = counted_laws entry_from next_least (λ least. pair_laws (u8_in_laws least sites_max) numbers_laws) u8 u8_laws 1
 
 both : (a b : Bool) → (a && b) ≡ true → (a ≡ true) × (b ≡ true)
 both true true h = (refl, refl)
@@ -65,15 +64,15 @@ boots_again front (b ∷ bs) s e = elim (eqb_tells b 0) [
 abbrev pub Boots : ℕ → ℕ → List Entry → Type 0
 Boots n s es = (bs : List ℕ) × (length bs ≡ n) × (entries_from s bs ≡ es)
 
-none_after : (s : ℕ) → 17 ≤ s → (es : List Entry) → Ascend s es → es ≡ []
+none_after : (s : ℕ) → sites_max + 1 ≤ s → (es : List Entry) → Ascend s es → es ≡ []
 none_after s le [] h = refl
-none_after s le (e ∷ es) h = let r = range s 16 e.0 h.0.0.0 in absurd (omega (arith, r.0, r.1))
+none_after s le (e ∷ es) h = let r = range s sites_max e.0 h.0.0.0 in absurd (omega (arith, r.0, r.1))
 
 same_entry : (e : Entry) (s : ℕ) → e.0 ≡ s → (let p : Entry = (s, e.1) in p) ≡ e
 same_entry e s same = ap (λ (n : ℕ). (n, e.1)) (sym same)
 
 -- entries that ascend are those of some boots
-pub boots_of : (n s : ℕ) → n + s ≡ 17 → (es : List Entry) → Ascend s es → Boots n s es
+pub boots_of : (n s : ℕ) → n + s ≡ sites_max + 1 → (es : List Entry) → Ascend s es → Boots n s es
 boots_of zero s sum es h = ([], refl, sym (none_after s (omega arith) es h))
 boots_of (suc n) s sum [] h = let k = boots_of n (s + 1) (omega arith) [] tt in (0 ∷ k.0, omega (arith, k.1), k.2)
 boots_of (suc n) s sum (e ∷ es) h = elim (eqb_tells e.0 s) [
@@ -82,9 +81,9 @@ boots_of (suc n) s sum (e ∷ es) h = elim (eqb_tells e.0 s) [
       let some : eqb e.1 0 ≡ false = positive e.1 (range 1 4294967295 e.1 h.0.1.0).0 in
       (e.1 ∷ k.0, omega (arith, k.1), rw some (ap (λ (t : List Entry). (s, e.1) ∷ t) k.2 ∙ ap (λ (x : Entry). x ∷ es) (same_entry e s is.1)))
   | inr isnt ↦
-      let r = range s 16 e.0 h.0.0.0 in
+      let r = range s sites_max e.0 h.0.0.0 in
       let less : s + 1 ≤ e.0 = omega (arith, r.0, isnt.1) in
-      let k = boots_of n (s + 1) (omega arith) (e ∷ es) (((in_range (s + 1) 16 e.0 less r.1, h.0.0.1), h.0.1), h.1) in
+      let k = boots_of n (s + 1) (omega arith) (e ∷ es) (((in_range (s + 1) sites_max e.0 less r.1, h.0.0.1), h.0.1), h.1) in
       (0 ∷ k.0, omega (arith, k.1), k.2)
 ] where
   positive : (n : ℕ) → 1 ≤ n → eqb n 0 ≡ false
@@ -92,16 +91,16 @@ boots_of (suc n) s sum (e ∷ es) h = elim (eqb_tells e.0 s) [
   positive (suc n) le = eqb-suc-zero n
 
 module _ (es : List Entry) (h : Ascend 1 es) where
-  pub members_again : (entries_of (members_of es) ≡ es) × (length (members_of es).boot ≡ 16)
+  pub members_again : (entries_of (members_of es) ≡ es) × (length (members_of es).boot ≡ sites_max)
   members_again =
-      let k = boots_of 16 1 (omega arith) es h in
-      let same : boots_with (replicate 16 0) es ≡ k.0 =
-      ap (λ (t : List Entry). boots_with (replicate 16 0) t) (sym k.2)
+      let k = boots_of sites_max 1 (omega arith) es h in
+      let same : boots_with (replicate sites_max 0) es ≡ k.0 =
+      ap (λ (t : List Entry). boots_with (replicate sites_max 0) t) (sym k.2)
       ∙ ap (λ (n : ℕ). boots_with (replicate n 0) (entries_from 1 k.0)) (sym k.1)
       ∙ boots_again [] k.0 1 refl in
       (ap (entries_from 1) same ∙ k.2, ap length same ∙ k.1)
 
-pub of_entries : (m : Members) → length m.boot ≡ 16 → members_of (entries_of m) ≡ m
+pub of_entries : (m : Members) → length m.boot ≡ sites_max → members_of (entries_of m) ≡ m
 of_entries m e =
     ap (λ (bs : List ℕ). record { boot = bs }) (ap (λ (n : ℕ). boots_with (replicate n 0) (entries_from 1 m.boot)) (sym e) ∙ boots_again [] m.boot 1 refl)
 
@@ -157,7 +156,7 @@ abbrev pub remade : Read (List Entry) → Read Members
 remade r = r >>= λ s. Ok (members_of s.0, s.1)
 
 abbrev pub no_boots : List ℕ
-no_boots = replicate 16 0
+no_boots = replicate sites_max 0
 
 -- all members, of all boots
 pub members_read : (r : Read (List Entry)) (after : Unread) (boots : List ℕ) → with_boots no_boots r ≡ Ok (boots, after) → remade r ≡ Ok (record { boot = boots }, after)
@@ -167,15 +166,6 @@ members_read (Err d) after boots h = absurd cc
 pub members_err : (r : Read (List Entry)) (d : FieldFault) → with_boots no_boots r ≡ Err d → remade r ≡ Err d
 members_err (Ok s) d h = absurd cc
 members_err (Err x) d h = cc
-
-entry_at : (boots : List ℕ) (i : ℕ) → i < length boots → drop i boots ≡ get_or boots i 0 ∷ drop (i + 1) boots
-entry_at boots i lt = drop-cons boots i 0 lt ∙ ap (λ (n : ℕ). get_or boots i 0 ∷ drop n boots) (sym (add-one i))
-
-pub some_entry : (boots : List ℕ) (i : ℕ) → i < length boots → get_or boots i 0 ≢ 0 → entries_from (i + 1) (drop i boots) ≡ (i + 1, get_or boots i 0) ∷ entries_from (i + 1 + 1) (drop (i + 1) boots)
-some_entry boots i lt ne = let no : eqb (get_or boots i 0) 0 ≡ false = grind (arith, eqb_tells (get_or boots i 0) 0) in rw (entry_at boots i lt, no) refl
-
-pub no_entry : (boots : List ℕ) (i : ℕ) → i < length boots → get_or boots i 0 ≡ 0 → entries_from (i + 1) (drop i boots) ≡ entries_from (i + 1 + 1) (drop (i + 1) boots)
-no_entry boots i lt is = let yes : eqb (get_or boots i 0) 0 ≡ true = rw is refl in rw (entry_at boots i lt, yes) refl
 
 pub entries_spelled : (es : List Entry) → entries.spell es ≡ length es ∷ spelled_entries es
 entries_spelled es = ap (λ (t : List ℕ). length es ∷ t) (spelled_alike entry_from next_least (pair u8 numbers).spell (λ _ _. refl) 1 es)

@@ -1,6 +1,7 @@
 -- The laws of operations, outcomes and what a Look asks.
 use Rattle.std.proofs.Common.{◌≡◌, ℕ, ◌-◌, List, refl, arith}
 use Rattle.std.specs.Prelude.{min}
+use Rattle.field_codec.specs.of_locus_ids.Sizes.{file_bytes_max}
 use Rattle.trace_book.specs.declared.operation.Op.{Op}
 use Rattle.trace_book.specs.declared.operation.Op.TheVariants as op
 use Rattle.trace_book.specs.declared.operation.Outcome.{Outcome}
@@ -19,7 +20,7 @@ use Rattle.wire_fields.proofs.PartLaws.{u16_in_laws, inodes_laws, sizes_laws, ki
 use Rattle.wire_fields.proofs.Refusing.{refusals_laws}
 
 writes_laws : Lawful writes
-writes_laws = followed_by_laws sizes (λ at. counted_bytes (u16_in 1 (min 4096 (65536 - at)))) sizes_laws (λ at. counted_bytes_laws (u16_in_laws 1 (min 4096 (65536 - at))))
+writes_laws = followed_by_laws sizes (λ at. counted_bytes (u16_in 1 (min 4096 (file_bytes_max - at)))) sizes_laws (λ at. counted_bytes_laws (u16_in_laws 1 (min 4096 (file_bytes_max - at))))
 
 inserts_laws : Lawful inserts
 inserts_laws = pair_laws names_laws (pair_laws inodes_laws kinds_laws)

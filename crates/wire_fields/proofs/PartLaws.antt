@@ -1,8 +1,9 @@
 -- The laws of the parts, from those of their fields.
 use Rattle.std.proofs.Common.{◌≡◌, ℕ, List, Option, None, Some, replicate, refl}
-use Rattle.locus_ids.specs.declared.ids.Kind.{Kind}
-use Rattle.locus_ids.specs.declared.ids.Kind.TheVariants.{File, Dir}
-use Rattle.locus_ids.specs.declared.ids.Stamp.{Stamp}
+use Rattle.field_codec.specs.of_locus_ids.Sizes.{sites_max, inodes_max, file_bytes_max}
+use Rattle.field_codec.specs.of_locus_ids.declared.ids.Kind.{Kind}
+use Rattle.field_codec.specs.of_locus_ids.declared.ids.Kind.TheVariants.{File, Dir}
+use Rattle.field_codec.specs.of_locus_ids.declared.ids.Stamp.{Stamp}
 use Rattle.field_codec.specs.Codec.{u8, u16, u32, u8_in, u16_in, u32_in, from_to, within}
 use Rattle.field_codec.specs.Shapes.{counted_bytes}
 use Rattle.field_codec.proofs.Laws.{Lawful, u8_laws, u16_laws, u32_laws, within_laws, pair_laws, followed_by_laws, made_laws, empty_laws}
@@ -23,7 +24,7 @@ pub u32_in_laws : (lo hi : ℕ) → Lawful (u32_in lo hi)
 u32_in_laws lo hi = within_laws (from_to lo hi) u32 u32_laws
 
 pub sites_laws : Lawful sites
-sites_laws = u8_in_laws 1 16
+sites_laws = u8_in_laws 1 sites_max
 
 pub numbers_laws : Lawful numbers
 numbers_laws = u32_in_laws 1 4294967295
@@ -32,10 +33,10 @@ pub processes_laws : Lawful processes
 processes_laws = u8_in_laws 0 8
 
 pub inodes_laws : Lawful inodes
-inodes_laws = u16_in_laws 1 1024
+inodes_laws = u16_in_laws 1 inodes_max
 
 pub sizes_laws : Lawful sizes
-sizes_laws = u32_in_laws 0 65536
+sizes_laws = u32_in_laws 0 file_bytes_max
 
 pub epochs_laws : Lawful epochs
 epochs_laws = made_laws _ _ (λ _. refl) (λ _. refl) (pair_laws numbers_laws (pair_laws sites_laws numbers_laws))
@@ -47,7 +48,7 @@ pub files_laws : Lawful files
 files_laws = made_laws _ _ (λ _. refl) (λ _. refl) (pair_laws u8_laws inodes_laws)
 
 pub files_or_new_laws : Lawful files_or_new
-files_or_new_laws = made_laws _ _ (λ _. refl) (λ _. refl) (pair_laws u8_laws (u16_in_laws 0 1024))
+files_or_new_laws = made_laws _ _ (λ _. refl) (λ _. refl) (pair_laws u8_laws (u16_in_laws 0 inodes_max))
 
 pub any_set_laws : Lawful any_set
 any_set_laws = made_laws _ _ (λ _. refl) (λ _. refl) u16_laws
@@ -60,7 +61,7 @@ kinds_laws = tagged_laws (kind_laws 1 (λ _. File) (λ _. tt) (λ _. refl) (λ _
 
 pub stamps_after_laws : (last : Option Stamp) → Lawful (stamps_after last)
 stamps_after_laws last = made_laws stamp_of parts_of (λ _. refl) (λ _. refl)
-    (followed_by_laws (u8_in (site_after last) 16) (λ site. within (is_after last site) u32) (u8_in_laws (site_after last) 16) (λ site. within_laws (is_after last site) u32 u32_laws))
+    (followed_by_laws (u8_in (site_after last) sites_max) (λ site. within (is_after last site) u32) (u8_in_laws (site_after last) sites_max) (λ site. within_laws (is_after last site) u32 u32_laws))
 
 pub stamps_laws : Lawful stamps
 stamps_laws = stamps_after_laws None
@@ -69,13 +70,13 @@ pub ascending_stamps_laws : Lawful ascending_stamps
 ascending_stamps_laws = counted_laws stamps_after (λ _ stamp. Some stamp) stamps_after_laws u8 u8_laws None
 
 pub vectors_laws : Lawful vectors
-vectors_laws = repeated_laws 16 u32_laws
+vectors_laws = repeated_laws sites_max u32_laws
 
 pub vectors_of_laws : (stamp : Stamp) → Lawful (vectors_of stamp)
 vectors_of_laws stamp = within_laws (agrees stamp) vectors vectors_laws
 
 pub no_vector_laws : Lawful no_vector
-no_vector_laws = only_laws (replicate 16 0)
+no_vector_laws = only_laws (replicate sites_max 0)
 
 pub names_laws : Lawful names
 names_laws = within_laws is_name (counted_bytes (u8_in 1 60)) (counted_bytes_laws (u8_in_laws 1 60))

@@ -1,7 +1,7 @@
 -- The laws of refusals.
 use Rattle.std.proofs.Common.{refl, arith}
-use Rattle.locus_ids.specs.declared.refusal.Refusal.{Refusal}
-use Rattle.locus_ids.specs.declared.refusal.Refusal.TheVariants.{Busy, Absent, NotDir, IsDir, Exists, NotEmpty, Conflict, Ambiguous, NoStorage, NoPartition, Changed, BadDescriptor, Stale, TooLong, NoSpace, NoInode, BadName, ReadOnly, NoDescriptor, Spent, NoConflict}
+use Rattle.field_codec.specs.of_locus_ids.declared.refusal.Refusal.{Refusal}
+use Rattle.field_codec.specs.of_locus_ids.declared.refusal.Refusal.TheVariants.{Busy, Absent, NotDir, IsDir, Exists, NotEmpty, Conflict, Ambiguous, NoStorage, NoPartition, Changed, BadDescriptor, Stale, TooLong, NoSpace, NoInode, BadName, ReadOnly, NoDescriptor, Spent, NoConflict}
 use Rattle.field_codec.specs.Codec.{u16, pair, empty}
 use Rattle.field_codec.specs.Sums.{tagged}
 use Rattle.field_codec.specs.Shapes.{IsInRange}

@@ -2,6 +2,7 @@
 -- one name apart.
 use Rattle.std.specs.Prelude.{ℕ, ◌+◌, ◌-◌, ◌*◌, ◌==◌, Bool, true, false, not, ◌&&◌, cond, List, [], ◌∷◌, Option, None, Some, nat_le}
 use Rattle.std.specs.List.{list_all}
+use Rattle.field_codec.specs.of_locus_ids.Sizes.{inodes_max}
 use Rattle.trace_book.specs.Names.{is_name, plain_name}
 
 -- what stands behind the first `@`, if there is one
@@ -19,7 +20,7 @@ number_after n (c ∷ cs) = number_after (10 * n + (c - 48)) cs
 
 -- these digits make a number of at most 1,024, behind those that make n
 abbrev pub is_small_from : ℕ → List ℕ → Bool
-is_small_from n cs = list_all is_digit cs && nat_le (number_after n cs) 1024
+is_small_from n cs = list_all is_digit cs && nat_le (number_after n cs) inodes_max
 
 -- an inode number, from 1, in decimal digits without a leading zero
 abbrev pub is_inode_text : List ℕ → Bool

@@ -1,7 +1,8 @@
 -- Operations on open instances, what they gave, and what a Look asks, as bytes.
 use Rattle.std.specs.Prelude.{ℕ, ◌-◌, min, List}
-use Rattle.locus_ids.specs.declared.ids.Kind.{Kind}
-use Rattle.locus_ids.specs.declared.refusal.Refusal.{Refusal}
+use Rattle.field_codec.specs.of_locus_ids.Sizes.{file_bytes_max}
+use Rattle.field_codec.specs.of_locus_ids.declared.ids.Kind.{Kind}
+use Rattle.field_codec.specs.of_locus_ids.declared.refusal.Refusal.{Refusal}
 use Rattle.trace_book.specs.declared.operation.Op.{Op}
 use Rattle.trace_book.specs.declared.operation.Op.TheVariants as op
 use Rattle.trace_book.specs.declared.operation.Outcome.{Outcome}
@@ -34,7 +35,7 @@ op_number op.Mend = 12
 
 -- a place in a content, and 1 to 4,096 bytes that are written there and end with 65,536 at most
 abbrev pub writes : Codec (ℕ × List ℕ)
-writes = followed_by sizes (λ at. counted_bytes (u16_in 1 (min 4096 (65536 - at))))
+writes = followed_by sizes (λ at. counted_bytes (u16_in 1 (min 4096 (file_bytes_max - at))))
 
 abbrev pub inserts : Codec (List ℕ × (ℕ × Kind))
 inserts = pair names (pair inodes kinds)

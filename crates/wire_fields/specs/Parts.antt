@@ -1,13 +1,14 @@
 -- The parts that packets are made of, as bytes: sites, boots, epochs, files, stamps, vectors, names.
 use Rattle.std.specs.Prelude.{ℕ, ◌-◌, ◌==◌, Bool, ◌&&◌, ◌||◌, cond, List, [], ◌∷◌, Option, None, Some, nat_lt, slice_index, replicate}
 use Rattle.std.specs.List.{list_all}
-use Rattle.locus_ids.specs.declared.ids.Kind.{Kind}
-use Rattle.locus_ids.specs.declared.ids.Kind.TheVariants.{File, Dir}
-use Rattle.locus_ids.specs.declared.ids.Stamp.{Stamp}
-use Rattle.locus_ids.specs.declared.ids.FileId.{FileId}
-use Rattle.locus_ids.specs.declared.ids.EpochId.{EpochId}
-use Rattle.locus_ids.specs.declared.ids.Serial.{Serial}
-use Rattle.locus_ids.specs.declared.sites.Sites.{Sites}
+use Rattle.field_codec.specs.of_locus_ids.Sizes.{sites_max, inodes_max, file_bytes_max, set_span}
+use Rattle.field_codec.specs.of_locus_ids.declared.ids.Kind.{Kind}
+use Rattle.field_codec.specs.of_locus_ids.declared.ids.Kind.TheVariants.{File, Dir}
+use Rattle.field_codec.specs.of_locus_ids.declared.ids.Stamp.{Stamp}
+use Rattle.field_codec.specs.of_locus_ids.declared.ids.FileId.{FileId}
+use Rattle.field_codec.specs.of_locus_ids.declared.ids.EpochId.{EpochId}
+use Rattle.field_codec.specs.of_locus_ids.declared.ids.Serial.{Serial}
+use Rattle.field_codec.specs.of_locus_ids.declared.sites.Sites.{Sites}
 use Rattle.field_codec.specs.Codec.{Codec, u8, u16, u32, u8_in, u16_in, u32_in, pair, followed_by, made, within, empty}
 use Rattle.field_codec.specs.Sums.{variant, kind, no_kind, tagged}
 use Rattle.field_codec.specs.Lists.{counted}
@@ -16,7 +17,7 @@ use Rattle.trace_book.specs.Names.{is_name}
 use Rattle.wire_fields.specs.Components.{is_component}
 
 abbrev pub sites : Codec ℕ
-sites = u8_in 1 16
+sites = u8_in 1 sites_max
 
 -- a number of four bytes that is not 0: of a boot, an epoch, an instance
 abbrev pub numbers : Codec ℕ
@@ -27,11 +28,11 @@ abbrev pub processes : Codec ℕ
 processes = u8_in 0 8
 
 abbrev pub inodes : Codec ℕ
-inodes = u16_in 1 1024
+inodes = u16_in 1 inodes_max
 
 -- of a content, in bytes
 abbrev pub sizes : Codec ℕ
-sizes = u32_in 0 65536
+sizes = u32_in 0 file_bytes_max
 
 abbrev pub epochs : Codec EpochId
 epochs = made (λ p. record { number = p.0; site = p.1.0; boot = p.1.1 }) (λ e. (e.number, (e.site, e.boot))) (pair numbers (pair sites numbers))
@@ -44,13 +45,13 @@ files = made (λ p. record { group = p.0; ino = p.1 }) (λ f. (f.group, f.ino)) 
 
 -- a file, or, with inode 0, one that is still to be made
 abbrev pub files_or_new : Codec FileId
-files_or_new = made (λ p. record { group = p.0; ino = p.1 }) (λ f. (f.group, f.ino)) (pair u8 (u16_in 0 1024))
+files_or_new = made (λ p. record { group = p.0; ino = p.1 }) (λ f. (f.group, f.ino)) (pair u8 (u16_in 0 inodes_max))
 
 abbrev pub any_set : Codec Sites
 any_set = made (λ n. record { 0 = n }) (λ s. s.0) u16
 
 abbrev pub some_set : Codec Sites
-some_set = made (λ n. record { 0 = n }) (λ s. s.0) (u16_in 1 65535)
+some_set = made (λ n. record { 0 = n }) (λ s. s.0) (u16_in 1 (set_span - 1))
 
 abbrev pub kind_number : Kind → ℕ
 kind_number File = 1
@@ -81,7 +82,7 @@ parts_of t = (t.site, t.n)
 
 -- a stamp after the last one: out of range at its site where that is less, else at its number
 abbrev pub stamps_after : Option Stamp → Codec Stamp
-stamps_after last = made stamp_of parts_of (followed_by (u8_in (site_after last) 16) (λ site. within (is_after last site) u32))
+stamps_after last = made stamp_of parts_of (followed_by (u8_in (site_after last) sites_max) (λ site. within (is_after last site) u32))
 
 abbrev pub stamps : Codec Stamp
 stamps = stamps_after None
@@ -92,7 +93,7 @@ ascending_stamps = counted stamps_after (λ _ stamp. Some stamp) u8 None
 
 -- a counter for each of the 16 sites
 abbrev pub vectors : Codec (List ℕ)
-vectors = repeated 16 u32
+vectors = repeated sites_max u32
 
 -- the counter of the stamp's site is its number; for 0.0 all are 0
 abbrev pub agrees : Stamp → List ℕ → Bool
@@ -104,7 +105,7 @@ vectors_of stamp = within (agrees stamp) vectors
 
 -- no vector stands there, since it is zero
 abbrev pub no_vector : Codec (List ℕ)
-no_vector = only (replicate 16 0)
+no_vector = only (replicate sites_max 0)
 
 -- a length and so many bytes, which are out of range at the length where they are not of the grammar
 abbrev pub names : Codec (List ℕ)

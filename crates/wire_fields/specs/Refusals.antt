@@ -1,7 +1,7 @@
 -- Refusals as bytes: a number, and what it says besides. Those that a site gives its own callers alone have no bytes.
 use Rattle.std.specs.Prelude.{ℕ}
-use Rattle.locus_ids.specs.declared.refusal.Refusal.{Refusal}
-use Rattle.locus_ids.specs.declared.refusal.Refusal.TheVariants.{Busy, Absent, NotDir, IsDir, Exists, NotEmpty, Conflict, Ambiguous, NoStorage, NoPartition, Changed, BadDescriptor, Stale, TooLong, NoSpace, NoInode, BadName, ReadOnly, NoDescriptor, Spent, NoConflict}
+use Rattle.field_codec.specs.of_locus_ids.declared.refusal.Refusal.{Refusal}
+use Rattle.field_codec.specs.of_locus_ids.declared.refusal.Refusal.TheVariants.{Busy, Absent, NotDir, IsDir, Exists, NotEmpty, Conflict, Ambiguous, NoStorage, NoPartition, Changed, BadDescriptor, Stale, TooLong, NoSpace, NoInode, BadName, ReadOnly, NoDescriptor, Spent, NoConflict}
 use Rattle.field_codec.specs.Codec.{Codec, u16, pair, empty}
 use Rattle.field_codec.specs.Sums.{Kinds, kind, no_kind, nothing}
 use Rattle.field_codec.specs.Shapes.{Spelled, by, case_of, cases}

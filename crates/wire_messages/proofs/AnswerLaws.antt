@@ -1,11 +1,12 @@
 -- The laws of versions, copies and answers.
 use Rattle.std.proofs.Common.{ℕ, ◌+◌, Option, None, Some, refl, arith}
-use Rattle.field_codec.specs.Codec.{u16, u32, u16_in, pair, empty}
-use Rattle.field_codec.specs.Sums.{tagged}
-use Rattle.field_codec.specs.Shapes.{IsInRange}
-use Rattle.field_codec.proofs.Laws.{Lawful, u16_laws, u32_laws, pair_laws, followed_by_laws, made_laws, empty_laws}
-use Rattle.field_codec.proofs.Lists.{counted_laws}
-use Rattle.field_codec.proofs.Shapes.{LawfulCases, no_case_laws, more_laws, cases_laws, counted_bytes_laws}
+use Rattle.locus_ids.specs.Sizes.{inodes_max}
+use Rattle.wire_fields.specs.of_field_codec.Codec.{u16, u32, u16_in, pair, empty}
+use Rattle.wire_fields.specs.of_field_codec.Sums.{tagged}
+use Rattle.wire_fields.specs.of_field_codec.Shapes.{IsInRange}
+use Rattle.wire_fields.proofs.of_field_codec.Laws.{Lawful, u16_laws, u32_laws, pair_laws, followed_by_laws, made_laws, empty_laws}
+use Rattle.wire_fields.proofs.of_field_codec.Lists.{counted_laws}
+use Rattle.wire_fields.proofs.of_field_codec.Shapes.{LawfulCases, no_case_laws, more_laws, cases_laws, counted_bytes_laws}
 use Rattle.wire_fields.specs.Parts.{sites, inodes, sizes, kinds, stamps, vectors_of}
 use Rattle.wire_fields.specs.Refusals.{refusals}
 use Rattle.wire_fields.proofs.PartLaws.{u16_in_laws, sites_laws, inodes_laws, sizes_laws, some_set_laws, kinds_laws, stamps_laws, vectors_laws, vectors_of_laws}
@@ -28,7 +29,7 @@ pub made_versions_laws : Lawful made_versions
 made_versions_laws = made_laws _ _ (λ _. refl) (λ _. refl) (followed_by_laws stamps (λ stamp. pair (vectors_of stamp) sizes) stamps_laws (λ stamp. pair_laws (vectors_of_laws stamp) sizes_laws))
 
 pub copies_from_laws : (least : ℕ) → Lawful (copies_from least)
-copies_from_laws least = made_laws _ _ (λ _. refl) (λ _. refl) (pair_laws (u16_in_laws least 1024) (pair_laws kinds_laws (pair_laws some_set_laws (pair_laws sizes_laws versions_laws))))
+copies_from_laws least = made_laws _ _ (λ _. refl) (λ _. refl) (pair_laws (u16_in_laws least inodes_max) (pair_laws kinds_laws (pair_laws some_set_laws (pair_laws sizes_laws versions_laws))))
 
 pub reported_copies_laws : Lawful reported_copies
 reported_copies_laws = counted_laws copies_from (λ _ copy. copy.ino + 1) copies_from_laws u16 u16_laws 1

@@ -1,9 +1,10 @@
 -- The laws of bodies: a line for each kind.
 use Rattle.std.proofs.Common.{◌≡◌, ℕ, ◌^◌, ◌<◌, IsTrue, refl, arith}
-use Rattle.field_codec.specs.Codec.{u8, u16, u32, pair, empty, from_to}
-use Rattle.field_codec.specs.Sums.{tagged}
-use Rattle.field_codec.proofs.Laws.{Lawful, u8_laws, u16_laws, u32_laws, pair_laws, followed_by_laws, empty_laws}
-use Rattle.field_codec.proofs.Shapes.{LawfulCases, no_case_laws, more_laws, counted_bytes_laws}
+use Rattle.locus_ids.specs.Sizes.{page_bytes}
+use Rattle.wire_fields.specs.of_field_codec.Codec.{u8, u16, u32, pair, empty, from_to}
+use Rattle.wire_fields.specs.of_field_codec.Sums.{tagged}
+use Rattle.wire_fields.proofs.of_field_codec.Laws.{Lawful, u8_laws, u16_laws, u32_laws, pair_laws, followed_by_laws, empty_laws}
+use Rattle.wire_fields.proofs.of_field_codec.Shapes.{LawfulCases, no_case_laws, more_laws, counted_bytes_laws}
 use Rattle.wire_fields.specs.Parts.{sites, numbers, epochs, instances, files, files_or_new, any_set, stamps}
 use Rattle.wire_fields.specs.Memberships.{members}
 use Rattle.wire_fields.specs.Operations.{ops, outcomes}
@@ -13,7 +14,7 @@ use Rattle.wire_fields.proofs.Operating.{ops_laws, outcomes_laws, whats_laws}
 use Rattle.wire_messages.specs.declared.body.Body.{Body}
 use Rattle.wire_messages.specs.declared.body.Body.TheVariants as body
 use Rattle.wire_messages.specs.Answers.{is_new, modes, openings, reported_copies, opened_answers, granted_answers, made_answers, close_answers, look_answers}
-use Rattle.wire_messages.specs.Bodies.{kind_number, opens, storage_opens, looks, notices, pages, page_bytes, body_fields, FitsBody, body_kinds}
+use Rattle.wire_messages.specs.Bodies.{kind_number, opens, storage_opens, looks, notices, pages, carried_bytes, body_fields, FitsBody, body_kinds}
 use Rattle.wire_messages.proofs.OpeningLaws.{modes_laws, openings_laws}
 use Rattle.wire_messages.proofs.AnswerLaws.{versions_laws, reported_copies_laws, opened_laws, granted_laws, made_answers_laws, close_laws, look_laws}
 
@@ -57,7 +58,7 @@ every_body =
     (more_laws 20 (λ p. body.LookDone p.0 p.1.0 p.1.1.0 p.1.1.1) (pair u32 (pair u16 (pair u32 look_answers))) (λ _ _. refl) (λ _ _. refl) (λ _ h. h) (pair_laws u32_laws (pair_laws u16_laws (pair_laws u32_laws look_laws)))
     (more_laws 21 (λ p. body.Notify p.0 p.1.0 p.1.1.0 p.1.1.1.0 p.1.1.1.1.0.0 p.1.1.1.1.0.1 p.1.1.1.1.1) notices (λ _ _. refl) (λ _ _. refl) (λ _ h. h) notices_laws
     (more_laws 22 (λ p. body.Pull p.0 p.1.0 p.1.1) pages (λ _ _. refl) (λ _ _. refl) (λ _ h. h) pages_laws
-    (more_laws 23 (λ p. body.Page p.0.0 p.0.1.0 p.0.1.1 p.1) (pair pages page_bytes) (λ _ _. refl) (λ _ _. refl) (λ _ h. h) (pair_laws pages_laws (counted_bytes_laws (u16_in_laws 1 1024)))
+    (more_laws 23 (λ p. body.Page p.0.0 p.0.1.0 p.0.1.1 p.1) (pair pages carried_bytes) (λ _ _. refl) (λ _ _. refl) (λ _ h. h) (pair_laws pages_laws (counted_bytes_laws (u16_in_laws 1 page_bytes)))
     (more_laws 24 (λ p. body.Have p.0 p.1) (pair files stamps) (λ _ _. refl) (λ _ _. refl) (λ _ h. h) (pair_laws files_laws stamps_laws)
     (no_case_laws kind_number body_fields))))))))))))))))))))))))
 

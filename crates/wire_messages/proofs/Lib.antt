@@ -1,4 +1,3 @@
-pub mod Copies
 pub mod OpeningLaws
 pub mod AnswerLaws
 pub mod BodyLaws

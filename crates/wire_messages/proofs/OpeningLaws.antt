@@ -1,12 +1,13 @@
 -- The laws of modes and openings.
-use Rattle.std.proofs.Common.{◌≡◌, ℕ, zero, suc, ◌+◌, ◌≤◌, Bool, true, false, IsTrue, cond, List, ◌++◌, ◌==◌, length, Ok, refl, sym, ap, subst, ◌∙◌, arith}
+use Rattle.std.proofs.Common.{◌≡◌, ℕ, zero, suc, ◌+◌, ◌≤◌, Bool, true, false, IsTrue, cond, List, ◌++◌, ◌==◌, length, Ok, refl, sym, ap, subst, ◌∙◌, arith, ◌-◌}
+use Rattle.locus_ids.specs.Sizes.{sites_max, set_span}
 use Rattle.locus_ids.specs.declared.ids.Kind.{Kind}
 use Rattle.locus_ids.specs.declared.ids.Kind.TheVariants.{File, Dir}
 use Rattle.locus_ids.specs.declared.ids.Mode.{Mode}
 use Rattle.locus_ids.specs.declared.ids.Mode.TheVariants as mode
 use Rattle.locus_ids.specs.declared.sites.Sites.{Sites}
-use Rattle.field_codec.specs.Codec.{Codec, Unread, ◌>>=◌, AreBytes, u8_in, u16_in, pair, made, from_to}
-use Rattle.field_codec.proofs.Laws.{Lawful, Takes, rest_at, bind_ok, ok_is, pair_laws, followed_by_laws}
+use Rattle.wire_fields.specs.of_field_codec.Codec.{Codec, Unread, ◌>>=◌, AreBytes, u8_in, u16_in, pair, made, from_to}
+use Rattle.wire_fields.proofs.of_field_codec.Laws.{Lawful, Takes, rest_at, bind_ok, ok_is, pair_laws, followed_by_laws}
 use Rattle.wire_fields.specs.Parts.{kind_number}
 use Rattle.wire_fields.proofs.PartLaws.{u8_in_laws, u16_in_laws}
 use Rattle.wire_fields.proofs.Members.{range}
@@ -56,10 +57,10 @@ modes_laws new = fitting_laws mode_of mode_number (λ n h. let r = mode_range ne
 
 -- what may stand behind a mode's number
 abbrev pub behind_mode : ℕ → Codec (ℕ × (ℕ × ℕ))
-behind_mode m = pair (u8_in (cond (m == 3) 1 0) (cond (m == 3) 16 0)) (pair (u16_in (cond (m == 5) 1 0) (cond (m == 5) 65535 0)) (u8_in (cond (m == 5) 1 0) (cond (m == 5) 2 0)))
+behind_mode m = pair (u8_in (cond (m == 3) 1 0) (cond (m == 3) sites_max 0)) (pair (u16_in (cond (m == 5) 1 0) (cond (m == 5) (set_span - 1) 0)) (u8_in (cond (m == 5) 1 0) (cond (m == 5) 2 0)))
 
 behind_mode_laws : (m : ℕ) → Lawful (behind_mode m)
-behind_mode_laws m = pair_laws (u8_in_laws (cond (m == 3) 1 0) (cond (m == 3) 16 0)) (pair_laws (u16_in_laws (cond (m == 5) 1 0) (cond (m == 5) 65535 0)) (u8_in_laws (cond (m == 5) 1 0) (cond (m == 5) 2 0)))
+behind_mode_laws m = pair_laws (u8_in_laws (cond (m == 3) 1 0) (cond (m == 3) sites_max 0)) (pair_laws (u16_in_laws (cond (m == 5) 1 0) (cond (m == 5) (set_span - 1) 0)) (u8_in_laws (cond (m == 5) 1 0) (cond (m == 5) 2 0)))
 
 none_there : (n : ℕ) → IsTrue (from_to 0 0 n) → 0 ≡ n
 none_there n h = let r = range 0 0 n h in omega (arith, r.1)

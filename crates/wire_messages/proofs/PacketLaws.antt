@@ -3,11 +3,11 @@ use Rattle.std.proofs.Common.{◌≡◌, ℕ, ◌+◌, ◌^◌, ◌<◌, ◌⊎�
 use Rattle.std.specs.Result.{OnOk}
 use Rattle.std.proofs.lemmas.List.{append-nil}
 use Rattle.locus_ids.specs.declared.ids.EpochId.{EpochId}
-use Rattle.field_codec.specs.declared.faults.FieldFault.{FieldFault}
-use Rattle.field_codec.specs.Codec.{Codec, Unread, Read, ◌>>=◌, AreBytes, u32, whole}
-use Rattle.field_codec.specs.Shapes.{framed}
-use Rattle.field_codec.proofs.Laws.{Lawful, Takes, rest_at, bind_ok, ok_is, pair_laws, followed_by_laws, whole_takes, whole_again}
-use Rattle.field_codec.proofs.Shapes.{framed_laws}
+use Rattle.wire_fields.specs.of_field_codec.declared.faults.FieldFault.{FieldFault}
+use Rattle.wire_fields.specs.of_field_codec.Codec.{Codec, Unread, Read, ◌>>=◌, AreBytes, u32, whole}
+use Rattle.wire_fields.specs.of_field_codec.Shapes.{framed}
+use Rattle.wire_fields.proofs.of_field_codec.Laws.{Lawful, Takes, rest_at, bind_ok, ok_is, pair_laws, followed_by_laws, whole_takes, whole_again}
+use Rattle.wire_fields.proofs.of_field_codec.Shapes.{framed_laws}
 use Rattle.wire_fields.proofs.PartLaws.{u8_in_laws, sites_laws, numbers_laws, epochs_laws}
 use Rattle.wire_fields.proofs.Members.{range}
 use Rattle.wire_messages.specs.declared.body.Body.{Body}

@@ -1,15 +1,16 @@
 -- How opens are asked, and what opens, closes and Looks are answered, as bytes.
-use Rattle.std.specs.Prelude.{ℕ, ◌+◌, ◌==◌, Bool, cond, List, Option, None, Some}
+use Rattle.std.specs.Prelude.{ℕ, ◌+◌, ◌==◌, Bool, cond, List, Option, None, Some, ◌-◌}
+use Rattle.locus_ids.specs.Sizes.{sites_max, inodes_max, set_span}
 use Rattle.locus_ids.specs.declared.ids.Kind.{Kind}
 use Rattle.locus_ids.specs.declared.ids.Kind.TheVariants.{File, Dir}
 use Rattle.locus_ids.specs.declared.ids.Mode.{Mode}
 use Rattle.locus_ids.specs.declared.ids.Mode.TheVariants as mode
 use Rattle.locus_ids.specs.declared.ids.FileId.{FileId}
 use Rattle.locus_ids.specs.declared.ids.Stamp.{Stamp}
-use Rattle.field_codec.specs.Codec.{Codec, u8, u16, u32, u8_in, u16_in, u32_in, pair, followed_by, made, empty}
-use Rattle.field_codec.specs.Sums.{Kinds, kind, no_kind}
-use Rattle.field_codec.specs.Lists.{counted}
-use Rattle.field_codec.specs.Shapes.{Spelled, by, case_of, cases, counted_bytes}
+use Rattle.wire_fields.specs.of_field_codec.Codec.{Codec, u8, u16, u32, u8_in, u16_in, u32_in, pair, followed_by, made, empty}
+use Rattle.wire_fields.specs.of_field_codec.Sums.{Kinds, kind, no_kind}
+use Rattle.wire_fields.specs.of_field_codec.Lists.{counted}
+use Rattle.wire_fields.specs.of_field_codec.Shapes.{Spelled, by, case_of, cases, counted_bytes}
 use Rattle.wire_fields.specs.Parts.{sites, inodes, sizes, some_set, kind_number, kinds, stamps, vectors, vectors_of}
 use Rattle.wire_fields.specs.Refusals.{refusals}
 use Rattle.wire_messages.specs.declared.body.Opening.{Opening}
@@ -52,8 +53,8 @@ OpeningNumbers = ℕ × (ℕ × (ℕ × ℕ))
 
 -- the site is 0 but for a resolve; set and kind are 0 but for a make
 abbrev pub opening_numbers : Bool → Codec OpeningNumbers
-opening_numbers new = followed_by (mode_numbers new) (λ m. pair (u8_in (cond (m == 3) 1 0) (cond (m == 3) 16 0))
-    (pair (u16_in (cond (m == 5) 1 0) (cond (m == 5) 65535 0)) (u8_in (cond (m == 5) 1 0) (cond (m == 5) 2 0))))
+opening_numbers new = followed_by (mode_numbers new) (λ m. pair (u8_in (cond (m == 3) 1 0) (cond (m == 3) sites_max 0))
+    (pair (u16_in (cond (m == 5) 1 0) (cond (m == 5) (set_span - 1) 0)) (u8_in (cond (m == 5) 1 0) (cond (m == 5) 2 0))))
 
 abbrev pub numbers_of : Opening → OpeningNumbers
 numbers_of opening.Read = (1, (0, (0, 0)))
@@ -81,7 +82,7 @@ versions = followed_by stamps vectors_of
 -- a copy whose inode is not below this one
 abbrev pub copies_from : ℕ → Codec ReportedCopy
 copies_from least = made (λ p. record { ino = p.0; kind = p.1.0; set = p.1.1.0; size = p.1.1.1.0; stamp = p.1.1.1.1.0; vector = p.1.1.1.1.1 })
-    (λ c. (c.ino, (c.kind, (c.set, (c.size, (c.stamp, c.vector)))))) (pair (u16_in least 1024) (pair kinds (pair some_set (pair sizes versions))))
+    (λ c. (c.ino, (c.kind, (c.set, (c.size, (c.stamp, c.vector)))))) (pair (u16_in least inodes_max) (pair kinds (pair some_set (pair sizes versions))))
 
 -- a count, and so many copies whose inodes ascend
 abbrev pub reported_copies : Codec (List ReportedCopy)

@@ -1,5 +1,6 @@
 -- The bodies of packets as bytes, by cases on the kind and its fields.
 use Rattle.std.specs.Prelude.{ℕ, ◌<◌, ◌^◌, List}
+use Rattle.locus_ids.specs.Sizes.{page_bytes}
 use Rattle.locus_ids.specs.declared.ids.FileId.{FileId}
 use Rattle.locus_ids.specs.declared.ids.Kind.{Kind}
 use Rattle.locus_ids.specs.declared.ids.Mode.{Mode}
@@ -9,9 +10,9 @@ use Rattle.locus_ids.specs.declared.sites.Sites.{Sites}
 use Rattle.trace_book.specs.declared.operation.What.{What}
 use Rattle.trace_book.specs.declared.packet_kind.PacketKind.{PacketKind}
 use Rattle.trace_book.specs.declared.packet_kind.PacketKind.TheVariants as packet
-use Rattle.field_codec.specs.Codec.{Codec, u8, u16, u32, u16_in, pair, followed_by, empty}
-use Rattle.field_codec.specs.Sums.{Kinds, kind, no_kind}
-use Rattle.field_codec.specs.Shapes.{Spelled, by, bytes_of, IsInRange, case_of, counted_bytes}
+use Rattle.wire_fields.specs.of_field_codec.Codec.{Codec, u8, u16, u32, u16_in, pair, followed_by, empty}
+use Rattle.wire_fields.specs.of_field_codec.Sums.{Kinds, kind, no_kind}
+use Rattle.wire_fields.specs.of_field_codec.Shapes.{Spelled, by, bytes_of, IsInRange, case_of, counted_bytes}
 use Rattle.wire_fields.specs.Parts.{sites, numbers, processes, sizes, epochs, instances, files, files_or_new, any_set, some_set, kinds, stamps, ascending_stamps, vectors}
 use Rattle.wire_fields.specs.Memberships.{members}
 use Rattle.wire_fields.specs.Operations.{ops, outcomes, whats}
@@ -93,8 +94,8 @@ abbrev pub pages : Codec (FileId × (Stamp × ℕ))
 pages = pair files (pair stamps u8)
 
 -- 1 to 1,024 bytes
-abbrev pub page_bytes : Codec (List ℕ)
-page_bytes = counted_bytes (u16_in 1 1024)
+abbrev pub carried_bytes : Codec (List ℕ)
+carried_bytes = counted_bytes (u16_in 1 page_bytes)
 
 -- what stands in the body of each kind
 abbrev pub body_fields : Body → Spelled
@@ -120,7 +121,7 @@ body_fields (body.LookSs us call process request take file what serve) = by (pai
 body_fields (body.LookDone call request take answer) = by (pair u32 (pair u16 (pair u32 look_answers))) (call, (request, (take, answer)))
 body_fields (body.Notify file k set size stamp vector holder) = by notices (file, (k, (set, (size, ((stamp, vector), holder)))))
 body_fields (body.Pull file stamp page) = by pages (file, (stamp, page))
-body_fields (body.Page file stamp page bytes) = by (pair pages page_bytes) ((file, (stamp, page)), bytes)
+body_fields (body.Page file stamp page bytes) = by (pair pages carried_bytes) ((file, (stamp, page)), bytes)
 body_fields (body.Have file stamp) = by (pair files stamps) (file, stamp)
 
 -- the bytes of a body
@@ -202,7 +203,7 @@ abbrev pub pull_bodies : Codec Body
 pull_bodies = body_case (λ p. body.Pull p.0 p.1.0 p.1.1) pages
 
 abbrev pub page_bodies : Codec Body
-page_bodies = body_case (λ p. body.Page p.0.0 p.0.1.0 p.0.1.1 p.1) (pair pages page_bytes)
+page_bodies = body_case (λ p. body.Page p.0.0 p.0.1.0 p.0.1.1 p.1) (pair pages carried_bytes)
 
 abbrev pub have_bodies : Codec Body
 have_bodies = body_case (λ p. body.Have p.0 p.1) (pair files stamps)

@@ -1,8 +1,8 @@
 -- Packets as bytes: a header of 25 bytes, of which the last four are the length of the body, and the body.
 use Rattle.std.specs.Prelude.{◌≡◌, ℕ, ◌<◌, ◌^◌, List, [], ◌++◌, length, Result, Ok, Err}
 use Rattle.locus_ids.specs.declared.ids.EpochId.{EpochId}
-use Rattle.field_codec.specs.Codec.{Codec, u32, u8_in, pair, followed_by, ◌>>=◌}
-use Rattle.field_codec.specs.Shapes.{framed}
+use Rattle.wire_fields.specs.of_field_codec.Codec.{Codec, u32, u8_in, pair, followed_by, ◌>>=◌}
+use Rattle.wire_fields.specs.of_field_codec.Shapes.{framed}
 use Rattle.wire_fields.specs.Parts.{sites, numbers, epochs}
 use Rattle.wire_messages.specs.declared.body.Body.{Body}
 use Rattle.wire_messages.specs.declared.packet.Packet.{Packet}

@@ -1,3 +1,4 @@
+use locus_ids::sizes::SITES;
 use locus_ids::{
     Bytes, EpochId, FileId, ItemList, Kind, Members, Mode, Refusal, Serial, SiteId, Sites, Stamp,
     Stamps,
@@ -6,7 +7,7 @@ use trace_book::{Op, Outcome, What};
 use version_vector::Vector;
 
 /// How an open that a using site asks for is to be.
-#[derive(Clone, Copy, Debug, PartialEq, Eq)]
+#[derive(Clone, Copy, PartialEq, Eq)]
 pub enum Opening {
     Read,
     Write,
@@ -18,28 +19,28 @@ pub enum Opening {
 }
 
 /// A copy that a site has of a file, as it reports it.
-#[derive(Clone, Copy, Debug, PartialEq, Eq)]
+#[derive(Clone, Copy, PartialEq, Eq)]
 pub struct ReportedCopy {
     pub ino: u16,
     pub kind: Kind,
     pub set: Sites,
     pub size: u32,
     pub stamp: Stamp,
-    pub vector: Vector<16>,
+    pub vector: Vector<SITES>,
 }
 
 /// The copies of a group, their inodes ascending.
 pub type ReportedCopies = ItemList<ReportedCopy>;
 
 /// What a storage site answers an open.
-#[derive(Debug, Drop)]
+#[derive(Drop)]
 pub enum OpenedAs {
     Open { ino: u16, size: u32 },
     No { why: Refusal },
 }
 
 /// What a synchronization site answers an open.
-#[derive(Debug, Drop)]
+#[derive(Drop)]
 pub enum Granted {
     Open {
         /// The storage site.
@@ -47,7 +48,7 @@ pub enum Granted {
         ino: u16,
         size: u32,
         stamp: Stamp,
-        vector: Vector<16>,
+        vector: Vector<SITES>,
     },
     No {
         why: Refusal,
@@ -55,15 +56,15 @@ pub enum Granted {
 }
 
 /// The version that an instance made.
-#[derive(Clone, Copy, Debug, PartialEq, Eq)]
+#[derive(Clone, Copy, PartialEq, Eq)]
 pub struct MadeVersion {
     pub stamp: Stamp,
-    pub vector: Vector<16>,
+    pub vector: Vector<SITES>,
     pub size: u32,
 }
 
 /// What a close is answered.
-#[derive(Debug, Drop)]
+#[derive(Drop)]
 pub enum CloseAnswer {
     /// It made no version.
     Nothing,
@@ -72,7 +73,7 @@ pub enum CloseAnswer {
 }
 
 /// What a Look is answered.
-#[derive(Debug, Drop)]
+#[derive(Drop)]
 pub enum LookAnswer {
     Found { ino: u16, kind: Kind },
     Content { bytes: Bytes },
@@ -83,7 +84,7 @@ pub enum LookAnswer {
 }
 
 /// What one site tells another, in the order of the numbers of its kinds from 1.
-#[derive(Debug, Drop)]
+#[derive(Drop)]
 pub enum Body {
     /// Asks for a promise to join the epoch of the header.
     Poll,
@@ -119,7 +120,7 @@ pub enum Body {
         set: Sites,
         kind: Kind,
         base: Stamp,
-        vector: Vector<16>,
+        vector: Vector<SITES>,
         parents: Stamps,
     },
     Opened {
@@ -135,7 +136,7 @@ pub enum Body {
         number: u32,
         op: Op,
         /// What a remove has seen of the entry; zero for each other operation.
-        seen: Vector<16>,
+        seen: Vector<SITES>,
     },
     OpDone {
         serial: u32,
@@ -188,7 +189,7 @@ pub enum Body {
         set: Sites,
         size: u32,
         stamp: Stamp,
-        vector: Vector<16>,
+        vector: Vector<SITES>,
         holder: SiteId,
     },
     Pull {

@@ -10,7 +10,7 @@ use trace_book::Record;
 pub type Records = ItemList<Record>;
 
 /// What one event sends and tells, each in order.
-#[derive(Debug, Drop)]
+#[derive(Drop)]
 pub struct Outbox {
     packets: Packets,
     records: Records,

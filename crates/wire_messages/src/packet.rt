@@ -2,7 +2,7 @@ use crate::Body;
 use locus_ids::{EpochId, ItemList, SiteId};
 
 /// What one boot of a site sends to one boot of another.
-#[derive(Debug, Drop)]
+#[derive(Drop)]
 pub struct Packet {
     pub from: SiteId,
     pub from_boot: u32,

@@ -10,8 +10,8 @@ use field_codec::{FieldFault, Fields, ReadError};
 use locus_ids::{EpochId, SiteId};
 use std::alloc::Global;
 use thiserror::Error;
-use wire_fields::{read_epoch, read_number, read_site};
 use wire_messages::Packet;
+use wire_parts::{read_epoch, read_number, read_site};
 
 /// Why bytes give no packet.
 #[derive(Clone, Copy, Debug, PartialEq, Eq, Error)]
@@ -24,7 +24,7 @@ pub enum NotAPacket {
 }
 
 /// What stands before the body.
-#[derive(Clone, Copy, Debug, PartialEq, Eq)]
+#[derive(Clone, Copy, PartialEq, Eq)]
 pub struct Heading {
     pub kind: u8,
     pub from: SiteId,

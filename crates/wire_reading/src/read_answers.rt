@@ -1,4 +1,5 @@
 ghost use Rattle.std.specs.Prelude.{◌≤◌, Some, IfOk};
+ghost use Rattle.locus_ids.specs.Sizes.{inodes_max};
 ghost use Rattle.field_codec.specs.Codec.{pair};
 ghost use Rattle.field_codec.specs.Shapes.{case_of};
 ghost use Rattle.field_codec.specs.Reads.{Reads, ReadsInMemory};
@@ -7,19 +8,20 @@ ghost use Rattle.wire_fields.specs.Refusals.{refusals};
 ghost use Rattle.wire_messages.specs.Answers.{made_versions, versions, copies_from, reported_copies, opened_fields, opened_answers, grants, granted_fields, granted_answers, made_fields, made_answers, close_fields, close_answers, contents, stats, look_fields, look_answers};
 
 use field_codec::{FieldFault, Fields, ReadError};
+use locus_ids::sizes::{INODES, SITES};
 use locus_ids::{Bytes, Stamp};
 use std::alloc::Global;
 use version_vector::Vector;
-use wire_fields::{
-    read_kind, read_refusal, read_site, read_size, read_some_set, read_stamp, read_vector,
-    read_vector_of,
-};
 use wire_messages::{
     CloseAnswer, Granted, LookAnswer, MadeVersion, OpenedAs, ReportedCopies, ReportedCopy,
 };
+use wire_parts::{
+    read_kind, read_refusal, read_site, read_size, read_some_set, read_stamp, read_vector,
+    read_vector_of,
+};
 
 /// A stamp and the vector that agrees with it.
-pub fn read_version(fields: &mut Fields) -> Result<(Stamp, Vector<16>), FieldFault>
+pub fn read_version(fields: &mut Fields) -> Result<(Stamp, Vector<SITES>), FieldFault>
     ensures { Reads versions (λ version. version) fields.old result fields.new }
 {
     let stamp = read_stamp(fields)?;
@@ -43,9 +45,9 @@ fn read_made_version(fields: &mut Fields) -> Result<MadeVersion, FieldFault>
 /// A copy whose inode is not below this one.
 fn read_copy(least: u16, fields: &mut Fields) -> Result<ReportedCopy, FieldFault>
     ensures read { Reads (copies_from least) (λ copy. copy) fields.old result fields.new }
-    ensures ino { IfOk result (λ copy. copy.ino ≤ 1024) }
+    ensures ino { IfOk result (λ copy. copy.ino ≤ inodes_max) }
 {
-    let ino = fields.u16_in(least, 1_024)?;
+    let ino = fields.u16_in(least, INODES)?;
     let kind = read_kind(fields)?;
     let set = read_some_set(fields)?;
     let size = read_size(fields)?;
@@ -79,7 +81,7 @@ pub fn read_copies(alloc: Global, fields: &mut Fields) -> Result<ReportedCopies,
 fn read_opened(fields: &mut Fields) -> Result<OpenedAs, ReadError>
     ensures { ReadsInMemory (case_of opened_fields (λ p. OpenedAs.Open p.0 p.1) (pair inodes sizes)) (λ answer. answer) fields.old result fields.new }
 {
-    let ino = fields.u16_in(1, 1_024)?;
+    let ino = fields.u16_in(1, INODES)?;
     let size = read_size(fields)?;
     Ok(OpenedAs::Open { ino, size })
 }
@@ -107,7 +109,7 @@ fn read_grant(fields: &mut Fields) -> Result<Granted, ReadError>
     ensures { ReadsInMemory (case_of granted_fields (λ p. Granted.Open p.0 p.1.0 p.1.1.0 p.1.1.1.0 p.1.1.1.1) grants) (λ answer. answer) fields.old result fields.new }
 {
     let ss = read_site(fields)?;
-    let ino = fields.u16_in(1, 1_024)?;
+    let ino = fields.u16_in(1, INODES)?;
     let size = read_size(fields)?;
     let stamp = read_stamp(fields)?;
     let vector = read_vector(fields)?;
@@ -189,7 +191,7 @@ pub fn read_close_answer(alloc: Global, fields: &mut Fields) -> Result<CloseAnsw
 fn read_found(fields: &mut Fields) -> Result<LookAnswer, ReadError>
     ensures { ReadsInMemory (case_of look_fields (λ p. LookAnswer.Found p.0 p.1) (pair inodes kinds)) (λ answer. answer) fields.old result fields.new }
 {
-    let ino = fields.u16_in(1, 1_024)?;
+    let ino = fields.u16_in(1, INODES)?;
     let kind = read_kind(fields)?;
     Ok(LookAnswer::Found { ino, kind })
 }

@@ -1,9 +1,11 @@
-ghost use Rattle.std.specs.Prelude.{◌≡◌, cond};
+ghost use Rattle.std.specs.Prelude.{◌≡◌, cond, ◌-◌};
+ghost use Rattle.locus_ids.specs.Sizes.{sites_max, set_span};
 ghost use Rattle.field_codec.specs.Codec.{u8_in, u16_in};
 ghost use Rattle.field_codec.specs.Reads.{Reads};
 ghost use Rattle.wire_messages.specs.Answers.{is_new, mode_numbers, mode_of, modes, kind_from, opening_of, openings};
 
 use field_codec::{FieldFault, Fields};
+use locus_ids::sizes::SITES;
 use locus_ids::{FileId, Kind, Mode, Sites};
 use wire_messages::Opening;
 
@@ -49,10 +51,10 @@ pub fn read_mode(new: bool, fields: &mut Fields) -> Result<Mode, FieldFault>
 
 /// A site where one is wanted, and else 0.
 fn read_site_if(wanted: bool, fields: &mut Fields) -> Result<u8, FieldFault>
-    ensures { Reads (u8_in (cond wanted 1 0) (cond wanted 16 0)) (λ n. n) fields.old result fields.new }
+    ensures { Reads (u8_in (cond wanted 1 0) (cond wanted sites_max 0)) (λ n. n) fields.old result fields.new }
 {
     if wanted {
-        fields.u8_in(1, 16)
+        fields.u8_in(1, SITES as u8)
     } else {
         fields.u8_in(0, 0)
     }
@@ -60,7 +62,7 @@ fn read_site_if(wanted: bool, fields: &mut Fields) -> Result<u8, FieldFault>
 
 /// A set that isn't empty where one is wanted, and else 0.
 fn read_set_if(wanted: bool, fields: &mut Fields) -> Result<u16, FieldFault>
-    ensures { Reads (u16_in (cond wanted 1 0) (cond wanted 65535 0)) (λ n. n) fields.old result fields.new }
+    ensures { Reads (u16_in (cond wanted 1 0) (cond wanted (set_span - 1) 0)) (λ n. n) fields.old result fields.new }
 {
     if wanted {
         fields.u16_in(1, u16::MAX)

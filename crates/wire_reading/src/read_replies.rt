@@ -6,12 +6,13 @@ ghost use Rattle.wire_messages.specs.Bodies.{closed_bodies, closed_ok_bodies, cl
 use crate::read_answers::{read_close_answer, read_look_answer, read_made_answer, read_version};
 use field_codec::{Fields, ReadError};
 use locus_ids::Bytes;
+use locus_ids::sizes::PAGE_BYTES;
 use std::alloc::Global;
-use wire_fields::{
+use wire_messages::Body;
+use wire_parts::{
     read_file, read_instance, read_kind, read_number, read_process, read_site, read_size,
     read_some_set, read_stamp, read_what,
 };
-use wire_messages::Body;
 
 pub fn read_closed(fields: &mut Fields) -> Result<Body, ReadError>
     ensures { ReadsInMemory closed_bodies (λ body. body) fields.old result fields.new }
@@ -128,7 +129,7 @@ pub fn read_page(alloc: Global, fields: &mut Fields) -> Result<Body, ReadError>
     let file = read_file(fields)?;
     let stamp = read_stamp(fields)?;
     let page = fields.get_u8()?;
-    let length = fields.u16_in(1, 1_024)?;
+    let length = fields.u16_in(1, PAGE_BYTES as u16)?;
     let content = fields.slice(length as u32)?;
     let bytes = Bytes::from_slice(alloc, content)?;
     Ok(Body::Page {

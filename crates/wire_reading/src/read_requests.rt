@@ -7,12 +7,12 @@ use crate::read_answers::{read_copies, read_granted_answer, read_opened_answer};
 use crate::read_openings::{is_new, read_mode, read_opening};
 use field_codec::{Fields, ReadError};
 use std::alloc::Global;
-use wire_fields::{
+use wire_messages::Body;
+use wire_parts::{
     read_any_set, read_ascending_stamps, read_epoch, read_file_or_new, read_instance, read_kind,
     read_members, read_number, read_op, read_outcome, read_process, read_some_set, read_stamp,
     read_vector,
 };
-use wire_messages::Body;
 
 pub fn read_promise(fields: &mut Fields) -> Result<Body, ReadError>
     ensures { ReadsInMemory promise_bodies (λ body. body) fields.old result fields.new }

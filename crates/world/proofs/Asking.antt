@@ -1,12 +1,14 @@
 -- What the world in code answers of the world that is shown, and what an event of a site does to it.
 use Rattle.std.proofs.Common.{◌≡◌, ℕ, zero, suc, ◌+◌, ◌-◌, ◌<◌, ◌≤◌, ◌==◌, List, [], length, map, set, get_or, Option, Some, None, Bool, true, false, not, ◌&&◌, cond, refl, sym, ap, subst, ◌∙◌, arith}
 use Rattle.std.specs.List.{list_any}
+use Rattle.locus_ids.specs.Sizes.{sites_max}
 use Rattle.locus_ids.specs.declared.config.Config.{Config}
 use Rattle.locus_ids.specs.declared.sites.Links.{Links}
 use Rattle.wire_messages.specs.declared.packet.Packet.{Packet}
 use Rattle.wire_messages.specs.Outboxes.{Outgoing}
 use Rattle.trace_book.specs.declared.record.Record.{Record}
 use Rattle.role_steps.specs.Views.{Event, all_sites}
+use Rattle.role_steps.proofs.Numbers.{site_found}
 use Rattle.site_frame.specs.Printed.{printed}
 use Rattle.the_run.specs.Disks.{Armed, Booted, Whole, CutOff, boots}
 use Rattle.the_run.specs.Steps.{step}
@@ -24,28 +26,6 @@ use Rattle.world.proofs.Events.{event_shown}
 use Rattle.world.proofs.Acting.{acts_lead, stop_leads, boot_leads, boots_none, boots_some}
 use Rattle.world.proofs.Over.{happens_over}
 
--- ---- sixteen sites ----
-
-pub site_found : (f : ℕ → ℕ) (t : ℕ) → 1 ≤ t → t ≤ 16 → get_or (map f all_sites) (t - 1) 0 ≡ f t
-site_found f zero a b = absurd (omega arith)
-site_found f (suc zero) a b = refl
-site_found f (suc (suc zero)) a b = refl
-site_found f (suc (suc (suc zero))) a b = refl
-site_found f (suc (suc (suc (suc zero)))) a b = refl
-site_found f (suc (suc (suc (suc (suc zero))))) a b = refl
-site_found f (suc (suc (suc (suc (suc (suc zero)))))) a b = refl
-site_found f (suc (suc (suc (suc (suc (suc (suc zero))))))) a b = refl
-site_found f (suc (suc (suc (suc (suc (suc (suc (suc zero)))))))) a b = refl
-site_found f (suc (suc (suc (suc (suc (suc (suc (suc (suc zero))))))))) a b = refl
-site_found f (suc (suc (suc (suc (suc (suc (suc (suc (suc (suc zero)))))))))) a b = refl
-site_found f (suc (suc (suc (suc (suc (suc (suc (suc (suc (suc (suc zero))))))))))) a b = refl
-site_found f (suc (suc (suc (suc (suc (suc (suc (suc (suc (suc (suc (suc zero)))))))))))) a b = refl
-site_found f (suc (suc (suc (suc (suc (suc (suc (suc (suc (suc (suc (suc (suc zero))))))))))))) a b = refl
-site_found f (suc (suc (suc (suc (suc (suc (suc (suc (suc (suc (suc (suc (suc (suc zero)))))))))))))) a b = refl
-site_found f (suc (suc (suc (suc (suc (suc (suc (suc (suc (suc (suc (suc (suc (suc (suc zero))))))))))))))) a b = refl
-site_found f (suc (suc (suc (suc (suc (suc (suc (suc (suc (suc (suc (suc (suc (suc (suc (suc zero)))))))))))))))) a b = refl
-site_found f (suc (suc (suc (suc (suc (suc (suc (suc (suc (suc (suc (suc (suc (suc (suc (suc (suc t))))))))))))))))) a b = absurd (omega arith)
-
 up_same : (a b p p' q q' : ℕ) (u u' : List CutCircuit) → p ≡ p' → q ≡ q' → u ≡ u' → (not (p == 0) && (not (q == 0) && not (list_any (is_between a b) u))) ≡ (not (p' == 0) && (not (q' == 0) && not (list_any (is_between a b) u')))
 up_same a b p p' q q' u u' e f g = rw (e, f, g) refl
 
@@ -53,16 +33,16 @@ link_same : (a b p p' : ℕ) (u u' : List CutCircuit) → p ≡ p' → u ≡ u' 
 link_same a b p p' u u' e f = rw (e, f) refl
 
 module _ (w : World) (x : WorldState) (k : ShowsSites w x) where
-  boot_same : (t : ℕ) → 1 ≤ t → t ≤ 16 → boot_of (place_at w t) ≡ boot_in (boots_of x.places) t
+  boot_same : (t : ℕ) → 1 ≤ t → t ≤ sites_max → boot_of (place_at w t) ≡ boot_in (boots_of x.places) t
   boot_same t a b = ap boot_of (k.places t a b) ∙ sym (site_found (boot_at x.places) t a b)
 
-  link_is : (s t : ℕ) → 1 ≤ t → t ≤ 16 → link_of w s t ≡ reached_boot x.circuits (boots_of x.places) s t
+  link_is : (s t : ℕ) → 1 ≤ t → t ≤ sites_max → link_of w s t ≡ reached_boot x.circuits (boots_of x.places) s t
   link_is s t a b = link_same s t (boot_of (place_at w t)) (boot_in (boots_of x.places) t) w.circuits x.circuits (boot_same t a b) k.circuits
 
   pub links_are : (s : ℕ) → links_of w s ≡ reached_boots x.circuits (boots_of x.places) s
   links_are s = ap (λ (b : List ℕ). record { boot = b }) (of_all_sites (reached_boot x.circuits (boots_of x.places) s) (map (link_of w s) all_sites) refl (λ t a b. site_found (link_of w s) t a (omega arith) ∙ link_is s t a (omega arith)))
 
-  pub up_is : (a b : ℕ) → 1 ≤ a → a ≤ 16 → 1 ≤ b → b ≤ 16 → is_up w a b ≡ is_up_among x.circuits (boots_of x.places) a b
+  pub up_is : (a b : ℕ) → 1 ≤ a → a ≤ sites_max → 1 ≤ b → b ≤ sites_max → is_up w a b ≡ is_up_among x.circuits (boots_of x.places) a b
   up_is a b la ha lb hb = up_same a b (boot_of (place_at w a)) (boot_in (boots_of x.places) a) (boot_of (place_at w b)) (boot_in (boots_of x.places) b) w.circuits x.circuits (boot_same a la ha) (boot_same b lb hb) k.circuits
 
 pub links_answer : (x : WorldState) (s : ℕ) (boots : List ℕ) (r : Links) → boots ≡ boots_of x.places → r ≡ reached_boots x.circuits boots s → Answers (λ w. links_of w s) x r
@@ -72,9 +52,6 @@ pub up_answer : (x : WorldState) (a b p q : ℕ) (cut r : Bool) → Answers (λ 
 up_answer x a b p q cut r hp hq hc hr c taken w e sh =
     up_same a b (boot_of (place_at w a)) p (boot_of (place_at w b)) q w.circuits x.circuits (hp c taken w e sh) (hq c taken w e sh) (sh.sites e).circuits
     ∙ (ap (λ z. not (p == 0) && (not (q == 0) && not z)) (sym hc) ∙ sym hr)
-
-pub place_answer : {A : Type 0} (f : Option Place → A) (x : WorldState) (s : ℕ) (q : Option PlaceState) (r : A) → 1 ≤ s → s ≤ 16 → state_at x.places s ≡ q → r ≡ f (place_of q) → Answers (λ w. f (place_at w s)) x r
-place_answer f x s q r a b eq er c taken w e sh = ap f ((sh.sites e).places s a b ∙ ap place_of eq) ∙ sym er
 
 -- ---- void lines ----
 
@@ -122,7 +99,7 @@ over_stays c taken w x y n at p h l e k sh = record {
   sites = λ f. absurd (cc);
 }
 
-module _ (n s at : ℕ) (x y : WorldState) (low : 1 ≤ s) (high : s ≤ 16) (is : s ≡ at + 1) (within : at < length x.places) (p : PlaceState) (found : state_at x.places s ≡ Some p) where
+module _ (n s at : ℕ) (x y : WorldState) (low : 1 ≤ s) (high : s ≤ sites_max) (is : s ≡ at + 1) (within : at < length x.places) (p : PlaceState) (found : state_at x.places s ≡ Some p) where
   running : (c : Config) (e : Event) (links : Links) (taken : Taken) (w : World) → w.over ≡ None → Shows c taken w x → links_of w s ≡ links → (q : Place) → p.place ≡ q → is_stopped (Some q) ≡ false → Noted x y n at p (happens_place c s links e p.armed q) → Shows c taken (happens_at c n s e (Some q) w) y
   running c e links taken w o sh el (Stopped d) ep st k = absurd (cc)
   running c e links taken w o sh el (Running v) ep st k =
@@ -202,7 +179,7 @@ void_follows n f b x y e h c taken w sh = unless_yes n (f c) b w (λ v. Shows c 
 pub done_follows : (n : ℕ) (f : Config → World → World) (b : Bool) (x y : WorldState) → b ≡ false → Follows f x y → Follows (λ c w. unless_void n b (f c) w) x y
 done_follows n f b x y e h c taken w sh = unless_no n (f c) b w (λ v. Shows c taken v y) e (h c taken w sh)
 
-module _ (s : ℕ) (x : WorldState) (low : 1 ≤ s) (high : s ≤ 16) where
+module _ (s : ℕ) (x : WorldState) (low : 1 ≤ s) (high : s ≤ sites_max) where
   absent_place : (w : World) → ShowsSites w x → state_at x.places s ≡ None → place_at w s ≡ None
   absent_place w k e = k.places s low high ∙ ap place_of e
 

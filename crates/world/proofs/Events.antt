@@ -1,5 +1,6 @@
 -- One event of the run, shown.
 use Rattle.std.proofs.Common.{◌≡◌, ◌≢◌, ℕ, ◌+◌, ◌<◌, ◌≤◌, List, length, set, Option, Some, None, refl, sym, ap, subst, ◌∙◌}
+use Rattle.locus_ids.specs.Sizes.{sites_max}
 use Rattle.locus_ids.specs.declared.config.Config.{Config}
 use Rattle.wire_messages.specs.declared.packet.Packet.{Packet}
 use Rattle.role_steps.specs.Tables.{total}
@@ -69,7 +70,7 @@ event_shown c taken w x y n s at p h change o sh e l found ch ec ep ek eb = reco
   there : (t : ℕ) → t ≢ s → state_at y.places t ≡ state_at x.places t
   there t ne = ap (λ (xs : List PlaceState). state_at xs t) ep ∙ state_other x.places s t at (led_to h p) e ne
 
-  place : (t : ℕ) → 1 ≤ t → t ≤ 16 → place_at (change w) t ≡ place_of (state_at y.places t)
+  place : (t : ℕ) → 1 ≤ t → t ≤ sites_max → place_at (change w) t ≡ place_of (state_at y.places t)
   place t a b = split t s
       (λ f. ap (place_at (change w)) f ∙ (ch.place_here ∙ sym (ap (λ i. place_of (state_at y.places i)) f ∙ ap place_of here)))
       (λ f. ch.place_there t f ∙ (k.places t a b ∙ ap place_of (sym (there t f))))

@@ -5,9 +5,11 @@ use Rattle.std.specs.List.{list_any}
 use Rattle.std.proofs.lemmas.Bool.Decides.{nat_tests}
 use Rattle.std.proofs.lemmas.Option.{slice_get_within}
 use Rattle.std.proofs.lemmas.List.{length-append}
+use Rattle.locus_ids.specs.Sizes.{sites_max}
 use Rattle.locus_ids.specs.declared.config.Config.{Config}
 use Rattle.role_steps.specs.Tables.{row}
 use Rattle.role_steps.specs.Views.{all_sites}
+use Rattle.role_steps.proofs.Numbers.{listed_site}
 use Rattle.role_steps.proofs.Rows.{passed_row, found_row}
 use Rattle.the_run.specs.Worlds.{PlaceRow, place_in, place_at, place_site, first_place, first_world}
 use Rattle.site_place.specs.Places.{PlaceState}
@@ -20,26 +22,6 @@ use Rattle.world.proofs.Events.{own_along}
 
 any_first : (s t : ℕ) (ss : List ℕ) → (t == s) ≡ false → list_any (λ i. i == s) (t ∷ ss) ≡ true → list_any (λ i. i == s) ss ≡ true
 any_first s t ss e h = rw e at h
-
-listed_site : (s : ℕ) → 1 ≤ s → s ≤ 16 → list_any (λ i. i == s) all_sites ≡ true
-listed_site zero a b = absurd (omega arith)
-listed_site (suc zero) a b = refl
-listed_site (suc (suc zero)) a b = refl
-listed_site (suc (suc (suc zero))) a b = refl
-listed_site (suc (suc (suc (suc zero)))) a b = refl
-listed_site (suc (suc (suc (suc (suc zero))))) a b = refl
-listed_site (suc (suc (suc (suc (suc (suc zero)))))) a b = refl
-listed_site (suc (suc (suc (suc (suc (suc (suc zero))))))) a b = refl
-listed_site (suc (suc (suc (suc (suc (suc (suc (suc zero)))))))) a b = refl
-listed_site (suc (suc (suc (suc (suc (suc (suc (suc (suc zero))))))))) a b = refl
-listed_site (suc (suc (suc (suc (suc (suc (suc (suc (suc (suc zero)))))))))) a b = refl
-listed_site (suc (suc (suc (suc (suc (suc (suc (suc (suc (suc (suc zero))))))))))) a b = refl
-listed_site (suc (suc (suc (suc (suc (suc (suc (suc (suc (suc (suc (suc zero)))))))))))) a b = refl
-listed_site (suc (suc (suc (suc (suc (suc (suc (suc (suc (suc (suc (suc (suc zero))))))))))))) a b = refl
-listed_site (suc (suc (suc (suc (suc (suc (suc (suc (suc (suc (suc (suc (suc (suc zero)))))))))))))) a b = refl
-listed_site (suc (suc (suc (suc (suc (suc (suc (suc (suc (suc (suc (suc (suc (suc (suc zero))))))))))))))) a b = refl
-listed_site (suc (suc (suc (suc (suc (suc (suc (suc (suc (suc (suc (suc (suc (suc (suc (suc zero)))))))))))))))) a b = refl
-listed_site (suc (suc (suc (suc (suc (suc (suc (suc (suc (suc (suc (suc (suc (suc (suc (suc (suc s))))))))))))))))) a b = absurd (omega arith)
 
 module _ (c : Config) where
   -- the rows of the sites of a list that the cluster has
@@ -64,33 +46,33 @@ module _ (c : Config) where
       (λ q. rw p (passed_row (first_place c t) (row place_site s (rows ss)) (t == s) q ∙ row_absent s ss h)))
       (λ p. rw p (row_absent s ss h))
 
-  first_places : (places : List PlaceState) → AreFirst c (min c.sites 16) places → (s : ℕ) → 1 ≤ s → s ≤ 16 → place_at (first_world c) s ≡ place_of (state_at places s)
+  first_places : (places : List PlaceState) → AreFirst c (min c.sites sites_max) places → (s : ℕ) → 1 ≤ s → s ≤ sites_max → place_at (first_world c) s ≡ place_of (state_at places s)
   first_places places f zero a b = absurd (omega arith)
   first_places places f (suc k) a b = either (nat_lt (suc k) (c.sites + 1))
       (λ p. let l : suc k < c.sites + 1 = grind (arith, nat_tests) in ap place_in (row_found (suc k) all_sites p (listed_site (suc k) a b)) ∙ sym (ap place_of (f.each k (omega arith)) ∙ ap (λ i. Some (first_state c i).place) (omega arith)))
-      (λ p. let l : c.sites + 1 ≤ suc k = grind (arith, nat_tests) in let m : length places ≡ min c.sites 16 = f.size in ap place_in (row_absent (suc k) all_sites p) ∙ sym (ap place_of (state_none places (suc k) k (omega arith) (omega arith))))
+      (λ p. let l : c.sites + 1 ≤ suc k = grind (arith, nat_tests) in let m : length places ≡ min c.sites sites_max = f.size in ap place_in (row_absent (suc k) all_sites p) ∙ sym (ap place_of (state_none places (suc k) k (omega arith) (omega arith))))
 
-  first_scripts : (places : List PlaceState) → AreFirst c (min c.sites 16) places → (s : ℕ) (p : PlaceState) → state_at places s ≡ Some p → None ≡ p.armed
+  first_scripts : (places : List PlaceState) → AreFirst c (min c.sites sites_max) places → (s : ℕ) (p : PlaceState) → state_at places s ≡ Some p → None ≡ p.armed
   first_scripts places f zero p e = absurd (cc)
   first_scripts places f (suc k) p e =
       let l : k < length places = slice_get_within places k p e in
-      let m : length places ≡ min c.sites 16 = f.size in
+      let m : length places ≡ min c.sites sites_max = f.size in
       let g : slice_get places k ≡ Some (first_state c (k + 1)) = f.each k (omega arith) in
       let h : Some p ≡ Some (first_state c (k + 1)) = sym e ∙ g in
       let i : first_state c (k + 1) ≡ p = cc in
       ap (λ (x : PlaceState). x.armed) i
 
-  first_own : (places : List PlaceState) → AreFirst c (min c.sites 16) places → (s : ℕ) (p : PlaceState) → state_at places s ≡ Some p → IsSite c s p
+  first_own : (places : List PlaceState) → AreFirst c (min c.sites sites_max) places → (s : ℕ) (p : PlaceState) → state_at places s ≡ Some p → IsSite c s p
   first_own places f zero p e = absurd (cc)
   first_own places f (suc k) p e =
       let l : k < length places = slice_get_within places k p e in
-      let m : length places ≡ min c.sites 16 = f.size in
+      let m : length places ≡ min c.sites sites_max = f.size in
       let g : slice_get places k ≡ Some (first_state c (k + 1)) = f.each k (omega arith) in
       let h : Some p ≡ Some (first_state c (k + 1)) = sym e ∙ g in
       let i : p ≡ first_state c (k + 1) = cc in
       record { site = ap (λ (x : PlaceState). x.site) i ∙ add-one k; config = ap (λ (x : PlaceState). x.config) i }
 
-  pub first_shown : (x : WorldState) (writing : Writing) → x.config ≡ c → AreFirst c (min c.sites 16) x.places → x.circuits ≡ [] → x.book ≡ no_ledger writing → Shows c (nothing_taken writing) (first_world c) x
+  pub first_shown : (x : WorldState) (writing : Writing) → x.config ≡ c → AreFirst c (min c.sites sites_max) x.places → x.circuits ≡ [] → x.book ≡ no_ledger writing → Shows c (nothing_taken writing) (first_world c) x
   first_shown x writing ec f ek eb = record {
     config = ec;
     writing = ap (λ (b : Ledger). b.writing) eb;

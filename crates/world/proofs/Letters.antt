@@ -2,6 +2,7 @@
 use Rattle.std.proofs.Common.{◌≡◌, ℕ, ◌≤◌, List, [], ◌∷◌, map, Option, Some, None, Bool, true, false, not, ◌||◌, refl, sym, ap, subst, ◌∙◌}
 use Rattle.std.specs.Option.{is_some, IfSome}
 use Rattle.std.specs.List.{AllByRecursion}
+use Rattle.locus_ids.specs.Sizes.{sites_max}
 use Rattle.locus_ids.specs.declared.config.Config.{Config}
 use Rattle.wire_messages.specs.declared.packet.Packet.{Packet}
 use Rattle.wire_fields.proofs.Members.{range}
@@ -27,10 +28,6 @@ use Rattle.world.specs.declared.fault.WorldFault.TheVariants.{NoMemory}
 use Rattle.complete_laws.specs.MomentEvents.{WherePacket}
 
 -- ---- packets by number ----
-
-pub sent_by : (o : Option Numbered) (a : ℕ) → Some a ≡ sender_in o → is_some o ≡ true
-sent_by None a e = absurd (cc)
-sent_by (Some x) a e = refl
 
 module _ (c : Config) (taken : Taken) (w : World) (x : WorldState) (o : w.over ≡ None) (sh : Shows c taken w x) where
   post_is : x.book.post ≡ post_of_world w
@@ -126,8 +123,8 @@ all_map P Q (a ∷ xs) f h = (f a h.0, all_map P Q xs f h.1)
 
 come_alike : (w : World) (x : WorldState) (up : List Bool) → ShowsSites w x → TellsUp up x.circuits (boots_of x.places) → (m : Post) (y : Numbered) → IsKnown m y → can_come w y ≡ can_come_by up y
 come_alike w x up k t m y is =
-    let a = range 1 16 y.packet.from is.fits.from.0 in
-    let b = range 1 16 y.packet.to is.fits.to.0 in
+    let a = range 1 sites_max y.packet.from is.fits.from.0 in
+    let b = range 1 sites_max y.packet.to is.fits.to.0 in
     up_is w x k y.packet.from y.packet.to a.0 a.1 b.0 b.1 ∙ sym (t.each y.packet.from y.packet.to a.0 a.1 b.0 b.1)
 
 pub next_within : (x : WorldState) (up : List Bool) (r : Option ℕ) (c : Config) (taken : Taken) (w : World) → w.over ≡ None → Shows c taken w x → TellsUp up x.circuits (boots_of x.places) → AllByRecursion (IsKnown x.book.post) x.book.post.underway → r ≡ next_in up x.book.post → next_number w ≡ r
@@ -217,13 +214,6 @@ arrive_wants k p x y fault is ec ep ek eb h u c taken w o sh need =
     let packet : p ≡ u.packet = cc in
     h c taken (passed k w) (pass_shown c taken w x y k o sh ec ep ek eb) (subst (λ (q : Packet). CanHappen c q.to (Receives q) w) (sym packet) need.1)
 
--- nothing was sent with the number
-pub arrive_none : (n k : ℕ) (x z : WorldState) → None ≡ packet_in (sent_at k x.book.post) → (u : Numbered) (c : Config) (taken : Taken) (w : World) → w.over ≡ None → packet_at w k ≡ Some u → Shows c taken w x → Shows c taken (arrives c n u w) z
-arrive_none n k x z is u c taken w o e sh =
-    let there : sent_at k x.book.post ≡ Some u = sym (packet_same c taken w x o sh k) ∙ e in
-    let same : None ≡ Some u.packet = is ∙ ap packet_in there in
-    absurd (cc)
-
 -- ---- lines ----
 
 pub deliver_yes : (n k : ℕ) (x y : WorldState) (b : Bool) → Answers (may_come k) x b → b ≡ true → ((u : Numbered) (c : Config) (taken : Taken) (w : World) → w.over ≡ None → packet_at w k ≡ Some u → Shows c taken w x → Shows c taken (arrives c n u w) y) → FollowsWithin (λ c w. delivers_line c n (packet_at w k) w) x y
@@ -292,7 +282,7 @@ module _ (c : Config) (n : ℕ) (p : Packet) (w : World) where
     untrue true r = refl
     untrue false r = absurd (cc)
 
-module _ (n : ℕ) (p : Packet) (x : WorldState) (low : 1 ≤ p.to) (high : p.to ≤ 16) (b : Bool) (asked : b ≡ is_taken p (state_at x.places p.to)) where
+module _ (n : ℕ) (p : Packet) (x : WorldState) (low : 1 ≤ p.to) (high : p.to ≤ sites_max) (b : Bool) (asked : b ≡ is_taken p (state_at x.places p.to)) where
   site_is : (c : Config) (taken : Taken) (w : World) → w.over ≡ None → Shows c taken w x → place_at w p.to ≡ place_of (state_at x.places p.to)
   site_is c taken w o sh = (sh.sites o).places p.to low high
 

@@ -12,3 +12,5 @@ pub mod Reading
 pub mod Pending
 pub mod Versions
 pub mod Wanting
+pub use Rattle.complete_laws.proofs.of_rest_laws as of_rest_laws
+pub use Rattle.complete_laws.proofs.of_row_laws as of_row_laws

@@ -1,9 +1,11 @@
 -- A round, packet by packet.
 use Rattle.std.proofs.Common.{◌≡◌, ℕ, zero, suc, ◌+◌, ◌<◌, ◌∷◌, drop, Option, Some, None, true, false, refl, sym, ap, subst, ◌∙◌, arith}
 use Rattle.std.specs.Option.{is_some, IfSome}
+use Rattle.locus_ids.specs.Sizes.{sites_max}
 use Rattle.locus_ids.specs.declared.config.Config.{Config}
 use Rattle.trace_book.specs.declared.record.Record.TheVariants as says
 use Rattle.role_steps.specs.Views.{Ticks, all_sites}
+use Rattle.role_steps.proofs.Numbers.{next_site}
 use Rattle.the_run.specs.Worlds.{World, Limit, Numbered, happens, says_only}
 use Rattle.the_run.specs.Runs.{packet_at, next_packet, next_packet_of, arrives, goes_round, ends_round, delivers, ticks_to}
 use Rattle.packet_mail.specs.Posts.{number_in}
@@ -32,30 +34,11 @@ rests_last rest whole x y z h g c taken w sh =
 
 -- ---- ticks ----
 
-pub site_left : (at : ℕ) → at < 16 → drop at all_sites ≡ (at + 1) ∷ drop (at + 1) all_sites
-site_left zero l = refl
-site_left (suc zero) l = refl
-site_left (suc (suc zero)) l = refl
-site_left (suc (suc (suc zero))) l = refl
-site_left (suc (suc (suc (suc zero)))) l = refl
-site_left (suc (suc (suc (suc (suc zero))))) l = refl
-site_left (suc (suc (suc (suc (suc (suc zero)))))) l = refl
-site_left (suc (suc (suc (suc (suc (suc (suc zero))))))) l = refl
-site_left (suc (suc (suc (suc (suc (suc (suc (suc zero)))))))) l = refl
-site_left (suc (suc (suc (suc (suc (suc (suc (suc (suc zero))))))))) l = refl
-site_left (suc (suc (suc (suc (suc (suc (suc (suc (suc (suc zero)))))))))) l = refl
-site_left (suc (suc (suc (suc (suc (suc (suc (suc (suc (suc (suc zero))))))))))) l = refl
-site_left (suc (suc (suc (suc (suc (suc (suc (suc (suc (suc (suc (suc zero)))))))))))) l = refl
-site_left (suc (suc (suc (suc (suc (suc (suc (suc (suc (suc (suc (suc (suc zero))))))))))))) l = refl
-site_left (suc (suc (suc (suc (suc (suc (suc (suc (suc (suc (suc (suc (suc (suc zero)))))))))))))) l = refl
-site_left (suc (suc (suc (suc (suc (suc (suc (suc (suc (suc (suc (suc (suc (suc (suc zero))))))))))))))) l = refl
-site_left (suc (suc (suc (suc (suc (suc (suc (suc (suc (suc (suc (suc (suc (suc (suc (suc at)))))))))))))))) l = absurd (omega arith)
-
 -- one site more ticks
-pub tick_more : (n at s : ℕ) (x y z : WorldState) → at < 16 → s ≡ at + 1 → Rests (λ c w. ticks_to c n (drop at all_sites) w) (λ c w. ticks_to c n all_sites w) x y → Follows (λ c w. happens c n s Ticks w) y z → Rests (λ c w. ticks_to c n (drop (at + 1) all_sites) w) (λ c w. ticks_to c n all_sites w) x z
+pub tick_more : (n at s : ℕ) (x y z : WorldState) → at < sites_max → s ≡ at + 1 → Rests (λ c w. ticks_to c n (drop at all_sites) w) (λ c w. ticks_to c n all_sites w) x y → Follows (λ c w. happens c n s Ticks w) y z → Rests (λ c w. ticks_to c n (drop (at + 1) all_sites) w) (λ c w. ticks_to c n all_sites w) x z
 tick_more n at s x y z l e h g c taken w sh =
     let k = h c taken w sh in
-    (happens c n s Ticks k.0, (g c taken k.0 k.1.0, ap (λ i. ticks_to c n (drop (at + 1) all_sites) (happens c n i Ticks k.0)) e ∙ (sym (ap (λ ss. ticks_to c n ss k.0) (site_left at l)) ∙ k.1.1)))
+    (happens c n s Ticks k.0, (g c taken k.0 k.1.0, ap (λ i. ticks_to c n (drop (at + 1) all_sites) (happens c n i Ticks k.0)) e ∙ (sym (ap (λ ss. ticks_to c n ss k.0) (next_site at l)) ∙ k.1.1)))
 
 -- ---- deliveries ----
 

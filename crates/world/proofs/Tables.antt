@@ -4,9 +4,10 @@ use Rattle.std.specs.Prelude.{slice_get}
 use Rattle.std.proofs.lemmas.Bool.Decides.{nat_tests}
 use Rattle.std.proofs.lemmas.List.{get_or-set_same, length-set}
 use Rattle.std.proofs.lemmas.Option.{slice_get_past, slice_get-get_or}
+use Rattle.role_steps.proofs.of_plain_facts.Numbers.{apart_test}
 use Rattle.keyed_tables.specs.Rising.{Above, Rising}
 use Rattle.role_steps.specs.Tables.{row, with_row, without_row}
-use Rattle.role_steps.proofs.Rows.{differ, passed_row, found_row, row_other, row_same}
+use Rattle.role_steps.proofs.Rows.{passed_row, found_row, row_other, row_same}
 use Rattle.site_place.specs.Places.{PlaceState}
 use Rattle.world.specs.States.{state_at}
 
@@ -23,7 +24,7 @@ pub put_here : {A : Type 0} (key : A → ℕ) (x : A) (k : ℕ) (xs : List A) �
 put_here key x k xs e = ap (λ j. row key j (with_row key x xs)) (sym e) ∙ row_same key x xs
 
 pub put_there : {A : Type 0} (key : A → ℕ) (x : A) (k : ℕ) (xs : List A) → key x ≢ k → row key k (with_row key x xs) ≡ row key k xs
-put_there key x k xs ne = row_other key x k xs (differ (key x) k ne)
+put_there key x k xs ne = row_other key x k xs (apart_test (key x) k ne)
 
 -- a row that is found has the key
 pub key_found : {A : Type 0} (key : A → ℕ) (k : ℕ) (xs : List A) (x : A) → row key k xs ≡ Some x → key x ≡ k
@@ -35,7 +36,7 @@ key_found key k (y ∷ ys) x e = either (key y == k)
 -- no row has a key below all
 pub above_none : {A : Type 0} (key : A → ℕ) (k : ℕ) (xs : List A) → Above key k xs → row key k xs ≡ None
 above_none key k [] a = refl
-above_none key k (y ∷ ys) a = passed_row y (row key k ys) (key y == k) (differ (key y) k (λ e. let l = a.0 in absurd (omega arith))) ∙ above_none key k ys a.1
+above_none key k (y ∷ ys) a = passed_row y (row key k ys) (key y == k) (apart_test (key y) k (λ e. let l = a.0 in absurd (omega arith))) ∙ above_none key k ys a.1
 
 above_along : {A : Type 0} (key : A → ℕ) (j k : ℕ) (xs : List A) → j ≡ k → Above key j xs → Above key k xs
 above_along key j k xs e a = subst (λ (i : ℕ). Above key i xs) e a
@@ -62,13 +63,10 @@ same_rest y a b false e = e
 pub out_there : {A : Type 0} (key : A → ℕ) (j k : ℕ) (xs : List A) → j ≢ k → row key j (without_row key k xs) ≡ row key j xs
 out_there key j k [] ne = refl
 out_there key j k (y ∷ ys) ne = either (key y == k)
-    (λ t. ap (row key j) (left_out ys (y ∷ without_row key k ys) (key y == k) t) ∙ sym (passed_row y (row key j ys) (key y == j) (differ (key y) j (λ e. let f : key y ≡ k = grind (arith, nat_tests) in ne (sym e ∙ f)))))
+    (λ t. ap (row key j) (left_out ys (y ∷ without_row key k ys) (key y == k) t) ∙ sym (passed_row y (row key j ys) (key y == j) (apart_test (key y) j (λ e. let f : key y ≡ k = grind (arith, nat_tests) in ne (sym e ∙ f)))))
     (λ t. ap (row key j) (left_in ys (y ∷ without_row key k ys) (key y == k) t) ∙ same_rest y (row key j (without_row key k ys)) (row key j ys) (key y == j) (out_there key j k ys ne))
 
 -- ---- places ----
-
-less_one : (k : ℕ) → suc k - 1 ≡ k
-less_one k = omega arith
 
 pub state_is : (places : List PlaceState) (s at : ℕ) → s ≡ at + 1 → state_at places s ≡ slice_get places at
 state_is places s at e = ap (state_at places) (let f : s ≡ suc at = omega arith in f)

@@ -9,8 +9,8 @@ use Rattle.the_run.specs.Runs.{act, run_in}
 use Rattle.the_run.proofs.Growing.{run_splits}
 use Rattle.copy_laws.specs.Hold.{VersionsAndCopiesHold}
 use Rattle.copy_laws.proofs.Hold.{run_versions_and_copies}
-use Rattle.row_laws.specs.Voids.{LinesFit}
-use Rattle.order_laws.specs.Joining.{PacksAreOfSites}
+use Rattle.complete_laws.specs.of_row_laws.Voids.{LinesFit}
+use Rattle.complete_laws.specs.of_order_laws.Joining.{PacksAreOfSites}
 use Rattle.complete_laws.specs.Lines.{CanDo}
 use Rattle.complete_laws.proofs.Lines.{can_do}
 use Rattle.world.specs.States.{WorldState}

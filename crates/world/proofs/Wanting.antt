@@ -3,6 +3,7 @@ use Rattle.std.proofs.Common.{◌≡◌, ◌≢◌, ◌≤◌, ◌<◌, ◌+◌,
 use Rattle.std.specs.Prelude.{Result, Ok, Err, IfErr, IsErr, IsErrAnd}
 use Rattle.std.specs.Option.{is_some, IfSome}
 use Rattle.std.specs.List.{AllByRecursion}
+use Rattle.locus_ids.specs.Sizes.{sites_max}
 use Rattle.locus_ids.specs.declared.config.Config.{Config}
 use Rattle.locus_ids.specs.declared.sites.Links.{Links}
 use Rattle.schedule_lines.specs.declared.line.Line.{Line as LineWords}
@@ -11,12 +12,13 @@ use Rattle.packet_order.specs.Counts.{FitsIfCounted}
 use Rattle.wire_messages.specs.Outboxes.{Outgoing}
 use Rattle.wire_messages.specs.declared.packet.Packet.{Packet}
 use Rattle.role_steps.specs.Views.{DiskWrite, Event, Outcome, Receives, SiteView, Ticks, all_sites}
+use Rattle.role_steps.proofs.Numbers.{next_site}
 use Rattle.the_run.specs.Disks.{Armed, write_calls}
 use Rattle.the_run.specs.Runs.{arrives, delivers, is_stopped, next_packet, packet_at, ticks_to}
 use Rattle.the_run.specs.Steps.{step}
 use Rattle.the_run.specs.Worlds.{World, Limit, Place, Running, Stopped, Numbered, happens, links_of, place_at}
-use Rattle.site_packs.specs.Packs.{groups_at}
-use Rattle.site_node.specs.Fitting.{CanAct}
+use Rattle.site_place.specs.of_site_packs.Packs.{groups_at}
+use Rattle.site_place.specs.of_site_node.Fitting.{CanAct}
 use Rattle.site_place.specs.Fitting.{CanHappenAt, CanHappenIn}
 use Rattle.site_place.specs.Places.{Gives, Happening, PlaceState, acts_in, cut_in, disk_boot, happens_at as happens_place, happens_in, runs_in, writes_armed_in, writes_in}
 use Rattle.site_place.specs.declared.fault.PlaceFault.{PlaceFault}
@@ -37,7 +39,7 @@ use Rattle.world.specs.declared.fault.WorldFault.{WorldFault}
 use Rattle.world.specs.declared.fault.WorldFault.TheVariants.{NoMemory}
 use Rattle.world.proofs.LineLaws.{always, where_over}
 use Rattle.world.proofs.Over.{happens_over}
-use Rattle.world.proofs.Rounds.{found, site_left, within_limits}
+use Rattle.world.proofs.Rounds.{found, within_limits}
 
 -- ---- a fault that is given on ----
 
@@ -68,7 +70,7 @@ pub not_over : (x : WorldState) (o : Option Passed) → limit_in o ≡ x.book.ov
 not_over x o eo is c taken w sh = always x (λ v. v.over ≡ None) o eo is (λ k t v e shown. e) c taken w sh
 
 -- the site in code finds what the site in the world does
-pub can_here : (s : ℕ) (x : WorldState) → 1 ≤ s → s ≤ 16 → (p : PlaceState) → state_at x.places s ≡ Some p → (e : Event) (links : Links) → Answers (λ w. links_of w s) x links → (o : Option Passed) → limit_in o ≡ x.book.over → is_some o ≡ false
+pub can_here : (s : ℕ) (x : WorldState) → 1 ≤ s → s ≤ sites_max → (p : PlaceState) → state_at x.places s ≡ Some p → (e : Event) (links : Links) → Answers (λ w. links_of w s) x links → (o : Option Passed) → limit_in o ≡ x.book.over → is_some o ≡ false
     → (c : Config) (taken : Taken) (w : World) → Shows c taken w x → CanHappen c s e w → CanHappenIn links e p
 can_here s x low high p found e links el o eo is c taken w sh need =
     subst (λ (k : Config). CanHappenAt k p.site links e p.place) (sym (((sh.sites over).own s p found).config ∙ sh.config)) (subst (λ (t : ℕ). CanHappenAt c t links e p.place) (sym ((sh.sites over).own s p found).site) (at p.place refl))
@@ -112,16 +114,16 @@ StillNeeds Need Whole start now = (c : Config) (taken : Taken) (w : World) → S
 pub needs_first : (Need : Config → World → Type 0) (x : WorldState) → StillNeeds Need Need x x
 needs_first Need x c taken w sh need = (w, (sh, need))
 
-pub tick_needs : (n at s : ℕ) (Whole : Config → World → Type 0) (x y z : WorldState) → at < 16 → s ≡ at + 1 → StillNeeds (λ c w. WhereTicks (CanHappen c) c n (drop at all_sites) w) Whole x y → Follows (λ c w. happens c n s Ticks w) y z → StillNeeds (λ c w. WhereTicks (CanHappen c) c n (drop (at + 1) all_sites) w) Whole x z
+pub tick_needs : (n at s : ℕ) (Whole : Config → World → Type 0) (x y z : WorldState) → at < sites_max → s ≡ at + 1 → StillNeeds (λ c w. WhereTicks (CanHappen c) c n (drop at all_sites) w) Whole x y → Follows (λ c w. happens c n s Ticks w) y z → StillNeeds (λ c w. WhereTicks (CanHappen c) c n (drop (at + 1) all_sites) w) Whole x z
 tick_needs n at s Whole x y z l e h g c taken w sh whole =
     let k = h c taken w sh whole in
-    let need : WhereTicks (CanHappen c) c n ((at + 1) ∷ drop (at + 1) all_sites) k.0 = subst (λ (ss : List ℕ). WhereTicks (CanHappen c) c n ss k.0) (site_left at l) k.1.1 in
+    let need : WhereTicks (CanHappen c) c n ((at + 1) ∷ drop (at + 1) all_sites) k.0 = subst (λ (ss : List ℕ). WhereTicks (CanHappen c) c n ss k.0) (next_site at l) k.1.1 in
     (happens c n (at + 1) Ticks k.0, (subst (λ (t : ℕ). Shows c taken (happens c n t Ticks k.0) z) e (g c taken k.0 k.1.0), need.1))
 
-pub tick_wants : (n at s : ℕ) (Whole : Config → World → Type 0) (x y : WorldState) (fault : WorldFault) → at < 16 → s ≡ at + 1 → StillNeeds (λ c w. WhereTicks (CanHappen c) c n (drop at all_sites) w) Whole x y → WantsMemory (λ c w. CanHappen c s Ticks w) y fault → WantsMemory Whole x fault
+pub tick_wants : (n at s : ℕ) (Whole : Config → World → Type 0) (x y : WorldState) (fault : WorldFault) → at < sites_max → s ≡ at + 1 → StillNeeds (λ c w. WhereTicks (CanHappen c) c n (drop at all_sites) w) Whole x y → WantsMemory (λ c w. CanHappen c s Ticks w) y fault → WantsMemory Whole x fault
 tick_wants n at s Whole x y fault l e h g c taken w sh whole =
     let k = h c taken w sh whole in
-    let need : WhereTicks (CanHappen c) c n ((at + 1) ∷ drop (at + 1) all_sites) k.0 = subst (λ (ss : List ℕ). WhereTicks (CanHappen c) c n ss k.0) (site_left at l) k.1.1 in
+    let need : WhereTicks (CanHappen c) c n ((at + 1) ∷ drop (at + 1) all_sites) k.0 = subst (λ (ss : List ℕ). WhereTicks (CanHappen c) c n ss k.0) (next_site at l) k.1.1 in
     g c taken k.0 k.1.0 (subst (λ (t : ℕ). CanHappen c t Ticks k.0) (sym e) need.0)
 
 abbrev Delivering : ℕ → ℕ → Config → World → Type 0
@@ -167,7 +169,7 @@ pub line_wants : {T : Type 0} (r : Result T WorldFault) (n : ℕ) (l m : LineWor
 line_wants r n l m x e h = subst (λ (k : LineWords). IfErr r (WantsMemoryWithin (λ c w. CanDo c n k w) x)) (sym e) h
 
 -- a stopped site whose boot number is spent
-pub boot_spent : (s : ℕ) (x : WorldState) → 1 ≤ s → s ≤ 16 → (p : PlaceState) → state_at x.places s ≡ Some p → is_stopped (Some p.place) ≡ true → disk_boot p.place ≡ 4294967295 → (c : Config) (taken : Taken) (w : World) → w.over ≡ None → Shows c taken w x → CanBoot (line.Boot s) w → ⊥
+pub boot_spent : (s : ℕ) (x : WorldState) → 1 ≤ s → s ≤ sites_max → (p : PlaceState) → state_at x.places s ≡ Some p → is_stopped (Some p.place) ≡ true → disk_boot p.place ≡ 4294967295 → (c : Config) (taken : Taken) (w : World) → w.over ≡ None → Shows c taken w x → CanBoot (line.Boot s) w → ⊥
 boot_spent s x low high p found stopped spent c taken w over sh can = at p.place refl stopped spent
   where
     there : place_at w s ≡ Some p.place

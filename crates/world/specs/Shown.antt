@@ -1,5 +1,6 @@
 -- The world in code shows a world of the run.
 use Rattle.std.specs.Prelude.{◌≡◌, ℕ, ◌≤◌, List, None, Some, []}
+use Rattle.locus_ids.specs.Sizes.{sites_max}
 use Rattle.locus_ids.specs.declared.config.Config.{Config}
 use Rattle.keyed_tables.specs.Rising.{Rising}
 use Rattle.the_run.specs.Worlds.{World, place_at, script_of, armed_site}
@@ -29,7 +30,7 @@ pub record IsSite (c : Config) (s : ℕ) (p : PlaceState) : Type 0 where
 
 -- each site stands as in the world, with the script that is armed for it, and the same circuits are cut
 pub record ShowsSites (w : World) (x : WorldState) : Type 0 where
-  pub places : (s : ℕ) → 1 ≤ s → s ≤ 16 → place_at w s ≡ place_of (state_at x.places s)
+  pub places : (s : ℕ) → 1 ≤ s → s ≤ sites_max → place_at w s ≡ place_of (state_at x.places s)
   pub scripts : (s : ℕ) (p : PlaceState) → state_at x.places s ≡ Some p → script_of w s ≡ p.armed
   pub own : (s : ℕ) (p : PlaceState) → state_at x.places s ≡ Some p → IsSite x.config s p
   pub table : Rising armed_site w.armed

@@ -9,6 +9,7 @@ ghost use Rattle.complete_laws.specs.MomentEvents.{WhereDelivered, WhereTicks};
 
 use crate::{World, WorldFault};
 use epoch_rules::site_at;
+use locus_ids::sizes::SITES;
 use site_place::SiteEvent;
 use trace_book::Record;
 
@@ -18,7 +19,7 @@ impl World {
         ensures step { OnOk result (Follows (λ c w. ticks_to c line all_sites w) (state_of self.old) (state_of self.new)) }
         ensures fit { IfErr result (WantsMemory (λ c w. WhereTicks (CanHappen c) c line all_sites w) (state_of self.old)) }
     {
-        for at in 0..16 {
+        for at in 0..SITES {
             self.happen(line, site_at(at), SiteEvent::Tick)?;
         }
         Ok(())

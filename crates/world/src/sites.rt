@@ -8,6 +8,7 @@ ghost use Rattle.world.specs.Faults.{WantsMemory};
 ghost use Rattle.complete_laws.specs.Lines.{CanHappen};
 
 use crate::{World, WorldFault};
+use locus_ids::sizes::SITES;
 use locus_ids::{Links, NoMemory, SiteId};
 use packet_order::Dispatch;
 use site_place::{SiteEvent, SitePlace};
@@ -27,11 +28,11 @@ fn boot_at(places: &[SitePlace], site: u8) -> u32
 }
 
 /// The boot number of each site that runs, site 1 first, with 0 for one that doesn't.
-fn boots_of(places: &[SitePlace]) -> [u32; 16]
+fn boots_of(places: &[SitePlace]) -> [u32; SITES]
     ensures { result ≡ boots_of places.now }
 {
-    let mut boots = [0; 16];
-    for site in 1..17 {
+    let mut boots = [0; SITES];
+    for site in 1..SITES as u8 + 1 {
         boots[usize::from(site) - 1] = boot_at(places, site);
     }
     boots
@@ -57,7 +58,7 @@ fn told_alone(alloc: Global, what: Record) -> Result<Dispatch, NoMemory>
 
 impl World {
     /// The boot number of each site that runs, site 1 first, with 0 for one that doesn't.
-    pub(crate) fn boots(&self) -> [u32; 16]
+    pub(crate) fn boots(&self) -> [u32; SITES]
         ensures { result ≡ boots_of self.now.places.items }
     {
         boots_of(&self.places)

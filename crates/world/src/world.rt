@@ -1,4 +1,5 @@
 ghost use Rattle.std.specs.Prelude.{◌≡◌, ◌≤◌, ℕ, ◌+◌, List, [], ◌∷◌, ◌++◌, length, IfOk, IfErr, OnOk, min};
+ghost use Rattle.locus_ids.specs.Sizes.{sites_max};
 ghost use Rattle.locus_ids.specs.declared.config.Config.{Config};
 ghost use Rattle.schedule_lines.specs.declared.line.ScheduleLine.{ScheduleLine};
 ghost use Rattle.schedule_lines.specs.declared.line.ScheduleLine.TheVariants.{Event};
@@ -11,14 +12,15 @@ ghost use Rattle.world.specs.States.{state_of, AreFirst};
 ghost use Rattle.world.specs.Shown.{Taken, nothing_taken, all_taken, Shows, Follows};
 ghost use Rattle.std.specs.List.{AllByRecursion};
 ghost use Rattle.packet_order.specs.Counts.{FitsIfCounted};
-ghost use Rattle.row_laws.specs.Voids.{LinesFit};
-ghost use Rattle.order_laws.specs.Joining.{PacksAreOfSites};
+ghost use Rattle.complete_laws.specs.of_row_laws.Voids.{LinesFit};
+ghost use Rattle.complete_laws.specs.of_order_laws.Joining.{PacksAreOfSites};
 ghost use Rattle.world.specs.Faults.{MayCome};
 ghost use Rattle.copy_laws.specs.Hold.{VersionsAndCopiesHold};
 
 use crate::WorldFault;
 use circuits::CutCircuits;
 use epoch_rules::site_at;
+use locus_ids::sizes::SITES;
 use locus_ids::{Config, NoMemory};
 use packet_order::Dispatch;
 use run_book::{BookFault, Passed, RunBook, RunCounts, Writing};
@@ -38,10 +40,10 @@ pub struct World {
 
 /// The sites of a cluster, each freshly formatted and in its first boot.
 fn first_places(alloc: Global, config: &Config) -> Result<Vec<SitePlace>, NoMemory>
-    ensures { IfOk result (λ made. AreFirst config.now (min config.now.sites 16) made.items) }
+    ensures { IfOk result (λ made. AreFirst config.now (min config.now.sites sites_max) made.items) }
 {
     let mut places = Vec::new(alloc);
-    let count = usize::from(config.sites.min(16));
+    let count = usize::from(config.sites.min(SITES as u8));
     for at in 0..count {
         let place = SitePlace::new(alloc, config, site_at(at))?;
         places.push(place)?;

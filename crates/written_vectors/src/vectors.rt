@@ -5,6 +5,7 @@ ghost use Rattle.commit_graph.specs.Versions.{is_version, same_file};
 ghost use Rattle.written_vectors.specs.Counting.{counter_in, counter_on, counters_of};
 
 use commit_graph::{History, Version};
+use locus_ids::sizes::SITES;
 use locus_ids::{FileId, ItemList, NoMemory, Stamp};
 use std::alloc::Global;
 use version_vector::Vector;
@@ -16,12 +17,12 @@ pub fn vector_of(
     h: &History,
     file: FileId,
     stamp: Stamp,
-) -> Result<Vector<16>, NoMemory>
+) -> Result<Vector<SITES>, NoMemory>
     requires { length h.now < 4294967295 }
     ensures { IfOk result (λ made. made ≡ vector_of h.now file stamp) }
 {
-    let mut parts = [0; 16];
-    for place in 0..16 {
+    let mut parts = [0; SITES];
+    for place in 0..SITES {
         let site = place as u8 + 1;
         parts[place] = counter(alloc, h.oldest_first(), file, stamp, site)?;
     }

@@ -1,5 +1,5 @@
 use Rattle.std.proofs.Common.{◌≡◌, ◌++◌, drop, map, filter}
-use Rattle.commit_graph.specs.Versions.{same_stamp}
+use Rattle.role_steps.specs.of_commit_graph.Versions.{same_stamp}
 use Rattle.role_steps.specs.Versions.{holding_site}
 use Rattle.role_steps.specs.declared.synchronizing.Holding.{Holding}
 use Rattle.css_versions.proofs.holders.holders_among.Given as goal

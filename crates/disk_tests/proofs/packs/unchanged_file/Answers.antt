@@ -1,5 +1,5 @@
 use Rattle.std.proofs.Common.{ℕ, List, sym, refl, inl, subst}
-use Rattle.pack_layout.specs.Layout.{AgreesWith}
+use Rattle.stored_versions.specs.Versions.{AgreesWith}
 use Rattle.pack_slots.proofs.New.{root_is_slot}
 use Rattle.disk_tests.proofs.packs.unchanged_file.Goals as goal
 

@@ -1,5 +1,5 @@
 use Rattle.std.proofs.Common.{◌∙◌, sym, arith}
-use Rattle.epoch_rules.proofs.Sixteen.{one_linked, one_apart, all_looked}
+use Rattle.epoch_rules.proofs.EachSite.{one_linked, one_apart, all_looked}
 use Rattle.epoch_rules.proofs.places.reached.Goals as goal
 
 pub loop-place-preserved-then-is_linked : goal.loop-place-preserved-then-is_linked

@@ -1,6 +1,7 @@
 use Rattle.std.proofs.Common.{◌≡◌, ◌+◌, ◌-◌, ◌≤◌, ◌<◌, false, ℕ, Bool, length, slice_index, sym, ap, ◌∙◌, arith}
 use Rattle.std.specs.Prelude.{◌==◌}
 use Rattle.std.proofs.lemmas.Bool.{eq-eqb, ne_eqb}
+use Rattle.locus_ids.specs.Sizes.{content_pages_max}
 use Rattle.file_content.specs.Pages.{pages_of}
 use Rattle.inode_pack.proofs.Taking.{takes_start, takes_skip, unchanged, takes_stays, takes_one, takes_done, room, same_taking, same_so_far, whole_skip, whole_more}
 use Rattle.inode_pack.specs.Committing.{is_changed}
@@ -35,7 +36,7 @@ loop-i-preserved g c =
     let i = c.loop-i.i in
     let from = c.loop-i.from in
     let numbers = c.loop-i.numbers in
-    let fits : i < 64 = (let in_row = c.requires.inside in let most = c.requires.size in omega arith) in
+    let fits : i < content_pages_max = (let in_row = c.requires.inside in let most = c.requires.size in omega arith) in
     record {
       whole = whole_more shadow i c.loop-i.invariant.whole c.is_changed.ensures.whole;
       so_far = elim c.if-is_changed.branch [

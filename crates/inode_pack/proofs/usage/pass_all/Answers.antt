@@ -1,4 +1,5 @@
 use Rattle.std.proofs.Common.{◌+◌, ◌-◌, ◌≡◌, ap, ℕ, get_or, take, arith}
+use Rattle.locus_ids.specs.Sizes.{content_pages_max}
 use Rattle.pack_slots.specs.Copies.{times}
 use Rattle.pack_slots.proofs.PageTimes.{times_take, times_same, times_all, named_all}
 use Rattle.inode_pack.proofs.usage.pass_all.Goals as goal
@@ -51,7 +52,7 @@ returns-clause-named c p lt =
     let i = c.loop-i.i in
     let so_far = c.loop-i.invariant.named p lt in
     let stop = c.from-i-end.ensures in
-    let same = times_same p c.args.old.now c.args.made.now i (64 - i) (omega arith) (omega arith) (λ k low high. c.requires.same k (omega arith) (λ e. let b = e.1 in omega arith)) in
-    let old = times_all p c.args.old.now (i + (64 - i)) (omega arith) in
-    let made = times_all p c.args.made.now (i + (64 - i)) (omega arith) in
+    let same = times_same p c.args.old.now c.args.made.now i (content_pages_max - i) (omega arith) (omega arith) (λ k low high. c.requires.same k (omega arith) (λ e. let b = e.1 in omega arith)) in
+    let old = times_all p c.args.old.now (i + (content_pages_max - i)) (omega arith) in
+    let made = times_all p c.args.made.now (i + (content_pages_max - i)) (omega arith) in
     omega (arith, so_far, same, old, made)

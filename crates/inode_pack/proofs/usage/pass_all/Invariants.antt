@@ -1,11 +1,12 @@
 use Rattle.std.proofs.Common.{◌≡◌, ◌+◌, ◌<◌, ℕ, length, take, slice_index}
+use Rattle.locus_ids.specs.Sizes.{pack_pages}
 use Rattle.pack_slots.specs.Copies.{times}
 use Rattle.inode_pack.specs.Rows.{NoneBelow}
 use Rattle.inode_pack.proofs.usage.pass_all.Given as goal
 
 abbrev pub invariant-loop-i : goal.invariant-loop-i
 invariant-loop-i l = record {
-  long : length l.uses.items ≡ 3072;
-  named : (p : ℕ) → p < 3072 → slice_index l.uses.items p + times p (take l.i l.old) ≡ slice_index l.initial.uses.items p + times p (take l.i l.made);
+  long : length l.uses.items ≡ pack_pages;
+  named : (p : ℕ) → p < pack_pages → slice_index l.uses.items p + times p (take l.i l.old) ≡ slice_index l.initial.uses.items p + times p (take l.i l.made);
   least : NoneBelow l.least l.uses.items;
 }

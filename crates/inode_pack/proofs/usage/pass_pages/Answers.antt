@@ -1,6 +1,7 @@
 use Rattle.std.proofs.Common.{◌≡◌, ◌+◌, ◌<◌, ◌≤◌, ◌^◌, ℕ, get_or, take, replicate, List, ap, subst, arith}
 use Rattle.std.proofs.lemmas.List.{get_or-replicate}
 use Rattle.std.specs.Prelude.{Option}
+use Rattle.locus_ids.specs.Sizes.{content_pages_max, pack_pages}
 use Rattle.pack_layout.specs.declared.slot.Slot.{Slot}
 use Rattle.file_content.specs.Pages.{pages_of}
 use Rattle.pack_layout.specs.Layout.{IsSlot}
@@ -10,13 +11,13 @@ use Rattle.pack_slots.proofs.PageTimes.{times_first}
 use Rattle.inode_pack.proofs.usage.pass_pages.Goals as goal
 
 -- past its content a slot names no data page
-all_named : (s : Slot) (p : ℕ) → IsSlot s → p < 3072 → times p s.pages ≡ times p (take (pages_of s.size) s.pages)
+all_named : (s : Slot) (p : ℕ) → IsSlot s → p < pack_pages → times p s.pages ≡ times p (take (pages_of s.size) s.pages)
 all_named s p is small = let long = is.pages.count in times_first p s.pages (pages_of s.size) small (λ i le lt. is.pages.rest i le (omega arith))
 
-none_named : (p : ℕ) → p < 3072 → times p (replicate 64 65535) ≡ 0
-none_named p small = times_first p (replicate 64 65535) 0 small (λ i le lt. get_or-replicate 64 i 65535 0 lt)
+none_named : (p : ℕ) → p < pack_pages → times p (replicate content_pages_max 65535) ≡ 0
+none_named p small = times_first p (replicate content_pages_max 65535) 0 small (λ i le lt. get_or-replicate content_pages_max i 65535 0 lt)
 
-few_named : (uses : List ℕ) (s : Slot) (p : ℕ) → IsSlot s → p < 3072 → get_or uses p 0 + times p (take (pages_of s.size) s.pages) < 2 ^ 32 → get_or uses p 0 + times p s.pages < 2 ^ 32
+few_named : (uses : List ℕ) (s : Slot) (p : ℕ) → IsSlot s → p < pack_pages → get_or uses p 0 + times p (take (pages_of s.size) s.pages) < 2 ^ 32 → get_or uses p 0 + times p s.pages < 2 ^ 32
 few_named uses s p is small few = omega (arith, all_named s p is small)
 
 pub pass_all-requires-clause-once : goal.pass_all-requires-clause-once

@@ -1,6 +1,6 @@
 use Rattle.vector_laws.proofs.HistoryCovers.{run_held}
-use Rattle.pack_laws.proofs.InstanceAgree.{run_agrees}
-use Rattle.pack_laws.proofs.InodeFitsRun.{run_fits}
+use Rattle.make_laws.proofs.of_pack_laws.InstanceAgree.{run_agrees}
+use Rattle.make_laws.proofs.of_pack_laws.InodeFitsRun.{run_fits}
 use Rattle.kept_laws.proofs.StampLawsRun.{run_stamps}
 use Rattle.kept_laws.proofs.version.commits_are_held.Goals as goal
 

@@ -1,5 +1,5 @@
 use Rattle.vector_laws.proofs.FactsRun.{run_numbered}
-use Rattle.pack_laws.proofs.InstanceAgree.{run_agrees}
+use Rattle.make_laws.proofs.of_pack_laws.InstanceAgree.{run_agrees}
 use Rattle.kept_laws.proofs.version.commits_are_numbered.Goals as goal
 
 pub returns : goal.returns

@@ -1,5 +1,5 @@
 use Rattle.vector_laws.proofs.HistorySited.{run_vectors_tell}
-use Rattle.pack_laws.proofs.InstanceAgree.{run_agrees}
+use Rattle.make_laws.proofs.of_pack_laws.InstanceAgree.{run_agrees}
 use Rattle.kept_laws.proofs.StampLawsRun.{run_stamps}
 use Rattle.kept_laws.proofs.version.vectors_tell_ancestors.Goals as goal
 

@@ -2,7 +2,7 @@ use Rattle.std.proofs.Common.{◌∙◌, ℕ, List, ap, arith}
 use Rattle.std.proofs.Math.ListN.{length-set}
 use Rattle.locus_ids.specs.declared.sites.Links.{Links}
 use Rattle.role_steps.specs.Epochs.{merge_boot}
-use Rattle.epoch_rules.proofs.Sixteen.{one_made, made_for_each}
+use Rattle.epoch_rules.proofs.EachSite.{one_made, made_for_each}
 use Rattle.merge_protocol.proofs.links.polled_merge.Goals as goal
 
 pub loop-place-preserved : goal.loop-place-preserved

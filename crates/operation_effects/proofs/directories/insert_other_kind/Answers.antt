@@ -1,9 +1,10 @@
 use Rattle.std.proofs.Common.{◌≡◌, ℕ, List, Bool, true, false, None, subst, sym, ◌∙◌, arith}
 use Rattle.std.specs.List.{list_any}
+use Rattle.role_steps.proofs.of_plain_facts.Tests.{not_false}
 use Rattle.dir_format.specs.declared.entry.Entry.{Entry}
 use Rattle.dir_format.specs.Entries.{is_pair, pair_in}
 use Rattle.dir_format.proofs.Tests.{not_true}
-use Rattle.operation_effects.proofs.Inserting.{stands_so, none_found, refused_other, no_other, new_entry, not_false}
+use Rattle.operation_effects.proofs.Inserting.{stands_so, none_found, refused_other, no_other, new_entry}
 use Rattle.operation_effects.proofs.directories.insert_other_kind.Goals as goal
 
 pub returns-then-has_pair-clause-value : goal.returns-then-has_pair-clause-value

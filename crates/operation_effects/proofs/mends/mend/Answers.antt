@@ -2,7 +2,7 @@ use Rattle.std.proofs.Common.{◌≡◌, ℕ, List, Bool, Some, ap, sym, subst, 
 use Rattle.dir_format.specs.Grammar.{dir_bytes}
 use Rattle.dir_reconcile.specs.declared.kept.KeptVector.{KeptVector}
 use Rattle.dir_reconcile.specs.Rescues.{rescued}
-use Rattle.file_effects.specs.Effects.{Effect}
+use Rattle.role_steps.specs.of_file_effects.Effects.{Effect}
 use Rattle.role_steps.specs.OperationEffects.{Mending, has_several, joined_contents}
 use Rattle.operation_effects.proofs.Mended.{mended_with}
 use Rattle.operation_effects.proofs.mends.mend.Goals as goal

@@ -1,6 +1,6 @@
 use Rattle.std.proofs.Common.{◌≡◌, IfOk, Some, subst}
 use Rattle.trace_book.specs.declared.operation.Outcome.{Outcome}
-use Rattle.file_effects.specs.Effects.{Effect}
+use Rattle.role_steps.specs.of_file_effects.Effects.{Effect}
 use Rattle.operation_effects.specs.Settling.{worked, worked_so}
 use Rattle.operation_effects.proofs.Judged.{keeps_so}
 use Rattle.operation_effects.proofs.settling.settle.Goals as goal

@@ -1,6 +1,7 @@
 use Rattle.std.proofs.Common.{◌≡◌, ◌∙◌, ap, take, ℕ, length, rules, ◌++◌, ◌∷◌, [], replicate, List}
 use Rattle.std.specs.Int.{w16, w32, to_be_bytes}
 use Rattle.std.specs.List.{flat_map}
+use Rattle.locus_ids.specs.Sizes.{sites_max, content_pages_max}
 use Rattle.pack_layout.specs.Layout.{kind_number}
 use Rattle.pack_layout.proofs.Body.{fields_are}
 use Rattle.pack_layout.proofs.write.write_fields.Goals as goal
@@ -8,8 +9,8 @@ use Rattle.pack_layout.proofs.write.write_fields.Goals as goal
 pub returns : goal.returns
 returns c =
     let s = c.args.slot.now in
-    let sites : length c.parts.result ≡ 16 = search rules in
-    let pages : length c.args.slot.now.pages ≡ 64 = search rules in
+    let sites : length c.parts.result ≡ sites_max = search rules in
+    let pages : length c.args.slot.now.pages ≡ content_pages_max = search rules in
     let all : length c.put_pages.new.out ≡ 207 = search rules in
     fields_are c.put.new.out c.put-2.new.out c.put-3.new.out c.put-4.new.out c.put-5.new.out c.put-6.new.out c.put_counters.new.out c.put_pages.new.out
     (c.args.slot.now.turn ∷ kind_number c.args.slot.now.kind ∷ []) (to_be_bytes w16 c.args.slot.now.ino) (to_be_bytes w16 c.args.slot.now.set.0) (to_be_bytes w32 c.args.slot.now.size)

@@ -1,5 +1,6 @@
 use Rattle.std.proofs.Common.{◌≡◌, ◌≤◌, ◌+◌, ◌*◌, ◌∙◌, ap, subst, sym, List, ℕ, Bool, false, length, get_or, refl, arith}
 use Rattle.std.specs.Prelude.{Ok, Err, if◌then◌else◌}
+use Rattle.locus_ids.specs.Sizes.{inodes_max}
 use Rattle.disk_model.specs.declared.disk.DiskFault.{DiskFault}
 use Rattle.pack_layout.specs.declared.half.Half.{Half}
 use Rattle.pack_layout.specs.Layout.{slot_at}
@@ -20,7 +21,7 @@ use Rattle.disk_model.specs.Cut.{Cut, left_by, left_in_write}
 use Rattle.disk_model.specs.Disk.{Passing, Exactly}
 use Rattle.pack_layout.specs.Layout.{area_length}
 use Rattle.disk_model.proofs.Tells.{tells_few, tells_rest, answers_err}
-use Rattle.gate_switch.specs.Cutting.{CutsGate}
+use Rattle.inode_switch.specs.of_gate_switch.Cutting.{CutsGate}
 use Rattle.pack_slots.specs.Cutting.{losing_inodes, closings_left}
 use Rattle.pack_slots.proofs.CutClosing.{closing_write, closing_sync}
 use Rattle.pack_slots.proofs.closing.close_losing.Goals as goal
@@ -89,8 +90,8 @@ returns-in_err-close_one-clause-tells g c =
     let loses = get_or losing c.from-in-loop-i.result false in
     let more = tells_join (2 * losing_gates base i old) (if loses then 2 else 0) _ _ _ (Err c.in_err-close_one.field-0.0) inv.tells c.in_err-close_one.ensures.tells in
     let test = c.loop-i-test.true in
-    let rises = losing_rises base (i + 1) 1024 old (omega arith) in
-    tells_failed (2 * losing_gates base i old + (if loses then 2 else 0)) (2 * losing_gates base 1024 old) _ _ c.from_residual.result c.in_err-close_one.field-0.0 c.from_residual.ensures.0 (omega arith) more
+    let rises = losing_rises base (i + 1) inodes_max old (omega arith) in
+    tells_failed (2 * losing_gates base i old + (if loses then 2 else 0)) (2 * losing_gates base inodes_max old) _ _ c.from_residual.result c.in_err-close_one.field-0.0 c.from_residual.ensures.0 (omega arith) more
 
 pub loop-i-preserved : goal.loop-i-preserved
 loop-i-preserved g c =

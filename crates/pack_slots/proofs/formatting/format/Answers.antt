@@ -2,12 +2,12 @@ use Rattle.std.proofs.Common.{◌≤◌, ◌+◌, ap, sym, subst, ◌∙◌, Lis
 use Rattle.disk_model.specs.Images.{overwritten, Torn, Same}
 use Rattle.pack_layout.specs.Layout.{area_length}
 use Rattle.disk_model.proofs.Moments.{goes_more, goes_start, on_ok}
-use Rattle.gate_switch.proofs.Pieces.{torn_overwritten}
+use Rattle.inode_switch.proofs.of_gate_switch.Pieces.{torn_overwritten}
 use Rattle.pack_slots.specs.Copies.{ShowsCopies}
 use Rattle.pack_slots.specs.Mounting.{IsSound}
 use Rattle.pack_slots.specs.Format.{IsNew, new_copy}
 use Rattle.pack_slots.proofs.New.{made_new, length-superblock, root_is_slot, stored_somewhere, new_is_sound, new_copies}
-use Rattle.gate_switch.proofs.Tearing.{torn_widens, torn_joins, torn_stays}
+use Rattle.inode_switch.proofs.of_gate_switch.Tearing.{torn_widens, torn_joins, torn_stays}
 use Rattle.pack_slots.proofs.formatting.format.Given.{Over}
 use Rattle.std.specs.Prelude.{Ok}
 use Rattle.disk_model.proofs.Tells.{tells_one, tells_join}

@@ -2,10 +2,10 @@ use Rattle.std.proofs.Common.{◌≤◌, ◌+◌, ◌*◌, sym, subst, ◌∙◌
 use Rattle.std.specs.Prelude.{Ok}
 use Rattle.disk_model.specs.Images.{Torn}
 use Rattle.disk_model.proofs.Moments.{goes_more}
-use Rattle.gate_switch.proofs.Pieces.{torn_overwritten}
+use Rattle.inode_switch.proofs.of_gate_switch.Pieces.{torn_overwritten}
 use Rattle.disk_model.proofs.Tells.{tells_one, tells_join}
 use Rattle.pack_slots.proofs.Tearing.{zeros_go_on}
-use Rattle.gate_switch.proofs.Tearing.{torn_widens, torn_joins}
+use Rattle.inode_switch.proofs.of_gate_switch.Tearing.{torn_widens, torn_joins}
 use Rattle.pack_slots.proofs.formatting.write_pieces.Goals as goal
 
 pub returns-in_err-write_at-clause-crash : goal.returns-in_err-write_at-clause-crash

@@ -2,7 +2,7 @@ use Rattle.disk_model.proofs.Tells.{tells_one}
 use Rattle.std.proofs.Common.{◌≡◌, ◌≤◌, ◌+◌, length, sym, subst, List, ℕ, arith}
 use Rattle.disk_model.specs.Images.{overwritten, Torn}
 use Rattle.disk_model.proofs.Moments.{on_ok}
-use Rattle.gate_switch.proofs.Pieces.{torn_overwritten}
+use Rattle.inode_switch.proofs.of_gate_switch.Pieces.{torn_overwritten}
 use Rattle.pack_slots.proofs.formatting.write_root.Goals as goal
 
 pub returns-clause-tells : goal.returns-clause-tells

@@ -1,5 +1,5 @@
 use Rattle.std.proofs.Common.{◌≡◌, ◌+◌, drop}
-use Rattle.role_steps.specs.Epochs.{candidates}
+use Rattle.epoch_rules.specs.of_role_steps.Epochs.{candidates}
 use Rattle.partition_protocol.specs.Promising.{promises_from}
 use Rattle.partition_protocol.proofs.chosen.candidates.Given as goal
 

@@ -1,5 +1,5 @@
 use Rattle.std.proofs.Common.{◌≡◌, ◌+◌, drop}
-use Rattle.role_steps.specs.Epochs.{met_by_all}
+use Rattle.epoch_rules.specs.of_role_steps.Epochs.{met_by_all}
 use Rattle.partition_protocol.specs.Promising.{promises_from}
 use Rattle.partition_protocol.proofs.chosen.fully_connected.Given as goal
 

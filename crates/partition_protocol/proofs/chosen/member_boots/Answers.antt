@@ -1,7 +1,7 @@
 use Rattle.std.proofs.Common.{◌∙◌, arith}
 use Rattle.std.proofs.Math.ListN.{length-set}
 use Rattle.partition_protocol.specs.Promising.{member_boot_of}
-use Rattle.epoch_rules.proofs.Sixteen.{one_made, made_for_each}
+use Rattle.epoch_rules.proofs.EachSite.{one_made, made_for_each}
 use Rattle.partition_protocol.proofs.chosen.member_boots.Goals as goal
 
 pub loop-place-preserved : goal.loop-place-preserved

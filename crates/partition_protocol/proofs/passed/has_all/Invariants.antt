@@ -1,5 +1,5 @@
 use Rattle.std.proofs.Common.{◌≡◌, drop, filter}
-use Rattle.role_steps.specs.Views.{all_sites}
+use Rattle.epoch_rules.specs.of_role_steps.Views.{all_sites}
 use Rattle.partition_protocol.specs.Promising.{is_missing}
 use Rattle.partition_protocol.proofs.passed.has_all.Given as goal
 

@@ -1,8 +1,8 @@
 use Rattle.std.proofs.Common.{◌∙◌, ℕ, List, ap, arith}
 use Rattle.std.proofs.Math.ListN.{length-set}
 use Rattle.locus_ids.specs.declared.sites.Links.{Links}
-use Rattle.role_steps.specs.Epochs.{left_boot}
-use Rattle.epoch_rules.proofs.Sixteen.{one_made, made_for_each}
+use Rattle.epoch_rules.specs.of_role_steps.Epochs.{left_boot}
+use Rattle.epoch_rules.proofs.EachSite.{one_made, made_for_each}
 use Rattle.partition_protocol.proofs.passed.left_boots.Goals as goal
 
 pub loop-place-preserved : goal.loop-place-preserved

@@ -5,7 +5,7 @@ use Rattle.disk_model.specs.Images.{overwritten, Torn}
 use Rattle.disk_model.specs.Disk.{Goes, Exactly}
 use Rattle.disk_model.proofs.Moments.{leaves_start, leaves_more, from_only, on_ok}
 use Rattle.gate_switch.proofs.Tearing.{torn_stays}
-use Rattle.site_label.specs.Label.{half_at, other_half, IsAlone}
+use Rattle.site_label.specs.Label.{label_bytes, half_at, other_half, IsAlone}
 use Rattle.site_label.specs.Reading.{IsBeside}
 use Rattle.site_label.specs.Raising.{IsRaising}
 use Rattle.site_label.proofs.Halves.{has_boot}
@@ -31,7 +31,7 @@ returns-clause-any_moment g c =
     let less = subst (λ (b : Bool). IsBeside c.args.site k.boot (other_half k.half) seen b) (let e : k.beside ≡ true = c.if-not-counted.false in e) is.beside in
     let P = IsRaising c.args.site k.boot seen in
     leaves_more M (Torn at 1) old old c.close_gate.new.disk P
-    (leaves_start M old P (λ x left. subst P (sym (c.requires.settled x (g.met.D.Disk.only_now old x left))) (record { number = inl (has_boot c.args.site seen k is); outside = torn_stays 0 1024 seen })))
+    (leaves_start M old P (λ x left. subst P (sym (c.requires.settled x (g.met.D.Disk.only_now old x left))) (record { number = inl (has_boot c.args.site seen k is); outside = torn_stays 0 label_bytes seen })))
     (subst (λ (n : ℕ). Goes (Torn n 1) (M old) (M c.close_gate.new.disk)) (place g c) c.close_gate.ensures.crash)
     (λ x after. closing c.args.site k.boot less.0 k.half seen x is.fits less.1 is.says less.2 (from_only M (Torn at 1) old seen x c.requires.settled after))
 

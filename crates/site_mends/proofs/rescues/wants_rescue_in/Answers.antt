@@ -4,7 +4,7 @@ use Rattle.dir_format.specs.Contents.{entries_of}
 use Rattle.dir_format.specs.Entries.{is_live}
 use Rattle.dir_reconcile.specs.Rescues.{rescue_wanted}
 use Rattle.dir_reconcile.specs.declared.kept.KeptVector.{KeptVector}
-use Rattle.role_steps.specs.Mends.{kept_vectors}
+use Rattle.site_frame.specs.of_role_steps.Mends.{kept_vectors}
 use Rattle.site_mends.proofs.Mends.{all_live, some_removed}
 use Rattle.std.specs.Prelude.{Option, IfNone}
 use Rattle.site_tables.specs.Inodes.{AreInodes}

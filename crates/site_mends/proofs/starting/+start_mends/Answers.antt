@@ -1,4 +1,4 @@
-use Rattle.role_steps.specs.Epochs.{with_users}
+use Rattle.site_frame.specs.of_role_steps.Epochs.{with_users}
 use Rattle.std.specs.Prelude.{Ok}
 use Rattle.site_mends.proofs.Mends.{mends_of, read_then, seen_with}
 use Rattle.std.specs.List.{AllByRecursion}

@@ -1,7 +1,7 @@
 use Rattle.std.proofs.Common.{◌≡◌, Ok, drop}
-use Rattle.role_steps.specs.Views.{SiteView}
-use Rattle.role_steps.specs.Tables.{first_that}
-use Rattle.role_steps.specs.Mends.{wants_mend}
+use Rattle.site_frame.specs.of_role_steps.Views.{SiteView}
+use Rattle.site_frame.specs.of_role_steps.Tables.{first_that}
+use Rattle.site_frame.specs.of_role_steps.Mends.{wants_mend}
 use Rattle.site_mends.specs.Mending.{IsSeen, WasRead}
 use Rattle.site_mends.proofs.starting.first_wanting_of.Given as goal
 

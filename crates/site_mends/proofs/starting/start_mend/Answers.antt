@@ -1,5 +1,5 @@
 use Rattle.std.proofs.Common.{◌∙◌, ap, sym}
-use Rattle.role_steps.specs.Mends.{has_mend_in}
+use Rattle.site_frame.specs.of_role_steps.Mends.{has_mend_in}
 use Rattle.site_mends.proofs.Mends.{mend_starts}
 use Rattle.std.proofs.Common.{Option}
 use Rattle.locus_ids.specs.declared.ids.FileId.{FileId}

@@ -2,10 +2,10 @@ use Rattle.std.proofs.Common.{◌≡◌, ◌<◌, ◌≤◌, ◌∙◌, ℕ, Lis
 use Rattle.std.specs.Prelude.{Ok}
 use Rattle.std.proofs.lemmas.Bool.{cases_lt}
 use Rattle.disk_model.proofs.ReadRuns.{reads_join, reads_ok, goes_same}
-use Rattle.inode_switch.specs.View.{view}
+use Rattle.pack_slots.specs.of_inode_switch.View.{view}
 use Rattle.inode_pack.specs.Marked.{is_marked}
 use Rattle.inode_pack.specs.Committing.{content_of}
-use Rattle.site_packs.specs.Committing.{IsKept}
+use Rattle.pack_layout.specs.of_stored_versions.Changes.{IsKept}
 use Rattle.site_packs.proofs.keeping.keeps_pages.Goals as goal
 
 pub loop-page-preserved : goal.loop-page-preserved

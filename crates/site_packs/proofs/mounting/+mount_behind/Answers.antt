@@ -1,4 +1,5 @@
 use Rattle.std.proofs.Common.{◌≡◌, ◌+◌, ◌-◌, ◌*◌, length, take, drop, get_or, subst}
+use Rattle.locus_ids.specs.Sizes.{inodes_max}
 use Rattle.disk_model.proofs.Moments.{leaves_weaker}
 use Rattle.disk_model.proofs.ReadRuns.{leaves_joins}
 use Rattle.pack_slots.specs.Mounting.{KeepsPack}
@@ -170,7 +171,7 @@ returns-clause-cut g t c passed told =
     let is = split_first groups some in
     let keeps : KeepsPack base group home old (M mid).seen = c.mount.ensures.any_moment.each (M mid).seen (g.met.D.Disk.counts_now mid (M d).now (M mid).seen c.mount.ensures.any_moment.later (g.met.D.Disk.reads_an_image mid)) in
     let after = c.mount_behind.new.disk in
-    let n = 2 * losing_gates base 1024 old in
+    let n = 2 * losing_gates base inodes_max old in
     let more = tells_rest n (M d).passing (M mid).passing passed c.in_ok-pack.ensures.tells told in
     let e = c.in_ok-pack.ensures in
     let same : (M mid).how ≡ (M d).how = c.mount.ensures.how in

@@ -1,8 +1,9 @@
 use Rattle.std.proofs.Common.{◌≡◌, ◌∙◌, ◌*◌, ℕ, List, length, take, drop, sym, subst, arith, true, false}
 use Rattle.std.proofs.lemmas.List.{take-take}
 use Rattle.std.proofs.lemmas.Slice.Eq.{bytes_eq-Decides}
+use Rattle.locus_ids.specs.Sizes.{page_bytes}
 use Rattle.file_content.specs.Pages.{page_of}
-use Rattle.inode_switch.specs.View.{view}
+use Rattle.pack_slots.specs.of_inode_switch.View.{view}
 use Rattle.inode_pack.specs.Pack.{IsPageOf}
 use Rattle.inode_pack.specs.Committing.{content_of}
 use Rattle.site_packs.proofs.PageBytes.{page_part, content_is, content_long, short_page}
@@ -33,6 +34,6 @@ returns-clause-begins g c =
     let from = c.from.ensures in
     let few = c.requires.few in
     let part = page_part content buf i n is (omega arith) few c.read_page.array_long in
-    let same : take n buf ≡ take n (page_of content i) = part ∙ sym (take-take n 1024 (drop (1024 * i) content) few) in
+    let same : take n buf ≡ take n (page_of content i) = part ∙ sym (take-take n page_bytes (drop (page_bytes * i) content) few) in
     let d = bytes_eq-Decides (take n buf) c.args.bytes.now in
     (λ e. sym same ∙ d.0 (sym c.eq.ensures ∙ e), λ e. c.eq.ensures ∙ d.1 (same ∙ e))

@@ -1,6 +1,7 @@
 use Rattle.std.proofs.Common.{◌≡◌, ◌∙◌, ◌-◌, ◌*◌, ◌<◌, ◌++◌, ℕ, List, length, take, ap, sym, subst, arith}
 use Rattle.std.specs.Prelude.{min}
-use Rattle.inode_switch.specs.View.{view}
+use Rattle.locus_ids.specs.Sizes.{page_bytes}
+use Rattle.pack_slots.specs.of_inode_switch.View.{view}
 use Rattle.inode_pack.specs.Pack.{IsPageOf}
 use Rattle.inode_pack.specs.Committing.{content_of}
 use Rattle.site_packs.proofs.PageBytes.{this_page, content_is, content_long, past_page}
@@ -28,7 +29,7 @@ returns-clause-page g c =
     (c.in_ok-read_page.ensures.content c.requires.content.version c.requires.content.seen) in
     let gt = c.if-from-size.false in
     let from = c.from.ensures in
-    let inside : 1024 * i < length content = omega arith in
-    let long2 : min 1024 (c.args.size - 1024 * i) ≡ min 1024 (length content - 1024 * i) = ap (λ (n : ℕ). min 1024 (n - 1024 * i)) (sym long) in
-    c.in_ok-append_page.ensures ∙ ap (λ (l : List ℕ). l ++ take (min 1024 (c.args.size - 1024 * i)) buf) c.new-bytes.ensures
+    let inside : page_bytes * i < length content = omega arith in
+    let long2 : min page_bytes (c.args.size - page_bytes * i) ≡ min page_bytes (length content - page_bytes * i) = ap (λ (n : ℕ). min page_bytes (n - page_bytes * i)) (sym long) in
+    c.in_ok-append_page.ensures ∙ ap (λ (l : List ℕ). l ++ take (min page_bytes (c.args.size - page_bytes * i)) buf) c.new-bytes.ensures
     ∙ ap (λ (n : ℕ). take n buf) long2 ∙ this_page content buf i is inside c.read_page.array_long

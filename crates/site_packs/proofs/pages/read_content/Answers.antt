@@ -1,7 +1,8 @@
 use Rattle.std.proofs.Common.{◌≡◌, ◌∙◌, ◌-◌, ◌*◌, ◌<◌, ◌++◌, ℕ, List, length, take, ap, sym, subst, arith, append_assoc}
 use Rattle.std.specs.Prelude.{Ok, min}
+use Rattle.locus_ids.specs.Sizes.{page_bytes}
 use Rattle.disk_model.proofs.ReadRuns.{reads_join, reads_ok, goes_same}
-use Rattle.inode_switch.specs.View.{view}
+use Rattle.pack_slots.specs.of_inode_switch.View.{view}
 use Rattle.inode_pack.specs.Pack.{IsPageOf}
 use Rattle.inode_pack.specs.Committing.{content_of}
 use Rattle.site_packs.proofs.PageBytes.{next_page, content_is, content_long}
@@ -22,13 +23,13 @@ loop-i-preserved g c =
     let count = c.page_count-i-end.ensures.pages in
     let lt = c.loop-i-test.true in
     let few = c.requires.content.few in
-    let inside : 1024 * i < length content = omega arith in
+    let inside : page_bytes * i < length content = omega arith in
     let next = next_page content buf i is inside c.read_page.array_long in
-    let long2 : min 1024 (c.args.size - 1024 * i) ≡ min 1024 (length content - 1024 * i) = ap (λ (n : ℕ). min 1024 (n - 1024 * i)) (sym long) in
+    let long2 : min page_bytes (c.args.size - page_bytes * i) ≡ min page_bytes (length content - page_bytes * i) = ap (λ (n : ℕ). min page_bytes (n - page_bytes * i)) (sym long) in
     record {
-      out = c.in_ok-append_page.ensures ∙ ap (λ (l : List ℕ). l ++ take (min 1024 (c.args.size - 1024 * i)) buf) inv.out
-          ∙ append_assoc c.args.out.now (take (1024 * i) content) (take (min 1024 (c.args.size - 1024 * i)) buf)
-          ∙ ap (λ (n : ℕ). c.args.out.now ++ (take (1024 * i) content ++ take n buf)) long2
+      out = c.in_ok-append_page.ensures ∙ ap (λ (l : List ℕ). l ++ take (min page_bytes (c.args.size - page_bytes * i)) buf) inv.out
+          ∙ append_assoc c.args.out.now (take (page_bytes * i) content) (take (min page_bytes (c.args.size - page_bytes * i)) buf)
+          ∙ ap (λ (n : ℕ). c.args.out.now ++ (take (page_bytes * i) content ++ take n buf)) long2
           ∙ ap (λ (l : List ℕ). c.args.out.now ++ l) next;
       stands = c.read_page.ensures.stands;
       seen = c.read_page.ensures.seen ∙ inv.seen;

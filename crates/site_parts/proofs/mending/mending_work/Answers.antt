@@ -5,7 +5,7 @@ use Rattle.role_steps.specs.Adoption.{table_group}
 use Rattle.role_steps.specs.Storage.{instance_key}
 use Rattle.role_steps.specs.Tables.{row}
 use Rattle.role_steps.specs.Views.{serial_key}
-use Rattle.the_run.specs.Steps.{group_of}
+use Rattle.run_laws.specs.of_the_run.Steps.{group_of}
 use Rattle.site_parts.specs.Fitting.{AreInodesOf}
 use Rattle.site_parts.proofs.Fits.{group_named, memory_fit, unfit_at}
 use Rattle.site_parts.proofs.mending.mending_work.Goals as goal

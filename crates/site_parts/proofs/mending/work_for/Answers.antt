@@ -6,7 +6,7 @@ use Rattle.trace_book.specs.declared.operation.Op.{Op}
 use Rattle.role_steps.specs.Storage.{instance_key}
 use Rattle.role_steps.specs.Tables.{row}
 use Rattle.role_steps.specs.Views.{serial_key}
-use Rattle.the_run.specs.Steps.{group_of}
+use Rattle.run_laws.specs.of_the_run.Steps.{group_of}
 use Rattle.site_parts.specs.Fitting.{CanRest}
 use Rattle.site_parts.proofs.Fits.{operates_alike, operates_mend}
 use Rattle.site_parts.proofs.mending.work_for.Goals as goal

@@ -1,24 +1,22 @@
-use Rattle.std.proofs.Common.{refl, ap, subst, sym}
+use Rattle.std.proofs.Common.{refl, ap, subst, sym, ◌≡◌, Err}
 use Rattle.std.specs.Prelude.{OnOk}
 use Rattle.locus_ids.specs.declared.ids.Serial.{Serial}
 use Rattle.role_steps.specs.Operations.{on_op}
-use Rattle.role_steps.specs.Storage.{on_close}
+use Rattle.role_steps.specs.Storage.{on_close, instance_of}
 use Rattle.role_steps.specs.Views.{Outcome, Store}
-use Rattle.run_laws.proofs.RolesTell.{on_closed_ok_talks, on_look_ss_talks, on_open_ss_talks, on_pull_talks}
-use Rattle.store_instances.specs.Stores.{Gives, store_of}
+use Rattle.run_laws.proofs.Telling.{on_closed_ok_talks, on_look_ss_talks, on_open_ss_talks, on_pull_talks}
+use Rattle.storage_site.specs.of_store_instances.Stores.{Gives, store_of}
 use Rattle.site_parts.specs.Roles.{mending_by}
 use Rattle.site_parts.specs.Writing.{EventWrites}
 use Rattle.site_parts.proofs.Cuts.{untouched, written_as}
 use Rattle.site_parts.proofs.StoreParts.{given_as, others_quiet, store_stays}
-use Rattle.std.proofs.Common.{◌≡◌, Err}
 use Rattle.role_steps.specs.OperationEffects.{Mending}
-use Rattle.the_run.specs.Steps.{from_user, group_of}
+use Rattle.run_laws.specs.of_the_run.Steps.{from_user, group_of}
 use Rattle.storage_site.specs.Fitting.{CanCloseAt, CanOperateAt}
 use Rattle.site_parts.specs.Fitting.{CanOperateHere, CanRest}
 use Rattle.site_parts.specs.declared.fault.NodeFault.TheVariants.{Unfit}
 use Rattle.site_parts.proofs.Fits.{unfit_at}
 use Rattle.site_packs.specs.Packs.{groups_of}
-use Rattle.role_steps.specs.Storage.{instance_of}
 use Rattle.site_parts.proofs.storing.take_at_store.Goals as goal
 
 pub returns-in-OpenSs-clause-gives : goal.returns-in-OpenSs-clause-gives

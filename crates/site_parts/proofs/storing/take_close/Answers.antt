@@ -1,5 +1,5 @@
 use Rattle.role_steps.specs.Storage.{on_close}
-use Rattle.store_instances.specs.Stores.{store_of}
+use Rattle.storage_site.specs.of_store_instances.Stores.{store_of}
 use Rattle.site_parts.proofs.Cuts.{store_err, store_ok}
 use Rattle.std.proofs.Common.{◌≢◌}
 use Rattle.site_parts.specs.Faults.{fault_of_store}

@@ -1,5 +1,6 @@
 use Rattle.std.proofs.Common.{◌≡◌, ◌∙◌, ◌*◌, ◌<◌, ℕ, List, length, Option, Some, ap, subst, sym, arith}
 use Rattle.std.specs.Prelude.{OnOk, Ok}
+use Rattle.locus_ids.specs.Sizes.{page_bytes}
 use Rattle.disk_model.specs.Disk.{Goes}
 use Rattle.disk_model.specs.declared.disk.DiskFault.{DiskFault}
 use Rattle.disk_model.specs.Moments.{TellsMany}
@@ -11,7 +12,7 @@ use Rattle.inode_pack.specs.PagePieces.{piece_at}
 use Rattle.inode_pack.proofs.PutPages.{whole_page, no_page}
 use Rattle.inode_pack.proofs.new_content.BytesNewContent.put_page.Goals as goal
 
-here : (bytes given : List ℕ) (i from : ℕ) → given ≡ bytes → from ≡ i → 1024 * from < length given → shadow_page (whole bytes).pages i ≡ Some (full_page given i)
+here : (bytes given : List ℕ) (i from : ℕ) → given ≡ bytes → from ≡ i → page_bytes * from < length given → shadow_page (whole bytes).pages i ≡ Some (full_page given i)
 here bytes given i from e f lt = let long = ap (λ (l : List ℕ). length l) e in whole_page bytes i (omega arith) ∙ ap (λ (l : List ℕ). Some (full_page l i)) (sym e)
 
 pub returns-then-from-bytes-clause-written : goal.returns-then-from-bytes-clause-written

@@ -1,5 +1,6 @@
 use Rattle.std.proofs.Common.{◌≡◌, ◌+◌, ◌<◌, ℕ, length, subst}
 use Rattle.std.specs.Prelude.{◌↔◌, OnOk, OnErr, Err}
+use Rattle.locus_ids.specs.Sizes.{pack_pages}
 use Rattle.disk_model.specs.Moments.{LeavesOnly, TellsMany}
 use Rattle.inode_switch.specs.View.{Version, Replaced}
 use Rattle.pack_slots.specs.Copies.{copy_of, named_pages}
@@ -31,7 +32,7 @@ returns-clause-replaced g c =
 
 pub returns-clause-no_space : goal.returns-clause-no_space
 returns-clause-no_space g c pages free =
-    subst (λ (n : ℕ). (c.store.result ≡ Err (NoSpace pages free)) ↔ ((free < pages) × (pages ≡ n) × (free + length (named_pages c.args.self.now.copies) ≡ 3072))) (needed_all c.args.content.now) (c.store.ensures.no_space pages free)
+    subst (λ (n : ℕ). (c.store.result ≡ Err (NoSpace pages free)) ↔ ((free < pages) × (pages ≡ n) × (free + length (named_pages c.args.self.now.copies) ≡ pack_pages))) (needed_all c.args.content.now) (c.store.ensures.no_space pages free)
 
 pub returns-clause-tells : goal.returns-clause-tells
 returns-clause-tells g c =

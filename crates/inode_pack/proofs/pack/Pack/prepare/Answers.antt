@@ -1,4 +1,5 @@
 use Rattle.std.proofs.Common.{◌≡◌, ◌⊎◌, ◌≤◌, ◌+◌, ℕ, Bool, length, get_or, sym, ap, subst, ◌∙◌, arith}
+use Rattle.locus_ids.specs.Sizes.{content_pages_max, pack_pages}
 use Rattle.file_content.specs.Pages.{pages_of}
 use Rattle.pack_slots.specs.declared.inode_copy.InodeCopy.{InodeCopy}
 use Rattle.std.specs.Prelude.{◌==◌, Option, Some}
@@ -13,7 +14,7 @@ use Rattle.inode_pack.proofs.pack.Pack.prepare.Goals as goal
 pub next_copy-made-requires-clause-room : goal.next_copy-made-requires-clause-room
 next_copy-made-requires-clause-room g c =
     let inv = c.self.invariant in
-    let fits : needed (g.C.NewContent.working c.args.content.now) + length (named_pages c.self.inside.copies.items) ≤ 3072 = subst (λ (p : PackState). needed (g.C.NewContent.working c.args.content.now) + length (named_pages p.copies) ≤ 3072) (sym c.self.view_is) c.requires.room in
+    let fits : needed (g.C.NewContent.working c.args.content.now) + length (named_pages c.self.inside.copies.items) ≤ pack_pages = subst (λ (p : PackState). needed (g.C.NewContent.working c.args.content.now) + length (named_pages p.copies) ≤ pack_pages) (sym c.self.view_is) c.requires.room in
     let le : needed (g.C.NewContent.working c.args.content.now) ≤ c.self.inside.pages.free = omega (arith, fits, inv.1.rest) in
     room_for c.self.inside.copies.items c.self.inside.pages.uses c.self.inside.pages.free inv.0 inv.1 (needed (g.C.NewContent.working c.args.content.now)) le
 
@@ -52,5 +53,5 @@ returns-clause-same g c one known =
     let takes = subst (λ (o : Option InodeCopy). TakesPages unused o w c.next_copy-made.result.slot.pages) held c.next_copy-made.ensures.makes.takes in
     let slot = (copy_is c.self.inside.copies.items c.args.ino one inv.0 (sym at ∙ held)).slot in
     let end = c.page_count.ensures.pages ∙ ap pages_of c.size.ensures.value in
-    let covers = subst (λ (n : ℕ). ((pass.first ≡ 0) × (pass.stop ≡ 64)) ⊎ ((pass.first ≡ row.first) × (pass.stop ≡ row.stop) × (pages_of one.slot.size ≤ n))) end (c.row_to_pass-passed.ensures.covers one held) in
+    let covers = subst (λ (n : ℕ). ((pass.first ≡ 0) × (pass.stop ≡ content_pages_max)) ⊎ ((pass.first ≡ row.first) × (pass.stop ≡ row.stop) × (pages_of one.slot.size ≤ n))) end (c.row_to_pass-passed.ensures.covers one held) in
     same_but_for unused one w c.next_copy-made.result.slot.pages row.first row.stop pass.first pass.stop slot takes c.requires.changed covers

@@ -1,4 +1,5 @@
 use Rattle.std.proofs.Common.{◌≡◌, ◌+◌, ◌-◌, ◌<◌, ◌≤◌, ℕ, length, get_or, set, Option, Some, sym, ap, subst, ◌∙◌, refl, arith}
+use Rattle.locus_ids.specs.Sizes.{pack_pages}
 use Rattle.pack_slots.specs.declared.inode_copy.InodeCopy.{InodeCopy}
 use Rattle.inode_pack.specs.Pack.{PackState}
 use Rattle.pack_slots.specs.Copies.{copy_of, AreCopies, AreUses, pages_in, times}
@@ -56,6 +57,6 @@ invariant_of-self c =
     let next = subst (λ (k : PackState). AreCopies (set k.copies (c.args.ino - 1) (Some c.args.made.now))) (sym c.self.view_is) c.requires.copies in
     let left = c.pass.ensures.free in
     let all = uses_next copies c.self.inside.pages.uses c.self.inside.pages.free inv.0 inv.1 c.args.ino made (low_of c.get.result c.args.ino c.get.ensures.value c.get.ensures.low) (high_of c.get.result c.args.ino c.get.ensures.value c.get.ensures.high) next passed.uses (length (pages_in c.index-old.result.now)) (length (pages_in (Some made))) passed.free c.pass.ensures.long
-    (subst (λ (o : Option InodeCopy). (p : ℕ) → p < 3072 → get_or passed.uses p 0 + times p (pages_in o) ≡ get_or c.self.inside.pages.uses p 0 + times p (pages_in (Some made))) at c.pass.ensures.named)
+    (subst (λ (o : Option InodeCopy). (p : ℕ) → p < pack_pages → get_or passed.uses p 0 + times p (pages_in o) ≡ get_or c.self.inside.pages.uses p 0 + times p (pages_in (Some made))) at c.pass.ensures.named)
     (ap (λ (o : Option InodeCopy). length (pages_in o)) at) refl (omega arith) in
     subst (λ (k : ℕ). AreCopies (set copies (k - 1) (Some made)) × AreUses (set copies (k - 1) (Some made)) passed.uses passed.free) (sym (c.from-at.ensures ∙ c.get.ensures.value)) (next, all)

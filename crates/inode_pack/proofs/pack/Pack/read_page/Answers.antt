@@ -1,5 +1,6 @@
 use Rattle.std.proofs.Common.{◌≡◌, List, ℕ, ap, ◌∙◌, subst, sym, length, arith}
 use Rattle.std.specs.Prelude.{Some}
+use Rattle.locus_ids.specs.Sizes.{page_bytes}
 use Rattle.disk_model.specs.Images.{bytes_at}
 use Rattle.pack_layout.specs.Layout.{page_at}
 use Rattle.inode_switch.specs.View.{Version, view}
@@ -14,8 +15,8 @@ returns-clause-bytes g c =
     let seen = (g.D.Disk.moment c.args.disk.now).seen in
     let number = number_in (copy_of c.args.self.now.copies c.args.ino) c.args.page in
     let at : c.page_at.result ≡ page_at c.args.self.now.base number = c.page_at.ensures ∙ ap (λ (v : PackState). page_at v.base c.number_of-number.result) c.self.view_is ∙ ap (λ (n : ℕ). page_at c.args.self.now.base n) c.number_of-number.ensures.number in
-    let long : length c.args.buf.now ≡ 1024 = omega arith in
-    on_ok c.read.result _ (c.read.new.buf ≡ bytes_at seen (page_at c.args.self.now.base number) 1024)
+    let long : length c.args.buf.now ≡ page_bytes = omega arith in
+    on_ok c.read.result _ (c.read.new.buf ≡ bytes_at seen (page_at c.args.self.now.base number) page_bytes)
     (λ read. read ∙ ap (λ (n : ℕ). bytes_at seen n (length c.args.buf.now)) at ∙ ap (λ (n : ℕ). bytes_at seen (page_at c.args.self.now.base number) n) long)
     c.read.ensures.bytes
 

@@ -1,5 +1,6 @@
 use Rattle.std.proofs.Common.{ℕ, true, length, sym, subst, arith}
 use Rattle.std.specs.Prelude.{Ok, Err, replicate, is_some}
+use Rattle.locus_ids.specs.Sizes.{content_pages_max}
 use Rattle.disk_model.specs.declared.disk.DiskFault.{DiskFault}
 use Rattle.disk_model.specs.declared.disk.DiskFault.TheVariants.{Failed}
 use Rattle.disk_model.specs.Moments.{TellsMany}
@@ -41,8 +42,8 @@ store-requires-clause-fills g c =
     let are = subst (λ (q : PacksState). ArePacks 0 0 q.site q.packs) c.self.view_is c.self.invariant in
     let plan = c.in-Some.ensures.some in
     let most = plan.whole.version.most in
-    let marks = replicate 64 true in
-    let all : AreAll (pages_of (length c.args.content.now)) marks = all_true 64 (pages_of (length c.args.content.now)) (omega arith) in
+    let marks = replicate content_pages_max true in
+    let all : AreAll (pages_of (length c.args.content.now)) marks = all_true content_pages_max (pages_of (length c.args.content.now)) (omega arith) in
     fills_at p seen c.args.file c.in-Some.plan.at c.in-Some.plan.ino c.args.content.now marks are c.requires.stands.shown plan.inside plan.place plan.own plan.whole.low plan.whole.high
     (all_kept (content_of (copy_at p seen c.args.file)) c.args.content.now marks all)
 
@@ -50,8 +51,8 @@ pub store-requires-clause-room : goal.store-requires-clause-room
 store-requires-clause-room g c =
     let seen = (g.D.Disk.moment c.args.disk.now).seen in
     let most = c.in-Some.ensures.some.whole.version.most in
-    let marks = replicate 64 true in
-    let all : AreAll (pages_of (length c.args.content.now)) marks = all_true 64 (pages_of (length c.args.content.now)) (omega arith) in
+    let marks = replicate content_pages_max true in
+    let all : AreAll (pages_of (length c.args.content.now)) marks = all_true content_pages_max (pages_of (length c.args.content.now)) (omega arith) in
     let need = needed_all c.args.content.now marks all in
     let le = c.if-pages-from.false in
     let count = c.div_ceil-pages.ensures in
@@ -65,8 +66,8 @@ returns-in-Ok-clause-tells g c =
     let before = (g.D.Disk.moment c.args.disk.now).passing in
     let after = (g.D.Disk.moment c.store.new.disk).passing in
     let most = c.in-Some.ensures.some.whole.version.most in
-    let marks = replicate 64 true in
-    let all : AreAll (pages_of (length c.args.content.now)) marks = all_true 64 (pages_of (length c.args.content.now)) (omega arith) in
+    let marks = replicate content_pages_max true in
+    let all : AreAll (pages_of (length c.args.content.now)) marks = all_true content_pages_max (pages_of (length c.args.content.now)) (omega arith) in
     subst (λ (n : ℕ). TellsMany {T = Unit {0}} {E = DiskFault} (calls_of n (is_some (copy_at c.args.self.now seen c.args.file))) before after (Ok tt)) (needed_all c.args.content.now marks all) c.in-Ok.ensures.tells
 
 pub returns-in-Err-clause-tells : goal.returns-in-Err-clause-tells
@@ -75,8 +76,8 @@ returns-in-Err-clause-tells g c =
     let before = (g.D.Disk.moment c.args.disk.now).passing in
     let after = (g.D.Disk.moment c.store.new.disk).passing in
     let most = c.in-Some.ensures.some.whole.version.most in
-    let marks = replicate 64 true in
-    let all : AreAll (pages_of (length c.args.content.now)) marks = all_true 64 (pages_of (length c.args.content.now)) (omega arith) in
+    let marks = replicate content_pages_max true in
+    let all : AreAll (pages_of (length c.args.content.now)) marks = all_true content_pages_max (pages_of (length c.args.content.now)) (omega arith) in
     let old = copy_at c.args.self.now seen c.args.file in
     subst (λ (n : ℕ). TellsMany {T = Unit {0}} {E = DiskFault} (calls_of n (is_some old)) before after (Err Failed)) (needed_all c.args.content.now marks all)
     (subst (λ (f : PackFault). TellsMany (store_calls {T = Unit {0}} (needed (marked c.args.content.now marks)) old (Err f)) before after (commit_answer {T = Unit {0}} (Err f))) c.in-Err.ensures.only c.in-Err.ensures.tells)
@@ -89,8 +90,8 @@ returns-in-Err-clause-cut g c passed told =
     let seen = (M d).seen in
     let new = (M c.store.new.disk).left in
     let most = c.in-Some.ensures.some.whole.version.most in
-    let marks = replicate 64 true in
-    let all : AreAll (pages_of (length c.args.content.now)) marks = all_true 64 (pages_of (length c.args.content.now)) (omega arith) in
+    let marks = replicate content_pages_max true in
+    let all : AreAll (pages_of (length c.args.content.now)) marks = all_true content_pages_max (pages_of (length c.args.content.now)) (omega arith) in
     let w = marked c.args.content.now marks in
     let x = copy_made c.args.file c.args.version.now c.args.content.now in
     subst (λ (n : ℕ). IsCut p x n (M d).how passed seen new) (needed_all c.args.content.now marks all)

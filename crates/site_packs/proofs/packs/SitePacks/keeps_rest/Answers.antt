@@ -2,7 +2,7 @@ use Rattle.std.proofs.Common.{◌≡◌, ◌∙◌, ℕ, List, ap, sym, subst, a
 use Rattle.std.specs.Prelude.{Option, Some, IfOk, ◌↔◌, true}
 use Rattle.site_packs.specs.Marking.{KeepsRest}
 use Rattle.std.specs.Option.{option_copied}
-use Rattle.inode_switch.specs.View.{view}
+use Rattle.pack_slots.specs.of_inode_switch.View.{view}
 use Rattle.inode_pack.specs.Pack.{PackState}
 use Rattle.inode_pack.specs.Committing.{content_of as content_in}
 use Rattle.role_steps.specs.Storage.{content_of}

@@ -1,7 +1,8 @@
 use Rattle.std.proofs.Common.{◌≡◌, ◌∙◌, ℕ, ◌≤◌, List, ◌++◌, length, ap, sym, subst, arith}
 use Rattle.std.specs.Prelude.{Option, Some, Result, Ok, Err, OnOk}
 use Rattle.std.specs.Option.{option_copied}
-use Rattle.inode_switch.specs.View.{view}
+use Rattle.locus_ids.specs.Sizes.{content_bytes_max}
+use Rattle.pack_slots.specs.of_inode_switch.View.{view}
 use Rattle.inode_pack.specs.Pack.{PackState}
 use Rattle.inode_pack.specs.Committing.{content_of as content_in}
 use Rattle.role_steps.specs.Storage.{content_of}
@@ -74,4 +75,4 @@ returns-clause-short g c =
     let has = has_content c.args.self.now.site c.args.file.group c.number_of-ino.result c.args.self.now.packs seen c.in-Some.pack.now c.in-Some-copy.slot.now are c.requires.stands.shown is slot in
     let short = short_content c.in-Some.pack.now c.number_of-ino.result c.in-Some-copy.slot.now.size seen has.2 in
     let content : List ℕ = content_in (view seen c.in-Some.pack.now.base c.number_of-ino.result) in
-    on_ok c.read_content.result (λ (e : c.read_content.new.out ≡ c.clear.new.self ++ content). subst (λ (l : List ℕ). length l ≤ 65536) (sym (e ∙ ap (λ (l : List ℕ). l ++ content) c.clear.ensures)) short) c.read_content.ensures.content
+    on_ok c.read_content.result (λ (e : c.read_content.new.out ≡ c.clear.new.self ++ content). subst (λ (l : List ℕ). length l ≤ content_bytes_max) (sym (e ∙ ap (λ (l : List ℕ). l ++ content) c.clear.ensures)) short) c.read_content.ensures.content

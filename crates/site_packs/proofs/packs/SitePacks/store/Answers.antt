@@ -3,7 +3,7 @@ use Rattle.std.specs.Prelude.{Option, Some, OnOk, OnErr, slice_get, slice_set, m
 use Rattle.std.proofs.lemmas.Option.{slice_get_read}
 use Rattle.disk_model.specs.Moments.{LeavesOnly, TellsMany}
 use Rattle.disk_model.proofs.Moments.{leaves_weaker}
-use Rattle.inode_switch.specs.View.{Replaced}
+use Rattle.pack_slots.specs.of_inode_switch.View.{Replaced}
 use Rattle.inode_pack.specs.Pack.{PackState}
 use Rattle.pack_slots.specs.Copies.{copy_of, named_pages}
 use Rattle.inode_pack.specs.Marked.{marked}

@@ -6,8 +6,8 @@ use Rattle.disk_model.specs.ScriptLaws.{leaves_one}
 use Rattle.wire_messages.specs.Outboxes.{Outgoing}
 use Rattle.site_packs.specs.Packs.{groups_at}
 use Rattle.the_run.specs.Worlds.{Running}
-use Rattle.site_parts.specs.declared.fault.NodeFault.{NodeFault}
-use Rattle.site_parts.specs.declared.fault.NodeFault.TheVariants.{Cut}
+use Rattle.site_node.specs.of_site_parts.declared.fault.NodeFault.{NodeFault}
+use Rattle.site_node.specs.of_site_parts.declared.fault.NodeFault.TheVariants.{Cut}
 use Rattle.site_node.specs.declared.node.SiteNode.{SiteNode}
 use Rattle.site_node.specs.Views.{view_of, steps_at}
 use Rattle.site_node.specs.Writing.{EventWrites}

@@ -1,6 +1,6 @@
 use Rattle.std.proofs.Common.{List, sym, ap, ◌∙◌, ℕ}
-use Rattle.dir_format.specs.Contents.{entries_of}
-use Rattle.dir_format.specs.Lookups.{shown_names}
+use Rattle.role_steps.specs.of_dir_format.Contents.{entries_of}
+use Rattle.role_steps.specs.of_dir_format.Lookups.{shown_names}
 use Rattle.using_site.proofs.Awaited.{names_taken, whole_taken}
 use Rattle.using_site.proofs.users.UsingSite.take_content.Goals as goal
 

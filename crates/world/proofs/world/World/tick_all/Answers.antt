@@ -1,4 +1,5 @@
 use Rattle.std.proofs.Common.{◌≡◌, drop, ap, arith}
+use Rattle.locus_ids.specs.Sizes.{sites_max}
 use Rattle.role_steps.specs.Views.{all_sites}
 use Rattle.the_run.specs.Runs.{ticks_to}
 use Rattle.world.specs.States.{state_of}
@@ -19,7 +20,7 @@ loop-at-preserved c = (
 )
 
 pub returns-clause-step : goal.returns-clause-step
-returns-clause-step c = rests_done (λ k w. ticks_to k c.args.line (drop c.loop-at.at all_sites) w) (λ k w. ticks_to k c.args.line all_sites w) (state_of c.args.self.now) (state_of c.loop-at.self) c.loop-at.invariant.0 (λ config taken v sh. let e : c.loop-at.at ≡ 16 = omega arith in ap (λ j. ticks_to config c.args.line (drop j all_sites) v) e)
+returns-clause-step c = rests_done (λ k w. ticks_to k c.args.line (drop c.loop-at.at all_sites) w) (λ k w. ticks_to k c.args.line all_sites w) (state_of c.args.self.now) (state_of c.loop-at.self) c.loop-at.invariant.0 (λ config taken v sh. let e : c.loop-at.at ≡ sites_max = omega arith in ap (λ j. ticks_to config c.args.line (drop j all_sites) v) e)
 
 pub returns-in_err-happen-clause-fit : goal.returns-in_err-happen-clause-fit
 returns-in_err-happen-clause-fit c = given_on (WantsMemory (λ k w. WhereTicks (CanHappen k) k c.args.line all_sites w) (state_of c.args.self.now)) c.from_residual.result c.in_err-happen.field-0.0 c.from_residual.ensures

@@ -1,9 +1,0 @@
-pub mod Facts
-pub mod SyncFacts
-pub mod StoreFacts
-pub mod UserFacts
-pub mod SiteFacts
-pub mod FormingFacts
-pub mod StepFacts
-pub mod FactsRun
-pub mod Asked

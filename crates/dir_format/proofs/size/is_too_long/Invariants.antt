@@ -1,9 +1,0 @@
-use Rattle.std.proofs.Common.{◌≡◌, ◌≤◌, ◌+◌, take}
-use Rattle.dir_format.specs.Effects.{size_of}
-use Rattle.dir_format.proofs.size.is_too_long.Given as goal
-
-abbrev pub invariant-loop-entry : goal.invariant-loop-entry
-invariant-loop-entry l = record {
-  sum : l.size ≡ size_of (take l.entry-index l.entries) + l.more;
-  few : l.size ≤ 65536;
-}

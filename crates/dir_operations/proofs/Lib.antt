@@ -1,0 +1,5 @@
+mod Samples
+pub mod OneByOne
+pub mod KindTable
+pub mod Digits
+pub mod Numbered

@@ -1,0 +1,12 @@
+use Rattle.std.proofs.Common.{sym}
+use Rattle.dir_format.specs.Entries.{IsEntry, is_pair}
+use Rattle.dir_format.proofs.FirstOf.{find_has, kind_of_found}
+use Rattle.dir_operations.proofs.finding.live_pair.Goals as goal
+
+pub returns-in-Some-clause-entry : goal.returns-in-Some-clause-entry
+returns-in-Some-clause-entry c =
+    find_has IsEntry (is_pair c.args.name.now c.args.ino) c.args.d.now c.in-Some.entry.now (sym (rw c.as_slice.ensures.value at c.in-Some.ensures)) c.as_slice.ensures.is_dir.entries
+
+pub returns-in-Some-clause-kind : goal.returns-in-Some-clause-kind
+returns-in-Some-clause-kind c =
+    kind_of_found (is_pair c.args.name.now c.args.ino) c.args.d.now c.in-Some.entry.now (sym (rw c.as_slice.ensures.value at c.in-Some.ensures)) c.as_slice.ensures.is_dir.kinds

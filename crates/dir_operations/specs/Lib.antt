@@ -1,0 +1,3 @@
+pub mod Kinds
+pub mod Decoded
+pub mod Answers

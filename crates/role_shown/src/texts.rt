@@ -1,0 +1,391 @@
+// What an outbox has, as text: each packet by its receiver, its kind and what it says, and then each record as a trace has it.
+use locus_ids::{Bytes, CallId, EpochId, FileId, Mode, Refusal, Serial, Stamp};
+use std::alloc::Global;
+use std::test::Fail;
+use trace_book::{Op, Outcome, Record, Reply};
+use trace_text::render;
+use wire_messages::{Body, CloseAnswer, Granted, LookAnswer, OpenedAs, Outbox};
+
+/// What an outbox has, with `; ` between.
+pub fn shown(alloc: Global, out: &Outbox) -> Result<String, Fail> {
+    let mut text = String::new(alloc);
+    for packet in out.packets().as_slice() {
+        part(&mut text)?;
+        let to = packet.to.get();
+        write!(text, "{to} ")?;
+        push_body(alloc, &mut text, &packet.body)?;
+    }
+    for record in out.records().as_slice() {
+        part(&mut text)?;
+        push_record(alloc, &mut text, record, 2, 1)?;
+    }
+    Ok(text)
+}
+
+/// What stands between two parts.
+fn part(text: &mut String) -> Result<(), Fail> {
+    if !text.is_empty() {
+        text.push_str("; ")?;
+    }
+    Ok(())
+}
+
+/// The text of a record without so many bytes before and behind it.
+fn push_record(
+    alloc: Global,
+    text: &mut String,
+    record: &Record,
+    before: usize,
+    behind: usize,
+) -> Result<(), Fail> {
+    let mut line = Bytes::new(alloc);
+    render(record, 0, &mut line)?;
+    let end = line.len().saturating_sub(behind);
+    let shown = line.as_slice().get(before..end).ok_or("a short line")?;
+    text.push_str(str::from_utf8(shown)?)?;
+    Ok(())
+}
+
+/// An operation as a trace has it, behind `0 act e0.0.0 ` and before ` ok`.
+pub fn push_op(alloc: Global, text: &mut String, inst: Serial, op: &Op) -> Result<(), Fail> {
+    let record = Record::Act {
+        epoch: EpochId {
+            number: 0,
+            site: 0,
+            boot: 0,
+        },
+        inst,
+        n: 0,
+        op: op.copy()?,
+        result: Outcome::Done,
+    };
+    push_record(alloc, text, &record, 13, 4)
+}
+
+/// A reply as a trace has it, behind `0 reply 0 0 c0.0.0 `.
+pub fn push_reply(alloc: Global, text: &mut String, reply: Reply) -> Result<(), Fail> {
+    let record = Record::Answer {
+        site: 0,
+        process: 0,
+        call: CallId {
+            site: 0,
+            boot: 0,
+            n: 0,
+        },
+        reply,
+    };
+    push_record(alloc, text, &record, 19, 1)
+}
+
+fn push_refusal(alloc: Global, text: &mut String, why: &Refusal) -> Result<(), Fail> {
+    let why = why.copy()?;
+    push_reply(alloc, text, Reply::No { why })
+}
+
+pub fn push_file(text: &mut String, file: FileId) -> Result<(), Fail> {
+    let FileId { group, ino } = file;
+    write!(text, "{group}.{ino}")?;
+    Ok(())
+}
+
+fn push_stamp(text: &mut String, stamp: Stamp) -> Result<(), Fail> {
+    let Stamp { site, n } = stamp;
+    write!(text, " {site}.{n}")?;
+    Ok(())
+}
+
+fn push_body(alloc: Global, text: &mut String, body: &Body) -> Result<(), Fail> {
+    match body {
+        Body::Poll | Body::Promise { .. } | Body::Refuse { .. } | Body::Install { .. } => {
+            push_forming(text, body)
+        }
+        Body::Joined | Body::Report { .. } | Body::ReportOk { .. } => push_joining(text, body),
+        Body::Open { .. } | Body::OpenSs { .. } | Body::Opened { .. } | Body::OpenDone { .. } => {
+            push_opening(alloc, text, body)
+        }
+        Body::Op { .. } | Body::OpDone { .. } => push_operation(alloc, text, body),
+        Body::Close { .. } | Body::Closed { .. } => push_closing(text, body),
+        Body::ClosedOk { .. } | Body::CloseDone { .. } => push_closed(alloc, text, body),
+        Body::Look { .. } | Body::LookSs { .. } | Body::LookDone { .. } => {
+            push_looking(alloc, text, body)
+        }
+        _ => push_pulling(text, body),
+    }
+}
+
+fn push_forming(text: &mut String, body: &Body) -> Result<(), Fail> {
+    match body {
+        Body::Poll => text.push_str("poll")?,
+        Body::Promise { reach } => {
+            let reach = reach.0;
+            write!(text, "promise {reach:b}")?;
+        }
+        Body::Refuse { promised } => {
+            let number = promised.number;
+            write!(text, "refuse {number}")?;
+        }
+        _ => text.push_str("install")?,
+    }
+    Ok(())
+}
+
+fn push_joining(text: &mut String, body: &Body) -> Result<(), Fail> {
+    match body {
+        Body::Report { group, copies } => {
+            let count = copies.len();
+            write!(text, "report {group} of {count}")?;
+        }
+        Body::ReportOk { group } => write!(text, "reportok {group}")?,
+        _ => text.push_str("joined")?,
+    }
+    Ok(())
+}
+
+fn mode_word(mode: Mode) -> &'static str {
+    match mode {
+        Mode::Read => "r",
+        Mode::Write => "w",
+        Mode::Resolve => "x",
+        Mode::Mend => "m",
+        Mode::Make => "n",
+    }
+}
+
+fn push_opening(alloc: Global, text: &mut String, body: &Body) -> Result<(), Fail> {
+    match body {
+        Body::Open { serial, file, .. } => {
+            write!(text, "open {serial} ")?;
+            push_file(text, *file)
+        }
+        Body::OpenSs {
+            inst,
+            file,
+            mode,
+            base,
+            ..
+        } => push_storage_open(text, *inst, *file, *mode, *base),
+        Body::Opened { inst, answer } => push_opened(alloc, text, *inst, answer),
+        Body::OpenDone { serial, answer } => {
+            write!(text, "opendone {serial} ")?;
+            push_granted(alloc, text, answer)
+        }
+        _ => Ok(()),
+    }
+}
+
+fn push_storage_open(
+    text: &mut String,
+    inst: Serial,
+    file: FileId,
+    mode: Mode,
+    base: Stamp,
+) -> Result<(), Fail> {
+    let Serial { us, serial } = inst;
+    let word = mode_word(mode);
+    write!(text, "openss {us}.{serial} {word} ")?;
+    push_file(text, file)?;
+    push_stamp(text, base)
+}
+
+fn push_opened(
+    alloc: Global,
+    text: &mut String,
+    inst: Serial,
+    answer: &OpenedAs,
+) -> Result<(), Fail> {
+    let Serial { us, serial } = inst;
+    write!(text, "opened {us}.{serial} ")?;
+    match answer {
+        OpenedAs::Open { ino, size } => {
+            write!(text, "{ino} of {size}")?;
+            Ok(())
+        }
+        OpenedAs::No { why } => push_refusal(alloc, text, why),
+    }
+}
+
+fn push_granted(alloc: Global, text: &mut String, answer: &Granted) -> Result<(), Fail> {
+    match answer {
+        Granted::Open {
+            ss,
+            ino,
+            size,
+            stamp,
+            ..
+        } => {
+            let ss = ss.get();
+            write!(text, "{ino} of {size} at {ss}")?;
+            push_stamp(text, *stamp)
+        }
+        Granted::No { why } => push_refusal(alloc, text, why),
+    }
+}
+
+fn push_operation(alloc: Global, text: &mut String, body: &Body) -> Result<(), Fail> {
+    match body {
+        Body::Op { serial, number, .. } => {
+            write!(text, "op {serial} {number}")?;
+            Ok(())
+        }
+        Body::OpDone {
+            serial,
+            number,
+            outcome,
+        } => {
+            write!(text, "opdone {serial} {number} ")?;
+            push_outcome(alloc, text, outcome)
+        }
+        _ => Ok(()),
+    }
+}
+
+fn push_outcome(alloc: Global, text: &mut String, outcome: &Outcome) -> Result<(), Fail> {
+    match outcome {
+        Outcome::Done => push_reply(alloc, text, Reply::Done),
+        Outcome::Found { ino, .. } => {
+            write!(text, "found {ino}")?;
+            Ok(())
+        }
+        Outcome::Data { bytes } => {
+            let bytes = bytes.copy()?;
+            push_reply(alloc, text, Reply::Data { bytes })
+        }
+        Outcome::Committed { stamp } => {
+            push_reply(alloc, text, Reply::Committed { stamp: *stamp })
+        }
+        Outcome::No { why } => push_refusal(alloc, text, why),
+    }
+}
+
+fn push_closing(text: &mut String, body: &Body) -> Result<(), Fail> {
+    match body {
+        Body::Close { serial } => write!(text, "close {serial}")?,
+        Body::Closed { inst, made } => {
+            let Serial { us, serial } = *inst;
+            write!(text, "closed {us}.{serial}")?;
+            if let Some(made) = made {
+                push_stamp(text, made.stamp)?;
+            }
+        }
+        _ => (),
+    }
+    Ok(())
+}
+
+fn push_closed(alloc: Global, text: &mut String, body: &Body) -> Result<(), Fail> {
+    match body {
+        Body::ClosedOk { inst } => {
+            let Serial { us, serial } = *inst;
+            write!(text, "closedok {us}.{serial}")?;
+            Ok(())
+        }
+        Body::CloseDone { serial, answer } => {
+            write!(text, "closedone {serial} ")?;
+            push_close_answer(alloc, text, answer)
+        }
+        _ => Ok(()),
+    }
+}
+
+fn push_close_answer(alloc: Global, text: &mut String, answer: &CloseAnswer) -> Result<(), Fail> {
+    match answer {
+        CloseAnswer::Nothing => push_reply(alloc, text, Reply::Closed { stamp: None }),
+        CloseAnswer::Made { stamp } => {
+            let stamp = Some(*stamp);
+            push_reply(alloc, text, Reply::Closed { stamp })
+        }
+        CloseAnswer::No { why } => push_refusal(alloc, text, why),
+    }
+}
+
+fn push_looking(alloc: Global, text: &mut String, body: &Body) -> Result<(), Fail> {
+    match body {
+        Body::Look {
+            call,
+            request,
+            take,
+            file,
+            ..
+        } => {
+            write!(text, "look {call}.{request}.{take} ")?;
+            push_file(text, *file)
+        }
+        Body::LookSs {
+            us,
+            file,
+            serve,
+            ..
+        } => {
+            let us = us.get();
+            write!(text, "lookss {us} ")?;
+            push_file(text, *file)?;
+            push_stamp(text, *serve)
+        }
+        Body::LookDone {
+            call,
+            request,
+            take,
+            answer,
+        } => {
+            write!(text, "lookdone {call}.{request}.{take} ")?;
+            push_look_answer(alloc, text, answer)
+        }
+        _ => Ok(()),
+    }
+}
+
+fn push_look_answer(alloc: Global, text: &mut String, answer: &LookAnswer) -> Result<(), Fail> {
+    match answer {
+        LookAnswer::Found { ino, .. } => write!(text, "found {ino}")?,
+        LookAnswer::Content { bytes } => {
+            let count = bytes.len();
+            write!(text, "content of {count}")?;
+        }
+        LookAnswer::Stat { size, stamp, .. } => {
+            write!(text, "stat {size}")?;
+            push_stamp(text, *stamp)?;
+        }
+        LookAnswer::Moved => text.push_str("moved")?,
+        LookAnswer::No { why } => push_refusal(alloc, text, why)?,
+    }
+    Ok(())
+}
+
+fn push_pulling(text: &mut String, body: &Body) -> Result<(), Fail> {
+    match body {
+        Body::Notify {
+            file,
+            stamp,
+            holder,
+            ..
+        } => {
+            let holder = holder.get();
+            write!(text, "notify from {holder} ")?;
+            push_version(text, *file, *stamp)
+        }
+        Body::Pull { file, stamp, page } => {
+            write!(text, "pull {page} ")?;
+            push_version(text, *file, *stamp)
+        }
+        Body::Page {
+            file,
+            stamp,
+            page,
+            bytes,
+        } => {
+            let count = bytes.len();
+            write!(text, "page {page} of {count} ")?;
+            push_version(text, *file, *stamp)
+        }
+        Body::Have { file, stamp } => {
+            text.push_str("have ")?;
+            push_version(text, *file, *stamp)
+        }
+        _ => Ok(()),
+    }
+}
+
+fn push_version(text: &mut String, file: FileId, stamp: Stamp) -> Result<(), Fail> {
+    push_file(text, file)?;
+    push_stamp(text, stamp)
+}

@@ -1,0 +1,12 @@
+//! The tests of the rooms of a storage site: what no clause says, a module for each room, by its public calls alone. They stand above
+//! these rooms, so that none of them is proved twice for its tests. Nothing calls this room, and no crate stands on it.
+#![tactic(auto)]
+
+#[cfg(test)]
+mod given;
+#[cfg(test)]
+mod instance_tests;
+#[cfg(test)]
+mod storage;
+#[cfg(test)]
+mod store_tests;

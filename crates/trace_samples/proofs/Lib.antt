@@ -1,0 +1,5 @@
+mod FirstRight
+mod PartedRight
+mod FlaggedRight
+mod StoppedRight
+mod TreeSamples

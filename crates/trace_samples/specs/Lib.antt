@@ -1,0 +1,5 @@
+pub mod FirstRun
+pub mod PartedRun
+pub mod FlaggedRun
+pub mod StoppedRun
+pub mod Wrong

@@ -1,0 +1,158 @@
+// What a trace tells of calls and of open files, as text at the end.
+ghost use Rattle.std.specs.Prelude.{◌≡◌, ℕ, List, ◌++◌, OnOk};
+ghost use Rattle.trace_book.specs.Text.{call_id_text, epoch_text, file_text, gap, mode_text, number, record_text, serial_text};
+ghost use Rattle.trace_book.specs.declared.record.Record.TheVariants.{Accept, Look, Grant, Refuse, Act, Answer};
+
+use crate::answers::{push_outcome, push_refusal, push_reply, push_served};
+use crate::pieces::{
+    push_call_id, push_epoch, push_file, push_mode, push_number, push_optional_stamp, push_serial,
+};
+use crate::requests::{push_call_words, push_op, push_what};
+use locus_ids::{Bytes, CallId, EpochId, FileId, Mode, NoMemory, Refusal, Serial, Stamp};
+use trace_book::{Call, Op, Outcome, Reply, Served, What};
+
+pub fn push_accept(
+    out: &mut Bytes,
+    site: u8,
+    process: u8,
+    call: CallId,
+    words: &Call,
+) -> Result<(), NoMemory>
+    ensures { OnOk result (out.new ≡ out.old ++ record_text (Accept site process call words.now)) }
+{
+    out.append(b"call ")?;
+    push_number(out, u32::from(site))?;
+    out.append(b" ")?;
+    push_number(out, u32::from(process))?;
+    out.append(b" ")?;
+    push_call_id(out, call)?;
+    out.append(b" ")?;
+    push_call_words(out, words)
+}
+
+pub fn push_look(
+    out: &mut Bytes,
+    epoch: EpochId,
+    call: CallId,
+    request: u16,
+    file: FileId,
+    what: &What,
+    served: &Served,
+) -> Result<(), NoMemory>
+    ensures { OnOk result (out.new ≡ out.old ++ record_text (Look epoch call request file what.now served.now)) }
+{
+    out.append(b"look ")?;
+    push_asked(out, epoch, call, request)?;
+    out.append(b" ")?;
+    push_file(out, file)?;
+    out.append(b" ")?;
+    push_what(out, what)?;
+    out.append(b" ")?;
+    push_served(out, served)
+}
+
+/// A call's request: the epoch, the call, and the request's number in it.
+fn push_asked(out: &mut Bytes, epoch: EpochId, call: CallId, request: u16) -> Result<(), NoMemory>
+    ensures { OnOk result (out.new ≡ out.old ++ (epoch_text epoch ++ gap ++ call_id_text call ++ gap ++ number request)) }
+{
+    push_epoch(out, epoch)?;
+    out.append(b" ")?;
+    push_call_id(out, call)?;
+    out.append(b" ")?;
+    push_number(out, u32::from(request))
+}
+
+/// What is opened: the instance, its mode and its file.
+fn push_opened(out: &mut Bytes, inst: Serial, mode: Mode, file: FileId) -> Result<(), NoMemory>
+    ensures { OnOk result (out.new ≡ out.old ++ (serial_text inst ++ gap ++ mode_text mode ++ gap ++ file_text file)) }
+{
+    push_serial(out, inst)?;
+    out.append(b" ")?;
+    push_mode(out, mode)?;
+    out.append(b" ")?;
+    push_file(out, file)
+}
+
+pub fn push_grant(
+    out: &mut Bytes,
+    epoch: EpochId,
+    call: CallId,
+    request: u16,
+    inst: Serial,
+    mode: Mode,
+    file: FileId,
+    stamp: Option<Stamp>,
+    ss: u8,
+) -> Result<(), NoMemory>
+    ensures { OnOk result (out.new ≡ out.old ++ record_text (Grant epoch call request inst mode file stamp ss)) }
+{
+    out.append(b"grant ")?;
+    push_asked(out, epoch, call, request)?;
+    out.append(b" ")?;
+    push_opened(out, inst, mode, file)?;
+    out.append(b" ")?;
+    push_optional_stamp(out, stamp)?;
+    out.append(b" ")?;
+    push_number(out, u32::from(ss))
+}
+
+pub fn push_refuse(
+    out: &mut Bytes,
+    epoch: EpochId,
+    call: CallId,
+    request: u16,
+    inst: Serial,
+    mode: Mode,
+    file: FileId,
+    why: &Refusal,
+) -> Result<(), NoMemory>
+    ensures { OnOk result (out.new ≡ out.old ++ record_text (Refuse epoch call request inst mode file why.now)) }
+{
+    out.append(b"refuse ")?;
+    push_asked(out, epoch, call, request)?;
+    out.append(b" ")?;
+    push_opened(out, inst, mode, file)?;
+    out.append(b" ")?;
+    push_refusal(out, why)
+}
+
+pub fn push_act(
+    out: &mut Bytes,
+    epoch: EpochId,
+    inst: Serial,
+    n: u32,
+    op: &Op,
+    outcome: &Outcome,
+) -> Result<(), NoMemory>
+    ensures { OnOk result (out.new ≡ out.old ++ record_text (Act epoch inst n op.now outcome.now)) }
+{
+    out.append(b"act ")?;
+    push_epoch(out, epoch)?;
+    out.append(b" ")?;
+    push_serial(out, inst)?;
+    out.append(b" ")?;
+    push_number(out, n)?;
+    out.append(b" ")?;
+    push_op(out, op)?;
+    out.append(b" ")?;
+    push_outcome(out, outcome)
+}
+
+pub fn push_answer(
+    out: &mut Bytes,
+    site: u8,
+    process: u8,
+    call: CallId,
+    reply: &Reply,
+) -> Result<(), NoMemory>
+    ensures { OnOk result (out.new ≡ out.old ++ record_text (Answer site process call reply.now)) }
+{
+    out.append(b"reply ")?;
+    push_number(out, u32::from(site))?;
+    out.append(b" ")?;
+    push_number(out, u32::from(process))?;
+    out.append(b" ")?;
+    push_call_id(out, call)?;
+    out.append(b" ")?;
+    push_reply(out, reply)
+}

@@ -1,4 +1,0 @@
-use Rattle.wire_fields.proofs.outcomes.read_outcome.Goals as goal
-
-pub returns-in-2 : goal.returns-in-2
-returns-in-2 c = rw (c.in_ok-number.ensures.read, c.in-2.is) c.read_refused.ensures

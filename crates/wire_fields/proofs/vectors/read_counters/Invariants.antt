@@ -1,9 +1,0 @@
-use Rattle.std.proofs.Common.{◌≡◌, ◌-◌, take, length}
-use Rattle.field_codec.specs.Codec.{u32}
-use Rattle.field_codec.proofs.Loop.{with_front}
-use Rattle.wire_fields.proofs.Counters.{times}
-use Rattle.wire_fields.proofs.vectors.read_counters.Given as goal
-
--- those so far and those still to be read are all
-abbrev pub invariant-loop-i : goal.invariant-loop-i
-invariant-loop-i l = (length l.counters ≡ 16) × (with_front (take l.i l.counters) (times u32 (16 - l.i) l.fields) ≡ times u32 16 l.initial.fields)

@@ -1,7 +1,0 @@
-use Rattle.std.proofs.Common.{append_assoc}
-use Rattle.wire_messages.proofs.put_requests.put_open.Goals as goal
-
-pub returns : goal.returns
-returns c =
-    let written = rw (c.in_ok-put_file.ensures, c.in_ok-put_u16.ensures.ok, c.in_ok-put_u8.ensures.ok, c.in_ok-put_u32-2.ensures.ok, c.in_ok-put_u32.ensures.ok) at c.put_opening.ensures in
-    simp append_assoc at written
