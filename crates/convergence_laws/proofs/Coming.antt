@@ -1,6 +1,5 @@
 -- A packet comes to a member of an epoch that takes it: what that makes of the world, and what notices name then.
 use Rattle.std.proofs.Common.{◌≡◌, ◌≢◌, ℕ, ◌+◌, ◌≤◌, ◌==◌, ◌⊎◌, Bool, true, false, not, ◌&&◌, ◌||◌, List, ◌++◌, length, Option, Some, None, refl, sym, ◌∙◌, ap, subst, inl, inr, arith, length-append}
-use Rattle.std.proofs.lemmas.Bool.Decides.{nat_tests}
 use Rattle.role_steps.proofs.of_plain_facts.Numbers.{equal_self}
 use Rattle.role_steps.proofs.of_plain_facts.Tests.{and_true, both_true, true_false}
 use Rattle.locus_ids.specs.declared.config.Config.{Config}

@@ -1,7 +1,6 @@
 -- An Op or a Close comes to a member that may commit by it: a version that is on its way to it stays so, as what is committed is of
 -- another file, and above what the member had of that.
 use Rattle.std.proofs.Common.{◌≡◌, ℕ, ◌≤◌, ◌<◌, ◌==◌, ◌⊎◌, Bool, true, false, ◌&&◌, ◌||◌, List, [], ◌∷◌, ◌++◌, length, Some, refl, sym, ◌∙◌, ap, subst, inl, inr, arith}
-use Rattle.std.proofs.lemmas.Bool.Decides.{nat_tests}
 use Rattle.std.specs.List.{list_any}
 use Rattle.role_steps.proofs.of_plain_facts.Numbers.{equal}
 use Rattle.role_steps.proofs.of_plain_facts.Tests.{true_false}

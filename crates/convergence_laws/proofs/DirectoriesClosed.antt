@@ -1,6 +1,5 @@
 -- After a calm round no directory is open: whatever is open then was opened by an open call, since no call waits.
 use Rattle.std.proofs.Common.{◌≡◌, ℕ, ◌==◌, ◌≤◌, ◌⊎◌, Bool, true, false, ◌&&◌, ◌||◌, List, [], ◌∷◌, Option, Some, refl, sym, ◌∙◌, subst, inl, inr, arith}
-use Rattle.std.proofs.lemmas.Bool.Decides.{nat_tests}
 use Rattle.std.specs.List.{list_any, find}
 use Rattle.role_steps.proofs.of_plain_facts.Numbers.{equal_self}
 use Rattle.role_steps.proofs.of_plain_facts.Tests.{both_true, true_false}

@@ -1,6 +1,6 @@
 -- Over two calm rounds that stand directly after a third: where somebody has a directory open in them its synchronization site has the only kept
 -- version at their end, since it was opened to mend.
-use Rattle.std.proofs.Common.{◌≡◌, ℕ, ◌⊎◌, true, List, ◌++◌, Option, Some, sym, ◌∙◌, ap, subst, inl, inr, arith}
+use Rattle.std.proofs.Common.{◌≡◌, ℕ, ◌⊎◌, true, List, ◌++◌, Some, sym, ◌∙◌, ap, subst, inl, inr, arith}
 use Rattle.role_steps.proofs.of_plain_facts.Options.{some_same}
 use Rattle.locus_ids.specs.declared.config.Config.{Config}
 use Rattle.locus_ids.specs.declared.ids.CallId.{CallId}

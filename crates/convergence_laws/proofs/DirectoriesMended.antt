@@ -1,7 +1,6 @@
 -- After each event of a site no directory of a group that has started wants a mend that may start, or a mend of the group waits: the
 -- event ends with the mends that start.
-use Rattle.std.proofs.Common.{◌≡◌, ℕ, ◌+◌, ◌==◌, nat_lt, Bool, true, false, cond, not, ◌&&◌, ◌||◌, List, [], ◌∷◌, Option, Some, None, refl, sym, ◌∙◌, ap, subst, inl, inr, arith}
-use Rattle.std.proofs.lemmas.Bool.Decides.{nat_tests}
+use Rattle.std.proofs.Common.{◌≡◌, ℕ, ◌+◌, ◌==◌, nat_lt, Bool, true, false, cond, not, ◌&&◌, ◌||◌, List, [], ◌∷◌, Option, Some, None, refl, sym, ◌∙◌, ap, subst, inl, inr}
 use Rattle.std.specs.List.{list_any}
 use Rattle.role_steps.proofs.of_plain_facts.Numbers.{equal, equal_self}
 use Rattle.role_steps.proofs.of_plain_facts.Options.{none_some, some_same}

@@ -1,6 +1,6 @@
 -- What a storage site is closing was begun on the file on which it was granted, and each open of it that a synchronization site has is of that
 -- file.
-use Rattle.std.proofs.Common.{◌≡◌, ℕ, ◌⊎◌, Bool, true, false, ◌||◌, List, [], ◌∷◌, Option, refl, sym, ◌∙◌, ap, subst, inl, inr}
+use Rattle.std.proofs.Common.{◌≡◌, ℕ, ◌⊎◌, Bool, true, false, List, [], ◌∷◌, Option, refl, sym, ◌∙◌, ap, subst, inl, inr}
 use Rattle.std.specs.List.{list_any}
 use Rattle.role_steps.proofs.of_plain_facts.Tests.{or_either, or_first, or_second}
 use Rattle.locus_ids.specs.declared.config.Config.{Config}

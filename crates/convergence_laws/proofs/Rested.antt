@@ -23,7 +23,7 @@ use Rattle.lawful_trace.specs.Places.{is_cut, line_at, lines_before, through_lin
 use Rattle.lawful_trace.specs.Samples.{epoch, file, members}
 use Rattle.row_laws.specs.Shown.{trace_of}
 use Rattle.convergence_laws.specs.Rested.{rested_lines, rested_trace, IsRested}
-use Rattle.convergence_laws.specs.TraceCopies.{AreCalmRounds, IsUndisturbed}
+use Rattle.promises.specs.Convergence.{AreCalmRounds, IsUndisturbed}
 
 -- ---- the run ----
 

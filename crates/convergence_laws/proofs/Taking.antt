@@ -1,7 +1,6 @@
 -- What a Notify and a Page leave of a member's pulls: one that is whole stays, where no version above it is named, and whatever is
 -- pulled was pulled before, or is named.
-use Rattle.std.proofs.Common.{◌≡◌, ℕ, ◌==◌, ◌⊎◌, Bool, true, false, not, List, [], ◌∷◌, ◌++◌, Option, Some, None, refl, sym, ◌∙◌, ap, subst, inl, inr, arith}
-use Rattle.std.proofs.lemmas.Bool.Decides.{nat_tests}
+use Rattle.std.proofs.Common.{◌≡◌, ℕ, ◌==◌, ◌⊎◌, Bool, true, false, not, List, [], ◌∷◌, ◌++◌, Option, Some, None, refl, sym, ◌∙◌, ap, subst, inl, inr}
 use Rattle.role_steps.proofs.of_plain_facts.Numbers.{equal}
 use Rattle.role_steps.proofs.of_plain_facts.Options.{some_same}
 use Rattle.role_steps.proofs.of_plain_facts.Tests.{both_true, false_unless, true_false}

@@ -36,7 +36,7 @@ use Rattle.calm_laws.proofs.Delivered.{inside_fact}
 use Rattle.convergence_laws.specs.Copies.{HoldsTheOnly}
 use Rattle.convergence_laws.specs.Rounds as rounds
 use Rattle.convergence_laws.proofs.Convergence.{converge}
-use Rattle.convergence_laws.specs.TraceCopies.{IsAtRest, LackedRoom, CopiesConverge}
+use Rattle.promises.specs.Convergence.{IsAtRest, LackedRoom, CopiesConverge}
 use Rattle.convergence_laws.proofs.TraceKnown.{HasTable, HasOne, has_table, has_one, known_row}
 use Rattle.convergence_laws.proofs.TraceMoments.{IsMidway, at_end, quiet, lacked}
 use Rattle.convergence_laws.proofs.TracePlayed.{IsPlayed, member_of_list, played}

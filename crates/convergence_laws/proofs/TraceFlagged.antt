@@ -21,7 +21,7 @@ use Rattle.calm_laws.specs.of_orderly_traces.Agreeing.{IsWithin}
 use Rattle.calm_laws.specs.Rounds.{CalmLeft}
 use Rattle.convergence_laws.specs.Directories.{IsFlagged}
 use Rattle.convergence_laws.proofs.DirectoriesUnflagged.{unflagged}
-use Rattle.convergence_laws.specs.TraceDirectories.{NoDirectoryIsFlagged}
+use Rattle.promises.specs.Convergence.{NoDirectoryIsFlagged}
 use Rattle.convergence_laws.proofs.TraceKnown.{HasTable, IsRow, has_table, is_row, kept_there, known_row, lost_there}
 use Rattle.convergence_laws.proofs.TracePlayed.{IsPlayed, played}
 
@@ -50,7 +50,7 @@ several_row t ino (Some r) is h = (r, is, over r.kept refl h)
 
 pub none_flagged : (lines : List ScheduleLine) → AreInOrder lines → IsWithin lines → CalmLeft (config_of lines) → NoDirectoryIsFlagged lines (trace_of (run lines))
 none_flagged lines order within calm n id members f h packed dir several = lost_there lines n e p f css.0 t
-    (unflagged (config_of lines) calm lines n e p.deliveries f r.0 p.calm (known_row lines n e p f css.0 t r.0 q.found) (ap is_dir q.kind_is ∙ dir) r.2)
+    (unflagged (config_of lines) calm lines n e p.deliveries f r.0 p.calm (known_row lines n e p f css.0 t r.0 q.found) (ap is_dir (q.kind_is ∙ dir)) r.2)
   where
     e : InEpoch
     e = record { id = id; members = members }

@@ -34,7 +34,7 @@ use Rattle.calm_laws.proofs.Calm.{calm_in_round}
 use Rattle.calm_laws.proofs.Delivered.{inside_fact}
 use Rattle.calm_laws.proofs.Facts.{RoundFacts, round_facts}
 use Rattle.convergence_laws.specs.Rounds as rounds
-use Rattle.convergence_laws.specs.TraceCopies.{IsUndisturbed, LackedRoom}
+use Rattle.promises.specs.Convergence.{IsUndisturbed, LackedRoom}
 use Rattle.convergence_laws.proofs.CurrentReached.{past_of_round}
 use Rattle.convergence_laws.proofs.TracePlayed.{IsPlayed}
 use Rattle.convergence_laws.proofs.TraceUndisturbed.{closed_at}

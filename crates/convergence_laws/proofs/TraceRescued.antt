@@ -34,8 +34,8 @@ use Rattle.calm_laws.specs.Carrying.{frame_of}
 use Rattle.calm_laws.specs.Rounds.{CalmLeft, after}
 use Rattle.convergence_laws.specs.Directories as worlds
 use Rattle.convergence_laws.specs.Rounds as rounds
-use Rattle.convergence_laws.specs.TraceCopies.{AreCalmRounds}
-use Rattle.convergence_laws.specs.TraceDirectories.{WantsRescue, MayWant, UndisturbedWantNoRescue, NoRescueIsWanted}
+use Rattle.promises.specs.Convergence.{AreCalmRounds}
+use Rattle.promises.specs.Convergence.{WantsRescue, MayWant, UndisturbedWantNoRescue, NoRescueIsWanted}
 use Rattle.convergence_laws.proofs.TraceKnown.{HasTable, HasOne, has_table, has_one, known_row, lost_there}
 use Rattle.convergence_laws.proofs.TraceMoments.{quiet, lacked}
 use Rattle.convergence_laws.proofs.TracePlayed.{IsPlayed, played}
@@ -76,7 +76,7 @@ module _ (lines : List ScheduleLine) (n : ℕ) (e : InEpoch) (p : IsPlayed lines
   end = after c lines n p.deliveries
 
   directory : role.is_dir q.row.kind ≡ true
-  directory = ap role.is_dir q.is_row.kind_is ∙ h.directory
+  directory = ap role.is_dir (q.is_row.kind_is ∙ h.directory)
 
   wants : worlds.WantsRescue c end t.table f q.version
   wants = wanted_there t.table (content_of (history c (entries end.trace)) f q.version.stamp)

@@ -3,8 +3,6 @@ pub mod Rounds
 pub mod Offers
 pub mod Converging
 pub mod Directories
-pub mod TraceCopies
-pub mod TraceDirectories
 pub mod Rested
 pub mod Wanting
 pub use Rattle.calm_laws.specs as of_calm_laws

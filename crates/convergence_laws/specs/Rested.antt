@@ -18,7 +18,7 @@ use Rattle.tree_model.specs.Folds.{Trace}
 use Rattle.tree_model.specs.Packs.{has_pack, is_member}
 use Rattle.lawful_trace.specs.Places.{through_line}
 use Rattle.lawful_trace.specs.Samples.{at, epoch, caller, inst, file, stamp, brought, members}
-use Rattle.convergence_laws.specs.TraceCopies.{AreCalmRounds, IsAtRest}
+use Rattle.promises.specs.Convergence.{AreCalmRounds, IsAtRest}
 
 abbrev pub rested_lines : List ScheduleLine
 rested_lines =

@@ -22,7 +22,7 @@ use Rattle.tree_model.specs.Tree.{tree_of}
 use Rattle.lawful_trace.specs.Calm.{IsMoment}
 use Rattle.lawful_trace.specs.Places.{through_line}
 use Rattle.lawful_trace.specs.Samples.{at, epoch, caller, inst, file, stamp, brought, members}
-use Rattle.convergence_laws.specs.TraceDirectories.{WantsRescue}
+use Rattle.promises.specs.Convergence.{WantsRescue}
 
 abbrev pub wanting_lines : List ScheduleLine
 wanting_lines =

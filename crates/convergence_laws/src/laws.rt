@@ -5,10 +5,10 @@ ghost use Rattle.schedule_lines.specs.declared.line.ScheduleLine.{ScheduleLine};
 ghost use Rattle.the_run.specs.Runs.{run};
 ghost use Rattle.row_laws.specs.Shown.{trace_of};
 ghost use Rattle.calm_laws.specs.of_orderly_traces.Agreeing.{IsWithin};
-ghost use Rattle.convergence_laws.specs.TraceCopies.{CopiesConverge as CopiesConvergeInTrace};
+ghost use Rattle.promises.specs.Convergence.{CopiesConverge as CopiesConvergeInTrace};
 ghost use Rattle.convergence_laws.specs.Rested.{rested_lines, IsRested};
 ghost use Rattle.convergence_laws.specs.Wanting.{wanting_lines, IsWanting};
-ghost use Rattle.convergence_laws.specs.TraceDirectories.{NoDirectoryIsFlagged as NoDirectoryIsFlaggedInTrace, UndisturbedWantNoRescue as UndisturbedWantNoRescueInTrace, NoRescueIsWanted as NoRescueIsWantedInTrace};
+ghost use Rattle.promises.specs.Convergence.{NoDirectoryIsFlagged as NoDirectoryIsFlaggedInTrace, UndisturbedWantNoRescue as UndisturbedWantNoRescueInTrace, NoRescueIsWanted as NoRescueIsWantedInTrace};
 ghost use Rattle.convergence_laws.specs.Rounds.{CopiesConverge, CopiesConvergeInThree};
 ghost use Rattle.convergence_laws.specs.Directories.{NoDirectoryIsFlagged, UndisturbedWantNoRescue, NoRescueIsWanted};
 

@@ -1,7 +1,6 @@
 -- Each record of a run comes as it may and is asked for by its line, also where the run passes a limit.
 use Rattle.std.proofs.Common.{◌≡◌, ℕ, Bool, true, false, [], ◌∷◌, List, refl}
 use Rattle.locus_ids.specs.declared.config.Config.{Config}
-use Rattle.trace_book.specs.declared.entry.Entry.{Entry}
 use Rattle.trace_book.specs.declared.record.Record.{Record}
 use Rattle.trace_book.specs.declared.record.Record.TheVariants as says
 use Rattle.trace_book.specs.declared.record.StopCause.{StopCause}
@@ -13,7 +12,7 @@ use Rattle.the_run.specs.Runs.{run}
 use Rattle.tree_model.specs.Folds.{Trace}
 use Rattle.lawful_trace.specs.Places.{line_at}
 use Rattle.lawful_trace.specs.SiteRows.{StopLine}
-use Rattle.lawful_trace.specs.Lawful.{IsAsked, Comes, EachComes}
+use Rattle.lawful_trace.specs.Lawful.{IsAsked, EachComes}
 use Rattle.row_laws.specs.Rest.{IsCounted}
 use Rattle.row_laws.specs.Rows.{IsPlaced, StopAsked, AskedRecord, IsAskedFor, ArmedStop, ArmedRecord, IsArmedFor}
 use Rattle.row_laws.specs.Shown.{EachRecord, trace_of}

@@ -1,5 +1,5 @@
 -- The rows of the tree and all other rows, together; and all that holds of a run.
-use Rattle.std.proofs.Common.{◌≡◌, ◌++◌, List, None, sym, subst}
+use Rattle.std.proofs.Common.{◌≡◌, List, None, sym, subst}
 use Rattle.schedule_lines.specs.Cluster.{config_of}
 use Rattle.schedule_lines.specs.Schedule.{AreInOrder}
 use Rattle.schedule_lines.specs.declared.line.ScheduleLine.{ScheduleLine}
@@ -8,9 +8,6 @@ use Rattle.lawful_trace.specs.Lawful.{IsLawful}
 use Rattle.row_laws.specs.Shown.{trace_of}
 use Rattle.whole_run_laws.proofs.of_call_row_laws.TreeSum.{tree_lawful}
 use Rattle.copy_laws.proofs.Hold.{run_versions_and_copies}
-use Rattle.bound_laws.proofs.RunsAsk.{requests_bounded}
-use Rattle.bound_laws.proofs.RunsSend.{deliveries_send_one}
-use Rattle.convergence_laws.proofs.of_orderly_laws.CalmRounds.{rounds_stay_calm}
 use Rattle.whole_run_laws.proofs.of_orderly_traces.Forms.{blocks_form}
 use Rattle.whole_run_laws.proofs.of_orderly_traces.OwnLeaves.{leaves_are_own}
 use Rattle.tree_laws.specs.Following.{RowsAreLawful}
@@ -19,8 +16,6 @@ use Rattle.whole_run_laws.proofs.of_rest_laws.Run.{schedule_rows}
 use Rattle.whole_run_laws.proofs.of_rest_laws.Shown.{shown_entries}
 use Rattle.whole_run_laws.proofs.CutRun.{schedule_counted}
 use Rattle.row_laws.proofs.ArmsKept.{run_keeps_calls}
-use Rattle.input_order_laws.proofs.Order.{first_in_order}
-use Rattle.whole_run_laws.proofs.Disks.{disks_hold}
 use Rattle.convergence_laws.proofs.of_calm_laws.Calm.{round_carries}
 use Rattle.convergence_laws.proofs.of_calm_laws.CalmAnswerAnswered.{calm_left, rounds_answer}
 use Rattle.convergence_laws.proofs.DirectoriesRescued.{rescued, rescued_in_three}
@@ -28,9 +23,28 @@ use Rattle.convergence_laws.proofs.TraceConverging.{converging}
 use Rattle.convergence_laws.proofs.TraceFlagged.{none_flagged}
 use Rattle.convergence_laws.proofs.TraceRescued.{undisturbed_by_trace, rescue_by_trace}
 use Rattle.whole_run_laws.proofs.Rounds.{large_rounds}
-use Rattle.headline_laws.specs.Holds.{RunHolds, RunHoldsThroughout}
+use Rattle.headline_laws.specs.TheRun.{TheRun}
+use Rattle.headline_laws.specs.Rows.{RowsHold}
+use Rattle.headline_laws.specs.Replies.{RepliesHold}
+use Rattle.headline_laws.specs.Commits.{CommitsHold}
+use Rattle.promises.specs.Progress.{Progress}
+use Rattle.promises.specs.Convergence.{Convergence}
+use Rattle.promise_laws.proofs.Aborting.{aborts_drop}
+use Rattle.promise_laws.proofs.AcknowledgedRuns.{acknowledged_new}
+use Rattle.promise_laws.proofs.BudgetsPassed.{budgets_passed}
+use Rattle.promise_laws.proofs.CommitsAsked.{commits_asked}
+use Rattle.promise_laws.proofs.Delivered.{calm_rounds_deliver}
+use Rattle.promise_laws.proofs.MomentsHold.{after_events}
+use Rattle.promise_laws.proofs.OneTrace.{trace_is_one}
+use Rattle.promise_laws.proofs.Steadying.{steady_rounds, together_is_told}
+use Rattle.promise_laws.proofs.VersionsNow.{versions_throughout}
+use Rattle.promise_laws.proofs.VoidLines.{voids_change_nothing}
+use Rattle.prompt_laws.proofs.Lines.{run_stands}
+use Rattle.prompt_laws.proofs.RunDue.{replies_next}
+use Rattle.prompt_laws.proofs.RunPlaces.{records_stand}
+use Rattle.prompt_laws.proofs.RunSpeaks.{records_speak}
+use Rattle.prompt_laws.proofs.RunReplies.{replies_given, replies_direct}
 use Rattle.headline_laws.proofs.Comes.{run_comes}
-use Rattle.headline_laws.proofs.Texts.{printed_told}
 
 shown_rows : (lines : List ScheduleLine) → AreInOrder lines → RowsAreLawful (config_of lines) (trace_of (run lines))
 shown_rows lines order = subst (RowsAreLawful (config_of lines)) (sym (shown_entries (run lines).trace)) (schedule_rows lines order)
@@ -41,28 +55,55 @@ run_lawful lines order none = tree_lawful lines none (record {
   each = rows_meet (config_of lines) lines (trace_of (run lines)) (shown_rows lines order) (schedule_counted lines order);
 })
 
-pub run_holds_all : (lines : List ScheduleLine) → AreInOrder lines → RunHolds lines
-run_holds_all lines order = record {
-  text = printed_told (run lines);
-  calls = run_keeps_calls (config_of lines) lines;
-  disks = disks_hold lines order;
-  rounds = large_rounds (config_of lines) lines;
+pub the_run : (lines : List ScheduleLine) → AreInOrder lines → TheRun lines
+the_run lines order = record {
+  trace = trace_is_one (run lines);
+  events = after_events lines order;
   versions = run_versions_and_copies (config_of lines) lines;
-  rows = shown_rows lines order;
-  comes = run_comes lines order (shown_rows lines order);
-  lawful = λ none. run_lawful lines order none;
-  formed = λ none. blocks_form lines order none;
-  leaves = λ none. leaves_are_own lines order none;
-  answers = λ none. rounds_answer lines order none;
-  steady = rounds_stay_calm (config_of lines);
-  carried = round_carries (config_of lines) (calm_left (config_of lines));
-  converge = λ none. converging lines order none (calm_left (config_of lines));
-  mended = λ none. none_flagged lines order none (calm_left (config_of lines));
-  shut_rescued = λ none. undisturbed_by_trace lines order none (calm_left (config_of lines)) (rescued (config_of lines) (calm_left (config_of lines)));
-  rescued = λ none. rescue_by_trace lines order none (calm_left (config_of lines)) (rescued_in_three (config_of lines) (calm_left (config_of lines)));
-  requests = requests_bounded (config_of lines) lines;
-  deliveries = deliveries_send_one (config_of lines) lines;
+  voids = voids_change_nothing lines order;
+  budgets = budgets_passed (config_of lines) lines;
+  carried = round_carries (config_of lines) (calm_left (config_of lines)) lines;
+  delivered = λ none. calm_rounds_deliver lines order none;
+  steady = steady_rounds lines order;
+  together = together_is_told lines order;
 }
 
-pub run_holds_throughout : (lines : List ScheduleLine) → AreInOrder lines → RunHoldsThroughout lines
-run_holds_throughout lines order first later split = run_holds_all first (first_in_order first later (subst AreInOrder split order))
+pub rows_hold : (lines : List ScheduleLine) → AreInOrder lines → RowsHold lines (trace_of (run lines))
+rows_hold lines order = record {
+  comes = run_comes lines order (shown_rows lines order);
+  places = records_stand lines order;
+  speaks = records_speak lines order;
+  calls = run_keeps_calls (config_of lines) lines;
+}
+
+pub replies_hold : (lines : List ScheduleLine) → AreInOrder lines → RepliesHold lines (trace_of (run lines))
+replies_hold lines order = record {
+  given = replies_given lines order;
+  directly = replies_direct lines order;
+  next = replies_next lines order;
+  alone = run_stands (config_of lines) lines;
+}
+
+pub commits_hold : (lines : List ScheduleLine) → AreInOrder lines → CommitsHold lines (trace_of (run lines))
+commits_hold lines order = record {
+  asked = commits_asked lines order;
+  dropped = aborts_drop lines order;
+  new = acknowledged_new lines order;
+  kept = versions_throughout lines order;
+}
+
+pub progress : (lines : List ScheduleLine) → AreInOrder lines → (run lines).over ≡ None → Progress lines (trace_of (run lines))
+progress lines order none = record {
+  formed = blocks_form lines order none;
+  leaves = leaves_are_own lines order none;
+  answers = rounds_answer lines order none;
+  rounds = large_rounds (config_of lines) lines;
+}
+
+pub convergence : (lines : List ScheduleLine) → AreInOrder lines → (run lines).over ≡ None → Convergence lines (trace_of (run lines))
+convergence lines order none = record {
+  alike = converging lines order none (calm_left (config_of lines));
+  mended = none_flagged lines order none (calm_left (config_of lines));
+  shut = undisturbed_by_trace lines order none (calm_left (config_of lines)) (rescued (config_of lines) (calm_left (config_of lines)));
+  rescued = rescue_by_trace lines order none (calm_left (config_of lines)) (rescued_in_three (config_of lines) (calm_left (config_of lines)));
+}

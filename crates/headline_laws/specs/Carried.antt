@@ -1,6 +1,6 @@
 -- That calm rounds carry what waits.
 use Rattle.std.specs.Prelude.{ℕ, ◌≤◌, List}
-use Rattle.locus_ids.specs.declared.config.Config.{Config}
+use Rattle.schedule_lines.specs.Cluster.{config_of}
 use Rattle.schedule_lines.specs.declared.line.ScheduleLine.{ScheduleLine}
 use Rattle.role_steps.specs.declared.rounds.InEpoch.{InEpoch}
 use Rattle.convergence_laws.specs.of_calm_laws.Carrying.{IsAllCarried}
@@ -8,5 +8,5 @@ use Rattle.convergence_laws.specs.of_calm_laws.Rounds.{IsCalm, after}
 
 -- In a calm round, once all its ticks are done, the reports of all members and the current request of each waiting call of a member are
 -- carried, by a packet under way or by the synchronization site that holds it before the start; and so after each delivery.
-abbrev pub CalmRoundsCarry : Config → Type 0
-CalmRoundsCarry c = (lines : List ScheduleLine) (n : ℕ) (e : InEpoch) (k j : ℕ) → IsCalm c lines n e k → j ≤ k → IsAllCarried c e (after c lines n j)
+abbrev pub CalmRoundsCarry : List ScheduleLine → Type 0
+CalmRoundsCarry lines = (n : ℕ) (e : InEpoch) (k j : ℕ) → IsCalm (config_of lines) lines n e k → j ≤ k → IsAllCarried (config_of lines) e (after (config_of lines) lines n j)

@@ -4,4 +4,4 @@
 
 mod laws;
 
-pub use laws::{every_run_holds, runs_are_lawful};
+pub use laws::{every_run_keeps_its_promises, runs_are_lawful};

@@ -15,6 +15,8 @@ mod locus_ids_tests;
 #[cfg(test)]
 mod locus_io_tests;
 #[cfg(test)]
+mod record_reading_tests;
+#[cfg(test)]
 mod trace_book_tests;
 #[cfg(test)]
 mod version_vector_tests;

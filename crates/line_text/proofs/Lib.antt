@@ -1,8 +1,8 @@
-mod Splits
-mod NumberTexts
-mod HexWords
+pub mod Splits
+pub mod NumberTexts
+pub mod HexWords
 mod SiteLists
-mod CallForms
+pub mod CallForms
 mod EventForms
 mod HeaderForms
 mod Answered

@@ -30,7 +30,7 @@ pub fn parse_call(alloc: Global, words: &[u8], h: &Header) -> Result<Call, LineF
 }
 
 /// The call that the words are, in a cluster of n sites.
-pub(crate) fn call_of(alloc: Global, words: &[u8], n: u8) -> Result<Option<Call>, NoMemory>
+pub fn call_of(alloc: Global, words: &[u8], n: u8) -> Result<Option<Call>, NoMemory>
     ensures { IfOk result (λ o. o ≡ call_in n words.now) }
 {
     let Some((word, rest)) = two_words(words) else {

@@ -7,7 +7,7 @@ use locus_ids::{Bytes, NoMemory};
 use std::alloc::Global;
 
 /// The bytes, 1 to `most`, that the word is.
-pub(crate) fn hex_bytes(alloc: Global, word: &[u8], most: usize) -> Result<Option<Bytes>, NoMemory>
+pub fn hex_bytes(alloc: Global, word: &[u8], most: usize) -> Result<Option<Bytes>, NoMemory>
     requires { most < 2 ^ 32 }
     ensures { IfOk result (λ o. o ≡ hex_in most word.now) }
 {

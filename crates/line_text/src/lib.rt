@@ -17,11 +17,13 @@ mod site_lists;
 mod tree_lines;
 mod words;
 
-pub use calls::parse_call;
+pub use calls::{call_of, parse_call};
 pub use events::parse_line;
 pub use fault::LineFault;
 pub use headers::{HeaderStep, parse_header};
+pub use hex_words::hex_bytes;
 pub use laws::lines_have_one_reading;
+pub use numbers::{number, small_number};
 pub use schedule_reader::{LineRead, ScheduleReader};
 pub use tree_lines::parse_tree_line;
-pub use words::is_passed;
+pub use words::{is_passed, split_at, two_words};

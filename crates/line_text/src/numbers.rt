@@ -8,7 +8,7 @@ use locus_ids::SiteId;
 use locus_ids::sizes::{DESCRIPTOR_SPAN, SITES};
 
 /// The number from `low` to `most` that the word is.
-pub(crate) fn number(word: &[u8], low: u32, most: u32) -> Option<u32>
+pub fn number(word: &[u8], low: u32, most: u32) -> Option<u32>
     ensures { result ≡ number_in low most word.now }
 {
     let n = plain_number(word, most)?;
@@ -44,7 +44,7 @@ fn begins_well(word: &[u8]) -> bool
 }
 
 /// The number from `low` to `most` that the word is, where the most is below 256.
-pub(crate) fn small_number(word: &[u8], low: u8, most: u8) -> Option<u8>
+pub fn small_number(word: &[u8], low: u8, most: u8) -> Option<u8>
     ensures { result ≡ number_in low most word.now }
 {
     let n = number(word, u32::from(low), u32::from(most))?;

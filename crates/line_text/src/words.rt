@@ -19,7 +19,7 @@ pub fn is_passed(line: &[u8]) -> bool
 }
 
 /// What stands before the first such byte, and what stands after it.
-pub(crate) fn split_at(bytes: &[u8], separator: u8) -> Option<(&[u8], &[u8])>
+pub fn split_at(bytes: &[u8], separator: u8) -> Option<(&[u8], &[u8])>
     ensures found { IfSome result (λ p. split_at separator bytes.now ≡ Some (p.0.now, p.1.now)) }
     ensures none { IfNone result (split_at separator bytes.now ≡ None) }
 {
@@ -37,7 +37,7 @@ fn cut_at(bytes: &[u8], separator: u8) -> Option<(&[u8], &[u8])>
 }
 
 /// The first word, and what follows its space.
-pub(crate) fn two_words(bytes: &[u8]) -> Option<(&[u8], &[u8])>
+pub fn two_words(bytes: &[u8]) -> Option<(&[u8], &[u8])>
     ensures found { IfSome result (λ p. two_words bytes.now ≡ Some (p.0.now, p.1.now)) }
     ensures none { IfNone result (two_words bytes.now ≡ None) }
 {

@@ -13,3 +13,4 @@ pub mod Told
 pub mod Turns
 pub mod Whole
 pub mod Words
+pub mod Keeps

@@ -7,24 +7,15 @@ use Rattle.std.specs.Io.KnownBytes.{Appends, Keeps, IsAtEnd}
 use Rattle.locus_io.specs.Causes.{AppendsFront}
 use Rattle.schedule_lines.specs.declared.line.ScheduleLine.{ScheduleLine}
 use Rattle.the_run.specs.Worlds.{Limit}
-use Rattle.headline_laws.specs.Holds.{RunHoldsThroughout}
-use Rattle.headline_laws.proofs.Whole.{run_holds_throughout}
 use Rattle.line_reader.specs.Reading.{lines_of, has_feed, to_read, Between, ReadsLine, EndsInFeed, IsLong, first_line, after_line}
-use Rattle.locus_main.specs.Inputs.{Input, StandsFor, MayEndAfter, opening_of, output_of}
+use Rattle.locus_main.specs.Inputs.{Input, StandsFor, MayEndAfter, opening_of}
+use Rattle.locus_main.specs.Runs.{output_of}
 use Rattle.locus_main.specs.Runs.{IsWithinLimits, Writes, AreRun, IsWholeRun, Refuses, StopsAtBad, StopsAtLong, StopsAtCount, StopsAtFault, StopsAtLimit, WritesFront}
 use Rattle.locus_main.specs.Turns.{Standing, HasTold, Tells, TellsFront, Goes, IsCutShort}
 use Rattle.locus_main.proofs.Inputs.{stands_first}
-use Rattle.locus_main.proofs.Order.{stands_in_order}
 use Rattle.locus_main.proofs.Schedules.{IsWithinLimits-push}
 use Rattle.locus_main.proofs.Told.{ReadsLines, Appends-nothing, Appends-then, AppendsFront-whole, AppendsFront-kept, AppendsFront-then, Between-none, Between-line, Between-rest, Between-read, Between-end, IsAllRead, at_end, if_some}
 use Rattle.locus_main.proofs.Whole.{AreWhole, Between-whole-none, Between-whole-line, wholly_read}
-
--- what holds of the run of lines for which an input stands
-run_holds : (input : Input) (bytes : List (List ℕ)) (lines : List ScheduleLine) → StandsFor input bytes lines → RunHoldsThroughout lines
-run_holds input bytes lines stands = run_holds_throughout lines (stands_in_order input bytes lines stands)
-
-opening_holds : (input : Input) → RunHoldsThroughout (opening_of input)
-opening_holds input = run_holds input [] (opening_of input) (stands_first input)
 
 -- the lines so far, of which the run is written
 pub record SoFar {R : Type 0} (stands : Standing R) (input : Input) (r : R) (number : ℕ) (ended : Bool) (left0 left1 taken0 taken1 : Option (List ℕ)) : Type 0 where
@@ -50,7 +41,7 @@ SoFar-start stands input r a t u n none tells = record {
   reads = stands_first input;
   within = record { few = omega arith; short = tt };
   told = tells.told;
-  writes = record { within = tells.passes; written = longer [] (output_of input (opening_of input)) tells.fresh t t u (Appends-nothing t) tells.written tells.rest; holds = opening_holds input };
+  writes = record { within = tells.passes; written = longer [] (output_of input (opening_of input)) tells.fresh t t u (Appends-nothing t) tells.written tells.rest };
   counted = sym none;
   read = Between-none a;
   whole = λ _. Between-whole-none a;
@@ -70,7 +61,7 @@ SoFar-next stands input r r' n m d f line a b c t u v s e few short reads opens 
       reads = goes.next;
       within = IsWithinLimits-push s.bytes line m s.within (omega (arith, s.counted, e)) few short;
       told = goes.tells.told;
-      writes = record { within = goes.tells.passes; written = longer _ _ goes.tells.fresh t u v s.writes.written goes.tells.written goes.tells.rest; holds = run_holds input (s.bytes ++ line ∷ []) goes.longer goes.next };
+      writes = record { within = goes.tells.passes; written = longer _ _ goes.tells.fresh t u v s.writes.written goes.tells.written goes.tells.rest };
       counted = omega (arith, length-append s.bytes (line ∷ []), s.counted, e);
       read = Between-line a b c s.bytes line s.read reads;
       whole = λ open_still. Between-whole-line a b c s.bytes line (s.whole (opens open_still)) (feeds open_still);
@@ -190,7 +181,6 @@ Ends-front stands input r n d a b t u s = if_some a _ _ (Between-read a b s.byte
       lines = s.lines;
       stands = s.reads;
       written = AppendsFront-whole t u (output_of input s.lines) s.writes.written;
-      holds = run_holds input s.bytes s.lines s.reads;
     })
 
 -- A line whose run passes a limit.
@@ -207,12 +197,12 @@ Ends-limit stands input r r' n m d line limit a b c t u v s e few short reads tu
       lines = s.lines;
       stands = s.reads;
       within = s.writes.within;
-      earlier_holds = run_holds input s.bytes s.lines s.reads;
       longer = goes.longer;
       next = goes.next;
       passes = goes.tells.passes;
+      fresh = goes.tells.fresh;
+      more = goes.tells.rest;
       written = longer _ _ goes.tells.fresh t u v s.writes.written goes.tells.written goes.tells.rest;
-      holds = run_holds input (s.bytes ++ line ∷ []) goes.longer goes.next;
     }))
 
 -- Whatever comes in a turn, a front is written.
@@ -228,7 +218,6 @@ Ends-cut stands input r n m d line a b c t u v s e reads cut = if_some a _ _ (Be
       lines = s.lines;
       stands = s.reads;
       written = AppendsFront-kept t u v (output_of input s.lines) s.writes.written keeps;
-      holds = run_holds input s.bytes s.lines s.reads;
     })
     (λ part. record {
       earlier = s.bytes ++ line ∷ [];
@@ -237,7 +226,6 @@ Ends-cut stands input r n m d line a b c t u v s e reads cut = if_some a _ _ (Be
       lines = part.longer;
       stands = part.next;
       written = subst (λ (p : List ℕ). AppendsFront t v p) (sym part.tells.rest) (AppendsFront-then t u v (output_of input s.lines) part.tells.fresh s.writes.written part.tells.written);
-      holds = run_holds input (s.bytes ++ line ∷ []) part.longer part.next;
     })
     (cut s.bytes s.lines (omega (arith, s.counted, e)) s.told))
 
@@ -253,7 +241,6 @@ Opens-front input (Some x) t u tells = record {
   lines = opening_of input;
   stands = stands_first input;
   written = subst (λ (p : List ℕ). AppendsFront t u p) (sym tells.rest) tells.written;
-  holds = opening_holds input;
 }
 
 -- The run of the opening passes a limit.
@@ -262,7 +249,6 @@ Opens-limit stands input r limit None t u tells = tt
 Opens-limit stands input r limit (Some x) t u tells = inl (record {
   passes = tells.passes;
   written = subst (λ (p : List ℕ). Appends t u p) (sym tells.rest) tells.written;
-  holds = opening_holds input;
 })
 
 pub none_of : (t : Option (List ℕ)) (xs : List ℕ) → AppendsFront t t xs
@@ -279,5 +265,4 @@ Nothing-front input (Some x) t = record {
   lines = opening_of input;
   stands = stands_first input;
   written = none_of t (output_of input (opening_of input));
-  holds = opening_holds input;
 }

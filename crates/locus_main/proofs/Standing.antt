@@ -11,7 +11,7 @@ use Rattle.schedule_run.specs.declared.tree.TreeRunner.{TreeRunner}
 use Rattle.the_run.specs.Asking.{Asks}
 use Rattle.schedule_run.specs.Tree.{with_asked}
 use Rattle.schedule_run.specs.Tree as tree
-use Rattle.locus_main.specs.Inputs.{replies_of}
+use Rattle.locus_main.specs.Runs.{replies_of}
 use Rattle.locus_main.specs.Inputs.Input.{Schedule, Calls}
 use Rattle.locus_main.specs.Runners.{ScheduleStands, TreeStands}
 use Rattle.locus_main.specs.Runs.{Refuses}

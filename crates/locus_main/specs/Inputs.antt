@@ -1,11 +1,8 @@
 -- What the lines of a command's input are.
 use Rattle.std.specs.Prelude.{ℕ, ◌≡◌, List, [], ◌∷◌, Option, None, Some}
-use Rattle.std.specs.List.{flat_map}
-use Rattle.trace_book.specs.declared.entry.Entry.{Entry}
 use Rattle.schedule_lines.specs.declared.line.ScheduleLine.{ScheduleLine}
 use Rattle.schedule_lines.specs.Schedule.{IsSchedule, MayEnd}
-use Rattle.the_run.specs.Runs.{run, printed, entries_of_run}
-use Rattle.the_run.specs.Commands.{Asked, opening_lines, tree_lines, reply_line}
+use Rattle.the_run.specs.Commands.{Asked, opening_lines, tree_lines}
 use Rattle.the_run.specs.Asking.{Asks}
 
 -- the lines of `run` are a schedule, those of `tree` are calls on the fixed cluster
@@ -44,12 +41,3 @@ MayEndAfter Calls lines = Unit {0}
 unfoldable pub opening_of : Input → List ScheduleLine
 opening_of Schedule = []
 opening_of Calls = opening_lines 100000
-
--- the replies of the run of these lines, without line numbers
-abbrev pub replies_of : List ScheduleLine → List ℕ
-replies_of lines = flat_map (λ (e : Entry). reply_line e.what) (entries_of_run (run lines))
-
--- what is written of the run of these lines: its trace, or its replies
-abbrev pub output_of : Input → List ScheduleLine → List ℕ
-output_of Schedule lines = printed (run lines)
-output_of Calls lines = replies_of lines

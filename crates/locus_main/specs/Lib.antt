@@ -4,3 +4,5 @@ pub mod Promises
 pub mod Runners
 pub mod Runs
 pub mod Turns
+pub mod Holds
+pub mod Keeps

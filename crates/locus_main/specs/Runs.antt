@@ -1,5 +1,5 @@
 -- What the run of an input has written when it ends, and where it ends.
-use Rattle.std.specs.Prelude.{ℕ, ◌≡◌, ◌<◌, ◌≤◌, ◌+◌, ◌⊎◌, List, [], ◌∷◌, ◌++◌, length, take, None, Some}
+use Rattle.std.specs.Prelude.{ℕ, ◌≡◌, ◌<◌, ◌≤◌, ◌+◌, ◌⊎◌, List, [], ◌∷◌, ◌++◌, length, take, flat_map, None, Some}
 use Rattle.std.specs.declared.option.Option.{Option}
 use Rattle.std.specs.List.{AllByRecursion}
 use Rattle.std.specs.Io.KnownBytes.{Appends}
@@ -7,20 +7,30 @@ use Rattle.locus_io.specs.Causes.{AppendsFront}
 use Rattle.line_reader.specs.Reading.{whole_lines}
 use Rattle.schedule_lines.specs.declared.line.ScheduleLine.{ScheduleLine}
 use Rattle.the_run.specs.Worlds.{Limit}
-use Rattle.the_run.specs.Runs.{run}
-use Rattle.headline_laws.specs.Holds.{RunHoldsThroughout}
-use Rattle.locus_main.specs.Inputs.{Input, StandsFor, MayEndAfter, opening_of, output_of}
+use Rattle.the_run.specs.Runs.{run, printed, entries_of_run}
+use Rattle.the_run.specs.Commands.{reply_line}
+use Rattle.trace_book.specs.declared.entry.Entry.{Entry}
+use Rattle.locus_main.specs.Inputs.Input.{Schedule, Calls}
+use Rattle.locus_main.specs.Inputs.{Input, StandsFor, MayEndAfter, opening_of}
+
+-- the replies of the run of these lines, without line numbers
+abbrev pub replies_of : List ScheduleLine → List ℕ
+replies_of lines = flat_map (λ (e : Entry). reply_line e.what) (entries_of_run (run lines))
+
+-- what is written of the run of these lines: its trace, or its replies
+abbrev pub output_of : Input → List ScheduleLine → List ℕ
+output_of Schedule lines = printed (run lines)
+output_of Calls lines = replies_of lines
 
 -- there are at most 1,000,000 lines, of at most 16,384 bytes each
 pub record IsWithinLimits (lines : List (List ℕ)) : Type 0 where
   pub few : length lines ≤ 1000000
   pub short : AllByRecursion (λ line. length line ≤ 16384) lines
 
--- the run of these lines passes no limit, its output is written, and it is as it should be
+-- the run of these lines passes no limit, and its output is written
 pub record Writes (input : Input) (lines : List ScheduleLine) (before after : Option (List ℕ)) : Type 0 where
   pub within : (run lines).over ≡ None
   pub written : Appends before after (output_of input lines)
-  pub holds : RunHoldsThroughout lines
 
 -- the lines of bytes are those of the input, and their run is written
 pub record AreRun (input : Input) (all : List (List ℕ)) (before after : Option (List ℕ)) : Type 0 where
@@ -95,7 +105,6 @@ pub record StopsAtFault (input : Input) (bytes left : List ℕ) (before after : 
 pub record PassesInOpening (input : Input) (limit : Limit) (before after : Option (List ℕ)) : Type 0 where
   pub passes : (run (opening_of input)).over ≡ Some limit
   pub written : Appends before after (output_of input (opening_of input))
-  pub holds : RunHoldsThroughout (opening_of input)
 
 -- The run passes the limit in this line and not before. Its output is written: it has the events before the one that passes the
 -- limit.
@@ -108,12 +117,12 @@ pub record PassesAtLine (input : Input) (all : List (List ℕ)) (limit : Limit) 
   pub lines : List ScheduleLine
   pub stands : StandsFor input earlier lines
   pub within : (run lines).over ≡ None
-  pub earlier_holds : RunHoldsThroughout lines
   pub longer : List ScheduleLine
   pub next : StandsFor input (earlier ++ bytes ∷ []) longer
   pub passes : (run longer).over ≡ Some limit
+  pub fresh : List ℕ
+  pub more : output_of input longer ≡ output_of input lines ++ fresh
   pub written : Appends before after (output_of input longer)
-  pub holds : RunHoldsThroughout longer
 
 -- the program stops where the run passes this limit
 abbrev pub StopsAtLimit : Input → List (List ℕ) → Limit → Option (List ℕ) → Option (List ℕ) → Type 0
@@ -127,4 +136,3 @@ pub record WritesFront (input : Input) (all : List (List ℕ)) (before after : O
   pub lines : List ScheduleLine
   pub stands : StandsFor input earlier lines
   pub written : AppendsFront before after (output_of input lines)
-  pub holds : RunHoldsThroughout lines

@@ -15,7 +15,8 @@ use Rattle.locus_main.specs.declared.status.Status.{Status}
 use Rattle.locus_main.specs.declared.status.Status.TheVariants as status
 use Rattle.locus_main.specs.declared.status.Limited.TheVariants.{Line, Lines}
 use Rattle.locus_main.specs.Codes.{limited}
-use Rattle.locus_main.specs.Inputs.{Input, StandsFor, output_of}
+use Rattle.locus_main.specs.Inputs.{Input, StandsFor}
+use Rattle.locus_main.specs.Runs.{output_of}
 
 -- what a run comes to where the line of this number is not done
 abbrev pub status_of_line : RunFault → ℕ → Status

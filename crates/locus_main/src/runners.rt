@@ -3,7 +3,8 @@ ghost use Rattle.schedule_lines.specs.declared.line.ScheduleLine.{ScheduleLine};
 ghost use Rattle.the_run.specs.Runs.{run};
 ghost use Rattle.run_book.specs.Ledgers.{limit_in};
 ghost use Rattle.world.specs.declared.fault.WorldFault.{WorldFault};
-ghost use Rattle.locus_main.specs.Inputs.{Input, MayEndAfter, output_of};
+ghost use Rattle.locus_main.specs.Inputs.{Input, MayEndAfter};
+ghost use Rattle.locus_main.specs.Runs.{output_of};
 ghost use Rattle.locus_main.specs.Runs.{Refuses};
 ghost use Rattle.locus_main.specs.Turns.{RunsOn};
 

@@ -4,9 +4,11 @@ ghost use Rattle.the_run.specs.Runs.{run as run_of};
 ghost use Rattle.the_run.specs.Commands.{load_lines, load_text};
 ghost use Rattle.generated_load.specs.Draws.{draws_of};
 ghost use Rattle.command_words.specs.Words.{IsCommand};
-ghost use Rattle.headline_laws.specs.Holds.{RunHoldsThroughout};
+ghost use Rattle.headline_promise_laws.specs.of_headline_laws.TheRun.{TheRun};
 ghost use Rattle.locus_main.specs.Codes.{ends_written};
 ghost use Rattle.locus_main.specs.Inputs.Input.{Schedule, Calls};
+ghost use Rattle.locus_main.specs.Holds.{Holds, HoldsWithin};
+ghost use Rattle.locus_main.specs.Keeps.{CommandKeeps, CommandRuns};
 ghost use Rattle.locus_main.specs.Promises.{LinePromises, LoadPromises};
 
 use crate::commands::{make, run, tree};
@@ -30,8 +32,12 @@ pub fn locus<S: Source, K: Sink>(
     ensures run { IsCommand words.now Command.Run → LinePromises Schedule result (S.left source.old) (S.left source.new) (K.taken sink.old) (K.taken sink.new) }
     ensures tree { IsCommand words.now Command.Tree → LinePromises Calls result (S.left source.old) (S.left source.new) (K.taken sink.old) (K.taken sink.new) }
     ensures make { (number events : ℕ) → IsCommand words.now (Command.Make number events) → LoadPromises (run_of (load_lines (draws_of number events))).over (load_text (draws_of number events)) result (K.taken sink.old) (K.taken sink.new) }
-    ensures load_holds { (number events : ℕ) → IsCommand words.now (Command.Make number events) → RunHoldsThroughout (load_lines (draws_of number events)) }
     ensures asks_nothing { (number events : ℕ) → IsCommand words.now (Command.Make number events) → source.new ≡ source.old }
+
+    // What is promised of the run, and, without a word of it, of the one trace of which the output is written: a field for each promise.
+    // Whoever reads one needs no other.
+    ensures the_run { CommandRuns TheRun words.now (S.left source.old) }
+    ensures holds { CommandKeeps Holds HoldsWithin words.now result (S.left source.old) (K.taken sink.old) (K.taken sink.new) }
 
     // Words that are no command touch nothing.
     ensures words { result ≡ Status.BadWords → (c : Command) → IsCommand words.now c → ⊥ }

@@ -1,5 +1,5 @@
 -- The disks of the lawful trace and the rows of cut calls, record by record.
-use Rattle.std.proofs.Common.{◌≡◌, ◌≢◌, ℕ, Bool, true, false, cond, ◌||◌, List, [], ◌∷◌, Option, Some, refl, sym, ◌∙◌, ap, subst}
+use Rattle.std.proofs.Common.{◌≡◌, ◌≢◌, ℕ, Bool, true, cond, ◌||◌, List, [], ◌∷◌, Option, Some, refl, sym, ◌∙◌, ap, subst}
 use Rattle.std.specs.Option.{is_some}
 use Rattle.role_steps.proofs.of_plain_facts.Numbers.{apart_test, equal_self}
 use Rattle.role_steps.proofs.of_plain_facts.Tests.{false_true, or_second}

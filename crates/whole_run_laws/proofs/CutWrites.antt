@@ -1,7 +1,6 @@
 -- A version that is written, as the lawful trace counts it and as the disk has it: whole, cut off on the disk, and cut off before.
 use Rattle.std.proofs.Common.{◌≡◌, ◌≤◌, ◌<◌, ℕ, ◌+◌, ◌-◌, nat_lt, Bool, true, false, cond, ◌&&◌, [], ◌∷◌, length, Option, Some, None, refl, sym, ◌∙◌, ap, subst, arith}
 use Rattle.std.proofs.lemmas.Bool.{le-leb, le-ltb, lt-ltb}
-use Rattle.std.proofs.lemmas.Bool.Decides.{nat_tests}
 use Rattle.role_steps.proofs.of_plain_facts.Numbers.{less, not_less}
 use Rattle.locus_ids.specs.declared.ids.FileId.{FileId}
 use Rattle.disk_calls.specs.Versions.{blocks, are_both_open, are_left_open}

@@ -39,7 +39,7 @@ use Rattle.run_laws.proofs.Run.{found_among}
 use Rattle.orderly_traces.proofs.of_orderly_laws.Counts.{Counted, acts_counts, taken_counts, counted_kept, first_counts}
 use Rattle.orderly_traces.proofs.of_orderly_laws.Rounds.{next_among}
 use Rattle.orderly_traces.proofs.Spans.{world, next_world, one_more, before_at}
-use Rattle.whole_run_laws.specs.Rounds.{LargeRoundsEnd}
+use Rattle.promises.specs.Progress.{LargeRoundsEnd}
 
 -- ---- records that aren't the end of a round ----
 

@@ -7,7 +7,7 @@ ghost use Rattle.schedule_lines.specs.declared.line.ScheduleLine.{ScheduleLine};
 ghost use Rattle.the_run.specs.Runs.{run, run_in};
 ghost use Rattle.row_laws.specs.Shown.{trace_of};
 ghost use Rattle.whole_run_laws.specs.Disks.{DisksHold};
-ghost use Rattle.whole_run_laws.specs.Rounds.{LargeRoundsEnd};
+ghost use Rattle.promises.specs.Progress.{LargeRoundsEnd};
 
 /// Each disk, of a running site or a stopped one, holds of each file just the version that its site has by the trace, whole: kind,
 /// sites, stamp, written vector, bytes; and no copy where its site has none.

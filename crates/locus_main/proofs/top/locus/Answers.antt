@@ -1,8 +1,9 @@
 use Rattle.std.proofs.Common.{ℕ, Err, ap, refl, ◌∙◌, inl, inr}
 use Rattle.std.proofs.lemmas.Bool.{false≢true}
 use Rattle.the_run.specs.Runs.{run}
-use Rattle.headline_laws.proofs.Whole.{run_holds_throughout}
-use Rattle.input_order_laws.proofs.Loads.{generated_in_order}
+use Rattle.headline_promise_laws.specs.of_headline_laws.TheRun.{TheRun}
+use Rattle.headline_promise_laws.proofs.of_headline_laws.Whole.{the_run}
+use Rattle.locus_main.proofs.Keeps.{keeps_all, command_runs}
 use Rattle.the_run.specs.Commands.{load_lines, load_text}
 use Rattle.generated_load.specs.Draws.{draws_of}
 use Rattle.command_words.specs.declared.command.Command.TheVariants.{Run, Tree, Make}
@@ -25,14 +26,17 @@ returns-in-Ok-Run-clause-tree g c = λ is. not_another c.args.words.now Run Tree
 pub returns-in-Ok-Run-clause-make : goal.returns-in-Ok-Run-clause-make
 returns-in-Ok-Run-clause-make g c = λ number events is. not_another c.args.words.now Run (Make number events) (run_is_no_load number events) (read_as c.args.words.now _ Run c.in-Ok-Run.field-0-is c.in-Ok-Run.ensures.command) is
 
-pub returns-in-Ok-Run-clause-load_holds : goal.returns-in-Ok-Run-clause-load_holds
-returns-in-Ok-Run-clause-load_holds g c = λ number events is. run_holds_throughout (load_lines (draws_of number events)) (generated_in_order number events)
+pub returns-in-Ok-Run-clause-the_run : goal.returns-in-Ok-Run-clause-the_run
+returns-in-Ok-Run-clause-the_run g c = command_runs TheRun the_run _ _
 
 pub returns-in-Ok-Run-clause-asks_nothing : goal.returns-in-Ok-Run-clause-asks_nothing
 returns-in-Ok-Run-clause-asks_nothing g c = λ number events is. not_another c.args.words.now Run (Make number events) (run_is_no_load number events) (read_as c.args.words.now _ Run c.in-Ok-Run.field-0-is c.in-Ok-Run.ensures.command) is
 
 pub returns-in-Ok-Run-clause-words : goal.returns-in-Ok-Run-clause-words
 returns-in-Ok-Run-clause-words g c = λ e command is. absurd (c.run.ensures.words e)
+
+pub returns-in-Ok-Run-clause-holds : goal.returns-in-Ok-Run-clause-holds
+returns-in-Ok-Run-clause-holds g c = keeps_all _ _ _ _ _ _ (returns-in-Ok-Run-clause-words g c) (returns-in-Ok-Run-clause-run g c) (returns-in-Ok-Run-clause-tree g c) (returns-in-Ok-Run-clause-make g c)
 
 pub returns-in-Ok-Run-clause-no_command : goal.returns-in-Ok-Run-clause-no_command
 returns-in-Ok-Run-clause-no_command g c = λ none. absurd (none Run (read_as c.args.words.now _ Run c.in-Ok-Run.field-0-is c.in-Ok-Run.ensures.command))
@@ -63,14 +67,17 @@ returns-in-Ok-Tree-clause-tree g c = λ is. c.tree.ensures.promises
 pub returns-in-Ok-Tree-clause-make : goal.returns-in-Ok-Tree-clause-make
 returns-in-Ok-Tree-clause-make g c = λ number events is. not_another c.args.words.now Tree (Make number events) (tree_is_no_load number events) (read_as c.args.words.now _ Tree c.in-Ok-Tree.field-0-is c.in-Ok-Tree.ensures.command) is
 
-pub returns-in-Ok-Tree-clause-load_holds : goal.returns-in-Ok-Tree-clause-load_holds
-returns-in-Ok-Tree-clause-load_holds g c = λ number events is. run_holds_throughout (load_lines (draws_of number events)) (generated_in_order number events)
+pub returns-in-Ok-Tree-clause-the_run : goal.returns-in-Ok-Tree-clause-the_run
+returns-in-Ok-Tree-clause-the_run g c = command_runs TheRun the_run _ _
 
 pub returns-in-Ok-Tree-clause-asks_nothing : goal.returns-in-Ok-Tree-clause-asks_nothing
 returns-in-Ok-Tree-clause-asks_nothing g c = λ number events is. not_another c.args.words.now Tree (Make number events) (tree_is_no_load number events) (read_as c.args.words.now _ Tree c.in-Ok-Tree.field-0-is c.in-Ok-Tree.ensures.command) is
 
 pub returns-in-Ok-Tree-clause-words : goal.returns-in-Ok-Tree-clause-words
 returns-in-Ok-Tree-clause-words g c = λ e command is. absurd (c.tree.ensures.words e)
+
+pub returns-in-Ok-Tree-clause-holds : goal.returns-in-Ok-Tree-clause-holds
+returns-in-Ok-Tree-clause-holds g c = keeps_all _ _ _ _ _ _ (returns-in-Ok-Tree-clause-words g c) (returns-in-Ok-Tree-clause-run g c) (returns-in-Ok-Tree-clause-tree g c) (returns-in-Ok-Tree-clause-make g c)
 
 pub returns-in-Ok-Tree-clause-no_command : goal.returns-in-Ok-Tree-clause-no_command
 returns-in-Ok-Tree-clause-no_command g c = λ none. absurd (none Tree (read_as c.args.words.now _ Tree c.in-Ok-Tree.field-0-is c.in-Ok-Tree.ensures.command))
@@ -106,14 +113,17 @@ returns-in-Ok-Make-clause-make g c = λ number events is.
     for_load (λ (n e : ℕ). LoadPromises (run (load_lines (draws_of n e))).over (load_text (draws_of n e)) c.make.result (g.K.Sink.taken c.args.sink.now) (g.K.Sink.taken c.make.new.sink))
     _ _ number events (one_command c.args.words.now (Make c.in-Ok-Make.number c.in-Ok-Make.events) (Make number events) (read_as c.args.words.now _ (Make c.in-Ok-Make.number c.in-Ok-Make.events) c.in-Ok-Make.field-0-is c.in-Ok-Make.ensures.command) is) c.make.ensures.promises
 
-pub returns-in-Ok-Make-clause-load_holds : goal.returns-in-Ok-Make-clause-load_holds
-returns-in-Ok-Make-clause-load_holds g c = λ number events is. run_holds_throughout (load_lines (draws_of number events)) (generated_in_order number events)
+pub returns-in-Ok-Make-clause-the_run : goal.returns-in-Ok-Make-clause-the_run
+returns-in-Ok-Make-clause-the_run g c = command_runs TheRun the_run _ _
 
 pub returns-in-Ok-Make-clause-asks_nothing : goal.returns-in-Ok-Make-clause-asks_nothing
 returns-in-Ok-Make-clause-asks_nothing g c = λ number events is. refl
 
 pub returns-in-Ok-Make-clause-words : goal.returns-in-Ok-Make-clause-words
 returns-in-Ok-Make-clause-words g c = λ e command is. absurd (c.make.ensures.words e)
+
+pub returns-in-Ok-Make-clause-holds : goal.returns-in-Ok-Make-clause-holds
+returns-in-Ok-Make-clause-holds g c = keeps_all _ _ _ _ _ _ (returns-in-Ok-Make-clause-words g c) (returns-in-Ok-Make-clause-run g c) (returns-in-Ok-Make-clause-tree g c) (returns-in-Ok-Make-clause-make g c)
 
 pub returns-in-Ok-Make-clause-no_command : goal.returns-in-Ok-Make-clause-no_command
 returns-in-Ok-Make-clause-no_command g c = λ none. absurd (none (Make c.in-Ok-Make.number c.in-Ok-Make.events) (read_as c.args.words.now _ (Make c.in-Ok-Make.number c.in-Ok-Make.events) c.in-Ok-Make.field-0-is c.in-Ok-Make.ensures.command))
@@ -144,14 +154,17 @@ returns-in-Err-Bad-clause-tree g c = λ is. absurd (c.read_words.ensures.bad (c.
 pub returns-in-Err-Bad-clause-make : goal.returns-in-Err-Bad-clause-make
 returns-in-Err-Bad-clause-make g c = λ number events is. absurd (c.read_words.ensures.bad (c.in-Err-Bad.is ∙ ap Err c.in-Err-Bad.field-0-is) (Make number events) is)
 
-pub returns-in-Err-Bad-clause-load_holds : goal.returns-in-Err-Bad-clause-load_holds
-returns-in-Err-Bad-clause-load_holds g c = λ number events is. run_holds_throughout (load_lines (draws_of number events)) (generated_in_order number events)
+pub returns-in-Err-Bad-clause-the_run : goal.returns-in-Err-Bad-clause-the_run
+returns-in-Err-Bad-clause-the_run g c = command_runs TheRun the_run _ _
 
 pub returns-in-Err-Bad-clause-asks_nothing : goal.returns-in-Err-Bad-clause-asks_nothing
 returns-in-Err-Bad-clause-asks_nothing g c = λ number events is. absurd (c.read_words.ensures.bad (c.in-Err-Bad.is ∙ ap Err c.in-Err-Bad.field-0-is) (Make number events) is)
 
 pub returns-in-Err-Bad-clause-words : goal.returns-in-Err-Bad-clause-words
 returns-in-Err-Bad-clause-words g c = λ e command is. c.read_words.ensures.bad (c.in-Err-Bad.is ∙ ap Err c.in-Err-Bad.field-0-is) command is
+
+pub returns-in-Err-Bad-clause-holds : goal.returns-in-Err-Bad-clause-holds
+returns-in-Err-Bad-clause-holds g c = keeps_all _ _ _ _ _ _ (returns-in-Err-Bad-clause-words g c) (returns-in-Err-Bad-clause-run g c) (returns-in-Err-Bad-clause-tree g c) (returns-in-Err-Bad-clause-make g c)
 
 pub returns-in-Err-Bad-clause-no_command : goal.returns-in-Err-Bad-clause-no_command
 returns-in-Err-Bad-clause-no_command g c = λ none. inl refl
@@ -182,14 +195,17 @@ returns-in-Err-NoMemory-clause-tree g c = λ is. for_memory Calls _ _ _ _ (Nothi
 pub returns-in-Err-NoMemory-clause-make : goal.returns-in-Err-NoMemory-clause-make
 returns-in-Err-NoMemory-clause-make g c = λ number events is. no_load _ _ _
 
-pub returns-in-Err-NoMemory-clause-load_holds : goal.returns-in-Err-NoMemory-clause-load_holds
-returns-in-Err-NoMemory-clause-load_holds g c = λ number events is. run_holds_throughout (load_lines (draws_of number events)) (generated_in_order number events)
+pub returns-in-Err-NoMemory-clause-the_run : goal.returns-in-Err-NoMemory-clause-the_run
+returns-in-Err-NoMemory-clause-the_run g c = command_runs TheRun the_run _ _
 
 pub returns-in-Err-NoMemory-clause-asks_nothing : goal.returns-in-Err-NoMemory-clause-asks_nothing
 returns-in-Err-NoMemory-clause-asks_nothing g c = λ number events is. refl
 
 pub returns-in-Err-NoMemory-clause-words : goal.returns-in-Err-NoMemory-clause-words
 returns-in-Err-NoMemory-clause-words g c = λ e command is. absurd (cc)
+
+pub returns-in-Err-NoMemory-clause-holds : goal.returns-in-Err-NoMemory-clause-holds
+returns-in-Err-NoMemory-clause-holds g c = keeps_all _ _ _ _ _ _ (returns-in-Err-NoMemory-clause-words g c) (returns-in-Err-NoMemory-clause-run g c) (returns-in-Err-NoMemory-clause-tree g c) (returns-in-Err-NoMemory-clause-make g c)
 
 pub returns-in-Err-NoMemory-clause-no_command : goal.returns-in-Err-NoMemory-clause-no_command
 returns-in-Err-NoMemory-clause-no_command g c = λ none. inr refl

@@ -1,0 +1,131 @@
+-- A call that uses or closes an instance begins at a descriptor of its process that stands for it.
+use Rattle.std.proofs.Common.{◌≡◌, ℕ, Bool, true, false, cond, ◌&&◌, Option, Some, None, refl, ◌∙◌, ap}
+use Rattle.locus_ids.specs.declared.ids.EpochId.{EpochId}
+use Rattle.locus_ids.specs.declared.ids.Serial.{Serial}
+use Rattle.locus_ids.specs.declared.refusal.Refusal.{Refusal}
+use Rattle.locus_ids.specs.declared.refusal.Refusal.TheVariants as refusal
+use Rattle.commit_graph.specs.Grants.{is_read}
+use Rattle.trace_book.specs.Same.{same_epoch, same_serial}
+use Rattle.trace_book.specs.declared.call.Call.{Call}
+use Rattle.trace_book.specs.declared.call.Call.TheVariants as call
+use Rattle.trace_book.specs.declared.descriptor.Beginning.{Beginning}
+use Rattle.trace_book.specs.declared.descriptor.Beginning.TheVariants as begins
+use Rattle.trace_book.specs.declared.descriptor.Descriptor.{Descriptor}
+use Rattle.call_rules.specs.Descriptors.{is_in, begins_on, begins_walk, begins_open, beginning, lowest_free}
+use Rattle.call_rules.specs.Words.{is_too_long}
+use Rattle.lawful_trace.specs.Tables.{uses_by}
+use Rattle.past_laws.specs.Standing.{BeginsWell}
+use Rattle.past_laws.proofs.Names.{false_true, epoch_eq, serial_eq}
+
+-- a close is of this number
+abbrev pub ClosesNumber : Call → ℕ → Type 0
+ClosesNumber (call.Close n) fd = n ≡ fd
+ClosesNumber _ fd = Unit {0}
+
+pub record FromDescriptor (table : ℕ → Option Descriptor) (now : Option EpochId) (words : Call) (e : EpochId) (i : Serial) : Type 0 where
+  pub fd : ℕ
+  pub stands : Descriptor
+  pub found : table fd ≡ Some stands
+  pub epoch_is : stands.epoch ≡ e
+  pub serial_is : stands.inst ≡ i
+  pub inside : now ≡ Some e
+  pub closes : ClosesNumber words fd
+
+denied_uses : {A : Type 0} (why : Refusal) (e : EpochId) (i : Serial) → begins.Denied why ≡ begins.Uses e i → A
+denied_uses why e i k = absurd (cc)
+
+uses_epoch : (e g : EpochId) (i j : Serial) → begins.Uses e i ≡ begins.Uses g j → e ≡ g
+uses_epoch e g i j k = cc
+
+uses_serial : (e g : EpochId) (i j : Serial) → begins.Uses e i ≡ begins.Uses g j → i ≡ j
+uses_serial e g i j k = cc
+
+walk_uses : {A : Type 0} (now : Option EpochId) (e : EpochId) (i : Serial) → begins_walk now ≡ begins.Uses e i → A
+walk_uses None e i k = absurd (cc)
+walk_uses (Some at) e i k = absurd (cc)
+
+open_uses : {A : Type 0} (now : Option EpochId) (free : Option ℕ) (e : EpochId) (i : Serial) → begins_open now free ≡ begins.Uses e i → A
+open_uses now None e i k = absurd (cc)
+open_uses now (Some fd) e i k = walk_uses now e i k
+
+in_now : (now : Option EpochId) (e : EpochId) → is_in now e ≡ true → now ≡ Some e
+in_now None e t = false_true t
+in_now (Some at) e t = ap Some (epoch_eq at e t)
+
+on_uses : (changes : Bool) (table : ℕ → Option Descriptor) (now : Option EpochId) (fd : ℕ) (words : Call) (e : EpochId) (i : Serial) → ClosesNumber words fd → (o : Option Descriptor) → table fd ≡ o → begins_on changes now o ≡ begins.Uses e i → FromDescriptor table now words e i
+on_uses changes table now fd words e i number None is k = denied_uses _ e i k
+on_uses changes table now fd words e i number (Some x) is k = at changes (is_in now x.epoch) (is_read x.mode) refl refl k
+  where
+    from : is_in now x.epoch ≡ true → begins.Uses x.epoch x.inst ≡ begins.Uses e i → FromDescriptor table now words e i
+    from t u = record { fd = fd; stands = x; found = is; epoch_is = uses_epoch x.epoch e x.inst i u; serial_is = uses_serial x.epoch e x.inst i u; inside = in_now now x.epoch t ∙ ap Some (uses_epoch x.epoch e x.inst i u); closes = number }
+
+    at : (c a b : Bool) → is_in now x.epoch ≡ a → is_read x.mode ≡ b → begins_on c now (Some x) ≡ begins.Uses e i → FromDescriptor table now words e i
+    at true true true p q k = denied_uses _ e i (rw q at (rw p at k))
+    at true true false p q k = from p (rw q at (rw p at k))
+    at false true b p q k = from p (rw p at k)
+    at c false b p q k = denied_uses _ e i (rw p at k)
+
+pub uses_from : (table : ℕ → Option Descriptor) (now : Option EpochId) (words : Call) (e : EpochId) (i : Serial) → beginning table now words ≡ begins.Uses e i → FromDescriptor table now words e i
+uses_from table now (call.Open path mode) e i k = open_uses now (lowest_free table) e i k
+uses_from table now (call.Read fd at len) e i k = on_uses false table now fd (call.Read fd at len) e i tt (table fd) refl k
+uses_from table now (call.Write fd at bytes) e i k = over (is_too_long (call.Write fd at bytes)) k
+  where
+    over : (b : Bool) → cond b (begins.Denied refusal.TooLong) (begins_on true now (table fd)) ≡ begins.Uses e i → FromDescriptor table now (call.Write fd at bytes) e i
+    over true m = denied_uses _ e i m
+    over false m = on_uses true table now fd (call.Write fd at bytes) e i tt (table fd) refl m
+uses_from table now (call.Cut fd len) e i k = on_uses true table now fd (call.Cut fd len) e i tt (table fd) refl k
+uses_from table now (call.Commit fd) e i k = on_uses true table now fd (call.Commit fd) e i tt (table fd) refl k
+uses_from table now (call.Abort fd) e i k = on_uses true table now fd (call.Abort fd) e i tt (table fd) refl k
+uses_from table now (call.Close fd) e i k = on_uses false table now fd (call.Close fd) e i refl (table fd) refl k
+uses_from table now (call.Create path sites) e i k = walk_uses now e i k
+uses_from table now (call.MakeDir path) e i k = walk_uses now e i k
+uses_from table now (call.Unlink path) e i k = walk_uses now e i k
+uses_from table now (call.RemoveDir path) e i k = walk_uses now e i k
+uses_from table now (call.Rename path name) e i k = walk_uses now e i k
+uses_from table now (call.List path) e i k = walk_uses now e i k
+uses_from table now (call.Stat path) e i k = walk_uses now e i k
+uses_from table now (call.Mend file) e i k = walk_uses now e i k
+
+pub uses_is : (b : Beginning) (e : EpochId) (i : Serial) → uses_by b e i ≡ true → b ≡ begins.Uses e i
+uses_is (begins.Uses at inst) e i t = over (same_epoch at e) (same_serial inst i) refl refl t
+  where
+    over : (a b : Bool) → same_epoch at e ≡ a → same_serial inst i ≡ b → a && b ≡ true → begins.Uses at inst ≡ begins.Uses e i
+    over true true p q u = ap (λ (x : EpochId). begins.Uses x inst) (epoch_eq at e p) ∙ ap (begins.Uses e) (serial_eq inst i q)
+    over true false p q u = false_true u
+    over false b p q u = false_true u
+uses_is (begins.Denied why) e i t = false_true t
+uses_is begins.Walks e i t = false_true t
+
+-- ---- nothing is denied since the epoch has changed ----
+
+on_well : (changes : Bool) (now : Option EpochId) (o : Option Descriptor) → BeginsWell (begins_on changes now o)
+on_well changes now None = tt
+on_well changes now (Some x) = at changes (is_in now x.epoch) (is_read x.mode) refl refl
+  where
+    at : (c a b : Bool) → is_in now x.epoch ≡ a → is_read x.mode ≡ b → BeginsWell (begins_on c now (Some x))
+    at true true true p q = rw p (rw q tt)
+    at true true false p q = rw p (rw q tt)
+    at false true b p q = rw p tt
+    at c false b p q = rw p tt
+
+walk_well : (now : Option EpochId) → BeginsWell (begins_walk now)
+walk_well None = tt
+walk_well (Some e) = tt
+
+open_well : (now : Option EpochId) (free : Option ℕ) → BeginsWell (begins_open now free)
+open_well now None = tt
+open_well now (Some fd) = walk_well now
+
+pub beginning_well : (table : ℕ → Option Descriptor) (now : Option EpochId) (words : Call) → BeginsWell (beginning table now words)
+beginning_well table now (call.Open path mode) = open_well now (lowest_free table)
+beginning_well table now (call.Read fd at len) = on_well false now (table fd)
+beginning_well table now (call.Write fd at bytes) = over (is_too_long (call.Write fd at bytes))
+  where
+    over : (b : Bool) → BeginsWell (cond b (begins.Denied refusal.TooLong) (begins_on true now (table fd)))
+    over true = tt
+    over false = on_well true now (table fd)
+beginning_well table now (call.Cut fd len) = on_well true now (table fd)
+beginning_well table now (call.Commit fd) = on_well true now (table fd)
+beginning_well table now (call.Abort fd) = on_well true now (table fd)
+beginning_well table now (call.Close fd) = on_well false now (table fd)
+beginning_well table now _ = walk_well now

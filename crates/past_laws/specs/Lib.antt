@@ -1,0 +1,7 @@
+pub mod Made
+pub mod Firsts
+pub mod Packed
+pub mod Standing
+pub mod Due
+pub mod Agreement
+pub mod Along

@@ -1,0 +1,12 @@
+pub mod Past
+pub mod Tree
+pub mod After
+pub mod Same
+pub mod Rows
+pub mod Traces
+pub mod Stops
+pub mod Lines
+pub mod Headline
+pub mod Beside
+pub mod Progress
+pub mod Convergence

@@ -1,0 +1,14 @@
+pub mod Traced
+pub mod Writing
+pub mod Placed
+pub mod Stepping
+pub mod Versions
+pub mod Boots
+pub mod Arming
+pub mod Events
+pub mod Course
+pub mod Asking
+pub mod Bounds
+pub mod Sampled
+pub mod Lawful
+pub mod Early

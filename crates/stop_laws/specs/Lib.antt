@@ -1,0 +1,3 @@
+pub mod Stops
+pub mod Rows
+pub mod Samples

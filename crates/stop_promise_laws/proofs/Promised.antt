@@ -1,0 +1,20 @@
+-- The promise of stops, of a trace whose records come so and whose cuts are exact by the folds.
+use Rattle.std.proofs.Common.{List, [], ◌∷◌, reverse}
+use Rattle.locus_ids.specs.declared.config.Config.{Config}
+use Rattle.schedule_lines.specs.Cluster.{config_of}
+use Rattle.schedule_lines.specs.declared.line.ScheduleLine.{ScheduleLine}
+use Rattle.tree_model.specs.Folds.{Trace}
+use Rattle.promises.specs.Stops.{Stops}
+use Rattle.past_laws.specs.Along.{EachComesSo, IsNamed}
+use Rattle.past_laws.proofs.Agreeing.{all_agrees}
+use Rattle.stop_laws.specs.Stops.{CutsAreExact}
+use Rattle.stop_promise_laws.specs.Alike.{EachAgreed}
+use Rattle.stop_promise_laws.proofs.Printed.{heeded}
+use Rattle.stop_promise_laws.proofs.Stopped.{each_is_cut}
+
+pub each_agreed : (c : Config) → IsNamed c → (trace : Trace) → EachComesSo c trace → EachAgreed c trace
+each_agreed c named [] k = tt
+each_agreed c named (r ∷ before) k = (record { comes = k.0; agrees = all_agrees c named before k.1 }, each_agreed c named before k.1)
+
+pub promised : (lines : List ScheduleLine) (trace : Trace) → IsNamed (config_of lines) → EachComesSo (config_of lines) trace → CutsAreExact (config_of lines) lines trace → Stops lines (reverse trace)
+promised lines trace named k exact = record { cuts = each_is_cut (config_of lines) lines trace (each_agreed (config_of lines) named trace k) exact.cuts; heeded = heeded (config_of lines) lines trace (each_agreed (config_of lines) named trace k) exact.heeds }
