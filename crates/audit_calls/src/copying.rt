@@ -1,0 +1,80 @@
+ghost use Rattle.std.specs.Prelude.{◌≡◌, ◌≤◌, length, take, IfOk};
+
+use call_rules::Answer;
+use call_scripts::Script;
+use locus_ids::NoMemory;
+use std::alloc::Global;
+use trace_book::{Beginning, Call};
+
+/// The script of a call that began so, once so many of its requests were answered.
+pub(crate) fn script_after(
+    alloc: Global,
+    words: &Call,
+    begins: &Beginning,
+    answers: &[Answer],
+) -> Result<Script, NoMemory>
+    ensures { IfOk result (λ s. s ≡ record { words = words.now; begins = begins.now; answers = answers.now }) }
+{
+    let words = words.copy()?;
+    let begins = copy_of_beginning(begins)?;
+    let mut script = Script::start(alloc, words, begins)?;
+    for answer in answers {
+        let answer = copy_of_answer(answer)?;
+        script.answer(answer)?;
+    }
+    Ok(script)
+}
+
+fn copy_of_beginning(begins: &Beginning) -> Result<Beginning, NoMemory>
+    ensures { IfOk result (λ made. made ≡ begins.now) }
+{
+    match begins {
+        Beginning::Denied { why } => {
+            let why = why.copy()?;
+            Ok(Beginning::Denied { why })
+        }
+        Beginning::Uses { epoch, inst } => Ok(Beginning::Uses {
+            epoch: *epoch,
+            inst: *inst,
+        }),
+        Beginning::Walks => Ok(Beginning::Walks),
+    }
+}
+
+fn copy_of_answer(answer: &Answer) -> Result<Answer, NoMemory>
+    ensures { IfOk result (λ made. made ≡ answer.now) }
+{
+    match answer {
+        Answer::Entered { ino, kind } => Ok(Answer::Entered {
+            ino: *ino,
+            kind: *kind,
+        }),
+        Answer::Showed { names } => {
+            let names = names.copy()?;
+            Ok(Answer::Showed { names })
+        }
+        Answer::Described { kind, size, stamp } => Ok(Answer::Described {
+            kind: *kind,
+            size: *size,
+            stamp: *stamp,
+        }),
+        Answer::Brought => Ok(Answer::Brought),
+        Answer::Opened { inst, ino } => Ok(Answer::Opened {
+            inst: *inst,
+            ino: *ino,
+        }),
+        Answer::Merging { inst, kept } => {
+            let kept = kept.copy()?;
+            Ok(Answer::Merging { inst: *inst, kept })
+        }
+        Answer::Did { result } => {
+            let result = result.copy()?;
+            Ok(Answer::Did { result })
+        }
+        Answer::Ended { stamp } => Ok(Answer::Ended { stamp: *stamp }),
+        Answer::Refused { why } => {
+            let why = why.copy()?;
+            Ok(Answer::Refused { why })
+        }
+    }
+}

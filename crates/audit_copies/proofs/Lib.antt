@@ -1,0 +1,5 @@
+pub mod Noting
+pub mod Splitting
+pub mod Parting
+pub mod Files
+pub mod Having

@@ -1,0 +1,23 @@
+use Rattle.std.proofs.Common.{◌<◌, length, arith}
+use Rattle.audit_epochs.specs.Changes.{acts_so}
+use Rattle.audit_epochs.proofs.Placing.{changed_there, changed_nowhere, in_rows, keys_stay}
+use Rattle.audit_epochs.proofs.epochs.Epochs.act.Goals as goal
+
+pub index_mut-row-requires : goal.index_mut-row-requires
+index_mut-row-requires c =
+    let l : c.in-Some.place < length c.self.inside.rows.items = in_rows c.args.epoch c.args.self.now c.self.inside.rows.items c.in-Some.place c.self.view_is c.in-Some.ensures in
+    omega (arith, l)
+
+pub invariant_of-self : goal.invariant_of-self
+invariant_of-self c = (keys_stay c.self.inside.places c.self.inside.rows.items c.in-Some.place c.index_mut-row.result.now c.act.new.self c.self.invariant.0 c.index_mut-row.ensures.value c.act.ensures.kept, c.self.invariant.1)
+
+pub invariant_of-self-in-Some : goal.invariant_of-self-in-Some
+invariant_of-self-in-Some c = (keys_stay c.self.inside.places c.self.inside.rows.items c.in-Some.place c.index_mut-row.result.now c.act.new.self c.self.invariant.0 c.index_mut-row.ensures.value c.act.ensures.kept, c.self.invariant.1)
+
+pub returns-in_ok-act-in-Some : goal.returns-in_ok-act-in-Some
+returns-in_ok-act-in-Some c =
+    changed_there c.args.epoch (acts_so c.args.inst c.args.op.now c.args.outcome.now c.args.work) c.args.self.now c.self.inside.rows.items c.self.inside.places c.in-Some.place c.index_mut-row.result.now c.act.new.self
+    c.self.view_is c.self.invariant.0 c.self.invariant.1 c.in-Some.ensures c.index_mut-row.ensures.value c.in_ok-act-in-Some.ensures.ok
+
+pub returns-in-None : goal.returns-in-None
+returns-in-None c = changed_nowhere c.args.epoch (acts_so c.args.inst c.args.op.now c.args.outcome.now c.args.work) c.args.self.now c.in-None.ensures

@@ -1,0 +1,3 @@
+pub mod Lacking
+pub mod Refusing
+pub mod Told

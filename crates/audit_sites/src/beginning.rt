@@ -1,0 +1,113 @@
+// Where an accepted call begins, by what the numbers of its process stand for.
+ghost use Rattle.std.specs.Prelude.{◌≡◌, ◌+◌, length, nat_lt};
+ghost use Rattle.locus_ids.specs.Sizes.{file_bytes_max};
+ghost use Rattle.commit_graph.specs.Grants.{is_read};
+ghost use Rattle.call_rules.specs.Descriptors.{beginning, begins_on, begins_open, begins_walk, is_in};
+ghost use Rattle.audit_sites.specs.Rows.{named_at};
+
+use crate::site::SiteRow;
+use locus_ids::sizes::FILE_BYTES;
+use locus_ids::{EpochId, Mode, Refusal};
+use trace_book::{Beginning, Call, Descriptor};
+
+impl SiteRow {
+    /// Where a call begins that the site accepts.
+    pub fn beginning(&self, process: u8, words: &Call) -> Beginning
+        ensures { result ≡ beginning (named_at self.now process) self.now.epoch words.now }
+    {
+        let now = self.epoch();
+        match words {
+            Call::Open { path: _, mode: _ } => begins_open(now, self.lowest_free(process)),
+            Call::Read { fd, at: _, len: _ } => {
+                begins_on(false, now, self.descriptor(process, *fd))
+            }
+            Call::Write { fd, at, bytes } => {
+                if is_past_greatest(*at, bytes.as_slice()) {
+                    return Beginning::Denied {
+                        why: Refusal::TooLong,
+                    };
+                }
+                begins_on(true, now, self.descriptor(process, *fd))
+            }
+            Call::Cut { fd, len: _ } => begins_on(true, now, self.descriptor(process, *fd)),
+            Call::Commit { fd } => begins_on(true, now, self.descriptor(process, *fd)),
+            Call::Abort { fd } => begins_on(true, now, self.descriptor(process, *fd)),
+            Call::Close { fd } => begins_on(false, now, self.descriptor(process, *fd)),
+            _ => begins_walk(now),
+        }
+    }
+}
+
+/// A write of these bytes would end past the greatest size.
+fn is_past_greatest(at: u32, bytes: &[u8]) -> bool
+    ensures { result ≡ nat_lt file_bytes_max (at + length bytes.now) }
+{
+    (FILE_BYTES as u32) < at || FILE_BYTES - (at as usize) < bytes.len()
+}
+
+/// A call on a descriptor: it must be open, of the epoch that the site is in, and not only read where the call changes the
+/// file, in this order.
+fn begins_on(changes: bool, now: Option<EpochId>, descriptor: Option<Descriptor>) -> Beginning
+    ensures { result ≡ begins_on changes now descriptor }
+{
+    let Some(descriptor) = descriptor else {
+        return Beginning::Denied {
+            why: Refusal::BadDescriptor,
+        };
+    };
+    if !is_in(now, descriptor.epoch) {
+        return Beginning::Denied {
+            why: Refusal::Stale {
+                epoch: descriptor.epoch,
+            },
+        };
+    }
+    if changes && is_read(descriptor.mode) {
+        return Beginning::Denied {
+            why: Refusal::ReadOnly,
+        };
+    }
+    Beginning::Uses {
+        epoch: descriptor.epoch,
+        inst: descriptor.inst,
+    }
+}
+
+fn is_in(now: Option<EpochId>, epoch: EpochId) -> bool
+    ensures { result ≡ is_in now epoch }
+{
+    match now {
+        Some(now) => now == epoch,
+        None => false,
+    }
+}
+
+fn is_read(mode: Mode) -> bool
+    ensures { result ≡ is_read mode }
+{
+    matches!(mode, Mode::Read)
+}
+
+/// A call that walks a path: the site must be in an epoch.
+fn begins_walk(now: Option<EpochId>) -> Beginning
+    ensures { result ≡ begins_walk now }
+{
+    match now {
+        Some(_) => Beginning::Walks,
+        None => Beginning::Denied {
+            why: Refusal::NoPartition,
+        },
+    }
+}
+
+/// An open wants a free descriptor, before that.
+fn begins_open(now: Option<EpochId>, free: Option<u16>) -> Beginning
+    ensures { result ≡ begins_open now free }
+{
+    match free {
+        Some(_) => begins_walk(now),
+        None => Beginning::Denied {
+            why: Refusal::NoDescriptor,
+        },
+    }
+}

@@ -1,0 +1,4 @@
+pub mod Put
+pub mod Roles
+pub mod Ranges
+pub mod Acts

@@ -1,0 +1,5 @@
+pub mod Few
+pub mod Each
+pub mod ByKind
+pub mod Boots
+pub mod Starts
