@@ -1,5 +1,5 @@
-//! What the audit of an input answers, as a definition over the lines of the input, and the text of an answer. The command states its
-//! promise by it, and so does the law that the trace of a run is answered yes. This room reads nothing.
+//! What the audit of an input answers, as a definition over the lines of the input, and the text of an answer. A command is to
+//! state its promise by it; the law that sound traces are answered yes does. This room reads nothing.
 #![tactic(auto)]
 
 mod answer;

@@ -1,5 +1,5 @@
-//! That the audit answers yes to a trace of which each record may follow those before it, and so to the trace of every run, as far as its
-//! records are texts. Theorems alone; this room has no running part.
+//! That the audit answers yes to a trace that is text, and of which each record comes as those of runs do, in its turn and at no lower line.
+//! That the trace of every run is such a one isn't put together here. Theorems alone; this room has no running part.
 #![tactic(auto)]
 
 mod answers;

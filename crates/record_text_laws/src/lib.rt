@@ -1,5 +1,5 @@
 //! Which numbers the records of a run say: those of their lines, of calls and of boots are in the ranges that a reader of traces asks for,
-//! and there are no more records than bytes of text. Theorems about the run alone; this room has no running part.
+//! and there are at most 134,217,728 records. Theorems about the run alone; this room has no running part.
 #![tactic(auto)]
 
 mod laws;
