@@ -49,6 +49,7 @@ pub fn only_writer(opened: &Instances, file: FileId) -> Option<&InstanceRow>
 }
 
 /// A version as a record of a commit tells it.
+#[derive(Clone, Copy)]
 pub struct Commit<'a> {
     pub site: u8,
     pub stamp: Stamp,

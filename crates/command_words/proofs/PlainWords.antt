@@ -1,5 +1,5 @@
 -- The words of a command are plain, and which lists of words are none.
-use Rattle.std.proofs.Common.{◌≡◌, ◌≤◌, ◌<◌, ◌^◌, ◌⊎◌, ◌==◌, ℕ, zero, suc, true, not, List, [], ◌∷◌, Some, get_or, length, codes, refl, sym, subst, arith, ⊎_elim}
+use Rattle.std.proofs.Common.{◌≡◌, ◌≤◌, ◌<◌, ◌^◌, ◌⊎◌, ◌==◌, ℕ, zero, suc, true, not, List, [], ◌∷◌, get_or, length, codes, refl, sym, subst, arith, ⊎_elim}
 use Rattle.std.specs.Char.{encode_utf8}
 use Rattle.std.specs.Fmt.{decimal}
 use Rattle.std.specs.List.{All}
@@ -10,7 +10,7 @@ use Rattle.std.proofs.lemmas.List.Elements.{All-nil}
 use Rattle.std.proofs.lemmas.Str.{IsUtf8-from_ascii}
 use Rattle.std.proofs.lemmas.Str.Parse.{IsNumeralModel, not_in_digits, numerals_by_value, tells_digits}
 use Rattle.command_words.specs.declared.command.Command.{Command}
-use Rattle.command_words.specs.declared.command.Command.TheVariants.{Make, Run, Tree}
+use Rattle.command_words.specs.declared.command.Command.TheVariants.{Audit, Make, Run, Tree}
 use Rattle.given_words.specs.Plain.{IsPlain, begins_plainly}
 use Rattle.command_words.specs.Words.{IsCommand}
 
@@ -39,6 +39,10 @@ tree_plain : IsPlain (codes "tree")
 unfolding encode_utf8
 tree_plain = ((codes "tree", (refl, refl)), refl)
 
+audit_plain : IsPlain (codes "audit")
+unfolding encode_utf8
+audit_plain = ((codes "audit", (refl, refl)), refl)
+
 make_plain : IsPlain (codes "make")
 unfolding encode_utf8
 make_plain = ((codes "make", (refl, refl)), refl)
@@ -51,6 +55,7 @@ one_more w ws p h (suc k) d lt = h k d (omega arith)
 pub command_plain : (words : List (List ℕ)) (c : Command) → IsCommand words c → All IsPlain words
 command_plain words Run e = subst (All IsPlain) (sym e) (one_more (codes "run") [] run_plain (All-nil IsPlain))
 command_plain words Tree e = subst (All IsPlain) (sym e) (one_more (codes "tree") [] tree_plain (All-nil IsPlain))
+command_plain words Audit e = subst (All IsPlain) (sym e) (one_more (codes "audit") [] audit_plain (All-nil IsPlain))
 command_plain words (Make n m) h =
     let small : m < 2 ^ 64 = omega (arith, h.3) in
     subst (All IsPlain) (sym h.0) (one_more (codes "make") (decimal n ∷ decimal m ∷ []) make_plain
@@ -61,6 +66,7 @@ pub out_of_range : (a b : List ℕ) (count : ℕ) → count < 2 ^ 64 → b ≡ d
     → (c : Command) → IsCommand (codes "make" ∷ a ∷ b ∷ []) c → ⊥
 out_of_range a b count small e out Run h = cc
 out_of_range a b count small e out Tree h = cc
+out_of_range a b count small e out Audit h = cc
 out_of_range a b count small e out (Make n m) h =
     let text : decimal count ≡ decimal m = cc in
     let low : m < 2 ^ 64 = omega (arith, h.3) in

@@ -17,6 +17,8 @@ pub enum Command {
     Run,
     /// Calls on a fixed cluster are answered.
     Tree,
+    /// A trace that anybody wrote is judged.
+    Audit,
     /// The generated load of this number is run, with so many events.
     Make { number: u64, events: u32 },
 }
@@ -66,6 +68,8 @@ fn lone_command(word: &str) -> Result<Command, WordsFault>
         Ok(Command::Run)
     } else if word == "tree" {
         Ok(Command::Tree)
+    } else if word == "audit" {
+        Ok(Command::Audit)
     } else {
         Err(WordsFault::Bad)
     }

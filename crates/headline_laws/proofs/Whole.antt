@@ -16,12 +16,12 @@ use Rattle.whole_run_laws.proofs.of_rest_laws.Run.{schedule_rows}
 use Rattle.whole_run_laws.proofs.of_rest_laws.Shown.{shown_entries}
 use Rattle.whole_run_laws.proofs.CutRun.{schedule_counted}
 use Rattle.row_laws.proofs.ArmsKept.{run_keeps_calls}
-use Rattle.convergence_laws.proofs.of_calm_laws.Calm.{round_carries}
-use Rattle.convergence_laws.proofs.of_calm_laws.CalmAnswerAnswered.{calm_left, rounds_answer}
-use Rattle.convergence_laws.proofs.DirectoriesRescued.{rescued, rescued_in_three}
-use Rattle.convergence_laws.proofs.TraceConverging.{converging}
-use Rattle.convergence_laws.proofs.TraceFlagged.{none_flagged}
-use Rattle.convergence_laws.proofs.TraceRescued.{undisturbed_by_trace, rescue_by_trace}
+use Rattle.promise_laws.proofs.of_convergence_laws.of_calm_laws.Calm.{round_carries}
+use Rattle.promise_laws.proofs.of_convergence_laws.of_calm_laws.CalmAnswerAnswered.{calm_left, rounds_answer}
+use Rattle.promise_laws.proofs.of_convergence_laws.DirectoriesRescued.{rescued, rescued_in_three}
+use Rattle.promise_laws.proofs.of_convergence_laws.TraceConverging.{converging}
+use Rattle.promise_laws.proofs.of_convergence_laws.TraceFlagged.{none_flagged}
+use Rattle.promise_laws.proofs.of_convergence_laws.TraceRescued.{undisturbed_by_trace, rescue_by_trace}
 use Rattle.whole_run_laws.proofs.Rounds.{large_rounds}
 use Rattle.headline_laws.specs.TheRun.{TheRun}
 use Rattle.headline_laws.specs.Rows.{RowsHold}

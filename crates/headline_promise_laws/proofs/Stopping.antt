@@ -12,8 +12,8 @@ use Rattle.the_run.specs.Runs.{run}
 use Rattle.row_laws.specs.Shown.{EachRecord, trace_of}
 use Rattle.promises.specs.Lines.{EachAsked}
 use Rattle.promises.specs.Stops.{IsCutWhereStopped, Stops, heeds_stops}
-use Rattle.stop_laws.specs.Stops.{IsCutRow}
-use Rattle.stop_laws.proofs.Course.{schedule_exact}
+use Rattle.stop_promise_laws.specs.of_stop_laws.Stops.{IsCutRow}
+use Rattle.stop_promise_laws.proofs.of_stop_laws.Course.{schedule_exact}
 use Rattle.stop_promise_laws.specs.Alike.{EachAgreed}
 use Rattle.stop_promise_laws.proofs.Promised.{each_agreed, promised}
 use Rattle.stop_promise_laws.proofs.Stopped.{cut_where_stopped}

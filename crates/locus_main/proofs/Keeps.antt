@@ -12,13 +12,14 @@ use Rattle.the_run.specs.Runs.{run}
 use Rattle.the_run.specs.Worlds.{Limit}
 use Rattle.the_run.specs.Worlds as world
 use Rattle.the_run.specs.Commands.{reply_line, counts_text, counts_onto, no_counts, load_lines, load_text}
-use Rattle.headline_promise_laws.specs.of_row_laws.Shown.{trace_of}
-use Rattle.headline_promise_laws.proofs.of_promise_laws.OneTrace.{trace_is_one}
-use Rattle.headline_promise_laws.proofs.of_headline_laws.Whole.{rows_hold, replies_hold, commits_hold, run_lawful, progress, convergence}
-use Rattle.headline_promise_laws.proofs.AskedFor.{run_asked_for}
-use Rattle.headline_promise_laws.proofs.FairRuns.{run_refusals}
-use Rattle.headline_promise_laws.proofs.Headlines.{run_keeps_headline}
-use Rattle.headline_promise_laws.proofs.Stopping.{run_stops}
+use Rattle.audited_runs.specs.of_headline_promise_laws.of_row_laws.Shown.{trace_of}
+use Rattle.audited_runs.proofs.of_headline_promise_laws.of_promise_laws.OneTrace.{trace_is_one}
+use Rattle.audited_runs.proofs.of_headline_promise_laws.of_headline_laws.Whole.{rows_hold, replies_hold, commits_hold, run_lawful, progress, convergence}
+use Rattle.audited_runs.proofs.of_headline_promise_laws.AskedFor.{run_asked_for}
+use Rattle.audited_runs.proofs.of_headline_promise_laws.FairRuns.{run_refusals}
+use Rattle.audited_runs.proofs.of_headline_promise_laws.Headlines.{run_keeps_headline}
+use Rattle.audited_runs.proofs.of_headline_promise_laws.Stopping.{run_stops}
+use Rattle.audited_runs.specs.Answered.{IsAuditedWell}
 use Rattle.generated_load.specs.Draws.{draws_of}
 use Rattle.input_order_laws.proofs.Loads.{generated_in_order}
 use Rattle.command_words.specs.Words.{IsCommand}
@@ -26,20 +27,21 @@ use Rattle.command_words.specs.declared.command.Command.{Command}
 use Rattle.command_words.specs.declared.command.Command.TheVariants as command
 use Rattle.line_reader.specs.Reading.{lines_of, onto_whole, whole_lines, Between}
 use Rattle.locus_io.specs.Causes.{AppendsFront}
-use Rattle.locus_main.specs.Inputs.{Input, StandsFor, opening_of}
-use Rattle.locus_main.specs.Runs.{output_of}
-use Rattle.locus_main.specs.Inputs.Input.{Schedule, Calls}
-use Rattle.locus_main.specs.Promises.{LinePromises, LoadPromises}
-use Rattle.locus_main.specs.Runs.{IsWholeRun, PassesAtLine, StopsAtFault, StopsAtLimit, WritesFront}
-use Rattle.locus_main.specs.Codes.{limited}
+use Rattle.input_run.specs.Inputs.{Input, StandsFor, opening_of}
+use Rattle.input_run.specs.Runs.{output_of}
+use Rattle.input_run.specs.Inputs.Input.{Schedule, Calls}
+use Rattle.input_run.specs.Promises.{LinePromises, LoadPromises}
+use Rattle.input_run.specs.Runs.{IsWholeRun, PassesAtLine, StopsAtFault, StopsAtLimit, WritesFront}
+use Rattle.input_run.specs.Codes.{limited}
 use Rattle.locus_main.specs.Holds.{Holds, HoldsWithin}
 use Rattle.locus_main.specs.Keeps.{Promise, Keeps, KeepsBefore, LoadKeeps, CommandKeeps, CommandRuns, EndsAt, command_of, written_of, counts_of, ends_by_input, ends_told}
-use Rattle.locus_main.specs.declared.status.Status.{Status}
-use Rattle.locus_main.specs.declared.status.Status.TheVariants as status
-use Rattle.locus_main.specs.declared.status.Limited.TheVariants.{Packets, Bytes, Trace, Line, Lines}
-use Rattle.locus_main.proofs.Inputs.{stands_first}
-use Rattle.locus_main.proofs.Order.{stands_in_order}
-use Rattle.locus_main.proofs.Told.{AppendsFront-whole, if_some}
+use Rattle.input_run.specs.declared.status.Status.{Status}
+use Rattle.input_run.specs.declared.status.Status.TheVariants as status
+use Rattle.input_run.specs.declared.status.Limited.TheVariants.{Packets, Bytes, Trace, Line, Lines}
+use Rattle.input_run.proofs.Inputs.{stands_first}
+use Rattle.input_run.proofs.Order.{stands_in_order}
+use Rattle.line_reader.proofs.ReadLines.{if_some}
+use Rattle.input_run.proofs.Told.{AppendsFront-whole}
 
 -- what is written of the run of these lines is written of its trace
 output_is : (input : Input) (lines : List ScheduleLine) → output_of input lines ≡ written_of input (trace_of (run lines))
@@ -175,15 +177,15 @@ command_keeps P Q words result laws source left t u good as_run as_tree as_load 
     of_input Calls is = keeps P Q Calls result laws source left t u (λ e. good e command.Tree is) (as_tree is)
 
 -- all promises
-pub keeps_all : (words : List (List ℕ)) (result : Status) (source left t u : Option (List ℕ)) → (result ≡ status.BadWords → (c : Command) → IsCommand words c → ⊥) → (IsCommand words command.Run → LinePromises Schedule result source left t u) → (IsCommand words command.Tree → LinePromises Calls result source left t u)
+pub keeps_all : ((lines : List ScheduleLine) → AreInOrder lines → IsAuditedWell lines (trace_of (run lines))) → (words : List (List ℕ)) (result : Status) (source left t u : Option (List ℕ)) → (result ≡ status.BadWords → (c : Command) → IsCommand words c → ⊥) → (IsCommand words command.Run → LinePromises Schedule result source left t u) → (IsCommand words command.Tree → LinePromises Calls result source left t u)
     → ((number events : ℕ) → IsCommand words (command.Make number events) → LoadPromises (run (load_lines (draws_of number events))).over (load_text (draws_of number events)) result t u) → CommandKeeps Holds HoldsWithin words result source t u
-keeps_all words result source left t u good as_run as_tree as_load = command_keeps Holds HoldsWithin words result (record { always = holds; inside = holds_within }) source left t u good as_run as_tree as_load
+keeps_all answered words result source left t u good as_run as_tree as_load = command_keeps Holds HoldsWithin words result (record { always = holds; inside = holds_within }) source left t u good as_run as_tree as_load
   where
     holds : (lines : List ScheduleLine) → AreInOrder lines → Holds lines (trace_of (run lines))
     holds lines order = record { own = refl; rows = rows_hold lines order; replies = replies_hold lines order; commits = commits_hold lines order; headline = run_keeps_headline lines order; stops = run_stops lines order; refused = run_refusals lines order }
 
     holds_within : (lines : List ScheduleLine) → AreInOrder lines → (run lines).over ≡ None → HoldsWithin lines (trace_of (run lines))
-    holds_within lines order none = record { asked = run_asked_for lines order (run_lawful lines order none); lawful = run_lawful lines order none; progress = progress lines order none; convergence = convergence lines order none }
+    holds_within lines order none = record { audited = answered lines order; asked = run_asked_for lines order (run_lawful lines order none); lawful = run_lawful lines order none; progress = progress lines order none; convergence = convergence lines order none }
 
 -- and what holds of the lines of every run holds of those of its input
 pub command_runs : (P : List ScheduleLine → Type 0) → ((lines : List ScheduleLine) → AreInOrder lines → P lines) → (words : List (List ℕ)) (source : Option (List ℕ)) → CommandRuns P words source

@@ -4,7 +4,7 @@ use Rattle.std.specs.Fmt.{decimal}
 use Rattle.std.proofs.lemmas.Fmt.{decimal_injective}
 use Rattle.command_words.specs.Words.{IsCommand}
 use Rattle.command_words.specs.declared.command.Command.{Command}
-use Rattle.command_words.specs.declared.command.Command.TheVariants.{Run, Tree, Make}
+use Rattle.command_words.specs.declared.command.Command.TheVariants.{Run, Tree, Audit, Make}
 
 abbrev first_byte : List (List ℕ) → ℕ
 first_byte [] = 0
@@ -28,18 +28,34 @@ run_not_make words rest p q = let e : 114 ≡ 109 = ap first_byte (sym p ∙ q) 
 tree_not_make : (words rest : List (List ℕ)) → words ≡ codes "tree" ∷ [] → words ≡ codes "make" ∷ rest → ⊥
 tree_not_make words rest p q = let e : 116 ≡ 109 = ap first_byte (sym p ∙ q) in omega (arith, e)
 
+audit_not_run : (words : List (List ℕ)) → words ≡ codes "audit" ∷ [] → words ≡ codes "run" ∷ [] → ⊥
+audit_not_run words p q = let e : 97 ≡ 114 = ap first_byte (sym p ∙ q) in omega (arith, e)
+
+audit_not_tree : (words : List (List ℕ)) → words ≡ codes "audit" ∷ [] → words ≡ codes "tree" ∷ [] → ⊥
+audit_not_tree words p q = let e : 97 ≡ 116 = ap first_byte (sym p ∙ q) in omega (arith, e)
+
+audit_not_make : (words rest : List (List ℕ)) → words ≡ codes "audit" ∷ [] → words ≡ codes "make" ∷ rest → ⊥
+audit_not_make words rest p q = let e : 97 ≡ 109 = ap first_byte (sym p ∙ q) in omega (arith, e)
+
 small : (n : ℕ) → n ≤ 2000 → n < 2 ^ 64
 small n h = omega (arith, h)
 
 pub one_command : (words : List (List ℕ)) (c d : Command) → IsCommand words c → IsCommand words d → c ≡ d
 one_command words Run Run p q = refl
 one_command words Run Tree p q = absurd (run_not_tree words p q)
+one_command words Run Audit p q = absurd (audit_not_run words q p)
 one_command words Run (Make m f) p q = absurd (run_not_make words (decimal m ∷ decimal f ∷ []) p q.0)
 one_command words Tree Run p q = absurd (run_not_tree words q p)
 one_command words Tree Tree p q = refl
+one_command words Tree Audit p q = absurd (audit_not_tree words q p)
 one_command words Tree (Make m f) p q = absurd (tree_not_make words (decimal m ∷ decimal f ∷ []) p q.0)
+one_command words Audit Run p q = absurd (audit_not_run words p q)
+one_command words Audit Tree p q = absurd (audit_not_tree words p q)
+one_command words Audit Audit p q = refl
+one_command words Audit (Make m f) p q = absurd (audit_not_make words (decimal m ∷ decimal f ∷ []) p q.0)
 one_command words (Make n e) Run p q = absurd (run_not_make words (decimal n ∷ decimal e ∷ []) q p.0)
 one_command words (Make n e) Tree p q = absurd (tree_not_make words (decimal n ∷ decimal e ∷ []) q p.0)
+one_command words (Make n e) Audit p q = absurd (audit_not_make words (decimal n ∷ decimal e ∷ []) q p.0)
 one_command words (Make n e) (Make m f) p q =
     let numbers : n ≡ m = decimal_injective n m p.1 q.1 (ap second_word (sym p.0 ∙ q.0)) in
     let events : e ≡ f = decimal_injective e f (small e p.3) (small f q.3) (ap third_word (sym p.0 ∙ q.0)) in
@@ -66,6 +82,24 @@ load_is_no_run n e h = cc
 
 pub load_is_no_tree : (n e : ℕ) → Make n e ≡ Tree → ⊥
 load_is_no_tree n e h = cc
+
+pub audit_is_no_run : Audit ≡ Run → ⊥
+audit_is_no_run e = cc
+
+pub audit_is_no_tree : Audit ≡ Tree → ⊥
+audit_is_no_tree e = cc
+
+pub audit_is_no_load : (n e : ℕ) → Audit ≡ Make n e → ⊥
+audit_is_no_load n e h = cc
+
+pub run_is_no_audit : Run ≡ Audit → ⊥
+run_is_no_audit e = cc
+
+pub tree_is_no_audit : Tree ≡ Audit → ⊥
+tree_is_no_audit e = cc
+
+pub load_is_no_audit : (n e : ℕ) → Make n e ≡ Audit → ⊥
+load_is_no_audit n e h = cc
 
 abbrev number_of : Command → ℕ
 number_of (Make n e) = n

@@ -1,21 +1,22 @@
 -- What is promised of the lines and of the trace of which a command writes: all of it of one trace.
 use Rattle.std.specs.Prelude.{◌≡◌, true, List, reverse}
 use Rattle.schedule_lines.specs.declared.line.ScheduleLine.{ScheduleLine}
-use Rattle.headline_promise_laws.specs.of_headline_laws.Commits.{CommitsHold}
-use Rattle.headline_promise_laws.specs.of_headline_laws.Replies.{RepliesHold}
-use Rattle.headline_promise_laws.specs.of_headline_laws.Rows.{RowsHold}
-use Rattle.headline_promise_laws.specs.of_promises.Beside.{refusals_change_nothing}
-use Rattle.headline_promise_laws.specs.of_promises.Headline.{Headline}
-use Rattle.headline_promise_laws.specs.of_promises.Past.{nothing_yet}
-use Rattle.headline_promise_laws.specs.of_promises.Traces.{each}
-use Rattle.headline_promise_laws.specs.of_promises.Lines.{IsAskedFor}
-use Rattle.headline_promise_laws.specs.of_promises.Stops.{Stops}
+use Rattle.audited_runs.specs.of_headline_promise_laws.of_headline_laws.Commits.{CommitsHold}
+use Rattle.audited_runs.specs.of_headline_promise_laws.of_headline_laws.Replies.{RepliesHold}
+use Rattle.audited_runs.specs.of_headline_promise_laws.of_headline_laws.Rows.{RowsHold}
+use Rattle.audited_runs.specs.of_headline_promise_laws.of_promises.Beside.{refusals_change_nothing}
+use Rattle.audited_runs.specs.of_headline_promise_laws.of_promises.Headline.{Headline}
+use Rattle.audited_runs.specs.of_headline_promise_laws.of_promises.Past.{nothing_yet}
+use Rattle.audited_runs.specs.of_headline_promise_laws.of_promises.Traces.{each}
+use Rattle.audited_runs.specs.of_headline_promise_laws.of_promises.Lines.{IsAskedFor}
+use Rattle.audited_runs.specs.of_headline_promise_laws.of_promises.Stops.{Stops}
 use Rattle.schedule_lines.specs.Cluster.{config_of}
-use Rattle.headline_promise_laws.specs.of_headline_laws.TheRun.{IsOfRun}
-use Rattle.headline_promise_laws.specs.of_lawful_trace.Lawful.{IsLawful}
-use Rattle.headline_promise_laws.specs.of_promises.Convergence.{Convergence}
-use Rattle.headline_promise_laws.specs.of_promises.Progress.{Progress}
-use Rattle.headline_promise_laws.specs.of_tree_model.Folds.{Trace}
+use Rattle.audited_runs.specs.of_headline_promise_laws.of_headline_laws.TheRun.{IsOfRun}
+use Rattle.audited_runs.specs.of_headline_promise_laws.of_lawful_trace.Lawful.{IsLawful}
+use Rattle.audited_runs.specs.of_headline_promise_laws.of_promises.Convergence.{Convergence}
+use Rattle.audited_runs.specs.of_headline_promise_laws.of_promises.Progress.{Progress}
+use Rattle.audited_runs.specs.of_headline_promise_laws.of_tree_model.Folds.{Trace}
+use Rattle.audited_runs.specs.Answered.{IsAuditedWell}
 
 -- however the command ends
 pub record Holds (lines : List ScheduleLine) (trace : Trace) : Type 0 where
@@ -38,3 +39,5 @@ pub record HoldsWithin (lines : List ScheduleLine) (trace : Trace) : Type 0 wher
   pub lawful : IsLawful lines trace
   pub progress : Progress lines trace
   pub convergence : Convergence lines trace
+  -- and the audit answers it with yes
+  pub audited : IsAuditedWell lines trace

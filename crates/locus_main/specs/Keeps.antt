@@ -4,18 +4,18 @@ use Rattle.std.specs.Io.KnownBytes.{Appends}
 use Rattle.schedule_lines.specs.declared.line.ScheduleLine.{ScheduleLine}
 use Rattle.trace_book.specs.declared.entry.Entry.{Entry}
 use Rattle.the_run.specs.Commands.{reply_line, counts_text, counts_onto, no_counts, load_lines}
-use Rattle.headline_promise_laws.specs.of_tree_model.Folds.{Trace, told}
+use Rattle.audited_runs.specs.of_headline_promise_laws.of_tree_model.Folds.{Trace, told}
 use Rattle.generated_load.specs.Draws.{draws_of}
 use Rattle.command_words.specs.Words.{IsCommand}
 use Rattle.command_words.specs.declared.command.Command.{Command}
 use Rattle.command_words.specs.declared.command.Command.TheVariants as command
 use Rattle.line_reader.specs.Reading.{lines_of}
 use Rattle.locus_io.specs.Causes.{AppendsFront}
-use Rattle.locus_main.specs.Inputs.{Input, StandsFor}
-use Rattle.locus_main.specs.Inputs.Input.{Schedule, Calls}
-use Rattle.locus_main.specs.declared.status.Status.{Status}
-use Rattle.locus_main.specs.declared.status.Status.TheVariants as status
-use Rattle.locus_main.specs.declared.status.Limited.TheVariants.{Line, Lines}
+use Rattle.input_run.specs.Inputs.{Input, StandsFor}
+use Rattle.input_run.specs.Inputs.Input.{Schedule, Calls}
+use Rattle.input_run.specs.declared.status.Status.{Status}
+use Rattle.input_run.specs.declared.status.Status.TheVariants as status
+use Rattle.input_run.specs.declared.status.Limited.TheVariants.{Line, Lines}
 
 -- what is promised of lines and of a trace, the latest record first
 abbrev pub Promise : Type 1

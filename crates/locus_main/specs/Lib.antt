@@ -1,8 +1,3 @@
-pub mod Codes
-pub mod Inputs
-pub mod Promises
-pub mod Runners
-pub mod Runs
-pub mod Turns
 pub mod Holds
 pub mod Keeps
+pub mod Audits

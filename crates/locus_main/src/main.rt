@@ -1,20 +1,16 @@
 //! The program: it does the command that its words are. `run` reads a schedule from standard input and writes its trace to standard
-//! output; `tree` reads calls on a fixed cluster and writes their replies; `make` writes the counts of a generated load.
-//! This room is for the words, the status and the loop over the lines; the shell calls it. It must never know what a
-//! line does, or what a record says.
+//! output; `tree` reads calls on a fixed cluster and writes their replies; `audit` reads a trace and writes whether it is consistent; `make`
+//! writes the counts of a generated load.
+//! This room is for the words, the one command that they are, and what is promised of each; the shell calls it. It must never know what a line
+//! does, or what a record says.
 #![tactic(auto)]
 
-mod commands;
-mod input;
-mod lines;
-mod runners;
-mod status;
+mod auditing;
 mod top;
-mod turn;
 
+use input_run::Status;
 use locus_ids::{Bytes, Names};
 use locus_io::{StdSink, StdSource};
-use status::Status;
 use std::alloc::Global;
 use std::process::ExitCode;
 use std::rt::Env;

@@ -22,11 +22,11 @@ use Rattle.row_laws.specs.Shown.{shown, trace_of}
 use Rattle.orderly_laws.specs.Calm.{delivers_next, delivered}
 use Rattle.orderly_laws.proofs.Counts.{Counted, acts_counts, taken_counts, counted_kept, first_counts}
 use Rattle.orderly_laws.proofs.Rounds.{next_among}
-use Rattle.calm_laws.proofs.Limits.{line_there, take_length}
-use Rattle.calm_laws.proofs.Moments.{GoesOn, goes_itself, goes_round_kept}
-use Rattle.calm_laws.proofs.Rounds.{delivered_kept, delivered_then}
-use Rattle.calm_laws.proofs.Twins.{EndsAs, delivers_as, nothing_more, with_round, round_run}
-use Rattle.calm_laws.proofs.of_orderly_traces.Spans.{world, next_world, before_at}
+use Rattle.convergence_laws.proofs.of_calm_laws.Limits.{line_there, take_length}
+use Rattle.convergence_laws.proofs.of_calm_laws.Moments.{GoesOn, goes_itself, goes_round_kept}
+use Rattle.convergence_laws.proofs.of_calm_laws.Rounds.{delivered_kept, delivered_then}
+use Rattle.convergence_laws.proofs.of_calm_laws.Twins.{EndsAs, delivers_as, nothing_more, with_round, round_run}
+use Rattle.convergence_laws.proofs.of_calm_laws.of_orderly_traces.Spans.{world, next_world, before_at}
 use Rattle.whole_run_laws.proofs.Rounds.{large_rounds}
 use Rattle.promise_laws.proofs.LineTells.{none_earlier, none_later}
 use Rattle.promise_laws.specs.Budgets.{BudgetsWerePassed}

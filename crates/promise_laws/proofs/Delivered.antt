@@ -14,10 +14,10 @@ use Rattle.role_steps.specs.declared.rounds.InEpoch.{InEpoch}
 use Rattle.the_run.specs.Runs.{can_come, next_packet, next_packet_of, goes_round, ends_round, delivers, ticks_to, acts_line, run, run_in}
 use Rattle.the_run.specs.Worlds.{World, Numbered, boot_of, is_cut, is_running}
 use Rattle.orderly_laws.specs.Calm.{IsInside, AreTogether, delivers_next, delivered}
-use Rattle.calm_laws.specs.Carrying.{IsMember}
-use Rattle.calm_laws.specs.Rounds.{after}
-use Rattle.calm_laws.proofs.Twins.{nothing_more}
-use Rattle.calm_laws.proofs.of_orderly_traces.Spans.{world, next_world}
+use Rattle.convergence_laws.specs.of_calm_laws.Carrying.{IsMember}
+use Rattle.convergence_laws.specs.of_calm_laws.Rounds.{after}
+use Rattle.convergence_laws.proofs.of_calm_laws.Twins.{nothing_more}
+use Rattle.convergence_laws.proofs.of_calm_laws.of_orderly_traces.Spans.{world, next_world}
 use Rattle.lawful_trace.specs.Places.{lines_before}
 use Rattle.convergence_laws.proofs.TracePlayed.{IsPlayed, played, member_of_list}
 use Rattle.promise_laws.specs.Delivering.{CalmRoundsDeliverAll, IsBetween}

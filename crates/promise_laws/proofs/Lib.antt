@@ -21,3 +21,4 @@ pub mod WrongBreak
 pub mod CommitScripts
 pub mod AcknowledgedRuns
 pub mod CommitsGranted
+pub use Rattle.convergence_laws.proofs as of_convergence_laws

@@ -38,11 +38,11 @@ use Rattle.rest_laws.proofs.of_one_tree_laws.Worlds.{Holds}
 use Rattle.rest_laws.proofs.Packs.{schedule_packs}
 use Rattle.rest_laws.proofs.Roles.{roles_do}
 use Rattle.rest_laws.proofs.Shown.{shown_entries}
-use Rattle.calm_laws.proofs.Facts.{RoundFacts, round_facts}
-use Rattle.calm_laws.proofs.Limits.{line_there, take_length}
-use Rattle.calm_laws.proofs.Moments.{GoesOn, goes_itself, goes_round_kept}
-use Rattle.calm_laws.proofs.Rounds.{round_kept, delivered_kept}
-use Rattle.calm_laws.proofs.Twins.{delivers_as, round_run}
+use Rattle.convergence_laws.proofs.of_calm_laws.Facts.{RoundFacts, round_facts}
+use Rattle.convergence_laws.proofs.of_calm_laws.Limits.{line_there, take_length}
+use Rattle.convergence_laws.proofs.of_calm_laws.Moments.{GoesOn, goes_itself, goes_round_kept}
+use Rattle.convergence_laws.proofs.of_calm_laws.Rounds.{round_kept, delivered_kept}
+use Rattle.convergence_laws.proofs.of_calm_laws.Twins.{delivers_as, round_run}
 use Rattle.convergence_laws.proofs.TraceTicked.{ticks_then, rest_earlier, holds_round}
 use Rattle.whole_run_laws.specs.Disks.{DisksHold}
 use Rattle.promise_laws.specs.Moments.{HoldsAfterEvents, IsAfterEvent, MomentsEndRounds}

@@ -41,15 +41,15 @@ use Rattle.rest_laws.proofs.Resting.{run_low, run_rests}
 use Rattle.rest_laws.proofs.Roles.{roles_do}
 use Rattle.rest_laws.proofs.Shown.{shown_entries}
 use Rattle.rest_laws.proofs.StoreStepResting.{op_rests}
-use Rattle.calm_laws.specs.Carrying.{IsMember}
-use Rattle.calm_laws.specs.of_orderly_traces.Fits.{FitsCluster}
-use Rattle.calm_laws.proofs.Limits.{take_fit}
-use Rattle.calm_laws.proofs.Placed.{Stands, stands_kept, first_stands}
-use Rattle.calm_laws.proofs.Together.{together_in}
-use Rattle.calm_laws.proofs.Twins.{first_twin}
-use Rattle.calm_laws.proofs.of_orderly_traces.Circuits.{cut_is, take_fits}
-use Rattle.calm_laws.proofs.of_orderly_traces.Forms.{order_fits}
-use Rattle.calm_laws.proofs.of_orderly_traces.Spans.{world, next_world, one_more, before_at}
+use Rattle.convergence_laws.specs.of_calm_laws.Carrying.{IsMember}
+use Rattle.convergence_laws.specs.of_calm_laws.of_orderly_traces.Fits.{FitsCluster}
+use Rattle.convergence_laws.proofs.of_calm_laws.Limits.{take_fit}
+use Rattle.convergence_laws.proofs.of_calm_laws.Placed.{Stands, stands_kept, first_stands}
+use Rattle.convergence_laws.proofs.of_calm_laws.Together.{together_in}
+use Rattle.convergence_laws.proofs.of_calm_laws.Twins.{first_twin}
+use Rattle.convergence_laws.proofs.of_calm_laws.of_orderly_traces.Circuits.{cut_is, take_fits}
+use Rattle.convergence_laws.proofs.of_calm_laws.of_orderly_traces.Forms.{order_fits}
+use Rattle.convergence_laws.proofs.of_calm_laws.of_orderly_traces.Spans.{world, next_world, one_more, before_at}
 use Rattle.convergence_laws.proofs.TracePlayed.{member_of_list}
 use Rattle.whole_run_laws.proofs.Rounds.{large_rounds}
 use Rattle.promise_laws.specs.Steady.{SteadyRoundsAreCalm, TogetherIsTold}

@@ -10,3 +10,4 @@ pub mod Acknowledging
 pub mod Acknowledged
 pub mod Wrong
 pub mod Granting
+pub use Rattle.convergence_laws.specs as of_convergence_laws

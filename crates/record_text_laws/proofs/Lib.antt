@@ -2,4 +2,6 @@ pub mod Few
 pub mod Each
 pub mod ByKind
 pub mod Boots
-pub mod Starts
+pub mod JoinSteps
+pub mod Joins
+pub mod JoinTexts

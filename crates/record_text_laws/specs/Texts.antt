@@ -6,6 +6,8 @@ use Rattle.trace_book.specs.declared.record.Record.TheVariants as says
 use Rattle.tree_model.specs.Epochs.{boot_of}
 use Rattle.tree_model.specs.Folds.{Trace}
 use Rattle.record_reading.specs.Ranges.{is_counted}
+use Rattle.packet_fit_laws.specs.Epochs.{IsUpTo}
+use Rattle.packet_fit_laws.specs.Fields.{AreBoots, IsBoot, IsSite}
 
 -- the record stands at a line that has a number
 abbrev pub IsLined : Trace → Entry → Type 0
@@ -23,3 +25,12 @@ IsCountedCall before r = CountsRecord r.what
 pub record BootsAreLow (site : ℕ) (before : Trace) (r : Entry) : Type 0 where
   pub before_it : boot_of before site ≤ 134217729
   pub after_it : boot_of (r ∷ before) site ≤ 134217729
+
+-- the epoch that is joined has a number of four bytes, is of one of the sixteen sites and of a boot that a run comes to, and lists a boot
+-- number, or 0, for each of these sites
+abbrev pub JoinFits : Record → Type 0
+JoinFits (says.Join site e members) = (IsUpTo 134479873 e × (IsSite e.site × IsBoot e.boot)) × AreBoots members.boot
+JoinFits _ = Unit {0}
+
+abbrev pub IsJoinFit : Trace → Entry → Type 0
+IsJoinFit before r = JoinFits r.what

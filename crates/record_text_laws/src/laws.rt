@@ -5,7 +5,7 @@ ghost use Rattle.row_laws.specs.Shown.{EachRecord, trace_of};
 ghost use Rattle.row_laws.specs.Voids.{LinesFit};
 ghost use Rattle.the_run.specs.Runs.{run_in};
 ghost use Rattle.the_run.specs.Worlds.{Place, place_at};
-ghost use Rattle.record_text_laws.specs.Texts.{BootsAreLow, IsCountedCall, IsLined};
+ghost use Rattle.record_text_laws.specs.Texts.{BootsAreLow, IsCountedCall, IsJoinFit, IsLined};
 
 /// After every schedule there are no more than 134,217,728 records: each has some text, of which there is room for so many bytes.
 pub fn records_are_few()
@@ -26,4 +26,10 @@ pub fn calls_have_numbers()
 /// After every schedule the boot numbers that a site of the cluster has had by any record, or before it, are not above 134,217,729.
 pub fn records_say_low_boots()
     ensures { (c : Config) (lines : List ScheduleLine) (site : ℕ) (p : Place) → place_at (run_in c lines) site ≡ Some p → EachRecord (BootsAreLow site) (trace_of (run_in c lines)) }
+{}
+
+/// After every schedule each epoch that a site has joined has a number of four bytes, is of one of the sixteen sites and of a boot number that
+/// a run comes to, and its list has a boot number, or 0, for each of these sites.
+pub fn joins_have_texts()
+    ensures { (c : Config) (lines : List ScheduleLine) → EachRecord IsJoinFit (trace_of (run_in c lines)) }
 {}

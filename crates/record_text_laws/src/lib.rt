@@ -4,4 +4,7 @@
 
 mod laws;
 
-pub use laws::{calls_have_numbers, records_are_few, records_have_lines, records_say_low_boots};
+pub use laws::{
+    calls_have_numbers, joins_have_texts, records_are_few, records_have_lines,
+    records_say_low_boots,
+};

@@ -6,3 +6,4 @@ pub mod Asking
 pub mod OneAsking
 pub mod Events
 pub mod Complete
+pub use Rattle.world.proofs as of_world

@@ -19,3 +19,4 @@ pub use load_fault::LoadFault;
 pub use opened::OpenedRun;
 pub use runner::ScheduleRunner;
 pub use tree::TreeRunner;
+pub use world::WorldFault;

@@ -5,3 +5,4 @@ pub mod Versions
 pub mod Cuts
 pub mod Stopped
 pub mod Promised
+pub use Rattle.stop_laws.proofs as of_stop_laws

@@ -1,0 +1,4 @@
+pub mod Seen
+pub mod Replying
+pub mod Writing
+pub mod Starting

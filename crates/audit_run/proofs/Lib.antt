@@ -1,0 +1,2 @@
+mod Hearings
+mod Ending

@@ -1,0 +1,2 @@
+pub mod Found
+pub use Rattle.audit_row_parts.proofs as of_audit_row_parts

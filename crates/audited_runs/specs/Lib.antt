@@ -1,0 +1,3 @@
+pub mod Left
+pub mod Answered
+pub use Rattle.headline_promise_laws.specs as of_headline_promise_laws

@@ -1,5 +1,0 @@
-use Rattle.locus_main.proofs.Standing.{tree_limit}
-use Rattle.locus_main.proofs.runners.TreeRunnerLineRunner.limit.Goals as goal
-
-pub returns : goal.returns
-returns c = λ all lines taken s. tree_limit lines s.calls _ s.run (c.passed.ensures s.calls taken s.ran)

@@ -1,9 +1,0 @@
-use Rattle.std.proofs.Common.{sym}
-use Rattle.std.proofs.lemmas.Bool.{false≢true}
-use Rattle.locus_main.proofs.runners.TreeRunnerLineRunner.may_end_here.Goals as goal
-
-pub returns-clause-yes : goal.returns-clause-yes
-returns-clause-yes c = λ all lines taken s e. tt
-
-pub returns-clause-no : goal.returns-clause-no
-returns-clause-no c = λ all lines taken s e ends. false≢true (sym e)

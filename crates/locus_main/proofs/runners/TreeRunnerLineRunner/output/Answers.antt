@@ -1,5 +1,0 @@
-use Rattle.locus_main.proofs.Standing.{tree_output}
-use Rattle.locus_main.proofs.runners.TreeRunnerLineRunner.output.Goals as goal
-
-pub returns : goal.returns
-returns c = λ all lines taken s. tree_output lines s.calls taken c.fresh.result.now s.run (c.fresh.ensures s.calls taken s.ran)

@@ -1,0 +1,4 @@
+pub mod Mounts
+pub mod Requests
+pub mod Calls
+pub mod Operations

@@ -1,0 +1,5 @@
+pub mod Taking
+pub mod Standing
+pub mod Premises
+pub mod Once
+pub mod TreeSteps

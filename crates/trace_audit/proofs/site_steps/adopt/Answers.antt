@@ -1,0 +1,8 @@
+-- An adoption that may come next is told.
+use Rattle.std.proofs.Common.{refl, sym, ◌∙◌}
+use Rattle.trace_book.specs.declared.record.Record.TheVariants as rec
+use Rattle.trace_audit.proofs.TreeSteps.{may_so}
+use Rattle.trace_audit.proofs.site_steps.adopt.Goals as goal
+
+pub returns : goal.returns
+returns c = may_so _ _ _ (rec.Adopt c.args.file c.args.site c.args.stamp) refl (sym c.if-not-branch.false ∙ c.in_ok-may_adopt.ensures) (c.in_ok-adopted.ensures c.args.config.now)

@@ -1,0 +1,8 @@
+-- A join that may come next is told.
+use Rattle.std.proofs.Common.{refl, sym, ◌∙◌}
+use Rattle.trace_book.specs.declared.record.Record.TheVariants as rec
+use Rattle.trace_audit.proofs.TreeSteps.{may_so}
+use Rattle.trace_audit.proofs.site_steps.join.Goals as goal
+
+pub returns : goal.returns
+returns c = may_so _ _ _ (rec.Join c.args.site c.args.epoch c.args.members.now) refl (sym c.if-not-branch.false ∙ c.in_ok-may_join.ensures) (c.in_ok-joined.ensures c.args.config.now)

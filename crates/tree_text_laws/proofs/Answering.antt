@@ -1,0 +1,178 @@
+-- What calls of a past of texts are answered, and where they begin, is in range.
+use Rattle.std.proofs.Common.{◌≡◌, ◌≤◌, ℕ, zero, suc, ◌+◌, ◌&&◌, Bool, true, false, List, length, Option, Some, None, refl, arith}
+use Rattle.std.proofs.lemmas.Bool.Decides.{nat_tests}
+use Rattle.std.specs.List.{list_all}
+use Rattle.locus_ids.specs.Sizes.{content_bytes_max, descriptors_max, file_bytes_max}
+use Rattle.locus_ids.specs.declared.ids.EpochId.{EpochId}
+use Rattle.locus_ids.specs.declared.ids.FileId.{FileId}
+use Rattle.locus_ids.specs.declared.ids.Kind.{Kind}
+use Rattle.locus_ids.specs.declared.ids.Mode.{Mode}
+use Rattle.locus_ids.specs.declared.ids.Mode.TheVariants as mode
+use Rattle.locus_ids.specs.declared.ids.Serial.{Serial}
+use Rattle.locus_ids.specs.declared.ids.Stamp.{Stamp}
+use Rattle.commit_graph.specs.Grants.{is_read}
+use Rattle.commit_graph.specs.Versions.{content_of}
+use Rattle.trace_book.specs.Names.{is_name}
+use Rattle.trace_book.specs.declared.call.Call.{Call}
+use Rattle.trace_book.specs.declared.call.Call.TheVariants as call
+use Rattle.trace_book.specs.declared.descriptor.Descriptor.{Descriptor}
+use Rattle.trace_book.specs.declared.operation.Op.{Op}
+use Rattle.trace_book.specs.declared.operation.Op.TheVariants as op
+use Rattle.trace_book.specs.declared.operation.Outcome.{Outcome}
+use Rattle.trace_book.specs.declared.operation.Outcome.TheVariants as outcome
+use Rattle.trace_book.specs.declared.operation.Served.{Served}
+use Rattle.trace_book.specs.declared.operation.Served.TheVariants as served
+use Rattle.trace_book.specs.declared.operation.What.{What}
+use Rattle.trace_book.specs.declared.operation.What.TheVariants as what
+use Rattle.schedule_lines.specs.Ranges.{is_between}
+use Rattle.wire_fields.specs.Components.{is_component}
+use Rattle.dir_format.specs.Contents.{entries_of}
+use Rattle.dir_format.specs.Lookups.{lookup}
+use Rattle.dir_format.specs.declared.looking.LookResult.{LookResult}
+use Rattle.dir_format.specs.declared.looking.LookResult.TheVariants as found
+use Rattle.call_rules.specs.Descriptors.{beginning, begins_on, begins_open, begins_walk, is_in, lowest_free, lowest_free_from}
+use Rattle.call_rules.specs.Words.{is_too_long}
+use Rattle.call_text_laws.specs.Wants.{is_answer, is_asked_op, is_begun, is_free, is_gift}
+use Rattle.lawful_trace.specs.Progress.{entered, found_in, granted_answer, outcome_answer}
+use Rattle.promises.specs.Past.{Past, Instance, making_of}
+use Rattle.promises.specs.After.{close_answer, look_answer}
+use Rattle.past_laws.proofs.Names.{both, both_parts, false_true}
+use Rattle.record_reading.specs.Ranges as range
+use Rattle.tree_text_laws.proofs.Contents.{entries_are}
+use Rattle.tree_text_laws.proofs.Effects.{data_is}
+use Rattle.tree_text_laws.proofs.Lookups.{is_result, lookup_text}
+use Rattle.tree_text_laws.proofs.Shown.{shown_text}
+use Rattle.tree_text_laws.proofs.Texts.{PastText, content_text, is_optional_descriptor}
+
+-- ---- operations ----
+
+done_gift : (r : Outcome) → range.is_done r ≡ true → is_gift r ≡ true
+done_gift outcome.Done h = h
+done_gift (outcome.No why) h = h
+done_gift _ h = false_true h
+
+found_gift : (r : Outcome) → range.is_found r ≡ true → is_gift r ≡ true
+found_gift (outcome.Found ino kind) h = h
+found_gift (outcome.No why) h = h
+found_gift _ h = false_true h
+
+read_gift : (r : Outcome) → range.is_read r ≡ true → is_gift r ≡ true
+read_gift (outcome.Data bytes) h = h
+read_gift (outcome.No why) h = h
+read_gift _ h = false_true h
+
+committed_gift : (r : Outcome) → range.is_committed r ≡ true → is_gift r ≡ true
+committed_gift (outcome.Committed stamp) h = h
+committed_gift (outcome.No why) h = h
+committed_gift _ h = false_true h
+
+-- the words of an operation, and what it gave
+pub act_parts : (o : Op) (r : Outcome) → range.is_act o r ≡ true → (is_asked_op o ≡ true) × (is_gift r ≡ true)
+act_parts (op.Probe name) r h = (let p = both_parts (is_name name) (range.is_done r) h in (p.0, done_gift r p.1))
+act_parts (op.Find component) r h = (let p = both_parts (is_component component) (range.is_found r) h in (p.0, found_gift r p.1))
+act_parts (op.Insert name ino kind) r h = (let p = both_parts (is_name name) (range.is_inode ino && range.is_done r) h in let q = both_parts (range.is_inode ino) (range.is_done r) p.1 in (both (is_name name) (range.is_inode ino) p.0 q.0, done_gift r q.1))
+act_parts (op.Remove name ino) r h = (let p = both_parts (is_name name) (range.is_inode ino && range.is_done r) h in let q = both_parts (range.is_inode ino) (range.is_done r) p.1 in (both (is_name name) (range.is_inode ino) p.0 q.0, done_gift r q.1))
+act_parts (op.Rename component name) r h = (let p = both_parts (is_component component) (is_name name && range.is_done r) h in let q = both_parts (is_name name) (range.is_done r) p.1 in (both (is_component component) (is_name name) p.0 q.0, done_gift r q.1))
+act_parts op.Empty r h = (refl, done_gift r h)
+act_parts (op.Read at len) r h = (let p = both_parts (is_between 0 file_bytes_max at) (is_between 0 4096 len && range.is_read r) h in let q = both_parts (is_between 0 4096 len) (range.is_read r) p.1 in (both (is_between 0 file_bytes_max at) (is_between 0 4096 len) p.0 q.0, read_gift r q.1))
+act_parts (op.Write at bytes) r h = (let p = both_parts (is_between 0 file_bytes_max at) (range.is_some_data 4096 bytes && range.is_done r) h in let q = both_parts (range.is_some_data 4096 bytes) (range.is_done r) p.1 in (both (is_between 0 file_bytes_max at) (range.is_some_data 4096 bytes) p.0 q.0, done_gift r q.1))
+act_parts (op.Cut len) r h = (let p = both_parts (is_between 0 file_bytes_max len) (range.is_done r) h in (p.0, done_gift r p.1))
+act_parts op.Commit r h = (refl, committed_gift r h)
+act_parts op.Abort r h = (refl, done_gift r h)
+act_parts op.Mend r h = (refl, done_gift r h)
+
+pub outcome_text : (r : Outcome) → is_gift r ≡ true → is_answer (outcome_answer r) ≡ true
+outcome_text outcome.Done h = h
+outcome_text (outcome.Found ino kind) h = h
+outcome_text (outcome.Data bytes) h = h
+outcome_text (outcome.Committed stamp) h = h
+outcome_text (outcome.No why) h = h
+
+-- ---- looks, grants and closes ----
+
+entered_text : (component : List ℕ) (r : LookResult) → is_component component ≡ true → is_result r ≡ true → is_answer (entered component r) ≡ true
+entered_text component (found.Found ino kind) k h = h
+entered_text component found.Absent k h = k
+entered_text component (found.Ambiguous a b) k h = h
+
+served_text : (kind : Kind) (stamp : Stamp) (w : What) (content : List ℕ) → range.is_look w (served.At stamp) ≡ true → range.is_data content_bytes_max content ≡ true → is_answer (found_in kind stamp w content) ≡ true
+served_text kind stamp (what.Name component) content k h = entered_text component (lookup (entries_of content) component) (both_parts (is_component component) (range.is_stamp stamp) k).0 (lookup_text (entries_of content) component (entries_are content))
+served_text kind stamp what.List content k h = shown_text content
+served_text kind stamp what.Stat content k h = both (is_between 0 range.number_max (length content)) (range.is_stamp stamp) (test (length content) (data_is content_bytes_max content h).few) k
+  where
+    test : (n : ℕ) → n ≤ content_bytes_max → is_between 0 range.number_max n ≡ true
+    test n le = grind (arith, nat_tests)
+served_text kind stamp (what.Whole asked) content k h = refl
+
+unserved : (w : What) (s : Served) → range.is_look w s ≡ true → range.is_served s ≡ true
+unserved (what.Name component) s k = (both_parts (is_component component) (range.is_served s) k).1
+unserved what.List s k = k
+unserved what.Stat s k = k
+unserved (what.Whole asked) s k = (both_parts (range.is_stamp asked) (range.is_served s) k).1
+
+pub look_answer_text : (p : Past) (f : FileId) (w : What) (result : Served) → PastText p → range.is_look w result ≡ true → is_answer (look_answer p f w result) ≡ true
+look_answer_text p f w (served.At stamp) h k = served_text (making_of p f).kind stamp w (content_of p.history f stamp) k (content_text p.history f stamp h.history)
+look_answer_text p f w (served.No why) h k = unserved w (served.No why) k
+
+pub granted_text : (m : Mode) (i : Serial) (f : FileId) (kept : List Stamp) → range.is_file f ≡ true → list_all range.is_stamp kept ≡ true → is_answer (granted_answer m i f kept) ≡ true
+granted_text mode.Mend i f kept h k = k
+granted_text mode.Read i f kept h k = (both_parts (range.is_group f.group) (range.is_inode f.ino) h).1
+granted_text mode.Write i f kept h k = (both_parts (range.is_group f.group) (range.is_inode f.ino) h).1
+granted_text mode.Resolve i f kept h k = (both_parts (range.is_group f.group) (range.is_inode f.ino) h).1
+granted_text mode.Make i f kept h k = (both_parts (range.is_group f.group) (range.is_inode f.ino) h).1
+
+pub close_text : (stamp : Option Stamp) (x : Instance) → range.is_optional_stamp stamp ≡ true → is_answer (close_answer stamp x) ≡ true
+close_text stamp x h = over x.work.owes refl x.work.fresh refl
+  where
+    over : (a : Bool) → x.work.owes ≡ a → (b : Bool) → x.work.fresh ≡ b → is_answer (close_answer stamp x) ≡ true
+    over true e b f = rw (e, close_answer) refl
+    over false e true f = rw (e, f, close_answer) h
+    over false e false f = rw (e, f, close_answer) refl
+
+-- ---- beginnings ----
+
+walk_text : (now : Option EpochId) → is_begun (begins_walk now) ≡ true
+walk_text None = refl
+walk_text (Some e) = refl
+
+open_text : (now : Option EpochId) (free : Option ℕ) → is_begun (begins_open now free) ≡ true
+open_text now None = refl
+open_text now (Some fd) = walk_text now
+
+on_text : (changes : Bool) (now : Option EpochId) (d : Option Descriptor) → is_optional_descriptor d ≡ true → is_begun (begins_on changes now d) ≡ true
+on_text changes now None h = refl
+on_text changes now (Some d) h = over (is_in now d.epoch) refl changes refl (is_read d.mode) refl
+  where
+    over : (a : Bool) → is_in now d.epoch ≡ a → (b : Bool) → changes ≡ b → (r : Bool) → is_read d.mode ≡ r → is_begun (begins_on changes now (Some d)) ≡ true
+    over true e true f true g = rw (e, f, g, begins_on) refl
+    over true e true f false g = rw (e, f, g, begins_on) refl
+    over true e false f r g = rw (e, f, begins_on) refl
+    over false e b f r g = rw (e, begins_on) h
+
+write_text : (long : Bool) (now : Option EpochId) (d : Option Descriptor) → is_optional_descriptor d ≡ true → (fd at : ℕ) (bytes : List ℕ) → is_too_long (call.Write fd at bytes) ≡ long → (table : ℕ → Option Descriptor) → table fd ≡ d → is_begun (beginning table now (call.Write fd at bytes)) ≡ true
+write_text true now d h fd at bytes e table f = rw (e, beginning) refl
+write_text false now d h fd at bytes e table f = rw (e, f, beginning) (on_text true now d h)
+
+pub beginning_text : (table : ℕ → Option Descriptor) (now : Option EpochId) (words : Call) → ((fd : ℕ) → is_optional_descriptor (table fd) ≡ true) → is_begun (beginning table now words) ≡ true
+beginning_text table now (call.Open path m) h = open_text now (lowest_free table)
+beginning_text table now (call.Read fd at len) h = on_text false now (table fd) (h fd)
+beginning_text table now (call.Write fd at bytes) h = write_text (is_too_long (call.Write fd at bytes)) now (table fd) (h fd) fd at bytes refl table refl
+beginning_text table now (call.Cut fd len) h = on_text true now (table fd) (h fd)
+beginning_text table now (call.Commit fd) h = on_text true now (table fd) (h fd)
+beginning_text table now (call.Abort fd) h = on_text true now (table fd) (h fd)
+beginning_text table now (call.Close fd) h = on_text false now (table fd) (h fd)
+beginning_text table now _ h = walk_text now
+
+free_from : (table : ℕ → Option Descriptor) (n left : ℕ) → n + left ≤ 65536 → is_free (lowest_free_from table n left) ≡ true
+free_from table n zero few = refl
+free_from table n (suc left) few = over (table n) refl (free_from table (n + 1) left (omega (arith, few)))
+  where
+    low : (m k : ℕ) → m + suc k ≤ 65536 → range.is_short m ≡ true
+    low m k le = let f : m ≤ 65535 = omega (arith, le) in grind (arith, nat_tests)
+
+    over : (d : Option Descriptor) → table n ≡ d → is_free (lowest_free_from table (n + 1) left) ≡ true → is_free (lowest_free_from table n (suc left)) ≡ true
+    over None e later = rw (e, lowest_free_from) (low n left few)
+    over (Some d) e later = rw (e, lowest_free_from) later
+
+pub free_text : (table : ℕ → Option Descriptor) → is_free (lowest_free table) ≡ true
+free_text table = free_from table 0 descriptors_max (omega arith)
