@@ -1,5 +1,5 @@
 -- What is new in a record of a run is in range.
-use Rattle.std.proofs.Common.{◌≡◌, ◌≤◌, ◌<◌, ◌^◌, ℕ, ◌==◌, Bool, true, false, cond, ◌&&◌, min, ◌∷◌, length, Option, None, Some, refl, ap, subst, ◌∙◌, arith}
+use Rattle.std.proofs.Common.{◌≡◌, ◌≤◌, ◌<◌, ◌^◌, ℕ, ◌==◌, Bool, true, false, cond, ◌&&◌, min, ◌∷◌, length, Option, None, Some, refl, sym, ap, subst, ◌∙◌, arith}
 use Rattle.std.proofs.lemmas.Bool.Decides.{nat_tests}
 use Rattle.std.proofs.Math.Pow.{pow_mono}
 use Rattle.std.specs.Prelude.{nat_lt}
@@ -9,6 +9,7 @@ use Rattle.locus_ids.specs.Sizes.{sites_max}
 use Rattle.locus_ids.specs.declared.config.Config.{Config}
 use Rattle.locus_ids.specs.declared.ids.CallId.{CallId}
 use Rattle.locus_ids.specs.declared.ids.EpochId.{EpochId}
+use Rattle.locus_ids.specs.declared.ids.Serial.{Serial}
 use Rattle.locus_ids.specs.declared.sites.Members.{Members}
 use Rattle.locus_ids.specs.declared.sites.Sites.{Sites}
 use Rattle.trace_book.specs.declared.call.Call.{Call}
@@ -26,13 +27,14 @@ use Rattle.promises.specs.Rows.{is_there, may_follow}
 use Rattle.past_laws.specs.Agreement.{past}
 use Rattle.row_laws.specs.Rows.{MemberRecord}
 use Rattle.prompt_laws.specs.Speaks.{IsCaller, IsOfProcess, IsSite, RecordSpeaks}
-use Rattle.record_reading.specs.Ranges.{is_call_id, is_counted, is_epoch, is_members, is_mend, is_process, is_words}
+use Rattle.record_reading.specs.Ranges.{is_any_site, is_call_id, is_counted, is_epoch, is_instance, is_members, is_mend, is_process, is_request, is_words}
 use Rattle.record_text_laws.specs.Texts.{BootsAreLow, CountsRecord, JoinFits}
 use Rattle.record_text_laws.proofs.ByKind.{any_site, call_text, counted}
 use Rattle.record_text_laws.proofs.JoinTexts.{join_text}
 use Rattle.version_text_laws.specs.Texts.{CommitFits}
 use Rattle.tree_text_laws.specs.NewTexts.{is_new_call, is_new_text}
 use Rattle.new_text_laws.proofs.Operations.{act_counted}
+use Rattle.reach_laws.specs.Reach.{IsListed, IsSerial, ReachedRecord}
 use Rattle.audited_runs.specs.Left.{is_in_reach}
 
 -- what is known of a record of a run and of those before it
@@ -46,6 +48,7 @@ pub record Known (c : Config) (before : Trace) (r : Entry) : Type 0 where
   pub joins : JoinFits r.what
   pub members : MemberRecord before r.what
   pub begun : (site : ℕ) → 1 ≤ boot_of before site
+  pub reached : ReachedRecord r.what
 
 -- ---- boots ----
 
@@ -114,6 +117,20 @@ words_new : (c : Config) (process : ℕ) (words : Call) → IsOfProcess c proces
 words_new c process (call.Mend file) h = (ap is_process h, refl)
 words_new c process words h = usual_words c.sites process words h.0 h.1
 
+-- ---- instances, and listed packets ----
+
+low : (n : ℕ) → 1 ≤ n → n ≤ 134479872 → is_counted n ≡ true
+low n from to = grind (arith, nat_tests)
+
+instance_text : (c : Config) (before : Trace) (id : CallId) (i : Serial) → IsCaller c before id → IsSerial id i → is_instance i ≡ true
+instance_text c before id i k s = and_true (is_any_site i.us) (is_counted i.serial) (subst (λ (site : ℕ). is_any_site site ≡ true) (sym s.of_caller) (any_site c.sites id.site k.boot.there)) (low i.serial s.least s.most)
+
+packet_text : (n from to : ℕ) → IsListed n from to → (is_counted n && (is_any_site from && is_any_site to)) ≡ true
+packet_text n from to k = and_true (is_counted n) (is_any_site from && is_any_site to) (low n k.least k.most) (and_true (is_any_site from) (is_any_site to) (there from k.from_site) (there to k.to_site))
+  where
+    there : (site : ℕ) → (1 ≤ site) × (site ≤ sites_max) → is_any_site site ≡ true
+    there site h = let a : 1 ≤ site = h.0 in let b : site ≤ sites_max = h.1 in grind (arith, nat_tests)
+
 -- ---- all records ----
 
 pub new_text : (c : Config) (before : Trace) (r : Entry) → Known c before r → is_in_reach r.what ≡ true → is_new_text r.what ≡ true
@@ -140,7 +157,7 @@ new_text c before r k reach = by r.what refl reach
     by (rec.Commit f site stamp parents content) e h = (subst CommitFits e k.versions).1
     by (rec.Join site epoch members) e h = join site epoch members (subst JoinFits e k.joins) (speaks (rec.Join site epoch members) e) (subst (MemberRecord before) e k.members)
     by (rec.Look epoch call request f w result) e h = h
-    by (rec.Grant epoch call request i m f stamp ss) e h = h
-    by (rec.Refuse epoch call request i m f why) e h = h
-    by (rec.Packet n from to kind) e h = h
+    by (rec.Grant epoch id request i m f stamp ss) e h = and_true (is_request request) (is_instance i) h (instance_text c before id i (speaks (rec.Grant epoch id request i m f stamp ss) e).1 (subst ReachedRecord e k.reached))
+    by (rec.Refuse epoch id request i m f why) e h = and_true (is_request request) (is_instance i) h (instance_text c before id i (speaks (rec.Refuse epoch id request i m f why) e).1 (subst ReachedRecord e k.reached))
+    by (rec.Packet n from to kind) e h = packet_text n from to (subst ReachedRecord e k.reached)
     by _ e h = refl

@@ -21,7 +21,9 @@ use Rattle.row_laws.proofs.AskedRun.{run_members}
 use Rattle.row_laws.proofs.SitesGoOn.{run_sites}
 use Rattle.row_laws.proofs.SitesPlaced.{first_has, places_kept}
 use Rattle.tree_laws.specs.Printed.{entries}
+use Rattle.rest_laws.proofs.Packs.{schedule_packs}
 use Rattle.rest_laws.proofs.Shown.{shown_entries}
+use Rattle.rest_laws.proofs.StoreStepFirst.{four_groups}
 use Rattle.past_laws.specs.Along.{EachComesSo, IsNamed}
 use Rattle.past_laws.proofs.Agreeing.{may_follow_all, one_tree, reverse_more}
 use Rattle.prompt_laws.specs.Speaks.{IsSite, SpeaksOfWhatIs}
@@ -37,6 +39,8 @@ use Rattle.version_text_laws.specs.Texts.{CommitFits}
 use Rattle.tree_text_laws.specs.NewTexts.{is_new_text}
 use Rattle.tree_text_laws.proofs.Whole.{trace_texts}
 use Rattle.new_text_laws.proofs.Mounts.{mounts_are_texts}
+use Rattle.reach_laws.specs.Reach.{IsReached}
+use Rattle.reach_laws.proofs.Run.{run_reached}
 use Rattle.audit_laws.specs.Inputs.{are_texts}
 use Rattle.audited_runs.specs.Left.{is_in_reach}
 use Rattle.audited_runs.proofs.Begun.{has_booted}
@@ -61,6 +65,7 @@ record Told (c : Config) (trace : Trace) : Type 0 where
   joins : EachRecord IsJoinFit trace
   members : EachRecord IsMemberRow trace
   sites : EachRecord IsSiteRow trace
+  reached : EachRecord IsReached trace
 
 all_known : (c : Config) → IsNamed c → (trace : Trace) → length trace ≤ 134217728 → Told c trace → EachRecord (Known c) trace
 all_known c named [] few k = tt
@@ -75,8 +80,9 @@ all_known c named (r ∷ before) few k = (
     joins = k.joins.0;
     members = k.members.0;
     begun = λ site. has_booted before site k.sites.1;
+    reached = k.reached.0;
   },
-  all_known c named before (omega (arith, few)) (record { comes = k.comes.1; speaks = k.speaks.1; boots = k.boots.1; calls = k.calls.1; versions = k.versions.1; joins = k.joins.1; members = k.members.1; sites = k.sites.1 }),
+  all_known c named before (omega (arith, few)) (record { comes = k.comes.1; speaks = k.speaks.1; boots = k.boots.1; calls = k.calls.1; versions = k.versions.1; joins = k.joins.1; members = k.members.1; sites = k.sites.1; reached = k.reached.1 }),
 )
 
 run_places : (lines : List ScheduleLine) → HasPlaces (config_of lines) (run lines)
@@ -101,6 +107,7 @@ run_known_records lines order versions = all_known (config_of lines) (run_is_nam
   joins = run_joins (config_of lines) lines;
   members = run_members (config_of lines) lines (cuts_none (config_of lines) lines (schedule_fits lines order));
   sites = run_sites (config_of lines) lines;
+  reached = run_reached (config_of lines) lines (schedule_fits lines order) (schedule_packs lines order) (omega (arith, four_groups lines));
 })
 
 -- ---- in the order in which they are printed ----

@@ -11,7 +11,7 @@ use Rattle.audit_laws.specs.Inputs.{input_of}
 use Rattle.audited_runs.specs.Left.{is_in_reach}
 
 -- The trace of these lines as it is printed, behind their header lines and `trace`, is answered yes, with how many records it has: where the
--- lines, and what isn't shown of a run's records, are in reach of the numbers of texts.
+-- lines, and the requests of calls, are in reach of the numbers of texts.
 abbrev pub IsAuditedWell : List ScheduleLine → Trace → Type 0
 IsAuditedWell lines trace =
     MayEnd lines → length lines ≤ 4294967295 → list_all (λ (e : Entry). is_in_reach e.what) (reverse trace) ≡ true → IsAnswered (input_of lines (reverse trace)) (answer.Yes (length (reverse trace)))

@@ -89,7 +89,7 @@ look_request c p t id request f w result few h =
 
 -- ---- opens ----
 
-open_asks : (m : Mode) (f : FileId) (w : Want) → is_open_of m f w ≡ true → IsRequest w
+pub open_asks : (m : Mode) (f : FileId) (w : Want) → is_open_of m f w ≡ true → IsRequest w
 open_asks mode.Read f (want.Give r) h = absurd (false_true h)
 open_asks mode.Write f (want.Give r) h = absurd (false_true h)
 open_asks mode.Resolve f (want.Give r) h = absurd (false_true h)
