@@ -85,7 +85,7 @@ use_told u k e = at k.begins (both_true (is_on k.begins u.epoch u.inst) (has_tur
         no : false ≡ true → ⊥
         no c = cc
     at (Uses f j) h = key_told (is_close k.words) u.turn k.turn f u.epoch j u.inst h.0 (sym (turn_told u.turn k) ∙ h.1)
-    at Walks h = absurd (no h.0)
+    at (Walks id) h = absurd (no h.0)
       where
         no : false ≡ true → ⊥
         no c = cc

@@ -32,7 +32,7 @@ no_use_key = record { first = 0; second = 0; third = 0; fourth = 0 }
 abbrev pub key_of_use : Beginning → Call → ℕ → Key
 key_of_use (Uses e i) words n = cond (is_close words) (closer_key e i) (user_key e i n)
 key_of_use (Denied why) words n = no_use_key
-key_of_use Walks words n = no_use_key
+key_of_use (Walks id) words n = no_use_key
 
 abbrev pub use_key : CallSoFar → Key
 use_key k = key_of_use k.begins k.words k.turn

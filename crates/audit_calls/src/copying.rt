@@ -37,7 +37,7 @@ fn copy_of_beginning(begins: &Beginning) -> Result<Beginning, NoMemory>
             epoch: *epoch,
             inst: *inst,
         }),
-        Beginning::Walks => Ok(Beginning::Walks),
+        Beginning::Walks { call } => Ok(Beginning::Walks { call: *call }),
     }
 }
 

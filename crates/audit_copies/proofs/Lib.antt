@@ -1,5 +1,6 @@
 pub mod Noting
 pub mod Splitting
+pub mod Tops
 pub mod Parting
-pub mod Files
 pub mod Having
+pub mod ByFile

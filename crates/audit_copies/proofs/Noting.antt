@@ -6,7 +6,7 @@ use Rattle.promises.specs.Past.{Copy}
 use Rattle.promises.specs.After.{is_copy_below, with_known}
 use Rattle.past_laws.specs.Agreement.{ascends}
 use Rattle.past_laws.proofs.Names.{false_true, both_parts}
-use Rattle.past_laws.proofs.TreesSorted.{copies, known_ascends}
+use Rattle.past_laws.proofs.TreesSorted.{copies}
 use Rattle.audit_copies.specs.Below.{IsSplit, stands_at}
 
 -- one that is below another isn't above it
@@ -17,10 +17,10 @@ below_not a b h = at (is_copy_below b a) refl
     at false e = e
     at true e = false_true (sym (copies.never a) ∙ copies.through a b a h e)
 
-put_here : (new x : Copy) (xs : List Copy) → is_copy_below new x ≡ true → with_known new (x ∷ xs) ≡ new ∷ x ∷ xs
+pub put_here : (new x : Copy) (xs : List Copy) → is_copy_below new x ≡ true → with_known new (x ∷ xs) ≡ new ∷ x ∷ xs
 put_here new x xs h = ap (λ b. cond b (new ∷ x ∷ xs) (cond (is_copy_below x new) (x ∷ with_known new xs) (x ∷ xs))) h
 
-put_later : (new x : Copy) (xs : List Copy) → is_copy_below x new ≡ true → with_known new (x ∷ xs) ≡ x ∷ with_known new xs
+pub put_later : (new x : Copy) (xs : List Copy) → is_copy_below x new ≡ true → with_known new (x ∷ xs) ≡ x ∷ with_known new xs
 put_later new x xs h =
     ap (λ b. cond b (new ∷ x ∷ xs) (cond (is_copy_below x new) (x ∷ with_known new xs) (x ∷ xs))) (below_not x new h)
     ∙ ap (λ b. cond b (x ∷ with_known new xs) (x ∷ xs)) h
@@ -94,6 +94,3 @@ noted_new new table rows slice after k view lent up split h put =
     let s : IsSplit (λ v. is_copy_below v new) slice k = split (ap (ascends is_copy_below) lent ∙ up) in
     let same : with_known new slice ≡ insert slice k new = known_new new slice k s.within s.first (stands_not slice k new h) in
     put ∙ (ap (λ xs. insert xs k new) (sym lent) ∙ (sym same ∙ ap (with_known new) (lent ∙ view)))
-
-pub noted_ascends : (new : Copy) (table after : List Copy) → ascends is_copy_below table ≡ true → after ≡ with_known new table → ascends is_copy_below after ≡ true
-noted_ascends new table after h e = ap (ascends is_copy_below) e ∙ known_ascends new table h

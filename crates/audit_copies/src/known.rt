@@ -1,33 +1,37 @@
-ghost use Rattle.std.specs.List.{list_any};
-ghost use Rattle.std.specs.Prelude.{◌≡◌, ◌==◌, ◌≤◌, [], map, filter, length, true, IfOk, OnOk, OnErr};
-ghost use Rattle.commit_graph.specs.Versions.{same_file, is_stamp_below};
+ghost use Rattle.std.specs.List.{list_all, list_any};
+ghost use Rattle.std.specs.Prelude.{◌≡◌, ◌==◌, ◌<◌, ◌≤◌, ◌&&◌, ◌++◌, [], cond, map, filter, length, true, IfSome, IfOk, OnOk, OnErr};
+ghost use Rattle.commit_graph.specs.Versions.{is_stamp_below, same_file};
+ghost use Rattle.audit_versions.specs.Keeping.{ascend, has_number, tops};
 ghost use Rattle.promises.specs.Past.{Copy};
 ghost use Rattle.promises.specs.After.{is_copy_below, with_known, with_all_known};
 ghost use Rattle.past_laws.specs.Agreement.{ascends};
-ghost use Rattle.audit_copies.specs.Below.{IsSplit, is_file_below, is_version_of, stands_at};
+ghost use Rattle.audit_copies.specs.Below.{is_file_below, is_version_of};
+ghost use Rattle.audit_copies.specs.Files.{AreByFile, copies_of, file_count, is_file_at, with_copy};
 
 use crate::CopyRow;
-use locus_ids::{Brought, FileId, ItemList, NoMemory, Stamp, Stamps};
+use crate::file_rows::{FileRows, has_copy};
+use crate::site_ends::{are_numbered, tops_of};
+use locus_ids::{FileId, ItemList, NoMemory, Stamps};
 use std::alloc::Global;
 use std::marker::Model;
 
-/// The versions that are known, ascending, each once. A version is found by halving.
+/// The versions that are known, ascending, each once. They stand file by file; a file is found by halving, and a version of it.
 #[derive(Drop)]
 pub struct Known {
-    rows: Vec<CopyRow>,
+    files: Vec<FileRows>,
 }
 
 impl Model for Known {
-    ghost use Rattle.std.specs.Prelude.{◌≡◌, List, true};
+    ghost use Rattle.std.specs.Prelude.{List};
     ghost use Rattle.promises.specs.Past.{Copy};
-    ghost use Rattle.promises.specs.After.{is_copy_below};
-    ghost use Rattle.past_laws.specs.Agreement.{ascends};
 
     ghost Value = { List Copy };
 
-    ghost view = { λ k. k.rows.items };
+    ghost use Rattle.audit_copies.specs.Files.{AreByFile, all_copies};
 
-    ghost invariant = { λ k. ascends is_copy_below k.rows.items ≡ true };
+    ghost view = { λ k. all_copies k.files.items };
+
+    ghost invariant = { λ k. AreByFile k.files.items };
 }
 
 impl Known {
@@ -36,15 +40,8 @@ impl Known {
         ensures { result ≡ [] }
     {
         Known {
-            rows: Vec::new(alloc),
+            files: Vec::new(alloc),
         }
-    }
-
-    /// All versions, ascending.
-    pub fn as_slice(&self) -> &[CopyRow]
-        ensures { result.now ≡ self.now }
-    {
-        self.rows.as_slice()
     }
 
     /// One more version is known. After `NoMemory` the list is as it was.
@@ -52,12 +49,7 @@ impl Known {
         ensures ok { OnOk result (self.new ≡ with_known copy self.old) }
         ensures err { OnErr result (self.new ≡ self.old) }
     {
-        let rows = self.rows.as_slice();
-        let place = place_of(rows, copy);
-        if is_there(rows, place, copy) {
-            return Ok(());
-        }
-        self.rows.insert(place, copy)?;
+        note_in(&mut self.files, copy)?;
         Ok(())
     }
 
@@ -71,77 +63,138 @@ impl Known {
         Ok(())
     }
 
+    /// The known versions of a file, ascending.
+    fn of_file(&self, file: FileId) -> &[CopyRow]
+        ensures found { result.now ≡ filter (λ (v : Copy). same_file v.file file) self.now }
+        ensures up { ascends is_copy_below result.now ≡ true }
+        ensures stamps { ascends is_stamp_below (map (λ (v : Copy). v.stamp) result.now) ≡ true }
+    {
+        of_file(self.files.as_slice(), file)
+    }
+
     /// The version is known.
     pub fn has(&self, copy: CopyRow) -> bool
         ensures { result ≡ list_any (is_version_of copy) self.now }
     {
-        let rows = self.rows.as_slice();
-        is_there(rows, place_of(rows, copy), copy)
+        has_copy(self.of_file(copy.file), copy)
     }
 
     /// The known versions of a file, ascending.
     pub fn candidates(&self, alloc: Global, file: FileId) -> Result<Stamps, NoMemory>
         ensures { IfOk result (λ made. made ≡ map (λ (v : Copy). v.stamp) (filter (λ (v : Copy). same_file v.file file) self.now)) }
     {
-        stamps_of(alloc, of_file(self.rows.as_slice(), file))
+        stamps_of(alloc, self.of_file(file))
+    }
+
+    /// The known versions of a file ascend, as they always do, and each site's are numbered from 1 on, which its first one tells.
+    pub fn are_in_order(&self, file: FileId) -> bool
+        ensures { result ≡ (ascend (map (λ (v : Copy). v.stamp) (filter (λ (v : Copy). same_file v.file file) self.now)) && list_all has_number (map (λ (v : Copy). v.stamp) (filter (λ (v : Copy). same_file v.file file) self.now))) }
+    {
+        are_numbered(self.of_file(file))
+    }
+
+    /// Of the known versions of a file the last of each site. Each is found by halving.
+    pub fn tops(&self, alloc: Global, file: FileId) -> Result<Stamps, NoMemory>
+        ensures { IfOk result (λ made. made ≡ tops (map (λ (v : Copy). v.stamp) (filter (λ (v : Copy). same_file v.file file) self.now))) }
+    {
+        tops_of(alloc, self.of_file(file))
     }
 
     /// The known versions of a group, ascending.
-    pub fn of_group(&self, group: u8) -> &[CopyRow]
-        ensures { result.now ≡ filter (λ (v : Copy). v.file.group == group) self.now }
+    pub fn of_group(&self, alloc: Global, group: u8) -> Result<ItemList<CopyRow>, NoMemory>
+        ensures { IfOk result (λ made. made ≡ filter (λ (v : Copy). v.file.group == group) self.now) }
     {
-        of_group(self.rows.as_slice(), group)
+        let mut made = ItemList::new(alloc);
+        let files = self.files.as_slice();
+        for rows in files {
+            add_of_group(&mut made, rows, group)?;
+        }
+        Ok(made)
     }
 }
 
-/// How many versions are below this one.
-fn place_of(rows: &[CopyRow], copy: CopyRow) -> usize
-    ensures within { result ≤ length rows.now }
-    ensures split { ascends is_copy_below rows.now ≡ true → IsSplit (λ v. is_copy_below v copy) rows.now result }
+/// One more version is known of its file. After `NoMemory` the files are as they were.
+fn note_in(files: &mut Vec<FileRows>, copy: CopyRow) -> Result<(), NoMemory>
+    requires { AreByFile files.old.items }
+    ensures ok { OnOk result (files.new.items ≡ with_copy copy files.old.items) }
+    ensures err { OnErr result (files.new.items ≡ files.old.items) }
 {
-    rows.partition_point(|row| is_copy_below(*row, copy))
+    let place = place_of(files.as_slice(), copy.file);
+    if is_at(files.as_slice(), place, copy.file) {
+        return note_at(files, place, copy);
+    }
+    let rows = FileRows::of(*files.allocator(), copy)?;
+    files.insert(place, rows)?;
+    Ok(())
 }
 
-/// At its place one stands that isn't above the version.
-fn is_there(rows: &[CopyRow], place: usize, copy: CopyRow) -> bool
-    ensures { result ≡ stands_at rows.now place copy }
+/// One more version is known of the file at this place.
+fn note_at(files: &mut Vec<FileRows>, place: usize, copy: CopyRow) -> Result<(), NoMemory>
+    requires there { is_file_at files.old.items place copy.file ≡ true }
+    requires count { place ≡ file_count copy.file files.old.items }
+    requires order { AreByFile files.old.items }
+    ensures ok { OnOk result (files.new.items ≡ with_copy copy files.old.items) }
+    ensures err { OnErr result (files.new.items ≡ files.old.items) }
 {
-    place < rows.len() && !is_copy_below(copy, rows[place])
+    let rows = &mut files[place];
+    rows.note(copy)?;
+    Ok(())
 }
 
-fn is_copy_below(a: CopyRow, b: CopyRow) -> bool
-    ensures { result ≡ is_copy_below a b }
+/// How many files are below this one.
+fn place_of(files: &[FileRows], file: FileId) -> usize
+    ensures within { result ≤ length files.now }
+    ensures count { AreByFile files.now → result ≡ file_count file files.now }
 {
-    a.file.group < b.file.group
-        || (a.file.group == b.file.group
-            && (a.file.ino < b.file.ino
-                || (a.file.ino == b.file.ino && is_stamp_below(a.stamp, b.stamp))))
+    files.partition_point(|rows| is_file_below(rows.file(), file))
 }
 
-fn is_stamp_below(a: Stamp, b: Stamp) -> bool
-    ensures { result ≡ is_stamp_below a b }
+/// The file stands at this place.
+fn is_at(files: &[FileRows], place: usize, file: FileId) -> bool
+    ensures { result ≡ is_file_at files.now place file }
 {
-    a.site < b.site || (a.site == b.site && a.n < b.n)
+    if files.len() <= place {
+        return false;
+    }
+    is_same(files[place].file(), file)
 }
 
-/// The versions of a file, which stand together.
-fn of_file(rows: &[CopyRow], file: FileId) -> &[CopyRow]
-    ensures { ascends is_copy_below rows.now ≡ true → result.now ≡ filter (λ (v : Copy). same_file v.file file) rows.now }
+fn is_same(a: FileId, b: FileId) -> bool
+    ensures { result ≡ same_file a b }
 {
-    let first = rows.partition_point(|row| is_file_below(row.file, file));
-    let rest = &rows[first..];
-    let many = rest.partition_point(|row| !is_file_below(file, row.file));
-    &rest[..many]
+    a == b
 }
 
-/// The versions of a group, which stand together.
-fn of_group(rows: &[CopyRow], group: u8) -> &[CopyRow]
-    ensures { ascends is_copy_below rows.now ≡ true → result.now ≡ filter (λ (v : Copy). v.file.group == group) rows.now }
+/// The versions of a file.
+fn of_file(files: &[FileRows], file: FileId) -> &[CopyRow]
+    requires { AreByFile files.now }
+    ensures { result.now ≡ copies_of file files.now }
 {
-    let first = rows.partition_point(|row| row.file.group < group);
-    let rest = &rows[first..];
-    let many = rest.partition_point(|row| !(group < row.file.group));
-    &rest[..many]
+    let place = place_of(files, file);
+    if is_at(files, place, file) {
+        files[place].as_slice()
+    } else {
+        &[]
+    }
+}
+
+/// Adds the versions of a file that is of the group.
+fn add_of_group(made: &mut ItemList<CopyRow>, rows: &FileRows, group: u8) -> Result<(), NoMemory>
+    ensures { OnOk result (made.new ≡ made.old ++ cond (rows.now.file.group == group) rows.now.copies []) }
+{
+    if rows.file().group != group {
+        return Ok(());
+    }
+    add_all(made, rows.as_slice())
+}
+
+fn add_all(made: &mut ItemList<CopyRow>, rows: &[CopyRow]) -> Result<(), NoMemory>
+    ensures { OnOk result (made.new ≡ made.old ++ rows.now) }
+{
+    for row in rows {
+        made.push(*row)?;
+    }
+    Ok(())
 }
 
 fn stamps_of(alloc: Global, rows: &[CopyRow]) -> Result<Stamps, NoMemory>

@@ -3,7 +3,9 @@
 #![tactic(auto)]
 
 mod copy_row;
+mod file_rows;
 mod known;
+mod site_ends;
 
 pub use copy_row::CopyRow;
 pub use known::Known;

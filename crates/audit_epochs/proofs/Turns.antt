@@ -3,6 +3,7 @@ use Rattle.std.proofs.Common.{◌≡◌, ℕ, ◌+◌, ◌≤◌, Bool, true, fa
 use Rattle.std.specs.Prelude.{sum_by}
 use Rattle.std.specs.List.{find}
 use Rattle.std.proofs.lemmas.List.Sums.{sum_by-cons}
+use Rattle.locus_ids.specs.declared.ids.CallId.{CallId}
 use Rattle.locus_ids.specs.declared.ids.EpochId.{EpochId}
 use Rattle.locus_ids.specs.declared.ids.Serial.{Serial}
 use Rattle.locus_ids.specs.declared.refusal.Refusal.{Refusal}
@@ -54,5 +55,5 @@ none_used b words none (t ∷ ts) = none_used b words none ts ∙ sym (sum_by-co
 pub turn_of_denied : (why : Refusal) (words : Call) (ts : List Epoch) → 0 ≡ turn_among ts (begins.Denied why) words
 turn_of_denied why words ts = none_used (begins.Denied why) words (λ t. refl) ts
 
-pub turn_of_walks : (words : Call) (ts : List Epoch) → 0 ≡ turn_among ts begins.Walks words
-turn_of_walks words ts = none_used begins.Walks words (λ t. refl) ts
+pub turn_of_walks : (id : CallId) (words : Call) (ts : List Epoch) → 0 ≡ turn_among ts (begins.Walks id) words
+turn_of_walks id words ts = none_used (begins.Walks id) words (λ t. refl) ts

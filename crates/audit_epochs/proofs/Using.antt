@@ -39,7 +39,7 @@ used_some (begins.Uses epoch inst) words e i h x =
     at true g = serial_turned inst x.grant.inst ∙ ap (same_serial x.grant.inst) (some_same inst i g)
     at false g = none_some i g
 used_some (begins.Denied why) words e i h x = none_some i h
-used_some begins.Walks words e i h x = none_some i h
+used_some (begins.Walks id) words e i h x = none_some i h
 
 pub used_none : (b : Beginning) (words : Call) (e : EpochId) → used_by b words e ≡ None → (x : Instance) → uses b words e x ≡ false
 used_none (begins.Uses epoch inst) words e h x =
@@ -49,7 +49,7 @@ used_none (begins.Uses epoch inst) words e h x =
     at true g = some_none inst g
     at false g = refl
 used_none (begins.Denied why) words e h x = refl
-used_none begins.Walks words e h x = refl
+used_none (begins.Walks id) words e h x = refl
 
 -- The same of an epoch as it is shown.
 

@@ -102,7 +102,7 @@ turn_in begins words t = sum_by (λ (x : Instance). x.uses + 1) (filter (uses be
 abbrev pub used_by : Beginning → Call → EpochId → Option Serial
 used_by (begins.Uses epoch inst) words e = cond (same_epoch epoch e && not (is_close words)) (Some inst) None
 used_by (begins.Denied why) words e = None
-used_by begins.Walks words e = None
+used_by (begins.Walks id) words e = None
 
 -- which use of the instance the next one is; 0 where it isn't open
 abbrev pub next_use : Serial → Epoch → ℕ

@@ -82,7 +82,7 @@ impl Epochs {
                 Ok(turn)
             }
             Beginning::Denied { why: _ } => Ok(0),
-            Beginning::Walks => Ok(0),
+            Beginning::Walks { call: _ } => Ok(0),
         }
     }
 

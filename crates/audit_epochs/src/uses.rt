@@ -46,7 +46,7 @@ pub(crate) fn used_by(begins: &Beginning, words: &Call, epoch: EpochId) -> Optio
             }
         }
         Beginning::Denied { why: _ } => None,
-        Beginning::Walks => None,
+        Beginning::Walks { call: _ } => None,
     }
 }
 

@@ -14,7 +14,7 @@ use Rattle.audit_calls.specs.Rows.{begun}
 use Rattle.audit_epochs.specs.Changes.{accepts as accepts_in, is_home, turn_among}
 
 pub accepted_so : (c : Config) (p : Past) (site process : ℕ) (id : CallId) (words : Call) (row : Site) (b : Beginning) (home : Option EpochId) (free : Option ℕ) (turn : ℕ) →
-    row ≡ site_at p site → b ≡ beginning (named_at row process) row.epoch words → home ≡ row.epoch → free ≡ lowest_free (named_at row process) → turn ≡ turn_among p.epochs b words →
+    row ≡ site_at p site → b ≡ beginning (named_at row process) row.epoch id words → home ≡ row.epoch → free ≡ lowest_free (named_at row process) → turn ≡ turn_among p.epochs b words →
     record p {
       sites = with_site site (accepts process words) p.sites;
       epochs = change (is_home home) (accepts_in b words) p.epochs;
@@ -25,7 +25,7 @@ accepted_so c p site process id words row b home free turn r e h f t = rw (t, f,
 
 -- the same of tables that show the past
 pub accepted_view : (c : Config) (p q : Past) → p ≡ q → (site process : ℕ) (id : CallId) (words : Call) (row : Site) (b : Beginning) (home : Option EpochId) (free : Option ℕ) (turn : ℕ) (ss : List Site) (ts : List Epoch) (k : CallSoFar) (ks : List CallSoFar) →
-    row ≡ site_at p site → b ≡ beginning (named_at row process) row.epoch words → home ≡ row.epoch → free ≡ lowest_free (named_at row process) → turn ≡ turn_among p.epochs b words →
+    row ≡ site_at p site → b ≡ beginning (named_at row process) row.epoch id words → home ≡ row.epoch → free ≡ lowest_free (named_at row process) → turn ≡ turn_among p.epochs b words →
     ss ≡ with_site site (accepts process words) p.sites → ts ≡ change (is_home home) (accepts_in b words) p.epochs → k ≡ begun (record { id = id; process = process; epoch = home; free = free; turn = turn }) words b → ks ≡ k ∷ p.calls →
     record p { sites = ss; epochs = ts; calls = ks; last = Accepting id } ≡ after c (rec.Accept site process id words) q
 accepted_view c p q same site process id words row b home free turn ss ts k ks r e h f t s x y z =

@@ -9,7 +9,6 @@ ghost use Rattle.promises.specs.After.{after, is_id, look_answer};
 
 use crate::{LastSeen, Told};
 use audit_calls::{Accepted, CallRow};
-use audit_tree::found_in;
 use call_rules::Answer;
 use locus_ids::{CallId, EpochId, FileId, Mode, NoMemory, Refusal};
 use trace_book::{Call, Served, What};
@@ -27,7 +26,7 @@ impl Told {
         ensures { (c : Config) → OnOk result (self.new ≡ after c (rec.Accept site process id words) self.old) }
     {
         let row = self.sites.site_at(site);
-        let begins = row.beginning(process, &words);
+        let begins = row.beginning(process, id, &words);
         let epoch = row.epoch();
         let at = Accepted {
             id,
@@ -63,19 +62,20 @@ impl Told {
     }
 
     /// What a look is answered, by the version that it is served.
-    fn look_answer(&self, file: FileId, what: &What, served: &Served) -> Result<Answer, NoMemory>
-        ensures { IfOk result (λ answer. answer ≡ look_answer self.now file what.now served.now) }
+    fn look_answer(
+        &mut self,
+        file: FileId,
+        what: &What,
+        served: &Served,
+    ) -> Result<Answer, NoMemory>
+        ensures answer { IfOk result (λ answer. answer ≡ look_answer self.old file what.now served.now) }
+        ensures same { self.new ≡ self.old }
     {
         match served {
             Served::At { stamp } => {
                 let kind = self.files.said_of(file).kind;
-                found_in(
-                    self.alloc,
-                    kind,
-                    *stamp,
-                    what,
-                    self.versions.content(file, *stamp),
-                )
+                let content = self.versions.content(file, *stamp);
+                self.dir.found_in(kind, *stamp, what, content)
             }
             Served::No { why } => {
                 let why = why.copy()?;

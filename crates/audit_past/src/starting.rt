@@ -8,6 +8,7 @@ use crate::{LastSeen, Told};
 use audit_calls::Calls;
 use audit_epochs::Epochs;
 use audit_sites::{Makings, SiteRows};
+use audit_tree::LastDir;
 use audit_versions::Versions;
 use commit_graph::Version;
 use locus_ids::{Bytes, Config, FileId, NoMemory, Stamp, Stamps};
@@ -30,6 +31,7 @@ impl Told {
             versions,
             files,
             seen: LastSeen::Another,
+            dir: LastDir::new(alloc),
         })
     }
 }

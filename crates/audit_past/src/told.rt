@@ -5,6 +5,7 @@ use crate::LastSeen;
 use audit_calls::Calls;
 use audit_epochs::Epochs;
 use audit_sites::{Makings, SiteRows};
+use audit_tree::LastDir;
 use audit_versions::Versions;
 use std::alloc::Global;
 use std::marker::Model;
@@ -19,6 +20,8 @@ pub struct Told {
     pub(crate) versions: Versions,
     pub(crate) files: Makings,
     pub(crate) seen: LastSeen,
+    /// Kept for the next look at it.
+    pub(crate) dir: LastDir,
 }
 
 impl Model for Told {

@@ -55,7 +55,7 @@ pub fn may_start(
 ) -> Result<bool, NoMemory>
     ensures { IfOk result (λ yes. yes ≡ may_start config.now (epoch_at told.now epoch) group copies.now) }
 {
-    Ok(audit_site_rows::may_start(config, told, epoch, group, copies))
+    audit_site_rows::may_start(config, told, epoch, group, copies)
 }
 
 /// A site adopts a version of its epoch that is above its own, of a file that is for it and that nobody has open there.

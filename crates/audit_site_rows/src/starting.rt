@@ -1,4 +1,4 @@
-ghost use Rattle.std.specs.Prelude.{◌≡◌, ◌&&◌};
+ghost use Rattle.std.specs.Prelude.{◌≡◌, ◌&&◌, IfOk};
 ghost use Rattle.promises.specs.Past.{epoch_at};
 ghost use Rattle.promises.specs.Rows.{may_start};
 ghost use Rattle.audit_row_parts.specs.Parts.{are_joined_among, is_synced_among};
@@ -6,7 +6,7 @@ ghost use Rattle.audit_row_parts.specs.Parts.{are_joined_among, is_synced_among}
 use audit_epochs::EpochRow;
 use audit_past::Told;
 use audit_row_parts::{are_all_joined, is_number, is_synced, same_as_brought};
-use locus_ids::{Brought, Config, EpochId, Members};
+use locus_ids::{Brought, Config, EpochId, Members, NoMemory};
 
 /// A group starts once in an epoch, when all its member packs are in it, with the versions that they brought.
 pub fn may_start(
@@ -15,23 +15,24 @@ pub fn may_start(
     epoch: EpochId,
     group: u8,
     copies: &[Brought],
-) -> bool
-    ensures { result ≡ may_start config.now (epoch_at told.now epoch) group copies.now }
+) -> Result<bool, NoMemory>
+    ensures { IfOk result (λ yes. yes ≡ may_start config.now (epoch_at told.now epoch) group copies.now) }
 {
     match told.epochs().find(epoch) {
         Some(row) => starts(config, row, group, copies),
-        None => false,
+        None => Ok(false),
     }
 }
 
-fn starts(config: &Config, row: &EpochRow, group: u8, copies: &[Brought]) -> bool
-    ensures { result ≡ may_start config.now row.now group copies.now }
+fn starts(config: &Config, row: &EpochRow, group: u8, copies: &[Brought]) -> Result<bool, NoMemory>
+    ensures { IfOk result (λ yes. yes ≡ may_start config.now row.now group copies.now) }
 {
     if is_number(row.started(), group) {
-        return false;
+        return Ok(false);
     }
-    let as_brought = same_as_brought(copies, row.known().of_group(group));
-    are_there(config, &row.members(), row.joined(), group, as_brought)
+    let known = row.known().of_group(config.mounts.allocator(), group)?;
+    let as_brought = same_as_brought(copies, known.as_slice());
+    Ok(are_there(config, &row.members(), row.joined(), group, as_brought))
 }
 
 /// The synchronization site and all members with a pack of the group are among these, and the rest holds.

@@ -7,17 +7,17 @@ ghost use Rattle.audit_sites.specs.Rows.{named_at};
 
 use crate::site::SiteRow;
 use locus_ids::sizes::FILE_BYTES;
-use locus_ids::{EpochId, Mode, Refusal};
+use locus_ids::{CallId, EpochId, Mode, Refusal};
 use trace_book::{Beginning, Call, Descriptor};
 
 impl SiteRow {
-    /// Where a call begins that the site accepts.
-    pub fn beginning(&self, process: u8, words: &Call) -> Beginning
-        ensures { result ≡ beginning (named_at self.now process) self.now.epoch words.now }
+    /// Where a call of this name begins that the site accepts.
+    pub fn beginning(&self, process: u8, call: CallId, words: &Call) -> Beginning
+        ensures { result ≡ beginning (named_at self.now process) self.now.epoch call words.now }
     {
         let now = self.epoch();
         match words {
-            Call::Open { path: _, mode: _ } => begins_open(now, self.lowest_free(process)),
+            Call::Open { path: _, mode: _ } => begins_open(now, call, self.lowest_free(process)),
             Call::Read { fd, at: _, len: _ } => {
                 begins_on(false, now, self.descriptor(process, *fd))
             }
@@ -33,7 +33,7 @@ impl SiteRow {
             Call::Commit { fd } => begins_on(true, now, self.descriptor(process, *fd)),
             Call::Abort { fd } => begins_on(true, now, self.descriptor(process, *fd)),
             Call::Close { fd } => begins_on(false, now, self.descriptor(process, *fd)),
-            _ => begins_walk(now),
+            _ => begins_walk(now, call),
         }
     }
 }
@@ -89,11 +89,11 @@ fn is_read(mode: Mode) -> bool
 }
 
 /// A call that walks a path: the site must be in an epoch.
-fn begins_walk(now: Option<EpochId>) -> Beginning
-    ensures { result ≡ begins_walk now }
+fn begins_walk(now: Option<EpochId>, call: CallId) -> Beginning
+    ensures { result ≡ begins_walk now call }
 {
     match now {
-        Some(_) => Beginning::Walks,
+        Some(_) => Beginning::Walks { call },
         None => Beginning::Denied {
             why: Refusal::NoPartition,
         },
@@ -101,11 +101,11 @@ fn begins_walk(now: Option<EpochId>) -> Beginning
 }
 
 /// An open wants a free descriptor, before that.
-fn begins_open(now: Option<EpochId>, free: Option<u16>) -> Beginning
-    ensures { result ≡ begins_open now free }
+fn begins_open(now: Option<EpochId>, call: CallId, free: Option<u16>) -> Beginning
+    ensures { result ≡ begins_open now call free }
 {
     match free {
-        Some(_) => begins_walk(now),
+        Some(_) => begins_walk(now, call),
         None => Beginning::Denied {
             why: Refusal::NoDescriptor,
         },

@@ -5,6 +5,7 @@
 
 mod acting;
 mod answering;
+mod last_dir;
 mod looking;
 mod opening;
 mod operating;
@@ -13,7 +14,7 @@ mod working;
 
 pub use acting::{Added, act};
 pub use answering::{close_answer, granted_answer, outcome_answer};
-pub use looking::found_in;
+pub use last_dir::LastDir;
 pub use opening::{
     excludes, has_kept, is_given, is_only, is_read, is_served, kept_refusal, numbers_used,
 };

@@ -216,7 +216,7 @@ impl Versions {
     }
 
     /// The file has each of these versions.
-    fn has_all(&self, file: FileId, stamps: &[Stamp]) -> bool
+    pub fn has_all(&self, file: FileId, stamps: &[Stamp]) -> bool
         ensures { result ≡ list_all (is_in self.now file) stamps.now }
     {
         stamps.iter().all(|stamp| self.has(file, *stamp))

@@ -33,9 +33,9 @@ use Rattle.record_text_laws.proofs.ByKind.{any_site, call_text, counted}
 use Rattle.record_text_laws.proofs.JoinTexts.{join_text}
 use Rattle.version_text_laws.specs.Texts.{CommitFits}
 use Rattle.tree_text_laws.specs.NewTexts.{is_new_call, is_new_text}
+use Rattle.new_text_laws.specs.Keeping.{AsksLow}
 use Rattle.new_text_laws.proofs.Operations.{act_counted}
 use Rattle.reach_laws.specs.Reach.{IsListed, IsSerial, ReachedRecord}
-use Rattle.audited_runs.specs.Left.{is_in_reach}
 
 -- what is known of a record of a run and of those before it
 pub record Known (c : Config) (before : Trace) (r : Entry) : Type 0 where
@@ -49,6 +49,7 @@ pub record Known (c : Config) (before : Trace) (r : Entry) : Type 0 where
   pub members : MemberRecord before r.what
   pub begun : (site : ℕ) → 1 ≤ boot_of before site
   pub reached : ReachedRecord r.what
+  pub asks : AsksLow r.what
 
 -- ---- boots ----
 
@@ -133,8 +134,8 @@ packet_text n from to k = and_true (is_counted n) (is_any_site from && is_any_si
 
 -- ---- all records ----
 
-pub new_text : (c : Config) (before : Trace) (r : Entry) → Known c before r → is_in_reach r.what ≡ true → is_new_text r.what ≡ true
-new_text c before r k reach = by r.what refl reach
+pub new_text : (c : Config) (before : Trace) (r : Entry) → Known c before r → is_new_text r.what ≡ true
+new_text c before r k = by r.what refl
   where
     may : (w : Record) → r.what ≡ w → may_follow c (past c before) w ≡ true
     may w e = subst (λ (x : Record). may_follow c (past c before) x ≡ true) e k.may
@@ -150,14 +151,14 @@ new_text c before r k reach = by r.what refl reach
     join : (site : ℕ) (epoch : EpochId) (members : Members) → JoinFits (rec.Join site epoch members) → RecordSpeaks c before (rec.Join site epoch members) → MemberRecord before (rec.Join site epoch members) → (is_epoch epoch && is_members members) ≡ true
     join site epoch members fits said same = (let low : 1 ≤ boot_of before site = k.begun site in join_text site epoch members (site_high c.sites site said.0) (omega (arith, low, same)) fits)
 
-    by : (w : Record) → r.what ≡ w → is_in_reach w ≡ true → is_new_text w ≡ true
-    by (rec.Up site boot) e h = up_boot c before r site boot e k.boots (may (rec.Up site boot) e) (speaks (rec.Up site boot) e)
-    by (rec.Accept site process id words) e h = accept site process id words e (speaks (rec.Accept site process id words) e) (subst CountsRecord e k.calls)
-    by (rec.Act epoch i n o result) e h = act_counted c before epoch i n o result k.few (may (rec.Act epoch i n o result) e)
-    by (rec.Commit f site stamp parents content) e h = (subst CommitFits e k.versions).1
-    by (rec.Join site epoch members) e h = join site epoch members (subst JoinFits e k.joins) (speaks (rec.Join site epoch members) e) (subst (MemberRecord before) e k.members)
-    by (rec.Look epoch call request f w result) e h = h
-    by (rec.Grant epoch id request i m f stamp ss) e h = and_true (is_request request) (is_instance i) h (instance_text c before id i (speaks (rec.Grant epoch id request i m f stamp ss) e).1 (subst ReachedRecord e k.reached))
-    by (rec.Refuse epoch id request i m f why) e h = and_true (is_request request) (is_instance i) h (instance_text c before id i (speaks (rec.Refuse epoch id request i m f why) e).1 (subst ReachedRecord e k.reached))
-    by (rec.Packet n from to kind) e h = packet_text n from to (subst ReachedRecord e k.reached)
-    by _ e h = refl
+    by : (w : Record) → r.what ≡ w → is_new_text w ≡ true
+    by (rec.Up site boot) e = up_boot c before r site boot e k.boots (may (rec.Up site boot) e) (speaks (rec.Up site boot) e)
+    by (rec.Accept site process id words) e = accept site process id words e (speaks (rec.Accept site process id words) e) (subst CountsRecord e k.calls)
+    by (rec.Act epoch i n o result) e = act_counted c before epoch i n o result k.few (may (rec.Act epoch i n o result) e)
+    by (rec.Commit f site stamp parents content) e = (subst CommitFits e k.versions).1
+    by (rec.Join site epoch members) e = join site epoch members (subst JoinFits e k.joins) (speaks (rec.Join site epoch members) e) (subst (MemberRecord before) e k.members)
+    by (rec.Look epoch id request f w result) e = subst AsksLow e k.asks
+    by (rec.Grant epoch id request i m f stamp ss) e = and_true (is_request request) (is_instance i) (subst AsksLow e k.asks) (instance_text c before id i (speaks (rec.Grant epoch id request i m f stamp ss) e).1 (subst ReachedRecord e k.reached))
+    by (rec.Refuse epoch id request i m f why) e = and_true (is_request request) (is_instance i) (subst AsksLow e k.asks) (instance_text c before id i (speaks (rec.Refuse epoch id request i m f why) e).1 (subst ReachedRecord e k.reached))
+    by (rec.Packet n from to kind) e = packet_text n from to (subst ReachedRecord e k.reached)
+    by _ e = refl

@@ -1,4 +1,4 @@
--- The trace of every run is text where what is left of it is in reach.
+-- The trace of every run is text.
 use Rattle.std.proofs.Common.{◌≡◌, ◌≤◌, ℕ, Bool, true, ◌&&◌, List, [], ◌∷◌, length, Some, refl, sym, ap, subst, ◌∙◌, arith}
 use Rattle.std.proofs.lemmas.List.Folds.{list_all-append}
 use Rattle.std.specs.Prelude.{reverse}
@@ -38,11 +38,13 @@ use Rattle.record_text_laws.proofs.Joins.{run_joins}
 use Rattle.version_text_laws.specs.Texts.{CommitFits}
 use Rattle.tree_text_laws.specs.NewTexts.{is_new_text}
 use Rattle.tree_text_laws.proofs.Whole.{trace_texts}
+use Rattle.new_text_laws.specs.Keeping.{KeepsFew}
 use Rattle.new_text_laws.proofs.Mounts.{mounts_are_texts}
+use Rattle.new_text_laws.proofs.Rows.{asks_low}
+use Rattle.few_kept_laws.proofs.Few.{run_keeps_few}
 use Rattle.reach_laws.specs.Reach.{IsReached}
 use Rattle.reach_laws.proofs.Run.{run_reached}
 use Rattle.audit_laws.specs.Inputs.{are_texts}
-use Rattle.audited_runs.specs.Left.{is_in_reach}
 use Rattle.audited_runs.proofs.Begun.{has_booted}
 use Rattle.audited_runs.proofs.News.{Known, new_text}
 
@@ -66,6 +68,7 @@ record Told (c : Config) (trace : Trace) : Type 0 where
   members : EachRecord IsMemberRow trace
   sites : EachRecord IsSiteRow trace
   reached : EachRecord IsReached trace
+  few_kept : KeepsFew 17 c trace
 
 all_known : (c : Config) → IsNamed c → (trace : Trace) → length trace ≤ 134217728 → Told c trace → EachRecord (Known c) trace
 all_known c named [] few k = tt
@@ -81,8 +84,9 @@ all_known c named (r ∷ before) few k = (
     members = k.members.0;
     begun = λ site. has_booted before site k.sites.1;
     reached = k.reached.0;
+    asks = asks_low 17 c before r.what (omega arith) k.few_kept.1 k.comes.0.row;
   },
-  all_known c named before (omega (arith, few)) (record { comes = k.comes.1; speaks = k.speaks.1; boots = k.boots.1; calls = k.calls.1; versions = k.versions.1; joins = k.joins.1; members = k.members.1; sites = k.sites.1; reached = k.reached.1 }),
+  all_known c named before (omega (arith, few)) (record { comes = k.comes.1; speaks = k.speaks.1; boots = k.boots.1; calls = k.calls.1; versions = k.versions.1; joins = k.joins.1; members = k.members.1; sites = k.sites.1; reached = k.reached.1; few_kept = k.few_kept.1 }),
 )
 
 run_places : (lines : List ScheduleLine) → HasPlaces (config_of lines) (run lines)
@@ -108,6 +112,7 @@ run_known_records lines order versions = all_known (config_of lines) (run_is_nam
   members = run_members (config_of lines) lines (cuts_none (config_of lines) lines (schedule_fits lines order));
   sites = run_sites (config_of lines) lines;
   reached = run_reached (config_of lines) lines (schedule_fits lines order) (schedule_packs lines order) (omega (arith, four_groups lines));
+  few_kept = run_keeps_few (config_of lines) lines;
 })
 
 -- ---- in the order in which they are printed ----
@@ -122,18 +127,18 @@ reversed_all p (r ∷ before) h =
     let parts = both_true (list_all p (reverse before)) (list_all p (r ∷ [])) (sym (list_all-append p (reverse before) (r ∷ [])) ∙ (ap (list_all p) (sym (reverse_more r before)) ∙ h)) in
     ((both_true (p r) true parts.1).0, reversed_all p before parts.0)
 
-each_new : (c : Config) (trace : Trace) → EachRecord (Known c) trace → EachRecord (λ before r. is_in_reach r.what ≡ true) trace → EachRecord (λ before r. is_new_text r.what ≡ true) trace
-each_new c [] k h = tt
-each_new c (r ∷ before) k h = (new_text c before r k.0 h.0, each_new c before k.1 h.1)
+each_new : (c : Config) (trace : Trace) → EachRecord (Known c) trace → EachRecord (λ before r. is_new_text r.what ≡ true) trace
+each_new c [] k = tt
+each_new c (r ∷ before) k = (new_text c before r k.0, each_new c before k.1)
 
 each_both : (trace : Trace) → EachRecord IsLined trace → EachRecord (λ before r. is_record r.what ≡ true) trace → EachRecord (λ before r. (is_counted r.line && is_record r.what) ≡ true) trace
 each_both [] k h = tt
 each_both (r ∷ before) k h = (and_true (is_counted r.line) (is_record r.what) k.0 h.0, each_both before k.1 h.1)
 
-pub run_texts : (lines : List ScheduleLine) → AreInOrder lines → VersionsFit lines → length lines ≤ 4294967295 → list_all (λ (e : Entry). is_in_reach e.what) (reverse (trace_of (run lines))) ≡ true → are_texts (reverse (trace_of (run lines))) ≡ true
-run_texts lines order versions few reach =
+pub run_texts : (lines : List ScheduleLine) → AreInOrder lines → VersionsFit lines → length lines ≤ 4294967295 → are_texts (reverse (trace_of (run lines))) ≡ true
+run_texts lines order versions few =
     let c : Config = config_of lines in
     let trace : Trace = trace_of (run lines) in
-    let new : list_all (λ (e : Entry). is_new_text e.what) (reverse trace) ≡ true = all_reversed (λ (e : Entry). is_new_text e.what) trace (each_new c trace (run_known_records lines order versions) (reversed_all (λ (e : Entry). is_in_reach e.what) trace reach)) in
+    let new : list_all (λ (e : Entry). is_new_text e.what) (reverse trace) ≡ true = all_reversed (λ (e : Entry). is_new_text e.what) trace (each_new c trace (run_known_records lines order versions)) in
     let records : list_all (λ (e : Entry). is_record e.what) (reverse trace) ≡ true = trace_texts c (reverse trace) (run_is_named lines order) (mounts_are_texts lines order) (one_tree c (run_is_named lines order) trace (run_comes_so lines order)) new in
     all_reversed (λ (e : Entry). is_counted e.line && is_record e.what) trace (each_both trace (run_lined c lines few) (reversed_all (λ (e : Entry). is_record e.what) trace records))

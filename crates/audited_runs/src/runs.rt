@@ -14,8 +14,7 @@ use audit_laws::sound_traces_are_answered_yes;
 use version_text_laws::commits_have_texts;
 
 /// As its records are read of their texts, each record of every run is consistent with those before it. So the trace of a schedule of no more
-/// than 4,294,967,295 lines, behind its header lines and `trace`, is answered yes: it is text where the numbers of requests are in
-/// range, which isn't shown here of mends.
+/// than 4,294,967,295 lines, which is text, is answered yes behind its header lines and `trace`.
 pub fn runs_are_audited_well()
     ensures sound { (lines : List ScheduleLine) → AreInOrder lines →
         audited_all (config_of lines) (map entry_as_read (reverse (trace_of (run lines)))) ≡ Sound (last_line (trace_of (run lines))) (past (config_of lines) (trace_of (run lines))) }

@@ -24,7 +24,7 @@ use Rattle.role_steps.specs.Own.{Every}
 use Rattle.role_steps.specs.Tables.{first_that}
 use Rattle.role_steps.specs.Views.{Frame, Users}
 use Rattle.role_steps.specs.Requests.{waiting_key, without_waiting, user_instance, with_user_instance, without_user_instance, descriptors_of, asks, next_request, asks_op_of, asks_close_of}
-use Rattle.role_steps.specs.Using.{after_reply, is_hopeless, without_hope, is_packed, asks_want, next_want, goes_on, accepted, frees, on_call, with_answer, takes_answer, asks_open_of, opened_answer, kept_for, mended_file, takes_open, on_open_done_of, on_open_done, asks_op_number, op_answer, on_op_done_of, on_op_done, close_answer, on_close_done_of, on_close_done, looks_again, content_answer, with_brought, takes_look, asks_take, on_look_done_of, on_look_done}
+use Rattle.role_steps.specs.Using.{after_reply, is_hopeless, without_hope, is_packed, asks_want, next_want, goes_on, accepted, frees, on_call, with_answer, takes_answer, asks_open_of, opened_answer, kept_for, mended_file, takes_open, on_open_done_of, on_open_done, asks_op_number, op_answer, on_op_done_of, on_op_done, close_answer, on_close_done_of, on_close_done, looks_again, content_answer, with_brought, takes_look, asks_take, on_look_done_of, on_look_done, own_call}
 use Rattle.role_steps.specs.Using as using
 use Rattle.role_steps.specs.declared.users.Asking.{Asking}
 use Rattle.role_steps.specs.declared.users.Asking.TheVariants as asking
@@ -93,7 +93,7 @@ frees_bounded process _ u g = g
 pub on_call_bounded : (f : Frame) (now : Option EpochId) (process : ℕ) (words : Call) (u : Users) → UsersBounded u → UsersBounded (on_call f now process words u).view
 on_call_bounded f now process words u g =
     let n : ℕ = u.calls + 1 in
-    goes_bounded f (accepted process n words (beginning (descriptors_of u process) now words)) (frees process words (record u { calls = n })) refl (frees_bounded process words (record u { calls = n }) g)
+    goes_bounded f (accepted process n words (beginning (descriptors_of u process) now (own_call f.me f.boot n) words)) (frees process words (record u { calls = n })) refl (frees_bounded process words (record u { calls = n }) g)
 
 -- ---- an answer is taken ----
 

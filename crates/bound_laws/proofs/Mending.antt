@@ -18,7 +18,7 @@ use Rattle.wire_messages.specs.declared.body.Opening.TheVariants as how
 use Rattle.role_steps.specs.Tables.{with_row, without_row, first_that}
 use Rattle.role_steps.specs.Views.{Frame, Users, SiteView, Outcome, quiet, to_some, sync_site}
 use Rattle.role_steps.specs.Requests.{waiting_of, waiting_key, descriptors_of, next_request}
-use Rattle.role_steps.specs.Using.{is_packed, asks_want, accepted, on_call}
+use Rattle.role_steps.specs.Using.{is_packed, asks_want, accepted, on_call, own_call}
 use Rattle.role_steps.specs.Mends.{mends_in, is_mend_in, has_mend_in, wants_mend, row_file, starts_mend_of, starts_mend, starts_mends_in}
 use Rattle.role_steps.specs.Epochs.{frame_in}
 use Rattle.role_steps.specs.declared.rounds.InEpoch.{InEpoch}
@@ -129,7 +129,7 @@ mend_starts f file u none = by_pack (is_packed f file.group)
     started = record u { calls = u.calls + 1 }
 
     w : WaitingCall
-    w = accepted 0 (u.calls + 1) (call.Mend file) (beginning (descriptors_of u 0) (Some f.epoch) (call.Mend file))
+    w = accepted 0 (u.calls + 1) (call.Mend file) (beginning (descriptors_of u 0) (Some f.epoch) (own_call f.me f.boot (u.calls + 1)) (call.Mend file))
 
     asked : Bool → Outcome Users
     asked b = asks_want f w (cond b (want.OpenToMend file) (want.Give (reply.No NoStorage))) started

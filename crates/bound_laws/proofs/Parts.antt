@@ -19,9 +19,9 @@ use Rattle.call_rules.specs.declared.answer.Answer.TheVariants.{Showed, Describe
 use Rattle.call_rules.specs.declared.want.Want.{Want}
 use Rattle.call_rules.specs.declared.want.Want.TheVariants as want
 use Rattle.call_rules.specs.Closing.{Unchanged, closes, gives, give_up, close_all}
-use Rattle.call_rules.specs.Making.{after_insert, after_make, after_probe, probes}
+use Rattle.call_rules.specs.Making.{after_insert, after_make, fills, after_probe, probes}
 use Rattle.call_rules.specs.Naming.{renames}
-use Rattle.call_rules.specs.Opening.{opens_file, lists, describes, op_wants, close_wants}
+use Rattle.call_rules.specs.Opening.{opens_file, lists, describes, op_wants, close_wants, Shows}
 use Rattle.call_rules.specs.Removing.{removes, empties, opens_target, by_kind, finds}
 
 -- ---- parts of scripts ----
@@ -86,29 +86,45 @@ two_closed i j r (_ ∷ rest) = tt
 
 -- ---- create and mkdir ----
 
-pub insert_most : (p : Serial) (name : List ℕ) (kind : Kind) (ino : ℕ) → AtMost 2 (after_insert p name kind ino)
-insert_most p name kind ino [] = omega arith
-insert_most p name kind ino (Did o ∷ rest) = more 1 (close_all (p ∷ []) (reply.Made ino)) (Did o) rest (one_closed p (reply.Made ino))
-insert_most p name kind ino (Refused why ∷ rest) = more 1 (give_up (Unchanged p ∷ []) why) (Refused why) rest (one_up p why)
-insert_most p name kind ino (_ ∷ rest) = tt
+pub insert_most : (p : Serial) (name : List ℕ) (kind : Kind) (ino : ℕ) (told : Reply) → AtMost 2 (after_insert p name kind ino told)
+insert_most p name kind ino told [] = omega arith
+insert_most p name kind ino told (Did o ∷ rest) = more 1 (close_all (p ∷ []) told) (Did o) rest (one_closed p told)
+insert_most p name kind ino told (Refused why ∷ rest) = more 1 (give_up (Unchanged p ∷ []) why) (Refused why) rest (one_up p why)
+insert_most p name kind ino told (_ ∷ rest) = tt
 
-pub make_most : (p : Serial) (name : List ℕ) (kind : Kind) (made : Serial) (ino : ℕ) → AtMost 3 (after_make p name kind made ino)
-make_most p name kind made ino [] = omega arith
-make_most p name kind made ino (Ended stamp ∷ rest) = more 2 (after_insert p name kind ino) (Ended stamp) rest (insert_most p name kind ino)
-make_most p name kind made ino (Refused why ∷ rest) = further 1 3 (give_up (Unchanged p ∷ []) why) (Refused why) rest (omega arith) (one_up p why)
-make_most p name kind made ino (_ ∷ rest) = tt
+pub make_most : (p : Serial) (name : List ℕ) (kind : Kind) (made : Serial) (ino : ℕ) (told : Reply) → AtMost 3 (after_make p name kind made ino told)
+make_most p name kind made ino told [] = omega arith
+make_most p name kind made ino told (Ended stamp ∷ rest) = more 2 (after_insert p name kind ino told) (Ended stamp) rest (insert_most p name kind ino told)
+make_most p name kind made ino told (Refused why ∷ rest) = further 1 3 (give_up (Unchanged p ∷ []) why) (Refused why) rest (omega arith) (one_up p why)
+make_most p name kind made ino told (_ ∷ rest) = tt
 
-pub probe_most : (p : Serial) (group : ℕ) (name : List ℕ) (kind : Kind) (sites : Option Sites) → AtMost 4 (after_probe p group name kind sites)
-probe_most p group name kind sites [] = omega arith
-probe_most p group name kind sites (Opened made ino ∷ rest) = more 3 (after_make p name kind made ino) (Opened made ino) rest (make_most p name kind made ino)
-probe_most p group name kind sites (Refused why ∷ rest) = further 1 4 (give_up (Unchanged p ∷ []) why) (Refused why) rest (omega arith) (one_up p why)
-probe_most p group name kind sites (_ ∷ rest) = tt
+-- a file that begins with some bytes takes one request more
+abbrev pub writes : List ℕ → ℕ
+writes [] = 0
+writes (b ∷ bs) = 1
 
-pub probes_most : (p : Serial) (group : ℕ) (name : List ℕ) (kind : Kind) (sites : Option Sites) → AtMost 5 (probes p group name kind sites)
-probes_most p group name kind sites [] = omega arith
-probes_most p group name kind sites (Did o ∷ rest) = more 4 (after_probe p group name kind sites) (Did o) rest (probe_most p group name kind sites)
-probes_most p group name kind sites (Refused why ∷ rest) = further 1 5 (give_up (Unchanged p ∷ []) why) (Refused why) rest (omega arith) (one_up p why)
-probes_most p group name kind sites (_ ∷ rest) = tt
+pub writes_once : (bytes : List ℕ) → writes bytes ≤ 1
+writes_once [] = omega arith
+writes_once (b ∷ bs) = omega arith
+
+pub fills_most : (p : Serial) (name : List ℕ) (kind : Kind) (bytes : List ℕ) (made : Serial) (ino : ℕ) (told : Reply) → AtMost (3 + writes bytes) (fills p name kind bytes made ino told)
+fills_most p name kind [] made ino told answers = make_most p name kind made ino told answers
+fills_most p name kind (b ∷ bs) made ino told [] = omega arith
+fills_most p name kind (b ∷ bs) made ino told (Did o ∷ rest) = more 3 (after_make p name kind made ino told) (Did o) rest (make_most p name kind made ino told)
+fills_most p name kind (b ∷ bs) made ino told (Refused why ∷ rest) = further 2 4 (give_up (Unchanged made ∷ Unchanged p ∷ []) why) (Refused why) rest (omega arith) (two_up made p why)
+fills_most p name kind (b ∷ bs) made ino told (_ ∷ rest) = tt
+
+pub probe_most : (p : Serial) (group : ℕ) (name : List ℕ) (kind : Kind) (sites : Option Sites) (bytes : List ℕ) (tells : ℕ → Reply) → AtMost (4 + writes bytes) (after_probe p group name kind sites bytes tells)
+probe_most p group name kind sites bytes tells [] = omega arith
+probe_most p group name kind sites bytes tells (Opened made ino ∷ rest) = further (3 + writes bytes) (4 + writes bytes) (fills p name kind bytes made ino (tells ino)) (Opened made ino) rest (omega arith) (fills_most p name kind bytes made ino (tells ino))
+probe_most p group name kind sites bytes tells (Refused why ∷ rest) = further 1 (4 + writes bytes) (give_up (Unchanged p ∷ []) why) (Refused why) rest (omega arith) (one_up p why)
+probe_most p group name kind sites bytes tells (_ ∷ rest) = tt
+
+pub probes_most : (p : Serial) (group : ℕ) (name : List ℕ) (kind : Kind) (sites : Option Sites) (bytes : List ℕ) (tells : ℕ → Reply) → AtMost (5 + writes bytes) (probes p group name kind sites bytes tells)
+probes_most p group name kind sites bytes tells [] = omega arith
+probes_most p group name kind sites bytes tells (Did o ∷ rest) = further (4 + writes bytes) (5 + writes bytes) (after_probe p group name kind sites bytes tells) (Did o) rest (omega arith) (probe_most p group name kind sites bytes tells)
+probes_most p group name kind sites bytes tells (Refused why ∷ rest) = further 1 (5 + writes bytes) (give_up (Unchanged p ∷ []) why) (Refused why) rest (omega arith) (one_up p why)
+probes_most p group name kind sites bytes tells (_ ∷ rest) = tt
 
 -- ---- unlink and rmdir ----
 
@@ -153,12 +169,12 @@ renames_most p component name (_ ∷ rest) = tt
 
 -- ---- calls of one request ----
 
-pub lists_most : (mounts : List Mount) (reached : List ℕ) (at : FileId) (kind : Kind) → AtMost 1 (lists mounts reached at kind)
-lists_most mounts reached at File answers = tt
-lists_most mounts reached at Dir [] = omega arith
-lists_most mounts reached at Dir (Showed names ∷ []) = tt
-lists_most mounts reached at Dir (Refused why ∷ []) = tt
-lists_most mounts reached at Dir (_ ∷ rest) = tt
+pub lists_most : (shows : Shows) (reached : List ℕ) (at : FileId) (kind : Kind) → AtMost 1 (lists shows reached at kind)
+lists_most shows reached at File answers = tt
+lists_most shows reached at Dir [] = omega arith
+lists_most shows reached at Dir (Showed names ∷ []) = tt
+lists_most shows reached at Dir (Refused why ∷ []) = tt
+lists_most shows reached at Dir (_ ∷ rest) = tt
 
 pub describes_most : (at : FileId) (kind : Kind) → AtMost 1 (describes at kind)
 describes_most at kind [] = omega arith

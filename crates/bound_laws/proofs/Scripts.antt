@@ -1,7 +1,8 @@
--- Each script ends: a call makes no more requests than its path has components and six.
+-- Each script ends: a call makes no more requests than its path has components and six, and a mail one more.
 use Rattle.std.proofs.Common.{◌≡◌, ℕ, suc, ◌+◌, ◌≤◌, nat_lt, Bool, true, false, cond, not, ◌&&◌, List, [], ◌∷◌, length, Option, Some, None, refl, arith}
 use Rattle.std.proofs.lemmas.Bool.Decides.{nat_tests}
 use Rattle.role_steps.proofs.of_plain_facts.Tests.{and_first, and_second, not_false}
+use Rattle.locus_ids.specs.declared.ids.CallId.{CallId}
 use Rattle.locus_ids.specs.declared.ids.FileId.{FileId}
 use Rattle.locus_ids.specs.declared.ids.Serial.{Serial}
 use Rattle.locus_ids.specs.declared.ids.Stamp.{Stamp}
@@ -9,6 +10,7 @@ use Rattle.locus_ids.specs.declared.ids.Kind.{Kind}
 use Rattle.locus_ids.specs.declared.ids.Kind.TheVariants.{File, Dir}
 use Rattle.locus_ids.specs.declared.config.Mount.{Mount}
 use Rattle.locus_ids.specs.declared.refusal.Refusal.TheVariants.{BadName, NoStorage}
+use Rattle.trace_book.specs.Messages.{message_name}
 use Rattle.trace_book.specs.Names.{components, but_last, last_of}
 use Rattle.trace_book.specs.declared.call.Call.{Call}
 use Rattle.trace_book.specs.declared.call.Call.TheVariants as call
@@ -20,15 +22,16 @@ use Rattle.call_rules.specs.declared.answer.Answer.TheVariants.{Entered, Brought
 use Rattle.call_rules.specs.declared.want.Want.{Want}
 use Rattle.call_rules.specs.declared.want.Want.TheVariants as want
 use Rattle.call_rules.specs.Closing.{Unchanged, give_up}
+use Rattle.call_rules.specs.Mailing.{shown_messages, tells_name}
 use Rattle.call_rules.specs.Making.{opens_dir, changes_dir}
 use Rattle.call_rules.specs.Mending.{after_mend, brings, mend_wants}
-use Rattle.call_rules.specs.Opening.{describes, close_wants, uses_wants}
+use Rattle.call_rules.specs.Opening.{describes, close_wants, uses_wants, shown_in}
 use Rattle.call_rules.specs.Paths.{is_path}
 use Rattle.call_rules.specs.Scripts.{path_wants, begun_wants, named_wants, where_packed, wants}
 use Rattle.call_rules.specs.Walks.{Walked, Asks, Fails, There, Strays, root_of, mounted_in, passes, walk, walked}
 use Rattle.call_rules.specs.Words.{names_entry, names_new, is_badly_named}
 use Rattle.bound_laws.specs.Requests.{most_requests, is_mend, IsRequest}
-use Rattle.bound_laws.proofs.Parts.{lift, more, one_up, probes_most, finds_most, renames_most, lists_most, describes_most, opens_most, op_most, close_most, Within, AtMost}
+use Rattle.bound_laws.proofs.Parts.{lift, more, one_up, probes_most, finds_most, renames_most, lists_most, describes_most, opens_most, op_most, close_most, writes, writes_once, Within, AtMost}
 
 -- ---- walks ----
 
@@ -107,17 +110,20 @@ renamed_entry mounts path b h = and_first (names_entry mounts path) b (not_false
 single_most : (n : ℕ) (f : List Answer → Want) → AtMost (n + 1) f → AtMost (n + 6) f
 single_most n f h answers = lift (n + 1) (n + 6) (length answers) (length answers) (f answers) (omega arith) (h answers)
 
-path_most : (mounts : List Mount) (free : Option ℕ) (words : Call) → is_mend words ≡ false → is_badly_named mounts words ≡ false → AtMost (most_requests words) (path_wants mounts free words)
-path_most mounts free (call.Create path sites) usual named = entry_most 5 mounts path _ (new_entry mounts path named) (omega arith) (change_most 5 mounts path _ (λ group p. probes_most p group (last_of (components path)) File sites))
-path_most mounts free (call.MakeDir path) usual named = entry_most 5 mounts path _ (new_entry mounts path named) (omega arith) (change_most 5 mounts path _ (λ group p. probes_most p group (last_of (components path)) Dir None))
-path_most mounts free (call.Unlink path) usual named = entry_most 6 mounts path _ (not_false (names_entry mounts path) named) (omega arith) (change_most 6 mounts path _ (λ group p. finds_most File p group (last_of (components path))))
-path_most mounts free (call.RemoveDir path) usual named = entry_most 6 mounts path _ (not_false (names_entry mounts path) named) (omega arith) (change_most 6 mounts path _ (λ group p. finds_most Dir p group (last_of (components path))))
-path_most mounts free (call.Rename path name) usual named = entry_most 2 mounts path _ (renamed_entry mounts path _ named) (omega arith) (change_most 2 mounts path _ (λ group p. renames_most p (last_of (components path)) name))
-path_most mounts free (call.List path) usual named = single_most (length (components path)) _ (walked_most 1 mounts (components path) _ (lists_most mounts (last_of (components path))))
-path_most mounts free (call.Stat path) usual named = single_most (length (components path)) _ (walked_most 1 mounts (components path) describes describes_most)
-path_most mounts free (call.Open path mode) usual named = single_most (length (components path)) _ (walked_most 1 mounts (components path) _ (opens_most mode free))
-path_most mounts free (call.Mend file) usual named = absurd (cc)
-path_most mounts free _ usual named = λ answers. tt
+path_most : (mounts : List Mount) (free : Option ℕ) (id : CallId) (words : Call) → is_mend words ≡ false → is_badly_named mounts words ≡ false → AtMost (most_requests words) (path_wants mounts free id words)
+path_most mounts free id (call.Create path sites) usual named = entry_most 5 mounts path _ (new_entry mounts path named) (omega arith) (change_most 5 mounts path _ (λ group p. probes_most p group (last_of (components path)) File sites [] reply.Made))
+path_most mounts free id (call.MakeDir path) usual named = entry_most 5 mounts path _ (new_entry mounts path named) (omega arith) (change_most 5 mounts path _ (λ group p. probes_most p group (last_of (components path)) Dir None [] reply.Made))
+path_most mounts free id (call.Unlink path) usual named = entry_most 6 mounts path _ (not_false (names_entry mounts path) named) (omega arith) (change_most 6 mounts path _ (λ group p. finds_most File p group (last_of (components path))))
+path_most mounts free id (call.RemoveDir path) usual named = entry_most 6 mounts path _ (not_false (names_entry mounts path) named) (omega arith) (change_most 6 mounts path _ (λ group p. finds_most Dir p group (last_of (components path))))
+path_most mounts free id (call.Rename path name) usual named = entry_most 2 mounts path _ (renamed_entry mounts path _ named) (omega arith) (change_most 2 mounts path _ (λ group p. renames_most p (last_of (components path)) name))
+path_most mounts free id (call.List path) usual named = single_most (length (components path)) _ (walked_most 1 mounts (components path) _ (lists_most (shown_in mounts) (last_of (components path))))
+path_most mounts free id (call.Stat path) usual named = single_most (length (components path)) _ (walked_most 1 mounts (components path) describes describes_most)
+path_most mounts free id (call.Mail path bytes) usual named = walked_most 7 mounts (components path) _ (λ dir kind answers. lift (5 + writes bytes + 1) 7 (length answers) (length answers) _ (let e : writes bytes ≤ 1 = writes_once bytes in omega (arith, e))
+    (dir_most (5 + writes bytes) (last_of (components path)) _ (λ p. probes_most p dir.group (message_name id) File None bytes (tells_name (message_name id))) dir kind answers))
+path_most mounts free id (call.Mails path) usual named = single_most (length (components path)) _ (walked_most 1 mounts (components path) _ (lists_most shown_messages (last_of (components path))))
+path_most mounts free id (call.Open path mode) usual named = single_most (length (components path)) _ (walked_most 1 mounts (components path) _ (opens_most mode free))
+path_most mounts free id (call.Mend file) usual named = absurd (cc)
+path_most mounts free id _ usual named = λ answers. tt
 
 uses_most : (words : Call) (i : Serial) → AtMost 1 (uses_wants words i)
 uses_most (call.Read fd at len) i answers = op_most i _ answers
@@ -128,10 +134,15 @@ uses_most (call.Abort fd) i answers = op_most i _ answers
 uses_most (call.Close fd) i answers = close_most i answers
 uses_most _ i answers = tt
 
+-- one request is within the bound of each call
+within_walk : (words : Call) (k : ℕ) → 1 + k ≤ most_requests words + k
+within_walk (call.Mail path bytes) k = omega arith
+within_walk _ k = omega arith
+
 begun_most : (mounts : List Mount) (free : Option ℕ) (words : Call) (begins : Beginning) → is_mend words ≡ false → is_badly_named mounts words ≡ false → AtMost (most_requests words) (begun_wants mounts free words begins)
 begun_most mounts free words (Denied why) usual named answers = tt
-begun_most mounts free words (Uses epoch inst) usual named answers = lift 1 (most_requests words) (length answers) (length answers) (uses_wants words inst answers) (omega arith) (uses_most words inst answers)
-begun_most mounts free words Walks usual named answers = path_most mounts free words usual named answers
+begun_most mounts free words (Uses epoch inst) usual named answers = lift 1 (most_requests words) (length answers) (length answers) (uses_wants words inst answers) (within_walk words (length answers)) (uses_most words inst answers)
+begun_most mounts free words (Walks id) usual named answers = path_most mounts free id words usual named answers
 
 named_most : (mounts : List Mount) (free : Option ℕ) (words : Call) (begins : Beginning) → is_mend words ≡ false → AtMost (most_requests words) (named_wants mounts free words begins)
 named_most mounts free words begins usual answers =
@@ -225,7 +236,7 @@ packed_no_mend is_packed w h = over w h
 mend_later : (mounts : List Mount) (is_packed : ℕ → Bool) (free : Option ℕ) (file : FileId) (begins : Beginning) (a : Answer) (rest : List Answer) → OpensNoMend (wants mounts is_packed free (call.Mend file) begins (a ∷ rest))
 mend_later mounts is_packed free file (Denied why) a rest = tt
 mend_later mounts is_packed free file (Uses epoch inst) a rest = tt
-mend_later mounts is_packed free file Walks a rest = packed_no_mend is_packed (mend_wants file (a ∷ rest)) (mend_wants_most file a rest)
+mend_later mounts is_packed free file (Walks id) a rest = packed_no_mend is_packed (mend_wants file (a ∷ rest)) (mend_wants_most file a rest)
 
 -- only the first request of a call opens a directory to mend it
 pub opened_first : (mounts : List Mount) (is_packed : ℕ → Bool) (free : Option ℕ) (words : Call) (begins : Beginning) (a : Answer) (rest : List Answer) → OpensNoMend (wants mounts is_packed free words begins (a ∷ rest))

@@ -1,4 +1,5 @@
 ghost use Rattle.std.specs.Prelude.{◌≡◌, ◌≤◌, ◌+◌, ℕ, Bool, true, false, List, [], Option, None, length};
+ghost use Rattle.locus_ids.specs.declared.ids.CallId.{CallId};
 ghost use Rattle.locus_ids.specs.declared.ids.Serial.{Serial};
 ghost use Rattle.locus_ids.specs.declared.config.Config.{Config};
 ghost use Rattle.locus_ids.specs.declared.config.Mount.{Mount};
@@ -18,24 +19,27 @@ ghost use Rattle.bound_laws.specs.Asking.{RequestsBounded};
 ghost use Rattle.bound_laws.specs.Deliveries.{DeliveriesSendOne, KeptLooksOpenNone};
 ghost use Rattle.bound_laws.specs.Waiting.{two_looks_wait, the_report_comes, sent_for_calls};
 ghost use Rattle.bound_laws.specs.Records.{EachIsWithin};
-ghost use Rattle.bound_laws.specs.Requests.{most_requests, is_mend, IsRequest, removing_d, removed_so_far};
+ghost use Rattle.bound_laws.specs.Requests.{most_requests, is_mend, IsRequest, mailed_so_far, mailing_to_d, removing_d, removed_so_far};
 
 /// A call that isn't a mend asks a further request only while its requests, that one too, are no more than the written
-/// components of its path and six, whatever the earlier ones were answered.
+/// components of its path and six, or seven for a mail, whatever the earlier ones were answered.
 pub fn scripts_end()
     ensures { (mounts : List Mount) (is_packed : ℕ → Bool) (free : Option ℕ) (words : Call) (begins : Beginning) (answers : List Answer) →
         is_mend words ≡ false → IsRequest (wants mounts is_packed free words begins answers) → length answers + 1 ≤ most_requests words }
 {}
 
-/// The bound is met: the removal of a directory of the root makes seven requests, one for its component and six.
+/// The bound is met: the removal of a directory of the root makes seven requests, one for its component and six, and a mail to one
+/// makes eight.
 pub fn bound_is_met()
-    ensures last { (root own : Serial) → wants [] (λ (group : ℕ). true) None removing_d Walks (removed_so_far root own) ≡ Close own }
+    ensures last { (id : CallId) (root own : Serial) → wants [] (λ (group : ℕ). true) None removing_d (Walks id) (removed_so_far root own) ≡ Close own }
     ensures number { (root own : Serial) → length (removed_so_far root own) + 1 ≡ most_requests removing_d }
+    ensures mailed { (id : CallId) (box own : Serial) → wants [] (λ (group : ℕ). true) None mailing_to_d (Walks id) (mailed_so_far box own) ≡ Close box }
+    ensures mails { (box own : Serial) → length (mailed_so_far box own) + 1 ≡ most_requests mailing_to_d }
 {}
 
 /// At each moment of every run, in the first world and after each event, the current request of each waiting call has the number
 /// after those that were answered, so a look that is taken again keeps its number; and where the call isn't a mend, that number
-/// is at most the written components of its path and six.
+/// is within the bound of its words.
 pub fn requests_bounded()
     ensures first { (c : Config) → RequestsBounded (first_world c) }
     ensures events { (c : Config) → Kept c RequestsBounded }

@@ -69,7 +69,7 @@ own_answers Q (a ∷ rest) f = (own_answer Q a (λ s h. f s (inl h)), own_answer
 pub begins_own : (Q : ℕ → Type 0) (words : Call) (b : Beginning) → ((s : ℕ) → Frees s words b → Q s) → BeginsOwn (λ (i : Serial). Q i.serial) words b
 begins_own Q (call.Close fd) (begins.Uses e i) f = f i.serial refl
 begins_own Q (call.Close fd) (begins.Denied why) f = tt
-begins_own Q (call.Close fd) begins.Walks f = tt
+begins_own Q (call.Close fd) (begins.Walks id) f = tt
 begins_own Q _ b f = tt
 
 -- ---- what each answer opens ----

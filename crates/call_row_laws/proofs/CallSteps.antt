@@ -1,6 +1,7 @@
 -- A using site accepts a call, and leaves an epoch.
 use Rattle.std.proofs.Common.{◌≡◌, ◌≤◌, ◌<◌, ℕ, ◌+◌, ◌*◌, true, false, List, [], ◌∷◌, Option, Some, None, refl, sym, ◌∙◌, ap, subst, inl, inr, arith}
 use Rattle.role_steps.proofs.of_plain_facts.Options.{none_some, some_same}
+use Rattle.locus_ids.specs.declared.ids.CallId.{CallId}
 use Rattle.locus_ids.specs.declared.ids.EpochId.{EpochId}
 use Rattle.locus_ids.specs.declared.ids.Serial.{Serial}
 use Rattle.trace_book.specs.declared.call.Call.{Call}
@@ -61,9 +62,9 @@ row_of now u process fd i h = by_row (row descriptor_key (fd_key process fd) u.d
 begins_serial : (s : ℕ) (b : Beginning) → BeginsOn s b → (i : Serial) × (BeginsWith b i × (i.serial ≡ s))
 begins_serial s (begins.Uses e i) h = (i, ((e, refl), h))
 begins_serial s (begins.Denied why) h = absurd h
-begins_serial s begins.Walks h = absurd h
+begins_serial s (begins.Walks id) h = absurd h
 
-freed_row : (now : Option EpochId) (u : Users) (process fd s : ℕ) → Frees s (call.Close fd) (beginning (descriptors_of u process) now (call.Close fd)) → OnRow now u process fd s
+freed_row : (now : Option EpochId) (u : Users) (process fd s : ℕ) → Frees s (call.Close fd) (begins_on false now (descriptors_of u process fd)) → OnRow now u process fd s
 freed_row now u process fd s h =
     let k : (i : Serial) × (BeginsWith (begins_on false now (descriptors_of u process fd)) i × (i.serial ≡ s)) = begins_serial s (begins_on false now (descriptors_of u process fd)) h in
     subst (OnRow now u process fd) k.1.1 (row_of now u process fd k.0 (begins_on_there false now (descriptors_of u process fd) k.0 k.1.0))
@@ -80,9 +81,9 @@ lost_none b u (want.OpenToMend file) s f l = l
 lost_none b u (want.Make group kind sites) s f l = l
 lost_none b u (want.Give r) s f l = l
 
-begun_has : (K : EpochId → Type 0) (now : Option EpochId) (u : Users) (process : ℕ) (words : Call) (i : Serial) → Owned K now u → BeginsWith (beginning (descriptors_of u process) now words) i → user_instance u i.serial ≡ None → ⊥
-begun_has K now u process words i o h none =
-    let k : (fd : ℕ) × OnDescriptor now (descriptors_of u process fd) i = begins_there (descriptors_of u process) now words i h in
+begun_has : (K : EpochId → Type 0) (now : Option EpochId) (u : Users) (process : ℕ) (id : CallId) (words : Call) (i : Serial) → Owned K now u → BeginsWith (beginning (descriptors_of u process) now id words) i → user_instance u i.serial ≡ None → ⊥
+begun_has K now u process id words i o h none =
+    let k : (fd : ℕ) × OnDescriptor now (descriptors_of u process fd) i = begins_there (descriptors_of u process) now id words i h in
     let r : OnRow now u process k.0 i.serial = row_of now u process k.0 i k.1 in
     let has : HasInstance (serial_of r.row) u = o.there r.row r.there r.open_now in
     row_there instance_serial i.serial u.instances has.0 has.1.0 (has.1.1 ∙ r.serial) none
@@ -90,17 +91,17 @@ begun_has K now u process words i o h none =
 -- ---- a call is accepted ----
 
 -- a call that closes no descriptor holds nothing yet
-other_ready : (K : EpochId → Type 0) (f : Frame) (now : Option EpochId) (t : Trace) (u : Users) (process n : ℕ) (words : Call) → ((s : ℕ) → Frees s words (beginning (descriptors_of u process) now words) → ⊥) → Owned K now u → Ready K f now t (record u { calls = n }) (accepted process n words (beginning (descriptors_of u process) now words))
+other_ready : (K : EpochId → Type 0) (f : Frame) (now : Option EpochId) (t : Trace) (u : Users) (process n : ℕ) (words : Call) → ((s : ℕ) → Frees s words (beginning (descriptors_of u process) now (own_call f.me f.boot n) words) → ⊥) → Owned K now u → Ready K f now t (record u { calls = n }) (accepted process n words (beginning (descriptors_of u process) now (own_call f.me f.boot n) words))
 other_ready K f now t u process n words none o = record {
   low = λ s k. absurd (held s k);
   calls = λ x s a k l. absurd (held s l);
   rows = λ d a p k. held (serial_of d) k;
   opened = λ e. absurd e;
-  stays = λ l. absurd (lost_none b (record u { calls = n }) (next_want f w (record u { calls = n })) (wants_starts f.config.mounts (is_packed f) (lowest_free (descriptors_of u process)) (descriptors_of u process) now words) (λ i h. begun_has K now u process words i o h) l);
+  stays = λ l. absurd (lost_none b (record u { calls = n }) (next_want f w (record u { calls = n })) (wants_starts f.config.mounts (is_packed f) (lowest_free (descriptors_of u process)) (descriptors_of u process) now (own_call f.me f.boot n) words) (λ i h. begun_has K now u process (own_call f.me f.boot n) words i o h) l);
 }
   where
     b : Beginning
-    b = beginning (descriptors_of u process) now words
+    b = beginning (descriptors_of u process) now (own_call f.me f.boot n) words
 
     w : WaitingCall
     w = accepted process n words b
@@ -110,17 +111,17 @@ other_ready K f now t u process n words none o = record {
     held s (inr k) = none s k
 
 -- a close holds what its descriptor held
-close_ready : (K : EpochId → Type 0) (f : Frame) (now : Option EpochId) (t : Trace) (u : Users) (process n fd : ℕ) → Owned K now u → Ready K f now t (without_descriptor process fd (record u { calls = n })) (accepted process n (call.Close fd) (beginning (descriptors_of u process) now (call.Close fd)))
+close_ready : (K : EpochId → Type 0) (f : Frame) (now : Option EpochId) (t : Trace) (u : Users) (process n fd : ℕ) → Owned K now u → Ready K f now t (without_descriptor process fd (record u { calls = n })) (accepted process n (call.Close fd) (beginning (descriptors_of u process) now (own_call f.me f.boot n) (call.Close fd)))
 close_ready K f now t u process n fd o = record {
   low = λ s k. (let r : OnRow now u process fd s = held s k in let l : serial_of r.row ≤ u.serials = o.low r.row r.there in subst (λ (x : ℕ). x ≤ u.serials) r.serial l);
   calls = λ x s a k l. (let r : OnRow now u process fd s = held s l in absurd (o.no_call r.row x r.there r.open_now a (subst (λ (y : ℕ). Holds y x) (sym r.serial) k)));
   rows = λ d a p k. (let r : OnRow now u process fd (serial_of d) = held (serial_of d) k in let old : Among d u.descriptors × (descriptor_key d ≡ fd_key process fd → ⊥) = freed_old K now process fd u o d a in old.1 (o.one_descriptor d r.row old.0 r.there p r.open_now (sym r.serial) ∙ r.key));
   opened = λ e. absurd e;
-  stays = λ l. absurd (lost_none b v (next_want f w v) (wants_starts f.config.mounts (is_packed f) (lowest_free (descriptors_of v process)) (descriptors_of u process) now (call.Close fd)) (λ i h. begun_has K now u process (call.Close fd) i o h) l);
+  stays = λ l. absurd (lost_none b v (next_want f w v) (wants_starts f.config.mounts (is_packed f) (lowest_free (descriptors_of v process)) (descriptors_of u process) now (own_call f.me f.boot n) (call.Close fd)) (λ i h. begun_has K now u process (own_call f.me f.boot n) (call.Close fd) i o h) l);
 }
   where
     b : Beginning
-    b = beginning (descriptors_of u process) now (call.Close fd)
+    b = beginning (descriptors_of u process) now (own_call f.me f.boot n) (call.Close fd)
 
     w : WaitingCall
     w = accepted process n (call.Close fd) b
@@ -133,13 +134,13 @@ close_ready K f now t u process n fd o = record {
     held s (inr k) = freed_row now u process fd s k
 
 -- the call as it goes on, with what it frees
-accepted_do : (K : EpochId → Type 0) (f : Frame) (now : Option EpochId) (m process : ℕ) (t : Trace) (words : Call) (u : Users) → Owned K now u → Goes f.me f.boot t (u.calls + 1) u.waiting (accepted process (u.calls + 1) words (beginning (descriptors_of u process) now words)) →
-    UsersDo K f.me f.boot now m t (goes_on f (accepted process (u.calls + 1) words (beginning (descriptors_of u process) now words)) (frees process words (record u { calls = u.calls + 1 })))
+accepted_do : (K : EpochId → Type 0) (f : Frame) (now : Option EpochId) (m process : ℕ) (t : Trace) (words : Call) (u : Users) → Owned K now u → Goes f.me f.boot t (u.calls + 1) u.waiting (accepted process (u.calls + 1) words (beginning (descriptors_of u process) now (own_call f.me f.boot (u.calls + 1)) words)) →
+    UsersDo K f.me f.boot now m t (goes_on f (accepted process (u.calls + 1) words (beginning (descriptors_of u process) now (own_call f.me f.boot (u.calls + 1)) words)) (frees process words (record u { calls = u.calls + 1 })))
 accepted_do K f now m process t (call.Close fd) u o g =
-    goes_do K f now m t (without_descriptor process fd (record u { calls = u.calls + 1 })) (accepted process (u.calls + 1) (call.Close fd) (beginning (descriptors_of u process) now (call.Close fd))) g
+    goes_do K f now m t (without_descriptor process fd (record u { calls = u.calls + 1 })) (accepted process (u.calls + 1) (call.Close fd) (beginning (descriptors_of u process) now (own_call f.me f.boot (u.calls + 1)) (call.Close fd))) g
     (freed_owned K now process fd (record u { calls = u.calls + 1 }) (counts_owned K now (u.calls + 1) u o)) (close_ready K f now t u process (u.calls + 1) fd o)
 accepted_do K f now m process t words u o g =
-    goes_do K f now m t (record u { calls = u.calls + 1 }) (accepted process (u.calls + 1) words (beginning (descriptors_of u process) now words)) g
+    goes_do K f now m t (record u { calls = u.calls + 1 }) (accepted process (u.calls + 1) words (beginning (descriptors_of u process) now (own_call f.me f.boot (u.calls + 1)) words)) g
     (counts_owned K now (u.calls + 1) u o) (other_ready K f now t u process (u.calls + 1) words (λ s h. h) o)
 
 pub on_call_do : (K : EpochId → Type 0) (f : Frame) (now : Option EpochId) (m process : ℕ) (t : Trace) (words : Call) (u : Users) → ((r : WaitingCall) → Among r u.waiting → waiting_key r ≡ waiting_of process words → ⊥) → KeyedAs process words → Idle process words u.waiting →
@@ -149,7 +150,7 @@ on_call_do K f now m process t words u alone keyed idle h o =
     record { waits = d.waits; owned = d.owned; rows = (accept_row f.me f.boot u.calls process t u.waiting words idle h, d.rows); own = (refl, d.own); none = d.none }
   where
     b : Beginning
-    b = beginning (descriptors_of u process) now words
+    b = beginning (descriptors_of u process) now (own_call f.me f.boot (u.calls + 1)) words
 
     next : Trace
     next = with_told m (Shown (says.Accept f.me process (own_call f.me f.boot (u.calls + 1)) words)) t

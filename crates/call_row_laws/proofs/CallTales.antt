@@ -84,6 +84,8 @@ mend_is (call.RemoveDir path) h = absurd h
 mend_is (call.Rename path name) h = absurd h
 mend_is (call.List path) h = absurd h
 mend_is (call.Stat path) h = absurd h
+mend_is (call.Mail path bytes) h = absurd h
+mend_is (call.Mails path) h = absurd h
 mend_is (call.Open path how) h = absurd h
 mend_is (call.Read fd at len) h = absurd h
 mend_is (call.Write fd at bytes) h = absurd h
@@ -169,7 +171,7 @@ frame_accepts c s process words links v f now me plain h = record {
     freed = frees process words (record v.users { calls = v.users.calls + 1 })
 
     w : WaitingCall
-    w = accepted process (v.users.calls + 1) words (beginning (descriptors_of v.users process) now words)
+    w = accepted process (v.users.calls + 1) words (beginning (descriptors_of v.users process) now (own_call f.me f.boot (v.users.calls + 1)) words)
 
     went : Outcome Users
     went = goes_on f w freed

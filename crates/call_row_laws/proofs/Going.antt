@@ -202,6 +202,8 @@ accept_row s boot calls process now rows (call.RemoveDir path) idle h = record {
 accept_row s boot calls process now rows (call.Rename path name) idle h = record { up = h.up; idle = idle_process s boot calls process now rows idle h; numbered = numbered s boot calls now rows h }
 accept_row s boot calls process now rows (call.List path) idle h = record { up = h.up; idle = idle_process s boot calls process now rows idle h; numbered = numbered s boot calls now rows h }
 accept_row s boot calls process now rows (call.Stat path) idle h = record { up = h.up; idle = idle_process s boot calls process now rows idle h; numbered = numbered s boot calls now rows h }
+accept_row s boot calls process now rows (call.Mail path bytes) idle h = record { up = h.up; idle = idle_process s boot calls process now rows idle h; numbered = numbered s boot calls now rows h }
+accept_row s boot calls process now rows (call.Mails path) idle h = record { up = h.up; idle = idle_process s boot calls process now rows idle h; numbered = numbered s boot calls now rows h }
 accept_row s boot calls process now rows (call.Open path how) idle h = record { up = h.up; idle = idle_process s boot calls process now rows idle h; numbered = numbered s boot calls now rows h }
 accept_row s boot calls process now rows (call.Read fd at len) idle h = record { up = h.up; idle = idle_process s boot calls process now rows idle h; numbered = numbered s boot calls now rows h }
 accept_row s boot calls process now rows (call.Write fd at bytes) idle h = record { up = h.up; idle = idle_process s boot calls process now rows idle h; numbered = numbered s boot calls now rows h }

@@ -1,6 +1,7 @@
 -- Scripts close only what their calls opened, or what the descriptor of a close names; an open is replied to right after the
 -- answer that opened it.
 use Rattle.std.proofs.Common.{◌≡◌, ℕ, Bool, true, false, cond, List, [], ◌∷◌, Option, Some, None, refl}
+use Rattle.locus_ids.specs.declared.ids.CallId.{CallId}
 use Rattle.locus_ids.specs.declared.ids.EpochId.{EpochId}
 use Rattle.locus_ids.specs.declared.ids.FileId.{FileId}
 use Rattle.locus_ids.specs.declared.ids.Kind.{Kind}
@@ -11,6 +12,7 @@ use Rattle.locus_ids.specs.declared.sites.Sites.{Sites}
 use Rattle.locus_ids.specs.declared.config.Mount.{Mount}
 use Rattle.locus_ids.specs.declared.refusal.Refusal.{Refusal}
 use Rattle.locus_ids.specs.declared.refusal.Refusal.TheVariants as refusal
+use Rattle.trace_book.specs.Messages.{message_name}
 use Rattle.trace_book.specs.Names.{components, last_of, but_last, plain_name}
 use Rattle.trace_book.specs.declared.call.Call.{Call}
 use Rattle.trace_book.specs.declared.call.Call.TheVariants as call
@@ -22,15 +24,16 @@ use Rattle.trace_book.specs.declared.operation.Outcome.{Outcome}
 use Rattle.trace_book.specs.declared.operation.Outcome.TheVariants as outcome
 use Rattle.trace_book.specs.declared.reply.Reply.{Reply}
 use Rattle.trace_book.specs.declared.reply.Reply.TheVariants as reply
+use Rattle.call_rules.specs.Mailing.{tells_name, shown_messages}
 use Rattle.call_rules.specs.declared.answer.Answer.{Answer}
 use Rattle.call_rules.specs.declared.answer.Answer.TheVariants as answer
 use Rattle.call_rules.specs.declared.want.Want.{Want}
 use Rattle.call_rules.specs.declared.want.Want.TheVariants as want
 use Rattle.call_rules.specs.Closing.{Own, Unchanged, Changed, closes, aborts, gives, give_up, close_all}
-use Rattle.call_rules.specs.Making.{after_insert, after_make, after_probe, probes, opens_dir, changes_dir}
+use Rattle.call_rules.specs.Making.{after_insert, after_make, fills, after_probe, probes, opens_dir, changes_dir}
 use Rattle.call_rules.specs.Mending.{after_mend, brings, mend_wants}
 use Rattle.call_rules.specs.Naming.{renames}
-use Rattle.call_rules.specs.Opening.{opens_file, reply_to, op_wants, close_wants, uses_wants, lists, describes}
+use Rattle.call_rules.specs.Opening.{opens_file, reply_to, op_wants, close_wants, uses_wants, lists, describes, Shows, shown_in}
 use Rattle.call_rules.specs.Removing.{removes, empties, opens_target, by_kind, finds}
 use Rattle.call_rules.specs.Scripts.{path_wants, begun_wants, named_wants, in_group, where_packed, wants}
 use Rattle.call_rules.specs.Walks.{Walked, Asks, Fails, There, Strays, root_of, mounted_in, passes, walk, walked}
@@ -94,29 +97,36 @@ close_all_closed O (i ∷ is) r o n (_ ∷ rest) h = tt
 
 -- ---- create and mkdir ----
 
-after_insert_closed : (O : Serial → Type 0) (p : Serial) (name : List ℕ) (k : Kind) (ino : ℕ) → O p → (answers : List Answer) → Every (OwnAnswer O) answers → Closed O ⊥ (after_insert p name k ino answers)
-after_insert_closed O p name k ino o [] h = tt
-after_insert_closed O p name k ino o (answer.Did r ∷ rest) h = close_all_closed O (p ∷ []) (reply.Made ino) (o, tt) tt rest h.1
-after_insert_closed O p name k ino o (answer.Refused why ∷ rest) h = give_up_closed O (Unchanged p ∷ []) why (o, tt) rest h.1
-after_insert_closed O p name k ino o (_ ∷ rest) h = tt
+after_insert_closed : (O : Serial → Type 0) (p : Serial) (name : List ℕ) (k : Kind) (ino : ℕ) (told : Reply) → Other told → O p → (answers : List Answer) → Every (OwnAnswer O) answers → Closed O ⊥ (after_insert p name k ino told answers)
+after_insert_closed O p name k ino told n o [] h = tt
+after_insert_closed O p name k ino told n o (answer.Did r ∷ rest) h = close_all_closed O (p ∷ []) told (o, tt) n rest h.1
+after_insert_closed O p name k ino told n o (answer.Refused why ∷ rest) h = give_up_closed O (Unchanged p ∷ []) why (o, tt) rest h.1
+after_insert_closed O p name k ino told n o (_ ∷ rest) h = tt
 
-after_make_closed : (O : Serial → Type 0) (p : Serial) (name : List ℕ) (k : Kind) (made : Serial) (ino : ℕ) → O p → O made → (answers : List Answer) → Every (OwnAnswer O) answers → Closed O ⊥ (after_make p name k made ino answers)
-after_make_closed O p name k made ino o m [] h = m
-after_make_closed O p name k made ino o m (answer.Ended stamp ∷ rest) h = after_insert_closed O p name k ino o rest h.1
-after_make_closed O p name k made ino o m (answer.Refused why ∷ rest) h = give_up_closed O (Unchanged p ∷ []) why (o, tt) rest h.1
-after_make_closed O p name k made ino o m (_ ∷ rest) h = tt
+after_make_closed : (O : Serial → Type 0) (p : Serial) (name : List ℕ) (k : Kind) (made : Serial) (ino : ℕ) (told : Reply) → Other told → O p → O made → (answers : List Answer) → Every (OwnAnswer O) answers → Closed O ⊥ (after_make p name k made ino told answers)
+after_make_closed O p name k made ino told n o m [] h = m
+after_make_closed O p name k made ino told n o m (answer.Ended stamp ∷ rest) h = after_insert_closed O p name k ino told n o rest h.1
+after_make_closed O p name k made ino told n o m (answer.Refused why ∷ rest) h = give_up_closed O (Unchanged p ∷ []) why (o, tt) rest h.1
+after_make_closed O p name k made ino told n o m (_ ∷ rest) h = tt
 
-after_probe_closed : (O : Serial → Type 0) (p : Serial) (group : ℕ) (name : List ℕ) (k : Kind) (sites : Option Sites) → O p → (answers : List Answer) → Every (OwnAnswer O) answers → Closed O ⊥ (after_probe p group name k sites answers)
-after_probe_closed O p group name k sites o [] h = tt
-after_probe_closed O p group name k sites o (answer.Opened made ino ∷ rest) h = after_make_closed O p name k made ino o h.0 rest h.1
-after_probe_closed O p group name k sites o (answer.Refused why ∷ rest) h = give_up_closed O (Unchanged p ∷ []) why (o, tt) rest h.1
-after_probe_closed O p group name k sites o (_ ∷ rest) h = tt
+fills_closed : (O : Serial → Type 0) (p : Serial) (name : List ℕ) (k : Kind) (bytes : List ℕ) (made : Serial) (ino : ℕ) (told : Reply) → Other told → O p → O made → (answers : List Answer) → Every (OwnAnswer O) answers → Closed O ⊥ (fills p name k bytes made ino told answers)
+fills_closed O p name k [] made ino told n o m answers h = after_make_closed O p name k made ino told n o m answers h
+fills_closed O p name k (b ∷ bs) made ino told n o m [] h = tt
+fills_closed O p name k (b ∷ bs) made ino told n o m (answer.Did r ∷ rest) h = after_make_closed O p name k made ino told n o m rest h.1
+fills_closed O p name k (b ∷ bs) made ino told n o m (answer.Refused why ∷ rest) h = give_up_closed O (Unchanged made ∷ Unchanged p ∷ []) why (m, (o, tt)) rest h.1
+fills_closed O p name k (b ∷ bs) made ino told n o m (_ ∷ rest) h = tt
 
-probes_closed : (O : Serial → Type 0) (p : Serial) (group : ℕ) (name : List ℕ) (k : Kind) (sites : Option Sites) → O p → (answers : List Answer) → Every (OwnAnswer O) answers → Closed O ⊥ (probes p group name k sites answers)
-probes_closed O p group name k sites o [] h = tt
-probes_closed O p group name k sites o (answer.Did r ∷ rest) h = after_probe_closed O p group name k sites o rest h.1
-probes_closed O p group name k sites o (answer.Refused why ∷ rest) h = give_up_closed O (Unchanged p ∷ []) why (o, tt) rest h.1
-probes_closed O p group name k sites o (_ ∷ rest) h = tt
+after_probe_closed : (O : Serial → Type 0) (p : Serial) (group : ℕ) (name : List ℕ) (k : Kind) (sites : Option Sites) (bytes : List ℕ) (tells : ℕ → Reply) → ((n : ℕ) → Other (tells n)) → O p → (answers : List Answer) → Every (OwnAnswer O) answers → Closed O ⊥ (after_probe p group name k sites bytes tells answers)
+after_probe_closed O p group name k sites bytes tells n o [] h = tt
+after_probe_closed O p group name k sites bytes tells n o (answer.Opened made ino ∷ rest) h = fills_closed O p name k bytes made ino (tells ino) (n ino) o h.0 rest h.1
+after_probe_closed O p group name k sites bytes tells n o (answer.Refused why ∷ rest) h = give_up_closed O (Unchanged p ∷ []) why (o, tt) rest h.1
+after_probe_closed O p group name k sites bytes tells n o (_ ∷ rest) h = tt
+
+probes_closed : (O : Serial → Type 0) (p : Serial) (group : ℕ) (name : List ℕ) (k : Kind) (sites : Option Sites) (bytes : List ℕ) (tells : ℕ → Reply) → ((n : ℕ) → Other (tells n)) → O p → (answers : List Answer) → Every (OwnAnswer O) answers → Closed O ⊥ (probes p group name k sites bytes tells answers)
+probes_closed O p group name k sites bytes tells n o [] h = tt
+probes_closed O p group name k sites bytes tells n o (answer.Did r ∷ rest) h = after_probe_closed O p group name k sites bytes tells n o rest h.1
+probes_closed O p group name k sites bytes tells n o (answer.Refused why ∷ rest) h = give_up_closed O (Unchanged p ∷ []) why (o, tt) rest h.1
+probes_closed O p group name k sites bytes tells n o (_ ∷ rest) h = tt
 
 opens_dir_closed : (O : Serial → Type 0) (reached : List ℕ) (next : Serial → List Answer → Want) (dir : FileId) (k : Kind) → ((p : Serial) → O p → (rest : List Answer) → Every (OwnAnswer O) rest → Closed O ⊥ (next p rest)) → (answers : List Answer) → Every (OwnAnswer O) answers → Closed O ⊥ (opens_dir reached next dir k answers)
 opens_dir_closed O reached next dir kind.File go answers h = tt
@@ -215,12 +225,12 @@ uses_closed O _ e i o answers = tt
 
 -- ---- open, list and stat ----
 
-lists_closed : (O : Serial → Type 0) (mounts : List Mount) (reached : List ℕ) (at : FileId) (k : Kind) (answers : List Answer) → Closed O ⊥ (lists mounts reached at k answers)
-lists_closed O mounts reached at kind.File answers = tt
-lists_closed O mounts reached at kind.Dir [] = tt
-lists_closed O mounts reached at kind.Dir (answer.Showed names ∷ []) = tt
-lists_closed O mounts reached at kind.Dir (answer.Refused why ∷ []) = tt
-lists_closed O mounts reached at kind.Dir (_ ∷ rest) = tt
+lists_closed : (O : Serial → Type 0) (shows : Shows) (reached : List ℕ) (at : FileId) (k : Kind) (answers : List Answer) → Closed O ⊥ (lists shows reached at k answers)
+lists_closed O shows reached at kind.File answers = tt
+lists_closed O shows reached at kind.Dir [] = tt
+lists_closed O shows reached at kind.Dir (answer.Showed names ∷ []) = tt
+lists_closed O shows reached at kind.Dir (answer.Refused why ∷ []) = tt
+lists_closed O shows reached at kind.Dir (_ ∷ rest) = tt
 
 describes_closed : (O : Serial → Type 0) (at : FileId) (k : Kind) (answers : List Answer) → Closed O ⊥ (describes at k answers)
 describes_closed O at k [] = tt
@@ -315,22 +325,25 @@ dir_closed O mounts path next answers own go =
     walked_closed O mounts (but_last (components path)) (λ dir k rest. opens_dir (last_of (but_last (components path))) (next dir.group) dir k rest) answers own
     (λ dir k rest h. none_closed O (EndsOpened rest) (opens_dir (last_of (but_last (components path))) (next dir.group) dir k rest) (opens_dir_closed O (last_of (but_last (components path))) (next dir.group) dir k (go dir.group) rest h))
 
-path_closed : (O : Serial → Type 0) (mounts : List Mount) (free : Option ℕ) (words : Call) (answers : List Answer) → Every (OwnAnswer O) answers → Closed O (EndsOpened answers) (path_wants mounts free words answers)
-path_closed O mounts free (call.Create path sites) answers h = dir_closed O mounts path (λ group p rest. probes p group (last_of (components path)) kind.File sites rest) answers h (λ group p o rest k. probes_closed O p group (last_of (components path)) kind.File sites o rest k)
-path_closed O mounts free (call.MakeDir path) answers h = dir_closed O mounts path (λ group p rest. probes p group (last_of (components path)) kind.Dir None rest) answers h (λ group p o rest k. probes_closed O p group (last_of (components path)) kind.Dir None o rest k)
-path_closed O mounts free (call.Unlink path) answers h = dir_closed O mounts path (λ group p rest. finds kind.File p group (last_of (components path)) rest) answers h (λ group p o rest k. finds_closed O kind.File p group (last_of (components path)) o rest k)
-path_closed O mounts free (call.RemoveDir path) answers h = dir_closed O mounts path (λ group p rest. finds kind.Dir p group (last_of (components path)) rest) answers h (λ group p o rest k. finds_closed O kind.Dir p group (last_of (components path)) o rest k)
-path_closed O mounts free (call.Rename path name) answers h = dir_closed O mounts path (λ group p rest. renames p (last_of (components path)) name rest) answers h (λ group p o rest k. renames_closed O p (last_of (components path)) name o rest k)
-path_closed O mounts free (call.List path) answers h = walked_closed O mounts (components path) (lists mounts (last_of (components path))) answers h (λ at k rest g. none_closed O (EndsOpened rest) _ (lists_closed O mounts (last_of (components path)) at k rest))
-path_closed O mounts free (call.Stat path) answers h = walked_closed O mounts (components path) describes answers h (λ at k rest g. none_closed O (EndsOpened rest) _ (describes_closed O at k rest))
-path_closed O mounts free (call.Open path how) answers h = walked_closed O mounts (components path) (opens_file how free) answers h (λ at k rest g. opens_file_closed O how free at k rest)
-path_closed O mounts free (call.Mend file) answers h = none_closed O (EndsOpened answers) (mend_wants file answers) (mend_closed O file answers h)
-path_closed O mounts free _ answers h = tt
+path_closed : (O : Serial → Type 0) (mounts : List Mount) (free : Option ℕ) (id : CallId) (words : Call) (answers : List Answer) → Every (OwnAnswer O) answers → Closed O (EndsOpened answers) (path_wants mounts free id words answers)
+path_closed O mounts free id (call.Create path sites) answers h = dir_closed O mounts path (λ group p rest. probes p group (last_of (components path)) kind.File sites [] reply.Made rest) answers h (λ group p o rest k. probes_closed O p group (last_of (components path)) kind.File sites [] reply.Made (λ n. tt) o rest k)
+path_closed O mounts free id (call.MakeDir path) answers h = dir_closed O mounts path (λ group p rest. probes p group (last_of (components path)) kind.Dir None [] reply.Made rest) answers h (λ group p o rest k. probes_closed O p group (last_of (components path)) kind.Dir None [] reply.Made (λ n. tt) o rest k)
+path_closed O mounts free id (call.Unlink path) answers h = dir_closed O mounts path (λ group p rest. finds kind.File p group (last_of (components path)) rest) answers h (λ group p o rest k. finds_closed O kind.File p group (last_of (components path)) o rest k)
+path_closed O mounts free id (call.RemoveDir path) answers h = dir_closed O mounts path (λ group p rest. finds kind.Dir p group (last_of (components path)) rest) answers h (λ group p o rest k. finds_closed O kind.Dir p group (last_of (components path)) o rest k)
+path_closed O mounts free id (call.Rename path name) answers h = dir_closed O mounts path (λ group p rest. renames p (last_of (components path)) name rest) answers h (λ group p o rest k. renames_closed O p (last_of (components path)) name o rest k)
+path_closed O mounts free id (call.List path) answers h = walked_closed O mounts (components path) (lists (shown_in mounts) (last_of (components path))) answers h (λ at k rest g. none_closed O (EndsOpened rest) _ (lists_closed O (shown_in mounts) (last_of (components path)) at k rest))
+path_closed O mounts free id (call.Stat path) answers h = walked_closed O mounts (components path) describes answers h (λ at k rest g. none_closed O (EndsOpened rest) _ (describes_closed O at k rest))
+path_closed O mounts free id (call.Mail path bytes) answers h = walked_closed O mounts (components path) _ answers h (λ dir k rest g. none_closed O (EndsOpened rest) (opens_dir (last_of (components path)) _ dir k rest)
+    (opens_dir_closed O (last_of (components path)) _ dir k (λ p o ys m. probes_closed O p dir.group (message_name id) kind.File None bytes (tells_name (message_name id)) (λ n. tt) o ys m) rest g))
+path_closed O mounts free id (call.Mails path) answers h = walked_closed O mounts (components path) (lists shown_messages (last_of (components path))) answers h (λ at k rest g. none_closed O (EndsOpened rest) _ (lists_closed O shown_messages (last_of (components path)) at k rest))
+path_closed O mounts free id (call.Open path how) answers h = walked_closed O mounts (components path) (opens_file how free) answers h (λ at k rest g. opens_file_closed O how free at k rest)
+path_closed O mounts free id (call.Mend file) answers h = none_closed O (EndsOpened answers) (mend_wants file answers) (mend_closed O file answers h)
+path_closed O mounts free id _ answers h = tt
 
 begun_closed : (O : Serial → Type 0) (mounts : List Mount) (free : Option ℕ) (words : Call) (b : Beginning) (answers : List Answer) → Every (OwnAnswer O) answers → BeginsOwn O words b → Closed O (EndsOpened answers) (begun_wants mounts free words b answers)
 begun_closed O mounts free words (begins.Denied why) answers h o = tt
 begun_closed O mounts free words (begins.Uses e i) answers h o = none_closed O (EndsOpened answers) (uses_wants words i answers) (uses_closed O words e i o answers)
-begun_closed O mounts free words begins.Walks answers h o = path_closed O mounts free words answers h
+begun_closed O mounts free words (begins.Walks id) answers h o = path_closed O mounts free id words answers h
 
 named_closed : (O : Serial → Type 0) (mounts : List Mount) (free : Option ℕ) (words : Call) (b : Beginning) (answers : List Answer) → Every (OwnAnswer O) answers → BeginsOwn O words b → Closed O (EndsOpened answers) (named_wants mounts free words b answers)
 named_closed O mounts free words b answers h o =

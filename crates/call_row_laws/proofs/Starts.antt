@@ -1,5 +1,6 @@
 -- Each script asks something first, or replies at once.
 use Rattle.std.proofs.Common.{◌≡◌, ℕ, Bool, true, false, cond, List, [], ◌∷◌, Option, Some, None, refl}
+use Rattle.locus_ids.specs.declared.ids.CallId.{CallId}
 use Rattle.locus_ids.specs.declared.ids.EpochId.{EpochId}
 use Rattle.locus_ids.specs.declared.ids.FileId.{FileId}
 use Rattle.locus_ids.specs.declared.ids.Kind.{Kind}
@@ -17,12 +18,13 @@ use Rattle.trace_book.specs.declared.descriptor.Beginning.{Beginning}
 use Rattle.trace_book.specs.declared.descriptor.Beginning.TheVariants as begins
 use Rattle.trace_book.specs.declared.descriptor.Descriptor.{Descriptor}
 use Rattle.trace_book.specs.declared.reply.Reply.TheVariants as reply
+use Rattle.call_rules.specs.Mailing.{shown_messages}
 use Rattle.call_rules.specs.declared.answer.Answer.{Answer}
 use Rattle.call_rules.specs.declared.want.Want.{Want}
 use Rattle.call_rules.specs.declared.want.Want.TheVariants as want
 use Rattle.call_rules.specs.Descriptors.{lowest_free, is_in, begins_on, begins_walk, begins_open, beginning}
 use Rattle.call_rules.specs.Making.{opens_dir, changes_dir}
-use Rattle.call_rules.specs.Opening.{opens_file, uses_wants, lists, describes}
+use Rattle.call_rules.specs.Opening.{opens_file, uses_wants, lists, describes, Shows, shown_in}
 use Rattle.call_rules.specs.Scripts.{path_wants, begun_wants, named_wants, in_group, where_packed, wants}
 use Rattle.call_rules.specs.Walks.{Walked, Asks, Fails, There, Strays, root_of, mounted_in, passes, walk, walked}
 use Rattle.call_rules.specs.Words.{is_badly_named, is_too_long}
@@ -32,7 +34,7 @@ use Rattle.call_row_laws.specs.Scripts.{BeginsWith, Starts, OnDescriptor}
 
 -- not by a walk
 abbrev OnFile : Beginning → Type 0
-OnFile begins.Walks = ⊥
+OnFile (begins.Walks id) = ⊥
 OnFile _ = Unit {0}
 
 -- not on a descriptor
@@ -49,13 +51,13 @@ on_file true now (Some d) =
     ]
 on_file false now (Some d) = elim (is_in now d.epoch) as (λ b. OnFile (cond b (begins.Uses d.epoch d.inst) (begins.Denied (refusal.Stale d.epoch)))) [ true ↦ tt | false ↦ tt ]
 
-on_path : (now : Option EpochId) → OnPath (begins_walk now)
-on_path None = tt
-on_path (Some e) = tt
+on_path : (id : CallId) (now : Option EpochId) → OnPath (begins_walk now id)
+on_path id None = tt
+on_path id (Some e) = tt
 
-on_open : (now : Option EpochId) (free : Option ℕ) → OnPath (begins_open now free)
-on_open now None = tt
-on_open now (Some fd) = on_path now
+on_open : (id : CallId) (now : Option EpochId) (free : Option ℕ) → OnPath (begins_open now id free)
+on_open id now None = tt
+on_open id now (Some fd) = on_path id now
 
 -- ---- a walk without answers ----
 
@@ -87,16 +89,19 @@ walked_starts b mounts path next after = by_walk (walk mounts path [] (root_of 0
 
 -- ---- every call ----
 
-dir_starts : (b : Beginning) (mounts : List Mount) (path : List ℕ) (next : ℕ → Serial → List Answer → Want) → Starts b (changes_dir mounts path next [])
-dir_starts b mounts path next = walked_starts b mounts (but_last (components path)) (λ dir k rest. opens_dir (last_of (but_last (components path))) (next dir.group) dir k rest) by_kind
+box_starts : (b : Beginning) (mounts : List Mount) (names : List (List ℕ)) (next : ℕ → Serial → List Answer → Want) → Starts b (walked mounts names [] (λ dir k rest. opens_dir (last_of names) (next dir.group) dir k rest))
+box_starts b mounts names next = walked_starts b mounts names (λ dir k rest. opens_dir (last_of names) (next dir.group) dir k rest) by_kind
   where
-    by_kind : (at : FileId) (k : Kind) → Starts b (opens_dir (last_of (but_last (components path))) (next at.group) at k [])
+    by_kind : (at : FileId) (k : Kind) → Starts b (opens_dir (last_of names) (next at.group) at k [])
     by_kind at kind.File = tt
     by_kind at kind.Dir = tt
 
-lists_starts : (b : Beginning) (mounts : List Mount) (reached : List ℕ) (at : FileId) (k : Kind) → Starts b (lists mounts reached at k [])
-lists_starts b mounts reached at kind.File = tt
-lists_starts b mounts reached at kind.Dir = tt
+dir_starts : (b : Beginning) (mounts : List Mount) (path : List ℕ) (next : ℕ → Serial → List Answer → Want) → Starts b (changes_dir mounts path next [])
+dir_starts b mounts path next = box_starts b mounts (but_last (components path)) next
+
+lists_starts : (b : Beginning) (shows : Shows) (reached : List ℕ) (at : FileId) (k : Kind) → Starts b (lists shows reached at k [])
+lists_starts b shows reached at kind.File = tt
+lists_starts b shows reached at kind.Dir = tt
 
 opens_starts : (b : Beginning) (m : OpenMode) (free : Option ℕ) (at : FileId) (k : Kind) → Starts b (opens_file m free at k [])
 opens_starts b m free at kind.File = tt
@@ -112,22 +117,24 @@ Suits (call.Abort fd) b = OnFile b
 Suits (call.Close fd) b = OnFile b
 Suits _ b = OnPath b
 
-walks_start : (mounts : List Mount) (free : Option ℕ) (words : Call) → Suits words begins.Walks → Starts begins.Walks (path_wants mounts free words [])
-walks_start mounts free (call.Create path sites) h = dir_starts begins.Walks mounts path _
-walks_start mounts free (call.MakeDir path) h = dir_starts begins.Walks mounts path _
-walks_start mounts free (call.Unlink path) h = dir_starts begins.Walks mounts path _
-walks_start mounts free (call.RemoveDir path) h = dir_starts begins.Walks mounts path _
-walks_start mounts free (call.Rename path name) h = dir_starts begins.Walks mounts path _
-walks_start mounts free (call.List path) h = walked_starts begins.Walks mounts (components path) (lists mounts (last_of (components path))) (lists_starts begins.Walks mounts (last_of (components path)))
-walks_start mounts free (call.Stat path) h = walked_starts begins.Walks mounts (components path) describes (λ at k. tt)
-walks_start mounts free (call.Open path how) h = walked_starts begins.Walks mounts (components path) (opens_file how free) (opens_starts begins.Walks how free)
-walks_start mounts free (call.Mend file) h = tt
-walks_start mounts free (call.Read fd at len) h = absurd h
-walks_start mounts free (call.Write fd at bytes) h = absurd h
-walks_start mounts free (call.Cut fd len) h = absurd h
-walks_start mounts free (call.Commit fd) h = absurd h
-walks_start mounts free (call.Abort fd) h = absurd h
-walks_start mounts free (call.Close fd) h = absurd h
+walks_start : (mounts : List Mount) (free : Option ℕ) (id : CallId) (words : Call) → Suits words (begins.Walks id) → Starts (begins.Walks id) (path_wants mounts free id words [])
+walks_start mounts free id (call.Create path sites) h = dir_starts (begins.Walks id) mounts path _
+walks_start mounts free id (call.MakeDir path) h = dir_starts (begins.Walks id) mounts path _
+walks_start mounts free id (call.Unlink path) h = dir_starts (begins.Walks id) mounts path _
+walks_start mounts free id (call.RemoveDir path) h = dir_starts (begins.Walks id) mounts path _
+walks_start mounts free id (call.Rename path name) h = dir_starts (begins.Walks id) mounts path _
+walks_start mounts free id (call.List path) h = walked_starts (begins.Walks id) mounts (components path) (lists (shown_in mounts) (last_of (components path))) (lists_starts (begins.Walks id) (shown_in mounts) (last_of (components path)))
+walks_start mounts free id (call.Stat path) h = walked_starts (begins.Walks id) mounts (components path) describes (λ at k. tt)
+walks_start mounts free id (call.Open path how) h = walked_starts (begins.Walks id) mounts (components path) (opens_file how free) (opens_starts (begins.Walks id) how free)
+walks_start mounts free id (call.Mail path bytes) h = box_starts (begins.Walks id) mounts (components path) _
+walks_start mounts free id (call.Mails path) h = walked_starts (begins.Walks id) mounts (components path) (lists shown_messages (last_of (components path))) (lists_starts (begins.Walks id) shown_messages (last_of (components path)))
+walks_start mounts free id (call.Mend file) h = tt
+walks_start mounts free id (call.Read fd at len) h = absurd h
+walks_start mounts free id (call.Write fd at bytes) h = absurd h
+walks_start mounts free id (call.Cut fd len) h = absurd h
+walks_start mounts free id (call.Commit fd) h = absurd h
+walks_start mounts free id (call.Abort fd) h = absurd h
+walks_start mounts free id (call.Close fd) h = absurd h
 
 uses_start : (words : Call) (e : EpochId) (i : Serial) → Suits words (begins.Uses e i) → Starts (begins.Uses e i) (uses_wants words i [])
 uses_start (call.Read fd at len) e i h = (e, refl)
@@ -143,30 +150,34 @@ uses_start (call.RemoveDir path) e i h = absurd h
 uses_start (call.Rename path name) e i h = absurd h
 uses_start (call.List path) e i h = absurd h
 uses_start (call.Stat path) e i h = absurd h
+uses_start (call.Mail path bytes) e i h = absurd h
+uses_start (call.Mails path) e i h = absurd h
 uses_start (call.Open path how) e i h = absurd h
 uses_start (call.Mend file) e i h = absurd h
 
 begun_starts : (mounts : List Mount) (free : Option ℕ) (words : Call) (b : Beginning) → Suits words b → Starts b (begun_wants mounts free words b [])
 begun_starts mounts free words (begins.Denied why) h = tt
 begun_starts mounts free words (begins.Uses e i) h = uses_start words e i h
-begun_starts mounts free words begins.Walks h = walks_start mounts free words h
+begun_starts mounts free words (begins.Walks id) h = walks_start mounts free id words h
 
-suits : (table : ℕ → Option Descriptor) (now : Option EpochId) (words : Call) → Suits words (beginning table now words)
-suits table now (call.Read fd at len) = on_file false now (table fd)
-suits table now (call.Write fd at bytes) = elim (is_too_long (call.Write fd at bytes)) as (λ b. OnFile (cond b (begins.Denied refusal.TooLong) (begins_on true now (table fd)))) [ true ↦ tt | false ↦ on_file true now (table fd) ]
-suits table now (call.Cut fd len) = on_file true now (table fd)
-suits table now (call.Commit fd) = on_file true now (table fd)
-suits table now (call.Abort fd) = on_file true now (table fd)
-suits table now (call.Close fd) = on_file false now (table fd)
-suits table now (call.Create path sites) = on_path now
-suits table now (call.MakeDir path) = on_path now
-suits table now (call.Unlink path) = on_path now
-suits table now (call.RemoveDir path) = on_path now
-suits table now (call.Rename path name) = on_path now
-suits table now (call.List path) = on_path now
-suits table now (call.Stat path) = on_path now
-suits table now (call.Open path how) = on_open now (lowest_free table)
-suits table now (call.Mend file) = on_path now
+suits : (table : ℕ → Option Descriptor) (now : Option EpochId) (id : CallId) (words : Call) → Suits words (beginning table now id words)
+suits table now id (call.Read fd at len) = on_file false now (table fd)
+suits table now id (call.Write fd at bytes) = elim (is_too_long (call.Write fd at bytes)) as (λ b. OnFile (cond b (begins.Denied refusal.TooLong) (begins_on true now (table fd)))) [ true ↦ tt | false ↦ on_file true now (table fd) ]
+suits table now id (call.Cut fd len) = on_file true now (table fd)
+suits table now id (call.Commit fd) = on_file true now (table fd)
+suits table now id (call.Abort fd) = on_file true now (table fd)
+suits table now id (call.Close fd) = on_file false now (table fd)
+suits table now id (call.Create path sites) = on_path id now
+suits table now id (call.MakeDir path) = on_path id now
+suits table now id (call.Unlink path) = on_path id now
+suits table now id (call.RemoveDir path) = on_path id now
+suits table now id (call.Rename path name) = on_path id now
+suits table now id (call.List path) = on_path id now
+suits table now id (call.Stat path) = on_path id now
+suits table now id (call.Mail path bytes) = on_path id now
+suits table now id (call.Mails path) = on_path id now
+suits table now id (call.Open path how) = on_open id now (lowest_free table)
+suits table now id (call.Mend file) = on_path id now
 
 group_starts : (b : Beginning) (is_packed : ℕ → Bool) (group : ℕ) (w : Want) → Starts b w → Starts b (in_group is_packed group w)
 group_starts b is_packed group w h = elim (is_packed group) as (λ t. Starts b (cond t w (want.Give (reply.No refusal.NoStorage)))) [ true ↦ h | false ↦ tt ]
@@ -182,13 +193,13 @@ packed_starts b is_packed (want.Give r) h = h
 packed_starts b is_packed want.Never h = h
 
 -- without answers a call asks something, or it is given its reply
-pub wants_starts : (mounts : List Mount) (is_packed : ℕ → Bool) (free : Option ℕ) (table : ℕ → Option Descriptor) (now : Option EpochId) (words : Call) → Starts (beginning table now words) (wants mounts is_packed free words (beginning table now words) [])
-wants_starts mounts is_packed free table now words =
+pub wants_starts : (mounts : List Mount) (is_packed : ℕ → Bool) (free : Option ℕ) (table : ℕ → Option Descriptor) (now : Option EpochId) (id : CallId) (words : Call) → Starts (beginning table now id words) (wants mounts is_packed free words (beginning table now id words) [])
+wants_starts mounts is_packed free table now id words =
     packed_starts b is_packed (named_wants mounts free words b [])
-    (elim (is_badly_named mounts words) as (λ n. Starts b (cond n (want.Give (reply.No refusal.BadName)) (begun_wants mounts free words b []))) [ true ↦ tt | false ↦ begun_starts mounts free words b (suits table now words) ])
+    (elim (is_badly_named mounts words) as (λ n. Starts b (cond n (want.Give (reply.No refusal.BadName)) (begun_wants mounts free words b []))) [ true ↦ tt | false ↦ begun_starts mounts free words b (suits table now id words) ])
   where
     b : Beginning
-    b = beginning table now words
+    b = beginning table now id words
 
 -- ---- on which descriptor ----
 
@@ -198,10 +209,10 @@ denied why i h = differ h.0 h.1
     differ : (e : EpochId) → begins.Denied why ≡ begins.Uses e i → ⊥
     differ e h = cc
 
-walks_none : (i : Serial) → BeginsWith begins.Walks i → ⊥
-walks_none i h = differ h.0 h.1
+walks_none : (id : CallId) (i : Serial) → BeginsWith (begins.Walks id) i → ⊥
+walks_none id i h = differ h.0 h.1
   where
-    differ : (e : EpochId) → begins.Walks ≡ begins.Uses e i → ⊥
+    differ : (e : EpochId) → (begins.Walks id) ≡ begins.Uses e i → ⊥
     differ e h = cc
 
 uses_inst : (e : EpochId) (p i : Serial) → BeginsWith (begins.Uses e p) i → p ≡ i
@@ -226,32 +237,34 @@ begins_on_there false now (Some d) i h =
       | false ↦ λ e k. absurd (denied (refusal.Stale d.epoch) i k)
     ]) refl h
 
-walk_none : (now : Option EpochId) (i : Serial) → BeginsWith (begins_walk now) i → ⊥
-walk_none None i h = denied refusal.NoPartition i h
-walk_none (Some e) i h = walks_none i h
+walk_none : (id : CallId) (now : Option EpochId) (i : Serial) → BeginsWith (begins_walk now id) i → ⊥
+walk_none id None i h = denied refusal.NoPartition i h
+walk_none id (Some e) i h = walks_none id i h
 
-open_none : (now : Option EpochId) (free : Option ℕ) (i : Serial) → BeginsWith (begins_open now free) i → ⊥
-open_none now None i h = denied refusal.NoDescriptor i h
-open_none now (Some fd) i h = walk_none now i h
+open_none : (id : CallId) (now : Option EpochId) (free : Option ℕ) (i : Serial) → BeginsWith (begins_open now id free) i → ⊥
+open_none id now None i h = denied refusal.NoDescriptor i h
+open_none id now (Some fd) i h = walk_none id now i h
 
 -- a call that begins on an instance has it of a descriptor of the epoch at hand
-pub begins_there : (table : ℕ → Option Descriptor) (now : Option EpochId) (words : Call) (i : Serial) → BeginsWith (beginning table now words) i → (fd : ℕ) × OnDescriptor now (table fd) i
-begins_there table now (call.Read fd at len) i h = (fd, begins_on_there false now (table fd) i h)
-begins_there table now (call.Write fd at bytes) i h =
+pub begins_there : (table : ℕ → Option Descriptor) (now : Option EpochId) (id : CallId) (words : Call) (i : Serial) → BeginsWith (beginning table now id words) i → (fd : ℕ) × OnDescriptor now (table fd) i
+begins_there table now id (call.Read fd at len) i h = (fd, begins_on_there false now (table fd) i h)
+begins_there table now id (call.Write fd at bytes) i h =
     (elim (is_too_long (call.Write fd at bytes)) as (λ b. BeginsWith (cond b (begins.Denied refusal.TooLong) (begins_on true now (table fd))) i → (f : ℕ) × OnDescriptor now (table f) i) [
       | true ↦ λ k. absurd (denied refusal.TooLong i k)
       | false ↦ λ k. (fd, begins_on_there true now (table fd) i k)
     ]) h
-begins_there table now (call.Cut fd len) i h = (fd, begins_on_there true now (table fd) i h)
-begins_there table now (call.Commit fd) i h = (fd, begins_on_there true now (table fd) i h)
-begins_there table now (call.Abort fd) i h = (fd, begins_on_there true now (table fd) i h)
-begins_there table now (call.Close fd) i h = (fd, begins_on_there false now (table fd) i h)
-begins_there table now (call.Create path sites) i h = absurd (walk_none now i h)
-begins_there table now (call.MakeDir path) i h = absurd (walk_none now i h)
-begins_there table now (call.Unlink path) i h = absurd (walk_none now i h)
-begins_there table now (call.RemoveDir path) i h = absurd (walk_none now i h)
-begins_there table now (call.Rename path name) i h = absurd (walk_none now i h)
-begins_there table now (call.List path) i h = absurd (walk_none now i h)
-begins_there table now (call.Stat path) i h = absurd (walk_none now i h)
-begins_there table now (call.Open path how) i h = absurd (open_none now (lowest_free table) i h)
-begins_there table now (call.Mend file) i h = absurd (walk_none now i h)
+begins_there table now id (call.Cut fd len) i h = (fd, begins_on_there true now (table fd) i h)
+begins_there table now id (call.Commit fd) i h = (fd, begins_on_there true now (table fd) i h)
+begins_there table now id (call.Abort fd) i h = (fd, begins_on_there true now (table fd) i h)
+begins_there table now id (call.Close fd) i h = (fd, begins_on_there false now (table fd) i h)
+begins_there table now id (call.Create path sites) i h = absurd (walk_none id now i h)
+begins_there table now id (call.MakeDir path) i h = absurd (walk_none id now i h)
+begins_there table now id (call.Unlink path) i h = absurd (walk_none id now i h)
+begins_there table now id (call.RemoveDir path) i h = absurd (walk_none id now i h)
+begins_there table now id (call.Rename path name) i h = absurd (walk_none id now i h)
+begins_there table now id (call.List path) i h = absurd (walk_none id now i h)
+begins_there table now id (call.Stat path) i h = absurd (walk_none id now i h)
+begins_there table now id (call.Mail path bytes) i h = absurd (walk_none id now i h)
+begins_there table now id (call.Mails path) i h = absurd (walk_none id now i h)
+begins_there table now id (call.Open path how) i h = absurd (open_none id now (lowest_free table) i h)
+begins_there table now id (call.Mend file) i h = absurd (walk_none id now i h)

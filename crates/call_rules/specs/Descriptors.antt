@@ -1,6 +1,7 @@
 -- The descriptors of a process as a function from numbers, and where an accepted call begins by them.
 use Rattle.std.specs.Prelude.{ℕ, zero, suc, ◌+◌, Bool, true, false, cond, Option, None, Some}
 use Rattle.locus_ids.specs.declared.ids.EpochId.{EpochId}
+use Rattle.locus_ids.specs.declared.ids.CallId.{CallId}
 use Rattle.locus_ids.specs.declared.refusal.Refusal.TheVariants.{BadDescriptor, Stale, ReadOnly, NoDescriptor, NoPartition, TooLong}
 use Rattle.locus_ids.specs.Sizes.{descriptors_max}
 use Rattle.commit_graph.specs.Grants.{is_read}
@@ -39,30 +40,32 @@ begins_on changes now (Some d) = cond (is_in now d.epoch) (cond changes (by_mode
     by_mode d = cond (is_read d.mode) (Denied ReadOnly) (Uses d.epoch d.inst)
 
 -- a call that walks a path: the site must be in an epoch
-abbrev pub begins_walk : Option EpochId → Beginning
-begins_walk None = Denied NoPartition
-begins_walk (Some e) = Walks
+abbrev pub begins_walk : Option EpochId → CallId → Beginning
+begins_walk None id = Denied NoPartition
+begins_walk (Some e) id = Walks id
 
 -- an open also wants a free descriptor, before that
-abbrev pub begins_open : Option EpochId → Option ℕ → Beginning
-begins_open now None = Denied NoDescriptor
-begins_open now (Some fd) = begins_walk now
+abbrev pub begins_open : Option EpochId → CallId → Option ℕ → Beginning
+begins_open now id None = Denied NoDescriptor
+begins_open now id (Some fd) = begins_walk now id
 
--- Where a call begins whose names are good, by the descriptors of its process and the epoch that its site is in. A write
+-- Where a call of this name begins whose names are good, by the descriptors of its process and the epoch that its site is in. A write
 -- past the greatest size is refused by its words, before any table is asked, and so is no use of a descriptor.
-abbrev pub beginning : (ℕ → Option Descriptor) → Option EpochId → Call → Beginning
-beginning table now (call.Open path mode) = begins_open now (lowest_free table)
-beginning table now (call.Read fd at len) = begins_on false now (table fd)
-beginning table now (call.Write fd at bytes) = cond (is_too_long (call.Write fd at bytes)) (Denied TooLong) (begins_on true now (table fd))
-beginning table now (call.Cut fd len) = begins_on true now (table fd)
-beginning table now (call.Commit fd) = begins_on true now (table fd)
-beginning table now (call.Abort fd) = begins_on true now (table fd)
-beginning table now (call.Close fd) = begins_on false now (table fd)
-beginning table now (call.Create path sites) = begins_walk now
-beginning table now (call.MakeDir path) = begins_walk now
-beginning table now (call.Unlink path) = begins_walk now
-beginning table now (call.RemoveDir path) = begins_walk now
-beginning table now (call.Rename path name) = begins_walk now
-beginning table now (call.List path) = begins_walk now
-beginning table now (call.Stat path) = begins_walk now
-beginning table now (call.Mend file) = begins_walk now
+abbrev pub beginning : (ℕ → Option Descriptor) → Option EpochId → CallId → Call → Beginning
+beginning table now id (call.Open path mode) = begins_open now id (lowest_free table)
+beginning table now id (call.Read fd at len) = begins_on false now (table fd)
+beginning table now id (call.Write fd at bytes) = cond (is_too_long (call.Write fd at bytes)) (Denied TooLong) (begins_on true now (table fd))
+beginning table now id (call.Cut fd len) = begins_on true now (table fd)
+beginning table now id (call.Commit fd) = begins_on true now (table fd)
+beginning table now id (call.Abort fd) = begins_on true now (table fd)
+beginning table now id (call.Close fd) = begins_on false now (table fd)
+beginning table now id (call.Create path sites) = begins_walk now id
+beginning table now id (call.MakeDir path) = begins_walk now id
+beginning table now id (call.Unlink path) = begins_walk now id
+beginning table now id (call.RemoveDir path) = begins_walk now id
+beginning table now id (call.Rename path name) = begins_walk now id
+beginning table now id (call.List path) = begins_walk now id
+beginning table now id (call.Stat path) = begins_walk now id
+beginning table now id (call.Mail path bytes) = begins_walk now id
+beginning table now id (call.Mails path) = begins_walk now id
+beginning table now id (call.Mend file) = begins_walk now id

@@ -8,6 +8,7 @@ pub mod Removing
 pub mod Naming
 pub mod Opening
 pub mod Mending
+pub mod Mailing
 pub mod Scripts
 pub mod Samples
 pub use Rattle.commit_graph.specs as of_commit_graph

@@ -90,13 +90,17 @@ with_mounts (m ∷ ms) names = with_name m.name (with_mounts ms names)
 abbrev pub shown_in : List Mount → FileId → List (List ℕ) → List (List ℕ)
 shown_in mounts dir names = cond (is_first_root dir) (with_mounts mounts names) names
 
--- list: look at the names of the directory
-abbrev pub lists : List Mount → List ℕ → FileId → Kind → List Answer → Want
-lists mounts reached at File answers = Give (reply.No (NotDir reached))
-lists mounts reached at Dir [] = Look at what.List
-lists mounts reached at Dir (Showed names ∷ []) = Give (reply.Names (shown_in mounts at names))
-lists mounts reached at Dir (Refused why ∷ []) = Give (reply.No why)
-lists mounts reached at Dir (_ ∷ rest) = Never
+-- what of the names of a directory is told
+abbrev pub Shows : Type 0
+Shows = FileId → List (List ℕ) → List (List ℕ)
+
+-- look at the names of the directory, and tell of them what is shown. `list` shows all, with those of mounts
+abbrev pub lists : Shows → List ℕ → FileId → Kind → List Answer → Want
+lists shows reached at File answers = Give (reply.No (NotDir reached))
+lists shows reached at Dir [] = Look at what.List
+lists shows reached at Dir (Showed names ∷ []) = Give (reply.Names (shows at names))
+lists shows reached at Dir (Refused why ∷ []) = Give (reply.No why)
+lists shows reached at Dir (_ ∷ rest) = Never
 
 -- stat: look at what the file or directory is
 abbrev pub describes : FileId → Kind → List Answer → Want

@@ -1,5 +1,6 @@
 -- A small cluster and some words, to see what the rules say of them.
 use Rattle.std.specs.Prelude.{ℕ, true, List, [], ◌∷◌, Option, None, Some, codes}
+use Rattle.locus_ids.specs.declared.ids.CallId.{CallId}
 use Rattle.locus_ids.specs.declared.ids.EpochId.{EpochId}
 use Rattle.locus_ids.specs.declared.ids.FileId.{FileId}
 use Rattle.locus_ids.specs.declared.ids.Serial.{Serial}
@@ -18,12 +19,15 @@ usr = record { group = 1; name = codes "usr" } ∷ []
 abbrev pub first_epoch : EpochId
 first_epoch = record { number = 1; site = 1; boot = 1 }
 
+abbrev pub first_call : CallId
+first_call = record { site = 1; boot = 1; n = 1 }
+
 abbrev pub no_descriptors : ℕ → Option Descriptor
 no_descriptors fd = None
 
 -- what a call asks, of a process without descriptors in the first epoch, where every group is packed
 abbrev pub asks : Call → List Answer → Want
-asks words answers = wants usr (λ group. true) (Some 0) words (beginning no_descriptors (Some first_epoch) words) answers
+asks words answers = wants usr (λ group. true) (Some 0) words (beginning no_descriptors (Some first_epoch) first_call words) answers
 
 abbrev pub file : ℕ → ℕ → FileId
 file group ino = record { group = group; ino = ino }

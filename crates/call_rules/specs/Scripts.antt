@@ -1,6 +1,7 @@
 -- The scripts of calls: what a call asks next, by its words, the cluster, where it began, and what its requests were
 -- answered so far, the earliest answer first.
 use Rattle.std.specs.Prelude.{ℕ, Bool, true, false, cond, List, Option, None}
+use Rattle.locus_ids.specs.declared.ids.CallId.{CallId}
 use Rattle.locus_ids.specs.declared.ids.Kind.TheVariants.{File, Dir}
 use Rattle.locus_ids.specs.declared.config.Mount.{Mount}
 use Rattle.locus_ids.specs.declared.refusal.Refusal.TheVariants.{BadName, NoStorage}
@@ -18,27 +19,30 @@ use Rattle.call_rules.specs.Walks.{walked}
 use Rattle.call_rules.specs.Making.{make_wants}
 use Rattle.call_rules.specs.Removing.{remove_wants}
 use Rattle.call_rules.specs.Naming.{rename_wants}
-use Rattle.call_rules.specs.Opening.{opens_file, lists, describes, uses_wants}
+use Rattle.call_rules.specs.Opening.{opens_file, lists, describes, shown_in, uses_wants}
 use Rattle.call_rules.specs.Mending.{mend_wants}
+use Rattle.call_rules.specs.Mailing.{shown_messages, mail_wants}
 
--- a call that walks a path, or mends; `free` is the lowest free descriptor of its process
-abbrev pub path_wants : List Mount → Option ℕ → Call → List Answer → Want
-path_wants mounts free (call.Create path sites) answers = make_wants mounts path File sites answers
-path_wants mounts free (call.MakeDir path) answers = make_wants mounts path Dir None answers
-path_wants mounts free (call.Unlink path) answers = remove_wants mounts path File answers
-path_wants mounts free (call.RemoveDir path) answers = remove_wants mounts path Dir answers
-path_wants mounts free (call.Rename path name) answers = rename_wants mounts path name answers
-path_wants mounts free (call.List path) answers = walked mounts (components path) answers (lists mounts (last_of (components path)))
-path_wants mounts free (call.Stat path) answers = walked mounts (components path) answers describes
-path_wants mounts free (call.Open path how) answers = walked mounts (components path) answers (opens_file how free)
-path_wants mounts free (call.Mend file) answers = mend_wants file answers
-path_wants mounts free _ answers = Never
+-- the call of this name, which walks a path, or mends; `free` is the lowest free descriptor of its process
+abbrev pub path_wants : List Mount → Option ℕ → CallId → Call → List Answer → Want
+path_wants mounts free id (call.Create path sites) answers = make_wants mounts path File sites answers
+path_wants mounts free id (call.MakeDir path) answers = make_wants mounts path Dir None answers
+path_wants mounts free id (call.Unlink path) answers = remove_wants mounts path File answers
+path_wants mounts free id (call.RemoveDir path) answers = remove_wants mounts path Dir answers
+path_wants mounts free id (call.Rename path name) answers = rename_wants mounts path name answers
+path_wants mounts free id (call.List path) answers = walked mounts (components path) answers (lists (shown_in mounts) (last_of (components path)))
+path_wants mounts free id (call.Stat path) answers = walked mounts (components path) answers describes
+path_wants mounts free id (call.Open path how) answers = walked mounts (components path) answers (opens_file how free)
+path_wants mounts free id (call.Mend file) answers = mend_wants file answers
+path_wants mounts free id (call.Mail path bytes) answers = mail_wants mounts id path bytes answers
+path_wants mounts free id (call.Mails path) answers = walked mounts (components path) answers (lists shown_messages (last_of (components path)))
+path_wants mounts free id _ answers = Never
 
 -- by where the call began: a refusal there is its reply
 abbrev pub begun_wants : List Mount → Option ℕ → Call → Beginning → List Answer → Want
 begun_wants mounts free words (Denied why) answers = Give (reply.No why)
 begun_wants mounts free words (Uses epoch inst) answers = uses_wants words inst answers
-begun_wants mounts free words Walks answers = path_wants mounts free words answers
+begun_wants mounts free words (Walks id) answers = path_wants mounts free id words answers
 
 -- a name that isn't allowed is refused before anything else
 abbrev pub named_wants : List Mount → Option ℕ → Call → Beginning → List Answer → Want

@@ -36,6 +36,8 @@ is_badly_named mounts (call.RemoveDir path) = not (names_entry mounts path)
 is_badly_named mounts (call.Rename path name) = not (names_entry mounts path && (is_name name && not (is_mount_name mounts path name)))
 is_badly_named mounts (call.List path) = not (is_path path)
 is_badly_named mounts (call.Stat path) = not (is_path path)
+is_badly_named mounts (call.Mail path bytes) = not (is_path path)
+is_badly_named mounts (call.Mails path) = not (is_path path)
 is_badly_named mounts (call.Open path mode) = not (is_path path)
 is_badly_named mounts _ = false
 

@@ -1,4 +1,5 @@
 ghost use Rattle.std.specs.Prelude.{◌≡◌, ℕ, Bool, true, false, List, [], ◌∷◌, Option, None, Some, codes, replicate, ◌-◌};
+ghost use Rattle.locus_ids.specs.declared.ids.CallId.{CallId};
 ghost use Rattle.locus_ids.specs.declared.ids.EpochId.{EpochId};
 ghost use Rattle.locus_ids.specs.declared.ids.Kind.TheVariants as kind;
 ghost use Rattle.locus_ids.specs.declared.config.Mount.{Mount};
@@ -23,8 +24,8 @@ ghost use Rattle.call_rules.specs.Samples.{usr, asks, file, inst};
 
 /// What the words of a call refuse is its reply, whatever its site's tables are and wherever packs stand.
 pub fn words_refuse_first()
-    ensures { (mounts : List Mount) (packed : ℕ → Bool) (free : Option ℕ) (table : ℕ → Option Descriptor) (now : Option EpochId) (w : Call) (why : Refusal) →
-        refused_by_words mounts w ≡ Some why → wants mounts packed free w (beginning table now w) [] ≡ want.Give (reply.No why) }
+    ensures { (mounts : List Mount) (packed : ℕ → Bool) (free : Option ℕ) (table : ℕ → Option Descriptor) (now : Option EpochId) (id : CallId) (w : Call) (why : Refusal) →
+        refused_by_words mounts w ≡ Some why → wants mounts packed free w (beginning table now id w) [] ≡ want.Give (reply.No why) }
 {}
 
 /// Which names and words are allowed, where group 1 stands on `usr`.

@@ -1,6 +1,5 @@
 -- A script in code: the words of a call, where it began, and what its requests were answered so far.
-use Rattle.std.specs.Prelude.{ℕ, List, [], Option, ◌++◌, ◌∷◌}
-use Rattle.locus_ids.specs.declared.config.Mount.{Mount}
+use Rattle.std.specs.Prelude.{ℕ, List, []}
 use Rattle.trace_book.specs.declared.call.Call.{Call}
 use Rattle.trace_book.specs.declared.call.Call.TheVariants as call
 use Rattle.trace_book.specs.declared.descriptor.Beginning.{Beginning}
@@ -20,5 +19,7 @@ path_of (call.RemoveDir path) = path
 path_of (call.Rename path name) = path
 path_of (call.List path) = path
 path_of (call.Stat path) = path
+path_of (call.Mail path bytes) = path
+path_of (call.Mails path) = path
 path_of (call.Open path mode) = path
 path_of _ = []

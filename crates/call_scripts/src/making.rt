@@ -1,19 +1,37 @@
-ghost use Rattle.std.specs.Prelude.{◌≡◌, ◌∷◌, [], List, IfOk};
-ghost use Rattle.call_rules.specs.Making.{after_insert, after_make, after_probe, probes};
+ghost use Rattle.std.specs.Prelude.{◌≡◌, ◌∷◌, [], ℕ, List, IfOk};
+ghost use Rattle.trace_book.specs.declared.reply.Reply.{Reply};
+ghost use Rattle.call_rules.specs.Making.{after_insert, after_make, after_probe, fills, probes};
+ghost use Rattle.call_scripts.specs.Reaches.{tells};
 
 use crate::closing::{close_all, give_up};
 use call_rules::{Answer, Want};
-use locus_ids::{Bytes, Kind, NoMemory, Serial, Sites};
+use locus_ids::{Bytes, Kind, Names, NoMemory, Serial, Sites};
 use std::alloc::Global;
 use trace_book::{Op, Reply};
 
-/// A file or directory that a call makes: its group, its name, its kind, and the sites that it is for.
+/// A file or directory that a call makes: its group, its name, its kind, the sites that it is for, the bytes that it begins with, and
+/// whether the reply tells its name, as that of a message, or its number.
 #[derive(Clone, Copy)]
 pub(crate) struct NewFile<'a> {
     pub(crate) group: u8,
     pub(crate) name: &'a [u8],
     pub(crate) kind: Kind,
     pub(crate) sites: Option<Sites>,
+    pub(crate) bytes: &'a [u8],
+    pub(crate) is_message: bool,
+}
+
+/// What the reply tells of the new file.
+fn told(alloc: Global, new: NewFile, ino: u16) -> Result<Reply, NoMemory>
+    ensures { IfOk result (λ r. r ≡ tells new.entry.is_message new.entry.name.now ino) }
+{
+    if !new.is_message {
+        return Ok(Reply::Made { ino });
+    }
+    let mut names = Names::new(alloc);
+    let name = Bytes::from_slice(alloc, new.name)?;
+    names.push(name)?;
+    Ok(Reply::Names { names })
 }
 
 /// The directory is open: the name is probed first.
@@ -23,7 +41,7 @@ pub(crate) fn probes(
     new: NewFile,
     answers: &[Answer],
 ) -> Result<Want, NoMemory>
-    ensures { IfOk result (λ w. w ≡ probes dir new.entry.group new.entry.name.now new.entry.kind new.entry.sites answers.now) }
+    ensures { IfOk result (λ w. w ≡ probes dir new.entry.group new.entry.name.now new.entry.kind new.entry.sites new.entry.bytes.now (tells new.entry.is_message new.entry.name.now) answers.now) }
 {
     match answers {
         [] => {
@@ -46,7 +64,7 @@ fn after_probe(
     new: NewFile,
     answers: &[Answer],
 ) -> Result<Want, NoMemory>
-    ensures { IfOk result (λ w. w ≡ after_probe dir new.entry.group new.entry.name.now new.entry.kind new.entry.sites answers.now) }
+    ensures { IfOk result (λ w. w ≡ after_probe dir new.entry.group new.entry.name.now new.entry.kind new.entry.sites new.entry.bytes.now (tells new.entry.is_message new.entry.name.now) answers.now) }
 {
     match answers {
         [] => Ok(Want::Make {
@@ -55,27 +73,66 @@ fn after_probe(
             sites: new.sites,
         }),
         [Answer::Opened { inst, ino }, answers @ ..] => {
-            after_make(alloc, dir, new, *inst, *ino, answers)
+            let made = Made {
+                inst: *inst,
+                ino: *ino,
+            };
+            fills(alloc, dir, new, made, answers)
         }
         [Answer::Refused { why }, answers @ ..] => give_up(&[dir], why, answers),
         _ => Ok(Want::Never),
     }
 }
 
-/// The file is made: it is closed.
+/// A made file, as it is open.
+#[derive(Clone, Copy)]
+struct Made {
+    inst: Serial,
+    ino: u16,
+}
+
+/// The file is made: it is written first, where it begins with some bytes.
+fn fills(
+    alloc: Global,
+    dir: Serial,
+    new: NewFile,
+    made: Made,
+    answers: &[Answer],
+) -> Result<Want, NoMemory>
+    ensures { IfOk result (λ w. w ≡ fills dir new.entry.name.now new.entry.kind new.entry.bytes.now made.inst made.ino (tells new.entry.is_message new.entry.name.now made.ino) answers.now) }
+{
+    if new.bytes.is_empty() {
+        return after_make(alloc, dir, new, made, answers);
+    }
+    match answers {
+        [] => {
+            let bytes = Bytes::from_slice(alloc, new.bytes)?;
+            Ok(Want::Do {
+                inst: made.inst,
+                op: Op::Write { at: 0, bytes },
+            })
+        }
+        [Answer::Did { result: _ }, answers @ ..] => after_make(alloc, dir, new, made, answers),
+        [Answer::Refused { why }, answers @ ..] => give_up(&[made.inst, dir], why, answers),
+        _ => Ok(Want::Never),
+    }
+}
+
+/// The file is as it begins: it is closed.
 fn after_make(
     alloc: Global,
     dir: Serial,
     new: NewFile,
-    made: Serial,
-    ino: u16,
+    made: Made,
     answers: &[Answer],
 ) -> Result<Want, NoMemory>
-    ensures { IfOk result (λ w. w ≡ after_make dir new.entry.name.now new.entry.kind made ino answers.now) }
+    ensures { IfOk result (λ w. w ≡ after_make dir new.entry.name.now new.entry.kind made.inst made.ino (tells new.entry.is_message new.entry.name.now made.ino) answers.now) }
 {
     match answers {
-        [] => Ok(Want::Close { inst: made }),
-        [Answer::Ended { stamp: _ }, answers @ ..] => after_insert(alloc, dir, new, ino, answers),
+        [] => Ok(Want::Close { inst: made.inst }),
+        [Answer::Ended { stamp: _ }, answers @ ..] => {
+            after_insert(alloc, dir, new, made.ino, answers)
+        }
         [Answer::Refused { why }, answers @ ..] => give_up(&[dir], why, answers),
         _ => Ok(Want::Never),
     }
@@ -89,7 +146,7 @@ fn after_insert(
     ino: u16,
     answers: &[Answer],
 ) -> Result<Want, NoMemory>
-    ensures { IfOk result (λ w. w ≡ after_insert dir new.entry.name.now new.entry.kind ino answers.now) }
+    ensures { IfOk result (λ w. w ≡ after_insert dir new.entry.name.now new.entry.kind ino (tells new.entry.is_message new.entry.name.now ino) answers.now) }
 {
     match answers {
         [] => {
@@ -102,7 +159,8 @@ fn after_insert(
             Ok(Want::Do { inst: dir, op })
         }
         [Answer::Did { result: _ }, answers @ ..] => {
-            close_all(&[dir], Reply::Made { ino }, answers)
+            let reply = told(alloc, new, ino)?;
+            close_all(&[dir], reply, answers)
         }
         [Answer::Refused { why }, answers @ ..] => give_up(&[dir], why, answers),
         _ => Ok(Want::Never),

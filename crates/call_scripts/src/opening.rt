@@ -1,9 +1,11 @@
 ghost use Rattle.std.specs.Prelude.{◌≡◌, ◌∷◌, [], List, IfOk};
-ghost use Rattle.call_rules.specs.Opening.{describes, lists, opens_file};
+ghost use Rattle.call_rules.specs.Mailing.{shown_messages};
+ghost use Rattle.call_rules.specs.Opening.{describes, lists, opens_file, shown_in};
 
 use crate::showing::shown_in;
 use call_rules::{Answer, Want};
 use locus_ids::{Bytes, FileId, Kind, Mount, NoMemory, Refusal};
+use mailbox_join::messages;
 use std::alloc::Global;
 use trace_book::{OpenMode, Reply, What};
 
@@ -51,7 +53,7 @@ pub(crate) fn lists(
     kind: Kind,
     answers: &[Answer],
 ) -> Result<Want, NoMemory>
-    ensures { IfOk result (λ w. w ≡ lists mounts.now reached.now at kind answers.now) }
+    ensures { IfOk result (λ w. w ≡ lists (shown_in mounts.now) reached.now at kind answers.now) }
 {
     if let Kind::File = kind {
         let name = Bytes::from_slice(alloc, reached)?;
@@ -68,6 +70,45 @@ pub(crate) fn lists(
         }),
         [Answer::Showed { names }] => {
             let names = shown_in(mounts, at, names)?;
+            Ok(Want::Give {
+                reply: Reply::Names { names },
+            })
+        }
+        [Answer::Refused { why }] => {
+            let why = why.copy()?;
+            Ok(Want::Give {
+                reply: Reply::No { why },
+            })
+        }
+        _ => Ok(Want::Never),
+    }
+}
+
+/// A walk has led to a box: its names are looked at, of which those of messages are shown.
+pub(crate) fn lists_messages(
+    alloc: Global,
+    reached: &[u8],
+    at: FileId,
+    kind: Kind,
+    answers: &[Answer],
+) -> Result<Want, NoMemory>
+    ensures { IfOk result (λ w. w ≡ lists shown_messages reached.now at kind answers.now) }
+{
+    if let Kind::File = kind {
+        let name = Bytes::from_slice(alloc, reached)?;
+        return Ok(Want::Give {
+            reply: Reply::No {
+                why: Refusal::NotDir { name },
+            },
+        });
+    }
+    match answers {
+        [] => Ok(Want::Look {
+            file: at,
+            what: What::List,
+        }),
+        [Answer::Showed { names }] => {
+            let names = messages(names)?;
             Ok(Want::Give {
                 reply: Reply::Names { names },
             })

@@ -6,19 +6,28 @@ ghost use Rattle.call_rules.specs.declared.answer.Answer.{Answer};
 ghost use Rattle.call_rules.specs.Making.{make_wants};
 ghost use Rattle.call_rules.specs.Removing.{remove_wants};
 ghost use Rattle.call_rules.specs.Naming.{rename_wants};
-ghost use Rattle.call_rules.specs.Opening.{describes, lists, opens_file};
+ghost use Rattle.call_rules.specs.Opening.{describes, lists, opens_file, shown_in};
+ghost use Rattle.call_rules.specs.Mailing.{shown_messages};
 ghost use Rattle.call_rules.specs.Walks.{walked};
+ghost use Rattle.call_scripts.specs.Reaches.{mails_to};
 
 use crate::making::{NewFile, probes};
 use crate::naming::renames;
-use crate::opening::{describes, lists, opens_file};
-use crate::reaching::{Opened, Reached, open_dir, reach};
+use crate::opening::{describes, lists, lists_messages, opens_file};
+use crate::reaching::{Opened, Reached, open_dir, open_whole, reach};
 use crate::removing::{Entry, finds};
 use call_rules::{Answer, Want};
 use locus_ids::{Bytes, Kind, Mount, NoMemory, Sites};
 use path_walk::last_of;
 use std::alloc::Global;
 use trace_book::OpenMode;
+
+/// A message: its name and its bytes.
+#[derive(Clone, Copy)]
+pub(crate) struct Message<'a> {
+    pub(crate) name: &'a [u8],
+    pub(crate) bytes: &'a [u8],
+}
 
 /// What a create or a mkdir asks.
 pub(crate) fn make_wants(
@@ -45,6 +54,8 @@ pub(crate) fn make_wants(
                 name: last_of(names),
                 kind,
                 sites,
+                bytes: &[],
+                is_message: false,
             };
             probes(alloc, dir, new, answers)
         }
@@ -109,7 +120,7 @@ pub(crate) fn list_wants(
     names: &[Bytes],
     answers: &[Answer],
 ) -> Result<Want, NoMemory>
-    ensures { IfOk result (λ w. w ≡ walked mounts.now names.now answers.now (lists mounts.now (last_of names.now))) }
+    ensures { IfOk result (λ w. w ≡ walked mounts.now names.now answers.now (lists (shown_in mounts.now) (last_of names.now))) }
 {
     match reach(alloc, mounts, names, answers)? {
         Reached::Wants { want } => Ok(want),
@@ -158,5 +169,54 @@ pub(crate) fn open_wants(
             kind,
             answers,
         } => opens_file(mode, free, file, kind, answers),
+    }
+}
+
+/// What a mail asks. `name` is the message's.
+pub(crate) fn mail_wants(
+    alloc: Global,
+    mounts: &[Mount],
+    names: &[Bytes],
+    message: Message,
+    answers: &[Answer],
+) -> Result<Want, NoMemory>
+    ensures { IfOk result (λ w. w ≡ mails_to mounts.now names.now message.entry.name.now message.entry.bytes.now answers.now) }
+{
+    match open_whole(alloc, mounts, names, answers)? {
+        Opened::Wants { want } => Ok(want),
+        Opened::Open {
+            group,
+            dir,
+            answers,
+        } => {
+            let new = NewFile {
+                group,
+                name: message.name,
+                kind: Kind::File,
+                sites: None,
+                bytes: message.bytes,
+                is_message: true,
+            };
+            probes(alloc, dir, new, answers)
+        }
+    }
+}
+
+/// What a mails asks.
+pub(crate) fn mails_wants(
+    alloc: Global,
+    mounts: &[Mount],
+    names: &[Bytes],
+    answers: &[Answer],
+) -> Result<Want, NoMemory>
+    ensures { IfOk result (λ w. w ≡ walked mounts.now names.now answers.now (lists shown_messages (last_of names.now))) }
+{
+    match reach(alloc, mounts, names, answers)? {
+        Reached::Wants { want } => Ok(want),
+        Reached::There {
+            file,
+            kind,
+            answers,
+        } => lists_messages(alloc, last_of(names), file, kind, answers),
     }
 }

@@ -2,7 +2,7 @@ ghost use Rattle.std.specs.Prelude.{◌≡◌, ℕ, List, IfOk};
 ghost use Rattle.locus_ids.specs.declared.ids.FileId.{FileId};
 ghost use Rattle.locus_ids.specs.declared.ids.Kind.{Kind};
 ghost use Rattle.locus_ids.specs.declared.ids.Serial.{Serial};
-ghost use Rattle.trace_book.specs.Names.{components};
+ghost use Rattle.trace_book.specs.Names.{components, last_of};
 ghost use Rattle.call_rules.specs.declared.answer.Answer.{Answer};
 ghost use Rattle.call_rules.specs.declared.want.Want.{Want};
 ghost use Rattle.call_rules.specs.Walks.{walked};
@@ -73,6 +73,28 @@ pub(crate) fn reach<'a>(
             answers,
         }),
         Walked::Strays => Ok(Reached::Wants { want: Want::Never }),
+    }
+}
+
+/// A walk of all components, and the open of the directory that it reaches.
+pub(crate) fn open_whole<'a>(
+    alloc: Global,
+    mounts: &[Mount],
+    names: &'a [Bytes],
+    answers: &'a [Answer],
+) -> Result<Opened<'a>, NoMemory>
+    ensures { (next : ℕ → Serial → List Answer → Want) → IfOk result (λ r. after_opening next r ≡ walked mounts.now names.now answers.now (λ dir kind rest. opens_dir (last_of names.now) (next dir.group) dir kind rest)) }
+{
+    match reach(alloc, mounts, names, answers)? {
+        Reached::Wants { want } => Ok(Opened::Wants { want }),
+        Reached::There {
+            file,
+            kind,
+            answers,
+        } => {
+            let opened = open_reached(alloc, last_of(names), file, kind, answers)?;
+            Ok(opened)
+        }
     }
 }
 

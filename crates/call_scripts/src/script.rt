@@ -1,15 +1,21 @@
 ghost use Rattle.std.specs.Prelude.{◌≡◌, ◌∷◌, ◌++◌, [], List, IfOk, OnOk};
+ghost use Rattle.trace_book.specs.Messages.{message_name};
 ghost use Rattle.trace_book.specs.Names.{components};
 ghost use Rattle.call_rules.specs.declared.answer.Answer.{Answer};
 ghost use Rattle.call_rules.specs.Scripts.{begun_wants, named_wants, path_wants};
+ghost use Rattle.call_scripts.specs.Reaches.{mails_to};
 ghost use Rattle.call_scripts.specs.Scripted.{path_of};
 
 use crate::mending::mend_wants;
-use crate::paths::{list_wants, make_wants, open_wants, remove_wants, rename_wants, stat_wants};
+use crate::paths::{
+    Message, list_wants, mail_wants, mails_wants, make_wants, open_wants, remove_wants,
+    rename_wants, stat_wants,
+};
 use crate::using::uses_wants;
 use crate::words::{is_badly_named, path_of};
 use call_rules::{Answer, Want};
-use locus_ids::{Bytes, Kind, Mount, Names, NoMemory, Refusal};
+use locus_ids::{Bytes, CallId, Kind, Mount, Names, NoMemory, Refusal};
+use mailbox_join::message_name;
 use path_walk::components;
 use std::alloc::Global;
 use std::marker::Model;
@@ -100,26 +106,36 @@ impl Script {
                 })
             }
             Beginning::Uses { epoch: _, inst } => uses_wants(&self.words, *inst, answers),
-            Beginning::Walks => {
+            Beginning::Walks { call } => {
                 let alloc = *self.answers.allocator();
-                path_wants(alloc, mounts, names, free, &self.words, answers)
+                let walk = Walk {
+                    mounts,
+                    names,
+                    free,
+                    call: *call,
+                };
+                path_wants(alloc, walk, &self.words, answers)
             }
         }
     }
 }
 
-/// What a call asks that walks a path, or mends. `names` are the components of its path.
-fn path_wants(
-    alloc: Global,
-    mounts: &[Mount],
-    names: &[Bytes],
+/// What a walk needs: the mounts, the components of the path, the lowest free descriptor, and the name of the call.
+#[derive(Clone, Copy)]
+struct Walk<'a> {
+    mounts: &'a [Mount],
+    names: &'a [Bytes],
     free: Option<u16>,
-    words: &Call,
-    answers: &[Answer],
-) -> Result<Want, NoMemory>
-    requires { names.now ≡ components (path_of words.now) }
-    ensures { IfOk result (λ w. w ≡ path_wants mounts.now free words.now answers.now) }
+    call: CallId,
+}
+
+/// What a call asks that walks a path, or mends.
+fn path_wants(alloc: Global, walk: Walk, words: &Call, answers: &[Answer]) -> Result<Want, NoMemory>
+    requires { walk.names.now ≡ components (path_of words.now) }
+    ensures { IfOk result (λ w. w ≡ path_wants walk.entry.mounts.now walk.entry.free walk.entry.call words.now answers.now) }
 {
+    let mounts = walk.mounts;
+    let names = walk.names;
     match words {
         Call::Create { path, sites } => {
             let path = path.as_slice();
@@ -143,8 +159,23 @@ fn path_wants(
         }
         Call::List { path: _ } => list_wants(alloc, mounts, names, answers),
         Call::Stat { path: _ } => stat_wants(alloc, mounts, names, answers),
-        Call::Open { path: _, mode } => open_wants(alloc, mounts, names, *mode, free, answers),
+        Call::Open { path: _, mode } => open_wants(alloc, mounts, names, *mode, walk.free, answers),
+        Call::Mail { path: _, bytes } => mails(alloc, walk, bytes.as_slice(), answers),
+        Call::Mails { path: _ } => mails_wants(alloc, mounts, names, answers),
         Call::Mend { file } => mend_wants(*file, answers),
         _ => Ok(Want::Never),
     }
+}
+
+/// What a mail asks: its message has the call's name.
+fn mails(alloc: Global, walk: Walk, bytes: &[u8], answers: &[Answer]) -> Result<Want, NoMemory>
+    ensures { IfOk result (λ w. w ≡ mails_to walk.entry.mounts.now walk.entry.names.now (message_name walk.entry.call) bytes.now answers.now) }
+{
+    let mut name = Bytes::new(alloc);
+    message_name(&walk.call, &mut name)?;
+    let message = Message {
+        name: name.as_slice(),
+        bytes,
+    };
+    mail_wants(alloc, walk.mounts, walk.names, message, answers)
 }

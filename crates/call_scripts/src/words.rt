@@ -19,6 +19,8 @@ pub(crate) fn path_of(words: &Call) -> &[u8]
         Call::Rename { path, name: _ } => path.as_slice(),
         Call::List { path } => path.as_slice(),
         Call::Stat { path } => path.as_slice(),
+        Call::Mail { path, bytes: _ } => path.as_slice(),
+        Call::Mails { path } => path.as_slice(),
         Call::Open { path, mode: _ } => path.as_slice(),
         _ => &[],
     }
@@ -42,6 +44,8 @@ pub(crate) fn is_badly_named(mounts: &[Mount], words: &Call, names: &[Bytes]) ->
         }
         Call::List { path } => !is_path(path.as_slice(), names),
         Call::Stat { path } => !is_path(path.as_slice(), names),
+        Call::Mail { path, bytes: _ } => !is_path(path.as_slice(), names),
+        Call::Mails { path } => !is_path(path.as_slice(), names),
         Call::Open { path, mode: _ } => !is_path(path.as_slice(), names),
         _ => false,
     }

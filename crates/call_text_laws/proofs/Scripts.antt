@@ -1,5 +1,5 @@
 -- Whatever the script of a call wants is in the ranges of records.
-use Rattle.std.proofs.Common.{◌≡◌, ℕ, ◌==◌, Bool, true, false, cond, not, ◌&&◌, List, [], ◌∷◌, length, Option, None, Some, refl, subst, arith}
+use Rattle.std.proofs.Common.{◌≡◌, ◌≤◌, ◌<◌, ◌^◌, ℕ, ◌==◌, Bool, true, false, cond, not, ◌&&◌, List, [], ◌∷◌, length, Option, None, Some, refl, subst, arith}
 use Rattle.std.proofs.lemmas.Bool.Decides.{nat_tests}
 use Rattle.std.specs.List.{AllByRecursion, list_all}
 use Rattle.std.specs.Ordering.{nat_cmp}
@@ -7,8 +7,10 @@ use Rattle.std.specs.Cmp.Lexicographic.{slice_cmp}
 use Rattle.std.specs.Prelude.{nat_le, nat_lt}
 use Rattle.std.specs.Str.{bytes_eq}
 use Rattle.plain_facts.proofs.Tests.{and_first, and_second, and_true, both_true, false_true, not_false}
+use Rattle.plain_facts.proofs.Numbers.{at_most}
 use Rattle.locus_ids.specs.Sizes.{file_bytes_max, sites_max}
 use Rattle.locus_ids.specs.declared.config.Mount.{Mount}
+use Rattle.locus_ids.specs.declared.ids.CallId.{CallId}
 use Rattle.locus_ids.specs.declared.ids.FileId.{FileId}
 use Rattle.locus_ids.specs.declared.ids.Kind.{Kind}
 use Rattle.locus_ids.specs.declared.ids.Kind.TheVariants.{File, Dir}
@@ -17,7 +19,8 @@ use Rattle.locus_ids.specs.declared.ids.Stamp.{Stamp}
 use Rattle.locus_ids.specs.declared.refusal.Refusal.{Refusal}
 use Rattle.locus_ids.specs.declared.refusal.Refusal.TheVariants as refusal
 use Rattle.locus_ids.specs.declared.sites.Sites.{Sites}
-use Rattle.schedule_lines.specs.Ranges.{fits_call, is_between, is_byte, is_descriptor}
+use Rattle.schedule_lines.specs.Ranges.{fits_call, is_between, is_byte, is_descriptor, is_word}
+use Rattle.trace_book.specs.Messages.{is_message, message_name, messages}
 use Rattle.trace_book.specs.Names.{but_last, components, is_name, last_of, plain_name}
 use Rattle.trace_book.specs.declared.call.Call.{Call}
 use Rattle.trace_book.specs.declared.call.Call.TheVariants as call
@@ -34,10 +37,11 @@ use Rattle.trace_book.specs.declared.operation.What.{What}
 use Rattle.trace_book.specs.declared.operation.What.TheVariants as what
 use Rattle.wire_fields.specs.Components.{is_component}
 use Rattle.call_rules.specs.Closing.{Unchanged, close_all, closes, give_up, gives}
-use Rattle.call_rules.specs.Making.{after_insert, after_make, after_probe, changes_dir, opens_dir, probes}
+use Rattle.call_rules.specs.Mailing.{shown_messages, tells_name}
+use Rattle.call_rules.specs.Making.{after_insert, after_make, after_probe, changes_dir, fills, opens_dir, probes}
 use Rattle.call_rules.specs.Mending.{after_mend, brings, mend_wants}
 use Rattle.call_rules.specs.Naming.{renames}
-use Rattle.call_rules.specs.Opening.{before_name, close_wants, describes, lists, op_wants, opens_file, reply_to, shown_in, uses_wants, with_mounts, with_name}
+use Rattle.call_rules.specs.Opening.{Shows, before_name, close_wants, describes, lists, op_wants, opens_file, reply_to, shown_in, uses_wants, with_mounts, with_name}
 use Rattle.call_rules.specs.Paths.{is_path, path_bytes_max}
 use Rattle.call_rules.specs.Paths as rules
 use Rattle.call_rules.specs.Removing.{by_kind, empties, finds, opens_target, removes}
@@ -48,7 +52,8 @@ use Rattle.call_rules.specs.declared.answer.Answer.{Answer}
 use Rattle.call_rules.specs.declared.answer.Answer.TheVariants as answer
 use Rattle.call_rules.specs.declared.want.Want.{Want}
 use Rattle.call_rules.specs.declared.want.Want.TheVariants as want
-use Rattle.record_reading.specs.Ranges.{is_file, is_group, is_inode, is_mend, is_refusal, is_reply, is_some_data, is_stamp, is_words}
+use Rattle.record_reading.specs.Ranges.{is_any_site, is_call_id, is_counted, is_file, is_group, is_inode, is_mend, is_refusal, is_reply, is_some_data, is_stamp, is_words, number_max}
+use Rattle.mailbox_join.proofs.Naming.{named}
 use Rattle.call_text_laws.specs.Wants.{is_answer, is_asked_op, is_asked_what, is_begun, is_free, is_gift, is_mount, is_want}
 use Rattle.call_text_laws.proofs.Names.{component_text, name_text, plain_text}
 
@@ -98,31 +103,47 @@ two_closed i j r k (answer.Ended stamp ∷ rest) h = one_closed j r k rest h.1
 two_closed i j r k (answer.Refused why ∷ rest) h = closes_text j (gives (reply.No why)) (gives_text (reply.No why) h.0) rest h.1
 two_closed i j r k (_ ∷ rest) h = refl
 
--- ---- create and mkdir ----
+-- ---- create, mkdir and mail ----
 
-insert_text : (p : Serial) (name : List ℕ) (kind : Kind) (ino : ℕ) → is_name name ≡ true → is_inode ino ≡ true → Always (after_insert p name kind ino)
-insert_text p name kind ino n k [] h = and_true (is_name name) (is_inode ino) n k
-insert_text p name kind ino n k (answer.Did o ∷ rest) h = one_closed p (reply.Made ino) k rest h.1
-insert_text p name kind ino n k (answer.Refused why ∷ rest) h = one_up p why h.0 rest h.1
-insert_text p name kind ino n k (_ ∷ rest) h = refl
+-- what a new file begins with, where it is written at once
+abbrev Filled : List ℕ → Type 0
+Filled [] = Unit {0}
+Filled (b ∷ bs) = is_some_data 4096 (b ∷ bs) ≡ true
 
-make_text : (p : Serial) (name : List ℕ) (kind : Kind) (made : Serial) (ino : ℕ) → is_name name ≡ true → is_inode ino ≡ true → Always (after_make p name kind made ino)
-make_text p name kind made ino n k [] h = refl
-make_text p name kind made ino n k (answer.Ended stamp ∷ rest) h = insert_text p name kind ino n k rest h.1
-make_text p name kind made ino n k (answer.Refused why ∷ rest) h = one_up p why h.0 rest h.1
-make_text p name kind made ino n k (_ ∷ rest) h = refl
+-- what is told of a new file
+abbrev Tells : (ℕ → Reply) → Type 0
+Tells tells = (ino : ℕ) → is_inode ino ≡ true → is_reply (tells ino) ≡ true
 
-probe_text : (p : Serial) (group : ℕ) (name : List ℕ) (kind : Kind) (set : Option Sites) → is_group group ≡ true → is_name name ≡ true → Always (after_probe p group name kind set)
-probe_text p group name kind set g n [] h = g
-probe_text p group name kind set g n (answer.Opened made ino ∷ rest) h = make_text p name kind made ino n h.0 rest h.1
-probe_text p group name kind set g n (answer.Refused why ∷ rest) h = one_up p why h.0 rest h.1
-probe_text p group name kind set g n (_ ∷ rest) h = refl
+insert_text : (p : Serial) (name : List ℕ) (kind : Kind) (ino : ℕ) (told : Reply) → is_name name ≡ true → is_reply told ≡ true → is_inode ino ≡ true → Always (after_insert p name kind ino told)
+insert_text p name kind ino told n t k [] h = and_true (is_name name) (is_inode ino) n k
+insert_text p name kind ino told n t k (answer.Did o ∷ rest) h = one_closed p told t rest h.1
+insert_text p name kind ino told n t k (answer.Refused why ∷ rest) h = one_up p why h.0 rest h.1
+insert_text p name kind ino told n t k (_ ∷ rest) h = refl
 
-probes_text : (p : Serial) (group : ℕ) (name : List ℕ) (kind : Kind) (set : Option Sites) → is_name name ≡ true → is_group group ≡ true → Always (probes p group name kind set)
-probes_text p group name kind set n g [] h = n
-probes_text p group name kind set n g (answer.Did o ∷ rest) h = probe_text p group name kind set g n rest h.1
-probes_text p group name kind set n g (answer.Refused why ∷ rest) h = one_up p why h.0 rest h.1
-probes_text p group name kind set n g (_ ∷ rest) h = refl
+make_text : (p : Serial) (name : List ℕ) (kind : Kind) (made : Serial) (ino : ℕ) (told : Reply) → is_name name ≡ true → is_reply told ≡ true → is_inode ino ≡ true → Always (after_make p name kind made ino told)
+make_text p name kind made ino told n t k [] h = refl
+make_text p name kind made ino told n t k (answer.Ended stamp ∷ rest) h = insert_text p name kind ino told n t k rest h.1
+make_text p name kind made ino told n t k (answer.Refused why ∷ rest) h = one_up p why h.0 rest h.1
+make_text p name kind made ino told n t k (_ ∷ rest) h = refl
+
+fills_text : (p : Serial) (name : List ℕ) (kind : Kind) (bytes : List ℕ) (made : Serial) (ino : ℕ) (told : Reply) → is_name name ≡ true → Filled bytes → is_reply told ≡ true → is_inode ino ≡ true → Always (fills p name kind bytes made ino told)
+fills_text p name kind [] made ino told n f t k answers h = make_text p name kind made ino told n t k answers h
+fills_text p name kind (b ∷ bs) made ino told n f t k [] h = f
+fills_text p name kind (b ∷ bs) made ino told n f t k (answer.Did o ∷ rest) h = make_text p name kind made ino told n t k rest h.1
+fills_text p name kind (b ∷ bs) made ino told n f t k (answer.Refused why ∷ rest) h = two_up made p why h.0 rest h.1
+fills_text p name kind (b ∷ bs) made ino told n f t k (_ ∷ rest) h = refl
+
+probe_text : (p : Serial) (group : ℕ) (name : List ℕ) (kind : Kind) (set : Option Sites) (bytes : List ℕ) (tells : ℕ → Reply) → is_group group ≡ true → is_name name ≡ true → Filled bytes → Tells tells → Always (after_probe p group name kind set bytes tells)
+probe_text p group name kind set bytes tells g n f t [] h = g
+probe_text p group name kind set bytes tells g n f t (answer.Opened made ino ∷ rest) h = fills_text p name kind bytes made ino (tells ino) n f (t ino h.0) h.0 rest h.1
+probe_text p group name kind set bytes tells g n f t (answer.Refused why ∷ rest) h = one_up p why h.0 rest h.1
+probe_text p group name kind set bytes tells g n f t (_ ∷ rest) h = refl
+
+probes_text : (p : Serial) (group : ℕ) (name : List ℕ) (kind : Kind) (set : Option Sites) (bytes : List ℕ) (tells : ℕ → Reply) → is_name name ≡ true → Filled bytes → Tells tells → is_group group ≡ true → Always (probes p group name kind set bytes tells)
+probes_text p group name kind set bytes tells n f t g [] h = n
+probes_text p group name kind set bytes tells n f t g (answer.Did o ∷ rest) h = probe_text p group name kind set bytes tells g n f t rest h.1
+probes_text p group name kind set bytes tells n f t g (answer.Refused why ∷ rest) h = one_up p why h.0 rest h.1
+probes_text p group name kind set bytes tells n f t g (_ ∷ rest) h = refl
 
 -- ---- unlink and rmdir ----
 
@@ -191,6 +212,17 @@ shown_text mounts dir names m h = over (is_first_root dir)
     over true = with_mounts_text mounts names m h
     over false = h
 
+messages_text : (names : List (List ℕ)) → list_all is_component names ≡ true → list_all is_component (messages names) ≡ true
+messages_text [] h = refl
+messages_text (n ∷ ns) h = over (is_message (plain_name n)) (messages_text ns parts.1)
+  where
+    parts : (is_component n ≡ true) × (list_all is_component ns ≡ true)
+    parts = both_true (is_component n) (list_all is_component ns) h
+
+    over : (b : Bool) → list_all is_component (messages ns) ≡ true → list_all is_component (cond b (n ∷ messages ns) (messages ns)) ≡ true
+    over true later = and_true (is_component n) (list_all is_component (messages ns)) parts.0 later
+    over false later = later
+
 -- ---- calls of one request ----
 
 -- what is reached is no file, or a component led to it
@@ -198,12 +230,12 @@ abbrev Led : List ℕ → Kind → Type 0
 Led reached File = is_component reached ≡ true
 Led reached Dir = Unit {0}
 
-lists_text : (mounts : List Mount) (reached : List ℕ) (at : FileId) (kind : Kind) → list_all is_mount mounts ≡ true → is_file at ≡ true → Led reached kind → Always (lists mounts reached at kind)
-lists_text mounts reached at File m k led answers h = led
-lists_text mounts reached at Dir m k led [] h = look_text at what.List k refl
-lists_text mounts reached at Dir m k led (answer.Showed names ∷ []) h = shown_text mounts at names m h.0
-lists_text mounts reached at Dir m k led (answer.Refused why ∷ []) h = h.0
-lists_text mounts reached at Dir m k led (_ ∷ rest) h = refl
+lists_text : (shows : Shows) (reached : List ℕ) (at : FileId) (kind : Kind) → ((names : List (List ℕ)) → list_all is_component names ≡ true → list_all is_component (shows at names) ≡ true) → is_file at ≡ true → Led reached kind → Always (lists shows reached at kind)
+lists_text shows reached at File s k led answers h = led
+lists_text shows reached at Dir s k led [] h = look_text at what.List k refl
+lists_text shows reached at Dir s k led (answer.Showed names ∷ []) h = s names h.0
+lists_text shows reached at Dir s k led (answer.Refused why ∷ []) h = h.0
+lists_text shows reached at Dir s k led (_ ∷ rest) h = refl
 
 describes_text : (at : FileId) (kind : Kind) → is_file at ≡ true → Always (describes at kind)
 describes_text at kind k [] h = look_text at what.Stat k refl
@@ -411,6 +443,15 @@ write_text n fd at bytes e = of (is_descriptor fd) (nat_le at file_bytes_max) re
     of true false f q = absurd (false_true q)
     of false b f q = absurd (false_true q)
 
+-- a message begins with some bytes
+mail_text : (n : ℕ) (path bytes : List ℕ) → fits_call n (call.Mail path bytes) ≡ true → Filled bytes
+mail_text n path [] e = tt
+mail_text n path (b ∷ bs) e = of (is_word path) e
+  where
+    of : (a : Bool) → (a && is_between 1 4096 (length (b ∷ bs)) && list_all is_byte (b ∷ bs)) ≡ true → is_some_data 4096 (b ∷ bs) ≡ true
+    of true q = q
+    of false q = absurd (false_true q)
+
 cut_text : (n fd len : ℕ) → fits_call n (call.Cut fd len) ≡ true → is_asked_op (op.Cut len) ≡ true
 cut_text n fd len e = from_zero file_bytes_max len (both_true (is_descriptor fd) (nat_le len file_bytes_max) e).1
 
@@ -436,20 +477,45 @@ words_text process words e = over (process == 0) e
     over true q = of_mend words q
     over false q = of_line words q
 
-path_says : (mounts : List Mount) (free : Option ℕ) (words : Call) → list_all is_mount mounts ≡ true → is_free free ≡ true → is_badly_named mounts words ≡ false → Words words → Always (path_wants mounts free words)
-path_says mounts free (call.Create path set) m f named fits = let k = new_text mounts path named in change_text mounts path _ m k.0.dirs (λ group p g. probes_text p group (last_of (components path)) File set k.1 g)
-path_says mounts free (call.MakeDir path) m f named fits = let k = new_text mounts path named in change_text mounts path _ m k.0.dirs (λ group p g. probes_text p group (last_of (components path)) Dir None k.1 g)
-path_says mounts free (call.Unlink path) m f named fits = let k = entry_text mounts path (not_false (names_entry mounts path) named) in change_text mounts path _ m k.dirs (λ group p g. finds_text File p group (last_of (components path)) k.last g)
-path_says mounts free (call.RemoveDir path) m f named fits = let k = entry_text mounts path (not_false (names_entry mounts path) named) in change_text mounts path _ m k.dirs (λ group p g. finds_text Dir p group (last_of (components path)) k.last g)
-path_says mounts free (call.Rename path name) m f named fits =
+-- a name of a call that a record may say makes a name of a message
+message_text : (id : CallId) → is_call_id id ≡ true → is_name (message_name id) ≡ true
+message_text id e = named id (site_low (both_true (nat_le 1 id.site) (nat_le id.site sites_max) k.0).1) (number_low id.boot (both_true (nat_le 1 id.boot) (nat_le id.boot number_max) l.0).1) (number_low id.n (both_true (nat_le 1 id.n) (nat_le id.n number_max) l.1).1)
+  where
+    k : (is_any_site id.site ≡ true) × ((is_counted id.boot && is_counted id.n) ≡ true)
+    k = both_true (is_any_site id.site) (is_counted id.boot && is_counted id.n) e
+
+    l : (is_counted id.boot ≡ true) × (is_counted id.n ≡ true)
+    l = both_true (is_counted id.boot) (is_counted id.n) k.1
+
+    site_low : nat_le id.site sites_max ≡ true → id.site < 2 ^ 8
+    site_low q = let most : id.site ≤ sites_max = at_most id.site sites_max q in omega (arith, most)
+
+    number_low : (n : ℕ) → nat_le n number_max ≡ true → n < 2 ^ 32
+    number_low n q = let most : n ≤ number_max = at_most n number_max q in omega (arith, most)
+
+mail_says : (id : CallId) (reached bytes : List ℕ) → is_name (message_name id) ≡ true → Filled bytes → (dir : FileId) (kind : Kind) → is_file dir ≡ true → Led reached kind
+    → Always (opens_dir reached (λ p more. probes p dir.group (message_name id) File None bytes (tells_name (message_name id)) more) dir kind)
+mail_says id reached bytes n f dir kind k led =
+    let told : is_reply (reply.Names (message_name id ∷ [])) ≡ true = and_true (is_component (message_name id)) true (name_text (message_name id) n) refl in
+    dir_text reached (λ p more. probes p dir.group (message_name id) File None bytes (tells_name (message_name id)) more) (λ p. probes_text p dir.group (message_name id) File None bytes (tells_name (message_name id)) n f (λ ino i. told) (group_of dir k)) dir kind k led
+
+path_says : (mounts : List Mount) (free : Option ℕ) (id : CallId) (words : Call) → list_all is_mount mounts ≡ true → is_free free ≡ true → is_name (message_name id) ≡ true → is_badly_named mounts words ≡ false → Words words → Always (path_wants mounts free id words)
+path_says mounts free id (call.Create path set) m f n named fits = let k = new_text mounts path named in change_text mounts path _ m k.0.dirs (λ group p g. probes_text p group (last_of (components path)) File set [] reply.Made k.1 tt (λ ino i. i) g)
+path_says mounts free id (call.MakeDir path) m f n named fits = let k = new_text mounts path named in change_text mounts path _ m k.0.dirs (λ group p g. probes_text p group (last_of (components path)) Dir None [] reply.Made k.1 tt (λ ino i. i) g)
+path_says mounts free id (call.Unlink path) m f n named fits = let k = entry_text mounts path (not_false (names_entry mounts path) named) in change_text mounts path _ m k.dirs (λ group p g. finds_text File p group (last_of (components path)) k.last g)
+path_says mounts free id (call.RemoveDir path) m f n named fits = let k = entry_text mounts path (not_false (names_entry mounts path) named) in change_text mounts path _ m k.dirs (λ group p g. finds_text Dir p group (last_of (components path)) k.last g)
+path_says mounts free id (call.Rename path name) m f n named fits =
     let e : (names_entry mounts path ≡ true) × _ = both_true (names_entry mounts path) _ (not_false (names_entry mounts path && (is_name name && not (is_mount_name mounts path name))) named) in
     let k : Entry path = entry_text mounts path e.0 in
     change_text mounts path _ m k.dirs (λ group p g. renames_text p (last_of (components path)) name k.last (both_true (is_name name) _ e.1).0)
-path_says mounts free (call.List path) m f named fits = walked_text mounts (components path) _ m (path_text path (not_false (is_path path) named)) (λ at kind k led. lists_text mounts (last_of (components path)) at kind m k (led_last (components path) kind led))
-path_says mounts free (call.Stat path) m f named fits = walked_text mounts (components path) describes m (path_text path (not_false (is_path path) named)) (λ at kind k led. describes_text at kind k)
-path_says mounts free (call.Open path how) m f named fits = walked_text mounts (components path) _ m (path_text path (not_false (is_path path) named)) (λ at kind k led. opens_text how free at kind f k)
-path_says mounts free (call.Mend file) m f named fits = mend_text file fits
-path_says mounts free _ m f named fits = λ answers h. refl
+path_says mounts free id (call.List path) m f n named fits = walked_text mounts (components path) _ m (path_text path (not_false (is_path path) named)) (λ at kind k led. lists_text (shown_in mounts) (last_of (components path)) at kind (λ names h. shown_text mounts at names m h) k (led_last (components path) kind led))
+path_says mounts free id (call.Mail path bytes) m f n named fits = walked_text mounts (components path) _ m (path_text path (not_false (is_path path) named))
+    (λ dir kind k led. mail_says id (last_of (components path)) bytes n (mail_text sites_max path bytes fits) dir kind k (led_last (components path) kind led))
+path_says mounts free id (call.Mails path) m f n named fits = walked_text mounts (components path) _ m (path_text path (not_false (is_path path) named)) (λ at kind k led. lists_text shown_messages (last_of (components path)) at kind messages_text k (led_last (components path) kind led))
+path_says mounts free id (call.Stat path) m f n named fits = walked_text mounts (components path) describes m (path_text path (not_false (is_path path) named)) (λ at kind k led. describes_text at kind k)
+path_says mounts free id (call.Open path how) m f n named fits = walked_text mounts (components path) _ m (path_text path (not_false (is_path path) named)) (λ at kind k led. opens_text how free at kind f k)
+path_says mounts free id (call.Mend file) m f n named fits = mend_text file fits
+path_says mounts free id _ m f n named fits = λ answers h. refl
 
 uses_says : (words : Call) (i : Serial) → Words words → Always (uses_wants words i)
 uses_says (call.Read fd at len) i k = op_text i (op.Read at len) (read_text sites_max fd at len k)
@@ -463,7 +529,7 @@ uses_says _ i k = λ answers h. refl
 begun_says : (mounts : List Mount) (free : Option ℕ) (words : Call) (b : Beginning) → list_all is_mount mounts ≡ true → is_free free ≡ true → is_badly_named mounts words ≡ false → Words words → is_begun b ≡ true → Always (begun_wants mounts free words b)
 begun_says mounts free words (begins.Denied why) m f named k b answers h = b
 begun_says mounts free words (begins.Uses e i) m f named k b answers h = uses_says words i k answers h
-begun_says mounts free words begins.Walks m f named k b answers h = path_says mounts free words m f named k answers h
+begun_says mounts free words (begins.Walks id) m f named k b answers h = path_says mounts free id words m f (message_text id b) named k answers h
 
 named_says : (mounts : List Mount) (free : Option ℕ) (words : Call) (b : Beginning) (answers : List Answer) → list_all is_mount mounts ≡ true → is_free free ≡ true → Words words → is_begun b ≡ true → Answered answers → is_want (named_wants mounts free words b answers) ≡ true
 named_says mounts free words b answers m f k begun h = over (is_badly_named mounts words) refl

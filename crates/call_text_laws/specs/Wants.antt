@@ -18,7 +18,7 @@ use Rattle.call_rules.specs.declared.answer.Answer.{Answer}
 use Rattle.call_rules.specs.declared.answer.Answer.TheVariants as answer
 use Rattle.call_rules.specs.declared.want.Want.{Want}
 use Rattle.call_rules.specs.declared.want.Want.TheVariants as want
-use Rattle.record_reading.specs.Ranges.{is_data, is_file, is_group, is_inode, is_optional_stamp, is_refusal, is_reply, is_short, is_some_data, is_stamp, number_max}
+use Rattle.record_reading.specs.Ranges.{is_call_id, is_data, is_file, is_group, is_inode, is_optional_stamp, is_refusal, is_reply, is_short, is_some_data, is_stamp, number_max}
 
 -- ---- what calls are answered
 
@@ -43,11 +43,11 @@ is_answer (answer.Refused why) = is_refusal why
 
 -- ---- how calls begin
 
--- where a call begins by the descriptors of its process
+-- where a call begins by the descriptors of its process; one that walks has a name that a record may say
 abbrev pub is_begun : Beginning → Bool
 is_begun (begins.Denied why) = is_refusal why
 is_begun (begins.Uses epoch inst) = true
-is_begun begins.Walks = true
+is_begun (begins.Walks id) = is_call_id id
 
 -- a number of a descriptor, where one is free
 abbrev pub is_free : Option ℕ → Bool

@@ -14,7 +14,7 @@ use Rattle.wire_messages.specs.declared.packet.Packet.{Packet}
 use Rattle.role_steps.specs.Tables.{with_row, first_that}
 use Rattle.role_steps.specs.Views.{Frame, Users, SiteView, Outcome, quiet}
 use Rattle.role_steps.specs.Requests.{descriptors_of, waiting_key, user_instance, with_user_instance, without_waiting, request_packets, asks, asks_op_of, asks_close_of}
-use Rattle.role_steps.specs.Using.{is_hopeless, without_hope, after_reply, replies, asks_want, next_want, goes_on, frees, accepted, on_call}
+use Rattle.role_steps.specs.Using.{is_hopeless, without_hope, after_reply, replies, asks_want, next_want, goes_on, frees, accepted, on_call, own_call}
 use Rattle.role_steps.specs.Mends.{starts_mend_of, starts_mend, starts_mends_in, starts_mends, has_mend_in, wants_mend, row_file}
 use Rattle.role_steps.specs.declared.synchronizing.FileRow.{FileRow}
 use Rattle.role_steps.specs.declared.synchronizing.SyncTable.{SyncTable}
@@ -119,7 +119,7 @@ frees_waiting process (call.Close fd) u = refl
 frees_waiting process _ u = refl
 
 call_calls : (f : Frame) (now : Option EpochId) (process : ℕ) (words : Call) (u : Users) → CallsAsk f u.waiting (on_call f now process words u).view.waiting (on_call f now process words u).sent
-call_calls f now process words u y m = over (goes_calls f (accepted process (u.calls + 1) words (beginning (descriptors_of u process) now words)) (frees process words (record u { calls = u.calls + 1 })) y m)
+call_calls f now process words u y m = over (goes_calls f (accepted process (u.calls + 1) words (beginning (descriptors_of u process) now (own_call f.me f.boot (u.calls + 1)) words)) (frees process words (record u { calls = u.calls + 1 })) y m)
   where
     over : Among y (frees process words (record u { calls = u.calls + 1 })).waiting ⊎ IsSent f y (on_call f now process words u).sent → Among y u.waiting ⊎ IsSent f y (on_call f now process words u).sent
     over (inl k) = inl (subst (λ (xs : List WaitingCall). Among y xs) (frees_waiting process words (record u { calls = u.calls + 1 })) k)

@@ -23,7 +23,7 @@ use Rattle.wire_messages.specs.declared.body.LookAnswer.TheVariants as looked
 use Rattle.role_steps.specs.Own.{Every}
 use Rattle.role_steps.specs.Requests.{instance_serial, waiting_key, without_waiting, user_instance, with_user_instance, without_user_instance, descriptors_of, asks, asks_open, next_request, seen_by, asks_op_of, asks_close_of}
 use Rattle.role_steps.specs.Tables.{first_that}
-use Rattle.role_steps.specs.Using.{is_hopeless, without_hope, after_reply, replies, asks_want, next_want, goes_on, frees, accepted, on_call, with_answer, takes_answer, takes_open, on_open_done_of, on_open_done, on_op_done_of, on_op_done, on_close_done_of, on_close_done, looks_again, with_brought, content_answer, takes_look, on_look_done_of, on_look_done, asks_open_of, asks_op_number, asks_take, op_answer, close_answer, opened_answer, kept_for, mended_file}
+use Rattle.role_steps.specs.Using.{is_hopeless, without_hope, after_reply, replies, asks_want, next_want, goes_on, frees, accepted, on_call, with_answer, takes_answer, takes_open, on_open_done_of, on_open_done, on_op_done_of, on_op_done, on_close_done_of, on_close_done, looks_again, with_brought, content_answer, takes_look, on_look_done_of, on_look_done, asks_open_of, asks_op_number, asks_take, op_answer, close_answer, opened_answer, kept_for, mended_file, own_call}
 use Rattle.role_steps.specs.Using as using
 use Rattle.role_steps.specs.Views.{Frame, Users, Outcome}
 use Rattle.role_steps.specs.declared.users.Asking.{Asking}
@@ -113,7 +113,7 @@ frees_held S process _ u h = h
 
 pub on_call_holds : (S : ℕ → Type 0) (f : Frame) (now : Option EpochId) (process : ℕ) (words : Call) (u : Users) → AllHeld S u → Holds S (on_call f now process words u)
 on_call_holds S f now process words u h =
-    goes_on_holds S f (accepted process (u.calls + 1) words (beginning (descriptors_of u process) now words)) (frees process words (record u { calls = u.calls + 1 })) (frees_held S process words (record u { calls = u.calls + 1 }) (record { instances = h.instances; waiting = h.waiting }))
+    goes_on_holds S f (accepted process (u.calls + 1) words (beginning (descriptors_of u process) now (own_call f.me f.boot (u.calls + 1)) words)) (frees process words (record u { calls = u.calls + 1 })) (frees_held S process words (record u { calls = u.calls + 1 }) (record { instances = h.instances; waiting = h.waiting }))
 
 -- ---- answers ----
 

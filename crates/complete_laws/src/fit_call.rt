@@ -1,5 +1,5 @@
 //! What comes to a storage site in a run is fit, as its code asks it: the laws of every run give each condition.
-ghost use Rattle.std.specs.Prelude.{ℕ, ◌≡◌, ◌-◌, ◌≤◌, true, List, length, Some};
+ghost use Rattle.std.specs.Prelude.{ℕ, ◌≡◌, ◌-◌, ◌≤◌, ◌⊎◌, true, List, length, Some};
 ghost use Rattle.locus_ids.specs.declared.config.Config.{Config};
 ghost use Rattle.locus_ids.specs.declared.ids.EpochId.{EpochId};
 ghost use Rattle.locus_ids.specs.declared.ids.FileId.{FileId};
@@ -11,7 +11,7 @@ ghost use Rattle.tree_model.specs.Files.{kind_of_file};
 ghost use Rattle.tree_model.specs.Histories.{history};
 ghost use Rattle.tree_laws.specs.Instances.{instance_now};
 ghost use Rattle.tree_laws.specs.Printed.{entries};
-ghost use Rattle.calm_laws.specs.of_fit_laws.EntryEntries.{EntriesName};
+ghost use Rattle.calm_laws.specs.of_fit_laws.EntryEntries.{EntriesName, IsLeftMessage};
 ghost use Rattle.locus_ids.specs.declared.ids.Serial.{Serial};
 ghost use Rattle.locus_ids.specs.Sizes.{pack_pages};
 ghost use Rattle.schedule_lines.specs.declared.line.ScheduleLine.{ScheduleLine};
@@ -73,8 +73,9 @@ pub fn nothing_asked_is_unfit()
 {}
 
 /// After every schedule each entry of each version of a directory, and of what an open instance of a directory works on, was inserted in its
-/// group and names a file there that stands, of the entry's kind.
+/// group and names a file there that stands, of the entry's kind. (A message that was being made when its storage site left the epoch is no
+/// directory, whatever has its number since.)
 pub fn every_run_names_files()
     ensures versions { (c : Config) (lines : List ScheduleLine) → LinesFit c lines → PacksAreOfSites c → length c.packs ≤ 4 → (f : FileId) (stamp : Stamp) → kind_of_file c (entries (run_in c lines).trace) f ≡ Dir → EntriesName c (run_in c lines).trace f.group (content_of (history c (entries (run_in c lines).trace)) f stamp) }
-    ensures instances { (c : Config) (lines : List ScheduleLine) → LinesFit c lines → PacksAreOfSites c → length c.packs ≤ 4 → (e : EpochId) (i : Serial) (x : Instance) → instance_now c (run_in c lines).trace e i ≡ Some x → kind_of_file c (entries (run_in c lines).trace) x.grant.file ≡ Dir → EntriesName c (run_in c lines).trace x.grant.file.group x.work.content }
+    ensures instances { (c : Config) (lines : List ScheduleLine) → LinesFit c lines → PacksAreOfSites c → length c.packs ≤ 4 → (e : EpochId) (i : Serial) (x : Instance) → instance_now c (run_in c lines).trace e i ≡ Some x → kind_of_file c (entries (run_in c lines).trace) x.grant.file ≡ Dir → EntriesName c (run_in c lines).trace x.grant.file.group x.work.content ⊎ IsLeftMessage (run_in c lines).trace e x.grant }
 {}

@@ -18,7 +18,7 @@ use Rattle.role_steps.specs.Epochs.{frame_in, passes_over, starts_part, starts_m
 use Rattle.role_steps.specs.Mends.{mends_in, is_mend_in, has_mend_in, row_file, wants_mend, starts_mend_of, starts_mend, starts_mends_in, starts_mends}
 use Rattle.role_steps.specs.Requests.{waiting_of, waiting_key, next_request}
 use Rattle.role_steps.specs.Tables.{with_row, first_that}
-use Rattle.role_steps.specs.Using.{is_packed, asks_want, accepted, on_call}
+use Rattle.role_steps.specs.Using.{is_packed, asks_want, accepted, on_call, own_call}
 use Rattle.role_steps.specs.Views.{Frame, Users, SiteView, Outcome, Event, Calls, Receives, Ticks, Parts, Merges, GivesUp, quiet}
 use Rattle.role_steps.specs.declared.rounds.InEpoch.{InEpoch}
 use Rattle.role_steps.specs.declared.synchronizing.FileRow.{FileRow}
@@ -122,7 +122,7 @@ mend_waits f t r u packed = by_packed (is_packed f t.group) packed
     counted = record u { calls = u.calls + 1 }
 
     w : WaitingCall
-    w = accepted 0 (u.calls + 1) (call.Mend (row_file t r)) begins.Walks
+    w = accepted 0 (u.calls + 1) (call.Mend (row_file t r)) (begins.Walks (own_call f.me f.boot (u.calls + 1)))
 
     by_packed : (b : Bool) → b ≡ true → Waits t.group u (asks_want f w (cond b (want.OpenToMend (row_file t r)) (want.Give (reply.No refusal.NoStorage))) counted).view
     by_packed false e = absurd (true_false (sym e))

@@ -122,14 +122,14 @@ mend_mode c packs t h e d request i m f stamp ss was q mends = over q.accepted.w
     walks : WalksSo t d
     walks = openers_walk c t h d opens.0 opens.1
 
-    asked : is_open_of m f (wants c.mounts (is_packed_in c (entries t) q.accepted.epoch) None q.accepted.words begins.Walks placed.before) ≡ true
-    asked = ap (is_open_of m f) (sym (script_by c t d q.accepted begins.Walks None placed.before q.named walks.walks) ∙ placed.script_is) ∙ placed.fits.0
+    asked : is_open_of m f (wants c.mounts (is_packed_in c (entries t) q.accepted.epoch) None q.accepted.words (begins.Walks d) placed.before) ≡ true
+    asked = ap (is_open_of m f) (sym (script_by c t d q.accepted (begins.Walks d) None placed.before q.named walks.walks) ∙ placed.script_is) ∙ placed.fits.0
 
     over : (words : Call) → q.accepted.words ≡ words → IsMendCall words → IsToMend m f q.accepted.words
     over (call.Mend g) is k = record { mode_is = z.mode_is; words_are = is ∙ ap call.Mend z.file_is }
       where
         z : Mends m f g
-        z = only_mends m f g (wants c.mounts (is_packed_in c (entries t) q.accepted.epoch) None (call.Mend g) begins.Walks placed.before)
+        z = only_mends m f g (wants c.mounts (is_packed_in c (entries t) q.accepted.epoch) None (call.Mend g) (begins.Walks d) placed.before)
             (packed_none g (is_packed_in c (entries t) q.accepted.epoch) _ (mend_none g placed.before))
-            (subst (λ (y : Call). is_open_of m f (wants c.mounts (is_packed_in c (entries t) q.accepted.epoch) None y begins.Walks placed.before) ≡ true) is asked)
+            (subst (λ (y : Call). is_open_of m f (wants c.mounts (is_packed_in c (entries t) q.accepted.epoch) None y (begins.Walks d) placed.before) ≡ true) is asked)
     over _ is k = absurd k

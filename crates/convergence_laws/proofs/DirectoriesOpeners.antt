@@ -132,9 +132,9 @@ opener_opens Known words o m f w e k = over m w e (subst (λ (v : Call). WalkerA
     over mode.Make (want.Make g kd sites) q z = absurd z
     over mode.Make _ q z = absurd (true_false (sym q))
 
-no_free : (words : Call) → NotOpen words → HasFree None begins.Walks words
-no_free (call.Open path m) n = absurd n
-no_free words n = tt
+no_free : (id : CallId) (words : Call) → NotOpen words → HasFree None (begins.Walks id) words
+no_free id (call.Open path m) n = absurd n
+no_free id words n = tt
 
 -- ---- an instance that was granted ----
 
@@ -145,21 +145,21 @@ module _ (c : Config) (packs : PacksAreOfSites c) (t : List Line) (h : IsFollowe
   abbrev w : Waiting
   w = grantee.accepted
 
-  walks : begun (entries t) d ≡ Some begins.Walks
+  walks : begun (entries t) d ≡ Some (begins.Walks d)
   walks = (let x : (x : Descriptor) × (opening_of (entries t) d ≡ Some x) = opening_there t e d request i m f stamp ss was in let k : WalksSo t d = openers_walk c t h d x.0 x.1 in k.walks)
 
   -- the call's script
   abbrev goes : List Answer → Want
-  goes = wants c.mounts (is_packed_in c (entries t) w.epoch) None w.words begins.Walks
+  goes = wants c.mounts (is_packed_in c (entries t) w.epoch) None w.words (begins.Walks d)
 
   same : (xs : List Answer) → script c (entries t) d None xs ≡ goes xs
-  same xs = script_by c t d w begins.Walks None xs grantee.named walks
+  same xs = script_by c t d w (begins.Walks d) None xs grantee.named walks
 
   -- ---- an open ----
 
   asks_after : (xs ys : List Answer) → log t d ≡ xs ++ ys → WalkerAsks (IsKnown c t) w.words (script c (entries t) d None xs)
   asks_after xs ys is = subst (WalkerAsks (IsKnown c t) w.words) (sym (same xs))
-      (wants_so (IsAnswered c t d) (IsKnown c t) (λ at component ino k q. named_known c t at.group ino k q) (roots_known c t) (λ r a q. q) c.mounts (is_packed_in c (entries t) w.epoch) None w.words begins.Walks xs
+      (wants_so (IsAnswered c t d) (IsKnown c t) (λ at component ino k q. named_known c t at.group ino k q) (roots_known c t) (λ r a q. q) c.mounts (is_packed_in c (entries t) w.epoch) None w.words (begins.Walks d) xs
       (along_same (IsAnswered c t d) (script c (entries t) d None) goes same xs
       (along_front (IsAnswered c t d) (script c (entries t) d None) xs ys (subst (Along (IsAnswered c t d) (script c (entries t) d None)) is taken))))
     where
@@ -181,22 +181,22 @@ module _ (c : Config) (packs : PacksAreOfSites c) (t : List Line) (h : IsFollowe
 
   -- ---- any other call ----
 
-  ends : NotOpen w.words → GivesNone (goes (log t d)) (has_by goes (begun_with begins.Walks) (log t d))
-  ends other = wants_end c.mounts (is_packed_in c (entries t) w.epoch) None w.words (begun_with begins.Walks) (λ j q. true_false (sym q)) (began_right t d w begins.Walks grantee.named walks) other (log t d)
+  ends : NotOpen w.words → GivesNone (goes (log t d)) (has_by goes (begun_with (begins.Walks d)) (log t d))
+  ends other = wants_end c.mounts (is_packed_in c (entries t) w.epoch) None d w.words (begun_with (begins.Walks d)) (λ j q. true_false (sym q)) (began_right t d w (begins.Walks d) grantee.named walks) other (log t d)
       (fit_same (script c (entries t) d None) goes (log t d) same (log_fits c t d h (w, grantee.named)))
 
-  there : has_instances c t d i ≡ true → has_by goes (begun_with begins.Walks) (log t d) i ≡ true
-  there has = sym (by_same (script c (entries t) d None) goes (begun_with begins.Walks) (log t d) i same)
+  there : has_instances c t d i ≡ true → has_by goes (begun_with (begins.Walks d)) (log t d) i ≡ true
+  there has = sym (by_same (script c (entries t) d None) goes (begun_with (begins.Walks d)) (log t d) i same)
       ∙ (sym (ap (λ (o : Option Beginning). has_by (script c (entries t) d None) (with_begun o) (log t d) i) walks) ∙ (sym (has_log c t h d (w, grantee.named) i) ∙ has))
 
   having_asks : NotOpen w.words → has_instances c t d i ≡ true → is_request (asked_now c t d) ≡ true
   having_asks other has = over (asked_now c t d) refl
     where
       sound : IsSound w.words None (asked_now c t d)
-      sound = script_sound c t d w begins.Walks None h grantee.named walks (no_free w.words other)
+      sound = script_sound c t d w (begins.Walks d) None h grantee.named walks (no_free d w.words other)
 
       over : (x : Want) → asked_now c t d ≡ x → is_request x ≡ true
-      over (want.Give r) is = absurd (subst (λ (y : Want). GivesNone y (has_by goes (begun_with begins.Walks) (log t d))) (sym (same (log t d)) ∙ is) (ends other) i (there has))
+      over (want.Give r) is = absurd (subst (λ (y : Want). GivesNone y (has_by goes (begun_with (begins.Walks d)) (log t d))) (sym (same (log t d)) ∙ is) (ends other) i (there has))
       over want.Never is = absurd (subst (IsSound w.words None) is sound)
       over x is = refl
 

@@ -36,7 +36,7 @@ use Rattle.role_steps.specs.Reports.{on_report, on_open, on_look, on_closed, on_
 use Rattle.role_steps.specs.Opens.{on_opened}
 use Rattle.role_steps.specs.Storage.{copy_of, with_copy}
 use Rattle.role_steps.specs.Tables.{row, first_that}
-use Rattle.role_steps.specs.Using.{without_hope, is_hopeless, after_reply, replies, asks_want, next_want, goes_on, with_answer, takes_answer, asks_open_of, on_open_done_of, asks_op_number, on_op_done_of, on_close_done_of, asks_take, with_brought, looks_again, takes_look, on_look_done_of, accepted}
+use Rattle.role_steps.specs.Using.{without_hope, is_hopeless, after_reply, replies, asks_want, next_want, goes_on, with_answer, takes_answer, asks_open_of, on_open_done_of, asks_op_number, on_op_done_of, on_close_done_of, asks_take, with_brought, looks_again, takes_look, on_look_done_of, accepted, own_call}
 use Rattle.role_steps.specs.Using.{asks_close_of as asks_close_number}
 use Rattle.role_steps.specs.Views.{Frame, Users, SiteView, Outcome, quiet, and_then}
 use Rattle.role_steps.specs.declared.pulls.Pull.{Pull}
@@ -154,7 +154,7 @@ one_starts f t (Some r) v file m = by_test (same_file (row_file t r) file) refl
   where
     by_test : (b : Bool) → same_file (row_file t r) file ≡ b → Mends file v.users.waiting ⊎ ((q : FileRow) × (◌≡◌ {A = Option FileRow} (Some r) (Some q)) × (same_file (row_file t q) file ≡ true))
     by_test true e = inr (r, refl, e)
-    by_test false e = inl (goes_waited file f (accepted 0 (v.users.calls + 1) (call.Mend (row_file t r)) (beginning (descriptors_of v.users 0) (Some f.epoch) (call.Mend (row_file t r)))) (record v.users { calls = v.users.calls + 1 }) (λ h. absurd (true_false (sym h ∙ e))) m)
+    by_test false e = inl (goes_waited file f (accepted 0 (v.users.calls + 1) (call.Mend (row_file t r)) (beginning (descriptors_of v.users 0) (Some f.epoch) (own_call f.me f.boot (v.users.calls + 1)) (call.Mend (row_file t r)))) (record v.users { calls = v.users.calls + 1 }) (λ h. absurd (true_false (sym h ∙ e))) m)
 
 starts_waited : (f : Frame) (t : SyncTable) (v : SiteView) (file : FileId) → Mends file (starts_mend f t v).view.users.waiting → Mends file v.users.waiting ⊎ IsWanted v (t ∷ []) file
 starts_waited f t v file = by_test (t.started && not (has_mend_in v.users t.group))

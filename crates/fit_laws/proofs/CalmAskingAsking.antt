@@ -26,6 +26,7 @@ use Rattle.tree_model.specs.Calls.{granted_to}
 use Rattle.lawful_trace.specs.Progress.{Answers, is_packed_in}
 use Rattle.lawful_trace.specs.Tables.{begun}
 use Rattle.lawful_trace.specs.TreeRows.{IsCallIn}
+use Rattle.tree_laws.proofs.OwnWalks.{walks_as}
 use Rattle.tree_laws.specs.Calls.{Asks, log, script, script_as}
 use Rattle.tree_laws.specs.Following.{IsFollowed}
 use Rattle.tree_laws.specs.Instances.{instance_now}
@@ -47,6 +48,14 @@ UseOp (op.Cut len) = Unit {0}
 UseOp op.Commit = Unit {0}
 UseOp op.Abort = Unit {0}
 UseOp _ = ⊥
+
+-- and by no call that walks
+abbrev pub NoWalk : Op → Type 0
+NoWalk (op.Read at len) = Unit {0}
+NoWalk (op.Cut len) = Unit {0}
+NoWalk op.Commit = Unit {0}
+NoWalk op.Abort = Unit {0}
+NoWalk _ = ⊥
 
 use_op : (words : Call) (o : Op) → IsUse words o → UseOp o
 use_op (call.Read fd at len) o u = subst UseOp (sym u) tt
@@ -77,7 +86,7 @@ module _ (c : Config) (t : List Line) (h : IsFollowed c t) (e : EpochId) (d : Ca
   starts = began t d w inside.named
 
   abbrev pub b : Beginning
-  b = beginning starts.table w.epoch w.words
+  b = beginning starts.table w.epoch d w.words
 
   abbrev pk : ℕ → Bool
   pk = is_packed_in c (entries t) w.epoch
@@ -93,18 +102,18 @@ module _ (c : Config) (t : List Line) (h : IsFollowed c t) (e : EpochId) (d : Ca
   wanted = unpacked pk (named_wants c.mounts None w.words b (log t d)) i o asked
 
   -- it walks, or uses a descriptor
-  so : WalkAsks w.words (want.Do i o) ⊎ Uses w.words b i o
-  so = named_so c.mounts None w.words b (log t d) i o wanted
+  pub so : WalkAsks d w.words (want.Do i o) ⊎ Uses w.words b i o
+  so = named_so c.mounts None d w.words b (walks_as starts.table w.epoch d w.words) (log t d) i o wanted
 
   -- what it uses by a descriptor is of its epoch
   pub uses_here : (u : Uses w.words b i o) → begun (entries t) d ≡ Some (begins.Uses e i)
-  uses_here u = starts.begun_is ∙ ap Some (u.begins_so ∙ ap (λ (z : EpochId). begins.Uses z i) (some_same u.epoch e (sym (uses_from starts.table w.epoch w.words u.epoch i u.begins_so).inside ∙ inside.made_in)))
+  uses_here u = starts.begun_is ∙ ap Some (u.begins_so ∙ ap (λ (z : EpochId). begins.Uses z i) (some_same u.epoch e (sym (uses_from starts.table w.epoch _ w.words u.epoch i u.begins_so).inside ∙ inside.made_in)))
 
   -- a call that walks has the instance as it was granted to it
   pub own : (UseOp o → ⊥) → granted_to (entries t) e i ≡ Some d
   own other = over (comes_from c t h e d i inside (op_had c t d i o h (inside.accepted, inside.named) asks.asked))
     where
-      uses : begun (entries t) d ≡ Some (begins.Uses e i) → WalkAsks w.words (want.Do i o) ⊎ Uses w.words b i o → ⊥
+      uses : begun (entries t) d ≡ Some (begins.Uses e i) → WalkAsks d w.words (want.Do i o) ⊎ Uses w.words b i o → ⊥
       uses k (inr u) = other (use_op w.words o u.is_use)
       uses k (inl walks) = other (used_so c.mounts None w.words e i (log t d) i o (subst (λ (z : Beginning). named_wants c.mounts None w.words z (log t d) ≡ want.Do i o) (some_same b (begins.Uses e i) (sym starts.begun_is ∙ k)) wanted))
 
@@ -112,26 +121,25 @@ module _ (c : Config) (t : List Line) (h : IsFollowed c t) (e : EpochId) (d : Ca
       over (inl k) = k
       over (inr k) = absurd (uses k so)
 
-  -- a use of a descriptor
-  pub used : UseOp o → Uses w.words b i o
+  -- a use of a descriptor, where no walk asks so
+  pub used : NoWalk o → Uses w.words b i o
   used use_it = over so
     where
-      walks : (p : Op) → UseOp p → WalkAsks w.words (want.Do i p) → ⊥
+      walks : (p : Op) → NoWalk p → WalkAsks d w.words (want.Do i p) → ⊥
       walks (op.Read at len) k q = q
-      walks (op.Write at bytes) k q = q
       walks (op.Cut len) k q = q
       walks op.Commit k q = q
       walks op.Abort k q = q
       walks _ k q = k
 
-      over : WalkAsks w.words (want.Do i o) ⊎ Uses w.words b i o → Uses w.words b i o
+      over : WalkAsks d w.words (want.Do i o) ⊎ Uses w.words b i o → Uses w.words b i o
       over (inl q) = absurd (walks o use_it q)
       over (inr u) = u
 
   -- or a step of a walk
-  pub walked : (UseOp o → ⊥) → WalkAsks w.words (want.Do i o)
+  pub walked : (UseOp o → ⊥) → WalkAsks d w.words (want.Do i o)
   walked other = over so
     where
-      over : WalkAsks w.words (want.Do i o) ⊎ Uses w.words b i o → WalkAsks w.words (want.Do i o)
+      over : WalkAsks d w.words (want.Do i o) ⊎ Uses w.words b i o → WalkAsks d w.words (want.Do i o)
       over (inl q) = q
       over (inr u) = absurd (other (use_op w.words o u.is_use))

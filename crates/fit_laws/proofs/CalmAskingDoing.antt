@@ -1,13 +1,14 @@
 -- What a call asks of an open instance as its next operation can be done.
-use Rattle.std.proofs.Common.{◌≡◌, ℕ, ◌+◌, ◌≤◌, ◌<◌, ◌^◌, suc, zero, Bool, true, false, cond, nat_lt, List, [], ◌∷◌, ◌++◌, length, map, Option, Some, None, refl, sym, ◌∙◌, ap, subst, ◌⊎◌, inl, inr, arith}
+use Rattle.std.proofs.Common.{◌≡◌, ℕ, ◌+◌, ◌≤◌, ◌<◌, ◌^◌, suc, zero, Bool, true, false, ◌&&◌, cond, nat_le, nat_lt, List, [], ◌∷◌, ◌++◌, length, map, Option, Some, None, refl, sym, ◌∙◌, ap, subst, ◌⊎◌, inl, inr, arith}
 use Rattle.std.proofs.lemmas.Bool.Decides.{nat_tests}
-use Rattle.std.specs.List.{AllByRecursion}
+use Rattle.std.specs.List.{AllByRecursion, list_all}
 use Rattle.locus_ids.specs.declared.config.Config.{Config}
 use Rattle.locus_ids.specs.declared.ids.CallId.{CallId}
 use Rattle.locus_ids.specs.declared.ids.EpochId.{EpochId}
 use Rattle.locus_ids.specs.declared.ids.FileId.{FileId}
 use Rattle.locus_ids.specs.declared.ids.Kind.{Kind}
 use Rattle.locus_ids.specs.declared.ids.Kind.TheVariants as kind
+use Rattle.locus_ids.specs.declared.ids.Mode.TheVariants as mode
 use Rattle.locus_ids.specs.declared.ids.Serial.{Serial}
 use Rattle.locus_ids.specs.declared.ids.Stamp.{Stamp}
 use Rattle.locus_ids.specs.declared.refusal.Refusal.{Refusal}
@@ -16,6 +17,7 @@ use Rattle.locus_ids.specs.Sizes.{file_bytes_max, sites_max}
 use Rattle.commit_graph.specs.Counters.{counter}
 use Rattle.commit_graph.specs.Vectors.{numbers_from, vector_of}
 use Rattle.commit_graph.specs.declared.history.Version.{Version}
+use Rattle.schedule_lines.specs.Ranges.{is_between, is_byte, is_word}
 use Rattle.trace_book.specs.Names.{is_name}
 use Rattle.trace_book.specs.declared.call.Call.{Call}
 use Rattle.trace_book.specs.declared.call.Call.TheVariants as call
@@ -36,8 +38,10 @@ use Rattle.call_rules.specs.declared.answer.Answer.{Answer}
 use Rattle.call_rules.specs.declared.answer.Answer.TheVariants as answer
 use Rattle.call_rules.specs.declared.want.Want.{Want}
 use Rattle.call_rules.specs.declared.want.Want.TheVariants as want
+use Rattle.mailbox_join.proofs.Naming.{named}
 use Rattle.role_steps.specs.OperationEffects.{Mending, effect_of}
 use Rattle.the_run.specs.Worlds.{Line}
+use Rattle.tree_model.specs.declared.accepted.Waiting.{Waiting}
 use Rattle.tree_model.specs.declared.instance.Instance.{Instance}
 use Rattle.tree_model.specs.Calls.{call_named}
 use Rattle.tree_model.specs.Files.{kind_of_file}
@@ -57,20 +61,22 @@ use Rattle.tree_laws.proofs.Holding.{Script}
 use Rattle.order_laws.specs.Joining.{PacksAreOfSites}
 use Rattle.order_laws.proofs.Lists.{all_then}
 use Rattle.rest_laws.proofs.of_store_laws.Places.{open_is}
+use Rattle.rest_laws.specs.StoreStepKnown.{IsKnownCall}
 use Rattle.rest_laws.proofs.StoreStepCounters.{counter_low}
+use Rattle.rest_laws.proofs.StoreStepKnown.{known_call}
 use Rattle.rest_laws.proofs.of_store_laws.AnswerDone.{done_named}
 use Rattle.rest_laws.proofs.of_one_tree_laws.RemovePlaced.{DoneSo, Taken, done_placed, taken_so}
 use Rattle.rest_laws.proofs.of_one_tree_laws.RemoveScripts.{Along, IsOr, along_at, along_same}
 use Rattle.fit_laws.specs.Inodes.{IsInodeNumber}
 use Rattle.fit_laws.proofs.Numbers.{stands_inode}
-use Rattle.fit_laws.specs.EntryEntries.{IsEntered, NamesFile, WasInserted}
+use Rattle.fit_laws.specs.EntryEntries.{EntriesName, IsEntered, IsLeftMessage, NamesFile, WasInserted}
 use Rattle.fit_laws.proofs.EntryActing.{inserted_named}
 use Rattle.fit_laws.proofs.EntryFacts.{IsAnswered, IsKnown, named_known, roots_known}
 use Rattle.fit_laws.proofs.EntryNamed.{trace_named}
 use Rattle.fit_laws.proofs.EntryOpen.{instances_name}
-use Rattle.rest_laws.specs.of_one_tree_laws.Rest.{Past}
+use Rattle.rest_laws.specs.of_one_tree_laws.Rest.{IsNumberedLow, Past, RangeCall}
 use Rattle.fit_laws.specs.CalmAskingAsked.{IsDoable}
-use Rattle.fit_laws.proofs.CalmAskingAsking.{b, by_words, own, starts, used, uses_here, w, walked}
+use Rattle.fit_laws.proofs.CalmAskingAsking.{b, by_words, own, so, starts, used, uses_here, w, walked}
 use Rattle.fit_laws.proofs.CalmAskingDirectories.{Lacks, entries_dir}
 use Rattle.fit_laws.proofs.CalmAskingEffects.{Acts, empty_acts, find_acts, insert_acts, probe_acts, remove_acts, rename_acts, write_acts}
 use Rattle.fit_laws.proofs.CalmAskingFound.{IsLivePair, found_pair}
@@ -82,7 +88,7 @@ use Rattle.fit_laws.proofs.CalmAskingRemoving.{Finding, LeavesOn, LeftSo, script
 use Rattle.fit_laws.proofs.CalmAskingSources.{source}
 use Rattle.fit_laws.proofs.CalmAskingStanding.{OnlyLeft, finds_still}
 use Rattle.fit_laws.proofs.CalmAskingTold.{WasActed, WasOpened, act_source, open_source}
-use Rattle.fit_laws.proofs.CalmAskingWords.{IsUse, Makes, Uses}
+use Rattle.fit_laws.proofs.CalmAskingWords.{IsUse, Mails, Makes, NameSo, Uses, WalkAsks}
 
 -- ---- what a remove has seen ----
 
@@ -109,29 +115,58 @@ short : (n : ℕ) → nat_lt file_bytes_max n ≡ false → n ≤ file_bytes_max
 short n e = grind (arith, nat_tests)
 
 -- a write ends within the greatest size
-write_short : (table : ℕ → Option Descriptor) (now : Option EpochId) (words : Call) (e : EpochId) (i : Serial) (at : ℕ) (bytes : List ℕ) → beginning table now words ≡ begins.Uses e i → IsUse words (op.Write at bytes) → at + length bytes ≤ file_bytes_max
-write_short table now (call.Write fd a x) e i at bytes k u = subst (λ (n : ℕ). n + length bytes ≤ file_bytes_max) (sym (write_place at a bytes x u).0) (subst (λ (ys : List ℕ). a + length ys ≤ file_bytes_max) (sym (write_place at a bytes x u).1) (short (a + length x) (over (is_too_long (call.Write fd a x)) refl k)))
+write_short : (table : ℕ → Option Descriptor) (now : Option EpochId) (id : CallId) (words : Call) (e : EpochId) (i : Serial) (at : ℕ) (bytes : List ℕ) → beginning table now id words ≡ begins.Uses e i → IsUse words (op.Write at bytes) → at + length bytes ≤ file_bytes_max
+write_short table now id (call.Write fd a x) e i at bytes k u = subst (λ (n : ℕ). n + length bytes ≤ file_bytes_max) (sym (write_place at a bytes x u).0) (subst (λ (ys : List ℕ). a + length ys ≤ file_bytes_max) (sym (write_place at a bytes x u).1) (short (a + length x) (over (is_too_long (call.Write fd a x)) refl k)))
   where
     over : (b : Bool) → is_too_long (call.Write fd a x) ≡ b → cond b (begins.Denied refusal.TooLong) (begins_on true now (table fd)) ≡ begins.Uses e i → is_too_long (call.Write fd a x) ≡ false
     over true is q = absurd (denied_uses refusal.TooLong e i q)
     over false is q = is
-write_short table now (call.Read fd a len) e i at bytes k u = absurd (other u)
+write_short table now id (call.Read fd a len) e i at bytes k u = absurd (other u)
   where
     other : op.Write at bytes ≡ op.Read a len → ⊥
     other q = cc
-write_short table now (call.Cut fd len) e i at bytes k u = absurd (other u)
+write_short table now id (call.Cut fd len) e i at bytes k u = absurd (other u)
   where
     other : op.Write at bytes ≡ op.Cut len → ⊥
     other q = cc
-write_short table now (call.Commit fd) e i at bytes k u = absurd (other u)
+write_short table now id (call.Commit fd) e i at bytes k u = absurd (other u)
   where
     other : op.Write at bytes ≡ op.Commit → ⊥
     other q = cc
-write_short table now (call.Abort fd) e i at bytes k u = absurd (other u)
+write_short table now id (call.Abort fd) e i at bytes k u = absurd (other u)
   where
     other : op.Write at bytes ≡ op.Abort → ⊥
     other q = cc
-write_short table now _ e i at bytes k u = absurd u
+write_short table now id _ e i at bytes k u = absurd u
+
+-- a mail writes no more than a line may have
+first_part : (a b x : Bool) → (a && b && x) ≡ true → b ≡ true
+first_part a true x h = refl
+first_part true false x h = absurd (cc)
+first_part false false x h = absurd (cc)
+
+few_bytes : (n : ℕ) → (nat_le 1 n && nat_le n 4096) ≡ true → n ≤ file_bytes_max
+few_bytes n h = (let k : n ≤ 4096 = within n h in omega (arith, k))
+  where
+    within : (n : ℕ) → (nat_le 1 n && nat_le n 4096) ≡ true → n ≤ 4096
+    within n h = grind (arith, nat_tests)
+
+mailed_short : (c : Config) (s process : ℕ) (words : Call) (at : ℕ) (bytes : List ℕ) → RangeCall c s process words → (at ≡ 0) × Mails words bytes → at + length bytes ≤ file_bytes_max
+mailed_short c s process (call.Mail path sent) at bytes r m =
+    let low : length bytes ≤ file_bytes_max = subst (λ (ys : List ℕ). length ys ≤ file_bytes_max) m.1 (few_bytes (length sent) (first_part (is_word path) (is_between 1 4096 (length sent)) (list_all is_byte sent) r.fits)) in
+    omega (arith, m.0, low)
+mailed_short c s process _ at bytes r m = absurd m.1
+
+-- the name of a message is one
+site_small : (s : ℕ) → s ≤ sites_max → s < 2 ^ 8
+site_small s high = omega (arith, high)
+
+name_by : (d : CallId) (words : Call) → d.site ≤ sites_max → IsNumberedLow d words → (name : List ℕ) → NameSo d words name → is_name name ≡ true
+name_by d (call.Mail path bytes) high low name k = subst (λ (l : List ℕ). is_name l ≡ true) (sym k) (named d (site_small d.site high) low.boot low.n)
+name_by d _ high low name k = k
+
+name_is : (c : Config) (t : List Line) (past : Past c t) (d : CallId) (w : Waiting) → call_named (entries t) d ≡ Some w → (name : List ℕ) → NameSo d w.words name → is_name name ≡ true
+name_is c t past d w its name k = (let known : IsKnownCall c d w = known_call c t past.followed past.rest.each d w its in name_by d w.words known.site.high known.name name k)
 
 -- ---- a remove ----
 
@@ -173,7 +208,10 @@ module _ (c : Config) (t : List Line) (past : Past c t) (e : EpochId) (d : CallI
   packs = past.rest.packs
 
   worded : (is_name name ≡ true) × Makes inside.accepted.words
-  worded = walked c t past.followed e d inside i (op.Insert name ino kd) asks x found (λ k. k)
+  worded = (name_is c t past d inside.accepted inside.named name asks_so.0, asks_so.1)
+    where
+      asks_so : NameSo d inside.accepted.words name × Makes inside.accepted.words
+      asks_so = walked c t past.followed e d inside i (op.Insert name ino kd) asks x found (λ k. k)
 
   m : Inserts (script c (entries t) d None) (log t d) i
   m = script_inserts c (entries t) (call_named (entries t) d) (begun (entries t) d) i name ino kd (log t d) asks.asked
@@ -197,15 +235,25 @@ module _ (c : Config) (t : List Line) (past : Past c t) (e : EpochId) (d : CallI
   opened : WasOpened t d i m.dir
   opened = open_source c t d m.before i m.number m.dir (source c t past.followed d m.before m.after (answer.Opened i m.number) (asks.nothing_waits ∙ m.answers_are)) opens
 
+  is : (x.grant.mode ≡ opened.in_mode) × (x.grant.file ≡ m.dir) × (x.grant.ss ≡ opened.ss) × (x.grant.call ≡ d)
+  is = open_is c t past.followed e d opened.request i opened.in_mode m.dir opened.stamp opened.ss x (subst (λ (z : EpochId). WasGranted t z d opened.request i opened.in_mode m.dir opened.stamp opened.ss) (one_epoch t opened.epoch e d opened.inside inside) opened.granted) found
+
   on_dir : kind_of_file c (entries t) x.grant.file ≡ kind.Dir
   on_dir = subst (λ (g : FileId). kind_of_file c (entries t) g ≡ kind.Dir) (sym is.1) dir_known
+
+  -- what is opened to be written is no message that is being made
+  names : EntriesName c t x.grant.file.group x.work.content
+  names = over (instances_name c t packs past.followed e i x found on_dir)
     where
-      is : (x.grant.mode ≡ opened.in_mode) × (x.grant.file ≡ m.dir) × (x.grant.ss ≡ opened.ss) × (x.grant.call ≡ d)
-      is = open_is c t past.followed e d opened.request i opened.in_mode m.dir opened.stamp opened.ss x (subst (λ (z : EpochId). WasGranted t z d opened.request i opened.in_mode m.dir opened.stamp opened.ss) (one_epoch t opened.epoch e d opened.inside inside) opened.granted) found
+      never : mode.Write ≡ mode.Make → ⊥
+      never q = cc
+
+      over : EntriesName c t x.grant.file.group x.work.content ⊎ IsLeftMessage t e x.grant → EntriesName c t x.grant.file.group x.work.content
+      over (inl k) = k
+      over (inr k) = absurd (never (sym (is.0 ∙ opened.writes) ∙ k.0.mode_is))
 
   lacks : Lacks ino (entries_of x.work.content)
-  lacks = all_then (λ (y : Entry). IsEntered c t x.grant.file.group y.ino y.kind) (λ (y : Entry). y.ino ≡ ino → ⊥) (λ y k same. not_inserted c packs t past.followed e d inside i name ino kd asks x found (subst (WasInserted c t x.grant.file.group) same k.inserted)) (entries_of x.work.content)
-      (instances_name c t packs past.followed e i x found on_dir)
+  lacks = all_then (λ (y : Entry). IsEntered c t x.grant.file.group y.ino y.kind) (λ (y : Entry). y.ino ≡ ino → ⊥) (λ y k same. not_inserted c packs t past.followed e d inside i name ino kd asks x found (subst (WasInserted c t x.grant.file.group) same k.inserted)) (entries_of x.work.content) names
 
   named_file : NamesFile c t x.grant.file.group ino kd
   named_file = inserted_named c t past.followed (trace_named c packs t past.followed).calls packs e d inside i name ino kd asks x found
@@ -226,12 +274,13 @@ module _ (c : Config) (t : List Line) (past : Past c t) (e : EpochId) (ss : ℕ)
   doable op.Abort seen q = tt
   doable (op.Write at bytes) seen q = as_is (op.Write at bytes) seen q.at.work.content (write_acts at bytes q.at.work.content low) (λ m. refl)
     where
-      u : Uses q.inside.accepted.words (b c t past.followed e q.call q.inside i (op.Write at bytes) q.asks q.at q.open_at.found) i (op.Write at bytes)
-      u = used c t past.followed e q.call q.inside i (op.Write at bytes) q.asks q.at q.open_at.found tt
+      either : WalkAsks q.call q.inside.accepted.words (want.Do i (op.Write at bytes)) ⊎ Uses q.inside.accepted.words (b c t past.followed e q.call q.inside i (op.Write at bytes) q.asks q.at q.open_at.found) i (op.Write at bytes) → at + length bytes ≤ file_bytes_max
+      either (inl m) = mailed_short c q.call.site q.inside.accepted.process q.inside.accepted.words at bytes (known_call c t past.followed past.rest.each q.call q.inside.accepted q.inside.named).range m
+      either (inr u) = write_short (starts c t past.followed e q.call q.inside i (op.Write at bytes) q.asks q.at q.open_at.found).table q.inside.accepted.epoch _ q.inside.accepted.words u.epoch i at bytes u.begins_so u.is_use
 
       low : at + length bytes ≤ file_bytes_max
-      low = write_short (starts c t past.followed e q.call q.inside i (op.Write at bytes) q.asks q.at q.open_at.found).table q.inside.accepted.epoch q.inside.accepted.words u.epoch i at bytes u.begins_so u.is_use
-  doable (op.Probe name) seen q = as_is (op.Probe name) seen q.at.work.content (probe_acts name q.at.work.content (walked c t past.followed e q.call q.inside i (op.Probe name) q.asks q.at q.open_at.found (λ k. k))) (λ m. refl)
+      low = either (so c t past.followed e q.call q.inside i (op.Write at bytes) q.asks q.at q.open_at.found)
+  doable (op.Probe name) seen q = as_is (op.Probe name) seen q.at.work.content (probe_acts name q.at.work.content (name_is c t past q.call q.inside.accepted q.inside.named name (walked c t past.followed e q.call q.inside i (op.Probe name) q.asks q.at q.open_at.found (λ k. k)))) (λ m. refl)
   doable (op.Find component) seen q = as_is (op.Find component) seen q.at.work.content (find_acts component q.at.work.content) (λ m. refl)
   doable op.Empty seen q = as_is op.Empty seen q.at.work.content (empty_acts q.at.work.content) (λ m. refl)
   doable (op.Rename component name) seen q = as_is (op.Rename component name) seen q.at.work.content (rename_acts component name q.at.work.content (walked c t past.followed e q.call q.inside i (op.Rename component name) q.asks q.at q.open_at.found (λ k. k))) (λ m. refl)

@@ -42,7 +42,7 @@ use Rattle.fit_laws.proofs.EntryNamers.{named_opened}
 
 -- an open asks its own open alone, wherever it began
 opens_alone : (mounts : List Mount) (pk : ℕ → Bool) (path : List ℕ) (m : OpenMode) (b : Beginning) (xs : List Answer) → OpensSo m (wants mounts pk None (call.Open path m) b xs)
-opens_alone mounts pk path m begins.Walks xs = open_so mounts pk None path m xs
+opens_alone mounts pk path m (begins.Walks id) xs = open_so mounts pk None id path m xs
 opens_alone mounts pk path m (begins.Denied why) xs = over (is_badly_named mounts (call.Open path m))
   where
     over : (x : Bool) → OpensSo m (where_packed pk (cond x (want.Give (reply.No refusal.BadName)) (want.Give (reply.No why))))
@@ -84,7 +84,7 @@ named_mode c t h e i d inside uses x found mends = mend_none opens.how k.file p.
     starts = began t g u.for.caller u.for.named
 
     b : Beginning
-    b = beginning starts.table u.for.caller.epoch u.for.caller.words
+    b = beginning starts.table u.for.caller.epoch g u.for.caller.words
 
     pk : ℕ → Bool
     pk = is_packed_in c (entries t) u.for.caller.epoch

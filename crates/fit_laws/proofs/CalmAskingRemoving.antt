@@ -1,6 +1,7 @@
 -- The script of a call that removes a name: the name and the number are those that it has found in the directory, of which it asks nothing
 -- then that could change it.
 use Rattle.std.proofs.Common.{◌≡◌, ℕ, Bool, true, false, cond, List, [], ◌∷◌, ◌++◌, Option, Some, None, refl, sym, ◌∙◌, ap, subst, ◌⊎◌, inl, inr}
+use Rattle.locus_ids.specs.declared.ids.CallId.{CallId}
 use Rattle.locus_ids.specs.declared.config.Config.{Config}
 use Rattle.locus_ids.specs.declared.config.Mount.{Mount}
 use Rattle.locus_ids.specs.declared.ids.FileId.{FileId}
@@ -165,15 +166,15 @@ changes_finding mounts path kd i name ino xs e = finding_same (λ ys. goes after
 
 -- ---- the whole script ----
 
-path_finding : (mounts : List Mount) (free : Option ℕ) (words : Call) (i : Serial) (name : List ℕ) (ino : ℕ) (xs : List Answer) → path_wants mounts free words xs ≡ want.Do i (op.Remove name ino) → Finding (path_wants mounts free words) xs i name ino
-path_finding mounts free (call.Unlink path) i name ino xs e = changes_finding mounts path kind.File i name ino xs e
-path_finding mounts free (call.RemoveDir path) i name ino xs e = changes_finding mounts path kind.Dir i name ino xs e
-path_finding mounts free words i name ino xs e = absurd (no_do _ i name ino (others_none mounts free words (λ r. r) xs) e)
+path_finding : (mounts : List Mount) (free : Option ℕ) (id : CallId) (words : Call) (i : Serial) (name : List ℕ) (ino : ℕ) (xs : List Answer) → path_wants mounts free id words xs ≡ want.Do i (op.Remove name ino) → Finding (path_wants mounts free id words) xs i name ino
+path_finding mounts free id (call.Unlink path) i name ino xs e = changes_finding mounts path kind.File i name ino xs e
+path_finding mounts free id (call.RemoveDir path) i name ino xs e = changes_finding mounts path kind.Dir i name ino xs e
+path_finding mounts free id words i name ino xs e = absurd (no_do _ i name ino (others_none mounts free id words (λ r. r) xs) e)
 
 begun_finding : (mounts : List Mount) (free : Option ℕ) (words : Call) (b : Beginning) (i : Serial) (name : List ℕ) (ino : ℕ) (xs : List Answer) → begun_wants mounts free words b xs ≡ want.Do i (op.Remove name ino) → Finding (begun_wants mounts free words b) xs i name ino
 begun_finding mounts free words (begins.Denied why) i name ino xs e = absurd (no_do _ i name ino tt e)
 begun_finding mounts free words (begins.Uses epoch inst) i name ino xs e = absurd (no_do _ i name ino (uses_none words inst xs) e)
-begun_finding mounts free words begins.Walks i name ino xs e = path_finding mounts free words i name ino xs e
+begun_finding mounts free words (begins.Walks id) i name ino xs e = path_finding mounts free id words i name ino xs e
 
 named_finding : (mounts : List Mount) (free : Option ℕ) (words : Call) (b : Beginning) (i : Serial) (name : List ℕ) (ino : ℕ) (xs : List Answer) → named_wants mounts free words b xs ≡ want.Do i (op.Remove name ino) → Finding (named_wants mounts free words b) xs i name ino
 named_finding mounts free words b i name ino xs e = over (is_badly_named mounts words) e

@@ -124,6 +124,7 @@ record OpenTold (older : List Line) (r : Record) (d : CallId) (p : Serial) (f : 
   stamp : Option Stamp
   ss : ℕ
   inside : IsCallIn (entries older) epoch d
+  writes : in_mode ≡ mode.Write
   printed : Printed (GrantRecord epoch d request p in_mode f stamp ss) older (Shown r)
 
 do_open : (i : Serial) (o : Op) (f : FileId) (m : OpenMode) → want.Do i o ≡ want.Open f m → ⊥
@@ -146,9 +147,9 @@ opened_is mode.Make i p f kept number e = cc
 refused_opened : (p : Serial) (number : ℕ) (a : Answer) → a ≡ answer.Opened p number → (why : _) → a ≡ answer.Refused why → ⊥
 refused_opened p number a e why q = cc
 
--- an open to write is granted of its file
-write_file : (m : Mode) (f g : FileId) → is_open_of m f (want.Open g how.Write) ≡ true → f ≡ g
-write_file mode.Write f g e = sym (same_file_eq g f e)
+-- an open to write is granted of its file, and to write
+write_file : (m : Mode) (f g : FileId) → is_open_of m f (want.Open g how.Write) ≡ true → (f ≡ g) × (m ≡ mode.Write)
+write_file mode.Write f g e = (sym (same_file_eq g f e), refl)
 write_file mode.Read f g e = absurd (true_false (sym e))
 write_file mode.Resolve f g e = absurd (true_false (sym e))
 write_file mode.Mend f g e = absurd (true_false (sym e))
@@ -167,7 +168,8 @@ module _ (c : Config) (n : ℕ) (older : List Line) (h : IsFollowed c older) (d 
     stamp = stamp;
     ss = ss;
     inside = subst (IsCallIn (entries older) at) step may.row.opens.step;
-    printed = record { epoch_is = refl; call_is = step; request_is = refl; serial_is = opened_is m i p g (kept_in c (entries older) at g) k (sym told); mode_is = refl; file_is = write_file m g f (subst (λ (w : Want). is_open_of m g w ≡ true) (wanted ∙ wants may.in_time.opens.asks.wanted asks) may.row.opens.asked); stamp_is = refl; place_is = refl };
+    writes = opens.1;
+    printed = record { epoch_is = refl; call_is = step; request_is = refl; serial_is = opened_is m i p g (kept_in c (entries older) at g) k (sym told); mode_is = refl; file_is = opens.0; stamp_is = refl; place_is = refl };
   }
     where
       asks : Asks c older d may.in_time.opens.asks.wanted
@@ -185,6 +187,9 @@ module _ (c : Config) (n : ℕ) (older : List Line) (h : IsFollowed c older) (d 
 
       wanted : wants_next c (entries older) call ≡ may.in_time.opens.asks.wanted
       wanted = ap (wants_after c (entries older) call) answered ∙ wants_as_asked c (entries older) call (log older call) may.in_time.opens.asks.wanted may.in_time.opens.asks.asks.asked may.in_time.opens.asks.asks.request
+
+      opens : (g ≡ f) × (m ≡ mode.Write)
+      opens = write_file m g f (subst (λ (w : Want). is_open_of m g w ≡ true) (wanted ∙ wants may.in_time.opens.asks.wanted asks) may.row.opens.asked)
   open_told (says.Refuse at call request i m g why) may step new = absurd (refused_opened p k (answer.Opened p k) refl why
       (last_same ys ys (answer.Opened p k) (answer.Refused why) (sym new ∙ (by_own call d _ (heard c older d) step ∙ ap (λ (xs : Answers). xs ++ answer.Refused why ∷ []) (asks.nothing_waits ∙ is)))))
     where
@@ -203,10 +208,11 @@ pub record WasOpened (t : List Line) (d : CallId) (p : Serial) (f : FileId) : Ty
   pub stamp : Option Stamp
   pub ss : ℕ
   pub inside : IsCallIn (entries t) epoch d
+  pub writes : in_mode ≡ mode.Write
   pub granted : WasGranted t epoch d request p in_mode f stamp ss
 
 pub open_source : (c : Config) (t : List Line) (d : CallId) (ys : Answers) (p : Serial) (k : ℕ) (f : FileId) → Source c t d ys (answer.Opened p k) → script c (entries t) d None ys ≡ want.Open f how.Write → WasOpened t d p f
-open_source c t d ys p k f s e = record { epoch = z.epoch; request = z.request; in_mode = z.in_mode; stamp = z.stamp; ss = z.ss; inside = s.inside z.epoch z.inside; granted = stands c t d ys (answer.Opened p k) s (Printed (GrantRecord z.epoch d z.request p z.in_mode f z.stamp z.ss)) z.printed }
+open_source c t d ys p k f s e = record { epoch = z.epoch; request = z.request; in_mode = z.in_mode; stamp = z.stamp; ss = z.ss; inside = s.inside z.epoch z.inside; writes = z.writes; granted = stands c t d ys (answer.Opened p k) s (Printed (GrantRecord z.epoch d z.request p z.in_mode f z.stamp z.ss)) z.printed }
   where
     z : OpenTold s.older s.what d p f
     z = open_told c s.number s.older s.followed d ys p k s.log_is f (sym s.script_is ∙ e) s.what s.may s.step s.new

@@ -35,17 +35,20 @@ use Rattle.the_run.specs.Worlds.{Line}
 use Rattle.tree_model.specs.declared.accepted.Waiting.{Waiting}
 use Rattle.tree_model.specs.declared.instance.Instance.{Instance}
 use Rattle.tree_model.specs.Calls.{call_named, granted_to}
-use Rattle.tree_model.specs.Files.{first_call}
+use Rattle.tree_model.specs.Files.{first_call, kind_made}
 use Rattle.lawful_trace.specs.Progress.{is_packed_in}
 use Rattle.lawful_trace.specs.Tables.{begun, call_of_act, has_named, unless_named, use_number, uses_of}
 use Rattle.lawful_trace.specs.TreeRows.{IsCallIn, granted_group, is_open_of}
+use Rattle.tree_laws.proofs.OwnWalks.{walks_own}
 use Rattle.tree_laws.specs.Calls.{Asks, log, script}
 use Rattle.tree_laws.specs.Following.{IsFollowed, MayTell}
 use Rattle.tree_laws.specs.Instances.{instance_now}
+use Rattle.tree_laws.specs.Past.{WasGranted}
 use Rattle.tree_laws.specs.Printed.{entries}
 use Rattle.tree_laws.specs.Serials.{is_open_want}
 use Rattle.tree_laws.proofs.Alone.{asking, numbered_every}
 use Rattle.tree_laws.proofs.Answered.{asker_unnamed}
+use Rattle.tree_laws.proofs.CarriedLooks.{one_epoch}
 use Rattle.tree_laws.proofs.Descriptors.{IsUser, are_users}
 use Rattle.tree_laws.proofs.Fresh.{IsNamed}
 use Rattle.tree_laws.proofs.Holding.{Script}
@@ -55,19 +58,20 @@ use Rattle.order_laws.proofs.ProcessBegun.{comes_from}
 use Rattle.order_laws.proofs.ProcessGranting.{GrantIs, granted_is}
 use Rattle.rest_laws.proofs.of_store_laws.ScriptFitted.{Began, began}
 use Rattle.rest_laws.proofs.of_store_laws.ScriptNaming.{Opens, script_by}
-use Rattle.rest_laws.proofs.of_store_laws.Places.{GrantedSo as IsGrantedSo, instance_granted}
+use Rattle.rest_laws.proofs.of_store_laws.Places.{GrantedSo as IsGrantedSo, instance_granted, open_is}
 use Rattle.rest_laws.proofs.of_store_laws.AnswerAnswering.{acter_in}
 use Rattle.rest_laws.proofs.of_store_laws.AnswerAskers.{op_had}
 use Rattle.rest_laws.proofs.of_store_laws.AnswerDone.{open_grant}
 use Rattle.rest_laws.proofs.of_one_tree_laws.RemovePlaced.{GrantedSo, IsPlaced, Placed, Taken, granted_placed, taken_so}
 use Rattle.rest_laws.proofs.of_one_tree_laws.RemoveScripts.{Along, IsOr, along_at, along_same}
-use Rattle.fit_laws.specs.EntryEntries.{NamesFile}
+use Rattle.fit_laws.specs.EntryEntries.{MakesMessage, NamesFile}
 use Rattle.fit_laws.proofs.EntryFacts.{CloseAnswered, IsAnswered, IsKnown, IsPlain, MakeAnswered, WasEnded, WasMade, named_known, roots_known}
 use Rattle.fit_laws.proofs.EntryHeard.{Heard}
 use Rattle.fit_laws.proofs.EntryInserting.{Inserting, OpensIn, wants_inserting}
 use Rattle.fit_laws.proofs.EntryMade.{made_first, made_named}
 use Rattle.fit_laws.proofs.EntryNamers.{named_opened}
 use Rattle.fit_laws.proofs.EntryWalking.{AsksBy, DeniedAsks, UserAsks, WalkerAsks, wants_so}
+use Rattle.fit_laws.proofs.EntryWriting.{Writing, wants_writing}
 
 -- ---- opens ----
 
@@ -168,7 +172,7 @@ module _ (c : Config) (t : List Line) (h : IsFollowed c t) (heard : (d : CallId)
     started = began t g by.inside.accepted by.inside.named
 
     abbrev first : Beginning
-    first = beginning started.table by.inside.accepted.epoch by.inside.accepted.words
+    first = beginning started.table by.inside.accepted.epoch g by.inside.accepted.words
 
     opened : AsksBy Known by.inside.accepted.words first placed.asked
     opened = over placed.place
@@ -180,13 +184,13 @@ module _ (c : Config) (t : List Line) (h : IsFollowed c t) (heard : (d : CallId)
     asked_open : is_open_want placed.asked ≡ true
     asked_open = opens_want y.grant.mode y.grant.file placed.asked placed.fits.0
 
-    walks : (b : Beginning) → first ≡ b → b ≡ begins.Walks
-    walks begins.Walks q = refl
+    walks : (b : Beginning) → first ≡ b → b ≡ begins.Walks g
+    walks (begins.Walks x) q = ap begins.Walks (walks_own started.table by.inside.accepted.epoch g by.inside.accepted.words x q)
     walks (begins.Uses at j) q = absurd (user_opens placed.asked asked_open (subst (λ (b : Beginning). AsksBy Known by.inside.accepted.words b placed.asked) q opened))
     walks (begins.Denied why) q = absurd (denied_opens placed.asked asked_open (subst (λ (b : Beginning). AsksBy Known by.inside.accepted.words b placed.asked) q opened))
 
     -- whom it was granted to walks
-    grantee_walks : begun (entries t) g ≡ Some begins.Walks
+    grantee_walks : begun (entries t) g ≡ Some (begins.Walks g)
     grantee_walks = started.begun_is ∙ ap Some (walks first refl)
 
     -- where a descriptor has named it, it is of a file that is no directory
@@ -198,15 +202,15 @@ module _ (c : Config) (t : List Line) (h : IsFollowed c t) (heard : (d : CallId)
     owned n d owner b k = ap (λ (z : Bool). cond z (use_number (uses_of (entries t) e i) n) (Some g)) (sym k) ∙ (sym (ap (unless_named (entries t) (use_number (uses_of (entries t) e i) n)) granted) ∙ owner)
 
     -- who does an operation is whom it was granted to, or uses its descriptor
-    pub acter_is : (n : ℕ) (d : CallId) (o : Op) → call_of_act (entries t) e i n ≡ Some d → Asks c t d (want.Do i o) → ((d ≡ g) × (begun (entries t) d ≡ Some begins.Walks)) ⊎ ((begun (entries t) d ≡ Some (begins.Uses e i)) × IsPlain c t y.grant.file)
+    pub acter_is : (n : ℕ) (d : CallId) (o : Op) → call_of_act (entries t) e i n ≡ Some d → Asks c t d (want.Do i o) → ((d ≡ g) × (begun (entries t) d ≡ Some (begins.Walks d))) ⊎ ((begun (entries t) d ≡ Some (begins.Uses e i)) × IsPlain c t y.grant.file)
     acter_is n d o owner asks = over (has_named (entries t) g) refl
       where
         used : has_named (entries t) g ≡ true → IsUser (entries t) e i d → (granted_to (entries t) e i ≡ Some d) ⊎ (begun (entries t) d ≡ Some (begins.Uses e i)) → (begun (entries t) d ≡ Some (begins.Uses e i)) × IsPlain c t y.grant.file
         used has u (inl own) = absurd (true_false (sym (subst (λ (z : CallId). has_named (entries t) z ≡ true) (some_same u.for.granted d (sym u.for.is_granted ∙ own)) u.for.answered) ∙ asker_unnamed c t d h (asking c t d (want.Do i o) asks)))
         used has u (inr b) = (b, named_plain has)
 
-        over : (b : Bool) → has_named (entries t) g ≡ b → ((d ≡ g) × (begun (entries t) d ≡ Some begins.Walks)) ⊎ ((begun (entries t) d ≡ Some (begins.Uses e i)) × IsPlain c t y.grant.file)
-        over false k = inl (sym same, subst (λ (z : CallId). begun (entries t) z ≡ Some begins.Walks) same grantee_walks)
+        over : (b : Bool) → has_named (entries t) g ≡ b → ((d ≡ g) × (begun (entries t) d ≡ Some (begins.Walks d))) ⊎ ((begun (entries t) d ≡ Some (begins.Uses e i)) × IsPlain c t y.grant.file)
+        over false k = inl (sym same, subst (λ (z : CallId). begun (entries t) z ≡ Some (begins.Walks z)) same grantee_walks)
           where
             same : g ≡ d
             same = some_same g d (owned n d owner false k)
@@ -229,9 +233,52 @@ module _ (c : Config) (t : List Line) (h : IsFollowed c t) (heard : (d : CallId)
     pub changed_plain : ((words : Call) → WalkerAsks Known words (want.Do i o) → ⊥) → IsPlain c t y.grant.file
     changed_plain none = over (acter_is e i y found n d o may.in_time.owner asks)
       where
-        over : ((d ≡ y.grant.call) × (begun (entries t) d ≡ Some begins.Walks)) ⊎ ((begun (entries t) d ≡ Some (begins.Uses e i)) × IsPlain c t y.grant.file) → IsPlain c t y.grant.file
-        over (inl k) = absurd (none inside.accepted.words (asks_now d inside.accepted begins.Walks inside.named k.1 (want.Do i o) asks.asked))
+        over : ((d ≡ y.grant.call) × (begun (entries t) d ≡ Some (begins.Walks d))) ⊎ ((begun (entries t) d ≡ Some (begins.Uses e i)) × IsPlain c t y.grant.file) → IsPlain c t y.grant.file
+        over (inl k) = absurd (none inside.accepted.words (asks_now d inside.accepted (begins.Walks d) inside.named k.1 (want.Do i o) asks.asked))
         over (inr k) = k.1
+
+    -- what a call writes that walks is what it has made
+    module _ (at : ℕ) (bytes : List ℕ) (is : o ≡ op.Write at bytes) (own : d ≡ y.grant.call) (walks : begun (entries t) d ≡ Some (begins.Walks d)) where
+      abbrev goes : Script
+      goes = wants c.mounts (is_packed_in c (entries t) inside.accepted.epoch) None inside.accepted.words (begins.Walks d)
+
+      goes_by : (xs : List Answer) → script c (entries t) d None xs ≡ goes xs
+      goes_by xs = script_by c t d inside.accepted (begins.Walks d) None xs inside.named walks
+
+      asked : script c (entries t) d None (log t d) ≡ want.Do i (op.Write at bytes)
+      asked = asks.asked ∙ ap (λ (p : Op). want.Do i p) is
+
+      writing : Writing inside.accepted.words goes (log t d) i
+      writing = wants_writing c.mounts (is_packed_in c (entries t) inside.accepted.epoch) None d inside.accepted.words i at bytes (log t d) (sym (goes_by (log t d)) ∙ asked)
+
+      answered : Along (IsAnswered c t d) goes (writing.before ++ answer.Opened i writing.number ∷ [])
+      answered = subst (Along (IsAnswered c t d) goes) writing.answers_are (along_same (IsAnswered c t d) (script c (entries t) d None) goes goes_by (log t d) (heard d (inside.accepted, inside.named)).taken)
+
+      was_made : WasMade t d writing.group i writing.number
+      was_made = over writing.makes (along_at (IsAnswered c t d) goes writing.before (answer.Opened i writing.number) [] answered)
+        where
+          over : IsOr (goes writing.before) (want.Make writing.group kind.File writing.sites) → IsAnswered c t d (goes writing.before) (answer.Opened i writing.number) → WasMade t d writing.group i writing.number
+          over (inl q) z = subst (λ (w : Want). IsAnswered c t d w (answer.Opened i writing.number)) q z
+          over (inr q) z = absurd (subst (λ (w : Want). IsAnswered c t d w (answer.Opened i writing.number)) q z)
+
+      granted_so : WasGranted t e d was_made.request i mode.Make (record { group = writing.group; ino = writing.number }) was_made.stamp was_made.ss
+      granted_so = subst (λ (z : EpochId). WasGranted t z d was_made.request i mode.Make (record { group = writing.group; ino = writing.number }) was_made.stamp was_made.ss) (one_epoch t was_made.epoch e d was_made.inside inside) was_made.was_granted
+
+      written_made : MakesMessage t y.grant
+      written_made = record {
+        mode_is = (open_is c t h e d was_made.request i mode.Make (record { group = writing.group; ino = writing.number }) was_made.stamp was_made.ss y granted_so found).0;
+        caller = inside.accepted;
+        named = subst (λ (z : CallId). call_named (entries t) z ≡ Some inside.accepted) own inside.named;
+        mails = asks_now d inside.accepted (begins.Walks d) inside.named walks (want.Do i (op.Write at bytes)) asked;
+      }
+
+    -- what is written is of a descriptor, or a message that the call has made
+    pub written_plain : (at : ℕ) (bytes : List ℕ) → o ≡ op.Write at bytes → IsPlain c t y.grant.file ⊎ MakesMessage t y.grant
+    written_plain at bytes is = over (acter_is e i y found n d o may.in_time.owner asks)
+      where
+        over : ((d ≡ y.grant.call) × (begun (entries t) d ≡ Some (begins.Walks d))) ⊎ ((begun (entries t) d ≡ Some (begins.Uses e i)) × IsPlain c t y.grant.file) → IsPlain c t y.grant.file ⊎ MakesMessage t y.grant
+        over (inl k) = inr (written_made at bytes is k.0 k.1)
+        over (inr k) = inl k.1
 
   -- who inserts an entry has made what it names
   module _ (packs : PacksAreOfSites c) (e : EpochId) (d : CallId) (inside : IsCallIn (entries t) e d) (i : Serial) (name : List ℕ) (ino : ℕ) (k : Kind) (asks : Asks c t d (want.Do i (op.Insert name ino k))) (y : Instance) (found : instance_now c t e i ≡ Some y) where
@@ -249,7 +296,7 @@ module _ (c : Config) (t : List Line) (h : IsFollowed c t) (heard : (d : CallId)
     began_so = began t d inside.accepted inside.named
 
     abbrev b : Beginning
-    b = beginning began_so.table inside.accepted.epoch inside.accepted.words
+    b = beginning began_so.table inside.accepted.epoch d inside.accepted.words
 
     abbrev its : Script
     its = wants c.mounts (is_packed_in c (entries t) inside.accepted.epoch) None inside.accepted.words b
@@ -260,11 +307,11 @@ module _ (c : Config) (t : List Line) (h : IsFollowed c t) (heard : (d : CallId)
     m : Inserting inside.accepted.words its (log t d) ino k
     m = wants_inserting c.mounts (is_packed_in c (entries t) inside.accepted.epoch) None inside.accepted.words b i name ino k (log t d) (sym (by_words (log t d)) ∙ asks.asked)
 
-    taken : Along (IsAnswered c t d) its (m.before ++ answer.Opened m.made ino ∷ answer.Ended m.stamp ∷ [])
+    taken : Along (IsAnswered c t d) its (m.before ++ answer.Opened m.made ino ∷ (m.wrote ++ answer.Ended m.stamp ∷ []))
     taken = subst (Along (IsAnswered c t d) its) m.answers_are (along_same (IsAnswered c t d) (script c (entries t) d None) its by_words (log t d) (heard d (inside.accepted, inside.named)).taken)
 
     made : WasMade t d m.group m.made ino
-    made = over m.makes (along_at (IsAnswered c t d) its m.before (answer.Opened m.made ino) (answer.Ended m.stamp ∷ []) taken)
+    made = over m.makes (along_at (IsAnswered c t d) its m.before (answer.Opened m.made ino) (m.wrote ++ answer.Ended m.stamp ∷ []) taken)
       where
         over : IsOr (its m.before) (want.Make m.group k m.sites) → IsAnswered c t d (its m.before) (answer.Opened m.made ino) → WasMade t d m.group m.made ino
         over (inl q) z = subst (λ (w : Want). IsAnswered c t d w (answer.Opened m.made ino)) q z
@@ -272,7 +319,7 @@ module _ (c : Config) (t : List Line) (h : IsFollowed c t) (heard : (d : CallId)
 
     ended : WasEnded t d m.made
     ended = subst (λ (w : Want). IsAnswered c t d w (answer.Ended m.stamp)) m.closes
-        (along_at (IsAnswered c t d) its (m.before ++ answer.Opened m.made ino ∷ []) (answer.Ended m.stamp) [] (subst (Along (IsAnswered c t d) its) (sym (append_assoc m.before (answer.Opened m.made ino ∷ []) (answer.Ended m.stamp ∷ []))) taken))
+        (along_at (IsAnswered c t d) its (m.before ++ answer.Opened m.made ino ∷ m.wrote) (answer.Ended m.stamp) [] (subst (Along (IsAnswered c t d) its) (sym (append_assoc m.before (answer.Opened m.made ino ∷ m.wrote) (answer.Ended m.stamp ∷ []))) taken))
 
     group_is : y.grant.file.group ≡ m.group
     group_is = opens_group m.group y.grant.mode y.grant.file p.asked p.fits.0 (subst (OpensIn m.group) (sym (by_words p.before) ∙ p.script_is) (along_at (λ w a. OpensIn m.group w) its p.before p.given p.after (subst (Along (λ w a. OpensIn m.group w) its) p.log_is m.in_group)))

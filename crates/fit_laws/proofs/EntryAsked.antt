@@ -20,10 +20,10 @@ use Rattle.trace_book.specs.declared.operation.What.TheVariants as what
 use Rattle.trace_book.specs.declared.reply.Reply.{Reply}
 use Rattle.trace_book.specs.declared.reply.Reply.TheVariants as reply
 use Rattle.call_rules.specs.Closing.{Unchanged, close_all, closes, gives, give_up}
-use Rattle.call_rules.specs.Making.{after_insert, after_make, after_probe, opens_dir, probes}
+use Rattle.call_rules.specs.Making.{after_insert, after_make, fills, after_probe, opens_dir, probes}
 use Rattle.call_rules.specs.Mending.{after_mend, brings, mend_wants}
 use Rattle.call_rules.specs.Naming.{renames}
-use Rattle.call_rules.specs.Opening.{close_wants, describes, lists, op_wants, uses_wants}
+use Rattle.call_rules.specs.Opening.{close_wants, describes, lists, op_wants, uses_wants, Shows}
 use Rattle.call_rules.specs.Removing.{by_kind, empties, finds, opens_target, removes}
 use Rattle.call_rules.specs.declared.answer.Answer.{Answer}
 use Rattle.call_rules.specs.declared.answer.Answer.TheVariants as answer
@@ -80,7 +80,7 @@ module _ (P : Want → Type 0) (is : Parts P) where
   pub give_up_one : (p : Serial) (why : Refusal) (xs : List Answer) → P (give_up (Unchanged p ∷ []) why xs)
   give_up_one p why xs = closes_so p (gives (reply.No why)) (gives_so (reply.No why)) xs
 
-  give_up_two : (p t : Serial) (why : Refusal) (xs : List Answer) → P (give_up (Unchanged p ∷ Unchanged t ∷ []) why xs)
+  pub give_up_two : (p t : Serial) (why : Refusal) (xs : List Answer) → P (give_up (Unchanged p ∷ Unchanged t ∷ []) why xs)
   give_up_two p t why xs = closes_so p (give_up (Unchanged t ∷ []) why) (give_up_one t why) xs
 
   refused_so : (is_open : List Serial) (r : Reply) (i : Serial) (why : Refusal) (xs : List Answer) → P (close_all (i ∷ is_open) r (answer.Refused why ∷ xs))
@@ -106,30 +106,42 @@ module _ (P : Want → Type 0) (is : Parts P) where
 
   -- ---- create and mkdir ----
 
+  -- what a new file begins with is written at once
+  abbrev pub WritesSo : List ℕ → Type 0
+  WritesSo [] = Unit {0}
+  WritesSo (b ∷ bs) = (i : Serial) → P (want.Do i (op.Write 0 (b ∷ bs)))
+
   module _ (inserts : (i : Serial) (name : List ℕ) (ino : ℕ) (k : Kind) → P (want.Do i (op.Insert name ino k))) where
-    after_insert_so : (p : Serial) (name : List ℕ) (k : Kind) (ino : ℕ) (xs : List Answer) → P (after_insert p name k ino xs)
-    after_insert_so p name k ino [] = inserts p name ino k
-    after_insert_so p name k ino (answer.Did o ∷ rest) = close_all_so (p ∷ []) (reply.Made ino) rest
-    after_insert_so p name k ino (answer.Refused why ∷ rest) = give_up_one p why rest
-    after_insert_so p name k ino (_ ∷ rest) = is.never
+    after_insert_so : (p : Serial) (name : List ℕ) (k : Kind) (ino : ℕ) (told : Reply) (xs : List Answer) → P (after_insert p name k ino told xs)
+    after_insert_so p name k ino told [] = inserts p name ino k
+    after_insert_so p name k ino told (answer.Did o ∷ rest) = close_all_so (p ∷ []) told rest
+    after_insert_so p name k ino told (answer.Refused why ∷ rest) = give_up_one p why rest
+    after_insert_so p name k ino told (_ ∷ rest) = is.never
 
-    after_make_so : (p : Serial) (name : List ℕ) (k : Kind) (made : Serial) (ino : ℕ) (xs : List Answer) → P (after_make p name k made ino xs)
-    after_make_so p name k made ino [] = is.closes made
-    after_make_so p name k made ino (answer.Ended stamp ∷ rest) = after_insert_so p name k ino rest
-    after_make_so p name k made ino (answer.Refused why ∷ rest) = give_up_one p why rest
-    after_make_so p name k made ino (_ ∷ rest) = is.never
+    after_make_so : (p : Serial) (name : List ℕ) (k : Kind) (made : Serial) (ino : ℕ) (told : Reply) (xs : List Answer) → P (after_make p name k made ino told xs)
+    after_make_so p name k made ino told [] = is.closes made
+    after_make_so p name k made ino told (answer.Ended stamp ∷ rest) = after_insert_so p name k ino told rest
+    after_make_so p name k made ino told (answer.Refused why ∷ rest) = give_up_one p why rest
+    after_make_so p name k made ino told (_ ∷ rest) = is.never
 
-    after_probe_so : (p : Serial) (group : ℕ) (name : List ℕ) (k : Kind) (sites : Option Sites) (xs : List Answer) → P (after_probe p group name k sites xs)
-    after_probe_so p group name k sites [] = is.makes group k sites
-    after_probe_so p group name k sites (answer.Opened made ino ∷ rest) = after_make_so p name k made ino rest
-    after_probe_so p group name k sites (answer.Refused why ∷ rest) = give_up_one p why rest
-    after_probe_so p group name k sites (_ ∷ rest) = is.never
+    fills_so : (p : Serial) (name : List ℕ) (k : Kind) (bytes : List ℕ) (made : Serial) (ino : ℕ) (told : Reply) → WritesSo bytes → (xs : List Answer) → P (fills p name k bytes made ino told xs)
+    fills_so p name k [] made ino told writes xs = after_make_so p name k made ino told xs
+    fills_so p name k (b ∷ bs) made ino told writes [] = writes made
+    fills_so p name k (b ∷ bs) made ino told writes (answer.Did o ∷ rest) = after_make_so p name k made ino told rest
+    fills_so p name k (b ∷ bs) made ino told writes (answer.Refused why ∷ rest) = give_up_two made p why rest
+    fills_so p name k (b ∷ bs) made ino told writes (_ ∷ rest) = is.never
 
-    pub probes_so : (p : Serial) (group : ℕ) (name : List ℕ) (k : Kind) (sites : Option Sites) (xs : List Answer) → P (probes p group name k sites xs)
-    probes_so p group name k sites [] = is.does p (op.Probe name) tt
-    probes_so p group name k sites (answer.Did o ∷ rest) = after_probe_so p group name k sites rest
-    probes_so p group name k sites (answer.Refused why ∷ rest) = give_up_one p why rest
-    probes_so p group name k sites (_ ∷ rest) = is.never
+    after_probe_so : (p : Serial) (group : ℕ) (name : List ℕ) (k : Kind) (sites : Option Sites) (bytes : List ℕ) (tells : ℕ → Reply) → WritesSo bytes → (xs : List Answer) → P (after_probe p group name k sites bytes tells xs)
+    after_probe_so p group name k sites bytes tells writes [] = is.makes group k sites
+    after_probe_so p group name k sites bytes tells writes (answer.Opened made ino ∷ rest) = fills_so p name k bytes made ino (tells ino) writes rest
+    after_probe_so p group name k sites bytes tells writes (answer.Refused why ∷ rest) = give_up_one p why rest
+    after_probe_so p group name k sites bytes tells writes (_ ∷ rest) = is.never
+
+    pub probes_so : (p : Serial) (group : ℕ) (name : List ℕ) (k : Kind) (sites : Option Sites) (bytes : List ℕ) (tells : ℕ → Reply) → WritesSo bytes → (xs : List Answer) → P (probes p group name k sites bytes tells xs)
+    probes_so p group name k sites bytes tells writes [] = is.does p (op.Probe name) tt
+    probes_so p group name k sites bytes tells writes (answer.Did o ∷ rest) = after_probe_so p group name k sites bytes tells writes rest
+    probes_so p group name k sites bytes tells writes (answer.Refused why ∷ rest) = give_up_one p why rest
+    probes_so p group name k sites bytes tells writes (_ ∷ rest) = is.never
 
   -- ---- unlink, rmdir and rename ----
 
@@ -197,12 +209,12 @@ module _ (P : Want → Type 0) (is : Parts P) where
   mend_so f (answer.Refused why ∷ []) = is.gives _
   mend_so f (_ ∷ rest) = is.never
 
-  pub lists_so : (mounts : List Mount) (reached : List ℕ) (f : FileId) (k : Kind) (xs : List Answer) → P (lists mounts reached f k xs)
-  lists_so mounts reached f kind.File xs = is.gives _
-  lists_so mounts reached f kind.Dir [] = is.looks f what.List tt
-  lists_so mounts reached f kind.Dir (answer.Showed names ∷ []) = is.gives _
-  lists_so mounts reached f kind.Dir (answer.Refused why ∷ []) = is.gives _
-  lists_so mounts reached f kind.Dir (_ ∷ rest) = is.never
+  pub lists_so : (shows : Shows) (reached : List ℕ) (f : FileId) (k : Kind) (xs : List Answer) → P (lists shows reached f k xs)
+  lists_so shows reached f kind.File xs = is.gives _
+  lists_so shows reached f kind.Dir [] = is.looks f what.List tt
+  lists_so shows reached f kind.Dir (answer.Showed names ∷ []) = is.gives _
+  lists_so shows reached f kind.Dir (answer.Refused why ∷ []) = is.gives _
+  lists_so shows reached f kind.Dir (_ ∷ rest) = is.never
 
   pub describes_so : (f : FileId) (k : Kind) (xs : List Answer) → P (describes f k xs)
   describes_so f k [] = is.looks f what.Stat tt

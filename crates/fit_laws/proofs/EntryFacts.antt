@@ -1,6 +1,8 @@
 -- What stands of files, contents and answers stays when a line is told.
-use Rattle.std.proofs.Common.{◌≡◌, ℕ, List, ◌∷◌, Option, refl, sym, ◌∙◌, ◌⊎◌, inl, inr}
+use Rattle.std.proofs.Common.{◌≡◌, ℕ, ◌==◌, Bool, true, false, cond, List, ◌∷◌, Option, None, Some, refl, sym, ◌∙◌, ap, ◌⊎◌, inl, inr}
 use Rattle.std.specs.List.{AllByRecursion}
+use Rattle.std.specs.Option.{option_map}
+use Rattle.role_steps.proofs.of_plain_facts.Numbers.{equal}
 use Rattle.locus_ids.specs.declared.config.Config.{Config}
 use Rattle.locus_ids.specs.declared.ids.CallId.{CallId}
 use Rattle.locus_ids.specs.declared.ids.EpochId.{EpochId}
@@ -10,6 +12,8 @@ use Rattle.locus_ids.specs.declared.ids.Kind.TheVariants as kind
 use Rattle.locus_ids.specs.declared.ids.Mode.TheVariants as mode
 use Rattle.locus_ids.specs.declared.ids.Serial.{Serial}
 use Rattle.locus_ids.specs.declared.ids.Stamp.{Stamp}
+use Rattle.trace_book.specs.declared.call.Call.{Call}
+use Rattle.trace_book.specs.declared.call.Call.TheVariants as call
 use Rattle.trace_book.specs.declared.operation.What.{What}
 use Rattle.trace_book.specs.declared.operation.What.TheVariants as what
 use Rattle.trace_book.specs.declared.reply.Reply.{Reply}
@@ -22,7 +26,11 @@ use Rattle.call_rules.specs.declared.want.Want.{Want}
 use Rattle.call_rules.specs.declared.want.Want.TheVariants as want
 use Rattle.role_steps.specs.Views.{Told}
 use Rattle.the_run.specs.Worlds.{Line}
-use Rattle.tree_model.specs.Files.{kind_of_file}
+use Rattle.tree_model.specs.declared.accepted.Waiting.{Waiting}
+use Rattle.tree_model.specs.declared.instance.Granted.{Granted}
+use Rattle.tree_model.specs.declared.instance.Instance.{Instance}
+use Rattle.tree_model.specs.Files.{first_call, kind_made, kind_of_file, words_named}
+use Rattle.tree_model.specs.Opening.{is_given_by}
 use Rattle.lawful_trace.specs.TreeRows.{IsCallIn}
 use Rattle.tree_laws.specs.Following.{IsFollowed, MayTell}
 use Rattle.tree_laws.specs.Instances.{Stands}
@@ -30,9 +38,11 @@ use Rattle.tree_laws.specs.Past.{WasGranted, WasReleased}
 use Rattle.tree_laws.specs.Printed.{entries}
 use Rattle.tree_laws.proofs.Histories.{stands_more}
 use Rattle.tree_laws.proofs.Origins.{kind_same}
+use Rattle.tree_laws.proofs.Scripts as scripts
 use Rattle.tree_laws.proofs.Scripts.{in_stays}
 use Rattle.order_laws.proofs.Lists.{all_then}
-use Rattle.fit_laws.specs.EntryEntries.{EntriesName, IsEntered, NamesFile}
+use Rattle.rest_laws.proofs.of_holding_laws.OneVersionHomes.{no_root}
+use Rattle.fit_laws.specs.EntryEntries.{EntriesName, IsEntered, IsMail, MakesMessage, NamesFile}
 
 abbrev pub With : ℕ → Told → List Line → List Line
 With n x older = record { number = n; told = x } ∷ older
@@ -49,6 +59,27 @@ pub record IsPlain (c : Config) (t : List Line) (f : FileId) : Type 0 where
 abbrev pub IsSound : Config → List Line → FileId → List ℕ → Type 0
 IsSound c t f content = IsPlain c t f ⊎ EntriesName c t f.group content
 
+-- the content of an open instance is sound, or of a message that is being made and may have been written
+abbrev pub SoundAt : Config → List Line → Instance → Type 0
+SoundAt c t x = IsSound c t x.grant.file x.work.content ⊎ MakesMessage t x.grant
+
+-- a mail makes no directory
+pub mail_kind : (words : Call) → IsMail words → kind_made (Some words) ≡ kind.File
+mail_kind (call.Mail path bytes) k = refl
+mail_kind _ k = absurd k
+
+-- nor is a message a root, or of another kind than its call makes, where nobody else was the first to commit it
+pub message_kind : (c : Config) (t : List Line) (g : Granted) → is_given_by g.ss g.file.ino ≡ true → MakesMessage t g → (first_call c (entries t) g.file ≡ None) ⊎ (first_call c (entries t) g.file ≡ Some g.call) → kind_of_file c (entries t) g.file ≡ kind.File
+message_kind c t g given m who = ap (λ (b : Bool). cond b kind.Dir (kind_made (words_named (entries t) (first_call c (entries t) g.file)))) (not_root (g.file.ino == 1) refl) ∙ over who
+  where
+    not_root : (b : Bool) → (g.file.ino == 1) ≡ b → (g.file.ino == 1) ≡ false
+    not_root false k = k
+    not_root true k = absurd (no_root g.ss g.file.ino given (equal g.file.ino 1 k))
+
+    over : (first_call c (entries t) g.file ≡ None) ⊎ (first_call c (entries t) g.file ≡ Some g.call) → kind_made (words_named (entries t) (first_call c (entries t) g.file)) ≡ kind.File
+    over (inl q) = ap (λ (o : Option CallId). kind_made (words_named (entries t) o)) q
+    over (inr q) = ap (λ (o : Option CallId). kind_made (words_named (entries t) o)) q ∙ (ap (λ (o : Option Waiting). kind_made (option_map (λ (v : Waiting). v.words) o)) m.named ∙ mail_kind m.caller.words m.mails)
+
 -- the file is known to be of this kind
 abbrev pub IsKnown : Config → List Line → FileId → Kind → Type 0
 IsKnown c t f kind.Dir = kind_of_file c (entries t) f ≡ kind.Dir
@@ -61,7 +92,7 @@ named_known c t group ino kind.File n = record { stamp = n.stamp; stands = n.sta
 pub roots_known : (c : Config) (t : List Line) (g : ℕ) → IsKnown c t (root_of g) kind.Dir
 roots_known c t g = refl
 
-dir_file : (k : Kind) → k ≡ kind.Dir → k ≡ kind.File → ⊥
+pub dir_file : (k : Kind) → k ≡ kind.Dir → k ≡ kind.File → ⊥
 dir_file k a b = over (sym a ∙ b)
   where
     over : kind.Dir ≡ kind.File → ⊥
@@ -129,6 +160,13 @@ module _ (c : Config) (n : ℕ) (x : Told) (older : List Line) (h : IsFollowed c
   pub sound_stays : (f : FileId) (content : List ℕ) → IsSound c older f content → IsSound c (With n x older) f content
   sound_stays f content (inl p) = inl (plain_stays f p)
   sound_stays f content (inr m) = inr (all_then (λ (d : Entry). IsEntered c older f.group d.ino d.kind) (λ (d : Entry). IsEntered c (With n x older) f.group d.ino d.kind) (λ d k. entered_stays f.group d.ino d.kind k) (entries_of content) m)
+
+  pub makes_stay : (g : Granted) → MakesMessage older g → MakesMessage (With n x older) g
+  makes_stay g m = record { mode_is = m.mode_is; caller = m.caller; named = scripts.named_stays c n x older g.call h may (m.caller, m.named) ∙ m.named; mails = m.mails }
+
+  pub sound_at_stays : (y : Instance) → SoundAt c older y → SoundAt c (With n x older) y
+  sound_at_stays y (inl k) = inl (sound_stays y.grant.file y.work.content k)
+  sound_at_stays y (inr m) = inr (makes_stay y.grant m)
 
   look_stays : (f : FileId) (w : What) (a : Answer) → LookAnswered c older f w a → LookAnswered c (With n x older) f w a
   look_stays f (what.Name component) (answer.Entered ino k) q = named_stays f.group ino k q

@@ -50,14 +50,14 @@ use Rattle.role_steps.specs.Own.{Every}
 use Rattle.role_steps.specs.Requests.{opening_of}
 use Rattle.role_steps.specs.Views.{Told, Shown}
 use Rattle.the_run.specs.Worlds.{Line}
-use Rattle.tree_model.specs.declared.accepted.Waiting.{Waiting}
 use Rattle.tree_model.specs.declared.instance.Instance.{Instance}
 use Rattle.tree_model.specs.Calls.{call_named}
-use Rattle.tree_model.specs.Files.{kind_of_file}
+use Rattle.tree_model.specs.Files.{first_call, kind_of_file}
 use Rattle.tree_model.specs.Folds.{Trace}
 use Rattle.tree_model.specs.Histories.{format_version, format_versions, history, history_after, stamped_content}
 use Rattle.tree_model.specs.Lists.{change_first}
 use Rattle.tree_model.specs.Mending.{joined_all, joined_content, kept_vectors}
+use Rattle.tree_model.specs.Opening.{is_given_by}
 use Rattle.tree_model.specs.State.{TreeState, instance_in, is_granted_here, is_inside, is_make, is_named, is_writer, kept_of}
 use Rattle.tree_model.specs.Tree.{acted, grant_of, granted, joined, kept_in, left, next, once_acted, once_committed, opened, released, tree_of, without_make}
 use Rattle.tree_model.specs.Working.{are_several, deed_of, effect_of, effect_on, is_target, operated_by, sees, work_after}
@@ -81,15 +81,17 @@ use Rattle.tree_laws.proofs.Scripts.{in_stays}
 use Rattle.order_laws.specs.Joining.{PacksAreOfSites}
 use Rattle.order_laws.proofs.Keeping.{file_eq}
 use Rattle.order_laws.proofs.Lists.{all_filtered, all_more, all_then, all_without}
-use Rattle.order_laws.proofs.Standing.{same_file_eq}
+use Rattle.order_laws.proofs.Standing.{newest, same_file_eq}
 use Rattle.rest_laws.proofs.of_holding_laws.Distinct.{open_now}
+use Rattle.rest_laws.proofs.of_holding_laws.Made.{filter_one}
+use Rattle.rest_laws.proofs.of_holding_laws.OneVersionFirsts.{MakesFirst, commit_called, makes_first}
 use Rattle.rest_laws.proofs.of_holding_laws.Turning.{all_passing}
 use Rattle.rest_laws.proofs.of_store_laws.AnswerAnswering.{acter_in, releaser_in}
 use Rattle.rest_laws.proofs.of_store_laws.ScriptFitted.{Began, began}
-use Rattle.fit_laws.specs.EntryEntries.{EntriesName, IsEntered, NamesFile}
-use Rattle.fit_laws.proofs.EntryActing.{asks_now, changed_plain, inserted_named}
+use Rattle.fit_laws.specs.EntryEntries.{EntriesName, IsEntered, MakesMessage, NamesFile}
+use Rattle.fit_laws.proofs.EntryActing.{asks_now, changed_plain, inserted_named, written_plain}
 use Rattle.fit_laws.proofs.EntryContents.{AllNamed, ContentNames, MayDo, agree, content_dir, effect_named, joined_two, rescued_written}
-use Rattle.fit_laws.proofs.EntryFacts.{IsAnswered, IsKnown, IsPlain, IsSound, LookAnswered, MakeAnswered, WasEnded, With, dir_sound, named_stays, plain_stays, sound_stays}
+use Rattle.fit_laws.proofs.EntryFacts.{IsAnswered, IsKnown, IsPlain, IsSound, LookAnswered, MakeAnswered, SoundAt, WasEnded, With, dir_sound, makes_stay, message_kind, named_stays, plain_stays, sound_at_stays, sound_stays}
 use Rattle.fit_laws.proofs.EntryHeard.{Heard, told_heard}
 use Rattle.fit_laws.proofs.EntryWalking.{AsksBy, WalkerAsks}
 
@@ -98,7 +100,7 @@ use Rattle.fit_laws.proofs.EntryWalking.{AsksBy, WalkerAsks}
 -- of each version and each open instance the content is one of a file, or names files that stand; and so do the answers of calls
 pub record AllNamedSo (c : Config) (t : List Line) : Type 0 where
   pub versions : (f : FileId) (s : Stamp) → IsSound c t f (content_of (history c (entries t)) f s)
-  pub instances : (e : EpochId) (g : ℕ) → AllByRecursion (λ (x : Instance). IsSound c t x.grant.file x.work.content) (tree_of c e g (entries t)).instances
+  pub instances : (e : EpochId) (g : ℕ) → AllByRecursion (SoundAt c t) (tree_of c e g (entries t)).instances
   pub calls : (d : CallId) → IsNamed (entries t) d → Heard c t d
 
 -- ---- mends ----
@@ -208,6 +210,12 @@ module _ (c : Config) (t : List Line) (h : List Version) (versions : (f : FileId
     after_sound (op.Write at bytes) result right k = acts_sound (op.Write at bytes) result right k
     after_sound (op.Cut len) result right k = acts_sound (op.Cut len) result right k
 
+    -- and what is being made may be written
+    after_so : (o : Op) (result : Outcome) → ActsRightly c t x.grant.file o ⊎ MakesMessage t x.grant → SoundAt c t x → SoundAt c t (record x { work = work_after h u o result x })
+    after_so o result (inl right) (inl k) = inl (after_sound o result right k)
+    after_so o result (inl right) (inr m) = inr m
+    after_so o result (inr m) k = inr m
+
 -- ---- one record ----
 
 -- what a component finds is named by an entry
@@ -239,13 +247,13 @@ module _ (c : Config) (packs : PacksAreOfSites c) (older : List Line) (followed 
   past = history c before
 
   abbrev Old : Instance → Type 0
-  Old x = IsSound c older x.grant.file x.work.content
+  Old x = SoundAt c older x
 
   abbrev New : Record → Instance → Type 0
-  New r x = IsSound c (With n (Shown r) older) x.grant.file x.work.content
+  New r x = SoundAt c (With n (Shown r) older) x
 
   later : (r : Record) → MayTell c older (Shown r) → (x : Instance) → Old x → New r x
-  later r may x k = sound_stays c n (Shown r) older followed may x.grant.file x.work.content k
+  later r may x k = sound_at_stays c n (Shown r) older followed may x k
 
   -- ---- versions ----
 
@@ -256,7 +264,7 @@ module _ (c : Config) (packs : PacksAreOfSites c) (older : List Line) (followed 
     abbrev r : Record
     r = says.Commit f z stamp parents content
 
-    row : MayCommit c before f z stamp parents content
+    abbrev row : MayCommit c before f z stamp parents content
     row = may.row
 
     its : Old row.instance
@@ -268,8 +276,27 @@ module _ (c : Config) (packs : PacksAreOfSites c) (older : List Line) (followed 
     file_is : row.instance.grant.file ≡ f
     file_is = same_file_eq row.instance.grant.file f (and_first (same_file row.instance.grant.file f) _ writes)
 
+    -- a message stands from its first commit on, and is no directory
+    pub made_plain : MakesMessage older row.instance.grant → IsPlain c (With n (Shown r) older) f
+    made_plain m = record {
+      stamp = stamp;
+      stands = newest (record { file = f; site = z; stamp = stamp; parents = parents; content = content }) past f stamp refl refl;
+      kind_is = subst (λ (g : FileId). kind_of_file c (entries (With n (Shown r) older)) g ≡ kind.File) file_is
+          (message_kind c (With n (Shown r) older) row.instance.grant given (makes_stay c n (Shown r) older followed may row.instance.grant m) (inr (subst (λ (g : FileId). first_call c (entries (With n (Shown r) older)) g ≡ Some row.instance.grant.call) (sym file_is) called)));
+    }
+      where
+        called : first_call c (entries (With n (Shown r) older)) f ≡ Some row.instance.grant.call
+        called = commit_called c packs older n followed f z stamp parents content row m.mode_is
+
+        given : is_given_by row.instance.grant.ss row.instance.grant.file.ino ≡ true
+        given = (filter_one (MakesFirst c before row.epoch) (is_writing f) (tree_of c row.epoch f.group before).instances row.instance row.one (makes_first c older packs followed row.epoch f.group) m.mode_is).0
+
     made_sound : IsSound c (With n (Shown r) older) f content
-    made_sound = sound_stays c n (Shown r) older followed may f content (subst (λ (xs : List ℕ). IsSound c older f xs) (sym row.same) (subst (λ (g : FileId). IsSound c older g row.instance.work.content) file_is its))
+    made_sound = over its
+      where
+        over : Old row.instance → IsSound c (With n (Shown r) older) f content
+        over (inl k) = sound_stays c n (Shown r) older followed may f content (subst (λ (xs : List ℕ). IsSound c older f xs) (sym row.same) (subst (λ (g : FileId). IsSound c older g row.instance.work.content) file_is k))
+        over (inr m) = inl (made_plain m)
 
     new_version : (g : FileId) (s : Stamp) → IsSound c (With n (Shown r) older) g (content_of (record { file = f; site = z; stamp = stamp; parents = parents; content = content } ∷ past) g s)
     new_version g s = over (is_version g s (record { file = f; site = z; stamp = stamp; parents = parents; content = content })) refl
@@ -296,20 +323,27 @@ module _ (c : Config) (packs : PacksAreOfSites c) (older : List Line) (followed 
     all_if r may false u same = stay r may
 
     -- the operation acts rightly on the instance that is named
-    rightly : (d : EpochId) (i : Serial) (k : ℕ) (o : Op) (result : Outcome) → MayTell c older (Shown (says.Act d i k o result)) → d ≡ e → (x : Instance) → instance_in t i ≡ Some x → ActsRightly c (With n (Shown (says.Act d i k o result)) older) x.grant.file o
-    rightly d i k (op.Insert name ino kd) result may same x found = record {
+    rightly : (d : EpochId) (i : Serial) (k : ℕ) (o : Op) (result : Outcome) → MayTell c older (Shown (says.Act d i k o result)) → d ≡ e → (x : Instance) → instance_in t i ≡ Some x → ActsRightly c (With n (Shown (says.Act d i k o result)) older) x.grant.file o ⊎ MakesMessage (With n (Shown (says.Act d i k o result)) older) x.grant
+    rightly d i k (op.Insert name ino kd) result may same x found = inl (record {
       file = named_stays c n (Shown r) older followed may x.grant.file.group ino kd (inserted_named c older followed so.calls packs d may.in_time.call (acter_in c older d i k (op.Insert name ino kd) result may) i name ino kd may.in_time.asks x now);
       inserted = inl (sym (found_every (InGroup (granted_group before d i)) (is_named i) (tree_of c d (granted_group before d i) before).instances x now (in_group c d (granted_group before d i) before)), refl);
-    }
+    })
       where
         r : Record
         r = says.Act d i k (op.Insert name ino kd) result
 
         now : instance_now c older d i ≡ Some x
         now = subst (λ (y : EpochId). instance_now c older y i ≡ Some x) (sym same) (open_now c older followed e g i x found)
-    rightly d i k (op.Write at bytes) result may same x found = plain_stays c n (Shown (says.Act d i k (op.Write at bytes) result)) older followed may x.grant.file (changed_plain c older followed so.calls d i k (op.Write at bytes) result may x (subst (λ (y : EpochId). instance_now c older y i ≡ Some x) (sym same) (open_now c older followed e g i x found)) (λ words z. z))
-    rightly d i k (op.Cut len) result may same x found = plain_stays c n (Shown (says.Act d i k (op.Cut len) result)) older followed may x.grant.file (changed_plain c older followed so.calls d i k (op.Cut len) result may x (subst (λ (y : EpochId). instance_now c older y i ≡ Some x) (sym same) (open_now c older followed e g i x found)) (λ words z. z))
-    rightly d i k _ result may same x found = tt
+    rightly d i k (op.Write at bytes) result may same x found = over (written_plain c older followed so.calls d i k (op.Write at bytes) result may x (subst (λ (y : EpochId). instance_now c older y i ≡ Some x) (sym same) (open_now c older followed e g i x found)) at bytes refl)
+      where
+        r : Record
+        r = says.Act d i k (op.Write at bytes) result
+
+        over : IsPlain c older x.grant.file ⊎ MakesMessage older x.grant → IsPlain c (With n (Shown r) older) x.grant.file ⊎ MakesMessage (With n (Shown r) older) x.grant
+        over (inl p) = inl (plain_stays c n (Shown r) older followed may x.grant.file p)
+        over (inr m) = inr (makes_stay c n (Shown r) older followed may x.grant m)
+    rightly d i k (op.Cut len) result may same x found = inl (plain_stays c n (Shown (says.Act d i k (op.Cut len) result)) older followed may x.grant.file (changed_plain c older followed so.calls d i k (op.Cut len) result may x (subst (λ (y : EpochId). instance_now c older y i ≡ Some x) (sym same) (open_now c older followed e g i x found)) (λ words z. z)))
+    rightly d i k _ result may same x found = inl tt
 
     -- where the one that is found becomes so, all become so
     all_first : (P Q : Instance → Type 0) (q : Instance → Bool) (change : Instance → Instance) → ((x : Instance) → P x → Q x) → (xs : List Instance) → ((x : Instance) → find q xs ≡ Some x → P x → Q (change x)) → AllByRecursion P xs → AllByRecursion Q (change_first q change xs)
@@ -322,7 +356,7 @@ module _ (c : Config) (packs : PacksAreOfSites c) (older : List Line) (followed 
 
     acts : (d : EpochId) (i : Serial) (k : ℕ) (o : Op) (result : Outcome) → MayTell c older (Shown (says.Act d i k o result)) → (b : Bool) → (same_epoch d t.epoch && is_granted_here t i) ≡ b → AllByRecursion (New (says.Act d i k o result)) (cond b (acted past i o result t) t).instances
     acts d i k o result may true q = all_first Old (New r) (is_named i) (once_acted past t o result) (λ x z. later r may x z) t.instances
-        (λ x found z. after_sound c (With n (Shown r) older) past (old_versions r may) t x o result (rightly d i k o result may same x found) (later r may x z)) (so.instances e g)
+        (λ x found z. after_so c (With n (Shown r) older) past (old_versions r may) t x o result (rightly d i k o result may same x found) (later r may x z)) (so.instances e g)
       where
         r : Record
         r = says.Act d i k o result
@@ -338,7 +372,7 @@ module _ (c : Config) (packs : PacksAreOfSites c) (older : List Line) (followed 
         r = says.Grant d call request i m f stamp ss
 
         over : (a b : Bool) → AllByRecursion (New r) (cond a (record t { grants = t.grants ++ grant_of t call i m f ss ∷ []; instances = cond b (t.instances ++ opened past (grant_of t call i m f ss) stamp ∷ []) t.instances }) t).instances
-        over true true = all_more (New r) t.instances (opened past (grant_of t call i m f ss) stamp) (stay r may) (sound_stays c n (Shown r) older followed may f (stamped_content past f stamp) (stamped f stamp))
+        over true true = all_more (New r) t.instances (opened past (grant_of t call i m f ss) stamp) (stay r may) (inl (sound_stays c n (Shown r) older followed may f (stamped_content past f stamp) (stamped f stamp)))
           where
             stamped : (f : FileId) (o : Option Stamp) → IsSound c older f (stamped_content past f o)
             stamped f None = inr tt
@@ -403,13 +437,13 @@ module _ (c : Config) (packs : PacksAreOfSites c) (older : List Line) (followed 
         started = began older call inside.accepted inside.named
 
         asked_by : (b : Beginning) → AsksBy (IsKnown c older) inside.accepted.words b (want.Look f (what.Name component)) → kind_of_file c before f ≡ kind.Dir
-        asked_by begins.Walks k = k
+        asked_by (begins.Walks id) k = k
         asked_by (begins.Uses at i) k = absurd k
         asked_by (begins.Denied why) k = absurd k
 
         -- a component is asked of a directory
         dir : kind_of_file c before f ≡ kind.Dir
-        dir = asked_by (beginning started.table inside.accepted.epoch inside.accepted.words) (asks_now c older followed so.calls call inside.accepted (beginning started.table inside.accepted.epoch inside.accepted.words) inside.named started.begun_is (want.Look f (what.Name component)) may.in_time.asks.asked)
+        dir = asked_by (beginning started.table inside.accepted.epoch call inside.accepted.words) (asks_now c older followed so.calls call inside.accepted (beginning started.table inside.accepted.epoch call inside.accepted.words) inside.named started.begun_is (want.Look f (what.Name component)) may.in_time.asks.asked)
 
         names : EntriesName c older f.group (content_of past f stamp)
         names = dir_sound c older f (content_of past f stamp) dir (so.versions f stamp)
@@ -504,9 +538,9 @@ module _ (c : Config) (packs : PacksAreOfSites c) (older : List Line) (followed 
       over (Shown r) m f s = next_versions r m f s
       over y m f s = sound_stays c n y older followed m f (content_of past f s) (so.versions f s)
 
-      trees : (y : Told) → MayTell c older y → (e : EpochId) (g : ℕ) → AllByRecursion (λ (z : Instance). IsSound c (With n y older) z.grant.file z.work.content) (tree_of c e g (onto_entries n y before)).instances
+      trees : (y : Told) → MayTell c older y → (e : EpochId) (g : ℕ) → AllByRecursion (SoundAt c (With n y older)) (tree_of c e g (onto_entries n y before)).instances
       trees (Shown r) m e g = next_instances e g r m
-      trees y m e g = all_then Old (λ (z : Instance). IsSound c (With n y older) z.grant.file z.work.content) (λ z k. sound_stays c n y older followed m z.grant.file z.work.content k) (tree_of c e g before).instances (so.instances e g)
+      trees y m e g = all_then Old (SoundAt c (With n y older)) (λ z k. sound_at_stays c n y older followed m z k) (tree_of c e g before).instances (so.instances e g)
 
 -- ---- all ----
 

@@ -1,5 +1,5 @@
 -- What open instances and versions of directories name, and who inserts an entry.
-use Rattle.std.proofs.Common.{◌≡◌, ◌≤◌, ℕ, List, Some}
+use Rattle.std.proofs.Common.{◌≡◌, ◌≤◌, ℕ, List, None, Some, ◌⊎◌, inl, inr}
 use Rattle.std.specs.List.{AllByRecursion}
 use Rattle.locus_ids.specs.declared.config.Config.{Config}
 use Rattle.locus_ids.specs.declared.ids.CallId.{CallId}
@@ -19,6 +19,7 @@ use Rattle.call_rules.specs.declared.want.Want.TheVariants as want
 use Rattle.the_run.specs.Worlds.{Line}
 use Rattle.tree_model.specs.declared.instance.Instance.{Instance}
 use Rattle.tree_model.specs.Files.{first_call, kind_of_file}
+use Rattle.tree_model.specs.Epochs.{epoch_of}
 use Rattle.tree_model.specs.Histories.{history}
 use Rattle.tree_model.specs.State.{is_named}
 use Rattle.tree_model.specs.Tree.{tree_of}
@@ -30,19 +31,34 @@ use Rattle.tree_laws.specs.Printed.{entries}
 use Rattle.tree_laws.proofs.Fresh.{IsNamed}
 use Rattle.order_laws.specs.Joining.{PacksAreOfSites}
 use Rattle.order_laws.proofs.Lists.{all_found, all_then}
-use Rattle.fit_laws.specs.EntryEntries.{EntriesName, NamesFile}
+use Rattle.rest_laws.proofs.of_holding_laws.OneVersionFirsts.{IsFirst, MakesFirst, makes_first, uncalled}
+use Rattle.fit_laws.specs.EntryEntries.{EntriesName, IsLeftMessage, MakesMessage, NamesFile}
 use Rattle.fit_laws.proofs.EntryActing.{inserted_first, inserted_named}
 use Rattle.fit_laws.proofs.EntryContents.{content_dir}
-use Rattle.fit_laws.proofs.EntryFacts.{IsSound, dir_sound}
+use Rattle.fit_laws.proofs.EntryFacts.{SoundAt, dir_file, dir_sound, message_kind}
 use Rattle.fit_laws.proofs.EntryHeard.{Heard}
 use Rattle.fit_laws.proofs.EntryNamed.{trace_named}
 
 pub versions_name : (c : Config) (trace : List Line) → PacksAreOfSites c → IsFollowed c trace → (f : FileId) (stamp : Stamp) → kind_of_file c (entries trace) f ≡ Dir → EntriesName c trace f.group (content_of (history c (entries trace)) f stamp)
 versions_name c trace packs h f stamp dir = dir_sound c trace f (content_of (history c (entries trace)) f stamp) dir ((trace_named c packs trace h).versions f stamp)
 
-pub instances_name : (c : Config) (trace : List Line) → PacksAreOfSites c → IsFollowed c trace → (e : EpochId) (i : Serial) (x : Instance) → instance_now c trace e i ≡ Some x → kind_of_file c (entries trace) x.grant.file ≡ Dir → EntriesName c trace x.grant.file.group x.work.content
-instances_name c trace packs h e i x found dir = dir_sound c trace x.grant.file x.work.content dir
-    (all_found (λ (y : Instance). IsSound c trace y.grant.file y.work.content) (is_named i) (tree_of c e (granted_group (entries trace) e i) (entries trace)).instances x ((trace_named c packs trace h).instances e (granted_group (entries trace) e i)) found)
+pub instances_name : (c : Config) (trace : List Line) → PacksAreOfSites c → IsFollowed c trace → (e : EpochId) (i : Serial) (x : Instance) → instance_now c trace e i ≡ Some x → kind_of_file c (entries trace) x.grant.file ≡ Dir → EntriesName c trace x.grant.file.group x.work.content ⊎ IsLeftMessage trace e x.grant
+instances_name c trace packs h e i x found dir = over (all_found (SoundAt c trace) (is_named i) (tree_of c e (granted_group (entries trace) e i) (entries trace)).instances x ((trace_named c packs trace h).instances e (granted_group (entries trace) e i)) found)
+  where
+    first : MakesFirst c (entries trace) e x
+    first = all_found (MakesFirst c (entries trace) e) (is_named i) (tree_of c e (granted_group (entries trace) e i) (entries trace)).instances x (makes_first c trace packs h e (granted_group (entries trace) e i)) found
+
+    -- while its storage site is in the epoch nobody else makes a file under a message's number
+    called : IsFirst c (entries trace) x.grant.file x.grant.call → (first_call c (entries trace) x.grant.file ≡ None) ⊎ (first_call c (entries trace) x.grant.file ≡ Some x.grant.call)
+    called (inl none) = inl (uncalled c (entries trace) x.grant.file none)
+    called (inr is) = inr is
+
+    no_dir : MakesMessage trace x.grant → epoch_of (entries trace) x.grant.ss ≡ Some e → ⊥
+    no_dir m inside = dir_file (kind_of_file c (entries trace) x.grant.file) dir (message_kind c trace x.grant (first m.mode_is).0 m (called ((first m.mode_is).1 inside)))
+
+    over : SoundAt c trace x → EntriesName c trace x.grant.file.group x.work.content ⊎ IsLeftMessage trace e x.grant
+    over (inl k) = inl (dir_sound c trace x.grant.file x.work.content dir k)
+    over (inr m) = inr (m, no_dir m)
 
 -- each entry of a content has the number of an inode
 pub entries_numbered : (content : List ℕ) → AllByRecursion (λ (d : Entry). (1 ≤ d.ino) × (d.ino ≤ inodes_max)) (entries_of content)

@@ -1,12 +1,14 @@
 -- What the script of a call asks, where its looks were answered rightly: a component is asked of a directory, a call that opens opens a
 -- file, and only a call on a descriptor writes or cuts.
 use Rattle.std.proofs.Common.{◌≡◌, ℕ, Bool, true, false, cond, List, [], ◌∷◌, Option, Some, None, refl, sym, ◌∙◌, ap, subst, inl, inr}
+use Rattle.locus_ids.specs.declared.ids.CallId.{CallId}
 use Rattle.locus_ids.specs.declared.config.Mount.{Mount}
 use Rattle.locus_ids.specs.declared.ids.FileId.{FileId}
 use Rattle.locus_ids.specs.declared.ids.Kind.{Kind}
 use Rattle.locus_ids.specs.declared.ids.Kind.TheVariants as kind
 use Rattle.locus_ids.specs.declared.ids.Serial.{Serial}
 use Rattle.locus_ids.specs.declared.refusal.Refusal.TheVariants as refusal
+use Rattle.trace_book.specs.Messages.{message_name}
 use Rattle.trace_book.specs.Names.{but_last, components, last_of}
 use Rattle.trace_book.specs.declared.call.Call.{Call}
 use Rattle.trace_book.specs.declared.call.Call.TheVariants as call
@@ -19,9 +21,10 @@ use Rattle.trace_book.specs.declared.operation.What.{What}
 use Rattle.trace_book.specs.declared.operation.What.TheVariants as what
 use Rattle.trace_book.specs.declared.reply.Reply.{Reply}
 use Rattle.trace_book.specs.declared.reply.Reply.TheVariants as reply
+use Rattle.call_rules.specs.Mailing.{tells_name, shown_messages}
 use Rattle.call_rules.specs.Making.{opens_dir, probes}
 use Rattle.call_rules.specs.Naming.{renames}
-use Rattle.call_rules.specs.Opening.{describes, lists, opens_file}
+use Rattle.call_rules.specs.Opening.{describes, lists, opens_file, shown_in}
 use Rattle.call_rules.specs.Removing.{finds}
 use Rattle.call_rules.specs.Scripts.{begun_wants, named_wants, path_wants, wants, where_packed}
 use Rattle.call_rules.specs.Walks.{mounted_in, passes, root_of, walk, walked}
@@ -32,7 +35,8 @@ use Rattle.call_rules.specs.declared.want.Want.{Want}
 use Rattle.call_rules.specs.declared.want.Want.TheVariants as want
 use Rattle.tree_laws.proofs.Holding.{Script}
 use Rattle.rest_laws.proofs.of_one_tree_laws.RemoveScripts.{Along, IsOr, along_same, goes, goes_walked, packed_is}
-use Rattle.fit_laws.proofs.EntryAsked.{IsOfDirs, IsOfFiles, IsWhole, Parts, describes_so, finds_so, lists_so, mend_so, opens_dir_so, probes_so, renames_so, uses_so}
+use Rattle.fit_laws.specs.EntryEntries.{IsMail}
+use Rattle.fit_laws.proofs.EntryAsked.{IsOfDirs, IsOfFiles, IsWhole, Parts, WritesSo, describes_so, finds_so, lists_so, mend_so, opens_dir_so, probes_so, renames_so, uses_so}
 
 -- ---- what is asked ----
 
@@ -52,7 +56,7 @@ WalkerAsks Known words (want.Look f (what.Name component)) = Known f kind.Dir
 WalkerAsks Known words (want.Open f m) = OpensKnown Known words f
 WalkerAsks Known words (want.OpenToMend f) = NotOpener words
 WalkerAsks Known words (want.Make group k sites) = NotOpener words
-WalkerAsks Known words (want.Do i (op.Write at bytes)) = ⊥
+WalkerAsks Known words (want.Do i (op.Write at bytes)) = IsMail words
 WalkerAsks Known words (want.Do i (op.Cut len)) = ⊥
 WalkerAsks Known words _ = Unit {0}
 
@@ -70,7 +74,7 @@ DeniedAsks (want.Give r) = Unit {0}
 DeniedAsks _ = ⊥
 
 abbrev pub AsksBy : (FileId → Kind → Type 0) → Call → Beginning → Want → Type 0
-AsksBy Known words begins.Walks w = WalkerAsks Known words w
+AsksBy Known words (begins.Walks id) w = WalkerAsks Known words w
 AsksBy Known words (begins.Uses e i) w = UserAsks w
 AsksBy Known words (begins.Denied why) w = DeniedAsks w
 
@@ -106,7 +110,7 @@ module _ (Q : Want → Answer → Type 0) (Known : FileId → Kind → Type 0) (
     looks_known f component k = k
 
     does_so : (i : Serial) (o : Op) → IsOfDirs o → P (want.Do i o)
-    does_so i (op.Write at bytes) k = k
+    does_so i (op.Write at bytes) k = absurd k
     does_so i (op.Cut len) k = k
     does_so i _ k = tt
 
@@ -138,48 +142,60 @@ module _ (Q : Want → Answer → Type 0) (Known : FileId → Kind → Type 0) (
   opens_file_so path m None f kind.File (_ ∷ rest) known = tt
   opens_file_so path m (Some fd) f kind.File (_ ∷ rest) known = tt
 
-  path_so : (mounts : List Mount) (free : Option ℕ) (words : Call) (xs : List Answer) → Along Q (path_wants mounts free words) xs → WalkerAsks Known words (path_wants mounts free words xs)
-  path_so mounts free (call.Create path sites) xs h = after_walk words mounts (but_last (components path)) _ (λ f k ys known. opens_dir_so (P words) (parts words (λ g. tt) tt) _ _ (λ p zs. probes_so (P words) (parts words (λ g. tt) tt) (λ i name ino kd. tt) p f.group _ kind.File sites zs) f k ys) xs h
+  path_so : (mounts : List Mount) (free : Option ℕ) (id : CallId) (words : Call) (xs : List Answer) → Along Q (path_wants mounts free id words) xs → WalkerAsks Known words (path_wants mounts free id words xs)
+  path_so mounts free id (call.Create path sites) xs h = after_walk words mounts (but_last (components path)) _ (λ f k ys known. opens_dir_so (P words) (parts words (λ g. tt) tt) _ _ (λ p zs. probes_so (P words) (parts words (λ g. tt) tt) (λ i name ino kd. tt) p f.group _ kind.File sites [] reply.Made tt zs) f k ys) xs h
     where
       words : Call
       words = call.Create path sites
-  path_so mounts free (call.MakeDir path) xs h = after_walk words mounts (but_last (components path)) _ (λ f k ys known. opens_dir_so (P words) (parts words (λ g. tt) tt) _ _ (λ p zs. probes_so (P words) (parts words (λ g. tt) tt) (λ i name ino kd. tt) p f.group _ kind.Dir None zs) f k ys) xs h
+  path_so mounts free id (call.MakeDir path) xs h = after_walk words mounts (but_last (components path)) _ (λ f k ys known. opens_dir_so (P words) (parts words (λ g. tt) tt) _ _ (λ p zs. probes_so (P words) (parts words (λ g. tt) tt) (λ i name ino kd. tt) p f.group _ kind.Dir None [] reply.Made tt zs) f k ys) xs h
     where
       words : Call
       words = call.MakeDir path
-  path_so mounts free (call.Unlink path) xs h = after_walk words mounts (but_last (components path)) _ (λ f k ys known. opens_dir_so (P words) (parts words (λ g. tt) tt) _ _ (λ p zs. finds_so (P words) (parts words (λ g. tt) tt) kind.File p f.group _ zs) f k ys) xs h
+  path_so mounts free id (call.Unlink path) xs h = after_walk words mounts (but_last (components path)) _ (λ f k ys known. opens_dir_so (P words) (parts words (λ g. tt) tt) _ _ (λ p zs. finds_so (P words) (parts words (λ g. tt) tt) kind.File p f.group _ zs) f k ys) xs h
     where
       words : Call
       words = call.Unlink path
-  path_so mounts free (call.RemoveDir path) xs h = after_walk words mounts (but_last (components path)) _ (λ f k ys known. opens_dir_so (P words) (parts words (λ g. tt) tt) _ _ (λ p zs. finds_so (P words) (parts words (λ g. tt) tt) kind.Dir p f.group _ zs) f k ys) xs h
+  path_so mounts free id (call.RemoveDir path) xs h = after_walk words mounts (but_last (components path)) _ (λ f k ys known. opens_dir_so (P words) (parts words (λ g. tt) tt) _ _ (λ p zs. finds_so (P words) (parts words (λ g. tt) tt) kind.Dir p f.group _ zs) f k ys) xs h
     where
       words : Call
       words = call.RemoveDir path
-  path_so mounts free (call.Rename path name) xs h = after_walk words mounts (but_last (components path)) _ (λ f k ys known. opens_dir_so (P words) (parts words (λ g. tt) tt) _ _ (λ p zs. renames_so (P words) (parts words (λ g. tt) tt) p _ name zs) f k ys) xs h
+  path_so mounts free id (call.Rename path name) xs h = after_walk words mounts (but_last (components path)) _ (λ f k ys known. opens_dir_so (P words) (parts words (λ g. tt) tt) _ _ (λ p zs. renames_so (P words) (parts words (λ g. tt) tt) p _ name zs) f k ys) xs h
     where
       words : Call
       words = call.Rename path name
-  path_so mounts free (call.List path) xs h = after_walk words mounts (components path) _ (λ f k ys known. lists_so (P words) (parts words (λ g. tt) tt) mounts _ f k ys) xs h
+  path_so mounts free id (call.List path) xs h = after_walk words mounts (components path) _ (λ f k ys known. lists_so (P words) (parts words (λ g. tt) tt) (shown_in mounts) _ f k ys) xs h
     where
       words : Call
       words = call.List path
-  path_so mounts free (call.Stat path) xs h = after_walk words mounts (components path) _ (λ f k ys known. describes_so (P words) (parts words (λ g. tt) tt) f k ys) xs h
+  path_so mounts free id (call.Stat path) xs h = after_walk words mounts (components path) _ (λ f k ys known. describes_so (P words) (parts words (λ g. tt) tt) f k ys) xs h
     where
       words : Call
       words = call.Stat path
-  path_so mounts free (call.Open path m) xs h = after_walk (call.Open path m) mounts (components path) _ (λ f k ys known. opens_file_so path m free f k ys known) xs h
-  path_so mounts free (call.Mend f) xs h = mend_so (P (call.Mend f)) (parts (call.Mend f) (λ g. tt) tt) f xs
-  path_so mounts free _ xs h = tt
+  path_so mounts free id (call.Mail path bytes) xs h = after_walk words mounts (components path) _ (λ f k ys known. opens_dir_so (P words) (parts words (λ g. tt) tt) _ _ (λ p zs. probes_so (P words) (parts words (λ g. tt) tt) (λ i name ino kd. tt) p f.group (message_name id) kind.File None bytes (tells_name (message_name id)) (mailed bytes) zs) f k ys) xs h
+    where
+      words : Call
+      words = call.Mail path bytes
+
+      mailed : (bs : List ℕ) → WritesSo (P words) (parts words (λ g. tt) tt) bs
+      mailed [] = tt
+      mailed (b ∷ bs) = λ i. tt
+  path_so mounts free id (call.Mails path) xs h = after_walk words mounts (components path) _ (λ f k ys known. lists_so (P words) (parts words (λ g. tt) tt) shown_messages _ f k ys) xs h
+    where
+      words : Call
+      words = call.Mails path
+  path_so mounts free id (call.Open path m) xs h = after_walk (call.Open path m) mounts (components path) _ (λ f k ys known. opens_file_so path m free f k ys known) xs h
+  path_so mounts free id (call.Mend f) xs h = mend_so (P (call.Mend f)) (parts (call.Mend f) (λ g. tt) tt) f xs
+  path_so mounts free id _ xs h = tt
 
   -- ---- any call ----
 
   begun_so : (mounts : List Mount) (free : Option ℕ) (words : Call) (b : Beginning) (xs : List Answer) → Along Q (begun_wants mounts free words b) xs → AsksBy Known words b (begun_wants mounts free words b xs)
-  begun_so mounts free words begins.Walks xs h = path_so mounts free words xs h
+  begun_so mounts free words (begins.Walks id) xs h = path_so mounts free id words xs h
   begun_so mounts free words (begins.Denied why) xs h = tt
   begun_so mounts free words (begins.Uses e i) xs h = uses_so UserAsks (record { gives = λ r. tt; never = tt; closes = λ j. tt }) (λ j o k. k) words i xs
 
   given_so : (words : Call) (b : Beginning) (r : Reply) → AsksBy Known words b (want.Give r)
-  given_so words begins.Walks r = tt
+  given_so words (begins.Walks id) r = tt
   given_so words (begins.Denied why) r = tt
   given_so words (begins.Uses e i) r = tt
 

@@ -2,6 +2,7 @@ pub mod EntryContents
 pub mod EntryAsked
 pub mod EntryWalking
 pub mod EntryInserting
+pub mod EntryWriting
 pub mod EntryFacts
 pub mod EntryHeard
 pub mod EntryMade

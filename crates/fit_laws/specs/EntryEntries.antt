@@ -1,15 +1,23 @@
 -- What the entries of directories name.
-use Rattle.std.specs.Prelude.{ℕ, ◌≡◌, List}
+use Rattle.std.specs.Prelude.{ℕ, ◌≡◌, List, Some}
 use Rattle.std.specs.List.{AllByRecursion}
 use Rattle.locus_ids.specs.declared.config.Config.{Config}
+use Rattle.locus_ids.specs.declared.ids.EpochId.{EpochId}
 use Rattle.locus_ids.specs.declared.ids.Kind.{Kind}
+use Rattle.locus_ids.specs.declared.ids.Mode.TheVariants as mode
 use Rattle.locus_ids.specs.declared.ids.Stamp.{Stamp}
+use Rattle.trace_book.specs.declared.call.Call.{Call}
+use Rattle.trace_book.specs.declared.call.Call.TheVariants as call
 use Rattle.trace_book.specs.declared.operation.Op.TheVariants as op
 use Rattle.trace_book.specs.declared.record.Record.{Record}
 use Rattle.trace_book.specs.declared.record.Record.TheVariants as says
 use Rattle.dir_format.specs.declared.entry.Entry.{Entry}
 use Rattle.dir_format.specs.Contents.{entries_of}
 use Rattle.the_run.specs.Worlds.{Line}
+use Rattle.tree_model.specs.declared.accepted.Waiting.{Waiting}
+use Rattle.tree_model.specs.declared.instance.Granted.{Granted}
+use Rattle.tree_model.specs.Calls.{call_named}
+use Rattle.tree_model.specs.Epochs.{epoch_of}
 use Rattle.tree_model.specs.Files.{kind_of_file}
 use Rattle.lawful_trace.specs.TreeRows.{granted_group}
 use Rattle.tree_laws.specs.Instances.{Stands}
@@ -39,3 +47,20 @@ pub record IsEntered (c : Config) (trace : List Line) (group ino : ℕ) (kind : 
 -- so it is of each entry of the content of a directory of the group
 abbrev pub EntriesName : Config → List Line → ℕ → List ℕ → Type 0
 EntriesName c trace group content = AllByRecursion (λ (d : Entry). IsEntered c trace group d.ino d.kind) (entries_of content)
+
+-- it is a mail
+abbrev pub IsMail : Call → Type 0
+IsMail (call.Mail path bytes) = Unit {0}
+IsMail _ = ⊥
+
+-- what is granted is the make of a message
+pub record MakesMessage (trace : List Line) (g : Granted) : Type 0 where
+  pub mode_is : g.mode ≡ mode.Make
+  pub caller : Waiting
+  pub named : call_named (entries trace) g.call ≡ Some caller
+  pub mails : IsMail caller.words
+
+-- A message's make in an epoch that its storage site has left: what had been written of it is lost, and where it wasn't committed its number
+-- is free again, for a directory too.
+abbrev pub IsLeftMessage : List Line → EpochId → Granted → Type 0
+IsLeftMessage trace e g = MakesMessage trace g × (epoch_of (entries trace) g.ss ≡ Some e → ⊥)

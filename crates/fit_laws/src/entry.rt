@@ -1,5 +1,5 @@
 //! What directories name: in every run each entry of a directory is of a file that stands, of its kind.
-ghost use Rattle.std.specs.Prelude.{ℕ, ◌≡◌, ◌≤◌, List, Some};
+ghost use Rattle.std.specs.Prelude.{ℕ, ◌≡◌, ◌≤◌, ◌⊎◌, List, Some};
 ghost use Rattle.std.specs.List.{AllByRecursion};
 ghost use Rattle.locus_ids.specs.declared.config.Config.{Config};
 ghost use Rattle.locus_ids.specs.declared.ids.CallId.{CallId};
@@ -25,13 +25,14 @@ ghost use Rattle.tree_laws.specs.Following.{IsFollowed};
 ghost use Rattle.tree_laws.specs.Instances.{instance_now};
 ghost use Rattle.tree_laws.specs.Printed.{entries};
 ghost use Rattle.order_laws.specs.Joining.{PacksAreOfSites};
-ghost use Rattle.fit_laws.specs.EntryEntries.{EntriesName, NamesFile};
+ghost use Rattle.fit_laws.specs.EntryEntries.{EntriesName, IsLeftMessage, NamesFile};
 
 /// Wherever all that was told came as it may, each entry of each version of a directory, and of what an open instance of a directory works on,
-/// was inserted in its group and names a file there that stands, of the entry's kind. Each entry of any content has the number of an inode.
+/// was inserted in its group and names a file there that stands, of the entry's kind. (A message that was being made when its storage site left
+/// the epoch is no directory, whatever has its number since.) Each entry of any content has the number of an inode.
 pub fn directories_name_files()
     ensures versions { (c : Config) (trace : List Line) → PacksAreOfSites c → IsFollowed c trace → (f : FileId) (stamp : Stamp) → kind_of_file c (entries trace) f ≡ Dir → EntriesName c trace f.group (content_of (history c (entries trace)) f stamp) }
-    ensures instances { (c : Config) (trace : List Line) → PacksAreOfSites c → IsFollowed c trace → (e : EpochId) (i : Serial) (x : Instance) → instance_now c trace e i ≡ Some x → kind_of_file c (entries trace) x.grant.file ≡ Dir → EntriesName c trace x.grant.file.group x.work.content }
+    ensures instances { (c : Config) (trace : List Line) → PacksAreOfSites c → IsFollowed c trace → (e : EpochId) (i : Serial) (x : Instance) → instance_now c trace e i ≡ Some x → kind_of_file c (entries trace) x.grant.file ≡ Dir → EntriesName c trace x.grant.file.group x.work.content ⊎ IsLeftMessage trace e x.grant }
     ensures numbers { (content : List ℕ) → AllByRecursion (λ (d : Entry). (1 ≤ d.ino) × (d.ino ≤ inodes_max)) (entries_of content) }
 {}
 

@@ -19,7 +19,8 @@ pub record TheRun (lines : List ScheduleLine) : Type 0 where
   -- all that is printed of it is of one trace
   pub trace : TraceIsOne (run lines)
   -- after each event each disk holds of each file just the version that its site has by the trace, whole; no call but a mend asks more than
-  -- the components of its path and six; and a delivery, unless of a report, sends at most one packet that serves a call, besides opens of mends
+  -- the components of its path and six, or seven for a mail; and a delivery, unless of a report, sends at most one packet that serves a call,
+  -- besides opens of mends
   pub events : HoldsAfterEvents (config_of lines) lines
   -- versions have written vectors that tell ancestors, and each copy is a version whole
   pub versions : VersionsAndCopiesHold (config_of lines) (run lines)

@@ -430,7 +430,7 @@ hold_at c trace calls e (t ∷ ts) k = at (is_epoch e t) (hold_at c trace calls 
 
 pub release_fits : (c : Config) (before : Trace) (p : Past) (e : EpochId) (i : Serial) (f : FileId) (stamp : Option Stamp) → MayCome c before (says.Release e i f stamp) → Agrees c before p → AllHold c before p.calls p.epochs
     → ((y : TreeInstance) → instance_in (tree_of c e f.group before) i ≡ Some y → y.work.owes ≡ false) → ReleaseFits c before p (says.Release e i f stamp)
-release_fits c before p e i f stamp may a all owed k own mine walks = by (releases_open c before p e i f stamp may a)
+release_fits c before p e i f stamp may a all owed k own mine id walks = by (releases_open c before p e i f stamp may a)
   where
     by : Releases c before p e i f → fits (won_by none_won (asks_after c p k) k.answers) (want.Close i) (close_by stamp (instance_in (tree_of c e f.group before) i)) ≡ true
     by r = ap (λ (o : Option TreeInstance). fits (won_by none_won (asks_after c p k) k.answers) (want.Close i) (close_by stamp o)) r.found

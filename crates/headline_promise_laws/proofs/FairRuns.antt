@@ -64,13 +64,13 @@ use Rattle.schedule_lines.specs.declared.line.ScheduleLine.{ScheduleLine}
 use Rattle.the_run.specs.Runs.{run}
 use Rattle.rest_laws.specs.of_row_laws.Shown.{trace_of}
 
-walks_use : (now : Option EpochId) (e : EpochId) (i : Serial) → begins_walk now ≡ begins.Uses e i → ⊥
-walks_use None e i k = cc
-walks_use (Some at) e i k = cc
+walks_use : (id : CallId) (now : Option EpochId) (e : EpochId) (i : Serial) → begins_walk now id ≡ begins.Uses e i → ⊥
+walks_use id None e i k = cc
+walks_use id (Some at) e i k = cc
 
-opens_use : (now : Option EpochId) (free : Option ℕ) (e : EpochId) (i : Serial) → begins_open now free ≡ begins.Uses e i → ⊥
-opens_use now None e i k = cc
-opens_use now (Some fd) e i k = walks_use now e i k
+opens_use : (id : CallId) (now : Option EpochId) (free : Option ℕ) (e : EpochId) (i : Serial) → begins_open now id free ≡ begins.Uses e i → ⊥
+opens_use id now None e i k = cc
+opens_use id now (Some fd) e i k = walks_use id now e i k
 
 found_alone : {X : Type 0} (q : X → Bool) (xs : List X) (x : X) → filter q xs ≡ x ∷ [] → find q xs ≡ Some x
 found_alone {X} q [] x h = absurd (cc)
@@ -94,17 +94,19 @@ fits_so c before p _ may a all ended = tt
 
 -- ---- calls that use descriptors ----
 
-use_plain : (mounts : List Mount) (table : ℕ → Option Descriptor) (now : Option EpochId) (words : Call) (e : EpochId) (i : Serial) → beginning table now words ≡ begins.Uses e i → is_badly_named mounts words ≡ false
-use_plain mounts table now (call.Create path sites) e i h = absurd (walks_use now e i h)
-use_plain mounts table now (call.MakeDir path) e i h = absurd (walks_use now e i h)
-use_plain mounts table now (call.Unlink path) e i h = absurd (walks_use now e i h)
-use_plain mounts table now (call.RemoveDir path) e i h = absurd (walks_use now e i h)
-use_plain mounts table now (call.Rename path name) e i h = absurd (walks_use now e i h)
-use_plain mounts table now (call.List path) e i h = absurd (walks_use now e i h)
-use_plain mounts table now (call.Stat path) e i h = absurd (walks_use now e i h)
-use_plain mounts table now (call.Mend file) e i h = absurd (walks_use now e i h)
-use_plain mounts table now (call.Open path m) e i h = absurd (opens_use now (lowest_free table) e i h)
-use_plain mounts table now _ e i h = refl
+use_plain : (mounts : List Mount) (table : ℕ → Option Descriptor) (now : Option EpochId) (id : CallId) (words : Call) (e : EpochId) (i : Serial) → beginning table now id words ≡ begins.Uses e i → is_badly_named mounts words ≡ false
+use_plain mounts table now id (call.Create path sites) e i h = absurd (walks_use id now e i h)
+use_plain mounts table now id (call.MakeDir path) e i h = absurd (walks_use id now e i h)
+use_plain mounts table now id (call.Unlink path) e i h = absurd (walks_use id now e i h)
+use_plain mounts table now id (call.RemoveDir path) e i h = absurd (walks_use id now e i h)
+use_plain mounts table now id (call.Rename path name) e i h = absurd (walks_use id now e i h)
+use_plain mounts table now id (call.List path) e i h = absurd (walks_use id now e i h)
+use_plain mounts table now id (call.Stat path) e i h = absurd (walks_use id now e i h)
+use_plain mounts table now id (call.Mail path bytes) e i h = absurd (walks_use id now e i h)
+use_plain mounts table now id (call.Mails path) e i h = absurd (walks_use id now e i h)
+use_plain mounts table now id (call.Mend file) e i h = absurd (walks_use id now e i h)
+use_plain mounts table now id (call.Open path m) e i h = absurd (opens_use id now (lowest_free table) e i h)
+use_plain mounts table now id _ e i h = refl
 
 -- as calls begin
 uses_plain : (mounts : List Mount) (id : CallId) (w : Waiting) (e : EpochId) (i : Serial) (trace : Trace) → call_named trace id ≡ Some w → begun trace id ≡ Some (begins.Uses e i) → is_badly_named mounts w.words ≡ false
@@ -114,8 +116,8 @@ uses_plain mounts id w e i (r ∷ before) h k = at r.what (uses_plain mounts id 
     at : (y : Record) → (call_named before id ≡ Some w → begun before id ≡ Some (begins.Uses e i) → is_badly_named mounts w.words ≡ false) → call_after y before id (call_named before id) ≡ Some w → begun_after y before id (begun before id) ≡ Some (begins.Uses e i) → is_badly_named mounts w.words ≡ false
     at (says.Accept s process new words) earlier = over (same_call new id)
       where
-        over : (b : Bool) → cond b (Some (accepted_as before s process new words)) (call_named before id) ≡ Some w → cond b (Some (begins_now before s process words)) (begun before id) ≡ Some (begins.Uses e i) → is_badly_named mounts w.words ≡ false
-        over true h k = ap (λ (x : Waiting). is_badly_named mounts x.words) (sym (some_same (accepted_as before s process new words) w h)) ∙ use_plain mounts (descriptor before s process) (epoch_of before s) words e i (some_same (begins_now before s process words) (begins.Uses e i) k)
+        over : (b : Bool) → cond b (Some (accepted_as before s process new words)) (call_named before id) ≡ Some w → cond b (Some (begins_now before s process new words)) (begun before id) ≡ Some (begins.Uses e i) → is_badly_named mounts w.words ≡ false
+        over true h k = ap (λ (x : Waiting). is_badly_named mounts x.words) (sym (some_same (accepted_as before s process new words) w h)) ∙ use_plain mounts (descriptor before s process) (epoch_of before s) _ words e i (some_same (begins_now before s process new words) (begins.Uses e i) k)
         over false h k = earlier h k
     at _ earlier = earlier
 

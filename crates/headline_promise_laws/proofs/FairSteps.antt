@@ -59,7 +59,7 @@ one_more c before k w x fair walks asks no_close no_end = fair_more none_won (sc
 
 -- a release is answered fairly: it ends, and tells a version only where it may
 abbrev pub ReleaseFits : Config → Trace → Past → Record → Type 0
-ReleaseFits c before p (says.Release e i f stamp) = (k : CallSoFar) → find (is_id k.id) p.calls ≡ Some k → is_call (call_of_release before e i) k.id ≡ true → k.begins ≡ begins.Walks
+ReleaseFits c before p (says.Release e i f stamp) = (k : CallSoFar) → find (is_id k.id) p.calls ≡ Some k → is_call (call_of_release before e i) k.id ≡ true → (x : CallId) → k.begins ≡ begins.Walks x
     → fits (won_by none_won (asks_after c p k) k.answers) (want.Close i) (close_by stamp (instance_in (tree_of c e f.group before) i)) ≡ true
 ReleaseFits c before p _ = Unit {0}
 
@@ -109,7 +109,7 @@ fair_release c n e i f stamp before p may a fit all k found = at (releases_open 
             ends = sym (ender_is c before p e i f stamp may a x own) ∙ is
 
             fitting : (b : Beginning) → x.begins ≡ b → NotUses x.begins → fits (won_by none_won (asks_after c p x) x.answers) (want.Close i) (close_by stamp (instance_in (tree_of c e f.group before) i)) ≡ true
-            fitting begins.Walks h not_uses = fit x own ends h
+            fitting (begins.Walks id) h not_uses = fit x own ends id h
             fitting (begins.Denied why) h not_uses = denied_asks c before x why i x.answers h (next_of c before p a x own may.step.call (owner_is (call_of_release before e i) may.step.call x may.step.owned ends) (want.Close i) may.step.asked refl)
             fitting (begins.Uses at j) h not_uses = absurd (subst NotUses h not_uses)
 

@@ -1,6 +1,7 @@
 -- A call that is refused has made no version, but for a file that it made: by its script and what its closes are answered.
 use Rattle.std.proofs.Common.{◌≡◌, ℕ, ◌≤◌, ◌&&◌, ◌||◌, nat_le, not, Bool, true, false, cond, List, [], ◌∷◌, filter, length, Option, Some, None, refl, sym, ap, subst, ◌∙◌, arith}
 use Rattle.std.proofs.lemmas.Bool.Decides.{nat_tests}
+use Rattle.locus_ids.specs.declared.ids.CallId.{CallId}
 use Rattle.locus_ids.specs.declared.config.Mount.{Mount}
 use Rattle.locus_ids.specs.declared.ids.EpochId.{EpochId}
 use Rattle.locus_ids.specs.declared.ids.FileId.{FileId}
@@ -11,6 +12,7 @@ use Rattle.locus_ids.specs.declared.ids.Kind.TheVariants as kind
 use Rattle.locus_ids.specs.declared.sites.Sites.{Sites}
 use Rattle.locus_ids.specs.declared.refusal.Refusal.{Refusal}
 use Rattle.locus_ids.specs.declared.refusal.Refusal.TheVariants.{BadName, IsDir, NoStorage, NotDir}
+use Rattle.trace_book.specs.Messages.{message_name}
 use Rattle.trace_book.specs.Names.{but_last, components, last_of, plain_name}
 use Rattle.trace_book.specs.Same.{same_serial}
 use Rattle.trace_book.specs.declared.call.Call.{Call}
@@ -23,18 +25,20 @@ use Rattle.trace_book.specs.declared.operation.Op.TheVariants as op
 use Rattle.trace_book.specs.declared.operation.What.TheVariants as what
 use Rattle.trace_book.specs.declared.call.OpenMode.TheVariants as how
 use Rattle.locus_ids.specs.declared.config.Config.{Config}
+use Rattle.trace_book.specs.declared.operation.Outcome.{Outcome}
 use Rattle.trace_book.specs.declared.operation.Outcome.TheVariants as outcome
 use Rattle.trace_book.specs.declared.reply.Reply.{Reply}
 use Rattle.trace_book.specs.declared.reply.Reply.TheVariants as reply
+use Rattle.call_rules.specs.Mailing.{tells_name, shown_messages}
 use Rattle.call_rules.specs.declared.answer.Answer.{Answer}
 use Rattle.call_rules.specs.declared.answer.Answer.TheVariants as answer
 use Rattle.call_rules.specs.declared.want.Want.{Want}
 use Rattle.call_rules.specs.declared.want.Want.TheVariants as want
 use Rattle.call_rules.specs.Closing.{Unchanged, closes as closes_then, gives, give_up, close_all}
-use Rattle.call_rules.specs.Making.{after_insert, after_make, after_probe, probes, opens_dir, changes_dir}
+use Rattle.call_rules.specs.Making.{after_insert, after_make, fills, after_probe, probes, opens_dir, changes_dir}
 use Rattle.call_rules.specs.Mending.{after_mend, brings, mend_wants}
 use Rattle.call_rules.specs.Naming.{renames}
-use Rattle.call_rules.specs.Opening.{opens_file, op_wants, close_wants, uses_wants, lists, describes}
+use Rattle.call_rules.specs.Opening.{opens_file, op_wants, close_wants, uses_wants, lists, describes, Shows, shown_in}
 use Rattle.call_rules.specs.Removing.{removes, empties, opens_target, by_kind, finds}
 use Rattle.call_rules.specs.Scripts.{path_wants, named_wants, where_packed}
 use Rattle.call_rules.specs.Walks.{Walked, Asks, Fails, There, Strays, walk, walked, root_of, passes, mounted_in}
@@ -131,12 +135,16 @@ ends_well won (i ∷ is) r o (_ ∷ xs) f e = false_true f
 
 -- Create and mkdir.
 
-insert_bounds : (won : Serial → Bool) (p : Serial) (name : List ℕ) (k : Kind) (ino : ℕ) → NoneWon won → (xs : List Answer) → Bounds 0 won (after_insert p name k ino) xs
-insert_bounds won p name k ino n [] f e = omega arith
-insert_bounds won p name k ino n (answer.Did r ∷ xs) f e = ends_well _ (p ∷ []) (reply.Made ino) refl xs f e
-insert_bounds won p name k ino n (answer.Refused r ∷ xs) f e = one_up _ p r (stays won (want.Do p (op.Insert name ino k)) (answer.Refused r) (λ j. refl) (λ j. refl) n) xs f e
-insert_bounds won p name k ino n (answer.Ended s ∷ xs) f e = false_true e
-insert_bounds won p name k ino n (_ ∷ xs) f e = false_true e
+-- the reply is no refusal
+abbrev EndsWell : Reply → Type 0
+EndsWell r = stalls (want.Give r) ≡ false
+
+insert_bounds : (won : Serial → Bool) (p : Serial) (name : List ℕ) (k : Kind) (ino : ℕ) (told : Reply) → EndsWell told → NoneWon won → (xs : List Answer) → Bounds 0 won (after_insert p name k ino told) xs
+insert_bounds won p name k ino told good n [] f e = omega arith
+insert_bounds won p name k ino told good n (answer.Did r ∷ xs) f e = ends_well _ (p ∷ []) told good xs f e
+insert_bounds won p name k ino told good n (answer.Refused r ∷ xs) f e = one_up _ p r (stays won (want.Do p (op.Insert name ino k)) (answer.Refused r) (λ j. refl) (λ j. refl) n) xs f e
+insert_bounds won p name k ino told good n (answer.Ended s ∷ xs) f e = false_true e
+insert_bounds won p name k ino told good n (_ ∷ xs) f e = false_true e
 
 -- the file that was made is closed, and may tell its version
 after_closed : (won : Serial → Bool) (made : Serial) (s : Option Stamp) → OneWon won made → NoneWon (won_after won (want.Close made) (answer.Ended s))
@@ -147,12 +155,12 @@ after_closed won made s one = λ j. none (same_serial made j) (won j) (one j)
     none false true h = h
     none false false h = refl
 
-made_bounds : (won : Serial → Bool) (p : Serial) (name : List ℕ) (k : Kind) (made : Serial) (ino : ℕ) → OneWon won made → (xs : List Answer) → Bounds 1 won (after_make p name k made ino) xs
-made_bounds won p name k made ino one [] f e = false_true e
-made_bounds won p name k made ino one (answer.Ended None ∷ xs) f e = (let h = insert_bounds _ p name k ino (after_closed won made None one) xs f e in omega (arith, h))
-made_bounds won p name k made ino one (answer.Ended (Some s) ∷ xs) f e = (let h = insert_bounds _ p name k ino (after_closed won made (Some s) one) xs (both_parts (won made) _ f).1 e in omega (arith, h))
-made_bounds won p name k made ino one (answer.Refused r ∷ xs) f e = false_true f
-made_bounds won p name k made ino one (_ ∷ xs) f e = false_true f
+made_bounds : (won : Serial → Bool) (p : Serial) (name : List ℕ) (k : Kind) (made : Serial) (ino : ℕ) (told : Reply) → EndsWell told → OneWon won made → (xs : List Answer) → Bounds 1 won (after_make p name k made ino told) xs
+made_bounds won p name k made ino told good one [] f e = false_true e
+made_bounds won p name k made ino told good one (answer.Ended None ∷ xs) f e = (let h = insert_bounds _ p name k ino told good (after_closed won made None one) xs f e in omega (arith, h))
+made_bounds won p name k made ino told good one (answer.Ended (Some s) ∷ xs) f e = (let h = insert_bounds _ p name k ino told good (after_closed won made (Some s) one) xs (both_parts (won made) _ f).1 e in omega (arith, h))
+made_bounds won p name k made ino told good one (answer.Refused r ∷ xs) f e = false_true f
+made_bounds won p name k made ino told good one (_ ∷ xs) f e = false_true f
 
 makes_one : (won : Serial → Bool) (group : ℕ) (k : Kind) (sites : Option Sites) (made : Serial) (ino : ℕ) → NoneWon won → OneWon (won_after won (want.Make group k sites) (answer.Opened made ino)) made
 makes_one won group k sites made ino n = λ j. rw (n j) (none (same_serial made j))
@@ -161,19 +169,51 @@ makes_one won group k sites made ino n = λ j. rw (n j) (none (same_serial made 
     none true = refl
     none false = refl
 
-probe_bounds : (won : Serial → Bool) (p : Serial) (group : ℕ) (name : List ℕ) (k : Kind) (sites : Option Sites) → NoneWon won → (xs : List Answer) → Bounds 1 won (after_probe p group name k sites) xs
-probe_bounds won p group name k sites n [] f e = omega arith
-probe_bounds won p group name k sites n (answer.Opened made ino ∷ xs) f e = made_bounds _ p name k made ino (makes_one won group k sites made ino n) xs f e
-probe_bounds won p group name k sites n (answer.Refused r ∷ xs) f e = more 1 _ (give_up (Unchanged p ∷ []) r) xs (one_up _ p r (stays won (want.Make group k sites) (answer.Refused r) (λ j. refl) (λ j. refl) n) xs) f e
-probe_bounds won p group name k sites n (answer.Ended s ∷ xs) f e = false_true e
-probe_bounds won p group name k sites n (_ ∷ xs) f e = false_true e
+-- where a write of it is refused it may tell its version all the same, and where it is written just so
+one_stays : (won : Serial → Bool) (made : Serial) (o : Op) (a : Answer) → ((j : Serial) → earns (want.Do made o) a j ≡ false) → OneWon won made → OneWon (won_after won (want.Do made o) a) made
+one_stays won made o a e one = λ j. rw (e j) (none (same_serial made j) (won j) (one j))
+  where
+    none : (a b : Bool) → (not a && b) ≡ false → (not a && (b || false)) ≡ false
+    none true b h = refl
+    none false true h = h
+    none false false h = refl
 
-probes_bounds : (won : Serial → Bool) (p : Serial) (group : ℕ) (name : List ℕ) (k : Kind) (sites : Option Sites) → NoneWon won → (xs : List Answer) → Bounds 1 won (probes p group name k sites) xs
-probes_bounds won p group name k sites n [] f e = omega arith
-probes_bounds won p group name k sites n (answer.Did o ∷ xs) f e = probe_bounds _ p group name k sites (stays won (want.Do p (op.Probe name)) (answer.Did o) (λ j. refl) (λ j. refl) n) xs f e
-probes_bounds won p group name k sites n (answer.Refused r ∷ xs) f e = more 1 _ (give_up (Unchanged p ∷ []) r) xs (one_up _ p r (stays won (want.Do p (op.Probe name)) (answer.Refused r) (λ j. refl) (λ j. refl) n) xs) f e
-probes_bounds won p group name k sites n (answer.Ended s ∷ xs) f e = false_true e
-probes_bounds won p group name k sites n (_ ∷ xs) f e = false_true e
+one_written : (won : Serial → Bool) (made : Serial) (at : ℕ) (bytes : List ℕ) (o : Outcome) → OneWon won made → OneWon (won_after won (want.Do made (op.Write at bytes)) (answer.Did o)) made
+one_written won made at bytes o one = λ j. none (same_serial made j) (won j) (one j)
+  where
+    none : (a b : Bool) → (not a && b) ≡ false → (not a && (b || a)) ≡ false
+    none true b h = refl
+    none false true h = h
+    none false false h = refl
+
+fresh_up : (won : Serial → Bool) (made p : Serial) (r : Refusal) → OneWon won made → (xs : List Answer) → Bounds 1 won (give_up (Unchanged made ∷ Unchanged p ∷ []) r) xs
+fresh_up won made p r one [] f e = omega arith
+fresh_up won made p r one (answer.Ended None ∷ xs) f e = (let h = one_up _ p r (after_closed won made None one) xs f e in omega (arith, h))
+fresh_up won made p r one (answer.Ended (Some s) ∷ xs) f e = (let h = one_up _ p r (after_closed won made (Some s) one) xs (both_parts (won made) _ f).1 e in omega (arith, h))
+fresh_up won made p r one (answer.Refused x ∷ xs) f e = false_true f
+fresh_up won made p r one (_ ∷ xs) f e = false_true f
+
+fills_bounds : (won : Serial → Bool) (p : Serial) (name : List ℕ) (k : Kind) (bytes : List ℕ) (made : Serial) (ino : ℕ) (told : Reply) → EndsWell told → OneWon won made → (xs : List Answer) → Bounds 1 won (fills p name k bytes made ino told) xs
+fills_bounds won p name k [] made ino told good one xs f e = made_bounds won p name k made ino told good one xs f e
+fills_bounds won p name k (b ∷ bs) made ino told good one [] f e = omega arith
+fills_bounds won p name k (b ∷ bs) made ino told good one (answer.Did o ∷ xs) f e = made_bounds _ p name k made ino told good (one_written won made 0 (b ∷ bs) o one) xs f e
+fills_bounds won p name k (b ∷ bs) made ino told good one (answer.Refused r ∷ xs) f e = fresh_up _ made p r (one_stays won made (op.Write 0 (b ∷ bs)) (answer.Refused r) (λ j. refl) one) xs f e
+fills_bounds won p name k (b ∷ bs) made ino told good one (answer.Ended s ∷ xs) f e = false_true e
+fills_bounds won p name k (b ∷ bs) made ino told good one (_ ∷ xs) f e = false_true e
+
+probe_bounds : (won : Serial → Bool) (p : Serial) (group : ℕ) (name : List ℕ) (k : Kind) (sites : Option Sites) (bytes : List ℕ) (tells : ℕ → Reply) → ((ino : ℕ) → EndsWell (tells ino)) → NoneWon won → (xs : List Answer) → Bounds 1 won (after_probe p group name k sites bytes tells) xs
+probe_bounds won p group name k sites bytes tells good n [] f e = omega arith
+probe_bounds won p group name k sites bytes tells good n (answer.Opened made ino ∷ xs) f e = fills_bounds _ p name k bytes made ino (tells ino) (good ino) (makes_one won group k sites made ino n) xs f e
+probe_bounds won p group name k sites bytes tells good n (answer.Refused r ∷ xs) f e = more 1 _ (give_up (Unchanged p ∷ []) r) xs (one_up _ p r (stays won (want.Make group k sites) (answer.Refused r) (λ j. refl) (λ j. refl) n) xs) f e
+probe_bounds won p group name k sites bytes tells good n (answer.Ended s ∷ xs) f e = false_true e
+probe_bounds won p group name k sites bytes tells good n (_ ∷ xs) f e = false_true e
+
+probes_bounds : (won : Serial → Bool) (p : Serial) (group : ℕ) (name : List ℕ) (k : Kind) (sites : Option Sites) (bytes : List ℕ) (tells : ℕ → Reply) → ((ino : ℕ) → EndsWell (tells ino)) → NoneWon won → (xs : List Answer) → Bounds 1 won (probes p group name k sites bytes tells) xs
+probes_bounds won p group name k sites bytes tells good n [] f e = omega arith
+probes_bounds won p group name k sites bytes tells good n (answer.Did o ∷ xs) f e = probe_bounds _ p group name k sites bytes tells good (stays won (want.Do p (op.Probe name)) (answer.Did o) (λ j. refl) (λ j. refl) n) xs f e
+probes_bounds won p group name k sites bytes tells good n (answer.Refused r ∷ xs) f e = more 1 _ (give_up (Unchanged p ∷ []) r) xs (one_up _ p r (stays won (want.Do p (op.Probe name)) (answer.Refused r) (λ j. refl) (λ j. refl) n) xs) f e
+probes_bounds won p group name k sites bytes tells good n (answer.Ended s ∷ xs) f e = false_true e
+probes_bounds won p group name k sites bytes tells good n (_ ∷ xs) f e = false_true e
 
 -- Unlink and rmdir.
 
@@ -269,15 +309,15 @@ opens_bounds won (m) None file kind.File (answer.Refused r ∷ b ∷ xs) f e = f
 opens_bounds won m (Some fd) file kind.File (_ ∷ xs) f e = false_true e
 opens_bounds won m None file kind.File (_ ∷ xs) f e = false_true e
 
-lists_bounds : (won : Serial → Bool) (mounts : List Mount) (reached : List ℕ) (at : FileId) (k : Kind) (xs : List Answer) → Bounds 0 won (lists mounts reached at k) xs
-lists_bounds won mounts reached at kind.File xs f e = given_bounds won (reply.No (NotDir reached)) xs f e
-lists_bounds won mounts reached at kind.Dir [] f e = omega arith
-lists_bounds won mounts reached at kind.Dir (answer.Ended t ∷ xs) f e = false_true f
-lists_bounds won mounts reached at kind.Dir (answer.Showed names ∷ []) f e = omega arith
-lists_bounds won mounts reached at kind.Dir (answer.Showed names ∷ b ∷ xs) f e = false_true e
-lists_bounds won mounts reached at kind.Dir (answer.Refused r ∷ []) f e = omega arith
-lists_bounds won mounts reached at kind.Dir (answer.Refused r ∷ b ∷ xs) f e = false_true e
-lists_bounds won mounts reached at kind.Dir (_ ∷ xs) f e = false_true e
+lists_bounds : (won : Serial → Bool) (shows : Shows) (reached : List ℕ) (at : FileId) (k : Kind) (xs : List Answer) → Bounds 0 won (lists shows reached at k) xs
+lists_bounds won shows reached at kind.File xs f e = given_bounds won (reply.No (NotDir reached)) xs f e
+lists_bounds won shows reached at kind.Dir [] f e = omega arith
+lists_bounds won shows reached at kind.Dir (answer.Ended t ∷ xs) f e = false_true f
+lists_bounds won shows reached at kind.Dir (answer.Showed names ∷ []) f e = omega arith
+lists_bounds won shows reached at kind.Dir (answer.Showed names ∷ b ∷ xs) f e = false_true e
+lists_bounds won shows reached at kind.Dir (answer.Refused r ∷ []) f e = omega arith
+lists_bounds won shows reached at kind.Dir (answer.Refused r ∷ b ∷ xs) f e = false_true e
+lists_bounds won shows reached at kind.Dir (_ ∷ xs) f e = false_true e
 
 describes_bounds : (won : Serial → Bool) (at : FileId) (k : Kind) (xs : List Answer) → Bounds 0 won (describes at k) xs
 describes_bounds won at k [] f e = omega arith
@@ -347,22 +387,25 @@ dir_bounds n mounts path next h won none xs = walked_bounds n mounts (but_last (
 abbrev most : Call → ℕ
 most words = cond (makes_file words) 1 0
 
-path_bounds : (mounts : List Mount) (free : Option ℕ) (words : Call) (xs : List Answer) → Bounds (most words) (λ j. false) (path_wants mounts free words) xs
-path_bounds mounts free (call.Create path sites) xs = dir_bounds 1 mounts path (λ group p rest. probes p group (last_of (components path)) kind.File sites rest) (λ group p w n ys. probes_bounds w p group (last_of (components path)) kind.File sites n ys) _ (λ j. refl) xs
-path_bounds mounts free (call.MakeDir path) xs = dir_bounds 1 mounts path (λ group p rest. probes p group (last_of (components path)) kind.Dir None rest) (λ group p w n ys. probes_bounds w p group (last_of (components path)) kind.Dir None n ys) _ (λ j. refl) xs
-path_bounds mounts free (call.Unlink path) xs = dir_bounds 0 mounts path (λ group p rest. finds kind.File p group (last_of (components path)) rest) (λ group p w n ys. finds_bounds w kind.File p group (last_of (components path)) n ys) _ (λ j. refl) xs
-path_bounds mounts free (call.RemoveDir path) xs = dir_bounds 0 mounts path (λ group p rest. finds kind.Dir p group (last_of (components path)) rest) (λ group p w n ys. finds_bounds w kind.Dir p group (last_of (components path)) n ys) _ (λ j. refl) xs
-path_bounds mounts free (call.Rename path name) xs = dir_bounds 0 mounts path (λ group p rest. renames p (last_of (components path)) name rest) (λ group p w n ys. renames_bounds w p (last_of (components path)) name n ys) _ (λ j. refl) xs
-path_bounds mounts free (call.List path) xs = walked_bounds 0 mounts (components path) (lists mounts (last_of (components path))) (λ w n there found ys. lists_bounds w mounts (last_of (components path)) there found ys) _ (λ j. refl) xs
-path_bounds mounts free (call.Stat path) xs = walked_bounds 0 mounts (components path) describes (λ w n there found ys. describes_bounds w there found ys) _ (λ j. refl) xs
-path_bounds mounts free (call.Open path m) xs = walked_bounds 0 mounts (components path) (opens_file m free) (λ w n there found ys. opens_bounds w m free there found ys) _ (λ j. refl) xs
-path_bounds mounts free (call.Mend file) xs = mend_bounds _ file (λ j. refl) xs
-path_bounds mounts free (call.Read fd at len) xs = λ f e. false_true e
-path_bounds mounts free (call.Write fd at bytes) xs = λ f e. false_true e
-path_bounds mounts free (call.Cut fd len) xs = λ f e. false_true e
-path_bounds mounts free (call.Commit fd) xs = λ f e. false_true e
-path_bounds mounts free (call.Abort fd) xs = λ f e. false_true e
-path_bounds mounts free (call.Close fd) xs = λ f e. false_true e
+path_bounds : (mounts : List Mount) (free : Option ℕ) (id : CallId) (words : Call) (xs : List Answer) → Bounds (most words) (λ j. false) (path_wants mounts free id words) xs
+path_bounds mounts free id (call.Create path sites) xs = dir_bounds 1 mounts path (λ group p rest. probes p group (last_of (components path)) kind.File sites [] reply.Made rest) (λ group p w n ys. probes_bounds w p group (last_of (components path)) kind.File sites [] reply.Made (λ ino. refl) n ys) _ (λ j. refl) xs
+path_bounds mounts free id (call.MakeDir path) xs = dir_bounds 1 mounts path (λ group p rest. probes p group (last_of (components path)) kind.Dir None [] reply.Made rest) (λ group p w n ys. probes_bounds w p group (last_of (components path)) kind.Dir None [] reply.Made (λ ino. refl) n ys) _ (λ j. refl) xs
+path_bounds mounts free id (call.Unlink path) xs = dir_bounds 0 mounts path (λ group p rest. finds kind.File p group (last_of (components path)) rest) (λ group p w n ys. finds_bounds w kind.File p group (last_of (components path)) n ys) _ (λ j. refl) xs
+path_bounds mounts free id (call.RemoveDir path) xs = dir_bounds 0 mounts path (λ group p rest. finds kind.Dir p group (last_of (components path)) rest) (λ group p w n ys. finds_bounds w kind.Dir p group (last_of (components path)) n ys) _ (λ j. refl) xs
+path_bounds mounts free id (call.Rename path name) xs = dir_bounds 0 mounts path (λ group p rest. renames p (last_of (components path)) name rest) (λ group p w n ys. renames_bounds w p (last_of (components path)) name n ys) _ (λ j. refl) xs
+path_bounds mounts free id (call.List path) xs = walked_bounds 0 mounts (components path) (lists (shown_in mounts) (last_of (components path))) (λ w n there found ys. lists_bounds w (shown_in mounts) (last_of (components path)) there found ys) _ (λ j. refl) xs
+path_bounds mounts free id (call.Stat path) xs = walked_bounds 0 mounts (components path) describes (λ w n there found ys. describes_bounds w there found ys) _ (λ j. refl) xs
+path_bounds mounts free id (call.Mail path bytes) xs = walked_bounds 1 mounts (components path) _
+    (λ w m there found ys. open_bounds 1 w (last_of (components path)) (λ p. probes p there.group (message_name id) kind.File None bytes (tells_name (message_name id))) (λ p v l zs. probes_bounds v p there.group (message_name id) kind.File None bytes (tells_name (message_name id)) (λ ino. refl) l zs) there found m ys) _ (λ j. refl) xs
+path_bounds mounts free id (call.Mails path) xs = walked_bounds 0 mounts (components path) (lists shown_messages (last_of (components path))) (λ w n there found ys. lists_bounds w shown_messages (last_of (components path)) there found ys) _ (λ j. refl) xs
+path_bounds mounts free id (call.Open path m) xs = walked_bounds 0 mounts (components path) (opens_file m free) (λ w n there found ys. opens_bounds w m free there found ys) _ (λ j. refl) xs
+path_bounds mounts free id (call.Mend file) xs = mend_bounds _ file (λ j. refl) xs
+path_bounds mounts free id (call.Read fd at len) xs = λ f e. false_true e
+path_bounds mounts free id (call.Write fd at bytes) xs = λ f e. false_true e
+path_bounds mounts free id (call.Cut fd len) xs = λ f e. false_true e
+path_bounds mounts free id (call.Commit fd) xs = λ f e. false_true e
+path_bounds mounts free id (call.Abort fd) xs = λ f e. false_true e
+path_bounds mounts free id (call.Close fd) xs = λ f e. false_true e
 
 -- a call that uses a descriptor tells no version before its reply
 op_none : (i : Serial) (o : Op) (xs : List Answer) → stalls (op_wants i o xs) ≡ true → versions xs ≤ 0
@@ -396,6 +439,8 @@ uses_none (call.RemoveDir path) i xs e = false_true e
 uses_none (call.Rename path name) i xs e = false_true e
 uses_none (call.List path) i xs e = false_true e
 uses_none (call.Stat path) i xs e = false_true e
+uses_none (call.Mail path bytes) i xs e = false_true e
+uses_none (call.Mails path) i xs e = false_true e
 uses_none (call.Open path m) i xs e = false_true e
 uses_none (call.Mend file) i xs e = false_true e
 
@@ -526,9 +571,9 @@ refused_bounds c p k fair plain e = over k.begins refl
     bad : Bool
     bad = is_badly_named c.mounts k.words
 
-    walk_so : (b : Bool) (xs : List Answer) → Bounds (most k.words) none_won (λ ys. cond b (want.Give (reply.No BadName)) (path_wants c.mounts k.free k.words ys)) xs
-    walk_so true xs = more (most k.words) none_won (λ ys. want.Give (reply.No BadName)) xs (given_bounds none_won (reply.No BadName) xs)
-    walk_so false xs = path_bounds c.mounts k.free k.words xs
+    walk_so : (id : CallId) (b : Bool) (xs : List Answer) → Bounds (most k.words) none_won (λ ys. cond b (want.Give (reply.No BadName)) (path_wants c.mounts k.free id k.words ys)) xs
+    walk_so id true xs = more (most k.words) none_won (λ ys. want.Give (reply.No BadName)) xs (given_bounds none_won (reply.No BadName) xs)
+    walk_so id false xs = path_bounds c.mounts k.free id k.words xs
 
     denied_so : (why : Refusal) (b : Bool) (xs : List Answer) → Bounds (most k.words) none_won (λ ys. cond b (want.Give (reply.No BadName)) (want.Give (reply.No why))) xs
     denied_so why true xs = more (most k.words) none_won (λ ys. want.Give (reply.No BadName)) xs (given_bounds none_won (reply.No BadName) xs)
@@ -548,6 +593,6 @@ refused_bounds c p k fair plain e = over k.begins refl
     ends le = grind (arith, nat_tests, le)
 
     over : (b : Beginning) → k.begins ≡ b → nat_le (versions k.answers) (cond (makes_file k.words) 1 0) ≡ true
-    over begins.Walks h = ends (walk_so bad k.answers (packed_fair pk (named_wants c.mounts k.free k.words begins.Walks) none_won none_won (λ j x. x) k.answers (given begins.Walks h tt)) (stalled begins.Walks h))
+    over (begins.Walks id) h = ends (walk_so id bad k.answers (packed_fair pk (named_wants c.mounts k.free k.words (begins.Walks id)) none_won none_won (λ j x. x) k.answers (given (begins.Walks id) h tt)) (stalled (begins.Walks id) h))
     over (begins.Denied why) h = ends (denied_so why bad k.answers (packed_fair pk (named_wants c.mounts k.free k.words (begins.Denied why)) none_won none_won (λ j x. x) k.answers (given (begins.Denied why) h tt)) (stalled (begins.Denied why) h))
     over (begins.Uses at i) h = ends (uses_so i bad (plain at i h) k.answers (stalled (begins.Uses at i) h))

@@ -68,7 +68,7 @@ asked_by_mend mounts p free words b xs i e = over words refl
     begins_so : (file : FileId) → words ≡ call.Mend file → (o : Beginning) → b ≡ o → (f : FileId) × MendsIt words b f
     begins_so file is (begins.Denied why) k = absurd (subst Unmending e (subst (λ (y : Call). Unmending (wants mounts p free y b xs)) (sym is) (subst (λ (y : Beginning). Unmending (wants mounts p free (call.Mend file) y xs)) (sym k) tt)))
     begins_so file is (begins.Uses epoch inst) k = absurd (subst Unmending e (subst (λ (y : Call). Unmending (wants mounts p free y b xs)) (sym is) (subst (λ (y : Beginning). Unmending (wants mounts p free (call.Mend file) y xs)) (sym k) tt)))
-    begins_so file is begins.Walks k = (file, record { words_are = is; walks = k })
+    begins_so file is (begins.Walks id) k = (file, record { words_are = is; by = id; walks = k })
 
     apart : (y : Call) → words ≡ y → (IsMendCall y → ⊥) → IsMendCall words → ⊥
     apart y is k m = k (subst IsMendCall is m)

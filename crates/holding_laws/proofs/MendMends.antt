@@ -4,6 +4,7 @@ use Rattle.std.proofs.lemmas.Bool.Decides.{nat_tests}
 use Rattle.role_steps.proofs.of_plain_facts.Tests.{true_false}
 use Rattle.locus_ids.specs.declared.config.Config.{Config}
 use Rattle.locus_ids.specs.declared.config.Mount.{Mount}
+use Rattle.locus_ids.specs.declared.ids.CallId.{CallId}
 use Rattle.locus_ids.specs.declared.ids.FileId.{FileId}
 use Rattle.locus_ids.specs.declared.ids.Mode.TheVariants as mode
 use Rattle.locus_ids.specs.declared.ids.Serial.{Serial}
@@ -87,7 +88,8 @@ no_mend words none f e = none (subst IsMendCall (sym e) tt)
 -- the call is a mend of this file
 pub record MendsIt (words : Call) (b : Beginning) (file : FileId) : Type 0 where
   pub words_are : words ≡ call.Mend file
-  pub walks : b ≡ begins.Walks
+  pub by : CallId
+  pub walks : b ≡ begins.Walks by
 
 asked_by_mend : (mounts : List Mount) (p : ℕ → Bool) (free : Option ℕ) (words : Call) (b : Beginning) (xs : Answers) (w : Want) → wants mounts p free words b xs ≡ w → (IsOther w → ⊥) → (file : FileId) × MendsIt words b file
 asked_by_mend mounts p free words b xs w e none = over words refl
@@ -98,7 +100,7 @@ asked_by_mend mounts p free words b xs w e none = over words refl
     begins_so : (file : FileId) → words ≡ call.Mend file → (o : Beginning) → b ≡ o → (f : FileId) × MendsIt words b f
     begins_so file is (begins.Denied why) k = absurd (none (subst IsOther e (subst (λ (y : Call). IsOther (wants mounts p free y b xs)) (sym is) (subst (λ (y : Beginning). IsOther (wants mounts p free (call.Mend file) y xs)) (sym k) tt))))
     begins_so file is (begins.Uses epoch i) k = absurd (none (subst IsOther e (subst (λ (y : Call). IsOther (wants mounts p free y b xs)) (sym is) (subst (λ (y : Beginning). IsOther (wants mounts p free (call.Mend file) y xs)) (sym k) tt))))
-    begins_so file is begins.Walks k = (file, record { words_are = is; walks = k })
+    begins_so file is (begins.Walks id) k = (file, record { words_are = is; by = id; walks = k })
 
     apart : (y : Call) → words ≡ y → (IsMendCall y → ⊥) → IsMendCall words → ⊥
     apart y is k m = k (subst IsMendCall is m)
@@ -207,7 +209,8 @@ mend_brings file (a ∷ rest) f stamp e = absurd (subst Unwhole e tt)
 -- the call is a mend of the file at which it looks
 pub record LooksWhole (words : Call) (o : Option Beginning) (log : Answers) (f : FileId) (stamp : Stamp) : Type 0 where
   pub words_are : words ≡ call.Mend f
-  pub begins_so : o ≡ Some begins.Walks
+  pub by : CallId
+  pub begins_so : o ≡ Some (begins.Walks by)
   pub brings_it : Bringing f log stamp
 
 pub whole_looked : (c : Config) (before : Trace) (w : Waiting) (o : Option Beginning) (log : Answers) (f : FileId) (stamp : Stamp) → script_as c before (Some w) o None log ≡ want.Look f (what.Whole stamp) → LooksWhole w.words o log f stamp
@@ -220,6 +223,7 @@ whole_looked c before w (Some b) log f stamp e = over (asked_by_mend c.mounts p 
     over : (file : FileId) × MendsIt w.words b file → LooksWhole w.words (Some b) log f stamp
     over (file, m) = record {
       words_are = subst (λ (y : FileId). w.words ≡ call.Mend y) (sym same) m.words_are;
+      by = m.by;
       begins_so = ap Some m.walks;
       brings_it = subst (λ (y : FileId). Bringing y log stamp) (sym same) (mend_brings file log f stamp asks);
     }

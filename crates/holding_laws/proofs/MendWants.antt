@@ -1,5 +1,6 @@
 -- What the scripts of calls want, want by want: no call but a mend opens to mend, or looks at whole contents.
 use Rattle.std.proofs.Common.{◌≡◌, ℕ, Bool, true, false, cond, List, [], ◌∷◌, Option, Some, None, refl}
+use Rattle.locus_ids.specs.declared.ids.CallId.{CallId}
 use Rattle.locus_ids.specs.declared.config.Mount.{Mount}
 use Rattle.locus_ids.specs.declared.ids.FileId.{FileId}
 use Rattle.locus_ids.specs.declared.ids.Kind.{Kind}
@@ -21,15 +22,16 @@ use Rattle.trace_book.specs.declared.operation.What.TheVariants as what
 use Rattle.trace_book.specs.declared.reply.Reply.{Reply}
 use Rattle.trace_book.specs.declared.reply.Reply.TheVariants as reply
 use Rattle.locus_ids.specs.declared.refusal.Refusal.TheVariants as refusal
+use Rattle.call_rules.specs.Mailing.{shown_messages}
 use Rattle.call_rules.specs.declared.answer.Answer.{Answer}
 use Rattle.call_rules.specs.declared.answer.Answer.TheVariants as answer
 use Rattle.call_rules.specs.declared.want.Want.{Want}
 use Rattle.call_rules.specs.declared.want.Want.TheVariants as want
 use Rattle.call_rules.specs.Closing.{Own, Unchanged, Changed, closes, aborts, gives, give_up, close_all}
-use Rattle.call_rules.specs.Making.{after_insert, after_make, after_probe, probes, opens_dir, changes_dir, make_wants}
+use Rattle.call_rules.specs.Making.{after_insert, after_make, fills, after_probe, probes, opens_dir, changes_dir, make_wants}
 use Rattle.call_rules.specs.Mending.{after_mend, brings, mend_wants}
 use Rattle.call_rules.specs.Naming.{renames}
-use Rattle.call_rules.specs.Opening.{opens_file, op_wants, close_wants, uses_wants, lists, describes}
+use Rattle.call_rules.specs.Opening.{opens_file, op_wants, close_wants, uses_wants, lists, describes, Shows, shown_in}
 use Rattle.trace_book.specs.Names.{components}
 use Rattle.call_rules.specs.Removing.{removes, empties, opens_target, by_kind, finds}
 use Rattle.call_rules.specs.Scripts.{path_wants, begun_wants, named_wants, where_packed, wants}
@@ -107,32 +109,39 @@ module _ (P : Want → Type 0) (looking : (f : FileId) (w : What) → IsPlainLoo
 
   -- ---- create and mkdir ----
 
-  after_insert_so : (p : Serial) (name : List ℕ) (k : Kind) (ino : ℕ) (xs : List Answer) → P (after_insert p name k ino xs)
-  after_insert_so p name k ino [] = doing p _ tt
-  after_insert_so p name k ino (answer.Did o ∷ rest) = close_all_so (p ∷ []) (reply.Made ino) rest
-  after_insert_so p name k ino (answer.Refused why ∷ rest) = give_up_by (Unchanged p ∷ []) why rest
-  after_insert_so p name k ino (_ ∷ rest) = never
+  after_insert_so : (p : Serial) (name : List ℕ) (k : Kind) (ino : ℕ) (told : Reply) (xs : List Answer) → P (after_insert p name k ino told xs)
+  after_insert_so p name k ino told [] = doing p _ tt
+  after_insert_so p name k ino told (answer.Did o ∷ rest) = close_all_so (p ∷ []) told rest
+  after_insert_so p name k ino told (answer.Refused why ∷ rest) = give_up_by (Unchanged p ∷ []) why rest
+  after_insert_so p name k ino told (_ ∷ rest) = never
 
-  after_make_so : (p : Serial) (name : List ℕ) (k : Kind) (made : Serial) (ino : ℕ) (xs : List Answer) → P (after_make p name k made ino xs)
-  after_make_so p name k made ino [] = closing made
-  after_make_so p name k made ino (answer.Ended stamp ∷ rest) = after_insert_so p name k ino rest
-  after_make_so p name k made ino (answer.Refused why ∷ rest) = give_up_by (Unchanged p ∷ []) why rest
-  after_make_so p name k made ino (_ ∷ rest) = never
+  after_make_so : (p : Serial) (name : List ℕ) (k : Kind) (made : Serial) (ino : ℕ) (told : Reply) (xs : List Answer) → P (after_make p name k made ino told xs)
+  after_make_so p name k made ino told [] = closing made
+  after_make_so p name k made ino told (answer.Ended stamp ∷ rest) = after_insert_so p name k ino told rest
+  after_make_so p name k made ino told (answer.Refused why ∷ rest) = give_up_by (Unchanged p ∷ []) why rest
+  after_make_so p name k made ino told (_ ∷ rest) = never
 
-  after_probe_so : (p : Serial) (group : ℕ) (name : List ℕ) (k : Kind) (sites : Option Sites) → (xs : List Answer) → P (after_probe p group name k sites xs)
-  after_probe_so p group name k sites [] = making _ _ _
-  after_probe_so p group name k sites (answer.Opened made ino ∷ rest) = after_make_so p name k made ino rest
-  after_probe_so p group name k sites (answer.Refused why ∷ rest) = give_up_by (Unchanged p ∷ []) why rest
-  after_probe_so p group name k sites (_ ∷ rest) = never
+  fills_so : (p : Serial) (name : List ℕ) (k : Kind) (bytes : List ℕ) (made : Serial) (ino : ℕ) (told : Reply) (xs : List Answer) → P (fills p name k bytes made ino told xs)
+  fills_so p name k [] made ino told xs = after_make_so p name k made ino told xs
+  fills_so p name k (b ∷ bs) made ino told [] = doing made _ tt
+  fills_so p name k (b ∷ bs) made ino told (answer.Did o ∷ rest) = after_make_so p name k made ino told rest
+  fills_so p name k (b ∷ bs) made ino told (answer.Refused why ∷ rest) = give_up_by (Unchanged made ∷ Unchanged p ∷ []) why rest
+  fills_so p name k (b ∷ bs) made ino told (_ ∷ rest) = never
 
-  probes_so : (p : Serial) (group : ℕ) (name : List ℕ) (k : Kind) (sites : Option Sites) → (xs : List Answer) → P (probes p group name k sites xs)
-  probes_so p group name k sites [] = doing p _ tt
-  probes_so p group name k sites (answer.Did o ∷ rest) = after_probe_so p group name k sites rest
-  probes_so p group name k sites (answer.Refused why ∷ rest) = give_up_by (Unchanged p ∷ []) why rest
-  probes_so p group name k sites (_ ∷ rest) = never
+  after_probe_so : (p : Serial) (group : ℕ) (name : List ℕ) (k : Kind) (sites : Option Sites) (bytes : List ℕ) (tells : ℕ → Reply) → (xs : List Answer) → P (after_probe p group name k sites bytes tells xs)
+  after_probe_so p group name k sites bytes tells [] = making _ _ _
+  after_probe_so p group name k sites bytes tells (answer.Opened made ino ∷ rest) = fills_so p name k bytes made ino (tells ino) rest
+  after_probe_so p group name k sites bytes tells (answer.Refused why ∷ rest) = give_up_by (Unchanged p ∷ []) why rest
+  after_probe_so p group name k sites bytes tells (_ ∷ rest) = never
+
+  probes_so : (p : Serial) (group : ℕ) (name : List ℕ) (k : Kind) (sites : Option Sites) (bytes : List ℕ) (tells : ℕ → Reply) → (xs : List Answer) → P (probes p group name k sites bytes tells xs)
+  probes_so p group name k sites bytes tells [] = doing p _ tt
+  probes_so p group name k sites bytes tells (answer.Did o ∷ rest) = after_probe_so p group name k sites bytes tells rest
+  probes_so p group name k sites bytes tells (answer.Refused why ∷ rest) = give_up_by (Unchanged p ∷ []) why rest
+  probes_so p group name k sites bytes tells (_ ∷ rest) = never
 
   make_so : (mounts : List Mount) (path : List ℕ) (k : Kind) (sites : Option Sites) → (xs : List Answer) → P (make_wants mounts path k sites xs)
-  make_so mounts path k sites xs = changes_so mounts path _ (λ g p rest. probes_so p g _ k sites rest) xs
+  make_so mounts path k sites xs = changes_so mounts path _ (λ g p rest. probes_so p g _ k sites [] reply.Made rest) xs
 
   -- ---- unlink, rmdir and rename ----
 
@@ -209,12 +218,12 @@ module _ (P : Want → Type 0) (looking : (f : FileId) (w : What) → IsPlainLoo
   opens_file_so m None f kind.File (_ ∷ rest) = never
   opens_file_so m (Some fd) f kind.File (_ ∷ rest) = never
 
-  lists_so : (mounts : List Mount) (reached : List ℕ) (f : FileId) (k : Kind) (xs : List Answer) → P (lists mounts reached f k xs)
-  lists_so mounts reached f kind.File xs = giving _
-  lists_so mounts reached f kind.Dir [] = looking f what.List tt
-  lists_so mounts reached f kind.Dir (answer.Showed names ∷ []) = giving _
-  lists_so mounts reached f kind.Dir (answer.Refused why ∷ []) = giving _
-  lists_so mounts reached f kind.Dir (_ ∷ rest) = never
+  lists_so : (shows : Shows) (reached : List ℕ) (f : FileId) (k : Kind) (xs : List Answer) → P (lists shows reached f k xs)
+  lists_so shows reached f kind.File xs = giving _
+  lists_so shows reached f kind.Dir [] = looking f what.List tt
+  lists_so shows reached f kind.Dir (answer.Showed names ∷ []) = giving _
+  lists_so shows reached f kind.Dir (answer.Refused why ∷ []) = giving _
+  lists_so shows reached f kind.Dir (_ ∷ rest) = never
 
   describes_so : (f : FileId) (k : Kind) (xs : List Answer) → P (describes f k xs)
   describes_so f k [] = looking f what.Stat tt
@@ -240,22 +249,24 @@ module _ (P : Want → Type 0) (looking : (f : FileId) (w : What) → IsPlainLoo
   -- ---- whole scripts ----
 
   -- a call is no mend
-  path_so : (mounts : List Mount) (free : Option ℕ) (words : Call) → ((f : FileId) → words ≡ call.Mend f → ⊥) → (xs : List Answer) → P (path_wants mounts free words xs)
-  path_so mounts free (call.Create path sites) other xs = make_so mounts path kind.File sites xs
-  path_so mounts free (call.MakeDir path) other xs = make_so mounts path kind.Dir None xs
-  path_so mounts free (call.Unlink path) other xs = changes_so mounts path _ (λ g p rest. finds_so kind.File p g _ rest) xs
-  path_so mounts free (call.RemoveDir path) other xs = changes_so mounts path _ (λ g p rest. finds_so kind.Dir p g _ rest) xs
-  path_so mounts free (call.Rename path name) other xs = changes_so mounts path _ (λ g p rest. renames_so p _ name rest) xs
-  path_so mounts free (call.List path) other xs = go_so mounts (components path) xs _ (λ f k rest. lists_so mounts _ f k rest)
-  path_so mounts free (call.Stat path) other xs = go_so mounts (components path) xs _ (λ f k rest. describes_so f k rest)
-  path_so mounts free (call.Open path how) other xs = go_so mounts (components path) xs _ (λ f k rest. opens_file_so how free f k rest)
-  path_so mounts free (call.Mend f) other xs = absurd (other f refl)
-  path_so mounts free _ other xs = never
+  path_so : (mounts : List Mount) (free : Option ℕ) (id : CallId) (words : Call) → ((f : FileId) → words ≡ call.Mend f → ⊥) → (xs : List Answer) → P (path_wants mounts free id words xs)
+  path_so mounts free id (call.Create path sites) other xs = make_so mounts path kind.File sites xs
+  path_so mounts free id (call.MakeDir path) other xs = make_so mounts path kind.Dir None xs
+  path_so mounts free id (call.Unlink path) other xs = changes_so mounts path _ (λ g p rest. finds_so kind.File p g _ rest) xs
+  path_so mounts free id (call.RemoveDir path) other xs = changes_so mounts path _ (λ g p rest. finds_so kind.Dir p g _ rest) xs
+  path_so mounts free id (call.Rename path name) other xs = changes_so mounts path _ (λ g p rest. renames_so p _ name rest) xs
+  path_so mounts free id (call.List path) other xs = go_so mounts (components path) xs _ (λ f k rest. lists_so (shown_in mounts) _ f k rest)
+  path_so mounts free id (call.Stat path) other xs = go_so mounts (components path) xs _ (λ f k rest. describes_so f k rest)
+  path_so mounts free id (call.Mail path bytes) other xs = go_so mounts (components path) xs _ (λ dir k rest. opens_dir_so _ _ (λ p ys. probes_so p dir.group _ kind.File None bytes _ ys) dir k rest)
+  path_so mounts free id (call.Mails path) other xs = go_so mounts (components path) xs _ (λ f k rest. lists_so shown_messages _ f k rest)
+  path_so mounts free id (call.Open path how) other xs = go_so mounts (components path) xs _ (λ f k rest. opens_file_so how free f k rest)
+  path_so mounts free id (call.Mend f) other xs = absurd (other f refl)
+  path_so mounts free id _ other xs = never
 
   begun_so : (mounts : List Mount) (free : Option ℕ) (words : Call) → ((f : FileId) → words ≡ call.Mend f → ⊥) → (b : Beginning) (xs : List Answer) → P (begun_wants mounts free words b xs)
   begun_so mounts free words other (begins.Denied why) xs = giving _
   begun_so mounts free words other (begins.Uses e i) xs = uses_so words i xs
-  begun_so mounts free words other begins.Walks xs = path_so mounts free words other xs
+  begun_so mounts free words other (begins.Walks id) xs = path_so mounts free id words other xs
 
   named_so : (mounts : List Mount) (free : Option ℕ) (words : Call) → ((f : FileId) → words ≡ call.Mend f → ⊥) → (b : Beginning) (xs : List Answer) → P (named_wants mounts free words b xs)
   named_so mounts free words other b xs = over (is_badly_named mounts words)

@@ -110,7 +110,7 @@ whole_kept c t e d f stamp few h new inside asks = subst (λ (ks : List Stamp). 
     same : (ys : Answers) → script c (entries t) d None (log t d ++ ys) ≡ where_packed p (brings b.inst f (stamp ∷ b.left) ys)
     same ys = ap (λ (o : Option Waiting). script_as c (entries t) o (begun (entries t) d) None (log t d ++ ys)) inside.named
         ∙ (ap (λ (o : Option Beginning). script_as c (entries t) (Some w) o None (log t d ++ ys)) looks.begins_so
-        ∙ (ap (λ (y : Call). wants c.mounts p None y begins.Walks (log t d ++ ys)) looks.words_are
+        ∙ (ap (λ (y : Call). wants c.mounts p None y (begins.Walks looks.by) (log t d ++ ys)) looks.words_are
         ∙ ap (where_packed p) (b.goes ys)))
 
     has : has_instances c t d b.inst ≡ true

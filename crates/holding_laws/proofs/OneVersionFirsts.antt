@@ -67,7 +67,7 @@ called_stands c (r ∷ before) f d k = step r.what k (called_stands c before f d
     step (says.Commit g z stamp parents content) k later = here g z stamp parents content (same_file g f) refl (first_call c before f) refl k later
     step r k later = later k
 
-uncalled : (c : Config) (before : Trace) (f : FileId) → ((v : Stamp) → is_in (history c before) f v ≡ true → ⊥) → first_call c before f ≡ None
+pub uncalled : (c : Config) (before : Trace) (f : FileId) → ((v : Stamp) → is_in (history c before) f v ≡ true → ⊥) → first_call c before f ≡ None
 uncalled c before f none = at (first_call c before f) refl
   where
     at : (o : Option CallId) → first_call c before f ≡ o → o ≡ None
@@ -306,3 +306,27 @@ makes_first c (x ∷ older) few followed e g = over x.told followed.0 (makes_fir
 
 pub open_make_first : (c : Config) (trace : List Line) → PacksAreOfSites c → IsFollowed c trace → (e : EpochId) (i : Serial) (x : Instance) → instance_now c trace e i ≡ Some x → x.grant.mode ≡ mode.Make → epoch_of (entries trace) x.grant.ss ≡ Some e → IsFirst c (entries trace) x.grant.file x.grant.call
 open_make_first c trace few followed e i x found make inside = (all_found (MakesFirst c (entries trace) e) (is_named i) (tree_of c e (granted_group (entries trace) e i) (entries trace)).instances x (makes_first c trace few followed e (granted_group (entries trace) e i)) found make).1 inside
+
+-- the call that makes a file is the first to commit it, once it commits it
+pub commit_called : (c : Config) (packs : PacksAreOfSites c) (older : List Line) (n : ℕ) (followed : IsFollowed c older) (f : FileId) (z : ℕ) (stamp : Stamp) (parents : List Stamp) (content : List ℕ) (may : MayCommit c (entries older) f z stamp parents content) → may.instance.grant.mode ≡ mode.Make →
+    first_call c (record { line = n; what = says.Commit f z stamp parents content } ∷ entries older) f ≡ Some may.instance.grant.call
+commit_called c packs older n followed f z stamp parents content may make = subst (λ (y : FileId). first_call c now y ≡ Some may.instance.grant.call) file_is (over ((first make).1 (subst (λ (s : ℕ). epoch_of (entries older) s ≡ Some may.epoch) (sym may.at) may.inside)))
+  where
+    now : Trace
+    now = record { line = n; what = says.Commit f z stamp parents content } ∷ entries older
+
+    old : AllByRecursion (MakesFirst c (entries older) may.epoch) (tree_of c may.epoch f.group (entries older)).instances
+    old = makes_first c older packs followed may.epoch f.group
+
+    first : MakesFirst c now may.epoch may.instance
+    first = filter_one (MakesFirst c now may.epoch) (is_writing f) (tree_of c may.epoch f.group (entries older)).instances may.instance may.one (all_first c packs older n followed may.epoch f.group old f z stamp parents content may)
+
+    file_is : may.instance.grant.file ≡ f
+    file_is = file_of c packs older n followed may.epoch f.group old f z stamp parents content may
+
+    stands : is_in (history c now) f stamp ≡ true
+    stands = ap (λ (a : Bool). (a && same_stamp stamp stamp) || is_in (history c (entries older)) f stamp) (own c packs older n followed may.epoch f.group old f z stamp parents content may f) ∙ ap (λ (a : Bool). a || is_in (history c (entries older)) f stamp) (same_stamp_refl stamp)
+
+    over : IsFirst c now may.instance.grant.file may.instance.grant.call → first_call c now may.instance.grant.file ≡ Some may.instance.grant.call
+    over (inl none) = absurd (none stamp (subst (λ (y : FileId). is_in (history c now) y stamp ≡ true) (sym file_is) stands))
+    over (inr is) = is

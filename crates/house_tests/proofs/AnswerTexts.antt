@@ -116,6 +116,8 @@ calls =
     Accept 4 7 asked (call.RemoveDir (codes "/d/e@2")) ∷
     Accept 4 7 asked (call.List (codes "/d/e@2")) ∷
     Accept 4 7 asked (call.Stat (codes "/d/e@2")) ∷
+    Accept 4 7 asked (call.Mail (codes "/d/e@2") (254 ∷ 1 ∷ [])) ∷
+    Accept 4 7 asked (call.Mails (codes "/d/e@2")) ∷
     Accept 4 7 asked (call.Read 15 65535 512) ∷
     Accept 4 7 asked (call.Write 15 65535 (254 ∷ [])) ∷
     Accept 4 7 asked (call.Write 15 0 []) ∷
@@ -139,6 +141,8 @@ text_of_calls =
     codes "80 call 4 7 c4.1.12 rmdir /d/e@2\n" ++
     codes "80 call 4 7 c4.1.12 list /d/e@2\n" ++
     codes "80 call 4 7 c4.1.12 stat /d/e@2\n" ++
+    codes "80 call 4 7 c4.1.12 mail /d/e@2 fe01\n" ++
+    codes "80 call 4 7 c4.1.12 mails /d/e@2\n" ++
     codes "80 call 4 7 c4.1.12 read 15 65535 512\n" ++
     codes "80 call 4 7 c4.1.12 write 15 65535 fe\n" ++
     codes "80 call 4 7 c4.1.12 write 15 0 -\n" ++

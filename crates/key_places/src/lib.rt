@@ -2,8 +2,10 @@
 //! and each kind of name has a key of its own form. Nothing here knows what the rows are.
 #![tactic(auto)]
 
+mod all_places;
 mod key;
 mod places;
+mod recent;
 
 pub use key::{Key, call_key, epoch_key, file_key, number_key, serial_key, version_key};
 pub use places::Places;

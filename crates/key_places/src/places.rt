@@ -1,33 +1,37 @@
 ghost use Rattle.std.specs.Prelude.{◌≡◌, ◌<◌, [], ◌∷◌, length, IfSome, OnOk, OnErr};
 ghost use Rattle.key_places.specs.Places.{place_of};
 
-use crate::Key;
+use crate::all_places::AllPlaces;
+use crate::key::Key;
+use crate::recent::{Slot, empty_slots, recent_place, remember};
 use locus_ids::NoMemory;
 use std::alloc::Global;
-use std::collections::HashMap;
 use std::marker::Model;
 
+/// How many slots there are for recent keys from the first key on, and at most.
+const FEWEST: usize = 16;
+
+const MOST: usize = 8192;
+
 /// Keys in the order in which they came. Contracts see the newest one first; a place is the number of keys that came before,
-/// so that it is where the row of the key stands in a table that grows at its end.
+/// so that it is where the row of the key stands in a table that grows at its end. Most that came not long ago are found without the map.
 #[derive(Drop)]
 pub struct Places {
-    keys: Vec<Key>,
-    newest: HashMap<Key, usize>,
+    all: AllPlaces,
+    recent: Vec<Slot>,
 }
 
 impl Model for Places {
-    ghost use Rattle.std.specs.Prelude.{◌≡◌, List, reverse};
-    ghost use Rattle.std.specs.HashMap.{get};
+    ghost use Rattle.std.specs.Prelude.{List};
     ghost use Rattle.key_places.specs.declared.key.Key.{Key};
 
     ghost Value = { List Key };
 
-    ghost use Rattle.key_places.specs.Keys.{same_key};
-    ghost use Rattle.key_places.specs.Places.{place_of};
+    ghost use Rattle.key_places.specs.Recent.{AreRecent};
 
-    ghost view = { λ p. reverse p.keys.items };
+    ghost view = { λ p. p.all };
 
-    ghost invariant = { λ p. (k : Key) → get same_key p.newest k ≡ place_of k (reverse p.keys.items) };
+    ghost invariant = { λ p. AreRecent p.recent.items p.all };
 }
 
 impl Places {
@@ -36,8 +40,8 @@ impl Places {
         ensures { result ≡ [] }
     {
         Places {
-            keys: Vec::new(alloc),
-            newest: HashMap::new(alloc),
+            all: AllPlaces::new(alloc),
+            recent: Vec::new(alloc),
         }
     }
 
@@ -45,7 +49,7 @@ impl Places {
     pub fn len(&self) -> usize
         ensures { result ≡ length self.now }
     {
-        self.keys.len()
+        self.all.len()
     }
 
     /// The place of the newest key that equals this one. Its time hangs on no length.
@@ -53,7 +57,10 @@ impl Places {
         ensures place { result ≡ place_of key.now self.now }
         ensures within { IfSome result (λ place. place < length self.now) }
     {
-        self.newest.get(key).copied()
+        match recent_place(self.recent.as_slice(), key) {
+            Some(place) => Some(place),
+            None => self.all.place(key),
+        }
     }
 
     /// One more key, the newest. After `NoMemory` nothing has changed.
@@ -61,14 +68,23 @@ impl Places {
         ensures ok { OnOk result (self.new ≡ key ∷ self.old) }
         ensures err { OnErr result (self.new ≡ self.old) }
     {
-        let place = self.keys.len();
-        self.keys.push(key)?;
-        match self.newest.insert(key, place) {
-            Ok(_) => Ok(()),
-            Err(_) => {
-                self.keys.pop();
-                Err(NoMemory)
-            }
+        self.make_room()?;
+        let place = self.all.len();
+        self.all.push(key)?;
+        remember(&mut self.recent, key, place);
+        Ok(())
+    }
+
+    /// Slots for more keys, where there are few; those that there were are left.
+    fn make_room(&mut self) -> Result<(), NoMemory>
+        ensures { self.new ≡ self.old }
+    {
+        let many = self.recent.len();
+        if self.all.len() < many || many >= MOST {
+            return Ok(());
         }
+        let wanted = if many == 0 { FEWEST } else { 2 * many };
+        self.recent = empty_slots(self.all.allocator(), wanted)?;
+        Ok(())
     }
 }

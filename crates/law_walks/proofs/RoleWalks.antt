@@ -51,6 +51,7 @@ use Rattle.law_walks.proofs.SyncWalks.{sync_walk}
 use Rattle.the_run.specs.of_role_steps.declared.users.UserInstance.{UserInstance}
 use Rattle.the_run.proofs.of_role_steps.Sending.{every_cond, every_flat_map}
 use Rattle.law_walks.specs.Kinds.{IsStoreRequest, IsUserRequest}
+use Rattle.the_run.specs.of_role_steps.Using.{own_call}
 use Rattle.law_walks.specs.Laws.{Law, ReadersKeep, StoresKeep, UsersKeep, VersionsKeep, Part}
 
 -- ---- requests ----
@@ -284,7 +285,7 @@ goes_on_walk law f kinds w u = asks_want_walk law f kinds w (next_want f w u) u
 
 pub on_call_walk : (law : Law) (f : Frame) (kinds : UsersKeep law f) (now : Option EpochId) (process : ℕ) (words : Call) (u : Users) → ((n : ℕ) → law.told (accept_record f.me f.boot process n words)) → Part law (on_call f now process words u)
 on_call_walk law f kinds now process words u accept =
-    let w : WaitingCall = accepted process (u.calls + 1) words (beginning (descriptors_of u process) now words) in
+    let w : WaitingCall = accepted process (u.calls + 1) words (beginning (descriptors_of u process) now (own_call f.me f.boot (u.calls + 1)) words) in
     let e : Part law (goes_on f w (frees process words (record u { calls = u.calls + 1 }))) = goes_on_walk law f kinds w (frees process words (record u { calls = u.calls + 1 })) in
     (e.0, (accept (u.calls + 1), e.1), e.2)
 

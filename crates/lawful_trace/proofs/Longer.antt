@@ -30,6 +30,8 @@ call_line_kept lines more n site process (call.RemoveDir path) h asked = record 
 call_line_kept lines more n site process (call.Rename path name) h asked = record { asked = line_kept lines more n h ∙ asked.asked }
 call_line_kept lines more n site process (call.List path) h asked = record { asked = line_kept lines more n h ∙ asked.asked }
 call_line_kept lines more n site process (call.Stat path) h asked = record { asked = line_kept lines more n h ∙ asked.asked }
+call_line_kept lines more n site process (call.Mail path bytes) h asked = record { asked = line_kept lines more n h ∙ asked.asked }
+call_line_kept lines more n site process (call.Mails path) h asked = record { asked = line_kept lines more n h ∙ asked.asked }
 call_line_kept lines more n site process (call.Open path mode) h asked = record { asked = line_kept lines more n h ∙ asked.asked }
 call_line_kept lines more n site process (call.Read fd at len) h asked = record { asked = line_kept lines more n h ∙ asked.asked }
 call_line_kept lines more n site process (call.Write fd at bytes) h asked = record { asked = line_kept lines more n h ∙ asked.asked }

@@ -41,11 +41,11 @@ descriptor trace site process fd = over None (λ r before old. descriptor_after 
 -- Where calls begin.
 
 -- where a call begins that is accepted now
-abbrev pub begins_now : Trace → ℕ → ℕ → Call → Beginning
-begins_now before site process words = beginning (descriptor before site process) (epoch_of before site) words
+abbrev pub begins_now : Trace → ℕ → ℕ → CallId → Call → Beginning
+begins_now before site process id words = beginning (descriptor before site process) (epoch_of before site) id words
 
 abbrev pub begun_after : Record → Trace → CallId → Option Beginning → Option Beginning
-begun_after (Accept s process call words) before c old = cond (same_call call c) (Some (begins_now before s process words)) old
+begun_after (Accept s process call words) before c old = cond (same_call call c) (Some (begins_now before s process call words)) old
 begun_after _ before c old = old
 
 -- where an accepted call has begun
@@ -61,10 +61,10 @@ is_close _ = false
 abbrev pub uses_by : Beginning → EpochId → Serial → Bool
 uses_by (Uses epoch inst) e i = same_epoch epoch e && same_serial inst i
 uses_by (Denied why) e i = false
-uses_by Walks e i = false
+uses_by (Walks call) e i = false
 
 abbrev pub uses_after : Record → Trace → EpochId → Serial → List CallId → List CallId
-uses_after (Accept s process call words) before e i old = cond (not (is_close words) && uses_by (begins_now before s process words) e i) (call ∷ old) old
+uses_after (Accept s process call words) before e i old = cond (not (is_close words) && uses_by (begins_now before s process call words) e i) (call ∷ old) old
 uses_after _ before e i old = old
 
 -- the reads, writes, cuts, commits and aborts on the instance that met no local refusal, the latest first
@@ -77,7 +77,7 @@ use_number [] n = None
 use_number (c ∷ earlier) n = cond (n == suc (length earlier)) (Some c) (use_number earlier n)
 
 abbrev pub close_after : Record → Trace → EpochId → Serial → Option CallId → Option CallId
-close_after (Accept s process call words) before e i old = cond (is_close words && uses_by (begins_now before s process words) e i) (Some call) old
+close_after (Accept s process call words) before e i old = cond (is_close words && uses_by (begins_now before s process call words) e i) (Some call) old
 close_after _ before e i old = old
 
 -- the close of the instance

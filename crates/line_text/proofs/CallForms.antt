@@ -17,7 +17,7 @@ use Rattle.trace_book.specs.declared.call.OpenMode.TheVariants as how
 use Rattle.hex.specs.Hex.{encode_lower}
 use Rattle.schedule_lines.specs.Ranges.{fits_call, fits_mode, is_between, is_byte, is_descriptor, is_site, is_some_sites, is_word, is_word_byte}
 use Rattle.line_text.specs.Words.{Lacks, hex_in, number_in, site_in, sites_in, split_at, three_words, two_words, word_in}
-use Rattle.line_text.specs.CallReader.{call_in, call_with, call_word, create_with, cut_call, descriptor_in, mode_in, open_call, read_call, rename_call, resolve_mode, write_call}
+use Rattle.line_text.specs.CallReader.{call_in, call_with, call_word, create_with, cut_call, descriptor_in, mail_call, mode_in, open_call, read_call, rename_call, resolve_mode, write_call}
 use Rattle.line_text.specs.declared.call_word.CallWord.{CallWord}
 use Rattle.line_text.specs.declared.call_word.CallWord.TheVariants as word
 use Rattle.line_text.proofs.HexWords.{hex_complete, hex_sound}
@@ -128,6 +128,8 @@ call_word_text word.Cut = codes "cut"
 call_word_text word.Commit = codes "commit"
 call_word_text word.Abort = codes "abort"
 call_word_text word.Close = codes "close"
+call_word_text word.Mail = codes "mail"
+call_word_text word.Mails = codes "mails"
 
 word_is : (x : List ℕ) (v w : CallWord) → bytes_eq x (call_word_text v) ≡ true → Some v ≡ Some w → x ≡ call_word_text w
 word_is x v w h e = (bytes_eq-Decides x (call_word_text v)).0 h ∙ ap call_word_text (same_Some v w e)
@@ -148,7 +150,9 @@ call_word_sound x w h0 =
     cond_either (bytes_eq x (codes "commit")) _ _ _ h11 (λ b e. word_is x word.Commit w b e) (λ b11 h12.
     cond_either (bytes_eq x (codes "abort")) _ _ _ h12 (λ b e. word_is x word.Abort w b e) (λ b12 h13.
     cond_either (bytes_eq x (codes "close")) _ _ _ h13 (λ b e. word_is x word.Close w b e) (λ b13 h14.
-    absurd (none-some w h14)))))))))))))))
+    cond_either (bytes_eq x (codes "mail")) _ _ _ h14 (λ b e. word_is x word.Mail w b e) (λ b14 h15.
+    cond_either (bytes_eq x (codes "mails")) _ _ _ h15 (λ b e. word_is x word.Mails w b e) (λ b15 h16.
+    absurd (none-some w h16)))))))))))))))))
 
 -- ---- what is read is spelled so
 
@@ -298,6 +302,20 @@ close_sound n rest c h = map_some (λ fd. call.Close fd) (descriptor_in rest) c 
     let a = number_sound 0 (descriptor_span - 1) rest fd f in
     made n (codes "close " ++ rest) (call.Close fd) c s (ap (λ l. codes "close " ++ l) a.0, to_most (descriptor_span - 1) fd a.1))
 
+mails_sound : (n : ℕ) (rest : List ℕ) (c : Call) → option_map (λ path. call.Mails path) (word_in rest) ≡ Some c → IsMade n (codes "mails " ++ rest) c
+mails_sound n rest c h = map_some (λ path. call.Mails path) (word_in rest) c h (λ path f s.
+    let w = word_sound rest path f in
+    made n (codes "mails " ++ rest) (call.Mails path) c s (ap (λ l. codes "mails " ++ l) w.0, w.1))
+
+mail_sound : (n : ℕ) (rest : List ℕ) (c : Call) → mail_call rest ≡ Some c → IsMade n (codes "mail " ++ rest) c
+mail_sound n rest c h = option_and_then_some _ (two_words rest) c h (λ p e g. option_and_then_some _ (word_in p.0) c g (λ path f k. map_some (λ bytes. call.Mail path bytes) (hex_in 4096 p.1) c k (λ bytes t s.
+    let a = word_sound p.0 path f in
+    let d = hex_sound 4096 p.1 bytes t in
+    made n (codes "mail " ++ rest) (call.Mail path bytes) c s (
+      ap (λ l. codes "mail " ++ l) (two_sound rest p e ∙ ap (λ l. (l ++ gap) ++ p.1) a.0 ∙ ap (λ l. (path ++ gap) ++ l) (d.0 ∙ sym (text_of_some bytes d.1))),
+      and_both (is_word path && is_between 1 4096 (length bytes)) (list_all is_byte bytes) (and_both (is_word path) (is_between 1 4096 (length bytes)) a.1 d.1) d.2,
+    ))))
+
 call_with_sound : (n : ℕ) (w : CallWord) (rest : List ℕ) (c : Call) → call_with n w rest ≡ Some c → IsMade n ((call_word_text w ++ gap) ++ rest) c
 call_with_sound n word.Create rest c h = create_sound n rest (two_words rest) c refl h
 call_with_sound n word.MakeDir rest c h = mkdir_sound n rest c h
@@ -313,6 +331,8 @@ call_with_sound n word.Cut rest c h = cut_sound n rest c h
 call_with_sound n word.Commit rest c h = commit_sound n rest c h
 call_with_sound n word.Abort rest c h = abort_sound n rest c h
 call_with_sound n word.Close rest c h = close_sound n rest c h
+call_with_sound n word.Mail rest c h = mail_sound n rest c h
+call_with_sound n word.Mails rest c h = mails_sound n rest c h
 
 pub call_sound : (n : ℕ) (words : List ℕ) (c : Call) → call_in n words ≡ Some c → IsMade n words c
 call_sound n words c h =
@@ -343,6 +363,16 @@ call_complete n (call.Rename path name) h =
     rw (two_complete path name (word_lacks path w.0), w.0, w.1) refl
 call_complete n (call.List path) h = rw h refl
 call_complete n (call.Stat path) h = rw h refl
+call_complete n (call.Mail path bytes) h =
+    let d = and_parts (is_word path && is_between 1 4096 (length bytes)) (list_all is_byte bytes) h in
+    let a = and_parts (is_word path) (is_between 1 4096 (length bytes)) d.0 in
+    rw (
+      text_of_some bytes a.1,
+      two_complete path (encode_lower bytes) (word_lacks path a.0),
+      a.0,
+      hex_complete 4096 bytes a.1 d.1,
+    ) refl
+call_complete n (call.Mails path) h = rw h refl
 call_complete n (call.Open path mode) h =
     let w = and_parts (is_word path) (fits_mode n mode) h in
     rw (two_complete path (opening_text mode) (word_lacks path w.0), mode_complete n mode w.1, w.0) refl

@@ -1,5 +1,6 @@
 pub mod Splits
 pub mod NumberTexts
+pub mod Digits
 pub mod HexWords
 mod SiteLists
 pub mod CallForms

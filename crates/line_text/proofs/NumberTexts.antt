@@ -1,15 +1,15 @@
 -- The texts of numbers.
-use Rattle.std.proofs.Common.{◌≡◌, ℕ, ◌+◌, ◌<◌, ◌≤◌, ◌^◌, true, false, List, [], ◌∷◌, length, get_or, Some, None, Result, Ok, Err, refl, sym, ap, ◌∙◌, arith, ⊎_elim}
+use Rattle.std.proofs.Common.{◌≡◌, ℕ, ◌+◌, ◌<◌, ◌≤◌, ◌^◌, true, false, List, [], ◌∷◌, length, get_or, Some, None, refl, sym, ap, ◌∙◌, arith, ⊎_elim}
 use Rattle.std.specs.Prelude.{◌&&◌, nat_le}
 use Rattle.std.specs.Fmt.{decimal}
 use Rattle.std.specs.Str.{bytes_eq}
-use Rattle.std.specs.Str.Parse.{AllDigits, digits_value, ParsesUnsigned}
+use Rattle.std.specs.Str.Parse.{AllDigits, digits_value}
 use Rattle.std.proofs.lemmas.Bool.{false≢true, leb-true, le-leb, and_parts, cases_lt}
 use Rattle.std.proofs.lemmas.Bool.Decides.{nat_tests}
 use Rattle.std.proofs.lemmas.Option.{cond_some}
 use Rattle.std.proofs.lemmas.Slice.Eq.{bytes_eq-Decides}
-use Rattle.std.proofs.lemmas.Str.Parse.{IsNumeralModel, numerals_by_value, tells_digits, parse_plain, not_in_digits, digit_at}
-use Rattle.std.proofs.lemmas.Fmt.{digits_decimal, decimal_is_IsNumeral, decimal-digits_value, decimal_injective, decimal_nonempty, decimal_digit, first_decimal}
+use Rattle.std.proofs.lemmas.Str.Parse.{IsNumeralModel, numerals_by_value, tells_digits, not_in_digits, digit_at}
+use Rattle.std.proofs.lemmas.Fmt.{digits_decimal, decimal_is_IsNumeral, decimal_injective, decimal_nonempty, decimal_digit, first_decimal}
 use Rattle.schedule_lines.specs.Ranges.{is_between}
 use Rattle.line_text.specs.Numerals.{begins_well}
 use Rattle.line_text.specs.Words.{Lacks, is_decimal, number_in}
@@ -27,16 +27,6 @@ well_first (c ∷ d ∷ ds) h =
     let p = and_parts (nat_le 49 c) (nat_le c 57) h in
     let low : 49 ≤ c = leb-true 49 c p.0 in
     (λ e. omega arith, omega arith, λ e. absurd (omega arith))
-
--- a text that parses and begins well is the number's own
-pub parsed_plain : {E : Type 0} (bs : List ℕ) (n : ℕ) (r : Result ℕ E) → ParsesUnsigned 32 10 bs r → r ≡ Ok n → begins_well bs ≡ true → bs ≡ decimal n
-parsed_plain {E} bs n (Ok m) h e w =
-    let f = well_first bs w in
-    let p = parse_plain own {E = E} 32 bs (Ok m) h f.0 in
-    let small : digits_value 10 bs < 2 ^ 32 = p.0.2 in
-    let same : m ≡ n = cc in
-    sym (decimal-digits_value own bs p.0.0 p.0.1 f.2 (omega arith)) ∙ ap decimal (sym p.1 ∙ same)
-parsed_plain {E} bs n (Err x) h e w = cc
 
 both_ways : (a b c : ℕ) → a ≤ c → c ≤ b → (nat_le a c && nat_le c b) ≡ true
 both_ways a b c low high = rw (le-leb a c low, le-leb c b high) refl

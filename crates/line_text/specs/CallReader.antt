@@ -26,7 +26,9 @@ call_word w =
     cond (bytes_eq w (codes "cut")) (Some word.Cut) (
     cond (bytes_eq w (codes "commit")) (Some word.Commit) (
     cond (bytes_eq w (codes "abort")) (Some word.Abort) (
-    cond (bytes_eq w (codes "close")) (Some word.Close) None)))))))))))))
+    cond (bytes_eq w (codes "close")) (Some word.Close) (
+    cond (bytes_eq w (codes "mail")) (Some word.Mail) (
+    cond (bytes_eq w (codes "mails")) (Some word.Mails) None)))))))))))))))
 
 abbrev pub descriptor_in : List ℕ → Option ℕ
 descriptor_in w = number_in 0 (descriptor_span - 1) w
@@ -40,6 +42,9 @@ create_call n rest = create_with n rest (two_words rest)
 
 abbrev pub rename_call : List ℕ → Option Call
 rename_call rest = option_and_then (λ p. option_and_then (λ path. option_map (λ name. call.Rename path name) (word_in p.1)) (word_in p.0)) (two_words rest)
+
+abbrev pub mail_call : List ℕ → Option Call
+mail_call rest = option_and_then (λ p. option_and_then (λ path. option_map (λ bytes. call.Mail path bytes) (hex_in 4096 p.1)) (word_in p.0)) (two_words rest)
 
 abbrev pub resolve_mode : ℕ → Option (List ℕ × List ℕ) → Option OpenMode
 resolve_mode n None = None
@@ -80,6 +85,8 @@ call_with n word.Cut rest = cut_call rest
 call_with n word.Commit rest = option_map (λ fd. call.Commit fd) (descriptor_in rest)
 call_with n word.Abort rest = option_map (λ fd. call.Abort fd) (descriptor_in rest)
 call_with n word.Close rest = option_map (λ fd. call.Close fd) (descriptor_in rest)
+call_with n word.Mail rest = mail_call rest
+call_with n word.Mails rest = option_map (λ path. call.Mails path) (word_in rest)
 
 -- the call that the words are, in a cluster of n sites
 abbrev pub call_in : ℕ → List ℕ → Option Call

@@ -18,6 +18,8 @@ pub(crate) enum CallWord {
     Commit,
     Abort,
     Close,
+    Mail,
+    Mails,
 }
 
 pub(crate) fn find_call_word(word: &[u8]) -> Option<CallWord>
@@ -64,6 +66,12 @@ pub(crate) fn find_call_word(word: &[u8]) -> Option<CallWord>
     }
     if word == b"close".as_slice() {
         return Some(CallWord::Close);
+    }
+    if word == b"mail".as_slice() {
+        return Some(CallWord::Mail);
+    }
+    if word == b"mails".as_slice() {
+        return Some(CallWord::Mails);
     }
     None
 }

@@ -2,7 +2,7 @@
 ghost use Rattle.std.specs.Prelude.{◌≡◌, ℕ, List, true, IfOk};
 ghost use Rattle.trace_book.specs.Text.{call_words};
 ghost use Rattle.schedule_lines.specs.Ranges.{fits_call};
-ghost use Rattle.line_text.specs.CallReader.{call_in, call_with, create_call, cut_call, mode_in, open_call, read_call, rename_call, resolve_mode, write_call};
+ghost use Rattle.line_text.specs.CallReader.{call_in, call_with, create_call, cut_call, mail_call, mode_in, open_call, read_call, rename_call, resolve_mode, write_call};
 ghost use Rattle.line_text.specs.Words.{two_words};
 ghost use Rattle.line_text.specs.Reading.{IsCallOf};
 
@@ -61,6 +61,8 @@ fn call_with(alloc: Global, word: CallWord, rest: &[u8], n: u8) -> Result<Option
         CallWord::Commit => Ok(descriptor(rest).map(|fd| Call::Commit { fd })),
         CallWord::Abort => Ok(descriptor(rest).map(|fd| Call::Abort { fd })),
         CallWord::Close => Ok(descriptor(rest).map(|fd| Call::Close { fd })),
+        CallWord::Mail => mail(alloc, rest),
+        CallWord::Mails => Ok(copy_word(alloc, rest)?.map(|path| Call::Mails { path })),
     }
 }
 
@@ -95,6 +97,22 @@ fn rename(alloc: Global, rest: &[u8]) -> Result<Option<Call>, NoMemory>
     };
     match copy_word(alloc, name)? {
         Some(name) => Ok(Some(Call::Rename { path, name })),
+        None => Ok(None),
+    }
+}
+
+/// `PATH BYTES`.
+fn mail(alloc: Global, rest: &[u8]) -> Result<Option<Call>, NoMemory>
+    ensures { IfOk result (λ o. o ≡ mail_call rest.now) }
+{
+    let Some((path, bytes)) = two_words(rest) else {
+        return Ok(None);
+    };
+    let Some(path) = copy_word(alloc, path)? else {
+        return Ok(None);
+    };
+    match hex_bytes(alloc, bytes, 4_096)? {
+        Some(bytes) => Ok(Some(Call::Mail { path, bytes })),
         None => Ok(None),
     }
 }

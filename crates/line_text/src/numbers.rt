@@ -1,5 +1,6 @@
 // Numbers in words: decimal digits without a sign or a leading zero.
 ghost use Rattle.std.specs.Prelude.{◌≡◌, ℕ, ◌≤◌, ◌↔◌, IfSome, IfNone};
+ghost use Rattle.schedule_lines.specs.Ranges.{is_between};
 ghost use Rattle.line_text.specs.CallReader.{descriptor_in};
 ghost use Rattle.line_text.specs.Numerals.{IsNumber, begins_well};
 ghost use Rattle.line_text.specs.Words.{number_in, site_in};
@@ -23,13 +24,24 @@ fn plain_number(word: &[u8], most: u32) -> Option<u32>
     if !begins_well(word) {
         return None;
     }
-    let Ok(text) = str::from_utf8(word) else {
-        return None;
-    };
-    let Ok(n) = text.parse::<u32>() else {
-        return None;
-    };
-    if n <= most { Some(n) } else { None }
+    let mut n: u64 = 0;
+    for c in word {
+        if n > u64::from(u32::MAX) || !is_digit(*c) {
+            return None;
+        }
+        n = n * 10 + u64::from(*c - b'0');
+    }
+    if n <= u64::from(most) {
+        Some(n as u32)
+    } else {
+        None
+    }
+}
+
+fn is_digit(c: u8) -> bool
+    ensures { result ≡ is_between 48 57 c }
+{
+    b'0' <= c && c <= b'9'
 }
 
 /// A digit, which is no zero before other bytes.

@@ -31,7 +31,7 @@ use Rattle.role_steps.specs.Storage.{StoreRequest, own_ino, opens, opens_made, o
 use Rattle.role_steps.specs.Operations.{acts, acts_committed, commits_owing, last_committed, commit_op, executes_effect, executes, op_again, by_number, on_op_at, on_op_of, on_op}
 use Rattle.role_steps.specs.OperationEffects.{Mending, effect_of}
 use Rattle.role_steps.specs.Requests.{descriptors_of, asks_op_of, asks_close_of, user_instance}
-use Rattle.role_steps.specs.Using.{accepted, frees, with_brought, content_answer, asks_want, next_want, goes_on, on_call, takes_answer, with_answer, takes_open, on_open_done_of, on_open_done, on_op_done_of, on_op_done, on_close_done_of, on_close_done, looks_again, takes_look, on_look_done_of, on_look_done, asks_open_of, asks_op_number, asks_take}
+use Rattle.role_steps.specs.Using.{accepted, frees, with_brought, content_answer, asks_want, next_want, goes_on, on_call, takes_answer, with_answer, takes_open, on_open_done_of, on_open_done, on_op_done_of, on_op_done, on_close_done_of, on_close_done, looks_again, takes_look, on_look_done_of, on_look_done, asks_open_of, asks_op_number, asks_take, own_call}
 use Rattle.role_steps.specs.Using as using
 use Rattle.role_steps.specs.declared.instances.Instance.{Instance}
 use Rattle.role_steps.specs.declared.instances.Stage.{Stage}
@@ -75,7 +75,7 @@ goes_bare f w u = want_bare f w (next_want f w u) u
 
 pub on_call_bare : (f : Frame) (now : Option EpochId) (process : ℕ) (words : Call) (u : Users) → Bares (on_call f now process words u)
 on_call_bare f now process words u =
-    let w : WaitingCall = accepted process (u.calls + 1) words (beginning (descriptors_of u process) now words) in
+    let w : WaitingCall = accepted process (u.calls + 1) words (beginning (descriptors_of u process) now (own_call f.me f.boot (u.calls + 1)) words) in
     let counted : Users = frees process words (record u { calls = u.calls + 1 }) in
     let k : Bares (goes_on f w counted) = goes_bare f w counted in
     ((tt, k.0), k.1)

@@ -22,11 +22,11 @@ use Rattle.call_rules.specs.declared.answer.Answer.TheVariants as answer
 use Rattle.call_rules.specs.declared.want.Want.{Want}
 use Rattle.call_rules.specs.declared.want.Want.TheVariants as want
 use Rattle.call_rules.specs.Closing.{Own, Unchanged, Changed, closes, aborts, gives, give_up, close_all}
-use Rattle.call_rules.specs.Making.{after_insert, after_make, after_probe, probes, opens_dir}
+use Rattle.call_rules.specs.Making.{after_insert, after_make, fills, after_probe, probes, opens_dir}
 use Rattle.call_rules.specs.Removing.{removes, empties, opens_target, by_kind, finds}
 use Rattle.call_rules.specs.Naming.{renames}
 use Rattle.call_rules.specs.Mending.{after_mend, brings, mend_wants}
-use Rattle.call_rules.specs.Opening.{opens_file, close_wants, lists, describes}
+use Rattle.call_rules.specs.Opening.{opens_file, close_wants, lists, describes, Shows}
 use Rattle.lock_laws.specs.Writing.{changes, OpensToWrite, Opens, IsOpenedToWrite}
 
 -- a script after its first answer
@@ -68,6 +68,26 @@ opened_sound script p a rest asked opened h i o e c = either (h i o e c)
     either : (p ≡ i) ⊎ IsOpenedToWrite (After script a) rest i → IsOpenedToWrite script (a ∷ rest) i
     either (inl same) = record { before = []; opening = a; after = rest; answers_are = refl; asked = asked; opened = subst (λ (q : Serial). Opens q a) same opened }
     either (inr k) = shifted script a rest i k
+
+-- or it is asked of the one or the other of two
+abbrev pub Both : (List Answer → Want) → Serial → Serial → List Answer → Type 0
+Both script p q answers = (i : Serial) (o : Op) → script answers ≡ want.Do i o → changes o ≡ true → (p ≡ i) ⊎ ((q ≡ i) ⊎ IsOpenedToWrite script answers i)
+
+pub within_both : (script : List Answer → Want) (p q : Serial) (answers : List Answer) → Within script p answers → Both script p q answers
+within_both script p q answers h i o e c = either (h i o e c)
+  where
+    either : (p ≡ i) ⊎ IsOpenedToWrite script answers i → (p ≡ i) ⊎ ((q ≡ i) ⊎ IsOpenedToWrite script answers i)
+    either (inl same) = inl same
+    either (inr k) = inr (inr k)
+
+-- the first answer opened the second of them, where an open to write was asked
+pub opened_within : (script : List Answer → Want) (p q : Serial) (a : Answer) (rest : List Answer) → OpensToWrite (script []) → Opens q a → Both (After script a) p q rest → Within script p (a ∷ rest)
+opened_within script p q a rest asked opened h i o e c = either (h i o e c)
+  where
+    either : (p ≡ i) ⊎ ((q ≡ i) ⊎ IsOpenedToWrite (After script a) rest i) → (p ≡ i) ⊎ IsOpenedToWrite script (a ∷ rest) i
+    either (inl same) = inl same
+    either (inr (inl same)) = inr (record { before = []; opening = a; after = rest; answers_are = refl; asked = asked; opened = subst (λ (x : Serial). Opens x a) same opened })
+    either (inr (inr k)) = inr (shifted script a rest i k)
 
 pub never_do : (i : Serial) (o : Op) → want.Never ≡ want.Do i o → ⊥
 never_do i o e = cc
@@ -148,29 +168,38 @@ close_all_quiet (p ∷ ps) r (_ ∷ rest) = quiet_never
 
 -- ---- create and mkdir ----
 
-pub after_insert_within : (p : Serial) (name : List ℕ) (k : Kind) (ino : ℕ) (answers : List Answer) → Within (after_insert p name k ino) p answers
-after_insert_within p name k ino [] = doing (after_insert p name k ino) p (op.Insert name ino k) [] refl
-after_insert_within p name k ino (answer.Did r ∷ rest) = quiet_within (after_insert p name k ino) p (answer.Did r ∷ rest) (close_all_quiet (p ∷ []) _ rest)
-after_insert_within p name k ino (answer.Refused why ∷ rest) = quiet_within (after_insert p name k ino) p (answer.Refused why ∷ rest) (give_up_quiet (Unchanged p ∷ []) why rest)
-after_insert_within p name k ino (_ ∷ rest) = λ i o e c. absurd (never_do i o e)
+pub after_insert_within : (p : Serial) (name : List ℕ) (k : Kind) (ino : ℕ) (told : Reply) (answers : List Answer) → Within (after_insert p name k ino told) p answers
+after_insert_within p name k ino told [] = doing (after_insert p name k ino told) p (op.Insert name ino k) [] refl
+after_insert_within p name k ino told (answer.Did r ∷ rest) = quiet_within (after_insert p name k ino told) p (answer.Did r ∷ rest) (close_all_quiet (p ∷ []) _ rest)
+after_insert_within p name k ino told (answer.Refused why ∷ rest) = quiet_within (after_insert p name k ino told) p (answer.Refused why ∷ rest) (give_up_quiet (Unchanged p ∷ []) why rest)
+after_insert_within p name k ino told (_ ∷ rest) = λ i o e c. absurd (never_do i o e)
 
-pub after_make_within : (p : Serial) (name : List ℕ) (k : Kind) (made : Serial) (ino : ℕ) (answers : List Answer) → Within (after_make p name k made ino) p answers
-after_make_within p name k made ino [] = quiet_within (after_make p name k made ino) p [] (quiet_close made)
-after_make_within p name k made ino (answer.Ended stamp ∷ rest) = within_after (after_make p name k made ino) p (answer.Ended stamp) rest (after_insert_within p name k ino rest)
-after_make_within p name k made ino (answer.Refused why ∷ rest) = quiet_within (after_make p name k made ino) p (answer.Refused why ∷ rest) (give_up_quiet (Unchanged p ∷ []) why rest)
-after_make_within p name k made ino (_ ∷ rest) = λ i o e c. absurd (never_do i o e)
+pub after_make_within : (p : Serial) (name : List ℕ) (k : Kind) (made : Serial) (ino : ℕ) (told : Reply) (answers : List Answer) → Within (after_make p name k made ino told) p answers
+after_make_within p name k made ino told [] = quiet_within (after_make p name k made ino told) p [] (quiet_close made)
+after_make_within p name k made ino told (answer.Ended stamp ∷ rest) = within_after (after_make p name k made ino told) p (answer.Ended stamp) rest (after_insert_within p name k ino told rest)
+after_make_within p name k made ino told (answer.Refused why ∷ rest) = quiet_within (after_make p name k made ino told) p (answer.Refused why ∷ rest) (give_up_quiet (Unchanged p ∷ []) why rest)
+after_make_within p name k made ino told (_ ∷ rest) = λ i o e c. absurd (never_do i o e)
 
-pub after_probe_within : (p : Serial) (group : ℕ) (name : List ℕ) (k : Kind) (sites : Option Sites) (answers : List Answer) → Within (after_probe p group name k sites) p answers
-after_probe_within p group name k sites [] = quiet_within (after_probe p group name k sites) p [] (quiet_make group k sites)
-after_probe_within p group name k sites (answer.Opened made ino ∷ rest) = within_after (after_probe p group name k sites) p (answer.Opened made ino) rest (after_make_within p name k made ino rest)
-after_probe_within p group name k sites (answer.Refused why ∷ rest) = quiet_within (after_probe p group name k sites) p (answer.Refused why ∷ rest) (give_up_quiet (Unchanged p ∷ []) why rest)
-after_probe_within p group name k sites (_ ∷ rest) = λ i o e c. absurd (never_do i o e)
+pub fills_both : (p : Serial) (name : List ℕ) (k : Kind) (bytes : List ℕ) (made : Serial) (ino : ℕ) (told : Reply) (answers : List Answer) → Both (fills p name k bytes made ino told) p made answers
+fills_both p name k [] made ino told answers = within_both (fills p name k [] made ino told) p made answers (after_make_within p name k made ino told answers)
+fills_both p name k (b ∷ bs) made ino told [] = λ i o e c. inr (inl (do_inst made i (op.Write 0 (b ∷ bs)) o e))
+fills_both p name k (b ∷ bs) made ino told (answer.Did r ∷ rest) = within_both (fills p name k (b ∷ bs) made ino told) p made (answer.Did r ∷ rest)
+    (within_after (fills p name k (b ∷ bs) made ino told) p (answer.Did r) rest (after_make_within p name k made ino told rest))
+fills_both p name k (b ∷ bs) made ino told (answer.Refused why ∷ rest) = within_both (fills p name k (b ∷ bs) made ino told) p made (answer.Refused why ∷ rest)
+    (quiet_within (fills p name k (b ∷ bs) made ino told) p (answer.Refused why ∷ rest) (give_up_quiet (Unchanged made ∷ Unchanged p ∷ []) why rest))
+fills_both p name k (b ∷ bs) made ino told (_ ∷ rest) = λ i o e c. absurd (never_do i o e)
 
-pub probes_within : (p : Serial) (group : ℕ) (name : List ℕ) (k : Kind) (sites : Option Sites) (answers : List Answer) → Within (probes p group name k sites) p answers
-probes_within p group name k sites [] = quiet_within (probes p group name k sites) p [] (idle p (op.Probe name) refl)
-probes_within p group name k sites (answer.Did r ∷ rest) = within_after (probes p group name k sites) p (answer.Did r) rest (after_probe_within p group name k sites rest)
-probes_within p group name k sites (answer.Refused why ∷ rest) = quiet_within (probes p group name k sites) p (answer.Refused why ∷ rest) (give_up_quiet (Unchanged p ∷ []) why rest)
-probes_within p group name k sites (_ ∷ rest) = λ i o e c. absurd (never_do i o e)
+pub after_probe_within : (p : Serial) (group : ℕ) (name : List ℕ) (k : Kind) (sites : Option Sites) (bytes : List ℕ) (tells : ℕ → Reply) (answers : List Answer) → Within (after_probe p group name k sites bytes tells) p answers
+after_probe_within p group name k sites bytes tells [] = quiet_within (after_probe p group name k sites bytes tells) p [] (quiet_make group k sites)
+after_probe_within p group name k sites bytes tells (answer.Opened made ino ∷ rest) = opened_within (after_probe p group name k sites bytes tells) p made (answer.Opened made ino) rest tt refl (fills_both p name k bytes made ino (tells ino) rest)
+after_probe_within p group name k sites bytes tells (answer.Refused why ∷ rest) = quiet_within (after_probe p group name k sites bytes tells) p (answer.Refused why ∷ rest) (give_up_quiet (Unchanged p ∷ []) why rest)
+after_probe_within p group name k sites bytes tells (_ ∷ rest) = λ i o e c. absurd (never_do i o e)
+
+pub probes_within : (p : Serial) (group : ℕ) (name : List ℕ) (k : Kind) (sites : Option Sites) (bytes : List ℕ) (tells : ℕ → Reply) (answers : List Answer) → Within (probes p group name k sites bytes tells) p answers
+probes_within p group name k sites bytes tells [] = quiet_within (probes p group name k sites bytes tells) p [] (idle p (op.Probe name) refl)
+probes_within p group name k sites bytes tells (answer.Did r ∷ rest) = within_after (probes p group name k sites bytes tells) p (answer.Did r) rest (after_probe_within p group name k sites bytes tells rest)
+probes_within p group name k sites bytes tells (answer.Refused why ∷ rest) = quiet_within (probes p group name k sites bytes tells) p (answer.Refused why ∷ rest) (give_up_quiet (Unchanged p ∷ []) why rest)
+probes_within p group name k sites bytes tells (_ ∷ rest) = λ i o e c. absurd (never_do i o e)
 
 pub opens_dir_sound : (reached : List ℕ) (next : Serial → List Answer → Want) (dir : FileId) (k : Kind) (answers : List Answer) → ((p : Serial) (rest : List Answer) → Within (next p) p rest) → Sound (opens_dir reached next dir k) answers
 opens_dir_sound reached next dir kind.File answers h = quiet_sound (opens_dir reached next dir kind.File) answers (quiet_give _)
@@ -258,12 +287,12 @@ opens_file_quiet m (Some fd) file kind.File (answer.Refused why ∷ []) = quiet_
 opens_file_quiet m None file kind.File (_ ∷ rest) = quiet_never
 opens_file_quiet m (Some fd) file kind.File (_ ∷ rest) = quiet_never
 
-pub lists_quiet : (mounts : List Mount) (reached : List ℕ) (at : FileId) (k : Kind) (answers : List Answer) → Quiet (lists mounts reached at k answers)
-lists_quiet mounts reached at kind.File answers = quiet_give _
-lists_quiet mounts reached at kind.Dir [] = λ i o e c. look_do at what.List i o e
-lists_quiet mounts reached at kind.Dir (answer.Showed names ∷ []) = quiet_give _
-lists_quiet mounts reached at kind.Dir (answer.Refused why ∷ []) = quiet_give _
-lists_quiet mounts reached at kind.Dir (_ ∷ rest) = quiet_never
+pub lists_quiet : (shows : Shows) (reached : List ℕ) (at : FileId) (k : Kind) (answers : List Answer) → Quiet (lists shows reached at k answers)
+lists_quiet shows reached at kind.File answers = quiet_give _
+lists_quiet shows reached at kind.Dir [] = λ i o e c. look_do at what.List i o e
+lists_quiet shows reached at kind.Dir (answer.Showed names ∷ []) = quiet_give _
+lists_quiet shows reached at kind.Dir (answer.Refused why ∷ []) = quiet_give _
+lists_quiet shows reached at kind.Dir (_ ∷ rest) = quiet_never
 
 pub describes_quiet : (at : FileId) (k : Kind) (answers : List Answer) → Quiet (describes at k answers)
 describes_quiet at k [] = λ i o e c. look_do at what.Stat i o e

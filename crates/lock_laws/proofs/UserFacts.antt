@@ -26,7 +26,7 @@ use Rattle.role_steps.specs.Own.{Every}
 use Rattle.role_steps.specs.Tables.{first_that}
 use Rattle.role_steps.specs.Views.{Frame, Users, Told, Outcome, quiet, tells, and_then, to_some, to_sync, sync_site, serial_key}
 use Rattle.role_steps.specs.Requests.{waiting_key, instance_serial, without_waiting, user_instance, with_user_instance, without_user_instance, descriptors_of, request_packets, asks, asks_open, next_request, asks_op_of, asks_close_of, seen_by, users_repeats}
-use Rattle.role_steps.specs.Using.{reply_record, is_hopeless, without_hope, after_reply, replies, asks_want, next_want, goes_on, frees, accepted, accept_record, on_call, takes_record, with_answer, takes_answer, takes_open, on_open_done_of, on_open_done, on_op_done_of, on_op_done, on_close_done_of, on_close_done, looks_again, with_brought, content_answer, takes_look, on_look_done_of, on_look_done, asks_open_of, asks_op_number, asks_take, changed_records, users_leave, op_answer, close_answer, opened_answer, kept_for, mended_file}
+use Rattle.role_steps.specs.Using.{reply_record, is_hopeless, without_hope, after_reply, replies, asks_want, next_want, goes_on, frees, accepted, accept_record, on_call, takes_record, with_answer, takes_answer, takes_open, on_open_done_of, on_open_done, on_op_done_of, on_op_done, on_close_done_of, on_close_done, looks_again, with_brought, content_answer, takes_look, on_look_done_of, on_look_done, asks_open_of, asks_op_number, asks_take, changed_records, users_leave, op_answer, close_answer, opened_answer, kept_for, mended_file, own_call}
 use Rattle.role_steps.specs.Using as using
 use Rattle.role_steps.specs.declared.users.Asking.{Asking}
 use Rattle.role_steps.specs.declared.users.Asking.TheVariants as asking
@@ -142,7 +142,7 @@ frees_fact past s o process _ u h = h
 pub on_call_keep : (past : List Told) (f : Frame) (o : Option EpochId) (now : Option EpochId) (process : ℕ) (words : Call) (u : Users) → IsFrameOf f o → UsersFact past f.me o u → UsersKeep past f o (on_call f now process words u)
 on_call_keep past f o now process words u q h =
     let n : ℕ = u.calls + 1 in
-    let w : WaitingCall = accepted process n words (beginning (descriptors_of u process) now words) in
+    let w : WaitingCall = accepted process n words (beginning (descriptors_of u process) now (own_call f.me f.boot n) words) in
     let counted : Users = frees process words (record u { calls = n }) in
     tells_keep past f o (accept_record f.me f.boot process n words) counted (goes_on f w) tt (goes_on_keep past f o w counted q (frees_fact past f.me o process words (record u { calls = n }) (record { instances = h.instances; waiting = h.waiting })))
 

@@ -1,6 +1,7 @@
 -- A script changes what it has opened to write, or what its descriptor names.
 use Rattle.std.proofs.Common.{◌≡◌, ℕ, ◌⊎◌, Bool, true, false, List, [], ◌∷◌, ◌++◌, Option, Some, None, refl, sym, ◌∙◌, ap, subst, inl, inr}
 use Rattle.role_steps.proofs.of_plain_facts.Tests.{false_true}
+use Rattle.locus_ids.specs.declared.ids.CallId.{CallId}
 use Rattle.locus_ids.specs.declared.ids.FileId.{FileId}
 use Rattle.locus_ids.specs.declared.ids.Kind.{Kind}
 use Rattle.locus_ids.specs.declared.ids.Kind.TheVariants as kind
@@ -8,6 +9,7 @@ use Rattle.locus_ids.specs.declared.ids.Serial.{Serial}
 use Rattle.locus_ids.specs.declared.config.Mount.{Mount}
 use Rattle.locus_ids.specs.declared.refusal.Refusal.{Refusal}
 use Rattle.locus_ids.specs.declared.refusal.Refusal.TheVariants as refusal
+use Rattle.trace_book.specs.Messages.{message_name}
 use Rattle.trace_book.specs.declared.call.Call.{Call}
 use Rattle.trace_book.specs.declared.call.Call.TheVariants as call
 use Rattle.trace_book.specs.declared.operation.Op.{Op}
@@ -17,13 +19,14 @@ use Rattle.trace_book.specs.declared.reply.Reply.TheVariants as reply
 use Rattle.trace_book.specs.declared.descriptor.Beginning.{Beginning}
 use Rattle.trace_book.specs.declared.descriptor.Beginning.TheVariants as begins
 use Rattle.trace_book.specs.Names.{components, last_of}
+use Rattle.call_rules.specs.Mailing.{tells_name, shown_messages}
 use Rattle.call_rules.specs.declared.answer.Answer.{Answer}
 use Rattle.call_rules.specs.declared.answer.Answer.TheVariants as answer
 use Rattle.call_rules.specs.declared.want.Want.{Want}
 use Rattle.call_rules.specs.declared.want.Want.TheVariants as want
 use Rattle.call_rules.specs.Words.{is_badly_named}
 use Rattle.call_rules.specs.Walks.{Walked, Asks, Fails, There, Strays, root_of, mounted_in, passes, walk, walked}
-use Rattle.call_rules.specs.Opening.{opens_file, op_wants, uses_wants, lists, describes}
+use Rattle.call_rules.specs.Opening.{opens_file, op_wants, uses_wants, lists, describes, shown_in}
 use Rattle.call_rules.specs.Scripts.{path_wants, begun_wants, named_wants}
 use Rattle.lock_laws.specs.Writing.{changes, OpensToWrite, IsOpenedToWrite, IsWrite, IsWriteOn, ScriptsOpenWhatTheyChange}
 use Rattle.lock_laws.proofs.Scripts.{Sound, quiet_sound, never_do, give_do, look_do, do_inst, do_op, probes_within, opens_dir_sound, finds_within, renames_within, close_quiet, mend_sound, opens_file_quiet, lists_quiet, describes_quiet}
@@ -131,22 +134,24 @@ walked_sound mounts path next answers sound i o e c = by_walk (walk mounts path 
 
 -- ---- every call ----
 
-path_sound : (mounts : List Mount) (free : Option ℕ) (words : Call) (answers : List Answer) → Sound (path_wants mounts free words) answers
-path_sound mounts free (call.Create path sites) answers = walked_sound mounts _ _ answers (λ dir k rest. opens_dir_sound _ _ dir k rest (λ p xs. probes_within p dir.group (last_of (components path)) kind.File sites xs))
-path_sound mounts free (call.MakeDir path) answers = walked_sound mounts _ _ answers (λ dir k rest. opens_dir_sound _ _ dir k rest (λ p xs. probes_within p dir.group (last_of (components path)) kind.Dir None xs))
-path_sound mounts free (call.Unlink path) answers = walked_sound mounts _ _ answers (λ dir k rest. opens_dir_sound _ _ dir k rest (λ p xs. finds_within kind.File p dir.group (last_of (components path)) xs))
-path_sound mounts free (call.RemoveDir path) answers = walked_sound mounts _ _ answers (λ dir k rest. opens_dir_sound _ _ dir k rest (λ p xs. finds_within kind.Dir p dir.group (last_of (components path)) xs))
-path_sound mounts free (call.Rename path name) answers = walked_sound mounts _ _ answers (λ dir k rest. opens_dir_sound _ _ dir k rest (λ p xs. renames_within p (last_of (components path)) name xs))
-path_sound mounts free (call.List path) answers = walked_sound mounts _ _ answers (λ dir k rest. quiet_sound (lists mounts (last_of (components path)) dir k) rest (lists_quiet mounts (last_of (components path)) dir k rest))
-path_sound mounts free (call.Stat path) answers = walked_sound mounts _ _ answers (λ dir k rest. quiet_sound (describes dir k) rest (describes_quiet dir k rest))
-path_sound mounts free (call.Open path how) answers = walked_sound mounts _ _ answers (λ dir k rest. quiet_sound (opens_file how free dir k) rest (opens_file_quiet how free dir k rest))
-path_sound mounts free (call.Mend file) answers = mend_sound file answers
-path_sound mounts free _ answers = λ i o e c. absurd (never_do i o e)
+path_sound : (mounts : List Mount) (free : Option ℕ) (id : CallId) (words : Call) (answers : List Answer) → Sound (path_wants mounts free id words) answers
+path_sound mounts free id (call.Create path sites) answers = walked_sound mounts _ _ answers (λ dir k rest. opens_dir_sound _ _ dir k rest (λ p xs. probes_within p dir.group (last_of (components path)) kind.File sites [] reply.Made xs))
+path_sound mounts free id (call.MakeDir path) answers = walked_sound mounts _ _ answers (λ dir k rest. opens_dir_sound _ _ dir k rest (λ p xs. probes_within p dir.group (last_of (components path)) kind.Dir None [] reply.Made xs))
+path_sound mounts free id (call.Unlink path) answers = walked_sound mounts _ _ answers (λ dir k rest. opens_dir_sound _ _ dir k rest (λ p xs. finds_within kind.File p dir.group (last_of (components path)) xs))
+path_sound mounts free id (call.RemoveDir path) answers = walked_sound mounts _ _ answers (λ dir k rest. opens_dir_sound _ _ dir k rest (λ p xs. finds_within kind.Dir p dir.group (last_of (components path)) xs))
+path_sound mounts free id (call.Rename path name) answers = walked_sound mounts _ _ answers (λ dir k rest. opens_dir_sound _ _ dir k rest (λ p xs. renames_within p (last_of (components path)) name xs))
+path_sound mounts free id (call.List path) answers = walked_sound mounts _ _ answers (λ dir k rest. quiet_sound (lists (shown_in mounts) (last_of (components path)) dir k) rest (lists_quiet (shown_in mounts) (last_of (components path)) dir k rest))
+path_sound mounts free id (call.Stat path) answers = walked_sound mounts _ _ answers (λ dir k rest. quiet_sound (describes dir k) rest (describes_quiet dir k rest))
+path_sound mounts free id (call.Mail path bytes) answers = walked_sound mounts _ _ answers (λ dir k rest. opens_dir_sound _ _ dir k rest (λ p xs. probes_within p dir.group (message_name id) kind.File None bytes (tells_name (message_name id)) xs))
+path_sound mounts free id (call.Mails path) answers = walked_sound mounts _ _ answers (λ dir k rest. quiet_sound (lists shown_messages (last_of (components path)) dir k) rest (lists_quiet shown_messages (last_of (components path)) dir k rest))
+path_sound mounts free id (call.Open path how) answers = walked_sound mounts _ _ answers (λ dir k rest. quiet_sound (opens_file how free dir k) rest (opens_file_quiet how free dir k rest))
+path_sound mounts free id (call.Mend file) answers = mend_sound file answers
+path_sound mounts free id _ answers = λ i o e c. absurd (never_do i o e)
 
 begun_sound : (mounts : List Mount) (free : Option ℕ) (words : Call) (b : Beginning) (answers : List Answer) (i : Serial) (o : Op) → begun_wants mounts free words b answers ≡ want.Do i o → changes o ≡ true → IsWriteOn words b i ⊎ IsOpenedToWrite (begun_wants mounts free words b) answers i
 begun_sound mounts free words (begins.Denied why) answers i o e c = absurd (give_do (reply.No why) i o e)
 begun_sound mounts free words (begins.Uses epoch p) answers i o e c = let k : (p ≡ i) × IsWrite words = uses_is words p i o answers e c in inl (record { epoch = epoch; begins_so = ap (begins.Uses epoch) k.0; is_write = k.1 })
-begun_sound mounts free words begins.Walks answers i o e c = inr (path_sound mounts free words answers i o e c)
+begun_sound mounts free words (begins.Walks id) answers i o e c = inr (path_sound mounts free id words answers i o e c)
 
 pub scripts_sound : ScriptsOpenWhatTheyChange
 scripts_sound mounts free words b answers i o = by_names (is_badly_named mounts words) refl

@@ -17,6 +17,7 @@ use Rattle.audited_runs.specs.of_headline_promise_laws.of_promises.Convergence.{
 use Rattle.audited_runs.specs.of_headline_promise_laws.of_promises.Progress.{Progress}
 use Rattle.audited_runs.specs.of_headline_promise_laws.of_tree_model.Folds.{Trace}
 use Rattle.audited_runs.specs.Answered.{IsAuditedWell}
+use Rattle.box_laws.specs.Boxes.{Boxed}
 
 -- however the command ends
 pub record Holds (lines : List ScheduleLine) (trace : Trace) : Type 0 where
@@ -31,6 +32,8 @@ pub record Holds (lines : List ScheduleLine) (trace : Trace) : Type 0 where
   pub rows : RowsHold lines trace
   pub replies : RepliesHold lines trace
   pub commits : CommitsHold lines trace
+  -- and where messages are put into directories by mail alone, boxes merge by themselves
+  pub boxes : Boxed (config_of lines) trace
 
 -- and where its input ends it, so where its run has passed no limit
 pub record HoldsWithin (lines : List ScheduleLine) (trace : Trace) : Type 0 where

@@ -33,14 +33,14 @@ use Rattle.past_laws.proofs.Changing.{any_finds}
 use Rattle.past_laws.proofs.CallsLists.{each_found}
 use Rattle.record_reading.specs.Ranges.{is_request}
 use Rattle.bound_laws.specs.Requests.{IsRequest, is_mend}
-use Rattle.new_text_laws.proofs.Requests.{asked_few, request_low}
+use Rattle.new_text_laws.proofs.Requests.{asked_low, request_low}
 
 -- a request that the call makes after some of its answers has a number in range
 abbrev pub AsksFew : Config → Past → CallSoFar → Type 0
 AsksFew c p k = (n : ℕ) → IsRequest (asks_after c p k (take n k.answers)) → length (take n k.answers) + 1 ≤ 65535
 
 pub usual_few : (c : Config) (p : Past) (k : CallSoFar) → is_mend k.words ≡ false → AsksFew c p k
-usual_few c p k usual n asks = let most : length (take n k.answers) + 1 ≤ 38 = asked_few c.mounts _ k.free k.words k.begins (take n k.answers) usual asks in omega (arith, most)
+usual_few c p k usual n asks = let most : length (take n k.answers) + 1 ≤ 39 = asked_low c.mounts _ k.free k.words k.begins (take n k.answers) usual asks in omega (arith, most)
 
 record Steps (c : Config) (p : Past) (passes : CallSoFar → Bool) : Type 0 where
   call : CallSoFar

@@ -72,4 +72,4 @@ packed_asks packed w q = tt
 pub mends_few : (mounts : List Mount) (packed : ℕ → Bool) (free : Option ℕ) (file : FileId) (b : Beginning) (most : ℕ) (answers : List Answer) → BringsFew most answers → IsRequest (wants mounts packed free (call.Mend file) b answers) → length answers + 1 ≤ most + 3
 mends_few mounts packed free file (Denied why) most answers few q = absurd q
 mends_few mounts packed free file (Uses epoch inst) most answers few q = absurd q
-mends_few mounts packed free file Walks most answers few q = mend_few file most answers few (packed_asks packed (mend_wants file answers) q)
+mends_few mounts packed free file (Walks id) most answers few q = mend_few file most answers few (packed_asks packed (mend_wants file answers) q)

@@ -117,7 +117,7 @@ told_low c m (rec.Accept site process id words) p h = changed_low m (m + 1) (ome
     (λ t low. more_opened m (m + 1) (omega arith) (change (uses k.begins k.words t.id) more t.opened) (kept_low m (uses k.begins k.words t.id) more (λ x q. q) t.opened low)) p.epochs h
   where
     k : CallSoFar
-    k = begun_call p site process id words (beginning (table p site process) (site_at p site).epoch words)
+    k = begun_call p site process id words (beginning (table p site process) (site_at p site).epoch id words)
 
     more : Instance → Instance
     more x = record x { uses = x.uses + 1 }

@@ -1,4 +1,4 @@
--- The requests of calls have numbers in range: a call that isn't a mend makes as many as its path has components, and six more.
+-- The requests of calls have numbers in range: a call that isn't a mend makes as many as its path has components, and six or seven more.
 use Rattle.std.proofs.Common.{◌≡◌, ◌≤◌, ℕ, ◌+◌, ◌==◌, Bool, true, false, cond, not, ◌&&◌, List, [], ◌∷◌, length, Option, refl, arith}
 use Rattle.std.proofs.lemmas.Bool.Decides.{nat_tests}
 use Rattle.std.specs.Prelude.{nat_le}
@@ -16,7 +16,7 @@ use Rattle.call_rules.specs.Words.{is_badly_named, is_mount_name, names_entry, n
 use Rattle.call_rules.specs.declared.answer.Answer.{Answer}
 use Rattle.call_rules.specs.declared.want.Want.TheVariants as want
 use Rattle.record_reading.specs.Ranges.{is_request}
-use Rattle.bound_laws.specs.Requests.{IsRequest, is_mend, most_requests, written_components}
+use Rattle.bound_laws.specs.Requests.{IsRequest, is_mend, most_after_walk, most_requests, written_components}
 use Rattle.bound_laws.proofs.Scripts.{scripts_end}
 
 -- ---- the paths of calls that ask something ----
@@ -39,6 +39,8 @@ named_few mounts (call.RemoveDir path) h = entry_few mounts path (not_false (nam
 named_few mounts (call.Rename path name) h = entry_few mounts path (both_true (names_entry mounts path) _ (not_false (names_entry mounts path && (is_name name && not (is_mount_name mounts path name))) h)).0
 named_few mounts (call.List path) h = few_parts path (not_false (is_path path) h)
 named_few mounts (call.Stat path) h = few_parts path (not_false (is_path path) h)
+named_few mounts (call.Mail path bytes) h = few_parts path (not_false (is_path path) h)
+named_few mounts (call.Mails path) h = few_parts path (not_false (is_path path) h)
 named_few mounts (call.Open path how) h = few_parts path (not_false (is_path path) h)
 named_few mounts _ h = omega arith
 
@@ -49,12 +51,22 @@ asking_few mounts packed free words b answers asks = at (is_badly_named mounts w
     at true e q = absurd q
     at false e q = named_few mounts words e
 
--- a call that isn't a mend, and asks something, has been answered 37 times at most
-pub asked_few : (mounts : List Mount) (packed : ℕ → Bool) (free : Option ℕ) (words : Call) (b : Beginning) (answers : List Answer) → is_mend words ≡ false → IsRequest (wants mounts packed free words b answers) → length answers + 1 ≤ 38
+-- a call that isn't a mend, and asks something, has a path of 32 components at most
+pub asked_few : (mounts : List Mount) (packed : ℕ → Bool) (free : Option ℕ) (words : Call) (b : Beginning) (answers : List Answer) → is_mend words ≡ false → IsRequest (wants mounts packed free words b answers) → length answers + 1 ≤ 32 + most_after_walk words
 asked_few mounts packed free words b answers usual asks =
     let most : length answers + 1 ≤ most_requests words = scripts_end mounts packed free words b answers usual asks in
     let parts : written_components words ≤ 32 = asking_few mounts packed free words b answers asks in
     omega (arith, most, parts)
+
+after_most : (words : Call) → most_after_walk words ≤ 7
+after_most (call.Mail path bytes) = omega arith
+after_most _ = omega arith
+
+pub asked_low : (mounts : List Mount) (packed : ℕ → Bool) (free : Option ℕ) (words : Call) (b : Beginning) (answers : List Answer) → is_mend words ≡ false → IsRequest (wants mounts packed free words b answers) → length answers + 1 ≤ 39
+asked_low mounts packed free words b answers usual asks =
+    let few : length answers + 1 ≤ 32 + most_after_walk words = asked_few mounts packed free words b answers usual asks in
+    let most : most_after_walk words ≤ 7 = after_most words in
+    omega (arith, few, most)
 
 pub request_low : (n most : ℕ) → 1 ≤ n → n ≤ most → most ≤ 65535 → is_request n ≡ true
 request_low n most low high le = grind (arith, nat_tests)

@@ -45,7 +45,7 @@ use Rattle.bound_laws.specs.Requests.{IsRequest}
 use Rattle.new_text_laws.specs.Keeping.{AsksLow, KeepsFew}
 use Rattle.new_text_laws.proofs.Calls.{open_asks}
 use Rattle.new_text_laws.proofs.Mends.{BringsFew, TellsFew, mends_few}
-use Rattle.new_text_laws.proofs.Requests.{asked_few, request_low}
+use Rattle.new_text_laws.proofs.Requests.{asked_low, request_low}
 
 -- ---- what calls are answered ----
 
@@ -113,16 +113,16 @@ answers_few most c (r ∷ before) d h = answered most c r.line r.what before d h
 
 -- ---- what they ask ----
 
-words_few : (most : ℕ) (mounts : List Mount) (packed : ℕ → Bool) (free : Option ℕ) (words : Call) (b : Beginning) (xs : List Answer) → BringsFew most xs → IsRequest (wants mounts packed free words b xs) → length xs + 1 ≤ most + 38
+words_few : (most : ℕ) (mounts : List Mount) (packed : ℕ → Bool) (free : Option ℕ) (words : Call) (b : Beginning) (xs : List Answer) → BringsFew most xs → IsRequest (wants mounts packed free words b xs) → length xs + 1 ≤ most + 39
 words_few most mounts packed free (call.Mend file) b xs few q = let k : length xs + 1 ≤ most + 3 = mends_few mounts packed free file b most xs few q in omega (arith, k)
-words_few most mounts packed free words b xs few q = let k : length xs + 1 ≤ 38 = asked_few mounts packed free words b xs refl q in omega (arith, k)
+words_few most mounts packed free words b xs few q = let k : length xs + 1 ≤ 39 = asked_low mounts packed free words b xs refl q in omega (arith, k)
 
-as_few : (most : ℕ) (c : Config) (before : Trace) (w : Option Waiting) (b : Option Beginning) (xs : List Answer) → BringsFew most xs → IsRequest (wants_as c before w b xs) → length xs + 1 ≤ most + 38
+as_few : (most : ℕ) (c : Config) (before : Trace) (w : Option Waiting) (b : Option Beginning) (xs : List Answer) → BringsFew most xs → IsRequest (wants_as c before w b xs) → length xs + 1 ≤ most + 39
 as_few most c before (Some w) (Some b) xs few q = words_few most c.mounts _ _ w.words b xs few q
 as_few most c before (Some w) None xs few q = absurd q
 as_few most c before None b xs few q = absurd q
 
-after_few : (most : ℕ) (c : Config) (before : Trace) (d : CallId) (xs : List Answer) → BringsFew most xs → IsRequest (wants_after c before d xs) → length xs + 1 ≤ most + 38
+after_few : (most : ℕ) (c : Config) (before : Trace) (d : CallId) (xs : List Answer) → BringsFew most xs → IsRequest (wants_after c before d xs) → length xs + 1 ≤ most + 39
 after_few most c before d xs few q = as_few most c before (call_named before d) (begun before d) xs few q
 
 -- ---- records ----
@@ -131,7 +131,7 @@ look_request : (most : ℕ) (c : Config) (before : Trace) (e : EpochId) (d : Cal
 look_request most c before e d request f w result le few m =
     let range : (1 ≤ request) × (request ≤ length (answers c before d) + 1) = number (length (answers c before d)) m.numbered in
     let long : length (take (request - 1) (answers c before d)) ≡ request - 1 = length-take-le (request - 1) (answers c before d) (omega (arith, range.0, range.1)) in
-    let k : length (take (request - 1) (answers c before d)) + 1 ≤ most + 38 = after_few most c before d (take (request - 1) (answers c before d)) (taken most (request - 1) (answers c before d) (answers_few most c before d few)) (subst IsRequest (sym m.asked) tt) in
+    let k : length (take (request - 1) (answers c before d)) + 1 ≤ most + 39 = after_few most c before d (take (request - 1) (answers c before d)) (taken most (request - 1) (answers c before d) (answers_few most c before d few)) (subst IsRequest (sym m.asked) tt) in
     request_low request 65535 range.0 (omega (arith, range.0, long, k, le)) (omega arith)
   where
     number : (n : ℕ) → is_next_or_again request n ≡ true → (1 ≤ request) × (request ≤ n + 1)
@@ -146,7 +146,7 @@ look_request most c before e d request f w result le few m =
 open_request : (most : ℕ) (c : Config) (before : Trace) (e : EpochId) (d : CallId) (request : ℕ) (m : Mode) (f : FileId) → most ≤ 60000 → KeepsFew most c before → MayOpen c before e d request m f → is_request request ≡ true
 open_request most c before e d request m f le few o =
     let number : request ≡ length (answers c before d) + 1 = o.numbered in
-    let k : length (answers c before d) + 1 ≤ most + 38 = after_few most c before d (answers c before d) (answers_few most c before d few) (open_asks m f (wants_after c before d (answers c before d)) o.asked) in
+    let k : length (answers c before d) + 1 ≤ most + 39 = after_few most c before d (answers c before d) (answers_few most c before d few) (open_asks m f (wants_after c before d (answers c before d)) o.asked) in
     request_low request 65535 (omega (arith, number)) (omega (arith, number, k, le)) (omega arith)
 
 pub asks_low : (most : ℕ) (c : Config) (before : Trace) (r : Record) → most ≤ 60000 → KeepsFew most c before → MayCome c before r → AsksLow r

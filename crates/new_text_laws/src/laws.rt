@@ -17,7 +17,7 @@ ghost use Rattle.call_rules.specs.declared.answer.Answer.{Answer};
 ghost use Rattle.trace_book.specs.declared.record.Record.{Record};
 ghost use Rattle.tree_model.specs.Folds.{Trace};
 ghost use Rattle.lawful_trace.specs.Lawful.{MayCome};
-ghost use Rattle.bound_laws.specs.Requests.{IsRequest, is_mend};
+ghost use Rattle.bound_laws.specs.Requests.{IsRequest, is_mend, most_after_walk};
 ghost use Rattle.call_text_laws.specs.Wants.{is_mount};
 ghost use Rattle.new_text_laws.specs.Keeping.{AreChained, Ascend, AsksLow, KeepsFew};
 
@@ -26,9 +26,10 @@ pub fn mounts_have_texts()
     ensures { (lines : List ScheduleLine) → AreInOrder lines → list_all is_mount (config_of lines).mounts ≡ true }
 {}
 
-/// A call that isn't a mend, and asks something, has a path of 32 components at most, and asks by its 38th request at the latest.
+/// A call that isn't a mend, and asks something, has a path of 32 components at most, and asks by its 38th request at the latest, or by its
+/// 39th if it is a mail.
 pub fn calls_ask_few()
-    ensures { (mounts : List Mount) (packed : ℕ → Bool) (free : Option ℕ) (words : Call) (b : Beginning) (answers : List Answer) → is_mend words ≡ false → IsRequest (wants mounts packed free words b answers) → length answers + 1 ≤ 38 }
+    ensures { (mounts : List Mount) (packed : ℕ → Bool) (free : Option ℕ) (words : Call) (b : Beginning) (answers : List Answer) → is_mend words ≡ false → IsRequest (wants mounts packed free words b answers) → length answers + 1 ≤ 32 + most_after_walk words }
 {}
 
 /// Of versions of a file whose stamps ascend, and of no more sites than a cluster may have, no more than 17 are kept, one of the format's

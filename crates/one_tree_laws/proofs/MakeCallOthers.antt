@@ -1,5 +1,6 @@
--- Scripts that make nothing: those of all calls but create and mkdir, and of these once the make is answered.
+-- Scripts that make nothing: those of all calls but create, mkdir and mail, and of these once the make is answered.
 use Rattle.std.proofs.Common.{ℕ, List, [], ◌∷◌, Option, Some, None, ◌≡◌, refl}
+use Rattle.locus_ids.specs.declared.ids.CallId.{CallId}
 use Rattle.locus_ids.specs.declared.config.Mount.{Mount}
 use Rattle.locus_ids.specs.declared.ids.FileId.{FileId}
 use Rattle.locus_ids.specs.declared.ids.Kind.{Kind}
@@ -18,10 +19,11 @@ use Rattle.trace_book.specs.declared.operation.Outcome.TheVariants as outcome
 use Rattle.trace_book.specs.declared.reply.Reply.{Reply}
 use Rattle.trace_book.specs.declared.reply.Reply.TheVariants as reply
 use Rattle.call_rules.specs.Closing.{Unchanged, close_all, closes, give_up, gives}
-use Rattle.call_rules.specs.Making.{after_insert, after_make, after_probe, changes_dir, opens_dir}
+use Rattle.call_rules.specs.Mailing.{shown_messages}
+use Rattle.call_rules.specs.Making.{after_insert, after_make, after_probe, changes_dir, opens_dir, fills}
 use Rattle.call_rules.specs.Mending.{after_mend, brings, mend_wants}
 use Rattle.call_rules.specs.Naming.{renames}
-use Rattle.call_rules.specs.Opening.{close_wants, describes, lists, op_wants, opens_file, uses_wants}
+use Rattle.call_rules.specs.Opening.{close_wants, describes, lists, op_wants, opens_file, uses_wants, Shows, shown_in}
 use Rattle.call_rules.specs.Removing.{by_kind, empties, finds, opens_target, removes}
 use Rattle.call_rules.specs.Scripts.{path_wants}
 use Rattle.call_rules.specs.Walks.{Asks, Fails, Strays, There, Walked, root_of, walk, walked}
@@ -90,23 +92,30 @@ changes_none mounts path next h xs = go_none mounts _ xs _ (λ dir k rest. opens
 
 -- ---- create and mkdir ----
 
-after_insert_none : (p : Serial) (name : List ℕ) (k : Kind) (ino : ℕ) (xs : List Answer) → NotMake (after_insert p name k ino xs)
-after_insert_none p name k ino [] = tt
-after_insert_none p name k ino (answer.Did o ∷ rest) = close_all_none (p ∷ []) (reply.Made ino) rest
-after_insert_none p name k ino (answer.Refused why ∷ rest) = give_up_one p why rest
-after_insert_none p name k ino (_ ∷ rest) = tt
+after_insert_none : (p : Serial) (name : List ℕ) (k : Kind) (ino : ℕ) (told : Reply) (xs : List Answer) → NotMake (after_insert p name k ino told xs)
+after_insert_none p name k ino told [] = tt
+after_insert_none p name k ino told (answer.Did o ∷ rest) = close_all_none (p ∷ []) told rest
+after_insert_none p name k ino told (answer.Refused why ∷ rest) = give_up_one p why rest
+after_insert_none p name k ino told (_ ∷ rest) = tt
 
-after_make_none : (p : Serial) (name : List ℕ) (k : Kind) (made : Serial) (ino : ℕ) (xs : List Answer) → NotMake (after_make p name k made ino xs)
-after_make_none p name k made ino [] = tt
-after_make_none p name k made ino (answer.Ended stamp ∷ rest) = after_insert_none p name k ino rest
-after_make_none p name k made ino (answer.Refused why ∷ rest) = give_up_one p why rest
-after_make_none p name k made ino (_ ∷ rest) = tt
+after_make_none : (p : Serial) (name : List ℕ) (k : Kind) (made : Serial) (ino : ℕ) (told : Reply) (xs : List Answer) → NotMake (after_make p name k made ino told xs)
+after_make_none p name k made ino told [] = tt
+after_make_none p name k made ino told (answer.Ended stamp ∷ rest) = after_insert_none p name k ino told rest
+after_make_none p name k made ino told (answer.Refused why ∷ rest) = give_up_one p why rest
+after_make_none p name k made ino told (_ ∷ rest) = tt
+
+fills_none : (p : Serial) (name : List ℕ) (k : Kind) (bytes : List ℕ) (made : Serial) (ino : ℕ) (told : Reply) (xs : List Answer) → NotMake (fills p name k bytes made ino told xs)
+fills_none p name k [] made ino told xs = after_make_none p name k made ino told xs
+fills_none p name k (b ∷ bs) made ino told [] = tt
+fills_none p name k (b ∷ bs) made ino told (answer.Did o ∷ rest) = after_make_none p name k made ino told rest
+fills_none p name k (b ∷ bs) made ino told (answer.Refused why ∷ rest) = give_up_two made p why rest
+fills_none p name k (b ∷ bs) made ino told (_ ∷ rest) = tt
 
 -- once the make is answered
-pub made_none : (p : Serial) (group : ℕ) (name : List ℕ) (k : Kind) (sites : Option Sites) (a : Answer) (xs : List Answer) → NotMake (after_probe p group name k sites (a ∷ xs))
-made_none p group name k sites (answer.Opened made ino) xs = after_make_none p name k made ino xs
-made_none p group name k sites (answer.Refused why) xs = give_up_one p why xs
-made_none p group name k sites _ xs = tt
+pub made_none : (p : Serial) (group : ℕ) (name : List ℕ) (k : Kind) (sites : Option Sites) (bytes : List ℕ) (tells : ℕ → Reply) (a : Answer) (xs : List Answer) → NotMake (after_probe p group name k sites bytes tells (a ∷ xs))
+made_none p group name k sites bytes tells (answer.Opened made ino) xs = fills_none p name k bytes made ino (tells ino) xs
+made_none p group name k sites bytes tells (answer.Refused why) xs = give_up_one p why xs
+made_none p group name k sites bytes tells _ xs = tt
 
 -- ---- unlink, rmdir and rename ----
 
@@ -183,12 +192,12 @@ opens_file_none m (Some fd) f kind.File (answer.Refused why ∷ []) = tt
 opens_file_none m None f kind.File (_ ∷ rest) = tt
 opens_file_none m (Some fd) f kind.File (_ ∷ rest) = tt
 
-lists_none : (mounts : List Mount) (reached : List ℕ) (f : FileId) (k : Kind) (xs : List Answer) → NotMake (lists mounts reached f k xs)
-lists_none mounts reached f kind.File xs = tt
-lists_none mounts reached f kind.Dir [] = tt
-lists_none mounts reached f kind.Dir (answer.Showed names ∷ []) = tt
-lists_none mounts reached f kind.Dir (answer.Refused why ∷ []) = tt
-lists_none mounts reached f kind.Dir (_ ∷ rest) = tt
+lists_none : (shows : Shows) (reached : List ℕ) (f : FileId) (k : Kind) (xs : List Answer) → NotMake (lists shows reached f k xs)
+lists_none shows reached f kind.File xs = tt
+lists_none shows reached f kind.Dir [] = tt
+lists_none shows reached f kind.Dir (answer.Showed names ∷ []) = tt
+lists_none shows reached f kind.Dir (answer.Refused why ∷ []) = tt
+lists_none shows reached f kind.Dir (_ ∷ rest) = tt
 
 describes_none : (f : FileId) (k : Kind) (xs : List Answer) → NotMake (describes f k xs)
 describes_none f k [] = tt
@@ -213,20 +222,23 @@ uses_none _ i xs = tt
 
 -- ---- all others ----
 
--- create and mkdir make a file
+-- create, mkdir and mail make a file
 abbrev pub Makes : Call → Type 0
 Makes (call.Create path sites) = Unit {0}
 Makes (call.MakeDir path) = Unit {0}
+Makes (call.Mail path bytes) = Unit {0}
 Makes _ = ⊥
 
-pub others_none : (mounts : List Mount) (free : Option ℕ) (words : Call) → (Makes words → ⊥) → (xs : List Answer) → NotMake (path_wants mounts free words xs)
-others_none mounts free (call.Create path sites) other xs = absurd (other tt)
-others_none mounts free (call.MakeDir path) other xs = absurd (other tt)
-others_none mounts free (call.Unlink path) other xs = changes_none mounts path _ (λ g p rest. finds_none kind.File p g _ rest) xs
-others_none mounts free (call.RemoveDir path) other xs = changes_none mounts path _ (λ g p rest. finds_none kind.Dir p g _ rest) xs
-others_none mounts free (call.Rename path name) other xs = changes_none mounts path _ (λ g p rest. renames_none p _ name rest) xs
-others_none mounts free (call.List path) other xs = go_none mounts (components path) xs _ (λ f k rest. lists_none mounts _ f k rest)
-others_none mounts free (call.Stat path) other xs = go_none mounts (components path) xs _ (λ f k rest. describes_none f k rest)
-others_none mounts free (call.Open path how) other xs = go_none mounts (components path) xs _ (λ f k rest. opens_file_none how free f k rest)
-others_none mounts free (call.Mend f) other xs = mend_none f xs
-others_none mounts free _ other xs = tt
+pub others_none : (mounts : List Mount) (free : Option ℕ) (id : CallId) (words : Call) → (Makes words → ⊥) → (xs : List Answer) → NotMake (path_wants mounts free id words xs)
+others_none mounts free id (call.Create path sites) other xs = absurd (other tt)
+others_none mounts free id (call.MakeDir path) other xs = absurd (other tt)
+others_none mounts free id (call.Mail path bytes) other xs = absurd (other tt)
+others_none mounts free id (call.Unlink path) other xs = changes_none mounts path _ (λ g p rest. finds_none kind.File p g _ rest) xs
+others_none mounts free id (call.RemoveDir path) other xs = changes_none mounts path _ (λ g p rest. finds_none kind.Dir p g _ rest) xs
+others_none mounts free id (call.Rename path name) other xs = changes_none mounts path _ (λ g p rest. renames_none p _ name rest) xs
+others_none mounts free id (call.List path) other xs = go_none mounts (components path) xs _ (λ f k rest. lists_none (shown_in mounts) _ f k rest)
+others_none mounts free id (call.Mails path) other xs = go_none mounts (components path) xs _ (λ f k rest. lists_none shown_messages _ f k rest)
+others_none mounts free id (call.Stat path) other xs = go_none mounts (components path) xs _ (λ f k rest. describes_none f k rest)
+others_none mounts free id (call.Open path how) other xs = go_none mounts (components path) xs _ (λ f k rest. opens_file_none how free f k rest)
+others_none mounts free id (call.Mend f) other xs = mend_none f xs
+others_none mounts free id _ other xs = tt

@@ -1,6 +1,7 @@
--- The script of a create or a mkdir: when it asks its make it was answered a probe on the directory that it opened; and once the make
+-- The script of a create, a mkdir or a mail: when it asks its make it was answered a probe on the directory that it opened; and once the make
 -- is answered it asks none.
 use Rattle.std.proofs.Common.{◌≡◌, ℕ, Bool, true, false, cond, List, [], ◌∷◌, ◌++◌, Option, Some, None, refl, sym, ◌∙◌, ap, subst, inl, inr}
+use Rattle.locus_ids.specs.declared.ids.CallId.{CallId}
 use Rattle.locus_ids.specs.declared.config.Config.{Config}
 use Rattle.locus_ids.specs.declared.config.Mount.{Mount}
 use Rattle.locus_ids.specs.declared.ids.EpochId.{EpochId}
@@ -10,6 +11,7 @@ use Rattle.locus_ids.specs.declared.ids.Kind.TheVariants as kind
 use Rattle.locus_ids.specs.declared.ids.Serial.{Serial}
 use Rattle.locus_ids.specs.declared.refusal.Refusal.TheVariants as refusal
 use Rattle.locus_ids.specs.declared.sites.Sites.{Sites}
+use Rattle.trace_book.specs.Messages.{message_name}
 use Rattle.trace_book.specs.Names.{but_last, components, last_of}
 use Rattle.trace_book.specs.declared.call.Call.{Call}
 use Rattle.trace_book.specs.declared.call.Call.TheVariants as call
@@ -17,10 +19,12 @@ use Rattle.trace_book.specs.declared.descriptor.Beginning.{Beginning}
 use Rattle.trace_book.specs.declared.descriptor.Beginning.TheVariants as begins
 use Rattle.trace_book.specs.declared.operation.Op.TheVariants as op
 use Rattle.trace_book.specs.declared.operation.Outcome.{Outcome}
+use Rattle.trace_book.specs.declared.reply.Reply.{Reply}
 use Rattle.trace_book.specs.declared.reply.Reply.TheVariants as reply
-use Rattle.call_rules.specs.Making.{after_probe, make_wants, opens_dir, probes}
+use Rattle.call_rules.specs.Mailing.{tells_name}
+use Rattle.call_rules.specs.Making.{after_probe, opens_dir, probes}
 use Rattle.call_rules.specs.Scripts.{begun_wants, named_wants, path_wants, where_packed}
-use Rattle.call_rules.specs.Walks.{mounted_in, passes, root_of, walk}
+use Rattle.call_rules.specs.Walks.{mounted_in, passes, root_of, walk, walked}
 use Rattle.call_rules.specs.Words.{is_badly_named}
 use Rattle.call_rules.specs.declared.answer.Answer.{Answer}
 use Rattle.call_rules.specs.declared.answer.Answer.TheVariants as answer
@@ -58,9 +62,9 @@ make_group a b j k s t e = cc
 
 -- ---- the end of the script ----
 
-module _ (dir : FileId) (reached name : List ℕ) (kd : Kind) (sites : Option Sites) (group : ℕ) (k : Kind) (set : Option Sites) where
+module _ (dir : FileId) (reached name : List ℕ) (kd : Kind) (sites : Option Sites) (bytes : List ℕ) (tells : ℕ → Reply) (group : ℕ) (k : Kind) (set : Option Sites) where
   abbrev on : Script
-  on = opens_dir reached (λ q rest. probes q dir.group name kd sites rest) dir kind.Dir
+  on = opens_dir reached (λ q rest. probes q dir.group name kd sites bytes tells rest) dir kind.Dir
 
   own : (p : Serial) (ino : ℕ) (o : Outcome) → Making on (answer.Opened p ino ∷ answer.Did o ∷ []) dir.group
   own p ino o = record {
@@ -74,20 +78,20 @@ module _ (dir : FileId) (reached name : List ℕ) (kd : Kind) (sites : Option Si
     probes = refl;
     on_dir = (record { opens = λ e. (inl refl, refl) }, tt);
     group_is = refl;
-    once = λ a ys. made_none p dir.group name kd sites a ys;
+    once = λ a ys. made_none p dir.group name kd sites bytes tells a ys;
   }
 
-  probed_end : (p : Serial) (ino : ℕ) (o : Outcome) (xs : List Answer) → after_probe p dir.group name kd sites xs ≡ want.Make group k set → Making on (answer.Opened p ino ∷ answer.Did o ∷ xs) group
+  probed_end : (p : Serial) (ino : ℕ) (o : Outcome) (xs : List Answer) → after_probe p dir.group name kd sites bytes tells xs ≡ want.Make group k set → Making on (answer.Opened p ino ∷ answer.Did o ∷ xs) group
   probed_end p ino o [] e = subst (Making on (answer.Opened p ino ∷ answer.Did o ∷ [])) (make_group dir.group group kd k sites set e) (own p ino o)
-  probed_end p ino o (a ∷ xs) e = absurd (no_make _ group k set (made_none p dir.group name kd sites a xs) e)
+  probed_end p ino o (a ∷ xs) e = absurd (no_make _ group k set (made_none p dir.group name kd sites bytes tells a xs) e)
 
-  probes_end : (p : Serial) (ino : ℕ) (xs : List Answer) → probes p dir.group name kd sites xs ≡ want.Make group k set → Making on (answer.Opened p ino ∷ xs) group
+  probes_end : (p : Serial) (ino : ℕ) (xs : List Answer) → probes p dir.group name kd sites bytes tells xs ≡ want.Make group k set → Making on (answer.Opened p ino ∷ xs) group
   probes_end p ino [] e = absurd (no_make _ group k set tt e)
   probes_end p ino (answer.Did o ∷ rest) e = probed_end p ino o rest e
   probes_end p ino (answer.Refused why ∷ rest) e = absurd (no_make _ group k set (give_up_one p why rest) e)
   probes_end p ino (_ ∷ rest) e = absurd (no_make _ group k set tt e)
 
-  opens_end : (at : Kind) (xs : List Answer) → opens_dir reached (λ q rest. probes q dir.group name kd sites rest) dir at xs ≡ want.Make group k set → Making (opens_dir reached (λ q rest. probes q dir.group name kd sites rest) dir at) xs group
+  opens_end : (at : Kind) (xs : List Answer) → opens_dir reached (λ q rest. probes q dir.group name kd sites bytes tells rest) dir at xs ≡ want.Make group k set → Making (opens_dir reached (λ q rest. probes q dir.group name kd sites bytes tells rest) dir at) xs group
   opens_end kind.File xs e = absurd (no_make _ group k set tt e)
   opens_end kind.Dir [] e = absurd (no_make _ group k set tt e)
   opens_end kind.Dir (answer.Opened p ino ∷ rest) e = probes_end p ino rest e
@@ -142,24 +146,27 @@ module _ (mounts : List Mount) (after : FileId → Kind → Script) (group : ℕ
       over later None (answer.Refused why ∷ rest) q = absurd (no_make _ group k set tt q)
       over later None (_ ∷ rest) q = absurd (no_make _ group k set tt q)
 
-make_making : (mounts : List Mount) (path : List ℕ) (kd : Kind) (sites : Option Sites) (group : ℕ) (k : Kind) (set : Option Sites) (xs : List Answer) → make_wants mounts path kd sites xs ≡ want.Make group k set → Making (make_wants mounts path kd sites) xs group
-make_making mounts path kd sites group k set xs e = making_same (λ ys. goes after (walk mounts (but_last (components path)) [] (root_of 0) kind.Dir ys)) (make_wants mounts path kd sites) (goes_walked mounts (but_last (components path)) after) xs group
-    (walk_making mounts after group k set (λ f at ys q. opens_end f (last_of (but_last (components path))) (last_of (components path)) kd sites group k set at ys q) (but_last (components path)) [] (root_of 0) kind.Dir xs (goes_walked mounts (but_last (components path)) after xs ∙ e))
-  where
-    after : FileId → Kind → Script
-    after dir at rest = opens_dir (last_of (but_last (components path))) (λ p ys. probes p dir.group (last_of (components path)) kd sites ys) dir at rest
+-- what makes a file of this name in the directory to which these components lead
+module _ (mounts : List Mount) (names : List (List ℕ)) (name : List ℕ) (kd : Kind) (sites : Option Sites) (bytes : List ℕ) (tells : ℕ → Reply) where
+  abbrev after : FileId → Kind → Script
+  after dir at rest = opens_dir (last_of names) (λ p ys. probes p dir.group name kd sites bytes tells ys) dir at rest
+
+  box_making : (group : ℕ) (k : Kind) (set : Option Sites) (xs : List Answer) → walked mounts names xs after ≡ want.Make group k set → Making (λ ys. walked mounts names ys after) xs group
+  box_making group k set xs e = making_same (λ ys. goes after (walk mounts names [] (root_of 0) kind.Dir ys)) (λ ys. walked mounts names ys after) (goes_walked mounts names after) xs group
+      (walk_making mounts after group k set (λ f at ys q. opens_end f (last_of names) name kd sites bytes tells group k set at ys q) names [] (root_of 0) kind.Dir xs (goes_walked mounts names after xs ∙ e))
 
 -- ---- the whole script ----
 
-path_making : (mounts : List Mount) (free : Option ℕ) (words : Call) (group : ℕ) (k : Kind) (set : Option Sites) (xs : List Answer) → path_wants mounts free words xs ≡ want.Make group k set → Making (path_wants mounts free words) xs group
-path_making mounts free (call.Create path sites) group k set xs e = make_making mounts path kind.File sites group k set xs e
-path_making mounts free (call.MakeDir path) group k set xs e = make_making mounts path kind.Dir None group k set xs e
-path_making mounts free words group k set xs e = absurd (no_make _ group k set (others_none mounts free words (λ r. r) xs) e)
+path_making : (mounts : List Mount) (free : Option ℕ) (id : CallId) (words : Call) (group : ℕ) (k : Kind) (set : Option Sites) (xs : List Answer) → path_wants mounts free id words xs ≡ want.Make group k set → Making (path_wants mounts free id words) xs group
+path_making mounts free id (call.Create path sites) group k set xs e = box_making mounts (but_last (components path)) (last_of (components path)) kind.File sites [] reply.Made group k set xs e
+path_making mounts free id (call.MakeDir path) group k set xs e = box_making mounts (but_last (components path)) (last_of (components path)) kind.Dir None [] reply.Made group k set xs e
+path_making mounts free id (call.Mail path bytes) group k set xs e = box_making mounts (components path) (message_name id) kind.File None bytes (tells_name (message_name id)) group k set xs e
+path_making mounts free id words group k set xs e = absurd (no_make _ group k set (others_none mounts free id words (λ r. r) xs) e)
 
 begun_making : (mounts : List Mount) (free : Option ℕ) (words : Call) (b : Beginning) (group : ℕ) (k : Kind) (set : Option Sites) (xs : List Answer) → begun_wants mounts free words b xs ≡ want.Make group k set → Making (begun_wants mounts free words b) xs group
 begun_making mounts free words (begins.Denied why) group k set xs e = absurd (no_make _ group k set tt e)
 begun_making mounts free words (begins.Uses epoch inst) group k set xs e = absurd (no_make _ group k set (uses_none words inst xs) e)
-begun_making mounts free words begins.Walks group k set xs e = path_making mounts free words group k set xs e
+begun_making mounts free words (begins.Walks id) group k set xs e = path_making mounts free id words group k set xs e
 
 named_making : (mounts : List Mount) (free : Option ℕ) (words : Call) (b : Beginning) (group : ℕ) (k : Kind) (set : Option Sites) (xs : List Answer) → named_wants mounts free words b xs ≡ want.Make group k set → Making (named_wants mounts free words b) xs group
 named_making mounts free words b group k set xs e = over (is_badly_named mounts words) e

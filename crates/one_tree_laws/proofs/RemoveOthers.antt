@@ -1,5 +1,6 @@
 -- Scripts that remove nothing: those of all calls but unlink and rmdir.
 use Rattle.std.proofs.Common.{ℕ, List, [], ◌∷◌, Option, Some, None, ◌≡◌, refl}
+use Rattle.locus_ids.specs.declared.ids.CallId.{CallId}
 use Rattle.locus_ids.specs.declared.config.Mount.{Mount}
 use Rattle.locus_ids.specs.declared.ids.FileId.{FileId}
 use Rattle.locus_ids.specs.declared.ids.Kind.{Kind}
@@ -17,10 +18,11 @@ use Rattle.trace_book.specs.declared.operation.Op.TheVariants as op
 use Rattle.trace_book.specs.declared.reply.Reply.{Reply}
 use Rattle.trace_book.specs.declared.reply.Reply.TheVariants as reply
 use Rattle.call_rules.specs.Closing.{Unchanged, close_all, closes, give_up, gives}
-use Rattle.call_rules.specs.Making.{after_insert, after_make, after_probe, changes_dir, opens_dir, probes}
+use Rattle.call_rules.specs.Mailing.{shown_messages}
+use Rattle.call_rules.specs.Making.{after_insert, after_make, fills, after_probe, changes_dir, opens_dir, probes}
 use Rattle.call_rules.specs.Mending.{after_mend, brings, mend_wants}
 use Rattle.call_rules.specs.Naming.{renames}
-use Rattle.call_rules.specs.Opening.{close_wants, describes, lists, op_wants, opens_file, uses_wants}
+use Rattle.call_rules.specs.Opening.{close_wants, describes, lists, op_wants, opens_file, uses_wants, Shows, shown_in}
 use Rattle.call_rules.specs.Scripts.{path_wants}
 use Rattle.call_rules.specs.Walks.{Asks, Fails, Strays, There, Walked, root_of, walk, walked}
 use Rattle.call_rules.specs.declared.answer.Answer.{Answer}
@@ -88,29 +90,36 @@ changes_none mounts path next h xs = go_none mounts _ xs _ (λ dir k rest. opens
 
 -- ---- create, mkdir and rename ----
 
-after_insert_none : (p : Serial) (name : List ℕ) (k : Kind) (ino : ℕ) (xs : List Answer) → NotRemove (after_insert p name k ino xs)
-after_insert_none p name k ino [] = tt
-after_insert_none p name k ino (answer.Did o ∷ rest) = close_all_none (p ∷ []) (reply.Made ino) rest
-after_insert_none p name k ino (answer.Refused why ∷ rest) = give_up_one p why rest
-after_insert_none p name k ino (_ ∷ rest) = tt
+after_insert_none : (p : Serial) (name : List ℕ) (k : Kind) (ino : ℕ) (told : Reply) (xs : List Answer) → NotRemove (after_insert p name k ino told xs)
+after_insert_none p name k ino told [] = tt
+after_insert_none p name k ino told (answer.Did o ∷ rest) = close_all_none (p ∷ []) told rest
+after_insert_none p name k ino told (answer.Refused why ∷ rest) = give_up_one p why rest
+after_insert_none p name k ino told (_ ∷ rest) = tt
 
-after_make_none : (p : Serial) (name : List ℕ) (k : Kind) (made : Serial) (ino : ℕ) (xs : List Answer) → NotRemove (after_make p name k made ino xs)
-after_make_none p name k made ino [] = tt
-after_make_none p name k made ino (answer.Ended stamp ∷ rest) = after_insert_none p name k ino rest
-after_make_none p name k made ino (answer.Refused why ∷ rest) = give_up_one p why rest
-after_make_none p name k made ino (_ ∷ rest) = tt
+after_make_none : (p : Serial) (name : List ℕ) (k : Kind) (made : Serial) (ino : ℕ) (told : Reply) (xs : List Answer) → NotRemove (after_make p name k made ino told xs)
+after_make_none p name k made ino told [] = tt
+after_make_none p name k made ino told (answer.Ended stamp ∷ rest) = after_insert_none p name k ino told rest
+after_make_none p name k made ino told (answer.Refused why ∷ rest) = give_up_one p why rest
+after_make_none p name k made ino told (_ ∷ rest) = tt
 
-after_probe_none : (p : Serial) (group : ℕ) (name : List ℕ) (k : Kind) (sites : Option Sites) → (xs : List Answer) → NotRemove (after_probe p group name k sites xs)
-after_probe_none p group name k sites [] = tt
-after_probe_none p group name k sites (answer.Opened made ino ∷ rest) = after_make_none p name k made ino rest
-after_probe_none p group name k sites (answer.Refused why ∷ rest) = give_up_one p why rest
-after_probe_none p group name k sites (_ ∷ rest) = tt
+fills_none : (p : Serial) (name : List ℕ) (k : Kind) (bytes : List ℕ) (made : Serial) (ino : ℕ) (told : Reply) (xs : List Answer) → NotRemove (fills p name k bytes made ino told xs)
+fills_none p name k [] made ino told xs = after_make_none p name k made ino told xs
+fills_none p name k (b ∷ bs) made ino told [] = tt
+fills_none p name k (b ∷ bs) made ino told (answer.Did o ∷ rest) = after_make_none p name k made ino told rest
+fills_none p name k (b ∷ bs) made ino told (answer.Refused why ∷ rest) = give_up_two made p why rest
+fills_none p name k (b ∷ bs) made ino told (_ ∷ rest) = tt
 
-probes_none : (p : Serial) (group : ℕ) (name : List ℕ) (k : Kind) (sites : Option Sites) → (xs : List Answer) → NotRemove (probes p group name k sites xs)
-probes_none p group name k sites [] = tt
-probes_none p group name k sites (answer.Did o ∷ rest) = after_probe_none p group name k sites rest
-probes_none p group name k sites (answer.Refused why ∷ rest) = give_up_one p why rest
-probes_none p group name k sites (_ ∷ rest) = tt
+after_probe_none : (p : Serial) (group : ℕ) (name : List ℕ) (k : Kind) (sites : Option Sites) (bytes : List ℕ) (tells : ℕ → Reply) → (xs : List Answer) → NotRemove (after_probe p group name k sites bytes tells xs)
+after_probe_none p group name k sites bytes tells [] = tt
+after_probe_none p group name k sites bytes tells (answer.Opened made ino ∷ rest) = fills_none p name k bytes made ino (tells ino) rest
+after_probe_none p group name k sites bytes tells (answer.Refused why ∷ rest) = give_up_one p why rest
+after_probe_none p group name k sites bytes tells (_ ∷ rest) = tt
+
+probes_none : (p : Serial) (group : ℕ) (name : List ℕ) (k : Kind) (sites : Option Sites) (bytes : List ℕ) (tells : ℕ → Reply) → (xs : List Answer) → NotRemove (probes p group name k sites bytes tells xs)
+probes_none p group name k sites bytes tells [] = tt
+probes_none p group name k sites bytes tells (answer.Did o ∷ rest) = after_probe_none p group name k sites bytes tells rest
+probes_none p group name k sites bytes tells (answer.Refused why ∷ rest) = give_up_one p why rest
+probes_none p group name k sites bytes tells (_ ∷ rest) = tt
 
 renames_none : (p : Serial) (component name : List ℕ) (xs : List Answer) → NotRemove (renames p component name xs)
 renames_none p component name [] = tt
@@ -154,12 +163,12 @@ opens_file_none m (Some fd) f kind.File (answer.Refused why ∷ []) = tt
 opens_file_none m None f kind.File (_ ∷ rest) = tt
 opens_file_none m (Some fd) f kind.File (_ ∷ rest) = tt
 
-lists_none : (mounts : List Mount) (reached : List ℕ) (f : FileId) (k : Kind) (xs : List Answer) → NotRemove (lists mounts reached f k xs)
-lists_none mounts reached f kind.File xs = tt
-lists_none mounts reached f kind.Dir [] = tt
-lists_none mounts reached f kind.Dir (answer.Showed names ∷ []) = tt
-lists_none mounts reached f kind.Dir (answer.Refused why ∷ []) = tt
-lists_none mounts reached f kind.Dir (_ ∷ rest) = tt
+lists_none : (shows : Shows) (reached : List ℕ) (f : FileId) (k : Kind) (xs : List Answer) → NotRemove (lists shows reached f k xs)
+lists_none shows reached f kind.File xs = tt
+lists_none shows reached f kind.Dir [] = tt
+lists_none shows reached f kind.Dir (answer.Showed names ∷ []) = tt
+lists_none shows reached f kind.Dir (answer.Refused why ∷ []) = tt
+lists_none shows reached f kind.Dir (_ ∷ rest) = tt
 
 describes_none : (f : FileId) (k : Kind) (xs : List Answer) → NotRemove (describes f k xs)
 describes_none f k [] = tt
@@ -190,14 +199,16 @@ Removes (call.Unlink path) = Unit {0}
 Removes (call.RemoveDir path) = Unit {0}
 Removes _ = ⊥
 
-pub others_none : (mounts : List Mount) (free : Option ℕ) (words : Call) → (Removes words → ⊥) → (xs : List Answer) → NotRemove (path_wants mounts free words xs)
-others_none mounts free (call.Create path sites) other xs = changes_none mounts path _ (λ g p rest. probes_none p g _ kind.File sites rest) xs
-others_none mounts free (call.MakeDir path) other xs = changes_none mounts path _ (λ g p rest. probes_none p g _ kind.Dir None rest) xs
-others_none mounts free (call.Unlink path) other xs = absurd (other tt)
-others_none mounts free (call.RemoveDir path) other xs = absurd (other tt)
-others_none mounts free (call.Rename path name) other xs = changes_none mounts path _ (λ g p rest. renames_none p _ name rest) xs
-others_none mounts free (call.List path) other xs = go_none mounts (components path) xs _ (λ f k rest. lists_none mounts _ f k rest)
-others_none mounts free (call.Stat path) other xs = go_none mounts (components path) xs _ (λ f k rest. describes_none f k rest)
-others_none mounts free (call.Open path how) other xs = go_none mounts (components path) xs _ (λ f k rest. opens_file_none how free f k rest)
-others_none mounts free (call.Mend f) other xs = mend_none f xs
-others_none mounts free _ other xs = tt
+pub others_none : (mounts : List Mount) (free : Option ℕ) (id : CallId) (words : Call) → (Removes words → ⊥) → (xs : List Answer) → NotRemove (path_wants mounts free id words xs)
+others_none mounts free id (call.Create path sites) other xs = changes_none mounts path _ (λ g p rest. probes_none p g _ kind.File sites [] reply.Made rest) xs
+others_none mounts free id (call.MakeDir path) other xs = changes_none mounts path _ (λ g p rest. probes_none p g _ kind.Dir None [] reply.Made rest) xs
+others_none mounts free id (call.Unlink path) other xs = absurd (other tt)
+others_none mounts free id (call.RemoveDir path) other xs = absurd (other tt)
+others_none mounts free id (call.Rename path name) other xs = changes_none mounts path _ (λ g p rest. renames_none p _ name rest) xs
+others_none mounts free id (call.List path) other xs = go_none mounts (components path) xs _ (λ f k rest. lists_none (shown_in mounts) _ f k rest)
+others_none mounts free id (call.Stat path) other xs = go_none mounts (components path) xs _ (λ f k rest. describes_none f k rest)
+others_none mounts free id (call.Mail path bytes) other xs = go_none mounts (components path) xs _ (λ dir k rest. opens_dir_none _ _ (λ p ys. probes_none p dir.group _ kind.File None bytes _ ys) dir k rest)
+others_none mounts free id (call.Mails path) other xs = go_none mounts (components path) xs _ (λ f k rest. lists_none shown_messages _ f k rest)
+others_none mounts free id (call.Open path how) other xs = go_none mounts (components path) xs _ (λ f k rest. opens_file_none how free f k rest)
+others_none mounts free id (call.Mend f) other xs = mend_none f xs
+others_none mounts free id _ other xs = tt

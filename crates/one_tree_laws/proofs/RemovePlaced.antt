@@ -57,7 +57,7 @@ pub record Placed (c : Config) (t : List Line) (d : CallId) (Q : Want → Answer
   pub fits : Q asked given
   pub place : IsPlaced c d before given t
 
-placed_more : (c : Config) (n : ℕ) (x : Told) (older : List Line) (d : CallId) (Q : Want → Answer → Type 0) → IsFollowed c older → MayTell c older x → Placed c older d Q → Placed c (With n x older) d Q
+pub placed_more : (c : Config) (n : ℕ) (x : Told) (older : List Line) (d : CallId) (Q : Want → Answer → Type 0) → IsFollowed c older → MayTell c older x → Placed c older d Q → Placed c (With n x older) d Q
 placed_more c n x older d Q h may k = record {
   before = k.before;
   given = k.given;

@@ -1,5 +1,6 @@
 -- The script of a call that removes a name: what it was answered so far, and what it asked before.
 use Rattle.std.proofs.Common.{◌≡◌, ℕ, ◌==◌, Bool, true, false, cond, List, [], ◌∷◌, ◌++◌, Option, Some, None, refl, sym, ◌∙◌, ap, subst, ◌⊎◌, inl, inr}
+use Rattle.locus_ids.specs.declared.ids.CallId.{CallId}
 use Rattle.locus_ids.specs.declared.config.Config.{Config}
 use Rattle.locus_ids.specs.declared.config.Mount.{Mount}
 use Rattle.locus_ids.specs.declared.ids.EpochId.{EpochId}
@@ -257,15 +258,15 @@ changes_removal mounts path kd i name ino xs e = removal_same (λ ys. goes after
 
 -- ---- the whole script ----
 
-path_removal : (mounts : List Mount) (free : Option ℕ) (words : Call) (i : Serial) (name : List ℕ) (ino : ℕ) (xs : List Answer) → path_wants mounts free words xs ≡ want.Do i (op.Remove name ino) → Removal (path_wants mounts free words) xs i ino
-path_removal mounts free (call.Unlink path) i name ino xs e = changes_removal mounts path kind.File i name ino xs e
-path_removal mounts free (call.RemoveDir path) i name ino xs e = changes_removal mounts path kind.Dir i name ino xs e
-path_removal mounts free words i name ino xs e = absurd (no_do _ i name ino (others_none mounts free words (λ r. r) xs) e)
+path_removal : (mounts : List Mount) (free : Option ℕ) (id : CallId) (words : Call) (i : Serial) (name : List ℕ) (ino : ℕ) (xs : List Answer) → path_wants mounts free id words xs ≡ want.Do i (op.Remove name ino) → Removal (path_wants mounts free id words) xs i ino
+path_removal mounts free id (call.Unlink path) i name ino xs e = changes_removal mounts path kind.File i name ino xs e
+path_removal mounts free id (call.RemoveDir path) i name ino xs e = changes_removal mounts path kind.Dir i name ino xs e
+path_removal mounts free id words i name ino xs e = absurd (no_do _ i name ino (others_none mounts free id words (λ r. r) xs) e)
 
 begun_removal : (mounts : List Mount) (free : Option ℕ) (words : Call) (b : Beginning) (i : Serial) (name : List ℕ) (ino : ℕ) (xs : List Answer) → begun_wants mounts free words b xs ≡ want.Do i (op.Remove name ino) → Removal (begun_wants mounts free words b) xs i ino
 begun_removal mounts free words (begins.Denied why) i name ino xs e = absurd (no_do _ i name ino tt e)
 begun_removal mounts free words (begins.Uses epoch inst) i name ino xs e = absurd (no_do _ i name ino (uses_none words inst xs) e)
-begun_removal mounts free words begins.Walks i name ino xs e = path_removal mounts free words i name ino xs e
+begun_removal mounts free words (begins.Walks id) i name ino xs e = path_removal mounts free id words i name ino xs e
 
 -- by whether groups have packs
 pub packed_is : (p : ℕ → Bool) (w : Want) → IsOr (where_packed p w) w

@@ -65,6 +65,8 @@ words_low sites (call.RemoveDir path) e = tt
 words_low sites (call.Rename path name) e = tt
 words_low sites (call.List path) e = tt
 words_low sites (call.Stat path) e = tt
+words_low sites (call.Mail path bytes) e = tt
+words_low sites (call.Mails path) e = tt
 words_low sites (call.Open path how) e = tt
 words_low sites (call.Mend file) e = tt
 

@@ -65,23 +65,23 @@ on_denied : (changes : Bool) (o : Option Descriptor) → IsDenied (begins_on cha
 on_denied changes None = (refusal.BadDescriptor, refl)
 on_denied changes (Some d) = (refusal.Stale d.epoch, refl)
 
-open_denied : (free : Option ℕ) → IsDenied (begins_open None free)
-open_denied None = (refusal.NoDescriptor, refl)
-open_denied (Some fd) = (refusal.NoPartition, refl)
+open_denied : (id : CallId) (free : Option ℕ) → IsDenied (begins_open None id free)
+open_denied id None = (refusal.NoDescriptor, refl)
+open_denied id (Some fd) = (refusal.NoPartition, refl)
 
-denied : (table : ℕ → Option Descriptor) (words : Call) → IsDenied (beginning table None words)
-denied table (call.Open path how) = open_denied (lowest_free table)
-denied table (call.Read fd at len) = on_denied false (table fd)
-denied table (call.Write fd at bytes) = over (is_too_long (call.Write fd at bytes))
+denied : (table : ℕ → Option Descriptor) (id : CallId) (words : Call) → IsDenied (beginning table None id words)
+denied table id (call.Open path how) = open_denied id (lowest_free table)
+denied table id (call.Read fd at len) = on_denied false (table fd)
+denied table id (call.Write fd at bytes) = over (is_too_long (call.Write fd at bytes))
   where
     over : (b : Bool) → IsDenied (cond b (begins.Denied refusal.TooLong) (begins_on true None (table fd)))
     over true = (refusal.TooLong, refl)
     over false = on_denied true (table fd)
-denied table (call.Cut fd len) = on_denied true (table fd)
-denied table (call.Commit fd) = on_denied true (table fd)
-denied table (call.Abort fd) = on_denied true (table fd)
-denied table (call.Close fd) = on_denied false (table fd)
-denied table _ = (refusal.NoPartition, refl)
+denied table id (call.Cut fd len) = on_denied true (table fd)
+denied table id (call.Commit fd) = on_denied true (table fd)
+denied table id (call.Abort fd) = on_denied true (table fd)
+denied table id (call.Close fd) = on_denied false (table fd)
+denied table id _ = (refusal.NoPartition, refl)
 
 -- and so its script gives a refusal
 refused_as : List Mount → Call → Refusal → Refusal
@@ -104,7 +104,7 @@ module _ (c : Config) (n : ℕ) (t : List Line) (me boot process : ℕ) (words :
   f = call_frame c me boot None
 
   abbrev w : WaitingCall
-  w = accepted process (u.calls + 1) words (beginning (descriptors_of u process) None words)
+  w = accepted process (u.calls + 1) words (beginning (descriptors_of u process) None (own_call f.me f.boot (u.calls + 1)) words)
 
   abbrev d : CallId
   d = own_call me boot (u.calls + 1)
@@ -119,7 +119,7 @@ module _ (c : Config) (n : ℕ) (t : List Line) (me boot process : ℕ) (words :
   new = accepted_as (entries t) me process d words
 
   abbrev given : Reply
-  given = reply.No (refused_as c.mounts words (denied (descriptors_of u process) words).0)
+  given = reply.No (refused_as c.mounts words (denied (descriptors_of u process) d words).0)
 
   abbrev y : Told
   y = reply_record me boot w given
@@ -130,11 +130,11 @@ module _ (c : Config) (n : ℕ) (t : List Line) (me boot process : ℕ) (words :
   after = record u { calls = u.calls + 1; waiting = []; descriptors = freed process words u.descriptors }
 
   gives : next_want f w (frees process words (record u { calls = u.calls + 1 })) ≡ want.Give given
-  gives = ap (λ (b : Beginning). wants c.mounts (is_packed f) (lowest_free (descriptors_of (frees process words (record u { calls = u.calls + 1 })) process)) words b []) (denied (descriptors_of u process) words).1
-      ∙ denied_gives c.mounts (is_packed f) (lowest_free (descriptors_of (frees process words (record u { calls = u.calls + 1 })) process)) words (denied (descriptors_of u process) words).0
+  gives = ap (λ (b : Beginning). wants c.mounts (is_packed f) (lowest_free (descriptors_of (frees process words (record u { calls = u.calls + 1 })) process)) words b []) (denied (descriptors_of u process) d words).1
+      ∙ denied_gives c.mounts (is_packed f) (lowest_free (descriptors_of (frees process words (record u { calls = u.calls + 1 })) process)) words (denied (descriptors_of u process) d words).0
 
   view_is : after_reply f w given (without_waiting w (frees process words (record u { calls = u.calls + 1 }))) ≡ after
-  view_is = plain_hope words (refused_as c.mounts words (denied (descriptors_of u process) words).0) (without_waiting w (frees process words (record u { calls = u.calls + 1 }))) plain
+  view_is = plain_hope words (refused_as c.mounts words (denied (descriptors_of u process) d words).0) (without_waiting w (frees process words (record u { calls = u.calls + 1 }))) plain
       ∙ (ap (without_waiting w) (frees_is process words (record u { calls = u.calls + 1 }))
       ∙ ap (λ (ws : List WaitingCall). record u { calls = u.calls + 1; waiting = without_row waiting_key (waiting_key w) ws; descriptors = freed process words u.descriptors }) k.calls)
 
@@ -166,7 +166,7 @@ module _ (c : Config) (n : ℕ) (t : List Line) (me boot process : ℕ) (words :
   })
 
   may : MayTell c t x
-  may = record { row = row_is; in_time = accepts_in_time c t me process words h }
+  may = record { row = row_is; in_time = accepts_in_time c t me process d words h }
 
   -- ---- it is answered ----
 
@@ -190,22 +190,22 @@ module _ (c : Config) (n : ℕ) (t : List Line) (me boot process : ℕ) (words :
   named_is : call_named (entries newer) d ≡ Some new
   named_is = ap (λ (b : Bool). cond b (Some new) (call_named (entries t) d)) (same_call_own d)
 
-  begun_is : begun (entries newer) d ≡ Some (begins.Denied (denied (descriptors_of u process) words).0)
-  begun_is = ap (λ (b : Bool). cond b (Some (begins_now (entries t) me process words)) (begun (entries t) d)) (same_call_own d)
-      ∙ ap Some (ap (λ (o : Option EpochId). beginning (descriptor (entries t) me process) o words) outside ∙ (sym (begins_same (descriptors_of u process) (descriptor (entries t) me process) (λ fd lt. k.always.descriptors process fd lt) None words low) ∙ (denied (descriptors_of u process) words).1))
+  begun_is : begun (entries newer) d ≡ Some (begins.Denied (denied (descriptors_of u process) d words).0)
+  begun_is = ap (λ (b : Bool). cond b (Some (begins_now (entries t) me process d words)) (begun (entries t) d)) (same_call_own d)
+      ∙ ap Some (ap (λ (o : Option EpochId). beginning (descriptor (entries t) me process) o d words) outside ∙ (sym (begins_same (descriptors_of u process) (descriptor (entries t) me process) (λ fd lt. k.always.descriptors process fd lt) None d words low) ∙ (denied (descriptors_of u process) d words).1))
 
   wants_so : wants_next c (entries newer) d ≡ want.Give given
   wants_so = ap (λ (o : Option Waiting). wants_as c (entries newer) o (begun (entries newer) d) (answers c (entries newer) d)) named_is
       ∙ (ap (λ (o : Option Beginning). wants_as c (entries newer) (Some new) o (answers c (entries newer) d)) begun_is
-      ∙ (ap (λ (xs : Answers). wants_as c (entries newer) (Some new) (Some (begins.Denied (denied (descriptors_of u process) words).0)) xs) answered_none
-      ∙ denied_gives c.mounts (is_packed_in c (entries newer) new.epoch) (lowest_free (descriptor (entries newer) me process)) words (denied (descriptors_of u process) words).0))
+      ∙ (ap (λ (xs : Answers). wants_as c (entries newer) (Some new) (Some (begins.Denied (denied (descriptors_of u process) d words).0)) xs) answered_none
+      ∙ denied_gives c.mounts (is_packed_in c (entries newer) new.epoch) (lowest_free (descriptor (entries newer) me process)) words (denied (descriptors_of u process) d words).0))
 
   -- nothing is asked
   script_so : script c (entries newer) d None (log newer d) ≡ want.Give given
   script_so = ap (λ (o : Option Waiting). script_as c (entries newer) o (begun (entries newer) d) None (log newer d)) named_is
       ∙ (ap (λ (o : Option Beginning). script_as c (entries newer) (Some new) o None (log newer d)) begun_is
-      ∙ (ap (λ (xs : Answers). script_as c (entries newer) (Some new) (Some (begins.Denied (denied (descriptors_of u process) words).0)) None xs) untaken.log_is
-      ∙ denied_gives c.mounts (is_packed_in c (entries newer) new.epoch) None words (denied (descriptors_of u process) words).0))
+      ∙ (ap (λ (xs : Answers). script_as c (entries newer) (Some new) (Some (begins.Denied (denied (descriptors_of u process) d words).0)) None xs) untaken.log_is
+      ∙ denied_gives c.mounts (is_packed_in c (entries newer) new.epoch) None words (denied (descriptors_of u process) d words).0))
 
   in_time : (why : Refusal) → AnswersInTime c newer d (reply.No why)
   in_time (refusal.Changed e) = outside
@@ -220,7 +220,7 @@ module _ (c : Config) (n : ℕ) (t : List Line) (me boot process : ℕ) (words :
       gives = ap (λ (o : Option EpochId). unless_left (left_since (entries newer) me o) (wants_next c (entries newer) d)) outside ∙ wants_so;
       text = refl;
     };
-    in_time = in_time (refused_as c.mounts words (denied (descriptors_of u process) words).0);
+    in_time = in_time (refused_as c.mounts words (denied (descriptors_of u process) d words).0);
   }
     where
       own : (p q b : Bool) → p ≡ true → q ≡ true → b ≡ true → (p && q && b) ≡ true

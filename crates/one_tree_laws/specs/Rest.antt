@@ -1,7 +1,8 @@
 -- What other laws of every run give of each line that is told: the rows of boots, stops and joins; new stamps; files where packs
 -- are; and the ranges of sites, processes and inode numbers.
-use Rattle.std.specs.Prelude.{ℕ, ◌≡◌, ◌<◌, ◌≤◌, true, List, [], ◌∷◌}
+use Rattle.std.specs.Prelude.{ℕ, ◌≡◌, ◌<◌, ◌≤◌, ◌^◌, true, List, [], ◌∷◌}
 use Rattle.locus_ids.specs.declared.config.Config.{Config}
+use Rattle.locus_ids.specs.declared.ids.CallId.{CallId}
 use Rattle.locus_ids.specs.declared.refusal.Refusal.TheVariants as refusal
 use Rattle.locus_ids.specs.Sizes.{inode_span}
 use Rattle.schedule_lines.specs.Ranges.{fits_call}
@@ -50,6 +51,15 @@ abbrev pub RangeCall : Config → ℕ → ℕ → Call → Type 0
 RangeCall c s process (call.Mend file) = Unit {0}
 RangeCall c s process words = AskedCall c s process words
 
+-- the numbers of a call's name have 32 bits; of a mend, which names nothing, it isn't asked
+pub record HasLowName (call : CallId) : Type 0 where
+  pub boot : call.boot < 2 ^ 32
+  pub n : call.n < 2 ^ 32
+
+abbrev pub IsNumberedLow : CallId → Call → Type 0
+IsNumberedLow id (call.Mend file) = Unit {0}
+IsNumberedLow id _ = HasLowName id
+
 -- a mend that is refused since a count is at its end
 abbrev pub IsSpentMend : Op → Result → Type 0
 IsSpentMend op.Mend (result.No refusal.Spent) = Unit {0}
@@ -57,13 +67,13 @@ IsSpentMend o r = ⊥
 
 abbrev pub RangeRecord : Config → Record → Type 0
 RangeRecord c (says.Join s e members) = IsSite s
-RangeRecord c (says.Accept s process call words) = RangeCall c s process words
+RangeRecord c (says.Accept s process call words) = RangeCall c s process words × IsNumberedLow call words
 RangeRecord c (says.Commit f s stamp parents content) = (f.ino < inode_span) × (stamp.n < 4294967295)
 RangeRecord c (says.Act e inst n o r) = IsSpentMend o r → ⊥
 RangeRecord c _ = Unit {0}
 
--- sites are those from 1 to 16, lines ask calls of processes of one byte, of which none is 0, inodes have numbers of two bytes, and
--- no counter of versions is at its end, nor a count of those that a mend rescues
+-- sites are those from 1 to 16, lines ask calls of processes of one byte, of which none is 0, whose names have numbers of 32 bits, inodes
+-- have numbers of two bytes, and no counter of versions is at its end, nor a count of those that a mend rescues
 abbrev pub RangeTold : Config → Told → Type 0
 RangeTold c (Shown r) = RangeRecord c r
 RangeTold c _ = Unit {0}

@@ -64,17 +64,17 @@ comes_stays c n x older e d i h may named (inr b) = inr (begun_stays c n x older
 
 -- a call that is accepted
 comes_new : (c : Config) (n s process : ℕ) (d : CallId) (words : Call) (older : List Line) (e : EpochId) (i : Serial) → IsFollowed c older → MayTell c older (Shown (says.Accept s process d words)) → IsCallIn (entries (With n (Shown (says.Accept s process d words)) older)) e d → has_instances c (With n (Shown (says.Accept s process d words)) older) d i ≡ true → Comes (With n (Shown (says.Accept s process d words)) older) e d i
-comes_new c n s process d words older e i h may inside has = inr (ap (λ (t : Bool). cond t (Some (begins_now (entries older) s process words)) (begun (entries older) d)) (same_call_own d) ∙ ap Some (uses_is (begins_now (entries older) s process words) e i (subst (λ (y : EpochId). uses_by (begins_now (entries older) s process words) y i ≡ true) (sym there) b.1)))
+comes_new c n s process d words older e i h may inside has = inr (ap (λ (t : Bool). cond t (Some (begins_now (entries older) s process d words)) (begun (entries older) d)) (same_call_own d) ∙ ap Some (uses_is (begins_now (entries older) s process d words) e i (subst (λ (y : EpochId). uses_by (begins_now (entries older) s process d words) y i ≡ true) (sym there) b.1)))
   where
     untaken : IsNamed (entries older) d ⊎ Untaken c older d → Untaken c older d
     untaken (inl named) = absurd (next_is_new (entries older) s d (calls_are_low c older h d named) (numbered c (entries older) s process d words may.row))
     untaken (inr u) = u
 
-    b : (y : EpochId) × (uses_by (begins_now (entries older) s process words) y i ≡ true)
-    b = begun_uses (begins_now (entries older) s process words) i (sym (new_has c n s process d words older i (untaken (named_or_untaken c older h d))) ∙ has)
+    b : (y : EpochId) × (uses_by (begins_now (entries older) s process d words) y i ≡ true)
+    b = begun_uses (begins_now (entries older) s process d words) i (sym (new_has c n s process d words older i (untaken (named_or_untaken c older h d))) ∙ has)
 
     f : FromDescriptor (descriptor (entries older) s process) (epoch_of (entries older) s) words b.0 i
-    f = uses_from (descriptor (entries older) s process) (epoch_of (entries older) s) words b.0 i (uses_is (begins_now (entries older) s process words) b.0 i b.1)
+    f = uses_from (descriptor (entries older) s process) (epoch_of (entries older) s) d words b.0 i (uses_is (begins_now (entries older) s process d words) b.0 i b.1)
 
     made : epoch_of (entries older) s ≡ Some e
     made = ap (λ (w : Waiting). w.epoch) (some_same (accepted_as (entries older) s process d words) inside.accepted (sym (ap (λ (t : Bool). cond t (Some (accepted_as (entries older) s process d words)) (call_named (entries older) d)) (same_call_own d)) ∙ inside.named)) ∙ inside.made_in
@@ -123,7 +123,7 @@ UsesIt before e i d false = Among d (uses_of before e i)
 
 uses_stay : (c : Config) (n : ℕ) (r : Record) (older : List Line) (e : EpochId) (i : Serial) (d : CallId) (b : Bool) → MayTell c older (Shown r) → UsesIt (entries older) e i d b → UsesIt (record { line = n; what = r } ∷ entries older) e i d b
 uses_stay c n r older e i d true may k = closed_same c older n r e i d may k
-uses_stay c n (says.Accept s process new words) older e i d false may k = over (not (is_close words) && uses_by (begins_now (entries older) s process words) e i)
+uses_stay c n (says.Accept s process new words) older e i d false may k = over (not (is_close words) && uses_by (begins_now (entries older) s process new words) e i)
   where
     over : (b : Bool) → Among d (cond b (new ∷ uses_of (entries older) e i) (uses_of (entries older) e i))
     over true = inr k
@@ -148,14 +148,14 @@ use_accept c n s process new words older h may k d w e i named starts = at (same
     r : Record
     r = says.Accept s process new words
 
-    own : (b : Bool) → is_close words ≡ b → uses_by (begins_now (entries older) s process words) e i ≡ true → UsesIt (entries (With n (Shown r) older)) e i new b
-    own true t u = ap (λ (a : Bool). cond (a && uses_by (begins_now (entries older) s process words) e i) (Some new) (close_of (entries older) e i)) t ∙ ap (λ (a : Bool). cond a (Some new) (close_of (entries older) e i)) u
-    own false t u = subst (Among new) (sym (ap (λ (a : Bool). cond (not a && uses_by (begins_now (entries older) s process words) e i) (new ∷ uses_of (entries older) e i) (uses_of (entries older) e i)) t ∙ ap (λ (a : Bool). cond a (new ∷ uses_of (entries older) e i) (uses_of (entries older) e i)) u)) (inl refl)
+    own : (b : Bool) → is_close words ≡ b → uses_by (begins_now (entries older) s process new words) e i ≡ true → UsesIt (entries (With n (Shown r) older)) e i new b
+    own true t u = ap (λ (a : Bool). cond (a && uses_by (begins_now (entries older) s process new words) e i) (Some new) (close_of (entries older) e i)) t ∙ ap (λ (a : Bool). cond a (Some new) (close_of (entries older) e i)) u
+    own false t u = subst (Among new) (sym (ap (λ (a : Bool). cond (not a && uses_by (begins_now (entries older) s process new words) e i) (new ∷ uses_of (entries older) e i) (uses_of (entries older) e i)) t ∙ ap (λ (a : Bool). cond a (new ∷ uses_of (entries older) e i) (uses_of (entries older) e i)) u)) (inl refl)
 
-    at : (b : Bool) → same_call new d ≡ b → cond b (Some (accepted_as (entries older) s process new words)) (call_named (entries older) d) ≡ Some w → cond b (Some (begins_now (entries older) s process words)) (begun (entries older) d) ≡ Some (begins.Uses e i) → UsesIt (entries (With n (Shown r) older)) e i d (is_close w.words)
+    at : (b : Bool) → same_call new d ≡ b → cond b (Some (accepted_as (entries older) s process new words)) (call_named (entries older) d) ≡ Some w → cond b (Some (begins_now (entries older) s process new words)) (begun (entries older) d) ≡ Some (begins.Uses e i) → UsesIt (entries (With n (Shown r) older)) e i d (is_close w.words)
     at true t p q = subst (λ (z : CallId). UsesIt (entries (With n (Shown r) older)) e i z (is_close w.words)) (same_call_eq new d t)
         (subst (λ (z : Waiting). UsesIt (entries (With n (Shown r) older)) e i new (is_close z.words)) (some_same (accepted_as (entries older) s process new words) w p)
-        (own (is_close words) refl (uses_own e i (begins_now (entries older) s process words) (some_same (begins_now (entries older) s process words) (begins.Uses e i) q))))
+        (own (is_close words) refl (uses_own e i (begins_now (entries older) s process new words) (some_same (begins_now (entries older) s process new words) (begins.Uses e i) q))))
     at false t p q = uses_stay c n r older e i d (is_close w.words) may (k d w e i p q)
 
 use_record : (c : Config) (n : ℕ) (r : Record) (older : List Line) → IsFollowed c older → MayTell c older (Shown r) → AllUse (entries older) → AllUse (entries (With n (Shown r) older))

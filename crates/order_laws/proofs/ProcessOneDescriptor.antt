@@ -145,17 +145,17 @@ unclosed_new c older site caller d r x h may o = over (close_of (entries older) 
     over (Some k) e = absurd (user k ((are_users c older h x.epoch x.inst).closes k e))
 
 unclosed_accept : (c : Config) (older : List Line) (n site caller : ℕ) (new : CallId) (words : Call) → IsFollowed c older → AllUnclosed (entries older) → AllUnclosed (With n (says.Accept site caller new words) (entries older))
-unclosed_accept c older n site caller new words h k s process fd x e = over (is_close words) (uses_by (begins_now (entries older) site caller words) x.epoch x.inst) refl refl
+unclosed_accept c older n site caller new words h k s process fd x e = over (is_close words) (uses_by (begins_now (entries older) site caller new words) x.epoch x.inst) refl refl
   where
     was : descriptor (entries older) s process fd ≡ Some x
     was = left_record (entries older) n (says.Accept site caller new words) s process fd x (λ k. k) e
 
     -- the close frees the one descriptor of the instance
-    freed : (words : Call) → is_close words ≡ true → uses_by (begins_now (entries older) site caller words) x.epoch x.inst ≡ true → descriptor (With n (says.Accept site caller new words) (entries older)) s process fd ≡ Some x → ⊥
+    freed : (words : Call) → is_close words ≡ true → uses_by (begins_now (entries older) site caller new words) x.epoch x.inst ≡ true → descriptor (With n (says.Accept site caller new words) (entries older)) s process fd ≡ Some x → ⊥
     freed (call.Close number) closes uses stands = none_some x (sym (gone is) ∙ stands)
       where
         f : FromDescriptor (descriptor (entries older) site caller) (epoch_of (entries older) site) (call.Close number) x.epoch x.inst
-        f = uses_from (descriptor (entries older) site caller) (epoch_of (entries older) site) (call.Close number) x.epoch x.inst (uses_is (begins_now (entries older) site caller (call.Close number)) x.epoch x.inst uses)
+        f = uses_from (descriptor (entries older) site caller) (epoch_of (entries older) site) new (call.Close number) x.epoch x.inst (uses_is (begins_now (entries older) site caller new (call.Close number)) x.epoch x.inst uses)
 
         is : AreOne site caller f.fd s process fd
         is = one_descriptor c older h site caller f.fd f.stands s process fd x f.found was f.epoch_is f.serial_is
@@ -180,9 +180,11 @@ unclosed_accept c older n site caller new words h k s process fd x e = over (is_
     freed (call.Rename path name) closes uses stands = true_false (sym closes)
     freed (call.List path) closes uses stands = true_false (sym closes)
     freed (call.Stat path) closes uses stands = true_false (sym closes)
+    freed (call.Mail path bytes) closes uses stands = true_false (sym closes)
+    freed (call.Mails path) closes uses stands = true_false (sym closes)
     freed (call.Mend file) closes uses stands = true_false (sym closes)
 
-    over : (a b : Bool) → is_close words ≡ a → uses_by (begins_now (entries older) site caller words) x.epoch x.inst ≡ b → cond (a && b) (Some new) (close_of (entries older) x.epoch x.inst) ≡ None
+    over : (a b : Bool) → is_close words ≡ a → uses_by (begins_now (entries older) site caller new words) x.epoch x.inst ≡ b → cond (a && b) (Some new) (close_of (entries older) x.epoch x.inst) ≡ None
     over true true p q = absurd (freed words p q e)
     over true false p q = k s process fd x was
     over false b p q = k s process fd x was

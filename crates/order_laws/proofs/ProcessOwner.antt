@@ -48,7 +48,7 @@ abbrev Latest : List CallId → Type 0
 Latest [] = Unit {0}
 Latest (d ∷ rest) = Every (λ (y : CallId). y.n < d.n) rest
 
-latest_accept : (c : Config) (n s process : ℕ) (new : CallId) (words : Call) (older : List Line) (e : EpochId) (i : Serial) → IsFollowed c older → MayTell c older (Shown (says.Accept s process new words)) → uses_by (begins_now (entries older) s process words) e i ≡ true → (xs : List CallId) → Every (IsUser (entries older) e i) xs → Every (λ (y : CallId). y.n < new.n) xs
+latest_accept : (c : Config) (n s process : ℕ) (new : CallId) (words : Call) (older : List Line) (e : EpochId) (i : Serial) → IsFollowed c older → MayTell c older (Shown (says.Accept s process new words)) → uses_by (begins_now (entries older) s process new words) e i ≡ true → (xs : List CallId) → Every (IsUser (entries older) e i) xs → Every (λ (y : CallId). y.n < new.n) xs
 latest_accept c n s process new words older e i h may uses [] k = tt
 latest_accept c n s process new words older e i h may uses (y ∷ ys) k = (below k.0, latest_accept c n s process new words older e i h may uses ys k.1)
   where
@@ -93,9 +93,9 @@ latest_accept c n s process new words older e i h may uses (y ∷ ys) k = (below
         over (inr low) = (let a : calls_accepted (entries older) y.site ≡ calls_accepted (entries older) s = ap (calls_accepted (entries older)) at_site in let b : y.n ≤ calls_accepted (entries older) y.site = low.1 in omega (arith, a, b, number))
 
 latest_told : (c : Config) (n : ℕ) (x : Told) (older : List Line) (e : EpochId) (i : Serial) → IsFollowed c older → MayTell c older x → Latest (uses_of (entries older) e i) → Latest (uses_of (onto_entries n x (entries older)) e i)
-latest_told c n (Shown (says.Accept s process new words)) older e i h may k = over (not (is_close words)) (uses_by (begins_now (entries older) s process words) e i) refl
+latest_told c n (Shown (says.Accept s process new words)) older e i h may k = over (not (is_close words)) (uses_by (begins_now (entries older) s process new words) e i) refl
   where
-    over : (a b : Bool) → uses_by (begins_now (entries older) s process words) e i ≡ b → Latest (cond (a && b) (new ∷ uses_of (entries older) e i) (uses_of (entries older) e i))
+    over : (a b : Bool) → uses_by (begins_now (entries older) s process new words) e i ≡ b → Latest (cond (a && b) (new ∷ uses_of (entries older) e i) (uses_of (entries older) e i))
     over true true t = latest_accept c n s process new words older e i h may t (uses_of (entries older) e i) (are_users c older h e i).uses
     over true false t = k
     over false b t = k

@@ -269,11 +269,11 @@ holds_new c n s process new words older e i h may k inside has = subst (λ (m : 
     untaken (inl named) = absurd (next_is_new (entries older) s new (calls_are_low c older h new named) (numbered c (entries older) s process new words may.row))
     untaken (inr u) = u
 
-    b : (y : EpochId) × (uses_by (begins_now (entries older) s process words) y i ≡ true)
-    b = begun_uses (begins_now (entries older) s process words) i (sym (new_has c n s process new words older i (untaken (named_or_untaken c older h new))) ∙ has)
+    b : (y : EpochId) × (uses_by (begins_now (entries older) s process new words) y i ≡ true)
+    b = begun_uses (begins_now (entries older) s process new words) i (sym (new_has c n s process new words older i (untaken (named_or_untaken c older h new))) ∙ has)
 
     f : FromDescriptor (descriptor (entries older) s process) (epoch_of (entries older) s) words b.0 i
-    f = uses_from (descriptor (entries older) s process) (epoch_of (entries older) s) words b.0 i (uses_is (begins_now (entries older) s process words) b.0 i b.1)
+    f = uses_from (descriptor (entries older) s process) (epoch_of (entries older) s) new words b.0 i (uses_is (begins_now (entries older) s process new words) b.0 i b.1)
 
 pub back_in : (c : Config) (n : ℕ) (x : Told) (older : List Line) (e : EpochId) (d : CallId) → IsFollowed c older → MayTell c older x → IsCallIn (entries (With n x older)) e d → IsNamed (entries older) d → IsCallIn (entries older) e d
 back_in c n x older e d h may inside named = record { accepted = named.0; named = named.1; made_in = ap (λ (w : Waiting). w.epoch) (some_same named.0 inside.accepted (sym (named_stays c n x older d h may named ∙ named.1) ∙ inside.named)) ∙ inside.made_in }

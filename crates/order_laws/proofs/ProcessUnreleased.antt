@@ -212,11 +212,11 @@ module _ (c : Config) (n : ℕ) (x : Told) (older : List Line) (h : IsFollowed c
           untaken (inl named) = absurd (next_is_new (entries older) s d (calls_are_low c older h d named) (numbered c (entries older) s process d words row.row))
           untaken (inr u) = u
 
-          b : (y : EpochId) × (uses_by (begins_now (entries older) s process words) y i ≡ true)
-          b = begun_uses (begins_now (entries older) s process words) i (sym (new_has c n s process d words older i (untaken (named_or_untaken c older h d))) ∙ subst (λ (y : Told). has_instances c (With n y older) d i ≡ true) is has)
+          b : (y : EpochId) × (uses_by (begins_now (entries older) s process d words) y i ≡ true)
+          b = begun_uses (begins_now (entries older) s process d words) i (sym (new_has c n s process d words older i (untaken (named_or_untaken c older h d))) ∙ subst (λ (y : Told). has_instances c (With n y older) d i ≡ true) is has)
 
           f : FromDescriptor (descriptor (entries older) s process) (epoch_of (entries older) s) words b.0 i
-          f = uses_from (descriptor (entries older) s process) (epoch_of (entries older) s) words b.0 i (uses_is (begins_now (entries older) s process words) b.0 i b.1)
+          f = uses_from (descriptor (entries older) s process) (epoch_of (entries older) s) d words b.0 i (uses_is (begins_now (entries older) s process d words) b.0 i b.1)
 
           made : epoch_of (entries older) s ≡ Some e
           made = ap (λ (w : Waiting). w.epoch) (some_same (accepted_as (entries older) s process d words) inside.accepted (sym (ap (λ (t : Bool). cond t (Some (accepted_as (entries older) s process d words)) (call_named (entries older) d)) (same_call_own d))

@@ -28,7 +28,7 @@ use Rattle.role_steps.specs.Own.{Every}
 use Rattle.role_steps.specs.Tables.{first_that}
 use Rattle.role_steps.specs.Views.{Frame, Users, Told, Outcome, quiet, packet, to_some, to_sync, sync_site}
 use Rattle.role_steps.specs.Requests.{descriptors_of, waiting_key, with_waiting, without_waiting, request_packets, asks, next_request, opening_of, made_for, asks_open, asks_op_of, asks_close_of, seen_by, user_instance, with_user_instance, without_user_instance, users_repeats}
-use Rattle.role_steps.specs.Using.{accepted, frees, is_hopeless, without_hope, after_reply, replies, accept_record, takes_record, with_brought, content_answer, asks_want, next_want, goes_on, on_call, takes_answer, with_answer, opened_answer, kept_for, mended_file, takes_open, on_open_done_of, on_open_done, on_op_done_of, on_op_done, on_close_done_of, on_close_done, looks_again, takes_look, on_look_done_of, on_look_done, asks_open_of, asks_op_number, asks_take, reply_record, users_leave}
+use Rattle.role_steps.specs.Using.{accepted, frees, is_hopeless, without_hope, after_reply, replies, accept_record, takes_record, with_brought, content_answer, asks_want, next_want, goes_on, on_call, takes_answer, with_answer, opened_answer, kept_for, mended_file, takes_open, on_open_done_of, on_open_done, on_op_done_of, on_op_done, on_close_done_of, on_close_done, looks_again, takes_look, on_look_done_of, on_look_done, asks_open_of, asks_op_number, asks_take, reply_record, users_leave, own_call}
 use Rattle.role_steps.specs.Using as using
 use Rattle.role_steps.specs.declared.users.Asking.{Asking}
 use Rattle.role_steps.specs.declared.users.Asking.TheVariants as asking
@@ -182,7 +182,7 @@ frees_alike process _ u = record { waiting = refl; serials = refl }
 pub on_call_fine : (f : Frame) (book : Book) (now : Option EpochId) (process : ℕ) (words : Call) (u : Users) → f.me ≤ sites_max → Sound f.config book → UsersFact book f.me f.boot u → UsersFine f book (on_call f now process words u)
 on_call_fine f book now process words u small s h =
     let n : ℕ = u.calls + 1 in
-    let w : WaitingCall = accepted process n words (beginning (descriptors_of u process) now words) in
+    let w : WaitingCall = accepted process n words (beginning (descriptors_of u process) now (own_call f.me f.boot n) words) in
     let counted : Users = frees process words (record u { calls = n }) in
     let k : UsersFact book f.me f.boot counted = alike_fact book f.me f.boot (record u { calls = n }) counted (frees_alike process words (record u { calls = n })) (record { waiting = h.waiting; counted = h.counted }) in
     one_more f book (accept_record f.me f.boot process n words) (goes_on f w counted) (λ b. tt) (goes_on_fine f book w counted small s k)

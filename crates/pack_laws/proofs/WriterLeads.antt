@@ -1,5 +1,6 @@
 -- What a script leads a call to: each change is of what was asked to write, and each descriptor that may write too.
 use Rattle.std.proofs.Common.{◌≡◌, ℕ, ◌⊎◌, Bool, true, false, cond, List, [], ◌∷◌, ◌++◌, Option, Some, None, refl, sym, ◌∙◌, ap, subst, inl, inr}
+use Rattle.locus_ids.specs.declared.ids.CallId.{CallId}
 use Rattle.locus_ids.specs.declared.ids.FileId.{FileId}
 use Rattle.locus_ids.specs.declared.ids.Kind.{Kind}
 use Rattle.locus_ids.specs.declared.ids.Kind.TheVariants as kind
@@ -123,22 +124,24 @@ walk_alike mounts path m f g answers h = by_walk (walk mounts path [] (root_of 0
     by_walk Strays w = absurd (subst OpensToWrite (strays_ends mounts path (opens_file m f) answers w) h)
     by_walk (There at k rest) w = subst OpensToWrite (sym (walked_there mounts path (opens_file m g) answers at k rest w)) (opens_alike m f g at k rest (subst OpensToWrite (walked_there mounts path (opens_file m f) answers at k rest w) h))
 
-path_alike : (mounts : List Mount) (f g : Option ℕ) (words : Call) (answers : List Answer) → OpensToWrite (path_wants mounts f words answers) → OpensToWrite (path_wants mounts g words answers)
-path_alike mounts f g (call.Open path m) answers h = walk_alike mounts (components path) m f g answers h
-path_alike mounts f g (call.Create path sites) answers h = h
-path_alike mounts f g (call.MakeDir path) answers h = h
-path_alike mounts f g (call.Unlink path) answers h = h
-path_alike mounts f g (call.RemoveDir path) answers h = h
-path_alike mounts f g (call.Rename path name) answers h = h
-path_alike mounts f g (call.List path) answers h = h
-path_alike mounts f g (call.Stat path) answers h = h
-path_alike mounts f g (call.Mend file) answers h = h
-path_alike mounts f g _ answers h = absurd h
+path_alike : (mounts : List Mount) (f g : Option ℕ) (id : CallId) (words : Call) (answers : List Answer) → OpensToWrite (path_wants mounts f id words answers) → OpensToWrite (path_wants mounts g id words answers)
+path_alike mounts f g id (call.Open path m) answers h = walk_alike mounts (components path) m f g answers h
+path_alike mounts f g id (call.Create path sites) answers h = h
+path_alike mounts f g id (call.MakeDir path) answers h = h
+path_alike mounts f g id (call.Unlink path) answers h = h
+path_alike mounts f g id (call.RemoveDir path) answers h = h
+path_alike mounts f g id (call.Rename path name) answers h = h
+path_alike mounts f g id (call.List path) answers h = h
+path_alike mounts f g id (call.Stat path) answers h = h
+path_alike mounts f g id (call.Mail path bytes) answers h = h
+path_alike mounts f g id (call.Mails path) answers h = h
+path_alike mounts f g id (call.Mend file) answers h = h
+path_alike mounts f g id _ answers h = absurd h
 
 begun_alike : (mounts : List Mount) (f g : Option ℕ) (words : Call) (b : Beginning) (answers : List Answer) → OpensToWrite (begun_wants mounts f words b answers) → OpensToWrite (begun_wants mounts g words b answers)
 begun_alike mounts f g words (begins.Denied why) answers h = h
 begun_alike mounts f g words (begins.Uses epoch i) answers h = h
-begun_alike mounts f g words begins.Walks answers h = path_alike mounts f g words answers h
+begun_alike mounts f g words (begins.Walks id) answers h = path_alike mounts f g id words answers h
 
 bad_ends : (mounts : List Mount) (f : Option ℕ) (words : Call) (b : Beginning) (answers : List Answer) → is_badly_named mounts words ≡ true → named_wants mounts f words b answers ≡ want.Give (reply.No refusal.BadName)
 bad_ends mounts f words b answers n = rw n refl
@@ -212,7 +215,7 @@ reply_takes G mounts f (call.Open path m) b answers a h r = by_names (is_badly_n
     begun : (b : Beginning) → AnswersFact G (begun_wants mounts f (call.Open path m) b) answers → OpenedFd (begun_wants mounts f (call.Open path m) b answers) → G (last_opened no_serial answers).serial
     begun (begins.Denied why) k t = absurd t
     begun (begins.Uses epoch i) k t = absurd t
-    begun begins.Walks k t = walk_takes G mounts (components path) m f answers k t (to_write m r)
+    begun (begins.Walks id) k t = walk_takes G mounts (components path) m f answers k t (to_write m r)
 
     by_names : (n : Bool) → is_badly_named mounts (call.Open path m) ≡ n → G (last_opened no_serial answers).serial
     by_names true n = absurd (subst OpenedFd (bad_ends mounts f (call.Open path m) b answers n) h)

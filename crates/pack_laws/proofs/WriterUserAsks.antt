@@ -2,6 +2,7 @@
 use Rattle.std.proofs.Common.{◌≡◌, ℕ, ◌+◌, ◌==◌, Bool, true, false, cond, List, [], ◌∷◌, ◌++◌, Option, Some, None, refl, sym, ap, subst, arith}
 use Rattle.std.proofs.lemmas.Bool.Decides.{nat_tests}
 use Rattle.role_steps.proofs.of_plain_facts.Numbers.{equal}
+use Rattle.locus_ids.specs.declared.ids.CallId.{CallId}
 use Rattle.locus_ids.specs.declared.ids.EpochId.{EpochId}
 use Rattle.locus_ids.specs.declared.ids.FileId.{FileId}
 use Rattle.locus_ids.specs.declared.ids.Serial.{Serial}
@@ -41,7 +42,7 @@ use Rattle.role_steps.specs.Own.{Every}
 use Rattle.role_steps.specs.Tables.{row, first_that}
 use Rattle.role_steps.specs.Views.{Frame, Users, Told, Outcome, quiet, tells, and_then, to_some, to_sync, sync_site}
 use Rattle.role_steps.specs.Requests.{waiting_key, instance_serial, without_waiting, user_instance, with_user_instance, without_user_instance, descriptor_in, descriptor_key, fd_key, descriptors_of, request_packets, asks, asks_open, opening_of, made_for, next_request, asks_op_of, asks_close_of, seen_by, users_repeats}
-use Rattle.role_steps.specs.Using.{is_some_site, is_packed, is_hopeless, without_hope, opened_row, after_reply, replies, asks_want, next_want, goes_on, frees, accepted, accept_record, on_call, takes_record, with_answer, takes_answer, takes_open, on_open_done_of, on_open_done, on_op_done_of, on_op_done, on_close_done_of, on_close_done, looks_again, with_brought, content_answer, takes_look, on_look_done_of, on_look_done, asks_open_of, asks_op_number, asks_take, users_leave, op_answer, close_answer, opened_answer, kept_for, mended_file}
+use Rattle.role_steps.specs.Using.{is_some_site, is_packed, is_hopeless, without_hope, opened_row, after_reply, replies, asks_want, next_want, goes_on, frees, accepted, accept_record, on_call, takes_record, with_answer, takes_answer, takes_open, on_open_done_of, on_open_done, on_op_done_of, on_op_done, on_close_done_of, on_close_done, looks_again, with_brought, content_answer, takes_look, on_look_done_of, on_look_done, asks_open_of, asks_op_number, asks_take, users_leave, op_answer, close_answer, opened_answer, kept_for, mended_file, own_call}
 use Rattle.role_steps.specs.Using as using
 use Rattle.role_steps.specs.declared.users.Asking.{Asking}
 use Rattle.role_steps.specs.declared.users.Asking.TheVariants as asking
@@ -179,13 +180,13 @@ long_uses : (b : Bool) (x : Beginning) (e : EpochId) (i : Serial) → cond b (be
 long_uses true x e i h = absurd (denied_uses _ e i h)
 long_uses false x e i h = h
 
-accepts_asked : (c : Config) (G : Serials) (u : Users) (process : ℕ) (now : Option EpochId) (words : Call) (i : Serial) → UsersFact c G u → IsWriteOn words (beginning (descriptors_of u process) now words) i → G i.serial
-accepts_asked c G u process now words i h k = by_words words k.is_write k.begins_so
+accepts_asked : (c : Config) (G : Serials) (u : Users) (process : ℕ) (now : Option EpochId) (id : CallId) (words : Call) (i : Serial) → UsersFact c G u → IsWriteOn words (beginning (descriptors_of u process) now id words) i → G i.serial
+accepts_asked c G u process now id words i h k = by_words id words k.is_write k.begins_so
   where
-    by_words : (words : Call) → IsWrite words → beginning (descriptors_of u process) now words ≡ begins.Uses k.epoch i → G i.serial
-    by_words (call.Write fd at bytes) x e = begins_asked G now (row descriptor_key (fd_key process fd) u.descriptors) k.epoch i (row_found (DescriptorFact G) descriptor_key (fd_key process fd) u.descriptors h.descriptors) (long_uses (is_too_long (call.Write fd at bytes)) _ k.epoch i e)
-    by_words (call.Cut fd len) x e = begins_asked G now (row descriptor_key (fd_key process fd) u.descriptors) k.epoch i (row_found (DescriptorFact G) descriptor_key (fd_key process fd) u.descriptors h.descriptors) e
-    by_words _ x e = absurd x
+    by_words : (id : CallId) (words : Call) → IsWrite words → beginning (descriptors_of u process) now id words ≡ begins.Uses k.epoch i → G i.serial
+    by_words id (call.Write fd at bytes) x e = begins_asked G now (row descriptor_key (fd_key process fd) u.descriptors) k.epoch i (row_found (DescriptorFact G) descriptor_key (fd_key process fd) u.descriptors h.descriptors) (long_uses (is_too_long (call.Write fd at bytes)) _ k.epoch i e)
+    by_words id (call.Cut fd len) x e = begins_asked G now (row descriptor_key (fd_key process fd) u.descriptors) k.epoch i (row_found (DescriptorFact G) descriptor_key (fd_key process fd) u.descriptors h.descriptors) e
+    by_words id _ x e = absurd x
 
 frees_fact : (c : Config) (G : Serials) (process : ℕ) (words : Call) (u : Users) → UsersFact c G u → UsersFact c G (frees process words u)
 frees_fact c G process (call.Close fd) u h = record { waiting = h.waiting; descriptors = every_without (DescriptorFact G) descriptor_key (fd_key process fd) u.descriptors h.descriptors }
@@ -197,10 +198,10 @@ told_more c G x u g h noted = let k : UsersFine c G (g u) = h noted in record { 
 pub on_call_gives : (G : Serials) (f : Frame) (now : Option EpochId) (process : ℕ) (words : Call) (u : Users) → UsersFact f.config G u → Gives f.config G (on_call f now process words u)
 on_call_gives G f now process words u h =
     let n : ℕ = u.calls + 1 in
-    let w : WaitingCall = accepted process n words (beginning (descriptors_of u process) now words) in
+    let w : WaitingCall = accepted process n words (beginning (descriptors_of u process) now (own_call f.me f.boot n) words) in
     let counted : Users = frees process words (record u { calls = n }) in
     told_more f.config G (accept_record f.me f.boot process n words) counted (goes_on f w)
-    (goes_fine G f w counted (record { begins = λ i k. accepts_asked f.config G u process now words i h k; answers = λ free. tt }) (frees_fact f.config G process words (record u { calls = n }) (record { waiting = h.waiting; descriptors = h.descriptors })))
+    (goes_fine G f w counted (record { begins = λ i k. accepts_asked f.config G u process now _ words i h k; answers = λ free. tt }) (frees_fact f.config G process words (record u { calls = n }) (record { waiting = h.waiting; descriptors = h.descriptors })))
 
 -- ---- answers ----
 

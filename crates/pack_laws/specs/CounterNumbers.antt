@@ -1,4 +1,4 @@
--- How many commits a trace tells of, and how great the numbers of versions are.
+-- How many commits and calls a trace tells of, and how great the numbers of versions are.
 use Rattle.std.specs.Prelude.{ℕ, ◌+◌, ◌≤◌, List, [], ◌∷◌}
 use Rattle.trace_book.specs.declared.record.Record.{Record}
 use Rattle.trace_book.specs.declared.record.Record.TheVariants as says
@@ -17,6 +17,19 @@ commits_told _ = 0
 abbrev pub commits_in : List Told → ℕ
 commits_in [] = 0
 commits_in (x ∷ older) = commits_told x + commits_in older
+
+abbrev pub calls_recorded : Record → ℕ
+calls_recorded (says.Accept site process call words) = 1
+calls_recorded _ = 0
+
+abbrev pub calls_told : Told → ℕ
+calls_told (Shown r) = calls_recorded r
+calls_told _ = 0
+
+-- how many calls were accepted, mends among them
+abbrev pub calls_in : List Told → ℕ
+calls_in [] = 0
+calls_in (x ∷ older) = calls_told x + calls_in older
 
 abbrev pub IsLowRecord : Record → Type 0
 IsLowRecord (says.Commit file site stamp parents content) = stamp.n ≤ 134217728

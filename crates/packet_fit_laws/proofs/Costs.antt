@@ -19,7 +19,7 @@ use Rattle.role_steps.specs.declared.rounds.Round.{Round}
 use Rattle.the_run.specs.Steps.{is_before, in_order, is_dropped, takes, tries_at, ends_event, whole, step}
 use Rattle.the_run.specs.Worlds.{told_size}
 use Rattle.epoch_laws.proofs.Boots.{boot_or_none}
-use Rattle.packet_fit_laws.proofs.Boots.{some_text}
+use Rattle.run_laws.proofs.Boots.{some_text}
 
 -- the packets that an outcome has, and the text of what it tells
 abbrev pub cost : ℕ → Outcome SiteView → ℕ

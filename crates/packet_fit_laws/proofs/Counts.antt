@@ -28,14 +28,14 @@ use Rattle.wire_messages.specs.declared.body.Opening.{Opening}
 use Rattle.role_steps.specs.Tables.{total, first_that}
 use Rattle.role_steps.specs.Views.{Frame, Users, Shown, Outcome, joined_to, to_some, to_sync, sync_site}
 use Rattle.role_steps.specs.Requests.{descriptors_of, user_instance, asks_op_of, asks_close_of, asks_open}
-use Rattle.role_steps.specs.Using.{is_some_site, is_packed, is_hopeless, without_hope, after_reply, replies, asks_want, next_want, goes_on, frees, accepted, on_call, with_answer, takes_answer, takes_open, on_open_done_of, on_open_done, on_op_done_of, on_op_done, on_close_done_of, on_close_done, with_brought, content_answer, looks_again, takes_look, on_look_done_of, on_look_done, asks_open_of, asks_op_number, asks_take}
+use Rattle.role_steps.specs.Using.{is_some_site, is_packed, is_hopeless, without_hope, after_reply, replies, asks_want, next_want, goes_on, frees, accepted, on_call, with_answer, takes_answer, takes_open, on_open_done_of, on_open_done, on_op_done_of, on_op_done, on_close_done_of, on_close_done, with_brought, content_answer, looks_again, takes_look, on_look_done_of, on_look_done, asks_open_of, asks_op_number, asks_take, own_call}
 use Rattle.role_steps.specs.Using as using
 use Rattle.role_steps.specs.declared.users.Asking.{Asking}
 use Rattle.role_steps.specs.declared.users.Asking.TheVariants as asking
 use Rattle.role_steps.specs.declared.users.UserInstance.{UserInstance}
 use Rattle.role_steps.specs.declared.users.WaitingCall.{WaitingCall}
 use Rattle.the_run.specs.Worlds.{told_size}
-use Rattle.packet_fit_laws.proofs.Boots.{some_text}
+use Rattle.run_laws.proofs.Boots.{some_text}
 use Rattle.packet_fit_laws.proofs.Costs.{append_length, append_total}
 
 -- the packets and the text of an outcome
@@ -123,7 +123,7 @@ frees_counts process _ u = (refl, refl)
 
 pub call_rise : (n : ℕ) (f : Frame) (now : Option EpochId) (process : ℕ) (words : Call) (u : Users) → Rises n u (on_call f now process words u).view (spent n (on_call f now process words u))
 call_rise n f now process words u =
-    let w : WaitingCall = accepted process (u.calls + 1) words (beginning (descriptors_of u process) now words) in
+    let w : WaitingCall = accepted process (u.calls + 1) words (beginning (descriptors_of u process) now (own_call f.me f.boot (u.calls + 1)) words) in
     let counted : Users = frees process words (record u { calls = u.calls + 1 }) in
     let o : Outcome Users = goes_on f w counted in
     let h : UsersRise n counted o = goes_rise n f w counted in

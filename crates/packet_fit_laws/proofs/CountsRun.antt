@@ -1,4 +1,4 @@
--- In every run no site has counted many calls or opens.
+-- At every moment of a run no site has counted many calls or opens.
 use Rattle.std.proofs.Common.{◌≡◌, ◌≤◌, ℕ, ◌+◌, ◌==◌, Bool, true, false, cond, ◌&&◌, not, List, [], ◌∷◌, ◌++◌, length, map, Option, Some, None, refl, sym, ◌∙◌, ap, subst, arith}
 use Rattle.std.proofs.lemmas.Bool.Decides.{nat_tests}
 use Rattle.role_steps.proofs.of_plain_facts.Options.{some_same}
@@ -29,7 +29,7 @@ use Rattle.role_steps.specs.declared.synchronizing.FileRow.{FileRow}
 use Rattle.the_run.specs.Disks.{Disk, Booted, Whole, CutOff, boots, cut_disk}
 use Rattle.the_run.specs.Kept.{Kept}
 use Rattle.the_run.specs.Steps.{in_order, at_table_of, is_opened_in, takes_inside, is_dropped, takes_framed, takes, adopts_of, tries_at, adopts_in, starts_mends_of, ends_event, whole, repeats, ticks_after, call_frame, epoch_id, takes_call, step}
-use Rattle.the_run.specs.Worlds.{World, Place, Running, Stopped, Limit, place_at, place_in, place_site, links_of, script_of, happened, happened_of, unless_over, limit_passed, told_size, packet_size, disk_of, puts, arms, passed, stops_with, cut_told, acts, fresh, formatted, first_place}
+use Rattle.the_run.specs.Worlds.{World, Place, Running, Stopped, Limit, place_at, place_in, place_site, links_of, script_of, happened, happened_of, unless_over, limit_passed, told_size, packet_size, disk_of, puts, arms, passed, stops_with, cut_told, acts, fresh, formatted, first_place, first_world}
 use Rattle.the_run.specs.Runs.{boots_as, run_in}
 use Rattle.the_run.proofs.Boots.{at_each, acts_cases}
 use Rattle.the_run.proofs.Events.{puts_other}
@@ -251,9 +251,9 @@ size w = w.packets + w.text
 abbrev Counts : ℕ → SiteView → Type 0
 Counts m v = (v.users.calls ≤ m) × (v.users.serials ≤ m)
 
-record Counted (w : World) : Type 0 where
-  views : (s : ℕ) (v : SiteView) → place_at w s ≡ Some (Running v) → Counts (size w) v
-  room : size w ≤ 134479872
+pub record Counted (w : World) : Type 0 where
+  pub views : (s : ℕ) (v : SiteView) → place_at w s ≡ Some (Running v) → Counts (size w) v
+  pub room : size w ≤ 134479872
 
 within : (packets bytes text : ℕ) → limit_passed packets bytes text ≡ None → packets + text ≤ 134479872
 within packets bytes text none = grind (arith, nat_tests)
@@ -313,7 +313,7 @@ boots_counted n s (Whole x None) w g = happened_counted n [] _ _ w (fresh_counts
 boots_counted n s (Whole x (Some a)) w g = happened_counted n [] _ _ w (fresh_counts s x w _ (omega arith) g) g
 boots_counted n s (CutOff x how) w g = stops_counted n s x _ w g
 
-counted_kept : (c : Config) → Kept c Counted
+pub counted_kept : (c : Config) → Kept c Counted
 counted_kept c = record {
   steps = λ n s e v w here own g. acts_counted n s v (step c s (links_of w s) v e) w here (step_rise n c s (links_of w s) v e) g;
   receives = λ n x v w here sent g. acts_counted n x.packet.to v (step c x.packet.to (links_of (passed x.number w) x.packet.to) v (Receives x.packet)) (passed x.number w) here (step_rise n c x.packet.to (links_of (passed x.number w) x.packet.to) v (Receives x.packet)) (record { views = g.views; room = g.room });
@@ -336,8 +336,11 @@ first_counts c (t ∷ ts) s v e =
       | false ↦ λ f. first_counts c ts s v f
     ]) e
 
+pub first_counted : (c : Config) → Counted (first_world c)
+first_counted c = record { views = λ s v e. first_counts c _ s v e; room = omega arith }
+
+pub counts_low : (w : World) → Counted w → CountsAreLow w
+counts_low w g s v here = let k : Counts (size w) v = g.views s v here in record { calls = omega (arith, k.0, g.room); serials = omega (arith, k.1, g.room) }
+
 pub run_counts_low : (c : Config) (lines : List ScheduleLine) → CountsAreLow (run_in c lines)
-run_counts_low c lines s v here =
-    let g : Counted (run_in c lines) = every_run c Counted (counted_kept c) (record { views = λ s v e. first_counts c _ s v e; room = omega arith }) lines in
-    let k : Counts (size (run_in c lines)) v = g.views s v here in
-    record { calls = omega (arith, k.0, g.room); serials = omega (arith, k.1, g.room) }
+run_counts_low c lines = counts_low (run_in c lines) (every_run c Counted (counted_kept c) (first_counted c) lines)

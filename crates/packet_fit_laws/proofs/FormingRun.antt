@@ -35,9 +35,9 @@ use Rattle.epoch_laws.proofs.Parts.{every_both}
 use Rattle.epoch_laws.proofs.Run.{running_view, stopped_never, none_never, place_there}
 use Rattle.packet_fit.proofs.Boots.{boots_fit}
 use Rattle.packet_fit.proofs.ShortBodies.{short}
-use Rattle.packet_fit_laws.specs.Boots.{booted_number}
+use Rattle.run_laws.specs.Boots.{booted_number}
 use Rattle.packet_fit_laws.specs.Fields.{IsSite, IsBoot, AreBoots, StartFits, EndFits, GoesBack, Agrees, FitsInPart, PacketsFitInPart, NextPacketsFit}
-use Rattle.packet_fit_laws.proofs.Boots.{boots_most}
+use Rattle.run_laws.proofs.Boots.{boots_most}
 use Rattle.packet_fit_laws.proofs.Places.{Placed, low_boot, placed_kept, first_placed, own_place, links_low}
 use Rattle.packet_fit_laws.proofs.Forming.{Names, Named, Fine as NamesFine}
 use Rattle.packet_fit_laws.proofs.Meeting.{IsAddressed, TableMeets}

@@ -1,4 +1,3 @@
-pub mod Boots
 pub mod Meeting
 pub mod SitesMeet
 pub mod Lists

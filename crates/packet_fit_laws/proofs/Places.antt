@@ -17,7 +17,7 @@ use Rattle.the_run.proofs.Events.{happened_keeps, puts_other}
 use Rattle.epoch_laws.specs.Known.{Good as Known, ViewFact}
 use Rattle.epoch_laws.proofs.Run.{good_kept, first_good, links_had}
 use Rattle.packet_fit_laws.specs.Fields.{IsSite, IsBoot}
-use Rattle.packet_fit_laws.proofs.Boots.{Low, low_kept, first_low}
+use Rattle.run_laws.proofs.Boots.{Low, low_kept, first_low}
 use Rattle.packet_fit_laws.proofs.Lists.{every_kept}
 
 -- ---- sites ----

@@ -1,4 +1,3 @@
-pub mod Boots
 pub mod Epochs
 pub mod Fields
 pub mod Counts

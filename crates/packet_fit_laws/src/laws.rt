@@ -2,7 +2,7 @@ ghost use Rattle.std.specs.Prelude.{List};
 ghost use Rattle.locus_ids.specs.declared.config.Config.{Config};
 ghost use Rattle.schedule_lines.specs.declared.line.ScheduleLine.{ScheduleLine};
 ghost use Rattle.the_run.specs.Runs.{run_in};
-ghost use Rattle.packet_fit_laws.specs.Boots.{BootsAreLow, NextBootsAreLow};
+ghost use Rattle.run_laws.specs.Boots.{BootsAreLow, NextBootsAreLow};
 ghost use Rattle.packet_fit_laws.specs.Epochs.{EpochsAreLow, NextEpochsAreLow};
 ghost use Rattle.packet_fit_laws.specs.Fields.{PacketsFitInPart, NextPacketsFit};
 ghost use Rattle.packet_fit_laws.specs.Counts.{CountsAreLow};

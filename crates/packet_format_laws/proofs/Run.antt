@@ -53,6 +53,7 @@ use Rattle.rest_laws.proofs.of_one_tree_laws.Staying.{stays}
 use Rattle.rest_laws.proofs.of_one_tree_laws.Worlds.{Holds}
 use Rattle.rest_laws.proofs.Resting.{run_low, run_rests}
 use Rattle.rest_laws.proofs.Roles.{roles_do}
+use Rattle.packet_value_laws.proofs.of_packet_fit_laws.CountsRun.{counts_low, Counted as Calling, counted_kept as calling_kept, first_counted as first_calling}
 use Rattle.packet_value_laws.proofs.of_packet_fit_laws.Epochs.{Counted, counted_kept, first_counted}
 use Rattle.packet_value_laws.proofs.of_packet_fit_laws.FormingRun.{Good, first_good, good_kept, sent_comes}
 use Rattle.packet_value_laws.proofs.of_packet_fit_laws.Lists.{Comes, every_kept}
@@ -92,6 +93,7 @@ pub record PacketsStand (c : Config) (w : World) : Type 0 where
   pub holds : Holds c w
   pub good : Good w
   pub counts : Counted w
+  pub calling : Calling w
   pub values : Fitting c w
 
 some_place : (p q : Place) → ◌≡◌ {A = Option Place} (Some p) (Some q) → p ≡ q
@@ -133,6 +135,9 @@ stops_fit c n s told d w copies holds g = happened_fits c n [] told (stops_with 
 
 -- ---- an event of a site ----
 
+calls_low : (w : World) (s : ℕ) (v : SiteView) → place_at w s ≡ Some (Running v) → Calling w → v.users.calls ≤ 134479872
+calls_low w s v here g = (counts_low w g s v here).calls
+
 -- what a step sends stands by the trace before it
 step_stands : (c : Config) (w : World) (fact : WorldFact c w) (s : ℕ) (v : SiteView) → place_at w s ≡ Some (Running v) → (p : Packet) → Sent v.epoch p → PacketStands w.trace p
 step_stands c w fact s v here p k = record { body = k.body; names = over v.epoch refl (fact.places s (Running v) here) k.names }
@@ -157,8 +162,8 @@ cut_copies s v o d e disk old new true = over disk
     over (inl u) = absurd (none_some d (sym u.none ∙ e))
     over (inr u) = subst (λ (x : DiskWrite). CopiesFit (with_row copy_key x.copy v.store.copies)) (write_is u.0 d (sym u.1.is_written ∙ e)) (subst CopiesFit u.1.copies new)
 
-does : (c : Config) → length c.packs ≤ 4 → (n s : ℕ) (e : Event) (v : SiteView) (w : World) → place_at w s ≡ Some (Running v) → Comes e → (IsRest c w.trace → EventStands w.trace e × EventFact c w.trace s v e) → Holds c w → Good w → Fitting c w → Fitting c (acts n s v (step c s (links_of w s) v e) w)
-does c few n s e v w here comes fact holds good g = acts_cases (Fitting c) n s v o w
+does : (c : Config) → length c.packs ≤ 4 → (n s : ℕ) (e : Event) (v : SiteView) (w : World) → place_at w s ≡ Some (Running v) → Comes e → (IsRest c w.trace → EventStands w.trace e × EventFact c w.trace s v e) → Holds c w → Good w → Calling w → Fitting c w → Fitting c (acts n s v (step c s (links_of w s) v e) w)
+does c few n s e v w here comes fact holds good calling g = acts_cases (Fitting c) n s v o w
     (happened_fits c n o.sent o.told (λ now. puts s (Running o.view) now) w refl refl (λ r k. (placed c s (Running o.view) w (done r k).view k.0, packets r k)) holds g)
     (λ a. happened_fits c n o.sent o.told (λ now. puts s (Running o.view) (arms a now)) w refl refl (λ r k. (placed c s (Running o.view) (arms a w) (done r k).view k.0, packets r k)) holds g)
     (λ d a q. stops_fit c n s (cut_told s v.store d a.how a.left) (cut_disk v.boot v.store d a.how a.left) w (λ r k. cut_copies s v o d q (step_disk c s (links_of w s) v e) (k.0 s (Running v) here).store.copies (done r k).view.store.copies (is_on_disk v.store d a.how a.left)) holds g)
@@ -167,7 +172,7 @@ does c few n s e v w here comes fact holds good g = acts_cases (Fitting c) n s v
     o = step c s (links_of w s) v e
 
     done : IsRest c w.trace → ValuesStand c w → Done c v.epoch o
-    done r k = next_done c w (record { followed = (holds r).followed; rest = r }) few (holds r) good k s v here e comes (fact r).0 (fact r).1
+    done r k = next_done c w (record { followed = (holds r).followed; rest = r }) few (holds r) good k s v here (calls_low w s v here calling) e comes (fact r).0 (fact r).1
 
     packets : IsRest c w.trace → ValuesStand c w → Every (PacketStands w.trace) o.sent
     packets r k = every_weaker (Sent v.epoch) (PacketStands w.trace) o.sent (λ p q. step_stands c w (holds r) s v here p q) (done r k).sent
@@ -233,29 +238,31 @@ stands_own w GivesUp h = tt
 pub kept_stand : (c : Config) (lines : List ScheduleLine) → LinesFit c lines → RolesDo c → length c.packs ≤ 4 → KeptIn c lines (λ n w. PacketsStand c w)
 kept_stand c lines fit roles few = record {
   begins = λ n w le q g. g;
-  ticks = λ n most s v w at here g. record { holds = one.ticks n most s v w at here g.holds; good = (good_kept c).steps n s Ticks v w here tt g.good; counts = (counted_kept c).steps n s Ticks v w here tt g.counts; values = does c few n s Ticks v w here tt (λ r. (tt, tt)) g.holds g.good g.values };
+  ticks = λ n most s v w at here g. record { holds = one.ticks n most s v w at here g.holds; good = (good_kept c).steps n s Ticks v w here tt g.good; counts = (counted_kept c).steps n s Ticks v w here tt g.counts; calling = (calling_kept c).steps n s Ticks v w here tt g.calling; values = does c few n s Ticks v w here tt (λ r. (tt, tt)) g.holds g.good g.calling g.values };
   receives = λ n l x v w at d here sent g. record {
     holds = one.receives n l x v w at d here sent g.holds;
     good = (good_kept c).receives n x v w here sent g.good;
     counts = (counted_kept c).receives n x v w here sent g.counts;
-    values = does c few n x.packet.to (Receives x.packet) v (passed x.number w) here (sent_comes w x sent g.good) (λ r. (sent_stands c w (g.values r (g.holds r).followed) x sent, (refl, sent_fact c w x (g.holds r) sent))) (one.passes n x.number w g.holds) ((good_kept c).passes x.number w g.good) (pass_fits c x.number w g.values);
+    calling = (calling_kept c).receives n x v w here sent g.calling;
+    values = does c few n x.packet.to (Receives x.packet) v (passed x.number w) here (sent_comes w x sent g.good) (λ r. (sent_stands c w (g.values r (g.holds r).followed) x sent, (refl, sent_fact c w x (g.holds r) sent))) (one.passes n x.number w g.holds) ((good_kept c).passes x.number w g.good) ((calling_kept c).passes x.number w g.calling) (pass_fits c x.number w g.values);
   };
-  passes = λ n k w g. record { holds = one.passes n k w g.holds; good = (good_kept c).passes k w g.good; counts = (counted_kept c).passes k w g.counts; values = pass_fits c k w g.values };
-  drops = λ n k w g. record { holds = one.drops n k w g.holds; good = (good_kept c).drops k w g.good; counts = (counted_kept c).drops k w g.counts; values = drop_fits c k w g.values };
-  budgets = λ n most w at g. record { holds = one.budgets n most w at g.holds; good = (good_kept c).budgets n w g.good; counts = (counted_kept c).budgets n w g.counts; values = still_fits c n (Shown says.Budget ∷ []) w g.holds g.values };
-  voiding = λ n l w le at void g. record { holds = one.voiding n l w le at void g.holds; good = (good_kept c).voiding (n + 1) w g.good; counts = (counted_kept c).voiding (n + 1) w g.counts; values = still_fits c (n + 1) (Shown says.Void ∷ []) w g.holds g.values };
+  passes = λ n k w g. record { holds = one.passes n k w g.holds; good = (good_kept c).passes k w g.good; counts = (counted_kept c).passes k w g.counts; calling = (calling_kept c).passes k w g.calling; values = pass_fits c k w g.values };
+  drops = λ n k w g. record { holds = one.drops n k w g.holds; good = (good_kept c).drops k w g.good; counts = (counted_kept c).drops k w g.counts; calling = (calling_kept c).drops k w g.calling; values = drop_fits c k w g.values };
+  budgets = λ n most w at g. record { holds = one.budgets n most w at g.holds; good = (good_kept c).budgets n w g.good; counts = (counted_kept c).budgets n w g.counts; calling = (calling_kept c).budgets n w g.calling; values = still_fits c n (Shown says.Budget ∷ []) w g.holds g.values };
+  voiding = λ n l w le at void g. record { holds = one.voiding n l w le at void g.holds; good = (good_kept c).voiding (n + 1) w g.good; counts = (counted_kept c).voiding (n + 1) w g.counts; calling = (calling_kept c).voiding (n + 1) w g.calling; values = still_fits c (n + 1) (Shown says.Void ∷ []) w g.holds g.values };
   steps = λ n s l e v w le at gives here g. record {
     holds = one.steps n s l e v w le at gives here g.holds;
     good = (good_kept c).steps (n + 1) s e v w here (own_of w l s e gives) g.good;
     counts = (counted_kept c).steps (n + 1) s e v w here (own_of w l s e gives) g.counts;
-    values = does c few (n + 1) s e v w here (comes_own e (own_of w l s e gives)) (λ r. (stands_own w e (own_of w l s e gives), event_fact c lines (n + 1) s l e v w fit at gives here)) g.holds g.good g.values;
+    calling = (calling_kept c).steps (n + 1) s e v w here (own_of w l s e gives) g.calling;
+    values = does c few (n + 1) s e v w here (comes_own e (own_of w l s e gives)) (λ r. (stands_own w e (own_of w l s e gives), event_fact c lines (n + 1) s l e v w fit at gives here)) g.holds g.good g.calling g.values;
   };
-  cutting = λ n a b w le at cut g. record { holds = one.cutting n a b w le at cut g.holds; good = (good_kept c).recuts (record { one = a; other = b } ∷ w.circuits) w g.good; counts = (counted_kept c).recuts (record { one = a; other = b } ∷ w.circuits) w g.counts; values = g.values };
-  mending = λ n a b w le at cut g. record { holds = one.mending n a b w le at cut g.holds; good = (good_kept c).recuts (filter (λ (x : CutCircuit). not (is_between a b x)) w.circuits) w g.good; counts = (counted_kept c).recuts (filter (λ (x : CutCircuit). not (is_between a b x)) w.circuits) w g.counts; values = g.values };
-  arming = λ n l a w le at it g. record { holds = one.arming n l a w le at it g.holds; good = (good_kept c).arming a w g.good; counts = (counted_kept c).arming a w g.counts; values = g.values };
-  pending = λ n w le at g. record { holds = one.pending n w le at g.holds; good = (good_kept c).pending (n + 1) w g.good; counts = (counted_kept c).pending (n + 1) w g.counts; values = still_fits c (n + 1) (map packet_record w.underway) w g.holds g.values };
-  stopping = λ n s v w le at here g. record { holds = one.stopping n s v w le at here g.holds; good = (good_kept c).stopping (n + 1) s v w here g.good; counts = (counted_kept c).stopping (n + 1) s v w here g.counts; values = stops_fit c (n + 1) s _ (disk_of v) w (λ r k. (k.0 s (Running v) here).store.copies) g.holds g.values };
-  booting = λ n s d w le at here g. record { holds = one.booting n s d w le at here g.holds; good = (good_kept c).booting (n + 1) s d w here g.good; counts = (counted_kept c).booting (n + 1) s d w here g.counts; values = booted c (n + 1) s d (boots (script_of w s) d) w here (boots_copies (script_of w s) d) g.holds g.values };
+  cutting = λ n a b w le at cut g. record { holds = one.cutting n a b w le at cut g.holds; good = (good_kept c).recuts (record { one = a; other = b } ∷ w.circuits) w g.good; counts = (counted_kept c).recuts (record { one = a; other = b } ∷ w.circuits) w g.counts; calling = (calling_kept c).recuts (record { one = a; other = b } ∷ w.circuits) w g.calling; values = g.values };
+  mending = λ n a b w le at cut g. record { holds = one.mending n a b w le at cut g.holds; good = (good_kept c).recuts (filter (λ (x : CutCircuit). not (is_between a b x)) w.circuits) w g.good; counts = (counted_kept c).recuts (filter (λ (x : CutCircuit). not (is_between a b x)) w.circuits) w g.counts; calling = (calling_kept c).recuts (filter (λ (x : CutCircuit). not (is_between a b x)) w.circuits) w g.calling; values = g.values };
+  arming = λ n l a w le at it g. record { holds = one.arming n l a w le at it g.holds; good = (good_kept c).arming a w g.good; counts = (counted_kept c).arming a w g.counts; calling = (calling_kept c).arming a w g.calling; values = g.values };
+  pending = λ n w le at g. record { holds = one.pending n w le at g.holds; good = (good_kept c).pending (n + 1) w g.good; counts = (counted_kept c).pending (n + 1) w g.counts; calling = (calling_kept c).pending (n + 1) w g.calling; values = still_fits c (n + 1) (map packet_record w.underway) w g.holds g.values };
+  stopping = λ n s v w le at here g. record { holds = one.stopping n s v w le at here g.holds; good = (good_kept c).stopping (n + 1) s v w here g.good; counts = (counted_kept c).stopping (n + 1) s v w here g.counts; calling = (calling_kept c).stopping (n + 1) s v w here g.calling; values = stops_fit c (n + 1) s _ (disk_of v) w (λ r k. (k.0 s (Running v) here).store.copies) g.holds g.values };
+  booting = λ n s d w le at here g. record { holds = one.booting n s d w le at here g.holds; good = (good_kept c).booting (n + 1) s d w here g.good; counts = (counted_kept c).booting (n + 1) s d w here g.counts; calling = (calling_kept c).booting (n + 1) s d w here g.calling; values = booted c (n + 1) s d (boots (script_of w s) d) w here (boots_copies (script_of w s) d) g.holds g.values };
 }
   where
     one : KeptIn c lines (λ n w. Holds c w)
@@ -324,6 +331,7 @@ first_stand c roles = record {
   holds = first_holds c roles;
   good = first_good c;
   counts = first_counted c;
+  calling = first_calling c;
   values = λ r fo. ((λ s p e. place_found c (first_world c).places s p (first_rows c r.packs (filter (λ (t : ℕ). nat_lt t (c.sites + 1)) all_sites)) (row place_site s (first_world c).places) refl e), tt, tt);
 }
 
@@ -331,7 +339,7 @@ first_stand c roles = record {
 
 -- at any moment of a run what the next event of a running site sends is of the format, where each count has a number of its size
 pub packets_fit_now : (c : Config) (w : World) → Past c w.trace → length c.packs ≤ 4 → WorldFact c w → PacketsStand c w → (s : ℕ) (v : SiteView) (e : Event) → place_at w s ≡ Some (Running v) → MayCome w e → EventFact c w.trace s v e → Every FitsIfCounted (step c s (links_of w s) v e).sent
-packets_fit_now c w past few fact stand s v e here may k = next_packets c w past few fact stand.good (stand.values past.rest past.followed) s v here stand.counts e may k
+packets_fit_now c w past few fact stand s v e here may k = next_packets c w past few fact stand.good (stand.values past.rest past.followed) s v here (calls_low w s v here stand.calling) stand.counts e may k
 
 pub run_stands : (c : Config) (lines : List ScheduleLine) → LinesFit c lines → length c.packs ≤ 4 → PacketsStand c (run_in c lines)
 run_stands c lines fit few = every_line c lines (λ n w. PacketsStand c w) (kept_stand c lines fit (roles_do c few) few) (first_stand c (roles_do c few))

@@ -1,10 +1,11 @@
 -- At any moment: where all that sites have and have sent is of the format, the next event of a running site sends what is.
-use Rattle.std.proofs.Common.{◌≡◌, ◌≤◌, ◌⊎◌, ℕ, ◌==◌, Bool, true, false, ◌&&◌, List, length, Option, None, Some, refl, sym, ◌∙◌, ap, subst, arith, inl, inr}
+use Rattle.std.proofs.Common.{◌≡◌, ◌≤◌, ◌<◌, ◌⊎◌, ℕ, ◌+◌, ◌^◌, ◌==◌, Bool, true, false, ◌&&◌, List, length, Option, None, Some, refl, sym, ◌∙◌, ap, subst, arith, inl, inr}
 use Rattle.std.proofs.lemmas.Bool.Decides.{nat_tests}
 use Rattle.std.specs.Prelude.{nat_le}
 use Rattle.role_steps.proofs.of_plain_facts.Options.{some_same}
 use Rattle.role_steps.proofs.of_plain_facts.Tests.{both_true, true_false}
 use Rattle.locus_ids.specs.Sites.{has}
+use Rattle.locus_ids.specs.Sizes.{sites_max}
 use Rattle.locus_ids.specs.declared.config.Config.{Config}
 use Rattle.locus_ids.specs.declared.ids.EpochId.{EpochId}
 use Rattle.locus_ids.specs.declared.sites.Members.{Members}
@@ -23,6 +24,7 @@ use Rattle.role_steps.specs.Epochs.{frame_in}
 use Rattle.role_steps.specs.Own.{Every}
 use Rattle.role_steps.specs.Reports.{with_report}
 use Rattle.role_steps.specs.Tables.{row}
+use Rattle.role_steps.specs.Using.{own_call}
 use Rattle.role_steps.specs.Views.{Calls, Event, Frame, GivesUp, Merges, Parts, Receives, SiteView, Ticks, boot_in}
 use Rattle.role_steps.specs.declared.rounds.InEpoch.{InEpoch}
 use Rattle.role_steps.specs.declared.synchronizing.FileRow.{FileRow}
@@ -32,6 +34,7 @@ use Rattle.the_run.specs.Kept.{Among, WasSent}
 use Rattle.the_run.specs.Steps.{is_framed, step}
 use Rattle.the_run.specs.Worlds.{Line, Numbered, Place, Running, Stopped, World, links_of, place_at}
 use Rattle.the_run.proofs.InsideSync.{Found, row_found}
+use Rattle.mailbox_join.proofs.Naming.{named}
 use Rattle.rest_laws.specs.of_run_laws.Naming.{MayCome}
 use Rattle.rest_laws.proofs.of_run_laws.Run.{found_among}
 use Rattle.packet_value_laws.specs.of_epoch_laws.Forming.{FormsNone}
@@ -55,7 +58,7 @@ use Rattle.rest_laws.proofs.EpochTreeCounted.{report_table}
 use Rattle.rest_laws.proofs.EpochTreeMembers.{reporter_counts, reporter_low}
 use Rattle.rest_laws.proofs.EpochTreeNoting.{report_files}
 use Rattle.packet_fit.proofs.ShortBodies.{short}
-use Rattle.packet_value_laws.specs.of_packet_fit_laws.Fields.{Agrees, AreBoots, FitsInPart, IsBoot}
+use Rattle.packet_value_laws.specs.of_packet_fit_laws.Fields.{Agrees, AreBoots, FitsInPart, IsBoot, IsSite}
 use Rattle.packet_value_laws.proofs.of_packet_fit_laws.Epochs.{Counted}
 use Rattle.packet_value_laws.proofs.of_packet_fit_laws.FormingRun.{Good, boot_fits, come_event, next_fit, site_fits}
 use Rattle.packet_value_laws.proofs.of_packet_fit_laws.Lists.{Comes}
@@ -66,7 +69,7 @@ use Rattle.packet_value_laws.specs.Bodies.{FitsBut, IsListed, NamesListed, Names
 use Rattle.packet_value_laws.specs.Values.{CopiesFit, Grounds, KeptAt, KeptFit, SiteValues, TableFits, boots_in}
 use Rattle.packet_value_laws.proofs.Scripts.{scripts_fit}
 use Rattle.packet_value_laws.proofs.Shown.{shown_fit}
-use Rattle.packet_value_laws.proofs.Steps.{Apart, Done, EventFits, HasOwn, NamesHere, Sent, step_done}
+use Rattle.packet_value_laws.proofs.Steps.{Apart, Done, EventFits, HasOwn, IsNextNamed, NamesHere, Sent, step_done}
 use Rattle.packet_value_laws.proofs.Sync.{with_report_fits}
 use Rattle.packet_value_laws.proofs.Whole.{body_fits}
 use Rattle.packet_format_laws.proofs.Packs.{packs_fit}
@@ -230,11 +233,26 @@ module _ (c : Config) (w : World) (past : Past c w.trace) (few : length c.packs 
   comes_fit Merges comes stands k = tt
   comes_fit GivesUp comes stands k = tt
 
-  pub next_done : (e : Event) → Comes e → EventStands w.trace e → EventFact c w.trace s v e → Done c v.epoch (step c s (links_of w s) v e)
-  next_done e comes stands k = step_done c s (own_place w s v here good.placed).0 (grounds c past.rest.packs few) (links_of w s) v e (λ t. links_low w s t good.placed) comes (good.views s v here) apart outside (own_in v.epoch its_site) (comes_fit e comes stands k) (values.0 s (Running v) here)
+  -- the next call's name would be good
+  next_named : v.users.calls ≤ 134479872 → IsNextNamed s v
+  next_named calls =
+      let own : IsSite s × IsBoot v.boot = own_place w s v here good.placed in
+      named (own_call s v.boot (v.users.calls + 1)) (site_small own.0.1) (boot_small own.1.1) (number_small calls)
+    where
+      site_small : s ≤ sites_max → s < 2 ^ 8
+      site_small high = omega (arith, high)
 
-  pub next_packets : Counted w → (e : Event) → MayCome w e → EventFact c w.trace s v e → Every FitsIfCounted (step c s (links_of w s) v e).sent
-  next_packets counts e may k = every_both FitsInPart (Sent v.epoch) FitsIfCounted (step c s (links_of w s) v e).sent (λ p part sent low. whole p part sent low (by_kind p.body)) (next_fit c w good counts s v e here may) (next_done e (come_event w e good may) (stands_of c w values e may) k).sent
+      boot_small : v.boot ≤ 134217730 → v.boot < 2 ^ 32
+      boot_small high = omega (arith, high)
+
+      number_small : v.users.calls ≤ 134479872 → v.users.calls + 1 < 2 ^ 32
+      number_small high = omega (arith, high)
+
+  pub next_done : v.users.calls ≤ 134479872 → (e : Event) → Comes e → EventStands w.trace e → EventFact c w.trace s v e → Done c v.epoch (step c s (links_of w s) v e)
+  next_done calls e comes stands k = step_done c s (own_place w s v here good.placed).0 (grounds c past.rest.packs few) (links_of w s) v e (λ t. links_low w s t good.placed) comes (good.views s v here) apart outside (own_in v.epoch its_site) (comes_fit e comes stands k) (next_named calls) (values.0 s (Running v) here)
+
+  pub next_packets : v.users.calls ≤ 134479872 → Counted w → (e : Event) → MayCome w e → EventFact c w.trace s v e → Every FitsIfCounted (step c s (links_of w s) v e).sent
+  next_packets calls counts e may k = every_both FitsInPart (Sent v.epoch) FitsIfCounted (step c s (links_of w s) v e).sent (λ p part sent low. whole p part sent low (by_kind p.body)) (next_fit c w good counts s v e here may) (next_done calls e (come_event w e good may) (stands_of c w values e may) k).sent
     where
       by_kind : (b : Body) → FormsNone b ⊎ Agrees b
       by_kind body.Poll = inr tt

@@ -1,11 +1,12 @@
 -- Components of paths: what the rules of calls take for one is one of the format, and so is each name that a directory shows.
-use Rattle.std.proofs.Common.{◌≡◌, ◌≤◌, ℕ, ◌+◌, ◌-◌, ◌*◌, ◌==◌, Bool, true, false, cond, not, ◌&&◌, List, [], ◌∷◌, length, Option, None, Some, refl, ap, subst, arith}
+use Rattle.std.proofs.Common.{◌≡◌, ◌≤◌, ℕ, ◌+◌, ◌-◌, ◌*◌, ◌==◌, Bool, true, false, cond, not, ◌&&◌, List, [], ◌∷◌, length, Option, None, Some, refl, sym, ap, subst, arith}
 use Rattle.std.proofs.lemmas.Bool.Decides.{nat_tests}
 use Rattle.std.specs.List.{list_all}
-use Rattle.std.specs.Prelude.{nat_le, nat_lt}
+use Rattle.std.specs.Prelude.{codes, nat_le, nat_lt}
+use Rattle.std.specs.Str.{bytes_eq}
 use Rattle.role_steps.proofs.of_plain_facts.Tests.{and_true, both_true}
 use Rattle.locus_ids.specs.Sizes.{inodes_max}
-use Rattle.trace_book.specs.Names.{is_name, plain_name}
+use Rattle.trace_book.specs.Names.{is_name, is_name_byte, plain_name}
 use Rattle.call_rules.specs.Paths as rules
 use Rattle.wire_fields.specs.Components as wire
 use Rattle.wire_fields.specs.Parts.{components, names}
@@ -101,6 +102,30 @@ pub component_fits : (c : List ℕ) → rules.is_component c ≡ true → compon
 component_fits c e =
     let k : (is_name (plain_name c) ≡ true) × (rules.is_suffix (rules.after_at c) ≡ true) = both_true (is_name (plain_name c)) (rules.is_suffix (rules.after_at c)) e in
     wire_fits c (and_true (is_name (plain_name c)) (wire.is_suffix (wire.after_at c)) k.0 (suffix_same (wire.after_at c) (subst (λ (o : Option (List ℕ)). rules.is_suffix o ≡ true) (after_same c) k.1)))
+
+-- a name is a component of itself
+no_suffix : (cs : List ℕ) → list_all is_name_byte cs ≡ true → (plain_name cs ≡ cs) × (rules.after_at cs ≡ None)
+no_suffix [] e = (refl, refl)
+no_suffix (c ∷ cs) e =
+    let k : (is_name_byte c ≡ true) × (list_all is_name_byte cs ≡ true) = both_true (is_name_byte c) (list_all is_name_byte cs) e in
+    let r : (plain_name cs ≡ cs) × (rules.after_at cs ≡ None) = no_suffix cs k.1 in
+    let t : (c == 64) ≡ false = other c k.0 in
+    (rw t (ap (λ (l : List ℕ). c ∷ l) r.0), rw t r.1)
+  where
+    other : (c : ℕ) → is_name_byte c ≡ true → (c == 64) ≡ false
+    other c e = grind (arith, nat_tests)
+
+pub bare_fits : (name : List ℕ) → is_name name ≡ true → components.Fits name
+bare_fits name e =
+    let k : (plain_name name ≡ name) × (rules.after_at name ≡ None) = no_suffix name (bytes name e) in
+    component_fits name (and_true (is_name (plain_name name)) (rules.is_suffix (rules.after_at name)) (subst (λ (l : List ℕ). is_name l ≡ true) (sym k.0) e) (subst (λ (o : Option (List ℕ)). rules.is_suffix o ≡ true) (sym k.1) refl))
+  where
+    bytes : (name : List ℕ) → is_name name ≡ true → list_all is_name_byte name ≡ true
+    bytes name e =
+        let a = both_true (nat_lt 0 (length name)) _ e in
+        let b = both_true (nat_le (length name) 60) _ a.1 in
+        let d = both_true (not (bytes_eq name (codes "."))) _ b.1 in
+        (both_true (not (bytes_eq name (codes ".."))) (list_all is_name_byte name) d.1).1
 
 pub plain_fits : (c : List ℕ) → components.Fits c → names.Fits (plain_name c)
 plain_fits c h = name_fits (plain_name c) (both_true (is_name (plain_name c)) (wire.is_suffix (wire.after_at c)) h.0).0

@@ -2,8 +2,11 @@
 use Rattle.std.proofs.Common.{◌≡◌, ◌≤◌, ◌<◌, ◌^◌, ℕ, ◌+◌, Bool, true, false, cond, not, ◌&&◌, List, [], ◌∷◌, length, Option, None, Some, refl, arith}
 use Rattle.std.specs.List.{flat_map, list_all}
 use Rattle.std.proofs.lemmas.Bool.Decides.{nat_tests}
+use Rattle.locus_ids.specs.declared.ids.CallId.{CallId}
 use Rattle.locus_ids.specs.declared.config.Config.{Config}
 use Rattle.locus_ids.specs.declared.ids.FileId.{FileId}
+use Rattle.trace_book.specs.Messages.{message_name}
+use Rattle.trace_book.specs.Names.{is_name}
 use Rattle.trace_book.specs.declared.call.Call.{Call}
 use Rattle.trace_book.specs.declared.call.Call.TheVariants as call
 use Rattle.trace_book.specs.declared.descriptor.Beginning.{Beginning}
@@ -26,7 +29,7 @@ use Rattle.role_steps.specs.Requests.{descriptors_of, users_repeats}
 use Rattle.role_steps.specs.Storage.{on_close, on_closed_ok, on_look_ss, on_open_ss, on_pull, copy_of, instance_of, report_of, store_repeats, with_copy}
 use Rattle.role_steps.specs.Tables.{first_that, row}
 use Rattle.role_steps.specs.Operations.{on_op}
-use Rattle.role_steps.specs.Using.{on_call, on_close_done, on_look_done, on_op_done, on_open_done}
+use Rattle.role_steps.specs.Using.{on_call, on_close_done, on_look_done, on_op_done, on_open_done, own_call}
 use Rattle.role_steps.specs.Versions.{file_row, kept}
 use Rattle.role_steps.specs.Views.{Frame, Outcome, SiteView, Store, Users, quiet, within}
 use Rattle.role_steps.specs.declared.pulls.Pull.{Pull}
@@ -218,19 +221,21 @@ write_fits c fd at bytes b h = over (nat_lt file_bytes_max (at + length bytes)) 
     by_begin : (b : Beginning) → at + length bytes ≤ file_bytes_max → CallFits c (call.Write fd at bytes) b
     by_begin (begins.Denied why) le = h
     by_begin (begins.Uses e inst) le = (let k : (1 ≤ length bytes) × (length bytes ≤ 4096) = write_lengths c.sites fd at bytes h in (k.0, k.1, le))
-    by_begin begins.Walks le = h
+    by_begin (begins.Walks id) le = h
 
     over : (t : Bool) → nat_lt file_bytes_max (at + length bytes) ≡ t → (b : Beginning) → CallFits c (call.Write fd at bytes) (cond t (begins.Denied refusal.TooLong) b)
     over true e b = h
     over false e b = by_begin b (short e)
 
 -- the words of a line, where the call begins by them
-pub call_fits : (c : Config) (table : ℕ → Option Descriptor) (now : Option EpochId) (words : Call) → fits_call c.sites words ≡ true → CallFits c words (beginning table now words)
-call_fits c table now (call.Mend file) h = absurd (cc)
-call_fits c table now (call.Write fd at bytes) h = write_fits c fd at bytes (begins_on true now (table fd)) h
-call_fits c table now _ h = h
+pub call_fits : (c : Config) (table : ℕ → Option Descriptor) (now : Option EpochId) (id : CallId) (words : Call) → fits_call c.sites words ≡ true → is_name (message_name id) ≡ true → CallFits c words (beginning table now id words)
+call_fits c table now id (call.Mend file) h named = absurd (cc)
+call_fits c table now id (call.Write fd at bytes) h named = write_fits c fd at bytes (begins_on true now (table fd)) h
+call_fits c table None id (call.Mail path bytes) h named = h
+call_fits c table (Some e) id (call.Mail path bytes) h named = (h, named)
+call_fits c table now id _ h named = h
 
-pub call_done : (f : Frame) (g : Grounds f.config) (now : Option EpochId) (process : ℕ) (words : Call) (v : SiteView) → processes.Fits process → CallFits f.config words (beginning (descriptors_of v.users process) now words) → SiteValues f.config f.members.boot v → AskingDone f.config f.members.boot (at_users (on_call f now process words) v)
+pub call_done : (f : Frame) (g : Grounds f.config) (now : Option EpochId) (process : ℕ) (words : Call) (v : SiteView) → processes.Fits process → CallFits f.config words (beginning (descriptors_of v.users process) now (own_call f.me f.boot (v.users.calls + 1)) words) → SiteValues f.config f.members.boot v → AskingDone f.config f.members.boot (at_users (on_call f now process words) v)
 call_done f g now process words v p k h = users_done f.config f.members.boot (on_call f now process words v.users) v h (on_call_fits f g.scripts g.packs now process words v.users p k h.users)
 
 no_process : processes.Fits 0

@@ -4,6 +4,7 @@ use Rattle.std.proofs.lemmas.Bool.Decides.{nat_tests}
 use Rattle.std.specs.List.{list_all}
 use Rattle.std.proofs.Math.Pow.{pow_mono}
 use Rattle.std.specs.Prelude.{nat_le, nat_lt}
+use Rattle.locus_ids.specs.declared.ids.CallId.{CallId}
 use Rattle.locus_ids.specs.declared.config.Config.{Config}
 use Rattle.locus_ids.specs.declared.config.Mount.{Mount}
 use Rattle.locus_ids.specs.declared.ids.FileId.{FileId}
@@ -14,7 +15,8 @@ use Rattle.locus_ids.specs.declared.ids.Stamp.{Stamp}
 use Rattle.locus_ids.specs.declared.refusal.Refusal.{Refusal}
 use Rattle.locus_ids.specs.declared.refusal.Refusal.TheVariants as refusal
 use Rattle.locus_ids.specs.declared.sites.Sites.{Sites}
-use Rattle.schedule_lines.specs.Ranges.{fits_call, fits_copies, fits_mode, is_descriptor, is_site, is_word}
+use Rattle.schedule_lines.specs.Ranges.{fits_call, fits_copies, fits_mode, is_byte, is_descriptor, is_site, is_word}
+use Rattle.trace_book.specs.Messages.{message_name}
 use Rattle.trace_book.specs.Names.{but_last, components, is_name, last_of, plain_name}
 use Rattle.trace_book.specs.declared.call.Call.{Call}
 use Rattle.trace_book.specs.declared.call.Call.TheVariants as call
@@ -28,10 +30,11 @@ use Rattle.trace_book.specs.declared.operation.Outcome.TheVariants as outcome
 use Rattle.trace_book.specs.declared.reply.Reply.{Reply}
 use Rattle.trace_book.specs.declared.reply.Reply.TheVariants as reply
 use Rattle.call_rules.specs.Closing.{Unchanged, close_all, closes, give_up, gives}
-use Rattle.call_rules.specs.Making.{after_insert, after_make, after_probe, changes_dir, opens_dir, probes}
+use Rattle.call_rules.specs.Mailing.{tells_name, shown_messages}
+use Rattle.call_rules.specs.Making.{after_insert, after_make, fills, after_probe, changes_dir, opens_dir, probes}
 use Rattle.call_rules.specs.Mending.{after_mend, brings, mend_wants}
 use Rattle.call_rules.specs.Naming.{renames}
-use Rattle.call_rules.specs.Opening.{close_wants, describes, lists, op_wants, opens_file, uses_wants}
+use Rattle.call_rules.specs.Opening.{close_wants, describes, lists, op_wants, opens_file, uses_wants, Shows, shown_in}
 use Rattle.call_rules.specs.Paths.{is_component, is_path, path_bytes_max}
 use Rattle.call_rules.specs.Removing.{by_kind, empties, finds, opens_target, removes}
 use Rattle.call_rules.specs.Scripts.{begun_wants, named_wants, path_wants, where_packed}
@@ -56,7 +59,7 @@ use Rattle.role_steps.proofs.of_plain_facts.Numbers.{at_most, less}
 use Rattle.role_steps.proofs.of_plain_facts.Tests.{both_true, not_false}
 use Rattle.locus_ids.specs.declared.ids.EpochId.{EpochId}
 use Rattle.locus_ids.specs.Sizes.{file_bytes_max, set_span, sites_max}
-use Rattle.packet_value_laws.proofs.Components.{component_fits, name_fits, plain_fits}
+use Rattle.packet_value_laws.proofs.Components.{component_fits, name_fits, plain_fits, bare_fits}
 use Rattle.packet_value_laws.proofs.Fields.{ino_fits, kind_fits, size_fits}
 
 abbrev SetIfAny : Option Sites → Type 0
@@ -111,29 +114,41 @@ two_closed i j r (_ ∷ rest) h = tt
 no_vector_fits : parts.no_vector.Fits nothing_seen
 no_vector_fits = refl
 
-insert_fits : (p : Serial) (name : List ℕ) (kind : Kind) (ino : ℕ) → names.Fits name → inodes.Fits ino → AlwaysFits (after_insert p name kind ino)
-insert_fits p name kind ino n k [] h = ((n, (k, kind_fits kind)), no_vector_fits)
-insert_fits p name kind ino n k (answer.Did o ∷ rest) h = one_closed p (reply.Made ino) rest h.1
-insert_fits p name kind ino n k (answer.Refused why ∷ rest) h = one_up p why rest h.1
-insert_fits p name kind ino n k (_ ∷ rest) h = tt
+-- what a new file begins with, if it is written at once
+abbrev BytesFit : List ℕ → Type 0
+BytesFit [] = Unit {0}
+BytesFit (b ∷ bs) = OpFits (op.Write 0 (b ∷ bs))
 
-make_fits : (p : Serial) (name : List ℕ) (kind : Kind) (made : Serial) (ino : ℕ) → names.Fits name → inodes.Fits ino → AlwaysFits (after_make p name kind made ino)
-make_fits p name kind made ino n k [] h = tt
-make_fits p name kind made ino n k (answer.Ended stamp ∷ rest) h = insert_fits p name kind ino n k rest h.1
-make_fits p name kind made ino n k (answer.Refused why ∷ rest) h = one_up p why rest h.1
-make_fits p name kind made ino n k (_ ∷ rest) h = tt
+insert_fits : (p : Serial) (name : List ℕ) (kind : Kind) (ino : ℕ) (told : Reply) → names.Fits name → inodes.Fits ino → AlwaysFits (after_insert p name kind ino told)
+insert_fits p name kind ino told n k [] h = ((n, (k, kind_fits kind)), no_vector_fits)
+insert_fits p name kind ino told n k (answer.Did o ∷ rest) h = one_closed p told rest h.1
+insert_fits p name kind ino told n k (answer.Refused why ∷ rest) h = one_up p why rest h.1
+insert_fits p name kind ino told n k (_ ∷ rest) h = tt
 
-probe_fits : (p : Serial) (group : ℕ) (name : List ℕ) (kind : Kind) (set : Option Sites) → names.Fits name → SetIfAny set → AlwaysFits (after_probe p group name kind set)
-probe_fits p group name kind set n k [] h = k
-probe_fits p group name kind set n k (answer.Opened made ino ∷ rest) h = make_fits p name kind made ino n h.0 rest h.1
-probe_fits p group name kind set n k (answer.Refused why ∷ rest) h = one_up p why rest h.1
-probe_fits p group name kind set n k (_ ∷ rest) h = tt
+make_fits : (p : Serial) (name : List ℕ) (kind : Kind) (made : Serial) (ino : ℕ) (told : Reply) → names.Fits name → inodes.Fits ino → AlwaysFits (after_make p name kind made ino told)
+make_fits p name kind made ino told n k [] h = tt
+make_fits p name kind made ino told n k (answer.Ended stamp ∷ rest) h = insert_fits p name kind ino told n k rest h.1
+make_fits p name kind made ino told n k (answer.Refused why ∷ rest) h = one_up p why rest h.1
+make_fits p name kind made ino told n k (_ ∷ rest) h = tt
 
-probes_fit : (p : Serial) (group : ℕ) (name : List ℕ) (kind : Kind) (set : Option Sites) → parts.components.Fits name → names.Fits name → SetIfAny set → AlwaysFits (probes p group name kind set)
-probes_fit p group name kind set c n k [] h = (c, no_vector_fits)
-probes_fit p group name kind set c n k (answer.Did o ∷ rest) h = probe_fits p group name kind set n k rest h.1
-probes_fit p group name kind set c n k (answer.Refused why ∷ rest) h = one_up p why rest h.1
-probes_fit p group name kind set c n k (_ ∷ rest) h = tt
+fills_fits : (p : Serial) (name : List ℕ) (kind : Kind) (bytes : List ℕ) (made : Serial) (ino : ℕ) (told : Reply) → names.Fits name → BytesFit bytes → inodes.Fits ino → AlwaysFits (fills p name kind bytes made ino told)
+fills_fits p name kind [] made ino told n w k answers h = make_fits p name kind made ino told n k answers h
+fills_fits p name kind (b ∷ bs) made ino told n w k [] h = w
+fills_fits p name kind (b ∷ bs) made ino told n w k (answer.Did o ∷ rest) h = make_fits p name kind made ino told n k rest h.1
+fills_fits p name kind (b ∷ bs) made ino told n w k (answer.Refused why ∷ rest) h = two_up made p why rest h.1
+fills_fits p name kind (b ∷ bs) made ino told n w k (_ ∷ rest) h = tt
+
+probe_fits : (p : Serial) (group : ℕ) (name : List ℕ) (kind : Kind) (set : Option Sites) (bytes : List ℕ) (tells : ℕ → Reply) → names.Fits name → BytesFit bytes → SetIfAny set → AlwaysFits (after_probe p group name kind set bytes tells)
+probe_fits p group name kind set bytes tells n w k [] h = k
+probe_fits p group name kind set bytes tells n w k (answer.Opened made ino ∷ rest) h = fills_fits p name kind bytes made ino (tells ino) n w h.0 rest h.1
+probe_fits p group name kind set bytes tells n w k (answer.Refused why ∷ rest) h = one_up p why rest h.1
+probe_fits p group name kind set bytes tells n w k (_ ∷ rest) h = tt
+
+probes_fit : (p : Serial) (group : ℕ) (name : List ℕ) (kind : Kind) (set : Option Sites) (bytes : List ℕ) (tells : ℕ → Reply) → parts.components.Fits name → names.Fits name → BytesFit bytes → SetIfAny set → AlwaysFits (probes p group name kind set bytes tells)
+probes_fit p group name kind set bytes tells c n w k [] h = (c, no_vector_fits)
+probes_fit p group name kind set bytes tells c n w k (answer.Did o ∷ rest) h = probe_fits p group name kind set bytes tells n w k rest h.1
+probes_fit p group name kind set bytes tells c n w k (answer.Refused why ∷ rest) h = one_up p why rest h.1
+probes_fit p group name kind set bytes tells c n w k (_ ∷ rest) h = tt
 
 -- ---- unlink and rmdir ----
 
@@ -181,12 +196,12 @@ renames_fit p component name c n (_ ∷ rest) h = tt
 
 -- ---- calls of one request ----
 
-lists_fit : (mounts : List Mount) (reached : List ℕ) (at : FileId) (kind : Kind) → inodes.Fits at.ino → AlwaysFits (lists mounts reached at kind)
-lists_fit mounts reached at File k answers h = tt
-lists_fit mounts reached at Dir k [] h = (k, tt)
-lists_fit mounts reached at Dir k (answer.Showed _ ∷ []) h = tt
-lists_fit mounts reached at Dir k (answer.Refused why ∷ []) h = tt
-lists_fit mounts reached at Dir k (_ ∷ rest) h = tt
+lists_fit : (shows : Shows) (reached : List ℕ) (at : FileId) (kind : Kind) → inodes.Fits at.ino → AlwaysFits (lists shows reached at kind)
+lists_fit shows reached at File k answers h = tt
+lists_fit shows reached at Dir k [] h = (k, tt)
+lists_fit shows reached at Dir k (answer.Showed _ ∷ []) h = tt
+lists_fit shows reached at Dir k (answer.Refused why ∷ []) h = tt
+lists_fit shows reached at Dir k (_ ∷ rest) h = tt
 
 describes_fit : (at : FileId) (kind : Kind) → inodes.Fits at.ino → AlwaysFits (describes at kind)
 describes_fit at kind k [] h = (k, tt)
@@ -358,20 +373,45 @@ mode_fits n mode.Read e = ((refl, omega arith), ((refl, omega arith), ((refl, om
 mode_fits n mode.Write e = write_opens
 mode_fits n (mode.Resolve site) e = ((refl, omega arith), ((site_in n site e, site_low n site e), ((refl, omega arith), (refl, omega arith))))
 
-path_says : (mounts : List Mount) (free : Option ℕ) (n : ℕ) (words : Call) → is_badly_named mounts words ≡ false → fits_call n words ≡ true → AlwaysFits (path_wants mounts free words)
-path_says mounts free n (call.Create path set) named fits = let k = new_parts mounts path named in change_fits mounts path _ k.0.dirs (λ group p. probes_fit p group (last_of (components path)) File set k.0.last k.1 (set_fits n set (both_true (is_word path) (fits_copies n set) fits).1))
-path_says mounts free n (call.MakeDir path) named fits = let k = new_parts mounts path named in change_fits mounts path _ k.0.dirs (λ group p. probes_fit p group (last_of (components path)) Dir None k.0.last k.1 tt)
-path_says mounts free n (call.Unlink path) named fits = let k = entry_fits mounts path (not_false (names_entry mounts path) named) in change_fits mounts path _ k.dirs (λ group p. finds_fit File p group (last_of (components path)) k.last (plain_fits (last_of (components path)) k.last))
-path_says mounts free n (call.RemoveDir path) named fits = let k = entry_fits mounts path (not_false (names_entry mounts path) named) in change_fits mounts path _ k.dirs (λ group p. finds_fit Dir p group (last_of (components path)) k.last (plain_fits (last_of (components path)) k.last))
-path_says mounts free n (call.Rename path name) named fits =
+-- the message's name isn't of the call's words
+abbrev NoMail : Call → Type 0
+NoMail (call.Mail path bytes) = ⊥
+NoMail _ = Unit {0}
+
+mailed_fits : (n : ℕ) (path bytes : List ℕ) → fits_call n (call.Mail path bytes) ≡ true → BytesFit bytes
+mailed_fits n path [] h = tt
+mailed_fits n path (b ∷ bs) h = write_op 0 (b ∷ bs) (of (both_true (nat_le 1 (length (b ∷ bs))) (nat_le (length (b ∷ bs)) 4096) (middle (is_word path) (nat_le 1 (length (b ∷ bs)) && nat_le (length (b ∷ bs)) 4096) (list_all is_byte (b ∷ bs)) h)))
+  where
+    middle : (a x d : Bool) → (a && x && d) ≡ true → x ≡ true
+    middle a true d h = refl
+    middle true false d h = absurd (cc)
+    middle false false d h = absurd (cc)
+
+    low : nat_le 1 (length (b ∷ bs)) ≡ true → 1 ≤ length (b ∷ bs)
+    low e = grind (arith, nat_tests)
+
+    high : nat_le (length (b ∷ bs)) 4096 ≡ true → length (b ∷ bs) ≤ 4096
+    high e = grind (arith, nat_tests)
+
+    of : (nat_le 1 (length (b ∷ bs)) ≡ true) × (nat_le (length (b ∷ bs)) 4096 ≡ true) → (1 ≤ length (b ∷ bs)) × (length (b ∷ bs) ≤ 4096) × (0 + length (b ∷ bs) ≤ file_bytes_max)
+    of e = (low e.0, high e.1, omega (arith, high e.1))
+
+path_says : (mounts : List Mount) (free : Option ℕ) (n : ℕ) (id : CallId) (words : Call) → NoMail words → is_badly_named mounts words ≡ false → fits_call n words ≡ true → AlwaysFits (path_wants mounts free id words)
+path_says mounts free n id (call.Create path set) plain named fits = let k = new_parts mounts path named in change_fits mounts path _ k.0.dirs (λ group p. probes_fit p group (last_of (components path)) File set [] reply.Made k.0.last k.1 tt (set_fits n set (both_true (is_word path) (fits_copies n set) fits).1))
+path_says mounts free n id (call.MakeDir path) plain named fits = let k = new_parts mounts path named in change_fits mounts path _ k.0.dirs (λ group p. probes_fit p group (last_of (components path)) Dir None [] reply.Made k.0.last k.1 tt tt)
+path_says mounts free n id (call.Unlink path) plain named fits = let k = entry_fits mounts path (not_false (names_entry mounts path) named) in change_fits mounts path _ k.dirs (λ group p. finds_fit File p group (last_of (components path)) k.last (plain_fits (last_of (components path)) k.last))
+path_says mounts free n id (call.RemoveDir path) plain named fits = let k = entry_fits mounts path (not_false (names_entry mounts path) named) in change_fits mounts path _ k.dirs (λ group p. finds_fit Dir p group (last_of (components path)) k.last (plain_fits (last_of (components path)) k.last))
+path_says mounts free n id (call.Rename path name) plain named fits =
     let e : (names_entry mounts path ≡ true) × _ = both_true (names_entry mounts path) _ (not_false (names_entry mounts path && (is_name name && not (is_mount_name mounts path name))) named) in
     let k : EntryFits path = entry_fits mounts path e.0 in
     change_fits mounts path _ k.dirs (λ group p. renames_fit p (last_of (components path)) name k.last (name_fits name (both_true (is_name name) _ e.1).0))
-path_says mounts free n (call.List path) named fits = walked_fits mounts (components path) _ (path_fits path (not_false (is_path path) named)) (λ at kind k. lists_fit mounts (last_of (components path)) at kind k)
-path_says mounts free n (call.Stat path) named fits = walked_fits mounts (components path) describes (path_fits path (not_false (is_path path) named)) (λ at kind k. describes_fit at kind k)
-path_says mounts free n (call.Open path m) named fits = walked_fits mounts (components path) _ (path_fits path (not_false (is_path path) named)) (λ at kind k. opens_fit m free at kind (mode_fits n m (both_true (is_word path) (fits_mode n m) fits).1) k)
-path_says mounts free n (call.Mend file) named fits = absurd (cc)
-path_says mounts free n _ named fits = λ answers h. tt
+path_says mounts free n id (call.List path) plain named fits = walked_fits mounts (components path) _ (path_fits path (not_false (is_path path) named)) (λ at kind k. lists_fit (shown_in mounts) (last_of (components path)) at kind k)
+path_says mounts free n id (call.Mails path) plain named fits = walked_fits mounts (components path) _ (path_fits path (not_false (is_path path) named)) (λ at kind k. lists_fit shown_messages (last_of (components path)) at kind k)
+path_says mounts free n id (call.Stat path) plain named fits = walked_fits mounts (components path) describes (path_fits path (not_false (is_path path) named)) (λ at kind k. describes_fit at kind k)
+path_says mounts free n id (call.Open path m) plain named fits = walked_fits mounts (components path) _ (path_fits path (not_false (is_path path) named)) (λ at kind k. opens_fit m free at kind (mode_fits n m (both_true (is_word path) (fits_mode n m) fits).1) k)
+path_says mounts free n id (call.Mail path bytes) plain named fits = absurd plain
+path_says mounts free n id (call.Mend file) plain named fits = absurd (cc)
+path_says mounts free n id _ plain named fits = λ answers h. tt
 
 uses_says : (c : Config) (words : Call) (e : EpochId) (i : Serial) → CallFits c words (begins.Uses e i) → AlwaysFits (uses_wants words i)
 uses_says c (call.Read fd at len) e i k = op_fits i (op.Read at len) (read_op c.sites fd at len k)
@@ -382,22 +422,25 @@ uses_says c (call.Abort fd) e i k = op_fits i op.Abort no_vector_fits
 uses_says c (call.Close fd) e i k = close_fits i
 uses_says c _ e i k = λ answers h. tt
 
-walks_says : (c : Config) (free : Option ℕ) (words : Call) → is_badly_named c.mounts words ≡ false → CallFits c words begins.Walks → AlwaysFits (path_wants c.mounts free words)
-walks_says c free (call.Mend file) named k = mend_fits file k.1
-walks_says c free (call.Create path set) named k = path_says c.mounts free c.sites (call.Create path set) named k
-walks_says c free (call.MakeDir path) named k = path_says c.mounts free c.sites (call.MakeDir path) named k
-walks_says c free (call.Unlink path) named k = path_says c.mounts free c.sites (call.Unlink path) named k
-walks_says c free (call.RemoveDir path) named k = path_says c.mounts free c.sites (call.RemoveDir path) named k
-walks_says c free (call.Rename path name) named k = path_says c.mounts free c.sites (call.Rename path name) named k
-walks_says c free (call.List path) named k = path_says c.mounts free c.sites (call.List path) named k
-walks_says c free (call.Stat path) named k = path_says c.mounts free c.sites (call.Stat path) named k
-walks_says c free (call.Open path m) named k = path_says c.mounts free c.sites (call.Open path m) named k
-walks_says c free _ named k = λ answers h. tt
+walks_says : (c : Config) (free : Option ℕ) (id : CallId) (words : Call) → is_badly_named c.mounts words ≡ false → CallFits c words (begins.Walks id) → AlwaysFits (path_wants c.mounts free id words)
+walks_says c free id (call.Mend file) named k = mend_fits file k.1
+walks_says c free id (call.Create path set) named k = path_says c.mounts free c.sites id (call.Create path set) tt named k
+walks_says c free id (call.MakeDir path) named k = path_says c.mounts free c.sites id (call.MakeDir path) tt named k
+walks_says c free id (call.Unlink path) named k = path_says c.mounts free c.sites id (call.Unlink path) tt named k
+walks_says c free id (call.RemoveDir path) named k = path_says c.mounts free c.sites id (call.RemoveDir path) tt named k
+walks_says c free id (call.Rename path name) named k = path_says c.mounts free c.sites id (call.Rename path name) tt named k
+walks_says c free id (call.List path) named k = path_says c.mounts free c.sites id (call.List path) tt named k
+walks_says c free id (call.Stat path) named k = path_says c.mounts free c.sites id (call.Stat path) tt named k
+walks_says c free id (call.Mail path bytes) named k = walked_fits c.mounts (components path) _ (path_fits path (not_false (is_path path) named))
+    (λ dir kind i. dir_fits (last_of (components path)) (λ p more. probes p dir.group (message_name id) File None bytes (tells_name (message_name id)) more) (λ p. probes_fit p dir.group (message_name id) File None bytes (tells_name (message_name id)) (bare_fits (message_name id) k.1) (name_fits (message_name id) k.1) (mailed_fits c.sites path bytes k.0) tt) dir kind i)
+walks_says c free id (call.Mails path) named k = path_says c.mounts free c.sites id (call.Mails path) tt named k
+walks_says c free id (call.Open path m) named k = path_says c.mounts free c.sites id (call.Open path m) tt named k
+walks_says c free id _ named k = λ answers h. tt
 
 begun_says : (c : Config) (free : Option ℕ) (words : Call) (b : Beginning) → is_badly_named c.mounts words ≡ false → CallFits c words b → AlwaysFits (begun_wants c.mounts free words b)
 begun_says c free words (begins.Denied why) named k answers h = tt
 begun_says c free words (begins.Uses e i) named k answers h = uses_says c words e i k answers h
-begun_says c free words begins.Walks named k answers h = walks_says c free words named k answers h
+begun_says c free words (begins.Walks id) named k answers h = walks_says c free id words named k answers h
 
 named_says : (c : Config) (free : Option ℕ) (words : Call) (b : Beginning) (answers : List Answer) → CallFits c words b → Every AnswerFits answers → SaysFit (named_wants c.mounts free words b answers)
 named_says c free words b answers k h = over (is_badly_named c.mounts words) refl

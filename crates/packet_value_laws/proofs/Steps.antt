@@ -12,6 +12,8 @@ use Rattle.locus_ids.specs.declared.sites.Sites.{Sites}
 use Rattle.schedule_lines.specs.Ranges.{fits_call}
 use Rattle.trace_book.specs.Same.{same_epoch}
 use Rattle.trace_book.specs.declared.call.Call.{Call}
+use Rattle.trace_book.specs.Names.{is_name}
+use Rattle.trace_book.specs.Messages.{message_name}
 use Rattle.wire_fields.specs.Parts.{processes}
 use Rattle.wire_messages.specs.Bodies.{kind_number}
 use Rattle.wire_messages.specs.declared.body.Body.{Body}
@@ -42,7 +44,7 @@ use Rattle.packet_value_laws.proofs.Fields.{AskedFits, every_some}
 use Rattle.packet_value_laws.proofs.Inside.{AskingDone, SiteDone, adopts_first_done, call_done, call_fits, inside_done, inside_repeats, mends_done, quiet_asking, quiet_done, reports_fit}
 use Rattle.role_steps.specs.Requests.{descriptors_of}
 use Rattle.role_steps.specs.Tables.{without_row}
-use Rattle.role_steps.specs.Using.{on_call}
+use Rattle.role_steps.specs.Using.{on_call, own_call}
 use Rattle.role_steps.specs.Mends.{starts_mends}
 use Rattle.role_steps.specs.declared.users.Asking.{Asking}
 use Rattle.role_steps.specs.declared.users.Asking.TheVariants as asking
@@ -82,6 +84,10 @@ abbrev pub EventFits : Config → SiteView → Event → Type 0
 EventFits c v (Calls process words) = processes.Fits process × (fits_call c.sites words ≡ true)
 EventFits c v (Receives p) = FitsBut p.body × (is_framed p v.epoch ≡ true → NamesHere v.epoch p.body × KeptAt v p.from p.body)
 EventFits c v _ = Unit {0}
+
+-- the site's next call would give its message a good name
+abbrev pub IsNextNamed : ℕ → SiteView → Type 0
+IsNextNamed me v = is_name (message_name (own_call me v.boot (v.users.calls + 1))) ≡ true
 
 addressed : (boots : List ℕ) (p : Packet) → AreBoots boots → SentFits boots p → IsAddressed p
 addressed boots p fit k = let l : IsSite p.to × IsBoot (boot_in boots p.to) = listed_site boots p.to fit k.to in (l.0, subst IsBoot (sym k.boot) l.1)
@@ -392,14 +398,14 @@ module _ (c : Config) (me : ℕ) (site : IsSite me) (g : Grounds c) where
   quiet_whole : (links : Links) (o0 : Option InEpoch) (o : Outcome SiteView) → Site o.view → Done c o0 o → Done c o0 (whole c me links o quiet)
   quiet_whole links o0 o s h = whole_done links o0 o quiet s h (still c me o0 o.view h.apart h.view)
 
-  call_sent : (o : Option InEpoch) (v : SiteView) (process : ℕ) (words : Call) → HasBoots o → v.epoch ≡ o → processes.Fits process → fits_call c.sites words ≡ true → SiteValues c (boots_in o) v → AskingDone c (boots_in o) (at_users (on_call (call_frame c me v.boot o) (epoch_id o) process words) v)
-  call_sent None v process words fit here p k h = call_done (call_frame c me v.boot None) g None process words v p (call_fits c (descriptors_of v.users process) None words k) h
-  call_sent (Some e) v process words fit here p k h = call_done (frame_in c me v.boot e) g (Some e.id) process words v p (call_fits c (descriptors_of v.users process) (Some e.id) words k) h
+  call_sent : (o : Option InEpoch) (v : SiteView) (process : ℕ) (words : Call) → HasBoots o → v.epoch ≡ o → processes.Fits process → fits_call c.sites words ≡ true → IsNextNamed me v → SiteValues c (boots_in o) v → AskingDone c (boots_in o) (at_users (on_call (call_frame c me v.boot o) (epoch_id o) process words) v)
+  call_sent None v process words fit here p k named h = call_done (call_frame c me v.boot None) g None process words v p (call_fits c (descriptors_of v.users process) None (own_call me v.boot (v.users.calls + 1)) words k named) h
+  call_sent (Some e) v process words fit here p k named h = call_done (frame_in c me v.boot e) g (Some e.id) process words v p (call_fits c (descriptors_of v.users process) (Some e.id) (own_call me v.boot (v.users.calls + 1)) words k named) h
 
-  calls_done : (process : ℕ) (words : Call) (v : SiteView) → Site v → Apart v → processes.Fits process → fits_call c.sites words ≡ true → SiteValues c (boots_in v.epoch) v → Done c v.epoch (takes_call c me process words v)
-  calls_done process words v s apart p k h =
+  calls_done : (process : ℕ) (words : Call) (v : SiteView) → Site v → Apart v → processes.Fits process → fits_call c.sites words ≡ true → IsNextNamed me v → SiteValues c (boots_in v.epoch) v → Done c v.epoch (takes_call c me process words v)
+  calls_done process words v s apart p k named h =
       let o : Outcome SiteView = takes_call c me process words v in
-      let d : AskingDone c (boots_in v.epoch) o = call_sent v.epoch v process words (has_boots v v.epoch refl s) refl p k h in
+      let d : AskingDone c (boots_in v.epoch) o = call_sent v.epoch v process words (has_boots v v.epoch refl s) refl p k named h in
       inner_done c v.epoch v o refl refl apart d.view (no_asks v.epoch v.epoch o.sent (has_boots v v.epoch refl s) d.sent (call_inner c me process words v).sent)
 
   -- ---- a tick ----
@@ -448,9 +454,9 @@ module _ (c : Config) (me : ℕ) (site : IsSite me) (g : Grounds c) where
   not_false true h = refl
   not_false false h = absurd (cc)
 
-  pub step_done : (links : Links) (v : SiteView) (e : Event) → ((t : ℕ) → boot_in links.boot t ≤ 134217730) → Comes e → Site v → Apart v → (v.installed ≡ false → v.epoch ≡ None) → HasOwn me v.epoch → EventFits c v e → SiteValues c (boots_in v.epoch) v → Done c v.epoch (step c me links v e)
-  step_done links v (Calls process words) low comes s apart outside own k h = quiet_whole links v.epoch (takes_call c me process words v) (call_site me c process words v s) (calls_done process words v s apart k.0 k.1 h)
-  step_done links v (Receives p) low comes s apart outside own k h =
+  pub step_done : (links : Links) (v : SiteView) (e : Event) → ((t : ℕ) → boot_in links.boot t ≤ 134217730) → Comes e → Site v → Apart v → (v.installed ≡ false → v.epoch ≡ None) → HasOwn me v.epoch → EventFits c v e → IsNextNamed me v → SiteValues c (boots_in v.epoch) v → Done c v.epoch (step c me links v e)
+  step_done links v (Calls process words) low comes s apart outside own k named h = quiet_whole links v.epoch (takes_call c me process words v) (call_site me c process words v s) (calls_done process words v s apart k.0 k.1 named h)
+  step_done links v (Receives p) low comes s apart outside own k named h =
       (elim (is_dropped p v) as (λ t. is_dropped p v ≡ t → Done c v.epoch (elim t as (λ (b : Bool). Outcome SiteView) [ true ↦ quiet v | false ↦ whole c me links (takes c me links p p.body v) (tries_at c me p.body) ])) [
         | true ↦ λ e. still c me v.epoch v apart h
         | false ↦ λ e. (
@@ -461,7 +467,7 @@ module _ (c : Config) (me : ℕ) (site : IsSite me) (g : Grounds c) where
             whole_done links v.epoch o (tries_at c me p.body) (tries_site me c p.body o.view so) d (tries_done v.epoch p.body o.view so d.apart (own_at links p p.body v s own) d.view)
             )
       ]) refl
-  step_done links v Ticks low comes s apart outside own k h = ticks_done links v s apart own h (adopts_site_of me c v s)
-  step_done links v Parts low comes s apart outside own k h = quiet_whole links v.epoch (starts_part me links v) (starts_part_fine me links v.epoch v refl s).view (part_done c me v.epoch links v.epoch v apart h)
-  step_done links v Merges low comes s apart outside own k h = quiet_whole links v.epoch (starts_merge me links v) (merges_site me links v low s) (begins_done c me v.epoch links (v.promised.number + 1) (boots_where (merge_boot me links)) v apart h)
-  step_done links v GivesUp low comes s apart outside own k h = quiet_whole links v.epoch (leaves me v) (leaves_fine me v.epoch v s).view (leaves_done c me v.epoch v.epoch v apart h)
+  step_done links v Ticks low comes s apart outside own k named h = ticks_done links v s apart own h (adopts_site_of me c v s)
+  step_done links v Parts low comes s apart outside own k named h = quiet_whole links v.epoch (starts_part me links v) (starts_part_fine me links v.epoch v refl s).view (part_done c me v.epoch links v.epoch v apart h)
+  step_done links v Merges low comes s apart outside own k named h = quiet_whole links v.epoch (starts_merge me links v) (merges_site me links v low s) (begins_done c me v.epoch links (v.promised.number + 1) (boots_where (merge_boot me links)) v apart h)
+  step_done links v GivesUp low comes s apart outside own k named h = quiet_whole links v.epoch (leaves me v) (leaves_fine me v.epoch v s).view (leaves_done c me v.epoch v.epoch v apart h)

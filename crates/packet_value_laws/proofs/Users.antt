@@ -1,6 +1,7 @@
 -- What a using site asks is of the format, where its scripts want what is of the format.
 use Rattle.std.proofs.Common.{◌≡◌, ◌≤◌, ◌<◌, ◌^◌, ℕ, ◌+◌, ◌==◌, Bool, true, false, cond, List, [], ◌∷◌, ◌++◌, Option, None, Some, is_some, refl, sym, subst, arith}
 use Rattle.std.proofs.lemmas.Bool.Decides.{nat_tests}
+use Rattle.locus_ids.specs.declared.ids.CallId.{CallId}
 use Rattle.locus_ids.specs.declared.config.Config.{Config}
 use Rattle.locus_ids.specs.declared.ids.EpochId.{EpochId}
 use Rattle.locus_ids.specs.declared.ids.FileId.{FileId}
@@ -33,7 +34,7 @@ use Rattle.wire_messages.specs.declared.body.Opening.TheVariants as how
 use Rattle.role_steps.specs.Own.{Every}
 use Rattle.role_steps.specs.Requests.{asks_open, asks_make, descriptors_of, asks, asks_close_of, asks_op_of, instance_serial, made_for, next_request, opened_serial, opening_of, request_packets, seen_by, user_instance, users_repeats, vector_in, vector_opened, waiting_key, with_user_instance, without_user_instance, without_waiting}
 use Rattle.role_steps.specs.Tables.{first_that}
-use Rattle.role_steps.specs.Using.{is_some_site, asks_close_of as asks_close_serial, asks_open_of, asks_op_number, asks_take, close_answer, is_hopeless, is_packed, accepted, after_reply, asks_want, content_answer, frees, goes_on, kept_for, looks_again, mended_file, next_want, on_call, on_close_done, on_close_done_of, on_look_done, on_look_done_of, on_op_done, on_op_done_of, on_open_done, on_open_done_of, op_answer, opened_answer, replies, takes_answer, takes_look, takes_open, with_answer, with_brought, without_hope}
+use Rattle.role_steps.specs.Using.{is_some_site, asks_close_of as asks_close_serial, asks_open_of, asks_op_number, asks_take, close_answer, is_hopeless, is_packed, accepted, after_reply, asks_want, content_answer, frees, goes_on, kept_for, looks_again, mended_file, next_want, on_call, on_close_done, on_close_done_of, on_look_done, on_look_done_of, on_op_done, on_op_done_of, on_open_done, on_open_done_of, op_answer, opened_answer, replies, takes_answer, takes_look, takes_open, with_answer, with_brought, without_hope, own_call}
 use Rattle.role_steps.specs.Views.{sync_site, Frame, Outcome, Users}
 use Rattle.role_steps.specs.declared.users.Asking.{Asking}
 use Rattle.role_steps.specs.declared.users.Asking.TheVariants as asking
@@ -191,9 +192,9 @@ module _ (f : Frame) (scripts : ScriptsFit f.config) (packs : PacksFit f.config)
   frees_fit process (call.Close fd) u h = record { waiting = h.waiting; instances = h.instances }
   frees_fit process _ u h = h
 
-  pub on_call_fits : (now : Option EpochId) (process : ℕ) (words : Call) (u : Users) → processes.Fits process → CallFits f.config words (beginning (descriptors_of u process) now words) → UsersFit f.config f.members.boot u → UsersDone f.config f.members.boot (on_call f now process words u)
+  pub on_call_fits : (now : Option EpochId) (process : ℕ) (words : Call) (u : Users) → processes.Fits process → CallFits f.config words (beginning (descriptors_of u process) now (own_call f.me f.boot (u.calls + 1)) words) → UsersFit f.config f.members.boot u → UsersDone f.config f.members.boot (on_call f now process words u)
   on_call_fits now process words u p k h =
-      goes_on_fits (accepted process (u.calls + 1) words (beginning (descriptors_of u process) now words)) (frees process words (record u { calls = u.calls + 1 })) (record { process = p; words = k; answers = tt })
+      goes_on_fits (accepted process (u.calls + 1) words (beginning (descriptors_of u process) now (own_call f.me f.boot (u.calls + 1)) words)) (frees process words (record u { calls = u.calls + 1 })) (record { process = p; words = k; answers = tt })
       (frees_fit process words (record u { calls = u.calls + 1 }) (record { waiting = h.waiting; instances = h.instances }))
 
   -- ---- answers ----

@@ -5,6 +5,8 @@ use Rattle.locus_ids.specs.declared.ids.Stamp.{Stamp}
 use Rattle.locus_ids.specs.declared.config.Config.{Config}
 use Rattle.locus_ids.specs.declared.sites.Members.{Members}
 use Rattle.locus_ids.specs.Sizes.{file_bytes_max}
+use Rattle.trace_book.specs.Messages.{message_name}
+use Rattle.trace_book.specs.Names.{is_name}
 use Rattle.trace_book.specs.declared.call.Call.{Call}
 use Rattle.trace_book.specs.declared.call.Call.TheVariants as call
 use Rattle.trace_book.specs.declared.operation.Op.{Op}
@@ -123,10 +125,11 @@ pub record StoreFits (boots : List ℕ) (s : Store) : Type 0 where
 -- ---- the using site ----
 
 -- The words of a call with what it began on: those of a line, or a mend of some file. A write on a descriptor doesn't end past the
--- greatest size.
+-- greatest size, and the name of a message is one.
 abbrev pub CallFits : Config → Call → Beginning → Type 0
 CallFits c (call.Mend file) b = files.Fits file
 CallFits c (call.Write fd at bytes) (begins.Uses e inst) = (1 ≤ length bytes) × (length bytes ≤ 4096) × (at + length bytes ≤ file_bytes_max)
+CallFits c (call.Mail path bytes) (begins.Walks id) = (fits_call c.sites (call.Mail path bytes) ≡ true) × (is_name (message_name id) ≡ true)
 CallFits c words b = fits_call c.sites words ≡ true
 
 -- what a call has been answered

@@ -54,7 +54,7 @@ opened_silent mounts q free words b xs k h = at (packed_request q (named_wants m
     by_words : (x : Beginning) → is_request (begun_wants mounts free (call.Open k.path k.how) x xs) ≡ true → ⊥
     by_words (begins.Denied why) e = false_true e
     by_words (begins.Uses at inst) e = false_true e
-    by_words begins.Walks e = by_walk e
+    by_words (begins.Walks id) e = by_walk e
 
     by_name : (x : Bool) → is_request (cond x (want.Give (reply.No BadName)) (begun_wants mounts free (call.Open k.path k.how) b xs)) ≡ true → ⊥
     by_name true e = false_true e
@@ -111,7 +111,7 @@ no_look mounts q free words b xs n k l f w h = by_name (is_badly_named mounts (c
     by_begin : (x : Beginning) → where_packed q (begun_wants mounts free (call.Open k.path k.how) x (take n xs)) ≡ want.Look f w → ⊥
     by_begin (begins.Denied why) e = cc
     by_begin (begins.Uses at inst) e = cc
-    by_begin begins.Walks e = of_open (q k.file.group) (rw init at e)
+    by_begin (begins.Walks id) e = of_open (q k.file.group) (rw init at e)
 
     by_name : (x : Bool) → where_packed q (cond x (want.Give (reply.No BadName)) (begun_wants mounts free (call.Open k.path k.how) b (take n xs))) ≡ want.Look f w → ⊥
     by_name true e = cc
@@ -156,7 +156,7 @@ opened_is mounts q free (call.Open path how) b xs fd h = by_name (is_badly_named
     by_begin : (x : Beginning) → where_packed q (begun_wants mounts free (call.Open path how) x xs) ≡ want.Give (reply.Opened fd) → IsOpened mounts (call.Open path how) xs
     by_begin (begins.Denied why) e = absurd (cc)
     by_begin (begins.Uses at inst) e = absurd (cc)
-    by_begin begins.Walks e = by_walk (walk mounts (components path) [] (root_of 0) Dir xs) refl e
+    by_begin (begins.Walks id) e = by_walk (walk mounts (components path) [] (root_of 0) Dir xs) refl e
 
     by_name : (x : Bool) → where_packed q (cond x (want.Give (reply.No BadName)) (begun_wants mounts free (call.Open path how) b xs)) ≡ want.Give (reply.Opened fd) → IsOpened mounts (call.Open path how) xs
     by_name true e = absurd (cc)

@@ -32,7 +32,7 @@ accept_opens before s process new words t q fd d o = cc (o.opens)
 
 -- an older call keeps its turn
 turn_old : (c : Config) (before : Trace) (p : Past) (s process : ℕ) (new : CallId) (words : Call) (n : ℕ) → Accepts c before p s process new words → (e : EpochId) (i : Serial) (k : CallSoFar) → CallStands before k → HasTurn before e i k → HasTurn (With n (says.Accept s process new words) before) e i k
-turn_old c before p s process new words n a e i k st h m = over (not (is_close words) && uses_by (begins_now before s process words) e i)
+turn_old c before p s process new words n a e i k st h m = over (not (is_close words) && uses_by (begins_now before s process new words) e i)
   where
     apart : same_call new k.id ≡ false
     apart = call_turned new k.id ∙ new_apart c before p s process new words a k.id st.low
@@ -46,8 +46,8 @@ turn_old c before p s process new words n a e i k st h m = over (not (is_close w
     over false = h m
 
 -- whom the call uses a descriptor names
-used_named : {A : Type 0} (c : Config) (before : Trace) (p : Past) (s process : ℕ) (words : Call) (e : EpochId) (x : Instance) → InstanceStands before p.calls e x → x.named ≡ false → uses_by (begins_now before s process words) e x.grant.inst ≡ true → A
-used_named c before p s process words e x st h q = (let f = uses_from (descriptor before s process) (epoch_of before s) words e x.grant.inst (uses_is (begins_now before s process words) e x.grant.inst q) in
+used_named : {A : Type 0} (c : Config) (before : Trace) (p : Past) (s process : ℕ) (id : CallId) (words : Call) (e : EpochId) (x : Instance) → InstanceStands before p.calls e x → x.named ≡ false → uses_by (begins_now before s process id words) e x.grant.inst ≡ true → A
+used_named c before p s process id words e x st h q = (let f = uses_from (descriptor before s process) (epoch_of before s) id words e x.grant.inst (uses_is (begins_now before s process id words) e x.grant.inst q) in
     absurd (st.undescribed h s process f.fd f.stands f.found f.epoch_is f.serial_is))
 
 -- what a call makes of an instance
@@ -62,18 +62,18 @@ accept_stands c before p s process new words n a e x turn st y same_grant same_n
   granted = st.granted;
   uses = now;
   named = λ h. st.named (same_named ∙ h);
-  unnamed = λ h. (let k = st.unnamed (same_named ∙ h) in record { unused = unused (same_named ∙ h) (not (is_close words)) (uses_by (begins_now before s process words) e x.grant.inst) refl k.unused; unclosed = unclosed (same_named ∙ h) (is_close words) (uses_by (begins_now before s process words) e x.grant.inst) refl k.unclosed });
+  unnamed = λ h. (let k = st.unnamed (same_named ∙ h) in record { unused = unused (same_named ∙ h) (not (is_close words)) (uses_by (begins_now before s process new words) e x.grant.inst) refl k.unused; unclosed = unclosed (same_named ∙ h) (is_close words) (uses_by (begins_now before s process new words) e x.grant.inst) refl k.unclosed });
   undescribed = λ h t q fd d stands is_e is_i. undescribed (same_named ∙ h) t q fd d is_e is_i (described n (says.Accept s process new words) before t q fd d stands);
   turns = (turn_new c before p s process new words n a e x st.uses turn, each_both (CallStands before) (HasTurn before e x.grant.inst) (HasTurn (With n (says.Accept s process new words) before) e x.grant.inst) (λ k. turn_old c before p s process new words n a e x.grant.inst k) p.calls a.agree.calls.stand st.turns);
 })
   where
-    unused : x.named ≡ false → (u v : Bool) → uses_by (begins_now before s process words) e x.grant.inst ≡ v → uses_of before e x.grant.inst ≡ [] → cond (u && v) (new ∷ uses_of before e x.grant.inst) (uses_of before e x.grant.inst) ≡ []
-    unused h true true q k = used_named c before p s process words e x st h q
+    unused : x.named ≡ false → (u v : Bool) → uses_by (begins_now before s process new words) e x.grant.inst ≡ v → uses_of before e x.grant.inst ≡ [] → cond (u && v) (new ∷ uses_of before e x.grant.inst) (uses_of before e x.grant.inst) ≡ []
+    unused h true true q k = used_named c before p s process new words e x st h q
     unused h true false q k = k
     unused h false v q k = k
 
-    unclosed : x.named ≡ false → (u v : Bool) → uses_by (begins_now before s process words) e x.grant.inst ≡ v → close_of before e x.grant.inst ≡ None → cond (u && v) (Some new) (close_of before e x.grant.inst) ≡ None
-    unclosed h true true q k = used_named c before p s process words e x st h q
+    unclosed : x.named ≡ false → (u v : Bool) → uses_by (begins_now before s process new words) e x.grant.inst ≡ v → close_of before e x.grant.inst ≡ None → cond (u && v) (Some new) (close_of before e x.grant.inst) ≡ None
+    unclosed h true true q k = used_named c before p s process new words e x st h q
     unclosed h true false q k = k
     unclosed h false v q k = k
 
@@ -84,15 +84,15 @@ accept_stands c before p s process new words n a e x turn st y same_grant same_n
 -- how often it is used by both
 used_more : (c : Config) (before : Trace) (p : Past) (s process : ℕ) (new : CallId) (words : Call) (n : ℕ) → Accepts c before p s process new words → (e : EpochId) (x : Instance) → InstanceStands before p.calls e x → (b : Bool) → uses (accepted_call p s process new words).begins words e x ≡ b
     → cond b (x.uses + 1) x.uses ≡ length (uses_of (With n (says.Accept s process new words) before) e x.grant.inst)
-used_more c before p s process new words n a e x st b h = over b h (is_close words) (uses_by (begins_now before s process words) e x.grant.inst) refl refl
+used_more c before p s process new words n a e x st b h = over b h (is_close words) (uses_by (begins_now before s process new words) e x.grant.inst) refl refl
   where
     add : x.uses + 1 ≡ suc (length (uses_of before e x.grant.inst))
     add = (let k : x.uses ≡ length (uses_of before e x.grant.inst) = st.uses in omega (arith, k))
 
-    as_by : (u v : Bool) → is_close words ≡ u → uses_by (begins_now before s process words) e x.grant.inst ≡ v → uses (accepted_call p s process new words).begins words e x ≡ v && not u
+    as_by : (u v : Bool) → is_close words ≡ u → uses_by (begins_now before s process new words) e x.grant.inst ≡ v → uses (accepted_call p s process new words).begins words e x ≡ v && not u
     as_by u v g q = ap (λ (z : Bool). z && not (is_close words)) (on_same c before p s process new words a e x.grant.inst ∙ q) ∙ ap (λ (z : Bool). v && not z) g
 
-    over : (b : Bool) → uses (accepted_call p s process new words).begins words e x ≡ b → (u v : Bool) → is_close words ≡ u → uses_by (begins_now before s process words) e x.grant.inst ≡ v
+    over : (b : Bool) → uses (accepted_call p s process new words).begins words e x ≡ b → (u v : Bool) → is_close words ≡ u → uses_by (begins_now before s process new words) e x.grant.inst ≡ v
         → cond b (x.uses + 1) x.uses ≡ length (cond (not u && v) (new ∷ uses_of before e x.grant.inst) (uses_of before e x.grant.inst))
     over true h false true g q = add
     over false h false true g q = false_true (sym h ∙ as_by false true g q)
@@ -129,8 +129,8 @@ epoch_accepts c before p s process new words n a t turns st false outside = reco
 }
   where
     -- a call that uses an instance is of its epoch
-    away : (x : Instance) → uses_by (begins_now before s process words) t.id x.grant.inst ≡ true → ⊥
-    away x q = (let f = uses_from (descriptor before s process) (epoch_of before s) words t.id x.grant.inst (uses_is (begins_now before s process words) t.id x.grant.inst q) in
+    away : (x : Instance) → uses_by (begins_now before s process new words) t.id x.grant.inst ≡ true → ⊥
+    away x q = (let f = uses_from (descriptor before s process) (epoch_of before s) new words t.id x.grant.inst (uses_is (begins_now before s process new words) t.id x.grant.inst q) in
         false_true (sym outside ∙ (ap (λ (o : Option EpochId). is_in o t.id) (a.agree.sites.epoch s ∙ f.inside) ∙ epoch_test t.id t.id refl)))
 
     not_used : (x : Instance) → uses (accepted_call p s process new words).begins words t.id x ≡ false

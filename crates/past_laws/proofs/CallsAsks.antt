@@ -3,6 +3,7 @@ use Rattle.std.proofs.Common.{◌≡◌, ℕ, ◌≤◌, Bool, true, false, cond
 use Rattle.std.specs.Prelude.{nat_lt, take}
 use Rattle.std.specs.List.{find, list_any}
 use Rattle.std.specs.Option.{option_map, is_some}
+use Rattle.locus_ids.specs.declared.ids.CallId.{CallId}
 use Rattle.locus_ids.specs.declared.config.Config.{Config}
 use Rattle.locus_ids.specs.declared.config.Mount.{Mount}
 use Rattle.locus_ids.specs.declared.sites.Members.{Members}
@@ -139,14 +140,14 @@ walked_same mounts path xs f g same = over (walk mounts path [] (root_of 0) Dir 
     over (There file kind ys) e = rw e (same file kind ys)
     over Strays e = rw e (λ r. refl)
 
-path_same : (mounts : List Mount) (a b : Option ℕ) (words : Call) (xs : List Answer) → AsksSame (path_wants mounts a words xs) (path_wants mounts b words xs)
-path_same mounts a b (call.Open path how) xs = walked_same mounts (components path) xs (opens_file how a) (opens_file how b) (λ file kind ys. opens_same how a b file kind ys)
-path_same mounts a b _ xs = λ r. refl
+path_same : (mounts : List Mount) (a b : Option ℕ) (id : CallId) (words : Call) (xs : List Answer) → AsksSame (path_wants mounts a id words xs) (path_wants mounts b id words xs)
+path_same mounts a b id (call.Open path how) xs = walked_same mounts (components path) xs (opens_file how a) (opens_file how b) (λ file kind ys. opens_same how a b file kind ys)
+path_same mounts a b id _ xs = λ r. refl
 
 begun_same : (mounts : List Mount) (a b : Option ℕ) (words : Call) (begins : Beginning) (xs : List Answer) → AsksSame (begun_wants mounts a words begins xs) (begun_wants mounts b words begins xs)
 begun_same mounts a b words (Denied why) xs = λ r. refl
 begun_same mounts a b words (Uses epoch inst) xs = λ r. refl
-begun_same mounts a b words Walks xs = path_same mounts a b words xs
+begun_same mounts a b words (Walks id) xs = path_same mounts a b id words xs
 
 named_same : (mounts : List Mount) (a b : Option ℕ) (words : Call) (begins : Beginning) (xs : List Answer) → AsksSame (named_wants mounts a words begins xs) (named_wants mounts b words begins xs)
 named_same mounts a b words begins xs = over (is_badly_named mounts words)
@@ -164,14 +165,14 @@ pub request_same : (mounts : List Mount) (q : ℕ → Bool) (a b : Option ℕ) (
 request_same mounts q a b words begins xs r = ap (where_packed q) (named_same mounts a b words begins xs (packed_request q (named_wants mounts a words begins xs) r))
 
 -- no other script asks for it
-path_other : (mounts : List Mount) (a b : Option ℕ) (words : Call) (xs : List Answer) → is_open words ≡ false → path_wants mounts a words xs ≡ path_wants mounts b words xs
-path_other mounts a b (call.Open path how) xs h = false_true (sym h)
-path_other mounts a b _ xs h = refl
+path_other : (mounts : List Mount) (a b : Option ℕ) (id : CallId) (words : Call) (xs : List Answer) → is_open words ≡ false → path_wants mounts a id words xs ≡ path_wants mounts b id words xs
+path_other mounts a b id (call.Open path how) xs h = false_true (sym h)
+path_other mounts a b id _ xs h = refl
 
 begun_other : (mounts : List Mount) (a b : Option ℕ) (words : Call) (begins : Beginning) (xs : List Answer) → is_open words ≡ false → begun_wants mounts a words begins xs ≡ begun_wants mounts b words begins xs
 begun_other mounts a b words (Denied why) xs h = refl
 begun_other mounts a b words (Uses epoch inst) xs h = refl
-begun_other mounts a b words Walks xs h = path_other mounts a b words xs h
+begun_other mounts a b words (Walks id) xs h = path_other mounts a b id words xs h
 
 pub other_same : (mounts : List Mount) (q : ℕ → Bool) (a b : Option ℕ) (words : Call) (begins : Beginning) (xs : List Answer) → is_open words ≡ false → wants mounts q a words begins xs ≡ wants mounts q b words begins xs
 other_same mounts q a b words begins xs h = ap (λ (w : Want). where_packed q (cond (is_badly_named mounts words) (want.Give (reply.No BadName)) w)) (begun_other mounts a b words begins xs h)

@@ -122,14 +122,14 @@ old_stands c n r before may x k h = record { call = k.call; granted = granted_st
 
 -- what is still described wasn't closed by the record
 unclosed_step : (c : Config) (n : ℕ) (r : Record) (before : Trace) → UsersStand before → (s q fd : ℕ) (x : Descriptor) → descriptor (With n r before) s q fd ≡ Some x → descriptor before s q fd ≡ Some x → close_of before x.epoch x.inst ≡ None → close_of (With n r before) x.epoch x.inst ≡ None
-unclosed_step c n (says.Accept s process new words) before u site user fd x h was k = over (is_close words) (uses_by (begins_now before s process words) x.epoch x.inst) refl refl
+unclosed_step c n (says.Accept s process new words) before u site user fd x h was k = over (is_close words) (uses_by (begins_now before s process new words) x.epoch x.inst) refl refl
   where
     clash : is_close words ≡ true → FromDescriptor (descriptor before s process) (epoch_of before s) words x.epoch x.inst → ⊥
     clash close f = (let one = u.single s process f.fd site user fd f.stands x f.found was f.epoch_is f.serial_is in
         closed_none n s process new words before site user fd f.fd x close f.closes one.0 one.1 one.2 h)
 
-    over : (a b : Bool) → is_close words ≡ a → uses_by (begins_now before s process words) x.epoch x.inst ≡ b → cond (a && b) (Some new) (close_of before x.epoch x.inst) ≡ None
-    over true true p q = absurd (clash p (uses_from (descriptor before s process) (epoch_of before s) words x.epoch x.inst (uses_is (begins_now before s process words) x.epoch x.inst q)))
+    over : (a b : Bool) → is_close words ≡ a → uses_by (begins_now before s process new words) x.epoch x.inst ≡ b → cond (a && b) (Some new) (close_of before x.epoch x.inst) ≡ None
+    over true true p q = absurd (clash p (uses_from (descriptor before s process) (epoch_of before s) new words x.epoch x.inst (uses_is (begins_now before s process new words) x.epoch x.inst q)))
     over true false p q = k
     over false b p q = k
 unclosed_step c n _ before u site user fd x h was k = k
@@ -185,21 +185,21 @@ untouched_step c n r before may u e i h = more r may old
     old : IsUntouched before e i
     old = u.untouched e i unnamed
 
-    clash : {A : Type 0} (s process : ℕ) (words : Call) → uses_by (begins_now before s process words) e i ≡ true → A
-    clash s process words q = (let f = uses_from (descriptor before s process) (epoch_of before s) words e i (uses_is (begins_now before s process words) e i q) in
+    clash : {A : Type 0} (s process : ℕ) (id : CallId) (words : Call) → uses_by (begins_now before s process id words) e i ≡ true → A
+    clash s process id words q = (let f = uses_from (descriptor before s process) (epoch_of before s) id words e i (uses_is (begins_now before s process id words) e i q) in
         let k = u.stands s process f.fd f.stands f.found in
         false_true (sym (unnamed k.call (ap (λ (z : EpochId). granted_to before z i) (sym f.epoch_is) ∙ (ap (granted_to before f.stands.epoch) (sym f.serial_is) ∙ k.granted))) ∙ k.named))
 
     more : (y : Record) → MayCome c before y → IsUntouched before e i → IsUntouched (With n y before) e i
-    more (says.Accept s process new words) may k = record { unused = unused (not (is_close words)) (uses_by (begins_now before s process words) e i) refl; unclosed = unclosed (is_close words) (uses_by (begins_now before s process words) e i) refl }
+    more (says.Accept s process new words) may k = record { unused = unused (not (is_close words)) (uses_by (begins_now before s process new words) e i) refl; unclosed = unclosed (is_close words) (uses_by (begins_now before s process new words) e i) refl }
       where
-        unused : (a b : Bool) → uses_by (begins_now before s process words) e i ≡ b → cond (a && b) (new ∷ uses_of before e i) (uses_of before e i) ≡ []
-        unused true true q = clash s process words q
+        unused : (a b : Bool) → uses_by (begins_now before s process new words) e i ≡ b → cond (a && b) (new ∷ uses_of before e i) (uses_of before e i) ≡ []
+        unused true true q = clash s process new words q
         unused true false q = k.unused
         unused false b q = k.unused
 
-        unclosed : (a b : Bool) → uses_by (begins_now before s process words) e i ≡ b → cond (a && b) (Some new) (close_of before e i) ≡ None
-        unclosed true true q = clash s process words q
+        unclosed : (a b : Bool) → uses_by (begins_now before s process new words) e i ≡ b → cond (a && b) (Some new) (close_of before e i) ≡ None
+        unclosed true true q = clash s process new words q
         unclosed true false q = k.unclosed
         unclosed false b q = k.unclosed
     more _ may k = record { unused = k.unused; unclosed = k.unclosed }

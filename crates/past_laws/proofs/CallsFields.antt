@@ -39,12 +39,12 @@ use Rattle.past_laws.proofs.CallsAlike.{head, with_waits, with_granted, found_pa
 use Rattle.past_laws.proofs.CallsSame.{IsNoAccept, heads, waits_same, granted_same}
 
 -- where the call begins that is accepted now, by both
-pub begins_same : (c : Config) (before : Trace) (p : Past) → Agrees c before p → (s process : ℕ) (words : Call) → beginning (table p s process) (site_at p s).epoch words ≡ begins_now before s process words
-begins_same c before p a s process words = ap (λ (t : ℕ → Option Descriptor). beginning t (site_at p s).epoch words) (λ i fd. a.sites.table s process fd i) ∙ ap (λ (e : Option EpochId). beginning (descriptor before s process) e words) (a.sites.epoch s)
+pub begins_same : (c : Config) (before : Trace) (p : Past) → Agrees c before p → (s process : ℕ) (id : CallId) (words : Call) → beginning (table p s process) (site_at p s).epoch id words ≡ begins_now before s process id words
+begins_same c before p a s process id words = ap (λ (t : ℕ → Option Descriptor). beginning t (site_at p s).epoch id words) (λ i fd. a.sites.table s process fd i) ∙ ap (λ (e : Option EpochId). beginning (descriptor before s process) e id words) (a.sites.epoch s)
 
 -- the call that an accept adds
 abbrev pub accepted_call : Past → ℕ → ℕ → CallId → Call → CallSoFar
-accepted_call p s process id words = begun_call p s process id words (beginning (table p s process) (site_at p s).epoch words)
+accepted_call p s process id words = begun_call p s process id words (beginning (table p s process) (site_at p s).epoch id words)
 
 waiting_same : (a b : ℕ) (process : ℕ) (d : CallId) (words : Call) (e f : Option EpochId) → a ≡ b → e ≡ f → ◌≡◌ {A = Waiting} (record { site = a; process = process; call = d; words = words; epoch = e }) (record { site = b; process = process; call = d; words = words; epoch = f })
 waiting_same a b process d words e f g h = λ i. record { site = g i; process = process; call = d; words = words; epoch = h i }
@@ -89,8 +89,8 @@ once_step c n w before p may a d = (let same : length (filter (is_id d) (told_by
 pub begun_step : (c : Config) (n : ℕ) (w : Record) (before : Trace) (p : Past) → MayCome c before w → Agrees c before p → (d : CallId) → option_map (λ (k : CallSoFar). k.begins) (find (is_id d) (told_by c w p).calls) ≡ begun (With n w before) d
 begun_step c n (says.Accept s process new words) before p may a d = over (same_call new d)
   where
-    over : (b : Bool) → option_map (λ (k : CallSoFar). k.begins) (cond b (Some (accepted_call p s process new words)) (find (is_id d) p.calls)) ≡ cond b (Some (begins_now before s process words)) (begun before d)
-    over true = ap Some (begins_same c before p a s process words)
+    over : (b : Bool) → option_map (λ (k : CallSoFar). k.begins) (cond b (Some (accepted_call p s process new words)) (find (is_id d) p.calls)) ≡ cond b (Some (begins_now before s process new words)) (begun before d)
+    over true = ap Some (begins_same c before p a s process new words)
     over false = a.calls.begun d
 begun_step c n w before p may a d = found_part head (λ (k : CallSoFar). k.begins) (λ x k. refl) (λ k. refl) (told_by c w p).calls p.calls (heads c w p tt) d ∙ a.calls.begun d
 
@@ -271,18 +271,18 @@ stand_new c n s process new words before p may a = record {
   low = low_new n s process new words before is_next;
   closes = λ e i. closes e i;
   used = λ e i. used e i;
-  well = beginning_well (table p s process) (site_at p s).epoch words;
-  within = λ e i h. (let f = uses_from (table p s process) (site_at p s).epoch words e i (uses_is (accepted_call p s process new words).begins e i h) in f.inside);
+  well = beginning_well (table p s process) (site_at p s).epoch new words;
+  within = λ e i h. (let f = uses_from (table p s process) (site_at p s).epoch new words e i (uses_is (accepted_call p s process new words).begins e i h) in f.inside);
 }
   where
     is_next : new ≡ next_call before s
     is_next = numbered c before s process new words may
 
     b : Beginning
-    b = begins_now before s process words
+    b = begins_now before s process new words
 
-    same_on : (e : EpochId) (i : Serial) → is_on (accepted_call p s process new words).begins e i ≡ uses_by (begins_now before s process words) e i
-    same_on e i = ap (λ (x : Beginning). uses_by x e i) (begins_same c before p a s process words)
+    same_on : (e : EpochId) (i : Serial) → is_on (accepted_call p s process new words).begins e i ≡ uses_by (begins_now before s process new words) e i
+    same_on e i = ap (λ (x : Beginning). uses_by x e i) (begins_same c before p a s process new words)
 
     not_old : (e : EpochId) (i : Serial) (o : Option CallId) → close_of before e i ≡ o → false ≡ is_call o new
     not_old e i None h = refl
@@ -293,7 +293,7 @@ stand_new c n s process new words before p may a = record {
         over false q = refl
 
     closes : (e : EpochId) (i : Serial) → is_on (accepted_call p s process new words).begins e i && is_close words ≡ is_call (close_of (With n (says.Accept s process new words) before) e i) new
-    closes e i = ap (λ (x : Bool). x && is_close words) (same_on e i) ∙ over (is_close words) (uses_by (begins_now before s process words) e i)
+    closes e i = ap (λ (x : Bool). x && is_close words) (same_on e i) ∙ over (is_close words) (uses_by (begins_now before s process new words) e i)
       where
         over : (x y : Bool) → y && x ≡ is_call (cond (x && y) (Some new) (close_of before e i)) new
         over true true = sym (call_own new)
@@ -302,7 +302,7 @@ stand_new c n s process new words before p may a = record {
         over false false = not_old e i (close_of before e i) refl
 
     used : (e : EpochId) (i : Serial) → is_on (accepted_call p s process new words).begins e i && not (is_close words) ≡ true → uses_of (With n (says.Accept s process new words) before) e i ≡ [] → ⊥
-    used e i h k = over (is_close words) (uses_by (begins_now before s process words) e i) (ap (λ (x : Bool). x && not (is_close words)) (sym (same_on e i)) ∙ h) k
+    used e i h k = over (is_close words) (uses_by (begins_now before s process new words) e i) (ap (λ (x : Bool). x && not (is_close words)) (sym (same_on e i)) ∙ h) k
       where
         filled : {xs : List CallId} → ◌≡◌ {A = List CallId} (new ∷ xs) [] → ⊥
         filled q = cc
@@ -318,7 +318,7 @@ stand_old : (c : Config) (n s process : ℕ) (new : CallId) (words : Call) (befo
 stand_old c n s process new words before p may a k st = record {
   low = low_stays c n (says.Accept s process new words) before k.id may st.low;
   closes = λ e i. closes e i;
-  used = λ e i h r. st.used e i h (emptied (not (is_close words) && uses_by (begins_now before s process words) e i) r);
+  used = λ e i h r. st.used e i h (emptied (not (is_close words) && uses_by (begins_now before s process new words) e i) r);
   well = st.well;
   within = st.within;
 }
@@ -341,14 +341,14 @@ stand_old c n s process new words before p may a k st = record {
         over false q = refl
 
     -- what is closed now wasn't closed
-    unclosed : (e : EpochId) (i : Serial) → uses_by (begins_now before s process words) e i ≡ true → close_of before e i ≡ None
-    unclosed e i q = (let f = uses_from (descriptor before s process) (epoch_of before s) words e i (uses_is (begins_now before s process words) e i q) in
+    unclosed : (e : EpochId) (i : Serial) → uses_by (begins_now before s process new words) e i ≡ true → close_of before e i ≡ None
+    unclosed e i q = (let f = uses_from (descriptor before s process) (epoch_of before s) new words e i (uses_is (begins_now before s process new words) e i q) in
         ap (λ (z : EpochId). close_of before z i) (sym f.epoch_is) ∙ (ap (close_of before f.stands.epoch) (sym f.serial_is) ∙ (a.calls.users.stands s process f.fd f.stands f.found).unclosed))
 
     closes : (e : EpochId) (i : Serial) → is_on k.begins e i && is_close k.words ≡ is_call (close_of (With n (says.Accept s process new words) before) e i) k.id
-    closes e i = over (is_close words) (uses_by (begins_now before s process words) e i) refl
+    closes e i = over (is_close words) (uses_by (begins_now before s process new words) e i) refl
       where
-        over : (x y : Bool) → uses_by (begins_now before s process words) e i ≡ y → is_on k.begins e i && is_close k.words ≡ is_call (cond (x && y) (Some new) (close_of before e i)) k.id
+        over : (x y : Bool) → uses_by (begins_now before s process new words) e i ≡ y → is_on k.begins e i && is_close k.words ≡ is_call (cond (x && y) (Some new) (close_of before e i)) k.id
         over true true q = st.closes e i ∙ (ap (λ (o : Option CallId). is_call o k.id) (unclosed e i q) ∙ sym apart)
         over true false q = st.closes e i
         over false true q = st.closes e i

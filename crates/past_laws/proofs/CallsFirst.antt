@@ -1,5 +1,6 @@
 -- A script that gives its reply before any request doesn't say that the epoch has changed.
 use Rattle.std.proofs.Common.{◌≡◌, ℕ, Bool, true, false, cond, List, [], ◌∷◌, Option, Some, None, refl, sym, subst}
+use Rattle.locus_ids.specs.declared.ids.CallId.{CallId}
 use Rattle.locus_ids.specs.declared.config.Mount.{Mount}
 use Rattle.locus_ids.specs.declared.ids.FileId.{FileId}
 use Rattle.locus_ids.specs.declared.ids.Kind.{Kind}
@@ -15,8 +16,9 @@ use Rattle.trace_book.specs.declared.reply.Reply.TheVariants as reply
 use Rattle.call_rules.specs.declared.answer.Answer.{Answer}
 use Rattle.call_rules.specs.declared.want.Want.{Want}
 use Rattle.call_rules.specs.declared.want.Want.TheVariants as want
+use Rattle.call_rules.specs.Mailing.{shown_messages}
 use Rattle.call_rules.specs.Making.{opens_dir, changes_dir}
-use Rattle.call_rules.specs.Opening.{opens_file, uses_wants, lists, describes}
+use Rattle.call_rules.specs.Opening.{opens_file, uses_wants, lists, describes, shown_in, Shows}
 use Rattle.call_rules.specs.Scripts.{wants, where_packed, named_wants, begun_wants, path_wants}
 use Rattle.call_rules.specs.Walks.{Walked, Asks, Fails, There, Strays, walk, passes, walked, root_of, mounted_in}
 use Rattle.call_rules.specs.Words.{is_badly_named}
@@ -50,31 +52,39 @@ walked_first mounts path after first = over (walk mounts path [] (root_of 0) Dir
     over (There at kind rest) e k = rw e (subst (λ xs. IsOther (after at kind xs)) (sym k) (first at kind))
     over Strays e k = rw e tt
 
-changes_first : (mounts : List Mount) (path : List ℕ) (next : ℕ → Serial → List Answer → Want) → IsOther (changes_dir mounts path next [])
-changes_first mounts path next = walked_first mounts (but_last (components path)) _ first
+opens_first : (mounts : List Mount) (names : List (List ℕ)) (next : ℕ → Serial → List Answer → Want) → IsOther (walked mounts names [] (λ dir kind rest. opens_dir (last_of names) (next dir.group) dir kind rest))
+opens_first mounts names next = walked_first mounts names _ first
   where
-    first : (dir : FileId) (kind : Kind) → IsOther (opens_dir (last_of (but_last (components path))) (next dir.group) dir kind [])
+    first : (dir : FileId) (kind : Kind) → IsOther (opens_dir (last_of names) (next dir.group) dir kind [])
     first dir File = tt
     first dir Dir = tt
 
-path_first : (mounts : List Mount) (free : Option ℕ) (words : Call) → IsOther (path_wants mounts free words [])
-path_first mounts free (call.Create path sites) = changes_first mounts path _
-path_first mounts free (call.MakeDir path) = changes_first mounts path _
-path_first mounts free (call.Unlink path) = changes_first mounts path _
-path_first mounts free (call.RemoveDir path) = changes_first mounts path _
-path_first mounts free (call.Rename path name) = changes_first mounts path _
-path_first mounts free (call.List path) = walked_first mounts (components path) (lists mounts (last_of (components path))) first
+changes_first : (mounts : List Mount) (path : List ℕ) (next : ℕ → Serial → List Answer → Want) → IsOther (changes_dir mounts path next [])
+changes_first mounts path next = opens_first mounts (but_last (components path)) next
+
+shows_first : (mounts : List Mount) (path : List ℕ) (shows : Shows) → IsOther (walked mounts (components path) [] (lists shows (last_of (components path))))
+shows_first mounts path shows = walked_first mounts (components path) (lists shows (last_of (components path))) first
   where
-    first : (at : FileId) (kind : Kind) → IsOther (lists mounts (last_of (components path)) at kind [])
+    first : (at : FileId) (kind : Kind) → IsOther (lists shows (last_of (components path)) at kind [])
     first at File = tt
     first at Dir = tt
-path_first mounts free (call.Stat path) = walked_first mounts (components path) describes (λ at kind. tt)
-path_first mounts free (call.Open path how) = walked_first mounts (components path) (opens_file how free) first
+
+path_first : (mounts : List Mount) (free : Option ℕ) (id : CallId) (words : Call) → IsOther (path_wants mounts free id words [])
+path_first mounts free id (call.Create path sites) = changes_first mounts path _
+path_first mounts free id (call.MakeDir path) = changes_first mounts path _
+path_first mounts free id (call.Unlink path) = changes_first mounts path _
+path_first mounts free id (call.RemoveDir path) = changes_first mounts path _
+path_first mounts free id (call.Rename path name) = changes_first mounts path _
+path_first mounts free id (call.List path) = shows_first mounts path (shown_in mounts)
+path_first mounts free id (call.Mail path bytes) = opens_first mounts (components path) _
+path_first mounts free id (call.Mails path) = shows_first mounts path shown_messages
+path_first mounts free id (call.Stat path) = walked_first mounts (components path) describes (λ at kind. tt)
+path_first mounts free id (call.Open path how) = walked_first mounts (components path) (opens_file how free) first
   where
     first : (at : FileId) (kind : Kind) → IsOther (opens_file how free at kind [])
     first at File = tt
     first at Dir = tt
-path_first mounts free _ = tt
+path_first mounts free id _ = tt
 
 uses_first : (words : Call) (i : Serial) → IsOther (uses_wants words i [])
 uses_first (call.Read fd at len) i = tt
@@ -83,7 +93,7 @@ uses_first _ i = tt
 begun_first : (mounts : List Mount) (free : Option ℕ) (words : Call) (b : Beginning) → BeginsWell b → IsOther (begun_wants mounts free words b [])
 begun_first mounts free words (Denied why) h = h
 begun_first mounts free words (Uses epoch inst) h = uses_first words inst
-begun_first mounts free words Walks h = path_first mounts free words
+begun_first mounts free words (Walks id) h = path_first mounts free id words
 
 packed_first : (q : ℕ → Bool) (w : Want) → IsOther w → IsOther (where_packed q w)
 packed_first q (want.Look file what) h = over (q file.group)

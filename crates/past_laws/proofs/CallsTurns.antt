@@ -146,8 +146,8 @@ turns_in p (begins.Uses e i) words trace calls once st = each_both (EpochStands 
             let less = many_fewer (uses (begins.Uses e i) words t.id) (is_named i) (λ x u. serial_test x.grant.inst i (sym (serial_eq i x.grant.inst (uses_epoch (begins.Uses e i) words e t.id i x refl u).1))) t.opened in omega (arith, one, less))
 turns_in p (begins.Denied why) words trace calls once st = each_more (EpochStands trace calls) (λ (t : Epoch). AllByRecursion (λ (x : Instance). uses (begins.Denied why) words t.id x ≡ true → turn_of p (begins.Denied why) words ≡ x.uses + 1) t.opened)
     (λ t s. each_more (InstanceStands trace calls t.id) (λ (x : Instance). uses (begins.Denied why) words t.id x ≡ true → turn_of p (begins.Denied why) words ≡ x.uses + 1) (λ x k h. false_true h) t.opened s.instances) p.epochs st
-turns_in p begins.Walks words trace calls once st = each_more (EpochStands trace calls) (λ (t : Epoch). AllByRecursion (λ (x : Instance). uses begins.Walks words t.id x ≡ true → turn_of p begins.Walks words ≡ x.uses + 1) t.opened)
-    (λ t s. each_more (InstanceStands trace calls t.id) (λ (x : Instance). uses begins.Walks words t.id x ≡ true → turn_of p begins.Walks words ≡ x.uses + 1) (λ x k h. false_true h) t.opened s.instances) p.epochs st
+turns_in p (begins.Walks id) words trace calls once st = each_more (EpochStands trace calls) (λ (t : Epoch). AllByRecursion (λ (x : Instance). uses (begins.Walks id) words t.id x ≡ true → turn_of p (begins.Walks id) words ≡ x.uses + 1) t.opened)
+    (λ t s. each_more (InstanceStands trace calls t.id) (λ (x : Instance). uses (begins.Walks id) words t.id x ≡ true → turn_of p (begins.Walks id) words ≡ x.uses + 1) (λ x k h. false_true h) t.opened s.instances) p.epochs st
 
 -- ---- an instance when a call is accepted ----
 
@@ -187,8 +187,8 @@ pub record Accepts (c : Config) (before : Trace) (p : Past) (s process : ℕ) (n
   pub is_next : new ≡ next_call before s
   pub agree : Agrees c before p
 
-pub on_same : (c : Config) (before : Trace) (p : Past) (s process : ℕ) (new : CallId) (words : Call) → Accepts c before p s process new words → (e : EpochId) (i : Serial) → is_on (accepted_call p s process new words).begins e i ≡ uses_by (begins_now before s process words) e i
-on_same c before p s process new words k e i = ap (λ (x : Beginning). uses_by x e i) (begins_same c before p k.agree s process words)
+pub on_same : (c : Config) (before : Trace) (p : Past) (s process : ℕ) (new : CallId) (words : Call) → Accepts c before p s process new words → (e : EpochId) (i : Serial) → is_on (accepted_call p s process new words).begins e i ≡ uses_by (begins_now before s process new words) e i
+on_same c before p s process new words k e i = ap (λ (x : Beginning). uses_by x e i) (begins_same c before p k.agree s process new words)
 
 pub new_apart : (c : Config) (before : Trace) (p : Past) (s process : ℕ) (new : CallId) (words : Call) → Accepts c before p s process new words → (d : CallId) → IsLow before d → same_call d new ≡ false
 new_apart c before p s process new words k d low = over (same_call d new) refl
@@ -208,7 +208,7 @@ turn_new c before p s process new words n k e x uses_are turn m = over (is_close
     other : is_call (use_number (uses_of before e x.grant.inst) m) new ≡ false
     other = number_new (uses_of before e x.grant.inst) m new (each_more (IsLow before) (λ (d : CallId). same_call d new ≡ false) (new_apart c before p s process new words k) (uses_of before e x.grant.inst) (k.agree.calls.users.low_uses e x.grant.inst))
 
-    by : (b : Bool) → is_on (accepted_call p s process new words).begins e x.grant.inst ≡ b → uses_by (begins_now before s process words) e x.grant.inst ≡ b
+    by : (b : Bool) → is_on (accepted_call p s process new words).begins e x.grant.inst ≡ b → uses_by (begins_now before s process new words) e x.grant.inst ≡ b
     by b h = sym (on_same c before p s process new words k e x.grant.inst) ∙ h
 
     test : (t : ℕ) → t ≡ length (uses_of before e x.grant.inst) + 1 → (t == m) ≡ (m == suc (length (uses_of before e x.grant.inst)))
@@ -222,7 +222,7 @@ turn_new c before p s process new words n k e x uses_are turn m = over (is_close
     last false = sym other
 
     over : (y z : Bool) → is_close words ≡ y → is_on (accepted_call p s process new words).begins e x.grant.inst ≡ z
-        → (is_on (accepted_call p s process new words).begins e x.grant.inst && (not (is_close words) && ((accepted_call p s process new words).turn == m))) ≡ is_call (use_number (cond (not (is_close words) && uses_by (begins_now before s process words) e x.grant.inst) (new ∷ uses_of before e x.grant.inst) (uses_of before e x.grant.inst)) m) new
+        → (is_on (accepted_call p s process new words).begins e x.grant.inst && (not (is_close words) && ((accepted_call p s process new words).turn == m))) ≡ is_call (use_number (cond (not (is_close words) && uses_by (begins_now before s process new words) e x.grant.inst) (new ∷ uses_of before e x.grant.inst) (uses_of before e x.grant.inst)) m) new
     over false true g h = rw (h, g, by true h) (test (accepted_call p s process new words).turn (turn (rw (h, g) refl) ∙ ap (λ (l : ℕ). l + 1) uses_are) ∙ last (m == suc (length (uses_of before e x.grant.inst))))
     over false false g h = rw (h, g, by false h) (sym other)
     over true true g h = rw (h, g) (sym other)

@@ -149,7 +149,7 @@ low_named_step c n (says.Up s boot) before may u d h = low_stays c n (says.Up s 
 low_named_step c n _ before may u d h = u.low_named d h
 
 pub low_uses_step : (c : Config) (n : ℕ) (r : Record) (before : Trace) → MayCome c before r → UsersStand before → (e : EpochId) (i : Serial) → AllByRecursion (IsLow (With n r before)) (uses_of (With n r before) e i)
-low_uses_step c n (says.Accept s process new words) before may u e i = over (not (is_close words) && uses_by (begins_now before s process words) e i)
+low_uses_step c n (says.Accept s process new words) before may u e i = over (not (is_close words) && uses_by (begins_now before s process new words) e i)
   where
     old : AllByRecursion (IsLow (With n (says.Accept s process new words) before)) (uses_of before e i)
     old = each_more (IsLow before) (IsLow (With n (says.Accept s process new words) before)) (λ d. low_stays c n (says.Accept s process new words) before d may) (uses_of before e i) (u.low_uses e i)
@@ -161,7 +161,7 @@ low_uses_step c n (says.Up s boot) before may u e i = each_more (IsLow before) (
 low_uses_step c n _ before may u e i = u.low_uses e i
 
 pub low_close_step : (c : Config) (n : ℕ) (r : Record) (before : Trace) → MayCome c before r → UsersStand before → (e : EpochId) (i : Serial) (d : CallId) → close_of (With n r before) e i ≡ Some d → IsLow (With n r before) d
-low_close_step c n (says.Accept s process new words) before may u e i d h = over (is_close words && uses_by (begins_now before s process words) e i) h
+low_close_step c n (says.Accept s process new words) before may u e i d h = over (is_close words && uses_by (begins_now before s process new words) e i) h
   where
     over : (b : Bool) → cond b (Some new) (close_of before e i) ≡ Some d → IsLow (With n (says.Accept s process new words) before) d
     over true k = subst (IsLow (With n (says.Accept s process new words) before)) (some_same new d k) (low_new n s process new words before (numbered c before s process new words may))

@@ -1,5 +1,6 @@
 -- A call that uses or closes an instance begins at a descriptor of its process that stands for it.
 use Rattle.std.proofs.Common.{◌≡◌, ℕ, Bool, true, false, cond, ◌&&◌, Option, Some, None, refl, ◌∙◌, ap}
+use Rattle.locus_ids.specs.declared.ids.CallId.{CallId}
 use Rattle.locus_ids.specs.declared.ids.EpochId.{EpochId}
 use Rattle.locus_ids.specs.declared.ids.Serial.{Serial}
 use Rattle.locus_ids.specs.declared.refusal.Refusal.{Refusal}
@@ -40,13 +41,13 @@ uses_epoch e g i j k = cc
 uses_serial : (e g : EpochId) (i j : Serial) → begins.Uses e i ≡ begins.Uses g j → i ≡ j
 uses_serial e g i j k = cc
 
-walk_uses : {A : Type 0} (now : Option EpochId) (e : EpochId) (i : Serial) → begins_walk now ≡ begins.Uses e i → A
-walk_uses None e i k = absurd (cc)
-walk_uses (Some at) e i k = absurd (cc)
+walk_uses : (id : CallId) {A : Type 0} (now : Option EpochId) (e : EpochId) (i : Serial) → begins_walk now id ≡ begins.Uses e i → A
+walk_uses id None e i k = absurd (cc)
+walk_uses id (Some at) e i k = absurd (cc)
 
-open_uses : {A : Type 0} (now : Option EpochId) (free : Option ℕ) (e : EpochId) (i : Serial) → begins_open now free ≡ begins.Uses e i → A
-open_uses now None e i k = absurd (cc)
-open_uses now (Some fd) e i k = walk_uses now e i k
+open_uses : (id : CallId) {A : Type 0} (now : Option EpochId) (free : Option ℕ) (e : EpochId) (i : Serial) → begins_open now id free ≡ begins.Uses e i → A
+open_uses id now None e i k = absurd (cc)
+open_uses id now (Some fd) e i k = walk_uses id now e i k
 
 in_now : (now : Option EpochId) (e : EpochId) → is_in now e ≡ true → now ≡ Some e
 in_now None e t = false_true t
@@ -65,26 +66,28 @@ on_uses changes table now fd words e i number (Some x) is k = at changes (is_in 
     at false true b p q k = from p (rw p at k)
     at c false b p q k = denied_uses _ e i (rw p at k)
 
-pub uses_from : (table : ℕ → Option Descriptor) (now : Option EpochId) (words : Call) (e : EpochId) (i : Serial) → beginning table now words ≡ begins.Uses e i → FromDescriptor table now words e i
-uses_from table now (call.Open path mode) e i k = open_uses now (lowest_free table) e i k
-uses_from table now (call.Read fd at len) e i k = on_uses false table now fd (call.Read fd at len) e i tt (table fd) refl k
-uses_from table now (call.Write fd at bytes) e i k = over (is_too_long (call.Write fd at bytes)) k
+pub uses_from : (table : ℕ → Option Descriptor) (now : Option EpochId) (id : CallId) (words : Call) (e : EpochId) (i : Serial) → beginning table now id words ≡ begins.Uses e i → FromDescriptor table now words e i
+uses_from table now id (call.Open path mode) e i k = open_uses id now (lowest_free table) e i k
+uses_from table now id (call.Read fd at len) e i k = on_uses false table now fd (call.Read fd at len) e i tt (table fd) refl k
+uses_from table now id (call.Write fd at bytes) e i k = over (is_too_long (call.Write fd at bytes)) k
   where
     over : (b : Bool) → cond b (begins.Denied refusal.TooLong) (begins_on true now (table fd)) ≡ begins.Uses e i → FromDescriptor table now (call.Write fd at bytes) e i
     over true m = denied_uses _ e i m
     over false m = on_uses true table now fd (call.Write fd at bytes) e i tt (table fd) refl m
-uses_from table now (call.Cut fd len) e i k = on_uses true table now fd (call.Cut fd len) e i tt (table fd) refl k
-uses_from table now (call.Commit fd) e i k = on_uses true table now fd (call.Commit fd) e i tt (table fd) refl k
-uses_from table now (call.Abort fd) e i k = on_uses true table now fd (call.Abort fd) e i tt (table fd) refl k
-uses_from table now (call.Close fd) e i k = on_uses false table now fd (call.Close fd) e i refl (table fd) refl k
-uses_from table now (call.Create path sites) e i k = walk_uses now e i k
-uses_from table now (call.MakeDir path) e i k = walk_uses now e i k
-uses_from table now (call.Unlink path) e i k = walk_uses now e i k
-uses_from table now (call.RemoveDir path) e i k = walk_uses now e i k
-uses_from table now (call.Rename path name) e i k = walk_uses now e i k
-uses_from table now (call.List path) e i k = walk_uses now e i k
-uses_from table now (call.Stat path) e i k = walk_uses now e i k
-uses_from table now (call.Mend file) e i k = walk_uses now e i k
+uses_from table now id (call.Cut fd len) e i k = on_uses true table now fd (call.Cut fd len) e i tt (table fd) refl k
+uses_from table now id (call.Commit fd) e i k = on_uses true table now fd (call.Commit fd) e i tt (table fd) refl k
+uses_from table now id (call.Abort fd) e i k = on_uses true table now fd (call.Abort fd) e i tt (table fd) refl k
+uses_from table now id (call.Close fd) e i k = on_uses false table now fd (call.Close fd) e i refl (table fd) refl k
+uses_from table now id (call.Create path sites) e i k = walk_uses id now e i k
+uses_from table now id (call.MakeDir path) e i k = walk_uses id now e i k
+uses_from table now id (call.Unlink path) e i k = walk_uses id now e i k
+uses_from table now id (call.RemoveDir path) e i k = walk_uses id now e i k
+uses_from table now id (call.Rename path name) e i k = walk_uses id now e i k
+uses_from table now id (call.List path) e i k = walk_uses id now e i k
+uses_from table now id (call.Stat path) e i k = walk_uses id now e i k
+uses_from table now id (call.Mail path bytes) e i k = walk_uses id now e i k
+uses_from table now id (call.Mails path) e i k = walk_uses id now e i k
+uses_from table now id (call.Mend file) e i k = walk_uses id now e i k
 
 pub uses_is : (b : Beginning) (e : EpochId) (i : Serial) → uses_by b e i ≡ true → b ≡ begins.Uses e i
 uses_is (begins.Uses at inst) e i t = over (same_epoch at e) (same_serial inst i) refl refl t
@@ -94,7 +97,7 @@ uses_is (begins.Uses at inst) e i t = over (same_epoch at e) (same_serial inst i
     over true false p q u = false_true u
     over false b p q u = false_true u
 uses_is (begins.Denied why) e i t = false_true t
-uses_is begins.Walks e i t = false_true t
+uses_is (begins.Walks id) e i t = false_true t
 
 -- ---- nothing is denied since the epoch has changed ----
 
@@ -108,24 +111,24 @@ on_well changes now (Some x) = at changes (is_in now x.epoch) (is_read x.mode) r
     at false true b p q = rw p tt
     at c false b p q = rw p tt
 
-walk_well : (now : Option EpochId) → BeginsWell (begins_walk now)
-walk_well None = tt
-walk_well (Some e) = tt
+walk_well : (id : CallId) (now : Option EpochId) → BeginsWell (begins_walk now id)
+walk_well id None = tt
+walk_well id (Some e) = tt
 
-open_well : (now : Option EpochId) (free : Option ℕ) → BeginsWell (begins_open now free)
-open_well now None = tt
-open_well now (Some fd) = walk_well now
+open_well : (id : CallId) (now : Option EpochId) (free : Option ℕ) → BeginsWell (begins_open now id free)
+open_well id now None = tt
+open_well id now (Some fd) = walk_well id now
 
-pub beginning_well : (table : ℕ → Option Descriptor) (now : Option EpochId) (words : Call) → BeginsWell (beginning table now words)
-beginning_well table now (call.Open path mode) = open_well now (lowest_free table)
-beginning_well table now (call.Read fd at len) = on_well false now (table fd)
-beginning_well table now (call.Write fd at bytes) = over (is_too_long (call.Write fd at bytes))
+pub beginning_well : (table : ℕ → Option Descriptor) (now : Option EpochId) (id : CallId) (words : Call) → BeginsWell (beginning table now id words)
+beginning_well table now id (call.Open path mode) = open_well id now (lowest_free table)
+beginning_well table now id (call.Read fd at len) = on_well false now (table fd)
+beginning_well table now id (call.Write fd at bytes) = over (is_too_long (call.Write fd at bytes))
   where
     over : (b : Bool) → BeginsWell (cond b (begins.Denied refusal.TooLong) (begins_on true now (table fd)))
     over true = tt
     over false = on_well true now (table fd)
-beginning_well table now (call.Cut fd len) = on_well true now (table fd)
-beginning_well table now (call.Commit fd) = on_well true now (table fd)
-beginning_well table now (call.Abort fd) = on_well true now (table fd)
-beginning_well table now (call.Close fd) = on_well false now (table fd)
-beginning_well table now _ = walk_well now
+beginning_well table now id (call.Cut fd len) = on_well true now (table fd)
+beginning_well table now id (call.Commit fd) = on_well true now (table fd)
+beginning_well table now id (call.Abort fd) = on_well true now (table fd)
+beginning_well table now id (call.Close fd) = on_well false now (table fd)
+beginning_well table now id _ = walk_well id now

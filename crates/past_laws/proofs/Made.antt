@@ -4,6 +4,7 @@ use Rattle.std.specs.List.{find, list_any, list_all}
 use Rattle.std.specs.Option.{is_none}
 use Rattle.locus_ids.specs.declared.config.Config.{Config}
 use Rattle.locus_ids.specs.declared.sites.Members.{Members}
+use Rattle.locus_ids.specs.declared.ids.CallId.{CallId}
 use Rattle.locus_ids.specs.declared.ids.EpochId.{EpochId}
 use Rattle.locus_ids.specs.declared.ids.FileId.{FileId}
 use Rattle.trace_book.specs.Same.{same_call, same_epoch}
@@ -159,11 +160,11 @@ site_made p site a = all_first_or (λ (s : Site). are_made p.files s.held) (has_
 
 -- What becomes of an epoch by some records.
 
-abbrev begins_at : Past → ℕ → ℕ → Call → Beginning
-begins_at p site process words = beginning (table p site process) (site_at p site).epoch words
+abbrev begins_at : Past → ℕ → ℕ → CallId → Call → Beginning
+begins_at p site process id words = beginning (table p site process) (site_at p site).epoch id words
 
-abbrev once_used : Past → ℕ → ℕ → Call → Epoch → Epoch
-once_used p site process words t = record t { opened = change (uses (begins_at p site process words) words t.id) (λ (x : Instance). record x { uses = x.uses + 1 }) t.opened }
+abbrev once_used : Past → ℕ → ℕ → CallId → Call → Epoch → Epoch
+once_used p site process id words t = record t { opened = change (uses (begins_at p site process id words) words t.id) (λ (x : Instance). record x { uses = x.uses + 1 }) t.opened }
 
 abbrev once_granted : Past → Granted → Option Stamp → Epoch → Epoch
 once_granted p g stamp t = record t { granted = g ∷ t.granted; opened = t.opened ++ opened_as p g stamp ∷ [] }
@@ -225,11 +226,11 @@ made_step c (rec.Join site e members) before p may given a = made_as_said (after
 made_step c (rec.Start e group copies) before p may given a = made_as_said (after c (rec.Start e group copies) p) (epochs_kept p.files p.sites p.calls p.epochs (is_epoch e) _ (λ t. refl) (λ t. refl) (made_of_past p a.made))
 made_step c (rec.Accept site process id words) before p may given a = made_as_said (after c (rec.Accept site process id words) p)
     (sites_kept p.files _ _ p.sites (has_number site) _ (λ s. refl)
-    (epochs_opened p.files p.sites _ p.epochs (λ t. is_in (site_at p site).epoch t.id) (once_used p site process words)
+    (epochs_opened p.files p.sites _ p.epochs (λ t. is_in (site_at p site).epoch t.id) (once_used p site process id words)
     (λ t h k. k)
-    (λ t h k. instances_sound p.files (uses (begins_at p site process words) words t.id) (λ x. record x { uses = x.uses + 1 }) (λ x. refl) (λ x. refl) t.opened k)
-    (λ t h k. instances_called (begun_call p site process id words (begins_at p site process words) ∷ p.calls) (uses (begins_at p site process words) words t.id) (λ x. record x { uses = x.uses + 1 }) (λ x. refl) t.opened k)
-    (call_more p.files p.sites p.epochs p.calls (begun_call p site process id words (begins_at p site process words)) (made_of_past p a.made))))
+    (λ t h k. instances_sound p.files (uses (begins_at p site process id words) words t.id) (λ x. record x { uses = x.uses + 1 }) (λ x. refl) (λ x. refl) t.opened k)
+    (λ t h k. instances_called (begun_call p site process id words (begins_at p site process id words) ∷ p.calls) (uses (begins_at p site process id words) words t.id) (λ x. record x { uses = x.uses + 1 }) (λ x. refl) t.opened k)
+    (call_more p.files p.sites p.epochs p.calls (begun_call p site process id words (begins_at p site process id words)) (made_of_past p a.made))))
 made_step c (rec.Look e id request f w result) before p may given a = made_as_said (after c (rec.Look e id request f w result) p) (calls_kept p.files p.sites p.epochs p.calls (is_id id) _ (λ k. refl) (made_of_past p a.made))
 made_step c (rec.Grant e id request i m f stamp ss) before p may given a = made_as_said (after c (rec.Grant e id request i m f stamp ss) p)
     (calls_kept p.files p.sites _ p.calls (is_id id) _ (λ k. refl)

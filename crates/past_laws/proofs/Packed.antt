@@ -4,6 +4,7 @@ use Rattle.std.specs.List.{list_any, list_all}
 use Rattle.locus_ids.specs.Sites.{has}
 use Rattle.locus_ids.specs.declared.config.Config.{Config}
 use Rattle.locus_ids.specs.declared.sites.Members.{Members}
+use Rattle.locus_ids.specs.declared.ids.CallId.{CallId}
 use Rattle.locus_ids.specs.declared.ids.EpochId.{EpochId}
 use Rattle.locus_ids.specs.declared.ids.FileId.{FileId}
 use Rattle.locus_ids.specs.declared.ids.Kind.TheVariants.{File}
@@ -73,11 +74,11 @@ joins c site e held q ours b = sites_kept c q.files _ q.calls q.sites (has_numbe
 
 -- What becomes of an epoch by some records.
 
-abbrev begins_at : Past → ℕ → ℕ → Call → Beginning
-begins_at p site process words = beginning (table p site process) (site_at p site).epoch words
+abbrev begins_at : Past → ℕ → ℕ → CallId → Call → Beginning
+begins_at p site process id words = beginning (table p site process) (site_at p site).epoch id words
 
-abbrev once_used : Past → ℕ → ℕ → Call → Epoch → Epoch
-once_used p site process words t = record t { opened = change (uses (begins_at p site process words) words t.id) (λ (x : Instance). record x { uses = x.uses + 1 }) t.opened }
+abbrev once_used : Past → ℕ → ℕ → CallId → Call → Epoch → Epoch
+once_used p site process id words t = record t { opened = change (uses (begins_at p site process id words) words t.id) (λ (x : Instance). record x { uses = x.uses + 1 }) t.opened }
 
 abbrev once_granted : Past → Granted → Option Stamp → Epoch → Epoch
 once_granted p g stamp t = record t { granted = g ∷ t.granted; opened = t.opened ++ opened_as p g stamp ∷ [] }
@@ -165,10 +166,10 @@ packed_step c (rec.Join site e members) before p few may ours a = packed_as_said
 packed_step c (rec.Start e group copies) before p few may ours a = packed_as_said c (after c (rec.Start e group copies) p) (epochs_still c p.files p.sites p.calls p.epochs (is_epoch e) _ (λ t. refl) (λ t. refl) (λ t. refl) (packed_of_past c p a.packed))
 packed_step c (rec.Accept site process id words) before p few may ours a = packed_as_said c (after c (rec.Accept site process id words) p)
     (sites_kept c p.files _ _ p.sites (has_number site) _ (λ s. refl) (λ s. refl)
-    (epochs_again c p.files p.sites _ p.epochs (λ t. is_in (site_at p site).epoch t.id) (once_used p site process words)
+    (epochs_again c p.files p.sites _ p.epochs (λ t. is_in (site_at p site).epoch t.id) (once_used p site process id words)
     (λ t h k. k) (λ t h k. k)
-    (λ t h k. instances_seated c (begun_call p site process id words (begins_at p site process words) ∷ p.calls) p.files (uses (begins_at p site process words) words t.id) (λ x. record x { uses = x.uses + 1 }) (λ x. refl) t.opened k)
-    (call_more c p.files p.sites p.epochs p.calls (begun_call p site process id words (begins_at p site process words)) (packed_of_past c p a.packed))))
+    (λ t h k. instances_seated c (begun_call p site process id words (begins_at p site process id words) ∷ p.calls) p.files (uses (begins_at p site process id words) words t.id) (λ x. record x { uses = x.uses + 1 }) (λ x. refl) t.opened k)
+    (call_more c p.files p.sites p.epochs p.calls (begun_call p site process id words (begins_at p site process id words)) (packed_of_past c p a.packed))))
 packed_step c (rec.Look e id request f w result) before p few may ours a = packed_as_said c (after c (rec.Look e id request f w result) p) (calls_kept c p.files p.sites p.epochs p.calls (is_id id) _ (λ k. refl) (λ k. refl) (packed_of_past c p a.packed))
 packed_step c (rec.Grant e id request i m f stamp ss) before p few may ours a = packed_as_said c (after c (rec.Grant e id request i m f stamp ss) p)
     (calls_kept c p.files p.sites _ p.calls (is_id id) _ (λ k. refl) (λ k. refl)

@@ -1,5 +1,6 @@
 -- A script gives no descriptor but the free one of its process, which stands for nothing.
 use Rattle.std.proofs.Common.{◌≡◌, ℕ, zero, suc, ◌+◌, Bool, true, false, cond, List, [], ◌∷◌, Option, Some, None, refl, subst}
+use Rattle.locus_ids.specs.declared.ids.CallId.{CallId}
 use Rattle.locus_ids.specs.declared.config.Mount.{Mount}
 use Rattle.locus_ids.specs.declared.ids.FileId.{FileId}
 use Rattle.locus_ids.specs.declared.ids.Serial.{Serial}
@@ -9,6 +10,7 @@ use Rattle.locus_ids.specs.declared.ids.Kind.TheVariants as kind
 use Rattle.locus_ids.specs.declared.sites.Sites.{Sites}
 use Rattle.locus_ids.specs.declared.refusal.Refusal.{Refusal}
 use Rattle.locus_ids.specs.declared.refusal.Refusal.TheVariants.{BadName, NoStorage, IsDir, NotDir}
+use Rattle.trace_book.specs.Messages.{message_name}
 use Rattle.trace_book.specs.Names.{components, last_of, but_last, plain_name}
 use Rattle.trace_book.specs.declared.call.Call.{Call}
 use Rattle.trace_book.specs.declared.call.Call.TheVariants as call
@@ -27,10 +29,11 @@ use Rattle.call_rules.specs.declared.want.Want.{Want}
 use Rattle.call_rules.specs.declared.want.Want.TheVariants as want
 use Rattle.call_rules.specs.Closing.{Own, Unchanged, Changed, closes, aborts, gives, give_up, close_all}
 use Rattle.call_rules.specs.Descriptors.{lowest_free_from}
-use Rattle.call_rules.specs.Making.{after_insert, after_make, after_probe, probes, opens_dir, changes_dir}
+use Rattle.call_rules.specs.Mailing.{shown_messages, tells_name}
+use Rattle.call_rules.specs.Making.{after_insert, after_make, fills, after_probe, probes, opens_dir, changes_dir}
 use Rattle.call_rules.specs.Mending.{after_mend, brings, mend_wants}
 use Rattle.call_rules.specs.Naming.{renames}
-use Rattle.call_rules.specs.Opening.{opens_file, reply_to, op_wants, close_wants, uses_wants, lists, describes}
+use Rattle.call_rules.specs.Opening.{opens_file, reply_to, op_wants, close_wants, uses_wants, lists, describes, Shows, shown_in}
 use Rattle.call_rules.specs.Removing.{removes, empties, opens_target, by_kind, finds}
 use Rattle.call_rules.specs.Scripts.{path_wants, begun_wants, named_wants, where_packed, wants}
 use Rattle.call_rules.specs.Walks.{Walked, Asks, Fails, There, Strays, walk, walked, root_of}
@@ -85,29 +88,36 @@ close_all_free o (i ∷ is) r h (_ ∷ rest) = tt
 
 -- Create and mkdir.
 
-after_insert_free : (o : Option ℕ) (p : Serial) (name : List ℕ) (k : Kind) (ino : ℕ) (xs : List Answer) → FreeWant o (after_insert p name k ino xs)
-after_insert_free o p name k ino [] = tt
-after_insert_free o p name k ino (answer.Did r ∷ rest) = close_all_free o (p ∷ []) (reply.Made ino) tt rest
-after_insert_free o p name k ino (answer.Refused why ∷ rest) = give_up_free o (Unchanged p ∷ []) why rest
-after_insert_free o p name k ino (_ ∷ rest) = tt
+after_insert_free : (o : Option ℕ) (p : Serial) (name : List ℕ) (k : Kind) (ino : ℕ) (told : Reply) → FreeReply o told → (xs : List Answer) → FreeWant o (after_insert p name k ino told xs)
+after_insert_free o p name k ino told h [] = tt
+after_insert_free o p name k ino told h (answer.Did r ∷ rest) = close_all_free o (p ∷ []) told h rest
+after_insert_free o p name k ino told h (answer.Refused why ∷ rest) = give_up_free o (Unchanged p ∷ []) why rest
+after_insert_free o p name k ino told h (_ ∷ rest) = tt
 
-after_make_free : (o : Option ℕ) (p : Serial) (name : List ℕ) (k : Kind) (made : Serial) (ino : ℕ) (xs : List Answer) → FreeWant o (after_make p name k made ino xs)
-after_make_free o p name k made ino [] = tt
-after_make_free o p name k made ino (answer.Ended stamp ∷ rest) = after_insert_free o p name k ino rest
-after_make_free o p name k made ino (answer.Refused why ∷ rest) = give_up_free o (Unchanged p ∷ []) why rest
-after_make_free o p name k made ino (_ ∷ rest) = tt
+after_make_free : (o : Option ℕ) (p : Serial) (name : List ℕ) (k : Kind) (made : Serial) (ino : ℕ) (told : Reply) → FreeReply o told → (xs : List Answer) → FreeWant o (after_make p name k made ino told xs)
+after_make_free o p name k made ino told h [] = tt
+after_make_free o p name k made ino told h (answer.Ended stamp ∷ rest) = after_insert_free o p name k ino told h rest
+after_make_free o p name k made ino told h (answer.Refused why ∷ rest) = give_up_free o (Unchanged p ∷ []) why rest
+after_make_free o p name k made ino told h (_ ∷ rest) = tt
 
-after_probe_free : (o : Option ℕ) (p : Serial) (group : ℕ) (name : List ℕ) (k : Kind) (sites : Option Sites) (xs : List Answer) → FreeWant o (after_probe p group name k sites xs)
-after_probe_free o p group name k sites [] = tt
-after_probe_free o p group name k sites (answer.Opened made ino ∷ rest) = after_make_free o p name k made ino rest
-after_probe_free o p group name k sites (answer.Refused why ∷ rest) = give_up_free o (Unchanged p ∷ []) why rest
-after_probe_free o p group name k sites (_ ∷ rest) = tt
+fills_free : (o : Option ℕ) (p : Serial) (name : List ℕ) (k : Kind) (bytes : List ℕ) (made : Serial) (ino : ℕ) (told : Reply) → FreeReply o told → (xs : List Answer) → FreeWant o (fills p name k bytes made ino told xs)
+fills_free o p name k [] made ino told h xs = after_make_free o p name k made ino told h xs
+fills_free o p name k (b ∷ bs) made ino told h [] = tt
+fills_free o p name k (b ∷ bs) made ino told h (answer.Did r ∷ rest) = after_make_free o p name k made ino told h rest
+fills_free o p name k (b ∷ bs) made ino told h (answer.Refused why ∷ rest) = give_up_free o (Unchanged made ∷ Unchanged p ∷ []) why rest
+fills_free o p name k (b ∷ bs) made ino told h (_ ∷ rest) = tt
 
-probes_free : (o : Option ℕ) (p : Serial) (group : ℕ) (name : List ℕ) (k : Kind) (sites : Option Sites) (xs : List Answer) → FreeWant o (probes p group name k sites xs)
-probes_free o p group name k sites [] = tt
-probes_free o p group name k sites (answer.Did r ∷ rest) = after_probe_free o p group name k sites rest
-probes_free o p group name k sites (answer.Refused why ∷ rest) = give_up_free o (Unchanged p ∷ []) why rest
-probes_free o p group name k sites (_ ∷ rest) = tt
+after_probe_free : (o : Option ℕ) (p : Serial) (group : ℕ) (name : List ℕ) (k : Kind) (sites : Option Sites) (bytes : List ℕ) (tells : ℕ → Reply) → ((ino : ℕ) → FreeReply o (tells ino)) → (xs : List Answer) → FreeWant o (after_probe p group name k sites bytes tells xs)
+after_probe_free o p group name k sites bytes tells h [] = tt
+after_probe_free o p group name k sites bytes tells h (answer.Opened made ino ∷ rest) = fills_free o p name k bytes made ino (tells ino) (h ino) rest
+after_probe_free o p group name k sites bytes tells h (answer.Refused why ∷ rest) = give_up_free o (Unchanged p ∷ []) why rest
+after_probe_free o p group name k sites bytes tells h (_ ∷ rest) = tt
+
+probes_free : (o : Option ℕ) (p : Serial) (group : ℕ) (name : List ℕ) (k : Kind) (sites : Option Sites) (bytes : List ℕ) (tells : ℕ → Reply) → ((ino : ℕ) → FreeReply o (tells ino)) → (xs : List Answer) → FreeWant o (probes p group name k sites bytes tells xs)
+probes_free o p group name k sites bytes tells h [] = tt
+probes_free o p group name k sites bytes tells h (answer.Did r ∷ rest) = after_probe_free o p group name k sites bytes tells h rest
+probes_free o p group name k sites bytes tells h (answer.Refused why ∷ rest) = give_up_free o (Unchanged p ∷ []) why rest
+probes_free o p group name k sites bytes tells h (_ ∷ rest) = tt
 
 opens_dir_free : (o : Option ℕ) (reached : List ℕ) (next : Serial → List Answer → Want) (dir : FileId) (k : Kind) → ((p : Serial) (xs : List Answer) → FreeWant o (next p xs)) → (xs : List Answer) → FreeWant o (opens_dir reached next dir k xs)
 opens_dir_free o reached next dir kind.File go xs = tt
@@ -206,12 +216,12 @@ uses_free o _ i xs = tt
 
 -- Open, list and stat.
 
-lists_free : (o : Option ℕ) (mounts : List Mount) (reached : List ℕ) (at : FileId) (k : Kind) (xs : List Answer) → FreeWant o (lists mounts reached at k xs)
-lists_free o mounts reached at kind.File xs = tt
-lists_free o mounts reached at kind.Dir [] = tt
-lists_free o mounts reached at kind.Dir (answer.Showed names ∷ []) = tt
-lists_free o mounts reached at kind.Dir (answer.Refused why ∷ []) = tt
-lists_free o mounts reached at kind.Dir (_ ∷ rest) = tt
+lists_free : (o : Option ℕ) (shows : Shows) (reached : List ℕ) (at : FileId) (k : Kind) (xs : List Answer) → FreeWant o (lists shows reached at k xs)
+lists_free o shows reached at kind.File xs = tt
+lists_free o shows reached at kind.Dir [] = tt
+lists_free o shows reached at kind.Dir (answer.Showed names ∷ []) = tt
+lists_free o shows reached at kind.Dir (answer.Refused why ∷ []) = tt
+lists_free o shows reached at kind.Dir (_ ∷ rest) = tt
 
 describes_free : (o : Option ℕ) (at : FileId) (k : Kind) (xs : List Answer) → FreeWant o (describes at k xs)
 describes_free o at k [] = tt
@@ -244,22 +254,25 @@ changes_free : (o : Option ℕ) (mounts : List Mount) (path : List ℕ) (next : 
 changes_free o mounts path next go xs = walked_free o mounts (but_last (components path)) xs (λ dir k rest. opens_dir (last_of (but_last (components path))) (next dir.group) dir k rest)
     (λ dir k rest. opens_dir_free o (last_of (but_last (components path))) (next dir.group) dir k (go dir.group) rest)
 
-path_free : (o : Option ℕ) (mounts : List Mount) (words : Call) (xs : List Answer) → FreeWant o (path_wants mounts o words xs)
-path_free o mounts (call.Create path sites) xs = changes_free o mounts path _ (λ g p rest. probes_free o p g (last_of (components path)) kind.File sites rest) xs
-path_free o mounts (call.MakeDir path) xs = changes_free o mounts path _ (λ g p rest. probes_free o p g (last_of (components path)) kind.Dir None rest) xs
-path_free o mounts (call.Unlink path) xs = changes_free o mounts path _ (λ g p rest. finds_free o kind.File p g (last_of (components path)) rest) xs
-path_free o mounts (call.RemoveDir path) xs = changes_free o mounts path _ (λ g p rest. finds_free o kind.Dir p g (last_of (components path)) rest) xs
-path_free o mounts (call.Rename path name) xs = changes_free o mounts path _ (λ g p rest. renames_free o p (last_of (components path)) name rest) xs
-path_free o mounts (call.List path) xs = walked_free o mounts (components path) xs (lists mounts (last_of (components path))) (lists_free o mounts (last_of (components path)))
-path_free o mounts (call.Stat path) xs = walked_free o mounts (components path) xs describes (describes_free o)
-path_free o mounts (call.Open path how) xs = walked_free o mounts (components path) xs (opens_file how o) (opens_file_free o how)
-path_free o mounts (call.Mend file) xs = mend_free o file xs
-path_free o mounts _ xs = tt
+path_free : (o : Option ℕ) (mounts : List Mount) (id : CallId) (words : Call) (xs : List Answer) → FreeWant o (path_wants mounts o id words xs)
+path_free o mounts id (call.Create path sites) xs = changes_free o mounts path _ (λ g p rest. probes_free o p g (last_of (components path)) kind.File sites [] reply.Made (λ ino. tt) rest) xs
+path_free o mounts id (call.MakeDir path) xs = changes_free o mounts path _ (λ g p rest. probes_free o p g (last_of (components path)) kind.Dir None [] reply.Made (λ ino. tt) rest) xs
+path_free o mounts id (call.Unlink path) xs = changes_free o mounts path _ (λ g p rest. finds_free o kind.File p g (last_of (components path)) rest) xs
+path_free o mounts id (call.RemoveDir path) xs = changes_free o mounts path _ (λ g p rest. finds_free o kind.Dir p g (last_of (components path)) rest) xs
+path_free o mounts id (call.Rename path name) xs = changes_free o mounts path _ (λ g p rest. renames_free o p (last_of (components path)) name rest) xs
+path_free o mounts id (call.List path) xs = walked_free o mounts (components path) xs (lists (shown_in mounts) (last_of (components path))) (lists_free o (shown_in mounts) (last_of (components path)))
+path_free o mounts id (call.Stat path) xs = walked_free o mounts (components path) xs describes (describes_free o)
+path_free o mounts id (call.Mail path bytes) xs = walked_free o mounts (components path) xs _
+    (λ dir k rest. opens_dir_free o (last_of (components path)) _ dir k (λ p ys. probes_free o p dir.group (message_name id) kind.File None bytes (tells_name (message_name id)) (λ ino. tt) ys) rest)
+path_free o mounts id (call.Mails path) xs = walked_free o mounts (components path) xs (lists shown_messages (last_of (components path))) (lists_free o shown_messages (last_of (components path)))
+path_free o mounts id (call.Open path how) xs = walked_free o mounts (components path) xs (opens_file how o) (opens_file_free o how)
+path_free o mounts id (call.Mend file) xs = mend_free o file xs
+path_free o mounts id _ xs = tt
 
 begun_free : (o : Option ℕ) (mounts : List Mount) (words : Call) (b : Beginning) (xs : List Answer) → FreeWant o (begun_wants mounts o words b xs)
 begun_free o mounts words (begins.Denied why) xs = tt
 begun_free o mounts words (begins.Uses epoch inst) xs = uses_free o words inst xs
-begun_free o mounts words begins.Walks xs = path_free o mounts words xs
+begun_free o mounts words (begins.Walks id) xs = path_free o mounts id words xs
 
 packed_free : (o : Option ℕ) (is_packed : ℕ → Bool) (w : Want) → FreeWant o w → FreeWant o (where_packed is_packed w)
 packed_free o is_packed (want.Look file what) h = over (is_packed file.group)

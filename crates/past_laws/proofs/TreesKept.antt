@@ -47,7 +47,7 @@ told_kept g c (says.Stopped site cause) p k e = left_kept g k site p e
 told_kept g c (says.Leave site a) p k e = left_kept g k site p e
 told_kept g c (says.Join site a members) p k e = joined_kept g k.0 k.1 site a members p e
 told_kept g c (says.Start a group copies) p k e = at_kept g (is_epoch a) (λ (t : Epoch). record t { started = group ∷ t.started }) (λ t. refl) (λ t. k t _) p e
-told_kept g c (says.Accept site process id words) p k e = accepted_kept g k site (begun_call p site process id words (beginning (table p site process) (site_at p site).epoch words)) p e
+told_kept g c (says.Accept site process id words) p k e = accepted_kept g k site (begun_call p site process id words (beginning (table p site process) (site_at p site).epoch id words)) p e
 told_kept g c (says.Look a id request f w result) p k e = refl
 told_kept g c (says.Grant a id request i m f stamp ss) p k e = at_kept g (is_epoch a) (λ (t : Epoch). record t { granted = new ∷ t.granted; opened = t.opened ++ opened_as p new stamp ∷ [] }) (λ t. refl) (λ t. k t _ _) p e
   where

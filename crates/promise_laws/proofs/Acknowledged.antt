@@ -120,8 +120,8 @@ module _ (c : Config) (t : Trace) (d : CallId) (s : Stamp) where
   by_script mounts packed free (call.Close fd) k (begins.Uses f i) xs h e = record { named_in = f; instance = i; begins = refl; from = by_close i xs h (sym (packed_told packed (close_wants i xs)) ∙ e) }
   by_script mounts packed free (call.Commit fd) k (begins.Denied why) xs h e = absurd (none_some s e)
   by_script mounts packed free (call.Close fd) k (begins.Denied why) xs h e = absurd (none_some s e)
-  by_script mounts packed free (call.Commit fd) k begins.Walks xs h e = absurd (none_some s e)
-  by_script mounts packed free (call.Close fd) k begins.Walks xs h e = absurd (none_some s e)
+  by_script mounts packed free (call.Commit fd) k (begins.Walks id) xs h e = absurd (none_some s e)
+  by_script mounts packed free (call.Close fd) k (begins.Walks id) xs h e = absurd (none_some s e)
   by_script mounts packed free _ k b xs h e = absurd (false_true k)
 
   record FromBegun : Type 0 where

@@ -19,11 +19,12 @@ use Rattle.trace_book.specs.declared.descriptor.Beginning.{Beginning}
 use Rattle.trace_book.specs.declared.descriptor.Beginning.TheVariants as begins
 use Rattle.trace_book.specs.declared.operation.Op.{Op}
 use Rattle.trace_book.specs.declared.operation.Op.TheVariants as op
+use Rattle.call_rules.specs.Mailing.{shown_messages}
 use Rattle.call_rules.specs.declared.answer.Answer.{Answer}
 use Rattle.call_rules.specs.declared.answer.Answer.TheVariants as answer
 use Rattle.call_rules.specs.declared.want.Want.{Want}
 use Rattle.call_rules.specs.declared.want.Want.TheVariants as want
-use Rattle.call_rules.specs.Opening.{describes, lists, op_wants, opens_file, uses_wants}
+use Rattle.call_rules.specs.Opening.{describes, lists, op_wants, opens_file, uses_wants, Shows, shown_in}
 use Rattle.call_rules.specs.Scripts.{begun_wants, path_wants, where_packed, wants}
 use Rattle.call_rules.specs.Walks.{Asks, Fails, Strays, There, Walked, root_of, walk, walked}
 use Rattle.call_rules.specs.Words.{is_badly_named}
@@ -70,12 +71,12 @@ walked_none mounts path xs after h = by_walk (walk mounts path [] (root_of 0) ki
     by_walk Strays w = rw w tt
     by_walk (There there found rest) w = let k : EndsNone (after there found rest) = h there found rest in rw w k
 
-lists_none : (mounts : List Mount) (reached : List ℕ) (at : FileId) (k : Kind) (xs : List Answer) → EndsNone (lists mounts reached at k xs)
-lists_none mounts reached at kind.File xs = tt
-lists_none mounts reached at kind.Dir [] = tt
-lists_none mounts reached at kind.Dir (answer.Showed names ∷ []) = tt
-lists_none mounts reached at kind.Dir (answer.Refused why ∷ []) = tt
-lists_none mounts reached at kind.Dir (_ ∷ rest) = tt
+lists_none : (shows : Shows) (reached : List ℕ) (at : FileId) (k : Kind) (xs : List Answer) → EndsNone (lists shows reached at k xs)
+lists_none shows reached at kind.File xs = tt
+lists_none shows reached at kind.Dir [] = tt
+lists_none shows reached at kind.Dir (answer.Showed names ∷ []) = tt
+lists_none shows reached at kind.Dir (answer.Refused why ∷ []) = tt
+lists_none shows reached at kind.Dir (_ ∷ rest) = tt
 
 describes_none : (at : FileId) (k : Kind) (xs : List Answer) → EndsNone (describes at k xs)
 describes_none at k [] = tt
@@ -90,15 +91,16 @@ opens_none how (Some fd) at kind.File (answer.Opened i ino ∷ []) = tt
 opens_none how free at kind.File (answer.Refused why ∷ []) = tt
 opens_none how free at kind.File (_ ∷ rest) = tt
 
-path_none : (mounts : List Mount) (free : Option ℕ) (words : Call) (xs : List Answer) → commits words ≡ false → EndsNone (path_wants mounts free words xs)
-path_none mounts free (call.List path) xs e = walked_none mounts (components path) xs (lists mounts (last_of (components path))) (lists_none mounts (last_of (components path)))
-path_none mounts free (call.Stat path) xs e = walked_none mounts (components path) xs describes describes_none
-path_none mounts free (call.Open path how) xs e = walked_none mounts (components path) xs (opens_file how free) (opens_none how free)
-path_none mounts free (call.Read fd at len) xs e = tt
-path_none mounts free (call.Write fd at bytes) xs e = tt
-path_none mounts free (call.Cut fd len) xs e = tt
-path_none mounts free (call.Abort fd) xs e = tt
-path_none mounts free _ xs e = absurd (true_false e)
+path_none : (mounts : List Mount) (free : Option ℕ) (id : CallId) (words : Call) (xs : List Answer) → commits words ≡ false → EndsNone (path_wants mounts free id words xs)
+path_none mounts free id (call.List path) xs e = walked_none mounts (components path) xs (lists (shown_in mounts) (last_of (components path))) (lists_none (shown_in mounts) (last_of (components path)))
+path_none mounts free id (call.Mails path) xs e = walked_none mounts (components path) xs (lists shown_messages (last_of (components path))) (lists_none shown_messages (last_of (components path)))
+path_none mounts free id (call.Stat path) xs e = walked_none mounts (components path) xs describes describes_none
+path_none mounts free id (call.Open path how) xs e = walked_none mounts (components path) xs (opens_file how free) (opens_none how free)
+path_none mounts free id (call.Read fd at len) xs e = tt
+path_none mounts free id (call.Write fd at bytes) xs e = tt
+path_none mounts free id (call.Cut fd len) xs e = tt
+path_none mounts free id (call.Abort fd) xs e = tt
+path_none mounts free id _ xs e = absurd (true_false e)
 
 uses_none : (words : Call) (i : Serial) (xs : List Answer) → commits words ≡ false → EndsNone (uses_wants words i xs)
 uses_none (call.Read fd at len) i xs e = op_none i (op.Read at len) tt xs
@@ -107,13 +109,15 @@ uses_none (call.Cut fd len) i xs e = op_none i (op.Cut len) tt xs
 uses_none (call.Abort fd) i xs e = op_none i op.Abort tt xs
 uses_none (call.List path) i xs e = tt
 uses_none (call.Stat path) i xs e = tt
+uses_none (call.Mail path bytes) i xs e = tt
+uses_none (call.Mails path) i xs e = tt
 uses_none (call.Open path how) i xs e = tt
 uses_none _ i xs e = absurd (true_false e)
 
 begun_none : (mounts : List Mount) (free : Option ℕ) (words : Call) (b : Beginning) (xs : List Answer) → commits words ≡ false → EndsNone (begun_wants mounts free words b xs)
 begun_none mounts free words (begins.Denied why) xs e = tt
 begun_none mounts free words (begins.Uses epoch inst) xs e = uses_none words inst xs e
-begun_none mounts free words begins.Walks xs e = path_none mounts free words xs e
+begun_none mounts free words (begins.Walks id) xs e = path_none mounts free id words xs e
 
 wants_none : (mounts : List Mount) (packed : ℕ → Bool) (free : Option ℕ) (words : Call) (b : Beginning) (xs : List Answer) → commits words ≡ false → EndsNone (wants mounts packed free words b xs)
 wants_none mounts packed free words b xs e =

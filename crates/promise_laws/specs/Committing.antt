@@ -29,6 +29,7 @@ commits (call.Commit fd) = true
 commits (call.Close fd) = true
 commits (call.Create path sites) = true
 commits (call.MakeDir path) = true
+commits (call.Mail path bytes) = true
 commits (call.Unlink path) = true
 commits (call.RemoveDir path) = true
 commits (call.Rename path name) = true

@@ -8,6 +8,7 @@ pub mod Changed
 pub mod ConflictAndResolve
 pub mod CutAndHeal
 pub mod DirectoriesMeet
+pub mod BoxesMeet
 pub mod LostAndLate
 pub mod RemovedAndChanged
 pub mod StopAfterTheGate

@@ -9,6 +9,7 @@ ghost use Rattle.promise_samples.specs.Changed.{changed};
 ghost use Rattle.promise_samples.specs.ConflictAndResolve.{conflict_and_resolve};
 ghost use Rattle.promise_samples.specs.CutAndHeal.{cut_and_heal};
 ghost use Rattle.promise_samples.specs.DirectoriesMeet.{directories_meet};
+ghost use Rattle.promise_samples.specs.BoxesMeet.{boxes_meet};
 ghost use Rattle.promise_samples.specs.LostAndLate.{lost_and_late};
 ghost use Rattle.promise_samples.specs.RemovedAndChanged.{removed_and_changed};
 ghost use Rattle.promise_samples.specs.StopAfterTheGate.{stop_after_the_gate};
@@ -65,6 +66,7 @@ pub fn right_traces_are_asked_for()
     ensures conflict_and_resolve { IsAsked conflict_and_resolve }
     ensures cut_and_heal { IsAsked cut_and_heal }
     ensures directories_meet { IsAsked directories_meet }
+    ensures boxes_meet { IsAsked boxes_meet }
     ensures lost_and_late { IsAsked lost_and_late }
     ensures removed_and_changed { IsAsked removed_and_changed }
     ensures stop_after_the_gate { IsAsked stop_after_the_gate }

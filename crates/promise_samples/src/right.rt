@@ -8,6 +8,7 @@ ghost use Rattle.promise_samples.specs.Changed.{changed};
 ghost use Rattle.promise_samples.specs.ConflictAndResolve.{conflict_and_resolve};
 ghost use Rattle.promise_samples.specs.CutAndHeal.{cut_and_heal};
 ghost use Rattle.promise_samples.specs.DirectoriesMeet.{directories_meet};
+ghost use Rattle.promise_samples.specs.BoxesMeet.{boxes_meet};
 ghost use Rattle.promise_samples.specs.LostAndLate.{lost_and_late};
 ghost use Rattle.promise_samples.specs.RemovedAndChanged.{removed_and_changed};
 ghost use Rattle.promise_samples.specs.StopAfterTheGate.{stop_after_the_gate};
@@ -44,6 +45,7 @@ pub fn right_traces_follow()
     ensures conflict_and_resolve { Follows conflict_and_resolve }
     ensures cut_and_heal { Follows cut_and_heal }
     ensures directories_meet { Follows directories_meet }
+    ensures boxes_meet { Follows boxes_meet }
     ensures lost_and_late { Follows lost_and_late }
     ensures removed_and_changed { Follows removed_and_changed }
     ensures stop_after_the_gate { Follows stop_after_the_gate }
@@ -81,6 +83,7 @@ pub fn right_traces_keep_the_phrases()
     ensures conflict_and_resolve { KeepsPhrases conflict_and_resolve }
     ensures cut_and_heal { KeepsPhrases cut_and_heal }
     ensures directories_meet { KeepsPhrases directories_meet }
+    ensures boxes_meet { KeepsPhrases boxes_meet }
     ensures lost_and_late { KeepsPhrases lost_and_late }
     ensures removed_and_changed { KeepsPhrases removed_and_changed }
     ensures stop_after_the_gate { KeepsPhrases stop_after_the_gate }
@@ -118,6 +121,7 @@ pub fn right_traces_keep_beside()
     ensures conflict_and_resolve { KeepsBeside conflict_and_resolve }
     ensures cut_and_heal { KeepsBeside cut_and_heal }
     ensures directories_meet { KeepsBeside directories_meet }
+    ensures boxes_meet { KeepsBeside boxes_meet }
     ensures lost_and_late { KeepsBeside lost_and_late }
     ensures removed_and_changed { KeepsBeside removed_and_changed }
     ensures stop_after_the_gate { KeepsBeside stop_after_the_gate }

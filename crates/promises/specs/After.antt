@@ -254,7 +254,7 @@ told_by c (rec.Stopped site cause) p = stopped site p
 told_by c (rec.Leave site e) p = departed site p
 told_by c (rec.Join site e members) p = joined site e members p
 told_by c (rec.Start e group copies) p = change_epoch (is_epoch e) (λ (t : Epoch). record t { started = group ∷ t.started }) p
-told_by c (rec.Accept site process id words) p = accepted site (begun_call p site process id words (beginning (table p site process) (site_at p site).epoch words)) p
+told_by c (rec.Accept site process id words) p = accepted site (begun_call p site process id words (beginning (table p site process) (site_at p site).epoch id words)) p
 told_by c (rec.Look e id request f w result) p = looked id request (look_answer p f w result) p
 told_by c (rec.Grant e id request i m f stamp ss) p = granted e (record { inst = i; call = id; process = process_of p id; mode = m; file = f; ss = ss }) stamp p
 told_by c (rec.Refuse e id request i m f why) p = answered (is_id id) (Refused why)

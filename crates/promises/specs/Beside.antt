@@ -45,6 +45,7 @@ is_version_made _ = false
 abbrev pub makes_file : Call → Bool
 makes_file (call.Create path sites) = true
 makes_file (call.MakeDir path) = true
+makes_file (call.Mail path bytes) = true
 makes_file _ = false
 
 -- no close of the call's own made a version, but for one of a file that no entry names

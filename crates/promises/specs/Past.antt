@@ -217,7 +217,7 @@ is_close _ = false
 abbrev pub is_on : Beginning → EpochId → Serial → Bool
 is_on (begins.Uses epoch inst) e i = same_epoch epoch e && same_serial inst i
 is_on (begins.Denied why) e i = false
-is_on begins.Walks e i = false
+is_on (begins.Walks id) e i = false
 
 -- operation n of the instance is a step of this call: of the n-th use of its descriptor, or, where none has named it, of the call
 -- that it was granted to

@@ -15,7 +15,7 @@ use Rattle.call_rules.specs.Descriptors.{beginning, lowest_free}
 use Rattle.call_rules.specs.Scripts.{wants}
 use Rattle.call_rules.specs.declared.want.Want.TheVariants as want
 use Rattle.role_steps.specs.Requests.{descriptors_of}
-use Rattle.role_steps.specs.Using.{accepted, frees, goes_on, next_want, on_call, reply_record}
+use Rattle.role_steps.specs.Using.{accepted, frees, goes_on, next_want, on_call, reply_record, own_call}
 use Rattle.role_steps.specs.Views.{Frame, Shown, Told, Users}
 use Rattle.role_steps.specs.declared.users.WaitingCall.{WaitingCall}
 use Rattle.the_run.specs.Worlds.{Line}
@@ -78,8 +78,8 @@ module _ (c : Config) (n : ℕ) (t : List Line) (s process : ℕ) (d : CallId) (
   pub caller_named : call_named (entries then) d ≡ Some caller
   caller_named = ap (λ (b : Bool). cond b (Some caller) (call_named (entries t) d)) (same_call_own d)
 
-  pub caller_begun : begun (entries then) d ≡ Some (begins_now (entries t) s process words)
-  caller_begun = ap (λ (b : Bool). cond b (Some (begins_now (entries t) s process words)) (begun (entries t) d)) (same_call_own d)
+  pub caller_begun : begun (entries then) d ≡ Some (begins_now (entries t) s process d words)
+  caller_begun = ap (λ (b : Bool). cond b (Some (begins_now (entries t) s process d words)) (begun (entries t) d)) (same_call_own d)
 
   pub caller_waits : find (is_this s process d) (waiting (entries then)) ≡ Some caller
   caller_waits = ap (λ (b : Bool). cond b (Some caller) (find (is_this s process d) (waiting (entries t)))) (own (s == s) (process == process) (same_call d d) (equal_self s) (equal_self process) (same_call_own d))
@@ -97,7 +97,7 @@ module _ (c : Config) (n : ℕ) (t : List Line) (s process : ℕ) (d : CallId) (
 
 module _ (c : Config) (n : ℕ) (t : List Line) (f : Frame) (process : ℕ) (words : Call) (u : Users) (h : IsFollowed c t) (frame : FrameFact c t f) (k : UsersFact c t f.me f.boot u) (low : IsNumbered words) where
   abbrev w : WaitingCall
-  w = accepted process (u.calls + 1) words (beginning (descriptors_of u process) (Some f.epoch) words)
+  w = accepted process (u.calls + 1) words (beginning (descriptors_of u process) (Some f.epoch) (own_call f.me f.boot (u.calls + 1)) words)
 
   abbrev d : CallId
   d = it f w
@@ -115,7 +115,7 @@ module _ (c : Config) (n : ℕ) (t : List Line) (f : Frame) (process : ℕ) (wor
   frame_so = record { config_is = frame.config_is; inside = frame.inside; members_are = frame.members_are; up = frame.up; boot_is = frame.boot_is; is_member = frame.is_member }
 
   begun_so : begun (entries newer) d ≡ Some w.begins
-  begun_so = caller_begun c n t f.me process d words ∙ ap Some (ap (λ (o : Option EpochId). beginning (descriptor (entries t) f.me process) o words) frame.inside ∙ sym (begins_same (descriptors_of u process) (descriptor (entries t) f.me process) (λ fd lt. k.descriptors process fd lt) (Some f.epoch) words low))
+  begun_so = caller_begun c n t f.me process d words ∙ ap Some (ap (λ (o : Option EpochId). beginning (descriptor (entries t) f.me process) o d words) frame.inside ∙ sym (begins_same (descriptors_of u process) (descriptor (entries t) f.me process) (λ fd lt. k.descriptors process fd lt) (Some f.epoch) _ words low))
 
   free_so : lowest_free (descriptors_of counted process) ≡ lowest_free (descriptor (entries newer) f.me process)
   free_so = ap (λ (x : Users). lowest_free (descriptors_of x process)) (frees_is process words (record u { calls = u.calls + 1 })) ∙ free_is (descriptors_of after process) (descriptor (entries newer) f.me process) (λ fd lt. same fd lt)

@@ -124,7 +124,7 @@ goes_mild f w u = over (goes_told f w u)
 
 mend_mild : (f : Frame) (t : SyncTable) (o : Option FileRow) (v : SiteView) → Mild None (starts_mend_of f t o v).told
 mend_mild f t None v = tt
-mend_mild f t (Some r) v = (tt, goes_mild f (accepted 0 (v.users.calls + 1) (call.Mend (row_file t r)) (beginning (descriptors_of v.users 0) (Some f.epoch) (call.Mend (row_file t r)))) (record v.users { calls = v.users.calls + 1 }))
+mend_mild f t (Some r) v = (tt, goes_mild f (accepted 0 (v.users.calls + 1) (call.Mend (row_file t r)) (beginning (descriptors_of v.users 0) (Some f.epoch) (own_call f.me f.boot (v.users.calls + 1)) (call.Mend (row_file t r)))) (record v.users { calls = v.users.calls + 1 }))
 
 mends_mild : (f : Frame) (ts : List SyncTable) (v : SiteView) → Mild None (starts_mends_in f ts v).told
 mends_mild f [] v = tt

@@ -86,7 +86,7 @@ taken_later f w a u = (tt, goes_later f (with_answer w a) u)
 
 called_line : (f : Frame) (now : Option EpochId) (process : ℕ) (words : Call) (u : Users) (rest : List Told) → Every IsLater rest → OfLine ((on_call f now process words u).told ++ rest)
 called_line f now process words u rest h =
-    let w : WaitingCall = accepted process (u.calls + 1) words (beginning (descriptors_of u process) now words) in
+    let w : WaitingCall = accepted process (u.calls + 1) words (beginning (descriptors_of u process) now (own_call f.me f.boot (u.calls + 1)) words) in
     let counted : Users = frees process words (record u { calls = u.calls + 1 }) in
     (every_append IsLater (goes_on f w counted).told rest (goes_later f w counted) h, λ q. absurd (no_void f.me process (own_call f.me f.boot (u.calls + 1)) words q))
   where

@@ -49,8 +49,8 @@ pub record IsMended (c : Config) (n : ℕ) (t : List Line) (d : CallId) : Type 0
   pub may : MayTell c older (Shown (says.Accept site process d (call.Mend file)))
   pub followed : IsFollowed c older
 
-pub mend_opens : (c : Config) (p : ℕ → Bool) (free : Option ℕ) (file : FileId) → p file.group ≡ true → wants c.mounts p free (call.Mend file) begins.Walks [] ≡ want.OpenToMend file
-mend_opens c p free file e = ap (λ (b : Bool). cond b (want.OpenToMend file) (want.Give (reply.No NoStorage))) e
+pub mend_opens : (c : Config) (p : ℕ → Bool) (free : Option ℕ) (id : CallId) (file : FileId) → p file.group ≡ true → wants c.mounts p free (call.Mend file) (begins.Walks id) [] ≡ want.OpenToMend file
+mend_opens c p free id file e = ap (λ (b : Bool). cond b (want.OpenToMend file) (want.Give (reply.No NoStorage))) e
 
 module _ (c : Config) (n : ℕ) (older : List Line) (site process : ℕ) (d : CallId) (file : FileId) (h : IsFollowed c older) (may : MayTell c older (Shown (says.Accept site process d (call.Mend file)))) where
   abbrev t : List Line
@@ -61,9 +61,9 @@ module _ (c : Config) (n : ℕ) (older : List Line) (site process : ℕ) (d : Ca
 
   wants_so : now_wants c (entries t) new ≡ want.OpenToMend file
   wants_so = now_next c t new may.row.epoch may.row.inside may.row.inside
-      ∙ (next_as c t d new (beginning (descriptor (entries older) site process) (epoch_of (entries older) site) (call.Mend file)) [] (caller_named c n older site process d (call.Mend file)) (caller_begun c n older site process d (call.Mend file)) (unheard c older site process d (call.Mend file) h may)
-      ∙ (ap (λ (o : Option EpochId). wants c.mounts (is_packed_in c (entries t) o) (lowest_free (descriptor (entries t) site process)) (call.Mend file) (beginning (descriptor (entries older) site process) o (call.Mend file)) []) may.row.inside
-      ∙ mend_opens c (is_packed_in c (entries t) (Some may.row.epoch)) (lowest_free (descriptor (entries t) site process)) file (ap is_some may.row.synchronizes)))
+      ∙ (next_as c t d new (beginning (descriptor (entries older) site process) (epoch_of (entries older) site) d (call.Mend file)) [] (caller_named c n older site process d (call.Mend file)) (caller_begun c n older site process d (call.Mend file)) (unheard c older site process d (call.Mend file) h may)
+      ∙ (ap (λ (o : Option EpochId). wants c.mounts (is_packed_in c (entries t) o) (lowest_free (descriptor (entries t) site process)) (call.Mend file) (beginning (descriptor (entries older) site process) o d (call.Mend file)) []) may.row.inside
+      ∙ mend_opens c (is_packed_in c (entries t) (Some may.row.epoch)) (lowest_free (descriptor (entries t) site process)) d file (ap is_some may.row.synchronizes)))
 
   -- no reply to it may be told
   pub unanswered : (s p : ℕ) (r : Reply) → MayTell c t (Shown (says.Answer s p d r)) → ⊥

@@ -18,7 +18,7 @@ use Rattle.call_rules.specs.Words.{is_badly_named, is_too_long}
 use Rattle.call_rules.specs.Scripts.{wants, where_packed}
 use Rattle.call_rules.specs.declared.want.Want.TheVariants as want
 use Rattle.role_steps.specs.Requests.{descriptors_of}
-use Rattle.role_steps.specs.Using.{accepted, frees, goes_on, is_packed, next_want, on_call, reply_record}
+use Rattle.role_steps.specs.Using.{accepted, frees, goes_on, is_packed, next_want, on_call, reply_record, own_call}
 use Rattle.role_steps.specs.Views.{Frame, Users}
 use Rattle.role_steps.specs.declared.users.WaitingCall.{WaitingCall}
 use Rattle.the_run.specs.Steps.{call_frame}
@@ -50,23 +50,23 @@ on_denied : (changes : Bool) (o : Option Descriptor) → IsDenied (begins_on cha
 on_denied changes None = record { why = refusal.BadDescriptor; is = refl; unlike = λ e q. cc }
 on_denied changes (Some d) = record { why = refusal.Stale d.epoch; is = refl; unlike = λ e q. cc }
 
-open_denied : (free : Option ℕ) → IsDenied (begins_open None free)
-open_denied None = record { why = refusal.NoDescriptor; is = refl; unlike = λ e q. cc }
-open_denied (Some fd) = record { why = refusal.NoPartition; is = refl; unlike = λ e q. cc }
+open_denied : (id : CallId) (free : Option ℕ) → IsDenied (begins_open None id free)
+open_denied id None = record { why = refusal.NoDescriptor; is = refl; unlike = λ e q. cc }
+open_denied id (Some fd) = record { why = refusal.NoPartition; is = refl; unlike = λ e q. cc }
 
-denied : (table : ℕ → Option Descriptor) (words : Call) → IsDenied (beginning table None words)
-denied table (call.Open path how) = open_denied (lowest_free table)
-denied table (call.Read fd at len) = on_denied false (table fd)
-denied table (call.Write fd at bytes) = over (is_too_long (call.Write fd at bytes))
+denied : (table : ℕ → Option Descriptor) (id : CallId) (words : Call) → IsDenied (beginning table None id words)
+denied table id (call.Open path how) = open_denied id (lowest_free table)
+denied table id (call.Read fd at len) = on_denied false (table fd)
+denied table id (call.Write fd at bytes) = over (is_too_long (call.Write fd at bytes))
   where
     over : (b : Bool) → IsDenied (cond b (begins.Denied refusal.TooLong) (begins_on true None (table fd)))
     over true = record { why = refusal.TooLong; is = refl; unlike = λ e q. cc }
     over false = on_denied true (table fd)
-denied table (call.Cut fd len) = on_denied true (table fd)
-denied table (call.Commit fd) = on_denied true (table fd)
-denied table (call.Abort fd) = on_denied true (table fd)
-denied table (call.Close fd) = on_denied false (table fd)
-denied table _ = record { why = refusal.NoPartition; is = refl; unlike = λ e q. cc }
+denied table id (call.Cut fd len) = on_denied true (table fd)
+denied table id (call.Commit fd) = on_denied true (table fd)
+denied table id (call.Abort fd) = on_denied true (table fd)
+denied table id (call.Close fd) = on_denied false (table fd)
+denied table id _ = record { why = refusal.NoPartition; is = refl; unlike = λ e q. cc }
 
 -- and so its script gives a refusal
 abbrev refused_as : List Mount → Call → Refusal → Refusal
@@ -102,7 +102,7 @@ module _ (c : Config) (n : ℕ) (t : List Line) (me boot process : ℕ) (words :
   f = call_frame c me boot None
 
   abbrev w : WaitingCall
-  w = accepted process (u.calls + 1) words (beginning (descriptors_of u process) None words)
+  w = accepted process (u.calls + 1) words (beginning (descriptors_of u process) None (own_call f.me f.boot (u.calls + 1)) words)
 
   abbrev d : CallId
   d = it f w
@@ -113,8 +113,8 @@ module _ (c : Config) (n : ℕ) (t : List Line) (me boot process : ℕ) (words :
   abbrev counted : Users
   counted = frees process words (record u { calls = u.calls + 1 })
 
-  why : IsDenied (beginning (descriptors_of u process) None words)
-  why = denied (descriptors_of u process) words
+  why : IsDenied (beginning (descriptors_of u process) None d words)
+  why = denied (descriptors_of u process) d words
 
   abbrev given : Reply
   given = reply.No (refused_as c.mounts words why.why)
@@ -123,7 +123,7 @@ module _ (c : Config) (n : ℕ) (t : List Line) (me boot process : ℕ) (words :
   reply_is r gives = gives_same given r (sym (ap (λ (b : Beginning). wants c.mounts (is_packed f) (lowest_free (descriptors_of counted process)) words b []) why.is ∙ denied_gives c.mounts (is_packed f) (lowest_free (descriptors_of counted process)) words why.why) ∙ gives)
 
   begun_so : begun (entries newer) d ≡ Some (begins.Denied why.why)
-  begun_so = caller_begun c n t me process d words ∙ ap Some (ap (λ (o : Option EpochId). beginning (descriptor (entries t) me process) o words) outside ∙ (sym (begins_same (descriptors_of u process) (descriptor (entries t) me process) (λ fd lt. k.descriptors process fd lt) None words low) ∙ why.is))
+  begun_so = caller_begun c n t me process d words ∙ ap Some (ap (λ (o : Option EpochId). beginning (descriptor (entries t) me process) o d words) outside ∙ (sym (begins_same (descriptors_of u process) (descriptor (entries t) me process) (λ fd lt. k.descriptors process fd lt) None d words low) ∙ why.is))
 
   wants_so : MayTell c t (called c n t me process d words) → now_wants c (entries newer) (caller c n t me process d words) ≡ want.Give given
   wants_so may = ap (λ (o : Option EpochId). unless_left (left_since (entries newer) me o) (wants_next c (entries newer) d)) outside

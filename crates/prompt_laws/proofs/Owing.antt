@@ -72,13 +72,13 @@ mend_rests : (c : Config) (n s process : ℕ) (d : CallId) (file : FileId) (t : 
 mend_rests c n s process d file t may = record { epoch = may.row.epoch; made = may.row.inside; inside = may.row.inside; asks = λ e. ap is_request opens }
   where
     b : Beginning
-    b = beginning (descriptor (entries t) s process) (epoch_of (entries t) s) (call.Mend file)
+    b = beginning (descriptor (entries t) s process) (epoch_of (entries t) s) d (call.Mend file)
 
     opens : script c (entries (then c n t s process d (call.Mend file))) d None [] ≡ want.OpenToMend file
     opens = ap (λ (o : Option Waiting). script_as c (entries (then c n t s process d (call.Mend file))) o (begun (entries (then c n t s process d (call.Mend file))) d) None []) (caller_named c n t s process d (call.Mend file))
         ∙ (ap (λ (o : Option Beginning). script_as c (entries (then c n t s process d (call.Mend file))) (Some (caller c n t s process d (call.Mend file))) o None []) (caller_begun c n t s process d (call.Mend file))
-        ∙ (ap (λ (o : Option EpochId). wants c.mounts (is_packed_in c (entries (then c n t s process d (call.Mend file))) o) None (call.Mend file) (beginning (descriptor (entries t) s process) o (call.Mend file)) []) may.row.inside
-        ∙ mend_opens c (is_packed_in c (entries (then c n t s process d (call.Mend file))) (Some may.row.epoch)) None file (ap is_some may.row.synchronizes)))
+        ∙ (ap (λ (o : Option EpochId). wants c.mounts (is_packed_in c (entries (then c n t s process d (call.Mend file))) o) None (call.Mend file) (beginning (descriptor (entries t) s process) o d (call.Mend file)) []) may.row.inside
+        ∙ mend_opens c (is_packed_in c (entries (then c n t s process d (call.Mend file))) (Some may.row.epoch)) None d file (ap is_some may.row.synchronizes)))
 
 -- what answers no call but mends
 mild_settles : (c : Config) (n : ℕ) (o : Option CallId) (t : List Line) (x : Told) → MildTold o x → MayTell c t x → Settles c n t x

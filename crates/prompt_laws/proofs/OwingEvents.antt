@@ -6,7 +6,7 @@ use Rattle.trace_book.specs.declared.call.Call.{Call}
 use Rattle.call_rules.specs.Descriptors.{beginning}
 use Rattle.role_steps.specs.Epochs.{frame_in, leaves_of}
 use Rattle.role_steps.specs.Requests.{descriptors_of}
-use Rattle.role_steps.specs.Using.{accepted, frees, goes_on, on_call, reply_record, takes_record, with_answer}
+use Rattle.role_steps.specs.Using.{accepted, frees, goes_on, on_call, reply_record, takes_record, with_answer, own_call}
 use Rattle.role_steps.specs.Views.{Event, Frame, SiteView, Told, Users}
 use Rattle.role_steps.specs.declared.rounds.InEpoch.{InEpoch}
 use Rattle.role_steps.specs.declared.users.WaitingCall.{WaitingCall}
@@ -36,7 +36,7 @@ module _ (c : Config) (few : length c.packs â‰¤ 4) (roles : RolesDo c) (n me : â
   inside_call process words f u frame users asked may rest = over (goes_told f w counted)
     where
       w : WaitingCall
-      w = accepted process (u.calls + 1) words (beginning (descriptors_of u process) (Some f.epoch) words)
+      w = accepted process (u.calls + 1) words (beginning (descriptors_of u process) (Some f.epoch) (own_call f.me f.boot (u.calls + 1)) words)
 
       counted : Users
       counted = frees process words (record u { calls = u.calls + 1 })
@@ -71,7 +71,7 @@ module _ (c : Config) (few : length c.packs â‰¤ 4) (roles : RolesDo c) (n me : â
       f = call_frame c me boot None
 
       w : WaitingCall
-      w = accepted process (u.calls + 1) words (beginning (descriptors_of u process) None words)
+      w = accepted process (u.calls + 1) words (beginning (descriptors_of u process) None (own_call f.me f.boot (u.calls + 1)) words)
 
       counted : Users
       counted = frees process words (record u { calls = u.calls + 1 })

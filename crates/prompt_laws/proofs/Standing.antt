@@ -20,7 +20,7 @@ use Rattle.call_rules.specs.Descriptors.{beginning}
 use Rattle.role_steps.specs.Requests.{descriptors_of}
 use Rattle.role_steps.specs.Storage.{copy_of}
 use Rattle.role_steps.specs.Tables.{first_that}
-use Rattle.role_steps.specs.Using.{accepted, changed_records, frees, goes_on, on_call}
+use Rattle.role_steps.specs.Using.{accepted, changed_records, frees, goes_on, on_call, own_call}
 use Rattle.role_steps.specs.Views as views
 use Rattle.role_steps.specs.Views.{Calls, DiskWrite, Frame, GivesUp, Merges, Outcome, Parts, Promises, Receives, Shown, SiteView, Ticks, Told, Users, quiet}
 use Rattle.role_steps.specs.declared.pulls.Pull.{Pull}
@@ -81,7 +81,7 @@ ticks_true l false k = k
 
 mend_ticks : (l : ScheduleLine) → ticks l ≡ true → (f : Frame) (t : SyncTable) (o : Option FileRow) (v : SiteView) → Every (Stands l) (starts_mend_of f t o v).told
 mend_ticks l k f t None v = tt
-mend_ticks l k f t (Some r) v = (k, all_anywhere l _ (goes_anywhere f (accepted 0 (v.users.calls + 1) (call.Mend (row_file t r)) (beginning (descriptors_of v.users 0) (Some f.epoch) (call.Mend (row_file t r)))) (record v.users { calls = v.users.calls + 1 })))
+mend_ticks l k f t (Some r) v = (k, all_anywhere l _ (goes_anywhere f (accepted 0 (v.users.calls + 1) (call.Mend (row_file t r)) (beginning (descriptors_of v.users 0) (Some f.epoch) (own_call f.me f.boot (v.users.calls + 1)) (call.Mend (row_file t r)))) (record v.users { calls = v.users.calls + 1 })))
 
 mends_tick : (l : ScheduleLine) → ticks l ≡ true → (f : Frame) (ts : List SyncTable) (v : SiteView) → Every (Stands l) (starts_mends_in f ts v).told
 mends_tick l k f [] v = tt
@@ -169,7 +169,7 @@ parts_anywhere me links None v = tt
 parts_anywhere me links (Some i) v = begins_anywhere me links (v.promised.number + 1) (boots_where (part_boot me links i.members)) v
 
 calls_anywhere : (f : Frame) (now : Option EpochId) (process : ℕ) (words : Call) (u : Users) → is_mend words ≡ false → Every IsAnywhere (on_call f now process words u).told
-calls_anywhere f now process words u user = (user, goes_anywhere f (accepted process (u.calls + 1) words (beginning (descriptors_of u process) now words)) (frees process words (record u { calls = u.calls + 1 })))
+calls_anywhere f now process words u user = (user, goes_anywhere f (accepted process (u.calls + 1) words (beginning (descriptors_of u process) now (own_call f.me f.boot (u.calls + 1)) words)) (frees process words (record u { calls = u.calls + 1 })))
 
 then_stand : (l : ScheduleLine) (xs ys : List Told) → Every IsAnywhere xs → Every (Stands l) ys → Every (Stands l) (xs ++ ys)
 then_stand l xs ys h k = every_append (Stands l) xs ys (all_anywhere l xs h) k

@@ -13,13 +13,12 @@ use Rattle.rest_laws.proofs.Resting.{run_low, run_rests}
 use Rattle.rest_laws.proofs.Roles.{roles_do}
 use Rattle.packet_format_laws.proofs.Run.{first_stand}
 use Rattle.reach_laws.specs.Reach.{IsReached}
-use Rattle.reach_laws.proofs.Counts.{Counted, counted_kept, counts_low, first_counted}
 use Rattle.reach_laws.proofs.Least.{each_reached}
 use Rattle.reach_laws.proofs.Walk.{Walks, walks_kept}
 
 pub run_reached : (c : Config) (lines : List ScheduleLine) → LinesFit c lines → PacksAreOfSites c → length c.packs ≤ 4 → EachRecord IsReached (trace_of (run_in c lines))
 run_reached c lines fit packs few =
-    let k : Walks Counted c lines (length lines) (run_in c lines) = every_line c lines (Walks Counted c lines) (walks_kept Counted c lines fit (roles_do c few) few (counted_kept c) counts_low)
-    (record { courses = first_courses c lines; stand = first_stand c (roles_do c few); counts = first_counted c; reached = λ r. record { listed = tt; lines = tt } }) in
+    let k : Walks c lines (length lines) (run_in c lines) = every_line c lines (Walks c lines) (walks_kept c lines fit (roles_do c few) few)
+    (record { courses = first_courses c lines; stand = first_stand c (roles_do c few); reached = λ r. record { listed = tt; lines = tt } }) in
     let rest : IsRest c (run_in c lines).trace = run_rests c lines fit packs (run_low c lines) in
     each_reached c (run_in c lines).trace (k.stand.holds rest).followed (k.reached rest).lines

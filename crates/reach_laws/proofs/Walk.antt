@@ -1,5 +1,5 @@
 -- Line by line: what sites do keeps the numbers low.
-use Rattle.std.proofs.Common.{◌≡◌, ◌≤◌, ℕ, ◌+◌, Bool, true, false, cond, not, List, [], ◌∷◌, length, map, filter, Option, Some, None, refl, subst, arith}
+use Rattle.std.proofs.Common.{◌≡◌, ◌≤◌, ℕ, ◌+◌, Bool, true, false, cond, List, [], ◌∷◌, length, map, Option, Some, None, refl, subst, arith}
 use Rattle.locus_ids.specs.declared.config.Config.{Config}
 use Rattle.schedule_lines.specs.declared.line.ScheduleLine.{ScheduleLine}
 use Rattle.trace_book.specs.declared.record.Record.TheVariants as says
@@ -7,10 +7,10 @@ use Rattle.role_steps.specs.Own.{Every}
 use Rattle.role_steps.specs.Views.{Calls, DiskWrite, Event, GivesUp, Merges, Outcome, Parts, Receives, Shown, SiteView, Ticks, Told}
 use Rattle.role_steps.specs.declared.rounds.InEpoch.{InEpoch}
 use Rattle.the_run.specs.Disks.{Armed, Booted, CutOff, Disk, Whole, boots, cut_disk, is_on_disk}
-use Rattle.the_run.specs.Kept.{IsOwn, Kept, WasSent}
+use Rattle.the_run.specs.Kept.{IsOwn, WasSent}
 use Rattle.the_run.specs.Runs.{boots_as, packet_record, rearms}
 use Rattle.the_run.specs.Steps.{step}
-use Rattle.the_run.specs.Worlds.{CutCircuit, Line, Numbered, Place, Running, World, acts, arms, cause_of, cut_told, disk_of, fresh, happened, is_between, links_of, loses, number_of, passed, place_at, puts, script_of, stops_with, told_onto}
+use Rattle.the_run.specs.Worlds.{Line, Numbered, Place, Running, World, acts, arms, cause_of, cut_told, disk_of, fresh, happened, links_of, loses, number_of, passed, place_at, puts, script_of, stops_with, told_onto}
 use Rattle.the_run.proofs.Boots.{acts_cases, every_weaker}
 use Rattle.the_run.proofs.Events.{puts_same}
 use Rattle.the_run.proofs.InsideSync.{every_without}
@@ -30,12 +30,12 @@ use Rattle.rest_laws.proofs.of_one_tree_laws.Run.{event_fact, sent_fact}
 use Rattle.rest_laws.proofs.of_one_tree_laws.Staying.{stays}
 use Rattle.rest_laws.proofs.of_one_tree_laws.Steps.{DoesWith, step_fine}
 use Rattle.tree_laws.specs.Doing.{WriteFact}
+use Rattle.packet_value_laws.proofs.of_packet_fit_laws.CountsRun.{counts_low}
 use Rattle.packet_value_laws.proofs.of_packet_fit_laws.FormingRun.{sent_comes}
 use Rattle.packet_value_laws.proofs.of_packet_fit_laws.Lists.{Comes}
 use Rattle.packet_value_laws.proofs.Steps.{Done, Sent}
 use Rattle.packet_format_laws.proofs.Run.{PacketsStand, kept_stand}
 use Rattle.packet_format_laws.proofs.Standing.{EventStands, next_done, sent_stands}
-use Rattle.reach_laws.specs.of_packet_fit_laws.Counts.{CountsAreLow}
 use Rattle.reach_laws.proofs.Lines.{EachLow, Still, all_own, all_still, site_own, up_low, version_still}
 use Rattle.reach_laws.proofs.Worlds.{IsNumbered, Meant, Reached, Then, happened_reached, underway_still}
 
@@ -83,7 +83,7 @@ does c roles few n s e v w here b now = acts_cases (Then c) n s v o w
     facts r = now.stand.holds r
 
     done : IsRest c w.trace → Done c v.epoch o
-    done r = next_done c w (record { followed = (facts r).followed; rest = r }) few (facts r) now.stand.good (now.stand.values r (facts r).followed) s v here e b.comes (b.stands r) (b.fact r)
+    done r = next_done c w (record { followed = (facts r).followed; rest = r }) few (facts r) now.stand.good (now.stand.values r (facts r).followed) s v here (counts_low w now.stand.calling s v here).calls e b.comes (b.stands r) (b.fact r)
 
     fine : IsRest c w.trace → AllRest c n w.trace o.told → DoesWith c n w.trace s (WriteFact c n w.trace s v.store) o
     fine r new = step_fine c roles (stays c) n s (links_of w s) w.trace v e (record { followed = (facts r).followed; rest = r }) ((facts r).places s (Running v) here) (b.fact r) new
@@ -135,21 +135,19 @@ own_stands t Parts h = tt
 own_stands t Merges h = tt
 own_stands t GivesUp h = tt
 
--- C is any property that events keep and that has the counts of sites low
-pub record Walks (C : World → Type 0) (c : Config) (lines : List ScheduleLine) (n : ℕ) (w : World) : Type 0 where
+pub record Walks (c : Config) (lines : List ScheduleLine) (n : ℕ) (w : World) : Type 0 where
   pub courses : Courses lines n w
   pub stand : PacketsStand c w
-  pub counts : C w
   pub reached : IsRest c w.trace → Reached c w
 
-module _ (C : World → Type 0) (c : Config) (lines : List ScheduleLine) (fit : LinesFit c lines) (roles : RolesDo c) (few : length c.packs ≤ 4) (kept : Kept c C) (low : (w : World) → C w → CountsAreLow w) where
+module _ (c : Config) (lines : List ScheduleLine) (fit : LinesFit c lines) (roles : RolesDo c) (few : length c.packs ≤ 4) where
   on : KeptIn c lines (Courses lines)
   on = courses_kept c lines
 
   st : KeptIn c lines (λ n w. PacketsStand c w)
   st = kept_stand c lines fit roles few
 
-  now_of : (n : ℕ) (w : World) → Walks C c lines n w → Now c w
+  now_of : (n : ℕ) (w : World) → Walks c lines n w → Now c w
   now_of n w g = record { stand = g.stand; reached = g.reached }
 
   own_brings : (n s : ℕ) (e : Event) (v : SiteView) (w : World) → place_at w s ≡ Some (Running v) → IsOwn e → (IsRest c w.trace → EventFact c w.trace s v e) → Courses lines n w → Brings c w s v e
@@ -157,7 +155,7 @@ module _ (C : World → Type 0) (c : Config) (lines : List ScheduleLine) (fit : 
       let f = step_forms (DeedsOf w.trace s) s c (links_of w s) v e (courses.good.views s v here) (courses.course.places s (Running v) here).2 (comes_own e own) in
       record { comes = own_comes e own; stands = λ r. own_stands w.trace e own; fact = fact; told = f.told; written = f.written }
 
-  sent_brings : (n : ℕ) (x : Numbered) (v : SiteView) (w : World) → place_at w x.packet.to ≡ Some (Running v) → WasSent w x → Walks C c lines n w → Brings c (passed x.number w) x.packet.to v (Receives x.packet)
+  sent_brings : (n : ℕ) (x : Numbered) (v : SiteView) (w : World) → place_at w x.packet.to ≡ Some (Running v) → WasSent w x → Walks c lines n w → Brings c (passed x.number w) x.packet.to v (Receives x.packet)
   sent_brings n x v w here sent g =
       let f = step_forms (DeedsOf w.trace x.packet.to) x.packet.to c (links_of (passed x.number w) x.packet.to) v (Receives x.packet) (g.courses.good.views x.packet.to v here) (g.courses.course.places x.packet.to (Running v) here).2 (sent_polls lines n w x sent g.courses.course) in
       record {
@@ -168,42 +166,38 @@ module _ (C : World → Type 0) (c : Config) (lines : List ScheduleLine) (fit : 
         written = f.written;
       }
 
-  pub walks_kept : KeptIn c lines (Walks C c lines)
+  pub walks_kept : KeptIn c lines (Walks c lines)
   walks_kept = record {
-    begins = λ n w le q g. record { courses = on.begins n w le q g.courses; stand = st.begins n w le q g.stand; counts = g.counts; reached = g.reached };
-    ticks = λ n most s v w at here g. (let counts = kept.steps n s Ticks v w here tt g.counts in record {
+    begins = λ n w le q g. record { courses = on.begins n w le q g.courses; stand = st.begins n w le q g.stand; reached = g.reached };
+    ticks = λ n most s v w at here g. (let stand = st.ticks n most s v w at here g.stand in record {
       courses = on.ticks n most s v w at here g.courses;
-      stand = st.ticks n most s v w at here g.stand;
-      counts = counts;
-      reached = does c roles few n s Ticks v w here (own_brings n s Ticks v w here tt (λ r. tt) g.courses) (now_of n w g) (low _ counts);
+      stand = stand;
+      reached = does c roles few n s Ticks v w here (own_brings n s Ticks v w here tt (λ r. tt) g.courses) (now_of n w g) (counts_low _ stand.calling);
     });
-    receives = λ n l x v w at d here sent g. (let counts = kept.receives n x v w here sent g.counts in record {
+    receives = λ n l x v w at d here sent g. (let stand = st.receives n l x v w at d here sent g.stand in record {
       courses = on.receives n l x v w at d here sent g.courses;
-      stand = st.receives n l x v w at d here sent g.stand;
-      counts = counts;
-      reached = does c roles few n x.packet.to (Receives x.packet) v (passed x.number w) here (sent_brings n x v w here sent g) (record { stand = st.passes n x.number w g.stand; reached = pass_reached c x.number w g.reached }) (low _ counts);
+      stand = stand;
+      reached = does c roles few n x.packet.to (Receives x.packet) v (passed x.number w) here (sent_brings n x v w here sent g) (record { stand = st.passes n x.number w g.stand; reached = pass_reached c x.number w g.reached }) (counts_low _ stand.calling);
     });
-    passes = λ n k w g. record { courses = on.passes n k w g.courses; stand = st.passes n k w g.stand; counts = kept.passes k w g.counts; reached = pass_reached c k w g.reached };
-    drops = λ n k w g. record { courses = on.drops n k w g.courses; stand = st.drops n k w g.stand; counts = kept.drops k w g.counts; reached = drop_reached c k w g.reached };
-    budgets = λ n most w at g. (let counts = kept.budgets n w g.counts in record { courses = on.budgets n most w at g.courses; stand = st.budgets n most w at g.stand; counts = counts; reached = says_reached c n (Shown says.Budget ∷ []) w (λ r. (tt, tt)) g.reached (low _ counts) });
-    voiding = λ n l w le at void g. (let counts = kept.voiding (n + 1) w g.counts in record { courses = on.voiding n l w le at void g.courses; stand = st.voiding n l w le at void g.stand; counts = counts; reached = says_reached c (n + 1) (Shown says.Void ∷ []) w (λ r. (tt, tt)) g.reached (low _ counts) });
-    steps = λ n s l e v w le at gives here g. (let counts = kept.steps (n + 1) s e v w here (own_given w l s e gives) g.counts in record {
+    passes = λ n k w g. record { courses = on.passes n k w g.courses; stand = st.passes n k w g.stand; reached = pass_reached c k w g.reached };
+    drops = λ n k w g. record { courses = on.drops n k w g.courses; stand = st.drops n k w g.stand; reached = drop_reached c k w g.reached };
+    budgets = λ n most w at g. (let stand = st.budgets n most w at g.stand in record { courses = on.budgets n most w at g.courses; stand = stand; reached = says_reached c n (Shown says.Budget ∷ []) w (λ r. (tt, tt)) g.reached (counts_low _ stand.calling) });
+    voiding = λ n l w le at void g. (let stand = st.voiding n l w le at void g.stand in record { courses = on.voiding n l w le at void g.courses; stand = stand; reached = says_reached c (n + 1) (Shown says.Void ∷ []) w (λ r. (tt, tt)) g.reached (counts_low _ stand.calling) });
+    steps = λ n s l e v w le at gives here g. (let stand = st.steps n s l e v w le at gives here g.stand in record {
       courses = on.steps n s l e v w le at gives here g.courses;
-      stand = st.steps n s l e v w le at gives here g.stand;
-      counts = counts;
-      reached = does c roles few (n + 1) s e v w here (own_brings n s e v w here (own_given w l s e gives) (λ r. event_fact c lines (n + 1) s l e v w fit at gives here) g.courses) (now_of n w g) (low _ counts);
+      stand = stand;
+      reached = does c roles few (n + 1) s e v w here (own_brings n s e v w here (own_given w l s e gives) (λ r. event_fact c lines (n + 1) s l e v w fit at gives here) g.courses) (now_of n w g) (counts_low _ stand.calling);
     });
-    cutting = λ n a b w le at cut g. record { courses = on.cutting n a b w le at cut g.courses; stand = st.cutting n a b w le at cut g.stand; counts = kept.recuts (record { one = a; other = b } ∷ w.circuits) w g.counts; reached = λ r. (let k : Reached c w = g.reached r in record { listed = k.listed; lines = k.lines }) };
-    mending = λ n a b w le at cut g. record { courses = on.mending n a b w le at cut g.courses; stand = st.mending n a b w le at cut g.stand; counts = kept.recuts (filter (λ (x : CutCircuit). not (is_between a b x)) w.circuits) w g.counts; reached = λ r. (let k : Reached c w = g.reached r in record { listed = k.listed; lines = k.lines }) };
-    arming = λ n l a w le at it g. record { courses = on.arming n l a w le at it g.courses; stand = st.arming n l a w le at it g.stand; counts = kept.arming a w g.counts; reached = λ r. (let k : Reached c w = g.reached r in record { listed = k.listed; lines = k.lines }) };
-    pending = λ n w le at g. (let counts = kept.pending (n + 1) w g.counts in record {
+    cutting = λ n a b w le at cut g. record { courses = on.cutting n a b w le at cut g.courses; stand = st.cutting n a b w le at cut g.stand; reached = λ r. (let k : Reached c w = g.reached r in record { listed = k.listed; lines = k.lines }) };
+    mending = λ n a b w le at cut g. record { courses = on.mending n a b w le at cut g.courses; stand = st.mending n a b w le at cut g.stand; reached = λ r. (let k : Reached c w = g.reached r in record { listed = k.listed; lines = k.lines }) };
+    arming = λ n l a w le at it g. record { courses = on.arming n l a w le at it g.courses; stand = st.arming n l a w le at it g.stand; reached = λ r. (let k : Reached c w = g.reached r in record { listed = k.listed; lines = k.lines }) };
+    pending = λ n w le at g. (let stand = st.pending n w le at g.stand in record {
       courses = on.pending n w le at g.courses;
-      stand = st.pending n w le at g.stand;
-      counts = counts;
-      reached = says_reached c (n + 1) (map packet_record w.underway) w (λ r. underway_still c w (few_packets w g.stand) g.stand.good (g.reached r)) g.reached (low _ counts);
+      stand = stand;
+      reached = says_reached c (n + 1) (map packet_record w.underway) w (λ r. underway_still c w (few_packets w g.stand) g.stand.good (g.reached r)) g.reached (counts_low _ stand.calling);
     });
-    stopping = λ n s v w le at here g. (let counts = kept.stopping (n + 1) s v w here g.counts in record { courses = on.stopping n s v w le at here g.courses; stand = st.stopping n s v w le at here g.stand; counts = counts; reached = stops_reached c (n + 1) s (disk_of v) _ w (tt, tt) g.reached (low _ counts) });
-    booting = λ n s d w le at here g. (let counts = kept.booting (n + 1) s d w here g.counts in record { courses = on.booting n s d w le at here g.courses; stand = st.booting n s d w le at here g.stand; counts = counts; reached = booted c (n + 1) s (boots (script_of w s) d) w g.reached (low _ counts) });
+    stopping = λ n s v w le at here g. (let stand = st.stopping n s v w le at here g.stand in record { courses = on.stopping n s v w le at here g.courses; stand = stand; reached = stops_reached c (n + 1) s (disk_of v) _ w (tt, tt) g.reached (counts_low _ stand.calling) });
+    booting = λ n s d w le at here g. (let stand = st.booting n s d w le at here g.stand in record { courses = on.booting n s d w le at here g.courses; stand = stand; reached = booted c (n + 1) s (boots (script_of w s) d) w g.reached (counts_low _ stand.calling) });
   }
     where
       few_packets : (w : World) → PacketsStand c w → w.packets ≤ 134479872

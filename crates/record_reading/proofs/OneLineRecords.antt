@@ -208,6 +208,11 @@ call_line (call.RemoveDir path) h = j1 (codes "rmdir ") path refl (word_line pat
 call_line (call.Rename path name) h = let p = and_parts (is_word path) (is_word name) h in j2 (codes "rename ") path name refl (word_line path p.0) (word_line name p.1)
 call_line (call.List path) h = j1 (codes "list ") path refl (word_line path h)
 call_line (call.Stat path) h = j1 (codes "stat ") path refl (word_line path h)
+call_line (call.Mail path bytes) h =
+    let d = and_parts (is_word path && is_between 1 4096 (length bytes)) (list_all is_byte bytes) h in
+    let a = and_parts (is_word path) (is_between 1 4096 (length bytes)) d.0 in
+    j2 (codes "mail ") path (hex_text bytes) refl (word_line path a.0) (data_line 4096 bytes (data_of 4096 bytes (and_both _ _ a.1 d.1)))
+call_line (call.Mails path) h = j1 (codes "mails ") path refl (word_line path h)
 call_line (call.Open path mode) h = let p = and_parts (is_word path) (fits_mode sites_max mode) h in j2 (codes "open ") path (opening_text mode) refl (word_line path p.0) (opening_line mode p.1)
 call_line (call.Read fd at len) h =
     let a = and_parts (is_descriptor fd && nat_le at file_bytes_max) (nat_le len 4096) h in

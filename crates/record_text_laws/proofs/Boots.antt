@@ -1,33 +1,16 @@
 -- The boot numbers that records say.
-use Rattle.std.proofs.Common.{◌≡◌, ◌≤◌, ◌<◌, ℕ, ◌==◌, Bool, true, false, cond, List, [], ◌∷◌, Some, refl, ap, arith}
-use Rattle.plain_facts.proofs.Numbers.{equal, less}
+use Rattle.std.proofs.Common.{◌≤◌, ℕ, ◌≡◌, List, [], ◌∷◌, Some, arith}
 use Rattle.locus_ids.specs.declared.config.Config.{Config}
 use Rattle.schedule_lines.specs.declared.line.ScheduleLine.{ScheduleLine}
-use Rattle.trace_book.specs.declared.record.Record.{Record}
-use Rattle.trace_book.specs.declared.record.Record.TheVariants as says
-use Rattle.tree_model.specs.Epochs.{boot_after, boot_of}
+use Rattle.tree_model.specs.Epochs.{boot_of}
 use Rattle.tree_model.specs.Folds.{Trace}
-use Rattle.row_laws.specs.Course.{StandsAs}
-use Rattle.row_laws.specs.Rows.{IsSiteRow, SiteRecordRow}
+use Rattle.row_laws.specs.Rows.{IsSiteRow}
 use Rattle.row_laws.specs.Shown.{EachRecord, trace_of}
-use Rattle.row_laws.proofs.AskedRun.{run_courses}
+use Rattle.row_laws.proofs.Boots.{boot_step, run_boots_told}
 use Rattle.row_laws.proofs.SitesGoOn.{run_sites}
-use Rattle.the_run.specs.Laws.{boot_on, boot_number}
 use Rattle.the_run.specs.Runs.{run_in}
-use Rattle.the_run.specs.Worlds.{World, Place, Running, Stopped, place_at}
-use Rattle.packet_fit_laws.proofs.Boots.{run_boots_low}
+use Rattle.the_run.specs.Worlds.{Place, place_at}
 use Rattle.record_text_laws.specs.Texts.{BootsAreLow}
-
--- a record leaves a site's boot number, or gives it a greater one
-boot_step : (before : Trace) (r : Record) (site : ℕ) → SiteRecordRow before r → boot_of before site ≤ boot_after r site (boot_of before site)
-boot_step before (says.Up s boot) site row = at (s == site) refl where
-  above : boot_of before s < boot
-  above = less (boot_of before s) boot row.above
-
-  at : (b : Bool) → (s == site) ≡ b → boot_of before site ≤ cond b boot (boot_of before site)
-  at true e = let same : boot_of before s ≡ boot_of before site = ap (boot_of before) (equal s site e) in omega (arith, same, above)
-  at false e = omega arith
-boot_step before _ site row = omega arith
 
 rises : (site : ℕ) (trace : Trace) → EachRecord IsSiteRow trace → boot_of trace site ≤ 134217729 → EachRecord (BootsAreLow site) trace
 rises site [] rows low = tt
@@ -36,14 +19,5 @@ rises site (r ∷ before) rows low =
     let earlier : boot_of before site ≤ 134217729 = omega arith in
     (record { before_it = earlier; after_it = low }, rises site before rows.1 earlier)
 
--- a site that has a place stands by the records as it is
-low_there : (w : World) (site : ℕ) (p : Place) → boot_number w site ≤ 134217729 → place_at w site ≡ Some p → StandsAs (trace_of w) site p → boot_of (trace_of w) site ≤ 134217729
-low_there w site (Running v) low here stands =
-    let own : boot_number w site ≡ v.boot = ap boot_on here in
-    let is : boot_of (trace_of w) site ≡ v.boot = stands.1 in omega arith
-low_there w site (Stopped d) low here stands =
-    let own : boot_number w site ≡ d.label.boot = ap boot_on here in
-    let is : boot_of (trace_of w) site ≤ d.label.boot = stands.1 in omega arith
-
 pub run_boots : (c : Config) (lines : List ScheduleLine) (site : ℕ) (p : Place) → place_at (run_in c lines) site ≡ Some p → EachRecord (BootsAreLow site) (trace_of (run_in c lines))
-run_boots c lines site p here = rises site (trace_of (run_in c lines)) (run_sites c lines) (low_there (run_in c lines) site p (run_boots_low c lines site) here ((run_courses c lines).course.places site p here))
+run_boots c lines site p here = rises site (trace_of (run_in c lines)) (run_sites c lines) (run_boots_told c lines site p here)

@@ -14,7 +14,7 @@ use Rattle.the_run.specs.Steps.{step}
 use Rattle.the_run.specs.Worlds.{World, Line, Limit, links_of, script_of, happened, happened_of, unless_over, limit_passed, told_onto, told_size, packet_size, acts, passed, stops_with, cut_told}
 use Rattle.the_run.proofs.Boots.{acts_cases}
 use Rattle.the_run.proofs.Runs.{every_run}
-use Rattle.packet_fit_laws.proofs.Boots.{run_low, some_text}
+use Rattle.packet_fit_laws.proofs.of_run_laws.Boots.{run_low, some_text}
 
 -- no more records than bytes of text
 pub record Few (w : World) : Type 0 where

@@ -59,34 +59,34 @@ use Rattle.rest_laws.proofs.AdoptionHaving.{HasOrWaits, granted_had}
 -- ---- who has its file open asks ----
 
 module _ (c : Config) (t : List Line) (h : IsFollowed c t) (d : CallId) (w : Waiting) (e : EpochId) (f : FileId) (named : call_named (entries t) d ≡ Some w) (made_in : w.epoch ≡ Some e) (words : w.words ≡ call.Mend f) where
-  starts : begun (entries t) d ≡ Some begins.Walks
-  starts = k.begun_is ∙ ap Some (ap (λ (o : Option EpochId). beginning k.table o w.words) made_in ∙ ap (beginning k.table (Some e)) words)
+  starts : begun (entries t) d ≡ Some (begins.Walks d)
+  starts = k.begun_is ∙ ap Some (ap (λ (o : Option EpochId). beginning k.table o d w.words) made_in ∙ ap (beginning k.table (Some e) d) words)
     where
       k : Began t d w
       k = began t d w named
 
   abbrev goes : List Answer → Want
-  goes = wants c.mounts (is_packed_in c (entries t) w.epoch) None w.words begins.Walks
+  goes = wants c.mounts (is_packed_in c (entries t) w.epoch) None w.words (begins.Walks d)
 
   same : (xs : List Answer) → script c (entries t) d None xs ≡ goes xs
-  same xs = script_by c t d w begins.Walks None xs named starts
+  same xs = script_by c t d w (begins.Walks d) None xs named starts
 
-  ends : GivesNone (goes (log t d)) (has_by goes (begun_with begins.Walks) (log t d))
-  ends = wants_end c.mounts (is_packed_in c (entries t) w.epoch) None w.words (begun_with begins.Walks) (λ i e. true_false (sym e)) (subst WalksWords (sym words) tt) (subst NotOpen (sym words) tt) (log t d)
+  ends : GivesNone (goes (log t d)) (has_by goes (begun_with (begins.Walks d)) (log t d))
+  ends = wants_end c.mounts (is_packed_in c (entries t) w.epoch) None d w.words (begun_with (begins.Walks d)) (λ i e. true_false (sym e)) (subst WalksWords (sym words) tt) (subst NotOpen (sym words) tt) (log t d)
       (fit_same (script c (entries t) d None) goes (log t d) same (log_fits c t d h (w, named)))
 
-  there : (i : Serial) → has_instances c t d i ≡ true → has_by goes (begun_with begins.Walks) (log t d) i ≡ true
-  there i has = sym (by_same (script c (entries t) d None) goes (begun_with begins.Walks) (log t d) i same)
+  there : (i : Serial) → has_instances c t d i ≡ true → has_by goes (begun_with (begins.Walks d)) (log t d) i ≡ true
+  there i has = sym (by_same (script c (entries t) d None) goes (begun_with (begins.Walks d)) (log t d) i same)
       ∙ (sym (ap (λ (o : Option Beginning). has_by (script c (entries t) d None) (with_begun o) (log t d) i) starts) ∙ (sym (has_log c t h d (w, named) i) ∙ has))
 
   sound : IsSound w.words None (asked_now c t d)
-  sound = script_sound c t d w begins.Walks None h named starts (subst (HasFree None begins.Walks) (sym words) tt)
+  sound = script_sound c t d w (begins.Walks d) None h named starts (subst (HasFree None (begins.Walks d)) (sym words) tt)
 
   having_asks : (i : Serial) → has_instances c t d i ≡ true → is_request (asked_now c t d) ≡ true
   having_asks i has = over (asked_now c t d) refl
     where
       over : (x : Want) → asked_now c t d ≡ x → is_request x ≡ true
-      over (want.Give r) is = absurd (subst (λ (y : Want). GivesNone y (has_by goes (begun_with begins.Walks) (log t d))) (sym (same (log t d)) ∙ is) ends i (there i has))
+      over (want.Give r) is = absurd (subst (λ (y : Want). GivesNone y (has_by goes (begun_with (begins.Walks d)) (log t d))) (sym (same (log t d)) ∙ is) ends i (there i has))
       over want.Never is = absurd (subst (IsSound w.words None) is sound)
       over x is = refl
 

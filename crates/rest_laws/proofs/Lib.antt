@@ -66,6 +66,7 @@ pub mod AdoptionAdopting
 pub mod AdoptionChoosing
 pub mod Shown
 pub mod Ranges
+pub mod Numbering
 pub mod Fresh
 pub mod Resting
 pub mod Premises

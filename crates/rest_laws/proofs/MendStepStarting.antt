@@ -66,7 +66,7 @@ keyed c (x ∷ older) h d w e = over x.told h.0 (keyed c older h.1 d w) e
     of (says.Accept s process new words) rest later k = at (same_call new d) k
       where
         at : (b : Bool) → cond b (Some (accepted_as (entries older) s process new words)) (call_named (entries older) d) ≡ Some w → IsKeyed w.process w.words
-        at true m = subst (λ (y : Waiting). IsKeyed y.process y.words) (some_same (accepted_as (entries older) s process new words) w m) (keyed_call c s process words rest.range)
+        at true m = subst (λ (y : Waiting). IsKeyed y.process y.words) (some_same (accepted_as (entries older) s process new words) w m) (keyed_call c s process words rest.range.0)
         at false m = later m
     of r rest later k = later k
 

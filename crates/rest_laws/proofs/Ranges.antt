@@ -67,7 +67,7 @@ listed_site m (suc k) boot e low short = record { low = omega arith; high = up (
 
 -- ---- calls ----
 
-call_fits : (n s process : ℕ) (words : Call) → fits_event n (line.Call s process words) ≡ true → (is_site n s ≡ true) × ((is_between 1 8 process ≡ true) × (fits_call n words ≡ true))
+pub call_fits : (n s process : ℕ) (words : Call) → fits_event n (line.Call s process words) ≡ true → (is_site n s ≡ true) × ((is_between 1 8 process ≡ true) × (fits_call n words ≡ true))
 call_fits n s process words h = over (is_site n s) (is_between 1 8 process) h
   where
     over : (a b : Bool) → (a && b && fits_call n words) ≡ true → (a ≡ true) × ((b ≡ true) × (fits_call n words ≡ true))

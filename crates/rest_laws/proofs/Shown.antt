@@ -7,6 +7,8 @@ use Rattle.role_steps.specs.Views.{Told, Shown}
 use Rattle.the_run.specs.Runs.{run_in}
 use Rattle.the_run.specs.Worlds.{Line}
 use Rattle.tree_model.specs.Folds.{Trace}
+use Rattle.one_tree_laws.specs.of_call_row_laws.Accepting.{IsAcceptRow}
+use Rattle.one_tree_laws.proofs.of_call_row_laws.CallsRun.{run_accepts}
 use Rattle.one_tree_laws.specs.of_row_laws.Shown.{EachRecord, shown, with_told}
 use Rattle.one_tree_laws.specs.of_row_laws.Rows.{IsAskedFor, IsMemberRow, IsShortRow, IsSiteRow}
 use Rattle.one_tree_laws.specs.of_row_laws.Voids.{LinesFit}
@@ -30,11 +32,12 @@ pub record IsRow (lines : List ScheduleLine) (before : Trace) (r : Entry) : Type
   pub member : IsMemberRow before r
   pub short : IsShortRow before r
   pub asked : IsAskedFor lines before r
+  pub accept : IsAcceptRow before r
 
-all_rows : (lines : List ScheduleLine) (t : Trace) → EachRecord IsSiteRow t → EachRecord IsMemberRow t → EachRecord IsShortRow t → EachRecord (IsAskedFor lines) t → EachRecord (IsRow lines) t
-all_rows lines [] a b d e = tt
-all_rows lines (r ∷ before) a b d e = (record { site = a.0; member = b.0; short = d.0; asked = e.0 }, all_rows lines before a.1 b.1 d.1 e.1)
+all_rows : (lines : List ScheduleLine) (t : Trace) → EachRecord IsSiteRow t → EachRecord IsMemberRow t → EachRecord IsShortRow t → EachRecord (IsAskedFor lines) t → EachRecord IsAcceptRow t → EachRecord (IsRow lines) t
+all_rows lines [] a b d e f = tt
+all_rows lines (r ∷ before) a b d e f = (record { site = a.0; member = b.0; short = d.0; asked = e.0; accept = f.0 }, all_rows lines before a.1 b.1 d.1 e.1 f.1)
 
 pub run_rows : (c : Config) (lines : List ScheduleLine) → LinesFit c lines → EachRecord (IsRow lines) (entries (run_in c lines).trace)
 run_rows c lines fit = subst (EachRecord (IsRow lines)) (shown_entries (run_in c lines).trace)
-    (all_rows lines (shown (run_in c lines).trace) (run_sites c lines) (run_members c lines (cuts_none c lines fit)) (run_lists c lines) (run_asked c lines))
+    (all_rows lines (shown (run_in c lines).trace) (run_sites c lines) (run_members c lines (cuts_none c lines fit)) (run_lists c lines) (run_asked c lines) (run_accepts c lines fit))

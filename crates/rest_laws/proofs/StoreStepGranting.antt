@@ -146,14 +146,14 @@ on_written table now fd e i (Some x) is k = at (is_in now x.epoch) (is_read x.mo
         record { fd = fd; stands = x; found = is; epoch_is = uses_epoch x.epoch e x.inst i u; serial_is = uses_serial x.epoch e x.inst i u; inside = in_now now x.epoch p ∙ ap Some (uses_epoch x.epoch e x.inst i u); writes = q })
     at false b p q k = absurd (denied_uses _ e i (rw p at k))
 
-written_on : (table : ℕ → Option Descriptor) (now : Option EpochId) (words : Call) (e : EpochId) (i : Serial) → IsWrite words → beginning table now words ≡ begins.Uses e i → Writable table now e i
-written_on table now (call.Write fd at bytes) e i w k = over (is_too_long (call.Write fd at bytes)) k
+written_on : (table : ℕ → Option Descriptor) (now : Option EpochId) (id : CallId) (words : Call) (e : EpochId) (i : Serial) → IsWrite words → beginning table now id words ≡ begins.Uses e i → Writable table now e i
+written_on table now id (call.Write fd at bytes) e i w k = over (is_too_long (call.Write fd at bytes)) k
   where
     over : (b : Bool) → cond b (begins.Denied refusal.TooLong) (begins_on true now (table fd)) ≡ begins.Uses e i → Writable table now e i
     over true m = absurd (denied_uses _ e i m)
     over false m = on_written table now fd e i (table fd) refl m
-written_on table now (call.Cut fd len) e i w k = on_written table now fd e i (table fd) refl k
-written_on table now _ e i w k = absurd w
+written_on table now id (call.Cut fd len) e i w k = on_written table now fd e i (table fd) refl k
+written_on table now id _ e i w k = absurd w
 
 -- the instance that a write or a cut uses was granted so, in the epoch in which the call was made
 pub record UsesWritten (t : List Line) (w : Waiting) (e : EpochId) (i : Serial) : Type 0 where
@@ -173,10 +173,10 @@ uses_written (y ∷ older) d w e i named starts is = over y.told named starts (u
     stays : (z : Told) → UsesWritten older w e i → now z
     stays z k = record { epoch_is = k.epoch_is; granted = grant_stays (record { number = y.number; told = z }) older e i k.granted }
 
-    accepts : (z : Told) (s process : ℕ) (it : CallId) (words : Call) (b : Bool) → cond b (Some (accepted_as (entries older) s process it words)) (call_named (entries older) d) ≡ Some w → cond b (Some (begins_now (entries older) s process words)) (begun (entries older) d) ≡ Some (begins.Uses e i) → Before → now z
+    accepts : (z : Told) (s process : ℕ) (it : CallId) (words : Call) (b : Bool) → cond b (Some (accepted_as (entries older) s process it words)) (call_named (entries older) d) ≡ Some w → cond b (Some (begins_now (entries older) s process it words)) (begun (entries older) d) ≡ Some (begins.Uses e i) → Before → now z
     accepts z s process it words true named starts before =
         let own : accepted_as (entries older) s process it words ≡ w = some_same (accepted_as (entries older) s process it words) w named in
-        let k : Writable (descriptor (entries older) s process) (epoch_of (entries older) s) e i = written_on (descriptor (entries older) s process) (epoch_of (entries older) s) words e i (subst (λ (v : Waiting). IsWrite v.words) (sym own) is) (some_same (begins_now (entries older) s process words) (begins.Uses e i) starts) in
+        let k : Writable (descriptor (entries older) s process) (epoch_of (entries older) s) e i = written_on (descriptor (entries older) s process) (epoch_of (entries older) s) it words e i (subst (λ (v : Waiting). IsWrite v.words) (sym own) is) (some_same (begins_now (entries older) s process it words) (begins.Uses e i) starts) in
         record {
           epoch_is = ap (λ (v : Waiting). v.epoch) (sym own) ∙ k.inside;
           granted = grant_stays (record { number = y.number; told = z }) older e i (subst (λ (j : Serial). GrantedToWrite older e j) k.serial_is (subst (λ (g : EpochId). GrantedToWrite older g k.stands.inst) k.epoch_is (descriptor_granted older s process k.fd k.stands k.found k.writes)));

@@ -29,7 +29,7 @@ use Rattle.tree_laws.specs.Following.{IsFollowed, MayTell}
 use Rattle.tree_laws.specs.Printed.{entries, onto_entries}
 use Rattle.tree_laws.proofs.Names.{same_call_eq}
 use Rattle.one_tree_laws.proofs.of_order_laws.Standing.{same_file_eq}
-use Rattle.one_tree_laws.specs.Rest.{AskedCall, EachRest, RangeCall, RangeTold}
+use Rattle.one_tree_laws.specs.Rest.{AskedCall, EachRest, IsNumberedLow, RangeCall, RangeTold}
 use Rattle.rest_laws.specs.StoreStepKnown.{IsKnownCall}
 
 -- ---- who is in an epoch ----
@@ -62,12 +62,13 @@ inside_site c (x ∷ older) h s e k = over x.told h.0.range k (inside_site c old
 
 -- ---- who calls ----
 
-plain_known : (c : Config) (older : List Line) (s process : ℕ) (id : CallId) (words : Call) → AskedCall c s process words → RangeCall c s process words → MayAccept (entries older) s process id → IsKnownCall c id (accepted_as (entries older) s process id words)
-plain_known c older s process id words asked range row = record {
+plain_known : (c : Config) (older : List Line) (s process : ℕ) (id : CallId) (words : Call) → AskedCall c s process words → RangeCall c s process words → IsNumberedLow id words → MayAccept (entries older) s process id → IsKnownCall c id (accepted_as (entries older) s process id words)
+plain_known c older s process id words asked range name row = record {
   site = subst IsSite (sym its) asked.site;
   small = asked.process_high;
   only = λ e. absurd (never process e asked.process_low);
   range = subst (λ (z : ℕ). RangeCall c z process words) (sym its) range;
+  name = name;
 }
   where
     its : id.site ≡ s
@@ -79,14 +80,15 @@ plain_known c older s process id words asked range row = record {
 byte_zero : (p : ℕ) → p ≡ 0 → p < 256
 byte_zero p e = omega (arith, e)
 
-accept_known : (c : Config) (older : List Line) (s process : ℕ) (id : CallId) (words : Call) → EachRest c older → RangeCall c s process words → CallRow c (entries older) s process id words → IsKnownCall c id (accepted_as (entries older) s process id words)
-accept_known c older s process id (call.Mend file) h range row = record {
+accept_known : (c : Config) (older : List Line) (s process : ℕ) (id : CallId) (words : Call) → EachRest c older → RangeCall c s process words → IsNumberedLow id words → CallRow c (entries older) s process id words → IsKnownCall c id (accepted_as (entries older) s process id words)
+accept_known c older s process id (call.Mend file) h range name row = record {
   site = subst IsSite (sym (ap (λ (d : CallId). d.site) row.numbered)) (inside_site c older h s row.epoch row.inside);
   small = byte_zero process row.system;
   only = λ e. tt;
   range = tt;
+  name = tt;
 }
-accept_known c older s process id words h range row = plain_known c older s process id _ range range row
+accept_known c older s process id words h range name row = plain_known c older s process id _ range range name row
 
 pub known_call : (c : Config) (t : List Line) → IsFollowed c t → EachRest c t → (d : CallId) (w : Waiting) → call_named (entries t) d ≡ Some w → IsKnownCall c d w
 known_call c [] h g d w k = absurd (none_some w k)
@@ -100,7 +102,7 @@ known_call c (x ∷ older) h g d w k = over x.told h.0 g.0.range k (known_call c
     accepts id y false e known k later = later k
 
     printed : (r : Record) → MayTell c older (Shown r) → RangeTold c (Shown r) → call_after r (entries older) d (call_named (entries older) d) ≡ Some w → Before → IsKnownCall c d w
-    printed (says.Accept s process id words) may range k later = accepts id (accepted_as (entries older) s process id words) (same_call id d) refl (accept_known c older s process id words g.1 range may.row) k later
+    printed (says.Accept s process id words) may range k later = accepts id (accepted_as (entries older) s process id words) (same_call id d) refl (accept_known c older s process id words g.1 range.0 range.1 may.row) k later
     printed _ may range k later = later k
 
     over : (y : Told) → MayTell c older y → RangeTold c y → call_named (onto_entries x.number y (entries older)) d ≡ Some w → Before → IsKnownCall c d w

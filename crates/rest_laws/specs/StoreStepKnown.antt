@@ -5,11 +5,13 @@ use Rattle.locus_ids.specs.declared.ids.CallId.{CallId}
 use Rattle.one_tree_laws.specs.of_vector_laws.HistoryCommits.{IsSite}
 use Rattle.tree_model.specs.declared.accepted.Waiting.{Waiting}
 use Rattle.tree_laws.specs.Processes.{IsMend}
-use Rattle.one_tree_laws.specs.Rest.{RangeCall}
+use Rattle.one_tree_laws.specs.Rest.{IsNumberedLow, RangeCall}
 
--- the call is of one of the sites, and of a process of one byte, of which 0 makes mends alone; where a line asked it, it is in range
+-- the call is of one of the sites, and of a process of one byte, of which 0 makes mends alone; where a line asked it, it is in range, and its name
+-- has numbers of 32 bits
 pub record IsKnownCall (c : Config) (d : CallId) (w : Waiting) : Type 0 where
   pub site : IsSite d.site
   pub small : w.process < 256
   pub only : w.process ≡ 0 → IsMend w.words
   pub range : RangeCall c d.site w.process w.words
+  pub name : IsNumberedLow d w.words

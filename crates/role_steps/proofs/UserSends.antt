@@ -19,7 +19,7 @@ use Rattle.role_steps.specs.Tables.{first_that}
 use Rattle.role_steps.specs.Views.{Frame, Users}
 use Rattle.role_steps.specs.Requests.{descriptors_of, request_packets, asks_op_of, asks_close_of, user_instance, users_repeats}
 use Rattle.call_rules.specs.Descriptors.{beginning}
-use Rattle.role_steps.specs.Using.{accepted, frees, with_brought, content_answer, asks_want, next_want, goes_on, on_call, takes_answer, with_answer, takes_open, on_open_done_of, on_open_done, on_op_done_of, on_op_done, on_close_done_of, on_close_done, looks_again, takes_look, on_look_done_of, on_look_done, asks_open_of, asks_op_number, asks_take}
+use Rattle.role_steps.specs.Using.{accepted, frees, with_brought, content_answer, asks_want, next_want, goes_on, on_call, takes_answer, with_answer, takes_open, on_open_done_of, on_open_done, on_op_done_of, on_op_done, on_close_done_of, on_close_done, looks_again, takes_look, on_look_done_of, on_look_done, asks_open_of, asks_op_number, asks_take, own_call}
 use Rattle.role_steps.specs.Using as using
 use Rattle.role_steps.specs.declared.users.Asking.{Asking}
 use Rattle.role_steps.specs.declared.users.Asking.TheVariants as asking
@@ -60,7 +60,7 @@ goes_on_sent P f h w u = asks_want_sent P f h w (next_want f w u) u
 
 pub on_call_sent : (P : Packet → Type 0) (f : Frame) → OfFrame P f → (now : Option EpochId) (process : ℕ) (words : Call) (u : Users) → AllSent P (on_call f now process words u)
 on_call_sent P f h now process words u =
-    goes_on_sent P f h (accepted process (u.calls + 1) words (beginning (descriptors_of u process) now words)) (frees process words (record u { calls = u.calls + 1 }))
+    goes_on_sent P f h (accepted process (u.calls + 1) words (beginning (descriptors_of u process) now (own_call f.me f.boot (u.calls + 1)) words)) (frees process words (record u { calls = u.calls + 1 }))
 
 takes_answer_sent : (P : Packet → Type 0) (f : Frame) → OfFrame P f → (w : WaitingCall) (a : Answer) (u : Users) → AllSent P (takes_answer f w a u)
 takes_answer_sent P f h w a u = goes_on_sent P f h (with_answer w a) u

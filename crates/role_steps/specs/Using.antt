@@ -144,7 +144,7 @@ accept_record me boot process n words = Shown (says.Accept me process (own_call 
 abbrev pub on_call : Frame → Option EpochId → ℕ → Call → Users → Outcome Users
 on_call f now process words u =
     let n : ℕ = u.calls + 1 in
-    let w : WaitingCall = accepted process n words (beginning (descriptors_of u process) now words) in
+    let w : WaitingCall = accepted process n words (beginning (descriptors_of u process) now (own_call f.me f.boot n) words) in
     let counted : Users = frees process words (record u { calls = n }) in
     and_then (tells (accept_record f.me f.boot process n words ∷ []) counted) (goes_on f w)
 

@@ -2,7 +2,7 @@
 use crate::given::{given, is_text};
 use call_rules::{Answer, Want};
 use call_scripts::Script;
-use locus_ids::{FileId, Kind, Mounts, Names, Refusal, Sites};
+use locus_ids::{CallId, FileId, Kind, Mounts, Names, Refusal, Sites};
 use role_shown::{bytes, epoch, inst, mounts, push_file, push_op, push_reply, stamp};
 use std::alloc::Global;
 use std::process::Abort;
@@ -20,7 +20,12 @@ struct Calling {
 impl Calling {
     /// A call that walks a path.
     fn walks(alloc: Global, words: Call) -> Result<Calling, Fail> {
-        Calling::begins(alloc, words, Beginning::Walks)
+        let call = CallId {
+            site: 1,
+            boot: 1,
+            n: 2,
+        };
+        Calling::begins(alloc, words, Beginning::Walks { call })
     }
 
     /// A call on instance 1.1 of epoch 1.1.1.
@@ -147,6 +152,43 @@ fn an_answer_that_is_taken_back_was_not_heard(rt: HostRuntime) {
     call.script.take_back();
     is_text(&rt, call.next(), "open 0.1");
     assert!(rt; call.script.answers().len() == 0);
+}
+
+/// A mail to `/a`, once the box is open and nothing there has the name of its message.
+fn mailing<R: Abort + Eprint>(rt: &R, alloc: Global) -> Calling {
+    let path = given(rt, bytes(alloc, "/a"));
+    let message = given(rt, bytes(alloc, "hi"));
+    let words = Call::Mail {
+        path,
+        bytes: message,
+    };
+    let mut call = given(rt, Calling::walks(alloc, words));
+    let kind = Kind::Dir;
+    given(rt, call.hears(Answer::Entered { ino: 2, kind }));
+    given(rt, call.opened(1, 2));
+    given(rt, call.did());
+    call
+}
+
+#[test]
+fn a_message_is_written_before_it_is_named(rt: HostRuntime) {
+    let mut call = mailing(&rt, rt.alloc());
+    is_text(&rt, call.next(), "make in 0");
+    is_text(&rt, call.opened(2, 65), "i1.2 0 write 0 6869");
+    is_text(&rt, call.did(), "close 2");
+    is_text(&rt, call.ended(), "i1.1 0 insert m1.1.2 65 f");
+    is_text(&rt, call.did(), "close 1");
+    is_text(&rt, call.ended(), "ok m1.1.2");
+}
+
+#[test]
+fn a_message_that_cant_be_written_is_closed_before_its_box(rt: HostRuntime) {
+    let mut call = mailing(&rt, rt.alloc());
+    given(&rt, call.opened(2, 65));
+    let why = Refusal::NoSpace { needed: 1, free: 0 };
+    is_text(&rt, call.refused(why), "close 2");
+    is_text(&rt, call.ended(), "close 1");
+    is_text(&rt, call.ended(), "nospace 1 0");
 }
 
 /// An unlink of `/a`, once its directory is open and its entry is found.

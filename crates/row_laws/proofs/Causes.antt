@@ -203,6 +203,8 @@ call_line lines n site process (call.RemoveDir path) is = record { asked = is }
 call_line lines n site process (call.Rename path name) is = record { asked = is }
 call_line lines n site process (call.List path) is = record { asked = is }
 call_line lines n site process (call.Stat path) is = record { asked = is }
+call_line lines n site process (call.Mail path bytes) is = record { asked = is }
+call_line lines n site process (call.Mails path) is = record { asked = is }
 call_line lines n site process (call.Open path mode) is = record { asked = is }
 call_line lines n site process (call.Read fd at len) is = record { asked = is }
 call_line lines n site process (call.Write fd at bytes) is = record { asked = is }

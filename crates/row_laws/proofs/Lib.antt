@@ -20,6 +20,7 @@ pub mod Voids
 pub mod Tales
 pub mod TalesKept
 pub mod Fitting
+pub mod Boots
 pub use Rattle.lock_laws.proofs as of_lock_laws
 pub use Rattle.lock_laws.proofs.of_run_laws as of_run_laws
 pub use Rattle.lock_laws.proofs.of_vector_laws as of_vector_laws

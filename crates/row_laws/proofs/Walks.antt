@@ -27,7 +27,7 @@ use Rattle.role_steps.specs.OperationEffects.{Mending}
 use Rattle.role_steps.specs.Pulling.{on_notify, on_page}
 use Rattle.role_steps.specs.Versions.{file_row}
 use Rattle.role_steps.specs.Requests.{descriptors_of, waiting_span}
-use Rattle.role_steps.specs.Using.{accepted, frees, goes_on}
+use Rattle.role_steps.specs.Using.{accepted, frees, goes_on, own_call}
 use Rattle.role_steps.specs.Epochs.{frame_in}
 use Rattle.role_steps.specs.declared.copies.FileCopy.{FileCopy}
 use Rattle.role_steps.specs.declared.pulls.Pull.{Pull}
@@ -179,8 +179,8 @@ inside_inward f e v = repeats_inside_walk inwardly f (keeps f) e v
 
 -- a call that is accepted, after the record of it
 pub on_call_rest : (f : Frame) (now : Option EpochId) (process : ℕ) (words : Call) (u : Users) →
-    Inwardly (goes_on f (accepted process (u.calls + 1) words (beginning (descriptors_of u process) now words)) (frees process words (record u { calls = u.calls + 1 })))
-on_call_rest f now process words u = goes_on_walk inwardly f (keeps f).users (accepted process (u.calls + 1) words (beginning (descriptors_of u process) now words)) (frees process words (record u { calls = u.calls + 1 }))
+    Inwardly (goes_on f (accepted process (u.calls + 1) words (beginning (descriptors_of u process) now (own_call f.me f.boot (u.calls + 1)) words)) (frees process words (record u { calls = u.calls + 1 })))
+on_call_rest f now process words u = goes_on_walk inwardly f (keeps f).users (accepted process (u.calls + 1) words (beginning (descriptors_of u process) now (own_call f.me f.boot (u.calls + 1)) words)) (frees process words (record u { calls = u.calls + 1 }))
 
 -- ---- tables and stores ----
 

@@ -1,5 +1,6 @@
 -- What a site does inside its epoch: it tells nothing of how it stands, and all that it sends names that epoch.
 use Rattle.std.proofs.Common.{ℕ, ◌≡◌, ◌+◌, true, false, Bool, cond, List, [], Option, Some, None, refl, sym, subst}
+use Rattle.locus_ids.specs.declared.ids.CallId.{CallId}
 use Rattle.locus_ids.specs.declared.config.Config.{Config}
 use Rattle.locus_ids.specs.declared.refusal.Refusal.{Refusal}
 use Rattle.trace_book.specs.declared.call.Call.{Call}
@@ -31,6 +32,7 @@ use Rattle.law_walks.proofs.Premises.{every_unit, frame_keeps, frame_answers}
 use Rattle.law_walks.proofs.RoleWalks.{on_call_walk}
 use Rattle.law_walks.proofs.SiteWalks.{adopts_of_walk, tries_walk, mends_of_walk, framed_walk, repeats_inside_walk}
 use Rattle.run_laws.specs.Words.{Inside, InsideWrite}
+use Rattle.law_walks.specs.of_role_steps.Using.{own_call}
 use Rattle.run_laws.proofs.Telling.{on_call_talks, tells_talk, talk_inside, version_inside}
 
 -- ---- a call outside of an epoch is refused at once ----
@@ -42,30 +44,32 @@ on_denied : (changes : Bool) (d : Option Descriptor) → IsDenied (begins_on cha
 on_denied changes None = (_, refl)
 on_denied changes (Some d) = (_, refl)
 
-open_denied : (free : Option ℕ) → IsDenied (begins_open None free)
-open_denied None = (_, refl)
-open_denied (Some fd) = (_, refl)
+open_denied : (id : CallId) (free : Option ℕ) → IsDenied (begins_open None id free)
+open_denied id None = (_, refl)
+open_denied id (Some fd) = (_, refl)
 
 write_denied : (long : Bool) (d : Option Descriptor) (why : Refusal) → IsDenied (cond long (Denied why) (begins_on true None d))
 write_denied true d why = (why, refl)
 write_denied false d why = on_denied true d
 
-denied : (table : ℕ → Option Descriptor) (words : Call) → IsDenied (beginning table None words)
-denied table (call.Open path mode) = open_denied (lowest_free table)
-denied table (call.Read fd at len) = on_denied false (table fd)
-denied table (call.Write fd at bytes) = write_denied (is_too_long (call.Write fd at bytes)) (table fd) _
-denied table (call.Cut fd len) = on_denied true (table fd)
-denied table (call.Commit fd) = on_denied true (table fd)
-denied table (call.Abort fd) = on_denied true (table fd)
-denied table (call.Close fd) = on_denied false (table fd)
-denied table (call.Create path sites) = (_, refl)
-denied table (call.MakeDir path) = (_, refl)
-denied table (call.Unlink path) = (_, refl)
-denied table (call.RemoveDir path) = (_, refl)
-denied table (call.Rename path name) = (_, refl)
-denied table (call.List path) = (_, refl)
-denied table (call.Stat path) = (_, refl)
-denied table (call.Mend file) = (_, refl)
+denied : (table : ℕ → Option Descriptor) (id : CallId) (words : Call) → IsDenied (beginning table None id words)
+denied table id (call.Open path mode) = open_denied id (lowest_free table)
+denied table id (call.Read fd at len) = on_denied false (table fd)
+denied table id (call.Write fd at bytes) = write_denied (is_too_long (call.Write fd at bytes)) (table fd) _
+denied table id (call.Cut fd len) = on_denied true (table fd)
+denied table id (call.Commit fd) = on_denied true (table fd)
+denied table id (call.Abort fd) = on_denied true (table fd)
+denied table id (call.Close fd) = on_denied false (table fd)
+denied table id (call.Create path sites) = (_, refl)
+denied table id (call.MakeDir path) = (_, refl)
+denied table id (call.Unlink path) = (_, refl)
+denied table id (call.RemoveDir path) = (_, refl)
+denied table id (call.Rename path name) = (_, refl)
+denied table id (call.List path) = (_, refl)
+denied table id (call.Stat path) = (_, refl)
+denied table id (call.Mail path bytes) = (_, refl)
+denied table id (call.Mails path) = (_, refl)
+denied table id (call.Mend file) = (_, refl)
 
 give_silent : (f : Frame) (w : WaitingCall) (u : Users) (packed : ℕ → Bool) (b : Bool) (r q : Reply) → (asks_want f w (where_packed packed (cond b (want.Give r) (want.Give q))) u).sent ≡ []
 give_silent f w u packed true r q = refl
@@ -76,8 +80,8 @@ denied_silent f w u why e = subst (λ (b : Beginning). (asks_want f w (wants f.c
 
 call_silent : (f : Frame) (process : ℕ) (words : Call) (u : Users) → (on_call f None process words u).sent ≡ []
 call_silent f process words u =
-    let d : IsDenied (beginning (descriptors_of u process) None words) = denied (descriptors_of u process) words in
-    denied_silent f (accepted process (u.calls + 1) words (beginning (descriptors_of u process) None words)) (frees process words (record u { calls = u.calls + 1 })) d.0 d.1
+    let d : IsDenied (beginning (descriptors_of u process) None (own_call f.me f.boot (u.calls + 1)) words) = denied (descriptors_of u process) (own_call f.me f.boot (u.calls + 1)) words in
+    denied_silent f (accepted process (u.calls + 1) words (beginning (descriptors_of u process) None (own_call f.me f.boot (u.calls + 1)) words)) (frees process words (record u { calls = u.calls + 1 })) d.0 d.1
 
 -- ---- the law, kind by kind ----
 

@@ -1,6 +1,7 @@
 pub mod Words
 pub mod Standing
 pub mod Naming
+pub mod Boots
 pub use Rattle.law_walks.specs as of_law_walks
 pub use Rattle.law_walks.specs.of_schedule_lines as of_schedule_lines
 pub use Rattle.law_walks.specs.of_the_run as of_the_run

@@ -57,6 +57,7 @@ mod TreeRoot
 mod TreeTwoSites
 mod TreeADay
 mod MakeOfOneEvent
+mod ExampleBoxesMeet
 mod ExampleChanged
 mod ExampleConflictAndResolve
 mod ExampleCutAndHeal
@@ -65,3 +66,6 @@ mod ExampleLostAndLate
 mod ExampleRemovedAndChanged
 mod ExampleStopAfterTheGate
 mod ExampleStopInsideAWrite
+mod MailBothSides
+mod MailUnlinkedOnOneSide
+mod MailTwoOfOneName

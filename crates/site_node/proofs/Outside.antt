@@ -1,5 +1,6 @@
 -- A call of a site in no epoch is refused at once, whatever boot numbers the frame of no members has.
 use Rattle.std.proofs.Common.{◌≡◌, ℕ, ◌+◌, cond, true, false, Bool, [], ◌∷◌, Option, Some, None, refl, sym, ap, subst}
+use Rattle.locus_ids.specs.declared.ids.CallId.{CallId}
 use Rattle.locus_ids.specs.declared.config.Config.{Config}
 use Rattle.locus_ids.specs.declared.ids.EpochId.{EpochId}
 use Rattle.locus_ids.specs.declared.refusal.Refusal.{Refusal}
@@ -17,7 +18,7 @@ use Rattle.call_rules.specs.declared.want.Want.TheVariants.{Give}
 use Rattle.role_steps.specs.Epochs.{with_users}
 use Rattle.role_steps.specs.Views.{Users, Outcome, joined_to, tells}
 use Rattle.role_steps.specs.Requests.{descriptors_of}
-use Rattle.role_steps.specs.Using.{accepted, accept_record, asks_want, frees, goes_on, is_packed, on_call}
+use Rattle.role_steps.specs.Using.{accepted, accept_record, asks_want, frees, goes_on, is_packed, on_call, own_call}
 use Rattle.role_steps.specs.declared.rounds.InEpoch.{InEpoch}
 use Rattle.site_tables.proofs.Giving.{gives_as, gives_within}
 use Rattle.the_run.specs.Steps.{call_frame, epoch_id, takes_call}
@@ -39,22 +40,22 @@ on_denied : (changes : Bool) (d : Option Descriptor) → IsDenied (begins_on cha
 on_denied changes None = record { why = refusal.BadDescriptor; is = refl }
 on_denied changes (Some d) = record { why = refusal.Stale d.epoch; is = refl }
 
-open_denied : (free : Option ℕ) → IsDenied (begins_open None free)
-open_denied None = record { why = refusal.NoDescriptor; is = refl }
-open_denied (Some fd) = record { why = refusal.NoPartition; is = refl }
+open_denied : (id : CallId) (free : Option ℕ) → IsDenied (begins_open None id free)
+open_denied id None = record { why = refusal.NoDescriptor; is = refl }
+open_denied id (Some fd) = record { why = refusal.NoPartition; is = refl }
 
-walk_denied : IsDenied (begins_walk None)
-walk_denied = record { why = refusal.NoPartition; is = refl }
+walk_denied : (id : CallId) → IsDenied (begins_walk None id)
+walk_denied id = record { why = refusal.NoPartition; is = refl }
 
-begins_denied : (table : ℕ → Option Descriptor) (words : Call) → IsDenied (beginning table None words)
-begins_denied table (call.Open path mode) = open_denied (lowest_free table)
-begins_denied table (call.Read fd at len) = on_denied false (table fd)
-begins_denied table (call.Write fd at bytes) = cond_denied (is_too_long (call.Write fd at bytes)) (Denied refusal.TooLong) (begins_on true None (table fd)) (record { why = refusal.TooLong; is = refl }) (on_denied true (table fd))
-begins_denied table (call.Cut fd len) = on_denied true (table fd)
-begins_denied table (call.Commit fd) = on_denied true (table fd)
-begins_denied table (call.Abort fd) = on_denied true (table fd)
-begins_denied table (call.Close fd) = on_denied false (table fd)
-begins_denied table _ = walk_denied
+begins_denied : (table : ℕ → Option Descriptor) (id : CallId) (words : Call) → IsDenied (beginning table None id words)
+begins_denied table id (call.Open path mode) = open_denied id (lowest_free table)
+begins_denied table id (call.Read fd at len) = on_denied false (table fd)
+begins_denied table id (call.Write fd at bytes) = cond_denied (is_too_long (call.Write fd at bytes)) (Denied refusal.TooLong) (begins_on true None (table fd)) (record { why = refusal.TooLong; is = refl }) (on_denied true (table fd))
+begins_denied table id (call.Cut fd len) = on_denied true (table fd)
+begins_denied table id (call.Commit fd) = on_denied true (table fd)
+begins_denied table id (call.Abort fd) = on_denied true (table fd)
+begins_denied table id (call.Close fd) = on_denied false (table fd)
+begins_denied table id _ = walk_denied id
 
 goes_denied : (c : Config) (me boot process n : ℕ) (words : Call) (why : Refusal) (u : Users) → goes_on (outside c me boot) (accepted process n words (Denied why)) u ≡ goes_on (call_frame c me boot None) (accepted process n words (Denied why)) u
 goes_denied c me boot process n words why u = elim (is_badly_named c.mounts words) as (λ b. asks_want (outside c me boot) (accepted process n words (Denied why)) (where_packed (is_packed (outside c me boot)) (cond b (Give (reply.No refusal.BadName)) (Give (reply.No why)))) u ≡ asks_want (call_frame c me boot None) (accepted process n words (Denied why)) (where_packed (is_packed (call_frame c me boot None)) (cond b (Give (reply.No refusal.BadName)) (Give (reply.No why)))) u) [
@@ -69,7 +70,7 @@ pub call_outside : (c : Config) (me boot process : ℕ) (words : Call) (u : User
 call_outside c me boot process words u =
     let n : ℕ = u.calls + 1 in
     let told = tells (accept_record me boot process n words ∷ []) (frees process words (record u { calls = n })) in
-    ap (λ (o : Outcome Users). joined_to told o) (sym (goes_outside c me boot process n words (beginning (descriptors_of u process) None words) (frees process words (record u { calls = n })) (begins_denied (descriptors_of u process) words)))
+    ap (λ (o : Outcome Users). joined_to told o) (sym (goes_outside c me boot process n words (beginning (descriptors_of u process) None (own_call me boot n) words) (frees process words (record u { calls = n })) (begins_denied (descriptors_of u process) (own_call me boot n) words)))
 
 -- ---- a call in the frame of the site's epoch, or in that of no epoch ----
 

@@ -179,7 +179,7 @@ counts_accept c n s process new words older h may k e i g w granted now named op
     turn = accept_turn c n s process new words older i h may
 
     b : Beginning
-    b = begins_now (entries older) s process words
+    b = begins_now (entries older) s process new words
 
     caller : Waiting
     caller = accepted_as (entries older) s process new words
@@ -225,7 +225,7 @@ counts_accept c n s process new words older h may k e i g w granted now named op
         plain = subst (Fits (is_close words)) o.1 (asked_fits c t new caller e i named_is starts)
 
     used_asks : uses_it ≡ true → asks_it ≡ true
-    used_asks z = and_true (new.site == i.us) (is_op_on i (asked_now c t new)) (ap (λ (m : ℕ). new.site == m) us ∙ equal_self new.site) (ap (is_op_on i) asked ∙ use_asks c.mounts (is_packed_in c (entries t) caller.epoch) (descriptor (entries older) s process) (epoch_of (entries older) s) words e i at plain)
+    used_asks z = and_true (new.site == i.us) (is_op_on i (asked_now c t new)) (ap (λ (m : ℕ). new.site == m) us ∙ equal_self new.site) (ap (is_op_on i) asked ∙ use_asks c.mounts (is_packed_in c (entries t) caller.epoch) (descriptor (entries older) s process) (epoch_of (entries older) s) new words e i at plain)
       where
         plain : is_close words ≡ false
         plain = not_is (is_close words) (both (not (is_close words)) (uses_by b e i) z).0
@@ -237,7 +237,7 @@ counts_accept c n s process new words older h may k e i g w granted now named op
         starts = begun_is ∙ ap Some at
 
         inside : IsCallIn (entries t) e new
-        inside = record { accepted = caller; named = named_is; made_in = (uses_from (descriptor (entries older) s process) (epoch_of (entries older) s) words e i at).inside }
+        inside = record { accepted = caller; named = named_is; made_in = (uses_from (descriptor (entries older) s process) (epoch_of (entries older) s) new words e i at).inside }
 
         us : i.us ≡ new.site
         us = user_us c t (may, h) e i new (begun_user c t e i new (may, h) inside starts)

@@ -118,7 +118,7 @@ opener_no_op c t d w path how named words = asked_so AsksNoOp (λ r. tt) tt c t 
     over : (b : Beginning) → AsksNoOp (begun_wants c.mounts None (call.Open path how) b (log t d))
     over (begins.Denied why) = tt
     over (begins.Uses e i) = tt
-    over begins.Walks = walked_so AsksNoOp (λ r. tt) tt (λ f v. tt) c.mounts (components path) (log t d) (opens_file how None) (λ f k ys. opens_no_op how None f k ys)
+    over (begins.Walks id) = walked_so AsksNoOp (λ r. tt) tt (λ f v. tt) c.mounts (components path) (log t d) (opens_file how None) (λ f k ys. opens_no_op how None f k ys)
 
 op_no_more : (i : Serial) (o : Op) (a : Answer) (xs : List Answer) → AsksNoOp (op_wants i o (a ∷ xs))
 op_no_more i o (answer.Did result) [] = tt
@@ -150,28 +150,30 @@ user_no_more c t d e i a xs starts taken = asked_so AsksNoOp (λ r. tt) tt c t d
 
 -- ---- a use asks its operation at once ----
 
-walks_use : (now : Option EpochId) (e : EpochId) (i : Serial) → begins_walk now ≡ begins.Uses e i → ⊥
-walks_use None e i k = cc
-walks_use (Some at) e i k = cc
+walks_use : (id : CallId) (now : Option EpochId) (e : EpochId) (i : Serial) → begins_walk now id ≡ begins.Uses e i → ⊥
+walks_use id None e i k = cc
+walks_use id (Some at) e i k = cc
 
-opens_use : (now : Option EpochId) (free : Option ℕ) (e : EpochId) (i : Serial) → begins_open now free ≡ begins.Uses e i → ⊥
-opens_use now None e i k = cc
-opens_use now (Some fd) e i k = walks_use now e i k
+opens_use : (id : CallId) (now : Option EpochId) (free : Option ℕ) (e : EpochId) (i : Serial) → begins_open now id free ≡ begins.Uses e i → ⊥
+opens_use id now None e i k = cc
+opens_use id now (Some fd) e i k = walks_use id now e i k
 
 -- where a call that is no close begins at an instance, it asks an operation of it
-pub use_asks : (mounts : List Mount) (pk : ℕ → Bool) (table : ℕ → Option Descriptor) (now : Option EpochId) (words : Call) (e : EpochId) (i : Serial) → beginning table now words ≡ begins.Uses e i → is_close words ≡ false → is_op_on i (wants mounts pk None words (begins.Uses e i) []) ≡ true
-use_asks mounts pk table now (call.Read fd at len) e i k plain = same_serial_own i
-use_asks mounts pk table now (call.Write fd at bytes) e i k plain = same_serial_own i
-use_asks mounts pk table now (call.Cut fd len) e i k plain = same_serial_own i
-use_asks mounts pk table now (call.Commit fd) e i k plain = same_serial_own i
-use_asks mounts pk table now (call.Abort fd) e i k plain = same_serial_own i
-use_asks mounts pk table now (call.Close fd) e i k plain = absurd (true_false plain)
-use_asks mounts pk table now (call.Open path how) e i k plain = absurd (opens_use now (lowest_free table) e i k)
-use_asks mounts pk table now (call.Create path sites) e i k plain = absurd (walks_use now e i k)
-use_asks mounts pk table now (call.MakeDir path) e i k plain = absurd (walks_use now e i k)
-use_asks mounts pk table now (call.Unlink path) e i k plain = absurd (walks_use now e i k)
-use_asks mounts pk table now (call.RemoveDir path) e i k plain = absurd (walks_use now e i k)
-use_asks mounts pk table now (call.Rename path name) e i k plain = absurd (walks_use now e i k)
-use_asks mounts pk table now (call.List path) e i k plain = absurd (walks_use now e i k)
-use_asks mounts pk table now (call.Stat path) e i k plain = absurd (walks_use now e i k)
-use_asks mounts pk table now (call.Mend file) e i k plain = absurd (walks_use now e i k)
+pub use_asks : (mounts : List Mount) (pk : ℕ → Bool) (table : ℕ → Option Descriptor) (now : Option EpochId) (id : CallId) (words : Call) (e : EpochId) (i : Serial) → beginning table now id words ≡ begins.Uses e i → is_close words ≡ false → is_op_on i (wants mounts pk None words (begins.Uses e i) []) ≡ true
+use_asks mounts pk table now id (call.Read fd at len) e i k plain = same_serial_own i
+use_asks mounts pk table now id (call.Write fd at bytes) e i k plain = same_serial_own i
+use_asks mounts pk table now id (call.Cut fd len) e i k plain = same_serial_own i
+use_asks mounts pk table now id (call.Commit fd) e i k plain = same_serial_own i
+use_asks mounts pk table now id (call.Abort fd) e i k plain = same_serial_own i
+use_asks mounts pk table now id (call.Close fd) e i k plain = absurd (true_false plain)
+use_asks mounts pk table now id (call.Open path how) e i k plain = absurd (opens_use id now (lowest_free table) e i k)
+use_asks mounts pk table now id (call.Create path sites) e i k plain = absurd (walks_use id now e i k)
+use_asks mounts pk table now id (call.MakeDir path) e i k plain = absurd (walks_use id now e i k)
+use_asks mounts pk table now id (call.Unlink path) e i k plain = absurd (walks_use id now e i k)
+use_asks mounts pk table now id (call.RemoveDir path) e i k plain = absurd (walks_use id now e i k)
+use_asks mounts pk table now id (call.Rename path name) e i k plain = absurd (walks_use id now e i k)
+use_asks mounts pk table now id (call.List path) e i k plain = absurd (walks_use id now e i k)
+use_asks mounts pk table now id (call.Stat path) e i k plain = absurd (walks_use id now e i k)
+use_asks mounts pk table now id (call.Mail path bytes) e i k plain = absurd (walks_use id now e i k)
+use_asks mounts pk table now id (call.Mails path) e i k plain = absurd (walks_use id now e i k)
+use_asks mounts pk table now id (call.Mend file) e i k plain = absurd (walks_use id now e i k)

@@ -24,16 +24,17 @@ use Rattle.trace_book.specs.declared.operation.What.{What}
 use Rattle.trace_book.specs.declared.reply.Reply.{Reply}
 use Rattle.trace_book.specs.declared.reply.Reply.TheVariants as reply
 use Rattle.locus_ids.specs.declared.refusal.Refusal.TheVariants as refusal
+use Rattle.call_rules.specs.Mailing.{shown_messages}
 use Rattle.call_rules.specs.declared.answer.Answer.{Answer}
 use Rattle.call_rules.specs.declared.answer.Answer.TheVariants as answer
 use Rattle.call_rules.specs.declared.want.Want.{Want}
 use Rattle.call_rules.specs.declared.want.Want.TheVariants as want
 use Rattle.std.specs.Option.{option_map}
 use Rattle.call_rules.specs.Closing.{Own, Unchanged, Changed, closes, aborts, gives, give_up, close_all}
-use Rattle.call_rules.specs.Making.{after_insert, after_make, after_probe, probes, opens_dir, changes_dir, make_wants}
+use Rattle.call_rules.specs.Making.{after_insert, after_make, fills, after_probe, probes, opens_dir, changes_dir, make_wants}
 use Rattle.call_rules.specs.Mending.{after_mend, brings, mend_wants}
 use Rattle.call_rules.specs.Naming.{renames}
-use Rattle.call_rules.specs.Opening.{opens_file, op_wants, close_wants, uses_wants, lists, describes}
+use Rattle.call_rules.specs.Opening.{opens_file, op_wants, close_wants, uses_wants, lists, describes, Shows, shown_in}
 use Rattle.trace_book.specs.Names.{components}
 use Rattle.call_rules.specs.Removing.{removes, empties, opens_target, by_kind, finds}
 use Rattle.call_rules.specs.Scripts.{path_wants, begun_wants, named_wants, where_packed, wants}
@@ -114,32 +115,39 @@ module _ (P : Want → Type 0) (looking : (f : FileId) (w : What) → P (want.Lo
 
   -- ---- create and mkdir ----
 
-  after_insert_so : (p : Serial) (name : List ℕ) (k : Kind) (ino : ℕ) (xs : List Answer) → P (after_insert p name k ino xs)
-  after_insert_so p name k ino [] = doing p _
-  after_insert_so p name k ino (answer.Did o ∷ rest) = close_all_so (p ∷ []) (reply.Made ino) rest
-  after_insert_so p name k ino (answer.Refused why ∷ rest) = give_up_so (Unchanged p ∷ []) why rest
-  after_insert_so p name k ino (_ ∷ rest) = never
+  after_insert_so : (p : Serial) (name : List ℕ) (k : Kind) (ino : ℕ) (told : Reply) (xs : List Answer) → P (after_insert p name k ino told xs)
+  after_insert_so p name k ino told [] = doing p _
+  after_insert_so p name k ino told (answer.Did o ∷ rest) = close_all_so (p ∷ []) told rest
+  after_insert_so p name k ino told (answer.Refused why ∷ rest) = give_up_so (Unchanged p ∷ []) why rest
+  after_insert_so p name k ino told (_ ∷ rest) = never
 
-  after_make_so : (p : Serial) (name : List ℕ) (k : Kind) (made : Serial) (ino : ℕ) (xs : List Answer) → P (after_make p name k made ino xs)
-  after_make_so p name k made ino [] = closing made
-  after_make_so p name k made ino (answer.Ended stamp ∷ rest) = after_insert_so p name k ino rest
-  after_make_so p name k made ino (answer.Refused why ∷ rest) = give_up_so (Unchanged p ∷ []) why rest
-  after_make_so p name k made ino (_ ∷ rest) = never
+  after_make_so : (p : Serial) (name : List ℕ) (k : Kind) (made : Serial) (ino : ℕ) (told : Reply) (xs : List Answer) → P (after_make p name k made ino told xs)
+  after_make_so p name k made ino told [] = closing made
+  after_make_so p name k made ino told (answer.Ended stamp ∷ rest) = after_insert_so p name k ino told rest
+  after_make_so p name k made ino told (answer.Refused why ∷ rest) = give_up_so (Unchanged p ∷ []) why rest
+  after_make_so p name k made ino told (_ ∷ rest) = never
 
-  after_probe_so : (p : Serial) (group : ℕ) (name : List ℕ) (k : Kind) (sites : Option Sites) → P (want.Make group k sites) → (xs : List Answer) → P (after_probe p group name k sites xs)
-  after_probe_so p group name k sites makes [] = makes
-  after_probe_so p group name k sites makes (answer.Opened made ino ∷ rest) = after_make_so p name k made ino rest
-  after_probe_so p group name k sites makes (answer.Refused why ∷ rest) = give_up_so (Unchanged p ∷ []) why rest
-  after_probe_so p group name k sites makes (_ ∷ rest) = never
+  fills_so : (p : Serial) (name : List ℕ) (k : Kind) (bytes : List ℕ) (made : Serial) (ino : ℕ) (told : Reply) (xs : List Answer) → P (fills p name k bytes made ino told xs)
+  fills_so p name k [] made ino told xs = after_make_so p name k made ino told xs
+  fills_so p name k (b ∷ bs) made ino told [] = doing made _
+  fills_so p name k (b ∷ bs) made ino told (answer.Did o ∷ rest) = after_make_so p name k made ino told rest
+  fills_so p name k (b ∷ bs) made ino told (answer.Refused why ∷ rest) = give_up_so (Unchanged made ∷ Unchanged p ∷ []) why rest
+  fills_so p name k (b ∷ bs) made ino told (_ ∷ rest) = never
 
-  probes_so : (p : Serial) (group : ℕ) (name : List ℕ) (k : Kind) (sites : Option Sites) → P (want.Make group k sites) → (xs : List Answer) → P (probes p group name k sites xs)
-  probes_so p group name k sites makes [] = doing p _
-  probes_so p group name k sites makes (answer.Did o ∷ rest) = after_probe_so p group name k sites makes rest
-  probes_so p group name k sites makes (answer.Refused why ∷ rest) = give_up_so (Unchanged p ∷ []) why rest
-  probes_so p group name k sites makes (_ ∷ rest) = never
+  after_probe_so : (p : Serial) (group : ℕ) (name : List ℕ) (k : Kind) (sites : Option Sites) (bytes : List ℕ) (tells : ℕ → Reply) → P (want.Make group k sites) → (xs : List Answer) → P (after_probe p group name k sites bytes tells xs)
+  after_probe_so p group name k sites bytes tells makes [] = makes
+  after_probe_so p group name k sites bytes tells makes (answer.Opened made ino ∷ rest) = fills_so p name k bytes made ino (tells ino) rest
+  after_probe_so p group name k sites bytes tells makes (answer.Refused why ∷ rest) = give_up_so (Unchanged p ∷ []) why rest
+  after_probe_so p group name k sites bytes tells makes (_ ∷ rest) = never
+
+  probes_so : (p : Serial) (group : ℕ) (name : List ℕ) (k : Kind) (sites : Option Sites) (bytes : List ℕ) (tells : ℕ → Reply) → P (want.Make group k sites) → (xs : List Answer) → P (probes p group name k sites bytes tells xs)
+  probes_so p group name k sites bytes tells makes [] = doing p _
+  probes_so p group name k sites bytes tells makes (answer.Did o ∷ rest) = after_probe_so p group name k sites bytes tells makes rest
+  probes_so p group name k sites bytes tells makes (answer.Refused why ∷ rest) = give_up_so (Unchanged p ∷ []) why rest
+  probes_so p group name k sites bytes tells makes (_ ∷ rest) = never
 
   make_so : (mounts : List Mount) (path : List ℕ) (k : Kind) (sites : Option Sites) → ((g : ℕ) → P (want.Make g k sites)) → (xs : List Answer) → P (make_wants mounts path k sites xs)
-  make_so mounts path k sites makes xs = changes_so mounts path _ (λ g p rest. probes_so p g _ k sites (makes g) rest) xs
+  make_so mounts path k sites makes xs = changes_so mounts path _ (λ g p rest. probes_so p g _ k sites [] reply.Made (makes g) rest) xs
 
   -- ---- unlink, rmdir and rename ----
 
@@ -216,12 +224,12 @@ module _ (P : Want → Type 0) (looking : (f : FileId) (w : What) → P (want.Lo
   opens_file_so m None f kind.File (_ ∷ rest) = never
   opens_file_so m (Some fd) f kind.File (_ ∷ rest) = never
 
-  lists_so : (mounts : List Mount) (reached : List ℕ) (f : FileId) (k : Kind) (xs : List Answer) → P (lists mounts reached f k xs)
-  lists_so mounts reached f kind.File xs = giving _
-  lists_so mounts reached f kind.Dir [] = looking f _
-  lists_so mounts reached f kind.Dir (answer.Showed names ∷ []) = giving _
-  lists_so mounts reached f kind.Dir (answer.Refused why ∷ []) = giving _
-  lists_so mounts reached f kind.Dir (_ ∷ rest) = never
+  lists_so : (shows : Shows) (reached : List ℕ) (f : FileId) (k : Kind) (xs : List Answer) → P (lists shows reached f k xs)
+  lists_so shows reached f kind.File xs = giving _
+  lists_so shows reached f kind.Dir [] = looking f _
+  lists_so shows reached f kind.Dir (answer.Showed names ∷ []) = giving _
+  lists_so shows reached f kind.Dir (answer.Refused why ∷ []) = giving _
+  lists_so shows reached f kind.Dir (_ ∷ rest) = never
 
   describes_so : (f : FileId) (k : Kind) (xs : List Answer) → P (describes f k xs)
   describes_so f k [] = looking f _
@@ -246,22 +254,24 @@ module _ (P : Want → Type 0) (looking : (f : FileId) (w : What) → P (want.Lo
 
   -- ---- whole scripts ----
 
-  path_so : (mounts : List Mount) (free : Option ℕ) (words : Call) → ((g : ℕ) (path : List ℕ) (sites : Option Sites) → words ≡ call.Create path sites → P (want.Make g kind.File sites)) → ((g : ℕ) (path : List ℕ) → words ≡ call.MakeDir path → P (want.Make g kind.Dir None)) → (xs : List Answer) → P (path_wants mounts free words xs)
-  path_so mounts free (call.Create path sites) creates dirs xs = make_so mounts path kind.File sites (λ g. creates g path sites refl) xs
-  path_so mounts free (call.MakeDir path) creates dirs xs = make_so mounts path kind.Dir None (λ g. dirs g path refl) xs
-  path_so mounts free (call.Unlink path) creates dirs xs = changes_so mounts path _ (λ g p rest. finds_so kind.File p g _ rest) xs
-  path_so mounts free (call.RemoveDir path) creates dirs xs = changes_so mounts path _ (λ g p rest. finds_so kind.Dir p g _ rest) xs
-  path_so mounts free (call.Rename path name) creates dirs xs = changes_so mounts path _ (λ g p rest. renames_so p _ name rest) xs
-  path_so mounts free (call.List path) creates dirs xs = go_so mounts (components path) xs _ (λ f k rest. lists_so mounts _ f k rest)
-  path_so mounts free (call.Stat path) creates dirs xs = go_so mounts (components path) xs _ (λ f k rest. describes_so f k rest)
-  path_so mounts free (call.Open path how) creates dirs xs = go_so mounts (components path) xs _ (λ f k rest. opens_file_so how free f k rest)
-  path_so mounts free (call.Mend f) creates dirs xs = mend_so f xs
-  path_so mounts free _ creates dirs xs = never
+  path_so : (mounts : List Mount) (free : Option ℕ) (id : CallId) (words : Call) → ((g : ℕ) (path : List ℕ) (sites : Option Sites) → words ≡ call.Create path sites → P (want.Make g kind.File sites)) → ((g : ℕ) (path : List ℕ) → words ≡ call.MakeDir path → P (want.Make g kind.Dir None)) → ((g : ℕ) (path bytes : List ℕ) → words ≡ call.Mail path bytes → P (want.Make g kind.File None)) → (xs : List Answer) → P (path_wants mounts free id words xs)
+  path_so mounts free id (call.Create path sites) creates dirs mails xs = make_so mounts path kind.File sites (λ g. creates g path sites refl) xs
+  path_so mounts free id (call.MakeDir path) creates dirs mails xs = make_so mounts path kind.Dir None (λ g. dirs g path refl) xs
+  path_so mounts free id (call.Unlink path) creates dirs mails xs = changes_so mounts path _ (λ g p rest. finds_so kind.File p g _ rest) xs
+  path_so mounts free id (call.RemoveDir path) creates dirs mails xs = changes_so mounts path _ (λ g p rest. finds_so kind.Dir p g _ rest) xs
+  path_so mounts free id (call.Rename path name) creates dirs mails xs = changes_so mounts path _ (λ g p rest. renames_so p _ name rest) xs
+  path_so mounts free id (call.List path) creates dirs mails xs = go_so mounts (components path) xs _ (λ f k rest. lists_so (shown_in mounts) _ f k rest)
+  path_so mounts free id (call.Stat path) creates dirs mails xs = go_so mounts (components path) xs _ (λ f k rest. describes_so f k rest)
+  path_so mounts free id (call.Mail path bytes) creates dirs mails xs = go_so mounts (components path) xs _ (λ dir k rest. opens_dir_so _ _ (λ p ys. probes_so p dir.group _ kind.File None bytes _ (mails dir.group path bytes refl) ys) dir k rest)
+  path_so mounts free id (call.Mails path) creates dirs mails xs = go_so mounts (components path) xs _ (λ f k rest. lists_so shown_messages _ f k rest)
+  path_so mounts free id (call.Open path how) creates dirs mails xs = go_so mounts (components path) xs _ (λ f k rest. opens_file_so how free f k rest)
+  path_so mounts free id (call.Mend f) creates dirs mails xs = mend_so f xs
+  path_so mounts free id _ creates dirs mails xs = never
 
-  begun_so : (mounts : List Mount) (free : Option ℕ) (words : Call) → ((xs : List Answer) → P (path_wants mounts free words xs)) → (b : Beginning) (xs : List Answer) → P (begun_wants mounts free words b xs)
+  begun_so : (mounts : List Mount) (free : Option ℕ) (words : Call) → ((id : CallId) (xs : List Answer) → P (path_wants mounts free id words xs)) → (b : Beginning) (xs : List Answer) → P (begun_wants mounts free words b xs)
   begun_so mounts free words h (begins.Denied why) xs = giving _
   begun_so mounts free words h (begins.Uses e i) xs = uses_so words i xs
-  begun_so mounts free words h begins.Walks xs = h xs
+  begun_so mounts free words h (begins.Walks id) xs = h id xs
 
   named_so : (mounts : List Mount) (free : Option ℕ) (words : Call) (b : Beginning) (xs : List Answer) → P (begun_wants mounts free words b xs) → P (named_wants mounts free words b xs)
   named_so mounts free words b xs h = over (is_badly_named mounts words)
@@ -287,8 +297,8 @@ module _ (P : Want → Type 0) (looking : (f : FileId) (w : What) → P (want.Lo
       over (want.Give r) k = k
       over want.Never k = k
 
-  wants_so : (mounts : List Mount) (is_packed : ℕ → Bool) (free : Option ℕ) (words : Call) → ((g : ℕ) (path : List ℕ) (sites : Option Sites) → words ≡ call.Create path sites → P (want.Make g kind.File sites)) → ((g : ℕ) (path : List ℕ) → words ≡ call.MakeDir path → P (want.Make g kind.Dir None)) → (b : Beginning) (xs : List Answer) → P (wants mounts is_packed free words b xs)
-  wants_so mounts is_packed free words creates dirs b xs = packed_so is_packed (named_wants mounts free words b xs) (named_so mounts free words b xs (begun_so mounts free words (path_so mounts free words creates dirs) b xs))
+  wants_so : (mounts : List Mount) (is_packed : ℕ → Bool) (free : Option ℕ) (words : Call) → ((g : ℕ) (path : List ℕ) (sites : Option Sites) → words ≡ call.Create path sites → P (want.Make g kind.File sites)) → ((g : ℕ) (path : List ℕ) → words ≡ call.MakeDir path → P (want.Make g kind.Dir None)) → ((g : ℕ) (path bytes : List ℕ) → words ≡ call.Mail path bytes → P (want.Make g kind.File None)) → (b : Beginning) (xs : List Answer) → P (wants mounts is_packed free words b xs)
+  wants_so mounts is_packed free words creates dirs mails b xs = packed_so is_packed (named_wants mounts free words b xs) (named_so mounts free words b xs (begun_so mounts free words (λ id. path_so mounts free id words creates dirs mails) b xs))
 
 -- ---- a make is as its words say ----
 
@@ -304,6 +314,9 @@ created_so c words g path (Some sites) e = rw e (refl, refl)
 dir_so : (c : Config) (words : Call) (g : ℕ) (path : List ℕ) → words ≡ call.MakeDir path → SaidSo c words (want.Make g kind.Dir None)
 dir_so c words g path e = rw e (refl, refl)
 
+mailed_so : (c : Config) (words : Call) (g : ℕ) (path bytes : List ℕ) → words ≡ call.Mail path bytes → SaidSo c words (want.Make g kind.File None)
+mailed_so c words g path bytes e = rw e (refl, refl)
+
 said_so : (c : Config) (before : Trace) (d : CallId) (free : Option ℕ) (xs : List Answer) (o : Option Waiting) (b : Option Beginning) (w : Want) → script_as c before o b free xs ≡ w → (group : ℕ) (k : Kind) (sites : Option Sites) → w ≡ want.Make group k sites → (words : Call) × (option_map (λ (y : Waiting). y.words) o ≡ Some words) × SaidSo c words (want.Make group k sites)
 said_so c before d free xs None b w e group k sites is = absurd (not_make (e ∙ is))
   where
@@ -317,7 +330,7 @@ said_so c before d free xs (Some y) (Some b) w e group k sites is = (
   y.words,
   refl,
   subst (SaidSo c y.words) (e ∙ is)
-      (wants_so (SaidSo c y.words) (λ f what. tt) (λ f m. tt) (λ f. tt) (λ i o. tt) (λ i. tt) (λ r. tt) tt c.mounts (is_packed_in c before y.epoch) free y.words (created_so c y.words) (dir_so c y.words) b xs),
+      (wants_so (SaidSo c y.words) (λ f what. tt) (λ f m. tt) (λ f. tt) (λ i o. tt) (λ i. tt) (λ r. tt) tt c.mounts (is_packed_in c before y.epoch) free y.words (created_so c y.words) (dir_so c y.words) (mailed_so c y.words) b xs),
 )
 
 -- what is asked to be made is for the sites and of the kind that the words of its call say

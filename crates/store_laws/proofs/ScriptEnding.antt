@@ -20,10 +20,10 @@ use Rattle.call_rules.specs.declared.answer.Answer.TheVariants as answer
 use Rattle.call_rules.specs.declared.want.Want.{Want}
 use Rattle.call_rules.specs.declared.want.Want.TheVariants as want
 use Rattle.call_rules.specs.Closing.{Unchanged, closes, gives, give_up, close_all}
-use Rattle.call_rules.specs.Making.{after_insert, after_make, after_probe, probes, opens_dir}
+use Rattle.call_rules.specs.Making.{after_insert, after_make, fills, after_probe, probes, opens_dir}
 use Rattle.call_rules.specs.Mending.{after_mend, brings, mend_wants}
 use Rattle.call_rules.specs.Naming.{renames}
-use Rattle.call_rules.specs.Opening.{close_wants, lists, describes}
+use Rattle.call_rules.specs.Opening.{close_wants, lists, describes, Shows}
 use Rattle.call_rules.specs.Removing.{removes, empties, opens_target, by_kind, finds}
 use Rattle.call_rules.specs.Scripts.{where_packed}
 use Rattle.locus_ids.specs.declared.config.Mount.{Mount}
@@ -78,12 +78,15 @@ closed_two own p t h i e = over (parts (same_serial p i) (own i) e) (λ o. h i o
         at (inl is) = absurd (apart p i k.0 is)
         at (inr is) = is
 
-closed_other : (own : Instances) (p t : Serial) → TwoOf own p t → OneOf (Without t own) p
-closed_other own p t h = closed_two own t p (λ i e. swap i (h i e))
+two_turned : (own : Instances) (p t : Serial) → TwoOf own p t → TwoOf own t p
+two_turned own p t h i e = swap (h i e)
   where
-    swap : (i : Serial) → (p ≡ i) ⊎ (t ≡ i) → (t ≡ i) ⊎ (p ≡ i)
-    swap i (inl is) = inr is
-    swap i (inr is) = inl is
+    swap : (p ≡ i) ⊎ (t ≡ i) → (t ≡ i) ⊎ (p ≡ i)
+    swap (inl is) = inr is
+    swap (inr is) = inl is
+
+closed_other : (own : Instances) (p t : Serial) → TwoOf own p t → OneOf (Without t own) p
+closed_other own p t h = closed_two own t p (two_turned own p t h)
 
 opened_one : (own : Instances) (p : Serial) → IsNone own → OneOf (λ i. same_serial p i || own i) p
 opened_one own p h i e = over (same_serial p i) refl e
@@ -154,29 +157,36 @@ module _ (pk : ℕ → Bool) where
 
   -- ---- create and mkdir ----
 
-  after_insert_ends : (p : Serial) (name : List ℕ) (k : Kind) (ino : ℕ) (own : Instances) → OneOf own p → (xs : List Answer) → Ends pk (after_insert p name k ino) own xs
-  after_insert_ends p name k ino own h [] = tt
-  after_insert_ends p name k ino own h (answer.Did o ∷ xs) = λ fit. close_one p (reply.Made ino) own h xs
-  after_insert_ends p name k ino own h (answer.Refused why ∷ xs) = λ fit. give_up_one p why own h xs
-  after_insert_ends p name k ino own h (a ∷ xs) = λ fit. absurd fit
+  after_insert_ends : (p : Serial) (name : List ℕ) (k : Kind) (ino : ℕ) (told : Reply) (own : Instances) → OneOf own p → (xs : List Answer) → Ends pk (after_insert p name k ino told) own xs
+  after_insert_ends p name k ino told own h [] = tt
+  after_insert_ends p name k ino told own h (answer.Did o ∷ xs) = λ fit. close_one p told own h xs
+  after_insert_ends p name k ino told own h (answer.Refused why ∷ xs) = λ fit. give_up_one p why own h xs
+  after_insert_ends p name k ino told own h (a ∷ xs) = λ fit. absurd fit
 
-  after_make_ends : (p : Serial) (name : List ℕ) (k : Kind) (made : Serial) (ino : ℕ) (own : Instances) → TwoOf own p made → (xs : List Answer) → Ends pk (after_make p name k made ino) own xs
-  after_make_ends p name k made ino own h [] = tt
-  after_make_ends p name k made ino own h (answer.Ended stamp ∷ xs) = λ fit. after_insert_ends p name k ino (Without made own) (closed_other own p made h) xs
-  after_make_ends p name k made ino own h (answer.Refused why ∷ xs) = λ fit. give_up_one p why (Without made own) (closed_other own p made h) xs
-  after_make_ends p name k made ino own h (a ∷ xs) = λ fit. absurd fit
+  after_make_ends : (p : Serial) (name : List ℕ) (k : Kind) (made : Serial) (ino : ℕ) (told : Reply) (own : Instances) → TwoOf own p made → (xs : List Answer) → Ends pk (after_make p name k made ino told) own xs
+  after_make_ends p name k made ino told own h [] = tt
+  after_make_ends p name k made ino told own h (answer.Ended stamp ∷ xs) = λ fit. after_insert_ends p name k ino told (Without made own) (closed_other own p made h) xs
+  after_make_ends p name k made ino told own h (answer.Refused why ∷ xs) = λ fit. give_up_one p why (Without made own) (closed_other own p made h) xs
+  after_make_ends p name k made ino told own h (a ∷ xs) = λ fit. absurd fit
 
-  after_probe_ends : (p : Serial) (group : ℕ) (name : List ℕ) (k : Kind) (sites : Option Sites) (own : Instances) → pk group ≡ true → OneOf own p → (xs : List Answer) → Ends pk (after_probe p group name k sites) own xs
-  after_probe_ends p group name k sites own e h [] = packed_gives (pk group) (want.Make group k sites) own tt e
-  after_probe_ends p group name k sites own e h (answer.Opened made ino ∷ xs) = λ fit. after_make_ends p name k made ino (λ i. same_serial made i || own i) (opened_two own p made h) xs
-  after_probe_ends p group name k sites own e h (answer.Refused why ∷ xs) = λ fit. give_up_one p why own h xs
-  after_probe_ends p group name k sites own e h (a ∷ xs) = λ fit. absurd (unfit (pk group) (want.Make group k sites) a (λ f. f) fit)
+  fills_ends : (p : Serial) (name : List ℕ) (k : Kind) (bytes : List ℕ) (made : Serial) (ino : ℕ) (told : Reply) (own : Instances) → TwoOf own p made → (xs : List Answer) → Ends pk (fills p name k bytes made ino told) own xs
+  fills_ends p name k [] made ino told own h xs = after_make_ends p name k made ino told own h xs
+  fills_ends p name k (b ∷ bs) made ino told own h [] = tt
+  fills_ends p name k (b ∷ bs) made ino told own h (answer.Did o ∷ xs) = λ fit. after_make_ends p name k made ino told own h xs
+  fills_ends p name k (b ∷ bs) made ino told own h (answer.Refused why ∷ xs) = λ fit. give_up_two made p why own (two_turned own p made h) xs
+  fills_ends p name k (b ∷ bs) made ino told own h (a ∷ xs) = λ fit. absurd fit
 
-  pub probes_ends : (p : Serial) (group : ℕ) (name : List ℕ) (k : Kind) (sites : Option Sites) (own : Instances) → pk group ≡ true → OneOf own p → (xs : List Answer) → Ends pk (probes p group name k sites) own xs
-  probes_ends p group name k sites own e h [] = tt
-  probes_ends p group name k sites own e h (answer.Did o ∷ xs) = λ fit. after_probe_ends p group name k sites own e h xs
-  probes_ends p group name k sites own e h (answer.Refused why ∷ xs) = λ fit. give_up_one p why own h xs
-  probes_ends p group name k sites own e h (a ∷ xs) = λ fit. absurd fit
+  after_probe_ends : (p : Serial) (group : ℕ) (name : List ℕ) (k : Kind) (sites : Option Sites) (bytes : List ℕ) (tells : ℕ → Reply) (own : Instances) → pk group ≡ true → OneOf own p → (xs : List Answer) → Ends pk (after_probe p group name k sites bytes tells) own xs
+  after_probe_ends p group name k sites bytes tells own e h [] = packed_gives (pk group) (want.Make group k sites) own tt e
+  after_probe_ends p group name k sites bytes tells own e h (answer.Opened made ino ∷ xs) = λ fit. fills_ends p name k bytes made ino (tells ino) (λ i. same_serial made i || own i) (opened_two own p made h) xs
+  after_probe_ends p group name k sites bytes tells own e h (answer.Refused why ∷ xs) = λ fit. give_up_one p why own h xs
+  after_probe_ends p group name k sites bytes tells own e h (a ∷ xs) = λ fit. absurd (unfit (pk group) (want.Make group k sites) a (λ f. f) fit)
+
+  pub probes_ends : (p : Serial) (group : ℕ) (name : List ℕ) (k : Kind) (sites : Option Sites) (bytes : List ℕ) (tells : ℕ → Reply) (own : Instances) → pk group ≡ true → OneOf own p → (xs : List Answer) → Ends pk (probes p group name k sites bytes tells) own xs
+  probes_ends p group name k sites bytes tells own e h [] = tt
+  probes_ends p group name k sites bytes tells own e h (answer.Did o ∷ xs) = λ fit. after_probe_ends p group name k sites bytes tells own e h xs
+  probes_ends p group name k sites bytes tells own e h (answer.Refused why ∷ xs) = λ fit. give_up_one p why own h xs
+  probes_ends p group name k sites bytes tells own e h (a ∷ xs) = λ fit. absurd fit
 
   pub opens_dir_ends : (reached : List ℕ) (next : Serial → Script) (dir : FileId) → ((p : Serial) (own : Instances) → pk dir.group ≡ true → OneOf own p → (ys : List Answer) → Ends pk (next p) own ys) → (k : Kind) (own : Instances) → IsNone own → (xs : List Answer) → Ends pk (opens_dir reached next dir k) own xs
   opens_dir_ends reached next dir h kind.File own none xs = give_ends (reply.No (refusal.NotDir reached)) own none xs
@@ -256,14 +266,14 @@ module _ (pk : ℕ → Bool) where
 
   -- ---- list and stat ----
 
-  pub lists_ends : (mounts : List Mount) (reached : List ℕ) (f : FileId) (k : Kind) (own : Instances) → IsNone own → (xs : List Answer) → Ends pk (lists mounts reached f k) own xs
-  lists_ends mounts reached f kind.File own none xs = give_ends (reply.No (refusal.NotDir reached)) own none xs
-  lists_ends mounts reached f kind.Dir own none [] = none_gives (pk f.group) (want.Look f what.List) own tt none
-  lists_ends mounts reached f kind.Dir own none (answer.Showed names ∷ []) = λ fit. none
-  lists_ends mounts reached f kind.Dir own none (answer.Showed names ∷ (a ∷ xs)) = λ fit more. absurd more
-  lists_ends mounts reached f kind.Dir own none (answer.Refused why ∷ []) = λ fit. none
-  lists_ends mounts reached f kind.Dir own none (answer.Refused why ∷ (a ∷ xs)) = λ fit more. absurd more
-  lists_ends mounts reached f kind.Dir own none (a ∷ xs) = λ fit. absurd (unfit (pk f.group) (want.Look f what.List) a (λ x. x) fit)
+  pub lists_ends : (shows : Shows) (reached : List ℕ) (f : FileId) (k : Kind) (own : Instances) → IsNone own → (xs : List Answer) → Ends pk (lists shows reached f k) own xs
+  lists_ends shows reached f kind.File own none xs = give_ends (reply.No (refusal.NotDir reached)) own none xs
+  lists_ends shows reached f kind.Dir own none [] = none_gives (pk f.group) (want.Look f what.List) own tt none
+  lists_ends shows reached f kind.Dir own none (answer.Showed names ∷ []) = λ fit. none
+  lists_ends shows reached f kind.Dir own none (answer.Showed names ∷ (a ∷ xs)) = λ fit more. absurd more
+  lists_ends shows reached f kind.Dir own none (answer.Refused why ∷ []) = λ fit. none
+  lists_ends shows reached f kind.Dir own none (answer.Refused why ∷ (a ∷ xs)) = λ fit more. absurd more
+  lists_ends shows reached f kind.Dir own none (a ∷ xs) = λ fit. absurd (unfit (pk f.group) (want.Look f what.List) a (λ x. x) fit)
 
   pub describes_ends : (f : FileId) (k : Kind) (own : Instances) → IsNone own → (xs : List Answer) → Ends pk (describes f k) own xs
   describes_ends f k own none [] = none_gives (pk f.group) (want.Look f what.Stat) own tt none

@@ -1,24 +1,27 @@
 -- Each call but an open has closed all that it opened when it has its reply.
 use Rattle.std.proofs.Common.{◌≡◌, ℕ, Bool, true, false, cond, List, [], ◌∷◌, Option, Some, None, refl, sym, subst}
+use Rattle.locus_ids.specs.declared.ids.CallId.{CallId}
 use Rattle.locus_ids.specs.declared.config.Mount.{Mount}
 use Rattle.locus_ids.specs.declared.ids.FileId.{FileId}
 use Rattle.locus_ids.specs.declared.ids.Kind.{Kind}
 use Rattle.locus_ids.specs.declared.ids.Kind.TheVariants as kind
 use Rattle.locus_ids.specs.declared.ids.Serial.{Serial}
 use Rattle.locus_ids.specs.declared.refusal.Refusal.TheVariants as refusal
+use Rattle.trace_book.specs.Messages.{message_name}
 use Rattle.trace_book.specs.Names.{but_last, components, last_of}
 use Rattle.trace_book.specs.declared.call.Call.{Call}
 use Rattle.trace_book.specs.declared.call.Call.TheVariants as call
 use Rattle.trace_book.specs.declared.descriptor.Beginning.TheVariants as begins
 use Rattle.trace_book.specs.declared.operation.What.TheVariants as what
 use Rattle.trace_book.specs.declared.reply.Reply.TheVariants as reply
+use Rattle.call_rules.specs.Mailing.{tells_name, shown_messages}
 use Rattle.call_rules.specs.declared.answer.Answer.{Answer}
 use Rattle.call_rules.specs.declared.answer.Answer.TheVariants as answer
 use Rattle.call_rules.specs.declared.want.Want.{Want}
 use Rattle.call_rules.specs.declared.want.Want.TheVariants as want
 use Rattle.call_rules.specs.Making.{changes_dir, opens_dir, probes}
 use Rattle.call_rules.specs.Naming.{renames}
-use Rattle.call_rules.specs.Opening.{lists, describes}
+use Rattle.call_rules.specs.Opening.{lists, describes, shown_in}
 use Rattle.call_rules.specs.Removing.{finds}
 use Rattle.call_rules.specs.Scripts.{path_wants, begun_wants, named_wants, where_packed, wants}
 use Rattle.call_rules.specs.Walks.{walk, walked, root_of, passes, mounted_in}
@@ -64,24 +67,27 @@ module _ (pk : ℕ → Bool) (own : Instances) (none : IsNone own) where
 
   -- ---- by the words ----
 
-  path_ends : (mounts : List Mount) (free : Option ℕ) (words : Call) → WalksWords words → NotOpen words → (xs : List Answer) → Ends pk (path_wants mounts free words) own xs
-  path_ends mounts free (call.Create path sites) w n xs = changes_ends mounts path (λ g p rest. probes p g (last_of (components path)) kind.File sites rest) (λ g p more e h ys. probes_ends pk p g (last_of (components path)) kind.File sites more e h ys) xs
-  path_ends mounts free (call.MakeDir path) w n xs = changes_ends mounts path (λ g p rest. probes p g (last_of (components path)) kind.Dir None rest) (λ g p more e h ys. probes_ends pk p g (last_of (components path)) kind.Dir None more e h ys) xs
-  path_ends mounts free (call.Unlink path) w n xs = changes_ends mounts path (λ g p rest. finds kind.File p g (last_of (components path)) rest) (λ g p more e h ys. finds_ends pk kind.File p g (last_of (components path)) more e h ys) xs
-  path_ends mounts free (call.RemoveDir path) w n xs = changes_ends mounts path (λ g p rest. finds kind.Dir p g (last_of (components path)) rest) (λ g p more e h ys. finds_ends pk kind.Dir p g (last_of (components path)) more e h ys) xs
-  path_ends mounts free (call.Rename path name) w n xs = changes_ends mounts path (λ g p rest. renames p (last_of (components path)) name rest) (λ g p more e h ys. renames_ends pk p (last_of (components path)) name more h ys) xs
-  path_ends mounts free (call.List path) w n xs = walked_ends mounts (components path) (lists mounts (last_of (components path))) (λ f k ys. lists_ends pk mounts (last_of (components path)) f k own none ys) xs
-  path_ends mounts free (call.Stat path) w n xs = walked_ends mounts (components path) describes (λ f k ys. describes_ends pk f k own none ys) xs
-  path_ends mounts free (call.Mend file) w n xs = mend_ends pk file own none xs
-  path_ends mounts free (call.Open path m) w n xs = absurd n
-  path_ends mounts free _ w n xs = absurd w
+  path_ends : (mounts : List Mount) (free : Option ℕ) (id : CallId) (words : Call) → WalksWords words → NotOpen words → (xs : List Answer) → Ends pk (path_wants mounts free id words) own xs
+  path_ends mounts free id (call.Create path sites) w n xs = changes_ends mounts path (λ g p rest. probes p g (last_of (components path)) kind.File sites [] reply.Made rest) (λ g p more e h ys. probes_ends pk p g (last_of (components path)) kind.File sites [] reply.Made more e h ys) xs
+  path_ends mounts free id (call.MakeDir path) w n xs = changes_ends mounts path (λ g p rest. probes p g (last_of (components path)) kind.Dir None [] reply.Made rest) (λ g p more e h ys. probes_ends pk p g (last_of (components path)) kind.Dir None [] reply.Made more e h ys) xs
+  path_ends mounts free id (call.Unlink path) w n xs = changes_ends mounts path (λ g p rest. finds kind.File p g (last_of (components path)) rest) (λ g p more e h ys. finds_ends pk kind.File p g (last_of (components path)) more e h ys) xs
+  path_ends mounts free id (call.RemoveDir path) w n xs = changes_ends mounts path (λ g p rest. finds kind.Dir p g (last_of (components path)) rest) (λ g p more e h ys. finds_ends pk kind.Dir p g (last_of (components path)) more e h ys) xs
+  path_ends mounts free id (call.Rename path name) w n xs = changes_ends mounts path (λ g p rest. renames p (last_of (components path)) name rest) (λ g p more e h ys. renames_ends pk p (last_of (components path)) name more h ys) xs
+  path_ends mounts free id (call.List path) w n xs = walked_ends mounts (components path) (lists (shown_in mounts) (last_of (components path))) (λ f k ys. lists_ends pk (shown_in mounts) (last_of (components path)) f k own none ys) xs
+  path_ends mounts free id (call.Stat path) w n xs = walked_ends mounts (components path) describes (λ f k ys. describes_ends pk f k own none ys) xs
+  path_ends mounts free id (call.Mail path bytes) w n xs = walked_ends mounts (components path) _
+      (λ dir k ys. opens_dir_ends pk (last_of (components path)) (λ p. probes p dir.group (message_name id) kind.File None bytes (tells_name (message_name id))) dir (λ p more e h zs. probes_ends pk p dir.group (message_name id) kind.File None bytes (tells_name (message_name id)) more e h zs) k own none ys) xs
+  path_ends mounts free id (call.Mails path) w n xs = walked_ends mounts (components path) (lists shown_messages (last_of (components path))) (λ f k ys. lists_ends pk shown_messages (last_of (components path)) f k own none ys) xs
+  path_ends mounts free id (call.Mend file) w n xs = mend_ends pk file own none xs
+  path_ends mounts free id (call.Open path m) w n xs = absurd n
+  path_ends mounts free id _ w n xs = absurd w
 
-  named_ends : (mounts : List Mount) (free : Option ℕ) (words : Call) → WalksWords words → NotOpen words → (xs : List Answer) → Ends pk (named_wants mounts free words begins.Walks) own xs
-  named_ends mounts free words w n xs = over (is_badly_named mounts words)
+  named_ends : (mounts : List Mount) (free : Option ℕ) (id : CallId) (words : Call) → WalksWords words → NotOpen words → (xs : List Answer) → Ends pk (named_wants mounts free words (begins.Walks id)) own xs
+  named_ends mounts free id words w n xs = over (is_badly_named mounts words)
     where
-      over : (x : Bool) → Ends pk (λ ys. cond x (want.Give (reply.No refusal.BadName)) (begun_wants mounts free words begins.Walks ys)) own xs
+      over : (x : Bool) → Ends pk (λ ys. cond x (want.Give (reply.No refusal.BadName)) (begun_wants mounts free words (begins.Walks id) ys)) own xs
       over true = give_ends pk (reply.No refusal.BadName) own none xs
-      over false = path_ends mounts free words w n xs
+      over false = path_ends mounts free id words w n xs
 
 -- ---- what the call has then ----
 
@@ -114,6 +120,6 @@ ends_where pk k own (a ∷ xs) s fit = subst (λ (w : Want). GivesNone (where_pa
     (ends_where pk (λ ys. k (a ∷ ys)) (had_after (k []) a own) xs (s fit.0) fit.1)
 
 -- a call that walks and is no open has nothing left when it has its reply
-pub wants_end : (mounts : List Mount) (pk : ℕ → Bool) (free : Option ℕ) (words : Call) (own : Instances) → IsNone own → WalksWords words → NotOpen words → (xs : List Answer) → AllFit (wants mounts pk free words begins.Walks) xs →
-    GivesNone (wants mounts pk free words begins.Walks xs) (has_by (wants mounts pk free words begins.Walks) own xs)
-wants_end mounts pk free words own none w n xs fit = ends_where pk (named_wants mounts free words begins.Walks) own xs (named_ends pk own none mounts free words w n xs) fit
+pub wants_end : (mounts : List Mount) (pk : ℕ → Bool) (free : Option ℕ) (id : CallId) (words : Call) (own : Instances) → IsNone own → WalksWords words → NotOpen words → (xs : List Answer) → AllFit (wants mounts pk free words (begins.Walks id)) xs →
+    GivesNone (wants mounts pk free words (begins.Walks id) xs) (has_by (wants mounts pk free words (begins.Walks id)) own xs)
+wants_end mounts pk free id words own none w n xs fit = ends_where pk (named_wants mounts free words (begins.Walks id)) own xs (named_ends pk own none mounts free id words w n xs) fit

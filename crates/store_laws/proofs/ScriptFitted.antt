@@ -31,7 +31,7 @@ use Rattle.tree_laws.proofs.Counting.{asked_same}
 use Rattle.tree_laws.proofs.Free.{AsksSame, free_same}
 use Rattle.tree_laws.proofs.Fresh.{IsNamed, calls_are_low, next_is_new, numbered}
 use Rattle.tree_laws.proofs.Having.{Untaken, named_or_untaken}
-use Rattle.tree_laws.proofs.Names.{same_call_own}
+use Rattle.tree_laws.proofs.Names.{same_call_own, same_call_eq}
 use Rattle.tree_laws.proofs.Scripts.{script_stays}
 use Rattle.store_laws.proofs.ScriptFitting.{AllFit, Fits, IsSound, Script, sound_where}
 use Rattle.store_laws.proofs.ScriptSoundCalls.{BeginsRight, HasFree, begins_right, wants_sound}
@@ -128,7 +128,7 @@ waits_fits c t d a h named w = (fitted c t h d named).next a w
 -- where an accepted call has begun it began by its words, and by some descriptors
 pub record Began (t : List Line) (d : CallId) (w : Waiting) : Type 0 where
   pub table : ℕ → Option Descriptor
-  pub begun_is : begun (entries t) d ≡ Some (beginning table w.epoch w.words)
+  pub begun_is : begun (entries t) d ≡ Some (beginning table w.epoch d w.words)
 
 pub began : (t : List Line) (d : CallId) (w : Waiting) → call_named (entries t) d ≡ Some w → Began t d w
 began [] d w named = absurd (none_some w named)
@@ -138,14 +138,14 @@ began (x ∷ older) d w named = at (λ was. began older d w was) x.told named
     at later (Shown (says.Accept s process new words)) named = over (same_call new d) refl named
       where
         over : (b : Bool) → same_call new d ≡ b → cond b (Some (accepted_as (entries older) s process new words)) (call_named (entries older) d) ≡ Some w → Began (With x.number (Shown (says.Accept s process new words)) older) d w
-        over true e k = record { table = descriptor (entries older) s process; begun_is = ap (λ (b : Bool). cond b (Some (begins_now (entries older) s process words)) (begun (entries older) d)) e ∙ ap (λ (v : Waiting). Some (beginning (descriptor (entries older) s process) v.epoch v.words)) (some_same (accepted_as (entries older) s process new words) w k) }
-        over false e k = (let b : Began older d w = later k in record { table = b.table; begun_is = ap (λ (p : Bool). cond p (Some (begins_now (entries older) s process words)) (begun (entries older) d)) e ∙ b.begun_is })
+        over true e k = record { table = descriptor (entries older) s process; begun_is = ap (λ (b : Bool). cond b (Some (begins_now (entries older) s process new words)) (begun (entries older) d)) e ∙ (ap (λ (v : Waiting). Some (beginning (descriptor (entries older) s process) v.epoch new v.words)) (some_same (accepted_as (entries older) s process new words) w k) ∙ ap (λ (z : CallId). Some (beginning (descriptor (entries older) s process) w.epoch z w.words)) (same_call_eq new d e)) }
+        over false e k = (let b : Began older d w = later k in record { table = b.table; begun_is = ap (λ (p : Bool). cond p (Some (begins_now (entries older) s process new words)) (begun (entries older) d)) e ∙ b.begun_is })
     at later (Shown r) named = (let b : Began older d w = later named in record { table = b.table; begun_is = b.begun_is })
     at later y named = (let b : Began older d w = later named in record { table = b.table; begun_is = b.begun_is })
 
 -- a call began by its words
 pub began_right : (t : List Line) (d : CallId) (w : Waiting) (b : Beginning) → call_named (entries t) d ≡ Some w → begun (entries t) d ≡ Some b → BeginsRight w.words b
-began_right t d w b named starts = (let k : Began t d w = began t d w named in subst (BeginsRight w.words) (some_same (beginning k.table w.epoch w.words) b (sym k.begun_is ∙ starts)) (begins_right k.table w.epoch w.words))
+began_right t d w b named starts = (let k : Began t d w = began t d w named in subst (BeginsRight w.words) (some_same (beginning k.table w.epoch d w.words) b (sym k.begun_is ∙ starts)) (begins_right k.table w.epoch d w.words))
 
 -- ---- what is wanted ----
 
@@ -163,15 +163,15 @@ script_sound c t d w b free h named starts has = subst (λ (o : Option Waiting).
     sound = sound_where w.words free (wants c.mounts (is_packed_in c (entries t) w.epoch) free w.words b) (log t d) (wants_sound c.mounts (is_packed_in c (entries t) w.epoch) free w.words b (began_right t d w b named starts) has (log t d)) fit
 
 zero_free : (b : Beginning) (words : Call) → HasFree (Some 0) b words
-zero_free begins.Walks (call.Open path m) = (0, refl)
-zero_free begins.Walks words = tt
+zero_free (begins.Walks id) (call.Open path m) = (0, refl)
+zero_free (begins.Walks id) words = tt
 zero_free (begins.Denied why) words = tt
 zero_free (begins.Uses e i) words = tt
 
 -- what a call asks, it asks rightly
 pub asked_sound : (c : Config) (t : List Line) (d : CallId) (w : Waiting) → IsFollowed c t → call_named (entries t) d ≡ Some w → is_request (asked_now c t d) ≡ true → IsSound w.words (Some 0) (asked_now c t d)
 asked_sound c t d w h named r = subst (IsSound w.words (Some 0)) (free_same c (entries t) (call_named (entries t) d) (begun (entries t) d) (Some 0) (log t d) r)
-    (script_sound c t d w (beginning k.table w.epoch w.words) (Some 0) h named k.begun_is (zero_free (beginning k.table w.epoch w.words) w.words))
+    (script_sound c t d w (beginning k.table w.epoch d w.words) (Some 0) h named k.begun_is (zero_free (beginning k.table w.epoch d w.words) w.words))
   where
     k : Began t d w
     k = began t d w named

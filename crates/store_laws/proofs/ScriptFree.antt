@@ -123,7 +123,7 @@ abbrev HasNumber : Trace → Waiting → Type 0
 HasNumber before w = (fd : ℕ) × (lowest_free (descriptor before w.site w.process) ≡ Some fd)
 
 abbrev AllFree : Trace → Type 0
-AllFree before = (w : Waiting) → Among w (waiting before) → Opens w.words → begun before w.call ≡ Some begins.Walks → HasNumber before w
+AllFree before = (w : Waiting) → Among w (waiting before) → Opens w.words → begun before w.call ≡ Some (begins.Walks w.call) → HasNumber before w
 
 freer : (n : ℕ) (r : Record) (before : Trace) (w : Waiting) → Freer (descriptor before w.site w.process) (descriptor (record { line = n; what = r } ∷ before) w.site w.process) → HasNumber before w → HasNumber (record { line = n; what = r } ∷ before) w
 freer n r before w h k = more_free (descriptor before w.site w.process) (descriptor (record { line = n; what = r } ∷ before) w.site w.process) k.0 h k.1
@@ -141,13 +141,13 @@ cell_none true new old p q = p
 cell_none false new old p q = q
 
 -- an open that walks has found a free number
-open_found : (table : ℕ → Option Descriptor) (now : Option EpochId) (words : Call) → Opens words → beginning table now words ≡ begins.Walks → (fd : ℕ) × (lowest_free table ≡ Some fd)
-open_found table now words o e = over (lowest_free table) refl (subst (λ (y : Call). beginning table now y ≡ begins.Walks) o.words_are e)
+open_found : (table : ℕ → Option Descriptor) (now : Option EpochId) (id : CallId) (words : Call) → Opens words → beginning table now id words ≡ (begins.Walks id) → (fd : ℕ) × (lowest_free table ≡ Some fd)
+open_found table now id words o e = over (lowest_free table) refl (subst (λ (y : Call). beginning table now id y ≡ (begins.Walks id)) o.words_are e)
   where
-    denied : (why : Refusal) → begins.Denied why ≡ begins.Walks → ⊥
+    denied : (why : Refusal) → begins.Denied why ≡ (begins.Walks id) → ⊥
     denied why k = cc
 
-    over : (f : Option ℕ) → lowest_free table ≡ f → begins_open now f ≡ begins.Walks → (fd : ℕ) × (lowest_free table ≡ Some fd)
+    over : (f : Option ℕ) → lowest_free table ≡ f → begins_open now id f ≡ (begins.Walks id) → (fd : ℕ) × (lowest_free table ≡ Some fd)
     over None is k = absurd (denied _ k)
     over (Some fd) is k = (fd, is)
 
@@ -167,12 +167,12 @@ module _ (c : Config) (n : ℕ) (older : List Line) (h : IsFollowed c older) (k 
       table : (v : Waiting) → Freer (descriptor (entries older) v.site v.process) (descriptor (record { line = n; what = r } ∷ entries older) v.site v.process)
       table v fd e = cell_none ((s == v.site) && (process == v.process)) (closed_by words fd (descriptor (entries older) v.site v.process fd)) (descriptor (entries older) v.site v.process fd) (closed_none words fd (descriptor (entries older) v.site v.process fd) e) e
 
-      own : begun (record { line = n; what = r } ∷ entries older) new ≡ Some begins.Walks → Opens words → HasNumber (entries older) it
-      own b o = open_found (descriptor (entries older) s process) (epoch_of (entries older) s) words o
-          (some_same (begins_now (entries older) s process words) begins.Walks (sym (ap (λ (t : Bool). cond t (Some (begins_now (entries older) s process words)) (begun (entries older) new)) (same_call_own new)) ∙ b))
+      own : begun (record { line = n; what = r } ∷ entries older) new ≡ Some (begins.Walks new) → Opens words → HasNumber (entries older) it
+      own b o = open_found (descriptor (entries older) s process) (epoch_of (entries older) s) new words o
+          (some_same (begins_now (entries older) s process new words) (begins.Walks new) (sym (ap (λ (t : Bool). cond t (Some (begins_now (entries older) s process new words)) (begun (entries older) new)) (same_call_own new)) ∙ b))
 
       over : (w ≡ it) ⊎ Among w (waiting (entries older)) → HasNumber (record { line = n; what = r } ∷ entries older) w
-      over (inl is) = subst (HasNumber (record { line = n; what = r } ∷ entries older)) (sym is) (freer n r (entries older) it (table it) (own (subst (λ (v : Waiting). begun (record { line = n; what = r } ∷ entries older) v.call ≡ Some begins.Walks) is starts) (subst (λ (v : Waiting). Opens v.words) is opens)))
+      over (inl is) = subst (HasNumber (record { line = n; what = r } ∷ entries older)) (sym is) (freer n r (entries older) it (table it) (own (subst (λ (v : Waiting). begun (record { line = n; what = r } ∷ entries older) v.call ≡ Some (begins.Walks v.call)) is starts) (subst (λ (v : Waiting). Opens v.words) is opens)))
       over (inr old) = freer n r (entries older) w (table w) (k w old opens (sym (begun_stays c n (Shown r) older w.call h may (w, every_among (λ (v : Waiting). call_named (entries older) v.call ≡ Some v) w (waiting (entries older)) (accepted c older h).waits old)) ∙ starts))
 
   free_answer : (s process : ℕ) (d : CallId) (r : Reply) → MayTell c older (Shown (says.Answer s process d r)) → AllFree (record { line = n; what = says.Answer s process d r } ∷ entries older)
@@ -227,6 +227,6 @@ module _ (c : Config) (n : ℕ) (older : List Line) (h : IsFollowed c older) (k 
   free_told _ may = k
 
 -- an open that waits and walks has a free descriptor
-pub opens_free : (c : Config) (t : List Line) → IsFollowed c t → (w : Waiting) → Among w (waiting (entries t)) → Opens w.words → begun (entries t) w.call ≡ Some begins.Walks → (fd : ℕ) × (lowest_free (descriptor (entries t) w.site w.process) ≡ Some fd)
+pub opens_free : (c : Config) (t : List Line) → IsFollowed c t → (w : Waiting) → Among w (waiting (entries t)) → Opens w.words → begun (entries t) w.call ≡ Some (begins.Walks w.call) → (fd : ℕ) × (lowest_free (descriptor (entries t) w.site w.process) ≡ Some fd)
 opens_free c [] h w among opens starts = absurd among
 opens_free c (x ∷ older) h w among opens starts = free_told c x.number older h.1 (opens_free c older h.1) x.told h.0 w among opens starts

@@ -1,6 +1,7 @@
 -- An open that gives a descriptor was answered last by the instance that was granted to it.
 use Rattle.std.proofs.Common.{◌≡◌, ℕ, Bool, true, false, cond, List, [], ◌∷◌, ◌++◌, Option, Some, None, refl, ◌∙◌, ap, subst}
 use Rattle.locus_ids.specs.declared.config.Mount.{Mount}
+use Rattle.locus_ids.specs.declared.ids.CallId.{CallId}
 use Rattle.locus_ids.specs.declared.ids.EpochId.{EpochId}
 use Rattle.locus_ids.specs.declared.ids.FileId.{FileId}
 use Rattle.locus_ids.specs.declared.ids.Kind.{Kind}
@@ -91,10 +92,10 @@ given_packed pk w fd e = over w e
     over want.Never k = k
 
 -- an open that gives a descriptor was answered last by its instance
-pub gives_last : (mounts : List Mount) (pk : ℕ → Bool) (free : Option ℕ) (path : List ℕ) (m : OpenMode) (xs : Answers) (fd : ℕ) → wants mounts pk free (call.Open path m) begins.Walks xs ≡ want.Give (reply.Opened fd) → EndsOpen xs
-gives_last mounts pk free path m xs fd e = over (is_badly_named mounts (call.Open path m)) (given_packed pk (named_wants mounts free (call.Open path m) begins.Walks xs) fd e)
+pub gives_last : (mounts : List Mount) (pk : ℕ → Bool) (free : Option ℕ) (id : CallId) (path : List ℕ) (m : OpenMode) (xs : Answers) (fd : ℕ) → wants mounts pk free (call.Open path m) (begins.Walks id) xs ≡ want.Give (reply.Opened fd) → EndsOpen xs
+gives_last mounts pk free id path m xs fd e = over (is_badly_named mounts (call.Open path m)) (given_packed pk (named_wants mounts free (call.Open path m) (begins.Walks id) xs) fd e)
   where
-    over : (b : Bool) → cond b (want.Give (reply.No refusal.BadName)) (path_wants mounts free (call.Open path m) xs) ≡ want.Give (reply.Opened fd) → EndsOpen xs
+    over : (b : Bool) → cond b (want.Give (reply.No refusal.BadName)) (path_wants mounts free id (call.Open path m) xs) ≡ want.Give (reply.Opened fd) → EndsOpen xs
     over true k = absurd (subst NotOpened k tt)
     over false k = walk_last mounts (components path) [] (root_of 0) kind.Dir (opens_file m free) (λ f found ys. file_last m free f found ys) xs fd (goes_walked mounts (components path) (opens_file m free) xs ∙ k)
 
@@ -175,9 +176,9 @@ walked_so m mounts path after h xs = subst (OpensSo m) (goes_walked mounts path 
     over Strays = tt
 
 -- an open that walks asks its own open alone
-pub open_so : (mounts : List Mount) (pk : ℕ → Bool) (free : Option ℕ) (path : List ℕ) (m : OpenMode) (xs : Answers) → OpensSo m (wants mounts pk free (call.Open path m) begins.Walks xs)
-open_so mounts pk free path m xs = packed_so m pk (named_wants mounts free (call.Open path m) begins.Walks xs) (over (is_badly_named mounts (call.Open path m)))
+pub open_so : (mounts : List Mount) (pk : ℕ → Bool) (free : Option ℕ) (id : CallId) (path : List ℕ) (m : OpenMode) (xs : Answers) → OpensSo m (wants mounts pk free (call.Open path m) (begins.Walks id) xs)
+open_so mounts pk free id path m xs = packed_so m pk (named_wants mounts free (call.Open path m) (begins.Walks id) xs) (over (is_badly_named mounts (call.Open path m)))
   where
-    over : (b : Bool) → OpensSo m (cond b (want.Give (reply.No refusal.BadName)) (path_wants mounts free (call.Open path m) xs))
+    over : (b : Bool) → OpensSo m (cond b (want.Give (reply.No refusal.BadName)) (path_wants mounts free id (call.Open path m) xs))
     over true = tt
     over false = walked_so m mounts (components path) (opens_file m free) (λ f k ys. file_so m free f k ys) xs

@@ -32,6 +32,7 @@ use Rattle.tree_model.specs.declared.accepted.Waiting.{Waiting}
 use Rattle.tree_model.specs.Calls.{call_named, opening_of}
 use Rattle.lawful_trace.specs.Progress.{is_packed_in}
 use Rattle.lawful_trace.specs.Tables.{begun}
+use Rattle.tree_laws.proofs.OwnWalks.{begun_own}
 use Rattle.tree_laws.specs.Calls.{is_request, log, script, script_as}
 use Rattle.tree_laws.specs.Following.{IsFollowed, MayTell, RepliesOpened}
 use Rattle.tree_laws.specs.Holding.{begun_with, with_begun}
@@ -96,8 +97,8 @@ packed_opens pk w h = over w h
     over (want.Give r) k = k
     over want.Never k = k
 
-opener_walks : (mounts : List Mount) (pk : ℕ → Bool) (free : Option ℕ) (words : Call) (b : Beginning) (xs : List Answer) → is_open_want (wants mounts pk free words b xs) ≡ true → b ≡ begins.Walks
-opener_walks mounts pk free words begins.Walks xs e = refl
+opener_walks : (mounts : List Mount) (pk : ℕ → Bool) (free : Option ℕ) (words : Call) (b : Beginning) (xs : List Answer) → is_open_want (wants mounts pk free words b xs) ≡ true → (x : CallId) × (b ≡ begins.Walks x)
+opener_walks mounts pk free words (begins.Walks id) xs e = (id, refl)
 opener_walks mounts pk free words (begins.Denied why) xs e = absurd (true_false (sym e ∙ packed_opens pk (named_wants mounts free words (begins.Denied why) xs) (over (is_badly_named mounts words))))
   where
     over : (x : Bool) → is_open_want (cond x (want.Give (reply.No refusal.BadName)) (want.Give (reply.No why))) ≡ false
@@ -114,19 +115,22 @@ pub script_by : (c : Config) (t : List Line) (d : CallId) (w : Waiting) (b : Beg
 script_by c t d w b free xs named starts = ap (λ (o : Option Waiting). script_as c (entries t) o (begun (entries t) d) free xs) named ∙ ap (λ (o : Option Beginning). script_as c (entries t) (Some w) o free xs) starts
 
 -- a call that asks an open walks
-pub asks_walks : (c : Config) (t : List Line) (d : CallId) (w : Waiting) → call_named (entries t) d ≡ Some w → is_open_want (asked_now c t d) ≡ true → begun (entries t) d ≡ Some begins.Walks
-asks_walks c t d w named opens = k.begun_is ∙ ap Some (opener_walks c.mounts (is_packed_in c (entries t) w.epoch) None w.words (beginning k.table w.epoch w.words) (log t d)
-    (ap is_open_want (sym (script_by c t d w (beginning k.table w.epoch w.words) None (log t d) named k.begun_is)) ∙ opens))
+pub asks_walks : (c : Config) (t : List Line) (d : CallId) (w : Waiting) → call_named (entries t) d ≡ Some w → is_open_want (asked_now c t d) ≡ true → begun (entries t) d ≡ Some (begins.Walks d)
+asks_walks c t d w named opens = begun_own (entries t) d walks.0 (k.begun_is ∙ ap Some walks.1)
   where
     k : Began t d w
     k = began t d w named
+
+    walks : (x : CallId) × (beginning k.table w.epoch d w.words ≡ begins.Walks x)
+    walks = opener_walks c.mounts (is_packed_in c (entries t) w.epoch) None w.words (beginning k.table w.epoch d w.words) (log t d)
+        (ap is_open_want (sym (script_by c t d w (beginning k.table w.epoch d w.words) None (log t d) named k.begun_is)) ∙ opens)
 
 -- ---- who was granted something walks ----
 
 pub record WalksSo (t : List Line) (d : CallId) : Type 0 where
   pub caller : Waiting
   pub named : call_named (entries t) d ≡ Some caller
-  pub walks : begun (entries t) d ≡ Some begins.Walks
+  pub walks : begun (entries t) d ≡ Some (begins.Walks d)
 
 walks_stay : (c : Config) (n : ℕ) (x : Told) (older : List Line) (d : CallId) → IsFollowed c older → MayTell c older x → WalksSo older d → WalksSo (With n x older) d
 walks_stay c n x older d h may k = record {
@@ -170,36 +174,36 @@ openers_walk c (y ∷ older) h d x is = walk_told c y.number y.told older h.1 h.
 
 -- ---- who is answered by a descriptor ----
 
-none_held : (c : Config) (t : List Line) (d : CallId) (x : Descriptor) (w : Waiting) → IsFollowed c t → RepliesOpened c t d → opening_of (entries t) d ≡ Some x → call_named (entries t) d ≡ Some w → begun (entries t) d ≡ Some begins.Walks → NotOpen w.words → ⊥
+none_held : (c : Config) (t : List Line) (d : CallId) (x : Descriptor) (w : Waiting) → IsFollowed c t → RepliesOpened c t d → opening_of (entries t) d ≡ Some x → call_named (entries t) d ≡ Some w → begun (entries t) d ≡ Some (begins.Walks d) → NotOpen w.words → ⊥
 none_held c t d x w h replies is named walks other = ended (s (log t d)) refl
   where
     pk : ℕ → Bool
     pk = is_packed_in c (entries t) w.epoch
 
     s : Script
-    s = wants c.mounts pk None w.words begins.Walks
+    s = wants c.mounts pk None w.words (begins.Walks d)
 
     same : (ys : List Answer) → script c (entries t) d None ys ≡ s ys
-    same ys = script_by c t d w begins.Walks None ys named walks
+    same ys = script_by c t d w (begins.Walks d) None ys named walks
 
-    no_free : (words : Call) → NotOpen words → HasFree None begins.Walks words
-    no_free (call.Open path m) n = absurd n
-    no_free words n = tt
+    no_free : (id : CallId) (words : Call) → NotOpen words → HasFree None (begins.Walks id) words
+    no_free id (call.Open path m) n = absurd n
+    no_free id words n = tt
 
     sound : IsSound w.words None (s (log t d))
-    sound = subst (IsSound w.words None) (same (log t d)) (script_sound c t d w begins.Walks None h named walks (no_free w.words other))
+    sound = subst (IsSound w.words None) (same (log t d)) (script_sound c t d w (begins.Walks d) None h named walks (no_free d w.words other))
 
-    end : GivesNone (s (log t d)) (has_by s (begun_with begins.Walks) (log t d))
-    end = wants_end c.mounts pk None w.words (begun_with begins.Walks) (λ i e. true_false (sym e)) (began_right t d w begins.Walks named walks) other (log t d) (fit_same (script c (entries t) d None) s (log t d) same (log_fits c t d h (w, named)))
+    end : GivesNone (s (log t d)) (has_by s (begun_with (begins.Walks d)) (log t d))
+    end = wants_end c.mounts pk None d w.words (begun_with (begins.Walks d)) (λ i e. true_false (sym e)) (began_right t d w (begins.Walks d) named walks) other (log t d) (fit_same (script c (entries t) d None) s (log t d) same (log_fits c t d h (w, named)))
 
-    has : has_by s (begun_with begins.Walks) (log t d) x.inst ≡ true
+    has : has_by s (begun_with (begins.Walks d)) (log t d) x.inst ≡ true
     has = sym (has_log c t h d (w, named) x.inst ∙ (by_same (script c (entries t) d None) s (with_begun (begun (entries t) d)) (log t d) x.inst same ∙ ap (λ (o : Option Beginning). has_by s (with_begun o) (log t d) x.inst) walks)) ∙ replies.held x is
 
     nothing : is_request (s (log t d)) ≡ false
     nothing = ap is_request (sym (same (log t d))) ∙ replies.replies.nothing_asked
 
     ended : (v : Want) → s (log t d) ≡ v → ⊥
-    ended (want.Give r) e = subst (λ (y : Want). GivesNone y (has_by s (begun_with begins.Walks) (log t d))) e end x.inst has
+    ended (want.Give r) e = subst (λ (y : Want). GivesNone y (has_by s (begun_with (begins.Walks d)) (log t d))) e end x.inst has
     ended want.Never e = subst (IsSound w.words None) e sound
     ended (want.Look f v) e = true_false (ap is_request (sym e) ∙ nothing)
     ended (want.Open f m) e = true_false (ap is_request (sym e) ∙ nothing)

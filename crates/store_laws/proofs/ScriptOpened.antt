@@ -42,6 +42,7 @@ use Rattle.tree_model.specs.State.{instance_in}
 use Rattle.tree_model.specs.Tree.{kept_in, tree_of}
 use Rattle.lawful_trace.specs.Progress.{Answers, close_answer, granted_answer, is_packed_in, look_answer, outcome_answer}
 use Rattle.lawful_trace.specs.Tables.{begun, call_of_act, call_of_release, descriptor, is_call}
+use Rattle.tree_laws.proofs.OwnWalks.{walks_own}
 use Rattle.tree_laws.specs.Calls.{heard, log, script}
 use Rattle.tree_laws.specs.Following.{IsFollowed, MayTell}
 use Rattle.tree_laws.specs.Holding.{has_instances, with_begun}
@@ -147,13 +148,13 @@ module _ (c : Config) (n : ℕ) (older : List Line) (d : CallId) (path : List �
           caller : asks.inside.accepted ≡ it.caller
           caller = some_same asks.inside.accepted it.caller (sym asks.inside.named ∙ (ap (call_named (entries older)) is ∙ it.named))
 
-          walks : begun (entries older) who ≡ Some begins.Walks
+          walks : begun (entries older) who ≡ Some (begins.Walks who)
           walks = asks_walks c older who asks.inside.accepted asks.inside.named (ap is_open_want asks.asks.asked ∙ opening_is_open c asks.wanted may.in_time.opens.asked may.in_time.opens.it asks.opening_is)
 
           so : OpensSo m asks.wanted
-          so = subst (OpensSo m) (sym (ap (λ (y : Call). wants c.mounts (is_packed_in c (entries older) asks.inside.accepted.epoch) None y begins.Walks (log older who)) (ap (λ (x : Waiting). x.words) caller ∙ it.words_are))
-              ∙ (sym (script_by c older who asks.inside.accepted begins.Walks None (log older who) asks.inside.named walks) ∙ asks.asks.asked))
-              (open_so c.mounts (is_packed_in c (entries older) asks.inside.accepted.epoch) None path m (log older who))
+          so = subst (OpensSo m) (sym (ap (λ (y : Call). wants c.mounts (is_packed_in c (entries older) asks.inside.accepted.epoch) None y (begins.Walks who) (log older who)) (ap (λ (x : Waiting). x.words) caller ∙ it.words_are))
+              ∙ (sym (script_by c older who asks.inside.accepted (begins.Walks who) None (log older who) asks.inside.named walks) ∙ asks.asks.asked))
+              (open_so c.mounts (is_packed_in c (entries older) asks.inside.accepted.epoch) None who path m (log older who))
 
       over : (b : Bool) → same_call who d ≡ b → cond b (Some (record { mode = mode; epoch = at; inst = i })) (opening_of (entries older) d) ≡ from (cond b (heard c older d ++ granted_answer mode i f (kept_in c (entries older) at f) ∷ []) (heard c older d))
       over false s = k
@@ -270,21 +271,21 @@ module _ (c : Config) (t : List Line) (d : CallId) (caller : Waiting) (e : Epoch
       over y is o = absurd o
 
   -- it walks
-  walks : begun (entries t) d ≡ Some begins.Walks
-  walks = b.begun_is ∙ ap Some (over (beginning b.table caller.epoch caller.words) (began_right t d caller (beginning b.table caller.epoch caller.words) k.named b.begun_is) refl)
+  walks : begun (entries t) d ≡ Some (begins.Walks d)
+  walks = b.begun_is ∙ ap Some (over (beginning b.table caller.epoch d caller.words) (began_right t d caller (beginning b.table caller.epoch d caller.words) k.named b.begun_is) refl)
     where
       b : Began t d caller
       b = began t d caller k.named
 
-      over : (o : Beginning) → BeginsRight caller.words o → beginning b.table caller.epoch caller.words ≡ o → beginning b.table caller.epoch caller.words ≡ begins.Walks
-      over begins.Walks r is = is
+      over : (o : Beginning) → BeginsRight caller.words o → beginning b.table caller.epoch d caller.words ≡ o → beginning b.table caller.epoch d caller.words ≡ (begins.Walks d)
+      over (begins.Walks x) r is = is ∙ ap begins.Walks (walks_own b.table caller.epoch d caller.words x is)
       over (begins.Uses at i) r is = absurd (subst UsesWords is_open.words_are r)
       over (begins.Denied why) r is = absurd (subst NotOpened (sym (script_by c t d caller (begins.Denied why) free (log t d) k.named (b.begun_is ∙ ap Some is)) ∙ gives) (denied_packed (is_packed_in c (entries t) caller.epoch) (is_badly_named c.mounts caller.words) why))
 
   ends : EndsOpen (log t d)
-  ends = gives_last c.mounts (is_packed_in c (entries t) caller.epoch) free is_open.path is_open.how (log t d) fd
-      (sym (ap (λ (y : Call). wants c.mounts (is_packed_in c (entries t) caller.epoch) free y begins.Walks (log t d)) is_open.words_are)
-      ∙ (sym (script_by c t d caller begins.Walks free (log t d) k.named walks) ∙ gives))
+  ends = gives_last c.mounts (is_packed_in c (entries t) caller.epoch) free d is_open.path is_open.how (log t d) fd
+      (sym (ap (λ (y : Call). wants c.mounts (is_packed_in c (entries t) caller.epoch) free y (begins.Walks d) (log t d)) is_open.words_are)
+      ∙ (sym (script_by c t d caller (begins.Walks d) free (log t d) k.named walks) ∙ gives))
 
   last_is : last_opened no_serial (log t d) ≡ ends.inst
   last_is = ap (last_opened no_serial) ends.is ∙ last_more no_serial ends.before ends.inst ends.ino

@@ -17,6 +17,7 @@ use Rattle.tree_model.specs.declared.accepted.Waiting.{Waiting}
 use Rattle.tree_model.specs.Calls.{call_named, waiting}
 use Rattle.lawful_trace.specs.CallRows.{is_this}
 use Rattle.lawful_trace.specs.Tables.{begun, descriptor}
+use Rattle.tree_laws.proofs.OwnWalks.{begun_own}
 use Rattle.tree_laws.specs.Following.{IsFollowed}
 use Rattle.tree_laws.specs.Printed.{entries}
 use Rattle.tree_laws.proofs.Waiting.{accepted, found_among}
@@ -34,15 +35,15 @@ has_free c t d caller b h named among starts = over b starts caller.words refl
     is = ((accepted c t h).named d caller named).call_is
 
     over : (o : Beginning) → begun (entries t) d ≡ Some o → (y : Call) → caller.words ≡ y → HasFree (lowest_free (descriptor (entries t) caller.site caller.process)) o y
-    over begins.Walks k (call.Open path m) e = opens_free c t h caller among (record { path = path; how = m; words_are = e }) (ap (begun (entries t)) is ∙ k)
-    over begins.Walks k y e = tt
+    over (begins.Walks id) k (call.Open path m) e = opens_free c t h caller among (record { path = path; how = m; words_are = e }) (begun_own (entries t) caller.call id (ap (begun (entries t)) is ∙ k))
+    over (begins.Walks id) k y e = tt
     over (begins.Denied why) k y e = tt
     over (begins.Uses at i) k y e = tt
 
 -- what the call is given, it is given rightly
 pub gives_sound : (c : Config) (t : List Line) (d : CallId) (caller : Waiting) (e : EpochId) → IsFollowed c t → HasTaken c t d caller e → IsSound caller.words (lowest_free (descriptor (entries t) caller.site caller.process)) (gives_now c t d caller)
-gives_sound c t d caller e h k = script_sound c t d caller (beginning b.table caller.epoch caller.words) (lowest_free (descriptor (entries t) caller.site caller.process)) h k.named b.begun_is
-    (has_free c t d caller (beginning b.table caller.epoch caller.words) h k.named (found_among (is_this caller.site caller.process d) (waiting (entries t)) caller k.waits) b.begun_is)
+gives_sound c t d caller e h k = script_sound c t d caller (beginning b.table caller.epoch d caller.words) (lowest_free (descriptor (entries t) caller.site caller.process)) h k.named b.begun_is
+    (has_free c t d caller (beginning b.table caller.epoch d caller.words) h k.named (found_among (is_this caller.site caller.process d) (waiting (entries t)) caller k.waits) b.begun_is)
   where
     b : Began t d caller
     b = began t d caller k.named

@@ -23,10 +23,10 @@ use Rattle.call_rules.specs.declared.answer.Answer.TheVariants as answer
 use Rattle.call_rules.specs.declared.want.Want.{Want}
 use Rattle.call_rules.specs.declared.want.Want.TheVariants as want
 use Rattle.call_rules.specs.Closing.{Own, Unchanged, Changed, closes, aborts, gives, give_up, close_all}
-use Rattle.call_rules.specs.Making.{after_insert, after_make, after_probe, probes, opens_dir}
+use Rattle.call_rules.specs.Making.{after_insert, after_make, fills, after_probe, probes, opens_dir}
 use Rattle.call_rules.specs.Mending.{after_mend, brings, mend_wants}
 use Rattle.call_rules.specs.Naming.{renames}
-use Rattle.call_rules.specs.Opening.{opens_file, op_wants, close_wants, lists, describes, reply_to}
+use Rattle.call_rules.specs.Opening.{opens_file, op_wants, close_wants, lists, describes, reply_to, Shows}
 use Rattle.call_rules.specs.Removing.{removes, empties, opens_target, by_kind, finds}
 use Rattle.store_laws.proofs.ScriptFitting.{NotChanged, ResultFits, Fits, OpensAs, GivesRight, OpensWords, IsSound, Script, Sound}
 
@@ -79,29 +79,36 @@ module _ (words : Call) (free : Option ℕ) where
 
   -- ---- create and mkdir ----
 
-  after_insert_sound : (p : Serial) (name : List ℕ) (k : Kind) (ino : ℕ) (xs : List Answer) → Sound words free (after_insert p name k ino) xs
-  after_insert_sound p name k ino [] = tt
-  after_insert_sound p name k ino (answer.Did o ∷ rest) = λ fit. close_all_sound (p ∷ []) (reply.Made ino) tt rest
-  after_insert_sound p name k ino (answer.Refused why ∷ rest) = λ fit. give_up_sound (Unchanged p ∷ []) why fit rest
-  after_insert_sound p name k ino (a ∷ rest) = λ fit. absurd fit
+  after_insert_sound : (p : Serial) (name : List ℕ) (k : Kind) (ino : ℕ) (told : Reply) → GivesRight words free told → (xs : List Answer) → Sound words free (after_insert p name k ino told) xs
+  after_insert_sound p name k ino told right [] = tt
+  after_insert_sound p name k ino told right (answer.Did o ∷ rest) = λ fit. close_all_sound (p ∷ []) told right rest
+  after_insert_sound p name k ino told right (answer.Refused why ∷ rest) = λ fit. give_up_sound (Unchanged p ∷ []) why fit rest
+  after_insert_sound p name k ino told right (a ∷ rest) = λ fit. absurd fit
 
-  after_make_sound : (p : Serial) (name : List ℕ) (k : Kind) (made : Serial) (ino : ℕ) (xs : List Answer) → Sound words free (after_make p name k made ino) xs
-  after_make_sound p name k made ino [] = tt
-  after_make_sound p name k made ino (answer.Ended stamp ∷ rest) = λ fit. after_insert_sound p name k ino rest
-  after_make_sound p name k made ino (answer.Refused why ∷ rest) = λ fit. give_up_sound (Unchanged p ∷ []) why fit rest
-  after_make_sound p name k made ino (a ∷ rest) = λ fit. absurd fit
+  after_make_sound : (p : Serial) (name : List ℕ) (k : Kind) (made : Serial) (ino : ℕ) (told : Reply) → GivesRight words free told → (xs : List Answer) → Sound words free (after_make p name k made ino told) xs
+  after_make_sound p name k made ino told right [] = tt
+  after_make_sound p name k made ino told right (answer.Ended stamp ∷ rest) = λ fit. after_insert_sound p name k ino told right rest
+  after_make_sound p name k made ino told right (answer.Refused why ∷ rest) = λ fit. give_up_sound (Unchanged p ∷ []) why fit rest
+  after_make_sound p name k made ino told right (a ∷ rest) = λ fit. absurd fit
 
-  after_probe_sound : (p : Serial) (group : ℕ) (name : List ℕ) (k : Kind) (sites : Option Sites) (xs : List Answer) → Sound words free (after_probe p group name k sites) xs
-  after_probe_sound p group name k sites [] = tt
-  after_probe_sound p group name k sites (answer.Opened made ino ∷ rest) = λ fit. after_make_sound p name k made ino rest
-  after_probe_sound p group name k sites (answer.Refused why ∷ rest) = λ fit. give_up_sound (Unchanged p ∷ []) why fit rest
-  after_probe_sound p group name k sites (a ∷ rest) = λ fit. absurd fit
+  fills_sound : (p : Serial) (name : List ℕ) (k : Kind) (bytes : List ℕ) (made : Serial) (ino : ℕ) (told : Reply) → GivesRight words free told → (xs : List Answer) → Sound words free (fills p name k bytes made ino told) xs
+  fills_sound p name k [] made ino told right xs = after_make_sound p name k made ino told right xs
+  fills_sound p name k (b ∷ bs) made ino told right [] = tt
+  fills_sound p name k (b ∷ bs) made ino told right (answer.Did o ∷ rest) = λ fit. after_make_sound p name k made ino told right rest
+  fills_sound p name k (b ∷ bs) made ino told right (answer.Refused why ∷ rest) = λ fit. give_up_sound (Unchanged made ∷ Unchanged p ∷ []) why fit rest
+  fills_sound p name k (b ∷ bs) made ino told right (a ∷ rest) = λ fit. absurd fit
 
-  pub probes_sound : (p : Serial) (group : ℕ) (name : List ℕ) (k : Kind) (sites : Option Sites) (xs : List Answer) → Sound words free (probes p group name k sites) xs
-  probes_sound p group name k sites [] = tt
-  probes_sound p group name k sites (answer.Did o ∷ rest) = λ fit. after_probe_sound p group name k sites rest
-  probes_sound p group name k sites (answer.Refused why ∷ rest) = λ fit. give_up_sound (Unchanged p ∷ []) why fit rest
-  probes_sound p group name k sites (a ∷ rest) = λ fit. absurd fit
+  after_probe_sound : (p : Serial) (group : ℕ) (name : List ℕ) (k : Kind) (sites : Option Sites) (bytes : List ℕ) (tells : ℕ → Reply) → ((ino : ℕ) → GivesRight words free (tells ino)) → (xs : List Answer) → Sound words free (after_probe p group name k sites bytes tells) xs
+  after_probe_sound p group name k sites bytes tells right [] = tt
+  after_probe_sound p group name k sites bytes tells right (answer.Opened made ino ∷ rest) = λ fit. fills_sound p name k bytes made ino (tells ino) (right ino) rest
+  after_probe_sound p group name k sites bytes tells right (answer.Refused why ∷ rest) = λ fit. give_up_sound (Unchanged p ∷ []) why fit rest
+  after_probe_sound p group name k sites bytes tells right (a ∷ rest) = λ fit. absurd fit
+
+  pub probes_sound : (p : Serial) (group : ℕ) (name : List ℕ) (k : Kind) (sites : Option Sites) (bytes : List ℕ) (tells : ℕ → Reply) → ((ino : ℕ) → GivesRight words free (tells ino)) → (xs : List Answer) → Sound words free (probes p group name k sites bytes tells) xs
+  probes_sound p group name k sites bytes tells right [] = tt
+  probes_sound p group name k sites bytes tells right (answer.Did o ∷ rest) = λ fit. after_probe_sound p group name k sites bytes tells right rest
+  probes_sound p group name k sites bytes tells right (answer.Refused why ∷ rest) = λ fit. give_up_sound (Unchanged p ∷ []) why fit rest
+  probes_sound p group name k sites bytes tells right (a ∷ rest) = λ fit. absurd fit
 
   pub opens_dir_sound : (reached : List ℕ) (next : Serial → Script) → ((p : Serial) (ys : List Answer) → Sound words free (next p) ys) → (dir : FileId) → 1 ≤ dir.ino → (k : Kind) (xs : List Answer) → Sound words free (opens_dir reached next dir k) xs
   opens_dir_sound reached next h dir num kind.File xs = give_sound (reply.No (refusal.NotDir reached)) tt xs
@@ -190,14 +197,14 @@ module _ (words : Call) (free : Option ℕ) where
   opens_file_sound m fd is opens as_said f num kind.File (answer.Refused why ∷ (a ∷ rest)) = λ fit more. absurd more
   opens_file_sound m fd is opens as_said f num kind.File (a ∷ rest) = λ fit. absurd fit
 
-  pub lists_sound : (mounts : List Mount) (reached : List ℕ) (f : FileId) (k : Kind) (xs : List Answer) → Sound words free (lists mounts reached f k) xs
-  lists_sound mounts reached f kind.File xs = give_sound (reply.No (refusal.NotDir reached)) tt xs
-  lists_sound mounts reached f kind.Dir [] = tt
-  lists_sound mounts reached f kind.Dir (answer.Showed names ∷ []) = λ fit. tt
-  lists_sound mounts reached f kind.Dir (answer.Showed names ∷ (a ∷ rest)) = λ fit more. absurd more
-  lists_sound mounts reached f kind.Dir (answer.Refused why ∷ []) = λ fit. fit
-  lists_sound mounts reached f kind.Dir (answer.Refused why ∷ (a ∷ rest)) = λ fit more. absurd more
-  lists_sound mounts reached f kind.Dir (a ∷ rest) = λ fit. absurd fit
+  pub lists_sound : (shows : Shows) (reached : List ℕ) (f : FileId) (k : Kind) (xs : List Answer) → Sound words free (lists shows reached f k) xs
+  lists_sound shows reached f kind.File xs = give_sound (reply.No (refusal.NotDir reached)) tt xs
+  lists_sound shows reached f kind.Dir [] = tt
+  lists_sound shows reached f kind.Dir (answer.Showed names ∷ []) = λ fit. tt
+  lists_sound shows reached f kind.Dir (answer.Showed names ∷ (a ∷ rest)) = λ fit more. absurd more
+  lists_sound shows reached f kind.Dir (answer.Refused why ∷ []) = λ fit. fit
+  lists_sound shows reached f kind.Dir (answer.Refused why ∷ (a ∷ rest)) = λ fit more. absurd more
+  lists_sound shows reached f kind.Dir (a ∷ rest) = λ fit. absurd fit
 
   pub describes_sound : (f : FileId) (k : Kind) (xs : List Answer) → Sound words free (describes f k) xs
   describes_sound f k [] = tt

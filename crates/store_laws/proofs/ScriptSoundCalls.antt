@@ -1,5 +1,6 @@
 -- Whole scripts are sound, by the words of their calls and where these began.
 use Rattle.std.proofs.Common.{◌≡◌, ℕ, ◌≤◌, Bool, true, false, cond, List, [], ◌∷◌, Option, Some, None, refl, sym, subst, arith}
+use Rattle.locus_ids.specs.declared.ids.CallId.{CallId}
 use Rattle.locus_ids.specs.declared.config.Mount.{Mount}
 use Rattle.locus_ids.specs.declared.ids.EpochId.{EpochId}
 use Rattle.locus_ids.specs.declared.ids.FileId.{FileId}
@@ -7,6 +8,7 @@ use Rattle.locus_ids.specs.declared.ids.Kind.{Kind}
 use Rattle.locus_ids.specs.declared.ids.Kind.TheVariants as kind
 use Rattle.locus_ids.specs.declared.ids.Serial.{Serial}
 use Rattle.locus_ids.specs.declared.refusal.Refusal.TheVariants as refusal
+use Rattle.trace_book.specs.Messages.{message_name}
 use Rattle.trace_book.specs.Names.{but_last, components, last_of}
 use Rattle.commit_graph.specs.Grants.{is_read}
 use Rattle.trace_book.specs.declared.call.Call.{Call}
@@ -19,6 +21,7 @@ use Rattle.trace_book.specs.declared.descriptor.Descriptor.{Descriptor}
 use Rattle.trace_book.specs.declared.operation.Op.TheVariants as op
 use Rattle.trace_book.specs.declared.operation.What.TheVariants as what
 use Rattle.trace_book.specs.declared.reply.Reply.TheVariants as reply
+use Rattle.call_rules.specs.Mailing.{tells_name, shown_messages}
 use Rattle.call_rules.specs.declared.answer.Answer.{Answer}
 use Rattle.call_rules.specs.declared.answer.Answer.TheVariants as answer
 use Rattle.call_rules.specs.declared.want.Want.{Want}
@@ -27,7 +30,7 @@ use Rattle.call_rules.specs.Descriptors.{beginning, begins_on, begins_walk, begi
 use Rattle.call_rules.specs.Making.{changes_dir, opens_dir, probes}
 use Rattle.call_rules.specs.Naming.{renames}
 use Rattle.call_rules.specs.Removing.{finds}
-use Rattle.call_rules.specs.Opening.{opens_file, uses_wants, lists, describes}
+use Rattle.call_rules.specs.Opening.{opens_file, uses_wants, lists, describes, shown_in}
 use Rattle.call_rules.specs.Scripts.{path_wants, begun_wants, named_wants, where_packed, wants}
 use Rattle.call_rules.specs.Walks.{Walked, Asks, Fails, There, Strays, walk, walked, root_of, passes, mounted_in}
 use Rattle.call_rules.specs.Words.{is_badly_named, is_too_long}
@@ -83,6 +86,8 @@ WalksWords (call.RemoveDir path) = Unit {0}
 WalksWords (call.Rename path name) = Unit {0}
 WalksWords (call.List path) = Unit {0}
 WalksWords (call.Stat path) = Unit {0}
+WalksWords (call.Mail path bytes) = Unit {0}
+WalksWords (call.Mails path) = Unit {0}
 WalksWords (call.Open path m) = Unit {0}
 WalksWords (call.Mend file) = Unit {0}
 WalksWords _ = ⊥
@@ -101,16 +106,16 @@ UsesWords _ = ⊥
 abbrev pub BeginsRight : Call → Beginning → Type 0
 BeginsRight words (begins.Denied why) = NotChanged why
 BeginsRight words (begins.Uses e i) = UsesWords words
-BeginsRight words begins.Walks = WalksWords words
+BeginsRight words (begins.Walks id) = WalksWords words
 
 -- an open that walks finds a free descriptor
 abbrev pub HasFree : Option ℕ → Beginning → Call → Type 0
-HasFree free begins.Walks (call.Open path m) = (fd : ℕ) × (free ≡ Some fd)
+HasFree free (begins.Walks id) (call.Open path m) = (fd : ℕ) × (free ≡ Some fd)
 HasFree free _ _ = Unit {0}
 
-walk_right : (words : Call) (now : Option EpochId) → WalksWords words → BeginsRight words (begins_walk now)
-walk_right words None h = tt
-walk_right words (Some e) h = h
+walk_right : (id : CallId) (words : Call) (now : Option EpochId) → WalksWords words → BeginsRight words (begins_walk now id)
+walk_right id words None h = tt
+walk_right id words (Some e) h = h
 
 on_right : (words : Call) (changes : Bool) (now : Option EpochId) (o : Option Descriptor) → UsesWords words → BeginsRight words (begins_on changes now o)
 on_right words changes now None h = tt
@@ -122,30 +127,32 @@ on_right words changes now (Some d) h = over changes (is_in now d.epoch) (is_rea
     over false true b p q = rw p h
     over c false b p q = rw p tt
 
-pub begins_right : (table : ℕ → Option Descriptor) (now : Option EpochId) (words : Call) → BeginsRight words (beginning table now words)
-begins_right table now (call.Open path m) = over (lowest_free table)
+pub begins_right : (table : ℕ → Option Descriptor) (now : Option EpochId) (id : CallId) (words : Call) → BeginsRight words (beginning table now id words)
+begins_right table now id (call.Open path m) = over (lowest_free table)
   where
-    over : (o : Option ℕ) → BeginsRight (call.Open path m) (begins_open now o)
+    over : (o : Option ℕ) → BeginsRight (call.Open path m) (begins_open now id o)
     over None = tt
-    over (Some fd) = walk_right (call.Open path m) now tt
-begins_right table now (call.Read fd at len) = on_right (call.Read fd at len) false now (table fd) tt
-begins_right table now (call.Write fd at bytes) = over (is_too_long (call.Write fd at bytes))
+    over (Some fd) = walk_right id (call.Open path m) now tt
+begins_right table now id (call.Read fd at len) = on_right (call.Read fd at len) false now (table fd) tt
+begins_right table now id (call.Write fd at bytes) = over (is_too_long (call.Write fd at bytes))
   where
     over : (b : Bool) → BeginsRight (call.Write fd at bytes) (cond b (begins.Denied refusal.TooLong) (begins_on true now (table fd)))
     over true = tt
     over false = on_right (call.Write fd at bytes) true now (table fd) tt
-begins_right table now (call.Cut fd len) = on_right (call.Cut fd len) true now (table fd) tt
-begins_right table now (call.Commit fd) = on_right (call.Commit fd) true now (table fd) tt
-begins_right table now (call.Abort fd) = on_right (call.Abort fd) true now (table fd) tt
-begins_right table now (call.Close fd) = on_right (call.Close fd) false now (table fd) tt
-begins_right table now (call.Create path sites) = walk_right (call.Create path sites) now tt
-begins_right table now (call.MakeDir path) = walk_right (call.MakeDir path) now tt
-begins_right table now (call.Unlink path) = walk_right (call.Unlink path) now tt
-begins_right table now (call.RemoveDir path) = walk_right (call.RemoveDir path) now tt
-begins_right table now (call.Rename path name) = walk_right (call.Rename path name) now tt
-begins_right table now (call.List path) = walk_right (call.List path) now tt
-begins_right table now (call.Stat path) = walk_right (call.Stat path) now tt
-begins_right table now (call.Mend file) = walk_right (call.Mend file) now tt
+begins_right table now id (call.Cut fd len) = on_right (call.Cut fd len) true now (table fd) tt
+begins_right table now id (call.Commit fd) = on_right (call.Commit fd) true now (table fd) tt
+begins_right table now id (call.Abort fd) = on_right (call.Abort fd) true now (table fd) tt
+begins_right table now id (call.Close fd) = on_right (call.Close fd) false now (table fd) tt
+begins_right table now id (call.Create path sites) = walk_right id (call.Create path sites) now tt
+begins_right table now id (call.MakeDir path) = walk_right id (call.MakeDir path) now tt
+begins_right table now id (call.Unlink path) = walk_right id (call.Unlink path) now tt
+begins_right table now id (call.RemoveDir path) = walk_right id (call.RemoveDir path) now tt
+begins_right table now id (call.Rename path name) = walk_right id (call.Rename path name) now tt
+begins_right table now id (call.List path) = walk_right id (call.List path) now tt
+begins_right table now id (call.Stat path) = walk_right id (call.Stat path) now tt
+begins_right table now id (call.Mail path bytes) = walk_right id (call.Mail path bytes) now tt
+begins_right table now id (call.Mails path) = walk_right id (call.Mails path) now tt
+begins_right table now id (call.Mend file) = walk_right id (call.Mend file) now tt
 
 uses_sound : (words : Call) (free : Option ℕ) (i : Serial) → UsesWords words → (xs : List Answer) → Sound words free (uses_wants words i) xs
 uses_sound (call.Read fd at len) free i h xs = op_sound (call.Read fd at len) free i (op.Read at len) xs
@@ -165,23 +172,26 @@ changes_sound : (words : Call) (free : Option ℕ) (mounts : List Mount) (path :
 changes_sound words free mounts path next h xs = walked_sound words free mounts (but_last (components path)) (λ dir k rest. opens_dir (last_of (but_last (components path))) (next dir.group) dir k rest)
     (λ dir k num rest. opens_dir_sound words free (last_of (but_last (components path))) (next dir.group) (h dir.group) dir num k rest) xs
 
-path_sound : (mounts : List Mount) (free : Option ℕ) (words : Call) → WalksWords words → HasFree free begins.Walks words → (xs : List Answer) → Sound words free (path_wants mounts free words) xs
-path_sound mounts free (call.Create path sites) w h xs = changes_sound (call.Create path sites) free mounts path (λ g p rest. probes p g (last_of (components path)) kind.File sites rest) (λ g p ys. probes_sound (call.Create path sites) free p g (last_of (components path)) kind.File sites ys) xs
-path_sound mounts free (call.MakeDir path) w h xs = changes_sound (call.MakeDir path) free mounts path (λ g p rest. probes p g (last_of (components path)) kind.Dir None rest) (λ g p ys. probes_sound (call.MakeDir path) free p g (last_of (components path)) kind.Dir None ys) xs
-path_sound mounts free (call.Unlink path) w h xs = changes_sound (call.Unlink path) free mounts path (λ g p rest. finds kind.File p g (last_of (components path)) rest) (λ g p ys. finds_sound (call.Unlink path) free kind.File p g (last_of (components path)) ys) xs
-path_sound mounts free (call.RemoveDir path) w h xs = changes_sound (call.RemoveDir path) free mounts path (λ g p rest. finds kind.Dir p g (last_of (components path)) rest) (λ g p ys. finds_sound (call.RemoveDir path) free kind.Dir p g (last_of (components path)) ys) xs
-path_sound mounts free (call.Rename path name) w h xs = changes_sound (call.Rename path name) free mounts path (λ g p rest. renames p (last_of (components path)) name rest) (λ g p ys. renames_sound (call.Rename path name) free p (last_of (components path)) name ys) xs
-path_sound mounts free (call.List path) w h xs = walked_sound (call.List path) free mounts (components path) (lists mounts (last_of (components path))) (λ f k num rest. lists_sound (call.List path) free mounts (last_of (components path)) f k rest) xs
-path_sound mounts free (call.Stat path) w h xs = walked_sound (call.Stat path) free mounts (components path) describes (λ f k num rest. describes_sound (call.Stat path) free f k rest) xs
-path_sound mounts free (call.Open path m) w h xs = subst (λ (o : Option ℕ). Sound (call.Open path m) free (λ ys. path_wants mounts o (call.Open path m) ys) xs) (sym h.1)
+path_sound : (mounts : List Mount) (free : Option ℕ) (id : CallId) (words : Call) → WalksWords words → HasFree free (begins.Walks id) words → (xs : List Answer) → Sound words free (path_wants mounts free id words) xs
+path_sound mounts free id (call.Create path sites) w h xs = changes_sound (call.Create path sites) free mounts path (λ g p rest. probes p g (last_of (components path)) kind.File sites [] reply.Made rest) (λ g p ys. probes_sound (call.Create path sites) free p g (last_of (components path)) kind.File sites [] reply.Made (λ ino. tt) ys) xs
+path_sound mounts free id (call.MakeDir path) w h xs = changes_sound (call.MakeDir path) free mounts path (λ g p rest. probes p g (last_of (components path)) kind.Dir None [] reply.Made rest) (λ g p ys. probes_sound (call.MakeDir path) free p g (last_of (components path)) kind.Dir None [] reply.Made (λ ino. tt) ys) xs
+path_sound mounts free id (call.Unlink path) w h xs = changes_sound (call.Unlink path) free mounts path (λ g p rest. finds kind.File p g (last_of (components path)) rest) (λ g p ys. finds_sound (call.Unlink path) free kind.File p g (last_of (components path)) ys) xs
+path_sound mounts free id (call.RemoveDir path) w h xs = changes_sound (call.RemoveDir path) free mounts path (λ g p rest. finds kind.Dir p g (last_of (components path)) rest) (λ g p ys. finds_sound (call.RemoveDir path) free kind.Dir p g (last_of (components path)) ys) xs
+path_sound mounts free id (call.Rename path name) w h xs = changes_sound (call.Rename path name) free mounts path (λ g p rest. renames p (last_of (components path)) name rest) (λ g p ys. renames_sound (call.Rename path name) free p (last_of (components path)) name ys) xs
+path_sound mounts free id (call.List path) w h xs = walked_sound (call.List path) free mounts (components path) (lists (shown_in mounts) (last_of (components path))) (λ f k num rest. lists_sound (call.List path) free (shown_in mounts) (last_of (components path)) f k rest) xs
+path_sound mounts free id (call.Stat path) w h xs = walked_sound (call.Stat path) free mounts (components path) describes (λ f k num rest. describes_sound (call.Stat path) free f k rest) xs
+path_sound mounts free id (call.Open path m) w h xs = subst (λ (o : Option ℕ). Sound (call.Open path m) free (λ ys. path_wants mounts o id (call.Open path m) ys) xs) (sym h.1)
     (walked_sound (call.Open path m) free mounts (components path) (opens_file m (Some h.0)) (λ f k num rest. opens_file_sound (call.Open path m) free m h.0 h.1 tt (open_as path m) f num k rest) xs)
-path_sound mounts free (call.Mend file) w h xs = mend_sound (call.Mend file) free file refl xs
-path_sound mounts free _ w h xs = absurd w
+path_sound mounts free id (call.Mail path bytes) w h xs = walked_sound (call.Mail path bytes) free mounts (components path) _
+    (λ dir k num rest. opens_dir_sound (call.Mail path bytes) free (last_of (components path)) (λ p. probes p dir.group (message_name id) kind.File None bytes (tells_name (message_name id))) (λ p ys. probes_sound (call.Mail path bytes) free p dir.group (message_name id) kind.File None bytes (tells_name (message_name id)) (λ ino. tt) ys) dir num k rest) xs
+path_sound mounts free id (call.Mails path) w h xs = walked_sound (call.Mails path) free mounts (components path) (lists shown_messages (last_of (components path))) (λ f k num rest. lists_sound (call.Mails path) free shown_messages (last_of (components path)) f k rest) xs
+path_sound mounts free id (call.Mend file) w h xs = mend_sound (call.Mend file) free file refl xs
+path_sound mounts free id _ w h xs = absurd w
 
 begun_sound : (mounts : List Mount) (free : Option ℕ) (words : Call) (b : Beginning) → BeginsRight words b → HasFree free b words → (xs : List Answer) → Sound words free (begun_wants mounts free words b) xs
 begun_sound mounts free words (begins.Denied why) r h xs = give_sound words free (reply.No why) r xs
 begun_sound mounts free words (begins.Uses e i) r h xs = uses_sound words free i r xs
-begun_sound mounts free words begins.Walks r h xs = path_sound mounts free words r h xs
+begun_sound mounts free words (begins.Walks id) r h xs = path_sound mounts free id words r h xs
 
 named_sound : (mounts : List Mount) (free : Option ℕ) (words : Call) (b : Beginning) → BeginsRight words b → HasFree free b words → (xs : List Answer) → Sound words free (named_wants mounts free words b) xs
 named_sound mounts free words b r h xs = over (is_badly_named mounts words)

@@ -36,7 +36,7 @@ use Rattle.role_steps.specs.Operations.{acts, acts_committed, commits_owing, las
 use Rattle.role_steps.specs.OperationEffects.{Mending, effect_of}
 use Rattle.role_steps.specs.Pulling.{pull_of, pull_packets, is_complete, goes_on as pulls_on, begins_pull, replaces_pull, on_notify, is_awaited, on_page_of, on_page, pull_repeats}
 use Rattle.role_steps.specs.Requests.{descriptors_of, request_packets, asks_op_of, asks_close_of, user_instance, users_repeats}
-use Rattle.role_steps.specs.Using.{accepted, frees, with_brought, content_answer, asks_want, next_want, goes_on, on_call, takes_answer, with_answer, takes_open, on_open_done_of, on_open_done, on_op_done_of, on_op_done, on_close_done_of, on_close_done, looks_again, takes_look, on_look_done_of, on_look_done, asks_open_of, asks_op_number, asks_take}
+use Rattle.role_steps.specs.Using.{accepted, frees, with_brought, content_answer, asks_want, next_want, goes_on, on_call, takes_answer, with_answer, takes_open, on_open_done_of, on_open_done, on_op_done_of, on_op_done, on_close_done_of, on_close_done, looks_again, takes_look, on_look_done_of, on_look_done, asks_open_of, asks_op_number, asks_take, own_call}
 use Rattle.role_steps.specs.Using as using
 use Rattle.role_steps.specs.declared.copies.FileCopy.{FileCopy}
 use Rattle.role_steps.specs.declared.instances.Instance.{Instance}
@@ -274,7 +274,7 @@ goes_on_still f w u = asks_want_still f w (next_want f w u) u
 
 pub on_call_still : (f : Frame) (now : Option EpochId) (process : ℕ) (words : Call) (u : Users) → Still (on_call f now process words u)
 on_call_still f now process words u =
-    let w : WaitingCall = accepted process (u.calls + 1) words (beginning (descriptors_of u process) now words) in
+    let w : WaitingCall = accepted process (u.calls + 1) words (beginning (descriptors_of u process) now (own_call f.me f.boot (u.calls + 1)) words) in
     let e : Still (goes_on f w (frees process words (record u { calls = u.calls + 1 }))) = goes_on_still f w (frees process words (record u { calls = u.calls + 1 })) in
     (e.0, (tt, e.1), e.2)
 

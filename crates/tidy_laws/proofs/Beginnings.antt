@@ -1,5 +1,6 @@
 -- A call that begins on a descriptor: which it is, and what it names.
 use Rattle.std.proofs.Common.{◌≡◌, ℕ, Bool, true, false, Option, Some, None, refl, sym, ap, ◌∙◌}
+use Rattle.locus_ids.specs.declared.ids.CallId.{CallId}
 use Rattle.locus_ids.specs.declared.ids.EpochId.{EpochId}
 use Rattle.locus_ids.specs.declared.ids.Serial.{Serial}
 use Rattle.commit_graph.specs.Grants.{is_read}
@@ -45,31 +46,33 @@ begins_here table now words fd changes e i closes h = by (table fd) refl h
         at true false r n q s k = named d t n (rw (n, q) at k)
         at false b r n q s k = false_true (rw n at k)
 
-walks_not : (now : Option EpochId) (e : EpochId) (i : Serial) → is_on (begins_walk now) e i ≡ false
-walks_not None e i = refl
-walks_not (Some d) e i = refl
+walks_not : (id : CallId) (now : Option EpochId) (e : EpochId) (i : Serial) → is_on (begins_walk now id) e i ≡ false
+walks_not id None e i = refl
+walks_not id (Some d) e i = refl
 
-opens_not : (now : Option EpochId) (free : Option ℕ) (e : EpochId) (i : Serial) → is_on (begins_open now free) e i ≡ false
-opens_not now None e i = refl
-opens_not now (Some fd) e i = walks_not now e i
+opens_not : (id : CallId) (now : Option EpochId) (free : Option ℕ) (e : EpochId) (i : Serial) → is_on (begins_open now id free) e i ≡ false
+opens_not id now None e i = refl
+opens_not id now (Some fd) e i = walks_not id now e i
 
-pub begins_so : (table : ℕ → Option Descriptor) (now : Option EpochId) (words : Call) (e : EpochId) (i : Serial) → is_on (beginning table now words) e i ≡ true → BeginsOn table now words e i
-begins_so table now (call.Open path mode) e i h = false_true (sym (opens_not now (lowest_free table) e i) ∙ h)
-begins_so table now (call.Read fd at len) e i h = begins_here table now (call.Read fd at len) fd false e i (λ k. false_true k) h
-begins_so table now (call.Write fd at bytes) e i h = by (is_too_long (call.Write fd at bytes)) refl
+pub begins_so : (table : ℕ → Option Descriptor) (now : Option EpochId) (id : CallId) (words : Call) (e : EpochId) (i : Serial) → is_on (beginning table now id words) e i ≡ true → BeginsOn table now words e i
+begins_so table now id (call.Open path mode) e i h = false_true (sym (opens_not id now (lowest_free table) e i) ∙ h)
+begins_so table now id (call.Read fd at len) e i h = begins_here table now (call.Read fd at len) fd false e i (λ k. false_true k) h
+begins_so table now id (call.Write fd at bytes) e i h = by (is_too_long (call.Write fd at bytes)) refl
   where
     by : (b : Bool) → is_too_long (call.Write fd at bytes) ≡ b → BeginsOn table now (call.Write fd at bytes) e i
     by true t = false_true (rw t at h)
     by false t = begins_here table now (call.Write fd at bytes) fd true e i (λ k. false_true k) (rw t at h)
-begins_so table now (call.Cut fd len) e i h = begins_here table now (call.Cut fd len) fd true e i (λ k. false_true k) h
-begins_so table now (call.Commit fd) e i h = begins_here table now (call.Commit fd) fd true e i (λ k. false_true k) h
-begins_so table now (call.Abort fd) e i h = begins_here table now (call.Abort fd) fd true e i (λ k. false_true k) h
-begins_so table now (call.Close fd) e i h = begins_here table now (call.Close fd) fd false e i (λ k. refl) h
-begins_so table now (call.Create path sites) e i h = false_true (sym (walks_not now e i) ∙ h)
-begins_so table now (call.MakeDir path) e i h = false_true (sym (walks_not now e i) ∙ h)
-begins_so table now (call.Unlink path) e i h = false_true (sym (walks_not now e i) ∙ h)
-begins_so table now (call.RemoveDir path) e i h = false_true (sym (walks_not now e i) ∙ h)
-begins_so table now (call.Rename path name) e i h = false_true (sym (walks_not now e i) ∙ h)
-begins_so table now (call.List path) e i h = false_true (sym (walks_not now e i) ∙ h)
-begins_so table now (call.Stat path) e i h = false_true (sym (walks_not now e i) ∙ h)
-begins_so table now (call.Mend file) e i h = false_true (sym (walks_not now e i) ∙ h)
+begins_so table now id (call.Cut fd len) e i h = begins_here table now (call.Cut fd len) fd true e i (λ k. false_true k) h
+begins_so table now id (call.Commit fd) e i h = begins_here table now (call.Commit fd) fd true e i (λ k. false_true k) h
+begins_so table now id (call.Abort fd) e i h = begins_here table now (call.Abort fd) fd true e i (λ k. false_true k) h
+begins_so table now id (call.Close fd) e i h = begins_here table now (call.Close fd) fd false e i (λ k. refl) h
+begins_so table now id (call.Create path sites) e i h = false_true (sym (walks_not id now e i) ∙ h)
+begins_so table now id (call.MakeDir path) e i h = false_true (sym (walks_not id now e i) ∙ h)
+begins_so table now id (call.Unlink path) e i h = false_true (sym (walks_not id now e i) ∙ h)
+begins_so table now id (call.RemoveDir path) e i h = false_true (sym (walks_not id now e i) ∙ h)
+begins_so table now id (call.Rename path name) e i h = false_true (sym (walks_not id now e i) ∙ h)
+begins_so table now id (call.List path) e i h = false_true (sym (walks_not id now e i) ∙ h)
+begins_so table now id (call.Stat path) e i h = false_true (sym (walks_not id now e i) ∙ h)
+begins_so table now id (call.Mail path bytes) e i h = false_true (sym (walks_not id now e i) ∙ h)
+begins_so table now id (call.Mails path) e i h = false_true (sym (walks_not id now e i) ∙ h)
+begins_so table now id (call.Mend file) e i h = false_true (sym (walks_not id now e i) ∙ h)

@@ -265,3 +265,5 @@ accepts c p site process id (call.RemoveDir path) sites may = accepts_call c p s
 accepts c p site process id (call.Rename path name) sites may = accepts_call c p site process id may
 accepts c p site process id (call.List path) sites may = accepts_call c p site process id may
 accepts c p site process id (call.Stat path) sites may = accepts_call c p site process id may
+accepts c p site process id (call.Mail path bytes) sites may = accepts_call c p site process id may
+accepts c p site process id (call.Mails path) sites may = accepts_call c p site process id may

@@ -150,7 +150,7 @@ calls_next c p (rec.Leave site e) tidy may = calls_same p.sites _ p.calls (site_
 calls_next c p (rec.Join site e members) tidy may = subst (λ (ks : List CallSoFar). CallsStand (change (has_number site) (λ s. record s { epoch = Some e; joined = Some e }) (with_epoch e members p).sites) ks) (sym (epoch_calls e members p))
     (subst (λ ss. CallsStand (change (has_number site) (λ s. record s { epoch = Some e; joined = Some e }) ss) p.calls) (sym (epoch_sites e members p)) (calls_same p.sites (change (has_number site) (λ s. record s { epoch = Some e; joined = Some e }) p.sites) p.calls (site_changed site (λ s. record s { epoch = Some e; joined = Some e }) p.sites (λ s. refl) (λ s. refl) (λ s. refl) (λ s. refl)) tidy.calls))
 calls_next c p (rec.Start e group copies) tidy may = tidy.calls
-calls_next c p (rec.Accept site process id words) tidy may = accepted_call c p site process words (begun_call p site process id words (beginning (table p site process) (site_at p site).epoch words)) (accepts c p site process id words tidy.sites may) refl tidy.calls
+calls_next c p (rec.Accept site process id words) tidy may = accepted_call c p site process words (begun_call p site process id words (beginning (table p site process) (site_at p site).epoch id words)) (accepts c p site process id words tidy.sites may) refl tidy.calls
 calls_next c p (rec.Look e id request f w result) tidy may = answered_calls p p.sites (is_id id) (λ k. take (request - 1) k.answers ++ look_answer p f w result ∷ []) (kept_so p.sites) tidy.calls
 calls_next c p (rec.Grant e id request i m f stamp ss) tidy may = calls_changed p.sites p.sites p.calls (is_id id) (λ (k : CallSoFar). record k { granted = Some (record { mode = m; epoch = e; inst = i }); answers = k.answers ++ granted_answer m i f (kept_in p (epoch_at p e) f) ∷ [] }) (kept_so p.sites) (record { name = λ k. refl; process = λ k. refl; waits = λ k h. h }) tidy.calls
 calls_next c p (rec.Refuse e id request i m f why) tidy may = answered_calls p p.sites (is_id id) (λ k. k.answers ++ Refused why ∷ []) (kept_so p.sites) tidy.calls

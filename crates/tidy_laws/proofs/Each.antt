@@ -78,7 +78,7 @@ sites_each P c p rec.Budget tidy may steps h = h
 
 abbrev pub CallSteps : (CallSoFar → Type 0) → Past → Record → Type 0
 CallSteps P p (rec.Stopped site cause) = (k : CallSoFar) → P k → P (record k { waits = false })
-CallSteps P p (rec.Accept site process id words) = P (begun_call p site process id words (beginning (table p site process) (site_at p site).epoch words))
+CallSteps P p (rec.Accept site process id words) = P (begun_call p site process id words (beginning (table p site process) (site_at p site).epoch id words))
 CallSteps P p (rec.Look e id request f w result) = (k : CallSoFar) (answers : List Answer) → P k → P (record k { answers = answers })
 CallSteps P p (rec.Grant e id request i m f stamp ss) = (k : CallSoFar) (answers : List Answer) → k.id ≡ id → P k → P (record k { granted = Some (record { mode = m; epoch = e; inst = i }); answers = answers })
 CallSteps P p (rec.Refuse e id request i m f why) = (k : CallSoFar) (answers : List Answer) → P k → P (record k { answers = answers })
@@ -154,7 +154,7 @@ epochs_each P c p (rec.Start e group copies) tidy may steps h = changed_each P (
 epochs_each P c p (rec.Accept site process id words) tidy may steps h = changed_each P (λ (t : Epoch). is_in k.epoch t.id) (λ (t : Epoch). record t { opened = change (uses k.begins words t.id) (λ (x : Instance). record x { uses = x.uses + 1 }) t.opened }) (λ t i s. steps t (uses k.begins words t.id) s) p.epochs h
   where
     k : CallSoFar
-    k = begun_call p site process id words (beginning (table p site process) (site_at p site).epoch words)
+    k = begun_call p site process id words (beginning (table p site process) (site_at p site).epoch id words)
 epochs_each P c p (rec.Look e id request f w result) tidy may steps h = h
 epochs_each P c p (rec.Grant e id request i m f stamp ss) tidy may steps h = each_changed (λ (t : Epoch). (is_epoch e t ≡ true → epoch_at p e ≡ t) × P t) P (is_epoch e) (λ (t : Epoch). record t { granted = g ∷ t.granted; opened = t.opened ++ opened_as p g stamp ∷ [] }) (λ t w k. steps t (k.0 w) g refl k.1) (λ t w k. k.1) p.epochs
     (each_both (λ (t : Epoch). is_epoch e t ≡ true → epoch_at p e ≡ t) P (λ (t : Epoch). (is_epoch e t ≡ true → epoch_at p e ≡ t) × P t) (λ t a b. (a, b)) p.epochs (epochs_are p e tidy.epochs) h)

@@ -71,7 +71,7 @@ epochs_next c p (rec.Accept site process id words) tidy may = epochs_moved p.epo
     (λ t h. instances_moved t (uses k.begins words t.id) (λ (x : Instance). record x { uses = x.uses + 1 }) t.started t.makes t.unmended (λ x. refl) h) tidy.epochs
   where
     k : CallSoFar
-    k = begun_call p site process id words (beginning (table p site process) (site_at p site).epoch words)
+    k = begun_call p site process id words (beginning (table p site process) (site_at p site).epoch id words)
 epochs_next c p (rec.Look e id request f w result) tidy may = tidy.epochs
 epochs_next c p (rec.Grant e id request i m f stamp ss) tidy may = epoch_moved p e (λ (t : Epoch). record t { granted = g ∷ t.granted; opened = t.opened ++ opened_as p g stamp ∷ [] }) (λ t. refl)
     (λ t h k. granted_epoch t g (opened_as p g stamp) refl (ap (λ (u : Epoch). list_any (is_grant i) u.granted) (sym h) ∙ grants_new c p (epoch_at p e) id request i m f stamp ss may) k) tidy.epochs

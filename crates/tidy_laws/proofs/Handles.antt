@@ -172,7 +172,7 @@ accept_fewer : (e : EpochId) (i : Serial) (c : Config) (p : Past) (site process 
 accept_fewer e i c p site process id words tidy may = at (is_on k.begins e i) (is_close words) refl refl
   where
     k : CallSoFar
-    k = begun_call p site process id words (beginning (table p site process) (site_at p site).epoch words)
+    k = begun_call p site process id words (beginning (table p site process) (site_at p site).epoch id words)
 
     new : List Site
     new = change (has_number site) (λ s. record s { accepted = s.accepted + 1; descriptors = filter (λ d. not (is_freed words process d)) s.descriptors }) p.sites
@@ -183,7 +183,7 @@ accept_fewer e i c p site process id words tidy may = at (is_on k.begins e i) (i
     drops : is_on k.begins e i ≡ true → is_close words ≡ true → described e i new + 1 ≤ described e i p.sites
     drops on closes = sum_drops (named_at e i) (has_number site) (λ s. record s { accepted = s.accepted + 1; descriptors = filter (λ d. not (is_freed words process d)) s.descriptors }) (freed_less e i words process) p.sites
         (each_more (λ (s : Site). has_number site s ≡ true → site_of p.sites site ≡ s) (λ (s : Site). has_number site s ≡ true → length (filter (describes e i) (filter (λ d. not (is_freed words process d)) s.descriptors)) + 1 ≤ named_at e i s)
-        (λ s h g. subst (λ (x : Site). length (filter (describes e i) (filter (λ d. not (is_freed words process d)) x.descriptors)) + 1 ≤ length (filter (describes e i) x.descriptors)) (h g) (close_frees e i p site process words (begins_so (table p site process) (site_at p site).epoch words e i on) closes))
+        (λ s h g. subst (λ (x : Site). length (filter (describes e i) (filter (λ d. not (is_freed words process d)) x.descriptors)) + 1 ≤ length (filter (describes e i) x.descriptors)) (h g) (close_frees e i p site process words (begins_so (table p site process) (site_at p site).epoch id words e i on) closes))
         p.sites (sites_are c p.sites tidy.sites site))
         (accepts c p site process id words tidy.sites may).there
 

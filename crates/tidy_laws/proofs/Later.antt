@@ -126,7 +126,7 @@ later_next c p (rec.Accept site process id words) tidy may = all_later p.epochs 
     (λ t. opened_later t (uses k.begins words t.id) (λ (x : Instance). record x { uses = x.uses + 1 }) t.started t.makes t.left t.unmended (λ x. refl) (λ x h. h))
   where
     k : CallSoFar
-    k = begun_call p site process id words (beginning (table p site process) (site_at p site).epoch words)
+    k = begun_call p site process id words (beginning (table p site process) (site_at p site).epoch id words)
 later_next c p (rec.Look e id request f w result) tidy may = same_later p.epochs
 later_next c p (rec.Grant e id request i m f stamp ss) tidy may = changed_later p.epochs (is_epoch e) (λ (t : Epoch). record t { granted = g ∷ t.granted; opened = t.opened ++ opened_as p g stamp ∷ [] })
     (each_more (λ (t : Epoch). is_epoch e t ≡ true → epoch_at p e ≡ t) (λ (t : Epoch). is_epoch e t ≡ true → Later t (record t { granted = g ∷ t.granted; opened = t.opened ++ opened_as p g stamp ∷ [] }))

@@ -57,13 +57,13 @@ waits_tied : (epochs : List Epoch) (k : CallSoFar) → CallTied epochs k → Cal
 waits_tied epochs k t = record { epoch = t.epoch; granted = t.granted; has_it = t.has_it; within = t.within; uses = t.uses }
 
 -- the call that is accepted
-pub begun_tied : (p : Past) → TiesStand p → (site process : ℕ) (id : CallId) (words : Call) → CallTied p.epochs (begun_call p site process id words (beginning (table p site process) (site_at p site).epoch words))
+pub begun_tied : (p : Past) → TiesStand p → (site process : ℕ) (id : CallId) (words : Call) → CallTied p.epochs (begun_call p site process id words (beginning (table p site process) (site_at p site).epoch id words))
 begun_tied p ties site process id words = record {
   epoch = λ e h. is_there (has_member (site_at p site).number) e p.epochs (own.inside e h);
   granted = λ d h. none_some d h;
   has_it = λ d h. none_some d h;
-  within = λ e i h. (begins_so (table p site process) (site_at p site).epoch words e i h).inside;
-  uses = λ e i h. used e i (begins_so (table p site process) (site_at p site).epoch words e i h);
+  within = λ e i h. (begins_so (table p site process) (site_at p site).epoch id words e i h).inside;
+  uses = λ e i h. used e i (begins_so (table p site process) (site_at p site).epoch id words e i h);
 }
   where
     own : SiteTied p.epochs (site_at p site)
@@ -110,7 +110,7 @@ call_steps c p (rec.Leave site e) tidy ties may n = tt
 call_steps c p (rec.Join site e members) tidy ties may n = tt
 call_steps c p (rec.Start e group copies) tidy ties may n = tt
 call_steps c p (rec.Accept site process id words) tidy ties may n = call_later p.epochs (after c (rec.Accept site process id words) p).epochs (later_next c p (rec.Accept site process id words) tidy may)
-    (begun_call p site process id words (beginning (table p site process) (site_at p site).epoch words)) (begun_tied p ties site process id words)
+    (begun_call p site process id words (beginning (table p site process) (site_at p site).epoch id words)) (begun_tied p ties site process id words)
 call_steps c p (rec.Look e id request f w result) tidy ties may n = λ k answers t. answers_tied p.epochs k answers t
 call_steps c p (rec.Grant e id request i m f stamp ss) tidy ties may n = absurd n
 call_steps c p (rec.Refuse e id request i m f why) tidy ties may n = λ k answers t. answers_tied (after c (rec.Refuse e id request i m f why) p).epochs k answers t

@@ -61,7 +61,7 @@ few_uses t (begins.Uses e i) words st = omega (arith, st.single i, fewer_pass (u
     named : (x : Instance) → uses (begins.Uses e i) words t.id x ≡ true → is_named i x ≡ true
     named x h = serial_test x.grant.inst i (sym (serial_eq i x.grant.inst (both_parts (same_epoch e t.id) (same_serial i x.grant.inst) (both_parts (is_on (begins.Uses e i) t.id x.grant.inst) (not (is_close words)) h).0).1))
 few_uses t (begins.Denied why) words st = omega (arith, st.single (record { us = 0; serial = 0 }), fewer_pass (uses (begins.Denied why) words t.id) (is_named (record { us = 0; serial = 0 })) (λ x h. false_true h) t.opened)
-few_uses t begins.Walks words st = omega (arith, st.single (record { us = 0; serial = 0 }), fewer_pass (uses begins.Walks words t.id) (is_named (record { us = 0; serial = 0 })) (λ x h. false_true h) t.opened)
+few_uses t (begins.Walks id) words st = omega (arith, st.single (record { us = 0; serial = 0 }), fewer_pass (uses (begins.Walks id) words t.id) (is_named (record { us = 0; serial = 0 })) (λ x h. false_true h) t.opened)
 
 -- and they are of one epoch
 one_epoch : (b : Beginning) (words : Call) (t u : Epoch) (x y : Instance) → uses b words t.id x ≡ true → uses b words u.id y ≡ true → is_epoch t.id u ≡ true
@@ -70,7 +70,7 @@ one_epoch (begins.Uses e i) words t u x y h k = epoch_test u.id t.id (sym (of u 
     of : (v : Epoch) (z : Instance) → uses (begins.Uses e i) words v.id z ≡ true → e ≡ v.id
     of v z g = epoch_eq e v.id (both_parts (same_epoch e v.id) (same_serial i z.grant.inst) (both_parts (is_on (begins.Uses e i) v.id z.grant.inst) (not (is_close words)) g).0).0
 one_epoch (begins.Denied why) words t u x y h k = false_true h
-one_epoch begins.Walks words t u x y h k = false_true h
+one_epoch (begins.Walks id) words t u x y h k = false_true h
 
 abbrev counts : Instance → ℕ
 counts x = x.uses + 1

@@ -126,7 +126,7 @@ other_turns : (c : Config) (p : Past) (r : Record) → IsTidy c p → AllByRecur
 other_turns c p r tidy old may n = epochs_each (TurnsStand (after c r p).calls) c p r tidy may (turn_steps c p r tidy may n) (each_more (TurnsStand p.calls) (TurnsStand (after c r p).calls) (turns_later c p r tidy may n) p.epochs old)
 
 pub turns_next : (c : Config) (p : Past) (r : Record) → IsTidy c p → AllByRecursion (TurnsStand p.calls) p.epochs → may_follow c p r ≡ true → AllByRecursion (TurnsStand (after c r p).calls) (after c r p).epochs
-turns_next c p (rec.Accept site process id words) tidy old may = accept_turns p (begun_call p site process id words (beginning (table p site process) (site_at p site).epoch words)) (begun_tied p tidy.ties site process id words) refl tidy.epochs old
+turns_next c p (rec.Accept site process id words) tidy old may = accept_turns p (begun_call p site process id words (beginning (table p site process) (site_at p site).epoch id words)) (begun_tied p tidy.ties site process id words) refl tidy.epochs old
 turns_next c p (rec.Up site boot) tidy old may = other_turns c p (rec.Up site boot) tidy old may tt
 turns_next c p (rec.Stopped site cause) tidy old may = other_turns c p (rec.Stopped site cause) tidy old may tt
 turns_next c p (rec.Leave site e) tidy old may = other_turns c p (rec.Leave site e) tidy old may tt

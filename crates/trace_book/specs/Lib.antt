@@ -1,3 +1,4 @@
 pub mod Text
 pub mod Same
 pub mod Names
+pub mod Messages

@@ -22,6 +22,10 @@ pub enum Call {
     Rename { path: Bytes, name: Bytes },
     List { path: Bytes },
     Stat { path: Bytes },
+    /// A new message of these bytes is put into a box. A box is a directory.
+    Mail { path: Bytes, bytes: Bytes },
+    /// The messages of a box.
+    Mails { path: Bytes },
     Open { path: Bytes, mode: OpenMode },
     Read { fd: u16, at: u32, len: u16 },
     Write { fd: u16, at: u32, bytes: Bytes },

@@ -1,4 +1,4 @@
-use locus_ids::{EpochId, Mode, Refusal, Serial};
+use locus_ids::{CallId, EpochId, Mode, Refusal, Serial};
 
 /// What an open descriptor of a process stands for: an instance, by the epoch in which it was opened.
 #[derive(Clone, Copy, PartialEq, Eq)]
@@ -15,6 +15,6 @@ pub enum Beginning {
     Denied { why: Refusal },
     /// It works on an open instance.
     Uses { epoch: EpochId, inst: Serial },
-    /// It walks a path.
-    Walks,
+    /// It walks a path. What it makes may be named by its own name.
+    Walks { call: CallId },
 }

@@ -50,6 +50,16 @@ pub fn push_call_words(out: &mut Bytes, call: &Call) -> Result<(), NoMemory>
             out.append(b"stat ")?;
             out.append(path.as_slice())
         }
+        Call::Mail { path, bytes } => {
+            out.append(b"mail ")?;
+            out.append(path.as_slice())?;
+            out.append(b" ")?;
+            push_hex(out, bytes.as_slice())
+        }
+        Call::Mails { path } => {
+            out.append(b"mails ")?;
+            out.append(path.as_slice())
+        }
         Call::Open { path, mode } => {
             out.append(b"open ")?;
             out.append(path.as_slice())?;

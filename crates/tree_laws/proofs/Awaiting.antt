@@ -303,8 +303,8 @@ held_old c n (Shown r) older d i h may named k has = held_stays c n (Shown r) ol
 held_old c n x older d i h may named k has = held_stays c n x older d i h may (k.held d i named (sym (has_stays c n x older h may d named refl i) ∙ has))
 
 -- a call that is accepted has what it begins with
-pub new_has : (c : Config) (n s process : ℕ) (new : CallId) (words : Call) (older : List Line) (i : Serial) → Untaken c older new → has_instances c (With n (Shown (says.Accept s process new words)) older) new i ≡ begun_with (begins_now (entries older) s process words) i
-new_has c n s process new words older i u = u.has_is (with_begun (begun (entries (With n (Shown (says.Accept s process new words)) older)) new)) i ∙ ap (λ (b : Bool). with_begun (cond b (Some (begins_now (entries older) s process words)) (begun (entries older) new)) i) (same_call_own new)
+pub new_has : (c : Config) (n s process : ℕ) (new : CallId) (words : Call) (older : List Line) (i : Serial) → Untaken c older new → has_instances c (With n (Shown (says.Accept s process new words)) older) new i ≡ begun_with (begins_now (entries older) s process new words) i
+new_has c n s process new words older i u = u.has_is (with_begun (begun (entries (With n (Shown (says.Accept s process new words)) older)) new)) i ∙ ap (λ (b : Bool). with_begun (cond b (Some (begins_now (entries older) s process new words)) (begun (entries older) new)) i) (same_call_own new)
 
 -- what it begins with is the instance of its descriptor
 pub begun_uses : (b : Beginning) (i : Serial) → begun_with b i ≡ true → (e : EpochId) × (uses_by b e i ≡ true)
@@ -315,13 +315,13 @@ begun_uses (begins.Uses e inst) i t = (e, both (same_epoch e e) (same_serial ins
     both true false p q = q
     both false b p q = p
 begun_uses (begins.Denied why) i t = absurd (true_false (sym t))
-begun_uses begins.Walks i t = absurd (true_false (sym t))
+begun_uses (begins.Walks id) i t = absurd (true_false (sym t))
 
 held_new : (c : Config) (n s process : ℕ) (new : CallId) (words : Call) (older : List Line) (i : Serial) → IsFollowed c older → MayTell c older (Shown (says.Accept s process new words)) → Untaken c older new → has_instances c (With n (Shown (says.Accept s process new words)) older) new i ≡ true → IsHeldBy (With n (Shown (says.Accept s process new words)) older) new i
 held_new c n s process new words older i h may u has = record { epoch = b.0; inside = user.inside; held = inr user }
   where
-    b : (e : EpochId) × (uses_by (begins_now (entries older) s process words) e i ≡ true)
-    b = begun_uses (begins_now (entries older) s process words) i (sym (new_has c n s process new words older i u) ∙ has)
+    b : (e : EpochId) × (uses_by (begins_now (entries older) s process new words) e i ≡ true)
+    b = begun_uses (begins_now (entries older) s process new words) i (sym (new_has c n s process new words older i u) ∙ has)
 
     user : IsUser (entries (With n (Shown (says.Accept s process new words)) older)) b.0 i new
     user = user_accepted c older n s process new words b.0 i h may b.1

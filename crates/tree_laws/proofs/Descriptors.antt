@@ -205,13 +205,13 @@ uses_epoch e g i j k = cc
 uses_serial : (e g : EpochId) (i j : Serial) → begins.Uses e i ≡ begins.Uses g j → i ≡ j
 uses_serial e g i j k = cc
 
-walk_uses : (now : Option EpochId) (e : EpochId) (i : Serial) → begins_walk now ≡ begins.Uses e i → ⊥
-walk_uses None e i k = cc
-walk_uses (Some at) e i k = cc
+walk_uses : (id : CallId) (now : Option EpochId) (e : EpochId) (i : Serial) → begins_walk now id ≡ begins.Uses e i → ⊥
+walk_uses id None e i k = cc
+walk_uses id (Some at) e i k = cc
 
-open_uses : (now : Option EpochId) (free : Option ℕ) (e : EpochId) (i : Serial) → begins_open now free ≡ begins.Uses e i → ⊥
-open_uses now None e i k = cc
-open_uses now (Some fd) e i k = walk_uses now e i k
+open_uses : (id : CallId) (now : Option EpochId) (free : Option ℕ) (e : EpochId) (i : Serial) → begins_open now id free ≡ begins.Uses e i → ⊥
+open_uses id now None e i k = cc
+open_uses id now (Some fd) e i k = walk_uses id now e i k
 
 in_now : (now : Option EpochId) (e : EpochId) → is_in now e ≡ true → now ≡ Some e
 in_now None e t = absurd (true_false (sym t))
@@ -230,26 +230,28 @@ on_uses changes table now fd words e i plain number (Some x) is k = at changes (
     at false true b p q k = from p (rw p at k)
     at c false b p q k = absurd (denied_uses _ e i (rw p at k))
 
-pub uses_from : (table : ℕ → Option Descriptor) (now : Option EpochId) (words : Call) (e : EpochId) (i : Serial) → beginning table now words ≡ begins.Uses e i → FromDescriptor table now words e i
-uses_from table now (call.Open path mode) e i k = absurd (open_uses now (lowest_free table) e i k)
-uses_from table now (call.Read fd at len) e i k = on_uses false table now fd (call.Read fd at len) e i tt tt (table fd) refl k
-uses_from table now (call.Write fd at bytes) e i k = over (is_too_long (call.Write fd at bytes)) k
+pub uses_from : (table : ℕ → Option Descriptor) (now : Option EpochId) (id : CallId) (words : Call) (e : EpochId) (i : Serial) → beginning table now id words ≡ begins.Uses e i → FromDescriptor table now words e i
+uses_from table now id (call.Open path mode) e i k = absurd (open_uses id now (lowest_free table) e i k)
+uses_from table now id (call.Read fd at len) e i k = on_uses false table now fd (call.Read fd at len) e i tt tt (table fd) refl k
+uses_from table now id (call.Write fd at bytes) e i k = over (is_too_long (call.Write fd at bytes)) k
   where
     over : (b : Bool) → cond b (begins.Denied refusal.TooLong) (begins_on true now (table fd)) ≡ begins.Uses e i → FromDescriptor table now (call.Write fd at bytes) e i
     over true m = absurd (denied_uses _ e i m)
     over false m = on_uses true table now fd (call.Write fd at bytes) e i tt tt (table fd) refl m
-uses_from table now (call.Cut fd len) e i k = on_uses true table now fd (call.Cut fd len) e i tt tt (table fd) refl k
-uses_from table now (call.Commit fd) e i k = on_uses true table now fd (call.Commit fd) e i tt tt (table fd) refl k
-uses_from table now (call.Abort fd) e i k = on_uses true table now fd (call.Abort fd) e i tt tt (table fd) refl k
-uses_from table now (call.Close fd) e i k = on_uses false table now fd (call.Close fd) e i tt refl (table fd) refl k
-uses_from table now (call.Create path sites) e i k = absurd (walk_uses now e i k)
-uses_from table now (call.MakeDir path) e i k = absurd (walk_uses now e i k)
-uses_from table now (call.Unlink path) e i k = absurd (walk_uses now e i k)
-uses_from table now (call.RemoveDir path) e i k = absurd (walk_uses now e i k)
-uses_from table now (call.Rename path name) e i k = absurd (walk_uses now e i k)
-uses_from table now (call.List path) e i k = absurd (walk_uses now e i k)
-uses_from table now (call.Stat path) e i k = absurd (walk_uses now e i k)
-uses_from table now (call.Mend file) e i k = absurd (walk_uses now e i k)
+uses_from table now id (call.Cut fd len) e i k = on_uses true table now fd (call.Cut fd len) e i tt tt (table fd) refl k
+uses_from table now id (call.Commit fd) e i k = on_uses true table now fd (call.Commit fd) e i tt tt (table fd) refl k
+uses_from table now id (call.Abort fd) e i k = on_uses true table now fd (call.Abort fd) e i tt tt (table fd) refl k
+uses_from table now id (call.Close fd) e i k = on_uses false table now fd (call.Close fd) e i tt refl (table fd) refl k
+uses_from table now id (call.Create path sites) e i k = absurd (walk_uses id now e i k)
+uses_from table now id (call.MakeDir path) e i k = absurd (walk_uses id now e i k)
+uses_from table now id (call.Unlink path) e i k = absurd (walk_uses id now e i k)
+uses_from table now id (call.RemoveDir path) e i k = absurd (walk_uses id now e i k)
+uses_from table now id (call.Rename path name) e i k = absurd (walk_uses id now e i k)
+uses_from table now id (call.List path) e i k = absurd (walk_uses id now e i k)
+uses_from table now id (call.Stat path) e i k = absurd (walk_uses id now e i k)
+uses_from table now id (call.Mail path bytes) e i k = absurd (walk_uses id now e i k)
+uses_from table now id (call.Mails path) e i k = absurd (walk_uses id now e i k)
+uses_from table now id (call.Mend file) e i k = absurd (walk_uses id now e i k)
 
 pub uses_is : (b : Beginning) (e : EpochId) (i : Serial) → uses_by b e i ≡ true → b ≡ begins.Uses e i
 uses_is (begins.Uses at inst) e i t = over (same_epoch at e) (same_serial inst i) refl refl t
@@ -259,7 +261,7 @@ uses_is (begins.Uses at inst) e i t = over (same_epoch at e) (same_serial inst i
     over true false p q u = absurd (true_false (sym u))
     over false b p q u = absurd (true_false (sym u))
 uses_is (begins.Denied why) e i t = absurd (true_false (sym t))
-uses_is begins.Walks e i t = absurd (true_false (sym t))
+uses_is (begins.Walks id) e i t = absurd (true_false (sym t))
 
 -- ---- who uses an instance ----
 
@@ -290,8 +292,8 @@ users_kept c older n r e i h may same closed k = record {
 }
 
 -- a call that begins at the instance is a user of it
-pub user_accepted : (c : Config) (older : List Line) (n s process : ℕ) (new : CallId) (words : Call) (e : EpochId) (i : Serial) → IsFollowed c older → MayTell c older (Shown (says.Accept s process new words)) → uses_by (begins_now (entries older) s process words) e i ≡ true → IsUser (With n (says.Accept s process new words) (entries older)) e i new
-user_accepted c older n s process new words e i h may t = (let f : FromDescriptor (descriptor (entries older) s process) (epoch_of (entries older) s) words e i = uses_from (descriptor (entries older) s process) (epoch_of (entries older) s) words e i (uses_is (begins_now (entries older) s process words) e i t) in record {
+pub user_accepted : (c : Config) (older : List Line) (n s process : ℕ) (new : CallId) (words : Call) (e : EpochId) (i : Serial) → IsFollowed c older → MayTell c older (Shown (says.Accept s process new words)) → uses_by (begins_now (entries older) s process new words) e i ≡ true → IsUser (With n (says.Accept s process new words) (entries older)) e i new
+user_accepted c older n s process new words e i h may t = (let f : FromDescriptor (descriptor (entries older) s process) (epoch_of (entries older) s) words e i = uses_from (descriptor (entries older) s process) (epoch_of (entries older) s) new words e i (uses_is (begins_now (entries older) s process new words) e i t) in record {
   inside = record { accepted = it; named = ap (λ (b : Bool). cond b (Some it) (call_named (entries older) new)) (same_call_own new); made_in = f.inside };
   site_is = sym at_site;
   plain = f.plain;
@@ -309,7 +311,7 @@ user_accepted c older n s process new words e i h may t = (let f : FromDescripto
     at_site = ap (λ (x : CallId). x.site) (numbered c (entries older) s process new words may.row)
 
 users_accept : (c : Config) (older : List Line) (n s process : ℕ) (new : CallId) (words : Call) (e : EpochId) (i : Serial) → IsFollowed c older → MayTell c older (Shown (says.Accept s process new words)) → AreUsers (entries older) e i → AreUsers (With n (says.Accept s process new words) (entries older)) e i
-users_accept c older n s process new words e i h may k = record { uses = uses (not (is_close words) && uses_by (begins_now (entries older) s process words) e i) refl; closes = λ d o. closes d (is_close words && uses_by (begins_now (entries older) s process words) e i) refl o }
+users_accept c older n s process new words e i h may k = record { uses = uses (not (is_close words) && uses_by (begins_now (entries older) s process new words) e i) refl; closes = λ d o. closes d (is_close words && uses_by (begins_now (entries older) s process new words) e i) refl o }
   where
     r : Record
     r = says.Accept s process new words
@@ -321,12 +323,12 @@ users_accept c older n s process new words e i h may k = record { uses = uses (n
     second true b t = t
     second false b t = absurd (true_false (sym t))
 
-    uses : (b : Bool) → (not (is_close words) && uses_by (begins_now (entries older) s process words) e i) ≡ b → Every (IsUser (With n r (entries older)) e i) (cond b (new ∷ uses_of (entries older) e i) (uses_of (entries older) e i))
-    uses true t = (user_accepted c older n s process new words e i h may (second (not (is_close words)) (uses_by (begins_now (entries older) s process words) e i) t), stay)
+    uses : (b : Bool) → (not (is_close words) && uses_by (begins_now (entries older) s process new words) e i) ≡ b → Every (IsUser (With n r (entries older)) e i) (cond b (new ∷ uses_of (entries older) e i) (uses_of (entries older) e i))
+    uses true t = (user_accepted c older n s process new words e i h may (second (not (is_close words)) (uses_by (begins_now (entries older) s process new words) e i) t), stay)
     uses false t = stay
 
-    closes : (d : CallId) (b : Bool) → (is_close words && uses_by (begins_now (entries older) s process words) e i) ≡ b → cond b (Some new) (close_of (entries older) e i) ≡ Some d → IsUser (With n r (entries older)) e i d
-    closes d true t o = subst (IsUser (With n r (entries older)) e i) (some_same new d o) (user_accepted c older n s process new words e i h may (second (is_close words) (uses_by (begins_now (entries older) s process words) e i) t))
+    closes : (d : CallId) (b : Bool) → (is_close words && uses_by (begins_now (entries older) s process new words) e i) ≡ b → cond b (Some new) (close_of (entries older) e i) ≡ Some d → IsUser (With n r (entries older)) e i d
+    closes d true t o = subst (IsUser (With n r (entries older)) e i) (some_same new d o) (user_accepted c older n s process new words e i h may (second (is_close words) (uses_by (begins_now (entries older) s process new words) e i) t))
     closes d false t o = user_stays c older n r e i d h may (k.closes d o)
 
 users_record : (c : Config) (older : List Line) (n : ℕ) (r : Record) (e : EpochId) (i : Serial) → IsFollowed c older → MayTell c older (Shown r) → AreUsers (entries older) e i → AreUsers (With n r (entries older)) e i

@@ -1,6 +1,7 @@
 -- What a call asks, but for its reply, doesn't hang on which descriptor is free.
 use Rattle.std.proofs.Common.{◌≡◌, ℕ, Bool, true, false, cond, List, [], ◌∷◌, Option, Some, None, refl, sym, ap}
 use Rattle.the_run.proofs.of_plain_facts.Tests.{true_false}
+use Rattle.locus_ids.specs.declared.ids.CallId.{CallId}
 use Rattle.locus_ids.specs.declared.config.Config.{Config}
 use Rattle.locus_ids.specs.declared.config.Mount.{Mount}
 use Rattle.locus_ids.specs.declared.ids.FileId.{FileId}
@@ -51,14 +52,14 @@ walked_same mounts path xs f g same = over (walk mounts path [] (root_of 0) Dir 
     over (There file kind ys) e = rw e (same file kind ys)
     over Strays e = rw e (λ r. refl)
 
-path_same : (mounts : List Mount) (free : Option ℕ) (words : Call) (xs : List Answer) → AsksSame (path_wants mounts None words xs) (path_wants mounts free words xs)
-path_same mounts free (call.Open path how) xs = walked_same mounts (components path) xs (opens_file how None) (opens_file how free) (λ file kind ys. opens_same how free file kind ys)
-path_same mounts free _ xs = λ r. refl
+path_same : (mounts : List Mount) (free : Option ℕ) (id : CallId) (words : Call) (xs : List Answer) → AsksSame (path_wants mounts None id words xs) (path_wants mounts free id words xs)
+path_same mounts free id (call.Open path how) xs = walked_same mounts (components path) xs (opens_file how None) (opens_file how free) (λ file kind ys. opens_same how free file kind ys)
+path_same mounts free id _ xs = λ r. refl
 
 begun_same : (mounts : List Mount) (free : Option ℕ) (words : Call) (b : Beginning) (xs : List Answer) → AsksSame (begun_wants mounts None words b xs) (begun_wants mounts free words b xs)
 begun_same mounts free words (Denied why) xs = λ r. refl
 begun_same mounts free words (Uses epoch inst) xs = λ r. refl
-begun_same mounts free words Walks xs = path_same mounts free words xs
+begun_same mounts free words (Walks id) xs = path_same mounts free id words xs
 
 named_same : (mounts : List Mount) (free : Option ℕ) (words : Call) (b : Beginning) (xs : List Answer) → AsksSame (named_wants mounts None words b xs) (named_wants mounts free words b xs)
 named_same mounts free words b xs = over (is_badly_named mounts words)

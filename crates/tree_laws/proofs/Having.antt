@@ -150,7 +150,7 @@ safe_accept c n s process new words older h may xs = over (named_or_untaken c ol
     it = accepted_as (entries older) s process new words
 
     begins : Beginning
-    begins = begins_now (entries older) s process words
+    begins = begins_now (entries older) s process new words
 
     before : Answers → Want
     before ys = wants c.mounts (is_packed_in c (entries (With n x older)) it.epoch) None words begins ys

@@ -22,7 +22,7 @@ use Rattle.call_rules.specs.declared.answer.Answer.TheVariants as answer
 use Rattle.call_rules.specs.declared.want.Want.{Want}
 use Rattle.call_rules.specs.declared.want.Want.TheVariants as want
 use Rattle.call_rules.specs.Closing.{Unchanged, closes, gives, give_up, close_all}
-use Rattle.call_rules.specs.Making.{after_insert, after_make, after_probe, probes, opens_dir}
+use Rattle.call_rules.specs.Making.{after_insert, after_make, fills, after_probe, probes, opens_dir}
 use Rattle.call_rules.specs.Mending.{after_mend, brings, mend_wants}
 use Rattle.call_rules.specs.Naming.{renames}
 use Rattle.call_rules.specs.Opening.{close_wants}
@@ -170,11 +170,11 @@ close_two p t r (a ∷ xs) apart = λ new. never_safe (had_after (want.Close p) 
 
 -- ---- create and mkdir ----
 
-after_insert_safe : (p : Serial) (name : List ℕ) (k : Kind) (ino : ℕ) (own : Instances) (xs : List Answer) → own p ≡ true → Safe (after_insert p name k ino) own xs
-after_insert_safe p name k ino own [] h = h
-after_insert_safe p name k ino own (answer.Did o ∷ xs) h = λ new. close_one p (reply.Made ino) own xs h
-after_insert_safe p name k ino own (answer.Refused why ∷ xs) h = λ new. give_up_one p why own xs h
-after_insert_safe p name k ino own (a ∷ xs) h = λ new. never_safe (had_after (want.Do p (op.Insert name ino k)) a own) xs
+after_insert_safe : (p : Serial) (name : List ℕ) (k : Kind) (ino : ℕ) (told : Reply) (own : Instances) (xs : List Answer) → own p ≡ true → Safe (after_insert p name k ino told) own xs
+after_insert_safe p name k ino told own [] h = h
+after_insert_safe p name k ino told own (answer.Did o ∷ xs) h = λ new. close_one p told own xs h
+after_insert_safe p name k ino told own (answer.Refused why ∷ xs) h = λ new. give_up_one p why own xs h
+after_insert_safe p name k ino told own (a ∷ xs) h = λ new. never_safe (had_after (want.Do p (op.Insert name ino k)) a own) xs
 
 other_left : (made p : Serial) → same_serial p made ≡ false → (not (same_serial made p) && Two made p p) ≡ true
 other_left made p apart = over (same_serial made p) refl
@@ -183,23 +183,33 @@ other_left made p apart = over (same_serial made p) refl
     over true e = absurd (true_false (sym (subst (λ (j : Serial). same_serial p j ≡ true) (sym (same_serial_eq made p e)) (same_serial_own p)) ∙ apart))
     over false e = two_second made p
 
-after_make_safe : (p : Serial) (name : List ℕ) (k : Kind) (made : Serial) (ino : ℕ) (xs : List Answer) → same_serial p made ≡ false → Safe (after_make p name k made ino) (Two made p) xs
-after_make_safe p name k made ino [] apart = two_first made p
-after_make_safe p name k made ino (answer.Ended stamp ∷ xs) apart = λ new. after_insert_safe p name k ino (λ i. not (same_serial made i) && Two made p i) xs (other_left made p apart)
-after_make_safe p name k made ino (answer.Refused why ∷ xs) apart = λ new. give_up_one p why (λ i. not (same_serial made i) && Two made p i) xs (other_left made p apart)
-after_make_safe p name k made ino (a ∷ xs) apart = λ new. never_safe (had_after (want.Close made) a (Two made p)) xs
+after_make_safe : (p : Serial) (name : List ℕ) (k : Kind) (made : Serial) (ino : ℕ) (told : Reply) (xs : List Answer) → same_serial p made ≡ false → Safe (after_make p name k made ino told) (Two made p) xs
+after_make_safe p name k made ino told [] apart = two_first made p
+after_make_safe p name k made ino told (answer.Ended stamp ∷ xs) apart = λ new. after_insert_safe p name k ino told (λ i. not (same_serial made i) && Two made p i) xs (other_left made p apart)
+after_make_safe p name k made ino told (answer.Refused why ∷ xs) apart = λ new. give_up_one p why (λ i. not (same_serial made i) && Two made p i) xs (other_left made p apart)
+after_make_safe p name k made ino told (a ∷ xs) apart = λ new. never_safe (had_after (want.Close made) a (Two made p)) xs
 
-after_probe_safe : (p : Serial) (group : ℕ) (name : List ℕ) (k : Kind) (sites : Option Sites) (xs : List Answer) → Safe (after_probe p group name k sites) (One p) xs
-after_probe_safe p group name k sites [] = tt
-after_probe_safe p group name k sites (answer.Opened made ino ∷ xs) = λ new. after_make_safe p name k made ino xs new
-after_probe_safe p group name k sites (answer.Refused why ∷ xs) = λ new. give_up_one p why (One p) xs (one_own p)
-after_probe_safe p group name k sites (a ∷ xs) = λ new. never_safe (had_after (want.Make group k sites) a (One p)) xs
+give_up_made : (p made : Serial) (why : Refusal) (xs : List Answer) → same_serial p made ≡ false → Safe (give_up (Unchanged made ∷ Unchanged p ∷ []) why) (Two made p) xs
+give_up_made p made why xs apart = closes_safe made (give_up (Unchanged p ∷ []) why) (Two made p) xs (two_first made p) (λ ys. give_up_one p why (λ i. not (same_serial made i) && Two made p i) ys (other_left made p apart))
 
-pub probes_safe : (p : Serial) (group : ℕ) (name : List ℕ) (k : Kind) (sites : Option Sites) (xs : List Answer) → Safe (probes p group name k sites) (One p) xs
-probes_safe p group name k sites [] = one_own p
-probes_safe p group name k sites (answer.Did o ∷ xs) = λ new. after_probe_safe p group name k sites xs
-probes_safe p group name k sites (answer.Refused why ∷ xs) = λ new. give_up_one p why (One p) xs (one_own p)
-probes_safe p group name k sites (a ∷ xs) = λ new. never_safe (had_after (want.Do p (op.Probe name)) a (One p)) xs
+fills_safe : (p : Serial) (name : List ℕ) (k : Kind) (bytes : List ℕ) (made : Serial) (ino : ℕ) (told : Reply) (xs : List Answer) → same_serial p made ≡ false → Safe (fills p name k bytes made ino told) (Two made p) xs
+fills_safe p name k [] made ino told xs apart = after_make_safe p name k made ino told xs apart
+fills_safe p name k (b ∷ bs) made ino told [] apart = two_first made p
+fills_safe p name k (b ∷ bs) made ino told (answer.Did o ∷ xs) apart = λ new. after_make_safe p name k made ino told xs apart
+fills_safe p name k (b ∷ bs) made ino told (answer.Refused why ∷ xs) apart = λ new. give_up_made p made why xs apart
+fills_safe p name k (b ∷ bs) made ino told (a ∷ xs) apart = λ new. never_safe (had_after (want.Do made (op.Write 0 (b ∷ bs))) a (Two made p)) xs
+
+after_probe_safe : (p : Serial) (group : ℕ) (name : List ℕ) (k : Kind) (sites : Option Sites) (bytes : List ℕ) (tells : ℕ → Reply) (xs : List Answer) → Safe (after_probe p group name k sites bytes tells) (One p) xs
+after_probe_safe p group name k sites bytes tells [] = tt
+after_probe_safe p group name k sites bytes tells (answer.Opened made ino ∷ xs) = λ new. fills_safe p name k bytes made ino (tells ino) xs new
+after_probe_safe p group name k sites bytes tells (answer.Refused why ∷ xs) = λ new. give_up_one p why (One p) xs (one_own p)
+after_probe_safe p group name k sites bytes tells (a ∷ xs) = λ new. never_safe (had_after (want.Make group k sites) a (One p)) xs
+
+pub probes_safe : (p : Serial) (group : ℕ) (name : List ℕ) (k : Kind) (sites : Option Sites) (bytes : List ℕ) (tells : ℕ → Reply) (xs : List Answer) → Safe (probes p group name k sites bytes tells) (One p) xs
+probes_safe p group name k sites bytes tells [] = one_own p
+probes_safe p group name k sites bytes tells (answer.Did o ∷ xs) = λ new. after_probe_safe p group name k sites bytes tells xs
+probes_safe p group name k sites bytes tells (answer.Refused why ∷ xs) = λ new. give_up_one p why (One p) xs (one_own p)
+probes_safe p group name k sites bytes tells (a ∷ xs) = λ new. never_safe (had_after (want.Do p (op.Probe name)) a (One p)) xs
 
 pub opens_dir_safe : (reached : List ℕ) (next : Serial → Script) (dir : FileId) (k : Kind) (own : Instances) (xs : List Answer) → ((p : Serial) (ys : List Answer) → Safe (next p) (One p) ys) → Safe (opens_dir reached next dir k) own xs
 opens_dir_safe reached next dir kind.File own xs h = give_safe (reply.No (refusal.NotDir reached)) own xs

@@ -1,12 +1,14 @@
 -- Each call's script asks operations and closes of what the call has alone: what it begins with, and what its opens were
 -- answered.
 use Rattle.std.proofs.Common.{◌≡◌, ℕ, Bool, true, false, cond, List, [], ◌∷◌, Option, Some, None, refl, sym, subst}
+use Rattle.locus_ids.specs.declared.ids.CallId.{CallId}
 use Rattle.locus_ids.specs.declared.config.Mount.{Mount}
 use Rattle.locus_ids.specs.declared.ids.FileId.{FileId}
 use Rattle.locus_ids.specs.declared.ids.Kind.{Kind}
 use Rattle.locus_ids.specs.declared.ids.Kind.TheVariants as kind
 use Rattle.locus_ids.specs.declared.ids.Serial.{Serial}
 use Rattle.locus_ids.specs.declared.refusal.Refusal.TheVariants as refusal
+use Rattle.trace_book.specs.Messages.{message_name}
 use Rattle.trace_book.specs.Names.{components, last_of, but_last}
 use Rattle.trace_book.specs.declared.call.Call.{Call}
 use Rattle.trace_book.specs.declared.call.Call.TheVariants as call
@@ -17,11 +19,12 @@ use Rattle.trace_book.specs.declared.operation.Op.{Op}
 use Rattle.trace_book.specs.declared.operation.Op.TheVariants as op
 use Rattle.trace_book.specs.declared.operation.What.TheVariants as what
 use Rattle.trace_book.specs.declared.reply.Reply.TheVariants as reply
+use Rattle.call_rules.specs.Mailing.{tells_name, shown_messages}
 use Rattle.call_rules.specs.declared.answer.Answer.{Answer}
 use Rattle.call_rules.specs.declared.answer.Answer.TheVariants as answer
 use Rattle.call_rules.specs.declared.want.Want.{Want}
 use Rattle.call_rules.specs.declared.want.Want.TheVariants as want
-use Rattle.call_rules.specs.Opening.{opens_file, op_wants, uses_wants, lists, describes, reply_to, shown_in}
+use Rattle.call_rules.specs.Opening.{opens_file, op_wants, uses_wants, lists, describes, reply_to, shown_in, Shows}
 use Rattle.call_rules.specs.Scripts.{path_wants, begun_wants, named_wants, where_packed, wants}
 use Rattle.call_rules.specs.Walks.{Walked, Asks, Fails, There, Strays, root_of, mounted_in, passes, walk, walked}
 use Rattle.call_rules.specs.Words.{is_badly_named}
@@ -44,14 +47,14 @@ opens_file_safe m (Some fd) file kind.File own (answer.Refused why ∷ (a ∷ xs
 opens_file_safe m None file kind.File own (a ∷ xs) = λ new. never_safe (had_after (want.Open file m) a own) xs
 opens_file_safe m (Some fd) file kind.File own (a ∷ xs) = λ new. never_safe (had_after (want.Open file m) a own) xs
 
-lists_safe : (mounts : List Mount) (reached : List ℕ) (at : FileId) (k : Kind) (own : Instances) (xs : List Answer) → Safe (lists mounts reached at k) own xs
-lists_safe mounts reached at kind.File own xs = give_safe (reply.No (refusal.NotDir reached)) own xs
-lists_safe mounts reached at kind.Dir own [] = tt
-lists_safe mounts reached at kind.Dir own (answer.Showed names ∷ []) = λ new. tt
-lists_safe mounts reached at kind.Dir own (answer.Showed names ∷ (a ∷ xs)) = λ new fresh. never_safe (had_after (want.Give (reply.Names (shown_in mounts at names))) a own) xs
-lists_safe mounts reached at kind.Dir own (answer.Refused why ∷ []) = λ new. tt
-lists_safe mounts reached at kind.Dir own (answer.Refused why ∷ (a ∷ xs)) = λ new fresh. never_safe (had_after (want.Give (reply.No why)) a own) xs
-lists_safe mounts reached at kind.Dir own (a ∷ xs) = λ new. never_safe (had_after (want.Look at what.List) a own) xs
+lists_safe : (shows : Shows) (reached : List ℕ) (at : FileId) (k : Kind) (own : Instances) (xs : List Answer) → Safe (lists shows reached at k) own xs
+lists_safe shows reached at kind.File own xs = give_safe (reply.No (refusal.NotDir reached)) own xs
+lists_safe shows reached at kind.Dir own [] = tt
+lists_safe shows reached at kind.Dir own (answer.Showed names ∷ []) = λ new. tt
+lists_safe shows reached at kind.Dir own (answer.Showed names ∷ (a ∷ xs)) = λ new fresh. never_safe (had_after (want.Give (reply.Names (shows at names))) a own) xs
+lists_safe shows reached at kind.Dir own (answer.Refused why ∷ []) = λ new. tt
+lists_safe shows reached at kind.Dir own (answer.Refused why ∷ (a ∷ xs)) = λ new fresh. never_safe (had_after (want.Give (reply.No why)) a own) xs
+lists_safe shows reached at kind.Dir own (a ∷ xs) = λ new. never_safe (had_after (want.Look at what.List) a own) xs
 
 describes_safe : (at : FileId) (k : Kind) (own : Instances) (xs : List Answer) → Safe (describes at k) own xs
 describes_safe at k own [] = tt
@@ -115,22 +118,24 @@ walked_safe : (mounts : List Mount) (path : List (List ℕ)) (after : FileId →
     Safe (λ ys. walked mounts path ys after) own xs
 walked_safe mounts path after own xs h = safe_same (λ ys. goes after (walk mounts path [] (root_of 0) kind.Dir ys)) (λ ys. walked mounts path ys after) own xs (goes_walked mounts path after) (walk_safe mounts path [] (root_of 0) kind.Dir after own xs h)
 
-path_safe : (mounts : List Mount) (free : Option ℕ) (words : Call) (own : Instances) (xs : List Answer) → Safe (path_wants mounts free words) own xs
-path_safe mounts free (call.Create path sites) own xs = walked_safe mounts (but_last (components path)) _ own xs (λ there found more ys. opens_dir_safe _ _ there found more ys (λ p zs. probes_safe p there.group (last_of (components path)) kind.File sites zs))
-path_safe mounts free (call.MakeDir path) own xs = walked_safe mounts (but_last (components path)) _ own xs (λ there found more ys. opens_dir_safe _ _ there found more ys (λ p zs. probes_safe p there.group (last_of (components path)) kind.Dir None zs))
-path_safe mounts free (call.Unlink path) own xs = walked_safe mounts (but_last (components path)) _ own xs (λ there found more ys. opens_dir_safe _ _ there found more ys (λ p zs. finds_safe kind.File p there.group (last_of (components path)) zs))
-path_safe mounts free (call.RemoveDir path) own xs = walked_safe mounts (but_last (components path)) _ own xs (λ there found more ys. opens_dir_safe _ _ there found more ys (λ p zs. finds_safe kind.Dir p there.group (last_of (components path)) zs))
-path_safe mounts free (call.Rename path name) own xs = walked_safe mounts (but_last (components path)) _ own xs (λ there found more ys. opens_dir_safe _ _ there found more ys (λ p zs. renames_safe p (last_of (components path)) name zs))
-path_safe mounts free (call.List path) own xs = walked_safe mounts (components path) (lists mounts (last_of (components path))) own xs (λ there found more ys. lists_safe mounts (last_of (components path)) there found more ys)
-path_safe mounts free (call.Stat path) own xs = walked_safe mounts (components path) describes own xs (λ there found more ys. describes_safe there found more ys)
-path_safe mounts free (call.Open path how) own xs = walked_safe mounts (components path) (opens_file how free) own xs (λ there found more ys. opens_file_safe how free there found more ys)
-path_safe mounts free (call.Mend file) own xs = mend_safe file own xs
-path_safe mounts free _ own xs = never_safe own xs
+path_safe : (mounts : List Mount) (free : Option ℕ) (id : CallId) (words : Call) (own : Instances) (xs : List Answer) → Safe (path_wants mounts free id words) own xs
+path_safe mounts free id (call.Create path sites) own xs = walked_safe mounts (but_last (components path)) _ own xs (λ there found more ys. opens_dir_safe _ _ there found more ys (λ p zs. probes_safe p there.group (last_of (components path)) kind.File sites [] reply.Made zs))
+path_safe mounts free id (call.MakeDir path) own xs = walked_safe mounts (but_last (components path)) _ own xs (λ there found more ys. opens_dir_safe _ _ there found more ys (λ p zs. probes_safe p there.group (last_of (components path)) kind.Dir None [] reply.Made zs))
+path_safe mounts free id (call.Unlink path) own xs = walked_safe mounts (but_last (components path)) _ own xs (λ there found more ys. opens_dir_safe _ _ there found more ys (λ p zs. finds_safe kind.File p there.group (last_of (components path)) zs))
+path_safe mounts free id (call.RemoveDir path) own xs = walked_safe mounts (but_last (components path)) _ own xs (λ there found more ys. opens_dir_safe _ _ there found more ys (λ p zs. finds_safe kind.Dir p there.group (last_of (components path)) zs))
+path_safe mounts free id (call.Rename path name) own xs = walked_safe mounts (but_last (components path)) _ own xs (λ there found more ys. opens_dir_safe _ _ there found more ys (λ p zs. renames_safe p (last_of (components path)) name zs))
+path_safe mounts free id (call.List path) own xs = walked_safe mounts (components path) (lists (shown_in mounts) (last_of (components path))) own xs (λ there found more ys. lists_safe (shown_in mounts) (last_of (components path)) there found more ys)
+path_safe mounts free id (call.Stat path) own xs = walked_safe mounts (components path) describes own xs (λ there found more ys. describes_safe there found more ys)
+path_safe mounts free id (call.Mail path bytes) own xs = walked_safe mounts (components path) _ own xs (λ there found more ys. opens_dir_safe _ _ there found more ys (λ p zs. probes_safe p there.group (message_name id) kind.File None bytes (tells_name (message_name id)) zs))
+path_safe mounts free id (call.Mails path) own xs = walked_safe mounts (components path) (lists shown_messages (last_of (components path))) own xs (λ there found more ys. lists_safe shown_messages (last_of (components path)) there found more ys)
+path_safe mounts free id (call.Open path how) own xs = walked_safe mounts (components path) (opens_file how free) own xs (λ there found more ys. opens_file_safe how free there found more ys)
+path_safe mounts free id (call.Mend file) own xs = mend_safe file own xs
+path_safe mounts free id _ own xs = never_safe own xs
 
 begun_safe : (mounts : List Mount) (free : Option ℕ) (words : Call) (b : Beginning) (xs : List Answer) → Safe (begun_wants mounts free words b) (begun_with b) xs
 begun_safe mounts free words (begins.Denied why) xs = give_safe (reply.No why) (begun_with (begins.Denied why)) xs
 begun_safe mounts free words (begins.Uses e i) xs = uses_safe words i xs
-begun_safe mounts free words begins.Walks xs = path_safe mounts free words (begun_with begins.Walks) xs
+begun_safe mounts free words (begins.Walks id) xs = path_safe mounts free id words (begun_with (begins.Walks id)) xs
 
 named_safe : (mounts : List Mount) (free : Option ℕ) (words : Call) (b : Beginning) (xs : List Answer) → Safe (named_wants mounts free words b) (begun_with b) xs
 named_safe mounts free words b xs = over (is_badly_named mounts words)

@@ -16,6 +16,7 @@ pub mod Carried
 pub mod Free
 pub mod Hearing
 pub mod Owners
+pub mod OwnWalks
 pub mod Owing
 pub mod Histories
 pub mod Boots

@@ -120,7 +120,7 @@ packed_looks file packed _ k = tt
 begun_looks : (c : Config) (free : Option ℕ) (file : FileId) (b : Beginning) (xs : Answers) → LooksAt file (begun_wants c.mounts free (call.Mend file) b xs)
 begun_looks c free file (begins.Denied why) xs = tt
 begun_looks c free file (begins.Uses e i) xs = tt
-begun_looks c free file begins.Walks xs = mend_looks file xs
+begun_looks c free file (begins.Walks id) xs = mend_looks file xs
 
 script_looks : (c : Config) (before : _) (file : FileId) (w : Waiting) (o : Option Beginning) (xs : Answers) → w.words ≡ call.Mend file → LooksAt file (script_as c before (Some w) o None xs)
 script_looks c before file w None xs is = tt

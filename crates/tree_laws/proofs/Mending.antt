@@ -56,6 +56,8 @@ some_words (call.RemoveDir path) file is c n s process new older e may inside = 
 some_words (call.Rename path name) file is c n s process new older e may inside = cc
 some_words (call.List path) file is c n s process new older e may inside = cc
 some_words (call.Stat path) file is c n s process new older e may inside = cc
+some_words (call.Mail path bytes) file is c n s process new older e may inside = cc
+some_words (call.Mails path) file is c n s process new older e may inside = cc
 
 sync_accept : (c : Config) (n s process : ℕ) (new : CallId) (words : Call) (older : List Line) → MayTell c older (Shown (says.Accept s process new words)) → AtSync c older → AtSync c (With n (Shown (says.Accept s process new words)) older)
 sync_accept c n s process new words older may k d w e file named made is = over (same_call new d) named

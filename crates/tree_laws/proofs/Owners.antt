@@ -105,7 +105,7 @@ granted_same c older n (says.Grant at d request inst m f stamp ss) e i g may k =
 granted_same c older n _ e i g may k = k
 
 pub used_same : (n : ℕ) (r : Record) (before : Trace) (e : EpochId) (i : Serial) (k : ℕ) (d : CallId) → use_number (uses_of before e i) k ≡ Some d → use_number (uses_of (record { line = n; what = r } ∷ before) e i) k ≡ Some d
-used_same n (says.Accept s process new words) before e i k d h = at (not (is_close words) && uses_by (begins_now before s process words) e i)
+used_same n (says.Accept s process new words) before e i k d h = at (not (is_close words) && uses_by (begins_now before s process new words) e i)
   where
     at : (b : Bool) → use_number (cond b (new ∷ uses_of before e i) (uses_of before e i)) k ≡ Some d
     at true = number_more new (uses_of before e i) k d h
@@ -121,14 +121,14 @@ closed_again before (call.Close fd) (begins.Uses at inst) e i d t h k = parts (s
     parts true false p q k = true_false (sym k)
     parts false y p q k = true_false (sym k)
 closed_again before (call.Close fd) (begins.Denied why) e i d t h k = true_false (sym k)
-closed_again before (call.Close fd) begins.Walks e i d t h k = true_false (sym k)
+closed_again before (call.Close fd) (begins.Walks id) e i d t h k = true_false (sym k)
 closed_again before _ b e i d t h k = true_false (sym k)
 
 pub closed_same : (c : Config) (older : List Line) (n : ℕ) (r : Record) (e : EpochId) (i : Serial) (d : CallId) → MayTell c older (Shown r) → close_of (entries older) e i ≡ Some d → close_of (record { line = n; what = r } ∷ entries older) e i ≡ Some d
-closed_same c older n (says.Accept s process new words) e i d may h = at (is_close words && uses_by (begins_now (entries older) s process words) e i) refl
+closed_same c older n (says.Accept s process new words) e i d may h = at (is_close words && uses_by (begins_now (entries older) s process new words) e i) refl
   where
-    at : (b : Bool) → is_close words && uses_by (begins_now (entries older) s process words) e i ≡ b → cond b (Some new) (close_of (entries older) e i) ≡ Some d
-    at true k = absurd (closed_again (entries older) words (begins_now (entries older) s process words) e i d may.in_time h k)
+    at : (b : Bool) → is_close words && uses_by (begins_now (entries older) s process new words) e i ≡ b → cond b (Some new) (close_of (entries older) e i) ≡ Some d
+    at true k = absurd (closed_again (entries older) words (begins_now (entries older) s process new words) e i d may.in_time h k)
     at false k = h
 closed_same c older n _ e i d may h = h
 

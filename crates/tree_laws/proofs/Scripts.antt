@@ -55,7 +55,7 @@ record Stays (before after : Trace) (d : CallId) : Type 0 where
 stays_accept : (n s process : ℕ) (new : CallId) (words : Call) (before : Trace) (d : CallId) → new ≡ next_call before s → IsLow before d → Stays before (record { line = n; what = says.Accept s process new words } ∷ before) d
 stays_accept n s process new words before d is low = over (same_call new d) (λ e. next_is_new before s d low (sym (same_call_eq new d e) ∙ is))
   where
-    both : (b : Bool) → (b ≡ true → ⊥) → (cond b (Some (accepted_as before s process new words)) (call_named before d) ≡ call_named before d) × (cond b (Some (begins_now before s process words)) (begun before d) ≡ begun before d)
+    both : (b : Bool) → (b ≡ true → ⊥) → (cond b (Some (accepted_as before s process new words)) (call_named before d) ≡ call_named before d) × (cond b (Some (begins_now before s process new words)) (begun before d) ≡ begun before d)
     both true differ = absurd (differ refl)
     both false differ = (refl, refl)
 

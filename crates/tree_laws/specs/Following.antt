@@ -168,7 +168,7 @@ IsInTime c trace (says.Act e i n o result) = ActsInTime c trace e i n o
 IsInTime c trace (says.Commit f site stamp parents content) = CommitsInTime c trace f site
 IsInTime c trace (says.Release e i f stamp) = ReleasesInTime c trace e i f
 IsInTime c trace (says.Adopt f site stamp) = AdoptsInTime c trace f site
-IsInTime c trace (says.Accept site process d words) = AcceptsInTime (entries trace) words (begins_now (entries trace) site process words)
+IsInTime c trace (says.Accept site process d words) = AcceptsInTime (entries trace) words (begins_now (entries trace) site process d words)
 IsInTime c trace (says.Answer site process d r) = AnswersInTime c trace d r
 IsInTime c trace _ = Unit {0}
 

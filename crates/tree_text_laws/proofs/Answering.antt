@@ -3,6 +3,7 @@ use Rattle.std.proofs.Common.{◌≡◌, ◌≤◌, ℕ, zero, suc, ◌+◌, ◌
 use Rattle.std.proofs.lemmas.Bool.Decides.{nat_tests}
 use Rattle.std.specs.List.{list_all}
 use Rattle.locus_ids.specs.Sizes.{content_bytes_max, descriptors_max, file_bytes_max}
+use Rattle.locus_ids.specs.declared.ids.CallId.{CallId}
 use Rattle.locus_ids.specs.declared.ids.EpochId.{EpochId}
 use Rattle.locus_ids.specs.declared.ids.FileId.{FileId}
 use Rattle.locus_ids.specs.declared.ids.Kind.{Kind}
@@ -131,13 +132,13 @@ close_text stamp x h = over x.work.owes refl x.work.fresh refl
 
 -- ---- beginnings ----
 
-walk_text : (now : Option EpochId) → is_begun (begins_walk now) ≡ true
-walk_text None = refl
-walk_text (Some e) = refl
+walk_text : (now : Option EpochId) (id : CallId) → range.is_call_id id ≡ true → is_begun (begins_walk now id) ≡ true
+walk_text None id n = refl
+walk_text (Some e) id n = n
 
-open_text : (now : Option EpochId) (free : Option ℕ) → is_begun (begins_open now free) ≡ true
-open_text now None = refl
-open_text now (Some fd) = walk_text now
+open_text : (now : Option EpochId) (id : CallId) (free : Option ℕ) → range.is_call_id id ≡ true → is_begun (begins_open now id free) ≡ true
+open_text now id None n = refl
+open_text now id (Some fd) n = walk_text now id n
 
 on_text : (changes : Bool) (now : Option EpochId) (d : Option Descriptor) → is_optional_descriptor d ≡ true → is_begun (begins_on changes now d) ≡ true
 on_text changes now None h = refl
@@ -149,19 +150,19 @@ on_text changes now (Some d) h = over (is_in now d.epoch) refl changes refl (is_
     over true e false f r g = rw (e, f, begins_on) refl
     over false e b f r g = rw (e, begins_on) h
 
-write_text : (long : Bool) (now : Option EpochId) (d : Option Descriptor) → is_optional_descriptor d ≡ true → (fd at : ℕ) (bytes : List ℕ) → is_too_long (call.Write fd at bytes) ≡ long → (table : ℕ → Option Descriptor) → table fd ≡ d → is_begun (beginning table now (call.Write fd at bytes)) ≡ true
-write_text true now d h fd at bytes e table f = rw (e, beginning) refl
-write_text false now d h fd at bytes e table f = rw (e, f, beginning) (on_text true now d h)
+write_text : (long : Bool) (now : Option EpochId) (id : CallId) (d : Option Descriptor) → is_optional_descriptor d ≡ true → (fd at : ℕ) (bytes : List ℕ) → is_too_long (call.Write fd at bytes) ≡ long → (table : ℕ → Option Descriptor) → table fd ≡ d → is_begun (beginning table now id (call.Write fd at bytes)) ≡ true
+write_text true now id d h fd at bytes e table f = rw (e, beginning) refl
+write_text false now id d h fd at bytes e table f = rw (e, f, beginning) (on_text true now d h)
 
-pub beginning_text : (table : ℕ → Option Descriptor) (now : Option EpochId) (words : Call) → ((fd : ℕ) → is_optional_descriptor (table fd) ≡ true) → is_begun (beginning table now words) ≡ true
-beginning_text table now (call.Open path m) h = open_text now (lowest_free table)
-beginning_text table now (call.Read fd at len) h = on_text false now (table fd) (h fd)
-beginning_text table now (call.Write fd at bytes) h = write_text (is_too_long (call.Write fd at bytes)) now (table fd) (h fd) fd at bytes refl table refl
-beginning_text table now (call.Cut fd len) h = on_text true now (table fd) (h fd)
-beginning_text table now (call.Commit fd) h = on_text true now (table fd) (h fd)
-beginning_text table now (call.Abort fd) h = on_text true now (table fd) (h fd)
-beginning_text table now (call.Close fd) h = on_text false now (table fd) (h fd)
-beginning_text table now _ h = walk_text now
+pub beginning_text : (table : ℕ → Option Descriptor) (now : Option EpochId) (id : CallId) (words : Call) → range.is_call_id id ≡ true → ((fd : ℕ) → is_optional_descriptor (table fd) ≡ true) → is_begun (beginning table now id words) ≡ true
+beginning_text table now id (call.Open path m) n h = open_text now id (lowest_free table) n
+beginning_text table now id (call.Read fd at len) n h = on_text false now (table fd) (h fd)
+beginning_text table now id (call.Write fd at bytes) n h = write_text (is_too_long (call.Write fd at bytes)) now id (table fd) (h fd) fd at bytes refl table refl
+beginning_text table now id (call.Cut fd len) n h = on_text true now (table fd) (h fd)
+beginning_text table now id (call.Commit fd) n h = on_text true now (table fd) (h fd)
+beginning_text table now id (call.Abort fd) n h = on_text true now (table fd) (h fd)
+beginning_text table now id (call.Close fd) n h = on_text false now (table fd) (h fd)
+beginning_text table now id _ n h = walk_text now id n
 
 free_from : (table : ℕ → Option Descriptor) (n left : ℕ) → n + left ≤ 65536 → is_free (lowest_free_from table n left) ≡ true
 free_from table n zero few = refl

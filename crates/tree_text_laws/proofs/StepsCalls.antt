@@ -27,13 +27,13 @@ use Rattle.tree_text_laws.proofs.Texts.{CallText, EpochText, InstanceText, PastT
 
 -- ---- accepted calls ----
 
-pub begun_text : (p : Past) (site process : ℕ) (id : CallId) (words : Call) → range.is_process process ≡ true → range.is_call_id id ≡ true → range.is_words process words ≡ true → PastText p → CallText (begun_call p site process id words (beginning (table p site process) (site_at p site).epoch words))
+pub begun_text : (p : Past) (site process : ℕ) (id : CallId) (words : Call) → range.is_process process ≡ true → range.is_call_id id ≡ true → range.is_words process words ≡ true → PastText p → CallText (begun_call p site process id words (beginning (table p site process) (site_at p site).epoch id words))
 begun_text p site process id words a b d h = record {
   id = b;
   process = a;
   words = d;
   epoch = site_epoch p site h;
-  begins = beginning_text (table p site process) (site_at p site).epoch words (λ fd. table_text p site process fd h);
+  begins = beginning_text (table p site process) (site_at p site).epoch id words b (λ fd. table_text p site process fd h);
   free = free_text (table p site process);
   granted = refl;
   answers = refl;

@@ -59,15 +59,15 @@ use Rattle.user_laws.proofs.Tabled.{ascends_without, every_among, row_gone, row_
 -- ---- where it begins ----
 
 -- by the same descriptors a call begins the same
-pub begins_same : (p q : ℕ → Option Descriptor) → ((fd : ℕ) → fd < descriptor_span → p fd ≡ q fd) → (now : Option EpochId) (words : Call) → IsNumbered words → beginning p now words ≡ beginning q now words
-begins_same p q same now (call.Open path how) lt = ap (begins_open now) (free_is p q same)
-begins_same p q same now (call.Read fd at len) lt = ap (begins_on false now) (same fd lt)
-begins_same p q same now (call.Write fd at bytes) lt = ap (λ (o : Option Descriptor). cond (is_too_long (call.Write fd at bytes)) (begins.Denied refusal.TooLong) (begins_on true now o)) (same fd lt)
-begins_same p q same now (call.Cut fd len) lt = ap (begins_on true now) (same fd lt)
-begins_same p q same now (call.Commit fd) lt = ap (begins_on true now) (same fd lt)
-begins_same p q same now (call.Abort fd) lt = ap (begins_on true now) (same fd lt)
-begins_same p q same now (call.Close fd) lt = ap (begins_on false now) (same fd lt)
-begins_same p q same now _ lt = refl
+pub begins_same : (p q : ℕ → Option Descriptor) → ((fd : ℕ) → fd < descriptor_span → p fd ≡ q fd) → (now : Option EpochId) (id : CallId) (words : Call) → IsNumbered words → beginning p now id words ≡ beginning q now id words
+begins_same p q same now id (call.Open path how) lt = ap (begins_open now id) (free_is p q same)
+begins_same p q same now id (call.Read fd at len) lt = ap (begins_on false now) (same fd lt)
+begins_same p q same now id (call.Write fd at bytes) lt = ap (λ (o : Option Descriptor). cond (is_too_long (call.Write fd at bytes)) (begins.Denied refusal.TooLong) (begins_on true now o)) (same fd lt)
+begins_same p q same now id (call.Cut fd len) lt = ap (begins_on true now) (same fd lt)
+begins_same p q same now id (call.Commit fd) lt = ap (begins_on true now) (same fd lt)
+begins_same p q same now id (call.Abort fd) lt = ap (begins_on true now) (same fd lt)
+begins_same p q same now id (call.Close fd) lt = ap (begins_on false now) (same fd lt)
+begins_same p q same now id _ lt = refl
 
 -- ---- the descriptor that it frees ----
 
@@ -139,22 +139,22 @@ untried c (y ∷ older) h d new = over y.told h.0 (untried c older h.1 d) new
 
 -- ---- the row in its time ----
 
-pub accepts_in_time : (c : Config) (t : List Line) (s process : ℕ) (words : Call) → IsFollowed c t → AcceptsInTime (entries t) words (begins_now (entries t) s process words)
-accepts_in_time c t s process (call.Close fd) h = over (begins_now (entries t) s process (call.Close fd)) refl
+pub accepts_in_time : (c : Config) (t : List Line) (s process : ℕ) (id : CallId) (words : Call) → IsFollowed c t → AcceptsInTime (entries t) words (begins_now (entries t) s process id words)
+accepts_in_time c t s process id (call.Close fd) h = over (begins_now (entries t) s process id (call.Close fd)) refl
   where
-    over : (b : Beginning) → begins_now (entries t) s process (call.Close fd) ≡ b → AcceptsInTime (entries t) (call.Close fd) b
+    over : (b : Beginning) → begins_now (entries t) s process id (call.Close fd) ≡ b → AcceptsInTime (entries t) (call.Close fd) b
     over (begins.Denied why) e = tt
     over (begins.Uses at i) e = record { first = subst (λ (z : EpochId). close_of (entries t) z i ≡ None) k.epoch_is (subst (λ (j : Serial). close_of (entries t) k.stands.epoch j ≡ None) k.serial_is (unclosed c t h s process k.fd k.stands k.found)) }
       where
         k : FromDescriptor (descriptor (entries t) s process) (epoch_of (entries t) s) (call.Close fd) at i
-        k = uses_from (descriptor (entries t) s process) (epoch_of (entries t) s) (call.Close fd) at i e
-    over begins.Walks e = tt
-accepts_in_time c t s process _ h = tt
+        k = uses_from (descriptor (entries t) s process) (epoch_of (entries t) s) id (call.Close fd) at i e
+    over (begins.Walks id) e = tt
+accepts_in_time c t s process id _ h = tt
 
 module _ (c : Config) (n : ℕ) (t : List Line) (f : Frame) (process : ℕ) (words : Call) (u : Users) (h : IsFollowed c t) (frame : FrameFact c t f) (k : UsersInside c f t u) (row_is : CallRow c (entries t) f.me process (own_call f.me f.boot (u.calls + 1)) words) (low : IsNumbered words)
     (apart : Every (λ (v : WaitingCall). waiting_key v ≡ waiting_of process words → ⊥) u.waiting) where
   abbrev w : WaitingCall
-  w = accepted process (u.calls + 1) words (beginning (descriptors_of u process) (Some f.epoch) words)
+  w = accepted process (u.calls + 1) words (beginning (descriptors_of u process) (Some f.epoch) (own_call f.me f.boot (u.calls + 1)) words)
 
   abbrev x : Told
   x = accept_record f.me f.boot process (u.calls + 1) words
@@ -169,7 +169,7 @@ module _ (c : Config) (n : ℕ) (t : List Line) (f : Frame) (process : ℕ) (wor
   new = accepted_as (entries t) f.me process d words
 
   may : MayTell c t x
-  may = record { row = row_is; in_time = accepts_in_time c t f.me process words h }
+  may = record { row = row_is; in_time = accepts_in_time c t f.me process d words h }
 
   again : IsFollowed c newer
   again = (may, h)
@@ -220,8 +220,8 @@ module _ (c : Config) (n : ℕ) (t : List Line) (f : Frame) (process : ℕ) (wor
     named = named_is;
     caller_is = ap (λ (o : Option EpochId). record { site = f.me; process = process; call = d; words = words; epoch = o }) frame.inside;
     waits = ap (λ (b : Bool). cond b (Some new) (find (is_this f.me process d) (waiting (entries t)))) (own (f.me == f.me) (process == process) (same_call d d) (equal_self f.me) (equal_self process) (same_call_own d));
-    begins_is = ap (λ (b : Bool). cond b (Some (begins_now (entries t) f.me process words)) (begun (entries t) d)) (same_call_own d)
-        ∙ ap Some (ap (λ (o : Option EpochId). beginning (descriptor (entries t) f.me process) o words) frame.inside ∙ sym (begins_same (descriptors_of u process) (descriptor (entries t) f.me process) (λ fd lt. k.always.descriptors process fd lt) (Some f.epoch) words low));
+    begins_is = ap (λ (b : Bool). cond b (Some (begins_now (entries t) f.me process d words)) (begun (entries t) d)) (same_call_own d)
+        ∙ ap Some (ap (λ (o : Option EpochId). beginning (descriptor (entries t) f.me process) o d words) frame.inside ∙ sym (begins_same (descriptors_of u process) (descriptor (entries t) f.me process) (λ fd lt. k.always.descriptors process fd lt) (Some f.epoch) d words low));
     answers_are = sym untaken.log_is;
     request_is = refl;
     nothing_waits = untaken.heard_is ∙ sym untaken.log_is;

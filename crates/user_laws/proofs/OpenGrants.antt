@@ -92,7 +92,7 @@ mend_opens file (_ ∷ xs) = tt
 begun_opens : (c : Config) (free : Option ℕ) (file : FileId) (b : Beginning) (xs : Answers) → OpensToMend (begun_wants c.mounts free (call.Mend file) b xs)
 begun_opens c free file (begins.Denied why) xs = tt
 begun_opens c free file (begins.Uses e i) xs = tt
-begun_opens c free file begins.Walks xs = mend_opens file xs
+begun_opens c free file (begins.Walks id) xs = mend_opens file xs
 
 packed_opens : (p : ℕ → Bool) (w : Want) → OpensToMend w → OpensToMend (where_packed p w)
 packed_opens p w k = over w k

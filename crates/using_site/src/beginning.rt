@@ -6,16 +6,22 @@ ghost use Rattle.role_steps.specs.Requests.{descriptors_of};
 
 use crate::users::UsingSite;
 use locus_ids::sizes::FILE_BYTES;
-use locus_ids::{EpochId, Mode, Refusal};
+use locus_ids::{CallId, EpochId, Mode, Refusal};
 use trace_book::{Beginning, Call, Descriptor};
 
 impl UsingSite {
-    /// Where an accepted call begins, by the descriptors of its process and the epoch that the site is in.
-    pub(crate) fn beginning(&self, now: Option<EpochId>, process: u8, words: &Call) -> Beginning
-        ensures { result ≡ beginning (descriptors_of self.now process) now words.now }
+    /// Where an accepted call of this name begins, by the descriptors of its process and the epoch that the site is in.
+    pub(crate) fn beginning(
+        &self,
+        now: Option<EpochId>,
+        process: u8,
+        call: CallId,
+        words: &Call,
+    ) -> Beginning
+        ensures { result ≡ beginning (descriptors_of self.now process) now call words.now }
     {
         match words {
-            Call::Open { path: _, mode: _ } => begins_open(now, self.lowest_free(process)),
+            Call::Open { path: _, mode: _ } => begins_open(now, call, self.lowest_free(process)),
             Call::Read { fd, at: _, len: _ } => {
                 begins_on(false, now, self.descriptor(process, *fd))
             }
@@ -31,7 +37,7 @@ impl UsingSite {
             Call::Commit { fd } => begins_on(true, now, self.descriptor(process, *fd)),
             Call::Abort { fd } => begins_on(true, now, self.descriptor(process, *fd)),
             Call::Close { fd } => begins_on(false, now, self.descriptor(process, *fd)),
-            _ => begins_walk(now),
+            _ => begins_walk(now, call),
         }
     }
 }
@@ -87,11 +93,11 @@ fn is_read(mode: Mode) -> bool
 }
 
 /// A call that walks a path: the site must be in an epoch.
-fn begins_walk(now: Option<EpochId>) -> Beginning
-    ensures { result ≡ begins_walk now }
+fn begins_walk(now: Option<EpochId>, call: CallId) -> Beginning
+    ensures { result ≡ begins_walk now call }
 {
     match now {
-        Some(_) => Beginning::Walks,
+        Some(_) => Beginning::Walks { call },
         None => Beginning::Denied {
             why: Refusal::NoPartition,
         },
@@ -99,11 +105,11 @@ fn begins_walk(now: Option<EpochId>) -> Beginning
 }
 
 /// An open wants a free descriptor, before that.
-fn begins_open(now: Option<EpochId>, free: Option<u16>) -> Beginning
-    ensures { result ≡ begins_open now free }
+fn begins_open(now: Option<EpochId>, call: CallId, free: Option<u16>) -> Beginning
+    ensures { result ≡ begins_open now call free }
 {
     match free {
-        Some(_) => begins_walk(now),
+        Some(_) => begins_walk(now, call),
         None => Beginning::Denied {
             why: Refusal::NoDescriptor,
         },

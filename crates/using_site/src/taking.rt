@@ -36,11 +36,12 @@ impl UsingSite {
         let Some(call) = self.calls.checked_add(1) else {
             return Err(NoMemory);
         };
-        let begins = self.beginning(now, process, &words);
+        let name = own_call(frame.me, frame.boot, call);
+        let begins = self.beginning(now, process, name, &words);
         out.note(Record::Accept {
             site: frame.me.get(),
             process,
-            call: own_call(frame.me, frame.boot, call),
+            call: name,
             words: words.copy()?,
         })?;
         self.calls = call;

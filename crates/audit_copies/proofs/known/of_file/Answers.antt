@@ -1,21 +1,17 @@
-use Rattle.std.proofs.Common.{rules, of_calls, Bool, not, ◌-◌, List, length, take, drop}
-use Rattle.std.proofs.lemmas.Fn.{always_returns_same}
-use Rattle.commit_graph.specs.Versions.{same_file}
-use Rattle.promises.specs.Past.{Copy}
-use Rattle.audit_copies.specs.Below.{is_file_below}
-use Rattle.audit_copies.proofs.Parting.{together_in, take_rest}
-use Rattle.audit_copies.proofs.Files.{of_file_between}
+use Rattle.std.proofs.Common.{sym, ap, ◌∙◌}
+use Rattle.audit_copies.specs.Files.{is_file_at}
+use Rattle.audit_copies.proofs.ByFile.{at_within, copies_at, copies_nowhere}
 use Rattle.audit_copies.proofs.known.of_file.Goals as goal
 
-pub returns : goal.returns
-returns c =
-    let q : Copy → Bool = λ v. same_file v.file c.args.file in
-    let below : Copy → Bool = λ v. is_file_below v.file c.args.file in
-    let above : Copy → Bool = λ v. is_file_below c.args.file v.file in
-    let first = always_returns_same _ _ _ (λ a r f k. search (rules, of_calls)) in
-    let second = always_returns_same _ _ _ (λ a r f k. search (rules, of_calls)) in
-    let xs : List Copy = c.args.rows.now in
-    let k = c.partition_point-first.result in
-    λ up. together_in q below above (of_file_between c.args.file) xs (take (length xs - k) (drop k xs)) k c.partition_point-many.result (take_rest xs k)
-    c.partition_point-first.ensures.bound c.partition_point-many.ensures.bound
-    (c.partition_point-first.ensures.partitioned below first) (c.partition_point-many.ensures.partitioned (λ v. not (above v)) second) up
+pub bounds-files-place : goal.bounds-files-place
+bounds-files-place c = at_within c.args.files.now c.place_of-place.result c.args.file (sym c.is_at.ensures ∙ c.if-is_at.true)
+
+pub returns-then-is_at : goal.returns-then-is_at
+returns-then-is_at c =
+    c.as_slice.ensures
+    ∙ copies_at c.args.file c.args.files.now c.place_of-place.result c.index-files-place.result (c.place_of-place.ensures.count c.requires) c.index-files-place.is (sym c.is_at.ensures ∙ c.if-is_at.true)
+
+pub returns-else-is_at : goal.returns-else-is_at
+returns-else-is_at c =
+    copies_nowhere c.args.file c.args.files.now c.requires
+    (ap (λ j. is_file_at c.args.files.now j c.args.file) (sym (c.place_of-place.ensures.count c.requires)) ∙ (sym c.is_at.ensures ∙ c.if-is_at.false))

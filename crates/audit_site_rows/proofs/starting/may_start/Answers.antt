@@ -3,14 +3,15 @@ use Rattle.promises.specs.Past.{Epoch, first_or, unformed}
 use Rattle.promises.specs.After.{is_epoch}
 use Rattle.promises.specs.Rows.{may_start}
 use Rattle.audit_row_parts.proofs.Homes.{first_else, first_there}
+use Rattle.audit_site_rows.proofs.Home.{ok_as}
 use Rattle.audit_site_rows.proofs.starting.may_start.Goals as goal
 
 pub returns-in-Some : goal.returns-in-Some
 returns-in-Some c =
+    ok_as c.starts.result _ _
+    (ap (λ (t : Epoch). may_start c.args.config.now t c.args.group c.args.copies.now) (first_there (unformed c.args.epoch) (is_epoch c.args.epoch) c.epochs.result.now c.in-Some.row.now c.in-Some.ensures.found
+    ∙ ap (first_or (unformed c.args.epoch) (is_epoch c.args.epoch)) c.epochs.ensures))
     c.starts.ensures
-    ∙ ap (λ (t : Epoch). may_start c.args.config.now t c.args.group c.args.copies.now)
-    (first_there (unformed c.args.epoch) (is_epoch c.args.epoch) c.epochs.result.now c.in-Some.row.now c.in-Some.ensures.found
-    ∙ ap (first_or (unformed c.args.epoch) (is_epoch c.args.epoch)) c.epochs.ensures)
 
 pub returns-in-None : goal.returns-in-None
 returns-in-None c =

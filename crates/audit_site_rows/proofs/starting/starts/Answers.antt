@@ -18,4 +18,4 @@ returns c =
     ∙ ap (λ (ns : List ℕ). there c.args.row.now.members ns c.same_as_brought-as_brought.result) c.joined.ensures
     ∙ ap (λ (b : Bool). there c.args.row.now.members c.args.row.now.joined b)
     (c.same_as_brought-as_brought.ensures
-    ∙ ap (λ (vs : List Copy). same_list same_brought c.args.copies.now (brought_of vs)) (c.of_group.ensures ∙ ap (filter (λ (v : Copy). v.file.group == c.args.group)) c.known.ensures)))
+    ∙ ap (λ (vs : List Copy). same_list same_brought c.args.copies.now (brought_of vs)) (c.as_slice.ensures ∙ (c.in_ok-known.ensures ∙ ap (filter (λ (v : Copy). v.file.group == c.args.group)) c.known.ensures))))

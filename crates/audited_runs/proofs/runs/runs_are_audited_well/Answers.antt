@@ -15,6 +15,6 @@ pub returns-clause-sound : goal.returns-clause-sound
 returns-clause-sound c = λ lines order. run_known lines order
 
 pub returns-clause-yes : goal.returns-clause-yes
-returns-clause-yes c = λ lines order whole few reach.
+returns-clause-yes c = λ lines order whole few.
     c.sound_traces_are_answered_yes.ensures lines (reverse (trace_of (run lines))) order whole
-    (run_texts lines order (c.commits_have_texts.ensures (config_of lines) lines (schedule_fits lines order) (schedule_packs lines order) (omega (arith, four_groups lines))) few reach) (ap is_broken (run_known lines order))
+    (run_texts lines order (c.commits_have_texts.ensures (config_of lines) lines (schedule_fits lines order) (schedule_packs lines order) (omega (arith, four_groups lines))) few) (ap is_broken (run_known lines order))

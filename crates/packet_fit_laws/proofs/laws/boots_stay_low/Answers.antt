@@ -1,4 +1,4 @@
-use Rattle.packet_fit_laws.proofs.Boots.{run_boots_low, run_next_low}
+use Rattle.run_laws.proofs.Boots.{run_boots_low, run_next_low}
 use Rattle.packet_fit_laws.proofs.laws.boots_stay_low.Goals as goal
 
 pub returns : goal.returns

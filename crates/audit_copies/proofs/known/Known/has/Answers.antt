@@ -1,13 +1,15 @@
-use Rattle.std.proofs.Common.{ap, ◌∙◌}
+use Rattle.std.proofs.Common.{filter, ap, ◌∙◌}
 use Rattle.std.specs.List.{list_any}
-use Rattle.promises.specs.After.{is_copy_below}
-use Rattle.past_laws.specs.Agreement.{ascends}
+use Rattle.locus_ids.specs.declared.ids.FileId.{FileId}
+use Rattle.commit_graph.specs.Versions.{same_file}
+use Rattle.promises.specs.Past.{Copy}
 use Rattle.audit_copies.specs.Below.{is_version_of}
-use Rattle.audit_copies.proofs.Having.{has_there}
+use Rattle.audit_copies.proofs.ByFile.{any_of_file}
 use Rattle.audit_copies.proofs.known.Known.has.Goals as goal
 
 pub returns : goal.returns
 returns c =
-    let up = ap (ascends is_copy_below) c.as_slice-rows.ensures.value ∙ c.self.invariant in
-    c.is_there.ensures ∙ (has_there c.args.copy c.as_slice-rows.result.now c.place_of.result up (c.place_of.ensures.split up)
-    ∙ ap (list_any (is_version_of c.args.copy)) (c.as_slice-rows.ensures.value ∙ c.self.view_is))
+    c.has_copy.ensures
+    ∙ (ap (list_any (is_version_of c.args.copy)) c.of_file.ensures.found
+    ∙ (ap (λ (f : FileId). list_any (is_version_of c.args.copy) (filter (λ (v : Copy). same_file v.file f) c.args.self.now)) (ap (λ (v : Copy). v.file) c.copy.view_is)
+    ∙ any_of_file c.args.copy c.args.self.now))

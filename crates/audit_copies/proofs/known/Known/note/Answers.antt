@@ -1,19 +1,16 @@
-use Rattle.std.proofs.Common.{◌∙◌, sym}
-use Rattle.audit_copies.proofs.Noting.{noted_old, noted_new, noted_ascends}
+use Rattle.std.proofs.Common.{sym, ap, ◌∙◌, subst}
+use Rattle.promises.specs.After.{with_known}
+use Rattle.audit_copies.specs.Files.{AreByFile, all_copies}
+use Rattle.audit_copies.proofs.ByFile.{known_ordered, known_so}
 use Rattle.audit_copies.proofs.known.Known.note.Goals as goal
-
-pub returns-then-is_there-clause-ok : goal.returns-then-is_there-clause-ok
-returns-then-is_there-clause-ok c =
-    noted_old c.args.copy c.args.self.now c.self.inside.rows.items c.as_slice-rows.result.now c.place_of-place.result
-    c.self.view_is c.as_slice-rows.ensures.value c.self.invariant c.place_of-place.ensures.split (sym c.is_there.ensures ∙ c.if-is_there.true)
 
 pub returns-clause-ok : goal.returns-clause-ok
 returns-clause-ok c =
-    noted_new c.args.copy c.args.self.now c.self.inside.rows.items c.as_slice-rows.result.now c.insert.new.self.items c.place_of-place.result
-    c.self.view_is c.as_slice-rows.ensures.value c.self.invariant c.place_of-place.ensures.split (sym c.is_there.ensures ∙ c.if-is_there.false) c.in_ok-insert.ensures.items
+    ap all_copies c.in_ok-note_in.ensures.ok
+    ∙ (known_so c.args.copy c.self.inside.files.items c.self.invariant ∙ ap (with_known c.args.copy) c.self.view_is)
+
+pub invariant_of-self : goal.invariant_of-self
+invariant_of-self c = subst AreByFile (sym c.in_err-note_in.ensures.err) c.self.invariant
 
 pub invariant_of-self-2 : goal.invariant_of-self-2
-invariant_of-self-2 c =
-    noted_ascends c.args.copy c.self.inside.rows.items c.insert.new.self.items c.self.invariant
-    (noted_new c.args.copy c.self.inside.rows.items c.self.inside.rows.items c.as_slice-rows.result.now c.insert.new.self.items c.place_of-place.result
-    (λ i. c.self.inside.rows.items) c.as_slice-rows.ensures.value c.self.invariant c.place_of-place.ensures.split (sym c.is_there.ensures ∙ c.if-is_there.false) c.in_ok-insert.ensures.items)
+invariant_of-self-2 c = subst AreByFile (sym c.in_ok-note_in.ensures.ok) (known_ordered c.args.copy c.self.inside.files.items c.self.invariant)

@@ -18,4 +18,4 @@ pub returns-in-Denied : goal.returns-in-Denied
 returns-in-Denied c = turn_of_denied c.in-Denied.why c.args.words.now c.args.self.now ∙ ap (λ (b : Beginning). turn_among c.args.self.now b c.args.words.now) (sym c.in-Denied.is)
 
 pub returns-in-Walks : goal.returns-in-Walks
-returns-in-Walks c = turn_of_walks c.args.words.now c.args.self.now ∙ ap (λ (b : Beginning). turn_among c.args.self.now b c.args.words.now) (sym c.in-Walks.is)
+returns-in-Walks c = turn_of_walks c.in-Walks.call c.args.words.now c.args.self.now ∙ ap (λ (b : Beginning). turn_among c.args.self.now b c.args.words.now) (sym c.in-Walks.is)

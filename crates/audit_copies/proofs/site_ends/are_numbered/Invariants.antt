@@ -1,0 +1,11 @@
+use Rattle.std.proofs.Common.{◌≡◌, ◌-◌, drop, length, map}
+use Rattle.std.specs.List.{list_all}
+use Rattle.promises.specs.Past.{Copy}
+use Rattle.audit_versions.specs.Keeping.{has_number}
+use Rattle.audit_copies.proofs.site_ends.are_numbered.Given as goal
+
+abbrev pub invariant-loop-at : goal.invariant-loop-at
+invariant-loop-at l = list_all has_number (map (λ (v : Copy). v.stamp) (drop l.at l.rows)) ≡ list_all has_number (map (λ (v : Copy). v.stamp) l.rows)
+
+abbrev pub decreases-loop-at : goal.decreases-loop-at
+decreases-loop-at l = length l.initial.rows - l.at

@@ -1,0 +1,15 @@
+pub mod Levels
+pub mod Boxing
+pub mod Merging
+pub mod Showing
+pub mod Mailing
+pub mod Puts
+pub mod Mending
+pub mod Granting
+pub mod Keeping
+pub mod Acting
+pub mod Operating
+pub mod Acted
+pub mod Told
+pub mod Along
+pub mod Law

@@ -1,0 +1,4 @@
+pub mod Judged
+pub mod MailUnlinked
+pub mod Mails
+pub mod Wrong
